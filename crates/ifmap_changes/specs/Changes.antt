@@ -52,8 +52,9 @@ pub record IsBegun (ready : Ready) (wanted : Plan) (old new : Held) : Type 0 whe
   pub lean : StaysLeanWith (items_of wanted.changes) old new
   pub backs : KeepsBacks old new
 
--- the subscriptions were told of a change that is out: they keep what the graph is to have, and what is pending of the sessions is what
--- they are told, none of it greater than a limit
+-- the subscriptions were told of a change that is out: with the attachments that are to be, and what is pending told, the state is what
+-- the change makes of the one before; who is not gone keeps what the graph is to have; what is pending is of live sessions with room
+-- for it, and its sizes are exact; and who is told one error in place of all has no subscription left
 pub record IsTold (a : Asking) (old : Parts) (before : Pending) (notes : List Note) (new : Parts) (after : Pending) : Type 0 where
   pub state : with_next a new after ≡ overflow (tell (rows_next old.graph) notes (so_far a old before))
   pub kept : AllKept (λ x. IsKept (sight_next new.graph) x.subscription) after.gone.items new.standing.items

@@ -24,26 +24,32 @@ use ifmap_tellings::tellings::Pending;
 use std::alloc::{AllocError as NoMemory, Global};
 use std::sync::ledger::Ledger;
 
+/// What is published, and the serial of the session in which it is.
+#[derive(Drop)]
+pub struct Publication<'a> {
+    pub serial: u64,
+    pub ops: &'a Many<PublishOp>,
+}
+
 /// Publishes in a session what the operations say, all or nothing.
 pub fn publish<L: Ledger>(
     alloc: Global,
     parts: &mut Parts,
     pending: &mut Pending,
     asking: &Asking,
-    serial: u64,
-    ops: &Many<PublishOp>,
+    publication: &Publication<'_>,
     steps: &mut Steps<L>,
 ) -> Result<(), NoMemory>
     requires steady { IsSteady parts.old.graph parts.old.standing.items }
     requires ready { IsReady asking.now parts.old pending.old }
-    requires fit { AllByRecursion IsFitOp ops.now }
+    requires fit { AllByRecursion IsFitOp publication.now.ops.now }
     ensures told { let by : Authorship = record {
       client = asking.now.client;
-      serial = serial;
+      serial = publication.now.serial;
       moment = asking.now.moment;
     } in OnOk result (so_far asking.now parts.new pending.new
-        ≡ overflow (tell (apply (rows_now parts.old.graph) by ops.now) (notes_of by ops.now)
-        (so_far asking.now parts.old pending.old))) }
+        ≡ overflow (tell (apply (rows_now parts.old.graph) by publication.now.ops.now)
+        (notes_of by publication.now.ops.now) (so_far asking.now parts.old pending.old))) }
     ensures steady { OnOk result (IsSteady parts.new.graph parts.new.standing.items) }
     ensures ready { OnOk result (IsReady asking.now parts.new pending.new) }
     ensures turned { OnOk result (AreTurned parts.old parts.new) }
@@ -52,19 +58,19 @@ pub fn publish<L: Ledger>(
     // Also where memory runs out.
     ensures steps { let by : Authorship = record {
       client = asking.now.client;
-      serial = serial;
+      serial = publication.now.serial;
       moment = asking.now.moment;
-    } in IsToldWithin (apply (rows_now parts.old.graph) by ops.now)
+    } in IsToldWithin (apply (rows_now parts.old.graph) by publication.now.ops.now)
         (so_far asking.now parts.old pending.old) steps.old steps.new }
 {
     publishing_keeps_graphs();
     parts.graph.is_view();
     let author = Author {
         client: asking.client,
-        serial,
+        serial: publication.serial,
         moment: asking.moment,
     };
-    let plan = plan(alloc, &parts.graph, ops, &author)?;
+    let plan = plan(alloc, &parts.graph, publication.ops, &author)?;
     make_change(alloc, parts, pending, asking, plan, steps)
 }
 

@@ -38,8 +38,7 @@ pub fn what_is_back_is_sound()
     same_marks_keep_subscriptions();
 }
 
-/// Every number that a subscription has marked has an identifier: it is that of the start, which the
-/// subscription holds, or of one that stands in an item with an attachment.
+/// In sound parts each number that a subscription has marked has an identifier.
 pub fn marked_numbers_are_live()
     ensures { (parts : Parts) → IsSeen parts.graph → AreParts parts
         → AllByRecursion (λ x. HasLiveMarks parts.graph x.subscription) parts.standing.items }

@@ -10,7 +10,7 @@ use Rattle.ifmap_client_script.specs.declared.outcomes.Outcome.{Outcome}
 use Rattle.ifmap_client_script.specs.declared.outcomes.Outcome.TheVariants as outcome
 use Rattle.ifmap_client_script.specs.declared.outcomes.Stop.{Stop}
 use Rattle.ifmap_client_script.specs.declared.outcomes.Stop.TheVariants as stop
-use Rattle.ifmap_client_script.specs.Deeds.{Deed, Does, Known, after_deed, request_in, unknowing}
+use Rattle.ifmap_client_script.specs.Deeds.{Deed, Does, Known, after_deed, nothing_known, request_in}
 use Rattle.ifmap_client_script.specs.Ends.{ArePortsLater, Ends, IsLater, IsLaterWire, LinkFailed, Ports}
 use Rattle.ifmap_client_script.specs.Exchanges.{HasAny, HasNoReply, HasPart, IsFront, WireFailed, Wiring}
 use Rattle.ifmap_client_script.specs.Holding.{known_of}
@@ -74,7 +74,7 @@ pub record Reached (caller : Caller) (before now : Ends) (script : Scripting) : 
   pub fetched : Fetched before.left now.left script.offset deeds script.pending
   pub known : known_of script.client ≡ known_after deeds
   pub line_is : script.line ≡ length deeds + 1
-  pub did : Did caller before.ports now.ports unknowing deeds
+  pub did : Did caller before.ports now.ports nothing_known deeds
   pub later : IsLater before now
 
 nothing_fetched : (left : Option (List ℕ)) → Fetched left left 0 [] nothing_taken
@@ -82,7 +82,7 @@ nothing_fetched left =
     record { taken = []; script = []; consumed = Consumes-nil left; script_is = refl; carried = refl; offset_is = omega arith }
 
 nothing_did : (caller : Caller) (ports : Ports) → ports.first.spent ≡ false → ports.second.spent ≡ false
-    → Did caller ports ports unknowing []
+    → Did caller ports ports nothing_known []
 nothing_did caller ports first second = record {
   wrote = Appends-nil ports.held;
   exchanged = record {
@@ -145,8 +145,8 @@ module _ (caller : Caller) (before now after : Ends) (old : Scripting) (r : Reac
     offset_is = f.offset_is;
   }
 
-  did_still : after.ports ≡ now.ports → Did caller before.ports after.ports unknowing r.deeds
-  did_still kept = subst (λ (p : Ports). Did caller before.ports p unknowing r.deeds) (sym kept) r.did
+  did_still : after.ports ≡ now.ports → Did caller before.ports after.ports nothing_known r.deeds
+  did_still kept = subst (λ (p : Ports). Did caller before.ports p nothing_known r.deeds) (sym kept) r.did
 
   -- one more line
   pub next : (new : Scripting) → IsLater now after → TurnsOn caller now after old new → Reached caller before after new
@@ -158,9 +158,9 @@ module _ (caller : Caller) (before now after : Ends) (old : Scripting) (r : Reac
             (subst
             (λ (p : Pending). Fetched before.left after.left (old.offset + length t.takes.text + 1) (r.deeds ++ d ∷ []) p)
             (sym t.pending) (passed t.line t.takes d t.carried.does));
-        known = t.carried.known ∙ ap (λ (k : Known). after_deed d k) r.known ∙ sym (known_snoc r.deeds d unknowing);
+        known = t.carried.known ∙ ap (λ (k : Known). after_deed d k) r.known ∙ sym (known_snoc r.deeds d nothing_known);
         line_is = let a = t.line_is in let b = r.line_is in let c = length-append r.deeds (d ∷ []) in omega arith;
-        did = did_then caller before.ports now.ports after.ports r.deeds unknowing d r.did
+        did = did_then caller before.ports now.ports after.ports r.deeds nothing_known d r.did
             (subst (λ (k : Known). Did caller now.ports after.ports k (d ∷ [])) r.known t.carried.did);
         later = later_ends before now after r.later later;
       }
@@ -209,7 +209,7 @@ module _ (caller : Caller) (before now after : Ends) (old : Scripting) (r : Reac
         offset = old.offset + length t.takes.text + 1;
         takes = taken (old.offset + length t.takes.text + 1) (r.deeds ++ d ∷ [])
             (record { bytes = t.takes.rest; ended = t.takes.pending.ended }) (passed t.line t.takes d t.cut.does);
-        wrote = cut_then caller before.ports now.ports after.ports r.deeds unknowing d r.did
+        wrote = cut_then caller before.ports now.ports after.ports r.deeds nothing_known d r.did
             (subst (λ (k : Known). Wrote caller now.ports after.ports k [] d) r.known t.cut.wrote);
       }
 
@@ -232,7 +232,7 @@ module _ (caller : Caller) (before now after : Ends) (old : Scripting) (r : Reac
           named = subst (λ (k : Known). request_in k.session u.request ≡ Some u.sent) r.known u.named;
         };
         line_is = r.line_is;
-        posted = posted_then caller before.ports now.ports after.ports r.deeds unknowing IsCut Has u.sent r.did
+        posted = posted_then caller before.ports now.ports after.ports r.deeds nothing_known IsCut Has u.sent r.did
             (subst (λ (k : Known). Posted caller now.ports after.ports IsCut Has k [] u.sent) r.known u.posted);
       }
 

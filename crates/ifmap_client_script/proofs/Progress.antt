@@ -9,7 +9,7 @@ use Rattle.ifmap_client_script.specs.declared.exchanges.Caller.{Caller}
 use Rattle.ifmap_client_script.specs.Deeds.{Asked, Deed, Known, after_deed, after_deeds, is_poll}
 use Rattle.ifmap_client_script.specs.Deeds as deed
 use Rattle.ifmap_client_script.specs.Exchanges.{AnswersTo, Breaks, Exchanges, Wiring, over_first, over_second, posts, request_post}
-use Rattle.ifmap_client_script.specs.Printing.{deed_text, newline, written}
+use Rattle.ifmap_client_script.specs.Printing.{deed_text, deeds_text, newline}
 use Rattle.ifmap_client_script.specs.Scripts.{Carries}
 
 -- ---- what is known and written
@@ -20,11 +20,11 @@ known_snoc [] d known = refl
 known_snoc (e ∷ deeds) d known = known_snoc deeds d (after_deed e known)
 
 pub written_snoc : (deeds : List Deed) (d : Deed) (known : Known)
-    → written known (deeds ++ d ∷ []) ≡ written known deeds ++ deed_text (after_deeds deeds known) d
+    → deeds_text known (deeds ++ d ∷ []) ≡ deeds_text known deeds ++ deed_text (after_deeds deeds known) d
 written_snoc [] d known = append-nil (deed_text known d)
 written_snoc (e ∷ deeds) d known =
     ap (λ (t : List ℕ). deed_text known e ++ t) (written_snoc deeds d (after_deed e known))
-    ∙ sym (append_assoc (deed_text known e) (written (after_deed e known) deeds)
+    ∙ sym (append_assoc (deed_text known e) (deeds_text (after_deed e known) deeds)
     (deed_text (after_deeds deeds (after_deed e known)) d))
 
 -- ---- what goes over the wires

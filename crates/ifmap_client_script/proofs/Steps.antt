@@ -9,11 +9,11 @@ use Rattle.ifmap_client.specs.Lines.{IsLine}
 use Rattle.ifmap_client.specs.declared.lines.Line.{Line}
 use Rattle.ifmap_requests.specs.declared.requests.Request.{Request}
 use Rattle.ifmap_client_script.specs.declared.exchanges.Caller.{Caller}
-use Rattle.ifmap_client_script.specs.Deeds.{Asked, Deed, Does, Known, after_deed, after_deeds, is_poll, unknowing}
+use Rattle.ifmap_client_script.specs.Deeds.{Asked, Deed, Does, Known, after_deed, after_deeds, is_poll, nothing_known}
 use Rattle.ifmap_client_script.specs.Ends.{Ports}
 use Rattle.ifmap_client_script.specs.Exchanges.{Exchanges, over_first, over_second}
-use Rattle.ifmap_client_script.specs.Pending.{Fetches, Pending, closed, with_bytes}
-use Rattle.ifmap_client_script.specs.Printing.{deed_text, newline, written}
+use Rattle.ifmap_client_script.specs.Pending.{Fetches, Pending, with_bytes, with_last_newline}
+use Rattle.ifmap_client_script.specs.Printing.{deed_text, deeds_text, newline}
 use Rattle.ifmap_client_script.specs.Promises.{Broken, Cutting, Did, Exchanged, Posted, Wrote}
 use Rattle.ifmap_client_script.specs.Scripts.{BeginsLine, Carries, HasNoNewline, IsScript}
 use Rattle.ifmap_client_script.proofs.Progress.{breaks_then, carries_more, carries_then, exchanges_then, over_first-append, over_second-append, written_snoc}
@@ -40,7 +40,7 @@ pub record Fetched (start left : Option (List ℕ)) (offset : ℕ) (deeds : List
   pub script : List ℕ
   pub consumed : Consumes start left taken
   pub script_is : Scripted pending.ended left taken script
-  pub carried : Carries 0 unknowing script deeds pending.bytes
+  pub carried : Carries 0 nothing_known script deeds pending.bytes
   pub offset_is : offset + length pending.bytes ≡ length script
 
 -- ---- taking more
@@ -81,7 +81,7 @@ module _ (start left new : Option (List ℕ)) (offset : ℕ) (deeds : List Deed)
     script = f.script ++ got;
     consumed = Consumes-trans start left new f.taken got f.consumed consumed;
     script_is = scripted_more old.ended left new f.taken f.script got f.script_is idle;
-    carried = carries_more 0 unknowing f.script deeds old.bytes got f.carried;
+    carried = carries_more 0 nothing_known f.script deeds old.bytes got f.carried;
     offset_is = more_length offset old.bytes f.script got f.offset_is;
   }
 
@@ -90,18 +90,18 @@ module _ (start left new : Option (List ℕ)) (offset : ℕ) (deeds : List Deed)
 
   -- a last line gets its newline
   fetch_last : (all : List ℕ) → old.bytes ++ got ≡ all → old.ended ≡ false → IsAtEnd new → HasNoNewline all
-      → Fetched start new offset deeds (record { bytes = closed all; ended = true })
+      → Fetched start new offset deeds (record { bytes = with_last_newline all; ended = true })
   fetch_last [] is open_yet end plain = record {
     taken = f.taken ++ got;
     script = f.script ++ got;
     consumed = Consumes-trans start left new f.taken got f.consumed consumed;
     script_is = (inl (ap (λ (l : List ℕ). l ++ got) (same_script open_yet)), end);
-    carried = subst (λ (l : List ℕ). Carries 0 unknowing (f.script ++ got) deeds l) is
-        (carries_more 0 unknowing f.script deeds old.bytes got f.carried);
+    carried = subst (λ (l : List ℕ). Carries 0 nothing_known (f.script ++ got) deeds l) is
+        (carries_more 0 nothing_known f.script deeds old.bytes got f.carried);
     offset_is = ap (λ (l : List ℕ). offset + length l) (sym is) ∙ more_length offset old.bytes f.script got f.offset_is;
   }
   fetch_last (b ∷ rest) is open_yet end plain =
-      let front = carries_front 0 unknowing f.script deeds old.bytes f.carried in
+      let front = carries_front 0 nothing_known f.script deeds old.bytes f.carried in
       record {
         taken = f.taken ++ got;
         script = (f.script ++ got) ++ newline ∷ [];
@@ -121,9 +121,9 @@ module _ (start left new : Option (List ℕ)) (offset : ℕ) (deeds : List Deed)
           ),
           end,
         );
-        carried = carries_more 0 unknowing (f.script ++ got) deeds (b ∷ rest) (newline ∷ [])
-            (subst (λ (l : List ℕ). Carries 0 unknowing (f.script ++ got) deeds l) is
-            (carries_more 0 unknowing f.script deeds old.bytes got f.carried));
+        carried = carries_more 0 nothing_known (f.script ++ got) deeds (b ∷ rest) (newline ∷ [])
+            (subst (λ (l : List ℕ). Carries 0 nothing_known (f.script ++ got) deeds l) is
+            (carries_more 0 nothing_known f.script deeds old.bytes got f.carried));
         offset_is = more_length offset (b ∷ rest) (f.script ++ got) (newline ∷ [])
             (ap (λ (l : List ℕ). offset + length l) (sym is) ∙ more_length offset old.bytes f.script got f.offset_is);
       }
@@ -133,7 +133,7 @@ pub fetch : (start left new : Option (List ℕ)) (offset : ℕ) (deeds : List De
 fetch start left new offset deeds old pending f more = at more.grown
   where
     at : ((pending ≡ with_bytes old more.got)
-        ⊎ ((pending ≡ record { bytes = closed (old.bytes ++ more.got); ended = true }) × (old.ended ≡ false) × IsAtEnd new
+        ⊎ ((pending ≡ record { bytes = with_last_newline (old.bytes ++ more.got); ended = true }) × (old.ended ≡ false) × IsAtEnd new
         × HasNoNewline (old.bytes ++ more.got)))
         → Fetched start new offset deeds pending
     at (inl e) =
@@ -147,14 +147,14 @@ fetch start left new offset deeds old pending f more = at more.grown
 
 pub pass : (start left : Option (List ℕ)) (offset : ℕ) (deeds : List Deed) (pending : Pending) (text rest : List ℕ) (line : Line) (d : Deed)
     → Fetched start left offset deeds pending → BeginsLine offset pending.bytes text rest → IsLine text line
-    → Does (after_deeds deeds unknowing) line d
+    → Does (after_deeds deeds nothing_known) line d
     → Fetched start left (offset + length text + 1) (deeds ++ d ∷ []) (record { bytes = rest; ended = pending.ended })
 pass start left offset deeds pending text rest line d f begins means does = record {
   taken = f.taken;
   script = f.script;
   consumed = f.consumed;
   script_is = f.script_is;
-  carried = carries_then 0 offset unknowing f.script deeds pending.bytes d rest f.carried (let is = f.offset_is in omega arith)
+  carried = carries_then 0 offset nothing_known f.script deeds pending.bytes d rest f.carried (let is = f.offset_is in omega arith)
       (text, rest, line, begins, means, does, refl);
   offset_is = size;
 }
@@ -182,9 +182,9 @@ module _ (caller : Caller) (before mid after : Ports) (deeds : List Deed) (known
       → Did caller before after known (deeds ++ d ∷ [])
   did_then d one other = record {
     wrote = subst (λ (t : List ℕ). Appends before.held after.held t)
-        (ap (λ (t : List ℕ). written known deeds ++ t) (append-nil (deed_text (after_deeds deeds known) d))
+        (ap (λ (t : List ℕ). deeds_text known deeds ++ t) (append-nil (deed_text (after_deeds deeds known) d))
         ∙ sym (written_snoc deeds d known))
-        (Appends-trans before.held mid.held after.held (written known deeds) (deed_text (after_deeds deeds known) d ++ []) one.wrote
+        (Appends-trans before.held mid.held after.held (deeds_text known deeds) (deed_text (after_deeds deeds known) d ++ []) one.wrote
         other.wrote);
     exchanged = exchanged_then (d ∷ []) one.exchanged other.exchanged;
   }
@@ -193,7 +193,7 @@ module _ (caller : Caller) (before mid after : Ports) (deeds : List Deed) (known
       → Wrote caller before after known deeds d
   cut_then d one other = record {
     count = other.count;
-    wrote = Appends-trans before.held mid.held after.held (written known deeds)
+    wrote = Appends-trans before.held mid.held after.held (deeds_text known deeds)
         (take other.count (deed_text (after_deeds deeds known) d)) one.wrote other.wrote;
     exchanged = exchanged_then (d ∷ []) one.exchanged other.exchanged;
   }
@@ -216,7 +216,7 @@ module _ (caller : Caller) (before mid after : Ports) (deeds : List Deed) (known
   posted_then IsCut Has sent one other = record {
     front = other.front;
     cut = other.cut;
-    wrote = subst (λ (t : List ℕ). Appends before.held after.held t) (append-nil (written known deeds))
-        (Appends-trans before.held mid.held after.held (written known deeds) [] one.wrote other.wrote);
+    wrote = subst (λ (t : List ℕ). Appends before.held after.held t) (append-nil (deeds_text known deeds))
+        (Appends-trans before.held mid.held after.held (deeds_text known deeds) [] one.wrote other.wrote);
     broken = broken_then (is_poll sent) other.front Has one.exchanged other.broken;
   }

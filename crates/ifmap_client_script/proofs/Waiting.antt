@@ -6,7 +6,7 @@ use Rattle.std.proofs.KnownBytes.{Consumes-nil, Consumes-trans}
 use Rattle.ifmap_client.specs.Lines.{line_limit}
 use Rattle.ifmap_client_script.specs.declared.outcomes.Stop.{Stop}
 use Rattle.ifmap_client_script.specs.declared.outcomes.Stop.TheVariants as stop
-use Rattle.ifmap_client_script.specs.Pending.{Awaits, Fetches, Fills, Gathers, IsClosed, IsReady, IsTooLong, IsWaiting, Looks, Pending, closed, with_bytes}
+use Rattle.ifmap_client_script.specs.Pending.{Awaits, Fetches, Fills, Gathers, IsClosed, IsReady, IsTooLong, IsWaiting, Looks, Pending, with_bytes, with_last_newline}
 use Rattle.ifmap_client_script.specs.Scripts.{AwaitsLine, HasNoNewline}
 
 -- ---- looking
@@ -48,7 +48,7 @@ module _ (left_old left_mid left_new : Option (List ℕ)) (old mid new : Pending
   open_before = at first.grown
     where
       at : ((mid ≡ with_bytes old first.got)
-          ⊎ ((mid ≡ record { bytes = closed (old.bytes ++ first.got); ended = true }) × (old.ended ≡ false) × IsAtEnd left_mid
+          ⊎ ((mid ≡ record { bytes = with_last_newline (old.bytes ++ first.got); ended = true }) × (old.ended ≡ false) × IsAtEnd left_mid
           × HasNoNewline (old.bytes ++ first.got)))
           → old.ended ≡ false
       at (inl e) = sym (ap (λ (p : Pending). p.ended) e) ∙ open_yet
@@ -58,7 +58,7 @@ module _ (left_old left_mid left_new : Option (List ℕ)) (old mid new : Pending
   grown_first = at first.grown
     where
       at : ((mid ≡ with_bytes old first.got)
-          ⊎ ((mid ≡ record { bytes = closed (old.bytes ++ first.got); ended = true }) × (old.ended ≡ false) × IsAtEnd left_mid
+          ⊎ ((mid ≡ record { bytes = with_last_newline (old.bytes ++ first.got); ended = true }) × (old.ended ≡ false) × IsAtEnd left_mid
           × HasNoNewline (old.bytes ++ first.got)))
           → mid ≡ with_bytes old first.got
       at (inl e) = e
@@ -77,17 +77,17 @@ module _ (left_old left_mid left_new : Option (List ℕ)) (old mid new : Pending
   }
     where
       at : ((new ≡ with_bytes mid second.got)
-          ⊎ ((new ≡ record { bytes = closed (mid.bytes ++ second.got); ended = true }) × (mid.ended ≡ false) × IsAtEnd left_new
+          ⊎ ((new ≡ record { bytes = with_last_newline (mid.bytes ++ second.got); ended = true }) × (mid.ended ≡ false) × IsAtEnd left_new
           × HasNoNewline (mid.bytes ++ second.got)))
           → ((new ≡ with_bytes old (first.got ++ second.got))
-          ⊎ ((new ≡ record { bytes = closed (old.bytes ++ (first.got ++ second.got)); ended = true }) × (old.ended ≡ false)
+          ⊎ ((new ≡ record { bytes = with_last_newline (old.bytes ++ (first.got ++ second.got)); ended = true }) × (old.ended ≡ false)
           × IsAtEnd left_new × HasNoNewline (old.bytes ++ (first.got ++ second.got))))
       at (inl e) =
           inl (e ∙ ap (λ (b : List ℕ). record { bytes = b; ended = mid.ended }) (joined second.got)
           ∙ ap (λ (t : Bool). record { bytes = old.bytes ++ (first.got ++ second.got); ended = t }) (open_yet ∙ sym open_before))
       at (inr e) =
           inr (
-            e.0 ∙ ap (λ (b : List ℕ). record { bytes = closed b; ended = true }) (joined second.got),
+            e.0 ∙ ap (λ (b : List ℕ). record { bytes = with_last_newline b; ended = true }) (joined second.got),
             open_before,
             e.2,
             subst HasNoNewline (joined second.got) e.3,
@@ -102,14 +102,14 @@ keeps_consumes (Some xs) (Some ys) k = sym k
 
 module _ (left_old left_new : Option (List ℕ)) (old new : Pending) (open_yet : old.ended ≡ false) where
   pub fills_end : (got : List ℕ) → HasNoNewline old.bytes → Consumes left_old left_new got → got ≡ [] → IsAtEnd left_new
-      → new ≡ record { bytes = closed old.bytes; ended = true } → Fills left_old left_new old new (Ok tt)
+      → new ≡ record { bytes = with_last_newline old.bytes; ended = true } → Fills left_old left_new old new (Ok tt)
   fills_end got plain consumed none end is = (
     record {
       got = [];
       consumed = subst (Consumes left_old left_new) none consumed;
       idle = λ ended. not_both old.ended ended open_yet;
       grown = inr (
-        is ∙ ap (λ (b : List ℕ). record { bytes = closed b; ended = true }) (sym (append-nil old.bytes)),
+        is ∙ ap (λ (b : List ℕ). record { bytes = with_last_newline b; ended = true }) (sym (append-nil old.bytes)),
         open_yet,
         end,
         subst HasNoNewline (sym (append-nil old.bytes)) plain,

@@ -27,12 +27,12 @@ pub record Known : Type 0 where
   pub session : Option (List ℕ)
   pub sets : Sets
 
-abbrev pub knowing : Option (List ℕ) → Sets → Known
-knowing session sets = record { session = session; sets = sets }
+abbrev pub known_with : Option (List ℕ) → Sets → Known
+known_with session sets = record { session = session; sets = sets }
 
 -- at first it knows nothing
-abbrev pub unknowing : Known
-unknowing = knowing None no_sets
+abbrev pub nothing_known : Known
+nothing_known = known_with None no_sets
 
 -- ---- requests
 
@@ -87,14 +87,14 @@ Does known (the_line.Set wanted) (printed name) = name ≡ wanted
 
 -- a session that begins has no sets, and what a poll is told is folded
 abbrev pub after_reply : Reply → Known → Known
-after_reply (reply.NewSession session publisher limit) known = knowing (Some session) no_sets
+after_reply (reply.NewSession session publisher limit) known = known_with (Some session) no_sets
 after_reply reply.Renewed known = known
 after_reply reply.Ended known = known
 after_reply reply.Published known = known
 after_reply reply.Subscribed known = known
 after_reply reply.Purged known = known
 after_reply (reply.Found entries) known = known
-after_reply (reply.Polled items) known = knowing known.session (fold_items items known.sets)
+after_reply (reply.Polled items) known = known_with known.session (fold_items items known.sets)
 after_reply (reply.Error code note) known = known
 
 abbrev pub after_deed : Deed → Known → Known

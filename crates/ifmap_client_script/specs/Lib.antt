@@ -5,6 +5,7 @@ pub mod Printing
 pub mod Exchanges
 pub mod Scripts
 pub mod Ends
+pub mod Outlets
 pub mod Promises
 pub mod Holding
 pub mod Pending

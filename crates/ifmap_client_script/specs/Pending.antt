@@ -20,9 +20,9 @@ abbrev pub with_bytes : Pending → List ℕ → Pending
 with_bytes pending got = record { bytes = pending.bytes ++ got; ended = pending.ended }
 
 -- what is pending at the end of a source: a last line gets its newline
-abbrev pub closed : List ℕ → List ℕ
-closed [] = []
-closed (b ∷ bytes) = (b ∷ bytes) ++ newline ∷ []
+abbrev pub with_last_newline : List ℕ → List ℕ
+with_last_newline [] = []
+with_last_newline (b ∷ bytes) = (b ∷ bytes) ++ newline ∷ []
 
 -- once a source has told its end, a newline is the last of what is pending
 abbrev pub IsClosed : Pending → Type 0
@@ -37,7 +37,7 @@ pub record Fetches (left_old left_new : Option (List ℕ)) (old new : Pending) :
   pub idle : old.ended ≡ true → (got ≡ []) × (left_new ≡ left_old)
   pub grown :
       (new ≡ with_bytes old got)
-      ⊎ ((new ≡ record { bytes = closed (old.bytes ++ got); ended = true }) × (old.ended ≡ false) × IsAtEnd left_new
+      ⊎ ((new ≡ record { bytes = with_last_newline (old.bytes ++ got); ended = true }) × (old.ended ≡ false) × IsAtEnd left_new
       × HasNoNewline (old.bytes ++ got))
 
 -- something was taken from the source, of which nothing is taken once it has told its end

@@ -36,6 +36,6 @@ deed_text known (deed.asked a) = body_text a.body
 deed_text known (deed.printed name) = set_text (known.sets name)
 
 -- what is written for some deeds, one after the other
-abbrev pub written : Known → List Deed → List ℕ
-written known [] = []
-written known (done ∷ deeds) = deed_text known done ++ written (after_deed done known) deeds
+abbrev pub deeds_text : Known → List Deed → List ℕ
+deeds_text known [] = []
+deeds_text known (done ∷ deeds) = deed_text known done ++ deeds_text (after_deed done known) deeds

@@ -7,15 +7,15 @@ use Rattle.ifmap_requests.specs.declared.requests.Request.{Request}
 use Rattle.ifmap_client_script.specs.declared.exchanges.Caller.{Caller}
 use Rattle.ifmap_client_script.specs.declared.outcomes.Outcome.{Outcome}
 use Rattle.ifmap_client_script.specs.declared.outcomes.Outcome.TheVariants as outcome
-use Rattle.ifmap_client_script.specs.Deeds.{Deed, Known, after_deeds, is_poll, request_in, unknowing}
+use Rattle.ifmap_client_script.specs.Deeds.{Deed, Known, after_deeds, is_poll, nothing_known, request_in}
 use Rattle.ifmap_client_script.specs.Ends.{Ends, IsLater, LinkFailed, Ports, ReadFailed, WriteFailed}
 use Rattle.ifmap_client_script.specs.Exchanges.{Breaks, Exchanges, HasAny, HasNoReply, HasPart, IsFront, over_first, over_second, request_post}
-use Rattle.ifmap_client_script.specs.Printing.{deed_text, written}
+use Rattle.ifmap_client_script.specs.Printing.{deed_text, deeds_text}
 use Rattle.ifmap_client_script.specs.Scripts.{AwaitsLine, BeginsLine, Carries, IsBadLine, IsScript}
 
 -- what is known after deeds from the beginning of a script on
 abbrev pub known_after : List Deed → Known
-known_after deeds = after_deeds deeds unknowing
+known_after deeds = after_deeds deeds nothing_known
 
 -- the request of the line that begins here is sent as this one
 pub record AsksNext (offset : ℕ) (known : Known) (bytes : List ℕ) (sent : Request) : Type 0 where
@@ -41,7 +41,7 @@ module _ (before after : Ends) where
     pub script : List ℕ
     pub consumed : Consumes before.left after.left taken
     pub script_is : IsScript after.left taken script
-    pub carried : Carries 0 unknowing script deeds rest
+    pub carried : Carries 0 nothing_known script deeds rest
     pub offset_is : offset + length rest ≡ length script
 
 module _ (caller : Caller) (before after : Ports) where
@@ -62,20 +62,20 @@ module _ (caller : Caller) (before after : Ports) where
 
   -- the sink gained what is written for the deeds, and the wires were asked what they ask
   pub record Did (known : Known) (deeds : List Deed) : Type 0 where
-    pub wrote : Appends before.held after.held (written known deeds)
+    pub wrote : Appends before.held after.held (deeds_text known deeds)
     pub exchanged : Exchanged deeds
 
   -- the same, but what is written for one more deed was cut
   pub record Wrote (known : Known) (deeds : List Deed) (deed : Deed) : Type 0 where
     pub count : ℕ
-    pub wrote : Appends before.held after.held (written known deeds ++ take count (deed_text (after_deeds deeds known) deed))
+    pub wrote : Appends before.held after.held (deeds_text known deeds ++ take count (deed_text (after_deeds deeds known) deed))
     pub exchanged : Exchanged (deeds ++ deed ∷ [])
 
   -- the same, and a request was posted, but no reply came
   pub record Posted (IsCut : Cutting) (Has : List ℕ → Type 0) (known : Known) (deeds : List Deed) (sent : Request) : Type 0 where
     pub front : List ℕ
     pub cut : IsCut (request_post caller sent) front
-    pub wrote : Appends before.held after.held (written known deeds)
+    pub wrote : Appends before.held after.held (deeds_text known deeds)
     pub broken : Broken (is_poll sent) deeds front Has
 
 module _ (caller : Caller) (before after : Ends) where
@@ -85,7 +85,7 @@ module _ (caller : Caller) (before after : Ends) where
     pub offset : ℕ
     pub takes : Takes before after deeds [] offset
     pub end : IsAtEnd after.left
-    pub did : Did caller before.ports after.ports unknowing deeds
+    pub did : Did caller before.ports after.ports nothing_known deeds
 
   -- the lines before that one were carried out, and it is none that can be
   pub record IsFaulty (line : ℕ) : Type 0 where
@@ -95,7 +95,7 @@ module _ (caller : Caller) (before after : Ends) where
     pub takes : Takes before after deeds rest offset
     pub fault : IsBadLine offset (known_after deeds) rest
     pub line_is : line ≡ length deeds + 1
-    pub did : Did caller before.ports after.ports unknowing deeds
+    pub did : Did caller before.ports after.ports nothing_known deeds
 
   -- the lines that were taken were carried out, and a read was due
   pub record IsUnread : Type 0 where
@@ -104,7 +104,7 @@ module _ (caller : Caller) (before after : Ends) where
     pub offset : ℕ
     pub takes : Takes before after deeds rest offset
     pub awaited : AwaitsLine offset rest
-    pub did : Did caller before.ports after.ports unknowing deeds
+    pub did : Did caller before.ports after.ports nothing_known deeds
 
   -- the lines were carried out, but what is written for the last was cut
   pub record IsUnwritten : Type 0 where
@@ -113,7 +113,7 @@ module _ (caller : Caller) (before after : Ends) where
     pub rest : List ℕ
     pub offset : ℕ
     pub takes : Takes before after (deeds ++ deed ∷ []) rest offset
-    pub wrote : Wrote caller before.ports after.ports unknowing deeds deed
+    pub wrote : Wrote caller before.ports after.ports nothing_known deeds deed
 
   -- the lines before that one were carried out, and its request was posted, but no reply came
   pub record IsUnanswered (IsCut : Cutting) (Has : List ℕ → Type 0) (line : ℕ) : Type 0 where
@@ -124,7 +124,7 @@ module _ (caller : Caller) (before after : Ends) where
     pub takes : Takes before after deeds rest offset
     pub next : AsksNext offset (known_after deeds) rest sent
     pub line_is : line ≡ length deeds + 1
-    pub posted : Posted caller before.ports after.ports IsCut Has unknowing deeds sent
+    pub posted : Posted caller before.ports after.ports IsCut Has nothing_known deeds sent
 
   -- a request or its answer was cut
   abbrev pub IsUnasked : Type 0
@@ -139,8 +139,8 @@ module _ (caller : Caller) (before after : Ends) where
     pub script : List ℕ
     pub consumed : Consumes before.left after.left (taken ++ lost)
     pub script_is : IsScript after.left taken script
-    pub carried : Carries 0 unknowing script deeds rest
-    pub did : Did caller before.ports after.ports unknowing deeds
+    pub carried : Carries 0 nothing_known script deeds rest
+    pub did : Did caller before.ports after.ports nothing_known deeds
 
 -- what a script promises, by how it ends; a fault is told only where its object has counted one
 abbrev pub Promises : Caller → (before after : Ends) → Outcome → Type 0

@@ -1,19 +1,18 @@
 -- One turn of a script: a line is taken and carried out, or the script ends. No clause of `run_script` cites this file.
-use Rattle.std.specs.Prelude.{◌≡◌, ◌⊎◌, ℕ, ◌+◌, List, [], ◌∷◌, Bool, true, false, drop, length, take, Option, Some, None, Result, Ok, Err}
+use Rattle.std.specs.Prelude.{◌≡◌, ◌⊎◌, ℕ, ◌+◌, List, [], ◌∷◌, true, drop, length, take, Option, Some, None, Result, Ok, Err}
 use Rattle.ifmap_client.specs.Lines.{IsLine}
 use Rattle.ifmap_client.specs.declared.lines.Line.{Line}
 use Rattle.ifmap_client.specs.declared.lines.Line.TheVariants as the_line
 use Rattle.ifmap_requests.specs.declared.requests.Request.{Request}
 use Rattle.ifmap_client_script.specs.declared.exchanges.Caller.{Caller}
-use Rattle.ifmap_client_script.specs.declared.exchanges.Told.{Told}
 use Rattle.ifmap_client_script.specs.declared.outcomes.Stop.{Stop}
 use Rattle.ifmap_client_script.specs.declared.outcomes.Stop.TheVariants as stop
 use Rattle.ifmap_client_script.specs.declared.scripts.Next.{Next}
 use Rattle.ifmap_client_script.specs.declared.scripts.Turn.{Turn}
 use Rattle.ifmap_client_script.specs.declared.scripts.Turn.TheVariants as turn
-use Rattle.ifmap_client_script.specs.Deeds.{CanDo, Deed, Does, Known, after_deed, is_poll, request_in, unknowing}
+use Rattle.ifmap_client_script.specs.Deeds.{CanDo, Deed, Does, Known, after_deed, nothing_known, request_in}
 use Rattle.ifmap_client_script.specs.Ends.{Ends, LinkFailed, Ports, ReadFailed, WriteFailed}
-use Rattle.ifmap_client_script.specs.Exchanges.{Asks, HasAny, HasNoReply, HasPart, IsFront, Wiring}
+use Rattle.ifmap_client_script.specs.Exchanges.{HasAny, HasNoReply, HasPart, IsFront}
 use Rattle.ifmap_client_script.specs.Holding.{Holding, known_of}
 use Rattle.ifmap_client_script.specs.Pending.{Fetches, IsLineEnd, Loses, Pending, nothing_taken}
 use Rattle.ifmap_client_script.specs.Promises.{Cutting, Did, IsWhole, Posted, Wrote}
@@ -43,21 +42,6 @@ module _ (caller : Caller) (line : Line) (before after : Ports) (old : Known) wh
     pub named : request_in old.session request ≡ Some sent
     pub posted : Posted caller before after IsCut Has old [] sent
 
--- over which wire a request went, while the other stayed as it was: a poll over the second
-abbrev pub AsksBy : Bool → Caller → Request → (first_old first_new second_old second_new : Wiring) → Result Told Stop → Type 0
-AsksBy true caller sent first_old first_new second_old second_new result =
-    (first_new ≡ first_old) × Asks caller sent second_old second_new result
-AsksBy false caller sent first_old first_new second_old second_new result =
-    (second_new ≡ second_old) × Asks caller sent first_old first_new result
-
--- a request was sent as it is named, if it is, and there was memory
-abbrev pub AsksOver : Caller → Request → Known → (first_old first_new second_old second_new : Wiring) → Result Told Stop → Type 0
-AsksOver caller request known first_old first_new second_old second_new result =
-    ((sent : Request) × (request_in known.session request ≡ Some sent)
-    × AsksBy (is_poll sent) caller sent first_old first_new second_old second_new result)
-    ⊎ ((first_new ≡ first_old) × (second_new ≡ second_old)
-    × ((result ≡ Err stop.NoMemory) ⊎ ((request_in known.session request ≡ None) × (result ≡ Err stop.BadLine))))
-
 -- what was done for a line
 abbrev pub CarriesOut : Caller → Line → (before after : Ports) → (old new : Known) → Result (Unit {0}) Stop → Type 0
 CarriesOut caller line before after old new (Ok _) = Carried caller line before after old new
@@ -82,7 +66,7 @@ pub record Scripting : Type 0 where
 
 -- nothing is known, and nothing was taken
 pub record IsBeginning (script : Scripting) : Type 0 where
-  pub known : known_of script.client ≡ unknowing
+  pub known : known_of script.client ≡ nothing_known
   pub pending : script.pending ≡ nothing_taken
   pub offset : script.offset ≡ 0
   pub line : script.line ≡ 1

@@ -1,25 +1,22 @@
 //! What a client knows, and the lines that it carries out.
-ghost use Rattle.std.specs.Prelude.{◌≡◌, ◌≤◌, IsFalse, IsTrue, OnOk};
+ghost use Rattle.std.specs.Prelude.{◌≡◌, IsTrue, OnOk};
 ghost use Rattle.ifmap_folds.specs.Folds.{fold_items};
 ghost use Rattle.ifmap_heads.specs.Messages.{is_visible};
 ghost use Rattle.ifmap_client.specs.Keeping.{sets_of};
-ghost use Rattle.ifmap_client_script.specs.Deeds.{after_reply, is_poll, unknowing};
-ghost use Rattle.ifmap_client_script.specs.Ends.{ArePortsLater, IsLaterWire, ports};
-ghost use Rattle.ifmap_client_script.specs.Exchanges.{wiring};
+ghost use Rattle.ifmap_client_script.specs.Deeds.{after_reply, nothing_known};
+ghost use Rattle.ifmap_client_script.specs.Ends.{ArePortsLater};
 ghost use Rattle.ifmap_client_script.specs.Holding.{known_of};
+ghost use Rattle.ifmap_client_script.specs.Outlets.{AreSame, AreUnspent, AsksOver, Prints};
 ghost use Rattle.ifmap_client_script.specs.Printing.{body_text, set_text};
-ghost use Rattle.ifmap_client_script.specs.Stops.{Sends};
-ghost use Rattle.ifmap_client_script.specs.Turns.{AsksBy, AsksOver, CarriesOut};
+ghost use Rattle.ifmap_client_script.specs.Turns.{CarriesOut};
 
-use crate::exchanges::{Caller, Told, ask};
+use crate::exchanges::{Caller, Told};
 use crate::outcomes::Stop;
+use crate::outlets::Outlets;
 use crate::printing::set_text;
-use crate::requests::{is_poll, request_in};
-use crate::sending::{send, send_body};
+use crate::requests::request_in;
 use ifmap_client::{ClientSets, Line};
 use ifmap_elem::Text;
-use ifmap_http::Wire;
-use ifmap_io::{Link, Sink};
 use ifmap_replies::Reply;
 use ifmap_requests::Request;
 use ifmap_search::PollItem;
@@ -48,7 +45,7 @@ impl Model for Client {
 impl Client {
     /// No session was begun.
     pub fn new(alloc: Global) -> Client
-        ensures { known_of result ≡ unknowing }
+        ensures { known_of result ≡ nothing_known }
     {
         Client {
             session: None,
@@ -57,131 +54,94 @@ impl Client {
     }
 
     /// Carries a line out.
-    pub fn do_line<K: Sink, A: Link, B: Link>(
+    pub fn do_line<O: Outlets>(
         &mut self,
         alloc: Global,
         caller: &Caller,
         line: Line,
-        sink: &mut K,
-        first: &mut Wire<A>,
-        second: &mut Wire<B>,
+        outlets: &mut O,
     ) -> Result<(), Stop>
-        requires first { IsFalse first.old.spent }
-        requires second { IsFalse second.old.spent }
+        requires unspent { AreUnspent (O.seen outlets.old) }
         requires visible { IsTrue (is_visible caller.now.host) }
-        ensures carries { CarriesOut caller.now line
-            (ports (K.held sink.old) (K.faults sink.old)
-            (wiring A.left A.held A.Source.faults A.Sink.faults first.old)
-            (wiring B.left B.held B.Source.faults B.Sink.faults second.old))
-            (ports (K.held sink.new) (K.faults sink.new)
-            (wiring A.left A.held A.Source.faults A.Sink.faults first.new)
-            (wiring B.left B.held B.Source.faults B.Sink.faults second.new))
+        ensures carries { CarriesOut caller.now line (O.seen outlets.old) (O.seen outlets.new)
             (known_of self.old) (known_of self.new) result }
-        ensures later { ArePortsLater
-            (ports (K.held sink.old) (K.faults sink.old)
-            (wiring A.left A.held A.Source.faults A.Sink.faults first.old)
-            (wiring B.left B.held B.Source.faults B.Sink.faults second.old))
-            (ports (K.held sink.new) (K.faults sink.new)
-            (wiring A.left A.held A.Source.faults A.Sink.faults first.new)
-            (wiring B.left B.held B.Source.faults B.Sink.faults second.new)) }
+        ensures later { ArePortsLater (O.seen outlets.old) (O.seen outlets.new) }
+        ensures same { AreSame (O.loans outlets.old) (O.loans outlets.new) }
     {
         match line {
             Line::Blank => Ok(()),
-            Line::Request(request) => {
-                self.do_request(alloc, caller, request, sink, first, second)
-            }
-            Line::Set(name) => self.print_set(alloc, &name, sink),
+            Line::Request(request) => self.do_request(alloc, caller, request, outlets),
+            Line::Set(name) => self.print_set(alloc, &name, outlets),
         }
     }
 
     // Asks a request, and writes the reply.
-    fn do_request<K: Sink, A: Link, B: Link>(
+    fn do_request<O: Outlets>(
         &mut self,
         alloc: Global,
         caller: &Caller,
         request: Request,
-        sink: &mut K,
-        first: &mut Wire<A>,
-        second: &mut Wire<B>,
+        outlets: &mut O,
     ) -> Result<(), Stop>
-        requires first { IsFalse first.old.spent }
-        requires second { IsFalse second.old.spent }
+        requires unspent { AreUnspent (O.seen outlets.old) }
         requires visible { IsTrue (is_visible caller.now.host) }
-        ensures carries { CarriesOut caller.now (Line.Request request)
-            (ports (K.held sink.old) (K.faults sink.old)
-            (wiring A.left A.held A.Source.faults A.Sink.faults first.old)
-            (wiring B.left B.held B.Source.faults B.Sink.faults second.old))
-            (ports (K.held sink.new) (K.faults sink.new)
-            (wiring A.left A.held A.Source.faults A.Sink.faults first.new)
-            (wiring B.left B.held B.Source.faults B.Sink.faults second.new))
-            (known_of self.old) (known_of self.new) result }
-        ensures later { ArePortsLater
-            (ports (K.held sink.old) (K.faults sink.old)
-            (wiring A.left A.held A.Source.faults A.Sink.faults first.old)
-            (wiring B.left B.held B.Source.faults B.Sink.faults second.old))
-            (ports (K.held sink.new) (K.faults sink.new)
-            (wiring A.left A.held A.Source.faults A.Sink.faults first.new)
-            (wiring B.left B.held B.Source.faults B.Sink.faults second.new)) }
+        ensures carries { CarriesOut caller.now (Line.Request request) (O.seen outlets.old)
+            (O.seen outlets.new) (known_of self.old) (known_of self.new) result }
+        ensures later { ArePortsLater (O.seen outlets.old) (O.seen outlets.new) }
+        ensures same { AreSame (O.loans outlets.old) (O.loans outlets.new) }
     {
-        match self.ask(alloc, caller, request, first, second) {
-            Ok(told) => self.tell(alloc, told, sink),
+        match self.ask(alloc, caller, request, outlets) {
+            Ok(told) => self.tell(alloc, told, outlets),
             Err(stop) => Err(stop),
         }
     }
 
     // Takes what was answered, and writes it.
-    fn tell<K: Sink>(&mut self, alloc: Global, told: Told, sink: &mut K) -> Result<(), Stop>
-        ensures sends { Sends (K.held sink.old) (K.held sink.new) (K.faults sink.old)
-            (K.faults sink.new) (body_text told.body) result }
+    fn tell<O: Outlets>(&mut self, alloc: Global, told: Told, outlets: &mut O) -> Result<(), Stop>
+        ensures prints { Prints (body_text told.body) (O.seen outlets.old) (O.seen outlets.new)
+            result }
         ensures known { OnOk result (known_of self.new
             ≡ after_reply told.reply (known_of self.old)) }
-        ensures later { K.faults sink.old ≤ K.faults sink.new }
+        ensures later { ArePortsLater (O.seen outlets.old) (O.seen outlets.new) }
+        ensures same { AreSame (O.loans outlets.old) (O.loans outlets.new) }
     {
         let Told { body, reply } = told;
         if self.take(alloc, reply).is_err() {
             return Err(Stop::NoMemory);
         }
-        send_body(alloc, sink, &body)
+        outlets.print_body(alloc, &body)
     }
 
     // Writes the set of that name.
-    fn print_set<K: Sink>(&self, alloc: Global, name: &Text, sink: &mut K) -> Result<(), Stop>
-        ensures sends { Sends (K.held sink.old) (K.held sink.new) (K.faults sink.old)
-            (K.faults sink.new) (set_text (sets_of self.now.kept name.now)) result }
-        ensures later { K.faults sink.old ≤ K.faults sink.new }
+    fn print_set<O: Outlets>(&self, alloc: Global, name: &Text, outlets: &mut O) -> Result<(), Stop>
+        ensures prints { Prints (set_text (sets_of self.now.kept name.now)) (O.seen outlets.old)
+            (O.seen outlets.new) result }
+        ensures later { ArePortsLater (O.seen outlets.old) (O.seen outlets.new) }
+        ensures same { AreSame (O.loans outlets.old) (O.loans outlets.new) }
     {
         let Ok(text) = set_text(alloc, self.sets.set_of(name)) else {
             return Err(Stop::NoMemory);
         };
-        send(sink, &text)
+        outlets.print(&text)
     }
 
-    // Sends a request over its link, a poll over the second, and takes the answer to it.
-    fn ask<A: Link, B: Link>(
+    // Sends a request over its wire, and takes the answer to it.
+    fn ask<O: Outlets>(
         &self,
         alloc: Global,
         caller: &Caller,
         request: Request,
-        first: &mut Wire<A>,
-        second: &mut Wire<B>,
+        outlets: &mut O,
     ) -> Result<Told, Stop>
-        requires first { IsFalse first.old.spent }
-        requires second { IsFalse second.old.spent }
+        requires unspent { AreUnspent (O.seen outlets.old) }
         requires visible { IsTrue (is_visible caller.now.host) }
-        ensures asks { AsksOver caller.now request (known_of self.now)
-            (wiring A.left A.held A.Source.faults A.Sink.faults first.old)
-            (wiring A.left A.held A.Source.faults A.Sink.faults first.new)
-            (wiring B.left B.held B.Source.faults B.Sink.faults second.old)
-            (wiring B.left B.held B.Source.faults B.Sink.faults second.new) result }
-        ensures first { IsLaterWire
-            (wiring A.left A.held A.Source.faults A.Sink.faults first.old)
-            (wiring A.left A.held A.Source.faults A.Sink.faults first.new) }
-        ensures second { IsLaterWire
-            (wiring B.left B.held B.Source.faults B.Sink.faults second.old)
-            (wiring B.left B.held B.Source.faults B.Sink.faults second.new) }
+        ensures asks { AsksOver caller.now request (known_of self.now) (O.seen outlets.old)
+            (O.seen outlets.new) result }
+        ensures later { ArePortsLater (O.seen outlets.old) (O.seen outlets.new) }
+        ensures same { AreSame (O.loans outlets.old) (O.loans outlets.new) }
     {
         match request_in(alloc, &self.session, request) {
-            Ok(sent) => ask_by(alloc, caller, &sent, first, second),
+            Ok(sent) => outlets.ask(alloc, caller, &sent),
             Err(stop) => Err(stop),
         }
     }
@@ -205,37 +165,6 @@ impl Client {
             Reply::Found(_) => Ok(()),
             Reply::Error { .. } => Ok(()),
         }
-    }
-}
-
-// Sends a request over its wire, a poll over the second, and takes the answer to it.
-#[tactic(auto, using(crate::proofs::Carrying::by_second, crate::proofs::Carrying::by_first))]
-fn ask_by<A: Link, B: Link>(
-    alloc: Global,
-    caller: &Caller,
-    sent: &Request,
-    first: &mut Wire<A>,
-    second: &mut Wire<B>,
-) -> Result<Told, Stop>
-    requires first { IsFalse first.old.spent }
-    requires second { IsFalse second.old.spent }
-    requires visible { IsTrue (is_visible caller.now.host) }
-    ensures asks { AsksBy (is_poll sent.now) caller.now sent.now
-        (wiring A.left A.held A.Source.faults A.Sink.faults first.old)
-        (wiring A.left A.held A.Source.faults A.Sink.faults first.new)
-        (wiring B.left B.held B.Source.faults B.Sink.faults second.old)
-        (wiring B.left B.held B.Source.faults B.Sink.faults second.new) result }
-    ensures first { IsLaterWire
-        (wiring A.left A.held A.Source.faults A.Sink.faults first.old)
-        (wiring A.left A.held A.Source.faults A.Sink.faults first.new) }
-    ensures second { IsLaterWire
-        (wiring B.left B.held B.Source.faults B.Sink.faults second.old)
-        (wiring B.left B.held B.Source.faults B.Sink.faults second.new) }
-{
-    if is_poll(sent) {
-        ask(alloc, caller, sent, second)
-    } else {
-        ask(alloc, caller, sent, first)
     }
 }
 

@@ -2,7 +2,7 @@
 ghost use Rattle.std.specs.Prelude.{◌≡◌, ◌≤◌, ◌<◌, ◌+◌, drop, false, true, length, IfNone, IfOk, IfSome, OnOk, Err};
 ghost use Rattle.std.specs.Bool.{OnFalse, OnTrue};
 ghost use Rattle.ifmap_io.specs.Causes.{Rose};
-ghost use Rattle.ifmap_client_script.specs.Pending.{Awaits, Fills, Gathers, IsClosed, IsLineEnd, IsReady, IsWaiting, Looks, closed, nothing_taken};
+ghost use Rattle.ifmap_client_script.specs.Pending.{Awaits, Fills, Gathers, IsClosed, IsLineEnd, IsReady, IsWaiting, Looks, nothing_taken, with_last_newline};
 ghost use Rattle.ifmap_client_script.specs.Scripts.{AwaitsLine, HasNoNewline, IsWithin, longest_script};
 
 use crate::outcomes::Stop;
@@ -193,7 +193,10 @@ impl Input {
 
     // Takes no more, and gives a last line its newline.
     fn end(&mut self) -> Result<(), NoMemory>
-        ensures { OnOk result (self.new ≡ record { bytes = closed self.old.bytes; ended = true }) }
+        ensures { OnOk result (self.new ≡ record {
+          bytes = with_last_newline self.old.bytes;
+          ended = true;
+        }) }
     {
         if !self.pending().is_empty() {
             self.taken.push(b'\n')?;

@@ -5,6 +5,7 @@ mod clients;
 mod exchanges;
 mod inputs;
 pub mod outcomes;
+mod outlets;
 mod printing;
 mod requests;
 pub mod scripts;

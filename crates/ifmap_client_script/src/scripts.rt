@@ -5,6 +5,7 @@ ghost use Rattle.ifmap_io.specs.Causes.{Rose};
 ghost use Rattle.ifmap_client_script.specs.Scripts.{longest_script};
 ghost use Rattle.ifmap_client_script.specs.Ends.{ArePortsLater, IsLater, ends, ports};
 ghost use Rattle.ifmap_client_script.specs.Exchanges.{wiring};
+ghost use Rattle.ifmap_client_script.specs.Outlets.{AreSame, AreUnspent};
 ghost use Rattle.ifmap_client_script.specs.Promises.{IsCarriedOut};
 ghost use Rattle.ifmap_client_script.specs.Turns.{DoesNext, IsBeginning, IsNext, ReadsAt, ReadsNext, Turns};
 
@@ -12,6 +13,7 @@ use crate::clients::Client;
 use crate::exchanges::Caller;
 use crate::inputs::Input;
 use crate::outcomes::{Outcome, Stop, outcome_of};
+use crate::outlets::{Outlets, SinkAndWires};
 use ifmap_client::laws::lines_mean_one_thing;
 use ifmap_client::{Line, line_of};
 use ifmap_elem::{Copied, Text};
@@ -73,7 +75,12 @@ pub fn run_script<S: Source, K: Sink, A: Link, B: Link>(
         return Outcome::NoMemory;
     };
     let caller = Caller { client, host };
-    script.run(alloc, &caller, source, sink, first, second)
+    let mut outlets = SinkAndWires {
+        sink,
+        first,
+        second,
+    };
+    script.run(alloc, &caller, source, &mut outlets)
 }
 
 impl Model for Script {
@@ -112,31 +119,23 @@ impl Script {
     }
 
     /// Carries out lines until the script ends.
-    pub fn run<S: Source, K: Sink, A: Link, B: Link>(
+    pub fn run<S: Source, O: Outlets>(
         &mut self,
         alloc: Global,
         caller: &Caller,
         source: &mut S,
-        sink: &mut K,
-        first: &mut Wire<A>,
-        second: &mut Wire<B>,
+        outlets: &mut O,
     ) -> Outcome
         requires beginning { IsBeginning self.old }
         requires visible { IsTrue (is_visible caller.now.host) }
-        requires first { IsFalse first.old.spent }
-        requires second { IsFalse second.old.spent }
-        ensures { IsCarriedOut caller.now
-            (ends (S.left source.old) (S.faults source.old)
-            (ports (K.held sink.old) (K.faults sink.old)
-            (wiring A.left A.held A.Source.faults A.Sink.faults first.old)
-            (wiring B.left B.held B.Source.faults B.Sink.faults second.old)))
-            (ends (S.left source.new) (S.faults source.new)
-            (ports (K.held sink.new) (K.faults sink.new)
-            (wiring A.left A.held A.Source.faults A.Sink.faults first.new)
-            (wiring B.left B.held B.Source.faults B.Sink.faults second.new))) result }
+        requires unspent { AreUnspent (O.seen outlets.old) }
+        ensures carried { IsCarriedOut caller.now
+            (ends (S.left source.old) (S.faults source.old) (O.seen outlets.old))
+            (ends (S.left source.new) (S.faults source.new) (O.seen outlets.new)) result }
+        ensures same { AreSame (O.loans outlets.old) (O.loans outlets.new) }
     {
         'lines: loop {
-            match self.turn(alloc, caller, source, sink, first, second) {
+            match self.turn(alloc, caller, source, outlets) {
                 Ok(Turn::Carried) => {}
                 Ok(Turn::Ended) => return Outcome::Done,
                 Err(stop) => return outcome_of(stop, self.line),
@@ -145,82 +144,51 @@ impl Script {
     }
 
     /// Carries the next line out. Where the script ends, the number stays that of the line.
-    pub fn turn<S: Source, K: Sink, A: Link, B: Link>(
+    pub fn turn<S: Source, O: Outlets>(
         &mut self,
         alloc: Global,
         caller: &Caller,
         source: &mut S,
-        sink: &mut K,
-        first: &mut Wire<A>,
-        second: &mut Wire<B>,
+        outlets: &mut O,
     ) -> Result<Turn, Stop>
         requires visible { IsTrue (is_visible caller.now.host) }
-        requires first { IsFalse first.old.spent }
-        requires second { IsFalse second.old.spent }
+        requires unspent { AreUnspent (O.seen outlets.old) }
         ensures line { OnErr result (self.new.line ≡ self.old.line) }
         ensures turns { Turns caller.now
-            (ends (S.left source.old) (S.faults source.old)
-            (ports (K.held sink.old) (K.faults sink.old)
-            (wiring A.left A.held A.Source.faults A.Sink.faults first.old)
-            (wiring B.left B.held B.Source.faults B.Sink.faults second.old)))
-            (ends (S.left source.new) (S.faults source.new)
-            (ports (K.held sink.new) (K.faults sink.new)
-            (wiring A.left A.held A.Source.faults A.Sink.faults first.new)
-            (wiring B.left B.held B.Source.faults B.Sink.faults second.new)))
+            (ends (S.left source.old) (S.faults source.old) (O.seen outlets.old))
+            (ends (S.left source.new) (S.faults source.new) (O.seen outlets.new))
             self.old self.new result }
         ensures later { IsLater
-            (ends (S.left source.old) (S.faults source.old)
-            (ports (K.held sink.old) (K.faults sink.old)
-            (wiring A.left A.held A.Source.faults A.Sink.faults first.old)
-            (wiring B.left B.held B.Source.faults B.Sink.faults second.old)))
-            (ends (S.left source.new) (S.faults source.new)
-            (ports (K.held sink.new) (K.faults sink.new)
-            (wiring A.left A.held A.Source.faults A.Sink.faults first.new)
-            (wiring B.left B.held B.Source.faults B.Sink.faults second.new))) }
+            (ends (S.left source.old) (S.faults source.old) (O.seen outlets.old))
+            (ends (S.left source.new) (S.faults source.new) (O.seen outlets.new)) }
+        ensures same { AreSame (O.loans outlets.old) (O.loans outlets.new) }
     {
         lines_mean_one_thing();
         match next_line(alloc, &mut self.input, source, self.offset) {
-            Ok(Some(next)) => self.do_next(alloc, caller, next, sink, first, second),
+            Ok(Some(next)) => self.do_next(alloc, caller, next, outlets),
             Ok(None) => Ok(Turn::Ended),
             Err(stop) => Err(stop),
         }
     }
 
     // Carries out the line at the front of what is pending.
-    fn do_next<K: Sink, A: Link, B: Link>(
+    fn do_next<O: Outlets>(
         &mut self,
         alloc: Global,
         caller: &Caller,
         next: Next,
-        sink: &mut K,
-        first: &mut Wire<A>,
-        second: &mut Wire<B>,
+        outlets: &mut O,
     ) -> Result<Turn, Stop>
         requires visible { IsTrue (is_visible caller.now.host) }
-        requires first { IsFalse first.old.spent }
-        requires second { IsFalse second.old.spent }
+        requires unspent { AreUnspent (O.seen outlets.old) }
         requires line { IsNext self.old.offset self.old.pending.bytes next }
-        ensures does { DoesNext caller.now next
-            (ports (K.held sink.old) (K.faults sink.old)
-            (wiring A.left A.held A.Source.faults A.Sink.faults first.old)
-            (wiring B.left B.held B.Source.faults B.Sink.faults second.old))
-            (ports (K.held sink.new) (K.faults sink.new)
-            (wiring A.left A.held A.Source.faults A.Sink.faults first.new)
-            (wiring B.left B.held B.Source.faults B.Sink.faults second.new))
+        ensures does { DoesNext caller.now next (O.seen outlets.old) (O.seen outlets.new)
             self.old self.new result }
-        ensures later { ArePortsLater
-            (ports (K.held sink.old) (K.faults sink.old)
-            (wiring A.left A.held A.Source.faults A.Sink.faults first.old)
-            (wiring B.left B.held B.Source.faults B.Sink.faults second.old))
-            (ports (K.held sink.new) (K.faults sink.new)
-            (wiring A.left A.held A.Source.faults A.Sink.faults first.new)
-            (wiring B.left B.held B.Source.faults B.Sink.faults second.new)) }
+        ensures later { ArePortsLater (O.seen outlets.old) (O.seen outlets.new) }
+        ensures same { AreSame (O.loans outlets.old) (O.loans outlets.new) }
     {
         let Next { place, line } = next;
-        match self
-            .client
-            .do_line(alloc, caller, line, sink, first, second)
-        {
+        match self.client.do_line(alloc, caller, line, outlets) {
             Ok(()) => {
                 self.input.advance(place + 1);
                 self.offset += place as u64 + 1;

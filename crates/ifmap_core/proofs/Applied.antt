@@ -8,7 +8,7 @@ use Rattle.std.specs.List.Sorted.{IsStrictlySortedBy}
 use Rattle.std.specs.Option.{IfSome}
 use Rattle.ifmap_changes.specs.Between.{AreOrdered, AreParts, AreWithin, IsSteady, sight_now}
 use Rattle.ifmap_changes.specs.declared.parts.Parts.{Parts}
-use Rattle.ifmap_core.specs.Outcomes.{FitsAfter, WouldBeParts, after_former, applied, poll_found, rename_in}
+use Rattle.ifmap_core.specs.Outcomes.{FitsAfter, WouldBeParts, after_former, after_outcome, poll_found, rename_in}
 use Rattle.ifmap_core.specs.declared.outcomes.Outcome.{Outcome}
 use Rattle.ifmap_core.specs.declared.outcomes.Outcome.TheVariants.{Say, Accept, End, Open, Rename, Poll}
 use Rattle.ifmap_core.proofs.Applying.{bare_stays, fits_within, live_changed, within_renewed}
@@ -39,7 +39,7 @@ module _ (state : State) (moment counter : ℕ) (live : List Session) (standing 
     (s : state.sessions ≡ live) (n : state.counter ≡ counter) (t : state.standing ≡ map shown standing) where
   abbrev Leaves : Outcome → ℕ → List Session → List machine.Standing → Answer → Type 0
   Leaves outcome later sessions standing answer =
-      ◌≡◌ {A = State × Answer} (applied outcome state) (with_parts state later sessions standing, answer)
+      ◌≡◌ {A = State × Answer} (after_outcome outcome state) (with_parts state later sessions standing, answer)
 
   pub say_leaves : (answer : Answer) → Leaves (Say answer) counter live (map shown standing) answer
   say_leaves answer = λ i. (with_parts state (n i) (s i) (t i), answer)

@@ -10,7 +10,7 @@ use Rattle.std.specs.List.Sorted.{IsStrictlySortedBy}
 use Rattle.std.specs.Option.{IfSome}
 use Rattle.std.specs.declared.cmp.Ordering.TheVariants.{Less}
 use Rattle.ifmap_changes.specs.Between.{AreOrdered, AreWithin, CanEnd, IsWithin}
-use Rattle.ifmap_core.specs.Outcomes.{after_former, first_renewed, poll_found, told}
+use Rattle.ifmap_core.specs.Outcomes.{after_former, first_renewed, poll_answer, poll_found}
 use Rattle.ifmap_core.proofs.Ended.{is_some_of, live_beside, remains, some_is, without_each, without_none}
 use Rattle.ifmap_lemmas.specs.Filters.{all_filter, all_weaker}
 use Rattle.ifmap_lemmas.specs.Members.{both_all}
@@ -117,7 +117,7 @@ emptied_same n (x ∷ live) s up e none =
       | inr miss ↦ rw miss (ap (λ t. x ∷ t) (emptied_same n live s up.1 (rw miss at e) none))
     ]
 
-pub told_some : (items : List PollItem) → (items ≡ [] → ⊥) → told items ≡ the_answer.Reply (the_reply.Polled items)
+pub told_some : (items : List PollItem) → (items ≡ [] → ⊥) → poll_answer items ≡ the_answer.Reply (the_reply.Polled items)
 told_some [] some = absurd (some refl)
 told_some (item ∷ items) some = refl
 
@@ -138,18 +138,18 @@ first_is false n state = refl
 pub poll_told : (state : State) (again : Bool) (n : ℕ) (s : Session) → IsStrictlySortedBy session_order state.sessions
     → session_with_serial n state.sessions ≡ Some s → (items : List PollItem) → items ≡ s.queue
     → poll_found state again (session_with_serial n state.sessions)
-    ≡ (record state { sessions = first_renewed again n state.moment (change n emptied state.sessions) }, told items)
+    ≡ (record state { sessions = first_renewed again n state.moment (change n emptied state.sessions) }, poll_answer items)
 poll_told state again n s up found items is =
     let serial = numbered n state.sessions s found in
     rw (found, ← is, serial) (queue_told items is)
   where
     queue_told : (list : List PollItem) → list ≡ s.queue
         → poll_queue state again (record s { serial = n }) list
-        ≡ (record state { sessions = first_renewed again n state.moment (change n emptied state.sessions) }, told list)
+        ≡ (record state { sessions = first_renewed again n state.moment (change n emptied state.sessions) }, poll_answer list)
     queue_told [] is =
-        rw (emptied_same n state.sessions s up found (sym is)) (ap (λ (t : State). (t, told [])) (first_is again n state))
+        rw (emptied_same n state.sessions s up found (sym is)) (ap (λ (t : State). (t, poll_answer [])) (first_is again n state))
     queue_told (item ∷ list) is =
-        ap (λ (t : State). (t, told (item ∷ list))) (first_is again n (record state { sessions = change n emptied state.sessions }))
+        ap (λ (t : State). (t, poll_answer (item ∷ list))) (first_is again n (record state { sessions = change n emptied state.sessions }))
 
 -- ---- sessions end one after the other
 

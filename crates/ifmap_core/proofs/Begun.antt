@@ -11,7 +11,7 @@ use Rattle.std.specs.Option.{IfSome, option_map}
 use Rattle.std.specs.Result.{IfOk}
 use Rattle.ifmap_changes.specs.Between.{AreKept, AreOrdered, AreTurned, AreWithin, Asking, CanEnd, IsBare, IsReady, IsSteady, left, rest_of, so_far}
 use Rattle.ifmap_changes.specs.declared.parts.Parts.{Parts}
-use Rattle.ifmap_core.specs.Outcomes.{CanOpen, LeadsTo, after_former, applied, drop_former, open_session, taken_former}
+use Rattle.ifmap_core.specs.Outcomes.{CanOpen, LeadsTo, after_former, after_outcome, drop_former, open_session, taken_former}
 use Rattle.ifmap_core.specs.declared.outcomes.Outcome.{Outcome}
 use Rattle.ifmap_core.specs.declared.outcomes.Outcome.TheVariants.{Say, Open}
 use Rattle.ifmap_core.proofs.Ended.{remains}
@@ -243,7 +243,7 @@ module _ (a : Asking) (old new : Parts) (pending after : Pending) (random : ℕ)
   -- what it leads to
   leads : former ≡ option_map (λ (s : Session). s.serial) (session_of_client a.client (left a old.sessions))
       → is_full (so_far a old pending) a.client ≡ false → so_far a new after ≡ taken_former former (so_far a old pending)
-      → applied (Open former opening count publisher) (so_far a new after) ≡ new_session (so_far a old pending) a.client random limit
+      → after_outcome (Open former opening count publisher) (so_far a new after) ≡ new_session (so_far a old pending) a.client random limit
   leads same free told =
       let state : State = so_far a old pending in
       let mine : Option Session = session_of_client a.client state.sessions in

@@ -12,7 +12,7 @@ use Rattle.ifmap_core.specs.declared.outcomes.Outcome.{Outcome}
 use Rattle.ifmap_core.specs.declared.outcomes.Outcome.TheVariants.{Say, Accept}
 use Rattle.ifmap_core.specs.declared.owning.Owner.{Owner}
 use Rattle.ifmap_core.specs.declared.owning.Owner.TheVariants.{Own, Another, Nobody}
-use Rattle.ifmap_core.specs.Outcomes.{CanApply, IsOwner, LeadsTo, applied, end_of_poll, held_by, poll_found}
+use Rattle.ifmap_core.specs.Outcomes.{CanApply, IsOwner, LeadsTo, after_outcome, end_of_poll, held_by, poll_found}
 use Rattle.ifmap_core.proofs.Ended.{is_some_of}
 use Rattle.ifmap_core.proofs.Taking.{taken_is}
 use Rattle.ifmap_core.proofs.Told.{owner_told}
@@ -43,7 +43,7 @@ use Rattle.ifmap_tellings.specs.Tellings.{HasSameSessions}
 
 module _ (a : Asking) (parts : Parts) (pending : Pending) where
   pub leads_plain : IsSteady parts.graph parts.standing.items → IsReady a parts pending → (outcome : Outcome) → held_by outcome ≡ []
-      → CanApply outcome a parts pending → (wanted : State × Answer) → applied outcome (so_far a parts pending) ≡ wanted
+      → CanApply outcome a parts pending → (wanted : State × Answer) → after_outcome outcome (so_far a parts pending) ≡ wanted
       → LeadsTo outcome a parts pending wanted
   leads_plain steady ready outcome none can wanted e = record {
     steady = subst (λ more. IsSteady parts.graph (parts.standing.items ++ more)) (sym none)

@@ -17,7 +17,7 @@ use Rattle.ifmap_changes.specs.Between.{AreKept, AreParts, AreTurned, AreWithin,
 use Rattle.ifmap_changes.specs.Changes.{CanSettle, CanTakeBack, IsSettled}
 use Rattle.ifmap_changes.specs.declared.changes.Made.{Made}
 use Rattle.ifmap_changes.specs.declared.parts.Parts.{Parts}
-use Rattle.ifmap_core.specs.Outcomes.{CanApply, CanRename, IsDone, WouldBeParts, applied, held_by}
+use Rattle.ifmap_core.specs.Outcomes.{CanApply, CanRename, IsDone, WouldBeParts, after_outcome, held_by}
 use Rattle.ifmap_core.specs.declared.outcomes.Outcome.{Outcome}
 use Rattle.ifmap_core.specs.declared.outcomes.Outcome.TheVariants.{Say, Accept, End, Open, Rename, Poll}
 use Rattle.ifmap_core.proofs.Ended.{found_left, is_some_of, remains, some_is}
@@ -264,7 +264,7 @@ would_be parts more none p = record {
 -- an event that is done at once
 pub done_leads : (ttl moment : ℕ) (old new : Parts) (event : Event) (ask : Ask) (outcome : Outcome) (answer : Answer)
     → IsDone old.sessions.live event ask outcome → rows_now new.graph ≡ rows_now old.graph
-    → ◌≡◌ {A = State × Answer} (applied outcome (state_at ttl moment old)) (
+    → ◌≡◌ {A = State × Answer} (after_outcome outcome (state_at ttl moment old)) (
       record (state_at ttl moment old) {
         counter = new.sessions.counter;
         sessions = new.sessions.live;

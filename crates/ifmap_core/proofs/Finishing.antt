@@ -11,7 +11,7 @@ use Rattle.std.specs.Ordering.{nat_cmp}
 use Rattle.std.specs.Prelude.{vec_capacity, vec_len}
 use Rattle.ifmap_changes.specs.Between.{AreWithin, Asking, IsBare, IsReady, IsSteady, left, rest_of, sight_now, so_far, state_at}
 use Rattle.ifmap_changes.specs.declared.parts.Parts.{Parts}
-use Rattle.ifmap_core.specs.Outcomes.{CanApply, CanApplyTo, CanOpen, CanRename, FitsAfter, WouldBeParts, after_former, applied, held_by}
+use Rattle.ifmap_core.specs.Outcomes.{CanApply, CanApplyTo, CanOpen, CanRename, FitsAfter, WouldBeParts, after_former, after_outcome, held_by}
 use Rattle.ifmap_core.specs.declared.outcomes.Outcome.{Outcome}
 use Rattle.ifmap_core.specs.declared.outcomes.Outcome.TheVariants.{Say, Accept, End, Open, Rename, Poll}
 use Rattle.ifmap_core.proofs.Applying.{all_two}
@@ -195,7 +195,7 @@ module _ (a : Asking) (old new : Parts) (pending : Pending) (ready : IsReady a o
 
 -- the state that parts are in, and an answer
 pub finished : (a : Asking) (old new : Parts) (pending : Pending) (outcome : Outcome) (answer : Answer)
-    → rows_now new.graph ≡ rows_now old.graph → ◌≡◌ {A = State × Answer} (applied outcome (so_far a old pending)) (
+    → rows_now new.graph ≡ rows_now old.graph → ◌≡◌ {A = State × Answer} (after_outcome outcome (so_far a old pending)) (
       record (so_far a old pending) {
         counter = new.sessions.counter;
         sessions = new.sessions.live;
@@ -203,6 +203,6 @@ pub finished : (a : Asking) (old new : Parts) (pending : Pending) (outcome : Out
       },
       answer,
     )
-    → ◌≡◌ {A = State × Answer} (applied outcome (so_far a old pending)) (state_at a.ttl a.moment new, answer)
+    → ◌≡◌ {A = State × Answer} (after_outcome outcome (so_far a old pending)) (state_at a.ttl a.moment new, answer)
 finished a old new pending outcome answer rows e =
     e ∙ ap (λ (g : List Attachment). (record (state_at a.ttl a.moment new) { graph = g }, answer)) (sym rows)

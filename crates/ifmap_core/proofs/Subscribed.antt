@@ -15,7 +15,7 @@ use Rattle.std.specs.Prelude.{vec_capacity, vec_len}
 use Rattle.std.specs.declared.cmp.Ordering.TheVariants.{Less}
 use Rattle.ifmap_changes.specs.Between.{AreKept, AreTurned, AreWithin, Asking, IsReady, IsSteady, IsWithin, left, sight_now, so_far}
 use Rattle.ifmap_changes.specs.declared.parts.Parts.{Parts}
-use Rattle.ifmap_core.specs.Outcomes.{CanRename, LeadsTo, alone_told, applied, rename_in}
+use Rattle.ifmap_core.specs.Outcomes.{CanRename, LeadsTo, after_outcome, alone_told, rename_in}
 use Rattle.ifmap_core.specs.declared.outcomes.Outcome.TheVariants.{Rename}
 use Rattle.ifmap_core.proofs.Ended.{rising_left}
 use Rattle.ifmap_core.proofs.Overrun.{Grows, IsFit, changed_within, grows_rising, no_overflow, others_renamed, over_is}
@@ -274,7 +274,7 @@ module _ (a : Asking) (old : Parts) (pending : Pending) (serial : ℕ) (readying
     steady = rw (graph, standing) r.stand.steady;
     ready = ready_room a old new pending graph sessions standing ready;
     can = can_rename new graph sessions standing live limit places room;
-    leads = ap (applied (Rename serial readying.made.items)) (same_so_far a old new pending (ap rows_now graph) sessions standing)
+    leads = ap (after_outcome (Rename serial readying.made.items)) (same_so_far a old new pending (ap rows_now graph) sessions standing)
         ∙ renames serial readying.made.items (so_far a old pending) s (told_at serial a old pending) (so_far_rising a old pending up) e
         ready.within (told_is a old pending serial s e) (within_limit limit s e);
   }

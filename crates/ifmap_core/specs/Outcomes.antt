@@ -61,9 +61,9 @@ poll_found state again None = (state, the_answer.Held)
 poll_found state again (Some s) = poll_in state again s
 
 -- what a poll is answered of a queue
-abbrev pub told : List PollItem → Answer
-told [] = the_answer.Held
-told (item ∷ items) = the_answer.Reply (the_reply.Polled (item ∷ items))
+abbrev pub poll_answer : List PollItem → Answer
+poll_answer [] = the_answer.Held
+poll_answer (item ∷ items) = the_answer.Reply (the_reply.Polled (item ∷ items))
 
 -- the sessions where a poll was accepted: one that is asked again is no sign of life
 abbrev pub first_renewed : Bool → ℕ → ℕ → List Session → List Session
@@ -71,15 +71,15 @@ first_renewed true serial moment live = live
 first_renewed false serial moment live = change serial (renewed moment) live
 
 -- the state after an outcome, and the answer
-abbrev pub applied : Outcome → State → State × Answer
-applied (Say answer) state = (state, answer)
-applied (Accept serial answer) state = (renew serial state, answer)
-applied (End serial answer) state = (drop_sessions (serial ∷ []) state, answer)
-applied (Open former opening limit publisher) state =
+abbrev pub after_outcome : Outcome → State → State × Answer
+after_outcome (Say answer) state = (state, answer)
+after_outcome (Accept serial answer) state = (renew serial state, answer)
+after_outcome (End serial answer) state = (drop_sessions (serial ∷ []) state, answer)
+after_outcome (Open former opening limit publisher) state =
     (open_session former opening limit state, the_answer.Reply (the_reply.NewSession opening.id publisher limit))
-applied (Rename serial renamings) state =
+after_outcome (Rename serial renamings) state =
     (rename_in serial renamings state (session_with_serial serial state.sessions), the_answer.Reply the_reply.Subscribed)
-applied (Poll serial again) state = poll_found state again (session_with_serial serial state.sessions)
+after_outcome (Poll serial again) state = poll_found state again (session_with_serial serial state.sessions)
 
 -- a session can begin in place of another
 pub record CanOpen (former : Option ℕ) (opening : Opening) (limit : ℕ) (table : Table) : Type 0 where
@@ -162,7 +162,7 @@ pub record LeadsTo (outcome : Outcome) (a : Asking) (parts : Parts) (pending : P
   pub steady : IsSteady parts.graph (parts.standing.items ++ held_by outcome)
   pub ready : IsReady a parts pending
   pub can : CanApply outcome a parts pending
-  pub leads : applied outcome (so_far a parts pending) ≡ wanted
+  pub leads : after_outcome outcome (so_far a parts pending) ≡ wanted
 
 -- whose the session of an id is: the client's, with that serial; another's; or nobody's
 abbrev pub IsOwner : List Session → List ℕ → List ℕ → Owner → Type 0
@@ -186,4 +186,4 @@ end_of_poll false = Say (refusal InvalidSessionID)
 pub record IsDone (live : List Session) (event : Event) (ask : Ask) (outcome : Outcome) : Type 0 where
   pub plain : held_by outcome ≡ []
   pub can : (parts : Parts) → parts.sessions.live ≡ live → CanApplyTo outcome parts
-  pub done : (state : State) → state.sessions ≡ live → applied outcome state ≡ step_ask state event ask
+  pub done : (state : State) → state.sessions ≡ live → after_outcome outcome state ≡ step_ask state event ask

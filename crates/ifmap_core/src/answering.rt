@@ -21,7 +21,7 @@ use crate::outcomes::{Outcome, refuse};
 use crate::owning::{Owner, owner_of};
 use crate::subscribing::{SessionOps, subscribe_in};
 use ifmap_changes::asking::Asking;
-use ifmap_changes::changing::{publish as publish_in, take_away, take_away_one};
+use ifmap_changes::changing::{Publication, publish as publish_in, take_away, take_away_one};
 use ifmap_changes::parts::Parts;
 use ifmap_elem::{Copied, Equals, Many, Text};
 use ifmap_fresh::fresh;
@@ -65,70 +65,40 @@ pub(crate) fn answer<L: Ledger>(
     match &event.ask {
         Ask::Lost(id) => lose(alloc, parts, pending, asking, id, steps),
         Ask::Request(Request::NewSession { limit }) => {
-            let wish = NewSession {
-                random: event.random,
-                limit: *limit,
-            };
+            let (random, limit) = (event.random, *limit);
+            let wish = NewSession { random, limit };
             new_session(alloc, parts, pending, asking, wish, steps)
         }
         Ask::Request(Request::RenewSession { session }) => {
             renew_session(alloc, parts, pending, asking, session)
         }
-        Ask::Request(Request::EndSession { session: id }) => {
-            end_session(alloc, parts, pending, asking, id, steps)
+        Ask::Request(Request::EndSession { session }) => {
+            end_session(alloc, parts, pending, asking, session, steps)
         }
         Ask::Request(Request::Publish { session: id, ops }) => {
-            publish(
-                alloc,
-                parts,
-                pending,
-                asking,
-                &InSession { id, asked: ops },
-                steps,
-            )
+            let wish = InSession { id, asked: ops };
+            publish(alloc, parts, pending, asking, &wish, steps)
         }
-        Ask::Request(
-            Request::Search {
-                session: id,
-                search: asked,
-            },
-        ) => {
-            search(
-                alloc,
-                parts,
-                pending,
-                asking,
-                &InSession { id, asked },
-                steps,
-            )
+        Ask::Request(Request::Search { session, search }) => {
+            let wish = InSession {
+                id: session,
+                asked: search,
+            };
+            run_search(alloc, parts, pending, asking, &wish, steps)
         }
         Ask::Request(Request::Subscribe { session: id, ops }) => {
-            subscribe(
-                alloc,
-                parts,
-                pending,
-                asking,
-                &InSession { id, asked: ops },
-                steps,
-            )
+            let wish = InSession { id, asked: ops };
+            subscribe(alloc, parts, pending, asking, &wish, steps)
         }
         Ask::Request(Request::Poll { session }) => {
             poll(alloc, parts, pending, asking, session, event.again)
         }
-        Ask::Request(
-            Request::PurgePublisher {
-                session: id,
-                publisher: asked,
-            },
-        ) => {
-            purge(
-                alloc,
-                parts,
-                pending,
-                asking,
-                &InSession { id, asked },
-                steps,
-            )
+        Ask::Request(Request::PurgePublisher { session, publisher }) => {
+            let wish = InSession {
+                id: session,
+                asked: publisher,
+            };
+            purge(alloc, parts, pending, asking, &wish, steps)
         }
     }
 }
@@ -243,7 +213,11 @@ fn publish<L: Ledger>(
 {
     match owner_of(&parts.sessions, asking, wish.id) {
         Owner::Own(serial) => {
-            publish_in(alloc, parts, pending, asking, serial, wish.asked, steps)?;
+            let publication = Publication {
+                serial,
+                ops: wish.asked,
+            };
+            publish_in(alloc, parts, pending, asking, &publication, steps)?;
             let answer = Answer::Reply(Reply::Published);
             Ok(Outcome::Accept { serial, answer })
         }
@@ -288,7 +262,7 @@ fn purge<L: Ledger>(
     }
 }
 
-fn search<L: Ledger>(
+fn run_search<L: Ledger>(
     alloc: Global,
     parts: &Parts,
     pending: &Pending,

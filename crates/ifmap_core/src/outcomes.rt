@@ -2,7 +2,7 @@
 ghost use Rattle.std.specs.Prelude.{◌≡◌, ◌≤◌, ◌++◌, ℕ, List, IfOk, IfSome, length, map, vec_capacity, vec_len};
 ghost use Rattle.ifmap_core.specs.declared.outcomes.Outcome.TheVariants.{Say};
 ghost use Rattle.ifmap_changes.specs.Between.{AreParts, CanEnd, IsReady, IsSteady, so_far, state_at};
-ghost use Rattle.ifmap_core.specs.Outcomes.{CanApply, CanApplyTo, WouldBeParts, after_former, applied, first_renewed, held_by, poll_found, told};
+ghost use Rattle.ifmap_core.specs.Outcomes.{CanApply, CanApplyTo, WouldBeParts, after_former, after_outcome, first_renewed, held_by, poll_answer, poll_found};
 ghost use Rattle.ifmap_tellings.specs.Tellings.{kept_of};
 ghost use Rattle.ifmap_machine.specs.State.{State};
 ghost use Rattle.ifmap_machine.specs.Step.{refusal};
@@ -100,7 +100,7 @@ fn tell_queue(sessions: &mut Sessions, moment: Moment, serial: u64, again: bool)
 
 // The answer to a poll: what there is to tell, or held where there is nothing.
 fn answer_with(items: Many<PollItem>) -> Answer
-    ensures { result ≡ told items }
+    ensures { result ≡ poll_answer items }
 {
     if items.is_empty() {
         return Answer::Held;
@@ -180,7 +180,7 @@ pub(crate) fn apply(parts: &mut Parts, moment: Moment, outcome: Outcome) -> Answ
     requires parts { WouldBeParts (held_by outcome) parts.old }
     ensures answer { (state : State) → state.moment ≡ moment
         → state.sessions ≡ parts.old.sessions.live → state.counter ≡ parts.old.sessions.counter
-        → state.standing ≡ map shown parts.old.standing.items → applied outcome state ≡ (
+        → state.standing ≡ map shown parts.old.standing.items → after_outcome outcome state ≡ (
           record state {
             counter = parts.new.sessions.counter;
             sessions = parts.new.sessions.live;
@@ -253,7 +253,7 @@ pub(crate) fn finish(
     requires ready { IsReady asking.now parts.old pending }
     requires steady { IsSteady parts.old.graph (parts.old.standing.items ++ held_by outcome) }
     requires can { CanApply outcome asking.now parts.old pending }
-    ensures answer { applied outcome (so_far asking.now parts.old pending)
+    ensures answer { after_outcome outcome (so_far asking.now parts.old pending)
         ≡ (state_at asking.now.ttl asking.now.moment parts.new, result) }
     ensures parts { AreParts parts.new }
     ensures lean { StaysLean parts.old.graph parts.new.graph }

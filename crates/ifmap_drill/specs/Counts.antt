@@ -81,10 +81,11 @@ counts_of history links = record {
   links = links;
 }
 
--- two numbers together, and two counts; events add no links
+-- two numbers together, at most 2^64 - 1
 abbrev pub capped_sum : ℕ → ℕ → ℕ
 capped_sum one other = min (one + other) (2 ^ 64 - 1)
 
+-- two counts together, with the links of the first
 abbrev pub counts_sum : Counts → Counts → Counts
 counts_sum a b = record {
   events = capped_sum a.events b.events;

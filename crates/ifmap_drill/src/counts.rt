@@ -61,7 +61,7 @@ impl Counts {
         *self = self.sum_with(&more);
     }
 
-    // These and others together.
+    // These and others together, with the links of these.
     fn sum_with(&self, more: &Counts) -> Counts
         ensures { result ≡ counts_sum self.now more.now }
     {

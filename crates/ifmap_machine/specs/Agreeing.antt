@@ -49,7 +49,7 @@ all_polled id history = flat_map (λ (e : Event × Answer). polled_by id e.0.ask
 abbrev pub client_sets : List ℕ → History → Sets
 client_sets id history = fold_items (all_polled id history) no_sets
 
--- a poll in the session of an id, which is answered with what there is to tell, or held
+-- the answer tells a poll its items, or holds it
 abbrev pub IsTold : Answer → Type 0
 IsTold (the_answer.Reply (the_reply.Polled items)) = Unit {0}
 IsTold (the_answer.Reply (the_reply.NewSession session publisher limit)) = ⊥
@@ -66,15 +66,14 @@ IsTold the_answer.Heard = ⊥
 abbrev pub is_poll_of : List ℕ → Ask → Type 0
 is_poll_of id ask = ask ≡ Request (the_request.Poll id)
 
--- after a poll that was told, each subscription that its session keeps has the set that the client folded: the fresh result of its
--- search
+-- each subscription of the session of an id has the set that its client folded: the fresh result of its search
 abbrev pub AgreesAfter : ℕ → History → List ℕ → Type 0
 AgreesAfter ttl history id =
     (s : Session) (x : Standing) → session_with_id id (state_after ttl history).sessions ≡ Some s
     → Has (state_after ttl history).standing x → x.serial ≡ s.serial
     → client_sets id history x.name ≡ Some (fresh (state_after ttl history).graph x.search)
 
--- so it is after each such poll of a history
+-- so it is in a history after each poll that is told something, or held
 abbrev pub Agrees : ℕ → History → Type 0
 Agrees ttl history =
     (before rest : History) (event : Event) (answer : Answer) (id : List ℕ) → history ≡ before ++ ((event, answer) ∷ rest)

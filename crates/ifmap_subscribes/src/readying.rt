@@ -18,7 +18,7 @@ ghost use Rattle.ifmap_subscribes.specs.declared.readying.SubscribeError.TheVari
 
 use crate::names::{NameNow, count_standing, name_before, whole_size};
 use crate::renamings::{Renaming, release_all};
-use crate::starting::begin_name;
+use crate::starting::{NewSubscription, begin_name};
 use ifmap_changes::asking::Asking;
 use ifmap_changes::parts::Parts;
 use ifmap_elem::{Copied, Many, Text};
@@ -335,14 +335,12 @@ fn begin_beside<L: Ledger>(
     same_links_keep_subscriptions();
     parts.sessions.is_table();
     parts.graph.is_view();
-    let begun = begin_name(
-        alloc,
-        &mut parts.graph,
-        scene.serial,
-        wish.name,
-        wish.search,
-        steps,
-    );
+    let wanted = NewSubscription {
+        serial: scene.serial,
+        name: wish.name,
+        search: wish.search,
+    };
+    let begun = begin_name(alloc, &mut parts.graph, &wanted, steps);
     parts.graph.is_view();
     begun
 }

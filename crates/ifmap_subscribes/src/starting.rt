@@ -31,24 +31,30 @@ use ifmap_view::View;
 use std::alloc::{AllocError as NoMemory, Global};
 use std::sync::ledger::Ledger;
 
+// A subscription that is to begin: the serial of its session, its name and its search.
+#[derive(Drop)]
+pub(crate) struct NewSubscription<'a> {
+    pub(crate) serial: u64,
+    pub(crate) name: &'a Text,
+    pub(crate) search: &'a Search,
+}
+
 // A subscription of a session begins under a name, or is told that its result is too big. Where it
 // stands, the number of its start is held for it; else none is.
 pub(crate) fn begin_name<L: Ledger>(
     alloc: Global,
     graph: &mut Graph,
-    serial: u64,
-    name: &Text,
-    search: &Search,
+    wanted: &NewSubscription<'_>,
     steps: &mut Steps<L>,
 ) -> Result<Renaming, NoMemory>
     requires few { HasFewOwn graph.old }
-    requires fit { IsFitSearch search.now }
+    requires fit { IsFitSearch wanted.now.search.now }
     requires steady { (standing : List Standing) × IsSteady graph.old standing }
-    ensures begun { IfOk result (λ renaming. (t : Told) → rename serial renaming t
-        ≡ begin_name (rows_now graph.old) serial name.now search.now
-        (machine.drop_name serial name.now t)) }
-    ensures name { IfOk result (λ renaming. renaming.name ≡ name.now) }
-    ensures session { IfOk result (IsOfSession serial) }
+    ensures begun { IfOk result (λ renaming. (t : Told) → rename wanted.now.serial renaming t
+        ≡ begin_name (rows_now graph.old) wanted.now.serial wanted.now.name.now
+        wanted.now.search.now (machine.drop_name wanted.now.serial wanted.now.name.now t)) }
+    ensures name { IfOk result (λ renaming. renaming.name ≡ wanted.now.name.now) }
+    ensures session { IfOk result (IsOfSession wanted.now.serial) }
     ensures small { IfOk result IsSmall }
     ensures kept { IfOk result (λ renaming. AllByRecursion
         (λ x. IsKept (sight_now graph.new) x.subscription) (option_to_list renaming.standing)) }
@@ -58,16 +64,16 @@ pub(crate) fn begin_name<L: Ledger>(
     ensures err { OnErr result ((standing : List Standing) → IsSteady graph.old standing
         → IsSteady graph.new standing) }
     ensures holds { GraphHolds graph.old graph.new }
-    ensures steps { IsWithinSpan 4 (rows_now graph.old) search.now steps.old steps.new }
+    ensures steps { IsWithinSpan 4 (rows_now graph.old) wanted.now.search.now steps.old steps.new }
 {
-    let number = graph.hold(alloc, &search.start)?;
-    match begin_at(alloc, graph, serial, number, name, search, steps) {
+    let number = graph.hold(alloc, &wanted.search.start)?;
+    match begin_at(alloc, graph, number, wanted, steps) {
         Ok(renaming) => {
-            release_unused(graph, number, &search.start, &renaming);
+            release_unused(graph, number, &wanted.search.start, &renaming);
             Ok(renaming)
         }
         Err(no_memory) => {
-            release_held(graph, number, &search.start);
+            release_held(graph, number, &wanted.search.start);
             Err(no_memory)
         }
     }
@@ -107,33 +113,37 @@ fn release_held(graph: &mut Graph, number: u64, start: &Identifier)
 fn begin_at<L: Ledger>(
     alloc: Global,
     graph: &Graph,
-    serial: u64,
     number: u64,
-    name: &Text,
-    search: &Search,
+    wanted: &NewSubscription<'_>,
     steps: &mut Steps<L>,
 ) -> Result<Renaming, NoMemory>
-    requires fit { IsFitSearch search.now }
-    requires start { key_at graph.now.names number ≡ Some search.now.start }
-    ensures begun { IfOk result (λ renaming. (t : Told) → rename serial renaming t
-        ≡ begin_name (rows_now graph.now) serial name.now search.now
-        (machine.drop_name serial name.now t)) }
-    ensures name { IfOk result (λ renaming. renaming.name ≡ name.now) }
-    ensures session { IfOk result (IsOfSession serial) }
+    requires fit { IsFitSearch wanted.now.search.now }
+    requires start { key_at graph.now.names number ≡ Some wanted.now.search.now.start }
+    ensures begun { IfOk result (λ renaming. (t : Told) → rename wanted.now.serial renaming t
+        ≡ begin_name (rows_now graph.now) wanted.now.serial wanted.now.name.now
+        wanted.now.search.now (machine.drop_name wanted.now.serial wanted.now.name.now t)) }
+    ensures name { IfOk result (λ renaming. renaming.name ≡ wanted.now.name.now) }
+    ensures session { IfOk result (IsOfSession wanted.now.serial) }
     ensures small { IfOk result IsSmall }
     ensures kept { IfOk result (λ renaming. AllByRecursion
-        (λ x. (x.subscription.search ≡ search.now) × (x.subscription.region.start ≡ number)
+        (λ x. (x.subscription.search ≡ wanted.now.search.now)
+        × (x.subscription.region.start ≡ number)
         × IsKept (sight_now graph.now) x.subscription) (option_to_list renaming.standing)) }
-    ensures steps { IsWithinSpan 4 (rows_now graph.now) search.now steps.old steps.new }
+    ensures steps { IsWithinSpan 4 (rows_now graph.now) wanted.now.search.now steps.old steps.new }
 {
     graph.is_view();
-    let searched = search.copy(alloc)?;
+    let searched = wanted.search.copy(alloc)?;
     match subscribe(alloc, graph, number, searched, steps)? {
         Subscribed::Kept {
             subscription,
             found,
-        } => keep_name(alloc, serial, name, subscription, found),
-        Subscribed::TooBig { size } => refuse_name(alloc, name, size, search.max_size),
+        } => keep_name(alloc, wanted.serial, wanted.name, subscription, found),
+        Subscribed::TooBig { size } => refuse_name(
+            alloc,
+            wanted.name,
+            size,
+            wanted.search.max_size,
+        ),
     }
 }
 

@@ -14,18 +14,20 @@ use Rattle.ifmap_publish.specs.Notes.{notes_of}
 
 pub make_change-requires-clause-canon : goal.make_change-requires-clause-canon
 make_change-requires-clause-canon g c =
-    let inner : Authorship = record { client = c.asking.inside.client.now; serial = c.args.serial; moment = c.asking.inside.moment } in
+    let serial = c.args.publication.now.serial in
+    let inner : Authorship = record { client = c.asking.inside.client.now; serial = serial; moment = c.asking.inside.moment } in
     subst (λ notes. AllByRecursion (λ (n : Note). IsCanonItem n.item) notes) (sym c.in_ok-plan.ensures.notes)
-    (notes_canon inner c.args.ops.now c.requires.fit)
+    (notes_canon inner c.args.publication.now.ops.now c.requires.fit)
 
 pub returns-clause-told : goal.returns-clause-told
 returns-clause-told g c =
     let before = so_far c.args.asking.now c.args.parts.now c.args.pending.now in
     let first = rows_now c.args.parts.now.graph in
-    let ops = c.args.ops.now in
-    let inner : Authorship = record { client = c.asking.inside.client.now; serial = c.args.serial; moment = c.asking.inside.moment } in
-    let by : Authorship = author_of c.args.serial c.args.asking.now in
-    let same : inner ≡ by = ap (author_of c.args.serial) c.asking.view_is in
+    let ops = c.args.publication.now.ops.now in
+    let serial = c.args.publication.now.serial in
+    let inner : Authorship = record { client = c.asking.inside.client.now; serial = serial; moment = c.asking.inside.moment } in
+    let by : Authorship = author_of serial c.args.asking.now in
+    let same : inner ≡ by = ap (author_of serial) c.asking.view_is in
     let applies : IsAfter c.in_ok-plan.plan.changes first (apply first inner ops) = c.in_ok-plan.ensures.applies in
     where_ok c.make_change.result _ _ (λ f. f (apply first by ops)
     (c.publishing_keeps_graphs.ensures.graph first by ops c.requires.fit c.is_view.ensures.graph)
@@ -43,10 +45,11 @@ returns-in_err-plan-clause-steps g c = inl (omega arith)
 pub returns-clause-steps : goal.returns-clause-steps
 returns-clause-steps g c =
     let first = rows_now c.args.parts.now.graph in
-    let ops = c.args.ops.now in
-    let inner : Authorship = record { client = c.asking.inside.client.now; serial = c.args.serial; moment = c.asking.inside.moment } in
-    let by : Authorship = author_of c.args.serial c.args.asking.now in
-    let same : inner ≡ by = ap (author_of c.args.serial) c.asking.view_is in
+    let ops = c.args.publication.now.ops.now in
+    let serial = c.args.publication.now.serial in
+    let inner : Authorship = record { client = c.asking.inside.client.now; serial = serial; moment = c.asking.inside.moment } in
+    let by : Authorship = author_of serial c.args.asking.now in
+    let same : inner ≡ by = ap (author_of serial) c.asking.view_is in
     let applies : IsAfter c.in_ok-plan.plan.changes first (apply first inner ops) = c.in_ok-plan.ensures.applies in
     c.make_change.ensures.steps (apply first by ops)
     (c.publishing_keeps_graphs.ensures.graph first by ops c.requires.fit c.is_view.ensures.graph)

@@ -1,7 +1,7 @@
 use Rattle.std.proofs.Common.{◌++◌, sym, ◌∙◌, ap}
 use Rattle.ifmap_core.proofs.Expiring.{can_back, can_settle_later}
 use Rattle.ifmap_core.proofs.ending.answer_ended.Goals as goal
-use Rattle.ifmap_core.specs.Outcomes.{applied}
+use Rattle.ifmap_core.specs.Outcomes.{after_outcome}
 use Rattle.ifmap_graph.specs.Out.{items_of}
 
 pub settle_ended-requires-clause-settle : goal.settle_ended-requires-clause-settle
@@ -10,7 +10,7 @@ settle_ended-requires-clause-settle g c =
 
 pub returns-in-Ok-clause-answer : goal.returns-in-Ok-clause-answer
 returns-in-Ok-clause-answer g c =
-    sym c.finish.ensures.answer ∙ ap (applied c.in-Ok.outcome) c.settle_ended.ensures.so_far ∙ c.in-Ok.ensures.leads.leads
+    sym c.finish.ensures.answer ∙ ap (after_outcome c.in-Ok.outcome) c.settle_ended.ensures.so_far ∙ c.in-Ok.ensures.leads.leads
 
 pub undo_made-requires-clause-steady : goal.undo_made-requires-clause-steady
 undo_made-requires-clause-steady g c = c.in-Err.ensures.kept.back.steady

@@ -1,10 +1,10 @@
 use Rattle.std.proofs.Common.{◌≡◌, sym, ◌∙◌, ap, true, false}
-use Rattle.ifmap_core.specs.Outcomes.{told}
+use Rattle.ifmap_core.specs.Outcomes.{poll_answer}
 use Rattle.ifmap_core.proofs.Applying.{told_some}
 use Rattle.ifmap_core.proofs.outcomes.answer_with.Goals as goal
 
 pub returns-then-is_empty : goal.returns-then-is_empty
-returns-then-is_empty c = sym (ap told (c.is_empty.ensures.0 c.if-is_empty.true))
+returns-then-is_empty c = sym (ap poll_answer (c.is_empty.ensures.0 c.if-is_empty.true))
 
 pub returns : goal.returns
 returns c =

@@ -1,6 +1,6 @@
 use Rattle.std.proofs.Common.{◌+◌, ◌∷◌, [], refl, sym, ◌∙◌, ap, subst}
 use Rattle.ifmap_changes.specs.Between.{AreWithin, AreOrdered}
-use Rattle.ifmap_core.specs.Outcomes.{CanApplyTo, WouldBeParts, applied, held_by}
+use Rattle.ifmap_core.specs.Outcomes.{CanApplyTo, WouldBeParts, after_outcome, held_by}
 use Rattle.ifmap_core.proofs.Applied.{accept_leaves, end_leaves, open_leaves, parts_moved, parts_renamed, poll_leaves, rename_leaves, say_leaves}
 use Rattle.ifmap_core.proofs.Applying.{former_ordered, live_begun, live_changed, live_first, ordered_beside, ordered_moved, within_begun, within_emptied, within_first, within_former, within_left, within_renewed, emptied_keeps}
 use Rattle.ifmap_core.proofs.Ended.{some_is}
@@ -12,7 +12,8 @@ pub returns-in-Say : goal.returns-in-Say
 returns-in-Say c =
     let would = subst (λ o. WouldBeParts (held_by o) c.args.parts.now) c.in-Say.is c.requires.parts in
     record {
-      answer = λ state m s n t. ap (λ o. applied o state) c.in-Say.is ∙ say_leaves state c.args.moment c.args.parts.now.sessions.counter
+      answer = λ state m s n t. ap (λ o. after_outcome o state) c.in-Say.is
+          ∙ say_leaves state c.args.moment c.args.parts.now.sessions.counter
           c.args.parts.now.sessions.live c.args.parts.now.standing.items m s n t c.in-Say.answer;
       parts = parts_moved c.args.parts.now c.args.parts.now.sessions would would.ordered would.within;
       rows = refl;
@@ -23,7 +24,7 @@ pub returns-in-Accept : goal.returns-in-Accept
 returns-in-Accept c =
     let would = subst (λ o. WouldBeParts (held_by o) c.args.parts.now) c.in-Accept.is c.requires.parts in
     record {
-      answer = λ state m s n t. ap (λ o. applied o state) c.in-Accept.is
+      answer = λ state m s n t. ap (λ o. after_outcome o state) c.in-Accept.is
           ∙ accept_leaves state c.args.moment c.args.parts.now.sessions.counter
           c.args.parts.now.sessions.live c.args.parts.now.standing.items m s n t c.in-Accept.serial c.renew.new.self.counter
           c.in-Accept.answer c.renew.new.self.live c.renew.ensures.changes.counter c.renew.ensures.changes.live;
@@ -43,7 +44,8 @@ returns-in-End c =
     let would = subst (λ o. WouldBeParts (held_by o) c.args.parts.now) c.in-End.is c.requires.parts in
     let can = subst (λ o. CanApplyTo o c.args.parts.now) c.in-End.is c.requires.can in
     record {
-      answer = λ state m s n t. ap (λ o. applied o state) c.in-End.is ∙ end_leaves state c.args.moment c.args.parts.now.sessions.counter
+      answer = λ state m s n t. ap (λ o. after_outcome o state) c.in-End.is
+          ∙ end_leaves state c.args.moment c.args.parts.now.sessions.counter
           c.args.parts.now.sessions.live c.args.parts.now.standing.items m s n t c.in-End.serial c.end.new.self.counter
           c.in-End.answer c.end.new.self.live c.end.ensures.counter c.end.ensures.live can.1;
       parts = parts_moved c.args.parts.now c.end.new.self would
@@ -64,7 +66,8 @@ returns-in-Open c =
     let within = subst AreWithin (sym c.end_former.ensures.live)
     (within_former c.in-Open.former c.args.parts.now.sessions.live would.within) in
     record {
-      answer = λ state m s n t. ap (λ o. applied o state) c.in-Open.is ∙ open_leaves state c.args.moment c.args.parts.now.sessions.counter
+      answer = λ state m s n t. ap (λ o. after_outcome o state) c.in-Open.is
+          ∙ open_leaves state c.args.moment c.args.parts.now.sessions.counter
           c.args.parts.now.sessions.live c.args.parts.now.standing.items m s n t c.in-Open.former c.in-Open.opening c.in-Open.limit
           c.in-Open.publisher c.open-session.result.id c.open-session.new.self.counter c.open-session.new.self.live
           c.end_former.new.sessions.live (ap (λ b. b.id) c.open-session.ensures.begun)
@@ -88,7 +91,7 @@ returns-in-Rename c =
     let one = some_is (session_with_serial c.in-Rename.serial c.args.parts.now.sessions.live) can.0.live in
     let told = c.rename_each.ensures.renamed.told one.0 one.1 in
     record {
-      answer = λ state m s n t. ap (λ o. applied o state) c.in-Rename.is
+      answer = λ state m s n t. ap (λ o. after_outcome o state) c.in-Rename.is
           ∙ rename_leaves state c.args.moment c.args.parts.now.sessions.counter
           c.args.parts.now.sessions.live c.args.parts.now.standing.items m s n t c.in-Rename.serial c.renew-in-Rename.new.self.counter
           c.in-Rename.renamings c.rename_each.new.parts.sessions.live c.renew-in-Rename.new.self.live c.rename_each.new.parts.standing.items
@@ -106,7 +109,8 @@ returns-in-Poll c =
     let would = subst (λ o. WouldBeParts (held_by o) c.args.parts.now) c.in-Poll.is c.requires.parts in
     let live = change c.in-Poll.serial emptied c.args.parts.now.sessions.live in
     record {
-      answer = λ state m s n t. ap (λ o. applied o state) c.in-Poll.is ∙ poll_leaves state c.args.moment c.args.parts.now.sessions.counter
+      answer = λ state m s n t. ap (λ o. after_outcome o state) c.in-Poll.is
+          ∙ poll_leaves state c.args.moment c.args.parts.now.sessions.counter
           c.args.parts.now.sessions.live c.args.parts.now.standing.items m s n t c.in-Poll.serial c.tell_queue.new.sessions.counter
           c.in-Poll.again c.tell_queue.result c.tell_queue.new.sessions.live c.tell_queue.ensures.counter
           (c.tell_queue.ensures.told state m s);

@@ -1,6 +1,6 @@
 use Rattle.std.proofs.Common.{◌≡◌, sym, ◌∙◌, ap, subst, List}
 use Rattle.std.specs.List.Sorted.{IsStrictlySortedBy}
-use Rattle.ifmap_core.specs.Outcomes.{first_renewed, told}
+use Rattle.ifmap_core.specs.Outcomes.{first_renewed, poll_answer}
 use Rattle.ifmap_core.proofs.Applying.{live_emptied, poll_told}
 use Rattle.ifmap_core.proofs.Ended.{some_is}
 use Rattle.ifmap_core.proofs.outcomes.tell_queue.Goals as goal
@@ -25,5 +25,5 @@ returns-clause-told c = λ state moment sessions.
     ∙ ap (λ (l : List Session). first_renewed c.args.again c.args.serial c.args.moment l) (sym c.take_all-items.ensures.changes.live)
     ∙ sym c.renew_first.ensures.live in
     poll_told state c.args.again c.args.serial there.0 rising found c.take_all-items.result (c.take_all-items.ensures.items there.0 there.1)
-    ∙ ap (λ (l : List Session). (record state { sessions = l }, told c.take_all-items.result)) renewed
+    ∙ ap (λ (l : List Session). (record state { sessions = l }, poll_answer c.take_all-items.result)) renewed
     ∙ ap (λ a. (record state { sessions = c.renew_first.new.sessions.live }, a)) (sym c.answer_with.ensures)

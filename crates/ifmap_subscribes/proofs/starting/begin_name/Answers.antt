@@ -16,26 +16,26 @@ pub release_unused-requires : goal.release_unused-requires
 release_unused-requires g c =
     let h = c.in_ok-number.ensures in (
       c.requires.steady.0,
-      held_steady c.args.graph.now c.hold.new.self c.requires.steady.0 c.in_ok-number.number c.args.search.now.start c.requires.steady.1
-          h.shelves h.still h.kept h.own h.named,
+      held_steady c.args.graph.now c.hold.new.self c.requires.steady.0 c.in_ok-number.number c.args.wanted.now.search.now.start
+          c.requires.steady.1 h.shelves h.still h.kept h.own h.named,
     )
 
 pub release_held-requires : goal.release_held-requires
 release_held-requires g c =
     let h = c.in_ok-number.ensures in (
       c.requires.steady.0,
-      held_steady c.args.graph.now c.hold.new.self c.requires.steady.0 c.in_ok-number.number c.args.search.now.start c.requires.steady.1
-          h.shelves h.still h.kept h.own h.named,
+      held_steady c.args.graph.now c.hold.new.self c.requires.steady.0 c.in_ok-number.number c.args.wanted.now.search.now.start
+          c.requires.steady.1 h.shelves h.still h.kept h.own h.named,
     )
 
 pub returns-in-Ok-clause-steady : goal.returns-in-Ok-clause-steady
 returns-in-Ok-clause-steady g c = λ standing was.
     let h = c.in_ok-number.ensures in
     let held =
-    held_steady c.args.graph.now c.hold.new.self standing c.in_ok-number.number c.args.search.now.start was h.shelves h.still h.kept h.own
-    h.named in
-    ends_steady c.hold.new.self c.release_unused.new.graph standing c.in_ok-number.number c.args.search.now c.in-Ok.renaming.standing held
-    (λ e. c.release_unused.ensures.unused e standing held) c.release_unused.ensures.used c.in-Ok.ensures.kept
+    held_steady c.args.graph.now c.hold.new.self standing c.in_ok-number.number c.args.wanted.now.search.now.start was h.shelves h.still
+    h.kept h.own h.named in
+    ends_steady c.hold.new.self c.release_unused.new.graph standing c.in_ok-number.number c.args.wanted.now.search.now
+    c.in-Ok.renaming.standing held (λ e. c.release_unused.ensures.unused e standing held) c.release_unused.ensures.used c.in-Ok.ensures.kept
 
 pub returns-in-Ok-clause-holds : goal.returns-in-Ok-clause-holds
 returns-in-Ok-clause-holds g c =
@@ -48,8 +48,8 @@ pub returns-in-Err-clause-err : goal.returns-in-Err-clause-err
 returns-in-Err-clause-err g c = λ standing was.
     let h = c.in_ok-number.ensures in
     c.release_held.ensures.steady standing
-    (held_steady c.args.graph.now c.hold.new.self standing c.in_ok-number.number c.args.search.now.start was h.shelves h.still h.kept h.own
-    h.named)
+    (held_steady c.args.graph.now c.hold.new.self standing c.in_ok-number.number c.args.wanted.now.search.now.start was h.shelves h.still
+    h.kept h.own h.named)
 
 pub returns-in-Err-clause-holds : goal.returns-in-Err-clause-holds
 returns-in-Err-clause-holds g c =
@@ -65,12 +65,12 @@ pub returns-in-Ok-clause-steps : goal.returns-in-Ok-clause-steps
 returns-in-Ok-clause-steps g c =
     let h = c.in_ok-number.ensures in
     let held = held_alone c.args.graph.now c.hold.new.self h.shelves h.links h.kept h.backs h.waits h.lean in
-    spanned_as 4 (rows_now c.hold.new.self) (rows_now c.args.graph.now) c.args.search.now c.args.steps.now c.begin_at.new.steps held.rows
-    c.begin_at.ensures.steps
+    spanned_as 4 (rows_now c.hold.new.self) (rows_now c.args.graph.now) c.args.wanted.now.search.now c.args.steps.now c.begin_at.new.steps
+    held.rows c.begin_at.ensures.steps
 
 pub returns-in-Err-clause-steps : goal.returns-in-Err-clause-steps
 returns-in-Err-clause-steps g c =
     let h = c.in_ok-number.ensures in
     let held = held_alone c.args.graph.now c.hold.new.self h.shelves h.links h.kept h.backs h.waits h.lean in
-    spanned_as 4 (rows_now c.hold.new.self) (rows_now c.args.graph.now) c.args.search.now c.args.steps.now c.begin_at.new.steps held.rows
-    c.begin_at.ensures.steps
+    spanned_as 4 (rows_now c.hold.new.self) (rows_now c.args.graph.now) c.args.wanted.now.search.now c.args.steps.now c.begin_at.new.steps
+    held.rows c.begin_at.ensures.steps

@@ -1,6 +1,5 @@
 use Rattle.std.proofs.Common.{◌≡◌, inl, subst, Some, Err}
 use Rattle.ifmap_client_script.specs.Deeds.{request_in}
-use Rattle.ifmap_client_script.specs.Exchanges.{wiring}
 use Rattle.ifmap_client_script.specs.Holding.{Holding, known_of}
 use Rattle.ifmap_client_script.specs.Stops.{IsNamed}
 use Rattle.ifmap_client_script.proofs.Carrying.{over_none}
@@ -11,12 +10,10 @@ returns-in-Ok-clause-asks g c =
     inl (
       c.in-Ok.sent,
       subst (λ (h : Holding). request_in h.session c.args.request ≡ Some c.in-Ok.sent) c.self.view_is c.in-Ok.ensures,
-      c.ask_by.ensures.asks,
+      c.ask.ensures.asks,
     )
 
 pub returns-in-Err-clause-asks : goal.returns-in-Err-clause-asks
 returns-in-Err-clause-asks g c =
-    over_none c.args.caller.now c.args.request (known_of c.args.self.now)
-    (wiring g.A.Source.left g.A.Sink.held g.A.Source.faults g.A.Sink.faults c.args.first.now)
-    (wiring g.B.Source.left g.B.Sink.held g.B.Source.faults g.B.Sink.faults c.args.second.now) c.in-Err.stop
+    over_none c.args.caller.now c.args.request (known_of c.args.self.now) (g.O.Outlets.seen c.args.outlets.now) c.in-Err.stop
     (subst (λ (h : Holding). IsNamed (request_in h.session c.args.request) (Err c.in-Err.stop)) c.self.view_is c.in-Err.ensures)

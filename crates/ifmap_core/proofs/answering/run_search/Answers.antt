@@ -4,7 +4,7 @@ use Rattle.ifmap_graph.specs.Seen.{rows_now}
 use Rattle.ifmap_changes.specs.Between.{left, sight_now, so_far}
 use Rattle.ifmap_core.proofs.Cases.{accepts, another, finds, finds_not, nobody, own_left, owner_so_far, says}
 use Rattle.ifmap_core.proofs.Spending.{finds_none, finds_within}
-use Rattle.ifmap_core.proofs.answering.search.Goals as goal
+use Rattle.ifmap_core.proofs.answering.run_search.Goals as goal
 use Rattle.ifmap_core.specs.declared.owning.Owner.TheVariants.{Own}
 use Rattle.ifmap_machine.specs.declared.events.Answer.TheVariants as the_answer
 use Rattle.ifmap_session.specs.Sessions.{session_with_id}

@@ -1,0 +1,54 @@
+-- What is printed and asked does to a sink and two wires, at one call. No clause of `run_script` cites this file.
+use Rattle.std.specs.Prelude.{◌≡◌, ◌⊎◌, ℕ, List, Bool, true, false, IsFalse, Some, None, Result, Err}
+use Rattle.ifmap_requests.specs.declared.requests.Request.{Request}
+use Rattle.ifmap_client_script.specs.declared.exchanges.Caller.{Caller}
+use Rattle.ifmap_client_script.specs.declared.exchanges.Told.{Told}
+use Rattle.ifmap_client_script.specs.declared.outcomes.Stop.{Stop}
+use Rattle.ifmap_client_script.specs.declared.outcomes.Stop.TheVariants as stop
+use Rattle.ifmap_client_script.specs.Deeds.{Known, is_poll, request_in}
+use Rattle.ifmap_client_script.specs.Ends.{Ports}
+use Rattle.ifmap_client_script.specs.Exchanges.{Asks}
+use Rattle.ifmap_client_script.specs.Stops.{Sends}
+
+-- both wires can be asked
+pub record AreUnspent (ports : Ports) : Type 0 where
+  pub first : IsFalse ports.first.spent
+  pub second : IsFalse ports.second.spent
+
+-- the names of the borrows of the sink and the wires
+pub record Loans : Type 0 where
+  pub sink : ℕ
+  pub first : ℕ
+  pub second : ℕ
+
+-- the sink and the wires are the same ones
+pub record AreSame (before after : Loans) : Type 0 where
+  pub sink : after.sink ≡ before.sink
+  pub first : after.first ≡ before.first
+  pub second : after.second ≡ before.second
+
+-- over which wire a request went, while the other stayed as it was: a poll over the second
+abbrev pub AsksBy : Bool → Caller → Request → (before after : Ports) → Result Told Stop → Type 0
+AsksBy true caller sent before after result =
+    (after.first ≡ before.first) × Asks caller sent before.second after.second result
+AsksBy false caller sent before after result =
+    (after.second ≡ before.second) × Asks caller sent before.first after.first result
+
+-- a request went over its wire, and nothing was printed
+pub record IsAsked (caller : Caller) (sent : Request) (before after : Ports) (result : Result Told Stop) : Type 0 where
+  pub asks : AsksBy (is_poll sent) caller sent before after result
+  pub held : after.held ≡ before.held
+  pub write_faults : after.write_faults ≡ before.write_faults
+
+-- a request was sent as it is named, if it is, and there was memory
+abbrev pub AsksOver : Caller → Request → Known → (before after : Ports) → Result Told Stop → Type 0
+AsksOver caller request known before after result =
+    ((sent : Request) × (request_in known.session request ≡ Some sent) × IsAsked caller sent before after result)
+    ⊎ ((after ≡ before)
+    × ((result ≡ Err stop.NoMemory) ⊎ ((request_in known.session request ≡ None) × (result ≡ Err stop.BadLine))))
+
+-- a text was printed, and the wires stayed as they were
+pub record Prints (text : List ℕ) (before after : Ports) (result : Result (Unit {0}) Stop) : Type 0 where
+  pub sends : Sends before.held after.held before.write_faults after.write_faults text result
+  pub first : after.first ≡ before.first
+  pub second : after.second ≡ before.second

@@ -1,0 +1,83 @@
+//! Where a script prints, and over which wires it asks.
+ghost use Rattle.std.specs.Prelude.{IsTrue};
+ghost use Rattle.ifmap_heads.specs.Messages.{is_visible};
+ghost use Rattle.ifmap_client_script.specs.Ends.{ArePortsLater, Ports, ports};
+ghost use Rattle.ifmap_client_script.specs.Exchanges.{wiring};
+ghost use Rattle.ifmap_client_script.specs.Outlets.{AreSame, AreUnspent, IsAsked, Loans, Prints};
+ghost use Rattle.ifmap_client_script.specs.Printing.{body_text};
+
+use crate::exchanges::{Caller, Told, ask};
+use crate::outcomes::Stop;
+use crate::requests::is_poll;
+use crate::sending::{send, send_body};
+use ifmap_elem::Many;
+use ifmap_http::Wire;
+use ifmap_io::{Link, Sink};
+use ifmap_requests::Request;
+use std::alloc::Global;
+
+/// A sink for what is printed and two wires for what is asked, of which the second is for polls.
+pub trait Outlets {
+    /// What contracts see of them.
+    ghost seen: { Self → Ports };
+
+    /// The names of their borrows, which no call changes.
+    ghost loans: { Self → Loans };
+
+    /// Sends a request over its wire, and takes the answer to it.
+    fn ask(&mut self, alloc: Global, caller: &Caller, sent: &Request) -> Result<Told, Stop>
+        requires unspent { AreUnspent (seen self.old) }
+        requires visible { IsTrue (is_visible caller.now.host) }
+        ensures asks { IsAsked caller.now sent.now (seen self.old) (seen self.new) result }
+        ensures later { ArePortsLater (seen self.old) (seen self.new) }
+        ensures same { AreSame (loans self.old) (loans self.new) };
+
+    /// Writes a text, and hands it on.
+    fn print(&mut self, text: &[u8]) -> Result<(), Stop>
+        ensures prints { Prints text.now (seen self.old) (seen self.new) result }
+        ensures later { ArePortsLater (seen self.old) (seen self.new) }
+        ensures same { AreSame (loans self.old) (loans self.new) };
+
+    /// Writes `=`, the length of a body, a newline and the body, and hands them on.
+    fn print_body(&mut self, alloc: Global, body: &Many<u8>) -> Result<(), Stop>
+        ensures prints { Prints (body_text body.now) (seen self.old) (seen self.new) result }
+        ensures later { ArePortsLater (seen self.old) (seen self.new) }
+        ensures same { AreSame (loans self.old) (loans self.new) };
+}
+
+/// A sink and two wires that are borrowed.
+#[derive(Drop)]
+pub struct SinkAndWires<'a, 'b, 'c, K, A: Drop, B: Drop> {
+    pub sink: &'a mut K,
+    pub first: &'b mut Wire<A>,
+    pub second: &'c mut Wire<B>,
+}
+
+impl<'a, 'b, 'c, K: Sink, A: Link, B: Link> Outlets for SinkAndWires<'a, 'b, 'c, K, A, B> {
+    ghost seen = { λ o. ports (K.held o.sink.now) (K.faults o.sink.now)
+        (wiring A.left A.held A.Source.faults A.Sink.faults o.first.now)
+        (wiring B.left B.held B.Source.faults B.Sink.faults o.second.now) };
+
+    ghost loans = { λ o. record {
+      sink = o.sink.ghost_name;
+      first = o.first.ghost_name;
+      second = o.second.ghost_name;
+    } };
+
+    #[tactic(auto, using(crate::proofs::Carrying::by_second, crate::proofs::Carrying::by_first))]
+    fn ask(&mut self, alloc: Global, caller: &Caller, sent: &Request) -> Result<Told, Stop> {
+        if is_poll(sent) {
+            ask(alloc, caller, sent, self.second)
+        } else {
+            ask(alloc, caller, sent, self.first)
+        }
+    }
+
+    fn print(&mut self, text: &[u8]) -> Result<(), Stop> {
+        send(self.sink, text)
+    }
+
+    fn print_body(&mut self, alloc: Global, body: &Many<u8>) -> Result<(), Stop> {
+        send_body(alloc, self.sink, body)
+    }
+}
