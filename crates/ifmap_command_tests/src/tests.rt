@@ -107,7 +107,7 @@ fn list_of(alloc: Global, words: &[&str]) -> Result<Vec<String>, NoMemory> {
     Ok(list)
 }
 
-fn shown(alloc: Global, words: &[&str]) -> Result<String, NoMemory> {
+fn form_text(alloc: Global, words: &[&str]) -> Result<String, NoMemory> {
     match form_of(alloc, list_of(alloc, words)?.as_slice()) {
         Form::Replay => String::from_str(alloc, "replay"),
         Form::Drill { key, count } => format!(in alloc; "drill {key} {count}"),
@@ -121,7 +121,7 @@ fn shown(alloc: Global, words: &[&str]) -> Result<String, NoMemory> {
 }
 
 fn is_shown(alloc: Global, case: &Case) -> bool {
-    match shown(alloc, case.words) {
+    match form_text(alloc, case.words) {
         Ok(form) => form.as_str() == case.form,
         Err(_) => false,
     }

@@ -31,7 +31,7 @@ fn written_body(alloc: Global, inner: &str) -> Result<String, NoMemory> {
 }
 
 // A root with the prefixes of the tables, and what stands after them.
-fn declaring(alloc: Global, root: &str, rest: &str) -> Result<String, NoMemory> {
+fn root_with(alloc: Global, root: &str, rest: &str) -> Result<String, NoMemory> {
     let mut body = String::from_str(alloc, root)?;
     body.push_str(DECLARATIONS)?;
     body.push_str(rest)?;
@@ -39,13 +39,13 @@ fn declaring(alloc: Global, root: &str, rest: &str) -> Result<String, NoMemory> 
 }
 
 // What a body means, as a text that tells requests apart.
-fn shown(alloc: Global, body: &str) -> Option<String> {
+fn meaning_text(alloc: Global, body: &str) -> Option<String> {
     let request = read_request(alloc, body.as_bytes()).ok()?;
     format!(in alloc; "{request:?}").ok()
 }
 
 // What a copy of the request is that a body means, as a text.
-fn shown_copy(alloc: Global, body: &str) -> Option<String> {
+fn copy_text(alloc: Global, body: &str) -> Option<String> {
     let request = read_request(alloc, body.as_bytes()).ok()?;
     let copy = request.copy(alloc).ok()?;
     format!(in alloc; "{copy:?}").ok()
@@ -68,8 +68,8 @@ fn is_unreadable(alloc: Global, body: &str) -> bool {
 // Whether the two bodies of each row mean one request.
 fn are_alike(alloc: Global, rows: &[(&str, &str)]) -> bool {
     for (one, other) in rows {
-        let one = shown(alloc, one);
-        let other = shown(alloc, other);
+        let one = meaning_text(alloc, one);
+        let other = meaning_text(alloc, other);
         let alike = one.is_some() && one == other;
         if !alike {
             return false;
@@ -135,8 +135,8 @@ fn spellings_of_one_element_are_one_request(rt: HostRuntime) -> Result<(), Fail>
     let alloc = rt.alloc();
     for (inner, wanted) in &judged::MEANT {
         let body = body_of(alloc, inner)?;
-        let one = shown(alloc, body.as_str());
-        let other = shown(alloc, written_body(alloc, wanted)?.as_str());
+        let one = meaning_text(alloc, body.as_str());
+        let other = meaning_text(alloc, written_body(alloc, wanted)?.as_str());
         assert!(rt; one.is_some() && one == other, "{inner}");
     }
     Ok(())
@@ -146,7 +146,7 @@ fn spellings_of_one_element_are_one_request(rt: HostRuntime) -> Result<(), Fail>
 fn envelopes_of_another_form_are_unreadable(rt: HostRuntime) -> Result<(), Fail> {
     let alloc = rt.alloc();
     for (root, rest) in &judged::UNREADABLE {
-        let body = declaring(alloc, root, rest)?;
+        let body = root_with(alloc, root, rest)?;
         assert!(rt; is_unreadable(alloc, body.as_str()), "{rest}");
     }
     Ok(())
@@ -157,8 +157,8 @@ fn a_copy_is_the_same_request(rt: HostRuntime) -> Result<(), Fail> {
     let alloc = rt.alloc();
     for (inner, _) in &judged::MEANT {
         let body = body_of(alloc, inner)?;
-        let one = shown(alloc, body.as_str());
-        let other = shown_copy(alloc, body.as_str());
+        let one = meaning_text(alloc, body.as_str());
+        let other = copy_text(alloc, body.as_str());
         assert!(rt; one.is_some() && one == other, "{inner}");
     }
     Ok(())

@@ -49,7 +49,7 @@ fn publishes_and_searches_are_read_in_any_spelling(rt: HostRuntime) -> Result<()
 }
 
 // The first line and reply of a session of that client.
-fn begun(rt: &(impl Abort + AllocGlobal), client: &str) -> Result<String, Fail> {
+fn session_answer(rt: &(impl Abort + AllocGlobal), client: &str) -> Result<String, Fail> {
     let alloc = rt.alloc();
     let result = format!(in alloc;
         "<newSessionResult ifmap-publisher-id=\"{client}\" max-poll-result-size=\"5000000\" session-id=\"1-00000000-0000-0000-0000-000000000001\"/>"
@@ -83,7 +83,7 @@ fn a_usual_client_is_told_what_it_published(rt: HostRuntime) -> Result<(), Fail>
         script.push_str(frame_of(alloc, at as u64 + 1, "pdp", body)?.as_str())?;
     }
     let told = USUAL_TOLD.replace(alloc, "STAMP", STAMP)?;
-    let mut written = begun(&rt, "pdp")?;
+    let mut written = session_answer(&rt, "pdp")?;
     for result in ["<publishReceived/>", "<subscribeReceived/>", told.as_str()] {
         written.push_str(answer_of(alloc, result)?.as_str())?;
     }

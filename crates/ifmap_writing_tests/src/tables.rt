@@ -47,7 +47,7 @@ fn is_written(alloc: Global, body: &str, wanted: &str) -> bool {
 }
 
 // What a body means, as a text that tells requests apart.
-fn shown(alloc: Global, body: &[u8]) -> Option<String> {
+fn meaning_text(alloc: Global, body: &[u8]) -> Option<String> {
     let request = read_request(alloc, body).ok()?;
     format!(in alloc; "{request:?}").ok()
 }
@@ -57,8 +57,8 @@ fn is_read_back(alloc: Global, body: &str) -> bool {
     let Some(written) = written_of(alloc, body) else {
         return false;
     };
-    let one = shown(alloc, body.as_bytes());
-    one.is_some() && one == shown(alloc, written.as_slice())
+    let one = meaning_text(alloc, body.as_bytes());
+    one.is_some() && one == meaning_text(alloc, written.as_slice())
 }
 
 #[test]
