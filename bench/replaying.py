@@ -5,6 +5,7 @@ little.
 """
 import os
 import subprocess
+import time
 
 START = (
     '<n1:Envelope xmlns:n1="http://www.w3.org/2003/05/soap-envelope" '
@@ -42,13 +43,13 @@ def build():
 
 
 def run_words(words, path):
-    """The seconds of the processor that a program takes with a file as its input, and the most memory in KiB."""
+    """The seconds of the processor that a program takes with a file as its input."""
     with open(path, "rb") as script, open(os.devnull, "wb") as sink:
         child = subprocess.Popen(words, stdin=script, stdout=sink)
         _, status, usage = os.wait4(child.pid, 0)
     if status != 0:
         raise SystemExit(f"status {status}")
-    return usage.ru_utime + usage.ru_stime, usage.ru_maxrss
+    return usage.ru_utime + usage.ru_stime
 
 
 def run(program, path):
@@ -59,4 +60,43 @@ def run(program, path):
 def seconds(program, path, frames):
     """The seconds of the fastest of three replays of these frames."""
     write_script(path, frames)
-    return min(run(program, path)[0] for _ in range(3))
+    return min(run(program, path) for _ in range(3))
+
+
+class Replay:
+    """A replay that is fed with frames, and rests between them."""
+
+    def __init__(self, program):
+        self.sink = open(os.devnull, "wb")
+        self.child = subprocess.Popen([program, "replay"], stdin=subprocess.PIPE, stdout=self.sink)
+
+    def row(self, name):
+        with open(f"/proc/{self.child.pid}/{name}", encoding="ascii") as row:
+            return row.read()
+
+    def feed(self, frames):
+        """The seconds of the processor until all of the frames are answered."""
+        before = int(self.row("schedstat").split()[0])
+        self.child.stdin.write("".join(frames).encode("ascii"))
+        self.child.stdin.flush()
+        asleep = 0
+        while asleep < 20:
+            time.sleep(0.02)
+            asleep = asleep + 1 if self.row("stat").rsplit(")", 1)[1].split()[0] == "S" else 0
+        return (int(self.row("schedstat").split()[0]) - before) / 1e9
+
+    def least(self, frames, parts=5):
+        """The seconds of a frame, in the fastest of so many parts of the frames."""
+        each = len(frames) // parts
+        return min(self.feed(frames[at : at + each]) / each for at in range(0, each * parts, each))
+
+    def memory(self):
+        """The bytes that it holds."""
+        rows = dict(line.split(":", 1) for line in self.row("status").splitlines())
+        return int(rows["VmRSS"].split()[0]) * 1024
+
+    def end(self):
+        self.child.communicate()
+        self.sink.close()
+        if self.child.returncode:
+            raise SystemExit(f"mapd ended with {self.child.returncode}")
