@@ -1,6 +1,5 @@
 -- An index stays one where a row goes from both lists, or comes to both.
 use Rattle.std.proofs.Common.{◌≡◌, refl, sym, ◌∙◌, ap, subst, inl, inr, Bool, true, false, not, List, [], Option, Some, None, IfSome, IfNone}
-use Rattle.std.proofs.lemmas.Bool.{cases_Bool}
 use Rattle.std.proofs.lemmas.Cmp.{nat_cmp_total, on_total, then_total}
 use Rattle.std.proofs.lemmas.List.Kept.{IsStrictlySortedBy-filter}
 use Rattle.std.specs.Cmp.{IsTotalOrder, tied_itself}
@@ -17,7 +16,8 @@ use Rattle.ifmap_plans.specs.laws.PlacingLaws.{put_sorted}
 use Rattle.ifmap_view.specs.Attachments.{stored_order}
 use Rattle.ifmap_rows.specs.Indexed.{IsIndexed, without_one, word_order}
 use Rattle.ifmap_meta.specs.Keys.{word_of}
-use Rattle.ifmap_rows.proofs.Rising.{has_put, has_put_one, is_equal, none_equal, only_one, put_again, put_has}
+use Rattle.ifmap_rows.specs.laws.JoiningLaws.{differs, not_false}
+use Rattle.ifmap_rows.specs.laws.RisingLaws.{has_put, has_put_one, is_equal, none_equal, only_one, put_again, put_has}
 
 pub empty : IsIndexed [] []
 unfolding IsStrictlySortedBy
@@ -25,14 +25,6 @@ empty = record { rising = tt; worded = tt; there = λ s h. h; back = λ s h. h }
 
 pub words_total : IsTotalOrder word_order
 words_total = then_total (on_total word_of nat_cmp_total) stored_total
-
--- a test that fails at one that another test tells
-pub differs : (p q : Bool) → (p ≡ true → q ≡ true) → q ≡ false → p ≡ false
-differs p q f e = elim (cases_Bool p) [ inl t ↦ let u : q ≡ true = f t in cc | inr t ↦ t ]
-
-pub not_false : (p : Bool) → not p ≡ true → p ≡ false
-not_false true e = cc
-not_false false e = refl
 
 -- two that are equal in the index are equal by their bytes
 pub worded_equal : (a s : Stored) → is_eq (word_order a s) ≡ true → stored_order a s ≡ Equal

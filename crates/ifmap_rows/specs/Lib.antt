@@ -1,3 +1,4 @@
 -- What the index of an item's rows is, in reading order.
 pub mod Indexed
 pub mod Spots
+pub mod laws

@@ -9,7 +9,7 @@ ghost use Rattle.ifmap_view.specs.Attachments.{stored_order};
 ghost use Rattle.ifmap_rows.specs.Indexed.{IsJoined, without_one, word_order};
 ghost use Rattle.ifmap_rows.specs.Spots.{IsSpot};
 
-use crate::lists::is_among;
+use crate::lists::{is_among, room_for};
 use ifmap_plans::row_order;
 use ifmap_view::Row;
 use std::alloc::{AllocError as NoMemory, Global};
@@ -155,12 +155,25 @@ pub(crate) fn join_index(index: Vec<Worded>, added: &[Row]) -> Result<Vec<Worded
     requires added { IsStrictlySortedBy stored_order added.now }
     ensures { IfOk result (λ joined. IsJoined index.items added.now joined.items) }
 {
-    let mut joined = index;
-    let mut more = word_rows(*joined.allocator(), added)?;
-    take_worded_rows(&mut joined, added);
-    joined.append(&mut more)?;
-    joined.sort_by(|one, other| word_order(one, other))?;
+    let mut others = index;
+    take_worded_rows(&mut others, added);
+    let joined = merge_index(others, added)?;
     Ok(joined)
+}
+
+// An index with rows that rise by their bytes, where it has none of the same bytes. The one error is
+// want of memory.
+pub(crate) fn merge_index(index: Vec<Worded>, added: &[Row]) -> Result<Vec<Worded>, NoMemory>
+    requires rising { IsStrictlySortedBy word_order index.items }
+    requires added { IsStrictlySortedBy stored_order added.now }
+    requires apart { without added.now index.items ≡ index.items }
+    ensures { IfOk result (λ merged. IsJoined index.items added.now merged.items) }
+{
+    let mut merged = index;
+    let mut more = word_rows(*merged.allocator(), added)?;
+    merged.append(&mut more)?;
+    merged.sort_by(|one, other| word_order(one, other))?;
+    Ok(merged)
 }
 
 // Rows with the words of their keys. The one error is want of memory.
@@ -174,15 +187,25 @@ fn word_rows(alloc: Global, rows: &[Row]) -> Result<Vec<Worded>, NoMemory>
     Ok(worded)
 }
 
-// The same index once more. The one error is want of memory.
-pub(crate) fn share_index(alloc: Global, index: &[Worded]) -> Result<Vec<Worded>, NoMemory>
-    ensures { IfOk result (λ shared. shared.items ≡ index.now) }
+// The rows in the index that have not the canonical bytes of one of some that rise, once more, with
+// room for others. The one error is want of memory.
+pub(crate) fn share_others_in_index(
+    alloc: Global,
+    index: &[Worded],
+    removed: &[Row],
+    more: usize,
+) -> Result<Vec<Worded>, NoMemory>
+    requires { IsStrictlySortedBy stored_order removed.now }
+    ensures { IfOk result (λ others. others.items ≡ without removed.now index.now) }
 {
-    let mut shared = Vec::with_capacity(alloc, index.len())?;
+    let room = room_for(index.len(), removed.len(), more);
+    let mut others = Vec::with_capacity(alloc, room)?;
     for worded in index {
-        shared.push(worded.share()?)?;
+        if !is_among(removed, worded.row()) {
+            others.push(worded.share()?)?;
+        }
     }
-    Ok(shared)
+    Ok(others)
 }
 
 // The row in the index that has the key of this one: the first of those with its word is found by

@@ -1,5 +1,5 @@
 //! Rows in the order of their canonical bytes: one is taken out or put in, or many at once.
-ghost use Rattle.std.specs.Prelude.{◌≡◌, ◌<◌, false, IfNone, IfOk, IfSome, IsTrue, vec_capacity, vec_len};
+ghost use Rattle.std.specs.Prelude.{◌≡◌, ◌<◌, false, IfNone, IfOk, IfSome, IsTrue, OnOk, vec_capacity, vec_len};
 ghost use Rattle.std.specs.List.{list_any};
 ghost use Rattle.std.specs.List.Sorted.{IsStrictlySortedBy};
 ghost use Rattle.std.specs.Ordering.{eq_by_cmp, is_lt};
@@ -11,9 +11,9 @@ ghost use Rattle.ifmap_view.specs.Attachments.{stored_order};
 ghost use Rattle.ifmap_rows.specs.Indexed.{without_one};
 ghost use Rattle.ifmap_rows.specs.Spots.{IsSpot};
 
-use ifmap_plans::{place_of, row_order};
+use ifmap_plans::{place_of, put_row, row_order};
 use ifmap_view::{Row, share_rows};
-use std::alloc::AllocError as NoMemory;
+use std::alloc::{AllocError as NoMemory, Global};
 use std::mem;
 
 // Where a row of these canonical bytes stands, or would.
@@ -40,7 +40,7 @@ pub(crate) fn take_row(rows: &mut Vec<Row>, row: &Row) -> Option<Row>
 
 // Puts a row in its place, where there is room for one more, and hands out the row of these
 // canonical bytes that stood there.
-pub(crate) fn put_row(rows: &mut Vec<Row>, row: Row) -> Option<Row>
+pub(crate) fn exchange_row(rows: &mut Vec<Row>, row: Row) -> Option<Row>
     requires rising { IsStrictlySortedBy stored_order rows.old.items }
     requires room { vec_len rows.old < vec_capacity rows.old }
     ensures rows { rows.new.items ≡ put stored_order row rows.old.items }
@@ -67,20 +67,95 @@ pub(crate) fn take_rows(rows: &mut Vec<Row>, removed: &[Row])
     rows.retain(|row| !is_among(removed, row));
 }
 
-// Rows with others that rise, each in its place, over the one of the same bytes: what stays and
-// what comes are two runs, which the sort merges. The one error is want of memory.
-pub(crate) fn join_rows(rows: Vec<Row>, added: &[Row]) -> Result<Vec<Row>, NoMemory>
-    requires rising { IsStrictlySortedBy stored_order rows.items }
-    requires added { IsStrictlySortedBy stored_order added.now }
-    ensures { IfOk result (λ joined. joined.items ≡ put_each added.now rows.items) }
+/// Puts rows in their places, one after the other, each over the one of its canonical bytes, if there
+/// is one: many that rise are put at once. The one error is want of memory, and nothing is claimed of
+/// the rows then.
+pub fn put_rows(rows: &mut Vec<Row>, added: &[Row]) -> Result<(), NoMemory>
+    requires { IsStrictlySortedBy stored_order rows.old.items }
+    ensures { OnOk result (rows.new.items ≡ put_each added.now rows.old.items) }
 {
-    let mut joined = rows;
-    let mut more = share_rows(*joined.allocator(), added)?;
-    take_rows(&mut joined, added);
-    joined.append(&mut more)?;
-    joined.sort_by(|one, other| row_order(one, other))?;
-    Ok(joined)
+    if are_many(added.len(), rows.len()) && do_rise(added) {
+        join_rows(rows, added)
+    } else {
+        put_each(rows, added)
+    }
 }
+
+// The same, one after the other.
+fn put_each(rows: &mut Vec<Row>, added: &[Row]) -> Result<(), NoMemory>
+    requires { IsStrictlySortedBy stored_order rows.old.items }
+    ensures { OnOk result (rows.new.items ≡ put_each added.now rows.old.items) }
+{
+    for row in added {
+        put_row(rows, row.share()?)?;
+    }
+    Ok(())
+}
+
+// Puts rows that rise in their places, each over the one of the same bytes. The one error is want of
+// memory.
+pub(crate) fn join_rows(rows: &mut Vec<Row>, added: &[Row]) -> Result<(), NoMemory>
+    requires rising { IsStrictlySortedBy stored_order rows.old.items }
+    requires added { IsStrictlySortedBy stored_order added.now }
+    ensures { OnOk result (rows.new.items ≡ put_each added.now rows.old.items) }
+{
+    take_rows(rows, added);
+    merge_rows(rows, added)?;
+    Ok(())
+}
+
+// Puts rows that rise in their places among others, of which none has the bytes of one of them: two
+// runs, which the sort merges. The one error is want of memory.
+pub(crate) fn merge_rows(rows: &mut Vec<Row>, added: &[Row]) -> Result<(), NoMemory>
+    requires rising { IsStrictlySortedBy stored_order rows.old.items }
+    requires added { IsStrictlySortedBy stored_order added.now }
+    requires apart { without added.now rows.old.items ≡ rows.old.items }
+    ensures { OnOk result (rows.new.items ≡ put_each added.now rows.old.items) }
+{
+    let mut more = share_rows(*rows.allocator(), added)?;
+    rows.append(&mut more)?;
+    rows.sort_by(|one, other| row_order(one, other))?;
+    Ok(())
+}
+
+// The rows that have not the canonical bytes of one of some that rise, once more, with room for
+// others. The one error is want of memory.
+pub(crate) fn share_others(
+    alloc: Global,
+    rows: &[Row],
+    removed: &[Row],
+    more: usize,
+) -> Result<Vec<Row>, NoMemory>
+    requires { IsStrictlySortedBy stored_order removed.now }
+    ensures { IfOk result (λ others. others.items ≡ without removed.now rows.now) }
+{
+    let room = room_for(rows.len(), removed.len(), more);
+    let mut others = Vec::with_capacity(alloc, room)?;
+    for row in rows {
+        if !is_among(removed, row) {
+            others.push(row.share()?)?;
+        }
+    }
+    Ok(others)
+}
+
+// Room for so many rows, of which some go, and for more.
+pub(crate) fn room_for(length: usize, removed: usize, more: usize) -> usize {
+    length.saturating_sub(removed).saturating_add(more)
+}
+
+// Whether so many rows that go or come are done by going along all rows. One at a time moves the
+// pointers that follow it and looks at few rows: up to some number, which grows with the rows, that
+// is faster.
+pub(crate) fn are_many(count: usize, length: usize) -> bool {
+    count > (length / ROWS_FOR_ONE).clamp(FEWEST, MOST)
+}
+
+const ROWS_FOR_ONE: usize = 256;
+
+const FEWEST: usize = 64;
+
+const MOST: usize = 256;
 
 // Whether a row of the same canonical bytes is among some that rise.
 pub(crate) fn is_among(rows: &[Row], row: &Row) -> bool

@@ -6,7 +6,7 @@ use Rattle.std.specs.Ordering.{eq_by_cmp}
 use Rattle.ifmap_meta.specs.declared.stored.Stored.{Stored}
 use Rattle.ifmap_rows.specs.Indexed.{word_order}
 use Rattle.ifmap_rows.proofs.Keeping.{words_total}
-use Rattle.ifmap_rows.proofs.Rising.{none_out, remove_is}
+use Rattle.ifmap_rows.specs.laws.RisingLaws.{none_out, remove_is}
 use Rattle.ifmap_rows.specs.Spots.{IsEqualAt}
 use Rattle.ifmap_rows.proofs.index.take_worded.Goals as goal
 

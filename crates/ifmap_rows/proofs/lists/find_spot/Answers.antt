@@ -3,7 +3,7 @@ use Rattle.std.proofs.lemmas.Fn.{always_returns_same}
 use Rattle.ifmap_meta.specs.declared.stored.Stored.{Stored}
 use Rattle.ifmap_plans.specs.laws.KeyLaws.{stored_total}
 use Rattle.ifmap_view.specs.Attachments.{stored_order}
-use Rattle.ifmap_rows.proofs.Rising.{spot}
+use Rattle.ifmap_rows.specs.laws.RisingLaws.{spot}
 use Rattle.ifmap_rows.proofs.lists.find_spot.Goals as goal
 
 pub returns : goal.returns

@@ -7,7 +7,7 @@ use Rattle.ifmap_plans.specs.laws.KeyLaws.{stored_total}
 use Rattle.ifmap_plans.specs.laws.PlacingLaws.{set_is_put}
 use Rattle.ifmap_view.specs.Attachments.{stored_order}
 use Rattle.ifmap_rows.specs.Spots.{IsEqualAt}
-use Rattle.ifmap_rows.proofs.lists.put_row.Goals as goal
+use Rattle.ifmap_rows.proofs.lists.exchange_row.Goals as goal
 
 pub returns-in-Ok-clause-rows : goal.returns-in-Ok-clause-rows
 returns-in-Ok-clause-rows c =
