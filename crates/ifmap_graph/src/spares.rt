@@ -22,12 +22,9 @@ pub struct Spare {
 }
 
 // So many rows make it worth to keep a list for each row that changes: to catch up takes a look-up for
-// each of these, to share the list a count for each row of it.
+// each of these, and never more than to go along the rows once, to share the list a count for each row
+// of it.
 const ROWS_FOR_ONE: usize = 16;
-
-// A list that lags by more rows is not kept, however long it is: each of these moves the pointers that
-// follow it.
-const MOST_CHANGED: usize = 16;
 
 // A list with room for more than so many rows for each that it has is not kept, so that the room is
 // given back.
@@ -37,9 +34,7 @@ const MOST_ROOM_FOR_ONE: usize = 4;
 fn is_worth(rows: &SharedRows, change: &ItemChange) -> bool {
     let length = rows.as_slice().len();
     let changed = change.removed.0.len() + change.added.0.len();
-    changed <= MOST_CHANGED
-        && changed <= length / ROWS_FOR_ONE
-        && rows.room() / MOST_ROOM_FOR_ONE <= length
+    changed <= length / ROWS_FOR_ONE && rows.room() / MOST_ROOM_FOR_ONE <= length
 }
 
 impl Spare {
