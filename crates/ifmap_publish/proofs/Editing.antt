@@ -1,17 +1,15 @@
 -- Which list an edit makes: where it begins, as more is taken and put, and what it tells at the end.
 use Rattle.std.proofs.Common.{◌≡◌, ◌∙◌, refl, sym, ap, subst, ℕ, Bool, true, false, not, ◌||◌, List, [], ◌∷◌, Result, Ok, Err, OnOk}
-use Rattle.std.proofs.Math.Bool.{or-false}
-use Rattle.std.proofs.lemmas.Bool.{not-true}
 use Rattle.std.proofs.lemmas.List.Kept.{IsStrictlySortedBy-filter}
 use Rattle.std.proofs.lemmas.Map.Text.{is_eq-slice_cmp}
-use Rattle.std.specs.List.{AllByRecursion, Contains, filter}
+use Rattle.std.specs.List.{AllByRecursion, filter}
 use Rattle.std.specs.List.Sorted.{IsStrictlySortedBy}
 use Rattle.std.specs.Ordering.{eq_by_cmp, is_eq}
 use Rattle.std.specs.declared.cmp.Ordering.{Ordering}
 use Rattle.ifmap_elem.specs.declared.elements.Attribute.{Attribute}
 use Rattle.ifmap_elem.specs.declared.elements.Element.{Element}
-use Rattle.ifmap_lemmas.specs.Filters.{all_weaker, filter_none, filter_passes}
-use Rattle.ifmap_lemmas.specs.Having.{Has, has_from}
+use Rattle.ifmap_lemmas.specs.Filters.{filter_none}
+use Rattle.ifmap_lemmas.specs.Having.{Has}
 use Rattle.ifmap_lemmas.specs.Texts.{eq_tells}
 use Rattle.ifmap_meta.specs.declared.stored.Stored.{Stored}
 use Rattle.ifmap_meta.specs.Keys.{HaveOneKey, same_key}
@@ -22,11 +20,10 @@ use Rattle.ifmap_plans.specs.Lists.{difference, next_on, put_each, without}
 use Rattle.ifmap_plans.specs.Placing.{put}
 use Rattle.ifmap_plans.specs.laws.KeyLaws.{stored_equiv}
 use Rattle.ifmap_view.specs.Attachments.{stored_bytes, stored_order}
-use Rattle.ifmap_publish.specs.OnItems.{attach_on}
 use Rattle.ifmap_publish.specs.Working.{IsEdit, IsSound, Makes, is_among, list_by}
 use Rattle.ifmap_publish.specs.declared.edits.Edit.{Edit}
-use Rattle.ifmap_publish.proofs.Attaching.{sound_attached, sound_filter}
-use Rattle.ifmap_publish.proofs.Rising.{among_filter, filter_agrees, filter_neither, filter_turned, keyed_ties, moved, one_of_all, parted, put_back, put_filtered, put_itself, put_unfiltered}
+use Rattle.ifmap_publish.proofs.Attaching.{sound_filter}
+use Rattle.ifmap_publish.proofs.Rising.{among_filter, filter_agrees, filter_neither, filter_turned, moved, parted, put_back, put_filtered, put_unfiltered}
 use Rattle.ifmap_publish.proofs.Same.{elements_one}
 
 -- ---- what makes an edit make a list
@@ -149,60 +146,6 @@ key_not_told row s v w h = by (same_key row s) refl
     by : (b : Bool) → same_key row s ≡ b → same_key row s ≡ false
     by true e = absurd (h ((keys_told row s v w).0 e))
     by false e = e
-
--- one more is attached
-module _ (stored list : List Stored) (e e2 : Edit) (row : Stored) (up : IsStrictlySortedBy stored_order stored) (m : Makes stored e list)
-    (w : IsWhole row) where
-  pub makes_attached : e2.taken ≡ filter (λ s. is_among e.taken s || same_key row s) stored → e2.put ≡ attach_on e.put row
-      → Makes stored e2 (attach_on list row)
-  makes_attached taken came =
-      let k : Stored → Bool = same_key row in
-      let others = filter (λ s. not (k s)) list in
-      let between : Edit = record { taken = e2.taken; put = filter (λ s. not (k s)) e.put } in
-      let less : Makes stored between others = makes_less stored list e between up m k taken refl in
-      let differ : AllByRecursion (λ s. k s ≡ false) others =
-      all_weaker (λ s. not (k s) ≡ true) (λ s. k s ≡ false) (λ s h. not-true (k s) h) others (filter_passes (λ s. not (k s)) list) in
-      makes_more stored others between e2 up less row w differ (apart_of_keys row others w less.sound.whole differ) refl came
-      (sound_attached row list w m.sound)
-
--- what is stored under a key is taken
-module _ (row : Stored) (stored taken : List Stored) (s : IsSound stored) (w : IsWhole row)
-    (is : taken ≡ filter (is_among taken) stored) where
-  pub key_taken : (found : Stored) → Contains stored found → HaveOneKey row found
-      → put stored_order found taken ≡ filter (λ r. is_among taken r || same_key row r) stored
-  key_taken found c h =
-      let has = has_from stored found c in
-      let key = key_told row found w (one_of_all IsWhole stored found s.whole has) h in
-      ap (put stored_order found) is
-      ∙ sym (put_filtered (is_among taken) found stored)
-      ∙ ap (filter (λ r. is_among taken r || eq_by_cmp stored_order found r)) (put_itself found stored s.keyed.rising has)
-      ∙ filter_agrees (λ r. is_among taken r || eq_by_cmp stored_order found r) (λ r. is_among taken r || same_key row r) stored
-      (λ r k. ap (λ b. is_among taken r || b) (keyed_ties row found stored s.keyed.rising s.keyed.keys has key r k))
-
-  pub no_key_taken : AllByRecursion (λ r. HaveOneKey row r → ⊥) stored
-      → taken ≡ filter (λ r. is_among taken r || same_key row r) stored
-  no_key_taken none =
-      is ∙ filter_agrees (is_among taken) (λ r. is_among taken r || same_key row r) stored
-      (λ r k. sym (ap (λ b. is_among taken r || b)
-      (key_not_told row r w (one_of_all IsWhole stored r s.whole k) (one_of_all (λ t. HaveOneKey row t → ⊥) stored r none k))
-      ∙ or-false (is_among taken r)))
-
--- and what is put under it goes
-module _ (row : Stored) (rows : List Stored) (s : IsSound rows) (w : IsWhole row) where
-  pub put_over : (found : Stored) → Contains rows found → HaveOneKey row found
-      → next_on (found ∷ []) (row ∷ []) rows ≡ attach_on rows row
-  put_over found c h =
-      let has = has_from rows found c in
-      let key = key_told row found w (one_of_all IsWhole rows found s.whole has) h in
-      ap (put stored_order row) (filter_agrees (λ r. not (eq_by_cmp stored_order found r || false)) (λ r. not (same_key row r)) rows
-      (λ r k. ap not (or-false (eq_by_cmp stored_order found r)
-      ∙ keyed_ties row found rows s.keyed.rising s.keyed.keys has key r k)))
-
-  pub put_beside : AllByRecursion (λ r. HaveOneKey row r → ⊥) rows → next_on [] (row ∷ []) rows ≡ attach_on rows row
-  put_beside none =
-      ap (put stored_order row) (filter_agrees (λ r. not (is_among [] r)) (λ r. not (same_key row r)) rows
-      (λ r k. sym (ap not (key_not_told row r w (one_of_all IsWhole rows r s.whole k)
-      (one_of_all (λ t. HaveOneKey row t → ⊥) rows r none k)))))
 
 -- what is taken out of a list by name is what passed
 pub passed_out : (k : Stored → Bool) (rows : List Stored) → IsStrictlySortedBy stored_order rows

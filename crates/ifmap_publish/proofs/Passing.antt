@@ -91,7 +91,7 @@ all_from row first after rows is up start =
     later [] all = tt
     later (y ∷ ys) all = (from y all.0, later ys all.1)
 
-sorted_drop : (i : ℕ) (xs : List Stored) → IsStrictlySortedBy stored_order xs → IsStrictlySortedBy stored_order (drop i xs)
+pub sorted_drop : (i : ℕ) (xs : List Stored) → IsStrictlySortedBy stored_order xs → IsStrictlySortedBy stored_order (drop i xs)
 unfolding IsStrictlySortedBy
 sorted_drop zero xs up = up
 sorted_drop (suc i) [] up = up

@@ -53,7 +53,7 @@ pub(crate) fn apply_op<V: Keyed>(
             forever,
         } => {
             let rows = rows_of(alloc, author, *forever, &elements.0)?;
-            attach_each(view, item, &rows, edit)?;
+            attach_each(alloc, view, item, &rows, edit)?;
             Ok(())
         }
         PublishOp::Notify { .. } => Ok(()),
