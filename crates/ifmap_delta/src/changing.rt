@@ -112,7 +112,7 @@ fn move_near<'a, G: View, D: View, L: Ledger>(
     let plan = located.plan;
     let changes = &plan.changes.0;
     let items = touched_items(alloc, &before, &after, changes, &located.changes, steps)?;
-    let told = differences_on(alloc, &before, &after, items)?;
+    let told = differences_on(alloc, &before, &after, items, changes)?;
     let Some(new_size) = size_after(subscription.size, &told) else {
         return Err(NoMemory);
     };
