@@ -76,7 +76,7 @@ pub unpaired_paired : (changes : List ItemChange) (n : ℕ) → n ≡ length cha
     → AllByRecursion (IsPaired changes n) (map unpaired xs)
 unpaired_paired changes n e [] = tt
 unpaired_paired changes n e (x ∷ xs) = (
-  ap (λ l. change_of l x) (drop_all changes n (omega (arith, e))),
+  ap (λ l. change_of l x) (drop_all n changes (omega (arith, e))),
   unpaired_paired changes n e xs,
 )
 

@@ -135,8 +135,20 @@ fn add_any(shown: &ItemShown<'_>, told: &mut Told) -> Result<(), NoMemory>
     ensures updated { OnOk result (told.new.updated.items ≡ told.old.updated.items ++ left_out
         shown.now.filter.now shown.now.item.now shown.now.after.now shown.now.before.now) }
 {
-    add_left_out(shown.filter, shown.item, shown.before, shown.after, &mut told.deleted)?;
-    add_left_out(shown.filter, shown.item, shown.after, shown.before, &mut told.updated)
+    add_left_out(
+        shown.filter,
+        shown.item,
+        shown.before,
+        shown.after,
+        &mut told.deleted,
+    )?;
+    add_left_out(
+        shown.filter,
+        shown.item,
+        shown.after,
+        shown.before,
+        &mut told.updated,
+    )
 }
 
 // The same where only what a change of the item names may.
@@ -157,8 +169,20 @@ fn add_named(
 {
     let going = rows_touched(alloc, shown.before, change)?;
     let coming = rows_touched(alloc, shown.after, change)?;
-    add_left_out(shown.filter, shown.item, &going, shown.after, &mut told.deleted)?;
-    add_left_out(shown.filter, shown.item, &coming, shown.before, &mut told.updated)?;
+    add_left_out(
+        shown.filter,
+        shown.item,
+        &going,
+        shown.after,
+        &mut told.deleted,
+    )?;
+    add_left_out(
+        shown.filter,
+        shown.item,
+        &coming,
+        shown.before,
+        &mut told.updated,
+    )?;
     Ok(())
 }
 
@@ -221,10 +245,10 @@ fn add_differences<G: View, D: View>(
     if is_one_sided(was, now) {
         return add_any(&shown, told);
     }
-    match change_at(changes, place) {
-        Some(change) => add_named(alloc, &shown, change, told),
-        None => Ok(()),
+    if let Some(change) = change_at(changes, place) {
+        return add_named(alloc, &shown, change, told);
     }
+    Ok(())
 }
 
 // What goes and what comes on some items, one after the other.

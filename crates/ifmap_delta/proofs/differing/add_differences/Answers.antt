@@ -48,8 +48,8 @@ add_named-requires-clause-change g c =
     ∙ ap (λ o. changed_by o (shown_on old before.search.now x)) (sym c.in-Some.ensures)
     ∙ ap (changed_by (Some c.in-Some.change.now)) (sym c.rows_shown-was.ensures)
 
-pub returns-in-None-clause-deleted : goal.returns-in-None-clause-deleted
-returns-in-None-clause-deleted g c =
+pub returns-clause-deleted : goal.returns-clause-deleted
+returns-clause-deleted g c =
     let before = c.args.before.now
     in let after = c.args.after.now
     in let old = g.G.View.rows before.view.now
@@ -59,13 +59,13 @@ returns-in-None-clause-deleted g c =
     in let was = subst (λ l. l ≢ []) c.rows_shown-was.ensures (c.is_one_sided.ensures.before c.if-is_one_sided.false)
     in let now = subst (λ l. l ≢ []) c.rows_shown-now.ensures (c.is_one_sided.ensures.after c.if-is_one_sided.false)
     in let same = both_shown old new before.search.now after.search.now x change c.requires.change was now
-    ∙ ap (λ o. changed_by o (shown_on old before.search.now x)) (sym c.in-None.ensures)
+    ∙ ap (λ o. changed_by o (shown_on old before.search.now x)) (sym c.in_default.ensures)
     in sym (append-nil c.args.told.now.deleted.items)
     ∙ ap (λ l. c.args.told.now.deleted.items ++ l) (nothing_told after.search.now.result_filter x (shown_on old before.search.now x)
     (shown_on new after.search.now x) (sym same))
 
-pub returns-in-None-clause-updated : goal.returns-in-None-clause-updated
-returns-in-None-clause-updated g c =
+pub returns-clause-updated : goal.returns-clause-updated
+returns-clause-updated g c =
     let before = c.args.before.now
     in let after = c.args.after.now
     in let old = g.G.View.rows before.view.now
@@ -75,7 +75,7 @@ returns-in-None-clause-updated g c =
     in let was = subst (λ l. l ≢ []) c.rows_shown-was.ensures (c.is_one_sided.ensures.before c.if-is_one_sided.false)
     in let now = subst (λ l. l ≢ []) c.rows_shown-now.ensures (c.is_one_sided.ensures.after c.if-is_one_sided.false)
     in let same = both_shown old new before.search.now after.search.now x change c.requires.change was now
-    ∙ ap (λ o. changed_by o (shown_on old before.search.now x)) (sym c.in-None.ensures)
+    ∙ ap (λ o. changed_by o (shown_on old before.search.now x)) (sym c.in_default.ensures)
     in sym (append-nil c.args.told.now.updated.items)
     ∙ ap (λ l. c.args.told.now.updated.items ++ l) (nothing_told after.search.now.result_filter x (shown_on new after.search.now x)
     (shown_on old before.search.now x) same)

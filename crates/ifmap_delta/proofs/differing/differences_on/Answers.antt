@@ -15,7 +15,8 @@ pub differences_of-requires-clause-canon : goal.differences_of-requires-clause-c
 differences_of-requires-clause-canon g c =
     let touched = c.in_ok-touched.touched.items
     in all_of (λ (t : TouchedItem). IsCanonItem t.item) touched
-    (λ t h. c.requires.canon t.item (subst (λ l. Has l t.item) c.in_ok-touched.ensures.items (has_map (λ (t : TouchedItem). t.item) touched t h)))
+    (λ t h. c.requires.canon t.item (subst (λ l. Has l t.item) c.in_ok-touched.ensures.items
+    (has_map (λ (t : TouchedItem). t.item) touched t h)))
 
 pub differences_of-requires-clause-changes : goal.differences_of-requires-clause-changes
 differences_of-requires-clause-changes g c =

@@ -13,13 +13,13 @@ use Rattle.ifmap_view.specs.Attachments.{stored_order}
 use Rattle.ifmap_delta.proofs.Touching.{none_more, one_more}
 use Rattle.ifmap_delta.proofs.differing.put_like.Goals as goal
 
-pub returns-in-Ok-clause-rising : goal.returns-in-Ok-clause-rising
-returns-in-Ok-clause-rising c =
+pub returns-in_ok-put_row-in-Ok-clause-rising : goal.returns-in_ok-put_row-in-Ok-clause-rising
+returns-in_ok-put_row-in-Ok-clause-rising c =
     subst (IsStrictlySortedBy stored_order) (sym c.in_ok-put_row.ensures)
     (rising_put c.in_ok-share.field-0 c.args.found.now.items c.requires.found)
 
-pub returns-in-Ok-clause-found : goal.returns-in-Ok-clause-found
-returns-in-Ok-clause-found c these is =
+pub returns-in_ok-put_row-in-Ok-clause-found : goal.returns-in_ok-put_row-in-Ok-clause-found
+returns-in_ok-put_row-in-Ok-clause-found c these is =
     let rows = c.args.rows.now
     in let row = c.args.row.now
     in let found = c.args.found.now.items
