@@ -15,8 +15,8 @@ use Rattle.ifmap_delta.proofs.differing.put_like.Goals as goal
 
 pub returns-in_ok-put_row-in-Ok-clause-rising : goal.returns-in_ok-put_row-in-Ok-clause-rising
 returns-in_ok-put_row-in-Ok-clause-rising c =
-    subst (IsStrictlySortedBy stored_order) (sym c.in_ok-put_row.ensures)
-    (rising_put c.in_ok-share.field-0 c.args.found.now.items c.requires.found)
+    subst (IsStrictlySortedBy stored_order) (sym c.in_ok-put_row-in-Ok.ensures)
+    (rising_put c.in_ok-share-in-Ok.field-0 c.args.found.now.items c.requires.found)
 
 pub returns-in_ok-put_row-in-Ok-clause-found : goal.returns-in_ok-put_row-in-Ok-clause-found
 returns-in_ok-put_row-in-Ok-clause-found c these is =
@@ -27,8 +27,8 @@ returns-in_ok-put_row-in-Ok-clause-found c these is =
     in let at = c.in-Ok.ensures.position (λ b. stored_order b row)
     (always_returns_same _ (λ b r. r ≡ stored_order b.0.now c.args.row.now) _ (λ b r f k. search rules)) x
     in let tie : stored_order x row ≡ Equal = subst (λ y. stored_order y row ≡ Equal) (sym c.index-rows-place.is) at
-    in let shared : c.in_ok-share.field-0 ≡ x = search rules
-    in c.in_ok-put_row.ensures ∙ ap (λ y. put stored_order y found) shared
+    in let shared : c.in_ok-share-in-Ok.field-0 ≡ x = search rules
+    in c.in_ok-put_row-in-Ok.ensures ∙ ap (λ y. put stored_order y found) shared
     ∙ one_more rows these found row c.requires.rising c.requires.found is x
     (has_from rows x (c.in-Ok.place, c.in-Ok.ensures.bound, sym c.index-rows-place.is)) (ap is_eq tie)
 
