@@ -2,8 +2,8 @@
 -- has a change (`unpaired_paired`); a change of another item is none of this one (`other_change`), and one of it is the first
 -- (`its_change`); so one that is put beside its item (`set_paired`), or has no item among these (`none_paired`), is one more with
 -- which all are paired.
-use Rattle.std.proofs.Common.{◌≡◌, inl, inr, ℕ, zero, suc, ◌<◌, ◌+◌, Bool, true, false, List, [], ◌∷◌, ◌++◌, map, length, get_or, set, drop}
-use Rattle.std.proofs.Common.{Option, None, Some, refl, ap, ◌∙◌, sym, subst, arith}
+use Rattle.std.proofs.Common.{◌≡◌, inl, inr, ℕ, zero, suc, ◌<◌, ◌+◌, true, false, List, [], ◌∷◌, map, length, get_or, set, drop}
+use Rattle.std.proofs.Common.{Some, refl, ap, ◌∙◌, sym, subst, arith}
 use Rattle.std.proofs.lemmas.Bool.{cases_Bool}
 use Rattle.std.proofs.lemmas.Cmp.{alike_right, on_total}
 use Rattle.std.proofs.lemmas.List.{drop_all, drop_more}

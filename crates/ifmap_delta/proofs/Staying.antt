@@ -3,7 +3,6 @@
 -- so nothing is gathered, and each item tells nothing (`all_settled`).
 use Rattle.std.proofs.Common.{◌≡◌, ◌∙◌, inl, inr, ℕ, Bool, true, false, ◌&&◌, ◌||◌, Option, Some, None, List, [], ◌∷◌, ◌++◌}
 use Rattle.std.proofs.Common.{is_some, refl, ap, sym, subst}
-use Rattle.std.proofs.lemmas.Bool.{cases_Bool}
 use Rattle.std.specs.List.{list_any, filter}
 use Rattle.std.specs.List.Sorted.{IsStrictlySortedBy}
 use Rattle.ifmap_ident.specs.declared.identifiers.Identifier.{Identifier}

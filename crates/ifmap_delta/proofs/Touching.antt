@@ -2,7 +2,7 @@
 -- (`one_more`), or none is (`none_more`); what has the bytes of nothing that goes or comes stands on the item before and
 -- afterwards (`stays_on`, `was_on`); so what is told of the item is among the rows that the change concerns (`goes_told`,
 -- `comes_told`), and nothing is where the item has no change (`nothing_told`); rows that are shown are all of the item (`both_shown`).
-use Rattle.std.proofs.Common.{◌≡◌, ◌≢◌, ◌⊎◌, inl, inr, Bool, true, false, cond, not, ◌&&◌, List, [], ◌∷◌, ◌++◌, map, Option, None, Some}
+use Rattle.std.proofs.Common.{◌≡◌, ◌≢◌, ◌⊎◌, inl, inr, Bool, true, false, cond, not, ◌&&◌, List, [], ◌∷◌, ◌++◌, map, Option}
 use Rattle.std.proofs.Common.{refl, ap, ◌∙◌, sym, subst}
 use Rattle.std.proofs.lemmas.Bool.{cases_Bool}
 use Rattle.std.proofs.lemmas.Cmp.{eq_by_cmp_equiv}

@@ -1,4 +1,4 @@
-use Rattle.std.proofs.Common.{◌≡◌, ◌≢◌, ◌∙◌, ap, sym, subst, ◌++◌, [], Some}
+use Rattle.std.proofs.Common.{◌≢◌, ◌∙◌, ap, sym, subst, ◌++◌, [], Some}
 use Rattle.std.proofs.lemmas.List.{append-nil}
 use Rattle.std.specs.List.Sorted.{IsStrictlySortedBy}
 use Rattle.ifmap_plans.specs.Plans.{changed_by}

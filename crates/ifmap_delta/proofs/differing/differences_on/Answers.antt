@@ -1,13 +1,10 @@
-use Rattle.std.proofs.Common.{◌≡◌, ◌∙◌, ap, sym, subst, List}
-use Rattle.std.specs.List.{AllByRecursion}
-use Rattle.ifmap_ident.specs.declared.items.Item.{Item}
+use Rattle.std.proofs.Common.{◌∙◌, ap, subst}
 use Rattle.ifmap_ident.specs.Items.{IsCanonItem}
 use Rattle.ifmap_lemmas.specs.Having.{Has, has_map}
 use Rattle.ifmap_plans.specs.Plans.{changed_by}
 use Rattle.ifmap_view.specs.Rows.{stored_on}
 use Rattle.ifmap_folds.specs.laws.RisingLaws.{all_of, member_of}
-use Rattle.ifmap_delta.specs.Shown.{shown_on}
-use Rattle.ifmap_delta.specs.Touched.{IsChanged, IsPaired, items_of, left_out_on}
+use Rattle.ifmap_delta.specs.Touched.{IsChanged, IsPaired}
 use Rattle.ifmap_delta.specs.declared.pairing.TouchedItem.{TouchedItem}
 use Rattle.ifmap_delta.proofs.differing.differences_on.Goals as goal
 
