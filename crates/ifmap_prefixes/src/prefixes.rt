@@ -94,7 +94,8 @@ fn take_paths<'a>(
     last: &mut BTreeMap<&'a str, BTreeMap<&'a [u32], usize>>,
     prefix: &'a str,
 ) -> BTreeMap<&'a [u32], usize>
-    ensures paths { (path : List ℕ) → get_by (at_text path) result ≡ index_at last.old prefix.now path }
+    ensures paths { (path : List ℕ) → get_by (at_text path) result
+        ≡ index_at last.old prefix.now path }
     ensures rest { UpdatesBy (λ x y. slice_cmp nat_cmp x.now y.now) (at_text prefix.now) last.old
         last.new None }
 {
