@@ -1,10 +1,11 @@
 -- What holds of all members of a list, and what a filter makes of it.
-use Rattle.std.specs.Prelude.{◌≡◌, ℕ, ◌+◌, ◌<◌, Bool, true, false, ◌&&◌, List, [], ◌∷◌, ◌++◌, count_by, length}
-use Rattle.std.specs.List.{AllByRecursion, IsDistinct, filter}
+use Rattle.std.specs.Prelude.{◌≡◌, ℕ, ◌+◌, ◌<◌, Bool, true, false, ◌&&◌, List, [], ◌∷◌, ◌++◌, count_by, length, ◌≤◌, not, ◌||◌, map, Option, Some}
+use Rattle.std.specs.List.{AllByRecursion, IsDistinct, filter, find, list_any}
 use Rattle.std.proofs.Common.{ap, arith, cond, get_or, inl, inr, refl, subst, sym, ◌∙◌}
 use Rattle.std.proofs.lemmas.Bool.{cases_Bool}
 use Rattle.std.proofs.lemmas.List.Elements.{All-from_recursion}
 use Rattle.std.proofs.lemmas.List.Sums.{sum_by-cons}
+use Rattle.std.proofs.lemmas.Option.{none-some, same_Some}
 
 module _ {X : Type 0} where
   pub all_weaker : (P Q : X → Type 0) → ((x : X) → P x → Q x) → (xs : List X) → AllByRecursion P xs → AllByRecursion Q xs
@@ -80,3 +81,54 @@ module _ {X : Type 0} where
         let added : count_by (λ y. p y && q y) xs ≡ cond (p x && q x) 1 0 + count_by (λ y. p y && q y) xs = omega (arith, none) in
         ap (count_by q) gone ∙ count_filter q p xs ∙ added ∙ sym (sum_by-cons (λ y. cond (p y && q y) 1 0) x xs)
   ]
+
+module _ {X : Type 0} where
+  -- tests that agree at each member leave the same
+  pub filter_alike : (p q : X → Bool) (xs : List X) → AllByRecursion (λ x. p x ≡ q x) xs → filter p xs ≡ filter q xs
+  filter_alike p q [] h = refl
+  filter_alike p q (x ∷ xs) h =
+      ap (λ b. cond b (x ∷ filter p xs) (filter p xs)) h.0 ∙ ap (λ ys. cond (q x) (x ∷ ys) ys) (filter_alike p q xs h.1)
+
+  -- one filter after another
+  pub filter_twice : (p q : X → Bool) (xs : List X) → filter q (filter p xs) ≡ filter (λ x. p x && q x) xs
+  filter_twice p q [] = refl
+  filter_twice p q (x ∷ xs) = elim (cases_Bool (p x)) [
+    | inl t ↦ elim (cases_Bool (q x)) [
+      | inl u ↦ rw (t, u) (ap (λ l. x ∷ l) (filter_twice p q xs))
+      | inr u ↦ rw (t, u) (filter_twice p q xs)
+    ]
+    | inr t ↦ rw t (filter_twice p q xs)
+  ]
+
+  -- no more pass of a filtered list
+  pub filter_fewer : (p q : X → Bool) (xs : List X) → length (filter p (filter q xs)) ≤ length (filter p xs)
+  filter_fewer p q [] = omega arith
+  filter_fewer p q (x ∷ xs) =
+      let rest = filter_fewer p q xs in
+      elim (cases_Bool (q x)) [
+        | inl stays ↦ elim (cases_Bool (p x)) [ inl hit ↦ rw (stays, hit) (omega (arith, rest)) | inr miss ↦ rw (stays, miss) rest ]
+        | inr goes ↦ elim (cases_Bool (p x)) [ inl hit ↦ rw (goes, hit) (omega (arith, rest)) | inr miss ↦ rw (goes, miss) rest ]
+      ]
+
+  -- where none passes, none is dropped
+  pub none_dropped : (p : X → Bool) (xs : List X) → list_any p xs ≡ false → xs ≡ filter (λ y. not (p y)) xs
+  none_dropped p [] h = refl
+  none_dropped p (x ∷ xs) h = elim (cases_Bool (p x)) [
+    | inl t ↦ let bad : true ≡ false = rw t at h in cc
+    | inr t ↦ rw t (ap (λ l. x ∷ l) (none_dropped p xs (rw t at h)))
+  ]
+
+  -- what holds of each member holds of the first that passes
+  pub found_all : (P : X → Type 0) (p : X → Bool) (xs : List X) → AllByRecursion P xs → (x : X) → find p xs ≡ Some x → P x
+  found_all P p [] h x e = absurd (none-some x e)
+  found_all P p (y ∷ ys) h x e = elim (cases_Bool (p y)) [
+    | inl t ↦ subst P (same_Some y x (rw t at e)) h.0
+    | inr t ↦ found_all P p ys h.1 x (rw t at e)
+  ]
+
+pub map_filter : {X Y : Type 0} (f : X → Y) (p : Y → Bool) (xs : List X) → map f (filter (λ x. p (f x)) xs) ≡ filter p (map f xs)
+map_filter f p [] = refl
+map_filter f p (x ∷ xs) = elim (cases_Bool (p (f x))) [
+  | inl t ↦ rw t (ap (λ ys. f x ∷ ys) (map_filter f p xs))
+  | inr t ↦ rw t (map_filter f p xs)
+]

@@ -1,8 +1,7 @@
 -- What a list has, by recursion: as filters, maps with gaps and joined lists meet it.
-use Rattle.std.proofs.Common.{◌≡◌, ◌⊎◌, ℕ, zero, suc, Bool, true, false, cond, Option, Some, None, List, [], ◌∷◌, ◌++◌, map, flat_map}
-use Rattle.std.proofs.Common.{refl, ap, ◌∙◌, sym, subst, inl, inr, arith}
+use Rattle.std.proofs.Common.{◌≡◌, ◌⊎◌, ℕ, zero, suc, Bool, true, false, cond, Option, Some, None, List, [], ◌∷◌, ◌++◌, map, flat_map, refl, ap, ◌∙◌, sym, subst, inl, inr, arith, ◌≢◌}
 use Rattle.std.proofs.lemmas.Bool.{cases_Bool}
-use Rattle.std.specs.List.{Contains, cons_option, filter, filter_map, list_any}
+use Rattle.std.specs.List.{Contains, cons_option, filter, filter_map, list_any, AllByRecursion}
 
 -- the list has the element
 abbrev pub Has : {X : Type 0} → List X → X → Type 0
@@ -117,3 +116,18 @@ any_has p (y ∷ ys) e = elim (cases_Bool (p y)) [
   | inl t ↦ (y, inl refl, t)
   | inr t ↦ let r = any_has p ys (rw t at e) in (r.0, inr r.1, r.2)
 ]
+
+-- what holds of each member
+pub all_has : {X : Type 0} (P : X → Type 0) (xs : List X) → AllByRecursion P xs → (x : X) → Has xs x → P x
+all_has P [] a x h = absurd h
+all_has P (y ∷ ys) a x (inl e) = subst P e a.0
+all_has P (y ∷ ys) a x (inr h) = all_has P ys a.1 x h
+
+pub has_all : {X : Type 0} (P : X → Type 0) (xs : List X) → ((x : X) → Has xs x → P x) → AllByRecursion P xs
+has_all P [] f = tt
+has_all P (x ∷ xs) f = (f x (inl refl), has_all P xs (λ y m. f y (inr m)))
+
+-- a list that is not empty has a member
+pub first_of : {X : Type 0} (xs : List X) → xs ≢ [] → (x : X) × Has xs x
+first_of [] n = absurd (n refl)
+first_of (x ∷ xs) n = (x, inl refl)

@@ -32,3 +32,9 @@ all_weaker p q leads (x ∷ xs) f = (leads x f.0, all_weaker p q leads xs f.1)
 pub all_of_test : {X : Type 0} (p : X → Bool) (xs : List X) → list_all p xs ≡ true → AllByRecursion (λ n. p n ≡ true) xs
 all_of_test p [] h = tt
 all_of_test p (x ∷ xs) h = let parts = and_parts (p x) (list_all p xs) h in (parts.0, all_of_test p xs parts.1)
+
+-- of two that each member has, another
+pub all_two : {X : Type 0} (P Q R : X → Type 0) → ((x : X) → P x → Q x → R x) → (xs : List X) → AllByRecursion P xs → AllByRecursion Q xs
+    → AllByRecursion R xs
+all_two P Q R f [] p q = tt
+all_two P Q R f (x ∷ xs) p q = (f x p.0 q.0, all_two P Q R f xs p.1 q.1)

@@ -1,9 +1,10 @@
 -- Answers of comparisons: what a test of one says, and one after another.
 use Rattle.std.specs.Prelude.{◌≡◌, true, false}
-use Rattle.std.specs.Ordering.{is_eq, is_gt, is_le, is_lt, ordering_then}
+use Rattle.std.specs.Ordering.{is_eq, is_gt, is_le, is_lt, ordering_then, ordering_reverse}
 use Rattle.std.specs.declared.cmp.Ordering.{Ordering}
 use Rattle.std.specs.declared.cmp.Ordering.TheVariants.{Less, Equal, Greater}
-use Rattle.std.proofs.Common.{◌⊎◌, inl, inr, refl}
+use Rattle.std.proofs.Common.{◌⊎◌, inl, inr, refl, ap, sym, ◌∙◌}
+use Rattle.std.specs.Cmp.{IsTotalOrder}
 
 -- ---- what a test says
 
@@ -70,3 +71,23 @@ pub both_equal : (o p : Ordering) → ordering_then o p ≡ Equal → (o ≡ Equ
 both_equal Less p e = cc
 both_equal Equal p e = (refl, e)
 both_equal Greater p e = cc
+
+pub not_equal : (r : Ordering) → r ≡ Less → r ≡ Equal → ⊥
+not_equal r e f = let q : Less ≡ Equal = sym e ∙ f in cc
+
+-- ---- the other way round
+
+pub eq_turned : (r : Ordering) → is_eq (ordering_reverse r) ≡ is_eq r
+eq_turned Less = refl
+eq_turned Equal = refl
+eq_turned Greater = refl
+
+module _ {X : Type 0} {order : X → X → Ordering} (total : IsTotalOrder order) where
+  pub less_turned : (x y : X) → order x y ≡ Less → order y x ≡ Greater
+  less_turned x y e = total.antisymm y x ∙ ap ordering_reverse e
+
+  pub greater_turned : (x y : X) → order x y ≡ Greater → order y x ≡ Less
+  greater_turned x y e = total.antisymm y x ∙ ap ordering_reverse e
+
+  pub not_both : (x y : X) → order x y ≡ Less → order y x ≡ Less → ⊥
+  not_both x y e f = let q : Greater ≡ Less = sym (less_turned x y e) ∙ f in cc
