@@ -1,4 +1,7 @@
 -- Pieces that are printed one behind another, while namespaces are numbered.
+-- Plan: (1) lists of namespaces that begin with one another; (2) a namespace that has its number keeps it, whatever is numbered
+-- later (`numbered_stays`, `prefix_final`); (3) pieces: none, one and then another, bytes and then a piece, the same piece
+-- otherwise said; (4) many pieces, one after another; (5) the pieces of an element: its name, an attribute, its content.
 use Rattle.std.proofs.Common.{◌≡◌, ◌≢◌, ℕ, ◌+◌, ◌<◌, ◌≤◌, List, [], ◌∷◌, ◌++◌, map, take, length, get_or, Bool, true, false, Option, Some, None, refl, ap, sym, ◌∙◌, subst, inl, inr, Bor, append_assoc}
 use Rattle.std.proofs.lemmas.List.{take_more, take_all, append-nil}
 use Rattle.std.proofs.lemmas.List.Concat.{flat_map-append}
@@ -12,8 +15,8 @@ use Rattle.ifmap_elem.specs.Folds.{at_child_element, at_child_text}
 use Rattle.ifmap_elem.specs.Arranged.{arrange, arrange_child, sort_attributes}
 use Rattle.ifmap_elem.specs.Canonical.{after_prefix, printed_name, declaration_bytes, written_bytes, attribute_bytes, after_attributes_bytes, child_piece, element_piece, child_bytes, element_bytes}
 use Rattle.ifmap_elem.specs.Escapes.{text_bytes, value_bytes}
-use Rattle.ifmap_elem.specs.Namespaces.{spaces_of, spaces_of_child, child_spaces, element_spaces, numbered_prefixes, name_prefixes}
-use Rattle.ifmap_elem.specs.printer.Pieces.{AddsSpaces, IsFront, AreFinal, IsNumbered, Adds}
+use Rattle.ifmap_elem.specs.Namespaces.{spaces_of, spaces_of_child, child_spaces, element_spaces, numbered_prefixes, name_prefixes, AddsSpaces, IsFront}
+use Rattle.ifmap_elem.specs.printer.Pieces.{AreFinal, IsNumbered, Adds}
 use Rattle.ifmap_elem.specs.Scopes.{xml_space}
 use Rattle.ifmap_elem.specs.declared.elements.Name.{Name}
 use Rattle.ifmap_elem.specs.declared.elements.Attribute.{Attribute}

@@ -3,8 +3,7 @@ use Rattle.std.proofs.Common.{◌≡◌, ℕ, List, [], ◌∷◌, ◌++◌, map
 use Rattle.std.proofs.lemmas.List.Folds.{flat_map-map}
 use Rattle.std.specs.List.{flat_map}
 use Rattle.ifmap_elem.specs.Arranged.{arrange, arrange_child, sort_attributes}
-use Rattle.ifmap_elem.specs.Namespaces.{spaces_of, spaces_of_child}
-use Rattle.ifmap_elem.specs.printer.Pieces.{AddsSpaces}
+use Rattle.ifmap_elem.specs.Namespaces.{spaces_of, spaces_of_child, AddsSpaces}
 use Rattle.ifmap_elem.specs.declared.elements.Attribute.{Attribute}
 use Rattle.ifmap_elem.specs.declared.elements.Element.{Element}
 use Rattle.ifmap_elem.specs.laws.ArrangedLaws.{arranged_is}

@@ -31,13 +31,13 @@ tokens_of (Empty tag after) = token.Empty tag ∷ tokens_of after
 tokens_of (Start tag inside after) = token.Start tag ∷ (tokens_of inside ++ (token.End tag.name ∷ tokens_of after))
 
 -- pieces, and others after them
-abbrev pub chained : Pieces → Pieces → Pieces
-chained Nothing others = others
-chained (Comment after) others = Comment (chained after others)
-chained (Characters blank text after) others = Characters blank text (chained after others)
-chained (Section text after) others = Section text (chained after others)
-chained (Empty tag after) others = Empty tag (chained after others)
-chained (Start tag inside after) others = Start tag inside (chained after others)
+abbrev pub chain_pieces : Pieces → Pieces → Pieces
+chain_pieces Nothing others = others
+chain_pieces (Comment after) others = Comment (chain_pieces after others)
+chain_pieces (Characters blank text after) others = Characters blank text (chain_pieces after others)
+chain_pieces (Section text after) others = Section text (chain_pieces after others)
+chain_pieces (Empty tag after) others = Empty tag (chain_pieces after others)
+chain_pieces (Start tag inside after) others = Start tag inside (chain_pieces after others)
 
 -- a piece by what it means: a child element with the declarations in it, their paths from it on, or text
 pub data Item : Type 0 where
@@ -54,10 +54,10 @@ put_before text [] = Run text ∷ []
 put_before text (Run more ∷ items) = Run (text ++ more) ∷ items
 put_before text (Inner e declared ∷ items) = Run text ∷ (Inner e declared ∷ items)
 
-abbrev pub joined : List Item → List Item
-joined [] = []
-joined (Run text ∷ items) = put_before text (joined items)
-joined (Inner e declared ∷ items) = Inner e declared ∷ joined items
+abbrev pub join_runs : List Item → List Item
+join_runs [] = []
+join_runs (Run text ∷ items) = put_before text (join_runs items)
+join_runs (Inner e declared ∷ items) = Inner e declared ∷ join_runs items
 
 -- white space alone is no child beside an element, and an empty text is none anywhere
 abbrev pub is_child : Bool → Item → Bool
@@ -66,7 +66,7 @@ is_child beside (Run text) = if beside then not (list_all is_white text) else no
 
 -- the items that are children
 abbrev pub children_among : List Item → List Item
-children_among items = filter (is_child (list_any is_inner items)) (joined items)
+children_among items = filter (is_child (list_any is_inner items)) (join_runs items)
 
 abbrev pub child_of : Item → the.Child
 child_of (Inner e declared) = the.Element e
@@ -119,7 +119,7 @@ pub record IsRoot (pieces : Pieces) (r : Reading) : Type 0 where
   pub before : Pieces
   pub element : Pieces
   pub after : Pieces
-  pub pieces_are : pieces ≡ chained before (chained element after)
+  pub pieces_are : pieces ≡ chain_pieces before (chain_pieces element after)
   pub margin_before : IsMargin before
   pub means : AreItems root_scope element (Inner r.root r.declared ∷ [])
   pub margin_after : IsMargin after

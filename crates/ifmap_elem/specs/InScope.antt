@@ -11,7 +11,7 @@ use Rattle.ifmap_elem.specs.declared.readings.Reading.{Reading}
 use Rattle.ifmap_elem.specs.declared.tokens.Tag.{Tag}
 use Rattle.ifmap_elem.specs.declared.tokens.Token.{Token}
 use Rattle.ifmap_elem.specs.Document as piece
-use Rattle.ifmap_elem.specs.Document.{Pieces, Nothing, chained, tokens_of, heading, Item, joined, is_child, AreItems, IsMargin}
+use Rattle.ifmap_elem.specs.Document.{Pieces, Nothing, chain_pieces, tokens_of, heading, Item, join_runs, is_child, AreItems, IsMargin}
 use Rattle.ifmap_elem.specs.Scopes.{Binding, Scope, NamesElement, bound, root_scope, scope_within}
 use Rattle.ifmap_elem.specs.Spells.{without_byte_order_mark}
 use Rattle.ifmap_elem.specs.Tokens.{TakesToken}
@@ -29,8 +29,8 @@ abbrev pub is_listed : List ℕ → Bool
 is_listed prefix = not (length prefix == 0 || bytes_eq prefix (codes "xml"))
 
 -- what a prefix is listed with: what the innermost of the bindings binds it to
-abbrev pub listed : Scope → List ℕ → Option (List ℕ)
-listed scope prefix = if is_listed prefix then bound scope prefix else None
+abbrev pub listed_space : Scope → List ℕ → Option (List ℕ)
+listed_space scope prefix = if is_listed prefix then bound scope prefix else None
 
 -- the first piece is an element with this tag and with these pieces in it
 abbrev pub IsElementPiece : Pieces → Tag → Pieces → Pieces → Type 0
@@ -38,7 +38,7 @@ IsElementPiece pieces tag inside after = (pieces ≡ piece.Start tag inside afte
 
 -- how many children stand before an element that comes after these items
 abbrev pub children_before : List Item → ℕ
-children_before items = length (filter (is_child true) (joined items))
+children_before items = length (filter (is_child true) (join_runs items))
 
 -- among the pieces in an element, whose scope this is, the child with that index is an element with that tag and those pieces
 pub record IsChildAt (scope : Scope) (inside : Pieces) (index : ℕ) (child : Tag) (within : Pieces) : Type 0 where
@@ -46,7 +46,7 @@ pub record IsChildAt (scope : Scope) (inside : Pieces) (index : ℕ) (child : Ta
   pub element : Pieces
   pub after : Pieces
   pub items : List Item
-  pub inside_is : inside ≡ chained before element
+  pub inside_is : inside ≡ chain_pieces before element
   pub is_element : IsElementPiece element child within after
   pub mean : AreItems scope before items
   pub index_is : index ≡ children_before items
@@ -68,7 +68,7 @@ pub record HasScope (bytes path : List ℕ) (scope : Scope) : Type 0 where
   pub inside : Pieces
   pub after : Pieces
   pub lexed : To TakesToken (without_byte_order_mark bytes) tokens []
-  pub tokens_are : tokens ≡ heading declared ++ tokens_of (chained before element)
+  pub tokens_are : tokens ≡ heading declared ++ tokens_of (chain_pieces before element)
   pub margin : IsMargin before
   pub is_element : IsElementPiece element tag inside after
   pub leads : LeadsTo root_scope tag inside path scope
@@ -77,7 +77,7 @@ pub record HasScope (bytes path : List ℕ) (scope : Scope) : Type 0 where
 abbrev pub ResolvesAsDeclared : List ℕ → Reading → Type 0
 ResolvesAsDeclared bytes r =
     (path : List ℕ) (scope : Scope) → HasScope bytes path scope → (prefix : List ℕ)
-    → listed (declared_at path r.declared) prefix ≡ listed scope prefix
+    → listed_space (declared_at path r.declared) prefix ≡ listed_space scope prefix
 
 -- the path of child indexes names this element: no index the root, and an index what the others name in the child element with it
 abbrev pub NamesElementAt : Element → List ℕ → Element → Type 0

@@ -46,12 +46,12 @@ pub record IsNamePart (bytes : List ℕ) : Type 0 where
   pub goes_on : AllAre is_name_character others
 
 -- the bytes of a qualified name: the prefix and a colon, where there is a prefix, and the local part
-abbrev pub prefixed : List ℕ → List ℕ → List ℕ
-prefixed [] local = local
-prefixed (b ∷ bs) local = (b ∷ bs) ++ (colon ∷ local)
+abbrev pub with_prefix : List ℕ → List ℕ → List ℕ
+with_prefix [] local = local
+with_prefix (b ∷ bs) local = (b ∷ bs) ++ (colon ∷ local)
 
 abbrev pub name_bytes : Qualified → List ℕ
-name_bytes q = prefixed q.prefix q.local
+name_bytes q = with_prefix q.prefix q.local
 
 -- its parts are name parts
 pub record IsQualified (q : Qualified) : Type 0 where

@@ -1,5 +1,5 @@
 -- The namespaces of an element in the order of their first occurrence, and their prefixes (Namespaces in XML 1.0).
-use Rattle.std.specs.Prelude.{ℕ, ◌+◌, List, [], ◌∷◌, ◌++◌, map, Bool, not, ◌&&◌, codes}
+use Rattle.std.specs.Prelude.{◌≡◌, ℕ, ◌+◌, List, [], ◌∷◌, ◌++◌, map, Bool, not, ◌&&◌, codes}
 use Rattle.std.specs.List.{filter, flat_map}
 use Rattle.ifmap_lemmas.specs.Numerals.{numeral}
 use Rattle.std.specs.Str.{bytes_eq}
@@ -48,3 +48,11 @@ numbered_prefixes letter number (space ∷ spaces) = (space, letter ++ numeral n
 -- the prefixes by which names are written where these namespaces are declared: `xml`, `n1`, `n2` and so on
 abbrev pub name_prefixes : List (List ℕ) → List (List ℕ × List ℕ)
 name_prefixes spaces = (xml_space, codes "xml") ∷ numbered_prefixes (codes "n") 1 spaces
+
+-- old are the declared ones among some, and new are those among the same and these after them
+abbrev pub AddsSpaces : List (List ℕ) → List (List ℕ) → List (List ℕ) → Type 0
+AddsSpaces old spaces new = (seen : List (List ℕ)) → old ≡ declared_among seen → new ≡ declared_among (seen ++ spaces)
+
+-- the second list begins with the first
+abbrev pub IsFront : List (List ℕ) → List (List ℕ) → Type 0
+IsFront front all = (more : List (List ℕ)) × (all ≡ front ++ more)

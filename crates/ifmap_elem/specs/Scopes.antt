@@ -55,7 +55,8 @@ plain_assignments tag = filter (λ a. is_none (binding_of a)) tag.assignments
 abbrev pub scope_within : Scope → Tag → Scope
 scope_within outer tag = bindings tag ++ outer
 
--- a binding that a tag may make: never of `xmlns`, nor to its namespace; of `xml` to its own namespace and no other prefix to that; of a prefix to some namespace
+-- a binding that a tag may make: never of `xmlns`, nor to its namespace; of `xml` to its own namespace and no other
+-- prefix to that; of a prefix to some namespace
 pub record IsBinding (b : Binding) : Type 0 where
   pub no_xmlns : b.prefix ≢ codes "xmlns"
   pub no_xmlns_space : b.space ≢ xmlns_space

@@ -1,5 +1,5 @@
--- The tokens of a document, each by the bytes that it takes from the front: XML 1.0 (fifth edition), section 2.4 for text, 2.5 for comments,
--- 2.7 for character sections, 2.8 for the declaration and 3.1 for tags.
+-- The tokens of a document, each by the bytes that it takes from the front: XML 1.0 (fifth edition), section 2.4 for
+-- text, 2.5 for comments, 2.7 for character sections, 2.8 for the declaration and 3.1 for tags.
 use Rattle.std.specs.Prelude.{◌≡◌, ◌≢◌, ℕ, Bool, true, false, not, ◌==◌, ◌||◌, ◌⊎◌, List, [], ◌∷◌, ◌++◌, map, codes}
 use Rattle.std.specs.Char.{to_ascii_uppercase}
 use Rattle.std.specs.List.{list_all, starts_with}

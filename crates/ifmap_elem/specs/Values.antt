@@ -1,4 +1,5 @@
--- What written text and written values mean: line ends, white space and references. XML 1.0 (fifth edition), sections 2.11, 3.3.3, 4.1 and 4.6.
+-- What written text and written values mean: line ends, white space and references. XML 1.0 (fifth edition), sections
+-- 2.11, 3.3.3, 4.1 and 4.6.
 use Rattle.std.specs.Prelude.{◌≡◌, ◌≢◌, ℕ, Bool, false, not, ◌==◌, ◌&&◌, ◌||◌, if◌then◌else◌, List, [], ◌∷◌, ◌++◌, length, drop, map, codes, Option, Some, None, encode_utf8}
 use Rattle.std.specs.Char.{is_digit}
 use Rattle.std.specs.List.{flat_map, list_all, starts_with}
@@ -23,21 +24,21 @@ abbrev pub as_space : ℕ → ℕ
 as_space b = if b == tab || b == line_feed then space_character else b
 
 -- the character with that number, where these digits are some and the number is a character's
-abbrev pub numbered : ℕ → List ℕ → Option ℕ
-numbered base digits =
+abbrev pub code_point : ℕ → List ℕ → Option ℕ
+code_point base digits =
     if not (length digits == 0) && list_all (λ d. is_digit d base) digits && is_character (digits_value base digits) then Some
     (digits_value base digits) else None
 
 -- the character that a reference stands for, by what is between its `&` and its `;`
-abbrev pub referred : List ℕ → Option ℕ
-referred name =
+abbrev pub reference_value : List ℕ → Option ℕ
+reference_value name =
     if bytes_eq name (codes "amp") then Some ampersand
     else (if bytes_eq name (codes "lt") then Some less_than
     else (if bytes_eq name (codes "gt") then Some greater_than
     else (if bytes_eq name (codes "quot") then Some double_quote
     else (if bytes_eq name (codes "apos") then Some single_quote
-    else (if starts_with ◌==◌ name (codes "#x") then numbered 16 (drop 2 name)
-    else (if starts_with ◌==◌ name (codes "#") then numbered 10 (drop 1 name)
+    else (if starts_with ◌==◌ name (codes "#x") then code_point 16 (drop 2 name)
+    else (if starts_with ◌==◌ name (codes "#") then code_point 10 (drop 1 name)
     else None))))))
 
 -- a run of bytes that are as they are, or a reference to a character
@@ -55,7 +56,7 @@ abbrev pub TakesPart : List ℕ → Part → List ℕ → Type 0
 TakesPart bytes (Plain run) rest = (bytes ≡ run ++ rest) × (run ≢ []) × AllAre (λ b. not (b == ampersand)) run × EndsRun rest
 TakesPart bytes (Reference c) rest =
     (name : List ℕ) × (bytes ≡ ampersand ∷ (name ++ (semicolon ∷ rest))) × AllAre (λ b. not (b == semicolon)) name
-    × (referred name ≡ Some c)
+    × (reference_value name ≡ Some c)
 
 -- what a part adds to a text: a run with its line ends as line feeds, or the character
 abbrev pub text_part : Part → List ℕ

@@ -28,7 +28,7 @@ impl Name {
     }
 
     /// The name of this local part in no namespace. The one error is want of memory.
-    pub fn bare(alloc: Global, local: &str) -> Result<Name, NoMemory>
+    pub fn with_local(alloc: Global, local: &str) -> Result<Name, NoMemory>
         ensures { IfOk result (λ name. name ≡ bare_name local.now) }
     {
         Ok(Name {
@@ -47,17 +47,17 @@ impl Name {
 
 impl Attribute {
     /// An attribute in no namespace. The one error is want of memory.
-    pub fn bare(alloc: Global, local: &str, value: Text) -> Result<Attribute, NoMemory>
+    pub fn with_local(alloc: Global, local: &str, value: Text) -> Result<Attribute, NoMemory>
         ensures { IfOk result (λ attribute. attribute ≡ bare_attribute local.now value) }
     {
-        let name = Name::bare(alloc, local)?;
+        let name = Name::with_local(alloc, local)?;
         Ok(Attribute { name, value })
     }
 }
 
 impl Element {
     /// An element in no namespace. The one error is want of memory.
-    pub fn bare(
+    pub fn with_local(
         alloc: Global,
         local: &str,
         attributes: Vec<Attribute>,
@@ -67,7 +67,7 @@ impl Element {
             element ≡ bare_element local.now attributes.items children.items) }
     {
         Ok(Element {
-            name: Name::bare(alloc, local)?,
+            name: Name::with_local(alloc, local)?,
             attributes: Many(attributes),
             children: Many(children),
         })

@@ -84,7 +84,8 @@ impl<'a> Ord for Key<'a> {
 impl<'a> PartialOrd for Key<'a> {
     ghost partial_cmp = { as_partial_cmp key_order };
 
-    ghost laws = { partial_order_from_own_ties (Prim.search (comparing, rules)) (Prim.search (comparing, rules)) };
+    ghost laws = { partial_order_from_own_ties (Prim.search (comparing, rules))
+        (Prim.search (comparing, rules)) };
 
     fn partial_cmp(&self, other: &Key<'a>) -> Option<Ordering> {
         Some(self.cmp(other))

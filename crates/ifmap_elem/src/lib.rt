@@ -29,6 +29,7 @@ pub use elements::{Attribute, Child, Element, Name};
 pub use equality::Equals;
 pub use escaping::{text_reference, value_reference};
 pub use lists::Many;
+pub use numbering::XML_SPACE;
 pub use outline_attributes::OutlineAttribute;
 pub use outlines::{Label, Outline, Piece};
 pub use printing::{canonical, canonical_outline, written};

@@ -5,10 +5,10 @@ ghost use Rattle.ifmap_lemmas.specs.Numerals.{numeral};
 ghost use Rattle.std.specs.Map.{lookup};
 ghost use Rattle.std.specs.Option.{unwrap_or};
 ghost use Rattle.std.specs.Str.{bytes_eq};
-ghost use Rattle.ifmap_elem.specs.Namespaces.{name_prefixes};
+ghost use Rattle.ifmap_elem.specs.Namespaces.{name_prefixes, AddsSpaces, IsFront};
 ghost use Rattle.ifmap_elem.specs.Outlines.{label_name};
 ghost use Rattle.ifmap_elem.specs.printer.Keys.{key_order};
-ghost use Rattle.ifmap_elem.specs.printer.Pieces.{AddsSpaces, IsFront, IsNumbered};
+ghost use Rattle.ifmap_elem.specs.printer.Pieces.{IsNumbered};
 
 use crate::keys::Key;
 use crate::outlines::Label;
@@ -19,7 +19,8 @@ use std::collections::BTreeMap;
 use std::collections::btree_map::Entry;
 use std::marker::Model;
 
-const XML_SPACE: &str = "http://www.w3.org/XML/1998/namespace";
+/// The namespace of the prefix `xml` (Namespaces in XML 1.0, section 3).
+pub const XML_SPACE: &str = "http://www.w3.org/XML/1998/namespace";
 
 // The prefix of a namespace: `n` and this number, or `xml` where it is 0.
 #[derive(Drop)]

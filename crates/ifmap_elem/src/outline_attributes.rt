@@ -98,7 +98,7 @@ impl<'a> OutlineAttribute<'a> {
         ensures { IfOk result (λ attribute. attribute ≡ self.now) }
     {
         let value = Text::from_str(alloc, self.value.text())?;
-        Attribute::bare(alloc, self.local, value)
+        Attribute::with_local(alloc, self.local, value)
     }
 }
 

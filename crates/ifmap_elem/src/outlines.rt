@@ -36,7 +36,7 @@ impl<'a> Label<'a> {
         ensures { IfOk result (λ name. name ≡ label_name self.entry) }
     {
         match self {
-            Label::Bare(local) => Name::bare(alloc, local),
+            Label::Bare(local) => Name::with_local(alloc, local),
             Label::Named(name) => name.copy(alloc),
         }
     }
@@ -73,7 +73,7 @@ impl<'a> Piece<'a> {
     }
 
     /// An element that something else holds.
-    pub fn shared(element: &'a Element) -> Piece<'a>
+    pub fn of_element(element: &'a Element) -> Piece<'a>
         ensures { outline_child result ≡ the.Element element.now }
     {
         Piece::Shared(element)
@@ -82,7 +82,7 @@ impl<'a> Piece<'a> {
 
 impl<'a> Outline<'a> {
     /// An element in no namespace.
-    pub fn bare(
+    pub fn with_local(
         local: &'a str,
         attributes: Vec<OutlineAttribute<'a>>,
         pieces: Vec<Piece<'a>>,
@@ -98,7 +98,7 @@ impl<'a> Outline<'a> {
     }
 
     /// An element of this name.
-    pub fn named(
+    pub fn with_name(
         name: &'a Name,
         attributes: Vec<OutlineAttribute<'a>>,
         pieces: Vec<Piece<'a>>,

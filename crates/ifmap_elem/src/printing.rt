@@ -32,7 +32,7 @@ pub fn canonical(alloc: Global, element: &Element) -> Result<Many<u8>, NoMemory>
     ensures spelled { IsFit element.now →
         IfOk result (λ bytes. Spells bytes (canonical_reading element.now)) }
 {
-    let content = Content::Element(&element.attributes, &element.children);
+    let content = RootContent::Element(&element.attributes, &element.children);
     print_root(alloc, Label::Named(&element.name), content, &[])
 }
 
@@ -43,7 +43,7 @@ pub fn written(alloc: Global, element: &Element, spaces: &Many<Text>) -> Result<
     ensures spelled { IsFit element.now → AllByRecursion IsDeclarable spaces.now →
         IfOk result (λ bytes. Spells bytes (written_reading element.now spaces.now)) }
 {
-    let content = Content::Element(&element.attributes, &element.children);
+    let content = RootContent::Element(&element.attributes, &element.children);
     let spaces = spaces.as_slice();
     print_root(alloc, Label::Named(&element.name), content, spaces)
 }
@@ -55,13 +55,13 @@ pub fn canonical_outline(alloc: Global, outline: &Outline<'_>) -> Result<Many<u8
     ensures spelled { IsFit (outline_element outline.now) →
         IfOk result (λ bytes. Spells bytes (canonical_reading (outline_element outline.now))) }
 {
-    let content = Content::Outline(&outline.attributes, &outline.pieces);
+    let content = RootContent::Outline(&outline.attributes, &outline.pieces);
     print_root(alloc, outline.label, content, &[])
 }
 
 // The attributes of a root, and what stands in it.
 #[derive(Clone, Copy)]
-pub(crate) enum Content<'a, 'b> {
+pub(crate) enum RootContent<'a, 'b> {
     Element(&'a Many<Attribute>, &'a Many<Child>),
     Outline(&'a Many<OutlineAttribute<'b>>, &'a Many<Piece<'b>>),
 }
@@ -69,7 +69,7 @@ pub(crate) enum Content<'a, 'b> {
 fn print_root<'a, 'b>(
     alloc: Global,
     label: Label<'a>,
-    content: Content<'a, 'b>,
+    content: RootContent<'a, 'b>,
     spaces: &[Text],
 ) -> Result<Many<u8>, NoMemory>
     ensures { IfOk result (λ bytes.
@@ -93,7 +93,7 @@ fn print_root<'a, 'b>(
 fn write_root_attributes<'a, 'b>(
     alloc: Global,
     prefixes: &mut Prefixes<'a>,
-    content: Content<'a, 'b>,
+    content: RootContent<'a, 'b>,
     out: &mut Vec<u8>,
 ) -> Result<(), NoMemory>
     ensures { OnOk result (
@@ -101,11 +101,11 @@ fn write_root_attributes<'a, 'b>(
         out.old.items out.new.items) }
 {
     match content {
-        Content::Element(attributes, _) => {
+        RootContent::Element(attributes, _) => {
             write_attributes(alloc, prefixes, attributes, out)?;
             Ok(())
         }
-        Content::Outline(attributes, _) => {
+        RootContent::Outline(attributes, _) => {
             write_outline_attributes(alloc, prefixes, attributes, out)?;
             Ok(())
         }
@@ -118,7 +118,7 @@ fn write_inside<'a, 'b>(
     prefixes: &mut Prefixes<'a>,
     prefix: &Option<Prefix>,
     label: Label<'a>,
-    content: Content<'a, 'b>,
+    content: RootContent<'a, 'b>,
     out: &mut Vec<u8>,
 ) -> Result<(), NoMemory>
     ensures { OnOk result (((final : List (List ℕ)) → AreFinal prefixes.old final →
@@ -127,11 +127,11 @@ fn write_inside<'a, 'b>(
         out.old.items out.new.items) }
 {
     match content {
-        Content::Element(_, children) => {
+        RootContent::Element(_, children) => {
             write_content(alloc, prefixes, prefix, label, children, out)?;
             Ok(())
         }
-        Content::Outline(_, pieces) => {
+        RootContent::Outline(_, pieces) => {
             write_pieces(alloc, prefixes, prefix, label, pieces, out)?;
             Ok(())
         }

@@ -43,11 +43,11 @@ fn outline_of<'a>(alloc: Global, parts: &'a Parts) -> Result<Outline<'a>, NoMemo
         OutlineAttribute::from_str("kind", "&"),
     ]?;
     let pieces = vec![in alloc;
-        Outline::bare("a", mixed, words).inside(),
-        Piece::shared(&parts.element),
-        Outline::bare("c", Vec::new(alloc), Vec::new(alloc)).inside(),
+        Outline::with_local("a", mixed, words).inside(),
+        Piece::of_element(&parts.element),
+        Outline::with_local("c", Vec::new(alloc), Vec::new(alloc)).inside(),
     ]?;
-    Ok(Outline::named(&parts.name, rising, pieces))
+    Ok(Outline::with_name(&parts.name, rising, pieces))
 }
 
 #[test]

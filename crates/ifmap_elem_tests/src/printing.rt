@@ -102,13 +102,13 @@ fn spaces_in_attributes(alloc: Global) -> Result<Element, NoMemory> {
 fn no_space(alloc: Global) -> Result<Element, NoMemory> {
     let attributes = bare_attributes(alloc)?;
     let children = words_of(alloc, "t")?;
-    Element::bare(alloc, "a", attributes, children.0)
+    Element::with_local(alloc, "a", attributes, children.0)
 }
 
 fn bare_attributes(alloc: Global) -> Result<Vec<Attribute>, NoMemory> {
     let value = Text::from_str(alloc, "1")?;
     let mut attributes = Vec::new(alloc);
-    attributes.push(Attribute::bare(alloc, "x", value)?)?;
+    attributes.push(Attribute::with_local(alloc, "x", value)?)?;
     Ok(attributes)
 }
 
@@ -229,7 +229,7 @@ fn is_bare(name: Result<Name, NoMemory>, local: &str) -> Option<bool> {
 #[test]
 fn a_bare_name_is_in_no_namespace(rt: HostRuntime) {
     let alloc = rt.alloc();
-    assert!(rt; is_bare(Name::bare(alloc, "a"), "a") == Some(true));
-    assert!(rt; is_bare(Name::bare(alloc, "a"), "b") == Some(false));
+    assert!(rt; is_bare(Name::with_local(alloc, "a"), "a") == Some(true));
+    assert!(rt; is_bare(Name::with_local(alloc, "a"), "b") == Some(false));
     assert!(rt; is_bare(Name::new(alloc, "u", "a"), "a") == Some(false));
 }

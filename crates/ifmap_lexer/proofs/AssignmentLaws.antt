@@ -1,4 +1,7 @@
 -- Assignments that are read are those that stand there.
+-- Plan: (1) an assignment is a name, an equals sign and a value between quotes, and what is read of it is what stands there;
+-- (2) assignments in a row: what goes on from what is left (`GoesOn`), at first, one more, and at the end of the tag;
+-- (3) where a tag ends, told by its next byte; (4) whole tags.
 use Rattle.std.proofs.Common.{◌≡◌, ◌≢◌, ℕ, ◌<◌, Bool, true, false, List, [], ◌∷◌, ◌++◌, length, refl, ap, sym, ◌∙◌, subst, arith}
 use Rattle.std.proofs.Common.{length-append, inl, inr}
 use Rattle.std.specs.Prelude.{◌==◌}
@@ -11,11 +14,11 @@ use Rattle.ifmap_elem.specs.Values.{IsValue}
 use Rattle.ifmap_elem.specs.declared.tokens.Assignment.{Assignment}
 use Rattle.ifmap_elem.specs.declared.tokens.Qualified.{Qualified}
 use Rattle.ifmap_elem.specs.declared.tokens.Tag.{Tag}
-use Rattle.ifmap_lemmas.specs.Cuts.{cut}
+use Rattle.ifmap_lemmas.specs.Cuts.{Stops, cut}
 use Rattle.ifmap_lemmas.specs.Numbers.{is_number}
 use Rattle.ifmap_elem.specs.laws.NameBytes.{name_cut, white_stops_at_name}
 use Rattle.ifmap_elem.specs.laws.OneToken.{EndsTag, one_assignment, one_quoted, quoted_stops, assigned_stops}
-use Rattle.ifmap_lexer.specs.Cutting.{Cuts, is_but, Stops}
+use Rattle.ifmap_lexer.specs.Cutting.{Cuts, is_but}
 use Rattle.ifmap_lexer.specs.Names.{is_name_byte}
 use Rattle.ifmap_lexer.specs.Tags.{ClosesTag, IsAtEnd, TakesAssignments}
 use Rattle.ifmap_lexer.specs.There.{IsGiven, NameAt, SomeAssignment, SomeAssignments, SomeGiven, SomeName, SomeTag}

@@ -3,20 +3,20 @@ use Rattle.std.proofs.Common.{◌≡◌, ℕ, ◌-◌, ◌≤◌, List, [], ◌�
 use Rattle.std.proofs.Common.{Bor}
 use Rattle.std.specs.Prelude.{codes, Option, Some, None, IfSome}
 use Rattle.ifmap_elem.specs.Chars.{is_white}
-use Rattle.ifmap_elem.specs.Names.{IsNamePart, name_bytes, prefixed}
+use Rattle.ifmap_elem.specs.Names.{IsNamePart, name_bytes, with_prefix}
 use Rattle.ifmap_elem.specs.Tokens.{TakesEnd, TakesToken}
 use Rattle.ifmap_elem.specs.declared.tokens.Token.{Token}
 use Rattle.ifmap_elem.specs.laws.NameBytes.{part_is_some}
 use Rattle.ifmap_elem.specs.laws.OneToken.{one_token}
 use Rattle.ifmap_lexer.specs.Cutting.{Cuts}
-use Rattle.ifmap_lexer.specs.There.{BeginsNamed, IsAlone, TakesEndTag, end_of, qualified}
+use Rattle.ifmap_lexer.specs.There.{BeginsNamed, IsAlone, TakesEndTag, end_of, qualified_of}
 use Rattle.ifmap_lexer.proofs.NameLaws.{prefixed_some}
 use Rattle.ifmap_lexer.proofs.TokenLaws.{token_length}
 
 pub local_named : (prefix local bytes rest : List ℕ) → prefix ≡ [] → IsNamePart local → bytes ≡ local ++ rest
     → BeginsNamed prefix local bytes rest
 local_named prefix local bytes rest none l e =
-    (record { prefix_is = inl none; local_is = l }, e ∙ ap (λ p. prefixed p local ++ rest) (sym none))
+    (record { prefix_is = inl none; local_is = l }, e ∙ ap (λ p. with_prefix p local ++ rest) (sym none))
 
 pub both_named : (prefix local bytes mid after rest : List ℕ) → IsNamePart prefix → bytes ≡ prefix ++ mid → mid ≡ codes ":" ++ after
     → IsNamePart local → after ≡ local ++ rest → BeginsNamed prefix local bytes rest
@@ -34,10 +34,10 @@ both_named_if (Some rest) prefix local bytes mid after p e f h = both_named pref
 
 pub end_taken : (prefix local bytes inner after white end rest : List ℕ) → bytes ≡ codes "</" ++ inner
     → BeginsNamed prefix local inner after → Cuts is_white after white end → end ≡ codes ">" ++ rest
-    → TakesEnd bytes (qualified prefix local) rest
+    → TakesEnd bytes (qualified_of prefix local) rest
 end_taken prefix local bytes inner after white end rest e n c is = record {
   white = white;
-  bytes_are = e ∙ ap (λ x. codes "</" ++ x) (n.1 ∙ ap (λ x. name_bytes (qualified prefix local) ++ x)
+  bytes_are = e ∙ ap (λ x. codes "</" ++ x) (n.1 ∙ ap (λ x. name_bytes (qualified_of prefix local) ++ x)
       (c.bytes_are ∙ ap (λ x. white ++ x) is));
   is_name = n.0;
   is_white = c.passes;

@@ -5,7 +5,7 @@ use Rattle.std.specs.List.{flat_map}
 use Rattle.std.proofs.lemmas.List.{append-nil}
 use Rattle.ifmap_lemmas.specs.Items.{To}
 use Rattle.ifmap_elem.specs.Chars.{AllAre}
-use Rattle.ifmap_elem.specs.Values.{Part, Plain, Reference, TakesPart, EndsRun, Expands, referred}
+use Rattle.ifmap_elem.specs.Values.{Part, Plain, Reference, TakesPart, EndsRun, Expands, reference_value}
 use Rattle.ifmap_lemmas.specs.Cuts.{cut}
 use Rattle.ifmap_elem.specs.laws.OneToken.{one_part}
 use Rattle.ifmap_lexer.specs.Cutting.{CutsAt, is_but}
@@ -44,7 +44,7 @@ module _ (place : Place) where
     text_is = ap (λ y. part_in place (Plain (b ∷ bs)) ++ y) x.text_is;
   }
 
-  reference_found : (name beyond u : List ℕ) (c : ℕ) → AllAre (is_but 0x3B) name → referred name ≡ Some c → Means beyond u
+  reference_found : (name beyond u : List ℕ) (c : ℕ) → AllAre (is_but 0x3B) name → reference_value name ≡ Some c → Means beyond u
       → Means (0x26 ∷ (name ++ (0x3B ∷ beyond))) (encode_utf8 c ++ u)
   reference_found name beyond u c f e x =
       subst (λ (y : List ℕ). Means (0x26 ∷ (name ++ (0x3B ∷ beyond))) (y ++ u)) (character_in place c) (record {
@@ -68,7 +68,7 @@ module _ (place : Place) where
           )
 
   abbrev Refers : List ℕ → List ℕ → Type 0
-  Refers name beyond = (c : ℕ) × (referred name ≡ Some c) × ((u : List ℕ) × Means beyond u)
+  Refers name beyond = (c : ℕ) × (reference_value name ≡ Some c) × ((u : List ℕ) × Means beyond u)
 
   reference_ahead : (name beyond : List ℕ) → AllAre (is_but 0x3B) name → (t : List ℕ) → Means (0x26 ∷ (name ++ (0x3B ∷ beyond))) t
       → Refers name beyond
@@ -84,7 +84,7 @@ module _ (place : Place) where
           let after : 0x3B ∷ beyond ≡ 0x3B ∷ mid = both.1 in
           let same : mid ≡ beyond = cc in (
             c,
-            ap referred both.0
+            ap reference_value both.0
                 ∙ l.3,
             (
               flat_map (part_in place) ps,
@@ -146,13 +146,14 @@ module _ (place : Place) where
           let r = reference_left t x in
           reference_ahead name beyond d.passes r.0 (subst (λ (b : List ℕ). Means (0x26 ∷ b) r.0) d.bytes_are r.1)
 
-      pub along_unknown : referred name ≡ None → (t : List ℕ) × Means written t → ⊥
+      pub along_unknown : reference_value name ≡ None → (t : List ℕ) × Means written t → ⊥
       along_unknown e s =
           let r = referred_left s.0 s.1 in
           let wrong : ◌≡◌ {A = Option ℕ} None (Some r.0) = sym e ∙ r.1 in
           cc
 
-      pub along_next : (new : List ℕ) (ch : ℕ) → referred name ≡ Some ch → new ≡ (made ++ part_in place (Plain run)) ++ encode_utf8 ch
+      pub along_next : (new : List ℕ) (ch : ℕ) → reference_value name ≡ Some ch
+          → new ≡ (made ++ part_in place (Plain run)) ++ encode_utf8 ch
           → Along written new beyond
       along_next new ch e is = record {
         found = λ u x.

@@ -11,12 +11,12 @@ use Rattle.std.proofs.lemmas.Bool.Decides.{nat_tests}
 use Rattle.std.proofs.lemmas.Str.{encode_ascii, encode_same, encodes-chars, chars_from_encodes, IsUtf8-past_char}
 use Rattle.ifmap_elem.specs.Chars.{AllAre}
 use Rattle.ifmap_elem.specs.declared.tokens.Qualified.{Qualified}
-use Rattle.ifmap_elem.specs.Names.{IsNamePart, IsQualified, is_name_start, is_name_character, name_bytes, prefixed}
-use Rattle.ifmap_lemmas.specs.Cuts.{cut}
+use Rattle.ifmap_elem.specs.Names.{IsNamePart, IsQualified, is_name_start, is_name_character, name_bytes, with_prefix}
+use Rattle.ifmap_lemmas.specs.Cuts.{Stops, cut}
 use Rattle.ifmap_lemmas.specs.Members.{all_weaker}
 use Rattle.ifmap_lemmas.specs.Numbers.{is_other}
 use Rattle.ifmap_elem.specs.laws.NameBytes.{is_part_byte, name_are_bytes, part_bytes, part_is_some}
-use Rattle.ifmap_lexer.specs.Cutting.{Cuts, CutsAt, is_but, Stops}
+use Rattle.ifmap_lexer.specs.Cutting.{Cuts, CutsAt, is_but}
 use Rattle.ifmap_lexer.specs.Names.{is_name_byte, stands_in_ascii, starts_in_ascii}
 use Rattle.ifmap_lexer.proofs.Basics.{each, of_each, all_back}
 use Rattle.ifmap_lexer.specs.There.{NameAt}
@@ -104,7 +104,7 @@ no_part_of_none (b ∷ bs) e p = absurd (omega arith)
 no_colon : (b : ℕ) → is_part_byte b ≡ true → is_but 58 b ≡ true
 no_colon b h = rw (is_other b 58 (λ e. let wrong : false ≡ true = subst (λ (n : ℕ). is_part_byte n ≡ true) e h in cc)) refl
 
-pub prefixed_some : (prefix local : List ℕ) → prefix ≢ [] → prefixed prefix local ≡ prefix ++ (58 ∷ local)
+pub prefixed_some : (prefix local : List ℕ) → prefix ≢ [] → with_prefix prefix local ≡ prefix ++ (58 ∷ local)
 prefixed_some [] local some = absurd (some refl)
 prefixed_some (b ∷ bs) local some = refl
 
@@ -112,15 +112,15 @@ pub prefixed_found : (bytes prefix local : List ℕ) → CutsAt 58 bytes prefix 
     → (q : Qualified) → q.prefix ≡ prefix → q.local ≡ local → IsQualified q × (name_bytes q ≡ bytes)
 prefixed_found bytes prefix local c p l q e f = (
   record { prefix_is = inr (subst IsNamePart (sym e) p); local_is = subst IsNamePart (sym f) l },
-  (λ i. prefixed (e i) (f i)) ∙ prefixed_some prefix local (part_is_some prefix p) ∙ sym c.bytes_are,
+  (λ i. with_prefix (e i) (f i)) ∙ prefixed_some prefix local (part_is_some prefix p) ∙ sym c.bytes_are,
 )
 
 pub unprefixed_found : (bytes : List ℕ) → IsNamePart bytes → (q : Qualified) → q.prefix ≡ [] → q.local ≡ bytes → IsQualified q
     × (name_bytes q ≡ bytes)
-unprefixed_found bytes l q e f = (record { prefix_is = inl e; local_is = subst IsNamePart (sym f) l }, (λ i. prefixed (e i) (f i)))
+unprefixed_found bytes l q e f = (record { prefix_is = inl e; local_is = subst IsNamePart (sym f) l }, (λ i. with_prefix (e i) (f i)))
 
 local_bytes : (q : Qualified) → q.prefix ≡ [] → name_bytes q ≡ q.local
-local_bytes q e = ap (λ x. prefixed x q.local) e
+local_bytes q e = ap (λ x. with_prefix x q.local) e
 
 pub prefixed_parts : (bytes front after : List ℕ) → CutsAt 58 bytes front after → (q : Qualified) → IsQualified q → name_bytes q ≡ bytes
     → IsNamePart front × IsNamePart after

@@ -1,13 +1,16 @@
 -- The settings of the declaration, and the declaration.
+-- Plan: (1) a setting of the declaration is a name and a value between quotes; (2) letters without regard to case, for the
+-- name of the encoding (`encoding_from`, `from_encoding`); (3) the settings in their order: the version, then the encoding
+-- and whether the document stands alone, where they are there; (4) the declaration from its first byte to its last.
 use Rattle.std.proofs.Common.{◌≡◌, ◌≢◌, ℕ, Bool, true, false, List, [], ◌∷◌, ◌++◌, map, refl, ap, sym, ◌∙◌, subst, arith, inl, inr}
 use Rattle.std.specs.Prelude.{codes}
 use Rattle.std.specs.Char.{to_ascii_uppercase, to_ascii_lowercase}
 use Rattle.std.proofs.lemmas.Bool.Decides.{nat_tests}
 use Rattle.ifmap_elem.specs.Chars.{IsWhite, is_white}
 use Rattle.ifmap_elem.specs.Tokens.{TakesQuoted, TakesSetting, TakesOptional, TakesDeclaration}
-use Rattle.ifmap_lemmas.specs.Cuts.{cut}
+use Rattle.ifmap_lemmas.specs.Cuts.{Stops, cut}
 use Rattle.ifmap_elem.specs.laws.OneToken.{one_quoted}
-use Rattle.ifmap_lexer.specs.Cutting.{Cuts, Stops}
+use Rattle.ifmap_lexer.specs.Cutting.{Cuts}
 use Rattle.ifmap_lexer.specs.Settings.{IsEncoding, IsVersion, IsYesOrNo, SetsTo, StartsNotWhite, TakesWhereSet}
 
 cancel : (a b c : List ℕ) → a ++ b ≡ a ++ c → b ≡ c

@@ -10,7 +10,8 @@ use Rattle.std.proofs.lemmas.Str.{IsUtf8-drop, IsCharBoundary-after_ascii}
 use Rattle.std.proofs.Math.Seq.{drop-append_seam, get_or-append_seam}
 use Rattle.ifmap_elem.specs.Chars.{AllAre}
 use Rattle.ifmap_lemmas.specs.Numbers.{is_other}
-use Rattle.ifmap_lexer.specs.Cutting.{Cuts, CutsAt, is_but, Stops}
+use Rattle.ifmap_lemmas.specs.Cuts.{Stops}
+use Rattle.ifmap_lexer.specs.Cutting.{Cuts, CutsAt, is_but}
 
 module _ (p : ℕ → Bool) where
   front_one : (b : ℕ) (bs : List ℕ) (t : Bool) → p b ≡ t → AllAre p (take (prefix_len p bs) bs)

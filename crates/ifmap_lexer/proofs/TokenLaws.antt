@@ -16,12 +16,12 @@ use Rattle.ifmap_elem.specs.declared.tokens.Qualified.{Qualified}
 use Rattle.ifmap_elem.specs.declared.tokens.Tag.{Tag}
 use Rattle.ifmap_elem.specs.declared.tokens.Token.{Token}
 use Rattle.ifmap_elem.specs.declared.tokens.Token.TheVariants.{Declaration, Comment, Start, Empty, End, Section, Characters}
-use Rattle.ifmap_lemmas.specs.Cuts.{cut}
+use Rattle.ifmap_lemmas.specs.Cuts.{Stops, cut}
 use Rattle.ifmap_elem.specs.laws.Delimiters.{dash_cut, bracket_cut}
 use Rattle.ifmap_lemmas.specs.Numbers.{is_number}
 use Rattle.ifmap_elem.specs.laws.NameBytes.{name_cut, name_stops_at_white}
 use Rattle.ifmap_elem.specs.laws.OneToken.{one_tag, text_stops, declaration_no_end}
-use Rattle.ifmap_lexer.specs.Cutting.{Cuts, CutsWord, is_but, Stops}
+use Rattle.ifmap_lexer.specs.Cutting.{Cuts, CutsWord, is_but}
 use Rattle.ifmap_lexer.specs.Kinds.{Stands, kind_at, kind_of}
 use Rattle.ifmap_lexer.specs.Tags.{ClosesTag}
 use Rattle.ifmap_lexer.specs.Refusing.{Refuses}

@@ -1,12 +1,8 @@
 -- Where runs of bytes and words end.
-use Rattle.std.specs.Prelude.{◌≡◌, ℕ, Bool, false, not, ◌==◌, List, [], ◌∷◌, ◌++◌, ◌-◌, length, take}
+use Rattle.std.specs.Prelude.{◌≡◌, ℕ, Bool, not, ◌==◌, List, ◌∷◌, ◌++◌, ◌-◌, length, take}
 use Rattle.ifmap_elem.specs.Chars.{AllAre}
 use Rattle.ifmap_elem.specs.Tokens.{Lacks}
-
--- the first, if there is one, fails the test
-abbrev pub Stops : (ℕ → Bool) → List ℕ → Type 0
-Stops p [] = Unit {0}
-Stops p (b ∷ bs) = p b ≡ false
+use Rattle.ifmap_lemmas.specs.Cuts.{Stops}
 
 -- the bytes at the front that pass a test, and what is left, which begins with none that passes
 pub record Cuts (p : ℕ → Bool) (bytes front rest : List ℕ) : Type 0 where

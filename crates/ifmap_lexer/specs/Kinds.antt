@@ -1,5 +1,7 @@
 -- Which kinds of tokens their first bytes tell apart.
 use Rattle.std.specs.Prelude.{◌≡◌, ℕ, ◌==◌, if◌then◌else◌, List, [], ◌∷◌}
+use Rattle.std.specs.Str.{byte}
+use Rattle.ifmap_elem.specs.Chars.{less_than}
 use Rattle.ifmap_elem.specs.Tokens.{TakesToken}
 use Rattle.ifmap_elem.specs.declared.tokens.Token.{Token}
 use Rattle.ifmap_elem.specs.declared.tokens.Token.TheVariants as tokens
@@ -19,17 +21,20 @@ kind_of (tokens.Characters blank text) = Text
 -- the kind that begins with `<!` and then with these bytes
 abbrev pub kind_of_section : List ℕ → Kind
 kind_of_section [] = Nothing
-kind_of_section (b ∷ bs) = if b == 0x2D then Comment else (if b == 0x5B then Section else Nothing)
+kind_of_section (b ∷ bs) =
+    if b == byte "-" then Comment else (if b == byte "[" then Section else Nothing)
 
 -- the kind that begins with `<` and then with these bytes
 abbrev pub kind_of_markup : List ℕ → Kind
 kind_of_markup [] = Nothing
-kind_of_markup (b ∷ bs) = if b == 0x3F then Declaration else (if b == 0x2F then End else (if b == 0x21 then kind_of_section bs else Tag))
+kind_of_markup (b ∷ bs) =
+    if b == byte "?" then Declaration
+    else (if b == byte "/" then End else (if b == byte "!" then kind_of_section bs else Tag))
 
 -- the kind that begins with these bytes
 abbrev pub kind_at : List ℕ → Kind
 kind_at [] = Nothing
-kind_at (b ∷ bs) = if b == 0x3C then kind_of_markup bs else Text
+kind_at (b ∷ bs) = if b == less_than then kind_of_markup bs else Text
 
 -- some token of the kind stands at the front
 abbrev pub Stands : Kind → List ℕ → Type 0

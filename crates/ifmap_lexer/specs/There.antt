@@ -9,7 +9,8 @@ use Rattle.ifmap_elem.specs.declared.tokens.Qualified.{Qualified}
 use Rattle.ifmap_elem.specs.declared.tokens.Tag.{Tag}
 use Rattle.ifmap_elem.specs.declared.tokens.Token.{Token}
 use Rattle.ifmap_elem.specs.declared.tokens.Token.TheVariants.{End}
-use Rattle.ifmap_lexer.specs.Cutting.{Stops, is_but}
+use Rattle.ifmap_lemmas.specs.Cuts.{Stops}
+use Rattle.ifmap_lexer.specs.Cutting.{is_but}
 use Rattle.ifmap_lexer.specs.Names.{is_name_byte}
 use Rattle.ifmap_lexer.specs.Runs.{part_in}
 use Rattle.ifmap_lexer.specs.Settings.{SetsTo}
@@ -79,15 +80,15 @@ abbrev pub IsAlone : List ℕ → Token → List ℕ → Type 0
 IsAlone bytes token left = (t : Token) (rest : List ℕ) → TakesToken bytes t rest → (t ≡ token) × (rest ≡ left)
 
 -- the name with these parts, and what is after it
-abbrev pub qualified : List ℕ → List ℕ → Qualified
-qualified prefix local = record { prefix = prefix; local = local }
+abbrev pub qualified_of : List ℕ → List ℕ → Qualified
+qualified_of prefix local = record { prefix = prefix; local = local }
 
 abbrev pub BeginsNamed : List ℕ → List ℕ → List ℕ → List ℕ → Type 0
-BeginsNamed prefix local bytes rest = IsQualified (qualified prefix local) × (bytes ≡ name_bytes (qualified prefix local) ++ rest)
+BeginsNamed prefix local bytes rest = IsQualified (qualified_of prefix local) × (bytes ≡ name_bytes (qualified_of prefix local) ++ rest)
 
 -- the end tag of the name with these parts
 abbrev pub end_of : List ℕ → List ℕ → Token
-end_of prefix local = End (qualified prefix local)
+end_of prefix local = End (qualified_of prefix local)
 
 -- the end tag stands at the front, as the only token there, and this is left
 abbrev pub TakesEndTag : List ℕ → List ℕ → List ℕ → List ℕ → Type 0

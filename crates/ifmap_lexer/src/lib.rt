@@ -17,3 +17,4 @@ mod values;
 
 pub use errors::LexError;
 pub use lexing::{Lexed, end_tag_length, token_of};
+pub use names::{is_name_character, is_name_start};

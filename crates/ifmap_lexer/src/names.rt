@@ -4,7 +4,7 @@ ghost use Rattle.std.specs.List.{list_all, prefix_len};
 ghost use Rattle.ifmap_elem.specs.declared.tokens.Qualified.{Qualified};
 ghost use Rattle.ifmap_elem.specs.Names.{IsNamePart, IsQualified, is_name_start, is_name_character, name_bytes};
 ghost use Rattle.ifmap_lexer.specs.There.{BeginsNamed, NameAt, SomeName, Written};
-ghost use Rattle.ifmap_lexer.specs.Cutting.{Cuts, Stops};
+ghost use Rattle.ifmap_lexer.specs.Cutting.{Cuts};
 ghost use Rattle.std.specs.Bool.{OnTrue};
 ghost use Rattle.ifmap_lexer.specs.Names.{is_name_byte, stands_in_ascii, starts_in_ascii};
 ghost use Rattle.ifmap_lexer.specs.Refusing.{Refuses};
@@ -152,7 +152,7 @@ fn are_ascii_inner(bytes: &[u8]) -> bool
 fn is_ascii_first(byte: u8) -> bool
     ensures { result ≡ starts_in_ascii byte }
 {
-    byte < 128 && is_first(byte as char)
+    byte < 128 && is_name_start(byte as char)
 }
 
 #[inline(always)]
@@ -176,13 +176,13 @@ fn is_any_name_part(text: &str) -> bool
 {
     let mut characters = text.chars();
     match characters.next() {
-        Some(first) => is_first(first) && characters.all(|c| is_inner(c)),
+        Some(first) => is_name_start(first) && characters.all(|c| is_name_character(c)),
         None => false,
     }
 }
 
-// Whether a name part may begin with the character.
-fn is_first(character: char) -> bool
+/// Whether a name part may begin with the character.
+pub fn is_name_start(character: char) -> bool
     ensures { result ≡ is_name_start character }
 {
     matches!(
@@ -205,9 +205,10 @@ fn is_first(character: char) -> bool
     )
 }
 
-// Whether the character may stand in a name part. Most are small letters.
+/// Whether the character may stand in a name part.
+// Most are small letters.
 #[inline(always)]
-fn is_inner(character: char) -> bool
+pub fn is_name_character(character: char) -> bool
     ensures { result ≡ is_name_character character }
 {
     matches!(character as u32, 0x61..=0x7A) || is_any_inner(character)
@@ -217,7 +218,7 @@ fn is_inner(character: char) -> bool
 fn is_any_inner(character: char) -> bool
     ensures { result ≡ is_name_character character }
 {
-    is_first(character)
+    is_name_start(character)
         || matches!(
             character as u32,
             0x2D | 0x2E | 0x30..=0x39 | 0xB7 | 0x300..=0x36F | 0x203F..=0x2040

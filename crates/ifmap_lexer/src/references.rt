@@ -1,13 +1,13 @@
 //! References to characters.
 ghost use Rattle.std.specs.Prelude.{◌≡◌, ◌≤◌};
-ghost use Rattle.ifmap_elem.specs.Values.{numbered, referred};
+ghost use Rattle.ifmap_elem.specs.Values.{code_point, reference_value};
 ghost use Rattle.ifmap_lexer.specs.Numbers.{by_number, code_of};
 
 use crate::characters::is_allowed;
 
 // The character that a reference stands for, by what is between its `&` and its `;`.
 pub(crate) fn character_named(name: &[u8]) -> Option<char>
-    ensures { result ≡ referred name.now }
+    ensures { result ≡ reference_value name.now }
 {
     if name == b"amp".as_slice() {
         Some('&')
@@ -40,7 +40,7 @@ fn character_numbered(name: &[u8]) -> Option<char>
 fn character_with_number(base: u32, digits: &[u8]) -> Option<char>
     requires least { 2 ≤ base }
     requires most { base ≤ 36 }
-    ensures { result ≡ numbered base digits.now }
+    ensures { result ≡ code_point base digits.now }
 {
     let character = char::from_u32(number_of(base, digits)?)?;
     if is_allowed(character) {

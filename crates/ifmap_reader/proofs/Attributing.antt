@@ -9,7 +9,7 @@ use Rattle.ifmap_elem.specs.laws.OneReading.{one_attribute}
 use Rattle.ifmap_reader.proofs.Lasts.{last_first}
 use Rattle.ifmap_reader.specs.declared.errors.Refusal.{Refusal}
 use Rattle.ifmap_reader.specs.declared.errors.Refusal.TheVariants.{NotAllowed, TooDeep, NoMemory}
-use Rattle.ifmap_reader.specs.AllowedTags.{IsGiven, ArePlain, plain, told}
+use Rattle.ifmap_reader.specs.AllowedTags.{IsGiven, ArePlain, plain, told_binding}
 
 -- what the attributes so far and those of the assignments that are left are for all of them
 pub record Attributing (scope : Scope) (all : List Assignment) (made : List Attribute) (left : List Assignment) : Type 0 where
@@ -58,12 +58,14 @@ attributing_first scope assignments old turned made is rev none =
     (sym (ap reverse rev ∙ reverse-reverse old ∙ is)) (at_first scope (plain assignments)))
 
 -- whether the code finds a binding
-pub told_some : (o : Option (Bor (List ℕ))) (space : List ℕ) (b : Option Binding) (found : Bool) → b ≡ told o space → found ≡ is_some o
+pub told_some : (o : Option (Bor (List ℕ))) (space : List ℕ) (b : Option Binding) (found : Bool) → b ≡ told_binding o space
+    → found ≡ is_some o
     → found ≡ true → is_none b ≡ false
 told_some None space b found e f t = let k : false ≡ true = sym f ∙ t in cc
 told_some (Some p) space b found e f t = ap is_none e
 
-pub told_none : (o : Option (Bor (List ℕ))) (space : List ℕ) (b : Option Binding) (found : Bool) → b ≡ told o space → found ≡ is_some o
+pub told_none : (o : Option (Bor (List ℕ))) (space : List ℕ) (b : Option Binding) (found : Bool) → b ≡ told_binding o space
+    → found ≡ is_some o
     → found ≡ false → is_none b ≡ true
 told_none None space b found e f t = ap is_none e
 told_none (Some p) space b found e f t = let k : true ≡ false = sym f ∙ t in cc

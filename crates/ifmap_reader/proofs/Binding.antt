@@ -1,4 +1,8 @@
 -- The bindings that assignments make, one assignment at a time.
+-- Plan: (1) the table of prefixes and the rows of what is declared, with one more; (2) what is said of all bindings is said of the
+-- last and of one in the middle; (3) the bindings so far and those of the assignments that are left are all of them
+-- (`Binding-so-far`), at first and at the end; (4) one more, at an index of the code's list; (5) whether it may be made, by
+-- tests in turn.
 use Rattle.std.proofs.Common.{◌≡◌, ◌≢◌, ℕ, ◌+◌, ◌<◌, Bool, true, false, not, cond, drop, length, get_or, drop-cons, add-one, List, [], ◌∷◌, ◌++◌, map, refl, ap, sym, ◌∙◌, subst, append_assoc, inl, inr}
 use Rattle.std.specs.Prelude.{Some, None, Ok, Err, Option, ◌↔◌, IsTrue, codes}
 use Rattle.std.specs.List.{AllByRecursion, filter_map}

@@ -14,7 +14,7 @@ use Rattle.std.proofs.lemmas.List.Elements.{recursion_from_All, All-from_get_or}
 use Rattle.std.proofs.lemmas.Str.{encode_ascii, encode_same, encodes-append, inside_one}
 use Rattle.ifmap_lemmas.specs.Items.{To}
 use Rattle.ifmap_elem.specs.Chars.{AllAre, IsCharacters, is_character}
-use Rattle.ifmap_elem.specs.Values.{Part, Plain, Reference, TakesPart, EndsRun, Expands, IsText, IsValue, as_space, begins_with, line_ends, numbered, referred, text_part, value_part}
+use Rattle.ifmap_elem.specs.Values.{Part, Plain, Reference, TakesPart, EndsRun, Expands, IsText, IsValue, as_space, begins_with, line_ends, code_point, reference_value, text_part, value_part}
 use Rattle.ifmap_lemmas.specs.Cuts.{Stops, cut}
 use Rattle.ifmap_lemmas.specs.Members.{all_append}
 use Rattle.ifmap_lemmas.specs.Numbers.{is_number, is_other}
@@ -167,7 +167,7 @@ tested : (b : Bool) (v c : ℕ) → (b ≡ true → is_character v ≡ true) →
 tested true v c f e = let same : v ≡ c = cc in subst (λ (n : ℕ). is_character n ≡ true) same (f refl)
 tested false v c f e = cc
 
-numbered_fits : (base : ℕ) (digits : List ℕ) (c : ℕ) → numbered base digits ≡ Some c → is_character c ≡ true
+numbered_fits : (base : ℕ) (digits : List ℕ) (c : ℕ) → code_point base digits ≡ Some c → is_character c ≡ true
 numbered_fits base digits c e =
     tested (not (length digits == 0) && list_all (λ d. is_digit d base) digits && is_character (digits_value base digits))
     (digits_value base digits) c
@@ -184,7 +184,7 @@ named x c h e = let same : x ≡ c = cc in subst (λ (n : ℕ). is_character n �
 none_named : (c : ℕ) → ◌≡◌ {A = Option ℕ} None (Some c) → is_character c ≡ true
 none_named c e = cc
 
-pub referred_fits : (name : List ℕ) (c : ℕ) → referred name ≡ Some c → is_character c ≡ true
+pub referred_fits : (name : List ℕ) (c : ℕ) → reference_value name ≡ Some c → is_character c ≡ true
 referred_fits name c =
     chosen (bytes_eq name (codes "amp")) _ _ c (named 0x26 c refl)
     (chosen (bytes_eq name (codes "lt")) _ _ c (named 0x3C c refl)

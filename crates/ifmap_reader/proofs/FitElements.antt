@@ -8,7 +8,7 @@ use Rattle.std.specs.Str.{bytes_eq}
 use Rattle.std.proofs.lemmas.Bool.{and_from, cases_Bool}
 use Rattle.ifmap_elem.specs.Chars.{IsCharacters, IsWhite, is_character, is_white}
 use Rattle.ifmap_elem.specs.Document as piece
-use Rattle.ifmap_elem.specs.Document.{Pieces, Nothing, tokens_of, Item, Inner, Run, child_of, declared_below, declared_here, from_above, heading, is_inner, is_child, joined, children_among, put_before, IsElement, AreItems}
+use Rattle.ifmap_elem.specs.Document.{Pieces, Nothing, tokens_of, Item, Inner, Run, child_of, declared_below, declared_here, from_above, heading, is_inner, is_child, join_runs, children_among, put_before, IsElement, AreItems}
 use Rattle.ifmap_elem.specs.laws.Roots.{BeginsWithRoot, root_begins}
 use Rattle.ifmap_elem.specs.Fit.{IsNamespace, IsFitAttribute, HasCharacters, IsNotBlank, AreApart, is_element, AreFitChildren, IsFitAlone, IsFit}
 use Rattle.ifmap_elem.specs.Names.{IsNamePart}
@@ -177,10 +177,10 @@ put_fits text [] i f = (i, tt)
 put_fits text (Inner e d ∷ items) i f = (i, f)
 put_fits text (Run more ∷ items) i f = (characters_both text more i f.0, f.1)
 
-joined_fits : (items : List Item) → AllByRecursion IsFitItem items → AllByRecursion IsFitItem (joined items)
+joined_fits : (items : List Item) → AllByRecursion IsFitItem items → AllByRecursion IsFitItem (join_runs items)
 joined_fits [] f = tt
 joined_fits (Inner e d ∷ items) f = (f.0, joined_fits items f.1)
-joined_fits (Run t ∷ items) f = put_fits t (joined items) f.0 (joined_fits items f.1)
+joined_fits (Run t ∷ items) f = put_fits t (join_runs items) f.0 (joined_fits items f.1)
 
 put_apart : (text : List ℕ) (items : List Item) → AreApart (map item_child items) → AreApart (map item_child (put_before text items))
 put_apart text [] a = tt
@@ -189,20 +189,20 @@ put_apart text (Run more ∷ []) a = tt
 put_apart text (Run more ∷ (Inner e d ∷ items)) a = a
 put_apart text (Run more ∷ (Run another ∷ items)) a = absurd a
 
-joined_apart : (items : List Item) → AreApart (map item_child (joined items))
+joined_apart : (items : List Item) → AreApart (map item_child (join_runs items))
 joined_apart [] = tt
 joined_apart (Inner e d ∷ items) = joined_apart items
-joined_apart (Run t ∷ items) = put_apart t (joined items) (joined_apart items)
+joined_apart (Run t ∷ items) = put_apart t (join_runs items) (joined_apart items)
 
 put_inner : (text : List ℕ) (items : List Item) → list_any is_inner (put_before text items) ≡ list_any is_inner items
 put_inner text [] = refl
 put_inner text (Inner e d ∷ items) = refl
 put_inner text (Run more ∷ items) = refl
 
-joined_inner : (items : List Item) → list_any is_inner (joined items) ≡ list_any is_inner items
+joined_inner : (items : List Item) → list_any is_inner (join_runs items) ≡ list_any is_inner items
 joined_inner [] = refl
 joined_inner (Inner e d ∷ items) = refl
-joined_inner (Run t ∷ items) = put_inner t (joined items) ∙ joined_inner items
+joined_inner (Run t ∷ items) = put_inner t (join_runs items) ∙ joined_inner items
 
 -- of these some are children_among
 
@@ -259,12 +259,13 @@ left_not_blank (Run t ∷ items) = elim (cases_Bool (list_all is_white t)) [
 
 children_fit : (items : List Item) → AllByRecursion IsFitItem items → AreFitChildren (map item_child (children_among items))
 children_fit items f = record {
-  texts = left_texts (list_any is_inner items) (joined items) (joined_fits items f);
-  apart = left_apart (list_any is_inner items) (joined items) (joined_apart items);
+  texts = left_texts (list_any is_inner items) (join_runs items) (joined_fits items f);
+  apart = left_apart (list_any is_inner items) (join_runs items) (joined_apart items);
   beside = λ any.
-      let inner : list_any is_inner items ≡ true = sym (left_inner (list_any is_inner items) (joined items) ∙ joined_inner items) ∙ any in
-      subst (λ (b : Bool). AllByRecursion IsNotBlank (map item_child (filter (is_child b) (joined items)))) (sym inner)
-      (left_not_blank (joined items));
+      let inner : list_any is_inner items ≡ true =
+      sym (left_inner (list_any is_inner items) (join_runs items) ∙ joined_inner items) ∙ any in
+      subst (λ (b : Bool). AllByRecursion IsNotBlank (map item_child (filter (is_child b) (join_runs items)))) (sym inner)
+      (left_not_blank (join_runs items));
 }
 
 inner_fit : (items : List Item) → AllByRecursion IsFitItem items
@@ -295,7 +296,7 @@ declared_fit : (outer : Scope) (tag : Tag) (items : List Item) (e : Element) (de
     → AllByRecursion IsFitItem items → IsElement outer tag items e declared → AreFitDeclared declared
 declared_fit outer tag items e declared t i is =
     let here = here_fit (bindings tag) (bindings_fit tag.assignments t.assignments is.named.binds) in
-    let among = left_fits (list_any is_inner items) (joined items) (joined_fits items i) in
+    let among = left_fits (list_any is_inner items) (join_runs items) (joined_fits items i) in
     let below = below_fit 0 (children_among items) among in
     subst AreFitDeclared (sym is.declared_are)
     (both_all IsFitDeclared (declared_here (bindings tag)) (declared_below 0 (children_among items)) here below)
@@ -309,7 +310,7 @@ element_fits outer tag items e declared f t i is =
     let within = within_fits outer tag f t is.named.binds in
     let children : AreFitChildren (map out-Child (map child_of (children_among items))) = subst AreFitChildren
     (sym (opened (children_among items))) (children_fit items i) in
-    let inner = inner_fit (children_among items) (left_fits (list_any is_inner items) (joined items) (joined_fits items i)) in
+    let inner = inner_fit (children_among items) (left_fits (list_any is_inner items) (join_runs items) (joined_fits items i)) in
     fit_whole e
     (record {
       name = record {

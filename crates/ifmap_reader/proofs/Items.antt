@@ -9,7 +9,7 @@ use Rattle.ifmap_elem.specs.declared.elements.Element.{Element}
 use Rattle.ifmap_elem.specs.declared.readings.Declared.{Declared}
 use Rattle.ifmap_elem.specs.declared.tokens.Tag.{Tag}
 use Rattle.ifmap_elem.specs.Scopes.{Scope, bindings, NamesElement}
-use Rattle.ifmap_elem.specs.Document.{Item, Inner, Run, is_inner, put_before, joined, is_child, children_among, child_of, declared_here, declared_below, from_above, IsElement}
+use Rattle.ifmap_elem.specs.Document.{Item, Inner, Run, is_inner, put_before, join_runs, is_child, children_among, child_of, declared_here, declared_below, from_above, IsElement}
 use Rattle.ifmap_lemmas.specs.Numbers.{is_other}
 use Rattle.ifmap_elem.specs.laws.OneReading.{one_name}
 use Rattle.ifmap_reader.specs.declared.open_elements.OpenElement.{OpenElement}
@@ -32,7 +32,7 @@ put_nothing false (Inner e d ∷ xs) = refl
 -- text
 kept_words : (f : OpenElement) (text : List ℕ) (items : List Item)
     → children_to_come f (Run text ∷ items) ≡ children_to_come (with_characters f text) items
-kept_words f text items = ap (filter (is_child (has_children f || list_any is_inner items))) (put_twice f.text text (joined items))
+kept_words f text items = ap (filter (is_child (has_children f || list_any is_inner items))) (put_twice f.text text (join_runs items))
 
 module _ (f : OpenElement) (e : Element) (declared : List Declared) where
   closes_by : (g : OpenElement) (is js : List Item) → f.name ≡ g.name → f.attributes ≡ g.attributes → f.bindings ≡ g.bindings
@@ -101,21 +101,22 @@ module _ (fc : List Child) (fb : List Declared) (text : List ℕ) (e : Element) 
 
 module _ (f : OpenElement) (inner : Element) (below : List Declared) (items : List Item) where
   kept_before : children_to_come f (Inner inner below ∷ items) ≡ cond (is_child_text true f.text)
-      (Run f.text ∷ (Inner inner below ∷ filter (is_child true) (joined items))) (Inner inner below ∷ filter (is_child true) (joined items))
-  kept_before = ap (λ (b : Bool). filter (is_child b) (Run f.text ∷ (Inner inner below ∷ joined items)))
+      (Run f.text ∷ (Inner inner below ∷ filter (is_child true) (join_runs items)))
+      (Inner inner below ∷ filter (is_child true) (join_runs items))
+  kept_before = ap (λ (b : Bool). filter (is_child b) (Run f.text ∷ (Inner inner below ∷ join_runs items)))
       (beside_all (has_children f) (list_any is_inner items))
 
-  kept_after : children_to_come (with_inner f inner below) items ≡ filter (is_child true) (joined items)
+  kept_after : children_to_come (with_inner f inner below) items ≡ filter (is_child true) (join_runs items)
   kept_after =
-      ap (λ (b : Bool). filter (is_child (b || list_any is_inner items)) (put_before [] (joined items)))
+      ap (λ (b : Bool). filter (is_child (b || list_any is_inner items)) (put_before [] (join_runs items)))
       (some_last f.children (text_child true f.text) (the.Element inner))
-      ∙ put_nothing true (joined items)
+      ∙ put_nothing true (join_runs items)
 
   children_same : f.children ++ map child_of (children_to_come f
       (Inner inner below ∷ items)) ≡ (with_inner f inner below).children ++ map child_of (children_to_come (with_inner f inner below) items)
   children_same =
       ap (λ k. f.children ++ map child_of k) kept_before ∙ inner_children f.children f.below f.text inner below
-      (filter (is_child true) (joined items)) (is_child_text true f.text)
+      (filter (is_child true) (join_runs items)) (is_child_text true f.text)
       ∙ ap (λ k. (with_inner f inner below).children ++ map child_of k) (sym kept_after)
 
   below_same : f.below ++ declared_below (length f.children) (children_to_come f (Inner inner below ∷ items))
@@ -123,7 +124,7 @@ module _ (f : OpenElement) (inner : Element) (below : List Declared) (items : Li
       (children_to_come (with_inner f inner below) items)
   below_same =
       ap (λ k. f.below ++ declared_below (length f.children) k) kept_before
-      ∙ inner_below f.children f.below f.text inner below (filter (is_child true) (joined items)) (is_child_text true f.text)
+      ∙ inner_below f.children f.below f.text inner below (filter (is_child true) (join_runs items)) (is_child_text true f.text)
       ∙ ap (λ k. (with_inner f inner below).below ++ declared_below (length (with_inner f inner below).children) k) (sym kept_after)
 
   pub inner_closes : (e : Element) (declared : List Declared) → Closes f (Inner inner below ∷ items) e declared
@@ -139,10 +140,10 @@ module _ (f : OpenElement) (inner : Element) (below : List Declared) (items : Li
 
 -- an element that has just opened
 kept_new : (cs : List Child) (text : List ℕ) (items : List Item) → cs ≡ [] → text ≡ []
-    → filter (is_child (not (length cs == 0) || list_any is_inner items)) (put_before text (joined items)) ≡ children_among items
+    → filter (is_child (not (length cs == 0) || list_any is_inner items)) (put_before text (join_runs items)) ≡ children_among items
 kept_new cs text items no_children no_text =
-    (λ i. filter (is_child (not (length (no_children i) == 0) || list_any is_inner items)) (put_before (no_text i) (joined items)))
-    ∙ put_nothing (list_any is_inner items) (joined items)
+    (λ i. filter (is_child (not (length (no_children i) == 0) || list_any is_inner items)) (put_before (no_text i) (join_runs items)))
+    ∙ put_nothing (list_any is_inner items) (join_runs items)
 
 module _ (outer : Scope) (tag : Tag) (f : OpenElement) (o : OpensElement outer tag f) (items : List Item) (e : Element)
     (declared : List Declared) where

@@ -309,8 +309,8 @@ end_read bytes depth s place result at within end made = subst (λ (a : Result R
         ended_early bytes depth (Within (reverse open_elements)) (drop place bytes) a none_left (no_tokens (reverse open_elements)) place
         (here (Within (reverse open_elements)) a)
     by (standing.Done r) a = (
-      whole bytes depth (AfterRoot r) (drop place bytes) a none_left r (after_root_ends r),
+      whole bytes depth (AfterRoot r.value) (drop place bytes) a none_left r.value (after_root_ends r.value),
       a.fits,
       λ deep d. none_deep bytes depth
-          (AfterRoot r) (drop place bytes) a none_left place deep (here (AfterRoot r) a) d,
+          (AfterRoot r.value) (drop place bytes) a none_left place deep (here (AfterRoot r.value) a) d,
     )

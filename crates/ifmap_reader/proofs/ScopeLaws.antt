@@ -15,24 +15,24 @@ use Rattle.std.proofs.lemmas.Map.Keys.{sorted_head, sorted_tail}
 use Rattle.ifmap_elem.specs.declared.readings.Declared.{Declared}
 use Rattle.ifmap_elem.specs.Scopes.{Scope, Binding, AllDiffer}
 use Rattle.ifmap_lemmas.specs.Texts.{eq_tells, eq_itself}
-use Rattle.ifmap_elem.specs.InScope.{declared_at, is_listed, listed}
+use Rattle.ifmap_elem.specs.InScope.{declared_at, is_listed, listed_space}
 use Rattle.ifmap_elem.specs.InScope.{binding_told}
 
 -- a binding further in, of a listed prefix and of another
 listed_inner : (scope : Scope) (b : Binding) (q : List ℕ) → is_listed b.prefix ≡ true
-    → listed (b ∷ scope) q ≡ cond (bytes_eq b.prefix q) (Some b.space) (listed scope q)
+    → listed_space (b ∷ scope) q ≡ cond (bytes_eq b.prefix q) (Some b.space) (listed_space scope q)
 listed_inner scope b q is = elim (cases_Bool (bytes_eq b.prefix q)) [
   | inl e ↦ let same : is_listed q ≡ true = subst (λ p. is_listed p ≡ true) (eq_tells b.prefix q e) is in rw (same, e) refl
   | inr e ↦ rw e refl
 ]
 
-listed_outer : (scope : Scope) (b : Binding) (q : List ℕ) → is_listed b.prefix ≡ false → listed (b ∷ scope) q ≡ listed scope q
+listed_outer : (scope : Scope) (b : Binding) (q : List ℕ) → is_listed b.prefix ≡ false → listed_space (b ∷ scope) q ≡ listed_space scope q
 listed_outer scope b q is = elim (cases_Bool (bytes_eq b.prefix q)) [
   | inl e ↦ let same : is_listed q ≡ false = subst (λ p. is_listed p ≡ false) (eq_tells b.prefix q e) is in rw same refl
   | inr e ↦ rw e refl
 ]
 
-pub none_listed : (q : List ℕ) → None ≡ listed [] q
+pub none_listed : (q : List ℕ) → None ≡ listed_space [] q
 none_listed q = elim (cases_Bool (is_listed q)) [ inl e ↦ rw e refl | inr e ↦ rw e refl ]
 
 module _ (path : List ℕ) where
@@ -48,34 +48,34 @@ module _ (path : List ℕ) where
   ]
 
   module _ (ds : List Declared) (i : ℕ) (d : Declared) (l : i < length ds) (is : d ≡ get_or ds i d) (old : List ℕ → Option (List ℕ))
-      (at : (q : List ℕ) → old q ≡ listed (declared_at path (take i ds)) q) where
+      (at : (q : List ℕ) → old q ≡ listed_space (declared_at path (take i ds)) q) where
     more_is : declared_at path (take (i + 1) ds) ≡ cond (stands d) (binding_told d ∷ declared_at path (take i ds))
         (declared_at path (take i ds))
     more_is = ap (declared_at path) (take_more ds i d l ∙ ap (λ (x : Declared). take i ds ++ x ∷ []) (sym is)) ∙ last_is (take i ds) d
 
     pub row_passed : (row : Bool) → row ≡ (stands d && is_listed d.prefix) → row ≡ false → (q : List ℕ)
-        → old q ≡ listed (declared_at path (take (i + 1) ds)) q
+        → old q ≡ listed_space (declared_at path (take (i + 1) ds)) q
     row_passed row tells fails q = at q ∙ elim (cases_Bool (stands d)) [
       | inl e ↦
           let other : is_listed d.prefix ≡ false = let k : (true && is_listed d.prefix) ≡ false = ap (λ b. b && is_listed d.prefix)
           (sym e) ∙ sym tells ∙ fails in k in
           sym (listed_outer (declared_at path (take i ds)) (binding_told d) q other)
-          ∙ ap (λ s. listed s q) (sym (more_is ∙ ap (λ b. cond b (binding_told d ∷ declared_at path (take i ds))
+          ∙ ap (λ s. listed_space s q) (sym (more_is ∙ ap (λ b. cond b (binding_told d ∷ declared_at path (take i ds))
           (declared_at path (take i ds))) e))
-      | inr e ↦ ap (λ s. listed s q) (sym (more_is ∙ ap (λ b. cond b (binding_told d ∷ declared_at path (take i ds))
+      | inr e ↦ ap (λ s. listed_space s q) (sym (more_is ∙ ap (λ b. cond b (binding_told d ∷ declared_at path (take i ds))
           (declared_at path (take i ds))) e))
     ]
 
     pub row_taken : (row : Bool) → row ≡ (stands d && is_listed d.prefix) → row ≡ true
         → (new : List ℕ → Option (List ℕ)) (key space : List ℕ) → key ≡ d.prefix → space ≡ d.space
         → ((q : List ℕ) → new q ≡ cond (is_eq (slice_cmp nat_cmp key q)) (Some space) (old q)) → (q : List ℕ)
-        → new q ≡ listed (declared_at path (take (i + 1) ds)) q
+        → new q ≡ listed_space (declared_at path (take (i + 1) ds)) q
     row_taken row tells holds new key space k s now q =
         let both = and_parts (stands d) (is_listed d.prefix) (sym tells ∙ holds) in
         now q ∙ (λ i. cond (is_eq (slice_cmp nat_cmp (k i) q)) (Some (s i)) (at q i))
-        ∙ ap (λ b. cond b (Some d.space) (listed (declared_at path (take i ds)) q)) (sym (texts_ties d.prefix q))
+        ∙ ap (λ b. cond b (Some d.space) (listed_space (declared_at path (take i ds)) q)) (sym (texts_ties d.prefix q))
         ∙ sym (listed_inner (declared_at path (take i ds)) (binding_told d) q both.1)
-        ∙ ap (λ scope. listed scope q) (sym (more_is ∙ ap (λ b. cond b (binding_told d ∷ declared_at path (take i ds))
+        ∙ ap (λ scope. listed_space scope q) (sym (more_is ∙ ap (λ b. cond b (binding_told d ∷ declared_at path (take i ds))
         (declared_at path (take i ds))) both.0))
 
 -- a table as the list of its rows

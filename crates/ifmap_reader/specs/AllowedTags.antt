@@ -13,9 +13,9 @@ use Rattle.ifmap_reader.specs.declared.open_elements.OpenElement.{OpenElement}
 use Rattle.ifmap_reader.specs.OpenElements.{Reaches, scope_of, written_name}
 
 -- the binding of a prefix, if there is one, to a namespace
-abbrev pub told : Option (Bor (List ℕ)) → List ℕ → Option Binding
-told None space = None
-told (Some prefix) space = Some (record { prefix = prefix.now; space = space })
+abbrev pub told_binding : Option (Bor (List ℕ)) → List ℕ → Option Binding
+told_binding None space = None
+told_binding (Some prefix) space = Some (record { prefix = prefix.now; space = space })
 
 -- the answer to one binding more: these bindings and that one, where it may be made and its prefix has none
 abbrev pub Binds : List Binding → Option Binding → Result (List Binding) Refusal → Type 0

@@ -1,7 +1,7 @@
 -- Elements that are open, by what they are once they end.
 use Rattle.std.specs.Prelude.{◌≡◌, ◌⊎◌, ℕ, ◌+◌, ◌-◌, ◌≤◌, Bool, true, not, ◌==◌, ◌||◌, if◌then◌else◌, List, [], ◌∷◌, ◌++◌, drop, length, map, filter}
 use Rattle.std.specs.List.{list_any}
-use Rattle.ifmap_elem.specs.Document.{Item, Run, is_inner, put_before, joined, is_child, child_of, declared_here, declared_below, from_above}
+use Rattle.ifmap_elem.specs.Document.{Item, Run, is_inner, put_before, join_runs, is_child, child_of, declared_here, declared_below, from_above}
 use Rattle.ifmap_elem.specs.Scopes.{Binding, Scope, root_scope}
 use Rattle.ifmap_elem.specs.declared.elements.Child.{Child}
 use Rattle.ifmap_elem.specs.declared.elements.Child as the
@@ -48,7 +48,7 @@ text_child beside text = if is_child_text beside text then the.Text text ∷ [] 
 
 -- of its text and what is still to come, the items that are children
 abbrev pub children_to_come : OpenElement → List Item → List Item
-children_to_come f items = filter (is_child (has_children f || list_any is_inner items)) (put_before f.text (joined items))
+children_to_come f items = filter (is_child (has_children f || list_any is_inner items)) (put_before f.text (join_runs items))
 
 -- the element, and the declarations in it, that it is once these items have come
 pub record Closes (f : OpenElement) (items : List Item) (e : Element) (declared : List Declared) : Type 0 where
@@ -66,3 +66,10 @@ with_inner f e declared = record f {
   text = [];
   below = f.below ++ map (from_above (length (f.children ++ text_child true f.text))) declared;
 }
+
+-- the last member is changed so
+pub record ChangesLast {X : Type 0} (change : X → X) (old : List X) (new : List X) : Type 0 where
+  pub before : List X
+  pub last : X
+  pub old_is : old ≡ before ++ last ∷ []
+  pub new_is : new ≡ before ++ change last ∷ []

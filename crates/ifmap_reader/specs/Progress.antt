@@ -28,7 +28,7 @@ pub data Where : Type 0 where
 abbrev pub where_is : Standing → Where
 where_is standing.Start = AtStart
 where_is (standing.Open open_elements) = Within (reverse open_elements)
-where_is (standing.Done r) = AfterRoot r
+where_is (standing.Done r) = AfterRoot r.value
 
 -- the tokens are the rest of an open element's pieces, its end tag, and what Then says of the element that ended
 pub record Ends (scope : Scope) (f : OpenElement) (ts : List Token) (Then : Element → List Declared → List Token → Type 0) : Type 0 where

@@ -50,7 +50,7 @@ refusal_error refusals.NoMemory at = NoMemory
 abbrev pub read_at_end : Standing → ℕ → Result Reading ReadError
 read_at_end Start at = Err (Unreadable at)
 read_at_end (Open open_elements) at = Err (Unreadable at)
-read_at_end (Done r) at = Ok r
+read_at_end (Done r) at = Ok r.value
 
 -- at most one number passes
 abbrev pub AtMostOne : (ℕ → Type 0) → Type 0

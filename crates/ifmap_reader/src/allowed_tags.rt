@@ -4,15 +4,16 @@ ghost use Rattle.ifmap_elem.specs.Scopes.{bound, root_scope};
 ghost use Rattle.ifmap_reader.specs.OpenElements.{AreLinked, Reaches};
 ghost use Rattle.ifmap_reader.specs.AllowedTags.{ArePlain, IsGiven, TagAnswer, plain, scope_inside};
 
-use crate::bindings::{Bindings, XML, XML_SPACE, bindings_of, bound_prefix};
+use crate::bindings::{Bindings, XML, bindings_of, bound_prefix};
 use crate::differing::have_other_names;
 use crate::errors::Refusal;
 use crate::open_elements::OpenElement;
 use ifmap_elem::tokens::{Assignment, Tag};
-use ifmap_elem::{Attribute, Copied, Many, Name, Text};
+use ifmap_elem::{Attribute, Copied, Many, Name, Text, XML_SPACE};
 use std::alloc::{AllocError as NoMemory, Global};
 
 // The element that a tag opens within the open elements, the innermost last.
+#[inline(always)]
 pub(crate) fn open_element(
     alloc: Global,
     open_elements: &[OpenElement],
@@ -48,6 +49,7 @@ pub(crate) fn open_element(
 
 // How many open elements stand up to the innermost that binds a prefix, where one with these bindings
 // is opened within those.
+#[inline(always)]
 fn innermost_declaring(bindings: &Bindings, open_elements: &[OpenElement]) -> usize
     requires { AreLinked (reverse open_elements.now) }
     ensures { Reaches bindings.now result (reverse open_elements.now) }
@@ -105,6 +107,7 @@ fn root_space_of(alloc: Global, prefix: &Text) -> Result<Option<Text>, NoMemory>
 }
 
 // The attributes that the assignments of a tag give.
+#[inline(always)]
 fn attributes_of(
     alloc: Global,
     bindings: &Bindings,

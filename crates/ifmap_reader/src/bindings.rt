@@ -4,16 +4,14 @@ ghost use Rattle.std.specs.Bool.{OnTrue};
 ghost use Rattle.std.specs.Option.{option_copied};
 ghost use Rattle.ifmap_elem.specs.Scopes.{Binding, IsBinding, binding_of, bound};
 ghost use Rattle.ifmap_elem.specs.Document.{declared_here};
-ghost use Rattle.ifmap_reader.specs.AllowedTags.{Binds, IsBound, told};
+ghost use Rattle.ifmap_reader.specs.AllowedTags.{Binds, IsBound, told_binding};
 
 use crate::errors::Refusal;
 use ifmap_elem::tokens::Assignment;
-use ifmap_elem::{Copied, Declared, Many, Text};
+use ifmap_elem::{Copied, Declared, Many, Text, XML_SPACE};
 use std::alloc::{AllocError as NoMemory, Global};
 use std::collections::BTreeMap;
 use std::marker::Model;
-
-pub(crate) const XML_SPACE: &str = "http://www.w3.org/XML/1998/namespace";
 
 const XMLNS: &str = "xmlns";
 
@@ -62,10 +60,14 @@ impl Bindings {
         self.rows.is_empty()
     }
 
-    // What the tag binds a prefix to.
+    // What the tag binds a prefix to. Most tags bind none.
+    #[inline(always)]
     pub(crate) fn space_of(&self, prefix: &Text) -> Option<&Text>
         ensures { option_copied result ≡ bound self.now prefix.now }
     {
+        if self.is_empty() {
+            return None;
+        }
         self.spaces.get(prefix)
     }
 
@@ -119,7 +121,7 @@ impl Bindings {
 // The prefix that an assignment binds, which is empty for the default; none where the assignment
 // gives an attribute.
 pub(crate) fn bound_prefix(assignment: &Assignment) -> Option<&str>
-    ensures { binding_of assignment.now ≡ told result assignment.now.value }
+    ensures { binding_of assignment.now ≡ told_binding result assignment.now.value }
 {
     let name = &assignment.name;
     if name.prefix.0.as_bytes() == XMLNS.as_bytes() {
@@ -159,6 +161,7 @@ fn is_word(text: &str, word: &str) -> bool
 }
 
 // The bindings that the assignments of a tag make.
+#[inline(always)]
 pub(crate) fn bindings_of(alloc: Global, assignments: &[Assignment]) -> Result<Bindings, Refusal>
     ensures { IsBound assignments.now result }
 {

@@ -10,6 +10,7 @@ use std::collections::BTreeSet;
 // So many attributes are compared each to each, which takes no memory.
 const FEW: usize = 8;
 
+#[inline(always)]
 pub(crate) fn have_other_names(alloc: Global, attributes: &[Attribute]) -> Result<bool, NoMemory>
     ensures { IfOk result (λ differ. IsTrue differ ↔ AllDiffer (map (λ t. t.name) attributes.now)) }
 {

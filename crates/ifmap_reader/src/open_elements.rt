@@ -1,5 +1,5 @@
 //! The elements that are open.
-ghost use Rattle.std.specs.Prelude.{◌≡◌, ◌↔◌, ◌∷◌, [], ◌++◌, map, IfOk, IsTrue};
+ghost use Rattle.std.specs.Prelude.{◌≡◌, ◌↔◌, ◌∷◌, [], ◌++◌, map, length, IfOk, IsTrue, OnOk};
 ghost use Rattle.std.specs.List.{list_all};
 ghost use Rattle.ifmap_elem.specs.Chars.{is_white};
 ghost use Rattle.ifmap_elem.specs.Document.{from_above};
@@ -9,6 +9,7 @@ use crate::bindings::Bindings;
 use ifmap_elem::tokens::Qualified;
 use ifmap_elem::{Attribute, Child, Declared, Element, Equals, Many, Name, Text};
 use std::alloc::{AllocError as NoMemory, Global};
+use std::mem;
 
 // An element that is open.
 #[derive(Drop)]
@@ -37,51 +38,31 @@ impl OpenElement {
         self.prefix.equals(&name.prefix) && self.name.local.equals(&name.local)
     }
 
-    // With more text after its children.
-    pub(crate) fn with_characters(self, words: Text) -> Result<OpenElement, NoMemory>
-        ensures { IfOk result (λ made. made ≡ with_characters self words) }
+    // Puts more text after its children.
+    pub(crate) fn add_characters(&mut self, words: Text) -> Result<(), NoMemory>
+        ensures { OnOk result (self.new ≡ with_characters self.old words) }
     {
-        let mut element = self;
-        element.text = join(element.text, words)?;
-        Ok(element)
+        join(&mut self.text, words)
     }
 
-    // With an element as one more child, and the declarations in it.
-    pub(crate) fn with_inner(
-        self,
+    // Puts an element after its text as one more child, with the declarations in that.
+    #[inline(always)]
+    pub(crate) fn add_inner(
+        &mut self,
         alloc: Global,
         element: Element,
         declared: Many<Declared>,
-    ) -> Result<OpenElement, NoMemory>
-        ensures { IfOk result (λ made. made ≡ with_inner self element declared) }
+    ) -> Result<(), NoMemory>
+        ensures { OnOk result (self.new ≡ with_inner self.old element declared) }
     {
-        let OpenElement {
-            prefix,
-            name,
-            attributes,
-            bindings,
-            declaring,
-            children,
-            text,
-            below,
-        } = self;
-        let children = with_text(children, true, text)?;
-        let below = with_below(below, children.0.len(), declared)?;
-        let children = with_child(children, Child::Element(element))?;
-        let text = Text(String::new(alloc));
-        Ok(OpenElement {
-            prefix,
-            name,
-            attributes,
-            bindings,
-            declaring,
-            children,
-            text,
-            below,
-        })
+        let text = mem::replace(&mut self.text, Text::new(alloc));
+        add_text(&mut self.children, true, text)?;
+        add_below(&mut self.below, self.children.len(), declared)?;
+        add_child(&mut self.children, Child::Element(element))
     }
 
     // The element, at its end, and the declarations in it.
+    #[inline(always)]
     pub(crate) fn close(self) -> Result<(Element, Many<Declared>), NoMemory>
         ensures { IfOk result (λ closed. Closes self [] closed.0 closed.1) }
     {
@@ -95,8 +76,9 @@ impl OpenElement {
             text,
             below,
         } = self;
+        let mut children = children;
         let beside = !children.0.is_empty();
-        let children = with_text(children, beside, text)?;
+        add_text(&mut children, beside, text)?;
         let declared = append(bindings.into_declared(), below)?;
         let element = Element {
             name,
@@ -107,26 +89,25 @@ impl OpenElement {
     }
 }
 
-fn join(text: Text, more: Text) -> Result<Text, NoMemory>
-    ensures { IfOk result (λ made. made ≡ text ++ more) }
+fn join(text: &mut Text, more: Text) -> Result<(), NoMemory>
+    ensures { OnOk result (text.new ≡ text.old ++ more) }
 {
-    if text.0.as_bytes().is_empty() {
-        return Ok(more);
+    if text.is_empty() {
+        *text = more;
+        return Ok(());
     }
-    let Text(mut bytes) = text;
-    bytes.push_str(more.0.as_str())?;
-    Ok(Text(bytes))
+    text.push_str(more.as_str())
 }
 
-// With a text after them, where it is kept.
-fn with_text(children: Many<Child>, beside: bool, text: Text) -> Result<Many<Child>, NoMemory>
-    ensures { IfOk result (λ made. made ≡ children ++ text_child beside text) }
+// Puts a text after the children, where it is kept.
+#[inline(always)]
+fn add_text(children: &mut Many<Child>, beside: bool, text: Text) -> Result<(), NoMemory>
+    ensures { OnOk result (children.new ≡ children.old ++ text_child beside text) }
 {
-    if !is_kept_text(beside, text.0.as_bytes()) {
-        return Ok(children);
+    if !is_kept_text(beside, text.as_bytes()) {
+        return Ok(());
     }
-    let made = with_child(children, Child::Text(text))?;
-    Ok(made)
+    add_child(children, Child::Text(text))
 }
 
 // Whether a text is a child: beside an element it is none where it is white space alone.
@@ -149,17 +130,17 @@ fn is_blank(text: &[u8]) -> bool
 
 // Puts a child after the others. The first takes room for itself alone, since most elements hold
 // one text and nothing else.
-fn with_child(children: Many<Child>, child: Child) -> Result<Many<Child>, NoMemory>
-    ensures { IfOk result (λ made. made ≡ children ++ child ∷ []) }
+#[inline(always)]
+fn add_child(children: &mut Many<Child>, child: Child) -> Result<(), NoMemory>
+    ensures { OnOk result (children.new ≡ children.old ++ child ∷ []) }
 {
-    let Many(mut members) = children;
-    if members.is_empty() {
-        members.reserve_exact(1)?;
+    if children.is_empty() {
+        children.0.reserve_exact(1)?;
     }
-    members.push(child)?;
-    Ok(Many(members))
+    children.push(child)
 }
 
+#[inline(always)]
 fn append(declared: Many<Declared>, more: Many<Declared>) -> Result<Many<Declared>, NoMemory>
     ensures { IfOk result (λ made. made ≡ declared ++ more) }
 {
@@ -169,20 +150,33 @@ fn append(declared: Many<Declared>, more: Many<Declared>) -> Result<Many<Declare
     Ok(Many(members))
 }
 
-// With the declarations in the child at this index.
-fn with_below(
-    below: Many<Declared>,
+// Puts the declarations in the child at this index after the others.
+#[inline(always)]
+fn add_below(
+    below: &mut Many<Declared>,
     index: usize,
     declared: Many<Declared>,
-) -> Result<Many<Declared>, NoMemory>
-    ensures { IfOk result (λ made. made ≡ below ++ map (from_above index) declared) }
+) -> Result<(), NoMemory>
+    ensures { OnOk result (below.new ≡ below.old ++ map (from_above index) declared) }
 {
-    let Many(mut members) = below;
+    if declared.is_empty() {
+        return Ok(());
+    }
+    add_raised(below, index, declared)
+}
+
+fn add_raised(
+    below: &mut Many<Declared>,
+    index: usize,
+    declared: Many<Declared>,
+) -> Result<(), NoMemory>
+    ensures { OnOk result (below.new ≡ below.old ++ map (from_above index) declared) }
+{
     let Many(inner) = declared;
     for row in inner {
-        members.push(raise(index, row)?)?;
+        below.push(raise(index, row)?)?;
     }
-    Ok(Many(members))
+    Ok(())
 }
 
 // A declaration as the parent sees it. An index beyond 32 bits is more than memory holds.

@@ -44,7 +44,7 @@ fn read_at_end(standing: Standing, at: usize) -> Result<Reading, ReadError>
     ensures { result ≡ read_at_end standing at }
 {
     match standing {
-        Standing::Done(reading) => Ok(reading),
+        Standing::Done(reading) => Ok(Box::into_inner(reading)),
         _ => Err(ReadError::Unreadable { at: at as u64 }),
     }
 }

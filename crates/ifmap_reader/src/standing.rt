@@ -1,6 +1,6 @@
 //! Where a reader stands, and what one more token makes of it.
-ghost use Rattle.std.specs.Prelude.{◌≡◌, reverse, IfOk};
-ghost use Rattle.ifmap_reader.specs.OpenElements.{AreLinked};
+ghost use Rattle.std.specs.Prelude.{◌≡◌, ◌<◌, reverse, vec_len, IfOk, OnOk};
+ghost use Rattle.ifmap_reader.specs.OpenElements.{AreLinked, ChangesLast, with_characters, with_inner};
 ghost use Rattle.ifmap_reader.specs.Progress.{AfterRoot, EndAnswer, IsAfterElement, IsLinked, TextAnswer, TokenAnswer, Within, is_margin, where_is};
 ghost use Rattle.ifmap_elem.specs.declared.tokens.Token.{Token};
 
@@ -17,8 +17,8 @@ pub(crate) enum Standing {
     Start,
     // Within the elements that are open, the innermost last; before the root where none is.
     Open(Many<OpenElement>),
-    // After the root.
-    Done(Reading),
+    // After the root. What has been read lies elsewhere, so that a place is small to hand on.
+    Done(Box<Reading>),
 }
 
 // Where the reader stands after one more token.
@@ -41,8 +41,8 @@ pub(crate) fn take_token(
     }
 }
 
-fn take_after_root(depth: u32, reading: Reading, token: Token) -> Result<Standing, Refusal>
-    ensures { TokenAnswer depth (AfterRoot reading) token result }
+fn take_after_root(depth: u32, reading: Box<Reading>, token: Token) -> Result<Standing, Refusal>
+    ensures { TokenAnswer depth (AfterRoot reading.value) token result }
 {
     if !is_margin(&token) {
         return Err(Refusal::NotAllowed);
@@ -84,17 +84,29 @@ fn take_inside(
 fn take_text(open_elements: Many<OpenElement>, blank: bool, text: Text) -> Result<Standing, Refusal>
     ensures { TextAnswer open_elements blank text result }
 {
-    let Many(mut open_elements) = open_elements;
-    let Some(innermost) = open_elements.pop() else {
+    if open_elements.is_empty() {
         if blank {
-            return Ok(Standing::Open(Many(open_elements)));
+            return Ok(Standing::Open(open_elements));
         }
         return Err(Refusal::NotAllowed);
-    };
-    open_elements.push(innermost.with_characters(text)?)?;
+    }
+    let Many(mut open_elements) = open_elements;
+    add_words(&mut open_elements, text)?;
     Ok(Standing::Open(Many(open_elements)))
 }
 
+// Puts more text after the children of the innermost.
+fn add_words(open_elements: &mut Vec<OpenElement>, text: Text) -> Result<(), NoMemory>
+    requires { 0 < vec_len open_elements.old }
+    ensures { OnOk result (ChangesLast (λ f. with_characters f text)
+        open_elements.old.items open_elements.new.items) }
+{
+    let last = open_elements.len() - 1;
+    open_elements[last].add_characters(text)?;
+    Ok(())
+}
+
+#[inline(always)]
 fn take_start(
     alloc: Global,
     depth: u32,
@@ -113,6 +125,7 @@ fn take_start(
     Ok(Standing::Open(Many(open_elements)))
 }
 
+#[inline(always)]
 fn take_empty(
     alloc: Global,
     depth: u32,
@@ -150,6 +163,7 @@ fn take_end(
 }
 
 // After an element that ended: it is a child of the innermost that is still open, or the root.
+#[inline(always)]
 pub(crate) fn with_element(
     alloc: Global,
     open_elements: Vec<OpenElement>,
@@ -159,10 +173,27 @@ pub(crate) fn with_element(
     ensures { IfOk result (λ new. IsAfterElement open_elements.items element declared new) }
 {
     let mut open_elements = open_elements;
-    let Some(parent) = open_elements.pop() else {
+    if open_elements.is_empty() {
         let root = element;
-        return Ok(Standing::Done(Reading { root, declared }));
-    };
-    open_elements.push(parent.with_inner(alloc, element, declared)?)?;
+        return Ok(Standing::Done(Box::new(alloc, Reading { root, declared })?));
+    }
+    add_element(alloc, &mut open_elements, element, declared)?;
     Ok(Standing::Open(Many(open_elements)))
+}
+
+// Puts an element after the children of the innermost.
+#[inline(always)]
+fn add_element(
+    alloc: Global,
+    open_elements: &mut Vec<OpenElement>,
+    element: Element,
+    declared: Many<Declared>,
+) -> Result<(), NoMemory>
+    requires { 0 < vec_len open_elements.old }
+    ensures { OnOk result (ChangesLast (λ f. with_inner f element declared)
+        open_elements.old.items open_elements.new.items) }
+{
+    let last = open_elements.len() - 1;
+    open_elements[last].add_inner(alloc, element, declared)?;
+    Ok(())
 }

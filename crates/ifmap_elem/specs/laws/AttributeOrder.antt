@@ -153,12 +153,12 @@ then_some Equal p = refl
 then_some Greater p = refl
 
 -- how two attributes compare, as `<=` asks
-abbrev compared : Attribute → Attribute → Option Ordering
-compared a b =
+abbrev compare_attributes : Attribute → Attribute → Option Ordering
+compare_attributes a b =
     partial_ordering_then (partial_ordering_then (Some (slice_cmp nat_cmp a.name.space b.name.space))
     (Some (slice_cmp nat_cmp a.name.local b.name.local))) (Some (slice_cmp nat_cmp a.value b.value))
 
-compared_is : (a b : Attribute) → compared a b ≡ Some (attribute_order a b)
+compared_is : (a b : Attribute) → compare_attributes a b ≡ Some (attribute_order a b)
 compared_is a b =
     ap (λ o. partial_ordering_then o (Some (slice_cmp nat_cmp a.value b.value)))
     (then_some (slice_cmp nat_cmp a.name.space b.name.space) (slice_cmp nat_cmp a.name.local b.name.local))
@@ -174,14 +174,14 @@ unmoved xs up =
     (attributes_total.antisymm (get_or xs k d) (get_or xs (suc k) d)) (up k d l)))
 
 -- where `<=` compares two by what both are
-pub already_sorted : (xs : List Attribute) (r : Bool) → IsEachAdjacentAnswer (λ x y b. partial_le compared x y ≡ b) xs r
+pub already_sorted : (xs : List Attribute) (r : Bool) → IsEachAdjacentAnswer (λ x y b. partial_le compare_attributes x y ≡ b) xs r
     → OnTrue r (sort_attributes xs ≡ xs)
 already_sorted xs true up =
     unmoved xs (λ k d l.
     let a = get_or xs k d in
-    let h : partial_le compared a (get_or xs (k + 1) d) ≡ true = (up k d (omega (arith, l))).1 in
-    let g : partial_le compared a (get_or xs (suc k) d) ≡ true =
-    subst (λ (n : ℕ). partial_le compared a (get_or xs n d) ≡ true) (add-one k) h in
+    let h : partial_le compare_attributes a (get_or xs (k + 1) d) ≡ true = (up k d (omega (arith, l))).1 in
+    let g : partial_le compare_attributes a (get_or xs (suc k) d) ≡ true =
+    subst (λ (n : ℕ). partial_le compare_attributes a (get_or xs n d) ≡ true) (add-one k) h in
     ap (λ o. is_some_and is_le o) (sym (compared_is a (get_or xs (suc k) d))) ∙ g)
 already_sorted xs false up = tt
 
@@ -193,12 +193,12 @@ sorted_already xs true up =
     (up k d (omega (arith, l))).1)
 sorted_already xs false up = tt
 
-abbrev referred : List (Bor Attribute) → List Attribute
-referred rs = map (λ (r : Bor Attribute). r.now) rs
+abbrev referred_values : List (Bor Attribute) → List Attribute
+referred_values rs = map (λ (r : Bor Attribute). r.now) rs
 
 rising_references : (ss : List (Bor Attribute)) → IsSorted (λ (x y : Bor Attribute). attribute_order x.now y.now) ss
-    → (k : ℕ) (d : Attribute) → suc k < length (referred ss) → is_lt
-    (attribute_order (get_or (referred ss) (suc k) d) (get_or (referred ss) k d)) ≡ false
+    → (k : ℕ) (d : Attribute) → suc k < length (referred_values ss) → is_lt
+    (attribute_order (get_or (referred_values ss) (suc k) d) (get_or (referred_values ss) k d)) ≡ false
 rising_references [] up k d l = absurd (omega (arith, l))
 rising_references (s ∷ ss) up k d l =
     let now : Bor Attribute → Attribute = λ (r : Bor Attribute). r.now in
@@ -206,16 +206,17 @@ rising_references (s ∷ ss) up k d l =
     let step : is_lt (attribute_order (now (get_or (s ∷ ss) (suc k) s)) (now (get_or (s ∷ ss) k s))) ≡ false = subst
     (λ (n : ℕ). is_lt (attribute_order (now (get_or (s ∷ ss) n s)) (now (get_or (s ∷ ss) k s))) ≡ false) (add-one k)
     (up k s (omega arith) (omega arith)) in
-    let here : get_or (referred (s ∷ ss)) k d ≡ now (get_or (s ∷ ss) k s) = get_or-map now (s ∷ ss) k s d (omega arith) in
-    let next : get_or (referred (s ∷ ss)) (suc k) d ≡ now (get_or (s ∷ ss) (suc k) s) = get_or-map now (s ∷ ss) (suc k) s d long in
-    ap (λ a. is_lt (attribute_order a (get_or (referred (s ∷ ss)) k d))) next
+    let here : get_or (referred_values (s ∷ ss)) k d ≡ now (get_or (s ∷ ss) k s) = get_or-map now (s ∷ ss) k s d (omega arith) in
+    let next : get_or (referred_values (s ∷ ss)) (suc k) d ≡ now (get_or (s ∷ ss) (suc k) s) = get_or-map now (s ∷ ss) (suc k) s d long in
+    ap (λ a. is_lt (attribute_order a (get_or (referred_values (s ∷ ss)) k d))) next
     ∙ ap (λ a. is_lt (attribute_order (now (get_or (s ∷ ss) (suc k) s)) a)) here ∙ step
 
 -- references that were put in order refer to the attributes in order
 pub sorted_references : (rs ss : List (Bor Attribute)) → IsPermutation rs ss
-    → IsSorted (λ (x y : Bor Attribute). attribute_order x.now y.now) ss → referred ss ≡ sort_attributes (referred rs)
+    → IsSorted (λ (x y : Bor Attribute). attribute_order x.now y.now) ss → referred_values ss ≡ sort_attributes (referred_values rs)
 sorted_references rs ss p up =
-    rising_is_sorted (referred rs) (referred ss) (IsPermutation-map (λ (r : Bor Attribute). r.now) rs ss p) (rising_references ss up)
+    rising_is_sorted (referred_values rs) (referred_values ss) (IsPermutation-map (λ (r : Bor Attribute). r.now) rs ss p)
+    (rising_references ss up)
 
 pub sorted_permutation : (xs : List Attribute) → IsPermutation xs (sort_attributes xs)
 sorted_permutation xs = IsPermutation-in_order attribute_order attribute_ranks xs

@@ -27,37 +27,37 @@ out_text t = ap out-Child (sym (rolls-Text t)) ∙ out-roll-Child (Child-F.Text 
 
 -- elements in elements
 
-abbrev paired : Element → Element × List Element
-paired = fold-Element (Child × List Element) (Element × List Element) child_with_elements element_with_elements
+abbrev pair_of_element : Element → Element × List Element
+pair_of_element = fold-Element (Child × List Element) (Element × List Element) child_with_elements element_with_elements
 
-abbrev paired_child : Child → Child × List Element
-paired_child = fold-Child (Child × List Element) (Element × List Element) child_with_elements element_with_elements
+abbrev pair_of_child : Child → Child × List Element
+pair_of_child = fold-Child (Child × List Element) (Element × List Element) child_with_elements element_with_elements
 
 abbrev pub elements_of_child : Child → List Element
-elements_of_child c = (paired_child c).1
+elements_of_child c = (pair_of_child c).1
 
-firsts : (cs : List Child) → Each (λ c. (paired_child c).0 ≡ c) cs → map (λ (p : Child × List Element). p.0) (map paired_child cs) ≡ cs
+firsts : (cs : List Child) → Each (λ c. (pair_of_child c).0 ≡ c) cs → map (λ (p : Child × List Element). p.0) (map pair_of_child cs) ≡ cs
 firsts [] each = refl
 firsts (c ∷ cs) each = (λ i. each.0 i ∷ firsts cs each.1 i)
 
-first_in : (e : Element) → (paired e).0 ≡ e → (paired_child (the.Element e)).0 ≡ the.Element e
+first_in : (e : Element) → (pair_of_element e).0 ≡ e → (pair_of_child (the.Element e)).0 ≡ the.Element e
 first_in e q = ap (λ (p : Child × List Element). p.0) (at_child_element (Child × List Element)
     (Element × List Element) child_with_elements element_with_elements e) ∙ ap (λ (x : Element). the.Element x) q
 
-first_text : (t : List ℕ) → (paired_child (the.Text t)).0 ≡ the.Text t
+first_text : (t : List ℕ) → (pair_of_child (the.Text t)).0 ≡ the.Text t
 first_text t = ap (λ (p : Child × List Element). p.0) (at_child_text (Child × List Element)
     (Element × List Element) child_with_elements element_with_elements t)
 
-first_of_children : (e : Element) → Each (λ c. (paired_child c).0 ≡ c) e.children → (paired e).0 ≡ e
+first_of_children : (e : Element) → Each (λ c. (pair_of_child c).0 ≡ c) e.children → (pair_of_element e).0 ≡ e
 first_of_children e each =
     ap (λ (p : Element × List Element). p.0) (at_element (Child × List Element)
     (Element × List Element) child_with_elements element_with_elements e)
     ∙ (λ i. record { name = e.name; attributes = e.attributes; children = firsts e.children each i })
 
-first_child : (c : Child) → (paired_child c).0 ≡ c
-first_child = each_child (λ c. (paired_child c).0 ≡ c) (λ e. (paired e).0 ≡ e) first_in first_text first_of_children
+first_child : (c : Child) → (pair_of_child c).0 ≡ c
+first_child = each_child (λ c. (pair_of_child c).0 ≡ c) (λ e. (pair_of_element e).0 ≡ e) first_in first_text first_of_children
 
-all_firsts : (cs : List Child) → map (λ (p : Child × List Element). p.0) (map paired_child cs) ≡ cs
+all_firsts : (cs : List Child) → map (λ (p : Child × List Element). p.0) (map pair_of_child cs) ≡ cs
 all_firsts [] = refl
 all_firsts (c ∷ cs) = (λ i. first_child c i ∷ all_firsts cs i)
 
@@ -66,7 +66,7 @@ elements_is e =
     ap (λ (p : Element × List Element). p.1) (at_element (Child × List Element)
     (Element × List Element) child_with_elements element_with_elements e)
     ∙ (λ i. record { name = e.name; attributes = e.attributes; children = all_firsts e.children i } ∷ flat_map-map
-    (λ (p : Child × List Element). p.1) paired_child e.children i)
+    (λ (p : Child × List Element). p.1) pair_of_child e.children i)
 
 pub elements_in : (e : Element) → elements_of_child (the.Element e) ≡ elements_of e
 elements_in e = ap (λ (p : Child × List Element). p.1) (at_child_element (Child × List Element)

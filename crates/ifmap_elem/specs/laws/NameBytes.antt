@@ -2,13 +2,13 @@
 use Rattle.std.proofs.Common.{◌≡◌, ◌≢◌, ℕ, ◌<◌, Bool, true, false, ◌||◌, List, [], ◌∷◌, ◌++◌, length, get_or, refl, ap, sym, ◌∙◌, subst, arith, length-append, inl, inr}
 use Rattle.std.specs.Prelude.{nat_le, ◌==◌, encode_utf8, encode_utf8_all}
 use Rattle.std.proofs.lemmas.Bool.Decides.{nat_tests}
-use Rattle.std.proofs.lemmas.Bool.{cases_lt}
+use Rattle.std.proofs.lemmas.Bool.{cases_lt, or_right}
 use Rattle.std.proofs.lemmas.List.{append-nil}
 use Rattle.std.proofs.lemmas.List.Elements.{recursion_from_All, All-from_get_or}
 use Rattle.std.proofs.lemmas.Str.{inside_one, length-encode, len_utf8_bounds}
 use Rattle.ifmap_elem.specs.Chars.{AllAre, IsWhite, is_white}
 use Rattle.ifmap_elem.specs.declared.tokens.Qualified.{Qualified}
-use Rattle.ifmap_elem.specs.Names.{is_name_start, is_name_character, IsNamePart, IsQualified, name_bytes, prefixed}
+use Rattle.ifmap_elem.specs.Names.{is_name_start, is_name_character, IsNamePart, IsQualified, name_bytes, with_prefix}
 use Rattle.ifmap_lemmas.specs.Cuts.{Stops, cut, front_stops}
 use Rattle.ifmap_lemmas.specs.Members.{all_append, all_weaker}
 use Rattle.ifmap_lemmas.specs.Numbers.{is_other}
@@ -21,14 +21,10 @@ is_part_byte b = nat_le 128 b || is_name_character b
 abbrev pub is_name_byte : ℕ → Bool
 is_name_byte b = b == 58 || is_part_byte b
 
-part_of_start : (a b : Bool) → b ≡ true → (a || b) ≡ true
-part_of_start true b h = refl
-part_of_start false b h = h
-
 one_byte : (c : ℕ) → is_name_character c ≡ true → (b : ℕ) → (b < 128 → c ≡ b) → is_part_byte b ≡ true
 one_byte c h b low =
     elim (cases_lt b 128) [
-      | inl l ↦ part_of_start (nat_le 128 b) (is_name_character b) (subst (λ (n : ℕ). is_name_character n ≡ true) (low l) h)
+      | inl l ↦ or_right (nat_le 128 b) (is_name_character b) (subst (λ (n : ℕ). is_name_character n ≡ true) (low l) h)
       | inr g ↦ let test : nat_le 128 b ≡ true = grind (arith, nat_tests) in rw test refl
     ]
 
@@ -67,9 +63,10 @@ part_is_some bytes p none = no_part_of_none p.first p.others (p.bytes_are ∙ no
 
 -- the bytes of a qualified name
 any_of_part : (b : ℕ) → is_part_byte b ≡ true → is_name_byte b ≡ true
-any_of_part b h = part_of_start (b == 58) (is_part_byte b) h
+any_of_part b h = or_right (b == 58) (is_part_byte b) h
 
-colon_bytes : (prefix local : List ℕ) → AllAre is_name_byte prefix → AllAre is_name_byte local → AllAre is_name_byte (prefixed prefix local)
+colon_bytes : (prefix local : List ℕ) → AllAre is_name_byte prefix → AllAre is_name_byte local
+    → AllAre is_name_byte (with_prefix prefix local)
 colon_bytes [] local f g = g
 colon_bytes (b ∷ bs) local f g = all_append is_name_byte (b ∷ bs) (58 ∷ local) f (refl, g)
 
@@ -81,7 +78,7 @@ name_are_bytes q is =
     colon_bytes q.prefix q.local (all_weaker is_part_byte is_name_byte any_of_part q.prefix (prefix_bytes q is))
     (all_weaker is_part_byte is_name_byte any_of_part q.local (part_bytes q.local is.local_is))
 
-some_prefixed : (prefix local : List ℕ) → local ≢ [] → prefixed prefix local ≢ []
+some_prefixed : (prefix local : List ℕ) → local ≢ [] → with_prefix prefix local ≢ []
 some_prefixed [] local some e = some e
 some_prefixed (b ∷ bs) local some e = cc
 
@@ -90,7 +87,7 @@ name_is_some q is = some_prefixed q.prefix q.local (part_is_some q.local is.loca
 
 -- the parts are those round the first colon
 same_parts : (p l q m : List ℕ) → AllAre is_part_byte p → AllAre is_part_byte l → AllAre is_part_byte q → AllAre is_part_byte m
-    → prefixed p l ≡ prefixed q m → (p ≡ q) × (l ≡ m)
+    → with_prefix p l ≡ with_prefix q m → (p ≡ q) × (l ≡ m)
 same_parts [] l [] m fp fl fq fm e = (refl, e)
 same_parts [] l (c ∷ cs) m fp fl fq fm e =
     let both = cut is_part_byte l (c ∷ cs) [] (58 ∷ m) fl fq tt refl (append-nil l ∙ e) in

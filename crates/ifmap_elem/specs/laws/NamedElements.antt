@@ -17,7 +17,7 @@ use Rattle.ifmap_elem.specs.declared.readings.Reading.{Reading}
 use Rattle.ifmap_elem.specs.declared.tokens.Tag.{Tag}
 use Rattle.ifmap_elem.specs.declared.tokens.Token.{Token}
 use Rattle.ifmap_elem.specs.Document as piece
-use Rattle.ifmap_elem.specs.Document.{Pieces, Nothing, chained, Item, Inner, Run, is_inner, put_before, joined, is_child, children_among, child_of, IsElement, AreItems, IsMargin}
+use Rattle.ifmap_elem.specs.Document.{Pieces, Nothing, chain_pieces, Item, Inner, Run, is_inner, put_before, join_runs, is_child, children_among, child_of, IsElement, AreItems, IsMargin}
 use Rattle.ifmap_elem.specs.InScope.{IsElementPiece, IsChildAt, LeadsTo, NamesElementAt, ResolvedIn, NamedHaveScopes, ScopesAreNamed}
 use Rattle.ifmap_elem.specs.Scopes.{Scope, root_scope, scope_within, NamesElement}
 use Rattle.ifmap_elem.specs.Spells.{Spells}
@@ -78,10 +78,10 @@ runs_put text [] h = tt
 runs_put text (Inner e d ∷ items) h = absurd h
 runs_put text (Run more ∷ items) h = h
 
-runs_joined : (items : List Item) → AreRuns items → AreRuns (joined items)
+runs_joined : (items : List Item) → AreRuns items → AreRuns (join_runs items)
 runs_joined [] h = tt
 runs_joined (Inner e d ∷ items) h = absurd h
-runs_joined (Run text ∷ items) h = runs_put text (joined items) (runs_joined items h)
+runs_joined (Run text ∷ items) h = runs_put text (join_runs items) (runs_joined items h)
 
 runs_among : (p : Item → Bool) (items : List Item) → AreRuns items → AreRuns (filter p items)
 runs_among p [] h = tt
@@ -135,33 +135,33 @@ pub record IsPlace (runs items before : List Item) (e : Element) (d : List Decla
   pub first : List Item
   pub others : List Item
   pub items_are : items ≡ first ++ (Inner e d ∷ others)
-  pub before_is : before ≡ filter (is_child true) (joined (runs ++ first))
+  pub before_is : before ≡ filter (is_child true) (join_runs (runs ++ first))
 
 place_of : (runs : List Item) (items before : List Item) (e : Element) (d : List Declared) (after : List Item) → AreRuns runs
-    → filter (is_child true) (joined (runs ++ items)) ≡ before ++ (Inner e d ∷ after) → IsPlace runs items before e d
+    → filter (is_child true) (join_runs (runs ++ items)) ≡ before ++ (Inner e d ∷ after) → IsPlace runs items before e d
 place_of runs [] before e d after h is =
     absurd (no_inner before e d after
-    (subst AreRuns is (runs_among (is_child true) (joined (runs ++ []))
+    (subst AreRuns is (runs_among (is_child true) (join_runs (runs ++ []))
     (runs_joined (runs ++ []) (subst AreRuns (sym (append-nil runs)) h)))))
 place_of runs (Run text ∷ items) before e d after h is =
     let moved : (rest : List Item) → (runs ++ (Run text ∷ [])) ++ rest ≡ runs ++ (Run text ∷ rest) = λ rest. append_assoc runs
     (Run text ∷ []) rest in
     let p = place_of (runs ++ (Run text ∷ [])) items before e d after (runs_after runs text h)
-    (ap (λ (is : List Item). filter (is_child true) (joined is)) (moved items) ∙ is) in
+    (ap (λ (is : List Item). filter (is_child true) (join_runs is)) (moved items) ∙ is) in
     record {
       first = Run text ∷ p.first;
       others = p.others;
       items_are = ap (λ (is : List Item). Run text ∷ is) p.items_are;
-      before_is = p.before_is ∙ ap (λ (is : List Item). filter (is_child true) (joined is)) (moved p.first);
+      before_is = p.before_is ∙ ap (λ (is : List Item). filter (is_child true) (join_runs is)) (moved p.first);
     }
 place_of runs (Inner f c ∷ items) before e d after h is =
-    elim (is_later among f c (filter (is_child true) (joined items)) before e d after
-    (runs_among (is_child true) (joined runs) (runs_joined runs h)) (sym (parts items) ∙ is)) [
+    elim (is_later among f c (filter (is_child true) (join_runs items)) before e d after
+    (runs_among (is_child true) (join_runs runs) (runs_joined runs h)) (sym (parts items) ∙ is)) [
       | inl k ↦ record {
         first = [];
         others = items;
         items_are = (λ i. Inner (k.1 i) (k.2 i) ∷ items);
-        before_is = k.0 ∙ ap (λ (is : List Item). filter (is_child true) (joined is)) (sym (append-nil runs));
+        before_is = k.0 ∙ ap (λ (is : List Item). filter (is_child true) (join_runs is)) (sym (append-nil runs));
       }
       | inr k ↦
           let p = place_of [] items k.0 e d after tt k.2 in
@@ -174,12 +174,13 @@ place_of runs (Inner f c ∷ items) before e d after h is =
     ]
   where
     among : List Item
-    among = filter (is_child true) (joined runs)
+    among = filter (is_child true) (join_runs runs)
 
-    parts : (rest : List Item) → filter (is_child true) (joined (runs ++ (Inner f c ∷ rest))) ≡ filter (is_child true)
-        (joined runs) ++ (Inner f c ∷ filter (is_child true) (joined rest))
+    parts : (rest : List Item) → filter (is_child true) (join_runs (runs ++ (Inner f c ∷ rest))) ≡ filter (is_child true)
+        (join_runs runs) ++ (Inner f c ∷ filter (is_child true) (join_runs rest))
     parts rest =
-        ap (filter (is_child true)) (joined_both runs f c rest) ∙ filter-append (is_child true) (joined runs) (Inner f c ∷ joined rest)
+        ap (filter (is_child true)) (joined_both runs f c rest)
+        ∙ filter-append (is_child true) (join_runs runs) (Inner f c ∷ join_runs rest)
 
 -- from an item to its piece
 
@@ -190,7 +191,7 @@ pub record IsPiece (scope : Scope) (inside : Pieces) (first : List Item) (e : El
   pub tag : Tag
   pub within : Pieces
   pub inner : List Item
-  pub inside_is : inside ≡ chained before element
+  pub inside_is : inside ≡ chain_pieces before element
   pub is_piece : IsElementPiece element tag within after
   pub mean : AreItems scope before first
   pub inner_are : AreItems (scope_within scope tag) within inner
@@ -335,11 +336,11 @@ piece_of scope (piece.Start tag within after) items (item ∷ first) e d others 
 -- beside an element among the children white space is none
 among_both : (items before : List Item) (e : Element) (d : List Declared) (after : List Item)
     → children_among items ≡ before ++ (Inner e d ∷ after)
-    → filter (is_child true) (joined items) ≡ before ++ (Inner e d ∷ after)
+    → filter (is_child true) (join_runs items) ≡ before ++ (Inner e d ∷ after)
 among_both items before e d after is = elim (cases_Bool (list_any is_inner items)) [
-  | inl some ↦ ap (λ (b : Bool). filter (is_child b) (joined items)) (sym some) ∙ is
+  | inl some ↦ ap (λ (b : Bool). filter (is_child b) (join_runs items)) (sym some) ∙ is
   | inr none ↦ absurd (no_inner before e d after (subst AreRuns is
-      (runs_among (is_child (list_any is_inner items)) (joined items) (runs_joined items (are_runs items none)))))
+      (runs_among (is_child (list_any is_inner items)) (join_runs items) (runs_joined items (are_runs items none)))))
 ]
   where
     are_runs : (items : List Item) → list_any is_inner items ≡ false → AreRuns items
@@ -432,7 +433,7 @@ pub record HasRoot (pieces : Pieces) (r : Reading) : Type 0 where
   pub inside : Pieces
   pub after : Pieces
   pub items : List Item
-  pub pieces_are : pieces ≡ chained before element
+  pub pieces_are : pieces ≡ chain_pieces before element
   pub margin : IsMargin before
   pub is_piece : IsElementPiece element tag inside after
   pub inside_are : AreItems (scope_within root_scope tag) inside items
@@ -523,9 +524,10 @@ named_have_scopes bytes r s path e h =
 pub scopes_are_named : (bytes : List ℕ) (r : Reading) → Spells bytes r → ScopesAreNamed bytes r
 scopes_are_named bytes r s path scope h =
     let tokens = one_lexing _ s.tokens h.tokens s.lexed h.lexed in
-    let heads = one_heading s.document.declared h.declared s.document.pieces (chained h.before h.element)
+    let heads = one_heading s.document.declared h.declared s.document.pieces (chain_pieces h.before h.element)
     (sym s.document.tokens_are ∙ tokens ∙ h.tokens_are) in
-    let pieces = (one_content s.document.pieces (chained h.before h.element) [] [] tt tt (ap (λ (ts : List Token). ts ++ []) heads)).0 in
+    let pieces = (one_content s.document.pieces (chain_pieces h.before h.element) [] [] tt tt
+    (ap (λ (ts : List Token). ts ++ []) heads)).0 in
     let begins = after_margin h.before h.element r h.margin (subst (λ (q : Pieces). BeginsWithRoot q r) pieces
     (root_begins s.document.pieces r s.document.rooted)) in
     let root = root_there h.element h.tag h.inside h.after r h.is_element begins in

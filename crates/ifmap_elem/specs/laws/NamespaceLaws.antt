@@ -13,8 +13,7 @@ use Rattle.ifmap_lemmas.specs.Numerals.{numeral}
 use Rattle.std.specs.Ordering.{nat_cmp, is_eq}
 use Rattle.std.specs.Cmp.Lexicographic.{slice_cmp, texts_ties}
 use Rattle.std.proofs.lemmas.Cmp.{nat_list_eq_equiv}
-use Rattle.ifmap_elem.specs.Namespaces.{once_each, is_declared, declared_among, numbered_prefixes, name_prefixes}
-use Rattle.ifmap_elem.specs.printer.Pieces.{AddsSpaces}
+use Rattle.ifmap_elem.specs.Namespaces.{once_each, is_declared, declared_among, numbered_prefixes, name_prefixes, AddsSpaces}
 use Rattle.ifmap_elem.specs.Scopes.{xml_space}
 use Rattle.ifmap_lemmas.specs.Texts.{eq_tells, eq_itself}
 

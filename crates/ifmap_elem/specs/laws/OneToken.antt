@@ -12,7 +12,7 @@ use Rattle.ifmap_lemmas.specs.Items.{To, one_list}
 use Rattle.ifmap_elem.specs.Chars.{AllAre, IsWhite, is_white}
 use Rattle.ifmap_elem.specs.declared.tokens.Qualified.{Qualified}
 use Rattle.ifmap_elem.specs.Names.{IsQualified, name_bytes}
-use Rattle.ifmap_elem.specs.Values.{Part, Plain, Reference, TakesPart, EndsRun, Expands, referred, IsText, IsValue, text_part, value_part, line_ends}
+use Rattle.ifmap_elem.specs.Values.{Part, Plain, Reference, TakesPart, EndsRun, Expands, reference_value, IsText, IsValue, text_part, value_part, line_ends}
 use Rattle.ifmap_elem.specs.declared.tokens.Assignment.{Assignment}
 use Rattle.ifmap_elem.specs.declared.tokens.Tag.{Tag}
 use Rattle.ifmap_elem.specs.declared.tokens.Token.{Token}
@@ -48,7 +48,7 @@ one_part bytes (Reference c) (Reference d) r s l m =
     let e : 0x26 ∷ (l.0 ++ (0x3B ∷ r)) ≡ 0x26 ∷ (m.0 ++ (0x3B ∷ s)) = sym l.1 ∙ m.1 in
     let tail : l.0 ++ (0x3B ∷ r) ≡ m.0 ++ (0x3B ∷ s) = cc in
     let both = cut (λ b. not (b == 0x3B)) l.0 m.0 (0x3B ∷ r) (0x3B ∷ s) l.2 m.2 refl refl tail in
-    let found : Some c ≡ Some d = sym l.3 ∙ ap referred both.0 ∙ m.3 in
+    let found : Some c ≡ Some d = sym l.3 ∙ ap reference_value both.0 ∙ m.3 in
     let same : c ≡ d = cc in
     let behind : 0x3B ∷ r ≡ 0x3B ∷ s = both.1 in
     (ap Reference same, cc)

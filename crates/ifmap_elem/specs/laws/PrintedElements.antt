@@ -20,7 +20,7 @@ use Rattle.ifmap_elem.specs.Chars.{IsCharacters, is_white}
 use Rattle.ifmap_elem.specs.Scopes.{Scope, AllDiffer, IsBinding, root_scope, scope_within}
 use Rattle.ifmap_elem.specs.Tokens.{TakesToken, TakesTag, TakesText, EndsText}
 use Rattle.ifmap_elem.specs.Document as piece
-use Rattle.ifmap_elem.specs.Document.{Pieces, Nothing, tokens_of, Item, Inner, Run, is_inner, joined, put_before, is_child, children_among, child_of, declared_here, declared_below, from_above, IsElement, AreItems, IsRoot, chained}
+use Rattle.ifmap_elem.specs.Document.{Pieces, Nothing, tokens_of, Item, Inner, Run, is_inner, join_runs, put_before, is_child, children_among, child_of, declared_here, declared_below, from_above, IsElement, AreItems, IsRoot, chain_pieces}
 use Rattle.ifmap_elem.specs.laws.Roots.{chained_nothing}
 use Rattle.ifmap_elem.specs.Escapes.{text_bytes}
 use Rattle.ifmap_elem.specs.Fit.{IsFit, IsFitAlone, IsFitAttribute, AreFitChildren, HasCharacters, IsNotBlank, AreApart, is_element}
@@ -28,13 +28,13 @@ use Rattle.ifmap_elem.specs.Namespaces.{spaces_of, spaces_of_child, child_spaces
 use Rattle.ifmap_elem.specs.Canonical.{printed_name, declaration_bytes, attribute_bytes, after_attributes_bytes, element_of_parts, child_piece, element_piece, child_bytes, element_bytes}
 use Rattle.ifmap_lemmas.specs.Numbers.{is_other}
 use Rattle.ifmap_lemmas.specs.Members.{all_of_test, all_both}
-use Rattle.ifmap_elem.specs.laws.PrintedTags.{Rows, row_binding, tag_of, qualified, Resolves, FitsIn, FitRow, to_both, tag_taken, end_taken, text_taken, bindings_are, names_element}
+use Rattle.ifmap_elem.specs.laws.PrintedTags.{Rows, row_binding, tag_of, qualify_name, Resolves, FitsIn, FitRow, to_both, tag_taken, end_taken, text_taken, bindings_are, names_element}
 use Rattle.ifmap_elem.specs.laws.FitLaws.{out_element, out_text, elements_of_child, elements_in, fit_parts}
 use Rattle.ifmap_lemmas.specs.Lists.{concat_map}
 
 -- contents after one another
 
-tokens_chained : (c d : Pieces) → tokens_of (chained c d) ≡ tokens_of c ++ tokens_of d
+tokens_chained : (c d : Pieces) → tokens_of (chain_pieces c d) ≡ tokens_of c ++ tokens_of d
 tokens_chained Nothing d = refl
 tokens_chained (piece.Comment after) d = ap (λ l. Comment ∷ l) (tokens_chained after d)
 tokens_chained (piece.Characters blank text after) d = ap (λ l. Characters blank text ∷ l) (tokens_chained after d)
@@ -45,7 +45,7 @@ tokens_chained (piece.Start tag inside after) d =
     ∙ ap (λ l. Start tag ∷ l) (sym (append_assoc (tokens_of inside) (End tag.name ∷ tokens_of after) (tokens_of d)))
 
 means_chained : (scope : Scope) (c d : Pieces) (i j : List Item) → AreItems scope c i → AreItems scope d j
-    → AreItems scope (chained c d) (i ++ j)
+    → AreItems scope (chain_pieces c d) (i ++ j)
 means_chained scope Nothing d i j l m = subst (λ (x : List Item). AreItems scope d (x ++ j)) (sym l) m
 means_chained scope (piece.Comment after) d i j l m = means_chained scope after d i j l m
 means_chained scope (piece.Characters blank text after) d i j l m =
@@ -62,7 +62,7 @@ abbrev pub item_child : Item → Child-F Child Element
 item_child (Inner e declared) = Child-F.Element e
 item_child (Run text) = Child-F.Text text
 
-joined_apart : (items : List Item) → AreApart (map item_child items) → joined items ≡ items
+joined_apart : (items : List Item) → AreApart (map item_child items) → join_runs items ≡ items
 joined_apart [] a = refl
 joined_apart (Inner e d ∷ items) a = ap (λ l. Inner e d ∷ l) (joined_apart items a)
 joined_apart (Run t ∷ []) a = refl
@@ -136,7 +136,7 @@ module _ (prefixes : Rows) (scope : Scope) where
 
   abbrev contents_of : (cs : List Child) → Each (ChildTaken prefixes scope) cs → Pieces
   contents_of [] each = Nothing
-  contents_of (c ∷ cs) each = chained each.0.pieces (contents_of cs each.1)
+  contents_of (c ∷ cs) each = chain_pieces each.0.pieces (contents_of cs each.1)
 
   apart_tail : (x : Child-F Child Element) (xs : List (Child-F Child Element)) → AreApart (x ∷ xs) → AreApart xs
   apart_tail (Child-F.Element e) xs a = a
@@ -296,7 +296,7 @@ module _ (prefixes declared : Rows) (outer : Scope) (e : Element) (fit : IsFitAl
           (c ∷ cs) ++ (codes "</" ++ (printed_name prefixes e.name ++ (codes ">" ++ rest)))))),
       to_both TakesToken (flat_map (child_bytes prefixes) (c ∷ cs) ++ (codes "</" ++ (printed_name prefixes e.name ++ (codes
           ">" ++ rest)))) (tokens_of (contents_of prefixes within_it (c ∷ cs) each))
-          (codes "</" ++ (printed_name prefixes e.name ++ (codes ">" ++ rest))) (End (qualified prefixes e.name) ∷ []) rest
+          (codes "</" ++ (printed_name prefixes e.name ++ (codes ">" ++ rest))) (End (qualify_name prefixes e.name) ∷ []) rest
           (children_lexed prefixes within_it (c ∷ cs) each (codes "</" ++ (printed_name prefixes e.name ++ (codes ">" ++ rest))) refl apart)
           (rest, end_taken prefixes within_it e.name rest fit.name named, refl),
     );

@@ -2,7 +2,7 @@
 use Rattle.std.proofs.Common.{◌≡◌, ◌≢◌, ℕ, ◌<◌, ◌≤◌, Bool, true, false, not, cond, ◌||◌, List, [], ◌∷◌, ◌++◌, map, length, get_or, refl, ap, sym, ◌∙◌, subst, arith, inl, inr, append_assoc}
 use Rattle.std.specs.Prelude.{◌==◌, ◌&&◌, codes, encode_utf8, encode_utf8_all, Some, nat_le}
 use Rattle.std.specs.List.{flat_map, list_all, starts_with}
-use Rattle.std.proofs.lemmas.Bool.{cases_Bool, cases_lt, not-true, or_cases}
+use Rattle.std.proofs.lemmas.Bool.{and_right, cases_Bool, cases_lt, not-true, or_cases, or_parts}
 use Rattle.std.proofs.lemmas.Bool.Decides.{nat_tests}
 use Rattle.std.proofs.lemmas.List.{append-nil}
 use Rattle.std.proofs.lemmas.List.Concat.{flat_map-append}
@@ -12,7 +12,7 @@ use Rattle.ifmap_lemmas.specs.Items.{To}
 use Rattle.ifmap_elem.specs.Chars.{AllAre, IsCharacters, is_character}
 use Rattle.ifmap_elem.specs.Escapes.{text_byte, value_byte, text_bytes, value_bytes}
 use Rattle.ifmap_elem.specs.Tokens.{Lacks}
-use Rattle.ifmap_elem.specs.Values.{Part, Plain, Reference, TakesPart, EndsRun, Expands, referred, IsText, IsValue, text_part, value_part, line_ends, as_space}
+use Rattle.ifmap_elem.specs.Values.{Part, Plain, Reference, TakesPart, EndsRun, Expands, reference_value, IsText, IsValue, text_part, value_part, line_ends, as_space}
 use Rattle.ifmap_lemmas.specs.Members.{all_append, all_of_test}
 use Rattle.ifmap_lemmas.specs.Numbers.{is_number, is_other}
 use Rattle.ifmap_lemmas.specs.Texts.{is_ascii, ascii_encoded}
@@ -23,7 +23,7 @@ pub record Writes (marked : ℕ → Bool) (name_of : ℕ → List ℕ) (write : 
   pub reference : (b : ℕ) → marked b ≡ true → write b ≡ 0x26 ∷ (name_of b ++ (0x3B ∷ []))
   pub ampersand : marked 0x26 ≡ true
   pub names : (b : ℕ) → marked b ≡ true → AllAre (λ n. not (n == 0x3B)) (name_of b)
-  pub refers : (b : ℕ) → marked b ≡ true → referred (name_of b) ≡ Some b
+  pub refers : (b : ℕ) → marked b ≡ true → reference_value (name_of b) ≡ Some b
   pub ascii : (b : ℕ) → marked b ≡ true → b < 128
   pub ascii_written : (b : ℕ) → marked b ≡ true → encode_utf8_all (write b) ≡ write b
   pub characters_written : (b : ℕ) → marked b ≡ true → AllAre is_character (write b)
@@ -216,25 +216,20 @@ value_cases P amp lt quot tab lf cr b m = elim (or_cases (b == 38) (b == 60 || (
   ]
 ]
 
--- an `or` of tests that is false
-neither : (a b : Bool) → (a || b) ≡ false → (a ≡ false) × (b ≡ false)
-neither true b e = let wrong : true ≡ false = e in cc
-neither false b e = (refl, e)
-
 text_plain : (b : ℕ) → text_marked b ≡ false → text_byte b ≡ b ∷ []
 text_plain b m =
-    let p = neither (b == 38) (b == 60 || (b == 62 || b == 13)) m in
-    let q = neither (b == 60) (b == 62 || b == 13) p.1 in
-    let r = neither (b == 62) (b == 13) q.1 in
+    let p = or_parts (b == 38) (b == 60 || (b == 62 || b == 13)) m in
+    let q = or_parts (b == 60) (b == 62 || b == 13) p.1 in
+    let r = or_parts (b == 62) (b == 13) q.1 in
     rw (p.0, q.0, r.0, r.1) refl
 
 value_plain : (b : ℕ) → value_marked b ≡ false → value_byte b ≡ b ∷ []
 value_plain b m =
-    let p = neither (b == 38) (b == 60 || (b == 34 || (b == 9 || (b == 10 || b == 13)))) m in
-    let q = neither (b == 60) (b == 34 || (b == 9 || (b == 10 || b == 13))) p.1 in
-    let r = neither (b == 34) (b == 9 || (b == 10 || b == 13)) q.1 in
-    let s = neither (b == 9) (b == 10 || b == 13) r.1 in
-    let t = neither (b == 10) (b == 13) s.1 in
+    let p = or_parts (b == 38) (b == 60 || (b == 34 || (b == 9 || (b == 10 || b == 13)))) m in
+    let q = or_parts (b == 60) (b == 34 || (b == 9 || (b == 10 || b == 13))) p.1 in
+    let r = or_parts (b == 34) (b == 9 || (b == 10 || b == 13)) q.1 in
+    let s = or_parts (b == 9) (b == 10 || b == 13) r.1 in
+    let t = or_parts (b == 10) (b == 13) s.1 in
     rw (p.0, q.0, r.0, s.0, t.0, t.1) refl
 
 text_written : (p : ℕ → Bool) → list_all p (text_byte 38) ≡ true → list_all p (text_byte 60) ≡ true → list_all p (text_byte 62) ≡ true
@@ -255,7 +250,7 @@ text_writes = record {
   ampersand = refl;
   names = text_cases (λ b. AllAre (λ n. not (n == 0x3B)) (text_name b)) (refl, (refl, (refl, tt))) (refl, (refl, tt)) (refl, (refl, tt))
       (refl, (refl, (refl, tt)));
-  refers = text_cases (λ b. referred (text_name b) ≡ Some b) refl refl refl refl;
+  refers = text_cases (λ b. reference_value (text_name b) ≡ Some b) refl refl refl refl;
   ascii = text_cases (λ b. b < 128) (omega arith) (omega arith) (omega arith) (omega arith);
   ascii_written = λ b m. ascii_encoded (text_byte b) (text_written is_ascii refl refl refl refl b m);
   characters_written = λ b m. text_written is_character refl refl refl refl b m;
@@ -268,7 +263,7 @@ value_writes = record {
   ampersand = refl;
   names = λ b m. all_of_test (λ n. not (n == 0x3B)) (value_name b)
       (value_cases (λ b. list_all (λ n. not (n == 0x3B)) (value_name b) ≡ true) refl refl refl refl refl refl b m);
-  refers = value_cases (λ b. referred (value_name b) ≡ Some b) refl refl refl refl refl refl;
+  refers = value_cases (λ b. reference_value (value_name b) ≡ Some b) refl refl refl refl refl refl;
   ascii = value_cases (λ b. b < 128) (omega arith) (omega arith) (omega arith) (omega arith) (omega arith) (omega arith);
   ascii_written = λ b m. ascii_encoded (value_byte b) (value_written is_ascii refl refl refl refl refl refl b m);
   characters_written = λ b m. value_written is_character refl refl refl refl refl refl b m;
@@ -279,9 +274,9 @@ text_means text = expands text_marked text_name text_byte text_writes text_part 
   where
     next : (b : ℕ) (run : List ℕ) → text_marked b ≡ false → line_ends (b ∷ run) ≡ b ∷ line_ends run
     next b run m =
-        let p = neither (b == 38) (b == 60 || (b == 62 || b == 13)) m in
-        let q = neither (b == 60) (b == 62 || b == 13) p.1 in
-        let r = neither (b == 62) (b == 13) q.1 in
+        let p = or_parts (b == 38) (b == 60 || (b == 62 || b == 13)) m in
+        let q = or_parts (b == 60) (b == 62 || b == 13) p.1 in
+        let r = or_parts (b == 62) (b == 13) q.1 in
         rw r.1 refl
 
 pub value_means : (value : List ℕ) → IsValue (value_bytes value) value
@@ -290,11 +285,11 @@ value_means value = expands value_marked value_name value_byte value_writes valu
   where
     next : (b : ℕ) (run : List ℕ) → value_marked b ≡ false → map as_space (line_ends (b ∷ run)) ≡ b ∷ map as_space (line_ends run)
     next b run m =
-        let p = neither (b == 38) (b == 60 || (b == 34 || (b == 9 || (b == 10 || b == 13)))) m in
-        let q = neither (b == 60) (b == 34 || (b == 9 || (b == 10 || b == 13))) p.1 in
-        let r = neither (b == 34) (b == 9 || (b == 10 || b == 13)) q.1 in
-        let s = neither (b == 9) (b == 10 || b == 13) r.1 in
-        let t = neither (b == 10) (b == 13) s.1 in
+        let p = or_parts (b == 38) (b == 60 || (b == 34 || (b == 9 || (b == 10 || b == 13)))) m in
+        let q = or_parts (b == 60) (b == 34 || (b == 9 || (b == 10 || b == 13))) p.1 in
+        let r = or_parts (b == 34) (b == 9 || (b == 10 || b == 13)) q.1 in
+        let s = or_parts (b == 9) (b == 10 || b == 13) r.1 in
+        let t = or_parts (b == 10) (b == 13) s.1 in
         rw (t.1, s.0, t.0) refl
 
 pub text_characters : (text : List ℕ) → IsCharacters text → IsCharacters (text_bytes text)
@@ -320,17 +315,13 @@ value_no_quote =
 text_no_end : (text : List ℕ) → AllAre (λ b. not (b == 0x3E)) (text_bytes text)
 text_no_end = never text_marked text_name text_byte text_writes 0x3E refl (text_written (λ n. not (n == 0x3E)) refl refl refl refl)
 
-and_false : (a b : Bool) → b ≡ false → (a && b) ≡ false
-and_false true b e = e
-and_false false b e = refl
-
 -- `]]>` begins with no byte but `]`, and ends with `>`
 no_section_end : (b : ℕ) (bs : List ℕ) → AllAre (λ b. not (b == 0x3E)) (b ∷ bs) → starts_with ◌==◌ (b ∷ bs) (codes "]]>") ≡ false
-no_section_end b [] f = and_false (0x5D == b) false refl
-no_section_end b (c ∷ []) f = and_false (0x5D == b) (0x5D == c && false) (and_false (0x5D == c) false refl)
+no_section_end b [] f = and_right (0x5D == b) false refl
+no_section_end b (c ∷ []) f = and_right (0x5D == b) (0x5D == c && false) (and_right (0x5D == c) false refl)
 no_section_end b (c ∷ (d ∷ ds)) f =
     let third : (0x3E == d) ≡ false = other_way d (not-true (d == 0x3E) f.1.1.0) in
-    and_false (0x5D == b) (0x5D == c && (0x3E == d && true)) (and_false (0x5D == c) (0x3E == d && true) (ap (λ t. t && true) third))
+    and_right (0x5D == b) (0x5D == c && (0x3E == d && true)) (and_right (0x5D == c) (0x3E == d && true) (ap (λ t. t && true) third))
   where
     other_way : (d : ℕ) → (d == 0x3E) ≡ false → (0x3E == d) ≡ false
     other_way d h = grind (arith, nat_tests)

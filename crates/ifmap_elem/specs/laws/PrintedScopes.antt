@@ -8,12 +8,12 @@ use Rattle.std.specs.Map.{lookup}
 use Rattle.std.specs.Option.{is_some}
 use Rattle.std.specs.Str.{bytes_eq}
 use Rattle.std.specs.Str.Parse.{AllDigits}
-use Rattle.std.proofs.lemmas.Bool.{cases_Bool, false_from_ne_true}
+use Rattle.std.proofs.lemmas.Bool.{cases_Bool, false_from_ne_true, or_right}
 use Rattle.std.proofs.lemmas.Bool.Decides.{nat_tests}
 use Rattle.std.proofs.lemmas.Slice.Eq.{bytes_eq-Decides}
 use Rattle.std.proofs.lemmas.Str.Parse.{digit_from_value}
 use Rattle.ifmap_elem.specs.Chars.{AllAre}
-use Rattle.ifmap_elem.specs.Names.{IsNamePart, is_name_start, is_name_character, prefixed}
+use Rattle.ifmap_elem.specs.Names.{IsNamePart, is_name_start, is_name_character, with_prefix}
 use Rattle.ifmap_elem.specs.Scopes.{Scope, AllDiffer, IsBinding, bound, root_scope, xml_space}
 use Rattle.ifmap_elem.specs.Fit.{IsNamespace, IsDeclarable}
 use Rattle.ifmap_elem.specs.Canonical.{after_prefix}
@@ -22,17 +22,10 @@ use Rattle.ifmap_elem.specs.laws.NameBytes.{part_is_some}
 use Rattle.ifmap_elem.specs.laws.NamespaceLaws.{among, among-others, is_some-prefix_rows}
 use Rattle.ifmap_lemmas.specs.Texts.{eq_tells, eq_itself, is_ascii}
 use Rattle.ifmap_lemmas.specs.Members.{all_of_test}
-use Rattle.ifmap_elem.specs.laws.PrintedTags.{Rows, prefix_or, row_binding, Resolves, FitRow, ascii_part}
+use Rattle.ifmap_elem.specs.laws.PrintedTags.{Rows, differ, prefix_or, row_binding, Resolves, FitRow, ascii_part}
 
 abbrev Texts : Type 0
 Texts = List (List ℕ)
-
-differ : (a b : List ℕ) → a ≢ b → bytes_eq a b ≡ false
-differ a b other = false_from_ne_true (bytes_eq a b) (λ e. other (eq_tells a b e))
-
-or_right : (a b : Bool) → b ≡ true → (a || b) ≡ true
-or_right true b h = refl
-or_right false b h = h
 
 -- numbered prefixes
 
@@ -130,7 +123,7 @@ past_rows letter n (x ∷ xs) more p other = rw (differ (label letter n) p (othe
 resolves_none : (prefixes : Rows) (scope : Scope) (s : List ℕ) → lookup (bytes_eq s) prefixes ≡ None → s ≡ [] → bound scope [] ≡ Some []
     → Resolves prefixes scope s
 resolves_none prefixes scope s found is default = record {
-  printed = λ local. ap (λ o. after_prefix o local) found ∙ sym (ap (λ o. prefixed (prefix_or o) local) found);
+  printed = λ local. ap (λ o. after_prefix o local) found ∙ sym (ap (λ o. with_prefix (prefix_or o) local) found);
   is_prefix = inl (ap prefix_or found);
   no_xmlns = λ e. let wrong : [] ≡ codes "xmlns" = sym (ap prefix_or found) ∙ e in cc;
   bound_to = ap (bound scope) (ap prefix_or found) ∙ default ∙ ap (λ z. Some z) (sym is);
@@ -141,14 +134,14 @@ resolves_some : (prefixes : Rows) (scope : Scope) (s p : List ℕ) → lookup (b
     → p ≢ codes "xmlns" → bound scope p ≡ Some s → Resolves prefixes scope s
 resolves_some prefixes scope s p found part other binds = record {
   printed = λ local. ap (λ o. after_prefix o local) found ∙ colon p local (part_is_some p part)
-      ∙ sym (ap (λ o. prefixed (prefix_or o) local) found);
+      ∙ sym (ap (λ o. with_prefix (prefix_or o) local) found);
   is_prefix = inr (subst IsNamePart (sym (ap prefix_or found)) part);
   no_xmlns = λ e. other (sym (ap prefix_or found) ∙ e);
   bound_to = ap (bound scope) (ap prefix_or found) ∙ binds;
   none = λ e. absurd (part_is_some p part (sym (ap prefix_or found) ∙ e));
 }
   where
-    colon : (p local : List ℕ) → p ≢ [] → p ++ (codes ":" ++ local) ≡ prefixed p local
+    colon : (p local : List ℕ) → p ≢ [] → p ++ (codes ":" ++ local) ≡ with_prefix p local
     colon [] local some = absurd (some refl)
     colon (b ∷ bs) local some = refl
 

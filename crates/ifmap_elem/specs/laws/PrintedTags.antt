@@ -15,7 +15,7 @@ use Rattle.ifmap_elem.specs.declared.tokens.Assignment.{Assignment}
 use Rattle.ifmap_elem.specs.declared.tokens.Qualified.{Qualified}
 use Rattle.ifmap_elem.specs.declared.tokens.Tag.{Tag}
 use Rattle.ifmap_elem.specs.Chars.{AllAre, IsCharacters, is_white}
-use Rattle.ifmap_elem.specs.Names.{IsNamePart, IsQualified, is_name_start, is_name_character, name_bytes, prefixed}
+use Rattle.ifmap_elem.specs.Names.{IsNamePart, IsQualified, is_name_start, is_name_character, name_bytes, with_prefix}
 use Rattle.ifmap_elem.specs.Scopes.{Binding, Scope, AllDiffer, bound, binding_of, bindings, plain_assignments, scope_within, attribute_space, IsBinding, AreAttributes, NamesElement}
 use Rattle.ifmap_elem.specs.Tokens.{TakesAssignment, TakesTag, TakesEnd, TakesText, EndsText}
 use Rattle.ifmap_elem.specs.Escapes.{text_bytes, value_bytes}
@@ -37,11 +37,11 @@ abbrev pub prefix_of : Rows → List ℕ → List ℕ
 prefix_of prefixes space = prefix_or (lookup (bytes_eq space) prefixes)
 
 -- the name as it is written
-abbrev pub qualified : Rows → Name → Qualified
-qualified prefixes name = record { prefix = prefix_of prefixes name.space; local = name.local }
+abbrev pub qualify_name : Rows → Name → Qualified
+qualify_name prefixes name = record { prefix = prefix_of prefixes name.space; local = name.local }
 
 abbrev pub attribute_assignment : Rows → Attribute → Assignment
-attribute_assignment prefixes a = record { name = qualified prefixes a.name; value = a.value }
+attribute_assignment prefixes a = record { name = qualify_name prefixes a.name; value = a.value }
 
 abbrev pub declaration_assignment : List ℕ × List ℕ → Assignment
 declaration_assignment row = record { name = record { prefix = codes "xmlns"; local = row.1 }; value = row.0 }
@@ -52,14 +52,14 @@ row_binding row = record { prefix = row.1; space = row.0 }
 abbrev pub tag_of : Rows → Rows → Name → List Attribute → Tag
 tag_of prefixes declared name attributes =
     record {
-      name = qualified prefixes name;
+      name = qualify_name prefixes name;
       assignments = map declaration_assignment declared ++ map
           (attribute_assignment prefixes) attributes;
     }
 
 -- a namespace is written by a prefix that is bound to it
 pub record Resolves (prefixes : Rows) (scope : Scope) (space : List ℕ) : Type 0 where
-  pub printed : (local : List ℕ) → after_prefix (lookup (bytes_eq space) prefixes) local ≡ prefixed (prefix_of prefixes space) local
+  pub printed : (local : List ℕ) → after_prefix (lookup (bytes_eq space) prefixes) local ≡ with_prefix (prefix_of prefixes space) local
   pub is_prefix : (prefix_of prefixes space ≡ []) ⊎ IsNamePart (prefix_of prefixes space)
   pub no_xmlns : prefix_of prefixes space ≢ codes "xmlns"
   pub bound_to : bound scope (prefix_of prefixes space) ≡ Some space
@@ -115,7 +115,7 @@ assignment_taken q value rest i f = record {
 }
 
 is_qualified : (prefixes : Rows) (scope : Scope) (name : Name) → IsFitName name → Resolves prefixes scope name.space
-    → IsQualified (qualified prefixes name)
+    → IsQualified (qualify_name prefixes name)
 is_qualified prefixes scope name f r = record { prefix_is = r.is_prefix; local_is = f.local }
 
 attribute_taken : (prefixes : Rows) (scope : Scope) (a : Attribute) (rest : List ℕ) → FitsIn prefixes scope a
@@ -123,7 +123,7 @@ attribute_taken : (prefixes : Rows) (scope : Scope) (a : Attribute) (rest : List
 attribute_taken prefixes scope a rest f =
     subst (λ (n : List ℕ). TakesAssignment ((codes " " ++ (n ++ (codes "=\"" ++ (value_bytes a.value ++ codes "\"")))) ++ rest)
     (attribute_assignment prefixes a) rest)
-    (sym (f.resolved.printed a.name.local)) (assignment_taken (qualified prefixes a.name) a.value rest
+    (sym (f.resolved.printed a.name.local)) (assignment_taken (qualify_name prefixes a.name) a.value rest
     (is_qualified prefixes scope a.name f.fit.name f.resolved) f.fit.value)
 
 declaration_taken : (row : List ℕ × List ℕ) (rest : List ℕ) → FitRow row
@@ -172,7 +172,7 @@ tag_taken prefixes declared scope name attributes end f r rows fits = record {
 }
 
 pub end_taken : (prefixes : Rows) (scope : Scope) (name : Name) (rest : List ℕ) → IsFitName name → Resolves prefixes scope name.space
-    → TakesEnd (codes "</" ++ (printed_name prefixes name ++ (codes ">" ++ rest))) (qualified prefixes name) rest
+    → TakesEnd (codes "</" ++ (printed_name prefixes name ++ (codes ">" ++ rest))) (qualify_name prefixes name) rest
 end_taken prefixes scope name rest f r = record {
   white = [];
   bytes_are = ap (λ l. codes "</" ++ (l ++ (codes ">" ++ rest))) (r.printed name.local);
@@ -196,7 +196,7 @@ text_taken text rest some f ends = record {
 
 -- what a printed tag binds
 
-differ : (a b : List ℕ) → a ≢ b → bytes_eq a b ≡ false
+pub differ : (a b : List ℕ) → a ≢ b → bytes_eq a b ≡ false
 differ a b other = false_from_ne_true (bytes_eq a b) (λ e. other ((bytes_eq-Decides a b).0 e))
 
 binds_nothing : (prefixes : Rows) (scope : Scope) (a : Attribute) → FitsIn prefixes scope a

@@ -18,8 +18,8 @@ use Rattle.ifmap_elem.specs.declared.readings.Reading.{Reading}
 use Rattle.ifmap_elem.specs.declared.tokens.Tag.{Tag}
 use Rattle.ifmap_elem.specs.declared.tokens.Token.{Token}
 use Rattle.ifmap_elem.specs.Document as piece
-use Rattle.ifmap_elem.specs.Document.{Pieces, Nothing, chained, tokens_of, heading, Item, Inner, Run, is_inner, put_before, joined, is_child, children_among, declared_here, declared_below, from_above, IsElement, AreItems, IsMargin}
-use Rattle.ifmap_elem.specs.InScope.{binding_told, declared_at, is_listed, listed, IsElementPiece, children_before, IsChildAt, LeadsTo, ResolvesAsDeclared}
+use Rattle.ifmap_elem.specs.Document.{Pieces, Nothing, chain_pieces, tokens_of, heading, Item, Inner, Run, is_inner, put_before, join_runs, is_child, children_among, declared_here, declared_below, from_above, IsElement, AreItems, IsMargin}
+use Rattle.ifmap_elem.specs.InScope.{binding_told, declared_at, is_listed, listed_space, IsElementPiece, children_before, IsChildAt, LeadsTo, ResolvesAsDeclared}
 use Rattle.ifmap_elem.specs.Scopes.{Binding, Scope, bindings, bound, root_scope, scope_within}
 use Rattle.ifmap_elem.specs.Spells.{Spells}
 use Rattle.ifmap_elem.specs.laws.OneReading.{one_lexing, one_heading, one_content, one_meaning}
@@ -102,13 +102,13 @@ told_above i (d ∷ ds) = ap (λ bs. binding_told d ∷ bs) (told_above i ds)
 -- children among items
 
 pub joined_both : (xs : List Item) (e : Element) (d : List Declared) (ys : List Item)
-    → joined (xs ++ (Inner e d ∷ ys)) ≡ joined xs ++ (Inner e d ∷ joined ys)
+    → join_runs (xs ++ (Inner e d ∷ ys)) ≡ join_runs xs ++ (Inner e d ∷ join_runs ys)
 joined_both [] e d ys = refl
 joined_both (Inner f c ∷ xs) e d ys = ap (λ l. Inner f c ∷ l) (joined_both xs e d ys)
-joined_both (Run text ∷ xs) e d ys = ap (put_before text) (joined_both xs e d ys) ∙ before text (joined xs)
+joined_both (Run text ∷ xs) e d ys = ap (put_before text) (joined_both xs e d ys) ∙ before text (join_runs xs)
   where
     before : (text : List ℕ) (zs : List Item) → put_before text
-        (zs ++ (Inner e d ∷ joined ys)) ≡ put_before text zs ++ (Inner e d ∷ joined ys)
+        (zs ++ (Inner e d ∷ join_runs ys)) ≡ put_before text zs ++ (Inner e d ∷ join_runs ys)
     before text [] = refl
     before text (Inner f c ∷ zs) = refl
     before text (Run more ∷ zs) = refl
@@ -119,14 +119,14 @@ some_inner (Inner f c ∷ xs) e d ys = refl
 some_inner (Run text ∷ xs) e d ys = some_inner xs e d ys
 
 children_there : (xs : List Item) (e : Element) (d : List Declared) (ys : List Item)
-    → children_among (xs ++ (Inner e d ∷ ys)) ≡ filter (is_child true) (joined xs) ++ (Inner e d ∷ filter (is_child true) (joined ys))
+    → children_among (xs ++ (Inner e d ∷ ys)) ≡ filter (is_child true) (join_runs xs) ++ (Inner e d ∷ filter (is_child true) (join_runs ys))
 children_there xs e d ys =
     (λ i. filter (is_child (some_inner xs e d ys i)) (joined_both xs e d ys i))
-    ∙ filter-append (is_child true) (joined xs) (Inner e d ∷ joined ys)
+    ∙ filter-append (is_child true) (join_runs xs) (Inner e d ∷ join_runs ys)
 
 -- the items of pieces after one another
 
-parted : (scope : Scope) (c d : Pieces) (items : List Item) → AreItems scope (chained c d) items
+parted : (scope : Scope) (c d : Pieces) (items : List Item) → AreItems scope (chain_pieces c d) items
     → (xs : List Item) × (ys : List Item) × (items ≡ xs ++ ys) × AreItems scope c xs × AreItems scope d ys
 parted scope Nothing d items m = ([], items, refl, refl, m)
 parted scope (piece.Comment after) d items m = parted scope after d items m
@@ -206,8 +206,8 @@ child_there scope inside items index child within m c =
       inner = f.inner;
       element = f.element;
       declared = f.declared;
-      before = filter (is_child true) (joined p.0);
-      after = filter (is_child true) (joined f.others);
+      before = filter (is_child true) (join_runs p.0);
+      after = filter (is_child true) (join_runs f.others);
       children_are = ap children_among (p.2 ∙ ap (λ l. p.0 ++ l) f.items_are) ∙ children_there p.0 f.element f.declared f.others;
       index_is = c.index_is ∙ ap children_before (sym same);
       inside_are = f.inside_are;
@@ -273,14 +273,14 @@ root_unlisted [] p e = at_root p e
       ]
     ]
 
-listed_alike : (s t : Scope) (p : List ℕ) → bound (s ++ root_scope) p ≡ bound t p → listed s p ≡ listed t p
+listed_alike : (s t : Scope) (p : List ℕ) → bound (s ++ root_scope) p ≡ bound t p → listed_space s p ≡ listed_space t p
 listed_alike s t p e = elim (cases_Bool (is_listed p)) [
   | inl is ↦ rw is (sym (root_unlisted s p is) ∙ e)
   | inr is ↦ rw is refl
 ]
 
 -- after a margin the element of the document
-pub after_margin : (c d : Pieces) (r : Reading) → IsMargin c → BeginsWithRoot (chained c d) r → BeginsWithRoot d r
+pub after_margin : (c d : Pieces) (r : Reading) → IsMargin c → BeginsWithRoot (chain_pieces c d) r → BeginsWithRoot d r
 after_margin Nothing d r m h = h
 after_margin (piece.Comment after) d r m h = after_margin after d r m h
 after_margin (piece.Characters blank text after) d r m h = after_margin after d r m.1 h.1
@@ -301,9 +301,10 @@ root_there pieces tag inside after r is b = elim is [
 pub resolves_as_declared : (bytes : List ℕ) (r : Reading) → Spells bytes r → ResolvesAsDeclared bytes r
 resolves_as_declared bytes r s path scope h prefix =
     let tokens = one_lexing _ s.tokens h.tokens s.lexed h.lexed in
-    let heads = one_heading s.document.declared h.declared s.document.pieces (chained h.before h.element)
+    let heads = one_heading s.document.declared h.declared s.document.pieces (chain_pieces h.before h.element)
     (sym s.document.tokens_are ∙ tokens ∙ h.tokens_are) in
-    let pieces = (one_content s.document.pieces (chained h.before h.element) [] [] tt tt (ap (λ (ts : List Token). ts ++ []) heads)).0 in
+    let pieces = (one_content s.document.pieces (chain_pieces h.before h.element) [] [] tt tt
+    (ap (λ (ts : List Token). ts ++ []) heads)).0 in
     let begins = after_margin h.before h.element r h.margin (subst (λ (q : Pieces). BeginsWithRoot q r) pieces
     (root_begins s.document.pieces r s.document.rooted)) in
     let root = root_there h.element h.tag h.inside h.after r h.is_element begins in

@@ -5,7 +5,7 @@ use Rattle.ifmap_elem.specs.declared.elements.Element.{Element}
 use Rattle.ifmap_elem.specs.declared.readings.Declared.{Declared}
 use Rattle.ifmap_elem.specs.declared.readings.Reading.{Reading}
 use Rattle.ifmap_elem.specs.Document as piece
-use Rattle.ifmap_elem.specs.Document.{Pieces, Nothing, chained, Item, Inner, Run, AreItems, IsElement, IsMargin, IsRoot}
+use Rattle.ifmap_elem.specs.Document.{Pieces, Nothing, chain_pieces, Item, Inner, Run, AreItems, IsElement, IsMargin, IsRoot}
 use Rattle.ifmap_elem.specs.Scopes.{root_scope, scope_within}
 
 -- from the first piece on: what a comment and white space leave is a root, and after an element a margin stands
@@ -19,7 +19,7 @@ BeginsWithRoot (piece.Start tag inside after) r =
     (inner : List Item) × AreItems (scope_within root_scope tag) inside inner × IsElement root_scope tag inner r.root r.declared
     × IsMargin after
 
-pub chained_nothing : (c : Pieces) → chained c Nothing ≡ c
+pub chained_nothing : (c : Pieces) → chain_pieces c Nothing ≡ c
 chained_nothing Nothing = refl
 chained_nothing (piece.Comment after) = ap piece.Comment (chained_nothing after)
 chained_nothing (piece.Characters blank text after) = ap (piece.Characters blank text) (chained_nothing after)
@@ -28,7 +28,7 @@ chained_nothing (piece.Empty tag after) = ap (piece.Empty tag) (chained_nothing 
 chained_nothing (piece.Start tag inside after) = ap (piece.Start tag inside) (chained_nothing after)
 
 -- pieces that mean nothing are comments
-no_items : (c d : Pieces) → AreItems root_scope c [] → IsMargin d → IsMargin (chained c d)
+no_items : (c d : Pieces) → AreItems root_scope c [] → IsMargin d → IsMargin (chain_pieces c d)
 no_items Nothing d m h = h
 no_items (piece.Comment after) d m h = no_items after d m h
 no_items (piece.Characters blank text after) d m h = let e : [] ≡ Run text ∷ m.0 = m.1 in cc
@@ -38,7 +38,7 @@ no_items (piece.Start tag inside after) d m h = let e : [] ≡ Inner m.1 m.2 ∷
 
 -- one element, and a margin
 element_begins : (c d : Pieces) (e : Element) (declared : List Declared) → AreItems root_scope c (Inner e declared ∷ []) → IsMargin d
-    → BeginsWithRoot (chained c d) (record { root = e; declared = declared })
+    → BeginsWithRoot (chain_pieces c d) (record { root = e; declared = declared })
 element_begins Nothing d e declared m h = let wrong : Inner e declared ∷ [] ≡ [] = m in cc
 element_begins (piece.Comment after) d e declared m h = element_begins after d e declared m h
 element_begins (piece.Characters blank text after) d e declared m h = let wrong : Inner e declared ∷ [] ≡ Run text ∷ m.0 = m.1 in cc
@@ -65,7 +65,7 @@ element_begins (piece.Start tag inside after) d e declared m h =
     )
 
 -- a margin before it
-margin_begins : (c d : Pieces) (r : Reading) → IsMargin c → BeginsWithRoot d r → BeginsWithRoot (chained c d) r
+margin_begins : (c d : Pieces) (r : Reading) → IsMargin c → BeginsWithRoot d r → BeginsWithRoot (chain_pieces c d) r
 margin_begins Nothing d r m h = h
 margin_begins (piece.Comment after) d r m h = margin_begins after d r m h
 margin_begins (piece.Characters blank text after) d r m h = (m.0, margin_begins after d r m.1 h)
@@ -76,7 +76,7 @@ margin_begins (piece.Start tag inside after) d r m h = absurd m
 pub root_begins : (c : Pieces) (r : Reading) → IsRoot c r → BeginsWithRoot c r
 root_begins c r h =
     subst (λ (d : Pieces). BeginsWithRoot d r) (sym h.pieces_are)
-    (margin_begins h.before (chained h.element h.after) r h.margin_before
+    (margin_begins h.before (chain_pieces h.element h.after) r h.margin_before
     (element_begins h.element h.after r.root r.declared h.means h.margin_after))
 
 pub begins_root : (c : Pieces) (r : Reading) → BeginsWithRoot c r → IsRoot c r

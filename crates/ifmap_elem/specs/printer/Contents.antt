@@ -4,20 +4,20 @@ use Rattle.ifmap_elem.specs.declared.elements.Attribute.{Attribute}
 use Rattle.ifmap_elem.specs.declared.elements.Child.{Child}
 use Rattle.ifmap_elem.specs.declared.elements.Element as the
 use Rattle.ifmap_elem.specs.declared.elements.Name.{Name}
-use Rattle.ifmap_elem.specs.declared.printing.Content.{Content}
-use Rattle.ifmap_elem.specs.declared.printing.Content.TheVariants.{Element, Outline}
+use Rattle.ifmap_elem.specs.declared.printing.RootContent.{RootContent}
+use Rattle.ifmap_elem.specs.declared.printing.RootContent.TheVariants.{Element, Outline}
 use Rattle.ifmap_elem.specs.Outlines.{outline_child}
 
 -- the attributes that it has
-abbrev pub attributes_in : Content → List Attribute
+abbrev pub attributes_in : RootContent → List Attribute
 attributes_in (Element attributes children) = attributes.now
 attributes_in (Outline attributes pieces) = attributes.now
 
 -- the children that it stands for
-abbrev pub children_in : Content → List Child
+abbrev pub children_in : RootContent → List Child
 children_in (Element attributes children) = children.now
 children_in (Outline attributes pieces) = map outline_child pieces.now
 
 -- the root around it
-abbrev pub root_of : Name → Content → the.Element
+abbrev pub root_of : Name → RootContent → the.Element
 root_of name content = record { name = name; attributes = attributes_in content; children = children_in content }

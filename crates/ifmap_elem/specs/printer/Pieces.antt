@@ -10,15 +10,7 @@ use Rattle.ifmap_elem.specs.declared.elements.Element.{Element}
 use Rattle.ifmap_elem.specs.declared.elements.Name.{Name}
 use Rattle.ifmap_elem.specs.Arranged.{arrange, arrange_child}
 use Rattle.ifmap_elem.specs.Canonical.{after_attributes_bytes, attribute_bytes, child_bytes, element_bytes, printed_name}
-use Rattle.ifmap_elem.specs.Namespaces.{spaces_of, spaces_of_child, declared_among, name_prefixes}
-
--- old are the declared ones among some, and new are those among the same and these after them
-abbrev pub AddsSpaces : List (List ℕ) → List (List ℕ) → List (List ℕ) → Type 0
-AddsSpaces old spaces new = (seen : List (List ℕ)) → old ≡ declared_among seen → new ≡ declared_among (seen ++ spaces)
-
--- the second list begins with the first
-abbrev pub IsFront : List (List ℕ) → List (List ℕ) → Type 0
-IsFront front all = (more : List (List ℕ)) × (all ≡ front ++ more)
+use Rattle.ifmap_elem.specs.Namespaces.{spaces_of, spaces_of_child, name_prefixes, AddsSpaces, IsFront}
 
 -- all namespaces that are numbered in the end, where these are numbered by now; the lack of one is none of them
 pub record AreFinal (spaces final : List (List ℕ)) : Type 0 where

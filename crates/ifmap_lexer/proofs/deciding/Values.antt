@@ -5,7 +5,7 @@ use Rattle.std.proofs.lemmas.Bool.{cases_Bool}
 use Rattle.ifmap_lemmas.specs.Deciding.{Decided, begins_or_not, by_length}
 use Rattle.ifmap_elem.specs.Chars.{is_white}
 use Rattle.ifmap_elem.specs.Tokens.{TakesQuoted}
-use Rattle.ifmap_elem.specs.Values.{Expands, referred}
+use Rattle.ifmap_elem.specs.Values.{Expands, reference_value}
 use Rattle.ifmap_lexer.specs.Cutting.{Cuts, CutsAt}
 use Rattle.ifmap_lexer.specs.Runs.{part_in}
 use Rattle.ifmap_lexer.specs.declared.values.Place.{Place}
@@ -47,7 +47,7 @@ module _ (place : Place) (written : List ℕ) where
   module _ (made rest run inner : List ℕ) (along : Along place written made rest) (c : CutsAt 0x26 rest run inner)
       (name after : List ℕ) (d : CutsAt 0x3B inner name after)
       (others : (new : List ℕ) → Along place written new after → Decided SomeExpansion) where
-    reference_or_none : (o : Option ℕ) → referred name ≡ o → Decided SomeExpansion
+    reference_or_none : (o : Option ℕ) → reference_value name ≡ o → Decided SomeExpansion
     reference_or_none None e = inr (along_unknown place written made rest run inner along c name after d e)
     reference_or_none (Some ch) e = others _ (along_next place written made rest run inner along c name after d _ ch e refl)
 
@@ -65,7 +65,7 @@ module _ (place : Place) (written : List ℕ) where
       | inr unended ↦ inr (along_unended place written made rest c.0 c.1 along c.2 unended)
       | inl d ↦
           let less = shorter rest c.0 c.1 d.0 d.1 c.2 d.2 in
-          reference_or_none made rest c.0 c.1 along c.2 d.0 d.1 d.2 (λ new. others d.1 less new) (referred d.0) refl
+          reference_or_none made rest c.0 c.1 along c.2 d.0 d.1 d.2 (λ new. others d.1 less new) (reference_value d.0) refl
     ]
   ]
 

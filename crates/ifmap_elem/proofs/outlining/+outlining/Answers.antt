@@ -31,7 +31,8 @@ write_pieces-returns t c = λ named.
     (omega (arith, c.loop-piece-test.false, ap length c.as_slice-piece-items.ensures))
     c.loop-piece.invariant)
     c.in_ok-extend_from_slice-3.ensures.items named (c.in_ok-write_name.ensures
-    ∙ ap (λ l. c.extend_from_slice-3.new.self.items ++ after_prefix c.args.prefix.now l) c.local.ensures) c.in_ok-extend_from_slice-4.ensures.items
+    ∙ ap (λ l. c.extend_from_slice-3.new.self.items ++ after_prefix c.args.prefix.now l) c.local.ensures)
+    c.in_ok-extend_from_slice-4.ensures.items
 
 pub write_pieces-returns-then-is_empty : goal.write_pieces-returns-then-is_empty
 write_pieces-returns-then-is_empty t c = λ named.
@@ -54,7 +55,8 @@ write_outline-returns t c =
     c.in_ok-extend_from_slice.ensures.items c.in_ok-prefix.ensures.added c.in_ok-write_outline_attributes.ensures
     (c.in_ok-write_pieces.ensures
     (λ final f. c.in_ok-prefix.ensures.prefix final
-    (final_before c.write_label.new.prefixes c.write_outline_attributes.new.prefixes final c.in_ok-write_outline_attributes.ensures.behind f))))
+    (final_before c.write_label.new.prefixes c.write_outline_attributes.new.prefixes final c.in_ok-write_outline_attributes.ensures.behind
+    f))))
 
 pub write_piece-returns-in_ok-write_escaped-in-Text : goal.write_piece-returns-in_ok-write_escaped-in-Text
 write_piece-returns-in_ok-write_escaped-in-Text t c =

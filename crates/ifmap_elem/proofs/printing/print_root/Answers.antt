@@ -28,7 +28,8 @@ returns c =
           c.in_ok-write_root_attributes.ensures.behind content.behind;
       none_bare = c.spaces.ensures.none_bare;
     } in
-    piece_root (root_of (label_name c.args.label) c.args.content) c.args.spaces.now c.in_ok-prefixes.prefixes c.number_label.new.self c.write_root_attributes.new.prefixes
+    piece_root (root_of (label_name c.args.label) c.args.content) c.args.spaces.now c.in_ok-prefixes.prefixes c.number_label.new.self
+    c.write_root_attributes.new.prefixes
     c.write_inside.new.prefixes (bytes_of c.spaces.result.now) c.in_ok-prefix.prefix
     c.new-inside.result.items c.write_root_attributes.new.out.items c.write_inside.new.out.items c.write_inside.new.out.items
     c.new-head.result.items c.extend_from_slice.new.self.items c.write_name.new.out.items c.write_declarations.new.out.items head

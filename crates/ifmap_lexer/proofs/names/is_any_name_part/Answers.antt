@@ -7,21 +7,21 @@ use Rattle.ifmap_elem.specs.Names.{is_name_character}
 use Rattle.ifmap_lexer.proofs.NameLaws.{tells_part, part_begins, no_part_of_none}
 use Rattle.ifmap_lexer.proofs.names.is_any_name_part.Goals as goal
 
-pub returns-then-is_first : goal.returns-then-is_first
-returns-then-is_first c =
+pub returns-then-is_name_start : goal.returns-then-is_name_start
+returns-then-is_name_start c =
     let rest = c.next.new.self.rest.now in
     let split : c.args.text.now ≡ encode_utf8 c.in-Some.first ++ rest = sym c.chars-characters.ensures.rest ∙ c.in-Some.ensures.steps.0 in
-    tells_part c.args.text.now rest c.in-Some.first split c.all.result c.utf8.text (sym c.is_first.ensures ∙ c.if-is_first.true)
+    tells_part c.args.text.now rest c.in-Some.first split c.all.result c.utf8.text (sym c.is_name_start.ensures ∙ c.if-is_name_start.true)
     (all_from_yields_List is_name_character _ _ c.all.result c.all.ensures.ran
     (YieldsList-from_chars rest (IsUtf8-past_char c.args.text.now rest c.in-Some.first c.utf8.text split) refl)
     (λ x b q k. search (rules, tests)))
 
-pub returns-else-is_first : goal.returns-else-is_first
-returns-else-is_first c =
+pub returns-else-is_name_start : goal.returns-else-is_name_start
+returns-else-is_name_start c =
     let rest = c.next.new.self.rest.now in
     let split : c.args.text.now ≡ encode_utf8 c.in-Some.first ++ rest = sym c.chars-characters.ensures.rest ∙ c.in-Some.ensures.steps.0 in (
-      (λ t. let wrong : true ≡ false = sym t ∙ c.if-is_first.false in absurd (cc)),
-      (λ p. c.is_first.ensures ∙ part_begins c.args.text.now rest c.in-Some.first split p),
+      (λ t. let wrong : true ≡ false = sym t ∙ c.if-is_name_start.false in absurd (cc)),
+      (λ p. c.is_name_start.ensures ∙ part_begins c.args.text.now rest c.in-Some.first split p),
     )
 
 pub returns-in-None : goal.returns-in-None

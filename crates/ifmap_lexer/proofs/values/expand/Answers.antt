@@ -1,6 +1,6 @@
 use Rattle.std.proofs.Common.{◌++◌, ap, sym, ◌∙◌, string_bytes, lit<}
 use Rattle.std.specs.Prelude.{encode_utf8}
-use Rattle.ifmap_elem.specs.Values.{referred}
+use Rattle.ifmap_elem.specs.Values.{reference_value}
 use Rattle.ifmap_lexer.proofs.ExpansionLaws.{along_unended, along_unknown, along_next, along_end}
 use Rattle.ifmap_lexer.proofs.SplitLaws.{after_is_utf8}
 use Rattle.ifmap_lexer.proofs.values.expand.Goals as goal
@@ -15,7 +15,7 @@ returns-in_default-character_named-clause-refused c =
     along_unknown c.args.place c.args.written.now (string_bytes c.loop-run.text) c.loop-run.rest.now c.in-Some.run'.now
     c.in-Some.after.now c.loop-run.invariant.1 c.in-Some.ensures.found
     c.in-Some-split_char.name.now c.in-Some-split_char.next.now c.in-Some-split_char.ensures.found
-    (ap referred (sym c.as_bytes.ensures.value) ∙ sym c.character_named.ensures ∙ c.in_default-character_named.is)
+    (ap reference_value (sym c.as_bytes.ensures.value) ∙ sym c.character_named.ensures ∙ c.in_default-character_named.is)
 
 pub loop-run-preserved : goal.loop-run-preserved
 loop-run-preserved c =
@@ -31,7 +31,7 @@ loop-run-preserved c =
       after_is_utf8 59 after name next (lit< tt) second.bytes_are (after_is_utf8 38 rest run after (lit< tt) first.bytes_are inv.0),
       along_next c.args.place c.args.written.now (string_bytes c.loop-run.text) rest run after inv.1 first name next second
           (string_bytes c.push.new.self) character
-          (ap referred (sym c.as_bytes.ensures.value) ∙ sym c.character_named.ensures ∙ c.in-Some-character_named.is)
+          (ap reference_value (sym c.as_bytes.ensures.value) ∙ sym c.character_named.ensures ∙ c.in-Some-character_named.is)
           (c.in_ok-push.ensures.bytes ∙ ap (λ x. x ++ encode_utf8 character) c.in_ok-push_run.ensures),
     )
 

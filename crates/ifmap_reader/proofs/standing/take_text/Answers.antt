@@ -1,23 +1,18 @@
-use Rattle.std.proofs.Common.{sym, ◌∙◌}
-use Rattle.ifmap_reader.proofs.Lasts.{none_left, none_was}
+use Rattle.std.proofs.Common.{sym, ◌∙◌, refl}
 use Rattle.ifmap_reader.proofs.Stepping.{words_step, blank_step, words_refused}
 use Rattle.ifmap_reader.proofs.standing.take_text.Goals as goal
 
 pub returns-then-blank : goal.returns-then-blank
 returns-then-blank c = λ depth t w.
-    blank_step depth c.args.open_elements c.pop.new.self.items t c.args.blank c.args.text w
-    (sym c.open_elements.view_is ∙ none_was _ c.pop.new.self.items _ c.in_default.ensures.items c.in_default.ensures.rest
-    c.in_default.ensures.cases.0)
-    (none_left _ c.pop.new.self.items _ c.in_default.ensures.rest c.in_default.ensures.cases.0) c.if-blank.true
+    let none = c.is_empty.ensures.0 c.if-is_empty.true in
+    blank_step depth c.args.open_elements c.args.open_elements t c.args.blank c.args.text w none none c.if-blank.true
 
-pub returns-in_default : goal.returns-in_default
-returns-in_default c = λ depth t w.
-    words_refused c.args.open_elements t c.args.blank c.args.text w
-    (sym c.open_elements.view_is ∙ none_was _ c.pop.new.self.items _ c.in_default.ensures.items c.in_default.ensures.rest
-    c.in_default.ensures.cases.0) c.if-blank.false
+pub returns-then-is_empty : goal.returns-then-is_empty
+returns-then-is_empty c = λ depth t w.
+    words_refused c.args.open_elements t c.args.blank c.args.text w (c.is_empty.ensures.0 c.if-is_empty.true) c.if-blank.false
 
 pub returns : goal.returns
 returns c = λ depth t w.
-    words_step depth c.args.open_elements c.pop.new.self.items c.push.new.self.items c.in-Some.innermost c.in_ok-with_characters.field-0 t
-    c.args.blank c.args.text w
-    (sym c.open_elements.view_is ∙ c.in-Some.ensures.items) c.in_ok-push.ensures.items c.in_ok-with_characters.ensures
+    let changes = c.in_ok-add_words.ensures in
+    words_step depth c.args.open_elements changes.before c.add_words.new.open_elements.items changes.last _ t
+    c.args.blank c.args.text w (sym c.open_elements.view_is ∙ changes.old_is) changes.new_is refl

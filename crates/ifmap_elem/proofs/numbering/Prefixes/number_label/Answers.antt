@@ -2,10 +2,10 @@ use Rattle.std.proofs.Common.{◌≡◌, ◌∷◌, [], inl, ap, sym, subst, ◌
 use Rattle.std.specs.Prelude.{IfOk, OnOk}
 use Rattle.std.specs.Map.{lookup}
 use Rattle.std.specs.Str.{bytes_eq}
-use Rattle.ifmap_elem.specs.Namespaces.{name_prefixes}
+use Rattle.ifmap_elem.specs.Namespaces.{name_prefixes, AddsSpaces}
 use Rattle.ifmap_elem.specs.Outlines.{label_name}
 use Rattle.ifmap_elem.specs.declared.outlines.Label.{Label}
-use Rattle.ifmap_elem.specs.printer.Pieces.{AddsSpaces, IsNumbered}
+use Rattle.ifmap_elem.specs.printer.Pieces.{IsNumbered}
 use Rattle.ifmap_elem.specs.laws.NamespaceLaws.{adds_no_space}
 use Rattle.ifmap_elem.proofs.PieceLaws.{front_same}
 use Rattle.ifmap_elem.proofs.numbering.Prefixes.number_label.Goals as goal

@@ -4,9 +4,8 @@ use Rattle.std.specs.Map.{lookup}
 use Rattle.std.specs.Option.{is_some, unwrap_or}
 use Rattle.std.specs.Ordering.{is_eq}
 use Rattle.std.specs.Str.{bytes_eq}
-use Rattle.ifmap_elem.specs.Namespaces.{name_prefixes}
+use Rattle.ifmap_elem.specs.Namespaces.{name_prefixes, AddsSpaces}
 use Rattle.ifmap_elem.specs.printer.Keys.{key_order}
-use Rattle.ifmap_elem.specs.printer.Pieces.{AddsSpaces}
 use Rattle.ifmap_elem.specs.laws.NamespaceLaws.{adds_prefixed, adds_unprefixed}
 use Rattle.ifmap_elem.proofs.KeyLaws.{bytes_of, placed, puts_own}
 use Rattle.ifmap_elem.proofs.numbering.Prefixes.number_named.Goals as goal
