@@ -1,6 +1,7 @@
 pub mod AgainLaws
 pub mod AlikeLaws
 pub mod BackLaws
+pub mod BlockLaws
 pub mod DotLaws
 pub mod ElementLaws
 pub mod FindLaws

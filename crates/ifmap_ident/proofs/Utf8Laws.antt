@@ -22,7 +22,7 @@ use Rattle.ifmap_elem.specs.Canonical.{canonical_bytes, canonical_reading}
 use Rattle.ifmap_elem.specs.Chars.{AllAre, IsCharacters, IsWhite, colon, double_quote, equals_sign, is_character, is_white, less_than, single_quote}
 use Rattle.ifmap_elem.specs.Fit.{IsFit}
 use Rattle.ifmap_elem.specs.laws.CanonicalSpells.{canonical_spelled}
-use Rattle.ifmap_elem.specs.Names.{IsNamePart, IsQualified, is_name_character, is_name_start, name_bytes, prefixed}
+use Rattle.ifmap_elem.specs.Names.{IsNamePart, IsQualified, is_name_character, is_name_start, name_bytes, with_prefix}
 use Rattle.ifmap_elem.specs.Spells.{Spells}
 use Rattle.ifmap_elem.specs.Tokens.{TakesAssignment, TakesBetween, TakesDeclaration, TakesEnd, TakesOptional, TakesQuoted, TakesSetting, TakesTag, TakesToken}
 use Rattle.ifmap_lemmas.specs.Items.{To}
@@ -86,7 +86,7 @@ after_white : (white bs : List ℕ) → IsWhite white → IsCharacters bs → Is
 after_white [] bs f u = u
 after_white (b ∷ white) bs f u = cons_characters b (white ++ bs) (white_plain b f.0) (after_white white bs f.1 u)
 
-prefixed_characters : (prefix local : List ℕ) → IsCharacters prefix → IsCharacters local → IsCharacters (prefixed prefix local)
+prefixed_characters : (prefix local : List ℕ) → IsCharacters prefix → IsCharacters local → IsCharacters (with_prefix prefix local)
 prefixed_characters [] local p l = l
 prefixed_characters (b ∷ bs) local p l = characters_both (b ∷ bs) (colon ∷ local) p (cons_characters colon local refl l)
 

@@ -52,7 +52,7 @@ fn outline_access_request<'a>(
     let mut attributes = Vec::with_capacity(alloc, 2)?;
     push_domain(domain, &mut attributes)?;
     attributes.push(OutlineAttribute::from_str("name", name.as_str()))?;
-    Ok(Outline::bare("access-request", attributes, Vec::new(alloc)))
+    Ok(Outline::with_local("access-request", attributes, Vec::new(alloc)))
 }
 
 fn outline_device<'a>(alloc: Global, name: &'a Text) -> Result<Outline<'a>, NoMemory>
@@ -60,9 +60,9 @@ fn outline_device<'a>(alloc: Global, name: &'a Text) -> Result<Outline<'a>, NoMe
         outline_element outline ≡ identifier_element (Device name.now)) }
 {
     let inside = vec![in alloc; Piece::text(name)]?;
-    let named = Outline::bare("name", Vec::new(alloc), inside);
+    let named = Outline::with_local("name", Vec::new(alloc), inside);
     let pieces = vec![in alloc; named.inside()]?;
-    Ok(Outline::bare("device", Vec::new(alloc), pieces))
+    Ok(Outline::with_local("device", Vec::new(alloc), pieces))
 }
 
 fn outline_identity<'a>(
@@ -80,7 +80,7 @@ fn outline_identity<'a>(
     attributes.push(OutlineAttribute::from_str("name", name.as_str()))?;
     push_unless_empty("other-type-definition", other, &mut attributes)?;
     attributes.push(OutlineAttribute::from_str("type", kind.name()))?;
-    Ok(Outline::bare("identity", attributes, Vec::new(alloc)))
+    Ok(Outline::with_local("identity", attributes, Vec::new(alloc)))
 }
 
 fn outline_ip_v4<'a>(
@@ -124,7 +124,7 @@ fn outline_ip_address<'a>(
     push_domain(domain, &mut attributes)?;
     attributes.push(OutlineAttribute::from_str("type", kind))?;
     attributes.push(OutlineAttribute::from_text("value", value))?;
-    Ok(Outline::bare("ip-address", attributes, Vec::new(alloc)))
+    Ok(Outline::with_local("ip-address", attributes, Vec::new(alloc)))
 }
 
 fn outline_mac_address<'a>(
@@ -140,7 +140,7 @@ fn outline_mac_address<'a>(
     let mut attributes = Vec::with_capacity(alloc, 2)?;
     push_domain(domain, &mut attributes)?;
     attributes.push(OutlineAttribute::from_text("value", Text(text)))?;
-    Ok(Outline::bare("mac-address", attributes, Vec::new(alloc)))
+    Ok(Outline::with_local("mac-address", attributes, Vec::new(alloc)))
 }
 
 // Appends the attribute of a domain; nothing of the empty one.

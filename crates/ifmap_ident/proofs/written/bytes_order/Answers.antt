@@ -1,4 +1,4 @@
-use Rattle.std.proofs.Common.{ap, nat_cmp, sym, subst, ◌∙◌}
+use Rattle.std.proofs.Common.{nat_cmp, sym, subst, ◌∙◌}
 use Rattle.std.specs.Cmp.Lexicographic.{slice_cmp}
 use Rattle.ifmap_ident.specs.Leading.{Leads}
 use Rattle.ifmap_ident.specs.Written.{closed_text, written_byte}
@@ -11,10 +11,8 @@ returns c =
     let one = c.args.one.now in
     let other = c.args.other.now in
     let shared = c.shared_len-shared.result in
-    let first = c.written_byte.ensures ∙ ap (written_byte place) (option_copied-get one shared c.get.result c.get.ensures.lookup.0
-    c.get.ensures.lookup.1) in
-    let second = c.written_byte-2.ensures ∙ ap (written_byte place) (option_copied-get other shared c.get-2.result c.get-2.ensures.lookup.0
-    c.get-2.ensures.lookup.1) in
-    subst (λ o. Leads o (closed_text place one) (closed_text place other)) (sym (c.cmp.ensures ∙ (λ i. slice_cmp nat_cmp (first i)
-    (second i))))
+    let first = option_copied-get one shared c.get.result c.get.ensures.lookup.0 c.get.ensures.lookup.1 in
+    let second = option_copied-get other shared c.get-2.result c.get-2.ensures.lookup.0 c.get-2.ensures.lookup.1 in
+    subst (λ o. Leads o (closed_text place one) (closed_text place other)) (sym (c.order_after_shared.ensures
+    ∙ (λ i. slice_cmp nat_cmp (written_byte place (first i)) (written_byte place (second i)))))
     (text_leads place one other shared c.shared_len-shared.ensures.shared c.shared_len-shared.ensures.apart)
