@@ -1,10 +1,10 @@
 -- Histories of one hall, of which one extends the other.
 use Rattle.std.proofs.Common.{◌≡◌, ℕ, ◌+◌, List, [], ◌∷◌, ◌++◌, length, true, false, sym, ap, ◌∙◌, inl, inr, arith, append-nil, append_assoc, length-append}
 use Rattle.std.proofs.lemmas.Bool.Decides.{nat_tests}
+use Rattle.std.proofs.lemmas.List.{nil_from_length}
 use Rattle.ifmap_hall.specs.Histories.{Extends, Ordered, GainsAtMostOne}
 use Rattle.ifmap_hall.specs.Views.{is_later}
 use Rattle.ifmap_hall.specs.declared.view.History.{History}
-use Rattle.ifmap_hall.proofs.General.{none_left}
 
 module _ {E : Type 0} where
   pub extends-itself : (h : History E) → Extends h h
@@ -36,7 +36,7 @@ module _ {E : Type 0} where
   earlier_extends h k (inl a) e =
       let x = a.from in
       let l = longer h k a in
-      let none : a.rest ≡ [] = none_left a.rest (grind (arith, nat_tests)) in
+      let none : a.rest ≡ [] = nil_from_length a.rest (grind (arith, nat_tests)) in
       record {
         from = grind (arith, nat_tests);
         rest = [];

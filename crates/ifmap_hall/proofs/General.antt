@@ -20,13 +20,6 @@ module _ {V : Type 0} where
   only_one x zero v e = (refl, some-injective x v e)
   only_one x (suc i) v e = absurd (some-ne-none v (sym e))
 
-  pub cut_same : (xs ys zs ws : List V) → length xs ≡ length zs → xs ++ ys ≡ zs ++ ws → ys ≡ ws
-  cut_same xs ys zs ws l e = sym (drop-append_seam xs ys) ∙ ap (drop (length xs)) e ∙ ap (λ n. drop n (zs ++ ws)) l ∙ drop-append_seam zs ws
-
-  pub none_left : (xs : List V) → length xs ≡ 0 → xs ≡ []
-  none_left [] e = refl
-  none_left (x ∷ xs) e = absurd (omega arith)
-
   pub front_of : (n : ℕ) (xs ys : List V) → n ≤ length xs → take n (take n xs ++ ys) ≡ take n xs
   front_of n xs ys h =
       let l : length (take n xs) ≡ n = length-take n xs ∙ omega arith in

@@ -1,6 +1,7 @@
 -- The oldest entry goes to the base, and a new entry is written.
 use Rattle.std.proofs.Common.{◌≡◌, ℕ, ◌+◌, ◌-◌, ◌^◌, ◌<◌, ◌≤◌, List, [], ◌∷◌, ◌++◌, zero, suc, length, drop, slice_index_or, refl, sym, ap, ◌∙◌, inl, inr, arith, length-append, length-drop, drop-drop, append-nil}
 use Rattle.std.proofs.lemmas.Bool.{cases_lt}
+use Rattle.std.proofs.lemmas.List.{nil_from_length}
 use Rattle.std.proofs.lemmas.List.Elements.{recursion_from_All, All-from_recursion, All-append}
 use Rattle.std.proofs.lemmas.List.Sums.{sum_by-cons, sum_by-append}
 use Rattle.std.specs.Prelude.{sum_by}
@@ -12,7 +13,6 @@ use Rattle.ifmap_hall.specs.declared.book.Asked.{Asked}
 use Rattle.ifmap_hall.specs.declared.book.Asked.TheVariants.{Done, Held, Spent, NoMemory}
 use Rattle.ifmap_hall.specs.declared.book.Book.{Book}
 use Rattle.ifmap_hall.proofs.CarryingOn.{run-append, carries-itself, carries-through}
-use Rattle.ifmap_hall.proofs.General.{none_left}
 
 module _ {M E : Type 0} (next : M → E → M) (weight : E → ℕ) where
   settled_at : (m base : M) (from bytes limit heaviest : ℕ) (z : ℕ × E) (zs : List (ℕ × E))
@@ -108,7 +108,7 @@ module _ {M E R : Type 0} (next : M → E → M) (weight : E → ℕ) where
       ap length r.1 ∙ length-append (drop (c.from - b.from) b.journal.items) r.0
       ∙ ap (λ n. n + length r.0) (length-drop (c.from - b.from) b.journal.items) in
       let from = s.carries.from in
-      r.1 ∙ ap (λ ys. drop (c.from - b.from) b.journal.items ++ ys) (none_left r.0 (omega arith))
+      r.1 ∙ ap (λ ys. drop (c.from - b.from) b.journal.items ++ ys) (nil_from_length r.0 (omega arith))
       ∙ append-nil (drop (c.from - b.from) b.journal.items)
 
   -- the oldest entry had to go where there was no room

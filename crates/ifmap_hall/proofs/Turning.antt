@@ -2,7 +2,7 @@
 -- found from what carries on (`grew`), by none where the end is the same and by the one that was entered (`grew_as_told`). From it
 -- come what the book may be given back as, what the turn tells, and what each answer says.
 use Rattle.std.proofs.Common.{◌≡◌, ℕ, ◌+◌, ◌-◌, ◌^◌, ◌<◌, ◌≤◌, List, [], ◌∷◌, ◌++◌, length, take, drop, map, Bool, true, false, refl, sym, ap, subst, ◌∙◌, inl, inr, arith, append-nil, length-append, length-drop, take-add}
-use Rattle.std.proofs.lemmas.List.{take-append-drop}
+use Rattle.std.proofs.lemmas.List.{nil_from_length, take-append-drop}
 use Rattle.std.proofs.Math.Seq.{drop-append_seam, drop-length}
 use Rattle.ifmap_hall.specs.Answers.{IfDone, IfHeld, IfSpent, IfNoMemory}
 use Rattle.ifmap_hall.specs.Asking.{TookATurn, SaidNothing, Said, Answered, Turned}
@@ -19,8 +19,9 @@ use Rattle.ifmap_hall.specs.declared.view.History.{History}
 use Rattle.ifmap_hall.specs.declared.view.View.{View}
 use Rattle.ifmap_hall.proofs.CarryingOn.{run-append}
 use Rattle.ifmap_hall.proofs.Extending.{extends-through, longer}
-use Rattle.ifmap_hall.proofs.General.{cut_same, none_left, joined_up, front_of, rest_of}
+use Rattle.ifmap_hall.proofs.General.{joined_up, front_of, rest_of}
 use Rattle.ifmap_hall.proofs.Places.{gains_rise, rises_le}
+use Rattle.ifmap_lemmas.specs.Lists.{cut_same}
 
 module _ {M E R : Type 0} (next : M → E → M) (weight : E → ℕ) (holds_on : M → E → Bool) (reply : M → E → R) where
   -- what a turn of the book ensures
@@ -101,7 +102,7 @@ module _ {M E R : Type 0} (next : M → E → M) (weight : E → ℕ) (holds_on 
           ap length g.1 ∙ length-append (drop (b'.from - b.from) b.journal.items) g.0
           ∙ ap (λ n. n + length g.0) (length-drop (b'.from - b.from) b.journal.items) in
           let f = c.from in let i = g.2.near in
-          subst (λ (xs : List (ℕ × E)). Grew xs) (none_left g.0 (omega arith)) g.2
+          subst (λ (xs : List (ℕ × E)). Grew xs) (nil_from_length g.0 (omega arith)) g.2
 
       -- by one, where one was entered
       grew_by_one : (place : ℕ) (x : ℕ × E) → CarriesOn next (sight_of b) (sight_of b') → place ≡ end_of_book b

@@ -18,6 +18,6 @@ pub record Seen : Type 0 where
   pub write_faults : ℕ
 
 -- a link by its four meanings
-abbrev pub seen : {L : Type 0} → (L → Option (List ℕ)) → (L → Option (List ℕ)) → (L → ℕ) → (L → ℕ) → L → Seen
-seen left held reading writing link =
+abbrev pub wire_link_seen : {L : Type 0} → (L → Option (List ℕ)) → (L → Option (List ℕ)) → (L → ℕ) → (L → ℕ) → L → Seen
+wire_link_seen left held reading writing link =
     record { left = left link; held = held link; read_faults = reading link; write_faults = writing link }

@@ -3,7 +3,7 @@ ghost use Rattle.std.specs.Prelude.{◌≡◌, ◌-◌, ◌<◌, ◌↔◌, ◌+
 ghost use Rattle.std.specs.VecDeque.{deque_len};
 ghost use Rattle.ifmap_io.specs.Causes.{HasCause};
 ghost use Rattle.ifmap_io.specs.Doors.{Doorway, Accepts, TakesBack};
-ghost use Rattle.ifmap_io.specs.Links.{seen};
+ghost use Rattle.ifmap_io.specs.Links.{wire_link_seen};
 ghost use Rattle.ifmap_io.specs.Memory.{porch_seen, FailsAsListed, one_more, faults_after};
 
 use crate::ends::Failed;
@@ -28,7 +28,8 @@ pub trait Door {
     /// The first link that is left, or None where none is. A call that fails changes nothing else.
     fn accept(&mut self) -> Result<Option<Self::Wire>, Failed>
         ensures links { Accepts
-            (seen Self.Wire.left Self.Wire.held Self.Wire.Source.faults Self.Wire.Sink.faults)
+            (wire_link_seen Self.Wire.left Self.Wire.held Self.Wire.Source.faults
+            Self.Wire.Sink.faults)
             (links self.old) (links self.new) result }
         ensures told { is_some (links self.new) ≡ is_some (links self.old) }
         ensures cause { HasCause (faults self.old) (faults self.new) result };
@@ -37,8 +38,8 @@ pub trait Door {
     /// and else it is dropped.
     fn ended(&mut self, link: Self::Wire)
         ensures links { TakesBack (links self.old) (links self.new)
-            (seen Self.Wire.left Self.Wire.held Self.Wire.Source.faults Self.Wire.Sink.faults
-            link) }
+            (wire_link_seen Self.Wire.left Self.Wire.held Self.Wire.Source.faults
+            Self.Wire.Sink.faults link) }
         ensures told { is_some (links self.new) ≡ is_some (links self.old) }
         ensures faults { faults self.new ≡ faults self.old };
 }

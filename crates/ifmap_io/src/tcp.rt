@@ -3,7 +3,7 @@ ghost use Rattle.std.specs.Prelude.{◌≡◌, IfOk, IsSome, None};
 ghost use Rattle.std.specs.Io.{ReadsAtMost};
 ghost use Rattle.ifmap_io.specs.Causes.{HasCause};
 ghost use Rattle.ifmap_io.specs.Doors.{Accepts};
-ghost use Rattle.ifmap_io.specs.Links.{seen};
+ghost use Rattle.ifmap_io.specs.Links.{wire_link_seen};
 ghost use Rattle.ifmap_io.specs.Memory.{faults_after};
 
 use crate::doors::Door;
@@ -162,7 +162,7 @@ impl<'a> Door for TcpDoor<'a> {
 
     fn accept(&mut self) -> Result<Option<TcpLink>, Failed>
         ensures links { Accepts
-            (seen ⟦<TcpLink as Source>⟧.left ⟦<TcpLink as Sink>⟧.held
+            (wire_link_seen ⟦<TcpLink as Source>⟧.left ⟦<TcpLink as Sink>⟧.held
             ⟦<TcpLink as Source>⟧.faults ⟦<TcpLink as Sink>⟧.faults)
             None None result }
         ensures some { IfOk result IsSome }

@@ -7,11 +7,12 @@ use Rattle.std.specs.Prelude.{option_map}
 use Rattle.std.specs.List as lists
 use Rattle.std.specs.Cmp.{IsTotalOrder}
 use Rattle.std.specs.FinMap as map
+use Rattle.ifmap_lemmas.specs.Options.{is_some_of}
 use Rattle.ifmap_pool.specs.Holdings.{Holdings, IsPresent, IsPool, Takes, Frees}
 use Rattle.ifmap_pool.specs.Index.{slot_at, slot_count, Writes, AreFree, IsPlace, IsKept, entry_of, live_of}
 use Rattle.ifmap_pool.specs.declared.slots.Held.{Held}
 use Rattle.ifmap_pool.proofs.Live.{live_of-set, live_of-removed}
-use Rattle.ifmap_pool.proofs.Kept.{IsSome-from, IsIndexed-written, IsIndexed-inserted, IsIndexed-removed}
+use Rattle.ifmap_pool.proofs.Kept.{IsIndexed-written, IsIndexed-inserted, IsIndexed-removed}
 use Rattle.ifmap_pool.proofs.Named.{same_holdings, entry_is, is_pool, pool_kept, absent_at}
 use Rattle.ifmap_pool.proofs.Emptiness.{one_of, slot_within, written, count_written}
 
@@ -24,7 +25,7 @@ module _ {K : Type 0} where
   free_written : (slots : List (Option (Held K))) (free : List ℕ) (number : ℕ) (old value : Held K) → slot_at slots number ≡ Some old
       → AreFree slots free → AreFree (set slots number (Some value)) free
   free_written slots free number old value was f =
-      let inside = slot_within slots number (IsSome-from _ old was) in
+      let inside = slot_within slots number (is_some_of _ old was) in
       let all = count_written slots number (Some value) inside in
       let had = ap one_of was in
       record {
@@ -71,7 +72,7 @@ module _ {K : Type 0} where
         (after : List (Option (Held K))) (wrote : after ≡ set slots number (Some value)) where
       pub is_written : Writes slots after number (Some value)
       is_written = subst (λ (s : List (Option (Held K))). Writes slots s number (Some value)) (sym wrote)
-          (written slots number (Some value) (slot_within slots number (IsSome-from _ old was)))
+          (written slots number (Some value) (slot_within slots number (is_some_of _ old was)))
 
       pub kept_write : IsKept cmp after free order len limit
       kept_write = record {
@@ -80,7 +81,7 @@ module _ {K : Type 0} where
         free_slots = subst (λ (s : List (Option (Held K))). AreFree s free) (sym wrote) (free_written slots free number old value was
             kept.free_slots);
         counted =
-            let all = count_written slots number (Some value) (slot_within slots number (IsSome-from _ old was)) in
+            let all = count_written slots number (Some value) (slot_within slots number (is_some_of _ old was)) in
             let had = ap one_of was in
             omega (arith, kept.counted, all, had, ap slot_count wrote);
         within = omega (arith, kept.within, ap length wrote, length-set slots number (Some value));

@@ -7,20 +7,14 @@ use Rattle.std.proofs.lemmas.Bool.{cases_eq, cases_lt}
 use Rattle.std.proofs.lemmas.Cmp.{tied_itself, tied_back}
 use Rattle.std.proofs.lemmas.List.Edits.{length-insert, get_or-insert_below, get_or-insert_at, get_or-insert_above, length-remove, get_or-remove_below, get_or-remove_above}
 use Rattle.std.proofs.lemmas.Option.{same_Some, none-some}
-use Rattle.std.specs.Prelude.{IsSome, is_some}
+use Rattle.std.specs.Prelude.{IsSome}
 use Rattle.std.specs.List.{insert, remove}
 use Rattle.std.specs.Cmp.{IsTotalOrder}
 use Rattle.std.specs.declared.cmp.Ordering.TheVariants.{Equal}
+use Rattle.ifmap_lemmas.specs.Options.{is_some_of, some_is}
+use Rattle.ifmap_lemmas.specs.Orderings.{greater_turned}
 use Rattle.ifmap_pool.specs.Index.{AllBelow, AllAbove, IsPlace, IsIndexed}
 use Rattle.ifmap_pool.specs.declared.slots.Held.{Held}
-use Rattle.ifmap_pool.proofs.Search.{Less-from_greater}
-
-pub IsSome-from : {A : Type 0} (o : Option A) (x : A) → o ≡ Some x → IsSome o
-IsSome-from o x e = ap is_some e
-
-pub some_from : {A : Type 0} (o : Option A) → IsSome o → (x : A) × (o ≡ Some x)
-some_from None h = absurd (cc)
-some_from (Some x) h = (x, refl)
 
 -- what stands at a place after an insert stood in the list before
 record Moved (order : List ℕ) (place number k : ℕ) : Type 0 where
@@ -106,8 +100,8 @@ module _ {K : Type 0} {cmp : K → K → Ordering} (total : IsTotalOrder cmp) wh
     -- two numbers whose keys are equal are one
     pub one_number : (m n : ℕ) (a b : Held K) → slot m ≡ Some a → slot n ≡ Some b → cmp a.key b.key ≡ Equal → m ≡ n
     one_number m n a b at_m at_n e =
-        let first = indexed.listed m (IsSome-from _ a at_m) in
-        let second = indexed.listed n (IsSome-from _ b at_n) in
+        let first = indexed.listed m (is_some_of _ a at_m) in
+        let second = indexed.listed n (is_some_of _ b at_n) in
         let same : first.0 ≡ second.0 = one_place first.0 second.0 a b first.1 second.1 (ap slot first.2 ∙ at_m) (ap slot second.2 ∙
         at_n) e in
         sym first.2 ∙ ap (λ i. get_or order i 0) same ∙ second.2
@@ -116,7 +110,7 @@ module _ {K : Type 0} {cmp : K → K → Ordering} (total : IsTotalOrder cmp) wh
     pub none_missed : (key : K) (place : ℕ) → IsPlace cmp slot order key (Err place) → (number : ℕ) (held : Held K)
         → slot number ≡ Some held → cmp held.key key ≢ Equal
     none_missed key place missing number held is tie =
-        let listed = indexed.listed number (IsSome-from _ held is) in
+        let listed = indexed.listed number (is_some_of _ held is) in
         let here : slot (get_or order listed.0 0) ≡ Some held = ap slot listed.2 ∙ is in
         elim (cases_lt listed.0 place) [
           | inl front ↦ let less = missing.1 listed.0 held front here in cc
@@ -127,14 +121,14 @@ module _ {K : Type 0} {cmp : K → K → Ordering} (total : IsTotalOrder cmp) wh
     pub place_held : (key : K) (place : ℕ) → IsPlace cmp slot order key (Ok place) → (number : ℕ) → get_or order place 0 ≡ number
         → (held : Held K) × (slot number ≡ Some held) × (cmp held.key key ≡ Equal)
     place_held key place found number stands =
-        let there = some_from _ (indexed.live place found.0) in
+        let there = some_is _ (indexed.live place found.0) in
         (there.0, sym (ap slot stands) ∙ there.1, found.1 there.0 there.1)
 
     -- the search finds a value's key at its number
     pub number_found : (key : K) (place : ℕ) → IsPlace cmp slot order key (Ok place) → (number : ℕ) (held : Held K)
         → slot number ≡ Some held → cmp held.key key ≡ Equal → get_or order place 0 ≡ number
     number_found key place found number held is tie =
-        let there = some_from _ (indexed.live place found.0) in
+        let there = some_is _ (indexed.live place found.0) in
         one_number _ number there.0 held there.1 is (total.congr _ _ held.key (found.1 there.0 there.1) ∙ tied_back total _ _ tie)
 
   -- a value is written over one with its key
@@ -148,8 +142,8 @@ module _ {K : Type 0} {cmp : K → K → Ordering} (total : IsTotalOrder cmp) wh
             let second = earlier _ b at_j in
             ap (λ k. cmp k b.key) first.2 ∙ ap (cmp first.0.key) second.2 ∙ indexed.rising i j first.0 second.0 before within first.1
             second.1;
-        live = λ i within. let there = some_from _ (indexed.live i within) in later _ there.0 there.1;
-        listed = λ n some. let there = some_from _ some in let before = earlier n there.0 there.1 in indexed.listed n (IsSome-from _
+        live = λ i within. let there = some_is _ (indexed.live i within) in later _ there.0 there.1;
+        listed = λ n some. let there = some_is _ some in let before = earlier n there.0 there.1 in indexed.listed n (is_some_of _
             before.0 before.1);
         held = λ n entry at_n. elim (cases_eq n number) [
           | inl here ↦ let one : value ≡ entry = same_Some _ _ (sym is ∙ sym (ap new here) ∙ at_n) in subst (λ (h : Held K). 0 < h.holds)
@@ -168,8 +162,8 @@ module _ {K : Type 0} {cmp : K → K → Ordering} (total : IsTotalOrder cmp) wh
       later : (n : ℕ) (b : Held K) → slot n ≡ Some b → IsSome (new n)
       later n b at_n =
           elim (cases_eq n number) [
-            | inl here ↦ IsSome-from _ value (ap new here ∙ is)
-            | inr differs ↦ IsSome-from _ b (others n differs ∙ at_n)
+            | inl here ↦ is_some_of _ value (ap new here ∙ is)
+            | inr differs ↦ is_some_of _ b (others n differs ∙ at_n)
           ]
 
   -- a value gets a number that was free
@@ -192,16 +186,16 @@ module _ {K : Type 0} {cmp : K → K → Ordering} (total : IsTotalOrder cmp) wh
               | inr here ↦ elim (source j (omega (arith, length-insert order place number within))) [
                 | inl old_j ↦
                     let one : value ≡ a = same_Some _ _ (sym is ∙ sym (ap new here.1) ∙ at_i) in
-                    sym (ap (λ (h : Held K). cmp h.key b.key) one) ∙ Less-from_greater total _ _ (above old_j.from b (omega arith)
+                    sym (ap (λ (h : Held K). cmp h.key b.key) one) ∙ greater_turned total _ _ (above old_j.from b (omega arith)
                     old_j.within (was_at j b old_j at_j))
                 | inr also ↦ absurd (omega arith)
               ]
             ];
         live = λ i i_in. elim (source i (omega (arith, length-insert order place number within))) [
           | inl old_i ↦
-              let there = some_from _ (indexed.live old_i.from old_i.within) in
-              IsSome-from _ there.0 (ap new old_i.is ∙ kept old_i.from old_i.within ∙ there.1)
-          | inr here ↦ IsSome-from _ value (ap new here.1 ∙ is)
+              let there = some_is _ (indexed.live old_i.from old_i.within) in
+              is_some_of _ there.0 (ap new old_i.is ∙ kept old_i.from old_i.within ∙ there.1)
+          | inr here ↦ is_some_of _ value (ap new here.1 ∙ is)
         ];
         listed = λ n some. elim (cases_eq n number) [
           | inl here ↦ (
@@ -243,7 +237,7 @@ module _ {K : Type 0} {cmp : K → K → Ordering} (total : IsTotalOrder cmp) wh
 
       kept : (k : ℕ) → k < length order → new (get_or order k 0) ≡ slot (get_or order k 0)
       kept k k_in = others _ (λ same.
-          let there = some_from _ (indexed.live k k_in) in
+          let there = some_is _ (indexed.live k k_in) in
           none-some there.0 (sym was ∙ sym (ap slot same) ∙ there.1))
 
       source : (k : ℕ) → k < length order + 1 → Moved order place number k ⊎ ((k ≡ place) × (get_or (insert order place number) k 0 ≡
@@ -268,12 +262,12 @@ module _ {K : Type 0} {cmp : K → K → Ordering} (total : IsTotalOrder cmp) wh
             b second at_j);
         live = λ i i_in.
             let from = closed order place i within (omega (arith, length-remove order place within)) in
-            let there = some_from _ (indexed.live from.from from.within) in
-            IsSome-from _ there.0 (ap new from.is ∙ kept i from ∙ there.1);
+            let there = some_is _ (indexed.live from.from from.within) in
+            is_some_of _ there.0 (ap new from.is ∙ kept i from ∙ there.1);
         listed = λ n some.
-            let there = some_from _ some in
+            let there = some_is _ some in
             let differs : n ≢ number = λ same. none-some there.0 (sym none ∙ sym (ap new same) ∙ there.1) in
-            let before = indexed.listed n (IsSome-from _ there.0 (sym (others n differs) ∙ there.1)) in
+            let before = indexed.listed n (is_some_of _ there.0 (sym (others n differs) ∙ there.1)) in
             let elsewhere : before.0 ≢ place = λ same. differs (sym before.2 ∙ ap (λ i. get_or order i 0) same ∙ stood) in
             elim (cases_lt before.0 place) [
               | inl front ↦ (
@@ -304,7 +298,7 @@ module _ {K : Type 0} {cmp : K → K → Ordering} (total : IsTotalOrder cmp) wh
 
       kept : (k : ℕ) (s : Closed order place k) → new (get_or order s.from 0) ≡ slot (get_or order s.from 0)
       kept k s = others _ (λ same.
-          let there = some_from _ (indexed.live s.from s.within) in
+          let there = some_is _ (indexed.live s.from s.within) in
           let here : slot (get_or order place 0) ≡ Some there.0 = ap slot (stood ∙ sym same) ∙ there.1 in
           let one : s.from ≡ place = one_place slot order indexed s.from place there.0 there.0 s.within within there.1 here (tied_itself
           total there.0.key) in

@@ -87,7 +87,8 @@ module _ {K : Type 0} where
   len_listed first (Some held ∷ rest) =
       let none : get (from_entries {R = nat_cmp} (listed (first + 1) rest)) first ≡ None
       = get-from_entries nat_cmp_total (listed (first + 1) rest) first ∙ find_before (first + 1) first rest (omega arith)
-      in let more : len (from_entries {R = nat_cmp} (listed first (Some held ∷ rest))) ≡ len (from_entries {R = nat_cmp} (listed (first + 1) rest)) + 1
+      in let more : len (from_entries {R = nat_cmp} (listed first (Some held ∷ rest)))
+      ≡ len (from_entries {R = nat_cmp} (listed (first + 1) rest)) + 1
       = len-insert nat_cmp_total (from_entries (listed (first + 1) rest)) first (entry_of held)
       ∙ ap (λ o. cond (is_some o) (len (from_entries {R = nat_cmp} (listed (first + 1) rest)))
       (len (from_entries {R = nat_cmp} (listed (first + 1) rest)) + 1)) none

@@ -6,11 +6,12 @@ use Rattle.std.specs.Prelude.{IsSome, is_some, option_map, unwrap_or}
 use Rattle.std.specs.Cmp.{IsTotalOrder}
 use Rattle.std.specs.FinMap.{get}
 use Rattle.std.specs.declared.cmp.Ordering.TheVariants.{Equal}
+use Rattle.ifmap_lemmas.specs.Options.{is_some_of, some_is}
 use Rattle.ifmap_pool.specs.Holdings.{Holdings, entry_at, key_at, holds_at, Names, IsAbsent, OneToOne, IsPool}
 use Rattle.ifmap_pool.specs.Index.{IsPlace, IsIndexed, entry_of, live_of}
 use Rattle.ifmap_pool.specs.declared.slots.Held.{Held}
 use Rattle.ifmap_pool.proofs.Live.{get-live_of}
-use Rattle.ifmap_pool.proofs.Kept.{IsSome-from, some_from, one_number, none_missed}
+use Rattle.ifmap_pool.proofs.Kept.{one_number, none_missed}
 use Rattle.ifmap_pool.proofs.Emptiness.{slot_within}
 
 module _ {K : Type 0} where
@@ -62,7 +63,7 @@ module _ {K : Type 0} where
 
     pub slot_from_live : (number : ℕ) → IsSome (entry_at pool number) → (held : Held K) × (get_or slots number None ≡ Some held)
     slot_from_live number live =
-        let entry = some_from _ live in
+        let entry = some_is _ live in
         let there = slot_from_entry number entry.0 entry.1 in
         (there.0, there.1)
 
@@ -92,7 +93,7 @@ module _ {K : Type 0} where
         one_to_one = numbers_apart;
         below = λ number live.
             let there = slot_from_live number live in
-            let inside : number < length slots = slot_within slots number (IsSome-from _ there.0 there.1) in
+            let inside : number < length slots = slot_within slots number (is_some_of _ there.0 there.1) in
             omega (arith, inside, within);
         held = λ number live.
             let there = slot_from_live number live in
@@ -105,7 +106,7 @@ module _ {K : Type 0} where
       pub named_at : (key : K) (place : ℕ) → IsPlace cmp (λ n. get_or slots n None) order key (Ok place)
           → Names cmp pool (get_or order place 0) key
       named_at key place found =
-          let there = some_from _ (indexed.live place found.0) in
+          let there = some_is _ (indexed.live place found.0) in
           names_from_slot cmp _ there.0 key there.1 (found.1 there.0 there.1)
 
       pub absent_at : (key : K) (place : ℕ) → IsPlace cmp (λ n. get_or slots n None) order key (Err place) → IsAbsent cmp pool key

@@ -2,20 +2,13 @@
 use Rattle.std.proofs.Common.{◌≡◌, ℕ, ◌+◌, ◌<◌, List, length, get_or, Option, Some, Ordering, sym, ap, ◌∙◌, inl, inr, arith}
 use Rattle.std.proofs.lemmas.Bool.{cases_eq}
 use Rattle.std.proofs.lemmas.Option.{same_Some}
-use Rattle.std.specs.Ordering.{ordering_reverse}
 use Rattle.std.specs.Cmp.{IsTotalOrder}
 use Rattle.std.specs.declared.cmp.Ordering.TheVariants.{Less, Greater}
+use Rattle.ifmap_lemmas.specs.Orderings.{greater_turned, less_turned}
 use Rattle.ifmap_pool.specs.Index.{AllBelow, AllAbove, IsIndexed}
 use Rattle.ifmap_pool.specs.declared.slots.Held.{Held}
 
 module _ {K : Type 0} {cmp : K → K → Ordering} (total : IsTotalOrder cmp) where
-  -- what is less one way is greater the other
-  pub Greater-from_less : (a b : K) → cmp a b ≡ Less → cmp b a ≡ Greater
-  Greater-from_less a b e = total.antisymm b a ∙ ap ordering_reverse e
-
-  pub Less-from_greater : (a b : K) → cmp a b ≡ Greater → cmp b a ≡ Less
-  Less-from_greater a b e = total.antisymm b a ∙ ap ordering_reverse e
-
   module _ (slot : ℕ → Option (Held K)) (order : List ℕ) (indexed : IsIndexed cmp slot order) (key : K) (middle : ℕ) (found : Held K)
     where
       -- the key at the middle is below: so is each in front of it
@@ -37,6 +30,6 @@ module _ {K : Type 0} {cmp : K → K → Ordering} (total : IsTotalOrder cmp) wh
                 let one : held ≡ found = same_Some _ _ (sym at_k ∙ ap (λ i. slot (get_or order i 0)) same ∙ is) in
                 ap (λ h. cmp h.key key) one ∙ greater
             | inr differs ↦
-                Greater-from_less key held.key (total.trans _ _ _ (Less-from_greater _ _ greater) (indexed.rising middle k found held
+                less_turned total key held.key (total.trans _ _ _ (greater_turned total _ _ greater) (indexed.rising middle k found held
                 (omega arith) within is at_k))
           ]

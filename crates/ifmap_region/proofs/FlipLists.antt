@@ -1,6 +1,6 @@
 -- One flip more.
 use Rattle.std.proofs.Common.{◌≡◌, ℕ, Bool, true, false, Option, Some, None, List, [], ◌∷◌, ◌++◌, Contains, ◌⊎◌, inl, inr, refl, sym, ap, subst, ◌∙◌, cond, nat_eq}
-use Rattle.std.specs.Prelude.{MatchOption, IfSome}
+use Rattle.std.specs.Prelude.{MatchOption, IfSome, IsSome}
 use Rattle.std.proofs.lemmas.Option.{same_Some, none-some}
 use Rattle.std.proofs.lemmas.Bool.{and_parts, and_from, eqb-true, eq-eqb}
 use Rattle.std.proofs.lemmas.List.Elements.{Contains-append_left, Contains-push, Contains-push_cases}
@@ -8,6 +8,7 @@ use Rattle.std.specs.HashSet.{HashSet, contains}
 use Rattle.ifmap_region.specs.declared.flips.Flip.{Flip}
 use Rattle.ifmap_region.specs.Flips.{Joins, IsFlipped, flipped_cases}
 use Rattle.ifmap_region.specs.Hiding.{same_pair, hides}
+use Rattle.ifmap_region.specs.Marks.{mark_of, HasMarkedEnd}
 use Rattle.ifmap_region.specs.Seeds.{SeedsAlong}
 
 module _ (flips : List Flip) (flip : Flip) (added : Bool) (v w : ℕ) where
@@ -45,6 +46,17 @@ pub hides_here : {S : Type 0} (old new : HashSet (ℕ × ℕ) S) (a b v w : ℕ)
     → a ≡ v → b ≡ w → hides new v w ≡ true
 hides_here old new a b v w put e f =
     put (v, w) ∙ ap (λ (t : Bool). cond t true (hides old v w)) (and_from (nat_eq a v) (nat_eq b w) (eq-eqb a v e) (eq-eqb b w f))
+
+-- pairs that have an end with a mark
+module _ (marks : List (ℕ × Option ℕ)) where
+  pub marked_at : (a b v w : ℕ) → a ≡ v → b ≡ w → HasMarkedEnd marks a b → HasMarkedEnd marks v w
+  marked_at a b v w e f h = elim h [
+    | inl m ↦ inl (subst (λ (n : ℕ). IsSome (mark_of marks n)) e m)
+    | inr m ↦ inr (subst (λ (n : ℕ). IsSome (mark_of marks n)) f m)
+  ]
+
+  pub marked_turned : (v w : ℕ) → HasMarkedEnd marks w v → HasMarkedEnd marks v w
+  marked_turned v w h = elim h [ inl m ↦ inr m | inr m ↦ inl m ]
 
 -- where each pair was there both ways round, it is after one that is put in both ways round
 pub turned_both : {S : Type 0} (old mid new : HashSet (ℕ × ℕ) S) (a b : ℕ)

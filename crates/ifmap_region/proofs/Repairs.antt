@@ -7,7 +7,7 @@ use Rattle.std.specs.HashSet.{HashSet}
 use Rattle.ifmap_region.specs.declared.flips.Flip.{Flip}
 use Rattle.ifmap_region.specs.Bounds.{IsWithin, within_wider, within_heavier, within_more, within_both}
 use Rattle.ifmap_region.specs.Flips.{IsFlipped, WithRemoved, Mid, Old}
-use Rattle.ifmap_region.specs.Hiding.{hides, unhidden}
+use Rattle.ifmap_region.specs.Hiding.{hides, unless_hidden}
 use Rattle.ifmap_region.specs.Links.{Linked, IsSymmetric}
 use Rattle.ifmap_region.specs.Losing.{IsBeforeCut}
 use Rattle.ifmap_region.specs.Near.{at_flip, touched, beside, NearOneWay, NearFlips, SameDepth}
@@ -68,7 +68,7 @@ module _ (new : ℕ → ℕ → Type 0) (terminal : ℕ → Bool) (flips : List 
 
 -- the links of a graph where some of the added ones are hidden: of those that are not, no end has a mark
 module _ {S : Type 0} (count : ℕ → ℕ) (link : ℕ → ℕ → Option ℕ) (hidden : HashSet (ℕ × ℕ) S) where
-  shown_parts : (v w : ℕ) → Linked count (λ v i. unhidden hidden v (link v i)) v w → Linked count link v w × (hides hidden v w ≡ false)
+  shown_parts : (v w : ℕ) → Linked count (λ v i. unless_hidden hidden v (link v i)) v w → Linked count link v w × (hides hidden v w ≡ false)
   shown_parts v w l = by (link v l.0) refl l.2
     where
       test : (x : ℕ) (t : Bool) → hides hidden v x ≡ t → link v l.0 ≡ Some x → (if t then None else Some x) ≡ Some w
@@ -76,19 +76,19 @@ module _ {S : Type 0} (count : ℕ → ℕ) (link : ℕ → ℕ → Option ℕ) 
       test x true e here f = absurd (none-some w f)
       test x false e here f = let same = same_Some x w f in ((l.0, l.1, here ∙ f), ap (hides hidden v) (sym same) ∙ e)
 
-      by : (o : Option ℕ) → link v l.0 ≡ o → unhidden hidden v o ≡ Some w → Linked count link v w × (hides hidden v w ≡ false)
+      by : (o : Option ℕ) → link v l.0 ≡ o → unless_hidden hidden v o ≡ Some w → Linked count link v w × (hides hidden v w ≡ false)
       by None e f = absurd (none-some w f)
       by (Some x) e f = test x (hides hidden v x) refl e f
 
-  shown_made : (v w : ℕ) → Linked count link v w → hides hidden v w ≡ false → Linked count (λ v i. unhidden hidden v (link v i)) v w
-  shown_made v w l e = (l.0, l.1, ap (unhidden hidden v) l.2 ∙ ap (λ (t : Bool). if t then None else Some w) e)
+  shown_made : (v w : ℕ) → Linked count link v w → hides hidden v w ≡ false → Linked count (λ v i. unless_hidden hidden v (link v i)) v w
+  shown_made v w l e = (l.0, l.1, ap (unless_hidden hidden v) l.2 ∙ ap (λ (t : Bool). if t then None else Some w) e)
 
   module _ (terminal : ℕ → Bool) (flips : List Flip) (start top : ℕ) (m : ℕ → Option ℕ)
       (only : (v w : ℕ) → hides hidden v w ≡ true → IsFlipped flips true v w)
       (each : (v w k : ℕ) → IsFlipped flips true v w → m v ≡ Some k → hides hidden v w ≡ true)
       (turned : (v w : ℕ) → hides hidden v w ≡ true → hides hidden w v ≡ true) where
     abbrev pub shown : ℕ → ℕ → Type 0
-    shown = Linked count (λ v i. unhidden hidden v (link v i))
+    shown = Linked count (λ v i. unless_hidden hidden v (link v i))
 
     shown_back : (v w : ℕ) → Mid (Linked count link) flips v w → shown v w
     shown_back v w l = shown_made v w l.0 (by (hides hidden v w) refl)

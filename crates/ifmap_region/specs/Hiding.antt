@@ -10,6 +10,6 @@ abbrev pub hides : {S : Type 0} → HashSet (ℕ × ℕ) S → ℕ → ℕ → B
 hides hidden v w = contains same_pair hidden (v, w)
 
 -- the end of a link of v, where the link is not hidden
-abbrev pub unhidden : {S : Type 0} → HashSet (ℕ × ℕ) S → ℕ → Option ℕ → Option ℕ
-unhidden hidden v None = None
-unhidden hidden v (Some w) = if hides hidden v w then None else Some w
+abbrev pub unless_hidden : {S : Type 0} → HashSet (ℕ × ℕ) S → ℕ → Option ℕ → Option ℕ
+unless_hidden hidden v None = None
+unless_hidden hidden v (Some w) = if hides hidden v w then None else Some w

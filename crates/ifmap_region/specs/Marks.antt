@@ -1,5 +1,5 @@
 -- Marks: the rows of a map from numbers to depths, where a row may stand without a mark.
-use Rattle.std.specs.Prelude.{◌≡◌, ℕ, Option, Some, None, List, nat_eq, unwrap_or}
+use Rattle.std.specs.Prelude.{◌≡◌, ℕ, Option, Some, None, List, nat_eq, unwrap_or, IsSome, ◌⊎◌}
 use Rattle.std.specs.Map.{lookup, update}
 
 -- the row of a number: none, or one that holds a mark or holds none
@@ -9,6 +9,10 @@ row_of rows v = lookup (nat_eq v) rows
 -- the mark of a number, where its row holds one
 abbrev pub mark_of : List (ℕ × Option ℕ) → ℕ → Option ℕ
 mark_of rows v = unwrap_or (row_of rows v) None
+
+-- one of two numbers has a mark, or both have
+abbrev pub HasMarkedEnd : List (ℕ × Option ℕ) → ℕ → ℕ → Type 0
+HasMarkedEnd rows v w = IsSome (mark_of rows v) ⊎ IsSome (mark_of rows w)
 
 -- the marks of `rows` where they have a row, and those below elsewhere
 abbrev pub over : List (ℕ × Option ℕ) → (ℕ → Option ℕ) → ℕ → Option ℕ

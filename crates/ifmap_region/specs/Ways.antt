@@ -1,7 +1,7 @@
 -- Ways back: how rows of a region change when patches are made room for, made, taken back and swept.
-use Rattle.std.specs.Prelude.{◌≡◌, ℕ, Option, Some, None, List, map, is_some, is_none, IsSome, count_by, nat_eq, slice_get, ◌⊎◌}
+use Rattle.std.specs.Prelude.{◌≡◌, ℕ, ◌≤◌, Option, Some, None, List, map, is_some, is_none, IsSome, count_by, nat_eq, slice_get, ◌⊎◌}
 use Rattle.std.specs.Map.{update}
-use Rattle.indexmap.specs.IndexMap.{insert_entry}
+use Rattle.indexmap.specs.IndexMap.{IndexMap, insert_entry, spare}
 use Rattle.ifmap_region.specs.Marks.{row_of, mark_of, over}
 
 -- each number of the patch has a row
@@ -9,8 +9,12 @@ abbrev pub HasRoom : List (ℕ × Option ℕ) → List (ℕ × Option ℕ) → T
 HasRoom patch rows = (v : ℕ) → IsSome (row_of patch v) → IsSome (row_of rows v)
 
 -- how many numbers of the patch have no row
-abbrev pub missing : List (ℕ × Option ℕ) → List (ℕ × Option ℕ) → ℕ
-missing rows patch = count_by (λ e. is_none (row_of rows e.0)) patch
+abbrev pub missing_count : List (ℕ × Option ℕ) → List (ℕ × Option ℕ) → ℕ
+missing_count rows patch = count_by (λ e. is_none (row_of rows e.0)) patch
+
+-- as many more rows fit with no memory taken as numbers of the patch have none
+abbrev pub HasSpare : {S : Type 0} → List (ℕ × Option ℕ) → IndexMap ℕ (Option ℕ) S → Type 0
+HasSpare patch rows = missing_count rows.entries patch ≤ spare rows
 
 -- numbers of the patch that had no row may have one without a mark; all other rows stay
 abbrev pub OnlyRoom : List (ℕ × Option ℕ) → List (ℕ × Option ℕ) → List (ℕ × Option ℕ) → Type 0

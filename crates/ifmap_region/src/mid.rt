@@ -2,8 +2,8 @@
 ghost use Rattle.std.specs.Prelude.{◌≡◌, ℕ, Some, true, false, IfOk, OnOk, Contains};
 ghost use Rattle.std.specs.HashSet.{contains};
 ghost use Rattle.ifmap_region.specs.Flips.{Joins, IsFlipped};
-ghost use Rattle.ifmap_region.specs.Hiding.{hides, same_pair, unhidden};
-ghost use Rattle.ifmap_region.specs.Marks.{mark_of};
+ghost use Rattle.ifmap_region.specs.Hiding.{hides, same_pair, unless_hidden};
+ghost use Rattle.ifmap_region.specs.Marks.{mark_of, HasMarkedEnd};
 
 use crate::flips::Flip;
 use crate::link_source::LinkSource;
@@ -23,6 +23,7 @@ pub(crate) struct Mid<'a, G> {
 // Whether the flip is an added link that may be met from a number with a mark.
 fn is_near(marks: &Rows, flip: &Flip) -> bool
     ensures added { result ≡ true → flip.now.added ≡ true }
+    ensures near { result ≡ true → HasMarkedEnd marks.now.entries flip.now.a flip.now.b }
     ensures far { result ≡ false → flip.now.added ≡ true → (v w k : ℕ) → Joins flip.now v w
         → mark_of marks.now.entries v ≡ Some k → ⊥ }
 {
@@ -38,6 +39,8 @@ pub(crate) fn near_pairs(
 ) -> Result<HashSet<(u64, u64)>, NoMemory>
     ensures only { IfOk result (λ pairs. (v w : ℕ) → hides pairs v w ≡ true
         → IsFlipped flips.now true v w) }
+    ensures near { IfOk result (λ pairs. (v w : ℕ) → hides pairs v w ≡ true
+        → HasMarkedEnd marks.now.entries v w) }
     ensures each { IfOk result (λ pairs. (v w k : ℕ) → IsFlipped flips.now true v w
         → mark_of marks.now.entries v ≡ Some k → hides pairs v w ≡ true) }
     ensures turned { IfOk result (λ pairs. (v w : ℕ) → hides pairs v w ≡ true
@@ -56,7 +59,7 @@ pub(crate) fn near_pairs(
 impl<'a, G: LinkSource> LinkSource for Mid<'a, G> {
     ghost count = { λ m. G.count m.graph.now };
 
-    ghost link = { λ m v i. unhidden m.hidden v (G.link m.graph.now v i) };
+    ghost link = { λ m v i. unless_hidden m.hidden v (G.link m.graph.now v i) };
 
     ghost terminal = { λ m. G.terminal m.graph.now };
 

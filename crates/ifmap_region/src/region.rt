@@ -1,10 +1,10 @@
 //! The numbers that a bounded walk from a start reaches, each with its depth.
-ghost use Rattle.std.specs.Prelude.{◌≡◌, ℕ, Option, Some, None, List, IfOk, OnOk, OnErr, IsSome, is_some};
+ghost use Rattle.std.specs.Prelude.{◌≡◌, ℕ, Option, Some, None, List, IfOk, IsOk, OnOk, OnErr, IsSome, is_some};
 ghost use Rattle.ifmap_region.specs.Bounds.{IsWithin};
 ghost use Rattle.ifmap_region.specs.Links.{Linked};
 ghost use Rattle.ifmap_region.specs.Marks.{mark_of, row_of, over, AllMarked};
 ghost use Rattle.ifmap_region.specs.Walks.{AreDepths, IsReached};
-ghost use Rattle.ifmap_region.specs.Ways.{HasRoom, OnlyRoom, Makes, Sweeps, IsWayBack, taken_from};
+ghost use Rattle.ifmap_region.specs.Ways.{HasRoom, HasSpare, OnlyRoom, Makes, Sweeps, IsWayBack, taken_from};
 
 use crate::bases::Basis;
 use crate::link_source::LinkSource;
@@ -82,7 +82,8 @@ impl Region {
 
     /// Makes room for a patch: afterwards each of its numbers has a row. The marks stay as they are.
     ///
-    /// After want of memory the rows are as before.
+    /// Memory can only be wanting where fewer rows fit than are missing. After that the rows are as
+    /// before.
     pub fn reserve(&mut self, patch: &Patch) -> Result<(), NoMemory>
         ensures start { self.new.start ≡ self.old.start }
         ensures max_depth { self.new.max_depth ≡ self.old.max_depth }
@@ -92,6 +93,7 @@ impl Region {
         ensures only { OnOk result (OnlyRoom patch.now self.old.marks.entries
             self.new.marks.entries) }
         ensures err { OnErr result (self.new.marks.entries ≡ self.old.marks.entries) }
+        ensures succeeds { HasSpare patch.now self.old.marks → IsOk result }
     {
         make_room(&mut self.marks, &patch.rows)
     }

@@ -1,9 +1,9 @@
 //! Rows are made room for, exchanged and swept. None of it but making room takes memory.
-ghost use Rattle.std.specs.Prelude.{◌≡◌, ℕ, ◌+◌, ◌<◌, ◌≤◌, ◌⊎◌, Some, None, true, false, nat_eq, IsSome, OnOk, OnErr};
+ghost use Rattle.std.specs.Prelude.{◌≡◌, ℕ, ◌+◌, ◌<◌, ◌≤◌, ◌⊎◌, Some, None, true, false, nat_eq, IsSome, IsOk, OnOk, OnErr};
 ghost use Rattle.std.specs.Map.{update};
 ghost use Rattle.indexmap.specs.IndexMap.{spare, insert_entry};
 ghost use Rattle.ifmap_region.specs.Marks.{row_of, mark_of};
-ghost use Rattle.ifmap_region.specs.Ways.{HasRoom, missing, OnlyRoom, Makes, Sweeps, Exchanges, taken_from};
+ghost use Rattle.ifmap_region.specs.Ways.{HasRoom, HasSpare, missing_count, OnlyRoom, Makes, Sweeps, Exchanges, taken_from};
 
 use crate::rows::{Rows, has_row, mark_in};
 use std::alloc::AllocError as NoMemory;
@@ -35,7 +35,7 @@ fn is_bare(rows: &Rows, number: u64) -> bool
 
 // How many numbers of `patch` have no row.
 fn count_missing(rows: &Rows, patch: &Rows) -> usize
-    ensures { result ≡ missing rows.now.entries patch.now.entries }
+    ensures { result ≡ missing_count rows.now.entries patch.now.entries }
 {
     let mut count: usize = 0;
     for i in 0..patch.len() {
@@ -53,6 +53,7 @@ pub(crate) fn make_room(rows: &mut Rows, patch: &Rows) -> Result<(), NoMemory>
     ensures room { OnOk result (HasRoom patch.now.entries rows.new.entries) }
     ensures only { OnOk result (OnlyRoom patch.now.entries rows.old.entries rows.new.entries) }
     ensures err { OnErr result (rows.new.entries ≡ rows.old.entries) }
+    ensures succeeds { HasSpare patch.now.entries rows.old → IsOk result }
 {
     rows.reserve(count_missing(rows, patch))?;
     for i in 0..patch.len() {

@@ -4,7 +4,7 @@ use Rattle.std.specs.Prelude.{nat_lt, ◌==◌, if◌then◌else◌}
 use Rattle.std.proofs.lemmas.Option.{same_Some, none-some, cond_some}
 use Rattle.std.proofs.lemmas.Bool.{ltb-true, lt-ltb, and_parts, and_from}
 use Rattle.ifmap_region.specs.Links.{Linked, IsSymmetric}
-use Rattle.ifmap_region_tests.specs.Grid.{beside, is_corner, uncut, grid_link}
+use Rattle.ifmap_region_tests.specs.Grid.{beside, is_corner, unless_cut, grid_link}
 
 beside_back : (v w i : ℕ) → beside v i ≡ Some w → (j : ℕ) × (j < 4) × (beside w j ≡ Some v)
 beside_back v w zero e =
@@ -74,10 +74,10 @@ grid_symmetric cut v w l = by (beside v l.0) refl l.2
         let back = beside_back v w l.0 (e ∙ f) in (
           back.0,
           back.1,
-          ap (uncut cut w) back.2 ∙ ap (λ (b : Bool). if b then None else Some v)
+          ap (unless_cut cut w) back.2 ∙ ap (λ (b : Bool). if b then None else Some v)
               (ap (λ (b : Bool). cut && b) (corner_back v w) ∙ ap (λ (y : ℕ). cut && is_corner v y) (sym same) ∙ t),
         )
 
-    by : (o : Option ℕ) → beside v l.0 ≡ o → uncut cut v o ≡ Some w → Linked (λ _. 4) (grid_link cut) w v
+    by : (o : Option ℕ) → beside v l.0 ≡ o → unless_cut cut v o ≡ Some w → Linked (λ _. 4) (grid_link cut) w v
     by None e f = absurd (none-some w f)
     by (Some x) e f = shown x (cut && is_corner v x) refl e f

@@ -13,9 +13,9 @@ abbrev pub is_corner : ℕ → ℕ → Bool
 is_corner v w = ((v == 0) && (w == 1)) || ((v == 1) && (w == 0))
 
 -- the neighbour, where the link is not the one that is cut
-abbrev pub uncut : Bool → ℕ → Option ℕ → Option ℕ
-uncut cut v None = None
-uncut cut v (Some w) = if cut && is_corner v w then None else Some w
+abbrev pub unless_cut : Bool → ℕ → Option ℕ → Option ℕ
+unless_cut cut v None = None
+unless_cut cut v (Some w) = if cut && is_corner v w then None else Some w
 
 abbrev pub grid_link : Bool → ℕ → ℕ → Option ℕ
-grid_link cut v i = uncut cut v (beside v i)
+grid_link cut v i = unless_cut cut v (beside v i)

@@ -2,7 +2,7 @@ use Rattle.std.proofs.Common.{◌≡◌, ◌+◌, true, false, List, [], ◌∷�
 use Rattle.std.proofs.lemmas.List.{take_more, take_all}
 use Rattle.ifmap_region.specs.declared.flips.Flip.{Flip}
 use Rattle.ifmap_region.specs.Flips.{IsFlipped, flipped_cases}
-use Rattle.ifmap_region.proofs.FlipLists.{flipped_kept, flipped_last, hides_cases, hides_kept, hides_here, turned_both}
+use Rattle.ifmap_region.proofs.FlipLists.{flipped_kept, flipped_last, hides_cases, hides_kept, hides_here, turned_both, marked_at, marked_turned}
 use Rattle.ifmap_region.proofs.mid.near_pairs.Goals as goal
 use Rattle.ifmap_region.proofs.mid.near_pairs.Goals.{then-is_near+in_ok-insert+in_ok-insert-2, else-is_near}
 
@@ -16,6 +16,7 @@ loop-flip-preserved c =
       | then-is_near+in_ok-insert+in_ok-insert-2 s ↦
           let first = s.in_ok-insert.ensures.updates.0 in
           let second = s.in_ok-insert-2.ensures.updates.0 in
+          let marks = c.args.marks.now.entries in
           let kind = c.is_near.ensures.added s.if-is_near.true in
           rw s.pairs-is record {
             only = λ v w h. subst (λ (l : List Flip). IsFlipped l true v w) (sym more)
@@ -26,6 +27,13 @@ loop-flip-preserved c =
                   ]
                   | inr e ↦ flipped_last before f true v w kind (inr (e.1, e.0))
                 ]);
+            near = λ v w h. elim (hides_cases s.insert.new.self s.insert-then-is_near.new.self f.b f.a v w second h) [
+              | inl h1 ↦ elim (hides_cases c.loop-flip.pairs s.insert.new.self f.a f.b v w first h1) [
+                | inl h0 ↦ c.loop-flip.invariant.near v w h0
+                | inr e ↦ marked_at marks f.a f.b v w e.0 e.1 (c.is_near.ensures.near s.if-is_near.true)
+              ]
+              | inr e ↦ marked_turned marks v w (marked_at marks f.a f.b w v e.1 e.0 (c.is_near.ensures.near s.if-is_near.true))
+            ];
             each = λ v w k h m. elim (flipped_cases before f true v w (subst (λ (l : List Flip). IsFlipped l true v w) more h)) [
               | inl old ↦ hides_kept s.insert.new.self s.insert-then-is_near.new.self f.b f.a v w second (hides_kept c.loop-flip.pairs
                   s.insert.new.self f.a f.b v w first (c.loop-flip.invariant.each v w k old m))
@@ -41,6 +49,7 @@ loop-flip-preserved c =
       | else-is_near s ↦ rw s.pairs-is record {
         only = λ v w h. subst (λ (l : List Flip). IsFlipped l true v w) (sym more) (flipped_kept before f true v w
             (c.loop-flip.invariant.only v w h));
+        near = c.loop-flip.invariant.near;
         each = λ v w k h m. elim (flipped_cases before f true v w (subst (λ (l : List Flip). IsFlipped l true v w) more h)) [
           | inl old ↦ c.loop-flip.invariant.each v w k old m
           | inr j ↦ absurd (c.is_near.ensures.far s.if-is_near.false j.0 v w k j.1 m)

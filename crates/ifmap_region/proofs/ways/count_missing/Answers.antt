@@ -1,6 +1,6 @@
 use Rattle.std.proofs.Common.{sym, ap, ◌∙◌, arith, true≢false}
 use Rattle.std.proofs.lemmas.List.{take_all}
-use Rattle.ifmap_region.specs.Ways.{missing}
+use Rattle.ifmap_region.specs.Ways.{missing_count}
 use Rattle.ifmap_region.proofs.Cuts.{no_row}
 use Rattle.ifmap_region.proofs.Missing.{missing_yes, missing_no}
 use Rattle.ifmap_region.proofs.ways.count_missing.Goals as goal
@@ -20,7 +20,7 @@ loop-i-preserved c = elim c.match-get_index.branch [
 pub returns : goal.returns
 returns c =
     c.loop-i.invariant
-    ∙ ap (missing c.args.rows.now.entries) (take_all c.loop-i.i c.args.patch.now.entries (omega (
+    ∙ ap (missing_count c.args.rows.now.entries) (take_all c.loop-i.i c.args.patch.now.entries (omega (
       arith,
       c.loop-i-test.false,
       c.len-i-end.ensures.len,

@@ -1,11 +1,12 @@
 use Rattle.std.proofs.Common.{◌≡◌, ℕ, ◌+◌, Some, get_or, inl, inr, refl, sym, subst, ◌∙◌, arith, vec_len}
 use Rattle.std.proofs.lemmas.List.{get_or_default}
 use Rattle.std.specs.FinMap.{insert}
+use Rattle.ifmap_lemmas.specs.Options.{is_some_of}
 use Rattle.ifmap_pool.specs.Holdings.{HoldsOne, entry_at}
 use Rattle.ifmap_pool.specs.Index.{slot_at}
 use Rattle.ifmap_pool.specs.declared.slots.Held.{Held}
 use Rattle.ifmap_pool.proofs.Changes.{seen, live_is, whole_now, room_for_new, kept_write, seen_write, kept_take, seen_take}
-use Rattle.ifmap_pool.proofs.Kept.{IsSome-from, place_held}
+use Rattle.ifmap_pool.proofs.Kept.{place_held}
 use Rattle.ifmap_pool.proofs.Named.{holds_from_slot, entry_known, names_from_slot, absent_at}
 use Rattle.ifmap_pool.proofs.pools.Pool.hold_one.Goals as goal
 
@@ -21,7 +22,7 @@ held_at-requires g c =
     get_or_default c.self.inside.order.items c.in-Ok.place 0 number found.0 ∙ sym c.index-number.ensures in
     let there = place_held g.met.K.Ord.total (slot_at c.self.inside.slots.items) c.self.inside.order.items c.self.invariant.0.indexed
     c.args.key c.in-Ok.place found number stands in
-    rw c.deref-in-Ok.ensures.value (IsSome-from _ there.0 there.1)
+    rw c.deref-in-Ok.ensures.value (is_some_of _ there.0 there.1)
 
 pub overflow_add-holds : goal.overflow_add-holds
 overflow_add-holds g c =
@@ -41,7 +42,7 @@ overflow_add-holds g c =
 pub set_holds-requires : goal.set_holds-requires
 set_holds-requires g c =
     let at = rw c.deref-in-Ok.ensures.value at c.held_at.ensures in
-    IsSome-from _ c.held_at.result.now at
+    is_some_of _ c.held_at.result.now at
 
 pub invariant_of-self : goal.invariant_of-self
 invariant_of-self g c =

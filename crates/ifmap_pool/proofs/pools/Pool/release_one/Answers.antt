@@ -1,8 +1,8 @@
 use Rattle.std.proofs.Common.{◌≡◌, ℕ, ◌-◌, refl, subst, inl, inr, arith, vec_len}
 use Rattle.std.specs.FinMap.{insert}
+use Rattle.ifmap_lemmas.specs.Options.{is_some_of}
 use Rattle.ifmap_pool.specs.declared.slots.Held.{Held}
 use Rattle.ifmap_pool.proofs.Changes.{seen, live_is, limit_is, len_within, whole_now, kept_write, seen_write, kept_free, seen_free}
-use Rattle.ifmap_pool.proofs.Kept.{IsSome-from}
 use Rattle.ifmap_pool.proofs.Named.{slot_from_live, entry_known, entry_from_slot}
 use Rattle.ifmap_pool.proofs.pools.Pool.release_one.Goals as goal
 
@@ -16,17 +16,17 @@ pub held_at-requires : goal.held_at-requires
 held_at-requires g c =
     let is = live_is g.met.K.Ord.total _ _ _ _ _ c.self.invariant.0 _ c.self.view_is in
     let there = slot_from_live c.self.inside.slots.items c.args.self.now is c.args.number c.requires in
-    rw c.deref.ensures.value (IsSome-from _ there.0 there.1)
+    rw c.deref.ensures.value (is_some_of _ there.0 there.1)
 
 pub set_holds-requires : goal.set_holds-requires
-set_holds-requires g c = let at = rw c.deref.ensures.value at c.held_at.ensures in IsSome-from _ c.held_at.result.now at
+set_holds-requires g c = let at = rw c.deref.ensures.value at c.held_at.ensures in is_some_of _ c.held_at.result.now at
 
 pub unlist_number-requires : goal.unlist_number-requires
 unlist_number-requires g c =
     let at = rw c.deref.ensures.value at c.held_at.ensures in
     record {
       indexed = rw c.deref-2.ensures.value c.self.invariant.0.indexed;
-      live = rw c.deref-2.ensures.value (IsSome-from _
+      live = rw c.deref-2.ensures.value (is_some_of _
           c.held_at.result.now at);
     }
 
@@ -76,7 +76,7 @@ empty_slot-requires g c =
     let at = rw c.deref.ensures.value at c.held_at.ensures in
     record {
       free = c.self.invariant.0.free_slots;
-      live = IsSome-from _ held at;
+      live = is_some_of _ held at;
       room = omega (arith, c.self.invariant.0.within, c.self.invariant.2);
     }
 
