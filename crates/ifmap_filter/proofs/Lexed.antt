@@ -7,6 +7,7 @@ use Rattle.std.proofs.Common.{◌≡◌, ℕ, Bool, true, false, List, [], ◌�
 use Rattle.std.specs.Prelude.{◌==◌, if◌then◌else◌, IsUtf8, chars, codes, encode_utf8_all}
 use Rattle.std.specs.Str.{all_scalars}
 use Rattle.std.proofs.lemmas.Str.{IsUtf8-append, IsUtf8-nil, chars-append, chars-nil, chars_from_encodes, encode_ascii}
+use Rattle.ifmap_lemmas.specs.Cuts.{Stops}
 use Rattle.ifmap_lemmas.specs.Items.{To}
 use Rattle.ifmap_lemmas.specs.Members.{all_of_test}
 use Rattle.ifmap_lemmas.specs.Numbers.{is_other}
@@ -206,11 +207,6 @@ spaced text t ts l = record {
 }
 
 -- (3) names
-
--- no character stands there, or one that does not pass
-abbrev pub Stops : (ℕ → Bool) → List ℕ → Type 0
-Stops p [] = Unit {0}
-Stops p (c ∷ cs) = p c ≡ false
 
 module _ (p : ℕ → Bool) where
   pub front_all : (xs rest : List ℕ) → AllAre p xs → Stops p rest → front_while p (xs ++ rest) ≡ xs

@@ -7,10 +7,11 @@ use Rattle.std.proofs.Common.{◌≡◌, ℕ, ◌+◌, ◌<◌, Bool, true, fals
 use Rattle.std.specs.Prelude.{◌==◌, ◌||◌, ◌⊎◌, not, if◌then◌else◌, IsUtf8, chars, encode_utf8, encode_utf8_all}
 use Rattle.std.specs.List.{list_any}
 use Rattle.std.specs.Str.{all_scalars, byte, NonePass}
-use Rattle.std.proofs.lemmas.Bool.{and_parts, cases_Bool, false_from_ne_true}
+use Rattle.std.proofs.lemmas.Bool.{and_parts, cases_Bool, false_from_ne_true, or_parts}
 use Rattle.std.proofs.lemmas.Bool.Decides.{Decides-eqb}
 use Rattle.std.proofs.lemmas.Str.{IsUtf8-append, NoCharPasses-byte, chars-append, chars_from_encodes, encode_ascii}
 use Rattle.ifmap_lemmas.specs.Items.{To}
+use Rattle.ifmap_lemmas.specs.Cuts.{Stops}
 use Rattle.ifmap_elem.specs.Chars.{AllAre, colon, double_quote, equals_sign, is_white, single_quote}
 use Rattle.ifmap_elem.specs.Names.{is_name_character, is_name_start}
 use Rattle.ifmap_filter.specs.declared.tokens.Token.{Token}
@@ -18,7 +19,7 @@ use Rattle.ifmap_filter.specs.declared.tokens.Token.TheVariants.{Any, OpenBracke
 use Rattle.ifmap_filter.specs.Printing.{literal_text, quote_of}
 use Rattle.ifmap_filter.specs.Tokens.{FrontToken, Takes, after_while, closed_literal, front_while, is_but, is_quote, literal_at, name_at, name_from, name_token, part_bytes, prefixed_name_at, symbol_of, front_token, token_at, with_symbol, without_white}
 use Rattle.ifmap_filter.proofs.CharLaws.{same_number}
-use Rattle.ifmap_filter.proofs.Lexed.{IsOne, IsPart, Lexes, Stops, after_all, after_one, front_all, not_white, one_chars, one_first, one_of}
+use Rattle.ifmap_filter.proofs.Lexed.{IsOne, IsPart, Lexes, after_all, after_one, front_all, not_white, one_chars, one_first, one_of}
 use Rattle.ifmap_filter.proofs.Reaching.{after_is, inner, token_later, white_after}
 use Rattle.ifmap_filter.proofs.TokenLaws.{quoted}
 
@@ -54,14 +55,10 @@ or_left : (a b : Bool) → (a || b) ≡ false → a ≡ false
 or_left true b e = cc
 or_left false b e = refl
 
-or_other : (a b : Bool) → (a || b) ≡ false → b ≡ false
-or_other true b e = cc
-or_other false b e = e
-
 any_both : (p : ℕ → Bool) (xs ys : List ℕ) → list_any p (xs ++ ys) ≡ false → (list_any p xs ≡ false) × (list_any p ys ≡ false)
 any_both p [] ys e = (refl, e)
 any_both p (x ∷ xs) ys e =
-    let rest = any_both p xs ys (or_other (p x) (list_any p (xs ++ ys)) e) in
+    let rest = any_both p xs ys (or_parts (p x) (list_any p (xs ++ ys)) e).1 in
     ((rw (or_left (p x) (list_any p (xs ++ ys)) e) rest.0), rest.1)
 
 -- where no byte is that one, no character is

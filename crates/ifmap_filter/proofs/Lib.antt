@@ -2,7 +2,6 @@ pub mod CharLaws
 pub mod Continuing
 pub mod Deciding
 pub mod Ending
-pub mod General
 pub mod HoldLaws
 pub mod Lexed
 pub mod LexedParts

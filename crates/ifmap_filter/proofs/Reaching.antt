@@ -14,7 +14,7 @@ use Rattle.ifmap_reader.specs.declared.scoping.Scope.{Scope}
 use Rattle.ifmap_filter.specs.declared.filters.Filter.{Filter}
 use Rattle.ifmap_filter.specs.declared.tokens.Token.{Token}
 use Rattle.ifmap_filter.specs.Grammar.{IsFilter, deepest}
-use Rattle.ifmap_filter.specs.Progress.{GoesOn, Where, Start, step, filter_at}
+use Rattle.ifmap_filter.specs.Progress.{GoesOn, Where, Start, step_token, filter_at}
 use Rattle.ifmap_filter.specs.Reaching.{Reaches}
 use Rattle.ifmap_filter.specs.Texts.{BeginsFilter, StopsAt, Writes, offset}
 use Rattle.ifmap_filter.specs.Tokens.{IsEnd, FrontToken, Takes, after_while, closed_literal, front_while, is_but, is_quote, literal_at, name_at, name_from, name_token, part_bytes, prefixed_name_at, symbol_of, front_token, token_at, with_symbol, without_white}
@@ -163,7 +163,7 @@ module _ (text : List ℕ) (scope : Scope) where
         let g = goes_on scope r.room w in
         record { more = g.1; filter = g.0; filter_is = (r.goes g.0 g.1).1 g.2 }
 
-    pub next_place : (t : Token) (rest : List ℕ) → Takes cs t rest → (next : Where) → step scope w t ≡ Some next
+    pub next_place : (t : Token) (rest : List ℕ) → Takes cs t rest → (next : Where) → step_token scope w t ≡ Some next
         → Reaches text scope next rest
     next_place t rest takes next is =
         let ok = subst (IsRight scope r.room w t) is (right scope r.room w r.room_is t) in
@@ -180,7 +180,7 @@ module _ (text : List ℕ) (scope : Scope) where
           ));
         }
 
-    pub stops_at_token : (t : Token) (rest : List ℕ) → Takes cs t rest → step scope w t ≡ None → StopsAt text scope (offset text cs)
+    pub stops_at_token : (t : Token) (rest : List ℕ) → Takes cs t rest → step_token scope w t ≡ None → StopsAt text scope (offset text cs)
     stops_at_token t rest takes is =
         let none = subst (IsRight scope r.room w t) is (right scope r.room w r.room_is t) in
         record {

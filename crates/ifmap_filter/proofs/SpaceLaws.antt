@@ -12,9 +12,8 @@ use Rattle.std.proofs.lemmas.Grind.{flat_map-append}
 use Rattle.std.proofs.lemmas.List.{append-nil, take_more}
 use Rattle.std.proofs.lemmas.List.Folds.{flat_map-map, list_all-append}
 use Rattle.ifmap_lemmas.specs.Texts.{eq_itself}
-use Rattle.ifmap_elem.specs.Namespaces.{declared_among, is_declared}
+use Rattle.ifmap_elem.specs.Namespaces.{declared_among, is_declared, AddsSpaces, IsFront}
 use Rattle.ifmap_elem.specs.Scopes.{xml_space}
-use Rattle.ifmap_elem.specs.printer.Pieces.{AddsSpaces, IsFront}
 use Rattle.ifmap_elem.specs.laws.NamespaceLaws.{adds_both, adds_known, adds_new, adds_none, adds_undeclared}
 use Rattle.ifmap_elem.specs.declared.elements.Name as element
 use Rattle.ifmap_filter.specs.declared.filters.Predicate.{Predicate, Child, And, Or, fold-roll-Predicate}

@@ -20,7 +20,7 @@ use Rattle.ifmap_filter.specs.declared.standing.OuterPart.{OuterPart}
 use Rattle.ifmap_filter.specs.declared.standing.Operand.{Operand}
 use Rattle.ifmap_filter.specs.declared.standing.Operand.TheVariants as operand
 use Rattle.ifmap_filter.specs.Grammar.{AsksFor, StandsFor, TakesComparison, TakesFactor, TakesOrPart, TakesOrs, and_word, bare_name, deepest, or_word, space_of}
-use Rattle.ifmap_filter.specs.Progress.{Closes, Context, Where, Start, TestDue, Named, Tested, FactorDue, LocalDue, EqualsDue, LiteralDue, FactorDone, AfterFactor, EqualsFirst, FactorFirst, GoesOn, LiteralFirst, LocalFirst, MoreFactors, MoreTests, PredicateFirst, TestFirst, asks_named, child_named, close_group, close_test, comparison_of, done_part, inner_context, is_word, name_in, nesting, next_part, step, step_done, step_equals, step_factor, step_literal, step_local, step_named, step_test, step_tested, test_of, with_factor}
+use Rattle.ifmap_filter.specs.Progress.{Closes, Context, Where, Start, TestDue, Named, Tested, FactorDue, LocalDue, EqualsDue, LiteralDue, FactorDone, AfterFactor, EqualsFirst, FactorFirst, GoesOn, LiteralFirst, LocalFirst, MoreFactors, MoreTests, PredicateFirst, TestFirst, asks_named, child_named, close_group, close_test, comparison_of, done_part, inner_context, is_word, name_in, nesting, next_part, step_token, step_done, step_equals, step_factor, step_literal, step_local, step_named, step_test, step_tested, test_of, with_factor}
 use Rattle.ifmap_filter.proofs.Continuing.{Refuses, and_more, any_asks, bare_named, head_of, name_asks, named, none_asks, not_that_word, or_more, or_part, other_more, started, tested_or, tested_other, unnamed, word_is}
 
 module _ (scope : Scope) where
@@ -530,7 +530,7 @@ module _ (scope : Scope) where
 
   -- (5) all together
 
-  pub right : (n : ℕ) (w : Where) → n + nesting w ≡ deepest → (t : Token) → IsRight n w t (step scope w t)
+  pub right : (n : ℕ) (w : Where) → n + nesting w ≡ deepest → (t : Token) → IsRight n w t (step_token scope w t)
   right n Start e t =
       through n Start (TestDue []) t (λ filter more. started scope filter t more) (step_test scope [] t) (right_test n [] e t)
   right n (TestDue done) e t = right_test n done e t

@@ -1,5 +1,6 @@
 -- A text that is taken off the front of both sides of a comparison.
 use Rattle.std.proofs.Common.{◌≡◌, ℕ, ◌+◌, ◌<◌, ◌≤◌, suc, Bool, true, false, List, [], ◌∷◌, ◌++◌, drop, get_or, length, refl, ap, sym, ◌∙◌, arith, drop-cons, add-one}
+use Rattle.std.specs.Cmp.{both_ways}
 use Rattle.std.specs.Prelude.{nat_eq}
 use Rattle.std.specs.Str.{bytes_eq}
 use Rattle.std.proofs.Math.Seq.{drop-length}
@@ -9,15 +10,9 @@ use Rattle.ifmap_lemmas.specs.Numbers.{is_other}
 use Rattle.ifmap_elem.specs.declared.elements.Child.{Child}
 use Rattle.ifmap_filter.specs.Holding.{own_text, text_among}
 
-same_tests : (a b : Bool) → (a ≡ true → b ≡ true) → (b ≡ true → a ≡ true) → a ≡ b
-same_tests true true f g = refl
-same_tests true false f g = sym (f refl)
-same_tests false true f g = g refl
-same_tests false false f g = refl
-
 cancelled : (own t left rest : List ℕ) → left ≡ own ++ rest → bytes_eq (own ++ t) left ≡ bytes_eq t rest
 cancelled own t left rest is =
-    same_tests (bytes_eq (own ++ t) left) (bytes_eq t rest)
+    both_ways (bytes_eq (own ++ t) left) (bytes_eq t rest)
     (λ h. (bytes_eq-Decides t rest).1 (append_cancel_left own t rest ((bytes_eq-Decides (own ++ t) left).0 h ∙ is)))
     (λ h. (bytes_eq-Decides (own ++ t) left).1 (ap (λ x. own ++ x) ((bytes_eq-Decides t rest).0 h) ∙ sym is))
 

@@ -1,15 +1,11 @@
 -- Which tokens the marks of a text are, which borrow from it what is written there.
 use Rattle.std.specs.Prelude.{◌≡◌, ℕ, List, chars, Option, Some}
-use Rattle.ifmap_elem.specs.declared.tokens.Qualified.{Qualified}
+use Rattle.ifmap_lexer.specs.There.{qualified_of}
 use Rattle.ifmap_filter.specs.declared.marks.Mark.{Mark}
 use Rattle.ifmap_filter.specs.declared.marks.Mark.TheVariants as mark
 use Rattle.ifmap_filter.specs.declared.tokens.Token.{Token}
 use Rattle.ifmap_filter.specs.declared.tokens.Token.TheVariants.{Any, OpenBracket, CloseBracket, OpenParenthesis, CloseParenthesis, EqualsSign, At, Name, Literal}
 use Rattle.ifmap_filter.specs.Tokens.{FrontToken, front_token}
-
--- a name as it is written
-abbrev pub written_name : List ℕ → List ℕ → Qualified
-written_name prefix local = record { prefix = prefix; local = local }
 
 abbrev pub token_of : Mark → Token
 token_of mark.Any = Any
@@ -19,7 +15,7 @@ token_of mark.OpenParenthesis = OpenParenthesis
 token_of mark.CloseParenthesis = CloseParenthesis
 token_of mark.EqualsSign = EqualsSign
 token_of mark.At = At
-token_of (mark.Name prefix local) = Name (written_name prefix.now local.now)
+token_of (mark.Name prefix local) = Name (qualified_of prefix.now local.now)
 token_of (mark.Literal value) = Literal value.now
 
 -- what stands at the front is this mark's token, and this text is left

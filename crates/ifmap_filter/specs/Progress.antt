@@ -239,16 +239,16 @@ step_done c CloseParenthesis = close_group c c.outer
 step_done c CloseBracket = close_test c c.outer
 step_done c _ = None
 
-abbrev pub step : Scope → Where → Token → Option Where
-step scope Start t = step_test scope [] t
-step scope (TestDue done) t = step_test scope done t
-step scope (Named done name) t = step_named done name t
-step scope (Tested done) t = step_tested done t
-step scope (FactorDue c) t = step_factor scope c t
-step scope (LocalDue c) t = step_local c t
-step scope (EqualsDue c a) t = step_equals c a t
-step scope (LiteralDue c a) t = step_literal c a t
-step scope (FactorDone c) t = step_done c t
+abbrev pub step_token : Scope → Where → Token → Option Where
+step_token scope Start t = step_test scope [] t
+step_token scope (TestDue done) t = step_test scope done t
+step_token scope (Named done name) t = step_named done name t
+step_token scope (Tested done) t = step_tested done t
+step_token scope (FactorDue c) t = step_factor scope c t
+step_token scope (LocalDue c) t = step_local c t
+step_token scope (EqualsDue c a) t = step_equals c a t
+step_token scope (LiteralDue c a) t = step_literal c a t
+step_token scope (FactorDone c) t = step_done c t
 
 -- the filter, where the text may end here
 abbrev pub filter_at : Where → Option Filter

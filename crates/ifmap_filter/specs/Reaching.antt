@@ -7,7 +7,7 @@ use Rattle.ifmap_filter.specs.declared.errors.FilterError.TheVariants.{NotAFilte
 use Rattle.ifmap_filter.specs.declared.filters.Filter.{Filter}
 use Rattle.ifmap_filter.specs.declared.tokens.Token.{Token}
 use Rattle.ifmap_filter.specs.Grammar.{IsFilter, deepest}
-use Rattle.ifmap_filter.specs.Progress.{GoesOn, Where, nesting, step, filter_at}
+use Rattle.ifmap_filter.specs.Progress.{GoesOn, Where, nesting, step_token, filter_at}
 use Rattle.ifmap_filter.specs.Tokens.{Takes, front_token, token_at, without_white}
 
 -- after the tokens before these characters a reader stands there: what is a filter after them is what goes on from there
@@ -30,7 +30,7 @@ pub record StepsOn (scope : Scope) (w : Where) (rest : List ℕ) (next : Where) 
   pub token : Token
   pub after : List ℕ
   pub is_there : token_at (chars rest) ≡ Some (front_token token after)
-  pub steps : step scope w token ≡ Some next
+  pub steps : step_token scope w token ≡ Some next
   pub left_is : chars left ≡ without_white after
   pub is_text : IsUtf8 left
 
@@ -38,7 +38,7 @@ pub record StepsOn (scope : Scope) (w : Where) (rest : List ℕ) (next : Where) 
 abbrev pub IsStuck : Scope → Where → List ℕ → Type 0
 IsStuck scope w rest =
     (token_at (chars rest) ≡ None)
-    ⊎ ((t : Token) × (after : List ℕ) × (token_at (chars rest) ≡ Some (front_token t after)) × (step scope w t ≡ None))
+    ⊎ ((t : Token) × (after : List ℕ) × (token_at (chars rest) ≡ Some (front_token t after)) × (step_token scope w t ≡ None))
 
 abbrev pub IsRefused : Scope → Where → List ℕ → ℕ → FilterError → Type 0
 IsRefused scope w rest at (NotAFilter place) = (place ≡ at) × IsStuck scope w rest

@@ -2,12 +2,13 @@
 ghost use Rattle.std.specs.Prelude.{◌≡◌, ◌∷◌, [], chars, IfNone, IfSome, None};
 ghost use Rattle.std.specs.Option.{option_map};
 ghost use Rattle.ifmap_elem.specs.Chars.{is_white};
-ghost use Rattle.ifmap_elem.specs.Names.{is_name_character, is_name_start};
+ghost use Rattle.ifmap_elem.specs.Names.{is_name_character};
 ghost use Rattle.ifmap_filter.specs.Lexing.{Cuts};
 ghost use Rattle.ifmap_filter.specs.Marks.{IsFrontMark, token_of};
 ghost use Rattle.ifmap_filter.specs.Tokens.{is_but, is_quote, literal_at, name_at, prefixed_name_at, symbol_of, token_at, without_white};
 
 use crate::marks::Mark;
+use ifmap_lexer::{is_name_character, is_name_start};
 
 // The token at the front, and what is left; none where no token stands there.
 pub(crate) fn token_at(text: &str) -> Option<(Mark<'_>, &str)>
@@ -162,39 +163,4 @@ fn split_name(text: &str) -> (&str, &str)
         Some(place) => text.split_at(place),
         None => (text, ""),
     }
-}
-
-// Whether a name part may begin with the character.
-fn is_name_start(character: char) -> bool
-    ensures { result ≡ is_name_start character }
-{
-    matches!(
-        character as u32,
-        0x41..=0x5A
-            | 0x5F
-            | 0x61..=0x7A
-            | 0xC0..=0xD6
-            | 0xD8..=0xF6
-            | 0xF8..=0x2FF
-            | 0x370..=0x37D
-            | 0x37F..=0x1FFF
-            | 0x200C..=0x200D
-            | 0x2070..=0x218F
-            | 0x2C00..=0x2FEF
-            | 0x3001..=0xD7FF
-            | 0xF900..=0xFDCF
-            | 0xFDF0..=0xFFFD
-            | 0x1_0000..=0xE_FFFF
-    )
-}
-
-// Whether the character may stand in a name part.
-fn is_name_character(character: char) -> bool
-    ensures { result ≡ is_name_character character }
-{
-    is_name_start(character)
-        || matches!(
-            character as u32,
-            0x2D | 0x2E | 0x30..=0x39 | 0xB7 | 0x300..=0x36F | 0x203F..=0x2040
-        )
 }

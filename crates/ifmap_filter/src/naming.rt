@@ -2,14 +2,12 @@
 ghost use Rattle.std.specs.Prelude.{◌≡◌, IfOk};
 ghost use Rattle.std.specs.Option.{option_copied};
 ghost use Rattle.ifmap_filter.specs.Grammar.{space_of};
-ghost use Rattle.ifmap_filter.specs.Marks.{written_name};
+ghost use Rattle.ifmap_lexer.specs.There.{qualified_of};
 ghost use Rattle.ifmap_filter.specs.Progress.{is_word, name_of};
 
-use ifmap_elem::Name;
+use ifmap_elem::{Name, XML_SPACE};
 use ifmap_prefixes::Prefixes;
 use std::alloc::{AllocError as NoMemory, Global};
-
-pub(crate) const XML_SPACE: &str = "http://www.w3.org/XML/1998/namespace";
 
 // The name that a qualified name stands for; none where its prefix is not in scope.
 pub(crate) fn name_of(
@@ -18,7 +16,7 @@ pub(crate) fn name_of(
     prefix: &str,
     local: &str,
 ) -> Result<Option<Name>, NoMemory>
-    ensures { IfOk result (λ o. o ≡ name_of scope.now (written_name prefix.now local.now)) }
+    ensures { IfOk result (λ o. o ≡ name_of scope.now (qualified_of prefix.now local.now)) }
 {
     match space_of(scope, prefix) {
         Some(space) => Ok(Some(Name::new(alloc, space, local)?)),
@@ -41,7 +39,7 @@ fn space_of<'a>(scope: &'a Prefixes<'_, '_>, prefix: &str) -> Option<&'a str>
 
 // Whether the name is this word without a prefix.
 pub(crate) fn is_word(word: &str, prefix: &str, local: &str) -> bool
-    ensures { result ≡ is_word word.now (written_name prefix.now local.now) }
+    ensures { result ≡ is_word word.now (qualified_of prefix.now local.now) }
 {
     prefix.is_empty() && local == word
 }

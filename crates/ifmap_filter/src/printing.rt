@@ -6,8 +6,7 @@ ghost use Rattle.ifmap_filter.specs.Printing.{NestsNoDeeper, WritesBack, ands_te
 ghost use Rattle.ifmap_filter.specs.Spaces.{HasSpaces};
 
 use crate::filters::{Filter, Predicate, Test};
-use crate::naming::XML_SPACE;
-use ifmap_elem::{Many, Name, Text};
+use ifmap_elem::{Many, Name, Text, XML_SPACE};
 use itoa::Buffer;
 use std::alloc::{AllocError as NoMemory, Global};
 

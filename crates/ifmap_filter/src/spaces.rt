@@ -2,13 +2,11 @@
 ghost use Rattle.std.specs.Prelude.{◌≡◌, ◌↔◌, IfOk, IsTrue, OnOk};
 ghost use Rattle.std.specs.List.{flat_map, list_all, list_any};
 ghost use Rattle.std.specs.Str.{bytes_eq};
-ghost use Rattle.ifmap_elem.specs.Namespaces.{declared_among};
-ghost use Rattle.ifmap_elem.specs.printer.Pieces.{AddsSpaces, IsFront};
+ghost use Rattle.ifmap_elem.specs.Namespaces.{declared_among, AddsSpaces, IsFront};
 ghost use Rattle.ifmap_filter.specs.Spaces.{HasSpaces, brackets_spaces, filter_spaces, has_each, has_space, name_spaces, predicate_spaces, test_spaces, with_each, with_space};
 
 use crate::filters::{Filter, Predicate, Test};
-use crate::naming::XML_SPACE;
-use ifmap_elem::{Copied, Many, Name, Text};
+use ifmap_elem::{Copied, Many, Name, Text, XML_SPACE};
 use std::alloc::{AllocError as NoMemory, Global};
 
 impl Filter {

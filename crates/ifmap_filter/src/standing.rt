@@ -1,7 +1,8 @@
 //! Where a reader of filters stands, and what one more token makes of it.
 ghost use Rattle.std.specs.Prelude.{◌≡◌, ◌++◌, ◌∷◌, [], IfNone, IfOk, IfSome, OnOk};
-ghost use Rattle.ifmap_filter.specs.Marks.{token_of, written_name};
-ghost use Rattle.ifmap_filter.specs.Progress.{IsNotSingle, StandsAt, Start, comparison_of, context, done_part, join_parts, inner_place, step, step_done, step_equals, step_factor, step_joining, step_literal, step_local, step_named, step_test, step_tested, test_of, where_is, filter_at};
+ghost use Rattle.ifmap_lexer.specs.There.{qualified_of};
+ghost use Rattle.ifmap_filter.specs.Marks.{token_of};
+ghost use Rattle.ifmap_filter.specs.Progress.{IsNotSingle, StandsAt, Start, comparison_of, context, done_part, join_parts, inner_place, step_token, step_done, step_equals, step_factor, step_joining, step_literal, step_local, step_named, step_test, step_tested, test_of, where_is, filter_at};
 ghost use Rattle.ifmap_filter.specs.declared.filters.Predicate.{And, Or};
 ghost use Rattle.ifmap_filter.specs.declared.tokens.Token.TheVariants.{CloseBracket, CloseParenthesis};
 
@@ -94,7 +95,7 @@ pub(crate) fn take_token(
     mark: Mark<'_>,
 ) -> Result<bool, NoMemory>
     ensures { IfOk result (λ allowed. StandsAt allowed standing.new
-        (step scope.now (where_is standing.old) (token_of mark.entry))) }
+        (step_token scope.now (where_is standing.old) (token_of mark.entry))) }
 {
     match standing.place {
         Place::Start => {
@@ -315,7 +316,7 @@ fn take_joining(
     local: &str,
 ) -> Result<bool, NoMemory>
     ensures { IfOk result (λ allowed. StandsAt allowed standing.new
-        (step_joining (context standing.old.open_part) (written_name prefix.now local.now))) }
+        (step_joining (context standing.old.open_part) (qualified_of prefix.now local.now))) }
 {
     if is_word("and", prefix, local) {
         standing.place = Place::FactorDue;

@@ -96,7 +96,8 @@ module _ (ds : List Declared) (d : Declared) (old new : Kept) (at : HasLast old 
         no : d ≡ is.row → is_key d prefix path ≡ false → ⊥
         no same e =
             let k : is_key d prefix path ≡ true =
-            key_itself d prefix path (ap (λ (x : Declared). x.prefix) same ∙ is.prefix_is) (ap (λ (x : Declared). x.path) same ∙ is.path_is) in
+            key_itself d prefix path (ap (λ (x : Declared). x.prefix) same ∙ is.prefix_is)
+            (ap (λ (x : Declared). x.path) same ∙ is.path_is) in
             cc
 
   added : HasLast new (ds ++ d ∷ [])
@@ -110,7 +111,8 @@ pub row_added : (rows : List Declared) (n : ℕ) (d : Declared) → n < length r
 row_added rows n d l is old new at now =
     let long : length (take n rows) ≡ n = length-take-le n rows (omega arith) in
     subst (HasLast new) (sym (take_more rows n d l ∙ ap (λ (x : Declared). take n rows ++ x ∷ []) (sym is)))
-    (added (take n rows) d old new at (λ prefix path. now prefix path ∙ ap (λ k. cond (is_key d prefix path) (Some k) (old prefix path)) (sym long)))
+    (added (take n rows) d old new at (λ prefix path. now prefix path
+    ∙ ap (λ k. cond (is_key d prefix path) (Some k) (old prefix path)) (sym long)))
 
 pub no_rows : (kept : Kept) → ((prefix path : List ℕ) → kept prefix path ≡ None) → HasLast kept []
 no_rows kept none = record {

@@ -10,6 +10,7 @@ use Rattle.std.proofs.lemmas.List.{map-append, reverse-append}
 use Rattle.ifmap_elem.specs.InScope.{binding_told}
 use Rattle.ifmap_elem.specs.Scopes.{Binding}
 use Rattle.ifmap_elem.specs.declared.readings.Declared.{Declared}
+use Rattle.ifmap_lemmas.specs.Options.{or_none}
 use Rattle.ifmap_prefixes.specs.InScope.{scope_by}
 use Rattle.ifmap_prefixes.specs.Rows.{IsLastOf, is_at_or_round}
 
@@ -22,10 +23,6 @@ row_of b = (b.prefix, b.space)
 lookup_more : (test : List ℕ → Bool) (xs ys : List Row) → lookup test (xs ++ ys) ≡ option_or (lookup test xs) (lookup test ys)
 lookup_more test [] ys = refl
 lookup_more test (x ∷ xs) ys = elim (cases_Bool (test x.0)) [ inl e ↦ rw e refl | inr e ↦ rw e (lookup_more test xs ys) ]
-
-or_none : {X : Type 0} (o : Option X) → option_or o None ≡ o
-or_none None = refl
-or_none (Some x) = refl
 
 module _ (prefix path : List ℕ) where
   abbrev pub space_in : List Declared → Option (List ℕ)

@@ -10,7 +10,8 @@ pub loop-rest-init : goal.loop-rest-init
 loop-rest-init c = (
   c.without_white-rest.utf8,
   subst (λ w. ReachesWhite c.args.text.now c.args.scope.now w c.without_white-rest.result.now) (sym c.new-standing.ensures)
-      (begin c.args.text.now c.args.scope.now c.utf8.text c.without_white-rest.result.now c.without_white-rest.utf8 c.without_white-rest.ensures),
+      (begin c.args.text.now c.args.scope.now c.utf8.text c.without_white-rest.result.now c.without_white-rest.utf8
+      c.without_white-rest.ensures),
 )
 
 pub loop-rest-preserved : goal.loop-rest-preserved

@@ -1,5 +1,5 @@
 use Rattle.std.proofs.Common.{sym, subst}
-use Rattle.ifmap_elem.specs.printer.Pieces.{AddsSpaces, IsFront}
+use Rattle.ifmap_elem.specs.Namespaces.{AddsSpaces, IsFront}
 use Rattle.ifmap_filter.specs.Spaces.{HasSpaces, filter_spaces}
 use Rattle.ifmap_filter.proofs.SpaceLaws.{adds_each, front_each, serve_each}
 use Rattle.ifmap_filter.proofs.filters.Filter.add_spaces.Goals as goal
