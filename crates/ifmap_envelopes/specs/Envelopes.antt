@@ -4,15 +4,14 @@ use Rattle.std.specs.List.{list_all, prefix_len, slice_get}
 use Rattle.ifmap_lemmas.specs.Deciding.{Decided}
 use Rattle.ifmap_elem.specs.Nesting.{nesting}
 use Rattle.ifmap_elem.specs.Spells.{Spells}
+use Rattle.ifmap_elem.specs.declared.elements.Child as the
 use Rattle.ifmap_elem.specs.declared.elements.Child.TheOpen.{Child-F}
 use Rattle.ifmap_elem.specs.declared.elements.Element.{Element}
 use Rattle.ifmap_elem.specs.declared.elements.Name.{Name}
 use Rattle.ifmap_elem.specs.declared.readings.Reading.{Reading}
 use Rattle.ifmap_filter.specs.Holding.{is_name}
 use Rattle.ifmap_forms.specs.Tables.{Part, is_white_part, parts_of}
-
-abbrev pub envelope_space : List ℕ
-envelope_space = codes "http://www.w3.org/2003/05/soap-envelope"
+use Rattle.ifmap_envelopes.specs.Spaces.{envelope_space}
 
 abbrev pub envelope_name : List ℕ → Name
 envelope_name local = record { space = envelope_space; local = local }
@@ -57,6 +56,16 @@ pub record SpellsEnvelope (levels : ℕ) (bytes : List ℕ) (reading : Reading) 
   pub spelled : Spells bytes reading
   pub shallow : nesting reading.root ≤ levels
   pub envelope : IsEnvelope reading.root path inner
+
+-- ---- how an envelope is made
+
+-- an element of this name that holds one other and nothing else
+abbrev pub around : Name → Element → Element
+around name inner = record { name = name; attributes = []; children = the.Element inner ∷ [] }
+
+-- the envelope of an element
+abbrev pub in_envelope : Element → Element
+in_envelope inner = around (envelope_name (codes "Envelope")) (around (envelope_name (codes "Body")) inner)
 
 -- ---- how an envelope is found
 

@@ -2,7 +2,9 @@
 //! after a header or none.
 #![tactic(auto)]
 
+pub mod envelopes;
 pub mod laws;
-pub mod opening;
+pub mod spaces;
 
-pub use opening::{Inner, open_envelope};
+pub use envelopes::{Inner, open_envelope};
+pub use spaces::{ENVELOPE_SPACE, IFMAP_SPACE};

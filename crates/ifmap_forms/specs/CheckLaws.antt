@@ -6,23 +6,23 @@ use Rattle.ifmap_ident.specs.declared.codes.Code.{Code}
 use Rattle.ifmap_forms.specs.Checks.{Check, IsDone, IsSingle, check_if, check_then, fail, need, need_some, pass}
 
 module _ {X : Type 0} where
-  abbrev good : X → Result X Code
-  good x = Ok x
+  abbrev ok_value : X → Result X Code
+  ok_value x = Ok x
 
-  abbrev bad : Code → Result X Code
-  bad code = Err code
+  abbrev err_value : Code → Result X Code
+  err_value code = Err code
 
   pub pass_single : (x : X) → IsSingle (pass x)
   pass_single x one other a b = a ∙ sym b
 
   pub pass_done : (x : X) → IsDone (pass x)
-  pass_done x = (good x, refl)
+  pass_done x = (ok_value x, refl)
 
   pub fail_single : (code : Code) → IsSingle {X = X} (fail code)
   fail_single code one other a b = a ∙ sym b
 
   pub fail_done : (code : Code) → IsDone {X = X} (fail code)
-  fail_done code = (bad code, refl)
+  fail_done code = (err_value code, refl)
 
   pub need_single : (b : Bool) (code : Code) (check : Check X) → IsSingle check → IsSingle (need b code check)
   need_single true code check single = single
@@ -53,15 +53,15 @@ module _ {X Y : Type 0} where
 module _ {X Y : Type 0} (first : Check X) (second : X → Check Y) where
   module _ (s : IsSingle first) (t : (x : X) → IsSingle (second x)) where
     -- the first found one value at most
-    one_value : (x y : X) → first (good x) → first (good y) → x ≡ y
-    one_value x y a b = let e : good x ≡ good y = s (good x) (good y) a b in cc
+    one_value : (x y : X) → first (ok_value x) → first (ok_value y) → x ≡ y
+    one_value x y a b = let e : ok_value x ≡ ok_value y = s (ok_value x) (ok_value y) a b in cc
 
     -- and no value beside a code
-    not_both : (x : X) (code : Code) → first (good x) → first (bad code) → ⊥
-    not_both x code a b = let e : good x ≡ bad code = s (good x) (bad code) a b in cc
+    not_both : (x : X) (code : Code) → first (ok_value x) → first (err_value code) → ⊥
+    not_both x code a b = let e : ok_value x ≡ err_value code = s (ok_value x) (err_value code) a b in cc
 
     -- two findings of the second, of values that the first found
-    seconds : (x y : X) (one other : Result Y Code) → first (good x) → first (good y) → second x one → second y other → one ≡ other
+    seconds : (x y : X) (one other : Result Y Code) → first (ok_value x) → first (ok_value y) → second x one → second y other → one ≡ other
     seconds x y one other a b c d =
         t y one other (subst (λ (z : X). second z one) (one_value x y a b) c) d
 
@@ -72,15 +72,15 @@ module _ {X Y : Type 0} (first : Check X) (second : X → Check Y) where
     then_single (Err c) (Ok z) (inl a) b = absurd (not_both b.0 c b.1 a)
     then_single (Err c) (Ok z) (inr a) b = seconds a.0 b.0 (Err c) (Ok z) a.1 b.1 a.2 b.2
     then_single (Err c) (Err d) (inl a) (inl b) =
-        let e : bad {X = X} c ≡ bad {X = X} d = s (bad c) (bad d) a b in
+        let e : err_value {X = X} c ≡ err_value {X = X} d = s (err_value c) (err_value d) a b in
         let same : c ≡ d = cc in
         cc
     then_single (Err c) (Err d) (inl a) (inr b) = absurd (not_both b.0 c b.1 a)
     then_single (Err c) (Err d) (inr a) (inl b) = absurd (not_both a.0 d a.1 b)
     then_single (Err c) (Err d) (inr a) (inr b) = seconds a.0 b.0 (Err c) (Err d) a.1 b.1 a.2 b.2
 
-  module _ (t : (x : X) → first (good x) → IsDone (second x)) where
-    after_value : (x : X) → first (good x) → (found : Result Y Code) → second x found → IsDone (check_then first second)
+  module _ (t : (x : X) → first (ok_value x) → IsDone (second x)) where
+    after_value : (x : X) → first (ok_value x) → (found : Result Y Code) → second x found → IsDone (check_then first second)
     after_value x f (Ok y) g = (Ok y, (x, f, g))
     after_value x f (Err code) g = (Err code, inr (x, f, g))
 

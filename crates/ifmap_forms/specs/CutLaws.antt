@@ -1,6 +1,6 @@
 -- A list of elements, cut out of the children of which it is one.
 use Rattle.std.proofs.Common.{◌≡◌, ◌∙◌, ℕ, ◌+◌, ◌-◌, ◌<◌, ◌≤◌, suc, List, [], ◌∷◌, length, get_or}
-use Rattle.std.proofs.Common.{take, drop, refl, ap, arith, sym}
+use Rattle.std.proofs.Common.{take, drop, ap, arith, sym}
 use Rattle.std.specs.List.{remove}
 use Rattle.std.proofs.lemmas.List.{drop-map, drop_all, drop_more, length-drop, length-take-le, take-map, take_all}
 use Rattle.std.proofs.Math.Seq.{drop-append_seam}
@@ -32,7 +32,3 @@ pub tail_whole : (cs : List Child) (index : ℕ) → take (length cs - index) (d
 tail_whole cs index =
     let e = length-drop index cs in
     take_all (length cs - index) (drop index cs) (omega (arith, e))
-
-pub no_member : {X : Type 0} (xs : List X) → length xs ≡ 0 → xs ≡ []
-no_member [] e = refl
-no_member (x ∷ xs) e = absurd (omega arith)

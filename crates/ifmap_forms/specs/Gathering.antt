@@ -25,15 +25,15 @@ use Rattle.ifmap_forms.specs.Tables.{Part, each_element, parts_in}
 
 module _ {X : Type 0} where
   -- what is there, as a list
-  abbrev pub optional : Option X → List X
-  optional None = []
-  optional (Some x) = x ∷ []
+  abbrev pub option_list : Option X → List X
+  option_list None = []
+  option_list (Some x) = x ∷ []
 
-  abbrev pub good : List X → Result (List X) Code
-  good xs = Ok xs
+  abbrev pub ok_list : List X → Result (List X) Code
+  ok_list xs = Ok xs
 
-  abbrev pub bad : Code → Result (List X) Code
-  bad code = Err code
+  abbrev pub err_list : Code → Result (List X) Code
+  err_list code = Err code
 
   -- these, and then what is found
   abbrev pub after : List X → Result (List X) Code → Result (List X) Code
@@ -49,7 +49,7 @@ module _ {X : Type 0} where
   after_none (Err code) = refl
 
   after_more : (made more : List X) (found : Result (List X) Code) → after (made ++ more) found ≡ after made (after more found)
-  after_more made more (Ok xs) = ap good (append_assoc made more xs)
+  after_more made more (Ok xs) = ap ok_list (append_assoc made more xs)
   after_more made more (Err code) = refl
 
   pub starts : (check : Check (List X)) → GoesOn check check []
@@ -63,11 +63,11 @@ module _ {X : Type 0} where
 
   pub stops : (whole rest : Check (List X)) (made : List X) → GoesOn whole rest made → (error : FormError) → IsRefused rest error
       → IsRefused whole error
-  stops whole rest made g (Named code) f = g.goes (bad code) f
+  stops whole rest made g (Named code) f = g.goes (err_list code) f
   stops whole rest made g NoMemory f = tt
 
   pub ends : (whole rest : Check (List X)) (made : List X) → GoesOn whole rest made → rest (Ok []) → whole (Ok made)
-  ends whole rest made g f = subst (λ xs. whole (Ok xs)) (append-nil made) (g.goes (good []) f)
+  ends whole rest made g f = subst (λ xs. whole (Ok xs)) (append-nil made) (g.goes (ok_list []) f)
 
 -- ---- one child
 
@@ -85,15 +85,15 @@ module _ {X : Type 0} where
 
   -- a child that is passed over adds nothing
   past : (b : Bool) (code : Code) (found : Result (List X) Code) (check : Check (List X)) (o : Option X)
-      → need b code (pass {X = Option X} None) (one_found o) → check found → need b code check (after (optional o) found)
+      → need b code (pass {X = Option X} None) (one_found o) → check found → need b code check (after (option_list o) found)
   past true code found check None is f = subst check (sym (after_none found)) f
   past true code found check (Some x) is f = let wrong : one_found (Some x) ≡ one_found None = is in cc
   past false code found check o is f = let wrong : one_found o ≡ one_refused code = is in cc
 
   stopped : (b : Bool) (code : Code) (check : Check (List X)) (c : Code)
-      → need b code (pass {X = Option X} None) (one_refused c) → need b code check (bad c)
+      → need b code (pass {X = Option X} None) (one_refused c) → need b code check (err_list c)
   stopped true code check c is = let wrong : one_refused c ≡ one_found None = is in cc
-  stopped false code check c is = let same : one_refused c ≡ one_refused code = is in let e : c ≡ code = cc in ap bad e
+  stopped false code check c is = let same : one_refused c ≡ one_refused code = is in let e : c ≡ code = cc in ap err_list e
 
 module _ {X : Type 0} (one : ℕ → Element → Check X) (index : ℕ) (parts : List Part) where
   rest_of : Check (List X)
@@ -101,12 +101,12 @@ module _ {X : Type 0} (one : ℕ → Element → Check X) (index : ℕ) (parts :
 
   -- where a child is found to be this, what is found of the others comes after it
   pub part_goes_on : (part : Part) (o : Option X) → part_check (one index) part (one_found o) → (found : Result (List X) Code)
-      → each_element one (index + 1) parts found → each_element one index (part ∷ parts) (after (optional o) found)
+      → each_element one (index + 1) parts found → each_element one index (part ∷ parts) (after (option_list o) found)
   part_goes_on (Child-F.Element e) None is found f = let wrong : one_found None ≡ one_found (Some is.0) = is.2 in cc
   part_goes_on (Child-F.Element e) (Some x) is (Ok xs) f =
       let same : one_found (Some x) ≡ one_found (Some is.0) = is.2 in
       let e : x ≡ is.0 = cc in
-      (is.0, is.1, (xs, f, ap good (λ i. e i ∷ xs)))
+      (is.0, is.1, (xs, f, ap ok_list (λ i. e i ∷ xs)))
   part_goes_on (Child-F.Element e) (Some x) is (Err code) f = inr (is.0, is.1, inl f)
   part_goes_on (Child-F.Text text) o is found f =
       past (list_all is_white text) Failure found (each_element one (index + 1) parts) o is f
@@ -149,9 +149,9 @@ module _ (most : ℕ) (before : List Identifier) (parts : List Part) where
   passes_on true code check found is f = f
   passes_on false code check found is f = cc
 
-  fails_there : (b : Bool) (code c : Code) (check : Check (List Identifier)) → b ≡ false → c ≡ code → need b code check (bad c)
+  fails_there : (b : Bool) (code c : Code) (check : Check (List Identifier)) → b ≡ false → c ≡ code → need b code check (err_list c)
   fails_there true code c check is same = cc
-  fails_there false code c check is same = ap bad same
+  fails_there false code c check is same = ap err_list same
 
   -- the others, after one that was found
   abbrev others_after : Identifier → Check (List Identifier)
@@ -166,13 +166,13 @@ module _ (most : ℕ) (before : List Identifier) (parts : List Part) where
       → (found : Result (List Identifier) Code) → others_after i (after (i ∷ []) found)
       → identifiers_check most before (Child-F.Element e ∷ parts) (after (i ∷ []) found)
   joined e i is may (Ok others) f =
-      (i, is, passes_on (may_follow most before i) Failure (others_after i) (after (i ∷ []) (good others)) may f)
-  joined e i is may (Err code) f = inr (i, is, passes_on (may_follow most before i) Failure (others_after i) (bad code) may f)
+      (i, is, passes_on (may_follow most before i) Failure (others_after i) (after (i ∷ []) (ok_list others)) may f)
+  joined e i is may (Err code) f = inr (i, is, passes_on (may_follow most before i) Failure (others_after i) (err_list code) may f)
 
   -- where an identifier is found there, what is found of the others comes after it
   pub place_goes_on : (part : Part) (o : Option Identifier) → part_check (following_check most before) part (one_found o)
-      → (found : Result (List Identifier) Code) → identifiers_check most (before ++ optional o) parts found
-      → identifiers_check most before (part ∷ parts) (after (optional o) found)
+      → (found : Result (List Identifier) Code) → identifiers_check most (before ++ option_list o) parts found
+      → identifiers_check most before (part ∷ parts) (after (option_list o) found)
   place_goes_on (Child-F.Element e) None is found f = let wrong : one_found {X = Identifier} None ≡ one_found (Some is.0) = is.2 in cc
   place_goes_on (Child-F.Element e) (Some i) is found f =
       let same : one_found (Some i) ≡ one_found (Some is.0) = is.2 in
@@ -185,7 +185,7 @@ module _ (most : ℕ) (before : List Identifier) (parts : List Part) where
       past (list_all is_white text) Failure found (identifiers_check most before parts) o is (kept o is f)
     where
       kept : (o : Option Identifier) → need (list_all is_white text) Failure (pass {X = Option Identifier} None) (one_found o)
-          → identifiers_check most (before ++ optional o) parts found → identifiers_check most before parts found
+          → identifiers_check most (before ++ option_list o) parts found → identifiers_check most before parts found
       kept None is f = subst (λ b. identifiers_check most b parts found) (append-nil before) f
       kept (Some i) is f = absurd (none (list_all is_white text) i is)
         where
@@ -194,7 +194,7 @@ module _ (most : ℕ) (before : List Identifier) (parts : List Part) where
           none false i is = let wrong : one_found (Some i) ≡ one_refused Failure = is in cc
 
   refused_on : (e : Element) (code : Code) → following_check most before e (identifier_refused code)
-      → identifiers_check most before (Child-F.Element e ∷ parts) (bad code)
+      → identifiers_check most before (Child-F.Element e ∷ parts) (err_list code)
   refused_on e code is = elim is [
     | inl f ↦ inl f
     | inr f ↦
@@ -255,11 +255,11 @@ module _ {X : Type 0} (whole : Check (List X)) where
       parts_are = ap parts_in is
 
       pub elements_further : (o : Option X) (more : List X) → part_check (one index) (out-Child child) (one_found o)
-          → more ≡ made ++ optional o → GoesOn whole (each_element one (index + 1) (parts_in others)) more
+          → more ≡ made ++ option_list o → GoesOn whole (each_element one (index + 1) (parts_in others)) more
       elements_further o more f same =
           subst (λ (m : List X). GoesOn whole (each_element one (index + 1) (parts_in others)) m) (sym same)
-          (further whole (each_element one index (parts_in left)) (each_element one (index + 1) (parts_in others)) made (optional o) g
-          (λ found r. subst (λ (ps : List Part). each_element one index ps (after (optional o) found)) (sym parts_are)
+          (further whole (each_element one index (parts_in left)) (each_element one (index + 1) (parts_in others)) made (option_list o) g
+          (λ found r. subst (λ (ps : List Part). each_element one index ps (after (option_list o) found)) (sym parts_are)
           (part_goes_on one index (parts_in others) (out-Child child) o f found r)))
 
       pub elements_stop : (error : FormError) → IsRefused (part_check (one index) (out-Child child)) error → IsRefused whole error
@@ -268,10 +268,10 @@ module _ {X : Type 0} (whole : Check (List X)) where
           (subst (λ (ps : List Part). IsRefused (each_element one index ps) error) (sym parts_are)
           (part_stops one index (parts_in others) (out-Child child) error f))
 
-    pub elements_end : left ≡ [] → whole (good made)
+    pub elements_end : left ≡ [] → whole (ok_list made)
     elements_end none =
         ends whole (each_element one index (parts_in left)) made g
-        (subst (λ (cs : List Child). each_element one index (parts_in cs) (good [])) (sym none) refl)
+        (subst (λ (cs : List Child). each_element one index (parts_in cs) (ok_list [])) (sym none) refl)
 
 module _ (whole : Check (List Identifier)) (most : ℕ) where
   pub identifiers_begin : (parts : List Part) (made : List Identifier) → made ≡ []
@@ -286,13 +286,14 @@ module _ (whole : Check (List Identifier)) (most : ℕ) where
       places_are = ap parts_in is
 
       pub identifiers_further : (o : Option Identifier) (more : List Identifier)
-          → part_check (following_check most made) (out-Child child) (one_found o) → more ≡ made ++ optional o
+          → part_check (following_check most made) (out-Child child) (one_found o) → more ≡ made ++ option_list o
           → GoesOn whole (identifiers_check most more (parts_in others)) more
       identifiers_further o more f same =
           subst (λ (m : List Identifier). GoesOn whole (identifiers_check most m (parts_in others)) m) (sym same)
-          (further whole (identifiers_check most made (parts_in left)) (identifiers_check most (made ++ optional o) (parts_in others)) made
-          (optional o) g
-          (λ found r. subst (λ (ps : List Part). identifiers_check most made ps (after (optional o) found)) (sym places_are)
+          (further whole (identifiers_check most made (parts_in left))
+          (identifiers_check most (made ++ option_list o) (parts_in others)) made
+          (option_list o) g
+          (λ found r. subst (λ (ps : List Part). identifiers_check most made ps (after (option_list o) found)) (sym places_are)
           (place_goes_on most made (parts_in others) (out-Child child) o f found r)))
 
       pub identifiers_stop : (error : FormError) → IsRefused (part_check (following_check most made) (out-Child child)) error
@@ -302,7 +303,7 @@ module _ (whole : Check (List Identifier)) (most : ℕ) where
           (subst (λ (ps : List Part). IsRefused (identifiers_check most made ps) error) (sym places_are)
           (place_stops most made (parts_in others) (out-Child child) error f))
 
-    pub identifiers_end : left ≡ [] → whole (good made)
+    pub identifiers_end : left ≡ [] → whole (ok_list made)
     identifiers_end none =
         ends whole (identifiers_check most made (parts_in left)) made g
-        (subst (λ (cs : List Child). identifiers_check most made (parts_in cs) (good [])) (sym none) refl)
+        (subst (λ (cs : List Child). identifiers_check most made (parts_in cs) (ok_list [])) (sym none) refl)

@@ -19,7 +19,7 @@ use Rattle.ifmap_ident.specs.Parts.{has_only}
 use Rattle.ifmap_forms.specs.declared.errors.FormError.{FormError}
 use Rattle.ifmap_forms.specs.declared.errors.FormError.TheVariants as form
 use Rattle.ifmap_forms.specs.Checks.{Check, check_then, fail, need, need_some, pass}
-use Rattle.ifmap_forms.specs.Tables.{Content, Part, each_element, is_white_part, parts_of}
+use Rattle.ifmap_forms.specs.Tables.{ContentCheck, Part, each_element, is_white_part, parts_of}
 
 -- ---- one identifier
 
@@ -72,7 +72,7 @@ abbrev pub start_check : List Part → Check Identifier
 start_check parts =
     check_then (identifiers_check 1 [] parts) (λ identifiers. need_some Failure (only_identifier identifiers) (λ i. pass i))
 
-abbrev pub start_content : Content Identifier
+abbrev pub start_content : ContentCheck Identifier
 start_content scopes = start_check
 
 -- one identifier or two
@@ -80,7 +80,7 @@ abbrev pub item_check : List Part → Check Item
 item_check parts =
     check_then (identifiers_check 2 [] parts) (λ identifiers. need_some Failure (item_of identifiers) (λ item. pass item))
 
-abbrev pub item_content : Content Item
+abbrev pub item_content : ContentCheck Item
 item_content scopes = item_check
 
 -- ---- identifiers, and then a list of elements

@@ -22,7 +22,7 @@ use Rattle.ifmap_forms.specs.Checks.{Check, IsSingle, check_then, need, need_som
 use Rattle.ifmap_forms.specs.Items.{identifier_check, identifier_code, identifiers_check, item_content, item_of, list_at, list_check}
 use Rattle.ifmap_forms.specs.Items.{may_follow, only_identifier, start_content}
 use Rattle.ifmap_forms.specs.Scopes.{Scopes}
-use Rattle.ifmap_forms.specs.Tables.{Content, Form, Part, Table, beside, both, each_element, form_or, is_white_part, no_attributes}
+use Rattle.ifmap_forms.specs.Tables.{ContentCheck, Form, Part, Table, beside, both, each_element, form_or, is_white_part, no_attributes}
 use Rattle.ifmap_forms.specs.Tables.{no_children, parts_of, read_form, form_check}
 use Rattle.ifmap_forms.specs.Values.{Field, field_check, read_text}
 
@@ -40,14 +40,14 @@ module _ (one_answer : (e : Element) (one other : Result Identifier IdentError) 
   abbrev answer : Identifier → Result Identifier IdentError
   answer i = Ok i
 
-  abbrev refused : IdentError → Result Identifier IdentError
-  refused error = Err error
+  abbrev err_identifier : IdentError → Result Identifier IdentError
+  err_identifier error = Err error
 
   -- want of memory has no code
   no_code : (code : Code) → identifier_code NoMemory ≡ Some code → ⊥
   no_code code e = let wrong : identifier_code NoMemory ≡ Some code = e in cc
 
-  not_memory : (error : IdentError) (code : Code) → identifier_code error ≡ Some code → refused error ≡ refused NoMemory → ⊥
+  not_memory : (error : IdentError) (code : Code) → identifier_code error ≡ Some code → err_identifier error ≡ err_identifier NoMemory → ⊥
   not_memory error code coded e =
       let same : error ≡ NoMemory = cc in
       no_code code (subst (λ (x : IdentError). identifier_code x ≡ Some code) same coded)
@@ -56,27 +56,27 @@ module _ (one_answer : (e : Element) (one other : Result Identifier IdentError) 
   identifier_single e (Ok i) (Ok j) a b = elim (one_answer e (answer i) (answer j) a b) [
     | inl same ↦ let s : answer i ≡ answer j = same in let t : i ≡ j = cc in same_found i j t
     | inr other ↦ elim other [
-      | inl m ↦ let wrong : answer i ≡ refused NoMemory = m in cc
-      | inr m ↦ let wrong : answer j ≡ refused NoMemory = m in cc
+      | inl m ↦ let wrong : answer i ≡ err_identifier NoMemory = m in cc
+      | inr m ↦ let wrong : answer j ≡ err_identifier NoMemory = m in cc
     ]
   ]
-  identifier_single e (Ok i) (Err c) a b = elim (one_answer e (answer i) (refused b.0) a b.2) [
-    | inl same ↦ let wrong : answer i ≡ refused b.0 = same in cc
+  identifier_single e (Ok i) (Err c) a b = elim (one_answer e (answer i) (err_identifier b.0) a b.2) [
+    | inl same ↦ let wrong : answer i ≡ err_identifier b.0 = same in cc
     | inr other ↦ elim other [
-      | inl m ↦ let wrong : answer i ≡ refused NoMemory = m in cc
+      | inl m ↦ let wrong : answer i ≡ err_identifier NoMemory = m in cc
       | inr m ↦ absurd (not_memory b.0 c b.1 m)
     ]
   ]
-  identifier_single e (Err c) (Ok j) a b = elim (one_answer e (refused a.0) (answer j) a.2 b) [
-    | inl same ↦ let wrong : refused a.0 ≡ answer j = same in cc
+  identifier_single e (Err c) (Ok j) a b = elim (one_answer e (err_identifier a.0) (answer j) a.2 b) [
+    | inl same ↦ let wrong : err_identifier a.0 ≡ answer j = same in cc
     | inr other ↦ elim other [
       | inl m ↦ absurd (not_memory a.0 c a.1 m)
-      | inr m ↦ let wrong : answer j ≡ refused NoMemory = m in cc
+      | inr m ↦ let wrong : answer j ≡ err_identifier NoMemory = m in cc
     ]
   ]
-  identifier_single e (Err c) (Err d) a b = elim (one_answer e (refused a.0) (refused b.0) a.2 b.2) [
+  identifier_single e (Err c) (Err d) a b = elim (one_answer e (err_identifier a.0) (err_identifier b.0) a.2 b.2) [
     | inl same ↦
-        let s : refused a.0 ≡ refused b.0 = same in
+        let s : err_identifier a.0 ≡ err_identifier b.0 = same in
         let errors : a.0 ≡ b.0 = cc in
         let coded : Some c ≡ Some d = sym a.1 ∙ (ap identifier_code errors ∙ b.1) in
         cc
@@ -94,7 +94,7 @@ OneOfField field = (scope : Scope) (text : Option (List ℕ)) → IsSingle (fiel
 abbrev pub OneOfTable : {X : Type 0} → Table X → Type 0
 OneOfTable table = (scope : Scope) (e : Element) → IsSingle (table.reads scope e)
 
-abbrev pub OneOfContent : {X : Type 0} → Content X → Type 0
+abbrev pub OneOfContent : {X : Type 0} → ContentCheck X → Type 0
 OneOfContent content = (scopes : Scopes) (parts : List Part) → IsSingle (content scopes parts)
 
 module _ {X Y : Type 0} (field : Field X) (table : Table Y) where

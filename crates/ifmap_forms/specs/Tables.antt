@@ -42,6 +42,10 @@ module _ {X Y : Type 0} where
   abbrev pub beside : Field X → Table Y → Table (Both X Y)
   beside field table = record { locals = field.local ∷ table.locals; reads = read_both field table }
 
+-- what an element means by an attribute that is a text, and by no other
+abbrev pub OneText : Type 0
+OneText = Both (List ℕ) (Unit {0})
+
 -- ---- children
 
 -- a child, seen as an element or a text
@@ -59,11 +63,11 @@ abbrev pub is_white_part : Part → Bool
 is_white_part part = is_blank_part part
 
 -- what children mean
-abbrev pub Content : Type 0 → Type 1
-Content X = Scopes → List Part → Check X
+abbrev pub ContentCheck : Type 0 → Type 1
+ContentCheck X = Scopes → List Part → Check X
 
 -- no children but white space
-abbrev pub no_children : Content (Unit {0})
+abbrev pub no_children : ContentCheck (Unit {0})
 no_children scopes parts = need (list_all is_white_part parts) Failure (pass tt)
 
 module _ {X : Type 0} where
@@ -75,7 +79,7 @@ module _ {X : Type 0} where
   each_element one index (Child-F.Text text ∷ parts) = need (list_all is_white text) Failure (each_element one (index + 1) parts)
 
   -- any number of elements, each of which means one thing
-  abbrev pub list_of : (Scopes → Element → Check X) → Content (List X)
+  abbrev pub list_of : (Scopes → Element → Check X) → ContentCheck (List X)
   list_of one scopes parts = each_element (λ index e. one (scopes_below scopes index) e) 0 parts
 
 -- ---- elements
@@ -85,11 +89,11 @@ pub record Form (A C : Type 0) : Type 1 where
   pub name : Name
   pub passed_over : List (List ℕ)
   pub attributes : Table A
-  pub content : Content C
+  pub content : ContentCheck C
 
 module _ {A C : Type 0} where
   -- a form of an element in no namespace, where no further attribute is passed over
-  abbrev pub bare_form : List ℕ → Table A → Content C → Form A C
+  abbrev pub bare_form : List ℕ → Table A → ContentCheck C → Form A C
   bare_form local attributes content =
       record { name = bare_name local; passed_over = []; attributes = attributes; content = content }
 

@@ -127,14 +127,14 @@ begins_white [] = false
 begins_white (b ∷ bs) = is_white b
 
 -- the text without white space at its ends
-abbrev pub trimmed : List ℕ → List ℕ
-trimmed text = reverse (without_white (reverse (without_white text)))
+abbrev pub trim_white : List ℕ → List ℕ
+trim_white text = reverse (without_white (reverse (without_white text)))
 
 abbrev pub kind_of : List ℕ → Option Kind
 kind_of text = find (λ kind. bytes_eq (kind_name kind) text) kinds
 
 abbrev pub piece_check : List ℕ → Check Kind
-piece_check piece = need_some InvalidIdentifierType (kind_of (trimmed piece)) (λ kind. pass kind)
+piece_check piece = need_some InvalidIdentifierType (kind_of (trim_white piece)) (λ kind. pass kind)
 
 abbrev pub kinds_check : List (List ℕ) → Check (List Kind)
 kinds_check [] = pass []

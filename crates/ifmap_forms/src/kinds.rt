@@ -5,7 +5,7 @@ ghost use Rattle.std.specs.List.{position};
 ghost use Rattle.std.specs.Str.{byte};
 ghost use Rattle.ifmap_filter.specs.Tokens.{without_white};
 ghost use Rattle.ifmap_forms.specs.Answers.{IsChecked};
-ghost use Rattle.ifmap_forms.specs.Values.{begins_white, kind_of, kinds_check, piece_check, pieces_of, read_kinds, trimmed};
+ghost use Rattle.ifmap_forms.specs.Values.{begins_white, kind_of, kinds_check, piece_check, pieces_of, read_kinds, trim_white};
 
 use crate::errors::FormError;
 use crate::parts::{is_white, is_white_alone};
@@ -77,7 +77,7 @@ fn comma_in(text: &[u8]) -> Option<usize>
 fn read_kind(piece: &[u8]) -> Result<Kind, FormError>
     ensures { IsChecked (piece_check piece.now) result }
 {
-    match kind_of(trimmed(piece)) {
+    match kind_of(trim_white(piece)) {
         Some(kind) => Ok(kind),
         None => Err(FormError::Named(Code::InvalidIdentifierType)),
     }
@@ -92,8 +92,8 @@ fn kind_of(name: &[u8]) -> Option<Kind>
         .find(|kind| kind.name().as_bytes() == name)
 }
 
-fn trimmed(text: &[u8]) -> &[u8]
-    ensures { result.now ≡ trimmed text.now }
+fn trim_white(text: &[u8]) -> &[u8]
+    ensures { result.now ≡ trim_white text.now }
 {
     without_white_after(without_white(text))
 }

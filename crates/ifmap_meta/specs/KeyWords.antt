@@ -10,18 +10,18 @@ use Rattle.ifmap_meta.specs.Cardinality.{is_single}
 use Rattle.ifmap_meta.specs.Stamps.{without_stamps}
 
 -- a text and its end, which is no byte
-abbrev pub ended : List ℕ → List ℕ
-ended text = text ++ 256 ∷ []
+abbrev pub end_part : List ℕ → List ℕ
+end_part text = text ++ 256 ∷ []
 
 abbrev pub name_parts : Name → List ℕ
-name_parts n = ended n.space ++ ended n.local
+name_parts n = end_part n.space ++ end_part n.local
 
 abbrev pub attribute_parts : Attribute → List ℕ
-attribute_parts a = name_parts a.name ++ ended a.value
+attribute_parts a = name_parts a.name ++ end_part a.value
 
 abbrev pub child_parts_of : Child-F (List ℕ) (List ℕ) → List ℕ
 child_parts_of (Child-F.Element parts) = parts
-child_parts_of (Child-F.Text text) = ended text
+child_parts_of (Child-F.Text text) = end_part text
 
 abbrev pub element_parts_of : Element-F (List ℕ) (List ℕ) → List ℕ
 element_parts_of e =

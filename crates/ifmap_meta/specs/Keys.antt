@@ -7,7 +7,7 @@ use Rattle.ifmap_elem.specs.declared.elements.Element.{Element}
 use Rattle.ifmap_elem.specs.Canonical.{canonical_bytes}
 use Rattle.ifmap_meta.specs.declared.stored.Stored.{Stored}
 use Rattle.ifmap_meta.specs.Cardinality.{is_single}
-use Rattle.ifmap_meta.specs.KeyWords.{ended, key_word, mix_all}
+use Rattle.ifmap_meta.specs.KeyWords.{end_part, key_word, mix_all}
 use Rattle.ifmap_meta.specs.Stamps.{content_of}
 
 -- the canonical bytes of an element's content
@@ -30,4 +30,4 @@ HaveOneKey a b = IsTrue (same_type a.element b.element) × (IsTrue (is_single a.
 
 -- a number for each key: of the element's word, and where there may be many, of the publisher
 unfoldable pub word_of : Stored → ℕ
-word_of s = mix_all (key_word s.element) (cond (is_single s.element) [] (ended s.publisher))
+word_of s = mix_all (key_word s.element) (cond (is_single s.element) [] (end_part s.publisher))

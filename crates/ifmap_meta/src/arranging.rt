@@ -22,8 +22,10 @@ fn drop_stamps(attributes: &mut Vec<Attribute>)
     attributes.retain(|attribute| !is_stamp(attribute));
 }
 
+/// Puts the attributes of the element and of all elements in it in order, by name and then by
+/// value. It takes no memory.
 #[cycle(arranging)]
-fn arrange(element: &mut Element)
+pub fn arrange(element: &mut Element)
     ensures { element.new ≡ arrange element.old }
 {
     put_in_order(&mut element.attributes.0);

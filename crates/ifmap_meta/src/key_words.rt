@@ -2,7 +2,7 @@
 //! one comparison.
 ghost use Rattle.std.specs.Prelude.{◌≡◌};
 ghost use Rattle.std.specs.List.{flat_map};
-ghost use Rattle.ifmap_meta.specs.KeyWords.{attribute_parts, ended, key_word, mix, mix_all, name_parts, parts_of, parts_of_child};
+ghost use Rattle.ifmap_meta.specs.KeyWords.{attribute_parts, end_part, key_word, mix, mix_all, name_parts, parts_of, parts_of_child};
 ghost use Rattle.ifmap_meta.specs.Stamps.{without_stamps};
 
 use crate::metadata::is_single;
@@ -102,7 +102,7 @@ const END: u64 = 256;
 // Mixes in a text with its end.
 #[tactic(auto, using(crate::specs::laws::KeyWordLaws::mix_append))]
 pub(crate) fn mix_text(word: u64, text: &[u8]) -> u64
-    ensures { result ≡ mix_all word (ended text.now) }
+    ensures { result ≡ mix_all word (end_part text.now) }
 {
     mix(mix_bytes(word, text), END)
 }

@@ -2,7 +2,7 @@
 //! with who published them, when, and for how long; what their keys compare.
 #![tactic(auto)]
 
-mod arranging;
+pub mod arranging;
 pub mod clients;
 pub mod errors;
 mod key_words;
@@ -12,6 +12,7 @@ pub mod metadata;
 pub mod shared_elements;
 pub mod stored;
 
+pub use arranging::arrange;
 pub use clients::ClientName;
 pub use errors::MetaError;
 pub use keys::same_type;

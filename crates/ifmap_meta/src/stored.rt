@@ -137,8 +137,8 @@ fn with_stamps(
     let publisher = publisher.copy(alloc)?;
     let moment = moment_text(alloc, moment)?;
     let mut made = attributes.0;
-    made.push(Attribute::bare(alloc, "ifmap-publisher-id", publisher)?)?;
-    made.push(Attribute::bare(alloc, "ifmap-timestamp", moment)?)?;
+    made.push(Attribute::with_local(alloc, "ifmap-publisher-id", publisher)?)?;
+    made.push(Attribute::with_local(alloc, "ifmap-timestamp", moment)?)?;
     put_in_order(&mut made);
     Ok(Many(made))
 }

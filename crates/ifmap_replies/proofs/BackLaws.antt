@@ -5,7 +5,7 @@
 -- 4. Results.
 -- 5. Responses and envelopes.
 use Rattle.std.proofs.Common.{◌≡◌, ◌∙◌, ℕ, ◌+◌, ◌<◌, ◌≤◌, ◌%◌, ◌^◌, ◌&&◌, Bool, true, false, not, List, [], ◌∷◌, ◌++◌, Option, None, Some}
-use Rattle.std.proofs.Common.{Ok, map, codes, refl, ap, arith, inl, subst, sym, append-nil}
+use Rattle.std.proofs.Common.{Ok, map, codes, refl, ap, arith, subst, sym, append-nil}
 use Rattle.std.specs.Prelude.{◌||◌, if◌then◌else◌, nat_lt}
 use Rattle.std.specs.Char.{is_ascii_digit}
 use Rattle.std.specs.List.{AllByRecursion, list_all}
@@ -19,12 +19,13 @@ use Rattle.ifmap_lemmas.specs.Members.{all_append}
 use Rattle.ifmap_lemmas.specs.Numerals.{digit, numeral, numeral_by_digits, numeral_value}
 use Rattle.ifmap_lemmas.specs.Texts.{eq_tells, slice_cmp-less}
 use Rattle.ifmap_elem.specs.Building.{bare_element}
-use Rattle.ifmap_elem.specs.declared.elements.Child.{Child, out-Child}
+use Rattle.ifmap_elem.specs.declared.elements.Child.{Child}
 use Rattle.ifmap_elem.specs.declared.elements.Child as the
 use Rattle.ifmap_elem.specs.declared.elements.Child.TheOpen.{Child-F}
 use Rattle.ifmap_elem.specs.declared.elements.Element.{Element}
 use Rattle.ifmap_elem.specs.laws.FitLaws.{out_element, out_text}
-use Rattle.ifmap_envelopes.specs.Envelopes.{IsAlone, IsEnvelope, envelope_name}
+use Rattle.ifmap_envelopes.specs.Envelopes.{around}
+use Rattle.ifmap_envelopes.specs.MakingLaws.{made_envelope}
 use Rattle.ifmap_filter.specs.Holding.{own_text_of, text_among}
 use Rattle.ifmap_ident.specs.declared.codes.Code.{Code}
 use Rattle.ifmap_ident.specs.declared.codes.Code.TheVariants.{AccessDenied, Failure, InvalidIdentifier, InvalidIdentifierType}
@@ -63,7 +64,7 @@ use Rattle.ifmap_replies.specs.ResultForms.{members_check, new_session_form, new
 use Rattle.ifmap_replies.specs.ResultForms.{plain_check, plain_form, plain_made, poll_check, polled_form, polled_made, response_check}
 use Rattle.ifmap_replies.specs.ResultForms.{response_form, response_made, result_check, result_local, run_check, run_form, run_from}
 use Rattle.ifmap_replies.specs.ResultForms.{run_made, run_parts, told_error_form, told_error_made, told_form, told_made}
-use Rattle.ifmap_replies.specs.Results.{around, as_children, entry_children, error_element, in_envelope, new_session_element, poll_element}
+use Rattle.ifmap_replies.specs.Results.{as_children, entry_children, error_element, new_session_element, poll_element}
 use Rattle.ifmap_replies.specs.Results.{reply_element, response_name, result_element, run_element, text_children, told_element}
 use Rattle.ifmap_replies.specs.Runs.{before, entries_of, entry_on, run_on, runs_of}
 use Rattle.ifmap_replies.proofs.GoodLaws.{element_part, parts_are}
@@ -219,35 +220,6 @@ plain_back : (kind : ResultKind) (answer : Reply)
     → plain_check kind answer (bare_element (result_local kind) [] []) (Ok answer)
 plain_back kind answer =
     found_form (plain_form kind) (plain_made answer) no_scopes (bare_element (result_local kind) [] []) tt refl tt refl refl
-
-alone_back : (e : Element) → IsAlone (parts_in (the.Element e ∷ [])) 0 e
-alone_back e = record {
-  before = [];
-  after = [];
-  parts_are = λ i. out_element e i ∷ [];
-  blank_before = refl;
-  blank_after = refl;
-  index_is = refl;
-}
-
-envelope_back : (response : Element) → IsEnvelope (in_envelope response) (0 ∷ (0 ∷ [])) response
-envelope_back response = record {
-  named = refl;
-  place = 0;
-  body = around (envelope_name (codes "Body")) response;
-  body_at = record {
-    before = [];
-    after = [];
-    parts_are = λ i. out_element (around (envelope_name (codes "Body")) response) i ∷ [];
-    header = inl refl;
-    blank = refl;
-    named = refl;
-    index_is = refl;
-  };
-  index = 0;
-  alone = alone_back response;
-  path_is = refl;
-}
 
 module _ (again : (i : Identifier) → IsIdentifier i → IsCanon (identifier_element i) i)
     (apart : (one other : Identifier) → IsIdentifier one → IsIdentifier other → identifier_bytes one ≡ identifier_bytes other → one ≡ other)
@@ -406,6 +378,6 @@ module _ (again : (i : Identifier) → IsIdentifier i → IsCanon (identifier_el
         record {
           path = 0 ∷ (0 ∷ []);
           response = response;
-          envelope = envelope_back response;
+          envelope = made_envelope response;
           checked = response_back answer f;
         }

@@ -1,4 +1,7 @@
 -- Each check of a reply finds something: a value or a defect. So a response has a reply or none.
+-- Plan: (1) identifiers; (2) tables of attributes, children and forms: where each of their parts finds a value or a defect, so
+-- does the whole; (3) values of attributes; (4) results and responses, part by part; (5) envelopes, and so bodies
+-- (`reply_or_none`).
 use Rattle.std.proofs.Common.{◌≢◌, ◌⊎◌, ◌+◌, ◌^◌, ◌++◌, ℕ, List, [], ◌∷◌, Option, None, Some, Result, Ok, Err, codes, inl, inr, refl}
 use Rattle.std.specs.Prelude.{nat_lt}
 use Rattle.std.specs.List.{list_all}
@@ -22,7 +25,7 @@ use Rattle.ifmap_forms.specs.CheckLaws.{fail_done, need_done, pass_done, some_do
 use Rattle.ifmap_forms.specs.Checks.{Check, IsDone, check_then, need, need_some, pass}
 use Rattle.ifmap_forms.specs.Items.{before_list, from_list, identifier_check, identifiers_check, item_of, list_at, list_check, may_follow}
 use Rattle.ifmap_forms.specs.Scopes.{Scopes}
-use Rattle.ifmap_forms.specs.Tables.{Content, Form, Part, Table, beside, both, each_element, form_check, is_white_part, no_attributes}
+use Rattle.ifmap_forms.specs.Tables.{ContentCheck, Form, Part, Table, beside, both, each_element, form_check, is_white_part, no_attributes}
 use Rattle.ifmap_forms.specs.Tables.{no_children, parts_of, read_form}
 use Rattle.ifmap_forms.specs.Values.{Field, field_check, number_of, read_text, text_field}
 use Rattle.ifmap_replies.specs.declared.kinds.PollKind.{PollKind}
@@ -72,7 +75,7 @@ SomeOfField field = (scope : Scope) (text : Option (List ℕ)) → IsDone (field
 abbrev SomeOfTable : {X : Type 0} → Table X → Type 0
 SomeOfTable table = (scope : Scope) (e : Element) → IsDone (table.reads scope e)
 
-abbrev SomeOfContent : {X : Type 0} → Content X → Type 0
+abbrev SomeOfContent : {X : Type 0} → ContentCheck X → Type 0
 SomeOfContent content = (scopes : Scopes) (parts : List Part) → IsDone (content scopes parts)
 
 module _ {X Y : Type 0} (field : Field X) (table : Table Y) where

@@ -3,6 +3,8 @@
 -- 2. An element of elements, and one of a text.
 use Rattle.std.proofs.Common.{◌≡◌, ◌≢◌, ◌∙◌, ◌&&◌, ℕ, ◌+◌, ◌≤◌, suc, Bool, true, false, List, [], ◌∷◌, ◌++◌, map, codes, refl, ap, arith}
 use Rattle.std.proofs.Common.{subst, sym}
+use Rattle.std.proofs.lemmas.Bool.Decides.{not_from_Decides}
+use Rattle.std.proofs.lemmas.Slice.Eq.{bytes_eq-Decides}
 use Rattle.std.specs.Prelude.{IsTrue}
 use Rattle.std.specs.List.{AllByRecursion, flat_map, list_all, list_any}
 use Rattle.std.specs.Str.{bytes_eq}
@@ -25,7 +27,7 @@ use Rattle.ifmap_elem.specs.declared.elements.Name.{Name}
 use Rattle.ifmap_elem.specs.laws.ArrangedLaws.{arranged_in, arranged_is, arranged_text}
 use Rattle.ifmap_elem.specs.laws.FitLaws.{elements_in, elements_of_child, elements_text, fit_whole, out_element, out_text}
 use Rattle.ifmap_lemmas.specs.Members.{all_of_test, all_weaker, both_all}
-use Rattle.ifmap_lemmas.specs.Texts.{ascii_encoded, eq_itself, is_ascii}
+use Rattle.ifmap_lemmas.specs.Texts.{ascii_encoded, is_ascii}
 use Rattle.ifmap_replies.specs.Results.{as_children, text_children}
 
 -- ---- 1. names and attributes
@@ -41,14 +43,11 @@ plain_characters bs f = (
   all_weaker is_plain is_character (λ b h. (and_parts (is_ascii b) (is_character b) h).1) bs f,
 )
 
-another_text : (one other : List ℕ) → bytes_eq one one ≡ true → bytes_eq one other ≡ false → one ≢ other
-another_text one other here there e = let q : bytes_eq one one ≡ bytes_eq one other = ap (bytes_eq one) e in cc
-
 -- a namespace, and a name part, that are spelled out
 pub plain_space : (space : List ℕ) → list_all is_plain space ≡ true → bytes_eq space xmlns_space ≡ false → IsNamespace space
 plain_space space plain other = record {
   characters = plain_characters space (all_of_test is_plain space plain);
-  not_reserved = another_text space xmlns_space (eq_itself space) other;
+  not_reserved = not_from_Decides _ (bytes_eq-Decides space xmlns_space) other;
 }
 
 unfoldable pub is_plain_part : List ℕ → Bool
@@ -87,7 +86,7 @@ pub bare_fits : (local : List ℕ) → IsPlainPart local → IsFitName (bare_nam
 bare_fits local h = plain_name [] local no_namespace h
 
 same_local : (one other : List ℕ) → bytes_eq one other ≡ false → bare_name one ≢ bare_name other
-same_local one other apart e = another_text one other (eq_itself one) apart (ap (λ (n : Name). n.local) e)
+same_local one other apart e = not_from_Decides _ (bytes_eq-Decides one other) apart (ap (λ (n : Name). n.local) e)
 
 pub attribute_fits : (local value : List ℕ) → IsPlainPart local → bytes_eq local (codes "xmlns") ≡ false → IsCharacters value
     → IsFitAttribute (bare_attribute local value)

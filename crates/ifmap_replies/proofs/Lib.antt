@@ -1,6 +1,5 @@
 pub mod PieceLaws
 pub mod RunLaws
-pub mod InPlace
 pub mod FormLaws
 pub mod FoundLaws
 pub mod ReadingLaws

@@ -17,8 +17,8 @@ use Rattle.ifmap_search.specs.declared.results.PollItem.TheVariants as poll
 use Rattle.ifmap_forms.specs.Checks.{Check, check_then, need, need_some, pass}
 use Rattle.ifmap_forms.specs.Items.{before_list, from_list, identifiers_check, item_of, list_at}
 use Rattle.ifmap_forms.specs.Scopes.{Scopes}
-use Rattle.ifmap_forms.specs.Tables.{Both, Content, Form, Part, bare_form, beside, each_element, form_check, no_attributes, no_children}
-use Rattle.ifmap_forms.specs.Tables.{parts_of}
+use Rattle.ifmap_forms.specs.Tables.{Both, ContentCheck, Form, OneText, Part, bare_form, beside, each_element, form_check, no_attributes}
+use Rattle.ifmap_forms.specs.Tables.{no_children, parts_of}
 use Rattle.ifmap_forms.specs.Values.{text_field}
 use Rattle.ifmap_replies.specs.declared.kinds.EntriesKind.{EntriesKind}
 use Rattle.ifmap_replies.specs.declared.kinds.EntriesKind.TheVariants as entries
@@ -84,7 +84,7 @@ run_check e = need (is_bare (codes "resultItem") e.name) Failure (form_check run
 abbrev pub entries_check : List Part → Check (List Entry)
 entries_check parts = check_then (members_check run_check parts) (λ runs. pass (entries_of runs))
 
-abbrev pub entries_content : Content (List Entry)
+abbrev pub entries_content : ContentCheck (List Entry)
 entries_content scopes = entries_check
 
 -- ---- the note of an error
@@ -100,7 +100,7 @@ note_check e =
     (need (has_only [] e) Failure
     (need (list_all is_text (parts_of e)) Failure (pass (text_among e.children))))
 
-abbrev pub note_content : Content (List ℕ)
+abbrev pub note_content : ContentCheck (List ℕ)
 note_content scopes = only_check note_check
 
 -- ---- what a poll is told
@@ -124,11 +124,7 @@ poll_kinds =
 abbrev pub poll_kind_of : Name → Option PollKind
 poll_kind_of name = find (λ kind. is_bare (poll_local kind) name) poll_kinds
 
--- what carries the name of a subscription alone
-abbrev pub Named : Type 0
-Named = Both (List ℕ) (Unit {0})
-
-abbrev pub told_form : EntriesKind → Form Named (List Entry)
+abbrev pub told_form : EntriesKind → Form OneText (List Entry)
 told_form kind = bare_form (entries_local kind) (beside (text_field (codes "name")) no_attributes) entries_content
 
 -- entries of this kind under a name
@@ -138,7 +134,7 @@ told_item entries.Update name found = poll.Update name found
 told_item entries.Delete name found = poll.Delete name found
 told_item entries.Notify name found = poll.Notify name found
 
-abbrev pub told_made : EntriesKind → Named → List Entry → PollItem
+abbrev pub told_made : EntriesKind → OneText → List Entry → PollItem
 told_made kind a found = told_item kind a.first found
 
 -- a code, and the name of a subscription where there is one

@@ -16,15 +16,12 @@ use Rattle.ifmap_ident.specs.declared.codes.Code.{Code}
 use Rattle.ifmap_search.specs.declared.results.Entry.{Entry}
 use Rattle.ifmap_search.specs.declared.results.PollItem.{PollItem}
 use Rattle.ifmap_search.specs.declared.results.PollItem.TheVariants as poll
-use Rattle.ifmap_envelopes.specs.Envelopes.{envelope_name}
+use Rattle.ifmap_envelopes.specs.Envelopes.{around, in_envelope}
+use Rattle.ifmap_envelopes.specs.Spaces.{ifmap_space}
 use Rattle.ifmap_replies.specs.declared.replies.Reply.{Reply}
 use Rattle.ifmap_replies.specs.declared.replies.Reply.TheVariants as reply
 use Rattle.ifmap_replies.specs.declared.runs.Run.{Run}
 use Rattle.ifmap_replies.specs.Runs.{runs_of}
-
--- the namespace of requests and of responses
-abbrev pub ifmap_space : List ℕ
-ifmap_space = codes "http://www.trustedcomputinggroup.org/2010/IFMAP/2"
 
 abbrev pub response_name : Name
 response_name = record { space = ifmap_space; local = codes "response" }
@@ -103,14 +100,6 @@ result_element reply.Purged = plain_element (codes "purgePublisherReceived") []
 result_element (reply.Found entries) = plain_element (codes "searchResult") (entry_children entries)
 result_element (reply.Polled items) = plain_element (codes "pollResult") (as_children (map poll_element items))
 result_element (reply.Error code note) = error_element code None note
-
--- an element of this name that holds one other and nothing else
-abbrev pub around : Name → Element → Element
-around name inner = record { name = name; attributes = []; children = the.Element inner ∷ [] }
-
--- the envelope of a response
-abbrev pub in_envelope : Element → Element
-in_envelope response = around (envelope_name (codes "Envelope")) (around (envelope_name (codes "Body")) response)
 
 -- the whole envelope of a reply
 abbrev pub reply_element : Reply → Element

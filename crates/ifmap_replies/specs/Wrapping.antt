@@ -1,14 +1,14 @@
 -- What stands around a result, by the names of it.
 use Rattle.std.specs.Prelude.{codes}
 use Rattle.ifmap_elem.specs.declared.elements.Element.{Element}
-use Rattle.ifmap_envelopes.specs.Envelopes.{envelope_name}
+use Rattle.ifmap_envelopes.specs.Envelopes.{around, envelope_name}
 use Rattle.ifmap_replies.specs.declared.writing.Names.{Names}
-use Rattle.ifmap_replies.specs.Results.{around, response_name}
+use Rattle.ifmap_replies.specs.Results.{response_name}
 
 -- the names of an envelope, of its body and of a response
 abbrev pub reply_names : Names
 reply_names = record { envelope = envelope_name (codes "Envelope"); body = envelope_name (codes "Body"); response = response_name }
 
 -- a result in a response in a body in an envelope of these names
-abbrev pub enveloped : Names → Element → Element
-enveloped names result = around names.envelope (around names.body (around names.response result))
+abbrev pub wrap_element : Names → Element → Element
+wrap_element names result = around names.envelope (around names.body (around names.response result))

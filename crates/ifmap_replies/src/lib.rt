@@ -1,9 +1,8 @@
 //! Replies as values: as elements and as the bytes that are sent, and read back from any spelling.
 #![tactic(auto)]
 
-mod arranging;
+mod entry_lists;
 pub mod errors;
-mod found;
 mod kinds;
 pub mod laws;
 mod members;

@@ -4,7 +4,7 @@ ghost use Rattle.ifmap_forms.specs.Answers.{IsChecked};
 ghost use Rattle.ifmap_forms.specs.Tables.{form_check};
 ghost use Rattle.ifmap_replies.specs.ResultForms.{no_scopes, poll_check, poll_kind_check, told_error_form, told_error_made, told_form, told_item, told_made};
 
-use crate::found::read_entries;
+use crate::entry_lists::read_entries;
 use crate::kinds::{EntriesKind, PollKind, poll_kind_of};
 use crate::members::Member;
 use crate::notes::read_note;

@@ -7,14 +7,14 @@ ghost use Rattle.ifmap_replies.specs.Results.{response_name};
 ghost use Rattle.ifmap_replies.specs.ResultForms.{error_form, error_made, found_form, found_made, new_session_form, new_session_made, no_scopes, plain_check, polled_form, polled_made, response_check, response_form, response_made, result_check, result_kind_check};
 ghost use Rattle.ifmap_replies.specs.declared.kinds.ResultKind.{ResultKind};
 
-use crate::found::read_entries;
+use crate::entry_lists::read_entries;
 use crate::kinds::{ResultKind, result_kind_of};
 use crate::members::{Member, read_members, read_only_member};
 use crate::notes::read_note;
 use crate::replies::Reply;
 use crate::values::{read_code, read_word};
-use crate::writing::IFMAP_SPACE;
 use ifmap_elem::{Element, Many, Name};
+use ifmap_envelopes::IFMAP_SPACE;
 use ifmap_forms::FormError;
 use ifmap_forms::parts::{are_blank, has_only};
 use ifmap_forms::values::read_text;

@@ -53,7 +53,7 @@ fn plain_result<'a>(alloc: Global, local: &'a str, pieces: Vec<Piece<'a>>) -> Ou
     ensures { outline_element result
         ≡ plain_element local.now (map outline_child pieces.entry.items) }
 {
-    Outline::bare(local, Vec::new(alloc), pieces)
+    Outline::with_local(local, Vec::new(alloc), pieces)
 }
 
 fn new_session_result<'a>(
@@ -70,7 +70,7 @@ fn new_session_result<'a>(
         OutlineAttribute::from_text("max-poll-result-size", decimal_text(alloc, limit)?),
         OutlineAttribute::from_str("session-id", session.as_str()),
     ]?;
-    Ok(Outline::bare("newSessionResult", attributes, Vec::new(alloc)))
+    Ok(Outline::with_local("newSessionResult", attributes, Vec::new(alloc)))
 }
 
 fn decimal_text(alloc: Global, number: u32) -> Result<Text, NoMemory>
@@ -125,7 +125,7 @@ fn told_result<'a>(
 {
     let attributes = vec![in alloc; name_attribute(name)]?;
     let pieces = entry_pieces(alloc, entries)?;
-    Ok(Outline::bare(local, attributes, pieces))
+    Ok(Outline::with_local(local, attributes, pieces))
 }
 
 fn name_attribute<'a>(name: &'a Text) -> OutlineAttribute<'a>
@@ -145,9 +145,9 @@ fn error_result<'a>(
         outline_element outline ≡ error_element code (option_copied name.entry) note.now) }
 {
     let attributes = error_attributes(alloc, code, name)?;
-    let string = Outline::bare("errorString", Vec::new(alloc), text_pieces(alloc, note)?);
+    let string = Outline::with_local("errorString", Vec::new(alloc), text_pieces(alloc, note)?);
     let pieces = vec![in alloc; string.inside()]?;
-    Ok(Outline::bare("errorResult", attributes, pieces))
+    Ok(Outline::with_local("errorResult", attributes, pieces))
 }
 
 fn error_attributes<'a>(

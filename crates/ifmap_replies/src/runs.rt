@@ -72,9 +72,9 @@ fn run_outline<'a>(
         (run_on first.now.item (first.now.element ∷ elements_of others.now))) }
 {
     let elements = element_pieces(alloc, first, others)?;
-    let metadata = Outline::bare("metadata", Vec::new(alloc), elements);
+    let metadata = Outline::with_local("metadata", Vec::new(alloc), elements);
     let pieces = item_pieces(alloc, first.item.item(), metadata)?;
-    Ok(Outline::bare("resultItem", Vec::new(alloc), pieces))
+    Ok(Outline::with_local("resultItem", Vec::new(alloc), pieces))
 }
 
 // The elements of an entry and of those after it, which the entries hold.
@@ -99,7 +99,7 @@ fn push_element<'a>(entry: &'a Entry, pieces: &mut Vec<Piece<'a>>) -> Result<(),
     ensures { OnOk result (map outline_child pieces.new.items
         ≡ map outline_child pieces.old.items ++ as_children (entry.now.element ∷ [])) }
 {
-    pieces.push(Piece::shared(entry.element.element()))?;
+    pieces.push(Piece::of_element(entry.element.element()))?;
     Ok(())
 }
 

@@ -1,18 +1,15 @@
 //! Replies as elements and as bytes.
 ghost use Rattle.std.specs.Prelude.{◌≡◌, IfOk};
 ghost use Rattle.ifmap_elem.specs.Outlines.{outline_element};
-ghost use Rattle.ifmap_replies.specs.Wrapping.{enveloped, reply_names};
-ghost use Rattle.ifmap_replies.specs.Results.{around, reply_bytes, reply_element, result_element};
+ghost use Rattle.ifmap_envelopes.specs.Envelopes.{around};
+ghost use Rattle.ifmap_replies.specs.Wrapping.{reply_names, wrap_element};
+ghost use Rattle.ifmap_replies.specs.Results.{reply_bytes, reply_element, result_element};
 
 use crate::replies::Reply;
 use crate::results::result_of;
 use ifmap_elem::{Element, Many, Name, Outline, canonical_outline};
+use ifmap_envelopes::{ENVELOPE_SPACE, IFMAP_SPACE};
 use std::alloc::{AllocError as NoMemory, Global};
-
-const ENVELOPE_SPACE: &str = "http://www.w3.org/2003/05/soap-envelope";
-
-// The namespace of responses.
-pub(crate) const IFMAP_SPACE: &str = "http://www.trustedcomputinggroup.org/2010/IFMAP/2";
 
 /// The canonical bytes of the whole envelope of a reply, as it is sent. The one error is want of
 /// memory.
@@ -60,7 +57,7 @@ fn outline_of<'a>(
     reply: &'a Reply,
 ) -> Result<Outline<'a>, NoMemory>
     ensures { IfOk result (λ outline.
-        outline_element outline ≡ enveloped names.now (result_element reply.now)) }
+        outline_element outline ≡ wrap_element names.now (result_element reply.now)) }
 {
     let result = result_of(alloc, reply)?;
     let response = around(alloc, &names.response, result)?;
@@ -74,5 +71,5 @@ fn around<'a>(alloc: Global, name: &'a Name, inner: Outline<'a>) -> Result<Outli
         outline_element outline ≡ around name.now (outline_element inner.entry)) }
 {
     let pieces = vec![in alloc; inner.inside()]?;
-    Ok(Outline::named(name, Vec::new(alloc), pieces))
+    Ok(Outline::with_name(name, Vec::new(alloc), pieces))
 }

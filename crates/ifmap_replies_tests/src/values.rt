@@ -24,13 +24,13 @@ const FOUND: &str =
     "<n1:Envelope xmlns:n1=\"http://www.w3.org/2003/05/soap-envelope\" xmlns:n2=\"http://www.trustedcomputinggroup.org/2010/IFMAP/2\" xmlns:n3=\"http://www.trustedcomputinggroup.org/2010/IFMAP-METADATA/2\"><n1:Body><n2:response><searchResult><resultItem><mac-address value=\"00:00:5e:00:53:01\"/><metadata><n3:role ifmap-cardinality=\"multiValue\" ifmap-publisher-id=\"c1\" ifmap-timestamp=\"2001-09-09T01:46:40Z\"><name>r</name></n3:role></metadata></resultItem></searchResult></n2:response></n1:Body></n1:Envelope>";
 
 fn attribute_of(alloc: Global, local: &str, value: &str) -> Result<Attribute, NoMemory> {
-    Attribute::bare(alloc, local, Text::from_str(alloc, value)?)
+    Attribute::with_local(alloc, local, Text::from_str(alloc, value)?)
 }
 
 // A stored role.
 fn role(alloc: Global) -> Result<Element, NoMemory> {
     let text = vec![in alloc; Child::Text(Text::from_str(alloc, "r")?)]?;
-    let name = Element::bare(alloc, "name", Vec::new(alloc), text)?;
+    let name = Element::with_local(alloc, "name", Vec::new(alloc), text)?;
     Ok(Element {
         name: Name::new(alloc, METADATA, "role")?,
         attributes: Many(vec![in alloc;

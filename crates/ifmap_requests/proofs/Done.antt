@@ -40,14 +40,15 @@ use Rattle.ifmap_forms.specs.Checks.{Check, IsDone, check_if, check_then, fail, 
 use Rattle.ifmap_forms.specs.Items.{before_list, from_list, identifier_check, identifiers_check, item_content, item_of, list_at, list_check}
 use Rattle.ifmap_forms.specs.Items.{may_follow, only_identifier, start_content}
 use Rattle.ifmap_forms.specs.Scopes.{Scopes, scopes_below}
-use Rattle.ifmap_forms.specs.Tables.{Content, Form, Part, Table, beside, both, each_element, form_or, is_white_part, list_of, no_attributes}
+use Rattle.ifmap_forms.specs.Tables.{ContentCheck, Form, Part, Table, beside, both, each_element, form_or, is_white_part, list_of, no_attributes}
 use Rattle.ifmap_forms.specs.Tables.{no_children, parts_of, read_form}
 use Rattle.ifmap_forms.specs.Values.{Field, depth_field, field_check, filter_check, filter_field, kind_of, kinds_check, kinds_field}
 use Rattle.ifmap_forms.specs.Values.{lifetime_field, limit_field, name_field, number_of, piece_check, pieces_of, size_field, text_field}
-use Rattle.ifmap_forms.specs.Values.{trimmed, within}
+use Rattle.ifmap_forms.specs.Values.{trim_white, within}
 use Rattle.ifmap_requests.specs.declared.requests.Request.{Request}
 use Rattle.ifmap_requests.specs.Published.{metadata_check, published_content, published_from}
-use Rattle.ifmap_requests.specs.RequestForms.{delete_form, delete_of, end_form, end_of, end_session_form, end_session_of, ifmap_space}
+use Rattle.ifmap_envelopes.specs.Spaces.{ifmap_space}
+use Rattle.ifmap_requests.specs.RequestForms.{delete_form, delete_of, end_form, end_of, end_session_form, end_session_of}
 use Rattle.ifmap_requests.specs.RequestForms.{named_request_check, new_session_form, new_session_of, notify_form, notify_of}
 use Rattle.ifmap_requests.specs.RequestForms.{other_request_check, poll_form, poll_of, publish_form, publish_of, publish_op_check}
 use Rattle.ifmap_requests.specs.RequestForms.{publisher_field, purge_form, purge_of, renew_form, renewal_of, request_check}
@@ -88,7 +89,7 @@ no_attributes_done : TableDone no_attributes
 no_attributes_done scope e fit = pass_done tt
 
 module _ (most : ℕ) where
-  abbrev ContentDone : {X : Type 0} → Content X → Type 0
+  abbrev ContentDone : {X : Type 0} → ContentCheck X → Type 0
   ContentDone content = (scopes : Scopes) (parts : List Part) → AreSound most parts → IsDone (content scopes parts)
 
   abbrev ElementDone : {X : Type 0} → (Element → Check X) → Type 0
@@ -169,7 +170,7 @@ pieces_done (piece ∷ pieces) =
     then_done (piece_check piece) (λ kind. check_then (kinds_check pieces) (λ others. pass (kind ∷ others)))
     (λ kind found. then_done (kinds_check pieces) (λ others. pass (kind ∷ others)) (λ others got. pass_done (kind ∷ others))
     (pieces_done pieces))
-    (some_done InvalidIdentifierType (kind_of (trimmed piece)) (λ kind. pass kind) (λ kind. pass_done kind))
+    (some_done InvalidIdentifierType (kind_of (trim_white piece)) (λ kind. pass kind) (λ kind. pass_done kind))
 
 kinds_done : FieldDone kinds_field
 kinds_done scope None is = pass_done []

@@ -3,8 +3,10 @@
 -- (2) what is in scope, and the names that stand for something there; (3) the comparisons in a predicate, by what it is;
 -- (4) what a rule takes of fit tokens is fit, and so are the tokens that are left: comparisons, groups, joined parts, tests;
 -- (5) the filter.
-use Rattle.std.proofs.Common.{◌≡◌, ◌≢◌, ◌∙◌, ℕ, zero, suc, Bool, true, false, cond, List, [], ◌∷◌, ◌++◌, Option, None, Some, IfSome, codes}
+use Rattle.std.proofs.Common.{◌≡◌, ◌∙◌, ℕ, zero, suc, Bool, true, false, cond, List, [], ◌∷◌, ◌++◌, Option, None, Some, IfSome, codes}
 use Rattle.std.proofs.Common.{map, reverse, inl, inr, refl, ap, subst, sym}
+use Rattle.std.proofs.lemmas.Bool.Decides.{not_from_Decides}
+use Rattle.std.proofs.lemmas.Slice.Eq.{bytes_eq-Decides}
 use Rattle.std.specs.Prelude.{◌==◌, encode_utf8_all, if◌then◌else◌}
 use Rattle.std.specs.List.{AllByRecursion, filter, flat_map, starts_with}
 use Rattle.std.specs.Map.{lookup}
@@ -14,7 +16,7 @@ use Rattle.std.proofs.lemmas.List.Folds.{flat_map-map}
 use Rattle.ifmap_lemmas.specs.Items.{To}
 use Rattle.ifmap_lemmas.specs.Filters.{all_filter}
 use Rattle.ifmap_lemmas.specs.Members.{all_of_test, both_all, map_of_all}
-use Rattle.ifmap_lemmas.specs.Texts.{ascii_encoded, eq_itself, is_ascii}
+use Rattle.ifmap_lemmas.specs.Texts.{ascii_encoded, is_ascii}
 use Rattle.ifmap_elem.specs.Chars.{AllAre, IsCharacters, colon, equals_sign, is_character, is_white}
 use Rattle.ifmap_elem.specs.Fit.{IsFitName, IsNamespace}
 use Rattle.ifmap_elem.specs.Names.{IsNamePart, is_name_character, is_name_start}
@@ -191,16 +193,13 @@ scopes_fit declared f path inner =
     map_of_all IsFitRow row_of (reverse (map binding_told here))
     (all_reversed IsFitBinding (map binding_told here) (map_of_all IsFitBinding binding_told here left))
 
-told_apart : (x y : List ℕ) → bytes_eq x y ≡ false → x ≢ y
-told_apart x y h e = let wrong : bytes_eq x y ≡ true = subst (λ (z : List ℕ). bytes_eq x z ≡ true) e (eq_itself x) in cc
-
 no_namespace : IsNamespace []
-no_namespace = record { characters = ([], refl, tt); not_reserved = told_apart [] xmlns_space refl }
+no_namespace = record { characters = ([], refl, tt); not_reserved = not_from_Decides _ (bytes_eq-Decides [] xmlns_space) refl }
 
 xml_namespace : IsNamespace xml_space
 xml_namespace = record {
   characters = (xml_space, ascii_encoded xml_space (all_of_test is_ascii xml_space refl), all_of_test is_character xml_space refl);
-  not_reserved = told_apart xml_space xmlns_space refl;
+  not_reserved = not_from_Decides _ (bytes_eq-Decides xml_space xmlns_space) refl;
 }
 
 abbrev MayBeNamespace : Option (List ℕ) → Type 0

@@ -33,8 +33,8 @@ use Rattle.ifmap_forms.specs.Checks.{Check, check_if, check_then, fail, need, ne
 use Rattle.ifmap_forms.specs.Items.{before_list, from_list, identifier_check, identifiers_check, item_content, item_of, list_at, list_check}
 use Rattle.ifmap_forms.specs.Items.{may_follow, only_identifier, start_content}
 use Rattle.ifmap_forms.specs.Scopes.{Scopes, scopes_below}
-use Rattle.ifmap_forms.specs.Tables.{Both, Content, Form, Part, Table, beside, both, each_element, form_check, form_or, is_white_part}
-use Rattle.ifmap_forms.specs.Tables.{list_of, no_attributes, no_children, parts_of, read_form}
+use Rattle.ifmap_forms.specs.Tables.{Both, ContentCheck, Form, OneText, Part, Table, beside, both, each_element, form_check, form_or}
+use Rattle.ifmap_forms.specs.Tables.{is_white_part, list_of, no_attributes, no_children, parts_of, read_form}
 use Rattle.ifmap_filter.specs.declared.filters.Filter.{Filter}
 use Rattle.ifmap_ident.specs.declared.kinds.Kind.{Kind}
 use Rattle.ifmap_forms.specs.Values.{depth_field, filter_check, filter_field, kinds_field, size_field, Field, field_check, limit_field}
@@ -44,8 +44,9 @@ use Rattle.ifmap_requests.specs.Fit.{IsFitLimit, IsFitOp, IsFitRequest, IsFitSea
 use Rattle.ifmap_requests.specs.FitFilters.{IsFitFilter}
 use Rattle.ifmap_requests.specs.Means.{Means, scopes_from}
 use Rattle.ifmap_requests.specs.Published.{metadata_check, published_content, published_from}
-use Rattle.ifmap_requests.specs.RequestForms.{SearchValues, WithSession, search_from, delete_form, delete_of, end_form, end_of}
-use Rattle.ifmap_requests.specs.RequestForms.{end_session_form, end_session_of, ifmap_space, named_request_check, new_session_form}
+use Rattle.ifmap_requests.specs.RequestForms.{SearchValues, search_from, delete_form, delete_of, end_form, end_of}
+use Rattle.ifmap_envelopes.specs.Spaces.{ifmap_space}
+use Rattle.ifmap_requests.specs.RequestForms.{end_session_form, end_session_of, named_request_check, new_session_form}
 use Rattle.ifmap_requests.specs.RequestForms.{new_session_of, notify_form, notify_of, other_request_check, poll_form, poll_of, publish_form}
 use Rattle.ifmap_requests.specs.RequestForms.{publish_of, publish_op_check, publisher_field, purge_form, purge_of, renew_form, renewal_of}
 use Rattle.ifmap_requests.specs.RequestForms.{request_check, search_attributes, search_form, search_of, session_attribute, session_field}
@@ -106,7 +107,7 @@ FieldGives field P =
 abbrev TableGives : {X : Type 0} → Table X → (X → Type 0) → Type 0
 TableGives table P = (scope : Scope) (e : Element) → IsFitScope scope → IsSound level_limit e → Gives (table.reads scope e) P
 
-abbrev ContentGives : {X : Type 0} → Content X → (X → Type 0) → Type 0
+abbrev ContentGives : {X : Type 0} → ContentCheck X → (X → Type 0) → Type 0
 ContentGives content P =
     (scopes : Scopes) (parts : List Part) → AreFitScopes scopes → AreSound level_limit parts → Gives (content scopes parts) P
 
@@ -131,7 +132,7 @@ any_field field scope text fit is x f = tt
 any_table : {X : Type 0} (table : Table X) → TableGives table Any
 any_table table scope e fit s x f = tt
 
-any_content : {X : Type 0} (content : Content X) → ContentGives content Any
+any_content : {X : Type 0} (content : ContentCheck X) → ContentGives content Any
 any_content content scopes parts fit s x f = tt
 
 text_gives : (local : List ℕ) → FieldGives (text_field local) IsCharacters
@@ -381,7 +382,7 @@ module _ (made : MakesMetadata) where
   abbrev HasLimit : Both (Option ℕ) (Unit {0}) → Type 0
   HasLimit a = IsFitLimit a.first × Unit {0}
 
-  abbrev HasTexts : Both (List ℕ) WithSession → Type 0
+  abbrev HasTexts : Both (List ℕ) OneText → Type 0
   HasTexts a = IsCharacters a.first × HasName a.others
 
   limit_table_gives : TableGives new_session_form.attributes HasLimit

@@ -26,7 +26,8 @@ use Rattle.ifmap_requests.specs.declared.operations.Operation.TheVariants as ope
 use Rattle.ifmap_requests.specs.declared.publishing.PublishOp.{PublishOp}
 use Rattle.ifmap_requests.specs.declared.requests.Request.{Request}
 use Rattle.ifmap_requests.specs.declared.requests.SubscribeOp.{SubscribeOp}
-use Rattle.ifmap_requests.specs.RequestForms.{ifmap_space, asking_name, delete_form, delete_of, end_form, end_of, end_session_form}
+use Rattle.ifmap_envelopes.specs.Spaces.{ifmap_space}
+use Rattle.ifmap_requests.specs.RequestForms.{asking_name, delete_form, delete_of, end_form, end_of, end_session_form}
 use Rattle.ifmap_requests.specs.RequestForms.{end_session_of, named_request_check, new_session_form, new_session_of, notify_form, notify_of}
 use Rattle.ifmap_requests.specs.RequestForms.{operation_of, other_request_check, poll_form, poll_of, publish_form, publish_of}
 use Rattle.ifmap_requests.specs.RequestForms.{publish_op_check, purge_form, purge_of, renew_form, renewal_of, request_check, search_form}

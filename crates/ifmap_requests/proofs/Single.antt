@@ -31,10 +31,11 @@ use Rattle.ifmap_forms.specs.SingleLaws.{no_attributes_single, no_children_singl
 use Rattle.ifmap_forms.specs.Tables.{beside, both, form_or, list_of, no_attributes}
 use Rattle.ifmap_forms.specs.Values.{FilterDefect, depth_field, filter_check, filter_field, kinds_field, lifetime_field, limit_field}
 use Rattle.ifmap_forms.specs.Values.{name_field, size_field, kind_of, kinds_check, number_of, piece_check, pieces_of, read_depth}
-use Rattle.ifmap_forms.specs.Values.{read_filter, read_kinds, read_lifetime, read_limit, read_name, read_size, trimmed, within}
+use Rattle.ifmap_forms.specs.Values.{read_filter, read_kinds, read_lifetime, read_limit, read_name, read_size, trim_white, within}
 use Rattle.ifmap_requests.specs.declared.requests.Request.{Request}
 use Rattle.ifmap_requests.specs.Published.{MetadataDefect, metadata_check, published_content, published_from}
-use Rattle.ifmap_requests.specs.RequestForms.{ifmap_space, delete_form, delete_of, end_form, end_of, end_session_form, end_session_of}
+use Rattle.ifmap_envelopes.specs.Spaces.{ifmap_space}
+use Rattle.ifmap_requests.specs.RequestForms.{delete_form, delete_of, end_form, end_of, end_session_form, end_session_of}
 use Rattle.ifmap_requests.specs.RequestForms.{named_request_check, new_session_form, new_session_of, notify_form, notify_of}
 use Rattle.ifmap_requests.specs.RequestForms.{other_request_check, poll_form, poll_of, publish_form, publish_of, publish_op_check}
 use Rattle.ifmap_requests.specs.RequestForms.{publisher_field, purge_form, purge_of, renew_form, renewal_of, request_check}
@@ -82,7 +83,7 @@ kinds_single : (pieces : List (List ℕ)) → IsSingle (kinds_check pieces)
 kinds_single [] = pass_single []
 kinds_single (piece ∷ pieces) =
     then_single (piece_check piece) (λ kind. check_then (kinds_check pieces) (λ others. pass (kind ∷ others)))
-    (some_single InvalidIdentifierType (kind_of (trimmed piece)) (λ kind. pass kind) (λ kind. pass_single kind))
+    (some_single InvalidIdentifierType (kind_of (trim_white piece)) (λ kind. pass kind) (λ kind. pass_single kind))
     (λ kind. then_single (kinds_check pieces) (λ others. pass (kind ∷ others)) (kinds_single pieces)
     (λ others. pass_single (kind ∷ others)))
 

@@ -12,7 +12,7 @@ use Rattle.ifmap_meta.specs.Whole.{IsMadeOf, content_limit}
 use Rattle.ifmap_requests.specs.declared.metadata.Published.{Published}
 use Rattle.ifmap_forms.specs.Checks.{Check, check_then, need_some, pass}
 use Rattle.ifmap_forms.specs.Items.{before_list, from_list, identifiers_check, item_of, list_at}
-use Rattle.ifmap_forms.specs.Tables.{Both, Content, Part, both}
+use Rattle.ifmap_forms.specs.Tables.{Both, ContentCheck, Part, both}
 
 abbrev pub MetadataDefect : Code → Element → Type 0
 MetadataDefect InvalidMetadata e = cardinality_of e ≡ None
@@ -36,7 +36,7 @@ published_check parts =
     (λ identifiers. check_then (list_at metadata_check (from_list parts))
     (λ list. published_from identifiers list))
 
-abbrev pub published_content : Content (Both Item (List Metadata))
+abbrev pub published_content : ContentCheck (Both Item (List Metadata))
 published_content scopes = published_check
 
 -- the parts of what is published

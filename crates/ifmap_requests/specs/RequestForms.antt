@@ -14,11 +14,12 @@ use Rattle.ifmap_search.specs.declared.searches.Search.{Search}
 use Rattle.ifmap_reader.specs.declared.scoping.Scope.{Scope}
 use Rattle.ifmap_ident.specs.Parts.{has_only}
 use Rattle.ifmap_requests.specs.declared.searching.Bounds.{Bounds}
+use Rattle.ifmap_envelopes.specs.Spaces.{ifmap_space}
 use Rattle.ifmap_forms.specs.Checks.{Check, check_then, fail, need, pass}
 use Rattle.ifmap_forms.specs.Items.{item_content, start_check, start_content}
 use Rattle.ifmap_forms.specs.Scopes.{Scopes}
-use Rattle.ifmap_forms.specs.Tables.{Both, Content, Form, Table, bare_form, beside, both, form_or, list_of, no_attributes, no_children}
-use Rattle.ifmap_forms.specs.Tables.{parts_of}
+use Rattle.ifmap_forms.specs.Tables.{Both, ContentCheck, Form, OneText, Table, bare_form, beside, both, form_or, list_of, no_attributes}
+use Rattle.ifmap_forms.specs.Tables.{no_children, parts_of}
 use Rattle.ifmap_forms.specs.Values.{Field, depth_field, filter_field, kinds_field, lifetime_field, limit_field, name_field, size_field}
 use Rattle.ifmap_forms.specs.Values.{text_field}
 use Rattle.ifmap_requests.specs.declared.asking.Asking.{Asking}
@@ -32,10 +33,6 @@ use Rattle.ifmap_requests.specs.declared.requests.Request.TheVariants as request
 use Rattle.ifmap_requests.specs.declared.requests.SubscribeOp.{SubscribeOp}
 use Rattle.ifmap_requests.specs.declared.requests.SubscribeOp.TheVariants as subscribe
 use Rattle.ifmap_requests.specs.Published.{published_content}
-
--- the namespace of requests and of responses
-abbrev pub ifmap_space : List ℕ
-ifmap_space = codes "http://www.trustedcomputinggroup.org/2010/IFMAP/2"
 
 -- ---- the operations of a publish
 
@@ -134,7 +131,7 @@ asking_name asking.PurgePublisher = codes "purgePublisher"
 
 module _ {A C : Type 0} where
   -- a form of a request, beside whose attributes `validation` is passed over
-  abbrev pub asking_form : List ℕ → Table A → Content C → Form A C
+  abbrev pub asking_form : List ℕ → Table A → ContentCheck C → Form A C
   asking_form local attributes content =
       record {
         name = record { space = ifmap_space; local = local };
@@ -143,69 +140,65 @@ module _ {A C : Type 0} where
         content = content;
       }
 
--- what a request carries that has the id of a session alone
-abbrev pub WithSession : Type 0
-WithSession = Both (List ℕ) (Unit {0})
-
 abbrev pub session_field : Field (List ℕ)
 session_field = text_field (codes "session-id")
 
-abbrev pub session_attribute : Table WithSession
+abbrev pub session_attribute : Table OneText
 session_attribute = beside session_field no_attributes
 
 abbrev pub new_session_form : Form (Both (Option ℕ) (Unit {0})) (Unit {0})
 new_session_form = asking_form (asking_name asking.NewSession) (beside limit_field no_attributes) no_children
 
-abbrev pub renew_form : Form WithSession (Unit {0})
+abbrev pub renew_form : Form OneText (Unit {0})
 renew_form = asking_form (asking_name asking.RenewSession) session_attribute no_children
 
-abbrev pub end_session_form : Form WithSession (Unit {0})
+abbrev pub end_session_form : Form OneText (Unit {0})
 end_session_form = asking_form (asking_name asking.EndSession) session_attribute no_children
 
-abbrev pub poll_form : Form WithSession (Unit {0})
+abbrev pub poll_form : Form OneText (Unit {0})
 poll_form = asking_form (asking_name asking.Poll) session_attribute no_children
 
-abbrev pub publish_form : Form WithSession (List PublishOp)
+abbrev pub publish_form : Form OneText (List PublishOp)
 publish_form = asking_form (codes "publish") session_attribute (list_of publish_op_check)
 
 abbrev pub search_form : Form (Both (List ℕ) SearchValues) Identifier
 search_form = asking_form (asking_name asking.Search) (beside session_field search_attributes) start_content
 
-abbrev pub subscribe_form : Form WithSession (List SubscribeOp)
+abbrev pub subscribe_form : Form OneText (List SubscribeOp)
 subscribe_form = asking_form (asking_name asking.Subscribe) session_attribute (list_of subscribe_op_check)
 
 abbrev pub publisher_field : Field (List ℕ)
 publisher_field = text_field (codes "ifmap-publisher-id")
 
-abbrev pub purge_form : Form (Both (List ℕ) WithSession) (Unit {0})
+abbrev pub purge_form : Form (Both (List ℕ) OneText) (Unit {0})
 purge_form = asking_form (asking_name asking.PurgePublisher) (beside session_field (beside publisher_field no_attributes)) no_children
 
 -- what the request of that session carries
-abbrev pub session_alone : List ℕ → Both WithSession (Unit {0})
+abbrev pub session_alone : List ℕ → Both OneText (Unit {0})
 session_alone session = both (both session tt) tt
 
 abbrev pub new_session_of : Both (Option ℕ) (Unit {0}) → Unit {0} → Request
 new_session_of a none = request.NewSession a.first
 
-abbrev pub renewal_of : WithSession → Unit {0} → Request
+abbrev pub renewal_of : OneText → Unit {0} → Request
 renewal_of a none = request.RenewSession a.first
 
-abbrev pub end_session_of : WithSession → Unit {0} → Request
+abbrev pub end_session_of : OneText → Unit {0} → Request
 end_session_of a none = request.EndSession a.first
 
-abbrev pub publish_of : WithSession → List PublishOp → Request
+abbrev pub publish_of : OneText → List PublishOp → Request
 publish_of a ops = request.Publish a.first ops
 
 abbrev pub search_of : Both (List ℕ) SearchValues → Identifier → Request
 search_of a start = request.Search a.first (search_from start a.others)
 
-abbrev pub subscribe_of : WithSession → List SubscribeOp → Request
+abbrev pub subscribe_of : OneText → List SubscribeOp → Request
 subscribe_of a ops = request.Subscribe a.first ops
 
-abbrev pub poll_of : WithSession → Unit {0} → Request
+abbrev pub poll_of : OneText → Unit {0} → Request
 poll_of a none = request.Poll a.first
 
-abbrev pub purge_of : Both (List ℕ) WithSession → Unit {0} → Request
+abbrev pub purge_of : Both (List ℕ) OneText → Unit {0} → Request
 purge_of a none = request.PurgePublisher a.first a.others.first
 
 -- the request of an element by its name, where it is no publish

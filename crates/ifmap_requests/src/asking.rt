@@ -1,25 +1,25 @@
 //! The element of a request.
 ghost use Rattle.std.specs.Prelude.{◌≡◌, true, IfSome, IsNone, None};
 ghost use Rattle.std.specs.Str.{bytes_eq};
+ghost use Rattle.ifmap_envelopes.specs.Spaces.{ifmap_space};
 ghost use Rattle.ifmap_filter.specs.Holding.{is_name};
 ghost use Rattle.ifmap_requests.specs.declared.asking.Asking.{Asking};
 ghost use Rattle.ifmap_forms.specs.Answers.{IsChecked, IsCheckedAs};
 ghost use Rattle.ifmap_forms.specs.Scopes.{Scopes, scopes_by};
 ghost use Rattle.ifmap_forms.specs.Tables.{form_check, read_form};
-ghost use Rattle.ifmap_requests.specs.RequestForms.{asking_name, end_session_form, end_session_of, ifmap_space, new_session_form, new_session_of, other_request_check, poll_form, poll_of, publish_form, publish_of, purge_form, purge_of, renew_form, renewal_of, request_check, search_form, search_of, session_alone, subscribe_form, subscribe_of};
+ghost use Rattle.ifmap_requests.specs.RequestForms.{asking_name, end_session_form, end_session_of, new_session_form, new_session_of, other_request_check, poll_form, poll_of, publish_form, publish_of, purge_form, purge_of, renew_form, renewal_of, request_check, search_form, search_of, session_alone, subscribe_form, subscribe_of};
 
 use crate::operations::read_publish_ops;
 use crate::requests::Request;
 use crate::searching::read_search;
 use crate::subscribing::read_subscribe_ops;
 use ifmap_elem::{Element, Many, Name, Text};
+use ifmap_envelopes::IFMAP_SPACE;
 use ifmap_forms::parts::{are_blank, has_only};
 use ifmap_forms::values::{read_limit, read_text};
 use ifmap_forms::{FormError, Place};
 use ifmap_ident::Code;
 use std::alloc::Global;
-
-const SPACE: &str = "http://www.trustedcomputinggroup.org/2010/IFMAP/2";
 
 // The request that an element at a place means.
 pub(crate) fn read_element(
@@ -45,7 +45,7 @@ pub(crate) fn read_element(
 fn is_asked(name: &Name) -> bool
     ensures { result ≡ bytes_eq name.now.space ifmap_space }
 {
-    name.space.as_str() == SPACE
+    name.space.as_str() == IFMAP_SPACE
 }
 
 fn is_publish(name: &Name) -> bool

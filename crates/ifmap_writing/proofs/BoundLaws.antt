@@ -40,7 +40,8 @@ use Rattle.ifmap_requests.specs.declared.requests.SubscribeOp.{SubscribeOp}
 use Rattle.ifmap_requests.specs.Means.{Means, scopes_from}
 use Rattle.ifmap_requests.specs.Published.{metadata_check, published_check}
 use Rattle.ifmap_requests.specs.RequestForms.{SearchValues, delete_form, delete_of, end_form, end_of, end_session_form, end_session_of}
-use Rattle.ifmap_requests.specs.RequestForms.{ifmap_space, named_request_check, new_session_form, new_session_of, notify_form, notify_of}
+use Rattle.ifmap_envelopes.specs.Spaces.{ifmap_space}
+use Rattle.ifmap_requests.specs.RequestForms.{named_request_check, new_session_form, new_session_of, notify_form, notify_of}
 use Rattle.ifmap_requests.specs.RequestForms.{other_request_check, poll_form, poll_of, publish_form, publish_of, publish_op_check}
 use Rattle.ifmap_requests.specs.RequestForms.{purge_form, purge_of, renew_form, renewal_of, request_check, search_attributes, search_form}
 use Rattle.ifmap_requests.specs.RequestForms.{search_from, search_of, session_field, subscribe_form, subscribe_of, subscribe_op_check}

@@ -1,6 +1,6 @@
 -- The bytes that are written of a request that is fit and within its bounds mean that request. Plan: (1) its filters are read back in
--- each scope of what is written; (2) the envelope; (3) the bytes; (4) what is answered to them.
-use Rattle.std.proofs.Common.{◌≡◌, ◌≤◌, ℕ, List, [], ◌∷◌, Option, None, Some, Ok, codes, refl, subst, inl}
+-- each scope of what is written; (2) the bytes; (3) what is answered to them.
+use Rattle.std.proofs.Common.{◌≡◌, ◌≤◌, ℕ, List, [], ◌∷◌, Option, None, Some, Ok, refl, subst}
 use Rattle.std.specs.Prelude.{MatchResult, Result, Err}
 use Rattle.std.specs.List.{AllByRecursion}
 use Rattle.ifmap_elem.specs.Arranged.{arrange}
@@ -11,9 +11,9 @@ use Rattle.ifmap_elem.specs.Nesting.{nesting}
 use Rattle.ifmap_elem.specs.Spells.{Spells}
 use Rattle.ifmap_elem.specs.declared.elements.Element.{Element}
 use Rattle.ifmap_elem.specs.declared.readings.Reading.{Reading}
-use Rattle.ifmap_envelopes.specs.Envelopes.{IsAlone, IsBodyAt, IsEnvelope, envelope_name}
+use Rattle.ifmap_envelopes.specs.Envelopes.{in_envelope}
+use Rattle.ifmap_envelopes.specs.MakingLaws.{made_envelope}
 use Rattle.ifmap_forms.specs.Scopes.{Scopes}
-use Rattle.ifmap_forms.specs.Tables.{parts_of}
 use Rattle.ifmap_reader.specs.declared.scoping.Scope.{Scope}
 use Rattle.ifmap_filter.specs.declared.filters.Filter.{Filter}
 use Rattle.ifmap_filter.specs.Laws.{PrintedIsParsedBack}
@@ -39,11 +39,10 @@ use Rattle.ifmap_requests.specs.Laws.{OneMeaning}
 use Rattle.ifmap_requests.specs.Means.{IsBodyAnswer, Means, scopes_from}
 use Rattle.ifmap_requests.specs.Fit.{IsFitOp, IsFitRequest, IsFitSearch, IsFitSubscribeOp, MayBeFitFilter}
 use Rattle.ifmap_writing.specs.Bounds.{IsBounded}
-use Rattle.ifmap_writing.specs.RequestElements.{around, in_envelope, request_bytes, request_element}
+use Rattle.ifmap_writing.specs.RequestElements.{request_bytes, request_element}
 use Rattle.ifmap_writing.specs.RequestSpaces.{ServeFilter, ServePublish, ServeRequest, ServeSearch, ServeSubscribe, request_spaces}
 use Rattle.ifmap_writing.proofs.ReadLaws.{ArePublishRead, AreReadIn, AreSubscribeRead, IsReadIn, IsReadRequest, request_back}
 use Rattle.ifmap_writing.proofs.ScopeLaws.{its_rows, written_there}
-use Rattle.ifmap_writing.proofs.SoundLaws.{parts_are}
 use Rattle.ifmap_writing.proofs.SpaceLaws.{own_serve}
 use Rattle.ifmap_writing.proofs.WrittenLaws.{envelope_sound, spaces_declarable}
 
@@ -89,31 +88,7 @@ module _ (parsed : PrintedIsParsedBack) (spaces : List (List ℕ)) where
   request_read scopes holds (Poll session) serve f = tt
   request_read scopes holds (PurgePublisher session publisher) serve f = tt
 
--- ---- (2) the envelope
-
-envelope_is : (inner : Element) → IsEnvelope (in_envelope inner) (0 ∷ (0 ∷ [])) inner
-envelope_is inner =
-    let body : Element = around (envelope_name (codes "Body")) inner in
-    let body_at : IsBodyAt (parts_of (in_envelope inner)) 0 body = record {
-      before = [];
-      after = [];
-      parts_are = parts_are (body ∷ []);
-      header = inl refl;
-      blank = refl;
-      named = refl;
-      index_is = refl;
-    } in
-    let alone : IsAlone (parts_of body) 0 inner = record {
-      before = [];
-      after = [];
-      parts_are = parts_are (inner ∷ []);
-      blank_before = refl;
-      blank_after = refl;
-      index_is = refl;
-    } in
-    record { named = refl; place = 0; body = body; body_at = body_at; index = 0; alone = alone; path_is = refl }
-
--- ---- (3) bytes
+-- ---- (2) bytes
 
 module _ (canon : (i : Identifier) → IsIdentifier i → IsCanon (identifier_element i) i)
     (fits : (i : Identifier) → IsIdentifier i → IsFit (identifier_element i))
@@ -148,14 +123,14 @@ module _ (canon : (i : Identifier) → IsIdentifier i → IsCanon (identifier_el
             reading = reading;
             path = path;
             inner = request_element r;
-            envelope = record { spelled = spelled; shallow = sound.within; envelope = envelope_is (request_element r) };
+            envelope = record { spelled = spelled; shallow = sound.within; envelope = made_envelope (request_element r) };
             checked = request_back canon made (request_spaces r) scopes r f within
                 (request_read parsed (request_spaces r) scopes
                 (λ inner. written_there (namespaces (arrange envelope)) (request_spaces r) path inner) r
                 (own_serve each r (request_spaces r) refl) f);
           }
 
--- ---- (4) answers
+-- ---- (3) answers
 
 abbrev good : Request → Result Request Refusal
 good r = Ok r

@@ -52,7 +52,7 @@ use Rattle.ifmap_requests.specs.RequestForms.{publish_of, publish_op_check, publ
 use Rattle.ifmap_requests.specs.RequestForms.{request_check, search_attributes, search_form, search_of, session_field, subscribe_form}
 use Rattle.ifmap_requests.specs.RequestForms.{subscribe_of, subscribe_op_check, subscription_form, subscription_of, update_form, update_of}
 use Rattle.ifmap_requests.specs.Fit.{IsFitLimit, IsFitOp, IsFitRequest, IsFitSubscribeOp}
-use Rattle.ifmap_writing.specs.Attributes.{Row, attributes_of, filter_rows, filter_value, kinds_value, lifetime_rows, lifetime_value}
+use Rattle.ifmap_writing.specs.Attributes.{AttributeRow, attributes_of, filter_rows, filter_value, kinds_value, lifetime_rows, lifetime_value}
 use Rattle.ifmap_writing.specs.Attributes.{limit_rows, limit_value, name_rows, number_value, purge_rows, search_rows, session_rows}
 use Rattle.ifmap_writing.specs.Attributes.{subscription_rows}
 use Rattle.ifmap_writing.specs.Bounds.{IsBounded, IsBoundedSearch, IsBoundedSubscribe}
@@ -108,11 +108,11 @@ search_values s = both s.match_links (both s.max_depth (both s.max_size (both s.
 -- ---- (1) attributes
 
 -- an element of a name whose attributes are rows
-abbrev with_rows : Name → List Row → List Child → Element
+abbrev with_rows : Name → List AttributeRow → List Child → Element
 with_rows name rows children = record { name = name; attributes = attributes_of rows; children = children }
 
 -- the attribute is read back where its row is
-field_back : {X : Type 0} (field : Field X) (scope : Scope) (name : Name) (rows : List Row) (children : List Child)
+field_back : {X : Type 0} (field : Field X) (scope : Scope) (name : Name) (rows : List AttributeRow) (children : List Child)
     (value : Option (List ℕ)) (x : X) → row_value field.local rows ≡ value → field.reads scope value (good x)
     → field_check field scope (with_rows name rows children) (good x)
 field_back field scope name rows children value x is f =
@@ -238,7 +238,8 @@ module _ (canon : (i : Identifier) → IsIdentifier i → IsCanon (identifier_el
   -- ---- (4) searches
 
   -- the attributes of a search, where its rows are among these
-  search_back : (spaces : List (List ℕ)) (scope : Scope) (name : Name) (rows : List Row) (children : List Child) (s : search.Search)
+  search_back : (spaces : List (List ℕ)) (scope : Scope) (name : Name) (rows : List AttributeRow) (children : List Child)
+      (s : search.Search)
       → AreReadIn spaces s scope → IsBoundedSearch s
       → row_value (codes "match-links") rows ≡ filter_value spaces s.match_links
       → row_value (codes "max-depth") rows ≡ number_value s.max_depth
@@ -313,7 +314,7 @@ module _ (canon : (i : Identifier) → IsIdentifier i → IsCanon (identifier_el
     subscribe_back : (scopes : Scopes) (op : SubscribeOp) → IsFitSubscribeOp op → IsBoundedSubscribe op
         → IsReadSubscribe spaces op (scopes []) → subscribe_op_check scopes (subscribe_element spaces op) (good op)
     subscribe_back scopes (subscribe.Update name s) f within w =
-        let rows : List Row = subscription_rows spaces name s in
+        let rows : List AttributeRow = subscription_rows spaces name s in
         let children : List Child = identifier_children (s.start ∷ []) in
         let e : Element = subscribe_element spaces (subscribe.Update name s) in
         found_form subscription_form subscription_of scopes e (both name (search_values s))
@@ -335,7 +336,7 @@ module _ (canon : (i : Identifier) → IsIdentifier i → IsCanon (identifier_el
     -- ---- (6) requests
 
     -- the id of a session, read from rows that have it
-    session_back : (scope : Scope) (name : Name) (rows : List Row) (children : List Child) (session : List ℕ)
+    session_back : (scope : Scope) (name : Name) (rows : List AttributeRow) (children : List Child) (session : List ℕ)
         → row_value (codes "session-id") rows ≡ Some session
         → field_check session_field scope (with_rows name rows children) (good session)
     session_back scope name rows children session is =
@@ -409,7 +410,7 @@ module _ (canon : (i : Identifier) → IsIdentifier i → IsCanon (identifier_el
         (only_session session e.name e.children) (publishes_back scopes ops f.1 w)
     request_back scopes (Search session s) f within w =
         let e : Element = element_in spaces (Search session s) in
-        let rows : List Row = search_rows spaces session s in
+        let rows : List AttributeRow = search_rows spaces session s in
         found_form search_form search_of scopes e (both session (search_values s))
         (found_beside session_field search_attributes (scopes []) e session (search_values s)
         (session_back (scopes []) e.name rows e.children session refl)
@@ -426,7 +427,7 @@ module _ (canon : (i : Identifier) → IsIdentifier i → IsCanon (identifier_el
         (only_session session e.name []) refl
     request_back scopes (PurgePublisher session publisher) f within w =
         let e : Element = element_in spaces (PurgePublisher session publisher) in
-        let rows : List Row = purge_rows session publisher in
+        let rows : List AttributeRow = purge_rows session publisher in
         found_form purge_form purge_of scopes e (both session (both publisher tt)) (
           session,
           session_back (scopes []) e.name rows [] session refl,

@@ -1,17 +1,19 @@
 -- Attributes that are written by rows. Plan: (1) the value of an attribute is that of its row, or of none; (2) there are no others;
 -- (3) where the names of rows rise, their attributes are in order, and no two have one name; (4) they fit.
 use Rattle.std.proofs.Common.{◌≡◌, ◌≢◌, ◌∙◌, ◌++◌, ◌&&◌, ℕ, Bool, true, false, not, cond, List, [], ◌∷◌, Option, None, Some, IfSome, codes}
-use Rattle.std.proofs.Common.{map, inl, inr, refl, ap, sym, subst}
+use Rattle.std.proofs.Common.{map, inl, inr, refl, ap, sym}
+use Rattle.std.proofs.lemmas.Bool.Decides.{not_from_Decides}
+use Rattle.std.proofs.lemmas.Slice.Eq.{bytes_eq-Decides}
 use Rattle.std.specs.Prelude.{if◌then◌else◌, option_map}
 use Rattle.std.specs.Cmp.Lexicographic.{slice_cmp}
 use Rattle.std.specs.List.{AllByRecursion, find, list_all, list_any}
 use Rattle.std.specs.Ordering.{is_gt, is_lt, nat_cmp, ordering_then}
 use Rattle.std.specs.Str.{bytes_eq}
-use Rattle.std.proofs.lemmas.Bool.{and_from, and_parts, cases_Bool}
+use Rattle.std.proofs.lemmas.Bool.{and_from, and_parts, cases_Bool, not-true}
 use Rattle.ifmap_lemmas.specs.Members.{all_of_test}
 use Rattle.ifmap_lemmas.specs.Orderings.{is_less}
 use Rattle.ifmap_lemmas.specs.Sorting.{insert}
-use Rattle.ifmap_lemmas.specs.Texts.{eq_itself, is_ascii, slice_cmp-less}
+use Rattle.ifmap_lemmas.specs.Texts.{is_ascii, slice_cmp-less}
 use Rattle.ifmap_elem.specs.Arranged.{attribute_order, sort_attributes}
 use Rattle.ifmap_elem.specs.Building.{bare_attribute, bare_name, is_bare}
 use Rattle.ifmap_elem.specs.Chars.{IsCharacters}
@@ -22,7 +24,7 @@ use Rattle.ifmap_elem.specs.declared.elements.Attribute.{Attribute}
 use Rattle.ifmap_elem.specs.declared.elements.Name.{Name}
 use Rattle.ifmap_elem.specs.laws.PrintedTags.{ascii_part}
 use Rattle.ifmap_ident.specs.Parts.{is_known}
-use Rattle.ifmap_writing.specs.Attributes.{Row, attributes_of, written_attribute}
+use Rattle.ifmap_writing.specs.Attributes.{AttributeRow, attributes_of, written_attribute}
 
 -- ---- (1) values
 
@@ -35,7 +37,7 @@ or_none None = refl
 or_none (Some value) = refl
 
 -- the value of the first row of that name which has one
-abbrev pub row_value : List ℕ → List Row → Option (List ℕ)
+abbrev pub row_value : List ℕ → List AttributeRow → Option (List ℕ)
 row_value local [] = None
 row_value local (r ∷ rows) = if bytes_eq r.local local then or_else r.value (row_value local rows) else row_value local rows
 
@@ -48,7 +50,7 @@ one_found : (local l : List ℕ) (o : Option (List ℕ)) (more : List Attribute)
 one_found local l None more = elim (cases_Bool (bytes_eq l local)) [ inl e ↦ rw e refl | inr e ↦ rw e refl ]
 one_found local l (Some value) more = elim (cases_Bool (bytes_eq l local)) [ inl e ↦ rw e refl | inr e ↦ rw e refl ]
 
-pub value_found : (local : List ℕ) (rows : List Row) → found local (attributes_of rows) ≡ row_value local rows
+pub value_found : (local : List ℕ) (rows : List AttributeRow) → found local (attributes_of rows) ≡ row_value local rows
 value_found local [] = refl
 value_found local (r ∷ rows) =
     one_found local r.local r.value (attributes_of rows)
@@ -64,10 +66,10 @@ module _ (locals : List (List ℕ)) where
       and_from (list_any (bytes_eq l) locals) (list_all (is_known locals) more) known others
 
   -- each row has one of these names
-  abbrev pub rows_known : List Row → Bool
+  abbrev pub rows_known : List AttributeRow → Bool
   rows_known rows = list_all (λ r. list_any (bytes_eq r.local) locals) rows
 
-  pub only_rows : (rows : List Row) → rows_known rows ≡ true → list_all (is_known locals) (attributes_of rows) ≡ true
+  pub only_rows : (rows : List AttributeRow) → rows_known rows ≡ true → list_all (is_known locals) (attributes_of rows) ≡ true
   only_rows [] h = refl
   only_rows (r ∷ rows) h =
       let parts = and_parts (list_any (bytes_eq r.local) locals) (rows_known rows) h in
@@ -75,11 +77,11 @@ module _ (locals : List (List ℕ)) where
 
 -- ---- (3) order
 
-abbrev comes_before : List ℕ → Row → Bool
+abbrev comes_before : List ℕ → AttributeRow → Bool
 comes_before l r = is_lt (slice_cmp nat_cmp l r.local)
 
 -- each name comes before those after it
-abbrev pub rises : List Row → Bool
+abbrev pub rises : List AttributeRow → Bool
 rises [] = true
 rises (r ∷ rows) = list_all (comes_before r.local) rows && rises rows
 
@@ -97,20 +99,20 @@ module _ (l v : List ℕ) where
       ap (λ b. cond b (bare_attribute s w ∷ insert attribute_order (bare_attribute l v) more)
       (bare_attribute l v ∷ (bare_attribute s w ∷ more))) (not_after l s v w h)
 
-  first_placed : (rows : List Row) → list_all (comes_before l) rows ≡ true
+  first_placed : (rows : List AttributeRow) → list_all (comes_before l) rows ≡ true
       → insert attribute_order (bare_attribute l v) (attributes_of rows) ≡ bare_attribute l v ∷ attributes_of rows
   first_placed [] h = refl
   first_placed (r ∷ rows) h =
       let parts = and_parts (comes_before l r) (list_all (comes_before l) rows) h in
       placed_one r.local r.value (attributes_of rows) parts.0 (first_placed rows parts.1)
 
-sorted_one : (l : List ℕ) (o : Option (List ℕ)) (rows : List Row) → list_all (comes_before l) rows ≡ true
+sorted_one : (l : List ℕ) (o : Option (List ℕ)) (rows : List AttributeRow) → list_all (comes_before l) rows ≡ true
     → sort_attributes (attributes_of rows) ≡ attributes_of rows
     → sort_attributes (written_attribute l o ++ attributes_of rows) ≡ written_attribute l o ++ attributes_of rows
 sorted_one l None rows h sorted = sorted
 sorted_one l (Some v) rows h sorted = ap (insert attribute_order (bare_attribute l v)) sorted ∙ first_placed l v rows h
 
-pub rows_sorted : (rows : List Row) → rises rows ≡ true → sort_attributes (attributes_of rows) ≡ attributes_of rows
+pub rows_sorted : (rows : List AttributeRow) → rises rows ≡ true → sort_attributes (attributes_of rows) ≡ attributes_of rows
 rows_sorted [] h = refl
 rows_sorted (r ∷ rows) h =
     let parts = and_parts (list_all (comes_before r.local) rows) (rises rows) h in
@@ -129,7 +131,7 @@ apart_one : (l s : List ℕ) (o : Option (List ℕ)) (more : List Attribute) →
 apart_one l s None more h others = others
 apart_one l s (Some w) more h others = (apart_names l s h, others)
 
-apart_rows : (l : List ℕ) (rows : List Row) → list_all (comes_before l) rows ≡ true
+apart_rows : (l : List ℕ) (rows : List AttributeRow) → list_all (comes_before l) rows ≡ true
     → AllByRecursion (λ n. bare_name l ≢ n) (map name_of (attributes_of rows))
 apart_rows l [] h = tt
 apart_rows l (r ∷ rows) h =
@@ -141,7 +143,7 @@ differ_one : (l : List ℕ) (o : Option (List ℕ)) (more : List Attribute) → 
 differ_one l None more other d = d
 differ_one l (Some v) more other d = (other, d)
 
-pub rows_differ : (rows : List Row) → rises rows ≡ true → AllDiffer (map name_of (attributes_of rows))
+pub rows_differ : (rows : List AttributeRow) → rises rows ≡ true → AllDiffer (map name_of (attributes_of rows))
 rows_differ [] h = tt
 rows_differ (r ∷ rows) h =
     let parts = and_parts (list_all (comes_before r.local) rows) (rises rows) h in
@@ -149,21 +151,14 @@ rows_differ (r ∷ rows) h =
 
 -- ---- (4) they fit
 
-pub told_apart : (x y : List ℕ) → bytes_eq x y ≡ false → x ≢ y
-told_apart x y h e = let wrong : bytes_eq x y ≡ true = subst (λ (z : List ℕ). bytes_eq x z ≡ true) e (eq_itself x) in cc
-
 pub no_namespace : IsNamespace []
-no_namespace = record { characters = ([], refl, tt); not_reserved = told_apart [] xmlns_space refl }
+no_namespace = record { characters = ([], refl, tt); not_reserved = not_from_Decides _ (bytes_eq-Decides [] xmlns_space) refl }
 
 -- a name of ASCII but `xmlns`
 abbrev pub is_plain_local : List ℕ → Bool
 is_plain_local [] = false
 is_plain_local (c ∷ cs) =
     (is_name_start c && list_all is_name_character cs) && (list_all is_ascii (c ∷ cs) && not (bytes_eq (c ∷ cs) (codes "xmlns")))
-
-unnot : (b : Bool) → not b ≡ true → b ≡ false
-unnot true h = let wrong : false ≡ true = h in cc
-unnot false h = refl
 
 pub plain_fits : (l : List ℕ) → is_plain_local l ≡ true → IsNamePart l × (l ≢ codes "xmlns")
 plain_fits [] h = let wrong : false ≡ true = h in cc
@@ -173,13 +168,13 @@ plain_fits (c ∷ cs) h =
     let name = and_parts (is_name_start c) (list_all is_name_character cs) halves.0 in
     let plain = and_parts (list_all is_ascii (c ∷ cs)) (not (bytes_eq (c ∷ cs) (codes "xmlns"))) halves.1 in (
       ascii_part c cs name.0 (all_of_test is_name_character cs name.1) (all_of_test is_ascii (c ∷ cs) plain.0),
-      told_apart (c ∷ cs) (codes "xmlns") (unnot (bytes_eq (c ∷ cs) (codes "xmlns")) plain.1),
+      not_from_Decides _ (bytes_eq-Decides (c ∷ cs) (codes "xmlns")) (not-true (bytes_eq (c ∷ cs) (codes "xmlns")) plain.1),
     )
 
-abbrev pub HasFitValue : Row → Type 0
+abbrev pub HasFitValue : AttributeRow → Type 0
 HasFitValue r = IfSome r.value IsCharacters
 
-abbrev pub rows_plain : List Row → Bool
+abbrev pub rows_plain : List AttributeRow → Bool
 rows_plain rows = list_all (λ r. is_plain_local r.local) rows
 
 fit_one : (l : List ℕ) (o : Option (List ℕ)) (more : List Attribute) → is_plain_local l ≡ true → IfSome o IsCharacters
@@ -195,7 +190,7 @@ fit_one l (Some v) more plain value others =
       others,
     )
 
-pub rows_fit : (rows : List Row) → rows_plain rows ≡ true → AllByRecursion HasFitValue rows
+pub rows_fit : (rows : List AttributeRow) → rows_plain rows ≡ true → AllByRecursion HasFitValue rows
     → AllByRecursion IsFitAttribute (attributes_of rows)
 rows_fit [] plain values = tt
 rows_fit (r ∷ rows) plain values =

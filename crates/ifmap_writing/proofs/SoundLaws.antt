@@ -14,7 +14,7 @@ use Rattle.ifmap_elem.specs.declared.elements.Element.{Element}
 use Rattle.ifmap_elem.specs.declared.elements.Name.{Name}
 use Rattle.ifmap_elem.specs.laws.ArrangedLaws.{arranged_in, arranged_is}
 use Rattle.ifmap_elem.specs.laws.FitLaws.{elements_in, elements_of_child, fit_whole, out_element}
-use Rattle.ifmap_writing.specs.Attributes.{Row, attributes_of}
+use Rattle.ifmap_writing.specs.Attributes.{AttributeRow, attributes_of}
 use Rattle.ifmap_writing.specs.RequestElements.{as_children}
 use Rattle.ifmap_writing.proofs.RowLaws.{HasFitValue, rises, rows_differ, rows_fit, rows_plain, rows_sorted}
 
@@ -33,7 +33,7 @@ all_higher levels more [] low s = tt
 all_higher levels more (e ∷ es) low s = (higher levels more e low s.0, all_higher levels more es low s.1)
 
 -- rows that can be written
-pub record AreFitRows (rows : List Row) : Type 0 where
+pub record AreFitRows (rows : List AttributeRow) : Type 0 where
   pub rise : rises rows ≡ true
   pub plain : rows_plain rows ≡ true
   pub values : AllByRecursion HasFitValue rows
@@ -83,7 +83,7 @@ module _ (levels : ℕ) where
       let others = inside_within es s.1 in
       omega (arith, here, low, others)
 
-  module _ (name : Name) (rows : List Row) (es : List Element) where
+  module _ (name : Name) (rows : List AttributeRow) (es : List Element) where
     abbrev whole : Element
     whole = record { name = name; attributes = attributes_of rows; children = as_children es }
 

@@ -4,9 +4,8 @@ use Rattle.std.specs.List.{AllByRecursion, flat_map}
 use Rattle.std.proofs.lemmas.Grind.{flat_map-append}
 use Rattle.std.proofs.lemmas.List.{append-nil, take_more}
 use Rattle.ifmap_lemmas.specs.Members.{all_both}
-use Rattle.ifmap_elem.specs.Namespaces.{declared_among}
+use Rattle.ifmap_elem.specs.Namespaces.{declared_among, AddsSpaces}
 use Rattle.ifmap_elem.specs.laws.NamespaceLaws.{adds_both, adds_none}
-use Rattle.ifmap_elem.specs.printer.Pieces.{AddsSpaces}
 use Rattle.ifmap_filter.specs.declared.filters.Filter.{Filter}
 use Rattle.ifmap_filter.specs.Spaces.{HasSpaces, ListedServeEach, filter_spaces}
 use Rattle.ifmap_search.specs.declared.searches.Search as the

@@ -2,6 +2,8 @@
 -- metadata; (5) operations; (6) requests; (7) the envelope, and the namespaces that it declares.
 use Rattle.std.proofs.Common.{◌≡◌, ◌≤◌, ℕ, Bool, true, false, List, [], ◌∷◌, Option, None, Some, IfSome, codes, map, refl, sym, subst}
 use Rattle.std.proofs.Common.{arith}
+use Rattle.std.proofs.lemmas.Bool.Decides.{not_from_Decides}
+use Rattle.std.proofs.lemmas.Slice.Eq.{bytes_eq-Decides}
 use Rattle.std.specs.List.{AllByRecursion, flat_map}
 use Rattle.ifmap_lemmas.specs.Members.{both_all}
 use Rattle.ifmap_elem.specs.Arranged.{arrange}
@@ -13,7 +15,7 @@ use Rattle.ifmap_elem.specs.Scopes.{xmlns_space}
 use Rattle.ifmap_elem.specs.declared.elements.Child.{Child}
 use Rattle.ifmap_elem.specs.declared.elements.Element.{Element}
 use Rattle.ifmap_elem.specs.laws.PrintedScopes.{are_declared}
-use Rattle.ifmap_envelopes.specs.Envelopes.{envelope_name, envelope_space}
+use Rattle.ifmap_envelopes.specs.Envelopes.{around, envelope_name, in_envelope}
 use Rattle.ifmap_filter.specs.declared.filters.Filter.{Filter}
 use Rattle.ifmap_filter.specs.Spaces.{filter_spaces}
 use Rattle.ifmap_ident.specs.declared.identifiers.Identifier.{Identifier}
@@ -35,19 +37,19 @@ use Rattle.ifmap_requests.specs.declared.requests.Request.TheVariants.{NewSessio
 use Rattle.ifmap_requests.specs.declared.requests.Request.TheVariants.{Poll, PurgePublisher}
 use Rattle.ifmap_requests.specs.declared.requests.SubscribeOp.{SubscribeOp}
 use Rattle.ifmap_requests.specs.declared.requests.SubscribeOp.TheVariants as subscribe
-use Rattle.ifmap_requests.specs.RequestForms.{ifmap_space}
+use Rattle.ifmap_envelopes.specs.Spaces.{envelope_space, ifmap_space}
 use Rattle.ifmap_requests.specs.Fit.{IsFitOp, IsFitRequest, IsFitSearch, IsFitSubscribeOp, MayBeFitFilter}
 use Rattle.ifmap_requests.specs.FitFilters.{IsFitFilter}
-use Rattle.ifmap_writing.specs.Attributes.{Row, filter_rows, filter_value, kinds_value, lifetime_rows, lifetime_value, limit_rows}
+use Rattle.ifmap_writing.specs.Attributes.{AttributeRow, filter_rows, filter_value, kinds_value, lifetime_rows, lifetime_value, limit_rows}
 use Rattle.ifmap_writing.specs.Attributes.{limit_value, name_rows, purge_rows, search_rows, session_rows, subscription_rows}
 use Rattle.ifmap_writing.specs.Bounds.{IsBounded, IsBoundedMetadata, IsBoundedPublish}
-use Rattle.ifmap_writing.specs.RequestElements.{around, as_children, asking_element, element_in, in_envelope, list_element, part_element}
+use Rattle.ifmap_writing.specs.RequestElements.{as_children, asking_element, element_in, list_element, part_element}
 use Rattle.ifmap_writing.specs.RequestElements.{publish_element, published_children, request_element, subscribe_element}
 use Rattle.ifmap_writing.specs.RequestSpaces.{optional_filter, publish_filters, request_filters, request_spaces, search_filters}
 use Rattle.ifmap_writing.specs.RequestSpaces.{subscribe_filters}
 use Rattle.ifmap_writing.proofs.CharacterLaws.{joined_characters, plain_characters}
 use Rattle.ifmap_writing.proofs.FilterLaws.{filter_characters, filter_namespaces}
-use Rattle.ifmap_writing.proofs.RowLaws.{is_plain_local, no_namespace, plain_fits, told_apart}
+use Rattle.ifmap_writing.proofs.RowLaws.{is_plain_local, no_namespace, plain_fits}
 use Rattle.ifmap_writing.proofs.SoundLaws.{AreFitRows, IsSound, higher, sound_whole}
 use Rattle.ifmap_writing.proofs.ValueLaws.{numeral_characters}
 
@@ -58,13 +60,19 @@ bare_fits local plain = record { space = no_namespace; local = (plain_fits local
 
 asking_fits : (local : List ℕ) → is_plain_local local ≡ true → IsFitName (record { space = ifmap_space; local = local })
 asking_fits local plain = record {
-  space = record { characters = plain_characters ifmap_space refl refl; not_reserved = told_apart ifmap_space xmlns_space refl };
+  space = record {
+    characters = plain_characters ifmap_space refl refl;
+    not_reserved = not_from_Decides _ (bytes_eq-Decides ifmap_space xmlns_space) refl;
+  };
   local = (plain_fits local plain).0;
 }
 
 envelope_fits : (local : List ℕ) → is_plain_local local ≡ true → IsFitName (envelope_name local)
 envelope_fits local plain = record {
-  space = record { characters = plain_characters envelope_space refl refl; not_reserved = told_apart envelope_space xmlns_space refl };
+  space = record {
+    characters = plain_characters envelope_space refl refl;
+    not_reserved = not_from_Decides _ (bytes_eq-Decides envelope_space xmlns_space) refl;
+  };
   local = (plain_fits local plain).0;
 }
 
@@ -180,7 +188,7 @@ module _ (fits : (i : Identifier) → IsIdentifier i → IsFit (identifier_eleme
   -- ---- (5) operations
 
   -- an operation that publishes
-  carrier_sound : (local : List ℕ) (rows : List Row) (item : Item) (elements : List Metadata) → is_plain_local local ≡ true
+  carrier_sound : (local : List ℕ) (rows : List AttributeRow) (item : Item) (elements : List Metadata) → is_plain_local local ≡ true
       → AreFitRows rows → IsCanonItem item → AllByRecursion IsMetadata elements → AllByRecursion IsBoundedMetadata elements
       → IsSound 61 (part_element local rows (published_children item elements))
   carrier_sound local rows item elements plain r i f within =
@@ -219,7 +227,7 @@ module _ (fits : (i : Identifier) → IsIdentifier i → IsFit (identifier_eleme
 
   -- ---- (6) requests
 
-  asking_sound : (local : List ℕ) (rows : List Row) (es : List Element) → is_plain_local local ≡ true → AreFitRows rows
+  asking_sound : (local : List ℕ) (rows : List AttributeRow) (es : List Element) → is_plain_local local ≡ true → AreFitRows rows
       → AllByRecursion (IsSound 61) es → IsSound 62 (asking_element local rows (as_children es))
   asking_sound local rows es plain r f =
       sound_whole 61 (record { space = ifmap_space; local = local }) rows es (asking_fits local plain) r f

@@ -11,18 +11,18 @@ use Rattle.ifmap_ident.specs.Kinds.{kind_name}
 use Rattle.ifmap_search.specs.declared.searches.Search.{Search}
 
 -- an attribute in no namespace by its name, with its value; it is left out where it has none
-pub record Row : Type 0 where
+pub record AttributeRow : Type 0 where
   pub local : List ℕ
   pub value : Option (List ℕ)
 
-abbrev pub row : List ℕ → Option (List ℕ) → Row
+abbrev pub row : List ℕ → Option (List ℕ) → AttributeRow
 row local value = record { local = local; value = value }
 
 abbrev pub written_attribute : List ℕ → Option (List ℕ) → List Attribute
 written_attribute local None = []
 written_attribute local (Some value) = bare_attribute local value ∷ []
 
-abbrev pub attributes_of : List Row → List Attribute
+abbrev pub attributes_of : List AttributeRow → List Attribute
 attributes_of rows = flat_map (λ row. written_attribute row.local row.value) rows
 
 -- ---- values
@@ -52,26 +52,26 @@ kinds_value (kind ∷ others) = Some (joined_texts (codes ",") kind_name (kind �
 
 -- ---- the attributes of the elements, in the order of their names
 
-abbrev pub session_rows : List ℕ → List Row
+abbrev pub session_rows : List ℕ → List AttributeRow
 session_rows session = row (codes "session-id") (Some session) ∷ []
 
-abbrev pub limit_rows : Option ℕ → List Row
+abbrev pub limit_rows : Option ℕ → List AttributeRow
 limit_rows limit = row (codes "max-poll-result-size") (limit_value limit) ∷ []
 
-abbrev pub purge_rows : List ℕ → List ℕ → List Row
+abbrev pub purge_rows : List ℕ → List ℕ → List AttributeRow
 purge_rows session publisher = row (codes "ifmap-publisher-id") (Some publisher) ∷ session_rows session
 
-abbrev pub lifetime_rows : Bool → List Row
+abbrev pub lifetime_rows : Bool → List AttributeRow
 lifetime_rows forever = row (codes "lifetime") (lifetime_value forever) ∷ []
 
-abbrev pub filter_rows : List (List ℕ) → Option Filter → List Row
+abbrev pub filter_rows : List (List ℕ) → Option Filter → List AttributeRow
 filter_rows spaces filter = row (codes "filter") (filter_value spaces filter) ∷ []
 
-abbrev pub name_rows : List ℕ → List Row
+abbrev pub name_rows : List ℕ → List AttributeRow
 name_rows name = row (codes "name") (Some name) ∷ []
 
 -- of a search in a session; the bounds of the walk and of the result are always said
-abbrev pub search_rows : List (List ℕ) → List ℕ → Search → List Row
+abbrev pub search_rows : List (List ℕ) → List ℕ → Search → List AttributeRow
 search_rows spaces session search =
     row (codes "match-links") (filter_value spaces search.match_links)
     ∷ (row (codes "max-depth") (number_value search.max_depth)
@@ -81,7 +81,7 @@ search_rows spaces session search =
     ∷ (row (codes "terminal-identifier-type") (kinds_value search.terminal) ∷ [])))))
 
 -- of a search under the name of a subscription
-abbrev pub subscription_rows : List (List ℕ) → List ℕ → Search → List Row
+abbrev pub subscription_rows : List (List ℕ) → List ℕ → Search → List AttributeRow
 subscription_rows spaces name search =
     row (codes "match-links") (filter_value spaces search.match_links)
     ∷ (row (codes "max-depth") (number_value search.max_depth)

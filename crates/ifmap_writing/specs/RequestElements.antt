@@ -5,8 +5,7 @@ use Rattle.ifmap_elem.specs.Canonical.{written_bytes}
 use Rattle.ifmap_elem.specs.declared.elements.Child as the
 use Rattle.ifmap_elem.specs.declared.elements.Child.{Child}
 use Rattle.ifmap_elem.specs.declared.elements.Element.{Element}
-use Rattle.ifmap_elem.specs.declared.elements.Name.{Name}
-use Rattle.ifmap_envelopes.specs.Envelopes.{envelope_name}
+use Rattle.ifmap_envelopes.specs.Envelopes.{in_envelope}
 use Rattle.ifmap_ident.specs.declared.identifiers.Identifier.{Identifier}
 use Rattle.ifmap_ident.specs.declared.items.Item.{Item}
 use Rattle.ifmap_ident.specs.Identifiers.{identifier_element}
@@ -19,8 +18,8 @@ use Rattle.ifmap_requests.specs.declared.requests.Request.TheVariants.{NewSessio
 use Rattle.ifmap_requests.specs.declared.requests.Request.TheVariants.{Poll, PurgePublisher}
 use Rattle.ifmap_requests.specs.declared.requests.SubscribeOp.{SubscribeOp}
 use Rattle.ifmap_requests.specs.declared.requests.SubscribeOp.TheVariants as subscribe
-use Rattle.ifmap_requests.specs.RequestForms.{ifmap_space}
-use Rattle.ifmap_writing.specs.Attributes.{Row, attributes_of, filter_rows, lifetime_rows, limit_rows, name_rows, purge_rows, search_rows}
+use Rattle.ifmap_envelopes.specs.Spaces.{ifmap_space}
+use Rattle.ifmap_writing.specs.Attributes.{AttributeRow, attributes_of, filter_rows, lifetime_rows, limit_rows, name_rows, purge_rows, search_rows}
 use Rattle.ifmap_writing.specs.Attributes.{session_rows, subscription_rows}
 use Rattle.ifmap_writing.specs.RequestSpaces.{request_spaces}
 
@@ -29,7 +28,7 @@ abbrev pub as_children : List Element → List Child
 as_children elements = map (λ e. the.Element e) elements
 
 -- an element in no namespace with these attributes and children
-abbrev pub part_element : List ℕ → List Row → List Child → Element
+abbrev pub part_element : List ℕ → List AttributeRow → List Child → Element
 part_element local rows children = bare_element local (attributes_of rows) children
 
 -- ---- what operations carry
@@ -65,7 +64,7 @@ subscribe_element spaces (subscribe.Delete name) = part_element (codes "delete")
 -- ---- requests
 
 -- an element in the namespace of requests
-abbrev pub asking_element : List ℕ → List Row → List Child → Element
+abbrev pub asking_element : List ℕ → List AttributeRow → List Child → Element
 asking_element local rows children =
     record { name = record { space = ifmap_space; local = local }; attributes = attributes_of rows; children = children }
 
@@ -88,14 +87,6 @@ abbrev pub request_element : Request → Element
 request_element request = element_in (request_spaces request) request
 
 -- ---- bytes
-
--- an element of this name that holds one other and nothing else
-abbrev pub around : Name → Element → Element
-around name inner = record { name = name; attributes = []; children = the.Element inner ∷ [] }
-
--- the envelope of an element
-abbrev pub in_envelope : Element → Element
-in_envelope inner = around (envelope_name (codes "Envelope")) (around (envelope_name (codes "Body")) inner)
 
 -- a request as it is sent: its envelope in canonical form, which also declares `f1`, `f2` and so on for the filters' namespaces
 unfoldable pub request_bytes : Request → List ℕ

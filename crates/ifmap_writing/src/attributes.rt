@@ -235,6 +235,6 @@ fn push_attribute(
     ensures { OnOk result (attributes.new.items
         ≡ attributes.old.items ++ written_attribute local.now (Some value)) }
 {
-    attributes.push(Attribute::bare(alloc, local, value)?)?;
+    attributes.push(Attribute::with_local(alloc, local, value)?)?;
     Ok(())
 }

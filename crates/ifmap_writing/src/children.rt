@@ -53,7 +53,7 @@ fn list_element(alloc: Global, elements: &[Metadata]) -> Result<Element, NoMemor
     ensures { IfOk result (λ element. element ≡ list_element elements.now) }
 {
     let children = metadata_children(alloc, elements)?;
-    Element::bare(alloc, "metadata", Vec::new(alloc), children)
+    Element::with_local(alloc, "metadata", Vec::new(alloc), children)
 }
 
 fn metadata_children(alloc: Global, elements: &[Metadata]) -> Result<Vec<Child>, NoMemory>

@@ -62,7 +62,7 @@ fn update_element(
 {
     let attributes = lifetime_attributes(alloc, forever)?;
     let children = published_children(alloc, item, elements)?;
-    Element::bare(alloc, "update", attributes, children)
+    Element::with_local(alloc, "update", attributes, children)
 }
 
 fn notify_element(
@@ -74,7 +74,7 @@ fn notify_element(
         (published_children item.now elements.now)) }
 {
     let children = published_children(alloc, item, elements)?;
-    Element::bare(alloc, "notify", Vec::new(alloc), children)
+    Element::with_local(alloc, "notify", Vec::new(alloc), children)
 }
 
 fn delete_element(
@@ -89,7 +89,7 @@ fn delete_element(
 {
     let attributes = filter_attributes(alloc, spaces, filter)?;
     let children = item_children(alloc, item)?;
-    Element::bare(alloc, "delete", attributes, children)
+    Element::with_local(alloc, "delete", attributes, children)
 }
 
 // The operations of a subscribe, as children.
@@ -135,7 +135,7 @@ fn subscription_element(
 {
     let attributes = subscription_attributes(alloc, spaces, name, search)?;
     let children = start_children(alloc, &search.start)?;
-    Element::bare(alloc, "update", attributes, children)
+    Element::with_local(alloc, "update", attributes, children)
 }
 
 fn end_element(alloc: Global, name: &Text) -> Result<Element, NoMemory>
@@ -143,5 +143,5 @@ fn end_element(alloc: Global, name: &Text) -> Result<Element, NoMemory>
         []) }
 {
     let attributes = name_attributes(alloc, name)?;
-    Element::bare(alloc, "delete", attributes, Vec::new(alloc))
+    Element::with_local(alloc, "delete", attributes, Vec::new(alloc))
 }

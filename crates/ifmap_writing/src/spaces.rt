@@ -1,7 +1,7 @@
 //! The namespaces of a request's filters.
 ghost use Rattle.std.specs.Prelude.{◌≡◌, [], IfOk};
 ghost use Rattle.std.specs.List.{flat_map};
-ghost use Rattle.ifmap_elem.specs.printer.Pieces.{AddsSpaces};
+ghost use Rattle.ifmap_elem.specs.Namespaces.{AddsSpaces};
 ghost use Rattle.ifmap_filter.specs.Spaces.{filter_spaces};
 ghost use Rattle.ifmap_writing.specs.RequestSpaces.{optional_filter, publish_filters, request_filters, request_spaces, search_filters, subscribe_filters};
 

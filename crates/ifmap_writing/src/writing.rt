@@ -1,7 +1,8 @@
 //! Requests as elements and as bytes.
 ghost use Rattle.std.specs.Prelude.{◌≡◌, [], IfOk};
-ghost use Rattle.ifmap_requests.specs.RequestForms.{ifmap_space};
-ghost use Rattle.ifmap_writing.specs.RequestElements.{around, asking_element, element_in, in_envelope, request_bytes, request_element};
+ghost use Rattle.ifmap_envelopes.specs.Envelopes.{around, in_envelope};
+ghost use Rattle.ifmap_envelopes.specs.Spaces.{ifmap_space};
+ghost use Rattle.ifmap_writing.specs.RequestElements.{asking_element, element_in, request_bytes, request_element};
 ghost use Rattle.ifmap_writing.specs.Attributes.{session_rows};
 ghost use Rattle.ifmap_writing.specs.RequestSpaces.{ServeRequest, request_spaces};
 
@@ -12,13 +13,10 @@ use crate::children::start_children;
 use crate::operations::{publish_children, subscribe_children};
 use crate::spaces::request_spaces;
 use ifmap_elem::{Attribute, Child, Element, Many, Name, Text, written};
+use ifmap_envelopes::{ENVELOPE_SPACE, IFMAP_SPACE};
 use ifmap_filter::laws::listed_spaces_serve_each_filter;
 use ifmap_requests::Request;
 use std::alloc::{AllocError as NoMemory, Global};
-
-const ENVELOPE_SPACE: &str = "http://www.w3.org/2003/05/soap-envelope";
-
-const IFMAP_SPACE: &str = "http://www.trustedcomputinggroup.org/2010/IFMAP/2";
 
 /// The element of a request, its attributes in order at every level, and the namespaces of its
 /// filters, each once, in the order of first occurrence, but for none and that of `xml`: by the

@@ -16,8 +16,8 @@ use Rattle.ifmap_meta.specs.laws.Order.{filter_sorted}
 use Rattle.ifmap_meta.specs.laws.StampLaws.{sorted_again}
 
 -- an element of these parts
-abbrev made : Element → List Attribute → List Child → Element
-made e attributes children = record { name = e.name; attributes = attributes; children = children }
+abbrev with_parts : Element → List Attribute → List Child → Element
+with_parts e attributes children = record { name = e.name; attributes = attributes; children = children }
 
 abbrev StaysChild : Child → Type 0
 StaysChild c = arrange_child (arrange_child c) ≡ arrange_child c
@@ -32,8 +32,8 @@ arranged_again = by_children StaysChild (λ e. arrange (arrange e) ≡ arrange e
     (λ e q. ap arrange_child (arranged_in e) ∙ arranged_in (arrange e) ∙ ap (λ (x : Element). the.Element x) q ∙ sym (arranged_in e))
     (λ t. ap arrange_child (arranged_text t))
     (λ e each. ap arrange (arranged_is e)
-    ∙ arranged_is (made e (sort_attributes e.attributes) (map arrange_child e.children))
-    ∙ (λ i. made e (sorted_again e.attributes i) (children_again e.children each i))
+    ∙ arranged_is (with_parts e (sort_attributes e.attributes) (map arrange_child e.children))
+    ∙ (λ i. with_parts e (sorted_again e.attributes i) (children_again e.children each i))
     ∙ sym (arranged_is e))
 
 -- and is printed alike
@@ -48,7 +48,7 @@ content_printed e = printed_again (content_of e)
 pub content_bare : (e : Element) → content_of (arrange (content_of e)) ≡ arrange (content_of e)
 content_bare e =
     ap content_of (arranged_is (content_of e))
-    ∙ ap (λ attributes. made e attributes (map arrange_child e.children))
+    ∙ ap (λ attributes. with_parts e attributes (map arrange_child e.children))
     (filter_sorted (λ a. not (is_stamp a)) (without_stamps e.attributes)
     ∙ ap sort_attributes (filter_again (λ a. not (is_stamp a)) e.attributes))
     ∙ sym (arranged_is (content_of e))

@@ -1,7 +1,8 @@
 -- The word of a key is mixed of one part after another, and what has one key has one word.
-use Rattle.std.proofs.Common.{◌≡◌, ◌⊎◌, ℕ, List, [], ◌∷◌, ◌++◌, refl, sym, ap, ◌∙◌, inl, inr, Bool, true, false, cond, IsTrue, ◌&&◌}
+use Rattle.std.proofs.Common.{◌≡◌, ◌⊎◌, ℕ, List, [], ◌∷◌, ◌++◌, refl, sym, ap, ◌∙◌, inl, inr, Bool, true, cond, IsTrue, ◌&&◌}
 use Rattle.std.proofs.Math.Bool.{beq}
 use Rattle.std.proofs.lemmas.Bool.{and_parts}
+use Rattle.std.specs.Cmp.{booleans_Decides}
 use Rattle.std.specs.List.{flat_map}
 use Rattle.std.specs.Str.{bytes_eq}
 use Rattle.std.proofs.lemmas.List.Folds.{flat_map-map}
@@ -11,7 +12,7 @@ use Rattle.ifmap_lemmas.specs.Texts.{eq_tells}
 use Rattle.ifmap_meta.specs.declared.stored.Stored.{Stored}
 use Rattle.ifmap_meta.specs.Cardinality.{is_single}
 use Rattle.ifmap_meta.specs.Keys.{HaveOneKey, word_of}
-use Rattle.ifmap_meta.specs.KeyWords.{attribute_parts, parts_of, parts_of_child, child_parts_of, element_parts_of, ended, key_parts, mix, mix_all, name_parts}
+use Rattle.ifmap_meta.specs.KeyWords.{attribute_parts, parts_of, parts_of_child, child_parts_of, element_parts_of, end_part, key_parts, mix, mix_all, name_parts}
 use Rattle.ifmap_meta.specs.Stamps.{content_of}
 
 pub mix_append : (word : ℕ) (xs ys : List ℕ) → mix_all word (xs ++ ys) ≡ mix_all (mix_all word xs) ys
@@ -24,12 +25,6 @@ parts_are e =
     at_element (List ℕ) (List ℕ) child_parts_of element_parts_of e
     ∙ ap (λ cs. name_parts e.name ++ (flat_map attribute_parts e.attributes ++ cs))
     (flat_map-map (λ (cs : List ℕ). cs) parts_of_child e.children)
-
-beq_tells : (a b : Bool) → beq a b ≡ true → a ≡ b
-beq_tells true true e = refl
-beq_tells true false e = cc
-beq_tells false true e = cc
-beq_tells false false e = refl
 
 -- where the test is true, what it chooses besides makes no difference
 first_alone : (p q : Bool) (xs ys : List ℕ) → p ≡ true → p ≡ q → cond p [] xs ≡ cond q [] ys
@@ -49,15 +44,16 @@ module _ (a b : Stored) (single : is_single a.element ≡ is_single b.element) w
       s single
   contents_agree (inr p) = λ i. cond (single i) [] (content_parts (p.1 i))
 
-  publishers_agree : OfOneContent a b → cond (is_single a.element) [] (ended a.publisher) ≡ cond (is_single b.element) [] (ended b.publisher)
+  publishers_agree : OfOneContent a b → cond (is_single a.element) [] (end_part a.publisher)
+      ≡ cond (is_single b.element) [] (end_part b.publisher)
   publishers_agree (inl s) =
-      first_alone (is_single a.element) (is_single b.element) (ended a.publisher) (ended b.publisher) s single
-  publishers_agree (inr p) = λ i. cond (single i) [] (ended (p.0 i))
+      first_alone (is_single a.element) (is_single b.element) (end_part a.publisher) (end_part b.publisher) s single
+  publishers_agree (inr p) = λ i. cond (single i) [] (end_part (p.0 i))
 
   parts_agree : a.element.name.space ≡ b.element.name.space → a.element.name.local ≡ b.element.name.local → OfOneContent a b
       → key_parts a.element ≡ key_parts b.element
   unfolding content_parts
-  parts_agree space local one = λ i. (ended (space i) ++ ended (local i)) ++ contents_agree one i
+  parts_agree space local one = λ i. (end_part (space i) ++ end_part (local i)) ++ contents_agree one i
 
 pub words_agree : (a b : Stored) → HaveOneKey a b → word_of a ≡ word_of b
 unfolding word_of
@@ -66,7 +62,7 @@ words_agree a b h =
     (beq (is_single a.element) (is_single b.element)) h.0 in
     let names =
     and_parts (bytes_eq a.element.name.space b.element.name.space) (bytes_eq a.element.name.local b.element.name.local) parts.0 in
-    let single = beq_tells (is_single a.element) (is_single b.element) parts.1 in
+    let single = (booleans_Decides (is_single a.element) (is_single b.element)).0 parts.1 in
     let of_elements = parts_agree a b single (eq_tells a.element.name.space b.element.name.space names.0)
     (eq_tells a.element.name.local b.element.name.local names.1) h.1 in
     let of_publishers = publishers_agree a b single h.1 in

@@ -188,16 +188,16 @@ differ_stamped publisher text (x ∷ xs) d content = (
 )
 
 -- what is stamped, before it is put in order
-abbrev unsorted : List ℕ → List ℕ → Element → Element
-unsorted publisher text e = with_attributes e (without_stamps e.attributes ++ stamps_of publisher text)
+abbrev unsorted_element : List ℕ → List ℕ → Element → Element
+unsorted_element publisher text e = with_attributes e (without_stamps e.attributes ++ stamps_of publisher text)
 
 unsorted_fits : (publisher text : List ℕ) (e : Element) → IsFit e → IsCharacters publisher → IsCharacters text
-    → IsFit (unsorted publisher text e)
+    → IsFit (unsorted_element publisher text e)
 unsorted_fits publisher text e fit who when =
     let parts = fit_parts e fit in
     let content : Attribute → Bool = λ a. not (is_stamp a) in
     let xs = without_stamps e.attributes in
-    fit_whole (unsorted publisher text e)
+    fit_whole (unsorted_element publisher text e)
     (alone_with e (xs ++ stamps_of publisher text) parts.0
     (both_all IsFitAttribute xs (stamps_of publisher text) (all_filter IsFitAttribute content e.attributes parts.0.attributes)
     (stamps_fit publisher text who when))
@@ -205,11 +205,11 @@ unsorted_fits publisher text e fit who when =
     parts.1
 
 stamped_is : (publisher : List ℕ) (moment : ℕ) (e : Element) → arrange e ≡ e
-    → arrange (unsorted publisher (moment_text moment) e) ≡ stamp publisher moment e
+    → arrange (unsorted_element publisher (moment_text moment) e) ≡ stamp publisher moment e
 stamped_is publisher moment e arranged =
     let attributes = sort_attributes (without_stamps e.attributes ++ stamps publisher moment) in
     let children : map arrange_child e.children ≡ e.children = ap (λ (x : Element). x.children) (sym (arranged_is e) ∙ arranged) in
-    arranged_is (unsorted publisher (moment_text moment) e)
+    arranged_is (unsorted_element publisher (moment_text moment) e)
     ∙ (λ i. record { name = e.name; attributes = attributes; children = children i })
 
 content_is : (e : Element) → content_of e ≡ e → content_bytes e ≡ canonical_bytes e
@@ -229,7 +229,7 @@ pub stamped_is_whole : (m : Metadata) (publisher : List ℕ) (moment : ℕ) (lif
     → IsWhole (stored_as m.element publisher moment life)
 stamped_is_whole m publisher moment life met name =
     let e = m.element in
-    let u = unsorted publisher (moment_text moment) e in
+    let u = unsorted_element publisher (moment_text moment) e in
     let sent : IsSent (arrange u) = record {
       fit = fit_arranged u (unsorted_fits publisher (moment_text moment) e met.sent.fit (client_characters publisher name)
           (moment_characters moment));

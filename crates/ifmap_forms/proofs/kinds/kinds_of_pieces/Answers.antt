@@ -2,7 +2,7 @@ use Rattle.std.proofs.Common.{◌∷◌, [], List, ℕ, Ok, subst, sym}
 use Rattle.ifmap_ident.specs.declared.kinds.Kind.{Kind}
 use Rattle.ifmap_forms.specs.AnswerLaws.{refused_exit}
 use Rattle.ifmap_forms.specs.Answers.{IsRefused}
-use Rattle.ifmap_forms.specs.Gathering.{GoesOn, after, further, good, stops}
+use Rattle.ifmap_forms.specs.Gathering.{GoesOn, after, further, ok_list, stops}
 use Rattle.ifmap_forms.specs.Values.{kinds_check, pieces_of}
 use Rattle.ifmap_forms.proofs.KindLaws.{kind_goes_on, kind_stops, last_kind}
 use Rattle.ifmap_forms.proofs.kinds.kinds_of_pieces.Goals as goal
@@ -46,6 +46,6 @@ returns c =
     let rest = c.loop-piece.rest.now in
     let kind = c.in_ok-read_kind-2.field-0 in
     subst (λ (made : List Kind). whole (Ok made)) (sym {A = List Kind} c.in_ok-push-2.ensures.items)
-    (c.loop-piece.invariant.goes (good (kind ∷ []))
-    (subst (λ (ps : List (List ℕ)). kinds_check ps (good (kind ∷ []))) (sym c.in_default.ensures.whole)
+    (c.loop-piece.invariant.goes (ok_list (kind ∷ []))
+    (subst (λ (ps : List (List ℕ)). kinds_check ps (ok_list (kind ∷ []))) (sym c.in_default.ensures.whole)
     (last_kind rest kind c.in_ok-read_kind-2.ensures)))

@@ -1,6 +1,6 @@
 use Rattle.std.proofs.Common.{arith}
 use Rattle.ifmap_elem.specs.Arranged.{arrange_child}
-use Rattle.ifmap_meta.proofs.InPlace.{one_more}
+use Rattle.ifmap_lemmas.specs.InPlace.{one_more}
 use Rattle.ifmap_meta.proofs.arranging.+arranging.Goals as goal
 
 pub arrange_children-loop-i-preserved : goal.arrange_children-loop-i-preserved

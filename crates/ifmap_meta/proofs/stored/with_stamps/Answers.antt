@@ -13,5 +13,5 @@ in_order_with attributes start more all made b c p q e f g h i j =
 pub returns : goal.returns
 returns c =
     in_order_with _ _ _ _ _ _ _ _ _ c.attributes.view_is c.in_ok-push.ensures.items c.in_ok-push-2.ensures.items c.put_in_order.ensures
-    (c.in_ok-bare.ensures ∙ ap (bare_attribute (codes "ifmap-publisher-id")) c.in_ok-publisher.ensures)
-    (c.in_ok-bare-2.ensures ∙ ap (bare_attribute (codes "ifmap-timestamp")) c.in_ok-moment.ensures)
+    (c.in_ok-with_local.ensures ∙ ap (bare_attribute (codes "ifmap-publisher-id")) c.in_ok-publisher.ensures)
+    (c.in_ok-with_local-2.ensures ∙ ap (bare_attribute (codes "ifmap-timestamp")) c.in_ok-moment.ensures)

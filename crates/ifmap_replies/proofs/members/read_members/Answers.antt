@@ -1,10 +1,10 @@
 use Rattle.std.proofs.Common.{◌+◌, List, arith, subst, sym}
+use Rattle.std.proofs.lemmas.List.{nil_from_length}
 use Rattle.std.specs.Vec.Iter.{into_iter_items}
 use Rattle.ifmap_elem.specs.declared.elements.Child.{Child}
 use Rattle.ifmap_forms.specs.AnswerLaws.{refused_exit_as}
 use Rattle.ifmap_forms.specs.Gathering.{GoesOn, begins, elements_end, elements_further, elements_stop}
 use Rattle.ifmap_forms.specs.Tables.{each_element, parts_in}
-use Rattle.ifmap_forms.specs.CutLaws.{no_member}
 use Rattle.ifmap_replies.proofs.members.read_members.Goals as goal
 
 pub loop-child-init : goal.loop-child-init
@@ -37,5 +37,5 @@ pub returns : goal.returns
 returns g c =
     elements_end (each_element (λ index e. g.T.Member.finds e) 0 (parts_in c.args.children.items)) (λ index e. g.T.Member.finds e)
     c.loop-child.invariant.0 (into_iter_items c.loop-child.child-iterator) c.loop-child.made.items c.loop-child.invariant.1
-    (no_member (into_iter_items c.loop-child.child-iterator)
+    (nil_from_length (into_iter_items c.loop-child.child-iterator)
     (omega (arith, c.loop-child.child-iterator.rest.ok.0, c.in-None.ensures.steps.0)))

@@ -5,5 +5,5 @@ use Rattle.ifmap_replies.proofs.runs.push_element.Goals as goal
 
 pub returns : goal.returns
 returns c =
-    put c.args.pieces.now.items c.push.new.self.items c.shared.result (the.Element c.args.entry.now.element)
-    (c.shared.ensures ∙ ap (λ e. the.Element e) c.element.ensures) c.in_ok-push.ensures.items
+    put c.args.pieces.now.items c.push.new.self.items c.of_element.result (the.Element c.args.entry.now.element)
+    (c.of_element.ensures ∙ ap (λ e. the.Element e) c.element.ensures) c.in_ok-push.ensures.items

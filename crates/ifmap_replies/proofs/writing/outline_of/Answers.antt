@@ -1,6 +1,6 @@
 use Rattle.std.proofs.Common.{ap, ◌∙◌}
 use Rattle.std.proofs.lemmas.Result.{IfOk-weaker}
-use Rattle.ifmap_replies.specs.Results.{around}
+use Rattle.ifmap_envelopes.specs.Envelopes.{around}
 use Rattle.ifmap_replies.proofs.writing.outline_of.Goals as goal
 
 pub returns : goal.returns

@@ -1,4 +1,5 @@
 use Rattle.std.proofs.Common.{◌+◌, ℕ, List, arith, subst, sym}
+use Rattle.std.proofs.lemmas.List.{nil_from_length}
 use Rattle.std.specs.Vec.Iter.{into_iter_items}
 use Rattle.ifmap_elem.specs.declared.elements.Child.{Child}
 use Rattle.ifmap_elem.specs.declared.elements.Element.{Element}
@@ -8,7 +9,6 @@ use Rattle.ifmap_forms.specs.Checks.{Check}
 use Rattle.ifmap_forms.specs.Gathering.{GoesOn, begins, elements_end, elements_further, elements_stop}
 use Rattle.ifmap_forms.specs.Tables.{each_element, parts_in}
 use Rattle.ifmap_requests.specs.Published.{metadata_check}
-use Rattle.ifmap_forms.specs.CutLaws.{no_member}
 use Rattle.ifmap_requests.proofs.metadata.read_each.Goals as goal
 
 abbrev one : ℕ → Element → Check Metadata
@@ -44,5 +44,5 @@ pub returns : goal.returns
 returns c =
     elements_end (each_element one 0 (parts_in c.args.children.items)) one c.loop-child.invariant.0
     (into_iter_items c.loop-child.child-iterator) c.loop-child.made.items c.loop-child.invariant.1
-    (no_member (into_iter_items c.loop-child.child-iterator)
+    (nil_from_length (into_iter_items c.loop-child.child-iterator)
     (omega (arith, c.loop-child.child-iterator.rest.ok.0, c.in-None.ensures.steps.0)))

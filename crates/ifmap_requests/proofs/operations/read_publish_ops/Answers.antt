@@ -1,4 +1,5 @@
 use Rattle.std.proofs.Common.{ℕ, List, ap, arith, length, subst, sym}
+use Rattle.std.proofs.lemmas.List.{nil_from_length}
 use Rattle.std.specs.Vec.Iter.{into_iter_items}
 use Rattle.ifmap_elem.specs.declared.elements.Child.{Child}
 use Rattle.ifmap_elem.specs.declared.elements.Element.{Element}
@@ -9,7 +10,6 @@ use Rattle.ifmap_forms.specs.Scopes.{Scopes, scopes_below, scopes_by}
 use Rattle.ifmap_forms.specs.Tables.{each_element, parts_in}
 use Rattle.ifmap_requests.specs.declared.publishing.PublishOp.{PublishOp}
 use Rattle.ifmap_requests.specs.RequestForms.{publish_op_check}
-use Rattle.ifmap_forms.specs.CutLaws.{no_member}
 use Rattle.ifmap_requests.proofs.operations.read_publish_ops.Goals as goal
 
 abbrev one : Scopes → ℕ → Element → Check PublishOp
@@ -49,7 +49,7 @@ returns c =
     let whole = each_element (one scopes) 0 (parts_in c.args.children.items) in
     elements_end whole (one scopes) c.loop-child.index (into_iter_items c.loop-child.child-iterator) c.loop-child.ops.items
     c.loop-child.invariant.0
-    (no_member (into_iter_items c.loop-child.child-iterator)
+    (nil_from_length (into_iter_items c.loop-child.child-iterator)
     (omega (arith, c.loop-child.child-iterator.rest.ok.0, c.in-None.ensures.steps.0)))
 
 pub overflow_add-index : goal.overflow_add-index

@@ -1,0 +1,32 @@
+use Rattle.std.proofs.Common.{◌≡◌, ◌∙◌, [], Bool, List, Ok, subst, sym, true}
+use Rattle.ifmap_elem.specs.declared.elements.Child.{Child}
+use Rattle.ifmap_elem.specs.declared.elements.Element.{Element}
+use Rattle.ifmap_ident.specs.Parts.{has_only}
+use Rattle.ifmap_ident.specs.declared.codes.Code.TheVariants.{Failure}
+use Rattle.ifmap_forms.specs.AnswerLaws.{refused_after, refused_exit}
+use Rattle.ifmap_forms.specs.Answers.{IsRefused}
+use Rattle.ifmap_forms.specs.Checks.{Check, need}
+use Rattle.ifmap_forms.specs.Items.{list_check}
+use Rattle.ifmap_forms.specs.Tables.{parts_in}
+use Rattle.ifmap_replies.specs.ResultForms.{element_check, members_check}
+use Rattle.ifmap_replies.proofs.entry_lists.read_elements.Goals as goal
+
+abbrev elements_in : List Child → Check (List Element)
+elements_in cs = members_check element_check (parts_in cs)
+
+pub returns-in_err-read_members : goal.returns-in_err-read_members
+returns-in_err-read_members c =
+    let e = c.args.list in
+    let error = c.in_err-read_members.field-0.0 in
+    let only : has_only [] e ≡ true = sym c.has_only.ensures ∙ c.if-not-has_only.false in
+    refused_exit (list_check element_check e) c.from_residual.result error c.from_residual.ensures.1
+    (refused_after (elements_in e.children) (has_only [] e) Failure error only
+    (subst (λ (cs : List Child). IsRefused (elements_in cs) error) c.children.view_is c.in_err-read_members.ensures))
+
+pub returns : goal.returns
+returns c =
+    let e = c.args.list in
+    let found = c.in_ok-read_members.field-0.items in
+    let only : has_only [] e ≡ true = sym c.has_only.ensures ∙ c.if-not-has_only.false in
+    subst (λ (b : Bool). need b Failure (elements_in e.children) (Ok found)) (sym only)
+    (subst (λ (cs : List Child). elements_in cs (Ok found)) c.children.view_is c.in_ok-read_members.ensures)

@@ -1,0 +1,11 @@
+use Rattle.std.proofs.Common.{[], List, subst}
+use Rattle.ifmap_forms.specs.Answers.{IsCheckedAs}
+use Rattle.ifmap_forms.specs.Items.{identifiers_check}
+use Rattle.ifmap_forms.specs.Tables.{Part}
+use Rattle.ifmap_forms.specs.CutLaws.{front_parts}
+use Rattle.ifmap_replies.proofs.entry_lists.read_front.Goals as goal
+
+pub returns : goal.returns
+returns c =
+    subst (λ (parts : List Part). IsCheckedAs (λ made. made.items) (identifiers_check 2 [] parts) c.read_identifiers.result)
+    (front_parts c.args.children.now c.front.result.now c.args.index c.front.ensures c.requires.cut) c.read_identifiers.ensures
