@@ -1,4 +1,7 @@
 -- The items of a change, one after another: their drafts are accepted, or taken back.
+-- Plan: (1) what is said of each item of a list, by places and by members; (2) an item is another than those after it; (3) the
+-- draft of one item is accepted, and what is stored on the others stays (`stored_at`); (4) item after item; (5) the same
+-- where drafts are taken back.
 use Rattle.std.proofs.Common.{◌≡◌, ℕ, suc, ◌+◌, ◌<◌, ◌≤◌, false, IsSome, List, [], ◌∷◌, ◌++◌, map, length, get_or, set, take, drop, refl, ap, ◌∙◌, sym, subst, arith, add-one, append_assoc, drop-cons}
 use Rattle.std.proofs.lemmas.List.{append-nil, drop_all, get_or-map, length-map, length-set, take_all, take_more_set}
 use Rattle.std.specs.List.{AllByRecursion, IsDistinct}

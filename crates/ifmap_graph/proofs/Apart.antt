@@ -4,7 +4,7 @@ use Rattle.std.proofs.lemmas.Bool.Decides.{nat_tests}
 use Rattle.std.proofs.lemmas.Bool.{cases_Bool}
 use Rattle.std.specs.List.{AllByRecursion, IsDistinct, filter, cons_option}
 use Rattle.ifmap_view.specs.declared.views.LinkSeen.{LinkSeen}
-use Rattle.ifmap_graph.specs.Linked.{AreListed, ats, changed, coming, far_of, seen_at}
+use Rattle.ifmap_graph.specs.Linked.{AreListed, ats, changed_links, coming_links, far_of, seen_at}
 use Rattle.ifmap_lemmas.specs.Having.{Has, from_has}
 
 -- the place is not among those of the links
@@ -91,31 +91,31 @@ module _ (joins : ℕ → Option (ℕ × ℕ)) (before after : ℕ → Bool) (v 
   was_empty true false e = refl
   was_empty false b e = let r : false ≡ true = e in cc
 
-  comers_empty : (touched : List ℕ) → AllByRecursion (λ l. before l.at ≡ false) (coming joins before after touched v)
+  comers_empty : (touched : List ℕ) → AllByRecursion (λ l. before l.at ≡ false) (coming_links joins before after touched v)
   comers_empty [] = tt
   comers_empty (at ∷ ats) = from_place (λ n. before n ≡ false) at (after at && not (before at)) (far_of (joins at) v)
-      (coming joins before after ats v)
+      (coming_links joins before after ats v)
       (was_empty (after at) (before at)) (comers_empty ats)
 
   comers_out : (k : ℕ) (touched : List ℕ) → AllByRecursion (λ y. nat_eq k y ≡ false) touched → AllByRecursion (λ l. nat_eq k l.at ≡ false)
-      (coming joins before after touched v)
+      (coming_links joins before after touched v)
   comers_out k [] a = tt
   comers_out k (at ∷ ats) a = from_place (λ n. nat_eq k n ≡ false) at (after at && not (before at)) (far_of (joins at) v)
-      (coming joins before after ats v) (λ _. a.0) (comers_out k ats a.1)
+      (coming_links joins before after ats v) (λ _. a.0) (comers_out k ats a.1)
 
   out_of : (k : ℕ) (ls : List LinkSeen) → AllByRecursion (λ l. nat_eq k l.at ≡ false) ls → Out k ls
   out_of k [] a = tt
   out_of k (l ∷ ls) a = (a.0, out_of k ls a.1)
 
-  comers_once : (touched : List ℕ) → IsDistinct nat_eq touched → Once (coming joins before after touched v)
+  comers_once : (touched : List ℕ) → IsDistinct nat_eq touched → Once (coming_links joins before after touched v)
   comers_once [] d = once_nil
   comers_once (at ∷ rest) d = put (after at && not (before at)) (far_of (joins at) v) (comers_once rest (number_parts at rest d).1)
     where
-      put : (b : Bool) (o : Option ℕ) → Once (coming joins before after rest v) → Once (cons_option (cond b (seen_at at o) None)
-          (coming joins before after rest v))
+      put : (b : Bool) (o : Option ℕ) → Once (coming_links joins before after rest v) → Once (cons_option (cond b (seen_at at o) None)
+          (coming_links joins before after rest v))
       put false o a = a
       put true None a = a
-      put true (Some w) a = once_cons (record { other = w; at = at }) (coming joins before after rest v)
+      put true (Some w) a = once_cons (record { other = w; at = at }) (coming_links joins before after rest v)
           (out_of at _ (comers_out at rest (number_parts at rest d).0)) a
 
   apart_from : (k : ℕ) (ls : List LinkSeen) → before k ≡ true → AllByRecursion (λ l. before l.at ≡ false) ls → Out k ls
@@ -129,10 +129,12 @@ module _ (joins : ℕ → Option (ℕ × ℕ)) (before after : ℕ → Bool) (v 
   )
 
   pub changed_apart : (touched : List ℕ) (links : ℕ → List LinkSeen) → AreListed joins before links → IsDistinct nat_eq touched
-      → Once (links v) → Once (changed joins before after touched links v)
+      → Once (links v) → Once (changed_links joins before after touched links v)
   changed_apart touched links listed t d =
-      once_append (filter (λ l. after l.at) (links v)) (coming joins before after touched v) (once_filter (λ l. after l.at) (links v) d)
+      once_append (filter (λ l. after l.at) (links v)) (coming_links joins before after touched v)
+      (once_filter (λ l. after l.at) (links v) d)
       (comers_once touched t)
-      (all_filter (λ l. Out l.at (coming joins before after touched v)) (λ l. after l.at) (links v)
-      (all_of (λ l. Out l.at (coming joins before after touched v)) (links v)
-      (λ l h. apart_from l.at (coming joins before after touched v) (listed.only v l (from_has (links v) l h)).1 (comers_empty touched))))
+      (all_filter (λ l. Out l.at (coming_links joins before after touched v)) (λ l. after l.at) (links v)
+      (all_of (λ l. Out l.at (coming_links joins before after touched v)) (links v)
+      (λ l h. apart_from l.at (coming_links joins before after touched v) (listed.only v l (from_has (links v) l h)).1
+      (comers_empty touched))))

@@ -9,7 +9,7 @@ use Rattle.ifmap_pool.specs.Holdings.{Holdings, IsHeld, IsPool, Names, entry_at,
 use Rattle.ifmap_view.specs.declared.views.LinkSeen.{LinkSeen}
 use Rattle.ifmap_graph.specs.declared.shelves.Shelf.{Shelf}
 use Rattle.ifmap_graph.specs.Held.{IsInside, IsSide, links_at}
-use Rattle.ifmap_graph.specs.Joined.{joined}
+use Rattle.ifmap_graph.specs.Joined.{joined_pair}
 use Rattle.ifmap_graph.specs.Linked.{ats}
 use Rattle.ifmap_graph.specs.Seen.{IsStill}
 use Rattle.ifmap_graph.specs.Shelved.{Side}
@@ -43,8 +43,8 @@ module _ (names : Holdings Identifier) (none : (v : ℕ) → entry_at names v �
   no_still = record { shelves = λ x d. none-some _ d.1; links = λ v. refl }
 
   module _ (look : ℕ → Option Shelf) (vacant : (n : ℕ) → look n ≡ None) where
-    unjoined : (at v w : ℕ) → joined (look at) ≡ Some (v, w) → ⊥
-    unjoined at v w j = none-some _ (sym (ap joined (vacant at)) ∙ j)
+    unjoined : (at v w : ℕ) → joined_pair (look at) ≡ Some (v, w) → ⊥
+    unjoined at v w j = none-some _ (sym (ap joined_pair (vacant at)) ∙ j)
 
     pub no_side : (side : Side) (links : ℕ → List LinkSeen) → ((v : ℕ) → links v ≡ []) → IsSide side look [] links
     no_side side links empty = record {

@@ -1,4 +1,7 @@
 -- Shelves that come for items that had none, one after another, and go again.
+-- Plan: (1) an item that had no shelf is none of those that have one; (2) nothing came (`brings_none`), and first these, then
+-- those (`brings_both`); (3) one of them goes again (`brings_less`); (4) lists of shelves are written, which changes no
+-- place; (5) the shelf of one item comes.
 use Rattle.std.proofs.Common.{◌≡◌, ℕ, ◌+◌, Bool, true, false, cond, Option, Some, None, IsSome, List, [], ◌∷◌, ◌++◌, refl, ap, ◌∙◌, sym, subst, inl, inr, arith}
 use Rattle.std.proofs.lemmas.Bool.{cases_Bool}
 use Rattle.std.proofs.lemmas.Cmp.{tied_itself}
@@ -12,7 +15,7 @@ use Rattle.ifmap_ident.specs.declared.items.Item.{Item}
 use Rattle.ifmap_ident.specs.Items.{item_order, items_tie, same_item}
 use Rattle.ifmap_graph.specs.declared.shelves.Shelf.{Shelf}
 use Rattle.ifmap_graph.specs.declared.shelves.Shelves.{Shelves}
-use Rattle.ifmap_graph.specs.Bringing.{BringsShelves, IsOther, marked, named_of}
+use Rattle.ifmap_graph.specs.Bringing.{BringsShelves, IsOther, flagged_items, named_of}
 use Rattle.ifmap_graph.specs.Drafted.{AreBare, NoDraft, ends_at}
 use Rattle.ifmap_graph.specs.Named.{named_by, named_in}
 use Rattle.ifmap_graph.specs.Shelved.{AreShelved, place_of}
@@ -56,7 +59,7 @@ other_absent s (x ∷ xs) y a e = (
 )
 
 -- what is none of some is none of those that are marked
-pub other_marked : (xs : List Item) (marks : List Bool) (y : Item) → IsOther xs y → IsOther (marked xs marks) y
+pub other_marked : (xs : List Item) (marks : List Bool) (y : Item) → IsOther xs y → IsOther (flagged_items xs marks) y
 other_marked [] marks y o = tt
 other_marked (x ∷ xs) [] y o = tt
 other_marked (x ∷ xs) (true ∷ ms) y o = (o.0, other_marked xs ms y o.1)

@@ -13,7 +13,7 @@ use Rattle.ifmap_view.specs.declared.views.LinkSeen.{LinkSeen}
 use Rattle.ifmap_view.specs.Attachments.{stored_order}
 use Rattle.ifmap_graph.specs.declared.shelves.Shelf.{Shelf}
 use Rattle.ifmap_graph.specs.Held.{IsSide}
-use Rattle.ifmap_graph.specs.Joined.{is_full, joined}
+use Rattle.ifmap_graph.specs.Joined.{is_full, joined_pair}
 use Rattle.ifmap_graph.specs.Linked.{AreListed, Ends, ats}
 use Rattle.ifmap_graph.specs.Shelved.{Side, list_at}
 use Rattle.ifmap_graph.proofs.Finding.{all_inserted, all_left}
@@ -49,8 +49,8 @@ module _ (side : Side) (look later : ℕ → Option Shelf) (at : ℕ) (before : 
   full_other : (n : ℕ) → is_full (list_at side (look n)) ≡ true → n ≢ at
   full_other n f q = let r : false ≡ true = sym (ap (λ m. is_full (list_at side (look m))) q ∙ ap is_full before) ∙ f in cc
 
-  pub listed_same : (links : ℕ → List LinkSeen) → AreListed (λ n. joined (look n)) (λ n. is_full (list_at side (look n))) links
-      → AreListed (λ n. joined (later n)) (λ n. is_full (list_at side (later n))) links
+  pub listed_same : (links : ℕ → List LinkSeen) → AreListed (λ n. joined_pair (look n)) (λ n. is_full (list_at side (look n))) links
+      → AreListed (λ n. joined_pair (later n)) (λ n. is_full (list_at side (later n))) links
   listed_same links old = record {
     only = λ v seen c.
         let p = old.only v seen c
@@ -61,13 +61,13 @@ module _ (side : Side) (look later : ℕ → Option Shelf) (at : ℕ) (before : 
         in old.each v w n (to_look n v w (full_other n g) e) g;
   }
     where
-      to_later : (n v w : ℕ) → n ≢ at → Ends (λ n. joined (look n)) n v w → Ends (λ n. joined (later n)) n v w
-      to_later n v w o (inl j) = inl (ap joined (others n o) ∙ j)
-      to_later n v w o (inr j) = inr (ap joined (others n o) ∙ j)
+      to_later : (n v w : ℕ) → n ≢ at → Ends (λ n. joined_pair (look n)) n v w → Ends (λ n. joined_pair (later n)) n v w
+      to_later n v w o (inl j) = inl (ap joined_pair (others n o) ∙ j)
+      to_later n v w o (inr j) = inr (ap joined_pair (others n o) ∙ j)
 
-      to_look : (n v w : ℕ) → n ≢ at → Ends (λ n. joined (later n)) n v w → Ends (λ n. joined (look n)) n v w
-      to_look n v w o (inl j) = inl (sym (ap joined (others n o)) ∙ j)
-      to_look n v w o (inr j) = inr (sym (ap joined (others n o)) ∙ j)
+      to_look : (n v w : ℕ) → n ≢ at → Ends (λ n. joined_pair (later n)) n v w → Ends (λ n. joined_pair (look n)) n v w
+      to_look n v w o (inl j) = inl (sym (ap joined_pair (others n o)) ∙ j)
+      to_look n v w o (inr j) = inr (sym (ap joined_pair (others n o)) ∙ j)
 
   lists_same : (es : List (Item × ℕ)) → AllByRecursion (λ e. IsList (list_at side (look e.1))) es → AllByRecursion
       (λ e. IsList (list_at side (later e.1))) es

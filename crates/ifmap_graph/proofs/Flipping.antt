@@ -1,4 +1,8 @@
 -- Once the drafts of shelves and of links stand, both sides are in order.
+-- Plan: (1) which numbers change their links are those of the items that flip; (2) the numbers that a slot joins are two live
+-- ones, and different (`are_pairs`), also once the drafts of shelves stand; (3) what is stored on an item is a list, now
+-- and after the change; (4) both sides are graphs whose links are those of their shelves; (5) once nothing has a draft
+-- any more, both sides are what is there.
 use Rattle.std.proofs.Common.{◌≡◌, ◌≢◌, ◌⊎◌, ℕ, ◌<◌, Bool, true, false, cond, Option, Some, None, IsSome, unwrap_or, List, [], ◌∷◌, length, nat_eq, refl, ap, ◌∙◌, sym, subst, inl, inr, arith}
 use Rattle.std.proofs.lemmas.Bool.{cases_Bool}
 use Rattle.std.proofs.lemmas.Bool.Decides.{nat_tests}
@@ -28,8 +32,8 @@ use Rattle.ifmap_graph.specs.declared.shelves.Shelf.{Shelf}
 use Rattle.ifmap_graph.specs.declared.shelves.Shelves.{Shelves}
 use Rattle.ifmap_graph.specs.Drafted.{AreOut, DraftsWithin, ends_at}
 use Rattle.ifmap_graph.specs.Held.{IsInside, IsSide, links_at}
-use Rattle.ifmap_graph.specs.Joined.{is_full, joined, two_of}
-use Rattle.ifmap_graph.specs.Linked.{changed}
+use Rattle.ifmap_graph.specs.Joined.{is_full, joined_pair, two_of}
+use Rattle.ifmap_graph.specs.Linked.{changed_links}
 use Rattle.ifmap_graph.specs.Named.{AreEnds, AreNumbered, HasEnds}
 use Rattle.ifmap_graph.specs.Out.{items_of}
 use Rattle.ifmap_graph.specs.Shelved.{AreShelved, IsPlaced, Side, list_at, place_of, rows_of}
@@ -176,12 +180,12 @@ module _ (names : Holdings Identifier) (v w : ℕ) where
         λ q. numbers_differ names v w a b i one two (sym q),
       )
 
-  two_in : (item : Item) (o : Option Shelf) → joined o ≡ Some (v, w) → IsItem item → HasEnds names item o
+  two_in : (item : Item) (o : Option Shelf) → joined_pair o ≡ Some (v, w) → IsItem item → HasEnds names item o
       → IsSome (entry_at names v) × IsSome (entry_at names w) × (v ≢ w)
   two_in item None j i n = absurd n
   two_in item (Some shelf) j i n = two_by item shelf.ends j i n
 
-  joined_live : (o : Option Shelf) → joined o ≡ Some (v, w) → IsSome o
+  joined_live : (o : Option Shelf) → joined_pair o ≡ Some (v, w) → IsSome o
   joined_live None j = absurd (none-some _ j)
   joined_live (Some shelf) j = refl
 
@@ -266,7 +270,8 @@ module _ (names : Holdings Identifier) (s t : Shelves) (links later : List (Side
     )
 
     next_links : (v : ℕ) → links_at next later v
-        ≡ changed (λ at. joined (get t.slots at)) (full_now t.slots) (full_next t.slots) (filter_map (flip_of t) (items_of changes))
+        ≡ changed_links (λ at. joined_pair (get t.slots at)) (full_now t.slots) (full_next t.slots)
+        (filter_map (flip_of t) (items_of changes))
         (links_at now links) v
     next_links v =
         ap (λ d. unwrap_or d (sides_at later v).now) (drafts v)
@@ -286,15 +291,16 @@ module _ (names : Holdings Identifier) (s t : Shelves) (links later : List (Side
       side = side_same now (get t.slots) t.places.entries (links_at now links) (links_at now later) kept.now now_side;
       next_side =
           side_same next (get t.slots) t.places.entries
-          (changed (λ at. joined (get t.slots at)) (full_now t.slots) (full_next t.slots) (filter_map (flip_of t) (items_of changes))
+          (changed_links (λ at. joined_pair (get t.slots at)) (full_now t.slots) (full_next t.slots)
+          (filter_map (flip_of t) (items_of changes))
           (links_at now links))
           (links_at next later) next_links
           (record {
             lists = all_lists t.places.entries (λ e h. h);
-            listed = changed_listed (λ at. joined (get t.slots at)) (full_now t.slots) (full_next t.slots)
+            listed = changed_listed (λ at. joined_pair (get t.slots at)) (full_now t.slots) (full_next t.slots)
                 (filter_map (flip_of t) (items_of changes)) (links_at now links)
                 now_side.listed (all_touched t shelved used (items_of changes) out.within);
-            once = λ v. changed_apart (λ at. joined (get t.slots at)) (full_now t.slots) (full_next t.slots) v
+            once = λ v. changed_apart (λ at. joined_pair (get t.slots at)) (full_now t.slots) (full_next t.slots) v
                 (filter_map (flip_of t) (items_of changes)) (links_at now links)
                 now_side.listed (touched_apart t shelved (items_of changes) out.apart) (now_side.once v);
           });

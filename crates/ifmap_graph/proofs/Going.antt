@@ -2,7 +2,7 @@
 use Rattle.std.proofs.Common.{◌≡◌, ℕ, ◌+◌, ◌<◌, ◌≤◌, List, [], ◌∷◌, ◌++◌, IsSome, length, get_or, set, take, drop, refl, ap, ◌∙◌, sym, subst, arith, add-one, drop-cons, append_assoc}
 use Rattle.std.proofs.lemmas.List.{drop-set-lt, take_more_set, append-nil, length-set, drop_all, take_all}
 use Rattle.ifmap_graph.specs.Sides.{Sides}
-use Rattle.ifmap_graph.specs.Turning.{sides_at, accepted, accept_each, backs, AreDrafted}
+use Rattle.ifmap_graph.specs.Turning.{sides_at, accepted_sides, accept_each, backs, AreDrafted}
 
 module _ {T : Type 0} (all : List (ℕ × List T)) (first : List (Sides T)) where
   pub record Going (ways : List (ℕ × List T)) (lists : List (Sides T)) (i : ℕ) : Type 0 where
@@ -31,7 +31,7 @@ module _ {T : Type 0} (all : List (ℕ × List T)) (first : List (Sides T)) wher
     drafted_at = now_drafted.1
 
     module _ (ways' : List (ℕ × List T)) (lists' : List (Sides T))
-        (ls : lists' ≡ set lists (get_or ways i w).0 (accepted (sides_at lists (get_or ways i w).0)))
+        (ls : lists' ≡ set lists (get_or ways i w).0 (accepted_sides (sides_at lists (get_or ways i w).0)))
         (ws : ways' ≡ set ways i ((get_or ways i w).0, (sides_at lists (get_or ways i w).0).now)) where
       rest : drop (i + 1) ways' ≡ drop (i + 1) ways
       rest = ap (λ l. drop (i + 1) l) ws ∙ drop-set-lt (i + 1) ways i _ (omega arith)

@@ -12,7 +12,7 @@ use Rattle.ifmap_pool.specs.Holdings.{Holdings, IsPool, Names, entry_at, holds_a
 use Rattle.ifmap_view.specs.declared.views.LinkSeen.{LinkSeen}
 use Rattle.slab.specs.Slab.{get}
 use Rattle.ifmap_graph.specs.declared.shelves.Shelves.{Shelves}
-use Rattle.ifmap_graph.specs.Bringing.{AreGrown, AreInside, BringsShelves, HasOwn, HaveFewOwn, Parts, marked, parts_of}
+use Rattle.ifmap_graph.specs.Bringing.{AreGrown, AreInside, BringsShelves, HasOwn, HaveFewOwn, Parts, flagged_items, parts_of}
 use Rattle.ifmap_graph.specs.Named.{named_by, named_in}
 use Rattle.ifmap_graph.specs.Shelved.{place_of}
 use Rattle.ifmap_graph.specs.Sides.{Sides}
@@ -106,29 +106,29 @@ module _ (items : List Item) (first : Parts) where
   pub record Placing (p : Parts) (marks : List Bool) (i : ℕ) : Type 0 where
     pub grown : AreGrown first p
     pub long : length marks ≡ i
-    pub brought : BringsShelves (marked items marks) first.shelves p.shelves
+    pub brought : BringsShelves (flagged_items items marks) first.shelves p.shelves
     pub there : AllByRecursion (λ x. IsSome (place_of p.shelves x)) (take i items)
 
   pub placing : AreInside first → (marks : List Bool) → marks ≡ [] → Placing first marks 0
   placing is marks e = record {
     grown = grown_itself first is;
     long = ap length e;
-    brought = subst (λ l. BringsShelves (marked items l) first.shelves first.shelves) (sym e)
+    brought = subst (λ l. BringsShelves (flagged_items items l) first.shelves first.shelves) (sym e)
         (subst (λ l. BringsShelves l first.shelves first.shelves) (sym (none items))
         (brings_none first.shelves first.shelves refl (λ at. refl) (λ x. refl)));
     there = tt;
   }
     where
-      none : (xs : List Item) → marked xs [] ≡ []
+      none : (xs : List Item) → flagged_items xs [] ≡ []
       none [] = refl
       none (x ∷ xs) = refl
 
   module _ (p q : Parts) (marks : List Bool) (i : ℕ) (g : Placing p marks i) (grown : AreGrown p q) where
     -- one that fails brings none
-    pub places_none : BringsShelves [] p.shelves q.shelves → BringsShelves (marked items marks) first.shelves q.shelves
+    pub places_none : BringsShelves [] p.shelves q.shelves → BringsShelves (flagged_items items marks) first.shelves q.shelves
     places_none b =
-        subst (λ l. BringsShelves l first.shelves q.shelves) (append-nil (marked items marks))
-        (brings_both (marked items marks) [] first.shelves p.shelves q.shelves g.brought b)
+        subst (λ l. BringsShelves l first.shelves q.shelves) (append-nil (flagged_items items marks))
+        (brings_both (flagged_items items marks) [] first.shelves p.shelves q.shelves g.brought b)
 
     pub grown_on : AreGrown first q
     grown_on = grown_both first p q g.grown grown
@@ -149,9 +149,9 @@ module _ (items : List Item) (first : Parts) where
       grown = grown_on;
       long = ap length e ∙ one_longer marks came ∙ ap (λ n. n + 1) g.long;
       brought =
-          subst (λ l. BringsShelves (marked items l) first.shelves q.shelves) (sym e)
+          subst (λ l. BringsShelves (flagged_items items l) first.shelves q.shelves) (sym e)
           (subst (λ l. BringsShelves l first.shelves q.shelves) (sym one_mark)
-          (brings_both (marked items marks) (cond came (x ∷ []) []) first.shelves p.shelves q.shelves g.brought b));
+          (brings_both (flagged_items items marks) (cond came (x ∷ []) []) first.shelves p.shelves q.shelves g.brought b));
       there = subst (λ l. AllByRecursion (λ x. IsSome (place_of q.shelves x)) l)
           (ap (λ y. take i items ++ y ∷ []) (sym is) ∙ sym (take-suc items i x h) ∙ ap (λ n. take n items) (sym (add-one i)))
           (all_snoc (λ x. IsSome (place_of q.shelves x)) (take i items) x
@@ -162,11 +162,11 @@ module _ (items : List Item) (first : Parts) where
         one_longer [] m = refl
         one_longer (x ∷ xs) m = omega (arith, one_longer xs m)
 
-        one_mark : marked items (marks ++ came ∷ []) ≡ marked items marks ++ cond came (x ∷ []) []
+        one_mark : flagged_items items (marks ++ came ∷ []) ≡ flagged_items items marks ++ cond came (x ∷ []) []
         one_mark =
             marked_more items marks came x (omega (arith, h, g.long))
-            ∙ ap (λ n. marked items marks ++ cond came (get_or items n x ∷ []) []) g.long
-            ∙ ap (λ y. marked items marks ++ cond came (y ∷ []) []) is
+            ∙ ap (λ n. flagged_items items marks ++ cond came (get_or items n x ∷ []) []) g.long
+            ∙ ap (λ y. flagged_items items marks ++ cond came (y ∷ []) []) is
 
   pub placed_there : (p : Parts) (marks : List Bool) (i : ℕ) → length items ≤ i → Placing p marks i
       → AllByRecursion (λ x. IsSome (place_of p.shelves x)) items

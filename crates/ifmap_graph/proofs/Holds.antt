@@ -1,4 +1,7 @@
 -- What holding and letting go mean for the numbers of items and for the keys of a pool.
+-- Plan: (1) two identifiers in order have two numbers; (2) a name that the change of another number leaves (`names_stay`);
+-- (3) the keys of a pool in which one more is held are those of before and this one; (4) a number that has a key after a
+-- release had it before; (5) the same of an item: a lone identifier, and the two of a link.
 use Rattle.std.proofs.Common.{◌≡◌, ◌≢◌, ◌⊎◌, ℕ, ◌+◌, ◌-◌, ◌<◌, true, unwrap_or, Option, Some, None, IsSome, List, [], ◌∷◌, option_map, cond, refl, ap, ◌∙◌, sym, subst, inl, inr, arith}
 use Rattle.std.proofs.lemmas.Bool.{cases_eq}
 use Rattle.std.proofs.lemmas.Cmp.{nat_cmp_total}

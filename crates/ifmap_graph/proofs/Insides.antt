@@ -16,8 +16,8 @@ use Rattle.ifmap_view.specs.Views.{IsView}
 use Rattle.ifmap_graph.specs.declared.ends.Ends as the_ends
 use Rattle.ifmap_graph.specs.declared.ends.Ends.TheVariants as ends
 use Rattle.ifmap_graph.specs.declared.shelves.Shelf.{Shelf}
-use Rattle.ifmap_graph.specs.Held.{IsSide, shown}
-use Rattle.ifmap_graph.specs.Joined.{AreJoined, AreSingle, IsNumber, joined, two_of}
+use Rattle.ifmap_graph.specs.Held.{IsSide, shown_shelves}
+use Rattle.ifmap_graph.specs.Joined.{AreJoined, AreSingle, IsNumber, joined_pair, two_of}
 use Rattle.ifmap_graph.specs.Linked.{Ends}
 use Rattle.ifmap_graph.specs.Named.{AreEnds, AreIdentifiers, AreNumbered, HasEnds, named_by, named_in}
 use Rattle.ifmap_graph.specs.Shelved.{IsPlaced, Side, list_at, row_on, rows_by}
@@ -26,18 +26,19 @@ use Rattle.ifmap_graph.proofs.Graphs.{graph_is}
 use Rattle.ifmap_graph.proofs.Viewed.{all_has, alone, apart, each, handled, linked, only}
 
 -- the rows of shelves are those of their entries
-pub rows_shown : (side : Side) (look : ℕ → Option Shelf) (es : List (Item × ℕ)) → rows_by (list_at side) (shown look es) ≡ rows_by
+pub rows_shown : (side : Side) (look : ℕ → Option Shelf) (es : List (Item × ℕ)) → rows_by (list_at side) (shown_shelves look es) ≡ rows_by
     (λ at. list_at side (look at)) es
 rows_shown side look [] = refl
 rows_shown side look (e ∷ es) = ap (λ l. map (row_on e.0) (list_at side (look e.1)) ++ l) (rows_shown side look es)
 
 -- and they name the same
-pub named_shown : (look : ℕ → Option Shelf) (es : List (Item × ℕ)) (a : Identifier) → named_in (shown look es) a ≡ named_in es a
+pub named_shown : (look : ℕ → Option Shelf) (es : List (Item × ℕ)) (a : Identifier) → named_in (shown_shelves look es) a ≡ named_in es a
 named_shown look [] a = refl
 named_shown look (e ∷ es) a = ap (λ n. named_by e.0 a + n) (named_shown look es a)
 
 -- an item is looked up among shelves as among entries
-pub lookup_shown : (look : ℕ → Option Shelf) (test : Item → Bool) (es : List (Item × ℕ)) → lookup test (shown look es) ≡ option_map look
+pub lookup_shown : (look : ℕ → Option Shelf) (test : Item → Bool) (es : List (Item × ℕ))
+    → lookup test (shown_shelves look es) ≡ option_map look
     (lookup test es)
 lookup_shown look test [] = refl
 lookup_shown look test (e ∷ es) = elim (cases_Bool (test e.0)) [
@@ -45,7 +46,7 @@ lookup_shown look test (e ∷ es) = elim (cases_Bool (test e.0)) [
   | inr t ↦ rw t (lookup_shown look test es)
 ]
 
-pub no_entry : (look : ℕ → Option Shelf) (test : Item → Bool) (es : List (Item × ℕ)) → lookup test (shown look es) ≡ None
+pub no_entry : (look : ℕ → Option Shelf) (test : Item → Bool) (es : List (Item × ℕ)) → lookup test (shown_shelves look es) ≡ None
     → lookup test es ≡ None
 no_entry look test es h = by (lookup test es) (sym (lookup_shown look test es) ∙ h)
   where
@@ -53,12 +54,12 @@ no_entry look test es h = by (lookup test es) (sym (lookup_shown look test es) �
     by None e = refl
     by (Some at) e = absurd (none-some _ (sym e))
 
-there : (o : Option Shelf) (v w : ℕ) → joined o ≡ Some (v, w) → IsSome o
+there : (o : Option Shelf) (v w : ℕ) → joined_pair o ≡ Some (v, w) → IsSome o
 there None v w j = absurd (none-some _ j)
 there (Some shelf) v w j = refl
 
 -- a slot that joins numbers is live
-pub live_by : (look : ℕ → Option Shelf) (at v w : ℕ) → Ends (λ n. joined (look n)) at v w → IsSome (look at)
+pub live_by : (look : ℕ → Option Shelf) (at v w : ℕ) → Ends (λ n. joined_pair (look n)) at v w → IsSome (look at)
 live_by look at v w (inl j) = there (look at) v w j
 live_by look at v w (inr j) = there (look at) w v j
 
@@ -107,7 +108,7 @@ module _ (names : Holdings Identifier) where
     pairs_by (ends.Pair v w) n = (v, w, refl, is_number v a n.0, is_number w b n.1)
 
     pairs_of : (o : Option Shelf) → HasEnds names (Pair a b) o
-        → (v : ℕ) × (w : ℕ) × (joined o ≡ Some (v, w)) × IsNumber (key_at names) v a × IsNumber (key_at names) w b
+        → (v : ℕ) × (w : ℕ) × (joined_pair o ≡ Some (v, w)) × IsNumber (key_at names) v a × IsNumber (key_at names) w b
     pairs_of None n = absurd n
     pairs_of (Some shelf) n = pairs_by shelf.ends n
 
@@ -127,14 +128,14 @@ module _ (names : Holdings Identifier) where
           is_number w b (subst (λ k. Names identifier_order names k b) (ap (λ p. p.1) e) n.1),
         )
 
-    only_of : (item : Item) (o : Option Shelf) → joined o ≡ Some (v, w) → HasEnds names item o
+    only_of : (item : Item) (o : Option Shelf) → joined_pair o ≡ Some (v, w) → HasEnds names item o
         → (a : Identifier) × (b : Identifier) × (item ≡ Pair a b) × IsNumber (key_at names) v a × IsNumber (key_at names) w b
     only_of item None j n = absurd (none-some _ j)
     only_of item (Some shelf) j n = only_by item shelf.ends j n
 
   pub are_joined : (look : ℕ → Option Shelf) (entries : List (Item × ℕ)) → ((at : ℕ) → IsSome (look at) → (item : Item) × Has entries
       (item, at))
-      → AreNumbered names look entries → AreJoined entries (key_at names) (λ at. joined (look at))
+      → AreNumbered names look entries → AreJoined entries (key_at names) (λ at. joined_pair (look at))
   are_joined look entries used numbered = record {
     ones = λ a at h. ones_of a a (look at) (all_has (λ e. HasEnds names e.0 (look e.1)) entries numbered (One a, at) h);
     pairs = λ a b at h. pairs_of a b (look at) (all_has (λ e. HasEnds names e.0 (look e.1)) entries numbered (Pair a b, at) h);
@@ -150,9 +151,10 @@ module _ (names : Holdings Identifier) (look : ℕ → Option Shelf) (entries : 
     (pool : IsPool identifier_order names) (keys : AreIdentifiers names) (is : IsSide side look entries links) where
   -- a handle leads to what is stored on its link
   pub handle_of : (v : ℕ) (seen : LinkSeen) → Contains (links v) seen
-      → list_at side (look seen.at) ≡ stored_linked (key_at names v) (key_at names seen.other) (rows_by (list_at side) (shown look entries))
+      → list_at side (look seen.at) ≡ stored_linked (key_at names v) (key_at names seen.other)
+      (rows_by (list_at side) (shown_shelves look entries))
   handle_of v seen c =
-      handled (λ at. list_at side (look at)) entries (key_at names) (λ at. joined (look at)) links placed.rising placed.canon
+      handled (λ at. list_at side (look at)) entries (key_at names) (λ at. joined_pair (look at)) links placed.rising placed.canon
       (single names pool)
       (are_joined names look entries used numbered) is.listed v seen c
       ∙ sym (ap (stored_linked (key_at names v) (key_at names seen.other)) (rows_shown side look entries))
@@ -167,17 +169,21 @@ module _ (names : Holdings Identifier) (look : ℕ → Option Shelf) (entries : 
           graph = graph_is (λ at. list_at side (look at)) entries placed.rising placed.canon is.lists;
           canon = keys;
           one_to_one = λ v w a e f. s v w a a e f refl;
-          alone = alone (λ at. list_at side (look at)) entries (key_at names) (λ at. joined (look at)) links placed.rising placed.canon s
+          alone = alone (λ at. list_at side (look at)) entries (key_at names)
+              (λ at. joined_pair (look at)) links placed.rising placed.canon s
               j is.listed tells keys;
-          linked = linked (λ at. list_at side (look at)) entries (key_at names) (λ at. joined (look at)) links placed.rising placed.canon
+          linked = linked (λ at. list_at side (look at)) entries (key_at names)
+              (λ at. joined_pair (look at)) links placed.rising placed.canon
               s j is.listed tells keys;
-          apart = λ v. apart (λ at. list_at side (look at)) entries (key_at names) (λ at. joined (look at)) links placed.rising
+          apart = λ v. apart (λ at. list_at side (look at)) entries (key_at names) (λ at. joined_pair (look at)) links placed.rising
               placed.canon s j is.listed v (is.once v);
-          only = only (λ at. list_at side (look at)) entries (key_at names) (λ at. joined (look at)) links placed.rising placed.canon s j
+          only = only (λ at. list_at side (look at)) entries (key_at names)
+              (λ at. joined_pair (look at)) links placed.rising placed.canon s j
               is.listed;
-          each = each (λ at. list_at side (look at)) entries (key_at names) (λ at. joined (look at)) links placed.rising placed.canon s j
+          each = each (λ at. list_at side (look at)) entries (key_at names)
+              (λ at. joined_pair (look at)) links placed.rising placed.canon s j
               is.listed;
         }
 
-    pub shown_view : IsView (rows_by (list_at side) (shown look entries)) (key_at names) links
+    pub shown_view : IsView (rows_by (list_at side) (shown_shelves look entries)) (key_at names) links
     shown_view = subst (λ rows. IsView rows (key_at names) links) (sym (rows_shown side look entries)) view_of

@@ -7,7 +7,7 @@ use Rattle.std.proofs.lemmas.Option.{same_Some, none-some}
 use Rattle.std.specs.List.{Contains, filter}
 use Rattle.ifmap_lemmas.specs.Having.{filter_has, from_has, has_filter, has_from, has_mapped, mapped_has}
 use Rattle.ifmap_view.specs.declared.views.LinkSeen.{LinkSeen}
-use Rattle.ifmap_graph.specs.Linked.{Ends, far_of, seen_at, AreListed, coming, changed}
+use Rattle.ifmap_graph.specs.Linked.{Ends, far_of, seen_at, AreListed, coming_links, changed_links}
 
 pub far_first : (v w : ℕ) → far_of (Some (v, w)) v ≡ Some w
 far_first v w = let e : nat_eq v v ≡ true = grind (arith, nat_tests) in rw e refl
@@ -63,27 +63,29 @@ module _ (joins : ℕ → Option (ℕ × ℕ)) where
     abbrev pick : ℕ → ℕ → Option LinkSeen
     pick v at = cond (after at && not (before at)) (seen_at at (far_of (joins at) v)) None
 
-    new_only : (v : ℕ) (seen : LinkSeen) → Contains (changed joins before after touched links v) seen → Ends joins seen.at v seen.other
+    new_only : (v : ℕ) (seen : LinkSeen) → Contains (changed_links joins before after touched links v) seen
+        → Ends joins seen.at v seen.other
         × (after seen.at ≡ true)
-    new_only v seen c = elim (Contains-append_cases (filter (λ l. after l.at) (links v)) (coming joins before after touched v) seen c) [
-      | inl a ↦ let h = filter_has (λ l. after l.at) (links v) seen (has_from _ _ a)
-          in ((old.only v seen (from_has (links v) seen h.0)).0, h.1)
-      | inr b ↦ let h = mapped_has (pick v) touched seen (has_from _ _ b)
-          in let p = picked (after h.0 && not (before h.0)) h.0 (far_of (joins h.0) v) seen h.2
-          in let ends : Ends joins h.0 v seen.other = far_is h.0 v seen.other (joins h.0) refl p.1
-          in (subst (λ at. Ends joins at v seen.other) p.2 ends, ap after (sym p.2) ∙ (both_true (after h.0) (before h.0) p.0).0)
-    ]
+    new_only v seen c = elim (Contains-append_cases (filter (λ l. after l.at) (links v))
+        (coming_links joins before after touched v) seen c) [
+          | inl a ↦ let h = filter_has (λ l. after l.at) (links v) seen (has_from _ _ a)
+              in ((old.only v seen (from_has (links v) seen h.0)).0, h.1)
+          | inr b ↦ let h = mapped_has (pick v) touched seen (has_from _ _ b)
+              in let p = picked (after h.0 && not (before h.0)) h.0 (far_of (joins h.0) v) seen h.2
+              in let ends : Ends joins h.0 v seen.other = far_is h.0 v seen.other (joins h.0) refl p.1
+              in (subst (λ at. Ends joins at v seen.other) p.2 ends, ap after (sym p.2) ∙ (both_true (after h.0) (before h.0) p.0).0)
+        ]
 
-    new_each : (v w at : ℕ) → Ends joins at v w → after at ≡ true → Contains (changed joins before after touched links v)
+    new_each : (v w at : ℕ) → Ends joins at v w → after at ≡ true → Contains (changed_links joins before after touched links v)
         (record { other = w; at = at })
     new_each v w at ends full = elim (cases_Bool (before at)) [
-      | inl was ↦ Contains-append_left (filter (λ l. after l.at) (links v)) (coming joins before after touched v)
+      | inl was ↦ Contains-append_left (filter (λ l. after l.at) (links v)) (coming_links joins before after touched v)
           (record { other = w; at = at })
           (from_has _ _ (has_filter (λ l. after l.at) (links v) (record { other = w; at = at }) (has_from _ _ (old.each v w at ends was))
           full))
       | inr was ↦ elim (all at) [
         | inl same ↦ let r : false ≡ true = sym was ∙ same ∙ full in cc
-        | inr there ↦ Contains-append_right (filter (λ l. after l.at) (links v)) (coming joins before after touched v)
+        | inr there ↦ Contains-append_right (filter (λ l. after l.at) (links v)) (coming_links joins before after touched v)
             (record { other = w; at = at })
             (from_has _ _ (has_mapped (pick v) touched at (record { other = w; at = at }) (has_from _ _ there)
             (ap (λ b. cond (b && not (before at)) (seen_at at (far_of (joins at) v)) None) full
@@ -92,5 +94,5 @@ module _ (joins : ℕ → Option (ℕ × ℕ)) where
       ]
     ]
 
-    pub changed_listed : AreListed joins after (changed joins before after touched links)
+    pub changed_listed : AreListed joins after (changed_links joins before after touched links)
     changed_listed = record { only = new_only; each = new_each }

@@ -10,7 +10,7 @@ use Rattle.ifmap_pool.specs.Holdings.{Holdings}
 use Rattle.ifmap_view.specs.declared.views.LinkSeen.{LinkSeen}
 use Rattle.ifmap_view.specs.Rows.{stored_on}
 use Rattle.ifmap_graph.specs.declared.shelves.Shelves.{Shelves}
-use Rattle.ifmap_graph.specs.Bringing.{BringsShelves, marked}
+use Rattle.ifmap_graph.specs.Bringing.{BringsShelves, flagged_items}
 use Rattle.ifmap_graph.specs.Drafted.{AreBare}
 use Rattle.ifmap_graph.specs.Held.{IsInside}
 use Rattle.ifmap_graph.specs.Releasing.{IsLess}
@@ -23,13 +23,13 @@ use Rattle.ifmap_graph.proofs.Finding.{absent}
 use Rattle.ifmap_graph.proofs.Lessening.{is_bare, less_itself, less_on}
 use Rattle.ifmap_graph.proofs.Writes.{some_of}
 
-marked_none : (xs : List Item) → marked xs [] ≡ []
+marked_none : (xs : List Item) → flagged_items xs [] ≡ []
 marked_none [] = refl
 marked_none (x ∷ xs) = refl
 
 -- one mark more
 pub marked_more : (xs : List Item) (ms : List Bool) (m : Bool) (d : Item) → length ms < length xs
-    → marked xs (ms ++ m ∷ []) ≡ marked xs ms ++ cond m (get_or xs (length ms) d ∷ []) []
+    → flagged_items xs (ms ++ m ∷ []) ≡ flagged_items xs ms ++ cond m (get_or xs (length ms) d ∷ []) []
 marked_more [] ms m d h = absurd (omega (arith, h))
 marked_more (x ∷ xs) [] true d h = ap (λ l. x ∷ l) (marked_none xs)
 marked_more (x ∷ xs) [] false d h = marked_none xs
@@ -37,7 +37,7 @@ marked_more (x ∷ xs) (true ∷ ms) m d h = ap (λ l. x ∷ l) (marked_more xs 
 marked_more (x ∷ xs) (false ∷ ms) m d h = marked_more xs ms m d (omega (arith, h))
 
 -- what holds of all items holds of those that are marked
-pub all_marked : (P : Item → Type 0) (xs : List Item) (ms : List Bool) → AllByRecursion P xs → AllByRecursion P (marked xs ms)
+pub all_marked : (P : Item → Type 0) (xs : List Item) (ms : List Bool) → AllByRecursion P xs → AllByRecursion P (flagged_items xs ms)
 all_marked P [] ms a = tt
 all_marked P (x ∷ xs) [] a = tt
 all_marked P (x ∷ xs) (true ∷ ms) a = (a.0, all_marked P xs ms a.1)
@@ -51,31 +51,31 @@ module _ (items : List Item) (marks : List Bool) (names : Holdings Identifier) (
   pub record Taking (left : Holdings Identifier) (s : Shelves) (i : ℕ) : Type 0 where
     pub less : IsLess names left first s
     pub apart : IsDistinct same_item (drop i items)
-    pub brought : (origin : Shelves) → BringsShelves (marked items marks) origin first
-        → BringsShelves (marked (drop i items) (drop i marks)) origin s
+    pub brought : (origin : Shelves) → BringsShelves (flagged_items items marks) origin first
+        → BringsShelves (flagged_items (drop i items) (drop i marks)) origin s
 
   pub taking : IsDistinct same_item items → Taking names first 0
   taking apart = record { less = less_itself names first; apart = apart; brought = λ origin b. b }
 
   module _ (left : Holdings Identifier) (s : Shelves) (i : ℕ) (x : Item) (came : Bool) (here : drop i items ≡ x ∷ drop (i + 1) items)
       (mark : drop i marks ≡ came ∷ drop (i + 1) marks) (g : Taking left s i) where
-    left_of : (origin : Shelves) → BringsShelves (marked items marks) origin first
-        → BringsShelves (cond came (x ∷ marked (drop (i + 1) items) (drop (i + 1) marks))
-        (marked (drop (i + 1) items) (drop (i + 1) marks))) origin s
+    left_of : (origin : Shelves) → BringsShelves (flagged_items items marks) origin first
+        → BringsShelves (cond came (x ∷ flagged_items (drop (i + 1) items) (drop (i + 1) marks))
+        (flagged_items (drop (i + 1) items) (drop (i + 1) marks))) origin s
     left_of origin b =
-        subst (λ l. BringsShelves (marked l (came ∷ drop (i + 1) marks)) origin s) here
-        (subst (λ l. BringsShelves (marked (drop i items) l) origin s) mark (g.brought origin b))
+        subst (λ l. BringsShelves (flagged_items l (came ∷ drop (i + 1) marks)) origin s) here
+        (subst (λ l. BringsShelves (flagged_items (drop i items) l) origin s) mark (g.brought origin b))
 
-    came_here : (origin : Shelves) → BringsShelves (marked items marks) origin first → came ≡ true
-        → BringsShelves (x ∷ marked (drop (i + 1) items) (drop (i + 1) marks)) origin s
+    came_here : (origin : Shelves) → BringsShelves (flagged_items items marks) origin first → came ≡ true
+        → BringsShelves (x ∷ flagged_items (drop (i + 1) items) (drop (i + 1) marks)) origin s
     came_here origin b t =
-        subst (λ c. BringsShelves (cond c (x ∷ marked (drop (i + 1) items) (drop (i + 1) marks))
-        (marked (drop (i + 1) items) (drop (i + 1) marks))) origin s) t
+        subst (λ c. BringsShelves (cond c (x ∷ flagged_items (drop (i + 1) items) (drop (i + 1) marks))
+        (flagged_items (drop (i + 1) items) (drop (i + 1) marks))) origin s) t
         (left_of origin b)
 
     -- the shelf that goes is empty, and nobody waits for it
     pub takes_empty : (links : List (Sides LinkSeen)) → IsInside names (get first.slots) first.places.entries links → AreBare first
-        → (origin : Shelves) → rows_of now origin ≡ rows_of now first → BringsShelves (marked items marks) origin first → came ≡ true
+        → (origin : Shelves) → rows_of now origin ≡ rows_of now first → BringsShelves (flagged_items items marks) origin first → came ≡ true
         → IsBare s x
     takes_empty links is bare origin rows b t =
         let p = came_here origin b t
@@ -84,7 +84,7 @@ module _ (items : List Item) (marks : List Bool) (names : Holdings Identifier) (
         (ap (stored_on x) (g.less.rows ∙ sym rows)
         ∙ sym (absent (λ n. list_at now (get origin.slots n)) x origin.places.entries p.absent.0))
 
-    pub takes_idle : (origin : Shelves) → BringsShelves (marked items marks) origin first → came ≡ true → waits_on s x ≡ 0
+    pub takes_idle : (origin : Shelves) → BringsShelves (flagged_items items marks) origin first → came ≡ true → waits_on s x ≡ 0
     takes_idle origin b t = let p = came_here origin b t in p.waits x ∙ never_waited origin x p.absent.0
 
     apart_here : AllByRecursion (λ y. same_item x y ≡ false) (drop (i + 1) items) × IsDistinct same_item (drop (i + 1) items)
@@ -93,13 +93,14 @@ module _ (items : List Item) (marks : List Bool) (names : Holdings Identifier) (
     module _ (later : Holdings Identifier) (t : Shelves) (less : IsLess left later s t)
         (taken : BringsShelves (cond came (x ∷ []) []) t s) where
       goes_by : (c : Bool) (origin : Shelves)
-          → BringsShelves (cond c (x ∷ marked (drop (i + 1) items) (drop (i + 1) marks)) (marked (drop (i + 1) items) (drop (i + 1) marks)))
+          → BringsShelves (cond c (x ∷ flagged_items (drop (i + 1) items) (drop (i + 1) marks))
+          (flagged_items (drop (i + 1) items) (drop (i + 1) marks)))
           origin s
-          → BringsShelves (cond c (x ∷ []) []) t s → BringsShelves (marked (drop (i + 1) items) (drop (i + 1) marks)) origin t
+          → BringsShelves (cond c (x ∷ []) []) t s → BringsShelves (flagged_items (drop (i + 1) items) (drop (i + 1) marks)) origin t
       goes_by true origin p q =
-          brings_less x (marked (drop (i + 1) items) (drop (i + 1) marks)) origin t s p q
+          brings_less x (flagged_items (drop (i + 1) items) (drop (i + 1) marks)) origin t s p q
           (all_marked (λ y. same_item x y ≡ false) (drop (i + 1) items) (drop (i + 1) marks) apart_here.0)
-      goes_by false origin p q = brings_unless (marked (drop (i + 1) items) (drop (i + 1) marks)) origin t s p q
+      goes_by false origin p q = brings_unless (flagged_items (drop (i + 1) items) (drop (i + 1) marks)) origin t s p q
 
       pub takes_on : Taking later t (i + 1)
       takes_on = record {
@@ -109,7 +110,7 @@ module _ (items : List Item) (marks : List Bool) (names : Holdings Identifier) (
       }
 
   pub taken_all : (left : Holdings Identifier) (s : Shelves) (i : ℕ) → length marks ≤ i → Taking left s i → (origin : Shelves)
-      → BringsShelves (marked items marks) origin first → BringsShelves [] origin s
+      → BringsShelves (flagged_items items marks) origin first → BringsShelves [] origin s
   taken_all left s i h g origin b =
       subst (λ l. BringsShelves l origin s) (marked_none (drop i items))
-      (subst (λ l. BringsShelves (marked (drop i items) l) origin s) (drop_all i marks h) (g.brought origin b))
+      (subst (λ l. BringsShelves (flagged_items (drop i items) l) origin s) (drop_all i marks h) (g.brought origin b))

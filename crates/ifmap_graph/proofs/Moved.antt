@@ -14,7 +14,7 @@ use Rattle.ifmap_graph.specs.declared.shelves.Shelf.{Shelf}
 use Rattle.ifmap_graph.specs.declared.shelves.Shelves.{Shelves}
 use Rattle.ifmap_graph.specs.Drafted.{ends_at}
 use Rattle.ifmap_graph.specs.Held.{IsInside, IsSide, links_at}
-use Rattle.ifmap_graph.specs.Joined.{is_full, joined, two_of}
+use Rattle.ifmap_graph.specs.Joined.{is_full, joined_pair, two_of}
 use Rattle.ifmap_graph.specs.Linked.{Ends, ats}
 use Rattle.ifmap_graph.specs.Named.{AreEnds, AreNumbered, HasEnds}
 use Rattle.ifmap_graph.specs.Shelved.{AreShelved, IsPlaced, Side, list_at, rows_of}
@@ -24,7 +24,7 @@ use Rattle.ifmap_graph.proofs.Following.{entry_hits}
 use Rattle.ifmap_graph.proofs.Shelving.{Entries}
 use Rattle.ifmap_graph.proofs.Staying.{ends_of}
 
-joined_by : (o p : Option Shelf) → ends_of o ≡ ends_of p → joined o ≡ joined p
+joined_by : (o p : Option Shelf) → ends_of o ≡ ends_of p → joined_pair o ≡ joined_pair p
 joined_by None None e = refl
 joined_by None (Some t) e = absurd (none-some _ e)
 joined_by (Some s) None e = absurd (none-some _ (sym e))
@@ -51,11 +51,11 @@ module _ (look later : ℕ → Option Shelf) (ends : (at : ℕ) → ends_of (lat
   still_numbered names [] a = tt
   still_numbered names (e ∷ es) a = (has_by names e.0 (later e.1) (look e.1) (ends e.1) a.0, still_numbered names es a.1)
 
-  ends_moved : (at v w : ℕ) → Ends (λ n. joined (look n)) at v w → Ends (λ n. joined (later n)) at v w
+  ends_moved : (at v w : ℕ) → Ends (λ n. joined_pair (look n)) at v w → Ends (λ n. joined_pair (later n)) at v w
   ends_moved at v w (inl e) = inl (joined_by (later at) (look at) (ends at) ∙ e)
   ends_moved at v w (inr e) = inr (joined_by (later at) (look at) (ends at) ∙ e)
 
-  ends_back : (at v w : ℕ) → Ends (λ n. joined (later n)) at v w → Ends (λ n. joined (look n)) at v w
+  ends_back : (at v w : ℕ) → Ends (λ n. joined_pair (later n)) at v w → Ends (λ n. joined_pair (look n)) at v w
   ends_back at v w (inl e) = inl (sym (joined_by (later at) (look at) (ends at)) ∙ e)
   ends_back at v w (inr e) = inr (sym (joined_by (later at) (look at) (ends at)) ∙ e)
 

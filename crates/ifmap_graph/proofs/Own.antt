@@ -12,7 +12,7 @@ use Rattle.ifmap_ident.specs.Identifiers.{identifier_order}
 use Rattle.ifmap_pool.specs.Holdings.{Frees, Holdings, IsHeld, IsPool, LetsGo, Names, entry_at, holds_at, key_at, once}
 use Rattle.ifmap_view.specs.declared.views.LinkSeen.{LinkSeen}
 use Rattle.ifmap_graph.specs.declared.shelves.Shelf.{Shelf}
-use Rattle.ifmap_graph.specs.Held.{IsInside, shown}
+use Rattle.ifmap_graph.specs.Held.{IsInside, shown_shelves}
 use Rattle.ifmap_graph.specs.Named.{AreIdentifiers, named_by, named_in}
 use Rattle.ifmap_graph.specs.Sides.{Sides}
 use Rattle.ifmap_graph.proofs.Alike.{Alike, Tells, alike_equal, equal_alike, order_alike}
@@ -102,24 +102,26 @@ module _ (old new : Holdings Identifier) (look : ℕ → Option Shelf) (es : Ent
     (others : (o : ℕ) → o ≢ v → entry_at new o ≡ entry_at old o) (pool : IsPool identifier_order new)
     (held : (key other : Identifier) (count : ℕ) → Names identifier_order old v key → IsHeld identifier_order old other count
     → IsHeld identifier_order new other (count - once identifier_order key other))
-    (k : Identifier) (mine : ℕ) (key : key_at old v ≡ Some k) (own : IsHeld identifier_order old k (named_in (shown look es) k + mine))
+    (k : Identifier) (mine : ℕ) (key : key_at old v ≡ Some k)
+    (own : IsHeld identifier_order old k (named_in (shown_shelves look es) k + mine))
     (some : 0 < mine) where
   before : (o : ℕ) (a : Identifier) → Names identifier_order new o a → Names identifier_order old o a
   before = named_before old new v (live_key old v k key) kept last counted others
 
-  own_of : (other : Identifier) (n : ℕ) → IsHeld identifier_order old other (named_in (shown look es) other + n)
-      → IsHeld identifier_order new other (named_in (shown look es) other + (n - once identifier_order k other))
+  own_of : (other : Identifier) (n : ℕ) → IsHeld identifier_order old other (named_in (shown_shelves look es) other + n)
+      → IsHeld identifier_order new other (named_in (shown_shelves look es) other + (n - once identifier_order k other))
   own_of other n h =
       subst (λ (m : ℕ). IsHeld identifier_order new other m)
-      (own_less (named_in (shown look es) other) n (once identifier_order k other) (goes_of old is.pool (shown look es) k other mine n own
+      (own_less (named_in (shown_shelves look es) other) n (once identifier_order k other)
+      (goes_of old is.pool (shown_shelves look es) k other mine n own
       some h))
-      (held k other (named_in (shown look es) other + n) (names_by old v k k key refl) h)
+      (held k other (named_in (shown_shelves look es) other + n) (names_by old v k k key refl) h)
 
   pub own_released : (a other : Identifier) (n : ℕ) → key_at old v ≡ Some a → IsHeld identifier_order old other
-      (named_in (shown look es) other + n)
-      → IsHeld identifier_order new other (named_in (shown look es) other + (n - once identifier_order a other))
+      (named_in (shown_shelves look es) other + n)
+      → IsHeld identifier_order new other (named_in (shown_shelves look es) other + (n - once identifier_order a other))
   own_released a other n e h =
-      subst (λ x. IsHeld identifier_order new other (named_in (shown look es) other + (n - once identifier_order x other)))
+      subst (λ x. IsHeld identifier_order new other (named_in (shown_shelves look es) other + (n - once identifier_order x other)))
       (same_Some _ _ (sym key ∙ e)) (own_of other n h)
 
   still_held : (a : Identifier) → (n : ℕ) × IsHeld identifier_order new a (named_in es a + n)

@@ -1,4 +1,7 @@
 -- The items of a change get their drafts, one after another.
+-- Plan: (1) items that tie have the same stored on them; (2) of members and places; (3) where all shelves are bare none has a
+-- draft; (4) what is stored after one change, of those that are left; (5) change after change, until each item of the plan
+-- has its draft.
 use Rattle.std.proofs.Common.{◌≡◌, ◌⊎◌, ℕ, suc, ◌+◌, ◌<◌, ◌≤◌, zero, Bool, true, false, cond, Option, Some, None, IsSome, List, [], ◌∷◌, ◌++◌, map, length, get_or, take, drop, refl, ap, ◌∙◌, sym, subst, inl, inr, arith, add-one, drop-cons}
 use Rattle.std.proofs.lemmas.Bool.{cases_Bool}
 use Rattle.std.proofs.lemmas.List.{drop_all, take_all}

@@ -1,11 +1,14 @@
 -- Drafts of lists at places: one more, and one that grows.
+-- Plan: (1) the drafts at places, told by their ways back; (2) a draft comes at a place that had none (`ready_more`), or the one
+-- that is there changes (`ready_still`); (3) drafts go, one after another (`Dropping`), and at the end none is left
+-- (`dropped`); (4) a list whose draft alone is set keeps what stands now (`set_keeps`, `set_ready`).
 use Rattle.std.proofs.Common.{◌≡◌, ◌≢◌, ◌⊎◌, ℕ, zero, suc, ◌+◌, ◌<◌, ◌≤◌, Option, None, IsSome, List, [], ◌∷◌, ◌++◌, length, get_or, set, drop, refl, ap, ◌∙◌, sym, subst, inl, inr, arith, add-one, drop-cons}
 use Rattle.std.proofs.lemmas.Bool.{cases_eq}
 use Rattle.std.proofs.lemmas.List.{drop_all, length-set}
 use Rattle.ifmap_view.specs.declared.views.LinkSeen.{LinkSeen}
 use Rattle.ifmap_graph.specs.Sides.{Sides}
 use Rattle.ifmap_graph.specs.Touched.{AreReady, KeepsLinks}
-use Rattle.ifmap_graph.specs.Turning.{AreDrafted, IsNamed, NoOthers, accepted, sides_at}
+use Rattle.ifmap_graph.specs.Turning.{AreDrafted, IsNamed, NoOthers, accepted_sides, sides_at}
 use Rattle.ifmap_graph.proofs.Turns.{at_set}
 
 module _ {T : Type 0} where
@@ -16,10 +19,11 @@ module _ {T : Type 0} where
   -- where the places of some ways have drafts still, after one of them was accepted in both
   still : (ls xs : List (Sides T)) (w : ℕ) → w < length ls → w < length xs
       → (v : ℕ) → (IsSome (sides_at ls v).draft → IsSome (sides_at xs v).draft)
-      → IsSome (sides_at (set ls w (accepted (sides_at ls w))) v).draft → IsSome (sides_at (set xs w (accepted (sides_at xs w))) v).draft
-  still ls xs w h k v f s = elim (at_set ls w v (accepted (sides_at ls w)) h) [
+      → IsSome (sides_at (set ls w (accepted_sides (sides_at ls w))) v).draft
+      → IsSome (sides_at (set xs w (accepted_sides (sides_at xs w))) v).draft
+  still ls xs w h k v f s = elim (at_set ls w v (accepted_sides (sides_at ls w)) h) [
     | inl p ↦ absurd (bare_not _ (ap (λ x. x.draft) p.1) s)
-    | inr p ↦ elim (at_set xs w v (accepted (sides_at xs w)) k) [
+    | inr p ↦ elim (at_set xs w v (accepted_sides (sides_at xs w)) k) [
       | inl q ↦ absurd (p.0 q.0)
       | inr q ↦ subst (λ (o : Option (List T)). IsSome o) (sym (ap (λ x. x.draft) q.1))
           (f (subst (λ (o : Option (List T)). IsSome o) (ap (λ x. x.draft) p.1) s))
@@ -35,8 +39,8 @@ module _ {T : Type 0} where
       in (
         k,
         f w.0 d.1,
-        drafted_still ws (set ls w.0 (accepted (sides_at ls w.0))) (set xs w.0 (accepted (sides_at xs w.0)))
-            (length-set xs w.0 (accepted (sides_at xs w.0)) ∙ e ∙ sym (length-set ls w.0 (accepted (sides_at ls w.0))))
+        drafted_still ws (set ls w.0 (accepted_sides (sides_at ls w.0))) (set xs w.0 (accepted_sides (sides_at xs w.0)))
+            (length-set xs w.0 (accepted_sides (sides_at xs w.0)) ∙ e ∙ sym (length-set ls w.0 (accepted_sides (sides_at ls w.0))))
             (λ v. still ls xs w.0 d.0 k v (f v)) d.2,
       )
 
@@ -51,15 +55,15 @@ module _ {T : Type 0} where
       in (
         k,
         f w.0 apart d.1,
-        drafted_more ws (set ls w.0 (accepted (sides_at ls w.0))) (set xs w.0 (accepted (sides_at xs w.0))) place list
-            (length-set xs w.0 (accepted (sides_at xs w.0)) ∙ e ∙ sym (length-set ls w.0 (accepted (sides_at ls w.0))))
+        drafted_more ws (set ls w.0 (accepted_sides (sides_at ls w.0))) (set xs w.0 (accepted_sides (sides_at xs w.0))) place list
+            (length-set xs w.0 (accepted_sides (sides_at xs w.0)) ∙ e ∙ sym (length-set ls w.0 (accepted_sides (sides_at ls w.0))))
             (λ v n. still ls xs w.0 d.0 k v (f v n))
-            (elim (at_set ls w.0 place (accepted (sides_at ls w.0)) d.0) [
+            (elim (at_set ls w.0 place (accepted_sides (sides_at ls w.0)) d.0) [
               | inl p ↦ ap (λ x. x.draft) p.1
               | inr p ↦ ap (λ x. x.draft) p.1 ∙ none
             ])
-            (subst (λ n. place < n) (sym (length-set xs w.0 (accepted (sides_at xs w.0)))) within)
-            (elim (at_set xs w.0 place (accepted (sides_at xs w.0)) k) [
+            (subst (λ n. place < n) (sym (length-set xs w.0 (accepted_sides (sides_at xs w.0)))) within)
+            (elim (at_set xs w.0 place (accepted_sides (sides_at xs w.0)) k) [
               | inl p ↦ absurd (apart p.0)
               | inr p ↦ subst (λ (o : Option (List T)). IsSome o) (sym (ap (λ x. x.draft) p.1)) has
             ])
@@ -90,8 +94,8 @@ module _ {T : Type 0} where
   named_within [] ls d v n = absurd n
   named_within (w ∷ ws) ls d v (inl e) = subst (λ n. n < length ls) e d.0
   named_within (w ∷ ws) ls d v (inr n) =
-      subst (λ n. v < n) (length-set ls w.0 (accepted (sides_at ls w.0)))
-      (named_within ws (set ls w.0 (accepted (sides_at ls w.0))) d.2 v n)
+      subst (λ n. v < n) (length-set ls w.0 (accepted_sides (sides_at ls w.0)))
+      (named_within ws (set ls w.0 (accepted_sides (sides_at ls w.0))) d.2 v n)
 
 -- a draft comes at a place that had none
 pub ready_more : (ways : List (ℕ × List LinkSeen)) (ls xs : List (Sides LinkSeen)) (place : ℕ) → AreReady ways ls → KeepsLinks ls xs

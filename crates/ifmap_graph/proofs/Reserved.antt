@@ -19,7 +19,7 @@ use Rattle.ifmap_graph.specs.declared.shelves.Shelves.{Shelves}
 use Rattle.ifmap_graph.specs.Back.{KeepsBacks}
 use Rattle.ifmap_graph.specs.Bringing.{parts_of}
 use Rattle.ifmap_graph.specs.Drafted.{ends_at}
-use Rattle.ifmap_graph.specs.Held.{shown}
+use Rattle.ifmap_graph.specs.Held.{shown_shelves}
 use Rattle.ifmap_graph.specs.Making.{IsMade, IsUnmade}
 use Rattle.ifmap_graph.specs.Named.{AreIdentifiers, named_in}
 use Rattle.ifmap_graph.specs.Out.{IsDrafted, IsOut, items_of}
@@ -41,7 +41,7 @@ use Rattle.ifmap_graph.proofs.Settled.{bare_to, ends_shown, ends_there, held_of,
 use Rattle.ifmap_graph.proofs.Waited.{times_append}
 
 all_shown : (s : Shelves) (xs : List Item) → AllByRecursion (HasDraft s) xs
-    → AllByRecursion (IsDrafted (shown (get s.slots) s.places.entries)) xs
+    → AllByRecursion (IsDrafted (shown_shelves (get s.slots) s.places.entries)) xs
 all_shown s [] a = tt
 all_shown s (x ∷ xs) a = (to_shown s x a.0, all_shown s xs a.1)
 
@@ -120,7 +120,7 @@ module _ (names later : Holdings Identifier) (s t : Shelves) (links moved : List
     pub made_out : (ready : Ready) → ready.plan.changes ≡ changes → length ready.lists ≡ length changes → ready.ways ≡ ways
         → IsOut ready (held_of later t moved)
     made_out ready plan lists way = record {
-      drafted = subst (λ l. AllByRecursion (IsDrafted (shown (get t.slots) t.places.entries)) (items_of l)) (sym plan)
+      drafted = subst (λ l. AllByRecursion (IsDrafted (shown_shelves (get t.slots) t.places.entries)) (items_of l)) (sym plan)
           (all_shown t (items_of changes) made.out.drafted);
       within = λ x d.
           subst (λ l. (i : Item) × Has (items_of l) i × (item_order i x ≡ Equal)) (sym plan)

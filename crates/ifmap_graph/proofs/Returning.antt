@@ -2,7 +2,7 @@
 use Rattle.std.proofs.Common.{◌≡◌, ℕ, ◌+◌, ◌<◌, ◌≤◌, List, ◌∷◌, length, get_or, set, drop, refl, ap, ◌∙◌, sym, subst, arith, add-one, drop-cons}
 use Rattle.std.proofs.lemmas.List.{drop-set-lt, drop_all, length-set}
 use Rattle.ifmap_graph.specs.Sides.{Sides}
-use Rattle.ifmap_graph.specs.Turning.{AreWithin, restore_each, restored, sides_at}
+use Rattle.ifmap_graph.specs.Turning.{AreWithin, restore_each, restored_sides, sides_at}
 
 module _ {T : Type 0} (all : List (ℕ × List T)) (first : List (Sides T)) where
   -- so many lists stand again; what is left makes the same of all
@@ -26,7 +26,7 @@ module _ {T : Type 0} (all : List (ℕ × List T)) (first : List (Sides T)) wher
     place_within = now_within.0
 
     pub returns_on : (ways' : List (ℕ × List T)) (lists' : List (Sides T))
-        → lists' ≡ set lists (get_or ways i w).0 (restored (sides_at lists (get_or ways i w).0) (get_or ways i w).1)
+        → lists' ≡ set lists (get_or ways i w).0 (restored_sides (sides_at lists (get_or ways i w).0) (get_or ways i w).1)
         → ways' ≡ set ways i ((get_or ways i w).0, (sides_at lists (get_or ways i w).0).now) → Returning ways' lists' (i + 1)
     returns_on ways' lists' ls ws =
         let rest : drop (i + 1) ways' ≡ drop (i + 1) ways = ap (λ l. drop (i + 1) l) ws ∙ drop-set-lt (i + 1) ways i _ (omega arith)

@@ -14,8 +14,8 @@ use Rattle.ifmap_view.specs.declared.views.LinkSeen.{LinkSeen}
 use Rattle.ifmap_view.specs.Rows.{stored_on}
 use Rattle.ifmap_graph.specs.declared.shelves.Shelf.{Shelf}
 use Rattle.ifmap_graph.specs.Back.{AreLinks, AreTwo}
-use Rattle.ifmap_graph.specs.Held.{Held, shown}
-use Rattle.ifmap_graph.specs.Joined.{is_full, joined}
+use Rattle.ifmap_graph.specs.Held.{Held, shown_shelves}
+use Rattle.ifmap_graph.specs.Joined.{is_full, joined_pair}
 use Rattle.ifmap_graph.specs.Linked.{AreListed, ats}
 use Rattle.ifmap_graph.specs.Shelved.{IsPlaced, list_at, rows_by}
 use Rattle.ifmap_graph.specs.Sides.{Sides, now}
@@ -28,7 +28,7 @@ use Rattle.ifmap_graph.proofs.Staying.{ends_of}
 
 -- what contracts see of shelves with a pool and links
 abbrev pub seen_of : (ℕ → Option Shelf) → Entries → Holdings Identifier → List (Sides LinkSeen) → Held
-seen_of look es names links = record { shelves = shown look es; names = names; links = links; places = es }
+seen_of look es names links = record { shelves = shown_shelves look es; names = names; links = links; places = es }
 
 module _ (look : ℕ → Option Shelf) (es : Entries) (names : Holdings Identifier) (links : List (Sides LinkSeen)) where
   pub seen_ends : (x : Item) (at : ℕ) → lookup (is_at (item_order x)) es ≡ Some at
@@ -48,12 +48,12 @@ stays_there look later es names others links moved f x = by (lookup (is_at (item
     by None e = (refl, seen_none later es others moved x e ∙ sym (seen_none look es names links x e))
     by (Some at) e = (refl, seen_ends later es others moved x at e ∙ f at ∙ sym (seen_ends look es names links x at e))
 
-two_by : (o : Option Shelf) (v w : ℕ) → (joined o ≡ Some (v, w)) ⊎ (joined o ≡ Some (w, v)) → AreTwo (ends_of o) v w
+two_by : (o : Option Shelf) (v w : ℕ) → (joined_pair o ≡ Some (v, w)) ⊎ (joined_pair o ≡ Some (w, v)) → AreTwo (ends_of o) v w
 two_by None v w (inl e) = absurd (none-some _ e)
 two_by None v w (inr e) = absurd (none-some _ e)
 two_by (Some shelf) v w e = e
 
-by_two : (o : Option Shelf) (v w : ℕ) → AreTwo (ends_of o) v w → (joined o ≡ Some (v, w)) ⊎ (joined o ≡ Some (w, v))
+by_two : (o : Option Shelf) (v w : ℕ) → AreTwo (ends_of o) v w → (joined_pair o ≡ Some (v, w)) ⊎ (joined_pair o ≡ Some (w, v))
 by_two None v w e = absurd e
 by_two (Some shelf) v w e = e
 
@@ -72,7 +72,7 @@ module _ (look : ℕ → Option Shelf) (es : Entries) (names : Holdings Identifi
   on_slot : (x : Item) (at : ℕ) → lookup (is_at (item_order x)) es ≡ Some at → list_at now (look at) ≡ stored_on x rows
   on_slot x at e = found (λ n. list_at now (look n)) x es at placed.rising e ∙ same x
 
-  pub links_by_items : AreListed (λ at. joined (look at)) (λ at. is_full (list_at now (look at))) links
+  pub links_by_items : AreListed (λ at. joined_pair (look at)) (λ at. is_full (list_at now (look at))) links
       → ((v : ℕ) → IsDistinct nat_eq (ats (links v))) → AreLinks rows links (seen_of look es names sides)
   links_by_items is once = record {
     only = λ v seen c.
@@ -92,7 +92,7 @@ module _ (look : ℕ → Option Shelf) (es : Entries) (names : Holdings Identifi
   }
 
   pub links_by_slots : AreLinks rows links (seen_of look es names sides)
-      → AreListed (λ at. joined (look at)) (λ at. is_full (list_at now (look at))) links
+      → AreListed (λ at. joined_pair (look at)) (λ at. is_full (list_at now (look at))) links
   links_by_slots is = record {
     only = λ v seen c.
         let p = is.only v seen c

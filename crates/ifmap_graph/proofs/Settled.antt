@@ -14,7 +14,7 @@ use Rattle.ifmap_graph.specs.declared.ends.Ends.{Ends}
 use Rattle.ifmap_graph.specs.declared.shelves.Shelves.{Shelves}
 use Rattle.ifmap_graph.specs.Bringing.{HaveFewOwn, parts_of}
 use Rattle.ifmap_graph.specs.Drafted.{AreBare, NoDraft, ends_at}
-use Rattle.ifmap_graph.specs.Held.{Held, shown}
+use Rattle.ifmap_graph.specs.Held.{Held, shown_shelves}
 use Rattle.ifmap_graph.specs.Out.{IsDrafted}
 use Rattle.ifmap_graph.specs.Releasing.{IsLess}
 use Rattle.ifmap_graph.specs.Seen.{Awaits, AwaitsLess, HasFewOwn, IsStill, KeepsOwn, rows_next, rows_now, waits_in, waits_there_in}
@@ -33,7 +33,12 @@ use Rattle.ifmap_graph.proofs.Waited.{times_append}
 
 -- what contracts see of a graph's parts
 abbrev pub held_of : Holdings Identifier → Shelves → List (Sides LinkSeen) → Held
-held_of names s links = record { shelves = shown (get s.slots) s.places.entries; names = names; links = links; places = s.places.entries }
+held_of names s links = record {
+  shelves = shown_shelves (get s.slots) s.places.entries;
+  names = names;
+  links = links;
+  places = s.places.entries;
+}
 
 -- the numbers of a slot, where there is one
 abbrev pub ends_there : Shelves → Option ℕ → Option Ends
@@ -75,7 +80,7 @@ module _ (names : Holdings Identifier) (s : Shelves) (links : List (Sides LinkSe
   pub bare_from : AreShelved s → IsStill (held_of names s links) → AreBare s
   bare_from is still = none_left s is (λ x d. absurd (still.shelves x (to_shown s x d)))
 
-  no_draft_there : (x : Item) → AreBare s → IsDrafted (shown (get s.slots) s.places.entries) x → ⊥
+  no_draft_there : (x : Item) → AreBare s → IsDrafted (shown_shelves (get s.slots) s.places.entries) x → ⊥
   no_draft_there x bare d =
       let h = from_shown s x d
       in let q = looked_up s.places.entries x h.0 h.2

@@ -22,7 +22,7 @@ use Rattle.ifmap_graph.specs.declared.changes.Undo.{Undo}
 use Rattle.ifmap_graph.specs.declared.shelves.Shelves.{Shelves}
 use Rattle.ifmap_graph.specs.Back.{IsWayBack, stand_each}
 use Rattle.ifmap_graph.specs.Drafted.{AreOut, ends_at}
-use Rattle.ifmap_graph.specs.Held.{IsInside, links_at, shown}
+use Rattle.ifmap_graph.specs.Held.{IsInside, links_at, shown_shelves}
 use Rattle.ifmap_graph.specs.Out.{items_of}
 use Rattle.ifmap_graph.specs.Seen.{Awaits, links_now, rows_now}
 use Rattle.ifmap_graph.specs.Shelved.{AreShelved, HasDraft, list_at, place_of, rows_by, rows_of}
@@ -85,10 +85,10 @@ module _ (names : Holdings Identifier) (s t : Shelves) (links moved : List (Side
     (drafted : AreDrafted ready.ways links) (others : NoOthers ready.ways links) (turned : moved ≡ accept_each ready.ways links)
     (plan : result.plan ≡ ready.plan)
     (lists : result.lists ≡ map
-    (λ c. stored_on c.item (rows_by (list_at now) (shown (get s.slots) s.places.entries))) ready.plan.changes)
+    (λ c. stored_on c.item (rows_by (list_at now) (shown_shelves (get s.slots) s.places.entries))) ready.plan.changes)
     (ways : result.ways ≡ backs ready.ways links) where
   abbrev before : List Attachment
-  before = rows_by (list_at now) (shown (get s.slots) s.places.entries)
+  before = rows_by (list_at now) (shown_shelves (get s.slots) s.places.entries)
 
   abbrev items : List Item
   items = items_of ready.plan.changes
@@ -101,7 +101,7 @@ module _ (names : Holdings Identifier) (s t : Shelves) (links moved : List (Side
 
   -- what is stored now on an item of none of these
   kept : (x : Item) → times_in items x ≡ 0
-      → stored_on x (rows_by (list_at now) (shown (get t.slots) t.places.entries)) ≡ stored_on x before
+      → stored_on x (rows_by (list_at now) (shown_shelves (get t.slots) t.places.entries)) ≡ stored_on x before
   kept x e =
       ap (stored_on x) (rows_shown now (get t.slots) t.places.entries ∙ rows)
       ∙ else_same s x is.placed (λ d. let w = out.within x d in has_times items x w.0 w.1 w.2 e)
@@ -115,10 +115,11 @@ module _ (names : Holdings Identifier) (s t : Shelves) (links moved : List (Side
     graph = subst IsGraph (sym (rows_shown now (get s.slots) s.places.entries))
         (graph_is (λ at. list_at now (get s.slots at)) s.places.entries is.placed.rising is.placed.canon is.side.lists);
     stored = λ x.
-        sym (stands_again before items x (stored_on x (rows_by (list_at now) (shown (get t.slots) t.places.entries))) (kept x))
-        ∙ sym (ap (λ l. stand_each items l x (stored_on x (rows_by (list_at now) (shown (get t.slots) t.places.entries)))) lists_are)
+        sym (stands_again before items x (stored_on x (rows_by (list_at now) (shown_shelves (get t.slots) t.places.entries))) (kept x))
+        ∙ sym (ap (λ l. stand_each items l x (stored_on x (rows_by (list_at now) (shown_shelves (get t.slots) t.places.entries))))
+        lists_are)
         ∙ sym (ap (λ l. stand_each l result.lists x
-        (stored_on x (rows_by (list_at now) (shown (get t.slots) t.places.entries)))) same_items);
+        (stored_on x (rows_by (list_at now) (shown_shelves (get t.slots) t.places.entries)))) same_items);
     linked = λ v.
         sym (gone_again ready.ways links v drafted others)
         ∙ sym (ap (λ l. links_at now (restore_each l (accept_each ready.ways links)) v) ways)

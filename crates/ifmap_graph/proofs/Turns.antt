@@ -3,7 +3,7 @@ use Rattle.std.proofs.Common.{◌≡◌, ◌⊎◌, ℕ, ◌<◌, ◌≤◌, Non
 use Rattle.std.proofs.lemmas.Bool.{cases_eq}
 use Rattle.std.proofs.lemmas.List.{get_or-set_same, get_or-set_other, length-set}
 use Rattle.ifmap_graph.specs.Sides.{Sides, next}
-use Rattle.ifmap_graph.specs.Turning.{sides_at, no_list, accepted, restored, accept_each, restore_each, backs, AreDrafted, AreWithin, IsNamed, NoOthers}
+use Rattle.ifmap_graph.specs.Turning.{sides_at, no_list, accepted_sides, restored_sides, accept_each, restore_each, backs, AreDrafted, AreWithin, IsNamed, NoOthers}
 
 module _ {T : Type 0} where
   -- what a place has after one was set
@@ -17,8 +17,8 @@ module _ {T : Type 0} where
   pub next_same : (ws : List (ℕ × List T)) (ls : List (Sides T)) (v : ℕ) → AreDrafted ws ls → next (sides_at (accept_each ws ls) v) ≡ next
       (sides_at ls v)
   next_same [] ls v d = refl
-  next_same (w ∷ ws) ls v d = next_same ws (set ls w.0 (accepted (sides_at ls w.0))) v d.2
-      ∙ elim (at_set ls w.0 v (accepted (sides_at ls w.0)) d.0) [
+  next_same (w ∷ ws) ls v d = next_same ws (set ls w.0 (accepted_sides (sides_at ls w.0))) v d.2
+      ∙ elim (at_set ls w.0 v (accepted_sides (sides_at ls w.0)) d.0) [
         | inl e ↦ ap next e.1 ∙ ap (λ n. next (sides_at ls n)) e.0
         | inr n ↦ ap next n.1
       ]
@@ -27,8 +27,8 @@ module _ {T : Type 0} where
   pub stays_bare : (ws : List (ℕ × List T)) (ls : List (Sides T)) (v : ℕ) → AreDrafted ws ls → (sides_at ls v).draft ≡ None
       → (sides_at (accept_each ws ls) v).draft ≡ None
   stays_bare [] ls v d e = e
-  stays_bare (w ∷ ws) ls v d e = stays_bare ws (set ls w.0 (accepted (sides_at ls w.0))) v d.2
-      (elim (at_set ls w.0 v (accepted (sides_at ls w.0)) d.0) [
+  stays_bare (w ∷ ws) ls v d e = stays_bare ws (set ls w.0 (accepted_sides (sides_at ls w.0))) v d.2
+      (elim (at_set ls w.0 v (accepted_sides (sides_at ls w.0)) d.0) [
         | inl p ↦ ap (λ s. s.draft) p.1
         | inr p ↦ ap (λ s. s.draft) p.1 ∙ e
       ])
@@ -36,12 +36,12 @@ module _ {T : Type 0} where
   pub named_bare : (ws : List (ℕ × List T)) (ls : List (Sides T)) (v : ℕ) → AreDrafted ws ls → IsNamed ws v
       → (sides_at (accept_each ws ls) v).draft ≡ None
   named_bare [] ls v d n = absurd n
-  named_bare (w ∷ ws) ls v d (inl e) = stays_bare ws (set ls w.0 (accepted (sides_at ls w.0))) v d.2
-      (elim (at_set ls w.0 v (accepted (sides_at ls w.0)) d.0) [
+  named_bare (w ∷ ws) ls v d (inl e) = stays_bare ws (set ls w.0 (accepted_sides (sides_at ls w.0))) v d.2
+      (elim (at_set ls w.0 v (accepted_sides (sides_at ls w.0)) d.0) [
         | inl p ↦ ap (λ s. s.draft) p.1
         | inr p ↦ absurd (p.0 e)
       ])
-  named_bare (w ∷ ws) ls v d (inr n) = named_bare ws (set ls w.0 (accepted (sides_at ls w.0))) v d.2 n
+  named_bare (w ∷ ws) ls v d (inr n) = named_bare ws (set ls w.0 (accepted_sides (sides_at ls w.0))) v d.2 n
 
   -- where drafts stand at these places alone, none is left
   pub none_drafted : (ws : List (ℕ × List T)) (ls : List (Sides T)) (v : ℕ) → AreDrafted ws ls → NoOthers ws ls
@@ -64,8 +64,8 @@ module _ {T : Type 0} where
   not_named [] ls v d e n = n
   not_named (w ∷ ws) ls v d e (inl p) = let q : IsSome {T = List T} None = subst (λ o. IsSome o) (ap (λ n. (sides_at ls n).draft) p ∙ e)
       d.1 in cc
-  not_named (w ∷ ws) ls v d e (inr n) = not_named ws (set ls w.0 (accepted (sides_at ls w.0))) v d.2
-      (elim (at_set ls w.0 v (accepted (sides_at ls w.0)) d.0) [
+  not_named (w ∷ ws) ls v d e (inr n) = not_named ws (set ls w.0 (accepted_sides (sides_at ls w.0))) v d.2
+      (elim (at_set ls w.0 v (accepted_sides (sides_at ls w.0)) d.0) [
         | inl p ↦ ap (λ s. s.draft) p.1
         | inr p ↦ ap (λ s. s.draft) p.1 ∙ e
       ]) n
@@ -87,25 +87,26 @@ module _ {T : Type 0} where
   ]
     where
       ls1 : List (Sides T)
-      ls1 = set ls w.0 (accepted (sides_at ls w.0))
+      ls1 = set ls w.0 (accepted_sides (sides_at ls w.0))
 
       xs1 : List (Sides T)
-      xs1 = set xs w.0 (restored (sides_at xs w.0) (sides_at ls w.0).now)
+      xs1 = set xs w.0 (restored_sides (sides_at xs w.0) (sides_at ls w.0).now)
 
       lengths : length xs1 ≡ length ls1
-      lengths = length-set xs w.0 (restored (sides_at xs w.0) (sides_at ls w.0).now) ∙ e
-          ∙ sym (length-set ls w.0 (accepted (sides_at ls w.0)))
+      lengths = length-set xs w.0 (restored_sides (sides_at xs w.0) (sides_at ls w.0).now) ∙ e
+          ∙ sym (length-set ls w.0 (accepted_sides (sides_at ls w.0)))
 
-      step-ls : ((w.0 ≡ v) × (sides_at ls1 v ≡ accepted (sides_at ls w.0))) ⊎ ((w.0 ≡ v → ⊥) × (sides_at ls1 v ≡ sides_at ls v))
-      step-ls = at_set ls w.0 v (accepted (sides_at ls w.0)) d.0
+      step-ls : ((w.0 ≡ v) × (sides_at ls1 v ≡ accepted_sides (sides_at ls w.0))) ⊎ ((w.0 ≡ v → ⊥) × (sides_at ls1 v ≡ sides_at ls v))
+      step-ls = at_set ls w.0 v (accepted_sides (sides_at ls w.0)) d.0
 
-      step-xs : ((w.0 ≡ v) × (sides_at xs1 v ≡ restored (sides_at xs w.0) (sides_at ls w.0).now)) ⊎
+      step-xs : ((w.0 ≡ v) × (sides_at xs1 v ≡ restored_sides (sides_at xs w.0) (sides_at ls w.0).now)) ⊎
           ((w.0 ≡ v → ⊥) × (sides_at xs1 v ≡ sides_at xs v))
-      step-xs = at_set xs w.0 v (restored (sides_at xs w.0) (sides_at ls w.0).now) (subst (λ n. w.0 < n) (sym e) d.0)
+      step-xs = at_set xs w.0 v (restored_sides (sides_at xs w.0) (sides_at ls w.0).now) (subst (λ n. w.0 < n) (sym e) d.0)
 
   pub same_length : (ws : List (ℕ × List T)) (ls : List (Sides T)) → length (accept_each ws ls) ≡ length ls
   same_length [] ls = refl
-  same_length (w ∷ ws) ls = same_length ws (set ls w.0 (accepted (sides_at ls w.0))) ∙ length-set ls w.0 (accepted (sides_at ls w.0))
+  same_length (w ∷ ws) ls = same_length ws (set ls w.0 (accepted_sides (sides_at ls w.0)))
+      ∙ length-set ls w.0 (accepted_sides (sides_at ls w.0))
 
   pub gone_again : (ws : List (ℕ × List T)) (ls : List (Sides T)) (v : ℕ) → AreDrafted ws ls → NoOthers ws ls
       → (sides_at (restore_each (backs ws ls) (accept_each ws ls)) v).now ≡ (sides_at ls v).now
@@ -125,16 +126,16 @@ module _ {T : Type 0} where
   pub restored_length : (ws : List (ℕ × List T)) (ls : List (Sides T)) → length (restore_each ws ls) ≡ length ls
   restored_length [] ls = refl
   restored_length (w ∷ ws) ls =
-      restored_length ws (set ls w.0 (restored (sides_at ls w.0) w.1)) ∙ length-set ls w.0 (restored (sides_at ls w.0) w.1)
+      restored_length ws (set ls w.0 (restored_sides (sides_at ls w.0) w.1)) ∙ length-set ls w.0 (restored_sides (sides_at ls w.0) w.1)
 
   pub restored_drafts : (ws : List (ℕ × List T)) (ls : List (Sides T)) (v : ℕ) → AreWithin ws (length ls)
       → (sides_at (restore_each ws ls) v).draft ≡ (sides_at ls v).draft
   restored_drafts [] ls v a = refl
   restored_drafts (w ∷ ws) ls v a =
-      restored_drafts ws (set ls w.0 (restored (sides_at ls w.0) w.1)) v
-      (still_within ws (length ls) (length (set ls w.0 (restored (sides_at ls w.0) w.1)))
-      (omega (arith, length-set ls w.0 (restored (sides_at ls w.0) w.1))) a.1)
-      ∙ elim (at_set ls w.0 v (restored (sides_at ls w.0) w.1) a.0) [
+      restored_drafts ws (set ls w.0 (restored_sides (sides_at ls w.0) w.1)) v
+      (still_within ws (length ls) (length (set ls w.0 (restored_sides (sides_at ls w.0) w.1)))
+      (omega (arith, length-set ls w.0 (restored_sides (sides_at ls w.0) w.1))) a.1)
+      ∙ elim (at_set ls w.0 v (restored_sides (sides_at ls w.0) w.1) a.0) [
         | inl e ↦ ap (λ s. s.draft) e.1 ∙ ap (λ n. (sides_at ls n).draft) e.0
         | inr n ↦ ap (λ s. s.draft) n.1
       ]
@@ -147,25 +148,25 @@ module _ {T : Type 0} where
       restored_alike ws ls1 ms1 alike (omega (
         arith,
         h,
-        length-set ls w.0 (restored (sides_at ls w.0) w.1),
+        length-set ls w.0 (restored_sides (sides_at ls w.0) w.1),
         length-set ms w.0
-            (restored (sides_at ms w.0) w.1),
+            (restored_sides (sides_at ms w.0) w.1),
       )) v
-      (still_within ws (length ls) (length ls1) (omega (arith, length-set ls w.0 (restored (sides_at ls w.0) w.1))) a.1)
+      (still_within ws (length ls) (length ls1) (omega (arith, length-set ls w.0 (restored_sides (sides_at ls w.0) w.1))) a.1)
     where
       ls1 : List (Sides T)
-      ls1 = set ls w.0 (restored (sides_at ls w.0) w.1)
+      ls1 = set ls w.0 (restored_sides (sides_at ls w.0) w.1)
 
       ms1 : List (Sides T)
-      ms1 = set ms w.0 (restored (sides_at ms w.0) w.1)
+      ms1 = set ms w.0 (restored_sides (sides_at ms w.0) w.1)
 
       alike : (u : ℕ) → (sides_at ms1 u).now ≡ (sides_at ls1 u).now
-      alike u = elim (at_set ls w.0 u (restored (sides_at ls w.0) w.1) a.0) [
-        | inl e ↦ elim (at_set ms w.0 u (restored (sides_at ms w.0) w.1) (omega (arith, h, a.0))) [
+      alike u = elim (at_set ls w.0 u (restored_sides (sides_at ls w.0) w.1) a.0) [
+        | inl e ↦ elim (at_set ms w.0 u (restored_sides (sides_at ms w.0) w.1) (omega (arith, h, a.0))) [
           | inl d ↦ ap (λ s. s.now) d.1 ∙ sym (ap (λ s. s.now) e.1)
           | inr n ↦ absurd (n.0 e.0)
         ]
-        | inr n ↦ elim (at_set ms w.0 u (restored (sides_at ms w.0) w.1) (omega (arith, h, a.0))) [
+        | inr n ↦ elim (at_set ms w.0 u (restored_sides (sides_at ms w.0) w.1) (omega (arith, h, a.0))) [
           | inl d ↦ absurd (n.0 d.0)
           | inr m ↦ ap (λ s. s.now) m.1 ∙ f u ∙ sym (ap (λ s. s.now) n.1)
         ]
@@ -176,6 +177,7 @@ module _ {T : Type 0} where
   backs_within [] ls d = tt
   backs_within (w ∷ ws) ls d = (
     d.0,
-    subst (λ n. AreWithin (backs ws (set ls w.0 (accepted (sides_at ls w.0)))) n) (length-set ls w.0 (accepted (sides_at ls w.0)))
-        (backs_within ws (set ls w.0 (accepted (sides_at ls w.0))) d.2),
+    subst (λ n. AreWithin (backs ws (set ls w.0 (accepted_sides (sides_at ls w.0)))) n)
+        (length-set ls w.0 (accepted_sides (sides_at ls w.0)))
+        (backs_within ws (set ls w.0 (accepted_sides (sides_at ls w.0))) d.2),
   )

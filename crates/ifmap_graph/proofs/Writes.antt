@@ -1,4 +1,7 @@
 -- One shelf changes: what is stored on its item is what the shelf has then, and on no other item anything changes.
+-- Plan: (1) a slot is one item's, and no other entry has it; (2) lists that are alike at each slot give the same rows; (3) the
+-- slab after a write has the new shelf there, and the old ones elsewhere; (4) so what is stored on the item is what its
+-- shelf has then, and on no other item anything changes.
 use Rattle.std.proofs.Common.{◌≡◌, ◌≢◌, ℕ, zero, suc, ◌<◌, length, get_or, true, false, cond, Option, Some, None, IsSome, List, [], ◌∷◌, ◌++◌, map, nat_eq, refl, ap, ◌∙◌, sym, subst, inl, inr, arith}
 use Rattle.std.proofs.lemmas.Bool.{cases_Bool, cases_eq}
 use Rattle.std.proofs.lemmas.Bool.Decides.{nat_tests}

@@ -18,11 +18,11 @@ use Rattle.ifmap_graph.specs.Sides.{Sides, next, now}
 use Rattle.ifmap_graph.specs.Turning.{sides_at}
 use Rattle.ifmap_graph.specs.Waits.{waits_on}
 
--- the items that are marked
-abbrev pub marked : List Item → List Bool → List Item
-marked [] marks = []
-marked (x ∷ xs) [] = []
-marked (x ∷ xs) (m ∷ ms) = if m then x ∷ marked xs ms else marked xs ms
+-- the items that are flagged
+abbrev pub flagged_items : List Item → List Bool → List Item
+flagged_items [] marks = []
+flagged_items (x ∷ xs) [] = []
+flagged_items (x ∷ xs) (m ∷ ms) = if m then x ∷ flagged_items xs ms else flagged_items xs ms
 
 -- how often items name an identifier
 abbrev pub named_of : List Item → Identifier → ℕ

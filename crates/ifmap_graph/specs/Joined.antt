@@ -15,9 +15,9 @@ two_of (ends.One v) = None
 two_of (ends.Pair v w) = Some (v, w)
 
 -- the numbers that a slot joins: those of a link whose shelf it has
-abbrev pub joined : Option Shelf → Option (ℕ × ℕ)
-joined None = None
-joined (Some shelf) = two_of shelf.ends
+abbrev pub joined_pair : Option Shelf → Option (ℕ × ℕ)
+joined_pair None = None
+joined_pair (Some shelf) = two_of shelf.ends
 
 abbrev pub is_full : {X : Type 0} → List X → Bool
 is_full [] = false

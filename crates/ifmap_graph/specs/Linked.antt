@@ -23,12 +23,13 @@ module _ (joins : ℕ → Option (ℕ × ℕ)) where
     pub each : (v w at : ℕ) → Ends at v w → full at ≡ true → Contains (links v) (record { other = w; at = at })
 
   -- what comes to a number, from the places that were touched
-  abbrev pub coming : (ℕ → Bool) → (ℕ → Bool) → List ℕ → ℕ → List LinkSeen
-  coming before after touched v = filter_map (λ at. cond (after at && not (before at)) (seen_at at (far_of (joins at) v)) None) touched
+  abbrev pub coming_links : (ℕ → Bool) → (ℕ → Bool) → List ℕ → ℕ → List LinkSeen
+  coming_links before after touched v = filter_map
+      (λ at. cond (after at && not (before at)) (seen_at at (far_of (joins at) v)) None) touched
 
   -- the links that stay, and those that come
-  abbrev pub changed : (ℕ → Bool) → (ℕ → Bool) → List ℕ → (ℕ → List LinkSeen) → ℕ → List LinkSeen
-  changed before after touched links v = filter (λ l. after l.at) (links v) ++ coming before after touched v
+  abbrev pub changed_links : (ℕ → Bool) → (ℕ → Bool) → List ℕ → (ℕ → List LinkSeen) → ℕ → List LinkSeen
+  changed_links before after touched links v = filter (λ l. after l.at) (links v) ++ coming_links before after touched v
 
 -- the places of links
 abbrev pub ats : List LinkSeen → List ℕ

@@ -6,7 +6,7 @@ use Rattle.ifmap_ident.specs.declared.items.Item.{Item}
 use Rattle.ifmap_view.specs.declared.views.LinkSeen.{LinkSeen}
 use Rattle.ifmap_graph.specs.declared.shelves.Shelf.{Shelf}
 use Rattle.ifmap_graph.specs.declared.shelves.Shelves.{Shelves}
-use Rattle.ifmap_graph.specs.Joined.{is_full, joined}
+use Rattle.ifmap_graph.specs.Joined.{is_full, joined_pair}
 use Rattle.ifmap_graph.specs.Linked.{far_of, seen_at}
 use Rattle.ifmap_graph.specs.Shelved.{list_at, place_of}
 use Rattle.ifmap_graph.specs.Sides.{Sides, next, now}
@@ -22,32 +22,32 @@ module _ (slots : Slab Shelf) where
 
   -- whether a slot joins the number with another
   abbrev pub joins : ℕ → ℕ → Bool
-  joins v at = is_some (far_of (joined (get slots at)) v)
+  joins v at = is_some (far_of (joined_pair (get slots at)) v)
 
   -- the link that a slot brings to a number, which is empty and is to have something
-  abbrev pub brought : ℕ → ℕ → Option LinkSeen
-  brought v at = cond (full_next at && not (full_now at)) (seen_at at (far_of (joined (get slots at)) v)) None
+  abbrev pub brought_link : ℕ → ℕ → Option LinkSeen
+  brought_link v at = cond (full_next at && not (full_now at)) (seen_at at (far_of (joined_pair (get slots at)) v)) None
 
   -- the links of a number that stay
-  abbrev pub staying : List LinkSeen → List LinkSeen
-  staying links = filter (λ l. full_next l.at) links
+  abbrev pub links_kept : List LinkSeen → List LinkSeen
+  links_kept links = filter (λ l. full_next l.at) links
 
   -- the draft of a number's links that there is, or one of those that stay
-  abbrev pub begun : Option (List LinkSeen) → List LinkSeen → List LinkSeen
-  begun None links = staying links
-  begun (Some draft) links = draft
+  abbrev pub begun_draft : Option (List LinkSeen) → List LinkSeen → List LinkSeen
+  begun_draft None links = links_kept links
+  begun_draft (Some draft) links = draft
 
   -- the draft after a slot was looked at
   abbrev pub touched_draft : ℕ → ℕ → Sides LinkSeen → Option (List LinkSeen)
-  touched_draft at v sides = cond (joins v at) (Some (begun sides.draft sides.now ++ cons_option (brought v at) [])) sides.draft
+  touched_draft at v sides = cond (joins v at) (Some (begun_draft sides.draft sides.now ++ cons_option (brought_link v at) [])) sides.draft
 
   -- the draft after these slots were looked at, where there was none
   abbrev pub draft_of : List ℕ → ℕ → List LinkSeen → Option (List LinkSeen)
-  draft_of touched v links = cond (list_any (joins v) touched) (Some (staying links ++ filter_map (brought v) touched)) None
+  draft_of touched v links = cond (list_any (joins v) touched) (Some (links_kept links ++ filter_map (brought_link v) touched)) None
 
   -- the numbers that slots join have links, and are two
   abbrev pub ArePairs : ℕ → Type 0
-  ArePairs n = (at v w : ℕ) → joined (get slots at) ≡ Some (v, w) → (v < n) × (w < n) × (v ≢ w)
+  ArePairs n = (at v w : ℕ) → joined_pair (get slots at) ≡ Some (v, w) → (v < n) × (w < n) × (v ≢ w)
 
 -- whether one of two is true, and not both
 abbrev pub differ : Bool → Bool → Bool

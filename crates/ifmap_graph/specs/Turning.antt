@@ -11,33 +11,33 @@ module _ {T : Type 0} where
   sides_at lists at = slice_index_or lists at no_list
 
   -- the draft is the list
-  abbrev pub accepted : Sides T → Sides T
-  accepted s = record { now = next s; draft = None }
+  abbrev pub accepted_sides : Sides T → Sides T
+  accepted_sides s = record { now = next s; draft = None }
 
   -- a list in place of the one there
-  abbrev pub restored : Sides T → List T → Sides T
-  restored s list = record s { now = list }
+  abbrev pub restored_sides : Sides T → List T → Sides T
+  restored_sides s list = record s { now = list }
 
   -- the drafts at these places are the lists, one after the other
   abbrev pub accept_each : List (ℕ × List T) → List (Sides T) → List (Sides T)
   accept_each [] lists = lists
-  accept_each (w ∷ ws) lists = accept_each ws (set lists w.0 (accepted (sides_at lists w.0)))
+  accept_each (w ∷ ws) lists = accept_each ws (set lists w.0 (accepted_sides (sides_at lists w.0)))
 
   -- the places with the lists that were there
   abbrev pub backs : List (ℕ × List T) → List (Sides T) → List (ℕ × List T)
   backs [] lists = []
-  backs (w ∷ ws) lists = (w.0, (sides_at lists w.0).now) ∷ backs ws (set lists w.0 (accepted (sides_at lists w.0)))
+  backs (w ∷ ws) lists = (w.0, (sides_at lists w.0).now) ∷ backs ws (set lists w.0 (accepted_sides (sides_at lists w.0)))
 
   -- these lists stand at their places again
   abbrev pub restore_each : List (ℕ × List T) → List (Sides T) → List (Sides T)
   restore_each [] lists = lists
-  restore_each (w ∷ ws) lists = restore_each ws (set lists w.0 (restored (sides_at lists w.0) w.1))
+  restore_each (w ∷ ws) lists = restore_each ws (set lists w.0 (restored_sides (sides_at lists w.0) w.1))
 
   -- drafts stand at these places, each of which is named once
   abbrev pub AreDrafted : List (ℕ × List T) → List (Sides T) → Type 0
   AreDrafted [] lists = Unit {0}
   AreDrafted (w ∷ ws) lists = (w.0 < length lists) × IsSome (sides_at lists w.0).draft × AreDrafted ws
-      (set lists w.0 (accepted (sides_at lists w.0)))
+      (set lists w.0 (accepted_sides (sides_at lists w.0)))
 
   abbrev pub AreWithin : List (ℕ × List T) → ℕ → Type 0
   AreWithin [] n = Unit {0}
@@ -53,13 +53,13 @@ module _ {T : Type 0} where
   -- its draft comes to be the list
   abbrev pub AcceptsAt : List (ℕ × List T) → ℕ → List (Sides T) → List (Sides T) → Type 0
   AcceptsAt ways i old new =
-      (w : ℕ × List T) → new ≡ set old (slice_index_or ways i w).0 (accepted (sides_at old (slice_index_or ways i w).0))
+      (w : ℕ × List T) → new ≡ set old (slice_index_or ways i w).0 (accepted_sides (sides_at old (slice_index_or ways i w).0))
 
   -- the list of the way comes to be the list
   abbrev pub RestoresAt : List (ℕ × List T) → ℕ → List (Sides T) → List (Sides T) → Type 0
   RestoresAt ways i old new =
       (w : ℕ × List T)
-      → new ≡ set old (slice_index_or ways i w).0 (restored (sides_at old (slice_index_or ways i w).0) (slice_index_or ways i w).1)
+      → new ≡ set old (slice_index_or ways i w).0 (restored_sides (sides_at old (slice_index_or ways i w).0) (slice_index_or ways i w).1)
 
   -- the list that was there comes to stand in the way
   abbrev pub KeepsListAt : List (Sides T) → ℕ → List (ℕ × List T) → List (ℕ × List T) → Type 0

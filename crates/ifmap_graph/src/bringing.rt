@@ -7,7 +7,7 @@ ghost use Rattle.ifmap_ident.specs.Items.{IsCanonItem, same_item};
 ghost use Rattle.ifmap_pool.specs.Holdings.{IsPool};
 ghost use Rattle.ifmap_view.specs.declared.views.LinkSeen.{LinkSeen};
 ghost use Rattle.ifmap_graph.specs.declared.shelves.Shelves.{Shelves};
-ghost use Rattle.ifmap_graph.specs.Bringing.{AreGrown, AreInside, BringsShelves, HaveFewOwn, marked, parts_of};
+ghost use Rattle.ifmap_graph.specs.Bringing.{AreGrown, AreInside, BringsShelves, HaveFewOwn, flagged_items, parts_of};
 ghost use Rattle.ifmap_graph.specs.Drafted.{AreBare};
 ghost use Rattle.ifmap_graph.specs.Held.{IsInside};
 ghost use Rattle.ifmap_graph.specs.Out.{items_of};
@@ -114,7 +114,8 @@ pub(crate) fn place_items(
     requires none { fresh.old.items ≡ [] }
     ensures grown { AreGrown (parts_of names.old shelves.old links.old.items)
         (parts_of names.new shelves.new links.new.items) }
-    ensures brought { BringsShelves (marked (items_of changes.now) fresh.new.items) shelves.old
+    ensures brought { BringsShelves
+        (flagged_items (items_of changes.now) fresh.new.items) shelves.old
         shelves.new }
     ensures there { OnOk result
         (AllByRecursion (λ x. IsSome (place_of shelves.new x)) (items_of changes.now)) }
@@ -155,10 +156,10 @@ pub(crate) fn take_shelves(
     requires apart { IsDistinct same_item (items_of changes.now) }
     requires long { length fresh.now ≤ length changes.now }
     requires brought { (first : Shelves) × (rows_of now first ≡ rows_of now shelves.old)
-        × BringsShelves (marked (items_of changes.now) fresh.now) first shelves.old }
+        × BringsShelves (flagged_items (items_of changes.now) fresh.now) first shelves.old }
     ensures less { IsLess names.old names.new shelves.old shelves.new }
     ensures taken { (first : Shelves)
-        → BringsShelves (marked (items_of changes.now) fresh.now) first shelves.old
+        → BringsShelves (flagged_items (items_of changes.now) fresh.now) first shelves.old
         → BringsShelves [] first shelves.new }
 {
     for i in 0..fresh.len() {

@@ -40,7 +40,7 @@ impl Model for Graph {
     ghost use Rattle.ifmap_ident.specs.contracts.items.Item as the_item;
     ghost use Rattle.ifmap_view.specs.contracts.views.LinkSeen as the_link;
     ghost use Rattle.ifmap_graph.specs.contracts.shelves.Shelf as the_shelf;
-    ghost use Rattle.ifmap_graph.specs.Held.{Held, IsInside, held_code, shown};
+    ghost use Rattle.ifmap_graph.specs.Held.{Held, IsInside, held_code, shown_shelves};
 
     ghost Value = { Held };
 
@@ -48,7 +48,7 @@ impl Model for Graph {
         the_identifier.the_row.coded the_link.the_row.coded };
 
     ghost view = { λ g. record {
-      shelves = shown (get g.shelves.slots) g.shelves.places.entries;
+      shelves = shown_shelves (get g.shelves.slots) g.shelves.places.entries;
       names = g.names;
       links = g.links.items;
       places = g.shelves.places.entries;

@@ -4,9 +4,9 @@ ghost use Rattle.std.specs.Prelude.{◌≡◌, ◌≢◌, ◌<◌, ◌++◌, ℕ
 ghost use Rattle.std.specs.List.{cons_option, filter_map};
 ghost use Rattle.slab.specs.Slab.{get};
 ghost use Rattle.ifmap_view.specs.declared.views.LinkSeen.{LinkSeen};
-ghost use Rattle.ifmap_graph.specs.Joined.{joined, two_of};
+ghost use Rattle.ifmap_graph.specs.Joined.{joined_pair, two_of};
 ghost use Rattle.ifmap_graph.specs.Linked.{far_of, seen_at};
-ghost use Rattle.ifmap_graph.specs.Touched.{AreReady, ArePairs, KeepsLinks, begun, brought, differ, draft_of, flip_in, flip_of, full_next, full_now, staying, touched_draft};
+ghost use Rattle.ifmap_graph.specs.Touched.{AreReady, ArePairs, KeepsLinks, begun_draft, brought_link, differ, draft_of, flip_in, flip_of, full_next, full_now, links_kept, touched_draft};
 ghost use Rattle.ifmap_graph.specs.Turning.{sides_at};
 
 use crate::ends::Ends;
@@ -116,7 +116,7 @@ pub(crate) fn flipped_slots(
 
 // The link of a number that a slot brings, which is empty and is to have something.
 fn coming_link(slots: &Slab<Shelf>, at: usize, number: u64) -> Option<LinkSeen>
-    ensures { result ≡ brought slots.now number at }
+    ensures { result ≡ brought_link slots.now number at }
 {
     if !is_to_be_full(slots, at) || is_now_full(slots, at) {
         return None;
@@ -133,7 +133,7 @@ fn keep_links(
     slots: &Slab<Shelf>,
     links: &[LinkSeen],
 ) -> Result<(), NoMemory>
-    ensures { OnOk result (list.new.items ≡ list.old.items ++ staying slots.now links.now) }
+    ensures { OnOk result (list.new.items ≡ list.old.items ++ links_kept slots.now links.now) }
 {
     for seen in links {
         if is_to_be_full(slots, seen.at as usize) {
@@ -149,7 +149,7 @@ fn staying_links(
     slots: &Slab<Shelf>,
     links: &[LinkSeen],
 ) -> Result<Vec<LinkSeen>, NoMemory>
-    ensures { IfOk result (λ list. list.items ≡ staying slots.now links.now) }
+    ensures { IfOk result (λ list. list.items ≡ links_kept slots.now links.now) }
 {
     let mut list = Vec::with_capacity(alloc, links.len())?;
     keep_links(&mut list, slots, links)?;
@@ -158,7 +158,7 @@ fn staying_links(
 
 // The numbers that a slot joins.
 fn numbers_of(slots: &Slab<Shelf>, at: usize) -> Option<(u64, u64)>
-    ensures { result ≡ joined (get slots.now at) }
+    ensures { result ≡ joined_pair (get slots.now at) }
 {
     match slots.get(at) {
         Some(shelf) => pair_of(shelf.ends),
@@ -189,7 +189,7 @@ fn begin_draft(
     ensures kept { KeepsLinks links.old.items links.new.items }
     ensures others { (v : ℕ) → v ≢ place
         → sides_at links.new.items v ≡ sides_at links.old.items v }
-    ensures ok { OnOk result ((sides_at links.new.items place).draft ≡ Some (begun slots.now
+    ensures ok { OnOk result ((sides_at links.new.items place).draft ≡ Some (begun_draft slots.now
         (sides_at links.old.items place).draft (sides_at links.old.items place).now)) }
 {
     if links[place].has_draft() {
@@ -244,9 +244,9 @@ fn touch_number(
     ensures kept { KeepsLinks links.old.items links.new.items }
     ensures others { (v : ℕ) → v ≢ place
         → sides_at links.new.items v ≡ sides_at links.old.items v }
-    ensures ok { OnOk result ((sides_at links.new.items place).draft ≡ Some (begun slots.now
+    ensures ok { OnOk result ((sides_at links.new.items place).draft ≡ Some (begun_draft slots.now
         (sides_at links.old.items place).draft (sides_at links.old.items place).now
-        ++ cons_option (brought slots.now place at) [])) }
+        ++ cons_option (brought_link slots.now place at) [])) }
 {
     begin_draft(links, slots, alloc, place, ways)?;
     let Some(seen) = coming_link(slots, at, place as u64) else {

@@ -4,7 +4,7 @@ ghost use Rattle.std.specs.List.{AllByRecursion};
 ghost use Rattle.ifmap_plans.specs.Plans.{Fits, IsAfter};
 ghost use Rattle.ifmap_graph.specs.declared.shelves.Shelves.{Shelves};
 ghost use Rattle.ifmap_graph.specs.Back.{KeepsBacks, KeepsOtherBacks};
-ghost use Rattle.ifmap_graph.specs.Bringing.{AreGrown, AreInside, BringsShelves, HaveFewOwn, Parts, marked, parts_of};
+ghost use Rattle.ifmap_graph.specs.Bringing.{AreGrown, AreInside, BringsShelves, HaveFewOwn, Parts, flagged_items, parts_of};
 ghost use Rattle.ifmap_graph.specs.Drafted.{AreBare};
 ghost use Rattle.ifmap_graph.specs.Making.{IsMade, IsUnmade};
 ghost use Rattle.ifmap_graph.specs.Out.{IsOut, items_of};
@@ -67,17 +67,17 @@ fn draft_or_take(
     requires fits { Fits (rows_of now shelves.old) coming.now.changes.now }
     requires long { length coming.now.fresh.now ≤ length coming.now.changes.now }
     requires brought { (first : Shelves) × (rows_of now first ≡ rows_of now shelves.old)
-        × BringsShelves (marked (items_of coming.now.changes.now) coming.now.fresh.now)
+        × BringsShelves (flagged_items (items_of coming.now.changes.now) coming.now.fresh.now)
         first shelves.old }
     ensures made { OnOk result ((first : Parts)
         → AreGrown first (parts_of names.old shelves.old links.old.items)
-        → BringsShelves (marked (items_of coming.now.changes.now) coming.now.fresh.now)
+        → BringsShelves (flagged_items (items_of coming.now.changes.now) coming.now.fresh.now)
         first.shelves shelves.old
         → IsMade coming.now.changes.now ways.new.items first
         (parts_of names.new shelves.new links.new.items)) }
     ensures unmade { OnErr result ((first : Parts) → AreInside first
         → AreGrown first (parts_of names.old shelves.old links.old.items)
-        → BringsShelves (marked (items_of coming.now.changes.now) coming.now.fresh.now)
+        → BringsShelves (flagged_items (items_of coming.now.changes.now) coming.now.fresh.now)
         first.shelves shelves.old
         → IsUnmade first (parts_of names.new shelves.new links.new.items)) }
 {

@@ -36,22 +36,27 @@ impl Model for RowList {
     ghost invariant = { λ l. IfSome l.spare (λ spare. AreBehind spare.value l.rows) };
 }
 
-// Rows that can be changed: what lags behind them, caught up, or else the same once more.
-fn catch_up_or_copy(
+// The rows after a change: what lags behind them is caught up and changed, or else those that are left
+// are shared.
+fn next_rows(
     alloc: Global,
     rows: &SharedRows,
     spare: Option<Box<Spare>>,
+    change: &ItemChange,
 ) -> Result<Rows, NoMemory>
     requires { IfSome spare (λ spare. AreBehind spare.value rows.now) }
-    ensures { IfOk result (λ made. made ≡ rows.now) }
+    ensures { IfOk result (λ next. next
+        ≡ next_on change.now.removed change.now.added rows.now) }
 {
     let Some(spare) = spare else {
-        return rows.copy_rows(alloc);
+        return rows.make_next(alloc, change);
     };
-    match Box::into_inner(spare).catch_up()? {
-        Some(caught_up) => Ok(caught_up),
-        None => rows.copy_rows(alloc),
-    }
+    let Some(caught_up) = Box::into_inner(spare).catch_up()? else {
+        return rows.make_next(alloc, change);
+    };
+    let mut next = caught_up;
+    next.carry_out(&change.removed.0, &change.added.0)?;
+    Ok(next)
 }
 
 impl RowList {
@@ -89,8 +94,7 @@ impl RowList {
         ensures same { self.new ≡ self.old }
     {
         let spare = Spare::of(alloc, &self.rows, change)?;
-        let mut rows = catch_up_or_copy(alloc, &self.rows, self.spare.take())?;
-        rows.carry_out(&change.removed.0, &change.added.0)?;
+        let rows = next_rows(alloc, &self.rows, self.spare.take(), change)?;
         let rows = SharedRows::new(alloc, rows)?;
         Ok(RowList { rows, spare })
     }

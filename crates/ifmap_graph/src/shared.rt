@@ -2,7 +2,9 @@
 ghost use Rattle.std.specs.Prelude.{◌≡◌, ◌≤◌, [], Contains, IfNone, IfOk, IfSome, length};
 ghost use Rattle.std.specs.List.{AllByRecursion};
 ghost use Rattle.ifmap_meta.specs.Keys.{HaveOneKey};
+ghost use Rattle.ifmap_plans.specs.Lists.{next_on};
 
+use ifmap_plans::ItemChange;
 use ifmap_rows::Rows;
 use ifmap_view::Row;
 use std::alloc::{AllocError as NoMemory, Global};
@@ -85,14 +87,15 @@ impl SharedRows {
         }
     }
 
-    /// The same rows once more, which can be changed: no element is copied. The one error is want of
-    /// memory.
-    pub fn copy_rows(&self, alloc: Global) -> Result<Rows, NoMemory>
-        ensures { IfOk result (λ rows. rows ≡ self.now) }
+    /// The rows after a change, which can be changed further: no element is copied. The one error is want
+    /// of memory.
+    pub fn make_next(&self, alloc: Global, change: &ItemChange) -> Result<Rows, NoMemory>
+        ensures { IfOk result (λ rows. rows
+            ≡ next_on change.now.removed change.now.added self.now) }
     {
         match &self.0 {
-            Some(rows) => rows.share(alloc),
-            None => Ok(Rows::new(alloc)),
+            Some(rows) => rows.make_next(alloc, &change.removed.0, &change.added.0),
+            None => Rows::new(alloc).make_next(alloc, &change.removed.0, &change.added.0),
         }
     }
 

@@ -25,9 +25,9 @@ pub struct Spare {
 // each of these, to share the list a count for each row of it.
 const ROWS_FOR_ONE: usize = 16;
 
-// A list that lags by more rows is not kept, however long it is: each of these moves the pointers that
-// follow it.
-const MOST_CHANGED: usize = 16;
+// A list that lags by more rows is not kept, however long it is: to catch up by so many takes as long as
+// to share it, since each moves the pointers that follow it.
+const MOST_CHANGED: usize = 256;
 
 // A list with room for more than so many rows for each that it has is not kept, so that the room is
 // given back.

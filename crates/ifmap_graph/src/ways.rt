@@ -1,7 +1,7 @@
 //! The places at which lists change.
 ghost use Rattle.std.specs.Prelude.{◌≡◌, ℕ, ◌<◌, List, [], IsSome, length};
 ghost use Rattle.ifmap_graph.specs.Sides.{Sides, next};
-ghost use Rattle.ifmap_graph.specs.Turning.{accepted, restored, accept_each, restore_each, backs, AcceptsAt, AreDrafted, AreWithin, IsDraftedAt, IsWithinAt, KeepsListAt, RestoresAt};
+ghost use Rattle.ifmap_graph.specs.Turning.{accepted_sides, restored_sides, accept_each, restore_each, backs, AcceptsAt, AreDrafted, AreWithin, IsDraftedAt, IsWithinAt, KeepsListAt, RestoresAt};
 
 use crate::sided::Sided;
 use std::alloc::Global;
@@ -46,14 +46,14 @@ impl<T> Way<T> {
     where
         T: Drop,
         requires { IsSome sides.old.draft }
-        ensures sides { sides.new ≡ accepted sides.old }
+        ensures sides { sides.new ≡ accepted_sides sides.old }
         ensures way { self.new ≡ (self.old.0, sides.old.now) }
     {
         self.list = sides.accept();
     }
 
     fn restore(&mut self, sides: &mut Sided<T>)
-        ensures sides { sides.new ≡ restored sides.old self.old.1 }
+        ensures sides { sides.new ≡ restored_sides sides.old self.old.1 }
         ensures way { self.new ≡ (self.old.0, sides.old.now) }
     {
         sides.exchange(&mut self.list);

@@ -1,11 +1,9 @@
 -- What is stored stays whole where what comes is.
-use Rattle.std.proofs.Common.{◌≡◌, refl, sym, subst, true, Bool, Option, Some, None, List, [], ◌∷◌, inl, inr}
-use Rattle.std.proofs.lemmas.Bool.{cases_Bool}
-use Rattle.std.proofs.lemmas.Option.{same_Some, none-some}
-use Rattle.std.specs.List.{AllByRecursion, filter, find}
+use Rattle.std.proofs.Common.{◌≡◌, refl, sym, subst, true, Option, Some, None, List, [], ◌∷◌}
+use Rattle.std.specs.List.{AllByRecursion, filter}
 use Rattle.std.specs.Ordering.{is_gt, is_lt}
-use Rattle.ifmap_lemmas.specs.Filters.{all_around, all_filter}
-use Rattle.ifmap_lemmas.specs.Having.{Has, has_filter, has_map}
+use Rattle.ifmap_lemmas.specs.Filters.{all_around, all_filter, found_all}
+use Rattle.ifmap_lemmas.specs.Having.{has_filter, has_map, all_has, has_all}
 use Rattle.ifmap_lemmas.specs.Members.{map_of_all}
 use Rattle.ifmap_lemmas.specs.Texts.{eq_itself}
 use Rattle.ifmap_ident.specs.declared.identifiers.Identifier.{Identifier}
@@ -30,22 +28,6 @@ item_itself : (x : Item) → same_item x x ≡ true
 item_itself (One a) = rw (identifier_itself a) refl
 item_itself (Pair a b) = rw (identifier_itself a, identifier_itself b) refl
 
-one_of_all : {X : Type 0} (P : X → Type 0) (xs : List X) (x : X) → AllByRecursion P xs → Has xs x → P x
-one_of_all P [] x h m = absurd m
-one_of_all P (y ∷ ys) x h (inl e) = subst P e h.0
-one_of_all P (y ∷ ys) x h (inr m) = one_of_all P ys x h.1 m
-
-all_of_each : {X : Type 0} (P : X → Type 0) (xs : List X) → ((x : X) → Has xs x → P x) → AllByRecursion P xs
-all_of_each P [] f = tt
-all_of_each P (x ∷ xs) f = (f x (inl refl), all_of_each P xs (λ y m. f y (inr m)))
-
-first_of_all : {X : Type 0} (P : X → Type 0) (p : X → Bool) (xs : List X) → AllByRecursion P xs → (x : X) → find p xs ≡ Some x → P x
-first_of_all P p [] h x e = absurd (none-some x e)
-first_of_all P p (y ∷ ys) h x e = elim (cases_Bool (p y)) [
-  | inl t ↦ subst P (same_Some y x (rw t at e)) h.0
-  | inr t ↦ first_of_all P p ys h.1 x (rw t at e)
-]
-
 all_put : (added list : List Stored) → AllByRecursion IsWhole added → AllByRecursion IsWhole list
     → AllByRecursion IsWhole (put_each added list)
 all_put [] list h k = k
@@ -59,8 +41,8 @@ whole_on rows w x = map_of_all IsWhole (λ (r : Attachment). r.stored) (filter (
     (all_filter (λ (r : Attachment). IsWhole r.stored) (λ (r : Attachment). same_item r.item x) rows w)
 
 on_whole : (rows : List Attachment) → ((x : Item) → AllByRecursion IsWhole (stored_on x rows)) → AreWhole rows
-on_whole rows f = all_of_each (λ (r : Attachment). IsWhole r.stored) rows (λ r there.
-    one_of_all IsWhole (stored_on r.item rows) r.stored (f r.item)
+on_whole rows f = has_all (λ (r : Attachment). IsWhole r.stored) rows (λ r there.
+    all_has IsWhole (stored_on r.item rows) (f r.item) r.stored
     (has_map (λ (q : Attachment). q.stored) (filter (λ (q : Attachment). same_item q.item r.item) rows) r
     (has_filter (λ (q : Attachment). same_item q.item r.item) rows r there (item_itself r.item))))
 
@@ -72,6 +54,6 @@ whole_after before after changes fits is w =
     on : (x : Item) (o : Option ItemChange) → change_of changes x ≡ o → AllByRecursion IsWhole (changed_by o (stored_on x before))
     on x None e = whole_on before w x
     on x (Some c) e =
-        let f : FitsItem before c = first_of_all (FitsItem before) (λ (d : ItemChange). same_item d.item x) changes fits.each c e
+        let f : FitsItem before c = found_all (FitsItem before) (λ (d : ItemChange). same_item d.item x) changes fits.each c e
         in all_put c.added (without c.removed (stored_on x before)) f.whole
         (all_filter IsWhole _ (stored_on x before) (whole_on before w x))

@@ -1,6 +1,6 @@
 -- What is stored on one item, and how it changes.
-use Rattle.std.specs.Prelude.{◌≡◌, ◌==◌, ◌<◌, ◌≤◌, ◌&&◌, ℕ, Bool, true, false, not, List, [], ◌∷◌, length, Result, MatchResult, set}
-use Rattle.std.specs.List.{IsDistinct, filter, insert, list_any}
+use Rattle.std.specs.Prelude.{◌==◌, ◌&&◌, Bool, true, false, not, List, [], ◌∷◌}
+use Rattle.std.specs.List.{IsDistinct, filter, list_any}
 use Rattle.std.specs.List.Sorted.{IsStrictlySortedBy}
 use Rattle.std.specs.Ordering.{eq_by_cmp}
 use Rattle.std.specs.Str.{bytes_eq}
@@ -15,13 +15,6 @@ use Rattle.ifmap_plans.specs.Placing.{put}
 pub record IsList (list : List Stored) : Type 0 where
   pub rising : IsStrictlySortedBy stored_order list
   pub keys : IsDistinct same_key list
-
--- a stored element goes to that place of a list: over the one there, or in front of it
-abbrev pub IsPlace : Stored → List Stored → Result ℕ ℕ → Type 0
-IsPlace s list place =
-    MatchResult place
-    (λ i. (i < length list) × (set list i s ≡ put stored_order s list))
-    (λ i. (i ≤ length list) × (insert list i s ≡ put stored_order s list))
 
 -- without what has the canonical bytes of one of these
 abbrev pub without : List Stored → List Stored → List Stored

@@ -7,5 +7,5 @@ pub mod lists;
 pub mod plans;
 
 pub use items::Items;
-pub use lists::{bytes_of, next_list, place_of, put_row, row_order};
+pub use lists::{bytes_of, place_of, put_row, row_order};
 pub use plans::{ItemChange, Note, Plan};

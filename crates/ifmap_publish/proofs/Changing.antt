@@ -1,4 +1,8 @@
 -- The changes of items on which something goes or comes.
+-- The plan: of entries whose keys rise, each is found by its key; the difference that each tells makes its list of what stands there
+-- (made), so each change is one and the items are apart (are_changes, items_apart); what is to stand on an item after all is the list of
+-- its entry, or what stands there (changed, is_after); the code appends a change where something goes or comes (none_added, one_added,
+-- and the three by which of both is empty); at last the same of edits, by the lists that they mean (listed_sound to listed_applied).
 use Rattle.std.proofs.Common.{◌≡◌, ◌≢◌, ◌∙◌, refl, sym, ap, subst, Bool, true, false, cond, not, List, [], ◌∷◌, ◌++◌, ◌==◌, arith, length}
 use Rattle.std.proofs.Common.{map, Option, Some, None, inl, inr}
 use Rattle.std.proofs.lemmas.Bool.{cases_Bool}
@@ -16,13 +20,13 @@ use Rattle.ifmap_ident.specs.Items.{IsCanonItem, item_order, same_item}
 use Rattle.ifmap_lemmas.specs.Filters.{all_filter, all_weaker}
 use Rattle.ifmap_lemmas.specs.Having.{Has, filter_has}
 use Rattle.ifmap_lemmas.specs.Numbers.{is_number}
+use Rattle.ifmap_lemmas.specs.Orderings.{less_turned}
 use Rattle.ifmap_meta.specs.declared.stored.Stored.{Stored}
 use Rattle.ifmap_meta.specs.Whole.{IsWhole}
 use Rattle.ifmap_plans.specs.declared.plans.ItemChange.{ItemChange}
 use Rattle.ifmap_plans.specs.Lists.{IsList, difference, next_on, same_stored}
 use Rattle.ifmap_plans.specs.Plans.{AreExact, AreWhole, Fits, FitsItem, IsAfter, IsChange, change_of, changed_by}
 use Rattle.ifmap_plans.specs.laws.KeyLaws.{items_equiv, items_tied, items_total}
-use Rattle.ifmap_plans.specs.laws.PlacingLaws.{greater_of_less}
 use Rattle.ifmap_view.specs.declared.attachments.Attachment.{Attachment}
 use Rattle.ifmap_view.specs.Attachments.{IsGraph, stored_order}
 use Rattle.ifmap_view.specs.Rows.{stored_on}
@@ -72,7 +76,7 @@ found_later : (e : Entry) (es ys : List Entry) → AllOver e.0 ys
     → AllByRecursion (λ y. lookup (is_at (item_order y.0)) (e ∷ es) ≡ Some y.1) ys
 found_later e es [] over all = tt
 found_later e es (y ∷ ys) over all = (
-  ap (λ o. cond (is_eq o) (Some e.1) (lookup (is_at (item_order y.0)) es)) (greater_of_less Item item_order items_total e.0 y.0 over.0)
+  ap (λ o. cond (is_eq o) (Some e.1) (lookup (is_at (item_order y.0)) es)) (less_turned items_total e.0 y.0 over.0)
       ∙ all.0,
   found_later e es ys over.1 all.1,
 )
@@ -212,12 +216,8 @@ module _ (rows : List Attachment) where
             → changed_by (change_of (kept_change (change_to rows e) l ++ changes_to rows es) x) (stored_on x rows) ≡ e.1
         at [] is same alike none =
             let empty = both_empty (change_to rows e).removed (change_to rows e).added is in
-            ap (λ o. changed_by o (stored_on x rows)) none ∙ alike ∙ sym (unmoved (stored_on e.0 rows))
+            ap (λ o. changed_by o (stored_on x rows)) none ∙ alike ∙ sym (nothing_moved (stored_on e.0 rows))
             ∙ (λ i. next_on (sym empty.0 i) (sym empty.1 i) (stored_on e.0 rows)) ∙ made e sound.0
-          where
-            unmoved : (xs : List Stored) → next_on [] [] xs ≡ xs
-            unmoved [] = refl
-            unmoved (y ∷ ys) = ap (λ l. y ∷ l) (unmoved ys)
         at (s ∷ l) is same alike none =
             ap (λ b. changed_by (cond b (Some (change_to rows e)) (change_of (changes_to rows es) x)) (stored_on x rows)) same
             ∙ ap (next_on (change_to rows e).removed (change_to rows e).added) alike ∙ made e sound.0

@@ -1,18 +1,19 @@
 -- The differences of two lists that rise, and that taking the one and putting the other makes the one list of the other.
 use Rattle.std.proofs.Common.{◌≡◌, ◌∙◌, refl, ap, Bool, true, false, cond, not, ◌||◌, List, [], ◌∷◌}
 use Rattle.std.specs.Cmp.{tied_itself}
-use Rattle.std.specs.List.{AllByRecursion, filter, list_any}
+use Rattle.std.specs.List.{AllByRecursion, list_any}
 use Rattle.std.specs.List.Sorted.{IsStrictlySortedBy}
 use Rattle.std.specs.Ordering.{eq_by_cmp, is_eq, ordering_reverse}
 use Rattle.std.specs.declared.cmp.Ordering.{Ordering}
 use Rattle.std.specs.declared.cmp.Ordering.TheVariants.{Less, Equal, Greater}
-use Rattle.ifmap_lemmas.specs.Filters.{all_filter, all_weaker, filter_all}
+use Rattle.ifmap_lemmas.specs.Filters.{all_filter, all_weaker, filter_alike, filter_all}
+use Rattle.ifmap_lemmas.specs.Orderings.{less_turned}
 use Rattle.ifmap_meta.specs.declared.stored.Stored.{Stored}
 use Rattle.ifmap_meta.specs.Whole.{IsWhole}
 use Rattle.ifmap_plans.specs.Lists.{difference, next_on, put_each, same_stored, without}
 use Rattle.ifmap_plans.specs.Placing.{put}
 use Rattle.ifmap_plans.specs.laws.KeyLaws.{stored_total}
-use Rattle.ifmap_plans.specs.laws.PlacingLaws.{greater_of_less, put_front, put_less}
+use Rattle.ifmap_plans.specs.laws.PlacingLaws.{put_front, put_less}
 use Rattle.ifmap_view.specs.Attachments.{stored_order}
 use Rattle.ifmap_publish.proofs.Same.{greater_differs, less_differs, same_is, same_turned}
 
@@ -26,7 +27,7 @@ unfolding IsStrictlySortedBy
 sorted_first s xs up = up
 
 pub turned : (a b : Stored) → stored_order a b ≡ Less → stored_order b a ≡ Greater
-turned a b e = greater_of_less Stored stored_order stored_total a b e
+turned a b e = less_turned stored_total a b e
 
 pub above_above : (a b : Stored) (xs : List Stored) → stored_order a b ≡ Less → AllAbove b xs → AllAbove a xs
 above_above a b xs e all = all_weaker (λ y. stored_order b y ≡ Less) (λ y. stored_order a y ≡ Less)
@@ -39,11 +40,6 @@ above_tied a b xs e all = all_weaker (λ y. stored_order b y ≡ Less) (λ y. st
 pub none_same : (s : Stored) (xs : List Stored) → AllAbove s xs → list_any (same_stored s) xs ≡ false
 none_same s [] all = refl
 none_same s (x ∷ xs) all = ap (λ b. b || list_any (same_stored s) xs) (less_differs s x all.0) ∙ none_same s xs all.1
-
-pub filter_alike : {X : Type 0} (p q : X → Bool) (xs : List X) → AllByRecursion (λ x. p x ≡ q x) xs → filter p xs ≡ filter q xs
-filter_alike p q [] all = refl
-filter_alike p q (x ∷ xs) all =
-    ap (λ b. cond b (x ∷ filter p xs) (filter p xs)) all.0 ∙ ap (λ ys. cond (q x) (x ∷ ys) ys) (filter_alike p q xs all.1)
 
 -- one that is below all of the first list is passed over
 pub other_passed : (o : Stored) (os xs : List Stored) → AllAbove o xs → difference xs (o ∷ os) ≡ difference xs os

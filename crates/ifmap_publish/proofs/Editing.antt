@@ -1,17 +1,18 @@
 -- Which list an edit makes: where it begins, as more is taken and put, and what it tells at the end.
+-- Plan: (1) what makes an edit make a list (`makes_by`), and that it is the one that it means (`makes_it`); (2) where nothing is
+-- taken or put, all stays; (3) as more is taken and put; (4) keys: whole elements of the same bytes are of one key
+-- (`tied_key`), told by their words; (5) one more is attached, or what is stored under a key is taken.
 use Rattle.std.proofs.Common.{◌≡◌, ◌∙◌, refl, sym, ap, subst, ℕ, Bool, true, false, not, ◌||◌, List, [], ◌∷◌, Result, Ok, Err, OnOk}
-use Rattle.std.proofs.Math.Bool.{or-false}
-use Rattle.std.proofs.lemmas.Bool.{not-true}
 use Rattle.std.proofs.lemmas.List.Kept.{IsStrictlySortedBy-filter}
 use Rattle.std.proofs.lemmas.Map.Text.{is_eq-slice_cmp}
-use Rattle.std.specs.List.{AllByRecursion, Contains, filter}
+use Rattle.std.specs.List.{AllByRecursion, filter}
 use Rattle.std.specs.List.Sorted.{IsStrictlySortedBy}
 use Rattle.std.specs.Ordering.{eq_by_cmp, is_eq}
 use Rattle.std.specs.declared.cmp.Ordering.{Ordering}
 use Rattle.ifmap_elem.specs.declared.elements.Attribute.{Attribute}
 use Rattle.ifmap_elem.specs.declared.elements.Element.{Element}
-use Rattle.ifmap_lemmas.specs.Filters.{all_weaker, filter_none, filter_passes}
-use Rattle.ifmap_lemmas.specs.Having.{Has, has_from}
+use Rattle.ifmap_lemmas.specs.Filters.{filter_none}
+use Rattle.ifmap_lemmas.specs.Having.{Has}
 use Rattle.ifmap_lemmas.specs.Texts.{eq_tells}
 use Rattle.ifmap_meta.specs.declared.stored.Stored.{Stored}
 use Rattle.ifmap_meta.specs.Keys.{HaveOneKey, same_key}
@@ -22,18 +23,17 @@ use Rattle.ifmap_plans.specs.Lists.{difference, next_on, put_each, without}
 use Rattle.ifmap_plans.specs.Placing.{put}
 use Rattle.ifmap_plans.specs.laws.KeyLaws.{stored_equiv}
 use Rattle.ifmap_view.specs.Attachments.{stored_bytes, stored_order}
-use Rattle.ifmap_publish.specs.OnItems.{attach_on}
-use Rattle.ifmap_publish.specs.Working.{IsEdit, IsSound, Makes, is_among, list_by}
+use Rattle.ifmap_publish.specs.Working.{EditMakes, IsEdit, IsSound, is_among, list_by}
 use Rattle.ifmap_publish.specs.declared.edits.Edit.{Edit}
-use Rattle.ifmap_publish.proofs.Attaching.{sound_attached, sound_filter}
-use Rattle.ifmap_publish.proofs.Rising.{among_filter, filter_agrees, filter_neither, filter_turned, keyed_ties, moved, one_of_all, parted, put_back, put_filtered, put_itself, put_unfiltered}
+use Rattle.ifmap_publish.proofs.Attaching.{sound_filter}
+use Rattle.ifmap_publish.proofs.Rising.{among_filter, filter_agrees, filter_neither, filter_turned, moved, parted, put_back, put_filtered, put_unfiltered}
 use Rattle.ifmap_publish.proofs.Same.{elements_one}
 
 -- ---- what makes an edit make a list
 
 pub makes_by : (t q : Stored → Bool) (stored list : List Stored) (e : Edit) → IsStrictlySortedBy stored_order stored → IsSound list
     → e.taken ≡ filter t stored → e.put ≡ filter q list
-    → filter (λ s. not (t s)) stored ≡ filter (λ s. not (q s)) list → Makes stored e list
+    → filter (λ s. not (t s)) stored ≡ filter (λ s. not (q s)) list → EditMakes stored e list
 makes_by t q stored list e up s taken came stays =
     let t_alike : (r : Stored) → Has stored r → is_among e.taken r ≡ t r =
     λ r h. ap (λ l. is_among l r) taken ∙ among_filter t stored up r h in
@@ -49,14 +49,14 @@ makes_by t q stored list e up s taken came stays =
     }
 
 -- the list that it makes is the one that it means
-pub makes_it : (stored list : List Stored) (e : Edit) → Makes stored e list → list_by e stored ≡ list
+pub makes_it : (stored list : List Stored) (e : Edit) → EditMakes stored e list → list_by e stored ≡ list
 makes_it stored list e m =
     ap (put_each e.put) m.stays
     ∙ ap (λ l. put_each l (without e.put list)) m.put
     ∙ put_back (is_among e.put) list m.sound.keyed.rising
 
-pub is_edit : (stored list : List Stored) (e : Edit) → Makes stored e list → IsEdit stored e
-is_edit stored list e m = subst (Makes stored e) (sym (makes_it stored list e m)) m
+pub is_edit : (stored list : List Stored) (e : Edit) → EditMakes stored e list → IsEdit stored e
+is_edit stored list e m = subst (EditMakes stored e) (sym (makes_it stored list e m)) m
 
 none_among : (xs : List Stored) → AllByRecursion (λ s. is_among [] s ≡ false) xs
 none_among [] = tt
@@ -67,7 +67,7 @@ pub nothing_moved : (stored : List Stored) → next_on [] [] stored ≡ stored
 nothing_moved [] = refl
 nothing_moved (x ∷ xs) = ap (λ l. x ∷ l) (nothing_moved xs)
 
-pub nothing_made : (stored : List Stored) → IsSound stored → Makes stored (record { taken = []; put = [] }) stored
+pub nothing_made : (stored : List Stored) → IsSound stored → EditMakes stored (record { taken = []; put = [] }) stored
 nothing_made stored s = record {
   taken = sym (filter_none (is_among []) stored (none_among stored));
   put = sym (filter_none (is_among []) stored (none_among stored));
@@ -76,20 +76,20 @@ nothing_made stored s = record {
 }
 
 -- what an edit takes and puts stands in order
-pub taken_rises : (stored list : List Stored) (e : Edit) → IsStrictlySortedBy stored_order stored → Makes stored e list
+pub taken_rises : (stored list : List Stored) (e : Edit) → IsStrictlySortedBy stored_order stored → EditMakes stored e list
     → IsStrictlySortedBy stored_order e.taken
 taken_rises stored list e up m =
     subst (IsStrictlySortedBy stored_order) (sym m.taken) (IsStrictlySortedBy-filter stored_order (is_among e.taken) stored up)
 
-pub put_sound : (stored list : List Stored) (e : Edit) → Makes stored e list → IsSound e.put
+pub put_sound : (stored list : List Stored) (e : Edit) → EditMakes stored e list → IsSound e.put
 put_sound stored list e m = subst IsSound (sym m.put) (sound_filter (is_among e.put) list m.sound)
 
 -- ---- as more is taken and put
 
-module _ (stored list : List Stored) (e e2 : Edit) (up : IsStrictlySortedBy stored_order stored) (m : Makes stored e list) where
+module _ (stored list : List Stored) (e e2 : Edit) (up : IsStrictlySortedBy stored_order stored) (m : EditMakes stored e list) where
   -- what passes a test is taken wherever it stands
   pub makes_less : (k : Stored → Bool) → e2.taken ≡ filter (λ s. is_among e.taken s || k s) stored
-      → e2.put ≡ filter (λ s. not (k s)) e.put → Makes stored e2 (filter (λ s. not (k s)) list)
+      → e2.put ≡ filter (λ s. not (k s)) e.put → EditMakes stored e2 (filter (λ s. not (k s)) list)
   makes_less k taken left =
       let t = is_among e.taken in
       let q = is_among e.put in
@@ -102,7 +102,7 @@ module _ (stored list : List Stored) (e e2 : Edit) (up : IsStrictlySortedBy stor
   pub makes_more : (row : Stored) → IsWhole row → AllByRecursion (λ s. same_key row s ≡ false) list
       → AllByRecursion (λ s. is_eq (stored_order s row) ≡ false) list
       → e2.taken ≡ e.taken → e2.put ≡ put stored_order row e.put → IsSound (put stored_order row list)
-      → Makes stored e2 (put stored_order row list)
+      → EditMakes stored e2 (put stored_order row list)
   makes_more row w differ apart taken came s =
       let t = is_among e.taken in
       let q = is_among e.put in
@@ -150,60 +150,6 @@ key_not_told row s v w h = by (same_key row s) refl
     by true e = absurd (h ((keys_told row s v w).0 e))
     by false e = e
 
--- one more is attached
-module _ (stored list : List Stored) (e e2 : Edit) (row : Stored) (up : IsStrictlySortedBy stored_order stored) (m : Makes stored e list)
-    (w : IsWhole row) where
-  pub makes_attached : e2.taken ≡ filter (λ s. is_among e.taken s || same_key row s) stored → e2.put ≡ attach_on e.put row
-      → Makes stored e2 (attach_on list row)
-  makes_attached taken came =
-      let k : Stored → Bool = same_key row in
-      let others = filter (λ s. not (k s)) list in
-      let between : Edit = record { taken = e2.taken; put = filter (λ s. not (k s)) e.put } in
-      let less : Makes stored between others = makes_less stored list e between up m k taken refl in
-      let differ : AllByRecursion (λ s. k s ≡ false) others =
-      all_weaker (λ s. not (k s) ≡ true) (λ s. k s ≡ false) (λ s h. not-true (k s) h) others (filter_passes (λ s. not (k s)) list) in
-      makes_more stored others between e2 up less row w differ (apart_of_keys row others w less.sound.whole differ) refl came
-      (sound_attached row list w m.sound)
-
--- what is stored under a key is taken
-module _ (row : Stored) (stored taken : List Stored) (s : IsSound stored) (w : IsWhole row)
-    (is : taken ≡ filter (is_among taken) stored) where
-  pub key_taken : (found : Stored) → Contains stored found → HaveOneKey row found
-      → put stored_order found taken ≡ filter (λ r. is_among taken r || same_key row r) stored
-  key_taken found c h =
-      let has = has_from stored found c in
-      let key = key_told row found w (one_of_all IsWhole stored found s.whole has) h in
-      ap (put stored_order found) is
-      ∙ sym (put_filtered (is_among taken) found stored)
-      ∙ ap (filter (λ r. is_among taken r || eq_by_cmp stored_order found r)) (put_itself found stored s.keyed.rising has)
-      ∙ filter_agrees (λ r. is_among taken r || eq_by_cmp stored_order found r) (λ r. is_among taken r || same_key row r) stored
-      (λ r k. ap (λ b. is_among taken r || b) (keyed_ties row found stored s.keyed.rising s.keyed.keys has key r k))
-
-  pub no_key_taken : AllByRecursion (λ r. HaveOneKey row r → ⊥) stored
-      → taken ≡ filter (λ r. is_among taken r || same_key row r) stored
-  no_key_taken none =
-      is ∙ filter_agrees (is_among taken) (λ r. is_among taken r || same_key row r) stored
-      (λ r k. sym (ap (λ b. is_among taken r || b)
-      (key_not_told row r w (one_of_all IsWhole stored r s.whole k) (one_of_all (λ t. HaveOneKey row t → ⊥) stored r none k))
-      ∙ or-false (is_among taken r)))
-
--- and what is put under it goes
-module _ (row : Stored) (rows : List Stored) (s : IsSound rows) (w : IsWhole row) where
-  pub put_over : (found : Stored) → Contains rows found → HaveOneKey row found
-      → next_on (found ∷ []) (row ∷ []) rows ≡ attach_on rows row
-  put_over found c h =
-      let has = has_from rows found c in
-      let key = key_told row found w (one_of_all IsWhole rows found s.whole has) h in
-      ap (put stored_order row) (filter_agrees (λ r. not (eq_by_cmp stored_order found r || false)) (λ r. not (same_key row r)) rows
-      (λ r k. ap not (or-false (eq_by_cmp stored_order found r)
-      ∙ keyed_ties row found rows s.keyed.rising s.keyed.keys has key r k)))
-
-  pub put_beside : AllByRecursion (λ r. HaveOneKey row r → ⊥) rows → next_on [] (row ∷ []) rows ≡ attach_on rows row
-  put_beside none =
-      ap (put stored_order row) (filter_agrees (λ r. not (is_among [] r)) (λ r. not (same_key row r)) rows
-      (λ r k. sym (ap not (key_not_told row r w (one_of_all IsWhole rows r s.whole k)
-      (one_of_all (λ t. HaveOneKey row t → ⊥) rows r none k)))))
-
 -- what is taken out of a list by name is what passed
 pub passed_out : (k : Stored → Bool) (rows : List Stored) → IsStrictlySortedBy stored_order rows
     → next_on (filter k rows) [] rows ≡ filter (λ s. not (k s)) rows
@@ -212,11 +158,11 @@ passed_out k rows up =
 
 -- ---- what is told at the end
 
-pub removed_is : (stored list : List Stored) (e : Edit) → IsStrictlySortedBy stored_order stored → Makes stored e list
+pub removed_is : (stored list : List Stored) (e : Edit) → IsStrictlySortedBy stored_order stored → EditMakes stored e list
     → difference e.taken e.put ≡ difference stored list
 removed_is stored list e up m = moved stored list e.taken e.put up m.taken m.put m.stays
 
-pub added_is : (stored list : List Stored) (e : Edit) → Makes stored e list → difference e.put e.taken ≡ difference list stored
+pub added_is : (stored list : List Stored) (e : Edit) → EditMakes stored e list → difference e.put e.taken ≡ difference list stored
 added_is stored list e m = moved list stored e.put e.taken m.sound.keyed.rising m.put m.taken (sym m.stays)
 
 -- what is ensured after all memory was there

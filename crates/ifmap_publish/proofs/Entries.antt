@@ -20,7 +20,7 @@ use Rattle.ifmap_view.specs.declared.attachments.Attachment.{Attachment}
 use Rattle.ifmap_view.specs.Rows.{stored_on}
 use Rattle.ifmap_publish.specs.Apply.{Authorship, apply, apply_op, stored_of}
 use Rattle.ifmap_publish.specs.OnItems.{apply_op_on, attach_all, item_of, op_on}
-use Rattle.ifmap_publish.specs.Working.{AreEdits, IsEdit, IsSound, Makes, edit_or, list_by, working}
+use Rattle.ifmap_publish.specs.Working.{AreEdits, EditMakes, IsEdit, IsSound, edit_or, list_by, working}
 use Rattle.ifmap_publish.specs.declared.edits.Edit.{Edit}
 use Rattle.ifmap_publish.proofs.Attaching.{attached_as_stored}
 use Rattle.ifmap_publish.proofs.Editing.{is_edit, makes_it, nothing_made, nothing_moved}
@@ -92,12 +92,13 @@ module _ (rows : List Attachment) where
 -- an update makes of its item what its elements do, as they are stored
 pub update_made : (rows : List Attachment) (by : Authorship) (op : PublishOp) (item : Item) (elements : List Metadata) (forever : Bool)
     (edit after : Edit) (made : List Stored) → op ≡ Update item elements forever → made ≡ map (stored_of by forever) elements
-    → Makes (stored_on item rows) after (attach_all (list_by edit (stored_on item rows)) made)
-    → Makes (stored_on (item_of op) rows) after (op_on by op (list_by edit (stored_on (item_of op) rows)))
+    → EditMakes (stored_on item rows) after (attach_all (list_by edit (stored_on item rows)) made)
+    → EditMakes (stored_on (item_of op) rows) after (op_on by op (list_by edit (stored_on (item_of op) rows)))
 update_made rows by op item elements forever edit after made is so m =
     let list = list_by edit (stored_on item rows) in
-    subst (λ (o : PublishOp). Makes (stored_on (item_of o) rows) after (op_on by o (list_by edit (stored_on (item_of o) rows)))) (sym is)
-    (subst (Makes (stored_on item rows) after) (ap (attach_all list) so ∙ attached_as_stored by forever elements list) m)
+    subst (λ (o : PublishOp). EditMakes (stored_on (item_of o) rows) after (op_on by o (list_by edit (stored_on (item_of o) rows))))
+    (sym is)
+    (subst (EditMakes (stored_on item rows) after) (ap (attach_all list) so ∙ attached_as_stored by forever elements list) m)
 
 -- one operation
 module _ (rows : List Attachment) (by : Authorship) (op : PublishOp) (es : List Entry) (mid new : Item → Option Edit)
@@ -105,7 +106,7 @@ module _ (rows : List Attachment) (by : Authorship) (op : PublishOp) (es : List 
     (taken : edit ≡ edit_or (lookup (is_at (item_order (item_of op))) es))
     (others : (q : Item) → same_item (item_of op) q ≡ false → mid q ≡ lookup (is_at (item_order q)) es)
     (put : (q : Item) → new q ≡ cond (is_eq (item_order key q)) (Some after) (mid q))
-    (made : Makes (stored_on (item_of op) rows) after (op_on by op (list_by edit (stored_on (item_of op) rows)))) where
+    (made : EditMakes (stored_on (item_of op) rows) after (op_on by op (list_by edit (stored_on (item_of op) rows)))) where
   pub op_applied : (x : Item)
       → working rows new x ≡ apply_op_on x by op (working rows (λ q. lookup (is_at (item_order q)) es) x)
   op_applied x =

@@ -1,7 +1,12 @@
 -- What stands on an item after the attachments change is made of what stood on it alone.
+-- The plan: a filter of attachments is one of what stands on the item where both tests say the same there (on_filter);
+-- an attachment that is put in on another item leaves what stands here (the module over an item), and one on this item is put in here,
+-- where it stands by its bytes alone (attach_here); an operation is one or the other (op_told), and operations go by their number
+-- (apply_told); a retraction is a filter (retract_told).
 use Rattle.std.proofs.Common.{◌≡◌, ◌∙◌, refl, sym, ap, Bool, true, false, not, ◌&&◌, List, [], ◌∷◌, ◌++◌, Option, inl, inr}
 use Rattle.std.proofs.lemmas.Bool.{cases_Bool}
 use Rattle.std.proofs.lemmas.List.{append-nil}
+use Rattle.std.specs.Cmp.{Equal-is}
 use Rattle.std.specs.List.{AllByRecursion, filter}
 use Rattle.std.specs.Ordering.{is_eq, is_gt, is_lt, ordering_then}
 use Rattle.std.specs.declared.cmp.Ordering.{Ordering}
@@ -26,13 +31,8 @@ use Rattle.ifmap_publish.specs.declared.who.Who.{Who}
 use Rattle.ifmap_publish.specs.Retract.{is_of, retract, retract_on}
 use Rattle.ifmap_publish.specs.OnItems.{apply_on, apply_op_on, attach_on, delete_on, update_on}
 
-pub is_equal : (o : Ordering) → is_eq o ≡ true → o ≡ Equal
-is_equal Less e = cc
-is_equal Equal e = refl
-is_equal Greater e = cc
-
 pub tied : (a b : Item) → same_item a b ≡ true → item_order a b ≡ Equal
-tied a b e = is_equal (item_order a b) (sym (items_tied a b) ∙ e)
+tied a b e = (Equal-is (item_order a b)).0 (sym (items_tied a b) ∙ e)
 
 -- one that stands on x is told from another as x is
 pub told_as : (x a b : Item) → same_item b x ≡ true → same_item a b ≡ same_item a x

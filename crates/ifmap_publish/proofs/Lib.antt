@@ -3,8 +3,10 @@ pub mod Changing
 pub mod Differing
 pub mod Editing
 pub mod Entries
+pub mod Gathering
 pub mod Graphs
 pub mod Items
+pub mod Meeting
 pub mod Passing
 pub mod Retracted
 pub mod Rising

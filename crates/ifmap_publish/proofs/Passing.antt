@@ -9,10 +9,10 @@ use Rattle.std.specs.List.Sorted.{IsStrictlySortedBy}
 use Rattle.std.specs.Ordering.{is_lt, ordering_reverse}
 use Rattle.std.specs.declared.cmp.Ordering.{Ordering}
 use Rattle.std.specs.declared.cmp.Ordering.TheVariants.{Less, Equal, Greater}
+use Rattle.ifmap_lemmas.specs.Orderings.{greater_turned, less_turned}
 use Rattle.ifmap_meta.specs.declared.stored.Stored.{Stored}
 use Rattle.ifmap_plans.specs.Lists.{same_stored}
 use Rattle.ifmap_plans.specs.laws.KeyLaws.{stored_total}
-use Rattle.ifmap_plans.specs.laws.PlacingLaws.{greater_of_less, less_of_greater}
 use Rattle.ifmap_view.specs.Attachments.{stored_order}
 use Rattle.ifmap_publish.proofs.Differing.{AllAbove, above_above, above_tied, none_same, sorted_first}
 use Rattle.ifmap_publish.proofs.Same.{greater_differs}
@@ -28,7 +28,7 @@ below_from first row s e from = by (stored_order s row) refl from
     by : (o : Ordering) → stored_order s row ≡ o → is_lt o ≡ false → stored_order first s ≡ Less
     by Less is f = let q : true ≡ false = f in cc
     by Equal is f = alike_right stored_total s row first is ∙ e
-    by Greater is f = stored_total.trans first row s e (less_of_greater Stored stored_order stored_total s row is)
+    by Greater is f = stored_total.trans first row s e (greater_turned stored_total s row is)
 
 pub itself_from : (row : Stored) → IsFrom row row
 itself_from row = ap is_lt (tied_itself stored_total row)
@@ -41,7 +41,7 @@ pub passed : (row : Stored) (rest after rows : List Stored) → IsStrictlySorted
 passed row rest after rows up (first, is, e) same = (
   (sorted_first first after (subst (IsStrictlySortedBy stored_order) is up)).1,
   λ s from. sym (ap (λ b. b || list_any (same_stored s) after)
-      (greater_differs s first (greater_of_less Stored stored_order stored_total first s (below_from first row s e from))))
+      (greater_differs s first (less_turned stored_total first s (below_from first row s e from))))
       ∙ sym (ap (list_any (same_stored s)) is) ∙ same s from,
 )
 
@@ -62,7 +62,7 @@ first_tells row first after rows is up from =
     by : (o : Ordering) → stored_order first row ≡ o → is_lt o ≡ false → AllAbove first after → AllAbove row after
     by Less e f all = let q : true ≡ false = f in cc
     by Equal e f all = above_tied row first after (stored_total.antisymm row first ∙ ap ordering_reverse e) all
-    by Greater e f all = above_above row first after (less_of_greater Stored stored_order stored_total first row e) all
+    by Greater e f all = above_above row first after (greater_turned stored_total first row e) all
 
 pub none_first : (row : Stored) (rows : List Stored) → length rows ≡ 0 → false ≡ list_any (same_stored row) rows
 none_first row [] e = refl
@@ -91,7 +91,7 @@ all_from row first after rows is up start =
     later [] all = tt
     later (y ∷ ys) all = (from y all.0, later ys all.1)
 
-sorted_drop : (i : ℕ) (xs : List Stored) → IsStrictlySortedBy stored_order xs → IsStrictlySortedBy stored_order (drop i xs)
+pub sorted_drop : (i : ℕ) (xs : List Stored) → IsStrictlySortedBy stored_order xs → IsStrictlySortedBy stored_order (drop i xs)
 unfolding IsStrictlySortedBy
 sorted_drop zero xs up = up
 sorted_drop (suc i) [] up = up
@@ -121,6 +121,6 @@ module _ (one other rest next : List Stored) (i : ℕ) (row : Stored) (up : IsSt
           → AllByRecursion (λ s. list_any (same_stored s) next ≡ list_any (same_stored s) other) ys
       walk [] over h = tt
       walk (y ∷ ys) over h = (
-        stays y (ap is_lt (greater_of_less Stored stored_order stored_total row y over.0)) ∙ h.0,
+        stays y (ap is_lt (less_turned stored_total row y over.0)) ∙ h.0,
         walk ys over.1 h.1,
       )

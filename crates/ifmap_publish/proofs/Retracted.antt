@@ -1,7 +1,11 @@
 -- A walk over the items that carry attachments, from each of which what is retracted goes.
+-- The plan: on one item what goes is the difference and nothing comes (goes, comes); the items so far rise, carry something, and are
+-- all that are not above the last (IsSoFar), at the first step and from each to the next (so_far_none, so_far_next); at the end they are
+-- all that carry something, so what is to stand on each is what the retraction leaves (all_told), their lists are sound and their keys
+-- rise (all_sound, all_up); the steps are their number (steps_are), and fewer are above each next one, so the walk ends (falls).
 use Rattle.std.proofs.Common.{◌≡◌, ◌≢◌, ◌∙◌, ◌⊎◌, refl, sym, ap, subst, ℕ, ◌+◌, ◌≤◌, ◌<◌, Bool, true, false, cond, not, ◌||◌, List, [], ◌∷◌}
 use Rattle.std.proofs.Common.{◌++◌, map, length, Option, Some, None, inl, inr, arith}
-use Rattle.std.proofs.lemmas.Bool.{cases_Bool}
+use Rattle.std.proofs.lemmas.Bool.{cases_Bool, or_right}
 use Rattle.std.proofs.lemmas.List.{append_assoc, length-append, map-append}
 use Rattle.std.proofs.lemmas.List.Folds.{list_any-append}
 use Rattle.std.specs.BTreeMap.{is_at}
@@ -12,13 +16,13 @@ use Rattle.std.specs.Map.{keys_of, lookup}
 use Rattle.std.specs.Ordering.{is_eq, is_lt}
 use Rattle.std.proofs.lemmas.Cmp.{alike_right}
 use Rattle.std.proofs.lemmas.Map.Views.{any-filter_same}
-use Rattle.ifmap_lemmas.specs.Orderings.{is_less}
+use Rattle.ifmap_lemmas.specs.Orderings.{greater_turned, is_less, not_both}
 use Rattle.std.specs.Str.{bytes_eq}
 use Rattle.std.specs.declared.cmp.Ordering.{Ordering}
 use Rattle.std.specs.declared.cmp.Ordering.TheVariants.{Less, Equal, Greater}
 use Rattle.ifmap_ident.specs.declared.items.Item.{Item}
 use Rattle.ifmap_ident.specs.Items.{IsCanonItem, item_order, same_item}
-use Rattle.ifmap_lemmas.specs.Filters.{all_weaker, filter_all, filter_none}
+use Rattle.ifmap_lemmas.specs.Filters.{all_weaker, filter_alike, filter_all, filter_none}
 use Rattle.ifmap_lemmas.specs.Having.{Has, any_has, filter_has, has_any, has_filter}
 use Rattle.ifmap_lemmas.specs.Members.{both_all}
 use Rattle.ifmap_meta.specs.declared.stored.Stored.{Stored}
@@ -27,7 +31,6 @@ use Rattle.ifmap_plans.specs.After.{IsAbove, IsNextItem, NoItem, items_of}
 use Rattle.ifmap_plans.specs.Lists.{difference, same_stored}
 use Rattle.ifmap_plans.specs.Plans.{AreWhole}
 use Rattle.ifmap_plans.specs.laws.KeyLaws.{items_equiv, items_tied, items_total}
-use Rattle.ifmap_plans.specs.laws.PlacingLaws.{greater_of_less, less_of_greater}
 use Rattle.ifmap_view.specs.declared.attachments.Attachment.{Attachment}
 use Rattle.ifmap_view.specs.Attachments.{IsGraph}
 use Rattle.ifmap_view.specs.Rows.{stored_on}
@@ -37,7 +40,6 @@ use Rattle.ifmap_publish.specs.Retract.{ends_with, is_of, retract, retract_on}
 use Rattle.ifmap_publish.specs.Working.{change_to, changes_to, kept_change}
 use Rattle.ifmap_publish.proofs.Attaching.{sound_filter}
 use Rattle.ifmap_publish.proofs.Changing.{AreSound, list_or, standing}
-use Rattle.ifmap_publish.proofs.Differing.{filter_alike}
 use Rattle.ifmap_publish.proofs.Entries.{stored_alike}
 use Rattle.ifmap_publish.proofs.Graphs.{sound_on}
 use Rattle.ifmap_publish.proofs.Items.{every, retract_told, tied, told_as}
@@ -112,7 +114,7 @@ below_next (Some a) j k not up = by (item_order a j) refl
     by : (o : Ordering) → item_order a j ≡ o → item_order j k ≡ Less
     by Less e = absurd (not e)
     by Equal e = sym (items_total.congr a j k e) ∙ up
-    by Greater e = items_total.trans j a k (less_of_greater Item item_order items_total a j e) up
+    by Greater e = items_total.trans j a k (greater_turned items_total a j e) up
 
 -- the items so far
 pub record IsSoFar (who : Who) (rows : List Attachment) (changes : List ItemChange) (last : Option Item) (before steps : ℕ) : Type 0 where
@@ -167,30 +169,23 @@ so_far_next who rows changes more last before steps after k so next canon one is
       up = sorted_push so.keys k so.up below;
       carry = both_all (λ j. stored_on j rows ≢ []) so.keys (k ∷ []) so.carry (next.carries, tt);
       within = both_all (λ j. item_order k j ≡ Less → ⊥) so.keys (k ∷ [])
-          (all_weaker (λ j. item_order j k ≡ Less) (λ j. item_order k j ≡ Less → ⊥) (λ j l m. not_both j l m) so.keys below)
+          (all_weaker (λ j. item_order j k ≡ Less) (λ j. item_order k j ≡ Less → ⊥) (λ j l m. not_both items_total j k l m) so.keys below)
           ((λ m. not_itself m), tt);
       told = λ x full under. list_any-append (same_item x) so.keys (k ∷ []) ∙ at x full under (item_order k x) refl;
       count = let n = length-append so.keys (k ∷ []) in omega (arith, one, so.count, n);
     }
   where
-    not_both : (j : Item) → item_order j k ≡ Less → item_order k j ≡ Less → ⊥
-    not_both j l m = let q : Greater ≡ Less = sym (greater_of_less Item item_order items_total j k l) ∙ m in cc
-
     not_itself : item_order k k ≡ Less → ⊥
     not_itself m = let q : Equal ≡ Less = sym (tied_itself items_total k) ∙ m in cc
-
-    or_true : (b : Bool) → (b || true) ≡ true
-    or_true true = refl
-    or_true false = refl
 
     at : (x : Item) → stored_on x rows ≢ [] → (item_order k x ≡ Less → ⊥) → (o : Ordering) → item_order k x ≡ o
         → (list_any (same_item x) so.keys || list_any (same_item x) (k ∷ [])) ≡ true
     at x full under Less e = absurd (under e)
     at x full under Equal e =
         let same : same_item x k ≡ true = items_equiv.symm x k ∙ items_tied k x ∙ ap is_eq e in
-        ap (λ b. list_any (same_item x) so.keys || (b || false)) same ∙ or_true (list_any (same_item x) so.keys)
+        ap (λ b. list_any (same_item x) so.keys || (b || false)) same ∙ or_right (list_any (same_item x) so.keys) true refl
     at x full under Greater e = elim (above_or_not last x) [
-      | inl over ↦ absurd (next.least x over full (less_of_greater Item item_order items_total k x e))
+      | inl over ↦ absurd (next.least x over full (greater_turned items_total k x e))
       | inr least ↦ ap (λ b. b || list_any (same_item x) (k ∷ [])) (so.told x full least)
     ]
 

@@ -1,42 +1,38 @@
 -- Members of lists that rise, found again in what a filter leaves of them.
+-- The plan: filters change places, and go together (filter_turned, filter_neither, filter_both); in a list that rises those of one place
+-- are one, and where keys are distinct those of one key (one_place, one_key), so a member is among what a filter leaves where it passes
+-- (among_filter); one that is put passes or not with the rest, which stands below and above it (put_filtered, put_unfiltered, parted);
+-- so what passes, put on what does not, is all (put_back), and lists that share what stays differ in what was taken and put (moved).
 use Rattle.std.proofs.Common.{◌≡◌, ◌∙◌, refl, sym, ap, subst, Bool, true, false, cond, not, ◌||◌, ◌&&◌, List, [], ◌∷◌, ◌++◌, inl, inr}
 use Rattle.std.proofs.Math.Bool.{or-false, or-true}
 use Rattle.std.proofs.lemmas.Bool.{and_parts, cases_Bool}
 use Rattle.std.proofs.lemmas.List.Elements.{filter-append}
 use Rattle.std.proofs.lemmas.Map.Text.{is_eq-slice_cmp}
+use Rattle.std.specs.Cmp.{Equal-is}
 use Rattle.std.specs.List.{AllByRecursion, IsDistinct, filter, list_any}
 use Rattle.std.specs.List.Sorted.{IsStrictlySortedBy}
 use Rattle.std.specs.Ordering.{eq_by_cmp, is_eq, is_gt, is_lt, ordering_reverse}
 use Rattle.std.specs.Str.{bytes_eq}
 use Rattle.std.specs.declared.cmp.Ordering.{Ordering}
 use Rattle.std.specs.declared.cmp.Ordering.TheVariants.{Less, Equal, Greater}
-use Rattle.ifmap_lemmas.specs.Filters.{all_filter, all_weaker, filter_all, filter_none}
-use Rattle.ifmap_lemmas.specs.Having.{Has, any_has, filter_has, has_any, has_filter}
+use Rattle.ifmap_lemmas.specs.Filters.{all_filter, all_weaker, filter_alike, filter_all, filter_none}
+use Rattle.ifmap_lemmas.specs.Having.{Has, all_has, any_has, filter_has, has_all, has_any, has_filter}
+use Rattle.ifmap_lemmas.specs.Orderings.{greater_turned}
 use Rattle.ifmap_meta.specs.declared.stored.Stored.{Stored}
 use Rattle.ifmap_meta.specs.Keys.{same_key}
 use Rattle.ifmap_plans.specs.Lists.{difference, put_each, same_life, same_stored, without}
 use Rattle.ifmap_plans.specs.Placing.{put}
 use Rattle.ifmap_plans.specs.laws.KeyLaws.{stored_equiv, stored_total}
-use Rattle.ifmap_plans.specs.laws.PlacingLaws.{less_of_greater, put_less}
+use Rattle.ifmap_plans.specs.laws.PlacingLaws.{put_less}
 use Rattle.ifmap_view.specs.Attachments.{stored_bytes, stored_order}
 use Rattle.ifmap_publish.specs.Working.{is_among}
-use Rattle.ifmap_publish.proofs.Differing.{AllAbove, filter_alike, itself, none_tied, put_below, put_past, sorted_first, turned}
-use Rattle.ifmap_publish.proofs.Items.{is_equal}
+use Rattle.ifmap_publish.proofs.Differing.{AllAbove, itself, none_tied, put_below, put_past, sorted_first, turned}
 use Rattle.ifmap_publish.proofs.Same.{same_itself}
 
 -- ---- what a filter keeps
 
-pub each_of : {X : Type 0} (P : X → Type 0) (xs : List X) → ((x : X) → Has xs x → P x) → AllByRecursion P xs
-each_of P [] h = tt
-each_of P (x ∷ xs) h = (h x (inl refl), each_of P xs (λ y q. h y (inr q)))
-
-pub one_of_all : {X : Type 0} (P : X → Type 0) (xs : List X) (x : X) → AllByRecursion P xs → Has xs x → P x
-one_of_all P [] x all h = absurd h
-one_of_all P (y ∷ ys) x all (inl e) = subst P e all.0
-one_of_all P (y ∷ ys) x all (inr h) = one_of_all P ys x all.1 h
-
 pub filter_agrees : {X : Type 0} (p q : X → Bool) (xs : List X) → ((x : X) → Has xs x → p x ≡ q x) → filter p xs ≡ filter q xs
-filter_agrees p q xs h = filter_alike p q xs (each_of (λ x. p x ≡ q x) xs h)
+filter_agrees p q xs h = filter_alike p q xs (has_all (λ x. p x ≡ q x) xs h)
 
 -- a member that is kept or not is filtered
 filter_cond : {X : Type 0} (p : X → Bool) (b : Bool) (x : X) (ys : List X)
@@ -94,10 +90,10 @@ pub one_place : (xs : List Stored) (a b : Stored) → IsStrictlySortedBy stored_
 one_place [] a b up h k e = absurd h
 one_place (x ∷ xs) a b up (inl p) (inl q) e = sym p ∙ q
 one_place (x ∷ xs) a b up (inl p) (inr k) e =
-    let less : stored_order x b ≡ Less = one_of_all (λ y. stored_order x y ≡ Less) xs b (sorted_first x xs up).0 k in
+    let less : stored_order x b ≡ Less = all_has (λ y. stored_order x y ≡ Less) xs (sorted_first x xs up).0 b k in
     let bad : Less ≡ Equal = sym less ∙ ap (λ y. stored_order y b) p ∙ e in cc
 one_place (x ∷ xs) a b up (inr h) (inl q) e =
-    let less : stored_order x a ≡ Less = one_of_all (λ y. stored_order x y ≡ Less) xs a (sorted_first x xs up).0 h in
+    let less : stored_order x a ≡ Less = all_has (λ y. stored_order x y ≡ Less) xs (sorted_first x xs up).0 a h in
     let bad : Greater ≡ Equal = sym (turned x a less) ∙ ap (stored_order a) q ∙ e in cc
 one_place (x ∷ xs) a b up (inr h) (inr k) e = one_place xs a b (sorted_first x xs up).1 h k e
 
@@ -107,10 +103,10 @@ unfolding IsDistinct
 one_key [] a b d h k e = absurd h
 one_key (x ∷ xs) a b d (inl p) (inl q) e = sym p ∙ q
 one_key (x ∷ xs) a b d (inl p) (inr k) e =
-    let differ : same_key x b ≡ false = one_of_all (λ y. same_key x y ≡ false) xs b d.0 k in
+    let differ : same_key x b ≡ false = all_has (λ y. same_key x y ≡ false) xs d.0 b k in
     let bad : false ≡ true = sym differ ∙ ap (λ y. same_key y b) p ∙ e in cc
 one_key (x ∷ xs) a b d (inr h) (inl q) e =
-    let differ : same_key x a ≡ false = one_of_all (λ y. same_key x y ≡ false) xs a d.0 h in
+    let differ : same_key x a ≡ false = all_has (λ y. same_key x y ≡ false) xs d.0 a h in
     let bad : false ≡ true = sym differ ∙ stored_equiv.symm x a ∙ ap (same_key a) q ∙ e in cc
 one_key (x ∷ xs) a b d (inr h) (inr k) e = one_key xs a b d.1 h k e
 
@@ -148,7 +144,7 @@ among_filter q (x ∷ xs) up s (inl e) =
         ap (λ b. is_among (cond b (x ∷ filter q xs) (filter q xs)) x) t
         ∙ none_tied x (filter q xs) (all_filter (λ y. stored_order x y ≡ Less) q xs (sorted_first x xs up).0) ∙ sym t
 among_filter q (x ∷ xs) up s (inr h) =
-    let less : stored_order x s ≡ Less = one_of_all (λ y. stored_order x y ≡ Less) xs s (sorted_first x xs up).0 h in
+    let less : stored_order x s ≡ Less = all_has (λ y. stored_order x y ≡ Less) xs (sorted_first x xs up).0 s h in
     by (q x) less (among_filter q xs (sorted_first x xs up).1 s h)
   where
     by : (b : Bool) → stored_order x s ≡ Less → is_among (filter q xs) s ≡ q s
@@ -167,7 +163,7 @@ put_itself r (x ∷ xs) up (inl e) =
     ++ x ∷ (cond (is_gt o) (x ∷ filter (λ y. is_gt (stored_order y x)) xs) (filter (λ y. is_gt (stored_order y x)) xs))) (itself x)
     ∙ put_below x xs (sorted_first x xs up).0)
 put_itself r (x ∷ xs) up (inr h) =
-    let less : stored_order x r ≡ Less = one_of_all (λ y. stored_order x y ≡ Less) xs r (sorted_first x xs up).0 h in
+    let less : stored_order x r ≡ Less = all_has (λ y. stored_order x y ≡ Less) xs (sorted_first x xs up).0 r h in
     put_less Stored stored_order stored_total r x xs less ∙ ap (λ l. x ∷ l) (put_itself r xs (sorted_first x xs up).1 h)
 
 not_tied : (q : Stored → Bool) (row : Stored) (s : Stored) (o : Ordering) → stored_order s row ≡ o → is_eq o ≡ false
@@ -247,7 +243,7 @@ parted row [] up apart = refl
 parted row (x ∷ xs) up apart = by (stored_order x row) refl (parted row xs (sorted_first x xs up).1 apart.1)
   where
     greater : stored_order x row ≡ Greater → (y : Stored) → stored_order x y ≡ Less → stored_order y row ≡ Greater
-    greater e y l = turned row y (stored_total.trans row x y (less_of_greater Stored stored_order stored_total x row e) l)
+    greater e y l = turned row y (stored_total.trans row x y (greater_turned stored_total x row e) l)
 
     above : stored_order x row ≡ Greater → AllByRecursion (λ y. stored_order y row ≡ Greater) xs
     above e = all_weaker (λ y. stored_order x y ≡ Less) (λ y. stored_order y row ≡ Greater) (λ y l. greater e y l) xs
@@ -294,7 +290,7 @@ same_ties : (a b : Stored) → same_stored a b ≡ true → stored_order a b ≡
 same_ties a b e =
     let parts = and_parts (bytes_eq (stored_bytes a) (stored_bytes b) && bytes_eq a.publisher b.publisher) (same_life a.life b.life) e in
     let texts = and_parts (bytes_eq (stored_bytes a) (stored_bytes b)) (bytes_eq a.publisher b.publisher) parts.0 in
-    is_equal (stored_order a b) (is_eq-slice_cmp (stored_bytes a) (stored_bytes b) ∙ texts.0)
+    (Equal-is (stored_order a b)).0 (is_eq-slice_cmp (stored_bytes a) (stored_bytes b) ∙ texts.0)
 
 module _ (xs ys xt yt : List Stored) (up : IsStrictlySortedBy stored_order xs) (left : xt ≡ filter (is_among xt) xs)
     (right : yt ≡ filter (is_among yt) ys) (stays : without xt xs ≡ without yt ys) where

@@ -1,14 +1,16 @@
 -- What is taken from items and put there while a publish is applied, and what is to stand on them.
-use Rattle.std.specs.Prelude.{◌≡◌, Bool, List, [], ◌∷◌, ◌++◌, Option, Some, None}
+use Rattle.std.specs.Prelude.{◌≡◌, Bool, cond, not, List, [], ◌∷◌, ◌++◌, MatchOption, Option, Some, None}
 use Rattle.std.specs.List.{AllByRecursion, filter, list_any}
 use Rattle.std.specs.List.Sorted.{IsStrictlySortedBy}
 use Rattle.std.specs.Ordering.{eq_by_cmp}
 use Rattle.ifmap_ident.specs.declared.items.Item.{Item}
 use Rattle.ifmap_ident.specs.Items.{IsCanonItem}
+use Rattle.ifmap_lemmas.specs.Having.{Has}
 use Rattle.ifmap_meta.specs.declared.stored.Stored.{Stored}
+use Rattle.ifmap_meta.specs.Keys.{same_key}
 use Rattle.ifmap_meta.specs.Whole.{IsWhole}
 use Rattle.ifmap_plans.specs.declared.plans.ItemChange.{ItemChange}
-use Rattle.ifmap_plans.specs.Lists.{IsList, difference, next_on, without}
+use Rattle.ifmap_plans.specs.Lists.{IsList, difference, next_on, put_each, without}
 use Rattle.ifmap_view.specs.declared.attachments.Attachment.{Attachment}
 use Rattle.ifmap_view.specs.Attachments.{stored_order}
 use Rattle.ifmap_view.specs.Rows.{stored_on}
@@ -23,8 +25,31 @@ pub record IsSound (list : List Stored) : Type 0 where
 abbrev pub is_among : List Stored → Stored → Bool
 is_among list s = list_any (λ r. eq_by_cmp stored_order r s) list
 
+-- one of these has its key
+abbrev pub is_keyed : List Stored → Stored → Bool
+is_keyed keys s = list_any (λ r. same_key r s) keys
+
+-- of a list, those that have the key of one of some
+pub record AreKeyed (list keys found : List Stored) : Type 0 where
+  pub there : (s : Stored) → Has found s → Has list s
+  pub among : (s : Stored) → Has list s → is_among found s ≡ is_keyed keys s
+
+-- some more in a list, instead of those with their keys
+abbrev pub over_keys : List Stored → List Stored → List Stored
+over_keys list more = put_each more (filter (λ s. not (is_keyed more s)) list)
+
+-- what follows the first of these, where that has the canonical bytes of another
+abbrev pub after_like : Stored → List Stored → Option (List Stored)
+after_like s [] = None
+after_like s (r ∷ rest) = cond (eq_by_cmp stored_order r s) (Some rest) None
+
+-- one of a list is passed: where it is the first of those that are taken, that one is passed too, else it is met if it passes a test
+abbrev pub Passes : (Stored → Bool) → Stored → List Stored → List Stored → List Stored → List Stored → Type 0
+Passes test s taken rest met next =
+    MatchOption (after_like s taken) ((rest ≡ taken) × (next ≡ met ++ filter test (s ∷ []))) (λ after. (rest ≡ after) × (next ≡ met))
+
 -- an edit makes a list of what is stored on an item: what it takes is stored, what it puts is in the list, and all else is in both
-pub record Makes (stored : List Stored) (e : Edit) (list : List Stored) : Type 0 where
+pub record EditMakes (stored : List Stored) (e : Edit) (list : List Stored) : Type 0 where
   pub taken : e.taken ≡ filter (is_among e.taken) stored
   pub put : e.put ≡ filter (is_among e.put) list
   pub stays : without e.taken stored ≡ without e.put list
@@ -36,7 +61,7 @@ list_by e stored = next_on e.taken e.put stored
 
 -- an edit of what is stored makes the list that it means
 abbrev pub IsEdit : List Stored → Edit → Type 0
-IsEdit stored e = Makes stored e (list_by e stored)
+IsEdit stored e = EditMakes stored e (list_by e stored)
 
 -- the edit that is there, or one that takes and puts nothing
 abbrev pub edit_or : Option Edit → Edit

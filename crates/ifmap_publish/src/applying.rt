@@ -8,7 +8,7 @@ ghost use Rattle.ifmap_view.specs.Attachments.{IsGraph};
 ghost use Rattle.ifmap_view.specs.Rows.{stored_on};
 ghost use Rattle.ifmap_publish.specs.Apply.{life_of, stored_of};
 ghost use Rattle.ifmap_publish.specs.OnItems.{item_of, op_on};
-ghost use Rattle.ifmap_publish.specs.Working.{IsEdit, Makes, list_by};
+ghost use Rattle.ifmap_publish.specs.Working.{EditMakes, IsEdit, list_by};
 
 use crate::authors::Author;
 use crate::edits::{Edit, attach_each, delete};
@@ -42,7 +42,7 @@ pub(crate) fn apply_op<V: Keyed>(
     requires whole { AreWhole (V.rows view.now) }
     requires fit { IsFitOp op.now }
     requires edit { IsEdit (stored_on (item_of op.now) (V.rows view.now)) edit.old }
-    ensures { OnOk result (Makes (stored_on (item_of op.now) (V.rows view.now)) edit.new
+    ensures { OnOk result (EditMakes (stored_on (item_of op.now) (V.rows view.now)) edit.new
         (op_on author.now op.now
         (list_by edit.old (stored_on (item_of op.now) (V.rows view.now))))) }
 {
@@ -53,7 +53,7 @@ pub(crate) fn apply_op<V: Keyed>(
             forever,
         } => {
             let rows = rows_of(alloc, author, *forever, &elements.0)?;
-            attach_each(view, item, &rows, edit)?;
+            attach_each(alloc, view, item, &rows, edit)?;
             Ok(())
         }
         PublishOp::Notify { .. } => Ok(()),

@@ -1,23 +1,24 @@
 //! What is taken from an item and put there, while operations are applied.
-ghost use Rattle.std.specs.Prelude.{◌≡◌, ◌||◌, [], IfOk, IfSome, IfNone, OnOk, Contains};
-ghost use Rattle.std.specs.List.{AllByRecursion, IsDistinct, filter};
+ghost use Rattle.std.specs.Prelude.{◌≡◌, ◌&&◌, ◌||◌, ◌∷◌, ◌++◌, not, None, Some, [], IfOk, MatchOption, OnOk};
+ghost use Rattle.std.specs.List.{AllByRecursion, filter};
 ghost use Rattle.std.specs.List.Sorted.{IsStrictlySortedBy};
 ghost use Rattle.ifmap_filter.specs.Meets.{meets_optional};
-ghost use Rattle.ifmap_meta.specs.Keys.{HaveOneKey, same_key};
 ghost use Rattle.ifmap_meta.specs.Whole.{IsWhole};
 ghost use Rattle.ifmap_plans.specs.Plans.{AreWhole};
 ghost use Rattle.ifmap_view.specs.Attachments.{IsGraph, stored_order};
 ghost use Rattle.ifmap_view.specs.Rows.{stored_on};
-ghost use Rattle.ifmap_publish.specs.OnItems.{attach_all, attach_on, delete_on};
-ghost use Rattle.ifmap_publish.specs.Working.{IsEdit, Makes, is_among, list_by};
+ghost use Rattle.ifmap_publish.specs.OnItems.{attach_all, delete_on};
+ghost use Rattle.ifmap_publish.specs.Working.{AreKeyed, EditMakes, IsEdit, IsSound, Passes, after_like, is_among, is_keyed, list_by, over_keys};
 
 use ifmap_elem::Many;
 use ifmap_filter::{Filter, meets_optional};
 use ifmap_ident::Item;
-use ifmap_plans::{place_of, put_row};
-use ifmap_rows::{Keyed, Rows};
+use ifmap_plans::row_order;
+use ifmap_rows::{Keyed, Rows, put_rows};
 use ifmap_view::{Row, View};
 use std::alloc::{AllocError as NoMemory, Global};
+use std::cmp::Ordering;
+use std::slice;
 
 /// What is taken from what is stored on an item, in order, and what is put there. All else stays.
 #[derive(Drop)]
@@ -37,8 +38,10 @@ pub(crate) fn no_edit(alloc: Global) -> Edit
     }
 }
 
-// Rows more on an item, from left to right, each instead of the one with its key.
+// Rows more on an item, from left to right, each instead of the one with its key: of those of one key
+// only the last is put, and all of them at once.
 pub(crate) fn attach_each<V: Keyed>(
+    alloc: Global,
     view: &V,
     item: &Item,
     rows: &[Row],
@@ -48,77 +51,114 @@ pub(crate) fn attach_each<V: Keyed>(
     requires whole { AreWhole (V.rows view.now) }
     requires rows { AllByRecursion IsWhole rows.now }
     requires edit { IsEdit (stored_on item.now (V.rows view.now)) edit.old }
-    ensures { OnOk result (Makes (stored_on item.now (V.rows view.now)) edit.new
+    ensures { OnOk result (EditMakes (stored_on item.now (V.rows view.now)) edit.new
         (attach_all (list_by edit.old (stored_on item.now (V.rows view.now))) rows.now)) }
 {
-    for row in rows {
-        attach(view, item, row.share()?, edit)?;
-    }
+    let last = keep_last(alloc, rows)?;
+    take_keys(alloc, view, item, last.as_slice(), &mut edit.taken.0)?;
+    put_over_keys(alloc, &mut edit.put, last.as_slice())?;
     Ok(())
 }
 
-// One row more on an item, instead of the one with its key.
-fn attach<V: Keyed>(view: &V, item: &Item, row: Row, edit: &mut Edit) -> Result<(), NoMemory>
-    requires graph { IsGraph (V.rows view.now) }
-    requires whole { AreWhole (V.rows view.now) }
-    requires row { IsWhole row }
-    requires edit { IsEdit (stored_on item.now (V.rows view.now)) edit.old }
-    ensures { OnOk result (Makes (stored_on item.now (V.rows view.now)) edit.new
-        (attach_on (list_by edit.old (stored_on item.now (V.rows view.now))) row)) }
+// Of so many rows each is put after the other.
+const FEW: usize = 64;
+
+// The rows that are left of these where each comes instead of the one with its key. Of many, each half is
+// done alone, and the later one is put over the earlier one, so that no row is moved often.
+fn keep_last(alloc: Global, rows: &[Row]) -> Result<Rows, NoMemory>
+    requires { AllByRecursion IsWhole rows.now }
+    ensures { IfOk result (λ last. last ≡ attach_all [] rows.now) }
 {
-    take_key(view, item, &row, &mut edit.taken.0)?;
-    put_over_key(&mut edit.put, row)?;
-    Ok(())
+    if rows.len() <= FEW {
+        return keep_last_of_few(alloc, rows);
+    }
+    let (front, rest) = rows.split_at(rows.len() / 2);
+    let mut last = keep_last(alloc, front)?;
+    let more = keep_last(alloc, rest)?;
+    put_over_keys(alloc, &mut last, more.as_slice())?;
+    Ok(last)
 }
 
-// Takes what is stored under the key of a row. Where that was taken before, it stays so.
-fn take_key<V: Keyed>(
+// The same, one after the other.
+fn keep_last_of_few(alloc: Global, rows: &[Row]) -> Result<Rows, NoMemory>
+    requires { AllByRecursion IsWhole rows.now }
+    ensures { IfOk result (λ last. last ≡ attach_all [] rows.now) }
+{
+    let mut last = Rows::new(alloc);
+    for row in rows {
+        put_over_keys(alloc, &mut last, slice::from_ref(row))?;
+    }
+    Ok(last)
+}
+
+// Rows more among those that are put, instead of those with their keys.
+fn put_over_keys(alloc: Global, put: &mut Rows, more: &[Row]) -> Result<(), NoMemory>
+    requires put { IsSound put.old }
+    requires more { AllByRecursion IsWhole more.now }
+    ensures { OnOk result (put.new ≡ over_keys put.old more.now) }
+{
+    let found = share_keyed(alloc, put, more)?;
+    put.exchange(&found, more)
+}
+
+// The rows that have the key of one of some, in order.
+fn share_keyed(alloc: Global, rows: &Rows, keys: &[Row]) -> Result<Vec<Row>, NoMemory>
+    requires rows { IsSound rows.now }
+    requires keys { AllByRecursion IsWhole keys.now }
+    ensures { IfOk result (λ found. AreKeyed rows.now keys.now found.items) }
+{
+    let mut found = Vec::new(alloc);
+    for row in keys {
+        if let Some(other) = rows.row_with_key(row) {
+            found.push(other.share()?)?;
+        }
+    }
+    found.sort_by(|one, other| row_order(one, other))?;
+    Ok(found)
+}
+
+// Takes what is stored under the keys of some rows. What was taken before stays so.
+fn take_keys<V: Keyed>(
+    alloc: Global,
     view: &V,
     item: &Item,
-    row: &Row,
+    keys: &[Row],
     taken: &mut Vec<Row>,
 ) -> Result<(), NoMemory>
     requires graph { IsGraph (V.rows view.now) }
     requires whole { AreWhole (V.rows view.now) }
-    requires row { IsWhole row.now }
+    requires keys { AllByRecursion IsWhole keys.now }
     requires taken { taken.old.items
         ≡ filter (is_among taken.old.items) (stored_on item.now (V.rows view.now)) }
     ensures { OnOk result (taken.new.items
-        ≡ filter (λ s. is_among taken.old.items s || same_key row.now s)
+        ≡ filter (λ s. is_among taken.old.items s || is_keyed keys.now s)
         (stored_on item.now (V.rows view.now))) }
 {
-    let Some(found) = view.row_with_key(item, row) else {
-        return Ok(());
-    };
-    put_row(taken, found.share()?)?;
-    Ok(())
+    let found = share_stored(alloc, view, item, keys)?;
+    put_rows(taken, &found)
 }
 
-// One row more among those that are put, instead of the one with its key.
-fn put_over_key(put: &mut Rows, row: Row) -> Result<(), NoMemory>
-    requires row { IsWhole row }
-    requires whole { AllByRecursion IsWhole put.old }
-    requires rising { IsStrictlySortedBy stored_order put.old }
-    requires keys { IsDistinct same_key put.old }
-    ensures { OnOk result (put.new ≡ attach_on put.old row) }
+// What is stored under the keys of some rows, in order.
+fn share_stored<V: Keyed>(
+    alloc: Global,
+    view: &V,
+    item: &Item,
+    keys: &[Row],
+) -> Result<Vec<Row>, NoMemory>
+    requires graph { IsGraph (V.rows view.now) }
+    requires whole { AreWhole (V.rows view.now) }
+    requires keys { AllByRecursion IsWhole keys.now }
+    ensures { IfOk result (λ found.
+        AreKeyed (stored_on item.now (V.rows view.now)) keys.now found.items) }
 {
-    match share_keyed(put, &row)? {
-        Some(found) => put.carry_out(&[found], &[row]),
-        None => put.carry_out(&[], &[row]),
+    let mut found = Vec::new(alloc);
+    for row in keys {
+        if let Some(other) = view.row_with_key(item, row) {
+            found.push(other.share()?)?;
+        }
     }
-}
-
-// The row that has the key of this one, once more.
-fn share_keyed(rows: &Rows, row: &Row) -> Result<Option<Row>, NoMemory>
-    ensures found { IfOk result (λ found. IfSome found (λ found.
-        Contains rows.now found × HaveOneKey row.now found)) }
-    ensures none { IfOk result (λ found. IfNone found
-        (AllByRecursion (λ s. HaveOneKey row.now s → ⊥) rows.now)) }
-{
-    match rows.row_with_key(row) {
-        Some(found) => Ok(Some(found.share()?)),
-        None => Ok(None),
-    }
+    found.sort_by(|one, other| row_order(one, other))?;
+    Ok(found)
 }
 
 // Takes what meets the filter from an item.
@@ -132,46 +172,86 @@ pub(crate) fn delete<V: View>(
     requires graph { IsGraph (V.rows view.now) }
     requires whole { AreWhole (V.rows view.now) }
     requires edit { IsEdit (stored_on item.now (V.rows view.now)) edit.old }
-    ensures { OnOk result (Makes (stored_on item.now (V.rows view.now)) edit.new
+    ensures { OnOk result (EditMakes (stored_on item.now (V.rows view.now)) edit.new
         (delete_on (list_by edit.old (stored_on item.now (V.rows view.now))) filter.now)) }
 {
-    let taken = taken_or_met(alloc, view.stored_at(item), filter, &edit.taken.0)?;
-    let met = rows_met(alloc, edit.put.as_slice(), filter)?;
-    edit.put.carry_out(&met, &[])?;
-    edit.taken = Many(taken);
+    let met = share_others_met(alloc, view.stored_at(item), filter, &edit.taken.0)?;
+    put_rows(&mut edit.taken.0, &met)?;
+    let left = share_met(alloc, edit.put.as_slice(), filter)?;
+    edit.put.carry_out(&left, &[])?;
     Ok(())
 }
 
-// The rows that are taken or meet the filter.
-fn taken_or_met(
+// The rows that meet the filter and are not taken: where all are taken, none is looked at.
+fn share_others_met(
     alloc: Global,
     rows: &[Row],
     test: &Option<Filter>,
     taken: &[Row],
 ) -> Result<Vec<Row>, NoMemory>
-    requires { IsStrictlySortedBy stored_order taken.now }
-    ensures { IfOk result (λ list. list.items
-        ≡ filter (λ s. is_among taken.now s || meets_optional test.now s.element) rows.now) }
+    requires rows { IsStrictlySortedBy stored_order rows.now }
+    requires taken { taken.now ≡ filter (is_among taken.now) rows.now }
+    ensures { IfOk result (λ met. met.items
+        ≡ filter (λ s. not (is_among taken.now s) && meets_optional test.now s.element)
+        rows.now) }
 {
-    let mut list = Vec::new(alloc);
-    for row in rows {
-        if is_among(taken, row) || meets_optional(test, row.stored().element.element()) {
-            list.push(row.share()?)?;
-        }
+    let mut met = Vec::new(alloc);
+    if taken.len() == rows.len() {
+        return Ok(met);
     }
-    Ok(list)
+    let mut rest = taken;
+    for row in rows {
+        rest = pass_row(rest, row, test, &mut met)?;
+    }
+    Ok(met)
 }
 
-// Whether a row of the same canonical bytes is among some that rise.
-fn is_among(rows: &[Row], row: &Row) -> bool
-    requires { IsStrictlySortedBy stored_order rows.now }
-    ensures { result ≡ is_among rows.now row.now }
+// Passes a row: where it is the first of those that are taken, what is taken after it is left, else it is
+// appended if it meets the filter.
+fn pass_row<'a>(
+    taken: &'a [Row],
+    row: &Row,
+    test: &Option<Filter>,
+    met: &mut Vec<Row>,
+) -> Result<&'a [Row], NoMemory>
+    ensures { IfOk result (λ rest. Passes (λ s. meets_optional test.now s.element)
+        row.now taken.now rest.now met.old.items met.new.items) }
 {
-    place_of(rows, row).is_ok()
+    match after_like(taken, row) {
+        Some(after) => Ok(after),
+        None => {
+            add_if_met(row, test, met)?;
+            Ok(taken)
+        }
+    }
+}
+
+// Appends a row that meets the filter.
+fn add_if_met(row: &Row, test: &Option<Filter>, met: &mut Vec<Row>) -> Result<(), NoMemory>
+    ensures { OnOk result (met.new.items
+        ≡ met.old.items ++ filter (λ s. meets_optional test.now s.element) (row.now ∷ [])) }
+{
+    if !meets_optional(test, row.stored().element.element()) {
+        return Ok(());
+    }
+    met.push(row.share()?)?;
+    Ok(())
+}
+
+// What follows the first row, where that has the canonical bytes of this one.
+fn after_like<'a>(rows: &'a [Row], row: &Row) -> Option<&'a [Row]>
+    ensures { MatchOption result (after_like row.now rows.now ≡ None)
+        (λ after. after_like row.now rows.now ≡ Some after.now) }
+{
+    let (first, after) = rows.split_first()?;
+    match row_order(first, row) {
+        Ordering::Equal => Some(after),
+        Ordering::Less | Ordering::Greater => None,
+    }
 }
 
 // The rows that meet the filter.
-fn rows_met(alloc: Global, rows: &[Row], test: &Option<Filter>) -> Result<Vec<Row>, NoMemory>
+fn share_met(alloc: Global, rows: &[Row], test: &Option<Filter>) -> Result<Vec<Row>, NoMemory>
     ensures { IfOk result (λ list. list.items
         ≡ filter (λ s. meets_optional test.now s.element) rows.now) }
 {

@@ -85,7 +85,7 @@ fn push_notes(alloc: Global, out: &mut String, notes: &Many<Note>) -> Result<(),
 }
 
 // A line for each item that changes, and then one for each note.
-fn told(alloc: Global, plan: &Plan) -> Result<String, NoMemory> {
+fn text_of_plan(alloc: Global, plan: &Plan) -> Result<String, NoMemory> {
     let mut out = String::new(alloc);
     for change in &plan.changes.0 {
         push_change(alloc, &mut out, change)?;
@@ -96,7 +96,7 @@ fn told(alloc: Global, plan: &Plan) -> Result<String, NoMemory> {
 
 // Whether this is what a plan tells.
 pub(crate) fn is_told(alloc: Global, plan: &Plan, wanted: &str) -> bool {
-    match told(alloc, plan) {
+    match text_of_plan(alloc, plan) {
         Ok(text) => text.as_str() == wanted,
         Err(_) => false,
     }

@@ -1,9 +1,9 @@
 -- An index stays one where a row goes from both lists, or comes to both.
-use Rattle.std.proofs.Common.{◌≡◌, refl, sym, ◌∙◌, ap, subst, inl, inr, Bool, true, false, not, List, [], Option, Some, None, IfSome, IfNone}
-use Rattle.std.proofs.lemmas.Bool.{cases_Bool}
+use Rattle.std.proofs.Common.{◌≡◌, sym, ◌∙◌, ap, subst, inl, inr, Bool, true, false, not, List, [], Option, Some, None, IfSome, IfNone}
+use Rattle.std.proofs.lemmas.Bool.{not-true}
 use Rattle.std.proofs.lemmas.Cmp.{nat_cmp_total, on_total, then_total}
 use Rattle.std.proofs.lemmas.List.Kept.{IsStrictlySortedBy-filter}
-use Rattle.std.specs.Cmp.{IsTotalOrder, tied_itself}
+use Rattle.std.specs.Cmp.{Equal-is, IsTotalOrder, tied_itself}
 use Rattle.std.specs.List.{filter, list_any}
 use Rattle.std.specs.List.Sorted.{IsStrictlySortedBy}
 use Rattle.std.specs.Ordering.{eq_by_cmp, is_eq, nat_cmp}
@@ -17,7 +17,8 @@ use Rattle.ifmap_plans.specs.laws.PlacingLaws.{put_sorted}
 use Rattle.ifmap_view.specs.Attachments.{stored_order}
 use Rattle.ifmap_rows.specs.Indexed.{IsIndexed, without_one, word_order}
 use Rattle.ifmap_meta.specs.Keys.{word_of}
-use Rattle.ifmap_rows.proofs.Rising.{has_put, has_put_one, is_equal, none_equal, only_one, put_again, put_has}
+use Rattle.ifmap_rows.specs.laws.JoiningLaws.{differs}
+use Rattle.ifmap_rows.specs.laws.RisingLaws.{has_put, has_put_one, none_equal, only_one, put_again, put_has}
 
 pub empty : IsIndexed [] []
 unfolding IsStrictlySortedBy
@@ -26,24 +27,16 @@ empty = record { rising = tt; worded = tt; there = λ s h. h; back = λ s h. h }
 pub words_total : IsTotalOrder word_order
 words_total = then_total (on_total word_of nat_cmp_total) stored_total
 
--- a test that fails at one that another test tells
-pub differs : (p q : Bool) → (p ≡ true → q ≡ true) → q ≡ false → p ≡ false
-differs p q f e = elim (cases_Bool p) [ inl t ↦ let u : q ≡ true = f t in cc | inr t ↦ t ]
-
-pub not_false : (p : Bool) → not p ≡ true → p ≡ false
-not_false true e = cc
-not_false false e = refl
-
 -- two that are equal in the index are equal by their bytes
 pub worded_equal : (a s : Stored) → is_eq (word_order a s) ≡ true → stored_order a s ≡ Equal
-worded_equal a s e = (both_equal (nat_cmp (word_of a) (word_of s)) (stored_order a s) (is_equal (word_order a s) e)).1
+worded_equal a s e = (both_equal (nat_cmp (word_of a) (word_of s)) (stored_order a s) ((Equal-is (word_order a s)).0 e)).1
 
 worded_differs : (a s : Stored) → is_eq (stored_order a s) ≡ false → is_eq (word_order a s) ≡ false
 worded_differs a s e = differs (is_eq (word_order a s)) (is_eq (stored_order a s)) (λ t. ap is_eq (worded_equal a s t)) e
 
 -- nothing has the bytes of a row that went
 gone : (r : Stored) (rows : List Stored) (s : Stored) → Has (without_one stored_order r rows) s → is_eq (stored_order r s) ≡ false
-gone r rows s h = not_false (is_eq (stored_order r s)) (filter_has (λ x. not (eq_by_cmp stored_order r x)) rows s h).1
+gone r rows s h = not-true (is_eq (stored_order r s)) (filter_has (λ x. not (eq_by_cmp stored_order r x)) rows s h).1
 
 module _ (rows index : List Stored) (is : IsIndexed rows index) where
   -- the same rows may go from both lists
@@ -59,7 +52,7 @@ module _ (rows index : List Stored) (is : IsIndexed rows index) where
     -- what has the bytes of the row is what was taken
     told : (s : Stored) → Has rows s → is_eq (stored_order r s) ≡ true → is_eq (word_order taken s) ≡ true
     told s h e =
-        let equal : stored_order taken s ≡ Equal = stored_total.congr taken r s same ∙ is_equal (stored_order r s) e in
+        let equal : stored_order taken s ≡ Equal = stored_total.congr taken r s same ∙ (Equal-is (stored_order r s)).0 e in
         let one : taken ≡ s = only_one Stored stored_order stored_total rows taken s is.rising had h equal in
         subst (λ (x : Stored). is_eq (word_order taken x) ≡ true) one (ap is_eq (tied_itself words_total taken))
 
@@ -71,13 +64,13 @@ module _ (rows index : List Stored) (is : IsIndexed rows index) where
         let p = filter_has (λ x. not (eq_by_cmp word_order taken x)) index s h in
         let q = is.there s p.0 in
         has_filter (λ x. not (eq_by_cmp stored_order r x)) rows s q
-        (ap not (differs (is_eq (stored_order r s)) (is_eq (word_order taken s)) (told s q) (not_false (is_eq (word_order taken s)) p.1)))
+        (ap not (differs (is_eq (stored_order r s)) (is_eq (word_order taken s)) (told s q) (not-true (is_eq (word_order taken s)) p.1)))
 
     back_still : (s : Stored) → Has (without_one stored_order r rows) s → Has (without_one word_order taken index) s
     back_still s h =
         let p = filter_has (λ x. not (eq_by_cmp stored_order r x)) rows s h in
         has_filter (λ x. not (eq_by_cmp word_order taken x)) index s (is.back s p.0)
-        (ap not (differs (is_eq (word_order taken s)) (is_eq (stored_order r s)) (back_told s) (not_false (is_eq (stored_order r s)) p.1)))
+        (ap not (differs (is_eq (word_order taken s)) (is_eq (stored_order r s)) (back_told s) (not-true (is_eq (stored_order r s)) p.1)))
 
     pub take_keeps : IsIndexed (without_one stored_order r rows) (without_one word_order taken index)
     take_keeps = record {

@@ -1,5 +1,4 @@
 -- Lemmas of this crate.
-pub mod Rising
 pub mod Keeping
 pub mod Agreeing
 pub mod Stepping

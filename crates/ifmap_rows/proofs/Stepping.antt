@@ -2,13 +2,14 @@
 use Rattle.std.proofs.Common.{◌≡◌, ◌∙◌, sym, ap, subst, ℕ, ◌+◌, ◌<◌, ◌≤◌, refl, List, [], ◌∷◌, length, get_or, drop}
 use Rattle.std.proofs.Math.ListN.{drop_of_length-le}
 use Rattle.std.proofs.lemmas.List.{drop_more}
+use Rattle.std.specs.List.Sorted.{IsStrictlySortedBy}
 use Rattle.ifmap_meta.specs.declared.stored.Stored.{Stored}
 use Rattle.ifmap_plans.specs.Lists.{put_each, without}
 use Rattle.ifmap_plans.specs.Placing.{put}
 use Rattle.ifmap_plans.specs.laws.KeyLaws.{stored_total}
 use Rattle.ifmap_view.specs.Attachments.{stored_order}
 use Rattle.ifmap_rows.specs.Indexed.{without_one}
-use Rattle.ifmap_rows.proofs.Rising.{without_next}
+use Rattle.ifmap_rows.specs.laws.RisingLaws.{without_next}
 
 module _ (rows : List Stored) (i : ℕ) (x : Stored) (list all : List Stored) (low : i < length rows) (at : x ≡ get_or rows i x) where
   front : drop i rows ≡ x ∷ drop (i + 1) rows
@@ -21,9 +22,14 @@ module _ (rows : List Stored) (i : ℕ) (x : Stored) (list all : List Stored) (l
   pub put_next : put_each (drop i rows) list ≡ all → put_each (drop (i + 1) rows) (put stored_order x list) ≡ all
   put_next so = sym (ap (λ l. put_each l list) front) ∙ so
 
-nothing_out : (list : List Stored) → without [] list ≡ list
+pub nothing_out : (list : List Stored) → without [] list ≡ list
 nothing_out [] = refl
 nothing_out (x ∷ xs) = ap (λ l. x ∷ l) (nothing_out xs)
 
 pub all_taken : (rows : List Stored) (i : ℕ) (list all : List Stored) → length rows ≤ i → without (drop i rows) list ≡ all → list ≡ all
 all_taken rows i list all le so = sym (nothing_out list) ∙ ap (λ l. without l list) (sym (drop_of_length-le rows le)) ∙ so
+
+-- nothing rises
+pub none_rise : IsStrictlySortedBy stored_order []
+unfolding IsStrictlySortedBy
+none_rise = tt

@@ -1,3 +1,3 @@
 -- What the index of an item's rows is, in reading order.
 pub mod Indexed
-pub mod Spots
+pub mod laws

@@ -4,12 +4,11 @@ ghost use Rattle.std.specs.List.{AllByRecursion};
 ghost use Rattle.std.specs.List.Sorted.{IsStrictlySortedBy};
 ghost use Rattle.ifmap_meta.specs.Keys.{HaveOneKey, word_of};
 ghost use Rattle.ifmap_plans.specs.Lists.{without};
-ghost use Rattle.ifmap_plans.specs.Placing.{put};
+ghost use Rattle.ifmap_plans.specs.Placing.{IsSpot, put};
 ghost use Rattle.ifmap_view.specs.Attachments.{stored_order};
 ghost use Rattle.ifmap_rows.specs.Indexed.{IsJoined, without_one, word_order};
-ghost use Rattle.ifmap_rows.specs.Spots.{IsSpot};
 
-use crate::lists::is_among;
+use crate::lists::{is_among, room_for};
 use ifmap_plans::row_order;
 use ifmap_view::Row;
 use std::alloc::{AllocError as NoMemory, Global};
@@ -18,12 +17,12 @@ use std::marker::Model;
 
 // A row with the word of its key. Contracts see what is stored.
 #[derive(Drop)]
-pub(crate) struct Worded {
+pub(crate) struct WordRow {
     word: u64,
     row: Row,
 }
 
-impl Model for Worded {
+impl Model for WordRow {
     ghost use Rattle.std.specs.Prelude.{◌≡◌};
     ghost use Rattle.ifmap_meta.specs.contracts.stored.Stored as the_stored;
     ghost use Rattle.ifmap_meta.specs.declared.stored.Stored.{Stored};
@@ -38,21 +37,21 @@ impl Model for Worded {
     ghost invariant = { λ worded. worded.word ≡ word_of worded.row };
 }
 
-impl Worded {
-    pub(crate) fn new(row: Row) -> Worded
+impl WordRow {
+    pub(crate) fn new(row: Row) -> WordRow
         ensures { result ≡ row }
     {
-        Worded {
+        WordRow {
             word: row_word(&row),
             row,
         }
     }
 
     // The same row once more. The one error is that it is shared too often.
-    fn share(&self) -> Result<Worded, NoMemory>
+    fn share(&self) -> Result<WordRow, NoMemory>
         ensures { IfOk result (λ worded. worded ≡ self.now) }
     {
-        Ok(Worded {
+        Ok(WordRow {
             word: self.word,
             row: self.row.share()?,
         })
@@ -79,7 +78,7 @@ fn row_word(row: &Row) -> u64
 }
 
 // How two rows stand to each other in the index.
-fn word_order(one: &Worded, other: &Worded) -> Ordering
+fn word_order(one: &WordRow, other: &WordRow) -> Ordering
     ensures { result ≡ word_order one.now other.now }
 {
     match one.word().cmp(&other.word()) {
@@ -89,7 +88,7 @@ fn word_order(one: &Worded, other: &Worded) -> Ordering
 }
 
 // Where a row stands in the index, or would.
-fn find_spot(index: &[Worded], worded: &Worded) -> Result<usize, usize>
+fn find_spot(index: &[WordRow], worded: &WordRow) -> Result<usize, usize>
     requires { IsStrictlySortedBy word_order index.now }
     ensures { IsSpot word_order worded.now index.now result }
 {
@@ -97,7 +96,7 @@ fn find_spot(index: &[Worded], worded: &Worded) -> Result<usize, usize>
 }
 
 // Takes a row out of the index.
-pub(crate) fn take_worded(index: &mut Vec<Worded>, worded: &Worded)
+pub(crate) fn take_word_row(index: &mut Vec<WordRow>, worded: &WordRow)
     requires { IsStrictlySortedBy word_order index.old.items }
     ensures rows { index.new.items ≡ without_one word_order worded.now index.old.items }
     ensures rising { IsStrictlySortedBy word_order index.new.items }
@@ -110,7 +109,7 @@ pub(crate) fn take_worded(index: &mut Vec<Worded>, worded: &Worded)
 }
 
 // Puts a row in its place in the index, where there is room for one more.
-pub(crate) fn put_worded(index: &mut Vec<Worded>, worded: Worded)
+pub(crate) fn put_word_row(index: &mut Vec<WordRow>, worded: WordRow)
     requires rising { IsStrictlySortedBy word_order index.old.items }
     requires room { vec_len index.old < vec_capacity index.old }
     ensures { index.new.items ≡ put word_order worded index.old.items }
@@ -123,7 +122,7 @@ pub(crate) fn put_worded(index: &mut Vec<Worded>, worded: Worded)
 
 // Puts a row in its place in the index, where there is room for one more, and the one that it
 // replaces goes.
-pub(crate) fn exchange_worded(index: &mut Vec<Worded>, replaced: Option<Row>, row: Row)
+pub(crate) fn exchange_word_row(index: &mut Vec<WordRow>, replaced: Option<Row>, row: Row)
     requires rising { IsStrictlySortedBy word_order index.old.items }
     requires room { vec_len index.old < vec_capacity index.old }
     ensures replaced { IfSome replaced (λ replaced. index.new.items
@@ -132,16 +131,16 @@ pub(crate) fn exchange_worded(index: &mut Vec<Worded>, replaced: Option<Row>, ro
 {
     match replaced {
         Some(replaced) => {
-            take_worded(index, &Worded::new(replaced));
-            put_worded(index, Worded::new(row));
+            take_word_row(index, &WordRow::new(replaced));
+            put_word_row(index, WordRow::new(row));
         }
-        None => put_worded(index, Worded::new(row)),
+        None => put_word_row(index, WordRow::new(row)),
     }
 }
 
 // Takes out of the index the rows that have the canonical bytes of one of some that rise: the index
 // is gone over once.
-pub(crate) fn take_worded_rows(index: &mut Vec<Worded>, removed: &[Row])
+pub(crate) fn take_word_rows(index: &mut Vec<WordRow>, removed: &[Row])
     requires { IsStrictlySortedBy stored_order removed.now }
     ensures { index.new.items ≡ without removed.now index.old.items }
 {
@@ -150,44 +149,67 @@ pub(crate) fn take_worded_rows(index: &mut Vec<Worded>, removed: &[Row])
 
 // An index with rows that rise by their bytes, in place of those of the same bytes. The one error
 // is want of memory.
-pub(crate) fn join_index(index: Vec<Worded>, added: &[Row]) -> Result<Vec<Worded>, NoMemory>
+pub(crate) fn join_index(index: Vec<WordRow>, added: &[Row]) -> Result<Vec<WordRow>, NoMemory>
     requires rising { IsStrictlySortedBy word_order index.items }
     requires added { IsStrictlySortedBy stored_order added.now }
     ensures { IfOk result (λ joined. IsJoined index.items added.now joined.items) }
 {
-    let mut joined = index;
-    let mut more = word_rows(*joined.allocator(), added)?;
-    take_worded_rows(&mut joined, added);
-    joined.append(&mut more)?;
-    joined.sort_by(|one, other| word_order(one, other))?;
+    let mut others = index;
+    take_word_rows(&mut others, added);
+    let joined = merge_index(others, added)?;
     Ok(joined)
 }
 
+// An index with rows that rise by their bytes, where it has none of the same bytes. The one error is
+// want of memory.
+pub(crate) fn merge_index(index: Vec<WordRow>, added: &[Row]) -> Result<Vec<WordRow>, NoMemory>
+    requires rising { IsStrictlySortedBy word_order index.items }
+    requires added { IsStrictlySortedBy stored_order added.now }
+    requires apart { without added.now index.items ≡ index.items }
+    ensures { IfOk result (λ merged. IsJoined index.items added.now merged.items) }
+{
+    let mut merged = index;
+    let mut more = word_rows(*merged.allocator(), added)?;
+    merged.append(&mut more)?;
+    merged.sort_by(|one, other| word_order(one, other))?;
+    Ok(merged)
+}
+
 // Rows with the words of their keys. The one error is want of memory.
-fn word_rows(alloc: Global, rows: &[Row]) -> Result<Vec<Worded>, NoMemory>
+fn word_rows(alloc: Global, rows: &[Row]) -> Result<Vec<WordRow>, NoMemory>
     ensures { IfOk result (λ worded. worded.items ≡ rows.now) }
 {
     let mut worded = Vec::with_capacity(alloc, rows.len())?;
     for row in rows {
-        worded.push(Worded::new(row.share()?))?;
+        worded.push(WordRow::new(row.share()?))?;
     }
     Ok(worded)
 }
 
-// The same index once more. The one error is want of memory.
-pub(crate) fn share_index(alloc: Global, index: &[Worded]) -> Result<Vec<Worded>, NoMemory>
-    ensures { IfOk result (λ shared. shared.items ≡ index.now) }
+// The rows in the index that have not the canonical bytes of one of some that rise, once more, with
+// room for others. The one error is want of memory.
+pub(crate) fn share_others_in_index(
+    alloc: Global,
+    index: &[WordRow],
+    removed: &[Row],
+    more: usize,
+) -> Result<Vec<WordRow>, NoMemory>
+    requires { IsStrictlySortedBy stored_order removed.now }
+    ensures { IfOk result (λ others. others.items ≡ without removed.now index.now) }
 {
-    let mut shared = Vec::with_capacity(alloc, index.len())?;
+    let room = room_for(index.len(), removed.len(), more);
+    let mut others = Vec::with_capacity(alloc, room)?;
     for worded in index {
-        shared.push(worded.share()?)?;
+        if !is_among(removed, worded.row()) {
+            others.push(worded.share()?)?;
+        }
     }
-    Ok(shared)
+    Ok(others)
 }
 
 // The row in the index that has the key of this one: the first of those with its word is found by
 // halving.
-pub(crate) fn find_keyed<'a>(index: &'a [Worded], row: &Row) -> Option<&'a Row>
+pub(crate) fn find_keyed<'a>(index: &'a [WordRow], row: &Row) -> Option<&'a Row>
     requires { IsStrictlySortedBy word_order index.now }
     ensures found { IfSome result (λ found.
         Contains index.now found.now × HaveOneKey row.now found.now) }

@@ -8,4 +8,5 @@ mod lists;
 pub mod rows;
 
 pub use keyed::Keyed;
+pub use lists::put_rows;
 pub use rows::Rows;

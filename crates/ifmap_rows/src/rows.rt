@@ -9,10 +9,13 @@ ghost use Rattle.ifmap_view.specs.Attachments.{stored_order};
 ghost use Rattle.ifmap_rows.specs.Indexed.{without_one};
 
 use crate::index::{
-    Worded, exchange_worded, find_keyed, join_index, share_index, take_worded, take_worded_rows,
+    WordRow, exchange_word_row, find_keyed, join_index, merge_index, share_others_in_index,
+    take_word_row, take_word_rows,
 };
-use crate::lists::{do_rise, join_rows, put_row, take_row, take_rows};
-use ifmap_view::{Row, share_rows};
+use crate::lists::{
+    are_many_in_order, exchange_row, join_rows, merge_rows, share_others, take_row, take_rows,
+};
+use ifmap_view::Row;
 use std::alloc::{AllocError as NoMemory, Global};
 use std::marker::Model;
 use std::mem;
@@ -22,7 +25,7 @@ use std::mem;
 #[derive(Drop)]
 pub struct Rows {
     by_bytes: Vec<Row>,
-    by_word: Vec<Worded>,
+    by_word: Vec<WordRow>,
 }
 
 impl Model for Rows {
@@ -40,10 +43,6 @@ impl Model for Rows {
 
     ghost invariant = { λ r. IsIndexed r.by_bytes.items r.by_word.items };
 }
-
-// So many rows go or come one by one: each moves the pointers that follow it, in both lists. Where
-// there are more, both lists are gone over once.
-const FEW: usize = 512;
 
 impl Rows {
     /// No rows. It takes no memory.
@@ -75,10 +74,7 @@ impl Rows {
     pub fn share(&self, alloc: Global) -> Result<Rows, NoMemory>
         ensures { IfOk result (λ rows. rows ≡ self.now) }
     {
-        Ok(Rows {
-            by_bytes: share_rows(alloc, &self.by_bytes)?,
-            by_word: share_index(alloc, &self.by_word)?,
-        })
+        self.share_with_room(alloc, 0)
     }
 
     /// The row that has the key of this one, where there is one. It takes no memory.
@@ -90,9 +86,53 @@ impl Rows {
         find_keyed(&self.by_word, row)
     }
 
+    /// The rows after a change: those that have not the canonical bytes of a removed row, and then
+    /// each added one in its place, over one of the same bytes. These stay as they are. No element is
+    /// copied, and of many that go none is shared. The one error is want of memory.
+    pub fn make_next(&self, alloc: Global, removed: &[Row], added: &[Row]) -> Result<Rows, NoMemory>
+        ensures { IfOk result (λ rows. rows ≡ next_on removed.now added.now self.now) }
+    {
+        let mut rows = self.make_left(alloc, removed, added.len())?;
+        rows.put_all(added)?;
+        Ok(rows)
+    }
+
+    // The rows that have not the canonical bytes of one of these, with room for others.
+    fn make_left(&self, alloc: Global, removed: &[Row], more: usize) -> Result<Rows, NoMemory>
+        ensures { IfOk result (λ rows. rows ≡ without removed.now self.now) }
+    {
+        if are_many_in_order(removed) {
+            return self.share_others(alloc, removed, more);
+        }
+        let mut rows = self.share_with_room(alloc, more)?;
+        rows.take_each(removed);
+        Ok(rows)
+    }
+
+    // The same rows once more, with room for others.
+    fn share_with_room(&self, alloc: Global, more: usize) -> Result<Rows, NoMemory>
+        ensures { IfOk result (λ rows. rows ≡ self.now) }
+    {
+        let rows = self.share_others(alloc, &[], more)?;
+        Ok(rows)
+    }
+
+    // The rows that have not the canonical bytes of one of some that rise, with room for others.
+    fn share_others(&self, alloc: Global, removed: &[Row], more: usize) -> Result<Rows, NoMemory>
+        requires { IsStrictlySortedBy stored_order removed.now }
+        ensures { IfOk result (λ rows. rows ≡ without removed.now self.now) }
+    {
+        let others = Rows {
+            by_bytes: share_others(alloc, &self.by_bytes, removed, more)?,
+            by_word: share_others_in_index(alloc, &self.by_word, removed, more)?,
+        };
+        Ok(others)
+    }
+
     /// Carries a change out in place: those of the canonical bytes of a removed row go, and then
     /// each added one comes to its place, over one of the same bytes. The one error is want of
-    /// memory: a part of the change may then be made.
+    /// memory, and then nothing is claimed of the rows: a part of the change may be made, or none may
+    /// be left.
     pub fn carry_out(&mut self, removed: &[Row], added: &[Row]) -> Result<(), NoMemory>
         ensures { OnOk result (self.new ≡ next_on removed.now added.now self.old) }
     {
@@ -100,11 +140,49 @@ impl Rows {
         self.put_all(added)
     }
 
+    /// The same, where no row that comes has the canonical bytes of one that stays: of many none is
+    /// looked for among the others.
+    pub fn exchange(&mut self, removed: &[Row], added: &[Row]) -> Result<(), NoMemory>
+        requires { without added.now (without removed.now self.old)
+            ≡ without removed.now self.old }
+        ensures { OnOk result (self.new ≡ next_on removed.now added.now self.old) }
+    {
+        self.take_all(removed);
+        self.put_apart(added)
+    }
+
+    // Each row comes to its place, where none that is there has its canonical bytes.
+    fn put_apart(&mut self, added: &[Row]) -> Result<(), NoMemory>
+        requires { without added.now self.old ≡ self.old }
+        ensures { OnOk result (self.new ≡ put_each added.now self.old) }
+    {
+        if are_many_in_order(added) {
+            self.merge(added)
+        } else {
+            self.put_each(added)
+        }
+    }
+
+    // The same, of rows that rise. After want of memory there are no rows.
+    fn merge(&mut self, added: &[Row]) -> Result<(), NoMemory>
+        requires added { IsStrictlySortedBy stored_order added.now }
+        requires apart { without added.now self.old ≡ self.old }
+        ensures { OnOk result (self.new ≡ put_each added.now self.old) }
+    {
+        let none = Rows::new(*self.by_bytes.allocator());
+        let Rows { by_bytes, by_word } = mem::replace(self, none);
+        let mut by_bytes = by_bytes;
+        merge_rows(&mut by_bytes, added)?;
+        let by_word = merge_index(by_word, added)?;
+        *self = Rows { by_bytes, by_word };
+        Ok(())
+    }
+
     // Those of the canonical bytes of one of these go.
     fn take_all(&mut self, removed: &[Row])
         ensures { self.new ≡ without removed.now self.old }
     {
-        if removed.len() > FEW && do_rise(removed) {
+        if are_many_in_order(removed) {
             self.take_at_once(removed);
         } else {
             self.take_each(removed);
@@ -117,7 +195,7 @@ impl Rows {
         ensures { self.new ≡ without removed.now self.old }
     {
         take_rows(&mut self.by_bytes, removed);
-        take_worded_rows(&mut self.by_word, removed);
+        take_word_rows(&mut self.by_word, removed);
     }
 
     // The same, one after the other.
@@ -133,7 +211,7 @@ impl Rows {
     fn put_all(&mut self, added: &[Row]) -> Result<(), NoMemory>
         ensures { OnOk result (self.new ≡ put_each added.now self.old) }
     {
-        if added.len() > FEW && do_rise(added) {
+        if are_many_in_order(added) {
             self.put_at_once(added)
         } else {
             self.put_each(added)
@@ -147,10 +225,10 @@ impl Rows {
     {
         let none = Rows::new(*self.by_bytes.allocator());
         let Rows { by_bytes, by_word } = mem::replace(self, none);
-        *self = Rows {
-            by_bytes: join_rows(by_bytes, added)?,
-            by_word: join_index(by_word, added)?,
-        };
+        let mut by_bytes = by_bytes;
+        join_rows(&mut by_bytes, added)?;
+        let by_word = join_index(by_word, added)?;
+        *self = Rows { by_bytes, by_word };
         Ok(())
     }
 
@@ -169,7 +247,7 @@ impl Rows {
         ensures { self.new ≡ without_one stored_order row.now self.old }
     {
         if let Some(taken) = take_row(&mut self.by_bytes, row) {
-            take_worded(&mut self.by_word, &Worded::new(taken));
+            take_word_row(&mut self.by_word, &WordRow::new(taken));
         }
     }
 
@@ -182,8 +260,8 @@ impl Rows {
         let other = row.share()?;
         self.by_bytes.reserve(1)?;
         self.by_word.reserve(1)?;
-        let replaced = put_row(&mut self.by_bytes, one);
-        exchange_worded(&mut self.by_word, replaced, other);
+        let replaced = exchange_row(&mut self.by_bytes, one);
+        exchange_word_row(&mut self.by_word, replaced, other);
         Ok(())
     }
 }

@@ -1,8 +1,8 @@
 //! Rows go and come, few and many at once.
 use crate::makers::{numbered_rows, rows_of};
 use ifmap_plans::row_order;
-use ifmap_rows::Rows;
-use ifmap_view::Row;
+use ifmap_rows::{Rows, put_rows};
+use ifmap_view::{Row, share_rows};
 use std::alloc::Global;
 use std::test::Fail;
 
@@ -29,6 +29,35 @@ fn changes_well(alloc: Global, count: u32) -> Option<bool> {
             && are_these(&rows, &all)
             && rows.room() >= all.len(),
     )
+}
+
+// Every fourth of so many rows goes, and then every second is put, each time beside the rows that stay
+// as they are.
+fn makes_next_well(alloc: Global, count: u32) -> Option<bool> {
+    let all = numbered_rows(alloc, count, 1)?;
+    let rows = rows_of(alloc, &all).ok()?;
+    let removed = numbered_rows(alloc, count, 4)?;
+    let added = numbered_rows(alloc, count, 2)?;
+    let left = rows.make_next(alloc, &removed, &[]).ok()?;
+    let next = left.make_next(alloc, &[], &added).ok()?;
+    let mut list = share_rows(alloc, left.as_slice()).ok()?;
+    put_rows(&mut list, &added).ok()?;
+    Some(
+        left.as_slice().len() + removed.len() == all.len()
+            && removed.iter().all(|row| left.row_with_key(row).is_none())
+            && are_these(&rows, &all)
+            && are_these(&next, &all)
+            && are_these(&next, &list),
+    )
+}
+
+#[test]
+fn next_rows_are_made_beside_others(rt: HostRuntime) -> Result<(), Fail> {
+    let alloc = rt.alloc();
+    for count in [0, 1, 40, 2400] {
+        assert!(rt; makes_next_well(alloc, count) == Some(true), "{count}");
+    }
+    Ok(())
 }
 
 #[test]

@@ -1,6 +1,6 @@
 -- Putting in, taking out and finding, in lists that rise strictly.
 use Rattle.std.proofs.Common.{◌≡◌, refl, sym, ◌∙◌, ap, subst, ℕ, suc, zero, ◌<◌, ◌≤◌, Bool, true, false, not, List, [], ◌∷◌, ◌++◌, length}
-use Rattle.std.proofs.Common.{get_or, Ordering, arith, Ok, Err, add-one, set}
+use Rattle.std.proofs.Common.{get_or, Ordering, arith, Result, Ok, Err, add-one, set}
 use Rattle.std.proofs.lemmas.Cmp.{alike_right}
 use Rattle.std.proofs.lemmas.List.Elements.{recursion_from_All}
 use Rattle.std.proofs.lemmas.List.Folds.{list_any_at}
@@ -10,10 +10,11 @@ use Rattle.std.specs.Cmp.{IsEquivalence, IsTotalOrder}
 use Rattle.std.specs.List.{AllByRecursion, IsDistinct, filter, insert, list_any, remove}
 use Rattle.std.specs.List.Sorted.{IsBinarySearchResult, IsPartitionPoint, IsSearchInRange, IsSortedBy, IsStrictlySortedBy}
 use Rattle.std.specs.Ordering.{eq_by_cmp, is_eq, is_gt, is_lt, ordering_reverse}
+use Rattle.std.specs.Result.{is_ok}
 use Rattle.std.specs.declared.cmp.Ordering.TheVariants.{Less, Equal, Greater}
 use Rattle.ifmap_lemmas.specs.Filters.{all_around, all_at, all_filter, all_weaker, filter_all, filter_none, filter_passes}
 use Rattle.ifmap_lemmas.specs.Orderings.{is_greater, is_less}
-use Rattle.ifmap_plans.specs.Placing.{put}
+use Rattle.ifmap_plans.specs.Placing.{IsSpot, put}
 
 module _ (X : Type 0) (E : X → X → Bool) (e : IsEquivalence E) where
   -- those that follow one of a key have other keys
@@ -127,6 +128,19 @@ module _ (X : Type 0) (C : X → X → Ordering) (o : IsTotalOrder C) where
   pub gap_none : (a : X) (xs : List X) (i : ℕ) → IsStrictlySortedBy C xs → IsSearchInRange (Err i) (length xs)
       → IsBinarySearchResult (λ y. C y a) xs (Err i) → list_any (λ y. eq_by_cmp C y a) xs ≡ false
   gap_none a xs i up within is = none_at a xs i within (is (searchable_from_sorted o (λ y. y) xs a (rises xs up)))
+
+  -- where a search by halving ends
+  pub spot : (a : X) (xs : List X) (r : Result ℕ ℕ) → IsStrictlySortedBy C xs → IsSearchInRange r (length xs)
+      → IsBinarySearchResult (λ y. C y a) xs r → IsSpot C a xs r
+  spot a xs (Ok i) up within is = (within, is, set_is_put a xs i up within is)
+  spot a xs (Err i) up within is =
+      let placed = gap_is_put a xs i up within is in
+      (placed.0, placed.1, gap_none a xs i up within is)
+
+  -- and whether one is equal there
+  pub spot_found : (a : X) (xs : List X) (r : Result ℕ ℕ) → IsSpot C a xs r → is_ok r ≡ list_any (λ y. eq_by_cmp C y a) xs
+  spot_found a xs (Ok i) at = sym (list_any_at (λ y. eq_by_cmp C y a) xs i a at.0 (ap is_eq (at.1 a)))
+  spot_found a xs (Err i) at = sym at.2
 
   -- a list stays in strict order
   sorted_around : (xs : List X) (a : X) (zs : List X) → IsStrictlySortedBy C xs → IsStrictlySortedBy C zs

@@ -2,7 +2,7 @@ use Rattle.std.proofs.Common.{◌++◌, ◌∷◌, [], Bool, List, length, ap, �
 use Rattle.std.proofs.lemmas.List.{get_or-map, length-map}
 use Rattle.ifmap_ident.specs.Items.{IsCanonItem}
 use Rattle.ifmap_plans.specs.declared.plans.ItemChange.{ItemChange}
-use Rattle.ifmap_graph.specs.Bringing.{BringsShelves, marked, parts_of}
+use Rattle.ifmap_graph.specs.Bringing.{BringsShelves, flagged_items, parts_of}
 use Rattle.ifmap_graph.specs.Out.{items_of}
 use Rattle.ifmap_graph.proofs.Grown.{few_kept, grown_on, placed_there, places_none, places_on, placing}
 use Rattle.ifmap_graph.proofs.Planned.{all_at_place, mapped_all}
@@ -54,7 +54,7 @@ returns c = record {
 
 pub returns-in_err-reserve-clause-brought : goal.returns-in_err-reserve-clause-brought
 returns-in_err-reserve-clause-brought c =
-    subst (λ (l : List Bool). BringsShelves (marked (items_of c.args.changes.now) l) c.args.shelves.now c.loop-change.shelves)
+    subst (λ (l : List Bool). BringsShelves (flagged_items (items_of c.args.changes.now) l) c.args.shelves.now c.loop-change.shelves)
     (sym c.reserve.ensures.items)
     c.loop-change.invariant.brought
 
@@ -71,7 +71,7 @@ returns-in_err-comes-clause-grown c =
 
 pub returns-in_err-comes-clause-brought : goal.returns-in_err-comes-clause-brought
 returns-in_err-comes-clause-brought c =
-    subst (λ (l : List Bool). BringsShelves (marked (items_of c.args.changes.now) l) c.args.shelves.now c.place_missing.new.shelves)
+    subst (λ (l : List Bool). BringsShelves (flagged_items (items_of c.args.changes.now) l) c.args.shelves.now c.place_missing.new.shelves)
     (sym c.reserve.ensures.items)
     (places_none (items_of c.args.changes.now) (parts_of c.args.names.now c.args.shelves.now c.args.links.now.items)
     (parts_of c.loop-change.names c.loop-change.shelves c.loop-change.links.items)

@@ -5,7 +5,7 @@ use Rattle.std.specs.Map.{lookup}
 use Rattle.ifmap_ident.specs.Identifiers.{identifier_order}
 use Rattle.ifmap_ident.specs.Items.{item_order}
 use Rattle.ifmap_pool.specs.Holdings.{IsHeld}
-use Rattle.ifmap_graph.specs.Bringing.{marked, parts_of}
+use Rattle.ifmap_graph.specs.Bringing.{flagged_items, parts_of}
 use Rattle.ifmap_graph.specs.Named.{named_in}
 use Rattle.ifmap_graph.specs.Out.{items_of}
 use Rattle.ifmap_graph.proofs.Brought.{brings_written, other_marked}
@@ -38,7 +38,8 @@ take_shelves-requires c = record {
   brought = (
     c.requires.brought.0,
     c.requires.brought.1 ∙ sym (c.drop_plan.ensures.now ∙ c.draft_and_wait.ensures.now),
-    brings_written (marked (items_of c.args.coming.now.changes.now) c.args.coming.now.fresh.now) c.requires.brought.0 c.args.shelves.now
+    brings_written (flagged_items (items_of c.args.coming.now.changes.now) c.args.coming.now.fresh.now) c.requires.brought.0
+        c.args.shelves.now
         c.drop_plan.new.shelves
         c.requires.brought.2
         (c.drop_plan.ensures.places ∙ c.draft_and_wait.ensures.places)
@@ -49,7 +50,7 @@ take_shelves-requires c = record {
 
 pub returns-in-Ok-clause-made : goal.returns-in-Ok-clause-made
 returns-in-Ok-clause-made c = λ first grown brought.
-    made_by c.args.coming.now.changes.now c.draft_and_wait.new.ways.items (marked (items_of c.args.coming.now.changes.now)
+    made_by c.args.coming.now.changes.now c.draft_and_wait.new.ways.items (flagged_items (items_of c.args.coming.now.changes.now)
     c.args.coming.now.fresh.now) first
     (parts_of c.args.names.now c.args.shelves.now c.args.links.now.items) c.draft_and_wait.new.shelves c.draft_and_wait.new.links.items
     grown brought
@@ -79,7 +80,7 @@ returns-in-Err-clause-unmade c = λ first is grown brought.
     (sym (c.drop_plan.ensures.places ∙ c.draft_and_wait.ensures.places))
     (grown.own a own h)))
     (c.take_shelves.ensures.taken first.shelves
-    (brings_written (marked (items_of c.args.coming.now.changes.now) c.args.coming.now.fresh.now) first.shelves c.args.shelves.now
+    (brings_written (flagged_items (items_of c.args.coming.now.changes.now) c.args.coming.now.fresh.now) first.shelves c.args.shelves.now
     c.drop_plan.new.shelves brought
     (c.drop_plan.ensures.places ∙ c.draft_and_wait.ensures.places) (λ at. c.drop_plan.ensures.ends at ∙ c.draft_and_wait.ensures.ends at)
     (λ x. c.drop_plan.ensures.waits x ∙ c.in-Err.ensures.waits x)))

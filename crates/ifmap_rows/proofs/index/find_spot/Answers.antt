@@ -1,9 +1,9 @@
 use Rattle.std.proofs.Common.{rules, ◌≡◌}
 use Rattle.std.proofs.lemmas.Fn.{always_returns_same}
 use Rattle.ifmap_meta.specs.declared.stored.Stored.{Stored}
+use Rattle.ifmap_plans.specs.laws.PlacingLaws.{spot}
 use Rattle.ifmap_rows.specs.Indexed.{word_order}
 use Rattle.ifmap_rows.proofs.Keeping.{words_total}
-use Rattle.ifmap_rows.proofs.Rising.{spot}
 use Rattle.ifmap_rows.proofs.index.find_spot.Goals as goal
 
 pub returns : goal.returns

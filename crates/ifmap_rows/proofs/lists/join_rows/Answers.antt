@@ -1,15 +1,23 @@
-use Rattle.std.proofs.Common.{rules}
-use Rattle.std.proofs.lemmas.List.Sorted.{answers_always, ranks_by}
-use Rattle.std.specs.Ordering.{is_lt}
-use Rattle.ifmap_meta.specs.declared.stored.Stored.{Stored}
-use Rattle.ifmap_plans.specs.laws.KeyLaws.{stored_total}
+use Rattle.std.proofs.Common.{◌∙◌, ap, not}
+use Rattle.std.proofs.lemmas.List.Kept.{IsStrictlySortedBy-filter}
+use Rattle.std.specs.List.{list_any}
+use Rattle.std.specs.Ordering.{eq_by_cmp}
+use Rattle.ifmap_lemmas.specs.Filters.{filter_again}
+use Rattle.ifmap_plans.specs.Lists.{put_each}
 use Rattle.ifmap_view.specs.Attachments.{stored_order}
-use Rattle.ifmap_rows.proofs.Joining.{rows_joined}
+use Rattle.ifmap_rows.proofs.Joining.{put_again}
 use Rattle.ifmap_rows.proofs.lists.join_rows.Goals as goal
+
+pub merge_rows-requires-clause-rising : goal.merge_rows-requires-clause-rising
+merge_rows-requires-clause-rising c =
+    rw c.take_rows.ensures (IsStrictlySortedBy-filter stored_order
+    (λ s. not (list_any (λ r. eq_by_cmp stored_order r s) c.args.added.now)) c.args.rows.now.items c.requires.rising)
+
+pub merge_rows-requires-clause-apart : goal.merge_rows-requires-clause-apart
+merge_rows-requires-clause-apart c =
+    rw c.take_rows.ensures (filter_again (λ s. not (list_any (λ r. eq_by_cmp stored_order r s) c.args.added.now)) c.args.rows.now.items)
 
 pub returns : goal.returns
 returns c =
-    let made = rw (c.in_ok-append.ensures.items, c.take_rows.ensures, c.in_ok-more.ensures) at c.in_ok-sort_by.ensures.permutation in
-    rows_joined c.args.rows.items c.args.added.now _ c.requires.added made c.requires.rising
-    (c.in_ok-sort_by.ensures.sorted (λ x y. is_lt (stored_order x y)) (ranks_by stored_total (λ (s : Stored). s))
-    (answers_always _ _ _ (λ f a r g k. search rules)))
+    c.in_ok-merge_rows.ensures ∙ ap (put_each c.args.added.now) c.take_rows.ensures
+    ∙ put_again c.args.added.now c.args.rows.now.items c.requires.added c.requires.rising

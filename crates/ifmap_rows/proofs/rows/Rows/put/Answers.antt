@@ -6,13 +6,13 @@ use Rattle.ifmap_rows.proofs.rows.Rows.put.Goals as goal
 
 pub invariant_of-self-2 : goal.invariant_of-self-2
 invariant_of-self-2 c =
-    let replaced = c.put_row-replaced.ensures in
-    let index = c.exchange_worded.ensures in
+    let replaced = c.exchange_row-replaced.ensures in
+    let index = c.exchange_word_row.ensures in
     rw (
       replaced.rows,
       c.in_ok-reserve.ensures.items,
       c.in_ok-one.ensures,
-    ) (exchanged c.self.inside.by_bytes.items c.self.inside.by_word.items _ c.self.invariant c.args.row.now c.put_row-replaced.result
+    ) (exchanged c.self.inside.by_bytes.items c.self.inside.by_word.items _ c.self.invariant c.args.row.now c.exchange_row-replaced.result
     (rw (c.in_ok-reserve.ensures.items, c.in_ok-one.ensures) at replaced.replaced)
     (rw (c.in_ok-reserve.ensures.items, c.in_ok-one.ensures) at replaced.none)
     (rw (c.in_ok-reserve-2.ensures.items, c.in_ok-other.ensures) at index.replaced)
@@ -20,5 +20,5 @@ invariant_of-self-2 c =
 
 pub returns : goal.returns
 returns c =
-    rw (c.put_row-replaced.ensures.rows, c.in_ok-reserve.ensures.items, c.in_ok-one.ensures)
+    rw (c.exchange_row-replaced.ensures.rows, c.in_ok-reserve.ensures.items, c.in_ok-one.ensures)
     (ap (put stored_order c.args.row.now) c.self.view_is)

@@ -1,7 +1,0 @@
-use Rattle.std.proofs.Common.{◌≡◌, take}
-use Rattle.std.specs.List.{filter}
-use Rattle.ifmap_filter.specs.Meets.{meets_optional}
-use Rattle.ifmap_publish.proofs.edits.rows_met.Given as goal
-
-abbrev pub invariant-loop-row : goal.invariant-loop-row
-invariant-loop-row l = l.list.items ≡ filter (λ s. meets_optional l.test s.element) (take l.row-index l.rows)

@@ -1,0 +1,15 @@
+use Rattle.std.proofs.Common.{rules}
+use Rattle.std.proofs.lemmas.List.Sorted.{answers_always, ranks_by}
+use Rattle.std.specs.Ordering.{is_lt}
+use Rattle.ifmap_meta.specs.declared.stored.Stored.{Stored}
+use Rattle.ifmap_rows.specs.Indexed.{word_order}
+use Rattle.ifmap_rows.proofs.Joining.{index_merged}
+use Rattle.ifmap_rows.proofs.Keeping.{words_total}
+use Rattle.ifmap_rows.proofs.index.merge_index.Goals as goal
+
+pub returns : goal.returns
+returns c =
+    let made = rw (c.in_ok-append.ensures.items, c.in_ok-more.ensures) at c.in_ok-sort_by.ensures.permutation in
+    index_merged c.args.index.items c.args.added.now _ c.requires.added c.requires.apart made c.requires.rising
+    (c.in_ok-sort_by.ensures.sorted (λ x y. is_lt (word_order x y)) (ranks_by words_total (λ (s : Stored). s))
+    (answers_always _ _ _ (λ f a r g k. search rules)))

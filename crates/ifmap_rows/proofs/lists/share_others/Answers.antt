@@ -1,0 +1,25 @@
+use Rattle.std.proofs.Common.{◌∙◌, ap, sym, not, Bool, [], ◌∷◌, ◌++◌}
+use Rattle.std.specs.List.{list_any}
+use Rattle.std.specs.Ordering.{eq_by_cmp}
+use Rattle.ifmap_meta.specs.declared.stored.Stored.{Stored}
+use Rattle.ifmap_view.specs.Attachments.{stored_order}
+use Rattle.ifmap_plans.specs.laws.KeepingLaws.{kept_more, passed_more}
+use Rattle.ifmap_rows.proofs.lists.share_others.Goals as goal
+use Rattle.ifmap_rows.proofs.lists.share_others.Goals.{then-not-is_among+in_ok-share+in_ok-push, else-not-is_among}
+
+pub loop-row-preserved : goal.loop-row-preserved
+loop-row-preserved c =
+    let p : Stored → Bool = λ s. not (list_any (λ r. eq_by_cmp stored_order r s) c.args.removed.now) in
+    let i = c.loop-row.row-index in
+    let x : Stored = c.row-item.result in
+    elim c.if-not-is_among.branch [
+      | then-not-is_among+in_ok-share+in_ok-push w ↦
+          ap (λ v. v.items) w.others-is ∙ w.in_ok-push.ensures.items
+          ∙ ap (λ (y : Stored). c.loop-row.others.items ++ y ∷ []) w.in_ok-share.ensures
+          ∙ kept_more p c.args.rows.now i x c.loop-row-test.true c.row-item.is c.loop-row.others.items c.loop-row.invariant
+          (ap not (sym c.is_among.ensures ∙ w.if-not-is_among.true))
+      | else-not-is_among w ↦
+          ap (λ v. v.items) w.others-is
+          ∙ passed_more p c.args.rows.now i x c.loop-row-test.true c.row-item.is c.loop-row.others.items c.loop-row.invariant
+          (ap not (sym c.is_among.ensures ∙ w.if-not-is_among.false))
+    ]

@@ -1,0 +1,3 @@
+-- Laws on lists in a strict order, which crates above cite.
+pub mod RisingLaws
+pub mod JoiningLaws
