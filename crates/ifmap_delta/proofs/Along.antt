@@ -1,10 +1,8 @@
 -- Weights, flips and notes, one more at a time.
-use Rattle.std.proofs.Common.{◌≡◌, ℕ, Bool, true, ◌+◌, ◌<◌, ◌≤◌, Option, Some, None, IfSome, List, [], ◌∷◌, ◌++◌, map, length, take, get_or, slice_get}
-use Rattle.std.proofs.Common.{sum_by, refl, ap, ◌∙◌, sym, subst, inl, inr}
+use Rattle.std.proofs.Common.{◌≡◌, ℕ, Bool, true, ◌+◌, ◌<◌, Option, Some, None, IfSome, List, [], ◌∷◌, ◌++◌, map, length, take, get_or}
+use Rattle.std.proofs.Common.{refl, ap, ◌∙◌, sym, subst, inl, inr}
 use Rattle.std.proofs.lemmas.List.{map-append, take_more}
 use Rattle.std.proofs.lemmas.List.Elements.{filter-append}
-use Rattle.std.proofs.lemmas.Option.{get_or_from_slice_get, slice_get_within}
-use Rattle.std.proofs.lemmas.List.Sums.{sum_by_more, sum_by_more_le}
 use Rattle.std.specs.List.{AllByRecursion, cons_option, filter}
 use Rattle.ifmap_lemmas.specs.Filters.{all_at}
 use Rattle.ifmap_lemmas.specs.Having.{Has, has_either, has_left, has_right}
@@ -17,21 +15,12 @@ use Rattle.ifmap_view.specs.declared.attachments.Attachment.{Attachment}
 use Rattle.ifmap_delta.specs.Flipped.{AreFlipsOf, IsFlipAt, is_one_marked}
 use Rattle.ifmap_folds.specs.Notes.{is_told, told_notes}
 use Rattle.ifmap_delta.specs.Sights.{Sight}
-use Rattle.ifmap_delta.specs.Touched.{planned}
+use Rattle.ifmap_delta.specs.Touched.{planned_items}
 use Rattle.ifmap_ident.specs.declared.items.Item.{Item}
 
--- the weight of one number more
-pub weight_more : (w : ℕ → ℕ) (ns : List ℕ) (i n : ℕ) → slice_get ns i ≡ Some n → sum_by w (take (i + 1) ns) ≡ sum_by w (take i ns) + w n
-weight_more w ns i n e =
-    sum_by_more w ns i 0 (slice_get_within ns i n e) ∙ ap (λ x. sum_by w (take i ns) + w x) (get_or_from_slice_get ns i n 0 e)
-
-pub weight_within : (w : ℕ → ℕ) (ns : List ℕ) (i n : ℕ) → slice_get ns i ≡ Some n → sum_by w (take i ns) + w n ≤ sum_by w ns
-weight_within w ns i n e =
-    subst (λ x. sum_by w (take i ns) + w x ≤ sum_by w ns) (get_or_from_slice_get ns i n 0 e)
-    (sum_by_more_le w ns i 0 (slice_get_within ns i n e))
-
 -- flips of one change more
-pub flips_more : (old new : Sight) (s : Search) (mark : ℕ → Option ℕ) (cs : List ItemChange) (fs : List Flip) (i : ℕ) (c : ItemChange) (r : Option Flip)
+pub flips_more : (old new : Sight) (s : Search) (mark : ℕ → Option ℕ) (cs : List ItemChange) (fs : List Flip) (i : ℕ)
+    (c : ItemChange) (r : Option Flip)
     → i < length cs → c ≡ get_or cs i c → AreFlipsOf old new s mark (take i cs) fs
     → IfSome r (IsFlipAt old new s c.item)
     → ((f : Flip) → IsFlipAt old new s c.item f → is_one_marked mark (Some f.a) (Some f.b) ≡ true → r ≡ Some f)
@@ -73,10 +62,10 @@ notes_more rows s ns i n h e =
 
 -- the items of one change more
 pub planned_more : (p : Item → Bool) (cs : List ItemChange) (i : ℕ) (c : ItemChange) → i < length cs → c ≡ get_or cs i c
-    → planned p (take (i + 1) cs) ≡ planned p (take i cs) ++ planned p (c ∷ [])
+    → planned_items p (take (i + 1) cs) ≡ planned_items p (take i cs) ++ planned_items p (c ∷ [])
 planned_more p cs i c h e =
     let item : ItemChange → Item = λ d. d.item
     in let looks : ItemChange → Bool = λ d. p d.item
-    in ap (planned p) (take_more cs i c h ∙ ap (λ x. take i cs ++ x ∷ []) (sym e))
+    in ap (planned_items p) (take_more cs i c h ∙ ap (λ x. take i cs ++ x ∷ []) (sym e))
     ∙ ap (map item) (filter-append looks (take i cs) (c ∷ []))
     ∙ map-append item (filter looks (take i cs)) (filter looks (c ∷ []))

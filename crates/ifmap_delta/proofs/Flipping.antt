@@ -3,15 +3,15 @@
 -- match changes, and of which an end has a mark, is a flip (`flipped`), and a flip is of such an item (`flip_of`); from a number
 -- with a mark, the links of the region's words are those of the two views (`old_there`, `mid_there`), and flips are theirs.
 use Rattle.std.proofs.Common.{◌≡◌, ◌⊎◌, inl, inr, ℕ, Bool, true, false, not, Option, Some, None, List, [], ◌∷◌, refl, ap, ◌∙◌}
-use Rattle.std.proofs.Common.{sym, subst, is_some, ◌||◌}
-use Rattle.std.proofs.lemmas.Bool.{cases_Bool}
+use Rattle.std.proofs.Common.{sym, subst, is_some}
+use Rattle.std.proofs.lemmas.Bool.{cases_Bool, or_left, or_right}
 use Rattle.std.proofs.lemmas.Option.{none-some, same_Some}
 use Rattle.std.specs.List.{find}
 use Rattle.ifmap_ident.specs.declared.identifiers.Identifier.{Identifier}
 use Rattle.ifmap_ident.specs.declared.items.Item.{Item}
 use Rattle.ifmap_ident.specs.declared.items.Item.TheVariants.{One, Pair}
 use Rattle.ifmap_ident.specs.Items.{IsCanonItem, pair_of, same_item}
-use Rattle.ifmap_lemmas.specs.Having.{Has, from_has, has_from}
+use Rattle.ifmap_lemmas.specs.Having.{Has, from_has, has_from, all_has}
 use Rattle.ifmap_plans.specs.declared.plans.ItemChange.{ItemChange}
 use Rattle.ifmap_plans.specs.Plans.{change_of, changed_by}
 use Rattle.ifmap_region.specs.declared.flips.Flip.{Flip}
@@ -24,10 +24,9 @@ use Rattle.ifmap_view.specs.Views.{IsView}
 use Rattle.ifmap_fresh.specs.Matching.{is_match, one_meets}
 use Rattle.ifmap_delta.specs.Bounds.{IsFlip, Mid}
 use Rattle.ifmap_delta.specs.Changes.{ShowsAfter}
-use Rattle.ifmap_delta.specs.Flipped.{AreFlipsOf, IsFlipAt, is_one_marked}
+use Rattle.ifmap_delta.specs.Flipped.{AreFlipsOf, IsFlipAt}
 use Rattle.ifmap_delta.specs.Sights.{Links, Sight}
 use Rattle.ifmap_fresh.specs.laws.JoiningLaws.{linked_matches, match_turned, matches_linked, some_there}
-use Rattle.ifmap_folds.specs.laws.RisingLaws.{member_of}
 use Rattle.ifmap_fresh.specs.laws.SameLaws.{Tells, pair_canon, pair_is, pair_parts, same_item_is}
 
 pub found_change : (p : ItemChange → Bool) (cs : List ItemChange) (c : ItemChange) → find p cs ≡ Some c → Has cs c × (p c ≡ true)
@@ -36,14 +35,6 @@ found_change p (x ∷ xs) c e = elim (cases_Bool (p x)) [
   | inl t ↦ let same : x ≡ c = same_Some x c (rw t at e) in (inl same, subst (λ y. p y ≡ true) same t)
   | inr t ↦ let rest : find p xs ≡ Some c = rw t at e in let f = found_change p xs c rest in (inr f.0, f.1)
 ]
-
-left_or : (p q : Bool) → p ≡ true → (p || q) ≡ true
-left_or true q e = refl
-left_or false q e = let c : false ≡ true = e in cc
-
-right_or : (p q : Bool) → q ≡ true → (p || q) ≡ true
-right_or true q e = refl
-right_or false q e = e
 
 -- numbers with a link have identifiers whose link matches
 module _ (g : Sight) (s : Search) where
@@ -94,7 +85,7 @@ module _ (tells : Tells) (old new : Sight) (s : Search) (was : IsView old.rows o
   pub change_at : (x : Item) (c : ItemChange) → IsCanonItem x → change_of changes x ≡ Some c → Has changes c × (c.item ≡ x)
   change_at x c i e =
       let f = found_change (λ d. same_item d.item x) changes c e
-      in (f.0, same_item_is tells c.item x (member_of (λ d. IsCanonItem d.item) changes change.canon c f.0).identifiers i.identifiers f.1)
+      in (f.0, same_item_is tells c.item x (all_has (λ d. IsCanonItem d.item) changes change.canon c f.0).identifiers i.identifiers f.1)
 
   module _ (mark : ℕ → Option ℕ) (flips : List Flip) (are : AreFlipsOf old new s mark changes flips) where
     abbrev Marked : ℕ → Type 0
@@ -122,7 +113,7 @@ module _ (tells : Tells) (old new : Sight) (s : Search) (was : IsView old.rows o
             in (
               flip,
               from_has flips flip (are.each c flip h (subst (λ y. IsFlipAt old new s y flip) (sym (at ∙ q)) here)
-                  (left_or (is_some (mark v)) (is_some (mark w)) marked)),
+                  (or_left (is_some (mark v)) (is_some (mark w)) marked)),
               refl,
               inl (refl, refl),
             )
@@ -133,7 +124,7 @@ module _ (tells : Tells) (old new : Sight) (s : Search) (was : IsView old.rows o
             in (
               flip,
               from_has flips flip (are.each c flip h (subst (λ y. IsFlipAt old new s y flip) (sym (at ∙ q)) here)
-                  (right_or (is_some (mark w)) (is_some (mark v)) marked)),
+                  (or_right (is_some (mark w)) (is_some (mark v)) marked)),
               refl,
               inr (refl, refl),
             )
@@ -164,7 +155,7 @@ module _ (tells : Tells) (old new : Sight) (s : Search) (was : IsView old.rows o
     pub flip_of : (v w : ℕ) (added : Bool) → IsFlipped flips added v w → Named added v w
     flip_of v w added f =
         let o = are.only f.0 (has_from flips f.0 f.1)
-        in by o.0.item (member_of (λ d. IsCanonItem d.item) changes change.canon o.0 o.1) f.0 f.2 f.3 o.2
+        in by o.0.item (all_has (λ d. IsCanonItem d.item) changes change.canon o.0 o.1) f.0 f.2 f.3 o.2
       where
         by : (x : Item) → IsCanonItem x → (flip : Flip) → flip.added ≡ added → Joins flip v w → IsFlipAt old new s x flip → Named added v w
         by (One a) i flip e (inl p) at = absurd at

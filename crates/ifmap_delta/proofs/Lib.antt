@@ -8,6 +8,8 @@ pub mod Along
 pub mod InStep
 pub mod Keeping
 pub mod Ties
+pub mod Touching
+pub mod Beside
 pub mod Repairing
 pub mod Showing
 pub mod Staying

@@ -1,12 +1,13 @@
 -- Marks over the numbers of a view, and what they tell of identifiers.
-use Rattle.std.proofs.Common.{◌≡◌, ◌↔◌, ℕ, zero, suc, ◌<◌, ◌≤◌, Bool, true, false, not, ◌&&◌, Option, Some, None, List, Result, Ok, Err}
-use Rattle.std.proofs.Common.{IfOk, is_some, length, nat_lt, refl, ap, ◌∙◌, sym, subst, inl, inr, arith}
-use Rattle.std.proofs.lemmas.Bool.{and_parts, cases_lt}
-use Rattle.std.proofs.lemmas.Bool.Decides.{nat_tests}
+use Rattle.std.proofs.Common.{◌≡◌, ◌↔◌, ℕ, zero, suc, ◌<◌, ◌≤◌, Bool, true, false, not, Option, Some, None, List, Result, Ok, Err}
+use Rattle.std.proofs.Common.{IfOk, is_some, length, refl, ap, ◌∙◌, sym, subst, inl, inr, arith}
+use Rattle.std.proofs.lemmas.Bool.{and_from, and_parts, cases_lt, lt-ltb, ltb-true, not-true}
 use Rattle.std.proofs.lemmas.Option.{none-some}
+use Rattle.std.specs.Cmp.{both_ways}
 use Rattle.std.specs.declared.alloc.AllocError.{AllocError}
 use Rattle.ifmap_ident.specs.declared.identifiers.Identifier.{Identifier}
 use Rattle.ifmap_ident.specs.Canon.{IsIdentifier}
+use Rattle.ifmap_lemmas.specs.Options.{some_is}
 use Rattle.ifmap_region.specs.declared.region.Region.{Region}
 use Rattle.ifmap_region.specs.Bounds.{IsWithin, within_wider}
 use Rattle.ifmap_region.specs.Marks.{mark_of}
@@ -83,33 +84,9 @@ abbrev pub LevelsExpand : Type 0
 LevelsExpand = (rows : List Attachment) (s : Search) (a : Identifier) → IsGraph rows → IsIdentifier s.start → IsIdentifier a
     → (is_expanded rows s a ≡ true) ↔ IsExpanded rows s a
 
-pub bool_is : (a b : Bool) → (a ≡ true → b ≡ true) → (b ≡ true → a ≡ true) → a ≡ b
-bool_is true true f g = refl
-bool_is true false f g = sym (f refl)
-bool_is false true f g = g refl
-bool_is false false f g = refl
-
-pub both_true : (a b : Bool) → a ≡ true → b ≡ true → (a && b) ≡ true
-both_true true b e f = f
-both_true false b e f = e
-
-not_false : (b : Bool) → not b ≡ true → b ≡ false
-not_false true e = let q : false ≡ true = e in cc
-not_false false e = refl
-
-lt_true : (a b : ℕ) → a < b → nat_lt a b ≡ true
-lt_true a b h = grind (arith, nat_tests)
-
-true_lt : (a b : ℕ) → nat_lt a b ≡ true → a < b
-true_lt a b e = grind (arith, nat_tests)
-
 below_mark : (top : ℕ) (o : Option ℕ) → is_below top o ≡ true → (k : ℕ) × (o ≡ Some k) × (k < top)
 below_mark top None e = let q : false ≡ true = e in cc
-below_mark top (Some k) e = (k, refl, true_lt k top e)
-
-some_of : {X : Type 0} (o : Option X) → is_some o ≡ true → (x : X) × (o ≡ Some x)
-some_of None e = let q : false ≡ true = e in cc
-some_of (Some x) e = (x, refl)
+below_mark top (Some k) e = (k, refl, ltb-true k top e)
 
 module _ (reach : LevelsReach) (expand : LevelsExpand) (g : Sight) (s : Search) (is : IsView g.rows g.id_at g.links)
     (start top : ℕ) (mark : ℕ → Option ℕ) (are : AreMarks g s start top mark) (keeps : KeepsWalks g.rows g.id_at g.links s start) where
@@ -146,14 +123,14 @@ module _ (reach : LevelsReach) (expand : LevelsExpand) (g : Sight) (s : Search) 
 
   -- an identifier of a number is reached exactly where the number has a mark
   pub reached_is : (v : ℕ) (a : Identifier) → g.id_at v ≡ Some a → is_reached g.rows s a ≡ is_some (mark v)
-  reached_is v a i = bool_is (is_reached g.rows s a) (is_some (mark v))
+  reached_is v a i = both_ways (is_reached g.rows s a) (is_some (mark v))
       (λ e. let r = reached_marked a (is.canon v a i) e
       in let m : mark v ≡ Some r.2.0 = ap mark (is.one_to_one v r.0 a i r.1) ∙ r.2.1
       in ap is_some m)
-      (λ e. let k = some_of (mark v) e in marked_reached v k.0 a i k.1)
+      (λ e. let k = some_is (mark v) e in marked_reached v k.0 a i k.1)
 
   pub not_reached : (a : Identifier) → IsIdentifier a → ((v : ℕ) → g.id_at v ≡ Some a → ⊥) → is_reached g.rows s a ≡ false
-  not_reached a i none = bool_is (is_reached g.rows s a) false
+  not_reached a i none = both_ways (is_reached g.rows s a) false
       (λ e. let r = reached_marked a i e in absurd (none r.0 r.1)) (λ e. let q : false ≡ true = e in cc)
 
   pub expanded_marked : (a : Identifier) → IsIdentifier a → is_expanded g.rows s a ≡ true
@@ -163,9 +140,9 @@ module _ (reach : LevelsReach) (expand : LevelsExpand) (g : Sight) (s : Search) 
       in let n = keeps.numbered x.1.0 a x.1.2
       in let m = walk_mark n.0 x.1.0 (omega (arith, x.1.1)) ((keeps.walks x.1.0 n.0 a n.1).1 x.1.2)
       in let low : is_below s.max_depth (mark n.0) ≡ true = subst (λ o. is_below s.max_depth o ≡ true) (sym m.1)
-      (lt_true m.0 s.max_depth (omega (arith, m.2, x.1.1)))
+      (lt-ltb m.0 s.max_depth (omega (arith, m.2, x.1.1)))
       in let t : is_terminal_at s.terminal (g.id_at n.0) ≡ false = subst (λ o. is_terminal_at s.terminal o ≡ false) (sym n.1) x.0
-      in (n.0, n.1, both_true (is_below s.max_depth (mark n.0)) (not (is_terminal_at s.terminal (g.id_at n.0))) low (ap not t))
+      in (n.0, n.1, and_from (is_below s.max_depth (mark n.0)) (not (is_terminal_at s.terminal (g.id_at n.0))) low (ap not t))
 
   pub marked_expanded : (v : ℕ) (a : Identifier) → g.id_at v ≡ Some a → goes_on s (g.id_at v) (mark v) ≡ true
       → is_expanded g.rows s a ≡ true
@@ -173,17 +150,17 @@ module _ (reach : LevelsReach) (expand : LevelsExpand) (g : Sight) (s : Search) 
       let p = and_parts (is_below s.max_depth (mark v)) (not (is_terminal_at s.terminal (g.id_at v))) e
       in let m = below_mark s.max_depth (mark v) p.0
       in let w = mark_walk v m.0 m.1
-      in let t : is_terminal s.terminal a ≡ false = not_false (is_terminal s.terminal a)
+      in let t : is_terminal s.terminal a ≡ false = not-true (is_terminal s.terminal a)
       (subst (λ o. not (is_terminal_at s.terminal o) ≡ true) i p.1)
       in (expand g.rows s a is.graph are.identifier (is.canon v a i)).1 (t, (m.0, m.2, (keeps.walks m.0 v a i).0 w.1))
 
   -- an identifier of a number is expanded exactly where walks go on from the number
   pub expanded_is : (v : ℕ) (a : Identifier) → g.id_at v ≡ Some a → is_expanded g.rows s a ≡ goes_on s (g.id_at v) (mark v)
-  expanded_is v a i = bool_is (is_expanded g.rows s a) (goes_on s (g.id_at v) (mark v))
+  expanded_is v a i = both_ways (is_expanded g.rows s a) (goes_on s (g.id_at v) (mark v))
       (λ e. let r = expanded_marked a (is.canon v a i) e
       in subst (λ w. goes_on s (g.id_at w) (mark w) ≡ true) (is.one_to_one r.0 v a r.1 i) r.2)
       (marked_expanded v a i)
 
   pub not_expanded : (a : Identifier) → IsIdentifier a → ((v : ℕ) → g.id_at v ≡ Some a → ⊥) → is_expanded g.rows s a ≡ false
-  not_expanded a i none = bool_is (is_expanded g.rows s a) false
+  not_expanded a i none = both_ways (is_expanded g.rows s a) false
       (λ e. let r = expanded_marked a i e in absurd (none r.0 r.1)) (λ e. let q : false ≡ true = e in cc)

@@ -1,19 +1,19 @@
 -- Items that are not gathered tell nothing. In order: marks before the change by the numbers afterwards (`reached_before`,
 -- `expanded_before`); a number whose marks differ is in the patch; one identifier (`one_settled`), one link (`pair_settled`).
 use Rattle.std.proofs.Common.{◌≡◌, ◌≢◌, ◌⊎◌, inl, inr, ℕ, Bool, true, false, cond, not, ◌&&◌, ◌||◌, Option, Some, None, List, [], ◌∷◌, ◌++◌}
-use Rattle.std.proofs.Common.{is_some, unwrap_or, nat_eq, refl, ap, ◌∙◌, sym, subst, arith}
+use Rattle.std.proofs.Common.{is_some, unwrap_or, nat_eq, refl, ap, ◌∙◌, sym, subst}
 use Rattle.std.proofs.Math.Bool.{beq}
-use Rattle.std.proofs.lemmas.Bool.{cases_Bool}
-use Rattle.std.proofs.lemmas.Bool.Decides.{nat_tests}
+use Rattle.std.proofs.lemmas.Bool.{cases_Bool, eqb-true}
 use Rattle.std.proofs.lemmas.Option.{none-some, same_Some}
+use Rattle.std.specs.Cmp.{both_ways}
 use Rattle.std.specs.List.{AllByRecursion, filter}
 use Rattle.ifmap_ident.specs.declared.identifiers.Identifier.{Identifier}
 use Rattle.ifmap_ident.specs.declared.items.Item.{Item}
 use Rattle.ifmap_ident.specs.declared.items.Item.TheVariants.{One, Pair}
 use Rattle.ifmap_ident.specs.Canon.{IsIdentifier}
 use Rattle.ifmap_ident.specs.Items.{IsCanonItem, pair_of}
-use Rattle.ifmap_lemmas.specs.Having.{Has, filter_has, has_either, has_filter, has_from, has_joined, has_left, has_map, has_mapped}
-use Rattle.ifmap_lemmas.specs.Having.{has_right, joined_has, map_has, mapped_has}
+use Rattle.ifmap_lemmas.specs.Having.{Has, filter_has, has_either, has_filter, has_from, has_joined, has_left, has_map, has_mapped, has_right, joined_has, map_has, mapped_has, all_has}
+use Rattle.ifmap_lemmas.specs.Options.{some_is}
 use Rattle.ifmap_plans.specs.declared.plans.ItemChange.{ItemChange}
 use Rattle.ifmap_plans.specs.Plans.{change_of}
 use Rattle.ifmap_region.specs.Marks.{over, row_of}
@@ -30,12 +30,11 @@ use Rattle.ifmap_fresh.specs.Reached.{is_expanded, is_reached}
 use Rattle.ifmap_delta.specs.Changes.{ShowsAfter}
 use Rattle.ifmap_delta.specs.Shown.{goes_on}
 use Rattle.ifmap_delta.specs.Sights.{AreMarks, Sight}
-use Rattle.ifmap_delta.specs.Touched.{IsSettled, brought, item_at, item_where, is_looked_at_either, linked, moved, planned, turns}
+use Rattle.ifmap_delta.specs.Touched.{IsSettled, brought_items, item_at, item_where, is_looked_at_either, linked_items, moved_items, planned_items, turns}
 use Rattle.ifmap_delta.proofs.Flipping.{change_at, unchanged}
 use Rattle.ifmap_fresh.specs.laws.JoiningLaws.{match_turned, some_there}
-use Rattle.ifmap_delta.proofs.Marking.{LevelsExpand, LevelsReach, bool_is, expanded_is, expanded_marked, mark_named, marked_expanded}
+use Rattle.ifmap_delta.proofs.Marking.{LevelsExpand, LevelsReach, expanded_is, expanded_marked, mark_named, marked_expanded}
 use Rattle.ifmap_delta.proofs.Marking.{marked_reached, reached_is, reached_marked}
-use Rattle.ifmap_folds.specs.laws.RisingLaws.{member_of}
 use Rattle.ifmap_fresh.specs.laws.SameLaws.{Tells, pair_canon, pair_is, pair_turned}
 
 -- two tests agree, or are told apart
@@ -51,22 +50,15 @@ same_not true false e f = let q : true ≡ false = e in cc
 same_not false true e f = let q : false ≡ true = e in cc
 same_not false false e f = let q : false ≡ true = f in cc
 
-some_of : {X : Type 0} (o : Option X) → is_some o ≡ true → (x : X) × (o ≡ Some x)
-some_of None e = let q : false ≡ true = e in cc
-some_of (Some x) e = (x, refl)
-
 or_false : (p q : Bool) → ((p || q) ≡ true → ⊥) → (p ≡ false) × (q ≡ false)
 or_false true q f = absurd (f refl)
 or_false false true f = absurd (f refl)
 or_false false false f = (refl, refl)
 
-equal : (a b : ℕ) → nat_eq a b ≡ true → b ≡ a
-equal a b e = grind (arith, nat_tests)
-
 row_has : (es : List (ℕ × Option ℕ)) (v : ℕ) (r : Option ℕ) → row_of es v ≡ Some r → Has (numbers_of es) v
 row_has [] v r e = absurd (none-some r e)
 row_has (x ∷ xs) v r e = elim (cases_Bool (nat_eq v x.0)) [
-  | inl t ↦ inl (equal v x.0 t)
+  | inl t ↦ inl (sym (eqb-true v x.0 t))
   | inr t ↦ inr (row_has xs v r (rw t at e))
 ]
 
@@ -85,17 +77,17 @@ module _ (tells : Tells) (reach : LevelsReach) (expand : LevelsExpand) (old new 
     (keeps : KeepsWalks old.rows old.id_at old.links s start) (keeps' : KeepsWalks new.rows new.id_at new.links s start') where
   -- an identifier is reached before the change exactly where its number has a mark, which is the one that it has afterwards
   pub reached_before : (v : ℕ) (a : Identifier) → new.id_at v ≡ Some a → is_reached old.rows s a ≡ is_some (mark v)
-  reached_before v a i = bool_is (is_reached old.rows s a) (is_some (mark v))
+  reached_before v a i = both_ways (is_reached old.rows s a) (is_some (mark v))
       (λ e. let r = reached_marked reach expand old s was start top mark before keeps a (is.canon v a i) e
       in let same : v ≡ r.0 = is.one_to_one v r.0 a i (change.numbers r.0 a r.1)
       in ap is_some (ap mark same ∙ r.2.1))
-      (λ e. let k = some_of (mark v) e
+      (λ e. let k = some_is (mark v) e
       in let n = mark_named reach expand old s was start top mark before keeps v k.0 k.1
       in let same : n.0 ≡ a = same_Some n.0 a (sym (change.numbers v n.0 n.1) ∙ i)
       in marked_reached reach expand old s was start top mark before keeps v k.0 a (n.1 ∙ ap Some same) k.1)
 
   pub expanded_before : (v : ℕ) (a : Identifier) → new.id_at v ≡ Some a → is_expanded old.rows s a ≡ goes_on s (new.id_at v) (mark v)
-  expanded_before v a i = bool_is (is_expanded old.rows s a) (goes_on s (new.id_at v) (mark v))
+  expanded_before v a i = both_ways (is_expanded old.rows s a) (goes_on s (new.id_at v) (mark v))
       (λ e. let r = expanded_marked reach expand old s was start top mark before keeps a (is.canon v a i) e
       in let same : r.0 ≡ v = is.one_to_one r.0 v a (change.numbers r.0 a r.1) i
       in subst (λ o. goes_on s o (mark v) ≡ true) (sym i)
@@ -115,14 +107,14 @@ module _ (tells : Tells) (reach : LevelsReach) (expand : LevelsExpand) (old new 
 
   module _ (numbers : List ℕ) (all : (v : ℕ) → mark v ≢ mark' v → Has numbers v) where
     abbrev gathered : List Item
-    gathered = planned (is_looked_at_either old new s) changes ++ moved new s mark mark' numbers
+    gathered = planned_items (is_looked_at_either old new s) changes ++ moved_items new s mark mark' numbers
 
     abbrev brings : ℕ → List Item
-    brings v = brought new s v (mark v) (mark' v)
+    brings v = brought_items new s v (mark v) (mark' v)
 
     by_moved : (v : ℕ) (x : Item) → mark v ≢ mark' v → Has (brings v) x → Has gathered x
     by_moved v x differ h =
-        has_right (planned (is_looked_at_either old new s) changes) (moved new s mark mark' numbers) x
+        has_right (planned_items (is_looked_at_either old new s) changes) (moved_items new s mark mark' numbers) x
         (has_joined brings numbers v x (all v differ) h)
 
     reached_changes : (v : ℕ) (a : Identifier) → new.id_at v ≡ Some a → not (beq (is_some (mark v)) (is_some (mark' v))) ≡ true
@@ -130,7 +122,7 @@ module _ (tells : Tells) (reach : LevelsReach) (expand : LevelsExpand) (old new 
     reached_changes v a i t =
         by_moved v (One a) (λ e. same_not (is_some (mark v)) (is_some (mark' v)) (ap is_some e) t)
         (has_left (cond (not (beq (is_some (mark v)) (is_some (mark' v)))) (alone (new.id_at v)) [])
-        (cond (turns new s v (mark v) (mark' v)) (linked new s v) []) (One a)
+        (cond (turns new s v (mark v) (mark' v)) (linked_items new s v) []) (One a)
         (subst (λ b. Has (cond b (alone (new.id_at v)) []) (One a)) (sym t) (subst (λ o. Has (alone o) (One a)) (sym i) (inl refl))))
 
     -- the links of a number that walks go on from at one time alone are gathered
@@ -151,8 +143,8 @@ module _ (tells : Tells) (reach : LevelsReach) (expand : LevelsExpand) (old new 
         in by_moved v x
         (λ q. same_not (goes_on s (new.id_at v) (mark v)) (goes_on s (new.id_at v) (mark' v)) (ap (goes_on s (new.id_at v)) q) t)
         (has_right (cond (not (beq (is_some (mark v)) (is_some (mark' v)))) (alone (new.id_at v)) [])
-        (cond (turns new s v (mark v) (mark' v)) (linked new s v) []) x
-        (subst (λ b. Has (cond b (linked new s v) []) x) (sym t)
+        (cond (turns new s v (mark v) (mark' v)) (linked_items new s v) []) x
+        (subst (λ b. Has (cond b (linked_items new s v) []) x) (sym t)
         (has_mapped (λ seen. item_at new s v (Some seen)) (new.links v) there.0 x there.1 at)))
 
     one_settled : (a : Identifier) → IsIdentifier a → (Has gathered (One a) → ⊥) → is_reached old.rows s a ≡ is_reached new.rows s a
@@ -237,8 +229,8 @@ module _ (tells : Tells) (reach : LevelsReach) (expand : LevelsExpand) (old new 
             let at = change_at tells old new s was is changes change x c i e
             in let looks : ItemChange → Bool = λ d. is_looked_at_either old new s d.item
             in let none = or_false (is_looked_at old.rows s c.item) (is_looked_at new.rows s c.item)
-            (λ t. out (has_left (planned (is_looked_at_either old new s) changes) (moved new s mark mark' numbers) x
-            (subst (λ y. Has (planned (is_looked_at_either old new s) changes) y) at.1
+            (λ t. out (has_left (planned_items (is_looked_at_either old new s) changes) (moved_items new s mark mark' numbers) x
+            (subst (λ y. Has (planned_items (is_looked_at_either old new s) changes) y) at.1
             (has_map (λ (d : ItemChange). d.item) (filter looks changes) c (has_filter looks changes c at.0 t)))))
             in let p : is_looked_at old.rows s x ≡ false = subst (λ y. is_looked_at old.rows s y ≡ false) at.1 none.0
             in let q : is_looked_at new.rows s x ≡ false = subst (λ y. is_looked_at new.rows s y ≡ false) at.1 none.1
@@ -263,22 +255,23 @@ module _ (old new : Sight) (s : Search) (is : IsView new.rows new.id_at new.link
   along_canon v None x q = absurd (none-some x q)
   along_canon v (Some w) x q = ends_canon v w (new.id_at v) (new.id_at w) x refl refl q
 
-  linked_canon : (b : Bool) (v : ℕ) (x : Item) → Has (cond b (linked new s v) []) x → IsCanonItem x
+  linked_canon : (b : Bool) (v : ℕ) (x : Item) → Has (cond b (linked_items new s v) []) x → IsCanonItem x
   linked_canon false v x h = absurd h
   linked_canon true v x h =
       let m = mapped_has (λ seen. item_at new s v (Some seen)) (new.links v) x h
       in along_canon v (end_where new.rows new.id_at s.match_links v (Some m.0)) x m.2
 
-  pub gathered_canon : (x : Item) → Has (planned (is_looked_at_either old new s) changes ++ moved new s mark mark' numbers) x
+  pub gathered_canon : (x : Item) → Has (planned_items (is_looked_at_either old new s) changes ++ moved_items new s mark mark' numbers) x
       → IsCanonItem x
-  gathered_canon x h = elim (has_either (planned (is_looked_at_either old new s) changes) (moved new s mark mark' numbers) x h) [
-    | inl k ↦ let looks : ItemChange → Bool = λ d. is_looked_at_either old new s d.item
-        in let m = map_has (λ (d : ItemChange). d.item) (filter looks changes) x k
-        in subst IsCanonItem m.2 (member_of (λ d. IsCanonItem d.item) changes canon m.0 (filter_has looks changes m.0 m.1).0)
-    | inr k ↦ let j = joined_has (λ v. brought new s v (mark v) (mark' v)) numbers x k
-        in elim (has_either (cond (not (beq (is_some (mark j.0)) (is_some (mark' j.0)))) (alone (new.id_at j.0)) [])
-        (cond (turns new s j.0 (mark j.0) (mark' j.0)) (linked new s j.0) []) x j.2) [
-          | inl l ↦ alone_canon (not (beq (is_some (mark j.0)) (is_some (mark' j.0)))) (new.id_at j.0) x (is.canon j.0) l
-          | inr l ↦ linked_canon (turns new s j.0 (mark j.0) (mark' j.0)) j.0 x l
-        ]
-  ]
+  gathered_canon x h = elim (has_either (planned_items (is_looked_at_either old new s) changes)
+      (moved_items new s mark mark' numbers) x h) [
+        | inl k ↦ let looks : ItemChange → Bool = λ d. is_looked_at_either old new s d.item
+            in let m = map_has (λ (d : ItemChange). d.item) (filter looks changes) x k
+            in subst IsCanonItem m.2 (all_has (λ d. IsCanonItem d.item) changes canon m.0 (filter_has looks changes m.0 m.1).0)
+        | inr k ↦ let j = joined_has (λ v. brought_items new s v (mark v) (mark' v)) numbers x k
+            in elim (has_either (cond (not (beq (is_some (mark j.0)) (is_some (mark' j.0)))) (alone (new.id_at j.0)) [])
+            (cond (turns new s j.0 (mark j.0) (mark' j.0)) (linked_items new s j.0) []) x j.2) [
+              | inl l ↦ alone_canon (not (beq (is_some (mark j.0)) (is_some (mark' j.0)))) (new.id_at j.0) x (is.canon j.0) l
+              | inr l ↦ linked_canon (turns new s j.0 (mark j.0) (mark' j.0)) j.0 x l
+            ]
+      ]

@@ -1,14 +1,14 @@
 -- What is stored on an item rises.
-use Rattle.std.proofs.Common.{◌≡◌, Bool, true, false, cond, List, [], ◌∷◌, map, refl, ap, ◌∙◌, sym}
+use Rattle.std.proofs.Common.{◌≡◌, Bool, true, false, cond, List, [], ◌∷◌, map, ap, ◌∙◌, sym}
 use Rattle.std.proofs.lemmas.List.Kept.{IsStrictlySortedBy-filter}
+use Rattle.std.specs.Cmp.{Equal-is}
 use Rattle.std.specs.List.{AllByRecursion, filter}
 use Rattle.std.specs.List.Sorted.{IsStrictlySortedBy}
-use Rattle.std.specs.Ordering.{is_eq, ordering_reverse, ordering_then}
-use Rattle.std.specs.declared.cmp.Ordering.{Ordering}
-use Rattle.std.specs.declared.cmp.Ordering.TheVariants.{Less, Equal, Greater}
+use Rattle.std.specs.Ordering.{ordering_reverse, ordering_then}
+use Rattle.std.specs.declared.cmp.Ordering.TheVariants.{Less, Equal}
 use Rattle.ifmap_ident.specs.declared.items.Item.{Item}
 use Rattle.ifmap_ident.specs.Items.{item_order, items_tie, same_item}
-use Rattle.ifmap_lemmas.specs.Having.{filter_has}
+use Rattle.ifmap_lemmas.specs.Having.{filter_has, has_all}
 use Rattle.ifmap_plans.specs.laws.KeyLaws.{items_total}
 use Rattle.ifmap_search.specs.declared.searches.Search.{Search}
 use Rattle.ifmap_view.specs.declared.attachments.Attachment.{Attachment}
@@ -16,15 +16,9 @@ use Rattle.ifmap_view.specs.Attachments.{IsGraph, attachment_order, stored_order
 use Rattle.ifmap_view.specs.Rows.{stored_on}
 use Rattle.ifmap_fresh.specs.Fresh.{is_looked_at}
 use Rattle.ifmap_delta.specs.Shown.{shown_on}
-use Rattle.ifmap_folds.specs.laws.RisingLaws.{all_of}
-
-is_equal : (o : Ordering) → is_eq o ≡ true → o ≡ Equal
-is_equal Less e = let q : false ≡ true = e in cc
-is_equal Equal e = refl
-is_equal Greater e = let q : false ≡ true = e in cc
 
 tied : (x y : Item) → same_item x y ≡ true → item_order x y ≡ Equal
-tied x y e = is_equal (item_order x y) (sym (items_tie x y) ∙ e)
+tied x y e = (Equal-is (item_order x y)).0 (sym (items_tie x y) ∙ e)
 
 -- on one item, attachments are in the order of what is stored
 less_stored : (x : Item) (a b : Attachment) → same_item a.item x ≡ true → same_item b.item x ≡ true → attachment_order a b ≡ Less
@@ -53,7 +47,7 @@ nothing_rises = tt
 pub stored_rises : (rows : List Attachment) (x : Item) → IsGraph rows → IsStrictlySortedBy stored_order (stored_on x rows)
 stored_rises rows x graph =
     let on : Attachment → Bool = λ r. same_item r.item x
-    in map_rises x (filter on rows) (all_of (λ b. same_item b.item x ≡ true) (filter on rows) (λ b h. (filter_has on rows b h).1))
+    in map_rises x (filter on rows) (has_all (λ b. same_item b.item x ≡ true) (filter on rows) (λ b h. (filter_has on rows b h).1))
     (IsStrictlySortedBy-filter attachment_order on rows graph.rising)
 
 pub shown_rises : (rows : List Attachment) (s : Search) (x : Item) → IsGraph rows → IsStrictlySortedBy stored_order (shown_on rows s x)

@@ -5,20 +5,21 @@ use Rattle.std.proofs.Common.{sym, subst, arith}
 use Rattle.std.proofs.lemmas.Bool.{and_parts, cases_Bool}
 use Rattle.std.proofs.lemmas.List.Kept.{IsStrictlySortedBy-filter}
 use Rattle.std.proofs.lemmas.List.Sums.{sum_by-cons}
-use Rattle.std.specs.Cmp.{IsTotalOrder}
+use Rattle.std.specs.Cmp.{Equal-is, IsTotalOrder, tied_back}
 use Rattle.std.specs.List.{AllByRecursion, filter, sum}
 use Rattle.std.specs.List.Sorted.{IsStrictlySortedBy}
 use Rattle.std.specs.Ordering.{is_eq, ordering_reverse}
 use Rattle.std.specs.Str.{bytes_eq}
 use Rattle.std.specs.declared.cmp.Ordering.{Ordering}
-use Rattle.std.specs.declared.cmp.Ordering.TheVariants.{Less, Equal, Greater}
+use Rattle.std.specs.declared.cmp.Ordering.TheVariants.{Less, Equal}
 use Rattle.ifmap_elem.specs.Canonical.{canonical_bytes}
 use Rattle.ifmap_ident.specs.declared.items.Item.{Item}
 use Rattle.ifmap_ident.specs.declared.items.Item.TheVariants.{One, Pair}
 use Rattle.ifmap_ident.specs.Identifiers.{identifier_bytes, same_identifier}
 use Rattle.ifmap_ident.specs.Items.{item_size, same_item}
-use Rattle.ifmap_lemmas.specs.Having.{Has, any_has, filter_has, has_any, has_filter}
+use Rattle.ifmap_lemmas.specs.Having.{Has, any_has, filter_has, has_any, has_filter, all_has}
 use Rattle.ifmap_lemmas.specs.Texts.{eq_tells}
+use Rattle.ifmap_lemmas.specs.Orderings.{not_both, not_equal}
 use Rattle.ifmap_search.specs.declared.results.Entry.{Entry}
 use Rattle.ifmap_search.specs.declared.searches.Search.{Search}
 use Rattle.ifmap_search.specs.Sizes.{entries_size, entry_size}
@@ -27,7 +28,7 @@ use Rattle.ifmap_view.specs.Attachments.{IsGraph, attachment_order, stored_bytes
 use Rattle.ifmap_fresh.specs.Fresh.{fresh, is_found}
 use Rattle.ifmap_folds.specs.Differences.{difference, entry_bytes, entry_order, has_entry, same_entry}
 use Rattle.ifmap_folds.specs.laws.FoldingLaws.{entries_tie, entries_total, same_turned}
-use Rattle.ifmap_folds.specs.laws.RisingLaws.{head_rises, member_of, tail_rises}
+use Rattle.ifmap_folds.specs.laws.RisingLaws.{head_rises, tail_rises}
 use Rattle.ifmap_delta.proofs.Telling.{entry_of}
 
 -- a sum over a list, in two parts
@@ -52,21 +53,12 @@ parts f p (x ∷ xs) = elim (cases_Bool (p x)) [
 -- two rising lists, of which each has what ties with a member of the other, have one sum of what ties give alike
 module _ {X : Type 0} (order : X → X → Ordering) (total : IsTotalOrder order) (f : X → ℕ)
     (alike : (x y : X) → order x y ≡ Equal → f x ≡ f y) where
-  equal_turned : (x y : X) → order x y ≡ Equal → order y x ≡ Equal
-  equal_turned x y e = total.antisymm y x ∙ ap ordering_reverse e
-
   less_left : (x y z : X) → order x y ≡ Equal → order x z ≡ Less → order y z ≡ Less
   less_left x y z e l = sym (total.congr x y z e) ∙ l
 
   less_right : (x y z : X) → order y z ≡ Equal → order x y ≡ Less → order x z ≡ Less
   less_right x y z e l =
       total.antisymm x z ∙ ap ordering_reverse (sym (total.congr y z x e) ∙ total.antisymm y x ∙ ap ordering_reverse l)
-
-  not_both : (x y : X) → order x y ≡ Less → order y x ≡ Less → ⊥
-  not_both x y e g = let q : Greater ≡ Less = sym (total.antisymm y x ∙ ap ordering_reverse e) ∙ g in cc
-
-  not_equal : (x y : X) → order x y ≡ Less → order x y ≡ Equal → ⊥
-  not_equal x y e g = let q : Less ≡ Equal = sym e ∙ g in cc
 
   abbrev Meets : List X → List X → Type 0
   Meets xs ys = (x : X) → Has xs x → (y : X) × Has ys y × (order x y ≡ Equal)
@@ -77,12 +69,12 @@ module _ {X : Type 0} (order : X → X → Ordering) (total : IsTotalOrder order
   one_sum [] (y ∷ ys) r q a b = absurd (b y (inl refl)).1
   one_sum (x ∷ xs) [] r q a b = absurd (a x (inl refl)).1
   one_sum (x ∷ xs) (y ∷ ys) r q a b =
-      let below : (z : X) → Has xs z → order x z ≡ Less = λ z h. member_of (λ w. order x w ≡ Less) xs (head_rises order total x xs r) z h
-      in let above : (z : X) → Has ys z → order y z ≡ Less = λ z h. member_of (λ w. order y w ≡ Less) ys (head_rises order total y ys q) z h
+      let below : (z : X) → Has xs z → order x z ≡ Less = λ z h. all_has (λ w. order x w ≡ Less) xs (head_rises order total x xs r) z h
+      in let above : (z : X) → Has ys z → order y z ≡ Less = λ z h. all_has (λ w. order y w ≡ Less) ys (head_rises order total y ys q) z h
       in let heads : order x y ≡ Equal = first x y below above (a x (inl refl)) (b y (inl refl))
       in let rest : sum_by f xs ≡ sum_by f ys = one_sum xs ys (tail_rises order total x xs r) (tail_rises order total y ys q)
       (λ z h. later ys x y heads z (below z h) (a z (inr h)))
-      (λ z h. later xs y x (equal_turned x y heads) z (above z h) (b z (inr h)))
+      (λ z h. later xs y x (tied_back total x y heads) z (above z h) (b z (inr h)))
       in omega (arith, alike x y heads, rest, sum_by-cons f x xs, sum_by-cons f y ys)
     where
       first : (x y : X) → ((z : X) → Has xs z → order x z ≡ Less) → ((z : X) → Has ys z → order y z ≡ Less)
@@ -90,16 +82,16 @@ module _ {X : Type 0} (order : X → X → Ordering) (total : IsTotalOrder order
       first x y below above p q = elim p.1 [
         | inl e ↦ subst (λ v. order x v ≡ Equal) (sym e) p.2
         | inr h ↦ elim q.1 [
-          | inl e ↦ equal_turned y x (subst (λ w. order y w ≡ Equal) (sym e) q.2)
-          | inr k ↦ absurd (not_both x y (less_right x q.0 y (equal_turned y q.0 q.2) (below q.0 k))
-              (less_right y p.0 x (equal_turned x p.0 p.2) (above p.0 h)))
+          | inl e ↦ tied_back total y x (subst (λ w. order y w ≡ Equal) (sym e) q.2)
+          | inr k ↦ absurd (not_both total x y (less_right x q.0 y (tied_back total y q.0 q.2) (below q.0 k))
+              (less_right y p.0 x (tied_back total x p.0 p.2) (above p.0 h)))
         ]
       ]
 
       later : (ys : List X) (x y : X) → order x y ≡ Equal → (z : X) → order x z ≡ Less → (w : X) × Has (y ∷ ys) w × (order z w ≡ Equal)
           → (w : X) × Has ys w × (order z w ≡ Equal)
       later ys x y heads z l p = elim p.1 [
-        | inl e ↦ absurd (not_equal x y (less_right x z y (subst (λ v. order z v ≡ Equal) (sym e) p.2) l) heads)
+        | inl e ↦ absurd (not_equal (order x y) (less_right x z y (subst (λ v. order z v ≡ Equal) (sym e) p.2) l) heads)
         | inr h ↦ (p.0, h, p.2)
       ]
 
@@ -150,11 +142,6 @@ fresh_rises rows s graph =
 tied_size : (x y : Entry) → entry_order x y ≡ Equal → entry_size x ≡ entry_size y
 tied_size x y e = same_size x y (entries_tie x y ∙ ap is_eq e)
 
-is_equal : (o : Ordering) → is_eq o ≡ true → o ≡ Equal
-is_equal Less e = let q : false ≡ true = e in cc
-is_equal Equal e = refl
-is_equal Greater e = let q : false ≡ true = e in cc
-
 -- what one list shares with another meets what that one shares with it
 shared : (a b : List Entry) (x : Entry) → Has (filter (has_entry b) a) x
     → (y : Entry) × Has (filter (has_entry a) b) y × (entry_order x y ≡ Equal)
@@ -165,7 +152,7 @@ shared a b x h =
     in (
       y.0,
       has_filter (has_entry a) b y.0 y.1 (has_any (same_entry y.0) a x f.0 turned),
-      is_equal (entry_order x y.0) (sym (entries_tie x y.0) ∙ y.2),
+      (Equal-is (entry_order x y.0)).0 (sym (entries_tie x y.0) ∙ y.2),
     )
 
 pub sizes_differ : (a b : List Entry) → IsStrictlySortedBy entry_order a → IsStrictlySortedBy entry_order b → (before after : ℕ)

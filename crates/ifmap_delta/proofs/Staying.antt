@@ -1,9 +1,9 @@
 -- A change of whose items no end has a mark. In order: what is so of one change (`far_change`); no flip counts (`no_flips`), so
 -- the marks are those afterwards (`marks_stay`); the search looks at none of the items, before or afterwards (`far_looked`);
 -- so nothing is gathered, and each item tells nothing (`all_settled`).
-use Rattle.std.proofs.Common.{◌≡◌, ◌∙◌, inl, inr, ℕ, Bool, true, false, ◌&&◌, ◌||◌, Option, Some, None, List, [], ◌∷◌, ◌++◌}
+use Rattle.std.proofs.Common.{◌≡◌, ◌∙◌, inl, inr, ℕ, Bool, true, false, ◌||◌, Option, Some, None, List, [], ◌∷◌, ◌++◌}
 use Rattle.std.proofs.Common.{is_some, refl, ap, sym, subst}
-use Rattle.std.proofs.lemmas.Bool.{cases_Bool}
+use Rattle.std.proofs.lemmas.Bool.{and_right, or_parts}
 use Rattle.std.specs.List.{list_any, filter}
 use Rattle.std.specs.List.Sorted.{IsStrictlySortedBy}
 use Rattle.ifmap_ident.specs.declared.identifiers.Identifier.{Identifier}
@@ -11,7 +11,7 @@ use Rattle.ifmap_ident.specs.declared.items.Item.{Item}
 use Rattle.ifmap_ident.specs.declared.items.Item.TheVariants.{One, Pair}
 use Rattle.ifmap_ident.specs.Canon.{IsIdentifier}
 use Rattle.ifmap_ident.specs.Items.{IsCanonItem, item_order}
-use Rattle.ifmap_lemmas.specs.Having.{Has, filter_has, has_either, has_from, map_has}
+use Rattle.ifmap_lemmas.specs.Having.{Has, filter_has, has_either, has_from, map_has, all_has}
 use Rattle.ifmap_plans.specs.declared.plans.ItemChange.{ItemChange}
 use Rattle.ifmap_region.specs.declared.flips.Flip.{Flip}
 use Rattle.ifmap_region.specs.Flips as region
@@ -22,23 +22,18 @@ use Rattle.ifmap_fresh.specs.Matching.{is_match}
 use Rattle.ifmap_fresh.specs.Numbered.{KeepsWalks}
 use Rattle.ifmap_fresh.specs.Reached.{is_expanded, is_reached}
 use Rattle.ifmap_fresh.specs.laws.SameLaws.{Tells}
-use Rattle.ifmap_folds.specs.laws.RisingLaws.{member_of}
 use Rattle.ifmap_delta.specs.declared.locating.LocatedChange.{LocatedChange}
 use Rattle.ifmap_delta.specs.Changes.{ShowsAfter}
 use Rattle.ifmap_delta.specs.Flipped.{AreFlipsOf, IsFlipAt, is_marked, is_near, is_one_marked}
 use Rattle.ifmap_delta.specs.Located.{AreEach, AreLocated, IsLocatedTwice, IsNumberOf}
 use Rattle.ifmap_delta.specs.Shown.{goes_on}
 use Rattle.ifmap_delta.specs.Sights.{AreMarks, Links, Sight, is_terminal_in}
-use Rattle.ifmap_delta.specs.Touched.{IsSettled, is_looked_at_either, moved, planned}
+use Rattle.ifmap_delta.specs.Touched.{IsSettled, is_looked_at_either, moved_items, planned_items}
 use Rattle.ifmap_delta.proofs.InStep.{number_found, number_none}
 use Rattle.ifmap_delta.proofs.Marking.{LevelsExpand, LevelsReach, expanded_is, not_expanded, not_reached, reached_is}
 use Rattle.ifmap_delta.proofs.Repairing.{repaired_marks}
 use Rattle.ifmap_delta.proofs.Settling.{expanded_before, reached_before, settled}
 use Rattle.ifmap_delta.proofs.Walking.{depths_over}
-
-neither : (p q : Bool) → (p || q) ≡ false → (p ≡ false) × (q ≡ false)
-neither true q e = let c : true ≡ false = e in cc
-neither false q e = (refl, e)
 
 never_both : (b : Bool) → b ≡ true → b ≡ false → ⊥
 never_both b t f = let c : true ≡ false = sym t ∙ f in cc
@@ -46,10 +41,6 @@ never_both b t f = let c : true ≡ false = sym t ∙ f in cc
 no_mark : (o : Option ℕ) → is_some o ≡ false → o ≡ None
 no_mark None e = refl
 no_mark (Some k) e = let c : true ≡ false = e in cc
-
-and_false : (p q : Bool) → q ≡ false → (p && q) ≡ false
-and_false true q e = e
-and_false false q e = refl
 
 pub none_rises : IsStrictlySortedBy item_order []
 unfolding IsStrictlySortedBy
@@ -60,8 +51,8 @@ each_far : {X Y : Type 0} (R : X → Y → Type 0) (p : Y → Bool) (xs : List X
     → list_any p ys ≡ false → (x : X) → Has xs x → (y : Y) × R x y × (p y ≡ false)
 each_far R p [] ys a f x h = absurd h
 each_far R p (z ∷ xs) [] a f x h = absurd a
-each_far R p (z ∷ xs) (y ∷ ys) a f x (inl e) = (y, subst (λ w. R w y) e a.0, (neither (p y) (list_any p ys) f).0)
-each_far R p (z ∷ xs) (y ∷ ys) a f x (inr h) = each_far R p xs ys a.1 (neither (p y) (list_any p ys) f).1 x h
+each_far R p (z ∷ xs) (y ∷ ys) a f x (inl e) = (y, subst (λ w. R w y) e a.0, (or_parts (p y) (list_any p ys) f).0)
+each_far R p (z ∷ xs) (y ∷ ys) a f x (inr h) = each_far R p xs ys a.1 (or_parts (p y) (list_any p ys) f).1 x h
 
 -- an end of a flip that has a mark is one of the item
 pub near_flip : (old new : Sight) (s : Search) (mark : ℕ → Option ℕ) (x : Item) (l : LocatedChange) → IsLocatedTwice old new x l
@@ -135,26 +126,26 @@ module _ (tells : Tells) (old new : Sight) (s : Search) (was : IsView old.rows o
     far_at : (x : Item) → IsCanonItem x → (l : LocatedChange) → IsLocatedTwice old new x l → is_near mark l ≡ false
         → is_looked_at_either old new s x ≡ false
     far_at (One a) i l t f =
-        let n = neither (is_marked mark l.after.first) (is_marked mark l.after.second) f
+        let n = or_parts (is_marked mark l.after.first) (is_marked mark l.after.second) f
         in let r = far_reached a i.identifiers.0 l.after.first t.after.ends n.0
         in ap (λ c. c || is_reached new.rows s a) r.0 ∙ r.1
     far_at (Pair a b) i l t f =
-        let n = neither (is_marked mark l.after.first) (is_marked mark l.after.second) f
+        let n = or_parts (is_marked mark l.after.first) (is_marked mark l.after.second) f
         in let p = far_expanded a i.identifiers.0 l.after.first t.after.ends.0 n.0
         in let q = far_expanded b i.identifiers.1.0 l.after.second t.after.ends.1 n.1
-        in let out : is_looked_at old.rows s (Pair a b) ≡ false = and_false (is_match old.rows s.match_links a b)
+        in let out : is_looked_at old.rows s (Pair a b) ≡ false = and_right (is_match old.rows s.match_links a b)
         (is_expanded old.rows s a || is_expanded old.rows s b) (ap (λ c. c || is_expanded old.rows s b) p.0 ∙ q.0)
-        in let out' : is_looked_at new.rows s (Pair a b) ≡ false = and_false (is_match new.rows s.match_links a b)
+        in let out' : is_looked_at new.rows s (Pair a b) ≡ false = and_right (is_match new.rows s.match_links a b)
         (is_expanded new.rows s a || is_expanded new.rows s b) (ap (λ c. c || is_expanded new.rows s b) p.1 ∙ q.1)
         in ap (λ c. c || is_looked_at new.rows s (Pair a b)) out ∙ out'
 
     -- the search looks at none of the items
     far_looked : (c : ItemChange) → Has changes c → is_looked_at_either old new s c.item ≡ false
     far_looked c h =
-        let f = far_change c h in far_at c.item (member_of (λ d. IsCanonItem d.item) changes change.canon c h) f.0 f.1 f.2
+        let f = far_change c h in far_at c.item (all_has (λ d. IsCanonItem d.item) changes change.canon c h) f.0 f.1 f.2
 
-    none_gathered : (x : Item) → Has (planned (is_looked_at_either old new s) changes ++ moved new s mark mark []) x → ⊥
-    none_gathered x h = elim (has_either (planned (is_looked_at_either old new s) changes) (moved new s mark mark []) x h) [
+    none_gathered : (x : Item) → Has (planned_items (is_looked_at_either old new s) changes ++ moved_items new s mark mark []) x → ⊥
+    none_gathered x h = elim (has_either (planned_items (is_looked_at_either old new s) changes) (moved_items new s mark mark []) x h) [
       | inl k ↦ let looks : ItemChange → Bool = λ d. is_looked_at_either old new s d.item
           in let m = map_has (λ (d : ItemChange). d.item) (filter looks changes) x k
           in let p = filter_has looks changes m.0 m.1

@@ -3,21 +3,21 @@
 -- (`pointwise`); `difference_is`.
 use Rattle.std.proofs.Common.{◌≡◌, inl, inr, Bool, true, false, cond, not, ◌&&◌, List, [], ◌∷◌, ◌++◌, map, refl, ap, ◌∙◌}
 use Rattle.std.proofs.Common.{sym, subst}
-use Rattle.std.proofs.lemmas.Bool.{and_parts, cases_Bool}
+use Rattle.std.proofs.lemmas.Bool.{and_from, and_parts, cases_Bool}
 use Rattle.std.proofs.lemmas.List.{map-append}
 use Rattle.std.proofs.lemmas.List.Elements.{filter-append}
+use Rattle.std.specs.Cmp.{Equal-is, both_ways}
 use Rattle.std.specs.List.{AllByRecursion, filter, list_any}
 use Rattle.std.specs.List.Sorted.{IsStrictlySortedBy}
 use Rattle.std.specs.Ordering.{eq_by_cmp, is_eq}
 use Rattle.std.specs.Str.{bytes_eq}
-use Rattle.std.specs.declared.cmp.Ordering.{Ordering}
-use Rattle.std.specs.declared.cmp.Ordering.TheVariants.{Less, Equal, Greater}
 use Rattle.ifmap_elem.specs.Canonical.{canonical_bytes}
 use Rattle.ifmap_filter.specs.Meets.{meets_optional}
 use Rattle.ifmap_ident.specs.declared.items.Item.{Item}
 use Rattle.ifmap_ident.specs.Items.{IsCanonItem, item_order, same_item}
-use Rattle.ifmap_lemmas.specs.Having.{Has, any_has, filter_has, has_any, has_filter, has_map, map_has}
+use Rattle.ifmap_lemmas.specs.Having.{Has, any_has, filter_has, has_any, has_filter, has_map, map_has, has_all}
 use Rattle.ifmap_lemmas.specs.Texts.{eq_itself, eq_tells, same_texts, slice_cmp-same}
+use Rattle.ifmap_lemmas.specs.Filters.{filter_alike, filter_twice}
 use Rattle.ifmap_meta.specs.declared.stored.Stored.{Stored}
 use Rattle.ifmap_search.specs.declared.results.Entry.{Entry}
 use Rattle.ifmap_search.specs.declared.searches.Search.{Search}
@@ -25,23 +25,16 @@ use Rattle.ifmap_view.specs.declared.attachments.Attachment.{Attachment}
 use Rattle.ifmap_view.specs.Attachments.{IsGraph, stored_bytes, stored_order}
 use Rattle.ifmap_view.specs.Rows.{stored_on}
 use Rattle.ifmap_fresh.specs.Fresh.{fresh, is_found, is_looked_at}
-use Rattle.ifmap_fresh.specs.Gathered.{entry_at, gathered, has_item, row_at}
+use Rattle.ifmap_fresh.specs.Gathered.{entry_at, gathered_rows, has_item, row_at}
 use Rattle.ifmap_folds.specs.Differences.{difference, entry_bytes, has_entry, same_entry}
 use Rattle.ifmap_delta.specs.Shown.{shown_on}
 use Rattle.ifmap_delta.specs.Sights.{Sight}
 use Rattle.ifmap_delta.specs.Touched.{has_met, left_out_on}
 use Rattle.ifmap_fresh.specs.laws.GatheringLaws.{gathers, grouped}
-use Rattle.ifmap_delta.proofs.Marking.{bool_is, both_true}
-use Rattle.ifmap_folds.specs.laws.RisingLaws.{all_of}
 use Rattle.ifmap_fresh.specs.laws.SameLaws.{AreCanon, Tells, item_itself, member, same_item_is}
 
 abbrev pub entry_of : Attachment → Entry
 entry_of r = record { item = r.item; element = r.stored.element }
-
-is_equal : (o : Ordering) → is_eq o ≡ true → o ≡ Equal
-is_equal Less e = let q : false ≡ true = e in cc
-is_equal Equal e = refl
-is_equal Greater e = let q : false ≡ true = e in cc
 
 -- rows of one list of canonical bytes are one entry
 bytes_tie : (a b : Attachment) → bytes_eq (entry_bytes (entry_of a)) (entry_bytes (entry_of b)) ≡ true
@@ -55,28 +48,11 @@ tie_bytes : (a b : Attachment) → eq_by_cmp stored_order b.stored a.stored ≡ 
 unfolding entry_bytes stored_bytes
 tie_bytes a b e =
     subst (λ l. bytes_eq (canonical_bytes a.stored.element) l ≡ true)
-    (sym (same_texts (canonical_bytes b.stored.element) (canonical_bytes a.stored.element) (is_equal _ e)))
+    (sym (same_texts (canonical_bytes b.stored.element) (canonical_bytes a.stored.element) ((Equal-is _).0 e)))
     (eq_itself (canonical_bytes a.stored.element))
 
 tied_itself : (t : Stored) → eq_by_cmp stored_order t t ≡ true
 tied_itself t = ap is_eq (slice_cmp-same (stored_bytes t) (stored_bytes t) refl)
-
-filter_twice : {X : Type 0} (p q : X → Bool) (xs : List X) → filter q (filter p xs) ≡ filter (λ x. p x && q x) xs
-filter_twice p q [] = refl
-filter_twice p q (x ∷ xs) = elim (cases_Bool (p x)) [
-  | inl t ↦ elim (cases_Bool (q x)) [
-    | inl u ↦ rw (t, u) (ap (λ l. x ∷ l) (filter_twice p q xs))
-    | inr u ↦ rw (t, u) (filter_twice p q xs)
-  ]
-  | inr t ↦ rw t (filter_twice p q xs)
-]
-
-filter_same : {X : Type 0} (p q : X → Bool) (xs : List X) → AllByRecursion (λ r. p r ≡ q r) xs → filter p xs ≡ filter q xs
-filter_same p q [] a = refl
-filter_same p q (x ∷ xs) a = elim (cases_Bool (q x)) [
-  | inl t ↦ rw (a.0 ∙ t, t) (ap (λ l. x ∷ l) (filter_same p q xs a.1))
-  | inr t ↦ rw (a.0 ∙ t, t) (filter_same p q xs a.1)
-]
 
 filter_of_map : {X Y : Type 0} (f : X → Y) (q : Y → Bool) (xs : List X) → filter q (map f xs) ≡ map f (filter (λ x. q (f x)) xs)
 filter_of_map f q [] = refl
@@ -130,19 +106,19 @@ module _ (tells : Tells) (one other : Sight) (s : Search) (graph : IsGraph one.r
   abbrev left : List Item → List Entry
   left = left_out_on s.result_filter (shown_on one.rows s) (shown_on other.rows s)
 
-  joined : (is : List Item) → left is ≡ map entry_of (filter told (gathered one.rows is))
+  joined : (is : List Item) → left is ≡ map entry_of (filter told (gathered_rows one.rows is))
   joined [] = refl
   joined (x ∷ xs) =
       ap (λ l. l ++ left xs)
       (one_item x (is_looked_at one.rows s x) (λ t. met t && not (has_met s.result_filter (shown_on other.rows s x) t)) told (λ t. refl)
       (stored_on x one.rows))
       ∙ ap (λ l. map entry_of (filter told (map (row_at x) (stored_on x one.rows))) ++ l) (joined xs)
-      ∙ sym (map-append entry_of (filter told (map (row_at x) (stored_on x one.rows))) (filter told (gathered one.rows xs)))
-      ∙ sym (ap (map entry_of) (filter-append told (map (row_at x) (stored_on x one.rows)) (gathered one.rows xs)))
+      ∙ sym (map-append entry_of (filter told (map (row_at x) (stored_on x one.rows))) (filter told (gathered_rows one.rows xs)))
+      ∙ sym (ap (map entry_of) (filter-append told (map (row_at x) (stored_on x one.rows)) (gathered_rows one.rows xs)))
 
   in_other : (r : Attachment) → IsCanonItem r.item
       → has_entry (fresh other.rows s) (entry_of r) ≡ has_met s.result_filter (shown_on other.rows s r.item) r.stored
-  in_other r i = bool_is (has_entry (fresh other.rows s) (entry_of r)) (has_met s.result_filter (shown_on other.rows s r.item) r.stored)
+  in_other r i = both_ways (has_entry (fresh other.rows s) (entry_of r)) (has_met s.result_filter (shown_on other.rows s r.item) r.stored)
       forward (λ h. backward (is_looked_at other.rows s r.item) refl h)
     where
       forward : has_entry (fresh other.rows s) (entry_of r) ≡ true
@@ -163,7 +139,7 @@ module _ (tells : Tells) (one other : Sight) (s : Search) (graph : IsGraph one.r
           (subst (λ x. same_item m.0.item x ≡ true) (sym at) (item_itself m.0.item)))
           in subst (λ b. list_any (ties r) (cond b (stored_on r.item other.rows) []) ≡ true) (sym looked)
           (has_any (ties r) (stored_on r.item other.rows) m.0.stored there
-          (both_true (eq_by_cmp stored_order m.0.stored r.stored) (met m.0.stored) (bytes_tie r m.0 k.1) p.1))
+          (and_from (eq_by_cmp stored_order m.0.stored r.stored) (met m.0.stored) (bytes_tie r m.0 k.1) p.1))
 
       backward : (b : Bool) → is_looked_at other.rows s r.item ≡ b
           → has_met s.result_filter (cond b (stored_on r.item other.rows) []) r.stored ≡ true
@@ -178,13 +154,13 @@ module _ (tells : Tells) (one other : Sight) (s : Search) (graph : IsGraph one.r
           (member (λ r. IsCanonItem r.item) other.rows beside.items m.0 f.0).identifiers i.identifiers f.1
           in let seen : is_looked_at other.rows s m.0.item ≡ true = subst (λ x. is_looked_at other.rows s x ≡ true) (sym at) looked
           in let meets : met m.0.stored ≡ true = subst (λ y. met y ≡ true) (sym m.2) p.1
-          in let is : is_found other.rows s m.0 ≡ true = both_true (is_looked_at other.rows s m.0.item) (met m.0.stored) seen meets
+          in let is : is_found other.rows s m.0 ≡ true = and_from (is_looked_at other.rows s m.0.item) (met m.0.stored) seen meets
           in let bytes : bytes_eq (entry_bytes (entry_of r)) (entry_bytes (entry_of m.0)) ≡ true
           = tie_bytes r m.0 (subst (λ y. eq_by_cmp stored_order y r.stored ≡ true) (sym m.2) p.0)
           in let item : same_item r.item m.0.item ≡ true = subst (λ x. same_item r.item x ≡ true) (sym at) (item_itself r.item)
           in has_any (same_entry (entry_of r)) (fresh other.rows s) (entry_of m.0)
           (has_map entry_of (filter (is_found other.rows s) other.rows) m.0 (has_filter (is_found other.rows s) other.rows m.0 f.0 is))
-          (both_true (same_item r.item m.0.item) (bytes_eq (entry_bytes (entry_of r)) (entry_bytes (entry_of m.0))) item bytes)
+          (and_from (same_item r.item m.0.item) (bytes_eq (entry_bytes (entry_of r)) (entry_bytes (entry_of m.0))) item bytes)
 
   module _ (items : List Item) (rising : IsStrictlySortedBy item_order items) (canon : (x : Item) → Has items x → IsCanonItem x)
       (settled : (x : Item) → IsCanonItem x → has_item items x ≡ false
@@ -214,7 +190,7 @@ module _ (tells : Tells) (one other : Sight) (s : Search) (graph : IsGraph one.r
             in other_has ∙ subst (λ b. list_any (λ o. eq_by_cmp stored_order o r.stored && met o) (cond b (stored_on r.item other.rows) [])
             ≡ true) (sym seen)
             (has_any (λ o. eq_by_cmp stored_order o r.stored && met o) (stored_on r.item other.rows) r.stored there
-            (both_true (eq_by_cmp stored_order r.stored r.stored) (met r.stored) (tied_itself r.stored) m))
+            (and_from (eq_by_cmp stored_order r.stored r.stored) (met r.stored) (tied_itself r.stored) m))
 
         by : (b : Bool) → has_item items r.item ≡ b → (b && told r) ≡ (is_found one.rows s r && kept r)
         by true e =
@@ -230,7 +206,7 @@ module _ (tells : Tells) (one other : Sight) (s : Search) (graph : IsGraph one.r
         ∙ ap (λ l. map entry_of (filter told l))
         (gathers tells one.rows items graph.items (all_items items canon) (grouped one.rows graph.rising) rising)
         ∙ ap (map entry_of) (filter_twice (λ (r : Attachment). has_item items r.item) told one.rows
-        ∙ filter_same (λ (r : Attachment). has_item items r.item && told r) (λ r. is_found one.rows s r && kept r) one.rows
-        (all_of (λ (r : Attachment). (has_item items r.item && told r) ≡ (is_found one.rows s r && kept r)) one.rows pointwise)
+        ∙ filter_alike (λ (r : Attachment). has_item items r.item && told r) (λ r. is_found one.rows s r && kept r) one.rows
+        (has_all (λ (r : Attachment). (has_item items r.item && told r) ≡ (is_found one.rows s r && kept r)) one.rows pointwise)
         ∙ sym (filter_twice (is_found one.rows s) kept one.rows))
         ∙ sym (filter_of_map entry_of (λ e. not (has_entry (fresh other.rows s) e)) (filter (is_found one.rows s) one.rows))

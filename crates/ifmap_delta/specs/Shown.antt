@@ -22,5 +22,5 @@ abbrev pub shown_on : List Attachment → Search → Item → List Stored
 shown_on rows s x = if is_looked_at rows s x then stored_on x rows else []
 
 -- the marks of a region with a patch over them
-abbrev pub patched : Patched → ℕ → Option ℕ
-patched p = over p.patch.now (mark_of p.region.now.marks.entries)
+abbrev pub patched_mark : Patched → ℕ → Option ℕ
+patched_mark p = over p.patch.now (mark_of p.region.now.marks.entries)

@@ -1,7 +1,7 @@
 -- The items on which a change may tell something, as they are gathered. No public clause cites this
 -- module.
 use Rattle.std.specs.Prelude.{◌≡◌, ℕ, Bool, true, false, ◌&&◌, ◌||◌, not, List, [], ◌++◌, length, map, Option, None, Some}
-use Rattle.std.specs.Prelude.{is_some, if◌then◌else◌}
+use Rattle.std.specs.Prelude.{drop, is_some, if◌then◌else◌, slice_get}
 use Rattle.std.specs.List.{filter, filter_map, flat_map}
 use Rattle.std.specs.List.Sorted.{IsStrictlySortedBy}
 use Rattle.std.proofs.Math.Bool.{beq}
@@ -12,8 +12,10 @@ use Rattle.ifmap_ident.specs.Items.{IsCanonItem, item_order}
 use Rattle.ifmap_lemmas.specs.Having.{Has}
 use Rattle.ifmap_meta.specs.declared.stored.Stored.{Stored}
 use Rattle.ifmap_plans.specs.declared.plans.ItemChange.{ItemChange}
+use Rattle.ifmap_plans.specs.Plans.{change_of, changed_by}
 use Rattle.ifmap_search.specs.declared.results.Entry.{Entry}
 use Rattle.ifmap_search.specs.declared.searches.Search.{Search}
+use Rattle.ifmap_view.specs.declared.attachments.Attachment.{Attachment}
 use Rattle.ifmap_view.specs.declared.views.LinkSeen.{LinkSeen}
 use Rattle.ifmap_view.specs.Attachments.{stored_order}
 use Rattle.ifmap_view.specs.Rows.{stored_on}
@@ -25,10 +27,11 @@ use Rattle.ifmap_fresh.specs.Gathered.{entry_at, has_item}
 use Rattle.ifmap_fresh.specs.Linking.{end_where}
 use Rattle.ifmap_delta.specs.Shown.{goes_on}
 use Rattle.ifmap_delta.specs.Sights.{Sight}
+use Rattle.ifmap_delta.specs.declared.pairing.TouchedItem.{TouchedItem}
 
 -- the items of a plan's changes that pass a test
-abbrev pub planned : (Item → Bool) → List ItemChange → List Item
-planned p changes = map (λ c. c.item) (filter (λ c. p c.item) changes)
+abbrev pub planned_items : (Item → Bool) → List ItemChange → List Item
+planned_items p changes = map (λ c. c.item) (filter (λ c. p c.item) changes)
 
 -- the search looks at the item before or afterwards
 abbrev pub is_looked_at_either : Sight → Sight → Search → Item → Bool
@@ -44,8 +47,8 @@ module _ (new : Sight) (s : Search) where
   item_at v seen = item_where v (end_where new.rows new.id_at s.match_links v seen)
 
   -- the items of the matching links of a number
-  abbrev pub linked : ℕ → List Item
-  linked v = filter_map (λ seen. item_at v (Some seen)) (new.links v)
+  abbrev pub linked_items : ℕ → List Item
+  linked_items v = filter_map (λ seen. item_at v (Some seen)) (new.links v)
 
   -- walks go on from the number with one of the marks alone
   abbrev pub turns : ℕ → Option ℕ → Option ℕ → Bool
@@ -57,14 +60,14 @@ module _ (new : Sight) (s : Search) where
 
   -- the items that a number brings whose mark changes: its own, where it has just one of the marks,
   -- and those of its links, where walks go on from it with one of them alone
-  abbrev pub brought : ℕ → Option ℕ → Option ℕ → List Item
-  brought v was now =
+  abbrev pub brought_items : ℕ → Option ℕ → Option ℕ → List Item
+  brought_items v was now =
       (if not (beq (is_some was) (is_some now)) then alone (new.id_at v) else [])
-      ++ (if turns v was now then linked v else [])
+      ++ (if turns v was now then linked_items v else [])
 
   -- the items that some numbers bring
-  abbrev pub moved : (ℕ → Option ℕ) → (ℕ → Option ℕ) → List ℕ → List Item
-  moved was now numbers = flat_map (λ v. brought v (was v) (now v)) numbers
+  abbrev pub moved_items : (ℕ → Option ℕ) → (ℕ → Option ℕ) → List ℕ → List Item
+  moved_items was now numbers = flat_map (λ v. brought_items v (was v) (now v)) numbers
 
 -- an item tells nothing: the search looks at it before and afterwards with the same stored on it,
 -- or at neither
@@ -77,6 +80,32 @@ pub record AreTouched (old new : Sight) (s : Search) (items : List Item) : Type 
   pub rising : IsStrictlySortedBy item_order items
   pub canon : (x : Item) → Has items x → IsCanonItem x
   pub others : (x : Item) → IsCanonItem x → has_item items x ≡ false → IsSettled old new s x
+
+-- the items of some, without what the plan does to them
+abbrev pub items_of : List TouchedItem → List Item
+items_of touched = map (λ t. t.item) touched
+
+-- an item with no change beside it
+abbrev pub with_no_place : Item → TouchedItem
+with_no_place x = record { item = x; place = None }
+
+-- the change at a place, where there is one
+abbrev pub change_at : List ItemChange → Option ℕ → Option ItemChange
+change_at changes None = None
+change_at changes (Some i) = slice_get changes i
+
+-- the change at the place beside the item is the first that is of it, among those from a place on; without a place there is none
+abbrev pub IsPaired : List ItemChange → ℕ → TouchedItem → Type 0
+IsPaired changes from t = change_of (drop from changes) t.item ≡ change_at changes t.place
+
+-- what is stored on the item afterwards is what the change beside it makes of what was stored before
+abbrev pub IsChanged : List Attachment → List Attachment → List ItemChange → TouchedItem → Type 0
+IsChanged before after changes t =
+    stored_on t.item after ≡ changed_by (change_at changes t.place) (stored_on t.item before)
+
+-- what of some rows has the canonical bytes of one of these
+abbrev pub rows_touched_by : List Stored → List Stored → List Stored
+rows_touched_by these rows = filter (λ t. list_any (λ r. eq_by_cmp stored_order r t) these) rows
 
 -- one of the rows has the canonical bytes of what is stored, and meets the filter
 abbrev pub has_met : Option Filter → List Stored → Stored → Bool

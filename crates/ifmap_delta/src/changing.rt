@@ -35,9 +35,8 @@ use std::sync::ledger::Ledger;
 /// The draft shows the graph after the plan, with the same numbers. The only error is want of memory,
 /// also where the new size passes 2^64 - 1. Nothing of the subscription changes.
 ///
-/// It takes at most ten times the links of what is near the links that came and went. A change none of
-/// whose items has an end that a walk reaches costs a look at the ends of the plan's items, and takes no
-/// memory.
+/// It takes at most ten times the links of what is near the links that came and went, also where memory
+/// runs out.
 pub fn change<'a, G: View, D: View, L: Ledger>(
     alloc: Global,
     subscription: &'a Subscription,
@@ -112,7 +111,7 @@ fn move_near<'a, G: View, D: View, L: Ledger>(
     let plan = located.plan;
     let changes = &plan.changes.0;
     let items = touched_items(alloc, &before, &after, changes, &located.changes, steps)?;
-    let told = differences_on(alloc, &before, &after, items)?;
+    let told = differences_on(alloc, &before, &after, items, changes)?;
     let Some(new_size) = size_after(subscription.size, &told) else {
         return Err(NoMemory);
     };

@@ -8,6 +8,7 @@ pub mod locating;
 mod marks;
 mod near;
 mod noting;
+mod pairing;
 mod sides;
 mod subscribing;
 pub mod subscriptions;

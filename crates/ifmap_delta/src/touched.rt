@@ -4,8 +4,8 @@ ghost use Rattle.std.specs.List.{AllByRecursion, IsDistinct, cons_option};
 ghost use Rattle.ifmap_delta.specs.Changes.{ShowsAfter};
 ghost use Rattle.ifmap_delta.specs.Located.{AreLocated, IsLocatedTwice};
 ghost use Rattle.ifmap_delta.specs.Sights.{HaveMarks, sight_of};
-ghost use Rattle.ifmap_delta.specs.Shown.{patched};
-ghost use Rattle.ifmap_delta.specs.Touched.{AreTouched, brought, item_at, linked, looked_along, moved, planned};
+ghost use Rattle.ifmap_delta.specs.Shown.{patched_mark};
+ghost use Rattle.ifmap_delta.specs.Touched.{AreTouched, brought_items, item_at, linked_items, looked_along, moved_items, planned_items};
 ghost use Rattle.ifmap_fresh.specs.Collected.{alone, numbers_of, pair_at};
 ghost use Rattle.ifmap_fresh.specs.Fresh.{is_looked_at};
 ghost use Rattle.ifmap_region.specs.Marks.{mark_of, over};
@@ -84,7 +84,7 @@ fn add_linked<V: View, L: Ledger>(
     steps: &mut Steps<L>,
 ) -> Result<(), NoMemory>
     ensures items { let sight = sight_of V.rows V.id_at V.links links.now.view.now in
-        OnOk result (items.new.items ≡ items.old.items ++ linked sight links.now.search.now
+        OnOk result (items.new.items ≡ items.old.items ++ linked_items sight links.now.search.now
         number) }
     ensures steps { steps.new ≤ steps.old + length (V.links links.now.view.now number) }
 {
@@ -114,7 +114,7 @@ fn add_changed<G: View, D: View, M: Marks, N: Marks>(
     requires canon { IsCanonItem change.now.item }
     requires located { IsLocatedTwice (sight_of G.rows G.id_at G.links before.now.view.now)
         (sight_of D.rows D.id_at D.links after.now.view.now) change.now.item located.now }
-    ensures { OnOk result (items.new.items ≡ items.old.items ++ planned
+    ensures { OnOk result (items.new.items ≡ items.old.items ++ planned_items
         (λ x. is_looked_at (G.rows before.now.view.now) before.now.search.now x
         || is_looked_at (D.rows after.now.view.now) after.now.search.now x) (change.now ∷ [])) }
 {
@@ -146,7 +146,7 @@ fn add_planned<G: View, D: View, M: Marks, N: Marks>(
     requires located { AreLocated (sight_of G.rows G.id_at G.links before.now.view.now)
         (sight_of D.rows D.id_at D.links after.now.view.now) changes.now located.now }
     requires long { length located.now ≡ length changes.now }
-    ensures { OnOk result (items.new.items ≡ items.old.items ++ planned
+    ensures { OnOk result (items.new.items ≡ items.old.items ++ planned_items
         (λ x. is_looked_at (G.rows before.now.view.now) before.now.search.now x
         || is_looked_at (D.rows after.now.view.now) after.now.search.now x) changes.now) }
 {
@@ -168,7 +168,7 @@ fn add_brought<D: View, L: Ledger>(
 ) -> Result<(), NoMemory>
     ensures items { let sight = sight_of D.rows D.id_at D.links side.now.view.now in
         let mark = mark_of side.now.marks.now.marks.entries in
-        OnOk result (items.new.items ≡ items.old.items ++ brought sight side.now.search.now
+        OnOk result (items.new.items ≡ items.old.items ++ brought_items sight side.now.search.now
         number (mark number) (over patch.now mark number)) }
     ensures steps { let sight = sight_of D.rows D.id_at D.links side.now.view.now in
         let mark = mark_of side.now.marks.now.marks.entries in
@@ -196,7 +196,7 @@ fn add_moved<D: View, L: Ledger>(
 ) -> Result<(), NoMemory>
     ensures items { let sight = sight_of D.rows D.id_at D.links side.now.view.now in
         let mark = mark_of side.now.marks.now.marks.entries in
-        OnOk result (items.new.items ≡ items.old.items ++ moved sight side.now.search.now mark
+        OnOk result (items.new.items ≡ items.old.items ++ moved_items sight side.now.search.now mark
         (over patch.now mark) (numbers_of patch.now)) }
     ensures steps { let sight = sight_of D.rows D.id_at D.links side.now.view.now in
         let mark = mark_of side.now.marks.now.marks.entries in
@@ -235,7 +235,7 @@ pub(crate) fn touched_items<G: View, D: View, L: Ledger>(
     requires before { HaveMarks (sight_of G.rows G.id_at G.links before.now.view.now)
         before.now.search.now (mark_of before.now.marks.now.marks.entries) }
     requires after { HaveMarks (sight_of D.rows D.id_at D.links after.now.view.now)
-        after.now.search.now (patched after.now.marks.now) }
+        after.now.search.now (patched_mark after.now.marks.now) }
     requires graph { IsView (G.rows before.now.view.now) (G.id_at before.now.view.now)
         (G.links before.now.view.now) }
     requires draft { IsView (D.rows after.now.view.now) (D.id_at after.now.view.now)
@@ -249,7 +249,8 @@ pub(crate) fn touched_items<G: View, D: View, L: Ledger>(
         (sight_of D.rows D.id_at D.links after.now.view.now) after.now.search.now items.items) }
     ensures steps { let sight = sight_of D.rows D.id_at D.links after.now.view.now in
         steps.new ≤ steps.old + sum_by (λ v. looked_along sight after.now.search.now v
-        (mark_of after.now.marks.now.region.now.marks.entries v) (patched after.now.marks.now v))
+        (mark_of after.now.marks.now.region.now.marks.entries v)
+        (patched_mark after.now.marks.now v))
         (numbers_of after.now.marks.now.patch.now) }
     ensures apart { IsDistinct nat_eq (numbers_of after.now.marks.now.patch.now) }
 {

@@ -13,7 +13,6 @@ use Rattle.ifmap_delta.specs.Sights.{AreMarks, IsKept, Sight}
 use Rattle.ifmap_delta.specs.Ways.{HasSameSearch}
 use Rattle.ifmap_delta.specs.declared.subscriptions.Subscription.{Subscription}
 use Rattle.ifmap_fresh.specs.Fresh.{fresh_size}
-use Rattle.ifmap_folds.specs.laws.RisingLaws.{member_of}
 use Rattle.ifmap_fresh.specs.laws.SameLaws.{same_itself}
 use Rattle.ifmap_graph.specs.declared.changes.Ready.{Ready}
 use Rattle.ifmap_graph.specs.Held.{Held, IsOwn}
@@ -26,7 +25,7 @@ use Rattle.ifmap_ident.specs.declared.items.Item.TheVariants.{One, Pair}
 use Rattle.ifmap_ident.specs.Identifiers.{identifier_order}
 use Rattle.ifmap_ident.specs.Items.{IsCanonItem, same_item}
 use Rattle.ifmap_lemmas.specs.Filters.{all_filter}
-use Rattle.ifmap_lemmas.specs.Having.{Has, has_filter, has_map}
+use Rattle.ifmap_lemmas.specs.Having.{has_filter, has_map, all_has, has_all}
 use Rattle.ifmap_lemmas.specs.Members.{both_all, map_of_all}
 use Rattle.ifmap_meta.specs.Whole.{IsWhole}
 use Rattle.ifmap_plans.specs.declared.plans.Note.{Note}
@@ -45,10 +44,6 @@ use Rattle.ifmap_delta_tests.specs.Worlds.{IsQuiet, IsUnderWay, ShowsSame, sight
 
 -- ---- what is whole
 
-has_all : {X : Type 0} (P : X → Type 0) (xs : List X) → ((x : X) → Has xs x → P x) → AllByRecursion P xs
-has_all P [] f = tt
-has_all P (x ∷ xs) f = (f x (inl refl), has_all P xs (λ y m. f y (inr m)))
-
 item_itself : (x : Item) → same_item x x ≡ true
 item_itself (One a) = rw (same_itself a) refl
 item_itself (Pair a b) = rw (same_itself a, same_itself b) refl
@@ -56,7 +51,7 @@ item_itself (Pair a b) = rw (same_itself a, same_itself b) refl
 -- what is whole is so by what is stored on items
 pub whole_like : (one other : List Attachment) → ((x : Item) → stored_on x other ≡ stored_on x one) → AreWhole one → AreWhole other
 whole_like one other same w = has_all (λ (r : Attachment). IsWhole r.stored) other (λ r there.
-    member_of IsWhole (stored_on r.item other)
+    all_has IsWhole (stored_on r.item other)
     (subst (AllByRecursion IsWhole) (sym (same r.item))
     (map_of_all IsWhole (λ (q : Attachment). q.stored) (filter (λ (q : Attachment). same_item q.item r.item) one)
     (all_filter (λ (q : Attachment). IsWhole q.stored) (λ (q : Attachment). same_item q.item r.item) one w)))

@@ -1,13 +1,14 @@
 -- The items that are collected number by number are those that the search looks at, and what is found on them is the
 -- result. In order: which numbers are passed; from an item that is collected to one that is looked at (`looked_at`);
 -- the other way (`collects`); then lists: entries item by item are the filtered list (`entries_are`).
-use Rattle.std.proofs.Common.{◌≡◌, ◌≢◌, ◌↔◌, ◌⊎◌, ℕ, ◌<◌, ◌≤◌, Bool, true, false, cond, not, ◌&&◌, ◌||◌, Option, Some, None, List, [], ◌∷◌}
+use Rattle.std.proofs.Common.{◌≡◌, ◌≢◌, ◌↔◌, ℕ, ◌<◌, ◌≤◌, Bool, true, false, cond, not, ◌&&◌, ◌||◌, Option, Some, None, List, [], ◌∷◌}
 use Rattle.std.proofs.Common.{◌++◌, map, flat_map, length, nat_lt, refl, ap, ◌∙◌, sym, subst, inl, inr, arith}
-use Rattle.std.proofs.lemmas.Bool.{and_parts, cases_Bool}
+use Rattle.std.proofs.lemmas.Bool.{and_parts, cases_Bool, lt-ltb, ltb-true, not-true, or_cases, or_right}
 use Rattle.std.proofs.lemmas.Bool.Decides.{nat_tests}
 use Rattle.std.proofs.lemmas.List.{map-append}
 use Rattle.std.proofs.lemmas.List.Elements.{filter-append}
 use Rattle.std.proofs.lemmas.Option.{same_Some, none-some}
+use Rattle.std.specs.Cmp.{both_ways}
 use Rattle.std.specs.List.{AllByRecursion, filter, filter_map}
 use Rattle.std.specs.List.Sorted.{IsStrictlySortedBy}
 use Rattle.ifmap_filter.specs.declared.filters.Filter.{Filter}
@@ -17,8 +18,8 @@ use Rattle.ifmap_ident.specs.declared.items.Item.{Item}
 use Rattle.ifmap_ident.specs.declared.items.Item.TheVariants.{One, Pair}
 use Rattle.ifmap_ident.specs.Canon.{IsIdentifier}
 use Rattle.ifmap_ident.specs.Items.{IsCanonItem, item_order, pair_of, same_item}
-use Rattle.ifmap_lemmas.specs.Having.{Has, any_has, has_any, has_either, has_filter, has_from, has_joined, has_left, has_map, has_mapped}
-use Rattle.ifmap_lemmas.specs.Having.{has_right, joined_has, map_has, mapped_has}
+use Rattle.ifmap_lemmas.specs.Having.{Has, any_has, has_any, has_either, has_filter, has_from, has_joined, has_left, has_map, has_mapped, has_right, joined_has, map_has, mapped_has}
+use Rattle.ifmap_lemmas.specs.Filters.{filter_alike, filter_twice}
 use Rattle.ifmap_meta.specs.declared.stored.Stored.{Stored}
 use Rattle.ifmap_region.specs.Walks.{AreDepths}
 use Rattle.ifmap_search.specs.declared.results.Entry.{Entry}
@@ -28,10 +29,10 @@ use Rattle.ifmap_view.specs.declared.views.LinkSeen.{LinkSeen}
 use Rattle.ifmap_view.specs.Attachments.{IsGraph}
 use Rattle.ifmap_view.specs.Rows.{stored_between, stored_linked, stored_on}
 use Rattle.ifmap_view.specs.Views.{IsView}
-use Rattle.ifmap_fresh.specs.Collected.{AreLookedAt, alone, brought, collected, is_below, is_passed, item_along, item_to, item_where}
+use Rattle.ifmap_fresh.specs.Collected.{AreLookedAt, alone, is_below, is_passed, item_along, item_to, item_where, items_of_number, items_of_numbers}
 use Rattle.ifmap_fresh.specs.Collected.{pair_at}
 use Rattle.ifmap_fresh.specs.Fresh.{fresh, is_found, is_looked_at}
-use Rattle.ifmap_fresh.specs.Gathered.{entries_of, entries_on, entry_at, gathered, has_item, row_at}
+use Rattle.ifmap_fresh.specs.Gathered.{entries_of, entries_on, entry_at, gathered_rows, has_item, row_at}
 use Rattle.ifmap_fresh.specs.Linking.{end_where, is_terminal_at}
 use Rattle.ifmap_fresh.specs.Matching.{is_match, is_terminal, one_meets}
 use Rattle.ifmap_fresh.specs.Reached.{is_expanded, is_reached}
@@ -42,35 +43,8 @@ use Rattle.ifmap_fresh.proofs.Meaning.{L, T, mark_walk, to_identifier, to_number
 use Rattle.ifmap_fresh.specs.laws.SameLaws.{AreCanon, Tells, item_itself, member, pair_canon, pair_is, pair_parts, pair_turned}
 use Rattle.ifmap_fresh.specs.laws.SameLaws.{same_item_is}
 
-lt_true : (a b : ℕ) → a < b → nat_lt a b ≡ true
-lt_true a b h = grind (arith, nat_tests)
-
-true_lt : (a b : ℕ) → nat_lt a b ≡ true → a < b
-true_lt a b e = grind (arith, nat_tests)
-
 lt_turned : (a b : ℕ) → nat_lt a b ≡ true → nat_lt b a ≡ false
 lt_turned a b e = grind (arith, nat_tests)
-
-or_left : (a b : Bool) → a ≡ true → (a || b) ≡ true
-or_left a b e = rw e refl
-
-or_right : (a b : Bool) → b ≡ true → (a || b) ≡ true
-or_right true b e = refl
-or_right false b e = e
-
-or_either : (a b : Bool) → (a || b) ≡ true → (a ≡ true) ⊎ (b ≡ true)
-or_either true b e = inl refl
-or_either false b e = inr e
-
-pub bool_is : (a b : Bool) → (a ≡ true → b ≡ true) → (b ≡ true → a ≡ true) → a ≡ b
-bool_is true true f g = refl
-bool_is true false f g = sym (f refl)
-bool_is false true f g = g refl
-bool_is false false f g = refl
-
-not_false : (b : Bool) → not b ≡ true → b ≡ false
-not_false true e = let q : false ≡ true = e in cc
-not_false false e = refl
 
 module _ (tells : Tells) (rows : List Attachment) (id_at : ℕ → Option Identifier) (links : ℕ → List LinkSeen) (s : Search)
     (is : IsView rows id_at links)
@@ -82,7 +56,7 @@ module _ (tells : Tells) (rows : List Attachment) (id_at : ℕ → Option Identi
 
   below_mark : (o : Option ℕ) → is_below s.max_depth o ≡ true → (k : ℕ) × (o ≡ Some k) × (k < s.max_depth)
   below_mark None e = let q : false ≡ true = e in cc
-  below_mark (Some k) e = (k, refl, true_lt k s.max_depth e)
+  below_mark (Some k) e = (k, refl, ltb-true k s.max_depth e)
 
   passed_expanded : (v : ℕ) (a : Identifier) → id_at v ≡ Some a → passed v ≡ true → is_expanded rows s a ≡ true
   passed_expanded v a i e =
@@ -90,7 +64,7 @@ module _ (tells : Tells) (rows : List Attachment) (id_at : ℕ → Option Identi
       in let m = below_mark (mark v) p.0
       in let w = to_identifier rows id_at links s is start here m.0 v (mark_walk rows id_at links s is start here mark depths v m.0 m.1).1
       in let same : w.0 ≡ a = same_Some w.0 a (sym w.1 ∙ i)
-      in let t : is_terminal s.terminal a ≡ false = not_false (is_terminal s.terminal a)
+      in let t : is_terminal s.terminal a ≡ false = not-true (is_terminal s.terminal a)
       (subst (λ o. not (is_terminal_at s.terminal o) ≡ true) i p.1)
       in subst (λ x. is_expanded rows s x ≡ true) same
       (walk_expanded tells rows is.graph.items s first w.0 m.0 (subst (λ x. is_terminal s.terminal x ≡ false) (sym same) t) m.2 w.2)
@@ -103,7 +77,7 @@ module _ (tells : Tells) (rows : List Attachment) (id_at : ℕ → Option Identi
       in let n = to_number rows id_at links s is start here x.1.0 a x.1.2
       in let m = walk_mark rows id_at links s is start here mark depths n.0 x.1.0 (omega (arith, x.1.1)) n.2
       in let low : is_below s.max_depth (mark n.0) ≡ true = subst (λ o. is_below s.max_depth o ≡ true) (sym m.1)
-      (lt_true m.0 s.max_depth (omega (arith, m.2, x.1.1)))
+      (lt-ltb m.0 s.max_depth (omega (arith, m.2, x.1.1)))
       in let t : is_terminal_at s.terminal (id_at n.0) ≡ false = subst (λ o. is_terminal_at s.terminal o ≡ false) (sym n.1) x.0
       in (n.0, n.1, rw (low, t) refl, keyed n.0 m.0 m.1)
 
@@ -138,9 +112,9 @@ module _ (tells : Tells) (rows : List Attachment) (id_at : ℕ → Option Identi
       by_match true m q = by_lesser (nat_lt seen.other v && passed seen.other) m q
       by_match false m q = absurd (none-some item q)
 
-  pub looked_at : (item : Item) → Has (collected rows id_at links s mark keys) item → is_looked_at rows s item ≡ true
+  pub looked_at : (item : Item) → Has (items_of_numbers rows id_at links s mark keys) item → is_looked_at rows s item ≡ true
   looked_at item h =
-      let j = joined_has (brought rows id_at links s mark) keys item h
+      let j = joined_has (items_of_number rows id_at links s mark) keys item h
       in elim (has_either (alone (id_at j.0)) (cond (passed j.0)
       (filter_map (item_along rows id_at links s mark j.0) (links j.0)) []) item j.2) [
         | inl p ↦ own j.0 (id_at j.0) refl j.1 p
@@ -165,9 +139,9 @@ module _ (tells : Tells) (rows : List Attachment) (id_at : ℕ → Option Identi
       others v false p h = absurd h
 
   -- and it is an item that elements mean
-  pub canon_of : (item : Item) → Has (collected rows id_at links s mark keys) item → IsCanonItem item
+  pub canon_of : (item : Item) → Has (items_of_numbers rows id_at links s mark keys) item → IsCanonItem item
   canon_of item h =
-      let j = joined_has (brought rows id_at links s mark) keys item h
+      let j = joined_has (items_of_number rows id_at links s mark) keys item h
       in elim (has_either (alone (id_at j.0)) (cond (passed j.0)
       (filter_map (item_along rows id_at links s mark j.0) (links j.0)) []) item j.2) [
         | inl p ↦ own j.0 (id_at j.0) refl p
@@ -201,7 +175,8 @@ module _ (tells : Tells) (rows : List Attachment) (id_at : ℕ → Option Identi
   -- a number that is passed brings the item of a matching link, where no lesser number does
   brings : (v w : ℕ) (a b : Identifier) (item : Item) → id_at v ≡ Some a → id_at w ≡ Some b → passed v ≡ true
       → (nat_lt w v && passed w) ≡ false
-      → is_match rows s.match_links a b ≡ true → pair_of a b ≡ Some item → Has keys v → Has (collected rows id_at links s mark keys) item
+      → is_match rows s.match_links a b ≡ true → pair_of a b ≡ Some item → Has keys v
+      → Has (items_of_numbers rows id_at links s mark keys) item
   brings v w a b item i j p first m e k =
       let linked : stored_linked (id_at v) (id_at w) rows ≡ stored_between a b rows
       = ap (λ o. stored_linked o (id_at w) rows) i ∙ ap (λ o. stored_linked (Some a) o rows) j
@@ -214,14 +189,14 @@ module _ (tells : Tells) (rows : List Attachment) (id_at : ℕ → Option Identi
       ∙ ap (λ x. item_to rows id_at links s mark v x) there.2
       ∙ ap (λ b. cond b None (pair_at (id_at v) (id_at w))) first
       ∙ ap (λ o. pair_at o (id_at w)) i ∙ ap (λ o. pair_at (Some a) o) j ∙ e
-      in has_joined (brought rows id_at links s mark) keys v item k
+      in has_joined (items_of_number rows id_at links s mark) keys v item k
       (has_right (alone (id_at v)) (cond (passed v) (filter_map (item_along rows id_at links s mark v) (links v)) []) item
       (subst (λ c. Has (cond c (filter_map (item_along rows id_at links s mark v) (links v)) []) item) (sym p)
       (has_mapped (item_along rows id_at links s mark v) (links v) there.0 item there.1 along)))
 
   from_end : (a b : Identifier) (item : Item) → IsIdentifier a → IsIdentifier b → is_match rows s.match_links a b ≡ true
       → pair_of a b ≡ Some item → is_expanded rows s a ≡ true
-      → Has (collected rows id_at links s mark keys) item
+      → Has (items_of_numbers rows id_at links s mark keys) item
   from_end a b item i j m e x =
       let v = expanded_passed a i x
       in let w = is.linked a b j (some_there s.match_links (stored_between a b rows) m)
@@ -237,40 +212,24 @@ module _ (tells : Tells) (rows : List Attachment) (id_at : ℕ → Option Identi
           let q = and_parts (is_below s.max_depth (mark v)) (not (is_terminal_at s.terminal (id_at v))) p
           in let m = below_mark (mark v) q.0 in keyed v m.0 m.1
 
-  pub collects : (item : Item) → IsCanonItem item → is_looked_at rows s item ≡ true → Has (collected rows id_at links s mark keys) item
+  pub collects : (item : Item) → IsCanonItem item → is_looked_at rows s item ≡ true
+      → Has (items_of_numbers rows id_at links s mark keys) item
   collects (One a) i e =
       let r = (reached_by_walks tells rows is.graph.items s first a i.identifiers.0).0 e
       in let n = to_number rows id_at links s is start here r.0 a r.2
       in let m = walk_mark rows id_at links s is start here mark depths n.0 r.0 r.1 n.2
-      in has_joined (brought rows id_at links s mark) keys n.0 (One a) (keyed n.0 m.0 m.1)
+      in has_joined (items_of_number rows id_at links s mark) keys n.0 (One a) (keyed n.0 m.0 m.1)
       (has_left (alone (id_at n.0)) (cond (passed n.0) (filter_map (item_along rows id_at links s mark n.0) (links n.0)) []) (One a)
       (subst (λ o. Has (alone o) (One a)) (sym n.1) (inl refl)))
   collects (Pair a b) i e =
       let p = and_parts (is_match rows s.match_links a b) (is_expanded rows s a || is_expanded rows s b) e
-      in elim (or_either (is_expanded rows s a) (is_expanded rows s b) p.1) [
+      in elim (or_cases (is_expanded rows s a) (is_expanded rows s b) p.1) [
         | inl x ↦ from_end a b (Pair a b) i.identifiers.0 i.identifiers.1.0 p.0 (pair_is a b i.ordered) x
         | inr x ↦ from_end b a (Pair a b) i.identifiers.1.0 i.identifiers.0 (match_turned rows s.match_links b a ∙ p.0)
             (pair_turned b a ∙ pair_is a b i.ordered) x
       ]
 
 -- entries item by item
-filter_twice : {X : Type 0} (p q : X → Bool) (xs : List X) → filter q (filter p xs) ≡ filter (λ x. p x && q x) xs
-filter_twice p q [] = refl
-filter_twice p q (x ∷ xs) = elim (cases_Bool (p x)) [
-  | inl t ↦ elim (cases_Bool (q x)) [
-    | inl u ↦ rw (t, u) (ap (λ l. x ∷ l) (filter_twice p q xs))
-    | inr u ↦ rw (t, u) (filter_twice p q xs)
-  ]
-  | inr t ↦ rw t (filter_twice p q xs)
-]
-
-filter_same : (p q : Attachment → Bool) (xs : List Attachment) → AllByRecursion (λ r. p r ≡ q r) xs → filter p xs ≡ filter q xs
-filter_same p q [] a = refl
-filter_same p q (x ∷ xs) a = elim (cases_Bool (q x)) [
-  | inl t ↦ rw (a.0 ∙ t, t) (ap (λ l. x ∷ l) (filter_same p q xs a.1))
-  | inr t ↦ rw (a.0 ∙ t, t) (filter_same p q xs a.1)
-]
-
 abbrev entry_of : Attachment → Entry
 entry_of r = record { item = r.item; element = r.stored.element }
 
@@ -286,13 +245,13 @@ module _ (by : Option Filter) where
   ]
 
   pub entries_gathered : (rows : List Attachment) (items : List Item)
-      → entries_on by rows items ≡ map entry_of (filter meeting (gathered rows items))
+      → entries_on by rows items ≡ map entry_of (filter meeting (gathered_rows rows items))
   entries_gathered rows [] = refl
   entries_gathered rows (i ∷ is) =
       ap (λ l. l ++ entries_on by rows is) (one_item i (stored_on i rows))
       ∙ ap (λ l. map entry_of (filter meeting (map (row_at i) (stored_on i rows))) ++ l) (entries_gathered rows is)
-      ∙ sym (map-append entry_of (filter meeting (map (row_at i) (stored_on i rows))) (filter meeting (gathered rows is)))
-      ∙ sym (ap (map entry_of) (filter-append meeting (map (row_at i) (stored_on i rows)) (gathered rows is)))
+      ∙ sym (map-append entry_of (filter meeting (map (row_at i) (stored_on i rows))) (filter meeting (gathered_rows rows is)))
+      ∙ sym (ap (map entry_of) (filter-append meeting (map (row_at i) (stored_on i rows)) (gathered_rows rows is)))
 
 all_of : (P : Attachment → Type 0) (rs : List Attachment) → ((r : Attachment) → Has rs r → P r) → AllByRecursion P rs
 all_of P [] f = tt
@@ -312,7 +271,7 @@ all_items (i ∷ is) f = ((f i (inl refl)).identifiers, all_items is (λ x h. f 
 module _ (tells : Tells) (rows : List Attachment) (s : Search) (items : List Item) (graph : IsGraph rows)
     (are : AreLookedAt rows s items) where
   among : (x : Item) → IsCanonItem x → stored_on x rows ≢ [] → has_item items x ≡ is_looked_at rows s x
-  among x i n = bool_is (has_item items x) (is_looked_at rows s x)
+  among x i n = both_ways (has_item items x) (is_looked_at rows s x)
       (λ h. let f = any_has (same_item x) items h
       in are.there x (subst (λ y. Has items y) (sym (same_item_is tells x f.0 i.identifiers (are.canon f.0 f.1).identifiers f.2)) f.1))
       (λ e. are.back x i n e)
@@ -329,4 +288,4 @@ module _ (tells : Tells) (rows : List Attachment) (s : Search) (items : List Ite
       ∙ ap (λ l. map entry_of (filter (meeting s.result_filter) l))
       (gathers tells rows items graph.items (all_items items are.canon) (grouped rows graph.rising) are.rising)
       ∙ ap (map entry_of) (filter_twice (λ r. has_item items r.item) (meeting s.result_filter) rows
-      ∙ filter_same (λ r. has_item items r.item && meeting s.result_filter r) (is_found rows s) rows all_among)
+      ∙ filter_alike (λ r. has_item items r.item && meeting s.result_filter r) (is_found rows s) rows all_among)

@@ -1,5 +1,5 @@
 -- Entries and items, one more at a time.
-use Rattle.std.proofs.Common.{◌≡◌, ℕ, ◌+◌, ◌<◌, Bool, true, false, cond, List, [], ◌∷◌, ◌++◌, map, flat_map, Option, None, Some, IfSome}
+use Rattle.std.proofs.Common.{◌≡◌, ℕ, ◌+◌, ◌<◌, Bool, true, false, cond, List, [], ◌∷◌, ◌++◌, map, flat_map, Option}
 use Rattle.std.proofs.Common.{length, take, get_or, refl, ap, ◌∙◌, sym, arith}
 use Rattle.std.proofs.Math.Nat.{add-zero}
 use Rattle.std.proofs.lemmas.Grind.{flat_map-append}
@@ -66,7 +66,3 @@ sizes_more xs ys = sum_by-append entry_size xs ys
 pub met_size : (own n : ℕ) (by : Option Filter) (s : Stored) → n ≡ length (canonical_bytes s.element)
     → meets_optional by s.element ≡ true → own + n ≡ row_size own by s
 met_size own n by s e t = ap (λ m. own + m) e ∙ sym (ap (λ b. cond b (own + length (canonical_bytes s.element)) 0) t)
-
-pub some_weaker : {X : Type 0} (o : Option X) (P Q : X → Type 0) → ((x : X) → P x → Q x) → IfSome o P → IfSome o Q
-some_weaker None P Q f h = h
-some_weaker (Some x) P Q f h = f x h

@@ -1,14 +1,13 @@
 -- The levels of a search are its walks.
 use Rattle.std.proofs.Common.{◌≡◌, ◌↔◌, ℕ, zero, suc, ◌<◌, ◌≤◌, Bool, true, false, cond, not, ◌&&◌, List, [], ◌∷◌, ◌++◌, flat_map, refl, ap}
 use Rattle.std.proofs.Common.{◌∙◌, sym, subst, inl, inr, arith}
-use Rattle.std.proofs.lemmas.Bool.{and_parts}
+use Rattle.std.proofs.lemmas.Bool.{and_parts, not-true}
 use Rattle.std.specs.List.{AllByRecursion, filter}
 use Rattle.ifmap_ident.specs.declared.identifiers.Identifier.{Identifier}
 use Rattle.ifmap_ident.specs.Canon.{IsIdentifier}
 use Rattle.ifmap_ident.specs.Identifiers.{same_identifier}
 use Rattle.ifmap_ident.specs.Items.{identifiers_of}
-use Rattle.ifmap_lemmas.specs.Having.{Has, any_has, filter_has, has_any, has_either, has_filter, has_joined, has_left, has_right}
-use Rattle.ifmap_lemmas.specs.Having.{joined_has}
+use Rattle.ifmap_lemmas.specs.Having.{Has, any_has, filter_has, has_any, has_either, has_filter, has_joined, has_left, has_right, joined_has}
 use Rattle.ifmap_region.specs.Walks.{Walk, IsReached, begins, goes_on}
 use Rattle.ifmap_search.specs.declared.searches.Search.{Search}
 use Rattle.ifmap_view.specs.declared.attachments.Attachment.{Attachment}
@@ -101,16 +100,12 @@ module _ (tells : Tells) (rows : List Attachment) (items : AllByRecursion (λ r.
   walk_below zero k a h w = absurd (omega (arith, h))
   walk_below (suc n) k a h w = walk_is_within n k a (omega (arith, h)) w
 
-  not_of : (b : Bool) → not b ≡ true → b ≡ false
-  not_of true e = let q : false ≡ true = e in cc
-  not_of false e = refl
-
   -- and expanded exactly where it is not terminal and a walk of fewer links than the most ends in it
   pub expanded_walk : (a : Identifier) → IsIdentifier a → is_expanded rows s a ≡ true → (T a ≡ false)
       × ((k : ℕ) × (k < s.max_depth) × On rows s k a)
   expanded_walk a i e =
       let p = and_parts (not (T a)) (is_below rows s s.max_depth a) e
-      in (not_of (T a) p.0, below_walk s.max_depth a i p.1)
+      in (not-true (T a) p.0, below_walk s.max_depth a i p.1)
 
   pub walk_expanded : (a : Identifier) (k : ℕ) → T a ≡ false → k < s.max_depth → On rows s k a → is_expanded rows s a ≡ true
   walk_expanded a k t h w = rw (t, walk_below s.max_depth k a h w) refl

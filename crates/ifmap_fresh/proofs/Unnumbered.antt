@@ -1,7 +1,7 @@
 -- A search from an identifier without a number finds nothing.
-use Rattle.std.proofs.Common.{◌≡◌, ◌≢◌, ◌⊎◌, ℕ, zero, suc, ◌&&◌, ◌||◌, Bool, true, false, Option, Some, List, [], refl, ap, ◌∙◌, sym, subst}
+use Rattle.std.proofs.Common.{◌≡◌, ◌≢◌, ℕ, zero, suc, ◌&&◌, ◌||◌, true, Option, Some, List, [], ap, ◌∙◌, sym, subst}
 use Rattle.std.proofs.Common.{inl, inr}
-use Rattle.std.proofs.lemmas.Bool.{and_parts}
+use Rattle.std.proofs.lemmas.Bool.{and_parts, or_cases}
 use Rattle.ifmap_ident.specs.declared.identifiers.Identifier.{Identifier}
 use Rattle.ifmap_ident.specs.declared.items.Item.{Item}
 use Rattle.ifmap_ident.specs.declared.items.Item.TheVariants.{One, Pair}
@@ -37,10 +37,6 @@ module _ (tells : Tells) (rows : List Attachment) (id_at : ℕ → Option Identi
   from_match a b zero (begins e) m = no_match b (subst (λ x. IsMatch rows s.match_links x b) e m)
   from_match a b (suc k) w m = no_walk k a w
 
-  either : (a b : Bool) → (a || b) ≡ true → (a ≡ true) ⊎ (b ≡ true)
-  either true b e = inl refl
-  either false b e = inr e
-
   on_one : (a : Identifier) (k : ℕ) → On rows s k a → stored_on (One a) rows ≢ [] → ⊥
   on_one a zero (begins e) n = let w = is.alone a (subst IsIdentifier (sym e) start) n in unnumbered w.0 (w.1 ∙ ap Some e)
   on_one a (suc k) w n = no_walk k a w
@@ -49,7 +45,7 @@ module _ (tells : Tells) (rows : List Attachment) (id_at : ℕ → Option Identi
   nothing (One a) i n e = let r = (reached_by_walks tells rows is.graph.items s start a i.identifiers.0).0 e in on_one a r.0 r.2 n
   nothing (Pair a b) i n e =
       let p = and_parts (is_match rows s.match_links a b) (is_expanded rows s a || is_expanded rows s b) e
-      in elim (either (is_expanded rows s a) (is_expanded rows s b) p.1) [
+      in elim (or_cases (is_expanded rows s a) (is_expanded rows s b) p.1) [
         | inl x ↦ let w = expanded_walk tells rows is.graph.items s start a i.identifiers.0 x in from_match a b w.1.0 w.1.2 p.0
         | inr x ↦ let w = expanded_walk tells rows is.graph.items s start b i.identifiers.1.0 x in from_match b a w.1.0 w.1.2
             (match_turned rows s.match_links b a ∙ p.0)

@@ -27,8 +27,8 @@ abbrev pub numbers_of : List (ℕ × Option ℕ) → List ℕ
 numbers_of marks = map (λ e. e.0) marks
 
 -- a list of what there is
-abbrev pub added : Option Item → List Item
-added item = cons_option item []
+abbrev pub item_list : Option Item → List Item
+item_list item = cons_option item []
 
 -- the item of an identifier, where there is one
 abbrev pub alone : Option Identifier → List Item
@@ -62,12 +62,12 @@ module _ (rows : List Attachment) (id_at : ℕ → Option Identifier) (links : �
   item_along v seen = item_at v (Some seen)
 
   -- the items that a number brings: its own, and where walks go on from it, those of its matching links
-  abbrev pub brought : ℕ → List Item
-  brought v = alone (id_at v) ++ (if is_passed v then filter_map (item_along v) (links v) else [])
+  abbrev pub items_of_number : ℕ → List Item
+  items_of_number v = alone (id_at v) ++ (if is_passed v then filter_map (item_along v) (links v) else [])
 
   -- the items that some numbers bring
-  abbrev pub collected : List ℕ → List Item
-  collected numbers = flat_map brought numbers
+  abbrev pub items_of_numbers : List ℕ → List Item
+  items_of_numbers numbers = flat_map items_of_number numbers
 
 -- items that a search looks at, in order; among them all that carry something
 pub record AreLookedAt (rows : List Attachment) (s : Search) (items : List Item) : Type 0 where

@@ -24,8 +24,8 @@ abbrev pub row_at : Item → Stored → Attachment
 row_at item stored = record { item = item; stored = stored }
 
 -- what stands on each of the items, one item after the other
-abbrev pub gathered : List Attachment → List Item → List Attachment
-gathered rows items = flat_map (λ i. map (row_at i) (stored_on i rows)) items
+abbrev pub gathered_rows : List Attachment → List Item → List Attachment
+gathered_rows rows items = flat_map (λ i. map (row_at i) (stored_on i rows)) items
 
 abbrev pub entry_at : Item → Stored → Entry
 entry_at item stored = record { item = item; element = stored.element }

@@ -2,7 +2,7 @@
 ghost use Rattle.std.specs.Prelude.{◌≡◌, ◌<◌, ◌≤◌, ◌+◌, ◌++◌, Some, OnOk, IfOk, length, nat_eq, option_copied, slice_get, sum_by};
 ghost use Rattle.std.specs.List.{IsDistinct, filter_map};
 ghost use Rattle.ifmap_region.specs.Marks.{mark_of};
-ghost use Rattle.ifmap_fresh.specs.Collected.{added, alone, brought, collected, is_passed, item_along, item_at, item_to, numbers_of, pair_at};
+ghost use Rattle.ifmap_fresh.specs.Collected.{alone, is_passed, item_along, item_at, item_list, item_to, items_of_number, items_of_numbers, numbers_of, pair_at};
 
 use crate::links::LinksOf;
 use ifmap_elem::Copied;
@@ -78,7 +78,7 @@ impl<'a, V: View> Looking<'a, V> {
         steps: &mut Steps<L>,
     ) -> Result<(), NoMemory>
         requires { i < length (V.links self.now.links.view.now number) }
-        ensures items { OnOk result (items.new.items ≡ items.old.items ++ added
+        ensures items { OnOk result (items.new.items ≡ items.old.items ++ item_list
             (item_at (V.rows self.now.links.view.now) (V.id_at self.now.links.view.now)
             (V.links self.now.links.view.now) self.now.links.search.now
             (mark_of self.now.region.marks.entries) number
@@ -101,7 +101,7 @@ impl<'a, V: View> Looking<'a, V> {
         items: &mut Vec<Item>,
         steps: &mut Steps<L>,
     ) -> Result<(), NoMemory>
-        ensures items { OnOk result (items.new.items ≡ items.old.items ++ brought
+        ensures items { OnOk result (items.new.items ≡ items.old.items ++ items_of_number
             (V.rows self.now.links.view.now) (V.id_at self.now.links.view.now)
             (V.links self.now.links.view.now) self.now.links.search.now
             (mark_of self.now.region.marks.entries) number) }
@@ -131,7 +131,7 @@ impl<'a, V: View> Looking<'a, V> {
         alloc: Global,
         steps: &mut Steps<L>,
     ) -> Result<Vec<Item>, NoMemory>
-        ensures items { IfOk result (λ items. items.items ≡ collected
+        ensures items { IfOk result (λ items. items.items ≡ items_of_numbers
             (V.rows self.now.links.view.now) (V.id_at self.now.links.view.now)
             (V.links self.now.links.view.now) self.now.links.search.now
             (mark_of self.now.region.marks.entries) (numbers_of self.now.region.marks.entries)) }

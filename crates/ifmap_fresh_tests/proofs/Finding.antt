@@ -1,14 +1,14 @@
 -- What is stored on an item, shelf by shelf.
 use Rattle.std.proofs.Common.{rules, ◌≡◌, true, false, List, [], ◌∷◌, ◌++◌, map, refl, ap, ◌∙◌, sym}
 use Rattle.std.proofs.lemmas.List.{append-nil}
-use Rattle.std.specs.Cmp.{IsTotalOrder}
+use Rattle.std.specs.Cmp.{Equal-is, IsTotalOrder}
 use Rattle.std.specs.Cmp.Rules.{comparing}
 use Rattle.std.specs.List.{AllByRecursion}
-use Rattle.std.specs.Ordering.{is_eq, is_lt, ordering_reverse}
-use Rattle.std.specs.declared.cmp.Ordering.{Ordering}
-use Rattle.std.specs.declared.cmp.Ordering.TheVariants.{Less, Equal, Greater}
+use Rattle.std.specs.Ordering.{is_eq, ordering_reverse}
+use Rattle.std.specs.declared.cmp.Ordering.TheVariants.{Less, Equal}
 use Rattle.ifmap_ident.specs.declared.items.Item.{Item}
 use Rattle.ifmap_ident.specs.Items.{item_order, items_tie, same_item}
+use Rattle.ifmap_lemmas.specs.Orderings.{is_less}
 use Rattle.ifmap_meta.specs.declared.stored.Stored.{Stored}
 use Rattle.ifmap_view.specs.declared.attachments.Attachment.{Attachment}
 use Rattle.ifmap_view.specs.Rows.{stored_on}
@@ -18,16 +18,6 @@ use Rattle.ifmap_fresh_tests.proofs.Pairs.{pairs_of}
 
 pub items_total : IsTotalOrder item_order
 items_total = search (comparing, rules)
-
-pub less_is : (o : Ordering) → is_lt o ≡ true → o ≡ Less
-less_is Less e = refl
-less_is Equal e = let q : false ≡ true = e in cc
-less_is Greater e = let q : false ≡ true = e in cc
-
-pub equal_is : (o : Ordering) → is_eq o ≡ true → o ≡ Equal
-equal_is Less e = let q : false ≡ true = e in cc
-equal_is Equal e = refl
-equal_is Greater e = let q : false ≡ true = e in cc
 
 kept : (item at : Item) (xs : List Stored) (rest : List Attachment) → same_item at item ≡ true
     → stored_on item (map (row_on at) xs ++ rest) ≡ xs ++ stored_on item rest
@@ -42,8 +32,8 @@ passed item at (x ∷ xs) rest e = rw e (passed item at xs rest e)
 -- an item above one that is the same as another is not the same as that
 pub above : (item : Item) (s t : Shelf) → same_item s.item item ≡ true → item_below s t ≡ true → same_item t.item item ≡ false
 above item s t e l =
-    let tied : item_order s.item item ≡ Equal = equal_is (item_order s.item item) (sym (items_tie s.item item) ∙ e)
-    in let less : item_order item t.item ≡ Less = sym (items_total.congr s.item item t.item tied) ∙ less_is (item_order s.item t.item) l
+    let tied : item_order s.item item ≡ Equal = (Equal-is (item_order s.item item)).0 (sym (items_tie s.item item) ∙ e)
+    in let less : item_order item t.item ≡ Less = sym (items_total.congr s.item item t.item tied) ∙ is_less (item_order s.item t.item) l
     in items_tie t.item item ∙ ap is_eq (items_total.antisymm t.item item ∙ ap ordering_reverse less)
 
 pub none_above : (item : Item) (s : Shelf) (ss : List Shelf) → same_item s.item item ≡ true → AllByRecursion (λ t. item_below s t ≡ true) ss

@@ -1,11 +1,12 @@
 -- The attachments of shelves that are checked are a graph.
 use Rattle.std.proofs.Common.{◌≡◌, not, ◌&&◌, Bool, true, false, List, [], ◌∷◌, map, refl, ap, ◌∙◌}
-use Rattle.std.proofs.lemmas.Bool.{and_parts}
+use Rattle.std.proofs.lemmas.Bool.{and_parts, not-true}
 use Rattle.std.proofs.lemmas.Cmp.{tied_itself}
 use Rattle.std.specs.List.{AllByRecursion}
 use Rattle.std.specs.Ordering.{is_eq, is_lt, ordering_then}
 use Rattle.std.specs.declared.cmp.Ordering.TheVariants.{Less}
 use Rattle.ifmap_lemmas.specs.Members.{all_of_test, both_all, map_of_all}
+use Rattle.ifmap_lemmas.specs.Orderings.{is_less}
 use Rattle.ifmap_ident.specs.Items.{IsCanonItem, item_order, items_tie, same_item}
 use Rattle.ifmap_meta.specs.declared.stored.Stored.{Stored}
 use Rattle.ifmap_meta.specs.Keys.{same_key, same_type}
@@ -13,7 +14,7 @@ use Rattle.ifmap_view.specs.declared.attachments.Attachment.{Attachment}
 use Rattle.ifmap_view.specs.Attachments.{IsGraph, attachment_order, of_one_key, stored_order}
 use Rattle.ifmap_fresh_tests.specs.declared.shelves.Shelf.{Shelf}
 use Rattle.ifmap_fresh_tests.specs.Lists.{all_pairs, are_lists, item_below, row_below, row_on, rows_of}
-use Rattle.ifmap_fresh_tests.proofs.Finding.{items_total, less_is}
+use Rattle.ifmap_fresh_tests.proofs.Finding.{items_total}
 use Rattle.ifmap_fresh_tests.proofs.Pairs.{Pairwise, all_any, all_turned, pairs_of, pairwise_both, pairwise_onto, pairwise_turned, to_distinct, to_sorted}
 
 all_rows : (Q : Attachment → Type 0) (P : Shelf → Type 0) → ((s : Shelf) (x : Stored) → P s → Q (row_on s.item x)) → (ss : List Shelf)
@@ -35,21 +36,17 @@ rows_pairwise P R f (s ∷ ss) r a =
     (all_any (λ x. AllByRecursion (P (row_on s.item x)) (rows_of ss)) s.rows.items
     (λ x. all_rows (P (row_on s.item x)) (R s) (λ t y l. f s t x y l) ss r.0)))
 
-not_true : (b : Bool) → not b ≡ true → b ≡ false
-not_true true e = let q : false ≡ true = e in cc
-not_true false e = refl
-
 and_false : (b : Bool) → (b && false) ≡ false
 and_false true = refl
 and_false false = refl
 
 row_rises : (x y : Stored) → row_below x y ≡ true → stored_order x y ≡ Less
-row_rises x y e = less_is (stored_order x y) (and_parts (is_lt (stored_order x y)) (not (same_type x.element y.element)) e).0
+row_rises x y e = is_less (stored_order x y) (and_parts (is_lt (stored_order x y)) (not (same_type x.element y.element)) e).0
 
 row_differs : (x y : Stored) → row_below x y ≡ true → same_key x y ≡ false
 row_differs x y e =
     let p = and_parts (is_lt (stored_order x y)) (not (same_type x.element y.element)) e
-    in let f : same_type x.element y.element ≡ false = not_true (same_type x.element y.element) p.1
+    in let f : same_type x.element y.element ≡ false = not-true (same_type x.element y.element) p.1
     in rw f refl
 
 on_shelf : (P : Attachment → Attachment → Type 0) → ((s : Shelf) (x y : Stored) → row_below x y ≡ true
@@ -64,7 +61,7 @@ pub graph_is : (ss : List Shelf) → AllByRecursion (λ s. IsCanonItem s.item) s
     → IsGraph (rows_of ss)
 graph_is ss c r l =
     let rise = pairwise_turned (λ s t. item_below s t ≡ true) (λ s t. item_order s.item t.item ≡ Less) ss
-    (λ s t e. less_is (item_order s.item t.item) e) (pairs_of item_below ss r)
+    (λ s t e. is_less (item_order s.item t.item) e) (pairs_of item_below ss r)
     in let lists = all_of_test (λ s. all_pairs row_below s.rows.items) ss l
     in record {
       items = all_rows (λ x. IsCanonItem x.item) (λ s. IsCanonItem s.item) (λ s x p. p) ss c;

@@ -1,6 +1,7 @@
 -- The item of the first shelf above another on which something stands is the next that carries something.
 use Rattle.std.proofs.Common.{◌≡◌, ◌≢◌, not, ◌&&◌, Bool, true, false, cond, List, [], ◌∷◌, Option, Some, None, inl, inr, refl, ap, ◌∙◌}
 use Rattle.std.proofs.Common.{sym, subst, option_copied, Bor}
+use Rattle.std.specs.Cmp.{Equal-is}
 use Rattle.std.specs.Prelude.{IfNone, IfSome}
 use Rattle.std.proofs.lemmas.Bool.{and_parts, cases_Bool}
 use Rattle.std.proofs.lemmas.Cmp.{alike_right, tied_itself}
@@ -10,12 +11,13 @@ use Rattle.std.specs.Ordering.{is_eq, is_lt, ordering_reverse}
 use Rattle.std.specs.declared.cmp.Ordering.TheVariants.{Less, Equal}
 use Rattle.ifmap_ident.specs.declared.items.Item.{Item}
 use Rattle.ifmap_ident.specs.Items.{IsCanonItem, item_order, items_tie, same_item}
+use Rattle.ifmap_lemmas.specs.Orderings.{is_less}
 use Rattle.ifmap_meta.specs.declared.stored.Stored.{Stored}
 use Rattle.ifmap_plans.specs.After.{IsAbove, IsNextItem, NoItem}
 use Rattle.ifmap_view.specs.Rows.{stored_on}
 use Rattle.ifmap_fresh_tests.specs.declared.shelves.Shelf.{Shelf}
 use Rattle.ifmap_fresh_tests.specs.Lists.{all_pairs, carries, is_above, is_full, item_below, next_in, rows_of}
-use Rattle.ifmap_fresh_tests.proofs.Finding.{equal_is, found, items_total, less_is, none_above, past}
+use Rattle.ifmap_fresh_tests.proofs.Finding.{found, items_total, none_above, past}
 use Rattle.ifmap_fresh_tests.proofs.Pairs.{pairs_of}
 
 full : (xs : List Stored) → is_full xs ≡ true → xs ≢ []
@@ -39,17 +41,17 @@ all_further : (x : Item) (s : Shelf) (ss : List Shelf) → item_order x s.item �
     → AllByRecursion (λ t. item_order x t.item ≡ Less) ss
 all_further x s [] l a = tt
 all_further x s (t ∷ ts) l a =
-    (items_total.trans x s.item t.item l (less_is (item_order s.item t.item) a.0), all_further x s ts l a.1)
+    (items_total.trans x s.item t.item l (is_less (item_order s.item t.item) a.0), all_further x s ts l a.1)
 
 module _ (last : Option Item) where
   above_is : (l : Option Item) (x : Item) → is_above l x ≡ true → IsAbove l x
   above_is None x e = tt
-  above_is (Some a) x e = less_is (item_order a x) e
+  above_is (Some a) x e = is_less (item_order a x) e
 
   above_same : (l : Option Item) (x y : Item) → same_item x y ≡ true → IsAbove l y → is_above l x ≡ true
   above_same None x y e i = refl
   above_same (Some a) x y e i =
-      let tied : item_order x y ≡ Equal = equal_is (item_order x y) (sym (items_tie x y) ∙ e) in
+      let tied : item_order x y ≡ Equal = (Equal-is (item_order x y)).0 (sym (items_tie x y) ∙ e) in
       ap is_lt (alike_right items_total x y a tied ∙ i)
 
   -- a shelf that is passed has nothing of an item above the last

@@ -4,6 +4,7 @@ use Rattle.std.proofs.lemmas.Bool.{cases_Bool, cases_lt}
 use Rattle.std.proofs.lemmas.Bool.Decides.{nat_tests}
 use Rattle.std.proofs.lemmas.List.Elements.{filter-append}
 use Rattle.std.specs.List.{AllByRecursion, filter}
+use Rattle.ifmap_lemmas.specs.Filters.{all_filter}
 use Rattle.ifmap_lemmas.specs.Having.{Has, has_either, has_left, has_right}
 use Rattle.ifmap_lemmas.specs.Members.{both_all}
 use Rattle.ifmap_fresh_tests.specs.Lists.{below, count_below}
@@ -51,17 +52,10 @@ pub below_differ : (n : ℕ) → Pairwise (λ x y. nat_eq x y ≡ false) (below 
 below_differ zero = tt
 below_differ (suc n) = pairwise_both (λ x y. nat_eq x y ≡ false) (below n) (n ∷ []) (below_differ n) (tt, tt) (all_less n n (omega arith))
 
-all_kept : {X : Type 0} (P : X → Type 0) (p : X → Bool) (xs : List X) → AllByRecursion P xs → AllByRecursion P (filter p xs)
-all_kept P p [] a = tt
-all_kept P p (x ∷ xs) a = elim (cases_Bool (p x)) [
-  | inl t ↦ rw t (a.0, all_kept P p xs a.1)
-  | inr t ↦ rw t (all_kept P p xs a.1)
-]
-
 pub pairwise_kept : {X : Type 0} (P : X → X → Type 0) (p : X → Bool) (xs : List X) → Pairwise P xs → Pairwise P (filter p xs)
 pairwise_kept P p [] a = tt
 pairwise_kept P p (x ∷ xs) a = elim (cases_Bool (p x)) [
-  | inl t ↦ rw t (all_kept (P x) p xs a.0, pairwise_kept P p xs a.1)
+  | inl t ↦ rw t (all_filter (P x) p xs a.0, pairwise_kept P p xs a.1)
   | inr t ↦ rw t (pairwise_kept P p xs a.1)
 ]
 

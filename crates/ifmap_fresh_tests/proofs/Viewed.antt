@@ -14,7 +14,7 @@ use Rattle.ifmap_ident.specs.declared.items.Item.TheVariants.{One, Pair}
 use Rattle.ifmap_ident.specs.Canon.{IsIdentifier}
 use Rattle.ifmap_ident.specs.Identifiers.{identifier_bytes, identifier_order, same_identifier}
 use Rattle.ifmap_ident.specs.Items.{IsCanonItem, identifiers_of, ordered_pair, same_item}
-use Rattle.ifmap_lemmas.specs.Having.{Has, any_has, filter_has, from_has, has_filter, has_from, joined_has, map_has}
+use Rattle.ifmap_lemmas.specs.Having.{Has, any_has, filter_has, from_has, has_filter, has_from, joined_has, map_has, all_has, first_of}
 use Rattle.ifmap_lemmas.specs.Members.{all_of_test}
 use Rattle.ifmap_lemmas.specs.Texts.{eq_itself, eq_tells}
 use Rattle.ifmap_meta.specs.declared.stored.Stored.{Stored}
@@ -32,10 +32,6 @@ use Rattle.ifmap_fresh_tests.proofs.Pairs.{Pairwise, pairs_of, to_distinct}
 abbrev pub Tells : Type 0
 Tells = (one other : Identifier) → IsIdentifier one → IsIdentifier other → identifier_bytes one ≡ identifier_bytes other → one ≡ other
 
-first_of : {X : Type 0} (xs : List X) → xs ≢ [] → (x : X) × Has xs x
-first_of [] n = absurd (n refl)
-first_of (x ∷ xs) n = (x, inl refl)
-
 pub full_is : (xs : List Stored) → xs ≢ [] → is_full xs ≡ true
 full_is [] n = absurd (n refl)
 full_is (x ∷ xs) n = refl
@@ -43,11 +39,6 @@ full_is (x ∷ xs) n = refl
 pub is_there : (xs : List Stored) → is_full xs ≡ true → xs ≢ []
 is_there [] e n = let q : false ≡ true = e in cc
 is_there (x ∷ xs) e n = let q : true ≡ false = ap is_full n in cc
-
-pub all_has : {X : Type 0} (P : X → Type 0) (xs : List X) → AllByRecursion P xs → (x : X) → Has xs x → P x
-all_has P [] a x h = absurd h
-all_has P (y ∷ ys) a x (inl e) = subst P e a.0
-all_has P (y ∷ ys) a x (inr h) = all_has P ys a.1 x h
 
 pub has_got : {X : Type 0} (xs : List X) (i : ℕ) (x : X) → slice_get xs i ≡ Some x → Has xs x
 has_got [] i x e = absurd (none-some x e)

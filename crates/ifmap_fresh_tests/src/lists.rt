@@ -36,7 +36,10 @@ impl Model for Lists {
 
     ghost view = { λ l. record { names = l.names.items; shelves = l.shelves.items } };
 
-    ghost invariant = { λ l. AreLists (record { names = l.names.items; shelves = l.shelves.items }) };
+    ghost invariant = { λ l. AreLists (record {
+      names = l.names.items;
+      shelves = l.shelves.items;
+    }) };
 }
 
 impl Lists {

@@ -59,7 +59,7 @@ fn push_entry(alloc: Global, out: &mut String, entry: &Entry) -> Result<(), NoMe
 }
 
 // The entries in their order: their places, and the local names of their elements.
-fn told(alloc: Global, entries: &Many<Entry>) -> Result<String, NoMemory> {
+fn text_of_entries(alloc: Global, entries: &Many<Entry>) -> Result<String, NoMemory> {
     let mut out = String::new(alloc);
     for entry in &entries.0 {
         push_entry(alloc, &mut out, entry)?;
@@ -67,12 +67,12 @@ fn told(alloc: Global, entries: &Many<Entry>) -> Result<String, NoMemory> {
     Ok(out)
 }
 
-// What is found, as `told` tells it; a size that is too big.
+// What is found, as `text_of_entries` tells it; a size that is too big.
 fn found_in(alloc: Global, lists: &Lists, search: &Search) -> Result<String, NoMemory>
     requires { IsIdentifier search.now.start }
 {
     match find(alloc, lists, search) {
-        Ok(found) => told(alloc, &found.entries),
+        Ok(found) => text_of_entries(alloc, &found.entries),
         Err(SearchError::TooBig { size }) => format!(in alloc; "{size}"),
         Err(SearchError::NoMemory) => Err(NoMemory),
     }

@@ -4,43 +4,33 @@ use Rattle.std.proofs.Common.{sym, subst}
 use Rattle.std.proofs.lemmas.Bool.{cases_Bool}
 use Rattle.std.proofs.lemmas.Cmp.{nat_list_cmp_total, on_total, then_total}
 use Rattle.std.proofs.lemmas.List.Kept.{IsStrictlySortedBy-filter}
-use Rattle.std.specs.Cmp.{IsTotalOrder, tied_itself}
+use Rattle.std.specs.Cmp.{IsTotalOrder, tied_itself, tied_then}
 use Rattle.std.specs.Cmp.Lexicographic.{slice_cmp, texts_ties}
 use Rattle.std.specs.List.{filter, list_any}
 use Rattle.std.specs.List.Sorted.{IsStrictlySortedBy}
-use Rattle.std.specs.Ordering.{is_eq, nat_cmp, ordering_reverse, ordering_then}
+use Rattle.std.specs.Ordering.{is_eq, nat_cmp}
 use Rattle.std.specs.Str.{bytes_eq}
-use Rattle.std.specs.declared.cmp.Ordering.{Ordering}
-use Rattle.std.specs.declared.cmp.Ordering.TheVariants.{Less, Equal, Greater}
+use Rattle.std.specs.declared.cmp.Ordering.TheVariants.{Less}
 use Rattle.ifmap_ident.specs.Items.{item_order, items_tie, same_item}
-use Rattle.ifmap_lemmas.specs.Having.{Has, any_has, filter_has, has_any, has_filter}
+use Rattle.ifmap_lemmas.specs.Having.{Has, any_has, filter_has, has_any, has_filter, all_has}
 use Rattle.ifmap_lemmas.specs.Texts.{eq_itself}
+use Rattle.ifmap_lemmas.specs.Orderings.{eq_turned}
 use Rattle.ifmap_plans.specs.Placing.{put}
 use Rattle.ifmap_plans.specs.laws.KeyLaws.{items_total}
 use Rattle.ifmap_search.specs.declared.results.Entry.{Entry}
 use Rattle.ifmap_folds.specs.Differences.{difference, entry_bytes, entry_order, has_entry, same_entry}
 use Rattle.ifmap_folds.specs.Folds.{Sets, with_entries}
-use Rattle.ifmap_folds.specs.laws.RisingLaws.{has_put, has_still, head_rises, member_of, put_has, put_rises, rising_same, tail_rises}
+use Rattle.ifmap_folds.specs.laws.RisingLaws.{has_put, has_still, head_rises, put_has, put_rises, rising_same, tail_rises}
 
 pub entries_total : IsTotalOrder entry_order
 entries_total = then_total (on_total (λ (e : Entry). e.item) items_total) (on_total entry_bytes nat_list_cmp_total)
-
-eq_then : (o p : Ordering) → is_eq (ordering_then o p) ≡ (is_eq o && is_eq p)
-eq_then Less p = refl
-eq_then Equal p = refl
-eq_then Greater p = refl
 
 -- entries are one exactly where the order does not tell them apart
 pub entries_tie : (x y : Entry) → same_entry x y ≡ is_eq (entry_order x y)
 entries_tie x y =
     ap (λ b. b && bytes_eq (entry_bytes x) (entry_bytes y)) (items_tie x.item y.item)
     ∙ ap (λ b. is_eq (item_order x.item y.item) && b) (texts_ties (entry_bytes x) (entry_bytes y))
-    ∙ sym (eq_then (item_order x.item y.item) (slice_cmp nat_cmp (entry_bytes x) (entry_bytes y)))
-
-eq_turned : (o : Ordering) → is_eq (ordering_reverse o) ≡ is_eq o
-eq_turned Less = refl
-eq_turned Equal = refl
-eq_turned Greater = refl
+    ∙ tied_then (item_order x.item y.item) (slice_cmp nat_cmp (entry_bytes x) (entry_bytes y))
 
 pub same_turned : (x y : Entry) → same_entry x y ≡ same_entry y x
 same_turned x y =
@@ -78,7 +68,7 @@ has_with [] set z r h = absurd h
 has_with (e ∷ es) set z r (inl q) =
     subst (λ x. Has (with_entries es (put entry_order e set)) x) q
     (has_kept es (put entry_order e set) e (has_put entry_order entries_total e set)
-    (λ x k. ap is_eq (member_of (λ y. entry_order e y ≡ Less) es (head_rises entry_order entries_total e es r) x k)))
+    (λ x k. ap is_eq (all_has (λ y. entry_order e y ≡ Less) es (head_rises entry_order entries_total e es r) x k)))
 has_with (e ∷ es) set z r (inr k) = has_with es (put entry_order e set) z (tail_rises entry_order entries_total e es r) k
 
 module _ (a b : List Entry) (apart : (x y : Entry) → Has a x → Has b y → same_entry x y ≡ true → x ≡ y)

@@ -5,22 +5,13 @@ use Rattle.std.proofs.lemmas.List.Kept.{IsStrictlySortedBy-filter}
 use Rattle.std.specs.Cmp.{IsTotalOrder, tied_itself}
 use Rattle.std.specs.List.{AllByRecursion, filter}
 use Rattle.std.specs.List.Sorted.{IsStrictlySortedBy}
-use Rattle.std.specs.Ordering.{is_eq, is_gt, is_lt, ordering_reverse}
+use Rattle.std.specs.Ordering.{is_eq, is_gt, is_lt}
 use Rattle.std.specs.declared.cmp.Ordering.{Ordering}
 use Rattle.std.specs.declared.cmp.Ordering.TheVariants.{Less, Equal, Greater}
-use Rattle.ifmap_lemmas.specs.Having.{Has, filter_has, has_either, has_filter, has_left, has_right}
+use Rattle.ifmap_lemmas.specs.Having.{Has, filter_has, has_either, has_filter, has_left, has_right, all_has, has_all}
 use Rattle.ifmap_lemmas.specs.Members.{both_all}
-use Rattle.ifmap_lemmas.specs.Orderings.{is_greater, is_less}
+use Rattle.ifmap_lemmas.specs.Orderings.{is_greater, is_less, greater_turned, not_both}
 use Rattle.ifmap_plans.specs.Placing.{put}
-
-pub all_of : {X : Type 0} (P : X → Type 0) (xs : List X) → ((x : X) → Has xs x → P x) → AllByRecursion P xs
-all_of P [] f = tt
-all_of P (x ∷ xs) f = (f x (inl refl), all_of P xs (λ y h. f y (inr h)))
-
-pub member_of : {X : Type 0} (P : X → Type 0) (xs : List X) → AllByRecursion P xs → (x : X) → Has xs x → P x
-member_of P [] a x h = absurd h
-member_of P (y ∷ ys) a x (inl e) = subst P e a.0
-member_of P (y ∷ ys) a x (inr h) = member_of P ys a.1 x h
 
 module _ {X : Type 0} (order : X → X → Ordering) (total : IsTotalOrder order) where
   pub head_rises : (x : X) (xs : List X) → IsStrictlySortedBy order (x ∷ xs) → AllByRecursion (λ y. order x y ≡ Less) xs
@@ -43,28 +34,19 @@ module _ {X : Type 0} (order : X → X → Ordering) (total : IsTotalOrder order
   not_itself : (x : X) → order x x ≡ Less → ⊥
   not_itself x e = let q : Equal ≡ Less = sym (tied_itself total x) ∙ e in cc
 
-  turned : (x y : X) → order x y ≡ Less → order y x ≡ Greater
-  turned x y e = total.antisymm y x ∙ ap ordering_reverse e
-
-  turned_back : (x y : X) → order x y ≡ Greater → order y x ≡ Less
-  turned_back x y e = total.antisymm y x ∙ ap ordering_reverse e
-
-  not_both : (x y : X) → order x y ≡ Less → order y x ≡ Less → ⊥
-  not_both x y e f = let q : Greater ≡ Less = sym (turned x y e) ∙ f in cc
-
   pub rising_same : (xs ys : List X) → IsStrictlySortedBy order xs → IsStrictlySortedBy order ys
       → ((x : X) → Has xs x → Has ys x) → ((y : X) → Has ys y → Has xs y) → xs ≡ ys
   rising_same [] [] r q f g = refl
   rising_same [] (y ∷ ys) r q f g = absurd (g y (inl refl))
   rising_same (x ∷ xs) [] r q f g = absurd (f x (inl refl))
   rising_same (x ∷ xs) (y ∷ ys) r q f g =
-      let below : (z : X) → Has xs z → order x z ≡ Less = λ z h. member_of (λ w. order x w ≡ Less) xs (head_rises x xs r) z h
-      in let above : (z : X) → Has ys z → order y z ≡ Less = λ z h. member_of (λ w. order y w ≡ Less) ys (head_rises y ys q) z h
+      let below : (z : X) → Has xs z → order x z ≡ Less = λ z h. all_has (λ w. order x w ≡ Less) xs (head_rises x xs r) z h
+      in let above : (z : X) → Has ys z → order y z ≡ Less = λ z h. all_has (λ w. order y w ≡ Less) ys (head_rises y ys q) z h
       in let one : y ≡ x = elim (f x (inl refl)) [
         | inl e ↦ e
         | inr h ↦ elim (g y (inl refl)) [
           | inl e ↦ sym e
-          | inr k ↦ absurd (not_both x y (below y k) (above x h))
+          | inr k ↦ absurd (not_both total x y (below y k) (above x h))
         ]
       ]
       in let rest : xs ≡ ys = rising_same xs ys (tail_rises x xs r) (tail_rises y ys q)
@@ -83,7 +65,7 @@ module _ {X : Type 0} (order : X → X → Ordering) (total : IsTotalOrder order
   joined_rises [] ys r q f = q
   joined_rises (x ∷ xs) ys r q f =
       rises_from x (xs ++ ys)
-      (both_all (λ z. order x z ≡ Less) xs ys (head_rises x xs r) (all_of (λ z. order x z ≡ Less) ys (λ y h. f x y (inl refl) h)))
+      (both_all (λ z. order x z ≡ Less) xs ys (head_rises x xs r) (has_all (λ z. order x z ≡ Less) ys (λ y h. f x y (inl refl) h)))
       (joined_rises xs ys (tail_rises x xs r) q (λ z y h k. f z y (inr h) k))
 
   pub put_rises : (x : X) (xs : List X) → IsStrictlySortedBy order xs → IsStrictlySortedBy order (put order x xs)
@@ -91,10 +73,10 @@ module _ {X : Type 0} (order : X → X → Ordering) (total : IsTotalOrder order
       let low = filter (λ y. is_lt (order y x)) xs
       in let high = filter (λ y. is_gt (order y x)) xs
       in let after : (z : X) → Has high z → order x z ≡ Less
-      = λ z h. turned_back z x (is_greater (order z x) (filter_has (λ y. is_gt (order y x)) xs z h).1)
+      = λ z h. greater_turned total z x (is_greater (order z x) (filter_has (λ y. is_gt (order y x)) xs z h).1)
       in let before : (z : X) → Has low z → order z x ≡ Less = λ z h. is_less (order z x) (filter_has (λ y. is_lt (order y x)) xs z h).1
       in joined_rises low (x ∷ high) (IsStrictlySortedBy-filter order (λ y. is_lt (order y x)) xs r)
-      (rises_from x high (all_of (λ z. order x z ≡ Less) high after) (IsStrictlySortedBy-filter order (λ y. is_gt (order y x)) xs r))
+      (rises_from x high (has_all (λ z. order x z ≡ Less) high after) (IsStrictlySortedBy-filter order (λ y. is_gt (order y x)) xs r))
       (λ y z h k. elim k [
         | inl e ↦ subst (λ w. order y w ≡ Less) e (before y h)
         | inr m ↦ total.trans y x z (before y h) (after z m)

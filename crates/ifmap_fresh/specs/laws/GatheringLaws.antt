@@ -1,7 +1,7 @@
 -- What is gathered item by item is a filter of the list.
-use Rattle.std.proofs.Common.{◌≡◌, ℕ, ◌&&◌, ◌||◌, Bool, true, false, cond, List, [], ◌∷◌, ◌++◌, map, flat_map, refl, ap, ◌∙◌, sym, subst}
+use Rattle.std.proofs.Common.{◌≡◌, ℕ, ◌&&◌, true, false, cond, List, [], ◌∷◌, ◌++◌, map, flat_map, refl, ap, ◌∙◌, sym, subst}
 use Rattle.std.proofs.Common.{inl, inr}
-use Rattle.std.proofs.lemmas.Bool.{cases_Bool}
+use Rattle.std.proofs.lemmas.Bool.{cases_Bool, or_parts}
 use Rattle.std.specs.Cmp.{IsTotalOrder, tied_itself}
 use Rattle.std.specs.List.{AllByRecursion, filter, list_any}
 use Rattle.std.specs.List.Sorted.{IsStrictlySortedBy}
@@ -14,7 +14,7 @@ use Rattle.ifmap_meta.specs.declared.stored.Stored.{Stored}
 use Rattle.ifmap_view.specs.declared.attachments.Attachment.{Attachment}
 use Rattle.ifmap_view.specs.Attachments.{attachment_order}
 use Rattle.ifmap_view.specs.Rows.{stored_on}
-use Rattle.ifmap_fresh.specs.Gathered.{IsGrouped, gathered, has_item, row_at}
+use Rattle.ifmap_fresh.specs.Gathered.{IsGrouped, gathered_rows, has_item, row_at}
 use Rattle.ifmap_fresh.specs.laws.OrderLaws.{items_total}
 use Rattle.ifmap_fresh.specs.laws.SameLaws.{AreCanon, Tells, same_item_is}
 
@@ -51,10 +51,6 @@ not_among : (k : Item) (is : List Item) → AllByRecursion (λ y. item_order k y
 not_among k [] a = refl
 not_among k (i ∷ is) a = rw (apart k i Less a.0 refl) (not_among k is a.1)
 
-or_false : (a b : Bool) → (a || b) ≡ false → (a ≡ false) × (b ≡ false)
-or_false true b e = let q : true ≡ false = e in cc
-or_false false b e = (refl, e)
-
 -- what is among items that are all above another is above it
 among_above : Tells → (i : Item) (is : List Item) → AllByRecursion AreCanon is → (k : Item) → AreCanon k
     → AllByRecursion (λ y. item_order i y ≡ Less) is
@@ -66,36 +62,37 @@ among_above tells i (j ∷ is) c k ck a h = elim (cases_Bool (same_item k j)) [
 ]
 
 -- one attachment more changes nothing where its item is not among them
-without : (r : Attachment) (rs : List Attachment) (is : List Item) → has_item is r.item ≡ false → gathered (r ∷ rs) is ≡ gathered rs is
+without : (r : Attachment) (rs : List Attachment) (is : List Item) → has_item is r.item ≡ false
+    → gathered_rows (r ∷ rs) is ≡ gathered_rows rs is
 without r rs [] h = refl
 without r rs (i ∷ is) h =
-    let p : (same_item r.item i ≡ false) × (has_item is r.item ≡ false) = or_false (same_item r.item i) (has_item is r.item) h
+    let p : (same_item r.item i ≡ false) × (has_item is r.item ≡ false) = or_parts (same_item r.item i) (has_item is r.item) h
     in rw p.0 (ap (λ l. map (row_at i) (stored_on i rs) ++ l) (without r rs is p.1))
 
 -- and stands in front of all, where it is among them and at or below all
 with_first : Tells → (r : Attachment) (rs : List Attachment) (is : List Item) → AreCanon r.item → AllByRecursion AreCanon is
     → AllByRecursion (λ s. is_gt (item_order r.item s.item) ≡ false) rs → IsStrictlySortedBy item_order is
-    → has_item is r.item ≡ true → gathered (r ∷ rs) is ≡ r ∷ gathered rs is
+    → has_item is r.item ≡ true → gathered_rows (r ∷ rs) is ≡ r ∷ gathered_rows rs is
 with_first tells r rs [] cr c a s h = let q : false ≡ true = h in cc
 with_first tells r rs (i ∷ is) cr c a s h = elim (cases_Bool (same_item r.item i)) [
   | inl t ↦ let same : r.item ≡ i = same_item_is tells r.item i cr c.0 t
-      in let rest : gathered (r ∷ rs) is ≡ gathered rs is = without r rs is
+      in let rest : gathered_rows (r ∷ rs) is ≡ gathered_rows rs is = without r rs is
       (not_among r.item is (subst (λ k. AllByRecursion (λ y. item_order k y ≡ Less) is) (sym same) (first_rises i is s).0))
-      in rw t (ap (λ x. record { item = x; stored = r.stored } ∷ (map (row_at i) (stored_on i rs) ++ gathered (r ∷ rs) is)) (sym same)
+      in rw t (ap (λ x. record { item = x; stored = r.stored } ∷ (map (row_at i) (stored_on i rs) ++ gathered_rows (r ∷ rs) is)) (sym same)
       ∙ ap (λ l. r ∷ (map (row_at i) (stored_on i rs) ++ l)) rest)
   | inr t ↦ let more : has_item is r.item ≡ true = rw t at h
       in let nothing : stored_on i rs ≡ [] = nothing_below i r.item rs (among_above tells i is c.1 r.item cr (first_rises i is s).0 more) a
-      in rw t (ap (λ l. map (row_at i) l ++ gathered (r ∷ rs) is) nothing
+      in rw t (ap (λ l. map (row_at i) l ++ gathered_rows (r ∷ rs) is) nothing
       ∙ with_first tells r rs is cr c.1 a (first_rises i is s).1 more
-      ∙ ap (λ l. r ∷ (map (row_at i) l ++ gathered rs is)) (sym nothing))
+      ∙ ap (λ l. r ∷ (map (row_at i) l ++ gathered_rows rs is)) (sym nothing))
 ]
 
 pub gathers : Tells → (rows : List Attachment) (items : List Item) → AllByRecursion (λ r. IsCanonItem r.item) rows
     → AllByRecursion AreCanon items
-    → IsGrouped rows → IsStrictlySortedBy item_order items → gathered rows items ≡ filter (λ r. has_item items r.item) rows
+    → IsGrouped rows → IsStrictlySortedBy item_order items → gathered_rows rows items ≡ filter (λ r. has_item items r.item) rows
 gathers tells [] items cr c g s = none items
   where
-    none : (is : List Item) → gathered [] is ≡ []
+    none : (is : List Item) → gathered_rows [] is ≡ []
     none [] = refl
     none (i ∷ is) = none is
 gathers tells (r ∷ rs) items cr c g s = elim (cases_Bool (has_item items r.item)) [

@@ -1,5 +1,5 @@
 -- Links of numbers that match, and those of identifiers.
-use Rattle.std.proofs.Common.{◌≡◌, ◌≢◌, ℕ, ◌<◌, Bool, true, false, cond, Option, Some, None, List, [], ◌∷◌, map, length, get_or, slice_get}
+use Rattle.std.proofs.Common.{◌≡◌, ◌≢◌, ℕ, ◌<◌, Bool, true, false, cond, Option, Some, None, List, [], map, length, get_or, slice_get}
 use Rattle.std.proofs.Common.{refl, ap, ◌∙◌, sym, subst, inl, inr}
 use Rattle.std.proofs.lemmas.List.{get_or-map, length-map}
 use Rattle.std.proofs.lemmas.Option.{slice_get-get_or, same_Some, none-some}
@@ -10,7 +10,7 @@ use Rattle.ifmap_ident.specs.declared.items.Item.{Item}
 use Rattle.ifmap_ident.specs.declared.items.Item.TheVariants.{One, Pair}
 use Rattle.ifmap_ident.specs.Canon.{IsIdentifier}
 use Rattle.ifmap_ident.specs.Items.{identifiers_of, pair_of, same_item}
-use Rattle.ifmap_lemmas.specs.Having.{Has, filter_has, has_joined, map_has}
+use Rattle.ifmap_lemmas.specs.Having.{Has, filter_has, has_joined, map_has, first_of}
 use Rattle.ifmap_meta.specs.declared.stored.Stored.{Stored}
 use Rattle.ifmap_region.specs.Links.{Linked, IsSymmetric}
 use Rattle.ifmap_view.specs.declared.attachments.Attachment.{Attachment}
@@ -39,10 +39,6 @@ none_to_itself (Some a) rows = ap (λ i. stored_where i rows) (pair_of_one a)
 
 pub some_there : (filter : Option Filter) (xs : List Stored) → one_meets filter xs ≡ true → xs ≢ []
 some_there filter xs e n = let p : one_meets filter [] ≡ true = subst (λ ys. one_meets filter ys ≡ true) n e in cc
-
-first_of : {X : Type 0} (xs : List X) → xs ≢ [] → (x : X) × Has xs x
-first_of [] n = absurd (n refl)
-first_of (x ∷ xs) n = (x, inl refl)
 
 -- where something is stored on the pair of two identifiers, the second stands in an item
 pub stands_in : Tells → (rows : List Attachment) → AllByRecursion (λ r. IsCanonItem r.item) rows → (a b : Identifier) → IsIdentifier a

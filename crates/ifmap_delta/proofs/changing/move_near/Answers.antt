@@ -2,6 +2,7 @@ use Rattle.std.proofs.Common.{rules, ◌≡◌, ◌∙◌, ap, sym, subst, ◌+�
 use Rattle.ifmap_search.specs.Sizes.{entries_size}
 use Rattle.ifmap_fresh.specs.Collected.{numbers_of}
 use Rattle.ifmap_fresh.specs.Fresh.{fresh}
+use Rattle.ifmap_plans.specs.Plans.{IsAfter}
 use Rattle.ifmap_region.specs.Marks.{mark_of, over}
 use Rattle.ifmap_delta.specs.Changes.{ShowsAfter}
 use Rattle.ifmap_delta.specs.Located.{AreLocated}
@@ -52,6 +53,16 @@ differences_on-requires-clause-before g c =
 pub differences_on-requires-clause-after : goal.differences_on-requires-clause-after
 differences_on-requires-clause-after g c =
     (c.args.subscription.now.region.start, c.args.subscription.now.region.max_depth, c.in_ok-patch.ensures.marks)
+
+pub differences_on-requires-clause-rising : goal.differences_on-requires-clause-rising
+differences_on-requires-clause-rising g c = c.in_ok-items.ensures.touched.rising
+
+pub differences_on-requires-clause-change : goal.differences_on-requires-clause-change
+differences_on-requires-clause-change g c =
+    let old = sight_of g.G.View.rows g.G.View.id_at g.G.View.links c.args.graph.now
+    in let new = sight_of g.D.View.rows g.D.View.id_at g.D.View.links c.args.draft.now
+    in let at : c.deref-3.result.now ≡ c.args.located.now.plan.now.changes = search rules
+    in subst (λ cs. IsAfter cs old.rows new.rows) (sym at) c.requires.change.after
 
 pub returns-in_err-items-clause-steps : goal.returns-in_err-items-clause-steps
 returns-in_err-items-clause-steps g c =

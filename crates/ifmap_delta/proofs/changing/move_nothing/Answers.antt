@@ -1,10 +1,9 @@
-use Rattle.std.proofs.Common.{rules, ◌≡◌, ◌∙◌, ap, sym, subst, ◌+◌, []}
-use Rattle.std.proofs.lemmas.Result.{IfOk-weaker}
+use Rattle.std.proofs.Common.{◌≡◌, ◌∙◌, ap, sym, ◌+◌, []}
 use Rattle.ifmap_search.specs.Sizes.{entries_size}
 use Rattle.ifmap_fresh.specs.Fresh.{fresh}
 use Rattle.ifmap_region.specs.Marks.{mark_of, over}
 use Rattle.ifmap_folds.specs.Differences.{difference}
-use Rattle.ifmap_delta.specs.Sights.{AreMarks, sight_of}
+use Rattle.ifmap_delta.specs.Sights.{sight_of}
 use Rattle.ifmap_delta.proofs.Repairing.{repair_steps, repaired_marks, repaired_steps}
 use Rattle.ifmap_delta.proofs.Sizing.{fresh_rises, sizes_differ}
 use Rattle.ifmap_delta.proofs.Staying.{all_settled, no_flips, none_rises}

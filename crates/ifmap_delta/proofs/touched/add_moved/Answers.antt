@@ -1,9 +1,9 @@
 use Rattle.std.proofs.Common.{ℕ, ◌++◌, ap, ◌∙◌, sym, arith, append_assoc, flat_map, take}
 use Rattle.ifmap_fresh.specs.Collected.{numbers_of}
+use Rattle.ifmap_lemmas.specs.Weights.{weight_more, weight_within}
 use Rattle.ifmap_region.specs.Marks.{mark_of, over}
 use Rattle.ifmap_delta.specs.Sights.{sight_of}
-use Rattle.ifmap_delta.specs.Touched.{brought, looked_along}
-use Rattle.ifmap_delta.proofs.Along.{weight_more, weight_within}
+use Rattle.ifmap_delta.specs.Touched.{brought_items, looked_along}
 use Rattle.ifmap_fresh.specs.laws.AlongLaws.{brought_more}
 use Rattle.ifmap_delta.proofs.touched.add_moved.Goals as goal
 
@@ -28,7 +28,7 @@ loop-i-preserved g c =
     in let mark = mark_of side.marks.now.marks.entries
     in let patch = c.args.patch.now
     in let numbers = numbers_of patch
-    in let f = λ (v : ℕ). brought new side.search.now v (mark v) (over patch mark v)
+    in let f = λ (v : ℕ). brought_items new side.search.now v (mark v) (over patch mark v)
     in (
       c.in_ok-add_brought.ensures.items ∙ ap (λ l. l ++ f c.number_at.result) c.loop-i.invariant.0
           ∙ append_assoc c.args.items.now.items (flat_map f (take c.loop-i.i numbers)) (f c.number_at.result)

@@ -4,7 +4,7 @@ use Rattle.ifmap_ident.specs.Items.{IsCanonItem}
 use Rattle.ifmap_ident.specs.declared.items.Item.{Item}
 use Rattle.ifmap_delta.specs.Located.{IsLocatedTwice}
 use Rattle.ifmap_delta.specs.Sights.{sight_of}
-use Rattle.ifmap_delta.specs.Touched.{planned}
+use Rattle.ifmap_delta.specs.Touched.{planned_items}
 use Rattle.ifmap_delta.proofs.Along.{item_holds, planned_more}
 use Rattle.ifmap_delta.proofs.InStep.{each_at}
 use Rattle.ifmap_delta.proofs.touched.add_planned.Goals as goal
@@ -26,8 +26,8 @@ loop-i-preserved g c =
     let changes = c.args.changes.now
     in let p : Item → Bool = λ x. is_looked_at (g.G.View.rows c.args.before.now.view.now) c.args.before.now.search.now x
     || is_looked_at (g.D.View.rows c.args.after.now.view.now) c.args.after.now.search.now x
-    in let one = planned p (c.index-changes-i.result ∷ [])
+    in let one = planned_items p (c.index-changes-i.result ∷ [])
     in c.in_ok-add_changed.ensures ∙ ap (λ l. l ++ one) c.loop-i.invariant
-    ∙ append_assoc c.args.items.now.items (planned p (take c.loop-i.i changes)) one
+    ∙ append_assoc c.args.items.now.items (planned_items p (take c.loop-i.i changes)) one
     ∙ sym (ap (λ l. c.args.items.now.items ++ l)
     (planned_more p changes c.loop-i.i c.index-changes-i.result c.loop-i-test.true c.index-changes-i.is))

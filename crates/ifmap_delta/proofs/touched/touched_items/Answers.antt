@@ -5,9 +5,9 @@ use Rattle.ifmap_fresh.specs.Collected.{numbers_of}
 use Rattle.ifmap_fresh.specs.Fresh.{is_looked_at}
 use Rattle.ifmap_region.specs.Marks.{mark_of}
 use Rattle.ifmap_delta.specs.Located.{IsLocatedTwice}
-use Rattle.ifmap_delta.specs.Shown.{patched}
+use Rattle.ifmap_delta.specs.Shown.{patched_mark}
 use Rattle.ifmap_delta.specs.Sights.{HaveMarks, sight_of}
-use Rattle.ifmap_delta.specs.Touched.{is_looked_at_either, moved, planned}
+use Rattle.ifmap_delta.specs.Touched.{is_looked_at_either, moved_items, planned_items}
 use Rattle.ifmap_fresh.specs.laws.OrderedLaws.{came, rises, stays}
 use Rattle.ifmap_delta.proofs.InStep.{each_long}
 use Rattle.ifmap_delta.proofs.Settling.{gathered_canon, in_patch, settled}
@@ -30,7 +30,7 @@ returns-clause-touched g c =
     in let new = sight_of g.D.View.rows g.D.View.id_at g.D.View.links after.view.now
     in let s = after.search.now
     in let mark = mark_of after.marks.now.region.now.marks.entries
-    in let mark' = patched after.marks.now
+    in let mark' = patched_mark after.marks.now
     in let numbers = numbers_of after.marks.now.patch.now
     in let changes = c.args.changes.now
     in let b : HaveMarks old s mark = subst (λ t. HaveMarks old t mark) c.requires.search
@@ -38,12 +38,13 @@ returns-clause-touched g c =
     in let a : HaveMarks new s mark' = c.requires.after
     in let keeps = c.numbers_keep_walks.ensures old.rows old.id_at old.links s b.0 c.requires.graph b.2.here
     in let keeps' = c.numbers_keep_walks.ensures new.rows new.id_at new.links s a.0 c.requires.draft a.2.here
-    in let all : List Item = planned (is_looked_at_either old new s) changes ++ moved new s mark mark' numbers
+    in let all : List Item = planned_items (is_looked_at_either old new s) changes ++ moved_items new s mark mark' numbers
     in let first = c.add_moved.new.items.items
     in let is : first ≡ all = c.in_ok-add_moved.ensures.items
-    ∙ ap (λ l. l ++ moved new s mark mark' numbers) (c.in_ok-add_planned.ensures
-    ∙ ap (λ l. l ++ planned (λ x. is_looked_at old.rows before.search.now x || is_looked_at new.rows s x) changes) c.new-items.ensures.items
-    ∙ ap (λ t. planned (λ x. is_looked_at old.rows t x || is_looked_at new.rows s x) changes) c.requires.search)
+    ∙ ap (λ l. l ++ moved_items new s mark mark' numbers) (c.in_ok-add_planned.ensures
+    ∙ ap (λ l. l ++ planned_items (λ x. is_looked_at old.rows before.search.now x || is_looked_at new.rows s x) changes)
+    c.new-items.ensures.items
+    ∙ ap (λ t. planned_items (λ x. is_looked_at old.rows t x || is_looked_at new.rows s x) changes) c.requires.search)
     in let sorted = c.sort_unstable.new.self.items
     in let made = c.dedup.new.self.items
     in let turned = c.sort_unstable.ensures.permutation

@@ -1,8 +1,8 @@
 use Rattle.std.proofs.Common.{◌++◌, length, ap, ◌∙◌, sym, arith}
+use Rattle.ifmap_lemmas.specs.Weights.{weight_more, weight_within}
 use Rattle.ifmap_region.specs.Marks.{mark_of}
-use Rattle.ifmap_fresh.specs.Collected.{brought, numbers_of}
+use Rattle.ifmap_fresh.specs.Collected.{items_of_number, numbers_of}
 use Rattle.ifmap_fresh.specs.laws.AlongLaws.{brought_more}
-use Rattle.ifmap_fresh.proofs.Marks.{weight_more, weight_within}
 use Rattle.ifmap_fresh.proofs.collecting.Looking.collect.Goals as goal
 
 pub returns-in_err-add_brought-clause-steps : goal.returns-in_err-add_brought-clause-steps
@@ -19,7 +19,7 @@ pub loop-i-preserved : goal.loop-i-preserved
 loop-i-preserved g c =
     let view = c.args.self.now.links.view.now
     in let numbers = numbers_of c.args.self.now.region.marks.entries
-    in let f = brought (g.V.View.rows view) (g.V.View.id_at view) (g.V.View.links view) c.args.self.now.links.search.now
+    in let f = items_of_number (g.V.View.rows view) (g.V.View.id_at view) (g.V.View.links view) c.args.self.now.links.search.now
     (mark_of c.args.self.now.region.marks.entries)
     in (
       c.in_ok-add_brought.ensures.items ∙ ap (λ l. l ++ f c.number_at.result) c.loop-i.invariant.0

@@ -6,7 +6,8 @@ use Rattle.ifmap_fresh_tests.proofs.lists.ListsKeyed.row_with_key.Goals as goal
 
 pub returns-clause-found : goal.returns-clause-found
 returns-clause-found c =
-    subst (λ (rows : List Stored). IfSome c.row_with_key_among.result (λ found. Contains rows found.now × HaveOneKey c.args.row.now found.now))
+    subst (λ (rows : List Stored). IfSome c.row_with_key_among.result
+    (λ found. Contains rows found.now × HaveOneKey c.args.row.now found.now))
     c.stored_at.ensures c.row_with_key_among.ensures.found
 
 pub returns-clause-none : goal.returns-clause-none
