@@ -8,6 +8,7 @@ use Rattle.ifmap_lemmas.specs.Filters.{all_weaker}
 use Rattle.ifmap_delta.specs.Ways.{HasSameSearch}
 use Rattle.ifmap_ident.specs.declared.identifiers.Identifier.{Identifier}
 use Rattle.ifmap_ident.specs.declared.items.Item.{Item}
+use Rattle.ifmap_lemmas.specs.Places.{all_got, present}
 use Rattle.ifmap_plans.specs.declared.plans.Plan.{Plan}
 use Rattle.ifmap_plans.specs.Plans.{AreWhole}
 use Rattle.ifmap_pool.specs.Holdings.{key_at}
@@ -23,7 +24,6 @@ use Rattle.ifmap_tellings.specs.Tellings.{HasSameSessions}
 use Rattle.ifmap_changes.specs.declared.parts.Parts.{Parts}
 use Rattle.ifmap_changes.specs.Between.{AreKept, Asking, IsNumbered, IsReady, IsSteady, sight_now, so_far, starts_of}
 use Rattle.ifmap_changes.specs.Changes.{IsBegun}
-use Rattle.ifmap_changes.proofs.EachPlace.{at_place, there}
 use Rattle.ifmap_changes.proofs.Settling.{SameLinks, ready_after}
 
 -- ---- what keeps itself
@@ -55,7 +55,7 @@ pub searches_twice : (a b c : List Standing) → AtEach (λ _. Stands HasSameSea
 searches_twice a b c one two = record {
   long = two.long ∙ one.long;
   at = λ i x z p r.
-      let y = there a b i x one.long p
+      let y = present a b i x one.long p
       in let s = one.at i x y.0 p y.1
       in let t = two.at i y.0 z y.1 r
       in record {
@@ -115,7 +115,7 @@ module _ (ready : Ready) (wanted : Plan) (old : Parts) (mid : Held) (begun : IsB
       ready_after a old begun_parts pending refl (keep_searches old.standing.items old.standing.items (keep_itself old.standing.items))
       (λ i x e f. links (sight_now old.graph) (sight_now mid) x.subscription begun.before begun.now begun.rows begun.links shared
       (begun.numbers x.subscription.region.start x.subscription.search.start
-      (at_place (IsNumbered old.graph) old.standing.items i x steady.numbered e)) (r.kept i x e f)) r
+      (all_got (IsNumbered old.graph) old.standing.items i x steady.numbered e)) (r.kept i x e f)) r
 
   pub same_so_far : (a : Asking) (pending : Pending) → so_far a begun_parts pending ≡ so_far a old pending
   same_so_far a pending = λ i. record (so_far a old pending) { graph = begun.rows i }

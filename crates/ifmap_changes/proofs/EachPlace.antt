@@ -1,25 +1,12 @@
 -- Lists that are related at each place: what a map, a sum and a property of all make of them. Last, properties of what is not gone.
-use Rattle.std.proofs.Common.{◌≡◌, ℕ, zero, suc, ◌≤◌, Bool, true, false, true≢false, Some, List, [], ◌∷◌, length, map, slice_get, refl, ap, ◌∙◌, sym, subst, arith}
+use Rattle.std.proofs.Common.{◌≡◌, ℕ, suc, ◌≤◌, Bool, true, false, true≢false, Some, List, [], ◌∷◌, length, map, slice_get, refl, ap, ◌∙◌, sym, arith}
 use Rattle.std.proofs.lemmas.List.Sums.{sum_by-cons}
-use Rattle.std.proofs.lemmas.Option.{same_Some, none-some}
+use Rattle.std.proofs.lemmas.Option.{same_Some}
 use Rattle.std.specs.List.{AllByRecursion, sum_by}
+use Rattle.ifmap_lemmas.specs.Places.{present}
 use Rattle.ifmap_standing.specs.declared.standing.Standing.{Standing}
 use Rattle.ifmap_standing.specs.Kept.{AtEach}
 use Rattle.ifmap_tellings.specs.Tellings.{AllKept}
-
--- a list as long as another has something at each place of that one
-pub there : {X Y : Type 0} (xs : List X) (ys : List Y) (i : ℕ) (x : X) → length ys ≡ length xs → slice_get xs i ≡ Some x
-    → (y : Y) × (slice_get ys i ≡ Some y)
-there [] ys i x long e = absurd (none-some x e)
-there (a ∷ xs) [] i x long e = absurd (omega (arith, long))
-there (a ∷ xs) (b ∷ ys) zero x long e = (b, refl)
-there (a ∷ xs) (b ∷ ys) (suc i) x long e = there xs ys i x (omega (arith, long)) e
-
--- what holds of all holds at each place
-pub at_place : {X : Type 0} (P : X → Type 0) (xs : List X) (i : ℕ) (x : X) → AllByRecursion P xs → slice_get xs i ≡ Some x → P x
-at_place P [] i x h e = absurd (none-some x e)
-at_place P (a ∷ xs) zero x h e = subst P (same_Some a x e) h.0
-at_place P (a ∷ xs) (suc i) x h e = at_place P xs i x h.1 e
 
 module _ {X : Type 0} where
   after_first : (R : ℕ → X → X → Type 0) (x y : X) (old new : List X) → AtEach R (x ∷ old) (y ∷ new)
@@ -79,13 +66,13 @@ module _ {X : Type 0} where
 pub same_kept : (P Q : Standing → Type 0) (R : ℕ → Standing → Standing → Type 0) → ((i : ℕ) (x y : Standing) → R i x y → P x → Q y)
     → (gone : List Bool) (old new : List Standing) → AtEach R old new → AllKept P gone old → AllKept Q gone new
 same_kept P Q R f gone old new r k = λ i y at flag.
-    let x = there new old i y (sym r.long) at in f i x.0 y (r.at i x.0 y x.1 at) (k i x.0 x.1 flag)
+    let x = present new old i y (sym r.long) at in f i x.0 y (r.at i x.0 y x.1 at) (k i x.0 x.1 flag)
 
 -- and of each that is not gone later
 pub less_kept : (P : Standing → Type 0) (gone more : List Bool) (standing : List Standing) → length gone ≡ length standing
     → ((i : ℕ) → slice_get gone i ≡ Some true → slice_get more i ≡ Some true) → AllKept P gone standing → AllKept P more standing
 less_kept P gone more standing long stay k = λ i x at flag.
-    let b = there standing gone i x long at in k i x at (by i b.0 b.1 flag)
+    let b = present standing gone i x long at in k i x at (by i b.0 b.1 flag)
   where
     by : (i : ℕ) (b : Bool) → slice_get gone i ≡ Some b → slice_get more i ≡ Some false → slice_get gone i ≡ Some false
     by i true is flag = let e : Some true ≡ Some false = sym (stay i is) ∙ flag in absurd (true≢false (same_Some true false e))

@@ -2,14 +2,14 @@
 -- First what stands where no flag is: what holds of each (`kept_all`, `all_kept`, `kept_later`), and what more flags leave (`kept_marked`,
 -- `kept_made`). Then what is made of each that stands there (`queued_made`, `zip_mapped`, `skip_made`). Then maps that are alike on a list
 -- (`maps_alike`, `alike_maps`), and tests of some member (`any_mapped`, `any_both`). Last, the front of a list (`front_taken`), and how
--- many pass a test (`split_long`, `filter_shorter`).
-use Rattle.std.proofs.Common.{◌≡◌, ◌≢◌, inl, inr, ℕ, zero, suc, ◌+◌, ◌≤◌, Bool, true, false, not, ◌||◌, ◌&&◌, cond, Some, List, [], ◌∷◌, ◌++◌, length, map, flat_map, slice_get, take, refl, ap, ◌∙◌, sym, subst, arith}
+-- many pass a test (`split_long`).
+use Rattle.std.proofs.Common.{◌≡◌, ◌≢◌, inl, inr, ℕ, zero, suc, ◌+◌, Bool, true, false, not, ◌||◌, ◌&&◌, Some, List, [], ◌∷◌, ◌++◌, length, map, flat_map, slice_get, take, refl, ap, ◌∙◌, sym, subst, arith}
 use Rattle.std.proofs.lemmas.Bool.{cases_Bool}
 use Rattle.std.proofs.lemmas.Option.{same_Some, none-some}
-use Rattle.std.specs.List.{AllByRecursion, filter, find, list_any, zip}
+use Rattle.std.specs.List.{AllByRecursion, filter, list_any, zip}
 use Rattle.ifmap_lemmas.specs.Having.{Has}
+use Rattle.ifmap_lemmas.specs.Places.{present}
 use Rattle.ifmap_tellings.specs.Tellings.{kept_of}
-use Rattle.ifmap_changes.proofs.EachPlace.{there}
 
 -- ---- what stands where no flag is
 
@@ -36,8 +36,8 @@ pub kept_later : {X : Type 0} (P Q : X → Type 0) (gone after : List Bool) (old
     → ((i : ℕ) (x : X) → slice_get old i ≡ Some x → slice_get gone i ≡ Some false → P x)
     → (i : ℕ) (y : X) → slice_get new i ≡ Some y → slice_get after i ≡ Some false → Q y
 kept_later {X} P Q gone after old new flags long goes stays h i y here none =
-    let x = there new old i y (sym long) here
-    in let g = there old gone i x.0 flags x.1
+    let x = present new old i y (sym long) here
+    in let g = present old gone i x.0 flags x.1
     in at g.0 g.1 x.0 x.1
   where
     at : (b : Bool) → slice_get gone i ≡ Some b → (x : X) → slice_get old i ≡ Some x → Q y
@@ -155,28 +155,6 @@ pub map_twice : {X Y Z : Type 0} (f : X → Y) (g : Y → Z) (xs : List X) → m
 map_twice f g [] = refl
 map_twice f g (x ∷ xs) = ap (λ ys. g (f x) ∷ ys) (map_twice f g xs)
 
-pub alike_filters : {X : Type 0} (p q : X → Bool) (xs : List X) → AllByRecursion (λ x. p x ≡ q x) xs → filter p xs ≡ filter q xs
-alike_filters p q [] h = refl
-alike_filters p q (x ∷ xs) h =
-    ap (λ b. cond b (x ∷ filter p xs) (filter p xs)) h.0
-    ∙ ap (λ ys. cond (q x) (x ∷ ys) ys) (alike_filters p q xs h.1)
-
-pub map_filtered : {X Y : Type 0} (f : X → Y) (p : Y → Bool) (xs : List X) → map f (filter (λ x. p (f x)) xs) ≡ filter p (map f xs)
-map_filtered f p [] = refl
-map_filtered f p (x ∷ xs) = elim (cases_Bool (p (f x))) [
-  | inl t ↦ rw t (ap (λ ys. f x ∷ ys) (map_filtered f p xs))
-  | inr t ↦ rw t (map_filtered f p xs)
-]
-
-pub all_has : {X : Type 0} (P : X → Type 0) (xs : List X) (x : X) → AllByRecursion P xs → Has xs x → P x
-all_has P [] x h m = absurd m
-all_has P (y ∷ ys) x h (inl e) = subst P e h.0
-all_has P (y ∷ ys) x h (inr m) = all_has P ys x h.1 m
-
-pub has_all : {X : Type 0} (P : X → Type 0) (xs : List X) → ((x : X) → Has xs x → P x) → AllByRecursion P xs
-has_all P [] f = tt
-has_all P (x ∷ xs) f = (f x (inl refl), has_all P xs (λ y m. f y (inr m)))
-
 pub any_mapped : {X Y : Type 0} (f : X → Y) (p : Y → Bool) (xs : List X) → list_any p (map f xs) ≡ list_any (λ x. p (f x)) xs
 any_mapped f p [] = refl
 any_mapped f p (x ∷ xs) = ap (λ b. p (f x) || b) (any_mapped f p xs)
@@ -211,13 +189,6 @@ front_taken n [] ys e = ap (λ m. take m ys) (sym e)
 front_taken zero (x ∷ xs) ys e = absurd (omega (arith, e))
 front_taken (suc n) (x ∷ xs) ys e = ap (λ zs. x ∷ zs) (front_taken n xs ys (omega (arith, e)))
 
-pub found_all : {X : Type 0} (P : X → Type 0) (p : X → Bool) (xs : List X) → AllByRecursion P xs → (x : X) → find p xs ≡ Some x → P x
-found_all P p [] h x e = absurd (none-some x e)
-found_all P p (y ∷ ys) h x e = elim (cases_Bool (p y)) [
-  | inl t ↦ subst P (same_Some y x (rw t at e)) h.0
-  | inr t ↦ found_all P p ys h.1 x (rw t at e)
-]
-
 -- members of a list split by a test
 pub split_long : {X : Type 0} (p : X → Bool) (xs : List X)
     → length xs ≡ length (filter p xs) + length (filter (λ x. not (p x)) xs)
@@ -225,11 +196,4 @@ split_long p [] = refl
 split_long p (x ∷ xs) = let rest = split_long p xs in elim (cases_Bool (p x)) [
   | inl t ↦ rw t (omega (arith, rest))
   | inr t ↦ rw t (omega (arith, rest))
-]
-
-pub filter_shorter : {X : Type 0} (p q : X → Bool) (xs : List X) → length (filter p (filter q xs)) ≤ length (filter p xs)
-filter_shorter p q [] = omega arith
-filter_shorter p q (x ∷ xs) = let rest = filter_shorter p q xs in elim (cases_Bool (q x)) [
-  | inl s ↦ elim (cases_Bool (p x)) [ inl t ↦ rw (s, t) (omega (arith, rest)) | inr t ↦ rw (s, t) rest ]
-  | inr s ↦ elim (cases_Bool (p x)) [ inl t ↦ rw (s, t) (omega (arith, rest)) | inr t ↦ rw (s, t) rest ]
 ]

@@ -15,7 +15,7 @@ use Rattle.ifmap_plans.specs.Plans.{AreWhole, Fits, IsAfter}
 use Rattle.ifmap_pool.specs.Holdings.{key_at}
 use Rattle.ifmap_session.specs.Sessions.{IsLive, Session, Table}
 use Rattle.ifmap_standing.specs.Kept.{AtEach, KeepsSame, Stands}
-use Rattle.ifmap_standing.specs.Standing.{shown}
+use Rattle.ifmap_standing.specs.Standing.{standing_of}
 use Rattle.ifmap_standing.specs.Ways.{LeadBack, Way}
 use Rattle.ifmap_view.specs.declared.attachments.Attachment.{Attachment}
 use Rattle.ifmap_view.specs.declared.views.LinkSeen.{LinkSeen}
@@ -30,7 +30,7 @@ use Rattle.ifmap_graph.specs.Seen.{Awaits, AwaitsMore, BringsNoNumbers, IsLean, 
 use Rattle.ifmap_tellings.specs.declared.tellings.Pending.{Pending}
 use Rattle.ifmap_tellings.specs.Tellings.{HasSameSessions, kept_of, told_by}
 use Rattle.ifmap_changes.specs.declared.parts.Parts.{Parts}
-use Rattle.ifmap_changes.specs.Between.{AreKept, AreOrdered, AreTurnedWith, AreWithin, Asking, CanEnd, IsBare, IsReady, IsSteady, IsWithin, left, sight_now, so_far, starts_of}
+use Rattle.ifmap_changes.specs.Between.{AreKept, AreOrdered, AreTurnedWith, AreWithin, Asking, CanEnd, IsBare, IsReady, IsSteady, IsWithin, sessions_left, sight_now, so_far, starts_of}
 use Rattle.ifmap_changes.specs.Changes.{CanTakeBack, IsBegun, IsTold, sight_next, with_next}
 use Rattle.ifmap_changes.proofs.Begun.{awaits_these, keep_searches, same_so_far, shared}
 use Rattle.ifmap_changes.proofs.Flags.{kept_later}
@@ -137,10 +137,10 @@ module _ (a : Asking) (old : Parts) (before : Pending) (after : Pending) (ready 
         to.standing.items r.flags same.long (λ i x y p q other e. other (sym (same.at i x y p q).serial ∙ e)) told.gone bare
 
     -- no queue is greater than its limit once all is told
-    within_made : AreWithin (map (told_by after.tellings) (left a to.sessions))
+    within_made : AreWithin (map (told_by after.tellings) (sessions_left a to.sessions))
     within_made =
-        let some = map (told_by before.tellings) (left a old.sessions)
-        in let those = map shown (kept_of before.gone.items old.standing.items)
+        let some = map (told_by before.tellings) (sessions_left a old.sessions)
+        in let those = map standing_of (kept_of before.gone.items old.standing.items)
         in let tells_it : Session → Session = λ s. tell_session (told_in (rows_now mid) (rows_next mid) wanted.notes those s.serial) s
         in let wide : AllByRecursion (λ (s : Session). 100 ≤ s.limit) (map tells_it some)
         = map_of_all (λ (s : Session). 100 ≤ s.limit) tells_it some (all_weaker IsWithin (λ s. 100 ≤ s.limit) (λ s w. w.wide) some r.within)
@@ -155,10 +155,11 @@ module _ (a : Asking) (old : Parts) (before : Pending) (after : Pending) (ready 
           (same_ordered old.sessions.live old.standing.items to.standing.items same r.ordered);
       flags = told.flags;
       kept = λ i x e f. subst (λ s. IsKept s x.subscription) sight_made (told.kept i x e f);
-      live = kept_later (λ x. IsLive x.serial (left a old.sessions)) (λ x. IsLive x.serial (left a to.sessions)) before.gone.items
+      live = kept_later (λ x. IsLive x.serial (sessions_left a old.sessions))
+          (λ x. IsLive x.serial (sessions_left a to.sessions)) before.gone.items
           after.gone.items old.standing.items to.standing.items r.flags same.long
-          (λ i x y p q l. subst (λ live. IsLive y.serial (left a (record to.sessions { live = live }))) (sym sessions.live)
-          (subst (λ n. IsLive n (left a old.sessions)) (sym (same.at i x y p q).serial) l)) told.gone r.live;
+          (λ i x y p q l. subst (λ live. IsLive y.serial (sessions_left a (record to.sessions { live = live }))) (sym sessions.live)
+          (subst (λ n. IsLive n (sessions_left a old.sessions)) (sym (same.at i x y p q).serial) l)) told.gone r.live;
       queues = subst AreWithin (sym sessions.live) r.queues;
       within = within_made;
       can_tell = told.can_tell;

@@ -15,7 +15,7 @@ use Rattle.ifmap_changes.specs.Changes.{gone_with}
 use Rattle.ifmap_machine.specs.Ending.{without_standing}
 use Rattle.ifmap_plans.specs.laws.PlacingLaws.{found_any, gap_none}
 use Rattle.ifmap_standing.specs.declared.standing.Standing.{Standing}
-use Rattle.ifmap_standing.specs.Standing.{shown}
+use Rattle.ifmap_standing.specs.Standing.{standing_of}
 use Rattle.ifmap_tellings.specs.Tellings.{AllKept, kept_of}
 
 abbrev pub is_of : List ℕ → Standing → Bool
@@ -94,18 +94,19 @@ still_set serials (b ∷ gone) (x ∷ xs) long zero e = ap (λ c. Some (c || is_
 still_set serials (b ∷ gone) (x ∷ xs) long (suc i) e = still_set serials gone xs (omega (arith, long)) i e
 
 pub left_without : (serials : List ℕ) (gone : List Bool) (xs : List Standing)
-    → map shown (kept_of (gone_with serials gone xs) xs) ≡ without_standing serials (map shown (kept_of gone xs))
+    → map standing_of (kept_of (gone_with serials gone xs) xs) ≡ without_standing serials (map standing_of (kept_of gone xs))
 left_without serials [] xs = refl
 left_without serials (b ∷ gone) [] = refl
 left_without serials (true ∷ gone) (x ∷ xs) = left_without serials gone xs
 left_without serials (false ∷ gone) (x ∷ xs) = by (is_of serials x) (left_without serials gone xs)
   where
-    by : (d : Bool) → map shown (kept_of (gone_with serials gone xs) xs) ≡ without_standing serials (map shown (kept_of gone xs))
-        → map shown (kept_of (d ∷ gone_with serials gone xs) (x ∷ xs))
-        ≡ cond (not d) (shown x ∷ without_standing serials (map shown (kept_of gone xs)))
-        (without_standing serials (map shown (kept_of gone xs)))
+    by : (d : Bool) → map standing_of (kept_of (gone_with serials gone xs) xs)
+        ≡ without_standing serials (map standing_of (kept_of gone xs))
+        → map standing_of (kept_of (d ∷ gone_with serials gone xs) (x ∷ xs))
+        ≡ cond (not d) (standing_of x ∷ without_standing serials (map standing_of (kept_of gone xs)))
+        (without_standing serials (map standing_of (kept_of gone xs)))
     by true rest = rest
-    by false rest = ap (λ l. shown x ∷ l) rest
+    by false rest = ap (λ l. standing_of x ∷ l) rest
 
 pub none_of_them : (serials : List ℕ) (gone : List Bool) (xs : List Standing)
     → AllKept (λ x. is_of serials x ≡ false) (gone_with serials gone xs) xs

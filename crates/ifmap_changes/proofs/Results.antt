@@ -1,35 +1,14 @@
 -- Clauses on results, at the exits of functions.
 use Rattle.std.proofs.Common.{Result, Ok, Err}
-use Rattle.std.specs.Result.{IfOk, OnErr, OnOk}
+use Rattle.std.specs.Result.{IfOk, OnOk}
 
 module _ {X E : Type 0} (r : Result X E) where
-  pub where_ok : (P Q : Type 0) → (P → Q) → OnOk r P → OnOk r Q
-  where_ok P Q f p = by r p
-    where
-      by : (q : Result X E) → OnOk q P → OnOk q Q
-      by (Ok x) p = f p
-      by (Err e) p = tt
-
   pub where_both : (P Q R : Type 0) → (P → Q → R) → OnOk r P → OnOk r Q → OnOk r R
   where_both P Q R f p q = by r p q
     where
       by : (s : Result X E) → OnOk s P → OnOk s Q → OnOk s R
       by (Ok x) p q = f p q
       by (Err e) p q = tt
-
-  pub at_err : (P : Type 0) → P → OnErr r P
-  at_err P p = by r
-    where
-      by : (q : Result X E) → OnErr q P
-      by (Ok x) = tt
-      by (Err e) = p
-
-  pub where_err : (P Q : Type 0) → (P → Q) → OnErr r P → OnErr r Q
-  where_err P Q f p = by r p
-    where
-      by : (q : Result X E) → OnErr q P → OnErr q Q
-      by (Ok x) p = tt
-      by (Err e) p = f p
 
   -- what is told of the value and of the answer, together
   pub where_value : (P : X → Type 0) (Q : Type 0) (R : X → Type 0) → ((x : X) → P x → Q → R x) → IfOk r P → OnOk r Q → IfOk r R

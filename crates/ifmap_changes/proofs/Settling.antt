@@ -4,11 +4,11 @@
 use Rattle.std.proofs.Common.{◌≡◌, ◌≢◌, ℕ, ◌≤◌, Bool, true, false, Option, None, Some, List, [], ◌∷◌, length, map, slice_get, refl, ap, ◌∙◌, sym, subst}
 use Rattle.std.specs.List.{AllByRecursion}
 use Rattle.std.specs.List.Sorted.{IsStrictlySortedBy}
-use Rattle.ifmap_changes.specs.Between.{AreBack, AreOrdered, AreParts, AreWithin, Asking, CanEnd, IsNumbered, IsReady, IsSeen, IsSteady, left, rest_of, sight_now}
+use Rattle.ifmap_changes.specs.Between.{AreBack, AreOrdered, AreParts, AreWithin, Asking, CanEnd, IsNumbered, IsReady, IsSeen, IsSteady, rest_of, sessions_left, sight_now}
 use Rattle.ifmap_changes.specs.Changes.{CanTakeBack}
 use Rattle.ifmap_changes.specs.declared.changes.Made.{Made}
 use Rattle.ifmap_changes.specs.declared.parts.Parts.{Parts}
-use Rattle.ifmap_changes.proofs.EachPlace.{at_place, same_all, same_kept, same_map, there, weaker}
+use Rattle.ifmap_changes.proofs.EachPlace.{same_all, same_kept, same_map, weaker}
 use Rattle.ifmap_changes.proofs.Numbers.{Tells, numbers_shared}
 use Rattle.ifmap_changes.proofs.Steady.{HaveSameSearches, steady_after}
 use Rattle.ifmap_delta.specs.Sights.{IsKept, Sight}
@@ -18,6 +18,7 @@ use Rattle.ifmap_graph.specs.Held.{Held}
 use Rattle.ifmap_graph.specs.Out.{items_of}
 use Rattle.ifmap_graph.specs.Seen.{BringsNoNumbers, IsStill, KeepsOwn, StaysLeanWithout, links_now, rows_now}
 use Rattle.ifmap_ident.specs.declared.identifiers.Identifier.{Identifier}
+use Rattle.ifmap_lemmas.specs.Places.{all_got, present}
 use Rattle.ifmap_machine.specs.State as machine
 use Rattle.ifmap_machine.specs.State.{standing_in, standing_order}
 use Rattle.ifmap_machine.specs.Subscribing.{most_names}
@@ -26,7 +27,7 @@ use Rattle.ifmap_pool.specs.Holdings.{key_at}
 use Rattle.ifmap_session.specs.Sessions.{IsLive, Session}
 use Rattle.ifmap_standing.specs.declared.standing.Standing.{Standing}
 use Rattle.ifmap_standing.specs.Kept.{AtEach, KeepsSame, Stands}
-use Rattle.ifmap_standing.specs.Standing.{shown}
+use Rattle.ifmap_standing.specs.Standing.{standing_of}
 use Rattle.ifmap_standing.specs.Ways.{IsSettled, LeadsBackWhere, Way}
 use Rattle.ifmap_tellings.specs.declared.tellings.Pending.{Pending}
 use Rattle.ifmap_tellings.specs.Tellings.{AllKept, CanTell, EachTelling, HasSameSessions, IsSized, kept_of, told_by}
@@ -79,7 +80,7 @@ same_searches : (before old new : List Standing) → HaveSameSearches before old
 same_searches before old new p q = record {
   long = q.long ∙ sym p.long;
   at = λ i x y at now.
-      let z = there old before i x (sym p.long) at in
+      let z = present old before i x (sym p.long) at in
       let one = p.at i z.0 x z.1 at in
       let two = q.at i z.0 y z.1 now in
       record {
@@ -100,17 +101,17 @@ pub kept_settled : SameLinks → StaysSettled → (old new : Held) → IsSeen ol
     → (gone : List Bool) (xs ys : List Standing) → AllByRecursion (IsNumbered new) xs → AreSettled ways xs ys
     → AllKept (λ x. IsKept (sight_now old) x.subscription) gone xs → AllKept (λ x. IsKept (sight_now new) x.subscription) gone ys
 kept_settled links settled old new was is rows same fewer ways gone xs ys numbered s kept = λ i y at flag.
-    let x = there ys xs i y (sym s.long) at in
+    let x = present ys xs i y (sym s.long) at in
     let t = s.at i x.0 y x.1 at in
     settled (sight_now new) (slice_get ways i) x.0.subscription y.subscription t.subscription
     (links (sight_now old) (sight_now new) x.0.subscription was is rows same (numbers_shared old new fewer)
-    (at_place (IsNumbered new) xs i x.0 numbered x.1) (kept i x.0 x.1 flag))
+    (all_got (IsNumbered new) xs i x.0 numbered x.1) (kept i x.0 x.1 flag))
 
 -- ---- as the machine has them
 
-pub same_shown : (old new : List Standing) → HaveSameSearches old new → map shown new ≡ map shown old
+pub same_shown : (old new : List Standing) → HaveSameSearches old new → map standing_of new ≡ map standing_of old
 same_shown old new s =
-    same_map shown (λ _. Stands HasSameSearch)
+    same_map standing_of (λ _. Stands HasSameSearch)
     (λ i x y t k. record { serial = t.serial k; name = t.name k; search = t.subscription.search k }) old new s
 
 pub same_ordered : (live : List Session) (old new : List Standing) → HaveSameSearches old new → AreOrdered live old → AreOrdered live new
@@ -121,14 +122,14 @@ same_ordered live old new s o = record {
   few = λ n. subst (λ l. length (standing_in n l) ≤ most_names) (sym (same_shown old new s)) (o.few n);
 }
 
-shown_kept : (gone : List Bool) (xs : List Standing) → map shown (kept_of gone xs) ≡ kept_of gone (map shown xs)
+shown_kept : (gone : List Bool) (xs : List Standing) → map standing_of (kept_of gone xs) ≡ kept_of gone (map standing_of xs)
 shown_kept [] xs = refl
 shown_kept (b ∷ gone) [] = refl
 shown_kept (true ∷ gone) (x ∷ xs) = shown_kept gone xs
-shown_kept (false ∷ gone) (x ∷ xs) = ap (λ l. shown x ∷ l) (shown_kept gone xs)
+shown_kept (false ∷ gone) (x ∷ xs) = ap (λ l. standing_of x ∷ l) (shown_kept gone xs)
 
 pub same_left : (gone : List Bool) (old new : List Standing) → HaveSameSearches old new
-    → map shown (kept_of gone new) ≡ map shown (kept_of gone old)
+    → map standing_of (kept_of gone new) ≡ map standing_of (kept_of gone old)
 same_left gone old new s =
     shown_kept gone new ∙ ap (kept_of gone) (same_shown old new s) ∙ sym (shown_kept gone old)
 
@@ -151,11 +152,12 @@ ready_after a old new pending same searches kept r =
       ordered = subst (λ t. AreOrdered t.live ys) (sym same) (same_ordered old.sessions.live xs ys searches r.ordered);
       flags = r.flags ∙ sym searches.long;
       kept = kept;
-      live = subst (λ t. AllKept (λ x. IsLive x.serial (left a t)) gone ys) (sym same)
-          (same_kept (λ x. IsLive x.serial (left a old.sessions)) (λ x. IsLive x.serial (left a old.sessions)) (λ _. Stands HasSameSearch)
-          (λ i x y t h. subst (λ n. IsLive n (left a old.sessions)) (sym t.serial) h) gone xs ys searches r.live);
+      live = subst (λ t. AllKept (λ x. IsLive x.serial (sessions_left a t)) gone ys) (sym same)
+          (same_kept (λ x. IsLive x.serial (sessions_left a old.sessions)) (λ x. IsLive x.serial (sessions_left a old.sessions))
+          (λ _. Stands HasSameSearch)
+          (λ i x y t h. subst (λ n. IsLive n (sessions_left a old.sessions)) (sym t.serial) h) gone xs ys searches r.live);
       queues = subst (λ t. AreWithin t.live) (sym same) r.queues;
-      within = subst (λ t. AreWithin (map (told_by pending.tellings) (left a t))) (sym same) r.within;
+      within = subst (λ t. AreWithin (map (told_by pending.tellings) (sessions_left a t))) (sym same) r.within;
       can_tell = subst (λ t. EachTelling (CanTell (rest_of a t)) pending.tellings) (sym same) r.can_tell;
       sized = subst (λ t. EachTelling (λ n u. IsSized n u t.live) pending.tellings) (sym same) r.sized;
       alone = λ n is. same_kept (λ x. x.serial ≢ n) (λ x. x.serial ≢ n) (λ _. Stands HasSameSearch)
@@ -210,7 +212,7 @@ sound_back links same old new was is sound back =
       kept = same_all (λ x. IsKept (sight_now old.graph) x.subscription) (λ x. IsKept (sight_now new.graph) x.subscription)
           (λ i x y. Stands KeepsSame x y × IsNumbered new.graph y) (λ i x y t kept. stays x y t.0 t.1 kept) xs ys (record {
             long = back.standing.long;
-            at = λ i x y p q. (back.standing.at i x y p q, at_place (IsNumbered new.graph) ys i y back.steady.numbered q);
+            at = λ i x y p q. (back.standing.at i x y p q, all_got (IsNumbered new.graph) ys i y back.steady.numbered q);
           }) sound.kept;
       within = subst AreWithin (sym back.sessions.live) sound.within;
     }

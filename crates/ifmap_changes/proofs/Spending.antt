@@ -14,7 +14,7 @@ use Rattle.ifmap_plans.specs.Plans.{IsAfter}
 use Rattle.ifmap_publish.specs.declared.who.Who.TheVariants.{Sessions}
 use Rattle.ifmap_standing.specs.Bounds.{IsWithinEach}
 use Rattle.ifmap_standing.specs.declared.standing.Standing.{Standing}
-use Rattle.ifmap_standing.specs.Standing.{shown}
+use Rattle.ifmap_standing.specs.Standing.{standing_of}
 use Rattle.ifmap_tellings.specs.declared.tellings.Pending.{Pending}
 use Rattle.ifmap_tellings.specs.Tellings.{kept_of}
 use Rattle.ifmap_view.specs.declared.attachments.Attachment.{Attachment}
@@ -48,11 +48,11 @@ module _ (old new : Sight) where
   -- what is gone takes no step
   within_kept : (gone : List Bool) (xs : List Standing) (a b : ℕ)
       → AllByRecursion (λ (x : Standing). old.id_at x.subscription.region.start ≡ Some x.subscription.search.start) xs
-      → IsWithinEach old new (zip gone xs) a b → IsWithinAll old new (map shown (kept_of gone xs)) a b
+      → IsWithinEach old new (zip gone xs) a b → IsWithinAll old new (map standing_of (kept_of gone xs)) a b
   within_kept [] xs a b numbered s = s
   within_kept (g ∷ gone) [] a b numbered s = s
   within_kept (true ∷ gone) (x ∷ xs) a b numbered s =
-      lower (map shown (kept_of gone xs)) s.0 a b s.1 (within_kept gone xs s.0 b numbered.1 s.2)
+      lower (map standing_of (kept_of gone xs)) s.0 a b s.1 (within_kept gone xs s.0 b numbered.1 s.2)
   within_kept (false ∷ gone) (x ∷ xs) a b numbered s =
       (s.0, (x.subscription.region.start, numbered.0, s.1), within_kept gone xs s.0 b numbered.1 s.2)
 
@@ -90,8 +90,8 @@ ended_none serial state n = (n, omega arith, inl (omega arith))
 -- its subscriptions are marked, and what was to stay as long as it is taken away
 pub ended_within : (a : Asking) (parts : Parts) (before marked : Pending) (serial : ℕ) (serials : List ℕ) (from to : ℕ)
     → serials ≡ serial ∷ []
-    → map shown (kept_of marked.gone.items parts.standing.items)
-    ≡ without_standing (serial ∷ []) (map shown (kept_of before.gone.items parts.standing.items))
+    → map standing_of (kept_of marked.gone.items parts.standing.items)
+    ≡ without_standing (serial ∷ []) (map standing_of (kept_of before.gone.items parts.standing.items))
     → IsTakenWithin (Sessions serials) (so_far a parts marked) from to
     → IsEndedWithin (serial ∷ []) (so_far a parts before) from to
 ended_within a parts before marked serial serials from to one left spent =

@@ -7,7 +7,7 @@ use Rattle.std.proofs.lemmas.List.{length-map}
 use Rattle.std.proofs.lemmas.List.Sums.{sum_by-cons}
 use Rattle.std.specs.List.{AllByRecursion, filter}
 use Rattle.std.specs.Ordering.{is_eq}
-use Rattle.ifmap_lemmas.specs.Filters.{all_weaker}
+use Rattle.ifmap_lemmas.specs.Filters.{all_weaker, filter_fewer}
 use Rattle.ifmap_delta.specs.Ways.{HasSameSearch}
 use Rattle.ifmap_ident.specs.declared.identifiers.Identifier.{Identifier}
 use Rattle.ifmap_ident.specs.Identifiers.{identifier_order}
@@ -18,11 +18,11 @@ use Rattle.ifmap_pool.specs.Holdings.{key_at, once}
 use Rattle.ifmap_session.specs.Sessions.{IsLive, Session, most_sessions}
 use Rattle.ifmap_standing.specs.declared.standing.Standing.{Standing}
 use Rattle.ifmap_standing.specs.Kept.{AtEach, Stands}
-use Rattle.ifmap_standing.specs.Standing.{shown}
+use Rattle.ifmap_standing.specs.Standing.{standing_of}
 use Rattle.ifmap_graph.specs.Held.{Held, IsOwn}
 use Rattle.ifmap_graph.specs.Seen.{HasFewOwn, KeepsNumbers}
 use Rattle.ifmap_changes.specs.Between.{AreOrdered, IsNumbered, IsSteady, starts_of}
-use Rattle.ifmap_changes.proofs.Flags.{filter_shorter, split_long}
+use Rattle.ifmap_changes.proofs.Flags.{split_long}
 use Rattle.ifmap_changes.proofs.EachPlace.{same_all}
 use Rattle.ifmap_changes.proofs.Steady.{same_starts}
 use Rattle.ifmap_changes.proofs.Told.{all_shown}
@@ -56,7 +56,7 @@ most_standing k (s ∷ live) ys h few =
     in let left : AllByRecursion (λ (y : machine.Standing). IsLive y.serial live) others
     = live_others ys h
     in let fewer : (n : ℕ) → length (standing_in n others) ≤ k
-    = λ n. let shorter = filter_shorter (λ (y : machine.Standing). y.serial == n) (λ y. not (mine y)) ys in omega (arith, shorter, few n)
+    = λ n. let shorter = filter_fewer (λ (y : machine.Standing). y.serial == n) (λ y. not (mine y)) ys in omega (arith, shorter, few n)
     in let rest = most_standing k live others left fewer
     in omega (arith, rest, few s.serial, split_long mine ys)
   where
@@ -74,9 +74,9 @@ most_standing k (s ∷ live) ys h few =
 pub few_starts : (live : List Session) (standing : List Standing) → length live ≤ most_sessions → AreOrdered live standing → (h : Held)
     → IsSteady h standing → HasFewOwn h
 few_starts live standing few o h steady a =
-    let long = most_standing most_names live (map shown standing)
+    let long = most_standing most_names live (map standing_of standing)
     (all_shown (λ y. IsLive y.serial live) standing o.live) o.few
-    in (starts_of a standing, steady.own a, omega (arith, few, long, starts_few a standing, length-map standing shown))
+    in (starts_of a standing, steady.own a, omega (arith, few, long, starts_few a standing, length-map standing standing_of))
 
 -- the numbers of starts stay where each has the one that it had
 abbrev pub AreNumbered : Held → List Standing → Type 0

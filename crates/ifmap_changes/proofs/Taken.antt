@@ -3,7 +3,7 @@
 use Rattle.std.proofs.Common.{◌≡◌, ◌≢◌, ℕ, true, Some, List, [], ◌∷◌, length, map, slice_get, refl, ◌∙◌, sym, subst, arith}
 use Rattle.std.proofs.lemmas.Option.{same_Some}
 use Rattle.std.specs.List.{AllByRecursion}
-use Rattle.ifmap_changes.specs.Between.{AreKept, AreWithin, Asking, IsReady, IsSteady, left, rest_of, sight_now, so_far}
+use Rattle.ifmap_changes.specs.Between.{AreKept, AreWithin, Asking, IsReady, IsSteady, rest_of, sessions_left, sight_now, so_far}
 use Rattle.ifmap_changes.specs.Changes.{CanSettle, CanTakeBack}
 use Rattle.ifmap_changes.specs.declared.changes.Made.{Made}
 use Rattle.ifmap_changes.specs.declared.parts.Parts.{Parts}
@@ -24,7 +24,7 @@ use Rattle.ifmap_requests.specs.Fit.{IsFitOp}
 use Rattle.ifmap_session.specs.Sessions.{IsLive}
 use Rattle.ifmap_standing.specs.declared.standing.Standing.{Standing}
 use Rattle.ifmap_standing.specs.Kept.{KeepsSame, Stands}
-use Rattle.ifmap_standing.specs.Standing.{shown}
+use Rattle.ifmap_standing.specs.Standing.{standing_of}
 use Rattle.ifmap_tellings.specs.declared.tellings.Pending.{Pending}
 use Rattle.ifmap_tellings.specs.Tellings.{AloneAreBare, CanTell, EachTelling, IsSized, kept_of, told_by}
 
@@ -90,9 +90,9 @@ ready_marked a parts old new flags stay same r =
       ordered = r.ordered;
       flags = flags;
       kept = less_kept (λ x. IsKept (sight_now parts.graph) x.subscription) old.gone.items new.gone.items standing r.flags stay r.kept;
-      live = less_kept (λ x. IsLive x.serial (left a parts.sessions)) old.gone.items new.gone.items standing r.flags stay r.live;
+      live = less_kept (λ x. IsLive x.serial (sessions_left a parts.sessions)) old.gone.items new.gone.items standing r.flags stay r.live;
       queues = r.queues;
-      within = subst (λ t. AreWithin (map (told_by t) (left a parts.sessions))) (sym same) r.within;
+      within = subst (λ t. AreWithin (map (told_by t) (sessions_left a parts.sessions))) (sym same) r.within;
       can_tell = subst (λ t. EachTelling (CanTell (rest_of a parts.sessions)) t) (sym same) r.can_tell;
       sized = subst (λ t. EachTelling (λ n u. IsSized n u parts.sessions.live) t) (sym same) r.sized;
       alone = subst (λ t. AloneAreBare t new.gone.items standing) (sym same)
@@ -101,16 +101,16 @@ ready_marked a parts old new flags stay same r =
 
 -- and the state is that without the subscriptions that are gone
 pub marked_state : (serials : List ℕ) (a : Asking) (parts : Parts) (old new : Pending)
-    → map shown (kept_of new.gone.items parts.standing.items)
-    ≡ without_standing serials (map shown (kept_of old.gone.items parts.standing.items)) → new.tellings ≡ old.tellings
+    → map standing_of (kept_of new.gone.items parts.standing.items)
+    ≡ without_standing serials (map standing_of (kept_of old.gone.items parts.standing.items)) → new.tellings ≡ old.tellings
     → so_far a parts new
-    ≡ record (so_far a parts old) { standing = without_standing serials (map shown (kept_of old.gone.items parts.standing.items)) }
+    ≡ record (so_far a parts old) { standing = without_standing serials (map standing_of (kept_of old.gone.items parts.standing.items)) }
 marked_state serials a parts old new gone same = λ k. record {
   moment = a.moment;
   ttl = a.ttl;
   counter = parts.sessions.counter;
   graph = rows_now parts.graph;
-  sessions = map (told_by (same k)) (left a parts.sessions);
+  sessions = map (told_by (same k)) (sessions_left a parts.sessions);
   standing = gone k;
 }
 

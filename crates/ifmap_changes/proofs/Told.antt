@@ -11,8 +11,8 @@ use Rattle.std.specs.BTreeMap.{get}
 use Rattle.std.specs.List.{AllByRecursion, filter, list_any, zip}
 use Rattle.std.specs.Option.{IsSome}
 use Rattle.std.specs.Ordering.{nat_cmp}
-use Rattle.ifmap_lemmas.specs.Filters.{all_filter, all_weaker}
-use Rattle.ifmap_lemmas.specs.Having.{Has, filter_has, has_filter, has_map}
+use Rattle.ifmap_lemmas.specs.Filters.{all_filter, all_weaker, filter_alike, map_filter}
+use Rattle.ifmap_lemmas.specs.Having.{Has, filter_has, has_filter, has_map, all_has, has_all}
 use Rattle.ifmap_lemmas.specs.Members.{map_of_all}
 use Rattle.ifmap_delta.specs.Sights.{IsKept}
 use Rattle.ifmap_delta.specs.Ways.{HasSameSearch}
@@ -24,7 +24,7 @@ use Rattle.ifmap_standing.specs.declared.standing.Standing.{Standing}
 use Rattle.ifmap_standing.specs.declared.telling.News.{News}
 use Rattle.ifmap_standing.specs.Kept.{AtEach, Stands}
 use Rattle.ifmap_standing.specs.News.{news_of_each, news_where}
-use Rattle.ifmap_standing.specs.Standing.{shown}
+use Rattle.ifmap_standing.specs.Standing.{standing_of}
 use Rattle.ifmap_view.specs.declared.attachments.Attachment.{Attachment}
 use Rattle.ifmap_graph.specs.Seen.{rows_next, rows_now}
 use Rattle.ifmap_tellings.specs.declared.tellings.Pending.{Pending}
@@ -32,10 +32,10 @@ use Rattle.ifmap_tellings.specs.declared.tellings.Telling.{Telling}
 use Rattle.ifmap_tellings.specs.declared.tellings.Telling.TheVariants.{After, Alone}
 use Rattle.ifmap_tellings.specs.Tellings.{AllKept, AloneAreBare, CanTell, EachTelling, HasSameSessions, IsSized, SkipsGone, count_told, gone_after, gone_alone, is_alone, kept_of, queued_for, told_by, told_where}
 use Rattle.ifmap_changes.specs.declared.parts.Parts.{Parts}
-use Rattle.ifmap_changes.specs.Between.{Asking, IsReady, IsWithin, left}
+use Rattle.ifmap_changes.specs.Between.{Asking, IsReady, IsWithin, sessions_left}
 use Rattle.ifmap_changes.specs.Changes.{IsTold, sight_next}
 use Rattle.ifmap_changes.proofs.Settling.{same_ordered, same_shown}
-use Rattle.ifmap_changes.proofs.Flags.{alike_filters, alike_maps, all_has, any_alike, any_both, any_mapped, has_all, kept_all, kept_later, kept_made, kept_marked, map_filtered, map_kept, map_twice, mapped_long, maps_alike, marks_stay, queued_made, skip_made, some_of, zip_mapped}
+use Rattle.ifmap_changes.proofs.Flags.{alike_maps, any_alike, any_both, any_mapped, kept_all, kept_later, kept_made, kept_marked, map_kept, map_twice, mapped_long, maps_alike, marks_stay, queued_made, skip_made, some_of, zip_mapped}
 
 -- ---- a telling and a session
 
@@ -111,10 +111,11 @@ module _ (a : Asking) (old : Parts) (before : Pending) (ready : IsReady a old be
     where
       one : (s : Session) → Has old.sessions.live s → is_overfull (told_by before.tellings s) ≡ false
       one s there = elim (cases_Bool (stays_in a s.serial)) [
-        | inl stays ↦ (all_has IsWithin (map (told_by before.tellings) (left a old.sessions)) (told_by before.tellings s) ready.within
-            (has_map (told_by before.tellings) (left a old.sessions) s
+        | inl stays ↦ (all_has IsWithin (map (told_by before.tellings) (sessions_left a old.sessions)) ready.within
+            (told_by before.tellings s)
+            (has_map (told_by before.tellings) (sessions_left a old.sessions) s
             (has_filter (λ (t : Session). stays_in a t.serial) old.sessions.live s there stays))).full
-        | inr goes ↦ subst (λ t. is_overfull t ≡ false) (sym (untold s goes)) (all_has IsWithin old.sessions.live s ready.queues there).full
+        | inr goes ↦ subst (λ t. is_overfull t ≡ false) (sym (untold s goes)) (all_has IsWithin old.sessions.live ready.queues s there).full
       ]
 
   pub can_tell_all : EachTelling (CanTell old.sessions) before.tellings
@@ -123,18 +124,19 @@ module _ (a : Asking) (old : Parts) (before : Pending) (ready : IsReady a old be
       in record { live = left_live (λ (s : Session). stays_in a s.serial) n old.sessions.live can.live; room = can.room }
 
   pub wide_all : AllByRecursion (λ s. 100 ≤ s.limit) old.sessions.live
-  wide_all = has_all (λ s. 100 ≤ s.limit) old.sessions.live (λ s there. (all_has IsWithin old.sessions.live s ready.queues there).wide)
+  wide_all = has_all (λ s. 100 ≤ s.limit) old.sessions.live (λ s there. (all_has IsWithin old.sessions.live ready.queues s there).wide)
 
 -- what holds of each that is shown
-pub all_shown : (P : machine.Standing → Type 0) (xs : List Standing) → AllByRecursion (λ x. P (shown x)) xs
-    → AllByRecursion P (map shown xs)
-all_shown P xs h = map_of_all P shown xs h
+pub all_shown : (P : machine.Standing → Type 0) (xs : List Standing) → AllByRecursion (λ x. P (standing_of x)) xs
+    → AllByRecursion P (map standing_of xs)
+all_shown P xs h = map_of_all P standing_of xs h
 
 -- ---- the news of a change
 
 module _ (a : Asking) (old : Parts) (before : Pending) (ready : IsReady a old before) (notes : List Note) (stand_now : List Standing)
     (same : AtEach (λ _. Stands HasSameSearch) old.standing.items stand_now) (news : List News)
-    (is_news : news ≡ news_of_each (rows_now old.graph) (rows_next old.graph) notes before.gone.items (map shown old.standing.items)) where
+    (is_news : news ≡ news_of_each (rows_now old.graph) (rows_next old.graph) notes before.gone.items
+    (map standing_of old.standing.items)) where
   abbrev rows : List Attachment
   rows = rows_now old.graph
 
@@ -145,17 +147,17 @@ module _ (a : Asking) (old : Parts) (before : Pending) (ready : IsReady a old be
   gone = before.gone.items
 
   abbrev ys : List machine.Standing
-  ys = map shown old.standing.items
+  ys = map standing_of old.standing.items
 
   -- those that are not gone
   abbrev those : List machine.Standing
-  those = map shown (kept_of gone old.standing.items)
+  those = map standing_of (kept_of gone old.standing.items)
 
   -- the sessions that are left
   abbrev lives : List Session
-  lives = left a old.sessions
+  lives = sessions_left a old.sessions
 
-  shown_now : map shown stand_now ≡ ys
+  shown_now : map standing_of stand_now ≡ ys
   shown_now = same_shown old.standing.items stand_now same
 
   flags_now : length gone ≡ length stand_now
@@ -164,8 +166,8 @@ module _ (a : Asking) (old : Parts) (before : Pending) (ready : IsReady a old be
   pub long_news : length news ≡ length stand_now
   long_news = ap length is_news
       ∙ mapped_long (λ (p : Bool × machine.Standing). news_where rows next notes p.0 p.1) gone ys
-      (ready.flags ∙ sym (length-map old.standing.items shown))
-      ∙ length-map old.standing.items shown ∙ sym same.long
+      (ready.flags ∙ sym (length-map old.standing.items standing_of))
+      ∙ length-map old.standing.items standing_of ∙ sym same.long
 
   pub skips : SkipsGone gone news
   skips i one e f = skip_made (news_where rows next notes) (λ (n : News). n.items) (λ y. refl) gone ys i one e
@@ -182,28 +184,28 @@ module _ (a : Asking) (old : Parts) (before : Pending) (ready : IsReady a old be
   pub queued : (n : ℕ) → queued_for n stand_now news ≡ told_in rows next notes those n
   queued n =
       ap (queued_for n stand_now) is_news
-      ∙ zip_mapped shown (λ y. y.serial == n) (λ (one : News). one.items) stand_now (news_of_each rows next notes gone ys)
+      ∙ zip_mapped standing_of (λ y. y.serial == n) (λ (one : News). one.items) stand_now (news_of_each rows next notes gone ys)
       ∙ ap (λ zs. flat_map (λ (p : machine.Standing × News). p.1.items)
       (filter (λ (p : machine.Standing × News). p.0.serial == n) (zip zs (news_of_each rows next notes gone ys)))) shown_now
       ∙ queued_made (news_where rows next notes) (λ (one : News). one.items) (λ y. refl) (told_to rows next notes) (λ y. refl)
       (λ y. y.serial == n) gone ys
-      ∙ ap (λ zs. told_in rows next notes zs n) (sym (map_kept shown gone old.standing.items))
+      ∙ ap (λ zs. told_in rows next notes zs n) (sym (map_kept standing_of gone old.standing.items))
 
   -- which stand
   stand : (alone : ℕ → Bool) (after : List Bool)
       → after ≡ map (λ (p : Bool × Standing). p.0 || alone p.1.serial) (zip (gone_after gone news) stand_now)
-      → map shown (kept_of after stand_now)
+      → map standing_of (kept_of after stand_now)
       ≡ filter (λ y. not (alone y.serial)) (filter (λ y. not (is_too_big next y.search)) those)
   stand alone after is =
-      ap (λ g. map shown (kept_of g stand_now)) is
-      ∙ ap (map shown) (kept_marked (λ (x : Standing). alone x.serial) (gone_after gone news) stand_now)
-      ∙ map_filtered shown (λ y. not (alone y.serial)) (kept_of (gone_after gone news) stand_now)
+      ap (λ g. map standing_of (kept_of g stand_now)) is
+      ∙ ap (map standing_of) (kept_marked (λ (x : Standing). alone x.serial) (gone_after gone news) stand_now)
+      ∙ map_filter standing_of (λ y. not (alone y.serial)) (kept_of (gone_after gone news) stand_now)
       ∙ ap (filter (λ y. not (alone y.serial)))
-      (map_kept shown (gone_after gone news) stand_now
+      (map_kept standing_of (gone_after gone news) stand_now
       ∙ ap (kept_of (gone_after gone news)) shown_now
       ∙ ap (λ ns. kept_of (gone_after gone ns) ys) is_news
       ∙ kept_made (news_where rows next notes) (λ (one : News). one.is_too_big) (λ y. is_too_big next y.search) (λ y. refl) gone ys
-      ∙ ap (filter (λ y. not (is_too_big next y.search))) (sym (map_kept shown gone old.standing.items)))
+      ∙ ap (filter (λ y. not (is_too_big next y.search))) (sym (map_kept standing_of gone old.standing.items)))
 
   -- what a session has to tell, before it is looked at whether that is too much
   abbrev told_one : Session → Session
@@ -227,7 +229,7 @@ module _ (a : Asking) (old : Parts) (before : Pending) (ready : IsReady a old be
     | inl is ↦
         let bare = all_shown (λ z. z.serial ≢ y.serial) (kept_of gone old.standing.items)
         (kept_all (λ x. x.serial ≢ y.serial) gone old.standing.items (ready.alone y.serial is))
-        in absurd (all_has (λ (z : machine.Standing). z.serial ≢ y.serial) those y bare there refl)
+        in absurd (all_has (λ (z : machine.Standing). z.serial ≢ y.serial) those bare y there refl)
     | inr is ↦ is
   ]
 
@@ -278,17 +280,17 @@ module _ (a : Asking) (old : Parts) (before : Pending) (ready : IsReady a old be
         = has_all _ lives (λ s here. ap (λ m. m == n) (sym (told_serial (get nat_cmp before.tellings s.serial) s)))
         in let some : list_any (λ (s : Session). (told_one s).serial == n) lives ≡ true
         = sym (any_alike (λ (s : Session). s.serial == n) (λ s. (told_one s).serial == n) lives serials)
-        ∙ live_has n lives (all_has (λ (z : machine.Standing). IsLive z.serial lives) those y live_those there)
+        ∙ live_has n lives (all_has (λ (z : machine.Standing). IsLive z.serial lives) those live_those y there)
         in let each : AllByRecursion (λ (s : Session). ((told_one s).serial == n) ≡ true → is_overfull (told_one s) ≡ alone n) lives
         = has_all _ lives (λ s here hit. overfull_is n (not_alone y there) s here
         (ap (λ m. m == n) (sym (told_serial (get nat_cmp before.tellings s.serial) s)) ∙ hit))
         in sym (any_mapped told_one (λ (t : Session). t.serial == n && is_overfull t) lives
         ∙ any_both (λ s. (told_one s).serial == n) (λ s. is_overfull (told_one s)) (alone n) lives each some)
 
-    which_stand : map shown (kept_of after.gone.items stand_now)
+    which_stand : map standing_of (kept_of after.gone.items stand_now)
         ≡ filter (λ y. not (is_overrun (map told_one lives) y)) (filter (λ y. not (is_too_big next y.search)) those)
     which_stand = stand alone after.gone.items is_gone
-        ∙ alike_filters (λ y. not (alone y.serial)) (λ y. not (is_overrun (map told_one lives) y))
+        ∙ filter_alike (λ y. not (alone y.serial)) (λ y. not (is_overrun (map told_one lives) y))
         (filter (λ y. not (is_too_big next y.search)) those)
         (has_all _ (filter (λ y. not (is_too_big next y.search)) those)
         (λ y there. ap not (overrun_one y (filter_has (λ z. not (is_too_big next z.search)) those y there).0)))
@@ -315,20 +317,21 @@ module _ (a : Asking) (old : Parts) (before : Pending) (ready : IsReady a old be
             let some = brought n (subst IsSome (sym is) refl) was
             in let one = some_of (told_to rows next notes) (λ (y : machine.Standing). y.serial == n) those (λ e. some (queued n ∙ e))
             in subst (λ m. IsLive m lives) (eqb-true one.0.serial n one.2)
-            (all_has (λ (z : machine.Standing). IsLive z.serial lives) those one.0 live_those one.1)
+            (all_has (λ (z : machine.Standing). IsLive z.serial lives) those live_those one.0 one.1)
 
     pub is_told : (new : Parts) → new.graph ≡ old.graph → new.sessions ≡ sessions_now → new.standing.items ≡ stand_now
         → IsTold a old before notes new after
     is_told new graph is_sessions is_standing =
-        let lives_now : left a new.sessions ≡ lives = ap (λ (t : Table). left a t) is_sessions ∙ ap (without_sessions a.ended) sessions.live
+        let lives_now : sessions_left a new.sessions ≡ lives =
+        ap (λ (t : Table). sessions_left a t) is_sessions ∙ ap (without_sessions a.ended) sessions.live
         in let counter : new.sessions.counter ≡ old.sessions.counter = ap (λ (t : Table). t.counter) is_sessions ∙ sessions.counter
-        in let all : map (told_by after.tellings) (left a new.sessions)
+        in let all : map (told_by after.tellings) (sessions_left a new.sessions)
         ≡ map overflow_session (map tell_it (map (told_by before.tellings) lives))
         = ap (map (told_by after.tellings)) lives_now ∙ tell_each ∙ ap (map overflow_session) (sym tells)
-        in let which : map shown (kept_of after.gone.items new.standing.items)
+        in let which : map standing_of (kept_of after.gone.items new.standing.items)
         ≡ filter (λ y. not (is_overrun (map tell_it (map (told_by before.tellings) lives)) y))
         (filter (λ y. not (is_too_big next y.search)) those)
-        = ap (λ xs. map shown (kept_of after.gone.items xs)) is_standing ∙ which_stand
+        = ap (λ xs. map standing_of (kept_of after.gone.items xs)) is_standing ∙ which_stand
         ∙ ap (λ S. filter (λ y. not (is_overrun S y)) (filter (λ y. not (is_too_big next y.search)) those)) (sym tells)
         in let drafted : rows_next new.graph ≡ next = ap rows_next graph
         in record {

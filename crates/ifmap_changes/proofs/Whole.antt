@@ -2,8 +2,8 @@
 use Rattle.std.proofs.Common.{◌≡◌, sym, subst, refl, Option, Some, None, List, [], ◌∷◌}
 use Rattle.std.specs.List.{AllByRecursion, filter}
 use Rattle.std.specs.Ordering.{is_gt, is_lt}
-use Rattle.ifmap_lemmas.specs.Filters.{all_around, all_filter}
-use Rattle.ifmap_lemmas.specs.Having.{has_filter, has_map}
+use Rattle.ifmap_lemmas.specs.Filters.{all_around, all_filter, found_all}
+use Rattle.ifmap_lemmas.specs.Having.{has_filter, has_map, all_has, has_all}
 use Rattle.ifmap_lemmas.specs.Members.{map_of_all}
 use Rattle.ifmap_ident.specs.declared.items.Item.{Item}
 use Rattle.ifmap_ident.specs.Items.{same_item}
@@ -16,7 +16,6 @@ use Rattle.ifmap_plans.specs.Plans.{AreWhole, Fits, FitsItem, IsAfter, change_of
 use Rattle.ifmap_view.specs.declared.attachments.Attachment.{Attachment}
 use Rattle.ifmap_view.specs.Attachments.{stored_order}
 use Rattle.ifmap_view.specs.Rows.{stored_on}
-use Rattle.ifmap_changes.proofs.Flags.{all_has, found_all, has_all}
 use Rattle.ifmap_changes.proofs.OneGraph.{item_itself}
 
 all_put : (added list : List Stored) → AllByRecursion IsWhole added → AllByRecursion IsWhole list
@@ -33,7 +32,7 @@ whole_on rows w x = map_of_all IsWhole (λ (r : Attachment). r.stored) (filter (
 
 on_whole : (rows : List Attachment) → ((x : Item) → AllByRecursion IsWhole (stored_on x rows)) → AreWhole rows
 on_whole rows f = has_all (λ (r : Attachment). IsWhole r.stored) rows (λ r there.
-    all_has IsWhole (stored_on r.item rows) r.stored (f r.item)
+    all_has IsWhole (stored_on r.item rows) (f r.item) r.stored
     (has_map (λ (q : Attachment). q.stored) (filter (λ (q : Attachment). same_item q.item r.item) rows) r
     (has_filter (λ (q : Attachment). same_item q.item r.item) rows r there (item_itself r.item))))
 

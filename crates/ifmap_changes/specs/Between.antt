@@ -20,7 +20,7 @@ use Rattle.ifmap_region.specs.Marks.{mark_of}
 use Rattle.ifmap_session.specs.Sessions.{IsLive, Session, Table, without_sessions}
 use Rattle.ifmap_standing.specs.declared.standing.Standing.{Standing}
 use Rattle.ifmap_standing.specs.Kept.{AtEach, KeepsSame, Stands}
-use Rattle.ifmap_standing.specs.Standing.{shown}
+use Rattle.ifmap_standing.specs.Standing.{standing_of}
 use Rattle.ifmap_view.specs.Views.{IsView}
 use Rattle.ifmap_graph.specs.Back.{KeepsBacks}
 use Rattle.ifmap_graph.specs.Held.{Held, IsOwn}
@@ -64,9 +64,9 @@ AreWithin live = AllByRecursion IsWithin live
 
 -- the subscriptions stand in order, each in a live session, and no session has more than it may
 pub record AreOrdered (sessions : List Session) (standing : List Standing) : Type 0 where
-  pub rising : IsStrictlySortedBy standing_order (map shown standing)
+  pub rising : IsStrictlySortedBy standing_order (map standing_of standing)
   pub live : AllByRecursion (λ x. IsLive x.serial sessions) standing
-  pub few : (serial : ℕ) → length (standing_in serial (map shown standing)) ≤ most_names
+  pub few : (serial : ℕ) → length (standing_in serial (map standing_of standing)) ≤ most_names
 
 -- the machine's state, as its parts have it
 abbrev pub state_at : ℕ → ℕ → Parts → State
@@ -76,7 +76,7 @@ state_at ttl moment parts = record {
   counter = parts.sessions.counter;
   graph = rows_now parts.graph;
   sessions = parts.sessions.live;
-  standing = map shown parts.standing.items;
+  standing = map standing_of parts.standing.items;
 }
 
 -- what holds of the parts between two events
@@ -100,11 +100,11 @@ pub record Asking : Type 0 where
   pub ended : List ℕ
 
 -- the sessions that are left
-abbrev pub left : Asking → Table → List Session
-left a table = without_sessions a.ended table.live
+abbrev pub sessions_left : Asking → Table → List Session
+sessions_left a table = without_sessions a.ended table.live
 
 abbrev pub rest_of : Asking → Table → Table
-rest_of a table = record table { live = left a table }
+rest_of a table = record table { live = sessions_left a table }
 
 -- the subscriptions that are left
 abbrev pub standing_left : Parts → Pending → List Standing
@@ -117,8 +117,8 @@ so_far a parts pending = record {
   ttl = a.ttl;
   counter = parts.sessions.counter;
   graph = rows_now parts.graph;
-  sessions = map (told_by pending.tellings) (left a parts.sessions);
-  standing = map shown (standing_left parts pending);
+  sessions = map (told_by pending.tellings) (sessions_left a parts.sessions);
+  standing = map standing_of (standing_left parts pending);
 }
 
 -- these sessions can end one after the other
@@ -137,10 +137,10 @@ pub record IsReady (a : Asking) (parts : Parts) (pending : Pending) : Type 0 whe
   pub flags : length pending.gone.items ≡ length parts.standing.items
   -- what is not gone keeps what the graph has, and is of a session that is left
   pub kept : AllKept (λ x. IsKept (sight_now parts.graph) x.subscription) pending.gone.items parts.standing.items
-  pub live : AllKept (λ x. IsLive x.serial (left a parts.sessions)) pending.gone.items parts.standing.items
+  pub live : AllKept (λ x. IsLive x.serial (sessions_left a parts.sessions)) pending.gone.items parts.standing.items
   -- no queue is greater than its limit, also once all is told, which there is room for
   pub queues : AreWithin parts.sessions.live
-  pub within : AreWithin (map (told_by pending.tellings) (left a parts.sessions))
+  pub within : AreWithin (map (told_by pending.tellings) (sessions_left a parts.sessions))
   pub can_tell : EachTelling (CanTell (rest_of a parts.sessions)) pending.tellings
   pub sized : EachTelling (λ n t. IsSized n t parts.sessions.live) pending.tellings
   -- who is told one error in place of all has no subscription left

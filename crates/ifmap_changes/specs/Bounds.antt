@@ -5,10 +5,13 @@ use Rattle.ifmap_delta.specs.Sights.{Sight}
 use Rattle.ifmap_machine.specs.Ending.{drop_sessions}
 use Rattle.ifmap_machine.specs.State.{Standing, State}
 use Rattle.ifmap_plans.specs.After.{items_of}
+use Rattle.ifmap_plans.specs.declared.plans.Plan.{Plan}
+use Rattle.ifmap_plans.specs.Plans.{IsAfter}
 use Rattle.ifmap_publish.specs.declared.who.Who.{Who}
 use Rattle.ifmap_publish.specs.declared.who.Who.TheVariants.{Sessions}
 use Rattle.ifmap_publish.specs.Retract.{retract}
 use Rattle.ifmap_view.specs.declared.attachments.Attachment.{Attachment}
+use Rattle.ifmap_view.specs.Attachments.{IsGraph}
 use Rattle.ifmap_view.specs.Views.{IsView}
 
 -- these attachments before a change and those after it, seen with one numbering of identifiers
@@ -36,6 +39,11 @@ abbrev pub IsToldWithin : List Attachment → State → ℕ → ℕ → Type 0
 IsToldWithin next state before after =
     (after ≤ before)
     ⊎ ((old : Sight) × (new : Sight) × AreSights state.graph next old new × IsWithinAll old new state.standing before after)
+
+-- the same of a change by a plan, whatever attachments it makes of those that are there
+abbrev pub IsPlanWithin : Plan → State → ℕ → ℕ → Type 0
+IsPlanWithin plan state before after =
+    (rows : List Attachment) → IsGraph rows → IsAfter plan.changes state.graph rows → IsToldWithin rows state before after
 
 -- by at most one more than there are items with an attachment
 abbrev pub IsRetractedWithin : List Attachment → ℕ → ℕ → Type 0

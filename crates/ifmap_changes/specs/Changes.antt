@@ -14,7 +14,9 @@ use Rattle.ifmap_machine.specs.State.{State}
 use Rattle.ifmap_machine.specs.Telling.{overflow, tell}
 use Rattle.ifmap_plans.specs.declared.plans.Note.{Note}
 use Rattle.ifmap_plans.specs.declared.plans.Plan.{Plan}
+use Rattle.ifmap_plans.specs.Plans.{IsAfter}
 use Rattle.ifmap_pool.specs.Holdings.{key_at}
+use Rattle.ifmap_publish.specs.declared.who.Who.{Who}
 use Rattle.ifmap_publish.specs.declared.who.Who.TheVariants.{Sessions}
 use Rattle.ifmap_publish.specs.Retract.{retract}
 use Rattle.ifmap_standing.specs.declared.standing.Standing.{Standing}
@@ -25,6 +27,8 @@ use Rattle.ifmap_graph.specs.Back.{IsWayBack, KeepsBacks}
 use Rattle.ifmap_graph.specs.Held.{Held}
 use Rattle.ifmap_graph.specs.Out.{IsOut, items_of}
 use Rattle.ifmap_graph.specs.Seen.{Awaits, AwaitsMore, BringsNoNumbers, KeepsNumbers, KeepsOwn, StaysLeanWith, links_next, links_now, rows_next, rows_now}
+use Rattle.ifmap_view.specs.declared.attachments.Attachment.{Attachment}
+use Rattle.ifmap_view.specs.Attachments.{IsGraph}
 use Rattle.ifmap_view.specs.Views.{IsView}
 
 -- the graph as it is to be, as subscriptions see it
@@ -65,6 +69,12 @@ pub record IsTold (a : Asking) (old : Parts) (before : Pending) (notes : List No
   pub sized : EachTelling (λ n t. IsSized n t new.sessions.live) after.tellings
   pub alone : AloneAreBare after.tellings after.gone.items new.standing.items
 
+-- all is told of a change by a plan, whatever attachments it makes of those that are there
+abbrev pub TellsPlan : Asking → Plan → Parts → Pending → Parts → Pending → Type 0
+TellsPlan a plan old before new after =
+    (rows : List Attachment) → IsGraph rows → IsAfter plan.changes (rows_now old.graph) rows
+    → so_far a new after ≡ overflow (tell rows plan.notes (so_far a old before))
+
 -- a change can be left as it is: its items are waited for
 pub record CanSettle (made : Made) (parts : Parts) : Type 0 where
   pub waits : Awaits (items_of made.undo.plan.changes) parts.graph
@@ -92,7 +102,10 @@ pub record IsSettled (old new : Parts) : Type 0 where
 abbrev pub gone_with : List ℕ → List Bool → List Standing → List Bool
 gone_with serials gone standing = map (λ (p : Bool × Standing). p.0 || list_any (λ n. n == p.1.serial) serials) (zip gone standing)
 
+-- the state once what is of these is taken away, and all are told
+abbrev pub taken_of : Who → State → State
+taken_of who state = overflow (tell (retract who state.graph) [] state)
+
 -- the state once a session's subscriptions stand no longer, and the others are told what goes with it
 abbrev pub taken_one : ℕ → State → State
-taken_one n state =
-    overflow (tell (retract (Sessions (n ∷ [])) state.graph) [] (record state { standing = without_standing (n ∷ []) state.standing }))
+taken_one n state = taken_of (Sessions (n ∷ [])) (record state { standing = without_standing (n ∷ []) state.standing })

@@ -4,8 +4,8 @@ ghost use Rattle.std.specs.List.{AllByRecursion, list_any, zip};
 ghost use Rattle.std.specs.List.Sorted.{IsStrictlySortedBy};
 ghost use Rattle.std.specs.Ordering.{nat_cmp};
 ghost use Rattle.ifmap_changes.specs.Between.{AreBack, AreKept, AreOrdered, AreParts, AreTurned, AreTurnedWith, Asking, IsBare, IsReady, IsSteady, sight_now, so_far};
-ghost use Rattle.ifmap_changes.specs.Bounds.{IsToldWithin};
-ghost use Rattle.ifmap_changes.specs.Changes.{CanSettle, CanTakeBack, IsBegun, IsSettled, IsTold, gone_with, sight_next};
+ghost use Rattle.ifmap_changes.specs.Bounds.{IsPlanWithin};
+ghost use Rattle.ifmap_changes.specs.Changes.{CanSettle, CanTakeBack, IsBegun, IsSettled, IsTold, TellsPlan, gone_with, sight_next};
 ghost use Rattle.ifmap_changes.specs.declared.parts.Parts.{Parts};
 ghost use Rattle.ifmap_tellings.specs.declared.tellings.Pending.{Pending};
 ghost use Rattle.ifmap_tellings.specs.Tellings.{AllKept, HasSameSessions, kept_of};
@@ -14,19 +14,16 @@ ghost use Rattle.ifmap_delta.specs.Sights.{IsKept};
 ghost use Rattle.ifmap_delta.specs.Ways.{HasSameSearch};
 ghost use Rattle.ifmap_ident.specs.Items.{IsCanonItem};
 ghost use Rattle.ifmap_machine.specs.Ending.{without_standing};
-ghost use Rattle.ifmap_machine.specs.Telling.{overflow, tell};
-ghost use Rattle.ifmap_plans.specs.Plans.{Fits, IsAfter};
+ghost use Rattle.ifmap_plans.specs.Plans.{Fits};
 ghost use Rattle.ifmap_standing.specs.Bounds.{IsWithinEach};
 ghost use Rattle.ifmap_standing.specs.Kept.{AtEach, KeepsSame, Stands};
 ghost use Rattle.ifmap_standing.specs.declared.standing.Standing.{Standing};
 ghost use Rattle.ifmap_standing.specs.News.{news_of_each};
-ghost use Rattle.ifmap_standing.specs.Standing.{shown};
+ghost use Rattle.ifmap_standing.specs.Standing.{standing_of};
 ghost use Rattle.ifmap_standing.specs.Ways.{LeadBack};
 ghost use Rattle.ifmap_standing.specs.Ways as the_ways;
 ghost use Rattle.ifmap_graph.specs.Out.{items_of};
 ghost use Rattle.ifmap_graph.specs.Seen.{AwaitsLess, KeepsNumbers, StaysLeanWithout, rows_next, rows_now};
-ghost use Rattle.ifmap_view.specs.declared.attachments.Attachment.{Attachment};
-ghost use Rattle.ifmap_view.specs.Attachments.{IsGraph};
 
 use crate::asking::Asking;
 use crate::parts::Parts;
@@ -62,10 +59,8 @@ pub fn make_change<L: Ledger>(
     requires ready { IsReady asking.now parts.old pending.old }
     requires fits { Fits (rows_now parts.old.graph) plan.changes }
     requires canon { AllByRecursion (λ n. IsCanonItem n.item) plan.notes }
-    ensures told { OnOk result ((rows : List Attachment) → IsGraph rows
-        → IsAfter plan.changes (rows_now parts.old.graph) rows
-        → so_far asking.now parts.new pending.new
-        ≡ overflow (tell rows plan.notes (so_far asking.now parts.old pending.old))) }
+    ensures told { OnOk result
+        (TellsPlan asking.now plan parts.old pending.old parts.new pending.new) }
     ensures steady { OnOk result (IsSteady parts.new.graph parts.new.standing.items) }
     ensures ready { OnOk result (IsReady asking.now parts.new pending.new) }
     ensures bare { OnOk result ((n : ℕ) → IsBare n parts.old pending.old
@@ -74,9 +69,8 @@ pub fn make_change<L: Ledger>(
     ensures kept { OnErr result (AreKept parts.old parts.new) }
 
     // Also where memory runs out.
-    ensures steps { (rows : List Attachment) → IsGraph rows
-        → IsAfter plan.changes (rows_now parts.old.graph) rows
-        → IsToldWithin rows (so_far asking.now parts.old pending.old) steps.old steps.new }
+    ensures steps { IsPlanWithin plan (so_far asking.now parts.old pending.old) steps.old
+        steps.new }
 {
     let made = make_kept(alloc, parts, pending, asking, plan, steps)?;
     settle_made(parts, made);
@@ -96,10 +90,8 @@ pub fn make_kept<L: Ledger>(
     requires ready { IsReady asking.now parts.old pending.old }
     requires fits { Fits (rows_now parts.old.graph) plan.changes }
     requires canon { AllByRecursion (λ n. IsCanonItem n.item) plan.notes }
-    ensures told { OnOk result ((rows : List Attachment) → IsGraph rows
-        → IsAfter plan.changes (rows_now parts.old.graph) rows
-        → so_far asking.now parts.new pending.new
-        ≡ overflow (tell rows plan.notes (so_far asking.now parts.old pending.old))) }
+    ensures told { OnOk result
+        (TellsPlan asking.now plan parts.old pending.old parts.new pending.new) }
     ensures steady { OnOk result (IsSteady parts.new.graph parts.new.standing.items) }
     ensures ready { OnOk result (IsReady asking.now parts.new pending.new) }
     ensures bare { OnOk result ((n : ℕ) → IsBare n parts.old pending.old
@@ -111,9 +103,8 @@ pub fn make_kept<L: Ledger>(
     ensures kept { OnErr result (AreKept parts.old parts.new) }
 
     // Also where memory runs out.
-    ensures steps { (rows : List Attachment) → IsGraph rows
-        → IsAfter plan.changes (rows_now parts.old.graph) rows
-        → IsToldWithin rows (so_far asking.now parts.old pending.old) steps.old steps.new }
+    ensures steps { IsPlanWithin plan (so_far asking.now parts.old pending.old) steps.old
+        steps.new }
 {
     bytes_tell_identifiers_apart();
     same_links_keep_subscriptions();
@@ -206,7 +197,7 @@ fn tell_standing<L: Ledger>(
         parts.new.standing.items }
     ensures news { IfOk result (λ told. told.news ≡ news_of_each (rows_now parts.old.graph)
         (rows_next parts.old.graph) plan.now.notes gone.now
-        (map shown parts.old.standing.items)) }
+        (map standing_of parts.old.standing.items)) }
     ensures kept { OnOk result (AllKept (λ x. IsKept (sight_next parts.old.graph) x.subscription)
         gone.now parts.new.standing.items) }
     ensures ways { IfOk result (λ told. LeadBack parts.old.standing.items told.ways
@@ -289,31 +280,32 @@ pub fn undo_made(parts: &mut Parts, made: Made)
 }
 
 /// The subscriptions of these sessions are gone, whose serials rise. It takes no memory.
-pub fn mark_sessions(standing: &[Standing], pending: &mut Pending, serials: &[u64])
+pub fn flag_sessions(standing: &[Standing], pending: &mut Pending, serials: &[u64])
     requires flags { length pending.old.gone.items ≡ length standing.now }
     requires rising { IsStrictlySortedBy nat_cmp serials.now }
     ensures gone { pending.new.gone.items
         ≡ gone_with serials.now pending.old.gone.items standing.now }
     ensures flags { length pending.new.gone.items ≡ length standing.now }
-    ensures left { map shown (kept_of pending.new.gone.items standing.now)
-        ≡ without_standing serials.now (map shown (kept_of pending.old.gone.items standing.now)) }
+    ensures left { map standing_of (kept_of pending.new.gone.items standing.now)
+        ≡ without_standing serials.now
+        (map standing_of (kept_of pending.old.gone.items standing.now)) }
     ensures bare { AllKept (λ x. list_any (λ n. n == x.serial) serials.now ≡ false)
         pending.new.gone.items standing.now }
     ensures stay { (i : ℕ) → slice_get pending.old.gone.items i ≡ Some true
         → slice_get pending.new.gone.items i ≡ Some true }
     ensures tellings { pending.new.tellings ≡ pending.old.tellings }
 {
-    mark_flags(standing, &mut pending.gone, serials);
+    set_flags(standing, &mut pending.gone, serials);
 }
 
 // The flags of the subscriptions of these sessions are set.
-fn mark_flags(standing: &[Standing], gone: &mut Vec<bool>, serials: &[u64])
+fn set_flags(standing: &[Standing], gone: &mut Vec<bool>, serials: &[u64])
     requires flags { length gone.old.items ≡ length standing.now }
     requires rising { IsStrictlySortedBy nat_cmp serials.now }
     ensures { gone.new.items ≡ gone_with serials.now gone.old.items standing.now }
 {
     for at in 0..standing.len() {
-        mark_flag(gone, at, is_among(serials, standing[at].serial));
+        set_flag(gone, at, is_among(serials, standing[at].serial));
     }
 }
 
@@ -326,7 +318,7 @@ fn is_among(serials: &[u64], serial: u64) -> bool
 }
 
 // A flag is set, where it is to be.
-fn mark_flag(flags: &mut Vec<bool>, at: usize, is_to_be: bool)
+fn set_flag(flags: &mut Vec<bool>, at: usize, is_to_be: bool)
     requires { at < length flags.old.items }
     ensures { flags.new.items ≡ (if is_to_be then set flags.old.items at true
         else flags.old.items) }
@@ -337,18 +329,18 @@ fn mark_flag(flags: &mut Vec<bool>, at: usize, is_to_be: bool)
 }
 
 /// The subscriptions of one session are gone. It takes no memory.
-pub fn mark_session(standing: &[Standing], pending: &mut Pending, serial: u64)
+pub fn flag_session(standing: &[Standing], pending: &mut Pending, serial: u64)
     requires flags { length pending.old.gone.items ≡ length standing.now }
     ensures gone { pending.new.gone.items
         ≡ gone_with (serial ∷ []) pending.old.gone.items standing.now }
     ensures flags { length pending.new.gone.items ≡ length standing.now }
-    ensures left { map shown (kept_of pending.new.gone.items standing.now)
-        ≡ without_standing (serial ∷ []) (map shown
+    ensures left { map standing_of (kept_of pending.new.gone.items standing.now)
+        ≡ without_standing (serial ∷ []) (map standing_of
         (kept_of pending.old.gone.items standing.now)) }
     ensures bare { AllKept (λ x. x.serial ≢ serial) pending.new.gone.items standing.now }
     ensures stay { (i : ℕ) → slice_get pending.old.gone.items i ≡ Some true
         → slice_get pending.new.gone.items i ≡ Some true }
     ensures tellings { pending.new.tellings ≡ pending.old.tellings }
 {
-    mark_sessions(standing, pending, &[serial]);
+    flag_sessions(standing, pending, &[serial]);
 }

@@ -3,17 +3,16 @@ ghost use Rattle.std.specs.Prelude.{◌≡◌, ◌∷◌, ℕ, [], IfOk, OnErr, 
 ghost use Rattle.std.specs.List.{AllByRecursion};
 ghost use Rattle.ifmap_changes.specs.Between.{AreKept, AreTurned, AreTurnedWith, IsBare, IsReady, IsSteady, so_far};
 ghost use Rattle.ifmap_changes.specs.Bounds.{IsEndedWithin, IsTakenWithin, IsToldWithin};
-ghost use Rattle.ifmap_changes.specs.Changes.{CanSettle, CanTakeBack, taken_one};
+ghost use Rattle.ifmap_changes.specs.Changes.{CanSettle, CanTakeBack, taken_of, taken_one};
 ghost use Rattle.ifmap_machine.specs.Telling.{overflow, tell};
 ghost use Rattle.ifmap_publish.specs.Apply.{Authorship, apply};
 ghost use Rattle.ifmap_publish.specs.Notes.{notes_of};
-ghost use Rattle.ifmap_publish.specs.Retract.{retract};
 ghost use Rattle.ifmap_requests.specs.Fit.{IsFitOp};
 ghost use Rattle.ifmap_graph.specs.Out.{items_of};
 ghost use Rattle.ifmap_graph.specs.Seen.{KeepsNumbers, rows_now};
 
 use crate::asking::Asking;
-use crate::changes::{Made, make_change, make_kept, mark_session};
+use crate::changes::{Made, flag_session, make_change, make_kept};
 use crate::parts::Parts;
 use ifmap_elem::Many;
 use ifmap_publish::laws::{publishing_keeps_graphs, retracting_keeps_graphs};
@@ -86,8 +85,7 @@ pub fn take_away<L: Ledger>(
     requires steady { IsSteady parts.old.graph parts.old.standing.items }
     requires ready { IsReady asking.now parts.old pending.old }
     ensures told { OnOk result (so_far asking.now parts.new pending.new
-        ≡ overflow (tell (retract who.now (rows_now parts.old.graph)) []
-        (so_far asking.now parts.old pending.old))) }
+        ≡ taken_of who.now (so_far asking.now parts.old pending.old)) }
     ensures steady { OnOk result (IsSteady parts.new.graph parts.new.standing.items) }
     ensures ready { OnOk result (IsReady asking.now parts.new pending.new) }
     ensures bare { OnOk result ((n : ℕ) → IsBare n parts.old pending.old
@@ -131,7 +129,7 @@ pub fn take_away_one<L: Ledger>(
     let mut serials = Vec::with_capacity(alloc, 1)?;
     serials.push(serial)?;
     let who = Who::Sessions(Many(serials));
-    mark_session(&parts.standing, pending, serial);
+    flag_session(&parts.standing, pending, serial);
     take_away(alloc, parts, pending, asking, &who, steps)
 }
 
@@ -147,8 +145,7 @@ pub fn take_away_kept<L: Ledger>(
     requires steady { IsSteady parts.old.graph parts.old.standing.items }
     requires ready { IsReady asking.now parts.old pending.old }
     ensures told { OnOk result (so_far asking.now parts.new pending.new
-        ≡ overflow (tell (retract who.now (rows_now parts.old.graph)) []
-        (so_far asking.now parts.old pending.old))) }
+        ≡ taken_of who.now (so_far asking.now parts.old pending.old)) }
     ensures steady { OnOk result (IsSteady parts.new.graph parts.new.standing.items) }
     ensures ready { OnOk result (IsReady asking.now parts.new pending.new) }
     ensures turned { IfOk result (λ made. AreTurnedWith (items_of made.undo.plan.changes)

@@ -9,25 +9,26 @@ use Rattle.std.specs.BTreeMap.{get}
 use Rattle.std.specs.List.{AllByRecursion}
 use Rattle.std.specs.List.Sorted.{IsStrictlySortedBy}
 use Rattle.std.specs.Ordering.{nat_cmp}
-use Rattle.ifmap_changes.specs.Between.{AreWithin, Asking, IsReady, IsWithin, left, rest_of, so_far}
+use Rattle.ifmap_changes.specs.Between.{AreWithin, Asking, IsReady, IsWithin, rest_of, sessions_left, so_far}
 use Rattle.ifmap_changes.specs.declared.parts.Parts.{Parts}
 use Rattle.ifmap_core.specs.Outcomes.{alone_told}
-use Rattle.ifmap_core.proofs.Ended.{remains, some_is}
+use Rattle.ifmap_core.proofs.Ended.{remains}
 use Rattle.ifmap_core.proofs.Places.{Rises, kept_fewer}
 use Rattle.ifmap_core.proofs.Subscribed.{live_left}
 use Rattle.ifmap_core.proofs.Told.{one_numbered, told_by_leaves}
 use Rattle.ifmap_graph.specs.Seen.{rows_now}
 use Rattle.ifmap_ident.specs.declared.codes.Code.TheVariants.{PollResultsTooBig}
 use Rattle.ifmap_lemmas.specs.Filters.{all_filter}
+use Rattle.ifmap_lemmas.specs.Options.{some_is}
 use Rattle.ifmap_machine.specs.Ending.{without_standing}
 use Rattle.ifmap_machine.specs.State as machine
 use Rattle.ifmap_machine.specs.Telling.{limit_note}
 use Rattle.ifmap_search.specs.declared.results.PollItem.{PollItem}
 use Rattle.ifmap_search.specs.declared.results.PollItem.TheVariants as the_item
 use Rattle.ifmap_search.specs.Sizes.{poll_size, queue_size}
-use Rattle.ifmap_session.specs.Sessions.{IsLive, Session, change, overflowed, session_order, session_with_serial, spare_of, without_sessions}
+use Rattle.ifmap_session.specs.Sessions.{IsLive, Session, change, session_order, session_with_serial, spare_of, with_error, without_sessions}
 use Rattle.ifmap_standing.specs.declared.standing.Standing.{Standing}
-use Rattle.ifmap_standing.specs.Standing.{shown}
+use Rattle.ifmap_standing.specs.Standing.{standing_of}
 use Rattle.ifmap_tellings.specs.declared.tellings.Pending.{Pending}
 use Rattle.ifmap_tellings.specs.declared.tellings.Telling.{Telling}
 use Rattle.ifmap_tellings.specs.declared.tellings.Telling.TheVariants.{After, Alone}
@@ -38,7 +39,7 @@ error_of size limit = the_item.Error None PollResultsTooBig (limit_note size lim
 
 -- what a session is told before does not matter
 alone_where : (size : ℕ) (o : Option Telling) (s : Session)
-    → overflowed (error_of size (told_where o s).limit) (told_where o s) ≡ overflowed (error_of size s.limit) s
+    → with_error (error_of size (told_where o s).limit) (told_where o s) ≡ with_error (error_of size s.limit) s
 alone_where size None s = refl
 alone_where size (Some (After items n)) s = refl
 alone_where size (Some (Alone error)) s = refl
@@ -51,45 +52,45 @@ module _ (n size : ℕ) (before after : Tellings) (live : List Session)
     (others : (m : ℕ) → m ≢ n → get nat_cmp after m ≡ get nat_cmp before m) where
   told_each : (s : Session) → session_with_serial n live ≡ Some s → (xs : List Session)
       → AllByRecursion (λ (x : Session). (x.serial == n) ≡ true → x ≡ s) xs
-      → map (told_by after) xs ≡ change n (λ (x : Session). overflowed (error_of size x.limit) x) (map (told_by before) xs)
+      → map (told_by after) xs ≡ change n (λ (x : Session). with_error (error_of size x.limit) x) (map (told_by before) xs)
   told_each s found [] one = refl
   told_each s found (x ∷ xs) one =
       let number : ((told_by before x).serial == n) ≡ (x.serial == n) = ap (λ (m : ℕ). m == n) (told_by_leaves before x).serial in
       elim (cases_Bool (x.serial == n)) [
         | inl hit ↦
             let limit : s.limit ≡ x.limit = ap (λ (y : Session). y.limit) (sym (one.0 hit)) in
-            let there : told_by after x ≡ overflowed (error_of size x.limit) x =
+            let there : told_by after x ≡ with_error (error_of size x.limit) x =
             ap (λ (m : ℕ). told_where (get nat_cmp after m) x) (eqb-true x.serial n hit)
             ∙ ap (λ (o : Option Telling). told_where o x) (told s found ∙ ap (λ (k : ℕ). Some (Alone (error_of size k))) limit) in
-            let here : cond ((told_by before x).serial == n) (overflowed (error_of size (told_by before x).limit) (told_by before x))
+            let here : cond ((told_by before x).serial == n) (with_error (error_of size (told_by before x).limit) (told_by before x))
             (told_by before x)
-            ≡ overflowed (error_of size x.limit) x =
-            ap (λ b. cond b (overflowed (error_of size (told_by before x).limit) (told_by before x)) (told_by before x)) (number ∙ hit)
+            ≡ with_error (error_of size x.limit) x =
+            ap (λ b. cond b (with_error (error_of size (told_by before x).limit) (told_by before x)) (told_by before x)) (number ∙ hit)
             ∙ alone_where size (get nat_cmp before x.serial) x in
             ap (λ t. t ∷ map (told_by after) xs) (there ∙ sym here)
-            ∙ ap (λ ts. cond ((told_by before x).serial == n) (overflowed (error_of size (told_by before x).limit) (told_by before x))
+            ∙ ap (λ ts. cond ((told_by before x).serial == n) (with_error (error_of size (told_by before x).limit) (told_by before x))
             (told_by before x) ∷ ts) (told_each s found xs one.1)
         | inr miss ↦
             let there : told_by after x ≡ told_by before x =
             ap (λ (o : Option Telling). told_where o x) (others x.serial (other_number x.serial n miss)) in
-            let here : cond ((told_by before x).serial == n) (overflowed (error_of size (told_by before x).limit) (told_by before x))
+            let here : cond ((told_by before x).serial == n) (with_error (error_of size (told_by before x).limit) (told_by before x))
             (told_by before x)
             ≡ told_by before x =
-            ap (λ b. cond b (overflowed (error_of size (told_by before x).limit) (told_by before x)) (told_by before x)) (number ∙ miss) in
+            ap (λ b. cond b (with_error (error_of size (told_by before x).limit) (told_by before x)) (told_by before x)) (number ∙ miss) in
             ap (λ t. t ∷ map (told_by after) xs) (there ∙ sym here)
-            ∙ ap (λ ts. cond ((told_by before x).serial == n) (overflowed (error_of size (told_by before x).limit) (told_by before x))
+            ∙ ap (λ ts. cond ((told_by before x).serial == n) (with_error (error_of size (told_by before x).limit) (told_by before x))
             (told_by before x) ∷ ts) (told_each s found xs one.1)
       ]
 
 -- one error is within each limit
-error_fits : (size : ℕ) (s : Session) → IsWithin s → IsWithin (overflowed (error_of size s.limit) s)
+error_fits : (size : ℕ) (s : Session) → IsWithin s → IsWithin (with_error (error_of size s.limit) s)
 error_fits size s w =
     let sum = sum_by-cons poll_size (error_of size s.limit) [] in
     let few : queue_size (error_of size s.limit ∷ []) ≤ s.limit = omega (arith, sum, w.wide) in
     record { full = grind (arith, nat_tests, few); wide = w.wide }
 
 errors_fit : (n size : ℕ) (live : List Session) → AreWithin live
-    → AreWithin (change n (λ (x : Session). overflowed (error_of size x.limit) x) live)
+    → AreWithin (change n (λ (x : Session). with_error (error_of size x.limit) x) live)
 errors_fit n size [] h = tt
 errors_fit n size (x ∷ live) h =
     elim (cases_Bool (x.serial == n)) [
@@ -98,7 +99,7 @@ errors_fit n size (x ∷ live) h =
     ]
 
 module _ (a : Asking) (old new : Parts) (before after : Pending) (n size : ℕ) (up : IsStrictlySortedBy session_order old.sessions.live)
-    (live : IsLive n (left a old.sessions)) (rows : new.graph ≡ old.graph) (standing : new.standing.items ≡ old.standing.items)
+    (live : IsLive n (sessions_left a old.sessions)) (rows : new.graph ≡ old.graph) (standing : new.standing.items ≡ old.standing.items)
     (sessions : HasSameSessions old.sessions new.sessions)
     (told : (s : Session) → session_with_serial n old.sessions.live ≡ Some s → get nat_cmp after.tellings n ≡ Some
     (Alone (error_of size s.limit)))
@@ -106,27 +107,27 @@ module _ (a : Asking) (old new : Parts) (before after : Pending) (n size : ℕ) 
   there : (s : Session) × (session_with_serial n old.sessions.live ≡ Some s)
   there = some_is (session_with_serial n old.sessions.live) (live_left a n old.sessions live)
 
-  told_now : map (told_by after.tellings) (left a new.sessions)
-      ≡ change n (λ (x : Session). overflowed (error_of size x.limit) x) (map (told_by before.tellings) (left a old.sessions))
+  told_now : map (told_by after.tellings) (sessions_left a new.sessions)
+      ≡ change n (λ (x : Session). with_error (error_of size x.limit) x) (map (told_by before.tellings) (sessions_left a old.sessions))
   told_now =
       ap (λ (l : List Session). map (told_by after.tellings) (without_sessions a.ended l)) sessions.live
-      ∙ told_each n size before.tellings after.tellings old.sessions.live told others there.0 there.1 (left a old.sessions)
+      ∙ told_each n size before.tellings after.tellings old.sessions.live told others there.0 there.1 (sessions_left a old.sessions)
       (all_filter (λ (x : Session). (x.serial == n) ≡ true → x ≡ there.0) (remains a.ended) old.sessions.live
       (one_numbered n old.sessions.live there.0 up there.1))
 
-  pub alone_so_far : map shown (kept_of after.gone.items old.standing.items)
-      ≡ without_standing (n ∷ []) (map shown (kept_of before.gone.items old.standing.items))
+  pub alone_so_far : map standing_of (kept_of after.gone.items old.standing.items)
+      ≡ without_standing (n ∷ []) (map standing_of (kept_of before.gone.items old.standing.items))
       → so_far a new after ≡ alone_told n size (so_far a old before)
   alone_so_far gone =
       ap (λ (k : ℕ). record (so_far a new after) { counter = k }) sessions.counter
       ∙ ap (λ h. record (so_far a new after) { counter = old.sessions.counter; graph = rows_now h }) rows
       ∙ ap (λ (l : List Session). record (so_far a old after) {
         sessions = l;
-        standing = map shown
+        standing = map standing_of
             (kept_of after.gone.items new.standing.items);
       }) told_now
       ∙ ap (λ (xs : List Standing). record (alone_told n size (so_far a old before)) {
-        standing = map shown
+        standing = map standing_of
             (kept_of after.gone.items xs);
       }) standing
       ∙ ap (λ (xs : List machine.Standing). record (alone_told n size (so_far a old before)) { standing = xs }) gone
@@ -143,7 +144,7 @@ module _ (a : Asking) (old new : Parts) (before after : Pending) (n size : ℕ) 
         kept = rw (rows, standing) (kept_fewer _ before.gone.items after.gone.items old.standing.items long more r.kept);
         live = rw (sessions.live, standing) (kept_fewer _ before.gone.items after.gone.items old.standing.items long more r.live);
         queues = rw (sessions.live) r.queues;
-        within = subst AreWithin (sym told_now) (errors_fit n size (map (told_by before.tellings) (left a old.sessions)) r.within);
+        within = subst AreWithin (sym told_now) (errors_fit n size (map (told_by before.tellings) (sessions_left a old.sessions)) r.within);
         can_tell = can_each r;
         sized = sized_each r;
         alone = rw standing (alone_each r long more bare);

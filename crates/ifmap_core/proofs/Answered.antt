@@ -1,4 +1,8 @@
 -- When the answer is Held or Heard, and when a poll is told of its session's end.
+-- Plan: (1) an answer that is no reply is given by no request but a poll; (2) a poll, by what is queued for it: `Held` where
+-- nothing is, never `Heard`, and the end of its session only where that waits; (3) each kind of request in turn gives a
+-- reply; (4) a poll asked again is judged by its session; (5) the same of whole events, of which a lost answer alone is
+-- `Heard`.
 use Rattle.std.proofs.Common.{◌≡◌, ◌↔◌, refl, sym, ◌∙◌, ap, subst, ℕ, Bool, true, false, List, [], ◌∷◌, Option, None, Some, inl, inr}
 use Rattle.std.proofs.lemmas.Bool.{cases_Bool}
 use Rattle.ifmap_core.specs.Causes.{AsksPoll, IsLoss, PollsNoSession, PollsNothing}

@@ -24,10 +24,10 @@ use Rattle.ifmap_machine.specs.State as machine
 use Rattle.ifmap_machine.specs.Subscribing.{Told, most_names}
 use Rattle.ifmap_replies.specs.declared.replies.Reply.TheVariants as the_reply
 use Rattle.ifmap_search.specs.Sizes.{queue_size}
-use Rattle.ifmap_session.specs.Sessions.{IsLive, Opening, Session, Table, begun, change, renewed, session_order, session_with_serial, without_sessions}
+use Rattle.ifmap_session.specs.Sessions.{IsLive, Opening, Session, Table, change, session_from, session_order, session_with_serial, with_last, without_sessions}
 use Rattle.ifmap_session.specs.laws.TableLaws.{renewed_keeps}
 use Rattle.ifmap_standing.specs.declared.standing.Standing.{Standing}
-use Rattle.ifmap_standing.specs.Standing.{shown}
+use Rattle.ifmap_standing.specs.Standing.{standing_of}
 use Rattle.ifmap_subscribes.specs.declared.renamings.Renaming.{Renaming}
 use Rattle.ifmap_subscribes.specs.Renamings.{AreRenamed, CanRenameEach, IsOfSession, rename_all, told_in_parts}
 
@@ -36,24 +36,24 @@ abbrev with_parts : State → ℕ → List Session → List machine.Standing →
 with_parts state counter sessions standing = record state { counter = counter; sessions = sessions; standing = standing }
 
 module _ (state : State) (moment counter : ℕ) (live : List Session) (standing : List Standing) (m : state.moment ≡ moment)
-    (s : state.sessions ≡ live) (n : state.counter ≡ counter) (t : state.standing ≡ map shown standing) where
+    (s : state.sessions ≡ live) (n : state.counter ≡ counter) (t : state.standing ≡ map standing_of standing) where
   abbrev Leaves : Outcome → ℕ → List Session → List machine.Standing → Answer → Type 0
   Leaves outcome later sessions standing answer =
       ◌≡◌ {A = State × Answer} (after_outcome outcome state) (with_parts state later sessions standing, answer)
 
-  pub say_leaves : (answer : Answer) → Leaves (Say answer) counter live (map shown standing) answer
+  pub say_leaves : (answer : Answer) → Leaves (Say answer) counter live (map standing_of standing) answer
   say_leaves answer = λ i. (with_parts state (n i) (s i) (t i), answer)
 
   pub accept_leaves : (serial later : ℕ) (answer : Answer) (sessions : List Session) → later ≡ counter
-      → sessions ≡ change serial (renewed moment) live → Leaves (Accept serial answer) later sessions (map shown standing) answer
+      → sessions ≡ change serial (with_last moment) live → Leaves (Accept serial answer) later sessions (map standing_of standing) answer
   accept_leaves serial later answer sessions c e =
       let number = n ∙ sym c in
-      let live_is = (λ i. change serial (renewed (m i)) (s i)) ∙ sym e in
+      let live_is = (λ i. change serial (with_last (m i)) (s i)) ∙ sym e in
       λ i. (with_parts state (number i) (live_is i) (t i), answer)
 
   pub end_leaves : (serial later : ℕ) (answer : Answer) (sessions : List Session) → later ≡ counter
       → sessions ≡ without_sessions (serial ∷ []) live → AllByRecursion (λ (x : Standing). x.serial ≢ serial) standing
-      → Leaves (End serial answer) later sessions (map shown standing) answer
+      → Leaves (End serial answer) later sessions (map standing_of standing) answer
   end_leaves serial later answer sessions c e bare =
       let number = n ∙ sym c in
       let live_is = ap (without_sessions (serial ∷ [])) s ∙ sym e in
@@ -61,42 +61,43 @@ module _ (state : State) (moment counter : ℕ) (live : List Session) (standing 
       λ i. (with_parts state (number i) (live_is i) (standing_is i), answer)
 
   pub open_leaves : (former : Option ℕ) (opening : Opening) (limit : ℕ) (publisher id : List ℕ) (later : ℕ) (sessions mid : List Session)
-      → id ≡ opening.id → later ≡ counter + 1 → mid ≡ after_former former live → sessions ≡ mid ++ begun opening limit moment ∷ []
+      → id ≡ opening.id → later ≡ counter + 1 → mid ≡ after_former former live → sessions ≡ mid ++ session_from opening limit moment ∷ []
       → IfSome former (λ n. AllByRecursion (λ (x : Standing). x.serial ≢ n) standing)
-      → Leaves (Open former opening limit publisher) later sessions (map shown standing)
+      → Leaves (Open former opening limit publisher) later sessions (map standing_of standing)
       (the_answer.Reply (the_reply.NewSession id publisher limit))
   open_leaves None opening limit publisher id later sessions mid name c f e bare =
       let number = ap (λ k. k + 1) n ∙ sym c in
-      let live_is = (λ i. s i ++ begun opening limit (m i) ∷ []) ∙ ap (λ l. l ++ begun opening limit moment ∷ []) (sym f) ∙ sym e in
+      let live_is = (λ i. s i ++ session_from opening limit (m i) ∷ []) ∙ ap (λ l. l ++ session_from opening limit moment ∷ []) (sym f)
+      ∙ sym e in
       λ i. (with_parts state (number i) (live_is i) (t i), the_answer.Reply (the_reply.NewSession (sym name i) publisher limit))
   open_leaves (Some k) opening limit publisher id later sessions mid name c f e bare =
       let number = ap (λ k. k + 1) n ∙ sym c in
-      let live_is = (λ i. without_sessions (k ∷ []) (s i) ++ begun opening limit (m i) ∷ [])
-      ∙ ap (λ l. l ++ begun opening limit moment ∷ []) (sym f) ∙ sym e in
+      let live_is = (λ i. without_sessions (k ∷ []) (s i) ++ session_from opening limit (m i) ∷ [])
+      ∙ ap (λ l. l ++ session_from opening limit moment ∷ []) (sym f) ∙ sym e in
       let standing_is = ap (without_standing (k ∷ [])) t ∙ bare_stays k standing bare in
       λ i. (with_parts state (number i) (live_is i) (standing_is i), the_answer.Reply (the_reply.NewSession (sym name i) publisher limit))
 
   pub poll_leaves : (serial later : ℕ) (again : Bool) (answer : Answer) (sessions : List Session) → later ≡ counter
       → poll_found state again (session_with_serial serial state.sessions) ≡ (record state { sessions = sessions }, answer)
-      → Leaves (Poll serial again) later sessions (map shown standing) answer
+      → Leaves (Poll serial again) later sessions (map standing_of standing) answer
   poll_leaves serial later again answer sessions c e =
       let number = n ∙ sym c in
       e ∙ (λ i. (with_parts state (number i) sessions (t i), answer))
 
   pub rename_leaves : (serial later : ℕ) (renamings : List Renaming) (mid sessions : List Session) (after : List Standing) (one : Session)
       → later ≡ counter → session_with_serial serial live ≡ Some one
-      → map shown after ≡ (rename_all serial renamings (record { queue = one.queue; standing = map shown standing })).standing
+      → map standing_of after ≡ (rename_all serial renamings (record { queue = one.queue; standing = map standing_of standing })).standing
       → mid ≡ change serial
       (λ (x : Session). record x {
-        queue = (rename_all serial renamings (record { queue = one.queue; standing = map shown standing })).queue;
+        queue = (rename_all serial renamings (record { queue = one.queue; standing = map standing_of standing })).queue;
       }) live
-      → sessions ≡ change serial (renewed moment) mid
-      → Leaves (Rename serial renamings) later sessions (map shown after) (the_answer.Reply the_reply.Subscribed)
+      → sessions ≡ change serial (with_last moment) mid
+      → Leaves (Rename serial renamings) later sessions (map standing_of after) (the_answer.Reply the_reply.Subscribed)
   rename_leaves serial later renamings mid sessions after one c found stands f e =
       let number = n ∙ sym c in
-      let live_is = (λ i. change serial (renewed (m i)) (change serial
+      let live_is = (λ i. change serial (with_last (m i)) (change serial
       (λ (x : Session). record x { queue = (rename_all serial renamings (record { queue = one.queue; standing = t i })).queue }) (s i)))
-      ∙ ap (λ l. change serial (renewed moment) l) (sym f) ∙ sym e in
+      ∙ ap (λ l. change serial (with_last moment) l) (sym f) ∙ sym e in
       let standing_is = (λ i. (rename_all serial renamings (record { queue = one.queue; standing = t i })).standing) ∙ sym stands in
       ap (λ o. (rename_in serial renamings state o, the_answer.Reply the_reply.Subscribed))
       (ap (λ l. session_with_serial serial l) s ∙ found)
@@ -120,11 +121,11 @@ module _ (serial moment : ℕ) (renamings : List Renaming) (old new : Parts) (ta
     (rising : IsStrictlySortedBy session_order old.sessions.live)
     (session : AllByRecursion (IsOfSession serial) renamings) (fits : FitsAfter serial renamings old) (one : Session)
     (found : session_with_serial serial old.sessions.live ≡ Some one) (are : AreRenamed serial renamings old new)
-    (rest : CanRenameEach serial [] new) (moved : table.live ≡ change serial (renewed moment) new.sessions.live) where
+    (rest : CanRenameEach serial [] new) (moved : table.live ≡ change serial (with_last moment) new.sessions.live) where
   abbrev told : Told
   told = told_in_parts old one
 
-  stands : map shown new.standing.items ≡ (rename_all serial renamings told).standing
+  stands : map standing_of new.standing.items ≡ (rename_all serial renamings told).standing
   stands = (are.told one found).0
 
   abbrev told_live : List Session
@@ -132,7 +133,7 @@ module _ (serial moment : ℕ) (renamings : List Renaming) (old new : Parts) (ta
 
   now_live : (n : ℕ) → IsLive n old.sessions.live → IsLive n table.live
   now_live n l =
-      subst (IsLive n) (sym moved) (live_changed serial (renewed moment) (renewed_keeps moment) n new.sessions.live
+      subst (IsLive n) (sym moved) (live_changed serial (with_last moment) (renewed_keeps moment) n new.sessions.live
       (subst (IsLive n) (sym (are.told one found).1) (live_changed serial
       (λ (x : Session). record x { queue = (rename_all serial renamings told).queue })
       (record { serial = λ s. refl; id = λ s. refl; client = λ s. refl }) n old.sessions.live l)))
@@ -140,11 +141,11 @@ module _ (serial moment : ℕ) (renamings : List Renaming) (old new : Parts) (ta
   own_live : IsLive serial table.live
   own_live = now_live serial (rw found refl)
 
-  few_after : (n : ℕ) → length (standing_in n (map shown new.standing.items)) ≤ most_names
+  few_after : (n : ℕ) → length (standing_in n (map standing_of new.standing.items)) ≤ most_names
   few_after n = elim (cases_Bool (serial == n)) [
     | inl same ↦
         let is : serial ≡ n = is_number serial n same in
-        subst (λ k. length (standing_in k (map shown new.standing.items)) ≤ most_names) is
+        subst (λ k. length (standing_in k (map standing_of new.standing.items)) ≤ most_names) is
         (subst (λ t. length (standing_in serial t) ≤ most_names) (sym stands) (fits one found).1)
     | inr other ↦
         let less = others_few serial n (λ e. not_same n e other) renamings told session in
@@ -160,7 +161,7 @@ module _ (serial moment : ℕ) (renamings : List Renaming) (old new : Parts) (ta
     steady = subst (IsSteady new.graph) (append-nil new.standing.items) rest.steady;
     ordered = record {
       rising = rest.ordered;
-      live = all_of_map (λ (x : machine.Standing). IsLive x.serial table.live) shown new.standing.items
+      live = all_of_map (λ (x : machine.Standing). IsLive x.serial table.live) standing_of new.standing.items
           (subst (AllByRecursion (λ (x : machine.Standing). IsLive x.serial table.live)) (sym stands)
           (all_renamed serial (λ (x : machine.Standing). IsLive x.serial table.live)
           (λ x e. subst (λ n. IsLive n table.live) (sym e) own_live) renamings told session
@@ -175,6 +176,6 @@ module _ (serial moment : ℕ) (renamings : List Renaming) (old new : Parts) (ta
   }
     where
       all_shown : (xs : List Standing) → AllByRecursion (λ (x : Standing). IsLive x.serial old.sessions.live) xs
-          → AllByRecursion (λ (x : machine.Standing). IsLive x.serial table.live) (map shown xs)
+          → AllByRecursion (λ (x : machine.Standing). IsLive x.serial table.live) (map standing_of xs)
       all_shown [] h = tt
       all_shown (x ∷ xs) h = (now_live x.serial h.0, all_shown xs h.1)

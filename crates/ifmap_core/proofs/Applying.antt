@@ -11,10 +11,11 @@ use Rattle.std.specs.Option.{IfSome}
 use Rattle.std.specs.declared.cmp.Ordering.TheVariants.{Less}
 use Rattle.ifmap_changes.specs.Between.{AreOrdered, AreWithin, CanEnd, IsWithin}
 use Rattle.ifmap_core.specs.Outcomes.{after_former, first_renewed, poll_answer, poll_found}
-use Rattle.ifmap_core.proofs.Ended.{is_some_of, live_beside, remains, some_is, without_each, without_none}
+use Rattle.ifmap_core.proofs.Ended.{live_beside, remains, without_each, without_none}
 use Rattle.ifmap_lemmas.specs.Filters.{all_filter, all_weaker}
-use Rattle.ifmap_lemmas.specs.Members.{both_all}
+use Rattle.ifmap_lemmas.specs.Members.{both_all, all_two}
 use Rattle.ifmap_lemmas.specs.Numbers.{is_other}
+use Rattle.ifmap_lemmas.specs.Options.{is_some_of, some_is}
 use Rattle.ifmap_machine.specs.declared.events.Answer.TheVariants as the_answer
 use Rattle.ifmap_machine.specs.Ending.{without_standing}
 use Rattle.ifmap_machine.specs.State.{State}
@@ -23,10 +24,10 @@ use Rattle.ifmap_machine.specs.Telling.{is_overfull}
 use Rattle.ifmap_replies.specs.declared.replies.Reply.TheVariants as the_reply
 use Rattle.ifmap_search.specs.declared.results.PollItem.{PollItem}
 use Rattle.ifmap_search.specs.Sizes.{queue_size}
-use Rattle.ifmap_session.specs.Sessions.{IsLive, Opening, Session, begun, change, emptied, renewed, session_order, session_with_serial, without_sessions}
+use Rattle.ifmap_session.specs.Sessions.{IsLive, Opening, Session, change, session_from, session_order, session_with_serial, with_last, without_items, without_sessions}
 use Rattle.ifmap_session.specs.laws.TableLaws.{Keeps, changed_one, found_beside_begun, found_changed, renewed_keeps}
 use Rattle.ifmap_standing.specs.declared.standing.Standing.{Standing}
-use Rattle.ifmap_standing.specs.Standing.{shown}
+use Rattle.ifmap_standing.specs.Standing.{standing_of}
 
 -- ---- queues stay within their limits
 
@@ -39,14 +40,14 @@ within_changed n f keeps (s ∷ live) h =
       | inr miss ↦ (rw miss h.0, within_changed n f keeps live h.1)
     ]
 
-pub within_renewed : (n moment : ℕ) (live : List Session) → AreWithin live → AreWithin (change n (renewed moment) live)
-within_renewed n moment live h = within_changed n (renewed moment) (λ s w. record { full = w.full; wide = w.wide }) live h
+pub within_renewed : (n moment : ℕ) (live : List Session) → AreWithin live → AreWithin (change n (with_last moment) live)
+within_renewed n moment live h = within_changed n (with_last moment) (λ s w. record { full = w.full; wide = w.wide }) live h
 
-emptied_full : (s : Session) → is_overfull (emptied s) ≡ false
+emptied_full : (s : Session) → is_overfull (without_items s) ≡ false
 emptied_full s = grind (arith, nat_tests)
 
-pub within_emptied : (n : ℕ) (live : List Session) → AreWithin live → AreWithin (change n emptied live)
-within_emptied n live h = within_changed n emptied (λ s w. record { full = emptied_full s; wide = w.wide }) live h
+pub within_emptied : (n : ℕ) (live : List Session) → AreWithin live → AreWithin (change n without_items live)
+within_emptied n live h = within_changed n without_items (λ s w. record { full = emptied_full s; wide = w.wide }) live h
 
 pub within_first : (again : Bool) (n moment : ℕ) (live : List Session) → AreWithin live → AreWithin (first_renewed again n moment live)
 within_first true n moment live h = h
@@ -59,13 +60,13 @@ pub within_former : (former : Option ℕ) (live : List Session) → AreWithin li
 within_former None live h = h
 within_former (Some n) live h = within_left (n ∷ []) live h
 
-begun_full : (opening : Opening) (limit moment : ℕ) → is_overfull (begun opening limit moment) ≡ false
+begun_full : (opening : Opening) (limit moment : ℕ) → is_overfull (session_from opening limit moment) ≡ false
 begun_full opening limit moment = grind (arith, nat_tests)
 
 pub within_begun : (opening : Opening) (limit moment : ℕ) (live : List Session) → 100 ≤ limit → AreWithin live
-    → AreWithin (live ++ begun opening limit moment ∷ [])
+    → AreWithin (live ++ session_from opening limit moment ∷ [])
 within_begun opening limit moment live wide h =
-    both_all IsWithin live (begun opening limit moment ∷ []) h (record { full = begun_full opening limit moment; wide = wide }, tt)
+    both_all IsWithin live (session_from opening limit moment ∷ []) h (record { full = begun_full opening limit moment; wide = wide }, tt)
 
 not_full : (s : Session) (queue : List PollItem) → queue_size queue ≤ s.limit → is_overfull (record s { queue = queue }) ≡ false
 not_full s queue le = grind (arith, nat_tests, le)
@@ -105,7 +106,7 @@ fits_within n queue (x ∷ live) up h fits =
 
 -- where the queue is empty, emptying it changes nothing
 pub emptied_same : (n : ℕ) (live : List Session) (s : Session) → IsStrictlySortedBy session_order live → session_with_serial n live ≡ Some s
-    → s.queue ≡ [] → change n emptied live ≡ live
+    → s.queue ≡ [] → change n without_items live ≡ live
 unfolding IsStrictlySortedBy
 emptied_same n [] s up e none = refl
 emptied_same n (x ∷ live) s up e none =
@@ -113,7 +114,7 @@ emptied_same n (x ∷ live) s up e none =
       | inl hit ↦
           let same : x ≡ s = cc (rw hit at e) in
           let queue : x.queue ≡ [] = ap (λ (t : Session). t.queue) same ∙ none in
-          rw (hit, others_same n x emptied live hit up.0) (ap (λ q. record x { queue = q } ∷ live) (sym queue))
+          rw (hit, others_same n x without_items live hit up.0) (ap (λ q. record x { queue = q } ∷ live) (sym queue))
       | inr miss ↦ rw miss (ap (λ t. x ∷ t) (emptied_same n live s up.1 (rw miss at e) none))
     ]
 
@@ -121,14 +122,14 @@ pub told_some : (items : List PollItem) → (items ≡ [] → ⊥) → poll_answ
 told_some [] some = absurd (some refl)
 told_some (item ∷ items) some = refl
 
-pub emptied_keeps : Keeps emptied
+pub emptied_keeps : Keeps without_items
 emptied_keeps = record { serial = λ s. refl; id = λ s. refl; client = λ s. refl }
 
-pub live_emptied : (n : ℕ) (live : List Session) → IsLive n live → IsLive n (change n emptied live)
+pub live_emptied : (n : ℕ) (live : List Session) → IsLive n live → IsLive n (change n without_items live)
 live_emptied n live l =
     let there = some_is (session_with_serial n live) l in
-    is_some_of (session_with_serial n (change n emptied live)) (changed_one n emptied there.0)
-    (found_changed n emptied emptied_keeps n live there.0 there.1)
+    is_some_of (session_with_serial n (change n without_items live)) (changed_one n without_items there.0)
+    (found_changed n without_items emptied_keeps n live there.0 there.1)
 
 first_is : (again : Bool) (n : ℕ) (state : State)
     → renew_first again n state ≡ record state { sessions = first_renewed again n state.moment state.sessions }
@@ -138,18 +139,19 @@ first_is false n state = refl
 pub poll_told : (state : State) (again : Bool) (n : ℕ) (s : Session) → IsStrictlySortedBy session_order state.sessions
     → session_with_serial n state.sessions ≡ Some s → (items : List PollItem) → items ≡ s.queue
     → poll_found state again (session_with_serial n state.sessions)
-    ≡ (record state { sessions = first_renewed again n state.moment (change n emptied state.sessions) }, poll_answer items)
+    ≡ (record state { sessions = first_renewed again n state.moment (change n without_items state.sessions) }, poll_answer items)
 poll_told state again n s up found items is =
     let serial = numbered n state.sessions s found in
     rw (found, ← is, serial) (queue_told items is)
   where
     queue_told : (list : List PollItem) → list ≡ s.queue
         → poll_queue state again (record s { serial = n }) list
-        ≡ (record state { sessions = first_renewed again n state.moment (change n emptied state.sessions) }, poll_answer list)
+        ≡ (record state { sessions = first_renewed again n state.moment (change n without_items state.sessions) }, poll_answer list)
     queue_told [] is =
         rw (emptied_same n state.sessions s up found (sym is)) (ap (λ (t : State). (t, poll_answer [])) (first_is again n state))
     queue_told (item ∷ list) is =
-        ap (λ (t : State). (t, poll_answer (item ∷ list))) (first_is again n (record state { sessions = change n emptied state.sessions }))
+        ap (λ (t : State). (t, poll_answer (item ∷ list)))
+        (first_is again n (record state { sessions = change n without_items state.sessions }))
 
 -- ---- sessions end one after the other
 
@@ -217,7 +219,7 @@ module _ (n : ℕ) (f : Session → Session) (k : Keeps f) where
 
 pub live_first : (again : Bool) (n moment m : ℕ) (live : List Session) → IsLive m live → IsLive m (first_renewed again n moment live)
 live_first true n moment m live l = l
-live_first false n moment m live l = live_changed n (renewed moment) (renewed_keeps moment) m live l
+live_first false n moment m live l = live_changed n (with_last moment) (renewed_keeps moment) m live l
 
 pub live_begun : (m : ℕ) (live : List Session) (s : Session) → IsLive m live → IsLive m (live ++ s ∷ [])
 live_begun m live s l =
@@ -238,11 +240,6 @@ ordered_moved old new moves standing o =
     ordered_by old new standing o (all_weaker (λ (x : Standing). IsLive x.serial old) (λ (x : Standing). IsLive x.serial new)
     (λ x l. moves x.serial l) standing o.live)
 
-pub all_two : {X : Type 0} (P Q R : X → Type 0) → ((x : X) → P x → Q x → R x) → (xs : List X) → AllByRecursion P xs → AllByRecursion Q xs
-    → AllByRecursion R xs
-all_two P Q R f [] p q = tt
-all_two P Q R f (x ∷ xs) p q = (f x p.0 q.0, all_two P Q R f xs p.1 q.1)
-
 -- where a session ends that has no subscription
 pub ordered_beside : (n : ℕ) (live : List Session) (standing : List Standing) → AllByRecursion (λ (x : Standing). x.serial ≢ n) standing
     → AreOrdered live standing → AreOrdered (without_sessions (n ∷ []) live) standing
@@ -253,11 +250,11 @@ ordered_beside n live standing bare o =
 
 -- whose subscriptions are those that stand
 pub bare_stays : (n : ℕ) (standing : List Standing) → AllByRecursion (λ (x : Standing). x.serial ≢ n) standing
-    → without_standing (n ∷ []) (map shown standing) ≡ map shown standing
+    → without_standing (n ∷ []) (map standing_of standing) ≡ map standing_of standing
 bare_stays n [] bare = refl
 bare_stays n (x ∷ xs) bare =
     let other : (n == x.serial) ≡ false = is_other n x.serial (λ e. bare.0 (sym e)) in
-    rw other (ap (λ t. shown x ∷ t) (bare_stays n xs bare.1))
+    rw other (ap (λ t. standing_of x ∷ t) (bare_stays n xs bare.1))
 
 pub former_ordered : (former : Option ℕ) (live : List Session) (standing : List Standing)
     → IfSome former (λ n. AllByRecursion (λ (x : Standing). x.serial ≢ n) standing) → AreOrdered live standing

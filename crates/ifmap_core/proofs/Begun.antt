@@ -9,7 +9,7 @@ use Rattle.std.proofs.lemmas.Option.{same_Some}
 use Rattle.std.specs.List.{IsDistinct}
 use Rattle.std.specs.Option.{IfSome, option_map}
 use Rattle.std.specs.Result.{IfOk}
-use Rattle.ifmap_changes.specs.Between.{AreKept, AreOrdered, AreTurned, AreWithin, Asking, CanEnd, IsBare, IsReady, IsSteady, left, rest_of, so_far}
+use Rattle.ifmap_changes.specs.Between.{AreKept, AreOrdered, AreTurned, AreWithin, Asking, CanEnd, IsBare, IsReady, IsSteady, rest_of, sessions_left, so_far}
 use Rattle.ifmap_changes.specs.declared.parts.Parts.{Parts}
 use Rattle.ifmap_core.specs.Outcomes.{CanOpen, LeadsTo, after_former, after_outcome, drop_former, open_session, taken_former}
 use Rattle.ifmap_core.specs.declared.outcomes.Outcome.{Outcome}
@@ -26,7 +26,7 @@ use Rattle.ifmap_machine.specs.State.{State}
 use Rattle.ifmap_machine.specs.Step.{begin_session, is_full, new_session, next_session, refusal}
 use Rattle.ifmap_replies.specs.declared.replies.Reply.TheVariants as the_reply
 use Rattle.ifmap_session.specs.SessionIds.{session_id}
-use Rattle.ifmap_session.specs.Sessions.{IsAsBefore, IsLive, IsTable, Opening, Session, Table, begun, is_text, limit_of, most_sessions, session_of_client, spare_of, without_sessions}
+use Rattle.ifmap_session.specs.Sessions.{IsAsBefore, IsLive, IsTable, Opening, Session, Table, is_text, limit_of, most_sessions, session_from, session_of_client, spare_of, without_sessions}
 use Rattle.ifmap_session.specs.laws.TableLaws.{client_freed, one_fewer, shorter}
 use Rattle.ifmap_session.specs.laws.TextLaws.{distinct_filter}
 use Rattle.ifmap_tellings.specs.declared.tellings.Pending.{Pending}
@@ -132,21 +132,22 @@ none_mapped f (Some s) = refl
 
 pub full_is : (a : Asking) (table : Table) (parts : Parts) (pending : Pending) → parts.sessions ≡ table
     → is_full (so_far a parts pending) a.client
-    ≡ ((nat_le most_sessions (length (left a table)) && is_none (session_of_client a.client (left a table)))
+    ≡ ((nat_le most_sessions (length (sessions_left a table)) && is_none (session_of_client a.client (sessions_left a table)))
     || (table.counter == 2 ^ 64 - 1))
 full_is a table parts pending e =
     let f : Session → Session = told_by pending.tellings in
-    let live : List Session = left a parts.sessions in
+    let live : List Session = sessions_left a parts.sessions in
     let count : length (map f live) ≡ length live = length-map live f in
     let none : is_none (session_of_client a.client (map f live)) ≡ is_none (session_of_client a.client live) =
     ap is_none (client_mapped f a.client (client_told pending.tellings a.client) live) ∙ none_mapped f (session_of_client a.client live) in
     (λ i. (nat_le most_sessions (count i) && none i) || (parts.sessions.counter == 2 ^ 64 - 1))
-    ∙ ap (λ (t : Table). (nat_le most_sessions (length (left a t)) && is_none (session_of_client a.client (left a t)))
+    ∙ ap (λ (t : Table). (nat_le most_sessions (length (sessions_left a t)) && is_none (session_of_client a.client (sessions_left a t)))
     || (t.counter == 2 ^ 64 - 1)) e
 
 -- by what was found of both causes
 module _ (a : Asking) (table : Table) (parts : Parts) (pending : Pending) (e : parts.sessions ≡ table) (taken : Bool)
-    (is : taken ≡ (nat_le most_sessions (length (left a table)) && is_none (session_of_client a.client (left a table)))) where
+    (is : taken ≡ (nat_le most_sessions (length (sessions_left a table))
+    && is_none (session_of_client a.client (sessions_left a table)))) where
   pub full_where_taken : taken ≡ true → taken ≡ is_full (so_far a parts pending) a.client
   full_where_taken is_so = is_so ∙ sym (full_is a table parts pending e ∙ ap (λ b. b || (table.counter == 2 ^ 64 - 1)) (sym is ∙ is_so))
 
@@ -199,12 +200,12 @@ ended_former former (Some s) state e = ap (λ f. drop_former f (taken_former f s
 
 -- the serial of the session that a client has so far
 pub former_so_far : (a : Asking) (parts : Parts) (pending : Pending) → option_map (λ (s : Session). s.serial)
-    (session_of_client a.client (left a parts.sessions))
+    (session_of_client a.client (sessions_left a parts.sessions))
     ≡ option_map (λ (s : Session). s.serial) (session_of_client a.client (so_far a parts pending).sessions)
 former_so_far a parts pending =
-    by (session_of_client a.client (left a parts.sessions))
+    by (session_of_client a.client (sessions_left a parts.sessions))
     ∙ ap (option_map (λ (s : Session). s.serial))
-    (sym (client_mapped (told_by pending.tellings) a.client (client_told pending.tellings a.client) (left a parts.sessions)))
+    (sym (client_mapped (told_by pending.tellings) a.client (client_told pending.tellings a.client) (sessions_left a parts.sessions)))
   where
     by : (o : Option Session) → option_map (λ (s : Session). s.serial) o
         ≡ option_map (λ (s : Session). s.serial) (option_map (told_by pending.tellings) o)
@@ -220,7 +221,7 @@ counter_ended None state = refl
 counter_ended (Some s) state = refl
 
 open_is : (former : Option ℕ) (opening : Opening) (count : ℕ) (state : State) → open_session former opening count state
-    ≡ with_begun (begun opening count) (drop_former former state)
+    ≡ with_begun (session_from opening count) (drop_former former state)
 open_is None opening count state = refl
 open_is (Some n) opening count state = refl
 
@@ -233,15 +234,16 @@ module _ (a : Asking) (old new : Parts) (pending after : Pending) (random : ℕ)
 
   -- the session that is begun is the next one
   begun_is : (state : State) → state.counter ≡ old.sessions.counter → (moment : ℕ)
-      → begun opening count moment
-      ≡ begun (record { serial = state.counter + 1; id = session_id (state.counter + 1) random; client = a.client }) (limit_of limit) moment
+      → session_from opening count moment
+      ≡ session_from (record { serial = state.counter + 1; id = session_id (state.counter + 1) random; client = a.client })
+      (limit_of limit) moment
   begun_is state e moment =
       let n : opening.serial ≡ state.counter + 1 = number ∙ ap (λ k. k + 1) (sym e) in
       let i : opening.id ≡ session_id (state.counter + 1) random = id ∙ ap (λ k. session_id k random) n in
-      (λ t. begun (record { serial = n t; id = i t; client = owner t }) (counted t) moment)
+      (λ t. session_from (record { serial = n t; id = i t; client = owner t }) (counted t) moment)
 
   -- what it leads to
-  leads : former ≡ option_map (λ (s : Session). s.serial) (session_of_client a.client (left a old.sessions))
+  leads : former ≡ option_map (λ (s : Session). s.serial) (session_of_client a.client (sessions_left a old.sessions))
       → is_full (so_far a old pending) a.client ≡ false → so_far a new after ≡ taken_former former (so_far a old pending)
       → after_outcome (Open former opening count publisher) (so_far a new after) ≡ new_session (so_far a old pending) a.client random limit
   leads same free told =
@@ -250,7 +252,7 @@ module _ (a : Asking) (old new : Parts) (pending after : Pending) (random : ℕ)
       let ended : State = end_former mine state in
       let dropped : drop_former former (so_far a new after) ≡ ended =
       ap (drop_former former) told ∙ ended_former former mine state (same ∙ former_so_far a old pending) in
-      let one : begun opening count ended.moment ≡ next_session ended a.client random limit =
+      let one : session_from opening count ended.moment ≡ next_session ended a.client random limit =
       begun_is ended (counter_ended mine state) ended.moment in
       let id_is : opening.id ≡ session_id (state.counter + 1) random = id ∙ ap (λ k. session_id k random) number in
       let whole : new_session state a.client random limit ≡ (
@@ -258,7 +260,7 @@ module _ (a : Asking) (old new : Parts) (pending after : Pending) (random : ℕ)
         the_answer.Reply (the_reply.NewSession (session_id (state.counter + 1) random) a.client (limit_of limit)),
       ) = rw free refl in
       ap (λ (t : State). (t, the_answer.Reply (the_reply.NewSession opening.id publisher count)))
-      (open_is former opening count (so_far a new after) ∙ ap (with_begun (begun opening count)) dropped)
+      (open_is former opening count (so_far a new after) ∙ ap (with_begun (session_from opening count)) dropped)
       ∙ (λ i. (
         record ended { counter = ended.counter + 1; sessions = ended.sessions ++ one i ∷ [] },
         the_answer.Reply (the_reply.NewSession (id_is i) (name i) (counted i)),
@@ -266,38 +268,38 @@ module _ (a : Asking) (old new : Parts) (pending after : Pending) (random : ℕ)
       ∙ sym whole
 
   -- and that it can be done
-  can_open : former ≡ option_map (λ (s : Session). s.serial) (session_of_client a.client (left a old.sessions))
+  can_open : former ≡ option_map (λ (s : Session). s.serial) (session_of_client a.client (sessions_left a old.sessions))
       → is_full (so_far a old pending) a.client ≡ false → (table : Table) → IsTable table → IsAsBefore old.sessions table
-      → HasSameSessions table new.sessions → 1 ≤ table.room → IfSome former (λ n. IsLive n (left a old.sessions))
+      → HasSameSessions table new.sessions → 1 ≤ table.room → IfSome former (λ n. IsLive n (sessions_left a old.sessions))
       → CanOpen former opening count (rest_of a new.sessions)
   can_open same free table whole b h room live =
-      let live_is : left a table ≡ left a new.sessions = ap (without_sessions a.ended) (sym h.live) in
-      let before : left a old.sessions ≡ left a table = ap (without_sessions a.ended) (sym b.live) in
+      let live_is : sessions_left a table ≡ sessions_left a new.sessions = ap (without_sessions a.ended) (sym h.live) in
+      let before : sessions_left a old.sessions ≡ sessions_left a table = ap (without_sessions a.ended) (sym b.live) in
       let counter_is : new.sessions.counter ≡ old.sessions.counter = h.counter ∙ b.counter in
-      let o : Option Session = session_of_client a.client (left a table) in
+      let o : Option Session = session_of_client a.client (sessions_left a table) in
       let same_now : former ≡ option_map (λ (s : Session). s.serial) o =
       same ∙ ap (λ l. option_map (λ (s : Session). s.serial) (session_of_client a.client l)) before in
-      let few : length (left a table) ≤ most_sessions =
+      let few : length (sessions_left a table) ≤ most_sessions =
       (let less = shorter (remains a.ended) table.live in let most = whole.few in omega (arith, less, most)) in
-      let test : (nat_le most_sessions (length (left a table)) && is_none o) ≡ false =
+      let test : (nat_le most_sessions (length (sessions_left a table)) && is_none o) ≡ false =
       (or_parts _ _ (sym (full_is a table (with_table old table b) pending refl)
       ∙ ap (λ (t : State). is_full t a.client) (so_far_with old table b a pending) ∙ free)).0 in
       record {
         room = let more = h.room in omega (arith, room, more);
         live = subst (λ l. IfSome former (λ n. IsLive n l)) (before ∙ live_is) live;
         none = subst (λ l. session_of_client opening.client (after_former former l) ≡ None) live_is
-            (rw (owner, same_now) (freed table a.client (left a table) o refl
+            (rw (owner, same_now) (freed table a.client (sessions_left a table) o refl
             (distinct_filter (λ (s : Session). s.client) (remains a.ended) table.live whole.apart)));
         few = subst (λ l. length (after_former former l) < most_sessions) live_is
-            (rw same_now (fewer table a.client (left a table) o refl few test));
+            (rw same_now (fewer table a.client (sessions_left a table) o refl few test));
         counter = subst (λ n. n < 2 ^ 64 - 1) (sym counter_is) next;
         next = number ∙ ap (λ n. n + 1) (sym counter_is);
         wide = subst (λ n. 100 ≤ n) (sym counted) (wide_limit limit);
       }
 
-  pub begins : former ≡ option_map (λ (s : Session). s.serial) (session_of_client a.client (left a old.sessions))
+  pub begins : former ≡ option_map (λ (s : Session). s.serial) (session_of_client a.client (sessions_left a old.sessions))
       → is_full (so_far a old pending) a.client ≡ false → (table : Table) → IsTable table → (b : IsAsBefore old.sessions table)
-      → HasSameSessions table new.sessions → 1 ≤ table.room → IfSome former (λ n. IsLive n (left a old.sessions))
+      → HasSameSessions table new.sessions → 1 ≤ table.room → IfSome former (λ n. IsLive n (sessions_left a old.sessions))
       → so_far a new after ≡ taken_former former (so_far a (with_table old table b) pending) → IsSteady new.graph new.standing.items
       → IsReady a new after → IfSome former (λ n. IsBare n new after)
       → LeadsTo (Open former opening count publisher) a new after (new_session (so_far a old pending) a.client random limit)

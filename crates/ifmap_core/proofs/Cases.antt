@@ -5,7 +5,7 @@ use Rattle.std.proofs.Common.{◌≡◌, refl, sym, ◌∙◌, ap, subst, ℕ, �
 use Rattle.std.proofs.lemmas.Bool.{cases_Bool}
 use Rattle.std.proofs.lemmas.Bool.Decides.{nat_tests}
 use Rattle.std.specs.Result.{IfOk}
-use Rattle.ifmap_changes.specs.Between.{Asking, IsReady, IsSteady, left, so_far}
+use Rattle.ifmap_changes.specs.Between.{Asking, IsReady, IsSteady, sessions_left, so_far}
 use Rattle.ifmap_changes.specs.Changes.{taken_one}
 use Rattle.ifmap_changes.specs.declared.parts.Parts.{Parts}
 use Rattle.ifmap_core.specs.declared.outcomes.Outcome.{Outcome}
@@ -13,11 +13,11 @@ use Rattle.ifmap_core.specs.declared.outcomes.Outcome.TheVariants.{Say, Accept}
 use Rattle.ifmap_core.specs.declared.owning.Owner.{Owner}
 use Rattle.ifmap_core.specs.declared.owning.Owner.TheVariants.{Own, Another, Nobody}
 use Rattle.ifmap_core.specs.Outcomes.{CanApply, IsOwner, LeadsTo, after_outcome, end_of_poll, held_by, poll_found}
-use Rattle.ifmap_core.proofs.Ended.{is_some_of}
 use Rattle.ifmap_core.proofs.Taking.{taken_is}
 use Rattle.ifmap_core.proofs.Told.{owner_told}
 use Rattle.ifmap_fresh.specs.Fresh.{fresh, fresh_size}
 use Rattle.ifmap_ident.specs.declared.codes.Code.TheVariants.{AccessDenied, InvalidSessionID, SearchResultsTooBig}
+use Rattle.ifmap_lemmas.specs.Options.{is_some_of}
 use Rattle.ifmap_machine.specs.declared.events.Answer.{Answer}
 use Rattle.ifmap_machine.specs.declared.events.Answer.TheVariants as the_answer
 use Rattle.ifmap_machine.specs.Ending.{drop_sessions, end_some}
@@ -66,16 +66,17 @@ module _ (a : Asking) (parts : Parts) (pending : Pending) where
       subst (λ (o : Outcome). LeadsTo o a parts pending wanted) (sym is) (leads_said steady ready answer wanted e)
   says steady ready answer wanted e (Err error) is = tt
 
-  pub owner_so_far : (id client : List ℕ) (o : Owner) → IsOwner (left a parts.sessions) id client o
+  pub owner_so_far : (id client : List ℕ) (o : Owner) → IsOwner (sessions_left a parts.sessions) id client o
       → IsOwner (so_far a parts pending).sessions id client o
-  owner_so_far id client o is = owner_told pending.tellings (left a parts.sessions) id client o is
+  owner_so_far id client o is = owner_told pending.tellings (sessions_left a parts.sessions) id client o is
 
 -- a session that is the client's is left
 pub own_left : (live : List Session) (id client : List ℕ) (serial : ℕ) → IsOwner live id client (Own serial) → IsLive serial live
 own_left live id client serial o = is_some_of (session_with_serial serial live) o.0 o.4
 
-pub live_after : (a : Asking) (n : ℕ) (old new : Table) → HasSameSessions old new → IsLive n (left a old) → IsLive n (left a new)
-live_after a n old new same l = subst (λ (live : List Session). IsLive n (left a (record old { live = live }))) (sym same.live) l
+pub live_after : (a : Asking) (n : ℕ) (old new : Table) → HasSameSessions old new → IsLive n (sessions_left a old)
+    → IsLive n (sessions_left a new)
+live_after a n old new same l = subst (λ (live : List Session). IsLive n (sessions_left a (record old { live = live }))) (sym same.live) l
 
 -- ---- requests in the client's own session
 
@@ -213,12 +214,13 @@ module _ (state : State) (id client : List ℕ) where
 module _ (a : Asking) (parts : Parts) (pending : Pending) (steady : IsSteady parts.graph parts.standing.items)
     (ready : IsReady a parts pending) where
   -- accepted in a session that is left
-  pub accepts : (serial : ℕ) (answer : Answer) (wanted : State × Answer) → IsLive serial (left a parts.sessions)
+  pub accepts : (serial : ℕ) (answer : Answer) (wanted : State × Answer) → IsLive serial (sessions_left a parts.sessions)
       → ◌≡◌ {A = State × Answer} (renew serial (so_far a parts pending), answer) wanted
       → LeadsTo (Accept serial answer) a parts pending wanted
   accepts serial answer wanted live e = leads_plain a parts pending steady ready (Accept serial answer) refl live wanted e
 
-  pub another : {E : Type 0} (id : List ℕ) (accept : Session → State × Answer) → IsOwner (left a parts.sessions) id a.client Another
+  pub another : {E : Type 0} (id : List ℕ) (accept : Session → State × Answer)
+      → IsOwner (sessions_left a parts.sessions) id a.client Another
       → (r : Result Outcome E) → IfOk r (λ o. o ≡ Say (refusal AccessDenied))
       → IfOk r (λ o. LeadsTo o a parts pending
       (in_session (so_far a parts pending) a.client (session_with_id id (so_far a parts pending).sessions) accept))
@@ -226,7 +228,7 @@ module _ (a : Asking) (parts : Parts) (pending : Pending) (steady : IsSteady par
       says a parts pending steady ready (refusal AccessDenied) _
       (another_denied (so_far a parts pending) id a.client accept (owner_so_far a parts pending id a.client Another o)) r is
 
-  pub nobody : {E : Type 0} (id : List ℕ) (accept : Session → State × Answer) → IsOwner (left a parts.sessions) id a.client Nobody
+  pub nobody : {E : Type 0} (id : List ℕ) (accept : Session → State × Answer) → IsOwner (sessions_left a parts.sessions) id a.client Nobody
       → (r : Result Outcome E) → IfOk r (λ o. o ≡ Say (refusal InvalidSessionID))
       → IfOk r (λ o. LeadsTo o a parts pending
       (in_session (so_far a parts pending) a.client (session_with_id id (so_far a parts pending).sessions) accept))

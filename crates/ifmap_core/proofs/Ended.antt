@@ -1,17 +1,17 @@
 -- Sessions of which some have expired: what is found among those that are left, and how they end one after the other.
 -- First: what a search finds among those that a filter leaves (`found_left`, `id_lost`, `client_lost`). Then: sessions end one after the
 -- other (`can_end`, `without_each`), and how many are left (`left_length`). Last: so do those that are expired (`expired_end`).
-use Rattle.std.proofs.Common.{◌≡◌, refl, sym, ◌∙◌, ap, subst, ℕ, ◌+◌, ◌≤◌, ◌==◌, Bool, true, false, not, List, [], ◌∷◌, length, map, nat_eq, Option, None, Some, inl, inr, arith}
+use Rattle.std.proofs.Common.{◌≡◌, refl, sym, ◌∙◌, ap, subst, ℕ, ◌+◌, ◌≤◌, ◌==◌, Bool, true, false, not, List, [], ◌∷◌, length, map, nat_eq, None, Some, inl, inr, arith}
 use Rattle.std.proofs.lemmas.Bool.{cases_Bool, eq-eqb, or_parts}
 use Rattle.std.proofs.lemmas.Bool.Decides.{nat_tests}
 use Rattle.std.proofs.lemmas.List.Kept.{IsStrictlySortedBy-filter}
 use Rattle.std.specs.List.{AllByRecursion, IsDistinct, filter, find, list_any}
 use Rattle.std.specs.List.Sorted.{IsStrictlySortedBy}
-use Rattle.std.specs.Option.{IsSome}
 use Rattle.std.specs.declared.cmp.Ordering.TheVariants.{Less}
 use Rattle.ifmap_changes.specs.Between.{CanEnd}
 use Rattle.ifmap_lemmas.specs.Filters.{all_filter, all_weaker}
-use Rattle.ifmap_lemmas.specs.Members.{map_of_all}
+use Rattle.ifmap_lemmas.specs.Members.{map_of_all, all_two}
+use Rattle.ifmap_lemmas.specs.Options.{is_some_of, some_is}
 use Rattle.ifmap_session.specs.SessionIds.{BeginsWithSerial}
 use Rattle.ifmap_session.specs.Sessions.{IsLive, IsTable, Session, Table, expired_serials, is_expired, is_text, session_of_client, session_order, session_with_id, session_with_serial, without_sessions}
 use Rattle.ifmap_session.specs.laws.TableLaws.{found_beside_ended}
@@ -60,11 +60,6 @@ module _ {X : Type 0} (q p : X → Bool) where
         | inr goes ↦ rw goes rest
       ]
 
-all_both : {X : Type 0} (P Q R : X → Type 0) → ((x : X) → P x → Q x → R x) → (xs : List X) → AllByRecursion P xs → AllByRecursion Q xs
-    → AllByRecursion R xs
-all_both P Q R f [] p q = tt
-all_both P Q R f (x ∷ xs) p q = (f x p.0 q.0, all_both P Q R f xs p.1 q.1)
-
 -- no other session has the id of one that goes
 pub id_lost : (table : Table) (serials : List ℕ) (id : List ℕ) (s : Session) → IsTable table → session_with_id id table.live ≡ Some s
     → remains serials s ≡ false → session_with_id id (without_sessions serials table.live) ≡ None
@@ -79,7 +74,7 @@ id_lost table serials id s h e goes =
     ids_tell t.serial s.serial id (omega (arith, below, h.small)) (omega (arith, low, h.small))
     (subst (BeginsWithSerial t.serial) (text_is t.id id is) begins) (subst (BeginsWithSerial s.serial) (text_is s.id id own) mine) in
     subst (λ n. not (list_any (λ m. m == n) serials) ≡ false) (sym same) goes in
-    lost_left q (remains serials) table.live (all_both (λ (t : Session). BeginsWithSerial t.serial t.id)
+    lost_left q (remains serials) table.live (all_two (λ (t : Session). BeginsWithSerial t.serial t.id)
     (λ (t : Session). t.serial ≤ table.counter) (λ (t : Session). is_text t.id id ≡ true → remains serials t ≡ false) one table.live h.ids
     h.counted)
   where
@@ -111,13 +106,6 @@ client_lost p (x ∷ live) client s apart e goes =
 
 -- ---- sessions end one after the other
 
-pub some_is : {X : Type 0} (o : Option X) → IsSome o → (x : X) × (o ≡ Some x)
-some_is None e = cc
-some_is (Some x) e = (x, refl)
-
-pub is_some_of : {X : Type 0} (o : Option X) (x : X) → o ≡ Some x → IsSome o
-is_some_of o x e = rw e refl
-
 pub live_beside : (n m : ℕ) (live : List Session) → (m == n) ≡ false → IsLive m live → IsLive m (without_sessions (n ∷ []) live)
 live_beside n m live other l =
     let there = some_is (session_with_serial m live) l in
@@ -129,7 +117,7 @@ unfolding IsDistinct
 can_end [] live apart all = tt
 can_end (n ∷ serials) live apart all = (
   all.0,
-  can_end serials (without_sessions (n ∷ []) live) apart.1 (all_both (λ m. nat_eq n m ≡ false) (λ m. IsLive m live)
+  can_end serials (without_sessions (n ∷ []) live) apart.1 (all_two (λ m. nat_eq n m ≡ false) (λ m. IsLive m live)
       (λ m. IsLive m (without_sessions (n ∷ []) live)) (λ m other l. live_beside n m live (turned n m other) l) serials apart.0 all.1),
 )
   where

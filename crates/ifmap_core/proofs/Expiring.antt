@@ -13,14 +13,14 @@ use Rattle.std.specs.List.Sorted.{IsStrictlySortedBy}
 use Rattle.std.specs.Option.{IfSome}
 use Rattle.std.specs.Ordering.{nat_cmp}
 use Rattle.std.specs.declared.cmp.Ordering.TheVariants.{Less}
-use Rattle.ifmap_changes.specs.Between.{AreKept, AreParts, AreTurned, AreWithin, Asking, CanEnd, IsReady, IsSteady, IsWithin, left, sight_now, so_far, state_at}
+use Rattle.ifmap_changes.specs.Between.{AreKept, AreParts, AreTurned, AreWithin, Asking, CanEnd, IsReady, IsSteady, IsWithin, sessions_left, sight_now, so_far, state_at}
 use Rattle.ifmap_changes.specs.Changes.{CanSettle, CanTakeBack, IsSettled}
 use Rattle.ifmap_changes.specs.declared.changes.Made.{Made}
 use Rattle.ifmap_changes.specs.declared.parts.Parts.{Parts}
 use Rattle.ifmap_core.specs.Outcomes.{CanApply, CanRename, IsDone, WouldBeParts, after_outcome, held_by}
 use Rattle.ifmap_core.specs.declared.outcomes.Outcome.{Outcome}
 use Rattle.ifmap_core.specs.declared.outcomes.Outcome.TheVariants.{Say, Accept, End, Open, Rename, Poll}
-use Rattle.ifmap_core.proofs.Ended.{found_left, is_some_of, remains, some_is}
+use Rattle.ifmap_core.proofs.Ended.{found_left, remains}
 use Rattle.ifmap_core.proofs.Places.{all_are_kept, kept_both, kept_moved, kept_of_all, none_gone}
 use Rattle.ifmap_core.proofs.Told.{none_told, numbered}
 use Rattle.ifmap_core.proofs.Turned.{KeepsThere, all_there, sessions_twice, shares_later}
@@ -30,6 +30,7 @@ use Rattle.ifmap_graph.specs.Out.{items_of}
 use Rattle.ifmap_graph.specs.Seen.{KeepsNumbers, links_now, rows_now}
 use Rattle.ifmap_lemmas.specs.Filters.{all_filter}
 use Rattle.ifmap_lemmas.specs.Members.{all_both, all_of_map, map_of_all}
+use Rattle.ifmap_lemmas.specs.Options.{is_some_of, some_is}
 use Rattle.ifmap_machine.specs.Ending.{drop_sessions, end_sessions, end_some, expire, without_standing}
 use Rattle.ifmap_machine.specs.declared.events.Answer.{Answer}
 use Rattle.ifmap_machine.specs.declared.events.Ask.{Ask}
@@ -45,7 +46,7 @@ use Rattle.ifmap_session.specs.Sessions.{IsLive, Session, expired_serials, is_ex
 use Rattle.ifmap_standing.specs.declared.standing.Standing.{Standing}
 use Rattle.ifmap_standing.specs.Kept.{AtEach, KeepsSame, Stands}
 use Rattle.ifmap_standing.specs.Ways.{LeadBack, Way}
-use Rattle.ifmap_standing.specs.Standing.{shown}
+use Rattle.ifmap_standing.specs.Standing.{standing_of}
 use Rattle.ifmap_subscribes.specs.declared.renamings.Renaming.{Renaming}
 use Rattle.ifmap_subscribes.specs.Renamings.{begun_by, rename_all, told_so_far}
 use Rattle.ifmap_tellings.specs.declared.tellings.Pending.{Pending}
@@ -55,15 +56,16 @@ use Rattle.ifmap_tellings.specs.Tellings.{AllKept, Tellings, is_alone, kept_of}
 
 module _ (a : Asking) (parts : Parts) (pending : Pending) (sound : AreParts parts) (can : CanEnd a.ended parts.sessions.live)
     (none : (n : ℕ) → get nat_cmp pending.tellings n ≡ None)
-    (gone : map shown (kept_of pending.gone.items parts.standing.items) ≡ without_standing a.ended (map shown parts.standing.items)) where
+    (gone : map standing_of (kept_of pending.gone.items parts.standing.items)
+    ≡ without_standing a.ended (map standing_of parts.standing.items)) where
   -- what is not gone is of a session that stays
   stay : AllKept (λ (x : Standing). list_any (λ n. n == x.serial) a.ended ≡ false) pending.gone.items parts.standing.items
   stay =
       kept_of_all (λ (x : Standing). list_any (λ n. n == x.serial) a.ended ≡ false) pending.gone.items parts.standing.items
-      (all_of_map (λ (m : machine.Standing). list_any (λ n. n == m.serial) a.ended ≡ false) shown
+      (all_of_map (λ (m : machine.Standing). list_any (λ n. n == m.serial) a.ended ≡ false) standing_of
       (kept_of pending.gone.items parts.standing.items)
       (subst (AllByRecursion (λ (m : machine.Standing). list_any (λ n. n == m.serial) a.ended ≡ false)) (sym gone)
-      (unnot (map shown parts.standing.items))))
+      (unnot (map standing_of parts.standing.items))))
     where
       unnot : (xs : List machine.Standing)
           → AllByRecursion (λ (m : machine.Standing). list_any (λ n. n == m.serial) a.ended ≡ false) (without_standing a.ended xs)
@@ -74,11 +76,11 @@ module _ (a : Asking) (parts : Parts) (pending : Pending) (sound : AreParts part
       ]
 
   lives : (x : Standing) → list_any (λ n. n == x.serial) a.ended ≡ false → IsLive x.serial parts.sessions.live
-      → IsLive x.serial (left a parts.sessions)
+      → IsLive x.serial (sessions_left a parts.sessions)
   lives x stays l =
       let s = some_is (session_with_serial x.serial parts.sessions.live) l in
       let same : s.0.serial ≡ x.serial = numbered x.serial parts.sessions.live s.0 s.1 in
-      is_some_of (session_with_serial x.serial (left a parts.sessions)) s.0
+      is_some_of (session_with_serial x.serial (sessions_left a parts.sessions)) s.0
       (found_left (λ (t : Session). t.serial == x.serial) (remains a.ended) parts.sessions.live s.0 s.1
       (subst (λ (n : ℕ). not (list_any (λ m. m == n) a.ended) ≡ true) (sym same) (ap not stays)))
 
@@ -90,10 +92,10 @@ module _ (a : Asking) (parts : Parts) (pending : Pending) (sound : AreParts part
     kept = all_are_kept (λ x. IsKept (sight_now parts.graph) x.subscription) pending.gone.items parts.standing.items sound.kept;
     live = kept_both (λ (x : Standing). list_any (λ n. n == x.serial) a.ended ≡ false)
         (λ (x : Standing). IsLive x.serial parts.sessions.live)
-        (λ (x : Standing). IsLive x.serial (left a parts.sessions)) lives pending.gone.items parts.standing.items stay
+        (λ (x : Standing). IsLive x.serial (sessions_left a parts.sessions)) lives pending.gone.items parts.standing.items stay
         (all_are_kept (λ (x : Standing). IsLive x.serial parts.sessions.live) pending.gone.items parts.standing.items sound.ordered.live);
     queues = sound.within;
-    within = subst AreWithin (sym (none_told pending.tellings none (left a parts.sessions)))
+    within = subst AreWithin (sym (none_told pending.tellings none (sessions_left a parts.sessions)))
         (all_filter IsWithin (remains a.ended) parts.sessions.live sound.within);
     can_tell = λ n t e. absurd (none-some t (sym (none n) ∙ e));
     sized = λ n t e. absurd (none-some t (sym (none n) ∙ e));
@@ -102,17 +104,19 @@ module _ (a : Asking) (parts : Parts) (pending : Pending) (sound : AreParts part
 
   pub begins_so_far : so_far a parts pending ≡ drop_sessions a.ended (state_at a.ttl a.moment parts)
   begins_so_far =
-      ap (λ (l : List Session). record (so_far a parts pending) { sessions = l }) (none_told pending.tellings none (left a parts.sessions))
+      ap (λ (l : List Session). record (so_far a parts pending) { sessions = l })
+      (none_told pending.tellings none (sessions_left a parts.sessions))
       ∙ ap (λ (xs : List machine.Standing). record (drop_sessions a.ended (state_at a.ttl a.moment parts)) { standing = xs }) gone
 
 -- what is gone, where nothing was
 pub begins_gone : (was gone : List Bool) (own ended : List ℕ) (list xs : List Standing) → list ≡ xs → own ≡ ended
-    → map shown (kept_of gone list) ≡ without_standing own (map shown (kept_of was list)) → AllByRecursion (λ flag. flag ≡ false) was
-    → length was ≡ length xs → map shown (kept_of gone xs) ≡ without_standing ended (map shown xs)
+    → map standing_of (kept_of gone list) ≡ without_standing own (map standing_of (kept_of was list))
+    → AllByRecursion (λ flag. flag ≡ false) was
+    → length was ≡ length xs → map standing_of (kept_of gone xs) ≡ without_standing ended (map standing_of xs)
 begins_gone was gone own ended list xs same one e none long =
-    subst (λ (ys : List Standing). map shown (kept_of gone ys) ≡ without_standing ended (map shown (kept_of was ys))) same
-    (subst (λ (ns : List ℕ). map shown (kept_of gone list) ≡ without_standing ns (map shown (kept_of was list))) one e)
-    ∙ ap (λ (ys : List Standing). without_standing ended (map shown ys)) (none_gone was xs none long)
+    subst (λ (ys : List Standing). map standing_of (kept_of gone ys) ≡ without_standing ended (map standing_of (kept_of was ys))) same
+    (subst (λ (ns : List ℕ). map standing_of (kept_of gone list) ≡ without_standing ns (map standing_of (kept_of was list))) one e)
+    ∙ ap (λ (ys : List Standing). without_standing ended (map standing_of ys)) (none_gone was xs none long)
 
 -- where none have ended, nothing goes
 pub none_dropped : (state : State) → drop_sessions [] state ≡ state
@@ -146,7 +150,8 @@ none_expired moment ttl (x ∷ live) e =
     let both = or_parts (is_expired moment ttl x) (list_any (is_expired moment ttl) live) e in
     rw (both.0) (none_expired moment ttl live both.1)
 
-pub some_expired : (moment ttl : ℕ) (live : List Session) → list_any (is_expired moment ttl) live ≡ true → expired_serials moment ttl live ≢ []
+pub some_expired : (moment ttl : ℕ) (live : List Session) → list_any (is_expired moment ttl) live ≡ true
+    → expired_serials moment ttl live ≢ []
 some_expired moment ttl [] e = cc
 some_expired moment ttl (x ∷ live) e =
     elim (cases_Bool (is_expired moment ttl x)) [
@@ -183,7 +188,7 @@ expired_rise moment ttl live up =
 
 module _ (a : Asking) (old new : Parts) (pending : Pending) (settled : IsSettled old new) (there : KeepsThere old.graph new.graph)
     (same : so_far a new pending ≡ so_far a old pending) where
-  live_settled : (n : ℕ) → IsLive n (left a old.sessions) → IsLive n (left a new.sessions)
+  live_settled : (n : ℕ) → IsLive n (sessions_left a old.sessions) → IsLive n (sessions_left a new.sessions)
   live_settled n l = rw (settled.sessions) l
 
   bare_settled : (n : ℕ) → AllKept (λ (x : Standing). x.serial ≢ n) pending.gone.items old.standing.items
@@ -268,7 +273,7 @@ pub done_leads : (ttl moment : ℕ) (old new : Parts) (event : Event) (ask : Ask
       record (state_at ttl moment old) {
         counter = new.sessions.counter;
         sessions = new.sessions.live;
-        standing = map shown new.standing.items;
+        standing = map standing_of new.standing.items;
       },
       answer,
     )

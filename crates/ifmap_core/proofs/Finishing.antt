@@ -9,13 +9,11 @@ use Rattle.std.specs.List.Sorted.{IsStrictlySortedBy}
 use Rattle.std.specs.Option.{IfSome}
 use Rattle.std.specs.Ordering.{nat_cmp}
 use Rattle.std.specs.Prelude.{vec_capacity, vec_len}
-use Rattle.ifmap_changes.specs.Between.{AreWithin, Asking, IsBare, IsReady, IsSteady, left, rest_of, sight_now, so_far, state_at}
+use Rattle.ifmap_changes.specs.Between.{AreWithin, Asking, IsBare, IsReady, IsSteady, rest_of, sessions_left, sight_now, so_far, state_at}
 use Rattle.ifmap_changes.specs.declared.parts.Parts.{Parts}
 use Rattle.ifmap_core.specs.Outcomes.{CanApply, CanApplyTo, CanOpen, CanRename, FitsAfter, WouldBeParts, after_former, after_outcome, held_by}
 use Rattle.ifmap_core.specs.declared.outcomes.Outcome.{Outcome}
 use Rattle.ifmap_core.specs.declared.outcomes.Outcome.TheVariants.{Say, Accept, End, Open, Rename, Poll}
-use Rattle.ifmap_core.proofs.Applying.{all_two}
-use Rattle.ifmap_core.proofs.Ended.{is_some_of, some_is}
 use Rattle.ifmap_core.proofs.Keeping.{all_kept, kept_fewer, kept_rising}
 use Rattle.ifmap_core.proofs.Places.{map_left}
 use Rattle.ifmap_core.proofs.Steady.{IsNumbered}
@@ -23,7 +21,8 @@ use Rattle.ifmap_core.proofs.Taking.{map_after}
 use Rattle.ifmap_core.proofs.Told.{after_told, none_mapped, told_by_leaves}
 use Rattle.ifmap_delta.specs.Sights.{IsKept}
 use Rattle.ifmap_graph.specs.Seen.{rows_now}
-use Rattle.ifmap_lemmas.specs.Members.{all_both, both_all}
+use Rattle.ifmap_lemmas.specs.Members.{all_both, both_all, all_two}
+use Rattle.ifmap_lemmas.specs.Options.{is_some_of, some_is}
 use Rattle.ifmap_machine.specs.declared.events.Answer.{Answer}
 use Rattle.ifmap_machine.specs.State.{State, standing_in, standing_order}
 use Rattle.ifmap_machine.specs.State as machine
@@ -31,7 +30,7 @@ use Rattle.ifmap_machine.specs.Subscribing.{most_names}
 use Rattle.ifmap_search.specs.Sizes.{queue_size}
 use Rattle.ifmap_session.specs.Sessions.{IsLive, Opening, Session, Table, is_text, most_sessions, session_of_client, session_with_serial, spare_of}
 use Rattle.ifmap_standing.specs.declared.standing.Standing.{Standing}
-use Rattle.ifmap_standing.specs.Standing.{shown}
+use Rattle.ifmap_standing.specs.Standing.{standing_of}
 use Rattle.ifmap_subscribes.specs.declared.renamings.Renaming.{Renaming}
 use Rattle.ifmap_subscribes.specs.Renamings.{KeepsNumbered, begun_by, rename_all, told_in_parts, told_so_far}
 use Rattle.ifmap_tellings.specs.declared.tellings.Pending.{Pending}
@@ -59,7 +58,7 @@ module _ (tellings : Tellings) where
   former_told (Some n) live = map_after (n ∷ []) (told_by tellings) serial_told live
 
   -- what was pending can be told, once the sessions have ended that are expired
-  pub can_tell_rest : (a : Asking) (old mid : Table) → mid.live ≡ left a old
+  pub can_tell_rest : (a : Asking) (old mid : Table) → mid.live ≡ sessions_left a old
       → ((n : ℕ) → IsLive n mid.live → spare_of n mid.spare ≡ spare_of n old.spare) → EachTelling (CanTell (rest_of a old)) tellings
       → EachTelling (CanTell mid) tellings
   can_tell_rest a old mid live spare can = λ n t e.
@@ -70,26 +69,26 @@ module _ (tellings : Tellings) where
 -- ---- parts of which all is told and let go of
 
 module _ (a : Asking) (old new : Parts) (pending : Pending) (ready : IsReady a old pending)
-    (live : new.sessions.live ≡ map (told_by pending.tellings) (left a old.sessions))
+    (live : new.sessions.live ≡ map (told_by pending.tellings) (sessions_left a old.sessions))
     (standing : new.standing.items ≡ kept_of pending.gone.items old.standing.items)
     (kept : KeepsNumbered old.graph new.graph) where
-  live_now : (n : ℕ) → IsLive n (left a old.sessions) → IsLive n new.sessions.live
-  live_now n l = subst (IsLive n) (sym live) (live_told pending.tellings n (left a old.sessions) l)
+  live_now : (n : ℕ) → IsLive n (sessions_left a old.sessions) → IsLive n new.sessions.live
+  live_now n l = subst (IsLive n) (sym live) (live_told pending.tellings n (sessions_left a old.sessions) l)
 
   all_now : (P : Standing → Type 0) → AllByRecursion P (kept_of pending.gone.items old.standing.items) → AllByRecursion P new.standing.items
   all_now P h = subst (AllByRecursion P) (sym standing) h
 
-  shown_now : map shown new.standing.items ≡ kept_of pending.gone.items (map shown old.standing.items)
-  shown_now = ap (map shown) standing ∙ map_left shown pending.gone.items old.standing.items
+  shown_now : map standing_of new.standing.items ≡ kept_of pending.gone.items (map standing_of old.standing.items)
+  shown_now = ap (map standing_of) standing ∙ map_left standing_of pending.gone.items old.standing.items
 
-  rising_now : IsStrictlySortedBy standing_order (map shown new.standing.items)
+  rising_now : IsStrictlySortedBy standing_order (map standing_of new.standing.items)
   rising_now =
       subst (IsStrictlySortedBy standing_order) (sym shown_now)
-      (kept_rising standing_order pending.gone.items (map shown old.standing.items) ready.ordered.rising)
+      (kept_rising standing_order pending.gone.items (map standing_of old.standing.items) ready.ordered.rising)
 
-  few_now : (n : ℕ) → length (standing_in n (map shown new.standing.items)) ≤ most_names
+  few_now : (n : ℕ) → length (standing_in n (map standing_of new.standing.items)) ≤ most_names
   few_now n =
-      let less = kept_fewer (λ (x : machine.Standing). x.serial == n) pending.gone.items (map shown old.standing.items) in
+      let less = kept_fewer (λ (x : machine.Standing). x.serial == n) pending.gone.items (map standing_of old.standing.items) in
       let before = ready.ordered.few n in
       subst (λ t. length (standing_in n t) ≤ most_names) (sym shown_now) (omega (arith, less, before))
 
@@ -128,10 +127,10 @@ module _ (a : Asking) (old new : Parts) (pending : Pending) (ready : IsReady a o
     }
 
   module _ (counter : new.sessions.counter ≡ old.sessions.counter) (room : old.sessions.room ≤ new.sessions.room)
-      (spare : (n : ℕ) → IsLive n (left a old.sessions)
+      (spare : (n : ℕ) → IsLive n (sessions_left a old.sessions)
       → spare_of n old.sessions.spare ≤ spare_of n new.sessions.spare + count_where (get nat_cmp pending.tellings n))
       (len : vec_len new.standing ≤ vec_len old.standing) (capacity : vec_capacity new.standing ≡ vec_capacity old.standing) where
-    former_live : (former : Option ℕ) → IfSome former (λ n. IsLive n (left a old.sessions))
+    former_live : (former : Option ℕ) → IfSome former (λ n. IsLive n (sessions_left a old.sessions))
         → IfSome former (λ n. IsLive n new.sessions.live)
     former_live None l = tt
     former_live (Some n) l = live_now n l
@@ -142,9 +141,9 @@ module _ (a : Asking) (old new : Parts) (pending : Pending) (ready : IsReady a o
     former_bare (Some n) bare = bare_now n bare
 
     former_now : (former : Option ℕ) → after_former former new.sessions.live
-        ≡ map (told_by pending.tellings) (after_former former (left a old.sessions))
+        ≡ map (told_by pending.tellings) (after_former former (sessions_left a old.sessions))
     former_now former =
-        ap (after_former former) live ∙ former_told pending.tellings former (left a old.sessions)
+        ap (after_former former) live ∙ former_told pending.tellings former (sessions_left a old.sessions)
 
     opens : (former : Option ℕ) (opening : Opening) (limit : ℕ) → CanOpen former opening limit (rest_of a old.sessions)
         → CanOpen former opening limit new.sessions
@@ -153,10 +152,10 @@ module _ (a : Asking) (old new : Parts) (pending : Pending) (ready : IsReady a o
       live = former_live former can.live;
       none = subst (λ l. session_of_client opening.client l ≡ None) (sym (former_now former))
           (none_mapped (told_by pending.tellings) (λ (t : Session). is_text t.client opening.client)
-          (client_told pending.tellings opening.client) (after_former former (left a old.sessions)) can.none);
+          (client_told pending.tellings opening.client) (after_former former (sessions_left a old.sessions)) can.none);
       few = subst (λ l. length l < most_sessions) (sym (former_now former))
           (subst (λ n. n < most_sessions)
-          (sym (length-map (after_former former (left a old.sessions)) (told_by pending.tellings))) can.few);
+          (sym (length-map (after_former former (sessions_left a old.sessions)) (told_by pending.tellings))) can.few);
       counter = let small = can.counter in omega (arith, small, counter);
       next = can.next ∙ ap (λ n. n + 1) (sym counter);
       wide = can.wide;
@@ -167,7 +166,7 @@ module _ (a : Asking) (old new : Parts) (pending : Pending) (ready : IsReady a o
         let found : session_with_serial serial (so_far a old pending).sessions ≡ Some s =
         subst (λ l. session_with_serial serial l ≡ Some s) live e in
         let same : told_so_far a old pending s ≡ told_in_parts new s =
-        ap (λ t. record { queue = s.queue; standing = map shown t }) (sym standing) in (
+        ap (λ t. record { queue = s.queue; standing = map standing_of t }) (sym standing) in (
           subst (λ t. queue_size (rename_all serial renamings t).queue ≤ s.limit) same (can.within s found),
           subst (λ t. length (standing_in serial (rename_all serial renamings t).standing) ≤ most_names) same (can.few s found),
         )
@@ -199,7 +198,7 @@ pub finished : (a : Asking) (old new : Parts) (pending : Pending) (outcome : Out
       record (so_far a old pending) {
         counter = new.sessions.counter;
         sessions = new.sessions.live;
-        standing = map shown new.standing.items;
+        standing = map standing_of new.standing.items;
       },
       answer,
     )

@@ -1,12 +1,11 @@
 -- Where nothing is left behind, the identifiers that have numbers are those in use.
-use Rattle.std.proofs.Common.{◌≡◌, ◌⊎◌, ℕ, ◌<◌, true, Some, List, [], ◌∷◌, map, refl, ap, ◌∙◌, subst, inl, inr, arith}
+use Rattle.std.proofs.Common.{◌≡◌, ◌⊎◌, ℕ, ◌<◌, Some, List, [], ◌∷◌, map, refl, ap, ◌∙◌, inl, inr, arith}
 use Rattle.std.proofs.lemmas.Bool.{cases_Bool}
 use Rattle.std.proofs.lemmas.List.Sums.{sum_by-cons}
+use Rattle.std.specs.Cmp.{Equal-is}
 use Rattle.std.specs.List.{AllByRecursion}
 use Rattle.std.specs.Ordering.{is_eq}
-use Rattle.std.specs.declared.cmp.Ordering.{Ordering}
-use Rattle.std.specs.declared.cmp.Ordering.TheVariants.{Less, Equal, Greater}
-use Rattle.ifmap_lemmas.specs.Having.{Has, has_map, map_has}
+use Rattle.ifmap_lemmas.specs.Having.{Has, has_map, map_has, all_has}
 use Rattle.ifmap_lemmas.specs.Texts.{same_texts}
 use Rattle.ifmap_changes.specs.Between.{IsNumbered, IsSeen, IsSteady, starts_of}
 use Rattle.ifmap_graph.specs.Counted.{AreSoMany}
@@ -19,21 +18,11 @@ use Rattle.ifmap_ident.specs.Items.{IsCanonItem}
 use Rattle.ifmap_machine.specs.State as machine
 use Rattle.ifmap_pool.specs.Holdings.{once}
 use Rattle.ifmap_standing.specs.declared.standing.Standing.{Standing}
-use Rattle.ifmap_standing.specs.Standing.{shown}
+use Rattle.ifmap_standing.specs.Standing.{standing_of}
 use Rattle.ifmap_view.specs.declared.attachments.Attachment.{Attachment}
 
 abbrev pub Tells : Type 0
 Tells = (one other : Identifier) → IsIdentifier one → IsIdentifier other → identifier_bytes one ≡ identifier_bytes other → one ≡ other
-
-all_has : {X : Type 0} (P : X → Type 0) (xs : List X) → AllByRecursion P xs → (x : X) → Has xs x → P x
-all_has P [] a x h = absurd h
-all_has P (y ∷ ys) a x (inl e) = subst P e a.0
-all_has P (y ∷ ys) a x (inr h) = all_has P ys a.1 x h
-
-equal_is : (o : Ordering) → is_eq o ≡ true → o ≡ Equal
-equal_is Less e = cc
-equal_is Equal e = refl
-equal_is Greater e = cc
 
 module _ (h : Held) (tells : Tells) (view : IsSeen h) where
   -- where some of these subscriptions start at an identifier, there is one
@@ -48,7 +37,7 @@ module _ (h : Held) (tells : Tells) (view : IsSeen h) where
           x,
           inl refl,
           tells start a (view.canon x.subscription.region.start start numbered.0) is
-              (same_texts (identifier_bytes start) (identifier_bytes a) (equal_is (identifier_order start a) t)),
+              (same_texts (identifier_bytes start) (identifier_bytes a) ((Equal-is (identifier_order start a)).0 t)),
         )
         | inr f ↦ let none : once identifier_order start a ≡ 0 = rw f refl
             in let rest = start_there xs a is numbered.1 (omega (arith, some, both, none))
@@ -57,13 +46,13 @@ module _ (h : Held) (tells : Tells) (view : IsSeen h) where
 
   module _ (standing : List Standing) (steady : IsSteady h standing) (used : AreUsed h) where
     abbrev InUse : Identifier → Type 0
-    InUse a = IsAttached (rows_now h) a ⊎ ((x : machine.Standing) × Has (map shown standing) x × (x.search.start ≡ a))
+    InUse a = IsAttached (rows_now h) a ⊎ ((x : machine.Standing) × Has (map standing_of standing) x × (x.search.start ≡ a))
 
     in_use : (a : Identifier) → HasNumber h a → InUse a
     in_use a n = elim (used.only a n) [
       | inl attached ↦ inl attached
       | inr held ↦ let x = start_there standing a (view.canon n.0 a n.1) steady.numbered (held (starts_of a standing) (steady.own a))
-          in inr (shown x.0, has_map shown standing x.0 x.1, x.2)
+          in inr (standing_of x.0, has_map standing_of standing x.0 x.1, x.2)
     ]
 
     canon_there : (a : Identifier) → IsAttached (rows_now h) a → IsIdentifier a
@@ -74,7 +63,7 @@ module _ (h : Held) (tells : Tells) (view : IsSeen h) where
     number_of : (a : Identifier) → InUse a → HasNumber h a
     number_of a (inl r) = used.each a (canon_there a r) (inl r)
     number_of a (inr s) =
-        let x = map_has shown standing s.0 s.1
+        let x = map_has standing_of standing s.0 s.1
         in (
           x.0.subscription.region.start,
           all_has (IsNumbered h) standing steady.numbered x.0 x.1 ∙ ap Some (ap (λ (y : machine.Standing). y.search.start) x.2 ∙ s.2),

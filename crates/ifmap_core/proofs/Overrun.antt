@@ -1,10 +1,11 @@
 -- Queues that are greater than their limit, or not. First, where none is, nothing overflows (`no_overflow`). Then one session's queue is
 -- another, which is within its limit (`changed_within`), or is not, so that it alone overflows (`over_is`). Last, renamings in a session
 -- leave the subscriptions of the others (`others_renamed`).
-use Rattle.std.proofs.Common.{◌≡◌, refl, sym, ◌∙◌, ap, ℕ, ◌<◌, ◌≤◌, ◌==◌, ◌&&◌, ◌||◌, Bool, true, false, cond, not, List, [], ◌∷◌, ◌++◌, map, Option, Some, None, inl, inr, arith}
-use Rattle.std.proofs.lemmas.Bool.{cases_Bool, cases_order, eq-eqb, eqb-true}
+use Rattle.std.proofs.Common.{◌≡◌, refl, sym, ◌∙◌, ap, ℕ, ◌<◌, ◌≤◌, ◌==◌, ◌&&◌, Bool, true, false, not, List, [], ◌∷◌, ◌++◌, map, Option, Some, None, inl, inr, arith}
+use Rattle.std.proofs.Math.Bool.{or-false}
+use Rattle.std.proofs.lemmas.Bool.{and_right, cases_Bool, cases_order, eq-eqb, eqb-true}
 use Rattle.std.proofs.lemmas.Bool.Decides.{nat_tests}
-use Rattle.std.proofs.lemmas.List.Elements.{filter-append}
+use Rattle.std.proofs.lemmas.List.Elements.{filter-append, filter_agree}
 use Rattle.std.specs.Cmp.Lexicographic.{slice_cmp}
 use Rattle.std.specs.List.{AllByRecursion, filter, list_any}
 use Rattle.std.specs.List.Sorted.{IsStrictlySortedBy}
@@ -26,9 +27,9 @@ use Rattle.ifmap_plans.specs.Placing.{put}
 use Rattle.ifmap_search.specs.declared.results.PollItem.{PollItem}
 use Rattle.ifmap_search.specs.declared.results.PollItem.TheVariants as the_item
 use Rattle.ifmap_search.specs.Sizes.{queue_size}
-use Rattle.ifmap_session.specs.Sessions.{Session, change, overflowed, session_order, session_with_serial}
+use Rattle.ifmap_session.specs.Sessions.{Session, change, session_order, session_with_serial, with_error}
 use Rattle.ifmap_standing.specs.declared.standing.Standing.{Standing}
-use Rattle.ifmap_standing.specs.Standing.{shown}
+use Rattle.ifmap_standing.specs.Standing.{standing_of}
 use Rattle.ifmap_subscribes.specs.declared.renamings.Renaming.{Renaming}
 use Rattle.ifmap_subscribes.specs.Renamings.{IsOfSession, rename, rename_all, stand_where}
 
@@ -37,14 +38,10 @@ use Rattle.ifmap_subscribes.specs.Renamings.{IsOfSession, rename, rename_all, st
 abbrev pub IsFit : Session → Type 0
 IsFit s = is_overfull s ≡ false
 
-and_false : (a b : Bool) → b ≡ false → (a && b) ≡ false
-and_false true b e = e
-and_false false b e = refl
-
 none_overrun : (x : machine.Standing) (live : List Session) → AllByRecursion IsFit live → is_overrun live x ≡ false
 none_overrun x [] h = refl
 none_overrun x (s ∷ live) h =
-    let no : (s.serial == x.serial && is_overfull s) ≡ false = and_false (s.serial == x.serial) (is_overfull s) h.0 in
+    let no : (s.serial == x.serial && is_overfull s) ≡ false = and_right (s.serial == x.serial) (is_overfull s) h.0 in
     rw no (none_overrun x live h.1)
 
 none_overflow : (live : List Session) → AllByRecursion IsFit live → map overflow_session live ≡ live
@@ -85,14 +82,14 @@ changed_within n q s few (x ∷ live) one h =
 over_sessions : (n : ℕ) (q : List PollItem) (s : Session) → s.limit < queue_size q → (live : List Session)
     → AllByRecursion (IsOne n s) live → AllByRecursion IsFit live
     → map overflow_session (change n (requeued q) live)
-    ≡ change n (λ (t : Session). overflowed (the_item.Error None PollResultsTooBig (limit_note (queue_size q) t.limit)) t) live
+    ≡ change n (λ (t : Session). with_error (the_item.Error None PollResultsTooBig (limit_note (queue_size q) t.limit)) t) live
 over_sessions n q s many [] one h = refl
 over_sessions n q s many (x ∷ live) one h =
     elim (cases_Bool (x.serial == n)) [
       | inl hit ↦
           let limit : x.limit ≡ s.limit = ap (λ (t : Session). t.limit) (one.0 hit) in
           let full : is_overfull (requeued q x) ≡ true = grind (arith, nat_tests, many, limit) in
-          rw (hit, full) (ap (λ t. overflowed (the_item.Error None PollResultsTooBig (limit_note (queue_size q) x.limit)) x ∷ t)
+          rw (hit, full) (ap (λ t. with_error (the_item.Error None PollResultsTooBig (limit_note (queue_size q) x.limit)) x ∷ t)
           (over_sessions n q s many live one.1 h.1))
       | inr miss ↦ rw (miss, h.0) (ap (λ t. x ∷ t) (over_sessions n q s many live one.1 h.1))
     ]
@@ -113,7 +110,7 @@ over_standing n q s many x (y ∷ live) one h found =
             | inr off ↦ rw (hit, full, same, off) (never off live h.1)
           ]
       | inr miss ↦
-          let none : (y.serial == x.serial && is_overfull y) ≡ false = and_false (y.serial == x.serial) (is_overfull y) h.0 in
+          let none : (y.serial == x.serial && is_overfull y) ≡ false = and_right (y.serial == x.serial) (is_overfull y) h.0 in
           rw (miss, none) (over_standing n q s many x live one.1 h.1 (rw miss at found))
     ]
   where
@@ -124,18 +121,9 @@ over_standing n q s many x (y ∷ live) one h found =
           let differ : (z.serial == x.serial) ≡ false = ap (λ (m : ℕ). m == x.serial) (eqb-true z.serial n at) ∙ apart in
           rw (at, differ) (never apart ys k.1)
       | inr off ↦
-          let none : (z.serial == x.serial && is_overfull z) ≡ false = and_false (z.serial == x.serial) (is_overfull z) k.0 in
+          let none : (z.serial == x.serial && is_overfull z) ≡ false = and_right (z.serial == x.serial) (is_overfull z) k.0 in
           rw (off, none) (never apart ys k.1)
     ]
-
-or_false : (b : Bool) → (b || false) ≡ b
-or_false true = refl
-or_false false = refl
-
-filter_alike : {X : Type 0} (p q : X → Bool) → ((x : X) → p x ≡ q x) → (xs : List X) → filter p xs ≡ filter q xs
-filter_alike p q same [] = refl
-filter_alike p q same (x ∷ xs) =
-    ap (λ b. cond b (x ∷ filter p xs) (filter p xs)) (same x) ∙ ap (λ t. cond (q x) (x ∷ t) t) (filter_alike p q same xs)
 
 pub over_is : (n : ℕ) (state : State) (s : Session) (t : Told) → IsStrictlySortedBy session_order state.sessions
     → session_with_serial n state.sessions ≡ Some s → AllByRecursion IsFit state.sessions → s.limit < queue_size t.queue
@@ -147,8 +135,8 @@ over_is n state s t up found fit many others =
     ap (λ (ss : List Session). record state { sessions = ss; standing = filter (λ x. not (is_overrun full x)) t.standing })
     (over_sessions n t.queue s many state.sessions one fit)
     ∙ ap (λ (xs : List machine.Standing). record (alone_told n (queue_size t.queue) state) { standing = xs })
-    (filter_alike (λ x. not (is_overrun full x)) (λ (x : machine.Standing). not (list_any (λ m. m == x.serial) (n ∷ [])))
-    (λ x. ap not (over_standing n t.queue s many x state.sessions one fit found ∙ sym (or_false (n == x.serial)))) t.standing ∙ others)
+    (filter_agree (λ x. not (is_overrun full x)) (λ (x : machine.Standing). not (list_any (λ m. m == x.serial) (n ∷ [])))
+    (λ x. ap not (over_standing n t.queue s many x state.sessions one fit found ∙ sym (or-false (n == x.serial)))) t.standing ∙ others)
 
 -- ---- the subscriptions of others
 
@@ -283,7 +271,7 @@ module _ (n : ℕ) where
       → AllByRecursion (λ (x : Standing). (x.serial ≡ n) × (x.name ≡ name)) (option_to_list o) → (ys : List machine.Standing) → Grows ys
       → (without_standing (n ∷ []) (stand_where o ys) ≡ without_standing (n ∷ []) ys) × Grows (stand_where o ys)
   stood None name own ys g = (refl, g)
-  stood (Some x) name own ys g = (others_put (shown x) own.0.0 ys g, grows_put (shown x) ys g)
+  stood (Some x) name own ys g = (others_put (standing_of x) own.0.0 ys g, grows_put (standing_of x) ys g)
 
   pub others_renamed : (rs : List Renaming) → AllByRecursion (IsOfSession n) rs → (t : Told) → Grows t.standing
       → without_standing (n ∷ []) (rename_all n rs t).standing ≡ without_standing (n ∷ []) t.standing

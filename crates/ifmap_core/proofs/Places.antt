@@ -9,7 +9,7 @@ use Rattle.ifmap_delta.specs.declared.subscriptions.Subscription.{Subscription}
 use Rattle.ifmap_delta.specs.Ways.{HasSameSearch}
 use Rattle.ifmap_standing.specs.declared.standing.Standing.{Standing}
 use Rattle.ifmap_standing.specs.Kept.{AtEach, KeepsSame, Stands}
-use Rattle.ifmap_standing.specs.Standing.{shown}
+use Rattle.ifmap_standing.specs.Standing.{standing_of}
 use Rattle.ifmap_tellings.specs.Tellings.{AllKept, kept_of}
 
 -- ---- what is not gone
@@ -131,13 +131,13 @@ same_map f R e (x ∷ a) (y ∷ b) r =
 
 -- subscriptions of the same searches are shown the same
 pub same_shown : (x y : Standing) → y.serial ≡ x.serial → y.name ≡ x.name → y.subscription.search ≡ x.subscription.search
-    → shown y ≡ shown x
+    → standing_of y ≡ standing_of x
 same_shown x y serial name search =
     ap (λ (n : ℕ). record { serial = n; name = y.name; search = y.subscription.search }) serial
     ∙ ap (λ (t : List ℕ). record { serial = x.serial; name = t; search = y.subscription.search }) name
     ∙ ap (λ s. record { serial = x.serial; name = x.name; search = s }) search
 
-pub shown_kept : (i : ℕ) (x y : Standing) → Stands KeepsSame x y → shown y ≡ shown x
+pub shown_kept : (i : ℕ) (x y : Standing) → Stands KeepsSame x y → standing_of y ≡ standing_of x
 shown_kept i x y s = same_shown x y s.serial s.name s.subscription.search.search
 
 -- what stands itself

@@ -8,7 +8,7 @@ use Rattle.std.specs.Option.{option_to_list}
 use Rattle.std.specs.Ordering.{is_gt, is_lt}
 use Rattle.std.specs.declared.cmp.Ordering.{Ordering}
 use Rattle.std.specs.declared.cmp.Ordering.TheVariants.{Less, Equal, Greater}
-use Rattle.ifmap_lemmas.specs.Filters.{all_filter}
+use Rattle.ifmap_lemmas.specs.Filters.{all_filter, filter_fewer}
 use Rattle.ifmap_lemmas.specs.Members.{both_all}
 use Rattle.ifmap_lemmas.specs.Numbers.{is_other}
 use Rattle.ifmap_machine.specs.State.{standing_in, standing_order}
@@ -16,7 +16,7 @@ use Rattle.ifmap_machine.specs.State as machine
 use Rattle.ifmap_machine.specs.Subscribing.{Told, drop_name, is_of_name}
 use Rattle.ifmap_plans.specs.Placing.{put}
 use Rattle.ifmap_standing.specs.declared.standing.Standing.{Standing}
-use Rattle.ifmap_standing.specs.Standing.{shown}
+use Rattle.ifmap_standing.specs.Standing.{standing_of}
 use Rattle.ifmap_subscribes.specs.declared.renamings.Renaming.{Renaming}
 use Rattle.ifmap_subscribes.specs.Renamings.{IsOfSession, rename, rename_all, stand_where}
 
@@ -56,15 +56,6 @@ module _ {X : Type 0} where
             ]
       ]
 
-  filter_fewer : (p q : X → Bool) (xs : List X) → length (filter p (filter q xs)) ≤ length (filter p xs)
-  filter_fewer p q [] = omega arith
-  filter_fewer p q (x ∷ xs) =
-      let rest = filter_fewer p q xs in
-      elim (cases_Bool (q x)) [
-        | inl stays ↦ elim (cases_Bool (p x)) [ inl hit ↦ rw (stays, hit) (omega (arith, rest)) | inr miss ↦ rw (stays, miss) rest ]
-        | inr goes ↦ elim (cases_Bool (p x)) [ inl hit ↦ rw (goes, hit) (omega (arith, rest)) | inr miss ↦ rw (goes, miss) rest ]
-      ]
-
   all_put : (P : X → Type 0) (order : X → X → Ordering) (x : X) (xs : List X) → P x → AllByRecursion P xs
       → AllByRecursion P (put order x xs)
   all_put P order x xs one all =
@@ -86,7 +77,7 @@ module _ {X : Type 0} where
 
 module _ (serial : ℕ) where
   -- what holds of all that stood, and of each subscription of the session
-  pub all_renamed : (P : machine.Standing → Type 0) → ((x : Standing) → x.serial ≡ serial → P (shown x)) → (renamings : List Renaming)
+  pub all_renamed : (P : machine.Standing → Type 0) → ((x : Standing) → x.serial ≡ serial → P (standing_of x)) → (renamings : List Renaming)
       (t : Told) → AllByRecursion (IsOfSession serial) renamings → AllByRecursion P t.standing
       → AllByRecursion P (rename_all serial renamings t).standing
   all_renamed P own [] t of_it all = all
@@ -100,7 +91,7 @@ module _ (serial : ℕ) where
           → AllByRecursion P (stand_where o dropped)
       one None h = all_filter P (λ x. not (is_of_name serial r.name x)) t.standing all
       one (Some x) h =
-          all_put P standing_order (shown x) dropped (own x h.0.0)
+          all_put P standing_order (standing_of x) dropped (own x h.0.0)
           (all_filter P (λ y. not (is_of_name serial r.name y)) t.standing all)
 
   -- of another session no more stand than before
@@ -120,5 +111,5 @@ module _ (serial : ℕ) where
           → length (standing_in n (stand_where o dropped)) ≤ length (standing_in n dropped)
       one None h = omega arith
       one (Some x) h =
-          put_fewer (λ (y : machine.Standing). y.serial == n) standing_order (shown x) dropped
+          put_fewer (λ (y : machine.Standing). y.serial == n) standing_order (standing_of x) dropped
           (is_other x.serial n (λ e. other (sym h.0.0 ∙ e)))

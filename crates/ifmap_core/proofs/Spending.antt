@@ -4,7 +4,7 @@
 use Rattle.std.proofs.Common.{◌≡◌, ◌≢◌, refl, sym, ◌∙◌, ap, subst, inl, not, ℕ, Bool, true, false, List, [], ◌∷◌, Option, None, Some, max, arith}
 use Rattle.std.specs.List.{list_any}
 use Rattle.std.specs.Option.{option_map}
-use Rattle.ifmap_changes.specs.Between.{Asking, left, so_far, state_at}
+use Rattle.ifmap_changes.specs.Between.{Asking, sessions_left, so_far, state_at}
 use Rattle.ifmap_changes.specs.Bounds.{IsEndedWithin, IsTakenWithin, IsToldWithin}
 use Rattle.ifmap_changes.specs.declared.parts.Parts.{Parts}
 use Rattle.ifmap_core.proofs.Begun.{former_so_far, so_far_with}
@@ -142,7 +142,7 @@ begun_within state client before after free w = rw free w
 -- the session that the client has so far is the one that was found, also where there is more room for sessions
 pub former_within : (a : Asking) (parts : Parts) (pending : Pending) (table : Table) → IsAsBefore parts.sessions table
     → (former : Option ℕ) (before after : ℕ)
-    → former ≡ option_map (λ (s : Session). s.serial) (session_of_client a.client (left a parts.sessions))
+    → former ≡ option_map (λ (s : Session). s.serial) (session_of_client a.client (sessions_left a parts.sessions))
     → IsFormerWithin former (so_far a (record parts { sessions = table }) pending) before after
     → IsFormerWithin (option_map (λ (s : Session). s.serial) (session_of_client a.client (so_far a parts pending).sessions))
     (so_far a parts pending) before after

@@ -13,7 +13,7 @@ use Rattle.std.specs.Ordering.{nat_cmp}
 use Rattle.std.specs.Option.{option_to_list}
 use Rattle.std.specs.Prelude.{vec_capacity, vec_len}
 use Rattle.std.specs.declared.cmp.Ordering.TheVariants.{Less}
-use Rattle.ifmap_changes.specs.Between.{AreKept, AreTurned, AreWithin, Asking, IsReady, IsSteady, IsWithin, left, sight_now, so_far}
+use Rattle.ifmap_changes.specs.Between.{AreKept, AreTurned, AreWithin, Asking, IsReady, IsSteady, IsWithin, sessions_left, sight_now, so_far}
 use Rattle.ifmap_changes.specs.declared.parts.Parts.{Parts}
 use Rattle.ifmap_core.specs.Outcomes.{CanRename, LeadsTo, after_outcome, alone_told, rename_in}
 use Rattle.ifmap_core.specs.declared.outcomes.Outcome.TheVariants.{Rename}
@@ -40,11 +40,11 @@ use Rattle.ifmap_search.specs.Sizes.{queue_size}
 use Rattle.ifmap_session.specs.Sessions.{IsLive, Session, Table, session_order, session_with_serial, spare_of, without_sessions}
 use Rattle.ifmap_standing.specs.declared.standing.Standing.{Standing}
 use Rattle.ifmap_standing.specs.Kept.{AtEach, KeepsSame, Stands}
-use Rattle.ifmap_standing.specs.Standing.{shown}
+use Rattle.ifmap_standing.specs.Standing.{standing_of}
 use Rattle.ifmap_subscribes.specs.declared.renamings.Renaming.{Renaming}
 use Rattle.ifmap_subscribes.specs.declared.readying.Readying.{Readying}
 use Rattle.ifmap_subscribes.specs.Readying.{AreReadied, OnlyHolds, queue_where, told_after, told_at}
-use Rattle.ifmap_subscribes.specs.Renamings.{items_of, rename_all, told_so_far}
+use Rattle.ifmap_subscribes.specs.Renamings.{item_count, rename_all, told_so_far}
 use Rattle.ifmap_tellings.specs.declared.tellings.Pending.{Pending}
 use Rattle.ifmap_tellings.specs.Tellings.{AllKept, HasSameSessions, count_where, kept_of, told_by}
 
@@ -96,7 +96,7 @@ same_so_far a old new pending rows sessions standing =
       graph = rows_now old.graph;
       sessions = map (told_by pending.tellings) (without_sessions a.ended live);
     }) sessions.live
-    ∙ ap (λ (xs : List Standing). record (so_far a old pending) { standing = map shown (kept_of pending.gone.items xs) }) standing
+    ∙ ap (λ (xs : List Standing). record (so_far a old pending) { standing = map standing_of (kept_of pending.gone.items xs) }) standing
 
 -- what is ready is, once there is more room
 pub ready_room : (a : Asking) (old new : Parts) (pending : Pending) → new.graph ≡ old.graph → HasSameSessions old.sessions new.sessions
@@ -153,7 +153,7 @@ pub told_live : (a : Asking) (parts : Parts) (pending : Pending) (n : ℕ) (s : 
     → session_with_serial n (so_far a parts pending).sessions ≡ Some s
     → (t : Session) × (session_with_serial n parts.sessions.live ≡ Some t) × (told_by pending.tellings t ≡ s) × (s.limit ≡ t.limit)
 told_live a parts pending n s up e =
-    let t = before_told pending.tellings n (left a parts.sessions) s e in (
+    let t = before_told pending.tellings n (sessions_left a parts.sessions) s e in (
       t.0,
       left_found (λ (x : Session). not (list_any (λ m. m == x.serial) a.ended)) n parts.sessions.live t.0 up t.1,
       t.2,
@@ -172,7 +172,7 @@ left_live p n (x ∷ live) l =
     ]
 
 -- what is left is live
-pub live_left : (a : Asking) (n : ℕ) (table : Table) → IsLive n (left a table) → IsLive n table.live
+pub live_left : (a : Asking) (n : ℕ) (table : Table) → IsLive n (sessions_left a table) → IsLive n table.live
 live_left a n table l = left_live (λ (x : Session). not (list_any (λ m. m == x.serial) a.ended)) n table.live l
 
 -- ---- names are to be renamed
@@ -181,7 +181,7 @@ one_at_most : (o : Option PollItem) → length (option_to_list o) ≤ 1
 one_at_most None = omega arith
 one_at_most (Some item) = omega arith
 
-items_few : (rs : List Renaming) → items_of rs ≤ length rs
+items_few : (rs : List Renaming) → item_count rs ≤ length rs
 items_few [] = omega arith
 items_few (r ∷ rs) =
     let sum = sum_by-cons (λ (x : Renaming). length (option_to_list x.item)) r rs in
@@ -211,7 +211,8 @@ renames serial rs state s t up found within is few =
 
 so_far_rising : (a : Asking) (parts : Parts) (pending : Pending) → IsStrictlySortedBy session_order parts.sessions.live
     → IsStrictlySortedBy session_order (so_far a parts pending).sessions
-so_far_rising a parts pending up = told_rising pending.tellings (left a parts.sessions) (rising_left a.ended parts.sessions.live up)
+so_far_rising a parts pending up = told_rising pending.tellings (sessions_left a parts.sessions)
+    (rising_left a.ended parts.sessions.live up)
 
 pub told_is : (a : Asking) (parts : Parts) (pending : Pending) (n : ℕ) (s : Session)
     → session_with_serial n (so_far a parts pending).sessions ≡ Some s
@@ -237,7 +238,7 @@ module _ (a : Asking) (old : Parts) (pending : Pending) (serial : ℕ) (readying
       let t = told_live a old pending serial s up e in omega (arith, limit t.0 t.1, t.3, r.counted.size)
 
   pub can_rename : (new : Parts) → new.graph ≡ old.graph → HasSameSessions old.sessions new.sessions
-      → new.standing.items ≡ old.standing.items → IsLive serial (left a old.sessions)
+      → new.standing.items ≡ old.standing.items → IsLive serial (sessions_left a old.sessions)
       → ((s : Session) → session_with_serial serial old.sessions.live ≡ Some s → readying.size ≤ s.limit)
       → vec_len new.standing + length readying.made.items ≤ vec_capacity new.standing
       → count_where (get nat_cmp pending.tellings serial) + length readying.made.items ≤ spare_of serial new.sessions.spare
@@ -264,7 +265,7 @@ module _ (a : Asking) (old : Parts) (pending : Pending) (serial : ℕ) (readying
       }
 
   pub leads_renamed : (new : Parts) → new.graph ≡ old.graph → HasSameSessions old.sessions new.sessions
-      → new.standing.items ≡ old.standing.items → IsReady a old pending → IsLive serial (left a old.sessions)
+      → new.standing.items ≡ old.standing.items → IsReady a old pending → IsLive serial (sessions_left a old.sessions)
       → ((s : Session) → session_with_serial serial old.sessions.live ≡ Some s → readying.size ≤ s.limit)
       → vec_len new.standing + length readying.made.items ≤ vec_capacity new.standing
       → count_where (get nat_cmp pending.tellings serial) + length readying.made.items ≤ spare_of serial new.sessions.spare
@@ -287,9 +288,10 @@ module _ (a : Asking) (old : Parts) (pending : Pending) (serial : ℕ) (readying
       (answer_subscribed (so_far a old pending) s (Some after))
   overruns ready limit s e next is =
       let state = so_far a old pending in
-      let grows : Grows (map shown (kept_of pending.gone.items old.standing.items)) =
-      subst Grows (sym (map_left shown pending.gone.items old.standing.items))
-      (grows_left pending.gone.items (map shown old.standing.items) (grows_rising (map shown old.standing.items) ready.ordered.rising)) in
+      let grows : Grows (map standing_of (kept_of pending.gone.items old.standing.items)) =
+      subst Grows (sym (map_left standing_of pending.gone.items old.standing.items))
+      (grows_left pending.gone.items (map standing_of old.standing.items)
+      (grows_rising (map standing_of old.standing.items) ready.ordered.rising)) in
       let others = others_renamed serial readying.made.items r.stand.session (told_at serial a old pending) grows in
       let it = over_is serial state s after (so_far_rising a old pending up) e (fit_each state.sessions ready.within)
       (over_limit limit s e) others in

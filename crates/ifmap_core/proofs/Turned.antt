@@ -1,4 +1,8 @@
 -- Parts that stay, parts that were turned, and parts that are back: of themselves, and one after the other.
+-- Plan: (1) of themselves: the same sessions, shared numbers, kept and turned parts; (2) one after the other; (3) what is back
+-- is what it was, and subscriptions keep what they kept where numbers are shared (`keeps_there`, `all_there`, `back_parts`);
+-- (4) parts of which only room changed, before or after a change (`kept_room`, `turned_room`, `room_kept`); (5) parts at
+-- the start.
 use Rattle.std.proofs.Common.{◌≡◌, refl, sym, ◌∙◌, ap, subst, ℕ, ◌≤◌, List, [], ◌∷◌, length, map, Some, arith}
 use Rattle.std.proofs.lemmas.Option.{same_Some}
 use Rattle.std.specs.List.{AllByRecursion}
@@ -19,7 +23,7 @@ use Rattle.ifmap_pool.specs.Holdings.{key_at}
 use Rattle.ifmap_session.specs.Sessions.{IsLive, Session, Table}
 use Rattle.ifmap_standing.specs.declared.standing.Standing.{Standing}
 use Rattle.ifmap_standing.specs.Kept.{AtEach, KeepsSame, Stands}
-use Rattle.ifmap_standing.specs.Standing.{shown}
+use Rattle.ifmap_standing.specs.Standing.{standing_of}
 use Rattle.ifmap_tellings.specs.Tellings.{HasSameSessions}
 use Rattle.ifmap_view.specs.Views.{IsView}
 
@@ -90,7 +94,7 @@ back_state ttl moment old new b =
     ∙ ap (λ (live : List Session). record
     (state_at ttl moment new) { counter = old.sessions.counter; graph = rows_now old.graph; sessions = live }) b.sessions.live
     ∙ ap (λ (xs : List machine.Standing). record (state_at ttl moment old) { standing = xs })
-    (same_map shown (λ _. Stands KeepsSame) shown_kept old.standing.items new.standing.items b.standing)
+    (same_map standing_of (λ _. Stands KeepsSame) shown_kept old.standing.items new.standing.items b.standing)
 
 -- a subscription that keeps what one graph has keeps what another has, where its start has its number there
 abbrev pub KeepsThere : Held → Held → Type 0
@@ -126,8 +130,8 @@ SameMarks = (g : Sight) (old new : Subscription) → KeepsSame old new → IsKep
 ordered_back : (old new : Parts) → AreBack old new → AreOrdered old.sessions.live old.standing.items
     → AreOrdered new.sessions.live new.standing.items
 ordered_back old new b o =
-    let same : map shown new.standing.items ≡ map shown old.standing.items =
-    same_map shown (λ _. Stands KeepsSame) shown_kept old.standing.items new.standing.items b.standing in
+    let same : map standing_of new.standing.items ≡ map standing_of old.standing.items =
+    same_map standing_of (λ _. Stands KeepsSame) shown_kept old.standing.items new.standing.items b.standing in
     record {
       rising = rw same o.rising;
       live = all_moved (λ (x : Standing). IsLive x.serial old.sessions.live) (λ (x : Standing). IsLive x.serial new.sessions.live)

@@ -3,7 +3,7 @@ use Rattle.std.specs.Prelude.{◌≡◌, ◌≢◌, ◌+◌, ◌-◌, ◌^◌, �
 use Rattle.std.specs.BTreeMap.{get}
 use Rattle.std.specs.List.{AllByRecursion}
 use Rattle.std.specs.Ordering.{nat_cmp}
-use Rattle.ifmap_changes.specs.Between.{AreOrdered, AreWithin, Asking, IsBare, IsReady, IsSteady, left, rest_of, sight_now, so_far}
+use Rattle.ifmap_changes.specs.Between.{AreOrdered, AreWithin, Asking, IsBare, IsReady, IsSteady, rest_of, sessions_left, sight_now, so_far}
 use Rattle.ifmap_core.specs.declared.outcomes.Outcome.{Outcome}
 use Rattle.ifmap_core.specs.declared.outcomes.Outcome.TheVariants.{Say, Accept, End, Open, Rename, Poll}
 use Rattle.ifmap_core.specs.declared.owning.Owner.{Owner}
@@ -12,7 +12,7 @@ use Rattle.ifmap_changes.specs.Changes.{taken_one}
 use Rattle.ifmap_changes.specs.declared.parts.Parts.{Parts}
 use Rattle.ifmap_subscribes.specs.declared.renamings.Renaming.{Renaming}
 use Rattle.ifmap_tellings.specs.declared.tellings.Pending.{Pending}
-use Rattle.ifmap_subscribes.specs.Renamings.{CanRenameEach, IsOfSession, begun_by, items_of, rename_all, told_in_parts, told_so_far}
+use Rattle.ifmap_subscribes.specs.Renamings.{CanRenameEach, IsOfSession, begun_by, item_count, rename_all, told_in_parts, told_so_far}
 use Rattle.ifmap_tellings.specs.Tellings.{count_where}
 use Rattle.ifmap_delta.specs.Sights.{IsKept}
 use Rattle.ifmap_ident.specs.declared.codes.Code.TheVariants.{InvalidSessionID, PollResultsTooBig}
@@ -29,7 +29,7 @@ use Rattle.ifmap_replies.specs.declared.replies.Reply.TheVariants as the_reply
 use Rattle.ifmap_search.specs.declared.results.PollItem.{PollItem}
 use Rattle.ifmap_search.specs.declared.results.PollItem.TheVariants as the_item
 use Rattle.ifmap_search.specs.Sizes.{queue_size}
-use Rattle.ifmap_session.specs.Sessions.{IsLive, Opening, Session, Table, begun, change, is_text, most_sessions, overflowed, renewed, session_of_client, session_with_id, session_with_serial, spare_of, without_sessions}
+use Rattle.ifmap_session.specs.Sessions.{IsLive, Opening, Session, Table, change, is_text, most_sessions, session_from, session_of_client, session_with_id, session_with_serial, spare_of, with_error, with_last, without_sessions}
 use Rattle.ifmap_standing.specs.declared.standing.Standing.{Standing}
 
 -- the sessions without the one that a client had, if it had one
@@ -46,7 +46,7 @@ drop_former (Some n) state = drop_sessions (n ∷ []) state
 abbrev pub open_session : Option ℕ → Opening → ℕ → State → State
 open_session former opening limit state = record (drop_former former state) {
   counter = state.counter + 1;
-  sessions = after_former former state.sessions ++ begun opening limit state.moment ∷ [];
+  sessions = after_former former state.sessions ++ session_from opening limit state.moment ∷ [];
 }
 
 -- the names of a session are renamed, and its request was accepted
@@ -68,7 +68,7 @@ poll_answer (item ∷ items) = the_answer.Reply (the_reply.Polled (item ∷ item
 -- the sessions where a poll was accepted: one that is asked again is no sign of life
 abbrev pub first_renewed : Bool → ℕ → ℕ → List Session → List Session
 first_renewed true serial moment live = live
-first_renewed false serial moment live = change serial (renewed moment) live
+first_renewed false serial moment live = change serial (with_last moment) live
 
 -- the state after an outcome, and the answer
 abbrev pub after_outcome : Outcome → State → State × Answer
@@ -94,11 +94,11 @@ pub record CanOpen (former : Option ℕ) (opening : Opening) (limit : ℕ) (tabl
 -- the names of a session can be renamed: what is to stand keeps what the graph has, there is room, and neither is the queue greater
 -- than its limit afterwards nor are there more subscriptions than may be
 pub record CanRename (serial : ℕ) (renamings : List Renaming) (a : Asking) (parts : Parts) (pending : Pending) : Type 0 where
-  pub live : IsLive serial (left a parts.sessions)
+  pub live : IsLive serial (sessions_left a parts.sessions)
   pub session : AllByRecursion (IsOfSession serial) renamings
   pub kept : AllByRecursion (λ x. IsKept (sight_now parts.graph) x.subscription) (begun_by renamings)
   pub places : vec_len parts.standing + length renamings ≤ vec_capacity parts.standing
-  pub room : count_where (get nat_cmp pending.tellings serial) + items_of renamings ≤ spare_of serial parts.sessions.spare
+  pub room : count_where (get nat_cmp pending.tellings serial) + item_count renamings ≤ spare_of serial parts.sessions.spare
   pub within : (s : Session) → session_with_serial serial (so_far a parts pending).sessions ≡ Some s
       → queue_size (rename_all serial renamings (told_so_far a parts pending s)).queue ≤ s.limit
   pub few : (s : Session) → session_with_serial serial (so_far a parts pending).sessions ≡ Some s
@@ -114,12 +114,12 @@ FitsAfter serial renamings parts =
 -- an outcome can be applied
 abbrev pub CanApply : Outcome → Asking → Parts → Pending → Type 0
 CanApply (Say answer) a parts pending = Unit {0}
-CanApply (Accept serial answer) a parts pending = IsLive serial (left a parts.sessions)
-CanApply (End serial answer) a parts pending = IsLive serial (left a parts.sessions) × IsBare serial parts pending
+CanApply (Accept serial answer) a parts pending = IsLive serial (sessions_left a parts.sessions)
+CanApply (End serial answer) a parts pending = IsLive serial (sessions_left a parts.sessions) × IsBare serial parts pending
 CanApply (Open former opening limit publisher) a parts pending =
     CanOpen former opening limit (rest_of a parts.sessions) × IfSome former (λ n. IsBare n parts pending)
 CanApply (Rename serial renamings) a parts pending = CanRename serial renamings a parts pending
-CanApply (Poll serial again) a parts pending = IsLive serial (left a parts.sessions)
+CanApply (Poll serial again) a parts pending = IsLive serial (sessions_left a parts.sessions)
 
 -- the same of parts where nothing is pending any more
 abbrev pub CanApplyTo : Outcome → Parts → Type 0
@@ -137,7 +137,7 @@ CanApplyTo (Poll serial again) parts = IsLive serial parts.sessions.live
 abbrev pub alone_told : ℕ → ℕ → State → State
 alone_told serial size state = record state {
   sessions = change serial
-      (λ (s : Session). overflowed (the_item.Error None PollResultsTooBig (limit_note size s.limit)) s) state.sessions;
+      (λ (s : Session). with_error (the_item.Error None PollResultsTooBig (limit_note size s.limit)) s) state.sessions;
   standing = without_standing (serial ∷ []) state.standing;
 }
 

@@ -1,7 +1,7 @@
 //! How a session begins.
 ghost use Rattle.std.specs.Prelude.{◌≡◌, ◌<◌, ◌-◌, ◌^◌, ◌&&◌, nat_le, false, is_none, length, option_map, IfOk, IfSome, OnErr, OnOk};
 ghost use Rattle.std.specs.Bool.{OnFalse};
-ghost use Rattle.ifmap_changes.specs.Between.{AreKept, AreTurned, CanEnd, IsBare, IsReady, IsSteady, left, so_far};
+ghost use Rattle.ifmap_changes.specs.Between.{AreKept, AreTurned, CanEnd, IsBare, IsReady, IsSteady, sessions_left, so_far};
 ghost use Rattle.ifmap_changes.specs.declared.parts.Parts.{Parts};
 ghost use Rattle.ifmap_tellings.specs.declared.tellings.Pending.{Pending};
 ghost use Rattle.ifmap_core.specs.Bounds.{IsBegunWithin, IsFormerWithin};
@@ -69,8 +69,8 @@ fn is_full(sessions: &Sessions, asking: &Asking) -> bool
 // Whether all sessions are taken, and none by the client.
 fn is_taken(sessions: &Sessions, asking: &Asking) -> bool
     requires { CanEnd asking.now.ended sessions.now.live }
-    ensures { result ≡ (nat_le most_sessions (length (left asking.now sessions.now))
-        && is_none (session_of_client asking.now.client (left asking.now sessions.now))) }
+    ensures { result ≡ (nat_le most_sessions (length (sessions_left asking.now sessions.now))
+        && is_none (session_of_client asking.now.client (sessions_left asking.now sessions.now))) }
 {
     let count = count_left(sessions, asking);
     MOST_SESSIONS as u64 <= count && has_none(sessions, asking)
@@ -79,7 +79,7 @@ fn is_taken(sessions: &Sessions, asking: &Asking) -> bool
 // How many sessions are left.
 fn count_left(sessions: &Sessions, asking: &Asking) -> u64
     requires { CanEnd asking.now.ended sessions.now.live }
-    ensures { result ≡ length (left asking.now sessions.now) }
+    ensures { result ≡ length (sessions_left asking.now sessions.now) }
 {
     sessions.is_table();
     let (live, _counter) = sessions.counts();
@@ -90,7 +90,7 @@ fn count_left(sessions: &Sessions, asking: &Asking) -> u64
 // Whether no session is left of the client's.
 fn has_none(sessions: &Sessions, asking: &Asking) -> bool
     ensures { result ≡ is_none (session_of_client asking.now.client
-        (left asking.now sessions.now)) }
+        (sessions_left asking.now sessions.now)) }
 {
     former_of(sessions, asking).is_none()
 }

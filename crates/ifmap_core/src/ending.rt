@@ -19,7 +19,7 @@ use crate::answering::answer;
 use crate::light::light_outcome;
 use crate::outcomes::{Outcome, apply, finish};
 use ifmap_changes::asking::Asking;
-use ifmap_changes::changes::{Made, mark_sessions, settle_made, undo_made};
+use ifmap_changes::changes::{Made, flag_sessions, settle_made, undo_made};
 use ifmap_changes::changing::take_away_kept;
 use ifmap_changes::parts::Parts;
 use ifmap_elem::Copied;
@@ -168,7 +168,7 @@ fn pending_without(alloc: Global, parts: &Parts, asking: &Asking) -> Result<Pend
         ≡ drop_sessions asking.now.ended (state_at asking.now.ttl asking.now.moment parts.now)) }
 {
     let mut pending = nothing_pending(alloc, parts.standing.len())?;
-    mark_sessions(&parts.standing, &mut pending, asking.ended);
+    flag_sessions(&parts.standing, &mut pending, asking.ended);
     Ok(pending)
 }
 

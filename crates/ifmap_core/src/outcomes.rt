@@ -6,9 +6,9 @@ ghost use Rattle.ifmap_core.specs.Outcomes.{CanApply, CanApplyTo, WouldBeParts, 
 ghost use Rattle.ifmap_tellings.specs.Tellings.{kept_of};
 ghost use Rattle.ifmap_machine.specs.State.{State};
 ghost use Rattle.ifmap_machine.specs.Step.{refusal};
-ghost use Rattle.ifmap_session.specs.Sessions.{IsLive, change, emptied, session_with_serial, spare_of, without_sessions};
+ghost use Rattle.ifmap_session.specs.Sessions.{IsLive, change, session_with_serial, spare_of, without_items, without_sessions};
 ghost use Rattle.ifmap_standing.specs.declared.standing.Standing.{Standing};
-ghost use Rattle.ifmap_standing.specs.Standing.{shown};
+ghost use Rattle.ifmap_standing.specs.Standing.{standing_of};
 ghost use Rattle.ifmap_graph.specs.Seen.{StaysLean, rows_now};
 ghost use Rattle.ifmap_subscribes.specs.Renamings.{KeepsNumbered};
 
@@ -89,7 +89,7 @@ fn tell_queue(sessions: &mut Sessions, moment: Moment, serial: u64, again: bool)
         → poll_found state again (session_with_serial serial state.sessions)
         ≡ (record state { sessions = sessions.new.live }, result) }
     ensures live { sessions.new.live
-        ≡ first_renewed again serial moment (change serial emptied sessions.old.live) }
+        ≡ first_renewed again serial moment (change serial without_items sessions.old.live) }
     ensures counter { sessions.new.counter ≡ sessions.old.counter }
 {
     sessions.is_table();
@@ -180,11 +180,12 @@ pub(crate) fn apply(parts: &mut Parts, moment: Moment, outcome: Outcome) -> Answ
     requires parts { WouldBeParts (held_by outcome) parts.old }
     ensures answer { (state : State) → state.moment ≡ moment
         → state.sessions ≡ parts.old.sessions.live → state.counter ≡ parts.old.sessions.counter
-        → state.standing ≡ map shown parts.old.standing.items → after_outcome outcome state ≡ (
+        → state.standing ≡ map standing_of parts.old.standing.items
+        → after_outcome outcome state ≡ (
           record state {
             counter = parts.new.sessions.counter;
             sessions = parts.new.sessions.live;
-            standing = map shown parts.new.standing.items;
+            standing = map standing_of parts.new.standing.items;
           },
           result,
         ) }

@@ -1,6 +1,6 @@
 //! Whose session a request names.
 ghost use Rattle.std.specs.Prelude.{◌≡◌, IfSome, option_map};
-ghost use Rattle.ifmap_changes.specs.Between.{left};
+ghost use Rattle.ifmap_changes.specs.Between.{sessions_left};
 ghost use Rattle.ifmap_core.specs.Outcomes.{IsOwner};
 ghost use Rattle.ifmap_session.specs.Sessions.{IsLive, session_of_client};
 
@@ -21,7 +21,7 @@ pub enum Owner {
 
 /// Whose the session is that is left under an id.
 pub fn owner_of(sessions: &Sessions, asking: &Asking, id: &Text) -> Owner
-    ensures { IsOwner (left asking.now sessions.now) id.now asking.now.client result }
+    ensures { IsOwner (sessions_left asking.now sessions.now) id.now asking.now.client result }
 {
     sessions.is_table();
     let Some((serial, owner)) = sessions.owner(id) else {
@@ -40,8 +40,8 @@ pub fn owner_of(sessions: &Sessions, asking: &Asking, id: &Text) -> Owner
 /// The serial of the session that is left of the client's.
 pub fn former_of(sessions: &Sessions, asking: &Asking) -> Option<u64>
     ensures serial { result ≡ option_map (λ s. s.serial)
-        (session_of_client asking.now.client (left asking.now sessions.now)) }
-    ensures live { IfSome result (λ n. IsLive n (left asking.now sessions.now)) }
+        (session_of_client asking.now.client (sessions_left asking.now sessions.now)) }
+    ensures live { IfSome result (λ n. IsLive n (sessions_left asking.now sessions.now)) }
 {
     sessions.is_table();
     let serial = sessions.of_client(asking.client)?;

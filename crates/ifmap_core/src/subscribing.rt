@@ -3,7 +3,7 @@ ghost use Rattle.std.specs.Prelude.{◌≡◌, ◌≤◌, ◌<◌, ◌+◌, ◌+
 ghost use Rattle.std.specs.BTreeMap.{get};
 ghost use Rattle.std.specs.List.{AllByRecursion};
 ghost use Rattle.std.specs.Ordering.{nat_cmp};
-ghost use Rattle.ifmap_changes.specs.Between.{AreKept, AreTurned, IsReady, IsSteady, left, so_far};
+ghost use Rattle.ifmap_changes.specs.Between.{AreKept, AreTurned, IsReady, IsSteady, sessions_left, so_far};
 ghost use Rattle.ifmap_core.specs.Outcomes.{LeadsTo, alone_told};
 ghost use Rattle.ifmap_graph.specs.Seen.{rows_now};
 ghost use Rattle.ifmap_machine.specs.Step.{answer_subscribed};
@@ -17,7 +17,7 @@ ghost use Rattle.ifmap_tellings.specs.Tellings.{HasSameSessions, count_where};
 
 use crate::outcomes::{Outcome, refuse};
 use ifmap_changes::asking::Asking;
-use ifmap_changes::changes::mark_session;
+use ifmap_changes::changes::flag_session;
 use ifmap_changes::parts::Parts;
 use ifmap_elem::Many;
 use ifmap_ident::Code;
@@ -50,7 +50,7 @@ pub(crate) fn subscribe_in<L: Ledger>(
 ) -> Result<Outcome, NoMemory>
     requires steady { IsSteady parts.old.graph parts.old.standing.items }
     requires ready { IsReady asking.now parts.old pending.old }
-    requires live { IsLive ops.now.serial (left asking.now parts.old.sessions) }
+    requires live { IsLive ops.now.serial (sessions_left asking.now parts.old.sessions) }
     requires fit { AllByRecursion IsFitSubscribeOp ops.now.ops.now }
     ensures leads { let before = so_far asking.now parts.old pending.old in (s : Session)
         → session_with_serial ops.now.serial before.sessions ≡ Some s
@@ -84,7 +84,7 @@ fn accept_ops(
     readying: Readying,
 ) -> Result<Outcome, NoMemory>
     requires ready { IsReady asking.now parts.old pending.old }
-    requires live { IsLive serial (left asking.now parts.old.sessions) }
+    requires live { IsLive serial (sessions_left asking.now parts.old.sessions) }
     requires readied { AreReadied serial (told_at serial asking.now parts.old pending.old)
         parts.old readying }
     ensures leads { let before = so_far asking.now parts.old pending.old in (s : Session)
@@ -113,7 +113,7 @@ fn rename_ready(
     readying: Readying,
 ) -> Result<Outcome, NoMemory>
     requires ready { IsReady asking.now parts.old pending.now }
-    requires live { IsLive serial (left asking.now parts.old.sessions) }
+    requires live { IsLive serial (sessions_left asking.now parts.old.sessions) }
     requires readied { AreReadied serial (told_at serial asking.now parts.old pending.now)
         parts.old readying }
     requires within { (s : Session) → session_with_serial serial parts.old.sessions.live ≡ Some s
@@ -151,7 +151,7 @@ fn overrun(
     readying: Readying,
 ) -> Result<Outcome, NoMemory>
     requires ready { IsReady asking.now parts.old pending.old }
-    requires live { IsLive serial (left asking.now parts.old.sessions) }
+    requires live { IsLive serial (sessions_left asking.now parts.old.sessions) }
     requires readied { AreReadied serial (told_at serial asking.now parts.old pending.old)
         parts.old readying }
     requires over { (s : Session) → session_with_serial serial parts.old.sessions.live ≡ Some s
@@ -183,7 +183,7 @@ fn tell_over(
     size: u128,
 ) -> Result<(), NoMemory>
     requires ready { IsReady asking.now parts.old pending.old }
-    requires live { IsLive serial (left asking.now parts.old.sessions) }
+    requires live { IsLive serial (sessions_left asking.now parts.old.sessions) }
     ensures told { OnOk result (so_far asking.now parts.new pending.new
         ≡ alone_told serial size (so_far asking.now parts.old pending.old)) }
     ensures ready { OnOk result (IsReady asking.now parts.new pending.new) }
@@ -202,7 +202,7 @@ fn tell_over(
         serial,
         size as u64,
     )?;
-    mark_session(&parts.standing, pending, serial);
+    flag_session(&parts.standing, pending, serial);
     Ok(())
 }
 

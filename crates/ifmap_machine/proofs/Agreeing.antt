@@ -4,15 +4,14 @@
 -- (`ops_tell`, `told_follows`), polls (`polled_follows`), each case of the step, and histories.
 use Rattle.std.proofs.Common.{◌≡◌, refl, sym, ◌∙◌, ap, subst, ℕ, ◌+◌, ◌^◌, ◌<◌, ◌≤◌, ◌==◌, ◌&&◌, ◌⊎◌, Bool, true, false, not, cond, List}
 use Rattle.std.proofs.Common.{[], ◌∷◌, ◌++◌, map, Option, None, Some, option_and_then, inl, inr, arith}
-use Rattle.std.proofs.lemmas.Bool.{and_cases, both_ways, cases_Bool, eq-eqb, not-true}
-use Rattle.std.proofs.lemmas.Bool.Decides.{nat_tests}
+use Rattle.std.proofs.lemmas.Bool.{and_cases, both_ways, cases_Bool, eq-eqb, eqb-true, not-true}
 use Rattle.std.proofs.lemmas.List.Kept.{IsStrictlySortedBy-filter}
 use Rattle.std.specs.List.{find}
 use Rattle.std.specs.List.Sorted.{IsStrictlySortedBy}
 use Rattle.ifmap_folds.specs.Folds.{Sets, fold_items, with_entries}
 use Rattle.ifmap_fresh.specs.Fresh.{fresh}
 use Rattle.ifmap_lemmas.specs.Filters.{all_weaker, filter_passes}
-use Rattle.ifmap_lemmas.specs.Having.{Has, filter_has, has_any, has_either, has_filter, map_has}
+use Rattle.ifmap_lemmas.specs.Having.{Has, filter_has, has_any, has_either, has_filter, map_has, all_has}
 use Rattle.ifmap_machine.specs.Agreeing.{items_of}
 use Rattle.ifmap_machine.specs.Ending.{drop_sessions}
 use Rattle.ifmap_machine.specs.State.{Standing, State, standing_in, standing_order}
@@ -23,7 +22,7 @@ use Rattle.ifmap_machine.specs.Subscribing.{Told, begin_name, drop_name, is_full
 use Rattle.ifmap_machine.specs.Telling.{is_overfull, is_overrun, is_too_big, overflow, overflow_session, tell, tell_session, told_in}
 use Rattle.ifmap_machine.specs.Telling.{too_big_item}
 use Rattle.ifmap_machine.proofs.Folding.{AreOf, Folds, dropped_stay, fold_joined, other_stays, told_all}
-use Rattle.ifmap_machine.proofs.Ids.{all_has, find_has, ids_tell, one_of_serial}
+use Rattle.ifmap_machine.proofs.Ids.{find_has, ids_tell, one_of_serial}
 use Rattle.ifmap_machine.proofs.Standing.{IsStood}
 use Rattle.ifmap_machine.proofs.Tables.{IsTabled, overflow_keeps}
 use Rattle.ifmap_plans.specs.declared.plans.Note.{Note}
@@ -33,7 +32,7 @@ use Rattle.ifmap_requests.specs.declared.requests.SubscribeOp.TheVariants.{Updat
 use Rattle.ifmap_search.specs.declared.results.PollItem.{PollItem}
 use Rattle.ifmap_search.specs.declared.results.PollItem.TheVariants as the_item
 use Rattle.ifmap_search.specs.declared.searches.Search.{Search}
-use Rattle.ifmap_session.specs.Sessions.{Session, change, emptied, is_named, is_text, session_with_id}
+use Rattle.ifmap_session.specs.Sessions.{Session, change, is_named, is_text, session_with_id, without_items}
 use Rattle.ifmap_session.specs.laws.TextLaws.{text_flip, text_is, text_itself, text_same}
 use Rattle.ifmap_view.specs.declared.attachments.Attachment.{Attachment}
 
@@ -43,9 +42,6 @@ pub record Follows (Live : Standing → Type 0) (done : List ℕ → Sets) (stat
   pub folded : (s : Session) (x : Standing) → Has state.sessions s → Has state.standing x → x.serial ≡ s.serial → Live x
       → fold_items s.queue (done s.id) x.name ≡ Some (fresh state.graph x.search)
   pub below : (x : Standing) → Has state.standing x → x.serial ≤ state.counter
-
-numbers_same : (a b : ℕ) → (a == b) ≡ true → a ≡ b
-numbers_same a b e = grind (arith, nat_tests, e)
 
 -- a function of each session that keeps its serial, id and queue
 record KeepsQueue (f : Session → Session) : Type 0 where
@@ -96,7 +92,7 @@ tell_follows after notes done state folds stood w = record {
       IsStrictlySortedBy-filter standing_order (λ (y : Standing). y.serial == u.serial) state.standing stood.rising in
       let are : AreOf u.serial mine =
       all_weaker (λ (y : Standing). (y.serial == u.serial) ≡ true) (λ (y : Standing). y.serial ≡ u.serial)
-      (λ y e. numbers_same y.serial u.serial e) mine (filter_passes (λ (y : Standing). y.serial == u.serial) state.standing) in
+      (λ y e. eqb-true y.serial u.serial e) mine (filter_passes (λ (y : Standing). y.serial == u.serial) state.standing) in
       let has : Has mine x = has_filter (λ (y : Standing). y.serial == u.serial) state.standing x kept.0 (eq-eqb x.serial u.serial own) in
       let told = told_all state.graph after notes u.serial mine x (fold_items u.queue (done u.id)) up are has (folds x.search)
       (not-true (is_too_big after x.search) kept.1) there in
@@ -301,7 +297,7 @@ queue_one n queue s = cond (s.serial == n) (record s { queue = queue }) s
 is_found : (state : State) (q : Session → Bool) (s u : Session) → IsTabled state → find q state.sessions ≡ Some s → Has state.sessions u
     → (u.serial == s.serial) ≡ true → u ≡ s
 is_found state q s u tabled found h same =
-    one_of_serial state.sessions u s tabled.rising h (find_has q state.sessions s found).0 (numbers_same u.serial s.serial same)
+    one_of_serial state.sessions u s tabled.rising h (find_has q state.sessions s found).0 (eqb-true u.serial s.serial same)
 
 pub told_follows : {Live Now : Standing → Type 0} (done : List ℕ → Sets) (state : State) (q : Session → Bool) (s : Session) (t : Told)
     → IsTabled state → find q state.sessions ≡ Some s → ((x : Standing) → Now x → (x.serial == s.serial) ≡ false → Live x)
@@ -357,10 +353,10 @@ pub one_serial : (a b : State) (s u : Session) → IsTabled a → IsTabled b →
 one_serial a b s u one other hs hu same =
     let few : a.counter < 2 ^ 64 = one.small in
     let small : b.counter < 2 ^ 64 = other.small in
-    let low = all_has (λ (y : Session). y.serial ≤ a.counter) a.sessions s one.counted hs in
-    let under = all_has (λ (y : Session). y.serial ≤ b.counter) b.sessions u other.counted hu in
-    let first = all_has _ a.sessions s one.ids hs in
-    let second = all_has _ b.sessions u other.ids hu in
+    let low = all_has (λ (y : Session). y.serial ≤ a.counter) a.sessions one.counted s hs in
+    let under = all_has (λ (y : Session). y.serial ≤ b.counter) b.sessions other.counted u hu in
+    let first = all_has _ a.sessions one.ids s hs in
+    let second = all_has _ b.sessions other.ids u hu in
     ids_tell s.serial u.serial s.id (omega (arith, few, low)) (omega (arith, small, under)) first (second.0, same ∙ second.1)
 
 -- two sessions of one id are one
@@ -371,7 +367,7 @@ id_tells state s u tabled hs hu same = eq-eqb u.serial s.serial (sym (one_serial
 polled_follows : {Live : Standing → Type 0} (done : List ℕ → Sets) (state : State) (own : List ℕ) (s : Session) (items : List PollItem)
     → IsTabled state
     → session_with_id own state.sessions ≡ Some s → s.queue ≡ items → Follows Live done state
-    → Follows Live (polled_more own items done) (record state { sessions = change s.serial emptied state.sessions })
+    → Follows Live (polled_more own items done) (record state { sessions = change s.serial without_items state.sessions })
 polled_follows done state own s items tabled found queue w =
     let there = find_has (λ (y : Session). is_text y.id own) state.sessions s found in
     let own_is : s.id ≡ own = text_is s.id own there.1 in
@@ -384,7 +380,7 @@ polled_follows done state own s items tabled found queue w =
                 let is : queue_one s.serial [] u ≡ record u { queue = [] } = rw hit refl in
                 let mine : record u { queue = [] } ≡ one = sym is ∙ from.2 in
                 let found_one : u ≡ s =
-                one_of_serial state.sessions u s tabled.rising from.1 there.0 (numbers_same u.serial s.serial hit) in
+                one_of_serial state.sessions u s tabled.rising from.1 there.0 (eqb-true u.serial s.serial hit) in
                 let serials : x.serial ≡ s.serial =
                 same ∙ ap (λ (y : Session). y.serial) (sym mine) ∙ ap (λ (y : Session). y.serial) found_one in
                 let named : is_text own s.id ≡ true = text_same own s.id (sym own_is) in

@@ -57,7 +57,7 @@ use Rattle.ifmap_search.specs.declared.results.Entry.{Entry}
 use Rattle.ifmap_search.specs.declared.results.PollItem.{PollItem}
 use Rattle.ifmap_search.specs.declared.results.PollItem.TheVariants as the_item
 use Rattle.ifmap_search.specs.declared.searches.Search.{Search}
-use Rattle.ifmap_session.specs.Sessions.{Session, change, emptied, is_named, is_text, renewed, session_of_client}
+use Rattle.ifmap_session.specs.Sessions.{Session, change, is_named, is_text, session_of_client, with_last, without_items}
 use Rattle.ifmap_session.specs.Sessions.{session_with_id}
 use Rattle.ifmap_session.specs.laws.TextLaws.{text_is}
 use Rattle.ifmap_view.specs.declared.attachments.Attachment.{Attachment}
@@ -196,7 +196,7 @@ fit_renew : (serial : ℕ) (state : State) → IsFitState state → IsFitState (
 fit_renew serial state at = record {
   graph = at.graph;
   whole = at.whole;
-  queues = fit_change serial (renewed state.moment) (λ s f. f) state.sessions at.queues;
+  queues = fit_change serial (with_last state.moment) (λ s f. f) state.sessions at.queues;
   names = at.names;
 }
 
@@ -383,7 +383,7 @@ module _ (graph_retracted : (who : Who) (rows : List Attachment) → IsGraph row
         (record {
           graph = at.graph;
           whole = at.whole;
-          queues = fit_change s.serial emptied (λ x g. tt) state.sessions at.queues;
+          queues = fit_change s.serial without_items (λ x g. tt) state.sessions at.queues;
           names = at.names;
         }),
     f,

@@ -21,10 +21,9 @@ use Rattle.ifmap_ident.specs.declared.items.Item.TheVariants.{One, Pair}
 use Rattle.ifmap_ident.specs.Identifiers.{identifier_bytes, same_identifier}
 use Rattle.ifmap_ident.specs.Items.{IsCanonItem, same_item}
 use Rattle.ifmap_lemmas.specs.Filters.{all_weaker}
-use Rattle.ifmap_lemmas.specs.Having.{Has, filter_has, map_has}
+use Rattle.ifmap_lemmas.specs.Having.{Has, filter_has, map_has, all_has}
 use Rattle.ifmap_lemmas.specs.Members.{map_of_all}
 use Rattle.ifmap_machine.proofs.Folding.{Folds, difference_none}
-use Rattle.ifmap_machine.proofs.Ids.{all_has}
 use Rattle.ifmap_meta.specs.Whole.{IsWhole}
 use Rattle.ifmap_plans.specs.Plans.{AreWhole}
 use Rattle.ifmap_search.specs.declared.results.Entry.{Entry}
@@ -110,10 +109,10 @@ module _ (tell_ids : (one other : Identifier) → IsIdentifier one → IsIdentif
       let b = map_has entry_of (filter (is_found after s) after) y hy in
       let has_a = (filter_has (is_found before s) before a.0 a.1).0 in
       let has_b = (filter_has (is_found after s) after b.0 b.1).0 in
-      let told = attachments_told a.0 b.0 (all_has (λ (r : Attachment). IsCanonItem r.item) before a.0 g.graph.items has_a)
-      (all_has (λ (r : Attachment). IsCanonItem r.item) after b.0 k.graph.items has_b)
-      (all_has (λ (r : Attachment). IsWhole r.stored) before a.0 g.whole has_a)
-      (all_has (λ (r : Attachment). IsWhole r.stored) after b.0 k.whole has_b)
+      let told = attachments_told a.0 b.0 (all_has (λ (r : Attachment). IsCanonItem r.item) before g.graph.items a.0 has_a)
+      (all_has (λ (r : Attachment). IsCanonItem r.item) after k.graph.items b.0 has_b)
+      (all_has (λ (r : Attachment). IsWhole r.stored) before g.whole a.0 has_a)
+      (all_has (λ (r : Attachment). IsWhole r.stored) after k.whole b.0 has_b)
       (subst (λ e. same_entry e (entry_of b.0) ≡ true) (sym a.2) (subst (λ e. same_entry x e ≡ true) (sym b.2) same)) in
       sym a.2 ∙ told ∙ b.2
 

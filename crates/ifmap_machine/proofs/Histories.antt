@@ -13,7 +13,7 @@ use Rattle.std.specs.List.{AllByRecursion, find}
 use Rattle.std.specs.Option.{option_map}
 use Rattle.ifmap_folds.specs.Folds.{Sets, fold_items, no_sets, with_entries}
 use Rattle.ifmap_fresh.specs.Fresh.{fresh}
-use Rattle.ifmap_lemmas.specs.Having.{Has}
+use Rattle.ifmap_lemmas.specs.Having.{Has, all_has}
 use Rattle.ifmap_machine.specs.declared.events.Answer.{Answer}
 use Rattle.ifmap_machine.specs.declared.events.Answer.TheVariants as the_answer
 use Rattle.ifmap_machine.specs.declared.events.Ask.{Ask}
@@ -32,7 +32,7 @@ use Rattle.ifmap_machine.specs.Telling.{is_too_big, overflow, tell}
 use Rattle.ifmap_machine.proofs.Agreeing.{Follows, Tells, begun_follows, drop_follows, one_serial, ops_renew, ops_tell, overflow_follows}
 use Rattle.ifmap_machine.proofs.Agreeing.{poll_follows, renewed_follows, tell_follows, tells_fewer, told_follows}
 use Rattle.ifmap_machine.proofs.Folding.{Folds, fold_joined}
-use Rattle.ifmap_machine.proofs.Ids.{all_has, find_has, one_of_serial}
+use Rattle.ifmap_machine.proofs.Ids.{find_has, one_of_serial}
 use Rattle.ifmap_machine.proofs.Standing.{IsStood, ended_stood, event_stood, stood_filter, stood_none}
 use Rattle.ifmap_machine.proofs.Tables.{IsTabled, event_table, expired_table, opening_table}
 use Rattle.ifmap_meta.specs.ClientNames.{IsClientName}
@@ -50,7 +50,7 @@ use Rattle.ifmap_requests.specs.declared.requests.SubscribeOp.TheVariants.{Updat
 use Rattle.ifmap_requests.specs.Fit.{IsFitOp}
 use Rattle.ifmap_search.specs.declared.results.PollItem.{PollItem}
 use Rattle.ifmap_search.specs.declared.searches.Search.{Search}
-use Rattle.ifmap_session.specs.Sessions.{Session, change, emptied, is_text, renewed, session_of_client, session_with_id}
+use Rattle.ifmap_session.specs.Sessions.{Session, change, is_text, session_of_client, session_with_id, with_last, without_items}
 use Rattle.ifmap_session.specs.laws.TextLaws.{text_is}
 use Rattle.ifmap_view.specs.declared.attachments.Attachment.{Attachment}
 
@@ -78,24 +78,24 @@ renewed_empty : (id : List ℕ) (again : Bool) (n : ℕ) (state : State)
     → (s : Session) → session_with_id id (renew_first again n state).sessions ≡ Some s → s.queue ≡ []
 renewed_empty id true n state h s found = h s found
 renewed_empty id false n state h s found =
-    at (session_with_id id state.sessions) refl (sym (find_mapped id (λ (u : Session). cond (u.serial == n) (renewed state.moment u) u)
-    (changed_id n (renewed state.moment) (λ u. refl)) state.sessions) ∙ found)
+    at (session_with_id id state.sessions) refl (sym (find_mapped id (λ (u : Session). cond (u.serial == n) (with_last state.moment u) u)
+    (changed_id n (with_last state.moment) (λ u. refl)) state.sessions) ∙ found)
   where
     at : (o : Option Session) → session_with_id id state.sessions ≡ o
-        → option_map (λ (u : Session). cond (u.serial == n) (renewed state.moment u) u) o ≡ Some s → s.queue ≡ []
+        → option_map (λ (u : Session). cond (u.serial == n) (with_last state.moment u) u) o ≡ Some s → s.queue ≡ []
     at None there e = cc
     at (Some u) there e =
-        let is : cond (u.serial == n) (renewed state.moment u) u ≡ s = cc e in
-        let queue : (cond (u.serial == n) (renewed state.moment u) u).queue ≡ u.queue =
+        let is : cond (u.serial == n) (with_last state.moment u) u ≡ s = cc e in
+        let queue : (cond (u.serial == n) (with_last state.moment u) u).queue ≡ u.queue =
         elim (cases_Bool (u.serial == n)) [ inl k ↦ rw k refl | inr k ↦ rw k refl ] in
         ap (λ (y : Session). y.queue) (sym is) ∙ queue ∙ h u there
 
 emptied_empty : (id : List ℕ) (state : State) (own : Session) → session_with_id id state.sessions ≡ Some own → (s : Session)
-    → session_with_id id (change own.serial emptied state.sessions) ≡ Some s → s.queue ≡ []
+    → session_with_id id (change own.serial without_items state.sessions) ≡ Some s → s.queue ≡ []
 emptied_empty id state own there s found =
-    let f : Session → Session = λ u. cond (u.serial == own.serial) (emptied u) u in
+    let f : Session → Session = λ u. cond (u.serial == own.serial) (without_items u) u in
     let mapped : session_with_id id (map f state.sessions) ≡ option_map f (session_with_id id state.sessions) =
-    find_mapped id f (changed_id own.serial emptied (λ u. refl)) state.sessions in
+    find_mapped id f (changed_id own.serial without_items (λ u. refl)) state.sessions in
     let one : option_map f (session_with_id id state.sessions) ≡ Some (f own) = ap (option_map f) there in
     let is : Some (f own) ≡ Some s = sym one ∙ sym mapped ∙ found in
     let same : f own ≡ s = cc is in
@@ -110,7 +110,7 @@ queue_empties id state again own [] is there =
     renewed_empty id again own.serial state (λ s found. let same : own ≡ s = cc (sym there ∙ found) in
     ap (λ (y : Session). y.queue) (sym same) ∙ is)
 queue_empties id state again own (item ∷ items) is there =
-    renewed_empty id again own.serial (record state { sessions = change own.serial emptied state.sessions })
+    renewed_empty id again own.serial (record state { sessions = change own.serial without_items state.sessions })
     (emptied_empty id state own there)
 
 in_session_empties : (id client : List ℕ) (state : State) (again : Bool) (o : Option Session) → session_with_id id state.sessions ≡ o
@@ -142,15 +142,15 @@ changed_finds id n f k live own there = (
 renewed_finds : (id : List ℕ) (again : Bool) (n : ℕ) (state : State) (own : Session) → session_with_id id state.sessions ≡ Some own
     → (s : Session) × (session_with_id id (renew_first again n state).sessions ≡ Some s)
 renewed_finds id true n state own there = (own, there)
-renewed_finds id false n state own there = changed_finds id n (renewed state.moment) (λ u. refl) state.sessions own there
+renewed_finds id false n state own there = changed_finds id n (with_last state.moment) (λ u. refl) state.sessions own there
 
 queue_finds : (id : List ℕ) (state : State) (again : Bool) (own : Session) (queue : List PollItem)
     → session_with_id id state.sessions ≡ Some own
     → (s : Session) × (session_with_id id (poll_queue state again own queue).0.sessions ≡ Some s)
 queue_finds id state again own [] there = renewed_finds id again own.serial state own there
 queue_finds id state again own (item ∷ items) there =
-    let one = changed_finds id own.serial emptied (λ u. refl) state.sessions own there in
-    renewed_finds id again own.serial (record state { sessions = change own.serial emptied state.sessions }) one.0 one.1
+    let one = changed_finds id own.serial without_items (λ u. refl) state.sessions own there in
+    renewed_finds id again own.serial (record state { sessions = change own.serial without_items state.sessions }) one.0 one.1
 
 in_session_finds : (id client : List ℕ) (state : State) (again : Bool) (o : Option Session) → session_with_id id state.sessions ≡ o
     → IsTold (in_session state client o (poll_in state again)).1
@@ -224,7 +224,7 @@ module _ (Good : List Attachment → Type 0) (good_none : Good []) (good_retract
       → Good (subscribe state ops s).0.graph × Follows Live done (subscribe state ops s).0
   subscribed_follows {Live} done state q s ops tabled good w found =
       let there = (find_has q state.sessions s found).0 in
-      let low = all_has (λ (y : Session). y.serial ≤ state.counter) state.sessions s tabled.counted there in
+      let low = all_has (λ (y : Session). y.serial ≤ state.counter) state.sessions tabled.counted s there in
       at (subscribe_ops state.graph s.serial ops (record { queue = s.queue; standing = state.standing }))
       (ops_tell state.graph s.serial state.counter (done s.id) state.standing low (λ a. begins state.graph a good) ops
       (record { queue = s.queue; standing = state.standing }) (record {
@@ -461,7 +461,7 @@ module _ (Good : List Attachment → Type 0) (good_none : Good []) (good_retract
       → Follows (λ (x : Standing). (x.serial ≡ n) × (x.name ≡ name)) done (subscribe state ops s).0
   renewed_answer done state q s ops name asked n tabled good w found has serial =
       let there = (find_has q state.sessions s found).0 in
-      let low = all_has (λ (y : Session). y.serial ≤ state.counter) state.sessions s tabled.counted there in
+      let low = all_has (λ (y : Session). y.serial ≤ state.counter) state.sessions tabled.counted s there in
       at (subscribe_ops state.graph s.serial ops (record { queue = s.queue; standing = state.standing }))
       (ops_renew state.graph s.serial state.counter (done s.id) state.standing low (λ a. begins state.graph a good)
       {Live = λ (x : Standing). ⊥} name asked ops (record { queue = s.queue; standing = state.standing }) has (record {

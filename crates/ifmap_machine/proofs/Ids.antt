@@ -1,17 +1,17 @@
 -- Sessions by their ids and serials.
 -- Ids tell serials (`ids_tell`), sessions of one serial are one (`one_of_serial`), and what is found is there (`find_has`).
-use Rattle.std.proofs.Common.{◌≡◌, ◌≢◌, refl, sym, ◌∙◌, ap, subst, ℕ, suc, ◌^◌, ◌<◌, Bool, true, List, [], ◌∷◌, ◌++◌, length}
+use Rattle.std.proofs.Common.{◌≡◌, ◌≢◌, refl, sym, ◌∙◌, ap, ℕ, suc, ◌^◌, ◌<◌, Bool, true, List, [], ◌∷◌, ◌++◌, length}
 use Rattle.std.proofs.Common.{get_or, None, Some, inl, inr, arith}
 use Rattle.std.proofs.lemmas.Bool.{cases_Bool}
 use Rattle.std.proofs.lemmas.Bool.Decides.{nat_tests}
 use Rattle.std.proofs.lemmas.Fmt.{decimal_injective, digits_decimal}
 use Rattle.std.proofs.lemmas.Str.Parse.{IsNumeralModel, not_in_digits, numerals_by_value, tells_digits}
 use Rattle.std.specs.Fmt.{decimal}
-use Rattle.std.specs.List.{AllByRecursion, find}
+use Rattle.std.specs.List.{find}
 use Rattle.std.specs.List.Sorted.{IsStrictlySortedBy}
 use Rattle.std.specs.Str.Parse.{AllDigits, digits_value}
 use Rattle.std.specs.declared.cmp.Ordering.TheVariants.{Less}
-use Rattle.ifmap_lemmas.specs.Having.{Has}
+use Rattle.ifmap_lemmas.specs.Having.{Has, all_has}
 use Rattle.ifmap_session.specs.SessionIds.{BeginsWithSerial, hyphen}
 use Rattle.ifmap_session.specs.Sessions.{Session, session_order}
 
@@ -37,12 +37,6 @@ pub ids_tell : (n m : ℕ) (id : List ℕ) → n < 2 ^ 64 → m < 2 ^ 64 → Beg
 ids_tell n m id small few a b =
     decimal_injective n m small few (cut_same hyphen (decimal n) (decimal m) a.0 b.0 (no_hyphen n small) (no_hyphen m few) (sym a.1 ∙ b.1))
 
--- a member
-pub all_has : {X : Type 0} (P : X → Type 0) (xs : List X) (x : X) → AllByRecursion P xs → Has xs x → P x
-all_has P [] x all h = absurd h
-all_has P (y ∷ ys) x all (inl e) = subst P e all.0
-all_has P (y ∷ ys) x all (inr h) = all_has P ys x all.1 h
-
 pub find_has : {X : Type 0} (q : X → Bool) (xs : List X) (x : X) → find q xs ≡ Some x → Has xs x × (q x ≡ true)
 find_has q [] x e = let bad : None ≡ Some x = e in cc
 find_has q (y ∷ ys) x e =
@@ -57,11 +51,11 @@ unfolding IsStrictlySortedBy
 one_of_serial [] one other up h k same = absurd h
 one_of_serial (y ∷ live) one other up (inl e) (inl d) same = sym e ∙ d
 one_of_serial (y ∷ live) one other up (inl e) (inr k) same =
-    let less : session_order y other ≡ Less = all_has (λ z. session_order y z ≡ Less) live other up.0 k in
+    let less : session_order y other ≡ Less = all_has (λ z. session_order y z ≡ Less) live up.0 other k in
     let serials : y.serial ≡ other.serial = ap (λ (s : Session). s.serial) e ∙ same in
     absurd (grind (arith, nat_tests, less, serials))
 one_of_serial (y ∷ live) one other up (inr h) (inl d) same =
-    let less : session_order y one ≡ Less = all_has (λ z. session_order y z ≡ Less) live one up.0 h in
+    let less : session_order y one ≡ Less = all_has (λ z. session_order y z ≡ Less) live up.0 one h in
     let serials : y.serial ≡ one.serial = ap (λ (s : Session). s.serial) d ∙ sym same in
     absurd (grind (arith, nat_tests, less, serials))
 one_of_serial (y ∷ live) one other up (inr h) (inr k) same = one_of_serial live one other up.1 h k same

@@ -35,7 +35,7 @@ use Rattle.ifmap_requests.specs.declared.publishing.PublishOp.{PublishOp}
 use Rattle.ifmap_requests.specs.declared.publishing.PublishOp.TheVariants.{Update, Notify, Delete}
 use Rattle.ifmap_requests.specs.declared.requests.Request.TheVariants as the_request
 use Rattle.ifmap_search.specs.declared.results.PollItem.{PollItem}
-use Rattle.ifmap_session.specs.Sessions.{Session, change, emptied, is_text, renewed, session_of_client, session_with_id}
+use Rattle.ifmap_session.specs.Sessions.{Session, change, is_text, session_of_client, session_with_id, with_last, without_items}
 use Rattle.ifmap_session.specs.Sessions.{session_with_serial, without_sessions}
 use Rattle.ifmap_session.specs.laws.TableLaws.{Keeps, found_by_serial, found_beside_begun}
 use Rattle.ifmap_session.specs.laws.TextLaws.{find_kept}
@@ -151,7 +151,7 @@ module _ (sessions : List Session) (by : Authorship) (author : (s : Session) × 
 
 -- ---- the cases of the step
 
-kept_renewed : (n moment : ℕ) → Keeps (λ (s : Session). if s.serial == n then renewed moment s else s)
+kept_renewed : (n moment : ℕ) → Keeps (λ (s : Session). if s.serial == n then with_last moment s else s)
 kept_renewed n moment = record {
   serial = λ s. elim (cases_Bool (s.serial == n)) [ inl h ↦ rw h refl | inr h ↦ rw h refl ];
   id = λ s. elim (cases_Bool (s.serial == n)) [ inl h ↦ rw h refl | inr h ↦ rw h refl ];
@@ -217,7 +217,7 @@ queue_lives : (state : State) (again : Bool) (s : Session) (queue : List PollIte
     → AllLive (poll_queue state again s queue).0
 queue_lives state again s [] w = first_lives again s.serial state w
 queue_lives state again s (item ∷ items) w =
-    first_lives again s.serial (record state { sessions = change s.serial emptied state.sessions })
+    first_lives again s.serial (record state { sessions = change s.serial without_items state.sessions })
     (lives_mapped _ (kept_queued s.serial []) state.sessions state.graph w)
 
 poll_lives : (state : State) (client : List ℕ) (again : Bool) (o : Option Session) → AllLive state

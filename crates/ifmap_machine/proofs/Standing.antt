@@ -1,5 +1,5 @@
 -- What holds of the subscriptions that stand in every state: they rise by session and name, and a session has 1,000 at most.
--- First: how many of a filtered list, and of a list with one put in (`fewer_kept`, `put_counted`, `one_gone`). Then what filters and
+-- First: how many of a filtered list, and of a list with one put in (`put_counted`, `one_gone`). Then what filters and
 -- a new subscription keep (`stood_filter`, `stood_begun`), the fold of a subscribe (`stood_ops`), and each case of the step.
 use Rattle.std.proofs.Common.{◌≡◌, refl, ◌∙◌, ap, subst, ℕ, ◌+◌, ◌<◌, ◌≤◌, ◌==◌, Bool, true, false, not, List, [], ◌∷◌}
 use Rattle.std.proofs.Common.{◌++◌, length, Option, None, Some, option_and_then, inl, inr, nat_le, arith, length-append}
@@ -13,6 +13,7 @@ use Rattle.std.specs.List.Sorted.{IsStrictlySortedBy}
 use Rattle.std.specs.Ordering.{is_gt, is_lt}
 use Rattle.std.specs.declared.cmp.Ordering.{Ordering}
 use Rattle.std.specs.declared.cmp.Ordering.TheVariants.{Less, Equal, Greater}
+use Rattle.ifmap_lemmas.specs.Filters.{filter_fewer}
 use Rattle.ifmap_machine.specs.declared.events.Answer.{Answer}
 use Rattle.ifmap_machine.specs.declared.events.Ask.{Ask}
 use Rattle.ifmap_machine.specs.declared.events.Ask.TheVariants.{Request, Lost}
@@ -41,22 +42,6 @@ standing_total =
 -- ---- how many
 
 module _ {X : Type 0} (q : X → Bool) where
-  -- no more of a filtered list
-  pub fewer_kept : (p : X → Bool) (xs : List X) → length (filter q (filter p xs)) ≤ length (filter q xs)
-  fewer_kept p [] = omega arith
-  fewer_kept p (x ∷ xs) =
-      let rest = fewer_kept p xs in
-      elim (cases_Bool (p x)) [
-        | inl stays ↦ elim (cases_Bool (q x)) [
-          | inl counts ↦ rw (stays, counts) (omega (arith, rest))
-          | inr other ↦ rw (stays, other) rest
-        ]
-        | inr goes ↦ elim (cases_Bool (q x)) [
-          | inl counts ↦ rw (goes, counts) (omega (arith, rest))
-          | inr other ↦ rw (goes, other) rest
-        ]
-      ]
-
   -- one less at least, where one that counts goes
   pub one_gone : (r : X → Bool) → ((x : X) → r x ≡ true → q x ≡ true) → (xs : List X) → list_any r xs ≡ true
       → length (filter q (filter (λ x. not (r x)) xs)) < length (filter q xs)
@@ -64,7 +49,7 @@ module _ {X : Type 0} (q : X → Bool) where
   one_gone r counts (x ∷ xs) some =
       elim (cases_Bool (r x)) [
         | inl goes ↦
-            let rest = fewer_kept (λ y. not (r y)) xs in
+            let rest = filter_fewer q (λ y. not (r y)) xs in
             rw (goes, counts x goes) (omega (arith, rest))
         | inr stays ↦
             let rest = one_gone r counts xs (rw stays at some) in
@@ -130,7 +115,7 @@ stood_none = record { rising = tt; few = λ n. omega arith }
 pub stood_filter : (p : Standing → Bool) (xs : List Standing) → AreStood xs → AreStood (filter p xs)
 stood_filter p xs w = record {
   rising = IsStrictlySortedBy-filter standing_order p xs w.rising;
-  few = λ n. let less = fewer_kept (λ (x : Standing). x.serial == n) p xs in let most = w.few n in omega (arith, less, most);
+  few = λ n. let less = filter_fewer (λ (x : Standing). x.serial == n) p xs in let most = w.few n in omega (arith, less, most);
 }
 
 -- a name for which there is room leaves fewer than 1,000 once it is dropped
@@ -139,7 +124,7 @@ room_left : (serial : ℕ) (name : List ℕ) (xs : List Standing) → AreStood x
 room_left serial name xs w free =
     elim (and_cases (nat_le most_names (length (standing_in serial xs))) (not (list_any (is_of_name serial name) xs)) free) [
       | inl low ↦
-          let less = fewer_kept (λ (x : Standing). x.serial == serial) (λ x. not (is_of_name serial name x)) xs in
+          let less = filter_fewer (λ (x : Standing). x.serial == serial) (λ x. not (is_of_name serial name x)) xs in
           let under : length (standing_in serial xs) < most_names = grind (arith, nat_tests, low) in
           omega (arith, less, under)
       | inr there ↦

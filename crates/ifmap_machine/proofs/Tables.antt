@@ -28,7 +28,7 @@ use Rattle.ifmap_requests.specs.declared.requests.Request.TheVariants as the_req
 use Rattle.ifmap_search.specs.declared.results.PollItem.{PollItem}
 use Rattle.ifmap_search.specs.declared.searches.Search.{Search}
 use Rattle.ifmap_session.specs.SessionIds.{BeginsWithSerial}
-use Rattle.ifmap_session.specs.Sessions.{IsTable, Session, Table, change, emptied, is_text, most_sessions, session_of_client, session_order}
+use Rattle.ifmap_session.specs.Sessions.{IsTable, Session, Table, change, is_text, most_sessions, session_of_client, session_order, without_items}
 use Rattle.ifmap_session.specs.Sessions.{session_with_id, without_sessions}
 use Rattle.ifmap_session.specs.laws.TableLaws.{Keeps, begun_table, changed_table, client_freed, id_begins, one_fewer, renewed_keeps}
 use Rattle.ifmap_session.specs.laws.TableLaws.{shorter}
@@ -229,8 +229,8 @@ queue_table : (state : State) (again : Bool) (s : Session) (queue : List PollIte
     → IsTabled (poll_queue state again s queue).0
 queue_table state again s [] w = first_table again s.serial state w
 queue_table state again s (item ∷ items) w =
-    first_table again s.serial (record state { sessions = change s.serial emptied state.sessions })
-    (changed_table s.serial emptied (record { serial = λ x. refl; id = λ x. refl; client = λ x. refl }) (table_of state) w)
+    first_table again s.serial (record state { sessions = change s.serial without_items state.sessions })
+    (changed_table s.serial without_items (record { serial = λ x. refl; id = λ x. refl; client = λ x. refl }) (table_of state) w)
 
 poll_table : (state : State) (client : List ℕ) (again : Bool) (o : Option Session) → IsTabled state
     → IsTabled (poll state client again o).0

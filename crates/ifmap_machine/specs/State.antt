@@ -27,6 +27,10 @@ pub record State : Type 0 where
   -- their subscriptions, in the order of their sessions, and in one session of the bytes of their names
   pub standing : List Standing
 
+-- after how many seconds without an accepted request a session of a program is expired
+abbrev pub session_seconds : ℕ
+session_seconds = 180
+
 -- the state at the start
 abbrev pub opening : ℕ → State
 opening ttl = record { moment = 0; ttl = ttl; counter = 0; graph = []; sessions = []; standing = [] }

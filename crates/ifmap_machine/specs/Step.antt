@@ -25,7 +25,7 @@ use Rattle.ifmap_requests.specs.declared.requests.SubscribeOp.{SubscribeOp}
 use Rattle.ifmap_search.specs.declared.results.PollItem.{PollItem}
 use Rattle.ifmap_search.specs.declared.searches.Search.{Search}
 use Rattle.ifmap_session.specs.SessionIds.{session_id}
-use Rattle.ifmap_session.specs.Sessions.{Session, begun, change, emptied, is_text, limit_of, most_sessions, renewed, session_of_client}
+use Rattle.ifmap_session.specs.Sessions.{Session, change, is_text, limit_of, most_sessions, session_from, session_of_client, with_last, without_items}
 use Rattle.ifmap_session.specs.Sessions.{session_with_id}
 
 -- a refusal with a note
@@ -45,7 +45,7 @@ is_full state client =
 abbrev pub next_session : State → List ℕ → ℕ → Option ℕ → Session
 next_session state client random limit =
     let serial = state.counter + 1 in
-    begun (record { serial = serial; id = session_id serial random; client = client }) (limit_of limit) state.moment
+    session_from (record { serial = serial; id = session_id serial random; client = client }) (limit_of limit) state.moment
 
 -- the state with one more session
 abbrev pub begin_session : List ℕ → ℕ → Option ℕ → State → State
@@ -64,7 +64,7 @@ new_session state client random limit =
 
 -- the state where a request in a session was accepted
 abbrev pub renew : ℕ → State → State
-renew serial state = record state { sessions = change serial (renewed state.moment) state.sessions }
+renew serial state = record state { sessions = change serial (with_last state.moment) state.sessions }
 
 -- a request in the session that it names: refused where none is live, or where it is another client's
 abbrev pub in_session : State → List ℕ → Option Session → (Session → State × Answer) → State × Answer
@@ -128,7 +128,7 @@ renew_first false serial state = renew serial state
 abbrev pub poll_queue : State → Bool → Session → List PollItem → State × Answer
 poll_queue state again s [] = (renew_first again s.serial state, the_answer.Held)
 poll_queue state again s (item ∷ items) = (
-  renew_first again s.serial (record state { sessions = change s.serial emptied state.sessions }),
+  renew_first again s.serial (record state { sessions = change s.serial without_items state.sessions }),
   the_answer.Reply (the_reply.Polled (item ∷ items)),
 )
 

@@ -15,7 +15,7 @@ use Rattle.ifmap_search.specs.declared.results.PollItem.{PollItem}
 use Rattle.ifmap_search.specs.declared.results.PollItem.TheVariants as the_item
 use Rattle.ifmap_search.specs.declared.searches.Search.{Search}
 use Rattle.ifmap_search.specs.Sizes.{queue_size}
-use Rattle.ifmap_session.specs.Sessions.{Session, overflowed}
+use Rattle.ifmap_session.specs.Sessions.{Session, with_error}
 use Rattle.ifmap_view.specs.declared.attachments.Attachment.{Attachment}
 
 -- the note of an error for size
@@ -73,7 +73,7 @@ is_overfull s = nat_lt s.limit (queue_size s.queue)
 abbrev pub overflow_session : Session → Session
 overflow_session s =
     if is_overfull s
-    then overflowed (the_item.Error None PollResultsTooBig (limit_note (queue_size s.queue) s.limit)) s
+    then with_error (the_item.Error None PollResultsTooBig (limit_note (queue_size s.queue) s.limit)) s
     else s
 
 -- a subscription is of a session whose queue is greater than its limit

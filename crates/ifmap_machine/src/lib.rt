@@ -4,6 +4,8 @@
 #![tactic(auto)]
 
 pub mod events;
+mod expiry;
 pub mod laws;
 
 pub use events::{Answer, Ask, Event};
+pub use expiry::SESSION_SECONDS;

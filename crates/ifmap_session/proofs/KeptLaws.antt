@@ -8,11 +8,11 @@ use Rattle.std.specs.List.{IsDistinct, slice_get}
 use Rattle.std.specs.List.Sorted.{IsStrictlySortedBy}
 use Rattle.ifmap_search.specs.declared.results.PollItem.{PollItem}
 use Rattle.ifmap_session.specs.declared.holders.Holder.{Holder}
-use Rattle.ifmap_session.specs.declared.rows.Row.{Row}
+use Rattle.ifmap_session.specs.declared.rows.SessionRow.{SessionRow}
 use Rattle.ifmap_session.specs.SessionIds.{session_id}
 use Rattle.ifmap_session.specs.Rows.{AreHolders, AreRows, AreStamps, ChangesSeat, AreTied, IsOwn, Rewrites, live_of, spare_in}
 use Rattle.ifmap_session.specs.Seats.{Seat}
-use Rattle.ifmap_session.specs.Sessions.{Session, change, emptied, overflowed, queued, renewed, session_with_serial, spare_of, without_name}
+use Rattle.ifmap_session.specs.Sessions.{Session, change, session_with_serial, spare_of, with_error, with_item, with_last, without_items, without_name}
 use Rattle.ifmap_session.specs.Stamps.{Restamps, no_stamp}
 use Rattle.ifmap_session.proofs.RowLaws.{changed, empty_row, found, spare_found, spare_other, row_of}
 use Rattle.ifmap_session.specs.laws.TableLaws.{Keeps}
@@ -34,7 +34,7 @@ kept_none = record {
 }
 
 -- the session of a row changed by f
-pub record Rewritten (counter n : ℕ) (f : Session → Session) (P : Seat → Seat → Type 0) (rows new : List Row)
+pub record Rewritten (counter n : ℕ) (f : Session → Session) (P : Seat → Seat → Type 0) (rows new : List SessionRow)
     (holders : List Holder) : Type 0 where
   pub before : Seat
   pub after : Seat
@@ -55,19 +55,19 @@ pub record ChangesQueue (f : Session → Session) : Type 0 where
 pub queue_stays : ChangesQueue (λ s. s)
 queue_stays = record { names = record { serial = λ s. refl; id = λ s. refl; client = λ s. refl }; last = λ s. refl }
 
-pub item_queued : (item : PollItem) → ChangesQueue (queued item)
+pub item_queued : (item : PollItem) → ChangesQueue (with_item item)
 item_queued item = record { names = record { serial = λ s. refl; id = λ s. refl; client = λ s. refl }; last = λ s. refl }
 
-pub queue_overflowed : (error : PollItem) → ChangesQueue (overflowed error)
+pub queue_overflowed : (error : PollItem) → ChangesQueue (with_error error)
 queue_overflowed error = record { names = record { serial = λ s. refl; id = λ s. refl; client = λ s. refl }; last = λ s. refl }
 
 pub name_dropped : (name : List ℕ) → ChangesQueue (without_name name)
 name_dropped name = record { names = record { serial = λ s. refl; id = λ s. refl; client = λ s. refl }; last = λ s. refl }
 
-pub queue_emptied : ChangesQueue emptied
+pub queue_emptied : ChangesQueue without_items
 queue_emptied = record { names = record { serial = λ s. refl; id = λ s. refl; client = λ s. refl }; last = λ s. refl }
 
-pub moment_renewed : (moment : ℕ) → Keeps (renewed moment)
+pub moment_renewed : (moment : ℕ) → Keeps (with_last moment)
 moment_renewed moment = record { serial = λ s. refl; id = λ s. refl; client = λ s. refl }
 
 -- a list in which nothing is changed
@@ -84,9 +84,9 @@ set_got [] i x y e = cc
 set_got (z ∷ xs) zero x y e = refl
 set_got (z ∷ xs) (suc i) x y e = set_got xs i x y e
 
-module _ {counter : ℕ} {rows : List Row} {holders : List Holder} {width : ℕ} {tree : List ℕ}
+module _ {counter : ℕ} {rows : List SessionRow} {holders : List Holder} {width : ℕ} {tree : List ℕ}
     (k : AreTied counter rows holders width tree) (n place : ℕ) (a : Seat) (e : slice_get rows place ≡ Some (row_of n a)) where
-  pub rewritten : (new : List Row) (f : Session → Session) (P : Seat → Seat → Type 0) → Keeps f
+  pub rewritten : (new : List SessionRow) (f : Session → Session) (P : Seat → Seat → Type 0) → Keeps f
       → Rewrites place (ChangesSeat f P) rows new → Rewritten counter n f P rows new holders
   rewritten new f P keeps w =
       let r = w n a e in
@@ -111,7 +111,7 @@ module _ {counter : ℕ} {rows : List Row} {holders : List Holder} {width : ℕ}
       }
 
   -- its stamp stays
-  moments_same : (new : List Row) (f : Session → Session) (P : Seat → Seat → Type 0) → ((s : Session) → (f s).last ≡ s.last)
+  moments_same : (new : List SessionRow) (f : Session → Session) (P : Seat → Seat → Type 0) → ((s : Session) → (f s).last ≡ s.last)
       → Rewrites place (ChangesSeat f P) rows new → AreStamps new width tree
   moments_same new f P last w =
       let r = w n a e in
@@ -126,15 +126,15 @@ module _ {counter : ℕ} {rows : List Row} {holders : List Holder} {width : ℕ}
             (ap (λ (s : Session). s.last) r.1.0 ∙ last a.session);
       })
 
-  pub kept_queue : (new : List Row) (f : Session → Session) (P : Seat → Seat → Type 0) → ChangesQueue f
+  pub kept_queue : (new : List SessionRow) (f : Session → Session) (P : Seat → Seat → Type 0) → ChangesQueue f
       → Rewrites place (ChangesSeat f P) rows new → AreTied counter new holders width tree
   kept_queue new f P c w =
       let r = rewritten new f P c.names w in
       record { sessions = r.sessions; clients = r.clients; moments = moments_same new f P c.last w }
 
   -- it is set
-  moments_set : (new : List Row) (P : Seat → Seat → Type 0) (moment : ℕ) (tree2 : List ℕ)
-      → Rewrites place (ChangesSeat (renewed moment) P) rows new → Restamps width place moment tree tree2 → AreStamps new width tree2
+  moments_set : (new : List SessionRow) (P : Seat → Seat → Type 0) (moment : ℕ) (tree2 : List ℕ)
+      → Rewrites place (ChangesSeat (with_last moment) P) rows new → Restamps width place moment tree tree2 → AreStamps new width tree2
   moments_set new P moment tree2 w restamped =
       let r = w n a e in
       let b : Seat = r.0 in
@@ -148,11 +148,11 @@ module _ {counter : ℕ} {rows : List Row} {holders : List Holder} {width : ℕ}
             (sym (ap (λ (s : Session). s.last) r.1.0));
       })
 
-  pub kept_renewed : (new : List Row) (P : Seat → Seat → Type 0) (moment : ℕ) (tree2 : List ℕ)
-      → Rewrites place (ChangesSeat (renewed moment) P) rows new → Restamps width place moment tree tree2
+  pub kept_renewed : (new : List SessionRow) (P : Seat → Seat → Type 0) (moment : ℕ) (tree2 : List ℕ)
+      → Rewrites place (ChangesSeat (with_last moment) P) rows new → Restamps width place moment tree tree2
       → AreTied counter new holders width tree2
   kept_renewed new P moment tree2 w restamped =
-      let r = rewritten new (renewed moment) P (moment_renewed moment) w in
+      let r = rewritten new (with_last moment) P (moment_renewed moment) w in
       record { sessions = r.sessions; clients = r.clients; moments = moments_set new P moment tree2 w restamped }
 
   -- a place is one that stamps are for
@@ -160,7 +160,7 @@ module _ {counter : ℕ} {rows : List Row} {holders : List Holder} {width : ℕ}
   place_within = let less = slice_get_within rows place (row_of n a) e in let within = k.moments.within in omega arith
 
 -- a session ends
-pub moments_ended : (n : ℕ) (rows : List Row) (width : ℕ) (tree tree2 : List ℕ) (place : ℕ) (a : Seat) → AreStamps rows width tree
+pub moments_ended : (n : ℕ) (rows : List SessionRow) (width : ℕ) (tree tree2 : List ℕ) (place : ℕ) (a : Seat) → AreStamps rows width tree
     → slice_get rows place ≡ Some (row_of n a) → Restamps width place no_stamp tree tree2
     → AreStamps (set rows place (empty_row n)) width tree2
 moments_ended n rows width tree tree2 place a m e restamped =
@@ -174,11 +174,11 @@ moments_ended n rows width tree tree2 place a m e restamped =
     }
 
 -- one begins
-push_length : (rows : List Row) (r : Row) → length (rows ++ r ∷ []) ≡ suc (length rows)
+push_length : (rows : List SessionRow) (r : SessionRow) → length (rows ++ r ∷ []) ≡ suc (length rows)
 push_length [] r = refl
 push_length (x ∷ rows) r = ap (λ m. suc m) (push_length rows r)
 
-pub moments_begun : (n : ℕ) (rows : List Row) (width stamp : ℕ) (tree tree2 : List ℕ) (y : Seat) → AreStamps rows width tree
+pub moments_begun : (n : ℕ) (rows : List SessionRow) (width stamp : ℕ) (tree tree2 : List ℕ) (y : Seat) → AreStamps rows width tree
     → length rows < width → Restamps width (length rows) stamp tree tree2 → y.session.last ≡ stamp
     → AreStamps (rows ++ row_of n y ∷ []) width tree2
 moments_begun n rows width stamp tree tree2 y m less restamped is = record {
@@ -190,7 +190,7 @@ moments_begun n rows width stamp tree tree2 y m less restamped is = record {
 }
 
 -- where a session is expired there is a row
-pub some_width : (rows : List Row) (width : ℕ) → length rows ≤ width → width ≡ 0 → length rows ≤ 0
+pub some_width : (rows : List SessionRow) (width : ℕ) → length rows ≤ width → width ≡ 0 → length rows ≤ 0
 some_width rows width fits none = omega arith
 
 -- a session that was ready has the serial that its id begins with

@@ -6,10 +6,11 @@ use Rattle.std.proofs.lemmas.Option.{slice_get-get_or}
 use Rattle.std.specs.List.{slice_get}
 use Rattle.std.specs.List.Sorted.{IsBinarySearchResult, IsSearchInRange}
 use Rattle.std.specs.Option.{is_some, option_map, unwrap_or}
-use Rattle.std.specs.Ordering.{is_eq, nat_cmp}
+use Rattle.std.specs.Ordering.{nat_cmp}
 use Rattle.std.specs.Result.{result_ok}
 use Rattle.std.specs.declared.cmp.Ordering.TheVariants.{Equal}
-use Rattle.ifmap_session.specs.declared.rows.Row.{Row}
+use Rattle.ifmap_lemmas.specs.Numbers.{equal_by_order}
+use Rattle.ifmap_session.specs.declared.rows.SessionRow.{SessionRow}
 use Rattle.ifmap_session.specs.Rows.{AreOwn, live_of, serial_at}
 use Rattle.ifmap_session.specs.Places.{IsPlaceOf}
 use Rattle.ifmap_session.specs.Seats.{Seat}
@@ -18,30 +19,28 @@ use Rattle.ifmap_session.specs.laws.TextLaws.{none_passes}
 use Rattle.ifmap_session.proofs.Halving.{placed}
 use Rattle.ifmap_session.proofs.RowLaws.{gone, none_of, row_of}
 
-is_number : (a b : ℕ) → (a == b) ≡ is_eq (nat_cmp a b)
-is_number a b = grind (arith, nat_tests)
-
 equal_is : (a b : ℕ) → nat_cmp a b ≡ Equal → a ≡ b
 equal_is a b e = grind (arith, nat_tests)
 
-module _ (rows : List Row) (n : ℕ) (o : AreOwn rows) where
-  pub nowhere : (r : Result ℕ ℕ) → IsSearchInRange r (length rows) → IsBinarySearchResult (λ (x : Row). nat_cmp x.serial n) rows r
+module _ (rows : List SessionRow) (n : ℕ) (o : AreOwn rows) where
+  pub nowhere : (r : Result ℕ ℕ) → IsSearchInRange r (length rows) → IsBinarySearchResult (λ (x : SessionRow). nat_cmp x.serial n) rows r
       → result_ok r ≡ None → session_with_serial n (live_of rows) ≡ None
   nowhere (Ok i) within is e = cc
   nowhere (Err i) within is e =
-      let place : IsPlaceOf (λ (x : Row). x.serial == n) rows (Err i) =
-      placed Row ℕ (λ (x : Row). x.serial) nat_cmp nat_cmp_total (λ a b. a == b) is_number rows n (Err i) o.rising within is in
-      none_of n rows o.own (none_passes (λ (x : Row). x.serial == n) rows place.1)
+      let place : IsPlaceOf (λ (x : SessionRow). x.serial == n) rows (Err i) =
+      placed SessionRow ℕ (λ (x : SessionRow). x.serial) nat_cmp nat_cmp_total (λ a b. a == b) equal_by_order rows n
+      (Err i) o.rising within is in
+      none_of n rows o.own (none_passes (λ (x : SessionRow). x.serial == n) rows place.1)
 
   -- a place that the search gave, with the row there
-  at_place : (r : Result ℕ ℕ) (i : ℕ) (x : Row) → IsSearchInRange r (length rows)
-      → IsBinarySearchResult (λ (x : Row). nat_cmp x.serial n) rows r → result_ok r ≡ Some i → x ≡ get_or rows i x
+  at_place : (r : Result ℕ ℕ) (i : ℕ) (x : SessionRow) → IsSearchInRange r (length rows)
+      → IsBinarySearchResult (λ (x : SessionRow). nat_cmp x.serial n) rows r → result_ok r ≡ Some i → x ≡ get_or rows i x
       → (i < length rows) × (slice_get rows i ≡ Some (record { serial = n; kept = x.kept }))
   at_place (Err j) i x within is e at = cc
   at_place (Ok j) i x within is e at =
       let same : j ≡ i = cc in
       let low : i < length rows = subst (λ k. k < length rows) same within in
-      let serial : x.serial ≡ n = ap (λ (y : Row). y.serial) at ∙ subst (λ k. (get_or rows k x).serial ≡ n) same
+      let serial : x.serial ≡ n = ap (λ (y : SessionRow). y.serial) at ∙ subst (λ k. (get_or rows k x).serial ≡ n) same
       (equal_is (get_or rows j x).serial n (is x)) in
       (low, slice_get-get_or rows i x low ∙ ap Some (sym at) ∙ ap (λ s. Some (record { serial = s; kept = x.kept })) serial)
 
@@ -50,23 +49,23 @@ module _ (rows : List Row) (n : ℕ) (o : AreOwn rows) where
   some_at i None some e = cc
   some_at i (Some seat) some e = (seat, e)
 
-  pub row_there : (r : Result ℕ ℕ) (i : ℕ) (x : Row) → IsSearchInRange r (length rows)
-      → IsBinarySearchResult (λ (x : Row). nat_cmp x.serial n) rows r → result_ok r ≡ Some i → x ≡ get_or rows i x
+  pub row_there : (r : Result ℕ ℕ) (i : ℕ) (x : SessionRow) → IsSearchInRange r (length rows)
+      → IsBinarySearchResult (λ (x : SessionRow). nat_cmp x.serial n) rows r → result_ok r ≡ Some i → x ≡ get_or rows i x
       → is_some (get_or rows i x).kept ≡ true → (i < length rows) × ((seat : Seat) × (slice_get rows i ≡ Some (row_of n seat)))
   row_there r i x within is e at some = let p = at_place r i x within is e at in
-      (p.0, some_at i x.kept (subst (λ (y : Row). is_some y.kept ≡ true) (sym at) some) p.1)
+      (p.0, some_at i x.kept (subst (λ (y : SessionRow). is_some y.kept ≡ true) (sym at) some) p.1)
 
   none_at : (i : ℕ) (kept : Option Seat) → is_some kept ≡ false → slice_get rows i ≡ Some (record { serial = n; kept = kept })
       → session_with_serial n (live_of rows) ≡ None
   none_at i None none e = gone n rows i o.rising o.own e
   none_at i (Some seat) none e = cc
 
-  pub row_empty : (r : Result ℕ ℕ) (i : ℕ) (x : Row) → IsSearchInRange r (length rows)
-      → IsBinarySearchResult (λ (x : Row). nat_cmp x.serial n) rows r → result_ok r ≡ Some i → x ≡ get_or rows i x
+  pub row_empty : (r : Result ℕ ℕ) (i : ℕ) (x : SessionRow) → IsSearchInRange r (length rows)
+      → IsBinarySearchResult (λ (x : SessionRow). nat_cmp x.serial n) rows r → result_ok r ≡ Some i → x ≡ get_or rows i x
       → is_some (get_or rows i x).kept ≡ false → session_with_serial n (live_of rows) ≡ None
   row_empty r i x within is e at none = let p = at_place r i x within is e at in
-      none_at i x.kept (subst (λ (y : Row). is_some y.kept ≡ false) (sym at) none) p.1
+      none_at i x.kept (subst (λ (y : SessionRow). is_some y.kept ≡ false) (sym at) none) p.1
 
-pub serial_got : (rows : List Row) (i : ℕ) (x : Row) → i < length rows → (get_or rows i x).serial ≡ serial_at rows i
+pub serial_got : (rows : List SessionRow) (i : ℕ) (x : SessionRow) → i < length rows → (get_or rows i x).serial ≡ serial_at rows i
 serial_got rows i x within =
-    sym (ap (λ (o : Option Row). unwrap_or (option_map (λ (r : Row). r.serial) o) 0) (slice_get-get_or rows i x within))
+    sym (ap (λ (o : Option SessionRow). unwrap_or (option_map (λ (r : SessionRow). r.serial) o) 0) (slice_get-get_or rows i x within))

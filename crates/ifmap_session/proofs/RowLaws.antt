@@ -12,29 +12,30 @@ use Rattle.std.specs.List.Sorted.{IsStrictlySortedBy}
 use Rattle.std.specs.Option.{IfSome, is_some, option_map, option_to_list, unwrap_or}
 use Rattle.std.specs.declared.cmp.Ordering.TheVariants.{Less}
 use Rattle.ifmap_lemmas.specs.Filters.{all_filter, all_weaker}
-use Rattle.ifmap_session.specs.declared.rows.Row.{Row}
+use Rattle.ifmap_lemmas.specs.Places.{all_got}
+use Rattle.ifmap_session.specs.declared.rows.SessionRow.{SessionRow}
 use Rattle.ifmap_session.specs.Rows.{AreOwn, IsOwn, live_of, row_order, seats_of, spare_in}
 use Rattle.ifmap_session.specs.Seats.{Seat}
 use Rattle.ifmap_session.specs.Sessions.{Session, change, session_with_serial, spare_of, without_sessions}
 
 -- rows rise by their serials
-abbrev pub Up : List Row → Type 0
+abbrev pub Up : List SessionRow → Type 0
 Up rows = IsStrictlySortedBy row_order rows
 
 -- each row's session has its serial, with which its id begins
-abbrev pub Own : List Row → Type 0
-Own rows = AllByRecursion (λ (r : Row). IfSome r.kept (IsOwn r.serial)) rows
+abbrev pub Own : List SessionRow → Type 0
+Own rows = AllByRecursion (λ (r : SessionRow). IfSome r.kept (IsOwn r.serial)) rows
 
 -- no row has that serial
-abbrev pub Others : ℕ → List Row → Type 0
-Others n rows = AllByRecursion (λ (r : Row). (r.serial == n) ≡ false) rows
+abbrev pub Others : ℕ → List SessionRow → Type 0
+Others n rows = AllByRecursion (λ (r : SessionRow). (r.serial == n) ≡ false) rows
 
 -- the row of a live session
-abbrev pub row_of : ℕ → Seat → Row
+abbrev pub row_of : ℕ → Seat → SessionRow
 row_of n seat = record { serial = n; kept = Some seat }
 
 -- a row whose session ended
-abbrev pub empty_row : ℕ → Row
+abbrev pub empty_row : ℕ → SessionRow
 empty_row n = record { serial = n; kept = None }
 
 -- the session of a seat
@@ -83,15 +84,16 @@ differs : (n serial : ℕ) (kept : Option Seat) → IfSome kept (IsOwn serial) �
     → IfSome kept (λ s. (s.session.serial == n) ≡ false)
 differs n serial kept own e = weaker_own serial (λ s. (s.session.serial == n) ≡ false) (λ s is. rw is e) kept own
 
-pub above_differ : (r : Row) (rows : List Row) → AllByRecursion (λ z. row_order r z ≡ Less) rows → (n : ℕ) → r.serial ≡ n → Others n rows
+pub above_differ : (r : SessionRow) (rows : List SessionRow) → AllByRecursion (λ z. row_order r z ≡ Less) rows → (n : ℕ) → r.serial ≡ n
+    → Others n rows
 above_differ r [] up n e = tt
 above_differ r (z ∷ rows) up n e = (grind (arith, nat_tests, up.0), above_differ r rows up.1 n e)
 
-serial_is : (z : Row) (n : ℕ) (kept : Option Seat) → ◌≡◌ {A = Option Row} (Some z) (Some (record { serial = n; kept = kept }))
+serial_is : (z : SessionRow) (n : ℕ) (kept : Option Seat) → ◌≡◌ {A = Option SessionRow} (Some z) (Some (record { serial = n; kept = kept }))
     → z.serial ≡ n
-serial_is z n kept e = ap (λ (o : Option Row). unwrap_or (option_map (λ (x : Row). x.serial) o) n) e
+serial_is z n kept e = ap (λ (o : Option SessionRow). unwrap_or (option_map (λ (x : SessionRow). x.serial) o) n) e
 
-below_differs : (r : Row) (rows : List Row) (i n : ℕ) (kept : Option Seat) → AllByRecursion (λ z. row_order r z ≡ Less) rows
+below_differs : (r : SessionRow) (rows : List SessionRow) (i n : ℕ) (kept : Option Seat) → AllByRecursion (λ z. row_order r z ≡ Less) rows
     → slice_get rows i ≡ Some (record { serial = n; kept = kept }) → (r.serial == n) ≡ false
 below_differs r [] i n kept up e = cc
 below_differs r (z ∷ rows) zero n kept up e =
@@ -100,17 +102,17 @@ below_differs r (z ∷ rows) zero n kept up e =
     grind (arith, nat_tests)
 below_differs r (z ∷ rows) (suc i) n kept up e = below_differs r rows i n kept up.1 e
 
-pub none_of : (n : ℕ) (rows : List Row) → Own rows → Others n rows → session_with_serial n (live_of rows) ≡ None
+pub none_of : (n : ℕ) (rows : List SessionRow) → Own rows → Others n rows → session_with_serial n (live_of rows) ≡ None
 none_of n [] own others = refl
 none_of n (r ∷ rows) own others =
     find_past the_session (λ s. s.serial == n) r.kept (seats_of rows) (differs n r.serial r.kept own.0 others.0)
     ∙ none_of n rows own.1 others.1
 
 module _ (n : ℕ) where
-  own_is : (r : Row) (a : Seat) → IfSome r.kept (IsOwn r.serial) → r ≡ row_of n a → IsOwn n a
-  own_is r a own same = subst (λ (x : Row). IfSome x.kept (IsOwn x.serial)) same own
+  own_is : (r : SessionRow) (a : Seat) → IfSome r.kept (IsOwn r.serial) → r ≡ row_of n a → IsOwn n a
+  own_is r a own same = subst (λ (x : SessionRow). IfSome x.kept (IsOwn x.serial)) same own
 
-  pub found : (rows : List Row) (i : ℕ) (a : Seat) → Up rows → Own rows → slice_get rows i ≡ Some (row_of n a)
+  pub found : (rows : List SessionRow) (i : ℕ) (a : Seat) → Up rows → Own rows → slice_get rows i ≡ Some (row_of n a)
       → session_with_serial n (live_of rows) ≡ Some a.session
   unfolding IsStrictlySortedBy
   found [] i a up own e = cc
@@ -123,7 +125,7 @@ module _ (n : ℕ) where
       (differs n r.serial r.kept own.0 (below_differs r rows i n (Some a) up.0 e))
       ∙ found rows i a up.1 own.1 e
 
-  pub gone : (rows : List Row) (i : ℕ) → Up rows → Own rows → slice_get rows i ≡ Some (empty_row n)
+  pub gone : (rows : List SessionRow) (i : ℕ) → Up rows → Own rows → slice_get rows i ≡ Some (empty_row n)
       → session_with_serial n (live_of rows) ≡ None
   unfolding IsStrictlySortedBy
   gone [] i up own e = cc
@@ -138,7 +140,7 @@ module _ (n : ℕ) where
 
   -- the session of the row changes
   module _ (f : Session → Session) where
-    others_stay : (rows : List Row) → Own rows → Others n rows → change n f (live_of rows) ≡ live_of rows
+    others_stay : (rows : List SessionRow) → Own rows → Others n rows → change n f (live_of rows) ≡ live_of rows
     others_stay [] own others = refl
     others_stay (r ∷ rows) own others =
         map_past the_session (λ s. cond (s.serial == n) (f s) s) r.kept (seats_of rows) (live_of rows)
@@ -146,7 +148,7 @@ module _ (n : ℕ) where
         (λ s is. rw (is, others.0) refl) r.kept own.0) (others_stay rows own.1 others.1)
         ∙ sym (front_is the_session r.kept (seats_of rows))
 
-    pub changed : (rows : List Row) (i : ℕ) (a b : Seat) → Up rows → Own rows → slice_get rows i ≡ Some (row_of n a)
+    pub changed : (rows : List SessionRow) (i : ℕ) (a b : Seat) → Up rows → Own rows → slice_get rows i ≡ Some (row_of n a)
         → b.session ≡ f a.session → live_of (set rows i (row_of n b)) ≡ change n f (live_of rows)
     unfolding IsStrictlySortedBy
     changed [] i a b up own e is = cc
@@ -170,7 +172,7 @@ module _ (n : ℕ) where
   goes : (s : Session) → s.serial ≡ n → not (list_any (λ m. m == s.serial) (n ∷ [])) ≡ false
   goes s e = grind (arith, nat_tests)
 
-  others_left : (rows : List Row) → Own rows → Others n rows → without_sessions (n ∷ []) (live_of rows) ≡ live_of rows
+  others_left : (rows : List SessionRow) → Own rows → Others n rows → without_sessions (n ∷ []) (live_of rows) ≡ live_of rows
   others_left [] own others = refl
   others_left (r ∷ rows) own others =
       filter_past the_session (λ s. not (list_any (λ m. m == s.serial) (n ∷ []))) r.kept (seats_of rows) (live_of rows)
@@ -178,7 +180,7 @@ module _ (n : ℕ) where
       (λ s is. stays s.session (rw is others.0)) r.kept own.0) (others_left rows own.1 others.1)
       ∙ sym (front_is the_session r.kept (seats_of rows))
 
-  pub ended : (rows : List Row) (i : ℕ) (a : Seat) → Up rows → Own rows → slice_get rows i ≡ Some (row_of n a)
+  pub ended : (rows : List SessionRow) (i : ℕ) (a : Seat) → Up rows → Own rows → slice_get rows i ≡ Some (row_of n a)
       → live_of (set rows i (empty_row n)) ≡ without_sessions (n ∷ []) (live_of rows)
   unfolding IsStrictlySortedBy
   ended [] i a up own e = cc
@@ -196,11 +198,11 @@ module _ (n : ℕ) where
       (λ s is. stays s.session (rw is (below_differs r rows i n (Some a) up.0 e))) r.kept own.0) refl)
 
   -- the room of queues
-  pub spare_found : (rows : List Row) (i : ℕ) (a : Seat) → Up rows → Own rows → slice_get rows i ≡ Some (row_of n a)
+  pub spare_found : (rows : List SessionRow) (i : ℕ) (a : Seat) → Up rows → Own rows → slice_get rows i ≡ Some (row_of n a)
       → spare_of n (spare_in rows) ≡ a.spare
   unfolding IsStrictlySortedBy
   spare_found rows i a up own e = ap (λ (o : Option (ℕ × ℕ)). unwrap_or (option_map (λ p. p.1) o) 0) (pair rows i up own e) where
-    pair : (rows : List Row) (i : ℕ) → Up rows → Own rows → slice_get rows i ≡ Some (row_of n a)
+    pair : (rows : List SessionRow) (i : ℕ) → Up rows → Own rows → slice_get rows i ≡ Some (row_of n a)
         → find (λ p. p.0 == n) (spare_in rows) ≡ Some (the_spare a)
     pair [] i up own e = cc
     pair (r ∷ rows) zero up own e =
@@ -212,7 +214,7 @@ module _ (n : ℕ) where
         (differs n r.serial r.kept own.0 (below_differs r rows i n (Some a) up.0 e))
         ∙ pair rows i up.1 own.1 e
 
-  pub spare_other : (rows : List Row) (i : ℕ) (a : Seat) (kept : Option Seat) → Own rows → slice_get rows i ≡ Some (row_of n a)
+  pub spare_other : (rows : List SessionRow) (i : ℕ) (a : Seat) (kept : Option Seat) → Own rows → slice_get rows i ≡ Some (row_of n a)
       → IfSome kept (λ s. s.session.serial ≡ n) → (other : ℕ) → other ≢ n
       → spare_of other (spare_in (set rows i (record { serial = n; kept = kept }))) ≡ spare_of other (spare_in rows)
   spare_other rows i a kept own e mine other apart =
@@ -224,7 +226,7 @@ module _ (n : ℕ) where
         mine_differs None h = tt
         mine_differs (Some s) h = not_other s.session.serial h
 
-        pair : (rows : List Row) (i : ℕ) → Own rows → slice_get rows i ≡ Some (row_of n a)
+        pair : (rows : List SessionRow) (i : ℕ) → Own rows → slice_get rows i ≡ Some (row_of n a)
             → find (λ p. p.0 == other) (spare_in (set rows i (record { serial = n; kept = kept })))
             ≡ find (λ p. p.0 == other) (spare_in rows)
         pair [] i own e = cc
@@ -242,7 +244,7 @@ module _ (n : ℕ) where
   map_alike g None seats others e = e
   map_alike g (Some s) seats others e = ap (λ xs. g s ∷ xs) e
 
-  pub spare_same : (rows : List Row) (i : ℕ) (a b : Seat) → slice_get rows i ≡ Some (row_of n a) → the_spare b ≡ the_spare a
+  pub spare_same : (rows : List SessionRow) (i : ℕ) (a b : Seat) → slice_get rows i ≡ Some (row_of n a) → the_spare b ≡ the_spare a
       → spare_in (set rows i (row_of n b)) ≡ spare_in rows
   spare_same [] i a b e same = cc
   spare_same (r ∷ rows) zero a b e same =
@@ -256,68 +258,65 @@ all_set P [] i y all new = tt
 all_set P (x ∷ xs) zero y all new = (new, all.1)
 all_set P (x ∷ xs) (suc i) y all new = (all.0, all_set P xs i y all.1 new)
 
-same_order : (x r q : Row) → q.serial ≡ r.serial → row_order x r ≡ Less → row_order x q ≡ Less
+same_order : (x r q : SessionRow) → q.serial ≡ r.serial → row_order x r ≡ Less → row_order x q ≡ Less
 same_order x r q e less = rw e less
 
-same_order_left : (r q : Row) → q.serial ≡ r.serial → (rows : List Row) → AllByRecursion (λ z. row_order r z ≡ Less) rows
+same_order_left : (r q : SessionRow) → q.serial ≡ r.serial → (rows : List SessionRow) → AllByRecursion (λ z. row_order r z ≡ Less) rows
     → AllByRecursion (λ z. row_order q z ≡ Less) rows
 same_order_left r q e rows all = all_weaker (λ z. row_order r z ≡ Less) (λ z. row_order q z ≡ Less) (λ z less. rw e less) rows all
 
-all_got : {X : Type 0} (P : X → Type 0) (xs : List X) (i : ℕ) (x : X) → AllByRecursion P xs → slice_get xs i ≡ Some x → P x
-all_got P [] i x all e = cc
-all_got P (y ∷ ys) zero x all e = let same : y ≡ x = cc in subst P same all.0
-all_got P (y ∷ ys) (suc i) x all e = all_got P ys i x all.1 e
-
-up_set : (rows : List Row) (i : ℕ) (r q : Row) → Up rows → slice_get rows i ≡ Some r → q.serial ≡ r.serial → Up (set rows i q)
+up_set : (rows : List SessionRow) (i : ℕ) (r q : SessionRow) → Up rows → slice_get rows i ≡ Some r → q.serial ≡ r.serial → Up (set rows i q)
 unfolding IsStrictlySortedBy
 up_set [] i r q up e same = tt
 up_set (x ∷ rows) zero r q up e same =
-    let is : x ≡ r = cc in (same_order_left x q (same ∙ ap (λ (y : Row). y.serial) (sym is)) rows up.0, up.1)
+    let is : x ≡ r = cc in (same_order_left x q (same ∙ ap (λ (y : SessionRow). y.serial) (sym is)) rows up.0, up.1)
 up_set (x ∷ rows) (suc i) r q up e same = (
   all_set (λ z. row_order x z ≡ Less) rows i q up.0 (same_order x r q same (all_got (λ z. row_order x z ≡ Less) rows i r up.0 e)),
   up_set rows i r q up.1 e same,
 )
 
-pub own_set : (n : ℕ) (rows : List Row) (i : ℕ) (a : Seat) (kept : Option Seat) → AreOwn rows → slice_get rows i ≡ Some (row_of n a)
+pub own_set : (n : ℕ) (rows : List SessionRow) (i : ℕ) (a : Seat) (kept : Option Seat) → AreOwn rows → slice_get rows i ≡ Some (row_of n a)
     → IfSome kept (IsOwn n) → AreOwn (set rows i (record { serial = n; kept = kept }))
 own_set n rows i a kept o e mine = record {
   rising = up_set rows i (row_of n a) (record { serial = n; kept = kept }) o.rising e refl;
-  own = all_set (λ (r : Row). IfSome r.kept (IsOwn r.serial)) rows i (record { serial = n; kept = kept }) o.own mine;
+  own = all_set (λ (r : SessionRow). IfSome r.kept (IsOwn r.serial)) rows i (record { serial = n; kept = kept }) o.own mine;
 }
 
-pub counted_set : (counter n : ℕ) (rows : List Row) (i : ℕ) (a : Seat) (kept : Option Seat)
-    → AllByRecursion (λ (r : Row). r.serial ≤ counter) rows → slice_get rows i ≡ Some (row_of n a)
-    → AllByRecursion (λ (r : Row). r.serial ≤ counter) (set rows i (record { serial = n; kept = kept }))
+pub counted_set : (counter n : ℕ) (rows : List SessionRow) (i : ℕ) (a : Seat) (kept : Option Seat)
+    → AllByRecursion (λ (r : SessionRow). r.serial ≤ counter) rows → slice_get rows i ≡ Some (row_of n a)
+    → AllByRecursion (λ (r : SessionRow). r.serial ≤ counter) (set rows i (record { serial = n; kept = kept }))
 counted_set counter n rows i a kept all e =
-    all_set (λ (r : Row). r.serial ≤ counter) rows i (record { serial = n; kept = kept }) all
-    (all_got (λ (r : Row). r.serial ≤ counter) rows i (row_of n a) all e)
+    all_set (λ (r : SessionRow). r.serial ≤ counter) rows i (record { serial = n; kept = kept }) all
+    (all_got (λ (r : SessionRow). r.serial ≤ counter) rows i (row_of n a) all e)
 
 -- a row more
 all_push : {X : Type 0} (P : X → Type 0) (xs : List X) (y : X) → AllByRecursion P xs → P y → AllByRecursion P (xs ++ y ∷ [])
 all_push P [] y h k = (k, tt)
 all_push P (x ∷ xs) y h k = (h.0, all_push P xs y h.1 k)
 
-up_push : (counter : ℕ) (rows : List Row) (y : Row) → Up rows → AllByRecursion (λ (r : Row). r.serial ≤ counter) rows
+up_push : (counter : ℕ) (rows : List SessionRow) (y : SessionRow) → Up rows → AllByRecursion (λ (r : SessionRow). r.serial ≤ counter) rows
     → counter < y.serial → Up (rows ++ y ∷ [])
 unfolding IsStrictlySortedBy
 up_push counter [] y up counted above = (tt, tt)
 up_push counter (x ∷ rows) y up counted above =
     (all_push (λ z. row_order x z ≡ Less) rows y up.0 (grind (arith, nat_tests, counted.0)), up_push counter rows y up.1 counted.1 above)
 
-pub own_push : (counter : ℕ) (rows : List Row) (y : Row) → AreOwn rows → AllByRecursion (λ (r : Row). r.serial ≤ counter) rows
+pub own_push : (counter : ℕ) (rows : List SessionRow) (y : SessionRow) → AreOwn rows
+    → AllByRecursion (λ (r : SessionRow). r.serial ≤ counter) rows
     → counter < y.serial → IfSome y.kept (IsOwn y.serial) → AreOwn (rows ++ y ∷ [])
 own_push counter rows y o counted above mine = record {
   rising = up_push counter rows y o.rising counted above;
-  own = all_push (λ (r : Row). IfSome r.kept (IsOwn r.serial)) rows y o.own mine;
+  own = all_push (λ (r : SessionRow). IfSome r.kept (IsOwn r.serial)) rows y o.own mine;
 }
 
-pub counted_push : (counter : ℕ) (rows : List Row) (y : Row) → AllByRecursion (λ (r : Row). r.serial ≤ counter) rows
-    → y.serial ≡ counter + 1 → AllByRecursion (λ (r : Row). r.serial ≤ counter + 1) (rows ++ y ∷ [])
+pub counted_push : (counter : ℕ) (rows : List SessionRow) (y : SessionRow) → AllByRecursion (λ (r : SessionRow). r.serial ≤ counter) rows
+    → y.serial ≡ counter + 1 → AllByRecursion (λ (r : SessionRow). r.serial ≤ counter + 1) (rows ++ y ∷ [])
 counted_push counter rows y counted e =
-    all_push (λ (r : Row). r.serial ≤ counter + 1) rows y
-    (all_weaker (λ (r : Row). r.serial ≤ counter) (λ (r : Row). r.serial ≤ counter + 1) (λ r h. omega arith) rows counted) (omega arith)
+    all_push (λ (r : SessionRow). r.serial ≤ counter + 1) rows y
+    (all_weaker (λ (r : SessionRow). r.serial ≤ counter) (λ (r : SessionRow). r.serial ≤ counter + 1) (λ r h. omega arith) rows counted)
+    (omega arith)
 
-seats_push : (rows : List Row) (n : ℕ) (a : Seat) → seats_of (rows ++ row_of n a ∷ []) ≡ seats_of rows ++ a ∷ []
+seats_push : (rows : List SessionRow) (n : ℕ) (a : Seat) → seats_of (rows ++ row_of n a ∷ []) ≡ seats_of rows ++ a ∷ []
 seats_push [] n a = refl
 seats_push (r ∷ rows) n a =
     elim r.kept as (λ (o : Option Seat). option_to_list o ++ seats_of (rows ++ row_of n a ∷ [])
@@ -330,14 +329,14 @@ map_push : {X : Type 0} (g : Seat → X) (seats : List Seat) (a : Seat) → map 
 map_push g [] a = refl
 map_push g (s ∷ seats) a = ap (λ xs. g s ∷ xs) (map_push g seats a)
 
-pub begun_last : (rows : List Row) (n : ℕ) (a : Seat) → live_of (rows ++ row_of n a ∷ []) ≡ live_of rows ++ a.session ∷ []
+pub begun_last : (rows : List SessionRow) (n : ℕ) (a : Seat) → live_of (rows ++ row_of n a ∷ []) ≡ live_of rows ++ a.session ∷ []
 begun_last rows n a = ap (map the_session) (seats_push rows n a) ∙ map_push the_session (seats_of rows) a
 
 find_push : (p : (ℕ × ℕ) → Bool) (xs : List (ℕ × ℕ)) (y : ℕ × ℕ) → p y ≡ false → find p (xs ++ y ∷ []) ≡ find p xs
 find_push p [] y e = rw e refl
 find_push p (x ∷ xs) y e = ap (λ o. cond (p x) (Some x) o) (find_push p xs y e)
 
-pub spare_begun : (rows : List Row) (n : ℕ) (a : Seat) → a.session.serial ≡ n → (other : ℕ) → other ≢ n
+pub spare_begun : (rows : List SessionRow) (n : ℕ) (a : Seat) → a.session.serial ≡ n → (other : ℕ) → other ≢ n
     → spare_of other (spare_in (rows ++ row_of n a ∷ [])) ≡ spare_of other (spare_in rows)
 spare_begun rows n a mine other apart =
     ap (spare_of other) (ap (map the_spare) (seats_push rows n a) ∙ map_push the_spare (seats_of rows) a)
@@ -345,44 +344,45 @@ spare_begun rows n a mine other apart =
     (false_from_ne_true (a.session.serial == other) (λ h. apart (sym (eqb-true a.session.serial other h) ∙ mine))))
 
 -- without the empty rows
-filter_one : (r : Row) (o : Option Seat) (rows rest : List Row) → r.kept ≡ o → seats_of rest ≡ seats_of rows
+filter_one : (r : SessionRow) (o : Option Seat) (rows rest : List SessionRow) → r.kept ≡ o → seats_of rest ≡ seats_of rows
     → seats_of (cond (is_some o) (r ∷ rest) rest) ≡ option_to_list o ++ seats_of rows
 filter_one r None rows rest e same = same
 filter_one r (Some s) rows rest e same = rw (e, same) refl
 
-pub seats_filter : (rows : List Row) → seats_of (filter (λ (r : Row). is_some r.kept) rows) ≡ seats_of rows
+pub seats_filter : (rows : List SessionRow) → seats_of (filter (λ (r : SessionRow). is_some r.kept) rows) ≡ seats_of rows
 seats_filter [] = refl
-seats_filter (r ∷ rows) = filter_one r r.kept rows (filter (λ (r : Row). is_some r.kept) rows) refl (seats_filter rows)
+seats_filter (r ∷ rows) = filter_one r r.kept rows (filter (λ (r : SessionRow). is_some r.kept) rows) refl (seats_filter rows)
 
-pub own_filter : (rows : List Row) → AreOwn rows → AreOwn (filter (λ (r : Row). is_some r.kept) rows)
+pub own_filter : (rows : List SessionRow) → AreOwn rows → AreOwn (filter (λ (r : SessionRow). is_some r.kept) rows)
 own_filter rows o = record {
-  rising = IsStrictlySortedBy-filter row_order (λ (r : Row). is_some r.kept) rows o.rising;
-  own = all_filter (λ (r : Row). IfSome r.kept (IsOwn r.serial)) (λ (r : Row). is_some r.kept) rows o.own;
+  rising = IsStrictlySortedBy-filter row_order (λ (r : SessionRow). is_some r.kept) rows o.rising;
+  own = all_filter (λ (r : SessionRow). IfSome r.kept (IsOwn r.serial)) (λ (r : SessionRow). is_some r.kept) rows o.own;
 }
 
-pub counted_filter : (counter : ℕ) (rows : List Row) → AllByRecursion (λ (r : Row). r.serial ≤ counter) rows
-    → AllByRecursion (λ (r : Row). r.serial ≤ counter) (filter (λ (r : Row). is_some r.kept) rows)
-counted_filter counter rows all = all_filter (λ (r : Row). r.serial ≤ counter) (λ (r : Row). is_some r.kept) rows all
+pub counted_filter : (counter : ℕ) (rows : List SessionRow) → AllByRecursion (λ (r : SessionRow). r.serial ≤ counter) rows
+    → AllByRecursion (λ (r : SessionRow). r.serial ≤ counter) (filter (λ (r : SessionRow). is_some r.kept) rows)
+counted_filter counter rows all = all_filter (λ (r : SessionRow). r.serial ≤ counter) (λ (r : SessionRow). is_some r.kept) rows all
 
 -- as many rows as sessions, where none is empty
-count_one : (r : Row) (o : Option Seat) (rest : List Row) (seats : List Seat) → length rest ≡ length (map the_session seats)
+count_one : (r : SessionRow) (o : Option Seat) (rest : List SessionRow) (seats : List Seat) → length rest ≡ length (map the_session seats)
     → length (cond (is_some o) (r ∷ rest) rest) ≡ length (map the_session (option_to_list o ++ seats))
 count_one r None rest seats same = same
 count_one r (Some s) rest seats same = ap (λ n. suc n) same
 
-pub full_length : (rows : List Row) → length (filter (λ (r : Row). is_some r.kept) rows) ≡ length (live_of rows)
+pub full_length : (rows : List SessionRow) → length (filter (λ (r : SessionRow). is_some r.kept) rows) ≡ length (live_of rows)
 full_length [] = refl
-full_length (r ∷ rows) = count_one r r.kept (filter (λ (r : Row). is_some r.kept) rows) (seats_of rows) (full_length rows)
+full_length (r ∷ rows) = count_one r r.kept (filter (λ (r : SessionRow). is_some r.kept) rows) (seats_of rows) (full_length rows)
 
-pub few_rows : (rows new : List Row) (live : ℕ) → new ≡ filter (λ (r : Row). is_some r.kept) rows → live ≡ length (live_of rows)
+pub few_rows : (rows new : List SessionRow) (live : ℕ) → new ≡ filter (λ (r : SessionRow). is_some r.kept) rows
+    → live ≡ length (live_of rows)
     → length new ≡ live
 few_rows rows new live e counts = ap length e ∙ full_length rows ∙ sym counts
 
-kept_few : (o : Option Seat) (rows : List Row) (seats : List Seat) → length (map the_session seats) ≤ length rows
+kept_few : (o : Option Seat) (rows : List SessionRow) (seats : List Seat) → length (map the_session seats) ≤ length rows
     → length (map the_session (option_to_list o ++ seats)) ≤ suc (length rows)
 kept_few None rows seats h = omega arith
 kept_few (Some s) rows seats h = omega arith
 
-pub live_few : (rows : List Row) → length (live_of rows) ≤ length rows
+pub live_few : (rows : List SessionRow) → length (live_of rows) ≤ length rows
 live_few [] = omega arith
 live_few (r ∷ rows) = kept_few r.kept rows (seats_of rows) (live_few rows)

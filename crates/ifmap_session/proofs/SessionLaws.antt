@@ -14,12 +14,13 @@ use Rattle.std.specs.Cmp.Lexicographic.{slice_cmp}
 use Rattle.std.specs.Fmt.{decimal}
 use Rattle.std.specs.List.{AllByRecursion, IsDistinct, filter, find, insert, list_any, remove, slice_get}
 use Rattle.std.specs.List.Sorted.{IsStrictlySortedBy, IsBinarySearchResult, IsSearchInRange}
-use Rattle.std.specs.Option.{IfSome, IsSome, is_some, option_map, option_or, option_to_list}
+use Rattle.std.specs.Option.{IfSome, IsSome, is_some, option_map, option_to_list}
 use Rattle.std.specs.Result.{IfErr, IsErr, IsOk}
-use Rattle.std.specs.Ordering.{is_eq, nat_cmp}
+use Rattle.std.specs.Ordering.{nat_cmp}
 use Rattle.std.specs.declared.cmp.Ordering.TheVariants.{Less}
+use Rattle.ifmap_lemmas.specs.Options.{or_none, some_none}
 use Rattle.ifmap_session.specs.declared.holders.Holder.{Holder}
-use Rattle.ifmap_session.specs.declared.rows.Row.{Row}
+use Rattle.ifmap_session.specs.declared.rows.SessionRow.{SessionRow}
 use Rattle.ifmap_session.specs.Rows.{AreHolders, AreOwn, AreRows, IsOwn, client_order, holder_of, live_of, row_order, seats_of}
 use Rattle.ifmap_session.specs.Places.{IsPlaceFor, IsPlaceOf}
 use Rattle.ifmap_session.specs.Seats.{Seat}
@@ -30,10 +31,6 @@ use Rattle.ifmap_session.specs.laws.TextLaws.{all_found, distinct_filter, distin
 use Rattle.ifmap_session.proofs.Halving.{filter_same, find_insert, place_for, placed}
 use Rattle.ifmap_session.proofs.RowLaws.{Own, Up, begun_last, changed, counted_filter, counted_push, counted_set, empty_row, ended, found, own_filter, own_push, own_set, row_of, seats_filter}
 use Rattle.ifmap_lemmas.specs.Filters.{all_weaker, filter_all, filter_passes}
-
--- numbers
-pub is_number : (a b : ℕ) → (a == b) ≡ is_eq (nat_cmp a b)
-is_number a b = grind (arith, nat_tests)
 
 pub holder_placed : (holders : List Holder) (client : List ℕ) (r : Result ℕ ℕ) → IsStrictlySortedBy client_order holders
     → IsSearchInRange r (length holders) → IsBinarySearchResult (λ (h : Holder). slice_cmp nat_cmp h.client client) holders r → IsPlaceOf
@@ -81,10 +78,6 @@ map_choice f false o = refl
 map_none : {A B : Type 0} (f : A → B) (o : Option A) → option_map f o ≡ None → o ≡ None
 map_none f None e = refl
 map_none f (Some x) e = cc
-
-or_none : {A : Type 0} (o : Option A) → option_or o None ≡ o
-or_none None = refl
-or_none (Some x) = refl
 
 -- a client's session after the one of a serial ended
 later_stays : (serial : ℕ) (x t : Session) → x.serial ≡ serial → session_order x t ≡ Less → not (t.serial == serial) ≡ true
@@ -257,10 +250,6 @@ pub leads_to : (n : ℕ) (live : List Session) (id : List ℕ) (r : Option ℕ) 
 leads_to n live id r e leads = all_weaker (λ (s : Session). is_text s.id id ≡ true → r ≡ Some s.serial)
     (λ (s : Session). is_text s.id id ≡ true → s.serial ≡ n) (λ s f h. let t = f h in cc) live leads
 
-some_none : {X : Type 0} (o : Option X) → IsSome o → o ≡ None → ⊥
-some_none None h e = both_ways false refl h
-some_none (Some x) h e = cc
-
 -- what a search answers where something, or nothing, passes
 pub place_is_ok : {X : Type 0} (test : X → Bool) (xs : List X) (r : Result ℕ ℕ) → IsPlaceOf test xs r → IsSome (find test xs) → IsOk r
 place_is_ok test xs (Ok i) place some = refl
@@ -300,7 +289,8 @@ some_alike f g None (Some y) e h = cc
 some_alike f g None None e h = h
 
 -- what holds of the sessions of rows
-pub all_live : (P : Session → Type 0) (rows : List Row) → AllByRecursion (λ (r : Row). IfSome r.kept (λ (s : Seat). P s.session)) rows
+pub all_live : (P : Session → Type 0) (rows : List SessionRow)
+    → AllByRecursion (λ (r : SessionRow). IfSome r.kept (λ (s : Seat). P s.session)) rows
     → AllByRecursion P (live_of rows)
 all_live P [] all = tt
 all_live P (r ∷ rows) all = one r.kept all.0 (all_live P rows all.1) where
@@ -313,27 +303,27 @@ if_some : (o : Option Seat) (P Q : Seat → Type 0) → ((s : Seat) → P s → 
 if_some None P Q f h = tt
 if_some (Some s) P Q f h = f s h
 
-pub live_counted : (counter : ℕ) (rows : List Row) → AllByRecursion (λ (r : Row). r.serial ≤ counter) rows → Own rows
+pub live_counted : (counter : ℕ) (rows : List SessionRow) → AllByRecursion (λ (r : SessionRow). r.serial ≤ counter) rows → Own rows
     → AllByRecursion (λ (s : Session). s.serial ≤ counter) (live_of rows)
 live_counted counter rows counted own = all_live (λ s. s.serial ≤ counter) rows (both rows counted own) where
-  both : (rows : List Row) → AllByRecursion (λ (r : Row). r.serial ≤ counter) rows → Own rows
-      → AllByRecursion (λ (r : Row). IfSome r.kept (λ (s : Seat). s.session.serial ≤ counter)) rows
+  both : (rows : List SessionRow) → AllByRecursion (λ (r : SessionRow). r.serial ≤ counter) rows → Own rows
+      → AllByRecursion (λ (r : SessionRow). IfSome r.kept (λ (s : Seat). s.session.serial ≤ counter)) rows
   both [] c o = tt
   both (r ∷ rows) c o =
       (if_some r.kept (IsOwn r.serial) (λ s. s.session.serial ≤ counter) (λ s h. rw h.numbered c.0) o.0, both rows c.1 o.1)
 
-pub live_ids : (rows : List Row) → Own rows → AllByRecursion (λ (s : Session). BeginsWithSerial s.serial s.id) (live_of rows)
+pub live_ids : (rows : List SessionRow) → Own rows → AllByRecursion (λ (s : Session). BeginsWithSerial s.serial s.id) (live_of rows)
 live_ids rows own = all_live (λ s. BeginsWithSerial s.serial s.id) rows (all_weaker
-    (λ (r : Row). IfSome r.kept (IsOwn r.serial))
-    (λ (r : Row). IfSome r.kept (λ (s : Seat). BeginsWithSerial s.session.serial s.session.id))
+    (λ (r : SessionRow). IfSome r.kept (IsOwn r.serial))
+    (λ (r : SessionRow). IfSome r.kept (λ (s : Seat). BeginsWithSerial s.session.serial s.session.id))
     (λ r h. if_some r.kept (IsOwn r.serial) (λ s. BeginsWithSerial s.session.serial s.session.id) (λ s k. rw k.numbered k.id) h) rows own)
 
-pub live_up : (rows : List Row) → Up rows → Own rows → IsStrictlySortedBy session_order (live_of rows)
+pub live_up : (rows : List SessionRow) → Up rows → Own rows → IsStrictlySortedBy session_order (live_of rows)
 unfolding IsStrictlySortedBy
 live_up [] up own = tt
 live_up (r ∷ rows) up own = one r.kept own.0 (live_up rows up.1 own.1) where
-  above : (s : Seat) → s.session.serial ≡ r.serial → (rows : List Row) → AllByRecursion (λ z. row_order r z ≡ Less) rows → Own rows
-      → AllByRecursion (λ (z : Row). IfSome z.kept (λ (t : Seat). session_order s.session t.session ≡ Less)) rows
+  above : (s : Seat) → s.session.serial ≡ r.serial → (rows : List SessionRow) → AllByRecursion (λ z. row_order r z ≡ Less) rows → Own rows
+      → AllByRecursion (λ (z : SessionRow). IfSome z.kept (λ (t : Seat). session_order s.session t.session ≡ Less)) rows
   above s e [] all own = tt
   above s e (z ∷ rows) all own = (
     if_some z.kept (IsOwn z.serial) (λ t. session_order s.session t.session ≡ Less) (λ t h. rw (e, h.numbered) all.0) own.0,
@@ -346,7 +336,7 @@ live_up (r ∷ rows) up own = one r.kept own.0 (live_up rows up.1 own.1) where
   one (Some s) h rest = (all_live (λ t. session_order s.session t ≡ Less) rows (above s h.numbered rows up.0 own.1), rest)
 
 -- rows and holders, as they are kept
-pub rows_changed : (counter n : ℕ) (f : Session → Session) (rows : List Row) (i : ℕ) (a b : Seat) → Keeps f → AreRows counter rows
+pub rows_changed : (counter n : ℕ) (f : Session → Session) (rows : List SessionRow) (i : ℕ) (a b : Seat) → Keeps f → AreRows counter rows
     → slice_get rows i ≡ Some (row_of n a) → IsOwn n a → b.session ≡ f a.session → AreRows counter (set rows i (row_of n b))
 rows_changed counter n f rows i a b k kept e own is =
     let live : live_of (set rows i (row_of n b)) ≡ change n f (live_of rows) =
@@ -362,7 +352,8 @@ rows_changed counter n f rows i a b k kept e own is =
       few = rw (live, length_same n f (live_of rows)) kept.few;
     }
 
-pub holders_changed : (n : ℕ) (f : Session → Session) (rows : List Row) (holders : List Holder) (i : ℕ) (a b : Seat) → Keeps f → AreOwn rows
+pub holders_changed : (n : ℕ) (f : Session → Session) (rows : List SessionRow) (holders : List Holder) (i : ℕ) (a b : Seat) → Keeps f
+    → AreOwn rows
     → AreHolders rows holders → slice_get rows i ≡ Some (row_of n a) → b.session ≡ f a.session
     → AreHolders (set rows i (row_of n b)) holders
 holders_changed n f rows holders i a b k own h e is =
@@ -374,7 +365,7 @@ holders_changed n f rows holders i a b k own h e is =
       counts = h.counts ∙ sym (ap length live ∙ length_same n f (live_of rows));
     }
 
-pub rows_ended : (counter n : ℕ) (rows : List Row) (i : ℕ) (a : Seat) → AreRows counter rows → slice_get rows i ≡ Some (row_of n a)
+pub rows_ended : (counter n : ℕ) (rows : List SessionRow) (i : ℕ) (a : Seat) → AreRows counter rows → slice_get rows i ≡ Some (row_of n a)
     → AreRows counter (set rows i (empty_row n))
 rows_ended counter n rows i a kept e =
     let live : live_of (set rows i (empty_row n)) ≡ filter (λ (t : Session). not (t.serial == n)) (live_of rows) =
@@ -387,10 +378,10 @@ rows_ended counter n rows i a kept e =
       few = let less = shorter (λ (t : Session). not (t.serial == n)) (live_of rows) in let few = kept.few in rw live (omega arith);
     }
 
-pub own_at : (n : ℕ) (rows : List Row) (i : ℕ) (a : Seat) → Own rows → slice_get rows i ≡ Some (row_of n a) → IsOwn n a
+pub own_at : (n : ℕ) (rows : List SessionRow) (i : ℕ) (a : Seat) → Own rows → slice_get rows i ≡ Some (row_of n a) → IsOwn n a
 own_at n [] i a own e = cc
 own_at n (r ∷ rows) zero a own e =
-    let same : r ≡ row_of n a = cc in subst (λ (x : Row). IfSome x.kept (IsOwn x.serial)) same own.0
+    let same : r ≡ row_of n a = cc in subst (λ (x : SessionRow). IfSome x.kept (IsOwn x.serial)) same own.0
 own_at n (r ∷ rows) (suc i) a own e = own_at n rows i a own.1 e
 
 count_less : (n : ℕ) (live : List Session) (s : Session) → IsStrictlySortedBy session_order live → session_with_serial n live ≡ Some s
@@ -414,7 +405,7 @@ holder_less k [] j less = absurd (omega arith)
 holder_less k (x ∷ holders) zero less = refl
 holder_less k (x ∷ holders) (suc j) less = ap (λ m. suc m) (holder_less k holders j (omega arith))
 
-pub holders_ended : (n : ℕ) (rows : List Row) (holders holders2 : List Holder) (i : ℕ) (a : Seat) (q : Result ℕ ℕ) (j : ℕ)
+pub holders_ended : (n : ℕ) (rows : List SessionRow) (holders holders2 : List Holder) (i : ℕ) (a : Seat) (q : Result ℕ ℕ) (j : ℕ)
     → IsDistinct is_text (map (λ (t : Session). t.client) (live_of rows)) → AreOwn rows → AreHolders rows holders
     → slice_get rows i ≡ Some (row_of n a) → IsPlaceOf (λ (h : Holder). is_text h.client a.session.client) holders q → q ≡ Ok j
     → holders2 ≡ remove holders j → AreHolders (set rows i (empty_row n)) holders2
@@ -444,7 +435,7 @@ holders_ended n rows holders holders2 i a q j apart own h e place is rest =
           omega arith;
     }
 
-pub rows_begun : (counter : ℕ) (rows : List Row) (y : Seat) → AreRows counter rows → counter < 2 ^ 64 - 1
+pub rows_begun : (counter : ℕ) (rows : List SessionRow) (y : Seat) → AreRows counter rows → counter < 2 ^ 64 - 1
     → session_of_client y.session.client (live_of rows) ≡ None → length (live_of rows) < most_sessions → IsOwn (counter + 1) y
     → AreRows (counter + 1) (rows ++ row_of (counter + 1) y ∷ [])
 rows_begun counter rows y kept small none few own =
@@ -472,7 +463,8 @@ pushed_length : (xs : List Session) (x : Session) → length (xs ++ x ∷ []) �
 pushed_length [] x = refl
 pushed_length (z ∷ xs) x = ap (λ m. suc m) (pushed_length xs x)
 
-pub holders_begun : (n : ℕ) (rows : List Row) (holders holders2 : List Holder) (y : Seat) (j : ℕ) (r : Result ℕ ℕ) → AreHolders rows holders
+pub holders_begun : (n : ℕ) (rows : List SessionRow) (holders holders2 : List Holder) (y : Seat) (j : ℕ) (r : Result ℕ ℕ)
+    → AreHolders rows holders
     → session_of_client y.session.client (live_of rows) ≡ None → y.session.serial ≡ n
     → IsPlaceOf (λ (h : Holder). is_text h.client y.session.client) holders r → IfErr r (IsPlaceFor y.session.client holders) → r ≡ Err j
     → holders2 ≡ insert holders j (record { client = y.session.client; serial = n })
@@ -495,10 +487,11 @@ holders_begun n rows holders holders2 y j r h none same place gap is entry =
       ) (ap (λ m. suc m) h.counts);
     }
 
-pub live_filter : (rows : List Row) → live_of (filter (λ (r : Row). is_some r.kept) rows) ≡ live_of rows
+pub live_filter : (rows : List SessionRow) → live_of (filter (λ (r : SessionRow). is_some r.kept) rows) ≡ live_of rows
 live_filter rows = ap (map (λ (s : Seat). s.session)) (seats_filter rows)
 
-pub rows_filled : (counter : ℕ) (rows : List Row) → AreRows counter rows → AreRows counter (filter (λ (r : Row). is_some r.kept) rows)
+pub rows_filled : (counter : ℕ) (rows : List SessionRow) → AreRows counter rows
+    → AreRows counter (filter (λ (r : SessionRow). is_some r.kept) rows)
 rows_filled counter rows kept = record {
   small = kept.small;
   own = own_filter rows kept.own;
@@ -507,8 +500,8 @@ rows_filled counter rows kept = record {
   few = rw (live_filter rows) kept.few;
 }
 
-pub holders_filled : (rows : List Row) (holders : List Holder) → AreHolders rows holders
-    → AreHolders (filter (λ (r : Row). is_some r.kept) rows) holders
+pub holders_filled : (rows : List SessionRow) (holders : List Holder) → AreHolders rows holders
+    → AreHolders (filter (λ (r : SessionRow). is_some r.kept) rows) holders
 holders_filled rows holders h = record {
   ordered = h.ordered;
   indexed = λ c. rw (live_filter rows) (h.indexed c);
@@ -516,12 +509,12 @@ holders_filled rows holders h = record {
 }
 
 -- where a client has no session its holder is missing, and where it has one it is there
-pub no_holder : (rows : List Row) (holders : List Holder) (c : List ℕ) → AreHolders rows holders
+pub no_holder : (rows : List SessionRow) (holders : List Holder) (c : List ℕ) → AreHolders rows holders
     → session_of_client c (live_of rows) ≡ None → holder_of c holders ≡ None
 no_holder rows holders c h none = map_none (λ (x : Holder). x.serial) (holder_of c holders) (h.indexed c
     ∙ ap (option_map (λ (s : Session). s.serial)) none)
 
-pub holder_is_there : (n : ℕ) (rows : List Row) (holders : List Holder) (i : ℕ) (a : Seat) → AreOwn rows → AreHolders rows holders
+pub holder_is_there : (n : ℕ) (rows : List SessionRow) (holders : List Holder) (i : ℕ) (a : Seat) → AreOwn rows → AreHolders rows holders
     → slice_get rows i ≡ Some (row_of n a) → IsSome (holder_of a.session.client holders)
 holder_is_there n rows holders i a own h e =
     some_alike (λ (x : Holder). x.serial) (λ (t : Session). t.serial) (holder_of a.session.client holders)

@@ -7,29 +7,14 @@ use Rattle.std.proofs.lemmas.List.Elements.{All-from_recursion}
 use Rattle.std.proofs.lemmas.Option.{slice_get_past}
 use Rattle.std.specs.List.{All, AllByRecursion, filter, list_any, slice_get}
 use Rattle.std.specs.Option.{IfSome, option_map, option_to_list, unwrap_or}
-use Rattle.ifmap_session.specs.declared.rows.Row.{Row}
+use Rattle.ifmap_lemmas.specs.Places.{last_there, written_elsewhere, written_there}
+use Rattle.ifmap_session.specs.declared.rows.SessionRow.{SessionRow}
 use Rattle.ifmap_session.specs.Rows.{AreStamps, IsOwn, IsStamped, due_rows, live_of, seats_of, serial_at, stamp_of}
 use Rattle.ifmap_session.specs.Seats.{Seat}
 use Rattle.ifmap_session.specs.Sessions.{Session, expired_serials, is_expired}
 use Rattle.ifmap_session.specs.Stamps.{IsPower, IsTree, Restamps, at, due_nodes, is_any_due, is_due, no_stamp, numbers_from}
 use Rattle.ifmap_session.proofs.RowLaws.{Own}
 use Rattle.ifmap_session.proofs.Trees.{root_least, root_there}
-
-pub get_set_same : {X : Type 0} (xs : List X) (i : ℕ) (y : X) → i < length xs → slice_get (set xs i y) i ≡ Some y
-get_set_same [] i y lt = absurd (omega arith)
-get_set_same (x ∷ xs) zero y lt = refl
-get_set_same (x ∷ xs) (suc i) y lt = get_set_same xs i y (omega arith)
-
-pub get_set_other : {X : Type 0} (xs : List X) (i j : ℕ) (y : X) → j ≢ i → slice_get (set xs i y) j ≡ slice_get xs j
-get_set_other [] i j y apart = refl
-get_set_other (x ∷ xs) zero zero y apart = absurd (apart refl)
-get_set_other (x ∷ xs) zero (suc j) y apart = refl
-get_set_other (x ∷ xs) (suc i) zero y apart = refl
-get_set_other (x ∷ xs) (suc i) (suc j) y apart = get_set_other xs i j y (λ e. apart (ap (λ n. suc n) e))
-
-get_push_last : {X : Type 0} (xs : List X) (y : X) → slice_get (xs ++ y ∷ []) (length xs) ≡ Some y
-get_push_last [] y = refl
-get_push_last (x ∷ xs) y = get_push_last xs y
 
 get_push_other : {X : Type 0} (xs : List X) (y : X) (j : ℕ) → j ≢ length xs → slice_get (xs ++ y ∷ []) j ≡ slice_get xs j
 get_push_other [] y zero apart = absurd (apart refl)
@@ -38,16 +23,16 @@ get_push_other (x ∷ xs) y zero apart = refl
 get_push_other (x ∷ xs) y (suc j) apart = get_push_other xs y j (λ e. apart (ap (λ n. suc n) e))
 
 -- the stamp of what may be a row
-abbrev pub stamp_in : Option Row → ℕ
+abbrev pub stamp_in : Option SessionRow → ℕ
 stamp_in row = unwrap_or (option_map stamp_of row) no_stamp
 
 -- rows up to a place are stamped, and no other place has a stamp
-pub record StampedTo (rows : List Row) (width place : ℕ) (tree : List ℕ) : Type 0 where
+pub record StampedTo (rows : List SessionRow) (width place : ℕ) (tree : List ℕ) : Type 0 where
   pub lesser : IsTree width tree
   pub before : (p : ℕ) → p < place → p < width → at tree (width + p) ≡ stamp_in (slice_get rows p)
   pub after : (p : ℕ) → place ≤ p → p < width → at tree (width + p) ≡ no_stamp
 
-pub stamps_begin : (rows : List Row) (width : ℕ) (tree : List ℕ) → IsTree width tree
+pub stamps_begin : (rows : List SessionRow) (width : ℕ) (tree : List ℕ) → IsTree width tree
     → ((node : ℕ) → width ≤ node → node < 2 * width → at tree node ≡ no_stamp) → StampedTo rows width 0 tree
 stamps_begin rows width tree t blank = record {
   lesser = t;
@@ -60,7 +45,7 @@ kept_stamp : (width place stamp p : ℕ) (old new : List ℕ) → Restamps width
 kept_stamp width place stamp p old new r less apart =
     elim (r.others (width + p) (omega arith) (omega arith)) [ inl e ↦ absurd (apart (omega arith)) | inr e ↦ e ]
 
-pub stamps_on : (rows : List Row) (width place stamp : ℕ) (old new : List ℕ) → StampedTo rows width place old
+pub stamps_on : (rows : List SessionRow) (width place stamp : ℕ) (old new : List ℕ) → StampedTo rows width place old
     → Restamps width place stamp old new → stamp ≡ stamp_in (slice_get rows place) → StampedTo rows width (place + 1) new
 stamps_on rows width place stamp old new s r is = record {
   lesser = r.tree;
@@ -72,14 +57,15 @@ stamps_on rows width place stamp old new s r is = record {
   after = λ p low high. kept_stamp width place stamp p old new r high (omega arith) ∙ s.after p (omega arith) high;
 }
 
-pub stamps_end : (rows : List Row) (width place : ℕ) (tree : List ℕ) → StampedTo rows width place tree → length rows ≤ place
+pub stamps_end : (rows : List SessionRow) (width place : ℕ) (tree : List ℕ) → StampedTo rows width place tree → length rows ≤ place
     → IsStamped rows width tree
 stamps_end rows width place tree s all = λ p high. elim (cases_lt p place) [
   | inl less ↦ s.before p less high
   | inr more ↦ s.after p more high ∙ ap stamp_in (sym (slice_get_past rows p (omega arith)))
 ]
 
-pub stamped_set : (rows : List Row) (width i stamp : ℕ) (q : Row) (old new : List ℕ) → IsStamped rows width old → i < length rows
+pub stamped_set : (rows : List SessionRow) (width i stamp : ℕ) (q : SessionRow) (old new : List ℕ) → IsStamped rows width old
+    → i < length rows
     → Restamps width i stamp old new → stamp ≡ stamp_of q → IsStamped (set rows i q) width new
 stamped_set rows width i stamp q old new s within r is = λ p high. elim (cases_lt p i) [
   | inl less ↦ other p high (omega arith)
@@ -87,13 +73,13 @@ stamped_set rows width i stamp q old new s within r is = λ p high. elim (cases_
     | inl more ↦ other p high (omega arith)
     | inr here ↦ let e : p ≡ i = omega arith in
         subst (λ k. at new (width + k) ≡ stamp_in (slice_get (set rows i q) k)) (sym e)
-        (r.there ∙ is ∙ ap stamp_in (sym (get_set_same rows i q within)))
+        (r.there ∙ is ∙ ap stamp_in (sym (written_there rows i q within)))
   ]
 ] where
   other : (p : ℕ) → p < width → p ≢ i → at new (width + p) ≡ stamp_in (slice_get (set rows i q) p)
-  other p high apart = kept_stamp width i stamp p old new r high apart ∙ s p high ∙ ap stamp_in (sym (get_set_other rows i p q apart))
+  other p high apart = kept_stamp width i stamp p old new r high apart ∙ s p high ∙ ap stamp_in (sym (written_elsewhere rows i p q apart))
 
-pub stamped_push : (rows : List Row) (width stamp : ℕ) (q : Row) (old new : List ℕ) → IsStamped rows width old
+pub stamped_push : (rows : List SessionRow) (width stamp : ℕ) (q : SessionRow) (old new : List ℕ) → IsStamped rows width old
     → Restamps width (length rows) stamp old new → stamp ≡ stamp_of q → IsStamped (rows ++ q ∷ []) width new
 stamped_push rows width stamp q old new s r is = λ p high. elim (cases_lt p (length rows)) [
   | inl less ↦ other p high (omega arith)
@@ -101,7 +87,7 @@ stamped_push rows width stamp q old new s r is = λ p high. elim (cases_lt p (le
     | inl more ↦ other p high (omega arith)
     | inr here ↦ let e : p ≡ length rows = omega arith in
         subst (λ k. at new (width + k) ≡ stamp_in (slice_get (rows ++ q ∷ []) k)) (sym e)
-        (r.there ∙ is ∙ ap stamp_in (sym (get_push_last rows q)))
+        (r.there ∙ is ∙ ap stamp_in (sym (last_there rows q)))
   ]
 ] where
   other : (p : ℕ) → p < width → p ≢ length rows → at new (width + p) ≡ stamp_in (slice_get (rows ++ q ∷ []) p)
@@ -109,15 +95,16 @@ stamped_push rows width stamp q old new s r is = λ p high. elim (cases_lt p (le
       ∙ ap stamp_in (sym (get_push_other rows q p apart))
 
 -- a row that changes and keeps its stamp
-pub stamped_alike : (rows : List Row) (width i : ℕ) (r q : Row) (tree : List ℕ) → IsStamped rows width tree → slice_get rows i ≡ Some r
+pub stamped_alike : (rows : List SessionRow) (width i : ℕ) (r q : SessionRow) (tree : List ℕ) → IsStamped rows width tree
+    → slice_get rows i ≡ Some r
     → i < length rows → stamp_of q ≡ stamp_of r → IsStamped (set rows i q) width tree
 stamped_alike rows width i r q tree s e within is = λ p high. elim (cases_lt p i) [
-  | inl less ↦ s p high ∙ ap stamp_in (sym (get_set_other rows i p q (omega arith)))
+  | inl less ↦ s p high ∙ ap stamp_in (sym (written_elsewhere rows i p q (omega arith)))
   | inr not_less ↦ elim (cases_lt i p) [
-    | inl more ↦ s p high ∙ ap stamp_in (sym (get_set_other rows i p q (omega arith)))
+    | inl more ↦ s p high ∙ ap stamp_in (sym (written_elsewhere rows i p q (omega arith)))
     | inr here ↦ let k : p ≡ i = omega arith in
         s p high ∙ subst (λ j. stamp_in (slice_get rows j) ≡ stamp_in (slice_get (set rows i q) j)) (sym k)
-        (ap stamp_in e ∙ sym is ∙ ap stamp_in (sym (get_set_same rows i q within)))
+        (ap stamp_in e ∙ sym is ∙ ap stamp_in (sym (written_there rows i q within)))
   ]
 ]
 
@@ -157,7 +144,7 @@ none_due tree limit base (suc n) low blank =
     subst (λ k. at tree k ≡ no_stamp) (omega arith) (blank (suc p) (omega arith))))
 
 -- the serials at the nodes that are due are those of the sessions that are
-due_one : (g : ℕ → ℕ) (tree : List ℕ) (limit base : ℕ) (serial : ℕ) (kept : Option Seat) (nodes : List ℕ) (rows : List Row)
+due_one : (g : ℕ → ℕ) (tree : List ℕ) (limit base : ℕ) (serial : ℕ) (kept : Option Seat) (nodes : List ℕ) (rows : List SessionRow)
     → limit < no_stamp → IfSome kept (IsOwn serial) → g base ≡ serial
     → at tree base ≡ stamp_of (record { serial = serial; kept = kept })
     → map g (filter (is_due tree limit) nodes) ≡ map (λ (s : Session). s.serial) (filter (λ s. nat_le s.last limit) (live_of rows))
@@ -171,8 +158,8 @@ due_one g tree limit base serial (Some seat) nodes rows low own named stamp rest
       | inr miss ↦ rw (same, miss) rest
     ]
 
-due_all : (g : ℕ → ℕ) (tree : List ℕ) (limit base n : ℕ) (rows : List Row) → limit < no_stamp → Own rows → length rows ≤ n
-    → ((p : ℕ) (r : Row) → slice_get rows p ≡ Some r → g (base + p) ≡ r.serial)
+due_all : (g : ℕ → ℕ) (tree : List ℕ) (limit base n : ℕ) (rows : List SessionRow) → limit < no_stamp → Own rows → length rows ≤ n
+    → ((p : ℕ) (r : SessionRow) → slice_get rows p ≡ Some r → g (base + p) ≡ r.serial)
     → ((p : ℕ) → p < n → at tree (base + p) ≡ stamp_in (slice_get rows p))
     → map g (filter (is_due tree limit) (numbers_from base n)) ≡ map (λ (s : Session). s.serial) (filter
     (λ s. nat_le s.last limit) (live_of rows))
@@ -187,7 +174,7 @@ due_all g tree limit base (suc n) (r ∷ rows) low own fits named stamped =
     (λ p q e. subst (λ k. g k ≡ q.serial) (omega arith) (named (suc p) q e))
     (λ p less. subst (λ k. at tree k ≡ stamp_in (slice_get rows p)) (omega arith) (stamped (suc p) (omega arith))))
 
-pub due_serials : (width : ℕ) (tree : List ℕ) (rows : List Row) (moment ttl limit : ℕ) → limit < no_stamp → limit + ttl ≡ moment
+pub due_serials : (width : ℕ) (tree : List ℕ) (rows : List SessionRow) (moment ttl limit : ℕ) → limit < no_stamp → limit + ttl ≡ moment
     → Own rows → length rows ≤ width → IsStamped rows width tree
     → map (λ node. serial_at rows (node - width)) (due_nodes width tree limit) ≡ expired_serials moment ttl (live_of rows)
 due_serials width tree rows moment ttl limit low e own fits stamped =
@@ -196,7 +183,7 @@ due_serials width tree rows moment ttl limit low e own fits stamped =
     ∙ ap (map (λ (s : Session). s.serial)) (sym (expired_by moment ttl limit e (live_of rows)))
 
 -- whether any is due
-any_at : (limit : ℕ) (rows : List Row) (p : ℕ) → limit < no_stamp → stamp_in (slice_get rows p) ≤ limit
+any_at : (limit : ℕ) (rows : List SessionRow) (p : ℕ) → limit < no_stamp → stamp_in (slice_get rows p) ≤ limit
     → list_any (λ s. nat_le s.last limit) (live_of rows) ≡ true
 any_at limit [] p low le = absurd (omega arith)
 any_at limit (r ∷ rows) zero low le = here r.kept le where
@@ -210,7 +197,7 @@ any_at limit (r ∷ rows) (suc p) low le = past r.kept (any_at limit rows p low 
   past None e = e
   past (Some s) e = elim (cases_Bool (nat_le s.session.last limit)) [ inl hit ↦ rw hit refl | inr miss ↦ rw (miss, e) refl ]
 
-none_any : (limit : ℕ) (rows : List Row) → ((p : ℕ) → p < length rows → limit < stamp_in (slice_get rows p))
+none_any : (limit : ℕ) (rows : List SessionRow) → ((p : ℕ) → p < length rows → limit < stamp_in (slice_get rows p))
     → list_any (λ s. nat_le s.last limit) (live_of rows) ≡ false
 none_any limit [] f = refl
 none_any limit (r ∷ rows) f = one r.kept (f 0 (omega arith)) (none_any limit rows (λ p less. f (suc p) (omega arith))) where
@@ -220,7 +207,7 @@ none_any limit (r ∷ rows) f = one r.kept (f 0 (omega arith)) (none_any limit r
   one None low e = e
   one (Some s) low e = let k : nat_le s.session.last limit ≡ false = grind (arith, nat_tests) in rw (k, e) refl
 
-pub root_any : (width : ℕ) (tree : List ℕ) (rows : List Row) (moment ttl limit : ℕ) → limit < no_stamp → limit + ttl ≡ moment
+pub root_any : (width : ℕ) (tree : List ℕ) (rows : List SessionRow) (moment ttl limit : ℕ) → limit < no_stamp → limit + ttl ≡ moment
     → IsTree width tree → 1 ≤ width → length rows ≤ width → IsStamped rows width tree
     → nat_le (at tree 1) limit ≡ list_any (is_expired moment ttl) (live_of rows)
 root_any width tree rows moment ttl limit low e t some fits stamped =
@@ -238,13 +225,13 @@ root_any width tree rows moment ttl limit low e t some fits stamped =
     ]
 
 -- where there is no row, none is expired
-pub no_rows : (rows : List Row) (moment ttl : ℕ) → length rows ≤ 0 → (list_any (is_expired moment ttl) (live_of rows) ≡ false)
+pub no_rows : (rows : List SessionRow) (moment ttl : ℕ) → length rows ≤ 0 → (list_any (is_expired moment ttl) (live_of rows) ≡ false)
     × (expired_serials moment ttl (live_of rows) ≡ [])
 no_rows [] moment ttl none = (refl, refl)
 no_rows (r ∷ rows) moment ttl none = absurd (omega arith)
 
 -- each node that is due is that of a row
-all_due : (width : ℕ) (tree : List ℕ) (rows : List Row) (limit base n : ℕ) → width ≤ base → base + n ≤ 2 * width → limit < no_stamp
+all_due : (width : ℕ) (tree : List ℕ) (rows : List SessionRow) (limit base n : ℕ) → width ≤ base → base + n ≤ 2 * width → limit < no_stamp
     → IsStamped rows width tree
     → AllByRecursion (λ node. (width ≤ node) × (node - width < length rows)) (filter (is_due tree limit) (numbers_from base n))
 all_due width tree rows limit base zero low high small stamped = tt
@@ -269,7 +256,7 @@ all_due width tree rows limit base (suc n) low high small stamped =
       | inr miss ↦ rw miss rest
     ]
 
-pub due_within : (width : ℕ) (tree : List ℕ) (rows : List Row) (limit : ℕ) → limit < no_stamp → IsStamped rows width tree
+pub due_within : (width : ℕ) (tree : List ℕ) (rows : List SessionRow) (limit : ℕ) → limit < no_stamp → IsStamped rows width tree
     → All (λ node. (width ≤ node) × (node - width < length rows)) (due_nodes width tree limit)
 due_within width tree rows limit small stamped =
     All-from_recursion (λ node. (width ≤ node) × (node - width < length rows)) (due_nodes width tree limit)
@@ -280,7 +267,7 @@ is_power width (inl none) some = absurd (some none)
 is_power width (inr p) some = p
 
 -- the same, in the words of the code
-pub any_is : (width : ℕ) (tree : List ℕ) (rows : List Row) (moment ttl limit : ℕ) → limit < no_stamp → limit + ttl ≡ moment
+pub any_is : (width : ℕ) (tree : List ℕ) (rows : List SessionRow) (moment ttl limit : ℕ) → limit < no_stamp → limit + ttl ≡ moment
     → AreStamps rows width tree → is_any_due width tree limit ≡ list_any (is_expired moment ttl) (live_of rows)
 any_is width tree rows moment ttl limit low e m =
     elim (cases_lt 0 width) [
@@ -293,7 +280,8 @@ any_is width tree rows moment ttl limit low e m =
           rw there (sym (no_rows rows moment ttl (omega arith)).0)
     ]
 
-pub due_is : (width : ℕ) (tree : List ℕ) (rows : List Row) (moment ttl limit : ℕ) → limit < no_stamp → limit + ttl ≡ moment → Own rows
+pub due_is : (width : ℕ) (tree : List ℕ) (rows : List SessionRow) (moment ttl limit : ℕ) → limit < no_stamp → limit + ttl ≡ moment
+    → Own rows
     → AreStamps rows width tree → due_rows rows width tree limit ≡ expired_serials moment ttl (live_of rows)
 due_is width tree rows moment ttl limit low e own m = due_serials width tree rows moment ttl limit low e own m.within m.stamped
 

@@ -6,27 +6,27 @@ use Rattle.std.specs.List.Sorted.{IsStrictlySortedBy}
 use Rattle.std.specs.Ordering.{nat_cmp, on}
 use Rattle.std.specs.declared.cmp.Ordering.{Ordering}
 use Rattle.ifmap_session.specs.declared.holders.Holder.{Holder}
-use Rattle.ifmap_session.specs.declared.rows.Row.{Row}
+use Rattle.ifmap_session.specs.declared.rows.SessionRow.{SessionRow}
 use Rattle.ifmap_session.specs.Seats.{Seat}
 use Rattle.ifmap_session.specs.SessionIds.{BeginsWithSerial}
 use Rattle.ifmap_session.specs.Sessions.{Session, is_text, most_sessions, session_of_client, session_with_serial}
 use Rattle.ifmap_session.specs.Stamps.{IsPower, IsTree, at, due_nodes, no_stamp, width_bound}
 
 -- the sessions of rows: an empty row has none
-abbrev pub seats_of : List Row → List Seat
-seats_of rows = flat_map (λ (r : Row). option_to_list r.kept) rows
+abbrev pub seats_of : List SessionRow → List Seat
+seats_of rows = flat_map (λ (r : SessionRow). option_to_list r.kept) rows
 
 -- the live sessions of rows
-abbrev pub live_of : List Row → List Session
+abbrev pub live_of : List SessionRow → List Session
 live_of rows = map (λ (s : Seat). s.session) (seats_of rows)
 
 -- for how many more items the queue of each has room
-abbrev pub spare_in : List Row → List (ℕ × ℕ)
+abbrev pub spare_in : List SessionRow → List (ℕ × ℕ)
 spare_in rows = map (λ (s : Seat). (s.session.serial, s.spare)) (seats_of rows)
 
 -- rows by their serials
-abbrev pub row_order : Row → Row → Ordering
-row_order = on (λ (r : Row). r.serial) nat_cmp
+abbrev pub row_order : SessionRow → SessionRow → Ordering
+row_order = on (λ (r : SessionRow). r.serial) nat_cmp
 
 -- holders by their clients' names
 abbrev pub client_order : Holder → Holder → Ordering
@@ -42,49 +42,49 @@ pub record IsOwn (serial : ℕ) (seat : Seat) : Type 0 where
   pub id : BeginsWithSerial serial seat.session.id
 
 -- the stamp of a row: the last moment of its session, or what no moment reaches
-abbrev pub stamp_of : Row → ℕ
+abbrev pub stamp_of : SessionRow → ℕ
 stamp_of row = unwrap_or (option_map (λ (s : Seat). s.session.last) row.kept) no_stamp
 
 -- where the session of a serial stands, or that none is live
-abbrev pub IsRowOf : ℕ → List Row → Option ℕ → Type 0
+abbrev pub IsRowOf : ℕ → List SessionRow → Option ℕ → Type 0
 IsRowOf serial rows place =
     MatchOption place
     (session_with_serial serial (live_of rows) ≡ None)
     (λ i. (i < length rows) × ((seat : Seat) × (slice_get rows i ≡ Some (record { serial = serial; kept = Some seat }))))
 
 -- the seat is that of a row with that serial
-abbrev pub IsSeatOf : ℕ → List Row → Seat → Type 0
+abbrev pub IsSeatOf : ℕ → List SessionRow → Seat → Type 0
 IsSeatOf serial rows seat = (i : ℕ) × (slice_get rows i ≡ Some (record { serial = serial; kept = Some seat }))
 
 -- the serials of rows rise, and the session of each has the row's serial, with which its id begins
-pub record AreOwn (rows : List Row) : Type 0 where
+pub record AreOwn (rows : List SessionRow) : Type 0 where
   pub rising : IsStrictlySortedBy row_order rows
-  pub own : AllByRecursion (λ (r : Row). IfSome r.kept (IsOwn r.serial)) rows
+  pub own : AllByRecursion (λ (r : SessionRow). IfSome r.kept (IsOwn r.serial)) rows
 
 -- what holds of the rows between two calls
-pub record AreRows (counter : ℕ) (rows : List Row) : Type 0 where
+pub record AreRows (counter : ℕ) (rows : List SessionRow) : Type 0 where
   pub small : counter < 2 ^ 64
   -- the serials rise, and end at the counter or before it
   pub own : AreOwn rows
-  pub counted : AllByRecursion (λ (r : Row). r.serial ≤ counter) rows
+  pub counted : AllByRecursion (λ (r : SessionRow). r.serial ≤ counter) rows
   -- a client has one session
   pub apart : IsDistinct is_text (map (λ (s : Session). s.client) (live_of rows))
   pub few : length (live_of rows) ≤ most_sessions
 
 -- what holds of the holders: they are in order, and each leads to its client's session
-pub record AreHolders (rows : List Row) (holders : List Holder) : Type 0 where
+pub record AreHolders (rows : List SessionRow) (holders : List Holder) : Type 0 where
   pub ordered : IsStrictlySortedBy client_order holders
   pub indexed : (client : List ℕ) → option_map (λ (h : Holder). h.serial) (holder_of client holders) ≡ option_map
       (λ (s : Session). s.serial) (session_of_client client (live_of rows))
   pub counts : length holders ≡ length (live_of rows)
 
 -- each row has its stamp, and no other place has one
-abbrev pub IsStamped : List Row → ℕ → List ℕ → Type 0
+abbrev pub IsStamped : List SessionRow → ℕ → List ℕ → Type 0
 IsStamped rows width tree =
     (place : ℕ) → place < width → at tree (width + place) ≡ unwrap_or (option_map stamp_of (slice_get rows place)) no_stamp
 
 -- what holds of the stamps: each row has its own, and no other place has one
-pub record AreStamps (rows : List Row) (width : ℕ) (tree : List ℕ) : Type 0 where
+pub record AreStamps (rows : List SessionRow) (width : ℕ) (tree : List ℕ) : Type 0 where
   pub lesser : IsTree width tree
   pub power : (width ≡ 0) ⊎ IsPower width
   pub few : width < width_bound
@@ -92,13 +92,13 @@ pub record AreStamps (rows : List Row) (width : ℕ) (tree : List ℕ) : Type 0 
   pub stamped : IsStamped rows width tree
 
 -- all of these
-pub record AreTied (counter : ℕ) (rows : List Row) (holders : List Holder) (width : ℕ) (tree : List ℕ) : Type 0 where
+pub record AreTied (counter : ℕ) (rows : List SessionRow) (holders : List Holder) (width : ℕ) (tree : List ℕ) : Type 0 where
   pub sessions : AreRows counter rows
   pub clients : AreHolders rows holders
   pub moments : AreStamps rows width tree
 
 -- the seat of a row is another, and P holds of it before and after; the other rows stay
-abbrev pub Rewrites : ℕ → (Seat → Seat → Type 0) → List Row → List Row → Type 0
+abbrev pub Rewrites : ℕ → (Seat → Seat → Type 0) → List SessionRow → List SessionRow → Type 0
 Rewrites place P old new =
     (serial : ℕ) (seat : Seat) → slice_get old place ≡ Some (record { serial = serial; kept = Some seat })
     → (after : Seat) × P seat after × (new ≡ slice_set old place (record { serial = serial; kept = Some after }))
@@ -108,20 +108,20 @@ abbrev pub ChangesSeat : (Session → Session) → (Seat → Seat → Type 0) �
 ChangesSeat f P before after = (after.session ≡ f before.session) × P before after
 
 -- a row has a session, of which P holds
-abbrev pub IsTaken : (Seat → Type 0) → List Row → ℕ → Type 0
+abbrev pub IsTaken : (Seat → Type 0) → List SessionRow → ℕ → Type 0
 IsTaken P rows place =
     (serial : ℕ) × ((seat : Seat) × (slice_get rows place ≡ Some (record { serial = serial; kept = Some seat })) × P seat)
 
 -- the serial of a row
-abbrev pub serial_at : List Row → ℕ → ℕ
-serial_at rows place = unwrap_or (option_map (λ (r : Row). r.serial) (slice_get rows place)) 0
+abbrev pub serial_at : List SessionRow → ℕ → ℕ
+serial_at rows place = unwrap_or (option_map (λ (r : SessionRow). r.serial) (slice_get rows place)) 0
 
 -- the serials of the rows whose stamps are no later than the limit
-abbrev pub due_rows : List Row → ℕ → List ℕ → ℕ → List ℕ
+abbrev pub due_rows : List SessionRow → ℕ → List ℕ → ℕ → List ℕ
 due_rows rows width tree limit = map (λ node. serial_at rows (node - width)) (due_nodes width tree limit)
 
 -- stamps for these rows may be made anew: they have so many sessions
-pub record CanWiden (rows : List Row) (width live : ℕ) : Type 0 where
+pub record CanWiden (rows : List SessionRow) (width live : ℕ) : Type 0 where
   pub power : (width ≡ 0) ⊎ IsPower width
   pub few : width < width_bound
   pub within : live ≤ width

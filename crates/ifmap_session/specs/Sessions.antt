@@ -118,25 +118,25 @@ HasRoomForOne serial table =
     (s : Session) → session_with_serial serial table.live ≡ Some s → 1 ≤ spare_of serial table.spare + length s.queue
 
 -- a session that was ready begins, with nothing to tell
-abbrev pub begun : Opening → ℕ → ℕ → Session
-begun opening limit moment =
+abbrev pub session_from : Opening → ℕ → ℕ → Session
+session_from opening limit moment =
     record { serial = opening.serial; id = opening.id; client = opening.client; limit = limit; last = moment; queue = [] }
 
 -- a request is accepted at a moment
-abbrev pub renewed : ℕ → Session → Session
-renewed moment s = record s { last = moment }
+abbrev pub with_last : ℕ → Session → Session
+with_last moment s = record s { last = moment }
 
 -- one more item is to be told
-abbrev pub queued : PollItem → Session → Session
-queued item s = record s { queue = s.queue ++ item ∷ [] }
+abbrev pub with_item : PollItem → Session → Session
+with_item item s = record s { queue = s.queue ++ item ∷ [] }
 
 -- one item is to be told in place of all
-abbrev pub overflowed : PollItem → Session → Session
-overflowed error s = record s { queue = error ∷ [] }
+abbrev pub with_error : PollItem → Session → Session
+with_error error s = record s { queue = error ∷ [] }
 
 -- nothing is to be told
-abbrev pub emptied : Session → Session
-emptied s = record s { queue = [] }
+abbrev pub without_items : Session → Session
+without_items s = record s { queue = [] }
 
 -- whether an item tells of the subscription of that name
 abbrev pub is_named : List ℕ → PollItem → Bool

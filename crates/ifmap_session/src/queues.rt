@@ -2,7 +2,7 @@
 ghost use Rattle.std.specs.Prelude.{◌≡◌, ◌+◌, ◌-◌, ◌^◌, ◌≤◌, [], filter, length, min, not, sum_by, vec_capacity, vec_len, OnErr, OnOk, IfOk};
 ghost use Rattle.ifmap_search.specs.Sizes.{queue_size};
 ghost use Rattle.ifmap_session.specs.Seats.{counted_size};
-ghost use Rattle.ifmap_session.specs.Sessions.{emptied, is_named, overflowed, queued, renewed, without_name};
+ghost use Rattle.ifmap_session.specs.Sessions.{is_named, with_error, with_item, with_last, without_items, without_name};
 
 use ifmap_elem::{Equals, Many, Text};
 use ifmap_io::Moment;
@@ -119,7 +119,7 @@ impl LiveSession {
 
     /// Keeps that moment as that of the last accepted request.
     pub fn renew(&mut self, moment: Moment)
-        ensures session { self.new.session ≡ renewed moment self.old.session }
+        ensures session { self.new.session ≡ with_last moment self.old.session }
         ensures spare { self.new.spare ≡ self.old.spare }
     {
         self.last = moment;
@@ -137,7 +137,7 @@ impl LiveSession {
     /// Queues an item. It takes no memory.
     pub fn push(&mut self, item: PollItem)
         requires { 1 ≤ self.old.spare }
-        ensures session { self.new.session ≡ queued item self.old.session }
+        ensures session { self.new.session ≡ with_item item self.old.session }
         ensures spare { self.new.spare + 1 ≡ self.old.spare }
     {
         self.size += poll_size(&item) as u128;
@@ -147,7 +147,7 @@ impl LiveSession {
     /// Queues an item in place of all. It takes no memory.
     pub fn overflow(&mut self, error: PollItem)
         requires { 1 ≤ self.old.spare + length self.old.session.queue }
-        ensures session { self.new.session ≡ overflowed error self.old.session }
+        ensures session { self.new.session ≡ with_error error self.old.session }
         ensures spare { self.new.spare + 1 ≡ self.old.spare + length self.old.session.queue }
     {
         self.size = poll_size(&error) as u128;
@@ -167,7 +167,7 @@ impl LiveSession {
     /// Hands out what is queued; the queue is empty then, and has no room. It takes no memory.
     pub fn take_all(&mut self) -> Many<PollItem>
         ensures items { result ≡ self.old.session.queue }
-        ensures session { self.new.session ≡ emptied self.old.session }
+        ensures session { self.new.session ≡ without_items self.old.session }
         ensures spare { self.new.spare ≡ 0 }
     {
         let empty = Vec::new(*self.queue.allocator());

@@ -4,7 +4,7 @@ ghost use Rattle.std.specs.Prelude.{◌≡◌, ℕ, ◌+◌, ◌-◌, ◌*◌, �
 ghost use Rattle.std.specs.List.{All};
 ghost use Rattle.ifmap_session.specs.Rows.{AreOwn, AreStamps, CanWiden, ChangesSeat, IsRowOf, IsSeatOf, IsStamped, IsTaken, Rewrites, due_rows, live_of, serial_at, stamp_of};
 ghost use Rattle.ifmap_session.specs.Seats.{Seat};
-ghost use Rattle.ifmap_session.specs.Sessions.{IsLive, emptied, overflowed, queued, renewed, session_with_serial, without_name};
+ghost use Rattle.ifmap_session.specs.Sessions.{IsLive, session_with_serial, with_error, with_item, with_last, without_items, without_name};
 ghost use Rattle.ifmap_session.specs.Stamps.{IsTree, at, no_stamp};
 
 use crate::queues::LiveSession;
@@ -16,13 +16,13 @@ use std::alloc::{AllocError as NoMemory, Global};
 
 /// A serial, with its session as long as that is live.
 #[derive(Drop)]
-pub struct Row {
+pub struct SessionRow {
     pub serial: u64,
     pub kept: Option<LiveSession>,
 }
 
 /// Where the session with that serial stands.
-pub fn place_of_serial(rows: &[Row], serial: u64) -> Option<usize>
+pub fn place_of_serial(rows: &[SessionRow], serial: u64) -> Option<usize>
     requires { AreOwn rows.now }
     ensures { IsRowOf serial rows.now result }
 {
@@ -35,7 +35,7 @@ pub fn place_of_serial(rows: &[Row], serial: u64) -> Option<usize>
 }
 
 /// Where the live session with that serial stands.
-pub fn place_in(rows: &[Row], serial: u64) -> usize
+pub fn place_in(rows: &[SessionRow], serial: u64) -> usize
     requires own { AreOwn rows.now }
     requires live { IsLive serial (live_of rows.now) }
     ensures { (seat : Seat) × (slice_get rows.now result
@@ -45,7 +45,7 @@ pub fn place_in(rows: &[Row], serial: u64) -> usize
 }
 
 /// The session with that serial.
-pub fn find_live(rows: &[Row], serial: u64) -> Option<&LiveSession>
+pub fn find_live(rows: &[SessionRow], serial: u64) -> Option<&LiveSession>
     requires { AreOwn rows.now }
     ensures { MatchOption result (session_with_serial serial (live_of rows.now) ≡ None)
         (λ kept. IsSeatOf serial rows.now kept.now) }
@@ -55,9 +55,9 @@ pub fn find_live(rows: &[Row], serial: u64) -> Option<&LiveSession>
 }
 
 /// Keeps that moment as that of the last accepted request in the session of a row.
-pub fn renew_at(rows: &mut Vec<Row>, place: usize, moment: Moment)
+pub fn renew_at(rows: &mut Vec<SessionRow>, place: usize, moment: Moment)
     requires { IsTaken (λ seat. Unit {0}) rows.old.items place }
-    ensures rows { Rewrites place (ChangesSeat (renewed moment) (λ a b. b.spare ≡ a.spare))
+    ensures rows { Rewrites place (ChangesSeat (with_last moment) (λ a b. b.spare ≡ a.spare))
         rows.old.items rows.new.items }
     ensures len { vec_len rows.new ≡ vec_len rows.old }
     ensures capacity { vec_capacity rows.new ≡ vec_capacity rows.old }
@@ -69,7 +69,7 @@ pub fn renew_at(rows: &mut Vec<Row>, place: usize, moment: Moment)
 
 /// Makes room for `n` items more in the queue of a row. The one error is want of memory, which
 /// leaves all as it was.
-pub fn reserve_at(rows: &mut Vec<Row>, place: usize, n: u64) -> Result<(), NoMemory>
+pub fn reserve_at(rows: &mut Vec<SessionRow>, place: usize, n: u64) -> Result<(), NoMemory>
     requires { IsTaken (λ seat. Unit {0}) rows.old.items place }
     ensures rows { Rewrites place (ChangesSeat (λ s. s)
         (λ a b. (a.spare ≤ b.spare) × OnOk result (n ≤ b.spare))) rows.old.items rows.new.items }
@@ -83,9 +83,9 @@ pub fn reserve_at(rows: &mut Vec<Row>, place: usize, n: u64) -> Result<(), NoMem
 }
 
 /// Queues an item in the session of a row.
-pub fn push_at(rows: &mut Vec<Row>, place: usize, item: PollItem)
+pub fn push_at(rows: &mut Vec<SessionRow>, place: usize, item: PollItem)
     requires { IsTaken (λ seat. 1 ≤ seat.spare) rows.old.items place }
-    ensures rows { Rewrites place (ChangesSeat (queued item) (λ a b. b.spare + 1 ≡ a.spare))
+    ensures rows { Rewrites place (ChangesSeat (with_item item) (λ a b. b.spare + 1 ≡ a.spare))
         rows.old.items rows.new.items }
     ensures len { vec_len rows.new ≡ vec_len rows.old }
     ensures capacity { vec_capacity rows.new ≡ vec_capacity rows.old }
@@ -96,9 +96,9 @@ pub fn push_at(rows: &mut Vec<Row>, place: usize, item: PollItem)
 }
 
 /// Queues an item in the session of a row, in place of all.
-pub fn overflow_at(rows: &mut Vec<Row>, place: usize, error: PollItem)
+pub fn overflow_at(rows: &mut Vec<SessionRow>, place: usize, error: PollItem)
     requires { IsTaken (λ seat. 1 ≤ seat.spare + length seat.session.queue) rows.old.items place }
-    ensures rows { Rewrites place (ChangesSeat (overflowed error)
+    ensures rows { Rewrites place (ChangesSeat (with_error error)
         (λ a b. b.spare + 1 ≡ a.spare + length a.session.queue)) rows.old.items rows.new.items }
     ensures len { vec_len rows.new ≡ vec_len rows.old }
     ensures capacity { vec_capacity rows.new ≡ vec_capacity rows.old }
@@ -109,7 +109,7 @@ pub fn overflow_at(rows: &mut Vec<Row>, place: usize, error: PollItem)
 }
 
 /// Drops what is queued in the session of a row of the subscription of that name.
-pub fn drop_name_at(rows: &mut Vec<Row>, place: usize, name: &Text)
+pub fn drop_name_at(rows: &mut Vec<SessionRow>, place: usize, name: &Text)
     requires { IsTaken (λ seat. Unit {0}) rows.old.items place }
     ensures rows { Rewrites place (ChangesSeat (without_name name.now)
         (λ a b. a.spare ≤ b.spare)) rows.old.items rows.new.items }
@@ -122,9 +122,9 @@ pub fn drop_name_at(rows: &mut Vec<Row>, place: usize, name: &Text)
 }
 
 /// Hands out what is queued in the session of a row; the queue is empty then, and has no room.
-pub fn take_all_at(rows: &mut Vec<Row>, place: usize) -> Many<PollItem>
+pub fn take_all_at(rows: &mut Vec<SessionRow>, place: usize) -> Many<PollItem>
     requires { IsTaken (λ seat. Unit {0}) rows.old.items place }
-    ensures rows { Rewrites place (ChangesSeat emptied
+    ensures rows { Rewrites place (ChangesSeat without_items
         (λ a b. (b.spare ≡ 0) × (result ≡ a.session.queue))) rows.old.items rows.new.items }
     ensures len { vec_len rows.new ≡ vec_len rows.old }
     ensures capacity { vec_capacity rows.new ≡ vec_capacity rows.old }
@@ -136,7 +136,7 @@ pub fn take_all_at(rows: &mut Vec<Row>, place: usize) -> Many<PollItem>
 }
 
 /// Takes the session of a row out, and leaves the row empty.
-pub fn end_at(rows: &mut Vec<Row>, place: usize) -> LiveSession
+pub fn end_at(rows: &mut Vec<SessionRow>, place: usize) -> LiveSession
     requires { IsTaken (λ seat. Unit {0}) rows.old.items place }
     ensures rows { (serial : ℕ) (seat : Seat)
         → slice_get rows.old.items place ≡ Some (record { serial = serial; kept = Some seat })
@@ -161,7 +161,7 @@ pub struct Wide {
 /// which leaves the rows.
 pub fn widen(
     alloc: Global,
-    rows: &mut Vec<Row>,
+    rows: &mut Vec<SessionRow>,
     width: usize,
     live: usize,
 ) -> Result<Wide, NoMemory>
@@ -184,7 +184,7 @@ pub fn widen(
 }
 
 // Drops the empty rows.
-fn drop_empty(rows: &mut Vec<Row>)
+fn drop_empty(rows: &mut Vec<SessionRow>)
     ensures items { rows.new.items ≡ filter (λ row. is_some row.kept) rows.old.items }
     ensures len { vec_len rows.new ≤ vec_len rows.old }
     ensures capacity { vec_capacity rows.new ≡ vec_capacity rows.old }
@@ -193,7 +193,7 @@ fn drop_empty(rows: &mut Vec<Row>)
 }
 
 // Stamps each row with the last moment of its session.
-fn stamp_rows(stamps: &mut Vec<u64>, width: usize, rows: &[Row])
+fn stamp_rows(stamps: &mut Vec<u64>, width: usize, rows: &[SessionRow])
     requires tree { IsTree width stamps.old.items }
     requires blank { (node : ℕ) → width ≤ node → node < 2 * width
         → at stamps.old.items node ≡ no_stamp }
@@ -207,7 +207,7 @@ fn stamp_rows(stamps: &mut Vec<u64>, width: usize, rows: &[Row])
 }
 
 // The last moment of the row's session; what no moment reaches where it is empty.
-fn stamp_of(row: &Row) -> u64
+fn stamp_of(row: &SessionRow) -> u64
     ensures { result ≡ stamp_of row.now }
 {
     match &row.kept {
@@ -220,7 +220,7 @@ fn stamp_of(row: &Row) -> u64
 /// error is want of memory.
 pub fn due_serials(
     alloc: Global,
-    rows: &[Row],
+    rows: &[SessionRow],
     stamps: &[u64],
     width: usize,
     limit: u64,
@@ -239,7 +239,7 @@ pub fn due_serials(
 // The serials of the rows at these nodes. The one error is want of memory.
 fn serials_of(
     alloc: Global,
-    rows: &[Row],
+    rows: &[SessionRow],
     nodes: &[usize],
     width: usize,
 ) -> Result<Vec<u64>, NoMemory>
@@ -255,7 +255,7 @@ fn serials_of(
 }
 
 // The serial of a row.
-fn serial_at(rows: &[Row], place: usize) -> u64
+fn serial_at(rows: &[SessionRow], place: usize) -> u64
     requires { place < length rows.now }
     ensures { result ≡ serial_at rows.now place }
 {

@@ -4,7 +4,7 @@ ghost use Rattle.std.specs.List.{list_any};
 ghost use Rattle.ifmap_search.specs.Sizes.{queue_size};
 ghost use Rattle.ifmap_session.specs.declared.errors.BeginError.TheVariants as the_error;
 ghost use Rattle.ifmap_session.specs.SessionIds.{session_id};
-ghost use Rattle.ifmap_session.specs.Sessions.{Changes, ChangesRoom, HasRoomForOne, IsAsBefore, IsLive, IsTable, Session, begun, emptied, expired_serials, is_expired, is_named, most_sessions, overflowed, queued, renewed, session_of_client, session_with_id, session_with_serial, spare_of, without_name, without_sessions};
+ghost use Rattle.ifmap_session.specs.Sessions.{Changes, ChangesRoom, HasRoomForOne, IsAsBefore, IsLive, IsTable, Session, expired_serials, is_expired, is_named, most_sessions, session_from, session_of_client, session_with_id, session_with_serial, spare_of, with_error, with_item, with_last, without_items, without_name, without_sessions};
 
 use crate::errors::BeginError;
 use crate::holders::{Holder, place_of_client};
@@ -12,8 +12,8 @@ use crate::ids::{new_id, serial_of};
 use crate::openings::{Begun, Opening};
 use crate::queues::LiveSession;
 use crate::rows::{
-    Row, drop_name_at, due_serials, end_at, find_live, overflow_at, place_in, push_at, renew_at,
-    reserve_at, take_all_at, widen,
+    SessionRow, drop_name_at, due_serials, end_at, find_live, overflow_at, place_in, push_at,
+    renew_at, reserve_at, take_all_at, widen,
 };
 use crate::stamps::{NO_STAMP, is_any_due, set_stamp};
 use ifmap_elem::{Copied, Equals, Many, Text};
@@ -32,7 +32,7 @@ pub const MOST_SESSIONS: usize = 10_000;
 #[derive(Drop)]
 pub struct Sessions {
     counter: u64,
-    rows: Vec<Row>,
+    rows: Vec<SessionRow>,
     holders: Vec<Holder>,
     // How many rows the stamps are for, and the tree of the last moments by row.
     width: usize,
@@ -58,7 +58,8 @@ impl Model for Sessions {
           (vec_capacity s.holders - vec_len s.holders);
     } };
 
-    ghost invariant = { λ s. AreTied s.counter s.rows.items s.holders.items s.width s.stamps.items };
+    ghost invariant = { λ s. AreTied s.counter s.rows.items s.holders.items s.width
+        s.stamps.items };
 }
 
 impl Sessions {
@@ -203,7 +204,7 @@ impl Sessions {
         requires counter { self.old.counter < 2 ^ 64 - 1 }
         requires prepared { opening.serial ≡ self.old.counter + 1 }
         ensures begun { result ≡ record { serial = opening.serial; id = opening.id } }
-        ensures live { self.new.live ≡ self.old.live ++ begun opening limit moment ∷ [] }
+        ensures live { self.new.live ≡ self.old.live ++ session_from opening limit moment ∷ [] }
         ensures counter { self.new.counter ≡ self.old.counter + 1 }
         ensures others { (n : ℕ) → n ≢ opening.serial
             → spare_of n self.new.spare ≡ spare_of n self.old.spare }
@@ -232,7 +233,7 @@ impl Sessions {
             moment.seconds(),
         );
         let kept = LiveSession::new(*self.rows.allocator(), serial, id, client, limit, moment);
-        self.rows.push_reserved(Row {
+        self.rows.push_reserved(SessionRow {
             serial,
             kept: Some(kept),
         });
@@ -244,7 +245,7 @@ impl Sessions {
     /// an earlier one. It takes no memory.
     pub fn renew(&mut self, serial: u64, moment: Moment)
         requires { IsLive serial self.old.live }
-        ensures changes { Changes serial (renewed moment) self.old self.new }
+        ensures changes { Changes serial (with_last moment) self.old self.new }
         ensures spare { self.new.spare ≡ self.old.spare }
     {
         let place = place_in(&self.rows, serial);
@@ -309,7 +310,7 @@ impl Sessions {
     pub fn push(&mut self, serial: u64, item: PollItem)
         requires live { IsLive serial self.old.live }
         requires room { 1 ≤ spare_of serial self.old.spare }
-        ensures changes { Changes serial (queued item) self.old self.new }
+        ensures changes { Changes serial (with_item item) self.old self.new }
         ensures spare { spare_of serial self.new.spare + 1 ≡ spare_of serial self.old.spare }
     {
         let place = place_in(&self.rows, serial);
@@ -342,7 +343,7 @@ impl Sessions {
     pub fn overflow(&mut self, serial: u64, error: PollItem)
         requires live { IsLive serial self.old.live }
         requires room { HasRoomForOne serial self.old }
-        ensures changes { Changes serial (overflowed error) self.old self.new }
+        ensures changes { Changes serial (with_error error) self.old self.new }
         ensures spare { (s : Session) → session_with_serial serial self.old.live ≡ Some s
             → spare_of serial self.new.spare + 1
             ≡ spare_of serial self.old.spare + length s.queue }
@@ -367,7 +368,7 @@ impl Sessions {
         requires { IsLive serial self.old.live }
         ensures items { (s : Session) → session_with_serial serial self.old.live ≡ Some s
             → result ≡ s.queue }
-        ensures changes { Changes serial emptied self.old self.new }
+        ensures changes { Changes serial without_items self.old self.new }
         ensures spare { spare_of serial self.new.spare ≡ 0 }
     {
         let place = place_in(&self.rows, serial);
@@ -393,7 +394,7 @@ impl Sessions {
 
 // Makes room for one row and one holder more. The one error is want of memory, which may leave more
 // room.
-fn reserve_one(rows: &mut Vec<Row>, holders: &mut Vec<Holder>) -> Result<(), NoMemory>
+fn reserve_one(rows: &mut Vec<SessionRow>, holders: &mut Vec<Holder>) -> Result<(), NoMemory>
     ensures rows { rows.new.items ≡ rows.old.items }
     ensures holders { holders.new.items ≡ holders.old.items }
     ensures rows_len { vec_len rows.new ≡ vec_len rows.old }

@@ -1,33 +1,16 @@
--- Lists of subscriptions, place by place. First what stands at a place of a list in which one place is written (`written_there`,
--- `written_elsewhere`). Then relations at each place: joined (`joined`), and weaker (`weaker`). Then a walk from the last place
--- down that changes each by a way (`Down`): as it begins, at one place, and at its end. Last, that ways lead back still after what
--- keeps the same (`stay`).
-use Rattle.std.proofs.Common.{◌≡◌, ◌≢◌, inl, inr, ℕ, zero, suc, ◌+◌, ◌<◌, ◌≤◌, Option, Some, None, List, [], ◌∷◌, ◌++◌, length, get_or, set, slice_get, take, refl, ap, ◌∙◌, sym, subst, arith}
+-- Lists of subscriptions, place by place. First relations at each place: joined (`joined`), and weaker (`weaker`). Then a walk from
+-- the last place down that changes each by a way (`Down`): as it begins, at one place, and at its end. Last, that ways lead back still
+-- after what keeps the same (`stay`).
+use Rattle.std.proofs.Common.{◌≡◌, inl, inr, ℕ, zero, suc, ◌+◌, ◌<◌, ◌≤◌, Option, Some, None, List, [], ◌∷◌, ◌++◌, length, get_or, set, slice_get, take, refl, ap, ◌∙◌, sym, subst, arith}
 use Rattle.std.proofs.lemmas.Bool.{cases_order}
 use Rattle.std.proofs.lemmas.List.{length-append, length-set}
-use Rattle.std.proofs.lemmas.Option.{slice_get_past, slice_get_read, slice_get_within, same_Some, none-some}
+use Rattle.std.proofs.lemmas.Option.{slice_get_past, slice_get_read, slice_get_within, same_Some}
 use Rattle.ifmap_delta.specs.declared.subscriptions.Subscription.{Subscription}
 use Rattle.ifmap_delta.specs.Ways.{HasSameSearch}
+use Rattle.ifmap_lemmas.specs.Places.{last_there, present, written_elsewhere, written_there}
 use Rattle.ifmap_standing.specs.declared.standing.Standing.{Standing}
 use Rattle.ifmap_standing.specs.Kept.{AtEach, KeepsSame, Stands}
 use Rattle.ifmap_standing.specs.Ways.{LeadBack, LeadsBackWhere, Way}
-
-pub written_there : {X : Type 0} (xs : List X) (i : ℕ) (y : X) → i < length xs → slice_get (set xs i y) i ≡ Some y
-written_there [] i y less = absurd (omega (arith, less))
-written_there (x ∷ xs) zero y less = refl
-written_there (x ∷ xs) (suc i) y less = written_there xs i y (omega (arith, less))
-
-pub written_elsewhere : {X : Type 0} (xs : List X) (i j : ℕ) (y : X) → j ≢ i → slice_get (set xs i y) j ≡ slice_get xs j
-written_elsewhere [] i j y n = refl
-written_elsewhere (x ∷ xs) zero zero y n = absurd (n refl)
-written_elsewhere (x ∷ xs) zero (suc j) y n = refl
-written_elsewhere (x ∷ xs) (suc i) zero y n = refl
-written_elsewhere (x ∷ xs) (suc i) (suc j) y n = written_elsewhere xs i j y (λ e. n (ap suc e))
-
--- the last of a list
-pub last_there : {X : Type 0} (xs : List X) (x : X) → slice_get (xs ++ x ∷ []) (length xs) ≡ Some x
-last_there [] x = refl
-last_there (y ∷ xs) x = last_there xs x
 
 pub before_last : {X : Type 0} (xs : List X) (x : X) (i : ℕ) → i < length xs → slice_get (xs ++ x ∷ []) i ≡ slice_get xs i
 before_last [] x i less = absurd (omega (arith, less))
@@ -39,14 +22,6 @@ front_there zero xs i less = absurd (omega (arith, less))
 front_there (suc n) [] i less = refl
 front_there (suc n) (x ∷ xs) zero less = refl
 front_there (suc n) (x ∷ xs) (suc i) less = front_there n xs i (omega (arith, less))
-
--- a list as long as another has something at each place of that one
-pub present : {X Y : Type 0} (xs : List X) (ys : List Y) (i : ℕ) (x : X) → length ys ≡ length xs → slice_get xs i ≡ Some x
-    → (y : Y) × (slice_get ys i ≡ Some y)
-present [] ys i x long e = absurd (none-some x e)
-present (a ∷ xs) [] i x long e = absurd (omega (arith, long))
-present (a ∷ xs) (b ∷ ys) zero x long e = (b, refl)
-present (a ∷ xs) (b ∷ ys) (suc i) x long e = present xs ys i x (omega (arith, long)) e
 
 -- relations at each place
 pub joined : {X : Type 0} (R S T : ℕ → X → X → Type 0) → ((i : ℕ) (x y z : X) → R i x y → S i y z → T i x z) → (a b c : List X)

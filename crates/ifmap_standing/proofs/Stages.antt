@@ -1,9 +1,8 @@
 -- Telling a list of subscriptions, from the first on. First the steps of one more (`within_more`), and of none (`within_none`). Then
 -- a relation at each place, of which one is written (`at_set`). Then what holds as far as the loop has come (`Stage`): as it begins,
 -- one on, where one fails, and at its end.
-use Rattle.std.proofs.Common.{◌≡◌, ◌≢◌, inl, inr, ℕ, zero, suc, ◌+◌, ◌<◌, ◌≤◌, Bool, true, false, Option, Some, None, List, [], ◌∷◌, ◌++◌, length, map, set, slice_get, take, drop, Result, Ok, Err, refl, ap, ◌∙◌, sym, subst, arith}
+use Rattle.std.proofs.Common.{◌≡◌, ◌≢◌, inl, inr, ℕ, zero, suc, ◌+◌, ◌<◌, ◌≤◌, Bool, true, false, Option, Some, None, List, [], ◌∷◌, ◌++◌, length, map, set, slice_get, take, drop, refl, ap, ◌∙◌, sym, subst, arith}
 use Rattle.std.specs.List.{zip}
-use Rattle.std.specs.Prelude.{OnErr}
 use Rattle.std.proofs.lemmas.Bool.{cases_order}
 use Rattle.std.proofs.lemmas.List.{length-append, length-set, map-append, take-append-drop, take_all}
 use Rattle.std.proofs.Math.Numerals.{add-one}
@@ -13,6 +12,7 @@ use Rattle.ifmap_delta.specs.declared.subscriptions.Subscription.{Subscription}
 use Rattle.ifmap_delta.specs.Bounds.{IsNear, links_of}
 use Rattle.ifmap_delta.specs.Sights.{IsKept, Sight}
 use Rattle.ifmap_delta.specs.Ways.{HasSameSearch}
+use Rattle.ifmap_lemmas.specs.Places.{last_there, written_elsewhere, written_there}
 use Rattle.ifmap_machine.specs.State as machine
 use Rattle.ifmap_plans.specs.declared.plans.Note.{Note}
 use Rattle.ifmap_region.specs.Bounds.{within_nothing}
@@ -21,9 +21,9 @@ use Rattle.ifmap_standing.specs.declared.standing.Standing.{Standing}
 use Rattle.ifmap_standing.specs.declared.telling.News.{News}
 use Rattle.ifmap_standing.specs.Kept.{AtEach, KeepsSame, Stands}
 use Rattle.ifmap_standing.specs.News.{news_of_each, news_where}
-use Rattle.ifmap_standing.specs.Standing.{shown}
+use Rattle.ifmap_standing.specs.Standing.{standing_of}
 use Rattle.ifmap_standing.specs.Ways.{LeadBack, LeadsBackWhere, Way}
-use Rattle.ifmap_standing.proofs.Places.{before_last, keeps_itself, last_there, weaker, written_elsewhere, written_there}
+use Rattle.ifmap_standing.proofs.Places.{before_last, keeps_itself, weaker}
 
 -- two lists side by side, one place on
 zip_more : {A B : Type 0} (us : List A) (vs : List B) (n : ℕ) (a : A) (b : B) → slice_get us n ≡ Some a → slice_get vs n ≡ Some b
@@ -109,7 +109,7 @@ module _ (old new : Sight) (notes : List Note) (skipped : List Bool) (xs : List 
 
   -- the first n are told
   pub record Stage (n : ℕ) (news : List News) (ways : List (Option Way)) (now : List Standing) (steps : ℕ) : Type 0 where
-    pub says : news ≡ map told (take n (zip skipped (map shown xs)))
+    pub says : news ≡ map told (take n (zip skipped (map standing_of xs)))
     pub told_count : length news ≡ n
     pub count : length ways ≡ n
     pub lead : LeadBack xs ways now
@@ -168,16 +168,16 @@ module _ (old new : Sight) (notes : List Note) (skipped : List Bool) (xs : List 
           (λ i a b apart r. r);
     }
 
-    module _ (one : News) (way : Option Way) (is : one ≡ news_where old.rows new.rows notes skip (shown x))
+    module _ (one : News) (way : Option Way) (is : one ≡ news_where old.rows new.rows notes skip (standing_of x))
         (back : Stands (LeadsBackWhere (Some way)) x y) (stays : skip ≡ true → y ≡ x)
         (keeps : skip ≡ false → IsKept new y.subscription) where
-      news_next : news ++ one ∷ [] ≡ map told (take (n + 1) (zip skipped (map shown xs)))
+      news_next : news ++ one ∷ [] ≡ map told (take (n + 1) (zip skipped (map standing_of xs)))
       news_next =
-          let list = zip skipped (map shown xs)
-          in let on : take (n + 1) list ≡ take n list ++ (skip, shown x) ∷ [] = ap (λ k. take k list) (add-one n)
-          ∙ zip_more skipped (map shown xs) n skip (shown x) flag (mapped_there shown xs n x before)
+          let list = zip skipped (map standing_of xs)
+          in let on : take (n + 1) list ≡ take n list ++ (skip, standing_of x) ∷ [] = ap (λ k. take k list) (add-one n)
+          ∙ zip_more skipped (map standing_of xs) n skip (standing_of x) flag (mapped_there standing_of xs n x before)
           in ap (λ l. l ++ one ∷ []) s.says ∙ ap (λ o. map told (take n list) ++ o ∷ []) is
-          ∙ sym (ap (map told) on ∙ map-append told (take n list) ((skip, shown x) ∷ []))
+          ∙ sym (ap (map told) on ∙ map-append told (take n list) ((skip, standing_of x) ∷ []))
 
       ways_next : LeadBack xs (ways ++ way ∷ []) after
       ways_next =
@@ -230,8 +230,9 @@ module _ (old new : Sight) (notes : List Note) (skipped : List Bool) (xs : List 
   -- all are told
   module _ (n : ℕ) (news : List News) (ways : List (Option Way)) (now : List Standing) (steps : ℕ)
       (s : Stage n news ways now steps) (past : length skipped ≤ n) where
-    pub news_end : news ≡ news_of_each old.rows new.rows notes skipped (map shown xs)
-    news_end = s.says ∙ ap (map told) (take_all n (zip skipped (map shown xs)) (omega (arith, past, length-zip skipped (map shown xs))))
+    pub news_end : news ≡ news_of_each old.rows new.rows notes skipped (map standing_of xs)
+    news_end = s.says ∙ ap (map told) (take_all n (zip skipped (map standing_of xs))
+        (omega (arith, past, length-zip skipped (map standing_of xs))))
 
     pub kept_end : (i : ℕ) (y : Standing) → slice_get now i ≡ Some y → slice_get skipped i ≡ Some false → IsKept new y.subscription
     kept_end i y p f = s.kept i y (omega (arith, past, slice_get_within skipped i false f)) p f
@@ -262,8 +263,3 @@ pub keep_searches : (xs now : List Standing) → AtEach (λ _. Stands KeepsSame)
 keep_searches xs now k =
     weaker (λ _. Stands KeepsSame) (λ _. Stands HasSameSearch)
     (λ i x y s. record { serial = s.serial; name = s.name; subscription = s.subscription.search }) xs now k
-
--- a fact is one at an error too
-pub on_err : {X E : Type 0} (r : Result X E) (P : Type 0) → P → OnErr r P
-on_err (Ok x) P p = tt
-on_err (Err e) P p = p

@@ -1,10 +1,11 @@
 -- Taking back, as a walk down of ways.
 use Rattle.std.proofs.Common.{◌≡◌, ℕ, Option, Some, List, [], ◌∷◌, ◌++◌, length, get_or, slice_get, sym, subst}
 use Rattle.ifmap_delta.specs.declared.subscriptions.Subscription.{Subscription}
+use Rattle.ifmap_lemmas.specs.Places.{present}
 use Rattle.ifmap_standing.specs.declared.standing.Standing.{Standing}
 use Rattle.ifmap_standing.specs.Kept.{AtEach, KeepsSame, Stands}
 use Rattle.ifmap_standing.specs.Ways.{LeadBack, LeadsBackWhere, Way}
-use Rattle.ifmap_standing.proofs.Places.{Down, joined, present, stand_joined, there_old, way_there}
+use Rattle.ifmap_standing.proofs.Places.{Down, joined, stand_joined, there_old, way_there}
 
 -- whatever the way leads back to is kept again
 abbrev pub IsUndone : Option (Option Way) → Subscription → Subscription → Type 0

@@ -12,7 +12,7 @@ ghost use Rattle.ifmap_standing.specs.Bounds.{IsWithinEach, IsWithinWhere};
 ghost use Rattle.ifmap_standing.specs.Kept.{AtEach, KeepsSame, Stands};
 ghost use Rattle.ifmap_standing.specs.Located.{IsLocatedIn};
 ghost use Rattle.ifmap_standing.specs.News.{news_of, news_of_each, news_where};
-ghost use Rattle.ifmap_standing.specs.Standing.{shown};
+ghost use Rattle.ifmap_standing.specs.Standing.{standing_of};
 ghost use Rattle.ifmap_standing.specs.Ways.{LeadBack, LeadsBack, LeadsBackWhere};
 ghost use Rattle.ifmap_standing.specs.declared.standing.Standing.{Standing};
 ghost use Rattle.ifmap_view.specs.Views.{IsView};
@@ -58,7 +58,7 @@ pub fn tell_change<G: View, D: View, L: Ledger>(
     ensures same { AtEach (λ _. Stands HasSameSearch) standing.old standing.new }
     ensures news { IfOk result (λ told. told.news ≡ news_of_each (G.rows change.now.graph.now)
         (D.rows change.now.draft.now) change.now.plan.now.notes skipped.now
-        (map shown standing.old)) }
+        (map standing_of standing.old)) }
     ensures kept { let draft = change.now.draft.now in OnOk result ((i : ℕ) (x : Standing)
         → slice_get standing.new i ≡ Some x → slice_get skipped.now i ≡ Some false
         → IsKept (sight_of D.rows D.id_at D.links draft) x.subscription) }
@@ -154,7 +154,7 @@ fn tell_all<G: View, D: View, L: Ledger>(
     requires ways_room { length skipped.now ≤ vec_capacity records.old.ways }
     ensures news { OnOk result (records.new.news.items ≡ news_of_each
         (G.rows change.now.graph.now) (D.rows change.now.draft.now)
-        change.now.located.plan.now.notes skipped.now (map shown standing.old)) }
+        change.now.located.plan.now.notes skipped.now (map standing_of standing.old)) }
     ensures kept { let draft = change.now.draft.now in OnOk result ((i : ℕ) (x : Standing)
         → slice_get standing.new i ≡ Some x → slice_get skipped.now i ≡ Some false
         → IsKept (sight_of D.rows D.id_at D.links draft) x.subscription) }
@@ -197,7 +197,7 @@ fn tell_where<G: View, D: View, L: Ledger>(
     requires canon { AllByRecursion (λ n. IsCanonItem n.item) change.now.located.plan.now.notes }
     ensures news { IfOk result (λ told. told.news ≡ news_where (G.rows change.now.graph.now)
         (D.rows change.now.draft.now) change.now.located.plan.now.notes is_skipped
-        (shown standing.old)) }
+        (standing_of standing.old)) }
     ensures kept { OnOk result (is_skipped ≡ false → IsKept
         (sight_of D.rows D.id_at D.links change.now.draft.now) standing.new.subscription) }
     ensures skipped { OnOk result (is_skipped ≡ true → standing.new ≡ standing.old) }
@@ -233,7 +233,8 @@ fn tell_one<G: View, D: View, L: Ledger>(
         (sight_of D.rows D.id_at D.links change.now.draft.now) change.now.located.plan.now.changes }
     requires canon { AllByRecursion (λ n. IsCanonItem n.item) change.now.located.plan.now.notes }
     ensures news { IfOk result (λ told. told.news ≡ news_of (G.rows change.now.graph.now)
-        (D.rows change.now.draft.now) change.now.located.plan.now.notes (shown standing.old)) }
+        (D.rows change.now.draft.now) change.now.located.plan.now.notes
+        (standing_of standing.old)) }
     ensures kept { OnOk result (IsKept
         (sight_of D.rows D.id_at D.links change.now.draft.now) standing.new.subscription) }
     ensures way { IfOk result (λ told. Stands (LeadsBackWhere (Some told.way)) standing.old

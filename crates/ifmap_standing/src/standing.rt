@@ -2,7 +2,7 @@
 ghost use Rattle.std.specs.Prelude.{◌≡◌};
 ghost use Rattle.ifmap_machine.specs.State.{standing_order};
 ghost use Rattle.ifmap_machine.specs.State as machine;
-ghost use Rattle.ifmap_standing.specs.Standing.{shown};
+ghost use Rattle.ifmap_standing.specs.Standing.{standing_of};
 
 use ifmap_delta::Subscription;
 use ifmap_elem::Text;
@@ -23,7 +23,7 @@ impl Standing {
     /// How it stands to the subscription of a session under a name: by session, then by name.
     pub fn order(&self, serial: u64, name: &Text) -> Ordering
         ensures { (other : machine.Standing) → other.serial ≡ serial → other.name ≡ name.now
-            → result ≡ standing_order (shown self.now) other }
+            → result ≡ standing_order (standing_of self.now) other }
     {
         match self.serial.cmp(&serial) {
             Ordering::Equal => self.name.as_bytes().cmp(name.as_bytes()),

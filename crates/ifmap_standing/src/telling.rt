@@ -10,7 +10,7 @@ ghost use Rattle.ifmap_machine.specs.Telling as machine;
 ghost use Rattle.ifmap_search.specs.declared.results.PollItem.TheVariants as the_item;
 ghost use Rattle.ifmap_standing.specs.Located.{IsLocatedIn};
 ghost use Rattle.ifmap_standing.specs.News.{news_of};
-ghost use Rattle.ifmap_standing.specs.Standing.{shown};
+ghost use Rattle.ifmap_standing.specs.Standing.{standing_of};
 
 use crate::standing::Standing;
 use ifmap_delta::{LocatedPlan, notes};
@@ -74,7 +74,8 @@ pub(crate) fn news_of<G: View, D: View>(
         ≡ difference (fresh (D.rows change.now.draft.now) search)
         (fresh (G.rows change.now.graph.now) search) }
     ensures { IfOk result (λ news. news ≡ news_of (G.rows change.now.graph.now)
-        (D.rows change.now.draft.now) change.now.located.plan.now.notes (shown standing.now)) }
+        (D.rows change.now.draft.now) change.now.located.plan.now.notes
+        (standing_of standing.now)) }
 {
     let limit = standing.subscription.search.max_size;
     let size = standing.subscription.size;

@@ -1,9 +1,9 @@
 -- How many members a list has, by the owners of each.
-use Rattle.std.proofs.Common.{◌≡◌, sym, ◌∙◌, ℕ, ◌*◌, ◌≤◌, ◌==◌, Bool, true, false, not, List, [], ◌∷◌, length, flat_map, None, Some, inl, inr, arith, length-append, option_to_list}
+use Rattle.std.proofs.Common.{◌≡◌, sym, ◌∙◌, ℕ, ◌*◌, ◌≤◌, ◌==◌, true, false, not, List, [], ◌∷◌, length, flat_map, None, Some, inl, inr, arith, length-append, option_to_list}
 use Rattle.std.specs.Prelude.{Option, IsSome}
-use Rattle.std.proofs.lemmas.Bool.{cases_Bool, cases_eq, eq-eqb, false≢true, ne_eqb, not-true}
+use Rattle.std.proofs.lemmas.Bool.{cases_eq, eq-eqb, false≢true, ne_eqb, not-true}
 use Rattle.std.specs.List.{AllByRecursion, filter, find}
-use Rattle.ifmap_lemmas.specs.Filters.{all_filter, filter_passes}
+use Rattle.ifmap_lemmas.specs.Filters.{all_filter, filter_passes, filter_fewer}
 use Rattle.ifmap_subscribes.proofs.Parting.{length_parted}
 
 -- whether two numbers are one does not depend on which comes first
@@ -12,15 +12,6 @@ flip a b = elim (cases_eq a b) [
   | inl same ↦ eq-eqb a b same ∙ sym (eq-eqb b a (sym same))
   | inr other ↦ ne_eqb a b other ∙ sym (ne_eqb b a (λ e. other (sym e)))
 ]
-
-pub shorter_within : {X : Type 0} (p q : X → Bool) (xs : List X) → length (filter p (filter q xs)) ≤ length (filter p xs)
-shorter_within p q [] = omega arith
-shorter_within p q (x ∷ xs) =
-    let rest = shorter_within p q xs in
-    elim (cases_Bool (q x)) [
-      | inl stays ↦ elim (cases_Bool (p x)) [ inl hit ↦ rw (stays, hit) (omega (arith, rest)) | inr miss ↦ rw (stays, miss) rest ]
-      | inr goes ↦ elim (cases_Bool (p x)) [ inl hit ↦ rw (goes, hit) (omega (arith, rest)) | inr miss ↦ rw (goes, miss) rest ]
-    ]
 
 -- where each member has an owner, and each owner has a thousand at most
 module _ {X S : Type 0} (key : X → ℕ) (id : S → ℕ) where
@@ -44,7 +35,7 @@ module _ {X S : Type 0} (key : X → ℕ) (id : S → ℕ) where
       let rest = thousand_each owners others
       (owned_rest s owners others (filter_passes (λ x. not (key x == id s)) xs)
       (all_filter (Owned (s ∷ owners)) (λ x. not (key x == id s)) xs h))
-      (λ n. let less = shorter_within (λ x. key x == n) (λ x. not (key x == id s)) xs in omega (arith, less, few n)) in
+      (λ n. let less = filter_fewer (λ x. key x == n) (λ x. not (key x == id s)) xs in omega (arith, less, few n)) in
       omega (arith, rest, few (id s), length_parted (λ x. key x == id s) xs)
 
 pub fewer_joined : {X Y : Type 0} (f : X → Option Y) (xs : List X) → length (flat_map (λ x. option_to_list (f x)) xs) ≤ length xs

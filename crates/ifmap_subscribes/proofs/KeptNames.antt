@@ -19,7 +19,7 @@ use Rattle.ifmap_machine.specs.State.{standing_in, standing_order}
 use Rattle.ifmap_machine.specs.Subscribing.{is_of_name}
 use Rattle.ifmap_session.specs.Sessions.{is_text}
 use Rattle.ifmap_session.specs.laws.TextLaws.{text_is}
-use Rattle.ifmap_standing.specs.Standing.{shown}
+use Rattle.ifmap_standing.specs.Standing.{standing_of}
 use Rattle.ifmap_standing.specs.declared.standing.Standing.{Standing}
 use Rattle.ifmap_tellings.specs.Tellings.{kept_of}
 
@@ -87,22 +87,22 @@ module _ {X : Type 0} (p : X → Bool) where
 -- ---- subscriptions by their names
 
 any_shown : (serial : ℕ) (name : List ℕ) (xs : List Standing)
-    → list_any (is_of_name serial name) (map shown xs) ≡ list_any (λ x. is_of_name serial name (shown x)) xs
+    → list_any (is_of_name serial name) (map standing_of xs) ≡ list_any (λ x. is_of_name serial name (standing_of x)) xs
 any_shown serial name [] = refl
-any_shown serial name (x ∷ xs) = ap (λ b. is_of_name serial name (shown x) || b) (any_shown serial name xs)
+any_shown serial name (x ∷ xs) = ap (λ b. is_of_name serial name (standing_of x) || b) (any_shown serial name xs)
 
 -- two subscriptions of one name of one session are in no strict order
-not_below : (serial : ℕ) (name : List ℕ) (x y : Standing) → is_of_name serial name (shown x) ≡ true
-    → is_of_name serial name (shown y) ≡ true → standing_order (shown x) (shown y) ≡ Less → ⊥
+not_below : (serial : ℕ) (name : List ℕ) (x y : Standing) → is_of_name serial name (standing_of x) ≡ true
+    → is_of_name serial name (standing_of y) ≡ true → standing_order (standing_of x) (standing_of y) ≡ Less → ⊥
 not_below serial name x y mine its less =
     let a = and_parts (x.serial == serial) (is_text x.name name) mine in
     let b = and_parts (y.serial == serial) (is_text y.name name) its in
     let serials : x.serial ≡ y.serial = grind (arith, nat_tests, a.0, b.0) in
     let names : x.name ≡ y.name = text_is x.name name a.1 ∙ sym (text_is y.name name b.1) in
-    let order : standing_order (shown x) (record { serial = x.serial; name = x.name; search = y.subscription.search }) ≡ Less =
-    ap (λ n. standing_order (shown x) (record { serial = n; name = x.name; search = y.subscription.search })) serials
-    ∙ ap (λ n. standing_order (shown x) (record { serial = y.serial; name = n; search = y.subscription.search })) names ∙ less in
-    let tied : standing_order (shown x) (record { serial = x.serial; name = x.name; search = y.subscription.search }) ≡ Equal =
+    let order : standing_order (standing_of x) (record { serial = x.serial; name = x.name; search = y.subscription.search }) ≡ Less =
+    ap (λ n. standing_order (standing_of x) (record { serial = n; name = x.name; search = y.subscription.search })) serials
+    ∙ ap (λ n. standing_order (standing_of x) (record { serial = y.serial; name = n; search = y.subscription.search })) names ∙ less in
+    let tied : standing_order (standing_of x) (record { serial = x.serial; name = x.name; search = y.subscription.search }) ≡ Equal =
     ap (λ o. ordering_then o (slice_cmp nat_cmp x.name x.name)) (tied_itself nat_cmp_total x.serial)
     ∙ tied_itself nat_list_cmp_total x.name in
     let bad : Less ≡ Equal = sym order ∙ tied in cc
@@ -114,29 +114,30 @@ within_some (y ∷ ys) (suc i) x e = let rest = within_some ys i x e in omega (a
 
 -- where a subscription of the name stands, one does among those that are kept unless it is gone
 pub stands_at : (serial : ℕ) (name : List ℕ) (gone : List Bool) (standing : List Standing) (at : ℕ) (x : Standing)
-    → IsStrictlySortedBy standing_order (map shown standing) → length gone ≡ length standing → slice_get standing at ≡ Some x
-    → is_of_name serial name (shown x) ≡ true
-    → not (get_or gone at false) ≡ list_any (is_of_name serial name) (map shown (kept_of gone standing))
+    → IsStrictlySortedBy standing_order (map standing_of standing) → length gone ≡ length standing → slice_get standing at ≡ Some x
+    → is_of_name serial name (standing_of x) ≡ true
+    → not (get_or gone at false) ≡ list_any (is_of_name serial name) (map standing_of (kept_of gone standing))
 stands_at serial name gone standing at x rising flags is named =
     let within : at < length gone = let there = within_some standing at x is in omega (arith, there, flags) in
     sym (any_shown serial name (kept_of gone standing)
-    ∙ one_kept (λ y. is_of_name serial name (shown y)) standing_order shown (not_below serial name) gone standing at x
+    ∙ one_kept (λ y. is_of_name serial name (standing_of y)) standing_order standing_of (not_below serial name) gone standing at x
     (get_or gone at false) rising is named (slice_get-get_or gone at false within))
 
 -- where none stands, none does among those that are kept
 pub stands_nowhere : (serial : ℕ) (name : List ℕ) (gone : List Bool) (standing : List Standing)
-    → list_any (λ x. is_of_name serial name (shown x)) standing ≡ false
-    → false ≡ list_any (is_of_name serial name) (map shown (kept_of gone standing))
+    → list_any (λ x. is_of_name serial name (standing_of x)) standing ≡ false
+    → false ≡ list_any (is_of_name serial name) (map standing_of (kept_of gone standing))
 stands_nowhere serial name gone standing none =
-    sym (any_shown serial name (kept_of gone standing) ∙ none_kept (λ y. is_of_name serial name (shown y)) gone standing none)
+    sym (any_shown serial name (kept_of gone standing) ∙ none_kept (λ y. is_of_name serial name (standing_of y)) gone standing none)
 
 -- ---- how many a session has
 
 -- those of a session among the kept ones
 abbrev pub kept_count : ℕ → List Bool → List Standing → ℕ
-kept_count serial gone standing = length (standing_in serial (map shown (kept_of gone standing)))
+kept_count serial gone standing = length (standing_in serial (map standing_of (kept_of gone standing)))
 
-in_shown : (serial : ℕ) (xs : List Standing) → length (standing_in serial (map shown xs)) ≡ length (filter (λ x. x.serial == serial) xs)
+in_shown : (serial : ℕ) (xs : List Standing) → length (standing_in serial (map standing_of xs))
+    ≡ length (filter (λ x. x.serial == serial) xs)
 in_shown serial [] = refl
 in_shown serial (x ∷ xs) = elim (cases_Bool (x.serial == serial)) [
   | inl hit ↦ rw hit (ap suc (in_shown serial xs))

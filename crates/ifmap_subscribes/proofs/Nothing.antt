@@ -8,13 +8,13 @@ use Rattle.std.specs.List.Sorted.{IsStrictlySortedBy}
 use Rattle.std.specs.Ordering.{nat_cmp}
 use Rattle.std.specs.declared.cmp.Ordering.{Ordering}
 use Rattle.std.specs.declared.cmp.Ordering.TheVariants.{Less}
-use Rattle.ifmap_changes.specs.Between.{IsReady, IsSteady, left}
+use Rattle.ifmap_changes.specs.Between.{IsReady, IsSteady, sessions_left}
 use Rattle.ifmap_changes.specs.declared.parts.Parts.{Parts}
 use Rattle.ifmap_machine.specs.State.{standing_in, standing_order}
 use Rattle.ifmap_machine.specs.Subscribing.{Told, is_of_name}
 use Rattle.ifmap_search.specs.Sizes.{queue_size}
 use Rattle.ifmap_session.specs.Sessions.{IsLive, Session, is_named, session_with_serial}
-use Rattle.ifmap_standing.specs.Standing.{shown}
+use Rattle.ifmap_standing.specs.Standing.{standing_of}
 use Rattle.ifmap_subscribes.proofs.OfScene.{live_session, told_session}
 use Rattle.ifmap_subscribes.proofs.ToldSizes.{found_left}
 use Rattle.ifmap_subscribes.specs.Readying.{AreCounted, CanStand, told_after, told_in}
@@ -51,14 +51,14 @@ module _ {X Y : Type 0} (f : X → Y) where
       elim (cases_Bool (p (f x))) [ inl hit ↦ rw hit (omega (arith, rest)) | inr miss ↦ rw miss rest ]
 
 module _ (scene : Scene) (p : Parts) (r : Readying) (ready : IsReady scene.asking.now p scene.pending.now)
-    (live : IsLive scene.serial (left scene.asking.now p.sessions)) (made : r.made.items ≡ []) where
+    (live : IsLive scene.serial (sessions_left scene.asking.now p.sessions)) (made : r.made.items ≡ []) where
   same_told : told_after scene.serial r (told_in scene p) ≡ told_in scene p
   same_told = ap (λ rs. rename_all scene.serial rs (told_in scene p)) made
 
   size_of_queue : ((s : Session) → session_with_serial scene.serial p.sessions.live ≡ Some s
       → r.size ≡ queue_size (told_by scene.pending.now.tellings s).queue) → r.size ≡ queue_size (told_in scene p).queue
   size_of_queue size =
-      let one = live_session scene.serial (left scene.asking.now p.sessions) live in
+      let one = live_session scene.serial (sessions_left scene.asking.now p.sessions) live in
       size one.0 (found_left scene.asking.now.ended scene.serial p.sessions.live one.0 one.1)
       ∙ ap (λ (t : Told). queue_size t.queue) (sym (told_session scene p one.0 one.1).1)
 
@@ -72,7 +72,7 @@ module _ (scene : Scene) (p : Parts) (r : Readying) (ready : IsReady scene.askin
       let long = ap length made in
       record {
         rising = subst (λ u. IsStrictlySortedBy standing_order u.standing) (sym same_told)
-            (rising_kept shown standing_order scene.pending.now.gone.items p.standing.items ready.ordered.rising);
+            (rising_kept standing_of standing_order scene.pending.now.gone.items p.standing.items ready.ordered.rising);
         names = λ name now e. let bad : None ≡ Some now = sym (none name) ∙ e in cc;
         others = λ name e. record {
           stands = ap (λ (u : Told). list_any (is_of_name scene.serial name) u.standing) same_told;
@@ -83,7 +83,7 @@ module _ (scene : Scene) (p : Parts) (r : Readying) (ready : IsReady scene.askin
           arith,
           count,
           ready.ordered.few scene.serial,
-          fewer_kept shown (λ x. x.serial == scene.serial) scene.pending.now.gone.items p.standing.items,
+          fewer_kept standing_of (λ x. x.serial == scene.serial) scene.pending.now.gone.items p.standing.items,
         );
         size = whole ∙ ap (λ (u : Told). queue_size u.queue) (sym same_told);
         narrow = omega (arith, small, long);

@@ -5,7 +5,7 @@ use Rattle.std.specs.Prelude.{IsSome}
 use Rattle.std.proofs.lemmas.Bool.{cases_Bool, false≢true}
 use Rattle.std.specs.BTreeMap.{get}
 use Rattle.std.specs.Ordering.{nat_cmp}
-use Rattle.ifmap_changes.specs.Between.{left, so_far}
+use Rattle.ifmap_changes.specs.Between.{sessions_left, so_far}
 use Rattle.ifmap_changes.specs.declared.parts.Parts.{Parts}
 use Rattle.ifmap_graph.specs.Seen.{rows_now}
 use Rattle.ifmap_machine.specs.Subscribing.{Told, subscribe_op, subscribe_ops}
@@ -53,12 +53,12 @@ live_session n ss live = from (session_with_serial n ss) live
 
 -- what is told to the session of a scene, and what stands
 pub told_session : (scene : Scene) (parts : Parts) (s : Session)
-    → session_with_serial scene.serial (left scene.asking.now parts.sessions) ≡ Some s
+    → session_with_serial scene.serial (sessions_left scene.asking.now parts.sessions) ≡ Some s
     → (session_with_serial scene.serial (so_far scene.asking.now parts scene.pending.now).sessions
     ≡ Some (told_by scene.pending.now.tellings s))
     × (told_in scene parts ≡ told_so_far scene.asking.now parts scene.pending.now (told_by scene.pending.now.tellings s))
 told_session scene parts s e =
-    let found = found_told scene.pending.now.tellings scene.serial (left scene.asking.now parts.sessions) s e in
+    let found = found_told scene.pending.now.tellings scene.serial (sessions_left scene.asking.now parts.sessions) s e in
     (found, ap (λ o. told_with (queue_where o)) found)
   where
     told_with : List PollItem → Told
@@ -69,12 +69,13 @@ pub now_before : (serial : ℕ) (name : List ℕ) (t u : Told) (v : NameNow) →
     → IsNameNow serial name u v
 now_before serial name t u v h b = record { stands = h.stands ∙ sym b.stands; size = h.size ∙ ap queue_size (sym b.queue) }
 
-pub name_told : (scene : Scene) (parts : Parts) (name : List ℕ) (v : NameNow) → IsLive scene.serial (left scene.asking.now parts.sessions)
+pub name_told : (scene : Scene) (parts : Parts) (name : List ℕ) (v : NameNow)
+    → IsLive scene.serial (sessions_left scene.asking.now parts.sessions)
     → ((s : Session) → session_with_serial scene.serial (so_far scene.asking.now parts scene.pending.now).sessions ≡ Some s
     → IsNameNow scene.serial name (told_so_far scene.asking.now parts scene.pending.now s) v)
     → IsNameNow scene.serial name (told_in scene parts) v
 name_told scene parts name v live h =
-    let one = live_session scene.serial (left scene.asking.now parts.sessions) live in
+    let one = live_session scene.serial (sessions_left scene.asking.now parts.sessions) live in
     let told = told_session scene parts one.0 one.1 in
     subst (λ t. IsNameNow scene.serial name t v) (sym told.1) (h (told_by scene.pending.now.tellings one.0) told.0)
 

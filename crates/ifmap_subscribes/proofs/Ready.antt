@@ -2,15 +2,15 @@
 -- First: `OnlyHolds` of one state after another, and what is to be told then. Then: subscriptions keep what the graph has, by the law
 -- that views with the same links are kept alike (`SameLinks`). Then: parts stay ready. Last: few hold one identifier.
 use Rattle.std.proofs.Common.{◌≡◌, sym, ◌∙◌, ap, subst, ℕ, ◌*◌, ◌^◌, ◌≤◌, Bool, List, [], ◌∷◌, ◌++◌, length, map, Some, Result, Ok, Err, inl, inr, arith, append_assoc, length-append, option_to_list}
-use Rattle.std.specs.Prelude.{IfOk, OnErr, slice_get}
+use Rattle.std.specs.Prelude.{IfOk}
 use Rattle.std.proofs.lemmas.Bool.{cases_Bool}
 use Rattle.std.proofs.lemmas.List.{length-map}
 use Rattle.std.proofs.lemmas.List.Sums.{sum_by-cons}
-use Rattle.std.proofs.lemmas.Option.{get_or_from_slice_get, slice_get_within}
 use Rattle.std.specs.List.{AllByRecursion}
 use Rattle.std.specs.Ordering.{is_eq}
+use Rattle.ifmap_lemmas.specs.Places.{all_got}
 use Rattle.ifmap_machine.specs.State as machine
-use Rattle.ifmap_changes.specs.Between.{AreOrdered, Asking, IsReady, IsSteady, SharesNumbers, left, sight_now, starts_of}
+use Rattle.ifmap_changes.specs.Between.{AreOrdered, Asking, IsReady, IsSteady, SharesNumbers, sessions_left, sight_now, starts_of}
 use Rattle.ifmap_changes.specs.declared.parts.Parts.{Parts}
 use Rattle.ifmap_delta.specs.Sights.{IsKept, Sight}
 use Rattle.ifmap_delta.specs.declared.subscriptions.Subscription.{Subscription}
@@ -18,12 +18,11 @@ use Rattle.ifmap_graph.specs.Held.{Held}
 use Rattle.ifmap_graph.specs.Seen.{BringsNoNumbers, HasFewOwn, KeepsNumbers, links_now, rows_now}
 use Rattle.ifmap_ident.specs.declared.identifiers.Identifier.{Identifier}
 use Rattle.ifmap_ident.specs.Identifiers.{identifier_order}
-use Rattle.ifmap_lemmas.specs.Filters.{all_at}
 use Rattle.ifmap_lemmas.specs.Members.{all_both, both_all, map_of_all}
 use Rattle.ifmap_machine.specs.Subscribing.{Told}
 use Rattle.ifmap_pool.specs.Holdings.{key_at, once}
 use Rattle.ifmap_session.specs.Sessions.{IsLive, Session, Table, session_with_serial}
-use Rattle.ifmap_standing.specs.Standing.{shown}
+use Rattle.ifmap_standing.specs.Standing.{standing_of}
 use Rattle.ifmap_standing.specs.declared.standing.Standing.{Standing}
 use Rattle.ifmap_subscribes.proofs.Counting.{fewer_joined, thousand_each}
 use Rattle.ifmap_subscribes.proofs.Renamed.{begun_more}
@@ -52,8 +51,9 @@ holds_on a b c h k = record {
 -- what is to be told is the same
 abbrev told_from : Scene → Table → List Standing → Told
 told_from scene sessions standing = record {
-  queue = queue_where (session_with_serial scene.serial (map (told_by scene.pending.now.tellings) (left scene.asking.now sessions)));
-  standing = map shown (kept_of scene.pending.now.gone.items standing);
+  queue = queue_where (session_with_serial scene.serial
+      (map (told_by scene.pending.now.tellings) (sessions_left scene.asking.now sessions)));
+  standing = map standing_of (kept_of scene.pending.now.gone.items standing);
 }
 
 pub told_same : (scene : Scene) (old new : Parts) → new.sessions ≡ old.sessions → new.standing ≡ old.standing
@@ -62,10 +62,11 @@ told_same scene old new s v =
     ap (λ t. told_from scene t new.standing.items) s ∙ ap (λ w. told_from scene old.sessions w.items) v
 
 pub can_on : (scene : Scene) (old new : Parts) (r : Readying) → OnlyHolds old new → IsReady scene.asking.now new scene.pending.now
-    → IsLive scene.serial (left scene.asking.now old.sessions) → AreReadied scene.serial (told_in scene old) new r → CanReady scene new r
+    → IsLive scene.serial (sessions_left scene.asking.now old.sessions) → AreReadied scene.serial (told_in scene old) new r
+    → CanReady scene new r
 can_on scene old new r h ready live readied = record {
   ready = ready;
-  live = subst (λ t. IsLive scene.serial (left scene.asking.now t)) (sym h.sessions) live;
+  live = subst (λ t. IsLive scene.serial (sessions_left scene.asking.now t)) (sym h.sessions) live;
   readied = subst (λ t. AreReadied scene.serial t new r) (sym (told_same scene old new h.sessions h.standing)) readied;
 }
 
@@ -97,9 +98,6 @@ SameLinks =
 abbrev pub IsSeen : Held → Type 0
 IsSeen h = IsView (rows_now h) (key_at h.names) (links_now h)
 
-all_slice_get : {X : Type 0} (P : X → Type 0) (xs : List X) (i : ℕ) (x : X) → AllByRecursion P xs → slice_get xs i ≡ Some x → P x
-all_slice_get P xs i x h e = subst P (get_or_from_slice_get xs i x x e) (all_at P xs i x h (slice_get_within xs i x e))
-
 module _ (law : SameLinks) (old new : Held) (seen_old : IsSeen old) (seen_new : IsSeen new) (rows : rows_now new ≡ rows_now old)
     (links : (v : ℕ) → links_now new v ≡ links_now old v) (numbers : SharesNumbers old new) where
   kept_one : (x : Standing) → IsNumbered new x → IsKept (sight_now old) x.subscription → IsKept (sight_now new) x.subscription
@@ -112,7 +110,7 @@ module _ (law : SameLinks) (old new : Held) (seen_old : IsSeen old) (seen_new : 
 
   pub kept_each : (gone : List Bool) (xs : List Standing) → AllByRecursion (IsNumbered new) xs
       → AllKept (λ x. IsKept (sight_now old) x.subscription) gone xs → AllKept (λ x. IsKept (sight_now new) x.subscription) gone xs
-  kept_each gone xs n k i x at here = kept_one x (all_slice_get (IsNumbered new) xs i x n at) (k i x at here)
+  kept_each gone xs n k i x at here = kept_one x (all_got (IsNumbered new) xs i x n at) (k i x at here)
 
 -- parts stay ready
 ready_of : (a : Asking) (old : Parts) (pending : Pending) (g : Held) → IsReady a old pending
@@ -168,7 +166,7 @@ module _ (law : SameLinks) (serial : ℕ) (old : Parts) (g : Held) (made : List 
 pub ready_after : (a : Asking) (old : Parts) (pending : Pending) (g : Held) → IsReady a old pending → KeepsNumbered old.graph g
     → AllByRecursion (IsNumbered g) old.standing.items → IsReady a (record old { graph = g }) pending
 ready_after a old pending g r k n =
-    ready_of a old pending g r (λ i x at here. k x.subscription (all_slice_get (IsNumbered g) old.standing.items i x n at)
+    ready_of a old pending g r (λ i x at here. k x.subscription (all_got (IsNumbered g) old.standing.items i x n at)
     (r.kept i x at here))
 
 -- results
@@ -176,10 +174,6 @@ pub if_ok : {A E : Type 0} (P Q R S : A → Type 0) (r : Result A E) → IfOk r 
     → ((a : A) → P a → Q a → R a → S a) → IfOk r S
 if_ok P Q R S (Ok a) p q r f = f a p q r
 if_ok P Q R S (Err e) p q r f = tt
-
-pub on_err : {A E : Type 0} (P Q : Type 0) (r : Result A E) → OnErr r P → (P → Q) → OnErr r Q
-on_err P Q (Ok a) p f = tt
-on_err P Q (Err e) p f = f p
 
 -- few hold one identifier beside the items that name it
 once_at_most : (a b : Identifier) → once identifier_order a b ≤ 1
@@ -201,10 +195,10 @@ starts_at_most a (x ∷ xs) =
 pub few_own : (h : Held) (live : List Session) (standing : List Standing) (made : List Renaming) → AreOrdered live standing
     → length live ≤ 10000 → length made ≤ 2 ^ 30 → IsSteady h (standing ++ begun_by made) → HasFewOwn h
 few_own h live standing made ordered few most steady = λ a.
-    let owned = map_of_all (λ (x : machine.Standing). IsLive x.serial live) shown standing ordered.live in
-    let stand : length (map shown standing) ≤ length live * 1000
-    = thousand_each (λ (x : machine.Standing). x.serial) (λ (s : Session). s.serial) live (map shown standing) owned ordered.few in
-    let shown_length = length-map standing shown in
+    let owned = map_of_all (λ (x : machine.Standing). IsLive x.serial live) standing_of standing ordered.live in
+    let stand : length (map standing_of standing) ≤ length live * 1000
+    = thousand_each (λ (x : machine.Standing). x.serial) (λ (s : Session). s.serial) live (map standing_of standing) owned ordered.few in
+    let shown_length = length-map standing standing_of in
     let begun = fewer_joined (λ (r : Renaming). r.standing) made in
     let both = length-append standing (begun_by made) in
     let starts = starts_at_most a (standing ++ begun_by made) in

@@ -22,7 +22,7 @@ use Rattle.ifmap_plans.specs.laws.PlacingLaws.{put_sorted}
 use Rattle.ifmap_search.specs.declared.results.PollItem.{PollItem}
 use Rattle.ifmap_search.specs.Sizes.{poll_size, queue_size}
 use Rattle.ifmap_session.specs.Sessions.{is_named}
-use Rattle.ifmap_standing.specs.Standing.{shown}
+use Rattle.ifmap_standing.specs.Standing.{standing_of}
 use Rattle.ifmap_standing.specs.declared.standing.Standing.{Standing}
 use Rattle.ifmap_subscribes.proofs.OfNames.{named_once, not_named_other, one_fewer, one_more, others_beside, others_stand, put_stands, standing_total}
 use Rattle.ifmap_subscribes.proofs.Parting.{filter_within, none_within, sum_parted}
@@ -56,18 +56,18 @@ module _ (serial : ℕ) (name : List ℕ) where
   stands_after : (o : Option Standing) → IsOwned o → (xs : List machine.Standing)
       → is_some o ≡ list_any (is_of_name serial name) (stand_where o (dropped xs))
   stands_after None h xs = sym (none_left (is_of_name serial name) xs)
-  stands_after (Some x) h xs = sym (put_stands serial name (shown x) h.0.0 h.0.1 (dropped xs))
+  stands_after (Some x) h xs = sym (put_stands serial name (standing_of x) h.0.0 h.0.1 (dropped xs))
 
   others_after : (o : Option Standing) → IsOwned o → (other : List ℕ) (xs : List machine.Standing) → other ≢ name
       → list_any (is_of_name serial other) (stand_where o (dropped xs)) ≡ list_any (is_of_name serial other) xs
   others_after None h other xs apart = others_stand serial name other xs apart
   others_after (Some x) h other xs apart =
-      others_beside serial name (shown x) h.0.0 h.0.1 other (dropped xs) apart ∙ others_stand serial name other xs apart
+      others_beside serial name (standing_of x) h.0.0 h.0.1 other (dropped xs) apart ∙ others_stand serial name other xs apart
 
   more_after : (o : Option Standing) → IsOwned o → (xs : List machine.Standing)
       → length (standing_in serial (stand_where o (dropped xs))) ≡ length (standing_in serial (dropped xs)) + length (option_to_list o)
   more_after None h xs = omega arith
-  more_after (Some x) h xs = one_more serial name (shown x) h.0.0 h.0.1 xs
+  more_after (Some x) h xs = one_more serial name (standing_of x) h.0.0 h.0.1 xs
 
   count_after : (o : Option Standing) → IsOwned o → (xs : List machine.Standing) → IsStrictlySortedBy standing_order xs
       → length (standing_in serial (stand_where o (dropped xs))) + cond (list_any (is_of_name serial name) xs) 1 0
@@ -78,7 +78,7 @@ module _ (serial : ℕ) (name : List ℕ) where
       → IsStrictlySortedBy standing_order (stand_where o (dropped xs))
   rising_after None xs up = IsStrictlySortedBy-filter standing_order (λ x. not (is_of_name serial name x)) xs up
   rising_after (Some x) xs up =
-      put_sorted machine.Standing standing_order standing_total (shown x) (dropped xs)
+      put_sorted machine.Standing standing_order standing_total (standing_of x) (dropped xs)
       (IsStrictlySortedBy-filter standing_order (λ y. not (is_of_name serial name y)) xs up)
 
 -- the queue after a renaming

@@ -1,21 +1,21 @@
 -- Where the subscription of a name stands among those that stand in order.
 -- First: the order, by serial and name (`name_order`). Then: where a search for them ends (`place_found`, `place_none`, `place_gap`).
 -- Last: one that stands is taken out (`removed_named`, `cut_at`), or one more is put in (`put_at`, `all_stands`).
-use Rattle.std.proofs.Common.{rules, ◌≡◌, refl, sym, ◌∙◌, ap, subst, ℕ, zero, suc, ◌<◌, ◌≤◌, ◌==◌, ◌&&◌, ◌||◌, Bool, true, false, not, cond, List, [], ◌∷◌, ◌++◌, length, map, Some, Option, option_to_list, IsErr, take, drop, take-append-drop, Result, Ok, Err, IfOk, IfErr, OnErr, Ordering, inl, inr, arith, nat_cmp, is_eq}
+use Rattle.std.proofs.Common.{rules, ◌≡◌, refl, sym, ◌∙◌, ap, subst, ℕ, zero, suc, ◌<◌, ◌≤◌, ◌==◌, ◌&&◌, Bool, true, false, not, cond, List, [], ◌∷◌, ◌++◌, length, map, Some, Option, option_to_list, IsErr, take, drop, take-append-drop, Result, Ok, Err, IfOk, IfErr, OnErr, Ordering, inl, inr, arith, nat_cmp, is_eq}
 use Rattle.std.proofs.lemmas.Bool.{and_parts, cases_Bool, eqb-true, or_left, or_right}
-use Rattle.std.proofs.lemmas.Bool.Decides.{nat_tests}
 use Rattle.std.proofs.lemmas.Cmp.{tied_itself}
 use Rattle.std.proofs.lemmas.List.{map-append}
 use Rattle.std.proofs.lemmas.Option.{get_or_from_slice_get, none-some, same_Some, slice_get_within}
-use Rattle.std.specs.Cmp.{IsTotalOrder}
+use Rattle.std.specs.Cmp.{IsTotalOrder, tied_then}
 use Rattle.std.specs.Cmp.Lexicographic.{slice_cmp, texts_ties}
 use Rattle.std.specs.Cmp.Rules.{comparing}
 use Rattle.std.specs.List.{AllByRecursion, filter, insert, list_any, remove, slice_get}
 use Rattle.std.specs.List.Sorted.{IsBinarySearchResult, IsSearchInRange, IsStrictlySortedBy}
 use Rattle.std.specs.Ordering.{is_gt, is_lt, on, ordering_then, then_cmp}
-use Rattle.std.specs.declared.cmp.Ordering.TheVariants.{Less, Equal, Greater}
-use Rattle.ifmap_lemmas.specs.Filters.{all_at, all_weaker, filter_all}
+use Rattle.std.specs.declared.cmp.Ordering.TheVariants.{Less, Equal}
+use Rattle.ifmap_lemmas.specs.Filters.{all_at, all_weaker, filter_all, map_filter}
 use Rattle.ifmap_lemmas.specs.Members.{all_both, all_of_map, both_all}
+use Rattle.ifmap_lemmas.specs.Numbers.{equal_by_order}
 use Rattle.ifmap_machine.specs.State.{standing_order}
 use Rattle.ifmap_machine.specs.Subscribing.{is_of_name}
 use Rattle.ifmap_plans.specs.Placing.{put}
@@ -23,7 +23,7 @@ use Rattle.ifmap_plans.specs.laws.PlacingLaws.{gap_is_put, gap_none}
 use Rattle.ifmap_session.specs.Sessions.{is_text}
 use Rattle.ifmap_session.specs.laws.TextLaws.{text_is}
 use Rattle.ifmap_standing.specs.declared.standing.Standing.{Standing}
-use Rattle.ifmap_standing.specs.Standing.{shown}
+use Rattle.ifmap_standing.specs.Standing.{standing_of}
 use Rattle.ifmap_subscribes.specs.Renamings.{StandsAmong, name_order}
 
 -- ---- the order
@@ -34,42 +34,25 @@ kept_order = then_cmp (on (λ (x : Standing). x.serial) nat_cmp) (on (λ (x : St
 kept_total : IsTotalOrder kept_order
 kept_total = search (comparing, rules)
 
-kept_rising : (xs : List Standing) → IsStrictlySortedBy standing_order (map shown xs) → IsStrictlySortedBy kept_order xs
+kept_rising : (xs : List Standing) → IsStrictlySortedBy standing_order (map standing_of xs) → IsStrictlySortedBy kept_order xs
 unfolding IsStrictlySortedBy
 kept_rising [] up = tt
-kept_rising (x ∷ xs) up = (all_of_map (λ y. standing_order (shown x) y ≡ Less) shown xs up.0, kept_rising xs up.1)
+kept_rising (x ∷ xs) up = (all_of_map (λ y. standing_order (standing_of x) y ≡ Less) standing_of xs up.0, kept_rising xs up.1)
 
-pub map_filter : {X Y : Type 0} (f : X → Y) (p : Y → Bool) (xs : List X) → map f (filter (λ x. p (f x)) xs) ≡ filter p (map f xs)
-map_filter f p [] = refl
-map_filter {X} {Y} f p (x ∷ xs) = at (p (f x)) (map_filter f p xs)
-  where
-    at : (b : Bool) → map f (filter (λ x. p (f x)) xs) ≡ filter p (map f xs)
-        → map f (cond b (x ∷ filter (λ x. p (f x)) xs) (filter (λ x. p (f x)) xs))
-        ≡ cond b (f x ∷ filter p (map f xs)) (filter p (map f xs))
-    at true rest = ap (λ t. f x ∷ t) rest
-    at false rest = rest
-
-shown_put : (x : Standing) (xs : List Standing) → map shown (put kept_order x xs) ≡ put standing_order (shown x) (map shown xs)
+shown_put : (x : Standing) (xs : List Standing)
+    → map standing_of (put kept_order x xs) ≡ put standing_order (standing_of x) (map standing_of xs)
 shown_put x xs =
-    let less = map_filter shown (λ y. is_lt (standing_order y (shown x))) xs in
-    let more = map_filter shown (λ y. is_gt (standing_order y (shown x))) xs in
-    map-append shown (filter (λ y. is_lt (kept_order y x)) xs) (x ∷ filter (λ y. is_gt (kept_order y x)) xs)
-    ∙ ap (λ t. t ++ shown x ∷ map shown (filter (λ y. is_gt (kept_order y x)) xs)) less
-    ∙ ap (λ t. filter (λ y. is_lt (standing_order y (shown x))) (map shown xs) ++ shown x ∷ t) more
+    let less = map_filter standing_of (λ y. is_lt (standing_order y (standing_of x))) xs in
+    let more = map_filter standing_of (λ y. is_gt (standing_order y (standing_of x))) xs in
+    map-append standing_of (filter (λ y. is_lt (kept_order y x)) xs) (x ∷ filter (λ y. is_gt (kept_order y x)) xs)
+    ∙ ap (λ t. t ++ standing_of x ∷ map standing_of (filter (λ y. is_gt (kept_order y x)) xs)) less
+    ∙ ap (λ t. filter (λ y. is_lt (standing_order y (standing_of x))) (map standing_of xs) ++ standing_of x ∷ t) more
 
-eq_then : (o p : Ordering) → is_eq (ordering_then o p) ≡ (is_eq o && is_eq p)
-eq_then Less p = refl
-eq_then Equal p = refl
-eq_then Greater p = refl
-
-is_number : (a b : ℕ) → (a == b) ≡ is_eq (nat_cmp a b)
-is_number a b = grind (arith, nat_tests)
-
-pub named_is : (serial : ℕ) (name : List ℕ) (x : Standing) → is_of_name serial name (shown x) ≡ is_eq (name_order serial name x)
+pub named_is : (serial : ℕ) (name : List ℕ) (x : Standing) → is_of_name serial name (standing_of x) ≡ is_eq (name_order serial name x)
 named_is serial name x =
-    ap (λ b. b && is_text x.name name) (is_number x.serial serial)
+    ap (λ b. b && is_text x.name name) (equal_by_order x.serial serial)
     ∙ ap (λ b. is_eq (nat_cmp x.serial serial) && b) (texts_ties x.name name)
-    ∙ sym (eq_then (nat_cmp x.serial serial) (slice_cmp nat_cmp x.name name))
+    ∙ tied_then (nat_cmp x.serial serial) (slice_cmp nat_cmp x.name name)
 
 any_same : {X : Type 0} (p q : X → Bool) → ((x : X) → p x ≡ q x) → (xs : List X) → list_any p xs ≡ list_any q xs
 any_same p q same [] = refl
@@ -84,7 +67,7 @@ there_is (x ∷ xs) (suc i) lt = there_is xs i (omega (arith, lt))
 
 module _ (serial : ℕ) (name : List ℕ) (xs : List Standing) where
   pub place_found : (r : Result ℕ ℕ) → IsSearchInRange r (length xs) → IsBinarySearchResult (name_order serial name) xs r
-      → IfOk r (λ at. (x : Standing) × (slice_get xs at ≡ Some x) × (is_of_name serial name (shown x) ≡ true))
+      → IfOk r (λ at. (x : Standing) × (slice_get xs at ≡ Some x) × (is_of_name serial name (standing_of x) ≡ true))
   place_found (Ok i) within is =
       let there = there_is xs i within in
       let equal : name_order serial name there.0 ≡ Equal =
@@ -92,28 +75,28 @@ module _ (serial : ℕ) (name : List ℕ) (xs : List Standing) where
       (there.0, there.1, named_is serial name there.0 ∙ ap is_eq equal)
   place_found (Err i) within is = tt
 
-  pub place_none : IsStrictlySortedBy standing_order (map shown xs) → (r : Result ℕ ℕ) → IsSearchInRange r (length xs)
-      → IsBinarySearchResult (name_order serial name) xs r → OnErr r (list_any (λ x. is_of_name serial name (shown x)) xs ≡ false)
+  pub place_none : IsStrictlySortedBy standing_order (map standing_of xs) → (r : Result ℕ ℕ) → IsSearchInRange r (length xs)
+      → IsBinarySearchResult (name_order serial name) xs r → OnErr r (list_any (λ x. is_of_name serial name (standing_of x)) xs ≡ false)
   place_none up (Ok i) within is = tt
   place_none up (Err i) within is = none xs refl
     where
-      none : (ys : List Standing) → ys ≡ xs → list_any (λ x. is_of_name serial name (shown x)) xs ≡ false
-      none [] same = ap (list_any (λ x. is_of_name serial name (shown x))) (sym same)
+      none : (ys : List Standing) → ys ≡ xs → list_any (λ x. is_of_name serial name (standing_of x)) xs ≡ false
+      none [] same = ap (list_any (λ x. is_of_name serial name (standing_of x))) (sym same)
       none (y ∷ ys) same =
           let key : Standing = record y { serial = serial; name = name } in
-          any_same (λ x. is_of_name serial name (shown x)) (λ x. is_eq (name_order serial name x)) (named_is serial name) xs
+          any_same (λ x. is_of_name serial name (standing_of x)) (λ x. is_eq (name_order serial name x)) (named_is serial name) xs
           ∙ gap_none Standing kept_order kept_total key xs i (kept_rising xs up) within is
 
-  pub place_gap : IsStrictlySortedBy standing_order (map shown xs) → (r : Result ℕ ℕ) → IsSearchInRange r (length xs)
+  pub place_gap : IsStrictlySortedBy standing_order (map standing_of xs) → (r : Result ℕ ℕ) → IsSearchInRange r (length xs)
       → IsBinarySearchResult (name_order serial name) xs r
       → IfErr r (λ at. (x : Standing) → x.serial ≡ serial → x.name ≡ name
-      → map shown (insert xs at x) ≡ put standing_order (shown x) (map shown xs))
+      → map standing_of (insert xs at x) ≡ put standing_order (standing_of x) (map standing_of xs))
   place_gap up (Ok i) within is = tt
   place_gap up (Err i) within is = λ x s n.
       let of_x : IsBinarySearchResult (name_order x.serial x.name) xs (Err i) =
       subst (λ m. IsBinarySearchResult (name_order m x.name) xs (Err i)) (sym s)
       (subst (λ m. IsBinarySearchResult (name_order serial m) xs (Err i)) (sym n) is) in
-      ap (map shown) (gap_is_put Standing kept_order kept_total x xs i (kept_rising xs up) within of_x).1 ∙ shown_put x xs
+      ap (map standing_of) (gap_is_put Standing kept_order kept_total x xs i (kept_rising xs up) within of_x).1 ∙ shown_put x xs
 
   pub place_within : (r : Result ℕ ℕ) → IsSearchInRange r (length xs) → IfErr r (λ at. at ≤ length xs)
   place_within (Ok i) within = tt
@@ -121,14 +104,15 @@ module _ (serial : ℕ) (name : List ℕ) (xs : List Standing) where
 
 -- ---- one that stands is taken out, or one more is put in
 
-same_name : (serial : ℕ) (name : List ℕ) (x : Standing) → is_of_name serial name (shown x) ≡ true → (x.serial ≡ serial) × (x.name ≡ name)
+same_name : (serial : ℕ) (name : List ℕ) (x : Standing) → is_of_name serial name (standing_of x) ≡ true
+    → (x.serial ≡ serial) × (x.name ≡ name)
 same_name serial name x is =
     let parts = and_parts (x.serial == serial) (is_text x.name name) is in
     (eqb-true x.serial serial parts.0, text_is x.name name parts.1)
 
 -- two of one name are not one before the other
-not_before : (serial : ℕ) (name : List ℕ) (x y : Standing) → is_of_name serial name (shown x) ≡ true
-    → is_of_name serial name (shown y) ≡ true → kept_order x y ≡ Less → ⊥
+not_before : (serial : ℕ) (name : List ℕ) (x y : Standing) → is_of_name serial name (standing_of x) ≡ true
+    → is_of_name serial name (standing_of y) ≡ true → kept_order x y ≡ Less → ⊥
 not_before serial name x y one other less =
     let a = same_name serial name x one in
     let b = same_name serial name y other in
@@ -141,57 +125,47 @@ not_before serial name x y one other less =
     cc
 
 module _ (serial : ℕ) (name : List ℕ) where
-  others_named : (x y : Standing) → is_of_name serial name (shown x) ≡ true → kept_order x y ≡ Less
-      → is_of_name serial name (shown y) ≡ false
-  others_named x y one less = elim (cases_Bool (is_of_name serial name (shown y))) [
+  others_named : (x y : Standing) → is_of_name serial name (standing_of x) ≡ true → kept_order x y ≡ Less
+      → is_of_name serial name (standing_of y) ≡ false
+  others_named x y one less = elim (cases_Bool (is_of_name serial name (standing_of y))) [
     | inl hit ↦ absurd (not_before serial name x y one hit less)
     | inr miss ↦ miss
   ]
 
-  first_named : (x y : Standing) → is_of_name serial name (shown y) ≡ true → kept_order x y ≡ Less
-      → is_of_name serial name (shown x) ≡ false
-  first_named x y one less = elim (cases_Bool (is_of_name serial name (shown x))) [
+  first_named : (x y : Standing) → is_of_name serial name (standing_of y) ≡ true → kept_order x y ≡ Less
+      → is_of_name serial name (standing_of x) ≡ false
+  first_named x y one less = elim (cases_Bool (is_of_name serial name (standing_of x))) [
     | inl hit ↦ absurd (not_before serial name x y hit one less)
     | inr miss ↦ miss
   ]
 
   kept_named : (xs : List Standing) (i : ℕ) (x : Standing) → IsStrictlySortedBy kept_order xs → slice_get xs i ≡ Some x
-      → is_of_name serial name (shown x) ≡ true → remove xs i ≡ filter (λ y. not (is_of_name serial name (shown y))) xs
+      → is_of_name serial name (standing_of x) ≡ true → remove xs i ≡ filter (λ y. not (is_of_name serial name (standing_of y))) xs
   unfolding IsStrictlySortedBy
   kept_named [] i x up e is = absurd (none-some x e)
   kept_named (y ∷ ys) zero x up e is =
       let same : y ≡ x = same_Some y x e in
-      let hit : is_of_name serial name (shown y) ≡ true = subst (λ z. is_of_name serial name (shown z) ≡ true) (sym same) is in
-      let rest : filter (λ z. not (is_of_name serial name (shown z))) ys ≡ ys =
-      filter_all (λ z. not (is_of_name serial name (shown z))) ys
-      (all_weaker (λ z. kept_order y z ≡ Less) (λ z. not (is_of_name serial name (shown z)) ≡ true)
+      let hit : is_of_name serial name (standing_of y) ≡ true = subst (λ z. is_of_name serial name (standing_of z) ≡ true) (sym same) is in
+      let rest : filter (λ z. not (is_of_name serial name (standing_of z))) ys ≡ ys =
+      filter_all (λ z. not (is_of_name serial name (standing_of z))) ys
+      (all_weaker (λ z. kept_order y z ≡ Less) (λ z. not (is_of_name serial name (standing_of z)) ≡ true)
       (λ z less. ap not (others_named y z hit less)) ys up.0) in
-      sym (ap (λ b. cond (not b) (y ∷ filter (λ z. not (is_of_name serial name (shown z))) ys)
-      (filter (λ z. not (is_of_name serial name (shown z))) ys)) hit ∙ rest)
+      sym (ap (λ b. cond (not b) (y ∷ filter (λ z. not (is_of_name serial name (standing_of z))) ys)
+      (filter (λ z. not (is_of_name serial name (standing_of z))) ys)) hit ∙ rest)
   kept_named (y ∷ ys) (suc i) x up e is =
       let low : i < length ys = slice_get_within ys i x e in
       let less : kept_order y x ≡ Less =
       subst (λ z. kept_order y z ≡ Less) (get_or_from_slice_get ys i x y e) (all_at (λ z. kept_order y z ≡ Less) ys i y up.0 low) in
       let miss = first_named y x is less in
       ap (λ t. y ∷ t) (kept_named ys i x up.1 e is)
-      ∙ sym (ap (λ b. cond (not b) (y ∷ filter (λ z. not (is_of_name serial name (shown z))) ys)
-      (filter (λ z. not (is_of_name serial name (shown z))) ys)) miss)
+      ∙ sym (ap (λ b. cond (not b) (y ∷ filter (λ z. not (is_of_name serial name (standing_of z))) ys)
+      (filter (λ z. not (is_of_name serial name (standing_of z))) ys)) miss)
 
   -- where one of the name stands, it alone is taken out
-  pub removed_named : (xs : List Standing) (i : ℕ) → IsStrictlySortedBy standing_order (map shown xs)
-      → (x : Standing) × (slice_get xs i ≡ Some x) × (is_of_name serial name (shown x) ≡ true)
-      → remove xs i ≡ filter (λ y. not (is_of_name serial name (shown y))) xs
+  pub removed_named : (xs : List Standing) (i : ℕ) → IsStrictlySortedBy standing_order (map standing_of xs)
+      → (x : Standing) × (slice_get xs i ≡ Some x) × (is_of_name serial name (standing_of x) ≡ true)
+      → remove xs i ≡ filter (λ y. not (is_of_name serial name (standing_of y))) xs
   removed_named xs i up there = kept_named xs i there.0 (kept_rising xs up) there.1 there.2
-
--- where none passes, none is taken out
-pub none_removed : {X : Type 0} (p : X → Bool) (xs : List X) → list_any p xs ≡ false → xs ≡ filter (λ y. not (p y)) xs
-none_removed p [] h = refl
-none_removed {X} p (x ∷ xs) h = at (p x) h (none_removed p xs)
-  where
-    at : (b : Bool) → (b || list_any p xs) ≡ false → (list_any p xs ≡ false → xs ≡ filter (λ y. not (p y)) xs)
-        → (x ∷ xs) ≡ cond (not b) (x ∷ filter (λ y. not (p y)) xs) (filter (λ y. not (p y)) xs)
-    at true q rest = let r : true ≡ false = q in cc
-    at false q rest = ap (λ t. x ∷ t) (rest q)
 
 -- and none passes of those that are left
 pub none_left : {X : Type 0} (p : X → Bool) (xs : List X) → list_any p (filter (λ y. not (p y)) xs) ≡ false

@@ -2,7 +2,7 @@
 -- First: `IsSteady` of a list whose middle moves to the front or back (`steady_front`, `steady_back`). Then: how often the start of each is
 -- held (`each_counts`). Then: what `Graph::release` of a start leaves (`released_steady`), and several (`ReleasesOn`). Last: what is kept
 -- still (`kept_still`).
-use Rattle.std.proofs.Common.{◌≡◌, refl, sym, ◌∙◌, ap, subst, ℕ, ◌+◌, ◌-◌, ◌<◌, ◌≤◌, cond, List, [], ◌∷◌, ◌++◌, append-nil, append_assoc, drop, suc, take, length, option_to_list, Option, Some, arith, inl, inr}
+use Rattle.std.proofs.Common.{◌≡◌, refl, sym, ◌∙◌, ap, subst, ℕ, ◌+◌, ◌-◌, ◌<◌, ◌≤◌, cond, List, [], ◌∷◌, ◌++◌, append-nil, append_assoc, drop, suc, take, option_to_list, Option, Some, arith, inl, inr}
 use Rattle.std.proofs.lemmas.List.Sums.{sum_by-append, sum_by-cons}
 use Rattle.std.proofs.lemmas.Option.{same_Some}
 use Rattle.std.specs.List.{AllByRecursion, remove}
@@ -242,11 +242,6 @@ pub kept_still : (old new : Held) (xs : List Standing) → KeepsNumbered old new
 kept_still old new [] keeps numbered kept = tt
 kept_still old new (x ∷ xs) keeps numbered kept =
     (keeps x.subscription numbered.0 kept.0, kept_still old new xs keeps numbered.1 kept.1)
-
--- a list of no length
-pub no_item : {X : Type 0} (xs : List X) → length xs ≡ 0 → xs ≡ []
-no_item [] e = refl
-no_item (x ∷ xs) e = absurd (omega (arith, e))
 
 -- one of several goes, or one more stands among them
 pub steady_without : (h : Held) (xs : List Standing) (i : ℕ) (x : Standing) (more : List Standing) → xs ≡ take i xs ++ x ∷ drop (suc i) xs

@@ -2,7 +2,7 @@
 -- First: one session changes twice (`changes_both`), or in nothing (`tells_nothing`), and is the only one of its serial (`only_one`). Then:
 -- renamings are made one after the other (`renamed_none`, `renamed_more`), of which one is made by a drop and a put (`renamed_one`). Last:
 -- the rest can be made then (`can_rest`).
-use Rattle.std.proofs.Common.{◌≡◌, refl, sym, ◌∙◌, ap, subst, ℕ, ◌+◌, ◌≤◌, ◌==◌, Bool, true, false, not, cond, List, [], ◌∷◌, ◌++◌, append-nil, length, map, Option, None, Some, IsSome, IfSome, option_to_list, inl, inr, arith, Less, vec_len, vec_capacity, rules}
+use Rattle.std.proofs.Common.{◌≡◌, refl, sym, ◌∙◌, ap, subst, ℕ, ◌+◌, ◌≤◌, ◌==◌, Bool, true, false, not, cond, List, [], ◌∷◌, ◌++◌, append-nil, length, map, Option, None, Some, IfSome, option_to_list, inl, inr, arith, Less, vec_len, vec_capacity, rules}
 use Rattle.std.proofs.lemmas.Bool.{cases_Bool}
 use Rattle.std.proofs.lemmas.Bool.Decides.{nat_tests}
 use Rattle.std.proofs.lemmas.List.Kept.{IsStrictlySortedBy-filter}
@@ -15,8 +15,9 @@ use Rattle.ifmap_changes.specs.Between.{IsSteady, sight_now}
 use Rattle.ifmap_changes.specs.declared.parts.Parts.{Parts}
 use Rattle.ifmap_delta.specs.Sights.{IsKept}
 use Rattle.ifmap_graph.specs.Seen.{StaysLean, rows_now}
-use Rattle.ifmap_lemmas.specs.Filters.{all_filter}
+use Rattle.ifmap_lemmas.specs.Filters.{all_filter, map_filter}
 use Rattle.ifmap_lemmas.specs.Members.{all_both, both_all}
+use Rattle.ifmap_lemmas.specs.Options.{is_some_of, some_is}
 use Rattle.ifmap_machine.specs.State as machine
 use Rattle.ifmap_machine.specs.State.{standing_order}
 use Rattle.ifmap_machine.specs.Subscribing.{Told, is_of_name}
@@ -26,10 +27,10 @@ use Rattle.ifmap_search.specs.declared.results.PollItem.{PollItem}
 use Rattle.ifmap_session.specs.Sessions.{Changes, IsLive, Session, Table, change, is_named, session_order, session_with_serial, spare_of, without_name}
 use Rattle.ifmap_session.specs.laws.TableLaws.{Keeps, found_changed}
 use Rattle.ifmap_standing.specs.declared.standing.Standing.{Standing}
-use Rattle.ifmap_standing.specs.Standing.{shown}
+use Rattle.ifmap_standing.specs.Standing.{standing_of}
 use Rattle.ifmap_subscribes.specs.declared.renamings.Renaming.{Renaming}
-use Rattle.ifmap_subscribes.specs.Renamings.{AreRenamed, CanRenameEach, IsOfSession, KeepsNumbered, StandsAmong, begun_by, items_of, rename, rename_all, stand_where, told_in_parts}
-use Rattle.ifmap_subscribes.proofs.RenamingPlaces.{all_stands, map_filter, none_left}
+use Rattle.ifmap_subscribes.specs.Renamings.{AreRenamed, CanRenameEach, IsOfSession, KeepsNumbered, StandsAmong, begun_by, item_count, rename, rename_all, stand_where, told_in_parts}
+use Rattle.ifmap_subscribes.proofs.RenamingPlaces.{all_stands, none_left}
 use Rattle.ifmap_subscribes.proofs.RenamingStarts.{kept_still, steady_among}
 
 -- ---- one session changes
@@ -109,13 +110,6 @@ module _ (n : ℕ) where
   found_then f k live s e =
       found_changed n f k n live s e ∙ ap (λ b. Some (cond b (f s) s)) (numbered live s e)
 
-some_is : {X : Type 0} (o : Option X) → IsSome o → (x : X) × (o ≡ Some x)
-some_is None e = cc
-some_is (Some x) e = (x, refl)
-
-is_some_of : {X : Type 0} (o : Option X) (x : X) → o ≡ Some x → IsSome o
-is_some_of o x e = rw e refl
-
 pub live_then : (n : ℕ) (f : Session → Session) → Keeps f → (old new : Table) → Changes n f old new → IsLive n old.live → IsLive n new.live
 live_then n f k old new c l =
     let there = some_is (session_with_serial n old.live) l in
@@ -163,7 +157,7 @@ module _ (serial : ℕ) where
   }
     where
       told : (s : Session) → session_with_serial serial old.sessions.live ≡ Some s
-          → (map shown new.standing.items ≡ (rename_all serial (r ∷ rs) (told_in_parts old s)).standing)
+          → (map standing_of new.standing.items ≡ (rename_all serial (r ∷ rs) (told_in_parts old s)).standing)
           × (new.sessions.live ≡ change serial (requeued (rename_all serial (r ∷ rs) (told_in_parts old s)).queue) old.sessions.live)
       told s e =
           let one = a.told s e in
@@ -230,38 +224,38 @@ shown_total = search (comparing, rules)
 stand_rising : (begun : Option Standing) (xs : List machine.Standing) → IsStrictlySortedBy standing_order xs
     → IsStrictlySortedBy standing_order (stand_where begun xs)
 stand_rising None xs up = up
-stand_rising (Some x) xs up = put_sorted machine.Standing standing_order shown_total (shown x) xs up
+stand_rising (Some x) xs up = put_sorted machine.Standing standing_order shown_total (standing_of x) xs up
 
 -- of a name, whether one is its subscription
 abbrev pub stays : ℕ → List ℕ → Standing → Bool
-stays serial name x = not (is_of_name serial name (shown x))
+stays serial name x = not (is_of_name serial name (standing_of x))
 
 pub left_shown : (serial : ℕ) (name : List ℕ) (xs ys : List Standing) → ys ≡ filter (stays serial name) xs
-    → map shown ys ≡ filter (λ x. not (is_of_name serial name x)) (map shown xs)
-left_shown serial name xs ys is = ap (map shown) is ∙ map_filter shown (λ x. not (is_of_name serial name x)) xs
+    → map standing_of ys ≡ filter (λ x. not (is_of_name serial name x)) (map standing_of xs)
+left_shown serial name xs ys is = ap (map standing_of) is ∙ map_filter standing_of (λ x. not (is_of_name serial name x)) xs
 
 pub left_rising : (serial : ℕ) (name : List ℕ) (xs ys : List Standing) → ys ≡ filter (stays serial name) xs
-    → IsStrictlySortedBy standing_order (map shown xs) → IsStrictlySortedBy standing_order (map shown ys)
+    → IsStrictlySortedBy standing_order (map standing_of xs) → IsStrictlySortedBy standing_order (map standing_of ys)
 left_rising serial name xs ys is up =
     subst (IsStrictlySortedBy standing_order) (sym (left_shown serial name xs ys is))
-    (IsStrictlySortedBy-filter standing_order (λ x. not (is_of_name serial name x)) (map shown xs) up)
+    (IsStrictlySortedBy-filter standing_order (λ x. not (is_of_name serial name x)) (map standing_of xs) up)
 
 -- none of the name is left
 pub left_free : (serial : ℕ) (r : Renaming) (xs ys : List Standing) → ys ≡ filter (stays serial r.name) xs → IsOfSession serial r
-    → IfSome r.standing (λ x. list_any (λ other. is_of_name x.serial x.name (shown other)) ys ≡ false)
+    → IfSome r.standing (λ x. list_any (λ other. is_of_name x.serial x.name (standing_of other)) ys ≡ false)
 left_free serial r xs ys is own = by r.standing own
   where
     by : (o : Option Standing) → AllByRecursion (λ (x : Standing). (x.serial ≡ serial) × (x.name ≡ r.name)) (option_to_list o)
-        → IfSome o (λ x. list_any (λ other. is_of_name x.serial x.name (shown other)) ys ≡ false)
+        → IfSome o (λ x. list_any (λ other. is_of_name x.serial x.name (standing_of other)) ys ≡ false)
     by None h = tt
     by (Some x) h =
-        ap (λ n. list_any (λ other. is_of_name n x.name (shown other)) ys) h.0.0
-        ∙ ap (λ m. list_any (λ other. is_of_name serial m (shown other)) ys) h.0.1
-        ∙ ap (list_any (λ other. is_of_name serial r.name (shown other))) is
-        ∙ none_left (λ other. is_of_name serial r.name (shown other)) xs
+        ap (λ n. list_any (λ other. is_of_name n x.name (standing_of other)) ys) h.0.0
+        ∙ ap (λ m. list_any (λ other. is_of_name serial m (standing_of other)) ys) h.0.1
+        ∙ ap (list_any (λ other. is_of_name serial r.name (standing_of other))) is
+        ∙ none_left (λ other. is_of_name serial r.name (standing_of other)) xs
 
 module _ (serial : ℕ) (r : Renaming) (old : Parts) (rest : List Renaming) (can : CanRenameEach serial (r ∷ rest) old) where
-  items_cons : items_of (r ∷ rest) ≡ length (option_to_list r.item) + items_of rest
+  items_cons : item_count (r ∷ rest) ≡ length (option_to_list r.item) + item_count rest
   items_cons = sum_by-cons (λ (x : Renaming). length (option_to_list x.item)) r rest
 
   pub item_room : (mid : Table) → spare_of serial old.sessions.spare ≤ spare_of serial mid.spare
@@ -280,7 +274,7 @@ module _ (serial : ℕ) (r : Renaming) (old : Parts) (rest : List Renaming) (can
       (keeps : KeepsNumbered old.graph mid.graph)
       (len : vec_len mid.standing ≤ vec_len old.standing)
       (capacity : vec_capacity mid.standing ≡ vec_capacity old.standing)
-      (stands : map shown new.standing.items ≡ stand_where r.standing (map shown mid.standing.items))
+      (stands : map standing_of new.standing.items ≡ stand_where r.standing (map standing_of mid.standing.items))
       (among : StandsAmong r.standing mid.standing.items new.standing.items)
       (len_then : vec_len new.standing ≡ vec_len mid.standing + length (option_to_list r.standing))
       (capacity_then : vec_capacity new.standing ≡ vec_capacity mid.standing) where
@@ -327,7 +321,7 @@ module _ (serial : ℕ) (r : Renaming) (old : Parts) (rest : List Renaming) (can
       session = can.session.1;
       steady = steady_then;
       ordered = subst (IsStrictlySortedBy standing_order) (sym stands)
-          (stand_rising r.standing (map shown mid.standing.items)
+          (stand_rising r.standing (map standing_of mid.standing.items)
           (left_rising serial r.name old.standing.items mid.standing.items left can.ordered));
       kept = kept_then;
       places = let one = one_at_most r.standing in omega (arith, one, can.places, len, capacity, len_then, capacity_then);

@@ -1,6 +1,6 @@
 -- How a subscription starts in a graph: its number is held (`held_steady`), it stands with that number (`stands_steady`), or the number is
 -- let go of (`let_go_steady`), and nothing else that is seen changes (`held_alone`, `held_and_let_go`).
-use Rattle.std.proofs.Common.{◌≡◌, ℕ, ◌+◌, ◌-◌, ◌<◌, ◌≤◌, cond, Option, Some, None, IsSome, IfSome, OnErr, Result, Ok, Err, option_to_list, List, [], ◌∷◌, ◌++◌, option_map, refl, ap, ◌∙◌, sym, subst, arith, inl, inr, append-nil}
+use Rattle.std.proofs.Common.{◌≡◌, ℕ, ◌+◌, ◌-◌, ◌<◌, ◌≤◌, cond, Option, Some, None, IsSome, IfSome, option_to_list, List, [], ◌∷◌, ◌++◌, option_map, refl, ap, ◌∙◌, sym, subst, arith, inl, inr, append-nil}
 use Rattle.std.proofs.lemmas.List.Sums.{sum_by-cons, sum_by_push}
 use Rattle.std.proofs.lemmas.Option.{same_Some}
 use Rattle.std.specs.List.{AllByRecursion, sum_by}
@@ -35,11 +35,6 @@ Numbered h x = key_at h.names x.subscription.region.start ≡ Some x.subscriptio
 -- identifiers of one list of canonical bytes are one, where elements gave them
 abbrev pub Tells : Type 0
 Tells = (one other : Identifier) → IsIdentifier one → IsIdentifier other → identifier_bytes one ≡ identifier_bytes other → one ≡ other
-
--- what holds anyway holds after an error
-pub on_error : {T E : Type 0} (r : Result T E) (P : Type 0) → P → OnErr r P
-on_error (Ok x) P p = tt
-on_error (Err e) P p = p
 
 -- ---- lists
 

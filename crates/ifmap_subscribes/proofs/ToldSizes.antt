@@ -1,6 +1,6 @@
 -- What a session is to be told once what is pending is told: which session that is, and the size of what tells of one name.
 use Rattle.std.proofs.Common.{◌≡◌, ℕ, ◌+◌, ◌-◌, ◌^◌, ◌<◌, ◌≤◌, ◌==◌, min, Bool, true, false, not, Option, Some, None, IsSome, List, [], ◌∷◌, ◌++◌, map, refl, ap, ◌∙◌, sym, subst, arith, inl, inr}
-use Rattle.std.proofs.lemmas.Bool.{cases_Bool}
+use Rattle.std.proofs.lemmas.Bool.{cases_Bool, eqb-true}
 use Rattle.std.proofs.lemmas.Bool.Decides.{nat_tests}
 use Rattle.std.proofs.lemmas.List.Elements.{filter-append}
 use Rattle.std.proofs.lemmas.List.Filters.{sum_by-filter_both}
@@ -86,9 +86,6 @@ found_before tellings serial (x ∷ xs) s e =
 abbrev is_left : List ℕ → ℕ → Bool
 is_left ended serial = not (list_any (λ n. n == serial) ended)
 
-equal : (a b : ℕ) → (a == b) ≡ true → a ≡ b
-equal a b e = grind (arith, nat_tests, e)
-
 -- what is found among those that are left is found among all
 pub found_left : (ended : List ℕ) (serial : ℕ) (live : List Session) (s : Session)
     → session_with_serial serial (without_sessions ended live) ≡ Some s → session_with_serial serial live ≡ Some s
@@ -110,7 +107,7 @@ found_left ended serial live s e = beside (serial_of serial (without_sessions en
     beside same mine (x ∷ xs) f = elim (cases_Bool (x.serial == serial)) [
       | inl hit ↦
           let mine_too : is_left ended x.serial ≡ true =
-          subst (λ n. is_left ended n ≡ true) (same ∙ sym (equal x.serial serial hit)) mine in
+          subst (λ n. is_left ended n ≡ true) (same ∙ sym (eqb-true x.serial serial hit)) mine in
           rw hit (rw (mine_too, hit) at f)
       | inr miss ↦ elim (cases_Bool (is_left ended x.serial)) [
         | inl kept ↦ rw miss (beside same mine xs (rw (kept, miss) at f))

@@ -5,7 +5,7 @@ use Rattle.std.specs.Cmp.Lexicographic.{slice_cmp}
 use Rattle.std.specs.List.{AllByRecursion, list_any}
 use Rattle.std.specs.List.Sorted.{IsStrictlySortedBy}
 use Rattle.std.specs.Ordering.{nat_cmp}
-use Rattle.ifmap_changes.specs.Between.{Asking, IsReady, IsSteady, SharesNumbers, left, sight_now, so_far, starts_of}
+use Rattle.ifmap_changes.specs.Between.{Asking, IsReady, IsSteady, SharesNumbers, sessions_left, sight_now, so_far, starts_of}
 use Rattle.ifmap_changes.specs.declared.parts.Parts.{Parts}
 use Rattle.ifmap_delta.specs.Sights.{IsKept}
 use Rattle.ifmap_graph.specs.Back.{KeepsBacks}
@@ -84,7 +84,7 @@ pub record AreReadied (serial : ℕ) (t : Told) (parts : Parts) (readying : Read
 -- an operation can be made ready: the parts are ready for it, the session lives, and what is kept of those before it is so
 pub record CanReady (scene : Scene) (parts : Parts) (readying : Readying) : Type 0 where
   pub ready : IsReady scene.asking.now parts scene.pending.now
-  pub live : IsLive scene.serial (left scene.asking.now parts.sessions)
+  pub live : IsLive scene.serial (sessions_left scene.asking.now parts.sessions)
   pub readied : AreReadied scene.serial (told_in scene parts) parts readying
 
 -- identifiers are held, and nothing else that is seen changes

@@ -19,7 +19,7 @@ use Rattle.ifmap_pool.specs.Holdings.{key_at}
 use Rattle.ifmap_search.specs.Sizes.{queue_size}
 use Rattle.ifmap_session.specs.Sessions.{IsLive, Session, change, is_named, session_with_serial, spare_of}
 use Rattle.ifmap_standing.specs.declared.standing.Standing.{Standing}
-use Rattle.ifmap_standing.specs.Standing.{shown}
+use Rattle.ifmap_standing.specs.Standing.{standing_of}
 use Rattle.ifmap_tellings.specs.declared.tellings.Pending.{Pending}
 use Rattle.ifmap_graph.specs.Held.{Held}
 use Rattle.ifmap_graph.specs.Back.{KeepsBacks}
@@ -32,7 +32,7 @@ name_order serial name x = ordering_then (nat_cmp x.serial serial) (slice_cmp na
 -- one more subscription stands, where there is one
 abbrev pub stand_where : Option Standing → List machine.Standing → List machine.Standing
 stand_where None standing = standing
-stand_where (Some x) standing = put standing_order (shown x) standing
+stand_where (Some x) standing = put standing_order (standing_of x) standing
 
 -- nothing of the name is to be told, and its subscription goes; what there is comes in their place
 abbrev pub rename : ℕ → Renaming → Told → Told
@@ -51,8 +51,8 @@ abbrev pub begun_by : List Renaming → List Standing
 begun_by renamings = flat_map (λ (r : Renaming). option_to_list r.standing) renamings
 
 -- what there is to queue
-abbrev pub items_of : List Renaming → ℕ
-items_of renamings = sum_by (λ (r : Renaming). length (option_to_list r.item)) renamings
+abbrev pub item_count : List Renaming → ℕ
+item_count renamings = sum_by (λ (r : Renaming). length (option_to_list r.item)) renamings
 
 -- a renaming is of a session: the subscription that is to stand has its serial and the renaming's name
 abbrev pub IsOfSession : ℕ → Renaming → Type 0
@@ -87,7 +87,7 @@ pub record IsNameNow (serial : ℕ) (name : List ℕ) (t : Told) (now : NameNow)
 
 -- what a session has to tell and the subscriptions that stand, as parts have them
 abbrev pub told_in_parts : Parts → Session → Told
-told_in_parts parts s = record { queue = s.queue; standing = map shown parts.standing.items }
+told_in_parts parts s = record { queue = s.queue; standing = map standing_of parts.standing.items }
 
 -- what a session has to tell so far, and the subscriptions that are left
 abbrev pub told_so_far : Asking → Parts → Pending → Session → Told
@@ -99,15 +99,15 @@ pub record CanRenameEach (serial : ℕ) (renamings : List Renaming) (parts : Par
   pub live : IsLive serial parts.sessions.live
   pub session : AllByRecursion (IsOfSession serial) renamings
   pub steady : IsSteady parts.graph (parts.standing.items ++ begun_by renamings)
-  pub ordered : IsStrictlySortedBy standing_order (map shown parts.standing.items)
+  pub ordered : IsStrictlySortedBy standing_order (map standing_of parts.standing.items)
   pub kept : AllByRecursion (λ x. IsKept (sight_now parts.graph) x.subscription) (parts.standing.items ++ begun_by renamings)
   pub places : vec_len parts.standing + length renamings ≤ vec_capacity parts.standing
-  pub room : items_of renamings ≤ spare_of serial parts.sessions.spare
+  pub room : item_count renamings ≤ spare_of serial parts.sessions.spare
 
 -- renamings were made: the queue of the session and the subscriptions are what the definition makes of them
 pub record AreRenamed (serial : ℕ) (renamings : List Renaming) (old new : Parts) : Type 0 where
   pub told : (s : Session) → session_with_serial serial old.sessions.live ≡ Some s
-      → (map shown new.standing.items ≡ (rename_all serial renamings (told_in_parts old s)).standing)
+      → (map standing_of new.standing.items ≡ (rename_all serial renamings (told_in_parts old s)).standing)
       × (new.sessions.live ≡ change serial
       (λ (x : Session). record x { queue = (rename_all serial renamings (told_in_parts old s)).queue }) old.sessions.live)
   pub counter : new.sessions.counter ≡ old.sessions.counter

@@ -2,7 +2,7 @@
 ghost use Rattle.std.specs.Prelude.{◌≡◌, Some, false, filter, length, map};
 ghost use Rattle.std.specs.List.{AllByRecursion, list_any};
 ghost use Rattle.std.specs.List.Sorted.{IsStrictlySortedBy};
-ghost use Rattle.ifmap_changes.specs.Between.{IsReady, left, so_far};
+ghost use Rattle.ifmap_changes.specs.Between.{IsReady, sessions_left, so_far};
 ghost use Rattle.ifmap_subscribes.specs.Renamings.{IsNameNow, told_so_far};
 ghost use Rattle.ifmap_tellings.specs.Tellings.{EachTelling, IsSized, kept_of, told_by};
 ghost use Rattle.ifmap_machine.specs.State.{standing_in, standing_order};
@@ -10,7 +10,7 @@ ghost use Rattle.ifmap_machine.specs.Subscribing.{is_of_name};
 ghost use Rattle.ifmap_machine.specs.Telling.{is_overfull};
 ghost use Rattle.ifmap_search.specs.Sizes.{queue_size};
 ghost use Rattle.ifmap_session.specs.Sessions.{IsLive, Session, is_named, session_with_serial};
-ghost use Rattle.ifmap_standing.specs.Standing.{shown};
+ghost use Rattle.ifmap_standing.specs.Standing.{standing_of};
 
 use crate::renamings::place_of_name;
 use ifmap_changes::asking::Asking;
@@ -39,23 +39,23 @@ pub(crate) fn name_before(
     name: &Text,
 ) -> NameNow
     requires ready { IsReady asking.now parts.now pending.now }
-    requires live { IsLive serial (left asking.now parts.now.sessions) }
+    requires live { IsLive serial (sessions_left asking.now parts.now.sessions) }
     ensures { (s : Session)
         → session_with_serial serial (so_far asking.now parts.now pending.now).sessions ≡ Some s
         → IsNameNow serial name.now (told_so_far asking.now parts.now pending.now s) result }
 {
     NameNow {
         stands: is_standing(&parts.standing, &pending.gone, serial, name),
-        size: size_told(&parts.sessions, &pending.tellings, serial, name),
+        size: told_size(&parts.sessions, &pending.tellings, serial, name),
     }
 }
 
 // Whether a subscription of that name of a session stands and is not gone.
 fn is_standing(standing: &[Standing], gone: &[bool], serial: u64, name: &Text) -> bool
-    requires rising { IsStrictlySortedBy standing_order (map shown standing.now) }
+    requires rising { IsStrictlySortedBy standing_order (map standing_of standing.now) }
     requires flags { length gone.now ≡ length standing.now }
     ensures { result ≡ list_any (is_of_name serial name.now)
-        (map shown (kept_of gone.now standing.now)) }
+        (map standing_of (kept_of gone.now standing.now)) }
 {
     match place_of_name(standing, serial, name) {
         Ok(at) => !gone[at],
@@ -64,7 +64,7 @@ fn is_standing(standing: &[Standing], gone: &[bool], serial: u64, name: &Text) -
 }
 
 // The size of what a session is to be told of a name, once it is told what is pending.
-fn size_told(
+fn told_size(
     sessions: &Sessions,
     tellings: &BTreeMap<u64, Telling>,
     serial: u64,
@@ -77,9 +77,9 @@ fn size_told(
         → result ≡ queue_size (filter (is_named name.now) (told_by tellings.now s).queue) }
 {
     match tellings.get(&serial) {
-        None => size_queued(sessions, serial, name) as u128,
+        None => queued_size(sessions, serial, name) as u128,
         Some(Telling::After { items, .. }) => {
-            let queued = size_queued(sessions, serial, name) as u128;
+            let queued = queued_size(sessions, serial, name) as u128;
             queued + named_size(items.as_slice(), name) as u128
         }
         Some(Telling::Alone(_)) => 0,
@@ -87,7 +87,7 @@ fn size_told(
 }
 
 // The size of what is queued in a session of a name.
-fn size_queued(sessions: &Sessions, serial: u64, name: &Text) -> u64
+fn queued_size(sessions: &Sessions, serial: u64, name: &Text) -> u64
     requires live { IsLive serial sessions.now.live }
     requires within { AllByRecursion (λ s. is_overfull s ≡ false) sessions.now.live }
     ensures { (s : Session) → session_with_serial serial sessions.now.live ≡ Some s
@@ -116,7 +116,8 @@ pub(crate) fn whole_size(sessions: &Sessions, tellings: &BTreeMap<u64, Telling>,
 // How many subscriptions of a session stand and are not gone.
 pub(crate) fn count_standing(standing: &[Standing], gone: &[bool], serial: u64) -> usize
     requires flags { length gone.now ≡ length standing.now }
-    ensures { result ≡ length (standing_in serial (map shown (kept_of gone.now standing.now))) }
+    ensures { result ≡ length (standing_in serial
+        (map standing_of (kept_of gone.now standing.now))) }
 {
     let mut count = 0;
     for at in 0..standing.len() {

@@ -4,7 +4,7 @@ ghost use Rattle.std.specs.BTreeMap.{get};
 ghost use Rattle.std.specs.Cmp.Lexicographic.{slice_cmp};
 ghost use Rattle.std.specs.List.{AllByRecursion};
 ghost use Rattle.std.specs.Ordering.{nat_cmp};
-ghost use Rattle.ifmap_changes.specs.Between.{IsReady, IsSteady, left};
+ghost use Rattle.ifmap_changes.specs.Between.{IsReady, IsSteady, sessions_left};
 ghost use Rattle.ifmap_graph.specs.Seen.{rows_now};
 ghost use Rattle.ifmap_machine.specs.Subscribing.{Told, most_names, subscribe_op, subscribe_ops};
 ghost use Rattle.ifmap_machine.specs.Subscribing as machine;
@@ -81,7 +81,8 @@ pub fn ready_ops<L: Ledger>(
 ) -> Result<Readying, SubscribeError>
     requires steady { IsSteady parts.old.graph parts.old.standing.items }
     requires ready { IsReady scene.now.asking.now parts.old scene.now.pending.now }
-    requires live { IsLive scene.now.serial (left scene.now.asking.now parts.old.sessions) }
+    requires live { IsLive scene.now.serial
+        (sessions_left scene.now.asking.now parts.old.sessions) }
     requires fit { AllByRecursion IsFitSubscribeOp ops.now }
     ensures ops { IfOk result (λ readying. subscribe_ops (rows_now parts.old.graph)
         scene.now.serial ops.now (told_in scene.now parts.old)
@@ -110,7 +111,8 @@ pub fn ready_ops<L: Ledger>(
 fn nothing_ready(alloc: Global, parts: &Parts, scene: &Scene<'_>) -> Readying
     requires steady { IsSteady parts.now.graph parts.now.standing.items }
     requires ready { IsReady scene.now.asking.now parts.now scene.now.pending.now }
-    requires live { IsLive scene.now.serial (left scene.now.asking.now parts.now.sessions) }
+    requires live { IsLive scene.now.serial
+        (sessions_left scene.now.asking.now parts.now.sessions) }
     ensures none { result.made.items ≡ [] }
     ensures can { CanReady scene.now parts.now result }
 {

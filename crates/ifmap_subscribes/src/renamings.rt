@@ -11,7 +11,7 @@ ghost use Rattle.ifmap_machine.specs.Telling.{tell_session};
 ghost use Rattle.ifmap_plans.specs.Placing.{put};
 ghost use Rattle.ifmap_session.specs.Sessions.{Changes, IsLive, spare_of};
 ghost use Rattle.ifmap_standing.specs.declared.standing.Standing.{Standing};
-ghost use Rattle.ifmap_standing.specs.Standing.{shown};
+ghost use Rattle.ifmap_standing.specs.Standing.{standing_of};
 ghost use Rattle.ifmap_subscribes.specs.declared.renamings.Renaming.{Renaming};
 ghost use Rattle.ifmap_subscribes.specs.Renamings.{AreRenamed, CanRenameEach, KeepsNumbered, LetsGo, StandsAmong, begun_by, name_order, stand_where};
 
@@ -132,10 +132,10 @@ fn push_where(sessions: &mut Sessions, serial: u64, item: Option<PollItem>)
 
 // The subscription of a name of a session goes, where there is one. It takes no memory.
 fn drop_standing(graph: &mut Graph, standing: &mut Vec<Standing>, serial: u64, name: &Text)
-    requires rising { IsStrictlySortedBy standing_order (map shown standing.old.items) }
+    requires rising { IsStrictlySortedBy standing_order (map standing_of standing.old.items) }
     requires steady { (more : List Standing) × IsSteady graph.old (standing.old.items ++ more) }
     ensures standing { standing.new.items
-        ≡ filter (λ x. not (is_of_name serial name.now (shown x))) standing.old.items }
+        ≡ filter (λ x. not (is_of_name serial name.now (standing_of x))) standing.old.items }
     ensures steady { (more : List Standing) → IsSteady graph.old (standing.old.items ++ more)
         → IsSteady graph.new (standing.new.items ++ more) }
     ensures rows { rows_now graph.new ≡ rows_now graph.old }
@@ -152,14 +152,15 @@ fn drop_standing(graph: &mut Graph, standing: &mut Vec<Standing>, serial: u64, n
 
 /// Where the subscription of a name of a session stands, or is to stand. It takes no memory.
 pub fn place_of_name(standing: &[Standing], serial: u64, name: &Text) -> Result<usize, usize>
-    requires { IsStrictlySortedBy standing_order (map shown standing.now) }
+    requires { IsStrictlySortedBy standing_order (map standing_of standing.now) }
     ensures found { IfOk result (λ at. (x : Standing) × (slice_get standing.now at ≡ Some x)
-        × (is_of_name serial name.now (shown x) ≡ true)) }
-    ensures only { OnErr result (list_any (λ x. is_of_name serial name.now (shown x)) standing.now
+        × (is_of_name serial name.now (standing_of x) ≡ true)) }
+    ensures only { OnErr result (list_any
+        (λ x. is_of_name serial name.now (standing_of x)) standing.now
         ≡ false) }
     ensures gap { IfErr result (λ at. (x : Standing) → x.serial ≡ serial → x.name ≡ name.now
-        → map shown (insert standing.now at x)
-        ≡ put standing_order (shown x) (map shown standing.now)) }
+        → map standing_of (insert standing.now at x)
+        ≡ put standing_order (standing_of x) (map standing_of standing.now)) }
     ensures within { IfErr result (λ at. at ≤ length standing.now) }
 {
     standing.binary_search_by(|other| name_order(other, serial, name))
@@ -175,13 +176,14 @@ fn name_order(one: &Standing, serial: u64, name: &Text) -> Ordering
 // A subscription stands at its place, where there is one: none has its name, and there is room. It
 // takes no memory.
 fn put_where(standing: &mut Vec<Standing>, begun: Option<Standing>)
-    requires rising { IsStrictlySortedBy standing_order (map shown standing.old.items) }
-    requires free { IfSome begun (λ x. list_any (λ other. is_of_name x.serial x.name (shown other))
+    requires rising { IsStrictlySortedBy standing_order (map standing_of standing.old.items) }
+    requires free { IfSome begun (λ x. list_any
+        (λ other. is_of_name x.serial x.name (standing_of other))
         standing.old.items ≡ false) }
     requires room { vec_len standing.old + length (option_to_list begun)
         ≤ vec_capacity standing.old }
-    ensures standing { map shown standing.new.items
-        ≡ stand_where begun (map shown standing.old.items) }
+    ensures standing { map standing_of standing.new.items
+        ≡ stand_where begun (map standing_of standing.old.items) }
     ensures among { StandsAmong begun standing.old.items standing.new.items }
     ensures len { vec_len standing.new ≡ vec_len standing.old + length (option_to_list begun) }
     ensures capacity { vec_capacity standing.new ≡ vec_capacity standing.old }

@@ -1,13 +1,14 @@
 -- What is added to what a session is to be told: nothing (`adds_nothing`), one after another (`adds_both`), to items with their size
 -- (`adds_after`, `sized_after`), and to nothing yet (`begun`, `begun_size`). Then what is at one key of a map that changed there.
 use Rattle.std.proofs.Common.{◌≡◌, ◌≢◌, refl, sym, ◌∙◌, ap, subst, ℕ, ◌+◌, ◌-◌, ◌^◌, ◌<◌, ◌≤◌, min, false, List, [], ◌∷◌, ◌++◌, Option, None, Some, append_assoc, inl, inr, arith}
-use Rattle.std.proofs.lemmas.Bool.{cases_eq, false≢true, ltb-false}
+use Rattle.std.proofs.lemmas.Bool.{cases_eq, ltb-false}
 use Rattle.std.proofs.lemmas.Bool.Decides.{nat_tests}
 use Rattle.std.proofs.lemmas.List.{append-nil}
 use Rattle.std.proofs.lemmas.List.Sums.{sum_by-append}
 use Rattle.std.specs.BTreeMap.{is_at}
 use Rattle.std.specs.Option.{IsSome, is_some}
 use Rattle.std.specs.Ordering.{nat_cmp}
+use Rattle.ifmap_lemmas.specs.Options.{some_none}
 use Rattle.ifmap_machine.specs.Telling.{is_overfull, tell_session}
 use Rattle.ifmap_search.specs.declared.results.PollItem.{PollItem}
 use Rattle.ifmap_search.specs.Sizes.{poll_size, queue_size}
@@ -21,9 +22,6 @@ tell_nothing s = ap (λ queue. record s { queue = queue }) (append-nil s.queue)
 
 pub tell_twice : (a b : List PollItem) (s : Session) → tell_session b (tell_session a s) ≡ tell_session (a ++ b) s
 tell_twice a b s = ap (λ queue. record s { queue = queue }) (append_assoc s.queue a b)
-
-some_none : {X : Type 0} (o : Option X) → IsSome o → o ≡ None → ⊥
-some_none o h e = false≢true (sym (ap is_some e) ∙ h)
 
 pub both_empty : {X : Type 0} (a b : List X) → a ++ b ≡ [] → (a ≡ []) × (b ≡ [])
 both_empty [] b e = (refl, e)

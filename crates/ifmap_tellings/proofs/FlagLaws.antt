@@ -1,6 +1,7 @@
 -- Flags of places, turned one after another. First the flags up to a place (`flags_to`): as they begin, one further, and at the end
 -- (`flags_all`). Then who is told one error in place of all has no subscription left (`bare`).
 use Rattle.std.proofs.Common.{◌≡◌, refl, sym, ◌∙◌, ap, subst, ℕ, zero, suc, ◌+◌, ◌||◌, Bool, true, false, List, [], ◌∷◌, length, map, set, Some, arith}
+use Rattle.std.proofs.Math.Bool.{or-false}
 use Rattle.std.proofs.lemmas.Bool.{both_ways, or_parts, or_right}
 use Rattle.std.proofs.lemmas.Option.{none-some, same_Some}
 use Rattle.std.specs.BTreeMap.{get}
@@ -17,10 +18,6 @@ module _ {X : Type 0} (test : X → Bool) where
   flags_to (suc n) (flag ∷ flags) [] = flag ∷ flags
   flags_to (suc n) (flag ∷ flags) (x ∷ xs) = (flag || test x) ∷ flags_to n flags xs
 
-  or_false : (b : Bool) → (b || false) ≡ b
-  or_false true = refl
-  or_false false = refl
-
   pub flags_long : (n : ℕ) (flags : List Bool) (xs : List X) → length (flags_to n flags xs) ≡ length flags
   flags_long zero flags xs = refl
   flags_long (suc n) [] xs = refl
@@ -35,7 +32,7 @@ module _ {X : Type 0} (test : X → Bool) where
       go n flags [] e = absurd (none-some x e)
       go zero [] (y ∷ xs) e = refl
       go zero (flag ∷ flags) (y ∷ xs) e =
-          ap (λ b. b ∷ flags) (ap (λ b. flag || b) (ap test (same_Some y x e) ∙ no_flag) ∙ or_false flag)
+          ap (λ b. b ∷ flags) (ap (λ b. flag || b) (ap test (same_Some y x e) ∙ no_flag) ∙ or-false flag)
       go (suc n) [] (y ∷ xs) e = refl
       go (suc n) (flag ∷ flags) (y ∷ xs) e = ap (λ l. (flag || test y) ∷ l) (go n flags xs e)
 

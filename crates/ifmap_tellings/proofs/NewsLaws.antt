@@ -5,7 +5,7 @@ use Rattle.std.specs.BTreeMap.{get}
 use Rattle.std.specs.List.{AllByRecursion}
 use Rattle.std.specs.Option.{IsSome, is_some}
 use Rattle.std.specs.Ordering.{nat_cmp}
-use Rattle.ifmap_lemmas.specs.Having.{Has}
+use Rattle.ifmap_lemmas.specs.Having.{Has, all_has}
 use Rattle.ifmap_lemmas.specs.Members.{all_of_map}
 use Rattle.ifmap_machine.specs.Telling.{is_overfull, overflow_session, tell_session}
 use Rattle.ifmap_session.specs.Sessions.{Session, Table}
@@ -15,7 +15,7 @@ use Rattle.ifmap_standing.specs.declared.telling.News.{News}
 use Rattle.ifmap_tellings.specs.Tellings.{AddsTo, AreWithin, CanTell, EachTelling, Tellings, gone_after, queued_for, told_by, told_where}
 use Rattle.ifmap_tellings.proofs.FlagLaws.{flags_all, flags_long}
 use Rattle.ifmap_tellings.proofs.PassedLaws.{IsFree, map_alike}
-use Rattle.ifmap_tellings.proofs.RoomLaws.{all_has, found_serial}
+use Rattle.ifmap_tellings.proofs.RoomLaws.{found_serial}
 
 pub queues_within : (tellings : Tellings) (live : List Session)
     → AllByRecursion (λ s. is_overfull s ≡ false) (map (told_by tellings) live) → AreWithin tellings live
@@ -56,4 +56,4 @@ module _ (standing : List Standing) (old mid : Tellings)
   mid_fits live within s h free =
       let each = all_of_map (λ s. is_overfull s ≡ false) (told_by old) live within in
       ap (λ o. is_overfull (told_where o s)) (others s.serial free)
-      ∙ all_has (λ t. is_overfull (told_by old t) ≡ false) live s each h
+      ∙ all_has (λ t. is_overfull (told_by old t) ≡ false) live each s h

@@ -7,7 +7,7 @@ use Rattle.ifmap_machine.specs.Telling.{is_overfull, limit_note, overflow_sessio
 use Rattle.ifmap_search.specs.declared.results.PollItem.{PollItem}
 use Rattle.ifmap_search.specs.declared.results.PollItem.TheVariants as the_item
 use Rattle.ifmap_search.specs.Sizes.{queue_size}
-use Rattle.ifmap_session.specs.Sessions.{Session, overflowed, session_with_serial}
+use Rattle.ifmap_session.specs.Sessions.{Session, session_with_serial, with_error}
 use Rattle.ifmap_tellings.specs.declared.tellings.Telling.TheVariants.{After, Alone}
 use Rattle.ifmap_tellings.specs.Tellings.{IsSized, told_where}
 
@@ -16,7 +16,7 @@ pub within_stays : (s : Session) → is_overfull s ≡ false → overflow_sessio
 within_stays s e = rw e refl
 
 error_within : (note : List ℕ) (s : Session) → 100 ≤ s.limit
-    → is_overfull (overflowed (the_item.Error None PollResultsTooBig note) s) ≡ false
+    → is_overfull (with_error (the_item.Error None PollResultsTooBig note) s) ≡ false
 error_within note s wide = le-ltb s.limit 100 wide
 
 pub overflowed_within : (s : Session) → 100 ≤ s.limit → is_overfull (overflow_session s) ≡ false
@@ -36,10 +36,10 @@ module _ (n limit : ℕ) (live : List Session) (s : Session) (found : session_wi
       lt-ltb s.limit (queue_size t.queue) (subst (λ m. m < queue_size t.queue) (sym own) (subst (λ m. limit < m) exact less)) in
       let note : limit_note size limit ≡ limit_note (queue_size t.queue) t.limit =
       ap (λ m. limit_note m limit) exact ∙ ap (limit_note (queue_size t.queue)) (sym own) in
-      ap (λ text. overflowed (the_item.Error None PollResultsTooBig text) s) note ∙ sym (overflows t full)
+      ap (λ text. with_error (the_item.Error None PollResultsTooBig text) s) note ∙ sym (overflows t full)
     where
       overflows : (t : Session) → is_overfull t ≡ true
-          → overflow_session t ≡ overflowed (the_item.Error None PollResultsTooBig (limit_note (queue_size t.queue) t.limit)) t
+          → overflow_session t ≡ with_error (the_item.Error None PollResultsTooBig (limit_note (queue_size t.queue) t.limit)) t
       overflows t full = rw full refl
 
   pub after_stays : (items : List PollItem) (size : ℕ) → IsSized n (After items size) live → size ≤ limit
@@ -54,6 +54,6 @@ module _ (n limit : ℕ) (live : List Session) (s : Session) (found : session_wi
       → told_where (Some (Alone error)) s ≡ overflow_session (told_where (Some (Alone error)) s)
   alone_stays error sized wide =
       let is : error ≡ the_item.Error None PollResultsTooBig sized.0 = sized.1 in
-      let few : is_overfull (overflowed error s) ≡ false =
-      subst (λ e. is_overfull (overflowed e s) ≡ false) (sym is) (error_within sized.0 s (subst (λ m. 100 ≤ m) (sym own) wide)) in
-      sym (within_stays (overflowed error s) few)
+      let few : is_overfull (with_error error s) ≡ false =
+      subst (λ e. is_overfull (with_error e s) ≡ false) (sym is) (error_within sized.0 s (subst (λ m. 100 ≤ m) (sym own) wide)) in
+      sym (within_stays (with_error error s) few)

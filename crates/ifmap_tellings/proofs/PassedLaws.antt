@@ -1,5 +1,6 @@
 -- How far the overflowing of sessions has come, along the subscriptions (`Overflowing`): as it begins, one further, and at its end.
-use Rattle.std.proofs.Common.{◌≡◌, ◌≢◌, refl, sym, ◌∙◌, ap, subst, ℕ, suc, ◌+◌, ◌≤◌, ◌||◌, Bool, true, false, List, [], ◌∷◌, length, map, drop, drop-cons, Option, None, Some, inl, inr, arith}
+use Rattle.std.proofs.Common.{◌≡◌, ◌≢◌, refl, sym, ◌∙◌, ap, subst, ℕ, suc, ◌+◌, ◌≤◌, ◌||◌, true, false, List, [], ◌∷◌, length, map, drop, drop-cons, Option, None, Some, inl, inr, arith}
+use Rattle.std.proofs.Math.Bool.{or-false}
 use Rattle.std.proofs.lemmas.Bool.{cases_eq, false≢true}
 use Rattle.std.proofs.lemmas.List.{drop_all}
 use Rattle.std.proofs.lemmas.Option.{get_or_from_slice_get, slice_get_within}
@@ -8,7 +9,7 @@ use Rattle.std.specs.List.{AllByRecursion, slice_get}
 use Rattle.std.specs.List.Sorted.{IsStrictlySortedBy}
 use Rattle.std.specs.Option.{is_some}
 use Rattle.std.specs.Ordering.{nat_cmp}
-use Rattle.ifmap_lemmas.specs.Having.{Has}
+use Rattle.ifmap_lemmas.specs.Having.{Has, all_has}
 use Rattle.ifmap_machine.specs.Telling.{is_overfull, overflow_session}
 use Rattle.ifmap_session.specs.Sessions.{Session, Table, session_order, session_with_serial}
 use Rattle.ifmap_standing.specs.declared.standing.Standing.{Standing}
@@ -16,7 +17,7 @@ use Rattle.ifmap_tellings.specs.declared.tellings.Telling.{Telling}
 use Rattle.ifmap_tellings.specs.declared.tellings.Telling.TheVariants.{After, Alone}
 use Rattle.ifmap_tellings.specs.Tellings.{AreWithin, CanTell, EachTelling, HasSameSessions, IsSized, Tellings, is_alone, told_by, told_where}
 use Rattle.ifmap_tellings.proofs.OverflowLaws.{overflowed_within, within_stays}
-use Rattle.ifmap_tellings.proofs.RoomLaws.{all_has, found_here, same_itself, same_twice, tells_still}
+use Rattle.ifmap_tellings.proofs.RoomLaws.{found_here, same_itself, same_twice, tells_still}
 
 -- none of these subscriptions is of a session
 abbrev pub IsFree : List Standing → ℕ → Type 0
@@ -26,10 +27,6 @@ told_limit : (o : Option Telling) (s : Session) → (told_where o s).limit ≡ s
 told_limit None s = refl
 told_limit (Some (After items size)) s = refl
 told_limit (Some (Alone error)) s = refl
-
-or_none : (b : Bool) → (b || false) ≡ b
-or_none true = refl
-or_none false = refl
 
 some_alike : {X Y : Type 0} (a : Option X) (b : Option Y) → is_some a ≡ is_some b → a ≡ None → b ≡ None
 some_alike a None same none = refl
@@ -87,7 +84,7 @@ module _ (standing : List Standing) (begun now : Table) (old tellings : Tellings
     pub passed_alone : (s : Session) → Has begun.live s
         → is_alone (get nat_cmp tellings s.serial) ≡ (is_alone (get nat_cmp old s.serial) || is_overfull (told_by old s))
     passed_alone s h =
-        sym (or_none (is_alone (get nat_cmp tellings s.serial)))
+        sym (or-false (is_alone (get nat_cmp tellings s.serial)))
         ∙ ap (λ b. is_alone (get nat_cmp tellings s.serial) || b) (sym (o.within s h (all_free s.serial))) ∙ o.alone s h
 
     pub passed_can : EachTelling (CanTell now) tellings
@@ -128,7 +125,7 @@ module _ (standing : List Standing) (begun now : Table) (old tellings : Tellings
 
     fits : (s : Session) → Has begun.live s → is_overfull (overflow_session (told_by tellings s)) ≡ false
     fits s h = overflowed_within (told_by tellings s) (subst (λ m. 100 ≤ m) (sym (told_limit (get nat_cmp tellings s.serial) s))
-        (all_has (λ (t : Session). 100 ≤ t.limit) begun.live s wide h))
+        (all_has (λ (t : Session). 100 ≤ t.limit) begun.live wide s h))
 
     pub passed_next : Overflowing standing begun later old after (at + 1)
     passed_next = record {
@@ -143,7 +140,7 @@ module _ (standing : List Standing) (begun now : Table) (old tellings : Tellings
       alone = λ s h. elim (cases_eq s.serial x.serial) [
         | inl own ↦
             ap (λ b. is_alone (get nat_cmp after s.serial) || b) (ap is_overfull (told_here s h own) ∙ fits s h)
-            ∙ or_none (is_alone (get nat_cmp after s.serial)) ∙ alone s (here_now s h own) ∙ o.alone s h
+            ∙ or-false (is_alone (get nat_cmp after s.serial)) ∙ alone s (here_now s h own) ∙ o.alone s h
         | inr apart ↦ ap (λ t. is_alone t || is_overfull (told_where t s)) (others s.serial apart) ∙ o.alone s h
       ];
       keys = λ n. elim (cases_eq n x.serial) [

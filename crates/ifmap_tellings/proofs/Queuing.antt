@@ -5,12 +5,13 @@ use Rattle.std.proofs.Common.{◌≡◌, ◌≢◌, refl, sym, ◌∙◌, ap, su
 use Rattle.std.proofs.lemmas.Bool.{cases_Bool, eq-eqb, eqb-true}
 use Rattle.std.proofs.lemmas.Bool.Decides.{nat_tests}
 use Rattle.std.specs.BTreeMap.{Updates, get}
+use Rattle.ifmap_lemmas.specs.Options.{is_some_of, some_is}
 use Rattle.ifmap_tellings.specs.declared.tellings.Telling.{Telling}
 use Rattle.ifmap_tellings.specs.declared.tellings.Telling.TheVariants.{After, Alone}
 use Rattle.ifmap_tellings.specs.Tellings.{CanTell, EachTelling, Tellings, count_told, count_where, told_by, told_where}
 use Rattle.ifmap_machine.specs.Telling.{tell_session}
 use Rattle.ifmap_search.specs.declared.results.PollItem.{PollItem}
-use Rattle.ifmap_session.specs.Sessions.{Changes, IsLive, Session, Table, change, queued, session_with_serial, spare_of}
+use Rattle.ifmap_session.specs.Sessions.{Changes, IsLive, Session, Table, change, session_with_serial, spare_of, with_item}
 use Rattle.ifmap_session.specs.laws.TableLaws.{Keeps, changed_one, found_changed}
 
 -- ---- one session changes
@@ -52,13 +53,6 @@ module _ (n : ℕ) where
     room = omega (arith, a.room, b.room);
   }
 
-pub some_is : {X : Type 0} (o : Option X) → IsSome o → (x : X) × (o ≡ Some x)
-some_is None e = cc
-some_is (Some x) e = (x, refl)
-
-pub is_some_of : {X : Type 0} (o : Option X) (x : X) → o ≡ Some x → IsSome o
-is_some_of o x e = rw e refl
-
 -- who lives goes on to live
 pub live_changed : (n : ℕ) (f : Session → Session) → Keeps f → (old new : Table) → Changes n f old new → (m : ℕ) → IsLive m old.live
     → IsLive m new.live
@@ -72,10 +66,10 @@ live_changed n f k old new c m l =
 told_nothing : (s : Session) → tell_session [] s ≡ s
 told_nothing s = ap (λ q. record s { queue = q }) (append-nil s.queue)
 
-told_more : (item : PollItem) (items : List PollItem) (s : Session) → tell_session items (queued item s) ≡ tell_session (item ∷ items) s
+told_more : (item : PollItem) (items : List PollItem) (s : Session) → tell_session items (with_item item s) ≡ tell_session (item ∷ items) s
 told_more item items s = ap (λ q. record s { queue = q }) (append_assoc s.queue (item ∷ []) items)
 
-queued_keeps : (item : PollItem) → Keeps (queued item)
+queued_keeps : (item : PollItem) → Keeps (with_item item)
 queued_keeps item = record { serial = λ s. refl; id = λ s. refl; client = λ s. refl }
 
 -- of these items some are queued, and the rest is left
@@ -100,13 +94,13 @@ module _ (n : ℕ) (items : List PollItem) (old : Table) where
     pub push_fits : 1 ≤ spare_of n now.spare
     push_fits = let long = ap length cut in omega (arith, long, p.spare, p.fits)
 
-    pub pushes_more : (new : Table) → Changes n (queued item) now new → spare_of n new.spare + 1 ≡ spare_of n now.spare
+    pub pushes_more : (new : Table) → Changes n (with_item item) now new → spare_of n new.spare + 1 ≡ spare_of n now.spare
         → PushesOn n items old new rest
     pushes_more new c less = record {
-      live = live_changed n (queued item) (queued_keeps item) now new c n p.live;
+      live = live_changed n (with_item item) (queued_keeps item) now new c n p.live;
       on = λ last d.
           p.on last (subst (λ xs. Changes n (tell_session xs) now last) (sym cut)
-          (changes_both n (queued item) (tell_session rest) (tell_session (item ∷ rest)) (λ s. refl) (told_more item rest) now new last
+          (changes_both n (with_item item) (tell_session rest) (tell_session (item ∷ rest)) (λ s. refl) (told_more item rest) now new last
           c d));
       spare = let long = ap length cut in omega (arith, long, p.spare, less);
       fits = p.fits;
@@ -118,11 +112,6 @@ module _ (n : ℕ) (items : List PollItem) (old : Table) where
 
     pub pushes_spare : spare_of n now.spare + length items ≡ spare_of n old.spare
     pushes_spare = let long = ap length none in omega (arith, long, p.spare)
-
--- a list of no length
-pub no_item : {X : Type 0} (xs : List X) → length xs ≡ 0 → xs ≡ []
-no_item [] e = refl
-no_item (x ∷ xs) e = absurd (omega (arith, e))
 
 -- nothing comes of a list of no length
 pub none_there : {X : Type 0} (o : Option X) (n : ℕ) → (0 < n → IsSome o) → o ≡ None → n ≡ 0

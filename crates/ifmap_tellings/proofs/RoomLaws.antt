@@ -3,10 +3,9 @@
 use Rattle.std.proofs.Common.{◌≡◌, refl, sym, ◌∙◌, ap, subst, ℕ, ◌≤◌, ◌==◌, false, List, [], ◌∷◌, Some, inl, inr, arith}
 use Rattle.std.proofs.lemmas.Bool.{cases_Bool, eq-eqb, eqb-true}
 use Rattle.std.proofs.lemmas.Bool.Decides.{nat_tests}
-use Rattle.std.specs.List.{AllByRecursion}
 use Rattle.std.specs.List.Sorted.{IsStrictlySortedBy}
 use Rattle.std.specs.declared.cmp.Ordering.TheVariants.{Less}
-use Rattle.ifmap_lemmas.specs.Having.{Has}
+use Rattle.ifmap_lemmas.specs.Having.{Has, all_has}
 use Rattle.ifmap_session.specs.Sessions.{IsLive, Session, Table, session_order, session_with_serial, spare_of}
 use Rattle.ifmap_tellings.specs.declared.tellings.Telling.{Telling}
 use Rattle.ifmap_tellings.specs.Tellings.{CanTell, HasSameSessions, count_told}
@@ -39,11 +38,6 @@ found_serial n (x ∷ live) s e = elim (cases_Bool (x.serial == n)) [
   | inr miss ↦ found_serial n live s (rw miss at e)
 ]
 
-pub all_has : {X : Type 0} (P : X → Type 0) (xs : List X) (x : X) → AllByRecursion P xs → Has xs x → P x
-all_has P [] x h e = absurd e
-all_has P (y ∷ xs) x h (inl e) = subst P e h.0
-all_has P (y ∷ xs) x h (inr e) = all_has P xs x h.1 e
-
 -- a session that is there is found by its serial
 pub found_here : (live : List Session) (s : Session) → IsStrictlySortedBy session_order live → Has live s
     → session_with_serial s.serial live ≡ Some s
@@ -51,6 +45,6 @@ unfolding IsStrictlySortedBy
 found_here [] s up h = absurd h
 found_here (x ∷ live) s up (inl e) = rw (eq-eqb x.serial s.serial (ap (λ (t : Session). t.serial) e)) (ap Some e)
 found_here (x ∷ live) s up (inr h) =
-    let less : session_order x s ≡ Less = all_has (λ z. session_order x z ≡ Less) live s up.0 h in
+    let less : session_order x s ≡ Less = all_has (λ z. session_order x z ≡ Less) live up.0 s h in
     let other : (x.serial == s.serial) ≡ false = grind (arith, nat_tests, less) in
     rw other (found_here live s up.1 h)

@@ -10,7 +10,7 @@ use Rattle.ifmap_machine.specs.Telling.{is_overfull, tell_session}
 use Rattle.ifmap_search.specs.declared.results.PollItem.{PollItem}
 use Rattle.ifmap_search.specs.declared.results.PollItem.TheVariants as the_item
 use Rattle.ifmap_search.specs.Sizes.{queue_size}
-use Rattle.ifmap_session.specs.Sessions.{IsLive, Session, Table, overflowed, session_with_serial, spare_of}
+use Rattle.ifmap_session.specs.Sessions.{IsLive, Session, Table, session_with_serial, spare_of, with_error}
 use Rattle.ifmap_standing.specs.declared.standing.Standing.{Standing}
 use Rattle.ifmap_standing.specs.declared.telling.News.{News}
 
@@ -30,7 +30,7 @@ Tellings = BTreeMap ℕ Telling
 abbrev pub told_where : Option Telling → Session → Session
 told_where None s = s
 told_where (Some (After items size)) s = tell_session items s
-told_where (Some (Alone error)) s = overflowed error s
+told_where (Some (Alone error)) s = with_error error s
 
 abbrev pub told_by : Tellings → Session → Session
 told_by tellings s = told_where (get nat_cmp tellings s.serial) s

@@ -14,7 +14,7 @@ use Rattle.std.specs.declared.cmp.Ordering.TheVariants.{Less}
 use Rattle.ifmap_lemmas.specs.Filters.{all_filter, all_weaker}
 use Rattle.ifmap_lemmas.specs.Members.{both_all, map_of_all}
 use Rattle.ifmap_session.specs.SessionIds.{BeginsWithSerial, session_id}
-use Rattle.ifmap_session.specs.Sessions.{IsTable, Session, Table, change, is_text, most_sessions, renewed, session_of_client, session_order, session_with_serial, without_sessions}
+use Rattle.ifmap_session.specs.Sessions.{IsTable, Session, Table, change, is_text, most_sessions, session_of_client, session_order, session_with_serial, with_last, without_sessions}
 use Rattle.ifmap_session.specs.laws.TextLaws.{all_found, distinct_filter, distinct_push, find_kept, find_none, rest_differ}
 use Rattle.uuid.specs.Text.{hyphenated_text, lower}
 
@@ -115,7 +115,7 @@ pub record Keeps (f : Session → Session) : Type 0 where
   pub id : (s : Session) → (f s).id ≡ s.id
   pub client : (s : Session) → (f s).client ≡ s.client
 
-pub renewed_keeps : (moment : ℕ) → Keeps (renewed moment)
+pub renewed_keeps : (moment : ℕ) → Keeps (with_last moment)
 renewed_keeps moment = record { serial = λ s. refl; id = λ s. refl; client = λ s. refl }
 
 -- what a change makes of one session

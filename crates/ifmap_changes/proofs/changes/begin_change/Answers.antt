@@ -1,13 +1,13 @@
 use Rattle.std.proofs.Common.{sym, subst}
 use Rattle.ifmap_ident.specs.Items.{IsCanonItem}
 use Rattle.ifmap_lemmas.specs.Filters.{all_weaker}
+use Rattle.ifmap_lemmas.specs.Results.{on_err}
 use Rattle.ifmap_plans.specs.Plans.{FitsItem, IsAfter}
 use Rattle.ifmap_pool.specs.Holdings.{key_at}
 use Rattle.ifmap_view.specs.Views.{IsView}
 use Rattle.ifmap_graph.specs.Held.{Held}
 use Rattle.ifmap_graph.specs.Seen.{links_next, rows_next, rows_now}
 use Rattle.ifmap_changes.proofs.Begun.{kept_seen}
-use Rattle.ifmap_changes.proofs.Results.{at_err}
 use Rattle.ifmap_changes.proofs.Starts.{few_starts}
 use Rattle.ifmap_changes.proofs.changes.begin_change.Goals as goal
 
@@ -18,7 +18,7 @@ reserve-requires-clause-few c =
 
 pub returns-in_err-ready-clause-kept : goal.returns-in_err-ready-clause-kept
 returns-in_err-ready-clause-kept c =
-    at_err c.from_residual.result _
+    on_err c.from_residual.result _
     (kept_seen c.args.parts.now c.reserve.new.self c.requires.steady c.in_err-ready.ensures.still c.in_err-ready.ensures.err
     c.reserve.ensures.backs)
 

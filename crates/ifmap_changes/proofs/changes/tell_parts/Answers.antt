@@ -1,9 +1,14 @@
+-- A change is told to all that stand, and the news wait for their sessions. The goals, in the order of the code:
+-- (1) each subscription keeps what the graph has, as `tell_standing` wants it; (2) what `queue_news` wants of the news, clause
+-- by clause (as many as stand, live sessions, each alone, none of those that are skipped, sizes, bounds, room to tell):
+-- each is said of the parts of before, and carried to those whose sessions alone differ; (3) what was queued is what the
+-- definition says of the change.
 use Rattle.std.proofs.Common.{◌≡◌, ◌∙◌, ap, refl, sym, subst, map, slice_get}
 use Rattle.ifmap_delta.specs.Sights.{IsKept}
 use Rattle.ifmap_delta.specs.Ways.{HasSameSearch}
 use Rattle.ifmap_standing.specs.Kept.{AtEach, Stands}
 use Rattle.ifmap_standing.specs.News.{news_of_each}
-use Rattle.ifmap_standing.specs.Standing.{shown}
+use Rattle.ifmap_standing.specs.Standing.{standing_of}
 use Rattle.ifmap_graph.specs.Seen.{rows_next, rows_now}
 use Rattle.ifmap_tellings.specs.Tellings.{AllKept}
 use Rattle.ifmap_changes.specs.declared.parts.Parts.{Parts}
@@ -37,7 +42,7 @@ queue_news-requires-clause-long g c =
     in let news = c.in_ok-told.told.news
     in let rows = rows_now old.graph
     in let next = rows_next old.graph
-    in let is_news = subst (λ flags. news ≡ news_of_each rows next notes flags (map shown old.standing.items)) c.deref.ensures.value
+    in let is_news = subst (λ flags. news ≡ news_of_each rows next notes flags (map standing_of old.standing.items)) c.deref.ensures.value
     c.in_ok-told.ensures.news
     in long_news a old before ready notes stands same news is_news
 
@@ -62,7 +67,7 @@ queue_news-requires-clause-live g c =
     in let news = c.in_ok-told.told.news
     in let rows = rows_now old.graph
     in let next = rows_next old.graph
-    in let is_news = subst (λ flags. news ≡ news_of_each rows next notes flags (map shown old.standing.items)) c.deref.ensures.value
+    in let is_news = subst (λ flags. news ≡ news_of_each rows next notes flags (map standing_of old.standing.items)) c.deref.ensures.value
     c.in_ok-told.ensures.news
     in live_now a old before ready notes stands same news is_news
 
@@ -87,7 +92,7 @@ queue_news-requires-clause-alone g c =
     in let news = c.in_ok-told.told.news
     in let rows = rows_now old.graph
     in let next = rows_next old.graph
-    in let is_news = subst (λ flags. news ≡ news_of_each rows next notes flags (map shown old.standing.items)) c.deref.ensures.value
+    in let is_news = subst (λ flags. news ≡ news_of_each rows next notes flags (map standing_of old.standing.items)) c.deref.ensures.value
     c.in_ok-told.ensures.news
     in alone_now a old before ready notes stands same news is_news
 
@@ -112,7 +117,7 @@ queue_news-requires-clause-skipped g c =
     in let news = c.in_ok-told.told.news
     in let rows = rows_now old.graph
     in let next = rows_next old.graph
-    in let is_news = subst (λ flags. news ≡ news_of_each rows next notes flags (map shown old.standing.items)) c.deref.ensures.value
+    in let is_news = subst (λ flags. news ≡ news_of_each rows next notes flags (map standing_of old.standing.items)) c.deref.ensures.value
     c.in_ok-told.ensures.news
     in skips a old before ready notes stands same news is_news
 
@@ -191,7 +196,7 @@ returns-in-Ok-clause-told g c =
     in let news = c.in_ok-told.told.news
     in let rows = rows_now old.graph
     in let next = rows_next old.graph
-    in let is_news = subst (λ flags. news ≡ news_of_each rows next notes flags (map shown old.standing.items)) c.deref.ensures.value
+    in let is_news = subst (λ flags. news ≡ news_of_each rows next notes flags (map standing_of old.standing.items)) c.deref.ensures.value
     c.in_ok-told.ensures.news
     in let told = c.in-Ok.ensures
     in let kept = subst (AllKept (λ x. IsKept (sight_next old.graph) x.subscription) before.gone.items) (sym c.deref-2.ensures.value)

@@ -1,11 +1,12 @@
 use Rattle.std.proofs.Common.{◌≡◌, inl, arith, sym, ◌∙◌, subst, ap}
+use Rattle.std.proofs.lemmas.Result.{on_ok_weaker}
 use Rattle.std.specs.List.{AllByRecursion}
 use Rattle.ifmap_changes.specs.Between.{AreKept, so_far}
-use Rattle.ifmap_changes.proofs.Results.{at_err, where_ok}
 use Rattle.ifmap_changes.proofs.Taken.{author_of, kept_itself, notes_canon}
 use Rattle.ifmap_changes.proofs.changing.publish.Goals as goal
 use Rattle.ifmap_graph.specs.Seen.{rows_now}
 use Rattle.ifmap_ident.specs.Items.{IsCanonItem}
+use Rattle.ifmap_lemmas.specs.Results.{on_err}
 use Rattle.ifmap_machine.specs.Telling.{overflow, tell}
 use Rattle.ifmap_plans.specs.declared.plans.Note.{Note}
 use Rattle.ifmap_plans.specs.Plans.{IsAfter}
@@ -29,7 +30,7 @@ returns-clause-told g c =
     let by : Authorship = author_of serial c.args.asking.now in
     let same : inner ≡ by = ap (author_of serial) c.asking.view_is in
     let applies : IsAfter c.in_ok-plan.plan.changes first (apply first inner ops) = c.in_ok-plan.ensures.applies in
-    where_ok c.make_change.result _ _ (λ f. f (apply first by ops)
+    on_ok_weaker c.make_change.result (λ f. f (apply first by ops)
     (c.publishing_keeps_graphs.ensures.graph first by ops c.requires.fit c.is_view.ensures.graph)
     (subst (λ a. IsAfter c.in_ok-plan.plan.changes first (apply first a ops)) same applies)
     ∙ ap (λ notes. overflow (tell (apply first by ops) notes before)) (c.in_ok-plan.ensures.notes ∙ ap (λ a. notes_of a ops) same))
@@ -37,7 +38,7 @@ returns-clause-told g c =
 
 pub returns-in_err-plan-clause-kept : goal.returns-in_err-plan-clause-kept
 returns-in_err-plan-clause-kept g c =
-    at_err c.from_residual.result (AreKept c.args.parts.now c.args.parts.now) (kept_itself c.args.parts.now c.requires.steady)
+    on_err c.from_residual.result (AreKept c.args.parts.now c.args.parts.now) (kept_itself c.args.parts.now c.requires.steady)
 
 pub returns-in_err-plan-clause-steps : goal.returns-in_err-plan-clause-steps
 returns-in_err-plan-clause-steps g c = inl (omega arith)

@@ -1,53 +1,54 @@
 use Rattle.std.proofs.Common.{◌≡◌, ◌≢◌, ℕ, List, [], ◌∷◌, ◌++◌, length, map, ◌∙◌, subst, ap}
+use Rattle.std.proofs.lemmas.Result.{on_ok_weaker}
 use Rattle.ifmap_changes.specs.Between.{AreKept, so_far}
-use Rattle.ifmap_changes.proofs.Results.{at_err, where_ok}
 use Rattle.ifmap_changes.proofs.Spending.{ended_none, ended_within}
 use Rattle.ifmap_changes.proofs.Taken.{kept_itself, marked_state, ready_marked}
 use Rattle.ifmap_changes.proofs.changing.take_away_one.Goals as goal
 use Rattle.ifmap_graph.specs.Seen.{rows_now}
+use Rattle.ifmap_lemmas.specs.Results.{on_err}
 use Rattle.ifmap_machine.specs.Ending.{without_standing}
 use Rattle.ifmap_machine.specs.State.{State}
 use Rattle.ifmap_machine.specs.Telling.{overflow, tell}
 use Rattle.ifmap_publish.specs.declared.who.Who.TheVariants.{Sessions}
 use Rattle.ifmap_publish.specs.Retract.{retract}
 use Rattle.ifmap_standing.specs.declared.standing.Standing.{Standing}
-use Rattle.ifmap_standing.specs.Standing.{shown}
+use Rattle.ifmap_standing.specs.Standing.{standing_of}
 use Rattle.ifmap_tellings.specs.Tellings.{AllKept, kept_of}
 
 pub take_away-requires-clause-ready : goal.take_away-requires-clause-ready
 take_away-requires-clause-ready g c =
-    let marked = c.mark_session.new.pending in
+    let marked = c.flag_session.new.pending in
     ready_marked c.args.asking.now c.args.parts.now c.args.pending.now marked
-    (subst (λ (l : List Standing). length marked.gone.items ≡ length l) c.deref.ensures.value c.mark_session.ensures.flags)
-    c.mark_session.ensures.stay c.mark_session.ensures.tellings c.requires.ready
+    (subst (λ (l : List Standing). length marked.gone.items ≡ length l) c.deref.ensures.value c.flag_session.ensures.flags)
+    c.flag_session.ensures.stay c.flag_session.ensures.tellings c.requires.ready
 
 pub returns-clause-told : goal.returns-clause-told
 returns-clause-told g c =
-    let marked = c.mark_session.new.pending in
+    let marked = c.flag_session.new.pending in
     let rows = retract (Sessions (c.args.serial ∷ [])) (rows_now c.args.parts.now.graph) in
-    let left : map shown (kept_of marked.gone.items c.args.parts.now.standing.items)
-    ≡ without_standing (c.args.serial ∷ []) (map shown (kept_of c.args.pending.now.gone.items c.args.parts.now.standing.items)) =
-    subst (λ (l : List Standing). map shown (kept_of marked.gone.items l)
-    ≡ without_standing (c.args.serial ∷ []) (map shown (kept_of c.args.pending.now.gone.items l)))
-    c.deref.ensures.value c.mark_session.ensures.left in
+    let left : map standing_of (kept_of marked.gone.items c.args.parts.now.standing.items)
+    ≡ without_standing (c.args.serial ∷ []) (map standing_of (kept_of c.args.pending.now.gone.items c.args.parts.now.standing.items)) =
+    subst (λ (l : List Standing). map standing_of (kept_of marked.gone.items l)
+    ≡ without_standing (c.args.serial ∷ []) (map standing_of (kept_of c.args.pending.now.gone.items l)))
+    c.deref.ensures.value c.flag_session.ensures.left in
     let items : c.push.new.self.items ≡ c.args.serial ∷ [] =
     c.in_ok-push.ensures.items ∙ ap (λ (l : List ℕ). l ++ c.args.serial ∷ []) c.in_ok-serials.ensures.items in
-    where_ok c.take_away.result _ _ (λ e. e
+    on_ok_weaker c.take_away.result (λ e. e
     ∙ ap (λ (l : List ℕ). overflow (tell (retract (Sessions l) (rows_now c.args.parts.now.graph)) []
     (so_far c.args.asking.now c.args.parts.now marked))) items
     ∙ ap (λ (s : State). overflow (tell rows [] s))
     (marked_state (c.args.serial ∷ []) c.args.asking.now c.args.parts.now c.args.pending.now marked left
-    c.mark_session.ensures.tellings)) c.take_away.ensures.told
+    c.flag_session.ensures.tellings)) c.take_away.ensures.told
 
 pub returns-clause-bare : goal.returns-clause-bare
 returns-clause-bare g c =
-    where_ok c.take_away.result _ _ (λ f. f c.args.serial
-    (subst (λ (l : List Standing). AllKept (λ (x : Standing). x.serial ≢ c.args.serial) c.mark_session.new.pending.gone.items l)
-    c.deref.ensures.value c.mark_session.ensures.bare)) c.take_away.ensures.bare
+    on_ok_weaker c.take_away.result (λ f. f c.args.serial
+    (subst (λ (l : List Standing). AllKept (λ (x : Standing). x.serial ≢ c.args.serial) c.flag_session.new.pending.gone.items l)
+    c.deref.ensures.value c.flag_session.ensures.bare)) c.take_away.ensures.bare
 
 pub returns-in_err-serials-clause-kept : goal.returns-in_err-serials-clause-kept
 returns-in_err-serials-clause-kept g c =
-    at_err c.from_residual.result (AreKept c.args.parts.now c.args.parts.now) (kept_itself c.args.parts.now c.requires.steady)
+    on_err c.from_residual.result (AreKept c.args.parts.now c.args.parts.now) (kept_itself c.args.parts.now c.requires.steady)
 
 pub returns-in_err-serials-clause-steps : goal.returns-in_err-serials-clause-steps
 returns-in_err-serials-clause-steps g c =
@@ -55,14 +56,14 @@ returns-in_err-serials-clause-steps g c =
 
 pub returns-clause-steps : goal.returns-clause-steps
 returns-clause-steps g c =
-    let marked = c.mark_session.new.pending in
+    let marked = c.flag_session.new.pending in
     let a = c.args.asking.now in
     let parts = c.args.parts.now in
-    let left : map shown (kept_of marked.gone.items parts.standing.items)
-    ≡ without_standing (c.args.serial ∷ []) (map shown (kept_of c.args.pending.now.gone.items parts.standing.items)) =
-    subst (λ (l : List Standing). map shown (kept_of marked.gone.items l)
-    ≡ without_standing (c.args.serial ∷ []) (map shown (kept_of c.args.pending.now.gone.items l)))
-    c.deref.ensures.value c.mark_session.ensures.left in
+    let left : map standing_of (kept_of marked.gone.items parts.standing.items)
+    ≡ without_standing (c.args.serial ∷ []) (map standing_of (kept_of c.args.pending.now.gone.items parts.standing.items)) =
+    subst (λ (l : List Standing). map standing_of (kept_of marked.gone.items l)
+    ≡ without_standing (c.args.serial ∷ []) (map standing_of (kept_of c.args.pending.now.gone.items l)))
+    c.deref.ensures.value c.flag_session.ensures.left in
     let items : c.push.new.self.items ≡ c.args.serial ∷ [] =
     c.in_ok-push.ensures.items ∙ ap (λ (l : List ℕ). l ++ c.args.serial ∷ []) c.in_ok-serials.ensures.items in
     ended_within a parts c.args.pending.now marked c.args.serial c.push.new.self.items c.args.steps.now c.take_away.new.steps items left

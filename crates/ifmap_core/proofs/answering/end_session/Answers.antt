@@ -1,5 +1,5 @@
 use Rattle.std.proofs.Common.{refl}
-use Rattle.ifmap_changes.specs.Between.{left, so_far}
+use Rattle.ifmap_changes.specs.Between.{sessions_left, so_far}
 use Rattle.ifmap_core.proofs.Cases.{another, ends, leads_plain, live_after, nobody, own_left, owner_so_far}
 use Rattle.ifmap_core.proofs.Spending.{ends_none, ends_within}
 use Rattle.ifmap_core.proofs.answering.end_session.Goals as goal
@@ -17,7 +17,7 @@ returns-in_ok-take_away_one-in-Own-clause-leads g c =
     let pending = c.args.pending.now in
     let serial = c.in-Own.serial in
     let o = owner_so_far a parts pending c.args.id.now a.client (Own serial) c.in-Own.ensures in
-    let live = own_left (left a parts.sessions) c.args.id.now a.client serial c.in-Own.ensures in
+    let live = own_left (sessions_left a parts.sessions) c.args.id.now a.client serial c.in-Own.ensures in
     let e = c.in_ok-take_away_one-in-Own.ensures in
     leads_plain a c.take_away_one.new.parts c.take_away_one.new.pending e.steady e.ready
     (End serial (the_answer.Reply the_reply.Ended)) refl

@@ -1,4 +1,4 @@
-use Rattle.ifmap_changes.specs.Between.{left, so_far}
+use Rattle.ifmap_changes.specs.Between.{sessions_left, so_far}
 use Rattle.ifmap_core.proofs.Cases.{accepts, another, live_after, nobody, own_left, owner_so_far, publishes}
 use Rattle.ifmap_core.proofs.Spending.{publishes_none, publishes_within}
 use Rattle.ifmap_core.proofs.answering.publish.Goals as goal
@@ -15,7 +15,7 @@ returns-in_ok-publish-in-Own-clause-leads g c =
     let pending = c.args.pending.now in
     let serial = c.in-Own.serial in
     let o = owner_so_far a parts pending c.args.wish.now.id.now a.client (Own serial) c.in-Own.ensures in
-    let live = own_left (left a parts.sessions) c.args.wish.now.id.now a.client serial c.in-Own.ensures in
+    let live = own_left (sessions_left a parts.sessions) c.args.wish.now.id.now a.client serial c.in-Own.ensures in
     let e = c.in_ok-publish-in-Own.ensures in
     accepts a c.publish.new.parts c.publish.new.pending e.steady e.ready serial (the_answer.Reply the_reply.Published) _
     (live_after a serial parts.sessions c.publish.new.parts.sessions e.turned.sessions live)

@@ -5,7 +5,7 @@ use Rattle.ifmap_graph.specs.Seen.{rows_now}
 use Rattle.ifmap_machine.specs.Telling.{overflow, tell}
 use Rattle.ifmap_publish.specs.declared.who.Who.TheVariants.{Publisher}
 use Rattle.ifmap_publish.specs.Retract.{retract}
-use Rattle.ifmap_changes.specs.Between.{left, so_far}
+use Rattle.ifmap_changes.specs.Between.{sessions_left, so_far}
 use Rattle.ifmap_core.proofs.Cases.{accepts, another, live_after, nobody, own_left, owner_so_far, purges, purges_not, says}
 use Rattle.ifmap_core.proofs.Spending.{purges_none, purges_within}
 use Rattle.ifmap_core.proofs.answering.purge.Goals as goal
@@ -23,7 +23,7 @@ returns-in_ok-take_away-in-Own-clause-leads g c =
     let pending = c.args.pending.now in
     let serial = c.in-Own.serial in
     let o = owner_so_far a parts pending c.args.wish.now.id.now a.client (Own serial) c.in-Own.ensures in
-    let live = own_left (left a parts.sessions) c.args.wish.now.id.now a.client serial c.in-Own.ensures in
+    let live = own_left (sessions_left a parts.sessions) c.args.wish.now.id.now a.client serial c.in-Own.ensures in
     let e = c.in_ok-take_away-in-Own.ensures in
     accepts a c.take_away.new.parts c.take_away.new.pending e.steady e.ready serial (the_answer.Reply the_reply.Purged) _
     (live_after a serial parts.sessions c.take_away.new.parts.sessions e.turned.sessions live)
@@ -40,7 +40,7 @@ returns-then-not-equals-clause-leads g c =
     let pending = c.args.pending.now in
     let serial = c.in-Own.serial in
     let o = owner_so_far a parts pending c.args.wish.now.id.now a.client (Own serial) c.in-Own.ensures in
-    let live = own_left (left a parts.sessions) c.args.wish.now.id.now a.client serial c.in-Own.ensures in
+    let live = own_left (sessions_left a parts.sessions) c.args.wish.now.id.now a.client serial c.in-Own.ensures in
     says a parts pending c.requires.steady c.requires.ready (refusal AccessDenied) _
     (purges_not (so_far a parts pending) c.args.wish.now.id.now a.client serial o c.args.wish.now.asked.now
     (λ own. let bad : true ≡ false = sym (c.equals.ensures.1 (own ∙ sym (c.text.ensures.text

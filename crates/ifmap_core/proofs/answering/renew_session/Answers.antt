@@ -1,4 +1,4 @@
-use Rattle.ifmap_changes.specs.Between.{left, so_far}
+use Rattle.ifmap_changes.specs.Between.{sessions_left, so_far}
 use Rattle.ifmap_core.proofs.Cases.{accepts, another, nobody, own_left, owner_so_far, renews}
 use Rattle.ifmap_core.proofs.answering.renew_session.Goals as goal
 use Rattle.ifmap_core.specs.declared.owning.Owner.TheVariants.{Own}
@@ -13,7 +13,7 @@ returns-in-Own c =
     let pending = c.args.pending.now in
     let serial = c.in-Own.serial in
     accepts a parts pending c.requires.steady c.requires.ready serial (the_answer.Reply the_reply.Renewed) _
-    (own_left (left a parts.sessions) c.args.id.now a.client serial c.in-Own.ensures)
+    (own_left (sessions_left a parts.sessions) c.args.id.now a.client serial c.in-Own.ensures)
     (renews (so_far a parts pending) c.args.id.now a.client serial
     (owner_so_far a parts pending c.args.id.now a.client (Own serial) c.in-Own.ensures))
 

@@ -1,7 +1,7 @@
 use Rattle.std.proofs.Common.{◌≡◌, ◌<◌, inr, refl}
 use Rattle.ifmap_fresh.specs.Fresh.{fresh_size}
 use Rattle.ifmap_graph.specs.Seen.{rows_now}
-use Rattle.ifmap_changes.specs.Between.{left, sight_now, so_far}
+use Rattle.ifmap_changes.specs.Between.{sessions_left, sight_now, so_far}
 use Rattle.ifmap_core.proofs.Cases.{accepts, another, finds, finds_not, nobody, own_left, owner_so_far, says}
 use Rattle.ifmap_core.proofs.Spending.{finds_none, finds_within}
 use Rattle.ifmap_core.proofs.answering.run_search.Goals as goal
@@ -18,7 +18,7 @@ returns-in-Ok-clause-leads g c =
     let pending = c.args.pending.now in
     let serial = c.in-Own.serial in
     let o = owner_so_far a parts pending c.args.wish.now.id.now a.client (Own serial) c.in-Own.ensures in
-    let live = own_left (left a parts.sessions) c.args.wish.now.id.now a.client serial c.in-Own.ensures in
+    let live = own_left (sessions_left a parts.sessions) c.args.wish.now.id.now a.client serial c.in-Own.ensures in
     accepts a parts pending c.requires.steady c.requires.ready serial (the_answer.Reply (the_reply.Found c.in-Ok.found.entries)) _ live
     (finds (so_far a parts pending) c.args.wish.now.id.now a.client serial o c.args.wish.now.asked.now c.in-Ok.found.entries
     c.in-Ok.ensures.answer.0

@@ -1,11 +1,11 @@
 use Rattle.std.proofs.Common.{sym, ◌∙◌, ap, subst}
 use Rattle.ifmap_changes.specs.Between.{AreBack, state_at}
-use Rattle.ifmap_core.proofs.Exits.{on_err}
 use Rattle.ifmap_core.proofs.Expiring.{none_dropped, rises_not}
 use Rattle.ifmap_core.proofs.Spending.{ask_none}
 use Rattle.ifmap_core.proofs.Turned.{back_itself}
 use Rattle.ifmap_core.proofs.ending.answer_pending.Goals as goal
 use Rattle.ifmap_core.specs.Bounds.{IsAskWithin}
+use Rattle.ifmap_lemmas.specs.Results.{on_err}
 use Rattle.ifmap_machine.specs.State.{State}
 use Rattle.ifmap_machine.specs.Step.{step_ask}
 

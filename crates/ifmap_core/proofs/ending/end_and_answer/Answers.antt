@@ -1,11 +1,11 @@
 use Rattle.std.proofs.Common.{◌≡◌, sym, ◌∙◌, ap, subst, List, [], ℕ}
+use Rattle.std.proofs.lemmas.Result.{on_err_weaker, on_ok_weaker}
 use Rattle.std.specs.List.Sorted.{IsStrictlySortedBy}
 use Rattle.std.specs.Ordering.{nat_cmp}
 use Rattle.std.specs.Result.{IfOk}
 use Rattle.ifmap_changes.specs.Bounds.{IsTakenWithin}
 use Rattle.ifmap_changes.specs.Between.{AreBack, CanEnd, state_at}
 use Rattle.ifmap_core.proofs.Ended.{expired_end}
-use Rattle.ifmap_core.proofs.Exits.{on_err_as, on_ok}
 use Rattle.ifmap_core.proofs.Expiring.{expired_rise, expires_some}
 use Rattle.ifmap_core.proofs.Spending.{ask_none, event_expired, event_none}
 use Rattle.ifmap_core.proofs.ending.end_and_answer.Goals as goal
@@ -49,7 +49,7 @@ returns-clause-answer g c =
 pub returns-clause-kept : goal.returns-clause-kept
 returns-clause-kept g c =
     let old = c.args.parts.now in
-    on_err_as c.answer_ended.result _ (AreBack old c.answer_ended.new.parts)
+    on_err_weaker {Q = AreBack old c.answer_ended.new.parts} c.answer_ended.result
     (λ f. f old c.requires.parts c.in_ok-made.ensures.numbers c.in_ok-made.ensures.back) c.answer_ended.ensures.kept
 
 pub returns-in_err-serials-clause-steps : goal.returns-in_err-serials-clause-steps
@@ -103,4 +103,4 @@ returns-clause-steps g c =
 
 pub returns-clause-lean : goal.returns-clause-lean
 returns-clause-lean g c =
-    on_ok c.answer_ended.result _ _ (λ f. f c.args.parts.now c.in_ok-made.ensures.back) c.answer_ended.ensures.lean
+    on_ok_weaker c.answer_ended.result (λ f. f c.args.parts.now c.in_ok-made.ensures.back) c.answer_ended.ensures.lean

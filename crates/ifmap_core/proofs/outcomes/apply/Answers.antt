@@ -3,9 +3,9 @@ use Rattle.ifmap_changes.specs.Between.{AreWithin, AreOrdered}
 use Rattle.ifmap_core.specs.Outcomes.{CanApplyTo, WouldBeParts, after_outcome, held_by}
 use Rattle.ifmap_core.proofs.Applied.{accept_leaves, end_leaves, open_leaves, parts_moved, parts_renamed, poll_leaves, rename_leaves, say_leaves}
 use Rattle.ifmap_core.proofs.Applying.{former_ordered, live_begun, live_changed, live_first, ordered_beside, ordered_moved, within_begun, within_emptied, within_first, within_former, within_left, within_renewed, emptied_keeps}
-use Rattle.ifmap_core.proofs.Ended.{some_is}
 use Rattle.ifmap_core.proofs.outcomes.apply.Goals as goal
-use Rattle.ifmap_session.specs.Sessions.{begun, change, emptied, renewed, session_with_serial}
+use Rattle.ifmap_lemmas.specs.Options.{some_is}
+use Rattle.ifmap_session.specs.Sessions.{change, session_from, session_with_serial, with_last, without_items}
 use Rattle.ifmap_session.specs.laws.TableLaws.{renewed_keeps}
 
 pub returns-in-Say : goal.returns-in-Say
@@ -30,8 +30,9 @@ returns-in-Accept c =
           c.in-Accept.answer c.renew.new.self.live c.renew.ensures.changes.counter c.renew.ensures.changes.live;
       parts = parts_moved c.args.parts.now c.renew.new.self would
           (subst (λ l. AreOrdered l c.args.parts.now.standing.items) (sym c.renew.ensures.changes.live)
-          (ordered_moved c.args.parts.now.sessions.live (change c.in-Accept.serial (renewed c.args.moment) c.args.parts.now.sessions.live)
-          (λ m l. live_changed c.in-Accept.serial (renewed c.args.moment) (renewed_keeps c.args.moment) m c.args.parts.now.sessions.live l)
+          (ordered_moved c.args.parts.now.sessions.live (change c.in-Accept.serial (with_last c.args.moment) c.args.parts.now.sessions.live)
+          (λ m l. live_changed c.in-Accept.serial (with_last c.args.moment)
+          (renewed_keeps c.args.moment) m c.args.parts.now.sessions.live l)
           c.args.parts.now.standing.items would.ordered))
           (subst AreWithin (sym c.renew.ensures.changes.live)
           (within_renewed c.in-Accept.serial c.args.moment c.args.parts.now.sessions.live would.within));
@@ -76,7 +77,7 @@ returns-in-Open c =
       parts = parts_moved c.args.parts.now c.open-session.new.self would
           (subst (λ l. AreOrdered l c.args.parts.now.standing.items) (sym c.open-session.ensures.live)
           (ordered_moved c.end_former.new.sessions.live _
-          (λ m l. live_begun m c.end_former.new.sessions.live (begun c.in-Open.opening c.in-Open.limit c.args.moment) l)
+          (λ m l. live_begun m c.end_former.new.sessions.live (session_from c.in-Open.opening c.in-Open.limit c.args.moment) l)
           c.args.parts.now.standing.items ordered))
           (subst AreWithin (sym c.open-session.ensures.live)
           (within_begun c.in-Open.opening c.in-Open.limit c.args.moment c.end_former.new.sessions.live can.0.wide within));
@@ -107,7 +108,7 @@ returns-in-Rename c =
 pub returns-in-Poll : goal.returns-in-Poll
 returns-in-Poll c =
     let would = subst (λ o. WouldBeParts (held_by o) c.args.parts.now) c.in-Poll.is c.requires.parts in
-    let live = change c.in-Poll.serial emptied c.args.parts.now.sessions.live in
+    let live = change c.in-Poll.serial without_items c.args.parts.now.sessions.live in
     record {
       answer = λ state m s n t. ap (λ o. after_outcome o state) c.in-Poll.is
           ∙ poll_leaves state c.args.moment c.args.parts.now.sessions.counter
@@ -118,7 +119,7 @@ returns-in-Poll c =
           (subst (λ l. AreOrdered l c.args.parts.now.standing.items) (sym c.tell_queue.ensures.live)
           (ordered_moved c.args.parts.now.sessions.live _
           (λ m l. live_first c.in-Poll.again c.in-Poll.serial c.args.moment m live
-          (live_changed c.in-Poll.serial emptied emptied_keeps m c.args.parts.now.sessions.live l))
+          (live_changed c.in-Poll.serial without_items emptied_keeps m c.args.parts.now.sessions.live l))
           c.args.parts.now.standing.items would.ordered))
           (subst AreWithin (sym c.tell_queue.ensures.live) (within_first c.in-Poll.again c.in-Poll.serial c.args.moment live
           (within_emptied c.in-Poll.serial c.args.parts.now.sessions.live would.within)));

@@ -4,7 +4,7 @@ use Rattle.ifmap_core.proofs.Finishing.{can_apply, can_tell_rest, finished, woul
 use Rattle.ifmap_core.proofs.outcomes.finish.Goals as goal
 use Rattle.ifmap_core.specs.Outcomes.{held_by}
 use Rattle.ifmap_session.specs.Sessions.{IsLive, Table, spare_of, without_sessions}
-use Rattle.ifmap_standing.specs.Standing.{shown}
+use Rattle.ifmap_standing.specs.Standing.{standing_of}
 use Rattle.ifmap_tellings.specs.Tellings.{kept_of, told_by}
 
 pub tell_sessions-requires : goal.tell_sessions-requires
@@ -62,7 +62,7 @@ returns-clause-answer c =
     finished c.args.asking.now old c.apply.new.parts pending c.args.outcome c.apply.result
     (c.apply.ensures.rows ∙ c.remove_gone.ensures.rows) (c.apply.ensures.answer (so_far c.args.asking.now old pending)
     (sym (ap (λ (a : Asking). a.moment) c.asking.view_is)) (sym live)
-    (sym counter) (sym (ap (map shown) standing)))
+    (sym counter) (sym (ap (map standing_of) standing)))
 
 pub returns-clause-lean : goal.returns-clause-lean
 returns-clause-lean c = λ rest l. c.apply.ensures.lean rest (c.remove_gone.ensures.lean rest l)

@@ -1,11 +1,11 @@
 use Rattle.std.proofs.Common.{sym, ◌∙◌, ap, subst}
 use Rattle.ifmap_changes.specs.Between.{AreKept, IsSteady, so_far}
 use Rattle.ifmap_core.proofs.Cases.{accepts, live_after}
-use Rattle.ifmap_core.proofs.Exits.{on_err}
 use Rattle.ifmap_core.proofs.Subscribed.{overruns}
 use Rattle.ifmap_core.proofs.Turned.{kept_room}
 use Rattle.ifmap_core.proofs.subscribing.overrun.Goals as goal
 use Rattle.ifmap_core.specs.Outcomes.{alone_told}
+use Rattle.ifmap_lemmas.specs.Results.{on_err}
 use Rattle.ifmap_machine.specs.declared.events.Answer.TheVariants as the_answer
 use Rattle.ifmap_machine.specs.State.{State}
 use Rattle.ifmap_replies.specs.declared.replies.Reply.TheVariants as the_reply

@@ -1,7 +1,7 @@
 use Rattle.std.proofs.Common.{sym, ◌∙◌, ap}
+use Rattle.std.proofs.lemmas.Result.{on_err_weaker, on_ok_weaker}
 use Rattle.std.specs.Result.{IfOk}
 use Rattle.ifmap_changes.specs.Between.{AreKept, AreTurned}
-use Rattle.ifmap_core.proofs.Exits.{on_ok, on_err_as}
 use Rattle.ifmap_core.proofs.Subscribed.{holds_kept, holds_leads, holds_turned, told_is}
 use Rattle.ifmap_core.proofs.Turned.{turned_twice}
 use Rattle.ifmap_core.proofs.subscribing.subscribe_in.Goals as goal
@@ -24,12 +24,14 @@ returns-in-Ok-clause-leads g c = λ s e.
 
 pub returns-in-Ok-clause-turned : goal.returns-in-Ok-clause-turned
 returns-in-Ok-clause-turned g c =
-    on_ok c.accept_ops.result (AreTurned c.ready_ops.new.parts c.accept_ops.new.parts) (AreTurned c.args.parts.now c.accept_ops.new.parts)
+    on_ok_weaker {P = AreTurned c.ready_ops.new.parts c.accept_ops.new.parts}
+    {Q = AreTurned c.args.parts.now c.accept_ops.new.parts} c.accept_ops.result
     (turned_twice c.args.parts.now c.ready_ops.new.parts c.accept_ops.new.parts
     (holds_turned c.args.parts.now c.ready_ops.new.parts c.in-Ok.ensures.holds))
     c.accept_ops.ensures.turned
 
 pub returns-in-Ok-clause-kept : goal.returns-in-Ok-clause-kept
 returns-in-Ok-clause-kept g c =
-    on_err_as c.accept_ops.result (AreKept c.ready_ops.new.parts c.accept_ops.new.parts) (AreKept c.args.parts.now c.accept_ops.new.parts)
+    on_err_weaker {P = AreKept c.ready_ops.new.parts c.accept_ops.new.parts}
+    {Q = AreKept c.args.parts.now c.accept_ops.new.parts} c.accept_ops.result
     (holds_kept c.args.parts.now c.ready_ops.new.parts c.accept_ops.new.parts c.in-Ok.ensures.holds) c.accept_ops.ensures.kept

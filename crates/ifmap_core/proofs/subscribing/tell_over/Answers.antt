@@ -12,19 +12,19 @@ pub returns-clause-told : goal.returns-clause-told
 returns-clause-told c =
     let old = c.args.parts.now in
     alone_so_far c.args.asking.now old (record { graph = old.graph; sessions = c.tell_alone.new.sessions; standing = old.standing })
-    c.args.pending.now c.mark_session.new.pending c.args.serial c.args.size c.is_table.ensures.rising c.requires.live refl refl
+    c.args.pending.now c.flag_session.new.pending c.args.serial c.args.size c.is_table.ensures.rising c.requires.live refl refl
     c.tell_alone.ensures.same
-    (λ s found. ap (λ m. get nat_cmp m c.args.serial) c.mark_session.ensures.tellings ∙ c.in_ok-tell_alone.ensures.told s found)
-    (λ n other. ap (λ m. get nat_cmp m n) c.mark_session.ensures.tellings ∙ c.in_ok-tell_alone.ensures.others n other)
-    (rw (← c.deref.ensures.value) c.mark_session.ensures.left)
+    (λ s found. ap (λ m. get nat_cmp m c.args.serial) c.flag_session.ensures.tellings ∙ c.in_ok-tell_alone.ensures.told s found)
+    (λ n other. ap (λ m. get nat_cmp m n) c.flag_session.ensures.tellings ∙ c.in_ok-tell_alone.ensures.others n other)
+    (rw (← c.deref.ensures.value) c.flag_session.ensures.left)
 
 pub returns-clause-ready : goal.returns-clause-ready
 returns-clause-ready c =
     let old = c.args.parts.now in
     alone_ready c.args.asking.now old (record { graph = old.graph; sessions = c.tell_alone.new.sessions; standing = old.standing })
-    c.args.pending.now c.mark_session.new.pending c.args.serial c.args.size c.is_table.ensures.rising c.requires.live refl refl
+    c.args.pending.now c.flag_session.new.pending c.args.serial c.args.size c.is_table.ensures.rising c.requires.live refl refl
     c.tell_alone.ensures.same
-    (λ s found. ap (λ m. get nat_cmp m c.args.serial) c.mark_session.ensures.tellings ∙ c.in_ok-tell_alone.ensures.told s found)
-    (λ n other. ap (λ m. get nat_cmp m n) c.mark_session.ensures.tellings ∙ c.in_ok-tell_alone.ensures.others n other)
-    c.requires.ready (rw (← c.deref.ensures.value) c.mark_session.ensures.flags) c.mark_session.ensures.stay
-    (rw (← c.deref.ensures.value) c.mark_session.ensures.bare) c.in_ok-tell_alone.ensures.room
+    (λ s found. ap (λ m. get nat_cmp m c.args.serial) c.flag_session.ensures.tellings ∙ c.in_ok-tell_alone.ensures.told s found)
+    (λ n other. ap (λ m. get nat_cmp m n) c.flag_session.ensures.tellings ∙ c.in_ok-tell_alone.ensures.others n other)
+    c.requires.ready (rw (← c.deref.ensures.value) c.flag_session.ensures.flags) c.flag_session.ensures.stay
+    (rw (← c.deref.ensures.value) c.flag_session.ensures.bare) c.in_ok-tell_alone.ensures.room

@@ -4,12 +4,13 @@ use Rattle.ifmap_delta.specs.Sights.{sight_of}
 use Rattle.ifmap_delta.specs.Ways.{HasSameSearch}
 use Rattle.std.specs.List.{AllByRecursion, zip}
 use Rattle.ifmap_ident.specs.Items.{IsCanonItem}
+use Rattle.ifmap_lemmas.specs.Results.{on_err}
 use Rattle.ifmap_plans.specs.declared.plans.Plan.{Plan}
 use Rattle.ifmap_standing.specs.Kept.{AtEach, KeepsSame, Stands}
 use Rattle.ifmap_standing.specs.News.{news_of_each}
-use Rattle.ifmap_standing.specs.Standing.{shown}
+use Rattle.ifmap_standing.specs.Standing.{standing_of}
 use Rattle.ifmap_standing.proofs.Places.{keeps_itself, same_search}
-use Rattle.ifmap_standing.proofs.Stages.{keep_searches, lead_searches, on_err, stands_itself, within_none}
+use Rattle.ifmap_standing.proofs.Stages.{keep_searches, lead_searches, stands_itself, within_none}
 use Rattle.ifmap_standing.proofs.changing.tell_change.Goals as goal
 
 pub returns-in_err-with_capacity-clause-same : goal.returns-in_err-with_capacity-clause-same
@@ -84,4 +85,4 @@ returns-in-Ok-clause-news g c =
     let a = g.G.View.rows c.args.change.now.graph.now
     in let b = g.D.View.rows c.args.change.now.draft.now
     in c.in-Ok.ensures.news
-    ∙ ap (λ (p : Plan). news_of_each a b p.notes c.args.skipped.now (map shown c.args.standing.now)) c.in_ok-located.ensures.plan
+    ∙ ap (λ (p : Plan). news_of_each a b p.notes c.args.skipped.now (map standing_of c.args.standing.now)) c.in_ok-located.ensures.plan

@@ -3,7 +3,7 @@ use Rattle.std.specs.Prelude.{IfOk}
 use Rattle.ifmap_delta.specs.Sights.{sight_of}
 use Rattle.ifmap_standing.specs.Bounds.{IsWithinWhere}
 use Rattle.ifmap_standing.specs.News.{news_where}
-use Rattle.ifmap_standing.specs.Standing.{shown}
+use Rattle.ifmap_standing.specs.Standing.{standing_of}
 use Rattle.ifmap_standing.proofs.Places.{keeps_itself}
 use Rattle.ifmap_standing.proofs.Stages.{where_none}
 use Rattle.ifmap_standing.proofs.changing.tell_where.Goals as goal
@@ -33,4 +33,4 @@ returns-clause-news g c =
     let a = g.G.View.rows c.args.change.now.graph.now
     in let b = g.D.View.rows c.args.change.now.draft.now
     in subst (λ skip. IfOk c.tell_one.result (λ told. told.news ≡ news_where a b c.args.change.now.located.plan.now.notes skip
-    (shown c.args.standing.now))) (sym c.if-is_skipped.false) c.tell_one.ensures.news
+    (standing_of c.args.standing.now))) (sym c.if-is_skipped.false) c.tell_one.ensures.news

@@ -1,5 +1,5 @@
 use Rattle.std.proofs.Common.{◌≡◌, ◌∙◌, ap, sym, false, filter}
-use Rattle.ifmap_changes.specs.Between.{IsWithin, left}
+use Rattle.ifmap_changes.specs.Between.{IsWithin, sessions_left}
 use Rattle.ifmap_lemmas.specs.Filters.{all_weaker}
 use Rattle.ifmap_machine.specs.Telling.{is_overfull}
 use Rattle.ifmap_search.specs.Sizes.{queue_size}
@@ -7,20 +7,20 @@ use Rattle.ifmap_session.specs.Sessions.{Session, is_named}
 use Rattle.ifmap_subscribes.proofs.ToldSizes.{found_before, found_left, live_before}
 use Rattle.ifmap_subscribes.proofs.names.name_before.Goals as goal
 
-pub size_told-requires-clause-live : goal.size_told-requires-clause-live
-size_told-requires-clause-live c =
+pub told_size-requires-clause-live : goal.told_size-requires-clause-live
+told_size-requires-clause-live c =
     live_before c.args.asking.now.ended c.args.serial c.args.parts.now.sessions.live c.requires.live
 
-pub size_told-requires-clause-within : goal.size_told-requires-clause-within
-size_told-requires-clause-within c =
+pub told_size-requires-clause-within : goal.told_size-requires-clause-within
+told_size-requires-clause-within c =
     all_weaker IsWithin (λ (s : Session). is_overfull s ≡ false) (λ s w. w.full) c.args.parts.now.sessions.live c.requires.ready.queues
 
 pub returns : goal.returns
 returns c = λ s e.
     let before =
-    found_before c.args.pending.now.tellings c.args.serial (left c.args.asking.now c.args.parts.now.sessions) s e in
+    found_before c.args.pending.now.tellings c.args.serial (sessions_left c.args.asking.now c.args.parts.now.sessions) s e in
     let there = found_left c.args.asking.now.ended c.args.serial c.args.parts.now.sessions.live before.0 before.1 in record {
       stands = rw (c.deref.ensures.value, c.deref-2.ensures.value) at c.is_standing.ensures;
-      size = c.size_told.ensures before.0 there
+      size = c.told_size.ensures before.0 there
           ∙ ap (λ (t : Session). queue_size (filter (is_named c.args.name.now) t.queue)) (sym before.2);
     }

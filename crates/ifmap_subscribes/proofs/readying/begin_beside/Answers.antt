@@ -1,9 +1,10 @@
 use Rattle.std.proofs.Common.{◌++◌, ◌∷◌, [], List, option_to_list}
+use Rattle.std.proofs.lemmas.Result.{on_err_weaker}
 use Rattle.std.specs.List.{AllByRecursion}
 use Rattle.ifmap_changes.specs.Between.{IsSteady, sight_now}
 use Rattle.ifmap_delta.specs.Sights.{IsKept}
 use Rattle.ifmap_standing.specs.declared.standing.Standing.{Standing}
-use Rattle.ifmap_subscribes.proofs.Ready.{few_own, if_ok, on_err, stand_more, stand_still, stays_ready}
+use Rattle.ifmap_subscribes.proofs.Ready.{few_own, if_ok, stand_more, stand_still, stays_ready}
 use Rattle.ifmap_subscribes.specs.Readying.{CanStand}
 use Rattle.ifmap_subscribes.specs.Renamings.{IsOfSession, begun_by}
 use Rattle.ifmap_subscribes.proofs.readying.begin_beside.Goals as goal
@@ -34,10 +35,10 @@ returns-clause-err g c =
     let n = c.args.scene.now.serial in
     let h = c.begin_name-begun.new.graph in
     let e = c.begin_name-begun.ensures in
-    on_err ((standing : List Standing) → IsSteady p.graph standing → IsSteady h standing) (CanStand n (record p { graph = h }) made)
-    c.begin_name-begun.result e.err
+    on_err_weaker {P = (standing : List Standing) → IsSteady p.graph standing → IsSteady h standing}
+    {Q = CanStand n (record p { graph = h }) made} c.begin_name-begun.result
     (λ steady. stand_still c.same_links_keep_subscriptions.ensures n p h made c.is_view.ensures c.is_view-2.ensures e.holds
-    c.requires.stand (steady (p.standing.items ++ begun_by made) c.requires.stand.steady))
+    c.requires.stand (steady (p.standing.items ++ begun_by made) c.requires.stand.steady)) e.err
 
 pub returns-clause-ready : goal.returns-clause-ready
 returns-clause-ready g c =

@@ -1,9 +1,10 @@
 use Rattle.std.proofs.Common.{◌≡◌, ◌∙◌, ◌∷◌, ◌++◌, Some, subst, sym, ap, slice_get}
 use Rattle.std.proofs.lemmas.Option.{get_or_from_slice_get}
 use Rattle.ifmap_changes.specs.Between.{IsSteady}
+use Rattle.ifmap_lemmas.specs.Filters.{none_dropped}
 use Rattle.ifmap_machine.specs.Subscribing.{is_of_name}
-use Rattle.ifmap_standing.specs.Standing.{shown}
-use Rattle.ifmap_subscribes.proofs.RenamingPlaces.{cut_at, none_removed, removed_named}
+use Rattle.ifmap_standing.specs.Standing.{standing_of}
+use Rattle.ifmap_subscribes.proofs.RenamingPlaces.{cut_at, removed_named}
 use Rattle.ifmap_subscribes.proofs.RenamingStarts.{steady_without}
 use Rattle.ifmap_subscribes.proofs.renamings.drop_standing.Goals as goal
 
@@ -40,5 +41,5 @@ returns-in-Ok-clause-steady c = λ more steady.
 
 pub returns-in_default-clause-standing : goal.returns-in_default-clause-standing
 returns-in_default-clause-standing c =
-    none_removed (λ x. is_of_name c.args.serial c.args.name.now (shown x)) c.args.standing.now.items
+    none_dropped (λ x. is_of_name c.args.serial c.args.name.now (standing_of x)) c.args.standing.now.items
     (rw c.deref.ensures.value at c.in_default.ensures.only)

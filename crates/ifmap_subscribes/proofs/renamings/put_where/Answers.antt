@@ -1,16 +1,17 @@
 use Rattle.std.proofs.Common.{◌≡◌, false, subst, sym, rules, IfSome}
 use Rattle.std.specs.List.{insert, list_any}
 use Rattle.ifmap_machine.specs.Subscribing.{is_of_name}
-use Rattle.ifmap_standing.specs.Standing.{shown}
+use Rattle.ifmap_standing.specs.Standing.{standing_of}
 use Rattle.ifmap_subscribes.specs.Renamings.{StandsAmong}
 use Rattle.ifmap_subscribes.proofs.RenamingPlaces.{not_found, put_at}
 use Rattle.ifmap_subscribes.proofs.renamings.put_where.Goals as goal
 
 pub unwrap_err-place-requires : goal.unwrap_err-place-requires
 unwrap_err-place-requires c =
-    let free : IfSome (c.args.begun) (λ x. list_any (λ other. is_of_name x.serial x.name (shown other)) c.args.standing.now.items ≡ false) =
+    let free : IfSome (c.args.begun) (λ x. list_any (λ other. is_of_name x.serial x.name (standing_of other)) c.args.standing.now.items
+    ≡ false) =
     c.requires.free in
-    not_found (λ x. is_of_name c.in-Some.begun.serial c.in-Some.begun.name (shown x)) c.args.standing.now.items c.place_of_name.result
+    not_found (λ x. is_of_name c.in-Some.begun.serial c.in-Some.begun.name (standing_of x)) c.args.standing.now.items c.place_of_name.result
     (rw c.deref.ensures.value at c.place_of_name.ensures.found) (rw c.in-Some.is at free)
 
 pub returns-in-Some-clause-among : goal.returns-in-Some-clause-among

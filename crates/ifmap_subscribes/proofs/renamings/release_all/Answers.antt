@@ -1,6 +1,7 @@
 use Rattle.std.proofs.Common.{◌∙◌, arith}
+use Rattle.std.proofs.lemmas.List.{nil_from_length}
 use Rattle.std.specs.Vec.Iter.{into_iter_items}
-use Rattle.ifmap_subscribes.proofs.RenamingStarts.{can_go_on, no_item, releases_all, releases_more, releases_none}
+use Rattle.ifmap_subscribes.proofs.RenamingStarts.{can_go_on, releases_all, releases_more, releases_none}
 use Rattle.ifmap_subscribes.proofs.renamings.release_all.Goals as goal
 
 pub loop-renaming-init : goal.loop-renaming-init
@@ -28,7 +29,7 @@ loop-renaming-preserved-in-Some c =
 pub returns-clause-steady : goal.returns-clause-steady
 returns-clause-steady c =
     releases_all c.args.renamings c.args.graph.now c.loop-renaming.graph (into_iter_items c.loop-renaming.renaming-iterator)
-    c.loop-renaming.invariant (no_item (into_iter_items c.loop-renaming.renaming-iterator)
+    c.loop-renaming.invariant (nil_from_length (into_iter_items c.loop-renaming.renaming-iterator)
     (omega (arith, c.loop-renaming.renaming-iterator.rest.ok.0, c.in-None.ensures.steps.0)))
 
 pub returns-clause-rows : goal.returns-clause-rows

@@ -1,6 +1,6 @@
 use Rattle.std.proofs.Common.{◌∙◌, arith}
+use Rattle.std.proofs.lemmas.List.{nil_from_length}
 use Rattle.std.specs.Vec.Iter.{into_iter_items}
-use Rattle.ifmap_subscribes.proofs.RenamingStarts.{no_item}
 use Rattle.ifmap_subscribes.proofs.RenamingTold.{can_rename, renames_all, renames_can, renames_more, renames_none}
 use Rattle.ifmap_subscribes.proofs.renamings.rename_each.Goals as goal
 
@@ -24,11 +24,11 @@ loop-renaming-preserved c =
 pub returns-clause-renamed : goal.returns-clause-renamed
 returns-clause-renamed c =
     renames_all c.args.serial c.args.renamings c.args.parts.now c.loop-renaming.parts (into_iter_items c.loop-renaming.renaming-iterator)
-    c.loop-renaming.invariant (no_item (into_iter_items c.loop-renaming.renaming-iterator)
+    c.loop-renaming.invariant (nil_from_length (into_iter_items c.loop-renaming.renaming-iterator)
     (omega (arith, c.loop-renaming.renaming-iterator.rest.ok.0, c.in-None.ensures.steps.0))) c.is_table.ensures.rising
 
 pub returns-clause-rest : goal.returns-clause-rest
 returns-clause-rest c =
     renames_can c.args.serial c.args.renamings c.args.parts.now c.loop-renaming.parts (into_iter_items c.loop-renaming.renaming-iterator)
-    c.loop-renaming.invariant (no_item (into_iter_items c.loop-renaming.renaming-iterator)
+    c.loop-renaming.invariant (nil_from_length (into_iter_items c.loop-renaming.renaming-iterator)
     (omega (arith, c.loop-renaming.renaming-iterator.rest.ok.0, c.in-None.ensures.steps.0)))

@@ -1,15 +1,16 @@
 use Rattle.std.proofs.Common.{List, inl, arith}
 use Rattle.ifmap_changes.specs.Between.{IsSteady}
 use Rattle.ifmap_graph.specs.Seen.{rows_now}
+use Rattle.ifmap_lemmas.specs.Results.{on_err}
 use Rattle.ifmap_standing.specs.declared.standing.Standing.{Standing}
 use Rattle.ifmap_subscribes.proofs.Spending.{spanned_as}
-use Rattle.ifmap_subscribes.proofs.Starts.{ends_steady, held_alone, held_and_let_go, held_steady, on_error, unheld_steady}
+use Rattle.ifmap_subscribes.proofs.Starts.{ends_steady, held_alone, held_and_let_go, held_steady, unheld_steady}
 use Rattle.ifmap_subscribes.proofs.starting.begin_name.Goals as goal
 
 pub returns-in_err-number-clause-err : goal.returns-in_err-number-clause-err
 returns-in_err-number-clause-err g c =
     let h = c.in_err-number.ensures in
-    on_error c.from_residual.result ((standing : List Standing) → IsSteady c.args.graph.now standing → IsSteady c.hold.new.self standing)
+    on_err c.from_residual.result ((standing : List Standing) → IsSteady c.args.graph.now standing → IsSteady c.hold.new.self standing)
     (λ standing was. unheld_steady c.args.graph.now c.hold.new.self standing was h.shelves h.still h.kept h.err)
 
 pub release_unused-requires : goal.release_unused-requires

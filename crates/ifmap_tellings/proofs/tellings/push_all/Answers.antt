@@ -1,6 +1,7 @@
 use Rattle.std.proofs.Common.{◌∙◌, arith}
+use Rattle.std.proofs.lemmas.List.{nil_from_length}
 use Rattle.std.specs.Vec.Iter.{into_iter_items}
-use Rattle.ifmap_tellings.proofs.Queuing.{no_item, push_fits, pushes_all, pushes_more, pushes_none, pushes_spare}
+use Rattle.ifmap_tellings.proofs.Queuing.{push_fits, pushes_all, pushes_more, pushes_none, pushes_spare}
 use Rattle.ifmap_tellings.proofs.tellings.push_all.Goals as goal
 
 pub loop-item-init : goal.loop-item-init
@@ -24,14 +25,14 @@ loop-item-preserved c =
 
 pub returns-clause-changes : goal.returns-clause-changes
 returns-clause-changes c =
-    let none = no_item (into_iter_items c.loop-item.item-iterator)
+    let none = nil_from_length (into_iter_items c.loop-item.item-iterator)
     (omega (arith, c.loop-item.item-iterator.rest.ok.0, c.in-None.ensures.steps.0)) in
     pushes_all c.args.serial c.args.items c.args.sessions.now c.loop-item.sessions (into_iter_items c.loop-item.item-iterator)
     c.loop-item.invariant none
 
 pub returns-clause-spare : goal.returns-clause-spare
 returns-clause-spare c =
-    let none = no_item (into_iter_items c.loop-item.item-iterator)
+    let none = nil_from_length (into_iter_items c.loop-item.item-iterator)
     (omega (arith, c.loop-item.item-iterator.rest.ok.0, c.in-None.ensures.steps.0)) in
     pushes_spare c.args.serial c.args.items c.args.sessions.now c.loop-item.sessions (into_iter_items c.loop-item.item-iterator)
     c.loop-item.invariant none

@@ -3,12 +3,12 @@ use Rattle.std.proofs.lemmas.Grind.{common_steps}
 use Rattle.ifmap_core.specs.Bounds.{IsEventWithin}
 use Rattle.ifmap_core.specs.Causes.{AsksForNoneLeft, FindsTooMuch, HasNoRoomForName, IsLoss, IsRefusal, NamesAnothersSession, NamesNoSession, PollsNoSession, PollsNothing, PurgesAnother, state_for}
 use Rattle.ifmap_core.proofs.Answered.{heard, held, told_end}
-use Rattle.ifmap_core.proofs.Exits.{on_err}
 use Rattle.ifmap_core.proofs.Turned.{back_state}
 use Rattle.ifmap_core.proofs.Refusals.{access_denied, invalid_session, refusal_leaves, system_error, too_big}
 use Rattle.ifmap_core.proofs.Spending.{at_moment}
 use Rattle.ifmap_core.proofs.machine.Core.step.Goals as goal
 use Rattle.ifmap_ident.specs.declared.codes.Code.TheVariants.{AccessDenied, InvalidSessionID, SearchResultsTooBig, SystemError}
+use Rattle.ifmap_lemmas.specs.Results.{on_err}
 use Rattle.ifmap_machine.specs.declared.events.Answer.{Answer}
 use Rattle.ifmap_machine.specs.declared.events.Answer.TheVariants as the_answer
 use Rattle.ifmap_machine.specs.Events.{Event}

@@ -1,5 +1,5 @@
 use Rattle.std.proofs.Common.{◌≡◌, refl, sym, ◌∙◌, ap, subst, ◌+◌, ◌≤◌, length, arith}
-use Rattle.ifmap_session.specs.Sessions.{Session, overflowed}
+use Rattle.ifmap_session.specs.Sessions.{Session, with_error}
 use Rattle.ifmap_session.proofs.KeptLaws.{kept_queue, queue_overflowed, rewritten}
 use Rattle.ifmap_session.proofs.RowLaws.{found, spare_found}
 use Rattle.ifmap_session.proofs.sessions.Sessions.overflow.Goals as goal
@@ -22,14 +22,14 @@ overflow_at-requires c =
 pub invariant_of-self : goal.invariant_of-self
 invariant_of-self c =
     let got = rw c.deref.ensures.value at c.place_in-place.ensures in
-    kept_queue c.self.invariant c.args.serial c.place_in-place.result got.0 got.1 c.overflow_at.new.rows.items (overflowed c.args.error)
+    kept_queue c.self.invariant c.args.serial c.place_in-place.result got.0 got.1 c.overflow_at.new.rows.items (with_error c.args.error)
     (λ a b. b.spare + 1 ≡ a.spare + length a.session.queue) (queue_overflowed c.args.error) c.overflow_at.ensures.rows
 
 pub returns-clause-changes : goal.returns-clause-changes
 returns-clause-changes c =
     let got = rw c.deref.ensures.value at c.place_in-place.ensures in
     let r = rewritten c.self.invariant c.args.serial c.place_in-place.result got.0 got.1 c.overflow_at.new.rows.items
-    (overflowed c.args.error) (λ a b. b.spare + 1 ≡ a.spare + length a.session.queue)
+    (with_error c.args.error) (λ a b. b.spare + 1 ≡ a.spare + length a.session.queue)
     (queue_overflowed c.args.error).names c.overflow_at.ensures.rows in
     rw (← c.self.view_is) (record {
       live = r.live;
@@ -42,7 +42,7 @@ pub returns-clause-spare : goal.returns-clause-spare
 returns-clause-spare c = λ s is.
     let got = rw c.deref.ensures.value at c.place_in-place.ensures in
     let r = rewritten c.self.invariant c.args.serial c.place_in-place.result got.0 got.1 c.overflow_at.new.rows.items
-    (overflowed c.args.error) (λ a b. b.spare + 1 ≡ a.spare + length a.session.queue)
+    (with_error c.args.error) (λ a b. b.spare + 1 ≡ a.spare + length a.session.queue)
     (queue_overflowed c.args.error).names c.overflow_at.ensures.rows in
     let same : r.before.session ≡ s = cc (sym r.there ∙ (rw (← c.self.view_is) at is)) in
     let long : length r.before.session.queue ≡ length s.queue = ap (λ (t : Session). length t.queue) same in

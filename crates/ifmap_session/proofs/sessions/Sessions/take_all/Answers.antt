@@ -1,5 +1,5 @@
 use Rattle.std.proofs.Common.{◌≡◌, refl, ◌∙◌, sym, ap, arith}
-use Rattle.ifmap_session.specs.Sessions.{Session, emptied}
+use Rattle.ifmap_session.specs.Sessions.{Session, without_items}
 use Rattle.ifmap_session.proofs.KeptLaws.{kept_queue, queue_emptied, rewritten}
 use Rattle.ifmap_session.proofs.sessions.Sessions.take_all.Goals as goal
 
@@ -11,14 +11,14 @@ take_all_at-requires c =
 pub invariant_of-self : goal.invariant_of-self
 invariant_of-self c =
     let got = rw c.deref.ensures.value at c.place_in-place.ensures in
-    kept_queue c.self.invariant c.args.serial c.place_in-place.result got.0 got.1 c.take_all_at.new.rows.items (emptied)
+    kept_queue c.self.invariant c.args.serial c.place_in-place.result got.0 got.1 c.take_all_at.new.rows.items (without_items)
     (λ a b. (b.spare ≡ 0) × (c.take_all_at.result ≡ a.session.queue)) queue_emptied c.take_all_at.ensures.rows
 
 pub returns-clause-changes : goal.returns-clause-changes
 returns-clause-changes c =
     let got = rw c.deref.ensures.value at c.place_in-place.ensures in
     let r = rewritten c.self.invariant c.args.serial c.place_in-place.result got.0 got.1 c.take_all_at.new.rows.items
-    (emptied) (λ a b. (b.spare ≡ 0) × (c.take_all_at.result ≡ a.session.queue))
+    (without_items) (λ a b. (b.spare ≡ 0) × (c.take_all_at.result ≡ a.session.queue))
     queue_emptied.names c.take_all_at.ensures.rows in
     rw (← c.self.view_is) (record {
       live = r.live;
@@ -31,7 +31,7 @@ pub returns-clause-items : goal.returns-clause-items
 returns-clause-items c = λ s is.
     let got = rw c.deref.ensures.value at c.place_in-place.ensures in
     let r = rewritten c.self.invariant c.args.serial c.place_in-place.result got.0 got.1 c.take_all_at.new.rows.items
-    (emptied) (λ a b. (b.spare ≡ 0) × (c.take_all_at.result ≡ a.session.queue))
+    (without_items) (λ a b. (b.spare ≡ 0) × (c.take_all_at.result ≡ a.session.queue))
     queue_emptied.names c.take_all_at.ensures.rows in
     let same : r.before.session ≡ s = cc (sym r.there ∙ (rw (← c.self.view_is) at is)) in
     r.holds.1 ∙ ap (λ (t : Session). t.queue) same
@@ -40,6 +40,6 @@ pub returns-clause-spare : goal.returns-clause-spare
 returns-clause-spare c =
     let got = rw c.deref.ensures.value at c.place_in-place.ensures in
     let r = rewritten c.self.invariant c.args.serial c.place_in-place.result got.0 got.1 c.take_all_at.new.rows.items
-    (emptied) (λ a b. (b.spare ≡ 0) × (c.take_all_at.result ≡ a.session.queue))
+    (without_items) (λ a b. (b.spare ≡ 0) × (c.take_all_at.result ≡ a.session.queue))
     queue_emptied.names c.take_all_at.ensures.rows in
     r.is ∙ r.holds.0

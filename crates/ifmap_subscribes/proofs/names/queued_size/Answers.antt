@@ -2,7 +2,7 @@ use Rattle.std.proofs.Common.{◌∙◌, arith, ◌^◌, ◌-◌, ◌<◌, filte
 use Rattle.ifmap_search.specs.Sizes.{queue_size}
 use Rattle.ifmap_session.specs.Sessions.{is_named}
 use Rattle.ifmap_subscribes.proofs.ToldSizes.{exact, part_within, queue_few}
-use Rattle.ifmap_subscribes.proofs.names.size_queued.Goals as goal
+use Rattle.ifmap_subscribes.proofs.names.queued_size.Goals as goal
 
 pub returns : goal.returns
 returns c = λ s e.

@@ -1,25 +1,25 @@
 use Rattle.std.proofs.Common.{◌≡◌, false, ap, length, map, slice_get, ◌∙◌, sym, subst}
 use Rattle.ifmap_changes.proofs.Marking.{as_many, is_of, left_without, none_of_them, still_set}
-use Rattle.ifmap_changes.proofs.changes.mark_sessions.Goals as goal
+use Rattle.ifmap_changes.proofs.changes.flag_sessions.Goals as goal
 use Rattle.ifmap_standing.specs.declared.standing.Standing.{Standing}
-use Rattle.ifmap_standing.specs.Standing.{shown}
+use Rattle.ifmap_standing.specs.Standing.{standing_of}
 use Rattle.ifmap_tellings.specs.Tellings.{AllKept, kept_of}
 
 pub returns-clause-flags : goal.returns-clause-flags
 returns-clause-flags c =
-    ap length c.mark_flags.ensures ∙ as_many c.args.serials.now c.args.pending.now.gone.items c.args.standing.now c.requires.flags
+    ap length c.set_flags.ensures ∙ as_many c.args.serials.now c.args.pending.now.gone.items c.args.standing.now c.requires.flags
 
 pub returns-clause-left : goal.returns-clause-left
 returns-clause-left c =
-    ap (λ gone. map shown (kept_of gone c.args.standing.now)) c.mark_flags.ensures
+    ap (λ gone. map standing_of (kept_of gone c.args.standing.now)) c.set_flags.ensures
     ∙ left_without c.args.serials.now c.args.pending.now.gone.items c.args.standing.now
 
 pub returns-clause-stay : goal.returns-clause-stay
 returns-clause-stay c = λ i set.
-    ap (λ gone. slice_get gone i) c.mark_flags.ensures
+    ap (λ gone. slice_get gone i) c.set_flags.ensures
     ∙ still_set c.args.serials.now c.args.pending.now.gone.items c.args.standing.now c.requires.flags i set
 
 pub returns-clause-bare : goal.returns-clause-bare
 returns-clause-bare c =
-    subst (λ gone. AllKept (λ (x : Standing). is_of c.args.serials.now x ≡ false) gone c.args.standing.now) (sym c.mark_flags.ensures)
+    subst (λ gone. AllKept (λ (x : Standing). is_of c.args.serials.now x ≡ false) gone c.args.standing.now) (sym c.set_flags.ensures)
     (none_of_them c.args.serials.now c.args.pending.now.gone.items c.args.standing.now)

@@ -3,11 +3,11 @@ use Rattle.ifmap_search.specs.Sizes.{queue_size}
 use Rattle.ifmap_session.specs.Sessions.{Session, is_named}
 use Rattle.ifmap_tellings.specs.declared.tellings.Telling.TheVariants.{After, Alone}
 use Rattle.ifmap_subscribes.proofs.ToldSizes.{after_of_name, alone_of_name, none_told}
-use Rattle.ifmap_subscribes.proofs.names.size_told.Goals as goal
+use Rattle.ifmap_subscribes.proofs.names.told_size.Goals as goal
 
 pub returns-in-None : goal.returns-in-None
 returns-in-None c = λ s e.
-    c.size_queued.ensures s e
+    c.queued_size.ensures s e
     ∙ ap (λ (t : Session). queue_size (filter (is_named c.args.name.now) t.queue))
     (sym (none_told c.args.tellings.now c.args.serial c.args.sessions.now.live s e (sym c.in-None.ensures.value)))
 
@@ -17,8 +17,8 @@ returns-in-Some-After c = λ s e.
     let items = c.in-Some-After.items in
     let size = c.in-Some-After.field-0-1 in
     after_of_name c.args.tellings.now c.args.serial c.args.sessions.now.live s e items size there
-    (c.requires.sized c.args.serial (After items size) there) c.args.name.now c.size_queued-queued.result c.named_size.result
-    (c.size_queued-queued.ensures s e) (rw c.as_slice.ensures at c.named_size.ensures)
+    (c.requires.sized c.args.serial (After items size) there) c.args.name.now c.queued_size-queued.result c.named_size.result
+    (c.queued_size-queued.ensures s e) (rw c.as_slice.ensures at c.named_size.ensures)
 
 pub returns-in-Some-Alone : goal.returns-in-Some-Alone
 returns-in-Some-Alone c = λ s e.

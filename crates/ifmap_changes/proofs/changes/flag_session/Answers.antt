@@ -1,15 +1,15 @@
 use Rattle.std.proofs.Common.{◌≢◌, subst, sym}
 use Rattle.std.specs.List.Sorted.{IsStrictlySortedBy}
 use Rattle.ifmap_changes.proofs.Marking.{none_left}
-use Rattle.ifmap_changes.proofs.changes.mark_session.Goals as goal
+use Rattle.ifmap_changes.proofs.changes.flag_session.Goals as goal
 use Rattle.ifmap_standing.specs.declared.standing.Standing.{Standing}
 use Rattle.ifmap_tellings.specs.Tellings.{AllKept}
 
 pub returns-clause-bare : goal.returns-clause-bare
 returns-clause-bare c =
-    subst (λ gone. AllKept (λ (x : Standing). x.serial ≢ c.args.serial) gone c.args.standing.now) (sym c.mark_sessions.ensures.gone)
+    subst (λ gone. AllKept (λ (x : Standing). x.serial ≢ c.args.serial) gone c.args.standing.now) (sym c.flag_sessions.ensures.gone)
     (none_left c.args.serial c.args.pending.now.gone.items c.args.standing.now)
 
-pub mark_sessions-requires-clause-rising : goal.mark_sessions-requires-clause-rising
+pub flag_sessions-requires-clause-rising : goal.flag_sessions-requires-clause-rising
 unfolding IsStrictlySortedBy
-mark_sessions-requires-clause-rising c = (tt, tt)
+flag_sessions-requires-clause-rising c = (tt, tt)
