@@ -3,18 +3,18 @@ use Rattle.std.proofs.Common.{rules, ◌≡◌, refl, ap, ◌∙◌, sym, subst,
 use Rattle.std.proofs.lemmas.Cmp.{alike_right}
 use Rattle.std.proofs.lemmas.List.{drop_all, drop_more}
 use Rattle.std.proofs.lemmas.List.Kept.{IsStrictlySortedBy-filter}
-use Rattle.std.specs.Cmp.{IsTotalOrder}
+use Rattle.std.specs.Cmp.{IsTotalOrder, tied_then}
 use Rattle.std.specs.Cmp.Lexicographic.{slice_cmp, texts_ties}
 use Rattle.std.specs.Cmp.Rules.{comparing}
-use Rattle.std.specs.List.{AllByRecursion, filter, list_any, remove}
+use Rattle.std.specs.List.{AllByRecursion, filter, remove}
 use Rattle.std.specs.List.Sorted.{IsBinarySearchResult, IsSearchInRange, IsStrictlySortedBy}
-use Rattle.std.specs.Ordering.{eq_by_cmp, is_eq, nat_cmp, ordering_then}
+use Rattle.std.specs.Ordering.{eq_by_cmp, is_eq, nat_cmp}
 use Rattle.std.specs.Str.{bytes_eq}
-use Rattle.std.specs.declared.cmp.Ordering.TheVariants.{Less, Equal, Greater}
+use Rattle.std.specs.declared.cmp.Ordering.TheVariants.{Less, Equal}
 use Rattle.ifmap_client.specs.EntrySets.{IsPlace, without}
 use Rattle.ifmap_folds.specs.Differences.{difference, entry_bytes, entry_order, has_entry, same_entry}
 use Rattle.ifmap_ident.specs.Items.{item_order, items_tie}
-use Rattle.ifmap_lemmas.specs.Filters.{all_at, all_weaker, filter_all}
+use Rattle.ifmap_lemmas.specs.Filters.{all_at, all_weaker, filter_all, none_dropped}
 use Rattle.ifmap_plans.specs.Placing.{put}
 use Rattle.ifmap_plans.specs.laws.PlacingLaws.{found_is_put, gap_is_put, gap_none, greater_of_less, put_sorted}
 use Rattle.ifmap_search.specs.declared.results.Entry.{Entry}
@@ -22,17 +22,12 @@ use Rattle.ifmap_search.specs.declared.results.Entry.{Entry}
 pub entries_total : IsTotalOrder entry_order
 entries_total = search (comparing, rules)
 
-eq_then : (o p : Ordering) → is_eq (ordering_then o p) ≡ (is_eq o && is_eq p)
-eq_then Less p = refl
-eq_then Equal p = refl
-eq_then Greater p = refl
-
 -- entries are one exactly where the order does not tell them apart
 pub entries_tie : (x y : Entry) → same_entry x y ≡ is_eq (entry_order x y)
 entries_tie x y =
     ap (λ b. b && bytes_eq (entry_bytes x) (entry_bytes y)) (items_tie x.item y.item)
     ∙ ap (λ b. is_eq (item_order x.item y.item) && b) (texts_ties (entry_bytes x) (entry_bytes y))
-    ∙ sym (eq_then (item_order x.item y.item) (slice_cmp nat_cmp (entry_bytes x) (entry_bytes y)))
+    ∙ tied_then (item_order x.item y.item) (slice_cmp nat_cmp (entry_bytes x) (entry_bytes y))
 
 -- ---- taking out by place
 
@@ -54,16 +49,6 @@ module _ (X : Type 0) (C : X → X → Ordering) (o : IsTotalOrder C) where
       let less : C x e ≡ Less = sym (alike_right o (get_or xs i x) e x (is x)) ∙ all_at (λ y. C x y ≡ Less) xs i x up.0 (omega arith) in
       rw less (ap (λ t. x ∷ t) (remove_equal e xs i up.1 (omega arith) is))
 
--- where none passes, none is taken out
-any_none : {X : Type 0} (p : X → Bool) (xs : List X) → list_any p xs ≡ false → xs ≡ filter (λ y. not (p y)) xs
-any_none p [] h = refl
-any_none {X} p (x ∷ xs) h = at (p x) h (any_none p xs)
-  where
-    at : (b : Bool) → (b || list_any p xs) ≡ false → (list_any p xs ≡ false → xs ≡ filter (λ y. not (p y)) xs)
-        → (x ∷ xs) ≡ cond (not b) (x ∷ filter (λ y. not (p y)) xs) (filter (λ y. not (p y)) xs)
-    at true q rest = let r : true ≡ false = q in cc
-    at false q rest = ap (λ t. x ∷ t) (rest q)
-
 -- where the search for a place ends
 pub placed : (e : Entry) (entries : List Entry) (r : Result ℕ ℕ) → IsStrictlySortedBy entry_order entries
     → IsSearchInRange r (length entries) → IsBinarySearchResult (λ x. entry_order x e) entries r → IsPlace e entries r
@@ -74,7 +59,7 @@ placed e entries (Err i) up within is =
     let p = gap_is_put Entry entry_order entries_total e entries i up within is in (
       p.0,
       p.1,
-      any_none (λ y. eq_by_cmp entry_order y e) entries
+      none_dropped (λ y. eq_by_cmp entry_order y e) entries
           (gap_none Entry entry_order entries_total e entries i up within is),
     )
 

@@ -4,6 +4,7 @@ use Rattle.std.specs.Prelude.{slice_index, Option, Some, None, Result, Ok, Err}
 use Rattle.std.proofs.lemmas.List.{drop_more, get_or-take, get_or_append_left, length-take-le, take-append-drop, take-append-le, take_at}
 use Rattle.std.proofs.lemmas.Bool.{cases_lt}
 use Rattle.std.proofs.Math.Seq.{get_or-append_seam}
+use Rattle.ifmap_elem.specs.Chars.{line_feed}
 use Rattle.ifmap_client.specs.Lines.{IsLine, line_limit}
 use Rattle.ifmap_client.specs.declared.lines.Line.{Line}
 use Rattle.ifmap_client_script.specs.declared.outcomes.Stop.{Stop}
@@ -11,13 +12,12 @@ use Rattle.ifmap_client_script.specs.declared.outcomes.Stop.TheVariants as stop
 use Rattle.ifmap_client_script.specs.declared.scripts.Next.{Next}
 use Rattle.ifmap_client_script.specs.Deeds.{CanDo, Known}
 use Rattle.ifmap_client_script.specs.Pending.{Awaits, IsLineEnd, IsTooLong, Pending}
-use Rattle.ifmap_client_script.specs.Printing.{newline}
 use Rattle.ifmap_client_script.specs.Scripts.{BeginsLine, HasNoNewline, IsBadLine, IsWithin}
 use Rattle.ifmap_client_script.specs.Turns.{ReadsAt, ReadsNext}
 
 -- the first newline after a text without one is the one that follows it
-first_is : (text rest : List ℕ) (place : ℕ) → HasNoNewline text → slice_index (text ++ newline ∷ rest) place ≡ newline
-    → ((k : ℕ) → k < place → slice_index (text ++ newline ∷ rest) k ≢ newline) → place ≡ length text
+first_is : (text rest : List ℕ) (place : ℕ) → HasNoNewline text → slice_index (text ++ line_feed ∷ rest) place ≡ line_feed
+    → ((k : ℕ) → k < place → slice_index (text ++ line_feed ∷ rest) k ≢ line_feed) → place ≡ length text
 first_is [] rest zero plain at first = refl
 first_is [] rest (suc place) plain at first = absurd (first 0 (omega arith) refl)
 first_is (b ∷ text) rest zero plain at first = absurd (plain 0 (omega arith) at)
@@ -30,13 +30,13 @@ module _ (offset : ℕ) (bytes more text rest : List ℕ) (begins : BeginsLine o
   line_end_is place e =
       first_is text rest place begins.plain
       (ap (λ (b : List ℕ). slice_index b place) (sym begins.bytes_are) ∙ get_or_append_left bytes more 0 place e.within ∙ e.there)
-      (λ k h. λ (is : slice_index (text ++ newline ∷ rest) k ≡ newline). e.first k h
+      (λ k h. λ (is : slice_index (text ++ line_feed ∷ rest) k ≡ line_feed). e.first k h
       (sym (get_or_append_left bytes more 0 k (let w = e.within in omega arith))
       ∙ ap (λ (b : List ℕ). slice_index b k) begins.bytes_are ∙ is))
 
   text_is : (place : ℕ) → IsLineEnd bytes place → text ≡ take place bytes
   text_is place e =
-      sym (take_at text (newline ∷ rest) (length text) refl) ∙ ap (λ (b : List ℕ). take (length text) b) (sym begins.bytes_are)
+      sym (take_at text (line_feed ∷ rest) (length text) refl) ∙ ap (λ (b : List ℕ). take (length text) b) (sym begins.bytes_are)
       ∙ ap (λ (n : ℕ). take n (bytes ++ more)) (sym (line_end_is place e))
       ∙ take-append-le place bytes more (let w = e.within in omega arith)
 
@@ -47,7 +47,7 @@ module _ (offset : ℕ) (bytes more text rest : List ℕ) (begins : BeginsLine o
       at : ((length text < length bytes) ⊎ (length bytes ≤ length text)) → length bytes ≤ length text
       at (inl h) =
           absurd (plain (length text) h (sym (get_or_append_left bytes more 0 (length text) h)
-          ∙ ap (λ (b : List ℕ). slice_index b (length text)) begins.bytes_are ∙ get_or-append_seam text newline rest 0))
+          ∙ ap (λ (b : List ℕ). slice_index b (length text)) begins.bytes_are ∙ get_or-append_seam text line_feed rest 0))
       at (inr h) = h
 
 -- the line that ends at the first newline
@@ -61,7 +61,7 @@ begins_at offset place bytes e within =
       bytes_are = sym (take-append-drop place bytes)
           ∙ ap (λ (b : List ℕ). take place bytes ++ b) (drop_more bytes place 0 e.within
           ∙ ap (λ (b : ℕ). b ∷ drop (place + 1) bytes) e.there);
-      plain = λ k h. λ (is : slice_index (take place bytes) k ≡ newline). e.first k (omega arith)
+      plain = λ k h. λ (is : slice_index (take place bytes) k ≡ line_feed). e.first k (omega arith)
           (sym (get_or-take place bytes k 0 (omega arith)) ∙ is);
       ends = omega arith;
     }

@@ -1,4 +1,8 @@
 -- What was done for a line, from what was asked over a wire and what was written.
+-- Plan: (1) a wire that was asked nothing is as it was, and what is equal in all parts is equal; (2) one request: by what
+-- came back over its wire, what is known and what is written; (3) the same from either wire: a poll goes over the second,
+-- any other request over the first, and without a request nothing goes over either; (4) the lines that are no request;
+-- (5) `at_line`: the line that was read is the one that was carried out.
 use Rattle.std.proofs.Common.{◌≡◌, ◌⊎◌, inl, inr, refl, ap, ◌∙◌, sym, subst, ℕ, Bool, true, false, List, [], ◌∷◌, take, append-nil}
 use Rattle.std.specs.Prelude.{IfSome, IsTrue, is_some, Option, Some, None, OnOk, Result, Ok, Err, if◌then◌else◌}
 use Rattle.std.specs.Io.KnownBytes.{Appends, Keeps}

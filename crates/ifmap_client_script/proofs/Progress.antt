@@ -5,11 +5,12 @@ use Rattle.std.specs.Prelude.{Option, Some, None, IfSome, if◌then◌else◌}
 use Rattle.std.specs.Io.KnownBytes.{Appends}
 use Rattle.std.proofs.KnownBytes.{Appends-trans}
 use Rattle.std.proofs.lemmas.List.Concat.{flat_map-append}
+use Rattle.ifmap_elem.specs.Chars.{line_feed}
 use Rattle.ifmap_client_script.specs.declared.exchanges.Caller.{Caller}
 use Rattle.ifmap_client_script.specs.Deeds.{Asked, Deed, Known, after_deed, after_deeds, is_poll}
 use Rattle.ifmap_client_script.specs.Deeds as deed
 use Rattle.ifmap_client_script.specs.Exchanges.{AnswersTo, Breaks, Exchanges, Wiring, over_first, over_second, posts, request_post}
-use Rattle.ifmap_client_script.specs.Printing.{deed_text, deeds_text, newline}
+use Rattle.ifmap_client_script.specs.Printing.{deed_text, deeds_text}
 use Rattle.ifmap_client_script.specs.Scripts.{Carries}
 
 -- ---- what is known and written
@@ -106,7 +107,7 @@ carries_more offset known bytes (d ∷ deeds) rest more c = (
   c.1 ++ more,
   c.2,
   record {
-    bytes_are = ap (λ (l : List ℕ). l ++ more) c.3.bytes_are ∙ append_assoc c.0 (newline ∷ c.1) more;
+    bytes_are = ap (λ (l : List ℕ). l ++ more) c.3.bytes_are ∙ append_assoc c.0 (line_feed ∷ c.1) more;
     plain = c.3.plain;
     ends = c.3.ends;
   },
@@ -124,7 +125,7 @@ carries_then offset at known bytes [] mid d rest c is next =
     subst (λ (n : ℕ). Carries n known bytes (d ∷ []) rest) (sym same)
     (subst (λ (b : List ℕ). Carries at known b (d ∷ []) rest) (sym c) next)
 carries_then offset at known bytes (e ∷ deeds) mid d rest c is next =
-    let size : length bytes ≡ length c.0 + length (newline ∷ c.1) = ap length c.3.bytes_are ∙ length-append c.0 (newline ∷ c.1) in (
+    let size : length bytes ≡ length c.0 + length (line_feed ∷ c.1) = ap length c.3.bytes_are ∙ length-append c.0 (line_feed ∷ c.1) in (
       c.0,
       c.1,
       c.2,

@@ -5,6 +5,7 @@ use Rattle.std.proofs.Common.{◌≡◌, ◌⊎◌, inl, inr, refl, ap, ◌∙�
 use Rattle.std.specs.Prelude.{Option}
 use Rattle.std.specs.Io.KnownBytes.{Appends, Consumes, IsAtEnd}
 use Rattle.std.proofs.KnownBytes.{Appends-trans, Consumes-trans}
+use Rattle.ifmap_elem.specs.Chars.{line_feed}
 use Rattle.ifmap_client.specs.Lines.{IsLine}
 use Rattle.ifmap_client.specs.declared.lines.Line.{Line}
 use Rattle.ifmap_requests.specs.declared.requests.Request.{Request}
@@ -13,7 +14,7 @@ use Rattle.ifmap_client_script.specs.Deeds.{Asked, Deed, Does, Known, after_deed
 use Rattle.ifmap_client_script.specs.Ends.{Ports}
 use Rattle.ifmap_client_script.specs.Exchanges.{Exchanges, over_first, over_second}
 use Rattle.ifmap_client_script.specs.Pending.{Fetches, Pending, with_bytes, with_last_newline}
-use Rattle.ifmap_client_script.specs.Printing.{deed_text, deeds_text, newline}
+use Rattle.ifmap_client_script.specs.Printing.{deed_text, deeds_text}
 use Rattle.ifmap_client_script.specs.Promises.{Broken, Cutting, Did, Exchanged, Posted, Wrote}
 use Rattle.ifmap_client_script.specs.Scripts.{BeginsLine, Carries, HasNoNewline, IsScript}
 use Rattle.ifmap_client_script.proofs.Progress.{breaks_then, carries_more, carries_then, exchanges_then, over_first-append, over_second-append, written_snoc}
@@ -52,8 +53,8 @@ carries_front : (offset : ℕ) (known : Known) (bytes : List ℕ) (deeds : List 
 carries_front offset known bytes [] rest c = ([], c)
 carries_front offset known bytes (d ∷ deeds) rest c =
     let p = carries_front (offset + length c.0 + 1) (after_deed d known) c.1 deeds rest c.6 in (
-      c.0 ++ newline ∷ p.0,
-      c.3.bytes_are ∙ ap (λ (l : List ℕ). c.0 ++ newline ∷ l) p.1 ∙ sym (append_assoc c.0 (newline ∷ p.0) rest),
+      c.0 ++ line_feed ∷ p.0,
+      c.3.bytes_are ∙ ap (λ (l : List ℕ). c.0 ++ line_feed ∷ l) p.1 ∙ sym (append_assoc c.0 (line_feed ∷ p.0) rest),
     )
 
 more_length : (offset : ℕ) (bytes script got : List ℕ) → offset + length bytes ≡ length script
@@ -104,12 +105,12 @@ module _ (start left new : Option (List ℕ)) (offset : ℕ) (deeds : List Deed)
       let front = carries_front 0 nothing_known f.script deeds old.bytes f.carried in
       record {
         taken = f.taken ++ got;
-        script = (f.script ++ got) ++ newline ∷ [];
+        script = (f.script ++ got) ++ line_feed ∷ [];
         consumed = Consumes-trans start left new f.taken got f.consumed consumed;
         script_is = (
           inr (
             end,
-            ap (λ (l : List ℕ). (l ++ got) ++ newline ∷ []) (same_script open_yet),
+            ap (λ (l : List ℕ). (l ++ got) ++ line_feed ∷ []) (same_script open_yet),
             (
               front.0,
               b ∷ rest,
@@ -121,10 +122,10 @@ module _ (start left new : Option (List ℕ)) (offset : ℕ) (deeds : List Deed)
           ),
           end,
         );
-        carried = carries_more 0 nothing_known (f.script ++ got) deeds (b ∷ rest) (newline ∷ [])
+        carried = carries_more 0 nothing_known (f.script ++ got) deeds (b ∷ rest) (line_feed ∷ [])
             (subst (λ (l : List ℕ). Carries 0 nothing_known (f.script ++ got) deeds l) is
             (carries_more 0 nothing_known f.script deeds old.bytes got f.carried));
-        offset_is = more_length offset (b ∷ rest) (f.script ++ got) (newline ∷ [])
+        offset_is = more_length offset (b ∷ rest) (f.script ++ got) (line_feed ∷ [])
             (ap (λ (l : List ℕ). offset + length l) (sym is) ∙ more_length offset old.bytes f.script got f.offset_is);
       }
 
@@ -162,8 +163,8 @@ pass start left offset deeds pending text rest line d f begins means does = reco
     size : offset + length text + 1 + length rest ≡ length f.script
     size =
         let is = f.offset_is in
-        let bytes : length pending.bytes ≡ length text + length (newline ∷ rest) =
-        ap length begins.bytes_are ∙ length-append text (newline ∷ rest) in
+        let bytes : length pending.bytes ≡ length text + length (line_feed ∷ rest) =
+        ap length begins.bytes_are ∙ length-append text (line_feed ∷ rest) in
         omega arith
 
 -- ---- what was done

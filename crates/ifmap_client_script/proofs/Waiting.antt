@@ -1,4 +1,8 @@
 -- What is pending while a line is awaited.
+-- Plan: (1) looking at what is pending finds a line, none yet, or one that is too long; (2) taking leaves the rest, and two
+-- fetches one after the other are one; (3) one read appends what it gave, or tells the end; (4) reads until a line is
+-- there: the room for a line shrinks with each (`room_shrinks`), so they end; (5) a line, by what was looked at last,
+-- and no fault is told where none stands.
 use Rattle.std.proofs.Common.{◌≡◌, ◌≢◌, ◌⊎◌, inl, inr, refl, ap, ◌∙◌, sym, subst, ℕ, ◌+◌, ◌-◌, ◌<◌, ◌≤◌, Bool, true, false, List, [], ◌∷◌, ◌++◌, length, append_assoc, append-nil, length-append, arith}
 use Rattle.std.specs.Prelude.{Option, Some, None, Result, Ok, Err, if◌then◌else◌}
 use Rattle.std.specs.Io.KnownBytes.{Consumes, IsAtEnd, Keeps}

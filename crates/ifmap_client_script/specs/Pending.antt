@@ -1,9 +1,9 @@
 -- What was taken from a source and is not used yet. No clause of `run_script` cites this file.
 use Rattle.std.specs.Prelude.{◌≡◌, ◌≢◌, ◌⊎◌, ℕ, ◌-◌, ◌<◌, Bool, true, false, List, [], ◌∷◌, ◌++◌, length, slice_index, Option, Some, None, Result, Ok, Err}
 use Rattle.std.specs.Io.KnownBytes.{Consumes, IsAtEnd}
+use Rattle.ifmap_elem.specs.Chars.{line_feed}
 use Rattle.ifmap_client_script.specs.declared.outcomes.Stop.{Stop}
 use Rattle.ifmap_client_script.specs.declared.outcomes.Stop.TheVariants as stop
-use Rattle.ifmap_client_script.specs.Printing.{newline}
 use Rattle.ifmap_client_script.specs.Scripts.{AwaitsLine, HasNoNewline, IsWithin}
 
 -- the bytes, and whether the source has told its end
@@ -22,12 +22,12 @@ with_bytes pending got = record { bytes = pending.bytes ++ got; ended = pending.
 -- what is pending at the end of a source: a last line gets its newline
 abbrev pub with_last_newline : List ℕ → List ℕ
 with_last_newline [] = []
-with_last_newline (b ∷ bytes) = (b ∷ bytes) ++ newline ∷ []
+with_last_newline (b ∷ bytes) = (b ∷ bytes) ++ line_feed ∷ []
 
 -- once a source has told its end, a newline is the last of what is pending
 abbrev pub IsClosed : Pending → Type 0
 IsClosed pending =
-    pending.ended ≡ true → pending.bytes ≢ [] → slice_index pending.bytes (length pending.bytes - 1) ≡ newline
+    pending.ended ≡ true → pending.bytes ≢ [] → slice_index pending.bytes (length pending.bytes - 1) ≡ line_feed
 
 -- what was pending grew by what was taken from the source, of which nothing is taken once it has told its end; there a last line
 -- got its newline
@@ -49,8 +49,8 @@ pub record Loses (left_old left_new : Option (List ℕ)) (old : Pending) : Type 
 -- the first newline stands at this place
 pub record IsLineEnd (bytes : List ℕ) (place : ℕ) : Type 0 where
   pub within : place < length bytes
-  pub there : slice_index bytes place ≡ newline
-  pub first : (k : ℕ) → k < place → slice_index bytes k ≢ newline
+  pub there : slice_index bytes place ≡ line_feed
+  pub first : (k : ℕ) → k < place → slice_index bytes k ≢ line_feed
 
 -- a line begins here that is longer than one can be, whatever comes after
 pub record IsTooLong (offset : ℕ) (bytes : List ℕ) : Type 0 where

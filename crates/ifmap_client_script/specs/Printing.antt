@@ -9,9 +9,6 @@ use Rattle.ifmap_search.specs.declared.results.Entry.{Entry}
 use Rattle.ifmap_client_script.specs.Deeds.{Deed, Known, after_deed}
 use Rattle.ifmap_client_script.specs.Deeds as deed
 
-abbrev pub newline : ℕ
-newline = 10
-
 -- `=`, the length of a body, a newline and the body
 abbrev pub body_text : List ℕ → List ℕ
 body_text body = codes "=" ++ decimal (length body) ++ codes "\n" ++ body

@@ -1,10 +1,10 @@
 -- What the bytes of a script are as lines, and how far they are carried out.
 use Rattle.std.specs.Prelude.{◌≡◌, ◌≢◌, ◌⊎◌, ℕ, ◌+◌, ◌≤◌, ◌<◌, ◌^◌, List, [], ◌∷◌, ◌++◌, length, slice_index, Option}
 use Rattle.std.specs.Io.KnownBytes.{IsAtEnd}
+use Rattle.ifmap_elem.specs.Chars.{line_feed}
 use Rattle.ifmap_client.specs.Lines.{IsLine, line_limit}
 use Rattle.ifmap_client.specs.declared.lines.Line.{Line}
 use Rattle.ifmap_client_script.specs.Deeds.{CanDo, Deed, Does, Known, after_deed}
-use Rattle.ifmap_client_script.specs.Printing.{newline}
 
 -- how many bytes of a script may be lines
 abbrev pub longest_script : ℕ
@@ -12,7 +12,7 @@ longest_script = 2 ^ 32
 
 -- no newline is among the bytes
 abbrev pub HasNoNewline : List ℕ → Type 0
-HasNoNewline text = (k : ℕ) → k < length text → slice_index text k ≢ newline
+HasNoNewline text = (k : ℕ) → k < length text → slice_index text k ≢ line_feed
 
 -- a line of that many bytes, of which the first stands at an offset, is within its limits
 pub record IsWithin (offset size : ℕ) : Type 0 where
@@ -21,7 +21,7 @@ pub record IsWithin (offset size : ℕ) : Type 0 where
 
 -- these bytes, of which the first stands at an offset, begin with a line of this text and go on with a rest
 pub record BeginsLine (offset : ℕ) (bytes text rest : List ℕ) : Type 0 where
-  pub bytes_are : bytes ≡ text ++ newline ∷ rest
+  pub bytes_are : bytes ≡ text ++ line_feed ∷ rest
   pub plain : HasNoNewline text
   pub ends : offset + length text ≤ longest_script
 
@@ -47,5 +47,5 @@ pub record AwaitsLine (offset : ℕ) (bytes : List ℕ) : Type 0 where
 abbrev pub IsScript : Option (List ℕ) → List ℕ → List ℕ → Type 0
 IsScript left taken script =
     (script ≡ taken)
-    ⊎ (IsAtEnd left × (script ≡ taken ++ newline ∷ [])
+    ⊎ (IsAtEnd left × (script ≡ taken ++ line_feed ∷ [])
     × ((front last : List ℕ) × (taken ≡ front ++ last) × (last ≢ []) × HasNoNewline last))

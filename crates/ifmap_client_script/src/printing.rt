@@ -51,10 +51,10 @@ fn entry_element(alloc: Global, entry: &Entry) -> Result<Element, NoMemory>
 {
     let mut elements = Vec::new(alloc);
     elements.push(Child::Element(entry.element.element().copy(alloc)?))?;
-    let metadata = Element::bare(alloc, "metadata", Vec::new(alloc), elements)?;
+    let metadata = Element::with_local(alloc, "metadata", Vec::new(alloc), elements)?;
     let mut children = identifier_children(alloc, entry.item.item())?;
     children.push(Child::Element(metadata))?;
-    Element::bare(alloc, "resultItem", Vec::new(alloc), children)
+    Element::with_local(alloc, "resultItem", Vec::new(alloc), children)
 }
 
 fn identifier_children(alloc: Global, item: &Item) -> Result<Vec<Child>, NoMemory>

@@ -1,7 +1,6 @@
 -- What a turn adds to what was said since a place.
-use Rattle.std.proofs.Common.{◌≡◌, refl, sym, ap, ◌∙◌, ℕ, ◌+◌, ◌-◌, ◌≤◌, List, [], ◌∷◌, ◌++◌, length, take, drop, arith, append-nil, length-append, length-drop, take-add, drop-drop}
-use Rattle.std.proofs.lemmas.List.{take-append-le, drop-append-le, take-append-drop}
-use Rattle.std.proofs.Math.Seq.{drop-append_seam}
+use Rattle.std.proofs.Common.{◌≡◌, sym, ap, ◌∙◌, ℕ, ◌+◌, ◌-◌, ◌≤◌, [], ◌∷◌, ◌++◌, length, take, drop, arith, append-nil, length-append, length-drop, take-add, drop-drop}
+use Rattle.std.proofs.lemmas.List.{take-append-le, drop-append-le, take-append-drop, nil_from_length}
 use Rattle.ifmap_desks.specs.Answers.{plain}
 use Rattle.ifmap_desks.specs.Calls.{Log, calls_from, said_since}
 use Rattle.ifmap_desks.specs.Asking.{IsTurn}
@@ -15,15 +14,8 @@ use Rattle.ifmap_hall.specs.Sights.{CarriesOn, run}
 use Rattle.ifmap_hall.specs.Turns.{Enters}
 use Rattle.ifmap_hall.specs.declared.book.Asked.{Asked}
 use Rattle.ifmap_hall.specs.declared.book.Asked.TheVariants.{Done, Held, Spent, NoMemory}
+use Rattle.ifmap_lemmas.specs.Lists.{cut_same}
 use Rattle.ifmap_machine.specs.declared.events.Answer.{Answer}
-
-cut_same : {A : Type 0} (xs ys zs ws : List A) → length xs ≡ length zs → xs ++ ys ≡ zs ++ ws → ys ≡ ws
-cut_same xs ys zs ws l e =
-    sym (drop-append_seam xs ys) ∙ ap (drop (length xs)) e ∙ ap (λ n. drop n (zs ++ ws)) l ∙ drop-append_seam zs ws
-
-none_left : {A : Type 0} (xs : List A) → length xs ≡ 0 → xs ≡ []
-none_left [] e = refl
-none_left (x ∷ xs) e = absurd (omega arith)
 
 module _ (place : ℕ) (b b' : CoreBook) (c : CarriesOn core_next (sight_of b) (sight_of b'))
     (near : b'.from ≤ place) (within : place ≤ end_of_book b) (state : b.machine ≡ run core_next b.base b.journal.items) where
@@ -68,7 +60,7 @@ module _ (place : ℕ) (b b' : CoreBook) (c : CarriesOn core_next (sight_of b) (
       let l : length b'.journal.items ≡ (length b.journal.items - (b'.from - b.from)) + length g.0 =
       ap length g.1 ∙ length-append (drop (b'.from - b.from) b.journal.items) g.0
       ∙ ap (λ n. n + length g.0) (length-drop (b'.from - b.from) b.journal.items) in
-      g.2 ∙ ap (λ (xs : Log). said_since place b ++ calls_from b.machine.core xs) (none_left g.0 (omega arith))
+      g.2 ∙ ap (λ (xs : Log). said_since place b ++ calls_from b.machine.core xs) (nil_from_length g.0 (omega arith))
       ∙ append-nil (said_since place b)
 
   -- one entry more was said

@@ -1,6 +1,6 @@
 -- The test whether an event would be held, beside what it tests.
 use Rattle.std.proofs.Common.{◌≡◌, ◌↔◌, refl, ℕ, Bool, true, false, List, [], ◌∷◌, not, Option, None, Some}
-use Rattle.std.proofs.lemmas.Bool.{and_parts}
+use Rattle.std.proofs.lemmas.Bool.{and_parts, not-true}
 use Rattle.ifmap_core.specs.Holding.{WouldHold}
 use Rattle.ifmap_desks.specs.Holding.{has_nothing, holds_ask, is_any_expired, is_nothing, would_hold}
 use Rattle.ifmap_machine.specs.declared.events.Ask.{Ask}
@@ -11,10 +11,6 @@ use Rattle.ifmap_requests.specs.declared.requests.Request.TheVariants as the_req
 use Rattle.ifmap_search.specs.declared.results.PollItem.{PollItem}
 use Rattle.ifmap_session.specs.Sessions.{Session, is_text, session_with_id}
 use Rattle.ifmap_session.specs.laws.TextLaws.{text_is, text_same}
-
-not_true : (b : Bool) → not b ≡ true → b ≡ false
-not_true true e = cc
-not_true false e = refl
 
 no_items : (queue : List PollItem) → is_nothing queue ≡ true → queue ≡ []
 no_items [] e = refl
@@ -31,7 +27,7 @@ holds_where : (state : State) (event : Event) (ask : Ask) → event.ask ≡ ask 
 holds_where state event (Request (the_request.Poll id)) is e =
     let p = and_parts event.again _ e in
     let q = and_parts (not (is_any_expired state event.moment)) _ p.1 in
-    (id, is, p.0, not_true _ q.0, found_nothing event.client (session_with_id id state.sessions) q.1)
+    (id, is, p.0, not-true _ q.0, found_nothing event.client (session_with_id id state.sessions) q.1)
 holds_where state event (Request (the_request.NewSession limit)) is e = cc
 holds_where state event (Request (the_request.RenewSession id)) is e = cc
 holds_where state event (Request (the_request.EndSession id)) is e = cc

@@ -17,7 +17,8 @@ pub legal_calls : (state : State) (log : Log) → LegalFrom state (calls_from st
 legal_calls state [] = tt
 legal_calls state (e ∷ log) = (refl, legal_calls (step state e.1.event).0 log)
 
-pub run_by_calls : (machine : CoreMachine) (log : Log) → (run core_next machine log).core ≡ state_from machine.core (calls_from machine.core log)
+pub run_by_calls : (machine : CoreMachine) (log : Log)
+    → (run core_next machine log).core ≡ state_from machine.core (calls_from machine.core log)
 run_by_calls machine [] = refl
 run_by_calls machine (e ∷ log) = run_by_calls (core_next machine e.1) log
 
@@ -52,7 +53,8 @@ pub since_calls : ((ttl : ℕ) (past entries : History) → Legal ttl (past ++ e
 since_calls law ttl past log first later rest e poll id x is told keeps =
     let machine : CoreMachine = record { core = opening ttl } in
     let start : State = (run core_next machine past).core in
-    let all : calls_from (opening ttl) (past ++ log) ≡ calls_from (opening ttl) past ++ calls_from start log = calls_append machine past log in
+    let all : calls_from (opening ttl) (past ++ log) ≡ calls_from (opening ttl) past ++ calls_from start log =
+    calls_append machine past log in
     let legal : Legal ttl (calls_from (opening ttl) past ++ calls_from start log) =
     subst (Legal ttl) all (legal_calls (opening ttl) (past ++ log)) in
     let fit = subst (λ (h : History). ∥ AreFit h ∥₁) all (fit_calls (opening ttl) (past ++ log)) in

@@ -1,4 +1,7 @@
 -- What posts came to, answered over a wire at a desk.
+-- Plan: (1) endings that tell of no fault (`IsQuiet`), and what a wire gains where nothing is sent; (2) a request by its answer:
+-- a reply, a refusal, want of memory, words that ran out; (3) a poll: held out, or answered by what it is told; (4) the
+-- desk hears of a loss exactly where an answer was not written whole; (5) `serves_post`: each post comes to one of these.
 use Rattle.std.proofs.Common.{◌≡◌, ◌≢◌, ℕ, ◌≤◌, Bool, true, false, List, [], ◌∷◌, ◌++◌, Some, refl, sym, ap, subst, ◌∙◌, arith}
 use Rattle.std.specs.Prelude.{Option}
 use Rattle.std.proofs.KnownBytes.{Appends-nil}
@@ -15,7 +18,7 @@ use Rattle.ifmap_dialogue.specs.declared.findings.Finding.{Finding}
 use Rattle.ifmap_dialogue.specs.declared.findings.Finding.TheVariants as finding
 use Rattle.ifmap_dialogue.specs.declared.polls.Poll.{Poll}
 use Rattle.ifmap_replies.specs.declared.replies.Reply.{Reply}
-use Rattle.ifmap_dialogue.specs.Answers.{Answers, LosesUnlessDone, closing, ending_heard, next_after, reply_answer}
+use Rattle.ifmap_dialogue.specs.Answers.{Answers, LosesUnlessDone, end_after, ending_heard, next_after, reply_answer}
 use Rattle.ifmap_dialogue.specs.Desks.{DeskSeen, Tells, Turn, outcome_of}
 use Rattle.ifmap_dialogue.specs.Findings.{FindsPost}
 use Rattle.ifmap_dialogue.specs.Scenes.{HasCauses, ServesAnswer, ServesPost, scene}
@@ -28,7 +31,7 @@ pub record IsQuiet (due : Option Ending) : Type 0 where
   pub reads : due ≢ Some ending.ReadFault
   pub writes : due ≢ Some ending.WriteFault
 
-pub quiet_closing : (close : Bool) → IsQuiet (closing close)
+pub quiet_closing : (close : Bool) → IsQuiet (end_after close)
 quiet_closing false = record { reads = λ e. cc; writes = λ e. cc }
 quiet_closing true = record { reads = λ e. cc; writes = λ e. cc }
 
@@ -91,7 +94,7 @@ module _ (before after : WireSeen) (output : List ℕ) (g : GainsBytes before af
   pub causes_lost : (gives : ℕ → Type 0) (poll : Poll) (close : Bool) (the_sent : Sent) (turns : List Turn) (next : Option Ending)
       → LosesUnlessDone gives poll close the_sent turns next → Counts the_sent before after → HasCauses before after next
   causes_lost gives poll close sent.Done turns next (none, is) counts =
-      subst (HasCauses before after) (sym is) (causes_quiet (closing close) (quiet_closing close))
+      subst (HasCauses before after) (sym is) (causes_quiet (end_after close) (quiet_closing close))
   causes_lost gives poll close sent.WriteFault turns next (turn, one, asks, is) counts =
       subst (HasCauses before after) (sym is) (causes_heard (counts refl) (outcome_of turn.asked))
   causes_lost gives poll close sent.NoMemory turns next (turn, one, asks, is) counts =
@@ -120,10 +123,10 @@ module _ {H : Type 0} (gives : ℕ → Type 0) (desk : DeskSeen H) (before after
 
   pub replied_answer : (reply : Reply) → found ≡ finding.Replied reply → (the_sent : Sent) (due next : Option Ending) (output : List ℕ)
       → Writes (reply_answer reply close) the_sent output → GainsBytes before after output → Counts the_sent before after
-      → due ≡ closing close → next ≡ next_after the_sent due → Serving next
+      → due ≡ end_after close → next ≡ next_after the_sent due → Serving next
   replied_answer reply is the_sent due next output writes g counts closes follows =
-      let ends : next ≡ next_after the_sent (closing close) = follows ∙ ap (next_after the_sent) closes in
-      sends_answer the_sent (closing close) next output g counts (quiet_closing close) ends
+      let ends : next ≡ next_after the_sent (end_after close) = follows ∙ ap (next_after the_sent) closes in
+      sends_answer the_sent (end_after close) next output g counts (quiet_closing close) ends
       (subst (λ (f : Finding). Answers gives f (record { close = close; turns = []; output = output; next = next })) (sym is)
       (refl, (the_sent, writes, ends)))
 
@@ -192,7 +195,7 @@ told_answer gives one other before after words found reply poll close the_sent t
 
 -- the desk was told nothing where the answer was written whole, and of the loss of it where it was not
 module _ (gives : ℕ → Type 0) (poll : Poll) (close : Bool) (the_sent : Sent) where
-  pub lost_none : (next : Option Ending) → the_sent ≡ sent.Done → next ≡ closing close → LosesUnlessDone gives poll close the_sent [] next
+  pub lost_none : (next : Option Ending) → the_sent ≡ sent.Done → next ≡ end_after close → LosesUnlessDone gives poll close the_sent [] next
   lost_none next is closes = subst (λ (s : Sent). LosesUnlessDone gives poll close s [] next) (sym is) (refl, closes)
 
   pub lost_by_fault : (turn : Turn) (end : Ending) → the_sent ≡ sent.WriteFault → AsksLost gives poll turn
@@ -207,11 +210,11 @@ module _ (gives : ℕ → Type 0) (poll : Poll) (close : Bool) (the_sent : Sent)
 
 -- a post was answered
 pub serves_post : {H : Type 0} (gives : ℕ → Type 0) (a b c : DeskSeen H) (before after : WireSeen) (words now : ChaCha) (post : Post)
-    (found : Finding) (next : Option Ending)
+    (found : Finding) (next : Option Ending) (close : Bool) → close ≡ post.close
     → FindsPost gives a b (record { client = post.client; body = post.body; words = words; after = now }) found
-    → ServesAnswer gives (scene b before now) (scene c after now) (record { finding = found; close = post.close; next = next })
+    → ServesAnswer gives (scene b before now) (scene c after now) (record { finding = found; close = close; next = next })
     → ServesPost gives (scene a before words) (scene c after now) post next
-serves_post gives a b c before after words now post found next f s = record {
+serves_post gives a b c before after words now post found next close same f s = record {
   turns = f.turns ++ s.turns;
   output = s.output;
   tells = tells_more a b c f.turns s.turns f.tells s.tells;
@@ -222,7 +225,8 @@ serves_post gives a b c before after words now post found next f s = record {
     asked = f.turns;
     lost = s.turns;
     found = f.finds;
-    answered = s.answers;
+    answered = subst (λ (b : Bool). Answers gives found (record { close = b; turns = s.turns; output = s.output; next = next }))
+        same s.answers;
     turns = refl;
   };
 }

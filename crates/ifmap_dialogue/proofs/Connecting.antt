@@ -1,4 +1,8 @@
 -- Rounds one after another, until the connection ends.
+-- Plan: (1) reading leaves what was written, so what a round read and then wrote is told by both; (2) a round by how it ended:
+-- a post answered, a fault of reading, a refusal; (3) whether the connection goes on: only after an answer that does not
+-- close it, and never after the last post; (4) round after round: `Connects` holds at first and after each round, and
+-- at the end gives what the connection promises; (5) one round as the code reads it.
 use Rattle.std.proofs.Common.{◌≡◌, ◌≢◌, ℕ, ◌+◌, ◌≤◌, ◌==◌, Bool, true, false, List, [], ◌∷◌, ◌++◌, length, None, Some, IfSome, refl, sym, ap, subst, ◌∙◌, append-nil, length-append, arith}
 use Rattle.std.proofs.lemmas.Bool.Decides.{nat_tests}
 use Rattle.std.specs.Prelude.{Option, flat_map, IfNone, IsFalse}
@@ -22,11 +26,11 @@ use Rattle.ifmap_dialogue.specs.declared.findings.Finding.TheVariants as finding
 use Rattle.ifmap_dialogue.specs.declared.polls.Poll.{Poll}
 use Rattle.ifmap_dialogue.specs.declared.desks.Outcome.{Outcome}
 use Rattle.ifmap_dialogue.specs.declared.desks.Outcome.TheVariants as outcome
-use Rattle.ifmap_dialogue.specs.Answers.{Answers, LosesUnlessDone, closing, ending_heard, next_after}
+use Rattle.ifmap_dialogue.specs.Answers.{Answers, LosesUnlessDone, end_after, ending_heard, next_after}
 use Rattle.ifmap_dialogue.specs.Desks.{DeskSeen, Tells, Turn, outcome_of}
 use Rattle.ifmap_dialogue.specs.Dialogue.{GoesOn, Serves}
 use Rattle.ifmap_dialogue.specs.Rounds.{Follows, IsRound, Round, Standing, is_last, most_posts}
-use Rattle.ifmap_dialogue.specs.Scenes.{HasCauses, Scene, ServesPost, ServesRound, scene, standing}
+use Rattle.ifmap_dialogue.specs.Scenes.{HasCauses, Scene, ServesPost, ServesRound, scene, wire_standing}
 use Rattle.ifmap_dialogue.specs.Wires.{GainsBytes, IsGivenUp, WireSeen, Writes, bare_answer, wire_seen}
 use Rattle.ifmap_dialogue.proofs.Answering.{Counts, IsQuiet, causes_after, causes_quiet, quiet_closing, quiet_refused, quiet_spent, quiet_wanting}
 use Rattle.ifmap_dialogue.specs.Telling.{tells_more, tells_none}
@@ -145,8 +149,8 @@ module _ {H : Type 0} (gives : ℕ → Type 0) (number : ℕ) (desk : DeskSeen H
   -- the connection ends with what was read, and nothing is asked or answered
   round_over : (the_got : Got) (end : Ending) → IfSome before.left (λ left. GetsPost left after.left the_got)
       → Follows gives number (record {
-        before = standing before words;
-        after = standing after words;
+        before = wire_standing before words;
+        after = wire_standing after words;
         turns = [];
         output = [];
         next = Some end;
@@ -178,11 +182,11 @@ module _ {H : Type 0} (gives : ℕ → Type 0) (number : ℕ) (desk : DeskSeen H
 
 -- ---- whether the connection goes on
 
-closes_not : (close : Bool) → closing close ≡ None → close ≡ false
+closes_not : (close : Bool) → end_after close ≡ None → close ≡ false
 closes_not false e = refl
 closes_not true e = cc
 
-delivers_not : (the_sent : Sent) (close : Bool) → None ≡ next_after the_sent (closing close) → close ≡ false
+delivers_not : (the_sent : Sent) (close : Bool) → None ≡ next_after the_sent (end_after close) → close ≡ false
 delivers_not sent.Done close e = closes_not close (sym e)
 delivers_not sent.WriteFault close e = cc
 delivers_not sent.NoMemory close e = cc
@@ -252,7 +256,7 @@ loses_not gives poll close sent.NoMemory turns next (turn, one, asks, is) =
 answers_not : (gives : ℕ → Type 0) (found : Finding) (close : Bool) (turns : List Turn) (output : List ℕ) (next : Option Ending)
     → Answers gives found (record { close = close; turns = turns; output = output; next = next }) → next ≢ Some ending.ReadFault
 answers_not gives (finding.Replied reply) close turns output next (none, (the_sent, writes, is)) =
-    sends_not the_sent (closing close) next (quiet_closing close) is
+    sends_not the_sent (end_after close) next (quiet_closing close) is
 answers_not gives (finding.Told reply poll) close turns output next (the_sent, writes, loses) =
     loses_not gives poll close the_sent turns next loses
 answers_not gives finding.Unreadable close turns output next (none, (the_sent, writes, is)) =
@@ -283,7 +287,7 @@ pub record Connects {H : Type 0} (gives : ℕ → Type 0) (before now : Scene H)
   pub rounds : List Round
   pub tells : Tells before.desk now.desk (flat_map (λ (r : Round). r.turns) rounds)
   pub gains : Appends before.wire.held now.wire.held (flat_map (λ (r : Round). r.output) rounds)
-  pub goes_on : GoesOn gives 1 (standing before.wire before.words) rounds (standing now.wire now.words)
+  pub goes_on : GoesOn gives 1 (wire_standing before.wire before.words) rounds (wire_standing now.wire now.words)
   pub count : number ≡ 1 + length rounds
   pub few : number ≤ most_posts
   pub fresh : IsFalse now.wire.spent
@@ -306,8 +310,8 @@ connects_first gives before fresh = record {
 abbrev round_of : {H : Type 0} (gives : ℕ → Type 0) (number : ℕ) (before after : Scene H) (next : Option Ending)
     → ServesRound gives number before after next → Round
 round_of gives number before after next s = record {
-  before = standing before.wire before.words;
-  after = standing after.wire after.words;
+  before = wire_standing before.wire before.words;
+  after = wire_standing after.wire after.words;
   turns = s.turns;
   output = s.output;
   next = next;
@@ -349,7 +353,7 @@ module _ {H : Type 0} (gives : ℕ → Type 0) (before now after : Scene H) (num
     rounds = w.rounds ++ this ∷ [];
     tells = tells_all;
     gains = gains_all;
-    goes_on = goes_one_more gives 1 number (standing before.wire before.words) w.rounds this w.goes_on w.count s.round on;
+    goes_on = goes_one_more gives 1 number (wire_standing before.wire before.words) w.rounds this w.goes_on w.count s.round on;
     count = let l = length-append w.rounds (this ∷ []) in omega (arith, l, w.count);
     few = omega (arith, w.few, other);
     fresh = fresh;

@@ -1,4 +1,8 @@
 -- The turns of a question so far, and what they come to.
+-- Plan: (1) what an answer is for: `Heard` answers no request, `Held` none but a poll, and what polls are told none but these;
+-- (2) turn after turn: `Waits` says how often a question was asked and held, and by which event it is asked next; (3) it
+-- holds at first (`waits_first`) and after each turn that was held; (4) a poll that was answered, or held as often as can
+-- be, ends the wait.
 use Rattle.std.proofs.Common.{◌≡◌, ◌≢◌, ℕ, ◌+◌, ◌<◌, Bool, true, false, List, [], ◌∷◌, ◌++◌, length, inl, inr, refl, sym, ap, subst, ◌∙◌, length-append, arith}
 use Rattle.std.specs.Prelude.{All}
 use Rattle.std.proofs.lemmas.List.Elements.{All-nil, All-push}

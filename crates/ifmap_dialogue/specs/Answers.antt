@@ -12,14 +12,21 @@ use Rattle.ifmap_dialogue.specs.declared.endings.Ending.TheVariants as ending
 use Rattle.ifmap_dialogue.specs.declared.findings.Finding.{Finding}
 use Rattle.ifmap_dialogue.specs.declared.findings.Finding.TheVariants as finding
 use Rattle.ifmap_dialogue.specs.declared.polls.Poll.{Poll}
+use Rattle.ifmap_dialogue.specs.declared.sending.Then.{Then}
+use Rattle.ifmap_dialogue.specs.declared.sending.Then.TheVariants as then
 use Rattle.ifmap_dialogue.specs.Desks.{Turn, outcome_of}
 use Rattle.ifmap_dialogue.specs.Turns.{AsksLost}
 use Rattle.ifmap_dialogue.specs.Wires.{IsGivenUp, Writes, bare_answer}
 
+-- the connection is closed after an answer
+abbrev pub closes : Then → Bool
+closes then.GoOn = false
+closes then.Close = true
+
 -- how the connection ends after an answer with status 200, if it does
-abbrev pub closing : Bool → Option Ending
-closing false = None
-closing true = Some ending.Closed
+abbrev pub end_after : Bool → Option Ending
+end_after false = None
+end_after true = Some ending.Closed
 
 -- how it ends after an answer: as is due where all of it was written
 abbrev pub next_after : Sent → Option Ending → Option Ending
@@ -50,7 +57,7 @@ IsLostWith gives poll due turns next =
 
 -- it is told so exactly where the answer was not written whole
 abbrev pub LosesUnlessDone : (ℕ → Type 0) → Poll → Bool → Sent → List Turn → Option Ending → Type 0
-LosesUnlessDone gives poll close sent.Done turns next = (turns ≡ []) × (next ≡ closing close)
+LosesUnlessDone gives poll close sent.Done turns next = (turns ≡ []) × (next ≡ end_after close)
 LosesUnlessDone gives poll close sent.WriteFault turns next = IsLostWith gives poll ending.WriteFault turns next
 LosesUnlessDone gives poll close sent.NoMemory turns next = IsLostWith gives poll ending.NoMemory turns next
 
@@ -64,7 +71,7 @@ pub record Answering : Type 0 where
 
 -- how each finding is answered
 abbrev pub Answers : (ℕ → Type 0) → Finding → Answering → Type 0
-Answers gives (finding.Replied reply) a = (a.turns ≡ []) × Delivers (reply_answer reply a.close) (closing a.close) a.output a.next
+Answers gives (finding.Replied reply) a = (a.turns ≡ []) × Delivers (reply_answer reply a.close) (end_after a.close) a.output a.next
 Answers gives (finding.Told reply poll) a =
     (sent : Sent) × Writes (reply_answer reply a.close) sent a.output × LosesUnlessDone gives poll a.close sent a.turns a.next
 Answers gives finding.Unreadable a = (a.turns ≡ []) × Delivers (bare_answer 400) (Some (ending.Refused 400)) a.output a.next

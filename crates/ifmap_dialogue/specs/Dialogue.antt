@@ -4,7 +4,7 @@ use Rattle.std.specs.Io.KnownBytes.{Appends}
 use Rattle.ifmap_dialogue.specs.declared.endings.Ending.{Ending}
 use Rattle.ifmap_dialogue.specs.Desks.{Tells, Turn}
 use Rattle.ifmap_dialogue.specs.Rounds.{IsRound, Round, Standing, most_posts}
-use Rattle.ifmap_dialogue.specs.Scenes.{HasCauses, Scene, standing}
+use Rattle.ifmap_dialogue.specs.Scenes.{HasCauses, Scene, wire_standing}
 
 -- the rounds, numbered on from there, go on one after another from where the dialogue stands first to where it stands after them
 abbrev pub GoesOn : (ℕ → Type 0) → ℕ → Standing → List Round → Standing → Type 0
@@ -31,4 +31,4 @@ pub record Serves {H : Type 0} (gives : ℕ → Type 0) (before after : Scene H)
   pub tells : Tells before.desk after.desk turns
   pub gains : Appends before.wire.held after.wire.held output
   pub causes : HasCauses before.wire after.wire (Some end)
-  pub dialogue : Dialogue gives (standing before.wire before.words) (standing after.wire after.words) turns output end
+  pub dialogue : Dialogue gives (wire_standing before.wire before.words) (wire_standing after.wire after.words) turns output end

@@ -15,8 +15,8 @@ use Rattle.ifmap_dialogue.specs.Rounds.{AnswersPost, IsRound, Standing}
 use Rattle.ifmap_dialogue.specs.Wires.{GainsBytes, WireSeen}
 
 -- where a dialogue over a wire stands
-abbrev pub standing : WireSeen → ChaCha → Standing
-standing wire words = record { left = wire.left; words = words }
+abbrev pub wire_standing : WireSeen → ChaCha → Standing
+wire_standing wire words = record { left = wire.left; words = words }
 
 -- faults are counted where they are told of
 pub record HasCauses (before after : WireSeen) (next : Option Ending) : Type 0 where
@@ -63,8 +63,8 @@ pub record ServesPost {H : Type 0} (gives : ℕ → Type 0) (before after : Scen
   pub gains : GainsBytes before.wire after.wire output
   pub causes : HasCauses before.wire after.wire next
   pub answers : AnswersPost gives post.client post.body post.close (record {
-    before = standing before.wire before.words;
-    after = standing after.wire after.words;
+    before = wire_standing before.wire before.words;
+    after = wire_standing after.wire after.words;
     turns = turns;
     output = output;
     next = next;
@@ -78,8 +78,8 @@ pub record ServesRound {H : Type 0} (gives : ℕ → Type 0) (number : ℕ) (bef
   pub gains : Appends before.wire.held after.wire.held output
   pub causes : HasCauses before.wire after.wire next
   pub round : IsRound gives number (record {
-    before = standing before.wire before.words;
-    after = standing after.wire after.words;
+    before = wire_standing before.wire before.words;
+    after = wire_standing after.wire after.words;
     turns = turns;
     output = output;
     next = next;

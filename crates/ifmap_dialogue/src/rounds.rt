@@ -3,7 +3,7 @@ ghost use Rattle.std.specs.Prelude.{◌≡◌, ◌≢◌, ◌≤◌, ℕ, IsFals
 ghost use Rattle.rand_chacha.specs.ChaCha.{ChaCha};
 ghost use Rattle.ifmap_elem.specs.Chars.{IsCharacters};
 ghost use Rattle.ifmap_heads.specs.Limits.{longest_post};
-ghost use Rattle.ifmap_dialogue.specs.Answers.{LosesUnlessDone};
+ghost use Rattle.ifmap_dialogue.specs.Answers.{LosesUnlessDone, closes};
 ghost use Rattle.ifmap_dialogue.specs.Desks.{Tells, Turn, desk_seen};
 ghost use Rattle.ifmap_dialogue.specs.Rounds.{is_last, most_posts};
 ghost use Rattle.ifmap_dialogue.specs.Scenes.{HasFitPoll, ServesAnswer, ServesPost, ServesRound, scene};
@@ -15,7 +15,7 @@ use crate::desks::{Desk, Gate};
 use crate::endings::Ending;
 use crate::findings::Finding;
 use crate::polls::Poll;
-use crate::sending::{closing, give_up, next_after, send_bare, send_reply};
+use crate::sending::{Then, end_after, give_up, next_after, send_bare, send_reply};
 use crate::settings::Setting;
 use ifmap_http::{Got, Post, Sent, Wire};
 use ifmap_io::{Clock, Link};
@@ -94,14 +94,22 @@ fn answer_post<K: Desk, L: Link, C: Clock, G: Gate>(
         (wire_seen L.left L.held L.Source.faults L.Sink.faults wire.new) words.new)
         post result }
 {
+    let then = after_post(&post);
     let Post {
         client,
         body,
-        close,
+        close: _,
     } = post;
     bodies_mean_fit_requests();
     let finding = consult(setting, desk, words, gate, client, &body);
-    answer(setting, desk, wire, gate, finding, close)
+    answer(setting, desk, wire, gate, finding, then)
+}
+
+// What is done after the answer to a post.
+fn after_post(post: &Post) -> Then
+    ensures { closes result ≡ post.now.close }
+{
+    if post.close { Then::Close } else { Then::GoOn }
 }
 
 // Answers what a post came to.
@@ -111,7 +119,7 @@ fn answer<K: Desk, L: Link, C: Clock, G: Gate>(
     wire: &mut Wire<L>,
     gate: &mut G,
     finding: Finding,
-    close: bool,
+    then: Then,
 ) -> Option<Ending>
     requires fit { HasFitPoll finding }
     ensures { (words : ChaCha) → ServesAnswer (C.gives setting.now.clock.now)
@@ -119,16 +127,16 @@ fn answer<K: Desk, L: Link, C: Clock, G: Gate>(
         (wire_seen L.left L.held L.Source.faults L.Sink.faults wire.old) words)
         (scene (desk_seen K.said K.turns K.held K.spent K.home K.loan desk.new)
         (wire_seen L.left L.held L.Source.faults L.Sink.faults wire.new) words)
-        (record { finding = finding; close = close; next = result }) }
+        (record { finding = finding; close = closes then; next = result }) }
 {
     match finding {
         Finding::Replied(reply) => {
-            let sent = send_reply(setting.alloc, wire, gate, &reply, close);
-            next_after(sent, closing(close))
+            let sent = send_reply(setting.alloc, wire, gate, &reply, then);
+            next_after(sent, end_after(then))
         }
         Finding::Told(reply, poll) => {
-            let sent = send_reply(setting.alloc, wire, gate, &reply, close);
-            conclude(setting, desk, gate, poll, sent, close)
+            let sent = send_reply(setting.alloc, wire, gate, &reply, then);
+            conclude(setting, desk, gate, poll, sent, then)
         }
         Finding::Unreadable => {
             let sent = send_bare(setting.alloc, wire, gate, 400);
@@ -153,16 +161,17 @@ fn conclude<K: Desk, C: Clock, G: Gate>(
     gate: &mut G,
     poll: Poll,
     sent: Sent,
-    close: bool,
+    then: Then,
 ) -> Option<Ending>
     requires fit { IsCharacters poll.session }
     ensures { (turns : List Turn)
         × Tells (desk_seen K.said K.turns K.held K.spent K.home K.loan desk.old)
         (desk_seen K.said K.turns K.held K.spent K.home K.loan desk.new) turns
-        × LosesUnlessDone (C.gives setting.now.clock.now) poll close sent turns result }
+        × LosesUnlessDone (C.gives setting.now.clock.now) poll (closes then) sent turns
+        result }
 {
     match sent {
-        Sent::Done => closing(close),
+        Sent::Done => end_after(then),
         Sent::WriteFault => Some(tell_lost(setting, desk, gate, poll, Ending::WriteFault)),
         Sent::NoMemory => Some(tell_lost(setting, desk, gate, poll, Ending::NoMemory)),
     }

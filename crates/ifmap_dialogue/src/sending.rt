@@ -2,7 +2,7 @@
 ghost use Rattle.std.specs.Prelude.{◌≡◌, ℕ, List, IsTrue};
 ghost use Rattle.ifmap_io.specs.Causes.{Rose};
 ghost use Rattle.ifmap_heads.specs.Messages.{answer_bytes, is_answer_status};
-ghost use Rattle.ifmap_dialogue.specs.Answers.{closing, next_after, reply_answer};
+ghost use Rattle.ifmap_dialogue.specs.Answers.{closes, end_after, next_after, reply_answer};
 ghost use Rattle.ifmap_dialogue.specs.Wires.{GainsBytes, IsGivenUp, Writes, WritesOnce, bare_answer, wire_seen};
 
 use crate::desks::{AFTER_ANSWER, Gate};
@@ -12,22 +12,31 @@ use ifmap_io::Link;
 use ifmap_replies::{Reply, write_reply};
 use std::alloc::Global;
 
+/// What is done with a connection after an answer.
+#[derive(Clone, Copy, Debug, PartialEq, Eq)]
+pub enum Then {
+    /// The next post is read.
+    GoOn,
+    /// It is closed.
+    Close,
+}
+
 // Writes the answer with a reply.
 pub(crate) fn send_reply<L: Link, G: Gate>(
     alloc: Global,
     wire: &mut Wire<L>,
     gate: &mut G,
     reply: &Reply,
-    close: bool,
+    then: Then,
 ) -> Sent
-    ensures writes { (output : List ℕ) × Writes (reply_answer reply.now close) result output
+    ensures writes { (output : List ℕ) × Writes (reply_answer reply.now (closes then)) result output
         × GainsBytes (wire_seen L.left L.held L.Source.faults L.Sink.faults wire.old)
         (wire_seen L.left L.held L.Source.faults L.Sink.faults wire.new) output }
     ensures fault { result ≡ Sent.WriteFault
         → Rose (L.Sink.faults wire.old.link) (L.Sink.faults wire.new.link) }
 {
     match write_reply(alloc, reply) {
-        Ok(body) => send(alloc, wire, gate, 200, body.as_slice(), close),
+        Ok(body) => send(alloc, wire, gate, 200, body.as_slice(), then),
         Err(_) => {
             give_up(alloc, wire, gate);
             Sent::NoMemory
@@ -49,7 +58,7 @@ pub(crate) fn send_bare<L: Link, G: Gate>(
     ensures fault { result ≡ Sent.WriteFault
         → Rose (L.Sink.faults wire.old.link) (L.Sink.faults wire.new.link) }
 {
-    send(alloc, wire, gate, status, b"", true)
+    send(alloc, wire, gate, status, b"", Then::Close)
 }
 
 // Writes an answer. Where memory is wanting that is answered, as far as can be.
@@ -59,16 +68,16 @@ fn send<L: Link, G: Gate>(
     gate: &mut G,
     status: u16,
     body: &[u8],
-    close: bool,
+    then: Then,
 ) -> Sent
     requires { IsTrue (is_answer_status status) }
-    ensures writes { (output : List ℕ) × Writes (answer_bytes status body.now close) result output
-        × GainsBytes (wire_seen L.left L.held L.Source.faults L.Sink.faults wire.old)
+    ensures writes { (output : List ℕ) × Writes (answer_bytes status body.now (closes then)) result
+        output × GainsBytes (wire_seen L.left L.held L.Source.faults L.Sink.faults wire.old)
         (wire_seen L.left L.held L.Source.faults L.Sink.faults wire.new) output }
     ensures fault { result ≡ Sent.WriteFault
         → Rose (L.Sink.faults wire.old.link) (L.Sink.faults wire.new.link) }
 {
-    match write(alloc, wire, gate, status, body, close) {
+    match write(alloc, wire, gate, status, body, then) {
         Sent::Done => Sent::Done,
         Sent::WriteFault => Sent::WriteFault,
         Sent::NoMemory => {
@@ -84,7 +93,7 @@ pub(crate) fn give_up<L: Link, G: Gate>(alloc: Global, wire: &mut Wire<L>, gate:
         × GainsBytes (wire_seen L.left L.held L.Source.faults L.Sink.faults wire.old)
         (wire_seen L.left L.held L.Source.faults L.Sink.faults wire.new) output }
 {
-    let _sent = write(alloc, wire, gate, 503, b"", true);
+    let _sent = write(alloc, wire, gate, 503, b"", Then::Close);
 }
 
 // Writes an answer once, and passes the gate after it where all of it was written.
@@ -94,16 +103,16 @@ fn write<L: Link, G: Gate>(
     gate: &mut G,
     status: u16,
     body: &[u8],
-    close: bool,
+    then: Then,
 ) -> Sent
     requires { IsTrue (is_answer_status status) }
-    ensures writes { (output : List ℕ) × WritesOnce (answer_bytes status body.now close) result
-        output × GainsBytes (wire_seen L.left L.held L.Source.faults L.Sink.faults wire.old)
+    ensures writes { (output : List ℕ) × WritesOnce (answer_bytes status body.now (closes then))
+        result output × GainsBytes (wire_seen L.left L.held L.Source.faults L.Sink.faults wire.old)
         (wire_seen L.left L.held L.Source.faults L.Sink.faults wire.new) output }
     ensures fault { result ≡ Sent.WriteFault
         → Rose (L.Sink.faults wire.old.link) (L.Sink.faults wire.new.link) }
 {
-    let sent = wire.write_answer(alloc, status, body, close);
+    let sent = wire.write_answer(alloc, status, body, closes(then));
     if sent == Sent::Done {
         gate.pass(AFTER_ANSWER);
     }
@@ -122,8 +131,21 @@ pub(crate) fn next_after(sent: Sent, due: Option<Ending>) -> Option<Ending>
 }
 
 // How it ends after an answer with status 200, if it does.
-pub(crate) fn closing(close: bool) -> Option<Ending>
-    ensures { result ≡ closing close }
+pub(crate) fn end_after(then: Then) -> Option<Ending>
+    ensures { result ≡ end_after (closes then) }
 {
-    if close { Some(Ending::Closed) } else { None }
+    match then {
+        Then::GoOn => None,
+        Then::Close => Some(Ending::Closed),
+    }
+}
+
+// Whether an answer is to say that the connection will be closed.
+fn closes(then: Then) -> bool
+    ensures { result ≡ closes then }
+{
+    match then {
+        Then::GoOn => false,
+        Then::Close => true,
+    }
 }

@@ -19,7 +19,7 @@ use Rattle.ifmap_writing.specs.Bounds.{IsBounded, IsBoundedSearch}
 use Rattle.ifmap_drill.specs.declared.parts.Ends.{Ends}
 use Rattle.ifmap_drill.specs.declared.tasks.Task.{Task}
 use Rattle.ifmap_drill.specs.declared.tasks.Task.TheVariants.{Begin, Subscribe, Update, Delete, Search, Poll, Renew}
-use Rattle.ifmap_drill.specs.Parts.{address, draw_ends, link_of, mark}
+use Rattle.ifmap_drill.specs.Parts.{address, draw_ends, link_metadata, link_of}
 use Rattle.ifmap_drill.specs.Requests.{request_by, search_from}
 use Rattle.ifmap_drill.proofs.Marks.{mark_levels_within}
 use Rattle.ifmap_drill.proofs.Plain.{is_plain, plain_characters}
@@ -58,7 +58,7 @@ module _ (macs : AddressesAreIdentifiers) where
   unfolding is_plain
   name_fit = plain_characters (codes "s") (refl, tt)
 
-  module _ (metadata : IsMetadata mark) where
+  module _ (metadata : IsMetadata link_metadata) where
     pub request_fit : (task : Task) (client : ℕ) (session : List ℕ) (draws : Lcg) → client < 10 → IsCharacters session
         → IsFitRequest (request_by task client session draws).0
     request_fit Begin client session draws few fit = tt

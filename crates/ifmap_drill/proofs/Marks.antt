@@ -1,5 +1,7 @@
 -- The element that links carry can be published.
 use Rattle.std.proofs.Common.{◌≡◌, ◌≢◌, ℕ, ◌≤◌, true, false, List, [], ◌∷◌, ◌++◌, codes, length, refl, sym, ap, ◌∙◌, arith}
+use Rattle.std.proofs.lemmas.Bool.Decides.{not_from_Decides}
+use Rattle.std.proofs.lemmas.Slice.Eq.{bytes_eq-Decides}
 use Rattle.std.specs.List.{list_all}
 use Rattle.std.specs.Str.{bytes_eq}
 use Rattle.ifmap_elem.specs.Arranged.{arrange}
@@ -20,19 +22,16 @@ use Rattle.ifmap_lemmas.specs.Texts.{ascii_encoded, is_ascii}
 use Rattle.ifmap_meta.specs.Keys.{content_bytes}
 use Rattle.ifmap_meta.specs.Whole.{IsMadeOf, IsMetadata, level_limit}
 use Rattle.ifmap_meta.specs.declared.metadata.Metadata.{Metadata}
-use Rattle.ifmap_drill.specs.Parts.{mark, mark_element}
+use Rattle.ifmap_drill.specs.Parts.{link_element, link_metadata}
 use Rattle.ifmap_drill.proofs.Plain.{is_plain, plain_characters}
 
 -- ---- it fits
-
-another_text : (one other : List ℕ) → bytes_eq one one ≡ true → bytes_eq one other ≡ false → one ≢ other
-another_text one other here there e = let q : bytes_eq one one ≡ bytes_eq one other = ap (bytes_eq one) e in cc
 
 plain_space : (space : List ℕ) → list_all is_plain space ≡ true → bytes_eq space space ≡ true → bytes_eq space xmlns_space ≡ false
     → IsNamespace space
 plain_space space plain here there = record {
   characters = plain_characters space (all_of_test is_plain space plain);
-  not_reserved = another_text space xmlns_space here there;
+  not_reserved = not_from_Decides _ (bytes_eq-Decides space xmlns_space) there;
 }
 
 plain_part : (first : ℕ) (others : List ℕ) → list_all is_ascii (first ∷ others) ≡ true → is_name_start first ≡ true
@@ -46,7 +45,7 @@ plain_part first others ascii begins goes_on = record {
 }
 
 another_name : (one other : Name) → bytes_eq one.local one.local ≡ true → bytes_eq one.local other.local ≡ false → one ≢ other
-another_name one other here there e = another_text one.local other.local here there (ap (λ (n : Name). n.local) e)
+another_name one other here there e = not_from_Decides _ (bytes_eq-Decides one.local other.local) there (ap (λ (n : Name). n.local) e)
 
 cardinality_fits : IsFitAttribute (bare_attribute (codes "ifmap-cardinality") (codes "singleValue"))
 unfolding is_plain
@@ -56,9 +55,9 @@ cardinality_fits = record {
   value = plain_characters (codes "singleValue") (all_of_test is_plain (codes "singleValue") refl);
 }
 
-mark_fits : IsFit mark_element
+mark_fits : IsFit link_element
 unfolding is_plain
-mark_fits = fit_whole mark_element (record {
+mark_fits = fit_whole link_element (record {
   name = record { space = plain_space (codes "urn:mapd:drill") refl refl refl; local = plain_part 108 (codes "ink") refl refl refl };
   attributes = (cardinality_fits, tt);
   names_differ = (tt, tt);
@@ -67,30 +66,30 @@ mark_fits = fit_whole mark_element (record {
 
 -- ---- it has one level, is arranged, and is short
 
-mark_levels : nesting mark_element ≡ 1
-mark_levels = at_element ℕ ℕ child_levels element_levels mark_element
+mark_levels : nesting link_element ≡ 1
+mark_levels = at_element ℕ ℕ child_levels element_levels link_element
 
-pub mark_levels_within : nesting mark_element ≤ 59
+pub mark_levels_within : nesting link_element ≤ 59
 mark_levels_within = omega (arith, mark_levels)
 
-mark_arranged : arrange mark_element ≡ mark_element
-mark_arranged = arranged_is mark_element
+mark_arranged : arrange link_element ≡ link_element
+mark_arranged = arranged_is link_element
 
-mark_spaces : spaces_of mark_element ≡ codes "urn:mapd:drill" ∷ ([] ∷ [])
-mark_spaces = at_element (List (List ℕ)) (List (List ℕ)) child_spaces element_spaces mark_element
+mark_spaces : spaces_of link_element ≡ codes "urn:mapd:drill" ∷ ([] ∷ [])
+mark_spaces = at_element (List (List ℕ)) (List (List ℕ)) child_spaces element_spaces link_element
 
 printed_by : List (List ℕ) → List ℕ
 printed_by spaces =
     element_of_parts (name_prefixes (declared_among spaces)) (numbered_prefixes (codes "n") 1 (declared_among spaces) ++ [])
-    mark_element.name mark_element.attributes []
+    link_element.name link_element.attributes []
 
-mark_size : length (canonical_bytes mark_element) ≡ 68
+mark_size : length (canonical_bytes link_element) ≡ 68
 unfolding printed_by
 mark_size =
     ap (λ (e : Element). length (root_bytes [] e)) mark_arranged
     ∙ ap (λ (spaces : List (List ℕ)). length (printed_by spaces)) mark_spaces
 
-mark_made : IsMadeOf mark_element mark
+mark_made : IsMadeOf link_element link_metadata
 unfolding content_bytes
 mark_made = record {
   element = sym mark_arranged;
@@ -99,5 +98,5 @@ mark_made = record {
 }
 
 pub mark_is_metadata : ((element : Element) (metadata : Metadata) → IsFit element → nesting element ≤ level_limit
-    → IsMadeOf element metadata → IsMetadata metadata) → IsMetadata mark
-mark_is_metadata made = made mark_element mark mark_fits (omega (arith, mark_levels)) mark_made
+    → IsMadeOf element metadata → IsMetadata metadata) → IsMetadata link_metadata
+mark_is_metadata made = made link_element link_metadata mark_fits (omega (arith, mark_levels)) mark_made

@@ -11,14 +11,14 @@ use Rattle.ifmap_machine.specs.declared.events.Ask.TheVariants.{Request}
 use Rattle.ifmap_machine.specs.Ending.{expire}
 use Rattle.ifmap_machine.specs.Events.{Event, IsFitEvent}
 use Rattle.ifmap_machine.specs.Legal.{AreFit, History, Legal, LegalFrom, state_after, state_from}
-use Rattle.ifmap_machine.specs.State.{State, advance, opening}
+use Rattle.ifmap_machine.specs.State.{State, advance, opening, session_seconds}
 use Rattle.ifmap_machine.specs.Step.{is_full, new_session, step, step_ask}
 use Rattle.ifmap_meta.specs.Whole.{IsMetadata}
 use Rattle.ifmap_requests.specs.declared.requests.Request.TheVariants.{NewSession}
 use Rattle.ifmap_drill.specs.declared.tasks.Task.TheVariants.{Begin}
-use Rattle.ifmap_drill.specs.Drills.{Drilling, after_event, asked_at, drilling_after, id_given, session_seconds}
+use Rattle.ifmap_drill.specs.Drills.{Drilling, after_event, asked_at, drilling_after, id_given}
 use Rattle.ifmap_drill.specs.Events.{event_at}
-use Rattle.ifmap_drill.specs.Parts.{mark}
+use Rattle.ifmap_drill.specs.Parts.{link_metadata}
 use Rattle.ifmap_drill.specs.Requests.{request_by, session_of}
 use Rattle.ifmap_drill.specs.Tasks.{task_at}
 use Rattle.ifmap_drill.proofs.ClientNames.{name_is}
@@ -93,7 +93,7 @@ pub record IsSound (d : Drilling) : Type 0 where
   pub state : d.state ≡ state_after session_seconds d.history
   pub fit : AreFit d.history
 
-module _ (macs : AddressesAreIdentifiers) (metadata : IsMetadata mark) where
+module _ (macs : AddressesAreIdentifiers) (metadata : IsMetadata link_metadata) where
   pub event_fit : (i : ℕ) (d : Drilling) → AllByRecursion IsCharacters d.ids → IsFitEvent (event_at i (asked_at i d).0)
   event_fit i d fit = record {
     client = name_is (i % 10) (omega arith);

@@ -3,7 +3,8 @@ use Rattle.std.specs.Prelude.{◌≡◌, ◌⊎◌, ℕ, List, Option, take}
 use Rattle.std.specs.Io.KnownBytes.{Appends, Keeps}
 use Rattle.ifmap_io.specs.Causes.{Rose}
 use Rattle.ifmap_machine.specs.Agreeing.{Agrees}
-use Rattle.ifmap_drill.specs.Drills.{drill_history, session_seconds}
+use Rattle.ifmap_machine.specs.State.{session_seconds}
+use Rattle.ifmap_drill.specs.Drills.{drill_history}
 use Rattle.ifmap_drill.specs.Summaries.{drill_text}
 
 -- what contracts see of a sink at one moment: what it holds, where that is told, and how often a write has failed

@@ -7,16 +7,12 @@ use Rattle.ifmap_machine.specs.declared.events.Answer.{Answer}
 use Rattle.ifmap_machine.specs.declared.events.Answer.TheVariants.{Reply, Held, Heard}
 use Rattle.ifmap_machine.specs.Events.{Event}
 use Rattle.ifmap_machine.specs.Legal.{History}
-use Rattle.ifmap_machine.specs.State.{State, opening}
+use Rattle.ifmap_machine.specs.State.{State, opening, session_seconds}
 use Rattle.ifmap_machine.specs.Step.{step}
 use Rattle.ifmap_replies.specs.declared.replies.Reply.TheVariants as the_reply
 use Rattle.ifmap_requests.specs.declared.requests.Request.{Request}
 use Rattle.ifmap_drill.specs.Events.{event_at}
 use Rattle.ifmap_drill.specs.Requests.{request_at}
-
--- after how many seconds without a request a session is expired
-abbrev pub session_seconds : ℕ
-session_seconds = 180
 
 -- a drill between two events: the events so far with their answers, the state after them, the ids of the sessions that the first ten
 -- events were given, and the generator

@@ -29,12 +29,12 @@ abbrev pub link_of : Ends → Item
 link_of ends = unwrap_or (pair_of (address ends.first) (address ends.second)) (One (address ends.first))
 
 -- the element that links carry: the empty element `link` in this project's own namespace, of which each link has one at most
-abbrev pub mark_element : Element
-mark_element = record {
+abbrev pub link_element : Element
+link_element = record {
   name = record { space = codes "urn:mapd:drill"; local = codes "link" };
   attributes = bare_attribute (codes "ifmap-cardinality") (codes "singleValue") ∷ [];
   children = [];
 }
 
-abbrev pub mark : Metadata
-mark = record { element = mark_element; cardinality = Single }
+abbrev pub link_metadata : Metadata
+link_metadata = record { element = link_element; cardinality = Single }

@@ -11,7 +11,7 @@ use Rattle.ifmap_requests.specs.declared.requests.SubscribeOp.TheVariants as sub
 use Rattle.ifmap_search.specs.declared.searches.Search.{Search as AnySearch}
 use Rattle.ifmap_drill.specs.declared.tasks.Task.{Task}
 use Rattle.ifmap_drill.specs.declared.tasks.Task.TheVariants.{Begin, Subscribe, Update, Delete, Search, Poll, Renew}
-use Rattle.ifmap_drill.specs.Parts.{address, draw_ends, link_of, mark}
+use Rattle.ifmap_drill.specs.Parts.{address, draw_ends, link_metadata, link_of}
 use Rattle.ifmap_drill.specs.Tasks.{task_at}
 
 -- a search for what is within so many links of the client's own address, with no filter, that no kind of identifier ends
@@ -27,7 +27,7 @@ search_from client depth = record {
 
 -- that a link carries the drill's element, for as long as the session lives; and that it carries nothing
 abbrev pub update_of : Item → PublishOp
-update_of link = publish.Update link (mark ∷ []) false
+update_of link = publish.Update link (link_metadata ∷ []) false
 
 abbrev pub delete_of : Item → PublishOp
 delete_of link = publish.Delete link None

@@ -10,16 +10,13 @@ use crate::counts::Counts;
 use crate::events::make_event;
 use ifmap_core::Core;
 use ifmap_elem::{Many, Text};
-use ifmap_machine::{Answer, Event};
+use ifmap_machine::{Answer, Event, SESSION_SECONDS};
 use ifmap_replies::Reply;
 use ifmap_steps::Steps;
 use rand_core::SeedableRng;
 use rand_pcg::Lcg128Xsl64;
 use std::alloc::{AllocError as NoMemory, Global};
 use std::sync::ledger::Ledger;
-
-// After how many seconds without a request a session is to expire.
-const SESSION_SECONDS: u32 = 180;
 
 /// A drill between two events.
 #[derive(Drop)]

@@ -4,7 +4,8 @@ ghost use Rattle.std.specs.List.{AllByRecursion};
 ghost use Rattle.ifmap_elem.specs.Chars.{IsCharacters};
 ghost use Rattle.ifmap_machine.specs.Agreeing.{Agrees};
 ghost use Rattle.ifmap_machine.specs.Legal.{AreFit, Legal};
-ghost use Rattle.ifmap_drill.specs.Drills.{drill_history, drilling_after, session_seconds};
+ghost use Rattle.ifmap_machine.specs.State.{session_seconds};
+ghost use Rattle.ifmap_drill.specs.Drills.{drill_history, drilling_after};
 
 use ifmap_ident::laws::mac_addresses_are_identifiers;
 use ifmap_machine::laws::clients_fold_fresh_results;

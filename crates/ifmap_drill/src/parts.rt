@@ -1,7 +1,7 @@
 //! What the requests of a drill are made of: identifiers by numbers, links by draws, and the element
 //! that links carry.
 ghost use Rattle.std.specs.Prelude.{◌≡◌, ◌≢◌, ◌<◌, IfOk};
-ghost use Rattle.ifmap_drill.specs.Parts.{address, draw_ends, link_of, mark};
+ghost use Rattle.ifmap_drill.specs.Parts.{address, draw_ends, link_metadata, link_of};
 
 use ifmap_elem::{Attribute, Element, Many, Name, Text};
 use ifmap_ident::laws::{bytes_tell_identifiers_apart, mac_addresses_are_identifiers};
@@ -69,12 +69,12 @@ fn link_of(alloc: Global, ends: Ends) -> Item
 }
 
 /// The element that links carry, of which each link has one at most.
-pub(crate) fn mark(alloc: Global) -> Result<Metadata, NoMemory>
-    ensures { IfOk result (λ made. made ≡ mark) }
+pub(crate) fn link_metadata(alloc: Global) -> Result<Metadata, NoMemory>
+    ensures { IfOk result (λ made. made ≡ link_metadata) }
 {
     let mut attributes = Vec::new(alloc);
     let value = Text::from_str(alloc, "singleValue")?;
-    attributes.push(Attribute::bare(alloc, "ifmap-cardinality", value)?)?;
+    attributes.push(Attribute::with_local(alloc, "ifmap-cardinality", value)?)?;
     Ok(Metadata {
         element: Element {
             name: Name::new(alloc, MARK_SPACE, "link")?,

@@ -3,7 +3,7 @@ ghost use Rattle.std.specs.Prelude.{◌≡◌, ◌<◌, ◌∷◌, [], IfOk};
 ghost use Rattle.ifmap_requests.specs.declared.requests.Request.TheVariants as the_request;
 ghost use Rattle.ifmap_drill.specs.Requests.{delete_of, request_by, search_from, subscription_of, update_of};
 
-use crate::parts::{address, draw_link, mark};
+use crate::parts::{address, draw_link, link_metadata};
 use crate::tasks::Task;
 use ifmap_elem::{Many, Text};
 use ifmap_ident::Item;
@@ -51,7 +51,7 @@ fn update_of(alloc: Global, item: Item) -> Result<PublishOp, NoMemory>
     ensures { IfOk result (λ op. op ≡ update_of item) }
 {
     let mut elements = Many::new(alloc);
-    elements.push(mark(alloc)?)?;
+    elements.push(link_metadata(alloc)?)?;
     Ok(PublishOp::Update {
         item,
         elements,

@@ -1,5 +1,6 @@
 -- What the values of fields say.
 use Rattle.std.proofs.Common.{◌≡◌, ℕ, ◌+◌, ◌-◌, ◌*◌, ◌^◌, ◌<◌, ◌≤◌, Bool, true, false, List, [], ◌∷◌, ◌++◌, length, get_or, take, drop, refl, sym, ap, ◌∙◌, arith, add-one, take-append-drop}
+use Rattle.std.proofs.lemmas.Bool.{not-true}
 use Rattle.std.specs.Prelude.{◌&&◌, ◌==◌, not}
 use Rattle.std.specs.Char.{digit_value, is_ascii_digit}
 use Rattle.std.specs.List.{list_all}
@@ -48,22 +49,18 @@ both_hold true true e = (refl, refl)
 both_hold true false e = cc
 both_hold false b e = cc
 
-is_not : (b : Bool) → not b ≡ true → b ≡ false
-is_not true e = cc
-is_not false e = refl
-
 pub part_at : (front rest : List ℕ) → lacks_comma front ≡ true → comma_parts (front ++ 44 ∷ rest) ≡ front ∷ comma_parts rest
 part_at [] rest e = refl
 part_at (b ∷ front) rest e =
     let parts = both_hold (not (b == 44)) (lacks_comma front) e in
-    let other = is_not (b == 44) parts.0 in
+    let other = not-true (b == 44) parts.0 in
     rw (other, part_at front rest parts.1)
 
 pub part_alone : (bytes : List ℕ) → lacks_comma bytes ≡ true → comma_parts bytes ≡ bytes ∷ []
 part_alone [] e = refl
 part_alone (b ∷ bytes) e =
     let parts = both_hold (not (b == 44)) (lacks_comma bytes) e in
-    let other = is_not (b == 44) parts.0 in
+    let other = not-true (b == 44) parts.0 in
     rw (other, part_alone bytes parts.1)
 
 pub cut_at : (bytes : List ℕ) (i : ℕ) → i < length bytes → bytes ≡ take i bytes ++ get_or bytes i 0 ∷ drop (i + 1) bytes

@@ -11,7 +11,7 @@ use Rattle.std.specs.Io.KnownBytes.{IsAtEnd}
 use Rattle.std.specs.Prelude.{slice_range}
 use Rattle.ifmap_requests.specs.declared.errors.Refusal.TheVariants.{Unreadable}
 use Rattle.ifmap_server.specs.declared.headers.Header.{Header}
-use Rattle.ifmap_server.specs.declared.replaying.Framed.{Framed}
+use Rattle.ifmap_server.specs.declared.replaying.TakenFrame.{TakenFrame}
 use Rattle.ifmap_server.specs.Frames.{Frame, IsHeader, Meaning, frame_text}
 use Rattle.ifmap_server.specs.Awaited.{AwaitsBody, HasNoLine, IsAwaited}
 use Rattle.ifmap_server.specs.Pending.{IsLineEnd, Takes}
@@ -133,7 +133,8 @@ cut_body bytes start end order =
 abbrev unread : Meaning
 unread = Err Unreadable
 
-pub framed : (offset : ℕ) (bytes : List ℕ) (place : ℕ) (there : Framed) → IsLineEnd bytes place → IsHeader (take place bytes) there.header
+pub framed : (offset : ℕ) (bytes : List ℕ) (place : ℕ) (there : TakenFrame) → IsLineEnd bytes place
+    → IsHeader (take place bytes) there.header
     → there.start ≡ place + 1 → there.end ≡ there.start + there.header.size
     → there.end ≤ length bytes → offset + there.end ≤ longest_script → IsFramed offset bytes there
 framed offset bytes place there is header start end within ends =

@@ -1,7 +1,7 @@
 -- What is written and then handed on.
-use Rattle.std.proofs.Common.{◌≡◌, ℕ, ◌+◌, List, [], ◌++◌, length, take, None, Some, refl, sym, ap, subst, ◌∙◌, append-nil, min, arith}
+use Rattle.std.proofs.Common.{◌≡◌, ℕ, ◌+◌, List, [], ◌++◌, length, take, refl, sym, ap, subst, ◌∙◌, append-nil, min, arith, None, Some}
 use Rattle.std.specs.Prelude.{Option, Result, Ok, Err}
-use Rattle.std.proofs.KnownBytes.{Appends-nil, Appends-trans}
+use Rattle.std.proofs.KnownBytes.{Appends-kept, Appends-nil, Appends-trans}
 use Rattle.std.proofs.Math.Seq.{take-append-add, take-length}
 use Rattle.std.proofs.lemmas.List.{take-append-le, take_min}
 use Rattle.std.specs.Io.KnownBytes.{Appends, Keeps}
@@ -33,7 +33,7 @@ appends_prefix old mid new a b c text is first second =
     (p.0, subst (Appends old new) (sym p.1 ∙ ap (take p.0) (sym is)) (Appends-trans old mid new a (take second.0 b) first second.1))
 
 pub keeps_prefix : (old new : Option (List ℕ)) (text : List ℕ) → Keeps old new → AppendsPrefix old new text
-keeps_prefix old new text kept = (0, appends_kept old old new [] (Appends-nil old) kept)
+keeps_prefix old new text kept = (0, Appends-kept old old new [] (Appends-nil old) kept)
 
 -- a text that is sent in two pieces
 pub first_prefix : (old new : Option (List ℕ)) (a b : List ℕ) → AppendsPrefix old new a → AppendsPrefix old new (a ++ b)
@@ -47,7 +47,7 @@ second_prefix old mid new a b first second =
 pub both_whole : (old mid new last : Option (List ℕ)) (a b : List ℕ) → Appends old mid a → Appends mid new b → Keeps new last
     → Appends old last (a ++ b)
 both_whole old mid new last a b first second kept =
-    appends_kept old new last (a ++ b) (Appends-trans old mid new a b first second) kept
+    Appends-kept old new last (a ++ b) (Appends-trans old mid new a b first second) kept
 
 pub sent : {T E : Type 0} (result : Result T E) (old mid new last : Option (List ℕ)) (a b : List ℕ)
     → Appends old mid a → Appends mid new b → Keeps new last → WritesAll old last result (a ++ b)

@@ -3,8 +3,9 @@
 -- what ends in all bytes read speaks of the frames that were answered (`over`, `unread`, `fault_told`), and what ends before speaks
 -- of each output of the bytes (`unwritten`, `part`, `fault_part`).
 use Rattle.std.proofs.Common.{◌≡◌, ◌≢◌, ℕ, ◌+◌, List, [], ◌∷◌, ◌++◌, length, drop, None, Some, IfSome, refl, sym, ap, subst, ◌∙◌, append_assoc, append-nil, arith}
+use Rattle.std.proofs.lemmas.Option.{IfSome_then}
 use Rattle.std.specs.Prelude.{Option}
-use Rattle.std.proofs.KnownBytes.{Appends-nil, Appends-trans, Consumes-nil, Consumes-trans, Keeps-refl}
+use Rattle.std.proofs.KnownBytes.{Appends-kept, Appends-nil, Appends-trans, Consumes-nil, Consumes-trans, Keeps-refl}
 use Rattle.std.proofs.Math.Seq.{drop-drop}
 use Rattle.std.proofs.lemmas.List.{drop_at}
 use Rattle.std.specs.Io.KnownBytes.{Appends, Consumes, IsAtEnd, Keeps}
@@ -20,7 +21,7 @@ use Rattle.ifmap_server.specs.Ends.{IsLater, Ends}
 use Rattle.ifmap_server.specs.Turns.{Answers, BeginsNone, IsFaulty, IsOver, IsUnread, IsUnwritten, Replaying, beginning}
 use Rattle.ifmap_server.proofs.Framing.{awaited_none}
 use Rattle.ifmap_server.proofs.Scripts.{script_begins, script_one}
-use Rattle.ifmap_server.proofs.Pieces.{appends_kept, appends_prefix, keeps_prefix}
+use Rattle.ifmap_server.proofs.Pieces.{appends_prefix, keeps_prefix}
 
 -- a script of all bytes is the frames that were answered, and then a script of what is left
 abbrev Unframed : List Frame → List ℕ → Replaying → Type 0
@@ -171,10 +172,6 @@ taken_and_rest None left taken P consumed h = tt
 taken_and_rest (Some bytes) None taken P consumed h = absurd consumed
 taken_and_rest (Some bytes) (Some rest) taken P consumed h = subst P (sym consumed) h
 
-for_some : {X : Type 0} (known : Option X) (P Q : X → Type 0) → ((x : X) → P x → Q x) → IfSome known P → IfSome known Q
-for_some None P Q f h = tt
-for_some (Some x) P Q f h = f x h
-
 some_for : {X : Type 0} (known : Option X) (P : X → Type 0) → ((x : X) → P x) → IfSome known P
 some_for None P f = tt
 some_for (Some x) P f = f x
@@ -194,7 +191,7 @@ script_here offset whole (x ∷ bytes) here awaited =
 
 module _ (before mid after : Ends) (now : Replaying) (p : Progress before mid now) where
   wrote_kept : Keeps mid.held after.held → Appends before.held after.held (answers p.done)
-  wrote_kept kept = appends_kept before.held mid.held after.held (answers p.done) p.wrote kept
+  wrote_kept kept = Appends-kept before.held mid.held after.held (answers p.done) p.wrote kept
 
   same_done : answers (p.done ++ []) ≡ answers p.done
   same_done = ap answers (append-nil p.done)
@@ -278,20 +275,20 @@ module _ (before mid after : Ends) (now : Replaying) (p : Progress before mid no
       (λ bytes. (frames : List Frame) × (place : ℕ) × IsScript bytes frames (Some place)
       × Appends before.held last.held (answers frames ++ fault_line (Some place)))
       (took_more f.takes.got f.takes.consumed)
-      (for_some after.left _ _ (λ rest h. (
+      (IfSome_then after.left f.fault (λ rest h. (
         p.done ++ [],
         now.offset,
         faulty_script f rest h,
         subst (λ (x : List ℕ). Appends before.held last.held (x ++ fault_line (Some now.offset))) (sym same_done)
             (Appends-trans before.held after.held last.held (answers p.done) (fault_line (Some now.offset)) (wrote_kept f.kept) told),
-      )) f.fault)
+      )))
 
   pub fault_part : (last : Ends) → IsFaulty mid after now → AppendsPrefix after.held last.held (fault_line (Some now.offset))
       → AnswersPart before last
   fault_part last f told =
       taken_and_rest before.left after.left (p.taken ++ f.takes.got) (λ bytes. IsPart before last bytes)
       (took_more f.takes.got f.takes.consumed)
-      (for_some after.left _ _ (λ rest h text output.
+      (IfSome_then after.left f.fault (λ rest h text output.
       let line = fault_line (Some now.offset) in
       let bytes = p.taken ++ f.takes.got ++ rest in
       let same = script_one p.one 0 bytes output.0 (p.done ++ []) output.1 (Some now.offset) output.2 (faulty_script f rest h) in
@@ -300,7 +297,7 @@ module _ (before mid after : Ends) (now : Replaying) (p : Progress before mid no
       ∙ ap (λ (o : Option ℕ). answers (p.done ++ []) ++ fault_line o) same.1 in
       appends_prefix before.held after.held last.held (answers p.done) line [] text
       (is ∙ ap (λ (x : List ℕ). x ++ line) same_done ∙ ap (λ (x : List ℕ). answers p.done ++ x) (sym (append-nil line)))
-      (wrote_kept f.kept) told) f.fault)
+      (wrote_kept f.kept) told))
 
 -- nothing was read or written
 pub nothing_done : (before : Ends) → AnswersPart before before

@@ -1,12 +1,12 @@
 -- A frame of which more bytes are due.
 use Rattle.std.specs.Prelude.{◌≢◌, ℕ, ◌<◌, List, [], ◌++◌, length, slice_index, ◌⊎◌}
-use Rattle.ifmap_server.specs.Characters.{newline}
+use Rattle.ifmap_elem.specs.Chars.{line_feed}
 use Rattle.ifmap_server.specs.Frames.{Frame, longest_header}
 use Rattle.ifmap_server.specs.Script.{Begins}
 
 -- no newline stands where that of a header can
 abbrev pub HasNoLine : List ℕ → Type 0
-HasNoLine bytes = (k : ℕ) → k < longest_header → k < length bytes → slice_index bytes k ≢ newline
+HasNoLine bytes = (k : ℕ) → k < longest_header → k < length bytes → slice_index bytes k ≢ line_feed
 
 -- a header's line is due: no newline has come, and that of a header still can
 pub record AwaitsLine (bytes : List ℕ) : Type 0 where

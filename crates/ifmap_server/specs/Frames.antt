@@ -3,11 +3,12 @@ use Rattle.std.specs.Prelude.{◌≡◌, ℕ, ◌≤◌, ◌<◌, ◌^◌, List,
 use Rattle.std.specs.Fmt.{decimal}
 use Rattle.std.specs.Int.{to_be_bytes, w128}
 use Rattle.uuid.specs.Text.{lower, simple_text}
+use Rattle.ifmap_elem.specs.Chars.{line_feed, space_character}
 use Rattle.ifmap_meta.specs.ClientNames.{IsClientName}
 use Rattle.ifmap_requests.specs.declared.errors.Refusal.{Refusal}
 use Rattle.ifmap_requests.specs.declared.requests.Request.{Request}
 use Rattle.ifmap_server.specs.declared.headers.Header.{Header}
-use Rattle.ifmap_server.specs.Characters.{at_sign, blank, newline}
+use Rattle.ifmap_server.specs.Characters.{at_sign}
 
 -- what a body can mean: a request, or why it is none
 abbrev pub Meaning : Type 0
@@ -39,7 +40,8 @@ word_text random = simple_text lower (to_be_bytes w128 random)
 -- `@`, the moment, the client, the random word and the length of the body, with single spaces between them, and a newline
 abbrev pub header_text : ℕ → List ℕ → ℕ → ℕ → List ℕ
 header_text moment client random size =
-    at_sign ∷ decimal moment ++ blank ∷ client ++ blank ∷ word_text random ++ blank ∷ decimal size ++ newline ∷ []
+    at_sign ∷ decimal moment ++ space_character ∷ client ++ space_character ∷ word_text random ++ space_character ∷ decimal size
+    ++ line_feed ∷ []
 
 -- the header, and then the body
 abbrev pub frame_text : Frame → List ℕ
@@ -47,7 +49,7 @@ frame_text f = header_text f.moment f.client f.random (length f.body) ++ f.body
 
 -- a line without its newline is this header, of a frame that keeps to the limits
 pub record IsHeader (line : List ℕ) (h : Header) : Type 0 where
-  pub text : line ++ newline ∷ [] ≡ header_text h.moment h.client h.random h.size
+  pub text : line ++ line_feed ∷ [] ≡ header_text h.moment h.client h.random h.size
   pub moment : h.moment ≤ 253402300799
   pub client : IsClientName h.client
   pub random : h.random < 2 ^ 128

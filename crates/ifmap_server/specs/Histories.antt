@@ -1,10 +1,10 @@
 -- The history of the machine that a script makes.
 use Rattle.std.specs.Prelude.{List, [], ◌∷◌, ◌++◌, Ok, Err}
 use Rattle.ifmap_machine.specs.Legal.{History}
-use Rattle.ifmap_machine.specs.State.{State, opening}
+use Rattle.ifmap_machine.specs.State.{State, opening, session_seconds}
 use Rattle.ifmap_machine.specs.Step.{step}
 use Rattle.ifmap_server.specs.Frames.{Frame, Meaning}
-use Rattle.ifmap_server.specs.Output.{Asking, event_of, session_seconds, step_frame}
+use Rattle.ifmap_server.specs.Output.{Asking, event_of, step_frame}
 
 -- what the machine is asked and answers: an event with its answer, where a body means a request, and else nothing
 abbrev pub asked_by : State → Asking → Meaning → History

@@ -6,17 +6,13 @@ use Rattle.ifmap_machine.specs.declared.events.Answer.{Answer}
 use Rattle.ifmap_machine.specs.declared.events.Answer.TheVariants.{Reply, Held, Heard}
 use Rattle.ifmap_machine.specs.declared.events.Ask.TheVariants as ask
 use Rattle.ifmap_machine.specs.Events.{Event}
-use Rattle.ifmap_machine.specs.State.{State, opening}
+use Rattle.ifmap_machine.specs.State.{State, opening, session_seconds}
 use Rattle.ifmap_machine.specs.Step.{refusal, step}
 use Rattle.ifmap_replies.specs.Results.{reply_bytes}
 use Rattle.ifmap_requests.specs.declared.errors.Refusal.TheVariants.{Named, Unreadable, NoMemory}
 use Rattle.ifmap_requests.specs.declared.requests.Request.{Request}
 use Rattle.ifmap_server.specs.Frames.{Frame, Meaning}
 use Rattle.ifmap_server.specs.Script.{IsScript}
-
--- after how many seconds without a request a session is expired
-abbrev pub session_seconds : ℕ
-session_seconds = 180
 
 -- what is asked of the machine, by the request
 abbrev pub Asking : Type 0

@@ -2,12 +2,13 @@
 use Rattle.std.specs.Prelude.{◌≡◌, ℕ, List, ◌++◌, drop, Option, None, Some, IfSome, Result, Ok, Err}
 use Rattle.std.specs.Io.KnownBytes.{Appends, Consumes, IsAtEnd}
 use Rattle.ifmap_machine.specs.Agreeing.{Agrees}
+use Rattle.ifmap_machine.specs.State.{session_seconds}
 use Rattle.ifmap_server.specs.declared.errors.ReplayError.{ReplayError}
 use Rattle.ifmap_server.specs.declared.errors.ReplayError.TheVariants.{FrameFault, NoMemory, ReadFault, WriteFault}
 use Rattle.ifmap_server.specs.Awaited.{IsAwaited}
 use Rattle.ifmap_server.specs.Frames.{Frame}
 use Rattle.ifmap_server.specs.Histories.{history_of}
-use Rattle.ifmap_server.specs.Output.{AppendsPrefix, IsOutput, answers, fault_line, session_seconds}
+use Rattle.ifmap_server.specs.Output.{AppendsPrefix, IsOutput, answers, fault_line}
 use Rattle.ifmap_server.specs.Script.{IsScript}
 use Rattle.ifmap_server.specs.Statuses.{status_of}
 use Rattle.ifmap_server.specs.Ends.{ReadFailed, Ends, WriteFailed}

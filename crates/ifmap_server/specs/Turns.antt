@@ -2,17 +2,17 @@
 use Rattle.std.specs.Prelude.{◌≡◌, ◌≢◌, ℕ, ◌+◌, ◌≤◌, List, [], ◌++◌, drop, length, slice_range, IfSome, Result, Ok, Err, false}
 use Rattle.std.specs.Io.KnownBytes.{Appends, IsAtEnd, Keeps}
 use Rattle.ifmap_machine.specs.declared.events.Ask.TheVariants as ask
-use Rattle.ifmap_machine.specs.State.{State, opening}
+use Rattle.ifmap_machine.specs.State.{State, opening, session_seconds}
 use Rattle.ifmap_server.specs.declared.errors.ReplayError.{ReplayError}
 use Rattle.ifmap_server.specs.declared.errors.ReplayError.TheVariants.{FrameFault, NoMemory, ReadFault, WriteFault}
 use Rattle.ifmap_server.specs.declared.headers.Header.{Header}
-use Rattle.ifmap_server.specs.declared.replaying.Framed.{Framed}
+use Rattle.ifmap_server.specs.declared.replaying.TakenFrame.{TakenFrame}
 use Rattle.ifmap_server.specs.declared.replaying.Turn.{Turn}
 use Rattle.ifmap_server.specs.declared.replaying.Turn.TheVariants.{Answered, Ended}
 use Rattle.ifmap_requests.specs.Means.{Means}
 use Rattle.ifmap_server.specs.Awaited.{IsAwaited}
 use Rattle.ifmap_server.specs.Frames.{Frame, Meaning, frame_text}
-use Rattle.ifmap_server.specs.Output.{AppendsPrefix, Asking, step_frame, session_seconds}
+use Rattle.ifmap_server.specs.Output.{AppendsPrefix, Asking, step_frame}
 use Rattle.ifmap_server.specs.Pending.{Takes}
 use Rattle.ifmap_server.specs.Script.{Begins, longest_script}
 use Rattle.ifmap_server.specs.Ends.{ReadFailed, Ends, WriteFailed}
@@ -43,11 +43,11 @@ frame_of header body meaning =
     record { moment = header.moment; client = header.client; random = header.random; body = body; meaning = meaning }
 
 -- the frame that stands at the front of what is pending, with a meaning
-abbrev pub frame_within : Framed → List ℕ → Meaning → Frame
+abbrev pub frame_within : TakenFrame → List ℕ → Meaning → Frame
 frame_within framed pending meaning = frame_of framed.header (slice_range pending framed.start framed.end) meaning
 
 -- a whole frame stands at the front of what is pending, and its body from `start` to `end`, whatever its meaning
-pub record IsFramed (offset : ℕ) (pending : List ℕ) (framed : Framed) : Type 0 where
+pub record IsFramed (offset : ℕ) (pending : List ℕ) (framed : TakenFrame) : Type 0 where
   pub begins : (meaning : Meaning) → Begins offset pending (frame_within framed pending meaning) (drop framed.end pending)
   pub end : (meaning : Meaning) → framed.end ≡ length (frame_text (frame_within framed pending meaning))
   pub ends : offset + framed.end ≤ longest_script

@@ -2,9 +2,10 @@
 ghost use Rattle.std.specs.Prelude.{◌≡◌, ℕ, List, Option};
 ghost use Rattle.ifmap_machine.specs.Agreeing.{Agrees};
 ghost use Rattle.ifmap_machine.specs.Legal.{AreFit, Legal};
+ghost use Rattle.ifmap_machine.specs.State.{session_seconds};
 ghost use Rattle.ifmap_server.specs.Frames.{Frame};
 ghost use Rattle.ifmap_server.specs.Histories.{history_of};
-ghost use Rattle.ifmap_server.specs.Output.{IsOutput, session_seconds};
+ghost use Rattle.ifmap_server.specs.Output.{IsOutput};
 ghost use Rattle.ifmap_server.specs.Script.{IsScript};
 
 use ifmap_machine::laws::clients_fold_fresh_results;

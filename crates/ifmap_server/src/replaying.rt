@@ -19,7 +19,7 @@ use crate::replies::AnswerText;
 use crate::sending::send;
 use ifmap_core::Core;
 use ifmap_io::{Sink, Source};
-use ifmap_machine::{Ask, Event};
+use ifmap_machine::{Ask, Event, SESSION_SECONDS};
 use ifmap_requests::laws::{bodies_have_one_meaning, bodies_mean_fit_requests};
 use ifmap_requests::{Refusal, Request, read_request};
 use ifmap_steps::Steps;
@@ -30,12 +30,9 @@ use std::sync::ledger::Ledger;
 /// How many bytes of a script may be frames.
 pub const LONGEST_SCRIPT: u64 = 1 << 32;
 
-/// After how many seconds without a request a session is to expire.
-pub const SESSION_SECONDS: u32 = 180;
-
 /// A frame whose bytes have all been taken: its header, and where its body stands in what is pending.
 #[derive(Drop)]
-pub struct Framed {
+pub struct TakenFrame {
     pub header: Header,
     pub start: usize,
     pub end: usize,
@@ -49,7 +46,7 @@ pub fn next_frame<S: Source>(
     input: &mut Input,
     offset: u64,
     source: &mut S,
-) -> Result<Option<Framed>, ReplayError>
+) -> Result<Option<TakenFrame>, ReplayError>
     requires { offset ≤ longest_script }
     ensures taken { OnOk result (Takes (S.left source.old) (S.left source.new) input.old
         input.new) }
@@ -79,7 +76,7 @@ pub fn next_frame<S: Source>(
     if end as u64 > LONGEST_SCRIPT - offset || !input.await_bytes(source, end)? {
         return Err(ReplayError::FrameFault);
     }
-    Ok(Some(Framed { header, start, end }))
+    Ok(Some(TakenFrame { header, start, end }))
 }
 
 /// The text of the answer to a frame: the machine's to a request, the code of a defect, or that the
@@ -207,7 +204,7 @@ impl Replay {
         let Some(framed) = next_frame(alloc, &mut self.input, self.offset, source)? else {
             return Ok(Turn::Ended);
         };
-        let Framed { header, start, end } = framed;
+        let TakenFrame { header, start, end } = framed;
         let body = &self.input.pending()[start..end];
         let text = answer_frame(alloc, &mut self.core, header, body, steps)?;
         text.send(sink)?;

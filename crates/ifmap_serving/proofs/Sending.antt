@@ -24,7 +24,7 @@ use Rattle.ifmap_standing.specs.contracts.standing.Standing as the_standing
 use Rattle.ifmap_graph.specs.contracts.ends.Ends as the_ends
 use Rattle.ifmap_view.specs.contracts.rows.Row as the_row
 use Rattle.ifmap_view.specs.contracts.views.LinkSeen as the_link
-use Rattle.ifmap_rows.specs.contracts.index.Worded as the_worded
+use Rattle.ifmap_rows.specs.contracts.index.WordRow as the_word_row
 use Rattle.ifmap_rows.specs.contracts.rows.Rows as the_rows
 use Rattle.ifmap_graph.specs.contracts.shared.SharedRows as the_shared
 use Rattle.ifmap_graph.specs.contracts.spares.Spare as the_spare
@@ -80,10 +80,28 @@ pub identifier_field : IsSend (the_identifier.the_field).row
 identifier_field = search (crosses, sendable) depth 60 fits 20000
 
 pub publish_send : IsSend the_publish.the_row
-publish_send = search (metadata_send, metadata_field, identifier_send, identifier_field, elements.crosses, filters.crosses, crosses, sendable) depth 60 fits 20000
+publish_send = search (
+  metadata_send,
+  metadata_field,
+  identifier_send,
+  identifier_field,
+  elements.crosses,
+  filters.crosses,
+  crosses,
+  sendable,
+) depth 60 fits 20000
 
 pub publish_field : IsSend (the_publish.the_field).row
-publish_field = search (metadata_send, metadata_field, identifier_send, identifier_field, elements.crosses, filters.crosses, crosses, sendable) depth 60 fits 20000
+publish_field = search (
+  metadata_send,
+  metadata_field,
+  identifier_send,
+  identifier_field,
+  elements.crosses,
+  filters.crosses,
+  crosses,
+  sendable,
+) depth 60 fits 20000
 
 pub subscribe_send : IsSend the_subscribe.the_row
 subscribe_send = search (search_send, search_field, crosses, sendable) depth 60 fits 20000
@@ -92,10 +110,28 @@ pub subscribe_field : IsSend (the_subscribe.the_field).row
 subscribe_field = search (search_send, search_field, crosses, sendable) depth 60 fits 20000
 
 pub request_send : IsSend the_request.the_row
-request_send = search (publish_send, publish_field, subscribe_send, subscribe_field, search_send, search_field, crosses, sendable) depth 60 fits 20000
+request_send = search (
+  publish_send,
+  publish_field,
+  subscribe_send,
+  subscribe_field,
+  search_send,
+  search_field,
+  crosses,
+  sendable,
+) depth 60 fits 20000
 
 pub request_field : IsSend (the_request.the_field).row
-request_field = search (publish_send, publish_field, subscribe_send, subscribe_field, search_send, search_field, crosses, sendable) depth 60 fits 20000
+request_field = search (
+  publish_send,
+  publish_field,
+  subscribe_send,
+  subscribe_field,
+  search_send,
+  search_field,
+  crosses,
+  sendable,
+) depth 60 fits 20000
 
 pub answer_send : IsSend the_answer.the_row
 answer_send = search (reply_send, reply_field, crosses, sendable) depth 60 fits 20000
@@ -157,7 +193,7 @@ link_send = search (crosses, sendable) depth 60 fits 20000
 pub link_field : IsSend (the_link.the_field).row
 link_field = search (crosses, sendable) depth 60 fits 20000
 
-pub worded_send : IsSend the_worded.the_row
+pub worded_send : IsSend the_word_row.the_row
 worded_send = search (row_send, crosses, sendable) depth 60 fits 20000
 
 pub rows_send : IsSend the_rows.the_row
@@ -166,7 +202,7 @@ rows_send = search (row_send, worded_send, crosses, sendable) depth 60 fits 2000
 pub row_sync : IsSync the_row.the_row
 row_sync = search (elements.crosses, crosses, sendable) depth 60 fits 20000
 
-pub worded_sync : IsSync the_worded.the_row
+pub worded_sync : IsSync the_word_row.the_row
 worded_sync = search (row_sync, crosses, sendable) depth 60 fits 20000
 
 pub rows_sync : IsSync the_rows.the_row
@@ -197,16 +233,56 @@ pub shelves_field : IsSend (the_shelves.the_field).row
 shelves_field = search (shelf_send, shelf_field, Item.the_send, Tree.the_send, Slab.the_send, crosses, sendable) depth 60 fits 20000
 
 pub graph_send : IsSend the_graph.the_row
-graph_send = search (identifier_send, identifier_field, link_send, link_field, shelves_send, shelves_field, Pool.the_send, Sided.the_send, crosses, sendable) depth 60 fits 20000
+graph_send = search (
+  identifier_send,
+  identifier_field,
+  link_send,
+  link_field,
+  shelves_send,
+  shelves_field,
+  Pool.the_send,
+  Sided.the_send,
+  crosses,
+  sendable,
+) depth 60 fits 20000
 
 pub graph_field : IsSend (the_graph.the_field).row
-graph_field = search (identifier_send, identifier_field, link_send, link_field, shelves_send, shelves_field, Pool.the_send, Sided.the_send, crosses, sendable) depth 60 fits 20000
+graph_field = search (
+  identifier_send,
+  identifier_field,
+  link_send,
+  link_field,
+  shelves_send,
+  shelves_field,
+  Pool.the_send,
+  Sided.the_send,
+  crosses,
+  sendable,
+) depth 60 fits 20000
 
 pub parts_send : IsSend the_parts.the_row
-parts_send = search (graph_send, graph_field, sessions_send, sessions_field, standing_send, standing_field, crosses, sendable) depth 60 fits 20000
+parts_send = search (
+  graph_send,
+  graph_field,
+  sessions_send,
+  sessions_field,
+  standing_send,
+  standing_field,
+  crosses,
+  sendable,
+) depth 60 fits 20000
 
 pub parts_field : IsSend (the_parts.the_field).row
-parts_field = search (graph_send, graph_field, sessions_send, sessions_field, standing_send, standing_field, crosses, sendable) depth 60 fits 20000
+parts_field = search (
+  graph_send,
+  graph_field,
+  sessions_send,
+  sessions_field,
+  standing_send,
+  standing_field,
+  crosses,
+  sendable,
+) depth 60 fits 20000
 
 pub core_send : IsSend the_core.the_row
 core_send = search (parts_send, parts_field, crosses, sendable) depth 60 fits 20000

@@ -4,7 +4,7 @@ use Rattle.std.specs.Prelude.{Option, flat_map, is_some}
 use Rattle.std.proofs.lemmas.Grind.{flat_map-append}
 use Rattle.ifmap_io.specs.Causes.{Rose}
 use Rattle.ifmap_io.specs.Doors.{Doorway, Hands, StaysOpen, TakesBack}
-use Rattle.ifmap_io.specs.Links.{Seen, seen}
+use Rattle.ifmap_io.specs.Links.{Seen, wire_link_seen}
 use Rattle.ifmap_http.specs.Wires.{Wired}
 use Rattle.ifmap_dialogue.specs.declared.endings.Ending.{Ending}
 use Rattle.ifmap_dialogue.specs.Desks.{Tells}
@@ -96,11 +96,14 @@ pub serves_link : {L H : Type 0} (gives : ℕ → Type 0) (before after : Worker
     → old ≡ record { link = link; taken = []; spent = false } → back ≡ new.link
     → Serves gives (scene before.desk (wire_seen left held reading writing old) before.words)
     (scene after.desk (wire_seen left held reading writing new) after.words) end
-    → ServesLink gives before after (seen left held reading writing link) (seen left held reading writing back)
+    → ServesLink gives before after (wire_link_seen left held reading writing link) (wire_link_seen left held reading writing back)
 serves_link {L} gives before after left held reading writing link back old new end was is s =
     let t = subst (λ (w : Wired L). Serves gives (scene before.desk (wire_seen left held reading writing w) before.words)
     (scene after.desk (wire_seen left held reading writing new) after.words) end) was s in
-    subst (λ (b : L). ServesLink gives before after (seen left held reading writing link) (seen left held reading writing b)) (sym is) (record {
+    subst (λ (b : L). ServesLink gives before after (wire_link_seen left held reading writing link)
+    (wire_link_seen left held reading writing b))
+    (sym is)
+    (record {
       turns = t.turns;
       output = t.output;
       ending = end;

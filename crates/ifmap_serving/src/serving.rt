@@ -14,15 +14,13 @@ use ifmap_desks::{CoreMachine, PassDesk, silent_passes_recall};
 use ifmap_dialogue::Gate;
 use ifmap_hall::{Hall, Pass};
 use ifmap_io::{Clock, Door};
+use ifmap_machine::SESSION_SECONDS;
 use rand_chacha::ChaCha20Rng;
 use rand_core::SeedableRng;
 use std::alloc::{AllocError as NoMemory, Global};
 use std::sync::Wait;
 use std::thread;
 use std::thread::Threads;
-
-/// After how many seconds without an accepted request a session of the server is expired.
-pub const TIME_TO_LIVE: u32 = 180;
 
 /// What the entries that the server keeps beside its base may weigh at most, in bytes.
 pub const MOST_KEPT: u64 = 500_000_000;
@@ -78,10 +76,10 @@ fn begin_hall(alloc: Global) -> Result<(Hall<CoreMachine>, Pass<CoreMachine>), N
     ensures view { IfOk result (λ r. OpensServer (view_of r.1)) }
 {
     let machine = CoreMachine {
-        core: Core::new(alloc, TIME_TO_LIVE),
+        core: Core::new(alloc, SESSION_SECONDS),
     };
     let base = CoreMachine {
-        core: Core::new(alloc, TIME_TO_LIVE),
+        core: Core::new(alloc, SESSION_SECONDS),
     };
     Hall::begin(alloc, machine, base, MOST_KEPT, HEAVIEST)
 }

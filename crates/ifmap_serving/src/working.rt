@@ -1,6 +1,6 @@
 //! Work at a door: its connections are served one after another.
 ghost use Rattle.ifmap_dialogue.specs.Desks.{desk_seen};
-ghost use Rattle.ifmap_io.specs.Links.{seen};
+ghost use Rattle.ifmap_io.specs.Links.{wire_link_seen};
 ghost use Rattle.ifmap_serving.specs.Connections.{ServesLink, worker};
 ghost use Rattle.ifmap_serving.specs.Works.{Ends, Works, door_seen};
 
@@ -62,8 +62,8 @@ fn serve_link<K: Desk, L: Link, C: Clock, G: Gate>(
     ensures { ServesLink (C.gives clock.now)
         (worker (desk_seen K.said K.turns K.held K.spent K.home K.loan desk.old) words.old)
         (worker (desk_seen K.said K.turns K.held K.spent K.home K.loan desk.new) words.new)
-        (seen L.left L.held L.Source.faults L.Sink.faults link)
-        (seen L.left L.held L.Source.faults L.Sink.faults result) }
+        (wire_link_seen L.left L.held L.Source.faults L.Sink.faults link)
+        (wire_link_seen L.left L.held L.Source.faults L.Sink.faults result) }
 {
     let mut wire = Wire::new(alloc, link);
     serve_connection(alloc, desk, &mut wire, clock, words, gate);

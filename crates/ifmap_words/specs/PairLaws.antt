@@ -13,8 +13,8 @@ use Rattle.ifmap_words.specs.Options.{is_option}
 use Rattle.ifmap_words.specs.Pairs.{first_id, pair_app, second_id}
 
 -- between two words, where the next one is that positional's turn
-abbrev pub ready : Held → ℕ → Walk
-ready held position =
+abbrev pub ready_walk : Held → ℕ → Walk
+ready_walk held position =
     record { held = held; waiting = idle; position = position; is_trailing = false; stopped = None }
 
 no_dashes : (word : Text) → is_option word ≡ false → bytes_eq word (45 ∷ 45 ∷ []) ≡ false
@@ -36,17 +36,17 @@ met_other rules names position word h plain none =
 
 pub walked_on : (rules : List Rule) (names : Names) (h : Held) (position : ℕ) (word : Text) → is_option word ≡ false
     → subcommand_met names idle word ≡ None
-    → walked rules names (ready h position) word ≡ to_positional rules (arg_by_index rules position) word (ready h position) h
+    → walked rules names (ready_walk h position) word ≡ to_positional rules (arg_by_index rules position) word (ready_walk h position) h
 unfolding walked
 walked_on rules names h position word plain none =
-    ap (λ (met : Held × Step). after_step rules word (ready h position) met.0 met.1) (met_other rules names position word h plain none)
+    ap (λ (met : Held × Step). after_step rules word (ready_walk h position) met.0 met.1) (met_other rules names position word h plain none)
 
 word_fails : (s : Shape) (names : Names) (word : Text) (h : Held) → is_option word ≡ false
     → subcommand_met names idle word ≡ None → word_fault s names false idle word h ≡ []
 word_fails s names word h plain none = rw none (rw (no_dashes word plain) (rw (no_long word plain) (rw (no_short word plain) refl)))
 
 pub turn_fails : (s : Shape) (names : Names) (h : Held) (position : ℕ) (word : Text) → is_option word ≡ false
-    → subcommand_met names idle word ≡ None → turn_fault s names (ready h position) word ≡ step_fault s position h value
+    → subcommand_met names idle word ≡ None → turn_fault s names (ready_walk h position) word ≡ step_fault s position h value
 turn_fails s names h position word plain none =
     ap (λ (met : Held × Step). or_else (word_fault s names false idle word h) (step_fault s position met.0 met.1))
     (met_other s.rules names position word h plain none)
@@ -54,9 +54,9 @@ turn_fails s names h position word plain none =
 
 pub walk_fails : (s : Shape) (names : Names) (h : Held) (position : ℕ) (word : Text) (rest : List Text) → is_option word ≡ false
     → subcommand_met names idle word ≡ None
-    → walk_fault s names (ready h position) (word ∷ rest)
+    → walk_fault s names (ready_walk h position) (word ∷ rest)
     ≡ or_else (step_fault s position h value)
-    (walk_fault s names (to_positional s.rules (arg_by_index s.rules position) word (ready h position) h) rest)
+    (walk_fault s names (to_positional s.rules (arg_by_index s.rules position) word (ready_walk h position) h) rest)
 unfolding walk_fault
 walk_fails s names h position word rest plain none =
     ap₂ or_else (turn_fails s names h position word plain none)
@@ -84,10 +84,10 @@ abbrev rules : List Rule
 rules = (built (pair_app [])).top.rules
 
 abbrev after_one : Text → Walk
-after_one x = to_positional rules (arg_by_index rules 1) x (ready nothing_held 1) nothing_held
+after_one x = to_positional rules (arg_by_index rules 1) x (ready_walk nothing_held 1) nothing_held
 
 abbrev after_two : Text → Text → Walk
-after_two x y = to_positional rules (arg_by_index rules 2) y (ready (after_one x).held 2) (after_one x).held
+after_two x y = to_positional rules (arg_by_index rules 2) y (ready_walk (after_one x).held 2) (after_one x).held
 
 one_walked : (x : Text) → is_option x ≡ false → walk rules [] nothing_held (x ∷ []) ≡ after_one x
 one_walked x plain = walked_on rules [] nothing_held 1 x plain refl

@@ -8,7 +8,8 @@ abbrev pub invariant-turns : goal.invariant-turns
 invariant-turns g l =
     Waits (g.C.Clock.gives l.setting.clock.now)
     (desk_seen g.K.Desk.said g.K.Desk.turns g.K.Desk.held g.K.Desk.spent g.K.Desk.home g.K.Desk.loan l.initial.desk)
-    (desk_seen g.K.Desk.said g.K.Desk.turns g.K.Desk.held g.K.Desk.spent g.K.Desk.home g.K.Desk.loan l.desk) (question_of l.poll) l.turns l.event
+    (desk_seen g.K.Desk.said g.K.Desk.turns g.K.Desk.held g.K.Desk.spent g.K.Desk.home g.K.Desk.loan l.desk)
+    (question_of l.poll) l.turns l.event
 
 abbrev pub decreases-turns : goal.decreases-turns
 decreases-turns g l = most_turns - l.turns

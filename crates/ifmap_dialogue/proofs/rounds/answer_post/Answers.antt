@@ -9,5 +9,5 @@ answer-requires g c =
 
 pub returns : goal.returns
 returns g c =
-    serves_post _ _ _ _ _ _ _ c.consult-finding.new.words c.args.post c.consult-finding.result c.answer.result c.consult-finding.ensures
-    (c.answer.ensures c.consult-finding.new.words)
+    serves_post _ _ _ _ _ _ _ c.consult-finding.new.words c.args.post c.consult-finding.result c.answer.result _ c.after_post-then.ensures
+    c.consult-finding.ensures (c.answer.ensures c.consult-finding.new.words)

@@ -1,4 +1,7 @@
+use Rattle.std.proofs.Common.{Bool, subst}
 use Rattle.ifmap_heads.specs.Messages.{answer_bytes}
+use Rattle.ifmap_http.specs.Outcomes.{Sends}
+use Rattle.ifmap_dialogue.specs.Answers.{closes}
 use Rattle.ifmap_dialogue.proofs.Writing.{rest_of, same_source, written}
 use Rattle.ifmap_dialogue.proofs.sending.write.Goals as goal
 
@@ -8,7 +11,9 @@ returns-then-eq-clause-writes g c =
     let after = c.write_answer-sent.new.self in
     let (output, once, gained) =
     written (g.L.Sink.held before.link) (g.L.Sink.held after.link) c.write_answer-sent.result
-    (answer_bytes c.args.status c.args.body.now c.args.close) c.write_answer-sent.ensures.sends in
+    (answer_bytes c.args.status c.args.body.now (closes c.args.then))
+    (subst (λ (b : Bool). Sends (g.L.Sink.held before.link) (g.L.Sink.held after.link) c.write_answer-sent.result
+    (answer_bytes c.args.status c.args.body.now b)) c.closes.ensures c.write_answer-sent.ensures.sends) in
     let (left, reading) =
     same_source g.L.Source.left g.L.Source.faults g.L.Sink.incoming g.met.L.Link.incoming_is before.link after.link
     c.write_answer-sent.ensures.apart in (
@@ -28,7 +33,9 @@ returns-else-eq-clause-writes g c =
     let after = c.write_answer-sent.new.self in
     let (output, once, gained) =
     written (g.L.Sink.held before.link) (g.L.Sink.held after.link) c.write_answer-sent.result
-    (answer_bytes c.args.status c.args.body.now c.args.close) c.write_answer-sent.ensures.sends in
+    (answer_bytes c.args.status c.args.body.now (closes c.args.then))
+    (subst (λ (b : Bool). Sends (g.L.Sink.held before.link) (g.L.Sink.held after.link) c.write_answer-sent.result
+    (answer_bytes c.args.status c.args.body.now b)) c.closes.ensures c.write_answer-sent.ensures.sends) in
     let (left, reading) =
     same_source g.L.Source.left g.L.Source.faults g.L.Sink.incoming g.met.L.Link.incoming_is before.link after.link
     c.write_answer-sent.ensures.apart in (

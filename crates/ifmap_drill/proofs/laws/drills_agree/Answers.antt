@@ -1,4 +1,5 @@
-use Rattle.ifmap_drill.specs.Drills.{drill_history, session_seconds}
+use Rattle.ifmap_machine.specs.State.{session_seconds}
+use Rattle.ifmap_drill.specs.Drills.{drill_history}
 use Rattle.ifmap_drill.proofs.Marks.{mark_is_metadata}
 use Rattle.ifmap_drill.proofs.SoundDrills.{drill_sound}
 use Rattle.ifmap_drill.proofs.laws.drills_agree.Goals as goal

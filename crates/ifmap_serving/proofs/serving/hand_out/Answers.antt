@@ -26,5 +26,6 @@ loop-stand-preserved g c =
             ap (λ (x : Stand g.row.D.Denot g.row.G.Denot). x.gate)
             (rest at c.stand-item.result (omega arith) there ∙ get_or_default c.args.stands.now at c.stand-item.result d lt);
       }),
-      (λ k d after less. unread_more c.args.hall.now c.args.stands.now c.loop-stand.stand-items at _ rest k d after (omega (arith, less, length_is))),
+      (λ k d after less. unread_more c.args.hall.now c.args.stands.now c.loop-stand.stand-items at _ rest k d after
+          (omega (arith, less, length_is))),
     )

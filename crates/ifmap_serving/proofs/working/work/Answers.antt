@@ -1,7 +1,7 @@
 use Rattle.std.proofs.Common.{ℕ, ◌≤◌, subst, sym}
 use Rattle.std.specs.Prelude.{Option}
 use Rattle.ifmap_io.specs.Doors.{Hands, seen_in}
-use Rattle.ifmap_io.specs.Links.{seen}
+use Rattle.ifmap_io.specs.Links.{wire_link_seen}
 use Rattle.ifmap_serving.specs.Works.{door_seen}
 use Rattle.ifmap_serving.proofs.Leading.{stays_open}
 use Rattle.ifmap_serving.proofs.Succession.{ends_empty, ends_failed, works_first, works_more, works_still}
@@ -22,7 +22,7 @@ returns-in_default-next-clause-works g c =
     works_still _ _ _ _ _ _ c.loop.invariant
     (stays_open _ _
     (subst (λ (o : Option g.row.D-Wire.Denot). Hands (g.D.Door.links c.loop.door) (g.D.Door.links c.accept.new.self)
-    (seen_in (seen g.D.Wire.Source.left g.D.Wire.Sink.held g.D.Wire.Source.faults g.D.Wire.Sink.faults) o)) c.in_default-next.is
+    (seen_in (wire_link_seen g.D.Wire.Source.left g.D.Wire.Sink.held g.D.Wire.Source.faults g.D.Wire.Sink.faults) o)) c.in_default-next.is
     c.in-Ok.ensures.links))
     c.accept.ensures.told c.accept.ensures.cause.later
 
@@ -30,7 +30,7 @@ pub returns-in_default-next-clause-ends : goal.returns-in_default-next-clause-en
 returns-in_default-next-clause-ends g c =
     ends_empty (door_seen g.D.Door.links g.D.Door.faults c.args.door.now) (door_seen g.D.Door.links g.D.Door.faults c.accept.new.self) _
     (subst (λ (o : Option g.row.D-Wire.Denot). Hands (g.D.Door.links c.loop.door) (g.D.Door.links c.accept.new.self)
-    (seen_in (seen g.D.Wire.Source.left g.D.Wire.Sink.held g.D.Wire.Source.faults g.D.Wire.Sink.faults) o)) c.in_default-next.is
+    (seen_in (wire_link_seen g.D.Wire.Source.left g.D.Wire.Sink.held g.D.Wire.Source.faults g.D.Wire.Sink.faults) o)) c.in_default-next.is
     c.in-Ok.ensures.links)
     c.accept.ensures.told
 
@@ -41,7 +41,8 @@ loop-preserved g c =
     works_more _ _ _ _ _ _ _ _ _ c.loop.invariant c.serve_link-link.ensures (record {
       between = g.D.Door.links c.accept.new.self;
       hands = subst (λ (o : Option g.row.D-Wire.Denot). Hands (g.D.Door.links c.loop.door) (g.D.Door.links c.accept.new.self)
-          (seen_in (seen g.D.Wire.Source.left g.D.Wire.Sink.held g.D.Wire.Source.faults g.D.Wire.Sink.faults) o)) c.in-Some-next.is
+          (seen_in (wire_link_seen g.D.Wire.Source.left g.D.Wire.Sink.held g.D.Wire.Source.faults g.D.Wire.Sink.faults) o))
+          c.in-Some-next.is
           c.in-Ok.ensures.links;
       told = c.accept.ensures.told;
       takes = c.ended.ensures.links;

@@ -26,7 +26,8 @@ returns c =
       no_memory = e.no_memory;
     } in
     record {
-      tells = tells_plain (told_since desk.since b) (told_since desk.since b') None None desk.counts c.count.new.self tt tt 0 0 c.args.event fit
+      tells = tells_plain (told_since desk.since b)
+          (told_since desk.since b') None None desk.counts c.count.new.self tt tt 0 0 c.args.event fit
           c.from_event.ensures given c.plain-answer.result c.plain-answer.ensures
           (gains desk.since b b' fit.event (plain given) e.carries.from
           (λ near. adds desk.since b b' e.carries near desk.since_then desk.in_order.state desk.pass fit given turn))

@@ -57,13 +57,15 @@ pub invariant_of-self-clause-recalls : goal.invariant_of-self-clause-recalls
 invariant_of-self-clause-recalls g c =
     let e = c.ask-asked.ensures in
     ∥∥₁_map c.args.self.now.recalls
-    (recalls (view_of c.args.self.now.pass.now) (view_of c.ask-asked.new.pass) e.took (number_of c.args.self.now.pass.now) c.from_event.result
+    (recalls (view_of c.args.self.now.pass.now) (view_of c.ask-asked.new.pass) e.took
+    (number_of c.args.self.now.pass.now) c.from_event.result
     c.ask-asked.result e.answered)
 
 pub invariant_of-self-clause-used_up : goal.invariant_of-self-clause-used_up
 invariant_of-self-clause-used_up g c =
     let e = c.ask-asked.ensures in
-    used_up (view_of c.args.self.now.pass.now) (view_of c.ask-asked.new.pass) e.took (number_of c.args.self.now.pass.now) c.from_event.result
+    used_up (view_of c.args.self.now.pass.now) (view_of c.ask-asked.new.pass) e.took
+    (number_of c.args.self.now.pass.now) c.from_event.result
     c.ask-asked.result c.args.self.now.counts c.count.new.self e.answered
     (subst (λ (a : Asked Event Answer). Counted a c.args.self.now.counts c.count.new.self) c.plain-answer.ensures c.count.ensures)
     c.args.self.now.used_up
