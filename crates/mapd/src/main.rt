@@ -3,21 +3,24 @@
 
 mod outside;
 
-ghost use Rattle.std.specs.Prelude.{List, [], map, string_bytes};
+ghost use Rattle.std.specs.Prelude.{◌≡◌, IfErr, IfOk, List, [], map, string_bytes};
+ghost use Rattle.std.specs.Process.{exit_status};
 ghost use Rattle.ifmap_program.specs.Runs.{Runs, outside};
 ghost use Rattle.ifmap_server.specs.Ends.{ends};
 ghost use Rattle.ifmap_serving.specs.declared.stands.Stand.{Stand};
 ghost use Rattle.ifmap_serving.specs.Works.{door_seen};
+ghost use Rattle.mapd.specs.Done.{IsRunDone, RunsOver, ServesOrBeginsNone};
 
 use crate::outside::{OpenGate, ProgressLine, random_key, stands_at};
 use ifmap_command::{Form, form_of};
 use ifmap_drill::{NoProgress, Progress};
 use ifmap_elem::Text;
-use ifmap_io::{Clock, Door, MemoryDoor, Sink, Source, StdSink, StdSource, SystemClock};
+use ifmap_io::{Clock, Door, Sink, Source, StdSink, StdSource, SystemClock, TcpDoor};
 use ifmap_program::running::NO_MEMORY;
 use ifmap_program::{Setting, run};
 use ifmap_serving::Stand;
 use ifmap_words::words_of;
+use std::alloc::AllocError as NoMemory;
 use std::io::IsTerminal;
 use std::net::{Net, TcpListener, TcpStream};
 use std::process::ExitCode;
@@ -32,13 +35,43 @@ const CANNOT_LISTEN: u8 = 7;
 fn main(rt: HostRuntime) -> ExitCode {
     let mut source = StdSource::new(rt.stdin());
     let mut sink = StdSink::new(rt.stdout());
-    let status = match words_of(rt.alloc(), env::args(&rt)) {
-        Ok(words) => {
-            let mut progress = ProgressLine::new(&rt, rt.stderr().is_terminal());
-            run_words(&rt, words.as_slice(), &mut source, &mut sink, &mut progress)
-        }
-        Err(_) => NO_MEMORY,
+    let mut progress = ProgressLine::new(&rt, rt.stderr().is_terminal());
+    let words = words_of(rt.alloc(), env::args(&rt));
+    exit_code_of_run(&rt, words, &mut source, &mut sink, &mut progress)
+}
+
+// Runs with the words that were given, where there was memory for them.
+fn exit_code_of_run<R, S: Source, K: Sink, P: Progress>(
+    rt: &R,
+    words: Result<Vec<String>, NoMemory>,
+    source: &mut S,
+    sink: &mut K,
+    progress: &mut P,
+) -> ExitCode
+where
+    R: Threads
+        + Wait
+        + Sync
+        + time::Clock
+        + Net<Listener = TcpListener, Stream = TcpStream>
+        + RandomSource,
+    R: Eprint + AllocGlobal,
+    ensures done { IfOk words (λ given. IsRunDone (map string_bytes given.items)
+        (exit_status result)
+        (ends (S.left source.old) (S.faults source.old) (K.held sink.old) (K.faults sink.old))
+        (ends (S.left source.new) (S.faults source.new) (K.held sink.new) (K.faults sink.new))) }
+    ensures no_memory { IfErr words (λ _. exit_status result ≡ 6) }
+{
+    let Ok(words) = words else {
+        return exit_code_of(NO_MEMORY);
     };
+    exit_code_of(run_words(rt, words.as_slice(), source, sink, progress))
+}
+
+// The exit code of a status.
+fn exit_code_of(status: u8) -> ExitCode
+    ensures { exit_status result ≡ status }
+{
     ExitCode::from(status)
 }
 
@@ -58,6 +91,9 @@ where
         + Net<Listener = TcpListener, Stream = TcpStream>
         + RandomSource,
     R: Eprint + AllocGlobal,
+    ensures { IsRunDone (map string_bytes words.now) result
+        (ends (S.left source.old) (S.faults source.old) (K.held sink.old) (K.faults sink.old))
+        (ends (S.left source.new) (S.faults source.new) (K.held sink.new) (K.faults sink.new)) }
 {
     match form_of(rt.alloc(), words) {
         Form::Serve { address, workers } => {
@@ -77,6 +113,9 @@ fn run_plainly<R, S: Source, K: Sink, P: Progress>(
 ) -> u8
 where
     R: Threads + Wait + Sync + time::Clock + AllocGlobal,
+    ensures { RunsOver [] (map string_bytes words.now) result
+        (ends (S.left source.old) (S.faults source.old) (K.held sink.old) (K.faults sink.old))
+        (ends (S.left source.new) (S.faults source.new) (K.held sink.new) (K.faults sink.new)) }
 {
     let clock = SystemClock::new(rt);
     let setting = Setting {
@@ -96,15 +135,16 @@ fn run_alone<R: Threads + Wait + Sync, C: Clock + Sync, S: Source, K: Sink, P: P
     sink: &mut K,
     progress: &mut P,
 ) -> u8
-    ensures { (left : List (Stand MemoryDoor OpenGate)) × Runs (C.gives setting.now.clock.now)
-        (door_seen ⟦<MemoryDoor as Door>⟧.links ⟦<MemoryDoor as Door>⟧.faults) setting.now.key
+    ensures { (left : List (Stand TcpDoor OpenGate)) × Runs (C.gives setting.now.clock.now)
+        (door_seen ⟦<TcpDoor<'static> as Door>⟧.links ⟦<TcpDoor<'static> as Door>⟧.faults)
+        setting.now.key
         (map string_bytes words.now) result
         (outside (ends (S.left source.old) (S.faults source.old) (K.held sink.old)
         (K.faults sink.old)) [])
         (outside (ends (S.left source.new) (S.faults source.new) (K.held sink.new)
         (K.faults sink.new)) left) }
 {
-    let mut stands: [Stand<MemoryDoor, OpenGate>; 0] = [];
+    let mut stands: [Stand<TcpDoor<'_>, OpenGate>; 0] = [];
     run(setting, words, source, sink, &mut stands, progress)
 }
 
@@ -125,6 +165,9 @@ where
         + Net<Listener = TcpListener, Stream = TcpStream>
         + RandomSource,
     R: Eprint + AllocGlobal,
+    ensures { ServesOrBeginsNone workers (map string_bytes words.now) result
+        (ends (S.left source.old) (S.faults source.old) (K.held sink.old) (K.faults sink.old))
+        (ends (S.left source.new) (S.faults source.new) (K.held sink.new) (K.faults sink.new)) }
 {
     let Ok(listener) = TcpListener::bind(rt, address.as_str()) else {
         return tell_cannot_listen(rt);
@@ -153,7 +196,9 @@ where
 }
 
 // Tells that nothing listens, and answers the status for that.
-fn tell_cannot_listen<R: Eprint>(rt: &R) -> u8 {
+fn tell_cannot_listen<R: Eprint>(rt: &R) -> u8
+    ensures { result ≡ 7 }
+{
     let _told = eprintln!(rt; "mapd: cannot listen");
     CANNOT_LISTEN
 }

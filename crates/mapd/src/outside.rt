@@ -1,4 +1,6 @@
 //! The outside of the program: stands over a listener, a random key, and what shows a drill's progress.
+ghost use Rattle.std.specs.Prelude.{◌≡◌, IfOk, length};
+
 use ifmap_dialogue::Gate;
 use ifmap_drill::Progress;
 use ifmap_io::TcpDoor;
@@ -47,7 +49,9 @@ pub fn stands_at(
     alloc: Global,
     listener: &TcpListener,
     workers: u32,
-) -> Result<Vec<Stand<TcpDoor<'_>, OpenGate>>, NoMemory> {
+) -> Result<Vec<Stand<TcpDoor<'_>, OpenGate>>, NoMemory>
+    ensures { IfOk result (λ stands. length stands.items ≡ workers) }
+{
     let mut stands = Vec::new(alloc);
     for _ in 0..workers {
         stands.push(Stand::new(TcpDoor::new(listener), OpenGate))?;
