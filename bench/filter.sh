@@ -1,5 +1,5 @@
 #!/bin/sh
-# Times `parse` of a text of ten thousand names, beside a copy of the text's bytes, and `matches` of a
+# Times `parse` of texts of 1,000, 10,000 and 100,000 names, each beside a copy of the text's bytes, and `matches` of a
 # filter of ten comparisons, joined by `or`, on an element with twenty attributes and twenty children,
 # of which only the last comparison holds: each of the others looks through all attributes or all
 # children. The least of COUNT times, of which one is a parse, a copy and ten thousand calls of
@@ -25,21 +25,21 @@ const META: &str = "http://www.trustedcomputinggroup.org/2010/IFMAP-METADATA/2";
 
 const LOCALS: [&str; 20] = ["name", "discovered-time", "discoverer-id", "magnitude", "confidence", "significance", "type", "other-type-definition", "information", "start-time", "end-time", "dhcp-server", "ifmap-cardinality", "ifmap-publisher-id", "ifmap-timestamp", "administrative-domain", "device-type", "string", "value", "vulnerability-uri"];
 
-const NAMES: usize = 10_000;
+const SIZES: [usize; 3] = [1_000, 10_000, 100_000];
 
 const CALLS: usize = 10_000;
 
 fn leaf(alloc: Global, local: &str) -> Result<Child, NoMemory> {
     let mut members = Vec::new(alloc);
     members.push(Child::Text(Text::from_str(alloc, "some words that a sensor wrote")?))?;
-    Ok(Child::Element(Element::bare(alloc, local, Vec::new(alloc), members)?))
+    Ok(Child::Element(Element::with_local(alloc, local, Vec::new(alloc), members)?))
 }
 
 fn metadata(alloc: Global) -> Result<Element, NoMemory> {
     let mut attributes = Vec::new(alloc);
     let mut members = Vec::new(alloc);
     for local in LOCALS {
-        attributes.push(Attribute::bare(alloc, local, Text::from_str(alloc, "words")?)?)?;
+        attributes.push(Attribute::with_local(alloc, local, Text::from_str(alloc, "words")?)?)?;
         members.push(leaf(alloc, local)?)?;
     }
     let name = Name::new(alloc, META, "event")?;
@@ -55,7 +55,7 @@ fn attribute_asked(alloc: Global, value: &str) -> Result<Predicate, NoMemory> {
 }
 
 fn child_asked(alloc: Global) -> Result<Predicate, NoMemory> {
-    let name = Name::bare(alloc, "vulnerability-uri")?;
+    let name = Name::with_local(alloc, "vulnerability-uri")?;
     let value = Text::from_str(alloc, "some words that nobody wrote")?;
     Ok(Predicate::Child { name, value })
 }
@@ -76,9 +76,9 @@ fn ten(alloc: Global) -> Result<Filter, NoMemory> {
     Ok(Filter { tests })
 }
 
-fn names(alloc: Global) -> Result<Text, NoMemory> {
+fn names(alloc: Global, size: usize) -> Result<Text, NoMemory> {
     let mut text = Text::from_str(alloc, "m:event")?;
-    for _ in 1..NAMES {
+    for _ in 1..size {
         text.push_str(" or m:event")?;
     }
     Ok(text)
@@ -122,8 +122,8 @@ fn copy_time<R: Runtime>(rt: &R, alloc: Global, text: &Text) -> io::Result<u128>
     Ok(copied)
 }
 
-fn print_reading<R: Runtime>(rt: &R, alloc: Global, count: usize) -> io::Result<()> {
-    let text = names(alloc).map_err(io::Error::from)?;
+fn print_reading<R: Runtime>(rt: &R, alloc: Global, size: usize, count: usize) -> io::Result<()> {
+    let text = names(alloc, size).map_err(io::Error::from)?;
     let scope = scope(alloc).map_err(io::Error::from)?;
     let mut parsed = u128::MAX;
     let mut both = u128::MAX;
@@ -135,7 +135,7 @@ fn print_reading<R: Runtime>(rt: &R, alloc: Global, count: usize) -> io::Result<
         copied = copied.min(copy_time(rt, alloc, &text)?);
     }
     let bytes = text.len();
-    rt.println(format_args!("parse of {NAMES} names, {bytes} bytes: {parsed} ns, {both} ns with letting go"))?;
+    rt.println(format_args!("parse of {size} names, {bytes} bytes: {parsed} ns, {both} ns with letting go"))?;
     rt.println(format_args!("copy of the text: {copied} ns"))
 }
 
@@ -159,7 +159,9 @@ fn main(rt: HostRuntime) -> io::Result<()> {
     for word in env::args(&rt)?.skip(1) {
         count = word.parse::<usize>().unwrap_or(1).min(1_000);
     }
-    print_reading(&rt, alloc, count)?;
+    for size in SIZES {
+        print_reading(&rt, alloc, size, count)?;
+    }
     print_matching(&rt, alloc, count)
 }
 RATTLE

@@ -1,14 +1,13 @@
 #!/bin/sh
-# Times metadata, and tells the memory of an attachment: `role` with one child, of 208 canonical bytes as it is stored.
-# Run from anywhere: sh bench/meta.sh. It needs `rt`, and builds in a new folder under TMPDIR.
+# Times metadata, `role` with one child: reading the element beside reading it and making metadata of
+# it, stamping, comparing two keys; and tells the memory of an attachment. The least of some turns.
+# Run from anywhere: sh bench/meta.sh. It needs `rt`, and builds in a new folder under TMPDIR, where it
+# proves the crates below the program from nothing: that takes most of its time.
 . "$(dirname "$0")/common.sh"
 prepare meta_bench 'ifmap_elem ifmap_ident ifmap_io ifmap_meta ifmap_reader ifmap_view'
 cat > "$work/crates/meta_bench/src/main.rt" <<'RATTLE'
 //! Makes metadata of elements that were read, stamps them, compares their keys, and keeps attachments.
 #![tactic(auto)]
-
-ghost use Rattle.std.specs.Prelude.{IfOk};
-ghost use Rattle.ifmap_meta.specs.Whole.{IsMetadata};
 
 use ifmap_elem::Text;
 use ifmap_ident::{Identifier, Item};
@@ -18,39 +17,122 @@ use ifmap_reader::read;
 use ifmap_view::Attachment;
 use std::alloc::{AllocError as NoMemory, Global};
 use std::fs;
+use std::hint::black_box;
 use std::io;
 use std::rt::Runtime;
 use std::time::Instant;
 
+const CALLS: u64 = 2_000;
+const TURNS: u64 = 20;
+const ATTACHMENTS: usize = 40_000;
+const PAGE: u64 = 4_096;
+
 const ROLE: &str = "<m:role xmlns:m=\"http://www.trustedcomputinggroup.org/2010/IFMAP-METADATA/2\" ifmap-cardinality=\"multiValue\"><name>employee</name></m:role>";
 
-fn role(alloc: Global) -> Result<Metadata, NoMemory>
-    ensures { IfOk result IsMetadata }
-{
-    let Ok(reading) = read(alloc, ROLE.as_bytes(), 64) else {
-        return Err(NoMemory);
-    };
-    match Metadata::from_element(alloc, reading.root) {
-        Ok(metadata) => Ok(metadata),
-        Err(_) => Err(NoMemory),
+fn role(alloc: Global) -> Option<Metadata> {
+    let reading = read(alloc, ROLE.as_bytes(), 64).ok()?;
+    Metadata::from_element(alloc, reading.root).ok()
+}
+
+fn time_of_reading<R: Runtime>(rt: &R, alloc: Global) -> io::Result<u128> {
+    let mut least = u128::MAX;
+    for _ in 0..TURNS {
+        let start = Instant::now(rt)?;
+        for _ in 0..CALLS {
+            drop(black_box(read(alloc, black_box(ROLE.as_bytes()), 64)));
+        }
+        least = least.min(start.elapsed(rt)?.as_nanos());
     }
+    Ok(least)
 }
 
-fn item(alloc: Global, number: u32) -> Result<Item, NoMemory> {
-    let [a, b, c, d] = number.wrapping_mul(2_654_435_761).to_be_bytes();
-    let domain = Text(String::new(alloc));
-    Ok(Item::One(Identifier::MacAddress { value: [0, 2, a, b, c, d], domain }))
+fn time_of_making<R: Runtime>(rt: &R, alloc: Global) -> io::Result<u128> {
+    let mut least = u128::MAX;
+    for _ in 0..TURNS {
+        let start = Instant::now(rt)?;
+        for _ in 0..CALLS {
+            drop(black_box(role(black_box(alloc))));
+        }
+        least = least.min(start.elapsed(rt)?.as_nanos());
+    }
+    Ok(least)
 }
 
-fn stored(alloc: Global, metadata: &Metadata, publisher: &ClientName) -> Result<Stored, NoMemory> {
+fn stamp(alloc: Global, metadata: &Metadata, publisher: &ClientName) -> Result<Stored, NoMemory> {
     let moment = Moment::new(1_000_000_000).ok_or(NoMemory)?;
     metadata.stamp(alloc, publisher, moment, Life::Session(1))
 }
 
-fn attachment(alloc: Global, number: u32, publisher: &ClientName) -> Result<Attachment, NoMemory> {
-    let moment = Moment::new(1_000_000_000).ok_or(NoMemory)?;
-    let stored = role(alloc)?.stamp(alloc, publisher, moment, Life::Session(1))?;
-    Ok(Attachment { item: item(alloc, number)?, stored })
+fn time_of_stamping<R: Runtime>(
+    rt: &R,
+    alloc: Global,
+    metadata: &Metadata,
+    publisher: &ClientName,
+) -> io::Result<u128> {
+    let mut least = u128::MAX;
+    for _ in 0..TURNS {
+        let start = Instant::now(rt)?;
+        for _ in 0..CALLS {
+            drop(black_box(stamp(alloc, black_box(metadata), publisher)));
+        }
+        least = least.min(start.elapsed(rt)?.as_nanos());
+    }
+    Ok(least)
+}
+
+fn time_of_comparing<R: Runtime>(rt: &R, one: &Stored, other: &Stored) -> io::Result<u128> {
+    let mut least = u128::MAX;
+    for _ in 0..TURNS {
+        let start = Instant::now(rt)?;
+        for _ in 0..CALLS {
+            black_box(black_box(one).same_key(black_box(other)));
+        }
+        least = least.min(start.elapsed(rt)?.as_nanos());
+    }
+    Ok(least)
+}
+
+fn bench_elements<R: Runtime>(rt: &R, alloc: Global) -> io::Result<()> {
+    let reading = time_of_reading(rt, alloc)? / 2_000;
+    let making = time_of_making(rt, alloc)? / 2_000;
+    rt.println(format_args!("ns: read {reading}, read and made metadata {making}"))
+}
+
+fn bench_keys<R: Runtime>(rt: &R, one: &Stored, other: &Stored) -> io::Result<()> {
+    let comparing = time_of_comparing(rt, one, other)?;
+    let bytes = one.size();
+    rt.println(format_args!("ns of 2,000: keys of {bytes} bytes compared {comparing}"))
+}
+
+fn bench_stored<R: Runtime>(
+    rt: &R,
+    alloc: Global,
+    metadata: &Metadata,
+    publisher: &ClientName,
+) -> io::Result<()> {
+    let stamping = time_of_stamping(rt, alloc, metadata, publisher)? / 2_000;
+    rt.println(format_args!("ns: stamped {stamping}"))?;
+    let one = stamp(alloc, metadata, publisher)?;
+    let other = stamp(alloc, metadata, publisher)?;
+    bench_keys(rt, &one, &other)
+}
+
+fn item(alloc: Global, number: u32) -> Item {
+    let [a, b, c, d] = number.wrapping_mul(2_654_435_761).to_be_bytes();
+    let domain = Text(String::new(alloc));
+    let value = [0, 2, a, b, c, d];
+    Item::One(Identifier::MacAddress { value, domain })
+}
+
+fn attachment(
+    alloc: Global,
+    number: u32,
+    publisher: &ClientName,
+) -> Result<Attachment, NoMemory> {
+    let metadata = role(alloc).ok_or(NoMemory)?;
+    let stored = stamp(alloc, &metadata, publisher)?;
+    let item = item(alloc, number);
+    Ok(Attachment { item, stored })
 }
 
 // The resident pages, from the second word of the file.
@@ -61,76 +143,47 @@ fn resident<R: Runtime>(rt: &R) -> io::Result<u64> {
     Ok(words.next().and_then(|word| word.parse::<u64>().ok()).unwrap_or(0))
 }
 
-fn attachments(alloc: Global, publisher: &ClientName, count: u32) -> Result<Vec<Attachment>, NoMemory> {
-    let mut all = Vec::with_capacity(alloc, count as usize)?;
-    for number in 0..count {
+fn add_attachments(
+    alloc: Global,
+    publisher: &ClientName,
+    all: &mut Vec<Attachment>,
+) -> Result<(), NoMemory> {
+    for number in 0..40_000 {
         all.push(attachment(alloc, number, publisher)?)?;
     }
-    Ok(all)
+    Ok(())
 }
 
-fn made(alloc: Global, count: u32) -> Result<u64, NoMemory> {
-    let mut bytes = 0u64;
-    for _ in 0..count {
-        bytes = bytes.wrapping_add(role(alloc)?.element.attributes.0.len() as u64);
-    }
-    Ok(bytes)
+fn bench_memory<R: Runtime>(
+    rt: &R,
+    alloc: Global,
+    publisher: &ClientName,
+    all: &mut Vec<Attachment>,
+) -> io::Result<()> {
+    let before = resident(rt)?;
+    add_attachments(alloc, publisher, all)?;
+    let pages = resident(rt)?.saturating_sub(before);
+    let each = pages.saturating_mul(PAGE) / 40_000;
+    rt.println(format_args!("bytes of memory for an attachment: {each}"))
 }
 
-fn only_read(alloc: Global, count: u32) -> u64 {
-    let mut parts = 0u64;
-    for _ in 0..count {
-        if let Ok(reading) = read(alloc, ROLE.as_bytes(), 64) {
-            parts = parts.wrapping_add(reading.root.attributes.0.len() as u64);
-        }
+fn bench_all<R: Runtime>(rt: &R, alloc: Global, publisher: &ClientName) -> io::Result<()> {
+    bench_elements(rt, alloc)?;
+    if let Some(metadata) = role(alloc) {
+        bench_stored(rt, alloc, &metadata, publisher)?;
     }
-    parts
-}
-
-fn stamped(alloc: Global, metadata: &Metadata, publisher: &ClientName, count: u32) -> Result<u64, NoMemory> {
-    let mut bytes = 0u64;
-    for _ in 0..count {
-        bytes = bytes.wrapping_add(stored(alloc, metadata, publisher)?.size());
-    }
-    Ok(bytes)
-}
-
-fn compared(one: &Stored, other: &Stored, count: u32) -> u32 {
-    let mut same = 0u32;
-    for _ in 0..count {
-        if one.same_key(other) {
-            same = same.wrapping_add(1);
-        }
-    }
-    same
+    let mut all = Vec::with_capacity(alloc, ATTACHMENTS)?;
+    bench_memory(rt, alloc, publisher, &mut all)
 }
 
 fn main(rt: HostRuntime) -> io::Result<()> {
     let alloc = rt.alloc();
-    let count = 40_000u32;
-    let publisher = ClientName::new(Text::from_str(alloc, "c1").map_err(io::Error::from)?)
-        .ok_or(NoMemory).map_err(io::Error::from)?;
-    let start = Instant::now(&rt)?;
-    let parts = only_read(alloc, count);
-    let reading = start.elapsed(&rt)?.as_nanos() / u128::from(count);
-    let start = Instant::now(&rt)?;
-    let more = made(alloc, count).map_err(io::Error::from)?;
-    let making = start.elapsed(&rt)?.as_nanos() / u128::from(count);
-    let metadata = role(alloc).map_err(io::Error::from)?;
-    let start = Instant::now(&rt)?;
-    let bytes = stamped(alloc, &metadata, &publisher, count).map_err(io::Error::from)?;
-    let stamping = start.elapsed(&rt)?.as_nanos() / u128::from(count);
-    let one = stored(alloc, &metadata, &publisher).map_err(io::Error::from)?;
-    let other = stored(alloc, &metadata, &publisher).map_err(io::Error::from)?;
-    let start = Instant::now(&rt)?;
-    let same = compared(&one, &other, count);
-    let comparing = start.elapsed(&rt)?.as_nanos() / u128::from(count);
-    let before = resident(&rt)?;
-    let all = attachments(alloc, &publisher, count).map_err(io::Error::from)?;
-    let pages = resident(&rt)?.saturating_sub(before);
-    println!(rt; "{parts} {more} {bytes} {same}: read in {reading} ns, read and made metadata in {making} ns, stamped in {stamping} ns, keys compared in {comparing} ns")?;
-    println!(rt; "{} attachments of {} bytes: {} bytes of memory each", all.len(), one.size(), pages * 4096 / u64::from(count))
+    match ClientName::new(Text(String::from_str(alloc, "c1")?)) {
+        Some(publisher) => bench_all(&rt, alloc, &publisher),
+        None => Ok(()),
+    }
 }
 RATTLE
 cd "$work/crates/meta_bench"
-rt run
+rt run > "$work/out.txt" 2> "$work/build.log" || { cat "$work/build.log"; exit 1; }
+cat "$work/out.txt"

@@ -22,7 +22,7 @@ const META: &str = "http://www.trustedcomputinggroup.org/2010/IFMAP-METADATA/2";
 
 fn attribute(alloc: Global, local: &str, value: &str) -> Result<Attribute, NoMemory> {
     let value = Text::from_str(alloc, value)?;
-    Attribute::bare(alloc, local, value)
+    Attribute::with_local(alloc, local, value)
 }
 
 fn leaf(alloc: Global, space: &str, local: &str, words: &str) -> Result<Element, NoMemory> {

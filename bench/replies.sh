@@ -27,13 +27,13 @@ const PARTS: [&str; 10] = ["name", "discovered-time", "discoverer-id", "magnitud
 
 fn attribute(alloc: Global, local: &str, value: &str) -> Result<Attribute, NoMemory> {
     let value = Text::from_str(alloc, value)?;
-    Attribute::bare(alloc, local, value)
+    Attribute::with_local(alloc, local, value)
 }
 
 fn leaf(alloc: Global, local: &str) -> Result<Child, NoMemory> {
     let words = Text::from_str(alloc, "some words that a sensor wrote, of sixty bytes or about that")?;
     let children = vec![in alloc; Child::Text(words)]?;
-    Ok(Child::Element(Element::bare(alloc, local, Vec::new(alloc), children)?))
+    Ok(Child::Element(Element::with_local(alloc, local, Vec::new(alloc), children)?))
 }
 
 fn event(alloc: Global) -> Result<Element, NoMemory> {
