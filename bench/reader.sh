@@ -81,6 +81,10 @@ def within(words, count):
     return b'<a>' + words * count + b'</a>'
 
 
+def declared(depth):
+    return b'<a>' * (depth - 1) + b'<b xmlns:p="u"/>' * 55000 + b'</a>' * (depth - 1)
+
+
 DOCUMENTS = {
     'publish of 1 MB': publish(2200),
     'publish of 10 MB': publish(22000),
@@ -93,6 +97,8 @@ DOCUMENTS = {
     'comments': within(b'<!-- a comment - of some words -->', 300000),
     'one text': within(b'some words that a sensor wrote, of sixty bytes or about that\n', 165000),
     'empty tags': within(b'<a/>', 2500000),
+    '55,000 declarations, 2 deep': declared(2),
+    '55,000 declarations, 62 deep': declared(62),
     'one name': b'<' + b'a' * 10000000 + b'/>',
 }
 

@@ -19,4 +19,5 @@ pub mod NextTokens
 pub mod Progressing
 pub mod ScopeLaws
 pub mod Stepping
+pub mod TurnedLaws
 pub mod Ways

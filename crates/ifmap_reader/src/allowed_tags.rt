@@ -5,6 +5,7 @@ ghost use Rattle.ifmap_reader.specs.OpenElements.{AreLinked, Reaches};
 ghost use Rattle.ifmap_reader.specs.AllowedTags.{ArePlain, IsGiven, TagAnswer, plain, scope_inside};
 
 use crate::bindings::{Bindings, XML, bindings_of, bound_prefix};
+use crate::declarations::Declarations;
 use crate::differing::have_other_names;
 use crate::errors::Refusal;
 use crate::open_elements::OpenElement;
@@ -43,7 +44,7 @@ pub(crate) fn open_element(
         declaring,
         children: Many(Vec::new(alloc)),
         text: Text(String::new(alloc)),
-        below: Many(Vec::new(alloc)),
+        below: Declarations::new(alloc),
     })
 }
 

@@ -5,6 +5,7 @@
 
 mod allowed_tags;
 mod bindings;
+mod declarations;
 mod differing;
 pub mod errors;
 pub mod laws;

@@ -71,7 +71,7 @@ fn end_innermost(alloc: Global, open_elements: Many<OpenElement>) -> Result<Stan
     let Some(innermost) = open_elements.pop() else {
         return Err(Refusal::NotAllowed);
     };
-    let (element, declared) = innermost.close()?;
+    let (element, declared) = innermost.close(alloc)?;
     Ok(with_element(alloc, open_elements, element, declared)?)
 }
 

@@ -6,8 +6,9 @@ ghost use Rattle.ifmap_elem.specs.Document.{from_above};
 ghost use Rattle.ifmap_reader.specs.OpenElements.{Closes, is_child_text, text_child, with_inner, with_characters, written_name};
 
 use crate::bindings::Bindings;
+use crate::declarations::Declarations;
 use ifmap_elem::tokens::Qualified;
-use ifmap_elem::{Attribute, Child, Declared, Element, Equals, Many, Name, Text};
+use ifmap_elem::{Attribute, Child, Element, Equals, Many, Name, Text};
 use std::alloc::{AllocError as NoMemory, Global};
 use std::mem;
 
@@ -27,7 +28,7 @@ pub(crate) struct OpenElement {
     // The text after these.
     pub text: Text,
     // The declarations in the children, with their paths from this element on.
-    pub below: Many<Declared>,
+    pub below: Declarations,
 }
 
 impl OpenElement {
@@ -51,19 +52,19 @@ impl OpenElement {
         &mut self,
         alloc: Global,
         element: Element,
-        declared: Many<Declared>,
+        declared: Declarations,
     ) -> Result<(), NoMemory>
         ensures { OnOk result (self.new ≡ with_inner self.old element declared) }
     {
         let text = mem::replace(&mut self.text, Text::new(alloc));
         add_text(&mut self.children, true, text)?;
-        add_below(&mut self.below, self.children.len(), declared)?;
+        add_below(alloc, &mut self.below, self.children.len(), declared)?;
         add_child(&mut self.children, Child::Element(element))
     }
 
     // The element, at its end, and the declarations in it.
     #[inline(always)]
-    pub(crate) fn close(self) -> Result<(Element, Many<Declared>), NoMemory>
+    pub(crate) fn close(self, alloc: Global) -> Result<(Element, Declarations), NoMemory>
         ensures { IfOk result (λ closed. Closes self [] closed.0 closed.1) }
     {
         let OpenElement {
@@ -79,7 +80,7 @@ impl OpenElement {
         let mut children = children;
         let beside = !children.0.is_empty();
         add_text(&mut children, beside, text)?;
-        let declared = append(bindings.into_declared(), below)?;
+        let declared = below.with_own(alloc, bindings)?;
         let element = Element {
             name,
             attributes,
@@ -140,63 +141,20 @@ fn add_child(children: &mut Many<Child>, child: Child) -> Result<(), NoMemory>
     children.push(child)
 }
 
-#[inline(always)]
-fn append(declared: Many<Declared>, more: Many<Declared>) -> Result<Many<Declared>, NoMemory>
-    ensures { IfOk result (λ made. made ≡ declared ++ more) }
-{
-    let Many(mut members) = declared;
-    let Many(mut others) = more;
-    members.append(&mut others)?;
-    Ok(Many(members))
-}
-
-// Puts the declarations in the child at this index after the others.
+// Puts the declarations in the child at this index after the others. Most children declare nothing.
 #[inline(always)]
 fn add_below(
-    below: &mut Many<Declared>,
+    alloc: Global,
+    below: &mut Declarations,
     index: usize,
-    declared: Many<Declared>,
+    declared: Declarations,
 ) -> Result<(), NoMemory>
     ensures { OnOk result (below.new ≡ below.old ++ map (from_above index) declared) }
 {
     if declared.is_empty() {
         return Ok(());
     }
-    add_raised(below, index, declared)
-}
-
-fn add_raised(
-    below: &mut Many<Declared>,
-    index: usize,
-    declared: Many<Declared>,
-) -> Result<(), NoMemory>
-    ensures { OnOk result (below.new ≡ below.old ++ map (from_above index) declared) }
-{
-    let Many(inner) = declared;
-    for row in inner {
-        below.push(raise(index, row)?)?;
-    }
+    let others = mem::replace(below, Declarations::new(alloc));
+    *below = others.with_more(alloc, declared.raise(index)?)?;
     Ok(())
-}
-
-// A declaration as the parent sees it. An index beyond 32 bits is more than memory holds.
-fn raise(index: usize, row: Declared) -> Result<Declared, NoMemory>
-    ensures { IfOk result (λ made. made ≡ from_above index row) }
-{
-    let Declared {
-        path,
-        prefix,
-        space,
-    } = row;
-    let Many(mut steps) = path;
-    let Ok(step) = u32::try_from(index) else {
-        return Err(NoMemory);
-    };
-    steps.insert(0, step)?;
-    let path = Many(steps);
-    Ok(Declared {
-        path,
-        prefix,
-        space,
-    })
 }

@@ -5,10 +5,11 @@ ghost use Rattle.ifmap_reader.specs.Progress.{AfterRoot, EndAnswer, IsAfterEleme
 ghost use Rattle.ifmap_elem.specs.declared.tokens.Token.{Token};
 
 use crate::allowed_tags::open_element;
+use crate::declarations::Declarations;
 use crate::errors::Refusal;
 use crate::open_elements::OpenElement;
 use ifmap_elem::tokens::{Qualified, Tag, Token};
-use ifmap_elem::{Declared, Element, Many, Reading, Text};
+use ifmap_elem::{Element, Many, Reading, Text};
 use std::alloc::{AllocError as NoMemory, Global};
 
 #[derive(Drop)]
@@ -140,7 +141,7 @@ fn take_empty(
     if open_elements.len() >= depth as usize {
         return Err(Refusal::TooDeep);
     }
-    let (element, declared) = inner.close()?;
+    let (element, declared) = inner.close(alloc)?;
     Ok(with_element(alloc, open_elements, element, declared)?)
 }
 
@@ -158,7 +159,7 @@ fn take_end(
     if !innermost.is_named(&name) {
         return Err(Refusal::NotAllowed);
     }
-    let (element, declared) = innermost.close()?;
+    let (element, declared) = innermost.close(alloc)?;
     Ok(with_element(alloc, open_elements, element, declared)?)
 }
 
@@ -168,13 +169,14 @@ pub(crate) fn with_element(
     alloc: Global,
     open_elements: Vec<OpenElement>,
     element: Element,
-    declared: Many<Declared>,
+    declared: Declarations,
 ) -> Result<Standing, NoMemory>
     ensures { IfOk result (λ new. IsAfterElement open_elements.items element declared new) }
 {
     let mut open_elements = open_elements;
     if open_elements.is_empty() {
         let root = element;
+        let declared = declared.into_declared(alloc)?;
         return Ok(Standing::Done(Box::new(alloc, Reading { root, declared })?));
     }
     add_element(alloc, &mut open_elements, element, declared)?;
@@ -187,7 +189,7 @@ fn add_element(
     alloc: Global,
     open_elements: &mut Vec<OpenElement>,
     element: Element,
-    declared: Many<Declared>,
+    declared: Declarations,
 ) -> Result<(), NoMemory>
     requires { 0 < vec_len open_elements.old }
     ensures { OnOk result (ChangesLast (λ f. with_inner f element declared)
