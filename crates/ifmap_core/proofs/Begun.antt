@@ -27,10 +27,11 @@ use Rattle.ifmap_machine.specs.Step.{begin_session, is_full, new_session, next_s
 use Rattle.ifmap_replies.specs.declared.replies.Reply.TheVariants as the_reply
 use Rattle.ifmap_session.specs.SessionIds.{session_id}
 use Rattle.ifmap_session.specs.Sessions.{IsAsBefore, IsLive, IsTable, Opening, Session, Table, is_text, limit_of, most_sessions, session_from, session_of_client, spare_of, without_sessions}
-use Rattle.ifmap_session.specs.laws.TableLaws.{client_freed, one_fewer, shorter}
+use Rattle.ifmap_session.specs.laws.TableLaws.{client_freed, one_fewer}
 use Rattle.ifmap_session.specs.laws.TextLaws.{distinct_filter}
 use Rattle.ifmap_tellings.specs.declared.tellings.Pending.{Pending}
 use Rattle.ifmap_tellings.specs.Tellings.{HasSameSessions, IsSized, count_told, told_by}
+use Rattle.ifmap_lemmas.specs.Filters.{filter_shorter}
 
 -- ---- parts of which the sessions have more room
 
@@ -280,7 +281,7 @@ module _ (a : Asking) (old new : Parts) (pending after : Pending) (random : ℕ)
       let same_now : former ≡ option_map (λ (s : Session). s.serial) o =
       same ∙ ap (λ l. option_map (λ (s : Session). s.serial) (session_of_client a.client l)) before in
       let few : length (sessions_left a table) ≤ most_sessions =
-      (let less = shorter (remains a.ended) table.live in let most = whole.few in omega (arith, less, most)) in
+      (let less = filter_shorter (remains a.ended) table.live in let most = whole.few in omega (arith, less, most)) in
       let test : (nat_le most_sessions (length (sessions_left a table)) && is_none o) ≡ false =
       (or_parts _ _ (sym (full_is a table (with_table old table b) pending refl)
       ∙ ap (λ (t : State). is_full t a.client) (so_far_with old table b a pending) ∙ free)).0 in

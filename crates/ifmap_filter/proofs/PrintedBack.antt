@@ -14,14 +14,13 @@ use Rattle.std.proofs.lemmas.Bool.{and_parts, cases_Bool, false_from_ne_true}
 use Rattle.std.proofs.lemmas.List.{append-nil}
 use Rattle.std.proofs.lemmas.List.Folds.{list_all-append}
 use Rattle.std.proofs.lemmas.Bool.Decides.{nat_tests}
-use Rattle.std.proofs.lemmas.Slice.Eq.{bytes_eq-Decides}
 use Rattle.std.proofs.lemmas.Str.{IsUtf8-from_ascii, chars-IsAscii, chars-nil, encodes-IsAscii, scalars-chars}
 use Rattle.std.proofs.lemmas.Str.Ascii.{IsAscii-cons, IsAscii-nil}
 use Rattle.std.proofs.lemmas.Str.Parse.{digit_from_value}
 use Rattle.ifmap_lemmas.specs.Items.{To}
 use Rattle.ifmap_lemmas.specs.Numerals.{numeral, numeral_digits, one_number}
 use Rattle.ifmap_lemmas.specs.Members.{all_of_test}
-use Rattle.ifmap_lemmas.specs.Texts.{ascii_encoded, eq_itself, eq_tells, is_ascii}
+use Rattle.ifmap_lemmas.specs.Texts.{ascii_encoded, eq_itself, eq_tells, is_ascii, bytes_apart}
 use Rattle.ifmap_elem.specs.Chars.{AllAre, colon}
 use Rattle.ifmap_elem.specs.Names.{is_name_character, is_name_start}
 use Rattle.ifmap_elem.specs.Scopes.{xml_space}
@@ -214,11 +213,6 @@ or_later : (a b : Bool) → a ≡ false → (a || b) ≡ true → b ≡ true
 or_later true b e h = cc
 or_later false b e h = h
 
-turned : (x y : List ℕ) → bytes_eq x y ≡ false → bytes_eq y x ≡ false
-turned x y e =
-    false_from_ne_true (bytes_eq y x) (λ h. let same : x ≡ y = sym (eq_tells y x h) in let k : bytes_eq x y ≡ true =
-    (bytes_eq-Decides x y).1 same in cc)
-
 module _ (space : List ℕ) where
   first_place : (s : List ℕ) (ss : List (List ℕ)) → bytes_eq s space ≡ true → place_of space (s ∷ ss) ≡ 0
   first_place s ss e = rw e refl
@@ -238,7 +232,7 @@ module _ (space : List ℕ) where
         ∙ ap (λ z. Some z) (eq_tells s space e)
     | inr e ↦
         let number : place_of space (s ∷ ss) + n ≡ place_of space ss + (n + 1) = (let p = later_place s ss e in omega (arith, p)) in
-        let among : list_any (bytes_eq space) ss ≡ true = or_later (bytes_eq space s) (list_any (bytes_eq space) ss) (turned s space e) h in
+        let among : list_any (bytes_eq space) ss ≡ true = or_later (bytes_eq space s) (list_any (bytes_eq space) ss) (bytes_apart s space e) h in
         ap (λ k. lookup (bytes_eq (numbered_prefix k)) (numbered_rows n (s ∷ ss))) number
         ∙ row_later (bytes_eq (numbered_prefix (place_of space ss + (n + 1)))) (numbered_prefix n) s (numbered_rows (n + 1) ss)
         (other_prefix (place_of space ss + (n + 1)) n (λ q. absurd (omega (arith, q))))

@@ -5,7 +5,7 @@ use Rattle.std.proofs.lemmas.Cmp.{tied_itself}
 use Rattle.std.specs.List.{AllByRecursion}
 use Rattle.std.specs.Ordering.{is_eq, is_lt, ordering_then}
 use Rattle.std.specs.declared.cmp.Ordering.TheVariants.{Less}
-use Rattle.ifmap_lemmas.specs.Members.{all_of_test, both_all, map_of_all}
+use Rattle.ifmap_lemmas.specs.Members.{all_of_test, both_all, map_of_all, all_any}
 use Rattle.ifmap_lemmas.specs.Orderings.{is_less}
 use Rattle.ifmap_ident.specs.Items.{IsCanonItem, item_order, items_tie, same_item}
 use Rattle.ifmap_meta.specs.declared.stored.Stored.{Stored}
@@ -15,7 +15,8 @@ use Rattle.ifmap_view.specs.Attachments.{IsGraph, attachment_order, of_one_key, 
 use Rattle.ifmap_fresh_tests.specs.declared.shelves.Shelf.{Shelf}
 use Rattle.ifmap_fresh_tests.specs.Lists.{all_pairs, are_lists, item_below, row_below, row_on, rows_of}
 use Rattle.ifmap_fresh_tests.proofs.Finding.{items_total}
-use Rattle.ifmap_fresh_tests.proofs.Pairs.{Pairwise, all_any, all_turned, pairs_of, pairwise_both, pairwise_onto, pairwise_turned, to_distinct, to_sorted}
+use Rattle.ifmap_fresh_tests.proofs.Pairs.{all_turned, pairs_of, pairwise_turned, to_distinct, to_sorted}
+use Rattle.ifmap_lemmas.specs.Pairwise.{Pairwise, pairwise_onto, pairwise_both}
 
 all_rows : (Q : Attachment → Type 0) (P : Shelf → Type 0) → ((s : Shelf) (x : Stored) → P s → Q (row_on s.item x)) → (ss : List Shelf)
     → AllByRecursion P ss → AllByRecursion Q (rows_of ss)

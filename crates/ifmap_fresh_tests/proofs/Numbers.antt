@@ -8,7 +8,7 @@ use Rattle.ifmap_lemmas.specs.Filters.{all_filter}
 use Rattle.ifmap_lemmas.specs.Having.{Has, has_either, has_left, has_right}
 use Rattle.ifmap_lemmas.specs.Members.{both_all}
 use Rattle.ifmap_fresh_tests.specs.Lists.{below, count_below}
-use Rattle.ifmap_fresh_tests.proofs.Pairs.{Pairwise, pairwise_both}
+use Rattle.ifmap_lemmas.specs.Pairwise.{Pairwise, pairwise_both}
 
 get_left : {X : Type 0} (xs ys : List X) (i : ℕ) (x : X) → slice_get xs i ≡ Some x → slice_get (xs ++ ys) i ≡ Some x
 get_left [] ys i x e = let q : None ≡ Some x = e in cc

@@ -1,30 +1,17 @@
 -- What holds of each two elements of a list, in their order.
-use Rattle.std.proofs.Common.{◌≡◌, Bool, true, false, List, [], ◌∷◌, ◌++◌, map}
+use Rattle.std.proofs.Common.{◌≡◌, Bool, true, false, List, [], ◌∷◌}
 use Rattle.std.proofs.lemmas.Bool.{and_parts}
 use Rattle.std.specs.List.{AllByRecursion, IsDistinct, list_all}
 use Rattle.std.specs.List.Sorted.{IsStrictlySortedBy}
 use Rattle.std.specs.declared.cmp.Ordering.{Ordering}
 use Rattle.std.specs.declared.cmp.Ordering.TheVariants.{Less}
-use Rattle.ifmap_lemmas.specs.Members.{all_of_test, both_all}
+use Rattle.ifmap_lemmas.specs.Members.{all_of_test}
 use Rattle.ifmap_fresh_tests.specs.Lists.{all_pairs}
-
--- each element and those after it
-abbrev pub Pairwise : {X : Type 0} → (X → X → Type 0) → List X → Type 0
-Pairwise P [] = Unit {0}
-Pairwise P (x ∷ xs) = AllByRecursion (P x) xs × Pairwise P xs
+use Rattle.ifmap_lemmas.specs.Pairwise.{Pairwise}
 
 pub all_turned : {X : Type 0} (P Q : X → Type 0) (xs : List X) → ((x : X) → P x → Q x) → AllByRecursion P xs → AllByRecursion Q xs
 all_turned P Q [] f a = tt
 all_turned P Q (x ∷ xs) f a = (f x a.0, all_turned P Q xs f a.1)
-
-pub all_any : {X : Type 0} (P : X → Type 0) (xs : List X) → ((x : X) → P x) → AllByRecursion P xs
-all_any P [] f = tt
-all_any P (x ∷ xs) f = (f x, all_any P xs f)
-
-pub all_onto : {X Y : Type 0} (P : X → Type 0) (Q : Y → Type 0) (f : X → Y) (xs : List X) → ((x : X) → P x → Q (f x))
-    → AllByRecursion P xs → AllByRecursion Q (map f xs)
-all_onto P Q f [] g a = tt
-all_onto P Q f (x ∷ xs) g a = (g x a.0, all_onto P Q f xs g a.1)
 
 pub pairs_of : {X : Type 0} (t : X → X → Bool) (xs : List X) → all_pairs t xs ≡ true → Pairwise (λ x y. t x y ≡ true) xs
 pairs_of t [] e = tt
@@ -35,17 +22,6 @@ pairs_of t (x ∷ xs) e =
 pub pairwise_turned : {X : Type 0} (P Q : X → X → Type 0) (xs : List X) → ((x y : X) → P x y → Q x y) → Pairwise P xs → Pairwise Q xs
 pairwise_turned P Q [] f p = tt
 pairwise_turned P Q (x ∷ xs) f p = (all_turned (P x) (Q x) xs (f x) p.0, pairwise_turned P Q xs f p.1)
-
-pub pairwise_onto : {X Y : Type 0} (P : X → X → Type 0) (Q : Y → Y → Type 0) (f : X → Y) (xs : List X) → ((x y : X) → P x y → Q (f x) (f y))
-    → Pairwise P xs → Pairwise Q (map f xs)
-pairwise_onto P Q f [] g p = tt
-pairwise_onto P Q f (x ∷ xs) g p = (all_onto (P x) (Q (f x)) f xs (g x) p.0, pairwise_onto P Q f xs g p.1)
-
-pub pairwise_both : {X : Type 0} (P : X → X → Type 0) (xs ys : List X) → Pairwise P xs → Pairwise P ys
-    → AllByRecursion (λ x. AllByRecursion (P x) ys) xs
-    → Pairwise P (xs ++ ys)
-pairwise_both P [] ys p q a = q
-pairwise_both P (x ∷ xs) ys p q a = (both_all (P x) xs ys p.0 a.0, pairwise_both P xs ys p.1 q a.1)
 
 module _ {X : Type 0} (R : X → X → Ordering) where
   sorted_nil : IsStrictlySortedBy R []

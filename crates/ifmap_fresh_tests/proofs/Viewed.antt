@@ -26,7 +26,8 @@ use Rattle.ifmap_fresh_tests.specs.declared.shelves.Shelf.{Shelf}
 use Rattle.ifmap_fresh_tests.specs.Lists.{all_pairs, are_lists, are_sound, below, differ, is_full, is_known, is_linked, item_below, link_to, links_of, row_on, rows_of}
 use Rattle.ifmap_fresh_tests.proofs.Graphs.{graph_is}
 use Rattle.ifmap_fresh_tests.proofs.Numbers.{below_differ, has_below, pairwise_kept}
-use Rattle.ifmap_fresh_tests.proofs.Pairs.{Pairwise, pairs_of, to_distinct}
+use Rattle.ifmap_fresh_tests.proofs.Pairs.{pairs_of, to_distinct}
+use Rattle.ifmap_lemmas.specs.Pairwise.{Pairwise}
 
 -- identifiers of one list of canonical bytes are one, where elements are them
 abbrev pub Tells : Type 0

@@ -1,11 +1,11 @@
 -- No place is named twice.
-use Rattle.std.proofs.Common.{◌≡◌, ◌&&◌, ℕ, Bool, true, false, not, cond, nat_eq, Option, Some, None, List, [], ◌∷◌, ◌++◌, refl, ap, ◌∙◌, sym, inl, inr, arith}
-use Rattle.std.proofs.lemmas.Bool.Decides.{nat_tests}
+use Rattle.std.proofs.Common.{◌≡◌, ◌&&◌, ℕ, Bool, true, false, not, cond, nat_eq, Option, Some, None, List, [], ◌∷◌, ◌++◌, refl, ap, ◌∙◌, sym, inl, inr}
 use Rattle.std.proofs.lemmas.Bool.{cases_Bool}
 use Rattle.std.specs.List.{AllByRecursion, IsDistinct, filter, cons_option}
 use Rattle.ifmap_view.specs.declared.views.LinkSeen.{LinkSeen}
 use Rattle.ifmap_graph.specs.Linked.{AreListed, ats, changed_links, coming_links, far_of, seen_at}
 use Rattle.ifmap_lemmas.specs.Having.{Has, from_has}
+use Rattle.ifmap_lemmas.specs.Numbers.{is_number}
 
 -- the place is not among those of the links
 abbrev Out : ℕ → List LinkSeen → Type 0
@@ -71,9 +71,6 @@ all_map : (P Q : LinkSeen → Type 0) (ls : List LinkSeen) → ((l : LinkSeen) �
 all_map P Q [] f a = tt
 all_map P Q (l ∷ ls) f a = (f l a.0, all_map P Q ls f a.1)
 
-apart_numbers : (a b : ℕ) → nat_eq a b ≡ true → a ≡ b
-apart_numbers a b e = grind (arith, nat_tests)
-
 module _ (joins : ℕ → Option (ℕ × ℕ)) (before after : ℕ → Bool) (v : ℕ) where
   abbrev pick : ℕ → Option LinkSeen
   pick at = cond (after at && not (before at)) (seen_at at (far_of (joins at) v)) None
@@ -122,7 +119,7 @@ module _ (joins : ℕ → Option (ℕ × ℕ)) (before after : ℕ → Bool) (v 
   apart_from k [] full a = tt
   apart_from k (l ∷ ls) full a = (
     elim (cases_Bool (nat_eq k l.at)) [
-      | inl e ↦ let r : false ≡ true = sym a.0 ∙ ap before (sym (apart_numbers k l.at e)) ∙ full in cc
+      | inl e ↦ let r : false ≡ true = sym a.0 ∙ ap before (sym (is_number k l.at e)) ∙ full in cc
       | inr e ↦ e
     ],
     apart_from k ls full a.1,

@@ -5,7 +5,7 @@ use Rattle.std.specs.FinMap.{get}
 use Rattle.std.specs.List.{AllByRecursion}
 use Rattle.std.specs.Map.{lookup, remove_entry}
 use Rattle.std.specs.declared.cmp.Ordering.TheVariants.{Equal}
-use Rattle.ifmap_lemmas.specs.Having.{Has}
+use Rattle.ifmap_lemmas.specs.Having.{Has, all_has}
 use Rattle.ifmap_ident.specs.declared.identifiers.Identifier.{Identifier}
 use Rattle.ifmap_ident.specs.declared.items.Item.{Item}
 use Rattle.ifmap_ident.specs.Identifiers.{identifier_order}
@@ -26,7 +26,6 @@ use Rattle.ifmap_graph.proofs.Holds.{add_two, numbered_kept}
 use Rattle.ifmap_graph.proofs.Leaving.{comes, goes, named_tied, slots_kept, stays_placed, still_used}
 use Rattle.ifmap_graph.proofs.Finding.{all_left}
 use Rattle.ifmap_graph.proofs.Shelving.{Entries}
-use Rattle.ifmap_graph.proofs.Viewed.{all_has}
 
 -- what lives is the same
 module _ (old new : Holdings Identifier) (live : new.live ≡ old.live) where

@@ -11,7 +11,7 @@ use Rattle.std.specs.BTreeMap.{is_at}
 use Rattle.std.specs.List.{AllByRecursion, Contains, IsDistinct, cons_option, filter_map}
 use Rattle.std.specs.Ordering.{is_eq}
 use Rattle.slab.specs.Slab.{Slab, get}
-use Rattle.ifmap_lemmas.specs.Having.{Has, from_has, has_mapped}
+use Rattle.ifmap_lemmas.specs.Having.{Has, from_has, has_mapped, all_has}
 use Rattle.ifmap_ident.specs.declared.items.Item.{Item}
 use Rattle.ifmap_ident.specs.declared.items.Item.TheVariants.{One, Pair}
 use Rattle.ifmap_ident.specs.declared.identifiers.Identifier.{Identifier}
@@ -52,7 +52,6 @@ use Rattle.ifmap_graph.proofs.Ordered.{equal_is, items_total, turned_tie}
 use Rattle.ifmap_graph.proofs.Planned.{stored_tied}
 use Rattle.ifmap_graph.proofs.Shelving.{Entries}
 use Rattle.ifmap_graph.proofs.Touching.{drafted_links}
-use Rattle.ifmap_graph.proofs.Viewed.{all_has}
 use Rattle.ifmap_graph.proofs.Writes.{one_item}
 
 same_or_not : (a b : Bool) → differ a b ≡ false → a ≡ b

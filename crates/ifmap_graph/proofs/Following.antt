@@ -16,8 +16,9 @@ use Rattle.ifmap_plans.specs.After.{IsAbove, IsNextItem, NoItem}
 use Rattle.ifmap_view.specs.Rows.{stored_on}
 use Rattle.ifmap_graph.specs.After.{AreEmpty, IsFirst, entries_after}
 use Rattle.ifmap_graph.specs.Shelved.{Rises, rows_by}
-use Rattle.ifmap_graph.proofs.Ordered.{equal_is, items_total, less_is}
+use Rattle.ifmap_graph.proofs.Ordered.{equal_is, items_total}
 use Rattle.ifmap_graph.proofs.Finding.{absent, first_rises, found, nothing_rises, rises_first}
+use Rattle.ifmap_lemmas.specs.Orderings.{is_less}
 
 itself : (item : Item) → item_order item item ≡ Equal
 itself item = tied_itself items_total item
@@ -90,7 +91,7 @@ module _ {X : Type 0} where
 
   after_of : (after : Option Item) (es : List (Item × X)) (e : Item × X) → Has (entries_after after es) e → Has es e × IsAbove after e.0
   after_of None es e h = (h, tt)
-  after_of (Some a) es e h = let r = filter_has (λ x. is_lt (item_order a x.0)) es e h in (r.0, less_is (item_order a e.0) r.1)
+  after_of (Some a) es e h = let r = filter_has (λ x. is_lt (item_order a x.0)) es e h in (r.0, is_less (item_order a e.0) r.1)
 
   of_after : (after : Option Item) (es : List (Item × X)) (e : Item × X) → Has es e → IsAbove after e.0 → Has (entries_after after es) e
   of_after None es e h a = h

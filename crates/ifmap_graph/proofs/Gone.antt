@@ -1,13 +1,12 @@
 -- An item's shelf goes: the others stand where they stood.
-use Rattle.std.proofs.Common.{◌≡◌, ◌≢◌, ℕ, Bool, true, false, cond, Option, Some, None, List, [], ◌∷◌, refl, ap, ◌∙◌, sym, subst, inl, inr}
+use Rattle.std.proofs.Common.{◌≡◌, ◌≢◌, ℕ, Bool, true, false, cond, Option, Some, None, [], ◌∷◌, refl, ap, ◌∙◌, sym, subst, inl, inr}
 use Rattle.std.proofs.lemmas.Option.{none-some}
 use Rattle.std.specs.BTreeMap.{is_at}
-use Rattle.std.specs.List.{AllByRecursion}
 use Rattle.std.specs.Map.{lookup, remove_entry}
 use Rattle.std.specs.Ordering.{is_eq}
 use Rattle.std.specs.declared.cmp.Ordering.TheVariants.{Equal}
 use Rattle.slab.specs.Slab.{get}
-use Rattle.ifmap_lemmas.specs.Having.{Has}
+use Rattle.ifmap_lemmas.specs.Having.{Has, all_has, has_all}
 use Rattle.ifmap_ident.specs.declared.items.Item.{Item}
 use Rattle.ifmap_ident.specs.Items.{item_order}
 use Rattle.ifmap_graph.specs.declared.shelves.Shelf.{Shelf}
@@ -18,7 +17,6 @@ use Rattle.ifmap_graph.proofs.Following.{entry_hits, lookup_tied, looked_up}
 use Rattle.ifmap_graph.proofs.Leaving.{removed_has, slots_kept}
 use Rattle.ifmap_graph.proofs.Ordered.{items_total, turned_tie}
 use Rattle.ifmap_graph.proofs.Shelving.{Entries}
-use Rattle.ifmap_graph.proofs.Viewed.{all_has}
 use Rattle.ifmap_graph.proofs.Writes.{one_item}
 
 -- entries that are left were there
@@ -70,15 +68,11 @@ module _ (es new : Entries) (look later : ℕ → Option Shelf) (item : Item) (a
           (subst (λ l. Has l (h.0, n)) (sym removes) (removed_has (is_at (item_order item)) es at n h.0 here (other_slot x n f e) h.1))
           ∙ sym e
 
-all_by : {X : Type 0} (P : X → Type 0) (xs : List X) → ((x : X) → Has xs x → P x) → AllByRecursion P xs
-all_by P [] f = tt
-all_by P (x ∷ xs) f = (f x (inl refl), all_by P xs (λ y h. f y (inr h)))
-
 module _ (s t : Shelves)
     (before : (x : Item) (at : ℕ) → place_of t x ≡ Some at → (place_of s x ≡ Some at) × (get t.slots at ≡ get s.slots at)) where
   -- where no shelf had a draft, none has
   pub bare_left : AreShelved t → AreBare s → AreBare t
-  bare_left is b = all_by (λ e. NoDraft (get t.slots e.1)) t.places.entries (λ e h.
+  bare_left is b = has_all (λ e. NoDraft (get t.slots e.1)) t.places.entries (λ e h.
       let p = before e.0 e.1 (entry_hits t.places.entries e.0 e.1 is.rising h)
       in let q = looked_up s.places.entries e.0 e.1 p.0
       in subst NoDraft (sym p.1) (all_has (λ e. NoDraft (get s.slots e.1)) s.places.entries b (q.0, e.1) q.1))

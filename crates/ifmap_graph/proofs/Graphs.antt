@@ -1,12 +1,12 @@
 -- The attachments of shelves whose lists rise, each with its keys apart, are a graph.
-use Rattle.std.proofs.Common.{◌≡◌, ◌&&◌, Bool, true, false, List, [], ◌∷◌, ◌++◌, map, refl, ap, ◌∙◌}
+use Rattle.std.proofs.Common.{◌≡◌, ◌&&◌, Bool, true, false, List, [], ◌∷◌, map, refl, ap, ◌∙◌}
 use Rattle.std.specs.List.{AllByRecursion, IsDistinct}
 use Rattle.std.specs.List.Sorted.{IsStrictlySortedBy}
 use Rattle.std.specs.Ordering.{is_eq, ordering_then}
 use Rattle.std.specs.declared.cmp.Ordering.{Ordering}
 use Rattle.std.specs.declared.cmp.Ordering.TheVariants.{Less}
 use Rattle.std.proofs.lemmas.Cmp.{tied_itself}
-use Rattle.ifmap_lemmas.specs.Members.{both_all, map_of_all}
+use Rattle.ifmap_lemmas.specs.Members.{both_all, map_of_all, all_any}
 use Rattle.ifmap_ident.specs.declared.items.Item.{Item}
 use Rattle.ifmap_ident.specs.Items.{IsCanonItem, item_order, items_tie, same_item}
 use Rattle.ifmap_meta.specs.declared.stored.Stored.{Stored}
@@ -17,11 +17,7 @@ use Rattle.ifmap_view.specs.Attachments.{IsGraph, attachment_order, of_one_key, 
 use Rattle.ifmap_graph.specs.Shelved.{Rises, row_on, rows_by}
 use Rattle.ifmap_graph.proofs.Ordered.{items_total}
 use Rattle.ifmap_graph.proofs.Finding.{first_rises}
-
--- each element and those after it
-abbrev Pairwise : {X : Type 0} → (X → X → Type 0) → List X → Type 0
-Pairwise P [] = Unit {0}
-Pairwise P (x ∷ xs) = AllByRecursion (P x) xs × Pairwise P xs
+use Rattle.ifmap_lemmas.specs.Pairwise.{Pairwise, pairwise_onto, pairwise_both}
 
 module _ {X : Type 0} (R : X → X → Ordering) where
   sorted_nil : IsStrictlySortedBy R []
@@ -64,26 +60,6 @@ module _ {X : Type 0} (eq : X → X → Bool) where
   from_distinct : (xs : List X) → IsDistinct eq xs → Pairwise (λ x y. eq x y ≡ false) xs
   from_distinct [] r = tt
   from_distinct (x ∷ xs) r = let p = distinct_parts x xs r in (p.0, from_distinct xs p.1)
-
-all_onto : {X Y : Type 0} (P : X → Type 0) (Q : Y → Type 0) (f : X → Y) (xs : List X) → ((x : X) → P x → Q (f x)) → AllByRecursion P xs
-    → AllByRecursion Q (map f xs)
-all_onto P Q f [] g a = tt
-all_onto P Q f (x ∷ xs) g a = (g x a.0, all_onto P Q f xs g a.1)
-
-pairwise_onto : {X Y : Type 0} (P : X → X → Type 0) (Q : Y → Y → Type 0) (f : X → Y) (xs : List X) → ((x y : X) → P x y → Q (f x) (f y))
-    → Pairwise P xs → Pairwise Q (map f xs)
-pairwise_onto P Q f [] g p = tt
-pairwise_onto P Q f (x ∷ xs) g p = (all_onto (P x) (Q (f x)) f xs (g x) p.0, pairwise_onto P Q f xs g p.1)
-
-pairwise_both : {X : Type 0} (P : X → X → Type 0) (xs ys : List X) → Pairwise P xs → Pairwise P ys → AllByRecursion
-    (λ x. AllByRecursion (P x) ys) xs
-    → Pairwise P (xs ++ ys)
-pairwise_both P [] ys p q a = q
-pairwise_both P (x ∷ xs) ys p q a = (both_all (P x) xs ys p.0 a.0, pairwise_both P xs ys p.1 q a.1)
-
-all_any : {X : Type 0} (P : X → Type 0) (xs : List X) → ((x : X) → P x) → AllByRecursion P xs
-all_any P [] f = tt
-all_any P (x ∷ xs) f = (f x, all_any P xs f)
 
 module _ {X : Type 0} (list_of : X → List Stored) where
   -- what holds of all that could stand on the entries' items holds of all rows

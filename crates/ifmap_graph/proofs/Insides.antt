@@ -4,7 +4,7 @@ use Rattle.std.proofs.lemmas.Bool.{cases_Bool}
 use Rattle.std.proofs.lemmas.Option.{same_Some, none-some}
 use Rattle.std.specs.List.{Contains}
 use Rattle.std.specs.Map.{lookup}
-use Rattle.ifmap_lemmas.specs.Having.{Has}
+use Rattle.ifmap_lemmas.specs.Having.{Has, all_has}
 use Rattle.ifmap_ident.specs.declared.identifiers.Identifier.{Identifier}
 use Rattle.ifmap_ident.specs.declared.items.Item.{Item}
 use Rattle.ifmap_ident.specs.declared.items.Item.TheVariants.{One, Pair}
@@ -23,7 +23,7 @@ use Rattle.ifmap_graph.specs.Named.{AreEnds, AreIdentifiers, AreNumbered, HasEnd
 use Rattle.ifmap_graph.specs.Shelved.{IsPlaced, Side, list_at, row_on, rows_by}
 use Rattle.ifmap_graph.proofs.Alike.{Tells, alike_equal, equal_alike}
 use Rattle.ifmap_graph.proofs.Graphs.{graph_is}
-use Rattle.ifmap_graph.proofs.Viewed.{all_has, alone, apart, each, handled, linked, only}
+use Rattle.ifmap_graph.proofs.Viewed.{alone, apart, each, handled, linked, only}
 
 -- the rows of shelves are those of their entries
 pub rows_shown : (side : Side) (look : ℕ → Option Shelf) (es : List (Item × ℕ)) → rows_by (list_at side) (shown_shelves look es) ≡ rows_by

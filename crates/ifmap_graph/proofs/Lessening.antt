@@ -28,8 +28,9 @@ use Rattle.ifmap_graph.proofs.Gone.{bare_left}
 use Rattle.ifmap_graph.proofs.Moved.{inside_moved, lists_stay}
 use Rattle.ifmap_graph.proofs.Ordered.{equal_is}
 use Rattle.ifmap_graph.proofs.Shelving.{Entries}
-use Rattle.ifmap_graph.proofs.Viewed.{all_has}
-use Rattle.ifmap_graph.proofs.Writes.{slot_live, some_of}
+use Rattle.ifmap_graph.proofs.Writes.{slot_live}
+use Rattle.ifmap_lemmas.specs.Having.{all_has}
+use Rattle.ifmap_lemmas.specs.Options.{some_is}
 
 -- nothing went
 pub less_itself : (names : Holdings Identifier) (s : Shelves) → IsLess names names s s
@@ -132,7 +133,7 @@ both x e f = ap (λ n. record { now = n; draft = x.draft }) e ∙ ap (λ d. reco
 pub is_bare : (s : Shelves) (item : Item) (at : ℕ) → AreShelved s → AreBare s → place_of s item ≡ Some at
     → stored_on item (rows_of now s) ≡ [] → IsBare s item
 is_bare s item at is bare here empty =
-    let l = some_of (get s.slots at) (slot_live (get s.slots) s.places.entries item at is here)
+    let l = some_is (get s.slots at) (slot_live (get s.slots) s.places.entries item at is here)
     in let q = looked_up s.places.entries item at here
     in let none : NoDraft (Some l.0) = subst NoDraft l.1 (all_has (λ e. NoDraft (get s.slots e.1)) s.places.entries bare (q.0, at) q.1)
     in (

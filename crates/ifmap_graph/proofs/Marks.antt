@@ -21,7 +21,7 @@ use Rattle.ifmap_graph.proofs.Accepting.{apart_parts}
 use Rattle.ifmap_graph.proofs.Brought.{brings_less, brings_unless, never_waited}
 use Rattle.ifmap_graph.proofs.Finding.{absent}
 use Rattle.ifmap_graph.proofs.Lessening.{is_bare, less_itself, less_on}
-use Rattle.ifmap_graph.proofs.Writes.{some_of}
+use Rattle.ifmap_lemmas.specs.Options.{some_is}
 
 marked_none : (xs : List Item) → flagged_items xs [] ≡ []
 marked_none [] = refl
@@ -79,7 +79,7 @@ module _ (items : List Item) (marks : List Bool) (names : Holdings Identifier) (
         → IsBare s x
     takes_empty links is bare origin rows b t =
         let p = came_here origin b t
-        in let at = some_of (place_of s x) p.there.0
+        in let at = some_is (place_of s x) p.there.0
         in is_bare s x at.0 (g.less.inside links is).placed (g.less.bare bare) at.1
         (ap (stored_on x) (g.less.rows ∙ sym rows)
         ∙ sym (absent (λ n. list_at now (get origin.slots n)) x origin.places.entries p.absent.0))

@@ -8,7 +8,7 @@ use Rattle.std.specs.List.Sorted.{IsStrictlySortedBy}
 use Rattle.std.specs.Ordering.{is_eq, ordering_then}
 use Rattle.std.specs.declared.cmp.Ordering.{Ordering}
 use Rattle.std.specs.declared.cmp.Ordering.TheVariants.{Less, Equal}
-use Rattle.ifmap_lemmas.specs.Having.{Has, filter_has, has_filter, has_map, map_has}
+use Rattle.ifmap_lemmas.specs.Having.{Has, filter_has, has_filter, has_map, map_has, all_has}
 use Rattle.ifmap_ident.specs.declared.items.Item.{Item}
 use Rattle.ifmap_ident.specs.declared.items.Item.TheVariants.{One, Pair}
 use Rattle.ifmap_ident.specs.Items.{IsCanonItem, item_order, same_item}
@@ -21,7 +21,6 @@ use Rattle.ifmap_view.specs.Attachments.{IsGraph, attachment_order, of_one_key, 
 use Rattle.ifmap_view.specs.Rows.{stored_on}
 use Rattle.ifmap_graph.proofs.Alike.{Tells, one_tied, pair_tied}
 use Rattle.ifmap_graph.proofs.Ordered.{equal_is, items_total, ties}
-use Rattle.ifmap_graph.proofs.Viewed.{all_has}
 
 tied_with : (x k : Item) → same_item k x ≡ true → item_order x k ≡ Equal
 tied_with x k e = equal_is (item_order x k) (ties x k ∙ e)

@@ -1,7 +1,7 @@
 -- Empty shelves are passed over.
 use Rattle.std.proofs.Common.{◌≡◌, ◌≢◌, ◌==◌, true, false, List, [], ◌∷◌, ◌++◌, length, refl, ap, ◌∙◌, sym, subst, append_assoc, arith}
 use Rattle.std.proofs.lemmas.Bool.Decides.{nat_tests}
-use Rattle.std.specs.List.{AllByRecursion, filter}
+use Rattle.std.specs.List.{AllByRecursion}
 use Rattle.ifmap_ident.specs.declared.items.Item.{Item}
 use Rattle.ifmap_meta.specs.declared.stored.Stored.{Stored}
 use Rattle.ifmap_graph.specs.After.{AreEmpty, IsPassing}
@@ -14,10 +14,6 @@ nothing_in (x ∷ xs) e = absurd (grind (arith, nat_tests))
 pub some_there : {X : Type 0} (l : List X) → (length l == 0) ≡ false → l ≢ []
 some_there [] e n = absurd (grind (arith, nat_tests))
 some_there (x ∷ xs) e n = let q : true ≡ false = ap is_full n in cc
-
-pub all_kept : {X : Type 0} (xs : List X) → filter (λ x. true) xs ≡ xs
-all_kept [] = refl
-all_kept (x ∷ xs) = ap (λ l. x ∷ l) (all_kept xs)
 
 module _ {X : Type 0} (list_of : X → List Stored) where
   empty_push : (before : List (Item × X)) (e : Item × X) → AreEmpty list_of before → list_of e.1 ≡ [] → AreEmpty list_of (before ++ e ∷ [])

@@ -30,6 +30,7 @@ use Rattle.ifmap_graph.proofs.Accepting.{all_given, apart_parts}
 use Rattle.ifmap_graph.proofs.Bare.{sides_same}
 use Rattle.ifmap_graph.proofs.Finding.{live_at}
 use Rattle.ifmap_graph.proofs.Ordered.{equal_is, items_total, ties, turned_tie}
+use Rattle.ifmap_lemmas.specs.Members.{all_last, all_of_map}
 
 -- the tests of two items that tie
 same_test : (i x y : Item) → item_order i x ≡ Equal → same_item y i ≡ same_item y x
@@ -65,10 +66,6 @@ no_change i x (c ∷ cs) t a = elim (cases_Bool (same_item c.item x)) [
   | inr f ↦ rw f (no_change i x cs t a.1)
 ]
 
-all_snoc : (P : Item → Type 0) (xs : List Item) (x : Item) → AllByRecursion P xs → P x → AllByRecursion P (xs ++ x ∷ [])
-all_snoc P [] x a p = (p, tt)
-all_snoc P (y ∷ ys) x a p = (a.0, all_snoc P ys x a.1 p)
-
 map_snoc : (xs : List ItemChange) (x : ItemChange) → items_of (xs ++ x ∷ []) ≡ items_of xs ++ x.item ∷ []
 map_snoc [] x = refl
 map_snoc (y ∷ ys) x = ap (λ l. y.item ∷ l) (map_snoc ys x)
@@ -82,10 +79,6 @@ pub all_at_place : {X : Type 0} (P : X → Type 0) (xs : List X) (i : ℕ) (d : 
 all_at_place P [] i d h a = absurd (omega (arith, h))
 all_at_place P (x ∷ xs) zero d h a = a.0
 all_at_place P (x ∷ xs) (suc i) d h a = all_at_place P xs i d (omega (arith, h)) a.1
-
-pub mapped_all : {X Y : Type 0} (P : Y → Type 0) (f : X → Y) (xs : List X) → AllByRecursion P (map f xs) → AllByRecursion (λ x. P (f x)) xs
-mapped_all P f [] a = tt
-mapped_all P f (x ∷ xs) a = (a.0, mapped_all P f xs a.1)
 
 -- no shelf has a draft where all are bare
 pub bare_none : (s : Shelves) → AreBare s → (x : Item) → HasDraft s x → ⊥
@@ -147,7 +140,7 @@ module _ (changes : List ItemChange) (first : Shelves) where
         subst (λ p. IsSome (place_of (record { places = p; slots = s.slots }) c.item)) (sym g.places)
         (subst (λ (x : ItemChange). IsSome (place_of first x.item)) (sym is)
         (all_at_place (λ (x : ItemChange). IsSome (place_of first x.item)) changes i c h
-        (mapped_all (λ x. IsSome (place_of first x)) (λ (x : ItemChange). x.item) changes all)))
+        (all_of_map (λ x. IsSome (place_of first x)) (λ (x : ItemChange). x.item) changes all)))
 
     pub within_on : (t : Shelves) → ((x : Item) → HasDraft t x → HasDraft s x ⊎ (is_at (item_order c.item) x ≡ true))
         → DraftsWithin (items_of changes) t
@@ -196,7 +189,7 @@ module _ (changes : List ItemChange) (first : Shelves) where
         drafted = subst (λ l. AllByRecursion (HasDraft t) (items_of l))
             (ap (λ x. take i changes ++ x ∷ []) is ∙ sym (take-suc changes i c h) ∙ ap (λ n. take n changes) (sym (add-one i)))
             (subst (AllByRecursion (HasDraft t)) (sym (map_snoc (take i changes) c))
-            (all_snoc (HasDraft t) (items_of (take i changes)) c.item
+            (all_last (HasDraft t) (items_of (take i changes)) c.item
             (all_given (HasDraft s) (HasDraft t) (items_of (take i changes)) kept g.drafted) there));
         within = within_on t drafts;
         apart = apart_here.1;

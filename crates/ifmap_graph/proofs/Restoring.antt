@@ -14,13 +14,14 @@ use Rattle.ifmap_graph.specs.Shelved.{AreShelved, HasNoDraft, place_of}
 use Rattle.ifmap_graph.specs.Waits.{waits_on}
 use Rattle.ifmap_graph.proofs.Accepting.{stored_at}
 use Rattle.ifmap_graph.proofs.Finding.{live_at}
-use Rattle.ifmap_graph.proofs.Writes.{slot_live, some_of}
+use Rattle.ifmap_graph.proofs.Writes.{slot_live}
+use Rattle.ifmap_lemmas.specs.Options.{some_is}
 
 -- an item that has a shelf has one without a draft, where none has one
 pub no_draft_on : (s : Shelves) (x : Item) → AreShelved s → AreBare s → IsSome (place_of s x) → HasNoDraft s x
 no_draft_on s x is bare there =
-    let p = some_of (place_of s x) there
-    in let q = some_of (get s.slots p.0) (slot_live (get s.slots) s.places.entries x p.0 is p.1)
+    let p = some_is (place_of s x) there
+    in let q = some_is (get s.slots p.0) (slot_live (get s.slots) s.places.entries x p.0 is p.1)
     in let none : NoDraft (Some q.0) = subst NoDraft q.1
     (live_at (λ at. NoDraft (get s.slots at)) (is_at (item_order x)) s.places.entries p.0 bare p.1)
     in (p.0, q.0, p.1, q.1, none)

@@ -1,5 +1,5 @@
 -- What contracts see of a graph's parts, as the parts have it: the numbers of shelves, and the links of those that are not empty.
-use Rattle.std.proofs.Common.{◌≡◌, ◌≢◌, ◌⊎◌, ℕ, true, Option, Some, None, IsSome, List, [], ◌∷◌, nat_eq, option_map, refl, ap, ◌∙◌, sym, subst, inl, inr}
+use Rattle.std.proofs.Common.{◌≡◌, ◌⊎◌, ℕ, Option, Some, None, IsSome, List, nat_eq, option_map, refl, ap, ◌∙◌, sym, subst, inl, inr}
 use Rattle.std.proofs.lemmas.Option.{none-some}
 use Rattle.std.specs.BTreeMap.{is_at}
 use Rattle.std.specs.List.{IsDistinct}
@@ -15,7 +15,7 @@ use Rattle.ifmap_view.specs.Rows.{stored_on}
 use Rattle.ifmap_graph.specs.declared.shelves.Shelf.{Shelf}
 use Rattle.ifmap_graph.specs.Back.{AreLinks, AreTwo}
 use Rattle.ifmap_graph.specs.Held.{Held, shown_shelves}
-use Rattle.ifmap_graph.specs.Joined.{is_full, joined_pair}
+use Rattle.ifmap_graph.specs.Joined.{is_full, joined_pair, full_some, some_full}
 use Rattle.ifmap_graph.specs.Linked.{AreListed, ats}
 use Rattle.ifmap_graph.specs.Shelved.{IsPlaced, list_at, rows_by}
 use Rattle.ifmap_graph.specs.Sides.{Sides, now}
@@ -56,14 +56,6 @@ two_by (Some shelf) v w e = e
 by_two : (o : Option Shelf) (v w : ℕ) → AreTwo (ends_of o) v w → (joined_pair o ≡ Some (v, w)) ⊎ (joined_pair o ≡ Some (w, v))
 by_two None v w e = absurd e
 by_two (Some shelf) v w e = e
-
-full_some : {X : Type 0} (l : List X) → is_full l ≡ true → l ≢ []
-full_some [] e n = cc
-full_some (x ∷ xs) e n = cc
-
-some_full : {X : Type 0} (l : List X) → l ≢ [] → is_full l ≡ true
-some_full [] n = absurd (n refl)
-some_full (x ∷ xs) n = refl
 
 -- the links of the slots that are full, by the items that have something stored on them; and the other way round
 module _ (look : ℕ → Option Shelf) (es : Entries) (names : Holdings Identifier) (sides : List (Sides LinkSeen)) (rows : List Attachment)

@@ -28,8 +28,8 @@ use Rattle.ifmap_graph.proofs.Following.{looked_up}
 use Rattle.ifmap_graph.proofs.Insides.{lookup_shown, named_shown, rows_shown}
 use Rattle.ifmap_graph.proofs.Outs.{from_shown, to_shown}
 use Rattle.ifmap_graph.proofs.Lessening.{waited_there}
-use Rattle.ifmap_graph.proofs.Viewed.{all_has}
 use Rattle.ifmap_graph.proofs.Waited.{times_append}
+use Rattle.ifmap_lemmas.specs.Having.{all_has}
 
 -- what contracts see of a graph's parts
 abbrev pub held_of : Holdings Identifier → Shelves → List (Sides LinkSeen) → Held

@@ -15,6 +15,7 @@ use Rattle.ifmap_ident.specs.Items.{IsCanonItem, item_order}
 use Rattle.ifmap_graph.specs.declared.shelves.Shelf.{Shelf}
 use Rattle.ifmap_graph.specs.Shelved.{IsPlaced, Rises, Side, list_at, row_on, rows_by}
 use Rattle.ifmap_graph.proofs.Finding.{all_inserted, inserted, nothing_rises}
+use Rattle.ifmap_lemmas.specs.Numbers.{is_number}
 
 abbrev pub Entries : Type 0
 Entries = List (Item × ℕ)
@@ -67,16 +68,13 @@ slots_inserted (e ∷ es) item at d a = by (item_order item e.0) (slots_inserted
     by Greater rest = first_slot e (insert_entry item_order es item at) (out_inserted e.1 es item at (slots_first e es d).0
         (turned_tests at e.1 a.0)) rest
 
-same_numbers : (a b : ℕ) → nat_eq a b ≡ true → a ≡ b
-same_numbers a b e = grind (arith, nat_tests)
-
 -- a vacant slot is no entry's
 vacant_out : (look : ℕ → Option Shelf) (at : ℕ) (es : Entries) → look at ≡ None → AllByRecursion (λ e. IsSome (look e.1)) es
     → AllByRecursion (λ y. nat_eq at y ≡ false) (slots_of es)
 vacant_out look at [] v a = tt
 vacant_out look at (e ∷ es) v a = (
   elim (cases_Bool (nat_eq at e.1)) [
-    | inl t ↦ let q : IsSome {T = Shelf} None = subst (λ (o : Option Shelf). IsSome o) (ap look (sym (same_numbers at e.1 t)) ∙ v) a.0 in cc
+    | inl t ↦ let q : IsSome {T = Shelf} None = subst (λ (o : Option Shelf). IsSome o) (ap look (sym (is_number at e.1 t)) ∙ v) a.0 in cc
     | inr t ↦ t
   ],
   vacant_out look at es v a.1,

@@ -17,11 +17,7 @@ use Rattle.ifmap_graph.specs.Turning.{sides_at}
 use Rattle.ifmap_graph.proofs.Joining.{one_more}
 use Rattle.ifmap_graph.proofs.Links.{far_first, far_second, is_far}
 use Rattle.ifmap_graph.proofs.Shelving.{none_is}
-
--- a test of one of two parts
-or_parts : (a b : Bool) → (a || b) ≡ false → (a ≡ false) × (b ≡ false)
-or_parts false b e = (refl, e)
-or_parts true b e = let q : true ≡ false = e in cc
+use Rattle.ifmap_lemmas.specs.Deciding.{or_parts}
 
 nothing_seen : (b : Bool) (at : ℕ) (o : Option ℕ) → o ≡ None → cond b (seen_at at o) None ≡ None
 nothing_seen false at o e = refl

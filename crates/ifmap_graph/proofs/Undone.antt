@@ -3,7 +3,7 @@ use Rattle.std.proofs.Common.{◌≡◌, ℕ, zero, suc, ◌+◌, ◌<◌, Optio
 use Rattle.std.proofs.lemmas.Cmp.{tied_itself}
 use Rattle.std.specs.List.{AllByRecursion, Contains, IsDistinct}
 use Rattle.slab.specs.Slab.{get}
-use Rattle.ifmap_lemmas.specs.Having.{Has}
+use Rattle.ifmap_lemmas.specs.Having.{Has, all_has}
 use Rattle.ifmap_ident.specs.declared.identifiers.Identifier.{Identifier}
 use Rattle.ifmap_ident.specs.declared.items.Item.{Item}
 use Rattle.ifmap_ident.specs.Identifiers.{identifier_order}
@@ -43,7 +43,6 @@ use Rattle.ifmap_graph.proofs.Shelving.{Entries}
 use Rattle.ifmap_graph.proofs.Staying.{ends_of}
 use Rattle.ifmap_graph.proofs.Taking.{has_times}
 use Rattle.ifmap_graph.proofs.Turns.{next_of_bare, restored_drafts, restored_length}
-use Rattle.ifmap_graph.proofs.Viewed.{all_has}
 
 -- links that are alike at each number
 links_alike : (rows : List Attachment) (links moved : ℕ → List LinkSeen) (h : Held) → ((v : ℕ) → moved v ≡ links v)

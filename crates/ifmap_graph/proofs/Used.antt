@@ -1,10 +1,10 @@
 -- Where nothing is left behind, the identifiers that have numbers are those that stand in an item with an attachment or that others hold.
-use Rattle.std.proofs.Common.{◌≡◌, ◌≢◌, ◌⊎◌, ℕ, zero, suc, ◌+◌, ◌<◌, Option, Some, None, IsSome, List, [], ◌∷◌, map, refl, ap, ◌∙◌, sym, subst, inl, inr, arith}
+use Rattle.std.proofs.Common.{◌≡◌, ◌⊎◌, ℕ, zero, suc, ◌+◌, ◌<◌, Option, Some, None, IsSome, List, [], ◌∷◌, map, refl, ap, ◌∙◌, sym, subst, inl, inr, arith}
 use Rattle.std.proofs.lemmas.Bool.{cases_Bool}
 use Rattle.std.specs.List.{AllByRecursion}
 use Rattle.std.specs.Ordering.{is_eq}
 use Rattle.slab.specs.Slab.{get}
-use Rattle.ifmap_lemmas.specs.Having.{Has, has_joined, has_map, joined_has, map_has}
+use Rattle.ifmap_lemmas.specs.Having.{Has, has_joined, has_map, joined_has, map_has, all_has, first_of}
 use Rattle.ifmap_ident.specs.declared.identifiers.Identifier.{Identifier}
 use Rattle.ifmap_ident.specs.declared.items.Item.{Item}
 use Rattle.ifmap_ident.specs.declared.items.Item.TheVariants.{One, Pair}
@@ -34,7 +34,6 @@ use Rattle.ifmap_graph.proofs.Lean.{lean_from}
 use Rattle.ifmap_graph.proofs.Ordered.{equal_is}
 use Rattle.ifmap_graph.proofs.Own.{key_told, live_key}
 use Rattle.ifmap_graph.proofs.Settled.{held_of, waits_shown}
-use Rattle.ifmap_graph.proofs.Viewed.{all_has}
 
 -- an identifier that entries name is one of some entry's item
 named_entry : {X : Type 0} (es : List (Item × X)) (a : Identifier) → 0 < named_in es a → (e : Item × X) × Has es e × (0 < named_by e.0 a)
@@ -86,10 +85,6 @@ shelf_named : (names : Holdings Identifier) (i : Item) (o : Option Shelf) (a : I
 shelf_named names i None a n h = absurd n
 shelf_named names i (Some shelf) a n h = ends_named names i shelf.ends a n h
 
-some_in : {X : Type 0} (xs : List X) → xs ≢ [] → (x : X) × Has xs x
-some_in [] n = absurd (n refl)
-some_in (x ∷ xs) n = (x, inl refl)
-
 module _ (names : Holdings Identifier) (s : Shelves) (links : List (Sides LinkSeen)) (tells : Tells)
     (is : IsInside names (get s.slots) s.places.entries links) where
   abbrev list_of : ℕ → List Stored
@@ -101,7 +96,7 @@ module _ (names : Holdings Identifier) (s : Shelves) (links : List (Sides LinkSe
   entry_attached filled idle e h a named =
       let place = entry_hits s.places.entries e.0 e.1 is.placed.rising h
       in let on = found list_of e.0 s.places.entries e.1 is.placed.rising place
-      in let some = some_in (list_of e.1) (λ q. filled e.0 (subst IsSome (sym place) refl) (idle e.0) (sym on ∙ q))
+      in let some = first_of (list_of e.1) (λ q. filled e.0 (subst IsSome (sym place) refl) (idle e.0) (sym on ∙ q))
       in (
         row_on e.0 some.0,
         has_joined (λ x. map (row_on x.0) (list_of x.1)) s.places.entries e (row_on e.0 some.0) h

@@ -13,7 +13,7 @@ use Rattle.std.specs.Map.{lookup}
 use Rattle.std.specs.Ordering.{ordering_reverse}
 use Rattle.std.specs.declared.cmp.Ordering.{Ordering}
 use Rattle.std.specs.declared.cmp.Ordering.TheVariants.{Less, Equal, Greater}
-use Rattle.ifmap_lemmas.specs.Having.{Has, from_has, has_from, has_map, map_has}
+use Rattle.ifmap_lemmas.specs.Having.{Has, from_has, has_from, has_map, map_has, all_has}
 use Rattle.ifmap_lemmas.specs.Numbers.{is_number}
 use Rattle.ifmap_ident.specs.declared.identifiers.Identifier.{Identifier}
 use Rattle.ifmap_ident.specs.declared.items.Item.{Item}
@@ -26,28 +26,15 @@ use Rattle.ifmap_view.specs.declared.attachments.Attachment.{Attachment}
 use Rattle.ifmap_view.specs.declared.views.LinkSeen.{LinkSeen}
 use Rattle.ifmap_view.specs.Rows.{stored_on, stored_where, stored_between, stored_linked}
 use Rattle.ifmap_view.specs.Views.{IsLink, others}
-use Rattle.ifmap_graph.specs.Joined.{AreJoined, AreSingle, IsNumber, is_full}
+use Rattle.ifmap_graph.specs.Joined.{AreJoined, AreSingle, IsNumber, is_full, full_some, some_full}
 use Rattle.ifmap_graph.specs.Linked.{AreListed, Ends, ats}
 use Rattle.ifmap_graph.specs.Shelved.{Rises, rows_by}
 use Rattle.ifmap_graph.proofs.Alike.{Alike, Tells, one_tied, order_alike, pair_less, pair_more, pair_tied, pairs_tie, same_pair, stored_alike, turned_order}
 use Rattle.ifmap_graph.proofs.Following.{entry_hits, lookup_tied, looked_up, stands}
 use Rattle.ifmap_graph.proofs.Finding.{absent, found}
 
-full_is : {X : Type 0} (xs : List X) → xs ≢ [] → is_full xs ≡ true
-full_is [] n = absurd (n refl)
-full_is (x ∷ xs) n = refl
-
-is_there : {X : Type 0} (xs : List X) → is_full xs ≡ true → xs ≢ []
-is_there [] e n = let q : false ≡ true = e in cc
-is_there (x ∷ xs) e n = let q : true ≡ false = ap is_full n in cc
-
 never_other : (n : ℕ) → nat_eq n n ≡ false → ⊥
 never_other n e = grind (arith, nat_tests)
-
-pub all_has : {X : Type 0} (P : X → Type 0) (xs : List X) → AllByRecursion P xs → (x : X) → Has xs x → P x
-all_has P [] a x h = absurd h
-all_has P (y ∷ ys) a x (inl e) = subst P e a.0
-all_has P (y ∷ ys) a x (inr h) = all_has P ys a.1 x h
 
 -- links that name each slot once, and of which two with one other end have one slot, name each other end once
 distinct_parts : (n : ℕ) (ns : List ℕ) → IsDistinct nat_eq (n ∷ ns) → AllByRecursion (λ y. nat_eq n y ≡ false) ns × IsDistinct nat_eq ns
@@ -126,7 +113,7 @@ module _ (list_of : ℕ → List Stored) (entries : List (Item × ℕ)) (id_at :
   only v w c =
       let s = map_has (λ (l : LinkSeen). l.other) (links v) w (has_from _ _ c)
       in let l = listed.only v s.0 (from_has _ _ s.1)
-      in subst (λ x. stored_linked (id_at v) (id_at x) rows ≢ []) s.2 (λ n. is_there (list_of s.0.at) l.1 (on_place s.0.at v s.0.other l.0
+      in subst (λ x. stored_linked (id_at v) (id_at x) rows ≢ []) s.2 (λ n. full_some (list_of s.0.at) l.1 (on_place s.0.at v s.0.other l.0
       ∙ n))
 
   named : (v w at : ℕ) → Ends joins at v w → is_full (list_of at) ≡ true → Contains (others (links v)) w
@@ -148,7 +135,7 @@ module _ (list_of : ℕ → List Stored) (entries : List (Item × ℕ)) (id_at :
         j.2,
         (j.3.0, j.3.1, j.3.2 ∙ t.3),
         (j.4.0, j.4.1, j.4.2 ∙ t.4),
-        ap is_full (found list_of (Pair k m) entries at rising e) ∙ full_is _ n,
+        ap is_full (found list_of (Pair k m) entries at rising e) ∙ some_full _ n,
       )
 
   same_number : (v w : ℕ) (a : Identifier) → IsNumber id_at v a → id_at w ≡ Some a → v ≡ w

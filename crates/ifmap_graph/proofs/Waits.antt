@@ -15,6 +15,7 @@ use Rattle.ifmap_graph.specs.Waits.{WaitsFor, waits_on}
 use Rattle.ifmap_graph.proofs.Accepting.{apart_parts}
 use Rattle.ifmap_graph.proofs.Marks.{here_of}
 use Rattle.ifmap_graph.proofs.Waited.{times_append}
+use Rattle.ifmap_lemmas.specs.Members.{all_last}
 
 -- so often at most, that once more can be counted
 abbrev pub Few : Shelves → Item → Type 0
@@ -98,17 +99,13 @@ module _ (items : List Item) (first : Shelves) where
   pub waited_all : (s : Shelves) (i : ℕ) → length items ≤ i → Waiting s i → WaitsFor items first s
   waited_all s i h g = subst (λ l. WaitsFor l first s) (take_all i items h) g.waits
 
-all_snoc : (P : Item → Type 0) (xs : List Item) (x : Item) → AllByRecursion P xs → P x → AllByRecursion P (xs ++ x ∷ [])
-all_snoc P [] x a h = (h, tt)
-all_snoc P (y ∷ ys) x a h = (a.0, all_snoc P ys x a.1 h)
-
 pub few_more : (s : Shelves) (items : List Item) (i : ℕ) (x : Item) → i < length items → get_or items i x ≡ x
     → AllByRecursion (Few s) (take i items) → Few s x
     → AllByRecursion (Few s) (take (i + 1) items)
 few_more s items i x h is a few =
     subst (AllByRecursion (Few s)) (ap (λ y. take i items ++ y ∷ []) (sym is) ∙ sym (take-suc items i x h)
     ∙ ap (λ n. take n items) (sym (add-one i)))
-    (all_snoc (Few s) (take i items) x a few)
+    (all_last (Few s) (take i items) x a few)
 
 pub few_all : (s : Shelves) (items : List Item) (i : ℕ) → length items ≤ i → AllByRecursion (Few s) (take i items)
     → AllByRecursion (Few s) items

@@ -120,10 +120,6 @@ pub written_elsewhere : (slots new : Slab Shelf) (at : ℕ) (t : Shelf) → new 
     → get new o ≡ get slots o
 written_elsewhere slots new at t e o n = ap (λ x. get x o) e ∙ get_or-set_other slots.slots at o (Some t) None n
 
-pub some_of : {X : Type 0} (o : Option X) → IsSome o → (x : X) × (o ≡ Some x)
-some_of {X} None s = let q : IsSome {T = X} None = s in cc
-some_of (Some x) s = (x, refl)
-
 -- a write to the shelf of an item
 module _ (slots new : Slab Shelf) (es : Entries) (is : IsPlaced (get slots) es) (item : Item) (at : ℕ)
     (here : lookup (is_at (item_order item)) es ≡ Some at)

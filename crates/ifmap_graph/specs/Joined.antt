@@ -8,6 +8,7 @@ use Rattle.ifmap_ident.specs.Identifiers.{identifier_bytes}
 use Rattle.ifmap_graph.specs.declared.ends.Ends.{Ends}
 use Rattle.ifmap_graph.specs.declared.ends.Ends.TheVariants as ends
 use Rattle.ifmap_graph.specs.declared.shelves.Shelf.{Shelf}
+use Rattle.std.proofs.Common.{◌≢◌, refl}
 
 -- the two numbers of a link
 abbrev pub two_of : Ends → Option (ℕ × ℕ)
@@ -38,3 +39,11 @@ pub record AreJoined (entries : List (Item × ℕ)) (id_at : ℕ → Option Iden
       → (v : ℕ) × (w : ℕ) × (joins at ≡ Some (v, w)) × IsNumber id_at v a × IsNumber id_at w b
   pub only : (at v w : ℕ) → joins at ≡ Some (v, w)
       → (a : Identifier) × (b : Identifier) × Has entries (Pair a b, at) × IsNumber id_at v a × IsNumber id_at w b
+
+pub full_some : {X : Type 0} (l : List X) → is_full l ≡ true → l ≢ []
+full_some [] e n = cc
+full_some (x ∷ xs) e n = cc
+
+pub some_full : {X : Type 0} (l : List X) → l ≢ [] → is_full l ≡ true
+some_full [] n = absurd (n refl)
+some_full (x ∷ xs) n = refl

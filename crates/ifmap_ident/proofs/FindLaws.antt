@@ -1,6 +1,6 @@
 -- What the first that passes tells of all.
 use Rattle.std.proofs.Common.{◌≡◌, ℕ, suc, ◌<◌, ◌++◌, take, drop, length, get_or, option_to_list, Bool, true, false, List, [], ◌∷◌, Option, None, Some, IsNone, cond, is_some, refl, sym, ◌∙◌, ap, subst, ◌⊎◌, inl, inr}
-use Rattle.std.specs.List.{AllByRecursion, filter, find}
+use Rattle.std.specs.List.{filter}
 use Rattle.std.proofs.lemmas.Bool.{and_parts}
 use Rattle.std.proofs.lemmas.List.{take-append-drop}
 use Rattle.std.proofs.lemmas.List.Elements.{filter-append}
@@ -14,20 +14,10 @@ first_fails : {X : Type 0} (x : X) (b : Bool) (rest : Option X) → cond b (Some
 first_fails x true rest h = absurd cc
 first_fails x false rest h = (refl, h)
 
--- where none is found, each fails
-pub none_passes : {X : Type 0} (p : X → Bool) (xs : List X) → find p xs ≡ None → AllByRecursion (λ x. p x ≡ false) xs
-none_passes p [] h = tt
-none_passes p (x ∷ xs) h = let r : (p x ≡ false) × (find p xs ≡ None) = first_fails x (p x) (find p xs) h in (r.0, none_passes p xs r.1)
-
 first_step : {X : Type 0} (p : X → Bool) (x y : X) (b : Bool) (rest : Option X) → p x ≡ b → cond b (Some x) rest ≡ Some y
     → (p y ≡ true) ⊎ (rest ≡ Some y)
 first_step p x y true rest e h = inl (let same : x ≡ y = cc in subst (λ z. p z ≡ true) same e)
 first_step p x y false rest e h = inr h
-
--- what is found passes
-pub found_passes : {X : Type 0} (p : X → Bool) (xs : List X) (y : X) → find p xs ≡ Some y → p y ≡ true
-found_passes p [] y h = absurd cc
-found_passes p (x ∷ xs) y h = elim (first_step p x y (p x) (find p xs) refl h) [ inl here ↦ here | inr later ↦ found_passes p xs y later ]
 
 pub none_is : {X : Type 0} (o : Option X) → IsNone o → o ≡ None
 none_is None h = refl

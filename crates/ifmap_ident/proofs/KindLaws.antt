@@ -9,8 +9,9 @@ use Rattle.ifmap_ident.specs.declared.kinds.IdentityType.TheVariants as types
 use Rattle.ifmap_ident.specs.declared.kinds.Kind.{Kind}
 use Rattle.ifmap_ident.specs.declared.kinds.Kind.TheVariants as variants
 use Rattle.ifmap_ident.specs.Kinds.{identity_type_name, identity_types, kind_name, kinds}
-use Rattle.ifmap_ident.proofs.FindLaws.{bare_tells, found_passes, none_is, none_passes, other_name, other_text}
+use Rattle.ifmap_ident.proofs.FindLaws.{bare_tells, none_is, other_name, other_text}
 use Rattle.ifmap_lemmas.specs.Texts.{eq_tells}
+use Rattle.ifmap_lemmas.specs.Finding.{none_passes, found_passes}
 
 -- of all kinds, each
 pub each_kind : (P : Kind → Type 0) → AllByRecursion P kinds → (kind : Kind) → P kind

@@ -8,6 +8,7 @@ use Rattle.ifmap_ident.specs.declared.written.Place.TheVariants.{Value}
 use Rattle.ifmap_lemmas.specs.Orderings.{then_equal}
 use Rattle.ifmap_ident.proofs.LeadingLaws.{leads_after, leads_both, leads_same}
 use Rattle.ifmap_ident.proofs.PlacedLaws.{text_alike}
+use Rattle.ifmap_lemmas.specs.Lists.{same_front}
 
 -- ---- order
 
@@ -41,10 +42,6 @@ optional_then o r first letter local v w s t h f g =
     (append_assoc (optional_written (first ∷ local) w) (32 ∷ (letter ∷ [])) t) (leads_both (f first letter local h) g))
 
 -- ---- values are told apart
-
-pub same_front : (p x y : List ℕ) → p ++ x ≡ p ++ y → x ≡ y
-same_front [] x y e = e
-same_front (b ∷ p) x y e = same_front p x y (cc)
 
 pub optional_alike : (first letter : ℕ) (local v w s t : List ℕ) → first < letter
     → optional_written (first ∷ local) v ++ (32 ∷ (letter ∷ s)) ≡ optional_written (first ∷ local) w ++ (32 ∷ (letter ∷ t))

@@ -3,7 +3,7 @@
 -- 2. The parts of each kind: the element has them, or it has none such.
 -- 3. So the element means an identifier, or one of the causes stands.
 -- 4. The length of what is meant tells which answer it is.
-use Rattle.std.proofs.Common.{◌≡◌, ◌≢◌, ℕ, ◌<◌, ◌≤◌, Bool, true, false, List, [], ◌∷◌, Option, None, Some, Result, Ok, Err, codes, length, unwrap_or, refl, sym, ◌∙◌, ap, subst, ◌⊎◌, inl, inr, arith}
+use Rattle.std.proofs.Common.{◌≡◌, ◌≢◌, ℕ, ◌<◌, ◌≤◌, Bool, true, false, List, [], ◌∷◌, Option, None, Some, Result, Ok, Err, codes, length, unwrap_or, refl, sym, ◌∙◌, ap, subst, ◌⊎◌, inl, inr}
 use Rattle.std.specs.List.{find}
 use Rattle.std.specs.Str.{bytes_eq}
 use Rattle.std.proofs.lemmas.Bool.{cases_lt}
@@ -45,7 +45,7 @@ use Rattle.ifmap_ident.proofs.FindLaws.{bare_tells, other_name}
 use Rattle.ifmap_ident.proofs.KindLaws.{kind_found, no_kind, no_type, one_value, type_found, types_are_one}
 use Rattle.ifmap_ident.proofs.MeaningLaws.{meaning_of_parts, no_access_request, no_device, no_identity, no_ip_address, no_mac_address, nothing, refused_meaning, unknown_attribute}
 use Rattle.ifmap_ident.proofs.SingleLaws.{one_definition, one_kept, one_member, one_of, one_text}
-use Rattle.ifmap_lemmas.specs.Deciding.{Decided, decided_both, decided_by, decided_not, decided_test, same_or_not}
+use Rattle.ifmap_lemmas.specs.Deciding.{Decided, decided_both, decided_by, decided_not, decided_test, same_or_not, within_or_not}
 
 -- ---- what is one at most, and has more
 
@@ -59,9 +59,6 @@ and_more P Q single (inl p) more = elim (more p.0) [
 
 at_most : (n most : ℕ) → (n ≤ most) ⊎ (most < n)
 at_most n most = elim (cases_lt most n) [ inl l ↦ inr l | inr g ↦ inl g ]
-
-within_or_not : (n most : ℕ) → Decided (n ≤ most)
-within_or_not n most = elim (at_most n most) [ inl l ↦ inl l | inr g ↦ inr (λ l. omega (arith, l, g)) ]
 
 given_or_none : (given : Option (List ℕ)) → Decided ((text : List ℕ) × (given ≡ Some text))
 given_or_none None = inr (λ t. nothing None t.0 refl t.1)

@@ -2,7 +2,7 @@
 use Rattle.std.specs.Prelude.{◌≡◌, ◌⊎◌, ◌↔◌, ◌<◌, ℕ, zero, suc, Bool, true, false, List, [], ◌∷◌, ◌++◌, length, Option, Some, None, refl}
 use Rattle.std.specs.Bool.{Decides}
 use Rattle.std.specs.List.{AllByRecursion}
-use Rattle.std.proofs.Common.{arith, inl, inr, subst}
+use Rattle.std.proofs.Common.{arith, inl, inr, subst, ◌||◌, ◌≤◌}
 use Rattle.std.proofs.lemmas.Bool.{cases_lt}
 use Rattle.std.proofs.lemmas.Bool.Decides.{Decides-eqb}
 use Rattle.std.proofs.lemmas.Slice.Eq.{bytes_eq-Decides}
@@ -111,3 +111,11 @@ last_or_none (x ∷ xs) = elim (last_or_none xs) [
   | inl l ↦ inl (x ∷ l.0, l.1, (λ i. x ∷ l.2 i))
   | inr e ↦ inl ([], x, (λ i. x ∷ e i))
 ]
+
+-- a test of one of two parts
+pub or_parts : (a b : Bool) → (a || b) ≡ false → (a ≡ false) × (b ≡ false)
+or_parts false b e = (refl, e)
+or_parts true b e = let q : true ≡ false = e in cc
+
+pub within_or_not : (m n : ℕ) → Decided (m ≤ n)
+within_or_not m n = elim (cases_lt n m) [ inl above ↦ inr (λ within. omega (arith, above, within)) | inr within ↦ inl within ]

@@ -1,5 +1,5 @@
 -- What holds of all members of a list, and what a filter makes of it.
-use Rattle.std.specs.Prelude.{◌≡◌, ℕ, ◌+◌, ◌<◌, Bool, true, false, ◌&&◌, List, [], ◌∷◌, ◌++◌, count_by, length, ◌≤◌, not, ◌||◌, map, Option, Some}
+use Rattle.std.specs.Prelude.{◌≡◌, ℕ, ◌+◌, ◌<◌, Bool, true, false, ◌&&◌, List, [], ◌∷◌, ◌++◌, count_by, length, ◌≤◌, not, map, Some}
 use Rattle.std.specs.List.{AllByRecursion, IsDistinct, filter, find, list_any}
 use Rattle.std.proofs.Common.{ap, arith, cond, get_or, inl, inr, refl, subst, sym, ◌∙◌}
 use Rattle.std.proofs.lemmas.Bool.{cases_Bool}
@@ -132,3 +132,12 @@ map_filter f p (x ∷ xs) = elim (cases_Bool (p (f x))) [
   | inl t ↦ rw t (ap (λ ys. f x ∷ ys) (map_filter f p xs))
   | inr t ↦ rw t (map_filter f p xs)
 ]
+
+pub all_pass : {X : Type 0} (xs : List X) → filter (λ x. true) xs ≡ xs
+all_pass [] = refl
+all_pass (x ∷ xs) = ap (λ l. x ∷ l) (all_pass xs)
+
+pub filter_shorter : {X : Type 0} (p : X → Bool) (xs : List X) → length (filter p xs) ≤ length xs
+filter_shorter p [] = omega arith
+filter_shorter p (x ∷ xs) = let rest = filter_shorter p xs in elim (cases_Bool (p x))
+    [ inl hit ↦ rw hit (omega (arith, rest)) | inr miss ↦ rw miss (omega (arith, rest)) ]

@@ -38,3 +38,16 @@ pub all_two : {X : Type 0} (P Q R : X → Type 0) → ((x : X) → P x → Q x �
     → AllByRecursion R xs
 all_two P Q R f [] p q = tt
 all_two P Q R f (x ∷ xs) p q = (f x p.0 q.0, all_two P Q R f xs p.1 q.1)
+
+pub all_last : {X : Type 0} (P : X → Type 0) (xs : List X) (x : X) → AllByRecursion P xs → P x → AllByRecursion P (xs ++ x ∷ [])
+all_last P [] x h p = (p, tt)
+all_last P (y ∷ ys) x h p = (h.0, all_last P ys x h.1 p)
+
+pub all_any : {X : Type 0} (P : X → Type 0) (xs : List X) → ((x : X) → P x) → AllByRecursion P xs
+all_any P [] f = tt
+all_any P (x ∷ xs) f = (f x, all_any P xs f)
+
+pub all_onto : {X Y : Type 0} (P : X → Type 0) (Q : Y → Type 0) (f : X → Y) (xs : List X) → ((x : X) → P x → Q (f x)) → AllByRecursion P xs
+    → AllByRecursion Q (map f xs)
+all_onto P Q f [] g a = tt
+all_onto P Q f (x ∷ xs) g a = (g x a.0, all_onto P Q f xs g a.1)

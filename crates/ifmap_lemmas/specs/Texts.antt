@@ -1,5 +1,5 @@
 -- Texts as lists of bytes: their equality and order, and ASCII in UTF-8.
-use Rattle.std.proofs.Common.{◌≡◌, ℕ, ◌<◌, Bool, true, false, not, List, [], ◌∷◌, ◌++◌, refl, ap, sym, ◌∙◌, arith}
+use Rattle.std.proofs.Common.{◌≡◌, ℕ, ◌<◌, Bool, true, false, not, List, [], ◌∷◌, ◌++◌, refl, ap, sym, ◌∙◌, arith, ◌≢◌, ◌^◌, Result, Ok}
 use Rattle.std.specs.Prelude.{nat_le, encode_utf8_all}
 use Rattle.std.specs.Cmp.{tied_itself}
 use Rattle.std.specs.Cmp.Lexicographic.{nat_list_cmp_total, slice_cmp, texts_ties}
@@ -7,10 +7,13 @@ use Rattle.std.specs.List.{AllByRecursion}
 use Rattle.std.specs.Ordering.{nat_cmp, is_eq, ordering_reverse}
 use Rattle.std.specs.Str.{bytes_eq}
 use Rattle.std.specs.declared.cmp.Ordering.TheVariants.{Less, Equal, Greater}
-use Rattle.std.proofs.lemmas.Bool.{not-true}
+use Rattle.std.proofs.lemmas.Bool.{not-true, both_ways, false_from_ne_true}
 use Rattle.std.proofs.lemmas.Bool.Decides.{nat_tests}
 use Rattle.std.proofs.lemmas.Slice.Eq.{bytes_eq-Decides}
 use Rattle.std.proofs.lemmas.Str.{encode_ascii}
+use Rattle.std.proofs.lemmas.Fmt.{parse-decimal}
+use Rattle.std.specs.Fmt.{decimal}
+use Rattle.std.specs.Str.Parse.{ParsesUnsigned}
 
 pub eq_tells : (x y : List ℕ) → bytes_eq x y ≡ true → x ≡ y
 eq_tells x y = (bytes_eq-Decides x y).0
@@ -48,3 +51,12 @@ slice_cmp-greater xs ys e s = let same = slice_cmp-same xs ys s in cc
 -- the greater one stands after the other
 pub slice_cmp-turn : (xs ys : List ℕ) → Greater ≡ slice_cmp nat_cmp xs ys → slice_cmp nat_cmp ys xs ≡ Less
 slice_cmp-turn xs ys e = nat_list_cmp_total.antisymm ys xs ∙ ap ordering_reverse (sym e)
+
+pub differs : (a b : List ℕ) (r : Bool) → r ≡ bytes_eq a b → r ≡ false → a ≢ b
+differs a b r e f same = both_ways r f (e ∙ (bytes_eq-Decides a b).1 same)
+
+pub parses : {E : Type 0} (n : ℕ) (text : List ℕ) (r : Result ℕ E) → ParsesUnsigned 64 10 text r → n < 2 ^ 64 → text ≡ decimal n → r ≡ Ok n
+parses n text r p small e = parse-decimal 64 n text r small small e p
+
+pub bytes_apart : (x y : List ℕ) → bytes_eq x y ≡ false → bytes_eq y x ≡ false
+bytes_apart x y e = false_from_ne_true (bytes_eq y x) (λ h. let k : bytes_eq x y ≡ true = (bytes_eq-Decides x y).1 (sym (eq_tells y x h)) in cc)

@@ -1,6 +1,6 @@
 -- Small laws on answers, tests and lists.
 use Rattle.std.proofs.Common.{◌≡◌, ◌≢◌, ℕ, Bool, true, false, List, [], ◌∷◌, ◌++◌, length, refl, sym, ◌∙◌, arith}
-use Rattle.std.specs.Prelude.{Option, Some, None, MatchOption, IfSome, IfNone, nat_eq, IsTrue, ◌↔◌, Result, Ok, Err, IfErr}
+use Rattle.std.specs.Prelude.{nat_eq, IsTrue, ◌↔◌, Result, Ok, Err, IfErr}
 use Rattle.std.specs.List.{list_all}
 use Rattle.std.proofs.lemmas.Bool.{and_from, and_parts}
 use Rattle.ifmap_elem.specs.Chars.{AllAre}
@@ -8,14 +8,6 @@ use Rattle.ifmap_lemmas.specs.Numbers.{is_number}
 use Rattle.ifmap_lexer.specs.declared.errors.LexError.{LexError}
 use Rattle.ifmap_lexer.specs.declared.errors.LexError.TheVariants.{Malformed, NoMemory}
 use Rattle.ifmap_lexer.specs.Refusing.{Refuses}
-
-pub some_of : {X : Type 0} (o : Option X) (P : Type 0) (Q : X → Type 0) → MatchOption o P Q → IfSome o Q
-some_of None P Q h = tt
-some_of (Some x) P Q h = h
-
-pub none_of : {X : Type 0} (o : Option X) (P : Type 0) (Q : X → Type 0) → MatchOption o P Q → IfNone o P
-none_of None P Q h = h
-none_of (Some x) P Q h = tt
 
 pub is_not : (b : Bool) (P : Type 0) → IsTrue b ↔ P → b ≡ false → P → ⊥
 is_not b P tells h p = let q : true ≡ false = sym (tells.1 p) ∙ h in cc

@@ -12,10 +12,7 @@ use Rattle.ifmap_lemmas.specs.Cuts.{Stops, cut}
 use Rattle.ifmap_elem.specs.laws.OneToken.{one_quoted}
 use Rattle.ifmap_lexer.specs.Cutting.{Cuts}
 use Rattle.ifmap_lexer.specs.Settings.{IsEncoding, IsVersion, IsYesOrNo, SetsTo, StartsNotWhite, TakesWhereSet}
-
-cancel : (a b c : List ℕ) → a ++ b ≡ a ++ c → b ≡ c
-cancel [] b c e = e
-cancel (x ∷ xs) b c e = let tail : xs ++ b ≡ xs ++ c = cc in cancel xs b c tail
+use Rattle.ifmap_lemmas.specs.Lists.{same_front}
 
 stops_at : (name after : List ℕ) → StartsNotWhite name → Stops is_white (name ++ after)
 stops_at [] after h = absurd h
@@ -36,7 +33,7 @@ module _ (name : List ℕ) (starts : StartsNotWhite name) where
     module _ (after : List ℕ) (e : inner ≡ name ++ after) where
       pub not_given : ((w r : List ℕ) → TakesQuoted after w r → ⊥) → (w r : List ℕ) → SetsTo name bytes w r → ⊥
       not_given none w r t =
-          none w r (subst (λ (x : List ℕ). TakesQuoted x w r) (sym (cancel name after t.after (sym e ∙ (parted w r t).1))) t.given)
+          none w r (subst (λ (x : List ℕ). TakesQuoted x w r) (sym (same_front name after t.after (sym e ∙ (parted w r t).1))) t.given)
 
       pub setting_found : (w r : List ℕ) → white ≢ [] → TakesQuoted after w r → SetsTo name bytes w r
       setting_found w r some q = record {
@@ -52,7 +49,7 @@ module _ (name : List ℕ) (starts : StartsNotWhite name) where
   one_setting bytes w v r s l m =
       let both = cut is_white l.white m.white (name ++ l.after) (name ++ m.after) l.is_white m.is_white (stops_at name l.after starts)
       (stops_at name m.after starts) (sym l.bytes_are ∙ m.bytes_are) in
-      one_quoted l.after w v r s l.given (subst (λ (x : List ℕ). TakesQuoted x v s) (sym (cancel name l.after m.after both.1)) m.given)
+      one_quoted l.after w v r s l.given (subst (λ (x : List ℕ). TakesQuoted x v s) (sym (same_front name l.after m.after both.1)) m.given)
 
   module _ (Allows : List ℕ → Type 0) where
     set_by : (bytes r : List ℕ) (t : TakesSetting name Allows bytes r) → SetsTo name bytes t.written r
@@ -139,7 +136,7 @@ encoding_is_no_standalone bytes r s t u =
 
 module _ (bytes first : List ℕ) (e : bytes ≡ codes "<?xml" ++ first) where
   first_is : (r : List ℕ) (t : TakesDeclaration bytes r) → first ≡ t.first
-  first_is r t = cancel (codes "<?xml") first t.first (sym e ∙ t.bytes_are)
+  first_is r t = same_front (codes "<?xml") first t.first (sym e ∙ t.bytes_are)
 
   pub no_version : ((r : List ℕ) → TakesSetting (codes "version") IsVersion first r → ⊥) → (r : List ℕ) → TakesDeclaration bytes r → ⊥
   no_version none r t =

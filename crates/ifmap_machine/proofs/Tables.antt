@@ -9,7 +9,7 @@ use Rattle.std.proofs.lemmas.List.Kept.{IsStrictlySortedBy-filter}
 use Rattle.std.specs.List.{AllByRecursion, IsDistinct, list_any}
 use Rattle.std.specs.List.Sorted.{IsStrictlySortedBy}
 use Rattle.std.specs.declared.cmp.Ordering.TheVariants.{Less}
-use Rattle.ifmap_lemmas.specs.Filters.{all_filter, all_weaker}
+use Rattle.ifmap_lemmas.specs.Filters.{all_filter, all_weaker, filter_shorter}
 use Rattle.ifmap_lemmas.specs.Members.{map_of_all}
 use Rattle.ifmap_machine.specs.declared.events.Answer.{Answer}
 use Rattle.ifmap_machine.specs.declared.events.Ask.{Ask}
@@ -31,7 +31,6 @@ use Rattle.ifmap_session.specs.SessionIds.{BeginsWithSerial}
 use Rattle.ifmap_session.specs.Sessions.{IsTable, Session, Table, change, is_text, most_sessions, session_of_client, session_order, without_items}
 use Rattle.ifmap_session.specs.Sessions.{session_with_id, without_sessions}
 use Rattle.ifmap_session.specs.laws.TableLaws.{Keeps, begun_table, changed_table, client_freed, id_begins, one_fewer, renewed_keeps}
-use Rattle.ifmap_session.specs.laws.TableLaws.{shorter}
 use Rattle.ifmap_session.specs.laws.TextLaws.{distinct_filter}
 use Rattle.ifmap_view.specs.declared.attachments.Attachment.{Attachment}
 
@@ -119,7 +118,7 @@ dropped_table serials table h = record {
   small = h.small;
   ids = all_filter (λ (s : Session). BeginsWithSerial s.serial s.id) (remains serials) table.live h.ids;
   apart = distinct_filter (λ (s : Session). s.client) (remains serials) table.live h.apart;
-  few = let less = shorter (remains serials) table.live in omega (arith, less, h.few);
+  few = let less = filter_shorter (remains serials) table.live in omega (arith, less, h.few);
 }
 
 pub ended_table : (serials : List ℕ) (state : State) → IsTabled state → IsTabled (end_some serials state)

@@ -15,7 +15,7 @@ use Rattle.ifmap_filter.specs.declared.filters.Filter.{Filter}
 use Rattle.ifmap_filter.specs.Meets.{meets_optional}
 use Rattle.ifmap_ident.specs.declared.items.Item.{Item}
 use Rattle.ifmap_ident.specs.Items.{item_order, same_item}
-use Rattle.ifmap_lemmas.specs.Filters.{filter_all, filter_none}
+use Rattle.ifmap_lemmas.specs.Filters.{filter_none, all_pass}
 use Rattle.ifmap_meta.specs.declared.metadata.Metadata.{Metadata}
 use Rattle.ifmap_meta.specs.declared.stored.Stored.{Stored}
 use Rattle.ifmap_meta.specs.Keys.{same_key}
@@ -48,9 +48,6 @@ every (x ∷ xs) = (refl, every xs)
 never : {X : Type 0} (xs : List X) → AllByRecursion (λ x. false ≡ false) xs
 never [] = tt
 never (x ∷ xs) = (refl, never xs)
-
-all_pass : {X : Type 0} (xs : List X) → filter (λ x. true) xs ≡ xs
-all_pass xs = filter_all (λ x. true) xs (every xs)
 
 none_pass : {X : Type 0} (xs : List X) → filter (λ x. false) xs ≡ []
 none_pass xs = filter_none (λ x. false) xs (never xs)

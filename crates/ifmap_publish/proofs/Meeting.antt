@@ -7,7 +7,7 @@ use Rattle.std.specs.List.{filter}
 use Rattle.std.specs.List.Sorted.{IsStrictlySortedBy}
 use Rattle.std.specs.Ordering.{is_eq}
 use Rattle.std.specs.declared.cmp.Ordering.TheVariants.{Less, Equal}
-use Rattle.ifmap_lemmas.specs.Filters.{all_filter}
+use Rattle.ifmap_lemmas.specs.Filters.{all_filter, filter_shorter}
 use Rattle.ifmap_lemmas.specs.Having.{filter_has}
 use Rattle.ifmap_meta.specs.declared.stored.Stored.{Stored}
 use Rattle.ifmap_plans.specs.Lists.{put_each}
@@ -96,20 +96,6 @@ module _ (t k : Stored → Bool) (rows : List Stored) (up : IsStrictlySortedBy s
         )
   ]
 
--- where as many are left as there were, all pass
-length_filter : {X : Type 0} (p : X → Bool) (xs : List X) → length (filter p xs) ≤ length xs
-length_filter p [] = omega arith
-length_filter p (x ∷ xs) = elim (cases_Bool (p x)) [
-  | inl e ↦
-      let here : filter p (x ∷ xs) ≡ x ∷ filter p xs = rw e refl in
-      let less : length (filter p xs) ≤ length xs = length_filter p xs in
-      subst (λ l. length l ≤ length (x ∷ xs)) (sym here) (omega (arith, less))
-  | inr e ↦
-      let here : filter p (x ∷ xs) ≡ filter p xs = rw e refl in
-      let less : length (filter p xs) ≤ length xs = length_filter p xs in
-      subst (λ l. length l ≤ length (x ∷ xs)) (sym here) (omega (arith, less))
-]
-
 all_pass : (t k : Stored → Bool) (xs : List Stored) → length (filter t xs) ≡ length xs → [] ≡ filter (λ s. not (t s) && k s) xs
 all_pass t k [] e = refl
 all_pass t k (x ∷ xs) e = elim (cases_Bool (t x)) [
@@ -122,7 +108,7 @@ all_pass t k (x ∷ xs) e = elim (cases_Bool (t x)) [
   | inr n ↦
       let here : filter t (x ∷ xs) ≡ filter t xs = rw n refl in
       let long : length (filter t xs) ≡ suc (length xs) = sym (ap length here) ∙ e in
-      let less : length (filter t xs) ≤ length xs = length_filter t xs in
+      let less : length (filter t xs) ≤ length xs = filter_shorter t xs in
       absurd (omega (arith, long, less))
 ]
 

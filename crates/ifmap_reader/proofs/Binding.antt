@@ -21,6 +21,7 @@ use Rattle.ifmap_reader.specs.declared.errors.Refusal.TheVariants.{NotAllowed, T
 use Rattle.ifmap_reader.specs.AllowedTags.{Binds, IsBound, MayBind}
 use Rattle.ifmap_elem.specs.InScope.{binding_told}
 use Rattle.ifmap_elem.specs.laws.ScopeLaws.{bound_outer}
+use Rattle.ifmap_lemmas.specs.Members.{all_last}
 
 bound_other : (bs : List Binding) (b : Binding) (q : List ℕ) → bytes_eq b.prefix q ≡ false → bound (bs ++ b ∷ []) q ≡ bound bs q
 bound_other [] b q e = rw e refl
@@ -61,10 +62,6 @@ rows_more rows after path prefix space was more none =
 
 abbrev prefix_of : Binding → List ℕ
 prefix_of b = b.prefix
-
-pub all_last : {X : Type 0} (P : X → Type 0) (xs : List X) (x : X) → AllByRecursion P xs → P x → AllByRecursion P (xs ++ x ∷ [])
-all_last P [] x h p = (p, tt)
-all_last P (y ∷ ys) x h p = (h.0, all_last P ys x h.1 p)
 
 pub all_middle : {X : Type 0} (P : X → Type 0) (xs : List X) (x : X) (ys : List X) → AllByRecursion P (xs ++ x ∷ ys) → P x
 all_middle P [] x ys h = h.0

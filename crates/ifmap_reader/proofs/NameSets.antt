@@ -13,8 +13,10 @@ use Rattle.ifmap_elem.specs.declared.elements.Attribute.{Attribute}
 use Rattle.ifmap_elem.specs.declared.elements.Name.{Name}
 use Rattle.ifmap_lemmas.specs.Orderings.{both_equal}
 use Rattle.ifmap_lemmas.specs.Texts.{same_texts}
-use Rattle.ifmap_reader.proofs.Binding.{all_last, all_middle}
+use Rattle.ifmap_reader.proofs.Binding.{all_middle}
 use Rattle.ifmap_reader.proofs.NameLaws.{names, dropped}
+use Rattle.ifmap_lemmas.specs.Members.{all_last}
+use Rattle.ifmap_lemmas.specs.Deciding.{or_parts}
 
 names_total : IsTotalOrder name_order
 names_total = then_total (on_total (λ (n : Name). n.space) nat_list_cmp_total) (on_total (λ (n : Name). n.local) nat_list_cmp_total)
@@ -34,10 +36,6 @@ same_itself n = (eq_by_cmp_equiv names_total).refl n
 
 same_swaps : (m n : Name) → same m n ≡ same n m
 same_swaps m n = (eq_by_cmp_equiv names_total).symm m n
-
-or_parts : (b c : Bool) → (b || c) ≡ false → (b ≡ false) × (c ≡ false)
-or_parts true c e = cc
-or_parts false c e = (refl, e)
 
 differ_last : (ns : List Name) (n : Name) → AllDiffer ns → list_any (same n) ns ≡ false → AllDiffer (ns ++ n ∷ [])
 differ_last [] n d none = (tt, tt)

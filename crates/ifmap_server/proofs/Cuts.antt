@@ -1,10 +1,9 @@
 -- A header's line as words, and the words as numbers.
-use Rattle.std.proofs.Common.{◌≡◌, ◌≢◌, ℕ, ◌^◌, ◌<◌, ◌≤◌, List, [], ◌∷◌, ◌++◌, length, length-append, get_or, drop, Bool, true, false, Option, Some, None, Result, Ok, IsOk, IfOk, ◌↔◌, SomeIff, arith, refl, sym, ap, subst, ◌∙◌}
-use Rattle.std.proofs.lemmas.Bool.{both_ways, and_parts}
+use Rattle.std.proofs.Common.{◌≡◌, ◌≢◌, ℕ, ◌^◌, ◌<◌, ◌≤◌, List, [], ◌∷◌, ◌++◌, length, length-append, get_or, drop, true, Option, Some, None, Result, Ok, IsOk, IfOk, ◌↔◌, SomeIff, arith, refl, sym, ap, subst, ◌∙◌}
+use Rattle.std.proofs.lemmas.Bool.{and_parts}
 use Rattle.std.proofs.lemmas.Bool.Decides.{nat_tests}
-use Rattle.std.proofs.lemmas.Fmt.{parse-decimal, decimal_injective, IsAscii-decimal}
+use Rattle.std.proofs.lemmas.Fmt.{decimal_injective, IsAscii-decimal}
 use Rattle.std.proofs.lemmas.List.{get_or-append-add}
-use Rattle.std.proofs.lemmas.Slice.Eq.{bytes_eq-Decides}
 use Rattle.std.proofs.lemmas.Str.{IsUtf8-from_ascii, IsAscii-append}
 use Rattle.std.proofs.lemmas.Str.Ascii.{IsAscii-nil, IsAscii-cons}
 use Rattle.std.specs.Bool.{IsTrue}
@@ -12,8 +11,7 @@ use Rattle.std.specs.Fmt.{decimal}
 use Rattle.std.specs.List.{list_all}
 use Rattle.std.specs.Option.{MatchOption}
 use Rattle.std.specs.Int.{to_be_bytes, from_be_bytes, w128}
-use Rattle.std.specs.Str.Parse.{ParsesUnsigned}
-use Rattle.std.specs.Str.{IsAscii, IsUtf8, bytes_eq}
+use Rattle.std.specs.Str.{IsAscii, IsUtf8}
 use Rattle.uuid.specs.Text.{lower, hex_digit, nibble, parsed}
 use Rattle.uuid.proofs.RoundTrips.{parse_gives}
 use Rattle.uuid.proofs.OrderLemmas.{from_be_bytes-to_be_bytes_16}
@@ -127,9 +125,6 @@ header_utf8 line h is =
 
 -- ---- numbers
 
-pub differs : (a b : List ℕ) (r : Bool) → r ≡ bytes_eq a b → r ≡ false → a ≢ b
-differs a b r e f same = both_ways r f (e ∙ (bytes_eq-Decides a b).1 same)
-
 pub number_told : (limit n : ℕ) (text : List ℕ) (r : Option ℕ) → limit < 2 ^ 64 → n < 2 ^ 64 → text ≡ decimal n → SomeIff r (n ≤ limit) n
     → MatchOption r ((k : ℕ) → k ≤ limit → text ≢ decimal k) (λ k. (k ≤ limit) × (text ≡ decimal k))
 number_told limit n text None low small e s = λ k within f. s (let same = decimal_injective n k small (omega arith) (sym e ∙ f) in
@@ -140,9 +135,6 @@ pub number_beyond : (limit n : ℕ) (text : List ℕ) → limit < 2 ^ 64 → n <
     → text ≢ decimal k
 number_beyond limit n text low small e over k within f = let same = decimal_injective n k small (omega arith) (sym e ∙ f) in
     absurd (omega arith)
-
-pub parses : {E : Type 0} (n : ℕ) (text : List ℕ) (r : Result ℕ E) → ParsesUnsigned 64 10 text r → n < 2 ^ 64 → text ≡ decimal n → r ≡ Ok n
-parses n text r p small e = parse-decimal 64 n text r small small e p
 
 -- ---- random words
 

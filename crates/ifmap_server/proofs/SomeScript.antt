@@ -1,10 +1,10 @@
 -- Any bytes are the text of some list of frames, up to the end or to a fault.
 -- The reader of a frame that is total (`read_header`) gives the one frame that can begin, and whether it does is decided by comparing.
 -- Where it does, its body means something, and shorter bytes come after it; where it does not, there is an end or a fault.
-use Rattle.std.proofs.Common.{◌≡◌, ℕ, ◌+◌, ◌<◌, ◌≤◌, ◌^◌, List, [], ◌∷◌, ◌++◌, length, take, drop, Option, Some, None, Err, inl, inr, arith, refl, subst, sym}
+use Rattle.std.proofs.Common.{◌≡◌, ℕ, ◌+◌, ◌<◌, ◌^◌, List, [], ◌∷◌, ◌++◌, length, take, drop, Option, Some, None, Err, inl, inr, arith, refl, subst, sym}
 use Rattle.std.specs.List.{list_all}
 use Rattle.std.proofs.lemmas.Bool.{cases_lt}
-use Rattle.ifmap_lemmas.specs.Deciding.{Decided, by_length, decided_both, decided_by, decided_test, same_or_not}
+use Rattle.ifmap_lemmas.specs.Deciding.{Decided, by_length, decided_both, decided_by, decided_test, same_or_not, within_or_not}
 use Rattle.ifmap_meta.specs.ClientNames.{IsClientName, is_client_byte}
 use Rattle.ifmap_requests.specs.declared.errors.Refusal.TheVariants.{Unreadable}
 use Rattle.ifmap_requests.specs.Laws.{SomeMeaning}
@@ -18,32 +18,29 @@ use Rattle.ifmap_server.proofs.Splits.{after}
 
 -- ---- whether a frame begins
 
-most_or_not : (m n : ℕ) → Decided (m ≤ n)
-most_or_not m n = elim (cases_lt n m) [ inl above ↦ inr (λ within. omega (arith, above, within)) | inr within ↦ inl within ]
-
 below_or_not : (m n : ℕ) → Decided (m < n)
 below_or_not m n = elim (cases_lt m n) [ inl below ↦ inl below | inr above ↦ inr (λ below. omega (arith, above, below)) ]
 
 client_or_not : (name : List ℕ) → Decided (IsClientName name)
 client_or_not name =
     decided_by (λ p. (p.0, p.1.0, p.1.1)) (λ is. (is.0, (is.1, is.2)))
-    (decided_both (most_or_not 1 (length name))
-    (decided_both (most_or_not (length name) 40) (decided_test (list_all is_client_byte name))))
+    (decided_both (within_or_not 1 (length name))
+    (decided_both (within_or_not (length name) 40) (decided_test (list_all is_client_byte name))))
 
 frame_or_not : (f : Frame) → Decided (IsFrame f)
 frame_or_not f =
     decided_by (λ p. record { moment = p.0; client = p.1.0; random = p.1.1.0; body = p.1.1.1 })
     (λ is. (is.moment, (is.client, (is.random, is.body))))
-    (decided_both (most_or_not f.moment 253402300799)
+    (decided_both (within_or_not f.moment 253402300799)
     (decided_both (client_or_not f.client)
-    (decided_both (below_or_not f.random (2 ^ 128)) (most_or_not (length f.body) 10000000))))
+    (decided_both (below_or_not f.random (2 ^ 128)) (within_or_not (length f.body) 10000000))))
 
 module _ (offset : ℕ) (bytes : List ℕ) where
   this_or_not : (f : Frame) (rest : List ℕ) → Decided (Begins offset bytes f rest)
   this_or_not f rest =
       decided_by (λ p. record { fits = p.0; text = p.1.0; ends = p.1.1 }) (λ b. (b.fits, (b.text, b.ends)))
       (decided_both (frame_or_not f)
-      (decided_both (same_or_not bytes (frame_text f ++ rest)) (most_or_not (offset + length (frame_text f)) longest_script)))
+      (decided_both (same_or_not bytes (frame_text f ++ rest)) (within_or_not (offset + length (frame_text f)) longest_script)))
 
   -- where a frame begins does not look at its meaning
   module _ (f : Frame) (rest : List ℕ) (b : Begins offset bytes f rest) (meaning : Meaning) where

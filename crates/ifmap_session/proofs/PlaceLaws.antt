@@ -15,9 +15,9 @@ use Rattle.ifmap_session.specs.Rows.{AreOwn, live_of, serial_at}
 use Rattle.ifmap_session.specs.Places.{IsPlaceOf}
 use Rattle.ifmap_session.specs.Seats.{Seat}
 use Rattle.ifmap_session.specs.Sessions.{session_with_serial}
-use Rattle.ifmap_session.specs.laws.TextLaws.{none_passes}
 use Rattle.ifmap_session.proofs.Halving.{placed}
 use Rattle.ifmap_session.proofs.RowLaws.{gone, none_of, row_of}
+use Rattle.ifmap_lemmas.specs.Finding.{none_passes}
 
 equal_is : (a b : ℕ) → nat_cmp a b ≡ Equal → a ≡ b
 equal_is a b e = grind (arith, nat_tests)

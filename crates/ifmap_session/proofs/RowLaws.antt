@@ -17,6 +17,7 @@ use Rattle.ifmap_session.specs.declared.rows.SessionRow.{SessionRow}
 use Rattle.ifmap_session.specs.Rows.{AreOwn, IsOwn, live_of, row_order, seats_of, spare_in}
 use Rattle.ifmap_session.specs.Seats.{Seat}
 use Rattle.ifmap_session.specs.Sessions.{Session, change, session_with_serial, spare_of, without_sessions}
+use Rattle.ifmap_lemmas.specs.Members.{all_last}
 
 -- rows rise by their serials
 abbrev pub Up : List SessionRow → Type 0
@@ -289,30 +290,25 @@ counted_set counter n rows i a kept all e =
     all_set (λ (r : SessionRow). r.serial ≤ counter) rows i (record { serial = n; kept = kept }) all
     (all_got (λ (r : SessionRow). r.serial ≤ counter) rows i (row_of n a) all e)
 
--- a row more
-all_push : {X : Type 0} (P : X → Type 0) (xs : List X) (y : X) → AllByRecursion P xs → P y → AllByRecursion P (xs ++ y ∷ [])
-all_push P [] y h k = (k, tt)
-all_push P (x ∷ xs) y h k = (h.0, all_push P xs y h.1 k)
-
 up_push : (counter : ℕ) (rows : List SessionRow) (y : SessionRow) → Up rows → AllByRecursion (λ (r : SessionRow). r.serial ≤ counter) rows
     → counter < y.serial → Up (rows ++ y ∷ [])
 unfolding IsStrictlySortedBy
 up_push counter [] y up counted above = (tt, tt)
 up_push counter (x ∷ rows) y up counted above =
-    (all_push (λ z. row_order x z ≡ Less) rows y up.0 (grind (arith, nat_tests, counted.0)), up_push counter rows y up.1 counted.1 above)
+    (all_last (λ z. row_order x z ≡ Less) rows y up.0 (grind (arith, nat_tests, counted.0)), up_push counter rows y up.1 counted.1 above)
 
 pub own_push : (counter : ℕ) (rows : List SessionRow) (y : SessionRow) → AreOwn rows
     → AllByRecursion (λ (r : SessionRow). r.serial ≤ counter) rows
     → counter < y.serial → IfSome y.kept (IsOwn y.serial) → AreOwn (rows ++ y ∷ [])
 own_push counter rows y o counted above mine = record {
   rising = up_push counter rows y o.rising counted above;
-  own = all_push (λ (r : SessionRow). IfSome r.kept (IsOwn r.serial)) rows y o.own mine;
+  own = all_last (λ (r : SessionRow). IfSome r.kept (IsOwn r.serial)) rows y o.own mine;
 }
 
 pub counted_push : (counter : ℕ) (rows : List SessionRow) (y : SessionRow) → AllByRecursion (λ (r : SessionRow). r.serial ≤ counter) rows
     → y.serial ≡ counter + 1 → AllByRecursion (λ (r : SessionRow). r.serial ≤ counter + 1) (rows ++ y ∷ [])
 counted_push counter rows y counted e =
-    all_push (λ (r : SessionRow). r.serial ≤ counter + 1) rows y
+    all_last (λ (r : SessionRow). r.serial ≤ counter + 1) rows y
     (all_weaker (λ (r : SessionRow). r.serial ≤ counter) (λ (r : SessionRow). r.serial ≤ counter + 1) (λ r h. omega arith) rows counted)
     (omega arith)
 

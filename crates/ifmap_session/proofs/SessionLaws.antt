@@ -26,11 +26,12 @@ use Rattle.ifmap_session.specs.Places.{IsPlaceFor, IsPlaceOf}
 use Rattle.ifmap_session.specs.Seats.{Seat}
 use Rattle.ifmap_session.specs.SessionIds.{BeginsWithSerial, hyphen}
 use Rattle.ifmap_session.specs.Sessions.{IsLive, Session, change, is_text, most_sessions, session_of_client, session_order, session_with_id, session_with_serial, without_sessions}
-use Rattle.ifmap_session.specs.laws.TableLaws.{Keeps, clients_same, length_same, one_changed, one_numbered, shorter}
-use Rattle.ifmap_session.specs.laws.TextLaws.{all_found, distinct_filter, distinct_push, find_none, none_passes, rest_differ, text_is, text_itself}
+use Rattle.ifmap_session.specs.laws.TableLaws.{Keeps, clients_same, length_same, one_changed, one_numbered}
+use Rattle.ifmap_session.specs.laws.TextLaws.{all_found, distinct_filter, distinct_push, find_none, rest_differ, text_is, text_itself}
 use Rattle.ifmap_session.proofs.Halving.{filter_same, find_insert, place_for, placed}
 use Rattle.ifmap_session.proofs.RowLaws.{Own, Up, begun_last, changed, counted_filter, counted_push, counted_set, empty_row, ended, found, own_filter, own_push, own_set, row_of, seats_filter}
-use Rattle.ifmap_lemmas.specs.Filters.{all_weaker, filter_all, filter_passes}
+use Rattle.ifmap_lemmas.specs.Filters.{all_weaker, filter_all, filter_passes, filter_shorter}
+use Rattle.ifmap_lemmas.specs.Finding.{none_passes}
 
 pub holder_placed : (holders : List Holder) (client : List ℕ) (r : Result ℕ ℕ) → IsStrictlySortedBy client_order holders
     → IsSearchInRange r (length holders) → IsBinarySearchResult (λ (h : Holder). slice_cmp nat_cmp h.client client) holders r → IsPlaceOf
@@ -375,7 +376,7 @@ rows_ended counter n rows i a kept e =
       own = own_set n rows i a None kept.own e tt;
       counted = counted_set counter n rows i a None kept.counted e;
       apart = rw live (distinct_filter (λ (t : Session). t.client) (λ (t : Session). not (t.serial == n)) (live_of rows) kept.apart);
-      few = let less = shorter (λ (t : Session). not (t.serial == n)) (live_of rows) in let few = kept.few in rw live (omega arith);
+      few = let less = filter_shorter (λ (t : Session). not (t.serial == n)) (live_of rows) in let few = kept.few in rw live (omega arith);
     }
 
 pub own_at : (n : ℕ) (rows : List SessionRow) (i : ℕ) (a : Seat) → Own rows → slice_get rows i ≡ Some (row_of n a) → IsOwn n a

@@ -6,7 +6,7 @@ use Rattle.std.proofs.lemmas.List.Elements.{filter-append}
 use Rattle.std.proofs.lemmas.List.Filters.{sum_by-filter_both}
 use Rattle.std.proofs.lemmas.List.Sums.{sum_by-append}
 use Rattle.std.specs.BTreeMap.{get}
-use Rattle.std.specs.List.{AllByRecursion, filter, find, list_any}
+use Rattle.std.specs.List.{AllByRecursion, filter, list_any}
 use Rattle.std.specs.Ordering.{nat_cmp}
 use Rattle.ifmap_ident.specs.declared.codes.Code.TheVariants.{PollResultsTooBig}
 use Rattle.ifmap_machine.specs.Telling.{is_overfull}
@@ -18,6 +18,7 @@ use Rattle.ifmap_session.specs.laws.TextLaws.{all_found}
 use Rattle.ifmap_tellings.specs.declared.tellings.Telling.{Telling}
 use Rattle.ifmap_tellings.specs.declared.tellings.Telling.TheVariants as the_telling
 use Rattle.ifmap_tellings.specs.Tellings.{IsSized, Tellings, told_by, told_where}
+use Rattle.ifmap_lemmas.specs.Finding.{found_passes}
 
 -- ---- sizes
 
@@ -42,13 +43,6 @@ queue_few live serial s within is few =
     omega (arith, low, few)
 
 -- ---- which session
-
-pub found_passes : {X : Type 0} (p : X → Bool) (xs : List X) (x : X) → find p xs ≡ Some x → p x ≡ true
-found_passes p [] x e = cc
-found_passes p (y ∷ ys) x e = elim (cases_Bool (p y)) [
-  | inl hit ↦ let same : y ≡ x = cc (rw hit at e) in subst (λ z. p z ≡ true) same hit
-  | inr miss ↦ found_passes p ys x (rw miss at e)
-]
 
 pub serial_of : (serial : ℕ) (live : List Session) (s : Session) → session_with_serial serial live ≡ Some s → s.serial ≡ serial
 serial_of serial live s is =

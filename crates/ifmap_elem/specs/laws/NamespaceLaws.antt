@@ -3,7 +3,6 @@ use Rattle.std.proofs.Common.{◌≡◌, ◌≢◌, ℕ, ◌+◌, suc, List, [],
 use Rattle.std.proofs.lemmas.List.{append-nil}
 use Rattle.std.proofs.lemmas.List.Elements.{filter-append}
 use Rattle.std.proofs.lemmas.Bool.{cases_Bool, false_from_ne_true, not-true, and_parts}
-use Rattle.std.proofs.lemmas.Slice.Eq.{bytes_eq-Decides}
 use Rattle.std.specs.Prelude.{codes}
 use Rattle.std.specs.List.{filter, list_any}
 use Rattle.std.specs.Map.{lookup}
@@ -15,7 +14,7 @@ use Rattle.std.specs.Cmp.Lexicographic.{slice_cmp, texts_ties}
 use Rattle.std.proofs.lemmas.Cmp.{nat_list_eq_equiv}
 use Rattle.ifmap_elem.specs.Namespaces.{once_each, is_declared, declared_among, numbered_prefixes, name_prefixes, AddsSpaces}
 use Rattle.ifmap_elem.specs.Scopes.{xml_space}
-use Rattle.ifmap_lemmas.specs.Texts.{eq_tells, eq_itself}
+use Rattle.ifmap_lemmas.specs.Texts.{eq_tells, eq_itself, bytes_apart}
 
 abbrev pub Texts : Type 0
 Texts = List (List ℕ)
@@ -25,9 +24,6 @@ among s xs = list_any (bytes_eq s) xs
 
 abbrev pub others : List ℕ → Texts → Texts
 others x xs = filter (λ y. not (bytes_eq y x)) xs
-
-apart : (x y : List ℕ) → bytes_eq x y ≡ false → bytes_eq y x ≡ false
-apart x y e = false_from_ne_true (bytes_eq y x) (λ h. let k : bytes_eq x y ≡ true = (bytes_eq-Decides x y).1 (sym (eq_tells y x h)) in cc)
 
 -- what is no x is among the others exactly where it is among all
 pub among-others : (s x : List ℕ) (ys : Texts) → bytes_eq s x ≡ false → among s (others x ys) ≡ among s ys
@@ -168,7 +164,7 @@ one_row_more old new xs s label was now is none q =
         let same : s ≡ q = eq_tells s q e in
         ap (λ l. Some l) is ∙ sym (lookup-new (bytes_eq q) (name_prefixes xs) s (codes "n" ++ numeral (1 + length xs))
         (subst (λ t. bytes_eq t s ≡ true) same (eq_itself s)) (subst (λ t. lookup (bytes_eq t) (name_prefixes xs) ≡ None) same none))
-    row false e = was q ∙ sym (lookup-other (bytes_eq q) (name_prefixes xs) s (codes "n" ++ numeral (1 + length xs)) (apart s q e))
+    row false e = was q ∙ sym (lookup-other (bytes_eq q) (name_prefixes xs) s (codes "n" ++ numeral (1 + length xs)) (bytes_apart s q e))
 
 -- the same as code makes it, with a copy of the namespace as the key, and another in the list
 pub keyed : (old new : List ℕ → Option (List ℕ)) (xs ys : Texts) (s key other label : List ℕ)

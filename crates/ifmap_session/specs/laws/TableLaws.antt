@@ -11,7 +11,7 @@ use Rattle.std.specs.Int.{to_be_bytes, w128}
 use Rattle.std.specs.List.{AllByRecursion, IsDistinct, filter, find, list_any}
 use Rattle.std.specs.List.Sorted.{IsStrictlySortedBy}
 use Rattle.std.specs.declared.cmp.Ordering.TheVariants.{Less}
-use Rattle.ifmap_lemmas.specs.Filters.{all_filter, all_weaker}
+use Rattle.ifmap_lemmas.specs.Filters.{all_filter, all_weaker, filter_shorter}
 use Rattle.ifmap_lemmas.specs.Members.{both_all, map_of_all}
 use Rattle.ifmap_session.specs.SessionIds.{BeginsWithSerial, session_id}
 use Rattle.ifmap_session.specs.Sessions.{IsTable, Session, Table, change, is_text, most_sessions, session_of_client, session_order, session_with_serial, with_last, without_sessions}
@@ -26,11 +26,6 @@ goes_itself : (s : Session) → remains s.serial s ≡ false
 goes_itself s = not_from_true (list_any (λ n. n == s.serial) (s.serial ∷ []))
     (or_left (s.serial == s.serial) false (eq-eqb s.serial s.serial refl))
 
-pub shorter : {X : Type 0} (p : X → Bool) (xs : List X) → length (filter p xs) ≤ length xs
-shorter p [] = omega arith
-shorter p (x ∷ xs) = let rest = shorter p xs in elim (cases_Bool (p x))
-    [ inl hit ↦ rw hit (omega (arith, rest)) | inr miss ↦ rw miss (omega (arith, rest)) ]
-
 -- one at least goes, where what a search finds does not pass
 one_less : {X : Type 0} (q p : X → Bool) (xs : List X) (x : X) → find q xs ≡ Some x → p x ≡ false → length (filter p xs) < length xs
 one_less q p [] x e out = cc
@@ -39,7 +34,7 @@ one_less q p (y ∷ ys) x e out =
       | inl hit ↦
           let same : y ≡ x = cc (rw hit at e) in
           let gone : p y ≡ false = subst (λ z. p z ≡ false) (sym same) out in
-          let rest = shorter p ys in
+          let rest = filter_shorter p ys in
           rw gone (omega (arith, rest))
       | inr miss ↦
           let rest = one_less q p ys x (rw miss at e) out in
@@ -54,7 +49,7 @@ ended_table serial table h = record {
   small = h.small;
   ids = all_filter (λ (s : Session). BeginsWithSerial s.serial s.id) (remains serial) table.live h.ids;
   apart = distinct_filter (λ (s : Session). s.client) (remains serial) table.live h.apart;
-  few = let less = shorter (remains serial) table.live in omega (arith, less, h.few);
+  few = let less = filter_shorter (remains serial) table.live in omega (arith, less, h.few);
 }
 
 -- a client that has a session has one alone: without it fewer are left, and none of the client's

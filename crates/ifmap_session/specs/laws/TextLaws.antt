@@ -5,6 +5,7 @@ use Rattle.std.proofs.lemmas.Cmp.{nat_list_eq_equiv}
 use Rattle.std.specs.Cmp.Lexicographic.{same_text}
 use Rattle.std.specs.List.{AllByRecursion, IsDistinct, filter, find}
 use Rattle.ifmap_session.specs.Sessions.{is_text}
+use Rattle.ifmap_lemmas.specs.Finding.{none_passes}
 
 -- texts
 pub text_is : (a b : List ℕ) → is_text a b ≡ true → a ≡ b
@@ -31,14 +32,6 @@ all_found P p (y ∷ ys) x h e =
 pub find_none : {X : Type 0} (p : X → Bool) (xs : List X) → AllByRecursion (λ x. p x ≡ false) xs → find p xs ≡ None
 find_none p [] h = refl
 find_none p (x ∷ xs) h = rw h.0 (find_none p xs h.1)
-
-pub none_passes : {X : Type 0} (p : X → Bool) (xs : List X) → find p xs ≡ None → AllByRecursion (λ x. p x ≡ false) xs
-none_passes p [] e = tt
-none_passes p (x ∷ xs) e =
-    elim (cases_Bool (p x)) [
-      | inl hit ↦ let bad : Some x ≡ None = rw hit at e in cc
-      | inr miss ↦ (miss, none_passes p xs (rw miss at e))
-    ]
 
 -- what a search finds is found among those that a filter leaves, where whatever it looks for stays
 pub find_kept : {X : Type 0} (q p : X → Bool) → ((x : X) → q x ≡ true → p x ≡ true) → (xs : List X) (x : X) → find q xs ≡ Some x

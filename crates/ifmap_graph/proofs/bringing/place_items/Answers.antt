@@ -5,8 +5,9 @@ use Rattle.ifmap_plans.specs.declared.plans.ItemChange.{ItemChange}
 use Rattle.ifmap_graph.specs.Bringing.{BringsShelves, flagged_items, parts_of}
 use Rattle.ifmap_graph.specs.Out.{items_of}
 use Rattle.ifmap_graph.proofs.Grown.{few_kept, grown_on, placed_there, places_none, places_on, placing}
-use Rattle.ifmap_graph.proofs.Planned.{all_at_place, mapped_all}
+use Rattle.ifmap_graph.proofs.Planned.{all_at_place}
 use Rattle.ifmap_graph.proofs.bringing.place_items.Goals as goal
+use Rattle.ifmap_lemmas.specs.Members.{all_of_map}
 
 pub loop-change-init : goal.loop-change-init
 loop-change-init c =
@@ -21,7 +22,7 @@ place_missing-requires-clause-canon c =
     subst (λ (x : ItemChange). IsCanonItem x.item) (sym c.change-item.is)
     (all_at_place (λ (x : ItemChange). IsCanonItem x.item) c.args.changes.now c.loop-change.change-index c.change-item.result
     c.loop-change-test.true
-    (mapped_all IsCanonItem (λ (x : ItemChange). x.item) c.args.changes.now c.requires.canon))
+    (all_of_map IsCanonItem (λ (x : ItemChange). x.item) c.args.changes.now c.requires.canon))
 
 pub place_missing-requires-clause-few : goal.place_missing-requires-clause-few
 place_missing-requires-clause-few c =

@@ -1,7 +1,7 @@
 use Rattle.std.proofs.lemmas.Bool.Decides.{Decides-eqb}
 use Rattle.std.proofs.lemmas.Slice.Eq.{strip_prefix_is}
-use Rattle.ifmap_lexer.proofs.Basics.{some_of, none_of}
 use Rattle.ifmap_lexer.proofs.splitting.after_word.Goals as goal
+use Rattle.ifmap_lemmas.specs.Options.{some_of, none_of}
 
 pub returns-clause-found : goal.returns-clause-found
 returns-clause-found c =

@@ -1,7 +1,7 @@
 use Rattle.std.proofs.Common.{◌≡◌, sym, ap, ◌∙◌}
 use Rattle.std.specs.Fmt.{decimal}
-use Rattle.ifmap_server.proofs.Cuts.{parses, differs}
 use Rattle.ifmap_server.proofs.headers.number_of.Goals as goal
+use Rattle.ifmap_lemmas.specs.Texts.{differs, parses}
 
 pub returns-in_default : goal.returns-in_default
 returns-in_default c = λ n small e. let p = parses n c.args.text.now c.parse.result c.parse.ensures.value.0 small e in

@@ -2,8 +2,9 @@ use Rattle.std.proofs.Common.{◌≡◌, sym, ap, ◌∙◌, arith}
 use Rattle.std.proofs.lemmas.Slice.Eq.{bytes_eq-Decides}
 use Rattle.std.specs.Int.{to_be_bytes, from_be_bytes, w128}
 use Rattle.uuid.specs.Text.{lower, simple_text}
-use Rattle.ifmap_server.proofs.Cuts.{word_parsed, word_back, differs}
+use Rattle.ifmap_server.proofs.Cuts.{word_parsed, word_back}
 use Rattle.ifmap_server.proofs.headers.word_of.Goals as goal
+use Rattle.ifmap_lemmas.specs.Texts.{differs}
 
 pub returns-in_default : goal.returns-in_default
 returns-in_default c = λ n small e. c.in_default.not-Ok (to_be_bytes w128 n)

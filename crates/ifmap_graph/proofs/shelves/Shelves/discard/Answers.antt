@@ -2,8 +2,9 @@ use Rattle.std.proofs.Common.{refl}
 use Rattle.slab.specs.Slab.{get}
 use Rattle.ifmap_graph.specs.Sides.{next, now}
 use Rattle.ifmap_graph.proofs.Staying.{ends_stay, waits_stay}
-use Rattle.ifmap_graph.proofs.Writes.{comes, drafts_left, shelved, side_stays, slot_live, some_of}
+use Rattle.ifmap_graph.proofs.Writes.{comes, drafts_left, shelved, side_stays, slot_live}
 use Rattle.ifmap_graph.proofs.shelves.Shelves.discard.Goals as goal
+use Rattle.ifmap_lemmas.specs.Options.{some_is}
 
 pub discard_at-requires : goal.discard_at-requires
 discard_at-requires c =
@@ -12,7 +13,7 @@ discard_at-requires c =
 
 pub returns-clause-shelved : goal.returns-clause-shelved
 returns-clause-shelved c =
-    let s = some_of (get c.args.self.now.slots c.index-at.result.now)
+    let s = some_is (get c.args.self.now.slots c.index-at.result.now)
     (slot_live (get c.args.self.now.slots) c.args.self.now.places.entries c.args.item.now c.index-at.result.now c.requires.shelved
     c.index-at.ensures)
     in shelved c.args.self.now.slots c.discard_at.new.slots c.args.self.now.places.entries c.requires.shelved c.args.item.now
@@ -21,7 +22,7 @@ returns-clause-shelved c =
 
 pub returns-clause-now : goal.returns-clause-now
 returns-clause-now c =
-    let s = some_of (get c.args.self.now.slots c.index-at.result.now)
+    let s = some_is (get c.args.self.now.slots c.index-at.result.now)
     (slot_live (get c.args.self.now.slots) c.args.self.now.places.entries c.args.item.now c.index-at.result.now c.requires.shelved
     c.index-at.ensures)
     in side_stays c.args.self.now.slots c.discard_at.new.slots c.args.self.now.places.entries c.requires.shelved c.args.item.now
@@ -30,7 +31,7 @@ returns-clause-now c =
 
 pub returns-clause-next : goal.returns-clause-next
 returns-clause-next c =
-    let s = some_of (get c.args.self.now.slots c.index-at.result.now)
+    let s = some_is (get c.args.self.now.slots c.index-at.result.now)
     (slot_live (get c.args.self.now.slots) c.args.self.now.places.entries c.args.item.now c.index-at.result.now c.requires.shelved
     c.index-at.ensures)
     in comes c.args.self.now.slots c.discard_at.new.slots c.args.self.now.places.entries c.requires.shelved c.args.item.now
@@ -39,7 +40,7 @@ returns-clause-next c =
 
 pub returns-clause-drafts : goal.returns-clause-drafts
 returns-clause-drafts c =
-    let s = some_of (get c.args.self.now.slots c.index-at.result.now)
+    let s = some_is (get c.args.self.now.slots c.index-at.result.now)
     (slot_live (get c.args.self.now.slots) c.args.self.now.places.entries c.args.item.now c.index-at.result.now c.requires.shelved
     c.index-at.ensures)
     in drafts_left c.args.self.now.slots c.discard_at.new.slots c.args.self.now.places.entries c.requires.shelved c.args.item.now
@@ -48,7 +49,7 @@ returns-clause-drafts c =
 
 pub returns-clause-ends : goal.returns-clause-ends
 returns-clause-ends c =
-    let s = some_of (get c.args.self.now.slots c.index-at.result.now)
+    let s = some_is (get c.args.self.now.slots c.index-at.result.now)
     (slot_live (get c.args.self.now.slots) c.args.self.now.places.entries c.args.item.now c.index-at.result.now c.requires.shelved
     c.index-at.ensures)
     in ends_stay c.args.self.now.slots c.discard_at.new.slots c.args.self.now.places.entries c.requires.shelved c.args.item.now
@@ -57,7 +58,7 @@ returns-clause-ends c =
 
 pub returns-clause-waits : goal.returns-clause-waits
 returns-clause-waits c =
-    let s = some_of (get c.args.self.now.slots c.index-at.result.now)
+    let s = some_is (get c.args.self.now.slots c.index-at.result.now)
     (slot_live (get c.args.self.now.slots) c.args.self.now.places.entries c.args.item.now c.index-at.result.now c.requires.shelved
     c.index-at.ensures)
     in waits_stay c.args.self.now.slots c.discard_at.new.slots c.args.self.now.places.entries c.requires.shelved c.args.item.now

@@ -5,8 +5,8 @@ use Rattle.ifmap_graph.specs.Shelved.{list_at}
 use Rattle.ifmap_graph.specs.Sides.{now}
 use Rattle.ifmap_ident.specs.Items.{IsCanonItem}
 use Rattle.ifmap_graph.proofs.Following.{first_has, next_is, none_is}
-use Rattle.ifmap_graph.proofs.Viewed.{all_has}
 use Rattle.ifmap_graph.proofs.shelves.Shelves.item_after.Goals as goal
+use Rattle.ifmap_lemmas.specs.Having.{all_has}
 
 some_weaker : {X : Type 0} (o : Option X) (P Q : X → Type 0) → ((x : X) → P x → Q x) → IfSome o P → IfSome o Q
 some_weaker None P Q f h = h

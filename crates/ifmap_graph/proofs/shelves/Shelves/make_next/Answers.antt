@@ -5,8 +5,9 @@ use Rattle.ifmap_graph.specs.Shelved.{list_at}
 use Rattle.ifmap_graph.specs.Sides.{now}
 use Rattle.ifmap_graph.proofs.Finding.{found}
 use Rattle.ifmap_graph.proofs.Again.{written_again}
-use Rattle.ifmap_graph.proofs.Writes.{slot_live, some_of}
+use Rattle.ifmap_graph.proofs.Writes.{slot_live}
 use Rattle.ifmap_graph.proofs.shelves.Shelves.make_next.Goals as goal
+use Rattle.ifmap_lemmas.specs.Options.{some_is}
 
 pub make_next_at-requires : goal.make_next_at-requires
 make_next_at-requires c =
@@ -15,7 +16,7 @@ make_next_at-requires c =
 
 pub returns-clause-next : goal.returns-clause-next
 returns-clause-next c =
-    let s = some_of (get c.args.self.now.slots c.index-at.result.now)
+    let s = some_is (get c.args.self.now.slots c.index-at.result.now)
     (slot_live (get c.args.self.now.slots) c.args.self.now.places.entries c.args.change.now.item c.index-at.result.now c.requires.shelved
     c.index-at.ensures)
     in subst (λ rows. IfOk c.make_next_at.result
@@ -27,7 +28,7 @@ returns-clause-next c =
 
 pub returns-clause-same : goal.returns-clause-same
 returns-clause-same c =
-    let s = some_of (get c.args.self.now.slots c.index-at.result.now)
+    let s = some_is (get c.args.self.now.slots c.index-at.result.now)
     (slot_live (get c.args.self.now.slots) c.args.self.now.places.entries c.args.change.now.item c.index-at.result.now c.requires.shelved
     c.index-at.ensures)
     in ap (λ slots. record c.args.self.now { slots = slots }) (c.make_next_at.ensures.slots s.0 s.1

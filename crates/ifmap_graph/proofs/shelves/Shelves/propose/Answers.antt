@@ -3,8 +3,9 @@ use Rattle.slab.specs.Slab.{get}
 use Rattle.ifmap_graph.specs.Sides.{next, now}
 use Rattle.ifmap_graph.proofs.Proposing.{draft_there, drafts_come, drafts_there}
 use Rattle.ifmap_graph.proofs.Staying.{ends_stay, waits_stay}
-use Rattle.ifmap_graph.proofs.Writes.{shelved, shows, side_stays, slot_live, some_of}
+use Rattle.ifmap_graph.proofs.Writes.{shelved, shows, side_stays, slot_live}
 use Rattle.ifmap_graph.proofs.shelves.Shelves.propose.Goals as goal
+use Rattle.ifmap_lemmas.specs.Options.{some_is}
 
 pub propose_at-requires : goal.propose_at-requires
 propose_at-requires c =
@@ -13,7 +14,7 @@ propose_at-requires c =
 
 pub returns-clause-shelved : goal.returns-clause-shelved
 returns-clause-shelved c =
-    let s = some_of (get c.args.self.now.slots c.index-at.result.now)
+    let s = some_is (get c.args.self.now.slots c.index-at.result.now)
     (slot_live (get c.args.self.now.slots) c.args.self.now.places.entries c.args.item.now c.index-at.result.now c.requires.shelved
     c.index-at.ensures)
     in shelved c.args.self.now.slots c.propose_at.new.slots c.args.self.now.places.entries c.requires.shelved c.args.item.now
@@ -22,7 +23,7 @@ returns-clause-shelved c =
 
 pub returns-clause-now : goal.returns-clause-now
 returns-clause-now c =
-    let s = some_of (get c.args.self.now.slots c.index-at.result.now)
+    let s = some_is (get c.args.self.now.slots c.index-at.result.now)
     (slot_live (get c.args.self.now.slots) c.args.self.now.places.entries c.args.item.now c.index-at.result.now c.requires.shelved
     c.index-at.ensures)
     in side_stays c.args.self.now.slots c.propose_at.new.slots c.args.self.now.places.entries c.requires.shelved c.args.item.now
@@ -31,7 +32,7 @@ returns-clause-now c =
 
 pub returns-clause-next : goal.returns-clause-next
 returns-clause-next c =
-    let s = some_of (get c.args.self.now.slots c.index-at.result.now)
+    let s = some_is (get c.args.self.now.slots c.index-at.result.now)
     (slot_live (get c.args.self.now.slots) c.args.self.now.places.entries c.args.item.now c.index-at.result.now c.requires.shelved
     c.index-at.ensures)
     in shows c.args.self.now.slots c.propose_at.new.slots c.args.self.now.places.entries c.requires.shelved c.args.item.now
@@ -40,7 +41,7 @@ returns-clause-next c =
 
 pub returns-clause-ends : goal.returns-clause-ends
 returns-clause-ends c =
-    let s = some_of (get c.args.self.now.slots c.index-at.result.now)
+    let s = some_is (get c.args.self.now.slots c.index-at.result.now)
     (slot_live (get c.args.self.now.slots) c.args.self.now.places.entries c.args.item.now c.index-at.result.now c.requires.shelved
     c.index-at.ensures)
     in ends_stay c.args.self.now.slots c.propose_at.new.slots c.args.self.now.places.entries c.requires.shelved c.args.item.now
@@ -49,7 +50,7 @@ returns-clause-ends c =
 
 pub returns-clause-waits : goal.returns-clause-waits
 returns-clause-waits c =
-    let s = some_of (get c.args.self.now.slots c.index-at.result.now)
+    let s = some_is (get c.args.self.now.slots c.index-at.result.now)
     (slot_live (get c.args.self.now.slots) c.args.self.now.places.entries c.args.item.now c.index-at.result.now c.requires.shelved
     c.index-at.ensures)
     in waits_stay c.args.self.now.slots c.propose_at.new.slots c.args.self.now.places.entries c.requires.shelved c.args.item.now
@@ -58,7 +59,7 @@ returns-clause-waits c =
 
 pub returns-clause-drafts : goal.returns-clause-drafts
 returns-clause-drafts c =
-    let s = some_of (get c.args.self.now.slots c.index-at.result.now)
+    let s = some_is (get c.args.self.now.slots c.index-at.result.now)
     (slot_live (get c.args.self.now.slots) c.args.self.now.places.entries c.args.item.now c.index-at.result.now c.requires.shelved
     c.index-at.ensures)
     in drafts_come c.args.self.now.slots c.propose_at.new.slots c.args.self.now.places.entries c.requires.shelved c.args.item.now
@@ -67,7 +68,7 @@ returns-clause-drafts c =
 
 pub returns-clause-kept : goal.returns-clause-kept
 returns-clause-kept c =
-    let s = some_of (get c.args.self.now.slots c.index-at.result.now)
+    let s = some_is (get c.args.self.now.slots c.index-at.result.now)
     (slot_live (get c.args.self.now.slots) c.args.self.now.places.entries c.args.item.now c.index-at.result.now c.requires.shelved
     c.index-at.ensures)
     in drafts_there c.args.self.now.slots c.propose_at.new.slots c.args.self.now.places.entries c.requires.shelved c.args.item.now
@@ -76,7 +77,7 @@ returns-clause-kept c =
 
 pub returns-clause-drafted : goal.returns-clause-drafted
 returns-clause-drafted c =
-    let s = some_of (get c.args.self.now.slots c.index-at.result.now)
+    let s = some_is (get c.args.self.now.slots c.index-at.result.now)
     (slot_live (get c.args.self.now.slots) c.args.self.now.places.entries c.args.item.now c.index-at.result.now c.requires.shelved
     c.index-at.ensures)
     in draft_there c.args.self.now.slots c.propose_at.new.slots c.args.self.now.places.entries c.requires.shelved c.args.item.now

@@ -5,14 +5,15 @@ use Rattle.slab.specs.Slab.{get}
 use Rattle.ifmap_graph.specs.Sides.{next, now}
 use Rattle.ifmap_graph.specs.Waits.{waits_at, waits_of, waits_there}
 use Rattle.ifmap_graph.proofs.Staying.{bare_stays, ends_stay}
-use Rattle.ifmap_graph.proofs.Writes.{shelved, side_stays, slot_live, some_of, waits_had, waits_has, waits_others}
+use Rattle.ifmap_graph.proofs.Writes.{shelved, side_stays, slot_live, waits_had, waits_has, waits_others}
 use Rattle.ifmap_graph.proofs.Ordered.{items_total}
 use Rattle.ifmap_graph.proofs.Waited.{lowered}
 use Rattle.ifmap_graph.proofs.shelves.Shelves.unwait.Goals as goal
+use Rattle.ifmap_lemmas.specs.Options.{some_is}
 
 pub unwait_at-requires : goal.unwait_at-requires
 unwait_at-requires c =
-    let s = some_of (get c.args.self.now.slots c.index-at.result.now)
+    let s = some_is (get c.args.self.now.slots c.index-at.result.now)
     (slot_live (get c.args.self.now.slots) c.args.self.now.places.entries c.args.item.now c.index-at.result.now c.requires.shelved
     c.index-at.ensures)
     in let count : waits_at (get c.args.self.now.slots) c.args.self.now.places.entries c.args.item.now ≡ s.0.waits
@@ -21,7 +22,7 @@ unwait_at-requires c =
 
 pub returns-clause-shelved : goal.returns-clause-shelved
 returns-clause-shelved c =
-    let s = some_of (get c.args.self.now.slots c.index-at.result.now)
+    let s = some_is (get c.args.self.now.slots c.index-at.result.now)
     (slot_live (get c.args.self.now.slots) c.args.self.now.places.entries c.args.item.now c.index-at.result.now c.requires.shelved
     c.index-at.ensures)
     in shelved c.args.self.now.slots c.unwait_at.new.slots c.args.self.now.places.entries c.requires.shelved c.args.item.now
@@ -30,7 +31,7 @@ returns-clause-shelved c =
 
 pub returns-clause-now : goal.returns-clause-now
 returns-clause-now c =
-    let s = some_of (get c.args.self.now.slots c.index-at.result.now)
+    let s = some_is (get c.args.self.now.slots c.index-at.result.now)
     (slot_live (get c.args.self.now.slots) c.args.self.now.places.entries c.args.item.now c.index-at.result.now c.requires.shelved
     c.index-at.ensures)
     in side_stays c.args.self.now.slots c.unwait_at.new.slots c.args.self.now.places.entries c.requires.shelved c.args.item.now
@@ -39,7 +40,7 @@ returns-clause-now c =
 
 pub returns-clause-next : goal.returns-clause-next
 returns-clause-next c =
-    let s = some_of (get c.args.self.now.slots c.index-at.result.now)
+    let s = some_is (get c.args.self.now.slots c.index-at.result.now)
     (slot_live (get c.args.self.now.slots) c.args.self.now.places.entries c.args.item.now c.index-at.result.now c.requires.shelved
     c.index-at.ensures)
     in side_stays c.args.self.now.slots c.unwait_at.new.slots c.args.self.now.places.entries c.requires.shelved c.args.item.now
@@ -48,7 +49,7 @@ returns-clause-next c =
 
 pub returns-clause-waits : goal.returns-clause-waits
 returns-clause-waits c =
-    let s = some_of (get c.args.self.now.slots c.index-at.result.now)
+    let s = some_is (get c.args.self.now.slots c.index-at.result.now)
     (slot_live (get c.args.self.now.slots) c.args.self.now.places.entries c.args.item.now c.index-at.result.now c.requires.shelved
     c.index-at.ensures)
     in let count : waits_at (get c.args.self.now.slots) c.args.self.now.places.entries c.args.item.now ≡ s.0.waits
@@ -67,7 +68,7 @@ returns-clause-waits c =
 
 pub returns-clause-left : goal.returns-clause-left
 returns-clause-left c =
-    let s = some_of (get c.args.self.now.slots c.index-at.result.now)
+    let s = some_is (get c.args.self.now.slots c.index-at.result.now)
     (slot_live (get c.args.self.now.slots) c.args.self.now.places.entries c.args.item.now c.index-at.result.now c.requires.shelved
     c.index-at.ensures)
     in c.unwait_at.ensures.left s.0 s.1
@@ -77,7 +78,7 @@ returns-clause-left c =
 
 pub returns-clause-ends : goal.returns-clause-ends
 returns-clause-ends c =
-    let s = some_of (get c.args.self.now.slots c.index-at.result.now)
+    let s = some_is (get c.args.self.now.slots c.index-at.result.now)
     (slot_live (get c.args.self.now.slots) c.args.self.now.places.entries c.args.item.now c.index-at.result.now c.requires.shelved
     c.index-at.ensures)
     in ends_stay c.args.self.now.slots c.unwait_at.new.slots c.args.self.now.places.entries c.requires.shelved c.args.item.now
@@ -86,7 +87,7 @@ returns-clause-ends c =
 
 pub returns-clause-bare : goal.returns-clause-bare
 returns-clause-bare c =
-    let s = some_of (get c.args.self.now.slots c.index-at.result.now)
+    let s = some_is (get c.args.self.now.slots c.index-at.result.now)
     (slot_live (get c.args.self.now.slots) c.args.self.now.places.entries c.args.item.now c.index-at.result.now c.requires.shelved
     c.index-at.ensures)
     in bare_stays c.args.self.now.slots c.unwait_at.new.slots c.args.self.now.places.entries c.requires.shelved c.args.item.now
