@@ -62,12 +62,6 @@ module _ {X : Type 0} where
       up f n m le [] h = tt
       up f n m le (y ∷ ys) h = (omega (arith, h.0, le), up f n m le ys h.1)
 
--- what holds of each that is not gone holds of what stands in its place
-pub same_kept : (P Q : Standing → Type 0) (R : ℕ → Standing → Standing → Type 0) → ((i : ℕ) (x y : Standing) → R i x y → P x → Q y)
-    → (gone : List Bool) (old new : List Standing) → AtEach R old new → AllKept P gone old → AllKept Q gone new
-same_kept P Q R f gone old new r k = λ i y at flag.
-    let x = present new old i y (sym r.long) at in f i x.0 y (r.at i x.0 y x.1 at) (k i x.0 x.1 flag)
-
 -- and of each that is not gone later
 pub less_kept : (P : Standing → Type 0) (gone more : List Bool) (standing : List Standing) → length gone ≡ length standing
     → ((i : ℕ) → slice_get gone i ≡ Some true → slice_get more i ≡ Some true) → AllKept P gone standing → AllKept P more standing

@@ -44,12 +44,6 @@ kept_later {X} P Q gone after old new flags long goes stays h i y here none =
     at true flag x here = let wrong : true ≡ false = same_Some true false (sym (stays i flag) ∙ none) in cc
     at false flag x was = goes i x y was here (h i x was flag)
 
-pub map_kept : {X Y : Type 0} (f : X → Y) (gone : List Bool) (xs : List X) → map f (kept_of gone xs) ≡ kept_of gone (map f xs)
-map_kept f [] xs = refl
-map_kept f (g ∷ gone) [] = refl
-map_kept f (true ∷ gone) (x ∷ xs) = map_kept f gone xs
-map_kept f (false ∷ gone) (x ∷ xs) = ap (λ ys. f x ∷ ys) (map_kept f gone xs)
-
 -- flags more where a test passes
 pub kept_marked : {X : Type 0} (test : X → Bool) (gone : List Bool) (xs : List X)
     → kept_of (map (λ (p : Bool × X). p.0 || test p.1) (zip gone xs)) xs ≡ filter (λ x. not (test x)) (kept_of gone xs)

@@ -10,7 +10,6 @@ pub mod Marking
 pub mod Settling
 pub mod Told
 pub mod OneGraph
-pub mod Whole
 pub mod Starts
 pub mod Begun
 pub mod Making

@@ -32,7 +32,7 @@ use Rattle.ifmap_tellings.specs.Tellings.{HasSameSessions, kept_of, told_by}
 use Rattle.ifmap_changes.specs.declared.parts.Parts.{Parts}
 use Rattle.ifmap_changes.specs.Between.{AreKept, AreOrdered, AreTurnedWith, AreWithin, Asking, CanEnd, IsBare, IsReady, IsSteady, IsWithin, sessions_left, sight_now, so_far, starts_of}
 use Rattle.ifmap_changes.specs.Changes.{CanTakeBack, IsBegun, IsTold, sight_next, with_next}
-use Rattle.ifmap_changes.proofs.Begun.{awaits_these, keep_searches, same_so_far, shared}
+use Rattle.ifmap_changes.proofs.Begun.{same_so_far, shared}
 use Rattle.ifmap_changes.proofs.Flags.{kept_later}
 use Rattle.ifmap_changes.proofs.Starts.{numbered_beside, numbered_more, own_beside}
 use Rattle.ifmap_changes.proofs.Numbers.{Tells}
@@ -40,7 +40,9 @@ use Rattle.ifmap_changes.proofs.OneGraph.{one_graph}
 use Rattle.ifmap_changes.proofs.Settling.{same_ordered}
 use Rattle.ifmap_changes.proofs.Steady.{numbered_still}
 use Rattle.ifmap_changes.proofs.Told.{overflow_within}
-use Rattle.ifmap_changes.proofs.Whole.{whole_after}
+use Rattle.ifmap_plans.specs.laws.OnItemLaws.{whole_after}
+use Rattle.ifmap_standing.specs.PlaceLaws.{keep_searches}
+use Rattle.ifmap_graph.specs.NumberLaws.{awaits_these}
 
 -- ---- the change is made
 

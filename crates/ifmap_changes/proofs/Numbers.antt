@@ -1,6 +1,5 @@
 -- Numbers of a graph from which some have gone: those of identifiers that are held stay.
-use Rattle.std.proofs.Common.{◌≡◌, ℕ, ◌≤◌, Some, ap, ◌∙◌, sym, subst, inl, inr, arith}
-use Rattle.std.proofs.lemmas.Option.{same_Some}
+use Rattle.std.proofs.Common.{◌≡◌, ℕ, ◌≤◌, Some, ap, ◌∙◌, subst, inl, inr, arith}
 use Rattle.std.specs.Prelude.{option_map}
 use Rattle.ifmap_changes.specs.Between.{IsSeen}
 use Rattle.ifmap_graph.specs.Held.{Held, IsOwn}
@@ -27,8 +26,3 @@ number_stays tells old new seen fewer v a n here (inl p) some =
     let at : p.0 ≡ v = seen.one_to_one p.0 v a (was ∙ ap Some one) here in
     subst (λ w. key_at new.names w ≡ Some a) at (named ∙ ap Some one)
 number_stays tells old new seen fewer v a n here (inr p) some = absurd (omega (arith, p.1, some))
-
--- numbers that both have are those of the same identifiers
-pub numbers_shared : (old new : Held) → BringsNoNumbers old new → (v : ℕ) (a b : Identifier) → key_at old.names v ≡ Some a
-    → key_at new.names v ≡ Some b → b ≡ a
-numbers_shared old new fewer v a b was is = same_Some b a (sym (fewer v b is) ∙ was)

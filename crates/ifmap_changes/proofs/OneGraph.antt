@@ -16,20 +16,14 @@ use Rattle.ifmap_ident.specs.Identifiers.{identifier_bytes, same_identifier}
 use Rattle.ifmap_ident.specs.Items.{IsCanonItem, identifiers_of, item_order, same_item}
 use Rattle.ifmap_lemmas.specs.Filters.{all_weaker, filter_none}
 use Rattle.ifmap_lemmas.specs.Orderings.{first_of_less}
-use Rattle.ifmap_lemmas.specs.Texts.{eq_itself, eq_tells}
+use Rattle.ifmap_lemmas.specs.Texts.{eq_tells}
 use Rattle.ifmap_meta.specs.declared.stored.Stored.{Stored}
 use Rattle.ifmap_plans.specs.laws.KeyLaws.{items_tied, items_total}
-use Rattle.ifmap_plans.specs.laws.PlacingLaws.{greater_of_less, less_of_greater}
+use Rattle.ifmap_plans.specs.laws.PlacingLaws.{less_of_greater}
 use Rattle.ifmap_view.specs.declared.attachments.Attachment.{Attachment}
 use Rattle.ifmap_view.specs.Attachments.{IsGraph, attachment_order, stored_order}
 use Rattle.ifmap_view.specs.Rows.{stored_on}
-
-identifier_itself : (a : Identifier) → same_identifier a a ≡ true
-identifier_itself a = eq_itself (identifier_bytes a)
-
-pub item_itself : (x : Item) → same_item x x ≡ true
-item_itself (One a) = rw (identifier_itself a) refl
-item_itself (Pair a b) = rw (identifier_itself a, identifier_itself b) refl
+use Rattle.ifmap_ident.specs.SameLaws.{item_itself, greater_differs}
 
 abbrev AreCanon : Item → Type 0
 AreCanon x = AllByRecursion IsIdentifier (identifiers_of x)
@@ -51,10 +45,6 @@ module _ (tells : Tells) where
 first_stored : (a : Attachment) (rows : List Attachment) → stored_on a.item (a ∷ rows) ≡ a.stored ∷ stored_on a.item rows
 first_stored a rows = rw (item_itself a.item) refl
 
--- nothing is stored on an item below the first
-apart : (x y : Item) → item_order x y ≡ Less → same_item y x ≡ false
-apart x y l = items_tied y x ∙ ap is_eq (greater_of_less Item item_order items_total x y l)
-
 next_above : (x : Item) (b y : Attachment) → item_order x b.item ≡ Less → attachment_order b y ≡ Less → item_order x y.item ≡ Less
 next_above x b y l h =
     elim (first_of_less (item_order b.item y.item) (stored_order b.stored y.stored) h) [
@@ -67,9 +57,9 @@ none_below : (x : Item) (b : Attachment) (ys : List Attachment) → item_order x
 none_below x b ys l up =
     let others : AllByRecursion (λ (r : Attachment). same_item r.item x ≡ false) ys =
     all_weaker (λ y. attachment_order b y ≡ Less) (λ (r : Attachment). same_item r.item x ≡ false)
-    (λ y h. apart x y.item (next_above x b y l h)) ys up in
+    (λ y h. greater_differs x y.item (next_above x b y l h)) ys up in
     ap (λ (rs : List Attachment). map (λ (r : Attachment). r.stored) rs)
-    (filter_none (λ (r : Attachment). same_item r.item x) (b ∷ ys) (apart x b.item l, others))
+    (filter_none (λ (r : Attachment). same_item r.item x) (b ∷ ys) (greater_differs x b.item l, others))
 
 abbrev Alike : List Attachment → List Attachment → Type 0
 Alike xs ys = (x : Item) → stored_on x xs ≡ stored_on x ys

@@ -8,8 +8,8 @@ use Rattle.ifmap_changes.specs.Between.{AreBack, AreOrdered, AreParts, AreWithin
 use Rattle.ifmap_changes.specs.Changes.{CanTakeBack}
 use Rattle.ifmap_changes.specs.declared.changes.Made.{Made}
 use Rattle.ifmap_changes.specs.declared.parts.Parts.{Parts}
-use Rattle.ifmap_changes.proofs.EachPlace.{same_all, same_kept, same_map, weaker}
-use Rattle.ifmap_changes.proofs.Numbers.{Tells, numbers_shared}
+use Rattle.ifmap_changes.proofs.EachPlace.{same_all, same_map, weaker}
+use Rattle.ifmap_changes.proofs.Numbers.{Tells}
 use Rattle.ifmap_changes.proofs.Steady.{HaveSameSearches, steady_after}
 use Rattle.ifmap_delta.specs.Sights.{IsKept, Sight}
 use Rattle.ifmap_delta.specs.Ways.{HasSameSearch}
@@ -33,6 +33,9 @@ use Rattle.ifmap_tellings.specs.declared.tellings.Pending.{Pending}
 use Rattle.ifmap_tellings.specs.Tellings.{AllKept, CanTell, EachTelling, HasSameSessions, IsSized, kept_of, told_by}
 use Rattle.ifmap_view.specs.declared.attachments.Attachment.{Attachment}
 use Rattle.ifmap_view.specs.Views.{IsView}
+use Rattle.ifmap_standing.specs.PlaceLaws.{leads_search}
+use Rattle.ifmap_tellings.specs.ToldLaws.{same_kept}
+use Rattle.ifmap_graph.specs.NumberLaws.{numbers_shared}
 
 -- the laws on what subscriptions keep
 abbrev pub SameLinks : Type 0
@@ -60,11 +63,6 @@ settled_search : (way : Option (Option Way)) (x y : Subscription) → IsSettled 
 settled_search None x y e = one_search x y e
 settled_search (Some None) x y e = one_search x y e
 settled_search (Some (Some way)) x y e = e.0
-
-leads_search : (way : Option (Option Way)) (x y : Subscription) → LeadsBackWhere way x y → HasSameSearch x y
-leads_search None x y e = e.search
-leads_search (Some None) x y e = e.search
-leads_search (Some (Some way)) x y e = e.search
 
 stand_weaker : (R S : Subscription → Subscription → Type 0) → ((x y : Subscription) → R x y → S x y) → (x y : Standing) → Stands R x y
     → Stands S x y

@@ -1,20 +1,17 @@
 -- Where subscriptions start: they are few enough for the graph to hold each start (`few_starts`); starts have their numbers still where
 -- numbers only come (`numbered_more`), and are held for subscriptions that keep their searches (`numbered_beside`, `own_beside`).
-use Rattle.std.proofs.Common.{◌≡◌, inl, inr, ℕ, ◌*◌, ◌≤◌, ◌==◌, Bool, true, false, not, cond, Some, List, [], ◌∷◌, length, map, ap, ◌∙◌, sym, subst, arith}
+use Rattle.std.proofs.Common.{◌≡◌, inl, inr, ℕ, ◌*◌, ◌≤◌, ◌==◌, Bool, true, false, not, Some, List, [], ◌∷◌, length, map, ap, ◌∙◌, sym, subst, arith}
 use Rattle.std.proofs.lemmas.Bool.{cases_Bool}
 use Rattle.std.proofs.lemmas.Bool.Decides.{nat_tests}
 use Rattle.std.proofs.lemmas.List.{length-map}
-use Rattle.std.proofs.lemmas.List.Sums.{sum_by-cons}
 use Rattle.std.specs.List.{AllByRecursion, filter}
-use Rattle.std.specs.Ordering.{is_eq}
 use Rattle.ifmap_lemmas.specs.Filters.{all_weaker, filter_fewer}
 use Rattle.ifmap_delta.specs.Ways.{HasSameSearch}
 use Rattle.ifmap_ident.specs.declared.identifiers.Identifier.{Identifier}
-use Rattle.ifmap_ident.specs.Identifiers.{identifier_order}
 use Rattle.ifmap_machine.specs.State as machine
 use Rattle.ifmap_machine.specs.State.{standing_in}
 use Rattle.ifmap_machine.specs.Subscribing.{most_names}
-use Rattle.ifmap_pool.specs.Holdings.{key_at, once}
+use Rattle.ifmap_pool.specs.Holdings.{key_at}
 use Rattle.ifmap_session.specs.Sessions.{IsLive, Session, most_sessions}
 use Rattle.ifmap_standing.specs.declared.standing.Standing.{Standing}
 use Rattle.ifmap_standing.specs.Kept.{AtEach, Stands}
@@ -26,23 +23,9 @@ use Rattle.ifmap_changes.proofs.Flags.{split_long}
 use Rattle.ifmap_changes.proofs.EachPlace.{same_all}
 use Rattle.ifmap_changes.proofs.Steady.{same_starts}
 use Rattle.ifmap_changes.proofs.Told.{all_shown}
+use Rattle.ifmap_changes.specs.StartLaws.{starts_few}
 
 -- ---- starts
-
-once_few : (a b : Identifier) → once identifier_order a b ≤ 1
-once_few a b = by (is_eq (identifier_order a b))
-  where
-    by : (t : Bool) → cond {A = ℕ} t 1 0 ≤ 1
-    by true = omega arith
-    by false = omega arith
-
-starts_few : (a : Identifier) (xs : List Standing) → starts_of a xs ≤ length xs
-starts_few a [] = omega arith
-starts_few a (x ∷ xs) =
-    let sum = sum_by-cons (λ (z : Standing). once identifier_order z.subscription.search.start a) x xs
-    in let one = once_few x.subscription.search.start a
-    in let rest = starts_few a xs
-    in omega (arith, sum, one, rest)
 
 -- where each stands in one of some sessions, and so many in each, there are not more than so many for each session
 most_standing : (k : ℕ) (live : List Session) (ys : List machine.Standing)

@@ -1,8 +1,6 @@
 -- A graph stays steady where numbers go and the holds of others stay: for subscriptions with the same searches.
-use Rattle.std.proofs.Common.{◌≡◌, ℕ, ◌+◌, ◌≤◌, cond, Some, List, [], ◌∷◌, ◌++◌, append-nil, refl, ap, ◌∙◌, sym, subst, arith}
-use Rattle.std.proofs.lemmas.List.Sums.{sum_by-append}
+use Rattle.std.proofs.Common.{◌≡◌, ◌+◌, ◌≤◌, Some, List, [], ◌∷◌, ◌++◌, append-nil, ap, ◌∙◌, sym, subst, arith}
 use Rattle.std.specs.List.{AllByRecursion}
-use Rattle.std.specs.Ordering.{is_eq}
 use Rattle.ifmap_changes.specs.Between.{IsNumbered, IsSeen, IsSteady, starts_of}
 use Rattle.ifmap_changes.proofs.EachPlace.{same_all, same_sum, within_sum}
 use Rattle.ifmap_changes.proofs.Numbers.{Tells, number_stays}
@@ -10,32 +8,23 @@ use Rattle.ifmap_delta.specs.Ways.{HasSameSearch}
 use Rattle.ifmap_graph.specs.Held.{Held, IsOwn}
 use Rattle.ifmap_graph.specs.Seen.{BringsNoNumbers, IsStill, KeepsOwn, rows_now}
 use Rattle.ifmap_ident.specs.declared.identifiers.Identifier.{Identifier}
-use Rattle.ifmap_ident.specs.Identifiers.{identifier_bytes, identifier_order}
+use Rattle.ifmap_ident.specs.Identifiers.{identifier_order}
 use Rattle.ifmap_lemmas.specs.Members.{all_both, both_all}
-use Rattle.ifmap_lemmas.specs.Texts.{slice_cmp-same}
 use Rattle.ifmap_plans.specs.Plans.{AreWhole}
 use Rattle.ifmap_pool.specs.Holdings.{key_at, once}
 use Rattle.ifmap_standing.specs.declared.standing.Standing.{Standing}
 use Rattle.ifmap_standing.specs.Kept.{AtEach, Stands}
+use Rattle.ifmap_graph.specs.NumberLaws.{once_itself}
+use Rattle.ifmap_changes.specs.StartLaws.{starts_at, starts_append}
 
 abbrev pub HaveSameSearches : List Standing → List Standing → Type 0
 HaveSameSearches old new = AtEach (λ _. Stands HasSameSearch) old new
-
-abbrev starts_at : Identifier → Standing → ℕ
-starts_at a x = once identifier_order x.subscription.search.start a
-
--- a start is one
-one_start : (a : Identifier) → once identifier_order a a ≡ 1
-one_start a = ap (λ o. cond {A = ℕ} (is_eq o) 1 0) (slice_cmp-same (identifier_bytes a) (identifier_bytes a) refl)
 
 -- subscriptions with the same searches start alike
 pub same_starts : (a : Identifier) (old new : List Standing) → HaveSameSearches old new → starts_of a new ≡ starts_of a old
 same_starts a old new s =
     same_sum (starts_at a) (λ _. Stands HasSameSearch)
     (λ i x y t. ap (λ b. once identifier_order b a) (ap (λ z. z.start) t.subscription.search)) old new s
-
-starts_with : (a : Identifier) (xs ys : List Standing) → starts_of a (xs ++ ys) ≡ starts_of a xs + starts_of a ys
-starts_with a xs ys = sum_by-append (starts_at a) xs ys
 
 -- each that has the number of its start has it still
 pub numbered_still : Tells → (old new : Held) → IsSeen old → BringsNoNumbers old new → (all : List Standing)
@@ -47,7 +36,7 @@ numbered_still tells old new seen fewer all numbered own = each all numbered (λ
     each [] h k = tt
     each (x ∷ xs) h k =
         let a : Identifier = x.subscription.search.start in
-        let one = one_start a in
+        let one = once_itself a in
         let some : 1 ≤ starts_of a all = omega (arith, one, (k a).0) in (
           number_stays tells old new seen fewer x.subscription.region.start a (starts_of a all) h.0 (own a) some,
           each xs h.1 (λ b. (k b).1),
@@ -67,7 +56,7 @@ steady_beside tells old new seen still whole fewer own xs ys more same s =
       still = still;
       whole = whole;
       own = λ a. subst (λ n. IsOwn new a n)
-          (starts_with a xs more ∙ ap (λ n. n + starts_of a more) (sym (same_starts a xs ys same)) ∙ sym (starts_with a ys more))
+          (starts_append a xs more ∙ ap (λ n. n + starts_of a more) (sym (same_starts a xs ys same)) ∙ sym (starts_append a ys more))
           (own a (starts_of a (xs ++ more)) (s.own a));
       numbered = both_all (IsNumbered new) ys more (same_all (IsNumbered new) (IsNumbered new) (λ _. Stands HasSameSearch)
           (λ i x y t n. moved x y t n) xs ys same numbered.0) numbered.1;

@@ -1,78 +1,30 @@
--- What publishes and retractions meet: parts that were not changed (`kept_itself`), notes on items that elements are (`notes_canon`),
+-- What publishes and retractions meet: parts that were not changed (`stays_kept`), notes on items that elements are (`notes_canon`),
 -- subscriptions that are marked (`ready_marked`, `marked_state`).
-use Rattle.std.proofs.Common.{◌≡◌, ◌≢◌, ℕ, true, Some, List, [], ◌∷◌, length, map, slice_get, refl, ◌∙◌, sym, subst, arith}
-use Rattle.std.proofs.lemmas.Option.{same_Some}
+use Rattle.std.proofs.Common.{◌≡◌, ◌≢◌, ℕ, true, Some, List, length, map, slice_get, sym, subst}
 use Rattle.std.specs.List.{AllByRecursion}
-use Rattle.ifmap_changes.specs.Between.{AreKept, AreWithin, Asking, IsReady, IsSteady, rest_of, sessions_left, sight_now, so_far}
+use Rattle.ifmap_changes.specs.Between.{AreWithin, Asking, IsReady, rest_of, sessions_left, sight_now, so_far}
 use Rattle.ifmap_changes.specs.Changes.{CanSettle, CanTakeBack}
 use Rattle.ifmap_changes.specs.declared.changes.Made.{Made}
 use Rattle.ifmap_changes.specs.declared.parts.Parts.{Parts}
 use Rattle.ifmap_changes.proofs.EachPlace.{less_kept}
 use Rattle.ifmap_delta.specs.Sights.{IsKept}
 use Rattle.ifmap_graph.specs.Seen.{rows_now}
-use Rattle.ifmap_ident.specs.declared.items.Item.{Item}
 use Rattle.ifmap_ident.specs.Items.{IsCanonItem}
-use Rattle.ifmap_lemmas.specs.Members.{both_all}
 use Rattle.ifmap_machine.specs.Ending.{without_standing}
-use Rattle.ifmap_meta.specs.declared.metadata.Metadata.{Metadata}
 use Rattle.ifmap_plans.specs.declared.plans.Note.{Note}
 use Rattle.ifmap_publish.specs.Apply.{Authorship}
-use Rattle.ifmap_publish.specs.Notes.{note_of, notes_of, notes_of_op}
+use Rattle.ifmap_publish.specs.Notes.{notes_of_op}
 use Rattle.ifmap_requests.specs.declared.publishing.PublishOp.{PublishOp}
 use Rattle.ifmap_requests.specs.declared.publishing.PublishOp.TheVariants.{Update, Notify, Delete}
 use Rattle.ifmap_requests.specs.Fit.{IsFitOp}
 use Rattle.ifmap_session.specs.Sessions.{IsLive}
-use Rattle.ifmap_standing.specs.declared.standing.Standing.{Standing}
-use Rattle.ifmap_standing.specs.Kept.{KeepsSame, Stands}
 use Rattle.ifmap_standing.specs.Standing.{standing_of}
 use Rattle.ifmap_tellings.specs.declared.tellings.Pending.{Pending}
 use Rattle.ifmap_tellings.specs.Tellings.{AloneAreBare, CanTell, EachTelling, IsSized, kept_of, told_by}
 
-stands_itself : (x : Standing) → Stands KeepsSame x x
-stands_itself x = record {
-  serial = refl;
-  name = refl;
-  subscription = record {
-    search = record { search = refl; start = refl; max_depth = refl };
-    size = refl;
-    marks = λ v. refl;
-    rows = λ v r. r;
-  };
-}
-
--- what was not changed is kept
-pub kept_itself : (parts : Parts) → IsSteady parts.graph parts.standing.items → AreKept parts parts
-kept_itself parts s = record {
-  back = record {
-    steady = s;
-    rows = refl;
-    links = λ v. refl;
-    numbers = λ v a b p q. same_Some b a (sym q ∙ p);
-    lean = λ rest l. l;
-    standing = record {
-      long = refl;
-      at = λ i x y p q. subst (λ z. Stands KeepsSame x z) (same_Some x y (sym p ∙ q)) (stands_itself x);
-    };
-    sessions = record { live = refl; counter = refl; spare = λ n. omega arith; room = omega arith };
-  };
-  backs = λ u rows links b. b;
-}
-
 -- who asks, as an author in a session
 abbrev pub author_of : ℕ → Asking → Authorship
 author_of serial a = record { client = a.client; serial = serial; moment = a.moment }
-
--- what is notified is on items that elements are
-pub notes_canon : (by : Authorship) (ops : List PublishOp) → AllByRecursion IsFitOp ops
-    → AllByRecursion (λ (n : Note). IsCanonItem n.item) (notes_of by ops)
-notes_canon by [] fit = tt
-notes_canon by (op ∷ ops) fit =
-    both_all (λ (n : Note). IsCanonItem n.item) (notes_of_op by op) (notes_of by ops) (of_op op fit.0) (notes_canon by ops fit.1)
-  where
-    all : (item : Item) (elements : List Metadata) → IsCanonItem item
-        → AllByRecursion (λ (n : Note). IsCanonItem n.item) (map (note_of by item) elements)
-    all item [] is = tt
-    all item (m ∷ elements) is = (is, all item elements is)
 
     of_op : (one : PublishOp) → IsFitOp one → AllByRecursion (λ (n : Note). IsCanonItem n.item) (notes_of_op by one)
     of_op (Update item elements forever) fit = tt

@@ -29,25 +29,16 @@ use Rattle.ifmap_view.specs.declared.attachments.Attachment.{Attachment}
 use Rattle.ifmap_graph.specs.Seen.{rows_next, rows_now}
 use Rattle.ifmap_tellings.specs.declared.tellings.Pending.{Pending}
 use Rattle.ifmap_tellings.specs.declared.tellings.Telling.{Telling}
-use Rattle.ifmap_tellings.specs.declared.tellings.Telling.TheVariants.{After, Alone}
 use Rattle.ifmap_tellings.specs.Tellings.{AllKept, AloneAreBare, CanTell, EachTelling, HasSameSessions, IsSized, SkipsGone, count_told, gone_after, gone_alone, is_alone, kept_of, queued_for, told_by, told_where}
 use Rattle.ifmap_changes.specs.declared.parts.Parts.{Parts}
 use Rattle.ifmap_changes.specs.Between.{Asking, IsReady, IsWithin, sessions_left}
 use Rattle.ifmap_changes.specs.Changes.{IsTold, sight_next}
 use Rattle.ifmap_changes.proofs.Settling.{same_ordered, same_shown}
-use Rattle.ifmap_changes.proofs.Flags.{alike_maps, any_alike, any_both, any_mapped, kept_all, kept_later, kept_made, kept_marked, map_kept, map_twice, mapped_long, maps_alike, marks_stay, queued_made, skip_made, some_of, zip_mapped}
+use Rattle.ifmap_changes.proofs.Flags.{alike_maps, any_alike, any_both, any_mapped, kept_all, kept_later, kept_made, kept_marked, map_twice, mapped_long, maps_alike, marks_stay, queued_made, skip_made, some_of, zip_mapped}
+use Rattle.ifmap_session.specs.laws.TableLaws.{left_live}
+use Rattle.ifmap_tellings.specs.ToldLaws.{told_serial, map_kept}
 
 -- ---- a telling and a session
-
-pub told_serial : (o : Option Telling) (s : Session) → (told_where o s).serial ≡ s.serial
-told_serial None s = refl
-told_serial (Some (After items size)) s = refl
-told_serial (Some (Alone error)) s = refl
-
-pub told_limit : (o : Option Telling) (s : Session) → (told_where o s).limit ≡ s.limit
-told_limit None s = refl
-told_limit (Some (After items size)) s = refl
-told_limit (Some (Alone error)) s = refl
 
 -- one error is within a limit of 100
 pub overflow_within : (s : Session) → 100 ≤ s.limit → IsWithin (overflow_session s)
@@ -72,17 +63,6 @@ live_passes p n (s ∷ live) l = elim (cases_Bool (p s.serial)) [
 -- which sessions are left
 abbrev pub stays_in : Asking → ℕ → Bool
 stays_in a n = not (list_any (λ m. m == n) a.ended)
-
--- who is live among the sessions that are left is live
-pub left_live : (p : Session → Bool) (n : ℕ) (live : List Session) → IsLive n (filter p live) → IsLive n live
-left_live p n [] l = l
-left_live p n (s ∷ live) l = elim (cases_Bool (s.serial == n)) [
-  | inl hit ↦ rw hit refl
-  | inr miss ↦ elim (cases_Bool (p s)) [
-    | inl stays ↦ rw miss (left_live p n live (rw miss at (rw stays at l)))
-    | inr goes ↦ rw miss (left_live p n live (rw goes at l))
-  ]
-]
 
 -- a session with a serial that is found
 pub live_has : (n : ℕ) (live : List Session) → IsLive n live → list_any (λ (s : Session). s.serial == n) live ≡ true

@@ -2,3 +2,5 @@
 pub mod Between
 pub mod Changes
 pub mod Bounds
+pub mod StartLaws
+pub mod KeptLaws

@@ -3,31 +3,22 @@ use Rattle.std.proofs.Common.{rules, ◌≡◌, refl, ap, ◌∙◌, sym, subst,
 use Rattle.std.proofs.lemmas.Cmp.{alike_right}
 use Rattle.std.proofs.lemmas.List.{drop_all, drop_more}
 use Rattle.std.proofs.lemmas.List.Kept.{IsStrictlySortedBy-filter}
-use Rattle.std.specs.Cmp.{IsTotalOrder, tied_then}
-use Rattle.std.specs.Cmp.Lexicographic.{slice_cmp, texts_ties}
+use Rattle.std.specs.Cmp.{IsTotalOrder}
 use Rattle.std.specs.Cmp.Rules.{comparing}
 use Rattle.std.specs.List.{AllByRecursion, filter, remove}
 use Rattle.std.specs.List.Sorted.{IsBinarySearchResult, IsSearchInRange, IsStrictlySortedBy}
-use Rattle.std.specs.Ordering.{eq_by_cmp, is_eq, nat_cmp}
-use Rattle.std.specs.Str.{bytes_eq}
+use Rattle.std.specs.Ordering.{eq_by_cmp, is_eq}
 use Rattle.std.specs.declared.cmp.Ordering.TheVariants.{Less, Equal}
 use Rattle.ifmap_client.specs.EntrySets.{IsPlace, without}
-use Rattle.ifmap_folds.specs.Differences.{difference, entry_bytes, entry_order, has_entry, same_entry}
-use Rattle.ifmap_ident.specs.Items.{item_order, items_tie}
+use Rattle.ifmap_folds.specs.Differences.{difference, entry_order, has_entry, same_entry}
 use Rattle.ifmap_lemmas.specs.Filters.{all_at, all_weaker, filter_all, none_dropped}
 use Rattle.ifmap_plans.specs.Placing.{put}
 use Rattle.ifmap_plans.specs.laws.PlacingLaws.{found_is_put, gap_is_put, gap_none, greater_of_less, put_sorted}
 use Rattle.ifmap_search.specs.declared.results.Entry.{Entry}
+use Rattle.ifmap_folds.specs.laws.FoldingLaws.{entries_tie, difference_none}
 
 pub entries_total : IsTotalOrder entry_order
 entries_total = search (comparing, rules)
-
--- entries are one exactly where the order does not tell them apart
-pub entries_tie : (x y : Entry) → same_entry x y ≡ is_eq (entry_order x y)
-entries_tie x y =
-    ap (λ b. b && bytes_eq (entry_bytes x) (entry_bytes y)) (items_tie x.item y.item)
-    ∙ ap (λ b. is_eq (item_order x.item y.item) && b) (texts_ties (entry_bytes x) (entry_bytes y))
-    ∙ tied_then (item_order x.item y.item) (slice_cmp nat_cmp (entry_bytes x) (entry_bytes y))
 
 -- ---- taking out by place
 
@@ -116,13 +107,8 @@ remove_next removed i e entries all low at so =
     subst (λ y. drop i removed ≡ y ∷ drop (i + 1) removed) (sym at) (drop_more removed i e low) in
     difference_step e (drop (i + 1) removed) entries ∙ sym (ap (λ l. difference entries l) front) ∙ so
 
--- nothing is taken out
-pub none_removed : (entries : List Entry) → difference entries [] ≡ entries
-none_removed [] = refl
-none_removed (e ∷ entries) = ap (λ t. e ∷ t) (none_removed entries)
-
 -- where all were taken out
 pub removed_all : (removed : List Entry) (i : ℕ) (entries all : List Entry) → length removed ≤ i
     → difference entries (drop i removed) ≡ all → entries ≡ all
 removed_all removed i entries all high so =
-    sym (none_removed entries) ∙ ap (λ l. difference entries l) (sym (drop_all i removed high)) ∙ so
+    sym (difference_none entries) ∙ ap (λ l. difference entries l) (sym (drop_all i removed high)) ∙ so

@@ -13,7 +13,7 @@ use Rattle.ifmap_client_script.specs.declared.exchanges.Told.{Told}
 use Rattle.ifmap_client_script.specs.declared.outcomes.Stop.{Stop}
 use Rattle.ifmap_client_script.specs.declared.outcomes.Stop.TheVariants as stop
 use Rattle.ifmap_client_script.specs.Exchanges.{AnswersTo, Asks, Breaks, HasAny, HasNoReply, HasPart, Hears, Posts, Reads, Receives, Tells, Unread, Unwritten, Wiring, asked_of, request_post}
-use Rattle.ifmap_client_script.proofs.Pieces.{keeps_appends}
+use Rattle.ifmap_io.specs.Rises.{keeps_appends}
 
 -- a body that came means no reply
 no_reply : (left after : Option (List ℕ)) (body : List ℕ)

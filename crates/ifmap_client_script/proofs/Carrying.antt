@@ -15,7 +15,7 @@ use Rattle.ifmap_client_script.specs.declared.exchanges.Caller.{Caller}
 use Rattle.ifmap_client_script.specs.declared.exchanges.Told.{Told}
 use Rattle.ifmap_client_script.specs.declared.outcomes.Stop.{Stop}
 use Rattle.ifmap_client_script.specs.declared.outcomes.Stop.TheVariants as stop
-use Rattle.ifmap_client_script.specs.Deeds.{CanDo, Known, after_reply, is_poll, request_in}
+use Rattle.ifmap_client_script.specs.Deeds.{Known, after_reply, is_poll, request_in}
 use Rattle.ifmap_client_script.specs.Deeds as deed
 use Rattle.ifmap_client_script.specs.Ends.{LinkFailed, Ports}
 use Rattle.ifmap_client_script.specs.Exchanges.{AnswersTo, Asks, Exchanges, HasAny, HasNoReply, HasPart, IsFront, Wiring, asked_of, request_post}
@@ -23,8 +23,8 @@ use Rattle.ifmap_client_script.specs.Outlets.{AreUnspent, AsksBy, AsksOver, IsAs
 use Rattle.ifmap_client_script.specs.Printing.{body_text, set_text}
 use Rattle.ifmap_client_script.specs.Promises.{Broken, Cutting, Exchanged, IsWhole}
 use Rattle.ifmap_client_script.specs.Stops.{IsNamed, Sends}
-use Rattle.ifmap_client_script.proofs.Pieces.{keeps_appends}
 use Rattle.ifmap_client_script.specs.Turns.{CarriesOut, Cut, Unanswered}
+use Rattle.ifmap_io.specs.Rises.{keeps_appends}
 
 -- a wire that is as it was, was asked nothing
 pub exchanges_none : (caller : Caller) (before after : Wiring) → before.spent ≡ false → after ≡ before

@@ -20,9 +20,9 @@ use Rattle.ifmap_client_script.specs.Scripts.{IsBadLine, longest_script}
 use Rattle.ifmap_client_script.specs.Stops.{outcome_of}
 use Rattle.ifmap_client_script.specs.Turns.{IsAtFault, IsBeginning, IsCutShort, IsDue, IsIdle, IsLeft, IsOver, Scripting, TakesLine, Turns, TurnsOn}
 use Rattle.ifmap_client_script.proofs.Carrying.{exchanges_none}
-use Rattle.ifmap_client_script.proofs.Pieces.{rose_since}
 use Rattle.ifmap_client_script.proofs.Progress.{known_snoc}
 use Rattle.ifmap_client_script.proofs.Steps.{Fetched, cut_then, did_then, fetch, pass, posted_then, script_of, script_still}
+use Rattle.ifmap_io.specs.Rises.{rose_since}
 
 -- ---- counts that never fall
 

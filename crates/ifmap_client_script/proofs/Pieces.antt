@@ -1,5 +1,5 @@
 -- What is written piece by piece, and counts of faults.
-use Rattle.std.proofs.Common.{◌≡◌, ℕ, ◌+◌, ◌≤◌, List, [], ◌++◌, length, take, append-nil, None, Some, sym, subst, ◌∙◌, min, arith}
+use Rattle.std.proofs.Common.{◌≡◌, ℕ, ◌+◌, ◌≤◌, List, [], ◌++◌, length, take, append-nil, sym, subst, ◌∙◌, min, arith}
 use Rattle.std.specs.Prelude.{Option, Result, Ok, Err}
 use Rattle.std.proofs.KnownBytes.{Appends-trans}
 use Rattle.std.proofs.Math.Seq.{take-append-add}
@@ -9,17 +9,10 @@ use Rattle.ifmap_io.specs.Causes.{Rose}
 use Rattle.ifmap_client_script.specs.Stops.{Sends, Writes}
 use Rattle.ifmap_client_script.specs.declared.outcomes.Stop.{Stop}
 use Rattle.ifmap_client_script.specs.declared.outcomes.Stop.TheVariants as stop
-
-pub rose_since : (before mid now : ℕ) → before ≤ mid → Rose mid now → Rose before now
-rose_since before mid now later rose = omega arith
+use Rattle.ifmap_io.specs.Rises.{rose_since, keeps_appends}
 
 pub rose_till : (before mid now : ℕ) → Rose before mid → mid ≤ now → Rose before now
 rose_till before mid now rose later = omega arith
-
-pub keeps_appends : (old new : Option (List ℕ)) → Keeps old new → Appends old new []
-keeps_appends None new k = tt
-keeps_appends (Some xs) None k = absurd k
-keeps_appends (Some xs) (Some ys) k = k ∙ sym (append-nil xs)
 
 pub keeps_front : (old new : Option (List ℕ)) → Keeps old new → (n : ℕ) × Appends old new (take n [])
 keeps_front old new k = (0, keeps_appends old new k)

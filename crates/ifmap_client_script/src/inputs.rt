@@ -92,7 +92,7 @@ impl Input {
     }
 
     // Takes from the source until a line is pending that begins at that offset, or none can come.
-    #[tactic(auto, using(crate::proofs::Waiting::fetches_nothing, crate::proofs::Waiting::room_shrinks, crate::proofs::Pieces::rose_since))]
+    #[tactic(auto, using(crate::proofs::Waiting::fetches_nothing, crate::proofs::Waiting::room_shrinks, ifmap_io::specs::Rises::rose_since))]
     fn gather<S: Source>(&mut self, source: &mut S, offset: u64) -> Result<(), Stop>
         requires { offset ≤ longest_script + 1 }
         ensures gathers { Gathers (S.left source.old) (S.left source.new) offset self.old self.new

@@ -56,7 +56,7 @@ fn write<K: Sink>(sink: &mut K, bytes: &[u8]) -> Result<(), Stop>
     Ok(())
 }
 
-#[tactic(auto, using(crate::proofs::Pieces::keeps_appends, crate::proofs::Pieces::keeps_front))]
+#[tactic(auto, using(ifmap_io::specs::Rises::keeps_appends, crate::proofs::Pieces::keeps_front))]
 fn hand_on<K: Sink>(sink: &mut K) -> Result<(), Stop>
     ensures bytes { Writes (K.held sink.old) (K.held sink.new) (K.faults sink.old)
         (K.faults sink.new) [] result }

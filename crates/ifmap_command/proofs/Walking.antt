@@ -12,10 +12,9 @@ use Rattle.clap.specs.Kinds.{HasKind, Kinds, or_else}
 use Rattle.clap.specs.Values.{kind_of}
 use Rattle.clap.specs.Faults.{check_fault, defaults_fault, entered_fault, fault_of, is_simple_and_free, level_fault, settle_fault, walk_fault}
 use Rattle.clap.specs.declared.error.Error.{Error}
-use Rattle.clap.specs.declared.error.kind.ErrorKind.{ErrorKind}
 use Rattle.clap.specs.declared.error.kind.ErrorKind.TheVariants.{OutOfMemory}
 use Rattle.ifmap_words.specs.Options.{is_option}
-use Rattle.ifmap_words.specs.PairLaws.{none_of, pair_built, pair_only, pair_passes, pair_rows, walk_fails}
+use Rattle.ifmap_words.specs.PairLaws.{none_of, pair_built, pair_only, pair_passes, pair_rows, walk_fails, some_kind, first_none}
 use Rattle.ifmap_words.specs.Pairs.{pair_shape}
 use Rattle.std.specs.Fmt.{decimal}
 use Rattle.ifmap_command.specs.Commands.{Finds, FindsPair, IsCall, command_app}
@@ -117,13 +116,6 @@ bare_built s = record s {
 bare_passes : (s : Shape) → level_fault (bare_built s) [] nothing_held [] false [] ≡ []
 unfolding walk_fault defaults_fault
 bare_passes s = refl
-
-some_kind : (k : ErrorKind) (ks : Kinds) → k ∷ ks ≡ [] → ⊥
-some_kind k ks e = cc
-
-first_none : (a b : Kinds) → or_else a b ≡ [] → a ≡ []
-first_none [] b e = refl
-first_none (k ∷ ks) b e = e
 
 bare_only : (s : Shape) (words : List Text) → list_any is_option words ≡ false
     → level_fault (bare_built s) [] nothing_held words false [] ≡ [] → words ≡ []

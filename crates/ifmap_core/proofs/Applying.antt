@@ -2,7 +2,7 @@
 -- First: queues stay within their limits. Then: what a poll tells. Then: sessions end one after the other. Last: subscriptions stay in
 -- order beside sessions that change, begin or end.
 use Rattle.std.proofs.Common.{◌≡◌, ◌≢◌, refl, sym, ◌∙◌, ap, subst, ℕ, ◌+◌, ◌<◌, ◌≤◌, ◌==◌, Bool, true, false, List, [], ◌∷◌, ◌++◌, drop, get_or, length, map, Option, None, Some, inl, inr, arith}
-use Rattle.std.proofs.lemmas.Bool.{cases_Bool, eq-eqb, eqb-true}
+use Rattle.std.proofs.lemmas.Bool.{cases_Bool, eq-eqb}
 use Rattle.std.proofs.lemmas.Bool.Decides.{nat_tests}
 use Rattle.std.proofs.lemmas.List.{drop_all, drop_more}
 use Rattle.std.specs.List.{AllByRecursion}
@@ -25,7 +25,7 @@ use Rattle.ifmap_replies.specs.declared.replies.Reply.TheVariants as the_reply
 use Rattle.ifmap_search.specs.declared.results.PollItem.{PollItem}
 use Rattle.ifmap_search.specs.Sizes.{queue_size}
 use Rattle.ifmap_session.specs.Sessions.{IsLive, Opening, Session, change, session_from, session_order, session_with_serial, with_last, without_items, without_sessions}
-use Rattle.ifmap_session.specs.laws.TableLaws.{Keeps, changed_one, found_beside_begun, found_changed, renewed_keeps}
+use Rattle.ifmap_session.specs.laws.TableLaws.{Keeps, changed_one, found_beside_begun, found_changed, renewed_keeps, found_serial}
 use Rattle.ifmap_standing.specs.declared.standing.Standing.{Standing}
 use Rattle.ifmap_standing.specs.Standing.{standing_of}
 
@@ -72,14 +72,6 @@ not_full : (s : Session) (queue : List PollItem) → queue_size queue ≤ s.limi
 not_full s queue le = grind (arith, nat_tests, le)
 
 -- ---- what a poll tells
-
-numbered : (n : ℕ) (live : List Session) (s : Session) → session_with_serial n live ≡ Some s → s.serial ≡ n
-numbered n [] s e = cc
-numbered n (x ∷ live) s e =
-    elim (cases_Bool (x.serial == n)) [
-      | inl hit ↦ let same : x ≡ s = cc (rw hit at e) in ap (λ (t : Session). t.serial) (sym same) ∙ eqb-true x.serial n hit
-      | inr miss ↦ numbered n live s (rw miss at e)
-    ]
 
 others_same : (n : ℕ) (x : Session) (f : Session → Session) (live : List Session) → (x.serial == n) ≡ true
     → AllByRecursion (λ y. session_order x y ≡ Less) live → change n f live ≡ live
@@ -141,7 +133,7 @@ pub poll_told : (state : State) (again : Bool) (n : ℕ) (s : Session) → IsStr
     → poll_found state again (session_with_serial n state.sessions)
     ≡ (record state { sessions = first_renewed again n state.moment (change n without_items state.sessions) }, poll_answer items)
 poll_told state again n s up found items is =
-    let serial = numbered n state.sessions s found in
+    let serial = found_serial n state.sessions s found in
     rw (found, ← is, serial) (queue_told items is)
   where
     queue_told : (list : List PollItem) → list ≡ s.queue

@@ -16,9 +16,8 @@ use Rattle.ifmap_core.specs.declared.outcomes.Outcome.{Outcome}
 use Rattle.ifmap_core.specs.declared.outcomes.Outcome.TheVariants.{Say, Open}
 use Rattle.ifmap_core.proofs.Ended.{remains}
 use Rattle.ifmap_core.proofs.Finishing.{client_told, serial_told}
-use Rattle.ifmap_core.proofs.Places.{kept_itself, searched_itself}
+use Rattle.ifmap_core.proofs.Places.{searched_itself}
 use Rattle.ifmap_core.proofs.Taking.{taken_is}
-use Rattle.ifmap_core.proofs.Turned.{sessions_twice}
 use Rattle.ifmap_ident.specs.declared.codes.Code.TheVariants.{SystemError}
 use Rattle.ifmap_machine.specs.declared.events.Answer.TheVariants as the_answer
 use Rattle.ifmap_machine.specs.Ending.{end_former}
@@ -32,6 +31,8 @@ use Rattle.ifmap_session.specs.laws.TextLaws.{distinct_filter}
 use Rattle.ifmap_tellings.specs.declared.tellings.Pending.{Pending}
 use Rattle.ifmap_tellings.specs.Tellings.{HasSameSessions, IsSized, count_told, told_by}
 use Rattle.ifmap_lemmas.specs.Filters.{filter_shorter}
+use Rattle.ifmap_standing.specs.PlaceLaws.{kept_itself}
+use Rattle.ifmap_tellings.specs.ToldLaws.{same_twice}
 
 -- ---- parts of which the sessions have more room
 
@@ -74,7 +75,7 @@ module _ (parts : Parts) (table : Table) (b : IsAsBefore parts.sessions table) w
     waits = t.waits;
     lean = t.lean;
     searches = t.searches;
-    sessions = sessions_twice parts.sessions table new.sessions same_sessions t.sessions;
+    sessions = same_twice parts.sessions table new.sessions same_sessions t.sessions;
   }
 
   pub kept_after : (new : Parts) → AreKept with_table new → AreKept parts new
@@ -86,7 +87,7 @@ module _ (parts : Parts) (table : Table) (b : IsAsBefore parts.sessions table) w
       numbers = k.back.numbers;
       lean = k.back.lean;
       standing = k.back.standing;
-      sessions = sessions_twice parts.sessions table new.sessions same_sessions k.back.sessions;
+      sessions = same_twice parts.sessions table new.sessions same_sessions k.back.sessions;
     };
     backs = k.backs;
   }

@@ -2,7 +2,7 @@
 -- First: what a search finds among those that a filter leaves (`found_left`, `id_lost`, `client_lost`). Then: sessions end one after the
 -- other (`can_end`, `without_each`), and how many are left (`left_length`). Last: so do those that are expired (`expired_end`).
 use Rattle.std.proofs.Common.{◌≡◌, refl, sym, ◌∙◌, ap, subst, ℕ, ◌+◌, ◌≤◌, ◌==◌, Bool, true, false, not, List, [], ◌∷◌, length, map, nat_eq, None, Some, inl, inr, arith}
-use Rattle.std.proofs.lemmas.Bool.{cases_Bool, eq-eqb, or_parts}
+use Rattle.std.proofs.lemmas.Bool.{cases_Bool, eq-eqb}
 use Rattle.std.proofs.lemmas.Bool.Decides.{nat_tests}
 use Rattle.std.proofs.lemmas.List.Kept.{IsStrictlySortedBy-filter}
 use Rattle.std.specs.List.{AllByRecursion, IsDistinct, filter, find, list_any}
@@ -16,7 +16,7 @@ use Rattle.ifmap_session.specs.SessionIds.{BeginsWithSerial}
 use Rattle.ifmap_session.specs.Sessions.{IsLive, IsTable, Session, Table, expired_serials, is_expired, is_text, session_of_client, session_order, session_with_id, session_with_serial, without_sessions}
 use Rattle.ifmap_session.specs.laws.TableLaws.{found_beside_ended}
 use Rattle.ifmap_session.specs.laws.TextLaws.{all_found, find_none, rest_differ, text_is}
-use Rattle.ifmap_core.proofs.Ids.{ids_tell}
+use Rattle.ifmap_session.specs.laws.IdLaws.{ids_tell}
 
 abbrev pub remains : List ℕ → Session → Bool
 remains serials s = not (list_any (λ n. n == s.serial) serials)
@@ -207,10 +207,3 @@ expired_end moment ttl live up =
     can_end (expired_serials moment ttl live) live (serials_apart (filter p live) (IsStrictlySortedBy-filter session_order p live up))
     (map_of_all (λ n. IsLive n live) (λ (s : Session). s.serial) (filter p live)
     (all_filter (λ (s : Session). IsLive s.serial live) p live (each_live live)))
-
-pub none_expired : (moment ttl : ℕ) (live : List Session) → list_any (is_expired moment ttl) live ≡ false
-    → expired_serials moment ttl live ≡ []
-none_expired moment ttl [] e = refl
-none_expired moment ttl (x ∷ live) e =
-    let both = or_parts (is_expired moment ttl x) (list_any (is_expired moment ttl) live) e in
-    rw (both.0) (none_expired moment ttl live both.1)

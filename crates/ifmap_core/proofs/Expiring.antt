@@ -3,7 +3,7 @@
 -- can once a change stays as it is (`can_settled`), and a change can stay or be taken back after more (`can_settle_later`, `can_back`).
 -- Last, an event that is done at once (`done_leads`).
 use Rattle.std.proofs.Common.{◌≡◌, ◌≢◌, refl, sym, ◌∙◌, ap, subst, ℕ, ◌≤◌, ◌==◌, Bool, true, false, not, List, [], ◌∷◌, ◌++◌, length, map, append-nil, Option, Some, None, inl, inr, arith}
-use Rattle.std.proofs.lemmas.Bool.{cases_Bool, or_parts}
+use Rattle.std.proofs.lemmas.Bool.{cases_Bool}
 use Rattle.std.proofs.lemmas.List.Kept.{IsStrictlySortedBy-filter}
 use Rattle.std.proofs.lemmas.Option.{none-some}
 use Rattle.std.specs.BTreeMap.{get, is_at}
@@ -21,9 +21,9 @@ use Rattle.ifmap_core.specs.Outcomes.{CanApply, CanRename, IsDone, WouldBeParts,
 use Rattle.ifmap_core.specs.declared.outcomes.Outcome.{Outcome}
 use Rattle.ifmap_core.specs.declared.outcomes.Outcome.TheVariants.{Say, Accept, End, Open, Rename, Poll}
 use Rattle.ifmap_core.proofs.Ended.{found_left, remains}
-use Rattle.ifmap_core.proofs.Places.{all_are_kept, kept_both, kept_moved, kept_of_all, none_gone}
-use Rattle.ifmap_core.proofs.Told.{none_told, numbered}
-use Rattle.ifmap_core.proofs.Turned.{KeepsThere, all_there, sessions_twice, shares_later}
+use Rattle.ifmap_core.proofs.Places.{all_are_kept, kept_both, kept_of_all, none_gone}
+use Rattle.ifmap_core.proofs.Told.{none_told}
+use Rattle.ifmap_core.proofs.Turned.{KeepsThere, all_there, shares_later}
 use Rattle.ifmap_delta.specs.Sights.{IsKept}
 use Rattle.ifmap_delta.specs.Ways.{HasSameSearch}
 use Rattle.ifmap_graph.specs.Out.{items_of}
@@ -51,6 +51,8 @@ use Rattle.ifmap_subscribes.specs.declared.renamings.Renaming.{Renaming}
 use Rattle.ifmap_subscribes.specs.Renamings.{begun_by, rename_all, told_so_far}
 use Rattle.ifmap_tellings.specs.declared.tellings.Pending.{Pending}
 use Rattle.ifmap_tellings.specs.Tellings.{AllKept, Tellings, is_alone, kept_of}
+use Rattle.ifmap_session.specs.laws.TableLaws.{found_serial, none_expired}
+use Rattle.ifmap_tellings.specs.ToldLaws.{same_twice, same_kept}
 
 -- ---- an event begins
 
@@ -79,7 +81,7 @@ module _ (a : Asking) (parts : Parts) (pending : Pending) (sound : AreParts part
       → IsLive x.serial (sessions_left a parts.sessions)
   lives x stays l =
       let s = some_is (session_with_serial x.serial parts.sessions.live) l in
-      let same : s.0.serial ≡ x.serial = numbered x.serial parts.sessions.live s.0 s.1 in
+      let same : s.0.serial ≡ x.serial = found_serial x.serial parts.sessions.live s.0 s.1 in
       is_some_of (session_with_serial x.serial (sessions_left a parts.sessions)) s.0
       (found_left (λ (t : Session). t.serial == x.serial) (remains a.ended) parts.sessions.live s.0 s.1
       (subst (λ (n : ℕ). not (list_any (λ m. m == n) a.ended) ≡ true) (sym same) (ap not stays)))
@@ -143,13 +145,6 @@ no_entry tellings e n =
 
 -- ---- sessions that are expired
 
-pub none_expired : (moment ttl : ℕ) (live : List Session) → list_any (is_expired moment ttl) live ≡ false
-    → expired_serials moment ttl live ≡ []
-none_expired moment ttl [] e = refl
-none_expired moment ttl (x ∷ live) e =
-    let both = or_parts (is_expired moment ttl x) (list_any (is_expired moment ttl) live) e in
-    rw (both.0) (none_expired moment ttl live both.1)
-
 pub some_expired : (moment ttl : ℕ) (live : List Session) → list_any (is_expired moment ttl) live ≡ true
     → expired_serials moment ttl live ≢ []
 some_expired moment ttl [] e = cc
@@ -194,7 +189,7 @@ module _ (a : Asking) (old new : Parts) (pending : Pending) (settled : IsSettled
   bare_settled : (n : ℕ) → AllKept (λ (x : Standing). x.serial ≢ n) pending.gone.items old.standing.items
       → AllKept (λ (x : Standing). x.serial ≢ n) pending.gone.items new.standing.items
   bare_settled n h =
-      kept_moved (λ (x : Standing). x.serial ≢ n) (λ (x : Standing). x.serial ≢ n) (λ _. Stands HasSameSearch)
+      same_kept (λ (x : Standing). x.serial ≢ n) (λ (x : Standing). x.serial ≢ n) (λ _. Stands HasSameSearch)
       (λ i x y s other e. other (sym s.serial ∙ e)) pending.gone.items old.standing.items new.standing.items settled.searches h
 
   former_settled : (former : Option ℕ) → IfSome former (λ n. AllKept (λ (x : Standing). x.serial ≢ n) pending.gone.items old.standing.items)
@@ -253,7 +248,7 @@ can_back law made before old new numbers c k = record {
   lean = λ rest l. k.back.lean (items_of made.undo.plan.changes ++ rest) (c.lean rest l);
   numbers = shares_later before.graph old.graph new.graph numbers k.back.numbers;
   standing = law before.standing.items old.standing.items new.standing.items made.ways c.standing k.back.standing;
-  sessions = sessions_twice before.sessions old.sessions new.sessions c.sessions k.back.sessions;
+  sessions = same_twice before.sessions old.sessions new.sessions c.sessions k.back.sessions;
 }
 
 -- what would be, once nothing more is to stand

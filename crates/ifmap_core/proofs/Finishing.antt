@@ -15,7 +15,6 @@ use Rattle.ifmap_core.specs.Outcomes.{CanApply, CanApplyTo, CanOpen, CanRename, 
 use Rattle.ifmap_core.specs.declared.outcomes.Outcome.{Outcome}
 use Rattle.ifmap_core.specs.declared.outcomes.Outcome.TheVariants.{Say, Accept, End, Open, Rename, Poll}
 use Rattle.ifmap_core.proofs.Keeping.{all_kept, kept_fewer, kept_rising}
-use Rattle.ifmap_core.proofs.Places.{map_left}
 use Rattle.ifmap_core.proofs.Steady.{IsNumbered}
 use Rattle.ifmap_core.proofs.Taking.{map_after}
 use Rattle.ifmap_core.proofs.Told.{after_told, none_mapped, told_by_leaves}
@@ -36,6 +35,7 @@ use Rattle.ifmap_subscribes.specs.Renamings.{KeepsNumbered, begun_by, rename_all
 use Rattle.ifmap_tellings.specs.declared.tellings.Pending.{Pending}
 use Rattle.ifmap_view.specs.declared.attachments.Attachment.{Attachment}
 use Rattle.ifmap_tellings.specs.Tellings.{CanTell, EachTelling, Tellings, count_told, count_where, kept_of, told_by}
+use Rattle.ifmap_tellings.specs.ToldLaws.{map_kept}
 
 -- ---- sessions that are told something
 
@@ -79,7 +79,7 @@ module _ (a : Asking) (old new : Parts) (pending : Pending) (ready : IsReady a o
   all_now P h = subst (AllByRecursion P) (sym standing) h
 
   shown_now : map standing_of new.standing.items ≡ kept_of pending.gone.items (map standing_of old.standing.items)
-  shown_now = ap (map standing_of) standing ∙ map_left standing_of pending.gone.items old.standing.items
+  shown_now = ap (map standing_of) standing ∙ map_kept standing_of pending.gone.items old.standing.items
 
   rising_now : IsStrictlySortedBy standing_order (map standing_of new.standing.items)
   rising_now =

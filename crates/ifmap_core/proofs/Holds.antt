@@ -3,7 +3,6 @@ use Rattle.std.proofs.Common.{◌≡◌, refl, sym, ◌∙◌, ap, subst, ℕ, �
 use Rattle.std.proofs.lemmas.List.Sums.{sum_by-cons}
 use Rattle.std.specs.Bool.{OnTrue}
 use Rattle.ifmap_core.specs.Holding.{HasNothing, WouldHold}
-use Rattle.ifmap_core.proofs.Ended.{none_expired}
 use Rattle.ifmap_machine.specs.declared.events.Answer.{Answer}
 use Rattle.ifmap_machine.specs.declared.events.Answer.TheVariants as the_answer
 use Rattle.ifmap_machine.specs.Ending.{end_some, expire}
@@ -18,6 +17,7 @@ use Rattle.ifmap_search.specs.declared.results.PollItem.TheVariants.{Search, Upd
 use Rattle.ifmap_search.specs.Sizes.{poll_size, queue_size}
 use Rattle.ifmap_session.specs.Sessions.{Session, is_text}
 use Rattle.ifmap_session.specs.laws.TextLaws.{text_same}
+use Rattle.ifmap_session.specs.laws.TableLaws.{none_expired}
 
 item_large : (item : PollItem) → 1 ≤ poll_size item
 item_large (Search name entries) = omega arith

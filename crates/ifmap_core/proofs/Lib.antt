@@ -1,4 +1,3 @@
-pub mod Ids
 pub mod Ended
 pub mod Exits
 pub mod Owned

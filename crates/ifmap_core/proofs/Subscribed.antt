@@ -2,7 +2,7 @@
 -- First what stays ready (`ready_there`, `ready_room`), and what is so far (`same_so_far`). Then the session's limit (`told_live`). Then an
 -- outcome that renames (`leads_renamed`): no queue is greater than its limit, so that nothing overflows. Then one error in place of all
 -- (`overruns`). Last, what holds once operations were made ready, and what they lead to (`holds_kept`, `holds_leads`).
-use Rattle.std.proofs.Common.{◌≡◌, refl, sym, ◌∙◌, ap, subst, ℕ, ◌+◌, ◌<◌, ◌≤◌, ◌==◌, Bool, true, false, not, List, [], ◌∷◌, length, map, Option, Some, None, inl, inr, arith}
+use Rattle.std.proofs.Common.{◌≡◌, sym, ◌∙◌, ap, subst, ℕ, ◌+◌, ◌<◌, ◌≤◌, ◌==◌, Bool, true, false, not, List, [], ◌∷◌, length, map, Option, Some, None, inl, inr, arith}
 use Rattle.std.proofs.lemmas.Bool.{cases_Bool}
 use Rattle.std.proofs.lemmas.Bool.Decides.{nat_tests}
 use Rattle.std.proofs.lemmas.List.Sums.{sum_by-cons}
@@ -19,9 +19,9 @@ use Rattle.ifmap_core.specs.Outcomes.{CanRename, LeadsTo, after_outcome, alone_t
 use Rattle.ifmap_core.specs.declared.outcomes.Outcome.TheVariants.{Rename}
 use Rattle.ifmap_core.proofs.Ended.{rising_left}
 use Rattle.ifmap_core.proofs.Overrun.{Grows, IsFit, changed_within, grows_rising, no_overflow, others_renamed, over_is}
-use Rattle.ifmap_core.proofs.Places.{all_are_kept, all_left, kept_both, map_left, searched_itself}
-use Rattle.ifmap_core.proofs.Told.{before_told, numbered, one_numbered, told_by_leaves, told_rising}
-use Rattle.ifmap_core.proofs.Turned.{KeepsThere, sessions_themselves, shares_later}
+use Rattle.ifmap_core.proofs.Places.{all_are_kept, all_left, kept_both, searched_itself}
+use Rattle.ifmap_core.proofs.Told.{before_told, one_numbered, told_by_leaves, told_rising}
+use Rattle.ifmap_core.proofs.Turned.{KeepsThere, shares_later}
 use Rattle.ifmap_delta.specs.Sights.{IsKept}
 use Rattle.ifmap_delta.specs.Ways.{HasSameSearch}
 use Rattle.ifmap_graph.specs.Seen.{rows_now}
@@ -47,6 +47,8 @@ use Rattle.ifmap_subscribes.specs.Readying.{AreReadied, OnlyHolds, queue_where, 
 use Rattle.ifmap_subscribes.specs.Renamings.{item_count, rename_all, told_so_far}
 use Rattle.ifmap_tellings.specs.declared.tellings.Pending.{Pending}
 use Rattle.ifmap_tellings.specs.Tellings.{AllKept, HasSameSessions, count_where, kept_of, told_by}
+use Rattle.ifmap_session.specs.laws.TableLaws.{found_serial, left_live}
+use Rattle.ifmap_tellings.specs.ToldLaws.{same_itself, map_kept}
 
 -- ---- what only holds leave
 
@@ -82,7 +84,7 @@ holds_turned old new h = record {
   lean = h.lean;
   searches = subst (λ xs. AtEach (λ _. Stands HasSameSearch) old.standing.items xs)
       (ap (λ v. v.items) (sym h.standing)) (searched_itself old.standing.items);
-  sessions = subst (HasSameSessions old.sessions) (sym h.sessions) (sessions_themselves old.sessions);
+  sessions = subst (HasSameSessions old.sessions) (sym h.sessions) (same_itself old.sessions);
 }
 
 -- what is so far is what it was
@@ -160,17 +162,6 @@ told_live a parts pending n s up e =
       ap (λ (x : Session). x.limit) (sym t.2) ∙ (told_by_leaves pending.tellings t.0).limit,
     )
 
-left_live : (p : Session → Bool) (n : ℕ) (live : List Session) → IsLive n (filter p live) → IsLive n live
-left_live p n [] l = cc
-left_live p n (x ∷ live) l =
-    elim (cases_Bool (x.serial == n)) [
-      | inl hit ↦ rw hit refl
-      | inr miss ↦ elim (cases_Bool (p x)) [
-        | inl stays ↦ rw miss (left_live p n live (rw (stays, miss) at l))
-        | inr goes ↦ rw miss (left_live p n live (rw goes at l))
-      ]
-    ]
-
 -- what is left is live
 pub live_left : (a : Asking) (n : ℕ) (table : Table) → IsLive n (sessions_left a table) → IsLive n table.live
 live_left a n table l = left_live (λ (x : Session). not (list_any (λ m. m == x.serial) a.ended)) n table.live l
@@ -207,7 +198,7 @@ renames serial rs state s t up found within is few =
     (sym is)
     ∙ ap (λ (st : State). (renew serial st, the_answer.Reply the_reply.Subscribed)) (sym (no_overflow (with_told serial after state) fits))
     ∙ ap (λ (n : ℕ). (renew n (overflow (with_told n after state)), the_answer.Reply the_reply.Subscribed))
-    (sym (numbered serial state.sessions s found)))
+    (sym (found_serial serial state.sessions s found)))
 
 so_far_rising : (a : Asking) (parts : Parts) (pending : Pending) → IsStrictlySortedBy session_order parts.sessions.live
     → IsStrictlySortedBy session_order (so_far a parts pending).sessions
@@ -289,7 +280,7 @@ module _ (a : Asking) (old : Parts) (pending : Pending) (serial : ℕ) (readying
   overruns ready limit s e next is =
       let state = so_far a old pending in
       let grows : Grows (map standing_of (kept_of pending.gone.items old.standing.items)) =
-      subst Grows (sym (map_left standing_of pending.gone.items old.standing.items))
+      subst Grows (sym (map_kept standing_of pending.gone.items old.standing.items))
       (grows_left pending.gone.items (map standing_of old.standing.items)
       (grows_rising (map standing_of old.standing.items) ready.ordered.rising)) in
       let others = others_renamed serial readying.made.items r.stand.session (told_at serial a old pending) grows in
@@ -298,7 +289,7 @@ module _ (a : Asking) (old : Parts) (pending : Pending) (serial : ℕ) (readying
       ap (λ (st : State). (renew serial st, the_answer.Reply the_reply.Subscribed)) (is
       ∙ ap (λ (n : ℕ). alone_told serial n state) r.counted.size ∙ sym it)
       ∙ ap (λ (n : ℕ). (renew n (overflow (with_told n after state)), the_answer.Reply the_reply.Subscribed))
-      (sym (numbered serial state.sessions s e))
+      (sym (found_serial serial state.sessions s e))
     where
       grows_left : (gone : List Bool) (xs : List machine.Standing) → Grows xs → Grows (kept_of gone xs)
       grows_left [] xs g = tt
@@ -325,7 +316,7 @@ holds_kept old mid new h k = record {
 
 pub holds_so_far : (a : Asking) (old new : Parts) (pending : Pending) → OnlyHolds old new → so_far a new pending ≡ so_far a old pending
 holds_so_far a old new pending h =
-    same_so_far a old new pending h.rows (subst (HasSameSessions old.sessions) (sym h.sessions) (sessions_themselves old.sessions))
+    same_so_far a old new pending h.rows (subst (HasSameSessions old.sessions) (sym h.sessions) (same_itself old.sessions))
     (ap (λ v. v.items) h.standing)
 
 -- what operations that are ready lead to, said of the state before them

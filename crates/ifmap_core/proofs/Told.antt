@@ -2,7 +2,7 @@
 -- First what a telling leaves (`told_keeps`). Then what is found among sessions of which each is made another (`mapped_found`). Then
 -- whose a session is (`owner_told`), and that a session is the only one with its serial (`one_numbered`).
 use Rattle.std.proofs.Common.{◌≡◌, refl, sym, ◌∙◌, ap, subst, ℕ, ◌==◌, Bool, true, false, List, [], ◌∷◌, map, Option, Some, None, inl, inr, arith}
-use Rattle.std.proofs.lemmas.Bool.{cases_Bool, eqb-true}
+use Rattle.std.proofs.lemmas.Bool.{cases_Bool}
 use Rattle.std.proofs.lemmas.Bool.Decides.{nat_tests}
 use Rattle.std.specs.BTreeMap.{get}
 use Rattle.std.specs.List.{AllByRecursion, find}
@@ -105,14 +105,6 @@ module _ (tellings : Tellings) where
   after_told n live s e = found_mapped (told_by tellings) (λ (t : Session). t.serial == n) (told_number n) live s e
 
 -- ---- sessions with serials that rise
-
-pub numbered : (n : ℕ) (live : List Session) (s : Session) → session_with_serial n live ≡ Some s → s.serial ≡ n
-numbered n [] s e = cc
-numbered n (x ∷ live) s e =
-    elim (cases_Bool (x.serial == n)) [
-      | inl hit ↦ let same : x ≡ s = cc (rw hit at e) in ap (λ (t : Session). t.serial) (sym same) ∙ eqb-true x.serial n hit
-      | inr miss ↦ numbered n live s (rw miss at e)
-    ]
 
 above_differ : (n : ℕ) (x : Session) (live : List Session) → (x.serial == n) ≡ true → AllByRecursion (λ y. session_order x y ≡ Less) live
     → AllByRecursion (λ (y : Session). (y.serial == n) ≡ false) live

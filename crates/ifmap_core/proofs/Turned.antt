@@ -9,45 +9,30 @@ use Rattle.std.specs.List.{AllByRecursion}
 use Rattle.std.specs.List.Sorted.{IsStrictlySortedBy}
 use Rattle.ifmap_changes.specs.Between.{AreBack, AreKept, AreOrdered, AreParts, AreTurned, IsSteady, SharesNumbers, sight_now, state_at}
 use Rattle.ifmap_changes.specs.declared.parts.Parts.{Parts}
-use Rattle.ifmap_core.proofs.Places.{all_moved, kept_itself, same_map, searched_itself, searched_twice, shown_kept}
+use Rattle.ifmap_core.proofs.Places.{all_moved, same_map, searched_itself, shown_kept}
 use Rattle.ifmap_delta.specs.declared.subscriptions.Subscription.{Subscription}
 use Rattle.ifmap_delta.specs.Sights.{IsKept, Sight}
 use Rattle.ifmap_graph.specs.Back.{KeepsBacks}
 use Rattle.ifmap_graph.specs.Held.{Held, IsOwn}
-use Rattle.ifmap_graph.specs.Seen.{BringsNoNumbers, IsStill, KeepsNumbers, StaysLean, links_now, rows_now}
+use Rattle.ifmap_graph.specs.Seen.{IsStill, KeepsNumbers, StaysLean, links_now, rows_now}
 use Rattle.ifmap_ident.specs.declared.identifiers.Identifier.{Identifier}
 use Rattle.ifmap_machine.specs.State as machine
 use Rattle.ifmap_machine.specs.State.{standing_in}
 use Rattle.ifmap_machine.specs.Subscribing.{most_names}
 use Rattle.ifmap_pool.specs.Holdings.{key_at}
-use Rattle.ifmap_session.specs.Sessions.{IsLive, Session, Table}
+use Rattle.ifmap_session.specs.Sessions.{IsLive, Session}
 use Rattle.ifmap_standing.specs.declared.standing.Standing.{Standing}
 use Rattle.ifmap_standing.specs.Kept.{AtEach, KeepsSame, Stands}
 use Rattle.ifmap_standing.specs.Standing.{standing_of}
 use Rattle.ifmap_tellings.specs.Tellings.{HasSameSessions}
 use Rattle.ifmap_view.specs.Views.{IsView}
+use Rattle.ifmap_standing.specs.PlaceLaws.{kept_itself, searched_twice}
+use Rattle.ifmap_tellings.specs.ToldLaws.{same_itself, same_twice}
 
 -- ---- of themselves
 
-pub sessions_themselves : (t : Table) → HasSameSessions t t
-sessions_themselves t = record { live = refl; counter = refl; spare = λ n. omega arith; room = omega arith }
-
-pub sessions_twice : (a b c : Table) → HasSameSessions a b → HasSameSessions b c → HasSameSessions a c
-sessions_twice a b c s t = record {
-  live = t.live ∙ s.live;
-  counter = t.counter ∙ s.counter;
-  spare = λ n. omega (arith, s.spare n, t.spare n);
-  room = omega (arith, s.room, t.room);
-}
-
 pub shares_itself : (h : Held) → SharesNumbers h h
 shares_itself h v a b p q = same_Some b a (sym q ∙ p)
-
-pub shares_kept : (old new : Held) → KeepsNumbers old new → SharesNumbers old new
-shares_kept old new k v a b p q = same_Some b a (sym q ∙ k v a p)
-
-pub shares_fewer : (old new : Held) → BringsNoNumbers old new → SharesNumbers old new
-shares_fewer old new k v a b p q = same_Some b a (sym (k v b q) ∙ p)
 
 -- numbers that stay are shared with what shares them later
 pub shares_later : (a b c : Held) → KeepsNumbers a b → SharesNumbers b c → SharesNumbers a c
@@ -61,18 +46,15 @@ back_itself parts steady = record {
   numbers = shares_itself parts.graph;
   lean = λ rest l. l;
   standing = kept_itself parts.standing.items;
-  sessions = sessions_themselves parts.sessions;
+  sessions = same_itself parts.sessions;
 }
-
-pub stays_kept : (parts : Parts) → IsSteady parts.graph parts.standing.items → AreKept parts parts
-stays_kept parts steady = record { back = back_itself parts steady; backs = λ u rows links b. b }
 
 pub stays_turned : (parts : Parts) → AreTurned parts parts
 stays_turned parts = record {
   waits = λ rest w. w;
   lean = λ rest l. l;
   searches = searched_itself parts.standing.items;
-  sessions = sessions_themselves parts.sessions;
+  sessions = same_itself parts.sessions;
 }
 
 -- ---- one after the other
@@ -82,7 +64,7 @@ turned_twice a b c s t = record {
   waits = λ rest w. t.waits rest (s.waits rest w);
   lean = λ rest l. t.lean rest (s.lean rest l);
   searches = searched_twice a.standing.items b.standing.items c.standing.items s.searches t.searches;
-  sessions = sessions_twice a.sessions b.sessions c.sessions s.sessions t.sessions;
+  sessions = same_twice a.sessions b.sessions c.sessions s.sessions t.sessions;
 }
 
 -- ---- what is back is what it was
@@ -169,7 +151,7 @@ kept_room a b c k graph standing sessions = record {
     numbers = rw graph k.back.numbers;
     lean = rw graph k.back.lean;
     standing = rw standing k.back.standing;
-    sessions = sessions_twice a.sessions b.sessions c.sessions k.back.sessions sessions;
+    sessions = same_twice a.sessions b.sessions c.sessions k.back.sessions sessions;
   };
   backs = rw graph k.backs;
 }
@@ -181,7 +163,7 @@ turned_room a b c k graph standing sessions = record {
   waits = rw graph k.waits;
   lean = rw graph k.lean;
   searches = rw standing k.searches;
-  sessions = sessions_twice a.sessions b.sessions c.sessions k.sessions sessions;
+  sessions = same_twice a.sessions b.sessions c.sessions k.sessions sessions;
 }
 
 -- parts of which only room changed, and then are kept
@@ -196,7 +178,7 @@ room_kept a b c graph standing sessions k = record {
     numbers = subst (λ h. SharesNumbers h c.graph) graph k.back.numbers;
     lean = subst (λ h. StaysLean h c.graph) graph k.back.lean;
     standing = subst (λ xs. AtEach (λ _. Stands KeepsSame) xs c.standing.items) standing k.back.standing;
-    sessions = sessions_twice a.sessions b.sessions c.sessions sessions k.back.sessions;
+    sessions = same_twice a.sessions b.sessions c.sessions sessions k.back.sessions;
   };
   backs = subst (λ h. KeepsBacks h c.graph) graph k.backs;
 }

@@ -8,7 +8,7 @@ use Rattle.std.proofs.lemmas.Bool.{cases_Bool}
 use Rattle.std.proofs.lemmas.Cmp.{alike_right, on_total}
 use Rattle.std.proofs.lemmas.List.{drop_all, drop_more}
 use Rattle.std.proofs.lemmas.Option.{slice_get_read}
-use Rattle.std.specs.Cmp.{Equal-is, IsTotalOrder}
+use Rattle.std.specs.Cmp.{IsTotalOrder}
 use Rattle.std.specs.List.{AllByRecursion, list_any}
 use Rattle.std.specs.List.Sorted.{IsStrictlySortedBy}
 use Rattle.std.specs.Ordering.{is_eq, on, ordering_reverse}
@@ -23,6 +23,7 @@ use Rattle.ifmap_plans.specs.laws.KeyLaws.{items_total}
 use Rattle.ifmap_folds.specs.laws.RisingLaws.{head_rises, tail_rises}
 use Rattle.ifmap_delta.specs.declared.pairing.TouchedItem.{TouchedItem}
 use Rattle.ifmap_delta.specs.Touched.{IsPaired, change_at, items_of, with_no_place}
+use Rattle.ifmap_ident.specs.SameLaws.{same_equal, less_differs}
 
 abbrev pub touched_order : TouchedItem → TouchedItem → Ordering
 touched_order = on (λ (t : TouchedItem). t.item) item_order
@@ -39,12 +40,6 @@ pub rises_on : (ts : List TouchedItem) → IsStrictlySortedBy item_order (items_
 unfolding IsStrictlySortedBy
 rises_on [] r = tt
 rises_on (t ∷ ts) r = (all_on t.item ts r.0, rises_on ts r.1)
-
-same_equal : (a b : Item) → same_item a b ≡ true → item_order a b ≡ Equal
-same_equal a b e = (Equal-is (item_order a b)).0 (sym (items_tie a b) ∙ e)
-
-less_differs : (a b : Item) → item_order a b ≡ Less → same_item a b ≡ false
-less_differs a b e = items_tie a b ∙ ap is_eq e
 
 greater_differs : (a b : Item) → item_order b a ≡ Less → same_item a b ≡ false
 greater_differs a b e = items_tie a b ∙ ap is_eq (items_total.antisymm a b ∙ ap ordering_reverse e)

@@ -1,9 +1,9 @@
 -- Items that are not gathered tell nothing. In order: marks before the change by the numbers afterwards (`reached_before`,
 -- `expanded_before`); a number whose marks differ is in the patch; one identifier (`one_settled`), one link (`pair_settled`).
-use Rattle.std.proofs.Common.{◌≡◌, ◌≢◌, ◌⊎◌, inl, inr, ℕ, Bool, true, false, cond, not, ◌&&◌, ◌||◌, Option, Some, None, List, [], ◌∷◌, ◌++◌}
-use Rattle.std.proofs.Common.{is_some, unwrap_or, nat_eq, refl, ap, ◌∙◌, sym, subst}
+use Rattle.std.proofs.Common.{◌≡◌, ◌≢◌, ◌⊎◌, inl, inr, ℕ, Bool, true, false, cond, not, ◌&&◌, ◌||◌, Option, Some, None, List, [], ◌++◌}
+use Rattle.std.proofs.Common.{is_some, unwrap_or, refl, ap, ◌∙◌, sym, subst}
 use Rattle.std.proofs.Math.Bool.{beq}
-use Rattle.std.proofs.lemmas.Bool.{cases_Bool, eqb-true}
+use Rattle.std.proofs.lemmas.Bool.{cases_Bool}
 use Rattle.std.proofs.lemmas.Option.{none-some, same_Some}
 use Rattle.std.specs.Cmp.{both_ways}
 use Rattle.std.specs.List.{AllByRecursion, filter}
@@ -36,6 +36,7 @@ use Rattle.ifmap_fresh.specs.laws.JoiningLaws.{match_turned, some_there}
 use Rattle.ifmap_delta.proofs.Marking.{LevelsExpand, LevelsReach, expanded_is, expanded_marked, mark_named, marked_expanded}
 use Rattle.ifmap_delta.proofs.Marking.{marked_reached, reached_is, reached_marked}
 use Rattle.ifmap_fresh.specs.laws.SameLaws.{Tells, pair_canon, pair_is, pair_turned}
+use Rattle.ifmap_fresh.specs.laws.GatheringLaws.{row_has}
 
 -- two tests agree, or are told apart
 same_or : (p q : Bool) → (p ≡ q) ⊎ (not (beq p q) ≡ true)
@@ -54,13 +55,6 @@ or_false : (p q : Bool) → ((p || q) ≡ true → ⊥) → (p ≡ false) × (q 
 or_false true q f = absurd (f refl)
 or_false false true f = absurd (f refl)
 or_false false false f = (refl, refl)
-
-row_has : (es : List (ℕ × Option ℕ)) (v : ℕ) (r : Option ℕ) → row_of es v ≡ Some r → Has (numbers_of es) v
-row_has [] v r e = absurd (none-some r e)
-row_has (x ∷ xs) v r e = elim (cases_Bool (nat_eq v x.0)) [
-  | inl t ↦ inl (sym (eqb-true v x.0 t))
-  | inr t ↦ inr (row_has xs v r (rw t at e))
-]
 
 -- a number whose marks differ is in the patch
 pub in_patch : (patch : List (ℕ × Option ℕ)) (below : ℕ → Option ℕ) (v : ℕ) → below v ≢ over patch below v → Has (numbers_of patch) v

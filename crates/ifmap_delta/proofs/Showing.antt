@@ -1,13 +1,12 @@
 -- What is stored on an item rises.
 use Rattle.std.proofs.Common.{◌≡◌, Bool, true, false, cond, List, [], ◌∷◌, map, ap, ◌∙◌, sym}
 use Rattle.std.proofs.lemmas.List.Kept.{IsStrictlySortedBy-filter}
-use Rattle.std.specs.Cmp.{Equal-is}
 use Rattle.std.specs.List.{AllByRecursion, filter}
 use Rattle.std.specs.List.Sorted.{IsStrictlySortedBy}
 use Rattle.std.specs.Ordering.{ordering_reverse, ordering_then}
 use Rattle.std.specs.declared.cmp.Ordering.TheVariants.{Less, Equal}
 use Rattle.ifmap_ident.specs.declared.items.Item.{Item}
-use Rattle.ifmap_ident.specs.Items.{item_order, items_tie, same_item}
+use Rattle.ifmap_ident.specs.Items.{item_order, same_item}
 use Rattle.ifmap_lemmas.specs.Having.{filter_has, has_all}
 use Rattle.ifmap_plans.specs.laws.KeyLaws.{items_total}
 use Rattle.ifmap_search.specs.declared.searches.Search.{Search}
@@ -16,16 +15,14 @@ use Rattle.ifmap_view.specs.Attachments.{IsGraph, attachment_order, stored_order
 use Rattle.ifmap_view.specs.Rows.{stored_on}
 use Rattle.ifmap_fresh.specs.Fresh.{is_looked_at}
 use Rattle.ifmap_delta.specs.Shown.{shown_on}
-
-tied : (x y : Item) → same_item x y ≡ true → item_order x y ≡ Equal
-tied x y e = (Equal-is (item_order x y)).0 (sym (items_tie x y) ∙ e)
+use Rattle.ifmap_ident.specs.SameLaws.{same_equal}
 
 -- on one item, attachments are in the order of what is stored
 less_stored : (x : Item) (a b : Attachment) → same_item a.item x ≡ true → same_item b.item x ≡ true → attachment_order a b ≡ Less
     → stored_order a.stored b.stored ≡ Less
 less_stored x a b p q l =
     let e : item_order a.item b.item ≡ Equal
-    = items_total.congr a.item x b.item (tied a.item x p) ∙ items_total.antisymm x b.item ∙ ap ordering_reverse (tied b.item x q)
+    = items_total.congr a.item x b.item (same_equal a.item x p) ∙ items_total.antisymm x b.item ∙ ap ordering_reverse (same_equal b.item x q)
     in sym (ap (λ o. ordering_then o (stored_order a.stored b.stored)) e) ∙ l
 
 all_less : (x : Item) (a : Attachment) (bs : List Attachment) → same_item a.item x ≡ true

@@ -21,11 +21,9 @@ use Rattle.ifmap_lemmas.specs.Having.{Has, any_has, filter_has, has_any, has_fil
 use Rattle.ifmap_lemmas.specs.Texts.{eq_tells}
 use Rattle.ifmap_lemmas.specs.Orderings.{not_both, not_equal}
 use Rattle.ifmap_search.specs.declared.results.Entry.{Entry}
-use Rattle.ifmap_search.specs.declared.searches.Search.{Search}
 use Rattle.ifmap_search.specs.Sizes.{entries_size, entry_size}
 use Rattle.ifmap_view.specs.declared.attachments.Attachment.{Attachment}
-use Rattle.ifmap_view.specs.Attachments.{IsGraph, attachment_order, stored_bytes}
-use Rattle.ifmap_fresh.specs.Fresh.{fresh, is_found}
+use Rattle.ifmap_view.specs.Attachments.{attachment_order, stored_bytes}
 use Rattle.ifmap_folds.specs.Differences.{difference, entry_bytes, entry_order, has_entry, same_entry}
 use Rattle.ifmap_folds.specs.laws.FoldingLaws.{entries_tie, entries_total, same_turned}
 use Rattle.ifmap_folds.specs.laws.RisingLaws.{head_rises, tail_rises}
@@ -134,10 +132,6 @@ map_rises : (xs : List Attachment) → IsStrictlySortedBy attachment_order xs �
 unfolding IsStrictlySortedBy
 map_rises [] r = tt
 map_rises (x ∷ xs) r = (all_rise x xs r.0, map_rises xs r.1)
-
-pub fresh_rises : (rows : List Attachment) (s : Search) → IsGraph rows → IsStrictlySortedBy entry_order (fresh rows s)
-fresh_rises rows s graph =
-    map_rises (filter (is_found rows s) rows) (IsStrictlySortedBy-filter attachment_order (is_found rows s) rows graph.rising)
 
 tied_size : (x y : Entry) → entry_order x y ≡ Equal → entry_size x ≡ entry_size y
 tied_size x y e = same_size x y (entries_tie x y ∙ ap is_eq e)

@@ -7,7 +7,7 @@ use Rattle.std.proofs.lemmas.Bool.{and_from, and_parts, cases_Bool}
 use Rattle.std.proofs.lemmas.List.{map-append}
 use Rattle.std.proofs.lemmas.List.Elements.{filter-append}
 use Rattle.std.specs.Cmp.{Equal-is, both_ways}
-use Rattle.std.specs.List.{AllByRecursion, filter, list_any}
+use Rattle.std.specs.List.{filter, list_any}
 use Rattle.std.specs.List.Sorted.{IsStrictlySortedBy}
 use Rattle.std.specs.Ordering.{eq_by_cmp, is_eq}
 use Rattle.std.specs.Str.{bytes_eq}
@@ -30,8 +30,9 @@ use Rattle.ifmap_folds.specs.Differences.{difference, entry_bytes, has_entry, sa
 use Rattle.ifmap_delta.specs.Shown.{shown_on}
 use Rattle.ifmap_delta.specs.Sights.{Sight}
 use Rattle.ifmap_delta.specs.Touched.{has_met, left_out_on}
-use Rattle.ifmap_fresh.specs.laws.GatheringLaws.{gathers, grouped}
-use Rattle.ifmap_fresh.specs.laws.SameLaws.{AreCanon, Tells, item_itself, member, same_item_is}
+use Rattle.ifmap_fresh.specs.laws.GatheringLaws.{gathers, grouped, all_items}
+use Rattle.ifmap_fresh.specs.laws.SameLaws.{Tells, member, same_item_is}
+use Rattle.ifmap_ident.specs.SameLaws.{item_itself}
 
 abbrev pub entry_of : Attachment → Entry
 entry_of r = record { item = r.item; element = r.stored.element }
@@ -79,10 +80,6 @@ one_item : (x : Item) (b : Bool) (q : Stored → Bool) (p : Attachment → Bool)
     → (xs : List Stored) → map (entry_at x) (filter q (cond b xs [])) ≡ map entry_of (filter p (map (row_at x) xs))
 one_item x true q p e xs = some_left x q p e xs
 one_item x false q p e xs = none_left x q p e xs
-
-all_items : (is : List Item) → ((x : Item) → Has is x → IsCanonItem x) → AllByRecursion AreCanon is
-all_items [] f = tt
-all_items (i ∷ is) f = ((f i (inl refl)).identifiers, all_items is (λ x h. f x (inr h)))
 
 and_joined : (b m n : Bool) → (b && (m && n)) ≡ ((b && m) && n)
 and_joined true m n = refl

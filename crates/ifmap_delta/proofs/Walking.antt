@@ -18,7 +18,7 @@ use Rattle.ifmap_region.specs.Bounds.{IsWithin, within_heavier, within_wider}
 use Rattle.ifmap_region.specs.Flips as region
 use Rattle.ifmap_region.specs.Flips.{IsEnd}
 use Rattle.ifmap_region.specs.Near as region_near
-use Rattle.ifmap_region.specs.Near.{Near, NearFlips, SameDepth, at_flip, beside, touched}
+use Rattle.ifmap_region.specs.Near.{NearFlips, SameDepth, at_flip, beside, touched}
 use Rattle.ifmap_region.specs.Walks.{AreDepths, HasDepth, Walk, begins, goes_on}
 use Rattle.ifmap_search.specs.declared.searches.Search.{Search}
 use Rattle.ifmap_view.specs.Views.{IsView}
@@ -30,13 +30,7 @@ use Rattle.ifmap_delta.specs.Sights.{Links, Sight, is_terminal_in}
 use Rattle.ifmap_delta.proofs.Flipping.{added_flip, named, old_there, removed_flip, removed_linked, there_mid, there_old}
 use Rattle.ifmap_delta.proofs.Marking.{walk_marked}
 use Rattle.ifmap_fresh.specs.laws.SameLaws.{Tells}
-
--- walks along links that go on alike
-pub walk_over : (L M : ℕ → ℕ → Type 0) (T U : ℕ → Bool) (start : ℕ)
-    → ((u v : ℕ) → T u ≡ false → L u v → (U u ≡ false) × M u v) → (k v : ℕ) → Walk L T start k v → Walk M U start k v
-walk_over L M T U start f zero v (begins e) = begins e
-walk_over L M T U start f (suc k) v (goes_on {u = u} w t l) =
-    let n = f u v t l in goes_on (walk_over L M T U start f k u w) n.0 n.1
+use Rattle.ifmap_region.specs.DepthLaws.{walk_over}
 
 module _ (L M : ℕ → ℕ → Type 0) (T U : ℕ → Bool) (start top : ℕ) (f : (u v : ℕ) → T u ≡ false → L u v → (U u ≡ false) × M u v)
     (g : (u v : ℕ) → U u ≡ false → M u v → (T u ≡ false) × L u v) where

@@ -2,18 +2,15 @@
 -- on each item (`whole_like`); a new graph (`new_quiet`); the notes of a publish (`notes_canon`); a change that is out
 -- (`few_still`), and made (`quiet_made`, `kept_made`); what a subscription keeps as a change comes to be out (`kept_begun`), and
 -- as it gets room (`would_still`).
-use Rattle.std.proofs.Common.{◌≡◌, inl, inr, ℕ, ◌≤◌, ◌+◌, true, Option, Some, List, [], ◌∷◌}
-use Rattle.std.proofs.Common.{refl, ◌∙◌, sym, subst, arith}
-use Rattle.std.proofs.lemmas.Bool.{cases_Bool}
+use Rattle.std.proofs.Common.{◌≡◌, ℕ, ◌+◌, Option, Some, List, [], ◌∷◌}
+use Rattle.std.proofs.Common.{◌∙◌, sym, subst, arith}
 use Rattle.std.proofs.lemmas.Option.{same_Some}
 use Rattle.std.specs.List.{AllByRecursion, filter}
-use Rattle.std.specs.Ordering.{is_eq}
 use Rattle.ifmap_delta.specs.Changes.{WouldKeep}
 use Rattle.ifmap_delta.specs.Sights.{AreMarks, IsKept, Sight}
 use Rattle.ifmap_delta.specs.Ways.{HasSameSearch}
 use Rattle.ifmap_delta.specs.declared.subscriptions.Subscription.{Subscription}
 use Rattle.ifmap_fresh.specs.Fresh.{fresh_size}
-use Rattle.ifmap_fresh.specs.laws.SameLaws.{same_itself}
 use Rattle.ifmap_graph.specs.declared.changes.Ready.{Ready}
 use Rattle.ifmap_graph.specs.Held.{Held, IsOwn}
 use Rattle.ifmap_graph.specs.Seen.{HasFewOwn, IsStill, KeepsOwn, links_next, links_now, rows_next, rows_now}
@@ -21,18 +18,17 @@ use Rattle.ifmap_graph.specs.Shelved.{list_at, rows_by}
 use Rattle.ifmap_graph.specs.Sides.{now}
 use Rattle.ifmap_ident.specs.declared.identifiers.Identifier.{Identifier}
 use Rattle.ifmap_ident.specs.declared.items.Item.{Item}
-use Rattle.ifmap_ident.specs.declared.items.Item.TheVariants.{One, Pair}
 use Rattle.ifmap_ident.specs.Identifiers.{identifier_order}
 use Rattle.ifmap_ident.specs.Items.{IsCanonItem, same_item}
 use Rattle.ifmap_lemmas.specs.Filters.{all_filter}
 use Rattle.ifmap_lemmas.specs.Having.{has_filter, has_map, all_has, has_all}
-use Rattle.ifmap_lemmas.specs.Members.{both_all, map_of_all}
+use Rattle.ifmap_lemmas.specs.Members.{map_of_all}
 use Rattle.ifmap_meta.specs.Whole.{IsWhole}
 use Rattle.ifmap_plans.specs.declared.plans.Note.{Note}
 use Rattle.ifmap_plans.specs.Plans.{AreWhole}
 use Rattle.ifmap_pool.specs.Holdings.{key_at, once}
 use Rattle.ifmap_publish.specs.Apply.{Authorship}
-use Rattle.ifmap_publish.specs.Notes.{note_of, notes_of, notes_of_op}
+use Rattle.ifmap_publish.specs.Notes.{note_of, notes_of_op}
 use Rattle.ifmap_region.specs.Marks.{mark_of, over}
 use Rattle.ifmap_requests.specs.Fit.{IsFitOp}
 use Rattle.ifmap_requests.specs.declared.publishing.PublishOp.{PublishOp}
@@ -41,12 +37,10 @@ use Rattle.ifmap_view.specs.declared.attachments.Attachment.{Attachment}
 use Rattle.ifmap_view.specs.Rows.{stored_on}
 use Rattle.ifmap_view.specs.Views.{IsView}
 use Rattle.ifmap_delta_tests.specs.Worlds.{IsQuiet, IsUnderWay, ShowsSame, sight_next, sight_now}
+use Rattle.ifmap_ident.specs.SameLaws.{item_itself}
+use Rattle.ifmap_graph.specs.NumberLaws.{once_few}
 
 -- ---- what is whole
-
-item_itself : (x : Item) → same_item x x ≡ true
-item_itself (One a) = rw (same_itself a) refl
-item_itself (Pair a b) = rw (same_itself a, same_itself b) refl
 
 -- what is whole is so by what is stored on items
 pub whole_like : (one other : List Attachment) → ((x : Item) → stored_on x other ≡ stored_on x one) → AreWhole one → AreWhole other
@@ -60,12 +54,6 @@ whole_like one other same w = has_all (λ (r : Attachment). IsWhole r.stored) ot
     (has_filter (λ (q : Attachment). same_item q.item r.item) other r there (item_itself r.item))))
 
 -- ---- a new graph
-
-once_few : (a b : Identifier) → once identifier_order a b ≤ 1
-once_few a b = elim (cases_Bool (is_eq (identifier_order a b))) [
-  | inl t ↦ rw t (omega arith)
-  | inr t ↦ rw t (omega arith)
-]
 
 pub new_quiet : (old new : Held) (id : Identifier) → old.shelves ≡ [] → new.shelves ≡ old.shelves → IsStill new
     → ((a : Identifier) → IsOwn old a 0)
@@ -90,13 +78,6 @@ notes_of_one by (Notify item elements) f =
     map_of_all (λ (n : Note). IsCanonItem n.item) (note_of by item) elements (all_alike (IsCanonItem item) f.0 elements)
 notes_of_one by (Update item elements forever) f = tt
 notes_of_one by (Delete item filter_by) f = tt
-
--- the items of notes are those of fit operations
-pub notes_canon : (by : Authorship) (ops : List PublishOp) → AllByRecursion IsFitOp ops
-    → AllByRecursion (λ (n : Note). IsCanonItem n.item) (notes_of by ops)
-notes_canon by [] f = tt
-notes_canon by (op ∷ ops) f =
-    both_all (λ (n : Note). IsCanonItem n.item) (notes_of_op by op) (notes_of by ops) (notes_of_one by op f.0) (notes_canon by ops f.1)
 
 -- ---- a change is out, and made
 

@@ -1,7 +1,7 @@
 -- What a wire gains when an answer is written.
-use Rattle.std.proofs.Common.{◌≡◌, ℕ, Bool, List, [], ◌++◌, length, take, None, Some, refl, sym, ap, subst, ◌∙◌, append-nil, arith}
+use Rattle.std.proofs.Common.{◌≡◌, ℕ, Bool, List, [], ◌++◌, length, take, refl, sym, ap, subst, ◌∙◌, arith}
 use Rattle.std.specs.Prelude.{Option}
-use Rattle.std.specs.Io.KnownBytes.{Appends, Keeps, prepend_known}
+use Rattle.std.specs.Io.KnownBytes.{Appends, prepend_known}
 use Rattle.std.proofs.KnownBytes.{Appends-trans}
 use Rattle.std.proofs.Math.Seq.{take-length}
 use Rattle.ifmap_heads.specs.Messages.{answer_bytes}
@@ -14,11 +14,7 @@ use Rattle.ifmap_replies.specs.Results.{reply_bytes}
 use Rattle.ifmap_replies.specs.declared.replies.Reply.{Reply}
 use Rattle.ifmap_dialogue.specs.Answers.{reply_answer}
 use Rattle.ifmap_dialogue.specs.Wires.{GainsBytes, IsGivenUp, WireSeen, Writes, WritesOnce, bare_answer, wire_seen}
-
-keeps_appends : (old new : Option (List ℕ)) → Keeps old new → Appends old new []
-keeps_appends None new k = tt
-keeps_appends (Some xs) None k = absurd k
-keeps_appends (Some xs) (Some ys) k = k ∙ sym (append-nil xs)
+use Rattle.ifmap_io.specs.Rises.{keeps_appends}
 
 -- what was written of a message
 pub written : (old new : Option (List ℕ)) (the_sent : Sent) (message : List ℕ) → Sends old new the_sent message

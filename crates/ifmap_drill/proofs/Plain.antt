@@ -1,16 +1,14 @@
 -- Texts of plain characters: of visible ASCII and spaces.
-use Rattle.std.proofs.Common.{◌≡◌, ℕ, ◌≤◌, ◌<◌, ◌+◌, ◌-◌, ◌&&◌, Bool, true, false, List, [], ◌∷◌, zero, suc, arith, inl, inr}
-use Rattle.std.specs.Prelude.{nat_le, nat_lt, ◌==◌, ◌/◌, ◌%◌, if◌then◌else◌}
-use Rattle.std.specs.Fmt.{decimal, digit_glyph, digits, digits_onto}
-use Rattle.std.specs.Int.{to_be_bytes, w128}
+use Rattle.std.proofs.Common.{◌≡◌, ℕ, ◌≤◌, ◌<◌, ◌+◌, ◌-◌, ◌&&◌, Bool, true, false, List, ◌∷◌, zero, suc, arith, inl, inr}
+use Rattle.std.specs.Prelude.{nat_le, nat_lt, ◌==◌, ◌/◌, ◌%◌}
+use Rattle.std.specs.Fmt.{digit_glyph, digits_onto}
 use Rattle.std.specs.List.{AllByRecursion}
 use Rattle.std.proofs.lemmas.Bool.{cases_Bool}
 use Rattle.std.proofs.lemmas.Bool.Decides.{nat_tests}
-use Rattle.uuid.specs.Text.{by_index, digit_place, hex_digit, hyphenated_text, is_hyphen_place, lower, nibble}
+use Rattle.uuid.specs.Text.{hex_digit, lower, nibble}
 use Rattle.ifmap_elem.specs.Chars.{IsCharacters, is_character}
-use Rattle.ifmap_lemmas.specs.Members.{all_append, all_weaker}
+use Rattle.ifmap_lemmas.specs.Members.{all_weaker}
 use Rattle.ifmap_lemmas.specs.Texts.{ascii_encoded, is_ascii}
-use Rattle.ifmap_session.specs.SessionIds.{hyphen, session_id}
 
 -- from the space to the tilde
 unfoldable pub is_plain : ℕ → Bool
@@ -50,16 +48,7 @@ digits_plain (suc k) n behind h = elim (cases_Bool (n / 10 == 0)) [
   | inr e ↦ rw e (digits_plain k (n / 10) (digit_glyph false (n % 10) ∷ behind) (glyph_plain n, h))
 ]
 
-pub decimal_plain : (n : ℕ) → IsPlain (decimal n)
-unfolding digits
-decimal_plain n = digits_plain 64 n [] tt
-
 -- ---- ids of sessions
-
-index_plain : (n : ℕ) (f : ℕ → ℕ) → ((k : ℕ) → is_plain (f k) ≡ true) → IsPlain (by_index n f)
-unfolding by_index
-index_plain zero f h = tt
-index_plain (suc n) f h = all_append is_plain (by_index n f) (f n ∷ []) (index_plain n f h) (h n, tt)
 
 hex_plain : (d : ℕ) → d < 16 → is_plain (hex_digit lower d) ≡ true
 hex_plain d few = elim (cases_Bool (nat_lt d 10)) [
@@ -72,16 +61,3 @@ nibble_few xs k = elim (cases_Bool (k % 2 == 0)) [
   | inl e ↦ rw e (omega arith)
   | inr e ↦ rw e (omega arith)
 ]
-
-place_plain : (xs : List ℕ) (k : ℕ)
-    → is_plain (if is_hyphen_place k then hyphen else hex_digit lower (nibble xs (digit_place k))) ≡ true
-place_plain xs k = elim (cases_Bool (is_hyphen_place k)) [
-  | inl e ↦ rw e (plain_between hyphen (omega arith) (omega arith))
-  | inr e ↦ rw e (hex_plain (nibble xs (digit_place k)) (nibble_few xs (digit_place k)))
-]
-
-pub id_characters : (serial random : ℕ) → IsCharacters (session_id serial random)
-id_characters serial random =
-    plain_characters (session_id serial random)
-    (all_append is_plain (decimal serial) (hyphen ∷ hyphenated_text lower (to_be_bytes w128 random)) (decimal_plain serial)
-    (plain_between hyphen (omega arith) (omega arith), index_plain 36 _ (place_plain (to_be_bytes w128 random))))

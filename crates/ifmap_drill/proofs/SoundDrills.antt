@@ -23,7 +23,8 @@ use Rattle.ifmap_drill.specs.Requests.{request_by, session_of}
 use Rattle.ifmap_drill.specs.Tasks.{task_at}
 use Rattle.ifmap_drill.proofs.ClientNames.{name_is}
 use Rattle.ifmap_drill.proofs.FitRequests.{AddressesAreIdentifiers, request_fit}
-use Rattle.ifmap_drill.proofs.Plain.{id_characters, plain_characters}
+use Rattle.ifmap_drill.proofs.Plain.{plain_characters}
+use Rattle.ifmap_session.specs.laws.IdLaws.{id_characters}
 
 -- ---- a history with one event more
 

@@ -2,7 +2,7 @@
 -- Plan: (1) lists of namespaces that begin with one another; (2) a namespace that has its number keeps it, whatever is numbered
 -- later (`numbered_stays`, `prefix_final`); (3) pieces: none, one and then another, bytes and then a piece, the same piece
 -- otherwise said; (4) many pieces, one after another; (5) the pieces of an element: its name, an attribute, its content.
-use Rattle.std.proofs.Common.{◌≡◌, ◌≢◌, ℕ, ◌+◌, ◌<◌, ◌≤◌, List, [], ◌∷◌, ◌++◌, map, take, length, get_or, Bool, true, false, Option, Some, None, refl, ap, sym, ◌∙◌, subst, inl, inr, Bor, append_assoc}
+use Rattle.std.proofs.Common.{◌≡◌, ◌≢◌, ℕ, ◌+◌, ◌<◌, ◌≤◌, List, [], ◌∷◌, ◌++◌, map, take, length, get_or, Bool, true, Option, None, refl, ap, sym, ◌∙◌, subst, inl, inr, Bor, append_assoc}
 use Rattle.std.proofs.lemmas.List.{take_more, take_all, append-nil}
 use Rattle.std.proofs.lemmas.List.Concat.{flat_map-append}
 use Rattle.std.proofs.lemmas.Bool.{cases_Bool}
@@ -30,6 +30,7 @@ use Rattle.ifmap_elem.proofs.PrintedLaws.{two_written, content_written, element_
 use Rattle.ifmap_elem.proofs.SpaceLaws.{spaces_arranged, adds_element, referred_spaces}
 use Rattle.ifmap_elem.specs.laws.PrintedElements.{space_of}
 use Rattle.std.proofs.lemmas.List.Concat.{flat_map_single}
+use Rattle.ifmap_elem.specs.laws.PrintedScopes.{has_none}
 
 abbrev Spaces : Type 0
 Spaces = List (List ℕ)
@@ -62,16 +63,12 @@ prefix_stays s xs ys some = elim (cases_Bool (bytes_eq s xml_space)) [
   | inr e ↦ rw e (row_stays (bytes_eq s) (codes "n") 1 xs ys (rw e at some))
 ]
 
-none_of : (o : Option (List ℕ)) → is_some o ≡ false → o ≡ None
-none_of None e = refl
-none_of (Some x) e = cc
-
 -- what has no prefix in the end has none before
 none_before : (s : List ℕ) (xs ys : Spaces) → lookup (bytes_eq s) (name_prefixes (xs ++ ys)) ≡ None
     → lookup (bytes_eq s) (name_prefixes xs) ≡ None
 none_before s xs ys none = elim (cases_Bool (is_some (lookup (bytes_eq s) (name_prefixes xs)))) [
   | inl e ↦ sym (prefix_stays s xs ys e) ∙ none
-  | inr e ↦ none_of (lookup (bytes_eq s) (name_prefixes xs)) e
+  | inr e ↦ has_none (lookup (bytes_eq s) (name_prefixes xs)) e
 ]
 
 pub numbered_stays : (xs final : Spaces) (s : List ℕ) → IsNumbered xs s → AreFinal xs final

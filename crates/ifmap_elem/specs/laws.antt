@@ -16,3 +16,7 @@ pub mod PrintedTags
 pub mod Resolving
 pub mod Roots
 pub mod ScopeLaws
+pub mod CharacterLaws
+pub mod DecidedNames
+pub mod AgainLaws
+pub mod BareNames

@@ -1,22 +1,18 @@
 -- An element is an envelope or is none: what is looked at from the front tells it, as the code does.
 use Rattle.std.proofs.Common.{◌≡◌, ℕ, ◌+◌, Bool, true, false, List, [], ◌∷◌, codes, drop, inl, inr, refl, ap, subst, sym}
 use Rattle.std.specs.Prelude.{◌⊎◌}
-use Rattle.ifmap_lemmas.specs.Deciding.{Decided, decided_by, decided_test}
+use Rattle.ifmap_lemmas.specs.Deciding.{Decided}
 use Rattle.ifmap_elem.specs.declared.elements.Element.{Element}
-use Rattle.ifmap_elem.specs.declared.elements.Name.{Name}
-use Rattle.ifmap_filter.specs.Holding.{is_name}
 use Rattle.ifmap_forms.specs.Tables.{Part, parts_of}
 use Rattle.ifmap_envelopes.specs.Envelopes.{IsAlone, IsBodyAt, IsEnvelope, blank_front, envelope_name, is_element, is_first, is_last, is_part_named}
 use Rattle.ifmap_envelopes.proofs.Alone.{one_body_at}
-use Rattle.ifmap_envelopes.proofs.EnvelopeLaws.{after_header, alone_there, body_after, body_first, headed, named, names_itself, no_body_after, no_body_first, none_alone}
+use Rattle.ifmap_envelopes.proofs.EnvelopeLaws.{after_header, alone_there, body_after, body_first, headed, named, no_body_after, no_body_first, none_alone}
+use Rattle.ifmap_elem.specs.laws.DecidedNames.{name_or_not}
 
 -- a test's two answers
 tells : (b : Bool) → (b ≡ true) ⊎ (b ≡ false)
 tells true = inl refl
 tells false = inr refl
-
-name_or_not : (n m : Name) → Decided (n ≡ m)
-name_or_not n m = decided_by (named n m) (names_itself n m) (decided_test (is_name n m))
 
 module _ (parts : List Part) where
   abbrev first : ℕ

@@ -20,8 +20,9 @@ use Rattle.ifmap_filter.specs.Printing.{literal_text, quote_of}
 use Rattle.ifmap_filter.specs.Tokens.{FrontToken, Takes, after_while, closed_literal, front_while, is_but, is_quote, literal_at, name_at, name_from, name_token, part_bytes, prefixed_name_at, symbol_of, front_token, token_at, with_symbol, without_white}
 use Rattle.ifmap_filter.proofs.CharLaws.{same_number}
 use Rattle.ifmap_filter.proofs.Lexed.{IsOne, IsPart, Lexes, after_all, after_one, front_all, not_white, one_chars, one_first, one_of}
-use Rattle.ifmap_filter.proofs.Reaching.{after_is, inner, token_later, white_after}
+use Rattle.ifmap_filter.proofs.Reaching.{after_is, token_later, white_after}
 use Rattle.ifmap_filter.proofs.TokenLaws.{quoted}
+use Rattle.ifmap_elem.specs.laws.NameBytes.{starts_are_characters}
 
 -- (1) quotes in bytes and characters
 
@@ -217,7 +218,7 @@ module _ (p : ℕ → Bool) where
 
 part_front_is : (c : ℕ) (cs : List ℕ) → all_scalars (c ∷ cs) ≡ true → is_name_start c ≡ true → IsPart (part_bytes (c ∷ cs))
 part_front_is c cs u starts =
-    let front : front_while is_name_character (c ∷ cs) ≡ c ∷ front_while is_name_character cs = rw (inner c starts) refl in
+    let front : front_while is_name_character (c ∷ cs) ≡ c ∷ front_while is_name_character cs = rw (starts_are_characters c starts) refl in
     record {
       first = c;
       others = front_while is_name_character cs;

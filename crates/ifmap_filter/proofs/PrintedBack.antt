@@ -3,17 +3,15 @@
 -- (3) rules in which parentheses nest deeper take what those do in which they nest less deep;
 -- (4) what is printed of a predicate where it stands as it was parsed, by the rule that took it;
 -- (5) tests and filters.
-use Rattle.std.proofs.Common.{◌≡◌, ◌≢◌, ℕ, ◌+◌, ◌≤◌, zero, suc, Bool, true, false, List, [], ◌∷◌, ◌++◌, refl, ap, sym, ◌∙◌, subst, arith, inl, inr, Option, Some, None, append_assoc}
-use Rattle.std.specs.Prelude.{◌||◌, ◌⊎◌, ◌==◌, nat_le, chars, codes, Ok, Err}
+use Rattle.std.proofs.Common.{◌≡◌, ◌≢◌, ℕ, ◌+◌, zero, suc, Bool, true, false, List, [], ◌∷◌, ◌++◌, refl, ap, sym, ◌∙◌, subst, arith, inl, inr, Option, Some, None, append_assoc}
+use Rattle.std.specs.Prelude.{◌||◌, ◌⊎◌, chars, codes, Ok, Err}
 use Rattle.std.specs.List.{flat_map, list_all, list_any}
 use Rattle.std.specs.Map.{lookup}
-use Rattle.std.specs.Int.{is_in_range}
 use Rattle.std.specs.Str.{IsAscii, all_scalars, bytes_eq}
 use Rattle.std.specs.Str.Parse.{AllDigits}
 use Rattle.std.proofs.lemmas.Bool.{and_parts, cases_Bool, false_from_ne_true}
 use Rattle.std.proofs.lemmas.List.{append-nil}
 use Rattle.std.proofs.lemmas.List.Folds.{list_all-append}
-use Rattle.std.proofs.lemmas.Bool.Decides.{nat_tests}
 use Rattle.std.proofs.lemmas.Str.{IsUtf8-from_ascii, chars-IsAscii, chars-nil, encodes-IsAscii, scalars-chars}
 use Rattle.std.proofs.lemmas.Str.Ascii.{IsAscii-cons, IsAscii-nil}
 use Rattle.std.proofs.lemmas.Str.Parse.{digit_from_value}
@@ -21,8 +19,8 @@ use Rattle.ifmap_lemmas.specs.Items.{To}
 use Rattle.ifmap_lemmas.specs.Numerals.{numeral, numeral_digits, one_number}
 use Rattle.ifmap_lemmas.specs.Members.{all_of_test}
 use Rattle.ifmap_lemmas.specs.Texts.{ascii_encoded, eq_itself, eq_tells, is_ascii, bytes_apart}
-use Rattle.ifmap_elem.specs.Chars.{AllAre, colon}
-use Rattle.ifmap_elem.specs.Names.{is_name_character, is_name_start}
+use Rattle.ifmap_elem.specs.Chars.{colon}
+use Rattle.ifmap_elem.specs.Names.{is_name_character}
 use Rattle.ifmap_elem.specs.Scopes.{xml_space}
 use Rattle.ifmap_elem.specs.declared.elements.Name as element
 use Rattle.ifmap_elem.specs.declared.tokens.Qualified.{Qualified}
@@ -44,6 +42,7 @@ use Rattle.ifmap_filter.proofs.Deciding.{one_filter, stops_where_no_filter}
 use Rattle.ifmap_filter.proofs.LexedParts.{AreTokens, IsLiteral, IsToken, are_tokens, lexed_literal}
 use Rattle.ifmap_filter.proofs.PrintLaws.{prints_and, prints_attr, prints_child, prints_or}
 use Rattle.ifmap_filter.proofs.SpaceLaws.{and_true, each_of_all, had_and, had_child, had_or}
+use Rattle.ifmap_elem.specs.laws.PrintedScopes.{digits_characters}
 
 -- (1) texts that rules take
 
@@ -150,24 +149,6 @@ forms_within X R S leads text x f = record {
 
 -- (2) names by their prefixes
 
--- a digit is one of the characters of names
-among_tests : (a b c d e f : Bool) → (a || b || c || true || d || e || f) ≡ true
-among_tests true b c d e f = refl
-among_tests false true c d e f = refl
-among_tests false false true d e f = refl
-among_tests false false false d e f = refl
-
-digit_passes : (c : ℕ) → 48 ≤ c → c ≤ 57 → is_name_character c ≡ true
-digit_passes c low high =
-    let test : nat_le 48 c ≡ true = grind (arith, nat_tests) in
-    let also : nat_le c 57 ≡ true = grind (arith, nat_tests) in
-    let both : is_in_range 0x30 0x39 c ≡ true = rw (test, also) refl in
-    rw both (among_tests (is_name_start c) (c == 0x2D) (c == 0x2E) (c == 0xB7) (is_in_range 0x300 0x36F c) (is_in_range 0x203F 0x2040 c))
-
-digits_pass : (ds : List ℕ) → AllDigits 10 ds → AllAre is_name_character ds
-digits_pass [] f = tt
-digits_pass (d ∷ ds) f = let r = digit_from_value d f.0 in (digit_passes d r.0 r.1, digits_pass ds f.1)
-
 digits_ascii : (ds : List ℕ) → AllDigits 10 ds → IsAscii ds
 digits_ascii [] f = IsAscii-nil
 digits_ascii (d ∷ ds) f = let r = digit_from_value d f.0 in IsAscii-cons d ds (let high = r.1 in omega (arith, high)) (digits_ascii ds f.1)
@@ -185,7 +166,7 @@ prefix_part n =
       scalars = ascii_scalars (0x66 ∷ numeral n) low;
       bytes_are = encodes-IsAscii (0x66 ∷ numeral n) low;
       begins = refl;
-      goes_on = (refl, digits_pass (numeral n) digits);
+      goes_on = (refl, digits_characters (numeral n) digits);
     }
 
 xml_part : IsPart (codes "xml")

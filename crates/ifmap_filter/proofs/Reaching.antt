@@ -20,6 +20,7 @@ use Rattle.ifmap_filter.specs.Texts.{BeginsFilter, StopsAt, Writes, offset}
 use Rattle.ifmap_filter.specs.Tokens.{IsEnd, FrontToken, Takes, after_while, closed_literal, front_while, is_but, is_quote, literal_at, name_at, name_from, name_token, part_bytes, prefixed_name_at, symbol_of, front_token, token_at, with_symbol, without_white}
 use Rattle.ifmap_filter.proofs.Ending.{EndsAt, ends, goes_on}
 use Rattle.ifmap_filter.proofs.Stepping.{IsRight, right}
+use Rattle.ifmap_elem.specs.laws.NameBytes.{starts_are_characters}
 
 -- (1) tokens take characters
 
@@ -53,12 +54,9 @@ after_later cs mid rest (x ∷ front, e) (c, more, f) =
 some_inj : (t : Token) (rest : List ℕ) (k : FrontToken) → Some k ≡ Some (front_token t rest) → k.rest ≡ rest
 some_inj t rest k e = let same : k ≡ front_token t rest = cc in ap (λ (x : FrontToken). x.rest) same
 
-pub inner : (c : ℕ) → is_name_start c ≡ true → is_name_character c ≡ true
-inner c starts = rw starts refl
-
 part_later : (c : ℕ) (cs : List ℕ) → is_name_start c ≡ true → IsLater (c ∷ cs) (after_while is_name_character (c ∷ cs))
 part_later c cs starts =
-    subst (λ b. IsLater (c ∷ cs) (if b then after_while is_name_character cs else c ∷ cs)) (sym (inner c starts))
+    subst (λ b. IsLater (c ∷ cs) (if b then after_while is_name_character cs else c ∷ cs)) (sym (starts_are_characters c starts))
     (later_from c cs (after_while is_name_character cs) (after_is is_name_character cs))
 
 module _ (t : Token) (rest : List ℕ) where

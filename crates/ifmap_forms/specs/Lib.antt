@@ -10,3 +10,4 @@ pub mod SingleLaws
 pub mod CutLaws
 pub mod AnswerLaws
 pub mod PositionLaws
+pub mod FormLaws

@@ -1,8 +1,8 @@
 -- The items that are collected number by number are those that the search looks at, and what is found on them is the
 -- result. In order: which numbers are passed; from an item that is collected to one that is looked at (`looked_at`);
 -- the other way (`collects`); then lists: entries item by item are the filtered list (`entries_are`).
-use Rattle.std.proofs.Common.{◌≡◌, ◌≢◌, ◌↔◌, ℕ, ◌<◌, ◌≤◌, Bool, true, false, cond, not, ◌&&◌, ◌||◌, Option, Some, None, List, [], ◌∷◌}
-use Rattle.std.proofs.Common.{◌++◌, map, flat_map, length, nat_lt, refl, ap, ◌∙◌, sym, subst, inl, inr, arith}
+use Rattle.std.proofs.Common.{◌≡◌, ◌≢◌, ℕ, ◌<◌, Bool, true, false, cond, not, ◌&&◌, ◌||◌, Option, Some, None, List, [], ◌∷◌}
+use Rattle.std.proofs.Common.{◌++◌, map, nat_lt, refl, ap, ◌∙◌, sym, subst, inl, inr, arith}
 use Rattle.std.proofs.lemmas.Bool.{and_parts, cases_Bool, lt-ltb, ltb-true, not-true, or_cases, or_right}
 use Rattle.std.proofs.lemmas.Bool.Decides.{nat_tests}
 use Rattle.std.proofs.lemmas.List.{map-append}
@@ -10,15 +10,14 @@ use Rattle.std.proofs.lemmas.List.Elements.{filter-append}
 use Rattle.std.proofs.lemmas.Option.{same_Some, none-some}
 use Rattle.std.specs.Cmp.{both_ways}
 use Rattle.std.specs.List.{AllByRecursion, filter, filter_map}
-use Rattle.std.specs.List.Sorted.{IsStrictlySortedBy}
 use Rattle.ifmap_filter.specs.declared.filters.Filter.{Filter}
 use Rattle.ifmap_filter.specs.Meets.{meets_optional}
 use Rattle.ifmap_ident.specs.declared.identifiers.Identifier.{Identifier}
 use Rattle.ifmap_ident.specs.declared.items.Item.{Item}
 use Rattle.ifmap_ident.specs.declared.items.Item.TheVariants.{One, Pair}
 use Rattle.ifmap_ident.specs.Canon.{IsIdentifier}
-use Rattle.ifmap_ident.specs.Items.{IsCanonItem, item_order, pair_of, same_item}
-use Rattle.ifmap_lemmas.specs.Having.{Has, any_has, has_any, has_either, has_filter, has_from, has_joined, has_left, has_map, has_mapped, has_right, joined_has, map_has, mapped_has}
+use Rattle.ifmap_ident.specs.Items.{IsCanonItem, pair_of, same_item}
+use Rattle.ifmap_lemmas.specs.Having.{Has, any_has, has_either, has_filter, has_from, has_joined, has_left, has_map, has_mapped, has_right, joined_has, map_has, mapped_has}
 use Rattle.ifmap_lemmas.specs.Filters.{filter_alike, filter_twice}
 use Rattle.ifmap_meta.specs.declared.stored.Stored.{Stored}
 use Rattle.ifmap_region.specs.Walks.{AreDepths}
@@ -36,12 +35,13 @@ use Rattle.ifmap_fresh.specs.Gathered.{entries_of, entries_on, entry_at, gathere
 use Rattle.ifmap_fresh.specs.Linking.{end_where, is_terminal_at}
 use Rattle.ifmap_fresh.specs.Matching.{is_match, is_terminal, one_meets}
 use Rattle.ifmap_fresh.specs.Reached.{is_expanded, is_reached}
-use Rattle.ifmap_fresh.specs.laws.GatheringLaws.{gathers, grouped}
+use Rattle.ifmap_fresh.specs.laws.GatheringLaws.{gathers, grouped, all_items}
 use Rattle.ifmap_fresh.specs.laws.JoiningLaws.{match_turned, some_there}
 use Rattle.ifmap_fresh.proofs.Levels.{expanded_walk, reached_by_walks, walk_expanded}
 use Rattle.ifmap_fresh.proofs.Meaning.{L, T, mark_walk, to_identifier, to_number, walk_mark}
-use Rattle.ifmap_fresh.specs.laws.SameLaws.{AreCanon, Tells, item_itself, member, pair_canon, pair_is, pair_parts, pair_turned}
+use Rattle.ifmap_fresh.specs.laws.SameLaws.{Tells, member, pair_canon, pair_is, pair_parts, pair_turned}
 use Rattle.ifmap_fresh.specs.laws.SameLaws.{same_item_is}
+use Rattle.ifmap_ident.specs.SameLaws.{item_itself}
 
 lt_turned : (a b : ℕ) → nat_lt a b ≡ true → nat_lt b a ≡ false
 lt_turned a b e = grind (arith, nat_tests)
@@ -263,10 +263,6 @@ carries rows r h e =
     subst (λ l. Has l r.stored) e
     (has_map (λ (x : Attachment). x.stored) (filter (λ x. same_item x.item r.item) rows) r
     (has_filter (λ x. same_item x.item r.item) rows r h (item_itself r.item)))
-
-all_items : (is : List Item) → ((x : Item) → Has is x → IsCanonItem x) → AllByRecursion AreCanon is
-all_items [] f = tt
-all_items (i ∷ is) f = ((f i (inl refl)).identifiers, all_items is (λ x h. f x (inr h)))
 
 module _ (tells : Tells) (rows : List Attachment) (s : Search) (items : List Item) (graph : IsGraph rows)
     (are : AreLookedAt rows s items) where

@@ -1,6 +1,6 @@
 -- The levels of a search are its walks.
-use Rattle.std.proofs.Common.{◌≡◌, ◌↔◌, ℕ, zero, suc, ◌<◌, ◌≤◌, Bool, true, false, cond, not, ◌&&◌, List, [], ◌∷◌, ◌++◌, flat_map, refl, ap}
-use Rattle.std.proofs.Common.{◌∙◌, sym, subst, inl, inr, arith}
+use Rattle.std.proofs.Common.{◌≡◌, ◌↔◌, ℕ, zero, suc, ◌<◌, ◌≤◌, Bool, true, false, cond, not, List, [], ◌∷◌, flat_map, refl}
+use Rattle.std.proofs.Common.{sym, subst, inl, inr, arith}
 use Rattle.std.proofs.lemmas.Bool.{and_parts, not-true}
 use Rattle.std.specs.List.{AllByRecursion, filter}
 use Rattle.ifmap_ident.specs.declared.identifiers.Identifier.{Identifier}
@@ -16,7 +16,8 @@ use Rattle.ifmap_view.specs.Rows.{stored_between}
 use Rattle.ifmap_fresh.specs.Matching.{LeadsTo, is_match, is_terminal}
 use Rattle.ifmap_fresh.specs.Reached.{identifiers_in, is_below, is_expanded, is_reached, is_within, next_to, within}
 use Rattle.ifmap_fresh.specs.laws.JoiningLaws.{some_there, stands_in}
-use Rattle.ifmap_fresh.specs.laws.SameLaws.{Tells, member, same_is, same_itself}
+use Rattle.ifmap_fresh.specs.laws.SameLaws.{Tells, member, same_is}
+use Rattle.ifmap_ident.specs.SameLaws.{identifier_itself}
 
 -- a walk of the search
 abbrev pub On : List Attachment → Search → ℕ → Identifier → Type 0
@@ -86,7 +87,7 @@ module _ (tells : Tells) (rows : List Attachment) (items : AllByRecursion (λ r.
       in within_walk n a (subst (λ x. Has (within rows s n) x) (sym (same_is tells a f.0 i (on_canon rows s start w.0 f.0 w.2) f.2)) f.1)
 
   pub walk_is_within : (n k : ℕ) (a : Identifier) → k ≤ n → On rows s k a → is_within rows s n a ≡ true
-  walk_is_within n k a h w = has_any (same_identifier a) (within rows s n) a (walk_within n k a h w) (same_itself a)
+  walk_is_within n k a h w = has_any (same_identifier a) (within rows s n) a (walk_within n k a h w) (identifier_itself a)
 
   -- an identifier is reached exactly where some walk ends in it
   pub reached_by_walks : (a : Identifier) → IsIdentifier a → (is_reached rows s a ≡ true) ↔ IsReached M T s.start s.max_depth a

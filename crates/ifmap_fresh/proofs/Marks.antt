@@ -1,23 +1,16 @@
 -- The numbers of marks.
-use Rattle.std.proofs.Common.{◌≡◌, ℕ, Bool, true, false, Option, Some, None, List, [], ◌∷◌, length, get_or}
+use Rattle.std.proofs.Common.{◌≡◌, ℕ, true, false, Option, Some, None, List, [], ◌∷◌}
 use Rattle.std.proofs.Common.{nat_eq, unwrap_or, refl, ap, ◌∙◌, sym, inl, inr, arith}
-use Rattle.std.proofs.lemmas.Bool.{cases_Bool, eqb-true}
+use Rattle.std.proofs.lemmas.Bool.{cases_Bool}
 use Rattle.std.proofs.lemmas.Bool.Decides.{nat_tests}
 use Rattle.std.proofs.lemmas.Option.{none-some}
-use Rattle.std.specs.Map.{lookup}
 use Rattle.ifmap_lemmas.specs.Having.{Has}
 use Rattle.ifmap_region.specs.Marks.{AllMarked, mark_of, row_of}
 use Rattle.ifmap_fresh.specs.Collected.{numbers_of}
+use Rattle.ifmap_fresh.specs.laws.GatheringLaws.{row_has}
 
 itself : (a b : ℕ) → b ≡ a → nat_eq a b ≡ true
 itself a b e = grind (arith, nat_tests)
-
-row_has : (es : List (ℕ × Option ℕ)) (v : ℕ) (r : Option ℕ) → row_of es v ≡ Some r → Has (numbers_of es) v
-row_has [] v r e = absurd (none-some r e)
-row_has (x ∷ xs) v r e = elim (cases_Bool (nat_eq v x.0)) [
-  | inl t ↦ inl (sym (eqb-true v x.0 t))
-  | inr t ↦ inr (row_has xs v r (rw t at e))
-]
 
 has_row : (es : List (ℕ × Option ℕ)) (v : ℕ) → Has (numbers_of es) v → (r : Option ℕ) × (row_of es v ≡ Some r)
 has_row [] v h = absurd h

@@ -1,10 +1,10 @@
 -- The item of the first shelf above another on which something stands is the next that carries something.
-use Rattle.std.proofs.Common.{◌≡◌, ◌≢◌, not, ◌&&◌, Bool, true, false, cond, List, [], ◌∷◌, Option, Some, None, inl, inr, refl, ap, ◌∙◌}
+use Rattle.std.proofs.Common.{◌≡◌, ◌≢◌, ◌&&◌, Bool, true, false, List, [], ◌∷◌, Option, Some, None, inl, inr, refl, ap, ◌∙◌}
 use Rattle.std.proofs.Common.{sym, subst, option_copied, Bor}
 use Rattle.std.specs.Cmp.{Equal-is}
 use Rattle.std.specs.Prelude.{IfNone, IfSome}
 use Rattle.std.proofs.lemmas.Bool.{and_parts, cases_Bool}
-use Rattle.std.proofs.lemmas.Cmp.{alike_right, tied_itself}
+use Rattle.std.proofs.lemmas.Cmp.{alike_right}
 use Rattle.std.proofs.lemmas.Option.{same_Some, none-some}
 use Rattle.std.specs.List.{AllByRecursion, list_all}
 use Rattle.std.specs.Ordering.{is_eq, is_lt, ordering_reverse}
@@ -19,6 +19,7 @@ use Rattle.ifmap_fresh_tests.specs.declared.shelves.Shelf.{Shelf}
 use Rattle.ifmap_fresh_tests.specs.Lists.{all_pairs, carries, is_above, is_full, item_below, next_in, rows_of}
 use Rattle.ifmap_fresh_tests.proofs.Finding.{found, items_total, none_above, past}
 use Rattle.ifmap_fresh_tests.proofs.Pairs.{pairs_of}
+use Rattle.ifmap_ident.specs.SameLaws.{item_itself}
 
 full : (xs : List Stored) → is_full xs ≡ true → xs ≢ []
 full [] e n = let q : false ≡ true = e in cc
@@ -27,9 +28,6 @@ full (x ∷ xs) e n = cc
 empty : (xs : List Stored) → is_full xs ≡ false → xs ≡ []
 empty [] e = refl
 empty (x ∷ xs) e = let q : true ≡ false = e in cc
-
-item_itself : (x : Item) → same_item x x ≡ true
-item_itself x = items_tie x x ∙ ap is_eq (tied_itself items_total x)
 
 -- shelves above an item have nothing of it
 nothing_of : (x : Item) (ss : List Shelf) → AllByRecursion (λ t. item_order x t.item ≡ Less) ss → stored_on x (rows_of ss) ≡ []

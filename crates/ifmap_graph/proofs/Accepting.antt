@@ -15,7 +15,7 @@ use Rattle.ifmap_graph.specs.Shelved.{AreShelved, HasDraft, place_of, rows_of}
 use Rattle.ifmap_graph.specs.Sides.{next, now}
 use Rattle.ifmap_graph.specs.Waits.{waits_on}
 use Rattle.ifmap_graph.proofs.Bare.{none_left, one_gone, sides_same}
-use Rattle.ifmap_graph.proofs.Ordered.{ties}
+use Rattle.ifmap_ident.specs.SameLaws.{ties}
 
 -- an item is another, or it is not, whichever comes first
 turned : (a b : Item) → same_item a b ≡ same_item b a

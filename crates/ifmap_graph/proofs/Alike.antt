@@ -14,7 +14,8 @@ use Rattle.ifmap_ident.specs.Identifiers.{identifier_bytes, identifier_order, sa
 use Rattle.ifmap_ident.specs.Items.{item_order, ordered_pair, pair_of, same_item}
 use Rattle.ifmap_view.specs.declared.attachments.Attachment.{Attachment}
 use Rattle.ifmap_view.specs.Rows.{stored_on}
-use Rattle.ifmap_graph.proofs.Ordered.{equal_is, ties}
+use Rattle.ifmap_graph.proofs.Ordered.{equal_is}
+use Rattle.ifmap_ident.specs.SameLaws.{turned_order, ties}
 
 abbrev pub Alike : Identifier → Identifier → Type 0
 Alike a b = identifier_bytes a ≡ identifier_bytes b
@@ -22,9 +23,6 @@ Alike a b = identifier_bytes a ≡ identifier_bytes b
 -- identifiers of one list of canonical bytes are one, where elements gave them
 abbrev pub Tells : Type 0
 Tells = (one other : Identifier) → IsIdentifier one → IsIdentifier other → identifier_bytes one ≡ identifier_bytes other → one ≡ other
-
-pub turned_order : (a b : Identifier) → identifier_order a b ≡ ordering_reverse (identifier_order b a)
-turned_order a b = nat_list_cmp_total.antisymm (identifier_bytes a) (identifier_bytes b)
 
 pub equal_alike : (a b : Identifier) → identifier_order a b ≡ Equal → Alike a b
 equal_alike a b e = same_texts (identifier_bytes a) (identifier_bytes b) e

@@ -1,10 +1,6 @@
 -- Ways back stay where what is stored and the links do, and each shelf that a way back needs.
-use Rattle.std.proofs.Common.{◌≡◌, ◌≢◌, ℕ, zero, suc, ◌+◌, ◌≤◌, List, [], ◌∷◌, length, refl, ap, ◌∙◌, sym, subst, inl, inr, arith}
-use Rattle.std.proofs.lemmas.Bool.{cases_Bool}
-use Rattle.std.specs.BTreeMap.{is_at}
+use Rattle.std.proofs.Common.{◌≡◌, ◌≢◌, ℕ, zero, suc, ◌≤◌, List, [], length, refl, ap, ◌∙◌, sym, subst, arith}
 use Rattle.ifmap_ident.specs.declared.items.Item.{Item}
-use Rattle.ifmap_ident.specs.Items.{item_order}
-use Rattle.ifmap_meta.specs.declared.stored.Stored.{Stored}
 use Rattle.ifmap_view.specs.declared.attachments.Attachment.{Attachment}
 use Rattle.ifmap_view.specs.declared.views.LinkSeen.{LinkSeen}
 use Rattle.ifmap_view.specs.Rows.{stored_on}
@@ -16,16 +12,7 @@ use Rattle.ifmap_graph.specs.Seen.{Awaits, AwaitsLess, AwaitsMore, links_now, ro
 use Rattle.ifmap_graph.specs.Stays.{IsThere, StayPlaced}
 use Rattle.ifmap_graph.specs.Waits.{times_in}
 use Rattle.ifmap_graph.proofs.Turns.{restored_alike, still_within}
-
--- an item that is none of these has what it had
-stands_else : (items : List Item) (lists : List (List Stored)) (x : Item) (before : List Stored) → times_in items x ≡ 0
-    → stand_each items lists x before ≡ before
-stands_else [] lists x before e = refl
-stands_else (i ∷ is) [] x before e = refl
-stands_else (i ∷ is) (list ∷ lists) x before e = elim (cases_Bool (is_at (item_order i) x)) [
-  | inl t ↦ let h : 1 + times_in is x ≡ 0 = rw t at e in absurd (omega (arith, h))
-  | inr f ↦ let h : 0 + times_in is x ≡ 0 = rw f at e in rw f (stands_else is lists x before (omega (arith, h)))
-]
+use Rattle.ifmap_graph.proofs.Lean.{stand_others}
 
 -- links stay where the shelves of all that has something stay
 pub links_stay : (rows : List Attachment) (links : ℕ → List LinkSeen) (old new : Held)
@@ -63,7 +50,7 @@ module _ (old new : Held) (rows : rows_now new ≡ rows_now old) (links : (v : �
           by : (t : ℕ) → times_in (items_of u.plan.changes) x ≡ t → IsThere old new x
           by zero e =
               let same : stored_on x before ≡ stored_on x (rows_now old)
-              = b.stored x ∙ stands_else (items_of u.plan.changes) u.lists x (stored_on x (rows_now old)) e
+              = b.stored x ∙ stand_others (items_of u.plan.changes) u.lists x (stored_on x (rows_now old)) e
               in stay.full x (λ q. n (same ∙ q)) (λ q. n (same ∙ ap (stored_on x) (sym rows) ∙ q))
           by (suc k) e = stay.waited x (omega (arith, b.waits x, e)) (omega (arith, waits x, e))
 

@@ -23,10 +23,12 @@ use Rattle.ifmap_graph.specs.Waits.{waits_of, waits_on, waits_there}
 use Rattle.ifmap_graph.proofs.Finding.{all_inserted}
 use Rattle.ifmap_graph.proofs.Following.{lookup_tied}
 use Rattle.ifmap_graph.proofs.Leaving.{comes, goes}
-use Rattle.ifmap_graph.proofs.Ordered.{equal_is, items_total}
+use Rattle.ifmap_graph.proofs.Ordered.{equal_is}
 use Rattle.ifmap_graph.proofs.Shelving.{Entries, slots_stay}
 use Rattle.ifmap_graph.proofs.Staying.{ends_of}
 use Rattle.ifmap_graph.proofs.Writes.{slot_live}
+use Rattle.ifmap_ident.specs.SameLaws.{items_total}
+use Rattle.ifmap_graph.proofs.Accepting.{all_given}
 
 nothing_some : {X : Type 0} (o : Option X) → o ≡ None → IsSome o → ⊥
 nothing_some {X} o e s = let q : IsSome {T = X} None = subst (λ (o : Option X). IsSome o) e s in cc
@@ -73,10 +75,6 @@ all_joined : (P : Item → Type 0) (xs ys : List Item) → AllByRecursion P xs �
 all_joined P [] ys a b = b
 all_joined P (x ∷ xs) ys a b = (a.0, all_joined P xs ys a.1 b)
 
-all_turned : (P Q : Item → Type 0) (xs : List Item) → ((x : Item) → P x → Q x) → AllByRecursion P xs → AllByRecursion Q xs
-all_turned P Q [] f a = tt
-all_turned P Q (x ∷ xs) f a = (f x a.0, all_turned P Q xs f a.1)
-
 named_joined : (xs ys : List Item) (a : Identifier) → named_of (xs ++ ys) a ≡ named_of xs a + named_of ys a
 named_joined [] ys a = omega arith
 named_joined (x ∷ xs) ys a = omega (arith, named_joined xs ys a)
@@ -101,10 +99,10 @@ brings_none s t entries ends waits = record {
 pub brings_both : (xs ys : List Item) (s t u : Shelves) → BringsShelves xs s t → BringsShelves ys t u → BringsShelves (xs ++ ys) s u
 brings_both xs ys s t u p q = record {
   absent = all_joined (λ x. place_of s x ≡ None) xs ys p.absent
-      (all_turned (λ y. place_of t y ≡ None) (λ y. place_of s y ≡ None) ys
+      (all_given (λ y. place_of t y ≡ None) (λ y. place_of s y ≡ None) ys
       (λ y e. sym (p.places y (other_there t xs y p.there e)) ∙ e) q.absent);
   there = all_joined (λ x. IsSome (place_of u x)) xs ys
-      (all_turned (λ x. IsSome (place_of t x)) (λ x. IsSome (place_of u x)) xs
+      (all_given (λ x. IsSome (place_of t x)) (λ x. IsSome (place_of u x)) xs
       (λ x h. subst (λ (o : Option ℕ). IsSome o) (sym (q.places x (other_absent t ys x q.absent h))) h) p.there) q.there;
   places = λ x o. let r = other_parts xs ys x o in q.places x r.1 ∙ p.places x r.0;
   ends = λ x at e. q.ends x at (p.places x (other_absent s xs x p.absent (some_place (place_of s x) at e)) ∙ e) ∙ p.ends x at e;
@@ -143,7 +141,7 @@ pub brings_written : (items : List Item) (s t u : Shelves) → BringsShelves ite
     → ((x : Item) → waits_on u x ≡ waits_on t x) → BringsShelves items s u
 brings_written items s t u p places ends waits = record {
   absent = p.absent;
-  there = all_turned (λ x. IsSome (place_of t x)) (λ x. IsSome (place_of u x)) items
+  there = all_given (λ x. IsSome (place_of t x)) (λ x. IsSome (place_of u x)) items
       (λ x h. subst (λ (o : Option ℕ). IsSome o) (sym (ap (λ p. lookup (is_at (item_order x)) p.entries) places)) h) p.there;
   places = λ x o. ap (λ p. lookup (is_at (item_order x)) p.entries) places ∙ p.places x o;
   ends = λ x at e. ends at ∙ p.ends x at e;
@@ -225,7 +223,7 @@ brings_taken s t item at here updates removes before zero = record {
 pub brings_unless : (items : List Item) (s t u : Shelves) → BringsShelves items s u → BringsShelves [] t u → BringsShelves items s t
 brings_unless items s t u p q = record {
   absent = p.absent;
-  there = all_turned (λ x. IsSome (place_of u x)) (λ x. IsSome (place_of t x)) items
+  there = all_given (λ x. IsSome (place_of u x)) (λ x. IsSome (place_of t x)) items
       (λ x h. subst (λ (o : Option ℕ). IsSome o) (q.places x tt) h) p.there;
   places = λ x o. sym (q.places x tt) ∙ p.places x o;
   ends = λ x at e.

@@ -1,25 +1,20 @@
 -- The links that carry something are counted by entries as by attachments.
 use Rattle.std.proofs.Common.{◌≡◌, ◌+◌, ◌∙◌, Bool, true, false, List, [], ◌∷◌, ◌++◌, length, map, refl, ap, sym, arith}
-use Rattle.std.proofs.lemmas.Cmp.{tied_itself}
 use Rattle.std.specs.List.{AllByRecursion, filter, list_any}
-use Rattle.std.specs.Ordering.{is_eq}
 use Rattle.std.specs.declared.cmp.Ordering.TheVariants.{Less}
 use Rattle.ifmap_ident.specs.declared.items.Item.{Item}
 use Rattle.ifmap_ident.specs.declared.items.Item.TheVariants.{One, Pair}
-use Rattle.ifmap_ident.specs.Items.{item_order, items_tie, same_item}
+use Rattle.ifmap_ident.specs.Items.{item_order, same_item}
 use Rattle.ifmap_meta.specs.declared.stored.Stored.{Stored}
 use Rattle.ifmap_view.specs.declared.attachments.Attachment.{Attachment}
 use Rattle.ifmap_graph.specs.Counted.{count_links, is_link, items_in, link_once, links_of}
 use Rattle.ifmap_graph.specs.Shelved.{Rises, row_on, rows_by}
 use Rattle.ifmap_graph.proofs.Finding.{first_rises}
-use Rattle.ifmap_graph.proofs.Ordered.{apart, items_total}
+use Rattle.ifmap_ident.specs.SameLaws.{item_itself, greater_differs}
 
 -- whether an item is among those of attachments
 abbrev is_among : Item → List Attachment → Bool
 is_among i rows = list_any (λ s. same_item s.item i) rows
-
-same_itself : (i : Item) → same_item i i ≡ true
-same_itself i = items_tie i i ∙ ap is_eq (tied_itself items_total i)
 
 passed_by : (i k : Item) (xs : List Stored) (rest : List Attachment) → same_item k i ≡ false
     → is_among i (map (row_on k) xs ++ rest) ≡ is_among i rest
@@ -31,14 +26,14 @@ items_first : (i : Item) (x : Stored) (xs : List Stored) (rest : List Attachment
     → items_in (map (row_on i) (x ∷ xs) ++ rest) ≡ i ∷ items_in rest
 items_first i x [] rest e = rw e refl
 items_first i x (y ∷ ys) rest e =
-    let t : is_among i (map (row_on i) (y ∷ ys) ++ rest) ≡ true = let s = same_itself i in rw s refl
+    let t : is_among i (map (row_on i) (y ∷ ys) ++ rest) ≡ true = let s = item_itself i in rw s refl
     in rw t (items_first i y ys rest e)
 
 module _ {X : Type 0} (list_of : X → List Stored) where
   not_among : (i : Item) (es : List (Item × X)) → AllByRecursion (λ y. item_order i y ≡ Less) (map (λ e. e.0) es)
       → is_among i (rows_by list_of es) ≡ false
   not_among i [] a = refl
-  not_among i (e ∷ es) a = passed_by i e.0 (list_of e.1) (rows_by list_of es) (apart i e.0 a.0) ∙ not_among i es a.1
+  not_among i (e ∷ es) a = passed_by i e.0 (list_of e.1) (rows_by list_of es) (greater_differs i e.0 a.0) ∙ not_among i es a.1
 
   one_link : (i : Item) (xs : List Stored) (rest : List Attachment) → is_among i rest ≡ false
       → count_links (map (row_on i) xs ++ rest) ≡ link_once i xs + count_links rest

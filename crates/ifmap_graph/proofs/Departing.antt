@@ -1,22 +1,18 @@
 -- An item's shelf goes, and its identifiers are let go: the numbers of the other items stay theirs, since those hold them.
-use Rattle.std.proofs.Common.{◌≡◌, ℕ, ◌+◌, ◌≤◌, cond, Option, Some, None, [], ◌∷◌, refl, ap, sym, subst, inl, inr, arith}
+use Rattle.std.proofs.Common.{◌≡◌, ℕ, ◌+◌, ◌≤◌, Option, Some, None, [], ◌∷◌, refl, ap, sym, subst, inl, inr, arith}
 use Rattle.std.specs.List.{AllByRecursion}
-use Rattle.std.specs.Ordering.{is_eq}
 use Rattle.ifmap_lemmas.specs.Having.{Has}
 use Rattle.ifmap_ident.specs.declared.identifiers.Identifier.{Identifier}
 use Rattle.ifmap_ident.specs.declared.items.Item.{Item}
 use Rattle.ifmap_ident.specs.declared.items.Item.TheVariants.{One, Pair}
 use Rattle.ifmap_ident.specs.Identifiers.{identifier_order}
-use Rattle.ifmap_pool.specs.Holdings.{Holdings, IsHeld, IsPool, Names, once}
+use Rattle.ifmap_pool.specs.Holdings.{Holdings, IsHeld, IsPool, Names}
 use Rattle.ifmap_graph.specs.declared.ends.Ends as the_ends
 use Rattle.ifmap_graph.specs.declared.ends.Ends.TheVariants as ends
 use Rattle.ifmap_graph.specs.declared.shelves.Shelf.{Shelf}
 use Rattle.ifmap_graph.specs.Named.{AreEnds, AreNumbered, HasEnds, named_by, named_in}
-use Rattle.ifmap_graph.proofs.Alike.{alike_equal}
 use Rattle.ifmap_graph.proofs.Shelving.{Entries}
-
-once_itself : (a : Identifier) → once identifier_order a a ≡ 1
-once_itself a = ap (λ o. cond (is_eq o) 1 0) (alike_equal a a refl)
+use Rattle.ifmap_graph.specs.NumberLaws.{once_itself}
 
 named_has : (es : Entries) (e : Item × ℕ) (a : Identifier) → Has es e → named_by e.0 a ≤ named_in es a
 named_has [] e a h = absurd h

@@ -17,7 +17,7 @@ use Rattle.ifmap_graph.specs.Waits.{WaitsFor, waits_on, waits_there}
 use Rattle.ifmap_graph.proofs.Brought.{other_absent}
 use Rattle.ifmap_graph.proofs.Following.{lookup_tied}
 use Rattle.ifmap_graph.proofs.Ordered.{equal_is}
-use Rattle.ifmap_graph.proofs.Taking.{tied_stored}
+use Rattle.ifmap_plans.specs.laws.OnItemLaws.{stored_tied}
 
 -- items that tie are waited for alike
 waits_tied : (s : Shelves) (x y : Item) → is_at (item_order x) y ≡ true → waits_on s x ≡ waits_on s y
@@ -40,7 +40,7 @@ module _ (s t : Shelves) (item : Item) (places : t.places ≡ s.places) (rows : 
     | inr other ↦ λ e. filled_else f x other place none (sym (ap (stored_on x) rows) ∙ e)
     | inl tie ↦ elim why [
       | inl some ↦ absurd (omega (arith, some, none, waits_tied t item x tie))
-      | inr full ↦ λ e. full (tied_stored item x (rows_of now s) (equal_is (item_order item x) tie) ∙ sym (ap (stored_on x) rows) ∙ e)
+      | inr full ↦ λ e. full (stored_tied item x (rows_of now s) (equal_is (item_order item x) tie) ∙ sym (ap (stored_on x) rows) ∙ e)
     ]
   ]
 

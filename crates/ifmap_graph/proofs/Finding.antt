@@ -16,7 +16,8 @@ use Rattle.ifmap_meta.specs.declared.stored.Stored.{Stored}
 use Rattle.ifmap_view.specs.declared.attachments.Attachment.{Attachment}
 use Rattle.ifmap_view.specs.Rows.{stored_on}
 use Rattle.ifmap_graph.specs.Shelved.{Rises, row_on, rows_by}
-use Rattle.ifmap_graph.proofs.Ordered.{above_tied, apart, equal_is, ties}
+use Rattle.ifmap_graph.proofs.Ordered.{above_tied, equal_is}
+use Rattle.ifmap_ident.specs.SameLaws.{ties, greater_differs}
 
 pub kept_one : (item at : Item) (xs : List Stored) (rest : List Attachment) → same_item at item ≡ true
     → stored_on item (map (row_on at) xs ++ rest) ≡ xs ++ stored_on item rest
@@ -46,7 +47,7 @@ module _ {X : Type 0} (list_of : X → List Stored) (item : Item) where
   none_above : (es : List (Item × X)) → AllByRecursion (λ y. item_order item y ≡ Less) (map (λ e. e.0) es) → stored_on item
       (rows_by list_of es) ≡ []
   none_above [] a = refl
-  none_above (e ∷ es) a = passed_one item e.0 (list_of e.1) (rows_by list_of es) (apart item e.0 a.0) ∙ none_above es a.1
+  none_above (e ∷ es) a = passed_one item e.0 (list_of e.1) (rows_by list_of es) (greater_differs item e.0 a.0) ∙ none_above es a.1
 
   -- a look-up that hits gives what is stored on the item
   pub found : (es : List (Item × X)) (at : X) → Rises es → lookup (is_at (item_order item)) es ≡ Some at → list_of at ≡ stored_on item

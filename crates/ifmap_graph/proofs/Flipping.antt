@@ -48,11 +48,12 @@ use Rattle.ifmap_graph.proofs.Following.{entry_hits, lookup_tied, looked_up}
 use Rattle.ifmap_graph.proofs.Holds.{numbers_differ}
 use Rattle.ifmap_graph.proofs.Links.{changed_listed}
 use Rattle.ifmap_graph.proofs.Moved.{inside_moved, lists_stay, live_by, side_moved, still_numbered}
-use Rattle.ifmap_graph.proofs.Ordered.{equal_is, items_total, turned_tie}
-use Rattle.ifmap_graph.proofs.Planned.{stored_tied}
+use Rattle.ifmap_graph.proofs.Ordered.{equal_is, turned_tie}
 use Rattle.ifmap_graph.proofs.Shelving.{Entries}
 use Rattle.ifmap_graph.proofs.Touching.{drafted_links}
 use Rattle.ifmap_graph.proofs.Writes.{one_item}
+use Rattle.ifmap_ident.specs.SameLaws.{items_total}
+use Rattle.ifmap_plans.specs.laws.OnItemLaws.{stored_tied}
 
 same_or_not : (a b : Bool) → differ a b ≡ false → a ≡ b
 same_or_not true true e = refl

@@ -16,9 +16,10 @@ use Rattle.ifmap_plans.specs.After.{IsAbove, IsNextItem, NoItem}
 use Rattle.ifmap_view.specs.Rows.{stored_on}
 use Rattle.ifmap_graph.specs.After.{AreEmpty, IsFirst, entries_after}
 use Rattle.ifmap_graph.specs.Shelved.{Rises, rows_by}
-use Rattle.ifmap_graph.proofs.Ordered.{equal_is, items_total}
+use Rattle.ifmap_graph.proofs.Ordered.{equal_is}
 use Rattle.ifmap_graph.proofs.Finding.{absent, first_rises, found, nothing_rises, rises_first}
 use Rattle.ifmap_lemmas.specs.Orderings.{is_less}
+use Rattle.ifmap_ident.specs.SameLaws.{items_total}
 
 itself : (item : Item) → item_order item item ≡ Equal
 itself item = tied_itself items_total item

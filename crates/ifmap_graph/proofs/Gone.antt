@@ -15,9 +15,10 @@ use Rattle.ifmap_graph.specs.Drafted.{AreBare, NoDraft}
 use Rattle.ifmap_graph.specs.Shelved.{AreShelved, IsPlaced, Rises, place_of}
 use Rattle.ifmap_graph.proofs.Following.{entry_hits, lookup_tied, looked_up}
 use Rattle.ifmap_graph.proofs.Leaving.{removed_has, slots_kept}
-use Rattle.ifmap_graph.proofs.Ordered.{items_total, turned_tie}
+use Rattle.ifmap_graph.proofs.Ordered.{turned_tie}
 use Rattle.ifmap_graph.proofs.Shelving.{Entries}
 use Rattle.ifmap_graph.proofs.Writes.{one_item}
+use Rattle.ifmap_ident.specs.SameLaws.{items_total}
 
 -- entries that are left were there
 has_left : (test : Item → Bool) (es : Entries) (x : Item × ℕ) → Has (remove_entry test es) x → Has es x

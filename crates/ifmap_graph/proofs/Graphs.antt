@@ -15,9 +15,9 @@ use Rattle.ifmap_plans.specs.Lists.{IsList}
 use Rattle.ifmap_view.specs.declared.attachments.Attachment.{Attachment}
 use Rattle.ifmap_view.specs.Attachments.{IsGraph, attachment_order, of_one_key, stored_order}
 use Rattle.ifmap_graph.specs.Shelved.{Rises, row_on, rows_by}
-use Rattle.ifmap_graph.proofs.Ordered.{items_total}
 use Rattle.ifmap_graph.proofs.Finding.{first_rises}
 use Rattle.ifmap_lemmas.specs.Pairwise.{Pairwise, pairwise_onto, pairwise_both}
+use Rattle.ifmap_ident.specs.SameLaws.{items_total}
 
 module _ {X : Type 0} (R : X → X → Ordering) where
   sorted_nil : IsStrictlySortedBy R []

@@ -1,14 +1,13 @@
 -- There is more room, or a shelf more: what is there stays, and others hold identifiers as often as before.
-use Rattle.std.proofs.Common.{◌≡◌, ℕ, ◌+◌, ◌*◌, ◌-◌, ◌^◌, ◌<◌, ◌≤◌, Bool, true, false, cond, Option, Some, None, IsSome, unwrap_or, List, [], ◌∷◌, ◌++◌, length, option_map, take, get_or, refl, ap, ◌∙◌, sym, subst, inl, inr, arith, add-one}
+use Rattle.std.proofs.Common.{◌≡◌, ℕ, ◌+◌, ◌*◌, ◌-◌, ◌^◌, ◌<◌, ◌≤◌, Bool, cond, Option, Some, None, IsSome, unwrap_or, List, [], ◌∷◌, ◌++◌, length, option_map, take, get_or, refl, ap, ◌∙◌, sym, subst, inl, inr, arith, add-one}
 use Rattle.std.proofs.lemmas.List.{append-nil, take_all}
 use Rattle.std.proofs.Math.Seq.{take-suc}
 use Rattle.std.specs.List.{AllByRecursion}
-use Rattle.std.specs.Ordering.{is_eq}
 use Rattle.ifmap_ident.specs.declared.identifiers.Identifier.{Identifier}
 use Rattle.ifmap_ident.specs.declared.items.Item.{Item}
 use Rattle.ifmap_ident.specs.declared.items.Item.TheVariants.{One, Pair}
 use Rattle.ifmap_ident.specs.Identifiers.{identifier_order}
-use Rattle.ifmap_pool.specs.Holdings.{Holdings, IsPool, Names, entry_at, holds_at, once}
+use Rattle.ifmap_pool.specs.Holdings.{Holdings, IsPool, Names, entry_at, holds_at}
 use Rattle.ifmap_view.specs.declared.views.LinkSeen.{LinkSeen}
 use Rattle.slab.specs.Slab.{get}
 use Rattle.ifmap_graph.specs.declared.shelves.Shelves.{Shelves}
@@ -22,6 +21,7 @@ use Rattle.ifmap_graph.proofs.Brought.{brings_both, brings_none, there_still}
 use Rattle.ifmap_graph.proofs.Changed.{held_alike, names_alike, roomier}
 use Rattle.ifmap_graph.proofs.Marks.{marked_more}
 use Rattle.ifmap_graph.proofs.Shelving.{Entries}
+use Rattle.ifmap_graph.specs.NumberLaws.{once_few}
 
 pub grown_itself : (p : Parts) → AreInside p → AreGrown p p
 grown_itself p is = record {
@@ -65,17 +65,9 @@ grown_room names more s links longer live pool same long is = record {
   own = λ a own h. held_alike names more live a (named_in s.places.entries a + own) h;
 }
 
--- an entry names an identifier twice at most
-once_most : (a b : Identifier) → once identifier_order a b ≤ 1
-once_most a b = by (is_eq (identifier_order a b))
-  where
-    by : (t : Bool) → cond t 1 0 ≤ 1
-    by true = omega arith
-    by false = omega arith
-
 by_most : (i : Item) (a : Identifier) → named_by i a ≤ 2
-by_most (One b) a = omega (arith, once_most b a)
-by_most (Pair b c) a = omega (arith, once_most b a, once_most c a)
+by_most (One b) a = omega (arith, once_few b a)
+by_most (Pair b c) a = omega (arith, once_few b a, once_few c a)
 
 in_most : (es : Entries) (a : Identifier) → named_in es a ≤ 2 * length es
 in_most [] a = omega arith

@@ -20,7 +20,8 @@ use Rattle.ifmap_view.specs.declared.attachments.Attachment.{Attachment}
 use Rattle.ifmap_view.specs.Attachments.{IsGraph, attachment_order, of_one_key, stored_order}
 use Rattle.ifmap_view.specs.Rows.{stored_on}
 use Rattle.ifmap_graph.proofs.Alike.{Tells, one_tied, pair_tied}
-use Rattle.ifmap_graph.proofs.Ordered.{equal_is, items_total, ties}
+use Rattle.ifmap_graph.proofs.Ordered.{equal_is}
+use Rattle.ifmap_ident.specs.SameLaws.{items_total, ties}
 
 tied_with : (x k : Item) → same_item k x ≡ true → item_order x k ≡ Equal
 tied_with x k e = equal_is (item_order x k) (ties x k ∙ e)

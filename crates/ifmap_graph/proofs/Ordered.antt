@@ -1,31 +1,17 @@
 -- The order of items, as entries of a map meet it.
-use Rattle.std.proofs.Common.{rules, ◌≡◌, true, false, List, [], ◌∷◌, ap, ◌∙◌, sym, refl}
-use Rattle.std.specs.BTreeMap.{is_at}
-use Rattle.std.specs.Cmp.{IsTotalOrder}
-use Rattle.std.specs.Cmp.Rules.{comparing}
+use Rattle.std.proofs.Common.{◌≡◌, true, false, List, [], ◌∷◌, ap, ◌∙◌, refl}
 use Rattle.std.specs.List.{AllByRecursion}
 use Rattle.std.specs.Ordering.{is_eq, ordering_reverse}
 use Rattle.std.specs.declared.cmp.Ordering.{Ordering}
 use Rattle.std.specs.declared.cmp.Ordering.TheVariants.{Less, Equal, Greater}
 use Rattle.ifmap_ident.specs.declared.items.Item.{Item}
-use Rattle.ifmap_ident.specs.Items.{item_order, items_tie, same_item}
-use Rattle.ifmap_lemmas.specs.Orderings.{eq_turned}
-
-pub items_total : IsTotalOrder item_order
-items_total = search (comparing, rules)
+use Rattle.ifmap_ident.specs.Items.{item_order}
+use Rattle.ifmap_ident.specs.SameLaws.{items_total}
 
 pub equal_is : (o : Ordering) → is_eq o ≡ true → o ≡ Equal
 equal_is Less e = let q : false ≡ true = e in cc
 equal_is Equal e = refl
 equal_is Greater e = let q : false ≡ true = e in cc
-
--- the test of a look-up is that of what is stored on an item
-pub ties : (item other : Item) → is_at (item_order item) other ≡ same_item other item
-ties item other = sym (items_tie other item ∙ ap is_eq (items_total.antisymm other item) ∙ eq_turned (item_order item other))
-
--- an item below another is not the same
-pub apart : (i y : Item) → item_order i y ≡ Less → same_item y i ≡ false
-apart i y e = sym (ties i y) ∙ ap is_eq e
 
 -- what is above an item is above those that tie with it
 pub above_tied : (i k : Item) (ys : List Item) → item_order i k ≡ Equal → AllByRecursion (λ y. item_order k y ≡ Less) ys

@@ -2,12 +2,12 @@
 -- Plan: (1) items that tie have the same stored on them; (2) of members and places; (3) where all shelves are bare none has a
 -- draft; (4) what is stored after one change, of those that are left; (5) change after change, until each item of the plan
 -- has its draft.
-use Rattle.std.proofs.Common.{◌≡◌, ◌⊎◌, ℕ, suc, ◌+◌, ◌<◌, ◌≤◌, zero, Bool, true, false, cond, Option, Some, None, IsSome, List, [], ◌∷◌, ◌++◌, map, length, get_or, take, drop, refl, ap, ◌∙◌, sym, subst, inl, inr, arith, add-one, drop-cons}
+use Rattle.std.proofs.Common.{◌≡◌, ◌⊎◌, ℕ, suc, ◌+◌, ◌<◌, ◌≤◌, zero, true, false, cond, Option, Some, None, IsSome, List, [], ◌∷◌, ◌++◌, length, get_or, take, drop, refl, ap, ◌∙◌, sym, subst, inl, inr, arith, add-one, drop-cons}
 use Rattle.std.proofs.lemmas.Bool.{cases_Bool}
 use Rattle.std.proofs.lemmas.List.{drop_all, take_all}
 use Rattle.std.proofs.Math.Seq.{take-suc}
 use Rattle.std.specs.BTreeMap.{is_at}
-use Rattle.std.specs.List.{AllByRecursion, IsDistinct, filter}
+use Rattle.std.specs.List.{AllByRecursion, IsDistinct}
 use Rattle.std.specs.Ordering.{is_eq}
 use Rattle.std.specs.declared.cmp.Ordering.TheVariants.{Equal}
 use Rattle.slab.specs.Slab.{get}
@@ -18,7 +18,6 @@ use Rattle.ifmap_meta.specs.declared.stored.Stored.{Stored}
 use Rattle.ifmap_plans.specs.declared.plans.ItemChange.{ItemChange}
 use Rattle.ifmap_plans.specs.Lists.{next_on}
 use Rattle.ifmap_plans.specs.Plans.{Fits, IsAfter, after_on, change_of, changed_by}
-use Rattle.ifmap_view.specs.declared.attachments.Attachment.{Attachment}
 use Rattle.ifmap_view.specs.Rows.{stored_on}
 use Rattle.ifmap_graph.specs.declared.shelves.Shelves.{Shelves}
 use Rattle.ifmap_graph.specs.Drafted.{AreBare, AreOut, DraftsWithin, NoDraft, ends_at}
@@ -29,26 +28,10 @@ use Rattle.ifmap_graph.specs.Waits.{waits_on}
 use Rattle.ifmap_graph.proofs.Accepting.{all_given, apart_parts}
 use Rattle.ifmap_graph.proofs.Bare.{sides_same}
 use Rattle.ifmap_graph.proofs.Finding.{live_at}
-use Rattle.ifmap_graph.proofs.Ordered.{equal_is, items_total, ties, turned_tie}
+use Rattle.ifmap_graph.proofs.Ordered.{equal_is, turned_tie}
 use Rattle.ifmap_lemmas.specs.Members.{all_last, all_of_map}
-
--- the tests of two items that tie
-same_test : (i x y : Item) → item_order i x ≡ Equal → same_item y i ≡ same_item y x
-same_test i x y e = sym (ties i y) ∙ ap is_eq (items_total.congr i x y e) ∙ ties x y
-
--- what is stored on what ties is the same
-pub stored_tied : (i x : Item) (rows : List Attachment) → item_order i x ≡ Equal → stored_on i rows ≡ stored_on x rows
-stored_tied i x [] e = refl
-stored_tied i x (r ∷ rs) e =
-    ap (λ b. map (λ (a : Attachment). a.stored) (cond b (r ∷ filter (λ a. same_item a.item i) rs) (filter (λ a. same_item a.item i) rs)))
-    (same_test i x r.item e)
-    ∙ by (same_item r.item x) (stored_tied i x rs e)
-  where
-    by : (b : Bool) → stored_on i rs ≡ stored_on x rs
-        → map (λ (a : Attachment). a.stored) (cond b (r ∷ filter (λ a. same_item a.item i) rs) (filter (λ a. same_item a.item i) rs))
-        ≡ map (λ (a : Attachment). a.stored) (cond b (r ∷ filter (λ a. same_item a.item x) rs) (filter (λ a. same_item a.item x) rs))
-    by true rest = ap (λ l. r.stored ∷ l) rest
-    by false rest = rest
+use Rattle.ifmap_ident.specs.SameLaws.{items_total}
+use Rattle.ifmap_plans.specs.laws.OnItemLaws.{stored_tied}
 
 -- items that both tie with a third tie
 pub tied_both : (i j x : Item) → is_at (item_order i) x ≡ true → same_item j x ≡ true → same_item i j ≡ true

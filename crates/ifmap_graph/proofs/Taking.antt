@@ -31,21 +31,16 @@ use Rattle.ifmap_graph.specs.Stays.{IsThere}
 use Rattle.ifmap_graph.specs.Turning.{AreDrafted, AreWithin, NoOthers, accept_each, backs, restore_each}
 use Rattle.ifmap_graph.specs.Waits.{times_in, waits_on}
 use Rattle.ifmap_graph.proofs.Accepting.{maps_join}
-use Rattle.ifmap_graph.proofs.Alike.{stored_alike}
 use Rattle.ifmap_graph.proofs.Backs.{links_stay}
 use Rattle.ifmap_graph.proofs.Bare.{list_bare, no_draft}
 use Rattle.ifmap_graph.proofs.Finding.{absent, found}
 use Rattle.ifmap_graph.proofs.Graphs.{graph_is}
 use Rattle.ifmap_graph.proofs.Insides.{rows_shown}
-use Rattle.ifmap_graph.proofs.Ordered.{equal_is, items_total, ties}
+use Rattle.ifmap_graph.proofs.Ordered.{equal_is}
 use Rattle.ifmap_graph.proofs.Seeing.{links_by_items, seen_of, stays_there}
 use Rattle.ifmap_graph.proofs.Settled.{waits_shown}
 use Rattle.ifmap_graph.proofs.Turns.{backs_within, gone_again, same_length}
-
--- what is stored on items that tie is the same
-pub tied_stored : (x y : Item) (rows : List Attachment) → item_order x y ≡ Equal → stored_on x rows ≡ stored_on y rows
-tied_stored x y rows e =
-    stored_alike x y (λ z. sym (ties x z) ∙ ap is_eq (items_total.congr x y z e) ∙ ties y z) rows
+use Rattle.ifmap_plans.specs.laws.OnItemLaws.{stored_tied}
 
 -- lists that are those of attachments stand again: on these items they do, and elsewhere nothing has changed
 stands_again : (rows : List Attachment) (items : List Item) (x : Item) (before : List Stored)
@@ -53,7 +48,7 @@ stands_again : (rows : List Attachment) (items : List Item) (x : Item) (before :
     → stand_each items (map (λ i. stored_on i rows) items) x before ≡ stored_on x rows
 stands_again rows [] x before f = f refl
 stands_again rows (i ∷ is) x before f = elim (cases_Bool (is_at (item_order i) x)) [
-  | inl t ↦ rw t (stands_again rows is x (stored_on i rows) (λ e. tied_stored i x rows (equal_is (item_order i x) t)))
+  | inl t ↦ rw t (stands_again rows is x (stored_on i rows) (λ e. stored_tied i x rows (equal_is (item_order i x) t)))
   | inr n ↦ rw n (stands_again rows is x before (λ e. f (rw n (omega (arith, e)))))
 ]
 

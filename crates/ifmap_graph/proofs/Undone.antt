@@ -36,13 +36,13 @@ use Rattle.ifmap_graph.proofs.Insides.{named_shown, rows_shown}
 use Rattle.ifmap_graph.proofs.Lessening.{waited_there}
 use Rattle.ifmap_graph.proofs.Moved.{inside_anew, placed_still, side_moved, used_still}
 use Rattle.ifmap_graph.proofs.OnItems.{list_on, rows_same}
-use Rattle.ifmap_graph.proofs.Ordered.{items_total}
 use Rattle.ifmap_graph.proofs.Seeing.{links_by_slots, seen_of, stays_there}
 use Rattle.ifmap_graph.proofs.Settled.{bare_to, held_of, waits_shown}
 use Rattle.ifmap_graph.proofs.Shelving.{Entries}
 use Rattle.ifmap_graph.proofs.Staying.{ends_of}
 use Rattle.ifmap_graph.proofs.Taking.{has_times}
 use Rattle.ifmap_graph.proofs.Turns.{next_of_bare, restored_drafts, restored_length}
+use Rattle.ifmap_ident.specs.SameLaws.{items_total}
 
 -- links that are alike at each number
 links_alike : (rows : List Attachment) (links moved : ℕ → List LinkSeen) (h : Held) → ((v : ℕ) → moved v ≡ links v)

@@ -29,9 +29,10 @@ use Rattle.ifmap_view.specs.Views.{IsLink, others}
 use Rattle.ifmap_graph.specs.Joined.{AreJoined, AreSingle, IsNumber, is_full, full_some, some_full}
 use Rattle.ifmap_graph.specs.Linked.{AreListed, Ends, ats}
 use Rattle.ifmap_graph.specs.Shelved.{Rises, rows_by}
-use Rattle.ifmap_graph.proofs.Alike.{Alike, Tells, one_tied, order_alike, pair_less, pair_more, pair_tied, pairs_tie, same_pair, stored_alike, turned_order}
+use Rattle.ifmap_graph.proofs.Alike.{Alike, Tells, one_tied, order_alike, pair_less, pair_more, pair_tied, pairs_tie, same_pair, stored_alike}
 use Rattle.ifmap_graph.proofs.Following.{entry_hits, lookup_tied, looked_up, stands}
 use Rattle.ifmap_graph.proofs.Finding.{absent, found}
+use Rattle.ifmap_ident.specs.SameLaws.{turned_order}
 
 never_other : (n : ℕ) → nat_eq n n ≡ false → ⊥
 never_other n e = grind (arith, nat_tests)

@@ -7,7 +7,7 @@ use Rattle.std.specs.Ordering.{is_eq}
 use Rattle.ifmap_ident.specs.declared.items.Item.{Item}
 use Rattle.ifmap_ident.specs.Items.{item_order}
 use Rattle.ifmap_graph.specs.Waits.{times_in}
-use Rattle.ifmap_graph.proofs.Ordered.{items_total}
+use Rattle.ifmap_ident.specs.SameLaws.{items_total}
 
 module _ (old new : Item → ℕ) (item : Item) (before after : ℕ)
     (had : (x : Item) → is_at (item_order item) x ≡ true → old x ≡ before) (has : (x : Item) → is_at (item_order item) x ≡ true

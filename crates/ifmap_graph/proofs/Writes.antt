@@ -22,9 +22,10 @@ use Rattle.ifmap_graph.specs.declared.shelves.Shelf.{Shelf}
 use Rattle.ifmap_graph.specs.Shelved.{IsPlaced, Side, list_at, row_on, rows_by}
 use Rattle.ifmap_graph.specs.Waits.{waits_at, waits_of, waits_there}
 use Rattle.ifmap_graph.proofs.Following.{lookup_tied, looked_up}
-use Rattle.ifmap_graph.proofs.Ordered.{equal_is, items_total, turned_tie}
+use Rattle.ifmap_graph.proofs.Ordered.{equal_is, turned_tie}
 use Rattle.ifmap_graph.proofs.Finding.{absent, found, live_at}
 use Rattle.ifmap_graph.proofs.Shelving.{Entries, slots_first, slots_of}
+use Rattle.ifmap_ident.specs.SameLaws.{items_total}
 
 -- a slot that no entry has is none of these entries'
 no_entry : (m n : ℕ) (k : Item) (es : Entries) → AllByRecursion (λ y. nat_eq m y ≡ false) (slots_of es) → Has es (k, n) → m ≡ n → ⊥

@@ -19,3 +19,4 @@ pub mod Seen
 pub mod Stays
 pub mod Releasing
 pub mod Back
+pub mod NumberLaws

@@ -1,7 +1,6 @@
 -- What is left of the facts about a graph as a change comes to be out, is made, stays or goes.
-use Rattle.std.proofs.Common.{◌≡◌, List, [], append-nil, subst, sym, arith}
+use Rattle.std.proofs.Common.{◌≡◌, List, [], subst, sym, arith}
 use Rattle.ifmap_ident.specs.declared.identifiers.Identifier.{Identifier}
-use Rattle.ifmap_ident.specs.declared.items.Item.{Item}
 use Rattle.ifmap_graph.specs.Back.{IsWayBack}
 use Rattle.ifmap_graph.specs.declared.changes.Ready.{Ready}
 use Rattle.ifmap_graph.specs.declared.changes.Undo.{Undo}
@@ -11,14 +10,12 @@ use Rattle.ifmap_graph.specs.Seen.{Awaits, AwaitsMore, HasFewOwn, IsStill, Keeps
 use Rattle.ifmap_plans.specs.declared.plans.Plan.{Plan}
 use Rattle.ifmap_plans.specs.Plans.{AreWhole, Fits, IsAfter}
 use Rattle.ifmap_view.specs.declared.attachments.Attachment.{Attachment}
-use Rattle.ifmap_graph_tests.proofs.Whole.{whole_after}
 use Rattle.ifmap_graph_tests.specs.Steady.{IsBegun, IsMade, IsSteady, OwnsNothing}
+use Rattle.ifmap_plans.specs.laws.OnItemLaws.{whole_after}
+use Rattle.ifmap_graph.specs.NumberLaws.{awaits_these}
 
 awaits_none : (h : Held) → Awaits [] h
 awaits_none h x = omega arith
-
-awaits_these : (items : List Item) (old new : Held) → AwaitsMore items old new → Awaits items new
-awaits_these items old new more = subst (λ (xs : List Item). Awaits xs new) (append-nil items) (more [] (awaits_none old))
 
 pub few_own : (h : Held) → OwnsNothing h → HasFewOwn h
 few_own h own = λ (a : Identifier). (0, own a, omega arith)

@@ -53,7 +53,7 @@ pub(crate) fn take_body<S: Source>(
 }
 
 // Reads what a body lacks of its size.
-#[tactic(auto, using(crate::proofs::Taking::rose_since))]
+#[tactic(auto, using(ifmap_io::specs::Rises::rose_since))]
 fn fill_body<S: Source>(mut body: Vec<u8>, source: &mut S, size: usize) -> Result<Vec<u8>, Unread>
     requires { vec_len body ≤ size }
     ensures body { IfOk result (λ whole. (vec_len whole ≡ size)

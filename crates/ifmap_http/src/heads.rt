@@ -65,7 +65,7 @@ pub(crate) fn await_post<S: Source>(
 }
 
 // Waits for the head of a post, of which some bytes were looked at.
-#[tactic(auto, using(crate::proofs::Taking::takes_nothing, crate::proofs::Taking::takes_more, crate::proofs::Taking::rose_since))]
+#[tactic(auto, using(crate::proofs::Taking::takes_nothing, crate::proofs::Taking::takes_more, ifmap_io::specs::Rises::rose_since))]
 fn await_more<S: Source>(
     alloc: Global,
     progress: Progress,
@@ -137,7 +137,7 @@ fn end_post(alloc: Global, bytes: &[u8]) -> AwaitedPost
 }
 
 // Waits for the head of an answer.
-#[tactic(auto, using(crate::proofs::Taking::takes_nothing, crate::proofs::Taking::takes_more, crate::proofs::Taking::rose_since))]
+#[tactic(auto, using(crate::proofs::Taking::takes_nothing, crate::proofs::Taking::takes_more, ifmap_io::specs::Rises::rose_since))]
 pub(crate) fn await_answer<S: Source>(buffer: &mut Buffer, source: &mut S) -> AwaitedAnswer
     ensures taken { UnlessAnswerFails result
         (Takes (S.left source.old) (S.left source.new) buffer.old buffer.new) }

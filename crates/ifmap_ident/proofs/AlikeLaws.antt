@@ -18,6 +18,7 @@ use Rattle.ifmap_ident.specs.Written.{IsTyped, closed_text, domain_written, iden
 use Rattle.ifmap_ident.proofs.OptionalLaws.{optional_alike}
 use Rattle.ifmap_ident.proofs.PlacedLaws.{text_alike}
 use Rattle.ifmap_ident.proofs.PrintedLaws.{printed}
+use Rattle.ifmap_ident.proofs.KindLaws.{types_are_one}
 
 -- ---- types of identities
 
@@ -43,9 +44,6 @@ type_of_name Username = refl
 type_of_name SipUri = refl
 type_of_name TelUri = refl
 type_of_name Other = refl
-
-names_tell : (k l : IdentityType) → identity_type_name k ≡ identity_type_name l → k ≡ l
-names_tell k l e = sym (type_of_name k) ∙ ap by_letters e ∙ type_of_name l
 
 -- ---- parts in a row
 
@@ -79,7 +77,7 @@ identities_alike n k u d m l v e h =
     ++ other_end v l)) (omega arith) (ap (drop 9) h) in
     let names = text_alike Value n m (other_end u k) (other_end v l) (ap (drop 5) domains.1) in
     let others = optional_alike 111 116 (codes "ther-type-definition") u v (type_end k) (type_end l) (omega arith) names.1 in
-    let types = names_tell k l (text_alike Value (identity_type_name k) (identity_type_name l) (codes "/>") (codes "/>") (ap
+    let types = types_are_one k l (text_alike Value (identity_type_name k) (identity_type_name l) (codes "/>") (codes "/>") (ap
     (drop 5) others.1)).0 in
     λ i. Identity (names.0 i) (types i) (others.0 i) (domains.0 i)
 

@@ -43,9 +43,10 @@ use Rattle.ifmap_ident.specs.Parts.{is_solid, value_of}
 use Rattle.ifmap_ident.proofs.FindLaws.{bare_itself}
 use Rattle.ifmap_ident.proofs.PrintedLaws.{arranged_outer, inner, outer}
 use Rattle.ifmap_ident.proofs.ValueLaws.{address_characters, definition_characters, domain_characters, kept_characters, value_characters}
-use Rattle.ifmap_ident.proofs.Utf8Laws.{is_plain, plain_characters}
 use Rattle.ifmap_lemmas.specs.Members.{all_both, all_of_test, both_all}
 use Rattle.ifmap_lemmas.specs.Texts.{ascii_encoded, eq_itself, is_ascii}
+use Rattle.ifmap_elem.specs.laws.CharacterLaws.{is_plain, plain_characters}
+use Rattle.ifmap_elem.specs.laws.BareNames.{another_bare}
 
 -- ---- order and levels
 
@@ -97,9 +98,6 @@ element_levels_within (MacAddress value domain) = one_level (identifier_element 
 
 another_text : (one other : List ℕ) → bytes_eq one one ≡ true → bytes_eq one other ≡ false → one ≢ other
 another_text one other here there e = let q : bytes_eq one one ≡ bytes_eq one other = ap (bytes_eq one) e in cc
-
-another_bare : (one : List ℕ) (n : Name) → is_bare one (bare_name one) ≡ true → is_bare one n ≡ false → bare_name one ≢ n
-another_bare one n here there e = let q : is_bare one (bare_name one) ≡ is_bare one n = ap (is_bare one) e in cc
 
 no_namespace : IsNamespace []
 no_namespace = record { characters = ([], refl, tt); not_reserved = another_text [] xmlns_space refl refl }

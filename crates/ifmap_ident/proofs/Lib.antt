@@ -1,4 +1,3 @@
-pub mod AgainLaws
 pub mod AlikeLaws
 pub mod BackLaws
 pub mod BlockLaws

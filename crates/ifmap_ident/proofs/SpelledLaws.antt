@@ -10,7 +10,7 @@ use Rattle.ifmap_reader.specs.Reads.{IsRead}
 use Rattle.ifmap_reader.specs.declared.errors.ReadError.{ReadError}
 use Rattle.ifmap_reader.specs.declared.errors.ReadError.TheVariants.{Unreadable}
 use Rattle.ifmap_ident.specs.IdentityNames.{IsSpelledName}
-use Rattle.ifmap_ident.proofs.AgainLaws.{printed_again}
+use Rattle.ifmap_elem.specs.laws.AgainLaws.{printed_again}
 
 -- a text that is not read spells no name
 pub not_spelled : (bytes : List ℕ) (r : Result Reading ReadError) (at : ℕ) → r ≡ Err (Unreadable at) → IsRead bytes 64 r

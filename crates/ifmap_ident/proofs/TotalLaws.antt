@@ -15,14 +15,12 @@ use Rattle.ifmap_elem.specs.Canonical.{canonical_bytes}
 use Rattle.ifmap_elem.specs.Folds.{each_child}
 use Rattle.ifmap_elem.specs.Nesting.{nesting}
 use Rattle.ifmap_elem.specs.Spells.{Spells}
-use Rattle.ifmap_elem.specs.declared.elements.Child.{Child, out-Child}
+use Rattle.ifmap_elem.specs.declared.elements.Child.{Child}
 use Rattle.ifmap_elem.specs.declared.elements.Child as the
-use Rattle.ifmap_elem.specs.declared.elements.Child.TheOpen.{Child-F}
 use Rattle.ifmap_elem.specs.declared.elements.Element.{Element}
 use Rattle.ifmap_elem.specs.declared.elements.Name.{Name}
 use Rattle.ifmap_elem.specs.declared.readings.Reading.{Reading}
 use Rattle.ifmap_elem.specs.laws.ArrangedLaws.{one_element}
-use Rattle.ifmap_elem.specs.laws.FitLaws.{out_element, out_text}
 use Rattle.ifmap_elem.specs.laws.OneReading.{one_reading}
 use Rattle.ifmap_ident.specs.declared.errors.IdentError.{IdentError}
 use Rattle.ifmap_ident.specs.declared.errors.IdentError.TheVariants.{WrongKind, Invalid, TooLong, NoMemory}
@@ -46,6 +44,7 @@ use Rattle.ifmap_ident.proofs.KindLaws.{kind_found, no_kind, no_type, one_value,
 use Rattle.ifmap_ident.proofs.MeaningLaws.{meaning_of_parts, no_access_request, no_device, no_identity, no_ip_address, no_mac_address, nothing, refused_meaning, unknown_attribute}
 use Rattle.ifmap_ident.proofs.SingleLaws.{one_definition, one_kept, one_member, one_of, one_text}
 use Rattle.ifmap_lemmas.specs.Deciding.{Decided, decided_both, decided_by, decided_not, decided_test, same_or_not, within_or_not}
+use Rattle.ifmap_elem.specs.laws.NamedElements.{no_text}
 
 -- ---- what is one at most, and has more
 
@@ -88,23 +87,19 @@ IsEither c = ((e : Element) × (c ≡ the.Element e)) ⊎ ((t : List ℕ) × (c 
 either : (c : Child) → IsEither c
 either = each_child IsEither (λ e. Unit {0}) (λ e u. inl (e, refl)) (λ t. inr (t, refl)) (λ e each. tt)
 
-text_is_no_element : (t : List ℕ) (e : Element) → the.Text t ≡ the.Element e → ⊥
-text_is_no_element t e same =
-    let parts : Child-F.Text t ≡ Child-F.Element e = sym (out_text t) ∙ ap out-Child same ∙ out_element e in cc
-
 only_element : (cs : List Child) → Decided ((child : Element) × (cs ≡ the.Element child ∷ []))
 only_element [] = inr (λ p. let e : [] ≡ the.Element p.0 ∷ [] = p.1 in cc)
 only_element (c ∷ (d ∷ cs)) = inr (λ p. let e : c ∷ (d ∷ cs) ≡ the.Element p.0 ∷ [] = p.1 in cc)
 only_element (c ∷ []) = elim (either c) [
   | inl e ↦ inl (e.0, ap (λ x. x ∷ []) e.1)
-  | inr t ↦ inr (λ p. text_is_no_element t.0 p.0 (sym t.1 ∙ one_member c (the.Element p.0) p.1))
+  | inr t ↦ inr (λ p. no_text t.0 p.0 (sym t.1 ∙ one_member c (the.Element p.0) p.1))
 ]
 
 only_text : (cs : List Child) → Decided ((text : List ℕ) × (cs ≡ the.Text text ∷ []))
 only_text [] = inr (λ p. let e : [] ≡ the.Text p.0 ∷ [] = p.1 in cc)
 only_text (c ∷ (d ∷ cs)) = inr (λ p. let e : c ∷ (d ∷ cs) ≡ the.Text p.0 ∷ [] = p.1 in cc)
 only_text (c ∷ []) = elim (either c) [
-  | inl e ↦ inr (λ p. text_is_no_element p.0 e.0 (sym (one_member c (the.Text p.0) p.1) ∙ e.1))
+  | inl e ↦ inr (λ p. no_text p.0 e.0 (sym (one_member c (the.Text p.0) p.1) ∙ e.1))
   | inr t ↦ inl (t.0, ap (λ x. x ∷ []) t.1)
 ]
 

@@ -4,14 +4,10 @@
 -- 3. So is each part of a token: an assignment, a tag, a setting of the declaration.
 -- 4. So is each token before such, and then a list of tokens up to the end.
 -- 5. The canonical bytes of an element that fits spell it, and begin with no byte order mark.
-use Rattle.std.proofs.Common.{◌≡◌, ℕ, ◌≤◌, ◌==◌, ◌&&◌, ◌||◌, true, Bool, List, [], ◌∷◌, ◌++◌, map, codes, refl, sym, subst, ◌∙◌, ◌⊎◌, inl, inr, arith}
+use Rattle.std.proofs.Common.{◌≡◌, ℕ, ◌==◌, ◌||◌, true, List, [], ◌∷◌, ◌++◌, map, codes, refl, sym, subst, ◌⊎◌, inl, inr, arith}
 use Rattle.std.specs.Prelude.{IsUtf8}
 use Rattle.std.specs.Char.{to_ascii_uppercase}
-use Rattle.std.specs.Str.{all_scalars}
-use Rattle.std.proofs.Math.Utf8.{low_scalar, scalar}
-use Rattle.std.proofs.lemmas.Bool.{and_from, and_parts, cases_lt}
 use Rattle.std.proofs.lemmas.Bool.Decides.{nat_tests}
-use Rattle.std.proofs.lemmas.Str.{encodes-append}
 use Rattle.ifmap_elem.specs.declared.elements.Element.{Element}
 use Rattle.ifmap_elem.specs.declared.tokens.Assignment.{Assignment}
 use Rattle.ifmap_elem.specs.declared.tokens.Qualified.{Qualified}
@@ -19,60 +15,20 @@ use Rattle.ifmap_elem.specs.declared.tokens.Tag.{Tag}
 use Rattle.ifmap_elem.specs.declared.tokens.Token.{Token}
 use Rattle.ifmap_elem.specs.declared.tokens.Token.TheVariants.{Declaration, Comment, Start, Empty, End, Section, Characters}
 use Rattle.ifmap_elem.specs.Canonical.{canonical_bytes, canonical_reading}
-use Rattle.ifmap_elem.specs.Chars.{AllAre, IsCharacters, IsWhite, colon, double_quote, equals_sign, is_character, is_white, less_than, single_quote}
+use Rattle.ifmap_elem.specs.Chars.{AllAre, IsCharacters, IsWhite, colon, double_quote, equals_sign, is_white, less_than, single_quote}
 use Rattle.ifmap_elem.specs.Fit.{IsFit}
 use Rattle.ifmap_elem.specs.laws.CanonicalSpells.{canonical_spelled}
-use Rattle.ifmap_elem.specs.Names.{IsNamePart, IsQualified, is_name_character, is_name_start, name_bytes, with_prefix}
+use Rattle.ifmap_elem.specs.Names.{IsQualified, name_bytes, with_prefix}
 use Rattle.ifmap_elem.specs.Spells.{Spells}
 use Rattle.ifmap_elem.specs.Tokens.{TakesAssignment, TakesBetween, TakesDeclaration, TakesEnd, TakesOptional, TakesQuoted, TakesSetting, TakesTag, TakesToken}
 use Rattle.ifmap_lemmas.specs.Items.{To}
-use Rattle.ifmap_lemmas.specs.Members.{all_append, all_of_test, all_weaker}
-use Rattle.ifmap_lemmas.specs.Texts.{ascii_encoded, is_ascii}
+use Rattle.ifmap_lemmas.specs.Members.{all_of_test}
+use Rattle.ifmap_elem.specs.laws.CharacterLaws.{is_plain, plain_characters, characters_both, characters_are_utf8, part_characters}
 
 -- ---- characters
 
--- a byte of ASCII that is a character
-abbrev pub is_plain : ℕ → Bool
-is_plain b = is_ascii b && is_character b
-
-pub plain_characters : (bs : List ℕ) → AllAre is_plain bs → IsCharacters bs
-plain_characters bs f = (
-  bs,
-  ascii_encoded bs (all_weaker is_plain is_ascii (λ b h. (and_parts (is_ascii b) (is_character b) h).0) bs f),
-  all_weaker is_plain is_character (λ b h. (and_parts (is_ascii b) (is_character b) h).1) bs f,
-)
-
 pub no_characters : IsCharacters []
 no_characters = ([], refl, tt)
-
-pub characters_both : (a b : List ℕ) → IsCharacters a → IsCharacters b → IsCharacters (a ++ b)
-characters_both a b i j = (i.0 ++ j.0, encodes-append i.0 j.0 ∙ (λ k. i.1 k ++ j.1 k), all_append is_character i.0 j.0 i.2 j.2)
-
-high_character : (c : ℕ) → 55296 ≤ c → is_character c ≡ true → scalar c ≡ true
-high_character c g h = grind (arith, nat_tests)
-
-character_scalar : (c : ℕ) → is_character c ≡ true → scalar c ≡ true
-character_scalar c h = elim (cases_lt c 55296) [ inl l ↦ low_scalar c l | inr g ↦ high_character c g h ]
-
-character_scalars : (cs : List ℕ) → AllAre is_character cs → all_scalars cs ≡ true
-character_scalars [] f = refl
-character_scalars (c ∷ cs) f = and_from (scalar c) (all_scalars cs) (character_scalar c f.0) (character_scalars cs f.1)
-
-characters_utf8 : (bs : List ℕ) → IsCharacters bs → IsUtf8 bs
-characters_utf8 bs i = (i.0, (character_scalars i.0 i.2, i.1))
-
-name_character : (c : ℕ) → is_name_character c ≡ true → is_character c ≡ true
-name_character c h = grind (arith, nat_tests)
-
-start_character : (c : ℕ) → is_name_start c ≡ true → is_character c ≡ true
-start_character c h = grind (arith, nat_tests)
-
-part_characters : (bs : List ℕ) → IsNamePart bs → IsCharacters bs
-part_characters bs p = (
-  p.first ∷ p.others,
-  p.bytes_are,
-  (start_character p.first p.begins, all_weaker is_name_character is_character name_character p.others p.goes_on),
-)
 
 -- ---- what stands before characters
 
@@ -220,4 +176,4 @@ canonical_characters e fit =
     tokens_characters (canonical_bytes e) s.tokens s.lexed
 
 pub canonical_utf8 : (e : Element) → IsFit e → IsUtf8 (canonical_bytes e)
-canonical_utf8 e fit = characters_utf8 (canonical_bytes e) (canonical_characters e fit)
+canonical_utf8 e fit = characters_are_utf8 (canonical_bytes e) (canonical_characters e fit)

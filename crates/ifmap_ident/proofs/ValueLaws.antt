@@ -3,15 +3,14 @@
 -- 2. A value that an element gives: a name, a type, a definition, a domain.
 -- 3. The name of a domain, character by character: the full stops at its end are cut, and its letters are lowered.
 -- 4. So is the name that is kept, also where it is the canonical bytes of an element.
-use Rattle.std.proofs.Common.{◌≡◌, ℕ, ◌<◌, ◌≤◌, ◌==◌, ◌&&◌, Bool, true, false, not, cond, List, [], ◌∷◌, ◌++◌, map, length, get_or, Option, None, Some, option_map, codes, unwrap_or, refl, sym, ◌∙◌, ap, subst, inl, inr, arith, append-nil}
+use Rattle.std.proofs.Common.{◌≡◌, ℕ, ◌<◌, ◌≤◌, ◌==◌, ◌&&◌, Bool, true, false, not, cond, List, [], ◌∷◌, ◌++◌, map, Option, None, Some, option_map, codes, unwrap_or, refl, sym, ◌∙◌, ap, subst, inl, inr, arith}
 use Rattle.std.specs.Prelude.{encode_utf8, encode_utf8_all}
 use Rattle.std.specs.Char.{to_ascii_lowercase}
 use Rattle.std.specs.List.{AllByRecursion, find, list_all}
 use Rattle.std.proofs.lemmas.Bool.{cases_Bool, cases_lt, not-true}
 use Rattle.std.proofs.lemmas.Bool.Decides.{nat_tests}
 use Rattle.std.proofs.lemmas.List.{map-append}
-use Rattle.std.proofs.lemmas.List.Elements.{recursion_from_All, All-from_get_or}
-use Rattle.std.proofs.lemmas.Str.{encode_ascii, inside_one}
+use Rattle.std.proofs.lemmas.Str.{encode_ascii}
 use Rattle.ifmap_elem.specs.Building.{is_bare}
 use Rattle.ifmap_elem.specs.Chars.{AllAre, IsCharacters, is_character}
 use Rattle.ifmap_elem.specs.Fit.{IsFit, IsFitAttribute}
@@ -29,11 +28,12 @@ use Rattle.ifmap_ident.specs.IdentityNames.{IsKept, domain_name, without_last_do
 use Rattle.ifmap_ident.specs.Parts.{value_of}
 use Rattle.ifmap_ident.proofs.DotLaws.{dot_encoded, is_dot}
 use Rattle.ifmap_ident.proofs.KindLaws.{one_value}
-use Rattle.ifmap_ident.proofs.Utf8Laws.{canonical_characters, characters_both, is_plain, no_characters, plain_characters}
+use Rattle.ifmap_ident.proofs.Utf8Laws.{canonical_characters, no_characters}
 use Rattle.ifmap_lemmas.specs.Numbers.{is_number}
 use Rattle.ifmap_addresses.specs.Values.{IsAddressByte}
 use Rattle.ifmap_lemmas.specs.Filters as filters
 use Rattle.ifmap_lemmas.specs.Texts.{ascii_encoded, is_ascii}
+use Rattle.ifmap_elem.specs.laws.CharacterLaws.{is_plain, plain_characters, characters_both, character_passes, one_character}
 
 -- ---- addresses
 
@@ -90,21 +90,6 @@ definition_characters types.SipUri given other f d = subst IsCharacters (sym d) 
 definition_characters types.TelUri given other f d = subst IsCharacters (sym d) no_characters
 
 -- ---- names of domains
-
--- a test that all bytes beyond ASCII pass is passed by all bytes of a character that passes
-character_passes : (p : ℕ → Bool) → ((b : ℕ) → 128 ≤ b → p b ≡ true) → (c : ℕ) → p c ≡ true → AllAre p (encode_utf8 c)
-character_passes p high c h =
-    let P : ℕ → Type 0 = λ b. p b ≡ true in
-    recursion_from_All P (encode_utf8 c) (All-from_get_or P (encode_utf8 c) 0 (λ k l. at_place k l))
-  where
-    at_place : (k : ℕ) → k < length (encode_utf8 c) → p (get_or (encode_utf8 c) k 0) ≡ true
-    at_place k l = elim (cases_lt (get_or (encode_utf8 c) k 0) 128) [
-      | inl low ↦ subst (λ (n : ℕ). p n ≡ true) (inside_one c [] (encode_utf8 c) k (sym (append-nil (encode_utf8 c))) l low) h
-      | inr g ↦ high (get_or (encode_utf8 c) k 0) g
-    ]
-
-one_character : (c : ℕ) → is_character c ≡ true → IsCharacters (encode_utf8 c)
-one_character c h = (c ∷ [], append-nil (encode_utf8 c), (h, tt))
 
 over_step : (t u : Bool) (b : ℕ) (ys zs : List ℕ) → t ≡ false → ys ≡ zs → cond (t && u) [] (b ∷ ys) ≡ b ∷ zs
 over_step true u b ys zs e q = absurd cc

@@ -9,3 +9,4 @@ pub mod Leading
 pub mod Meaning
 pub mod Parts
 pub mod Written
+pub mod SameLaws

@@ -6,3 +6,4 @@ pub mod Links
 pub mod Memory
 pub mod Tcp
 pub mod Written
+pub mod Rises

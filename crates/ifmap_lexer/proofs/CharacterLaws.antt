@@ -1,11 +1,11 @@
 -- Which bytes are characters of a document.
-use Rattle.std.proofs.Common.{◌≡◌, ◌≢◌, ℕ, ◌+◌, ◌<◌, ◌≤◌, Bool, true, false, List, [], ◌∷◌, length, get_or, take, refl, ap, sym, ◌∙◌}
+use Rattle.std.proofs.Common.{◌≡◌, ◌≢◌, ℕ, ◌+◌, ◌<◌, ◌≤◌, Bool, true, false, List, [], ◌∷◌, length, get_or, take, ap, sym, ◌∙◌}
 use Rattle.std.proofs.Common.{subst, arith, ◌⊎◌, inl, inr}
 use Rattle.std.specs.Prelude.{encode_utf8, encode_utf8_all, IsTrue, ◌↔◌, IsUtf8}
 use Rattle.std.specs.Str.{chars, all_scalars}
 use Rattle.std.specs.List.{list_all}
-use Rattle.std.proofs.Math.Utf8.{scalar, scalar_cases, low_scalar, encode}
-use Rattle.std.proofs.lemmas.Bool.{cases_lt, and_from, and_parts}
+use Rattle.std.proofs.Math.Utf8.{scalar, scalar_cases, encode}
+use Rattle.std.proofs.lemmas.Bool.{cases_lt, and_parts}
 use Rattle.std.proofs.lemmas.Bool.Decides.{nat_tests}
 use Rattle.std.proofs.lemmas.Str.{encode_ascii, encodes-chars, chars_from_encodes}
 use Rattle.std.proofs.lemmas.List.{take_more}
@@ -13,19 +13,6 @@ use Rattle.ifmap_elem.specs.Chars.{AllAre, IsCharacters, is_character}
 use Rattle.ifmap_lemmas.specs.Members.{all_append}
 use Rattle.ifmap_lexer.specs.Common.{is_common}
 use Rattle.ifmap_lexer.proofs.Basics.{each, of_each, all_front, all_back}
-
-high_is_scalar : (c : ℕ) → 55296 ≤ c → is_character c ≡ true → scalar c ≡ true
-high_is_scalar c g h = grind (arith, nat_tests)
-
-character_is_scalar : (c : ℕ) → is_character c ≡ true → scalar c ≡ true
-character_is_scalar c h = elim (cases_lt c 55296) [ inl l ↦ low_scalar c l | inr g ↦ high_is_scalar c g h ]
-
-characters_are_scalars : (cs : List ℕ) → AllAre is_character cs → all_scalars cs ≡ true
-characters_are_scalars [] f = refl
-characters_are_scalars (c ∷ cs) f = and_from (scalar c) (all_scalars cs) (character_is_scalar c f.0) (characters_are_scalars cs f.1)
-
-pub characters_are_utf8 : (bytes : List ℕ) → IsCharacters bytes → IsUtf8 bytes
-characters_are_utf8 bytes i = (i.0, (characters_are_scalars i.0 i.2, i.1))
 
 pub tells_characters : (text : List ℕ) (r : Bool) → IsUtf8 text → r ≡ list_all is_character (chars text) → IsTrue r ↔ IsCharacters text
 tells_characters text r u e = (

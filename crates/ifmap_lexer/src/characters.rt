@@ -5,7 +5,7 @@ ghost use Rattle.ifmap_elem.specs.Chars.{AllAre, IsCharacters, is_character};
 ghost use Rattle.ifmap_lexer.specs.Common.{is_common};
 
 // The bytes as text, where they are characters that a document can have.
-#[tactic(auto, using(crate::proofs::CharacterLaws::characters_are_utf8))]
+#[tactic(auto, using(ifmap_elem::specs::laws::CharacterLaws::characters_are_utf8))]
 pub(crate) fn characters(bytes: &[u8]) -> Option<&str>
     ensures found { IfSome result (λ text. (text.now ≡ bytes.now) × IsCharacters bytes.now) }
     ensures none { IfNone result (IsCharacters bytes.now → ⊥) }

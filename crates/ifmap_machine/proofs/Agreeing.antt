@@ -22,7 +22,7 @@ use Rattle.ifmap_machine.specs.Subscribing.{Told, begin_name, drop_name, is_full
 use Rattle.ifmap_machine.specs.Telling.{is_overfull, is_overrun, is_too_big, overflow, overflow_session, tell, tell_session, told_in}
 use Rattle.ifmap_machine.specs.Telling.{too_big_item}
 use Rattle.ifmap_machine.proofs.Folding.{AreOf, Folds, dropped_stay, fold_joined, other_stays, told_all}
-use Rattle.ifmap_machine.proofs.Ids.{find_has, ids_tell, one_of_serial}
+use Rattle.ifmap_machine.proofs.Ids.{find_has, one_of_serial}
 use Rattle.ifmap_machine.proofs.Standing.{IsStood}
 use Rattle.ifmap_machine.proofs.Tables.{IsTabled, overflow_keeps}
 use Rattle.ifmap_plans.specs.declared.plans.Note.{Note}
@@ -35,6 +35,7 @@ use Rattle.ifmap_search.specs.declared.searches.Search.{Search}
 use Rattle.ifmap_session.specs.Sessions.{Session, change, is_named, is_text, session_with_id, without_items}
 use Rattle.ifmap_session.specs.laws.TextLaws.{text_flip, text_is, text_itself, text_same}
 use Rattle.ifmap_view.specs.declared.attachments.Attachment.{Attachment}
+use Rattle.ifmap_session.specs.laws.IdLaws.{ids_tell}
 
 -- what is queued for each session makes, of what its polls were told, the fresh results of its subscriptions; and these are of
 -- sessions that began

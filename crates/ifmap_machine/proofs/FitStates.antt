@@ -32,12 +32,12 @@ use Rattle.ifmap_machine.specs.Step.{search, step, step_ask, subscribe}
 use Rattle.ifmap_machine.specs.Subscribing.{Told, begin_name, drop_name, is_full_for, is_of_name, subscribe_op, subscribe_ops}
 use Rattle.ifmap_machine.specs.Telling.{differences, is_overfull, is_overrun, is_too_big, item_where, overflow, overflow_session, tell}
 use Rattle.ifmap_machine.specs.Telling.{tell_session, told_in, told_to, too_big_item}
-use Rattle.ifmap_machine.proofs.FitTexts.{client_characters, code_characters, id_characters, limit_characters, limit_word}
+use Rattle.ifmap_machine.proofs.FitTexts.{code_characters, limit_characters, limit_word}
 use Rattle.ifmap_meta.specs.ClientNames.{IsClientName}
 use Rattle.ifmap_meta.specs.Whole.{IsMetadata}
 use Rattle.ifmap_meta.specs.declared.metadata.Metadata.{Metadata}
 use Rattle.ifmap_meta.specs.declared.stored.Life.TheVariants.{Forever}
-use Rattle.ifmap_meta.specs.laws.WholeLaws.{stamped_is_whole}
+use Rattle.ifmap_meta.specs.laws.WholeLaws.{stamped_is_whole, client_characters}
 use Rattle.ifmap_plans.specs.declared.plans.Note.{Note}
 use Rattle.ifmap_plans.specs.Placing.{put}
 use Rattle.ifmap_plans.specs.Plans.{AreWhole}
@@ -62,6 +62,7 @@ use Rattle.ifmap_session.specs.Sessions.{session_with_id}
 use Rattle.ifmap_session.specs.laws.TextLaws.{text_is}
 use Rattle.ifmap_view.specs.declared.attachments.Attachment.{Attachment}
 use Rattle.ifmap_view.specs.Attachments.{IsGraph}
+use Rattle.ifmap_session.specs.laws.IdLaws.{id_characters}
 
 -- ---- 1. what is found and told
 

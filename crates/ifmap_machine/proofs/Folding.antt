@@ -6,7 +6,6 @@
 use Rattle.std.proofs.Common.{◌≡◌, refl, sym, ◌∙◌, ap, subst, ℕ, true, false, not, cond, List, [], ◌∷◌, ◌++◌, Option, None}
 use Rattle.std.proofs.Common.{Some, inl, inr, flat_map, option_map, unwrap_or}
 use Rattle.std.proofs.lemmas.Bool.{cases_Bool}
-use Rattle.std.proofs.lemmas.Cmp.{tied_itself}
 use Rattle.std.specs.List.{AllByRecursion, filter}
 use Rattle.std.specs.List.Sorted.{IsStrictlySortedBy}
 use Rattle.std.specs.Str.{bytes_eq}
@@ -19,7 +18,6 @@ use Rattle.ifmap_lemmas.specs.Having.{Has}
 use Rattle.ifmap_lemmas.specs.Members.{both_all}
 use Rattle.ifmap_machine.specs.State.{Standing, standing_order}
 use Rattle.ifmap_machine.specs.Telling.{is_too_big, item_where, told_to}
-use Rattle.ifmap_machine.proofs.Standing.{standing_total}
 use Rattle.ifmap_plans.specs.declared.plans.Note.{Note}
 use Rattle.ifmap_search.specs.declared.results.Entry.{Entry}
 use Rattle.ifmap_search.specs.declared.results.PollItem.{PollItem}
@@ -28,6 +26,8 @@ use Rattle.ifmap_search.specs.declared.searches.Search.{Search}
 use Rattle.ifmap_session.specs.Sessions.{is_named, is_text}
 use Rattle.ifmap_session.specs.laws.TextLaws.{text_flip, text_is, text_itself}
 use Rattle.ifmap_view.specs.declared.attachments.Attachment.{Attachment}
+use Rattle.ifmap_folds.specs.laws.FoldingLaws.{difference_none}
+use Rattle.ifmap_machine.specs.OrderLaws.{order_same}
 
 pub fold_joined : (items more : List PollItem) (sets : Sets) → fold_items (items ++ more) sets ≡ fold_items more (fold_items items sets)
 fold_joined [] more sets = refl
@@ -121,10 +121,6 @@ told_named before after notes x =
           (where_named x.name (the_item.Notify x.name) (λ entries. own) (told_notes after x.search notes))))
     ]
 
-pub difference_none : (a : List Entry) → difference a [] ≡ a
-difference_none [] = refl
-difference_none (e ∷ a) = ap (λ rest. e ∷ rest) (difference_none a)
-
 own_set : (n : List ℕ) (new old : Option (List Entry)) → cond (bytes_eq n n) new old ≡ new
 own_set n new old = let own : is_text n n ≡ true = text_itself n in rw own refl
 
@@ -169,12 +165,6 @@ told_own before after notes x sets folds fits is =
     ∙ ap (λ f. f x.name) (fold_joined come heard (fold_items gone sets)) ∙ third ∙ second ∙ ap Some folds)
 
 -- ---- what all subscriptions of a session are told
-
-order_same : (y z : Standing) → y.serial ≡ z.serial → y.name ≡ z.name → standing_order y z ≡ Equal
-order_same y z serials names =
-    subst (λ s. standing_order y (record { serial = s; name = z.name; search = z.search }) ≡ Equal) serials
-    (subst (λ n. standing_order y (record { serial = y.serial; name = n; search = z.search }) ≡ Equal) names
-    (tied_itself standing_total y))
 
 -- later ones of the same session have other names
 pub names_apart : (y z : Standing) → y.serial ≡ z.serial → standing_order y z ≡ Less → is_text y.name z.name ≡ false

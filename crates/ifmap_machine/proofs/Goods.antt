@@ -1,12 +1,10 @@
 -- Graphs whose attachments are whole, and the results of searches in them.
 -- Entries of such graphs are told apart by bytes (`entries_told`), results rise (`fresh_rises`), and so one result and what went and
 -- came make the next (`results_fold`, `results_begin`). What the crates below state of bytes and differences comes in as premises.
-use Rattle.std.proofs.Common.{◌≡◌, refl, sym, ◌∙◌, ap, subst, ℕ, true, false, List, [], ◌∷◌, map, Some, ◌↔◌}
+use Rattle.std.proofs.Common.{◌≡◌, refl, sym, ◌∙◌, ap, subst, ℕ, true, false, List, [], ◌∷◌, Some, ◌↔◌}
 use Rattle.std.proofs.lemmas.Bool.{and_parts}
-use Rattle.std.proofs.lemmas.List.Kept.{IsStrictlySortedBy-filter}
 use Rattle.std.specs.List.{IsDistinct, filter}
 use Rattle.std.specs.List.Sorted.{IsStrictlySortedBy}
-use Rattle.std.specs.declared.cmp.Ordering.TheVariants.{Less}
 use Rattle.ifmap_folds.specs.Differences.{difference, entry_bytes, entry_order, same_entry}
 use Rattle.ifmap_folds.specs.Folds.{Sets, fold_items, with_entries}
 use Rattle.ifmap_elem.specs.Arranged.{IsSame}
@@ -20,10 +18,8 @@ use Rattle.ifmap_ident.specs.declared.items.Item.{Item}
 use Rattle.ifmap_ident.specs.declared.items.Item.TheVariants.{One, Pair}
 use Rattle.ifmap_ident.specs.Identifiers.{identifier_bytes, same_identifier}
 use Rattle.ifmap_ident.specs.Items.{IsCanonItem, same_item}
-use Rattle.ifmap_lemmas.specs.Filters.{all_weaker}
 use Rattle.ifmap_lemmas.specs.Having.{Has, filter_has, map_has, all_has}
-use Rattle.ifmap_lemmas.specs.Members.{map_of_all}
-use Rattle.ifmap_machine.proofs.Folding.{Folds, difference_none}
+use Rattle.ifmap_machine.proofs.Folding.{Folds}
 use Rattle.ifmap_meta.specs.Whole.{IsWhole}
 use Rattle.ifmap_plans.specs.Plans.{AreWhole}
 use Rattle.ifmap_search.specs.declared.results.Entry.{Entry}
@@ -31,7 +27,8 @@ use Rattle.ifmap_search.specs.declared.results.PollItem.TheVariants.{Delete, Upd
 use Rattle.ifmap_search.specs.declared.searches.Search.{Search}
 use Rattle.ifmap_session.specs.laws.TextLaws.{text_is}
 use Rattle.ifmap_view.specs.declared.attachments.Attachment.{Attachment}
-use Rattle.ifmap_view.specs.Attachments.{IsGraph, attachment_order, stored_bytes}
+use Rattle.ifmap_view.specs.Attachments.{IsGraph}
+use Rattle.ifmap_folds.specs.laws.FoldingLaws.{difference_none, entry_of, fresh_rises}
 
 -- a graph whose attachments are whole
 pub record IsWholeGraph (rows : List Attachment) : Type 0 where
@@ -42,27 +39,7 @@ pub graph_none : IsGraph []
 unfolding IsStrictlySortedBy IsDistinct
 graph_none = record { items = tt; rising = tt; keys = tt }
 
-abbrev entry_of : Attachment → Entry
-entry_of r = record { item = r.item; element = r.stored.element }
-
 -- ---- results rise
-
-entries_order : (a b : Attachment) → attachment_order a b ≡ entry_order (entry_of a) (entry_of b)
-unfolding stored_bytes entry_bytes
-entries_order a b = refl
-
-mapped_rising : (rows : List Attachment) → IsStrictlySortedBy attachment_order rows → IsStrictlySortedBy entry_order (map entry_of rows)
-unfolding IsStrictlySortedBy
-mapped_rising [] up = tt
-mapped_rising (a ∷ rows) up = (
-  map_of_all (λ e. entry_order (entry_of a) e ≡ Less) entry_of rows (all_weaker (λ b. attachment_order a b ≡ Less)
-      (λ b. entry_order (entry_of a) (entry_of b) ≡ Less) (λ b l. sym (entries_order a b) ∙ l) rows up.0),
-  mapped_rising rows up.1,
-)
-
-pub fresh_rises : (rows : List Attachment) (s : Search) → IsGraph rows → IsStrictlySortedBy entry_order (fresh rows s)
-fresh_rises rows s g = mapped_rising (filter (is_found rows s) rows)
-    (IsStrictlySortedBy-filter attachment_order (is_found rows s) rows g.rising)
 
 empty_rises : IsStrictlySortedBy entry_order []
 unfolding IsStrictlySortedBy

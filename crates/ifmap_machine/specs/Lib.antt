@@ -10,3 +10,4 @@ pub mod Lives
 pub mod Agreeing
 pub mod Since
 pub mod FitAnswers
+pub mod OrderLaws

@@ -3,3 +3,4 @@ pub mod KeepingLaws
 pub mod KeyLaws
 pub mod ListLaws
 pub mod PlacingLaws
+pub mod OnItemLaws

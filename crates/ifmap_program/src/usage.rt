@@ -20,7 +20,7 @@ pub fn tell_usage<K: Sink>(sink: &mut K) -> u8
 }
 
 // Writes bytes, and hands them on.
-#[tactic(auto, using(crate::proofs::Pieces::appends_kept, crate::proofs::Pieces::appends_whole, crate::proofs::Pieces::rose_since))]
+#[tactic(auto, using(ifmap_io::specs::Rises::appends_kept, ifmap_io::specs::Rises::appends_whole, ifmap_io::specs::Rises::rose_since))]
 fn send<K: Sink>(sink: &mut K, bytes: &[u8]) -> Result<(), Failed>
     ensures bytes { WritesAll (K.held sink.old) (K.held sink.new) result bytes.now }
     ensures fault { HasCause (K.faults sink.old) (K.faults sink.new) result }

@@ -36,6 +36,7 @@ use Rattle.ifmap_publish.proofs.Differing.{differences_make}
 use Rattle.ifmap_publish.proofs.Editing.{added_is, nothing_moved, put_sound, removed_is, taken_rises}
 use Rattle.ifmap_publish.proofs.Entries.{stored_alike}
 use Rattle.ifmap_publish.proofs.Graphs.{sound_on}
+use Rattle.ifmap_ident.specs.SameLaws.{less_differs}
 
 abbrev Entry : Type 0
 Entry = Item × List Stored
@@ -63,9 +64,6 @@ first_key : (e : Entry) (es : List Entry) → IsStrictlySortedBy item_order (key
     × IsStrictlySortedBy item_order (keys_of es)
 unfolding IsStrictlySortedBy
 first_key e es up = up
-
-other_item : (a b : Item) → item_order a b ≡ Less → same_item a b ≡ false
-other_item a b e = items_tied a b ∙ ap is_eq e
 
 -- each entry is found by its key
 found_first : (e : Entry) (es : List Entry) → lookup (is_at (item_order e.0)) (e ∷ es) ≡ Some e.1
@@ -119,7 +117,7 @@ module _ (rows : List Attachment) where
       let parts = first_key e es up in
       by ((change_to rows e).removed ++ (change_to rows e).added)
       (all_items (λ y. same_item e.0 y ≡ false) es
-      (all_weaker (λ y. item_order e.0 y ≡ Less) (λ y. same_item e.0 y ≡ false) (λ y l. other_item e.0 y l) (keys_of es) parts.0))
+      (all_weaker (λ y. item_order e.0 y ≡ Less) (λ y. same_item e.0 y ≡ false) (λ y l. less_differs e.0 y l) (keys_of es) parts.0))
       (items_apart es parts.1)
     where
       by : (l : List Stored) → AllByRecursion (λ y. same_item e.0 y ≡ false) (map (λ c. c.item) (changes_to rows es))
@@ -201,7 +199,7 @@ module _ (rows : List Attachment) where
               ap (λ b. cond b (Some e.1) (lookup (is_at (item_order x)) es)) (sym (items_tied x e.0) ∙ items_equiv.symm x e.0 ∙ is) in
               let others : AllByRecursion (λ y. same_item y x ≡ false) (keys_of es) =
               all_weaker (λ y. item_order e.0 y ≡ Less) (λ y. same_item y x ≡ false)
-              (λ y l. items_equiv.symm y x ∙ sym (items_equiv.congr e.0 x y is) ∙ other_item e.0 y l) (keys_of es) parts.0 in
+              (λ y l. items_equiv.symm y x ∙ sym (items_equiv.congr e.0 x y is) ∙ less_differs e.0 y l) (keys_of es) parts.0 in
               at ((change_to rows e).removed ++ (change_to rows e).added) refl is alike (nothing_found x es others)
               ∙ sym (ap (λ o. list_or o (stored_on x rows)) hit)
           | inr is ↦

@@ -24,7 +24,8 @@ use Rattle.ifmap_publish.specs.Working.{AreEdits, EditMakes, IsEdit, IsSound, ed
 use Rattle.ifmap_publish.specs.declared.edits.Edit.{Edit}
 use Rattle.ifmap_publish.proofs.Attaching.{attached_as_stored}
 use Rattle.ifmap_publish.proofs.Editing.{is_edit, makes_it, nothing_made, nothing_moved}
-use Rattle.ifmap_publish.proofs.Items.{op_told, tied, told_as}
+use Rattle.ifmap_publish.proofs.Items.{op_told, told_as}
+use Rattle.ifmap_ident.specs.SameLaws.{same_equal}
 
 abbrev Entry : Type 0
 Entry = Item × Edit
@@ -34,7 +35,7 @@ module _ (item x : Item) (same : same_item item x ≡ true) where
   pub found_alike : (es : List Entry) → lookup (is_at (item_order x)) es ≡ lookup (is_at (item_order item)) es
   found_alike [] = refl
   found_alike (e ∷ es) =
-      ap (λ o. cond (is_eq o) (Some e.1) (lookup (is_at (item_order x)) es)) (sym (items_total.congr item x e.0 (tied item x same)))
+      ap (λ o. cond (is_eq o) (Some e.1) (lookup (is_at (item_order x)) es)) (sym (items_total.congr item x e.0 (same_equal item x same)))
       ∙ ap (λ l. cond (is_at (item_order item) e.0) (Some e.1) l) (found_alike es)
 
   pub stored_alike : (rows : List Attachment) → stored_on x rows ≡ stored_on item rows

@@ -28,7 +28,8 @@ use Rattle.ifmap_view.specs.Attachments.{IsGraph, attachment_order, of_one_key, 
 use Rattle.ifmap_view.specs.Rows.{stored_on}
 use Rattle.ifmap_publish.specs.Apply.{Authorship, apply, apply_op, attach, attachment_of, life_of, update}
 use Rattle.ifmap_publish.specs.Working.{IsSound}
-use Rattle.ifmap_publish.proofs.Items.{tied, told_as}
+use Rattle.ifmap_publish.proofs.Items.{told_as}
+use Rattle.ifmap_ident.specs.SameLaws.{same_equal}
 
 pub graph_filter : (p : Attachment → Bool) (rows : List Attachment) → IsGraph rows → IsGraph (filter p rows)
 graph_filter p rows g = record {
@@ -119,7 +120,7 @@ module _ (x : Item) where
   ordered : (r s : Attachment) → same_item r.item x ≡ true → same_item s.item x ≡ true → attachment_order r s ≡ Less
       → stored_order r.stored s.stored ≡ Less
   ordered r s i j e =
-      ap (λ o. ordering_then o (stored_order r.stored s.stored)) (sym (tied r.item s.item (told_as x r.item s.item j ∙ i))) ∙ e
+      ap (λ o. ordering_then o (stored_order r.stored s.stored)) (sym (same_equal r.item s.item (told_as x r.item s.item j ∙ i))) ∙ e
 
   keyed : (r s : Attachment) → same_item r.item x ≡ true → same_item s.item x ≡ true → of_one_key r s ≡ false
       → same_key r.stored s.stored ≡ false

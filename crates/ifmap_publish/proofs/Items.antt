@@ -6,7 +6,6 @@
 use Rattle.std.proofs.Common.{◌≡◌, ◌∙◌, refl, sym, ap, Bool, true, false, not, ◌&&◌, List, [], ◌∷◌, ◌++◌, Option, inl, inr}
 use Rattle.std.proofs.lemmas.Bool.{cases_Bool}
 use Rattle.std.proofs.lemmas.List.{append-nil}
-use Rattle.std.specs.Cmp.{Equal-is}
 use Rattle.std.specs.List.{AllByRecursion, filter}
 use Rattle.std.specs.Ordering.{is_eq, is_gt, is_lt, ordering_then}
 use Rattle.std.specs.declared.cmp.Ordering.{Ordering}
@@ -30,16 +29,14 @@ use Rattle.ifmap_publish.specs.Apply.{Authorship, apply, apply_op, attach, attac
 use Rattle.ifmap_publish.specs.declared.who.Who.{Who}
 use Rattle.ifmap_publish.specs.Retract.{is_of, retract, retract_on}
 use Rattle.ifmap_publish.specs.OnItems.{apply_on, apply_op_on, attach_on, delete_on, update_on}
-
-pub tied : (a b : Item) → same_item a b ≡ true → item_order a b ≡ Equal
-tied a b e = (Equal-is (item_order a b)).0 (sym (items_tied a b) ∙ e)
+use Rattle.ifmap_ident.specs.SameLaws.{same_equal}
 
 -- one that stands on x is told from another as x is
 pub told_as : (x a b : Item) → same_item b x ≡ true → same_item a b ≡ same_item a x
 told_as x a b e = items_equiv.symm a b ∙ items_equiv.congr b x a e ∙ items_equiv.symm x a
 
 pub ordered_as : (x a b : Item) → same_item b x ≡ true → item_order b a ≡ item_order x a
-ordered_as x a b e = items_total.congr b x a (tied b x e)
+ordered_as x a b e = items_total.congr b x a (same_equal b x e)
 
 pub every : {X : Type 0} (xs : List X) → AllByRecursion (λ x. true ≡ true) xs
 every [] = tt
@@ -100,7 +97,7 @@ module _ (x : Item) where
       (λ r t. ap (λ b. not (b && same_key a.stored r.stored)) (told_as x a.item r.item t ∙ is)) rows in
       let order : (r : Attachment) → here r ≡ true → attachment_order r a ≡ stored_order r.stored a.stored =
       λ r t. ap (λ o. ordering_then o (stored_order r.stored a.stored))
-      (ordered_as x a.item r.item t ∙ tied x a.item (items_equiv.symm x a.item ∙ is)) in
+      (ordered_as x a.item r.item t ∙ same_equal x a.item (items_equiv.symm x a.item ∙ is)) in
       on_between a is (filter (λ r. is_lt (attachment_order r a)) others) (filter (λ r. is_gt (attachment_order r a)) others)
       ∙ ap (λ l. l ++ a.stored ∷ stored_on x (filter (λ r. is_gt (attachment_order r a)) others))
       (on_filter (λ r. is_lt (attachment_order r a)) (λ s. is_lt (stored_order s a.stored)) (λ r t. ap is_lt (order r t)) others)

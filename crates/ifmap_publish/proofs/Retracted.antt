@@ -42,8 +42,9 @@ use Rattle.ifmap_publish.proofs.Attaching.{sound_filter}
 use Rattle.ifmap_publish.proofs.Changing.{AreSound, list_or, standing}
 use Rattle.ifmap_publish.proofs.Entries.{stored_alike}
 use Rattle.ifmap_publish.proofs.Graphs.{sound_on}
-use Rattle.ifmap_publish.proofs.Items.{every, retract_told, tied, told_as}
+use Rattle.ifmap_publish.proofs.Items.{every, retract_told, told_as}
 use Rattle.ifmap_publish.proofs.Same.{life_same, publisher_same, same_itself}
+use Rattle.ifmap_ident.specs.SameLaws.{same_equal}
 
 -- one stored element is of these where the other is
 respects : (who : Who) (a b : Stored) → same_stored a b ≡ true → is_of who a ≡ is_of who b
@@ -322,7 +323,7 @@ falls last k [] up full = absurd (full refl)
 falls last k (r ∷ rows) up full = elim (cases_Bool (same_item r.item k)) [
   | inl t ↦
       let rest = filter_le (λ s. is_above (Some k) s.item) (λ s. is_above last s.item) rows (λ s e. later last up s.item e) in
-      let below : is_above (Some k) r.item ≡ false = ap is_lt (tied k r.item (items_equiv.symm k r.item ∙ t)) in
+      let below : is_above (Some k) r.item ≡ false = ap is_lt (same_equal k r.item (items_equiv.symm k r.item ∙ t)) in
       let over : is_above last r.item ≡ true = same_above last up t in
       rw (below, over) (omega (arith, rest))
   | inr t ↦
@@ -337,7 +338,7 @@ falls last k (r ∷ rows) up full = elim (cases_Bool (same_item r.item k)) [
 
     same_above : (last : Option Item) → IsAbove last k → same_item r.item k ≡ true → is_above last r.item ≡ true
     same_above None up t = refl
-    same_above (Some a) up t = ap is_lt (alike_right items_total r.item k a (tied r.item k t) ∙ up)
+    same_above (Some a) up t = ap is_lt (alike_right items_total r.item k a (same_equal r.item k t) ∙ up)
 
     by : (a b : Bool) → (a ≡ true → b ≡ true)
         → length (filter (λ s. is_above (Some k) s.item) rows) < length (filter (λ s. is_above last s.item) rows)

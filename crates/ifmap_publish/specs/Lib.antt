@@ -4,3 +4,4 @@ pub mod Notes
 pub mod Retract
 pub mod OnItems
 pub mod Working
+pub mod NoteLaws

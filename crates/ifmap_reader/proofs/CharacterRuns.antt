@@ -1,7 +1,7 @@
 -- Characters that a document can have: beside each other, cut before an ASCII byte, and as line ends, white space and references mean them.
 -- Over characters and not over bytes: line ends and white space of a character's bytes, a cut before an ASCII byte, and then runs and
 -- references, so that what written characters mean is characters again.
-use Rattle.std.proofs.Common.{◌≡◌, ℕ, ◌<◌, ◌≤◌, Bool, true, false, not, ◌||◌, List, [], ◌∷◌, ◌++◌, map, length, get_or, refl, ap, sym, ◌∙◌, subst, arith, append_assoc, drop, inl, inr}
+use Rattle.std.proofs.Common.{◌≡◌, ℕ, ◌<◌, ◌≤◌, Bool, true, false, not, ◌||◌, List, [], ◌∷◌, ◌++◌, map, length, refl, ap, sym, ◌∙◌, subst, arith, append_assoc, drop, inl, inr}
 use Rattle.std.specs.Prelude.{◌==◌, ◌&&◌, if◌then◌else◌, codes, encode_utf8, encode_utf8_all, Option, Some, None, nat_le}
 use Rattle.std.specs.Char.{is_digit}
 use Rattle.std.specs.List.{flat_map, list_all, starts_with}
@@ -9,42 +9,25 @@ use Rattle.std.specs.Str.{bytes_eq}
 use Rattle.std.specs.Str.Parse.{digits_value}
 use Rattle.std.proofs.lemmas.Bool.{and_parts, cases_Bool, cases_lt, not-true}
 use Rattle.std.proofs.lemmas.Bool.Decides.{nat_tests}
-use Rattle.std.proofs.lemmas.List.{append-nil, map-append}
-use Rattle.std.proofs.lemmas.List.Elements.{recursion_from_All, All-from_get_or}
-use Rattle.std.proofs.lemmas.Str.{encode_ascii, encode_same, encodes-append, inside_one}
+use Rattle.std.proofs.lemmas.List.{map-append}
+use Rattle.std.proofs.lemmas.Str.{encode_ascii, encode_same}
 use Rattle.ifmap_lemmas.specs.Items.{To}
 use Rattle.ifmap_elem.specs.Chars.{AllAre, IsCharacters, is_character}
-use Rattle.ifmap_elem.specs.Values.{Part, Plain, Reference, TakesPart, EndsRun, Expands, IsText, IsValue, as_space, begins_with, line_ends, code_point, reference_value, text_part, value_part}
+use Rattle.ifmap_elem.specs.Values.{Part, Plain, Reference, TakesPart, Expands, IsText, IsValue, as_space, begins_with, line_ends, code_point, reference_value, text_part, value_part}
 use Rattle.ifmap_lemmas.specs.Cuts.{Stops, cut}
 use Rattle.ifmap_lemmas.specs.Members.{all_append}
 use Rattle.ifmap_lemmas.specs.Numbers.{is_number, is_other}
-
--- a test that all bytes beyond ASCII pass is passed by all bytes of a character that passes
-pub character_passes : (p : ℕ → Bool) → ((b : ℕ) → 128 ≤ b → p b ≡ true) → (c : ℕ) → p c ≡ true → AllAre p (encode_utf8 c)
-character_passes p high c h =
-    let P : ℕ → Type 0 = λ b. p b ≡ true in
-    recursion_from_All P (encode_utf8 c) (All-from_get_or P (encode_utf8 c) 0 (λ k l. at_place k l))
-  where
-    at_place : (k : ℕ) → k < length (encode_utf8 c) → p (get_or (encode_utf8 c) k 0) ≡ true
-    at_place k l = elim (cases_lt (get_or (encode_utf8 c) k 0) 128) [
-      | inl low ↦ subst (λ (n : ℕ). p n ≡ true) (inside_one c [] (encode_utf8 c) k (sym (append-nil (encode_utf8 c))) l low) h
-      | inr g ↦ high (get_or (encode_utf8 c) k 0) g
-    ]
+use Rattle.ifmap_elem.specs.laws.CharacterLaws.{characters_both, character_passes, one_character}
+use Rattle.ifmap_elem.specs.laws.OneToken.{run_stops}
 
 pub no_characters : IsCharacters []
 no_characters = ([], refl, tt)
-
-pub characters_both : (a b : List ℕ) → IsCharacters a → IsCharacters b → IsCharacters (a ++ b)
-characters_both a b i j = (i.0 ++ j.0, encodes-append i.0 j.0 ∙ (λ k. i.1 k ++ j.1 k), all_append is_character i.0 j.0 i.2 j.2)
 
 character_first : (c : ℕ) (bytes : List ℕ) → is_character c ≡ true → IsCharacters bytes → IsCharacters (encode_utf8 c ++ bytes)
 character_first c bytes h i = (c ∷ i.0, ap (λ x. encode_utf8 c ++ x) i.1, (h, i.2))
 
 low_first : (c : ℕ) (bytes : List ℕ) → c < 128 → is_character c ≡ true → IsCharacters bytes → IsCharacters (c ∷ bytes)
 low_first c bytes low h i = subst (λ (x : List ℕ). IsCharacters (x ++ bytes)) (encode_ascii c low) (character_first c bytes h i)
-
-one_character : (c : ℕ) → is_character c ≡ true → IsCharacters (encode_utf8 c)
-one_character c h = subst IsCharacters (append-nil (encode_utf8 c)) (character_first c [] h no_characters)
 
 behind_low : (c : ℕ) (bytes : List ℕ) → c < 128 → IsCharacters (c ∷ bytes) → IsCharacters bytes
 behind_low c bytes low i = first i.0 i.1 i.2
@@ -195,10 +178,6 @@ referred_fits name c =
     (chosen (starts_with ◌==◌ name (codes "#")) _ _ c (numbered_fits 10 (drop 1 name) c) (none_named c)))))))
 
 -- what written characters mean
-
-run_stops : (rest : List ℕ) → EndsRun rest → Stops (λ b. not (b == 0x26)) rest
-run_stops [] e = tt
-run_stops (b ∷ bs) e = subst (λ (n : ℕ). not (n == 0x26) ≡ false) (sym e) refl
 
 module _ (adds : Part → List ℕ) (runs : (run : List ℕ) → IsCharacters run → IsCharacters (adds (Plain run)))
     (references : (c : ℕ) → adds (Reference c) ≡ encode_utf8 c) where

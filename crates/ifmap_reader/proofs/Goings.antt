@@ -328,7 +328,7 @@ empty_document false c r is h = empty_root c r is (root_begins c r h)
 pub no_tokens_start : (r : Reading) → GoesOn AtStart [] r → ⊥
 no_tokens_start r x = empty_document x.declared x.pieces r x.tokens_are x.rooted
 
-some_tokens : (ts us : List Token) (t : Token) → [] ≡ ts ++ (t ∷ us) → ⊥
+pub some_tokens : (ts us : List Token) (t : Token) → [] ≡ ts ++ (t ∷ us) → ⊥
 some_tokens [] us t e = cc
 some_tokens (x ∷ xs) us t e = cc
 

@@ -24,7 +24,7 @@ use Rattle.ifmap_reader.specs.declared.standing.Standing.TheVariants as standing
 use Rattle.ifmap_reader.specs.NextToken.{NextAnswer}
 use Rattle.ifmap_reader.specs.Progress.{Where, AtStart, Within, AfterRoot, GoesOn, IsLinked, Leads, Passes, TokenAnswer, open_in, so_deep, one_if, where_is}
 use Rattle.ifmap_reader.specs.Reads.{IsUnreadable, IsTooDeep, IsRead, refusal_error, read_at_end}
-use Rattle.ifmap_reader.proofs.Goings.{no_tokens, no_tokens_start, after_root_ends}
+use Rattle.ifmap_reader.proofs.Goings.{no_tokens, no_tokens_start, after_root_ends, some_tokens}
 use Rattle.ifmap_reader.proofs.Levels.{goes_deep}
 use Rattle.ifmap_reader.proofs.Ways.{some_way}
 use Rattle.ifmap_reader.proofs.Fronts.{Shallow, not_deep, unreadable}
@@ -40,10 +40,6 @@ pub record At (bytes : List ℕ) (depth : ℕ) (w : Where) (rest : List ℕ) : T
   pub shallow : Shallow depth so_far
   pub linked : IsLinked w
 
-no_split : (before after : List Token) (t : Token) → [] ≡ before ++ (t ∷ after) → ⊥
-no_split [] after t e = cc
-no_split (b ∷ bs) after t e = cc
-
 pub at_start : (bytes : List ℕ) (depth : ℕ) (rest : List ℕ) → rest ≡ without_byte_order_mark bytes → At bytes depth AtStart rest
 at_start bytes depth rest is = record {
   so_far = [];
@@ -53,7 +49,7 @@ at_start bytes depth rest is = record {
       (ahead_at_start TakesToken (without_byte_order_mark bytes) []);
   fits = omega arith;
   level = omega arith;
-  shallow = λ before after t e o. absurd (no_split before after t e);
+  shallow = λ before after t e o. absurd (some_tokens before after t e);
   linked = tt;
 }
 

@@ -297,10 +297,6 @@ module _ (count : ℕ → ℕ) (link : ℕ → ℕ → Option ℕ) (terminal : �
       };
     }
 
-pub no_row : (o : Option (Option ℕ)) → is_some o ≡ false → o ≡ None
-no_row None h = refl
-no_row (Some r) h = absurd (true≢false h)
-
 module _ (links : ℕ → ℕ → Type 0) (terminal : ℕ → Bool) (count : ℕ → ℕ) (flips : List Flip) (start top : ℕ) (first : ℕ → Option ℕ) where
   -- at the beginning no number has a row, and the seeds wait
   pub cutting_begun : IsBeforeCut links terminal flips start top first → (seeds waiting : List (ℕ × ℕ)) (before : ℕ)

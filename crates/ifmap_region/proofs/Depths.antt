@@ -111,8 +111,3 @@ depths_along links others terminal start top there back m depths v k = (
   λ e. depth_along links others terminal start top there back v k ((depths v k).0 e),
   λ h. (depths v k).1 (depth_along others links terminal start top back there v k h),
 )
-
--- the same marks are the same depths
-pub depths_same : (links : ℕ → ℕ → Type 0) (terminal : ℕ → Bool) (start top : ℕ) (m n : ℕ → Option ℕ) → ((v : ℕ) → n v ≡ m v)
-    → AreDepths links terminal start top m → AreDepths links terminal start top n
-depths_same links terminal start top m n same depths v k = (λ e. (depths v k).0 (sym (same v) ∙ e), λ h. same v ∙ (depths v k).1 h)

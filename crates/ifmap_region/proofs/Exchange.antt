@@ -67,7 +67,7 @@ rowed_taken rows (x ∷ xs) v = by (nat_eq v x.0) (rowed_taken rows xs v)
     by true rest = refl
     by false rest = rest
 
-none_from : (o : Option (Option ℕ)) → is_some o ≡ false → o ≡ None
+pub none_from : (o : Option (Option ℕ)) → is_some o ≡ false → o ≡ None
 none_from None e = refl
 none_from (Some r) e = absurd (true≢false e)
 

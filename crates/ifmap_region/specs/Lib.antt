@@ -11,3 +11,4 @@ pub mod Seeds
 pub mod Spreading
 pub mod Walks
 pub mod Ways
+pub mod DepthLaws

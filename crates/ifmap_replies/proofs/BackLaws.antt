@@ -4,19 +4,15 @@
 -- 3. Entries: runs, identifiers, items.
 -- 4. Results.
 -- 5. Responses and envelopes.
-use Rattle.std.proofs.Common.{◌≡◌, ◌∙◌, ℕ, ◌+◌, ◌<◌, ◌≤◌, ◌%◌, ◌^◌, ◌&&◌, Bool, true, false, not, List, [], ◌∷◌, ◌++◌, Option, None, Some}
+use Rattle.std.proofs.Common.{◌≡◌, ◌∙◌, ℕ, ◌+◌, ◌<◌, ◌^◌, ◌&&◌, Bool, true, false, not, List, [], ◌∷◌, ◌++◌, Option, None, Some}
 use Rattle.std.proofs.Common.{Ok, map, codes, refl, ap, arith, subst, sym, append-nil}
 use Rattle.std.specs.Prelude.{◌||◌, if◌then◌else◌, nat_lt}
-use Rattle.std.specs.Char.{is_ascii_digit}
 use Rattle.std.specs.List.{AllByRecursion, list_all}
-use Rattle.std.specs.Str.{bytes_eq}
-use Rattle.std.specs.Str.Parse.{digits_value}
 use Rattle.std.specs.declared.cmp.Ordering.{Ordering}
 use Rattle.std.specs.declared.cmp.Ordering.TheVariants.{Less}
-use Rattle.std.proofs.lemmas.Bool.{and_from, and_parts}
+use Rattle.std.proofs.lemmas.Bool.{and_parts}
 use Rattle.std.proofs.lemmas.Bool.Decides.{nat_tests}
-use Rattle.ifmap_lemmas.specs.Members.{all_append}
-use Rattle.ifmap_lemmas.specs.Numerals.{digit, numeral, numeral_by_digits, numeral_value}
+use Rattle.ifmap_lemmas.specs.Numerals.{numeral}
 use Rattle.ifmap_lemmas.specs.Texts.{eq_tells, slice_cmp-less}
 use Rattle.ifmap_elem.specs.Building.{bare_element}
 use Rattle.ifmap_elem.specs.declared.elements.Child.{Child}
@@ -47,7 +43,6 @@ use Rattle.ifmap_forms.specs.AnswerLaws.{found_after, found_form}
 use Rattle.ifmap_forms.specs.Checks.{Check, check_then, need, need_some, pass}
 use Rattle.ifmap_forms.specs.Items.{before_list, from_list, identifiers_check, is_list, item_of, list_at, may_follow}
 use Rattle.ifmap_forms.specs.Tables.{Part, both, each_element, form_check, parts_in, parts_of}
-use Rattle.ifmap_forms.specs.Values.{is_number, number_of}
 use Rattle.ifmap_replies.specs.declared.kinds.EntriesKind.{EntriesKind}
 use Rattle.ifmap_replies.specs.declared.kinds.EntriesKind.TheVariants as entries_kind
 use Rattle.ifmap_replies.specs.declared.kinds.ResultKind.{ResultKind}
@@ -69,6 +64,7 @@ use Rattle.ifmap_replies.specs.Results.{reply_element, response_name, result_ele
 use Rattle.ifmap_replies.specs.Runs.{before, entries_of, entry_on, run_on, runs_of}
 use Rattle.ifmap_replies.proofs.GoodLaws.{element_part, parts_are}
 use Rattle.ifmap_replies.proofs.WholeLaws.{IsFitRun, fit_runs}
+use Rattle.ifmap_forms.specs.FormLaws.{number_back}
 
 -- ---- 1. lists of elements
 
@@ -89,40 +85,6 @@ only_back one e x f =
     subst (λ (ps : List Part). only_check one ps (Ok x)) (λ i. sym (out_element e) i ∷ []) (x ∷ [], (x, f, ([], refl, refl)), refl)
 
 -- ---- 2. values
-
-all_tested : {X : Type 0} (p : X → Bool) (xs : List X) → AllByRecursion (λ x. p x ≡ true) xs → list_all p xs ≡ true
-all_tested p [] f = refl
-all_tested p (x ∷ xs) f = and_from (p x) (list_all p xs) f.0 (all_tested p xs f.1)
-
-digit_is_digit : (d : ℕ) → d < 10 → is_ascii_digit (digit d) ≡ true
-digit_is_digit d few = grind (arith, nat_tests)
-
--- digits, and some
-abbrev AreDigits : List ℕ → Type 0
-AreDigits ds = (bytes_eq ds [] ≡ false) × AllByRecursion (λ b. is_ascii_digit b ≡ true) ds
-
-still_some : (ds : List ℕ) (d : ℕ) → bytes_eq (ds ++ d ∷ []) [] ≡ false
-still_some [] d = refl
-still_some (b ∷ bs) d = refl
-
-numeral_is_digits : (n : ℕ) → AreDigits (numeral n)
-numeral_is_digits = numeral_by_digits (λ n ds. AreDigits ds) (λ n few. (refl, (digit_is_digit n few, tt))) more
-  where
-    more : (n : ℕ) (ds : List ℕ) → 10 ≤ n → AreDigits ds → AreDigits (ds ++ digit (n % 10) ∷ [])
-    more n ds many f = (
-      still_some ds (digit (n % 10)),
-      all_append is_ascii_digit ds (digit (n % 10) ∷ []) f.1 (digit_is_digit (n % 10) (omega arith), tt),
-    )
-
-numeral_is_number : (n : ℕ) → is_number (numeral n) ≡ true
-numeral_is_number n =
-    let is = numeral_is_digits n in
-    and_from (not (bytes_eq (numeral n) [])) (list_all is_ascii_digit (numeral n)) (ap not is.0)
-    (all_tested is_ascii_digit (numeral n) is.1)
-
-number_back : (n : ℕ) → number_of (numeral n) ≡ Some n
-number_back n =
-    (λ i. if numeral_is_number n i then Some (digits_value 10 (numeral n)) else None) ∙ ap (λ m. Some m) (numeral_value n)
 
 word_back : (n : ℕ) → IsWord n → read_word (Some (numeral n)) (Ok n)
 word_back n held =

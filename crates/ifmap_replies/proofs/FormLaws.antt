@@ -1,17 +1,16 @@
 -- The answers to elements by their names and forms.
-use Rattle.std.proofs.Common.{◌≡◌, ◌++◌, Bool, true, false, List, [], Option, None, Some, Result, Ok, Err, inl, inr, refl, subst, sym}
-use Rattle.std.specs.List.{list_all}
+use Rattle.std.proofs.Common.{◌≡◌, ◌++◌, Bool, true, List, [], Option, None, Some, Result, Ok, Err, inl, inr, refl, subst, sym}
 use Rattle.ifmap_elem.specs.declared.elements.Element.{Element}
 use Rattle.ifmap_ident.specs.Parts.{has_only}
 use Rattle.ifmap_ident.specs.declared.codes.Code.{Code}
 use Rattle.ifmap_ident.specs.declared.codes.Code.TheVariants.{Failure}
 use Rattle.ifmap_forms.specs.declared.errors.FormError.{FormError}
 use Rattle.ifmap_forms.specs.declared.errors.FormError.TheVariants.{Named, NoMemory}
-use Rattle.ifmap_forms.specs.AnswerLaws.{found_after, found_form, refused_at_content, refused_test}
+use Rattle.ifmap_forms.specs.AnswerLaws.{found_form, refused_at_content}
 use Rattle.ifmap_forms.specs.Answers.{IsChecked, IsRefused}
 use Rattle.ifmap_forms.specs.Checks.{Check, need, need_some, pass}
 use Rattle.ifmap_forms.specs.Scopes.{Scopes}
-use Rattle.ifmap_forms.specs.Tables.{Form, Part, form_check, is_white_part, no_children, parts_of}
+use Rattle.ifmap_forms.specs.Tables.{Form, Part, form_check, parts_of}
 use Rattle.ifmap_replies.specs.ResultForms.{members_check, only_check, only_member}
 
 module _ {X : Type 0} where
@@ -36,14 +35,6 @@ module _ {X : Type 0} where
   content_alone form make scopes e a f same is (Ok x) g =
       subst (λ y. form_check form make scopes e (Ok y)) (same x) (found_form form make scopes e a f x is g)
   content_alone form make scopes e a f same is (Err error) g = refused_at_content form make scopes e a f error is g
-
--- no children but white space
-pub blank_children : (scopes : Scopes) (e : Element) → list_all is_white_part (parts_of e) ≡ true → no_children scopes (parts_of e) (Ok tt)
-blank_children scopes e is = found_after (pass tt) (list_all is_white_part (parts_of e)) Failure (Ok tt) is refl
-
-pub other_children : (scopes : Scopes) (e : Element) → list_all is_white_part (parts_of e) ≡ false
-    → no_children scopes (parts_of e) (Err Failure)
-other_children scopes e is = refused_test (pass tt) (list_all is_white_part (parts_of e)) Failure is
 
 -- ---- one member alone
 

@@ -11,7 +11,7 @@ use Rattle.std.specs.Str.{bytes_eq}
 use Rattle.std.proofs.lemmas.Bool.{and_parts}
 use Rattle.ifmap_elem.specs.Arranged.{arrange, arrange_child, sort_attributes}
 use Rattle.ifmap_elem.specs.Building.{bare_attribute, bare_name}
-use Rattle.ifmap_elem.specs.Chars.{AllAre, IsCharacters, is_character}
+use Rattle.ifmap_elem.specs.Chars.{IsCharacters}
 use Rattle.ifmap_elem.specs.Fit.{AreApart, AreFitChildren, HasCharacters, IsFit, IsFitAlone, IsFitAttribute, IsFitName, IsNamespace}
 use Rattle.ifmap_elem.specs.Fit.{IsNotBlank, is_element}
 use Rattle.ifmap_elem.specs.Folds.{at_child_element, at_child_text, at_element}
@@ -26,22 +26,12 @@ use Rattle.ifmap_elem.specs.declared.elements.Element.{Element}
 use Rattle.ifmap_elem.specs.declared.elements.Name.{Name}
 use Rattle.ifmap_elem.specs.laws.ArrangedLaws.{arranged_in, arranged_is, arranged_text}
 use Rattle.ifmap_elem.specs.laws.FitLaws.{elements_in, elements_of_child, elements_text, fit_whole, out_element, out_text}
-use Rattle.ifmap_lemmas.specs.Members.{all_of_test, all_weaker, both_all}
+use Rattle.ifmap_lemmas.specs.Members.{all_of_test, both_all}
 use Rattle.ifmap_lemmas.specs.Texts.{ascii_encoded, is_ascii}
 use Rattle.ifmap_replies.specs.Results.{as_children, text_children}
+use Rattle.ifmap_elem.specs.laws.CharacterLaws.{is_plain, plain_characters}
 
 -- ---- 1. names and attributes
-
--- a byte of ASCII that is a character
-abbrev pub is_plain : ℕ → Bool
-is_plain b = is_ascii b && is_character b
-
-pub plain_characters : (bs : List ℕ) → AllAre is_plain bs → IsCharacters bs
-plain_characters bs f = (
-  bs,
-  ascii_encoded bs (all_weaker is_plain is_ascii (λ b h. (and_parts (is_ascii b) (is_character b) h).0) bs f),
-  all_weaker is_plain is_character (λ b h. (and_parts (is_ascii b) (is_character b) h).1) bs f,
-)
 
 -- a namespace, and a name part, that are spelled out
 pub plain_space : (space : List ℕ) → list_all is_plain space ≡ true → bytes_eq space xmlns_space ≡ false → IsNamespace space

@@ -40,7 +40,8 @@ use Rattle.ifmap_replies.specs.Results.{poll_element, reply_element, response_na
 use Rattle.ifmap_replies.specs.Results.{told_element}
 use Rattle.ifmap_replies.specs.Runs.{before, run_on, runs_of}
 use Rattle.ifmap_replies.proofs.GoodLaws.{IsGood, IsPlainPart, all_within, attribute_fits, bare_fits, good_elements, good_text, good_within}
-use Rattle.ifmap_replies.proofs.GoodLaws.{is_plain, is_plain_part, plain_characters, plain_name, plain_space, three_differ, two_differ}
+use Rattle.ifmap_replies.proofs.GoodLaws.{is_plain_part, plain_name, plain_space, three_differ, two_differ}
+use Rattle.ifmap_elem.specs.laws.CharacterLaws.{is_plain, plain_characters}
 
 -- ---- 1. texts
 
@@ -101,9 +102,6 @@ sent_good : (es : List Element) → AllByRecursion IsSent es → AllByRecursion 
 sent_good [] f = tt
 sent_good (e ∷ es) f = (record { fit = f.0.fit; arranged = f.0.arranged; within = f.0.levels }, sent_good es f.1)
 
-local_of : (local : List ℕ) → IsPlainPart local → IsFitName (bare_name local)
-local_of local h = bare_fits local h
-
 module _ (fits : (i : Identifier) → IsIdentifier i → IsFit (identifier_element i))
     (ordered : (i : Identifier) → arrange (identifier_element i) ≡ identifier_element i)
     (levels : (i : Identifier) → nesting (identifier_element i) ≤ 2) where
@@ -114,10 +112,10 @@ module _ (fits : (i : Identifier) → IsIdentifier i → IsFit (identifier_eleme
   run_good : (run : Run) → IsFitRun run → IsGood 66 (run_element run)
   unfolding is_plain_part
   run_good run f =
-      let metadata = good_elements (bare_name (codes "metadata")) [] (local_of (codes "metadata") refl) tt tt refl 64 run.elements
+      let metadata = good_elements (bare_name (codes "metadata")) [] (bare_fits (codes "metadata") refl) tt tt refl 64 run.elements
       (sent_good run.elements f.elements) in
       let list = bare_element (codes "metadata") [] (as_children run.elements) in
-      good_elements (bare_name (codes "resultItem")) [] (local_of (codes "resultItem") refl) tt tt refl 65
+      good_elements (bare_name (codes "resultItem")) [] (bare_fits (codes "resultItem") refl) tt tt refl 65
       (map identifier_element (identifiers_of run.item) ++ list ∷ [])
       (both_all (IsGood 65) (map identifier_element (identifiers_of run.item)) (list ∷ [])
       (all_within 2 65 (map identifier_element (identifiers_of run.item)) (omega arith)
@@ -136,7 +134,7 @@ module _ (fits : (i : Identifier) → IsIdentifier i → IsFit (identifier_eleme
       → IsGood 67 (told_element local name entries)
   unfolding is_plain_part
   told_good local name entries plain n f =
-      good_elements (bare_name local) (name_attribute name ∷ []) (local_of local plain)
+      good_elements (bare_name local) (name_attribute name ∷ []) (bare_fits local plain)
       (attribute_fits (codes "name") name refl refl n, tt) (tt, tt) refl 66 (map run_element (runs_of entries)) (entries_good entries f)
 
   abbrev note_element : List ℕ → Element
@@ -148,12 +146,12 @@ module _ (fits : (i : Identifier) → IsIdentifier i → IsFit (identifier_eleme
   note_good : (note : List ℕ) → IsCharacters note
       → IsGood 1 (note_element note)
   unfolding is_plain_part
-  note_good note h = good_text (bare_name (codes "errorString")) (local_of (codes "errorString") refl) note h
+  note_good note h = good_text (bare_name (codes "errorString")) (bare_fits (codes "errorString") refl) note h
 
   error_good : (code : Code) (note : List ℕ) → IsCharacters note → IsGood 2 (error_element code None note)
   unfolding is_plain_part
   error_good code note h =
-      good_elements (bare_name (codes "errorResult")) (code_attribute code ∷ []) (local_of (codes "errorResult") refl)
+      good_elements (bare_name (codes "errorResult")) (code_attribute code ∷ []) (bare_fits (codes "errorResult") refl)
       (attribute_fits (codes "errorCode") (code_name code) refl refl (code_characters code), tt) (tt, tt) refl 1 (note_element note ∷ [])
       (note_good note h, tt)
 
@@ -162,7 +160,7 @@ module _ (fits : (i : Identifier) → IsIdentifier i → IsFit (identifier_eleme
   unfolding is_plain_part
   named_error_good code name note n h =
       good_elements (bare_name (codes "errorResult")) (code_attribute code ∷ (name_attribute name ∷ []))
-      (local_of (codes "errorResult") refl) (
+      (bare_fits (codes "errorResult") refl) (
         attribute_fits (codes "errorCode") (code_name code) refl refl (code_characters code),
         (attribute_fits (codes "name") name refl refl n, tt),
       ) (two_differ (codes "errorCode") (codes "name") refl) refl 1
@@ -184,7 +182,7 @@ module _ (fits : (i : Identifier) → IsIdentifier i → IsFit (identifier_eleme
 
   plain_good : (local : List ℕ) → IsPlainPart local → IsGood 68 (plain_element local [])
   plain_good local plain = good_within 1 68 (plain_element local []) (omega arith)
-      (good_elements (bare_name local) [] (local_of local plain) tt tt refl 0 [] tt)
+      (good_elements (bare_name local) [] (bare_fits local plain) tt tt refl 0 [] tt)
 
   session_good : (session publisher : List ℕ) (limit : ℕ) → IsCharacters session → IsCharacters publisher
       → IsGood 1 (new_session_element session publisher limit)
@@ -193,7 +191,7 @@ module _ (fits : (i : Identifier) → IsIdentifier i → IsFit (identifier_eleme
       good_elements (bare_name (codes "newSessionResult"))
       (bare_attribute (codes "ifmap-publisher-id") publisher ∷ (bare_attribute (codes "max-poll-result-size") (numeral limit)
       ∷ (bare_attribute (codes "session-id") session ∷ [])))
-      (local_of (codes "newSessionResult") refl) (
+      (bare_fits (codes "newSessionResult") refl) (
         attribute_fits (codes "ifmap-publisher-id") publisher refl refl p,
         (
           attribute_fits (codes "max-poll-result-size") (numeral limit) refl refl (numeral_characters limit),
@@ -213,10 +211,10 @@ module _ (fits : (i : Identifier) → IsIdentifier i → IsFit (identifier_eleme
   result_good reply.Purged f = plain_good (codes "purgePublisherReceived") refl
   result_good (reply.Found entries) f =
       good_within 67 68 (result_element (reply.Found entries)) (omega arith)
-      (good_elements (bare_name (codes "searchResult")) [] (local_of (codes "searchResult") refl) tt tt refl 66
+      (good_elements (bare_name (codes "searchResult")) [] (bare_fits (codes "searchResult") refl) tt tt refl 66
       (map run_element (runs_of entries)) (entries_good entries f))
   result_good (reply.Polled items) f =
-      good_elements (bare_name (codes "pollResult")) [] (local_of (codes "pollResult") refl) tt tt refl 67
+      good_elements (bare_name (codes "pollResult")) [] (bare_fits (codes "pollResult") refl) tt tt refl 67
       (map poll_element items) (polls_good items f)
   result_good (reply.Error code note) f = good_within 2 68 (error_element code None note) (omega arith) (error_good code note f)
 

@@ -54,8 +54,8 @@ use Rattle.ifmap_requests.specs.RequestForms.{other_request_check, poll_form, po
 use Rattle.ifmap_requests.specs.RequestForms.{publisher_field, purge_form, purge_of, renew_form, renewal_of, request_check}
 use Rattle.ifmap_requests.specs.RequestForms.{search_attributes, search_form, search_of, session_attribute, session_field, subscribe_form}
 use Rattle.ifmap_requests.specs.RequestForms.{subscribe_of, subscribe_op_check, subscription_form, subscription_of, update_form, update_of}
-use Rattle.ifmap_requests.proofs.Characters.{characters_utf8}
 use Rattle.ifmap_requests.proofs.Sound.{AreSound, IsSound, from_sound, parts_sound, value_fit}
+use Rattle.ifmap_elem.specs.laws.CharacterLaws.{characters_are_utf8}
 
 -- ---- 1. identifiers
 
@@ -187,7 +187,7 @@ module _ (decided : FilterOrStop) (apart : StopsWhereNone) where
   filter_done local scope None is = pass_done None
   filter_done local scope (Some text) is =
       then_done (filter_check scope text) (λ filter. pass (Some filter)) (λ filter found. pass_done (Some filter))
-      (filter_found scope text (decided text scope (characters_utf8 text is)))
+      (filter_found scope text (decided text scope (characters_are_utf8 text is)))
 
 -- ---- 4. metadata
 

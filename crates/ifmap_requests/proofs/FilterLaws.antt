@@ -43,7 +43,9 @@ use Rattle.ifmap_filter.specs.Tokens.{with_symbol, without_white}
 use Rattle.ifmap_forms.specs.Scopes.{scopes_by}
 use Rattle.ifmap_requests.specs.FitFilters.{Comparison, IsFitComparison, IsFitFilter, IsFitPredicate, IsFitTest, comparison, comparisons}
 use Rattle.ifmap_requests.specs.FitFilters.{comparisons_of}
-use Rattle.ifmap_requests.proofs.Characters.{are_characters, characters_utf8}
+use Rattle.ifmap_requests.proofs.Characters.{are_characters}
+use Rattle.ifmap_elem.specs.laws.CharacterLaws.{characters_are_utf8}
+use Rattle.ifmap_elem.specs.laws.NameBytes.{starts_are_characters}
 
 -- ---- (1) tokens
 
@@ -84,12 +86,9 @@ module _ (p : ℕ → Bool) where
   front_passes (c ∷ cs) =
       either (AllAre p) (p c) (c ∷ front_while p cs) [] (λ e. (e, front_passes cs)) (λ e. tt)
 
-name_inside : (c : ℕ) → is_name_start c ≡ true → is_name_character c ≡ true
-name_inside c starts = rw starts refl
-
 part_fit : (c : ℕ) (cs : List ℕ) → is_name_start c ≡ true → IsNamePart (part_bytes (c ∷ cs))
 part_fit c cs starts =
-    let front : front_while is_name_character (c ∷ cs) ≡ c ∷ front_while is_name_character cs = rw (name_inside c starts) refl in
+    let front : front_while is_name_character (c ∷ cs) ≡ c ∷ front_while is_name_character cs = rw (starts_are_characters c starts) refl in
     record {
       first = c;
       others = front_while is_name_character cs;
@@ -349,5 +348,5 @@ module _ (scope : Scope) (s : IsFitScope scope) where
   pub filter_fit : (text : List ℕ) (filter : Filter) → IsCharacters text → Writes text scope filter → IsFitFilter filter
   filter_fit text filter is w = record {
     tests = tests_fit _ w.tokens filter.tests (tokens_fit (chars text) w.tokens w.rest (are_characters text is) w.lexed) w.filter_is;
-    written = record { text = text; scope = scope; is_text = characters_utf8 text is; writes = w };
+    written = record { text = text; scope = scope; is_text = characters_are_utf8 text is; writes = w };
   }

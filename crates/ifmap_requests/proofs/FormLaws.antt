@@ -4,7 +4,6 @@
 -- 3. The attributes of a search.
 use Rattle.std.proofs.Common.{◌≡◌, ℕ, ◌++◌, Bool, true, false, List, [], ◌∷◌, Option, Result, Ok, Err, codes, inl, inr, refl, ap, subst}
 use Rattle.std.proofs.Common.{sym}
-use Rattle.std.specs.List.{list_all}
 use Rattle.ifmap_elem.specs.declared.elements.Element.{Element}
 use Rattle.ifmap_elem.specs.declared.elements.Name.{Name}
 use Rattle.ifmap_filter.specs.declared.filters.Filter.{Filter}
@@ -24,7 +23,7 @@ use Rattle.ifmap_forms.specs.Answers.{IsChecked, IsRefused}
 use Rattle.ifmap_forms.specs.Checks.{Check, check_if, check_then, need, pass}
 use Rattle.ifmap_forms.specs.Items.{start_check, start_content}
 use Rattle.ifmap_forms.specs.Scopes.{Scopes}
-use Rattle.ifmap_forms.specs.Tables.{Both, Form, Table, beside, both, form_check, form_or, is_white_part, no_attributes, no_children}
+use Rattle.ifmap_forms.specs.Tables.{Both, Form, Table, beside, both, form_check, form_or, no_attributes}
 use Rattle.ifmap_forms.specs.Tables.{parts_of, read_form}
 use Rattle.ifmap_forms.specs.Values.{Field, depth_field, field_check, filter_field, kinds_field, size_field}
 use Rattle.ifmap_requests.specs.declared.searching.Bounds.{Bounds}
@@ -235,14 +234,6 @@ module _ {A C : Type 0} (form : Form A C) (scopes : Scopes) (e : Element) where
 
     pub read_whole : (c : C) → only ≡ true → form.content scopes (parts_of e) (Ok c) → read_form form scopes e (Ok (both a c))
     read_whole c is g = (a, f, found_after children_of only Failure (Ok (both a c)) is (c, g, refl))
-
--- no children but white space
-pub blank_children : (scopes : Scopes) (e : Element) → list_all is_white_part (parts_of e) ≡ true → no_children scopes (parts_of e) (Ok tt)
-blank_children scopes e is = found_after (pass tt) (list_all is_white_part (parts_of e)) Failure (Ok tt) is refl
-
-pub other_children : (scopes : Scopes) (e : Element) → list_all is_white_part (parts_of e) ≡ false
-    → no_children scopes (parts_of e) (Err Failure)
-other_children scopes e is = refused_test (pass tt) (list_all is_white_part (parts_of e)) Failure is
 
 -- what is made of a form that is read
 module _ {X A C : Type 0} (form : Form A C) (make : A → C → X) (scopes : Scopes) (e : Element) where

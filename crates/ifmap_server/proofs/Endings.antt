@@ -13,7 +13,7 @@ use Rattle.ifmap_server.specs.Ends.{IsLater, Ends, ends}
 use Rattle.ifmap_server.specs.Turns.{BeginsNone, Replaying, Turns}
 use Rattle.ifmap_server.proofs.Pieces.{keeps_prefix}
 use Rattle.ifmap_server.proofs.Progress.{Progress, fault_part, fault_told, part, unread, unwritten}
-use Rattle.ifmap_server.proofs.Taking.{rose_since}
+use Rattle.ifmap_io.specs.Rises.{rose_since}
 
 -- no frame was taken: the turn ends as the taking did
 pub untaken : (e : ReplayError) (left_old left_new held : Option (List ℕ)) (reads_old reads_new writes : ℕ) (old new : Replaying)

@@ -1,22 +1,13 @@
 -- What is written and then handed on.
-use Rattle.std.proofs.Common.{◌≡◌, ℕ, ◌+◌, List, [], ◌++◌, length, take, refl, sym, ap, subst, ◌∙◌, append-nil, min, arith, None, Some}
+use Rattle.std.proofs.Common.{◌≡◌, ℕ, ◌+◌, List, [], ◌++◌, length, take, refl, sym, ap, subst, ◌∙◌, append-nil, min, arith}
 use Rattle.std.specs.Prelude.{Option, Result, Ok, Err}
 use Rattle.std.proofs.KnownBytes.{Appends-kept, Appends-nil, Appends-trans}
-use Rattle.std.proofs.Math.Seq.{take-append-add, take-length}
+use Rattle.std.proofs.Math.Seq.{take-append-add}
 use Rattle.std.proofs.lemmas.List.{take-append-le, take_min}
 use Rattle.std.specs.Io.KnownBytes.{Appends, Keeps}
 use Rattle.ifmap_io.specs.Written.{WritesAll}
 use Rattle.ifmap_server.specs.Output.{AppendsPrefix}
-
-pub appends_kept : (a b c : Option (List ℕ)) (bytes : List ℕ) → Appends a b bytes → Keeps b c → Appends a c bytes
-appends_kept None b c bytes p q = tt
-appends_kept (Some x) None c bytes p q = absurd p
-appends_kept (Some x) (Some y) None bytes p q = absurd q
-appends_kept (Some x) (Some y) (Some z) bytes p q = q ∙ p
-
--- all of a text is a prefix of it
-pub appends_whole : (a b : Option (List ℕ)) (bytes : List ℕ) → Appends a b bytes → (n : ℕ) × Appends a b (take n bytes)
-appends_whole a b bytes p = (length bytes, subst (Appends a b) (sym (take-length bytes)) p)
+use Rattle.ifmap_io.specs.Rises.{appends_whole}
 
 prefix_of : (a b c : List ℕ) (n : ℕ) → (m : ℕ) × (take m (a ++ (b ++ c)) ≡ a ++ take n b)
 prefix_of a b c n = (

@@ -1,8 +1,7 @@
 -- What is taken piece by piece.
-use Rattle.std.proofs.Common.{ℕ, ◌≤◌, List, [], ◌++◌, sym, ap, ◌∙◌, append_assoc, append-nil, arith}
+use Rattle.std.proofs.Common.{ℕ, List, [], ◌++◌, sym, ap, ◌∙◌, append_assoc, append-nil}
 use Rattle.std.specs.Prelude.{Option}
 use Rattle.std.proofs.KnownBytes.{Consumes-nil, Consumes-trans}
-use Rattle.ifmap_io.specs.Causes.{Rose}
 use Rattle.ifmap_server.specs.Pending.{Takes}
 
 pub takes_nothing : (left : Option (List ℕ)) (pending : List ℕ) → Takes left left pending pending
@@ -16,6 +15,3 @@ takes_more left_old left_mid left_new old mid new a b =
       consumed = Consumes-trans left_old left_mid left_new a.got b.got a.consumed b.consumed;
       grown = b.grown ∙ ap (λ bytes. bytes ++ b.got) a.grown ∙ append_assoc old a.got b.got;
     }
-
-pub rose_since : (before mid now : ℕ) → before ≤ mid → Rose mid now → Rose before now
-rose_since before mid now later rose = omega arith

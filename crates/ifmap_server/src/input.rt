@@ -97,7 +97,7 @@ impl Input {
 
     /// Waits for a header's line, and answers the place of its newline; `None` where the source ends
     /// and nothing is pending.
-    #[tactic(auto, using(crate::proofs::Taking::takes_nothing, crate::proofs::Taking::takes_more, crate::proofs::Taking::rose_since))]
+    #[tactic(auto, using(crate::proofs::Taking::takes_nothing, crate::proofs::Taking::takes_more, ifmap_io::specs::Rises::rose_since))]
     pub fn await_line<S: Source>(&mut self, source: &mut S) -> Result<Option<usize>, ReplayError>
         ensures taken { OnOk result (Takes (S.left source.old) (S.left source.new) self.old
             self.new) }
@@ -131,7 +131,7 @@ impl Input {
     }
 
     /// Waits until that many bytes are pending; false where the source ends before.
-    #[tactic(auto, using(crate::proofs::Taking::takes_nothing, crate::proofs::Taking::takes_more, crate::proofs::Taking::rose_since))]
+    #[tactic(auto, using(crate::proofs::Taking::takes_nothing, crate::proofs::Taking::takes_more, ifmap_io::specs::Rises::rose_since))]
     pub fn await_bytes<S: Source>(
         &mut self,
         source: &mut S,

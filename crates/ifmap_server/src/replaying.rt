@@ -40,7 +40,7 @@ pub struct TakenFrame {
 
 /// Takes the next frame, and leaves it pending; `None` at the end of the source. The frame begins at
 /// that offset of the script.
-#[tactic(auto, using(crate::proofs::Taking::takes_nothing, crate::proofs::Taking::takes_more, crate::proofs::Taking::rose_since, crate::proofs::Framing::no_line_none))]
+#[tactic(auto, using(crate::proofs::Taking::takes_nothing, crate::proofs::Taking::takes_more, ifmap_io::specs::Rises::rose_since, crate::proofs::Framing::no_line_none))]
 pub fn next_frame<S: Source>(
     alloc: Global,
     input: &mut Input,

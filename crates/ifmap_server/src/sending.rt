@@ -8,7 +8,7 @@ use crate::errors::ReplayError;
 use ifmap_io::Sink;
 
 /// Writes bytes, and hands them on.
-#[tactic(auto, using(crate::proofs::Pieces::appends_kept, crate::proofs::Pieces::appends_whole, crate::proofs::Taking::rose_since))]
+#[tactic(auto, using(ifmap_io::specs::Rises::appends_kept, ifmap_io::specs::Rises::appends_whole, ifmap_io::specs::Rises::rose_since))]
 pub fn send<K: Sink>(sink: &mut K, bytes: &[u8]) -> Result<(), ReplayError>
     ensures bytes { WritesAll (K.held sink.old) (K.held sink.new) result bytes.now }
     ensures cause { IfErr result (λ e. e ≡ ReplayError.WriteFault) }

@@ -15,7 +15,7 @@ use Rattle.ifmap_session.specs.Seats.{Seat}
 use Rattle.ifmap_session.specs.Sessions.{Session, change, session_with_serial, spare_of, with_error, with_item, with_last, without_items, without_name}
 use Rattle.ifmap_session.specs.Stamps.{Restamps, no_stamp}
 use Rattle.ifmap_session.proofs.RowLaws.{changed, empty_row, found, spare_found, spare_other, row_of}
-use Rattle.ifmap_session.specs.laws.TableLaws.{Keeps}
+use Rattle.ifmap_session.specs.laws.TableLaws.{Keeps, renewed_keeps}
 use Rattle.ifmap_session.proofs.SessionLaws.{holders_changed, own_at, rows_changed}
 use Rattle.ifmap_session.proofs.StampLaws.{stamped_alike, stamped_push, stamped_set}
 
@@ -66,9 +66,6 @@ name_dropped name = record { names = record { serial = λ s. refl; id = λ s. re
 
 pub queue_emptied : ChangesQueue without_items
 queue_emptied = record { names = record { serial = λ s. refl; id = λ s. refl; client = λ s. refl }; last = λ s. refl }
-
-pub moment_renewed : (moment : ℕ) → Keeps (with_last moment)
-moment_renewed moment = record { serial = λ s. refl; id = λ s. refl; client = λ s. refl }
 
 -- a list in which nothing is changed
 either_way : (b : Bool) (s : Session) → cond b s s ≡ s
@@ -152,7 +149,7 @@ module _ {counter : ℕ} {rows : List SessionRow} {holders : List Holder} {width
       → Rewrites place (ChangesSeat (with_last moment) P) rows new → Restamps width place moment tree tree2
       → AreTied counter new holders width tree2
   kept_renewed new P moment tree2 w restamped =
-      let r = rewritten new (with_last moment) P (moment_renewed moment) w in
+      let r = rewritten new (with_last moment) P (renewed_keeps moment) w in
       record { sessions = r.sessions; clients = r.clients; moments = moments_set new P moment tree2 w restamped }
 
   -- a place is one that stamps are for

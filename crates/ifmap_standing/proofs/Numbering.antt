@@ -2,30 +2,27 @@
 -- First links are matches (`linked_matches`, `matches_linked`). Then a link of one view is one of the other, between the same
 -- identifiers (`there`), so that walks go on alike (`over`), and what is kept is kept (`kept_elsewhere`). Last, marks that are
 -- the same place by place (`kept_the_same`).
-use Rattle.std.proofs.Common.{◌≡◌, ◌≢◌, ℕ, zero, suc, ◌<◌, Bool, true, false, cond, Option, Some, None, List, [], length, get_or, slice_get, refl, ap, ◌∙◌, sym, subst}
+use Rattle.std.proofs.Common.{◌≡◌, ◌≢◌, ℕ, ◌<◌, Bool, true, false, cond, Option, Some, None, List, [], length, get_or, slice_get, refl, ap, ◌∙◌, sym, subst}
 use Rattle.std.proofs.lemmas.List.{get_or-map, length-map}
 use Rattle.std.proofs.lemmas.Option.{slice_get-get_or, same_Some, none-some}
 use Rattle.std.specs.List.{Contains}
 use Rattle.ifmap_delta.specs.declared.subscriptions.Subscription.{Subscription}
 use Rattle.ifmap_delta.specs.Sights.{AreMarks, IsKept, Links, Sight, is_terminal_in}
 use Rattle.ifmap_delta.specs.Ways.{HasSameSearch}
-use Rattle.ifmap_filter.specs.declared.filters.Filter.{Filter}
 use Rattle.ifmap_fresh.specs.Fresh.{fresh_size}
 use Rattle.ifmap_fresh.specs.Linking.{end_where, is_terminal_at}
 use Rattle.ifmap_fresh.specs.Matching.{one_meets}
 use Rattle.ifmap_ident.specs.declared.identifiers.Identifier.{Identifier}
-use Rattle.ifmap_meta.specs.declared.stored.Stored.{Stored}
 use Rattle.ifmap_region.specs.Marks.{mark_of}
-use Rattle.ifmap_region.specs.Walks.{AreDepths, HasDepth, Walk, begins, goes_on}
+use Rattle.ifmap_region.specs.Walks.{HasDepth}
 use Rattle.ifmap_search.specs.declared.searches.Search.{Search}
 use Rattle.ifmap_standing.specs.Ways.{IsSettled, Way}
 use Rattle.ifmap_view.specs.declared.attachments.Attachment.{Attachment}
 use Rattle.ifmap_view.specs.declared.views.LinkSeen.{LinkSeen}
 use Rattle.ifmap_view.specs.Rows.{stored_linked}
 use Rattle.ifmap_view.specs.Views.{IsView, others}
-
-some_there : (filter : Option Filter) (xs : List Stored) → one_meets filter xs ≡ true → xs ≢ []
-some_there filter xs e n = let p : one_meets filter [] ≡ true = subst (λ ys. one_meets filter ys ≡ true) n e in cc
+use Rattle.ifmap_region.specs.DepthLaws.{depths_same, walk_over}
+use Rattle.ifmap_fresh.specs.laws.JoiningLaws.{some_there}
 
 -- what is stored on a link is stored between two identifiers
 named : (rows : List Attachment) (x y : Option Identifier) → stored_linked x y rows ≢ []
@@ -64,13 +61,6 @@ module _ (g : Sight) (s : Search) where
             ∙ ap (λ b. cond b (Some seen.other) None) (subst (λ x. Matches v x) (sym other) m)
             ∙ ap Some other,
       )
-
--- walks along links that go on alike
-walk_over : (L M : ℕ → ℕ → Type 0) (T U : ℕ → Bool) (start : ℕ)
-    → ((u v : ℕ) → T u ≡ false → L u v → (U u ≡ false) × M u v) → (k v : ℕ) → Walk L T start k v → Walk M U start k v
-walk_over L M T U start f zero v (begins e) = begins e
-walk_over L M T U start f (suc k) v (goes_on {u = u} w t l) =
-    let n = f u v t l in goes_on (walk_over L M T U start f k u w) n.0 n.1
 
 depth_to : (L M : ℕ → ℕ → Type 0) (T U : ℕ → Bool) (start top : ℕ) → ((u v : ℕ) → T u ≡ false → L u v → (U u ≡ false) × M u v)
     → ((u v : ℕ) → U u ≡ false → M u v → (T u ≡ false) × L u v)
@@ -138,11 +128,6 @@ kept_elsewhere one other sub was is rows links ids here kept =
       size = kept.size ∙ ap (λ r. fresh_size r s) (sym rows);
     }
 
--- marks that are the same at each number
-pub same_depths : (L : ℕ → ℕ → Type 0) (T : ℕ → Bool) (start top : ℕ) (old new : ℕ → Option ℕ) → ((v : ℕ) → new v ≡ old v)
-    → AreDepths L T start top old → AreDepths L T start top new
-same_depths L T start top old new same d v k = (λ e. (d v k).0 (sym (same v) ∙ e), λ h. same v ∙ (d v k).1 h)
-
 pub kept_the_same : (g : Sight) (old new : Subscription) → HasSameSearch old new → new.size ≡ old.size
     → ((v : ℕ) → mark_of new.region.marks.entries v ≡ mark_of old.region.marks.entries v) → IsKept g old → IsKept g new
 kept_the_same g old new same size marks kept =
@@ -152,7 +137,7 @@ kept_the_same g old new same size marks kept =
       identifier = kept.marks.identifier;
       here = kept.marks.here;
       most = kept.marks.most;
-      depths = same_depths (Links g old.search) (is_terminal_in g old.search) old.region.start old.search.max_depth old_mark new_mark
+      depths = depths_same (Links g old.search) (is_terminal_in g old.search) old.region.start old.search.max_depth old_mark new_mark
           marks kept.marks.depths;
     }
     in record {

@@ -1,4 +1,4 @@
--- Lists of subscriptions, place by place. First relations at each place: joined (`joined`), and weaker (`weaker`). Then a walk from
+-- Lists of subscriptions, place by place. First relations at each place: at_each_joined (`at_each_joined`), and weaker (`weaker`). Then a walk from
 -- the last place down that changes each by a way (`Down`): as it begins, at one place, and at its end. Last, that ways lead back still
 -- after what keeps the same (`stay`).
 use Rattle.std.proofs.Common.{◌≡◌, inl, inr, ℕ, zero, suc, ◌+◌, ◌<◌, ◌≤◌, Option, Some, None, List, [], ◌∷◌, ◌++◌, length, get_or, set, slice_get, take, refl, ap, ◌∙◌, sym, subst, arith}
@@ -6,11 +6,11 @@ use Rattle.std.proofs.lemmas.Bool.{cases_order}
 use Rattle.std.proofs.lemmas.List.{length-append, length-set}
 use Rattle.std.proofs.lemmas.Option.{slice_get_past, slice_get_read, slice_get_within, same_Some}
 use Rattle.ifmap_delta.specs.declared.subscriptions.Subscription.{Subscription}
-use Rattle.ifmap_delta.specs.Ways.{HasSameSearch}
-use Rattle.ifmap_lemmas.specs.Places.{last_there, present, written_elsewhere, written_there}
+use Rattle.ifmap_lemmas.specs.Places.{last_there, written_elsewhere, written_there}
 use Rattle.ifmap_standing.specs.declared.standing.Standing.{Standing}
 use Rattle.ifmap_standing.specs.Kept.{AtEach, KeepsSame, Stands}
 use Rattle.ifmap_standing.specs.Ways.{LeadBack, LeadsBackWhere, Way}
+use Rattle.ifmap_standing.specs.PlaceLaws.{at_each_joined, searches_twice, keeps_twice}
 
 pub before_last : {X : Type 0} (xs : List X) (x : X) (i : ℕ) → i < length xs → slice_get (xs ++ x ∷ []) i ≡ slice_get xs i
 before_last [] x i less = absurd (omega (arith, less))
@@ -23,46 +23,16 @@ front_there (suc n) [] i less = refl
 front_there (suc n) (x ∷ xs) zero less = refl
 front_there (suc n) (x ∷ xs) (suc i) less = front_there n xs i (omega (arith, less))
 
--- relations at each place
-pub joined : {X : Type 0} (R S T : ℕ → X → X → Type 0) → ((i : ℕ) (x y z : X) → R i x y → S i y z → T i x z) → (a b c : List X)
-    → AtEach R a b → AtEach S b c → AtEach T a c
-joined R S T f a b c r s = record {
-  long = s.long ∙ r.long;
-  at = λ i x z p q. let y = present a b i x r.long p in f i x y.0 z (r.at i x y.0 p y.1) (s.at i y.0 z y.1 q);
-}
-
 pub weaker : {X : Type 0} (R S : ℕ → X → X → Type 0) → ((i : ℕ) (x y : X) → R i x y → S i x y) → (a b : List X)
     → AtEach R a b → AtEach S a b
 weaker R S f a b r = record { long = r.long; at = λ i x y p q. f i x y (r.at i x y p q) }
-
--- what keeps the same keeps the same twice
-pub same_searches : (a b c : Subscription) → HasSameSearch a b → HasSameSearch b c → HasSameSearch a c
-same_searches a b c s t = record {
-  search = t.search ∙ s.search;
-  start = t.start ∙ s.start;
-  max_depth = t.max_depth ∙ s.max_depth;
-}
-
-pub same_search : (a : Subscription) → HasSameSearch a a
-same_search a = record { search = refl; start = refl; max_depth = refl }
-
-pub keeps_itself : (a : Subscription) → KeepsSame a a
-keeps_itself a = record { search = same_search a; size = refl; marks = λ v. refl; rows = λ v r. r }
-
-pub keeps_twice : (a b c : Subscription) → KeepsSame a b → KeepsSame b c → KeepsSame a c
-keeps_twice a b c s t = record {
-  search = same_searches a b c s.search t.search;
-  size = t.size ∙ s.size;
-  marks = λ v. t.marks v ∙ s.marks v;
-  rows = λ v r. t.rows v (s.rows v r);
-}
 
 -- ways lead back still after what keeps the same
 stays : (way : Option (Option Way)) (a b c : Subscription) → LeadsBackWhere way a b → KeepsSame b c → LeadsBackWhere way a c
 stays None a b c s t = keeps_twice a b c s t
 stays (Some None) a b c s t = keeps_twice a b c s t
 stays (Some (Some way)) a b c s t = record {
-  search = same_searches a b c s.search t.search;
+  search = searches_twice a b c s.search t.search;
   size = s.size;
   patch = s.patch;
   marks = record { taken = s.marks.taken; made = λ v. t.marks v ∙ s.marks.made v };
@@ -82,7 +52,7 @@ pub stay : (before now after : List Standing) (ways : List (Option Way)) → Lea
     → AtEach (λ _. Stands KeepsSame) now after → LeadBack before ways after
 stay before now after ways l k = record {
   long = rw k.long l.long;
-  each = joined (λ i. Stands (LeadsBackWhere (slice_get ways i))) (λ _. Stands KeepsSame)
+  each = at_each_joined (λ i. Stands (LeadsBackWhere (slice_get ways i))) (λ _. Stands KeepsSame)
       (λ i. Stands (LeadsBackWhere (slice_get ways i)))
       (λ i x y z r s. stand_joined (LeadsBackWhere (slice_get ways i)) KeepsSame (LeadsBackWhere (slice_get ways i))
       (stays (slice_get ways i)) x y z r s) before now after l.each k;

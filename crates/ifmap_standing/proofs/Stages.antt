@@ -1,7 +1,7 @@
 -- Telling a list of subscriptions, from the first on. First the steps of one more (`within_more`), and of none (`within_none`). Then
 -- a relation at each place, of which one is written (`at_set`). Then what holds as far as the loop has come (`Stage`): as it begins,
 -- one on, where one fails, and at its end.
-use Rattle.std.proofs.Common.{◌≡◌, ◌≢◌, inl, inr, ℕ, zero, suc, ◌+◌, ◌<◌, ◌≤◌, Bool, true, false, Option, Some, None, List, [], ◌∷◌, ◌++◌, length, map, set, slice_get, take, drop, refl, ap, ◌∙◌, sym, subst, arith}
+use Rattle.std.proofs.Common.{◌≡◌, ◌≢◌, inl, inr, ℕ, zero, suc, ◌+◌, ◌<◌, ◌≤◌, Bool, true, false, Option, Some, List, [], ◌∷◌, ◌++◌, length, map, set, slice_get, take, drop, refl, ap, ◌∙◌, sym, subst, arith}
 use Rattle.std.specs.List.{zip}
 use Rattle.std.proofs.lemmas.Bool.{cases_order}
 use Rattle.std.proofs.lemmas.List.{length-append, length-set, map-append, take-append-drop, take_all}
@@ -23,7 +23,8 @@ use Rattle.ifmap_standing.specs.Kept.{AtEach, KeepsSame, Stands}
 use Rattle.ifmap_standing.specs.News.{news_of_each, news_where}
 use Rattle.ifmap_standing.specs.Standing.{standing_of}
 use Rattle.ifmap_standing.specs.Ways.{LeadBack, LeadsBackWhere, Way}
-use Rattle.ifmap_standing.proofs.Places.{before_last, keeps_itself, weaker}
+use Rattle.ifmap_standing.proofs.Places.{before_last, weaker}
+use Rattle.ifmap_standing.specs.PlaceLaws.{at_each_same, keeps_itself, leads_search}
 
 -- two lists side by side, one place on
 zip_more : {A B : Type 0} (us : List A) (vs : List B) (n : ℕ) (a : A) (b : B) → slice_get us n ≡ Some a → slice_get vs n ≡ Some b
@@ -91,17 +92,10 @@ at_set R S xs now after n x y r here within so is others = record {
   ];
 }
 
--- a relation that holds of each with itself
-pub at_itself : {X : Type 0} (R : ℕ → X → X → Type 0) → ((i : ℕ) (x : X) → R i x x) → (xs : List X) → AtEach R xs xs
-at_itself R f xs = record {
-  long = refl;
-  at = λ i x y p q. subst (λ z. R i x z) (same_Some x y (sym p ∙ q)) (f i x);
-}
-
 pub stands_itself : (R : Subscription → Subscription → Type 0) → ((x : Subscription) → R x x) → (xs : List Standing)
     → AtEach (λ _. Stands R) xs xs
 stands_itself R f xs =
-    at_itself (λ _. Stands R) (λ i x. record { serial = refl; name = refl; subscription = f x.subscription }) xs
+    at_each_same (λ _. Stands R) (λ i x. record { serial = refl; name = refl; subscription = f x.subscription }) xs
 
 module _ (old new : Sight) (notes : List Note) (skipped : List Bool) (xs : List Standing) (begun : ℕ) where
   abbrev pub told : Bool × machine.Standing → News
@@ -121,7 +115,7 @@ module _ (old new : Sight) (notes : List Note) (skipped : List Bool) (xs : List 
   pub lead_nowhere : LeadBack xs [] xs
   lead_nowhere = record {
     long = omega arith;
-    each = at_itself (λ i. Stands (LeadsBackWhere (slice_get [] i)))
+    each = at_each_same (λ i. Stands (LeadsBackWhere (slice_get [] i)))
         (λ i x. record { serial = refl; name = refl; subscription = keeps_itself x.subscription }) xs;
   }
 
@@ -133,7 +127,7 @@ module _ (old new : Sight) (notes : List Note) (skipped : List Bool) (xs : List 
     lead = lead_nowhere;
     rest = λ i past. refl;
     kept = λ i y less. absurd (omega (arith, less));
-    skips = at_itself (λ i x y. slice_get skipped i ≡ Some true → y ≡ x) (λ i x e. refl) xs;
+    skips = at_each_same (λ i x y. slice_get skipped i ≡ Some true → y ≡ x) (λ i x e. refl) xs;
     within = omega arith;
   }
 
@@ -241,12 +235,6 @@ module _ (old new : Sight) (notes : List Note) (skipped : List Bool) (xs : List 
     steps_all = subst (λ ps. IsWithinEach old new ps begun steps)
         (take_all n (zip skipped xs) (omega (arith, past, length-zip skipped xs))) s.within
 
--- what leads back has the same searches, and what keeps the same too
-searches : (way : Option (Option Way)) (a b : Subscription) → LeadsBackWhere way a b → HasSameSearch a b
-searches None a b l = l.search
-searches (Some None) a b l = l.search
-searches (Some (Some way)) a b l = l.search
-
 pub lead_searches : (xs : List Standing) (ways : List (Option Way)) (now : List Standing) → LeadBack xs ways now
     → AtEach (λ _. Stands HasSameSearch) xs now
 lead_searches xs ways now l =
@@ -254,12 +242,7 @@ lead_searches xs ways now l =
     (λ i x y s. record {
       serial = s.serial;
       name = s.name;
-      subscription = searches (slice_get ways i) x.subscription y.subscription
+      subscription = leads_search (slice_get ways i) x.subscription y.subscription
           s.subscription;
     })
     xs now l.each
-
-pub keep_searches : (xs now : List Standing) → AtEach (λ _. Stands KeepsSame) xs now → AtEach (λ _. Stands HasSameSearch) xs now
-keep_searches xs now k =
-    weaker (λ _. Stands KeepsSame) (λ _. Stands HasSameSearch)
-    (λ i x y s. record { serial = s.serial; name = s.name; subscription = s.subscription.search }) xs now k

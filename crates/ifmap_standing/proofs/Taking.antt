@@ -12,8 +12,8 @@ use Rattle.ifmap_region.specs.Marks.{mark_of, over, row_of}
 use Rattle.ifmap_region.specs.Ways.{HasRoom, Makes, OnlyRoom, taken_from}
 use Rattle.ifmap_standing.specs.Kept.{KeepsSame}
 use Rattle.ifmap_standing.specs.Ways.{LeadsBack, Way}
-use Rattle.ifmap_standing.proofs.Numbering.{same_depths}
-use Rattle.ifmap_standing.proofs.Places.{same_searches}
+use Rattle.ifmap_region.specs.DepthLaws.{depths_same}
+use Rattle.ifmap_standing.specs.PlaceLaws.{searches_twice}
 
 -- room for a patch leaves all but rows
 pub room_keeps : (old new : Subscription) (patch : List (ℕ × Option ℕ)) → HasSameSearch old new → new.size ≡ old.size
@@ -38,7 +38,7 @@ would_keep g old new patch size k w =
       identifier = w.marks.identifier;
       here = w.marks.here;
       most = w.marks.most;
-      depths = same_depths (Links g old.search) (is_terminal_in g old.search) old.region.start old.search.max_depth old_mark new_mark
+      depths = depths_same (Links g old.search) (is_terminal_in g old.search) old.region.start old.search.max_depth old_mark new_mark
           (λ v. ap (unwrap_or (row_of patch v)) (k.marks v)) w.marks.depths;
     }
     in record {
@@ -60,7 +60,7 @@ pub leads : (before roomy now : Subscription) (patch : List (ℕ × Option ℕ))
     → way.0 ≡ taken_from (mark_of roomy.region.marks.entries) patch → way.1 ≡ roomy.size
     → HasRoom way.0 now.region.marks.entries → LeadsBack before way now
 leads before roomy now patch way k search makes taken size room = record {
-  search = same_searches before roomy now k.search search;
+  search = searches_twice before roomy now k.search search;
   size = size ∙ k.size;
   patch = patch;
   marks = record {

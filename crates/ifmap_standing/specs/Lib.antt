@@ -5,3 +5,4 @@ pub mod Kept
 pub mod News
 pub mod Ways
 pub mod Bounds
+pub mod PlaceLaws

@@ -5,11 +5,11 @@ use Rattle.std.proofs.lemmas.Cmp.{nat_cmp_total, nat_list_cmp_total, on_total, t
 use Rattle.std.proofs.lemmas.Map.Lookups.{exact_unsigned}
 use Rattle.std.proofs.lemmas.Map.Text.{is_eq-slice_cmp}
 use Rattle.std.specs.BTreeMap.{is_at}
-use Rattle.std.specs.Cmp.{IsTotalOrder, tied_itself}
+use Rattle.std.specs.Cmp.{IsTotalOrder}
 use Rattle.std.specs.Cmp.Lexicographic.{slice_cmp}
 use Rattle.std.specs.List.{filter, list_any}
 use Rattle.std.specs.List.Sorted.{IsStrictlySortedBy}
-use Rattle.std.specs.Ordering.{nat_cmp, ordering_then}
+use Rattle.std.specs.Ordering.{nat_cmp}
 use Rattle.std.specs.declared.cmp.Ordering.TheVariants.{Equal}
 use Rattle.ifmap_lemmas.specs.Filters.{all_weaker, filter_passes}
 use Rattle.ifmap_lemmas.specs.Numbers.{is_number}
@@ -23,6 +23,7 @@ use Rattle.ifmap_search.specs.declared.results.PollItem.TheVariants as the_item
 use Rattle.ifmap_session.specs.Sessions.{is_named, is_text}
 use Rattle.ifmap_session.specs.laws.TextLaws.{text_is, text_same}
 use Rattle.ifmap_subscribes.proofs.Parting.{any_put, any_put_other, any_within, length_put, length_without}
+use Rattle.ifmap_machine.specs.OrderLaws.{order_same}
 
 -- a subscription of a session's name has that serial and that name, and no other has both
 pub of_name : (serial : ℕ) (name : List ℕ) (x : Standing) → is_of_name serial name x ≡ true → (x.serial ≡ serial) × (x.name ≡ name)
@@ -37,12 +38,6 @@ not_of_other : (serial : ℕ) (name other : List ℕ) (x : Standing) → other �
     → not (is_of_name serial name x) ≡ true
 not_of_other serial name other x apart h =
     ap not (false_from_ne_true (is_of_name serial name x) (λ k. apart (sym (of_name serial other x h).1 ∙ (of_name serial name x k).1)))
-
--- in the order of subscriptions those of one serial and name are equal, and no others are
-pub order_same : (x y : Standing) → x.serial ≡ y.serial → x.name ≡ y.name → standing_order x y ≡ Equal
-order_same x y s n =
-    ap (λ r. ordering_then r (slice_cmp nat_cmp x.name y.name)) (ap (nat_cmp x.serial) (sym s) ∙ tied_itself nat_cmp_total x.serial)
-    ∙ (ap (slice_cmp nat_cmp x.name) (sym n) ∙ tied_itself nat_list_cmp_total x.name)
 
 pub same_order : (x y : Standing) → standing_order x y ≡ Equal → (x.serial ≡ y.serial) × (x.name ≡ y.name)
 same_order x y e =

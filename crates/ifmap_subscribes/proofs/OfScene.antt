@@ -19,15 +19,9 @@ use Rattle.ifmap_subscribes.specs.declared.readying.Readying.{Readying}
 use Rattle.ifmap_subscribes.specs.Renamings.{IsNameNow, told_so_far}
 use Rattle.ifmap_subscribes.specs.declared.names.NameNow.{NameNow}
 use Rattle.ifmap_subscribes.specs.declared.readying.Scene.{Scene}
-use Rattle.ifmap_tellings.specs.Tellings.{Tellings, told_by, told_where}
-use Rattle.ifmap_tellings.specs.declared.tellings.Telling.{Telling}
-use Rattle.ifmap_tellings.specs.declared.tellings.Telling.TheVariants.{After, Alone}
+use Rattle.ifmap_tellings.specs.Tellings.{Tellings, told_by}
 use Rattle.ifmap_view.specs.declared.attachments.Attachment.{Attachment}
-
-serial_stays : (o : Option Telling) (s : Session) → (told_where o s).serial ≡ s.serial
-serial_stays None s = refl
-serial_stays (Some (After items size)) s = refl
-serial_stays (Some (Alone error)) s = refl
+use Rattle.ifmap_tellings.specs.ToldLaws.{told_serial}
 
 -- a session that is live is found once all are told
 found_told : (tellings : Tellings) (n : ℕ) (ss : List Session) (s : Session) → session_with_serial n ss ≡ Some s
@@ -35,7 +29,7 @@ found_told : (tellings : Tellings) (n : ℕ) (ss : List Session) (s : Session) �
 found_told tellings n [] s e = cc
 found_told tellings n (x ∷ ss) s e =
     let same : ((told_by tellings x).serial == n) ≡ (x.serial == n)
-    = ap (λ k. k == n) (serial_stays (get nat_cmp tellings x.serial) x) in
+    = ap (λ k. k == n) (told_serial (get nat_cmp tellings x.serial) x) in
     elim (cases_Bool (x.serial == n)) [
       | inl hit ↦
           let it : Some x ≡ Some s = rw hit at e in

@@ -1,13 +1,10 @@
 -- What stays ready where identifiers are only held.
 -- First: `OnlyHolds` of one state after another, and what is to be told then. Then: subscriptions keep what the graph has, by the law
 -- that views with the same links are kept alike (`SameLinks`). Then: parts stay ready. Last: few hold one identifier.
-use Rattle.std.proofs.Common.{◌≡◌, sym, ◌∙◌, ap, subst, ℕ, ◌*◌, ◌^◌, ◌≤◌, Bool, List, [], ◌∷◌, ◌++◌, length, map, Some, Result, Ok, Err, inl, inr, arith, append_assoc, length-append, option_to_list}
+use Rattle.std.proofs.Common.{◌≡◌, sym, ◌∙◌, ap, subst, ℕ, ◌*◌, ◌^◌, ◌≤◌, Bool, List, [], ◌∷◌, ◌++◌, length, map, Some, Result, Ok, Err, arith, append_assoc, length-append, option_to_list}
 use Rattle.std.specs.Prelude.{IfOk}
-use Rattle.std.proofs.lemmas.Bool.{cases_Bool}
 use Rattle.std.proofs.lemmas.List.{length-map}
-use Rattle.std.proofs.lemmas.List.Sums.{sum_by-cons}
 use Rattle.std.specs.List.{AllByRecursion}
-use Rattle.std.specs.Ordering.{is_eq}
 use Rattle.ifmap_lemmas.specs.Places.{all_got}
 use Rattle.ifmap_machine.specs.State as machine
 use Rattle.ifmap_changes.specs.Between.{AreOrdered, Asking, IsReady, IsSteady, SharesNumbers, sessions_left, sight_now, starts_of}
@@ -15,12 +12,11 @@ use Rattle.ifmap_changes.specs.declared.parts.Parts.{Parts}
 use Rattle.ifmap_delta.specs.Sights.{IsKept, Sight}
 use Rattle.ifmap_delta.specs.declared.subscriptions.Subscription.{Subscription}
 use Rattle.ifmap_graph.specs.Held.{Held}
-use Rattle.ifmap_graph.specs.Seen.{BringsNoNumbers, HasFewOwn, KeepsNumbers, links_now, rows_now}
+use Rattle.ifmap_graph.specs.Seen.{HasFewOwn, KeepsNumbers, links_now, rows_now}
 use Rattle.ifmap_ident.specs.declared.identifiers.Identifier.{Identifier}
-use Rattle.ifmap_ident.specs.Identifiers.{identifier_order}
 use Rattle.ifmap_lemmas.specs.Members.{all_both, both_all, map_of_all}
 use Rattle.ifmap_machine.specs.Subscribing.{Told}
-use Rattle.ifmap_pool.specs.Holdings.{key_at, once}
+use Rattle.ifmap_pool.specs.Holdings.{key_at}
 use Rattle.ifmap_session.specs.Sessions.{IsLive, Session, Table, session_with_serial}
 use Rattle.ifmap_standing.specs.Standing.{standing_of}
 use Rattle.ifmap_standing.specs.declared.standing.Standing.{Standing}
@@ -34,6 +30,7 @@ use Rattle.ifmap_subscribes.specs.declared.renamings.Renaming.{Renaming}
 use Rattle.ifmap_tellings.specs.Tellings.{AllKept, kept_of, told_by}
 use Rattle.ifmap_tellings.specs.declared.tellings.Pending.{Pending}
 use Rattle.ifmap_view.specs.Views.{IsView}
+use Rattle.ifmap_changes.specs.StartLaws.{starts_few, shares_kept}
 
 -- one state after another
 pub holds_on : (a b c : Parts) → OnlyHolds a b → OnlyHolds b c → OnlyHolds a c
@@ -79,11 +76,6 @@ pub numbered_on : (old new : Held) → KeepsNumbers old new → (xs : List Stand
 numbered_on old new k [] h = tt
 numbered_on old new k (x ∷ xs) h =
     (k x.subscription.region.start x.subscription.search.start h.0, numbered_on old new k xs h.1)
-
-pub shares : (old new : Held) → KeepsNumbers old new → SharesNumbers old new
-shares old new k v a b e f =
-    let same : Some b ≡ Some a = sym f ∙ k v a e in
-    cc
 
 -- views with the same links are kept alike
 abbrev pub SameLinks : Type 0
@@ -137,7 +129,7 @@ module _ (law : SameLinks) (serial : ℕ) (old : Parts) (g : Held) (made : List 
 
   kept_begun : AllByRecursion (λ x. IsKept (sight_now g) x.subscription) (begun_by made)
   kept_begun =
-      kept_all law old.graph g seen_old seen_new h.rows h.links (shares old.graph g h.numbers) (begun_by made)
+      kept_all law old.graph g seen_old seen_new h.rows h.links (shares_kept old.graph g h.numbers) (begun_by made)
       (all_both (IsNumbered g) old.standing.items (begun_by made) numbered_all).1 c.kept
 
   pub stand_still : IsSteady g (old.standing.items ++ begun_by made) → CanStand serial (record old { graph = g }) made
@@ -159,7 +151,7 @@ module _ (law : SameLinks) (serial : ℕ) (old : Parts) (g : Held) (made : List 
 
   pub stays_ready : (a : Asking) (pending : Pending) → IsReady a old pending → IsReady a (record old { graph = g }) pending
   stays_ready a pending r =
-      ready_of a old pending g r (kept_each law old.graph g seen_old seen_new h.rows h.links (shares old.graph g h.numbers)
+      ready_of a old pending g r (kept_each law old.graph g seen_old seen_new h.rows h.links (shares_kept old.graph g h.numbers)
       pending.gone.items old.standing.items (all_both (IsNumbered g) old.standing.items (begun_by made) numbered_all).0 r.kept)
 
 -- where starts are let go of, what is numbered still is kept still
@@ -175,23 +167,6 @@ pub if_ok : {A E : Type 0} (P Q R S : A → Type 0) (r : Result A E) → IfOk r 
 if_ok P Q R S (Ok a) p q r f = f a p q r
 if_ok P Q R S (Err e) p q r f = tt
 
--- few hold one identifier beside the items that name it
-once_at_most : (a b : Identifier) → once identifier_order a b ≤ 1
-once_at_most a b = elim (cases_Bool (is_eq (identifier_order a b))) [
-  | inl same ↦ rw same (omega arith)
-  | inr other ↦ rw other (omega arith)
-]
-
-starts_at_most : (a : Identifier) (xs : List Standing) → starts_of a xs ≤ length xs
-starts_at_most a [] = omega arith
-starts_at_most a (x ∷ xs) =
-    omega (
-      arith,
-      sum_by-cons (λ (y : Standing). once identifier_order y.subscription.search.start a) x xs,
-      once_at_most x.subscription.search.start a,
-      starts_at_most a xs,
-    )
-
 pub few_own : (h : Held) (live : List Session) (standing : List Standing) (made : List Renaming) → AreOrdered live standing
     → length live ≤ 10000 → length made ≤ 2 ^ 30 → IsSteady h (standing ++ begun_by made) → HasFewOwn h
 few_own h live standing made ordered few most steady = λ a.
@@ -201,7 +176,7 @@ few_own h live standing made ordered few most steady = λ a.
     let shown_length = length-map standing standing_of in
     let begun = fewer_joined (λ (r : Renaming). r.standing) made in
     let both = length-append standing (begun_by made) in
-    let starts = starts_at_most a (standing ++ begun_by made) in
+    let starts = starts_few a (standing ++ begun_by made) in
     (starts_of a (standing ++ begun_by made), steady.own a, omega (arith, few, most, stand, shown_length, begun, both, starts))
 
 -- what was made ready is given up
@@ -217,8 +192,3 @@ given_after a b c h k = record {
   sessions = k.sessions ∙ h.sessions;
   standing = k.standing ∙ h.standing;
 }
-
-pub shares_before : (old new : Held) → BringsNoNumbers old new → SharesNumbers old new
-shares_before old new k v a b e f =
-    let same : Some b ≡ Some a = sym (k v b f) ∙ e in
-    cc

@@ -2,18 +2,15 @@
 -- First: `IsSteady` of a list whose middle moves to the front or back (`steady_front`, `steady_back`). Then: how often the start of each is
 -- held (`each_counts`). Then: what `Graph::release` of a start leaves (`released_steady`), and several (`ReleasesOn`). Last: what is kept
 -- still (`kept_still`).
-use Rattle.std.proofs.Common.{◌≡◌, refl, sym, ◌∙◌, ap, subst, ℕ, ◌+◌, ◌-◌, ◌<◌, ◌≤◌, cond, List, [], ◌∷◌, ◌++◌, append-nil, append_assoc, drop, suc, take, option_to_list, Option, Some, arith, inl, inr}
-use Rattle.std.proofs.lemmas.List.Sums.{sum_by-append, sum_by-cons}
+use Rattle.std.proofs.Common.{◌≡◌, refl, sym, ◌∙◌, ap, subst, ℕ, ◌+◌, ◌-◌, ◌<◌, ◌≤◌, List, [], ◌∷◌, ◌++◌, append-nil, append_assoc, drop, suc, take, option_to_list, Option, Some, arith, inl, inr}
 use Rattle.std.proofs.lemmas.Option.{same_Some}
 use Rattle.std.specs.List.{AllByRecursion, remove}
 use Rattle.std.specs.Option.{option_map}
-use Rattle.std.specs.Ordering.{is_eq}
-use Rattle.std.specs.declared.cmp.Ordering.{Ordering}
 use Rattle.ifmap_changes.specs.Between.{IsSteady, sight_now, starts_of}
 use Rattle.ifmap_graph.specs.Held.{Held, IsOwn, links_at}
 use Rattle.ifmap_graph.specs.Named.{named_in}
 use Rattle.ifmap_delta.specs.Sights.{IsKept}
-use Rattle.ifmap_graph.specs.Seen.{BringsNoNumbers, IsStill, links_now, rows_now}
+use Rattle.ifmap_graph.specs.Seen.{IsStill, links_now, rows_now}
 use Rattle.ifmap_graph.specs.Shelved.{list_at, rows_by}
 use Rattle.ifmap_graph.specs.Sides.{now}
 use Rattle.ifmap_ident.specs.Canon.{IsIdentifier}
@@ -21,27 +18,19 @@ use Rattle.ifmap_ident.specs.Identifiers.{identifier_bytes, identifier_order}
 use Rattle.ifmap_ident.specs.declared.identifiers.Identifier.{Identifier}
 use Rattle.ifmap_lemmas.specs.Filters.{all_weaker}
 use Rattle.ifmap_lemmas.specs.Members.{all_both, both_all}
-use Rattle.ifmap_lemmas.specs.Texts.{same_texts, slice_cmp-same}
+use Rattle.ifmap_lemmas.specs.Texts.{same_texts}
 use Rattle.ifmap_plans.specs.Plans.{AreWhole}
 use Rattle.ifmap_pool.specs.Holdings.{IsHeld, Names, holds_at, key_at, once}
 use Rattle.ifmap_standing.specs.declared.standing.Standing.{Standing}
 use Rattle.ifmap_subscribes.specs.declared.renamings.Renaming.{Renaming}
 use Rattle.ifmap_subscribes.specs.Renamings.{KeepsNumbered, LetsGo, StandsAmong, begun_by}
 use Rattle.ifmap_view.specs.Views.{IsView}
+use Rattle.ifmap_graph.specs.NumberLaws.{once_itself}
+use Rattle.ifmap_changes.specs.StartLaws.{starts_cons, starts_append}
 
 -- the start of a subscription has its number
 abbrev pub IsNumbered : Held → Standing → Type 0
 IsNumbered h x = key_at h.names x.subscription.region.start ≡ Some x.subscription.search.start
-
--- whether a subscription starts there, as a number
-abbrev starts_at : Identifier → Standing → ℕ
-starts_at a x = once identifier_order x.subscription.search.start a
-
-starts_cons : (a : Identifier) (x : Standing) (xs : List Standing) → starts_of a (x ∷ xs) ≡ starts_at a x + starts_of a xs
-starts_cons a x xs = sum_by-cons (λ (y : Standing). once identifier_order y.subscription.search.start a) x xs
-
-starts_append : (a : Identifier) (xs ys : List Standing) → starts_of a (xs ++ ys) ≡ starts_of a xs + starts_of a ys
-starts_append a xs ys = sum_by-append (λ (y : Standing). once identifier_order y.subscription.search.start a) xs ys
 
 -- ---- some move to the front, or back
 
@@ -77,9 +66,6 @@ module _ (h : Held) (front xs back : List Standing) where
   }
 
 -- ---- how often the start of each is held
-
-once_itself : (a : Identifier) → once identifier_order a a ≡ 1
-once_itself a = ap (λ (o : Ordering). cond {A = ℕ} (is_eq o) 1 0) (slice_cmp-same (identifier_bytes a) (identifier_bytes a) refl)
 
 each_counts : (standing : List Standing)
     → AllByRecursion (λ x. 1 ≤ starts_of x.subscription.search.start standing) standing
@@ -167,11 +153,6 @@ rows_same old new e = ap (λ s. rows_by (list_at now) s) e
 
 pub links_same : (old new : Held) → new.links ≡ old.links → (v : ℕ) → links_now new v ≡ links_now old v
 links_same old new e v = ap (λ l. links_at now l v) e
-
--- numbers that have an identifier in both graphs have the same
-pub numbers_shared : (old new : Held) → BringsNoNumbers old new → (v : ℕ) (a b : Identifier) → key_at old.names v ≡ Some a
-    → key_at new.names v ≡ Some b → b ≡ a
-numbers_shared old new before v a b is later = same_Some b a (sym (before v b later) ∙ is)
 
 -- ---- several numbers went, one after the other
 

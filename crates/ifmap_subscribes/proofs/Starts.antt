@@ -1,10 +1,9 @@
 -- How a subscription starts in a graph: its number is held (`held_steady`), it stands with that number (`stands_steady`), or the number is
 -- let go of (`let_go_steady`), and nothing else that is seen changes (`held_alone`, `held_and_let_go`).
-use Rattle.std.proofs.Common.{◌≡◌, ℕ, ◌+◌, ◌-◌, ◌<◌, ◌≤◌, cond, Option, Some, None, IsSome, IfSome, option_to_list, List, [], ◌∷◌, ◌++◌, option_map, refl, ap, ◌∙◌, sym, subst, arith, inl, inr, append-nil}
+use Rattle.std.proofs.Common.{◌≡◌, ℕ, ◌+◌, ◌-◌, ◌<◌, ◌≤◌, Option, Some, None, IsSome, IfSome, option_to_list, List, [], ◌∷◌, ◌++◌, option_map, refl, ap, ◌∙◌, sym, subst, arith, inl, inr, append-nil}
 use Rattle.std.proofs.lemmas.List.Sums.{sum_by-cons, sum_by_push}
 use Rattle.std.proofs.lemmas.Option.{same_Some}
 use Rattle.std.specs.List.{AllByRecursion, sum_by}
-use Rattle.std.specs.Ordering.{is_eq}
 use Rattle.ifmap_changes.specs.Between.{IsSteady, sight_now, starts_of}
 use Rattle.ifmap_delta.specs.Sights.{IsKept}
 use Rattle.ifmap_graph.specs.Back.{KeepsBacks}
@@ -20,13 +19,14 @@ use Rattle.ifmap_ident.specs.Identifiers.{identifier_bytes, identifier_order}
 use Rattle.ifmap_lemmas.specs.Filters.{all_weaker}
 use Rattle.ifmap_lemmas.specs.Having.{Has}
 use Rattle.ifmap_lemmas.specs.Members.{both_all}
-use Rattle.ifmap_lemmas.specs.Texts.{same_texts, slice_cmp-same}
+use Rattle.ifmap_lemmas.specs.Texts.{same_texts}
 use Rattle.ifmap_plans.specs.Plans.{AreWhole}
 use Rattle.ifmap_pool.specs.Holdings.{IsHeld, holds_at, key_at, once}
 use Rattle.ifmap_search.specs.declared.searches.Search.{Search}
 use Rattle.ifmap_standing.specs.declared.standing.Standing.{Standing}
 use Rattle.ifmap_subscribes.specs.Readying.{GraphHolds, IsHolding, IsReleased}
 use Rattle.ifmap_view.specs.Views.{IsView}
+use Rattle.ifmap_graph.specs.NumberLaws.{once_itself}
 
 -- a subscription has the number of its start
 abbrev pub Numbered : Held → Standing → Type 0
@@ -51,9 +51,6 @@ member_counts f (y ∷ ys) x (inr h) = let n = member_counts f ys x h in omega (
 starts_more : (a : Identifier) (standing : List Standing) (x : Standing)
     → starts_of a (standing ++ x ∷ []) ≡ starts_of a standing + once identifier_order x.subscription.search.start a
 starts_more a standing x = sum_by_push (λ y. once identifier_order y.subscription.search.start a) standing x
-
-once_itself : (a : Identifier) → once identifier_order a a ≡ 1
-once_itself a = ap (λ o. cond (is_eq o) 1 0) (slice_cmp-same (identifier_bytes a) (identifier_bytes a) refl)
 
 -- ---- a number is held
 

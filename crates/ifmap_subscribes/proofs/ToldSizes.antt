@@ -18,7 +18,8 @@ use Rattle.ifmap_session.specs.laws.TextLaws.{all_found}
 use Rattle.ifmap_tellings.specs.declared.tellings.Telling.{Telling}
 use Rattle.ifmap_tellings.specs.declared.tellings.Telling.TheVariants as the_telling
 use Rattle.ifmap_tellings.specs.Tellings.{IsSized, Tellings, told_by, told_where}
-use Rattle.ifmap_lemmas.specs.Finding.{found_passes}
+use Rattle.ifmap_session.specs.laws.TableLaws.{found_serial}
+use Rattle.ifmap_tellings.specs.ToldLaws.{told_serial}
 
 -- ---- sizes
 
@@ -44,20 +45,11 @@ queue_few live serial s within is few =
 
 -- ---- which session
 
-pub serial_of : (serial : ℕ) (live : List Session) (s : Session) → session_with_serial serial live ≡ Some s → s.serial ≡ serial
-serial_of serial live s is =
-    let hit = found_passes (λ (x : Session). x.serial == serial) live s is in grind (arith, nat_tests, hit)
-
 -- what is told it
 pub told_as : (tellings : Tellings) (serial : ℕ) (live : List Session) (s : Session) (t : Option Telling)
     → session_with_serial serial live ≡ Some s → get nat_cmp tellings serial ≡ t → told_by tellings s ≡ told_where t s
 told_as tellings serial live s t is there =
-    ap (λ n. told_where (get nat_cmp tellings n) s) (serial_of serial live s is) ∙ ap (λ o. told_where o s) there
-
-told_serial : (t : Option Telling) (s : Session) → (told_where t s).serial ≡ s.serial
-told_serial None s = refl
-told_serial (Some (the_telling.After items size)) s = refl
-told_serial (Some (the_telling.Alone error)) s = refl
+    ap (λ n. told_where (get nat_cmp tellings n) s) (found_serial serial live s is) ∙ ap (λ o. told_where o s) there
 
 -- what is found among those that are told was found among them before
 pub found_before : (tellings : Tellings) (serial : ℕ) (live : List Session) (s : Session)
@@ -83,7 +75,7 @@ is_left ended serial = not (list_any (λ n. n == serial) ended)
 -- what is found among those that are left is found among all
 pub found_left : (ended : List ℕ) (serial : ℕ) (live : List Session) (s : Session)
     → session_with_serial serial (without_sessions ended live) ≡ Some s → session_with_serial serial live ≡ Some s
-found_left ended serial live s e = beside (serial_of serial (without_sessions ended live) s e) (stays live e) live e
+found_left ended serial live s e = beside (found_serial serial (without_sessions ended live) s e) (stays live e) live e
   where
     stays : (xs : List Session) → session_with_serial serial (without_sessions ended xs) ≡ Some s → is_left ended s.serial ≡ true
     stays [] f = cc

@@ -16,9 +16,7 @@ use Rattle.ifmap_session.specs.Sessions.{Session, session_with_serial}
 use Rattle.ifmap_tellings.specs.declared.tellings.Telling.{Telling}
 use Rattle.ifmap_tellings.specs.declared.tellings.Telling.TheVariants.{After}
 use Rattle.ifmap_tellings.specs.Tellings.{AddsTo, IsSized, told_where}
-
-pub tell_nothing : (s : Session) → tell_session [] s ≡ s
-tell_nothing s = ap (λ queue. record s { queue = queue }) (append-nil s.queue)
+use Rattle.ifmap_machine.specs.OrderLaws.{tell_nothing}
 
 pub tell_twice : (a b : List PollItem) (s : Session) → tell_session b (tell_session a s) ≡ tell_session (a ++ b) s
 tell_twice a b s = ap (λ queue. record s { queue = queue }) (append_assoc s.queue a b)

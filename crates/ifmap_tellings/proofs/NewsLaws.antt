@@ -15,7 +15,7 @@ use Rattle.ifmap_standing.specs.declared.telling.News.{News}
 use Rattle.ifmap_tellings.specs.Tellings.{AddsTo, AreWithin, CanTell, EachTelling, Tellings, gone_after, queued_for, told_by, told_where}
 use Rattle.ifmap_tellings.proofs.FlagLaws.{flags_all, flags_long}
 use Rattle.ifmap_tellings.proofs.PassedLaws.{IsFree, map_alike}
-use Rattle.ifmap_tellings.proofs.RoomLaws.{found_serial}
+use Rattle.ifmap_session.specs.laws.TableLaws.{found_serial}
 
 pub queues_within : (tellings : Tellings) (live : List Session)
     → AllByRecursion (λ s. is_overfull s ≡ false) (map (told_by tellings) live) → AreWithin tellings live

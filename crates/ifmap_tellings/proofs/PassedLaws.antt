@@ -14,19 +14,14 @@ use Rattle.ifmap_machine.specs.Telling.{is_overfull, overflow_session}
 use Rattle.ifmap_session.specs.Sessions.{Session, Table, session_order, session_with_serial}
 use Rattle.ifmap_standing.specs.declared.standing.Standing.{Standing}
 use Rattle.ifmap_tellings.specs.declared.tellings.Telling.{Telling}
-use Rattle.ifmap_tellings.specs.declared.tellings.Telling.TheVariants.{After, Alone}
 use Rattle.ifmap_tellings.specs.Tellings.{AreWithin, CanTell, EachTelling, HasSameSessions, IsSized, Tellings, is_alone, told_by, told_where}
 use Rattle.ifmap_tellings.proofs.OverflowLaws.{overflowed_within, within_stays}
-use Rattle.ifmap_tellings.proofs.RoomLaws.{found_here, same_itself, same_twice, tells_still}
+use Rattle.ifmap_tellings.proofs.RoomLaws.{found_here, tells_still}
+use Rattle.ifmap_tellings.specs.ToldLaws.{same_itself, same_twice, told_limit}
 
 -- none of these subscriptions is of a session
 abbrev pub IsFree : List Standing → ℕ → Type 0
 IsFree standing n = (x : Standing) → Has standing x → x.serial ≢ n
-
-told_limit : (o : Option Telling) (s : Session) → (told_where o s).limit ≡ s.limit
-told_limit None s = refl
-told_limit (Some (After items size)) s = refl
-told_limit (Some (Alone error)) s = refl
 
 some_alike : {X Y : Type 0} (a : Option X) (b : Option Y) → is_some a ≡ is_some b → a ≡ None → b ≡ None
 some_alike a None same none = refl

@@ -1,7 +1,7 @@
 -- What is pending, queued in sessions.
 -- First: one session changes twice (`changes_both`), or in nothing (`changes_none`). Then: items are queued one after the other
 -- (`PushesOn`). Last: one session is told (`room_for_one`), and sessions one after the other (`TellsOn`).
-use Rattle.std.proofs.Common.{◌≡◌, ◌≢◌, refl, sym, ◌∙◌, ap, subst, ℕ, zero, suc, ◌+◌, ◌<◌, ◌≤◌, ◌==◌, true, false, List, [], ◌∷◌, append_assoc, append-nil, length, map, Option, None, Some, IsSome, inl, inr, arith, nat_cmp, is_eq}
+use Rattle.std.proofs.Common.{◌≡◌, ◌≢◌, refl, sym, ◌∙◌, ap, subst, ℕ, zero, suc, ◌+◌, ◌<◌, ◌≤◌, ◌==◌, true, false, List, [], ◌∷◌, append_assoc, length, map, Option, None, Some, IsSome, inl, inr, arith, nat_cmp, is_eq}
 use Rattle.std.proofs.lemmas.Bool.{cases_Bool, eq-eqb, eqb-true}
 use Rattle.std.proofs.lemmas.Bool.Decides.{nat_tests}
 use Rattle.std.specs.BTreeMap.{Updates, get}
@@ -13,6 +13,7 @@ use Rattle.ifmap_machine.specs.Telling.{tell_session}
 use Rattle.ifmap_search.specs.declared.results.PollItem.{PollItem}
 use Rattle.ifmap_session.specs.Sessions.{Changes, IsLive, Session, Table, change, session_with_serial, spare_of, with_item}
 use Rattle.ifmap_session.specs.laws.TableLaws.{Keeps, changed_one, found_changed}
+use Rattle.ifmap_machine.specs.OrderLaws.{tell_nothing}
 
 -- ---- one session changes
 
@@ -63,9 +64,6 @@ live_changed n f k old new c m l =
 
 -- ---- items are queued one after the other
 
-told_nothing : (s : Session) → tell_session [] s ≡ s
-told_nothing s = ap (λ q. record s { queue = q }) (append-nil s.queue)
-
 told_more : (item : PollItem) (items : List PollItem) (s : Session) → tell_session items (with_item item s) ≡ tell_session (item ∷ items) s
 told_more item items s = ap (λ q. record s { queue = q }) (append_assoc s.queue (item ∷ []) items)
 
@@ -108,7 +106,7 @@ module _ (n : ℕ) (items : List PollItem) (old : Table) where
 
   module _ (now : Table) (rest : List PollItem) (p : PushesOn n items old now rest) (none : rest ≡ []) where
     pub pushes_all : Changes n (tell_session items) old now
-    pushes_all = p.on now (subst (λ xs. Changes n (tell_session xs) now now) (sym none) (changes_none n (tell_session []) told_nothing now))
+    pushes_all = p.on now (subst (λ xs. Changes n (tell_session xs) now now) (sym none) (changes_none n (tell_session []) tell_nothing now))
 
     pub pushes_spare : spare_of n now.spare + length items ≡ spare_of n old.spare
     pushes_spare = let long = ap length none in omega (arith, long, p.spare)

@@ -1,7 +1,7 @@
 -- Sessions that stay but for their room: the same sessions twice (`same_twice`), of which what can be told can be told still
 -- (`tells_still`). Then what is found by a serial (`found_serial`, `found_here`).
-use Rattle.std.proofs.Common.{◌≡◌, refl, sym, ◌∙◌, ap, subst, ℕ, ◌≤◌, ◌==◌, false, List, [], ◌∷◌, Some, inl, inr, arith}
-use Rattle.std.proofs.lemmas.Bool.{cases_Bool, eq-eqb, eqb-true}
+use Rattle.std.proofs.Common.{◌≡◌, sym, ap, subst, ℕ, ◌==◌, false, List, [], ◌∷◌, Some, inl, inr, arith}
+use Rattle.std.proofs.lemmas.Bool.{eq-eqb}
 use Rattle.std.proofs.lemmas.Bool.Decides.{nat_tests}
 use Rattle.std.specs.List.Sorted.{IsStrictlySortedBy}
 use Rattle.std.specs.declared.cmp.Ordering.TheVariants.{Less}
@@ -9,34 +9,13 @@ use Rattle.ifmap_lemmas.specs.Having.{Has, all_has}
 use Rattle.ifmap_session.specs.Sessions.{IsLive, Session, Table, session_order, session_with_serial, spare_of}
 use Rattle.ifmap_tellings.specs.declared.tellings.Telling.{Telling}
 use Rattle.ifmap_tellings.specs.Tellings.{CanTell, HasSameSessions, count_told}
-
-pub same_itself : (t : Table) → HasSameSessions t t
-same_itself t = record { live = refl; counter = refl; spare = λ n. omega arith; room = omega arith }
-
-at_most : (a b c : ℕ) → a ≤ b → b ≤ c → a ≤ c
-at_most a b c d e = omega arith
-
-pub same_twice : (a b c : Table) → HasSameSessions a b → HasSameSessions b c → HasSameSessions a c
-same_twice a b c first next = record {
-  live = next.live ∙ first.live;
-  counter = next.counter ∙ first.counter;
-  spare = λ n. at_most (spare_of n a.spare) (spare_of n b.spare) (spare_of n c.spare) (first.spare n) (next.spare n);
-  room = at_most a.room b.room c.room first.room next.room;
-}
+use Rattle.ifmap_tellings.specs.ToldLaws.{at_most}
 
 pub tells_still : (a b : Table) (n : ℕ) (t : Telling) → HasSameSessions a b → CanTell a n t → CanTell b n t
 tells_still a b n t same can = record {
   live = subst (λ l. IsLive n l) (sym same.live) can.live;
   room = at_most (count_told t) (spare_of n a.spare) (spare_of n b.spare) can.room (same.spare n);
 }
-
--- what is found by a serial has it
-pub found_serial : (n : ℕ) (live : List Session) (s : Session) → session_with_serial n live ≡ Some s → s.serial ≡ n
-found_serial n [] s e = cc
-found_serial n (x ∷ live) s e = elim (cases_Bool (x.serial == n)) [
-  | inl hit ↦ let same : x ≡ s = cc (rw hit at e) in sym (ap (λ (t : Session). t.serial) same) ∙ eqb-true x.serial n hit
-  | inr miss ↦ found_serial n live s (rw miss at e)
-]
 
 -- a session that is there is found by its serial
 pub found_here : (live : List Session) (s : Session) → IsStrictlySortedBy session_order live → Has live s

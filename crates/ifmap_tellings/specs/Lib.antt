@@ -1,2 +1,3 @@
 -- What is pending of an event, in reading order.
 pub mod Tellings
+pub mod ToldLaws

@@ -123,14 +123,14 @@ pair_rows x y plain_x plain_y = (
   ap (λ w. first_of second_id (finished rules w.held)) (two_walked x y plain_x plain_y),
 )
 
-some_kind : (k : ErrorKind) (ks : Kinds) → k ∷ ks ≡ [] → ⊥
+pub some_kind : (k : ErrorKind) (ks : Kinds) → k ∷ ks ≡ [] → ⊥
 some_kind k ks e = cc
 
 -- the words are two
 abbrev pub AreTwo : List Text → Type 0
 AreTwo words = (x : Text) × (y : Text) × (words ≡ x ∷ y ∷ [])
 
-first_none : (a b : Kinds) → or_else a b ≡ [] → a ≡ []
+pub first_none : (a b : Kinds) → or_else a b ≡ [] → a ≡ []
 first_none [] b e = refl
 first_none (k ∷ ks) b e = e
 

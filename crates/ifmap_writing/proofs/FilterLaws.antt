@@ -23,8 +23,9 @@ use Rattle.ifmap_filter.specs.Printing.{predicate_text_of, quote_of, test_name_t
 use Rattle.ifmap_filter.specs.Spaces.{brackets_spaces, filter_spaces, name_spaces, predicate_spaces, predicate_spaces_of, test_spaces}
 use Rattle.ifmap_requests.specs.FitFilters.{Comparison, IsFitComparison, IsFitFilter, IsFitPredicate, IsFitTest, comparison, comparisons}
 use Rattle.ifmap_requests.specs.FitFilters.{comparisons_of}
-use Rattle.ifmap_writing.proofs.CharacterLaws.{characters_both, joined_characters, part_characters, plain_characters}
+use Rattle.ifmap_writing.proofs.CharacterLaws.{joined_characters, plain_characters}
 use Rattle.ifmap_writing.proofs.ValueLaws.{numeral_characters}
+use Rattle.ifmap_elem.specs.laws.CharacterLaws.{characters_both, part_characters}
 
 -- ---- (1) induction
 

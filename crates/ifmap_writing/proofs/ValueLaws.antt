@@ -1,16 +1,16 @@
 -- Values of attributes are read back. Plan: (1) numbers; (2) kinds: the pieces between commas are their names.
-use Rattle.std.proofs.Common.{◌≡◌, ◌≢◌, ◌≤◌, ◌<◌, ◌^◌, ◌%◌, ◌∙◌, ◌++◌, ℕ, Bool, true, false, not, List, [], ◌∷◌, Option, None, Some, Result}
+use Rattle.std.proofs.Common.{◌≡◌, ◌≢◌, ◌≤◌, ◌<◌, ◌^◌, ◌%◌, ◌∙◌, ◌++◌, ℕ, Bool, true, false, List, [], ◌∷◌, Option, None, Some, Result}
 use Rattle.std.proofs.Common.{Ok, codes, length, map, min, refl, ap, sym, subst, arith}
-use Rattle.std.specs.Prelude.{if◌then◌else◌, nat_le, nat_lt}
+use Rattle.std.specs.Prelude.{nat_le, nat_lt}
 use Rattle.std.specs.List.{flat_map, list_all}
 use Rattle.std.specs.Char.{is_ascii_digit}
 use Rattle.std.specs.Str.{bytes_eq}
-use Rattle.std.specs.Str.Parse.{AllDigits, digits_value}
+use Rattle.std.specs.Str.Parse.{AllDigits}
 use Rattle.std.proofs.lemmas.Bool.{and_from}
 use Rattle.std.proofs.lemmas.Bool.Decides.{nat_tests}
 use Rattle.std.proofs.lemmas.Str.Parse.{digit_from_value}
-use Rattle.ifmap_lemmas.specs.Numerals.{digit, numeral, numeral_by_digits, numeral_digits, numeral_value}
-use Rattle.ifmap_lemmas.specs.Texts.{ascii_encoded, is_ascii}
+use Rattle.ifmap_lemmas.specs.Numerals.{digit, numeral, numeral_by_digits, numeral_digits}
+use Rattle.ifmap_lemmas.specs.Texts.{ascii_encoded}
 use Rattle.ifmap_elem.specs.Chars.{AllAre, IsCharacters, is_character, is_white}
 use Rattle.ifmap_filter.specs.Printing.{joined_texts}
 use Rattle.ifmap_ident.specs.declared.codes.Code.{Code}
@@ -19,9 +19,11 @@ use Rattle.ifmap_ident.specs.declared.kinds.Kind.{Kind}
 use Rattle.ifmap_ident.specs.declared.kinds.Kind.TheVariants.{AccessRequest, Device, Identity, IpAddress, MacAddress}
 use Rattle.ifmap_ident.specs.Kinds.{kind_name}
 use Rattle.ifmap_forms.specs.Checks.{Check, check_if, need_some, pass}
-use Rattle.ifmap_forms.specs.Values.{is_number, kind_of, kinds_check, number_of, piece_check, pieces_of, read_depth, read_kinds}
+use Rattle.ifmap_forms.specs.Values.{kind_of, kinds_check, number_of, piece_check, pieces_of, read_depth, read_kinds}
 use Rattle.ifmap_forms.specs.Values.{read_lifetime, read_limit, read_name, read_size, trim_white, within}
 use Rattle.ifmap_writing.specs.Attributes.{kinds_value, lifetime_value, limit_value, number_value}
+use Rattle.ifmap_elem.specs.laws.PrintedScopes.{digits_ascii}
+use Rattle.ifmap_forms.specs.FormLaws.{number_back}
 
 -- ---- (1) numbers
 
@@ -37,16 +39,9 @@ digits_are (d ∷ ds) f =
 digit_character : (c : ℕ) → 48 ≤ c → c ≤ 57 → is_character c ≡ true
 digit_character c low high = grind (arith, nat_tests)
 
-digit_ascii : (c : ℕ) → c ≤ 57 → is_ascii c ≡ true
-digit_ascii c high = let test : nat_le 128 c ≡ false = grind (arith, nat_tests) in ap not test
-
 digits_characters : (ds : List ℕ) → AllDigits 10 ds → AllAre is_character ds
 digits_characters [] f = tt
 digits_characters (d ∷ ds) f = let r = digit_from_value d f.0 in (digit_character d r.0 r.1, digits_characters ds f.1)
-
-digits_ascii : (ds : List ℕ) → AllDigits 10 ds → AllAre is_ascii ds
-digits_ascii [] f = tt
-digits_ascii (d ∷ ds) f = let r = digit_from_value d f.0 in (digit_ascii d r.1, digits_ascii ds f.1)
 
 pub numeral_characters : (n : ℕ) → IsCharacters (numeral n)
 numeral_characters n =
@@ -67,13 +62,6 @@ numeral_some n = numeral_is_some n
 
     numeral_is_some : (n : ℕ) → numeral n ≢ []
     numeral_is_some = numeral_by_digits (λ n ds. ds ≢ []) (λ n few e. cc) (λ n ds many h. pushed_some ds (digit (n % 10)))
-
-pub number_back : (n : ℕ) → number_of (numeral n) ≡ Some n
-number_back n =
-    let some : not (bytes_eq (numeral n) []) ≡ true = ap not (some_digits (numeral n) (numeral_some n)) in
-    let is : is_number (numeral n) ≡ true =
-    and_from (not (bytes_eq (numeral n) [])) (list_all is_ascii_digit (numeral n)) some (digits_are (numeral n) (numeral_digits n)) in
-    ap (λ (b : Bool). if b then Some (digits_value 10 (numeral n)) else None) is ∙ ap (λ (m : ℕ). Some m) (numeral_value n)
 
 abbrev good : {X : Type 0} → X → Result X Code
 good x = Ok x

@@ -3,11 +3,11 @@ use Rattle.std.proofs.Common.{◌≡◌, ℕ, List, map, length, get_or, ◌<◌
 use Rattle.std.proofs.lemmas.List.{get_or-map}
 use Rattle.ifmap_elem.specs.Folds.{at_element, at_child_element, at_child_text}
 use Rattle.ifmap_elem.specs.Arranged.{arrange, arrange_child, sort_attributes, arrange_child_of, arrange_element_of}
-use Rattle.ifmap_elem.specs.declared.elements.Child.{Child, out-Child, out-roll-Child}
+use Rattle.ifmap_elem.specs.declared.elements.Child.{Child, out-Child}
 use Rattle.ifmap_elem.specs.declared.elements.Child as the
-use Rattle.ifmap_elem.specs.declared.elements.Child.TheVariants.{rolls-Element}
 use Rattle.ifmap_elem.specs.declared.elements.Child.TheOpen.{Child-F}
 use Rattle.ifmap_elem.specs.declared.elements.Element.{Element}
+use Rattle.ifmap_elem.specs.laws.FitLaws.{out_element}
 
 pub arranged_is : (e : Element) → arrange e ≡ record {
   name = e.name;
@@ -22,9 +22,6 @@ arranged_in e = at_child_element Child Element arrange_child_of arrange_element_
 
 pub arranged_text : (t : List ℕ) → arrange_child (the.Text t) ≡ the.Text t
 arranged_text t = at_child_text Child Element arrange_child_of arrange_element_of t
-
-out_element : (e : Element) → out-Child (the.Element e) ≡ Child-F.Element e
-out_element e = ap out-Child (sym (rolls-Element e)) ∙ out-roll-Child (Child-F.Element e)
 
 abbrev element_or : Element → Child-F Child Element → Element
 element_or d (Child-F.Element e) = e

@@ -37,7 +37,7 @@ character_bytes c h =
     recursion_from_All P (encode_utf8 c) (All-from_get_or P (encode_utf8 c) 0
     (λ k l. one_byte c h (get_or (encode_utf8 c) k 0) (byte_inside c k l)))
 
-starts_are_characters : (c : ℕ) → is_name_start c ≡ true → is_name_character c ≡ true
+pub starts_are_characters : (c : ℕ) → is_name_start c ≡ true → is_name_character c ≡ true
 starts_are_characters c h = rw h refl
 
 characters_bytes : (cs : List ℕ) → AllAre is_name_character cs → AllAre is_part_byte (encode_utf8_all cs)

@@ -36,7 +36,7 @@ pub record IsItem (items : List Item) (index : ℕ) (e : Element) : Type 0 where
   pub items_are : items ≡ before ++ (Inner e declared ∷ after)
   pub index_is : index ≡ length before
 
-no_text : (text : List ℕ) (e : Element) → the.Text text ≡ the.Element e → ⊥
+pub no_text : (text : List ℕ) (e : Element) → the.Text text ≡ the.Element e → ⊥
 no_text text e h = let wrong : Child-F.Text text ≡ Child-F.Element e = sym (out_text text) ∙ ap out-Child h ∙ out_element e in cc
 
 item_of : (items : List Item) (index : ℕ) (e : Element) → slice_get (map child_of items) index ≡ Some (the.Element e) → IsItem items index e

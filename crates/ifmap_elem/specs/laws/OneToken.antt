@@ -26,7 +26,7 @@ use Rattle.ifmap_elem.specs.laws.NameBytes.{is_name_byte, name_are_bytes, name_i
 
 -- one part
 
-run_stops : (rest : List ℕ) → EndsRun rest → Stops (λ b. not (b == 0x26)) rest
+pub run_stops : (rest : List ℕ) → EndsRun rest → Stops (λ b. not (b == 0x26)) rest
 run_stops [] e = tt
 run_stops (b ∷ bs) e = subst (λ (n : ℕ). not (n == 0x26) ≡ false) (sym e) refl
 

@@ -44,27 +44,27 @@ n_letter = record { start = refl; low = refl; no_x = λ e. absurd (omega arith) 
 pub f_letter : IsLetter 0x66
 f_letter = record { start = refl; low = refl; no_x = λ e. absurd (omega arith) }
 
-among_tests : (a b c d e f : Bool) → (a || b || c || true || d || e || f) ≡ true
+pub among_tests : (a b c d e f : Bool) → (a || b || c || true || d || e || f) ≡ true
 among_tests true b c d e f = refl
 among_tests false true c d e f = refl
 among_tests false false true d e f = refl
 among_tests false false false d e f = refl
 
-digit_character : (c : ℕ) → 48 ≤ c → c ≤ 57 → is_name_character c ≡ true
+pub digit_character : (c : ℕ) → 48 ≤ c → c ≤ 57 → is_name_character c ≡ true
 digit_character c low high =
     let test : nat_le 48 c ≡ true = grind (arith, nat_tests) in
     let also : nat_le c 57 ≡ true = grind (arith, nat_tests) in
     let both : is_in_range 0x30 0x39 c ≡ true = rw (test, also) refl in
     rw both (among_tests (is_name_start c) (c == 0x2D) (c == 0x2E) (c == 0xB7) (is_in_range 0x300 0x36F c) (is_in_range 0x203F 0x2040 c))
 
-digits_characters : (ds : List ℕ) → AllDigits 10 ds → AllAre is_name_character ds
+pub digits_characters : (ds : List ℕ) → AllDigits 10 ds → AllAre is_name_character ds
 digits_characters [] f = tt
 digits_characters (d ∷ ds) f = let r = digit_from_value d f.0 in (digit_character d r.0 r.1, digits_characters ds f.1)
 
-digit_ascii : (c : ℕ) → c ≤ 57 → is_ascii c ≡ true
+pub digit_ascii : (c : ℕ) → c ≤ 57 → is_ascii c ≡ true
 digit_ascii c high = let test : nat_le 128 c ≡ false = grind (arith, nat_tests) in ap not test
 
-digits_ascii : (ds : List ℕ) → AllDigits 10 ds → AllAre is_ascii ds
+pub digits_ascii : (ds : List ℕ) → AllDigits 10 ds → AllAre is_ascii ds
 digits_ascii [] f = tt
 digits_ascii (d ∷ ds) f = let r = digit_from_value d f.0 in (digit_ascii d r.1, digits_ascii ds f.1)
 
@@ -178,7 +178,7 @@ has_value : (o : Option (List ℕ)) → is_some o ≡ true → (p : List ℕ) ×
 has_value None h = let wrong : false ≡ true = h in cc
 has_value (Some p) h = (p, refl)
 
-has_none : (o : Option (List ℕ)) → is_some o ≡ false → o ≡ None
+pub has_none : (o : Option (List ℕ)) → is_some o ≡ false → o ≡ None
 has_none None h = refl
 has_none (Some p) h = let wrong : true ≡ false = h in cc
 

@@ -1,26 +1,31 @@
 -- What is told of a change makes the next result of the one before.
-use Rattle.std.proofs.Common.{◌≡◌, ◌⊎◌, inl, inr, Bool, true, false, not, ◌&&◌, Option, Some, List, [], ◌∷◌, ◌++◌, unwrap_or, refl, ap, ◌∙◌}
+use Rattle.std.proofs.Common.{◌≡◌, ◌⊎◌, inl, inr, Bool, true, false, not, ◌&&◌, List, [], ◌∷◌, refl, ap, ◌∙◌, map}
 use Rattle.std.proofs.Common.{sym, subst}
 use Rattle.std.proofs.lemmas.Bool.{cases_Bool}
 use Rattle.std.proofs.lemmas.Cmp.{nat_list_cmp_total, on_total, then_total}
 use Rattle.std.proofs.lemmas.List.Kept.{IsStrictlySortedBy-filter}
 use Rattle.std.specs.Cmp.{IsTotalOrder, tied_itself, tied_then}
 use Rattle.std.specs.Cmp.Lexicographic.{slice_cmp, texts_ties}
-use Rattle.std.specs.List.{filter, list_any}
+use Rattle.std.specs.List.{filter}
 use Rattle.std.specs.List.Sorted.{IsStrictlySortedBy}
 use Rattle.std.specs.Ordering.{is_eq, nat_cmp}
 use Rattle.std.specs.Str.{bytes_eq}
 use Rattle.std.specs.declared.cmp.Ordering.TheVariants.{Less}
-use Rattle.ifmap_ident.specs.Items.{item_order, items_tie, same_item}
+use Rattle.ifmap_ident.specs.Items.{item_order, items_tie}
 use Rattle.ifmap_lemmas.specs.Having.{Has, any_has, filter_has, has_any, has_filter, all_has}
-use Rattle.ifmap_lemmas.specs.Texts.{eq_itself}
 use Rattle.ifmap_lemmas.specs.Orderings.{eq_turned}
 use Rattle.ifmap_plans.specs.Placing.{put}
 use Rattle.ifmap_plans.specs.laws.KeyLaws.{items_total}
 use Rattle.ifmap_search.specs.declared.results.Entry.{Entry}
 use Rattle.ifmap_folds.specs.Differences.{difference, entry_bytes, entry_order, has_entry, same_entry}
-use Rattle.ifmap_folds.specs.Folds.{Sets, with_entries}
+use Rattle.ifmap_folds.specs.Folds.{with_entries}
 use Rattle.ifmap_folds.specs.laws.RisingLaws.{has_put, has_still, head_rises, put_has, put_rises, rising_same, tail_rises}
+use Rattle.ifmap_view.specs.declared.attachments.Attachment.{Attachment}
+use Rattle.ifmap_view.specs.Attachments.{attachment_order, stored_bytes, IsGraph}
+use Rattle.ifmap_lemmas.specs.Filters.{all_weaker}
+use Rattle.ifmap_lemmas.specs.Members.{map_of_all}
+use Rattle.ifmap_fresh.specs.Fresh.{fresh, is_found}
+use Rattle.ifmap_search.specs.declared.searches.Search.{Search}
 
 pub entries_total : IsTotalOrder entry_order
 entries_total = then_total (on_total (λ (e : Entry). e.item) items_total) (on_total entry_bytes nat_list_cmp_total)
@@ -119,3 +124,28 @@ module _ (a b : List Entry) (apart : (x y : Entry) → Has a x → Has b y → s
   pub next_made : with_entries come rest ≡ b
   next_made = rising_same entry_order entries_total (with_entries come rest) b
       (with_rises come rest (IsStrictlySortedBy-filter entry_order (λ e. not (has_entry gone e)) a rises)) next there back
+
+-- nothing is taken out
+pub difference_none : (entries : List Entry) → difference entries [] ≡ entries
+difference_none [] = refl
+difference_none (e ∷ entries) = ap (λ t. e ∷ t) (difference_none entries)
+
+abbrev pub entry_of : Attachment → Entry
+entry_of r = record { item = r.item; element = r.stored.element }
+
+pub entries_order : (a b : Attachment) → attachment_order a b ≡ entry_order (entry_of a) (entry_of b)
+unfolding stored_bytes entry_bytes
+entries_order a b = refl
+
+pub mapped_rising : (rows : List Attachment) → IsStrictlySortedBy attachment_order rows → IsStrictlySortedBy entry_order (map entry_of rows)
+unfolding IsStrictlySortedBy
+mapped_rising [] up = tt
+mapped_rising (a ∷ rows) up = (
+  map_of_all (λ e. entry_order (entry_of a) e ≡ Less) entry_of rows (all_weaker (λ b. attachment_order a b ≡ Less)
+      (λ b. entry_order (entry_of a) (entry_of b) ≡ Less) (λ b l. sym (entries_order a b) ∙ l) rows up.0),
+  mapped_rising rows up.1,
+)
+
+pub fresh_rises : (rows : List Attachment) (s : Search) → IsGraph rows → IsStrictlySortedBy entry_order (fresh rows s)
+fresh_rises rows s g = mapped_rising (filter (is_found rows s) rows)
+    (IsStrictlySortedBy-filter attachment_order (is_found rows s) rows g.rising)

@@ -1,22 +1,24 @@
 -- What is gathered item by item is a filter of the list.
-use Rattle.std.proofs.Common.{◌≡◌, ℕ, ◌&&◌, true, false, cond, List, [], ◌∷◌, ◌++◌, map, flat_map, refl, ap, ◌∙◌, sym, subst}
+use Rattle.std.proofs.Common.{◌≡◌, ℕ, true, false, List, [], ◌∷◌, ◌++◌, map, refl, ap, ◌∙◌, sym, subst, Option, Some, nat_eq}
 use Rattle.std.proofs.Common.{inl, inr}
-use Rattle.std.proofs.lemmas.Bool.{cases_Bool, or_parts}
-use Rattle.std.specs.Cmp.{IsTotalOrder, tied_itself}
-use Rattle.std.specs.List.{AllByRecursion, filter, list_any}
+use Rattle.std.proofs.lemmas.Bool.{cases_Bool, or_parts, eqb-true}
+use Rattle.std.specs.List.{AllByRecursion, filter}
 use Rattle.std.specs.List.Sorted.{IsStrictlySortedBy}
 use Rattle.std.specs.Ordering.{is_eq, is_gt, ordering_reverse, ordering_then}
 use Rattle.std.specs.declared.cmp.Ordering.{Ordering}
 use Rattle.std.specs.declared.cmp.Ordering.TheVariants.{Less, Equal, Greater}
 use Rattle.ifmap_ident.specs.declared.items.Item.{Item}
 use Rattle.ifmap_ident.specs.Items.{IsCanonItem, item_order, items_tie, same_item}
-use Rattle.ifmap_meta.specs.declared.stored.Stored.{Stored}
 use Rattle.ifmap_view.specs.declared.attachments.Attachment.{Attachment}
 use Rattle.ifmap_view.specs.Attachments.{attachment_order}
 use Rattle.ifmap_view.specs.Rows.{stored_on}
 use Rattle.ifmap_fresh.specs.Gathered.{IsGrouped, gathered_rows, has_item, row_at}
 use Rattle.ifmap_fresh.specs.laws.OrderLaws.{items_total}
 use Rattle.ifmap_fresh.specs.laws.SameLaws.{AreCanon, Tells, same_item_is}
+use Rattle.std.proofs.lemmas.Option.{none-some}
+use Rattle.ifmap_lemmas.specs.Having.{Has}
+use Rattle.ifmap_region.specs.Marks.{row_of}
+use Rattle.ifmap_fresh.specs.Collected.{numbers_of}
 
 -- items that the order tells apart are not the same
 pub apart : (x y : Item) (o : Ordering) → item_order x y ≡ o → is_eq o ≡ false → same_item x y ≡ false
@@ -115,3 +117,14 @@ grouped (x ∷ xs) r = (all_level xs r.0, grouped xs r.1)
         → AllByRecursion (λ s. is_gt (item_order x.item s.item) ≡ false) ys
     all_level [] a = tt
     all_level (y ∷ ys) a = (level (item_order x.item y.item) _ a.0, all_level ys a.1)
+
+pub row_has : (es : List (ℕ × Option ℕ)) (v : ℕ) (r : Option ℕ) → row_of es v ≡ Some r → Has (numbers_of es) v
+row_has [] v r e = absurd (none-some r e)
+row_has (x ∷ xs) v r e = elim (cases_Bool (nat_eq v x.0)) [
+  | inl t ↦ inl (sym (eqb-true v x.0 t))
+  | inr t ↦ inr (row_has xs v r (rw t at e))
+]
+
+pub all_items : (is : List Item) → ((x : Item) → Has is x → IsCanonItem x) → AllByRecursion AreCanon is
+all_items [] f = tt
+all_items (i ∷ is) f = ((f i (inl refl)).identifiers, all_items is (λ x h. f x (inr h)))

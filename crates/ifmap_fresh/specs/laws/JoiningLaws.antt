@@ -1,13 +1,12 @@
 -- Links of numbers that match, and those of identifiers.
-use Rattle.std.proofs.Common.{◌≡◌, ◌≢◌, ℕ, ◌<◌, Bool, true, false, cond, Option, Some, None, List, [], map, length, get_or, slice_get}
+use Rattle.std.proofs.Common.{◌≡◌, ◌≢◌, ℕ, ◌<◌, Bool, true, false, cond, Option, Some, None, List, [], length, get_or, slice_get}
 use Rattle.std.proofs.Common.{refl, ap, ◌∙◌, sym, subst, inl, inr}
 use Rattle.std.proofs.lemmas.List.{get_or-map, length-map}
 use Rattle.std.proofs.lemmas.Option.{slice_get-get_or, same_Some, none-some}
-use Rattle.std.specs.List.{AllByRecursion, Contains, filter}
+use Rattle.std.specs.List.{AllByRecursion, filter}
 use Rattle.ifmap_filter.specs.declared.filters.Filter.{Filter}
 use Rattle.ifmap_ident.specs.declared.identifiers.Identifier.{Identifier}
 use Rattle.ifmap_ident.specs.declared.items.Item.{Item}
-use Rattle.ifmap_ident.specs.declared.items.Item.TheVariants.{One, Pair}
 use Rattle.ifmap_ident.specs.Canon.{IsIdentifier}
 use Rattle.ifmap_ident.specs.Items.{identifiers_of, pair_of, same_item}
 use Rattle.ifmap_lemmas.specs.Having.{Has, filter_has, has_joined, map_has, first_of}
@@ -17,8 +16,8 @@ use Rattle.ifmap_view.specs.declared.attachments.Attachment.{Attachment}
 use Rattle.ifmap_view.specs.declared.views.LinkSeen.{LinkSeen}
 use Rattle.ifmap_ident.specs.Items.{IsCanonItem}
 use Rattle.ifmap_view.specs.Rows.{stored_between, stored_linked, stored_on, stored_where}
-use Rattle.ifmap_view.specs.Views.{IsView, others}
-use Rattle.ifmap_fresh.specs.Matching.{IsMatch, is_match, one_meets}
+use Rattle.ifmap_view.specs.Views.{IsView}
+use Rattle.ifmap_fresh.specs.Matching.{is_match, one_meets}
 use Rattle.ifmap_fresh.specs.Linking.{end_where}
 use Rattle.ifmap_fresh.specs.Reached.{identifiers_in}
 use Rattle.ifmap_fresh.specs.laws.SameLaws.{Tells, member, pair_canon, pair_of_one, pair_parts, pair_turned, same_item_is}

@@ -1,6 +1,5 @@
 -- Identifiers and items that compare as the same are the same.
 use Rattle.std.proofs.Common.{◌≡◌, ◌⊎◌, inl, inr, true, false, ◌&&◌, Some, None, List, [], ◌∷◌, refl, ap, ◌∙◌, sym, subst}
-use Rattle.std.specs.Cmp.Lexicographic.{nat_list_cmp_total}
 use Rattle.std.specs.List.{AllByRecursion}
 use Rattle.std.specs.Ordering.{ordering_reverse}
 use Rattle.std.specs.declared.cmp.Ordering.{Ordering}
@@ -8,7 +7,7 @@ use Rattle.std.specs.declared.cmp.Ordering.TheVariants.{Less, Equal, Greater}
 use Rattle.std.proofs.lemmas.Bool.{and_parts}
 use Rattle.std.proofs.lemmas.Option.{same_Some, none-some}
 use Rattle.ifmap_lemmas.specs.Having.{Has}
-use Rattle.ifmap_lemmas.specs.Texts.{eq_itself, eq_tells, slice_cmp-same}
+use Rattle.ifmap_lemmas.specs.Texts.{eq_tells, slice_cmp-same}
 use Rattle.ifmap_ident.specs.Canon.{IsIdentifier}
 use Rattle.ifmap_view.specs.declared.attachments.Attachment.{Attachment}
 use Rattle.ifmap_ident.specs.Items.{IsCanonItem}
@@ -17,10 +16,7 @@ use Rattle.ifmap_ident.specs.declared.items.Item.{Item}
 use Rattle.ifmap_ident.specs.declared.items.Item.TheVariants.{One, Pair}
 use Rattle.ifmap_ident.specs.Identifiers.{identifier_bytes, identifier_order, same_identifier}
 use Rattle.ifmap_ident.specs.Items.{IsItem, identifiers_of, ordered_pair, pair_of, same_item}
-
--- the order the other way round
-pub turned_order : (a b : Identifier) → identifier_order a b ≡ ordering_reverse (identifier_order b a)
-turned_order a b = nat_list_cmp_total.antisymm (identifier_bytes a) (identifier_bytes b)
+use Rattle.ifmap_ident.specs.SameLaws.{turned_order}
 
 -- the pair of two identifiers is that of them the other way round, and of one there is none
 pub pair_turned : (a b : Identifier) → pair_of a b ≡ pair_of b a
@@ -53,13 +49,6 @@ Tells = (one other : Identifier) → IsIdentifier one → IsIdentifier other →
 
 abbrev pub AreCanon : Item → Type 0
 AreCanon x = AllByRecursion IsIdentifier (identifiers_of x)
-
-pub same_itself : (a : Identifier) → same_identifier a a ≡ true
-same_itself a = eq_itself (identifier_bytes a)
-
-pub item_itself : (x : Item) → same_item x x ≡ true
-item_itself (One a) = rw (same_itself a) refl
-item_itself (Pair a b) = rw (same_itself a, same_itself b) refl
 
 module _ (tells : Tells) where
   pub same_is : (a b : Identifier) → IsIdentifier a → IsIdentifier b → same_identifier a b ≡ true → a ≡ b

@@ -14,9 +14,9 @@ use Rattle.ifmap_elem.specs.Chars.{AllAre, IsCharacters, is_character}
 use Rattle.ifmap_elem.specs.Tokens.{Lacks}
 use Rattle.ifmap_lemmas.specs.Numbers.{is_number}
 use Rattle.ifmap_lexer.specs.Cutting.{Cuts, CutsAt, CutsWord, is_but}
-use Rattle.ifmap_lexer.proofs.CharacterLaws.{characters_are_utf8}
 use Rattle.ifmap_lexer.proofs.SplitLaws.{cuts_at_len}
 use Rattle.ifmap_lexer.proofs.WordLaws.{lacks_from, word_found}
+use Rattle.ifmap_elem.specs.laws.CharacterLaws.{characters_are_utf8}
 
 pub are_or_not : (p : ℕ → Bool) (bytes : List ℕ) → Decided (AllAre p bytes)
 are_or_not p bytes = decided_each (λ n. p n ≡ true) (λ n. decided_test (p n)) bytes

@@ -17,19 +17,17 @@ use Rattle.ifmap_elem.specs.declared.elements.Attribute.{Attribute}
 use Rattle.ifmap_elem.specs.declared.elements.Element.{Element}
 use Rattle.ifmap_lemmas.specs.Filters.{filter_again}
 use Rattle.ifmap_elem.specs.laws.ArrangedLaws.{arranged_is}
-use Rattle.ifmap_elem.specs.laws.AttributeOrder.{one_order, sorted_permutation}
+use Rattle.ifmap_elem.specs.laws.AttributeOrder.{sorted_permutation}
 use Rattle.ifmap_meta.specs.Cardinality.{cardinality_of, is_multi, is_multi_value, is_single, is_single_value}
 use Rattle.ifmap_meta.specs.Keys.{content_bytes}
 use Rattle.ifmap_meta.specs.Stamps.{content_of, is_stamp, stamp, stamps, stamps_of, with_stamps, without_stamps}
 use Rattle.ifmap_io.specs.Calendar.{moment_text}
 use Rattle.ifmap_elem.specs.Building.{is_bare}
 use Rattle.ifmap_meta.specs.laws.Order.{filter_sorted}
+use Rattle.ifmap_elem.specs.laws.AgainLaws.{sorted_again}
 
 abbrev is_content : Attribute → Bool
 is_content a = not (is_stamp a)
-
-pub sorted_again : (xs : List Attribute) → sort_attributes (sort_attributes xs) ≡ sort_attributes xs
-sorted_again xs = sym (one_order xs (sort_attributes xs) (sorted_permutation xs))
 
 stamps_go : (publisher : List ℕ) (moment : ℕ) (xs : List Attribute)
     → without_stamps (without_stamps xs ++ stamps publisher moment) ≡ without_stamps xs

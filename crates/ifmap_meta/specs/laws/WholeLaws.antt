@@ -30,8 +30,10 @@ use Rattle.ifmap_meta.specs.Keys.{content_bytes}
 use Rattle.ifmap_meta.specs.Stamps.{content_of, is_stamp, stamp, stamps, stamps_of, without_stamps}
 use Rattle.ifmap_meta.specs.Stored.{stored_as}
 use Rattle.ifmap_meta.specs.Whole.{IsMadeOf, IsMetadata, IsSent, IsWhole, content_limit, level_limit}
-use Rattle.ifmap_meta.specs.laws.ContentLaws.{arranged_again, content_bare, content_printed}
+use Rattle.ifmap_meta.specs.laws.ContentLaws.{content_bare, content_printed}
 use Rattle.ifmap_meta.specs.laws.StampLaws.{cardinality_stays, content_says, content_stays, stamps_stay}
+use Rattle.ifmap_elem.specs.laws.AgainLaws.{arranged_again}
+use Rattle.ifmap_elem.specs.laws.BareNames.{another_bare}
 
 -- an element of these attributes, and otherwise as it is
 abbrev with_attributes : Element → List Attribute → Element
@@ -105,7 +107,7 @@ both_are bytes h =
     ascii_characters bytes (all_weaker is_both is_ascii (λ b q. (and_parts (is_ascii b) (is_character b) q).0) bytes h)
     (all_weaker is_both is_character (λ b q. (and_parts (is_ascii b) (is_character b) q).1) bytes h)
 
-client_characters : (publisher : List ℕ) → IsClientName publisher → IsCharacters publisher
+pub client_characters : (publisher : List ℕ) → IsClientName publisher → IsCharacters publisher
 client_characters publisher name =
     both_are publisher (all_weaker is_client_byte is_both client_is_both publisher (all_of_test is_client_byte publisher name.2))
 
@@ -139,9 +141,6 @@ timestamp_part = record {
   begins = refl;
   goes_on = all_of_test is_name_character (codes "fmap-timestamp") refl;
 }
-
-another_bare : (one : List ℕ) (n : Name) → is_bare one (bare_name one) ≡ true → is_bare one n ≡ false → bare_name one ≢ n
-another_bare one n here there e = let q : is_bare one (bare_name one) ≡ is_bare one n = ap (is_bare one) e in cc
 
 stamps_fit : (publisher text : List ℕ) → IsCharacters publisher → IsCharacters text
     → AllByRecursion IsFitAttribute (stamps_of publisher text)

@@ -1,5 +1,5 @@
 -- Whether a tag is allowed, and what it opens.
-use Rattle.std.proofs.Common.{◌≡◌, ◌≢◌, ℕ, ◌+◌, List, [], ◌∷◌, length, map, refl, ap, sym, ◌∙◌, subst, ◌⊎◌, inl, inr}
+use Rattle.std.proofs.Common.{◌≡◌, ◌≢◌, ◌+◌, List, [], ◌∷◌, length, map, refl, ap, sym, ◌∙◌, subst, ◌⊎◌, inl, inr}
 use Rattle.std.specs.Prelude.{Some, None, codes, ◌↔◌}
 use Rattle.ifmap_lemmas.specs.Deciding.{Decided, decided_both, decided_by, decided_each, decided_leads, decided_not, decided_same, same_or_not, value_or_none}
 use Rattle.ifmap_elem.specs.declared.elements.Attribute.{Attribute}
@@ -13,21 +13,9 @@ use Rattle.ifmap_reader.specs.declared.open_elements.OpenElement.{OpenElement}
 use Rattle.ifmap_reader.specs.AllowedTags.{OpensElement}
 use Rattle.ifmap_reader.specs.OpenElements.{Reaches, scope_of}
 use Rattle.ifmap_reader.proofs.Goings.{NoName}
+use Rattle.ifmap_elem.specs.laws.DecidedNames.{BothSame, both_or_not, name_or_not}
 
 -- names
-
-abbrev BothSame : List ℕ → List ℕ → List ℕ → List ℕ → Type 0
-BothSame a b c d = (a ≡ b) × (c ≡ d)
-
-both_or_not : (a b c d : List ℕ) → Decided (BothSame a b c d)
-both_or_not a b c d = decided_both (same_or_not a b) (same_or_not c d)
-
-name_or_other : (n o : Name) → Decided (n ≡ o)
-name_or_other n o =
-    decided_by
-    (λ (h : BothSame n.space o.space n.local o.local). λ i. record { space = h.0 i; local = h.1 i })
-    (λ e. (ap (λ (m : Name). m.space) e, ap (λ (m : Name). m.local) e))
-    (both_or_not n.space o.space n.local o.local)
 
 pub qualified_or_other : (q u : Qualified) → Decided (q ≡ u)
 qualified_or_other q u =
@@ -132,7 +120,7 @@ allowed_or_none outer tag = elim (decided_each IsBinding binding_or_not (binding
       | inr none ↦ inr (λ name attributes n. let wrong : None ≡ Some name.space = sym none ∙ n.space_is in cc)
       | inl s ↦ elim (attributes_or_none (scope_within outer tag) (plain_assignments tag)) [
         | inr none ↦ inr (λ name attributes n. none (attributes, n.attributes_are))
-        | inl ts ↦ elim (differ_or_not name_or_other (map (λ t. t.name) ts.0)) [
+        | inl ts ↦ elim (differ_or_not name_or_not (map (λ t. t.name) ts.0)) [
           | inr fails ↦ inr (λ name attributes n.
               let same : attributes ≡ ts.0
               = one_list_of_attributes (scope_within outer tag) (plain_assignments tag) attributes ts.0 n.attributes_are ts.1 in

@@ -3,7 +3,7 @@
 -- (`begun_table`). Then: one changes, by a function that keeps its serial, id and client (`changed_table`). Last: what is found by a
 -- serial (`found_by_serial`), and is found still (`found_beside_ended`, `found_beside_begun`, `found_changed`).
 use Rattle.std.proofs.Common.{◌≡◌, refl, sym, ◌∙◌, ap, subst, ℕ, suc, ◌+◌, ◌-◌, ◌^◌, ◌<◌, ◌≤◌, ◌==◌, Bool, true, false, not, cond, List, [], ◌∷◌, ◌++◌, length, map, None, Some, inl, inr, arith, length-append}
-use Rattle.std.proofs.lemmas.Bool.{cases_Bool, eq-eqb, not_from_true, or_left}
+use Rattle.std.proofs.lemmas.Bool.{cases_Bool, eq-eqb, not_from_true, or_left, eqb-true, or_parts}
 use Rattle.std.proofs.lemmas.Bool.Decides.{nat_tests}
 use Rattle.std.proofs.lemmas.List.Folds.{find-append}
 use Rattle.std.proofs.lemmas.List.Kept.{IsStrictlySortedBy-filter}
@@ -14,7 +14,7 @@ use Rattle.std.specs.declared.cmp.Ordering.TheVariants.{Less}
 use Rattle.ifmap_lemmas.specs.Filters.{all_filter, all_weaker, filter_shorter}
 use Rattle.ifmap_lemmas.specs.Members.{both_all, map_of_all}
 use Rattle.ifmap_session.specs.SessionIds.{BeginsWithSerial, session_id}
-use Rattle.ifmap_session.specs.Sessions.{IsTable, Session, Table, change, is_text, most_sessions, session_of_client, session_order, session_with_serial, with_last, without_sessions}
+use Rattle.ifmap_session.specs.Sessions.{IsTable, Session, Table, change, is_text, most_sessions, session_of_client, session_order, session_with_serial, with_last, without_sessions, IsLive, expired_serials, is_expired}
 use Rattle.ifmap_session.specs.laws.TextLaws.{all_found, distinct_filter, distinct_push, find_kept, find_none, rest_differ}
 use Rattle.uuid.specs.Text.{hyphenated_text, lower}
 
@@ -202,3 +202,30 @@ found_beside_ended serial n live s other e =
 pub found_beside_begun : (n : ℕ) (live : List Session) (y s : Session) → session_with_serial n live ≡ Some s
     → session_with_serial n (live ++ y ∷ []) ≡ Some s
 found_beside_begun n live y s e = find-append (λ (t : Session). t.serial == n) live (y ∷ []) ∙ rw e refl
+
+pub found_serial : (n : ℕ) (live : List Session) (s : Session) → session_with_serial n live ≡ Some s → s.serial ≡ n
+found_serial n [] s e = cc
+found_serial n (x ∷ live) s e =
+    elim (cases_Bool (x.serial == n)) [
+      | inl hit ↦ let same : x ≡ s = cc (rw hit at e) in ap (λ (t : Session). t.serial) (sym same) ∙ eqb-true x.serial n hit
+      | inr miss ↦ found_serial n live s (rw miss at e)
+    ]
+
+-- who is live among the sessions that are left is live
+pub left_live : (p : Session → Bool) (n : ℕ) (live : List Session) → IsLive n (filter p live) → IsLive n live
+left_live p n [] l = l
+left_live p n (s ∷ live) l = elim (cases_Bool (s.serial == n)) [
+  | inl hit ↦ rw hit refl
+  | inr miss ↦ elim (cases_Bool (p s)) [
+    | inl stays ↦ rw miss (left_live p n live (rw miss at (rw stays at l)))
+    | inr goes ↦ rw miss (left_live p n live (rw goes at l))
+  ]
+]
+
+pub none_expired : (moment ttl : ℕ) (live : List Session) → list_any (is_expired moment ttl) live ≡ false
+    → expired_serials moment ttl live ≡ []
+none_expired moment ttl [] e = refl
+none_expired moment ttl (x ∷ live) e =
+    let both = or_parts (is_expired moment ttl x) (list_any (is_expired moment ttl) live) e in
+    rw (both.0) (none_expired moment ttl live both.1)
+

@@ -2,9 +2,9 @@ use Rattle.std.proofs.Common.{◌≢◌, ◌∙◌, [], append-nil, subst, sym}
 use Rattle.ifmap_session.specs.Sessions.{Table}
 use Rattle.ifmap_tellings.specs.Tellings.{HasSameSessions}
 use Rattle.ifmap_changes.specs.Between.{IsSteady}
-use Rattle.ifmap_changes.proofs.Begun.{searches_twice}
 use Rattle.ifmap_changes.proofs.Flags.{kept_later}
 use Rattle.ifmap_changes.proofs.changes.make_change.Goals as goal
+use Rattle.ifmap_standing.specs.PlaceLaws.{searched_twice}
 
 pub returns-clause-steady : goal.returns-clause-steady
 returns-clause-steady g c =
@@ -30,7 +30,7 @@ returns-clause-turned g c =
     in record {
       waits = λ rest w. c.settle_made.ensures.waits rest (made.turned.waits rest w);
       lean = λ rest l. c.settle_made.ensures.lean rest (made.turned.lean rest l);
-      searches = searches_twice c.args.parts.now.standing.items c.make_kept.new.parts.standing.items
+      searches = searched_twice c.args.parts.now.standing.items c.make_kept.new.parts.standing.items
           c.settle_made.new.parts.standing.items made.turned.searches settled.searches;
       sessions = subst (λ (t : Table). HasSameSessions c.args.parts.now.sessions t) (sym settled.sessions) made.turned.sessions;
     }

@@ -2,7 +2,6 @@ use Rattle.std.proofs.Common.{inl, arith, sym, ◌∙◌, subst, ap}
 use Rattle.std.proofs.lemmas.Result.{on_ok_weaker}
 use Rattle.std.specs.List.{AllByRecursion}
 use Rattle.ifmap_changes.specs.Between.{AreKept, so_far}
-use Rattle.ifmap_changes.proofs.Taken.{kept_itself}
 use Rattle.ifmap_changes.proofs.changing.take_away.Goals as goal
 use Rattle.ifmap_graph.specs.Seen.{rows_now}
 use Rattle.ifmap_ident.specs.Items.{IsCanonItem}
@@ -10,6 +9,7 @@ use Rattle.ifmap_lemmas.specs.Results.{on_err}
 use Rattle.ifmap_machine.specs.Telling.{overflow, tell}
 use Rattle.ifmap_plans.specs.declared.plans.Note.{Note}
 use Rattle.ifmap_publish.specs.Retract.{retract}
+use Rattle.ifmap_changes.specs.KeptLaws.{stays_kept}
 
 pub make_change-requires-clause-canon : goal.make_change-requires-clause-canon
 make_change-requires-clause-canon g c =
@@ -25,7 +25,7 @@ returns-clause-told g c =
 
 pub returns-in_err-plan-clause-kept : goal.returns-in_err-plan-clause-kept
 returns-in_err-plan-clause-kept g c =
-    on_err c.from_residual.result (AreKept c.args.parts.now c.args.parts.now) (kept_itself c.args.parts.now c.requires.steady)
+    on_err c.from_residual.result (AreKept c.args.parts.now c.args.parts.now) (stays_kept c.args.parts.now c.requires.steady)
 
 pub returns-in_err-plan-clause-steps : goal.returns-in_err-plan-clause-steps
 returns-in_err-plan-clause-steps g c = (c.retract.new.steps, c.retract.ensures.steps, inl (omega arith))

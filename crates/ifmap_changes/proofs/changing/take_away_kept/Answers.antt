@@ -3,7 +3,7 @@ use Rattle.std.proofs.lemmas.Result.{on_ok_weaker}
 use Rattle.std.specs.List.{AllByRecursion}
 use Rattle.ifmap_changes.specs.Between.{AreKept, so_far}
 use Rattle.ifmap_changes.proofs.Results.{where_value}
-use Rattle.ifmap_changes.proofs.Taken.{can_settle, kept_itself}
+use Rattle.ifmap_changes.proofs.Taken.{can_settle}
 use Rattle.ifmap_changes.proofs.changing.take_away_kept.Goals as goal
 use Rattle.ifmap_graph.specs.Seen.{rows_now}
 use Rattle.ifmap_ident.specs.Items.{IsCanonItem}
@@ -11,6 +11,7 @@ use Rattle.ifmap_lemmas.specs.Results.{on_err}
 use Rattle.ifmap_machine.specs.Telling.{overflow, tell}
 use Rattle.ifmap_plans.specs.declared.plans.Note.{Note}
 use Rattle.ifmap_publish.specs.Retract.{retract}
+use Rattle.ifmap_changes.specs.KeptLaws.{stays_kept}
 
 pub make_kept-requires-clause-canon : goal.make_kept-requires-clause-canon
 make_kept-requires-clause-canon g c =
@@ -31,7 +32,7 @@ returns-clause-settle g c =
 
 pub returns-in_err-plan-clause-kept : goal.returns-in_err-plan-clause-kept
 returns-in_err-plan-clause-kept g c =
-    on_err c.from_residual.result (AreKept c.args.parts.now c.args.parts.now) (kept_itself c.args.parts.now c.requires.steady)
+    on_err c.from_residual.result (AreKept c.args.parts.now c.args.parts.now) (stays_kept c.args.parts.now c.requires.steady)
 
 pub returns-in_err-plan-clause-steps : goal.returns-in_err-plan-clause-steps
 returns-in_err-plan-clause-steps g c = (c.retract.new.steps, c.retract.ensures.steps, inl (omega arith))

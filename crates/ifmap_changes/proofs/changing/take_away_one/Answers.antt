@@ -2,7 +2,7 @@ use Rattle.std.proofs.Common.{◌≡◌, ◌≢◌, ℕ, List, [], ◌∷◌, �
 use Rattle.std.proofs.lemmas.Result.{on_ok_weaker}
 use Rattle.ifmap_changes.specs.Between.{AreKept, so_far}
 use Rattle.ifmap_changes.proofs.Spending.{ended_none, ended_within}
-use Rattle.ifmap_changes.proofs.Taken.{kept_itself, marked_state, ready_marked}
+use Rattle.ifmap_changes.proofs.Taken.{marked_state, ready_marked}
 use Rattle.ifmap_changes.proofs.changing.take_away_one.Goals as goal
 use Rattle.ifmap_graph.specs.Seen.{rows_now}
 use Rattle.ifmap_lemmas.specs.Results.{on_err}
@@ -14,6 +14,7 @@ use Rattle.ifmap_publish.specs.Retract.{retract}
 use Rattle.ifmap_standing.specs.declared.standing.Standing.{Standing}
 use Rattle.ifmap_standing.specs.Standing.{standing_of}
 use Rattle.ifmap_tellings.specs.Tellings.{AllKept, kept_of}
+use Rattle.ifmap_changes.specs.KeptLaws.{stays_kept}
 
 pub take_away-requires-clause-ready : goal.take_away-requires-clause-ready
 take_away-requires-clause-ready g c =
@@ -48,7 +49,7 @@ returns-clause-bare g c =
 
 pub returns-in_err-serials-clause-kept : goal.returns-in_err-serials-clause-kept
 returns-in_err-serials-clause-kept g c =
-    on_err c.from_residual.result (AreKept c.args.parts.now c.args.parts.now) (kept_itself c.args.parts.now c.requires.steady)
+    on_err c.from_residual.result (AreKept c.args.parts.now c.args.parts.now) (stays_kept c.args.parts.now c.requires.steady)
 
 pub returns-in_err-serials-clause-steps : goal.returns-in_err-serials-clause-steps
 returns-in_err-serials-clause-steps g c =

@@ -3,9 +3,10 @@ use Rattle.ifmap_changes.specs.Between.{AreKept, AreTurned, so_far}
 use Rattle.ifmap_core.proofs.Begun.{full_leads}
 use Rattle.ifmap_core.proofs.Exits.{always_ok}
 use Rattle.ifmap_core.proofs.Spending.{begun_none, begun_within}
-use Rattle.ifmap_core.proofs.Turned.{stays_kept, stays_turned}
+use Rattle.ifmap_core.proofs.Turned.{stays_turned}
 use Rattle.ifmap_core.proofs.beginning.new_session.Goals as goal
 use Rattle.ifmap_lemmas.specs.Results.{on_err}
+use Rattle.ifmap_changes.specs.KeptLaws.{stays_kept}
 
 pub begin-requires-clause-free : goal.begin-requires-clause-free
 begin-requires-clause-free g c = sym (c.is_full.ensures.full c.args.parts.now c.args.pending.now refl) ∙ c.if-is_full.false

@@ -1,7 +1,8 @@
 use Rattle.ifmap_core.proofs.Expiring.{can_settled}
-use Rattle.ifmap_core.proofs.Turned.{keeps_there, shares_fewer}
+use Rattle.ifmap_core.proofs.Turned.{keeps_there}
 use Rattle.ifmap_core.proofs.ending.settle_ended.Goals as goal
 use Rattle.ifmap_core.specs.Outcomes.{held_by}
+use Rattle.ifmap_changes.specs.StartLaws.{shares_fewer}
 
 pub settle_made-requires-clause-steady : goal.settle_made-requires-clause-steady
 settle_made-requires-clause-steady c = (held_by c.args.outcome.now, c.requires.steady)

@@ -9,9 +9,10 @@ use Rattle.ifmap_delta.specs.Located.{AreLocated}
 use Rattle.ifmap_folds.specs.Differences.{difference}
 use Rattle.ifmap_delta.specs.Sights.{sight_of}
 use Rattle.ifmap_delta.proofs.Repairing.{change_steps, repair_steps}
-use Rattle.ifmap_delta.proofs.Sizing.{fresh_rises, sizes_differ}
+use Rattle.ifmap_delta.proofs.Sizing.{sizes_differ}
 use Rattle.ifmap_delta.proofs.Telling.{difference_is}
 use Rattle.ifmap_delta.proofs.changing.move_near.Goals as goal
+use Rattle.ifmap_folds.specs.laws.FoldingLaws.{fresh_rises}
 
 pub returns-in_err-patch-clause-steps : goal.returns-in_err-patch-clause-steps
 returns-in_err-patch-clause-steps g c =

@@ -5,10 +5,11 @@ use Rattle.ifmap_region.specs.Marks.{mark_of, over}
 use Rattle.ifmap_folds.specs.Differences.{difference}
 use Rattle.ifmap_delta.specs.Sights.{sight_of}
 use Rattle.ifmap_delta.proofs.Repairing.{repair_steps, repaired_marks, repaired_steps}
-use Rattle.ifmap_delta.proofs.Sizing.{fresh_rises, sizes_differ}
+use Rattle.ifmap_delta.proofs.Sizing.{sizes_differ}
 use Rattle.ifmap_delta.proofs.Staying.{all_settled, no_flips, none_rises}
 use Rattle.ifmap_delta.proofs.Telling.{difference_is}
 use Rattle.ifmap_delta.proofs.changing.move_nothing.Goals as goal
+use Rattle.ifmap_folds.specs.laws.FoldingLaws.{fresh_rises}
 
 pub returns-clause-steps : goal.returns-clause-steps
 returns-clause-steps g c =

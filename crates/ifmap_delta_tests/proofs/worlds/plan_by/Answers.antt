@@ -4,8 +4,9 @@ use Rattle.ifmap_graph.specs.Seen.{rows_now}
 use Rattle.ifmap_ident.specs.Items.{IsCanonItem}
 use Rattle.ifmap_plans.specs.declared.plans.Note.{Note}
 use Rattle.ifmap_publish.specs.Apply.{Authorship, apply}
-use Rattle.ifmap_delta_tests.proofs.Lasting.{notes_canon, whole_like}
+use Rattle.ifmap_delta_tests.proofs.Lasting.{whole_like}
 use Rattle.ifmap_delta_tests.proofs.worlds.plan_by.Goals as goal
+use Rattle.ifmap_publish.specs.NoteLaws.{notes_canon}
 
 pub returns : goal.returns
 returns c =

@@ -4,8 +4,8 @@ use Rattle.ifmap_ident.specs.Items.{item_order}
 use Rattle.ifmap_view.specs.Rows.{stored_on}
 use Rattle.ifmap_graph.specs.Shelved.{rows_of}
 use Rattle.ifmap_graph.specs.Sides.{next, now}
-use Rattle.ifmap_graph.proofs.Ordered.{ties}
 use Rattle.ifmap_graph.proofs.turning.accept_one.Goals as goal
+use Rattle.ifmap_ident.specs.SameLaws.{ties}
 
 pub returns-clause-list : goal.returns-clause-list
 returns-clause-list c = c.accept.ensures.old

@@ -2,8 +2,8 @@ use Rattle.std.proofs.Common.{◌≡◌, false, get_or, subst, sym, ◌∙◌}
 use Rattle.std.proofs.lemmas.List.{get_or_default}
 use Rattle.ifmap_ident.specs.Items.{same_item}
 use Rattle.ifmap_plans.specs.declared.plans.ItemChange.{ItemChange}
-use Rattle.ifmap_graph.proofs.Ordered.{ties}
 use Rattle.ifmap_graph.proofs.turning.discard_at.Goals as goal
+use Rattle.ifmap_ident.specs.SameLaws.{ties}
 
 pub discard-requires-clause-there : goal.discard-requires-clause-there
 discard-requires-clause-there c = c.requires.there c.index-changes-i.result

@@ -1,9 +1,9 @@
 use Rattle.ifmap_region.specs.Bounds.{within_nothing}
 use Rattle.ifmap_region.specs.Marks.{mark_of, over}
-use Rattle.ifmap_region.proofs.Depths.{depths_same}
 use Rattle.ifmap_region.proofs.Patches.{over_differing}
 use Rattle.ifmap_region.proofs.Repairs.{spent_cutting, spent_repairing, cut_left}
 use Rattle.ifmap_region.proofs.repairing.repair.Goals as goal
+use Rattle.ifmap_region.specs.DepthLaws.{depths_same}
 
 pub returns-in_err-hidden-clause-steps : goal.returns-in_err-hidden-clause-steps
 returns-in_err-hidden-clause-steps g c d = within_nothing _ _ _ _

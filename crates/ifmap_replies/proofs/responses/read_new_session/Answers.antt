@@ -10,8 +10,8 @@ use Rattle.ifmap_forms.specs.Tables.{beside, both, form_check, is_white_part, no
 use Rattle.ifmap_forms.specs.Values.{Field, field_check, text_field}
 use Rattle.ifmap_replies.specs.Fields.{word_field}
 use Rattle.ifmap_replies.specs.ResultForms.{new_session_form, new_session_made, no_scopes}
-use Rattle.ifmap_replies.proofs.FormLaws.{blank_children, other_children}
 use Rattle.ifmap_replies.proofs.responses.read_new_session.Goals as goal
+use Rattle.ifmap_forms.specs.FormLaws.{blank_children, other_children}
 
 abbrev publisher_field : Field (List ℕ)
 publisher_field = text_field (codes "ifmap-publisher-id")

@@ -6,8 +6,8 @@ use Rattle.ifmap_forms.specs.declared.errors.FormError.TheVariants.{Named}
 use Rattle.ifmap_forms.specs.AnswerLaws.{found_form, refused_at_content, refused_at_others}
 use Rattle.ifmap_forms.specs.Tables.{is_white_part, parts_in}
 use Rattle.ifmap_replies.specs.ResultForms.{no_scopes, plain_form, plain_made}
-use Rattle.ifmap_replies.proofs.FormLaws.{blank_children, other_children}
 use Rattle.ifmap_replies.proofs.responses.read_plain.Goals as goal
+use Rattle.ifmap_forms.specs.FormLaws.{blank_children, other_children}
 
 pub returns-then-not-has_only : goal.returns-then-not-has_only
 returns-then-not-has_only c = λ kind.

@@ -7,9 +7,10 @@ use Rattle.ifmap_forms.specs.AnswerLaws.{found_alone, refused_alone, refused_exi
 use Rattle.ifmap_forms.specs.Tables.{both, form_check, is_white_part, parts_in}
 use Rattle.ifmap_forms.specs.Values.{name_field}
 use Rattle.ifmap_requests.specs.RequestForms.{end_form, end_of}
-use Rattle.ifmap_requests.proofs.FormLaws.{blank_children, made_of_form, other_children, read_no_attributes, read_no_content, read_others}
+use Rattle.ifmap_requests.proofs.FormLaws.{made_of_form, read_no_attributes, read_no_content, read_others}
 use Rattle.ifmap_requests.proofs.FormLaws.{read_whole, refused_form}
 use Rattle.ifmap_requests.proofs.subscribing.read_end.Goals as goal
+use Rattle.ifmap_forms.specs.FormLaws.{blank_children, other_children}
 
 pub returns-in_err-name : goal.returns-in_err-name
 returns-in_err-name c = λ scopes.

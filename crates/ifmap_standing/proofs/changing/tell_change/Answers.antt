@@ -9,12 +9,12 @@ use Rattle.ifmap_plans.specs.declared.plans.Plan.{Plan}
 use Rattle.ifmap_standing.specs.Kept.{AtEach, KeepsSame, Stands}
 use Rattle.ifmap_standing.specs.News.{news_of_each}
 use Rattle.ifmap_standing.specs.Standing.{standing_of}
-use Rattle.ifmap_standing.proofs.Places.{keeps_itself, same_search}
-use Rattle.ifmap_standing.proofs.Stages.{keep_searches, lead_searches, stands_itself, within_none}
+use Rattle.ifmap_standing.proofs.Stages.{lead_searches, stands_itself, within_none}
 use Rattle.ifmap_standing.proofs.changing.tell_change.Goals as goal
+use Rattle.ifmap_standing.specs.PlaceLaws.{search_itself, keeps_itself, keep_searches}
 
 pub returns-in_err-with_capacity-clause-same : goal.returns-in_err-with_capacity-clause-same
-returns-in_err-with_capacity-clause-same g c = stands_itself HasSameSearch same_search c.args.standing.now
+returns-in_err-with_capacity-clause-same g c = stands_itself HasSameSearch search_itself c.args.standing.now
 
 pub returns-in_err-with_capacity-clause-err : goal.returns-in_err-with_capacity-clause-err
 returns-in_err-with_capacity-clause-err g c =
@@ -48,7 +48,7 @@ returns-in_err-with_capacity-2-clause-steps g c =
     in within_none old new (zip c.args.skipped.now c.args.standing.now) c.args.steps.now
 
 pub returns-in_err-located-clause-same : goal.returns-in_err-located-clause-same
-returns-in_err-located-clause-same g c = stands_itself HasSameSearch same_search c.args.standing.now
+returns-in_err-located-clause-same g c = stands_itself HasSameSearch search_itself c.args.standing.now
 
 pub returns-in_err-located-clause-err : goal.returns-in_err-located-clause-err
 returns-in_err-located-clause-err g c =

@@ -1,6 +1,7 @@
 use Rattle.std.proofs.Common.{refl}
-use Rattle.ifmap_subscribes.proofs.Ready.{ready_after, shares_before}
+use Rattle.ifmap_subscribes.proofs.Ready.{ready_after}
 use Rattle.ifmap_subscribes.proofs.readying.give_up.Goals as goal
+use Rattle.ifmap_changes.specs.StartLaws.{shares_fewer}
 
 pub returns-clause-ready : goal.returns-clause-ready
 returns-clause-ready c =
@@ -17,7 +18,7 @@ returns-clause-given_up c =
       steady = e.steady p.standing.items c.requires.readied.stand.steady;
       rows = e.rows;
       links = e.links;
-      numbers = shares_before p.graph c.release_all.new.graph e.numbers;
+      numbers = shares_fewer p.graph c.release_all.new.graph e.numbers;
       backs = e.backs;
       waits = e.waits;
       lean = e.lean;

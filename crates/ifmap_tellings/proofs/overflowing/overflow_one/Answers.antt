@@ -5,8 +5,8 @@ use Rattle.ifmap_machine.specs.Telling.{is_overfull, overflow_session}
 use Rattle.ifmap_session.specs.Sessions.{Session}
 use Rattle.ifmap_session.specs.laws.TextLaws.{all_found}
 use Rattle.ifmap_tellings.specs.Tellings.{is_alone, told_where}
-use Rattle.ifmap_tellings.proofs.RoomLaws.{found_serial}
 use Rattle.ifmap_tellings.proofs.overflowing.overflow_one.Goals as goal
+use Rattle.ifmap_session.specs.laws.TableLaws.{found_serial}
 
 pub returns-clause-told : goal.returns-clause-told
 returns-clause-told c = λ s found.

@@ -6,10 +6,10 @@ use Rattle.ifmap_graph.specs.Sides.{next, now}
 use Rattle.ifmap_graph.specs.Waits.{waits_at, waits_of, waits_there}
 use Rattle.ifmap_graph.proofs.Staying.{bare_stays, ends_stay}
 use Rattle.ifmap_graph.proofs.Writes.{shelved, side_stays, slot_live, waits_had, waits_has, waits_others}
-use Rattle.ifmap_graph.proofs.Ordered.{items_total}
 use Rattle.ifmap_graph.proofs.Waited.{lowered}
 use Rattle.ifmap_graph.proofs.shelves.Shelves.unwait.Goals as goal
 use Rattle.ifmap_lemmas.specs.Options.{some_is}
+use Rattle.ifmap_ident.specs.SameLaws.{items_total}
 
 pub unwait_at-requires : goal.unwait_at-requires
 unwait_at-requires c =

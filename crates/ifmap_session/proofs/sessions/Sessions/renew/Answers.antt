@@ -1,9 +1,10 @@
 use Rattle.std.proofs.Common.{◌≡◌, refl, subst, arith}
 use Rattle.ifmap_session.specs.Sessions.{with_last}
 use Rattle.ifmap_session.specs.Stamps.{Restamps}
-use Rattle.ifmap_session.proofs.KeptLaws.{kept_renewed, moment_renewed, place_within, rewritten}
+use Rattle.ifmap_session.proofs.KeptLaws.{kept_renewed, place_within, rewritten}
 use Rattle.ifmap_session.proofs.RowLaws.{spare_same}
 use Rattle.ifmap_session.proofs.sessions.Sessions.renew.Goals as goal
+use Rattle.ifmap_session.specs.laws.TableLaws.{renewed_keeps}
 
 pub renew_at-requires : goal.renew_at-requires
 renew_at-requires c =
@@ -23,7 +24,7 @@ returns-clause-changes c =
     let got = rw c.deref.ensures.value at c.place_in-place.ensures in
     let r = rewritten c.self.invariant c.args.serial c.place_in-place.result got.0 got.1 c.renew_at.new.rows.items
     (with_last c.args.moment) (λ a b. b.spare ≡ a.spare)
-    (moment_renewed c.args.moment) c.renew_at.ensures.rows in
+    (renewed_keeps c.args.moment) c.renew_at.ensures.rows in
     rw (← c.self.view_is) (record {
       live = r.live;
       counter = refl;

@@ -1,0 +1,37 @@
+-- Parts that are steady are kept as they are.
+use Rattle.std.proofs.Common.{refl, ◌∙◌, sym, subst, arith}
+use Rattle.ifmap_standing.specs.declared.standing.Standing.{Standing}
+use Rattle.ifmap_standing.specs.Kept.{KeepsSame, Stands}
+use Rattle.std.proofs.lemmas.Option.{same_Some}
+use Rattle.ifmap_changes.specs.Between.{AreKept, IsSteady}
+use Rattle.ifmap_changes.specs.declared.parts.Parts.{Parts}
+
+pub stands_itself : (x : Standing) → Stands KeepsSame x x
+stands_itself x = record {
+  serial = refl;
+  name = refl;
+  subscription = record {
+    search = record { search = refl; start = refl; max_depth = refl };
+    size = refl;
+    marks = λ v. refl;
+    rows = λ v r. r;
+  };
+}
+
+-- what was not changed is kept
+pub stays_kept : (parts : Parts) → IsSteady parts.graph parts.standing.items → AreKept parts parts
+stays_kept parts s = record {
+  back = record {
+    steady = s;
+    rows = refl;
+    links = λ v. refl;
+    numbers = λ v a b p q. same_Some b a (sym q ∙ p);
+    lean = λ rest l. l;
+    standing = record {
+      long = refl;
+      at = λ i x y p q. subst (λ z. Stands KeepsSame x z) (same_Some x y (sym p ∙ q)) (stands_itself x);
+    };
+    sessions = record { live = refl; counter = refl; spare = λ n. omega arith; room = omega arith };
+  };
+  backs = λ u rows links b. b;
+}

@@ -1,0 +1,43 @@
+-- Items and identifiers are the same or differ.
+use Rattle.std.proofs.Common.{◌≡◌, true, refl, ◌∙◌, sym, false, ap, rules}
+use Rattle.ifmap_lemmas.specs.Texts.{eq_itself}
+use Rattle.ifmap_ident.specs.declared.identifiers.Identifier.{Identifier}
+use Rattle.ifmap_ident.specs.Identifiers.{identifier_bytes, same_identifier, identifier_order}
+use Rattle.ifmap_ident.specs.declared.items.Item.{Item}
+use Rattle.ifmap_ident.specs.declared.items.Item.TheVariants.{One, Pair}
+use Rattle.ifmap_ident.specs.Items.{same_item, item_order, items_tie}
+use Rattle.std.specs.Cmp.Lexicographic.{nat_list_cmp_total}
+use Rattle.std.specs.Ordering.{ordering_reverse, is_eq}
+use Rattle.std.specs.Cmp.{Equal-is, IsTotalOrder}
+use Rattle.std.specs.declared.cmp.Ordering.TheVariants.{Equal, Less}
+use Rattle.std.specs.Cmp.Rules.{comparing}
+use Rattle.std.specs.BTreeMap.{is_at}
+use Rattle.ifmap_lemmas.specs.Orderings.{eq_turned}
+
+pub identifier_itself : (a : Identifier) → same_identifier a a ≡ true
+identifier_itself a = eq_itself (identifier_bytes a)
+
+pub item_itself : (x : Item) → same_item x x ≡ true
+item_itself (One a) = rw (identifier_itself a) refl
+item_itself (Pair a b) = rw (identifier_itself a, identifier_itself b) refl
+
+-- the order the other way round
+pub turned_order : (a b : Identifier) → identifier_order a b ≡ ordering_reverse (identifier_order b a)
+turned_order a b = nat_list_cmp_total.antisymm (identifier_bytes a) (identifier_bytes b)
+
+pub same_equal : (a b : Item) → same_item a b ≡ true → item_order a b ≡ Equal
+same_equal a b e = (Equal-is (item_order a b)).0 (sym (items_tie a b) ∙ e)
+
+pub less_differs : (a b : Item) → item_order a b ≡ Less → same_item a b ≡ false
+less_differs a b e = items_tie a b ∙ ap is_eq e
+
+pub items_total : IsTotalOrder item_order
+items_total = search (comparing, rules)
+
+-- the test of a look-up is that of what is stored on an item
+pub ties : (item other : Item) → is_at (item_order item) other ≡ same_item other item
+ties item other = sym (items_tie other item ∙ ap is_eq (items_total.antisymm other item) ∙ eq_turned (item_order item other))
+
+-- an item below another is not the same
+pub greater_differs : (i y : Item) → item_order i y ≡ Less → same_item y i ≡ false
+greater_differs i y e = sym (ties i y) ∙ ap is_eq e

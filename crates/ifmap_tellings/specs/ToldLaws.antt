@@ -1,0 +1,45 @@
+-- What is told a session, and whose sessions stay.
+use Rattle.std.proofs.Common.{refl, arith, ℕ, ◌≤◌, ◌∙◌, ◌≡◌, Option, Some, None, Bool, List, sym, true, false, [], ◌∷◌, map, ap}
+use Rattle.ifmap_session.specs.Sessions.{Table, spare_of, Session}
+use Rattle.ifmap_tellings.specs.Tellings.{HasSameSessions, told_where, AllKept, kept_of}
+use Rattle.ifmap_tellings.specs.declared.tellings.Telling.{Telling}
+use Rattle.ifmap_tellings.specs.declared.tellings.Telling.TheVariants.{After, Alone}
+use Rattle.ifmap_lemmas.specs.Places.{present}
+use Rattle.ifmap_standing.specs.declared.standing.Standing.{Standing}
+use Rattle.ifmap_standing.specs.Kept.{AtEach}
+
+pub same_itself : (t : Table) → HasSameSessions t t
+same_itself t = record { live = refl; counter = refl; spare = λ n. omega arith; room = omega arith }
+
+pub at_most : (a b c : ℕ) → a ≤ b → b ≤ c → a ≤ c
+at_most a b c d e = omega arith
+
+pub same_twice : (a b c : Table) → HasSameSessions a b → HasSameSessions b c → HasSameSessions a c
+same_twice a b c first next = record {
+  live = next.live ∙ first.live;
+  counter = next.counter ∙ first.counter;
+  spare = λ n. at_most (spare_of n a.spare) (spare_of n b.spare) (spare_of n c.spare) (first.spare n) (next.spare n);
+  room = at_most a.room b.room c.room first.room next.room;
+}
+
+pub told_serial : (o : Option Telling) (s : Session) → (told_where o s).serial ≡ s.serial
+told_serial None s = refl
+told_serial (Some (After items size)) s = refl
+told_serial (Some (Alone error)) s = refl
+
+pub told_limit : (o : Option Telling) (s : Session) → (told_where o s).limit ≡ s.limit
+told_limit None s = refl
+told_limit (Some (After items size)) s = refl
+told_limit (Some (Alone error)) s = refl
+
+-- what holds of each that is not gone holds of what stands in its place
+pub same_kept : (P Q : Standing → Type 0) (R : ℕ → Standing → Standing → Type 0) → ((i : ℕ) (x y : Standing) → R i x y → P x → Q y)
+    → (gone : List Bool) (old new : List Standing) → AtEach R old new → AllKept P gone old → AllKept Q gone new
+same_kept P Q R f gone old new r k = λ i y at flag.
+    let x = present new old i y (sym r.long) at in f i x.0 y (r.at i x.0 y x.1 at) (k i x.0 x.1 flag)
+
+pub map_kept : {X Y : Type 0} (f : X → Y) (gone : List Bool) (xs : List X) → map f (kept_of gone xs) ≡ kept_of gone (map f xs)
+map_kept f [] xs = refl
+map_kept f (g ∷ gone) [] = refl
+map_kept f (true ∷ gone) (x ∷ xs) = map_kept f gone xs
+map_kept f (false ∷ gone) (x ∷ xs) = ap (λ ys. f x ∷ ys) (map_kept f gone xs)
