@@ -36,4 +36,3 @@ arranged_again = by_children StaysArranged (λ e. arrange (arrange e) ≡ arrang
 
 pub printed_again : (e : Element) → canonical_bytes (arrange e) ≡ canonical_bytes e
 printed_again e = ap (root_bytes (numbered_prefixes (codes "f") 1 [])) (arranged_again e)
-

@@ -228,4 +228,3 @@ none_expired moment ttl [] e = refl
 none_expired moment ttl (x ∷ live) e =
     let both = or_parts (is_expired moment ttl x) (list_any (is_expired moment ttl) live) e in
     rw (both.0) (none_expired moment ttl live both.1)
-
