@@ -1,7 +1,6 @@
 -- What publishes and retractions meet: parts that were not changed (`stays_kept`), notes on items that elements are (`notes_canon`),
 -- subscriptions that are marked (`ready_marked`, `marked_state`).
 use Rattle.std.proofs.Common.{◌≡◌, ◌≢◌, ℕ, true, Some, List, length, map, slice_get, sym, subst}
-use Rattle.std.specs.List.{AllByRecursion}
 use Rattle.ifmap_changes.specs.Between.{AreWithin, Asking, IsReady, rest_of, sessions_left, sight_now, so_far}
 use Rattle.ifmap_changes.specs.Changes.{CanSettle, CanTakeBack}
 use Rattle.ifmap_changes.specs.declared.changes.Made.{Made}
@@ -9,14 +8,8 @@ use Rattle.ifmap_changes.specs.declared.parts.Parts.{Parts}
 use Rattle.ifmap_changes.proofs.EachPlace.{less_kept}
 use Rattle.ifmap_delta.specs.Sights.{IsKept}
 use Rattle.ifmap_graph.specs.Seen.{rows_now}
-use Rattle.ifmap_ident.specs.Items.{IsCanonItem}
 use Rattle.ifmap_machine.specs.Ending.{without_standing}
-use Rattle.ifmap_plans.specs.declared.plans.Note.{Note}
 use Rattle.ifmap_publish.specs.Apply.{Authorship}
-use Rattle.ifmap_publish.specs.Notes.{notes_of_op}
-use Rattle.ifmap_requests.specs.declared.publishing.PublishOp.{PublishOp}
-use Rattle.ifmap_requests.specs.declared.publishing.PublishOp.TheVariants.{Update, Notify, Delete}
-use Rattle.ifmap_requests.specs.Fit.{IsFitOp}
 use Rattle.ifmap_session.specs.Sessions.{IsLive}
 use Rattle.ifmap_standing.specs.Standing.{standing_of}
 use Rattle.ifmap_tellings.specs.declared.tellings.Pending.{Pending}
@@ -25,11 +18,6 @@ use Rattle.ifmap_tellings.specs.Tellings.{AloneAreBare, CanTell, EachTelling, Is
 -- who asks, as an author in a session
 abbrev pub author_of : ℕ → Asking → Authorship
 author_of serial a = record { client = a.client; serial = serial; moment = a.moment }
-
-    of_op : (one : PublishOp) → IsFitOp one → AllByRecursion (λ (n : Note). IsCanonItem n.item) (notes_of_op by one)
-    of_op (Update item elements forever) fit = tt
-    of_op (Notify item elements) fit = all item elements fit.0
-    of_op (Delete item filter) fit = tt
 
 -- all is ready still where more subscriptions are gone
 pub ready_marked : (a : Asking) (parts : Parts) (old new : Pending) → length new.gone.items ≡ length parts.standing.items

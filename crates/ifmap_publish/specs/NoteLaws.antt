@@ -9,6 +9,7 @@ use Rattle.ifmap_plans.specs.declared.plans.Note.{Note}
 use Rattle.ifmap_publish.specs.Apply.{Authorship}
 use Rattle.ifmap_publish.specs.Notes.{note_of, notes_of, notes_of_op}
 use Rattle.ifmap_requests.specs.declared.publishing.PublishOp.{PublishOp}
+use Rattle.ifmap_requests.specs.declared.publishing.PublishOp.TheVariants.{Update, Notify, Delete}
 use Rattle.ifmap_requests.specs.Fit.{IsFitOp}
 
 -- what is notified is on items that elements are
@@ -22,3 +23,8 @@ notes_canon by (op ∷ ops) fit =
         → AllByRecursion (λ (n : Note). IsCanonItem n.item) (map (note_of by item) elements)
     all item [] is = tt
     all item (m ∷ elements) is = (is, all item elements is)
+
+    of_op : (one : PublishOp) → IsFitOp one → AllByRecursion (λ (n : Note). IsCanonItem n.item) (notes_of_op by one)
+    of_op (Update item elements forever) fit = tt
+    of_op (Notify item elements) fit = all item elements fit.0
+    of_op (Delete item filter) fit = tt
