@@ -4,7 +4,7 @@
 -- 3. The body, after a header or none.
 -- 4. What stands at an index.
 -- 5. White space at the front, as the code finds it.
-use Rattle.std.proofs.Common.{◌≡◌, ◌∙◌, ℕ, ◌+◌, ◌-◌, ◌<◌, ◌≤◌, suc, Bool, true, false, not, cond, List, [], ◌∷◌, ◌++◌, None, Some, codes, length, get_or, take, drop, inl, inr, refl, ap, arith, subst, sym, append_assoc}
+use Rattle.std.proofs.Common.{◌≡◌, ◌∙◌, ℕ, ◌+◌, ◌<◌, ◌≤◌, suc, Bool, true, false, not, cond, List, [], ◌∷◌, ◌++◌, None, Some, codes, length, get_or, take, drop, inl, inr, refl, ap, arith, subst, sym, append_assoc}
 use Rattle.std.specs.Prelude.{◌&&◌, option_map}
 use Rattle.std.specs.List.{list_all, position, position_or_len, slice_get}
 use Rattle.std.specs.Str.{bytes_eq}
@@ -18,7 +18,6 @@ use Rattle.ifmap_elem.specs.declared.elements.Child.{Child, out-Child}
 use Rattle.ifmap_elem.specs.declared.elements.Child.TheOpen.{Child-F}
 use Rattle.ifmap_elem.specs.declared.elements.Element.{Element}
 use Rattle.ifmap_elem.specs.declared.elements.Name.{Name}
-use Rattle.ifmap_elem.specs.laws.FitLaws.{out_element}
 use Rattle.ifmap_filter.specs.Holding.{is_name}
 use Rattle.ifmap_forms.specs.PositionLaws.{at_place, no_place, place_is}
 use Rattle.ifmap_forms.specs.Tables.{Part, is_white_part, parts_in}
@@ -26,6 +25,7 @@ use Rattle.ifmap_lemmas.specs.Texts.{eq_itself, eq_tells}
 use Rattle.ifmap_envelopes.specs.Envelopes.{IsAlone, IsBodyAt, IsPartAt, blank_front, envelope_name, is_element, is_first, is_last, is_part_named, is_solid_part}
 use Rattle.ifmap_elem.specs.Chars.{is_white}
 use Rattle.ifmap_envelopes.proofs.Alone.{at_header, AreBlank, part_of, text_of, no_element, after_text}
+use Rattle.ifmap_elem.specs.laws.ArrangedLaws.{out_element}
 
 -- ---- names
 

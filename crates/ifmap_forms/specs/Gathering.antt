@@ -12,7 +12,7 @@ use Rattle.ifmap_elem.specs.declared.elements.Child as the
 use Rattle.ifmap_elem.specs.declared.elements.Child.{Child, out-Child}
 use Rattle.ifmap_elem.specs.declared.elements.Child.TheOpen.{Child-F}
 use Rattle.ifmap_elem.specs.declared.elements.Element.{Element}
-use Rattle.ifmap_elem.specs.laws.FitLaws.{out_element, out_text}
+use Rattle.ifmap_elem.specs.laws.FitLaws.{out_text}
 use Rattle.ifmap_ident.specs.declared.codes.Code.{Code}
 use Rattle.ifmap_ident.specs.declared.codes.Code.TheVariants.{Failure}
 use Rattle.ifmap_ident.specs.declared.identifiers.Identifier.{Identifier}
@@ -22,6 +22,7 @@ use Rattle.ifmap_forms.specs.Answers.{IsRefused}
 use Rattle.ifmap_forms.specs.Checks.{Check, check_then, need, pass}
 use Rattle.ifmap_forms.specs.Items.{identifier_check, identifiers_check, may_follow}
 use Rattle.ifmap_forms.specs.Tables.{Part, each_element, parts_in}
+use Rattle.ifmap_elem.specs.laws.ArrangedLaws.{out_element}
 
 module _ {X : Type 0} where
   -- what is there, as a list

@@ -1,5 +1,5 @@
 -- Ways back stay where what is stored and the links do, and each shelf that a way back needs.
-use Rattle.std.proofs.Common.{◌≡◌, ◌≢◌, ℕ, zero, suc, ◌≤◌, List, [], length, refl, ap, ◌∙◌, sym, subst, arith}
+use Rattle.std.proofs.Common.{◌≡◌, ◌≢◌, ℕ, zero, suc, ◌≤◌, List, [], length, refl, ap, ◌∙◌, sym, subst, arith, ◌∷◌, inl, inr}
 use Rattle.ifmap_ident.specs.declared.items.Item.{Item}
 use Rattle.ifmap_view.specs.declared.attachments.Attachment.{Attachment}
 use Rattle.ifmap_view.specs.declared.views.LinkSeen.{LinkSeen}
@@ -12,7 +12,10 @@ use Rattle.ifmap_graph.specs.Seen.{Awaits, AwaitsLess, AwaitsMore, links_now, ro
 use Rattle.ifmap_graph.specs.Stays.{IsThere, StayPlaced}
 use Rattle.ifmap_graph.specs.Waits.{times_in}
 use Rattle.ifmap_graph.proofs.Turns.{restored_alike, still_within}
-use Rattle.ifmap_graph.proofs.Lean.{stand_others}
+use Rattle.std.proofs.lemmas.Bool.{cases_Bool}
+use Rattle.std.specs.BTreeMap.{is_at}
+use Rattle.ifmap_ident.specs.Items.{item_order}
+use Rattle.ifmap_meta.specs.declared.stored.Stored.{Stored}
 
 -- links stay where the shelves of all that has something stay
 pub links_stay : (rows : List Attachment) (links : ℕ → List LinkSeen) (old new : Held)
@@ -28,6 +31,16 @@ links_stay rows links old new f is = record {
       in is.each x v w at (sym t.0 ∙ e) (subst (λ o. AreTwo o v w) t.1 two) full;
   once = is.once;
 }
+
+-- lists that stand on these items stand on no other
+pub stand_others : (items : List Item) (lists : List (List Stored)) (x : Item) (before : List Stored) → times_in items x ≡ 0
+    → stand_each items lists x before ≡ before
+stand_others [] lists x before e = refl
+stand_others (i ∷ is) [] x before e = refl
+stand_others (i ∷ is) (l ∷ ls) x before e = elim (cases_Bool (is_at (item_order i) x)) [
+  | inl t ↦ let some = rw t at e in absurd (omega (arith, some))
+  | inr f ↦ let rest = rw f at e in rw f (stand_others is ls x before (omega (arith, rest)))
+]
 
 module _ (old new : Held) (rows : rows_now new ≡ rows_now old) (links : (v : ℕ) → links_now new v ≡ links_now old v)
     (long : length old.links ≤ length new.links) (stay : StayPlaced old new) where

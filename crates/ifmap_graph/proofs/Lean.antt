@@ -27,6 +27,7 @@ use Rattle.ifmap_graph.proofs.Insides.{lookup_shown, rows_shown}
 use Rattle.ifmap_graph.proofs.Settled.{held_of, waits_shown}
 use Rattle.ifmap_graph.proofs.Taking.{else_same, has_times}
 use Rattle.ifmap_graph.proofs.Waited.{times_append}
+use Rattle.ifmap_graph.proofs.Backs.{stand_others}
 
 -- what is none of some is not among them
 never_times : (items : List Item) (x : Item) → times_in items x ≡ 0 → IsOther items x
@@ -34,16 +35,6 @@ never_times [] x e = tt
 never_times (i ∷ is) x e = elim (cases_Bool (is_at (item_order i) x)) [
   | inl t ↦ let some = rw t at e in absurd (omega (arith, some))
   | inr f ↦ let rest = rw f at e in (f, never_times is x (omega (arith, rest)))
-]
-
--- lists that stand on these items stand on no other
-pub stand_others : (items : List Item) (lists : List (List Stored)) (x : Item) (before : List Stored) → times_in items x ≡ 0
-    → stand_each items lists x before ≡ before
-stand_others [] lists x before e = refl
-stand_others (i ∷ is) [] x before e = refl
-stand_others (i ∷ is) (l ∷ ls) x before e = elim (cases_Bool (is_at (item_order i) x)) [
-  | inl t ↦ let some = rw t at e in absurd (omega (arith, some))
-  | inr f ↦ let rest = rw f at e in rw f (stand_others is ls x before (omega (arith, rest)))
 ]
 
 module _ (names : Holdings Identifier) (s : Shelves) (links : List (Sides LinkSeen)) where

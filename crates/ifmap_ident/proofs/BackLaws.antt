@@ -15,11 +15,9 @@ use Rattle.ifmap_addresses.specs.MacAddressLaws.{mac_address_spelled}
 use Rattle.ifmap_elem.specs.Building.{bare_element, bare_name}
 use Rattle.ifmap_elem.specs.Fit.{IsFit}
 use Rattle.ifmap_elem.specs.Spells.{Spells}
-use Rattle.ifmap_elem.specs.declared.elements.Child.{Child, out-Child}
 use Rattle.ifmap_elem.specs.declared.elements.Child as the
 use Rattle.ifmap_elem.specs.declared.elements.Element.{Element}
 use Rattle.ifmap_elem.specs.declared.readings.Reading.{Reading}
-use Rattle.ifmap_elem.specs.laws.FitLaws.{out_element}
 use Rattle.ifmap_ident.specs.declared.identifiers.Identifier.{Identifier}
 use Rattle.ifmap_ident.specs.declared.identifiers.Identifier.TheVariants.{AccessRequest, Device, Identity, IpV4, IpV6, MacAddress}
 use Rattle.ifmap_ident.specs.declared.kinds.IdentityType.{IdentityType}
@@ -33,6 +31,7 @@ use Rattle.ifmap_ident.specs.Kinds.{allowed_attributes, identity_type_name, kind
 use Rattle.ifmap_ident.specs.Parts.{has_only, is_blank_inside, is_blank_part, is_solid, value_of}
 use Rattle.ifmap_ident.proofs.DotLaws.{domain_again}
 use Rattle.ifmap_ident.proofs.SpelledLaws.{spelled_again}
+use Rattle.ifmap_elem.specs.laws.ArrangedLaws.{out_element}
 
 -- ---- what is kept again
 

@@ -30,8 +30,8 @@ use Rattle.ifmap_elem.specs.declared.elements.Child as the
 use Rattle.ifmap_elem.specs.declared.elements.Element.{Element}
 use Rattle.ifmap_elem.specs.declared.elements.Name.{Name}
 use Rattle.ifmap_elem.specs.declared.readings.Reading.{Reading}
-use Rattle.ifmap_elem.specs.laws.ArrangedLaws.{arranged_is}
-use Rattle.ifmap_elem.specs.laws.FitLaws.{elements_in, elements_of_child, elements_text, fit_parts, fit_whole, out_element, out_text}
+use Rattle.ifmap_elem.specs.laws.ArrangedLaws.{arranged_is, out_element}
+use Rattle.ifmap_elem.specs.laws.FitLaws.{elements_in, elements_of_child, elements_text, fit_parts, fit_whole, out_text}
 use Rattle.ifmap_ident.specs.declared.identifiers.Identifier.{Identifier}
 use Rattle.ifmap_ident.specs.declared.identifiers.Identifier.TheVariants.{AccessRequest, Device, Identity, IpV4, IpV6, MacAddress}
 use Rattle.ifmap_ident.specs.declared.kinds.IdentityType.{IdentityType}

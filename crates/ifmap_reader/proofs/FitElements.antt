@@ -25,11 +25,12 @@ use Rattle.ifmap_elem.specs.declared.tokens.Assignment.{Assignment}
 use Rattle.ifmap_elem.specs.declared.tokens.Tag.{Tag}
 use Rattle.ifmap_elem.specs.declared.tokens.Token.TheVariants.{End}
 use Rattle.ifmap_lemmas.specs.Members.{all_both, both_all, all_of_test}
-use Rattle.ifmap_elem.specs.laws.FitLaws.{elements_in, elements_of_child, elements_text, fit_whole, out_element, out_text}
+use Rattle.ifmap_elem.specs.laws.FitLaws.{elements_in, elements_of_child, elements_text, fit_whole, out_text}
 use Rattle.ifmap_lemmas.specs.Texts.{eq_tells, eq_itself, ascii_encoded, is_ascii}
 use Rattle.ifmap_reader.proofs.CharacterRuns.{no_characters}
 use Rattle.ifmap_reader.proofs.FitTokens.{IsFitAssignment, IsFitTag, IsFitToken, tokens_fit}
 use Rattle.ifmap_elem.specs.laws.CharacterLaws.{characters_both}
+use Rattle.ifmap_elem.specs.laws.ArrangedLaws.{out_element}
 
 -- scopes
 

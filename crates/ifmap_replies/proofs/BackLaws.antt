@@ -19,7 +19,7 @@ use Rattle.ifmap_elem.specs.declared.elements.Child.{Child}
 use Rattle.ifmap_elem.specs.declared.elements.Child as the
 use Rattle.ifmap_elem.specs.declared.elements.Child.TheOpen.{Child-F}
 use Rattle.ifmap_elem.specs.declared.elements.Element.{Element}
-use Rattle.ifmap_elem.specs.laws.FitLaws.{out_element, out_text}
+use Rattle.ifmap_elem.specs.laws.FitLaws.{out_text}
 use Rattle.ifmap_envelopes.specs.Envelopes.{around}
 use Rattle.ifmap_envelopes.specs.MakingLaws.{made_envelope}
 use Rattle.ifmap_filter.specs.Holding.{own_text_of, text_among}
@@ -65,6 +65,7 @@ use Rattle.ifmap_replies.specs.Runs.{before, entries_of, entry_on, run_on, runs_
 use Rattle.ifmap_replies.proofs.GoodLaws.{element_part, parts_are}
 use Rattle.ifmap_replies.proofs.WholeLaws.{IsFitRun, fit_runs}
 use Rattle.ifmap_forms.specs.FormLaws.{number_back}
+use Rattle.ifmap_elem.specs.laws.ArrangedLaws.{out_element}
 
 -- ---- 1. lists of elements
 

@@ -13,11 +13,12 @@ use Rattle.ifmap_elem.specs.declared.elements.Attribute.{Attribute}
 use Rattle.ifmap_elem.specs.declared.elements.Child.{Child, out-Child}
 use Rattle.ifmap_elem.specs.declared.elements.Child.TheOpen.{Child-F}
 use Rattle.ifmap_elem.specs.declared.elements.Element.{Element}
-use Rattle.ifmap_elem.specs.laws.FitLaws.{elements_in, elements_of_child, fit_parts, out_element, out_text}
+use Rattle.ifmap_elem.specs.laws.FitLaws.{elements_in, elements_of_child, fit_parts, out_text}
 use Rattle.ifmap_envelopes.specs.Envelopes.{IsEnvelope}
 use Rattle.ifmap_ident.specs.Parts.{value_of}
 use Rattle.ifmap_forms.specs.Items.{before_list, from_list, is_list}
 use Rattle.ifmap_forms.specs.Tables.{Part, parts_in, parts_of}
+use Rattle.ifmap_elem.specs.laws.ArrangedLaws.{out_element}
 
 module _ (most : ℕ) where
   -- a document can have the element, and it has so many levels at most

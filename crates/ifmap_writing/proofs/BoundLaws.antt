@@ -14,7 +14,7 @@ use Rattle.ifmap_elem.specs.declared.elements.Child as the
 use Rattle.ifmap_elem.specs.declared.elements.Child.{Child, out-Child}
 use Rattle.ifmap_elem.specs.declared.elements.Child.TheOpen.{Child-F}
 use Rattle.ifmap_elem.specs.declared.elements.Element.{Element}
-use Rattle.ifmap_elem.specs.laws.FitLaws.{nesting_arranged, out_element, out_text}
+use Rattle.ifmap_elem.specs.laws.FitLaws.{nesting_arranged, out_text}
 use Rattle.ifmap_envelopes.specs.Envelopes.{IsEnvelope}
 use Rattle.ifmap_filter.specs.declared.filters.Filter.{Filter}
 use Rattle.ifmap_filter.specs.Holding.{is_name}
@@ -47,6 +47,7 @@ use Rattle.ifmap_requests.specs.RequestForms.{purge_form, purge_of, renew_form, 
 use Rattle.ifmap_requests.specs.RequestForms.{search_from, search_of, session_field, subscribe_form, subscribe_of, subscribe_op_check}
 use Rattle.ifmap_requests.specs.RequestForms.{subscription_form, subscription_of, update_form, update_of}
 use Rattle.ifmap_writing.specs.Bounds.{IsBounded, IsBoundedMetadata, IsBoundedName, IsBoundedPublish, IsBoundedSearch, IsBoundedSubscribe}
+use Rattle.ifmap_elem.specs.laws.ArrangedLaws.{out_element}
 
 -- ---- (1) checks taken apart
 

@@ -12,8 +12,8 @@ use Rattle.ifmap_elem.specs.declared.elements.Child.{Child, out-Child}
 use Rattle.ifmap_elem.specs.declared.elements.Child.TheOpen.{Child-F}
 use Rattle.ifmap_elem.specs.declared.elements.Element.{Element}
 use Rattle.ifmap_elem.specs.declared.elements.Name.{Name}
-use Rattle.ifmap_elem.specs.laws.ArrangedLaws.{arranged_in, arranged_is}
-use Rattle.ifmap_elem.specs.laws.FitLaws.{elements_in, elements_of_child, fit_whole, out_element}
+use Rattle.ifmap_elem.specs.laws.ArrangedLaws.{arranged_in, arranged_is, out_element}
+use Rattle.ifmap_elem.specs.laws.FitLaws.{elements_in, elements_of_child, fit_whole}
 use Rattle.ifmap_writing.specs.Attributes.{AttributeRow, attributes_of}
 use Rattle.ifmap_writing.specs.RequestElements.{as_children}
 use Rattle.ifmap_writing.proofs.RowLaws.{HasFitValue, rises, rows_differ, rows_fit, rows_plain, rows_sorted}

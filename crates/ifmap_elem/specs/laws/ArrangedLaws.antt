@@ -3,11 +3,11 @@ use Rattle.std.proofs.Common.{◌≡◌, ℕ, List, map, length, get_or, ◌<◌
 use Rattle.std.proofs.lemmas.List.{get_or-map}
 use Rattle.ifmap_elem.specs.Folds.{at_element, at_child_element, at_child_text}
 use Rattle.ifmap_elem.specs.Arranged.{arrange, arrange_child, sort_attributes, arrange_child_of, arrange_element_of}
-use Rattle.ifmap_elem.specs.declared.elements.Child.{Child, out-Child}
+use Rattle.ifmap_elem.specs.declared.elements.Child.{Child, out-Child, out-roll-Child}
 use Rattle.ifmap_elem.specs.declared.elements.Child as the
 use Rattle.ifmap_elem.specs.declared.elements.Child.TheOpen.{Child-F}
 use Rattle.ifmap_elem.specs.declared.elements.Element.{Element}
-use Rattle.ifmap_elem.specs.laws.FitLaws.{out_element}
+use Rattle.ifmap_elem.specs.declared.elements.Child.TheVariants.{rolls-Element}
 
 pub arranged_is : (e : Element) → arrange e ≡ record {
   name = e.name;
@@ -26,6 +26,9 @@ arranged_text t = at_child_text Child Element arrange_child_of arrange_element_o
 abbrev element_or : Element → Child-F Child Element → Element
 element_or d (Child-F.Element e) = e
 element_or d (Child-F.Text t) = d
+
+pub out_element : (e : Element) → out-Child (the.Element e) ≡ Child-F.Element e
+out_element e = ap out-Child (sym (rolls-Element e)) ∙ out-roll-Child (Child-F.Element e)
 
 -- a child tells its element
 pub one_element : (a b : Element) → the.Element a ≡ the.Element b → a ≡ b

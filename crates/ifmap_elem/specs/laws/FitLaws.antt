@@ -13,14 +13,11 @@ use Rattle.ifmap_elem.specs.Fit.{IsFit, IsFitAlone, IsFitAttribute, AreFitChildr
 use Rattle.ifmap_elem.specs.declared.elements.Attribute.{Attribute}
 use Rattle.ifmap_elem.specs.declared.elements.Child.{Child, fold-Child, out-Child, out-roll-Child}
 use Rattle.ifmap_elem.specs.declared.elements.Child as the
-use Rattle.ifmap_elem.specs.declared.elements.Child.TheVariants.{rolls-Element, rolls-Text}
+use Rattle.ifmap_elem.specs.declared.elements.Child.TheVariants.{rolls-Text}
 use Rattle.ifmap_elem.specs.declared.elements.Child.TheOpen.{Child-F}
 use Rattle.ifmap_elem.specs.declared.elements.Element.{Element, fold-Element}
-use Rattle.ifmap_elem.specs.laws.ArrangedLaws.{arranged_is, arranged_in, arranged_text}
+use Rattle.ifmap_elem.specs.laws.ArrangedLaws.{arranged_is, arranged_in, arranged_text, out_element}
 use Rattle.ifmap_lemmas.specs.Members.{all_both, both_all, all_of_map, map_of_all}
-
-pub out_element : (e : Element) → out-Child (the.Element e) ≡ Child-F.Element e
-out_element e = ap out-Child (sym (rolls-Element e)) ∙ out-roll-Child (Child-F.Element e)
 
 pub out_text : (t : List ℕ) → out-Child (the.Text t) ≡ Child-F.Text t
 out_text t = ap out-Child (sym (rolls-Text t)) ∙ out-roll-Child (Child-F.Text t)

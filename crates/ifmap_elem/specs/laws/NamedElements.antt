@@ -21,8 +21,8 @@ use Rattle.ifmap_elem.specs.Document.{Pieces, Nothing, chain_pieces, Item, Inner
 use Rattle.ifmap_elem.specs.InScope.{IsElementPiece, IsChildAt, LeadsTo, NamesElementAt, ResolvedIn, NamedHaveScopes, ScopesAreNamed}
 use Rattle.ifmap_elem.specs.Scopes.{Scope, root_scope, scope_within, NamesElement}
 use Rattle.ifmap_elem.specs.Spells.{Spells}
-use Rattle.ifmap_elem.specs.laws.ArrangedLaws.{one_element}
-use Rattle.ifmap_elem.specs.laws.FitLaws.{out_element, out_text}
+use Rattle.ifmap_elem.specs.laws.ArrangedLaws.{one_element, out_element}
+use Rattle.ifmap_elem.specs.laws.FitLaws.{out_text}
 use Rattle.ifmap_elem.specs.laws.OneReading.{one_lexing, one_heading, one_content}
 use Rattle.ifmap_elem.specs.laws.Resolving.{child_there, root_there, after_margin, joined_both}
 use Rattle.ifmap_elem.specs.laws.Roots.{BeginsWithRoot, root_begins}
