@@ -22,7 +22,8 @@ less_stored : (x : Item) (a b : Attachment) → same_item a.item x ≡ true → 
     → stored_order a.stored b.stored ≡ Less
 less_stored x a b p q l =
     let e : item_order a.item b.item ≡ Equal
-    = items_total.congr a.item x b.item (same_equal a.item x p) ∙ items_total.antisymm x b.item ∙ ap ordering_reverse (same_equal b.item x q)
+    = items_total.congr a.item x b.item (same_equal a.item x p) ∙ items_total.antisymm x b.item
+    ∙ ap ordering_reverse (same_equal b.item x q)
     in sym (ap (λ o. ordering_then o (stored_order a.stored b.stored)) e) ∙ l
 
 all_less : (x : Item) (a : Attachment) (bs : List Attachment) → same_item a.item x ≡ true

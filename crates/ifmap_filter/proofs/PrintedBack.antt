@@ -213,7 +213,8 @@ module _ (space : List ℕ) where
         ∙ ap (λ z. Some z) (eq_tells s space e)
     | inr e ↦
         let number : place_of space (s ∷ ss) + n ≡ place_of space ss + (n + 1) = (let p = later_place s ss e in omega (arith, p)) in
-        let among : list_any (bytes_eq space) ss ≡ true = or_later (bytes_eq space s) (list_any (bytes_eq space) ss) (bytes_apart s space e) h in
+        let among : list_any (bytes_eq space) ss ≡ true =
+        or_later (bytes_eq space s) (list_any (bytes_eq space) ss) (bytes_apart s space e) h in
         ap (λ k. lookup (bytes_eq (numbered_prefix k)) (numbered_rows n (s ∷ ss))) number
         ∙ row_later (bytes_eq (numbered_prefix (place_of space ss + (n + 1)))) (numbered_prefix n) s (numbered_rows (n + 1) ss)
         (other_prefix (place_of space ss + (n + 1)) n (λ q. absurd (omega (arith, q))))

@@ -59,4 +59,5 @@ pub parses : {E : Type 0} (n : ℕ) (text : List ℕ) (r : Result ℕ E) → Par
 parses n text r p small e = parse-decimal 64 n text r small small e p
 
 pub bytes_apart : (x y : List ℕ) → bytes_eq x y ≡ false → bytes_eq y x ≡ false
-bytes_apart x y e = false_from_ne_true (bytes_eq y x) (λ h. let k : bytes_eq x y ≡ true = (bytes_eq-Decides x y).1 (sym (eq_tells y x h)) in cc)
+bytes_apart x y e =
+    false_from_ne_true (bytes_eq y x) (λ h. let k : bytes_eq x y ≡ true = (bytes_eq-Decides x y).1 (sym (eq_tells y x h)) in cc)

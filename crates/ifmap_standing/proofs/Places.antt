@@ -1,5 +1,5 @@
--- Lists of subscriptions, place by place. First relations at each place: at_each_joined (`at_each_joined`), and weaker (`weaker`). Then a walk from
--- the last place down that changes each by a way (`Down`): as it begins, at one place, and at its end. Last, that ways lead back still
+-- Lists of subscriptions, place by place. First that a relation at each place follows from another (`weaker`). Then a walk from the
+-- last place down that changes each by a way (`Down`): as it begins, at one place, and at its end. Last, that ways lead back still
 -- after what keeps the same (`stay`).
 use Rattle.std.proofs.Common.{◌≡◌, inl, inr, ℕ, zero, suc, ◌+◌, ◌<◌, ◌≤◌, Option, Some, None, List, [], ◌∷◌, ◌++◌, length, get_or, set, slice_get, take, refl, ap, ◌∙◌, sym, subst, arith}
 use Rattle.std.proofs.lemmas.Bool.{cases_order}
