@@ -16,7 +16,7 @@ use Rattle.ifmap_graph.specs.Held.{Held}
 use Rattle.ifmap_graph.specs.Seen.{IsSeenSame, IsStill}
 use Rattle.ifmap_tellings.specs.declared.tellings.Pending.{Pending}
 use Rattle.ifmap_changes.specs.declared.parts.Parts.{Parts}
-use Rattle.ifmap_changes.specs.Between.{AreKept, Asking, IsNumbered, IsReady, IsSteady, sight_now, so_far, starts_of}
+use Rattle.ifmap_changes.specs.Between.{AreKept, Asking, HasStartNumber, IsSoundSoFar, IsSteady, sight_now, so_far, starts_of}
 use Rattle.ifmap_changes.specs.Changes.{IsBegun}
 use Rattle.ifmap_changes.proofs.Settling.{SameLinks, ready_after}
 use Rattle.ifmap_standing.specs.PlaceLaws.{kept_itself, keep_searches}
@@ -33,7 +33,7 @@ kept_seen old new steady still same backs = record {
       still = still;
       whole = subst AreWhole (sym same.rows) steady.whole;
       own = λ a. same.own a (starts_of a old.standing.items) (steady.own a);
-      numbered = all_weaker (IsNumbered old.graph) (IsNumbered new) (λ x e. same.numbers x.subscription.region.start ∙ e)
+      numbered = all_weaker (HasStartNumber old.graph) (HasStartNumber new) (λ x e. same.numbers x.subscription.region.start ∙ e)
           old.standing.items steady.numbered;
     };
     rows = same.rows;
@@ -58,13 +58,13 @@ module _ (ready : Ready) (wanted : Plan) (old : Parts) (mid : Held) (begun : IsB
   pub shared : (v : ℕ) (a b : Identifier) → key_at old.graph.names v ≡ Some a → key_at mid.names v ≡ Some b → b ≡ a
   shared v a b e f = same_Some b a (sym f ∙ begun.numbers v a e)
 
-  pub ready_begun : SameLinks → IsSteady old.graph old.standing.items → (a : Asking) (pending : Pending) → IsReady a old pending
-      → IsReady a begun_parts pending
+  pub ready_begun : SameLinks → IsSteady old.graph old.standing.items → (a : Asking) (pending : Pending) → IsSoundSoFar a old pending
+      → IsSoundSoFar a begun_parts pending
   ready_begun links steady a pending r =
       ready_after a old begun_parts pending refl (keep_searches old.standing.items old.standing.items (kept_itself old.standing.items))
       (λ i x e f. links (sight_now old.graph) (sight_now mid) x.subscription begun.before begun.now begun.rows begun.links shared
       (begun.numbers x.subscription.region.start x.subscription.search.start
-      (all_got (IsNumbered old.graph) old.standing.items i x steady.numbered e)) (r.kept i x e f)) r
+      (all_got (HasStartNumber old.graph) old.standing.items i x steady.numbered e)) (r.kept i x e f)) r
 
   pub same_so_far : (a : Asking) (pending : Pending) → so_far a begun_parts pending ≡ so_far a old pending
   same_so_far a pending = λ i. record (so_far a old pending) { graph = begun.rows i }

@@ -7,14 +7,14 @@ use Rattle.std.proofs.lemmas.Option.{same_Some}
 use Rattle.std.specs.List.{AllByRecursion}
 use Rattle.ifmap_lemmas.specs.Filters.{all_weaker}
 use Rattle.ifmap_lemmas.specs.Members.{map_of_all}
-use Rattle.ifmap_delta.specs.Sights.{IsKept}
+use Rattle.ifmap_delta.specs.Sights.{IsUpToDate}
 use Rattle.ifmap_delta.specs.Ways.{HasSameSearch}
-use Rattle.ifmap_machine.specs.Telling.{overflow, overflow_session, tell, tell_session, told_in}
+use Rattle.ifmap_machine.specs.Telling.{overflow, overflow_session, tell, tell_session, told_in_session}
 use Rattle.ifmap_plans.specs.declared.plans.Plan.{Plan}
 use Rattle.ifmap_plans.specs.Plans.{AreWhole, Fits, IsAfter}
 use Rattle.ifmap_pool.specs.Holdings.{key_at}
-use Rattle.ifmap_session.specs.Sessions.{IsLive, Session, Table}
-use Rattle.ifmap_standing.specs.Kept.{AtEach, KeepsSame, Stands}
+use Rattle.ifmap_session.specs.Sessions.{IsLive, Session, SessionTable}
+use Rattle.ifmap_standing.specs.Kept.{AtEach, KeepsSame, StaysRelated}
 use Rattle.ifmap_standing.specs.Standing.{standing_of}
 use Rattle.ifmap_standing.specs.Ways.{LeadBack, Way}
 use Rattle.ifmap_view.specs.declared.attachments.Attachment.{Attachment}
@@ -23,14 +23,14 @@ use Rattle.ifmap_view.specs.Attachments.{IsGraph}
 use Rattle.ifmap_ident.specs.declared.identifiers.Identifier.{Identifier}
 use Rattle.ifmap_graph.specs.declared.changes.Ready.{Ready}
 use Rattle.ifmap_graph.specs.declared.changes.Undo.{Undo}
-use Rattle.ifmap_graph.specs.Back.{IsWayBack, KeepsOtherBacks}
+use Rattle.ifmap_graph.specs.Back.{IsUndoTo, KeepsOtherBacks}
 use Rattle.ifmap_graph.specs.Held.{Held, IsOwn}
-use Rattle.ifmap_graph.specs.Out.{items_of}
-use Rattle.ifmap_graph.specs.Seen.{Awaits, AwaitsMore, BringsNoNumbers, IsLean, IsStill, KeepsNumbers, KeepsOwn, StaysLean, StaysLeanWith, StaysLeanWithout, links_next, links_now, rows_next, rows_now}
+use Rattle.ifmap_graph.specs.Out.{items_changed}
+use Rattle.ifmap_graph.specs.Seen.{AreAwaited, AwaitsMore, BringsNoNumbers, IsLean, IsStill, KeepsNumbers, KeepsOwn, StaysLean, StaysLeanWith, StaysLeanWithout, links_next, links_now, rows_next, rows_now}
 use Rattle.ifmap_tellings.specs.declared.tellings.Pending.{Pending}
 use Rattle.ifmap_tellings.specs.Tellings.{HasSameSessions, kept_of, told_by}
 use Rattle.ifmap_changes.specs.declared.parts.Parts.{Parts}
-use Rattle.ifmap_changes.specs.Between.{AreKept, AreOrdered, AreTurnedWith, AreWithin, Asking, CanEnd, IsBare, IsReady, IsSteady, IsWithin, sessions_left, sight_now, so_far, starts_of}
+use Rattle.ifmap_changes.specs.Between.{AreKept, AreOrdered, AreTurnedWith, AreWithinLimits, Asking, CanEnd, HasNoSubscriptions, IsSoundSoFar, IsSteady, IsWithinLimit, sessions_left, sight_now, so_far, starts_of}
 use Rattle.ifmap_changes.specs.Changes.{CanTakeBack, IsBegun, IsTold, sight_next, with_next}
 use Rattle.ifmap_changes.proofs.Begun.{same_so_far, shared}
 use Rattle.ifmap_changes.proofs.Flags.{kept_later}
@@ -54,13 +54,13 @@ pub record Commits (plan : Plan) (old new : Held) (undo : Undo) : Type 0 where
   pub still : IsStill new
   pub own : KeepsOwn old new
   pub waits : AwaitsMore [] old new
-  pub lean : Awaits (items_of plan.changes) old → StaysLean old new
+  pub lean : AreAwaited (items_changed plan.changes) old → StaysLean old new
   pub same : undo.plan ≡ plan
-  pub back : Awaits (items_of plan.changes) old → IsWayBack undo (rows_now old) (links_now old) new
+  pub back : AreAwaited (items_changed plan.changes) old → IsUndoTo undo (rows_now old) (links_now old) new
 
 module _ (a : Asking) (old : Parts) (before : Pending) (after : Pending) (ready : Ready) (wanted : Plan) (mid g : Held) (to : Parts)
     (begun : IsBegun ready wanted old.graph mid) (undo : Undo) (made : Commits wanted mid g undo)
-    (same : AtEach (λ _. Stands HasSameSearch) old.standing.items to.standing.items)
+    (same : AtEach (λ _. StaysRelated HasSameSearch) old.standing.items to.standing.items)
     (sessions : HasSameSessions old.sessions to.sessions) where
   -- the parts with the change out, before subscriptions were told and after
   abbrev first : Parts
@@ -100,14 +100,14 @@ module _ (a : Asking) (old : Parts) (before : Pending) (after : Pending) (ready 
         (numbered_more old.graph g old.standing.items numbers_made steady.numbered);
   }
 
-  lean_made : StaysLeanWith (items_of undo.plan.changes) old.graph g
-  lean_made rest l = subst (λ (p : Plan). IsLean (items_of p.changes ++ rest) g) (sym made.same)
-      (made.lean (awaits_these (items_of wanted.changes) old.graph mid begun.waits) (items_of wanted.changes ++ rest) (begun.lean rest l))
+  lean_made : StaysLeanWith (items_changed undo.plan.changes) old.graph g
+  lean_made rest l = subst (λ (p : Plan). IsLean (items_changed p.changes ++ rest) g) (sym made.same)
+      (made.lean (awaits_these (items_changed wanted.changes) old.graph mid begun.waits) (items_changed wanted.changes ++ rest) (begun.lean rest l))
 
-  pub turned_made : AreTurnedWith (items_of undo.plan.changes) old new
+  pub turned_made : AreTurnedWith (items_changed undo.plan.changes) old new
   turned_made = record {
-    waits = λ rest w. subst (λ (p : Plan). Awaits (items_of p.changes ++ rest) g) (sym made.same)
-        (made.waits (items_of wanted.changes ++ rest) (begun.waits rest w));
+    waits = λ rest w. subst (λ (p : Plan). AreAwaited (items_changed p.changes ++ rest) g) (sym made.same)
+        (made.waits (items_changed wanted.changes ++ rest) (begun.waits rest w));
     lean = lean_made;
     searches = same;
     sessions = sessions;
@@ -116,16 +116,16 @@ module _ (a : Asking) (old : Parts) (before : Pending) (after : Pending) (ready 
   pub back_made : (ways : List (Option Way)) → LeadBack old.standing.items ways to.standing.items
       → CanTakeBack (record { undo = undo; ways = ways }) old new
   back_made ways lead = record {
-    graph = subst (λ rows. IsWayBack undo rows (links_now old.graph) g) begun.rows
-        (subst (λ (links : ℕ → List LinkSeen). IsWayBack undo (rows_now mid) links g) (λ i v. begun.links v i)
-        (made.back (awaits_these (items_of wanted.changes) old.graph mid begun.waits)));
+    graph = subst (λ rows. IsUndoTo undo rows (links_now old.graph) g) begun.rows
+        (subst (λ (links : ℕ → List LinkSeen). IsUndoTo undo (rows_now mid) links g) (λ i v. begun.links v i)
+        (made.back (awaits_these (items_changed wanted.changes) old.graph mid begun.waits)));
     lean = lean_made;
     numbers = λ v x y e f. same_Some y x (sym f ∙ numbers_made v x e);
     standing = lead;
     sessions = sessions;
   }
 
-  module _ (told : IsTold a first before wanted.notes last after) (r : IsReady a first before) where
+  module _ (told : IsTold a first before wanted.notes last after) (r : IsSoundSoFar a first before) where
     pub told_made : Tells → (rows : List Attachment) → IsGraph rows → IsAfter wanted.changes (rows_now old.graph) rows
         → so_far a new after ≡ overflow (tell rows wanted.notes (so_far a old before))
     told_made tells rows graph is =
@@ -134,35 +134,35 @@ module _ (a : Asking) (old : Parts) (before : Pending) (after : Pending) (ready 
         in made_now ∙ told.state
         ∙ (λ i. overflow (tell (one i) wanted.notes (same_so_far ready wanted old mid begun a before i)))
 
-    pub bare_made : (n : ℕ) → IsBare n old before → IsBare n new after
+    pub bare_made : (n : ℕ) → HasNoSubscriptions n old before → HasNoSubscriptions n new after
     bare_made n bare = kept_later (λ x. x.serial ≢ n) (λ x. x.serial ≢ n) before.gone.items after.gone.items old.standing.items
         to.standing.items r.flags same.long (λ i x y p q other e. other (sym (same.at i x y p q).serial ∙ e)) told.gone bare
 
     -- no queue is greater than its limit once all is told
-    within_made : AreWithin (map (told_by after.tellings) (sessions_left a to.sessions))
+    within_made : AreWithinLimits (map (told_by after.tellings) (sessions_left a to.sessions))
     within_made =
         let some = map (told_by before.tellings) (sessions_left a old.sessions)
         in let those = map standing_of (kept_of before.gone.items old.standing.items)
-        in let tells_it : Session → Session = λ s. tell_session (told_in (rows_now mid) (rows_next mid) wanted.notes those s.serial) s
+        in let tells_it : Session → Session = λ s. tell_session (told_in_session (rows_now mid) (rows_next mid) wanted.notes those s.serial) s
         in let wide : AllByRecursion (λ (s : Session). 100 ≤ s.limit) (map tells_it some)
-        = map_of_all (λ (s : Session). 100 ≤ s.limit) tells_it some (all_weaker IsWithin (λ s. 100 ≤ s.limit) (λ s w. w.wide) some r.within)
-        in subst AreWithin (sym (ap (λ s. s.sessions) told.state))
-        (map_of_all IsWithin overflow_session (map tells_it some)
-        (all_weaker (λ (s : Session). 100 ≤ s.limit) (λ s. IsWithin (overflow_session s)) overflow_within (map tells_it some) wide))
+        = map_of_all (λ (s : Session). 100 ≤ s.limit) tells_it some (all_weaker IsWithinLimit (λ s. 100 ≤ s.limit) (λ s w. w.wide) some r.within)
+        in subst AreWithinLimits (sym (ap (λ s. s.sessions) told.state))
+        (map_of_all IsWithinLimit overflow_session (map tells_it some)
+        (all_weaker (λ (s : Session). 100 ≤ s.limit) (λ s. IsWithinLimit (overflow_session s)) overflow_within (map tells_it some) wide))
 
-    pub ready_made : IsReady a new after
+    pub ready_made : IsSoundSoFar a new after
     ready_made = record {
       ended = subst (CanEnd a.ended) (sym sessions.live) r.ended;
       ordered = subst (λ live. AreOrdered live to.standing.items) (sym sessions.live)
           (same_ordered old.sessions.live old.standing.items to.standing.items same r.ordered);
       flags = told.flags;
-      kept = λ i x e f. subst (λ s. IsKept s x.subscription) sight_made (told.kept i x e f);
+      kept = λ i x e f. subst (λ s. IsUpToDate s x.subscription) sight_made (told.kept i x e f);
       live = kept_later (λ x. IsLive x.serial (sessions_left a old.sessions))
           (λ x. IsLive x.serial (sessions_left a to.sessions)) before.gone.items
           after.gone.items old.standing.items to.standing.items r.flags same.long
           (λ i x y p q l. subst (λ live. IsLive y.serial (sessions_left a (record to.sessions { live = live }))) (sym sessions.live)
           (subst (λ n. IsLive n (sessions_left a old.sessions)) (sym (same.at i x y p q).serial) l)) told.gone r.live;
-      queues = subst AreWithin (sym sessions.live) r.queues;
+      queues = subst AreWithinLimits (sym sessions.live) r.queues;
       within = within_made;
       can_tell = told.can_tell;
       sized = told.sized;
@@ -178,12 +178,12 @@ pub record Forgets (plan : Plan) (old new : Held) : Type 0 where
   pub links : (v : ℕ) → links_now new v ≡ links_now old v
   pub numbers : BringsNoNumbers old new
   pub own : KeepsOwn old new
-  pub lean : StaysLeanWithout (items_of plan.changes) old new
-  pub backs : KeepsOtherBacks (items_of plan.changes) old new
+  pub lean : StaysLeanWithout (items_changed plan.changes) old new
+  pub backs : KeepsOtherBacks (items_changed plan.changes) old new
 
 pub given_up : Tells → (old : Parts) (ready : Ready) (wanted : Plan) (mid g : Held) (to : Parts) → IsBegun ready wanted old.graph mid
     → Forgets wanted mid g → IsSteady old.graph old.standing.items
-    → AtEach (λ _. Stands KeepsSame) old.standing.items to.standing.items → HasSameSessions old.sessions to.sessions
+    → AtEach (λ _. StaysRelated KeepsSame) old.standing.items to.standing.items → HasSameSessions old.sessions to.sessions
     → AreKept old (record { graph = g; sessions = to.sessions; standing = to.standing })
 given_up tells old ready wanted mid g to begun gone steady same sessions =
     let rows : rows_now g ≡ rows_now old.graph = gone.rows ∙ begun.rows
@@ -207,7 +207,7 @@ given_up tells old ready wanted mid g to begun gone steady same sessions =
         standing = same;
         sessions = sessions;
       };
-      backs = λ u rows links b. gone.backs u rows links (begun.waits (items_of u.plan.changes) b.waits) (begun.backs u rows links b);
+      backs = λ u rows links b. gone.backs u rows links (begun.waits (items_changed u.plan.changes) b.waits) (begun.backs u rows links b);
     }
 
 -- ---- as calls say it: of parts that differ in names alone
@@ -227,8 +227,8 @@ module _ (a : Asking) (old mid to : Parts) (before after : Pending) (ready : Rea
   end_is : to ≡ end
   end_is = λ i. record { graph = graph i; sessions = to.sessions; standing = to.standing }
 
-  pub ready_of : IsReady a start before → IsReady a mid before
-  ready_of r = subst (λ p. IsReady a p before) (sym start_is) r
+  pub ready_of : IsSoundSoFar a start before → IsSoundSoFar a mid before
+  ready_of r = subst (λ p. IsSoundSoFar a p before) (sym start_is) r
 
   pub told_of : IsTold a mid before ready.plan.notes to after → IsTold a start before wanted.notes end after
   told_of told =
@@ -236,20 +236,20 @@ module _ (a : Asking) (old mid to : Parts) (before after : Pending) (ready : Rea
       (subst (λ p. IsTold a mid before wanted.notes p after) end_is
       (subst (λ (p : Plan). IsTold a mid before p.notes to after) begun.plan told))
 
-  pub same_of : AtEach (λ _. Stands HasSameSearch) mid.standing.items to.standing.items
-      → AtEach (λ _. Stands HasSameSearch) old.standing.items to.standing.items
-  same_of same = subst (λ (p : Parts). AtEach (λ _. Stands HasSameSearch) p.standing.items to.standing.items) start_is same
+  pub same_of : AtEach (λ _. StaysRelated HasSameSearch) mid.standing.items to.standing.items
+      → AtEach (λ _. StaysRelated HasSameSearch) old.standing.items to.standing.items
+  same_of same = subst (λ (p : Parts). AtEach (λ _. StaysRelated HasSameSearch) p.standing.items to.standing.items) start_is same
 
-  pub keep_of : AtEach (λ _. Stands KeepsSame) mid.standing.items to.standing.items
-      → AtEach (λ _. Stands KeepsSame) old.standing.items to.standing.items
-  keep_of same = subst (λ (p : Parts). AtEach (λ _. Stands KeepsSame) p.standing.items to.standing.items) start_is same
+  pub keep_of : AtEach (λ _. StaysRelated KeepsSame) mid.standing.items to.standing.items
+      → AtEach (λ _. StaysRelated KeepsSame) old.standing.items to.standing.items
+  keep_of same = subst (λ (p : Parts). AtEach (λ _. StaysRelated KeepsSame) p.standing.items to.standing.items) start_is same
 
   pub lead_of : (ways : List (Option Way)) → LeadBack mid.standing.items ways to.standing.items
       → LeadBack old.standing.items ways to.standing.items
   lead_of ways lead = subst (λ (p : Parts). LeadBack p.standing.items ways to.standing.items) start_is lead
 
   pub sessions_of : HasSameSessions mid.sessions to.sessions → HasSameSessions old.sessions to.sessions
-  sessions_of same = subst (λ (t : Table). HasSameSessions t to.sessions) sessions same
+  sessions_of same = subst (λ (t : SessionTable). HasSameSessions t to.sessions) sessions same
 
   pub commits_of : (g : Held) (undo : Undo) → Commits ready.plan to.graph g undo → Commits wanted mid.graph g undo
   commits_of g undo made = subst (λ p. Commits p mid.graph g undo) begun.plan (subst (λ h. Commits ready.plan h g undo) graph made)
@@ -257,7 +257,7 @@ module _ (a : Asking) (old mid to : Parts) (before after : Pending) (ready : Rea
   pub forgets_of : (g : Held) → Forgets ready.plan to.graph g → Forgets wanted mid.graph g
   forgets_of g gone = subst (λ p. Forgets p mid.graph g) begun.plan (subst (λ h. Forgets ready.plan h g) graph gone)
 
-  pub awaits_of : Awaits (items_of ready.plan.changes) to.graph
-  awaits_of = subst (Awaits (items_of ready.plan.changes)) (sym graph)
-      (subst (λ (p : Plan). Awaits (items_of p.changes) mid.graph) (sym begun.plan)
-      (awaits_these (items_of wanted.changes) old.graph mid.graph begun.waits))
+  pub awaits_of : AreAwaited (items_changed ready.plan.changes) to.graph
+  awaits_of = subst (AreAwaited (items_changed ready.plan.changes)) (sym graph)
+      (subst (λ (p : Plan). AreAwaited (items_changed p.changes) mid.graph) (sym begun.plan)
+      (awaits_these (items_changed wanted.changes) old.graph mid.graph begun.waits))

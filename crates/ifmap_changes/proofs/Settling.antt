@@ -4,18 +4,18 @@
 use Rattle.std.proofs.Common.{◌≡◌, ◌≢◌, ℕ, ◌≤◌, Bool, true, false, Option, None, Some, List, [], ◌∷◌, length, map, slice_get, refl, ap, ◌∙◌, sym, subst}
 use Rattle.std.specs.List.{AllByRecursion}
 use Rattle.std.specs.List.Sorted.{IsStrictlySortedBy}
-use Rattle.ifmap_changes.specs.Between.{AreBack, AreOrdered, AreParts, AreWithin, Asking, CanEnd, IsNumbered, IsReady, IsSeen, IsSteady, rest_of, sessions_left, sight_now}
+use Rattle.ifmap_changes.specs.Between.{AreBack, AreOrdered, AreParts, AreWithinLimits, Asking, CanEnd, HasStartNumber, IsSoundSoFar, IsSeen, IsSteady, rest_of, sessions_left, sight_now}
 use Rattle.ifmap_changes.specs.Changes.{CanTakeBack}
 use Rattle.ifmap_changes.specs.declared.changes.Made.{Made}
 use Rattle.ifmap_changes.specs.declared.parts.Parts.{Parts}
 use Rattle.ifmap_changes.proofs.EachPlace.{same_all, same_map, weaker}
 use Rattle.ifmap_changes.proofs.Numbers.{Tells}
 use Rattle.ifmap_changes.proofs.Steady.{HaveSameSearches, steady_after}
-use Rattle.ifmap_delta.specs.Sights.{IsKept, Sight}
+use Rattle.ifmap_delta.specs.Sights.{IsUpToDate, ViewSeen}
 use Rattle.ifmap_delta.specs.Ways.{HasSameSearch}
 use Rattle.ifmap_delta.specs.declared.subscriptions.Subscription.{Subscription}
 use Rattle.ifmap_graph.specs.Held.{Held}
-use Rattle.ifmap_graph.specs.Out.{items_of}
+use Rattle.ifmap_graph.specs.Out.{items_changed}
 use Rattle.ifmap_graph.specs.Seen.{BringsNoNumbers, IsStill, KeepsOwn, StaysLeanWithout, links_now, rows_now}
 use Rattle.ifmap_ident.specs.declared.identifiers.Identifier.{Identifier}
 use Rattle.ifmap_lemmas.specs.Places.{all_got, present}
@@ -26,9 +26,9 @@ use Rattle.ifmap_plans.specs.Plans.{AreWhole}
 use Rattle.ifmap_pool.specs.Holdings.{key_at}
 use Rattle.ifmap_session.specs.Sessions.{IsLive, Session}
 use Rattle.ifmap_standing.specs.declared.standing.Standing.{Standing}
-use Rattle.ifmap_standing.specs.Kept.{AtEach, KeepsSame, Stands}
+use Rattle.ifmap_standing.specs.Kept.{AtEach, KeepsSame, StaysRelated}
 use Rattle.ifmap_standing.specs.Standing.{standing_of}
-use Rattle.ifmap_standing.specs.Ways.{IsSettled, LeadsBackWhere, Way}
+use Rattle.ifmap_standing.specs.Ways.{IsWayGivenUp, LeadsBackWhere, Way}
 use Rattle.ifmap_tellings.specs.declared.tellings.Pending.{Pending}
 use Rattle.ifmap_tellings.specs.Tellings.{AllKept, CanTell, EachTelling, HasSameSessions, IsSized, kept_of, told_by}
 use Rattle.ifmap_view.specs.declared.attachments.Attachment.{Attachment}
@@ -39,16 +39,16 @@ use Rattle.ifmap_graph.specs.NumberLaws.{numbers_shared}
 
 -- the laws on what subscriptions keep
 abbrev pub SameLinks : Type 0
-SameLinks = (one other : Sight) (sub : Subscription) → IsView one.rows one.id_at one.links → IsView other.rows other.id_at other.links
+SameLinks = (one other : ViewSeen) (sub : Subscription) → IsView one.rows one.id_at one.links → IsView other.rows other.id_at other.links
     → other.rows ≡ one.rows → ((v : ℕ) → other.links v ≡ one.links v)
     → ((v : ℕ) (a b : Identifier) → one.id_at v ≡ Some a → other.id_at v ≡ Some b → b ≡ a)
-    → other.id_at sub.region.start ≡ Some sub.search.start → IsKept one sub → IsKept other sub
+    → other.id_at sub.region.start ≡ Some sub.search.start → IsUpToDate one sub → IsUpToDate other sub
 
 abbrev pub StaysSettled : Type 0
-StaysSettled = (g : Sight) (way : Option (Option Way)) (old new : Subscription) → IsSettled way old new → IsKept g old → IsKept g new
+StaysSettled = (g : ViewSeen) (way : Option (Option Way)) (old new : Subscription) → IsWayGivenUp way old new → IsUpToDate g old → IsUpToDate g new
 
 abbrev pub AreSettled : List (Option Way) → List Standing → List Standing → Type 0
-AreSettled ways old new = AtEach (λ i. Stands (IsSettled (slice_get ways i))) old new
+AreSettled ways old new = AtEach (λ i. StaysRelated (IsWayGivenUp (slice_get ways i))) old new
 
 -- ---- searches
 
@@ -59,20 +59,20 @@ one_search x y e = record {
   max_depth = ap (λ (z : Subscription). z.region.max_depth) e;
 }
 
-settled_search : (way : Option (Option Way)) (x y : Subscription) → IsSettled way x y → HasSameSearch x y
+settled_search : (way : Option (Option Way)) (x y : Subscription) → IsWayGivenUp way x y → HasSameSearch x y
 settled_search None x y e = one_search x y e
 settled_search (Some None) x y e = one_search x y e
 settled_search (Some (Some way)) x y e = e.0
 
-stand_weaker : (R S : Subscription → Subscription → Type 0) → ((x y : Subscription) → R x y → S x y) → (x y : Standing) → Stands R x y
-    → Stands S x y
+stand_weaker : (R S : Subscription → Subscription → Type 0) → ((x y : Subscription) → R x y → S x y) → (x y : Standing) → StaysRelated R x y
+    → StaysRelated S x y
 stand_weaker R S f x y s =
     record { serial = s.serial; name = s.name; subscription = f x.subscription y.subscription s.subscription }
 
 pub settled_searches : (ways : List (Option Way)) (old new : List Standing) → AreSettled ways old new → HaveSameSearches old new
 settled_searches ways old new s =
-    weaker (λ i. Stands (IsSettled (slice_get ways i))) (λ _. Stands HasSameSearch)
-    (λ i x y t. stand_weaker (IsSettled (slice_get ways i)) HasSameSearch (settled_search (slice_get ways i)) x y t) old new s
+    weaker (λ i. StaysRelated (IsWayGivenUp (slice_get ways i))) (λ _. StaysRelated HasSameSearch)
+    (λ i x y t. stand_weaker (IsWayGivenUp (slice_get ways i)) HasSameSearch (settled_search (slice_get ways i)) x y t) old new s
 
 same_searches : (before old new : List Standing) → HaveSameSearches before old → HaveSameSearches before new → HaveSameSearches old new
 same_searches before old new p q = record {
@@ -96,26 +96,26 @@ same_searches before old new p q = record {
 
 pub kept_settled : SameLinks → StaysSettled → (old new : Held) → IsSeen old → IsSeen new → rows_now new ≡ rows_now old
     → ((v : ℕ) → links_now new v ≡ links_now old v) → BringsNoNumbers old new → (ways : List (Option Way))
-    → (gone : List Bool) (xs ys : List Standing) → AllByRecursion (IsNumbered new) xs → AreSettled ways xs ys
-    → AllKept (λ x. IsKept (sight_now old) x.subscription) gone xs → AllKept (λ x. IsKept (sight_now new) x.subscription) gone ys
+    → (gone : List Bool) (xs ys : List Standing) → AllByRecursion (HasStartNumber new) xs → AreSettled ways xs ys
+    → AllKept (λ x. IsUpToDate (sight_now old) x.subscription) gone xs → AllKept (λ x. IsUpToDate (sight_now new) x.subscription) gone ys
 kept_settled links settled old new was is rows same fewer ways gone xs ys numbered s kept = λ i y at flag.
     let x = present ys xs i y (sym s.long) at in
     let t = s.at i x.0 y x.1 at in
     settled (sight_now new) (slice_get ways i) x.0.subscription y.subscription t.subscription
     (links (sight_now old) (sight_now new) x.0.subscription was is rows same (numbers_shared old new fewer)
-    (all_got (IsNumbered new) xs i x.0 numbered x.1) (kept i x.0 x.1 flag))
+    (all_got (HasStartNumber new) xs i x.0 numbered x.1) (kept i x.0 x.1 flag))
 
 -- ---- as the machine has them
 
 pub same_shown : (old new : List Standing) → HaveSameSearches old new → map standing_of new ≡ map standing_of old
 same_shown old new s =
-    same_map standing_of (λ _. Stands HasSameSearch)
+    same_map standing_of (λ _. StaysRelated HasSameSearch)
     (λ i x y t k. record { serial = t.serial k; name = t.name k; search = t.subscription.search k }) old new s
 
 pub same_ordered : (live : List Session) (old new : List Standing) → HaveSameSearches old new → AreOrdered live old → AreOrdered live new
 same_ordered live old new s o = record {
   rising = subst (IsStrictlySortedBy standing_order) (sym (same_shown old new s)) o.rising;
-  live = same_all (λ x. IsLive x.serial live) (λ x. IsLive x.serial live) (λ _. Stands HasSameSearch)
+  live = same_all (λ x. IsLive x.serial live) (λ x. IsLive x.serial live) (λ _. StaysRelated HasSameSearch)
       (λ i x y t h. subst (λ n. IsLive n live) (sym t.serial) h) old new s o.live;
   few = λ n. subst (λ l. length (standing_in n l) ≤ most_names) (sym (same_shown old new s)) (o.few n);
 }
@@ -139,8 +139,8 @@ same_state s g h xs ys p q = λ k. record s { graph = p k; standing = q k }
 
 pub ready_after : (a : Asking) (old new : Parts) (pending : Pending) → new.sessions ≡ old.sessions
     → HaveSameSearches old.standing.items new.standing.items
-    → AllKept (λ x. IsKept (sight_now new.graph) x.subscription) pending.gone.items new.standing.items
-    → IsReady a old pending → IsReady a new pending
+    → AllKept (λ x. IsUpToDate (sight_now new.graph) x.subscription) pending.gone.items new.standing.items
+    → IsSoundSoFar a old pending → IsSoundSoFar a new pending
 ready_after a old new pending same searches kept r =
     let gone = pending.gone.items in
     let xs = old.standing.items in
@@ -152,13 +152,13 @@ ready_after a old new pending same searches kept r =
       kept = kept;
       live = subst (λ t. AllKept (λ x. IsLive x.serial (sessions_left a t)) gone ys) (sym same)
           (same_kept (λ x. IsLive x.serial (sessions_left a old.sessions)) (λ x. IsLive x.serial (sessions_left a old.sessions))
-          (λ _. Stands HasSameSearch)
+          (λ _. StaysRelated HasSameSearch)
           (λ i x y t h. subst (λ n. IsLive n (sessions_left a old.sessions)) (sym t.serial) h) gone xs ys searches r.live);
-      queues = subst (λ t. AreWithin t.live) (sym same) r.queues;
-      within = subst (λ t. AreWithin (map (told_by pending.tellings) (sessions_left a t))) (sym same) r.within;
+      queues = subst (λ t. AreWithinLimits t.live) (sym same) r.queues;
+      within = subst (λ t. AreWithinLimits (map (told_by pending.tellings) (sessions_left a t))) (sym same) r.within;
       can_tell = subst (λ t. EachTelling (CanTell (rest_of a t)) pending.tellings) (sym same) r.can_tell;
       sized = subst (λ t. EachTelling (λ n u. IsSized n u t.live) pending.tellings) (sym same) r.sized;
-      alone = λ n is. same_kept (λ x. x.serial ≢ n) (λ x. x.serial ≢ n) (λ _. Stands HasSameSearch)
+      alone = λ n is. same_kept (λ x. x.serial ≢ n) (λ x. x.serial ≢ n) (λ _. StaysRelated HasSameSearch)
           (λ i x y t h e. h (sym t.serial ∙ e)) gone xs ys searches (r.alone n is);
     }
 
@@ -168,17 +168,17 @@ pub are_back : Tells → (made : Made) (before old new : Parts) → IsSeen old.g
     → AreParts before → CanTakeBack made before old → IsStill new.graph
     → rows_now new.graph ≡ rows_now before.graph → ((v : ℕ) → links_now new.graph v ≡ links_now before.graph v)
     → BringsNoNumbers old.graph new.graph → KeepsOwn old.graph new.graph
-    → StaysLeanWithout (items_of made.undo.plan.changes) old.graph new.graph
-    → AtEach (λ _. Stands KeepsSame) before.standing.items new.standing.items → new.sessions ≡ old.sessions → AreBack before new
+    → StaysLeanWithout (items_changed made.undo.plan.changes) old.graph new.graph
+    → AtEach (λ _. StaysRelated KeepsSame) before.standing.items new.standing.items → new.sessions ≡ old.sessions → AreBack before new
 are_back tells made before old new seen s parts can still rows links fewer own lean standing sessions =
     let ways = made.ways in
     let xs = before.standing.items in
     let led : HaveSameSearches xs old.standing.items =
-    weaker (λ i. Stands (LeadsBackWhere (slice_get ways i))) (λ _. Stands HasSameSearch)
+    weaker (λ i. StaysRelated (LeadsBackWhere (slice_get ways i))) (λ _. StaysRelated HasSameSearch)
     (λ i x y t. stand_weaker (LeadsBackWhere (slice_get ways i)) HasSameSearch (leads_search (slice_get ways i)) x y t)
     xs old.standing.items can.standing.each in
     let back : HaveSameSearches xs new.standing.items =
-    weaker (λ _. Stands KeepsSame) (λ _. Stands HasSameSearch)
+    weaker (λ _. StaysRelated KeepsSame) (λ _. StaysRelated HasSameSearch)
     (λ i x y t. stand_weaker KeepsSame HasSameSearch (λ a b k. k.search) x y t) xs new.standing.items standing in
     record {
       steady = steady_after tells old.graph new.graph seen still (subst AreWhole (sym rows) parts.steady.whole) fewer own
@@ -194,7 +194,7 @@ are_back tells made before old new seen s parts can still rows links fewer own l
 -- ---- what is back is sound
 
 abbrev pub StaysSame : Type 0
-StaysSame = (g : Sight) (old new : Subscription) → KeepsSame old new → IsKept g old → IsKept g new
+StaysSame = (g : ViewSeen) (old new : Subscription) → KeepsSame old new → IsUpToDate g old → IsUpToDate g new
 
 pub sound_back : SameLinks → StaysSame → (old new : Parts) → IsSeen old.graph → IsSeen new.graph → AreParts old → AreBack old new
     → AreParts new
@@ -202,23 +202,23 @@ sound_back links same old new was is sound back =
     let xs = old.standing.items in
     let ys = new.standing.items in
     let searches : HaveSameSearches xs ys =
-    weaker (λ _. Stands KeepsSame) (λ _. Stands HasSameSearch)
+    weaker (λ _. StaysRelated KeepsSame) (λ _. StaysRelated HasSameSearch)
     (λ i x y t. stand_weaker KeepsSame HasSameSearch (λ a b k. k.search) x y t) xs ys back.standing in
     record {
       steady = back.steady;
       ordered = subst (λ live. AreOrdered live ys) (sym back.sessions.live) (same_ordered old.sessions.live xs ys searches sound.ordered);
-      kept = same_all (λ x. IsKept (sight_now old.graph) x.subscription) (λ x. IsKept (sight_now new.graph) x.subscription)
-          (λ i x y. Stands KeepsSame x y × IsNumbered new.graph y) (λ i x y t kept. stays x y t.0 t.1 kept) xs ys (record {
+      kept = same_all (λ x. IsUpToDate (sight_now old.graph) x.subscription) (λ x. IsUpToDate (sight_now new.graph) x.subscription)
+          (λ i x y. StaysRelated KeepsSame x y × HasStartNumber new.graph y) (λ i x y t kept. stays x y t.0 t.1 kept) xs ys (record {
             long = back.standing.long;
-            at = λ i x y p q. (back.standing.at i x y p q, all_got (IsNumbered new.graph) ys i y back.steady.numbered q);
+            at = λ i x y p q. (back.standing.at i x y p q, all_got (HasStartNumber new.graph) ys i y back.steady.numbered q);
           }) sound.kept;
-      within = subst AreWithin (sym back.sessions.live) sound.within;
+      within = subst AreWithinLimits (sym back.sessions.live) sound.within;
     }
   where
-    stays : (x y : Standing) → Stands KeepsSame x y → IsNumbered new.graph y → IsKept (sight_now old.graph) x.subscription
-        → IsKept (sight_now new.graph) y.subscription
+    stays : (x y : Standing) → StaysRelated KeepsSame x y → HasStartNumber new.graph y → IsUpToDate (sight_now old.graph) x.subscription
+        → IsUpToDate (sight_now new.graph) y.subscription
     stays x y t n kept =
-        let here : IsNumbered new.graph x = ap (key_at new.graph.names) (sym t.subscription.search.start) ∙ n
+        let here : HasStartNumber new.graph x = ap (key_at new.graph.names) (sym t.subscription.search.start) ∙ n
         ∙ ap (λ z. Some z.start) t.subscription.search.search in
         same (sight_now new.graph) x.subscription y.subscription t.subscription
         (links (sight_now old.graph) (sight_now new.graph) x.subscription was is back.rows back.links back.numbers here kept)

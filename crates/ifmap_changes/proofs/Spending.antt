@@ -2,7 +2,7 @@
 -- what is before it and after it with one numbering (`told_within`). Then the end of a session (`ended_within`).
 use Rattle.std.proofs.Common.{◌≡◌, refl, sym, ◌∙◌, subst, inl, inr, ℕ, ◌≤◌, Bool, true, false, Some, List, [], ◌∷◌, map, arith}
 use Rattle.std.specs.List.{AllByRecursion, zip}
-use Rattle.ifmap_delta.specs.Sights.{Sight}
+use Rattle.ifmap_delta.specs.Sights.{ViewSeen}
 use Rattle.ifmap_graph.specs.declared.changes.Ready.{Ready}
 use Rattle.ifmap_graph.specs.Held.{Held}
 use Rattle.ifmap_graph.specs.Seen.{rows_next, rows_now}
@@ -27,7 +27,7 @@ use Rattle.ifmap_changes.proofs.Numbers.{Tells}
 use Rattle.ifmap_changes.proofs.OneGraph.{one_graph}
 use Rattle.ifmap_changes.proofs.Starts.{numbered_more}
 
-module _ (old new : Sight) where
+module _ (old new : ViewSeen) where
   -- from more steps at the beginning
   lower_one : (x : machine.Standing) (b a c : ℕ) → b ≤ a → IsWithinOne old new x b c → IsWithinOne old new x a c
   lower_one x b a c less t = (

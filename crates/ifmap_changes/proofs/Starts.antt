@@ -14,11 +14,11 @@ use Rattle.ifmap_machine.specs.Subscribing.{most_names}
 use Rattle.ifmap_pool.specs.Holdings.{key_at}
 use Rattle.ifmap_session.specs.Sessions.{IsLive, Session, most_sessions}
 use Rattle.ifmap_standing.specs.declared.standing.Standing.{Standing}
-use Rattle.ifmap_standing.specs.Kept.{AtEach, Stands}
+use Rattle.ifmap_standing.specs.Kept.{AtEach, StaysRelated}
 use Rattle.ifmap_standing.specs.Standing.{standing_of}
 use Rattle.ifmap_graph.specs.Held.{Held, IsOwn}
 use Rattle.ifmap_graph.specs.Seen.{HasFewOwn, KeepsNumbers}
-use Rattle.ifmap_changes.specs.Between.{AreOrdered, IsNumbered, IsSteady, starts_of}
+use Rattle.ifmap_changes.specs.Between.{AreOrdered, HasStartNumber, IsSteady, starts_of}
 use Rattle.ifmap_changes.proofs.Flags.{split_long}
 use Rattle.ifmap_changes.proofs.EachPlace.{same_all}
 use Rattle.ifmap_changes.proofs.Steady.{same_starts}
@@ -63,19 +63,19 @@ few_starts live standing few o h steady a =
 
 -- the numbers of starts stay where each has the one that it had
 abbrev pub AreNumbered : Held → List Standing → Type 0
-AreNumbered h standing = AllByRecursion (IsNumbered h) standing
+AreNumbered h standing = AllByRecursion (HasStartNumber h) standing
 
 pub numbered_more : (old new : Held) (standing : List Standing) → KeepsNumbers old new → AreNumbered old standing → AreNumbered new standing
 numbered_more old new standing keeps numbered =
-    all_weaker (IsNumbered old) (IsNumbered new)
+    all_weaker (HasStartNumber old) (HasStartNumber new)
     (λ x e. keeps x.subscription.region.start x.subscription.search.start e) standing numbered
 
-pub numbered_beside : (h : Held) (old new : List Standing) → AtEach (λ _. Stands HasSameSearch) old new → AreNumbered h old
+pub numbered_beside : (h : Held) (old new : List Standing) → AtEach (λ _. StaysRelated HasSameSearch) old new → AreNumbered h old
     → AreNumbered h new
 numbered_beside h old new same numbered =
-    same_all (IsNumbered h) (IsNumbered h) (λ _. Stands HasSameSearch)
+    same_all (HasStartNumber h) (HasStartNumber h) (λ _. StaysRelated HasSameSearch)
     (λ i x y s e. ap (key_at h.names) s.subscription.start ∙ e ∙ ap (λ t. Some t.start) (sym s.subscription.search)) old new same numbered
 
-pub own_beside : (h : Held) (old new : List Standing) → AtEach (λ _. Stands HasSameSearch) old new
+pub own_beside : (h : Held) (old new : List Standing) → AtEach (λ _. StaysRelated HasSameSearch) old new
     → ((a : Identifier) → IsOwn h a (starts_of a old)) → (a : Identifier) → IsOwn h a (starts_of a new)
 own_beside h old new same own a = subst (IsOwn h a) (sym (same_starts a old new same)) (own a)

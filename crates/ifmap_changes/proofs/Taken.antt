@@ -1,12 +1,12 @@
 -- What publishes and retractions meet: parts that were not changed (`stays_kept`), notes on items that elements are (`notes_canon`),
 -- subscriptions that are marked (`ready_marked`, `marked_state`).
 use Rattle.std.proofs.Common.{◌≡◌, ◌≢◌, ℕ, true, Some, List, length, map, slice_get, sym, subst}
-use Rattle.ifmap_changes.specs.Between.{AreWithin, Asking, IsReady, rest_of, sessions_left, sight_now, so_far}
+use Rattle.ifmap_changes.specs.Between.{AreWithinLimits, Asking, IsSoundSoFar, rest_of, sessions_left, sight_now, so_far}
 use Rattle.ifmap_changes.specs.Changes.{CanSettle, CanTakeBack}
 use Rattle.ifmap_changes.specs.declared.changes.Made.{Made}
 use Rattle.ifmap_changes.specs.declared.parts.Parts.{Parts}
 use Rattle.ifmap_changes.proofs.EachPlace.{less_kept}
-use Rattle.ifmap_delta.specs.Sights.{IsKept}
+use Rattle.ifmap_delta.specs.Sights.{IsUpToDate}
 use Rattle.ifmap_graph.specs.Seen.{rows_now}
 use Rattle.ifmap_machine.specs.Ending.{without_standing}
 use Rattle.ifmap_publish.specs.Apply.{Authorship}
@@ -22,17 +22,17 @@ author_of serial a = record { client = a.client; serial = serial; moment = a.mom
 -- all is ready still where more subscriptions are gone
 pub ready_marked : (a : Asking) (parts : Parts) (old new : Pending) → length new.gone.items ≡ length parts.standing.items
     → ((i : ℕ) → slice_get old.gone.items i ≡ Some true → slice_get new.gone.items i ≡ Some true) → new.tellings ≡ old.tellings
-    → IsReady a parts old → IsReady a parts new
+    → IsSoundSoFar a parts old → IsSoundSoFar a parts new
 ready_marked a parts old new flags stay same r =
     let standing = parts.standing.items in
     record {
       ended = r.ended;
       ordered = r.ordered;
       flags = flags;
-      kept = less_kept (λ x. IsKept (sight_now parts.graph) x.subscription) old.gone.items new.gone.items standing r.flags stay r.kept;
+      kept = less_kept (λ x. IsUpToDate (sight_now parts.graph) x.subscription) old.gone.items new.gone.items standing r.flags stay r.kept;
       live = less_kept (λ x. IsLive x.serial (sessions_left a parts.sessions)) old.gone.items new.gone.items standing r.flags stay r.live;
       queues = r.queues;
-      within = subst (λ t. AreWithin (map (told_by t) (sessions_left a parts.sessions))) (sym same) r.within;
+      within = subst (λ t. AreWithinLimits (map (told_by t) (sessions_left a parts.sessions))) (sym same) r.within;
       can_tell = subst (λ t. EachTelling (CanTell (rest_of a parts.sessions)) t) (sym same) r.can_tell;
       sized = subst (λ t. EachTelling (λ n u. IsSized n u parts.sessions.live) t) (sym same) r.sized;
       alone = subst (λ t. AloneAreBare t new.gone.items standing) (sym same)

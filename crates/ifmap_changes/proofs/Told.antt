@@ -14,15 +14,15 @@ use Rattle.std.specs.Ordering.{nat_cmp}
 use Rattle.ifmap_lemmas.specs.Filters.{all_filter, all_weaker, filter_alike, map_filter}
 use Rattle.ifmap_lemmas.specs.Having.{Has, filter_has, has_filter, has_map, all_has, has_all}
 use Rattle.ifmap_lemmas.specs.Members.{map_of_all}
-use Rattle.ifmap_delta.specs.Sights.{IsKept}
+use Rattle.ifmap_delta.specs.Sights.{IsUpToDate}
 use Rattle.ifmap_delta.specs.Ways.{HasSameSearch}
 use Rattle.ifmap_machine.specs.State as machine
-use Rattle.ifmap_machine.specs.Telling.{is_overfull, is_overrun, is_too_big, overflow_session, tell_session, told_in, told_to}
+use Rattle.ifmap_machine.specs.Telling.{is_overfull, is_overrun, is_too_big, overflow_session, tell_session, told_in_session, told_to}
 use Rattle.ifmap_plans.specs.declared.plans.Note.{Note}
-use Rattle.ifmap_session.specs.Sessions.{IsLive, Session, Table, spare_of, without_sessions}
+use Rattle.ifmap_session.specs.Sessions.{IsLive, Session, SessionTable, spare_of, without_sessions}
 use Rattle.ifmap_standing.specs.declared.standing.Standing.{Standing}
 use Rattle.ifmap_standing.specs.declared.telling.News.{News}
-use Rattle.ifmap_standing.specs.Kept.{AtEach, Stands}
+use Rattle.ifmap_standing.specs.Kept.{AtEach, StaysRelated}
 use Rattle.ifmap_standing.specs.News.{news_of_each, news_where}
 use Rattle.ifmap_standing.specs.Standing.{standing_of}
 use Rattle.ifmap_view.specs.declared.attachments.Attachment.{Attachment}
@@ -31,7 +31,7 @@ use Rattle.ifmap_tellings.specs.declared.tellings.Pending.{Pending}
 use Rattle.ifmap_tellings.specs.declared.tellings.Telling.{Telling}
 use Rattle.ifmap_tellings.specs.Tellings.{AllKept, AloneAreBare, CanTell, EachTelling, HasSameSessions, IsSized, SkipsGone, count_told, gone_after, gone_alone, is_alone, kept_of, queued_for, told_by, told_where}
 use Rattle.ifmap_changes.specs.declared.parts.Parts.{Parts}
-use Rattle.ifmap_changes.specs.Between.{Asking, IsReady, IsWithin, sessions_left}
+use Rattle.ifmap_changes.specs.Between.{Asking, IsSoundSoFar, IsWithinLimit, sessions_left}
 use Rattle.ifmap_changes.specs.Changes.{IsTold, sight_next}
 use Rattle.ifmap_changes.proofs.Settling.{same_ordered, same_shown}
 use Rattle.ifmap_changes.proofs.Flags.{alike_maps, any_alike, any_both, any_mapped, kept_all, kept_later, kept_made, kept_marked, map_twice, mapped_long, maps_alike, marks_stay, queued_made, skip_made, some_of, zip_mapped}
@@ -41,7 +41,7 @@ use Rattle.ifmap_tellings.specs.ToldLaws.{told_serial, map_kept}
 -- ---- a telling and a session
 
 -- one error is within a limit of 100
-pub overflow_within : (s : Session) → 100 ≤ s.limit → IsWithin (overflow_session s)
+pub overflow_within : (s : Session) → 100 ≤ s.limit → IsWithinLimit (overflow_session s)
 overflow_within s wide = elim (cases_Bool (is_overfull s)) [
   | inl over ↦
       let one : nat_lt s.limit 100 ≡ false = grind (arith, nat_tests, wide)
@@ -74,7 +74,7 @@ live_has n (s ∷ live) l = elim (cases_Bool (s.serial == n)) [
 
 -- ---- before the news are queued
 
-module _ (a : Asking) (old : Parts) (before : Pending) (ready : IsReady a old before) where
+module _ (a : Asking) (old : Parts) (before : Pending) (ready : IsSoundSoFar a old before) where
   untold : (s : Session) → stays_in a s.serial ≡ false → told_by before.tellings s ≡ s
   untold s goes = by (get nat_cmp before.tellings s.serial) refl
     where
@@ -91,11 +91,11 @@ module _ (a : Asking) (old : Parts) (before : Pending) (ready : IsReady a old be
     where
       one : (s : Session) → Has old.sessions.live s → is_overfull (told_by before.tellings s) ≡ false
       one s there = elim (cases_Bool (stays_in a s.serial)) [
-        | inl stays ↦ (all_has IsWithin (map (told_by before.tellings) (sessions_left a old.sessions)) ready.within
+        | inl stays ↦ (all_has IsWithinLimit (map (told_by before.tellings) (sessions_left a old.sessions)) ready.within
             (told_by before.tellings s)
             (has_map (told_by before.tellings) (sessions_left a old.sessions) s
             (has_filter (λ (t : Session). stays_in a t.serial) old.sessions.live s there stays))).full
-        | inr goes ↦ subst (λ t. is_overfull t ≡ false) (sym (untold s goes)) (all_has IsWithin old.sessions.live ready.queues s there).full
+        | inr goes ↦ subst (λ t. is_overfull t ≡ false) (sym (untold s goes)) (all_has IsWithinLimit old.sessions.live ready.queues s there).full
       ]
 
   pub can_tell_all : EachTelling (CanTell old.sessions) before.tellings
@@ -104,7 +104,7 @@ module _ (a : Asking) (old : Parts) (before : Pending) (ready : IsReady a old be
       in record { live = left_live (λ (s : Session). stays_in a s.serial) n old.sessions.live can.live; room = can.room }
 
   pub wide_all : AllByRecursion (λ s. 100 ≤ s.limit) old.sessions.live
-  wide_all = has_all (λ s. 100 ≤ s.limit) old.sessions.live (λ s there. (all_has IsWithin old.sessions.live ready.queues s there).wide)
+  wide_all = has_all (λ s. 100 ≤ s.limit) old.sessions.live (λ s there. (all_has IsWithinLimit old.sessions.live ready.queues s there).wide)
 
 -- what holds of each that is shown
 pub all_shown : (P : machine.Standing → Type 0) (xs : List Standing) → AllByRecursion (λ x. P (standing_of x)) xs
@@ -113,8 +113,8 @@ all_shown P xs h = map_of_all P standing_of xs h
 
 -- ---- the news of a change
 
-module _ (a : Asking) (old : Parts) (before : Pending) (ready : IsReady a old before) (notes : List Note) (stand_now : List Standing)
-    (same : AtEach (λ _. Stands HasSameSearch) old.standing.items stand_now) (news : List News)
+module _ (a : Asking) (old : Parts) (before : Pending) (ready : IsSoundSoFar a old before) (notes : List Note) (stand_now : List Standing)
+    (same : AtEach (λ _. StaysRelated HasSameSearch) old.standing.items stand_now) (news : List News)
     (is_news : news ≡ news_of_each (rows_now old.graph) (rows_next old.graph) notes before.gone.items
     (map standing_of old.standing.items)) where
   abbrev rows : List Attachment
@@ -161,7 +161,7 @@ module _ (a : Asking) (old : Parts) (before : Pending) (ready : IsReady a old be
   live_now = (same_ordered old.sessions.live old.standing.items stand_now same ready.ordered).live
 
   -- what is queued for a session
-  pub queued : (n : ℕ) → queued_for n stand_now news ≡ told_in rows next notes those n
+  pub queued : (n : ℕ) → queued_for n stand_now news ≡ told_in_session rows next notes those n
   queued n =
       ap (queued_for n stand_now) is_news
       ∙ zip_mapped standing_of (λ y. y.serial == n) (λ (one : News). one.items) stand_now (news_of_each rows next notes gone ys)
@@ -169,7 +169,7 @@ module _ (a : Asking) (old : Parts) (before : Pending) (ready : IsReady a old be
       (filter (λ (p : machine.Standing × News). p.0.serial == n) (zip zs (news_of_each rows next notes gone ys)))) shown_now
       ∙ queued_made (news_where rows next notes) (λ (one : News). one.items) (λ y. refl) (told_to rows next notes) (λ y. refl)
       (λ y. y.serial == n) gone ys
-      ∙ ap (λ zs. told_in rows next notes zs n) (sym (map_kept standing_of gone old.standing.items))
+      ∙ ap (λ zs. told_in_session rows next notes zs n) (sym (map_kept standing_of gone old.standing.items))
 
   -- which stand
   stand : (alone : ℕ → Bool) (after : List Bool)
@@ -189,15 +189,15 @@ module _ (a : Asking) (old : Parts) (before : Pending) (ready : IsReady a old be
 
   -- what a session has to tell, before it is looked at whether that is too much
   abbrev told_one : Session → Session
-  told_one s = tell_session (told_in rows next notes those s.serial) (told_by before.tellings s)
+  told_one s = tell_session (told_in_session rows next notes those s.serial) (told_by before.tellings s)
 
   -- and one that was told already, as the definition tells it
   abbrev tell_it : Session → Session
-  tell_it s = tell_session (told_in rows next notes those s.serial) s
+  tell_it s = tell_session (told_in_session rows next notes those s.serial) s
 
   tells : map tell_it (map (told_by before.tellings) lives) ≡ map told_one lives
   tells = map_twice (told_by before.tellings) tell_it lives ∙ alike_maps (λ s. tell_it (told_by before.tellings s)) told_one lives
-      (has_all _ lives (λ s there. ap (λ n. tell_session (told_in rows next notes those n) (told_by before.tellings s))
+      (has_all _ lives (λ s there. ap (λ n. tell_session (told_in_session rows next notes those n) (told_by before.tellings s))
       (told_serial (get nat_cmp before.tellings s.serial) s)))
 
   live_those : AllByRecursion (λ (y : machine.Standing). IsLive y.serial lives) those
@@ -213,7 +213,7 @@ module _ (a : Asking) (old : Parts) (before : Pending) (ready : IsReady a old be
     | inr is ↦ is
   ]
 
-  module _ (after : Pending) (sessions_now : Table)
+  module _ (after : Pending) (sessions_now : SessionTable)
       (sessions : HasSameSessions old.sessions sessions_now)
       (told : map (told_by after.tellings) old.sessions.live
       ≡ map (λ s. overflow_session (tell_session (queued_for s.serial stand_now news) (told_by before.tellings s))) old.sessions.live)
@@ -225,7 +225,7 @@ module _ (a : Asking) (old : Parts) (before : Pending) (ready : IsReady a old be
       (can_tell : EachTelling (CanTell sessions_now) after.tellings)
       (sized : EachTelling (λ n t. IsSized n t sessions_now.live) after.tellings)
       (bare : AloneAreBare after.tellings after.gone.items stand_now)
-      (kept : AllKept (λ x. IsKept (sight_next old.graph) x.subscription) gone stand_now) where
+      (kept : AllKept (λ x. IsUpToDate (sight_next old.graph) x.subscription) gone stand_now) where
     -- what the sessions have to tell
     tell_each : map (told_by after.tellings) lives ≡ map overflow_session (map told_one lives)
     tell_each =
@@ -303,8 +303,8 @@ module _ (a : Asking) (old : Parts) (before : Pending) (ready : IsReady a old be
         → IsTold a old before notes new after
     is_told new graph is_sessions is_standing =
         let lives_now : sessions_left a new.sessions ≡ lives =
-        ap (λ (t : Table). sessions_left a t) is_sessions ∙ ap (without_sessions a.ended) sessions.live
-        in let counter : new.sessions.counter ≡ old.sessions.counter = ap (λ (t : Table). t.counter) is_sessions ∙ sessions.counter
+        ap (λ (t : SessionTable). sessions_left a t) is_sessions ∙ ap (without_sessions a.ended) sessions.live
+        in let counter : new.sessions.counter ≡ old.sessions.counter = ap (λ (t : SessionTable). t.counter) is_sessions ∙ sessions.counter
         in let all : map (told_by after.tellings) (sessions_left a new.sessions)
         ≡ map overflow_session (map tell_it (map (told_by before.tellings) lives))
         = ap (map (told_by after.tellings)) lives_now ∙ tell_each ∙ ap (map overflow_session) (sym tells)
@@ -323,17 +323,17 @@ module _ (a : Asking) (old : Parts) (before : Pending) (ready : IsReady a old be
             sessions = all i;
             standing = which i;
           };
-          kept = subst (λ xs. AllKept (λ x. IsKept (sight_next new.graph) x.subscription) after.gone.items xs) (sym is_standing)
-              (kept_later (λ x. IsKept (sight_next old.graph) x.subscription) (λ x. IsKept (sight_next new.graph) x.subscription) gone
+          kept = subst (λ xs. AllKept (λ x. IsUpToDate (sight_next new.graph) x.subscription) after.gone.items xs) (sym is_standing)
+              (kept_later (λ x. IsUpToDate (sight_next old.graph) x.subscription) (λ x. IsUpToDate (sight_next new.graph) x.subscription) gone
               after.gone.items stand_now stand_now flags_now refl
-              (λ i x y p q h. subst (λ h. IsKept (sight_next h) y.subscription) (sym graph)
-              (subst (λ (z : Standing). IsKept (sight_next old.graph) z.subscription) (same_Some x y (sym p ∙ q)) h)) gone_stays kept);
+              (λ i x y p q h. subst (λ h. IsUpToDate (sight_next h) y.subscription) (sym graph)
+              (subst (λ (z : Standing). IsUpToDate (sight_next old.graph) z.subscription) (same_Some x y (sym p ∙ q)) h)) gone_stays kept);
           flags = flags_after ∙ ap length (sym is_standing);
           gone = gone_stays;
           can_tell = λ n t is. record {
             live = subst (IsLive n) (sym lives_now) (live_told n t is);
-            room = subst (λ (table : Table). count_told t ≤ spare_of n table.spare) (sym is_sessions) (can_tell n t is).room;
+            room = subst (λ (table : SessionTable). count_told t ≤ spare_of n table.spare) (sym is_sessions) (can_tell n t is).room;
           };
-          sized = subst (λ (table : Table). EachTelling (λ n t. IsSized n t table.live) after.tellings) (sym is_sessions) sized;
+          sized = subst (λ (table : SessionTable). EachTelling (λ n t. IsSized n t table.live) after.tellings) (sym is_sessions) sized;
           alone = subst (AloneAreBare after.tellings after.gone.items) (sym is_standing) bare;
         }

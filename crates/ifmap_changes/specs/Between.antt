@@ -6,7 +6,7 @@ use Rattle.ifmap_changes.specs.declared.parts.Parts.{Parts}
 use Rattle.ifmap_tellings.specs.declared.tellings.Pending.{Pending}
 use Rattle.ifmap_tellings.specs.Tellings.{AllKept, AloneAreBare, CanTell, EachTelling, HasSameSessions, IsSized, kept_of, told_by}
 use Rattle.ifmap_delta.specs.declared.subscriptions.Subscription.{Subscription}
-use Rattle.ifmap_delta.specs.Sights.{IsKept, Sight}
+use Rattle.ifmap_delta.specs.Sights.{IsUpToDate, ViewSeen}
 use Rattle.ifmap_delta.specs.Ways.{HasSameSearch}
 use Rattle.ifmap_ident.specs.declared.identifiers.Identifier.{Identifier}
 use Rattle.ifmap_ident.specs.declared.items.Item.{Item}
@@ -17,9 +17,9 @@ use Rattle.ifmap_machine.specs.Telling.{is_overfull}
 use Rattle.ifmap_plans.specs.Plans.{AreWhole}
 use Rattle.ifmap_pool.specs.Holdings.{key_at, once}
 use Rattle.ifmap_region.specs.Marks.{mark_of}
-use Rattle.ifmap_session.specs.Sessions.{IsLive, Session, Table, without_sessions}
+use Rattle.ifmap_session.specs.Sessions.{IsLive, Session, SessionTable, without_sessions}
 use Rattle.ifmap_standing.specs.declared.standing.Standing.{Standing}
-use Rattle.ifmap_standing.specs.Kept.{AtEach, KeepsSame, Stands}
+use Rattle.ifmap_standing.specs.Kept.{AtEach, KeepsSame, StaysRelated}
 use Rattle.ifmap_standing.specs.Standing.{standing_of}
 use Rattle.ifmap_view.specs.Views.{IsView}
 use Rattle.ifmap_graph.specs.Back.{KeepsBacks}
@@ -31,8 +31,8 @@ abbrev pub starts_of : Identifier → List Standing → ℕ
 starts_of a standing = sum_by (λ x. once identifier_order x.subscription.search.start a) standing
 
 -- a subscription has the number of its start
-abbrev pub IsNumbered : Held → Standing → Type 0
-IsNumbered h x = key_at h.names x.subscription.region.start ≡ Some x.subscription.search.start
+abbrev pub HasStartNumber : Held → Standing → Type 0
+HasStartNumber h x = key_at h.names x.subscription.region.start ≡ Some x.subscription.search.start
 
 -- nothing is out in a graph, what it stores is whole, others than items hold an identifier as often as these subscriptions start
 -- there, and each has the number of its start
@@ -40,10 +40,10 @@ pub record IsSteady (h : Held) (standing : List Standing) : Type 0 where
   pub still : IsStill h
   pub whole : AreWhole (rows_now h)
   pub own : (a : Identifier) → IsOwn h a (starts_of a standing)
-  pub numbered : AllByRecursion (IsNumbered h) standing
+  pub numbered : AllByRecursion (HasStartNumber h) standing
 
 -- the graph, as subscriptions see it
-abbrev pub sight_now : Held → Sight
+abbrev pub sight_now : Held → ViewSeen
 sight_now h = record { rows = rows_now h; id_at = key_at h.names; links = links_now h }
 
 -- what holds of every view, of the graph
@@ -55,12 +55,12 @@ abbrev pub HasLiveMarks : Held → Subscription → Type 0
 HasLiveMarks h sub = (v d : ℕ) → mark_of sub.region.marks.entries v ≡ Some d → (a : Identifier) × (key_at h.names v ≡ Some a)
 
 -- no queue is greater than its limit, which one error is within
-pub record IsWithin (s : Session) : Type 0 where
+pub record IsWithinLimit (s : Session) : Type 0 where
   pub full : is_overfull s ≡ false
   pub wide : 100 ≤ s.limit
 
-abbrev pub AreWithin : List Session → Type 0
-AreWithin live = AllByRecursion IsWithin live
+abbrev pub AreWithinLimits : List Session → Type 0
+AreWithinLimits live = AllByRecursion IsWithinLimit live
 
 -- the subscriptions stand in order, each in a live session, and no session has more than it may
 pub record AreOrdered (sessions : List Session) (standing : List Standing) : Type 0 where
@@ -83,8 +83,8 @@ state_at ttl moment parts = record {
 pub record AreParts (parts : Parts) : Type 0 where
   pub steady : IsSteady parts.graph parts.standing.items
   pub ordered : AreOrdered parts.sessions.live parts.standing.items
-  pub kept : AllByRecursion (λ x. IsKept (sight_now parts.graph) x.subscription) parts.standing.items
-  pub within : AreWithin parts.sessions.live
+  pub kept : AllByRecursion (λ x. IsUpToDate (sight_now parts.graph) x.subscription) parts.standing.items
+  pub within : AreWithinLimits parts.sessions.live
 
 -- and of the machine
 pub record IsCore (ttl : ℕ) (parts : Parts) : Type 0 where
@@ -100,10 +100,10 @@ pub record Asking : Type 0 where
   pub ended : List ℕ
 
 -- the sessions that are left
-abbrev pub sessions_left : Asking → Table → List Session
+abbrev pub sessions_left : Asking → SessionTable → List Session
 sessions_left a table = without_sessions a.ended table.live
 
-abbrev pub rest_of : Asking → Table → Table
+abbrev pub rest_of : Asking → SessionTable → SessionTable
 rest_of a table = record table { live = sessions_left a table }
 
 -- the subscriptions that are left
@@ -127,20 +127,20 @@ CanEnd [] live = Unit {0}
 CanEnd (n ∷ serials) live = IsLive n live × CanEnd serials (without_sessions (n ∷ []) live)
 
 -- no subscription of a session is left
-abbrev pub IsBare : ℕ → Parts → Pending → Type 0
-IsBare serial parts pending = AllKept (λ x. x.serial ≢ serial) pending.gone.items parts.standing.items
+abbrev pub HasNoSubscriptions : ℕ → Parts → Pending → Type 0
+HasNoSubscriptions serial parts pending = AllKept (λ x. x.serial ≢ serial) pending.gone.items parts.standing.items
 
 -- what holds of the parts while an event is answered, but for the graph alone
-pub record IsReady (a : Asking) (parts : Parts) (pending : Pending) : Type 0 where
+pub record IsSoundSoFar (a : Asking) (parts : Parts) (pending : Pending) : Type 0 where
   pub ended : CanEnd a.ended parts.sessions.live
   pub ordered : AreOrdered parts.sessions.live parts.standing.items
   pub flags : length pending.gone.items ≡ length parts.standing.items
   -- what is not gone keeps what the graph has, and is of a session that is left
-  pub kept : AllKept (λ x. IsKept (sight_now parts.graph) x.subscription) pending.gone.items parts.standing.items
+  pub kept : AllKept (λ x. IsUpToDate (sight_now parts.graph) x.subscription) pending.gone.items parts.standing.items
   pub live : AllKept (λ x. IsLive x.serial (sessions_left a parts.sessions)) pending.gone.items parts.standing.items
   -- no queue is greater than its limit, also once all is told, which there is room for
-  pub queues : AreWithin parts.sessions.live
-  pub within : AreWithin (map (told_by pending.tellings) (sessions_left a parts.sessions))
+  pub queues : AreWithinLimits parts.sessions.live
+  pub within : AreWithinLimits (map (told_by pending.tellings) (sessions_left a parts.sessions))
   pub can_tell : EachTelling (CanTell (rest_of a parts.sessions)) pending.tellings
   pub sized : EachTelling (λ n t. IsSized n t parts.sessions.live) pending.tellings
   -- who is told one error in place of all has no subscription left
@@ -151,7 +151,7 @@ pub record IsReady (a : Asking) (parts : Parts) (pending : Pending) : Type 0 whe
 pub record AreTurnedWith (items : List Item) (old new : Parts) : Type 0 where
   pub waits : AwaitsMore items old.graph new.graph
   pub lean : StaysLeanWith items old.graph new.graph
-  pub searches : AtEach (λ _. Stands HasSameSearch) old.standing.items new.standing.items
+  pub searches : AtEach (λ _. StaysRelated HasSameSearch) old.standing.items new.standing.items
   pub sessions : HasSameSessions old.sessions new.sessions
 
 -- the same where none came to be
@@ -169,7 +169,7 @@ pub record AreBack (old new : Parts) : Type 0 where
   pub links : (v : ℕ) → links_now new.graph v ≡ links_now old.graph v
   pub numbers : SharesNumbers old.graph new.graph
   pub lean : StaysLean old.graph new.graph
-  pub standing : AtEach (λ _. Stands KeepsSame) old.standing.items new.standing.items
+  pub standing : AtEach (λ _. StaysRelated KeepsSame) old.standing.items new.standing.items
   pub sessions : HasSameSessions old.sessions new.sessions
 
 -- what was begun was given up: all is as it was but for room, and ways back stay

@@ -1,7 +1,7 @@
 -- How many steps a change of the graph takes, of the state that it is made in: what it is is found, and all that stand are told of it.
 use Rattle.std.specs.Prelude.{◌≡◌, ◌≤◌, ◌+◌, ◌⊎◌, ℕ, List, [], ◌∷◌, length, Some}
 use Rattle.ifmap_delta.specs.Bounds.{IsWithinBound}
-use Rattle.ifmap_delta.specs.Sights.{Sight}
+use Rattle.ifmap_delta.specs.Sights.{ViewSeen}
 use Rattle.ifmap_machine.specs.Ending.{drop_sessions}
 use Rattle.ifmap_machine.specs.State.{Standing, State}
 use Rattle.ifmap_plans.specs.After.{items_of}
@@ -15,14 +15,14 @@ use Rattle.ifmap_view.specs.Attachments.{IsGraph}
 use Rattle.ifmap_view.specs.Views.{IsView}
 
 -- these attachments before a change and those after it, seen with one numbering of identifiers
-pub record AreSights (first last : List Attachment) (old new : Sight) : Type 0 where
+pub record AreSights (first last : List Attachment) (old new : ViewSeen) : Type 0 where
   pub before : IsView old.rows old.id_at old.links
   pub after : IsView new.rows new.id_at new.links
   pub rows : old.rows ≡ first
   pub next : new.rows ≡ last
   pub numbers : (v : ℕ) → new.id_at v ≡ old.id_at v
 
-module _ (old new : Sight) where
+module _ (old new : ViewSeen) where
   -- the steps rose by at most the bound of a change for one subscription, from the number of its start
   abbrev pub IsWithinOne : Standing → ℕ → ℕ → Type 0
   IsWithinOne x before after =
@@ -38,7 +38,7 @@ module _ (old new : Sight) where
 abbrev pub IsToldWithin : List Attachment → State → ℕ → ℕ → Type 0
 IsToldWithin next state before after =
     (after ≤ before)
-    ⊎ ((old : Sight) × (new : Sight) × AreSights state.graph next old new × IsWithinAll old new state.standing before after)
+    ⊎ ((old : ViewSeen) × (new : ViewSeen) × AreSights state.graph next old new × IsWithinAll old new state.standing before after)
 
 -- the same of a change by a plan, whatever attachments it makes of those that are there
 abbrev pub IsPlanWithin : Plan → State → ℕ → ℕ → Type 0

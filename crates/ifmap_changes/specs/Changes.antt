@@ -7,7 +7,7 @@ use Rattle.ifmap_changes.specs.declared.parts.Parts.{Parts}
 use Rattle.ifmap_tellings.specs.declared.tellings.Pending.{Pending}
 use Rattle.ifmap_tellings.specs.Tellings.{AllKept, AloneAreBare, CanTell, EachTelling, HasSameSessions, IsSized}
 use Rattle.ifmap_delta.specs.Changes.{ShowsAfter}
-use Rattle.ifmap_delta.specs.Sights.{IsKept, Sight}
+use Rattle.ifmap_delta.specs.Sights.{IsUpToDate, ViewSeen}
 use Rattle.ifmap_delta.specs.Ways.{HasSameSearch}
 use Rattle.ifmap_machine.specs.Ending.{without_standing}
 use Rattle.ifmap_machine.specs.State.{State}
@@ -20,19 +20,19 @@ use Rattle.ifmap_publish.specs.declared.who.Who.{Who}
 use Rattle.ifmap_publish.specs.declared.who.Who.TheVariants.{Sessions}
 use Rattle.ifmap_publish.specs.Retract.{retract}
 use Rattle.ifmap_standing.specs.declared.standing.Standing.{Standing}
-use Rattle.ifmap_standing.specs.Kept.{AtEach, Stands}
+use Rattle.ifmap_standing.specs.Kept.{AtEach, StaysRelated}
 use Rattle.ifmap_standing.specs.Ways.{LeadBack}
 use Rattle.ifmap_graph.specs.declared.changes.Ready.{Ready}
-use Rattle.ifmap_graph.specs.Back.{IsWayBack, KeepsBacks}
+use Rattle.ifmap_graph.specs.Back.{IsUndoTo, KeepsBacks}
 use Rattle.ifmap_graph.specs.Held.{Held}
-use Rattle.ifmap_graph.specs.Out.{IsOut, items_of}
-use Rattle.ifmap_graph.specs.Seen.{Awaits, AwaitsMore, BringsNoNumbers, KeepsNumbers, KeepsOwn, StaysLeanWith, links_next, links_now, rows_next, rows_now}
+use Rattle.ifmap_graph.specs.Out.{IsOut, items_changed}
+use Rattle.ifmap_graph.specs.Seen.{AreAwaited, AwaitsMore, BringsNoNumbers, KeepsNumbers, KeepsOwn, StaysLeanWith, links_next, links_now, rows_next, rows_now}
 use Rattle.ifmap_view.specs.declared.attachments.Attachment.{Attachment}
 use Rattle.ifmap_view.specs.Attachments.{IsGraph}
 use Rattle.ifmap_view.specs.Views.{IsView}
 
 -- the graph as it is to be, as subscriptions see it
-abbrev pub sight_next : Held → Sight
+abbrev pub sight_next : Held → ViewSeen
 sight_next h = record { rows = rows_next h; id_at = key_at h.names; links = links_next h }
 
 -- the state with the graph as it is to be
@@ -52,8 +52,8 @@ pub record IsBegun (ready : Ready) (wanted : Plan) (old new : Held) : Type 0 whe
   pub links : (v : ℕ) → links_now new v ≡ links_now old v
   pub numbers : KeepsNumbers old new
   pub own : KeepsOwn old new
-  pub waits : AwaitsMore (items_of wanted.changes) old new
-  pub lean : StaysLeanWith (items_of wanted.changes) old new
+  pub waits : AwaitsMore (items_changed wanted.changes) old new
+  pub lean : StaysLeanWith (items_changed wanted.changes) old new
   pub backs : KeepsBacks old new
 
 -- the subscriptions were told of a change that is out: with the attachments that are to be, and what is pending told, the state is what
@@ -61,7 +61,7 @@ pub record IsBegun (ready : Ready) (wanted : Plan) (old new : Held) : Type 0 whe
 -- for it, and its sizes are exact; and who is told one error in place of all has no subscription left
 pub record IsTold (a : Asking) (old : Parts) (before : Pending) (notes : List Note) (new : Parts) (after : Pending) : Type 0 where
   pub state : with_next a new after ≡ overflow (tell (rows_next old.graph) notes (so_far a old before))
-  pub kept : AllKept (λ x. IsKept (sight_next new.graph) x.subscription) after.gone.items new.standing.items
+  pub kept : AllKept (λ x. IsUpToDate (sight_next new.graph) x.subscription) after.gone.items new.standing.items
   pub flags : length after.gone.items ≡ length new.standing.items
   -- what was gone is
   pub gone : (i : ℕ) → slice_get before.gone.items i ≡ Some true → slice_get after.gone.items i ≡ Some true
@@ -77,13 +77,13 @@ TellsPlan a plan old before new after =
 
 -- a change can be left as it is: its items are waited for
 pub record CanSettle (made : Made) (parts : Parts) : Type 0 where
-  pub waits : Awaits (items_of made.undo.plan.changes) parts.graph
+  pub waits : AreAwaited (items_changed made.undo.plan.changes) parts.graph
   pub ways : length made.ways ≤ length parts.standing.items
 
 -- a change can be taken back, and then all is what it was before
 pub record CanTakeBack (made : Made) (before parts : Parts) : Type 0 where
-  pub graph : IsWayBack made.undo (rows_now before.graph) (links_now before.graph) parts.graph
-  pub lean : StaysLeanWith (items_of made.undo.plan.changes) before.graph parts.graph
+  pub graph : IsUndoTo made.undo (rows_now before.graph) (links_now before.graph) parts.graph
+  pub lean : StaysLeanWith (items_changed made.undo.plan.changes) before.graph parts.graph
   pub numbers : SharesNumbers before.graph parts.graph
   pub standing : LeadBack before.standing.items made.ways parts.standing.items
   pub sessions : HasSameSessions before.sessions parts.sessions
@@ -93,7 +93,7 @@ pub record IsSettled (old new : Parts) : Type 0 where
   pub rows : rows_now new.graph ≡ rows_now old.graph
   pub links : (v : ℕ) → links_now new.graph v ≡ links_now old.graph v
   pub numbers : BringsNoNumbers old.graph new.graph
-  pub searches : AtEach (λ _. Stands HasSameSearch) old.standing.items new.standing.items
+  pub searches : AtEach (λ _. StaysRelated HasSameSearch) old.standing.items new.standing.items
   pub len : vec_len new.standing ≡ vec_len old.standing
   pub capacity : vec_capacity new.standing ≡ vec_capacity old.standing
   pub sessions : new.sessions ≡ old.sessions
@@ -103,9 +103,9 @@ abbrev pub gone_with : List ℕ → List Bool → List Standing → List Bool
 gone_with serials gone standing = map (λ (p : Bool × Standing). p.0 || list_any (λ n. n == p.1.serial) serials) (zip gone standing)
 
 -- the state once what is of these is taken away, and all are told
-abbrev pub taken_of : Who → State → State
-taken_of who state = overflow (tell (retract who state.graph) [] state)
+abbrev pub state_taken_from : Who → State → State
+state_taken_from who state = overflow (tell (retract who state.graph) [] state)
 
 -- the state once a session's subscriptions stand no longer, and the others are told what goes with it
 abbrev pub taken_one : ℕ → State → State
-taken_one n state = taken_of (Sessions (n ∷ [])) (record state { standing = without_standing (n ∷ []) state.standing })
+taken_one n state = state_taken_from (Sessions (n ∷ [])) (record state { standing = without_standing (n ∷ []) state.standing })

@@ -3,26 +3,26 @@ ghost use Rattle.std.specs.Prelude.{◌≡◌, ◌≢◌, ◌<◌, ◌≤◌, �
 ghost use Rattle.std.specs.List.{AllByRecursion, list_any, zip};
 ghost use Rattle.std.specs.List.Sorted.{IsStrictlySortedBy};
 ghost use Rattle.std.specs.Ordering.{nat_cmp};
-ghost use Rattle.ifmap_changes.specs.Between.{AreBack, AreKept, AreOrdered, AreParts, AreTurned, AreTurnedWith, Asking, IsBare, IsReady, IsSteady, sight_now, so_far};
+ghost use Rattle.ifmap_changes.specs.Between.{AreBack, AreKept, AreOrdered, AreParts, AreTurned, AreTurnedWith, Asking, HasNoSubscriptions, IsSoundSoFar, IsSteady, sight_now, so_far};
 ghost use Rattle.ifmap_changes.specs.Bounds.{IsPlanWithin};
 ghost use Rattle.ifmap_changes.specs.Changes.{CanSettle, CanTakeBack, IsBegun, IsSettled, IsTold, TellsPlan, gone_with, sight_next};
 ghost use Rattle.ifmap_changes.specs.declared.parts.Parts.{Parts};
 ghost use Rattle.ifmap_tellings.specs.declared.tellings.Pending.{Pending};
 ghost use Rattle.ifmap_tellings.specs.Tellings.{AllKept, HasSameSessions, kept_of};
 ghost use Rattle.ifmap_delta.specs.Changes.{ShowsAfter};
-ghost use Rattle.ifmap_delta.specs.Sights.{IsKept};
+ghost use Rattle.ifmap_delta.specs.Sights.{IsUpToDate};
 ghost use Rattle.ifmap_delta.specs.Ways.{HasSameSearch};
 ghost use Rattle.ifmap_ident.specs.Items.{IsCanonItem};
 ghost use Rattle.ifmap_machine.specs.Ending.{without_standing};
 ghost use Rattle.ifmap_plans.specs.Plans.{Fits};
 ghost use Rattle.ifmap_standing.specs.Bounds.{IsWithinEach};
-ghost use Rattle.ifmap_standing.specs.Kept.{AtEach, KeepsSame, Stands};
+ghost use Rattle.ifmap_standing.specs.Kept.{AtEach, KeepsSame, StaysRelated};
 ghost use Rattle.ifmap_standing.specs.declared.standing.Standing.{Standing};
 ghost use Rattle.ifmap_standing.specs.News.{news_of_each};
 ghost use Rattle.ifmap_standing.specs.Standing.{standing_of};
 ghost use Rattle.ifmap_standing.specs.Ways.{LeadBack};
 ghost use Rattle.ifmap_standing.specs.Ways as the_ways;
-ghost use Rattle.ifmap_graph.specs.Out.{items_of};
+ghost use Rattle.ifmap_graph.specs.Out.{items_changed};
 ghost use Rattle.ifmap_graph.specs.Seen.{AwaitsLess, KeepsNumbers, StaysLeanWithout, rows_next, rows_now};
 
 use crate::asking::Asking;
@@ -56,15 +56,15 @@ pub fn make_change<L: Ledger>(
     steps: &mut Steps<L>,
 ) -> Result<(), NoMemory>
     requires steady { IsSteady parts.old.graph parts.old.standing.items }
-    requires ready { IsReady asking.now parts.old pending.old }
+    requires ready { IsSoundSoFar asking.now parts.old pending.old }
     requires fits { Fits (rows_now parts.old.graph) plan.changes }
     requires canon { AllByRecursion (λ n. IsCanonItem n.item) plan.notes }
     ensures told { OnOk result
         (TellsPlan asking.now plan parts.old pending.old parts.new pending.new) }
     ensures steady { OnOk result (IsSteady parts.new.graph parts.new.standing.items) }
-    ensures ready { OnOk result (IsReady asking.now parts.new pending.new) }
-    ensures bare { OnOk result ((n : ℕ) → IsBare n parts.old pending.old
-        → IsBare n parts.new pending.new) }
+    ensures ready { OnOk result (IsSoundSoFar asking.now parts.new pending.new) }
+    ensures bare { OnOk result ((n : ℕ) → HasNoSubscriptions n parts.old pending.old
+        → HasNoSubscriptions n parts.new pending.new) }
     ensures turned { OnOk result (AreTurned parts.old parts.new) }
     ensures kept { OnErr result (AreKept parts.old parts.new) }
 
@@ -87,16 +87,16 @@ pub fn make_kept<L: Ledger>(
     steps: &mut Steps<L>,
 ) -> Result<Made, NoMemory>
     requires steady { IsSteady parts.old.graph parts.old.standing.items }
-    requires ready { IsReady asking.now parts.old pending.old }
+    requires ready { IsSoundSoFar asking.now parts.old pending.old }
     requires fits { Fits (rows_now parts.old.graph) plan.changes }
     requires canon { AllByRecursion (λ n. IsCanonItem n.item) plan.notes }
     ensures told { OnOk result
         (TellsPlan asking.now plan parts.old pending.old parts.new pending.new) }
     ensures steady { OnOk result (IsSteady parts.new.graph parts.new.standing.items) }
-    ensures ready { OnOk result (IsReady asking.now parts.new pending.new) }
-    ensures bare { OnOk result ((n : ℕ) → IsBare n parts.old pending.old
-        → IsBare n parts.new pending.new) }
-    ensures turned { IfOk result (λ made. AreTurnedWith (items_of made.undo.plan.changes)
+    ensures ready { OnOk result (IsSoundSoFar asking.now parts.new pending.new) }
+    ensures bare { OnOk result ((n : ℕ) → HasNoSubscriptions n parts.old pending.old
+        → HasNoSubscriptions n parts.new pending.new) }
+    ensures turned { IfOk result (λ made. AreTurnedWith (items_changed made.undo.plan.changes)
         parts.old parts.new) }
     ensures back { IfOk result (λ made. CanTakeBack made parts.old parts.new) }
     ensures numbers { OnOk result (KeepsNumbers parts.old.graph parts.new.graph) }
@@ -149,7 +149,7 @@ fn tell_parts<L: Ledger>(
     plan: &Plan,
     steps: &mut Steps<L>,
 ) -> Result<Ways, NoMemory>
-    requires ready { IsReady asking.now parts.old pending.old }
+    requires ready { IsSoundSoFar asking.now parts.old pending.old }
     requires change { ShowsAfter (sight_now parts.old.graph) (sight_next parts.old.graph)
         plan.now.changes }
     requires canon { AllByRecursion (λ n. IsCanonItem n.item) plan.now.notes }
@@ -157,11 +157,11 @@ fn tell_parts<L: Ledger>(
         pending.new) }
     ensures ways { IfOk result (λ ways. LeadBack parts.old.standing.items ways
         parts.new.standing.items) }
-    ensures same { AtEach (λ _. Stands HasSameSearch) parts.old.standing.items
+    ensures same { AtEach (λ _. StaysRelated HasSameSearch) parts.old.standing.items
         parts.new.standing.items }
     ensures graph { parts.new.graph ≡ parts.old.graph }
     ensures sessions { HasSameSessions parts.old.sessions parts.new.sessions }
-    ensures err { OnErr result (AtEach (λ _. Stands KeepsSame) parts.old.standing.items
+    ensures err { OnErr result (AtEach (λ _. StaysRelated KeepsSame) parts.old.standing.items
         parts.new.standing.items) }
     ensures steps { IsWithinEach (sight_now parts.old.graph) (sight_next parts.old.graph)
         (zip pending.old.gone.items parts.old.standing.items) steps.old steps.new }
@@ -186,23 +186,23 @@ fn tell_standing<L: Ledger>(
     steps: &mut Steps<L>,
 ) -> Result<Told, NoMemory>
     requires flags { length gone.now ≡ length parts.old.standing.items }
-    requires kept { AllKept (λ x. IsKept (sight_now parts.old.graph) x.subscription) gone.now
+    requires kept { AllKept (λ x. IsUpToDate (sight_now parts.old.graph) x.subscription) gone.now
         parts.old.standing.items }
     requires change { ShowsAfter (sight_now parts.old.graph) (sight_next parts.old.graph)
         plan.now.changes }
     requires canon { AllByRecursion (λ n. IsCanonItem n.item) plan.now.notes }
     ensures graph { parts.new.graph ≡ parts.old.graph }
     ensures sessions { parts.new.sessions ≡ parts.old.sessions }
-    ensures same { AtEach (λ _. Stands HasSameSearch) parts.old.standing.items
+    ensures same { AtEach (λ _. StaysRelated HasSameSearch) parts.old.standing.items
         parts.new.standing.items }
     ensures news { IfOk result (λ told. told.news ≡ news_of_each (rows_now parts.old.graph)
         (rows_next parts.old.graph) plan.now.notes gone.now
         (map standing_of parts.old.standing.items)) }
-    ensures kept { OnOk result (AllKept (λ x. IsKept (sight_next parts.old.graph) x.subscription)
+    ensures kept { OnOk result (AllKept (λ x. IsUpToDate (sight_next parts.old.graph) x.subscription)
         gone.now parts.new.standing.items) }
     ensures ways { IfOk result (λ told. LeadBack parts.old.standing.items told.ways
         parts.new.standing.items) }
-    ensures err { OnErr result (AtEach (λ _. Stands KeepsSame) parts.old.standing.items
+    ensures err { OnErr result (AtEach (λ _. StaysRelated KeepsSame) parts.old.standing.items
         parts.new.standing.items) }
     ensures steps { IsWithinEach (sight_now parts.old.graph) (sight_next parts.old.graph)
         (zip gone.now parts.old.standing.items) steps.old steps.new }
@@ -220,7 +220,7 @@ fn tell_standing<L: Ledger>(
 fn take_back_all(standing: &mut Vec<Standing>, ways: Ways)
     requires { (before : List Standing) × LeadBack before ways standing.old.items }
     ensures { (before : List Standing) → LeadBack before ways standing.old.items
-        → AtEach (λ _. Stands KeepsSame) before standing.new.items }
+        → AtEach (λ _. StaysRelated KeepsSame) before standing.new.items }
 {
     take_back(standing, ways);
 }
@@ -235,13 +235,13 @@ pub fn settle_made(parts: &mut Parts, made: Made)
         → IsSteady parts.old.graph (parts.old.standing.items ++ more)
         → IsSteady parts.new.graph (parts.new.standing.items ++ more) }
     ensures settled { IsSettled parts.old parts.new }
-    ensures ready { (asking : Asking) (pending : Pending) → IsReady asking parts.old pending
-        → IsReady asking parts.new pending }
+    ensures ready { (asking : Asking) (pending : Pending) → IsSoundSoFar asking parts.old pending
+        → IsSoundSoFar asking parts.new pending }
     ensures so_far { (asking : Asking) (pending : Pending) → so_far asking parts.new pending
         ≡ so_far asking parts.old pending }
-    ensures waits { AwaitsLess (items_of made.undo.plan.changes) parts.old.graph
+    ensures waits { AwaitsLess (items_changed made.undo.plan.changes) parts.old.graph
         parts.new.graph }
-    ensures lean { StaysLeanWithout (items_of made.undo.plan.changes) parts.old.graph
+    ensures lean { StaysLeanWithout (items_changed made.undo.plan.changes) parts.old.graph
         parts.new.graph }
 {
     bytes_tell_identifiers_apart();
@@ -257,7 +257,7 @@ pub fn settle_made(parts: &mut Parts, made: Made)
 // Subscriptions leave a change as it is.
 fn settle_all(standing: &mut Vec<Standing>, ways: Ways)
     requires { length ways ≤ length standing.old.items }
-    ensures settled { AtEach (λ i. Stands (the_ways.IsSettled (slice_get ways i)))
+    ensures settled { AtEach (λ i. StaysRelated (the_ways.IsWayGivenUp (slice_get ways i)))
         standing.old.items standing.new.items }
     ensures len { vec_len standing.new ≡ vec_len standing.old }
     ensures capacity { vec_capacity standing.new ≡ vec_capacity standing.old }

@@ -1,14 +1,14 @@
 //! What changes the graph: what is published, and what goes with publishers and sessions.
 ghost use Rattle.std.specs.Prelude.{◌≡◌, ◌∷◌, ℕ, [], IfOk, OnErr, OnOk};
 ghost use Rattle.std.specs.List.{AllByRecursion};
-ghost use Rattle.ifmap_changes.specs.Between.{AreKept, AreTurned, AreTurnedWith, IsBare, IsReady, IsSteady, so_far};
+ghost use Rattle.ifmap_changes.specs.Between.{AreKept, AreTurned, AreTurnedWith, HasNoSubscriptions, IsSoundSoFar, IsSteady, so_far};
 ghost use Rattle.ifmap_changes.specs.Bounds.{IsEndedWithin, IsTakenWithin, IsToldWithin};
-ghost use Rattle.ifmap_changes.specs.Changes.{CanSettle, CanTakeBack, taken_of, taken_one};
+ghost use Rattle.ifmap_changes.specs.Changes.{CanSettle, CanTakeBack, state_taken_from, taken_one};
 ghost use Rattle.ifmap_machine.specs.Telling.{overflow, tell};
 ghost use Rattle.ifmap_publish.specs.Apply.{Authorship, apply};
 ghost use Rattle.ifmap_publish.specs.Notes.{notes_of};
 ghost use Rattle.ifmap_requests.specs.Fit.{IsFitOp};
-ghost use Rattle.ifmap_graph.specs.Out.{items_of};
+ghost use Rattle.ifmap_graph.specs.Out.{items_changed};
 ghost use Rattle.ifmap_graph.specs.Seen.{KeepsNumbers, rows_now};
 
 use crate::asking::Asking;
@@ -40,7 +40,7 @@ pub fn publish<L: Ledger>(
     steps: &mut Steps<L>,
 ) -> Result<(), NoMemory>
     requires steady { IsSteady parts.old.graph parts.old.standing.items }
-    requires ready { IsReady asking.now parts.old pending.old }
+    requires ready { IsSoundSoFar asking.now parts.old pending.old }
     requires fit { AllByRecursion IsFitOp publication.now.ops.now }
     ensures told { let by : Authorship = record {
       client = asking.now.client;
@@ -50,7 +50,7 @@ pub fn publish<L: Ledger>(
         ≡ overflow (tell (apply (rows_now parts.old.graph) by publication.now.ops.now)
         (notes_of by publication.now.ops.now) (so_far asking.now parts.old pending.old))) }
     ensures steady { OnOk result (IsSteady parts.new.graph parts.new.standing.items) }
-    ensures ready { OnOk result (IsReady asking.now parts.new pending.new) }
+    ensures ready { OnOk result (IsSoundSoFar asking.now parts.new pending.new) }
     ensures turned { OnOk result (AreTurned parts.old parts.new) }
     ensures kept { OnErr result (AreKept parts.old parts.new) }
 
@@ -83,13 +83,13 @@ pub fn take_away<L: Ledger>(
     steps: &mut Steps<L>,
 ) -> Result<(), NoMemory>
     requires steady { IsSteady parts.old.graph parts.old.standing.items }
-    requires ready { IsReady asking.now parts.old pending.old }
+    requires ready { IsSoundSoFar asking.now parts.old pending.old }
     ensures told { OnOk result (so_far asking.now parts.new pending.new
-        ≡ taken_of who.now (so_far asking.now parts.old pending.old)) }
+        ≡ state_taken_from who.now (so_far asking.now parts.old pending.old)) }
     ensures steady { OnOk result (IsSteady parts.new.graph parts.new.standing.items) }
-    ensures ready { OnOk result (IsReady asking.now parts.new pending.new) }
-    ensures bare { OnOk result ((n : ℕ) → IsBare n parts.old pending.old
-        → IsBare n parts.new pending.new) }
+    ensures ready { OnOk result (IsSoundSoFar asking.now parts.new pending.new) }
+    ensures bare { OnOk result ((n : ℕ) → HasNoSubscriptions n parts.old pending.old
+        → HasNoSubscriptions n parts.new pending.new) }
     ensures turned { OnOk result (AreTurned parts.old parts.new) }
     ensures kept { OnErr result (AreKept parts.old parts.new) }
 
@@ -113,12 +113,12 @@ pub fn take_away_one<L: Ledger>(
     steps: &mut Steps<L>,
 ) -> Result<(), NoMemory>
     requires steady { IsSteady parts.old.graph parts.old.standing.items }
-    requires ready { IsReady asking.now parts.old pending.old }
+    requires ready { IsSoundSoFar asking.now parts.old pending.old }
     ensures told { OnOk result (so_far asking.now parts.new pending.new
         ≡ taken_one serial (so_far asking.now parts.old pending.old)) }
     ensures steady { OnOk result (IsSteady parts.new.graph parts.new.standing.items) }
-    ensures ready { OnOk result (IsReady asking.now parts.new pending.new) }
-    ensures bare { OnOk result (IsBare serial parts.new pending.new) }
+    ensures ready { OnOk result (IsSoundSoFar asking.now parts.new pending.new) }
+    ensures bare { OnOk result (HasNoSubscriptions serial parts.new pending.new) }
     ensures turned { OnOk result (AreTurned parts.old parts.new) }
     ensures kept { OnErr result (AreKept parts.old parts.new) }
 
@@ -143,12 +143,12 @@ pub fn take_away_kept<L: Ledger>(
     steps: &mut Steps<L>,
 ) -> Result<Made, NoMemory>
     requires steady { IsSteady parts.old.graph parts.old.standing.items }
-    requires ready { IsReady asking.now parts.old pending.old }
+    requires ready { IsSoundSoFar asking.now parts.old pending.old }
     ensures told { OnOk result (so_far asking.now parts.new pending.new
-        ≡ taken_of who.now (so_far asking.now parts.old pending.old)) }
+        ≡ state_taken_from who.now (so_far asking.now parts.old pending.old)) }
     ensures steady { OnOk result (IsSteady parts.new.graph parts.new.standing.items) }
-    ensures ready { OnOk result (IsReady asking.now parts.new pending.new) }
-    ensures turned { IfOk result (λ made. AreTurnedWith (items_of made.undo.plan.changes)
+    ensures ready { OnOk result (IsSoundSoFar asking.now parts.new pending.new) }
+    ensures turned { IfOk result (λ made. AreTurnedWith (items_changed made.undo.plan.changes)
         parts.old parts.new) }
     ensures settle { IfOk result (λ made. CanSettle made parts.new) }
     ensures back { IfOk result (λ made. CanTakeBack made parts.old parts.new) }

@@ -1,7 +1,7 @@
 //! Laws on the parts of the machine: functions that do nothing, whose contracts are the laws.
 ghost use Rattle.std.specs.Prelude.{◌≡◌, ◌≤◌, ℕ, List, Some};
 ghost use Rattle.std.specs.List.{AllByRecursion};
-ghost use Rattle.ifmap_changes.specs.Between.{AreBack, AreParts, HasLiveMarks, IsNumbered, IsSeen, IsSteady, starts_of};
+ghost use Rattle.ifmap_changes.specs.Between.{AreBack, AreParts, HasLiveMarks, HasStartNumber, IsSeen, IsSteady, starts_of};
 ghost use Rattle.ifmap_changes.specs.declared.parts.Parts.{Parts};
 ghost use Rattle.ifmap_graph.specs.Held.{Held, IsOwn};
 ghost use Rattle.ifmap_graph.specs.Seen.{BringsNoNumbers, IsStill, rows_now};
@@ -22,7 +22,7 @@ pub fn held_numbers_stay()
         → BringsNoNumbers old new → key_at old.names v ≡ Some a → IsOwn new a own → 1 ≤ own
         → key_at new.names v ≡ Some a }
     ensures steady { (old new : Held) (standing : List Standing) → IsSeen old
-        → BringsNoNumbers old new → AllByRecursion (IsNumbered old) standing → IsStill new
+        → BringsNoNumbers old new → AllByRecursion (HasStartNumber old) standing → IsStill new
         → AreWhole (rows_now new) → ((a : Identifier) → IsOwn new a (starts_of a standing))
         → IsSteady new standing }
 {

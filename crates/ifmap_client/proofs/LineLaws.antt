@@ -7,7 +7,7 @@ use Rattle.ifmap_elem.specs.declared.readings.Reading.{Reading}
 use Rattle.ifmap_ident.specs.declared.codes.Code.{Code}
 use Rattle.ifmap_reader.specs.Reads.{IsUnreadable}
 use Rattle.ifmap_requests.specs.Laws.{OneRequest}
-use Rattle.ifmap_requests.specs.Means.{Finds, IsRequest, scopes_from}
+use Rattle.ifmap_requests.specs.Means.{IsFoundAtPath, IsRequest, scopes_from}
 use Rattle.ifmap_requests.specs.RequestForms.{request_check}
 use Rattle.ifmap_requests.specs.declared.requests.Request.{Request}
 use Rattle.ifmap_client.specs.Lines.{IsForm, IsLine, IsReadRequest, IsRequestAnswer, NamesSet, OneLine, SpellsRequest, line_levels}
@@ -20,12 +20,12 @@ abbrev pub OneSpelled : Type 0
 OneSpelled = (bytes : List ℕ) (one other : Reading) → Spells bytes one → Spells bytes other → one ≡ other
 
 -- what is found of the root of a reading is found of one element
-pub root_finds : OneRequest → (r : Reading) (one other : Result Request Code) → Finds r [] one → Finds r [] other → one ≡ other
+pub root_finds : OneRequest → (r : Reading) (one other : Result Request Code) → IsFoundAtPath r [] one → IsFoundAtPath r [] other → one ≡ other
 root_finds law r one other l m =
     law (scopes_from r []) l.element one other l.checked
     (subst (λ (e : Element). request_check (scopes_from r []) e other) (m.named ∙ sym l.named) m.checked)
 
-pub defect_is_no_request : OneRequest → (r : Reading) (code : Code) → Finds r [] (Err code) → (request : Request)
+pub defect_is_no_request : OneRequest → (r : Reading) (code : Code) → IsFoundAtPath r [] (Err code) → (request : Request)
     → IsRequest r [] request → ⊥
 defect_is_no_request law r code f request m = let both : Ok request ≡ Err code = root_finds law r (Ok request) (Err code) m f in cc
 

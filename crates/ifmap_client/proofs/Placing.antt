@@ -9,7 +9,7 @@ use Rattle.std.specs.List.{AllByRecursion, filter, remove}
 use Rattle.std.specs.List.Sorted.{IsBinarySearchResult, IsSearchInRange, IsStrictlySortedBy}
 use Rattle.std.specs.Ordering.{eq_by_cmp, is_eq}
 use Rattle.std.specs.declared.cmp.Ordering.TheVariants.{Less, Equal}
-use Rattle.ifmap_client.specs.EntrySets.{IsPlace, without}
+use Rattle.ifmap_client.specs.EntrySets.{IsEntryPlace, without_entry}
 use Rattle.ifmap_folds.specs.Differences.{difference, entry_order, has_entry, same_entry}
 use Rattle.ifmap_lemmas.specs.Filters.{all_at, all_weaker, filter_all, none_dropped}
 use Rattle.ifmap_plans.specs.Placing.{put}
@@ -42,7 +42,7 @@ module _ (X : Type 0) (C : X → X → Ordering) (o : IsTotalOrder C) where
 
 -- where the search for a place ends
 pub placed : (e : Entry) (entries : List Entry) (r : Result ℕ ℕ) → IsStrictlySortedBy entry_order entries
-    → IsSearchInRange r (length entries) → IsBinarySearchResult (λ x. entry_order x e) entries r → IsPlace e entries r
+    → IsSearchInRange r (length entries) → IsBinarySearchResult (λ x. entry_order x e) entries r → IsEntryPlace e entries r
 placed e entries (Ok i) up within is =
     let p = found_is_put Entry entry_order entries_total e entries i up within is in
     (p.0, p.1, remove_equal Entry entry_order entries_total e entries i up within is)
@@ -65,7 +65,7 @@ pub put_rises : (e : Entry) (entries : List Entry) → IsStrictlySortedBy entry_
 put_rises e entries up = put_sorted Entry entry_order entries_total e entries up
 
 pub without_rises : (e : Entry) (entries : List Entry) → IsStrictlySortedBy entry_order entries
-    → IsStrictlySortedBy entry_order (without e entries)
+    → IsStrictlySortedBy entry_order (without_entry e entries)
 without_rises e entries up = IsStrictlySortedBy-filter entry_order (λ x. not (eq_by_cmp entry_order x e)) entries up
 
 filter_both : {X : Type 0} (p q r : X → Bool) → ((x : X) → (p x && q x) ≡ r x) → (xs : List X)
@@ -95,13 +95,13 @@ not_either true b = refl
 not_either false b = refl
 
 -- one taken out, and then the others
-difference_step : (e : Entry) (es entries : List Entry) → difference (without e entries) es ≡ difference entries (e ∷ es)
+difference_step : (e : Entry) (es entries : List Entry) → difference (without_entry e entries) es ≡ difference entries (e ∷ es)
 difference_step e es entries =
     filter_both (λ x. not (eq_by_cmp entry_order x e)) (λ x. not (has_entry es x)) (λ x. not (has_entry (e ∷ es) x))
     (λ x. ap (λ b. not b && not (has_entry es x)) (sym (entries_tie x e)) ∙ not_either (same_entry x e) (has_entry es x)) entries
 
 pub remove_next : (removed : List Entry) (i : ℕ) (e : Entry) (entries all : List Entry) → i < length removed → e ≡ get_or removed i e
-    → difference entries (drop i removed) ≡ all → difference (without e entries) (drop (i + 1) removed) ≡ all
+    → difference entries (drop i removed) ≡ all → difference (without_entry e entries) (drop (i + 1) removed) ≡ all
 remove_next removed i e entries all low at so =
     let front : drop i removed ≡ e ∷ drop (i + 1) removed =
     subst (λ y. drop i removed ≡ y ∷ drop (i + 1) removed) (sym at) (drop_more removed i e low) in

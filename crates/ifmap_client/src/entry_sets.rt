@@ -1,7 +1,7 @@
 //! Entries in their order, each once.
 ghost use Rattle.std.specs.Prelude.{◌≡◌, ◌+◌, ◌≤◌, ◌<◌, [], OnErr, OnOk, IfOk, length, vec_capacity, vec_len};
 ghost use Rattle.std.specs.List.Sorted.{IsStrictlySortedBy};
-ghost use Rattle.ifmap_client.specs.EntrySets.{IsPlace, without};
+ghost use Rattle.ifmap_client.specs.EntrySets.{IsEntryPlace, without_entry};
 ghost use Rattle.ifmap_folds.specs.Differences.{difference, entry_bytes, entry_order};
 ghost use Rattle.ifmap_folds.specs.Folds.{with_entries};
 ghost use Rattle.ifmap_plans.specs.Placing.{put};
@@ -94,7 +94,7 @@ fn bytes_of(entry: &Entry) -> &[u8]
 // Where an entry stands among some that rise, or where it would: it is found by halving.
 fn place_of(set: &[Entry], entry: &Entry) -> Result<usize, usize>
     requires { IsStrictlySortedBy entry_order set.now }
-    ensures { IsPlace entry.now set.now result }
+    ensures { IsEntryPlace entry.now set.now result }
 {
     set.binary_search_by(|other| entry_order(other, entry))
 }
@@ -142,7 +142,7 @@ fn remove_each(set: &mut Vec<Entry>, removed: &[Entry])
 // Takes out the one that equals an entry, if there is one.
 fn remove_entry(set: &mut Vec<Entry>, entry: &Entry)
     requires { IsStrictlySortedBy entry_order set.old.items }
-    ensures { set.new.items ≡ without entry.now set.old.items }
+    ensures { set.new.items ≡ without_entry entry.now set.old.items }
 {
     if let Ok(place) = place_of(set, entry) {
         set.remove(place);

@@ -5,20 +5,20 @@ use Rattle.std.specs.Io.KnownBytes.{Appends}
 use Rattle.std.proofs.Math.Seq.{take-length}
 use Rattle.ifmap_heads.specs.Answers.{ReadsAnswer, answered}
 use Rattle.ifmap_io.specs.Causes.{Rose}
-use Rattle.ifmap_replies.specs.Means.{Means}
+use Rattle.ifmap_replies.specs.Means.{MeansReply}
 use Rattle.ifmap_replies.specs.declared.replies.Reply.{Reply}
 use Rattle.ifmap_requests.specs.declared.requests.Request.{Request}
 use Rattle.ifmap_client_script.specs.declared.exchanges.Caller.{Caller}
 use Rattle.ifmap_client_script.specs.declared.exchanges.Told.{Told}
 use Rattle.ifmap_client_script.specs.declared.outcomes.Stop.{Stop}
 use Rattle.ifmap_client_script.specs.declared.outcomes.Stop.TheVariants as stop
-use Rattle.ifmap_client_script.specs.Exchanges.{AnswersTo, Asks, Breaks, HasAny, HasNoReply, HasPart, Hears, Posts, Reads, Receives, Tells, Unread, Unwritten, Wiring, asked_of, request_post}
+use Rattle.ifmap_client_script.specs.Exchanges.{AnswersTo, AsksOnWire, Breaks, HasAny, HasNoReply, HasPart, Hears, Posts, Reads, Receives, BodyTellsReply, Unread, Unwritten, Wiring, asked_of, request_post}
 use Rattle.ifmap_io.specs.Rises.{keeps_appends}
 
 -- a body that came means no reply
 no_reply : (left after : Option (List ℕ)) (body : List ℕ)
     → IfSome left (λ l. (rest : List ℕ) × (after ≡ Some rest) × ReadsAnswer l (answered body rest))
-    → ((answer : Reply) → Means body answer → ⊥) → IfSome left HasNoReply
+    → ((answer : Reply) → MeansReply body answer → ⊥) → IfSome left HasNoReply
 no_reply None after body came none = tt
 no_reply (Some l) after body came none = inr (inr (body, came.0, came.2, none))
 
@@ -32,7 +32,7 @@ unmeant before after body stop.WriteFault came reads = absurd reads
 unmeant before after body stop.LinkFault came reads = absurd reads
 unmeant before after body stop.LinkEnded came reads = absurd reads
 
-pub hears : (before after : Wiring) (body : List ℕ) (r : Result Told Stop) → Receives before after (Ok body) → Tells body r
+pub hears : (before after : Wiring) (body : List ℕ) (r : Result Told Stop) → Receives before after (Ok body) → BodyTellsReply body r
     → Hears before after r
 hears before after body (Ok told) came tells =
     (subst (λ (b : List ℕ). Receives before after (Ok b)) (sym tells.0) came, tells.1)
@@ -76,7 +76,7 @@ module _ (caller : Caller) (request : Request) (before mid after : Wiring) (unre
   whole_part a =
       (post, (length post, sym (take-length post)), record { posted = held_after post a; answered = any_left before.left })
 
-  pub asks : (r : Result Told Stop) → Appends before.held mid.held post → Hears mid after r → Asks caller request before after r
+  pub asks : (r : Result Told Stop) → Appends before.held mid.held post → Hears mid after r → AsksOnWire caller request before after r
   asks (Ok told) a h = (
     record {
       posted = held_after (post ++ []) (subst (λ (t : List ℕ). Appends before.held mid.held t) (sym (append-nil post)) a);
@@ -97,7 +97,7 @@ module _ (caller : Caller) (request : Request) (before mid after : Wiring) (unre
 
 -- a post that was cut
 pub asks_part : (caller : Caller) (request : Request) (before after : Wiring) (e : Stop)
-    → Posts (request_post caller request) before after (Err e) → Asks caller request before after (Err e)
+    → Posts (request_post caller request) before after (Err e) → AsksOnWire caller request before after (Err e)
 asks_part caller request before after stop.LinkFault p =
     ((take p.0.0 (request_post caller request), (p.0.0, refl), record { posted = p.0.1; answered = any_left before.left }), inr p.1)
 asks_part caller request before after stop.NoMemory p =

@@ -11,8 +11,8 @@ use Rattle.ifmap_client_script.specs.declared.outcomes.Stop.{Stop}
 use Rattle.ifmap_client_script.specs.declared.outcomes.Stop.TheVariants as stop
 use Rattle.ifmap_client_script.specs.declared.scripts.Next.{Next}
 use Rattle.ifmap_client_script.specs.Deeds.{CanDo, Known}
-use Rattle.ifmap_client_script.specs.Pending.{Awaits, IsLineEnd, IsTooLong, Pending}
-use Rattle.ifmap_client_script.specs.Scripts.{BeginsLine, HasNoNewline, IsBadLine, IsWithin}
+use Rattle.ifmap_client_script.specs.Pending.{WaitsForLine, IsLineEnd, IsLineTooLong, Pending}
+use Rattle.ifmap_client_script.specs.Scripts.{BeginsLine, HasNoNewline, IsBadLine, IsWithinLineLimits}
 use Rattle.ifmap_client_script.specs.Turns.{ReadsAt, ReadsNext}
 
 -- the first newline after a text without one is the one that follows it
@@ -51,7 +51,7 @@ module _ (offset : ℕ) (bytes more text rest : List ℕ) (begins : BeginsLine o
       at (inr h) = h
 
 -- the line that ends at the first newline
-pub begins_at : (offset place : ℕ) (bytes : List ℕ) → IsLineEnd bytes place → IsWithin offset place
+pub begins_at : (offset place : ℕ) (bytes : List ℕ) → IsLineEnd bytes place → IsWithinLineLimits offset place
     → BeginsLine offset bytes (take place bytes) (drop (place + 1) bytes)
 begins_at offset place bytes e within =
     let w = e.within in
@@ -79,7 +79,7 @@ bad_at offset place bytes known e none = (
 )
 
 -- a line that is too long
-pub bad_long : (offset : ℕ) (bytes : List ℕ) (known : Known) → IsTooLong offset bytes → IsBadLine offset known bytes
+pub bad_long : (offset : ℕ) (bytes : List ℕ) (known : Known) → IsLineTooLong offset bytes → IsBadLine offset known bytes
 bad_long offset bytes known long = (
   long.some,
   λ more text rest line begins means can.
@@ -101,13 +101,13 @@ bad_long offset bytes known long = (
 -- ---- what reading the next line gives
 
 module _ (left_old left_new : Option (List ℕ)) (offset : ℕ) (old new : Pending) where
-  pub reads_line : (place : ℕ) (r : Result (Option Next) Stop) → Awaits left_old left_new offset old new (Ok (Some place))
+  pub reads_line : (place : ℕ) (r : Result (Option Next) Stop) → WaitsForLine left_old left_new offset old new (Ok (Some place))
       → ReadsAt new.bytes place r → ReadsNext left_old left_new offset old new r
   reads_line place (Ok (Some next)) a reads = (
     a.0,
     record {
       end = subst (λ (n : ℕ). IsLineEnd new.bytes n) (sym reads.0) a.1;
-      within = subst (λ (n : ℕ). IsWithin offset n) (sym reads.0) a.2;
+      within = subst (λ (n : ℕ). IsWithinLineLimits offset n) (sym reads.0) a.2;
       means = subst (λ (n : ℕ). IsLine (take n new.bytes) next.line) (sym reads.0) reads.1;
     },
   )
@@ -122,7 +122,7 @@ module _ (left_old left_new : Option (List ℕ)) (offset : ℕ) (old new : Pendi
   reads_line place (Err stop.LinkEnded) a reads = absurd reads
   reads_line place (Err stop.BadReply) a reads = absurd reads
 
-  pub reads_err : (e : Stop) → Awaits left_old left_new offset old new (Err e) → ReadsNext left_old left_new offset old new (Err e)
+  pub reads_err : (e : Stop) → WaitsForLine left_old left_new offset old new (Err e) → ReadsNext left_old left_new offset old new (Err e)
   reads_err stop.BadLine a = (a.0, λ known. bad_long offset new.bytes known a.1)
   reads_err stop.ReadFault a = a
   reads_err stop.NoMemory a = a

@@ -9,7 +9,7 @@ use Rattle.std.specs.Io.KnownBytes.{Appends, Keeps}
 use Rattle.std.proofs.KnownBytes.{Appends-nil, Keeps-refl}
 use Rattle.ifmap_client.specs.declared.lines.Line.{Line}
 use Rattle.ifmap_client.specs.declared.lines.Line.TheVariants as the_line
-use Rattle.ifmap_replies.specs.Means.{Means}
+use Rattle.ifmap_replies.specs.Means.{MeansReply}
 use Rattle.ifmap_requests.specs.declared.requests.Request.{Request}
 use Rattle.ifmap_client_script.specs.declared.exchanges.Caller.{Caller}
 use Rattle.ifmap_client_script.specs.declared.exchanges.Told.{Told}
@@ -18,19 +18,19 @@ use Rattle.ifmap_client_script.specs.declared.outcomes.Stop.TheVariants as stop
 use Rattle.ifmap_client_script.specs.Deeds.{Known, after_reply, is_poll, request_in}
 use Rattle.ifmap_client_script.specs.Deeds as deed
 use Rattle.ifmap_client_script.specs.Ends.{LinkFailed, Ports}
-use Rattle.ifmap_client_script.specs.Exchanges.{AnswersTo, Asks, Exchanges, HasAny, HasNoReply, HasPart, IsFront, Wiring, asked_of, request_post}
+use Rattle.ifmap_client_script.specs.Exchanges.{AnswersTo, AsksOnWire, HasPostedAndHeard, HasAny, HasNoReply, HasPart, IsFront, Wiring, asked_of, request_post}
 use Rattle.ifmap_client_script.specs.Outlets.{AreUnspent, AsksBy, AsksOver, IsAsked, Prints}
 use Rattle.ifmap_client_script.specs.Printing.{body_text, set_text}
-use Rattle.ifmap_client_script.specs.Promises.{Broken, Cutting, Exchanged, IsWhole}
-use Rattle.ifmap_client_script.specs.Stops.{IsNamed, Sends}
+use Rattle.ifmap_client_script.specs.Promises.{Broken, Cutting, Exchanged, IsWholePost}
+use Rattle.ifmap_client_script.specs.Stops.{IsNamedOrBadLine, SendsText}
 use Rattle.ifmap_client_script.specs.Turns.{CarriesOut, Cut, Unanswered}
 use Rattle.ifmap_io.specs.Rises.{keeps_appends}
 
 -- a wire that is as it was, was asked nothing
 pub exchanges_none : (caller : Caller) (before after : Wiring) → before.spent ≡ false → after ≡ before
-    → Exchanges caller [] before after
+    → HasPostedAndHeard caller [] before after
 exchanges_none caller before after unspent same =
-    subst (λ (w : Wiring). Exchanges caller [] before w) (sym same) (record {
+    subst (λ (w : Wiring). HasPostedAndHeard caller [] before w) (sym same) (record {
       posted = Appends-nil before.held;
       answered = at before.left;
       unspent = unspent;
@@ -41,7 +41,7 @@ exchanges_none caller before after unspent same =
     at (Some l) = (l, refl, refl)
 
 -- a name that was not given
-pub named_exit : {X : Type 0} (o : Option X) (e : Stop) → IsNamed o (Err e)
+pub named_exit : {X : Type 0} (o : Option X) (e : Stop) → IsNamedOrBadLine o (Err e)
     → (e ≡ stop.NoMemory) ⊎ ((o ≡ None) × (e ≡ stop.BadLine))
 named_exit o stop.NoMemory n = inl refl
 named_exit o stop.BadLine n = inr (n, refl)
@@ -68,24 +68,24 @@ same_ports a b held faults first second =
 -- ---- a request
 
 module _ (caller : Caller) (sent : Request) (before after : Ports) (unspent : AreUnspent before) where
-  none_first : after.first ≡ before.first → Exchanges caller [] before.first after.first
+  none_first : after.first ≡ before.first → HasPostedAndHeard caller [] before.first after.first
   none_first same = exchanges_none caller before.first after.first unspent.first same
 
-  none_second : after.second ≡ before.second → Exchanges caller [] before.second after.second
+  none_second : after.second ≡ before.second → HasPostedAndHeard caller [] before.second after.second
   none_second same = exchanges_none caller before.second after.second unspent.second same
 
   -- each wire was asked what it was to be asked
   asked_first : (told : Told) (b : Bool) → AsksBy b caller sent before after (Ok told)
-      → Exchanges caller (if b then [] else asked_of sent told ∷ []) before.first after.first
+      → HasPostedAndHeard caller (if b then [] else asked_of sent told ∷ []) before.first after.first
   asked_first told true w = none_first w.0
   asked_first told false w = w.1.0
 
   asked_second : (told : Told) (b : Bool) → AsksBy b caller sent before after (Ok told)
-      → Exchanges caller (if b then asked_of sent told ∷ [] else []) before.second after.second
+      → HasPostedAndHeard caller (if b then asked_of sent told ∷ [] else []) before.second after.second
   asked_second told true w = w.1.0
   asked_second told false w = none_second w.0
 
-  told_means : (told : Told) (b : Bool) → AsksBy b caller sent before after (Ok told) → Means told.body told.reply
+  told_means : (told : Told) (b : Bool) → AsksBy b caller sent before after (Ok told) → MeansReply told.body told.reply
   told_means told true w = w.1.1
   told_means told false w = w.1.1
 
@@ -115,8 +115,8 @@ module _ (caller : Caller) (sent : Request) (before after : Ports) (unspent : Ar
   bad true w = (none_first w.0, w.1)
   bad false w = (w.1, none_second w.0)
 
-  none_asks : {P : Type 0} (b : Bool) (e : Stop) → (Asks caller sent before.first after.first (Err e) → P)
-      → (Asks caller sent before.second after.second (Err e) → P) → AsksBy b caller sent before after (Err e) → P
+  none_asks : {P : Type 0} (b : Bool) (e : Stop) → (AsksOnWire caller sent before.first after.first (Err e) → P)
+      → (AsksOnWire caller sent before.second after.second (Err e) → P) → AsksBy b caller sent before after (Err e) → P
   none_asks true e one other w = other w.1
   none_asks false e one other w = one w.1
 
@@ -137,8 +137,8 @@ module _ (caller : Caller) (sent : Request) (before after : Ports) (unspent : Ar
           → CarriesOut caller (the_line.Request request) before after known new (Err e)
       unanswered new stop.LinkFault w =
           let p = faulty (is_poll sent) w in (posted IsFront HasAny p.0.0 p.0.1 p.0.2, p.1)
-      unanswered new stop.LinkEnded w = posted IsWhole HasPart (request_post caller sent) refl (ended (is_poll sent) w)
-      unanswered new stop.BadReply w = posted IsWhole HasNoReply (request_post caller sent) refl (bad (is_poll sent) w)
+      unanswered new stop.LinkEnded w = posted IsWholePost HasPart (request_post caller sent) refl (ended (is_poll sent) w)
+      unanswered new stop.BadReply w = posted IsWholePost HasNoReply (request_post caller sent) refl (bad (is_poll sent) w)
       unanswered new stop.NoMemory w =
           let p = cut_off (is_poll sent) w in inr (inl (posted IsFront HasAny p.0 p.1 p.2))
       unanswered new stop.BadLine w = none_asks (is_poll sent) stop.BadLine absurd absurd w
@@ -157,7 +157,7 @@ module _ (caller : Caller) (sent : Request) (before after : Ports) (unspent : Ar
 
       -- a reply was told
       answered : (new : Known) (r : Result (Unit {0}) Stop)
-          → Sends before.held after.held before.write_faults after.write_faults (body_text told.body) r
+          → SendsText before.held after.held before.write_faults after.write_faults (body_text told.body) r
           → OnOk r (new ≡ after_reply told.reply known) → CarriesOut caller (the_line.Request request) before after known new r
       answered new (Ok _) sends is = record {
         deed = deed.asked (asked_of sent told);
@@ -180,7 +180,7 @@ module _ (caller : Caller) (sent : Request) (before after : Ports) (unspent : Ar
 
 -- the wire by the request
 pub by_second : (caller : Caller) (sent : Request) (before after : Ports) (r : Result Told Stop) → is_poll sent ≡ true
-    → Asks caller sent before.second after.second r → after.first ≡ before.first → after.held ≡ before.held
+    → AsksOnWire caller sent before.second after.second r → after.first ≡ before.first → after.held ≡ before.held
     → after.write_faults ≡ before.write_faults → IsAsked caller sent before after r
 by_second caller sent before after r poll asks first held faults = record {
   asks = subst (λ (b : Bool). AsksBy b caller sent before after r) (sym poll) (first, asks);
@@ -189,7 +189,7 @@ by_second caller sent before after r poll asks first held faults = record {
 }
 
 pub by_first : (caller : Caller) (sent : Request) (before after : Ports) (r : Result Told Stop) → is_poll sent ≡ false
-    → Asks caller sent before.first after.first r → after.second ≡ before.second → after.held ≡ before.held
+    → AsksOnWire caller sent before.first after.first r → after.second ≡ before.second → after.held ≡ before.held
     → after.write_faults ≡ before.write_faults → IsAsked caller sent before after r
 by_first caller sent before after r other asks second held faults = record {
   asks = subst (λ (b : Bool). AsksBy b caller sent before after r) (sym other) (second, asks);
@@ -199,7 +199,7 @@ by_first caller sent before after r other asks second held faults = record {
 
 -- no request was sent
 pub over_none : (caller : Caller) (request : Request) (known : Known) (before : Ports) (e : Stop)
-    → IsNamed (request_in known.session request) (Err e) → AsksOver caller request known before before (Err e)
+    → IsNamedOrBadLine (request_in known.session request) (Err e) → AsksOver caller request known before before (Err e)
 over_none caller request known before e n = at (named_exit (request_in known.session request) e n)
   where
     at : (e ≡ stop.NoMemory) ⊎ ((request_in known.session request ≡ None) × (e ≡ stop.BadLine))
@@ -223,8 +223,8 @@ module _ (caller : Caller) (request : Request) (known : Known) (before mid : Por
         → CarriesOut caller (the_line.Request request) before joined known new r
     sent_printed sent named a =
         answered caller sent before joined unspent known request named told (joined_asks sent (is_poll sent) a.asks) new r
-        (subst (λ (n : ℕ). Sends before.held after.held n after.write_faults (body_text told.body) r) a.write_faults
-        (subst (λ (h : Option (List ℕ)). Sends h after.held mid.write_faults after.write_faults (body_text told.body) r) a.held
+        (subst (λ (n : ℕ). SendsText before.held after.held n after.write_faults (body_text told.body) r) a.write_faults
+        (subst (λ (h : Option (List ℕ)). SendsText h after.held mid.write_faults after.write_faults (body_text told.body) r) a.held
         prints.sends)) is
 
     pub request_told : AsksOver caller request known before mid (Ok told)
@@ -284,7 +284,7 @@ module _ (caller : Caller) (known : Known) (before : Ports) (unspent : AreUnspen
     }
 
     set_sent : (r : Result (Unit {0}) Stop)
-        → Sends before.held after.held before.write_faults after.write_faults (set_text (known.sets name)) r
+        → SendsText before.held after.held before.write_faults after.write_faults (set_text (known.sets name)) r
         → CarriesOut caller (the_line.Set name) before after known known r
     set_sent (Ok _) sends = record {
       deed = deed.printed name;

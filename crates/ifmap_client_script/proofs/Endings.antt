@@ -11,14 +11,14 @@ use Rattle.ifmap_client_script.specs.declared.outcomes.Outcome.TheVariants as ou
 use Rattle.ifmap_client_script.specs.declared.outcomes.Stop.{Stop}
 use Rattle.ifmap_client_script.specs.declared.outcomes.Stop.TheVariants as stop
 use Rattle.ifmap_client_script.specs.Deeds.{Deed, Does, Known, after_deed, nothing_known, request_in}
-use Rattle.ifmap_client_script.specs.Ends.{ArePortsLater, Ends, IsLater, IsLaterWire, LinkFailed, Ports}
+use Rattle.ifmap_client_script.specs.Ends.{ArePortsLater, SourceAndPorts, IsLaterInRun, IsLaterWire, LinkFailed, Ports}
 use Rattle.ifmap_client_script.specs.Exchanges.{HasAny, HasNoReply, HasPart, IsFront, WireFailed, Wiring}
 use Rattle.ifmap_client_script.specs.Holding.{known_of}
 use Rattle.ifmap_client_script.specs.Pending.{Fetches, Pending, nothing_taken}
-use Rattle.ifmap_client_script.specs.Promises.{Cutting, Did, IsCarriedOut, IsFaulty, IsLost, IsUnanswered, IsUnread, IsUnwritten, IsWhole, Posted, Promises, Takes, Wrote, known_after}
+use Rattle.ifmap_client_script.specs.Promises.{Cutting, Did, IsCarriedOut, IsFaulty, IsLost, IsUnanswered, IsUnread, IsUnwritten, IsWholePost, Posted, ScriptPromises, Takes, Wrote, known_after}
 use Rattle.ifmap_client_script.specs.Scripts.{IsBadLine, longest_script}
 use Rattle.ifmap_client_script.specs.Stops.{outcome_of}
-use Rattle.ifmap_client_script.specs.Turns.{IsAtFault, IsBeginning, IsCutShort, IsDue, IsIdle, IsLeft, IsOver, Scripting, TakesLine, Turns, TurnsOn}
+use Rattle.ifmap_client_script.specs.Turns.{IsAtFault, IsBeginning, IsCutShort, IsDue, IsIdle, IsLeft, IsOver, Scripting, TakesLine, IsScriptTurn, TurnsOn}
 use Rattle.ifmap_client_script.proofs.Carrying.{exchanges_none}
 use Rattle.ifmap_client_script.proofs.Progress.{known_snoc}
 use Rattle.ifmap_client_script.proofs.Steps.{Fetched, cut_then, did_then, fetch, pass, posted_then, script_of, script_still}
@@ -44,7 +44,7 @@ later_ports a b c one other =
       second = later_wire a.second b.second c.second one.second other.second;
     }
 
-pub later_ends : (a b c : Ends) → IsLater a b → IsLater b c → IsLater a c
+pub later_ends : (a b c : SourceAndPorts) → IsLaterInRun a b → IsLaterInRun b c → IsLaterInRun a c
 later_ends a b c one other =
     let p = one.read in
     let q = other.read in
@@ -53,7 +53,7 @@ later_ends a b c one other =
 same_wire : (a : Wiring) → IsLaterWire a a
 same_wire a = record { read = omega arith; write = omega arith }
 
-pub same_ends : (a : Ends) → IsLater a a
+pub same_ends : (a : SourceAndPorts) → IsLaterInRun a a
 same_ends a = record {
   read = omega arith;
   ports = record { write = omega arith; first = same_wire a.ports.first; second = same_wire a.ports.second };
@@ -69,13 +69,13 @@ link_failed a b c later (inr failed) = inr (wire_failed a.second b.second c.seco
 
 -- ---- how far a script is
 
-pub record Reached (caller : Caller) (before now : Ends) (script : Scripting) : Type 0 where
+pub record Reached (caller : Caller) (before now : SourceAndPorts) (script : Scripting) : Type 0 where
   pub deeds : List Deed
   pub fetched : Fetched before.left now.left script.offset deeds script.pending
   pub known : known_of script.client ≡ known_after deeds
   pub line_is : script.line ≡ length deeds + 1
   pub did : Did caller before.ports now.ports nothing_known deeds
-  pub later : IsLater before now
+  pub later : IsLaterInRun before now
 
 nothing_fetched : (left : Option (List ℕ)) → Fetched left left 0 [] nothing_taken
 nothing_fetched left =
@@ -91,7 +91,7 @@ nothing_did caller ports first second = record {
   };
 }
 
-pub begin : (caller : Caller) (before : Ends) (script : Scripting) → IsBeginning script → before.ports.first.spent ≡ false
+pub begin : (caller : Caller) (before : SourceAndPorts) (script : Scripting) → IsBeginning script → before.ports.first.spent ≡ false
     → before.ports.second.spent ≡ false → Reached caller before before script
 begin caller before script is first second = record {
   deeds = [];
@@ -104,8 +104,8 @@ begin caller before script is first second = record {
 }
 
 -- nothing was begun
-none_begun : (caller : Caller) (before : Ends) → before.ports.first.spent ≡ false → before.ports.second.spent ≡ false
-    → Promises caller before before outcome.NoMemory
+none_begun : (caller : Caller) (before : SourceAndPorts) → before.ports.first.spent ≡ false → before.ports.second.spent ≡ false
+    → ScriptPromises caller before before outcome.NoMemory
 none_begun caller before first second = inl (record {
   deeds = [];
   rest = [];
@@ -118,11 +118,11 @@ none_begun caller before first second = inl (record {
   did = nothing_did caller before.ports first second;
 })
 
-pub not_begun : (caller : Caller) (before : Ends) → before.ports.first.spent ≡ false → before.ports.second.spent ≡ false
+pub not_begun : (caller : Caller) (before : SourceAndPorts) → before.ports.first.spent ≡ false → before.ports.second.spent ≡ false
     → IsCarriedOut caller before before outcome.NoMemory
 not_begun caller before first second = record { promises = none_begun caller before first second; later = same_ends before }
 
-module _ (caller : Caller) (before now after : Ends) (old : Scripting) (r : Reached caller before now old) where
+module _ (caller : Caller) (before now after : SourceAndPorts) (old : Scripting) (r : Reached caller before now old) where
   fetched_more : (pending : Pending) → Fetches now.left after.left old.pending pending
       → Fetched before.left after.left old.offset r.deeds pending
   fetched_more pending more = fetch before.left now.left after.left old.offset r.deeds old.pending pending r.fetched more
@@ -149,7 +149,7 @@ module _ (caller : Caller) (before now after : Ends) (old : Scripting) (r : Reac
   did_still kept = subst (λ (p : Ports). Did caller before.ports p nothing_known r.deeds) (sym kept) r.did
 
   -- one more line
-  pub next : (new : Scripting) → IsLater now after → TurnsOn caller now after old new → Reached caller before after new
+  pub next : (new : Scripting) → IsLaterInRun now after → TurnsOn caller now after old new → Reached caller before after new
   next new later t =
       let d = t.carried.deed in
       record {
@@ -167,7 +167,7 @@ module _ (caller : Caller) (before now after : Ends) (old : Scripting) (r : Reac
 
   -- ---- the ways to end
 
-  pub done : IsOver caller now after old → Promises caller before after outcome.Done
+  pub done : IsOver caller now after old → ScriptPromises caller before after outcome.Done
   done t =
       let f = fetched_more (record { bytes = []; ended = true }) t.fetched in
       record {
@@ -250,13 +250,13 @@ module _ (caller : Caller) (before now after : Ends) (old : Scripting) (r : Reac
   }
 
   no_memory : (IsIdle caller now after old ⊎ (IsLeft caller now after old IsFront HasAny ⊎ IsCutShort caller now after old))
-      → Promises caller before after outcome.NoMemory
+      → ScriptPromises caller before after outcome.NoMemory
   no_memory (inl t) = inl (lost t)
   no_memory (inr (inl t)) = inr (inl (old.line, unanswered IsFront HasAny t))
   no_memory (inr (inr t)) = inr (inr (unwritten t))
 
-  ends_by : (new : Scripting) (e : Stop) → Turns caller now after old new (Err e)
-      → Promises caller before after (outcome_of e old.line)
+  ends_by : (new : Scripting) (e : Stop) → IsScriptTurn caller now after old new (Err e)
+      → ScriptPromises caller before after (outcome_of e old.line)
   ends_by new stop.BadLine t = faulty t
   ends_by new stop.ReadFault t =
       (unread t.0, rose_since before.read_faults now.read_faults after.read_faults r.later.read t.1)
@@ -264,17 +264,17 @@ module _ (caller : Caller) (before now after : Ends) (old : Scripting) (r : Reac
       (unwritten t.0, rose_since before.ports.write_faults now.ports.write_faults after.ports.write_faults r.later.ports.write t.1)
   ends_by new stop.LinkFault t =
       ((old.line, unanswered IsFront HasAny t.0), link_failed before.ports now.ports after.ports r.later.ports t.1)
-  ends_by new stop.LinkEnded t = unanswered IsWhole HasPart t
-  ends_by new stop.BadReply t = unanswered IsWhole HasNoReply t
+  ends_by new stop.LinkEnded t = unanswered IsWholePost HasPart t
+  ends_by new stop.BadReply t = unanswered IsWholePost HasNoReply t
   ends_by new stop.NoMemory t = no_memory t
 
   pub ends_with : (new : Scripting) (e : Stop) (line : ℕ) (told : Outcome) → told ≡ outcome_of e line → line ≡ old.line
-      → Turns caller now after old new (Err e) → Promises caller before after told
+      → IsScriptTurn caller now after old new (Err e) → ScriptPromises caller before after told
   ends_with new e line told is same t =
-      subst (λ (o : Outcome). Promises caller before after o) (sym (is ∙ ap (λ (n : ℕ). outcome_of e n) same)) (ends_by new e t)
+      subst (λ (o : Outcome). ScriptPromises caller before after o) (sym (is ∙ ap (λ (n : ℕ). outcome_of e n) same)) (ends_by new e t)
 
 -- the next line begins later
-pub nearer : (caller : Caller) (now after : Ends) (old new : Scripting) → TurnsOn caller now after old new
+pub nearer : (caller : Caller) (now after : SourceAndPorts) (old new : Scripting) → TurnsOn caller now after old new
     → longest_script + 1 - new.offset < longest_script + 1 - old.offset
 nearer caller now after old new t =
     let a = t.takes.begins.ends in

@@ -6,7 +6,7 @@ use Rattle.std.proofs.Math.Seq.{take-append-add}
 use Rattle.std.proofs.lemmas.List.{take-append-le, take_min}
 use Rattle.std.specs.Io.KnownBytes.{Appends, Keeps}
 use Rattle.ifmap_io.specs.Causes.{Rose}
-use Rattle.ifmap_client_script.specs.Stops.{Sends, Writes}
+use Rattle.ifmap_client_script.specs.Stops.{SendsText, WritesText}
 use Rattle.ifmap_client_script.specs.declared.outcomes.Stop.{Stop}
 use Rattle.ifmap_client_script.specs.declared.outcomes.Stop.TheVariants as stop
 use Rattle.ifmap_io.specs.Rises.{rose_since, keeps_appends}
@@ -23,7 +23,7 @@ front_of a b n = take-append-le (min n (length a)) a b (omega arith) ∙ take_mi
 
 -- where the first of two texts was cut, both were
 pub cut_first : (old new : Option (List ℕ)) (before after : ℕ) (a b : List ℕ) (e : Stop)
-    → Writes old new before after a (Err e) → Writes old new before after (a ++ b) (Err e)
+    → WritesText old new before after a (Err e) → WritesText old new before after (a ++ b) (Err e)
 cut_first old new before after a b stop.WriteFault w =
     ((min w.0.0 (length a), subst (Appends old new) (sym (front_of a b w.0.0)) w.0.1), w.1)
 cut_first old new before after a b stop.BadLine w = absurd w
@@ -35,7 +35,7 @@ cut_first old new before after a b stop.NoMemory w = absurd w
 
 -- the second is written after the first
 pub then_second : (old mid new : Option (List ℕ)) (before between after : ℕ) (a b : List ℕ) (r : Result (Unit {0}) Stop)
-    → Appends old mid a → before ≤ between → Writes mid new between after b r → Writes old new before after (a ++ b) r
+    → Appends old mid a → before ≤ between → WritesText mid new between after b r → WritesText old new before after (a ++ b) r
 then_second old mid new before between after a b (Ok _) first later second = Appends-trans old mid new a b first second
 then_second old mid new before between after a b (Err stop.WriteFault) first later second = (
   (
@@ -53,7 +53,7 @@ then_second old mid new before between after a b (Err stop.NoMemory) first later
 
 -- what is written is sent
 pub sends : (old new : Option (List ℕ)) (before after : ℕ) (text : List ℕ) (r : Result (Unit {0}) Stop)
-    → Writes old new before after text r → Sends old new before after text r
+    → WritesText old new before after text r → SendsText old new before after text r
 sends old new before after text (Ok _) w = w
 sends old new before after text (Err stop.WriteFault) w = w
 sends old new before after text (Err stop.BadLine) w = absurd w
@@ -65,7 +65,7 @@ sends old new before after text (Err stop.NoMemory) w = absurd w
 
 -- what is written is handed on
 pub handed_on : (old mid new : Option (List ℕ)) (before between after : ℕ) (text : List ℕ) (r : Result (Unit {0}) Stop)
-    → Appends old mid text → before ≤ between → Writes mid new between after [] r → Writes old new before after text r
+    → Appends old mid text → before ≤ between → WritesText mid new between after [] r → WritesText old new before after text r
 handed_on old mid new before between after text r first later second =
-    subst (λ (t : List ℕ). Writes old new before after t r) (append-nil text)
+    subst (λ (t : List ℕ). WritesText old new before after t r) (append-nil text)
     (then_second old mid new before between after text [] r first later second)

@@ -12,28 +12,28 @@ use Rattle.ifmap_requests.specs.declared.requests.Request.{Request}
 use Rattle.ifmap_client_script.specs.declared.exchanges.Caller.{Caller}
 use Rattle.ifmap_client_script.specs.Deeds.{Asked, Deed, Does, Known, after_deed, after_deeds, is_poll, nothing_known}
 use Rattle.ifmap_client_script.specs.Ends.{Ports}
-use Rattle.ifmap_client_script.specs.Exchanges.{Exchanges, over_first, over_second}
+use Rattle.ifmap_client_script.specs.Exchanges.{HasPostedAndHeard, over_first, over_second}
 use Rattle.ifmap_client_script.specs.Pending.{Fetches, Pending, with_bytes, with_last_newline}
 use Rattle.ifmap_client_script.specs.Printing.{deed_text, deeds_text}
 use Rattle.ifmap_client_script.specs.Promises.{Broken, Cutting, Did, Exchanged, Posted, Wrote}
-use Rattle.ifmap_client_script.specs.Scripts.{BeginsLine, Carries, HasNoNewline, IsScript}
+use Rattle.ifmap_client_script.specs.Scripts.{BeginsLine, Carries, HasNoNewline, IsTakenScript}
 use Rattle.ifmap_client_script.proofs.Progress.{breaks_then, carries_more, carries_then, exchanges_then, over_first-append, over_second-append, written_snoc}
 
 -- what was taken is this script so far: all of it once the source has told its end
 abbrev pub Scripted : Bool → Option (List ℕ) → List ℕ → List ℕ → Type 0
 Scripted false left taken script = script ≡ taken
-Scripted true left taken script = IsScript left taken script × IsAtEnd left
+Scripted true left taken script = IsTakenScript left taken script × IsAtEnd left
 
 pub script_of : (ended : Bool) (left : Option (List ℕ)) (taken script : List ℕ) → Scripted ended left taken script
-    → IsScript left taken script
+    → IsTakenScript left taken script
 script_of false left taken script s = inl s
 script_of true left taken script s = s.0
 
 -- also where nothing was taken since
 pub script_still : (ended : Bool) (left new : Option (List ℕ)) (taken script : List ℕ) → Scripted ended left taken script
-    → (ended ≡ true → new ≡ left) → IsScript new taken script
+    → (ended ≡ true → new ≡ left) → IsTakenScript new taken script
 script_still false left new taken script s still = inl s
-script_still true left new taken script s still = subst (λ (l : Option (List ℕ)). IsScript l taken script) (sym (still refl)) s.0
+script_still true left new taken script s still = subst (λ (l : Option (List ℕ)). IsTakenScript l taken script) (sym (still refl)) s.0
 
 -- what is pending is what these deeds left of a script that was taken
 pub record Fetched (start left : Option (List ℕ)) (offset : ℕ) (deeds : List Deed) (pending : Pending) : Type 0 where
@@ -173,9 +173,9 @@ module _ (caller : Caller) (before mid after : Ports) (deeds : List Deed) (known
   exchanged_then : (more : List Deed) → Exchanged caller before mid deeds → Exchanged caller mid after more
       → Exchanged caller before after (deeds ++ more)
   exchanged_then more one other = record {
-    first = subst (λ (l : List Asked). Exchanges caller l before.first after.first) (sym (over_first-append deeds more))
+    first = subst (λ (l : List Asked). HasPostedAndHeard caller l before.first after.first) (sym (over_first-append deeds more))
         (exchanges_then caller (over_first deeds) before.first mid.first after.first one.first (over_first more) other.first);
-    second = subst (λ (l : List Asked). Exchanges caller l before.second after.second) (sym (over_second-append deeds more))
+    second = subst (λ (l : List Asked). HasPostedAndHeard caller l before.second after.second) (sym (over_second-append deeds more))
         (exchanges_then caller (over_second deeds) before.second mid.second after.second one.second (over_second more) other.second);
   }
 
@@ -202,13 +202,13 @@ module _ (caller : Caller) (before mid after : Ports) (deeds : List Deed) (known
   broken_then : (b : Bool) (post : List ℕ) (Has : List ℕ → Type 0) → Exchanged caller before mid deeds
       → Broken caller mid after b [] post Has → Broken caller before after b deeds post Has
   broken_then true post Has one other = (
-    subst (λ (l : List Asked). Exchanges caller l before.first after.first) (append-nil (over_first deeds))
+    subst (λ (l : List Asked). HasPostedAndHeard caller l before.first after.first) (append-nil (over_first deeds))
         (exchanges_then caller (over_first deeds) before.first mid.first after.first one.first [] other.0),
     breaks_then caller (over_second deeds) before.second mid.second after.second one.second post Has other.1,
   )
   broken_then false post Has one other = (
     breaks_then caller (over_first deeds) before.first mid.first after.first one.first post Has other.0,
-    subst (λ (l : List Asked). Exchanges caller l before.second after.second) (append-nil (over_second deeds))
+    subst (λ (l : List Asked). HasPostedAndHeard caller l before.second after.second) (append-nil (over_second deeds))
         (exchanges_then caller (over_second deeds) before.second mid.second after.second one.second [] other.1),
   )
 

@@ -13,11 +13,11 @@ use Rattle.ifmap_client_script.specs.declared.scripts.Next.{Next}
 use Rattle.ifmap_client_script.specs.declared.scripts.Turn.{Turn}
 use Rattle.ifmap_client_script.specs.declared.scripts.Turn.TheVariants as turn
 use Rattle.ifmap_client_script.specs.Deeds.{CanDo}
-use Rattle.ifmap_client_script.specs.Ends.{Ends, Ports, ends}
+use Rattle.ifmap_client_script.specs.Ends.{SourceAndPorts, Ports, source_and_ports}
 use Rattle.ifmap_client_script.specs.Exchanges.{HasAny, IsFront}
 use Rattle.ifmap_client_script.specs.Holding.{known_of}
 use Rattle.ifmap_client_script.specs.Pending.{Fetches, Pending}
-use Rattle.ifmap_client_script.specs.Turns.{Cut, DoesNext, IsNext, ReadsNext, Scripting, TakesLine, Turns, Unanswered}
+use Rattle.ifmap_client_script.specs.Turns.{Cut, DoesNext, IsNextLine, ReadsNext, Scripting, TakesLine, IsScriptTurn, Unanswered}
 use Rattle.ifmap_client_script.proofs.Beginnings.{bad_at, begins_at}
 
 -- the script with what is pending now
@@ -26,14 +26,14 @@ at_pending old pending = record { client = old.client; pending = pending; offset
 
 module _ (caller : Caller) (left left_new : Option (List ℕ)) (faults faults_new : ℕ) (before after : Ports) (old new : Scripting)
     (pending : Pending) where
-  abbrev from_ends : Ends
-  from_ends = ends left faults before
+  abbrev from_ends : SourceAndPorts
+  from_ends = source_and_ports left faults before
 
-  abbrev to_ends : Ends
-  to_ends = ends left_new faults_new after
+  abbrev to_ends : SourceAndPorts
+  to_ends = source_and_ports left_new faults_new after
 
   module _ (next : Next) (one : OneLine) (read : ReadsNext left left_new old.offset old.pending pending (Ok (Some next))) where
-    is_next : IsNext old.offset pending.bytes next
+    is_next : IsNextLine old.offset pending.bytes next
     is_next = read.1
 
     takes : TakesLine from_ends to_ends old next.line
@@ -52,14 +52,14 @@ module _ (caller : Caller) (left left_new : Option (List ℕ)) (faults faults_ne
     memory : ((after ≡ before)
         ⊎ (Unanswered caller next.line before after (known_of old.client) IsFront HasAny
         ⊎ Cut caller next.line before after (known_of old.client)))
-        → Turns caller from_ends to_ends old new (Err stop.NoMemory)
+        → IsScriptTurn caller from_ends to_ends old new (Err stop.NoMemory)
     memory (inl same) =
         inl (record { lost = record { got = read.0.got; consumed = read.0.consumed; idle = λ e. (read.0.idle e).1 }; kept = same })
     memory (inr (inl u)) = inr (inl (record { line = next.line; takes = takes; unanswered = u }))
     memory (inr (inr c)) = inr (inr (record { line = next.line; takes = takes; cut = c }))
 
     pub turned : (r : Result Turn Stop) → DoesNext caller next before after (at_pending old pending) new r
-        → Turns caller from_ends to_ends old new r
+        → IsScriptTurn caller from_ends to_ends old new r
     unfolding takes
     turned (Ok turn.Carried) d = record {
       line = next.line;
@@ -88,12 +88,12 @@ module _ (caller : Caller) (left left_new : Option (List ℕ)) (faults faults_ne
 module _ (caller : Caller) (left left_new : Option (List ℕ)) (faults faults_new : ℕ) (ports : Ports) (old new : Scripting)
     (pending : Pending) where
   pub turned_end : ReadsNext left left_new old.offset old.pending pending (Ok None)
-      → Turns caller (ends left faults ports) (ends left_new faults_new ports) old new (Ok turn.Ended)
+      → IsScriptTurn caller (source_and_ports left faults ports) (source_and_ports left_new faults_new ports) old new (Ok turn.Ended)
   turned_end read = record { fetched = subst (λ (p : Pending). Fetches left left_new old.pending p) read.1 read.0; kept = refl }
 
   pub turned_err : (e : Stop) → ReadsNext left left_new old.offset old.pending pending (Err e)
       → (e ≡ stop.ReadFault → Rose faults faults_new)
-      → Turns caller (ends left faults ports) (ends left_new faults_new ports) old new (Err e)
+      → IsScriptTurn caller (source_and_ports left faults ports) (source_and_ports left_new faults_new ports) old new (Err e)
   turned_err stop.BadLine read rose =
       record { pending = pending; fetched = read.0; fault = read.1 (known_of old.client); kept = refl }
   turned_err stop.ReadFault read rose =

@@ -10,7 +10,7 @@ use Rattle.std.proofs.KnownBytes.{Consumes-nil, Consumes-trans}
 use Rattle.ifmap_client.specs.Lines.{line_limit}
 use Rattle.ifmap_client_script.specs.declared.outcomes.Stop.{Stop}
 use Rattle.ifmap_client_script.specs.declared.outcomes.Stop.TheVariants as stop
-use Rattle.ifmap_client_script.specs.Pending.{Awaits, Fetches, Fills, Gathers, IsClosed, IsReady, IsTooLong, IsWaiting, Looks, Pending, with_bytes, with_last_newline}
+use Rattle.ifmap_client_script.specs.Pending.{WaitsForLine, Fetches, Fills, Gathers, IsClosed, IsGathered, IsLineTooLong, IsWaiting, Looks, Pending, with_bytes, with_last_newline}
 use Rattle.ifmap_client_script.specs.Scripts.{AwaitsLine, HasNoNewline}
 
 -- ---- looking
@@ -19,8 +19,8 @@ below : (bytes : List ℕ) → bytes ≢ [] → length bytes - 1 < length bytes
 below [] some = absurd (some refl)
 below (b ∷ bytes) some = omega arith
 
-pub too_long : (offset : ℕ) (pending : Pending) → IsReady offset pending → IsClosed pending → pending.bytes ≢ []
-    → HasNoNewline pending.bytes → IsTooLong offset pending.bytes
+pub too_long : (offset : ℕ) (pending : Pending) → IsGathered offset pending → IsClosed pending → pending.bytes ≢ []
+    → HasNoNewline pending.bytes → IsLineTooLong offset pending.bytes
 too_long offset pending (inl ended) shut some plain =
     absurd (plain (length pending.bytes - 1) (below pending.bytes some) (shut ended some))
 too_long offset pending (inr over) shut some plain = record {
@@ -192,7 +192,7 @@ module _ (left_old left_mid left_new : Option (List ℕ)) (offset : ℕ) (old mi
 -- ---- a line
 
 pub awaits_err : (left_old left_new : Option (List ℕ)) (offset : ℕ) (old new : Pending) (e : Stop)
-    → Gathers left_old left_new offset old new (Err e) → Awaits left_old left_new offset old new (Err e)
+    → Gathers left_old left_new offset old new (Err e) → WaitsForLine left_old left_new offset old new (Err e)
 awaits_err left_old left_new offset old new stop.ReadFault g = g
 awaits_err left_old left_new offset old new stop.NoMemory g = g
 awaits_err left_old left_new offset old new stop.BadLine g = absurd g
@@ -202,7 +202,7 @@ awaits_err left_old left_new offset old new stop.LinkEnded g = absurd g
 awaits_err left_old left_new offset old new stop.BadReply g = absurd g
 
 pub looked : (left_old left_new : Option (List ℕ)) (offset : ℕ) (old new : Pending) (r : Result (Option ℕ) Stop)
-    → Fetches left_old left_new old new → Looks offset new r → Awaits left_old left_new offset old new r
+    → Fetches left_old left_new old new → Looks offset new r → WaitsForLine left_old left_new offset old new r
 looked left_old left_new offset old new (Ok (Some place)) f l = (f, l.0, l.1)
 looked left_old left_new offset old new (Ok None) f l = (f, l)
 looked left_old left_new offset old new (Err stop.BadLine) f l = (f, l)

@@ -6,7 +6,7 @@ use Rattle.ifmap_client.specs.declared.lines.Line.TheVariants as the_line
 use Rattle.ifmap_folds.specs.Folds.{Sets, fold_items, no_sets}
 use Rattle.ifmap_replies.specs.declared.replies.Reply.{Reply}
 use Rattle.ifmap_replies.specs.declared.replies.Reply.TheVariants as reply
-use Rattle.ifmap_replies.specs.Means.{Means}
+use Rattle.ifmap_replies.specs.Means.{MeansReply}
 use Rattle.ifmap_requests.specs.declared.requests.Request.{Request}
 use Rattle.ifmap_requests.specs.declared.requests.Request.TheVariants as request
 
@@ -77,7 +77,7 @@ Does known the_line.Blank passed = Unit {0}
 Does known the_line.Blank (asked a) = ⊥
 Does known the_line.Blank (printed name) = ⊥
 Does known (the_line.Request r) passed = ⊥
-Does known (the_line.Request r) (asked a) = (request_in known.session r ≡ Some a.request) × Means a.body a.answer
+Does known (the_line.Request r) (asked a) = (request_in known.session r ≡ Some a.request) × MeansReply a.body a.answer
 Does known (the_line.Request r) (printed name) = ⊥
 Does known (the_line.Set wanted) passed = ⊥
 Does known (the_line.Set wanted) (asked a) = ⊥

@@ -14,13 +14,13 @@ abbrev pub ports : Option (List ℕ) → ℕ → Wiring → Wiring → Ports
 ports held write_faults first second = record { held = held; write_faults = write_faults; first = first; second = second }
 
 -- what the source has left, where it is told, how often it has failed, and what is written to
-pub record Ends : Type 0 where
+pub record SourceAndPorts : Type 0 where
   pub left : Option (List ℕ)
   pub read_faults : ℕ
   pub ports : Ports
 
-abbrev pub ends : Option (List ℕ) → ℕ → Ports → Ends
-ends left read_faults ports = record { left = left; read_faults = read_faults; ports = ports }
+abbrev pub source_and_ports : Option (List ℕ) → ℕ → Ports → SourceAndPorts
+source_and_ports left read_faults ports = record { left = left; read_faults = read_faults; ports = ports }
 
 -- no count of a wire's link has fallen
 pub record IsLaterWire (before after : Wiring) : Type 0 where
@@ -33,12 +33,12 @@ pub record ArePortsLater (before after : Ports) : Type 0 where
   pub second : IsLaterWire before.second after.second
 
 -- no count of faults has fallen
-pub record IsLater (before after : Ends) : Type 0 where
+pub record IsLaterInRun (before after : SourceAndPorts) : Type 0 where
   pub read : before.read_faults ≤ after.read_faults
   pub ports : ArePortsLater before.ports after.ports
 
 -- a read of the script has failed
-abbrev pub ReadFailed : Ends → Ends → Type 0
+abbrev pub ReadFailed : SourceAndPorts → SourceAndPorts → Type 0
 ReadFailed before after = Rose before.read_faults after.read_faults
 
 -- a write of what is printed has failed

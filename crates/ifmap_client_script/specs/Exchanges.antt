@@ -7,7 +7,7 @@ use Rattle.ifmap_heads.specs.Messages.{post_bytes}
 use Rattle.ifmap_http.specs.Wires.{Wired}
 use Rattle.ifmap_io.specs.Causes.{Rose}
 use Rattle.ifmap_replies.specs.declared.replies.Reply.{Reply}
-use Rattle.ifmap_replies.specs.Means.{Means}
+use Rattle.ifmap_replies.specs.Means.{MeansReply}
 use Rattle.ifmap_requests.specs.declared.requests.Request.{Request}
 use Rattle.ifmap_writing.specs.RequestElements.{request_bytes}
 use Rattle.ifmap_client_script.specs.declared.exchanges.Caller.{Caller}
@@ -63,7 +63,7 @@ wiring left held reading writing wire = record {
 }
 
 -- the wire gained the posts of what was asked, and the answers to it are no longer left
-pub record Exchanges (caller : Caller) (asked : List Asked) (before after : Wiring) : Type 0 where
+pub record HasPostedAndHeard (caller : Caller) (asked : List Asked) (before after : Wiring) : Type 0 where
   pub posted : Appends before.held after.held (posts caller asked)
   pub answered : IfSome before.left (λ left. (rest : List ℕ) × (after.left ≡ Some rest) × AnswersTo asked left rest)
   pub unspent : after.spent ≡ false
@@ -74,7 +74,7 @@ HasNoReply left =
     ReadsAnswer left not_http
     ⊎ (((number : ℕ) × (rest : List ℕ) × ReadsAnswer left (status number rest))
     ⊎ ((body : List ℕ) × (rest : List ℕ) × ReadsAnswer left (answered body rest)
-    × ((answer : Reply) → Means body answer → ⊥)))
+    × ((answer : Reply) → MeansReply body answer → ⊥)))
 
 -- what was left ends before an answer is whole
 abbrev pub HasPart : List ℕ → Type 0
@@ -103,18 +103,18 @@ abbrev pub asked_of : Request → Told → Asked
 asked_of request told = record { request = request; body = told.body; answer = told.reply }
 
 -- what a wire does for one request
-abbrev pub Asks : Caller → Request → Wiring → Wiring → Result Told Stop → Type 0
-Asks caller request before after (Ok told) = Exchanges caller (asked_of request told ∷ []) before after × Means told.body told.reply
-Asks caller request before after (Err stop.LinkFault) =
+abbrev pub AsksOnWire : Caller → Request → Wiring → Wiring → Result Told Stop → Type 0
+AsksOnWire caller request before after (Ok told) = HasPostedAndHeard caller (asked_of request told ∷ []) before after × MeansReply told.body told.reply
+AsksOnWire caller request before after (Err stop.LinkFault) =
     ((front : List ℕ) × IsFront (request_post caller request) front × Breaks caller [] front HasAny before after)
     × WireFailed before after
-Asks caller request before after (Err stop.LinkEnded) = Breaks caller [] (request_post caller request) HasPart before after
-Asks caller request before after (Err stop.BadReply) = Breaks caller [] (request_post caller request) HasNoReply before after
-Asks caller request before after (Err stop.NoMemory) =
+AsksOnWire caller request before after (Err stop.LinkEnded) = Breaks caller [] (request_post caller request) HasPart before after
+AsksOnWire caller request before after (Err stop.BadReply) = Breaks caller [] (request_post caller request) HasNoReply before after
+AsksOnWire caller request before after (Err stop.NoMemory) =
     (front : List ℕ) × IsFront (request_post caller request) front × Breaks caller [] front HasAny before after
-Asks caller request before after (Err stop.BadLine) = ⊥
-Asks caller request before after (Err stop.ReadFault) = ⊥
-Asks caller request before after (Err stop.WriteFault) = ⊥
+AsksOnWire caller request before after (Err stop.BadLine) = ⊥
+AsksOnWire caller request before after (Err stop.ReadFault) = ⊥
+AsksOnWire caller request before after (Err stop.WriteFault) = ⊥
 
 -- ---- the two halves of it
 
@@ -158,8 +158,8 @@ Receives before after (Err stop.WriteFault) = ⊥
 
 -- the reply that a body means, or that it means none
 abbrev pub Reads : List ℕ → Result Reply Stop → Type 0
-Reads body (Ok answer) = Means body answer
-Reads body (Err stop.BadReply) = (answer : Reply) → Means body answer → ⊥
+Reads body (Ok answer) = MeansReply body answer
+Reads body (Err stop.BadReply) = (answer : Reply) → MeansReply body answer → ⊥
 Reads body (Err stop.NoMemory) = Unit {0}
 Reads body (Err stop.BadLine) = ⊥
 Reads body (Err stop.ReadFault) = ⊥
@@ -168,11 +168,11 @@ Reads body (Err stop.LinkFault) = ⊥
 Reads body (Err stop.LinkEnded) = ⊥
 
 -- a body with the reply that it means
-abbrev pub Tells : List ℕ → Result Told Stop → Type 0
-Tells body (Ok told) = (told.body ≡ body) × Means told.body told.reply
-Tells body (Err e) = Reads body (Err e)
+abbrev pub BodyTellsReply : List ℕ → Result Told Stop → Type 0
+BodyTellsReply body (Ok told) = (told.body ≡ body) × MeansReply told.body told.reply
+BodyTellsReply body (Err e) = Reads body (Err e)
 
 -- an answer was taken
 abbrev pub Hears : Wiring → Wiring → Result Told Stop → Type 0
-Hears before after (Ok told) = Receives before after (Ok told.body) × Means told.body told.reply
+Hears before after (Ok told) = Receives before after (Ok told.body) × MeansReply told.body told.reply
 Hears before after (Err e) = Receives before after (Err e)

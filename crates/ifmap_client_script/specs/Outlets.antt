@@ -7,8 +7,8 @@ use Rattle.ifmap_client_script.specs.declared.outcomes.Stop.{Stop}
 use Rattle.ifmap_client_script.specs.declared.outcomes.Stop.TheVariants as stop
 use Rattle.ifmap_client_script.specs.Deeds.{Known, is_poll, request_in}
 use Rattle.ifmap_client_script.specs.Ends.{Ports}
-use Rattle.ifmap_client_script.specs.Exchanges.{Asks}
-use Rattle.ifmap_client_script.specs.Stops.{Sends}
+use Rattle.ifmap_client_script.specs.Exchanges.{AsksOnWire}
+use Rattle.ifmap_client_script.specs.Stops.{SendsText}
 
 -- both wires can be asked
 pub record AreUnspent (ports : Ports) : Type 0 where
@@ -30,9 +30,9 @@ pub record AreSame (before after : Loans) : Type 0 where
 -- over which wire a request went, while the other stayed as it was: a poll over the second
 abbrev pub AsksBy : Bool → Caller → Request → (before after : Ports) → Result Told Stop → Type 0
 AsksBy true caller sent before after result =
-    (after.first ≡ before.first) × Asks caller sent before.second after.second result
+    (after.first ≡ before.first) × AsksOnWire caller sent before.second after.second result
 AsksBy false caller sent before after result =
-    (after.second ≡ before.second) × Asks caller sent before.first after.first result
+    (after.second ≡ before.second) × AsksOnWire caller sent before.first after.first result
 
 -- a request went over its wire, and nothing was printed
 pub record IsAsked (caller : Caller) (sent : Request) (before after : Ports) (result : Result Told Stop) : Type 0 where
@@ -49,6 +49,6 @@ AsksOver caller request known before after result =
 
 -- a text was printed, and the wires stayed as they were
 pub record Prints (text : List ℕ) (before after : Ports) (result : Result (Unit {0}) Stop) : Type 0 where
-  pub sends : Sends before.held after.held before.write_faults after.write_faults text result
+  pub sends : SendsText before.held after.held before.write_faults after.write_faults text result
   pub first : after.first ≡ before.first
   pub second : after.second ≡ before.second

@@ -4,7 +4,7 @@ use Rattle.std.specs.Io.KnownBytes.{Consumes, IsAtEnd}
 use Rattle.ifmap_elem.specs.Chars.{line_feed}
 use Rattle.ifmap_client_script.specs.declared.outcomes.Stop.{Stop}
 use Rattle.ifmap_client_script.specs.declared.outcomes.Stop.TheVariants as stop
-use Rattle.ifmap_client_script.specs.Scripts.{AwaitsLine, HasNoNewline, IsWithin}
+use Rattle.ifmap_client_script.specs.Scripts.{AwaitsLine, HasNoNewline, IsWithinLineLimits}
 
 -- the bytes, and whether the source has told its end
 pub record Pending : Type 0 where
@@ -53,11 +53,11 @@ pub record IsLineEnd (bytes : List ℕ) (place : ℕ) : Type 0 where
   pub first : (k : ℕ) → k < place → slice_index bytes k ≢ line_feed
 
 -- a line begins here that is longer than one can be, whatever comes after
-pub record IsTooLong (offset : ℕ) (bytes : List ℕ) : Type 0 where
+pub record IsLineTooLong (offset : ℕ) (bytes : List ℕ) : Type 0 where
   pub some : bytes ≢ []
   pub size : ℕ
   pub size_is : IsLineEnd bytes size ⊎ ((size ≡ length bytes) × HasNoNewline bytes)
-  pub long : IsWithin offset size → ⊥
+  pub long : IsWithinLineLimits offset size → ⊥
 
 -- more is to be taken for the line that begins here
 pub record IsWaiting (offset : ℕ) (pending : Pending) : Type 0 where
@@ -65,12 +65,12 @@ pub record IsWaiting (offset : ℕ) (pending : Pending) : Type 0 where
   pub due : AwaitsLine offset pending.bytes
 
 -- no more is to be taken for it
-abbrev pub IsReady : ℕ → Pending → Type 0
-IsReady offset pending = (pending.ended ≡ true) ⊎ (AwaitsLine offset pending.bytes → ⊥)
+abbrev pub IsGathered : ℕ → Pending → Type 0
+IsGathered offset pending = (pending.ended ≡ true) ⊎ (AwaitsLine offset pending.bytes → ⊥)
 
 -- what taking for a line gives
 abbrev pub Gathers : (left_old left_new : Option (List ℕ)) (offset : ℕ) (old new : Pending) → Result (Unit {0}) Stop → Type 0
-Gathers left_old left_new offset old new (Ok _) = Fetches left_old left_new old new × IsReady offset new
+Gathers left_old left_new offset old new (Ok _) = Fetches left_old left_new old new × IsGathered offset new
 Gathers left_old left_new offset old new (Err stop.ReadFault) =
     Fetches left_old left_new old new × AwaitsLine offset new.bytes
 Gathers left_old left_new offset old new (Err stop.NoMemory) = Loses left_old left_new old
@@ -82,9 +82,9 @@ Gathers left_old left_new offset old new (Err stop.BadReply) = ⊥
 
 -- what looking for a line gives, for which no more is to be taken
 abbrev pub Looks : ℕ → Pending → Result (Option ℕ) Stop → Type 0
-Looks offset pending (Ok (Some place)) = IsLineEnd pending.bytes place × IsWithin offset place
+Looks offset pending (Ok (Some place)) = IsLineEnd pending.bytes place × IsWithinLineLimits offset place
 Looks offset pending (Ok None) = pending ≡ record { bytes = []; ended = true }
-Looks offset pending (Err stop.BadLine) = IsTooLong offset pending.bytes
+Looks offset pending (Err stop.BadLine) = IsLineTooLong offset pending.bytes
 Looks offset pending (Err stop.ReadFault) = ⊥
 Looks offset pending (Err stop.NoMemory) = ⊥
 Looks offset pending (Err stop.WriteFault) = ⊥
@@ -93,18 +93,18 @@ Looks offset pending (Err stop.LinkEnded) = ⊥
 Looks offset pending (Err stop.BadReply) = ⊥
 
 -- what waiting for a line gives
-abbrev pub Awaits : (left_old left_new : Option (List ℕ)) (offset : ℕ) (old new : Pending) → Result (Option ℕ) Stop → Type 0
-Awaits left_old left_new offset old new (Ok (Some place)) =
-    Fetches left_old left_new old new × IsLineEnd new.bytes place × IsWithin offset place
-Awaits left_old left_new offset old new (Ok None) =
+abbrev pub WaitsForLine : (left_old left_new : Option (List ℕ)) (offset : ℕ) (old new : Pending) → Result (Option ℕ) Stop → Type 0
+WaitsForLine left_old left_new offset old new (Ok (Some place)) =
+    Fetches left_old left_new old new × IsLineEnd new.bytes place × IsWithinLineLimits offset place
+WaitsForLine left_old left_new offset old new (Ok None) =
     Fetches left_old left_new old new × (new ≡ record { bytes = []; ended = true })
-Awaits left_old left_new offset old new (Err stop.BadLine) = Fetches left_old left_new old new × IsTooLong offset new.bytes
-Awaits left_old left_new offset old new (Err stop.ReadFault) = Fetches left_old left_new old new × AwaitsLine offset new.bytes
-Awaits left_old left_new offset old new (Err stop.NoMemory) = Loses left_old left_new old
-Awaits left_old left_new offset old new (Err stop.WriteFault) = ⊥
-Awaits left_old left_new offset old new (Err stop.LinkFault) = ⊥
-Awaits left_old left_new offset old new (Err stop.LinkEnded) = ⊥
-Awaits left_old left_new offset old new (Err stop.BadReply) = ⊥
+WaitsForLine left_old left_new offset old new (Err stop.BadLine) = Fetches left_old left_new old new × IsLineTooLong offset new.bytes
+WaitsForLine left_old left_new offset old new (Err stop.ReadFault) = Fetches left_old left_new old new × AwaitsLine offset new.bytes
+WaitsForLine left_old left_new offset old new (Err stop.NoMemory) = Loses left_old left_new old
+WaitsForLine left_old left_new offset old new (Err stop.WriteFault) = ⊥
+WaitsForLine left_old left_new offset old new (Err stop.LinkFault) = ⊥
+WaitsForLine left_old left_new offset old new (Err stop.LinkEnded) = ⊥
+WaitsForLine left_old left_new offset old new (Err stop.BadReply) = ⊥
 
 -- what taking more gives
 abbrev pub Fills : (left_old left_new : Option (List ℕ)) (old new : Pending) → Result (Unit {0}) Stop → Type 0

@@ -8,10 +8,10 @@ use Rattle.ifmap_client_script.specs.declared.exchanges.Caller.{Caller}
 use Rattle.ifmap_client_script.specs.declared.outcomes.Outcome.{Outcome}
 use Rattle.ifmap_client_script.specs.declared.outcomes.Outcome.TheVariants as outcome
 use Rattle.ifmap_client_script.specs.Deeds.{Deed, Known, after_deeds, is_poll, nothing_known, request_in}
-use Rattle.ifmap_client_script.specs.Ends.{Ends, IsLater, LinkFailed, Ports, ReadFailed, WriteFailed}
-use Rattle.ifmap_client_script.specs.Exchanges.{Breaks, Exchanges, HasAny, HasNoReply, HasPart, IsFront, over_first, over_second, request_post}
+use Rattle.ifmap_client_script.specs.Ends.{SourceAndPorts, IsLaterInRun, LinkFailed, Ports, ReadFailed, WriteFailed}
+use Rattle.ifmap_client_script.specs.Exchanges.{Breaks, HasPostedAndHeard, HasAny, HasNoReply, HasPart, IsFront, over_first, over_second, request_post}
 use Rattle.ifmap_client_script.specs.Printing.{deed_text, deeds_text}
-use Rattle.ifmap_client_script.specs.Scripts.{AwaitsLine, BeginsLine, Carries, IsBadLine, IsScript}
+use Rattle.ifmap_client_script.specs.Scripts.{AwaitsLine, BeginsLine, Carries, IsBadLine, IsTakenScript}
 
 -- what is known after deeds from the beginning of a script on
 abbrev pub known_after : List Deed → Known
@@ -30,35 +30,35 @@ pub record AsksNext (offset : ℕ) (known : Known) (bytes : List ℕ) (sent : Re
 abbrev pub Cutting : Type 1
 Cutting = (post front : List ℕ) → Type 0
 
-abbrev pub IsWhole : Cutting
-IsWhole post front = front ≡ post
+abbrev pub IsWholePost : Cutting
+IsWholePost post front = front ≡ post
 
-module _ (before after : Ends) where
+module _ (before after : SourceAndPorts) where
   -- the lines of what was taken from the source were carried out by these deeds, up to a rest, of which the first byte stands at an
   -- offset of the script
   pub record Takes (deeds : List Deed) (rest : List ℕ) (offset : ℕ) : Type 0 where
     pub taken : List ℕ
     pub script : List ℕ
     pub consumed : Consumes before.left after.left taken
-    pub script_is : IsScript after.left taken script
+    pub script_is : IsTakenScript after.left taken script
     pub carried : Carries 0 nothing_known script deeds rest
     pub offset_is : offset + length rest ≡ length script
 
 module _ (caller : Caller) (before after : Ports) where
   -- the wires were asked what the deeds ask
   pub record Exchanged (deeds : List Deed) : Type 0 where
-    pub first : Exchanges caller (over_first deeds) before.first after.first
-    pub second : Exchanges caller (over_second deeds) before.second after.second
+    pub first : HasPostedAndHeard caller (over_first deeds) before.first after.first
+    pub second : HasPostedAndHeard caller (over_second deeds) before.second after.second
 
   -- the wires were asked what the deeds ask; the one over which the request goes gained so much of its post, and then has left
   -- that
   abbrev pub Broken : Bool → List Deed → List ℕ → (List ℕ → Type 0) → Type 0
   Broken true deeds post Has =
-      Exchanges caller (over_first deeds) before.first after.first
+      HasPostedAndHeard caller (over_first deeds) before.first after.first
       × Breaks caller (over_second deeds) post Has before.second after.second
   Broken false deeds post Has =
       Breaks caller (over_first deeds) post Has before.first after.first
-      × Exchanges caller (over_second deeds) before.second after.second
+      × HasPostedAndHeard caller (over_second deeds) before.second after.second
 
   -- the sink gained what is written for the deeds, and the wires were asked what they ask
   pub record Did (known : Known) (deeds : List Deed) : Type 0 where
@@ -78,7 +78,7 @@ module _ (caller : Caller) (before after : Ports) where
     pub wrote : Appends before.held after.held (deeds_text known deeds)
     pub broken : Broken (is_poll sent) deeds front Has
 
-module _ (caller : Caller) (before after : Ends) where
+module _ (caller : Caller) (before after : SourceAndPorts) where
   -- all lines were carried out, up to the end of the source
   pub record IsDone : Type 0 where
     pub deeds : List Deed
@@ -138,23 +138,23 @@ module _ (caller : Caller) (before after : Ends) where
     pub lost : List ℕ
     pub script : List ℕ
     pub consumed : Consumes before.left after.left (taken ++ lost)
-    pub script_is : IsScript after.left taken script
+    pub script_is : IsTakenScript after.left taken script
     pub carried : Carries 0 nothing_known script deeds rest
     pub did : Did caller before.ports after.ports nothing_known deeds
 
 -- what a script promises, by how it ends; a fault is told only where its object has counted one
-abbrev pub Promises : Caller → (before after : Ends) → Outcome → Type 0
-Promises caller before after outcome.Done = IsDone caller before after
-Promises caller before after (outcome.BadLine line) = IsFaulty caller before after line
-Promises caller before after outcome.ReadFault = IsUnread caller before after × ReadFailed before after
-Promises caller before after outcome.WriteFault = IsUnwritten caller before after × WriteFailed before.ports after.ports
-Promises caller before after outcome.LinkFault = IsUnasked caller before after × LinkFailed before.ports after.ports
-Promises caller before after (outcome.LinkEnded line) = IsUnanswered caller before after IsWhole HasPart line
-Promises caller before after (outcome.BadReply line) = IsUnanswered caller before after IsWhole HasNoReply line
-Promises caller before after outcome.NoMemory =
+abbrev pub ScriptPromises : Caller → (before after : SourceAndPorts) → Outcome → Type 0
+ScriptPromises caller before after outcome.Done = IsDone caller before after
+ScriptPromises caller before after (outcome.BadLine line) = IsFaulty caller before after line
+ScriptPromises caller before after outcome.ReadFault = IsUnread caller before after × ReadFailed before after
+ScriptPromises caller before after outcome.WriteFault = IsUnwritten caller before after × WriteFailed before.ports after.ports
+ScriptPromises caller before after outcome.LinkFault = IsUnasked caller before after × LinkFailed before.ports after.ports
+ScriptPromises caller before after (outcome.LinkEnded line) = IsUnanswered caller before after IsWholePost HasPart line
+ScriptPromises caller before after (outcome.BadReply line) = IsUnanswered caller before after IsWholePost HasNoReply line
+ScriptPromises caller before after outcome.NoMemory =
     IsLost caller before after ⊎ (IsUnasked caller before after ⊎ IsUnwritten caller before after)
 
 -- a script was carried out as far as its outcome promises, and no count of faults has fallen
-pub record IsCarriedOut (caller : Caller) (before after : Ends) (ended : Outcome) : Type 0 where
-  pub promises : Promises caller before after ended
-  pub later : IsLater before after
+pub record IsCarriedOut (caller : Caller) (before after : SourceAndPorts) (ended : Outcome) : Type 0 where
+  pub promises : ScriptPromises caller before after ended
+  pub later : IsLaterInRun before after

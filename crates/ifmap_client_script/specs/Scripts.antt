@@ -15,7 +15,7 @@ abbrev pub HasNoNewline : List ℕ → Type 0
 HasNoNewline text = (k : ℕ) → k < length text → slice_index text k ≢ line_feed
 
 -- a line of that many bytes, of which the first stands at an offset, is within its limits
-pub record IsWithin (offset size : ℕ) : Type 0 where
+pub record IsWithinLineLimits (offset size : ℕ) : Type 0 where
   pub short : size ≤ line_limit
   pub ends : offset + size ≤ longest_script
 
@@ -41,11 +41,11 @@ IsBadLine offset known bytes =
 -- a line is due: nothing is there, or no newline has come, and that of a line still can
 pub record AwaitsLine (offset : ℕ) (bytes : List ℕ) : Type 0 where
   pub plain : HasNoNewline bytes
-  pub within : bytes ≢ [] → IsWithin offset (length bytes)
+  pub within : bytes ≢ [] → IsWithinLineLimits offset (length bytes)
 
 -- what was taken from a source is this script: a last line that lacks its newline is as if it had it
-abbrev pub IsScript : Option (List ℕ) → List ℕ → List ℕ → Type 0
-IsScript left taken script =
+abbrev pub IsTakenScript : Option (List ℕ) → List ℕ → List ℕ → Type 0
+IsTakenScript left taken script =
     (script ≡ taken)
     ⊎ (IsAtEnd left × (script ≡ taken ++ line_feed ∷ [])
     × ((front last : List ℕ) × (taken ≡ front ++ last) × (last ≢ []) × HasNoNewline last))

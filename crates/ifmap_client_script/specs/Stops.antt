@@ -18,34 +18,34 @@ outcome_of stop.BadReply line = outcome.BadReply line
 outcome_of stop.NoMemory line = outcome.NoMemory
 
 -- what is named, or that it names nothing
-abbrev pub IsNamed : {X : Type 0} → Option X → Result X Stop → Type 0
-IsNamed named (Ok x) = named ≡ Some x
-IsNamed named (Err stop.BadLine) = named ≡ None
-IsNamed named (Err stop.ReadFault) = ⊥
-IsNamed named (Err stop.WriteFault) = ⊥
-IsNamed named (Err stop.LinkFault) = ⊥
-IsNamed named (Err stop.LinkEnded) = ⊥
-IsNamed named (Err stop.BadReply) = ⊥
-IsNamed named (Err stop.NoMemory) = Unit {0}
+abbrev pub IsNamedOrBadLine : {X : Type 0} → Option X → Result X Stop → Type 0
+IsNamedOrBadLine named (Ok x) = named ≡ Some x
+IsNamedOrBadLine named (Err stop.BadLine) = named ≡ None
+IsNamedOrBadLine named (Err stop.ReadFault) = ⊥
+IsNamedOrBadLine named (Err stop.WriteFault) = ⊥
+IsNamedOrBadLine named (Err stop.LinkFault) = ⊥
+IsNamedOrBadLine named (Err stop.LinkEnded) = ⊥
+IsNamedOrBadLine named (Err stop.BadReply) = ⊥
+IsNamedOrBadLine named (Err stop.NoMemory) = Unit {0}
 
 -- known bytes grow by a text, or by a front of it after a fault, which was counted
-abbrev pub Writes : Option (List ℕ) → Option (List ℕ) → ℕ → ℕ → List ℕ → Result (Unit {0}) Stop → Type 0
-Writes old new before after text (Ok _) = Appends old new text
-Writes old new before after text (Err stop.WriteFault) = ((n : ℕ) × Appends old new (take n text)) × Rose before after
-Writes old new before after text (Err stop.BadLine) = ⊥
-Writes old new before after text (Err stop.ReadFault) = ⊥
-Writes old new before after text (Err stop.LinkFault) = ⊥
-Writes old new before after text (Err stop.LinkEnded) = ⊥
-Writes old new before after text (Err stop.BadReply) = ⊥
-Writes old new before after text (Err stop.NoMemory) = ⊥
+abbrev pub WritesText : Option (List ℕ) → Option (List ℕ) → ℕ → ℕ → List ℕ → Result (Unit {0}) Stop → Type 0
+WritesText old new before after text (Ok _) = Appends old new text
+WritesText old new before after text (Err stop.WriteFault) = ((n : ℕ) × Appends old new (take n text)) × Rose before after
+WritesText old new before after text (Err stop.BadLine) = ⊥
+WritesText old new before after text (Err stop.ReadFault) = ⊥
+WritesText old new before after text (Err stop.LinkFault) = ⊥
+WritesText old new before after text (Err stop.LinkEnded) = ⊥
+WritesText old new before after text (Err stop.BadReply) = ⊥
+WritesText old new before after text (Err stop.NoMemory) = ⊥
 
 -- the same, and they stay as they were for want of memory
-abbrev pub Sends : Option (List ℕ) → Option (List ℕ) → ℕ → ℕ → List ℕ → Result (Unit {0}) Stop → Type 0
-Sends old new before after text (Ok _) = Appends old new text
-Sends old new before after text (Err stop.WriteFault) = ((n : ℕ) × Appends old new (take n text)) × Rose before after
-Sends old new before after text (Err stop.BadLine) = ⊥
-Sends old new before after text (Err stop.ReadFault) = ⊥
-Sends old new before after text (Err stop.LinkFault) = ⊥
-Sends old new before after text (Err stop.LinkEnded) = ⊥
-Sends old new before after text (Err stop.BadReply) = ⊥
-Sends old new before after text (Err stop.NoMemory) = Keeps old new
+abbrev pub SendsText : Option (List ℕ) → Option (List ℕ) → ℕ → ℕ → List ℕ → Result (Unit {0}) Stop → Type 0
+SendsText old new before after text (Ok _) = Appends old new text
+SendsText old new before after text (Err stop.WriteFault) = ((n : ℕ) × Appends old new (take n text)) × Rose before after
+SendsText old new before after text (Err stop.BadLine) = ⊥
+SendsText old new before after text (Err stop.ReadFault) = ⊥
+SendsText old new before after text (Err stop.LinkFault) = ⊥
+SendsText old new before after text (Err stop.LinkEnded) = ⊥
+SendsText old new before after text (Err stop.BadReply) = ⊥
+SendsText old new before after text (Err stop.NoMemory) = Keeps old new

@@ -11,12 +11,12 @@ use Rattle.ifmap_client_script.specs.declared.scripts.Next.{Next}
 use Rattle.ifmap_client_script.specs.declared.scripts.Turn.{Turn}
 use Rattle.ifmap_client_script.specs.declared.scripts.Turn.TheVariants as turn
 use Rattle.ifmap_client_script.specs.Deeds.{CanDo, Deed, Does, Known, after_deed, nothing_known, request_in}
-use Rattle.ifmap_client_script.specs.Ends.{Ends, LinkFailed, Ports, ReadFailed, WriteFailed}
+use Rattle.ifmap_client_script.specs.Ends.{SourceAndPorts, LinkFailed, Ports, ReadFailed, WriteFailed}
 use Rattle.ifmap_client_script.specs.Exchanges.{HasAny, HasNoReply, HasPart, IsFront}
 use Rattle.ifmap_client_script.specs.Holding.{Holding, known_of}
 use Rattle.ifmap_client_script.specs.Pending.{Fetches, IsLineEnd, Loses, Pending, nothing_taken}
-use Rattle.ifmap_client_script.specs.Promises.{Cutting, Did, IsWhole, Posted, Wrote}
-use Rattle.ifmap_client_script.specs.Scripts.{AwaitsLine, BeginsLine, IsBadLine, IsWithin}
+use Rattle.ifmap_client_script.specs.Promises.{Cutting, Did, IsWholePost, Posted, Wrote}
+use Rattle.ifmap_client_script.specs.Scripts.{AwaitsLine, BeginsLine, IsBadLine, IsWithinLineLimits}
 
 -- ---- a line
 
@@ -50,8 +50,8 @@ CarriesOut caller line before after old new (Err stop.ReadFault) = ⊥
 CarriesOut caller line before after old new (Err stop.WriteFault) = Cut caller line before after old × WriteFailed before after
 CarriesOut caller line before after old new (Err stop.LinkFault) =
     Unanswered caller line before after old IsFront HasAny × LinkFailed before after
-CarriesOut caller line before after old new (Err stop.LinkEnded) = Unanswered caller line before after old IsWhole HasPart
-CarriesOut caller line before after old new (Err stop.BadReply) = Unanswered caller line before after old IsWhole HasNoReply
+CarriesOut caller line before after old new (Err stop.LinkEnded) = Unanswered caller line before after old IsWholePost HasPart
+CarriesOut caller line before after old new (Err stop.BadReply) = Unanswered caller line before after old IsWholePost HasNoReply
 CarriesOut caller line before after old new (Err stop.NoMemory) =
     (after ≡ before) ⊎ (Unanswered caller line before after old IsFront HasAny ⊎ Cut caller line before after old)
 
@@ -72,9 +72,9 @@ pub record IsBeginning (script : Scripting) : Type 0 where
   pub line : script.line ≡ 1
 
 -- the first line of these bytes, of which the first stands at an offset
-pub record IsNext (offset : ℕ) (bytes : List ℕ) (next : Next) : Type 0 where
+pub record IsNextLine (offset : ℕ) (bytes : List ℕ) (next : Next) : Type 0 where
   pub end : IsLineEnd bytes next.place
-  pub within : IsWithin offset next.place
+  pub within : IsWithinLineLimits offset next.place
   pub means : IsLine (take next.place bytes) next.line
 
 -- what the line of bytes is that ends at this place
@@ -91,7 +91,7 @@ ReadsAt bytes place (Err stop.BadReply) = ⊥
 
 -- what reading the next line gives
 abbrev pub ReadsNext : (left_old left_new : Option (List ℕ)) (offset : ℕ) (old new : Pending) → Result (Option Next) Stop → Type 0
-ReadsNext left_old left_new offset old new (Ok (Some next)) = Fetches left_old left_new old new × IsNext offset new.bytes next
+ReadsNext left_old left_new offset old new (Ok (Some next)) = Fetches left_old left_new old new × IsNextLine offset new.bytes next
 ReadsNext left_old left_new offset old new (Ok None) =
     Fetches left_old left_new old new × (new ≡ record { bytes = []; ended = true })
 ReadsNext left_old left_new offset old new (Err stop.BadLine) =
@@ -104,7 +104,7 @@ ReadsNext left_old left_new offset old new (Err stop.LinkEnded) = ⊥
 ReadsNext left_old left_new offset old new (Err stop.BadReply) = ⊥
 
 -- the script goes on after the line
-pub record GoesOn (next : Next) (old new : Scripting) : Type 0 where
+pub record GoesPastLine (next : Next) (old new : Scripting) : Type 0 where
   pub pending : new.pending ≡ record { bytes = drop (next.place + 1) old.pending.bytes; ended = old.pending.ended }
   pub offset : new.offset ≡ old.offset + next.place + 1
   pub line : new.line ≡ old.line + 1
@@ -112,12 +112,12 @@ pub record GoesOn (next : Next) (old new : Scripting) : Type 0 where
 -- what was done for the next line
 abbrev pub DoesNext : Caller → Next → (before after : Ports) → (old new : Scripting) → Result Turn Stop → Type 0
 DoesNext caller next before after old new (Ok turn.Carried) =
-    Carried caller next.line before after (known_of old.client) (known_of new.client) × GoesOn next old new
+    Carried caller next.line before after (known_of old.client) (known_of new.client) × GoesPastLine next old new
 DoesNext caller next before after old new (Ok turn.Ended) = ⊥
 DoesNext caller next before after old new (Err e) =
     CarriesOut caller next.line before after (known_of old.client) (known_of new.client) (Err e) × (new.line ≡ old.line)
 
-module _ (before after : Ends) (old : Scripting) where
+module _ (before after : SourceAndPorts) (old : Scripting) where
   -- a line was taken
   pub record TakesLine (line : Line) : Type 0 where
     pub pending : Pending
@@ -127,7 +127,7 @@ module _ (before after : Ends) (old : Scripting) where
     pub begins : BeginsLine old.offset pending.bytes text rest
     pub means : IsLine text line
 
-module _ (caller : Caller) (before after : Ends) (old : Scripting) where
+module _ (caller : Caller) (before after : SourceAndPorts) (old : Scripting) where
   -- a line was taken and carried out
   pub record TurnsOn (new : Scripting) : Type 0 where
     pub line : Line
@@ -174,16 +174,16 @@ module _ (caller : Caller) (before after : Ends) (old : Scripting) where
     pub kept : after.ports ≡ before.ports
 
 -- what a turn did
-abbrev pub Turns : Caller → (before after : Ends) → (old new : Scripting) → Result Turn Stop → Type 0
-Turns caller before after old new (Ok turn.Carried) = TurnsOn caller before after old new
-Turns caller before after old new (Ok turn.Ended) = IsOver caller before after old
-Turns caller before after old new (Err stop.BadLine) = IsAtFault caller before after old
-Turns caller before after old new (Err stop.ReadFault) = IsDue caller before after old × ReadFailed before after
-Turns caller before after old new (Err stop.WriteFault) =
+abbrev pub IsScriptTurn : Caller → (before after : SourceAndPorts) → (old new : Scripting) → Result Turn Stop → Type 0
+IsScriptTurn caller before after old new (Ok turn.Carried) = TurnsOn caller before after old new
+IsScriptTurn caller before after old new (Ok turn.Ended) = IsOver caller before after old
+IsScriptTurn caller before after old new (Err stop.BadLine) = IsAtFault caller before after old
+IsScriptTurn caller before after old new (Err stop.ReadFault) = IsDue caller before after old × ReadFailed before after
+IsScriptTurn caller before after old new (Err stop.WriteFault) =
     IsCutShort caller before after old × WriteFailed before.ports after.ports
-Turns caller before after old new (Err stop.LinkFault) =
+IsScriptTurn caller before after old new (Err stop.LinkFault) =
     IsLeft caller before after old IsFront HasAny × LinkFailed before.ports after.ports
-Turns caller before after old new (Err stop.LinkEnded) = IsLeft caller before after old IsWhole HasPart
-Turns caller before after old new (Err stop.BadReply) = IsLeft caller before after old IsWhole HasNoReply
-Turns caller before after old new (Err stop.NoMemory) =
+IsScriptTurn caller before after old new (Err stop.LinkEnded) = IsLeft caller before after old IsWholePost HasPart
+IsScriptTurn caller before after old new (Err stop.BadReply) = IsLeft caller before after old IsWholePost HasNoReply
+IsScriptTurn caller before after old new (Err stop.NoMemory) =
     IsIdle caller before after old ⊎ (IsLeft caller before after old IsFront HasAny ⊎ IsCutShort caller before after old)

@@ -2,7 +2,7 @@
 ghost use Rattle.std.specs.Prelude.{IsFalse, IsTrue};
 ghost use Rattle.ifmap_heads.specs.Messages.{is_visible};
 ghost use Rattle.ifmap_client_script.specs.Ends.{IsLaterWire};
-ghost use Rattle.ifmap_client_script.specs.Exchanges.{Asks, Hears, Posts, Reads, Receives, Tells, Unread, Unwritten, request_post, wiring};
+ghost use Rattle.ifmap_client_script.specs.Exchanges.{AsksOnWire, Hears, Posts, Reads, Receives, BodyTellsReply, Unread, Unwritten, request_post, wiring};
 
 use crate::outcomes::Stop;
 use ifmap_elem::{Many, Text};
@@ -37,7 +37,7 @@ pub fn ask<L: Link>(
 ) -> Result<Told, Stop>
     requires unspent { IsFalse wire.old.spent }
     requires visible { IsTrue (is_visible caller.now.host) }
-    ensures asks { Asks caller.now request.now
+    ensures asks { AsksOnWire caller.now request.now
         (wiring L.left L.held L.Source.faults L.Sink.faults wire.old)
         (wiring L.left L.held L.Source.faults L.Sink.faults wire.new) result }
     ensures later { IsLaterWire
@@ -68,7 +68,7 @@ fn receive<L: Link>(alloc: Global, wire: &mut Wire<L>) -> Result<Told, Stop>
 
 // A body with the reply that it means.
 fn told_by(alloc: Global, body: Many<u8>) -> Result<Told, Stop>
-    ensures { Tells body result }
+    ensures { BodyTellsReply body result }
 {
     match reply_in(alloc, &body) {
         Ok(reply) => Ok(Told { body, reply }),

@@ -2,8 +2,8 @@
 ghost use Rattle.std.specs.Prelude.{◌≡◌, ◌≤◌, ◌<◌, ◌+◌, drop, false, true, length, IfNone, IfOk, IfSome, OnOk, Err};
 ghost use Rattle.std.specs.Bool.{OnFalse, OnTrue};
 ghost use Rattle.ifmap_io.specs.Causes.{Rose};
-ghost use Rattle.ifmap_client_script.specs.Pending.{Awaits, Fills, Gathers, IsClosed, IsLineEnd, IsReady, IsWaiting, Looks, nothing_taken, with_last_newline};
-ghost use Rattle.ifmap_client_script.specs.Scripts.{AwaitsLine, HasNoNewline, IsWithin, longest_script};
+ghost use Rattle.ifmap_client_script.specs.Pending.{WaitsForLine, Fills, Gathers, IsClosed, IsLineEnd, IsGathered, IsWaiting, Looks, nothing_taken, with_last_newline};
+ghost use Rattle.ifmap_client_script.specs.Scripts.{AwaitsLine, HasNoNewline, IsWithinLineLimits, longest_script};
 
 use crate::outcomes::Stop;
 use ifmap_client::LINE_LIMIT;
@@ -79,7 +79,7 @@ impl Input {
         offset: u64,
     ) -> Result<Option<usize>, Stop>
         requires { offset ≤ longest_script + 1 }
-        ensures awaits { Awaits (S.left source.old) (S.left source.new) offset self.old self.new
+        ensures awaits { WaitsForLine (S.left source.old) (S.left source.new) offset self.old self.new
             result }
         ensures fault { result ≡ Err Stop.ReadFault
             → Rose (S.faults source.old) (S.faults source.new) }
@@ -115,7 +115,7 @@ impl Input {
     fn is_waiting(&self, offset: u64) -> bool
         requires { offset ≤ longest_script + 1 }
         ensures yes { OnTrue result (IsWaiting offset self.now) }
-        ensures no { OnFalse result (IsReady offset self.now) }
+        ensures no { OnFalse result (IsGathered offset self.now) }
     {
         if self.ended {
             return false;
@@ -128,7 +128,7 @@ impl Input {
     #[tactic(auto, using(crate::proofs::Waiting::too_long))]
     fn line_at(&self, offset: u64) -> Result<Option<usize>, Stop>
         requires offset { offset ≤ longest_script + 1 }
-        requires ready { IsReady offset self.now }
+        requires ready { IsGathered offset self.now }
         ensures { Looks offset self.now result }
     {
         self.closes();
@@ -217,8 +217,8 @@ fn line_end(pending: &[u8]) -> Option<usize>
 // A line of that many bytes that begins at that offset is within its limits.
 fn is_within(length: usize, offset: u64) -> bool
     requires { offset ≤ longest_script + 1 }
-    ensures yes { OnTrue result (IsWithin offset length) }
-    ensures no { OnFalse result (IsWithin offset length → ⊥) }
+    ensures yes { OnTrue result (IsWithinLineLimits offset length) }
+    ensures no { OnFalse result (IsWithinLineLimits offset length → ⊥) }
 {
     length <= LINE_LIMIT && offset + length as u64 <= LONGEST_SCRIPT
 }

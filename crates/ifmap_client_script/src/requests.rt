@@ -1,7 +1,7 @@
 //! Requests of a script as they are sent.
 ghost use Rattle.std.specs.Prelude.{◌≡◌};
 ghost use Rattle.ifmap_client_script.specs.Deeds.{is_poll, named_session, request_in};
-ghost use Rattle.ifmap_client_script.specs.Stops.{IsNamed};
+ghost use Rattle.ifmap_client_script.specs.Stops.{IsNamedOrBadLine};
 
 use crate::outcomes::Stop;
 use ifmap_elem::{Copied, Text};
@@ -13,7 +13,7 @@ const LAST_SESSION: &str = "*";
 
 /// The request as it is sent; `BadLine` where it names the session that was begun last and none was.
 pub fn request_in(alloc: Global, begun: &Option<Text>, request: Request) -> Result<Request, Stop>
-    ensures { IsNamed (request_in begun.now request) result }
+    ensures { IsNamedOrBadLine (request_in begun.now request) result }
 {
     match request {
         Request::NewSession { limit } => Ok(Request::NewSession { limit }),
@@ -47,7 +47,7 @@ pub fn request_in(alloc: Global, begun: &Option<Text>, request: Request) -> Resu
 
 // The session that a text names.
 fn named_session(alloc: Global, begun: &Option<Text>, text: Text) -> Result<Text, Stop>
-    ensures { IsNamed (named_session begun.now text) result }
+    ensures { IsNamedOrBadLine (named_session begun.now text) result }
 {
     if text.as_str() != LAST_SESSION {
         return Ok(text);

@@ -3,11 +3,11 @@ ghost use Rattle.std.specs.Prelude.{◌≡◌, ◌≤◌, ◌<◌, ◌+◌, leng
 ghost use Rattle.ifmap_heads.specs.Messages.{is_visible};
 ghost use Rattle.ifmap_io.specs.Causes.{Rose};
 ghost use Rattle.ifmap_client_script.specs.Scripts.{longest_script};
-ghost use Rattle.ifmap_client_script.specs.Ends.{ArePortsLater, IsLater, ends, ports};
+ghost use Rattle.ifmap_client_script.specs.Ends.{ArePortsLater, IsLaterInRun, source_and_ports, ports};
 ghost use Rattle.ifmap_client_script.specs.Exchanges.{wiring};
 ghost use Rattle.ifmap_client_script.specs.Outlets.{AreSame, AreUnspent};
 ghost use Rattle.ifmap_client_script.specs.Promises.{IsCarriedOut};
-ghost use Rattle.ifmap_client_script.specs.Turns.{DoesNext, IsBeginning, IsNext, ReadsAt, ReadsNext, Turns};
+ghost use Rattle.ifmap_client_script.specs.Turns.{DoesNext, IsBeginning, IsNextLine, ReadsAt, ReadsNext, IsScriptTurn};
 
 use crate::clients::Client;
 use crate::exchanges::Caller;
@@ -58,10 +58,10 @@ pub fn run_script<S: Source, K: Sink, A: Link, B: Link>(
     requires first { IsFalse first.old.spent }
     requires second { IsFalse second.old.spent }
     ensures { IsCarriedOut (record { client = client.now; host = host.now })
-        (ends (S.left source.old) (S.faults source.old) (ports (K.held sink.old) (K.faults sink.old)
+        (source_and_ports (S.left source.old) (S.faults source.old) (ports (K.held sink.old) (K.faults sink.old)
         (wiring A.left A.held A.Source.faults A.Sink.faults first.old)
         (wiring B.left B.held B.Source.faults B.Sink.faults second.old)))
-        (ends (S.left source.new) (S.faults source.new) (ports (K.held sink.new) (K.faults sink.new)
+        (source_and_ports (S.left source.new) (S.faults source.new) (ports (K.held sink.new) (K.faults sink.new)
         (wiring A.left A.held A.Source.faults A.Sink.faults first.new)
         (wiring B.left B.held B.Source.faults B.Sink.faults second.new))) result }
 {
@@ -130,8 +130,8 @@ impl Script {
         requires visible { IsTrue (is_visible caller.now.host) }
         requires unspent { AreUnspent (O.seen outlets.old) }
         ensures carried { IsCarriedOut caller.now
-            (ends (S.left source.old) (S.faults source.old) (O.seen outlets.old))
-            (ends (S.left source.new) (S.faults source.new) (O.seen outlets.new)) result }
+            (source_and_ports (S.left source.old) (S.faults source.old) (O.seen outlets.old))
+            (source_and_ports (S.left source.new) (S.faults source.new) (O.seen outlets.new)) result }
         ensures same { AreSame (O.loans outlets.old) (O.loans outlets.new) }
     {
         'lines: loop {
@@ -154,13 +154,13 @@ impl Script {
         requires visible { IsTrue (is_visible caller.now.host) }
         requires unspent { AreUnspent (O.seen outlets.old) }
         ensures line { OnErr result (self.new.line ≡ self.old.line) }
-        ensures turns { Turns caller.now
-            (ends (S.left source.old) (S.faults source.old) (O.seen outlets.old))
-            (ends (S.left source.new) (S.faults source.new) (O.seen outlets.new))
+        ensures turns { IsScriptTurn caller.now
+            (source_and_ports (S.left source.old) (S.faults source.old) (O.seen outlets.old))
+            (source_and_ports (S.left source.new) (S.faults source.new) (O.seen outlets.new))
             self.old self.new result }
-        ensures later { IsLater
-            (ends (S.left source.old) (S.faults source.old) (O.seen outlets.old))
-            (ends (S.left source.new) (S.faults source.new) (O.seen outlets.new)) }
+        ensures later { IsLaterInRun
+            (source_and_ports (S.left source.old) (S.faults source.old) (O.seen outlets.old))
+            (source_and_ports (S.left source.new) (S.faults source.new) (O.seen outlets.new)) }
         ensures same { AreSame (O.loans outlets.old) (O.loans outlets.new) }
     {
         lines_mean_one_thing();
@@ -181,7 +181,7 @@ impl Script {
     ) -> Result<Turn, Stop>
         requires visible { IsTrue (is_visible caller.now.host) }
         requires unspent { AreUnspent (O.seen outlets.old) }
-        requires line { IsNext self.old.offset self.old.pending.bytes next }
+        requires line { IsNextLine self.old.offset self.old.pending.bytes next }
         ensures does { DoesNext caller.now next (O.seen outlets.old) (O.seen outlets.new)
             self.old self.new result }
         ensures later { ArePortsLater (O.seen outlets.old) (O.seen outlets.new) }

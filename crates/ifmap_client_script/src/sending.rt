@@ -1,6 +1,6 @@
 //! Writing to a sink.
 ghost use Rattle.std.specs.Prelude.{◌≤◌, ◌++◌, []};
-ghost use Rattle.ifmap_client_script.specs.Stops.{Sends, Writes};
+ghost use Rattle.ifmap_client_script.specs.Stops.{SendsText, WritesText};
 ghost use Rattle.ifmap_client_script.specs.Printing.{body_text};
 
 use crate::outcomes::Stop;
@@ -10,7 +10,7 @@ use std::alloc::Global;
 
 /// Writes bytes, and hands them on.
 pub fn send<K: Sink>(sink: &mut K, bytes: &[u8]) -> Result<(), Stop>
-    ensures bytes { Writes (K.held sink.old) (K.held sink.new) (K.faults sink.old)
+    ensures bytes { WritesText (K.held sink.old) (K.held sink.new) (K.faults sink.old)
         (K.faults sink.new) bytes.now result }
     ensures later { K.faults sink.old ≤ K.faults sink.new }
 {
@@ -22,7 +22,7 @@ pub fn send<K: Sink>(sink: &mut K, bytes: &[u8]) -> Result<(), Stop>
 
 /// Writes `=`, the length of a body, a newline and the body, and hands them on.
 pub fn send_body<K: Sink>(alloc: Global, sink: &mut K, body: &Many<u8>) -> Result<(), Stop>
-    ensures bytes { Sends (K.held sink.old) (K.held sink.new) (K.faults sink.old)
+    ensures bytes { SendsText (K.held sink.old) (K.held sink.new) (K.faults sink.old)
         (K.faults sink.new) (body_text body.now) result }
     ensures later { K.faults sink.old ≤ K.faults sink.new }
 {
@@ -35,7 +35,7 @@ pub fn send_body<K: Sink>(alloc: Global, sink: &mut K, body: &Many<u8>) -> Resul
 
 // Writes two texts one after the other, and hands them on.
 fn send_both<K: Sink>(sink: &mut K, line: &[u8], body: &[u8]) -> Result<(), Stop>
-    ensures bytes { Writes (K.held sink.old) (K.held sink.new) (K.faults sink.old)
+    ensures bytes { WritesText (K.held sink.old) (K.held sink.new) (K.faults sink.old)
         (K.faults sink.new) (line.now ++ body.now) result }
     ensures later { K.faults sink.old ≤ K.faults sink.new }
 {
@@ -46,7 +46,7 @@ fn send_both<K: Sink>(sink: &mut K, line: &[u8], body: &[u8]) -> Result<(), Stop
 }
 
 fn write<K: Sink>(sink: &mut K, bytes: &[u8]) -> Result<(), Stop>
-    ensures bytes { Writes (K.held sink.old) (K.held sink.new) (K.faults sink.old)
+    ensures bytes { WritesText (K.held sink.old) (K.held sink.new) (K.faults sink.old)
         (K.faults sink.new) bytes.now result }
     ensures later { K.faults sink.old ≤ K.faults sink.new }
 {
@@ -58,7 +58,7 @@ fn write<K: Sink>(sink: &mut K, bytes: &[u8]) -> Result<(), Stop>
 
 #[tactic(auto, using(ifmap_io::specs::Rises::keeps_appends, crate::proofs::Pieces::keeps_front))]
 fn hand_on<K: Sink>(sink: &mut K) -> Result<(), Stop>
-    ensures bytes { Writes (K.held sink.old) (K.held sink.new) (K.faults sink.old)
+    ensures bytes { WritesText (K.held sink.old) (K.held sink.new) (K.faults sink.old)
         (K.faults sink.new) [] result }
     ensures later { K.faults sink.old ≤ K.faults sink.new }
 {

@@ -9,7 +9,7 @@ use Rattle.std.specs.BTreeMap.{get}
 use Rattle.std.specs.List.{AllByRecursion}
 use Rattle.std.specs.List.Sorted.{IsStrictlySortedBy}
 use Rattle.std.specs.Ordering.{nat_cmp}
-use Rattle.ifmap_changes.specs.Between.{AreWithin, Asking, IsReady, IsWithin, rest_of, sessions_left, so_far}
+use Rattle.ifmap_changes.specs.Between.{AreWithinLimits, Asking, IsSoundSoFar, IsWithinLimit, rest_of, sessions_left, so_far}
 use Rattle.ifmap_changes.specs.declared.parts.Parts.{Parts}
 use Rattle.ifmap_core.specs.Outcomes.{alone_told}
 use Rattle.ifmap_core.proofs.Ended.{remains}
@@ -83,14 +83,14 @@ module _ (n size : ℕ) (before after : Tellings) (live : List Session)
       ]
 
 -- one error is within each limit
-error_fits : (size : ℕ) (s : Session) → IsWithin s → IsWithin (with_error (error_of size s.limit) s)
+error_fits : (size : ℕ) (s : Session) → IsWithinLimit s → IsWithinLimit (with_error (error_of size s.limit) s)
 error_fits size s w =
     let sum = sum_by-cons poll_size (error_of size s.limit) [] in
     let few : queue_size (error_of size s.limit ∷ []) ≤ s.limit = omega (arith, sum, w.wide) in
     record { full = grind (arith, nat_tests, few); wide = w.wide }
 
-errors_fit : (n size : ℕ) (live : List Session) → AreWithin live
-    → AreWithin (change n (λ (x : Session). with_error (error_of size x.limit) x) live)
+errors_fit : (n size : ℕ) (live : List Session) → AreWithinLimits live
+    → AreWithinLimits (change n (λ (x : Session). with_error (error_of size x.limit) x) live)
 errors_fit n size [] h = tt
 errors_fit n size (x ∷ live) h =
     elim (cases_Bool (x.serial == n)) [
@@ -132,9 +132,9 @@ module _ (a : Asking) (old new : Parts) (before after : Pending) (n size : ℕ) 
       }) standing
       ∙ ap (λ (xs : List machine.Standing). record (alone_told n size (so_far a old before)) { standing = xs }) gone
 
-  pub alone_ready : IsReady a old before → length after.gone.items ≡ length old.standing.items → Rises before.gone.items after.gone.items
+  pub alone_ready : IsSoundSoFar a old before → length after.gone.items ≡ length old.standing.items → Rises before.gone.items after.gone.items
       → AllKept (λ (x : Standing). x.serial ≢ n) after.gone.items old.standing.items → 1 ≤ spare_of n new.sessions.spare
-      → IsReady a new after
+      → IsSoundSoFar a new after
   alone_ready r flags more bare room =
       let long : length after.gone.items ≡ length before.gone.items = flags ∙ sym r.flags in
       record {
@@ -144,13 +144,13 @@ module _ (a : Asking) (old new : Parts) (before after : Pending) (n size : ℕ) 
         kept = rw (rows, standing) (kept_fewer _ before.gone.items after.gone.items old.standing.items long more r.kept);
         live = rw (sessions.live, standing) (kept_fewer _ before.gone.items after.gone.items old.standing.items long more r.live);
         queues = rw (sessions.live) r.queues;
-        within = subst AreWithin (sym told_now) (errors_fit n size (map (told_by before.tellings) (sessions_left a old.sessions)) r.within);
+        within = subst AreWithinLimits (sym told_now) (errors_fit n size (map (told_by before.tellings) (sessions_left a old.sessions)) r.within);
         can_tell = can_each r;
         sized = sized_each r;
         alone = rw standing (alone_each r long more bare);
       }
     where
-      can_each : IsReady a old before → EachTelling (CanTell (rest_of a new.sessions)) after.tellings
+      can_each : IsSoundSoFar a old before → EachTelling (CanTell (rest_of a new.sessions)) after.tellings
       can_each r m t e =
           elim (cases_Bool (m == n)) [
             | inl hit ↦
@@ -170,7 +170,7 @@ module _ (a : Asking) (old new : Parts) (before after : Pending) (n size : ℕ) 
                 }
           ]
 
-      sized_each : IsReady a old before → EachTelling (λ m t. IsSized m t new.sessions.live) after.tellings
+      sized_each : IsSoundSoFar a old before → EachTelling (λ m t. IsSized m t new.sessions.live) after.tellings
       sized_each r m t e =
           elim (cases_Bool (m == n)) [
             | inl hit ↦
@@ -181,7 +181,7 @@ module _ (a : Asking) (old new : Parts) (before after : Pending) (n size : ℕ) 
             | inr miss ↦ rw (sessions.live) (r.sized m t (sym (others m (other_number m n miss)) ∙ e))
           ]
 
-      alone_each : IsReady a old before → length after.gone.items ≡ length before.gone.items → Rises before.gone.items after.gone.items
+      alone_each : IsSoundSoFar a old before → length after.gone.items ≡ length before.gone.items → Rises before.gone.items after.gone.items
           → AllKept (λ (x : Standing). x.serial ≢ n) after.gone.items old.standing.items
           → AloneAreBare after.tellings after.gone.items old.standing.items
       alone_each r long more bare m e =

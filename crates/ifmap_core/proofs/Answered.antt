@@ -24,7 +24,7 @@ use Rattle.ifmap_requests.specs.declared.requests.Request.TheVariants as the_req
 use Rattle.ifmap_requests.specs.declared.requests.SubscribeOp.{SubscribeOp}
 use Rattle.ifmap_search.specs.declared.results.PollItem.{PollItem}
 use Rattle.ifmap_search.specs.declared.searches.Search.{Search}
-use Rattle.ifmap_session.specs.Sessions.{Session, is_text, session_with_id}
+use Rattle.ifmap_session.specs.Sessions.{Session, is_same_text, session_with_id}
 use Rattle.ifmap_session.specs.laws.TextLaws.{text_is, text_same}
 
 -- an answer that is no reply is given by no request but a poll
@@ -33,7 +33,7 @@ module _ (state : State) (client : List ℕ) (wanted : Answer) (f : (r : AnyRepl
       → (in_session state client o accept).1 ≡ wanted → ⊥
   in_none None accept g h = f _ h
   in_none (Some s) accept g h =
-      elim (cases_Bool (is_text s.client client)) [ inl hit ↦ g s (rw hit at h) | inr miss ↦ f _ (rw miss at h) ]
+      elim (cases_Bool (is_same_text s.client client)) [ inl hit ↦ g s (rw hit at h) | inr miss ↦ f _ (rw miss at h) ]
 
   new_not : (random : ℕ) (limit : Option ℕ) → (new_session state client random limit).1 ≡ wanted → ⊥
   new_not random limit h =
@@ -45,7 +45,7 @@ module _ (state : State) (client : List ℕ) (wanted : Answer) (f : (r : AnyRepl
 
   purge_not : (publisher : List ℕ) (s : Session) → (purge state publisher s).1 ≡ wanted → ⊥
   purge_not publisher s h =
-      elim (cases_Bool (is_text publisher s.client)) [ inl hit ↦ f _ (rw hit at h) | inr miss ↦ f _ (rw miss at h) ]
+      elim (cases_Bool (is_same_text publisher s.client)) [ inl hit ↦ f _ (rw hit at h) | inr miss ↦ f _ (rw miss at h) ]
 
   subscribed_not : (s : Session) (o : Option Told) → (answer_subscribed state s o).1 ≡ wanted → ⊥
   subscribed_not s None h = f _ h
@@ -87,13 +87,13 @@ module _ (state : State) (client : List ℕ) where
   held_in : (again : Bool) (o : Option Session) → ((in_session state client o (poll_in state again)).1 ≡ Held) ↔ IsFoundEmpty o
   held_in again None = ((λ h. cc), (λ h. let bad = h.1 in cc))
   held_in again (Some s) = (
-    (λ h. elim (cases_Bool (is_text s.client client)) [
+    (λ h. elim (cases_Bool (is_same_text s.client client)) [
       | inl hit ↦ (s, refl, text_is s.client client hit, queue_held state again s s.queue (rw hit at h))
       | inr miss ↦ absurd (held_no_reply _ (rw miss at h))
     ]),
     (λ h.
         let same : h.0 ≡ s = let e = h.1 in cc in
-        let own : is_text s.client client ≡ true = text_same s.client client (ap (λ (t : Session). t.client) (sym same) ∙ h.2) in
+        let own : is_same_text s.client client ≡ true = text_same s.client client (ap (λ (t : Session). t.client) (sym same) ∙ h.2) in
         let empty : s.queue ≡ [] = ap (λ (t : Session). t.queue) (sym same) ∙ h.3 in
         rw (own, empty) refl),
   )
@@ -113,7 +113,7 @@ module _ (state : State) (client : List ℕ) where
   ended_not_in : (again : Bool) (o : Option Session) → (in_session state client o (poll_in state again)).1 ≡ Reply Ended → ⊥
   ended_not_in again None h = cc
   ended_not_in again (Some s) h =
-      elim (cases_Bool (is_text s.client client)) [
+      elim (cases_Bool (is_same_text s.client client)) [
         | inl hit ↦ queue_not_ended state again s s.queue (rw hit at h)
         | inr miss ↦ no_error _ _ (rw miss at h)
       ]

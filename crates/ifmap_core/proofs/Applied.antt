@@ -6,14 +6,14 @@ use Rattle.std.proofs.lemmas.Option.{same_Some}
 use Rattle.std.specs.List.{AllByRecursion}
 use Rattle.std.specs.List.Sorted.{IsStrictlySortedBy}
 use Rattle.std.specs.Option.{IfSome}
-use Rattle.ifmap_changes.specs.Between.{AreOrdered, AreParts, AreWithin, IsSteady, sight_now}
+use Rattle.ifmap_changes.specs.Between.{AreOrdered, AreParts, AreWithinLimits, IsSteady, sight_now}
 use Rattle.ifmap_changes.specs.declared.parts.Parts.{Parts}
 use Rattle.ifmap_core.specs.Outcomes.{FitsAfter, WouldBeParts, after_former, after_outcome, poll_found, rename_in}
 use Rattle.ifmap_core.specs.declared.outcomes.Outcome.{Outcome}
 use Rattle.ifmap_core.specs.declared.outcomes.Outcome.TheVariants.{Say, Accept, End, Open, Rename, Poll}
 use Rattle.ifmap_core.proofs.Applying.{bare_stays, fits_within, live_changed, within_renewed}
 use Rattle.ifmap_core.proofs.Renamed.{all_renamed, others_few}
-use Rattle.ifmap_delta.specs.Sights.{IsKept}
+use Rattle.ifmap_delta.specs.Sights.{IsUpToDate}
 use Rattle.ifmap_lemmas.specs.Members.{all_of_map}
 use Rattle.ifmap_lemmas.specs.Numbers.{is_number}
 use Rattle.ifmap_machine.specs.declared.events.Answer.{Answer}
@@ -24,7 +24,7 @@ use Rattle.ifmap_machine.specs.State as machine
 use Rattle.ifmap_machine.specs.Subscribing.{Told, most_names}
 use Rattle.ifmap_replies.specs.declared.replies.Reply.TheVariants as the_reply
 use Rattle.ifmap_search.specs.Sizes.{queue_size}
-use Rattle.ifmap_session.specs.Sessions.{IsLive, Opening, Session, Table, change, session_from, session_order, session_with_serial, with_last, without_sessions}
+use Rattle.ifmap_session.specs.Sessions.{IsLive, Opening, Session, SessionTable, change, session_from, session_order, session_with_serial, with_last, without_sessions}
 use Rattle.ifmap_session.specs.laws.TableLaws.{renewed_keeps}
 use Rattle.ifmap_standing.specs.declared.standing.Standing.{Standing}
 use Rattle.ifmap_standing.specs.Standing.{standing_of}
@@ -106,8 +106,8 @@ module _ (state : State) (moment counter : ℕ) (live : List Session) (standing 
 -- ---- the parts are sound
 
 -- with other sessions
-pub parts_moved : (parts : Parts) (table : Table) → WouldBeParts [] parts → AreOrdered table.live parts.standing.items
-    → AreWithin table.live → AreParts (record parts { sessions = table })
+pub parts_moved : (parts : Parts) (table : SessionTable) → WouldBeParts [] parts → AreOrdered table.live parts.standing.items
+    → AreWithinLimits table.live → AreParts (record parts { sessions = table })
 parts_moved parts table w ordered within = record {
   steady = subst (IsSteady parts.graph) (append-nil parts.standing.items) w.steady;
   ordered = ordered;
@@ -116,8 +116,8 @@ parts_moved parts table w ordered within = record {
 }
 
 -- and after renamings
-module _ (serial moment : ℕ) (renamings : List Renaming) (old new : Parts) (table : Table)
-    (w_ordered : AreOrdered old.sessions.live old.standing.items) (w_within : AreWithin old.sessions.live)
+module _ (serial moment : ℕ) (renamings : List Renaming) (old new : Parts) (table : SessionTable)
+    (w_ordered : AreOrdered old.sessions.live old.standing.items) (w_within : AreWithinLimits old.sessions.live)
     (rising : IsStrictlySortedBy session_order old.sessions.live)
     (session : AllByRecursion (IsOfSession serial) renamings) (fits : FitsAfter serial renamings old) (one : Session)
     (found : session_with_serial serial old.sessions.live ≡ Some one) (are : AreRenamed serial renamings old new)
@@ -168,8 +168,8 @@ module _ (serial moment : ℕ) (renamings : List Renaming) (old new : Parts) (ta
           (all_shown old.standing.items w_ordered.live)));
       few = few_after;
     };
-    kept = subst (AllByRecursion (λ (x : Standing). IsKept (sight_now new.graph) x.subscription)) (append-nil new.standing.items) rest.kept;
-    within = subst AreWithin (sym moved) (within_renewed serial moment new.sessions.live (subst AreWithin (sym (are.told one found).1)
+    kept = subst (AllByRecursion (λ (x : Standing). IsUpToDate (sight_now new.graph) x.subscription)) (append-nil new.standing.items) rest.kept;
+    within = subst AreWithinLimits (sym moved) (within_renewed serial moment new.sessions.live (subst AreWithinLimits (sym (are.told one found).1)
         (fits_within serial (rename_all serial renamings told).queue old.sessions.live rising w_within
         (λ s e. subst (λ (x : Session). queue_size (rename_all serial renamings told).queue ≤ x.limit) (same_Some one s (sym found ∙ e))
         (fits one found).0))));

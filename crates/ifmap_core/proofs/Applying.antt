@@ -9,7 +9,7 @@ use Rattle.std.specs.List.{AllByRecursion}
 use Rattle.std.specs.List.Sorted.{IsStrictlySortedBy}
 use Rattle.std.specs.Option.{IfSome}
 use Rattle.std.specs.declared.cmp.Ordering.TheVariants.{Less}
-use Rattle.ifmap_changes.specs.Between.{AreOrdered, AreWithin, CanEnd, IsWithin}
+use Rattle.ifmap_changes.specs.Between.{AreOrdered, AreWithinLimits, CanEnd, IsWithinLimit}
 use Rattle.ifmap_core.specs.Outcomes.{after_former, first_renewed, poll_answer, poll_found}
 use Rattle.ifmap_core.proofs.Ended.{live_beside, remains, without_each, without_none}
 use Rattle.ifmap_lemmas.specs.Filters.{all_filter, all_weaker}
@@ -25,14 +25,14 @@ use Rattle.ifmap_replies.specs.declared.replies.Reply.TheVariants as the_reply
 use Rattle.ifmap_search.specs.declared.results.PollItem.{PollItem}
 use Rattle.ifmap_search.specs.Sizes.{queue_size}
 use Rattle.ifmap_session.specs.Sessions.{IsLive, Opening, Session, change, session_from, session_order, session_with_serial, with_last, without_items, without_sessions}
-use Rattle.ifmap_session.specs.laws.TableLaws.{Keeps, changed_one, found_beside_begun, found_changed, renewed_keeps, found_serial}
+use Rattle.ifmap_session.specs.laws.TableLaws.{KeepsIdAndClient, changed_one, found_beside_begun, found_changed, renewed_keeps, found_serial}
 use Rattle.ifmap_standing.specs.declared.standing.Standing.{Standing}
 use Rattle.ifmap_standing.specs.Standing.{standing_of}
 
 -- ---- queues stay within their limits
 
-pub within_changed : (n : ℕ) (f : Session → Session) → ((s : Session) → IsWithin s → IsWithin (f s)) → (live : List Session)
-    → AreWithin live → AreWithin (change n f live)
+pub within_changed : (n : ℕ) (f : Session → Session) → ((s : Session) → IsWithinLimit s → IsWithinLimit (f s)) → (live : List Session)
+    → AreWithinLimits live → AreWithinLimits (change n f live)
 within_changed n f keeps [] h = tt
 within_changed n f keeps (s ∷ live) h =
     elim (cases_Bool (s.serial == n)) [
@@ -40,33 +40,33 @@ within_changed n f keeps (s ∷ live) h =
       | inr miss ↦ (rw miss h.0, within_changed n f keeps live h.1)
     ]
 
-pub within_renewed : (n moment : ℕ) (live : List Session) → AreWithin live → AreWithin (change n (with_last moment) live)
+pub within_renewed : (n moment : ℕ) (live : List Session) → AreWithinLimits live → AreWithinLimits (change n (with_last moment) live)
 within_renewed n moment live h = within_changed n (with_last moment) (λ s w. record { full = w.full; wide = w.wide }) live h
 
 emptied_full : (s : Session) → is_overfull (without_items s) ≡ false
 emptied_full s = grind (arith, nat_tests)
 
-pub within_emptied : (n : ℕ) (live : List Session) → AreWithin live → AreWithin (change n without_items live)
+pub within_emptied : (n : ℕ) (live : List Session) → AreWithinLimits live → AreWithinLimits (change n without_items live)
 within_emptied n live h = within_changed n without_items (λ s w. record { full = emptied_full s; wide = w.wide }) live h
 
-pub within_first : (again : Bool) (n moment : ℕ) (live : List Session) → AreWithin live → AreWithin (first_renewed again n moment live)
+pub within_first : (again : Bool) (n moment : ℕ) (live : List Session) → AreWithinLimits live → AreWithinLimits (first_renewed again n moment live)
 within_first true n moment live h = h
 within_first false n moment live h = within_renewed n moment live h
 
-pub within_left : (serials : List ℕ) (live : List Session) → AreWithin live → AreWithin (without_sessions serials live)
-within_left serials live h = all_filter IsWithin (remains serials) live h
+pub within_left : (serials : List ℕ) (live : List Session) → AreWithinLimits live → AreWithinLimits (without_sessions serials live)
+within_left serials live h = all_filter IsWithinLimit (remains serials) live h
 
-pub within_former : (former : Option ℕ) (live : List Session) → AreWithin live → AreWithin (after_former former live)
+pub within_former : (former : Option ℕ) (live : List Session) → AreWithinLimits live → AreWithinLimits (after_former former live)
 within_former None live h = h
 within_former (Some n) live h = within_left (n ∷ []) live h
 
 begun_full : (opening : Opening) (limit moment : ℕ) → is_overfull (session_from opening limit moment) ≡ false
 begun_full opening limit moment = grind (arith, nat_tests)
 
-pub within_begun : (opening : Opening) (limit moment : ℕ) (live : List Session) → 100 ≤ limit → AreWithin live
-    → AreWithin (live ++ session_from opening limit moment ∷ [])
+pub within_begun : (opening : Opening) (limit moment : ℕ) (live : List Session) → 100 ≤ limit → AreWithinLimits live
+    → AreWithinLimits (live ++ session_from opening limit moment ∷ [])
 within_begun opening limit moment live wide h =
-    both_all IsWithin live (session_from opening limit moment ∷ []) h (record { full = begun_full opening limit moment; wide = wide }, tt)
+    both_all IsWithinLimit live (session_from opening limit moment ∷ []) h (record { full = begun_full opening limit moment; wide = wide }, tt)
 
 not_full : (s : Session) (queue : List PollItem) → queue_size queue ≤ s.limit → is_overfull (record s { queue = queue }) ≡ false
 not_full s queue le = grind (arith, nat_tests, le)
@@ -81,9 +81,9 @@ others_same n x f (y ∷ live) is up =
     rw other (ap (λ t. y ∷ t) (others_same n x f live is up.1))
 
 -- a session has another queue, which is within its limit
-pub fits_within : (n : ℕ) (queue : List PollItem) (live : List Session) → IsStrictlySortedBy session_order live → AreWithin live
+pub fits_within : (n : ℕ) (queue : List PollItem) (live : List Session) → IsStrictlySortedBy session_order live → AreWithinLimits live
     → ((s : Session) → session_with_serial n live ≡ Some s → queue_size queue ≤ s.limit)
-    → AreWithin (change n (λ (s : Session). record s { queue = queue }) live)
+    → AreWithinLimits (change n (λ (s : Session). record s { queue = queue }) live)
 unfolding IsStrictlySortedBy
 fits_within n queue [] up h fits = tt
 fits_within n queue (x ∷ live) up h fits =
@@ -91,7 +91,7 @@ fits_within n queue (x ∷ live) up h fits =
       | inl hit ↦
           let le : queue_size queue ≤ x.limit = fits x (rw hit refl) in (
             rw hit (record { full = not_full x queue le; wide = h.0.wide }),
-            subst AreWithin (sym (others_same n x (λ (s : Session). record s { queue = queue }) live hit up.0)) h.1,
+            subst AreWithinLimits (sym (others_same n x (λ (s : Session). record s { queue = queue }) live hit up.0)) h.1,
           )
       | inr miss ↦ (rw miss h.0, fits_within n queue live up.1 h.1 (λ s e. fits s (rw miss e)))
     ]
@@ -114,7 +114,7 @@ pub told_some : (items : List PollItem) → (items ≡ [] → ⊥) → poll_answ
 told_some [] some = absurd (some refl)
 told_some (item ∷ items) some = refl
 
-pub emptied_keeps : Keeps without_items
+pub emptied_keeps : KeepsIdAndClient without_items
 emptied_keeps = record { serial = λ s. refl; id = λ s. refl; client = λ s. refl }
 
 pub live_emptied : (n : ℕ) (live : List Session) → IsLive n live → IsLive n (change n without_items live)
@@ -203,7 +203,7 @@ lived n serials (x ∷ live) l =
 
 -- ---- subscriptions stay in order beside sessions
 
-module _ (n : ℕ) (f : Session → Session) (k : Keeps f) where
+module _ (n : ℕ) (f : Session → Session) (k : KeepsIdAndClient f) where
   pub live_changed : (m : ℕ) (live : List Session) → IsLive m live → IsLive m (change n f live)
   live_changed m live l =
       let there = some_is (session_with_serial m live) l in

@@ -9,9 +9,9 @@ use Rattle.std.proofs.lemmas.Option.{same_Some}
 use Rattle.std.specs.List.{IsDistinct}
 use Rattle.std.specs.Option.{IfSome, option_map}
 use Rattle.std.specs.Result.{IfOk}
-use Rattle.ifmap_changes.specs.Between.{AreKept, AreOrdered, AreTurned, AreWithin, Asking, CanEnd, IsBare, IsReady, IsSteady, rest_of, sessions_left, so_far}
+use Rattle.ifmap_changes.specs.Between.{AreKept, AreOrdered, AreTurned, AreWithinLimits, Asking, CanEnd, HasNoSubscriptions, IsSoundSoFar, IsSteady, rest_of, sessions_left, so_far}
 use Rattle.ifmap_changes.specs.declared.parts.Parts.{Parts}
-use Rattle.ifmap_core.specs.Outcomes.{CanOpen, LeadsTo, after_former, after_outcome, drop_former, open_session, taken_former}
+use Rattle.ifmap_core.specs.Outcomes.{CanOpen, LeadsToAnswer, after_former, after_outcome, drop_former, open_session, taken_former}
 use Rattle.ifmap_core.specs.declared.outcomes.Outcome.{Outcome}
 use Rattle.ifmap_core.specs.declared.outcomes.Outcome.TheVariants.{Say, Open}
 use Rattle.ifmap_core.proofs.Ended.{remains}
@@ -25,7 +25,7 @@ use Rattle.ifmap_machine.specs.State.{State}
 use Rattle.ifmap_machine.specs.Step.{begin_session, is_full, new_session, next_session, refusal}
 use Rattle.ifmap_replies.specs.declared.replies.Reply.TheVariants as the_reply
 use Rattle.ifmap_session.specs.SessionIds.{session_id}
-use Rattle.ifmap_session.specs.Sessions.{IsAsBefore, IsLive, IsTable, Opening, Session, Table, is_text, limit_of, most_sessions, session_from, session_of_client, spare_of, without_sessions}
+use Rattle.ifmap_session.specs.Sessions.{IsAsBefore, IsLive, IsTable, Opening, Session, SessionTable, is_same_text, limit_of, most_sessions, session_from, session_of_client, spare_of, without_sessions}
 use Rattle.ifmap_session.specs.laws.TableLaws.{client_freed, one_fewer}
 use Rattle.ifmap_session.specs.laws.TextLaws.{distinct_filter}
 use Rattle.ifmap_tellings.specs.declared.tellings.Pending.{Pending}
@@ -36,7 +36,7 @@ use Rattle.ifmap_tellings.specs.ToldLaws.{same_twice}
 
 -- ---- parts of which the sessions have more room
 
-module _ (parts : Parts) (table : Table) (b : IsAsBefore parts.sessions table) where
+module _ (parts : Parts) (table : SessionTable) (b : IsAsBefore parts.sessions table) where
   abbrev pub with_table : Parts
   with_table = record parts { sessions = table }
 
@@ -98,7 +98,7 @@ module _ (parts : Parts) (table : Table) (b : IsAsBefore parts.sessions table) w
     sessions = map (told_by pending.tellings) (without_sessions a.ended (b.live i));
   }
 
-  pub ready_with : (a : Asking) (pending : Pending) → IsReady a parts pending → IsReady a with_table pending
+  pub ready_with : (a : Asking) (pending : Pending) → IsSoundSoFar a parts pending → IsSoundSoFar a with_table pending
   ready_with a pending r =
       let live = sym b.live in
       record {
@@ -107,8 +107,8 @@ module _ (parts : Parts) (table : Table) (b : IsAsBefore parts.sessions table) w
         flags = r.flags;
         kept = r.kept;
         live = λ i x e stays. subst (λ l. IsLive x.serial (without_sessions a.ended l)) live (r.live i x e stays);
-        queues = subst AreWithin live r.queues;
-        within = subst (λ l. AreWithin (map (told_by pending.tellings) (without_sessions a.ended l))) live r.within;
+        queues = subst AreWithinLimits live r.queues;
+        within = subst (λ l. AreWithinLimits (map (told_by pending.tellings) (without_sessions a.ended l))) live r.within;
         can_tell = λ n t e. let can = r.can_tell n t e in record {
           live = subst (λ l. IsLive n (without_sessions a.ended l)) live can.live;
           room = subst (λ s. count_told t ≤ spare_of n s) (sym b.spare) can.room;
@@ -119,11 +119,11 @@ module _ (parts : Parts) (table : Table) (b : IsAsBefore parts.sessions table) w
 
 -- ---- whether a client can be given a session
 
-client_mapped : (f : Session → Session) (c : List ℕ) → ((s : Session) → is_text (f s).client c ≡ is_text s.client c) → (live : List Session)
+client_mapped : (f : Session → Session) (c : List ℕ) → ((s : Session) → is_same_text (f s).client c ≡ is_same_text s.client c) → (live : List Session)
     → session_of_client c (map f live) ≡ option_map f (session_of_client c live)
 client_mapped f c same [] = refl
 client_mapped f c same (x ∷ live) =
-    elim (cases_Bool (is_text x.client c)) [
+    elim (cases_Bool (is_same_text x.client c)) [
       | inl hit ↦ rw (same x ∙ hit, hit) refl
       | inr miss ↦ rw (same x ∙ miss, miss) (client_mapped f c same live)
     ]
@@ -132,7 +132,7 @@ none_mapped : (f : Session → Session) (o : Option Session) → is_none (option
 none_mapped f None = refl
 none_mapped f (Some s) = refl
 
-pub full_is : (a : Asking) (table : Table) (parts : Parts) (pending : Pending) → parts.sessions ≡ table
+pub full_is : (a : Asking) (table : SessionTable) (parts : Parts) (pending : Pending) → parts.sessions ≡ table
     → is_full (so_far a parts pending) a.client
     ≡ ((nat_le most_sessions (length (sessions_left a table)) && is_none (session_of_client a.client (sessions_left a table)))
     || (table.counter == 2 ^ 64 - 1))
@@ -143,11 +143,11 @@ full_is a table parts pending e =
     let none : is_none (session_of_client a.client (map f live)) ≡ is_none (session_of_client a.client live) =
     ap is_none (client_mapped f a.client (client_told pending.tellings a.client) live) ∙ none_mapped f (session_of_client a.client live) in
     (λ i. (nat_le most_sessions (count i) && none i) || (parts.sessions.counter == 2 ^ 64 - 1))
-    ∙ ap (λ (t : Table). (nat_le most_sessions (length (sessions_left a t)) && is_none (session_of_client a.client (sessions_left a t)))
+    ∙ ap (λ (t : SessionTable). (nat_le most_sessions (length (sessions_left a t)) && is_none (session_of_client a.client (sessions_left a t)))
     || (t.counter == 2 ^ 64 - 1)) e
 
 -- by what was found of both causes
-module _ (a : Asking) (table : Table) (parts : Parts) (pending : Pending) (e : parts.sessions ≡ table) (taken : Bool)
+module _ (a : Asking) (table : SessionTable) (parts : Parts) (pending : Pending) (e : parts.sessions ≡ table) (taken : Bool)
     (is : taken ≡ (nat_le most_sessions (length (sessions_left a table))
     && is_none (session_of_client a.client (sessions_left a table)))) where
   pub full_where_taken : taken ≡ true → taken ≡ is_full (so_far a parts pending) a.client
@@ -160,12 +160,12 @@ module _ (a : Asking) (table : Table) (parts : Parts) (pending : Pending) (e : p
       ∙ sym (full_is a table parts pending e ∙ ap (λ b. b || (table.counter == 2 ^ 64 - 1)) (sym is ∙ not_taken))
 
 pub full_leads : {E : Type 0} (a : Asking) (parts : Parts) (pending : Pending) (random : ℕ) (limit : Option ℕ) (r : Result Outcome E)
-    → IfOk r (λ q. q ≡ Say (refusal SystemError)) → IsSteady parts.graph parts.standing.items → IsReady a parts pending
+    → IfOk r (λ q. q ≡ Say (refusal SystemError)) → IsSteady parts.graph parts.standing.items → IsSoundSoFar a parts pending
     → is_full (so_far a parts pending) a.client ≡ true
-    → IfOk r (λ q. LeadsTo q a parts pending (new_session (so_far a parts pending) a.client random limit))
+    → IfOk r (λ q. LeadsToAnswer q a parts pending (new_session (so_far a parts pending) a.client random limit))
 full_leads a parts pending random limit (Err e) is steady ready full = tt
 full_leads a parts pending random limit (Ok outcome) is steady ready full =
-    subst (λ q. LeadsTo q a parts pending (new_session (so_far a parts pending) a.client random limit)) (sym is) (record {
+    subst (λ q. LeadsToAnswer q a parts pending (new_session (so_far a parts pending) a.client random limit)) (sym is) (record {
       steady = subst (IsSteady parts.graph) (sym (append-nil parts.standing.items)) steady;
       ready = ready;
       can = tt;
@@ -174,7 +174,7 @@ full_leads a parts pending random limit (Ok outcome) is steady ready full =
 
 -- ---- a session begins
 
-module _ (table : Table) (client : List ℕ) where
+module _ (table : SessionTable) (client : List ℕ) where
   fewer : (live : List Session) (o : Option Session) → session_of_client client live ≡ o → length live ≤ most_sessions
       → (nat_le most_sessions (length live) && is_none o) ≡ false
       → length (after_former (option_map (λ (s : Session). s.serial) o) live) < most_sessions
@@ -182,7 +182,7 @@ module _ (table : Table) (client : List ℕ) where
   fewer live (Some s) e few free = let less = one_fewer live client s e in omega (arith, less, few)
 
   freed : (live : List Session) (o : Option Session) → session_of_client client live ≡ o
-      → IsDistinct is_text (map (λ (s : Session). s.client) live)
+      → IsDistinct is_same_text (map (λ (s : Session). s.client) live)
       → session_of_client client (after_former (option_map (λ (s : Session). s.serial) o) live) ≡ None
   freed live None e apart = e
   freed live (Some s) e apart = client_freed live client s apart e
@@ -271,7 +271,7 @@ module _ (a : Asking) (old new : Parts) (pending after : Pending) (random : ℕ)
 
   -- and that it can be done
   can_open : former ≡ option_map (λ (s : Session). s.serial) (session_of_client a.client (sessions_left a old.sessions))
-      → is_full (so_far a old pending) a.client ≡ false → (table : Table) → IsTable table → IsAsBefore old.sessions table
+      → is_full (so_far a old pending) a.client ≡ false → (table : SessionTable) → IsTable table → IsAsBefore old.sessions table
       → HasSameSessions table new.sessions → 1 ≤ table.room → IfSome former (λ n. IsLive n (sessions_left a old.sessions))
       → CanOpen former opening count (rest_of a new.sessions)
   can_open same free table whole b h room live =
@@ -300,11 +300,11 @@ module _ (a : Asking) (old new : Parts) (pending after : Pending) (random : ℕ)
       }
 
   pub begins : former ≡ option_map (λ (s : Session). s.serial) (session_of_client a.client (sessions_left a old.sessions))
-      → is_full (so_far a old pending) a.client ≡ false → (table : Table) → IsTable table → (b : IsAsBefore old.sessions table)
+      → is_full (so_far a old pending) a.client ≡ false → (table : SessionTable) → IsTable table → (b : IsAsBefore old.sessions table)
       → HasSameSessions table new.sessions → 1 ≤ table.room → IfSome former (λ n. IsLive n (sessions_left a old.sessions))
       → so_far a new after ≡ taken_former former (so_far a (with_table old table b) pending) → IsSteady new.graph new.standing.items
-      → IsReady a new after → IfSome former (λ n. IsBare n new after)
-      → LeadsTo (Open former opening count publisher) a new after (new_session (so_far a old pending) a.client random limit)
+      → IsSoundSoFar a new after → IfSome former (λ n. HasNoSubscriptions n new after)
+      → LeadsToAnswer (Open former opening count publisher) a new after (new_session (so_far a old pending) a.client random limit)
   begins same free table whole b h room live told steady ready bare = record {
     steady = subst (IsSteady new.graph) (sym (append-nil new.standing.items)) steady;
     ready = ready;

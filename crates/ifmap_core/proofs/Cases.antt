@@ -5,14 +5,14 @@ use Rattle.std.proofs.Common.{◌≡◌, refl, sym, ◌∙◌, ap, subst, ℕ, �
 use Rattle.std.proofs.lemmas.Bool.{cases_Bool}
 use Rattle.std.proofs.lemmas.Bool.Decides.{nat_tests}
 use Rattle.std.specs.Result.{IfOk}
-use Rattle.ifmap_changes.specs.Between.{Asking, IsReady, IsSteady, sessions_left, so_far}
+use Rattle.ifmap_changes.specs.Between.{Asking, IsSoundSoFar, IsSteady, sessions_left, so_far}
 use Rattle.ifmap_changes.specs.Changes.{taken_one}
 use Rattle.ifmap_changes.specs.declared.parts.Parts.{Parts}
 use Rattle.ifmap_core.specs.declared.outcomes.Outcome.{Outcome}
 use Rattle.ifmap_core.specs.declared.outcomes.Outcome.TheVariants.{Say, Accept}
 use Rattle.ifmap_core.specs.declared.owning.Owner.{Owner}
 use Rattle.ifmap_core.specs.declared.owning.Owner.TheVariants.{Own, Another, Nobody}
-use Rattle.ifmap_core.specs.Outcomes.{CanApply, IsOwner, LeadsTo, after_outcome, end_of_poll, held_by, poll_found}
+use Rattle.ifmap_core.specs.Outcomes.{CanApply, IsOwner, LeadsToAnswer, after_outcome, end_of_poll, held_by, poll_found}
 use Rattle.ifmap_core.proofs.Taking.{taken_is}
 use Rattle.ifmap_core.proofs.Told.{owner_told}
 use Rattle.ifmap_fresh.specs.Fresh.{fresh, fresh_size}
@@ -34,7 +34,7 @@ use Rattle.ifmap_requests.specs.declared.publishing.PublishOp.{PublishOp}
 use Rattle.ifmap_requests.specs.declared.requests.SubscribeOp.{SubscribeOp}
 use Rattle.ifmap_search.specs.declared.results.Entry.{Entry}
 use Rattle.ifmap_search.specs.declared.searches.Search.{Search}
-use Rattle.ifmap_session.specs.Sessions.{IsLive, Session, Table, is_text, session_with_id, session_with_serial}
+use Rattle.ifmap_session.specs.Sessions.{IsLive, Session, SessionTable, is_same_text, session_with_id, session_with_serial}
 use Rattle.ifmap_session.specs.laws.TextLaws.{text_is, text_same}
 use Rattle.ifmap_tellings.specs.declared.tellings.Pending.{Pending}
 use Rattle.ifmap_tellings.specs.Tellings.{HasSameSessions}
@@ -42,9 +42,9 @@ use Rattle.ifmap_tellings.specs.Tellings.{HasSameSessions}
 -- ---- what holds no subscription
 
 module _ (a : Asking) (parts : Parts) (pending : Pending) where
-  pub leads_plain : IsSteady parts.graph parts.standing.items → IsReady a parts pending → (outcome : Outcome) → held_by outcome ≡ []
+  pub leads_plain : IsSteady parts.graph parts.standing.items → IsSoundSoFar a parts pending → (outcome : Outcome) → held_by outcome ≡ []
       → CanApply outcome a parts pending → (wanted : State × Answer) → after_outcome outcome (so_far a parts pending) ≡ wanted
-      → LeadsTo outcome a parts pending wanted
+      → LeadsToAnswer outcome a parts pending wanted
   leads_plain steady ready outcome none can wanted e = record {
     steady = subst (λ more. IsSteady parts.graph (parts.standing.items ++ more)) (sym none)
         (subst (IsSteady parts.graph) (sym (append-nil parts.standing.items)) steady);
@@ -53,17 +53,17 @@ module _ (a : Asking) (parts : Parts) (pending : Pending) where
     leads = e;
   }
 
-  pub leads_said : IsSteady parts.graph parts.standing.items → IsReady a parts pending → (answer : Answer) (wanted : State × Answer)
-      → ◌≡◌ {A = State × Answer} (so_far a parts pending, answer) wanted → LeadsTo (Say answer) a parts pending wanted
+  pub leads_said : IsSteady parts.graph parts.standing.items → IsSoundSoFar a parts pending → (answer : Answer) (wanted : State × Answer)
+      → ◌≡◌ {A = State × Answer} (so_far a parts pending, answer) wanted → LeadsToAnswer (Say answer) a parts pending wanted
   leads_said steady ready answer wanted e = leads_plain steady ready (Say answer) refl tt wanted e
 
   -- a refusal, or another answer that says all
-  pub says : {E : Type 0} → IsSteady parts.graph parts.standing.items → IsReady a parts pending
+  pub says : {E : Type 0} → IsSteady parts.graph parts.standing.items → IsSoundSoFar a parts pending
       → (answer : Answer) (wanted : State × Answer)
       → ◌≡◌ {A = State × Answer} (so_far a parts pending, answer) wanted → (r : Result Outcome E) → IfOk r (λ o. o ≡ Say answer)
-      → IfOk r (λ o. LeadsTo o a parts pending wanted)
+      → IfOk r (λ o. LeadsToAnswer o a parts pending wanted)
   says steady ready answer wanted e (Ok outcome) is =
-      subst (λ (o : Outcome). LeadsTo o a parts pending wanted) (sym is) (leads_said steady ready answer wanted e)
+      subst (λ (o : Outcome). LeadsToAnswer o a parts pending wanted) (sym is) (leads_said steady ready answer wanted e)
   says steady ready answer wanted e (Err error) is = tt
 
   pub owner_so_far : (id client : List ℕ) (o : Owner) → IsOwner (sessions_left a parts.sessions) id client o
@@ -74,7 +74,7 @@ module _ (a : Asking) (parts : Parts) (pending : Pending) where
 pub own_left : (live : List Session) (id client : List ℕ) (serial : ℕ) → IsOwner live id client (Own serial) → IsLive serial live
 own_left live id client serial o = is_some_of (session_with_serial serial live) o.0 o.4
 
-pub live_after : (a : Asking) (n : ℕ) (old new : Table) → HasSameSessions old new → IsLive n (sessions_left a old)
+pub live_after : (a : Asking) (n : ℕ) (old new : SessionTable) → HasSameSessions old new → IsLive n (sessions_left a old)
     → IsLive n (sessions_left a new)
 live_after a n old new same l = subst (λ (live : List Session). IsLive n (sessions_left a (record old { live = live }))) (sym same.live) l
 
@@ -130,7 +130,7 @@ module _ (state : State) (id client : List ℕ) (serial : ℕ) (o : IsOwner stat
       → ◌≡◌ {A = State × Answer} (renew serial after, the_answer.Reply the_reply.Purged)
       (in_session state client found (purge state publisher))
   purges publisher after own e =
-      let same : is_text publisher o.0.client ≡ true = text_same publisher o.0.client (own ∙ sym own_client) in
+      let same : is_same_text publisher o.0.client ≡ true = text_same publisher o.0.client (own ∙ sym own_client) in
       own_case (purge state publisher) _ (rw same (renewed_as after (the_answer.Reply the_reply.Purged)
       ∙ ap (λ (s : State). (renew o.0.serial s, the_answer.Reply the_reply.Purged)) (e
       ∙ ap (λ (t : List ℕ). overflow (tell (retract (Publisher t) state.graph) [] state)) (sym own))))
@@ -138,7 +138,7 @@ module _ (state : State) (id client : List ℕ) (serial : ℕ) (o : IsOwner stat
   pub purges_not : (publisher : List ℕ) → (publisher ≡ client → ⊥)
       → ◌≡◌ {A = State × Answer} (state, refusal AccessDenied) (in_session state client found (purge state publisher))
   purges_not publisher other =
-      let differ : is_text publisher o.0.client ≡ false = elim (cases_Bool (is_text publisher o.0.client)) [
+      let differ : is_same_text publisher o.0.client ≡ false = elim (cases_Bool (is_same_text publisher o.0.client)) [
         | inl hit ↦ absurd (other (text_is publisher o.0.client hit ∙ own_client))
         | inr miss ↦ miss
       ] in
@@ -212,17 +212,17 @@ module _ (state : State) (id client : List ℕ) where
 -- ---- one request
 
 module _ (a : Asking) (parts : Parts) (pending : Pending) (steady : IsSteady parts.graph parts.standing.items)
-    (ready : IsReady a parts pending) where
+    (ready : IsSoundSoFar a parts pending) where
   -- accepted in a session that is left
   pub accepts : (serial : ℕ) (answer : Answer) (wanted : State × Answer) → IsLive serial (sessions_left a parts.sessions)
       → ◌≡◌ {A = State × Answer} (renew serial (so_far a parts pending), answer) wanted
-      → LeadsTo (Accept serial answer) a parts pending wanted
+      → LeadsToAnswer (Accept serial answer) a parts pending wanted
   accepts serial answer wanted live e = leads_plain a parts pending steady ready (Accept serial answer) refl live wanted e
 
   pub another : {E : Type 0} (id : List ℕ) (accept : Session → State × Answer)
       → IsOwner (sessions_left a parts.sessions) id a.client Another
       → (r : Result Outcome E) → IfOk r (λ o. o ≡ Say (refusal AccessDenied))
-      → IfOk r (λ o. LeadsTo o a parts pending
+      → IfOk r (λ o. LeadsToAnswer o a parts pending
       (in_session (so_far a parts pending) a.client (session_with_id id (so_far a parts pending).sessions) accept))
   another id accept o r is =
       says a parts pending steady ready (refusal AccessDenied) _
@@ -230,7 +230,7 @@ module _ (a : Asking) (parts : Parts) (pending : Pending) (steady : IsSteady par
 
   pub nobody : {E : Type 0} (id : List ℕ) (accept : Session → State × Answer) → IsOwner (sessions_left a parts.sessions) id a.client Nobody
       → (r : Result Outcome E) → IfOk r (λ o. o ≡ Say (refusal InvalidSessionID))
-      → IfOk r (λ o. LeadsTo o a parts pending
+      → IfOk r (λ o. LeadsToAnswer o a parts pending
       (in_session (so_far a parts pending) a.client (session_with_id id (so_far a parts pending).sessions) accept))
   nobody id accept o r is =
       says a parts pending steady ready (refusal InvalidSessionID) _

@@ -13,7 +13,7 @@ use Rattle.ifmap_lemmas.specs.Filters.{all_filter, all_weaker}
 use Rattle.ifmap_lemmas.specs.Members.{map_of_all, all_two}
 use Rattle.ifmap_lemmas.specs.Options.{is_some_of, some_is}
 use Rattle.ifmap_session.specs.SessionIds.{BeginsWithSerial}
-use Rattle.ifmap_session.specs.Sessions.{IsLive, IsTable, Session, Table, expired_serials, is_expired, is_text, session_of_client, session_order, session_with_id, session_with_serial, without_sessions}
+use Rattle.ifmap_session.specs.Sessions.{IsLive, IsTable, Session, SessionTable, expired_serials, is_expired, is_same_text, session_of_client, session_order, session_with_id, session_with_serial, without_sessions}
 use Rattle.ifmap_session.specs.laws.TableLaws.{found_beside_ended}
 use Rattle.ifmap_session.specs.laws.TextLaws.{all_found, find_none, rest_differ, text_is}
 use Rattle.ifmap_session.specs.laws.IdLaws.{ids_tell}
@@ -61,21 +61,21 @@ module _ {X : Type 0} (q p : X → Bool) where
       ]
 
 -- no other session has the id of one that goes
-pub id_lost : (table : Table) (serials : List ℕ) (id : List ℕ) (s : Session) → IsTable table → session_with_id id table.live ≡ Some s
+pub id_lost : (table : SessionTable) (serials : List ℕ) (id : List ℕ) (s : Session) → IsTable table → session_with_id id table.live ≡ Some s
     → remains serials s ≡ false → session_with_id id (without_sessions serials table.live) ≡ None
 id_lost table serials id s h e goes =
-    let q : Session → Bool = λ (t : Session). is_text t.id id in
+    let q : Session → Bool = λ (t : Session). is_same_text t.id id in
     let mine : BeginsWithSerial s.serial s.id = all_found (λ (t : Session). BeginsWithSerial t.serial t.id) q table.live s h.ids e in
     let low : s.serial ≤ table.counter = all_found (λ (t : Session). t.serial ≤ table.counter) q table.live s h.counted e in
-    let own : is_text s.id id ≡ true = found_passes q table.live s e in
-    let one : (t : Session) → BeginsWithSerial t.serial t.id → t.serial ≤ table.counter → is_text t.id id ≡ true
+    let own : is_same_text s.id id ≡ true = found_passes q table.live s e in
+    let one : (t : Session) → BeginsWithSerial t.serial t.id → t.serial ≤ table.counter → is_same_text t.id id ≡ true
     → remains serials t ≡ false =
     λ t begins below is. let same : t.serial ≡ s.serial =
     ids_tell t.serial s.serial id (omega (arith, below, h.small)) (omega (arith, low, h.small))
     (subst (BeginsWithSerial t.serial) (text_is t.id id is) begins) (subst (BeginsWithSerial s.serial) (text_is s.id id own) mine) in
     subst (λ n. not (list_any (λ m. m == n) serials) ≡ false) (sym same) goes in
     lost_left q (remains serials) table.live (all_two (λ (t : Session). BeginsWithSerial t.serial t.id)
-    (λ (t : Session). t.serial ≤ table.counter) (λ (t : Session). is_text t.id id ≡ true → remains serials t ≡ false) one table.live h.ids
+    (λ (t : Session). t.serial ≤ table.counter) (λ (t : Session). is_same_text t.id id ≡ true → remains serials t ≡ false) one table.live h.ids
     h.counted)
   where
     found_passes : (q : Session → Bool) (xs : List Session) (x : Session) → find q xs ≡ Some x → q x ≡ true
@@ -88,17 +88,17 @@ id_lost table serials id s h e goes =
 
 -- no other session is of the client of one that goes
 pub client_lost : (p : Session → Bool) (live : List Session) (client : List ℕ) (s : Session)
-    → IsDistinct is_text (map (λ (t : Session). t.client) live) → session_of_client client live ≡ Some s → p s ≡ false
+    → IsDistinct is_same_text (map (λ (t : Session). t.client) live) → session_of_client client live ≡ Some s → p s ≡ false
     → session_of_client client (filter p live) ≡ None
 unfolding IsDistinct
 client_lost p [] client s apart e goes = refl
 client_lost p (x ∷ live) client s apart e goes =
-    elim (cases_Bool (is_text x.client client)) [
+    elim (cases_Bool (is_same_text x.client client)) [
       | inl hit ↦
           let same : x ≡ s = cc (rw hit at e) in
           let out : p x ≡ false = subst (λ (t : Session). p t ≡ false) (sym same) goes in
-          rw out (find_none (λ (t : Session). is_text t.client client) (filter p live) (all_filter
-          (λ (t : Session). is_text t.client client ≡ false) p live (rest_differ (λ (t : Session). t.client) x client live apart.0 hit)))
+          rw out (find_none (λ (t : Session). is_same_text t.client client) (filter p live) (all_filter
+          (λ (t : Session). is_same_text t.client client ≡ false) p live (rest_differ (λ (t : Session). t.client) x client live apart.0 hit)))
       | inr miss ↦
           let rest = client_lost p live client s apart.1 (rw miss at e) goes in
           elim (cases_Bool (p x)) [ inl stays ↦ rw (stays, miss) rest | inr out ↦ rw out rest ]

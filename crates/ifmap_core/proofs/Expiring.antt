@@ -13,20 +13,20 @@ use Rattle.std.specs.List.Sorted.{IsStrictlySortedBy}
 use Rattle.std.specs.Option.{IfSome}
 use Rattle.std.specs.Ordering.{nat_cmp}
 use Rattle.std.specs.declared.cmp.Ordering.TheVariants.{Less}
-use Rattle.ifmap_changes.specs.Between.{AreKept, AreParts, AreTurned, AreWithin, Asking, CanEnd, IsReady, IsSteady, IsWithin, sessions_left, sight_now, so_far, state_at}
+use Rattle.ifmap_changes.specs.Between.{AreKept, AreParts, AreTurned, AreWithinLimits, Asking, CanEnd, IsSoundSoFar, IsSteady, IsWithinLimit, sessions_left, sight_now, so_far, state_at}
 use Rattle.ifmap_changes.specs.Changes.{CanSettle, CanTakeBack, IsSettled}
 use Rattle.ifmap_changes.specs.declared.changes.Made.{Made}
 use Rattle.ifmap_changes.specs.declared.parts.Parts.{Parts}
-use Rattle.ifmap_core.specs.Outcomes.{CanApply, CanRename, IsDone, WouldBeParts, after_outcome, held_by}
+use Rattle.ifmap_core.specs.Outcomes.{CanApply, CanRename, IsStepOutcome, WouldBeParts, after_outcome, held_by}
 use Rattle.ifmap_core.specs.declared.outcomes.Outcome.{Outcome}
 use Rattle.ifmap_core.specs.declared.outcomes.Outcome.TheVariants.{Say, Accept, End, Open, Rename, Poll}
 use Rattle.ifmap_core.proofs.Ended.{found_left, remains}
 use Rattle.ifmap_core.proofs.Places.{all_are_kept, kept_both, kept_of_all, none_gone}
 use Rattle.ifmap_core.proofs.Told.{none_told}
 use Rattle.ifmap_core.proofs.Turned.{KeepsThere, all_there, shares_later}
-use Rattle.ifmap_delta.specs.Sights.{IsKept}
+use Rattle.ifmap_delta.specs.Sights.{IsUpToDate}
 use Rattle.ifmap_delta.specs.Ways.{HasSameSearch}
-use Rattle.ifmap_graph.specs.Out.{items_of}
+use Rattle.ifmap_graph.specs.Out.{items_changed}
 use Rattle.ifmap_graph.specs.Seen.{KeepsNumbers, links_now, rows_now}
 use Rattle.ifmap_lemmas.specs.Filters.{all_filter}
 use Rattle.ifmap_lemmas.specs.Members.{all_both, all_of_map, map_of_all}
@@ -44,7 +44,7 @@ use Rattle.ifmap_pool.specs.Holdings.{key_at}
 use Rattle.ifmap_search.specs.Sizes.{queue_size}
 use Rattle.ifmap_session.specs.Sessions.{IsLive, Session, expired_serials, is_expired, session_order, session_with_serial, without_sessions}
 use Rattle.ifmap_standing.specs.declared.standing.Standing.{Standing}
-use Rattle.ifmap_standing.specs.Kept.{AtEach, KeepsSame, Stands}
+use Rattle.ifmap_standing.specs.Kept.{AtEach, KeepsSame, StaysRelated}
 use Rattle.ifmap_standing.specs.Ways.{LeadBack, Way}
 use Rattle.ifmap_standing.specs.Standing.{standing_of}
 use Rattle.ifmap_subscribes.specs.declared.renamings.Renaming.{Renaming}
@@ -86,19 +86,19 @@ module _ (a : Asking) (parts : Parts) (pending : Pending) (sound : AreParts part
       (found_left (λ (t : Session). t.serial == x.serial) (remains a.ended) parts.sessions.live s.0 s.1
       (subst (λ (n : ℕ). not (list_any (λ m. m == n) a.ended) ≡ true) (sym same) (ap not stays)))
 
-  pub begins_ready : length pending.gone.items ≡ length parts.standing.items → IsReady a parts pending
+  pub begins_ready : length pending.gone.items ≡ length parts.standing.items → IsSoundSoFar a parts pending
   begins_ready flags = record {
     ended = can;
     ordered = sound.ordered;
     flags = flags;
-    kept = all_are_kept (λ x. IsKept (sight_now parts.graph) x.subscription) pending.gone.items parts.standing.items sound.kept;
+    kept = all_are_kept (λ x. IsUpToDate (sight_now parts.graph) x.subscription) pending.gone.items parts.standing.items sound.kept;
     live = kept_both (λ (x : Standing). list_any (λ n. n == x.serial) a.ended ≡ false)
         (λ (x : Standing). IsLive x.serial parts.sessions.live)
         (λ (x : Standing). IsLive x.serial (sessions_left a parts.sessions)) lives pending.gone.items parts.standing.items stay
         (all_are_kept (λ (x : Standing). IsLive x.serial parts.sessions.live) pending.gone.items parts.standing.items sound.ordered.live);
     queues = sound.within;
-    within = subst AreWithin (sym (none_told pending.tellings none (sessions_left a parts.sessions)))
-        (all_filter IsWithin (remains a.ended) parts.sessions.live sound.within);
+    within = subst AreWithinLimits (sym (none_told pending.tellings none (sessions_left a parts.sessions)))
+        (all_filter IsWithinLimit (remains a.ended) parts.sessions.live sound.within);
     can_tell = λ n t e. absurd (none-some t (sym (none n) ∙ e));
     sized = λ n t e. absurd (none-some t (sym (none n) ∙ e));
     alone = λ n e. let bad : false ≡ true = ap is_alone (sym (none n)) ∙ e in cc;
@@ -189,7 +189,7 @@ module _ (a : Asking) (old new : Parts) (pending : Pending) (settled : IsSettled
   bare_settled : (n : ℕ) → AllKept (λ (x : Standing). x.serial ≢ n) pending.gone.items old.standing.items
       → AllKept (λ (x : Standing). x.serial ≢ n) pending.gone.items new.standing.items
   bare_settled n h =
-      same_kept (λ (x : Standing). x.serial ≢ n) (λ (x : Standing). x.serial ≢ n) (λ _. Stands HasSameSearch)
+      same_kept (λ (x : Standing). x.serial ≢ n) (λ (x : Standing). x.serial ≢ n) (λ _. StaysRelated HasSameSearch)
       (λ i x y s other e. other (sym s.serial ∙ e)) pending.gone.items old.standing.items new.standing.items settled.searches h
 
   former_settled : (former : Option ℕ) → IfSome former (λ n. AllKept (λ (x : Standing). x.serial ≢ n) pending.gone.items old.standing.items)
@@ -232,20 +232,20 @@ module _ (a : Asking) (old new : Parts) (pending : Pending) (settled : IsSettled
 
 pub can_settle_later : (made : Made) (old new : Parts) → CanSettle made old → AreTurned old new → CanSettle made new
 can_settle_later made old new c t = record {
-  waits = t.waits (items_of made.undo.plan.changes) c.waits;
+  waits = t.waits (items_changed made.undo.plan.changes) c.waits;
   ways = omega (arith, c.ways, t.searches.long);
 }
 
 abbrev pub WaysStay : Type 0
 WaysStay =
-    (before now after : List Standing) (ways : List (Option Way)) → LeadBack before ways now → AtEach (λ _. Stands KeepsSame) now after
+    (before now after : List Standing) (ways : List (Option Way)) → LeadBack before ways now → AtEach (λ _. StaysRelated KeepsSame) now after
     → LeadBack before ways after
 
 pub can_back : WaysStay → (made : Made) (before old new : Parts) → KeepsNumbers before.graph old.graph → CanTakeBack made before old
     → AreKept old new → CanTakeBack made before new
 can_back law made before old new numbers c k = record {
   graph = k.backs made.undo (rows_now before.graph) (links_now before.graph) c.graph;
-  lean = λ rest l. k.back.lean (items_of made.undo.plan.changes ++ rest) (c.lean rest l);
+  lean = λ rest l. k.back.lean (items_changed made.undo.plan.changes ++ rest) (c.lean rest l);
   numbers = shares_later before.graph old.graph new.graph numbers k.back.numbers;
   standing = law before.standing.items old.standing.items new.standing.items made.ways c.standing k.back.standing;
   sessions = same_twice before.sessions old.sessions new.sessions c.sessions k.back.sessions;
@@ -263,7 +263,7 @@ would_be parts more none p = record {
 
 -- an event that is done at once
 pub done_leads : (ttl moment : ℕ) (old new : Parts) (event : Event) (ask : Ask) (outcome : Outcome) (answer : Answer)
-    → IsDone old.sessions.live event ask outcome → rows_now new.graph ≡ rows_now old.graph
+    → IsStepOutcome old.sessions.live event ask outcome → rows_now new.graph ≡ rows_now old.graph
     → ◌≡◌ {A = State × Answer} (after_outcome outcome (state_at ttl moment old)) (
       record (state_at ttl moment old) {
         counter = new.sessions.counter;

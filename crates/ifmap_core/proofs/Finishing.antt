@@ -9,7 +9,7 @@ use Rattle.std.specs.List.Sorted.{IsStrictlySortedBy}
 use Rattle.std.specs.Option.{IfSome}
 use Rattle.std.specs.Ordering.{nat_cmp}
 use Rattle.std.specs.Prelude.{vec_capacity, vec_len}
-use Rattle.ifmap_changes.specs.Between.{AreWithin, Asking, IsBare, IsReady, IsSteady, rest_of, sessions_left, sight_now, so_far, state_at}
+use Rattle.ifmap_changes.specs.Between.{AreWithinLimits, Asking, HasNoSubscriptions, IsSoundSoFar, IsSteady, rest_of, sessions_left, sight_now, so_far, state_at}
 use Rattle.ifmap_changes.specs.declared.parts.Parts.{Parts}
 use Rattle.ifmap_core.specs.Outcomes.{CanApply, CanApplyTo, CanOpen, CanRename, FitsAfter, WouldBeParts, after_former, after_outcome, held_by}
 use Rattle.ifmap_core.specs.declared.outcomes.Outcome.{Outcome}
@@ -18,7 +18,7 @@ use Rattle.ifmap_core.proofs.Keeping.{all_kept, kept_fewer, kept_rising}
 use Rattle.ifmap_core.proofs.Steady.{IsNumbered}
 use Rattle.ifmap_core.proofs.Taking.{map_after}
 use Rattle.ifmap_core.proofs.Told.{after_told, none_mapped, told_by_leaves}
-use Rattle.ifmap_delta.specs.Sights.{IsKept}
+use Rattle.ifmap_delta.specs.Sights.{IsUpToDate}
 use Rattle.ifmap_graph.specs.Seen.{rows_now}
 use Rattle.ifmap_lemmas.specs.Members.{all_both, both_all, all_two}
 use Rattle.ifmap_lemmas.specs.Options.{is_some_of, some_is}
@@ -27,7 +27,7 @@ use Rattle.ifmap_machine.specs.State.{State, standing_in, standing_order}
 use Rattle.ifmap_machine.specs.State as machine
 use Rattle.ifmap_machine.specs.Subscribing.{most_names}
 use Rattle.ifmap_search.specs.Sizes.{queue_size}
-use Rattle.ifmap_session.specs.Sessions.{IsLive, Opening, Session, Table, is_text, most_sessions, session_of_client, session_with_serial, spare_of}
+use Rattle.ifmap_session.specs.Sessions.{IsLive, Opening, Session, SessionTable, is_same_text, most_sessions, session_of_client, session_with_serial, spare_of}
 use Rattle.ifmap_standing.specs.declared.standing.Standing.{Standing}
 use Rattle.ifmap_standing.specs.Standing.{standing_of}
 use Rattle.ifmap_subscribes.specs.declared.renamings.Renaming.{Renaming}
@@ -43,8 +43,8 @@ module _ (tellings : Tellings) where
   pub serial_told : (s : Session) → (told_by tellings s).serial ≡ s.serial
   serial_told s = (told_by_leaves tellings s).serial
 
-  pub client_told : (c : List ℕ) (s : Session) → is_text (told_by tellings s).client c ≡ is_text s.client c
-  client_told c s = ap (λ t. is_text t c) (told_by_leaves tellings s).client
+  pub client_told : (c : List ℕ) (s : Session) → is_same_text (told_by tellings s).client c ≡ is_same_text s.client c
+  client_told c s = ap (λ t. is_same_text t c) (told_by_leaves tellings s).client
 
   pub live_told : (n : ℕ) (live : List Session) → IsLive n live → IsLive n (map (told_by tellings) live)
   live_told n live l =
@@ -58,7 +58,7 @@ module _ (tellings : Tellings) where
   former_told (Some n) live = map_after (n ∷ []) (told_by tellings) serial_told live
 
   -- what was pending can be told, once the sessions have ended that are expired
-  pub can_tell_rest : (a : Asking) (old mid : Table) → mid.live ≡ sessions_left a old
+  pub can_tell_rest : (a : Asking) (old mid : SessionTable) → mid.live ≡ sessions_left a old
       → ((n : ℕ) → IsLive n mid.live → spare_of n mid.spare ≡ spare_of n old.spare) → EachTelling (CanTell (rest_of a old)) tellings
       → EachTelling (CanTell mid) tellings
   can_tell_rest a old mid live spare can = λ n t e.
@@ -68,7 +68,7 @@ module _ (tellings : Tellings) where
 
 -- ---- parts of which all is told and let go of
 
-module _ (a : Asking) (old new : Parts) (pending : Pending) (ready : IsReady a old pending)
+module _ (a : Asking) (old new : Parts) (pending : Pending) (ready : IsSoundSoFar a old pending)
     (live : new.sessions.live ≡ map (told_by pending.tellings) (sessions_left a old.sessions))
     (standing : new.standing.items ≡ kept_of pending.gone.items old.standing.items)
     (kept : KeepsNumbered old.graph new.graph) where
@@ -92,7 +92,7 @@ module _ (a : Asking) (old new : Parts) (pending : Pending) (ready : IsReady a o
       let before = ready.ordered.few n in
       subst (λ t. length (standing_in n t) ≤ most_names) (sym shown_now) (omega (arith, less, before))
 
-  bare_now : (n : ℕ) → IsBare n old pending → AllByRecursion (λ (x : Standing). x.serial ≢ n) new.standing.items
+  bare_now : (n : ℕ) → HasNoSubscriptions n old pending → AllByRecursion (λ (x : Standing). x.serial ≢ n) new.standing.items
   bare_now n bare =
       all_now (λ (x : Standing). x.serial ≢ n) (all_kept (λ (x : Standing). x.serial ≢ n) pending.gone.items old.standing.items bare)
 
@@ -100,18 +100,18 @@ module _ (a : Asking) (old new : Parts) (pending : Pending) (ready : IsReady a o
     numbered_now : AllByRecursion (IsNumbered new.graph) new.standing.items × AllByRecursion (IsNumbered new.graph) more
     numbered_now = all_both (IsNumbered new.graph) new.standing.items more steady.numbered
 
-    kept_now : AllByRecursion (λ (x : Standing). IsKept (sight_now new.graph) x.subscription) new.standing.items
+    kept_now : AllByRecursion (λ (x : Standing). IsUpToDate (sight_now new.graph) x.subscription) new.standing.items
     kept_now =
-        all_two (IsNumbered new.graph) (λ (x : Standing). IsKept (sight_now old.graph) x.subscription)
-        (λ (x : Standing). IsKept (sight_now new.graph) x.subscription) (λ x key was. kept x.subscription key was) new.standing.items
-        numbered_now.0 (all_now (λ (x : Standing). IsKept (sight_now old.graph) x.subscription)
-        (all_kept (λ (x : Standing). IsKept (sight_now old.graph) x.subscription) pending.gone.items old.standing.items ready.kept))
+        all_two (IsNumbered new.graph) (λ (x : Standing). IsUpToDate (sight_now old.graph) x.subscription)
+        (λ (x : Standing). IsUpToDate (sight_now new.graph) x.subscription) (λ x key was. kept x.subscription key was) new.standing.items
+        numbered_now.0 (all_now (λ (x : Standing). IsUpToDate (sight_now old.graph) x.subscription)
+        (all_kept (λ (x : Standing). IsUpToDate (sight_now old.graph) x.subscription) pending.gone.items old.standing.items ready.kept))
 
-    more_now : AllByRecursion (λ (x : Standing). IsKept (sight_now old.graph) x.subscription) more
-        → AllByRecursion (λ (x : Standing). IsKept (sight_now new.graph) x.subscription) more
+    more_now : AllByRecursion (λ (x : Standing). IsUpToDate (sight_now old.graph) x.subscription) more
+        → AllByRecursion (λ (x : Standing). IsUpToDate (sight_now new.graph) x.subscription) more
     more_now was =
-        all_two (IsNumbered new.graph) (λ (x : Standing). IsKept (sight_now old.graph) x.subscription)
-        (λ (x : Standing). IsKept (sight_now new.graph) x.subscription) (λ x key was. kept x.subscription key was) more numbered_now.1 was
+        all_two (IsNumbered new.graph) (λ (x : Standing). IsUpToDate (sight_now old.graph) x.subscription)
+        (λ (x : Standing). IsUpToDate (sight_now new.graph) x.subscription) (λ x key was. kept x.subscription key was) more numbered_now.1 was
 
     pub would_be : WouldBeParts more new
     would_be = record {
@@ -123,7 +123,7 @@ module _ (a : Asking) (old new : Parts) (pending : Pending) (ready : IsReady a o
         few = few_now;
       };
       kept = kept_now;
-      within = subst AreWithin (sym live) ready.within;
+      within = subst AreWithinLimits (sym live) ready.within;
     }
 
   module _ (counter : new.sessions.counter ≡ old.sessions.counter) (room : old.sessions.room ≤ new.sessions.room)
@@ -135,7 +135,7 @@ module _ (a : Asking) (old new : Parts) (pending : Pending) (ready : IsReady a o
     former_live None l = tt
     former_live (Some n) l = live_now n l
 
-    former_bare : (former : Option ℕ) → IfSome former (λ n. IsBare n old pending)
+    former_bare : (former : Option ℕ) → IfSome former (λ n. HasNoSubscriptions n old pending)
         → IfSome former (λ n. AllByRecursion (λ (x : Standing). x.serial ≢ n) new.standing.items)
     former_bare None bare = tt
     former_bare (Some n) bare = bare_now n bare
@@ -151,7 +151,7 @@ module _ (a : Asking) (old new : Parts) (pending : Pending) (ready : IsReady a o
       room = let one = can.room in omega (arith, one, room);
       live = former_live former can.live;
       none = subst (λ l. session_of_client opening.client l ≡ None) (sym (former_now former))
-          (none_mapped (told_by pending.tellings) (λ (t : Session). is_text t.client opening.client)
+          (none_mapped (told_by pending.tellings) (λ (t : Session). is_same_text t.client opening.client)
           (client_told pending.tellings opening.client) (after_former former (sessions_left a old.sessions)) can.none);
       few = subst (λ l. length l < most_sessions) (sym (former_now former))
           (subst (λ n. n < most_sessions)
@@ -183,7 +183,7 @@ module _ (a : Asking) (old new : Parts) (pending : Pending) (ready : IsReady a o
         session = can.session;
         steady = steady;
         ordered = rising_now;
-        kept = both_all (λ (x : Standing). IsKept (sight_now new.graph) x.subscription) new.standing.items (begun_by renamings)
+        kept = both_all (λ (x : Standing). IsUpToDate (sight_now new.graph) x.subscription) new.standing.items (begun_by renamings)
             (kept_now (begun_by renamings) steady) (more_now (begun_by renamings) steady can.kept);
         places = let all = can.places in omega (arith, all, len, capacity);
         room = let all = can.room in let left_over = spare serial can.live in omega (arith, all, left_over);

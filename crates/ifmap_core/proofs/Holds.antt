@@ -15,7 +15,7 @@ use Rattle.ifmap_requests.specs.declared.requests.Request.TheVariants.{Poll}
 use Rattle.ifmap_search.specs.declared.results.PollItem.{PollItem}
 use Rattle.ifmap_search.specs.declared.results.PollItem.TheVariants.{Search, Update, Delete, Notify, Error}
 use Rattle.ifmap_search.specs.Sizes.{poll_size, queue_size}
-use Rattle.ifmap_session.specs.Sessions.{Session, is_text}
+use Rattle.ifmap_session.specs.Sessions.{Session, is_same_text}
 use Rattle.ifmap_session.specs.laws.TextLaws.{text_same}
 use Rattle.ifmap_session.specs.laws.TableLaws.{none_expired}
 
@@ -51,7 +51,7 @@ held_step state event h =
     let later : State = advance event.moment state in
     let quiet : expire later ≡ later = ap (λ (ns : List ℕ). end_some ns later) (none_expired later.moment later.ttl later.sessions h.3) in
     let n = h.4 in
-    let own : is_text n.0.client event.client ≡ true = text_same n.0.client event.client n.2 in
+    let own : is_same_text n.0.client event.client ≡ true = text_same n.0.client event.client n.2 in
     rw (quiet, h.1, h.2, n.1, own, n.3) refl
 
 pub held_where : (b : Bool) (state : State) (event : Event) → (b ≡ true → WouldHold state event)

@@ -7,10 +7,10 @@ use Rattle.std.specs.List.{AllByRecursion}
 use Rattle.std.specs.Ordering.{is_eq}
 use Rattle.ifmap_lemmas.specs.Having.{Has, has_map, map_has, all_has}
 use Rattle.ifmap_lemmas.specs.Texts.{same_texts}
-use Rattle.ifmap_changes.specs.Between.{IsNumbered, IsSeen, IsSteady, starts_of}
+use Rattle.ifmap_changes.specs.Between.{HasStartNumber, IsSeen, IsSteady, starts_of}
 use Rattle.ifmap_graph.specs.Counted.{AreSoMany}
 use Rattle.ifmap_graph.specs.Held.{Held}
-use Rattle.ifmap_graph.specs.Seen.{AreUsed, HasNumber, IsAttached, rows_now}
+use Rattle.ifmap_graph.specs.Seen.{AreUsed, HasPoolNumber, IsAttached, rows_now}
 use Rattle.ifmap_ident.specs.declared.identifiers.Identifier.{Identifier}
 use Rattle.ifmap_ident.specs.Canon.{IsIdentifier}
 use Rattle.ifmap_ident.specs.Identifiers.{identifier_bytes, identifier_order}
@@ -26,7 +26,7 @@ Tells = (one other : Identifier) → IsIdentifier one → IsIdentifier other →
 
 module _ (h : Held) (tells : Tells) (view : IsSeen h) where
   -- where some of these subscriptions start at an identifier, there is one
-  start_there : (xs : List Standing) (a : Identifier) → IsIdentifier a → AllByRecursion (IsNumbered h) xs → 0 < starts_of a xs
+  start_there : (xs : List Standing) (a : Identifier) → IsIdentifier a → AllByRecursion (HasStartNumber h) xs → 0 < starts_of a xs
       → (x : Standing) × Has xs x × (x.subscription.search.start ≡ a)
   start_there [] a is numbered some = absurd (omega (arith, some))
   start_there (x ∷ xs) a is numbered some =
@@ -48,7 +48,7 @@ module _ (h : Held) (tells : Tells) (view : IsSeen h) where
     abbrev InUse : Identifier → Type 0
     InUse a = IsAttached (rows_now h) a ⊎ ((x : machine.Standing) × Has (map standing_of standing) x × (x.search.start ≡ a))
 
-    in_use : (a : Identifier) → HasNumber h a → InUse a
+    in_use : (a : Identifier) → HasPoolNumber h a → InUse a
     in_use a n = elim (used.only a n) [
       | inl attached ↦ inl attached
       | inr held ↦ let x = start_there standing a (view.canon n.0 a n.1) steady.numbered (held (starts_of a standing) (steady.own a))
@@ -60,14 +60,14 @@ module _ (h : Held) (tells : Tells) (view : IsSeen h) where
         let item = all_has (λ (x : Attachment). IsCanonItem x.item) (rows_now h) view.graph.items r.0 r.1
         in all_has IsIdentifier _ item.identifiers a r.2
 
-    number_of : (a : Identifier) → InUse a → HasNumber h a
+    number_of : (a : Identifier) → InUse a → HasPoolNumber h a
     number_of a (inl r) = used.each a (canon_there a r) (inl r)
     number_of a (inr s) =
         let x = map_has standing_of standing s.0 s.1
         in (
           x.0.subscription.region.start,
-          all_has (IsNumbered h) standing steady.numbered x.0 x.1 ∙ ap Some (ap (λ (y : machine.Standing). y.search.start) x.2 ∙ s.2),
+          all_has (HasStartNumber h) standing steady.numbered x.0 x.1 ∙ ap Some (ap (λ (y : machine.Standing). y.search.start) x.2 ∙ s.2),
         )
 
-    pub so_many_in_use : (n : ℕ) → AreSoMany n (HasNumber h) → AreSoMany n InUse
+    pub so_many_in_use : (n : ℕ) → AreSoMany n (HasPoolNumber h) → AreSoMany n InUse
     so_many_in_use n all = (all.0, all.1, all.2, λ a. (λ has. in_use a ((all.3 a).0 has), λ is. (all.3 a).1 (number_of a is)))

@@ -4,13 +4,13 @@ use Rattle.std.proofs.lemmas.Bool.{cases_Bool}
 use Rattle.std.specs.List.{list_any}
 use Rattle.std.specs.Option.{is_some, option_map}
 use Rattle.ifmap_core.proofs.Ended.{client_lost, found_left, none_left, remains, rising_left}
-use Rattle.ifmap_session.specs.Sessions.{IsLive, IsTable, Session, Table, is_text, session_of_client, session_with_id, session_with_serial, without_sessions}
+use Rattle.ifmap_session.specs.Sessions.{IsLive, IsTable, Session, SessionTable, is_same_text, session_of_client, session_with_id, session_with_serial, without_sessions}
 use Rattle.ifmap_session.specs.laws.TableLaws.{found_by_serial}
 use Rattle.ifmap_session.specs.laws.TextLaws.{text_is}
 
-pub other_text : (a b : List ℕ) (r : Bool) → (a ≡ b → r ≡ true) → r ≡ false → is_text a b ≡ false
+pub other_text : (a b : List ℕ) (r : Bool) → (a ≡ b → r ≡ true) → r ≡ false → is_same_text a b ≡ false
 other_text a b r f no_text =
-    elim (cases_Bool (is_text a b)) [
+    elim (cases_Bool (is_same_text a b)) [
       | inl hit ↦ let bad : true ≡ false = sym (f (text_is a b hit)) ∙ no_text in cc
       | inr miss ↦ miss
     ]
@@ -18,7 +18,7 @@ other_text a b r f no_text =
 -- it is left, and found by its id and its serial
 pub id_left : (serials : List ℕ) (live : List Session) (id : List ℕ) (s : Session) → session_with_id id live ≡ Some s
     → list_any (λ n. n == s.serial) serials ≡ false → session_with_id id (without_sessions serials live) ≡ Some s
-id_left serials live id s e stays = found_left (λ (t : Session). is_text t.id id) (remains serials) live s e (ap not stays)
+id_left serials live id s e stays = found_left (λ (t : Session). is_same_text t.id id) (remains serials) live s e (ap not stays)
 
 pub serial_left : (serials : List ℕ) (live : List Session) (n : ℕ) (s : Session) → session_with_serial s.serial live ≡ Some s → n ≡ s.serial
     → list_any (λ m. m == s.serial) serials ≡ false → session_with_serial n (without_sessions serials live) ≡ Some s
@@ -32,11 +32,11 @@ pub among : (serials : List ℕ) (n : ℕ) (s : Session) (b : Bool) → n ≡ s.
 among serials n s b is e = subst (λ k. list_any (λ m. m == k) serials ≡ b) is e
 
 -- the client's session, by what is found of it
-module _ (table : Table) (serials client : List ℕ) (h : IsTable table) where
+module _ (table : SessionTable) (serials client : List ℕ) (h : IsTable table) where
   pub former_none : option_map (λ (s : Session). s.serial) (session_of_client client table.live) ≡ None
       → option_map (λ (s : Session). s.serial) (session_of_client client (without_sessions serials table.live)) ≡ None
   former_none e =
-      ap (option_map (λ (s : Session). s.serial)) (none_left (λ (s : Session). is_text s.client client) (remains serials) table.live
+      ap (option_map (λ (s : Session). s.serial)) (none_left (λ (s : Session). is_same_text s.client client) (remains serials) table.live
       (was_none (session_of_client client table.live) e))
     where
       was_none : (o : Option Session) → option_map (λ (s : Session). s.serial) o ≡ None → o ≡ None
@@ -62,8 +62,8 @@ module _ (table : Table) (serials client : List ℕ) (h : IsTable table) where
   former_left n e stays =
       let o = some_of (session_of_client client table.live) n e in
       let keeps : remains serials o.0 ≡ true = ap not (among serials n o.0 false o.2 stays) in
-      let found = found_left (λ (s : Session). is_text s.client client) (remains serials) table.live o.0 o.1 keeps in
-      let numbered = found_by_serial (λ (s : Session). is_text s.client client) (without_sessions serials table.live) o.0
+      let found = found_left (λ (s : Session). is_same_text s.client client) (remains serials) table.live o.0 o.1 keeps in
+      let numbered = found_by_serial (λ (s : Session). is_same_text s.client client) (without_sessions serials table.live) o.0
       (rising_left serials table.live h.rising) found in (
         ap (option_map (λ (s : Session). s.serial)) found ∙ ap Some (sym o.2),
         rw (o.2, numbered) refl,

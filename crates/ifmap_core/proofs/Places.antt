@@ -7,7 +7,7 @@ use Rattle.std.proofs.lemmas.Option.{same_Some, none-some}
 use Rattle.std.specs.List.{AllByRecursion}
 use Rattle.ifmap_delta.specs.Ways.{HasSameSearch}
 use Rattle.ifmap_standing.specs.declared.standing.Standing.{Standing}
-use Rattle.ifmap_standing.specs.Kept.{AtEach, KeepsSame, Stands}
+use Rattle.ifmap_standing.specs.Kept.{AtEach, KeepsSame, StaysRelated}
 use Rattle.ifmap_standing.specs.Standing.{standing_of}
 use Rattle.ifmap_tellings.specs.Tellings.{AllKept, kept_of}
 use Rattle.ifmap_standing.specs.PlaceLaws.{at_each_joined, at_each_same, search_itself, keeps_twice, stands_itself, stands_twice}
@@ -113,14 +113,14 @@ same_shown x y serial name search =
     ∙ ap (λ (t : List ℕ). record { serial = x.serial; name = t; search = y.subscription.search }) name
     ∙ ap (λ s. record { serial = x.serial; name = x.name; search = s }) search
 
-pub shown_kept : (i : ℕ) (x y : Standing) → Stands KeepsSame x y → standing_of y ≡ standing_of x
+pub shown_kept : (i : ℕ) (x y : Standing) → StaysRelated KeepsSame x y → standing_of y ≡ standing_of x
 shown_kept i x y s = same_shown x y s.serial s.name s.subscription.search.search
 
-pub kept_twice : (a b c : List Standing) → AtEach (λ _. Stands KeepsSame) a b → AtEach (λ _. Stands KeepsSame) b c
-    → AtEach (λ _. Stands KeepsSame) a c
+pub kept_twice : (a b c : List Standing) → AtEach (λ _. StaysRelated KeepsSame) a b → AtEach (λ _. StaysRelated KeepsSame) b c
+    → AtEach (λ _. StaysRelated KeepsSame) a c
 kept_twice a b c r s =
-    at_each_joined (λ _. Stands KeepsSame) (λ _. Stands KeepsSame) (λ _. Stands KeepsSame)
+    at_each_joined (λ _. StaysRelated KeepsSame) (λ _. StaysRelated KeepsSame) (λ _. StaysRelated KeepsSame)
     (λ i x y z. stands_twice KeepsSame keeps_twice x y z) a b c r s
 
-pub searched_itself : (a : List Standing) → AtEach (λ _. Stands HasSameSearch) a a
-searched_itself a = at_each_same (λ _. Stands HasSameSearch) (λ i. stands_itself HasSameSearch search_itself) a
+pub searched_itself : (a : List Standing) → AtEach (λ _. StaysRelated HasSameSearch) a a
+searched_itself a = at_each_same (λ _. StaysRelated HasSameSearch) (λ i. stands_itself HasSameSearch search_itself) a

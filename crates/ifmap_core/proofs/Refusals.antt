@@ -21,7 +21,7 @@ use Rattle.ifmap_requests.specs.declared.requests.SubscribeOp.{SubscribeOp}
 use Rattle.ifmap_requests.specs.declared.requests.Request.TheVariants as the_request
 use Rattle.ifmap_search.specs.declared.results.PollItem.{PollItem}
 use Rattle.ifmap_search.specs.declared.searches.Search.{Search}
-use Rattle.ifmap_session.specs.Sessions.{Session, is_text, most_sessions, session_of_client, session_with_id}
+use Rattle.ifmap_session.specs.Sessions.{Session, is_same_text, most_sessions, session_of_client, session_with_id}
 use Rattle.ifmap_session.specs.laws.TextLaws.{text_is, text_same}
 
 -- a search refuses for size alone
@@ -45,9 +45,9 @@ search_leaves state asked s code h =
 
 -- a purge refuses where it is of another
 purge_refuses : (state : State) (publisher : List ℕ) (s : Session) (code : Code) → IsRefusal code (purge state publisher s).1
-    → (AccessDenied ≡ code) × (is_text publisher s.client ≡ false)
+    → (AccessDenied ≡ code) × (is_same_text publisher s.client ≡ false)
 purge_refuses state publisher s code h =
-    elim (cases_Bool (is_text publisher s.client)) [ inl hit ↦ absurd (rw hit at h) | inr miss ↦ (rw miss at h, miss) ]
+    elim (cases_Bool (is_same_text publisher s.client)) [ inl hit ↦ absurd (rw hit at h) | inr miss ↦ (rw miss at h, miss) ]
 
 purge_leaves : (state : State) (publisher : List ℕ) (s : Session) (code : Code) → IsRefusal code (purge state publisher s).1
     → (purge state publisher s).0 ≡ state
@@ -97,7 +97,7 @@ module _ (state : State) (client : List ℕ) (accept : Session → State × Answ
       → IsRefusal InvalidSessionID (in_session state client o accept).1 ↔ ((Some o ≡ Some None) × (false ≡ false))
   missing None f = ((λ h. (refl, refl)), (λ e. refl))
   missing (Some s) f = (
-    (λ h. elim (cases_Bool (is_text s.client client)) [
+    (λ h. elim (cases_Bool (is_same_text s.client client)) [
       | inl hit ↦ absurd (f s (rw hit at h))
       | inr miss ↦ let bad : AccessDenied
           ≡ InvalidSessionID = rw miss at h in cc
@@ -105,7 +105,7 @@ module _ (state : State) (client : List ℕ) (accept : Session → State × Answ
     (λ e. let bad = e.0 in cc),
   )
 
-  denied_here : (o : Option Session) (Here : Type 0) → ((s : Session) → o ≡ Some s → is_text s.client client ≡ true
+  denied_here : (o : Option Session) (Here : Type 0) → ((s : Session) → o ≡ Some s → is_same_text s.client client ≡ true
       → IsRefusal AccessDenied (accept s).1 → Here) → (Here → (s : Session) × (o ≡ Some s) × (s.client ≡ client)
       × IsRefusal AccessDenied (accept s).1)
       → IsRefusal AccessDenied (in_session state client o accept).1
@@ -115,21 +115,21 @@ module _ (state : State) (client : List ℕ) (accept : Session → State × Answ
     (λ h. elim h [ inl there ↦ let bad = there.1 in cc | inr here ↦ let bad = (k here).1 in cc ]),
   )
   denied_here (Some s) Here f k = (
-    (λ h. elim (cases_Bool (is_text s.client client)) [
+    (λ h. elim (cases_Bool (is_same_text s.client client)) [
       | inl hit ↦ inr (f s refl hit (rw hit at h))
-      | inr miss ↦ inl (s, refl, λ e. both_ways (is_text s.client client) miss (text_same s.client client e))
+      | inr miss ↦ inl (s, refl, λ e. both_ways (is_same_text s.client client) miss (text_same s.client client e))
     ]),
     (λ h. elim h [
       | inl there ↦
           let same : s ≡ there.0 = let e = there.1 in cc in
-          elim (cases_Bool (is_text s.client client)) [
+          elim (cases_Bool (is_same_text s.client client)) [
             | inl hit ↦ absurd (there.2 (ap (λ (t : Session). t.client) (sym same) ∙ text_is s.client client hit))
             | inr miss ↦ rw miss refl
           ]
       | inr here ↦
           let there = k here in
           let same : there.0 ≡ s = let e = there.1 in cc in
-          let own : is_text s.client client ≡ true = text_same s.client client (ap (λ (t : Session). t.client) (sym same) ∙ there.2) in
+          let own : is_same_text s.client client ≡ true = text_same s.client client (ap (λ (t : Session). t.client) (sym same) ∙ there.2) in
           let refused : IsRefusal AccessDenied (accept s).1 = subst_refusal there.0 s same there.3 in
           rw own refused
     ]),
@@ -146,13 +146,13 @@ module _ (state : State) (client : List ℕ) (accept : Session → State × Answ
   other : (o : Option Session) (code : Code) → (InvalidSessionID ≡ code → ⊥) → (AccessDenied ≡ code → ⊥)
       → ((s : Session) → IsRefusal code (accept s).1 → ⊥) → IsRefusal code (in_session state client o accept).1 → ⊥
   other None code a b f h = a h
-  other (Some s) code a b f h = elim (cases_Bool (is_text s.client client)) [ inl hit ↦ f s (rw hit at h) | inr miss ↦ b (rw miss at h) ]
+  other (Some s) code a b f h = elim (cases_Bool (is_same_text s.client client)) [ inl hit ↦ f s (rw hit at h) | inr miss ↦ b (rw miss at h) ]
 
   -- a refusal leaves the state
   leaves : (o : Option Session) (code : Code) → ((s : Session) → IsRefusal code (accept s).1 → (accept s).0 ≡ state)
       → IsRefusal code (in_session state client o accept).1 → (in_session state client o accept).0 ≡ state
   leaves None code f h = refl
-  leaves (Some s) code f h = elim (cases_Bool (is_text s.client client)) [ inl hit ↦ rw hit (f s (rw hit at h)) | inr miss ↦ rw miss refl ]
+  leaves (Some s) code f h = elim (cases_Bool (is_same_text s.client client)) [ inl hit ↦ rw hit (f s (rw hit at h)) | inr miss ↦ rw miss refl ]
 
 -- a poll
 module _ (state : State) (client : List ℕ) where
@@ -190,13 +190,13 @@ too_much : (state : State) (client : List ℕ) (o : Option Session) (asked : Sea
     ↔ (((s : Session) × (o ≡ Some s) × (s.client ≡ client)) × (asked.max_size < fresh_size state.graph asked))
 too_much state client None asked = ((λ h. let bad : InvalidSessionID ≡ SearchResultsTooBig = h in cc), (λ h. let bad = h.0.1 in cc))
 too_much state client (Some s) asked = (
-  (λ h. elim (cases_Bool (is_text s.client client)) [
+  (λ h. elim (cases_Bool (is_same_text s.client client)) [
     | inl hit ↦ ((s, refl, text_is s.client client hit), (search_refuses state asked s SearchResultsTooBig (rw hit at h)).1)
     | inr miss ↦ let bad : AccessDenied ≡ SearchResultsTooBig = rw miss at h in cc
   ]),
   (λ h.
       let same : s ≡ h.0.0 = let e = h.0.1 in cc in
-      let own : is_text s.client client ≡ true = text_same s.client client (ap (λ (t : Session). t.client) same ∙ h.0.2) in
+      let own : is_same_text s.client client ≡ true = text_same s.client client (ap (λ (t : Session). t.client) same ∙ h.0.2) in
       rw own (search_refused state asked s h.1)),
 )
 
@@ -206,7 +206,7 @@ no_room : (state : State) (client : List ℕ) (o : Option Session) (ops : List S
     ↔ ((s : Session) × (o ≡ Some s) × (s.client ≡ client) × LacksRoom state ops s)
 no_room state client None ops = ((λ h. let bad : InvalidSessionID ≡ SystemError = h in cc), (λ h. let bad = h.1 in cc))
 no_room state client (Some s) ops = (
-  (λ h. elim (cases_Bool (is_text s.client client)) [
+  (λ h. elim (cases_Bool (is_same_text s.client client)) [
     | inl hit ↦
         let none = (subscribe_refuses state s (subscribed state ops s) SystemError (rw hit at h)).1 in
         (s, refl, text_is s.client client hit, (no_room_where state.graph s.serial ops (told_in state s)).0 none)
@@ -214,7 +214,7 @@ no_room state client (Some s) ops = (
   ]),
   (λ h.
       let same : h.0 ≡ s = let e = h.1 in cc in
-      let own : is_text s.client client ≡ true = text_same s.client client (ap (λ (t : Session). t.client) (sym same) ∙ h.2) in
+      let own : is_same_text s.client client ≡ true = text_same s.client client (ap (λ (t : Session). t.client) (sym same) ∙ h.2) in
       let meets = subst (LacksRoom state ops) same h.3 in
       let none = (no_room_where state.graph s.serial ops (told_in state s)).1 meets in
       rw own (subscribe_refused state s (subscribed state ops s) none)),
@@ -320,14 +320,14 @@ module _ (state : State) (event : Event) where
       denied_here state client (purge state publisher) (found id)
       (((s : Session) × (found id ≡ Some s) × (s.client ≡ client)) × (publisher ≢ client)) (λ s e own h. (
         (s, e, text_is s.client client own),
-        λ same. both_ways (is_text publisher s.client) (purge_refuses state publisher s AccessDenied h).1
+        λ same. both_ways (is_same_text publisher s.client) (purge_refuses state publisher s AccessDenied h).1
             (text_same publisher s.client (same ∙ sym (text_is s.client client own))),
       ))
       (λ h. (h.0.0, h.0.1, h.0.2, purge_refused h.0.0 publisher (λ same. h.1 (same ∙ h.0.2))))
     where
       purge_refused : (s : Session) (publisher : List ℕ) → (publisher ≡ s.client → ⊥) → IsRefusal AccessDenied (purge state publisher s).1
       purge_refused s publisher differ =
-          elim (cases_Bool (is_text publisher s.client)) [
+          elim (cases_Bool (is_same_text publisher s.client)) [
             | inl hit ↦ absurd (differ (text_is publisher s.client hit))
             | inr miss ↦ rw miss refl
           ]

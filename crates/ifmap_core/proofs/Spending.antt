@@ -26,7 +26,7 @@ use Rattle.ifmap_requests.specs.declared.publishing.PublishOp.{PublishOp}
 use Rattle.ifmap_requests.specs.declared.requests.Request.TheVariants as the_request
 use Rattle.ifmap_requests.specs.declared.requests.SubscribeOp.{SubscribeOp}
 use Rattle.ifmap_search.specs.declared.searches.Search.{Search}
-use Rattle.ifmap_session.specs.Sessions.{IsAsBefore, Session, Table, expired_serials, is_expired, is_text, session_of_client, session_with_id}
+use Rattle.ifmap_session.specs.Sessions.{IsAsBefore, Session, SessionTable, expired_serials, is_expired, is_same_text, session_of_client, session_with_id}
 use Rattle.ifmap_session.specs.laws.TextLaws.{text_same}
 use Rattle.ifmap_subscribes.specs.Bounds.{AreOpsWithin, IsWithinSpan, no_ops}
 use Rattle.ifmap_tellings.specs.declared.tellings.Pending.{Pending}
@@ -47,7 +47,7 @@ if_none false Within n w = omega arith
 own_none : (client : List ℕ) (found : Option Session) (Within : Session → ℕ → ℕ → Type 0) (n : ℕ) → ((s : Session) → Within s n n)
     → IsWithinOwn client found Within n n
 own_none client None Within n w = omega arith
-own_none client (Some s) Within n w = if_none (is_text s.client client) (Within s) n (w s)
+own_none client (Some s) Within n w = if_none (is_same_text s.client client) (Within s) n (w s)
 
 pub former_none : (former : Option ℕ) (state : State) (n : ℕ) → IsFormerWithin former state n n
 former_none None state n = omega arith
@@ -74,10 +74,10 @@ module _ (state : State) (client : List ℕ) (found : Option Session) (n : ℕ) 
   subscribes_none ops = own_none client found (λ s. AreOpsWithin state.graph ops) n (λ s. no_ops state.graph ops n)
 
   pub purges_none : (publisher : List ℕ)
-      → IsWithinOwn client found (λ s. IsWithinIf (is_text publisher s.client) (IsTakenWithin (Publisher publisher) state)) n n
+      → IsWithinOwn client found (λ s. IsWithinIf (is_same_text publisher s.client) (IsTakenWithin (Publisher publisher) state)) n n
   purges_none publisher =
-      own_none client found (λ s. IsWithinIf (is_text publisher s.client) (IsTakenWithin (Publisher publisher) state)) n
-      (λ s. if_none (is_text publisher s.client) (IsTakenWithin (Publisher publisher) state) n (taken_none (Publisher publisher) state n))
+      own_none client found (λ s. IsWithinIf (is_same_text publisher s.client) (IsTakenWithin (Publisher publisher) state)) n
+      (λ s. if_none (is_same_text publisher s.client) (IsTakenWithin (Publisher publisher) state) n (taken_none (Publisher publisher) state n))
 
 pub ask_none : (state : State) (event : Event) (ask : Ask) (n : ℕ) → IsAskWithin state event ask n n
 ask_none state event (Lost id) n = ends_none state event.client (session_with_id id state.sessions) n
@@ -125,11 +125,11 @@ module _ (state : State) (id client : List ℕ) (serial : ℕ) (o : IsOwner stat
   subscribes_within ops w = own_is (λ s. AreOpsWithin state.graph ops) w
 
   pub purges_within : (publisher : List ℕ) → publisher ≡ client → IsTakenWithin (Publisher client) state before after
-      → IsWithinOwn client found (λ s. IsWithinIf (is_text publisher s.client) (IsTakenWithin (Publisher publisher) state)) before after
+      → IsWithinOwn client found (λ s. IsWithinIf (is_same_text publisher s.client) (IsTakenWithin (Publisher publisher) state)) before after
   purges_within publisher own w =
-      let same : is_text publisher o.0.client ≡ true
+      let same : is_same_text publisher o.0.client ≡ true
       = text_same publisher o.0.client (own ∙ sym (own_client state id client serial o)) in
-      own_is (λ s. IsWithinIf (is_text publisher s.client) (IsTakenWithin (Publisher publisher) state))
+      own_is (λ s. IsWithinIf (is_same_text publisher s.client) (IsTakenWithin (Publisher publisher) state))
       (rw same (subst (λ (t : List ℕ). IsTakenWithin (Publisher t) state before after) (sym own) w))
 
 -- ---- a session begins
@@ -140,7 +140,7 @@ pub begun_within : (state : State) (client : List ℕ) (before after : ℕ) → 
 begun_within state client before after free w = rw free w
 
 -- the session that the client has so far is the one that was found, also where there is more room for sessions
-pub former_within : (a : Asking) (parts : Parts) (pending : Pending) (table : Table) → IsAsBefore parts.sessions table
+pub former_within : (a : Asking) (parts : Parts) (pending : Pending) (table : SessionTable) → IsAsBefore parts.sessions table
     → (former : Option ℕ) (before after : ℕ)
     → former ≡ option_map (λ (s : Session). s.serial) (session_of_client a.client (sessions_left a parts.sessions))
     → IsFormerWithin former (so_far a (record parts { sessions = table }) pending) before after

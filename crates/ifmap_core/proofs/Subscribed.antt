@@ -13,16 +13,16 @@ use Rattle.std.specs.Ordering.{nat_cmp}
 use Rattle.std.specs.Option.{option_to_list}
 use Rattle.std.specs.Prelude.{vec_capacity, vec_len}
 use Rattle.std.specs.declared.cmp.Ordering.TheVariants.{Less}
-use Rattle.ifmap_changes.specs.Between.{AreKept, AreTurned, AreWithin, Asking, IsReady, IsSteady, IsWithin, sessions_left, sight_now, so_far}
+use Rattle.ifmap_changes.specs.Between.{AreKept, AreTurned, AreWithinLimits, Asking, IsSoundSoFar, IsSteady, IsWithinLimit, sessions_left, sight_now, so_far}
 use Rattle.ifmap_changes.specs.declared.parts.Parts.{Parts}
-use Rattle.ifmap_core.specs.Outcomes.{CanRename, LeadsTo, after_outcome, alone_told, rename_in}
+use Rattle.ifmap_core.specs.Outcomes.{CanRename, LeadsToAnswer, after_outcome, alone_told, rename_in}
 use Rattle.ifmap_core.specs.declared.outcomes.Outcome.TheVariants.{Rename}
 use Rattle.ifmap_core.proofs.Ended.{rising_left}
 use Rattle.ifmap_core.proofs.Overrun.{Grows, IsFit, changed_within, grows_rising, no_overflow, others_renamed, over_is}
 use Rattle.ifmap_core.proofs.Places.{all_are_kept, all_left, kept_both, searched_itself}
 use Rattle.ifmap_core.proofs.Told.{before_told, one_numbered, told_by_leaves, told_rising}
 use Rattle.ifmap_core.proofs.Turned.{KeepsThere, shares_later}
-use Rattle.ifmap_delta.specs.Sights.{IsKept}
+use Rattle.ifmap_delta.specs.Sights.{IsUpToDate}
 use Rattle.ifmap_delta.specs.Ways.{HasSameSearch}
 use Rattle.ifmap_graph.specs.Seen.{rows_now}
 use Rattle.ifmap_lemmas.specs.Filters.{all_weaker}
@@ -37,9 +37,9 @@ use Rattle.ifmap_machine.specs.Subscribing.{Told, most_names}
 use Rattle.ifmap_machine.specs.Telling.{overflow}
 use Rattle.ifmap_pool.specs.Holdings.{key_at}
 use Rattle.ifmap_search.specs.Sizes.{queue_size}
-use Rattle.ifmap_session.specs.Sessions.{IsLive, Session, Table, session_order, session_with_serial, spare_of, without_sessions}
+use Rattle.ifmap_session.specs.Sessions.{IsLive, Session, SessionTable, session_order, session_with_serial, spare_of, without_sessions}
 use Rattle.ifmap_standing.specs.declared.standing.Standing.{Standing}
-use Rattle.ifmap_standing.specs.Kept.{AtEach, KeepsSame, Stands}
+use Rattle.ifmap_standing.specs.Kept.{AtEach, KeepsSame, StaysRelated}
 use Rattle.ifmap_standing.specs.Standing.{standing_of}
 use Rattle.ifmap_subscribes.specs.declared.renamings.Renaming.{Renaming}
 use Rattle.ifmap_subscribes.specs.declared.readying.Readying.{Readying}
@@ -55,16 +55,16 @@ use Rattle.ifmap_tellings.specs.ToldLaws.{same_itself, map_kept}
 -- parts whose sessions and subscriptions stay, and whose graph keeps what is kept there
 pub ready_there : (a : Asking) (old new : Parts) (pending : Pending) → new.sessions ≡ old.sessions
     → new.standing.items ≡ old.standing.items → KeepsThere old.graph new.graph → IsSteady new.graph new.standing.items
-    → IsReady a old pending → IsReady a new pending
+    → IsSoundSoFar a old pending → IsSoundSoFar a new pending
 ready_there a old new pending sessions standing there steady r =
     let numbers = all_are_kept (λ (x : Standing). key_at new.graph.names x.subscription.region.start ≡ Some x.subscription.search.start)
     pending.gone.items new.standing.items steady.numbered in
-    let kept : AllKept (λ (x : Standing). IsKept (sight_now new.graph) x.subscription) pending.gone.items new.standing.items =
-    kept_both (λ (x : Standing). IsKept (sight_now old.graph) x.subscription)
+    let kept : AllKept (λ (x : Standing). IsUpToDate (sight_now new.graph) x.subscription) pending.gone.items new.standing.items =
+    kept_both (λ (x : Standing). IsUpToDate (sight_now old.graph) x.subscription)
     (λ (x : Standing). key_at new.graph.names x.subscription.region.start ≡ Some x.subscription.search.start)
-    (λ (x : Standing). IsKept (sight_now new.graph) x.subscription)
+    (λ (x : Standing). IsUpToDate (sight_now new.graph) x.subscription)
     (λ x k n. there x.subscription n k) pending.gone.items new.standing.items
-    (subst (AllKept (λ (x : Standing). IsKept (sight_now old.graph) x.subscription) pending.gone.items) (sym standing) r.kept) numbers in
+    (subst (AllKept (λ (x : Standing). IsUpToDate (sight_now old.graph) x.subscription) pending.gone.items) (sym standing) r.kept) numbers in
     record {
       ended = rw sessions r.ended;
       ordered = rw (sessions, standing) r.ordered;
@@ -82,7 +82,7 @@ pub holds_turned : (old new : Parts) → OnlyHolds old new → AreTurned old new
 holds_turned old new h = record {
   waits = h.waits;
   lean = h.lean;
-  searches = subst (λ xs. AtEach (λ _. Stands HasSameSearch) old.standing.items xs)
+  searches = subst (λ xs. AtEach (λ _. StaysRelated HasSameSearch) old.standing.items xs)
       (ap (λ v. v.items) (sym h.standing)) (searched_itself old.standing.items);
   sessions = subst (HasSameSessions old.sessions) (sym h.sessions) (same_itself old.sessions);
 }
@@ -102,7 +102,7 @@ same_so_far a old new pending rows sessions standing =
 
 -- what is ready is, once there is more room
 pub ready_room : (a : Asking) (old new : Parts) (pending : Pending) → new.graph ≡ old.graph → HasSameSessions old.sessions new.sessions
-    → new.standing.items ≡ old.standing.items → IsReady a old pending → IsReady a new pending
+    → new.standing.items ≡ old.standing.items → IsSoundSoFar a old pending → IsSoundSoFar a new pending
 ready_room a old new pending graph sessions standing r = record {
   ended = rw (sessions.live) r.ended;
   ordered = rw (sessions.live, standing) r.ordered;
@@ -163,7 +163,7 @@ told_live a parts pending n s up e =
     )
 
 -- what is left is live
-pub live_left : (a : Asking) (n : ℕ) (table : Table) → IsLive n (sessions_left a table) → IsLive n table.live
+pub live_left : (a : Asking) (n : ℕ) (table : SessionTable) → IsLive n (sessions_left a table) → IsLive n table.live
 live_left a n table l = left_live (λ (x : Session). not (list_any (λ m. m == x.serial) a.ended)) n table.live l
 
 -- ---- names are to be renamed
@@ -180,11 +180,11 @@ items_few (r ∷ rs) =
     let rest = items_few rs in
     omega (arith, sum, one, rest)
 
-fit_each : (live : List Session) → AreWithin live → AllByRecursion IsFit live
-fit_each live h = all_weaker IsWithin IsFit (λ s w. w.full) live h
+fit_each : (live : List Session) → AreWithinLimits live → AllByRecursion IsFit live
+fit_each live h = all_weaker IsWithinLimit IsFit (λ s w. w.full) live h
 
 pub renames : (serial : ℕ) (rs : List Renaming) (state : State) (s : Session) (t : Told) → IsStrictlySortedBy session_order state.sessions
-    → session_with_serial serial state.sessions ≡ Some s → AreWithin state.sessions
+    → session_with_serial serial state.sessions ≡ Some s → AreWithinLimits state.sessions
     → t ≡ record { queue = s.queue; standing = state.standing } → queue_size (rename_all serial rs t).queue ≤ s.limit
     → ◌≡◌ {A = State × Answer}
     (rename_in serial rs state (session_with_serial serial state.sessions), the_answer.Reply the_reply.Subscribed)
@@ -256,12 +256,12 @@ module _ (a : Asking) (old : Parts) (pending : Pending) (serial : ℕ) (readying
       }
 
   pub leads_renamed : (new : Parts) → new.graph ≡ old.graph → HasSameSessions old.sessions new.sessions
-      → new.standing.items ≡ old.standing.items → IsReady a old pending → IsLive serial (sessions_left a old.sessions)
+      → new.standing.items ≡ old.standing.items → IsSoundSoFar a old pending → IsLive serial (sessions_left a old.sessions)
       → ((s : Session) → session_with_serial serial old.sessions.live ≡ Some s → readying.size ≤ s.limit)
       → vec_len new.standing + length readying.made.items ≤ vec_capacity new.standing
       → count_where (get nat_cmp pending.tellings serial) + length readying.made.items ≤ spare_of serial new.sessions.spare
       → (s : Session) → session_with_serial serial (so_far a old pending).sessions ≡ Some s
-      → LeadsTo (Rename serial readying.made.items) a new pending (answer_subscribed (so_far a old pending) s (Some after))
+      → LeadsToAnswer (Rename serial readying.made.items) a new pending (answer_subscribed (so_far a old pending) s (Some after))
   leads_renamed new graph sessions standing ready live limit places room s e = record {
     steady = rw (graph, standing) r.stand.steady;
     ready = ready_room a old new pending graph sessions standing ready;
@@ -272,7 +272,7 @@ module _ (a : Asking) (old : Parts) (pending : Pending) (serial : ℕ) (readying
   }
 
   -- one error in place of all
-  pub overruns : IsReady a old pending → ((s : Session) → session_with_serial serial old.sessions.live ≡ Some s → s.limit < readying.size)
+  pub overruns : IsSoundSoFar a old pending → ((s : Session) → session_with_serial serial old.sessions.live ≡ Some s → s.limit < readying.size)
       → (s : Session) → session_with_serial serial (so_far a old pending).sessions ≡ Some s
       → (next : State) → next ≡ alone_told serial readying.size (so_far a old pending)
       → ◌≡◌ {A = State × Answer} (renew serial next, the_answer.Reply the_reply.Subscribed)
@@ -308,7 +308,7 @@ holds_kept old mid new h k = record {
     links = λ v. k.back.links v ∙ h.links v;
     numbers = shares_later old.graph mid.graph new.graph h.numbers k.back.numbers;
     lean = λ rest l. k.back.lean rest (h.lean rest l);
-    standing = subst (λ xs. AtEach (λ _. Stands KeepsSame) xs new.standing.items) (ap (λ v. v.items) h.standing) k.back.standing;
+    standing = subst (λ xs. AtEach (λ _. StaysRelated KeepsSame) xs new.standing.items) (ap (λ v. v.items) h.standing) k.back.standing;
     sessions = subst (λ t. HasSameSessions t new.sessions) h.sessions k.back.sessions;
   };
   backs = λ u rows links b. k.backs u rows links (h.backs u rows links b);

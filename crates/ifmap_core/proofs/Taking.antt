@@ -7,7 +7,7 @@ use Rattle.ifmap_changes.specs.Changes.{taken_one}
 use Rattle.ifmap_lemmas.specs.Filters.{all_filter}
 use Rattle.ifmap_machine.specs.Ending.{drop_sessions, end_some, without_standing}
 use Rattle.ifmap_machine.specs.State.{Standing, State}
-use Rattle.ifmap_machine.specs.Telling.{is_overfull, is_overrun, is_too_big, overflow_session, tell_session, told_in}
+use Rattle.ifmap_machine.specs.Telling.{is_overfull, is_overrun, is_too_big, overflow_session, tell_session, told_in_session}
 use Rattle.ifmap_publish.specs.declared.who.Who.TheVariants.{Sessions}
 use Rattle.ifmap_publish.specs.Retract.{retract}
 use Rattle.ifmap_session.specs.Sessions.{Session, without_sessions}
@@ -61,7 +61,7 @@ pub taken_is : (n : ℕ) (state : State) → drop_sessions (n ∷ []) (taken_one
 taken_is n state =
     let after = retract (Sessions (n ∷ [])) state.graph in
     let others = without_standing (n ∷ []) state.standing in
-    let told : Session → Session = λ (s : Session). tell_session (told_in state.graph after [] others s.serial) s in
+    let told : Session → Session = λ (s : Session). tell_session (told_in_session state.graph after [] others s.serial) s in
     let fit : List Standing = filter (λ (x : Standing). not (is_too_big after x.search)) others in
     let full : List Session = map told state.sessions in
     let left : List Session = map told (without_sessions (n ∷ []) state.sessions) in

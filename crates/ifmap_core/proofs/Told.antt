@@ -14,7 +14,7 @@ use Rattle.ifmap_core.specs.declared.owning.Owner.{Owner}
 use Rattle.ifmap_core.specs.declared.owning.Owner.TheVariants.{Own, Another, Nobody}
 use Rattle.ifmap_lemmas.specs.Filters.{all_weaker}
 use Rattle.ifmap_lemmas.specs.Members.{map_of_all}
-use Rattle.ifmap_session.specs.Sessions.{Session, is_text, session_order, session_with_serial}
+use Rattle.ifmap_session.specs.Sessions.{Session, is_same_text, session_order, session_with_serial}
 use Rattle.ifmap_tellings.specs.declared.tellings.Telling.{Telling}
 use Rattle.ifmap_tellings.specs.declared.tellings.Telling.TheVariants.{After, Alone}
 use Rattle.ifmap_tellings.specs.Tellings.{Tellings, told_by, told_where}
@@ -72,8 +72,8 @@ module _ (f : Session → Session) (q : Session → Bool) (same : (s : Session) 
       ]
 
 module _ (tellings : Tellings) where
-  pub told_id : (id : List ℕ) (s : Session) → is_text (told_by tellings s).id id ≡ is_text s.id id
-  told_id id s = ap (λ (t : List ℕ). is_text t id) (told_by_leaves tellings s).id
+  pub told_id : (id : List ℕ) (s : Session) → is_same_text (told_by tellings s).id id ≡ is_same_text s.id id
+  told_id id s = ap (λ (t : List ℕ). is_same_text t id) (told_by_leaves tellings s).id
 
   pub told_number : (n : ℕ) (s : Session) → ((told_by tellings s).serial == n) ≡ (s.serial == n)
   told_number n s = ap (λ (m : ℕ). m == n) (told_by_leaves tellings s).serial
@@ -83,17 +83,17 @@ module _ (tellings : Tellings) where
       → IsOwner (map (told_by tellings) live) id client o
   owner_told live id client (Own serial) o = (
     told_by tellings o.0,
-    found_mapped (told_by tellings) (λ (t : Session). is_text t.id id) (told_id id) live o.0 o.1,
-    ap (λ (t : List ℕ). is_text t client) (told_by_leaves tellings o.0).client ∙ o.2,
+    found_mapped (told_by tellings) (λ (t : Session). is_same_text t.id id) (told_id id) live o.0 o.1,
+    ap (λ (t : List ℕ). is_same_text t client) (told_by_leaves tellings o.0).client ∙ o.2,
     (told_by_leaves tellings o.0).serial ∙ o.3,
     found_mapped (told_by tellings) (λ (t : Session). t.serial == serial) (told_number serial) live o.0 o.4,
   )
   owner_told live id client Another o = (
     told_by tellings o.0,
-    found_mapped (told_by tellings) (λ (t : Session). is_text t.id id) (told_id id) live o.0 o.1,
-    ap (λ (t : List ℕ). is_text t client) (told_by_leaves tellings o.0).client ∙ o.2,
+    found_mapped (told_by tellings) (λ (t : Session). is_same_text t.id id) (told_id id) live o.0 o.1,
+    ap (λ (t : List ℕ). is_same_text t client) (told_by_leaves tellings o.0).client ∙ o.2,
   )
-  owner_told live id client Nobody o = none_mapped (told_by tellings) (λ (t : Session). is_text t.id id) (told_id id) live o
+  owner_told live id client Nobody o = none_mapped (told_by tellings) (λ (t : Session). is_same_text t.id id) (told_id id) live o
 
   -- the session with a serial, before it is told
   pub before_told : (n : ℕ) (live : List Session) (t : Session) → session_with_serial n (map (told_by tellings) live) ≡ Some t

@@ -11,7 +11,7 @@ use Rattle.ifmap_changes.specs.Between.{AreBack, AreKept, AreOrdered, AreParts, 
 use Rattle.ifmap_changes.specs.declared.parts.Parts.{Parts}
 use Rattle.ifmap_core.proofs.Places.{all_moved, same_map, searched_itself, shown_kept}
 use Rattle.ifmap_delta.specs.declared.subscriptions.Subscription.{Subscription}
-use Rattle.ifmap_delta.specs.Sights.{IsKept, Sight}
+use Rattle.ifmap_delta.specs.Sights.{IsUpToDate, ViewSeen}
 use Rattle.ifmap_graph.specs.Back.{KeepsBacks}
 use Rattle.ifmap_graph.specs.Held.{Held, IsOwn}
 use Rattle.ifmap_graph.specs.Seen.{IsStill, KeepsNumbers, StaysLean, links_now, rows_now}
@@ -22,7 +22,7 @@ use Rattle.ifmap_machine.specs.Subscribing.{most_names}
 use Rattle.ifmap_pool.specs.Holdings.{key_at}
 use Rattle.ifmap_session.specs.Sessions.{IsLive, Session}
 use Rattle.ifmap_standing.specs.declared.standing.Standing.{Standing}
-use Rattle.ifmap_standing.specs.Kept.{AtEach, KeepsSame, Stands}
+use Rattle.ifmap_standing.specs.Kept.{AtEach, KeepsSame, StaysRelated}
 use Rattle.ifmap_standing.specs.Standing.{standing_of}
 use Rattle.ifmap_tellings.specs.Tellings.{HasSameSessions}
 use Rattle.ifmap_view.specs.Views.{IsView}
@@ -76,20 +76,20 @@ back_state ttl moment old new b =
     ∙ ap (λ (live : List Session). record
     (state_at ttl moment new) { counter = old.sessions.counter; graph = rows_now old.graph; sessions = live }) b.sessions.live
     ∙ ap (λ (xs : List machine.Standing). record (state_at ttl moment old) { standing = xs })
-    (same_map standing_of (λ _. Stands KeepsSame) shown_kept old.standing.items new.standing.items b.standing)
+    (same_map standing_of (λ _. StaysRelated KeepsSame) shown_kept old.standing.items new.standing.items b.standing)
 
 -- a subscription that keeps what one graph has keeps what another has, where its start has its number there
 abbrev pub KeepsThere : Held → Held → Type 0
 KeepsThere old new =
-    (sub : Subscription) → key_at new.names sub.region.start ≡ Some sub.search.start → IsKept (sight_now old) sub
-    → IsKept (sight_now new) sub
+    (sub : Subscription) → key_at new.names sub.region.start ≡ Some sub.search.start → IsUpToDate (sight_now old) sub
+    → IsUpToDate (sight_now new) sub
 
 abbrev pub SameLinks : Type 0
 SameLinks =
-    (one other : Sight) (sub : Subscription) → IsView one.rows one.id_at one.links → IsView other.rows other.id_at other.links
+    (one other : ViewSeen) (sub : Subscription) → IsView one.rows one.id_at one.links → IsView other.rows other.id_at other.links
     → other.rows ≡ one.rows → ((v : ℕ) → other.links v ≡ one.links v)
     → ((v : ℕ) (a b : Identifier) → one.id_at v ≡ Some a → other.id_at v ≡ Some b → b ≡ a)
-    → other.id_at sub.region.start ≡ Some sub.search.start → IsKept one sub → IsKept other sub
+    → other.id_at sub.region.start ≡ Some sub.search.start → IsUpToDate one sub → IsUpToDate other sub
 
 abbrev pub IsSeen : Held → Type 0
 IsSeen h = IsView (rows_now h) (key_at h.names) (links_now h)
@@ -102,22 +102,22 @@ keeps_there law old new was is rows links numbers sub here kept =
 -- all that stand keep what the graph has, where they kept it and hold their starts
 pub all_there : (old new : Held) → KeepsThere old new → (xs : List Standing)
     → AllByRecursion (λ x. key_at new.names x.subscription.region.start ≡ Some x.subscription.search.start) xs
-    → AllByRecursion (λ x. IsKept (sight_now old) x.subscription) xs → AllByRecursion (λ x. IsKept (sight_now new) x.subscription) xs
+    → AllByRecursion (λ x. IsUpToDate (sight_now old) x.subscription) xs → AllByRecursion (λ x. IsUpToDate (sight_now new) x.subscription) xs
 all_there old new k [] n h = tt
 all_there old new k (x ∷ xs) n h = (k x.subscription n.0 h.0, all_there old new k xs n.1 h.1)
 
 abbrev pub SameMarks : Type 0
-SameMarks = (g : Sight) (old new : Subscription) → KeepsSame old new → IsKept g old → IsKept g new
+SameMarks = (g : ViewSeen) (old new : Subscription) → KeepsSame old new → IsUpToDate g old → IsUpToDate g new
 
 ordered_back : (old new : Parts) → AreBack old new → AreOrdered old.sessions.live old.standing.items
     → AreOrdered new.sessions.live new.standing.items
 ordered_back old new b o =
     let same : map standing_of new.standing.items ≡ map standing_of old.standing.items =
-    same_map standing_of (λ _. Stands KeepsSame) shown_kept old.standing.items new.standing.items b.standing in
+    same_map standing_of (λ _. StaysRelated KeepsSame) shown_kept old.standing.items new.standing.items b.standing in
     record {
       rising = rw same o.rising;
       live = all_moved (λ (x : Standing). IsLive x.serial old.sessions.live) (λ (x : Standing). IsLive x.serial new.sessions.live)
-          (λ _. Stands KeepsSame)
+          (λ _. StaysRelated KeepsSame)
           (λ i x y s l. subst (λ (live : List Session). IsLive y.serial live) (sym b.sessions.live)
           (subst (λ (n : ℕ). IsLive n old.sessions.live) (sym s.serial) l)) old.standing.items new.standing.items b.standing o.live;
       few = λ n. subst (λ (xs : List machine.Standing). length (standing_in n xs) ≤ most_names) (sym same) (o.few n);
@@ -127,10 +127,10 @@ pub back_parts : SameLinks → SameMarks → (old new : Parts) → IsSeen old.gr
     → AreParts new
 back_parts law marks old new was is p b =
     let there = keeps_there law old.graph new.graph was is b.rows b.links b.numbers in
-    let moved : AllByRecursion (λ (x : Standing). IsKept (sight_now old.graph) x.subscription) new.standing.items =
-    all_moved (λ (x : Standing). IsKept (sight_now old.graph) x.subscription) (λ (x : Standing). IsKept
+    let moved : AllByRecursion (λ (x : Standing). IsUpToDate (sight_now old.graph) x.subscription) new.standing.items =
+    all_moved (λ (x : Standing). IsUpToDate (sight_now old.graph) x.subscription) (λ (x : Standing). IsUpToDate
     (sight_now old.graph) x.subscription)
-    (λ _. Stands KeepsSame) (λ i x y s k. marks (sight_now old.graph) x.subscription y.subscription s.subscription k)
+    (λ _. StaysRelated KeepsSame) (λ i x y s k. marks (sight_now old.graph) x.subscription y.subscription s.subscription k)
     old.standing.items new.standing.items b.standing p.kept in
     record {
       steady = b.steady;
@@ -177,7 +177,7 @@ room_kept a b c graph standing sessions k = record {
     links = subst (λ h. (v : ℕ) → links_now c.graph v ≡ links_now h v) graph k.back.links;
     numbers = subst (λ h. SharesNumbers h c.graph) graph k.back.numbers;
     lean = subst (λ h. StaysLean h c.graph) graph k.back.lean;
-    standing = subst (λ xs. AtEach (λ _. Stands KeepsSame) xs c.standing.items) standing k.back.standing;
+    standing = subst (λ xs. AtEach (λ _. StaysRelated KeepsSame) xs c.standing.items) standing k.back.standing;
     sessions = same_twice a.sessions b.sessions c.sessions sessions k.back.sessions;
   };
   backs = subst (λ h. KeepsBacks h c.graph) graph k.backs;

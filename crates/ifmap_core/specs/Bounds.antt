@@ -15,7 +15,7 @@ use Rattle.ifmap_machine.specs.Step.{author_in, is_full}
 use Rattle.ifmap_publish.specs.Apply.{apply}
 use Rattle.ifmap_publish.specs.declared.who.Who.TheVariants.{Publisher}
 use Rattle.ifmap_requests.specs.declared.requests.Request.TheVariants as the_request
-use Rattle.ifmap_session.specs.Sessions.{Session, expired_serials, is_text, session_of_client, session_with_id}
+use Rattle.ifmap_session.specs.Sessions.{Session, expired_serials, is_same_text, session_of_client, session_with_id}
 use Rattle.ifmap_subscribes.specs.Bounds.{AreOpsWithin, IsWithinSpan}
 
 -- the steps did not rise
@@ -30,7 +30,7 @@ IsWithinIf false Within before after = TakesNone before after
 -- within that in the session that a request names, where it is live and the client's
 abbrev pub IsWithinOwn : List ℕ → Option Session → (Session → ℕ → ℕ → Type 0) → ℕ → ℕ → Type 0
 IsWithinOwn client None Within before after = TakesNone before after
-IsWithinOwn client (Some s) Within before after = IsWithinIf (is_text s.client client) (Within s) before after
+IsWithinOwn client (Some s) Within before after = IsWithinIf (is_same_text s.client client) (Within s) before after
 
 -- the session ends that a client had, if it had one
 abbrev pub IsFormerWithin : Option ℕ → State → ℕ → ℕ → Type 0
@@ -61,7 +61,7 @@ IsAskWithin state event (Request (the_request.Subscribe id ops)) before after =
 IsAskWithin state event (Request (the_request.Poll id)) before after = TakesNone before after
 IsAskWithin state event (Request (the_request.PurgePublisher id publisher)) before after =
     IsWithinOwn event.client (session_with_id id state.sessions)
-    (λ s. IsWithinIf (is_text publisher s.client) (IsTakenWithin (Publisher publisher) state)) before after
+    (λ s. IsWithinIf (is_same_text publisher s.client) (IsTakenWithin (Publisher publisher) state)) before after
 
 -- an event, in a state at its moment
 abbrev pub IsEventWithin : State → Event → ℕ → ℕ → Type 0

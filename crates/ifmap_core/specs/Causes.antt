@@ -40,16 +40,16 @@ IsRefusal code the_answer.Held = ⊥
 IsRefusal code the_answer.Heard = ⊥
 
 -- the session that a request names by its id
-abbrev pub named_session : State → Ask → Option (Option Session)
-named_session state (Lost id) = None
-named_session state (Request (the_request.NewSession limit)) = None
-named_session state (Request (the_request.RenewSession id)) = Some (session_with_id id state.sessions)
-named_session state (Request (the_request.EndSession id)) = Some (session_with_id id state.sessions)
-named_session state (Request (the_request.Publish id ops)) = Some (session_with_id id state.sessions)
-named_session state (Request (the_request.Search id asked)) = Some (session_with_id id state.sessions)
-named_session state (Request (the_request.Subscribe id ops)) = Some (session_with_id id state.sessions)
-named_session state (Request (the_request.Poll id)) = Some (session_with_id id state.sessions)
-named_session state (Request (the_request.PurgePublisher id publisher)) = Some (session_with_id id state.sessions)
+abbrev pub asked_session : State → Ask → Option (Option Session)
+asked_session state (Lost id) = None
+asked_session state (Request (the_request.NewSession limit)) = None
+asked_session state (Request (the_request.RenewSession id)) = Some (session_with_id id state.sessions)
+asked_session state (Request (the_request.EndSession id)) = Some (session_with_id id state.sessions)
+asked_session state (Request (the_request.Publish id ops)) = Some (session_with_id id state.sessions)
+asked_session state (Request (the_request.Search id asked)) = Some (session_with_id id state.sessions)
+asked_session state (Request (the_request.Subscribe id ops)) = Some (session_with_id id state.sessions)
+asked_session state (Request (the_request.Poll id)) = Some (session_with_id id state.sessions)
+asked_session state (Request (the_request.PurgePublisher id publisher)) = Some (session_with_id id state.sessions)
 
 -- a request that is asked again, which is told of the session's end instead
 abbrev pub is_told_end : Bool → Ask → Bool
@@ -65,11 +65,11 @@ is_told_end again (Request (the_request.PurgePublisher id publisher)) = false
 
 -- the request names a session by an id that no live session has, and is no poll that is asked again
 abbrev pub NamesNoSession : State → Bool → Ask → Type 0
-NamesNoSession state again ask = (named_session state ask ≡ Some None) × (is_told_end again ask ≡ false)
+NamesNoSession state again ask = (asked_session state ask ≡ Some None) × (is_told_end again ask ≡ false)
 
 -- the request names the live session of another client
 abbrev pub NamesAnothersSession : State → List ℕ → Ask → Type 0
-NamesAnothersSession state client ask = (s : Session) × (named_session state ask ≡ Some (Some s)) × (s.client ≢ client)
+NamesAnothersSession state client ask = (s : Session) × (asked_session state ask ≡ Some (Some s)) × (s.client ≢ client)
 
 -- a request in a live session of the client's purges another publisher
 abbrev pub PurgesAnother : State → List ℕ → Ask → Type 0

@@ -3,7 +3,7 @@ use Rattle.std.specs.Prelude.{◌≡◌, ◌≢◌, ◌+◌, ◌-◌, ◌^◌, �
 use Rattle.std.specs.BTreeMap.{get}
 use Rattle.std.specs.List.{AllByRecursion}
 use Rattle.std.specs.Ordering.{nat_cmp}
-use Rattle.ifmap_changes.specs.Between.{AreOrdered, AreWithin, Asking, IsBare, IsReady, IsSteady, rest_of, sessions_left, sight_now, so_far}
+use Rattle.ifmap_changes.specs.Between.{AreOrdered, AreWithinLimits, Asking, HasNoSubscriptions, IsSoundSoFar, IsSteady, rest_of, sessions_left, sight_now, so_far}
 use Rattle.ifmap_core.specs.declared.outcomes.Outcome.{Outcome}
 use Rattle.ifmap_core.specs.declared.outcomes.Outcome.TheVariants.{Say, Accept, End, Open, Rename, Poll}
 use Rattle.ifmap_core.specs.declared.owning.Owner.{Owner}
@@ -14,7 +14,7 @@ use Rattle.ifmap_subscribes.specs.declared.renamings.Renaming.{Renaming}
 use Rattle.ifmap_tellings.specs.declared.tellings.Pending.{Pending}
 use Rattle.ifmap_subscribes.specs.Renamings.{CanRenameEach, IsOfSession, begun_by, item_count, rename_all, told_in_parts, told_so_far}
 use Rattle.ifmap_tellings.specs.Tellings.{count_where}
-use Rattle.ifmap_delta.specs.Sights.{IsKept}
+use Rattle.ifmap_delta.specs.Sights.{IsUpToDate}
 use Rattle.ifmap_ident.specs.declared.codes.Code.TheVariants.{InvalidSessionID, PollResultsTooBig}
 use Rattle.ifmap_machine.specs.declared.events.Answer.{Answer}
 use Rattle.ifmap_machine.specs.declared.events.Answer.TheVariants as the_answer
@@ -29,7 +29,7 @@ use Rattle.ifmap_replies.specs.declared.replies.Reply.TheVariants as the_reply
 use Rattle.ifmap_search.specs.declared.results.PollItem.{PollItem}
 use Rattle.ifmap_search.specs.declared.results.PollItem.TheVariants as the_item
 use Rattle.ifmap_search.specs.Sizes.{queue_size}
-use Rattle.ifmap_session.specs.Sessions.{IsLive, Opening, Session, Table, change, is_text, most_sessions, session_from, session_of_client, session_with_id, session_with_serial, spare_of, with_error, with_last, without_sessions}
+use Rattle.ifmap_session.specs.Sessions.{IsLive, Opening, Session, SessionTable, change, is_same_text, most_sessions, session_from, session_of_client, session_with_id, session_with_serial, spare_of, with_error, with_last, without_sessions}
 use Rattle.ifmap_standing.specs.declared.standing.Standing.{Standing}
 
 -- the sessions without the one that a client had, if it had one
@@ -82,7 +82,7 @@ after_outcome (Rename serial renamings) state =
 after_outcome (Poll serial again) state = poll_found state again (session_with_serial serial state.sessions)
 
 -- a session can begin in place of another
-pub record CanOpen (former : Option ℕ) (opening : Opening) (limit : ℕ) (table : Table) : Type 0 where
+pub record CanOpen (former : Option ℕ) (opening : Opening) (limit : ℕ) (table : SessionTable) : Type 0 where
   pub room : 1 ≤ table.room
   pub live : IfSome former (λ n. IsLive n table.live)
   pub none : session_of_client opening.client (after_former former table.live) ≡ None
@@ -96,7 +96,7 @@ pub record CanOpen (former : Option ℕ) (opening : Opening) (limit : ℕ) (tabl
 pub record CanRename (serial : ℕ) (renamings : List Renaming) (a : Asking) (parts : Parts) (pending : Pending) : Type 0 where
   pub live : IsLive serial (sessions_left a parts.sessions)
   pub session : AllByRecursion (IsOfSession serial) renamings
-  pub kept : AllByRecursion (λ x. IsKept (sight_now parts.graph) x.subscription) (begun_by renamings)
+  pub kept : AllByRecursion (λ x. IsUpToDate (sight_now parts.graph) x.subscription) (begun_by renamings)
   pub places : vec_len parts.standing + length renamings ≤ vec_capacity parts.standing
   pub room : count_where (get nat_cmp pending.tellings serial) + item_count renamings ≤ spare_of serial parts.sessions.spare
   pub within : (s : Session) → session_with_serial serial (so_far a parts pending).sessions ≡ Some s
@@ -115,9 +115,9 @@ FitsAfter serial renamings parts =
 abbrev pub CanApply : Outcome → Asking → Parts → Pending → Type 0
 CanApply (Say answer) a parts pending = Unit {0}
 CanApply (Accept serial answer) a parts pending = IsLive serial (sessions_left a parts.sessions)
-CanApply (End serial answer) a parts pending = IsLive serial (sessions_left a parts.sessions) × IsBare serial parts pending
+CanApply (End serial answer) a parts pending = IsLive serial (sessions_left a parts.sessions) × HasNoSubscriptions serial parts pending
 CanApply (Open former opening limit publisher) a parts pending =
-    CanOpen former opening limit (rest_of a parts.sessions) × IfSome former (λ n. IsBare n parts pending)
+    CanOpen former opening limit (rest_of a parts.sessions) × IfSome former (λ n. HasNoSubscriptions n parts pending)
 CanApply (Rename serial renamings) a parts pending = CanRename serial renamings a parts pending
 CanApply (Poll serial again) a parts pending = IsLive serial (sessions_left a parts.sessions)
 
@@ -154,22 +154,22 @@ held_by (Poll serial again) = []
 pub record WouldBeParts (more : List Standing) (parts : Parts) : Type 0 where
   pub steady : IsSteady parts.graph (parts.standing.items ++ more)
   pub ordered : AreOrdered parts.sessions.live parts.standing.items
-  pub kept : AllByRecursion (λ x. IsKept (sight_now parts.graph) x.subscription) parts.standing.items
-  pub within : AreWithin parts.sessions.live
+  pub kept : AllByRecursion (λ x. IsUpToDate (sight_now parts.graph) x.subscription) parts.standing.items
+  pub within : AreWithinLimits parts.sessions.live
 
 -- an outcome can be applied to parts, and leads from the state that they are in to that state and answer
-pub record LeadsTo (outcome : Outcome) (a : Asking) (parts : Parts) (pending : Pending) (wanted : State × Answer) : Type 0 where
+pub record LeadsToAnswer (outcome : Outcome) (a : Asking) (parts : Parts) (pending : Pending) (wanted : State × Answer) : Type 0 where
   pub steady : IsSteady parts.graph (parts.standing.items ++ held_by outcome)
-  pub ready : IsReady a parts pending
+  pub ready : IsSoundSoFar a parts pending
   pub can : CanApply outcome a parts pending
   pub leads : after_outcome outcome (so_far a parts pending) ≡ wanted
 
 -- whose the session of an id is: the client's, with that serial; another's; or nobody's
 abbrev pub IsOwner : List Session → List ℕ → List ℕ → Owner → Type 0
 IsOwner live id client (Own serial) =
-    (s : Session) × (session_with_id id live ≡ Some s) × (is_text s.client client ≡ true) × (s.serial ≡ serial)
+    (s : Session) × (session_with_id id live ≡ Some s) × (is_same_text s.client client ≡ true) × (s.serial ≡ serial)
     × (session_with_serial serial live ≡ Some s)
-IsOwner live id client Another = (s : Session) × (session_with_id id live ≡ Some s) × (is_text s.client client ≡ false)
+IsOwner live id client Another = (s : Session) × (session_with_id id live ≡ Some s) × (is_same_text s.client client ≡ false)
 IsOwner live id client Nobody = session_with_id id live ≡ None
 
 -- the same of the session that a client had, if it had one
@@ -183,7 +183,7 @@ end_of_poll true = Say (the_answer.Reply the_reply.Ended)
 end_of_poll false = Say (refusal InvalidSessionID)
 
 -- an outcome leads from a state with these sessions to what the step makes of it, and is one of a live session that holds nothing
-pub record IsDone (live : List Session) (event : Event) (ask : Ask) (outcome : Outcome) : Type 0 where
+pub record IsStepOutcome (live : List Session) (event : Event) (ask : Ask) (outcome : Outcome) : Type 0 where
   pub plain : held_by outcome ≡ []
   pub can : (parts : Parts) → parts.sessions.live ≡ live → CanApplyTo outcome parts
   pub done : (state : State) → state.sessions ≡ live → after_outcome outcome state ≡ step_ask state event ask

@@ -1,11 +1,11 @@
 //! Requests in sessions. Each takes all the memory that it needs before it changes anything.
 ghost use Rattle.std.specs.Prelude.{◌≡◌, ◌∷◌, [], IfOk, OnErr, OnOk};
 ghost use Rattle.std.specs.List.{AllByRecursion};
-ghost use Rattle.ifmap_changes.specs.Between.{AreKept, AreTurned, IsReady, IsSteady, so_far};
+ghost use Rattle.ifmap_changes.specs.Between.{AreKept, AreTurned, IsSoundSoFar, IsSteady, so_far};
 ghost use Rattle.ifmap_changes.specs.Bounds.{IsEndedWithin, IsTakenWithin, IsToldWithin};
 ghost use Rattle.ifmap_core.specs.Bounds.{IsAskWithin, IsWithinIf, IsWithinOwn};
 ghost use Rattle.ifmap_core.specs.declared.outcomes.Outcome.TheVariants.{Say};
-ghost use Rattle.ifmap_core.specs.Outcomes.{LeadsTo, end_of_poll};
+ghost use Rattle.ifmap_core.specs.Outcomes.{LeadsToAnswer, end_of_poll};
 ghost use Rattle.ifmap_ident.specs.declared.codes.Code.TheVariants.{SearchResultsTooBig};
 ghost use Rattle.ifmap_ident.specs.Canon.{IsIdentifier};
 ghost use Rattle.ifmap_machine.specs.Step.{author_in, end_session, in_session, lose, poll, publish, purge, refusal_with, renew_session, search, step_ask, subscribe};
@@ -13,7 +13,7 @@ ghost use Rattle.ifmap_machine.specs.Telling.{limit_note};
 ghost use Rattle.ifmap_publish.specs.Apply.{apply};
 ghost use Rattle.ifmap_publish.specs.declared.who.Who.TheVariants.{Publisher};
 ghost use Rattle.ifmap_requests.specs.Fit.{IsFitOp, IsFitSubscribeOp};
-ghost use Rattle.ifmap_session.specs.Sessions.{is_text, session_with_id};
+ghost use Rattle.ifmap_session.specs.Sessions.{is_same_text, session_with_id};
 ghost use Rattle.ifmap_subscribes.specs.Bounds.{AreOpsWithin, IsWithinSpan};
 
 use crate::beginning::{NewSession, new_session};
@@ -53,9 +53,9 @@ pub(crate) fn answer<L: Ledger>(
     steps: &mut Steps<L>,
 ) -> Result<Outcome, NoMemory>
     requires steady { IsSteady parts.old.graph parts.old.standing.items }
-    requires ready { IsReady asking.now parts.old pending.old }
+    requires ready { IsSoundSoFar asking.now parts.old pending.old }
     requires client { asking.now.client ≡ event.now.client }
-    ensures leads { IfOk result (λ outcome. LeadsTo outcome asking.now parts.new pending.new
+    ensures leads { IfOk result (λ outcome. LeadsToAnswer outcome asking.now parts.new pending.new
         (step_ask (so_far asking.now parts.old pending.old) event.now event.now.ask)) }
     ensures turned { OnOk result (AreTurned parts.old parts.new) }
     ensures kept { OnErr result (AreKept parts.old parts.new) }
@@ -111,8 +111,8 @@ fn renew_session(
     id: &Text,
 ) -> Result<Outcome, NoMemory>
     requires steady { IsSteady parts.now.graph parts.now.standing.items }
-    requires ready { IsReady asking.now parts.now pending.now }
-    ensures { IfOk result (λ outcome. LeadsTo outcome asking.now parts.now pending.now
+    requires ready { IsSoundSoFar asking.now parts.now pending.now }
+    ensures { IfOk result (λ outcome. LeadsToAnswer outcome asking.now parts.now pending.now
         (in_session (so_far asking.now parts.now pending.now) asking.now.client
         (session_with_id id.now (so_far asking.now parts.now pending.now).sessions)
         (renew_session (so_far asking.now parts.now pending.now)))) }
@@ -137,8 +137,8 @@ fn lose<L: Ledger>(
     steps: &mut Steps<L>,
 ) -> Result<Outcome, NoMemory>
     requires steady { IsSteady parts.old.graph parts.old.standing.items }
-    requires ready { IsReady asking.now parts.old pending.old }
-    ensures leads { IfOk result (λ outcome. LeadsTo outcome asking.now parts.new pending.new
+    requires ready { IsSoundSoFar asking.now parts.old pending.old }
+    ensures leads { IfOk result (λ outcome. LeadsToAnswer outcome asking.now parts.new pending.new
         (lose (so_far asking.now parts.old pending.old) asking.now.client
         (session_with_id id.now (so_far asking.now parts.old pending.old).sessions))) }
     ensures turned { OnOk result (AreTurned parts.old parts.new) }
@@ -167,8 +167,8 @@ fn end_session<L: Ledger>(
     steps: &mut Steps<L>,
 ) -> Result<Outcome, NoMemory>
     requires steady { IsSteady parts.old.graph parts.old.standing.items }
-    requires ready { IsReady asking.now parts.old pending.old }
-    ensures leads { IfOk result (λ outcome. LeadsTo outcome asking.now parts.new pending.new
+    requires ready { IsSoundSoFar asking.now parts.old pending.old }
+    ensures leads { IfOk result (λ outcome. LeadsToAnswer outcome asking.now parts.new pending.new
         (in_session (so_far asking.now parts.old pending.old) asking.now.client
         (session_with_id id.now (so_far asking.now parts.old pending.old).sessions)
         (end_session (so_far asking.now parts.old pending.old)))) }
@@ -198,9 +198,9 @@ fn publish<L: Ledger>(
     steps: &mut Steps<L>,
 ) -> Result<Outcome, NoMemory>
     requires steady { IsSteady parts.old.graph parts.old.standing.items }
-    requires ready { IsReady asking.now parts.old pending.old }
+    requires ready { IsSoundSoFar asking.now parts.old pending.old }
     requires fit { AllByRecursion IsFitOp wish.now.asked.now }
-    ensures leads { IfOk result (λ outcome. LeadsTo outcome asking.now parts.new pending.new
+    ensures leads { IfOk result (λ outcome. LeadsToAnswer outcome asking.now parts.new pending.new
         (in_session (so_far asking.now parts.old pending.old) asking.now.client
         (session_with_id wish.now.id.now (so_far asking.now parts.old pending.old).sessions)
         (publish (so_far asking.now parts.old pending.old) wish.now.asked.now))) }
@@ -235,8 +235,8 @@ fn purge<L: Ledger>(
     steps: &mut Steps<L>,
 ) -> Result<Outcome, NoMemory>
     requires steady { IsSteady parts.old.graph parts.old.standing.items }
-    requires ready { IsReady asking.now parts.old pending.old }
-    ensures leads { IfOk result (λ outcome. LeadsTo outcome asking.now parts.new pending.new
+    requires ready { IsSoundSoFar asking.now parts.old pending.old }
+    ensures leads { IfOk result (λ outcome. LeadsToAnswer outcome asking.now parts.new pending.new
         (in_session (so_far asking.now parts.old pending.old) asking.now.client
         (session_with_id wish.now.id.now (so_far asking.now parts.old pending.old).sessions)
         (purge (so_far asking.now parts.old pending.old) wish.now.asked.now))) }
@@ -244,7 +244,7 @@ fn purge<L: Ledger>(
     ensures kept { OnErr result (AreKept parts.old parts.new) }
     ensures steps { let before = so_far asking.now parts.old pending.old in
         IsWithinOwn asking.now.client (session_with_id wish.now.id.now before.sessions)
-        (λ s. IsWithinIf (is_text wish.now.asked.now s.client)
+        (λ s. IsWithinIf (is_same_text wish.now.asked.now s.client)
         (IsTakenWithin (Publisher wish.now.asked.now) before)) steps.old steps.new }
 {
     match owner_of(&parts.sessions, asking, wish.id) {
@@ -271,9 +271,9 @@ fn run_search<L: Ledger>(
     steps: &mut Steps<L>,
 ) -> Result<Outcome, NoMemory>
     requires steady { IsSteady parts.now.graph parts.now.standing.items }
-    requires ready { IsReady asking.now parts.now pending.now }
+    requires ready { IsSoundSoFar asking.now parts.now pending.now }
     requires start { IsIdentifier wish.now.asked.now.start }
-    ensures leads { IfOk result (λ outcome. LeadsTo outcome asking.now parts.now pending.now
+    ensures leads { IfOk result (λ outcome. LeadsToAnswer outcome asking.now parts.now pending.now
         (in_session (so_far asking.now parts.now pending.now) asking.now.client
         (session_with_id wish.now.id.now (so_far asking.now parts.now pending.now).sessions)
         (search (so_far asking.now parts.now pending.now) wish.now.asked.now))) }
@@ -305,9 +305,9 @@ fn subscribe<L: Ledger>(
     steps: &mut Steps<L>,
 ) -> Result<Outcome, NoMemory>
     requires steady { IsSteady parts.old.graph parts.old.standing.items }
-    requires ready { IsReady asking.now parts.old pending.old }
+    requires ready { IsSoundSoFar asking.now parts.old pending.old }
     requires fit { AllByRecursion IsFitSubscribeOp wish.now.asked.now }
-    ensures leads { IfOk result (λ outcome. LeadsTo outcome asking.now parts.new pending.new
+    ensures leads { IfOk result (λ outcome. LeadsToAnswer outcome asking.now parts.new pending.new
         (in_session (so_far asking.now parts.old pending.old) asking.now.client
         (session_with_id wish.now.id.now (so_far asking.now parts.old pending.old).sessions)
         (subscribe (so_far asking.now parts.old pending.old) wish.now.asked.now))) }
@@ -349,8 +349,8 @@ fn poll(
     again: bool,
 ) -> Result<Outcome, NoMemory>
     requires steady { IsSteady parts.now.graph parts.now.standing.items }
-    requires ready { IsReady asking.now parts.now pending.now }
-    ensures { IfOk result (λ outcome. LeadsTo outcome asking.now parts.now pending.now
+    requires ready { IsSoundSoFar asking.now parts.now pending.now }
+    ensures { IfOk result (λ outcome. LeadsToAnswer outcome asking.now parts.now pending.now
         (poll (so_far asking.now parts.now pending.now) asking.now.client again
         (session_with_id id.now (so_far asking.now parts.now pending.now).sessions))) }
 {

@@ -1,11 +1,11 @@
 //! How a session begins.
 ghost use Rattle.std.specs.Prelude.{◌≡◌, ◌<◌, ◌-◌, ◌^◌, ◌&&◌, nat_le, false, is_none, length, option_map, IfOk, IfSome, OnErr, OnOk};
 ghost use Rattle.std.specs.Bool.{OnFalse};
-ghost use Rattle.ifmap_changes.specs.Between.{AreKept, AreTurned, CanEnd, IsBare, IsReady, IsSteady, sessions_left, so_far};
+ghost use Rattle.ifmap_changes.specs.Between.{AreKept, AreTurned, CanEnd, HasNoSubscriptions, IsSoundSoFar, IsSteady, sessions_left, so_far};
 ghost use Rattle.ifmap_changes.specs.declared.parts.Parts.{Parts};
 ghost use Rattle.ifmap_tellings.specs.declared.tellings.Pending.{Pending};
 ghost use Rattle.ifmap_core.specs.Bounds.{IsBegunWithin, IsFormerWithin};
-ghost use Rattle.ifmap_core.specs.Outcomes.{LeadsTo, taken_former};
+ghost use Rattle.ifmap_core.specs.Outcomes.{LeadsToAnswer, taken_former};
 ghost use Rattle.ifmap_machine.specs.Step.{is_full, new_session};
 ghost use Rattle.ifmap_session.specs.Sessions.{most_sessions, session_of_client};
 
@@ -39,8 +39,8 @@ pub(crate) fn new_session<L: Ledger>(
     steps: &mut Steps<L>,
 ) -> Result<Outcome, NoMemory>
     requires steady { IsSteady parts.old.graph parts.old.standing.items }
-    requires ready { IsReady asking.now parts.old pending.old }
-    ensures leads { IfOk result (λ outcome. LeadsTo outcome asking.now parts.new pending.new
+    requires ready { IsSoundSoFar asking.now parts.old pending.old }
+    ensures leads { IfOk result (λ outcome. LeadsToAnswer outcome asking.now parts.new pending.new
         (new_session (so_far asking.now parts.old pending.old) asking.now.client wish.random
         wish.limit)) }
     ensures turned { OnOk result (AreTurned parts.old parts.new) }
@@ -105,10 +105,10 @@ fn begin<L: Ledger>(
     steps: &mut Steps<L>,
 ) -> Result<Outcome, NoMemory>
     requires steady { IsSteady parts.old.graph parts.old.standing.items }
-    requires ready { IsReady asking.now parts.old pending.old }
+    requires ready { IsSoundSoFar asking.now parts.old pending.old }
     requires free { is_full (so_far asking.now parts.old pending.old) asking.now.client ≡ false }
     requires next { parts.old.sessions.counter < 2 ^ 64 - 1 }
-    ensures leads { IfOk result (λ outcome. LeadsTo outcome asking.now parts.new pending.new
+    ensures leads { IfOk result (λ outcome. LeadsToAnswer outcome asking.now parts.new pending.new
         (new_session (so_far asking.now parts.old pending.old) asking.now.client wish.random
         wish.limit)) }
     ensures turned { OnOk result (AreTurned parts.old parts.new) }
@@ -140,12 +140,12 @@ fn take_away_former<L: Ledger>(
     steps: &mut Steps<L>,
 ) -> Result<(), NoMemory>
     requires steady { IsSteady parts.old.graph parts.old.standing.items }
-    requires ready { IsReady asking.now parts.old pending.old }
+    requires ready { IsSoundSoFar asking.now parts.old pending.old }
     ensures told { OnOk result (so_far asking.now parts.new pending.new
         ≡ taken_former former (so_far asking.now parts.old pending.old)) }
     ensures steady { OnOk result (IsSteady parts.new.graph parts.new.standing.items) }
-    ensures ready { OnOk result (IsReady asking.now parts.new pending.new) }
-    ensures bare { OnOk result (IfSome former (λ n. IsBare n parts.new pending.new)) }
+    ensures ready { OnOk result (IsSoundSoFar asking.now parts.new pending.new) }
+    ensures bare { OnOk result (IfSome former (λ n. HasNoSubscriptions n parts.new pending.new)) }
     ensures turned { OnOk result (AreTurned parts.old parts.new) }
     ensures kept { OnErr result (AreKept parts.old parts.new) }
     ensures steps { IsFormerWithin former (so_far asking.now parts.old pending.old) steps.old

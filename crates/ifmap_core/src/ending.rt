@@ -3,13 +3,13 @@ ghost use Rattle.std.specs.Prelude.{◌≡◌, ◌++◌, true, false, IfOk, IsOk
 ghost use Rattle.std.specs.List.{list_any};
 ghost use Rattle.std.specs.List.Sorted.{IsStrictlySortedBy};
 ghost use Rattle.std.specs.Ordering.{nat_cmp};
-ghost use Rattle.ifmap_changes.specs.Between.{AreBack, AreParts, CanEnd, IsReady, IsSteady, so_far, state_at};
+ghost use Rattle.ifmap_changes.specs.Between.{AreBack, AreParts, CanEnd, IsSoundSoFar, IsSteady, so_far, state_at};
 ghost use Rattle.ifmap_changes.specs.Changes.{CanSettle, CanTakeBack};
 ghost use Rattle.ifmap_changes.specs.declared.parts.Parts.{Parts};
 ghost use Rattle.ifmap_core.specs.Bounds.{IsAskWithin, IsEventWithin};
 ghost use Rattle.ifmap_core.specs.Light.{IsLight};
 ghost use Rattle.ifmap_core.specs.Outcomes.{CanApply, held_by};
-ghost use Rattle.ifmap_graph.specs.Out.{items_of};
+ghost use Rattle.ifmap_graph.specs.Out.{items_changed};
 ghost use Rattle.ifmap_graph.specs.Seen.{KeepsNumbers, StaysLean, StaysLeanWithout};
 ghost use Rattle.ifmap_machine.specs.Ending.{drop_sessions, expire};
 ghost use Rattle.ifmap_machine.specs.Step.{step_ask};
@@ -163,7 +163,7 @@ fn pending_without(alloc: Global, parts: &Parts, asking: &Asking) -> Result<Pend
     requires parts { AreParts parts.now }
     requires ended { CanEnd asking.now.ended parts.now.sessions.live }
     requires rising { IsStrictlySortedBy nat_cmp asking.now.ended }
-    ensures ready { IfOk result (IsReady asking.now parts.now) }
+    ensures ready { IfOk result (IsSoundSoFar asking.now parts.now) }
     ensures so_far { IfOk result (λ pending. so_far asking.now parts.now pending
         ≡ drop_sessions asking.now.ended (state_at asking.now.ttl asking.now.moment parts.now)) }
 {
@@ -225,7 +225,7 @@ fn answer_ended<L: Ledger>(
     steps: &mut Steps<L>,
 ) -> Result<Answer, NoMemory>
     requires steady { IsSteady parts.old.graph parts.old.standing.items }
-    requires ready { IsReady asking.now parts.old ending.pending }
+    requires ready { IsSoundSoFar asking.now parts.old ending.pending }
     requires settle { CanSettle ending.made parts.old }
     requires back { (before : Parts) × AreParts before
         × KeepsNumbers before.graph parts.old.graph × CanTakeBack ending.made before parts.old }
@@ -266,15 +266,15 @@ fn settle_ended(
 )
     requires steady { IsSteady parts.old.graph
         (parts.old.standing.items ++ held_by outcome.now) }
-    requires ready { IsReady asking.now parts.old pending.now }
+    requires ready { IsSoundSoFar asking.now parts.old pending.now }
     requires can { CanApply outcome.now asking.now parts.old pending.now }
     requires settle { CanSettle made parts.old }
     ensures steady { IsSteady parts.new.graph (parts.new.standing.items ++ held_by outcome.now) }
-    ensures ready { IsReady asking.now parts.new pending.now }
+    ensures ready { IsSoundSoFar asking.now parts.new pending.now }
     ensures can { CanApply outcome.now asking.now parts.new pending.now }
     ensures so_far { so_far asking.now parts.new pending.now
         ≡ so_far asking.now parts.old pending.now }
-    ensures lean { StaysLeanWithout (items_of made.undo.plan.changes) parts.old.graph
+    ensures lean { StaysLeanWithout (items_changed made.undo.plan.changes) parts.old.graph
         parts.new.graph }
 {
     same_links_keep_subscriptions();

@@ -1,7 +1,7 @@
 //! Renewals and polls in a session of the client's, where nothing is pending. No call takes memory.
 ghost use Rattle.std.specs.Prelude.{◌≡◌, ◌≢◌, Some, IfNone, IfSome};
 ghost use Rattle.ifmap_core.specs.Light.{IsLight};
-ghost use Rattle.ifmap_core.specs.Outcomes.{IsDone, IsOwner};
+ghost use Rattle.ifmap_core.specs.Outcomes.{IsStepOutcome, IsOwner};
 ghost use Rattle.ifmap_core.specs.declared.owning.Owner.TheVariants.{Own};
 ghost use Rattle.ifmap_machine.specs.declared.events.Ask.TheVariants as the_ask;
 ghost use Rattle.ifmap_session.specs.Sessions.{Session, session_with_id};
@@ -16,7 +16,7 @@ use ifmap_session::Sessions;
 
 // What is left to do of an event that renews or polls a live session of the client's.
 pub(crate) fn light_outcome(sessions: &Sessions, event: &Event) -> Option<Outcome>
-    ensures some { IfSome result (λ outcome. IsDone sessions.now.live event.now event.now.ask
+    ensures some { IfSome result (λ outcome. IsStepOutcome sessions.now.live event.now event.now.ask
         outcome) }
     ensures none { IfNone result (IsLight sessions.now.live event.now → ⊥) }
 {
@@ -28,7 +28,7 @@ pub(crate) fn light_outcome(sessions: &Sessions, event: &Event) -> Option<Outcom
 
 // The same of a request.
 fn outcome_in(sessions: &Sessions, event: &Event, request: &Request) -> Option<Outcome>
-    ensures some { IfSome result (λ outcome. IsDone sessions.now.live event.now
+    ensures some { IfSome result (λ outcome. IsStepOutcome sessions.now.live event.now
         (the_ask.Request request.now) outcome) }
     ensures none { IfNone result (event.now.ask ≡ the_ask.Request request.now
         → IsLight sessions.now.live event.now → ⊥) }

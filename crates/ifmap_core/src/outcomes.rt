@@ -1,7 +1,7 @@
 //! What is left to do of an event when its change of the graph is made.
 ghost use Rattle.std.specs.Prelude.{◌≡◌, ◌≤◌, ◌++◌, ℕ, List, IfOk, IfSome, length, map, vec_capacity, vec_len};
 ghost use Rattle.ifmap_core.specs.declared.outcomes.Outcome.TheVariants.{Say};
-ghost use Rattle.ifmap_changes.specs.Between.{AreParts, CanEnd, IsReady, IsSteady, so_far, state_at};
+ghost use Rattle.ifmap_changes.specs.Between.{AreParts, CanEnd, IsSoundSoFar, IsSteady, so_far, state_at};
 ghost use Rattle.ifmap_core.specs.Outcomes.{CanApply, CanApplyTo, WouldBeParts, after_former, after_outcome, first_renewed, held_by, poll_answer, poll_found};
 ghost use Rattle.ifmap_tellings.specs.Tellings.{kept_of};
 ghost use Rattle.ifmap_machine.specs.State.{State};
@@ -251,7 +251,7 @@ pub(crate) fn finish(
     asking: &Asking,
     outcome: Outcome,
 ) -> Answer
-    requires ready { IsReady asking.now parts.old pending }
+    requires ready { IsSoundSoFar asking.now parts.old pending }
     requires steady { IsSteady parts.old.graph (parts.old.standing.items ++ held_by outcome) }
     requires can { CanApply outcome asking.now parts.old pending }
     ensures answer { after_outcome outcome (so_far asking.now parts.old pending)

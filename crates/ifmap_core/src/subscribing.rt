@@ -3,8 +3,8 @@ ghost use Rattle.std.specs.Prelude.{◌≡◌, ◌≤◌, ◌<◌, ◌+◌, ◌+
 ghost use Rattle.std.specs.BTreeMap.{get};
 ghost use Rattle.std.specs.List.{AllByRecursion};
 ghost use Rattle.std.specs.Ordering.{nat_cmp};
-ghost use Rattle.ifmap_changes.specs.Between.{AreKept, AreTurned, IsReady, IsSteady, sessions_left, so_far};
-ghost use Rattle.ifmap_core.specs.Outcomes.{LeadsTo, alone_told};
+ghost use Rattle.ifmap_changes.specs.Between.{AreKept, AreTurned, IsSoundSoFar, IsSteady, sessions_left, so_far};
+ghost use Rattle.ifmap_core.specs.Outcomes.{LeadsToAnswer, alone_told};
 ghost use Rattle.ifmap_graph.specs.Seen.{rows_now};
 ghost use Rattle.ifmap_machine.specs.Step.{answer_subscribed};
 ghost use Rattle.ifmap_machine.specs.Subscribing.{subscribe_ops};
@@ -49,12 +49,12 @@ pub(crate) fn subscribe_in<L: Ledger>(
     steps: &mut Steps<L>,
 ) -> Result<Outcome, NoMemory>
     requires steady { IsSteady parts.old.graph parts.old.standing.items }
-    requires ready { IsReady asking.now parts.old pending.old }
+    requires ready { IsSoundSoFar asking.now parts.old pending.old }
     requires live { IsLive ops.now.serial (sessions_left asking.now parts.old.sessions) }
     requires fit { AllByRecursion IsFitSubscribeOp ops.now.ops.now }
     ensures leads { let before = so_far asking.now parts.old pending.old in (s : Session)
         → session_with_serial ops.now.serial before.sessions ≡ Some s
-        → IfOk result (λ outcome. LeadsTo outcome asking.now parts.new pending.new
+        → IfOk result (λ outcome. LeadsToAnswer outcome asking.now parts.new pending.new
         (answer_subscribed before s (subscribe_ops before.graph ops.now.serial ops.now.ops.now
         (record { queue = s.queue; standing = before.standing })))) }
     ensures turned { OnOk result (AreTurned parts.old parts.new) }
@@ -83,13 +83,13 @@ fn accept_ops(
     serial: u64,
     readying: Readying,
 ) -> Result<Outcome, NoMemory>
-    requires ready { IsReady asking.now parts.old pending.old }
+    requires ready { IsSoundSoFar asking.now parts.old pending.old }
     requires live { IsLive serial (sessions_left asking.now parts.old.sessions) }
     requires readied { AreReadied serial (told_at serial asking.now parts.old pending.old)
         parts.old readying }
     ensures leads { let before = so_far asking.now parts.old pending.old in (s : Session)
         → session_with_serial serial before.sessions ≡ Some s
-        → IfOk result (λ outcome. LeadsTo outcome asking.now parts.new pending.new
+        → IfOk result (λ outcome. LeadsToAnswer outcome asking.now parts.new pending.new
         (answer_subscribed before s (Some (told_after serial readying
         (told_at serial asking.now parts.old pending.old))))) }
     ensures turned { OnOk result (AreTurned parts.old parts.new) }
@@ -112,7 +112,7 @@ fn rename_ready(
     serial: u64,
     readying: Readying,
 ) -> Result<Outcome, NoMemory>
-    requires ready { IsReady asking.now parts.old pending.now }
+    requires ready { IsSoundSoFar asking.now parts.old pending.now }
     requires live { IsLive serial (sessions_left asking.now parts.old.sessions) }
     requires readied { AreReadied serial (told_at serial asking.now parts.old pending.now)
         parts.old readying }
@@ -120,7 +120,7 @@ fn rename_ready(
         → readying.size ≤ s.limit }
     ensures leads { let before = so_far asking.now parts.old pending.now in (s : Session)
         → session_with_serial serial before.sessions ≡ Some s
-        → IfOk result (λ outcome. LeadsTo outcome asking.now parts.new pending.now
+        → IfOk result (λ outcome. LeadsToAnswer outcome asking.now parts.new pending.now
         (answer_subscribed before s (Some (told_after serial readying
         (told_at serial asking.now parts.old pending.now))))) }
     ensures turned { OnOk result (AreTurned parts.old parts.new) }
@@ -150,7 +150,7 @@ fn overrun(
     serial: u64,
     readying: Readying,
 ) -> Result<Outcome, NoMemory>
-    requires ready { IsReady asking.now parts.old pending.old }
+    requires ready { IsSoundSoFar asking.now parts.old pending.old }
     requires live { IsLive serial (sessions_left asking.now parts.old.sessions) }
     requires readied { AreReadied serial (told_at serial asking.now parts.old pending.old)
         parts.old readying }
@@ -158,7 +158,7 @@ fn overrun(
         → s.limit < readying.size }
     ensures leads { let before = so_far asking.now parts.old pending.old in (s : Session)
         → session_with_serial serial before.sessions ≡ Some s
-        → IfOk result (λ outcome. LeadsTo outcome asking.now parts.new pending.new
+        → IfOk result (λ outcome. LeadsToAnswer outcome asking.now parts.new pending.new
         (answer_subscribed before s (Some (told_after serial readying
         (told_at serial asking.now parts.old pending.old))))) }
     ensures turned { OnOk result (AreTurned parts.old parts.new) }
@@ -182,11 +182,11 @@ fn tell_over(
     serial: u64,
     size: u128,
 ) -> Result<(), NoMemory>
-    requires ready { IsReady asking.now parts.old pending.old }
+    requires ready { IsSoundSoFar asking.now parts.old pending.old }
     requires live { IsLive serial (sessions_left asking.now parts.old.sessions) }
     ensures told { OnOk result (so_far asking.now parts.new pending.new
         ≡ alone_told serial size (so_far asking.now parts.old pending.old)) }
-    ensures ready { OnOk result (IsReady asking.now parts.new pending.new) }
+    ensures ready { OnOk result (IsSoundSoFar asking.now parts.new pending.new) }
     ensures graph { parts.new.graph ≡ parts.old.graph }
     ensures standing { parts.new.standing ≡ parts.old.standing }
     ensures sessions { HasSameSessions parts.old.sessions parts.new.sessions }
@@ -209,9 +209,9 @@ fn tell_over(
 // The numbers are let go of that were held for subscriptions which are not to stand. It takes no memory.
 fn let_go(parts: &mut Parts, pending: &Pending, asking: &Asking, made: Many<Renaming>)
     requires steady { IsSteady parts.old.graph (parts.old.standing.items ++ begun_by made) }
-    requires ready { IsReady asking.now parts.old pending.now }
+    requires ready { IsSoundSoFar asking.now parts.old pending.now }
     ensures steady { IsSteady parts.new.graph parts.new.standing.items }
-    ensures ready { IsReady asking.now parts.new pending.now }
+    ensures ready { IsSoundSoFar asking.now parts.new pending.now }
     ensures so_far { so_far asking.now parts.new pending.now
         ≡ so_far asking.now parts.old pending.now }
     ensures turned { AreTurned parts.old parts.new }

@@ -14,12 +14,12 @@ use Rattle.ifmap_search.specs.declared.searches.Search.{Search}
 use Rattle.ifmap_view.specs.declared.attachments.Attachment.{Attachment}
 use Rattle.ifmap_delta.specs.Flipped.{AreFlipsOf, IsFlipAt, is_one_marked}
 use Rattle.ifmap_folds.specs.Notes.{is_told, told_notes}
-use Rattle.ifmap_delta.specs.Sights.{Sight}
+use Rattle.ifmap_delta.specs.Sights.{ViewSeen}
 use Rattle.ifmap_delta.specs.Touched.{planned_items}
 use Rattle.ifmap_ident.specs.declared.items.Item.{Item}
 
 -- flips of one change more
-pub flips_more : (old new : Sight) (s : Search) (mark : ℕ → Option ℕ) (cs : List ItemChange) (fs : List Flip) (i : ℕ)
+pub flips_more : (old new : ViewSeen) (s : Search) (mark : ℕ → Option ℕ) (cs : List ItemChange) (fs : List Flip) (i : ℕ)
     (c : ItemChange) (r : Option Flip)
     → i < length cs → c ≡ get_or cs i c → AreFlipsOf old new s mark (take i cs) fs
     → IfSome r (IsFlipAt old new s c.item)

@@ -22,7 +22,7 @@ use Rattle.ifmap_plans.specs.Plans.{change_of}
 use Rattle.ifmap_plans.specs.laws.KeyLaws.{items_total}
 use Rattle.ifmap_folds.specs.laws.RisingLaws.{head_rises, tail_rises}
 use Rattle.ifmap_delta.specs.declared.pairing.TouchedItem.{TouchedItem}
-use Rattle.ifmap_delta.specs.Touched.{IsPaired, change_at, items_of, with_no_place}
+use Rattle.ifmap_delta.specs.Touched.{IsPaired, change_at, items_touched, with_no_place}
 use Rattle.ifmap_ident.specs.SameLaws.{same_equal, less_differs}
 
 abbrev pub touched_order : TouchedItem → TouchedItem → Ordering
@@ -31,12 +31,12 @@ touched_order = on (λ (t : TouchedItem). t.item) item_order
 pub touched_total : IsTotalOrder touched_order
 touched_total = on_total (λ (t : TouchedItem). t.item) items_total
 
-all_on : (x : Item) (ts : List TouchedItem) → AllByRecursion (λ y. item_order x y ≡ Less) (items_of ts)
+all_on : (x : Item) (ts : List TouchedItem) → AllByRecursion (λ y. item_order x y ≡ Less) (items_touched ts)
     → AllByRecursion (λ t. item_order x t.item ≡ Less) ts
 all_on x [] a = tt
 all_on x (t ∷ ts) a = (a.0, all_on x ts a.1)
 
-pub rises_on : (ts : List TouchedItem) → IsStrictlySortedBy item_order (items_of ts) → IsStrictlySortedBy touched_order ts
+pub rises_on : (ts : List TouchedItem) → IsStrictlySortedBy item_order (items_touched ts) → IsStrictlySortedBy touched_order ts
 unfolding IsStrictlySortedBy
 rises_on [] r = tt
 rises_on (t ∷ ts) r = (all_on t.item ts r.0, rises_on ts r.1)
@@ -58,7 +58,7 @@ none_same x ts none = elim (cases_Bool (list_any (λ (t : TouchedItem). same_ite
   | inr e ↦ e
 ]
 
-pub items_unpaired : (xs : List Item) → items_of (map with_no_place xs) ≡ xs
+pub items_unpaired : (xs : List Item) → items_touched (map with_no_place xs) ≡ xs
 items_unpaired [] = refl
 items_unpaired (x ∷ xs) = ap (λ l. x ∷ l) (items_unpaired xs)
 
@@ -97,17 +97,17 @@ module _ (changes : List ItemChange) (place : ℕ) (c : ItemChange) (low : place
     | inr e ↦ e
   ]) a
 
-  below : (t : TouchedItem) (ts : List TouchedItem) → IsStrictlySortedBy item_order (items_of (t ∷ ts)) → (u : TouchedItem) → Has ts u
+  below : (t : TouchedItem) (ts : List TouchedItem) → IsStrictlySortedBy item_order (items_touched (t ∷ ts)) → (u : TouchedItem) → Has ts u
       → item_order t.item u.item ≡ Less
-  below t ts up u h = all_has (λ y. item_order t.item y ≡ Less) (items_of ts)
-      (head_rises item_order items_total t.item (items_of ts) up) u.item (has_map (λ (t : TouchedItem). t.item) ts u h)
+  below t ts up u h = all_has (λ y. item_order t.item y ≡ Less) (items_touched ts)
+      (head_rises item_order items_total t.item (items_touched ts) up) u.item (has_map (λ (t : TouchedItem). t.item) ts u h)
 
   has_at : (ts : List TouchedItem) (i : ℕ) (d : TouchedItem) → i < length ts → Has ts (get_or ts i d)
   has_at [] i d lt = absurd (omega (arith, lt))
   has_at (t ∷ ts) zero d lt = inl refl
   has_at (t ∷ ts) (suc i) d lt = inr (has_at ts i d (omega (arith, lt)))
 
-  pub set_paired : (ts : List TouchedItem) (i : ℕ) (u : TouchedItem) → IsStrictlySortedBy item_order (items_of ts) → i < length ts
+  pub set_paired : (ts : List TouchedItem) (i : ℕ) (u : TouchedItem) → IsStrictlySortedBy item_order (items_touched ts) → i < length ts
       → same_item c.item (get_or ts i u).item ≡ true → u.item ≡ (get_or ts i u).item → u.place ≡ Some place
       → AllByRecursion (IsPaired changes (place + 1)) ts → AllByRecursion (IsPaired changes place) (set ts i u)
   set_paired [] i u up lt e same is a = absurd (omega (arith, lt))
@@ -124,11 +124,11 @@ module _ (changes : List ItemChange) (place : ℕ) (c : ItemChange) (low : place
       = items_total.antisymm v.item c.item ∙ ap ordering_reverse (same_equal c.item v.item e)
       in (
         other_change t (greater_differs c.item t.item (sym (alike_right items_total v.item c.item t.item equal) ∙ less)) a.0,
-        set_paired ts i u (tail_rises item_order items_total t.item (items_of ts) up) under e same is a.1,
+        set_paired ts i u (tail_rises item_order items_total t.item (items_touched ts) up) under e same is a.1,
       )
 
 pub same_items : (ts : List TouchedItem) (i : ℕ) (u : TouchedItem) → u.item ≡ (get_or ts i u).item
-    → items_of (set ts i u) ≡ items_of ts
+    → items_touched (set ts i u) ≡ items_touched ts
 same_items [] i u at = refl
-same_items (t ∷ ts) zero u at = ap (λ x. x ∷ items_of ts) at
+same_items (t ∷ ts) zero u at = ap (λ x. x ∷ items_touched ts) at
 same_items (t ∷ ts) (suc i) u at = ap (λ l. t.item ∷ l) (same_items ts i u at)

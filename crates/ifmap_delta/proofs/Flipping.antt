@@ -25,7 +25,7 @@ use Rattle.ifmap_fresh.specs.Matching.{is_match, one_meets}
 use Rattle.ifmap_delta.specs.Bounds.{IsFlip, Mid}
 use Rattle.ifmap_delta.specs.Changes.{ShowsAfter}
 use Rattle.ifmap_delta.specs.Flipped.{AreFlipsOf, IsFlipAt}
-use Rattle.ifmap_delta.specs.Sights.{Links, Sight}
+use Rattle.ifmap_delta.specs.Sights.{Links, ViewSeen}
 use Rattle.ifmap_fresh.specs.laws.JoiningLaws.{linked_matches, match_turned, matches_linked, some_there}
 use Rattle.ifmap_fresh.specs.laws.SameLaws.{Tells, pair_canon, pair_is, pair_parts, same_item_is}
 
@@ -37,7 +37,7 @@ found_change p (x ∷ xs) c e = elim (cases_Bool (p x)) [
 ]
 
 -- numbers with a link have identifiers whose link matches
-module _ (g : Sight) (s : Search) where
+module _ (g : ViewSeen) (s : Search) where
   pub named : (v w : ℕ) → Links g s v w
       → (a : Identifier) × (b : Identifier) × (g.id_at v ≡ Some a) × (g.id_at w ≡ Some b) × (is_match g.rows s.match_links a b ≡ true)
   named v w l = by (g.id_at v) (g.id_at w) refl refl (linked_matches g.rows g.id_at g.links s.match_links v w l)
@@ -56,7 +56,7 @@ module _ (g : Sight) (s : Search) where
       (subst (λ o. one_meets s.match_links (stored_linked o (g.id_at w) g.rows) ≡ true) (sym i)
       (subst (λ o. one_meets s.match_links (stored_linked (Some a) o g.rows) ≡ true) (sym j) m))
 
-module _ (tells : Tells) (old new : Sight) (s : Search) (was : IsView old.rows old.id_at old.links)
+module _ (tells : Tells) (old new : ViewSeen) (s : Search) (was : IsView old.rows old.id_at old.links)
     (is : IsView new.rows new.id_at new.links) (changes : List ItemChange) (change : ShowsAfter old new changes) where
   -- an identifier with a match before has the number that it has afterwards
   pub number_before : (w : ℕ) (a b : Identifier) → new.id_at w ≡ Some b → is_match old.rows s.match_links a b ≡ true

@@ -4,7 +4,7 @@ use Rattle.std.proofs.lemmas.List.{take_more}
 use Rattle.std.proofs.lemmas.Option.{none-some}
 use Rattle.ifmap_ident.specs.declared.identifiers.Identifier.{Identifier}
 use Rattle.ifmap_delta.specs.Located.{AreEach, IsNumberOf}
-use Rattle.ifmap_delta.specs.Sights.{Sight}
+use Rattle.ifmap_delta.specs.Sights.{ViewSeen}
 
 module _ {X Y : Type 0} (R : X → Y → Type 0) where
   pub each_long : (xs : List X) (ys : List Y) → AreEach R xs ys → length ys ≡ length xs
@@ -35,7 +35,7 @@ module _ {X Y : Type 0} (R : X → Y → Type 0) where
       subst (λ l. AreEach R l (ys ++ y ∷ [])) (sym (take_more xs i x h ∙ ap (λ z. take i xs ++ z ∷ []) (sym e)))
       (each_push (take i xs) ys x y a r)
 
-module _ (g : Sight) (a : Identifier) where
+module _ (g : ViewSeen) (a : Identifier) where
   pub number_found : (o : Option ℕ) (v : ℕ) → IsNumberOf g a o → o ≡ Some v → g.id_at v ≡ Some a
   number_found o v n e = subst (λ q. IfSome q (λ w. g.id_at w ≡ Some a)) e n.found
 

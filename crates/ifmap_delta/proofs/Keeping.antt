@@ -5,11 +5,11 @@ use Rattle.ifmap_search.specs.declared.searches.Search.{Search}
 use Rattle.ifmap_fresh.specs.Fresh.{fresh_size}
 use Rattle.ifmap_delta.specs.declared.subscriptions.Subscription.{Subscription}
 use Rattle.ifmap_delta.specs.Changes.{WouldKeep}
-use Rattle.ifmap_delta.specs.Sights.{AreMarks, IsKept, Sight}
+use Rattle.ifmap_delta.specs.Sights.{AreMarks, IsUpToDate, ViewSeen}
 use Rattle.ifmap_delta.specs.Ways.{HasSameSearch}
 
 -- marks that are the same at each number
-pub same_marks : (g : Sight) (s : Search) (start top : ℕ) (mark mark' : ℕ → Option ℕ) → ((v : ℕ) → mark' v ≡ mark v)
+pub same_marks : (g : ViewSeen) (s : Search) (start top : ℕ) (mark mark' : ℕ → Option ℕ) → ((v : ℕ) → mark' v ≡ mark v)
     → AreMarks g s start top mark → AreMarks g s start top mark'
 same_marks g s start top mark mark' m are = record {
   identifier = are.identifier;
@@ -20,7 +20,7 @@ same_marks g s start top mark mark' m are = record {
 
 pub takes_over : (sub sub' : Subscription) (patch : List (ℕ × Option ℕ)) (n : ℕ) → HasSameSearch sub sub' → sub'.size ≡ n
     → ((v : ℕ) → mark_of sub'.region.marks.entries v ≡ over patch (mark_of sub.region.marks.entries) v)
-    → (g : Sight) → WouldKeep g sub patch n → IsKept g sub'
+    → (g : ViewSeen) → WouldKeep g sub patch n → IsUpToDate g sub'
 takes_over sub sub' patch n same size marks g would =
     let mark : ℕ → Option ℕ = mark_of sub'.region.marks.entries
     in let are : AreMarks g sub.search sub.region.start sub.region.max_depth mark

@@ -23,10 +23,10 @@ use Rattle.ifmap_fresh.specs.Numbered.{KeepsWalks}
 use Rattle.ifmap_fresh.specs.Reached.{is_expanded, is_reached}
 use Rattle.ifmap_fresh.specs.Walked.{IsExpanded}
 use Rattle.ifmap_delta.specs.Shown.{goes_on}
-use Rattle.ifmap_delta.specs.Sights.{AreMarks, Links, Sight, is_terminal_in}
+use Rattle.ifmap_delta.specs.Sights.{AreMarks, Links, ViewSeen, is_terminal_in}
 
 -- the region of a search has its marks
-pub marks_are : (g : Sight) (s : Search) (start : ℕ) → IsIdentifier s.start → g.id_at start ≡ Some s.start → (r : Result Region AllocError)
+pub marks_are : (g : ViewSeen) (s : Search) (start : ℕ) → IsIdentifier s.start → g.id_at start ≡ Some s.start → (r : Result Region AllocError)
     → IfOk r (λ region. region.start ≡ start) → IfOk r (λ region. region.max_depth ≡ s.max_depth)
     → IfOk r (λ region. AreDepths (Links g s) (is_terminal_in g s) start s.max_depth (mark_of region.marks.entries))
     → IfOk r (λ region. AreMarks g s region.start region.max_depth (mark_of region.marks.entries))
@@ -38,7 +38,7 @@ marks_are g s start i here (Ok region) a m d = record {
 }
 marks_are g s start i here (Err e) a m d = a
 
-module _ (g : Sight) (s : Search) (start : ℕ) (keeps : KeepsWalks g.rows g.id_at g.links s start) where
+module _ (g : ViewSeen) (s : Search) (start : ℕ) (keeps : KeepsWalks g.rows g.id_at g.links s start) where
   abbrev L : ℕ → ℕ → Type 0
   L = Links g s
 
@@ -88,7 +88,7 @@ below_mark : (top : ℕ) (o : Option ℕ) → is_below top o ≡ true → (k : �
 below_mark top None e = let q : false ≡ true = e in cc
 below_mark top (Some k) e = (k, refl, ltb-true k top e)
 
-module _ (reach : LevelsReach) (expand : LevelsExpand) (g : Sight) (s : Search) (is : IsView g.rows g.id_at g.links)
+module _ (reach : LevelsReach) (expand : LevelsExpand) (g : ViewSeen) (s : Search) (is : IsView g.rows g.id_at g.links)
     (start top : ℕ) (mark : ℕ → Option ℕ) (are : AreMarks g s start top mark) (keeps : KeepsWalks g.rows g.id_at g.links s start) where
   abbrev M : ℕ → ℕ → Type 0
   M = Links g s

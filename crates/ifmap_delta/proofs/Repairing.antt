@@ -9,17 +9,17 @@ use Rattle.ifmap_region.specs.Near.{NearFlips}
 use Rattle.ifmap_region.specs.Walks.{AreDepths}
 use Rattle.ifmap_search.specs.declared.searches.Search.{Search}
 use Rattle.ifmap_view.specs.Views.{IsView}
-use Rattle.ifmap_delta.specs.Bounds.{IsNear, IsWithinBound, links_of}
+use Rattle.ifmap_delta.specs.Bounds.{IsNear, IsWithinBound, one_and_links}
 use Rattle.ifmap_delta.specs.Changes.{ShowsAfter}
 use Rattle.ifmap_delta.specs.Flipped.{AreFlipsOf}
 use Rattle.ifmap_delta.specs.Shown.{goes_on}
-use Rattle.ifmap_delta.specs.Sights.{AreMarks, Links, Sight, is_terminal_in}
+use Rattle.ifmap_delta.specs.Sights.{AreMarks, Links, ViewSeen, is_terminal_in}
 use Rattle.ifmap_delta.specs.Touched.{looked_along, turns}
 use Rattle.ifmap_fresh.specs.laws.SameLaws.{Tells}
 use Rattle.ifmap_delta.proofs.Settling.{same_not}
 use Rattle.ifmap_delta.proofs.Walking.{moved_near, old_depths, repaired_within, turned_within}
 
-module _ (tells : Tells) (old new : Sight) (s : Search) (was : IsView old.rows old.id_at old.links)
+module _ (tells : Tells) (old new : ViewSeen) (s : Search) (was : IsView old.rows old.id_at old.links)
     (is : IsView new.rows new.id_at new.links) (changes : List ItemChange) (change : ShowsAfter old new changes) (start top : ℕ)
     (mark : ℕ → Option ℕ) (before : AreMarks old s start top mark) where
   module _ (flips : List Flip) (are : AreFlipsOf old new s mark changes flips) where
@@ -42,7 +42,7 @@ module _ (tells : Tells) (old new : Sight) (s : Search) (was : IsView old.rows o
     pub repaired_steps : (from to : ℕ)
         → (AreDepths (region.Old (Links new s) flips) (is_terminal_in new s) start top mark
         → IsWithin (λ v. 1 + length (new.links v)) (NearFlips (Links new s) flips (is_terminal_in new s) start top) 5 from to)
-        → IsWithin (links_of old new s) (IsNear old new s start) 5 from to
+        → IsWithin (one_and_links old new s) (IsNear old new s start) 5 from to
     repaired_steps from to f =
         repaired_within tells old new s was is changes change start mark before.depths flips are 5 from to
         (subst (λ n. IsWithin (λ v. 1 + length (new.links v)) (NearFlips (Links new s) flips (is_terminal_in new s) start n) 5 from to)
@@ -57,14 +57,14 @@ module _ (tells : Tells) (old new : Sight) (s : Search) (was : IsView old.rows o
 
     -- the steps of a repair, and of looking along the links of what turned
     pub change_steps : (from mid to : ℕ) (numbers : List ℕ) → IsDistinct nat_eq numbers
-        → IsWithin (links_of old new s) (IsNear old new s start) 5 from mid
+        → IsWithin (one_and_links old new s) (IsNear old new s start) 5 from mid
         → to ≤ mid + sum_by (λ v. looked_along new s v (mark v) (mark' v)) numbers → IsWithinBound old new s start from to
     change_steps from mid to numbers apart repaired bound =
-        within_more (links_of old new s) (IsNear old new s start) 6 10 from to (omega arith)
-        (within_both (links_of old new s) (IsNear old new s start) 5 1 from mid to repaired
-        (turned_within (λ v. turns new s v (mark v) (mark' v)) (λ v. length (new.links v)) (links_of old new s) (IsNear old new s start)
+        within_more (one_and_links old new s) (IsNear old new s start) 6 10 from to (omega arith)
+        (within_both (one_and_links old new s) (IsNear old new s start) 5 1 from mid to repaired
+        (turned_within (λ v. turns new s v (mark v) (mark' v)) (λ v. length (new.links v)) (one_and_links old new s) (IsNear old new s start)
         numbers mid to (λ v. omega arith) apart turned_near bound))
 
-  pub repair_steps : (from to : ℕ) → IsWithin (links_of old new s) (IsNear old new s start) 5 from to
+  pub repair_steps : (from to : ℕ) → IsWithin (one_and_links old new s) (IsNear old new s start) 5 from to
       → IsWithinBound old new s start from to
-  repair_steps from to w = within_more (links_of old new s) (IsNear old new s start) 5 10 from to (omega arith) w
+  repair_steps from to w = within_more (one_and_links old new s) (IsNear old new s start) 5 10 from to (omega arith) w

@@ -29,8 +29,8 @@ use Rattle.ifmap_fresh.specs.Numbered.{KeepsWalks}
 use Rattle.ifmap_fresh.specs.Reached.{is_expanded, is_reached}
 use Rattle.ifmap_delta.specs.Changes.{ShowsAfter}
 use Rattle.ifmap_delta.specs.Shown.{goes_on}
-use Rattle.ifmap_delta.specs.Sights.{AreMarks, Sight}
-use Rattle.ifmap_delta.specs.Touched.{IsSettled, brought_items, item_at, item_where, is_looked_at_either, linked_items, moved_items, planned_items, turns}
+use Rattle.ifmap_delta.specs.Sights.{AreMarks, ViewSeen}
+use Rattle.ifmap_delta.specs.Touched.{HasNothingToTell, brought_items, link_item, pair_item, is_looked_at_either, linked_items, moved_items, planned_items, turns}
 use Rattle.ifmap_delta.proofs.Flipping.{change_at, unchanged}
 use Rattle.ifmap_fresh.specs.laws.JoiningLaws.{match_turned, some_there}
 use Rattle.ifmap_delta.proofs.Marking.{LevelsExpand, LevelsReach, expanded_is, expanded_marked, mark_named, marked_expanded}
@@ -64,7 +64,7 @@ in_patch patch below v differ = by (row_of patch v) refl
     by None e = absurd (differ (sym (ap (λ o. unwrap_or o (below v)) e)))
     by (Some r) e = row_has patch v r e
 
-module _ (tells : Tells) (reach : LevelsReach) (expand : LevelsExpand) (old new : Sight) (s : Search)
+module _ (tells : Tells) (reach : LevelsReach) (expand : LevelsExpand) (old new : ViewSeen) (s : Search)
     (was : IsView old.rows old.id_at old.links) (is : IsView new.rows new.id_at new.links) (changes : List ItemChange)
     (change : ShowsAfter old new changes) (start top start' top' : ℕ) (mark mark' : ℕ → Option ℕ)
     (before : AreMarks old s start top mark) (now : AreMarks new s start' top' mark')
@@ -129,8 +129,8 @@ module _ (tells : Tells) (reach : LevelsReach) (expand : LevelsExpand) (old new 
         = ap (one_meets s.match_links) linked_is ∙ m
         in let there = map_has (λ (l : LinkSeen). l.other) (new.links v) w
         (has_from _ w (is.each v w (some_there s.match_links (stored_linked (new.id_at v) (new.id_at w) new.rows) matches)))
-        in let at : item_at new s v (Some there.0) ≡ Some x
-        = ap (λ b. item_where new s v (cond b (Some there.0.other) None))
+        in let at : link_item new s v (Some there.0) ≡ Some x
+        = ap (λ b. pair_item new s v (cond b (Some there.0.other) None))
         (ap (λ y. one_meets s.match_links (stored_linked (new.id_at v) (new.id_at y) new.rows)) there.2 ∙ matches)
         ∙ ap (λ y. pair_at (new.id_at v) (new.id_at y)) there.2
         ∙ ap (λ o. pair_at o (new.id_at w)) i ∙ ap (λ o. pair_at (Some a) o) j ∙ e
@@ -139,7 +139,7 @@ module _ (tells : Tells) (reach : LevelsReach) (expand : LevelsExpand) (old new 
         (has_right (cond (not (beq (is_some (mark v)) (is_some (mark' v)))) (alone (new.id_at v)) [])
         (cond (turns new s v (mark v) (mark' v)) (linked_items new s v) []) x
         (subst (λ b. Has (cond b (linked_items new s v) []) x) (sym t)
-        (has_mapped (λ seen. item_at new s v (Some seen)) (new.links v) there.0 x there.1 at)))
+        (has_mapped (λ seen. link_item new s v (Some seen)) (new.links v) there.0 x there.1 at)))
 
     one_settled : (a : Identifier) → IsIdentifier a → (Has gathered (One a) → ⊥) → is_reached old.rows s a ≡ is_reached new.rows s a
     one_settled a i out = elim (same_or (is_reached old.rows s a) (is_reached new.rows s a)) [
@@ -212,10 +212,10 @@ module _ (tells : Tells) (reach : LevelsReach) (expand : LevelsExpand) (old new 
     still (Pair a b) i out e = pair_settled a b i out (match_stays a b i e)
 
     -- what is not gathered tells nothing
-    pub settled : (x : Item) → IsCanonItem x → (Has gathered x → ⊥) → IsSettled old new s x
+    pub settled : (x : Item) → IsCanonItem x → (Has gathered x → ⊥) → HasNothingToTell old new s x
     settled x i out = by (change_of changes x) refl
       where
-        by : (o : Option ItemChange) → change_of changes x ≡ o → IsSettled old new s x
+        by : (o : Option ItemChange) → change_of changes x ≡ o → HasNothingToTell old new s x
         by None e =
             let same = unchanged tells old new s was is changes change x e
             in record { looked = still x i out same; stored = λ h. sym same }
@@ -231,7 +231,7 @@ module _ (tells : Tells) (reach : LevelsReach) (expand : LevelsExpand) (old new 
             in record { looked = p ∙ sym q; stored = λ h. let f : false ≡ true = sym p ∙ h in cc }
 
 -- what is gathered is an item that elements mean
-module _ (old new : Sight) (s : Search) (is : IsView new.rows new.id_at new.links) (changes : List ItemChange)
+module _ (old new : ViewSeen) (s : Search) (is : IsView new.rows new.id_at new.links) (changes : List ItemChange)
     (canon : AllByRecursion (λ c. IsCanonItem c.item) changes) (mark mark' : ℕ → Option ℕ) (numbers : List ℕ) where
   alone_canon : (b : Bool) (o : Option Identifier) (x : Item) → ((a : Identifier) → o ≡ Some a → IsIdentifier a)
       → Has (cond b (alone o) []) x → IsCanonItem x
@@ -245,14 +245,14 @@ module _ (old new : Sight) (s : Search) (is : IsView new.rows new.id_at new.link
   ends_canon v w (Some a) None x i j q = absurd (none-some x q)
   ends_canon v w (Some a) (Some b) x i j q = pair_canon a b x (is.canon v a i) (is.canon w b j) q
 
-  along_canon : (v : ℕ) (o : Option ℕ) (x : Item) → item_where new s v o ≡ Some x → IsCanonItem x
+  along_canon : (v : ℕ) (o : Option ℕ) (x : Item) → pair_item new s v o ≡ Some x → IsCanonItem x
   along_canon v None x q = absurd (none-some x q)
   along_canon v (Some w) x q = ends_canon v w (new.id_at v) (new.id_at w) x refl refl q
 
   linked_canon : (b : Bool) (v : ℕ) (x : Item) → Has (cond b (linked_items new s v) []) x → IsCanonItem x
   linked_canon false v x h = absurd h
   linked_canon true v x h =
-      let m = mapped_has (λ seen. item_at new s v (Some seen)) (new.links v) x h
+      let m = mapped_has (λ seen. link_item new s v (Some seen)) (new.links v) x h
       in along_canon v (end_where new.rows new.id_at s.match_links v (Some m.0)) x m.2
 
   pub gathered_canon : (x : Item) → Has (planned_items (is_looked_at_either old new s) changes ++ moved_items new s mark mark' numbers) x

@@ -27,8 +27,8 @@ use Rattle.ifmap_delta.specs.Changes.{ShowsAfter}
 use Rattle.ifmap_delta.specs.Flipped.{AreFlipsOf, IsFlipAt, is_marked, is_near, is_one_marked}
 use Rattle.ifmap_delta.specs.Located.{AreEach, AreLocated, IsLocatedTwice, IsNumberOf}
 use Rattle.ifmap_delta.specs.Shown.{goes_on}
-use Rattle.ifmap_delta.specs.Sights.{AreMarks, Links, Sight, is_terminal_in}
-use Rattle.ifmap_delta.specs.Touched.{IsSettled, is_looked_at_either, moved_items, planned_items}
+use Rattle.ifmap_delta.specs.Sights.{AreMarks, Links, ViewSeen, is_terminal_in}
+use Rattle.ifmap_delta.specs.Touched.{HasNothingToTell, is_looked_at_either, moved_items, planned_items}
 use Rattle.ifmap_delta.proofs.InStep.{number_found, number_none}
 use Rattle.ifmap_delta.proofs.Marking.{LevelsExpand, LevelsReach, expanded_is, not_expanded, not_reached, reached_is}
 use Rattle.ifmap_delta.proofs.Repairing.{repaired_marks}
@@ -55,14 +55,14 @@ each_far R p (z ∷ xs) (y ∷ ys) a f x (inl e) = (y, subst (λ w. R w y) e a.0
 each_far R p (z ∷ xs) (y ∷ ys) a f x (inr h) = each_far R p xs ys a.1 (or_parts (p y) (list_any p ys) f).1 x h
 
 -- an end of a flip that has a mark is one of the item
-pub near_flip : (old new : Sight) (s : Search) (mark : ℕ → Option ℕ) (x : Item) (l : LocatedChange) → IsLocatedTwice old new x l
+pub near_flip : (old new : ViewSeen) (s : Search) (mark : ℕ → Option ℕ) (x : Item) (l : LocatedChange) → IsLocatedTwice old new x l
     → (flip : Flip) → IsFlipAt old new s x flip → is_one_marked mark (Some flip.a) (Some flip.b) ≡ true → is_near mark l ≡ true
 near_flip old new s mark (One a) l t flip at m = absurd at
 near_flip old new s mark (Pair a b) l t flip at m =
     ap (λ o. is_one_marked mark o l.after.second) (t.after.ends.0.only flip.a at.0)
     ∙ ap (λ o. is_one_marked mark (Some flip.a) o) (t.after.ends.1.only flip.b at.1) ∙ m
 
-module _ (tells : Tells) (old new : Sight) (s : Search) (was : IsView old.rows old.id_at old.links)
+module _ (tells : Tells) (old new : ViewSeen) (s : Search) (was : IsView old.rows old.id_at old.links)
     (is : IsView new.rows new.id_at new.links) (changes : List ItemChange) (change : ShowsAfter old new changes) (start top : ℕ)
     (mark : ℕ → Option ℕ) (before : AreMarks old s start top mark) (located : List LocatedChange)
     (are : AreLocated old new changes located) (far : list_any (is_near mark) located ≡ false) where
@@ -154,7 +154,7 @@ module _ (tells : Tells) (old new : Sight) (s : Search) (was : IsView old.rows o
     ]
 
     -- each item tells nothing
-    pub all_settled : (x : Item) → IsCanonItem x → IsSettled old new s x
+    pub all_settled : (x : Item) → IsCanonItem x → HasNothingToTell old new s x
     all_settled x i =
         settled tells reach expand old new s was is changes change start top start top mark mark before marks_stay keeps keeps' []
         (λ v d. absurd (d refl)) x i (none_gathered x)

@@ -28,7 +28,7 @@ use Rattle.ifmap_fresh.specs.Fresh.{fresh, is_found, is_looked_at}
 use Rattle.ifmap_fresh.specs.Gathered.{entry_at, gathered_rows, has_item, row_at}
 use Rattle.ifmap_folds.specs.Differences.{difference, entry_bytes, has_entry, same_entry}
 use Rattle.ifmap_delta.specs.Shown.{shown_on}
-use Rattle.ifmap_delta.specs.Sights.{Sight}
+use Rattle.ifmap_delta.specs.Sights.{ViewSeen}
 use Rattle.ifmap_delta.specs.Touched.{has_met, left_out_on}
 use Rattle.ifmap_fresh.specs.laws.GatheringLaws.{gathers, grouped, all_items}
 use Rattle.ifmap_fresh.specs.laws.SameLaws.{Tells, member, same_item_is}
@@ -90,7 +90,7 @@ outside false m a f = refl
 outside true false a f = refl
 outside true true a f = ap not (f refl refl)
 
-module _ (tells : Tells) (one other : Sight) (s : Search) (graph : IsGraph one.rows) (beside : IsGraph other.rows) where
+module _ (tells : Tells) (one other : ViewSeen) (s : Search) (graph : IsGraph one.rows) (beside : IsGraph other.rows) where
   abbrev met : Stored → Bool
   met t = meets_optional s.result_filter t.element
 

@@ -23,10 +23,10 @@ use Rattle.ifmap_region.specs.Walks.{AreDepths, HasDepth, Walk, begins, goes_on}
 use Rattle.ifmap_search.specs.declared.searches.Search.{Search}
 use Rattle.ifmap_view.specs.Views.{IsView}
 use Rattle.ifmap_fresh.specs.Linking.{is_terminal_at}
-use Rattle.ifmap_delta.specs.Bounds.{IsFlip, IsNear, IsTouched, Mid, links_of}
+use Rattle.ifmap_delta.specs.Bounds.{IsFlip, IsNear, IsTouched, Mid, one_and_links}
 use Rattle.ifmap_delta.specs.Changes.{ShowsAfter}
 use Rattle.ifmap_delta.specs.Flipped.{AreFlipsOf}
-use Rattle.ifmap_delta.specs.Sights.{Links, Sight, is_terminal_in}
+use Rattle.ifmap_delta.specs.Sights.{Links, ViewSeen, is_terminal_in}
 use Rattle.ifmap_delta.proofs.Flipping.{added_flip, named, old_there, removed_flip, removed_linked, there_mid, there_old}
 use Rattle.ifmap_delta.proofs.Marking.{walk_marked}
 use Rattle.ifmap_fresh.specs.laws.SameLaws.{Tells}
@@ -136,7 +136,7 @@ turned_within p f g Among ns before after le apart among bound = record {
   bound = omega (arith, bound, sum_passed p f g le ns);
 }
 
-module _ (tells : Tells) (old new : Sight) (s : Search) (was : IsView old.rows old.id_at old.links)
+module _ (tells : Tells) (old new : ViewSeen) (s : Search) (was : IsView old.rows old.id_at old.links)
     (is : IsView new.rows new.id_at new.links) (changes : List ItemChange) (change : ShowsAfter old new changes) where
   abbrev T : ℕ → Bool
   T = is_terminal_in old s
@@ -241,9 +241,9 @@ module _ (tells : Tells) (old new : Sight) (s : Search) (was : IsView old.rows o
       -- the steps of a repair
       pub repaired_within : (times before after : ℕ)
           → IsWithin (λ v. 1 + length (new.links v)) (NearFlips (Links new s) flips U start s.max_depth) times before after
-          → IsWithin (links_of old new s) (IsNear old new s start) times before after
+          → IsWithin (one_and_links old new s) (IsNear old new s start) times before after
       repaired_within times before after w =
-          within_heavier (λ v. 1 + length (new.links v)) (links_of old new s) (IsNear old new s start) times before after
+          within_heavier (λ v. 1 + length (new.links v)) (one_and_links old new s) (IsNear old new s start) times before after
           (λ v. omega arith)
           (within_wider (λ v. 1 + length (new.links v)) (NearFlips (Links new s) flips U start s.max_depth) (IsNear old new s start)
           times before after near_there w)

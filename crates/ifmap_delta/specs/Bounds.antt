@@ -3,9 +3,9 @@ use Rattle.std.specs.Prelude.{ℕ, ◌+◌, ◌⊎◌, length}
 use Rattle.ifmap_region.specs.Bounds.{IsWithin}
 use Rattle.ifmap_region.specs.Near.{Near, SameDepth}
 use Rattle.ifmap_search.specs.declared.searches.Search.{Search}
-use Rattle.ifmap_delta.specs.Sights.{Sight, Links, is_terminal_in}
+use Rattle.ifmap_delta.specs.Sights.{ViewSeen, Links, is_terminal_in}
 
-module _ (old new : Sight) (s : Search) where
+module _ (old new : ViewSeen) (s : Search) where
   -- a matching link is in just one of the two
   abbrev pub IsFlip : ℕ → ℕ → Type 0
   IsFlip v w = (Links old s v w × ¬ Links new s v w) ⊎ (Links new s v w × ¬ Links old s v w)
@@ -24,9 +24,9 @@ module _ (old new : Sight) (s : Search) where
   IsNear start = Near (λ v. (w : ℕ) × IsFlip v w) (IsTouched start) (Links old s) (Links new s)
 
   -- one, and the links of a number before and after, those that do not match among them
-  abbrev pub links_of : ℕ → ℕ
-  links_of v = 1 + length (old.links v) + length (new.links v)
+  abbrev pub one_and_links : ℕ → ℕ
+  one_and_links v = 1 + length (old.links v) + length (new.links v)
 
   -- the steps rose by at most ten times the sum of these over what is near
   abbrev pub IsWithinBound : ℕ → ℕ → ℕ → Type 0
-  IsWithinBound start before after = IsWithin links_of (IsNear start) 10 before after
+  IsWithinBound start before after = IsWithin one_and_links (IsNear start) 10 before after

@@ -13,26 +13,26 @@ use Rattle.ifmap_delta.specs.declared.subscriptions.Subscribed.{Subscribed}
 use Rattle.ifmap_delta.specs.declared.subscriptions.Subscribed.TheVariants.{Kept, TooBig}
 use Rattle.ifmap_delta.specs.declared.subscriptions.Subscription.{Subscription}
 use Rattle.ifmap_folds.specs.Differences.{difference}
-use Rattle.ifmap_delta.specs.Sights.{AreMarks, IsKept, Sight}
+use Rattle.ifmap_delta.specs.Sights.{AreMarks, IsUpToDate, ViewSeen}
 
 -- a kept subscription is one of the search from the start, with its result; it is refused exactly
 -- where the size of the result is greater than the search allows
-abbrev pub IsSubscribed : Sight → Search → ℕ → Subscribed → Type 0
+abbrev pub IsSubscribed : ViewSeen → Search → ℕ → Subscribed → Type 0
 IsSubscribed g s start (Kept sub found) =
-    (sub.search ≡ s) × (sub.region.start ≡ start) × IsKept g sub
+    (sub.search ≡ s) × (sub.region.start ≡ start) × IsUpToDate g sub
     × AllMarked sub.region.marks.entries
     × (found.entries ≡ fresh g.rows s) × (found.size ≡ sub.size) × (sub.size ≤ s.max_size)
 IsSubscribed g s start (TooBig size) = (size ≡ fresh_size g.rows s) × (s.max_size < size)
 
 -- one view shows what another shows with these changes made: the attachments after them, and each
 -- number that has an identifier before has it still
-pub record ShowsAfter (old new : Sight) (changes : List ItemChange) : Type 0 where
+pub record ShowsAfter (old new : ViewSeen) (changes : List ItemChange) : Type 0 where
   pub canon : AllByRecursion (λ c. IsCanonItem c.item) changes
   pub after : IsAfter changes old.rows new.rows
   pub numbers : (v : ℕ) (a : Identifier) → old.id_at v ≡ Some a → new.id_at v ≡ Some a
 
 -- once this patch and size are taken over, a subscription keeps what the view has
-pub record WouldKeep (g : Sight) (sub : Subscription) (patch : List (ℕ × Option ℕ))
+pub record WouldKeep (g : ViewSeen) (sub : Subscription) (patch : List (ℕ × Option ℕ))
     (new_size : ℕ) : Type 0 where
   pub marks : AreMarks g sub.search sub.region.start sub.region.max_depth
       (over patch (mark_of sub.region.marks.entries))
@@ -40,7 +40,7 @@ pub record WouldKeep (g : Sight) (sub : Subscription) (patch : List (ℕ × Opti
 
 -- what a change does to a subscription: what its result loses and gains, and what it keeps
 -- afterwards
-pub record IsMoved (old new : Sight) (sub : Subscription) (moved : Moved) : Type 0 where
+pub record IsMovedBetween (old new : ViewSeen) (sub : Subscription) (moved : Moved) : Type 0 where
   pub deleted : moved.deleted ≡ difference (fresh old.rows sub.search) (fresh new.rows sub.search)
   pub updated : moved.updated ≡ difference (fresh new.rows sub.search) (fresh old.rows sub.search)
   pub keeps : WouldKeep new sub moved.patch moved.new_size

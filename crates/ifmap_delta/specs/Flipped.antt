@@ -10,7 +10,7 @@ use Rattle.ifmap_search.specs.declared.searches.Search.{Search}
 use Rattle.ifmap_view.specs.Rows.{stored_on}
 use Rattle.ifmap_fresh.specs.Matching.{one_meets}
 use Rattle.ifmap_delta.specs.declared.locating.LocatedChange.{LocatedChange}
-use Rattle.ifmap_delta.specs.Sights.{Sight}
+use Rattle.ifmap_delta.specs.Sights.{ViewSeen}
 
 -- a number is there and has a mark
 abbrev pub is_marked : (ℕ → Option ℕ) → Option ℕ → Bool
@@ -25,7 +25,7 @@ is_one_marked mark v w = is_marked mark v || is_marked mark w
 abbrev pub is_near : (ℕ → Option ℕ) → LocatedChange → Bool
 is_near mark l = is_one_marked mark l.after.first l.after.second
 
-module _ (old new : Sight) (s : Search) where
+module _ (old new : ViewSeen) (s : Search) where
   -- the flip joins the numbers of the item's identifiers, and its link matches in one of the two
   -- alone
   abbrev pub IsFlipAt : Item → Flip → Type 0

@@ -12,42 +12,42 @@ use Rattle.ifmap_fresh.specs.Numbered.{AreLinked, is_terminal_number}
 use Rattle.ifmap_delta.specs.declared.subscriptions.Subscription.{Subscription}
 
 -- what a view shows: the attachments, the identifiers of numbers, and the links of each number
-pub record Sight : Type 0 where
+pub record ViewSeen : Type 0 where
   pub rows : List Attachment
   pub id_at : ℕ → Option Identifier
   pub links : ℕ → List LinkSeen
 
 -- what this view shows, where its members are these
-abbrev pub sight_of : {X : Type 0} → (X → List Attachment) → (X → ℕ → Option Identifier)
-    → (X → ℕ → List LinkSeen) → X → Sight
-sight_of rows id_at links view = record { rows = rows view; id_at = id_at view; links = links view }
+abbrev pub view_seen : {X : Type 0} → (X → List Attachment) → (X → ℕ → Option Identifier)
+    → (X → ℕ → List LinkSeen) → X → ViewSeen
+view_seen rows id_at links view = record { rows = rows view; id_at = id_at view; links = links view }
 
 -- a number has a link with another that the search goes along
-abbrev pub Links : Sight → Search → ℕ → ℕ → Type 0
+abbrev pub Links : ViewSeen → Search → ℕ → ℕ → Type 0
 Links g s = AreLinked g.rows g.id_at g.links s
 
 -- no walk of the search goes on from the number
-abbrev pub is_terminal_in : Sight → Search → ℕ → Bool
+abbrev pub is_terminal_in : ViewSeen → Search → ℕ → Bool
 is_terminal_in g s = is_terminal_number g.rows g.id_at g.links s
 
 -- a region's start, greatest depth and marks are those of a search: each number that a walk reaches
 -- has a mark, and it is the least number of links of such a walk
-pub record AreMarks (g : Sight) (s : Search) (start top : ℕ) (mark : ℕ → Option ℕ) : Type 0 where
+pub record AreMarks (g : ViewSeen) (s : Search) (start top : ℕ) (mark : ℕ → Option ℕ) : Type 0 where
   pub identifier : IsIdentifier s.start
   pub here : g.id_at start ≡ Some s.start
   pub most : top ≡ s.max_depth
   pub depths : AreDepths (Links g s) (is_terminal_in g s) start s.max_depth mark
 
 -- the marks of a subscription are those of the view
-abbrev pub HasMarks : Sight → Subscription → Type 0
+abbrev pub HasMarks : ViewSeen → Subscription → Type 0
 HasMarks g sub = AreMarks g sub.search sub.region.start sub.region.max_depth
     (mark_of sub.region.marks.entries)
 
 -- a subscription keeps what the view has: the marks, and the size of the result
-pub record IsKept (g : Sight) (sub : Subscription) : Type 0 where
+pub record IsUpToDate (g : ViewSeen) (sub : Subscription) : Type 0 where
   pub marks : HasMarks g sub
   pub size : sub.size ≡ fresh_size g.rows sub.search
 
 -- the marks are those of a search from some start
-abbrev pub HaveMarks : Sight → Search → (ℕ → Option ℕ) → Type 0
+abbrev pub HaveMarks : ViewSeen → Search → (ℕ → Option ℕ) → Type 0
 HaveMarks g s mark = (start : ℕ) × (top : ℕ) × AreMarks g s start top mark

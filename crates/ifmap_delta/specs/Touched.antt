@@ -26,7 +26,7 @@ use Rattle.ifmap_fresh.specs.Fresh.{is_looked_at}
 use Rattle.ifmap_fresh.specs.Gathered.{entry_at, has_item}
 use Rattle.ifmap_fresh.specs.Linking.{end_where}
 use Rattle.ifmap_delta.specs.Shown.{goes_on}
-use Rattle.ifmap_delta.specs.Sights.{Sight}
+use Rattle.ifmap_delta.specs.Sights.{ViewSeen}
 use Rattle.ifmap_delta.specs.declared.pairing.TouchedItem.{TouchedItem}
 
 -- the items of a plan's changes that pass a test
@@ -34,21 +34,21 @@ abbrev pub planned_items : (Item → Bool) → List ItemChange → List Item
 planned_items p changes = map (λ c. c.item) (filter (λ c. p c.item) changes)
 
 -- the search looks at the item before or afterwards
-abbrev pub is_looked_at_either : Sight → Sight → Search → Item → Bool
+abbrev pub is_looked_at_either : ViewSeen → ViewSeen → Search → Item → Bool
 is_looked_at_either old new s x = is_looked_at old.rows s x || is_looked_at new.rows s x
 
-module _ (new : Sight) (s : Search) where
+module _ (new : ViewSeen) (s : Search) where
   -- the item of a link, where there is one
-  abbrev pub item_where : ℕ → Option ℕ → Option Item
-  item_where v None = None
-  item_where v (Some w) = pair_at (new.id_at v) (new.id_at w)
+  abbrev pub pair_item : ℕ → Option ℕ → Option Item
+  pair_item v None = None
+  pair_item v (Some w) = pair_at (new.id_at v) (new.id_at w)
 
-  abbrev pub item_at : ℕ → Option LinkSeen → Option Item
-  item_at v seen = item_where v (end_where new.rows new.id_at s.match_links v seen)
+  abbrev pub link_item : ℕ → Option LinkSeen → Option Item
+  link_item v seen = pair_item v (end_where new.rows new.id_at s.match_links v seen)
 
   -- the items of the matching links of a number
   abbrev pub linked_items : ℕ → List Item
-  linked_items v = filter_map (λ seen. item_at v (Some seen)) (new.links v)
+  linked_items v = filter_map (λ seen. link_item v (Some seen)) (new.links v)
 
   -- walks go on from the number with one of the marks alone
   abbrev pub turns : ℕ → Option ℕ → Option ℕ → Bool
@@ -71,19 +71,19 @@ module _ (new : Sight) (s : Search) where
 
 -- an item tells nothing: the search looks at it before and afterwards with the same stored on it,
 -- or at neither
-pub record IsSettled (old new : Sight) (s : Search) (x : Item) : Type 0 where
+pub record HasNothingToTell (old new : ViewSeen) (s : Search) (x : Item) : Type 0 where
   pub looked : is_looked_at old.rows s x ≡ is_looked_at new.rows s x
   pub stored : is_looked_at old.rows s x ≡ true → stored_on x old.rows ≡ stored_on x new.rows
 
 -- items in order, which elements mean; all others tell nothing
-pub record AreTouched (old new : Sight) (s : Search) (items : List Item) : Type 0 where
+pub record AreTouched (old new : ViewSeen) (s : Search) (items : List Item) : Type 0 where
   pub rising : IsStrictlySortedBy item_order items
   pub canon : (x : Item) → Has items x → IsCanonItem x
-  pub others : (x : Item) → IsCanonItem x → has_item items x ≡ false → IsSettled old new s x
+  pub others : (x : Item) → IsCanonItem x → has_item items x ≡ false → HasNothingToTell old new s x
 
 -- the items of some, without what the plan does to them
-abbrev pub items_of : List TouchedItem → List Item
-items_of touched = map (λ t. t.item) touched
+abbrev pub items_touched : List TouchedItem → List Item
+items_touched touched = map (λ t. t.item) touched
 
 -- an item with no change beside it
 abbrev pub with_no_place : Item → TouchedItem

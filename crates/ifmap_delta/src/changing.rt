@@ -1,11 +1,11 @@
 //! What a change of the graph does to a subscription.
 ghost use Rattle.std.specs.Prelude.{◌≡◌, false, IfOk};
 ghost use Rattle.std.specs.List.{list_any};
-ghost use Rattle.ifmap_delta.specs.Bounds.{IsNear, IsWithinBound, links_of};
-ghost use Rattle.ifmap_delta.specs.Changes.{ShowsAfter, IsMoved};
+ghost use Rattle.ifmap_delta.specs.Bounds.{IsNear, IsWithinBound, one_and_links};
+ghost use Rattle.ifmap_delta.specs.Changes.{ShowsAfter, IsMovedBetween};
 ghost use Rattle.ifmap_delta.specs.Flipped.{is_near};
 ghost use Rattle.ifmap_delta.specs.Located.{AreLocated};
-ghost use Rattle.ifmap_delta.specs.Sights.{AreMarks, HasMarks, IsKept, sight_of};
+ghost use Rattle.ifmap_delta.specs.Sights.{AreMarks, HasMarks, IsUpToDate, view_seen};
 ghost use Rattle.ifmap_region.specs.Bounds.{IsWithin};
 ghost use Rattle.ifmap_region.specs.Marks.{mark_of, over};
 ghost use Rattle.ifmap_view.specs.Views.{IsView};
@@ -47,18 +47,18 @@ pub fn change<'a, G: View, D: View, L: Ledger>(
 ) -> Result<Moved, NoMemory>
     requires graph { IsView (G.rows graph.now) (G.id_at graph.now) (G.links graph.now) }
     requires draft { IsView (D.rows draft.now) (D.id_at draft.now) (D.links draft.now) }
-    requires kept { IsKept (sight_of G.rows G.id_at G.links graph.now) subscription.now }
-    requires change { ShowsAfter (sight_of G.rows G.id_at G.links graph.now)
-        (sight_of D.rows D.id_at D.links draft.now) located.now.plan.now.changes }
-    requires located { AreLocated (sight_of G.rows G.id_at G.links graph.now)
-        (sight_of D.rows D.id_at D.links draft.now) located.now.plan.now.changes
+    requires kept { IsUpToDate (view_seen G.rows G.id_at G.links graph.now) subscription.now }
+    requires change { ShowsAfter (view_seen G.rows G.id_at G.links graph.now)
+        (view_seen D.rows D.id_at D.links draft.now) located.now.plan.now.changes }
+    requires located { AreLocated (view_seen G.rows G.id_at G.links graph.now)
+        (view_seen D.rows D.id_at D.links draft.now) located.now.plan.now.changes
         located.now.changes.items }
-    ensures moved { IfOk result (IsMoved (sight_of G.rows G.id_at G.links graph.now)
-        (sight_of D.rows D.id_at D.links draft.now) subscription.now) }
+    ensures moved { IfOk result (IsMovedBetween (view_seen G.rows G.id_at G.links graph.now)
+        (view_seen D.rows D.id_at D.links draft.now) subscription.now) }
 
     // Also where memory runs out.
-    ensures steps { IsWithinBound (sight_of G.rows G.id_at G.links graph.now)
-        (sight_of D.rows D.id_at D.links draft.now) subscription.now.search
+    ensures steps { IsWithinBound (view_seen G.rows G.id_at G.links graph.now)
+        (view_seen D.rows D.id_at D.links draft.now) subscription.now.search
         subscription.now.region.start steps.old steps.new }
 {
     if is_any_near(&subscription.region, &located.changes) {
@@ -79,16 +79,16 @@ fn move_near<'a, G: View, D: View, L: Ledger>(
 ) -> Result<Moved, NoMemory>
     requires graph { IsView (G.rows graph.now) (G.id_at graph.now) (G.links graph.now) }
     requires draft { IsView (D.rows draft.now) (D.id_at draft.now) (D.links draft.now) }
-    requires kept { IsKept (sight_of G.rows G.id_at G.links graph.now) subscription.now }
-    requires change { ShowsAfter (sight_of G.rows G.id_at G.links graph.now)
-        (sight_of D.rows D.id_at D.links draft.now) located.now.plan.now.changes }
-    requires located { AreLocated (sight_of G.rows G.id_at G.links graph.now)
-        (sight_of D.rows D.id_at D.links draft.now) located.now.plan.now.changes
+    requires kept { IsUpToDate (view_seen G.rows G.id_at G.links graph.now) subscription.now }
+    requires change { ShowsAfter (view_seen G.rows G.id_at G.links graph.now)
+        (view_seen D.rows D.id_at D.links draft.now) located.now.plan.now.changes }
+    requires located { AreLocated (view_seen G.rows G.id_at G.links graph.now)
+        (view_seen D.rows D.id_at D.links draft.now) located.now.plan.now.changes
         located.now.changes.items }
-    ensures moved { IfOk result (IsMoved (sight_of G.rows G.id_at G.links graph.now)
-        (sight_of D.rows D.id_at D.links draft.now) subscription.now) }
-    ensures steps { IsWithinBound (sight_of G.rows G.id_at G.links graph.now)
-        (sight_of D.rows D.id_at D.links draft.now) subscription.now.search
+    ensures moved { IfOk result (IsMovedBetween (view_seen G.rows G.id_at G.links graph.now)
+        (view_seen D.rows D.id_at D.links draft.now) subscription.now) }
+    ensures steps { IsWithinBound (view_seen G.rows G.id_at G.links graph.now)
+        (view_seen D.rows D.id_at D.links draft.now) subscription.now.search
         subscription.now.region.start steps.old steps.new }
 {
     bytes_tell_identifiers_apart();
@@ -135,18 +135,18 @@ fn move_nothing<'a, G: View, D: View, L: Ledger>(
 ) -> Result<Moved, NoMemory>
     requires graph { IsView (G.rows graph.now) (G.id_at graph.now) (G.links graph.now) }
     requires draft { IsView (D.rows draft.now) (D.id_at draft.now) (D.links draft.now) }
-    requires kept { IsKept (sight_of G.rows G.id_at G.links graph.now) subscription.now }
-    requires change { ShowsAfter (sight_of G.rows G.id_at G.links graph.now)
-        (sight_of D.rows D.id_at D.links draft.now) located.now.plan.now.changes }
-    requires located { AreLocated (sight_of G.rows G.id_at G.links graph.now)
-        (sight_of D.rows D.id_at D.links draft.now) located.now.plan.now.changes
+    requires kept { IsUpToDate (view_seen G.rows G.id_at G.links graph.now) subscription.now }
+    requires change { ShowsAfter (view_seen G.rows G.id_at G.links graph.now)
+        (view_seen D.rows D.id_at D.links draft.now) located.now.plan.now.changes }
+    requires located { AreLocated (view_seen G.rows G.id_at G.links graph.now)
+        (view_seen D.rows D.id_at D.links draft.now) located.now.plan.now.changes
         located.now.changes.items }
     requires far { list_any (is_near (mark_of subscription.now.region.marks.entries))
         located.now.changes.items ≡ false }
-    ensures moved { IfOk result (IsMoved (sight_of G.rows G.id_at G.links graph.now)
-        (sight_of D.rows D.id_at D.links draft.now) subscription.now) }
-    ensures steps { IsWithinBound (sight_of G.rows G.id_at G.links graph.now)
-        (sight_of D.rows D.id_at D.links draft.now) subscription.now.search
+    ensures moved { IfOk result (IsMovedBetween (view_seen G.rows G.id_at G.links graph.now)
+        (view_seen D.rows D.id_at D.links draft.now) subscription.now) }
+    ensures steps { IsWithinBound (view_seen G.rows G.id_at G.links graph.now)
+        (view_seen D.rows D.id_at D.links draft.now) subscription.now.search
         subscription.now.region.start steps.old steps.new }
 {
     bytes_tell_identifiers_apart();
@@ -177,18 +177,18 @@ fn patch_for<'a, G: View, D: View, L: Ledger>(
 ) -> Result<Patch, NoMemory>
     requires graph { IsView (G.rows graph.now) (G.id_at graph.now) (G.links graph.now) }
     requires draft { IsView (D.rows draft.now) (D.id_at draft.now) (D.links draft.now) }
-    requires marks { HasMarks (sight_of G.rows G.id_at G.links graph.now) subscription.now }
-    requires change { ShowsAfter (sight_of G.rows G.id_at G.links graph.now)
-        (sight_of D.rows D.id_at D.links draft.now) located.now.plan.now.changes }
-    requires located { AreLocated (sight_of G.rows G.id_at G.links graph.now)
-        (sight_of D.rows D.id_at D.links draft.now) located.now.plan.now.changes
+    requires marks { HasMarks (view_seen G.rows G.id_at G.links graph.now) subscription.now }
+    requires change { ShowsAfter (view_seen G.rows G.id_at G.links graph.now)
+        (view_seen D.rows D.id_at D.links draft.now) located.now.plan.now.changes }
+    requires located { AreLocated (view_seen G.rows G.id_at G.links graph.now)
+        (view_seen D.rows D.id_at D.links draft.now) located.now.plan.now.changes
         located.now.changes.items }
-    ensures marks { IfOk result (λ patch. AreMarks (sight_of D.rows D.id_at D.links draft.now)
+    ensures marks { IfOk result (λ patch. AreMarks (view_seen D.rows D.id_at D.links draft.now)
         subscription.now.search subscription.now.region.start subscription.now.region.max_depth
         (over patch (mark_of subscription.now.region.marks.entries))) }
-    ensures steps { let old = sight_of G.rows G.id_at G.links graph.now in
-        let new = sight_of D.rows D.id_at D.links draft.now in
-        IsWithin (links_of old new subscription.now.search)
+    ensures steps { let old = view_seen G.rows G.id_at G.links graph.now in
+        let new = view_seen D.rows D.id_at D.links draft.now in
+        IsWithin (one_and_links old new subscription.now.search)
         (IsNear old new subscription.now.search subscription.now.region.start) 5
         steps.old steps.new }
 {

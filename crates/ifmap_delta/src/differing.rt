@@ -2,9 +2,9 @@
 ghost use Rattle.std.specs.Prelude.{◌≡◌, ◌≢◌, false, ◌+◌, ◌∷◌, ◌++◌, [], ◌-◌, ◌<◌, ◌^◌, List, OnOk, IfOk, IfSome, option_copied};
 ghost use Rattle.std.specs.List.{AllByRecursion};
 ghost use Rattle.std.specs.List.Sorted.{IsStrictlySortedBy};
-ghost use Rattle.ifmap_delta.specs.Sights.{HaveMarks, sight_of};
+ghost use Rattle.ifmap_delta.specs.Sights.{HaveMarks, view_seen};
 ghost use Rattle.ifmap_delta.specs.Shown.{patched_mark, shown_on};
-ghost use Rattle.ifmap_delta.specs.Touched.{IsChanged, change_at, has_met, items_of, left_out, left_out_on, rows_touched_by};
+ghost use Rattle.ifmap_delta.specs.Touched.{IsChanged, change_at, has_met, items_touched, left_out, left_out_on, rows_touched_by};
 ghost use Rattle.ifmap_ident.specs.Items.{IsCanonItem, item_order};
 ghost use Rattle.ifmap_ident.specs.declared.items.Item.{Item};
 ghost use Rattle.ifmap_lemmas.specs.Having.{Has};
@@ -216,9 +216,9 @@ fn add_differences<G: View, D: View>(
 ) -> Result<(), NoMemory>
     requires graph { IsGraph (G.rows before.now.view.now) }
     requires draft { IsGraph (D.rows after.now.view.now) }
-    requires before { HaveMarks (sight_of G.rows G.id_at G.links before.now.view.now)
+    requires before { HaveMarks (view_seen G.rows G.id_at G.links before.now.view.now)
         before.now.search.now (mark_of before.now.marks.now.marks.entries) }
-    requires after { HaveMarks (sight_of D.rows D.id_at D.links after.now.view.now)
+    requires after { HaveMarks (view_seen D.rows D.id_at D.links after.now.view.now)
         after.now.search.now (patched_mark after.now.marks.now) }
     requires canon { IsCanonItem one.item }
     requires change { IsChanged (G.rows before.now.view.now) (D.rows after.now.view.now)
@@ -261,9 +261,9 @@ fn differences_of<G: View, D: View>(
 ) -> Result<Told, NoMemory>
     requires graph { IsGraph (G.rows before.now.view.now) }
     requires draft { IsGraph (D.rows after.now.view.now) }
-    requires before { HaveMarks (sight_of G.rows G.id_at G.links before.now.view.now)
+    requires before { HaveMarks (view_seen G.rows G.id_at G.links before.now.view.now)
         before.now.search.now (mark_of before.now.marks.now.marks.entries) }
-    requires after { HaveMarks (sight_of D.rows D.id_at D.links after.now.view.now)
+    requires after { HaveMarks (view_seen D.rows D.id_at D.links after.now.view.now)
         after.now.search.now (patched_mark after.now.marks.now) }
     requires canon { AllByRecursion (λ t. IsCanonItem t.item) touched.items }
     requires changes { AllByRecursion (IsChanged (G.rows before.now.view.now)
@@ -271,11 +271,11 @@ fn differences_of<G: View, D: View>(
     ensures deleted { IfOk result (λ told. told.deleted.items ≡ left_out_on
         after.now.search.now.result_filter
         (shown_on (G.rows before.now.view.now) before.now.search.now)
-        (shown_on (D.rows after.now.view.now) after.now.search.now) (items_of touched.items)) }
+        (shown_on (D.rows after.now.view.now) after.now.search.now) (items_touched touched.items)) }
     ensures updated { IfOk result (λ told. told.updated.items ≡ left_out_on
         after.now.search.now.result_filter
         (shown_on (D.rows after.now.view.now) after.now.search.now)
-        (shown_on (G.rows before.now.view.now) before.now.search.now) (items_of touched.items)) }
+        (shown_on (G.rows before.now.view.now) before.now.search.now) (items_touched touched.items)) }
 {
     let mut told = Told {
         deleted: Vec::new(alloc),
@@ -297,9 +297,9 @@ pub(crate) fn differences_on<G: View, D: View>(
 ) -> Result<Told, NoMemory>
     requires graph { IsGraph (G.rows before.now.view.now) }
     requires draft { IsGraph (D.rows after.now.view.now) }
-    requires before { HaveMarks (sight_of G.rows G.id_at G.links before.now.view.now)
+    requires before { HaveMarks (view_seen G.rows G.id_at G.links before.now.view.now)
         before.now.search.now (mark_of before.now.marks.now.marks.entries) }
-    requires after { HaveMarks (sight_of D.rows D.id_at D.links after.now.view.now)
+    requires after { HaveMarks (view_seen D.rows D.id_at D.links after.now.view.now)
         after.now.search.now (patched_mark after.now.marks.now) }
     requires rising { IsStrictlySortedBy item_order items.items }
     requires canon { (x : Item) → Has items.items x → IsCanonItem x }

@@ -3,7 +3,7 @@ ghost use Rattle.std.specs.Prelude.{◌≡◌, ◌++◌, [], true, Some, IfOk, O
 ghost use Rattle.std.specs.List.{cons_option};
 ghost use Rattle.ifmap_delta.specs.Flipped.{AreFlipsOf, IsFlipAt, is_one_marked};
 ghost use Rattle.ifmap_delta.specs.Located.{AreLocated, IsLocatedTwice};
-ghost use Rattle.ifmap_delta.specs.Sights.{Sight};
+ghost use Rattle.ifmap_delta.specs.Sights.{ViewSeen};
 ghost use Rattle.ifmap_region.specs.declared.flips.Flip.{Flip};
 ghost use Rattle.ifmap_region.specs.Marks.{mark_of};
 
@@ -24,9 +24,9 @@ fn flip_of(
     item: &Item,
     located: &LocatedChange<'_>,
 ) -> Option<Flip>
-    ensures some { (old new : Sight) → IsLocatedTwice old new item.now located.now
+    ensures some { (old new : ViewSeen) → IsLocatedTwice old new item.now located.now
         → IfSome result (IsFlipAt old new search.now item.now) }
-    ensures each { (old new : Sight) → IsLocatedTwice old new item.now located.now
+    ensures each { (old new : ViewSeen) → IsLocatedTwice old new item.now located.now
         → (flip : Flip) → IsFlipAt old new search.now item.now flip
         → is_one_marked (mark_of region.now.marks.entries) (Some flip.a) (Some flip.b) ≡ true
         → result ≡ Some flip }
@@ -66,7 +66,7 @@ pub(crate) fn flips_of(
     located: &[LocatedChange<'_>],
 ) -> Result<Vec<Flip>, NoMemory>
     requires { length located.now ≡ length changes.now }
-    ensures { IfOk result (λ flips. (old new : Sight)
+    ensures { IfOk result (λ flips. (old new : ViewSeen)
         → AreLocated old new changes.now located.now
         → AreFlipsOf old new search.now (mark_of region.now.marks.entries) changes.now
         flips.items) }

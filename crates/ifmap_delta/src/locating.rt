@@ -1,7 +1,7 @@
 //! Where the items of a plan stand in the graph and in the draft.
 ghost use Rattle.std.specs.Prelude.{◌≡◌, IfOk};
 ghost use Rattle.ifmap_delta.specs.Located.{IsLocated, IsLocatedPlan, IsLocatedTwice};
-ghost use Rattle.ifmap_delta.specs.Sights.{sight_of};
+ghost use Rattle.ifmap_delta.specs.Sights.{view_seen};
 ghost use Rattle.ifmap_view.specs.Views.{IsView};
 
 use ifmap_ident::Item;
@@ -51,7 +51,7 @@ pub fn locate_plan<'a, G: View, D: View>(
 ) -> Result<LocatedPlan<'a>, NoMemory>
     ensures plan { IfOk result (λ located. located.plan.now ≡ plan.now) }
     ensures located { IfOk result (IsLocatedPlan
-        (sight_of G.rows G.id_at G.links graph.now) (sight_of D.rows D.id_at D.links draft.now)) }
+        (view_seen G.rows G.id_at G.links graph.now) (view_seen D.rows D.id_at D.links draft.now)) }
 {
     let mut changes = Vec::new(alloc);
     for change in &plan.changes.0 {
@@ -70,8 +70,8 @@ pub fn locate_plan<'a, G: View, D: View>(
 
 // An item in the graph and in the draft.
 fn locate_change<'a, G: View, D: View>(graph: &'a G, draft: &'a D, item: &Item) -> LocatedChange<'a>
-    ensures { IsLocatedTwice (sight_of G.rows G.id_at G.links graph.now)
-        (sight_of D.rows D.id_at D.links draft.now) item.now result }
+    ensures { IsLocatedTwice (view_seen G.rows G.id_at G.links graph.now)
+        (view_seen D.rows D.id_at D.links draft.now) item.now result }
 {
     LocatedChange {
         before: locate_item(graph, item),
@@ -81,7 +81,7 @@ fn locate_change<'a, G: View, D: View>(graph: &'a G, draft: &'a D, item: &Item) 
 
 // An item in a view, and what holds of every view.
 pub(crate) fn locate_item<'a, V: View>(view: &'a V, item: &Item) -> Located<'a>
-    ensures located { IsLocated (sight_of V.rows V.id_at V.links view.now) item.now result }
+    ensures located { IsLocated (view_seen V.rows V.id_at V.links view.now) item.now result }
     ensures whole { IsView (V.rows view.now) (V.id_at view.now) (V.links view.now) }
 {
     let rows = view.stored_at(item);

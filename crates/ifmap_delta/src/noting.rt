@@ -3,7 +3,7 @@ ghost use Rattle.std.specs.Prelude.{◌≡◌, ◌&&◌, ◌++◌, ◌∷◌, []
 ghost use Rattle.std.specs.List.{AllByRecursion};
 ghost use Rattle.ifmap_folds.specs.Notes.{is_told, told_notes};
 ghost use Rattle.ifmap_delta.specs.Located.{AreNotesLocated, IsLocated};
-ghost use Rattle.ifmap_delta.specs.Sights.{HasMarks, HaveMarks, sight_of};
+ghost use Rattle.ifmap_delta.specs.Sights.{HasMarks, HaveMarks, view_seen};
 ghost use Rattle.ifmap_ident.specs.Items.{IsCanonItem};
 ghost use Rattle.ifmap_region.specs.Marks.{mark_of};
 ghost use Rattle.ifmap_view.specs.Views.{IsView};
@@ -32,9 +32,9 @@ pub fn notes<'a, D: View>(
     located: &LocatedPlan<'_>,
 ) -> Result<Many<Entry>, NoMemory>
     requires view { IsView (D.rows draft.now) (D.id_at draft.now) (D.links draft.now) }
-    requires marks { HasMarks (sight_of D.rows D.id_at D.links draft.now) subscription.now }
+    requires marks { HasMarks (view_seen D.rows D.id_at D.links draft.now) subscription.now }
     requires canon { AllByRecursion (λ n. IsCanonItem n.item) located.now.plan.now.notes }
-    requires located { AreNotesLocated (sight_of D.rows D.id_at D.links draft.now)
+    requires located { AreNotesLocated (view_seen D.rows D.id_at D.links draft.now)
         located.now.plan.now.notes located.now.notes.items }
     ensures { IfOk result (λ told. told ≡ told_notes (D.rows draft.now) subscription.now.search
         located.now.plan.now.notes) }
@@ -58,10 +58,10 @@ fn told_of<D: View>(
 ) -> Result<Vec<Entry>, NoMemory>
     requires view { IsView (D.rows after.now.view.now) (D.id_at after.now.view.now)
         (D.links after.now.view.now) }
-    requires marks { HaveMarks (sight_of D.rows D.id_at D.links after.now.view.now)
+    requires marks { HaveMarks (view_seen D.rows D.id_at D.links after.now.view.now)
         after.now.search.now (mark_of after.now.marks.now.marks.entries) }
     requires canon { AllByRecursion (λ n. IsCanonItem n.item) notes.now }
-    requires located { AreNotesLocated (sight_of D.rows D.id_at D.links after.now.view.now)
+    requires located { AreNotesLocated (view_seen D.rows D.id_at D.links after.now.view.now)
         notes.now located.now }
     requires long { length located.now ≡ length notes.now }
     ensures { IfOk result (λ told. told.items ≡ told_notes (D.rows after.now.view.now)
@@ -83,10 +83,10 @@ fn add_told<D: View>(
 ) -> Result<(), NoMemory>
     requires view { IsView (D.rows after.now.view.now) (D.id_at after.now.view.now)
         (D.links after.now.view.now) }
-    requires marks { HaveMarks (sight_of D.rows D.id_at D.links after.now.view.now)
+    requires marks { HaveMarks (view_seen D.rows D.id_at D.links after.now.view.now)
         after.now.search.now (mark_of after.now.marks.now.marks.entries) }
     requires canon { IsCanonItem note.now.item }
-    requires located { IsLocated (sight_of D.rows D.id_at D.links after.now.view.now)
+    requires located { IsLocated (view_seen D.rows D.id_at D.links after.now.view.now)
         note.now.item located.now }
     ensures { OnOk result (told.new.items ≡ told.old.items ++ told_notes
         (D.rows after.now.view.now) after.now.search.now (note.now ∷ [])) }
@@ -104,10 +104,10 @@ fn add_told<D: View>(
 fn is_told<D: View>(after: &Side<'_, D, Region>, note: &Note, located: &Located<'_>) -> bool
     requires view { IsView (D.rows after.now.view.now) (D.id_at after.now.view.now)
         (D.links after.now.view.now) }
-    requires marks { HaveMarks (sight_of D.rows D.id_at D.links after.now.view.now)
+    requires marks { HaveMarks (view_seen D.rows D.id_at D.links after.now.view.now)
         after.now.search.now (mark_of after.now.marks.now.marks.entries) }
     requires canon { IsCanonItem note.now.item }
-    requires located { IsLocated (sight_of D.rows D.id_at D.links after.now.view.now)
+    requires located { IsLocated (view_seen D.rows D.id_at D.links after.now.view.now)
         note.now.item located.now }
     ensures { result ≡ is_told (D.rows after.now.view.now) after.now.search.now note.now }
 {

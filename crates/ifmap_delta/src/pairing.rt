@@ -2,7 +2,7 @@
 ghost use Rattle.std.specs.Prelude.{◌≡◌, ◌<◌, ◌+◌, false, true, None, Some, IfOk, IfSome, length, get_or, map};
 ghost use Rattle.std.specs.List.{AllByRecursion, list_any};
 ghost use Rattle.std.specs.List.Sorted.{IsStrictlySortedBy};
-ghost use Rattle.ifmap_delta.specs.Touched.{IsPaired, items_of, with_no_place};
+ghost use Rattle.ifmap_delta.specs.Touched.{IsPaired, items_touched, with_no_place};
 ghost use Rattle.ifmap_delta.specs.declared.pairing.TouchedItem.{TouchedItem};
 ghost use Rattle.ifmap_ident.specs.Items.{item_order, same_item};
 
@@ -40,7 +40,7 @@ fn touched_of(alloc: Global, items: Vec<Item>) -> Result<Vec<TouchedItem>, NoMem
 
 // Where an item stands among some in order, if it does: it is found by halving.
 fn find_item(touched: &[TouchedItem], item: &Item) -> Option<usize>
-    requires { IsStrictlySortedBy item_order (items_of touched.now) }
+    requires { IsStrictlySortedBy item_order (items_touched touched.now) }
     ensures found { IfSome result (λ i. i < length touched.now) }
     ensures same { IfSome result (λ i. (d : TouchedItem) →
         same_item item.now (get_or touched.now i d).item ≡ true) }
@@ -54,9 +54,9 @@ fn find_item(touched: &[TouchedItem], item: &Item) -> Option<usize>
 
 // Puts the place of a change beside its item, over that of a later one.
 fn put_place(touched: &mut Vec<TouchedItem>, changes: &[ItemChange], place: usize)
-    requires rising { IsStrictlySortedBy item_order (items_of touched.old.items) }
+    requires rising { IsStrictlySortedBy item_order (items_touched touched.old.items) }
     requires place { place < length changes.now }
-    ensures items { items_of touched.new.items ≡ items_of touched.old.items }
+    ensures items { items_touched touched.new.items ≡ items_touched touched.old.items }
     ensures paired { AllByRecursion (IsPaired changes.now (place + 1)) touched.old.items
         → AllByRecursion (IsPaired changes.now place) touched.new.items }
 {
@@ -73,7 +73,7 @@ pub(crate) fn pair_with_changes(
     changes: &[ItemChange],
 ) -> Result<Vec<TouchedItem>, NoMemory>
     requires { IsStrictlySortedBy item_order items.items }
-    ensures items { IfOk result (λ touched. items_of touched.items ≡ items.items) }
+    ensures items { IfOk result (λ touched. items_touched touched.items ≡ items.items) }
     ensures paired { IfOk result (λ touched. AllByRecursion (IsPaired changes.now 0)
         touched.items) }
 {

@@ -2,7 +2,7 @@
 ghost use Rattle.std.specs.Prelude.{◌≡◌, Some, IfSome, ◌&&◌, not, ◌≤◌};
 ghost use Rattle.ifmap_folds.specs.Notes.{counts_on};
 ghost use Rattle.ifmap_delta.specs.Located.{IsLocated, IsNumberOf};
-ghost use Rattle.ifmap_delta.specs.Sights.{HaveMarks, sight_of};
+ghost use Rattle.ifmap_delta.specs.Sights.{HaveMarks, view_seen};
 ghost use Rattle.ifmap_delta.specs.Shown.{goes_on, shown_on};
 ghost use Rattle.ifmap_fresh.specs.Fresh.{is_looked_at};
 ghost use Rattle.ifmap_fresh.specs.Linking.{is_terminal_at};
@@ -61,10 +61,10 @@ impl<'a, V: View, M: Marks> Side<'a, V, M> {
     fn is_reached(&self, number: Option<u64>) -> bool
         requires view { IsView (V.rows self.now.view.now) (V.id_at self.now.view.now)
             (V.links self.now.view.now) }
-        requires marks { HaveMarks (sight_of V.rows V.id_at V.links self.now.view.now)
+        requires marks { HaveMarks (view_seen V.rows V.id_at V.links self.now.view.now)
             self.now.search.now (M.mark self.now.marks.now) }
         ensures { (a : Identifier) → IsIdentifier a
-            → IsNumberOf (sight_of V.rows V.id_at V.links self.now.view.now) a number
+            → IsNumberOf (view_seen V.rows V.id_at V.links self.now.view.now) a number
             → result ≡ is_reached (V.rows self.now.view.now) self.now.search.now a }
     {
         levels_are_walks();
@@ -79,10 +79,10 @@ impl<'a, V: View, M: Marks> Side<'a, V, M> {
     fn is_expanded(&self, number: Option<u64>) -> bool
         requires view { IsView (V.rows self.now.view.now) (V.id_at self.now.view.now)
             (V.links self.now.view.now) }
-        requires marks { HaveMarks (sight_of V.rows V.id_at V.links self.now.view.now)
+        requires marks { HaveMarks (view_seen V.rows V.id_at V.links self.now.view.now)
             self.now.search.now (M.mark self.now.marks.now) }
         ensures { (a : Identifier) → IsIdentifier a
-            → IsNumberOf (sight_of V.rows V.id_at V.links self.now.view.now) a number
+            → IsNumberOf (view_seen V.rows V.id_at V.links self.now.view.now) a number
             → result ≡ is_expanded (V.rows self.now.view.now) self.now.search.now a }
     {
         levels_are_walks();
@@ -98,10 +98,10 @@ impl<'a, V: View, M: Marks> Side<'a, V, M> {
     pub(crate) fn looks_at(&self, item: &Item, located: &Located<'_>) -> bool
         requires view { IsView (V.rows self.now.view.now) (V.id_at self.now.view.now)
             (V.links self.now.view.now) }
-        requires marks { HaveMarks (sight_of V.rows V.id_at V.links self.now.view.now)
+        requires marks { HaveMarks (view_seen V.rows V.id_at V.links self.now.view.now)
             self.now.search.now (M.mark self.now.marks.now) }
         requires canon { IsCanonItem item.now }
-        requires located { IsLocated (sight_of V.rows V.id_at V.links self.now.view.now) item.now
+        requires located { IsLocated (view_seen V.rows V.id_at V.links self.now.view.now) item.now
             located.now }
         ensures { result ≡ is_looked_at (V.rows self.now.view.now) self.now.search.now item.now }
     {
@@ -119,10 +119,10 @@ impl<'a, V: View, M: Marks> Side<'a, V, M> {
     pub(crate) fn counts_on(&self, item: &Item, located: &Located<'_>, element: &Element) -> bool
         requires view { IsView (V.rows self.now.view.now) (V.id_at self.now.view.now)
             (V.links self.now.view.now) }
-        requires marks { HaveMarks (sight_of V.rows V.id_at V.links self.now.view.now)
+        requires marks { HaveMarks (view_seen V.rows V.id_at V.links self.now.view.now)
             self.now.search.now (M.mark self.now.marks.now) }
         requires canon { IsCanonItem item.now }
-        requires located { IsLocated (sight_of V.rows V.id_at V.links self.now.view.now) item.now
+        requires located { IsLocated (view_seen V.rows V.id_at V.links self.now.view.now) item.now
             located.now }
         ensures { result ≡ counts_on (V.rows self.now.view.now) self.now.search.now item.now
             element.now }
@@ -139,7 +139,7 @@ impl<'a, V: View, M: Marks> Side<'a, V, M> {
 
     // What is stored on the item, where the search looks at it; nothing where it does not.
     pub(crate) fn rows_shown(&self, item: &Item) -> &[Row]
-        requires marks { HaveMarks (sight_of V.rows V.id_at V.links self.now.view.now)
+        requires marks { HaveMarks (view_seen V.rows V.id_at V.links self.now.view.now)
             self.now.search.now (M.mark self.now.marks.now) }
         requires canon { IsCanonItem item.now }
         ensures { result.now ≡ shown_on (V.rows self.now.view.now) self.now.search.now item.now }

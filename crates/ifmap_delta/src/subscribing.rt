@@ -1,7 +1,7 @@
 //! How a subscription begins.
 ghost use Rattle.std.specs.Prelude.{◌≡◌, Some, IfOk, length};
 ghost use Rattle.ifmap_delta.specs.Changes.{IsSubscribed};
-ghost use Rattle.ifmap_delta.specs.Sights.{AreMarks, sight_of};
+ghost use Rattle.ifmap_delta.specs.Sights.{AreMarks, view_seen};
 ghost use Rattle.ifmap_fresh.specs.Linking.{IsReachedAt};
 ghost use Rattle.ifmap_ident.specs.Canon.{IsIdentifier};
 ghost use Rattle.ifmap_region.specs.Bounds.{IsWithin};
@@ -31,7 +31,7 @@ pub fn subscribe<V: View, L: Ledger>(
 ) -> Result<Subscribed, NoMemory>
     requires identifier { IsIdentifier search.start }
     requires start { V.id_at view.now start ≡ Some search.start }
-    ensures answer { IfOk result (IsSubscribed (sight_of V.rows V.id_at V.links view.now) search
+    ensures answer { IfOk result (IsSubscribed (view_seen V.rows V.id_at V.links view.now) search
         start) }
 
     // Also where memory runs out.
@@ -67,7 +67,7 @@ fn region_of<V: View, L: Ledger>(
     requires identifier { IsIdentifier search.now.start }
     requires start { V.id_at view.now start ≡ Some search.now.start }
     ensures start { IfOk result (λ region. region.start ≡ start) }
-    ensures marks { let sight = sight_of V.rows V.id_at V.links view.now in
+    ensures marks { let sight = view_seen V.rows V.id_at V.links view.now in
         IfOk result (λ region. AreMarks sight search.now region.start region.max_depth
         (mark_of region.marks.entries)) }
     ensures rows { IfOk result (λ region. AllMarked region.marks.entries) }

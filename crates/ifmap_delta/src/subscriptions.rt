@@ -1,7 +1,7 @@
 //! Subscriptions, and what a change of the graph does to one.
 ghost use Rattle.std.specs.Prelude.{◌≡◌, ℕ, Option, List, None, Some, IsSome, is_some, OnOk, OnErr};
 ghost use Rattle.ifmap_delta.specs.Changes.{WouldKeep};
-ghost use Rattle.ifmap_delta.specs.Sights.{IsKept, Sight};
+ghost use Rattle.ifmap_delta.specs.Sights.{IsUpToDate, ViewSeen};
 ghost use Rattle.ifmap_delta.specs.Ways.{HasSameSearch};
 ghost use Rattle.ifmap_region.specs.Marks.{mark_of, over, row_of};
 ghost use Rattle.ifmap_region.specs.Ways.{HasRoom, IsWayBack, Makes, OnlyRoom, Sweeps, taken_from};
@@ -100,7 +100,7 @@ impl Subscription {
             ≡ is_some (row_of self.old.region.marks.entries v) }
 
         // Where the patch and the size are those of a change, the subscription keeps what the draft has.
-        ensures kept { (g : Sight) → WouldKeep g self.old patch new_size → IsKept g self.new }
+        ensures kept { (g : ViewSeen) → WouldKeep g self.old patch new_size → IsUpToDate g self.new }
     {
         self.region.commit(patch);
         self.size = new_size;
@@ -116,7 +116,7 @@ impl Subscription {
         ensures undo { result.0 ≡ taken_from (mark_of self.old.region.marks.entries) patch }
         ensures undo_size { result.1 ≡ self.old.size }
         ensures room { HasRoom result.0 self.new.region.marks.entries }
-        ensures kept { (g : Sight) → WouldKeep g self.old patch new_size → IsKept g self.new }
+        ensures kept { (g : ViewSeen) → WouldKeep g self.old patch new_size → IsUpToDate g self.new }
     {
         let region = self.region.commit_kept(patch);
         let size = self.size;

@@ -3,9 +3,9 @@ ghost use Rattle.std.specs.Prelude.{◌≡◌, ◌≤◌, ◌<◌, ◌+◌, [], 
 ghost use Rattle.std.specs.List.{AllByRecursion, IsDistinct, cons_option};
 ghost use Rattle.ifmap_delta.specs.Changes.{ShowsAfter};
 ghost use Rattle.ifmap_delta.specs.Located.{AreLocated, IsLocatedTwice};
-ghost use Rattle.ifmap_delta.specs.Sights.{HaveMarks, sight_of};
+ghost use Rattle.ifmap_delta.specs.Sights.{HaveMarks, view_seen};
 ghost use Rattle.ifmap_delta.specs.Shown.{patched_mark};
-ghost use Rattle.ifmap_delta.specs.Touched.{AreTouched, brought_items, item_at, linked_items, looked_along, moved_items, planned_items};
+ghost use Rattle.ifmap_delta.specs.Touched.{AreTouched, brought_items, link_item, linked_items, looked_along, moved_items, planned_items};
 ghost use Rattle.ifmap_fresh.specs.Collected.{alone, numbers_of, pair_at};
 ghost use Rattle.ifmap_fresh.specs.Fresh.{is_looked_at};
 ghost use Rattle.ifmap_region.specs.Marks.{mark_of, over};
@@ -61,8 +61,8 @@ fn add_along<V: View, L: Ledger>(
     steps: &mut Steps<L>,
 ) -> Result<(), NoMemory>
     requires { i < length (V.links links.now.view.now number) }
-    ensures items { let sight = sight_of V.rows V.id_at V.links links.now.view.now in
-        OnOk result (items.new.items ≡ items.old.items ++ cons_option (item_at sight
+    ensures items { let sight = view_seen V.rows V.id_at V.links links.now.view.now in
+        OnOk result (items.new.items ≡ items.old.items ++ cons_option (link_item sight
         links.now.search.now number (slice_get (V.links links.now.view.now number) i)) []) }
     ensures step { steps.new ≡ steps.old + 1 }
 {
@@ -83,7 +83,7 @@ fn add_linked<V: View, L: Ledger>(
     items: &mut Vec<Item>,
     steps: &mut Steps<L>,
 ) -> Result<(), NoMemory>
-    ensures items { let sight = sight_of V.rows V.id_at V.links links.now.view.now in
+    ensures items { let sight = view_seen V.rows V.id_at V.links links.now.view.now in
         OnOk result (items.new.items ≡ items.old.items ++ linked_items sight links.now.search.now
         number) }
     ensures steps { steps.new ≤ steps.old + length (V.links links.now.view.now number) }
@@ -107,13 +107,13 @@ fn add_changed<G: View, D: View, M: Marks, N: Marks>(
         (G.links before.now.view.now) }
     requires draft { IsView (D.rows after.now.view.now) (D.id_at after.now.view.now)
         (D.links after.now.view.now) }
-    requires before { HaveMarks (sight_of G.rows G.id_at G.links before.now.view.now)
+    requires before { HaveMarks (view_seen G.rows G.id_at G.links before.now.view.now)
         before.now.search.now (M.mark before.now.marks.now) }
-    requires after { HaveMarks (sight_of D.rows D.id_at D.links after.now.view.now)
+    requires after { HaveMarks (view_seen D.rows D.id_at D.links after.now.view.now)
         after.now.search.now (N.mark after.now.marks.now) }
     requires canon { IsCanonItem change.now.item }
-    requires located { IsLocatedTwice (sight_of G.rows G.id_at G.links before.now.view.now)
-        (sight_of D.rows D.id_at D.links after.now.view.now) change.now.item located.now }
+    requires located { IsLocatedTwice (view_seen G.rows G.id_at G.links before.now.view.now)
+        (view_seen D.rows D.id_at D.links after.now.view.now) change.now.item located.now }
     ensures { OnOk result (items.new.items ≡ items.old.items ++ planned_items
         (λ x. is_looked_at (G.rows before.now.view.now) before.now.search.now x
         || is_looked_at (D.rows after.now.view.now) after.now.search.now x) (change.now ∷ [])) }
@@ -138,13 +138,13 @@ fn add_planned<G: View, D: View, M: Marks, N: Marks>(
         (G.links before.now.view.now) }
     requires draft { IsView (D.rows after.now.view.now) (D.id_at after.now.view.now)
         (D.links after.now.view.now) }
-    requires before { HaveMarks (sight_of G.rows G.id_at G.links before.now.view.now)
+    requires before { HaveMarks (view_seen G.rows G.id_at G.links before.now.view.now)
         before.now.search.now (M.mark before.now.marks.now) }
-    requires after { HaveMarks (sight_of D.rows D.id_at D.links after.now.view.now)
+    requires after { HaveMarks (view_seen D.rows D.id_at D.links after.now.view.now)
         after.now.search.now (N.mark after.now.marks.now) }
     requires canon { AllByRecursion (λ c. IsCanonItem c.item) changes.now }
-    requires located { AreLocated (sight_of G.rows G.id_at G.links before.now.view.now)
-        (sight_of D.rows D.id_at D.links after.now.view.now) changes.now located.now }
+    requires located { AreLocated (view_seen G.rows G.id_at G.links before.now.view.now)
+        (view_seen D.rows D.id_at D.links after.now.view.now) changes.now located.now }
     requires long { length located.now ≡ length changes.now }
     ensures { OnOk result (items.new.items ≡ items.old.items ++ planned_items
         (λ x. is_looked_at (G.rows before.now.view.now) before.now.search.now x
@@ -166,11 +166,11 @@ fn add_brought<D: View, L: Ledger>(
     items: &mut Vec<Item>,
     steps: &mut Steps<L>,
 ) -> Result<(), NoMemory>
-    ensures items { let sight = sight_of D.rows D.id_at D.links side.now.view.now in
+    ensures items { let sight = view_seen D.rows D.id_at D.links side.now.view.now in
         let mark = mark_of side.now.marks.now.marks.entries in
         OnOk result (items.new.items ≡ items.old.items ++ brought_items sight side.now.search.now
         number (mark number) (over patch.now mark number)) }
-    ensures steps { let sight = sight_of D.rows D.id_at D.links side.now.view.now in
+    ensures steps { let sight = view_seen D.rows D.id_at D.links side.now.view.now in
         let mark = mark_of side.now.marks.now.marks.entries in
         steps.new ≤ steps.old + looked_along sight side.now.search.now number (mark number)
         (over patch.now mark number) }
@@ -194,11 +194,11 @@ fn add_moved<D: View, L: Ledger>(
     items: &mut Vec<Item>,
     steps: &mut Steps<L>,
 ) -> Result<(), NoMemory>
-    ensures items { let sight = sight_of D.rows D.id_at D.links side.now.view.now in
+    ensures items { let sight = view_seen D.rows D.id_at D.links side.now.view.now in
         let mark = mark_of side.now.marks.now.marks.entries in
         OnOk result (items.new.items ≡ items.old.items ++ moved_items sight side.now.search.now mark
         (over patch.now mark) (numbers_of patch.now)) }
-    ensures steps { let sight = sight_of D.rows D.id_at D.links side.now.view.now in
+    ensures steps { let sight = view_seen D.rows D.id_at D.links side.now.view.now in
         let mark = mark_of side.now.marks.now.marks.entries in
         steps.new ≤ steps.old + sum_by (λ v. looked_along sight side.now.search.now v (mark v)
         (over patch.now mark v)) (numbers_of patch.now) }
@@ -232,22 +232,22 @@ pub(crate) fn touched_items<G: View, D: View, L: Ledger>(
 ) -> Result<Vec<Item>, NoMemory>
     requires search { before.now.search.now ≡ after.now.search.now }
     requires region { before.now.marks.now ≡ after.now.marks.now.region.now }
-    requires before { HaveMarks (sight_of G.rows G.id_at G.links before.now.view.now)
+    requires before { HaveMarks (view_seen G.rows G.id_at G.links before.now.view.now)
         before.now.search.now (mark_of before.now.marks.now.marks.entries) }
-    requires after { HaveMarks (sight_of D.rows D.id_at D.links after.now.view.now)
+    requires after { HaveMarks (view_seen D.rows D.id_at D.links after.now.view.now)
         after.now.search.now (patched_mark after.now.marks.now) }
     requires graph { IsView (G.rows before.now.view.now) (G.id_at before.now.view.now)
         (G.links before.now.view.now) }
     requires draft { IsView (D.rows after.now.view.now) (D.id_at after.now.view.now)
         (D.links after.now.view.now) }
-    requires change { ShowsAfter (sight_of G.rows G.id_at G.links before.now.view.now)
-        (sight_of D.rows D.id_at D.links after.now.view.now) changes.now }
-    requires located { AreLocated (sight_of G.rows G.id_at G.links before.now.view.now)
-        (sight_of D.rows D.id_at D.links after.now.view.now) changes.now located.now }
+    requires change { ShowsAfter (view_seen G.rows G.id_at G.links before.now.view.now)
+        (view_seen D.rows D.id_at D.links after.now.view.now) changes.now }
+    requires located { AreLocated (view_seen G.rows G.id_at G.links before.now.view.now)
+        (view_seen D.rows D.id_at D.links after.now.view.now) changes.now located.now }
     ensures touched { IfOk result (λ items. AreTouched
-        (sight_of G.rows G.id_at G.links before.now.view.now)
-        (sight_of D.rows D.id_at D.links after.now.view.now) after.now.search.now items.items) }
-    ensures steps { let sight = sight_of D.rows D.id_at D.links after.now.view.now in
+        (view_seen G.rows G.id_at G.links before.now.view.now)
+        (view_seen D.rows D.id_at D.links after.now.view.now) after.now.search.now items.items) }
+    ensures steps { let sight = view_seen D.rows D.id_at D.links after.now.view.now in
         steps.new ≤ steps.old + sum_by (λ v. looked_along sight after.now.search.now v
         (mark_of after.now.marks.now.region.now.marks.entries v)
         (patched_mark after.now.marks.now v))

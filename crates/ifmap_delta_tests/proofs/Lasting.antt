@@ -7,7 +7,7 @@ use Rattle.std.proofs.Common.{◌∙◌, sym, subst, arith}
 use Rattle.std.proofs.lemmas.Option.{same_Some}
 use Rattle.std.specs.List.{AllByRecursion, filter}
 use Rattle.ifmap_delta.specs.Changes.{WouldKeep}
-use Rattle.ifmap_delta.specs.Sights.{AreMarks, IsKept, Sight}
+use Rattle.ifmap_delta.specs.Sights.{AreMarks, IsUpToDate, ViewSeen}
 use Rattle.ifmap_delta.specs.Ways.{HasSameSearch}
 use Rattle.ifmap_delta.specs.declared.subscriptions.Subscription.{Subscription}
 use Rattle.ifmap_fresh.specs.Fresh.{fresh_size}
@@ -102,28 +102,28 @@ sight_made mid new rows links names = λ i. record {
 }
 
 pub kept_made : (mid new : Held) (sub : Subscription) → rows_now new ≡ rows_next mid
-    → ((v : ℕ) → links_now new v ≡ links_next mid v) → new.names ≡ mid.names → IsKept (sight_next mid) sub → IsKept (sight_now new) sub
-kept_made mid new sub rows links names kept = subst (λ (g : Sight). IsKept g sub) (sight_made mid new rows links names) kept
+    → ((v : ℕ) → links_now new v ≡ links_next mid v) → new.names ≡ mid.names → IsUpToDate (sight_next mid) sub → IsUpToDate (sight_now new) sub
+kept_made mid new sub rows links names kept = subst (λ (g : ViewSeen). IsUpToDate g sub) (sight_made mid new rows links names) kept
 
 -- ---- a subscription
 
 -- what laws of subscriptions say of views with the same links
 abbrev pub SameLinks : Type 0
-SameLinks = (one other : Sight) (sub : Subscription) → IsView one.rows one.id_at one.links → IsView other.rows other.id_at other.links
+SameLinks = (one other : ViewSeen) (sub : Subscription) → IsView one.rows one.id_at one.links → IsView other.rows other.id_at other.links
     → other.rows ≡ one.rows → ((v : ℕ) → other.links v ≡ one.links v)
     → ((v : ℕ) (a b : Identifier) → one.id_at v ≡ Some a → other.id_at v ≡ Some b → b ≡ a)
-    → other.id_at sub.region.start ≡ Some sub.search.start → IsKept one sub → IsKept other sub
+    → other.id_at sub.region.start ≡ Some sub.search.start → IsUpToDate one sub → IsUpToDate other sub
 
 pub kept_begun : SameLinks → (old new : Held) (ready : Ready) (sub : Subscription)
     → IsView (rows_now old) (key_at old.names) (links_now old)
-    → IsUnderWay new ready → ShowsSame old new → IsKept (sight_now old) sub → IsKept (sight_now new) sub
+    → IsUnderWay new ready → ShowsSame old new → IsUpToDate (sight_now old) sub → IsUpToDate (sight_now new) sub
 kept_begun law old new ready sub seen way same kept =
     law (sight_now old) (sight_now new) sub seen way.now same.rows same.links
     (λ v a b p q. same_Some b a (sym q ∙ same.numbers v a p))
     (same.numbers sub.region.start sub.search.start kept.marks.here) kept
 
 -- a patch serves as well where the marks are the same
-pub would_still : (g : Sight) (one other : Subscription) (patch : List (ℕ × Option ℕ)) (size : ℕ) → HasSameSearch one other
+pub would_still : (g : ViewSeen) (one other : Subscription) (patch : List (ℕ × Option ℕ)) (size : ℕ) → HasSameSearch one other
     → ((v : ℕ) → mark_of other.region.marks.entries v ≡ mark_of one.region.marks.entries v) → WouldKeep g one patch size
     → WouldKeep g other patch size
 would_still g one other patch size same marks would = record {

@@ -3,7 +3,7 @@ use Rattle.std.specs.Prelude.{◌≡◌, ℕ, List, IsSome}
 use Rattle.std.specs.List.{AllByRecursion}
 use Rattle.ifmap_ident.specs.Items.{IsCanonItem}
 use Rattle.ifmap_delta.specs.Changes.{ShowsAfter, WouldKeep}
-use Rattle.ifmap_delta.specs.Sights.{Sight}
+use Rattle.ifmap_delta.specs.Sights.{ViewSeen}
 use Rattle.ifmap_delta.specs.declared.subscriptions.Moved.{Moved}
 use Rattle.ifmap_delta.specs.declared.subscriptions.Subscription.{Subscription}
 use Rattle.ifmap_graph.specs.declared.changes.Ready.{Ready}
@@ -20,13 +20,13 @@ use Rattle.ifmap_view.specs.Views.{IsView}
 use Rattle.ifmap_view.specs.declared.attachments.Attachment.{Attachment}
 
 -- what a graph shows, and what it is to show
-abbrev pub sight_now : Held → Sight
+abbrev pub sight_now : Held → ViewSeen
 sight_now h = record { rows = rows_now h; id_at = key_at h.names; links = links_now h }
 
-abbrev pub sight_next : Held → Sight
+abbrev pub sight_next : Held → ViewSeen
 sight_next h = record { rows = rows_next h; id_at = key_at h.names; links = links_next h }
 
-abbrev pub IsSeen : Sight → Type 0
+abbrev pub IsSeen : ViewSeen → Type 0
 IsSeen g = IsView g.rows g.id_at g.links
 
 -- what it is to show is what it shows after a plan

@@ -2,7 +2,7 @@
 //! told by last digits of addresses.
 ghost use Rattle.std.specs.Prelude.{IfOk};
 ghost use Rattle.std.specs.List.{AllByRecursion};
-ghost use Rattle.ifmap_delta.specs.Sights.{HasMarks, IsKept};
+ghost use Rattle.ifmap_delta.specs.Sights.{HasMarks, IsUpToDate};
 ghost use Rattle.ifmap_delta_tests.specs.Worlds.{IsQuiet, IsSeen, IsStepOut, sight_next, sight_now};
 ghost use Rattle.ifmap_ident.specs.Items.{IsCanonItem};
 
@@ -121,7 +121,7 @@ fn check_second(
     example: &Example,
 ) -> Result<(), Fault>
     requires quiet { IsQuiet graph.old }
-    requires kept { IsKept (sight_now graph.old) subscription.old }
+    requires kept { IsUpToDate (sight_now graph.old) subscription.old }
 {
     let step = step_by(alloc, graph, subscription, example.client, example.second)?;
     check_step(alloc, graph, subscription, step, example)
@@ -130,7 +130,7 @@ fn check_second(
 // A graph with a subscription, which finds what the example says.
 fn world_of(alloc: Global, example: &Example) -> Result<World, Fault>
     ensures quiet { IfOk result (λ world. IsQuiet world.graph) }
-    ensures kept { IfOk result (λ world. IsKept (sight_now world.graph) world.subscription) }
+    ensures kept { IfOk result (λ world. IsUpToDate (sight_now world.graph) world.subscription) }
 {
     let search = search_of(alloc, &example.sought)?;
     let (world, found) = begin_world(alloc, search, example.first)?;

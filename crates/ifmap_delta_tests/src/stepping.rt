@@ -2,7 +2,7 @@
 ghost use Rattle.std.specs.Prelude.{◌≡◌, ◌<◌, Some, IfOk, OnOk};
 ghost use Rattle.std.specs.List.{AllByRecursion};
 ghost use Rattle.ifmap_delta.specs.Changes.{IsSubscribed, ShowsAfter, WouldKeep};
-ghost use Rattle.ifmap_delta.specs.Sights.{HasMarks, IsKept, Sight};
+ghost use Rattle.ifmap_delta.specs.Sights.{HasMarks, IsUpToDate, ViewSeen};
 ghost use Rattle.ifmap_delta_tests.specs.Worlds.{IsFitting, IsQuiet, IsSeen, IsStepOut, KeepsRows};
 ghost use Rattle.ifmap_delta_tests.specs.Worlds.{sight_next, sight_now};
 ghost use Rattle.ifmap_ident.specs.Canon.{IsIdentifier};
@@ -82,7 +82,7 @@ fn subscribe_to(
 ) -> Result<(Subscription, Found), Fault>
     requires start { IsIdentifier search.start }
     requires number { key_at graph.now.names number ≡ Some search.start }
-    ensures { IfOk result (λ made. IsKept (sight_now graph.now) made.0) }
+    ensures { IfOk result (λ made. IsUpToDate (sight_now graph.now) made.0) }
 {
     match subscribe_with::<Brand>(alloc, graph, number, search, Blank::new(1))? {
         Subscribed::Kept {
@@ -108,7 +108,7 @@ pub(crate) fn begin_world(
 ) -> Result<(World, Found), Fault>
     requires { IsIdentifier search.start }
     ensures quiet { IfOk result (λ made. IsQuiet made.0.graph) }
-    ensures kept { IfOk result (λ made. IsKept (sight_now made.0.graph) made.0.subscription) }
+    ensures kept { IfOk result (λ made. IsUpToDate (sight_now made.0.graph) made.0.subscription) }
 {
     let (graph, number) = graph_with(alloc, &search.start, ops)?;
     let (subscription, found) = subscribe_to(alloc, &graph, number, search)?;
@@ -130,7 +130,7 @@ fn change_with<L: Ledger>(
 ) -> Result<Moved, NoMemory>
     requires now { IsSeen (sight_now graph.now) }
     requires next { IsSeen (sight_next graph.now) }
-    requires kept { IsKept (sight_now graph.now) subscription.now }
+    requires kept { IsUpToDate (sight_now graph.now) subscription.now }
     requires change { ShowsAfter (sight_now graph.now) (sight_next graph.now) plan.now.changes }
     requires name { blank.name ≡ L.name }
     requires parts { blank.parts ≡ L.parts }
@@ -171,7 +171,7 @@ fn change_of(
 ) -> Result<Moved, Fault>
     requires now { IsSeen (sight_now graph.now) }
     requires next { IsSeen (sight_next graph.now) }
-    requires kept { IsKept (sight_now graph.now) subscription.now }
+    requires kept { IsUpToDate (sight_now graph.now) subscription.now }
     requires change { ShowsAfter (sight_now graph.now) (sight_next graph.now) plan.now.changes }
     ensures { IfOk result (λ moved. WouldKeep (sight_next graph.now) subscription.now moved.patch
         moved.new_size) }
@@ -190,7 +190,7 @@ pub(crate) struct Step {
 
 // Room for what a change does.
 fn reserve(subscription: &mut Subscription, moved: &Moved) -> Result<(), NoMemory>
-    ensures keeps { (g : Sight) → WouldKeep g subscription.old moved.now.patch moved.now.new_size
+    ensures keeps { (g : ViewSeen) → WouldKeep g subscription.old moved.now.patch moved.now.new_size
         → WouldKeep g subscription.new moved.now.patch moved.now.new_size }
     ensures room { OnOk result (HasRoom moved.now.patch
         subscription.new.region.marks.entries) }
@@ -208,7 +208,7 @@ fn prepare_change(
 ) -> Result<Moved, Fault>
     requires now { IsSeen (sight_now graph.now) }
     requires next { IsSeen (sight_next graph.now) }
-    requires kept { IsKept (sight_now graph.now) subscription.old }
+    requires kept { IsUpToDate (sight_now graph.now) subscription.old }
     requires change { ShowsAfter (sight_now graph.now) (sight_next graph.now) plan.now.changes }
     ensures keeps { IfOk result (λ moved. WouldKeep (sight_next graph.now) subscription.new
         moved.patch moved.new_size) }
@@ -230,7 +230,7 @@ fn begin_step(
 ) -> Result<Step, Fault>
     requires quiet { IsQuiet graph.old }
     requires fitting { IsFitting graph.old plan }
-    requires kept { IsKept (sight_now graph.old) subscription.old }
+    requires kept { IsUpToDate (sight_now graph.old) subscription.old }
     ensures out { IfOk result (λ step. IsStepOut graph.new subscription.new step.ready
         step.moved) }
     ensures others { OnOk result (KeepsRows subscription.old subscription.new) }
@@ -251,7 +251,7 @@ pub(crate) fn step_by(
     ops: &[Op],
 ) -> Result<Step, Fault>
     requires quiet { IsQuiet graph.old }
-    requires kept { IsKept (sight_now graph.old) subscription.old }
+    requires kept { IsUpToDate (sight_now graph.old) subscription.old }
     ensures out { IfOk result (λ step. IsStepOut graph.new subscription.new step.ready
         step.moved) }
     ensures others { OnOk result (KeepsRows subscription.old subscription.new) }
@@ -263,8 +263,8 @@ pub(crate) fn step_by(
 // The subscription takes a change over.
 pub(crate) fn take_over(subscription: &mut Subscription, moved: Moved) -> SubUndo
     requires room { HasRoom moved.patch subscription.old.region.marks.entries }
-    ensures kept { (g : Sight) → WouldKeep g subscription.old moved.patch moved.new_size
-        → IsKept g subscription.new }
+    ensures kept { (g : ViewSeen) → WouldKeep g subscription.old moved.patch moved.new_size
+        → IsUpToDate g subscription.new }
     ensures room { HasRoom result.0 subscription.new.region.marks.entries }
     ensures others { KeepsRows subscription.old subscription.new }
 {
@@ -275,7 +275,7 @@ pub(crate) fn take_over(subscription: &mut Subscription, moved: Moved) -> SubUnd
 pub(crate) fn make_step(graph: &mut Graph, subscription: &mut Subscription, step: Step) -> SubUndo
     requires { IsStepOut graph.old subscription.old step.ready step.moved }
     ensures quiet { IsQuiet graph.new }
-    ensures kept { IsKept (sight_now graph.new) subscription.new }
+    ensures kept { IsUpToDate (sight_now graph.new) subscription.new }
     ensures room { HasRoom result.0 subscription.new.region.marks.entries }
     ensures others { KeepsRows subscription.old subscription.new }
 {
@@ -307,7 +307,7 @@ fn subscribe_anew(
     graph: &Graph,
     subscription: &Subscription,
 ) -> Result<Subscription, Fault>
-    requires { IsKept (sight_now graph.now) subscription.now }
+    requires { IsUpToDate (sight_now graph.now) subscription.now }
 {
     let search = subscription.search.copy(alloc)?;
     let (other, _found) = subscribe_to(alloc, graph, subscription.region.start, search)?;
@@ -320,7 +320,7 @@ pub(crate) fn check_kept(
     graph: &Graph,
     subscription: &Subscription,
 ) -> Result<(), Fault>
-    requires { IsKept (sight_now graph.now) subscription.now }
+    requires { IsUpToDate (sight_now graph.now) subscription.now }
 {
     let other = subscribe_anew(alloc, graph, subscription)?;
     let wanted = take_snapshot(alloc, &other)?;

@@ -9,7 +9,7 @@ use Rattle.ifmap_desks.specs.Calls.{said_since, told_since}
 use Rattle.ifmap_desks.specs.Holding.{would_hold}
 use Rattle.ifmap_desks.specs.Machines.{CoreBook}
 use Rattle.ifmap_desks.specs.declared.events.FitEvent.{FitEvent}
-use Rattle.ifmap_dialogue.specs.Desks.{Fits, FitsAnswer, Gains, IsPoll, call_of}
+use Rattle.ifmap_dialogue.specs.Desks.{FitsAsked, FitsAnswer, Gains, IsPoll, call_of}
 use Rattle.ifmap_hall.specs.declared.book.Asked.{Asked}
 use Rattle.ifmap_hall.specs.declared.book.Asked.TheVariants.{Done, Held, Spent, NoMemory}
 use Rattle.ifmap_machine.specs.declared.events.Answer.{Answer}
@@ -39,7 +39,7 @@ module _ (holding : (state : State) (event : Event) → would_hold state event �
     (fitting : (state : State) (event : Event) → FitsAnswer event (step state event).1) where
   -- the answer is one that the event can have
   pub fits : (b b' : CoreBook) (number : ℕ) (event : FitEvent) (given : Asked FitEvent Answer) → IsTurn b b' number event given
-      → Fits event.event (plain given)
+      → FitsAsked event.event (plain given)
   fits b b' number event (Done at r) t =
       subst (FitsAnswer event.event) (sym t.done.2.reply_is) (fitting b.machine.core event.event)
   fits b b' number event (Held at back) t = (

@@ -9,7 +9,7 @@ use Rattle.ifmap_machine.specs.Events.{Event}
 use Rattle.ifmap_machine.specs.State.{State}
 use Rattle.ifmap_requests.specs.declared.requests.Request.TheVariants as the_request
 use Rattle.ifmap_search.specs.declared.results.PollItem.{PollItem}
-use Rattle.ifmap_session.specs.Sessions.{Session, is_text, session_with_id}
+use Rattle.ifmap_session.specs.Sessions.{Session, is_same_text, session_with_id}
 use Rattle.ifmap_session.specs.laws.TextLaws.{text_is, text_same}
 
 no_items : (queue : List PollItem) → is_nothing queue ≡ true → queue ≡ []
@@ -20,7 +20,7 @@ found_nothing : (client : List ℕ) (found : Option Session) → has_nothing cli
     → (s : Session) × (found ≡ Some s) × (s.client ≡ client) × (s.queue ≡ [])
 found_nothing client None e = cc
 found_nothing client (Some s) e =
-    let p = and_parts (is_text s.client client) (is_nothing s.queue) e in
+    let p = and_parts (is_same_text s.client client) (is_nothing s.queue) e in
     (s, refl, text_is s.client client p.0, no_items s.queue p.1)
 
 holds_where : (state : State) (event : Event) (ask : Ask) → event.ask ≡ ask → holds_ask state event ask ≡ true → WouldHold state event
@@ -40,7 +40,7 @@ holds_where state event (Lost id) is e = cc
 passes_where : (state : State) (event : Event) → WouldHold state event → would_hold state event ≡ true
 passes_where state event h =
     let n = h.4 in
-    let own : is_text n.0.client event.client ≡ true = text_same n.0.client event.client n.2 in
+    let own : is_same_text n.0.client event.client ≡ true = text_same n.0.client event.client n.2 in
     rw (h.1, h.2, h.3, n.1, own, n.3) refl
 
 pub holding : (state : State) (event : Event) → would_hold state event ≡ true ↔ WouldHold state event

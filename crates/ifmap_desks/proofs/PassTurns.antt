@@ -8,7 +8,7 @@ use Rattle.ifmap_desks.specs.Holding.{would_hold}
 use Rattle.ifmap_desks.specs.Machines.{CoreView, core_holds, core_next, core_reply}
 use Rattle.ifmap_desks.specs.declared.events.FitEvent.{FitEvent}
 use Rattle.ifmap_desks.proofs.BookTurns.{held_polls}
-use Rattle.ifmap_dialogue.specs.Desks.{Fits, FitsAnswer, Gains, call_of}
+use Rattle.ifmap_dialogue.specs.Desks.{FitsAsked, FitsAnswer, Gains, call_of}
 use Rattle.ifmap_hall.specs.Asking.{Answered}
 use Rattle.ifmap_hall.specs.Sights.{run}
 use Rattle.ifmap_hall.specs.declared.book.Asked.{Asked}
@@ -30,7 +30,7 @@ module _ (v w : CoreView) (number : ℕ) (event : FitEvent) where
   module _ (holding : (state : State) (e : Event) → would_hold state e ≡ true ↔ WouldHold state e)
       (fitting : (state : State) (e : Event) → FitsAnswer e (step state e).1) where
     pub fits : (given : Asked FitEvent Answer) → Answered core_next core_holds core_reply v w number event given
-        → Fits event.event (plain given)
+        → FitsAsked event.event (plain given)
     fits (Done place r) a =
         subst (FitsAnswer event.event) (sym a.reply_is) (fitting (run core_next v.terms.opening.value a.before).core event.event)
     fits (Held place back) a = (

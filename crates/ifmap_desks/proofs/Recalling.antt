@@ -3,7 +3,7 @@ use Rattle.std.proofs.Common.{◌≡◌, sym, ap, subst, ◌∙◌, ℕ, ◌+◌
 use Rattle.ifmap_desks.specs.Answers.{Counted, plain}
 use Rattle.ifmap_desks.specs.Calls.{Log}
 use Rattle.ifmap_desks.specs.Machines.{CoreView, core_holds, core_next, core_reply}
-use Rattle.ifmap_desks.specs.Recalls.{AreCalls, IsCall, Recalls}
+use Rattle.ifmap_desks.specs.Recalls.{AreCalls, IsCallOfEntry, Recalls}
 use Rattle.ifmap_desks.specs.declared.answers.Counts.{Counts}
 use Rattle.ifmap_desks.specs.declared.events.FitEvent.{FitEvent}
 use Rattle.ifmap_desks.specs.declared.machine.CoreMachine.{CoreMachine}
@@ -14,8 +14,8 @@ use Rattle.ifmap_machine.specs.declared.events.Answer.{Answer}
 
 module _ (opening : CoreMachine) (log : Log) where
   -- a call stays where the log grows at its end
-  call_later : (more : Log) (place : ℕ) (call : FitEvent × Answer) → IsCall opening log place call
-      → IsCall opening (log ++ more) place call
+  call_later : (more : Log) (place : ℕ) (call : FitEvent × Answer) → IsCallOfEntry opening log place call
+      → IsCallOfEntry opening (log ++ more) place call
   call_later more place call c = record {
     before = c.before;
     number = c.number;
@@ -34,7 +34,7 @@ module _ (opening : CoreMachine) (log : Log) where
       (call_later more place call first, calls_later more mine said others)
 
   -- one more call, at one more place
-  one_more_call : (place : ℕ) (call : FitEvent × Answer) → IsCall opening log place call
+  one_more_call : (place : ℕ) (call : FitEvent × Answer) → IsCallOfEntry opening log place call
       → (mine : List ℕ) (said : List (FitEvent × Answer)) → AreCalls opening log mine said
       → AreCalls opening log (mine ++ place ∷ []) (said ++ call ∷ [])
   one_more_call place call c [] [] a = (c, tt)
@@ -68,7 +68,7 @@ module _ (v w : CoreView) (took : TookATurn v w) where
 
   module _ (number : ℕ) (event : FitEvent) where
     call_said : (place : ℕ) (reply : Answer) → Said core_next core_holds core_reply v w number event place reply
-        → IsCall v.terms.opening.value w.history.log place (event, reply)
+        → IsCallOfEntry v.terms.opening.value w.history.log place (event, reply)
     call_said place reply s = record {
       before = s.before;
       number = number;

@@ -7,7 +7,7 @@ use Rattle.ifmap_machine.specs.Events.{Event}
 use Rattle.ifmap_machine.specs.State.{State}
 use Rattle.ifmap_requests.specs.declared.requests.Request.TheVariants as the_request
 use Rattle.ifmap_search.specs.declared.results.PollItem.{PollItem}
-use Rattle.ifmap_session.specs.Sessions.{Session, is_expired, is_text, session_with_id}
+use Rattle.ifmap_session.specs.Sessions.{Session, is_expired, is_same_text, session_with_id}
 
 -- there is nothing to tell
 abbrev pub is_nothing : List PollItem → Bool
@@ -17,7 +17,7 @@ is_nothing (item ∷ queue) = false
 -- a session that was looked for is the client's, and has nothing to tell
 abbrev pub has_nothing : List ℕ → Option Session → Bool
 has_nothing client None = false
-has_nothing client (Some s) = is_text s.client client && is_nothing s.queue
+has_nothing client (Some s) = is_same_text s.client client && is_nothing s.queue
 
 -- a session is expired at the greater of both moments
 abbrev pub is_any_expired : State → ℕ → Bool

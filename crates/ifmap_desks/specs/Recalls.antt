@@ -8,7 +8,7 @@ use Rattle.ifmap_hall.specs.Sights.{run}
 use Rattle.ifmap_machine.specs.declared.events.Answer.{Answer}
 
 -- the call is that of the entry at this place: its event, and the answer of the machine after the entries before it
-pub record IsCall (opening : CoreMachine) (log : Log) (place : ℕ) (call : FitEvent × Answer) : Type 0 where
+pub record IsCallOfEntry (opening : CoreMachine) (log : Log) (place : ℕ) (call : FitEvent × Answer) : Type 0 where
   pub before : Log
   pub number : ℕ
   pub rest : Log
@@ -21,7 +21,7 @@ abbrev pub AreCalls : CoreMachine → Log → List ℕ → List (FitEvent × Ans
 AreCalls opening log [] [] = Unit {0}
 AreCalls opening log [] (call ∷ said) = ⊥
 AreCalls opening log (place ∷ mine) [] = ⊥
-AreCalls opening log (place ∷ mine) (call ∷ said) = IsCall opening log place call × AreCalls opening log mine said
+AreCalls opening log (place ∷ mine) (call ∷ said) = IsCallOfEntry opening log place call × AreCalls opening log mine said
 
 -- all that the pass said is what the machine answered at the places of its own entries, in the history that it has seen
 abbrev pub Recalls : CoreView → Type 0

@@ -2,7 +2,7 @@
 ghost use Rattle.std.specs.Prelude.{◌≡◌, ◌≤◌, ◌∷◌, [], Some};
 ghost use Rattle.ifmap_desks.specs.Asking.{AnsweredByBook, book_at, book_seen, pass_at};
 ghost use Rattle.ifmap_desks.specs.Machines.{IsCoreBook};
-ghost use Rattle.ifmap_dialogue.specs.Desks.{Tells, heaviest, weight};
+ghost use Rattle.ifmap_dialogue.specs.Desks.{DeskTakesTurns, heaviest, weight};
 
 use crate::answers::{Counts, plain};
 use crate::book_desk::BookDesk;
@@ -68,7 +68,7 @@ impl Desk for BookDesk {
     /// desk's making has gone to the base.
     fn ask(&mut self, event: Event) -> Asked<Event, Answer>
         requires light { weight event ≤ heaviest }
-        ensures tells { Tells (book_seen self.old) (book_seen self.new)
+        ensures tells { DeskTakesTurns (book_seen self.old) (book_seen self.new)
             (record { event = event; asked = result } ∷ []) }
         ensures number { pass_at self.new ≡ pass_at self.old }
         ensures answered { AnsweredByBook (book_at self.old) (book_at self.new)

@@ -4,7 +4,7 @@ ghost use Rattle.ifmap_desks.specs.Agreement.{ClientsAgree, EntriesAgree};
 ghost use Rattle.ifmap_desks.specs.Asking.{AnsweredByHall, number_at, parts_at, pass_seen, view_at};
 ghost use Rattle.ifmap_desks.specs.Machines.{core_next};
 ghost use Rattle.ifmap_desks.specs.Recalls.{Recalls};
-ghost use Rattle.ifmap_dialogue.specs.Desks.{Tells, heaviest, weight};
+ghost use Rattle.ifmap_dialogue.specs.Desks.{DeskTakesTurns, heaviest, weight};
 ghost use Rattle.ifmap_hall.specs.Asking.{TookATurn};
 ghost use Rattle.ifmap_hall.specs.Passes.{IsOf, view_of};
 ghost use Rattle.ifmap_hall.specs.Sights.{CarriesOn};
@@ -70,7 +70,7 @@ impl<'a, R: Wait> Desk for PassDesk<'a, R> {
     /// hall has seen from its opening state on, and the answer is that of the machine after it.
     fn ask(&mut self, event: Event) -> Asked<Event, Answer>
         requires light { weight event ≤ heaviest }
-        ensures tells { Tells (pass_seen self.old) (pass_seen self.new)
+        ensures tells { DeskTakesTurns (pass_seen self.old) (pass_seen self.new)
             (record { event = event; asked = result } ∷ []) }
         ensures number { number_at self.new ≡ number_at self.old }
         ensures parts { parts_at self.new ≡ parts_at self.old }

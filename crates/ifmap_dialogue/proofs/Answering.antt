@@ -19,11 +19,11 @@ use Rattle.ifmap_dialogue.specs.declared.findings.Finding.TheVariants as finding
 use Rattle.ifmap_dialogue.specs.declared.polls.Poll.{Poll}
 use Rattle.ifmap_replies.specs.declared.replies.Reply.{Reply}
 use Rattle.ifmap_dialogue.specs.Answers.{Answers, LosesUnlessDone, end_after, ending_heard, next_after, reply_answer}
-use Rattle.ifmap_dialogue.specs.Desks.{DeskSeen, Tells, Turn, outcome_of}
+use Rattle.ifmap_dialogue.specs.Desks.{DeskSeen, DeskTakesTurns, Turn, outcome_of}
 use Rattle.ifmap_dialogue.specs.Findings.{FindsPost}
 use Rattle.ifmap_dialogue.specs.Scenes.{HasCauses, ServesAnswer, ServesPost, scene}
 use Rattle.ifmap_dialogue.specs.Turns.{AsksLost}
-use Rattle.ifmap_dialogue.specs.Wires.{GainsBytes, IsGivenUp, WireSeen, Writes, bare_answer}
+use Rattle.ifmap_dialogue.specs.Wires.{GainsBytes, IsNoMemoryOutput, WireSeen, WritesAnswer, bare_answer}
 use Rattle.ifmap_dialogue.specs.Telling.{tells_more, tells_none}
 
 -- an ending that tells of no fault
@@ -122,7 +122,7 @@ module _ {H : Type 0} (gives : ℕ → Type 0) (desk : DeskSeen H) (before after
   }
 
   pub replied_answer : (reply : Reply) → found ≡ finding.Replied reply → (the_sent : Sent) (due next : Option Ending) (output : List ℕ)
-      → Writes (reply_answer reply close) the_sent output → GainsBytes before after output → Counts the_sent before after
+      → WritesAnswer (reply_answer reply close) the_sent output → GainsBytes before after output → Counts the_sent before after
       → due ≡ end_after close → next ≡ next_after the_sent due → Serving next
   replied_answer reply is the_sent due next output writes g counts closes follows =
       let ends : next ≡ next_after the_sent (end_after close) = follows ∙ ap (next_after the_sent) closes in
@@ -131,7 +131,7 @@ module _ {H : Type 0} (gives : ℕ → Type 0) (desk : DeskSeen H) (before after
       (refl, (the_sent, writes, ends)))
 
   pub unreadable_answer : found ≡ finding.Unreadable → (the_sent : Sent) (next : Option Ending) (output : List ℕ)
-      → Writes (bare_answer 400) the_sent output → GainsBytes before after output → Counts the_sent before after
+      → WritesAnswer (bare_answer 400) the_sent output → GainsBytes before after output → Counts the_sent before after
       → next ≡ next_after the_sent (Some (ending.Refused 400)) → Serving next
   unreadable_answer is the_sent next output writes g counts ends =
       sends_answer the_sent (Some (ending.Refused 400)) next output g counts (quiet_refused 400) ends
@@ -139,14 +139,14 @@ module _ {H : Type 0} (gives : ℕ → Type 0) (desk : DeskSeen H) (before after
       (refl, (the_sent, writes, ends)))
 
   pub spent_answer : (entries : ℕ) → found ≡ finding.Spent entries → (the_sent : Sent) (next : Option Ending) (output : List ℕ)
-      → Writes (bare_answer 507) the_sent output → GainsBytes before after output → Counts the_sent before after
+      → WritesAnswer (bare_answer 507) the_sent output → GainsBytes before after output → Counts the_sent before after
       → next ≡ next_after the_sent (Some (ending.Spent entries)) → Serving next
   spent_answer entries is the_sent next output writes g counts ends =
       sends_answer the_sent (Some (ending.Spent entries)) next output g counts (quiet_spent entries) ends
       (subst (λ (f : Finding). Answers gives f (record { close = close; turns = []; output = output; next = next })) (sym is)
       (refl, (the_sent, writes, ends)))
 
-  pub wanting_answer : found ≡ finding.NoMemory → (output : List ℕ) → IsGivenUp output → GainsBytes before after output
+  pub wanting_answer : found ≡ finding.NoMemory → (output : List ℕ) → IsNoMemoryOutput output → GainsBytes before after output
       → Serving (Some ending.NoMemory)
   wanting_answer is output given g = record {
     turns = [];
@@ -179,8 +179,8 @@ held_out_answer gives desk wire words found close many is = record {
 -- what a poll is told was answered
 pub told_answer : {H : Type 0} (gives : ℕ → Type 0) (one other : DeskSeen H) (before after : WireSeen) (words : ChaCha) (found : Finding)
     (reply : Reply) (poll : Poll) (close : Bool) (the_sent : Sent) (turns : List Turn) (output : List ℕ) (next : Option Ending)
-    → found ≡ finding.Told reply poll → Writes (reply_answer reply close) the_sent output → GainsBytes before after output
-    → Counts the_sent before after → Tells one other turns → LosesUnlessDone gives poll close the_sent turns next
+    → found ≡ finding.Told reply poll → WritesAnswer (reply_answer reply close) the_sent output → GainsBytes before after output
+    → Counts the_sent before after → DeskTakesTurns one other turns → LosesUnlessDone gives poll close the_sent turns next
     → ServesAnswer gives (scene one before words) (scene other after words) (record { finding = found; close = close; next = next })
 told_answer gives one other before after words found reply poll close the_sent turns output next is writes g counts tells loses = record {
   turns = turns;

@@ -16,17 +16,17 @@ use Rattle.ifmap_dialogue.specs.declared.desks.Outcome.TheVariants as outcome
 use Rattle.ifmap_dialogue.specs.declared.findings.Finding.{Finding}
 use Rattle.ifmap_dialogue.specs.declared.findings.Finding.TheVariants as finding
 use Rattle.ifmap_dialogue.specs.declared.polls.Poll.{Poll}
-use Rattle.ifmap_dialogue.specs.Desks.{DeskSeen, Tells, Turn, heaviest, outcome_of, weight}
-use Rattle.ifmap_dialogue.specs.Findings.{Asking, Finds, FindsPost, FindsQuestion, FindsRequest, Posting, finding_of, posting, refusal}
+use Rattle.ifmap_dialogue.specs.Desks.{DeskSeen, DeskTakesTurns, Turn, heaviest, outcome_of, weight}
+use Rattle.ifmap_dialogue.specs.Findings.{OwnRequest, IsFindingOf, FindsPost, FindsQuestion, FindsRequest, Posting, finding_of, posting, refusal_reply}
 use Rattle.ifmap_dialogue.specs.Scenes.{HasFitPoll}
-use Rattle.ifmap_dialogue.specs.Turns.{IsFirst, Question, event_of, lost_event, question_of}
+use Rattle.ifmap_dialogue.specs.Turns.{IsFirstPoll, Question, event_of_question, lost_event, question_of}
 use Rattle.ifmap_dialogue.specs.Words.{after_random, random_word}
 use Rattle.ifmap_dialogue.specs.Telling.{fits_one, tells_none}
 use Rattle.ifmap_dialogue.proofs.Turning.{Waits, finds_replied, finds_spent, finds_wanting, not_heard, not_held, not_told, waits_first}
 
 module _ {H : Type 0} (gives : ℕ → Type 0) (before after : DeskSeen H) where
   -- what comes of a question comes of the request that asks it
-  pub as_request : (a : Asking) (found : Finding)
+  pub as_request : (a : OwnRequest) (found : Finding)
       → FindsQuestion gives before after
       (record { client = a.client; request = a.request; bytes = a.bytes; random = random_word a.words }) found
       → a.after ≡ after_random a.words → FindsRequest gives before after a found
@@ -38,36 +38,36 @@ module _ {H : Type 0} (gives : ℕ → Type 0) (before after : DeskSeen H) where
   }
 
   -- of a request nothing comes where memory is wanting before it is asked
-  pub none_asked : (a : Asking) → after ≡ before → a.after ≡ a.words → FindsRequest gives before after a finding.NoMemory
+  pub none_asked : (a : OwnRequest) → after ≡ before → a.after ≡ a.words → FindsRequest gives before after a finding.NoMemory
   none_asked a same kept = record {
     turns = [];
-    tells = subst (λ (d : DeskSeen H). Tells before d []) (sym same) (tells_none before);
+    tells = subst (λ (d : DeskSeen H). DeskTakesTurns before d []) (sym same) (tells_none before);
     finds = λ body short means. inl (refl, kept);
   }
 
   -- what comes of a request comes of a post that means it
-  pub as_post : (a : Asking) (body : List ℕ) (found : Finding) → FindsRequest gives before after a found → a.bytes ≡ length body
+  pub as_post : (a : OwnRequest) (body : List ℕ) (found : Finding) → FindsRequest gives before after a found → a.bytes ≡ length body
       → Means body (Ok a.request) → FindsPost gives before after (posting a body) found
   as_post a body found f short means = record { turns = f.turns; tells = f.tells; finds = f.finds body short means }
 
   -- a post for which nothing is asked
-  pub unasked : (p : Posting) (found : Finding) → after ≡ before → Finds gives p [] found → FindsPost gives before after p found
+  pub unasked : (p : Posting) (found : Finding) → after ≡ before → IsFindingOf gives p [] found → FindsPost gives before after p found
   unasked p found same finds = record {
     turns = [];
-    tells = subst (λ (d : DeskSeen H). Tells before d []) (sym same) (tells_none before);
+    tells = subst (λ (d : DeskSeen H). DeskTakesTurns before d []) (sym same) (tells_none before);
     finds = finds;
   }
 
 -- ---- a request that is asked once
 
 module _ {H : Type 0} (gives : ℕ → Type 0) (before after : DeskSeen H) (question : Question) (event : Event)
-    (first : (moment : ℕ) × gives moment × (event ≡ event_of question false moment))
+    (first : (moment : ℕ) × gives moment × (event ≡ event_of_question question false moment))
     (other : (session : List ℕ) → question.request ≢ Polling session) (turn : Turn) (asks : turn.event ≡ event)
-    (tells : Tells before after (turn ∷ [])) where
+    (tells : DeskTakesTurns before after (turn ∷ [])) where
   begun : Waits gives before before question 0 event
   begun = waits_first gives before question event first
 
-  is_ask : turn.event.ask ≡ (event_of question false 0).ask
+  is_ask : turn.event.ask ≡ (event_of_question question false 0).ask
   is_ask = let (moment, given, is) = first in ap (λ (e : Event). e.ask) asks ∙ ap (λ (e : Event). e.ask) is
 
   pub once_replied : (the_reply : Reply) → outcome_of turn.asked ≡ outcome.Replied the_reply
@@ -92,7 +92,7 @@ module _ {H : Type 0} (gives : ℕ → Type 0) (before after : DeskSeen H) (ques
 -- ---- the poll that was told something
 
 -- its session is named by characters, since its body means it
-pub told_fits : FitMeaning → (gives : ℕ → Type 0) (p : Posting) (turns : List Turn) (found : Finding) → Finds gives p turns found
+pub told_fits : FitMeaning → (gives : ℕ → Type 0) (p : Posting) (turns : List Turn) (found : Finding) → IsFindingOf gives p turns found
     → HasFitPoll found
 told_fits fit gives p turns (finding.Told the_reply poll) (puts, ends, told) = fit p.body (Polling poll.session) puts.posed.means
 told_fits fit gives p turns (finding.Replied the_reply) f = tt
@@ -104,7 +104,7 @@ told_fits fit gives p turns finding.NoMemory f = tt
 -- ---- weights
 
 -- an event of a post weighs at most as much as can be asked
-pub light_by : (question : Question) (again : Bool) (moment : ℕ) (event : Event) → event ≡ event_of question again moment
+pub light_by : (question : Question) (again : Bool) (moment : ℕ) (event : Event) → event ≡ event_of_question question again moment
     → question.bytes ≤ longest_post → weight event ≤ heaviest
 light_by question again moment event is short =
     subst (λ (e : Event). weight e ≤ heaviest) (sym is)
@@ -145,17 +145,17 @@ poll_request gives before after client session bytes words now poll found is dra
 pub first_is : (gives : ℕ → Type 0) (client named session copied : List ℕ) (bytes random : ℕ) (event : Event) → named ≡ client
     → copied ≡ session
     → ((moment : ℕ) × gives moment
-    × (event ≡ event_of (record { client = named; request = Polling copied; bytes = bytes; random = random }) false moment))
-    → IsFirst gives (record { client = client; session = session; random = random; bytes = bytes }) event
+    × (event ≡ event_of_question (record { client = named; request = Polling copied; bytes = bytes; random = random }) false moment))
+    → IsFirstPoll gives (record { client = client; session = session; random = random; bytes = bytes }) event
 first_is gives client named session copied bytes random event same_client same_session (moment, given, is) = (
   moment,
   given,
   is
       ∙ ap
-      (λ (c : List ℕ). event_of (record { client = c; request = Polling copied; bytes = bytes; random = random }) false moment) same_client
+      (λ (c : List ℕ). event_of_question (record { client = c; request = Polling copied; bytes = bytes; random = random }) false moment) same_client
       ∙ ap
       (λ (s : List ℕ).
-      event_of (record { client = client; request = Polling s; bytes = bytes; random = random }) false moment) same_session,
+      event_of_question (record { client = client; request = Polling s; bytes = bytes; random = random }) false moment) same_session,
 )
 
 -- ---- posts for which nothing is asked
@@ -163,11 +163,11 @@ first_is gives client named session copied bytes random event same_client same_s
 -- a body that means a code
 pub refused_post : {H : Type 0} (gives : ℕ → Type 0) (desk : DeskSeen H) (p : Posting) (code : Code) (found : Finding)
     → Means p.body (Err (Named code)) → p.after ≡ p.words
-    → (found ≡ finding.Replied (refusal code)) ⊎ (found ≡ finding.NoMemory) → FindsPost gives desk desk p found
+    → (found ≡ finding.Replied (refusal_reply code)) ⊎ (found ≡ finding.NoMemory) → FindsPost gives desk desk p found
 refused_post gives desk p code found means same (inl is) =
-    unasked gives desk desk p found refl (subst (Finds gives p []) (sym is) (inl (code, means, (refl, same), refl)))
+    unasked gives desk desk p found refl (subst (IsFindingOf gives p []) (sym is) (inl (code, means, (refl, same), refl)))
 refused_post gives desk p code found means same (inr is) =
-    unasked gives desk desk p found refl (subst (Finds gives p []) (sym is) (inl (refl, same)))
+    unasked gives desk desk p found refl (subst (IsFindingOf gives p []) (sym is) (inl (refl, same)))
 
 -- a body that is no envelope
 pub unreadable_post : {H : Type 0} (gives : ℕ → Type 0) (desk : DeskSeen H) (p : Posting) → Means p.body (Err Unreadable)

@@ -27,11 +27,11 @@ use Rattle.ifmap_dialogue.specs.declared.polls.Poll.{Poll}
 use Rattle.ifmap_dialogue.specs.declared.desks.Outcome.{Outcome}
 use Rattle.ifmap_dialogue.specs.declared.desks.Outcome.TheVariants as outcome
 use Rattle.ifmap_dialogue.specs.Answers.{Answers, LosesUnlessDone, end_after, ending_heard, next_after}
-use Rattle.ifmap_dialogue.specs.Desks.{DeskSeen, Tells, Turn, outcome_of}
-use Rattle.ifmap_dialogue.specs.Dialogue.{GoesOn, Serves}
-use Rattle.ifmap_dialogue.specs.Rounds.{Follows, IsRound, Round, Standing, is_last, most_posts}
+use Rattle.ifmap_dialogue.specs.Desks.{DeskSeen, DeskTakesTurns, Turn, outcome_of}
+use Rattle.ifmap_dialogue.specs.Dialogue.{AreRoundsInOrder, Serves}
+use Rattle.ifmap_dialogue.specs.Rounds.{AnswersGot, IsRound, Round, WireAndWords, is_last_post, most_posts}
 use Rattle.ifmap_dialogue.specs.Scenes.{HasCauses, Scene, ServesPost, ServesRound, scene, wire_standing}
-use Rattle.ifmap_dialogue.specs.Wires.{GainsBytes, IsGivenUp, WireSeen, Writes, bare_answer, wire_seen}
+use Rattle.ifmap_dialogue.specs.Wires.{GainsBytes, IsNoMemoryOutput, WireSeen, WritesAnswer, bare_answer, wire_seen}
 use Rattle.ifmap_dialogue.proofs.Answering.{Counts, IsQuiet, causes_after, causes_quiet, quiet_closing, quiet_refused, quiet_spent, quiet_wanting}
 use Rattle.ifmap_dialogue.specs.Telling.{tells_more, tells_none}
 
@@ -65,7 +65,7 @@ module _ (before mid after : WireSeen) (r : HasRead before mid) where
 pub round_posted : {H : Type 0} (gives : ℕ → Type 0) (number : ℕ) (a b : DeskSeen H) (before mid after : WireSeen) (words now : ChaCha)
     (post last : Post) (next : Option Ending)
     → HasRead before mid → IfSome before.left (λ left. GetsPost left mid.left (got.Posted post))
-    → last ≡ record post { close = is_last number post.close }
+    → last ≡ record post { close = is_last_post number post.close }
     → ServesPost gives (scene a mid words) (scene b after now) last next → next ≢ Some ending.ReadFault
     → ServesRound gives number (scene a before words) (scene b after now) next
 round_posted gives number a b before mid after words now post last next r reads same served quiet =
@@ -95,7 +95,7 @@ module _ {H : Type 0} (gives : ℕ → Type 0) (number : ℕ) (desk : DeskSeen H
     (r : HasRead before mid) where
   -- the post had a status, which was answered
   pub round_refused : (status : ℕ) (the_sent : Sent) (next : Option Ending) (output : List ℕ)
-      → IfSome before.left (λ left. GetsPost left mid.left (got.Status status)) → Writes (bare_answer status) the_sent output
+      → IfSome before.left (λ left. GetsPost left mid.left (got.Status status)) → WritesAnswer (bare_answer status) the_sent output
       → GainsBytes mid after output → Counts the_sent mid after → next ≡ next_after the_sent (Some (ending.Refused status))
       → ServesRound gives number (scene desk before words) (scene desk after words) next
   round_refused status the_sent next output reads writes g counts is = record {
@@ -118,7 +118,7 @@ module _ {H : Type 0} (gives : ℕ → Type 0) (number : ℕ) (desk : DeskSeen H
     unread sent.NoMemory = λ e. cc
 
   -- memory was wanting for reading it, and that was answered
-  pub round_wanting : (output : List ℕ) → IfSome before.left (λ left. GetsPost left mid.left got.NoMemory) → IsGivenUp output
+  pub round_wanting : (output : List ℕ) → IfSome before.left (λ left. GetsPost left mid.left got.NoMemory) → IsNoMemoryOutput output
       → GainsBytes mid after output → ServesRound gives number (scene desk before words) (scene desk after words) (Some ending.NoMemory)
   round_wanting output reads given g = record {
     turns = [];
@@ -148,7 +148,7 @@ module _ {H : Type 0} (gives : ℕ → Type 0) (number : ℕ) (desk : DeskSeen H
 
   -- the connection ends with what was read, and nothing is asked or answered
   round_over : (the_got : Got) (end : Ending) → IfSome before.left (λ left. GetsPost left after.left the_got)
-      → Follows gives number (record {
+      → AnswersGot gives number (record {
         before = wire_standing before words;
         after = wire_standing after words;
         turns = [];
@@ -216,13 +216,13 @@ stays_open gives finding.NoMemory close turns output (none, given, is) = cc
 are_same : (one other : ℕ) → one ≡ other → (one == other) ≡ true
 are_same one other same = grind (arith, nat_tests)
 
-number_not : (number : ℕ) (close : Bool) → is_last number close ≡ false → number ≢ most_posts
+number_not : (number : ℕ) (close : Bool) → is_last_post number close ≡ false → number ≢ most_posts
 number_not number false e = λ same. let last = are_same number most_posts same in let two = sym e ∙ last in cc
 number_not number true e = λ same. cc
 
 -- a post that was answered and after which the connection goes on is not the last one
 pub goes_on_by : {H : Type 0} (gives : ℕ → Type 0) (number : ℕ) (a b : Scene H) (post last : Post) (next : Option Ending)
-    → last ≡ record post { close = is_last number post.close } → ServesPost gives a b last next → next ≡ None
+    → last ≡ record post { close = is_last_post number post.close } → ServesPost gives a b last next → next ≡ None
     → (number ≢ most_posts) × (b.wire.spent ≡ a.wire.spent)
 goes_on_by gives number a b post last next same s is =
     let x = s.answers in
@@ -272,9 +272,9 @@ post_not gives a b post next s = answers_not gives s.answers.finding post.close 
 
 -- ---- round after round
 
-goes_one_more : (gives : ℕ → Type 0) (number here : ℕ) (first : Standing) (rounds : List Round) (r : Round)
-    → GoesOn gives number first rounds r.before → here ≡ number + length rounds → IsRound gives here r → r.next ≡ None
-    → GoesOn gives number first (rounds ++ r ∷ []) r.after
+goes_one_more : (gives : ℕ → Type 0) (number here : ℕ) (first : WireAndWords) (rounds : List Round) (r : Round)
+    → AreRoundsInOrder gives number first rounds r.before → here ≡ number + length rounds → IsRound gives here r → r.next ≡ None
+    → AreRoundsInOrder gives number first (rounds ++ r ∷ []) r.after
 goes_one_more gives number here first [] r same at is next =
     let there : here ≡ number = omega (arith, at) in
     (same, subst (λ (n : ℕ). IsRound gives n r) there is, next, refl)
@@ -285,9 +285,9 @@ goes_one_more gives number here first (x ∷ rounds) r (begins, before, on, rest
 -- the connection is about to be served with the round of this number
 pub record Connects {H : Type 0} (gives : ℕ → Type 0) (before now : Scene H) (number : ℕ) : Type 0 where
   pub rounds : List Round
-  pub tells : Tells before.desk now.desk (flat_map (λ (r : Round). r.turns) rounds)
+  pub tells : DeskTakesTurns before.desk now.desk (flat_map (λ (r : Round). r.turns) rounds)
   pub gains : Appends before.wire.held now.wire.held (flat_map (λ (r : Round). r.output) rounds)
-  pub goes_on : GoesOn gives 1 (wire_standing before.wire before.words) rounds (wire_standing now.wire now.words)
+  pub goes_on : AreRoundsInOrder gives 1 (wire_standing before.wire before.words) rounds (wire_standing now.wire now.words)
   pub count : number ≡ 1 + length rounds
   pub few : number ≤ most_posts
   pub fresh : IsFalse now.wire.spent
@@ -338,9 +338,9 @@ module _ {H : Type 0} (gives : ℕ → Type 0) (before now after : Scene H) (num
       flat_map-append (λ (x : Round). x.output) w.rounds (this ∷ [])
       ∙ ap (λ l. flat_map (λ (x : Round). x.output) w.rounds ++ l) (one_output this)
 
-  tells_all : Tells before.desk after.desk (flat_map (λ (x : Round). x.turns) (w.rounds ++ this ∷ []))
+  tells_all : DeskTakesTurns before.desk after.desk (flat_map (λ (x : Round). x.turns) (w.rounds ++ this ∷ []))
   tells_all =
-      subst (Tells before.desk after.desk) (sym all_turns)
+      subst (DeskTakesTurns before.desk after.desk) (sym all_turns)
       (tells_more before.desk now.desk after.desk (flat_map (λ (x : Round). x.turns) w.rounds) s.turns w.tells s.tells)
 
   gains_all : Appends before.wire.held after.wire.held (flat_map (λ (x : Round). x.output) (w.rounds ++ this ∷ []))

@@ -21,15 +21,15 @@ use Rattle.ifmap_dialogue.specs.declared.desks.Outcome.TheVariants as outcome
 use Rattle.ifmap_dialogue.specs.declared.findings.Finding.{Finding}
 use Rattle.ifmap_dialogue.specs.declared.findings.Finding.TheVariants as finding
 use Rattle.ifmap_dialogue.specs.declared.polls.Poll.{Poll}
-use Rattle.ifmap_dialogue.specs.Desks.{DeskSeen, Fits, Tells, Turn, outcome_of}
+use Rattle.ifmap_dialogue.specs.Desks.{DeskSeen, FitsAsked, DeskTakesTurns, Turn, outcome_of}
 use Rattle.ifmap_dialogue.specs.Findings.{FindsQuestion, IsNotPolled, finding_of}
-use Rattle.ifmap_dialogue.specs.Turns.{AllAsk, Asks, EndsIn, IsHeld, Question, event_of, most_turns, question_of}
+use Rattle.ifmap_dialogue.specs.Turns.{AllAsk, AsksByTurn, EndsIn, IsHeldTurn, Question, event_of_question, most_turns, question_of}
 use Rattle.ifmap_dialogue.specs.Telling.{tells_more, tells_none}
 
 -- ---- what an answer is for
 
 -- `Heard` answers no request
-pub not_heard : (event : Event) (request : Request) (the_asked : Asked Event Answer) → event.ask ≡ Asking request → Fits event the_asked
+pub not_heard : (event : Event) (request : Request) (the_asked : Asked Event Answer) → event.ask ≡ Asking request → FitsAsked event the_asked
     → outcome_of the_asked ≢ outcome.Heard
 not_heard event request (asked.Done place (answer.Reply r)) is fits e = cc
 not_heard event request (asked.Done place answer.Held) is fits e = cc
@@ -43,7 +43,7 @@ same_request one other e = cc
 
 -- a request that is no poll is not held
 pub not_held : (event : Event) (request : Request) (the_asked : Asked Event Answer) → event.ask ≡ Asking request
-    → ((session : List ℕ) → request ≢ Polling session) → Fits event the_asked → outcome_of the_asked ≢ outcome.Held
+    → ((session : List ℕ) → request ≢ Polling session) → FitsAsked event the_asked → outcome_of the_asked ≢ outcome.Held
 not_held event request (asked.Done place (answer.Reply r)) is other fits e = cc
 not_held event request (asked.Done place answer.Held) is other (session, poll) e =
     other session (same_request request (Polling session) (sym is ∙ poll))
@@ -58,7 +58,7 @@ same_reply one other e = cc
 
 -- a request that is no poll is not told what a poll is
 pub not_told : (event : Event) (request : Request) (the_asked : Asked Event Answer) (the_reply : Reply) → event.ask ≡ Asking request
-    → ((session : List ℕ) → request ≢ Polling session) → Fits event the_asked → outcome_of the_asked ≡ outcome.Replied the_reply
+    → ((session : List ℕ) → request ≢ Polling session) → FitsAsked event the_asked → outcome_of the_asked ≡ outcome.Replied the_reply
     → IsNotPolled the_reply
 not_told event request (asked.Done place (answer.Reply (reply.Polled items))) the_reply is other (session, poll) e =
     λ others told. other session (same_request request (Polling session) (sym is ∙ poll))
@@ -93,22 +93,22 @@ is_again (turn ∷ turns) = true
 
 -- the event is the one by which the question is due to be asked
 abbrev pub IsDue : (ℕ → Type 0) → Question → List Turn → Event → Type 0
-IsDue gives question turns event = (moment : ℕ) × gives moment × (event ≡ event_of question (is_again turns) moment)
+IsDue gives question turns event = (moment : ℕ) × gives moment × (event ≡ event_of_question question (is_again turns) moment)
 
 -- a question was asked so many times, and held each time; it is due to be asked by that event
 pub record Waits {H : Type 0} (gives : ℕ → Type 0) (before now : DeskSeen H) (question : Question) (many : ℕ) (event : Event) : Type 0 where
   pub turns : List Turn
-  pub tells : Tells before now turns
+  pub tells : DeskTakesTurns before now turns
   pub many_are : length turns ≡ many
   pub few : many < most_turns
-  pub held : All IsHeld turns
+  pub held : All IsHeldTurn turns
   pub asked : AllAsk gives question turns
   pub due : IsDue gives question turns event
 
 asked_more : (gives : ℕ → Type 0) (question : Question) (turns : List Turn) (turn : Turn) → AllAsk gives question turns
-    → Asks gives question (is_again turns) turn → AllAsk gives question (turns ++ turn ∷ [])
-asked_more gives question [] turn asked asks = (asks, All-nil (Asks gives question true))
-asked_more gives question (t ∷ ts) turn (first, others) asks = (first, All-push (Asks gives question true) ts turn others asks)
+    → AsksByTurn gives question (is_again turns) turn → AllAsk gives question (turns ++ turn ∷ [])
+asked_more gives question [] turn asked asks = (asks, All-nil (AsksByTurn gives question true))
+asked_more gives question (t ∷ ts) turn (first, others) asks = (first, All-push (AsksByTurn gives question true) ts turn others asks)
 
 again_after : (turns : List Turn) (turn : Turn) → is_again (turns ++ turn ∷ []) ≡ true
 again_after [] turn = refl
@@ -116,20 +116,20 @@ again_after (t ∷ ts) turn = refl
 
 -- the wait begins
 pub waits_first : {H : Type 0} (gives : ℕ → Type 0) (desk : DeskSeen H) (question : Question) (event : Event)
-    → ((moment : ℕ) × gives moment × (event ≡ event_of question false moment)) → Waits gives desk desk question 0 event
+    → ((moment : ℕ) × gives moment × (event ≡ event_of_question question false moment)) → Waits gives desk desk question 0 event
 waits_first gives desk question event first = record {
   turns = [];
   tells = tells_none desk;
   many_are = refl;
   few = omega arith;
-  held = All-nil IsHeld;
+  held = All-nil IsHeldTurn;
   asked = tt;
   due = first;
 }
 
 module _ {H : Type 0} (gives : ℕ → Type 0) (before now after : DeskSeen H) (question : Question) (many : ℕ) (event : Event)
-    (w : Waits gives before now question many event) (turn : Turn) (asks : turn.event ≡ event) (tells : Tells now after (turn ∷ [])) where
-  pub tells_now : Tells before after (w.turns ++ turn ∷ [])
+    (w : Waits gives before now question many event) (turn : Turn) (asks : turn.event ≡ event) (tells : DeskTakesTurns now after (turn ∷ [])) where
+  pub tells_now : DeskTakesTurns before after (w.turns ++ turn ∷ [])
   tells_now = tells_more before now after w.turns (turn ∷ []) w.tells tells
 
   pub asked_now : AllAsk gives question (w.turns ++ turn ∷ [])
@@ -140,15 +140,15 @@ module _ {H : Type 0} (gives : ℕ → Type 0) (before now after : DeskSeen H) (
 
   -- the turn was held, and the question is due once more
   pub waits_more : (next : Event) → outcome_of turn.asked ≡ outcome.Held → many + 1 < most_turns
-      → ((moment : ℕ) × gives moment × (next ≡ event_of question true moment)) → Waits gives before after question (many + 1) next
+      → ((moment : ℕ) × gives moment × (next ≡ event_of_question question true moment)) → Waits gives before after question (many + 1) next
   waits_more next is few (moment, given, same) = record {
     turns = w.turns ++ turn ∷ [];
     tells = tells_now;
     many_are = count_now;
     few = few;
-    held = All-push IsHeld w.turns turn w.held is;
+    held = All-push IsHeldTurn w.turns turn w.held is;
     asked = asked_now;
-    due = (moment, given, subst (λ (again : Bool). next ≡ event_of question again moment) (sym (again_after w.turns turn)) same);
+    due = (moment, given, subst (λ (again : Bool). next ≡ event_of_question question again moment) (sym (again_after w.turns turn)) same);
   }
 
   -- the turn was not held
@@ -185,7 +185,7 @@ module _ {H : Type 0} (gives : ℕ → Type 0) (before now after : DeskSeen H) (
     finds = λ p posed. inr (
       question,
       record { posed = posed; asked = asked_now },
-      inl (All-push IsHeld w.turns turn w.held is, subst (λ (n : ℕ). n < most_turns) (sym count_now) few),
+      inl (All-push IsHeldTurn w.turns turn w.held is, subst (λ (n : ℕ). n < most_turns) (sym count_now) few),
     );
   }
 
@@ -195,7 +195,7 @@ module _ {H : Type 0} (gives : ℕ → Type 0) (before now after : DeskSeen H) (
     turns = w.turns ++ turn ∷ [];
     tells = tells_now;
     finds = λ p posed.
-        (question, record { posed = posed; asked = asked_now }, All-push IsHeld w.turns turn w.held is, count_now ∙ all, all);
+        (question, record { posed = posed; asked = asked_now }, All-push IsHeldTurn w.turns turn w.held is, count_now ∙ all, all);
   }
 
   pub finds_replied : (the_reply : Reply) → outcome_of turn.asked ≡ outcome.Replied the_reply → IsNotPolled the_reply
@@ -210,7 +210,7 @@ module _ {H : Type 0} (gives : ℕ → Type 0) (before now after : DeskSeen H) (
 -- a poll was answered
 module _ {H : Type 0} (gives : ℕ → Type 0) (before now after : DeskSeen H) (poll : Poll) (many : ℕ) (event : Event)
     (w : Waits gives before now (question_of poll) many event) (turn : Turn) (asks : turn.event ≡ event)
-    (tells : Tells now after (turn ∷ [])) where
+    (tells : DeskTakesTurns now after (turn ∷ [])) where
   plain : (the_reply : Reply) → outcome_of turn.asked ≡ outcome.Replied the_reply → IsNotPolled the_reply
       → FindsQuestion gives before after (question_of poll) (finding.Replied the_reply)
   plain = finds_replied gives before now after (question_of poll) many event w turn asks tells

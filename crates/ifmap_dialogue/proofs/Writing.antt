@@ -13,7 +13,7 @@ use Rattle.ifmap_io.specs.Links.{Side}
 use Rattle.ifmap_replies.specs.Results.{reply_bytes}
 use Rattle.ifmap_replies.specs.declared.replies.Reply.{Reply}
 use Rattle.ifmap_dialogue.specs.Answers.{reply_answer}
-use Rattle.ifmap_dialogue.specs.Wires.{GainsBytes, IsGivenUp, WireSeen, Writes, WritesOnce, bare_answer, wire_seen}
+use Rattle.ifmap_dialogue.specs.Wires.{GainsBytes, IsNoMemoryOutput, WireSeen, WritesAnswer, WritesOnce, bare_answer, wire_seen}
 use Rattle.ifmap_io.specs.Rises.{keeps_appends}
 
 -- what was written of a message
@@ -63,7 +63,7 @@ gains_more a b c first then p q = record {
 }
 
 -- want of memory was answered as far as could be
-pub given_up : (the_sent : Sent) (output : List ℕ) → WritesOnce (bare_answer 503) the_sent output → IsGivenUp output
+pub given_up : (the_sent : Sent) (output : List ℕ) → WritesOnce (bare_answer 503) the_sent output → IsNoMemoryOutput output
 given_up sent.Done output is = (length (bare_answer 503), is ∙ sym (take-length (bare_answer 503)))
 given_up sent.WriteFault output is = is
 given_up sent.NoMemory output is = (0, is)
@@ -74,7 +74,7 @@ gave_up a b c none output is first then = gains_more a b c [] output (subst (Gai
 
 -- a reply was written as its bytes
 pub writes_reply : (reply : Reply) (close : Bool) (body : List ℕ) (the_sent : Sent) (before after : WireSeen) → body ≡ reply_bytes reply
-    → ((output : List ℕ) × Writes (answer_bytes 200 body close) the_sent output × GainsBytes before after output)
-    → (output : List ℕ) × Writes (reply_answer reply close) the_sent output × GainsBytes before after output
+    → ((output : List ℕ) × WritesAnswer (answer_bytes 200 body close) the_sent output × GainsBytes before after output)
+    → (output : List ℕ) × WritesAnswer (reply_answer reply close) the_sent output × GainsBytes before after output
 writes_reply reply close body the_sent before after is (output, writes, gained) =
-    (output, subst (λ (b : List ℕ). Writes (answer_bytes 200 b close) the_sent output) is writes, gained)
+    (output, subst (λ (b : List ℕ). WritesAnswer (answer_bytes 200 b close) the_sent output) is writes, gained)

@@ -16,7 +16,7 @@ use Rattle.ifmap_dialogue.specs.declared.sending.Then.{Then}
 use Rattle.ifmap_dialogue.specs.declared.sending.Then.TheVariants as then
 use Rattle.ifmap_dialogue.specs.Desks.{Turn, outcome_of}
 use Rattle.ifmap_dialogue.specs.Turns.{AsksLost}
-use Rattle.ifmap_dialogue.specs.Wires.{IsGivenUp, Writes, bare_answer}
+use Rattle.ifmap_dialogue.specs.Wires.{IsNoMemoryOutput, WritesAnswer, bare_answer}
 
 -- the connection is closed after an answer
 abbrev pub closes : Then → Bool
@@ -36,7 +36,7 @@ next_after sent.NoMemory due = Some ending.NoMemory
 
 -- this is answered, and what is due comes where all of it was written
 abbrev pub Delivers : List ℕ → Option Ending → List ℕ → Option Ending → Type 0
-Delivers answer due output next = (sent : Sent) × Writes answer sent output × (next ≡ next_after sent due)
+Delivers answer due output next = (sent : Sent) × WritesAnswer answer sent output × (next ≡ next_after sent due)
 
 -- the answer with a reply
 abbrev pub reply_answer : Reply → Bool → List ℕ
@@ -73,8 +73,8 @@ pub record Answering : Type 0 where
 abbrev pub Answers : (ℕ → Type 0) → Finding → Answering → Type 0
 Answers gives (finding.Replied reply) a = (a.turns ≡ []) × Delivers (reply_answer reply a.close) (end_after a.close) a.output a.next
 Answers gives (finding.Told reply poll) a =
-    (sent : Sent) × Writes (reply_answer reply a.close) sent a.output × LosesUnlessDone gives poll a.close sent a.turns a.next
+    (sent : Sent) × WritesAnswer (reply_answer reply a.close) sent a.output × LosesUnlessDone gives poll a.close sent a.turns a.next
 Answers gives finding.Unreadable a = (a.turns ≡ []) × Delivers (bare_answer 400) (Some (ending.Refused 400)) a.output a.next
 Answers gives (finding.HeldOut many) a = (a.turns ≡ []) × (a.output ≡ []) × (a.next ≡ Some (ending.HeldOut many))
 Answers gives (finding.Spent entries) a = (a.turns ≡ []) × Delivers (bare_answer 507) (Some (ending.Spent entries)) a.output a.next
-Answers gives finding.NoMemory a = (a.turns ≡ []) × IsGivenUp a.output × (a.next ≡ Some ending.NoMemory)
+Answers gives finding.NoMemory a = (a.turns ≡ []) × IsNoMemoryOutput a.output × (a.next ≡ Some ending.NoMemory)

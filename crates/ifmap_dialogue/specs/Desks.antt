@@ -73,8 +73,8 @@ abbrev pub IsPoll : Event → Type 0
 IsPoll event = (session : List ℕ) × (event.ask ≡ Request (Poll session))
 
 -- the event is a request
-abbrev pub IsAsked : Event → Type 0
-IsAsked event = (request : TheRequest) × (event.ask ≡ Request request)
+abbrev pub IsRequestEvent : Event → Type 0
+IsRequestEvent event = (request : TheRequest) × (event.ask ≡ Request request)
 
 -- the event tells that an answer was lost
 abbrev pub IsLost : Event → Type 0
@@ -83,7 +83,7 @@ IsLost event = (session : List ℕ) × (event.ask ≡ Lost session)
 -- what a poll is told is told to a poll alone
 abbrev pub FitsReply : Event → Reply → Type 0
 FitsReply event (reply.Polled items) = IsPoll event
-FitsReply event _ = IsAsked event
+FitsReply event _ = IsRequestEvent event
 
 -- what is held is a poll, and `Heard` answers a lost answer and nothing else
 abbrev pub FitsAnswer : Event → Answer → Type 0
@@ -92,11 +92,11 @@ FitsAnswer event answer.Held = IsPoll event
 FitsAnswer event answer.Heard = IsLost event
 
 -- the answer is one that the event can have, and every answer but `Done` hands the event back
-abbrev pub Fits : Event → Asked Event Answer → Type 0
-Fits event (asked.Done place answer) = FitsAnswer event answer
-Fits event (asked.Held place back) = IsPoll event × (back ≡ event)
-Fits event (asked.Spent entries back) = back ≡ event
-Fits event (asked.NoMemory back) = back ≡ event
+abbrev pub FitsAsked : Event → Asked Event Answer → Type 0
+FitsAsked event (asked.Done place answer) = FitsAnswer event answer
+FitsAsked event (asked.Held place back) = IsPoll event × (back ≡ event)
+FitsAsked event (asked.Spent entries back) = back ≡ event
+FitsAsked event (asked.NoMemory back) = back ≡ event
 
 -- a desk as contracts see it: the calls that were done there, where it tells them; how many turns it took, where it counts them; how
 -- many of its answers were `Held`, and how many `Spent`; and, which no call changes, what it stands in and what it borrows
@@ -122,16 +122,16 @@ abbrev pub CountsOn : Option ℕ → Option ℕ → ℕ → Type 0
 CountsOn before after more = IfSome after (λ all. (former : ℕ) × (before ≡ Some former) × (all ≡ former + more))
 
 -- a count rose by so many, or stands at its last value
-pub record Rises (many before after : ℕ) : Type 0 where
+pub record CountRises (many before after : ℕ) : Type 0 where
   pub least : min (before + many) (2 ^ 64 - 1) ≤ after
   pub most : after ≤ before + many
 
 -- what these turns leave at a desk: each of them is one turn that it took
-pub record Tells {H : Type 0} (before after : DeskSeen H) (turns : List Turn) : Type 0 where
+pub record DeskTakesTurns {H : Type 0} (before after : DeskSeen H) (turns : List Turn) : Type 0 where
   pub said : Gains before.said after.said (calls turns)
   pub count : CountsOn before.turns after.turns (length turns)
-  pub held : Rises (count_by is_held_back turns) before.held after.held
-  pub spent : Rises (count_by is_spent turns) before.spent after.spent
+  pub held : CountRises (count_by is_held_back turns) before.held after.held
+  pub spent : CountRises (count_by is_spent turns) before.spent after.spent
   pub home : after.home ≡ before.home
   pub loan : after.loan ≡ before.loan
-  pub fit : All (λ turn. Fits turn.event turn.asked) turns
+  pub fit : All (λ turn. FitsAsked turn.event turn.asked) turns

@@ -10,12 +10,12 @@ use Rattle.ifmap_dialogue.specs.declared.endings.Ending.TheVariants as ending
 use Rattle.ifmap_dialogue.specs.declared.findings.Finding.{Finding}
 use Rattle.ifmap_dialogue.specs.declared.findings.Finding.TheVariants as finding
 use Rattle.ifmap_dialogue.specs.Answers.{Answers}
-use Rattle.ifmap_dialogue.specs.Desks.{DeskSeen, Tells, Turn}
-use Rattle.ifmap_dialogue.specs.Rounds.{AnswersPost, IsRound, Standing}
+use Rattle.ifmap_dialogue.specs.Desks.{DeskSeen, DeskTakesTurns, Turn}
+use Rattle.ifmap_dialogue.specs.Rounds.{AnswersPost, IsRound, WireAndWords}
 use Rattle.ifmap_dialogue.specs.Wires.{GainsBytes, WireSeen}
 
 -- where a dialogue over a wire stands
-abbrev pub wire_standing : WireSeen → ChaCha → Standing
+abbrev pub wire_standing : WireSeen → ChaCha → WireAndWords
 wire_standing wire words = record { left = wire.left; words = words }
 
 -- faults are counted where they are told of
@@ -49,7 +49,7 @@ pub record Answered : Type 0 where
 pub record ServesAnswer {H : Type 0} (gives : ℕ → Type 0) (before after : Scene H) (a : Answered) : Type 0 where
   pub turns : List Turn
   pub output : List ℕ
-  pub tells : Tells before.desk after.desk turns
+  pub tells : DeskTakesTurns before.desk after.desk turns
   pub gains : GainsBytes before.wire after.wire output
   pub causes : HasCauses before.wire after.wire a.next
   pub words : after.words ≡ before.words
@@ -59,7 +59,7 @@ pub record ServesAnswer {H : Type 0} (gives : ℕ → Type 0) (before after : Sc
 pub record ServesPost {H : Type 0} (gives : ℕ → Type 0) (before after : Scene H) (post : Post) (next : Option Ending) : Type 0 where
   pub turns : List Turn
   pub output : List ℕ
-  pub tells : Tells before.desk after.desk turns
+  pub tells : DeskTakesTurns before.desk after.desk turns
   pub gains : GainsBytes before.wire after.wire output
   pub causes : HasCauses before.wire after.wire next
   pub answers : AnswersPost gives post.client post.body post.close (record {
@@ -74,7 +74,7 @@ pub record ServesPost {H : Type 0} (gives : ℕ → Type 0) (before after : Scen
 pub record ServesRound {H : Type 0} (gives : ℕ → Type 0) (number : ℕ) (before after : Scene H) (next : Option Ending) : Type 0 where
   pub turns : List Turn
   pub output : List ℕ
-  pub tells : Tells before.desk after.desk turns
+  pub tells : DeskTakesTurns before.desk after.desk turns
   pub gains : Appends before.wire.held after.wire.held output
   pub causes : HasCauses before.wire after.wire next
   pub round : IsRound gives number (record {

@@ -4,12 +4,12 @@ use Rattle.std.specs.Prelude.{Option, Bool, cond, count_by}
 use Rattle.std.proofs.lemmas.Grind.{flat_map-append}
 use Rattle.std.proofs.lemmas.List.Elements.{All-append, All-head, All-nil}
 use Rattle.std.proofs.lemmas.List.Sums.{sum_by-append}
-use Rattle.ifmap_dialogue.specs.Desks.{Call, CountsOn, DeskSeen, Fits, Gains, Rises, Tells, Turn, call_of, calls, is_held_back, is_spent}
+use Rattle.ifmap_dialogue.specs.Desks.{Call, CountsOn, DeskSeen, FitsAsked, Gains, CountRises, DeskTakesTurns, Turn, call_of, calls, is_held_back, is_spent}
 
-rises_none : (n : ℕ) → Rises 0 n n
+rises_none : (n : ℕ) → CountRises 0 n n
 rises_none n = record { least = omega arith; most = omega arith }
 
-rises_more : (m n a b c : ℕ) → Rises m a b → Rises n b c → Rises (m + n) a c
+rises_more : (m n a b c : ℕ) → CountRises m a b → CountRises n b c → CountRises (m + n) a c
 rises_more m n a b c p q = record {
   least = omega (arith, p.least, p.most, q.least, q.most);
   most = omega (arith, p.most, q.most);
@@ -39,7 +39,7 @@ count_more : (p : Turn → Bool) (first then : List Turn) → count_by p (first 
 count_more p first then = sum_by-append (λ (t : Turn). cond (p t) 1 0) first then
 
 -- no turn leaves nothing
-pub tells_none : {H : Type 0} (desk : DeskSeen H) → Tells desk desk []
+pub tells_none : {H : Type 0} (desk : DeskSeen H) → DeskTakesTurns desk desk []
 tells_none desk = record {
   said = gains_none desk.said;
   count = counts_on_none desk.turns;
@@ -47,26 +47,26 @@ tells_none desk = record {
   spent = rises_none desk.spent;
   home = refl;
   loan = refl;
-  fit = All-nil (λ (t : Turn). Fits t.event t.asked);
+  fit = All-nil (λ (t : Turn). FitsAsked t.event t.asked);
 }
 
 -- turns after turns
-pub tells_more : {H : Type 0} (a b c : DeskSeen H) (first then : List Turn) → Tells a b first → Tells b c then → Tells a c (first ++ then)
+pub tells_more : {H : Type 0} (a b c : DeskSeen H) (first then : List Turn) → DeskTakesTurns a b first → DeskTakesTurns b c then → DeskTakesTurns a c (first ++ then)
 tells_more a b c first then p q = record {
   said = subst (λ (l : List Call). Gains a.said c.said l)
       (sym (flat_map-append (λ (turn : Turn). call_of turn.event turn.asked) first then))
       (gains_more a.said b.said c.said (calls first) (calls then) p.said q.said);
   count = subst (λ (n : ℕ). CountsOn a.turns c.turns n) (sym (length-append first then))
       (counts_on_more (length first) (length then) a.turns b.turns c.turns p.count q.count);
-  held = subst (λ (n : ℕ). Rises n a.held c.held) (sym (count_more is_held_back first then))
+  held = subst (λ (n : ℕ). CountRises n a.held c.held) (sym (count_more is_held_back first then))
       (rises_more (count_by is_held_back first) (count_by is_held_back then) a.held b.held c.held p.held q.held);
-  spent = subst (λ (n : ℕ). Rises n a.spent c.spent) (sym (count_more is_spent first then))
+  spent = subst (λ (n : ℕ). CountRises n a.spent c.spent) (sym (count_more is_spent first then))
       (rises_more (count_by is_spent first) (count_by is_spent then) a.spent b.spent c.spent p.spent q.spent);
   home = q.home ∙ p.home;
   loan = q.loan ∙ p.loan;
-  fit = All-append (λ (t : Turn). Fits t.event t.asked) first then p.fit q.fit;
+  fit = All-append (λ (t : Turn). FitsAsked t.event t.asked) first then p.fit q.fit;
 }
 
 -- the one turn is answered as its event can be
-pub fits_one : {H : Type 0} (a b : DeskSeen H) (turn : Turn) → Tells a b (turn ∷ []) → Fits turn.event turn.asked
-fits_one a b turn p = All-head (λ (t : Turn). Fits t.event t.asked) turn [] p.fit
+pub fits_one : {H : Type 0} (a b : DeskSeen H) (turn : Turn) → DeskTakesTurns a b (turn ∷ []) → FitsAsked turn.event turn.asked
+fits_one a b turn p = All-head (λ (t : Turn). FitsAsked t.event t.asked) turn [] p.fit

@@ -21,8 +21,8 @@ pub record Question : Type 0 where
   pub random : ℕ
 
 -- the event by which it is asked at a moment: `again` is set where it was asked before
-abbrev pub event_of : Question → Bool → ℕ → Event
-event_of question again moment = record {
+abbrev pub event_of_question : Question → Bool → ℕ → Event
+event_of_question question again moment = record {
   moment = moment;
   client = question.client;
   random = question.random;
@@ -32,24 +32,24 @@ event_of question again moment = record {
 }
 
 -- the turn asks it at a moment that the clock can give
-abbrev pub Asks : (ℕ → Type 0) → Question → Bool → Turn → Type 0
-Asks gives question again turn = (moment : ℕ) × gives moment × (turn.event ≡ event_of question again moment)
+abbrev pub AsksByTurn : (ℕ → Type 0) → Question → Bool → Turn → Type 0
+AsksByTurn gives question again turn = (moment : ℕ) × gives moment × (turn.event ≡ event_of_question question again moment)
 
 -- the first turn asks it, and each other turn asks it again
 abbrev pub AllAsk : (ℕ → Type 0) → Question → List Turn → Type 0
 AllAsk gives question [] = Unit {0}
-AllAsk gives question (turn ∷ turns) = Asks gives question false turn × All (Asks gives question true) turns
+AllAsk gives question (turn ∷ turns) = AsksByTurn gives question false turn × All (AsksByTurn gives question true) turns
 
 -- the turn was held
-abbrev pub IsHeld : Turn → Type 0
-IsHeld turn = outcome_of turn.asked ≡ outcome.Held
+abbrev pub IsHeldTurn : Turn → Type 0
+IsHeldTurn turn = outcome_of turn.asked ≡ outcome.Held
 
 -- all turns but the last were held, and the last had this outcome
 pub record EndsIn (the_outcome : Outcome) (turns : List Turn) : Type 0 where
   pub held : List Turn
   pub last : Turn
   pub split : turns ≡ held ++ last ∷ []
-  pub are_held : All IsHeld held
+  pub are_held : All IsHeldTurn held
   pub few : length held < most_turns
   pub answer : outcome_of last.asked ≡ the_outcome
 
@@ -74,5 +74,5 @@ abbrev pub AsksLost : (ℕ → Type 0) → Poll → Turn → Type 0
 AsksLost gives poll turn = (moment : ℕ) × gives moment × (turn.event ≡ lost_event poll moment)
 
 -- the event asks a poll for the first time, at a moment that the clock can give
-abbrev pub IsFirst : (ℕ → Type 0) → Poll → Event → Type 0
-IsFirst gives poll event = (moment : ℕ) × gives moment × (event ≡ event_of (question_of poll) false moment)
+abbrev pub IsFirstPoll : (ℕ → Type 0) → Poll → Event → Type 0
+IsFirstPoll gives poll event = (moment : ℕ) × gives moment × (event ≡ event_of_question (question_of poll) false moment)

@@ -35,15 +35,15 @@ WritesOnce answer sent.WriteFault output = (n : ℕ) × (output ≡ take n answe
 WritesOnce answer sent.NoMemory output = output ≡ []
 
 -- want of memory was answered, as far as could be
-abbrev pub IsGivenUp : List ℕ → Type 0
-IsGivenUp output = (n : ℕ) × (output ≡ take n (bare_answer 503))
+abbrev pub IsNoMemoryOutput : List ℕ → Type 0
+IsNoMemoryOutput output = (n : ℕ) × (output ≡ take n (bare_answer 503))
 
 -- what comes of writing an answer: all of it, or a prefix of it where writing failed; where memory was wanting none of it, and that is
 -- answered as far as can be
-abbrev pub Writes : List ℕ → Sent → List ℕ → Type 0
-Writes answer sent.Done output = output ≡ answer
-Writes answer sent.WriteFault output = (n : ℕ) × (output ≡ take n answer)
-Writes answer sent.NoMemory output = IsGivenUp output
+abbrev pub WritesAnswer : List ℕ → Sent → List ℕ → Type 0
+WritesAnswer answer sent.Done output = output ≡ answer
+WritesAnswer answer sent.WriteFault output = (n : ℕ) × (output ≡ take n answer)
+WritesAnswer answer sent.NoMemory output = IsNoMemoryOutput output
 
 -- the link gained these bytes, and nothing was read
 pub record GainsBytes (before after : WireSeen) (output : List ℕ) : Type 0 where

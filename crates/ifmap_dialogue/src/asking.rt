@@ -5,9 +5,9 @@ ghost use Rattle.ifmap_heads.specs.Limits.{longest_post};
 ghost use Rattle.ifmap_requests.specs.Fit.{IsFitRequest};
 ghost use Rattle.ifmap_requests.specs.declared.requests.Request.TheVariants.{Poll as Polling};
 ghost use Rattle.ifmap_dialogue.specs.Answers.{ending_heard};
-ghost use Rattle.ifmap_dialogue.specs.Desks.{Tells, Turn, desk_seen, heaviest, outcome_of, weight};
+ghost use Rattle.ifmap_dialogue.specs.Desks.{DeskTakesTurns, Turn, desk_seen, heaviest, outcome_of, weight};
 ghost use Rattle.ifmap_dialogue.specs.Findings.{FindsQuestion, FindsRequest, finding_of};
-ghost use Rattle.ifmap_dialogue.specs.Turns.{AsksLost, IsFirst, event_of, question_of};
+ghost use Rattle.ifmap_dialogue.specs.Turns.{AsksLost, IsFirstPoll, event_of_question, question_of};
 ghost use Rattle.ifmap_dialogue.specs.Words.{after_random, random_word};
 
 use crate::desks::{BEFORE_ASK, Desk, Gate, Outcome};
@@ -40,7 +40,7 @@ pub const MOST_TURNS: u32 = 36_000;
 pub(crate) fn take_turn<K: Desk, G: Gate>(desk: &mut K, gate: &mut G, event: Event) -> Outcome
     requires light { weight event ≤ heaviest }
     ensures { (turn : Turn) × (turn.event ≡ event) × (result ≡ outcome_of turn.asked)
-        × Tells (desk_seen K.said K.turns K.held K.spent K.home K.loan desk.old)
+        × DeskTakesTurns (desk_seen K.said K.turns K.held K.spent K.home K.loan desk.old)
         (desk_seen K.said K.turns K.held K.spent K.home K.loan desk.new) (turn ∷ []) }
 {
     gate.pass(BEFORE_ASK);
@@ -101,7 +101,7 @@ fn first_event<C: Clock>(
 ) -> Event
     requires { IsFitRequest request }
     ensures { (moment : ℕ) × C.gives setting.now.clock.now moment
-        × (result ≡ event_of (record {
+        × (result ≡ event_of_question (record {
           client = client;
           request = request;
           bytes = bytes;
@@ -195,7 +195,7 @@ fn begin_poll<C: Clock>(
       random = random_word words.old;
       bytes = asker.bytes;
     }) }
-    ensures event { IfOk result (λ made. IsFirst (C.gives setting.now.clock.now) made.0 made.1) }
+    ensures event { IfOk result (λ made. IsFirstPoll (C.gives setting.now.clock.now) made.0 made.1) }
     ensures drawn { IfOk result (λ _. words.new ≡ after_random words.old) }
     ensures none { OnErr result (words.new ≡ words.old) }
 {
@@ -224,7 +224,7 @@ fn await_reply<K: Desk, C: Clock, G: Gate>(
 ) -> Finding
     requires fit { IsCharacters poll.session }
     requires short { poll.bytes ≤ longest_post }
-    requires first { IsFirst (C.gives setting.now.clock.now) poll first }
+    requires first { IsFirstPoll (C.gives setting.now.clock.now) poll first }
     ensures { FindsQuestion (C.gives setting.now.clock.now)
         (desk_seen K.said K.turns K.held K.spent K.home K.loan desk.old)
         (desk_seen K.said K.turns K.held K.spent K.home K.loan desk.new) (question_of poll) result }
@@ -272,7 +272,7 @@ pub(crate) fn tell_lost<K: Desk, C: Clock, G: Gate>(
 ) -> Ending
     requires fit { IsCharacters poll.session }
     ensures { (turn : Turn) × AsksLost (C.gives setting.now.clock.now) poll turn
-        × Tells (desk_seen K.said K.turns K.held K.spent K.home K.loan desk.old)
+        × DeskTakesTurns (desk_seen K.said K.turns K.held K.spent K.home K.loan desk.old)
         (desk_seen K.said K.turns K.held K.spent K.home K.loan desk.new) (turn ∷ [])
         × (result ≡ ending_heard due (outcome_of turn.asked)) }
 {

@@ -3,7 +3,7 @@ ghost use Rattle.std.specs.Prelude.{◌≡◌, ◌≤◌, ◌⊎◌, IfOk, lengt
 ghost use Rattle.ifmap_heads.specs.Limits.{longest_post};
 ghost use Rattle.ifmap_dialogue.specs.Desks.{desk_seen};
 ghost use Rattle.ifmap_dialogue.specs.declared.findings.Finding.TheVariants as the_finding;
-ghost use Rattle.ifmap_dialogue.specs.Findings.{FindsPost, refusal};
+ghost use Rattle.ifmap_dialogue.specs.Findings.{FindsPost, refusal_reply};
 
 use crate::asking::{Asker, ask_request};
 use crate::desks::{Desk, Gate};
@@ -50,7 +50,7 @@ pub(crate) fn consult<K: Desk, C: Clock, G: Gate>(
 
 // A body with a defect of this code comes to its refusal.
 fn refuse(alloc: Global, code: Code) -> Finding
-    ensures { (result ≡ the_finding.Replied (refusal code)) ⊎ (result ≡ the_finding.NoMemory) }
+    ensures { (result ≡ the_finding.Replied (refusal_reply code)) ⊎ (result ≡ the_finding.NoMemory) }
 {
     match refusal_of(alloc, code) {
         Ok(reply) => Finding::Replied(reply),
@@ -60,7 +60,7 @@ fn refuse(alloc: Global, code: Code) -> Finding
 
 // The refusal with this code.
 fn refusal_of(alloc: Global, code: Code) -> Result<Reply, NoMemory>
-    ensures { IfOk result (λ reply. reply ≡ refusal code) }
+    ensures { IfOk result (λ reply. reply ≡ refusal_reply code) }
 {
     let note = Text::from_str(alloc, code.name())?;
     Ok(Reply::Error { code, note })

@@ -1,6 +1,6 @@
 //! Desks, at which events are asked, and gates, which are passed on the way.
 ghost use Rattle.std.specs.Prelude.{◌≡◌, ◌≤◌, ◌∷◌, ℕ, List, [], Option};
-ghost use Rattle.ifmap_dialogue.specs.Desks.{Call, Tells, desk_seen, heaviest, weight};
+ghost use Rattle.ifmap_dialogue.specs.Desks.{Call, DeskTakesTurns, desk_seen, heaviest, weight};
 
 use ifmap_hall::Asked;
 use ifmap_machine::{Answer, Event};
@@ -34,7 +34,7 @@ pub trait Desk {
     /// the event that tells of a lost answer, and nothing else.
     fn ask(&mut self, event: Event) -> Asked<Event, Answer>
         requires light { weight event ≤ heaviest }
-        ensures tells { Tells
+        ensures tells { DeskTakesTurns
             (desk_seen said turns held spent home loan self.old)
             (desk_seen said turns held spent home loan self.new)
             (record { event = event; asked = result } ∷ []) };

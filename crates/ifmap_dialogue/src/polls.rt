@@ -1,7 +1,7 @@
 //! Polls that may be asked again.
 ghost use Rattle.std.specs.Prelude.{◌≡◌, ℕ, true, IfOk};
 ghost use Rattle.ifmap_elem.specs.Chars.{IsCharacters};
-ghost use Rattle.ifmap_dialogue.specs.Turns.{event_of, lost_event, question_of};
+ghost use Rattle.ifmap_dialogue.specs.Turns.{event_of_question, lost_event, question_of};
 
 use crate::settings::Setting;
 use ifmap_elem::{Copied, Text};
@@ -32,7 +32,7 @@ impl Poll {
     ) -> Result<Event, NoMemory>
         requires { IsCharacters self.now.session }
         ensures { IfOk result (λ event. (moment : ℕ) × C.gives setting.now.clock.now moment
-            × (event ≡ event_of (question_of self.now) true moment)) }
+            × (event ≡ event_of_question (question_of self.now) true moment)) }
     {
         let client = self.client.copy(setting.alloc)?;
         let session = self.session.copy(setting.alloc)?;

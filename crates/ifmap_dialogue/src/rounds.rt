@@ -4,8 +4,8 @@ ghost use Rattle.rand_chacha.specs.ChaCha.{ChaCha};
 ghost use Rattle.ifmap_elem.specs.Chars.{IsCharacters};
 ghost use Rattle.ifmap_heads.specs.Limits.{longest_post};
 ghost use Rattle.ifmap_dialogue.specs.Answers.{LosesUnlessDone, closes};
-ghost use Rattle.ifmap_dialogue.specs.Desks.{Tells, Turn, desk_seen};
-ghost use Rattle.ifmap_dialogue.specs.Rounds.{is_last, most_posts};
+ghost use Rattle.ifmap_dialogue.specs.Desks.{DeskTakesTurns, Turn, desk_seen};
+ghost use Rattle.ifmap_dialogue.specs.Rounds.{is_last_post, most_posts};
 ghost use Rattle.ifmap_dialogue.specs.Scenes.{HasFitPoll, ServesAnswer, ServesPost, ServesRound, scene};
 ghost use Rattle.ifmap_dialogue.specs.Wires.{wire_seen};
 
@@ -63,7 +63,7 @@ pub(crate) fn serve_round<K: Desk, L: Link, C: Clock, G: Gate>(
 
 // The post, which is the last one where it has that number.
 fn last_by(post: Post, number: u32) -> Post
-    ensures { result ≡ record post { close = is_last number post.close } }
+    ensures { result ≡ record post { close = is_last_post number post.close } }
 {
     let Post {
         client,
@@ -165,7 +165,7 @@ fn conclude<K: Desk, C: Clock, G: Gate>(
 ) -> Option<Ending>
     requires fit { IsCharacters poll.session }
     ensures { (turns : List Turn)
-        × Tells (desk_seen K.said K.turns K.held K.spent K.home K.loan desk.old)
+        × DeskTakesTurns (desk_seen K.said K.turns K.held K.spent K.home K.loan desk.old)
         (desk_seen K.said K.turns K.held K.spent K.home K.loan desk.new) turns
         × LosesUnlessDone (C.gives setting.now.clock.now) poll (closes then) sent turns
         result }

@@ -3,7 +3,7 @@ ghost use Rattle.std.specs.Prelude.{◌≡◌, ℕ, List, IsTrue};
 ghost use Rattle.ifmap_io.specs.Causes.{Rose};
 ghost use Rattle.ifmap_heads.specs.Messages.{answer_bytes, is_answer_status};
 ghost use Rattle.ifmap_dialogue.specs.Answers.{closes, end_after, next_after, reply_answer};
-ghost use Rattle.ifmap_dialogue.specs.Wires.{GainsBytes, IsGivenUp, Writes, WritesOnce, bare_answer, wire_seen};
+ghost use Rattle.ifmap_dialogue.specs.Wires.{GainsBytes, IsNoMemoryOutput, WritesAnswer, WritesOnce, bare_answer, wire_seen};
 
 use crate::desks::{AFTER_ANSWER, Gate};
 use crate::endings::Ending;
@@ -29,7 +29,7 @@ pub(crate) fn send_reply<L: Link, G: Gate>(
     reply: &Reply,
     then: Then,
 ) -> Sent
-    ensures writes { (output : List ℕ) × Writes (reply_answer reply.now (closes then)) result output
+    ensures writes { (output : List ℕ) × WritesAnswer (reply_answer reply.now (closes then)) result output
         × GainsBytes (wire_seen L.left L.held L.Source.faults L.Sink.faults wire.old)
         (wire_seen L.left L.held L.Source.faults L.Sink.faults wire.new) output }
     ensures fault { result ≡ Sent.WriteFault
@@ -52,7 +52,7 @@ pub(crate) fn send_bare<L: Link, G: Gate>(
     status: u16,
 ) -> Sent
     requires { IsTrue (is_answer_status status) }
-    ensures writes { (output : List ℕ) × Writes (bare_answer status) result output
+    ensures writes { (output : List ℕ) × WritesAnswer (bare_answer status) result output
         × GainsBytes (wire_seen L.left L.held L.Source.faults L.Sink.faults wire.old)
         (wire_seen L.left L.held L.Source.faults L.Sink.faults wire.new) output }
     ensures fault { result ≡ Sent.WriteFault
@@ -71,7 +71,7 @@ fn send<L: Link, G: Gate>(
     then: Then,
 ) -> Sent
     requires { IsTrue (is_answer_status status) }
-    ensures writes { (output : List ℕ) × Writes (answer_bytes status body.now (closes then)) result
+    ensures writes { (output : List ℕ) × WritesAnswer (answer_bytes status body.now (closes then)) result
         output × GainsBytes (wire_seen L.left L.held L.Source.faults L.Sink.faults wire.old)
         (wire_seen L.left L.held L.Source.faults L.Sink.faults wire.new) output }
     ensures fault { result ≡ Sent.WriteFault
@@ -89,7 +89,7 @@ fn send<L: Link, G: Gate>(
 
 // Answers that memory is wanting, as far as can be.
 pub(crate) fn give_up<L: Link, G: Gate>(alloc: Global, wire: &mut Wire<L>, gate: &mut G)
-    ensures { (output : List ℕ) × IsGivenUp output
+    ensures { (output : List ℕ) × IsNoMemoryOutput output
         × GainsBytes (wire_seen L.left L.held L.Source.faults L.Sink.faults wire.old)
         (wire_seen L.left L.held L.Source.faults L.Sink.faults wire.new) output }
 {

@@ -25,11 +25,11 @@ module _ (text : List ℕ) (before after : Side) where
   IsCut status = (status ≡ 5) × ((n : ℕ) × Appends before.held after.held (take n text)) × Rose before.faults after.faults
 
   -- there was no memory, and nothing was written
-  abbrev pub IsUnmade : ℕ → Type 0
-  IsUnmade status = (status ≡ 6) × Keeps before.held after.held
+  abbrev pub IsNothingWritten : ℕ → Type 0
+  IsNothingWritten status = (status ≡ 6) × Keeps before.held after.held
 
   abbrev pub IsEnded : ℕ → Type 0
-  IsEnded status = IsWritten status ⊎ (IsCut status ⊎ IsUnmade status)
+  IsEnded status = IsWritten status ⊎ (IsCut status ⊎ IsNothingWritten status)
 
 -- the status tells what was written of the summary; and the clients agree: after each poll that is told something or held, what its
 -- client folds of all that it was told is, for each subscription that its session keeps, the fresh result of its search

@@ -22,8 +22,8 @@ pub record Drilling : Type 0 where
   pub ids : List (List ℕ)
   pub draws : Lcg
 
-abbrev pub beginning : ℕ → Drilling
-beginning key = record {
+abbrev pub drill_beginning : ℕ → Drilling
+drill_beginning key = record {
   history = [];
   state = opening session_seconds;
   ids = [];
@@ -67,7 +67,7 @@ after_event i d = after_answer i (event_at i (asked_at i d).0) (asked_at i d).1 
 
 -- the drill of a key after so many events
 abbrev pub drilling_after : ℕ → ℕ → Drilling
-drilling_after key zero = beginning key
+drilling_after key zero = drill_beginning key
 drilling_after key (suc n) = after_event n (drilling_after key n)
 
 -- all events of a drill with their answers

@@ -2,7 +2,7 @@
 ghost use Rattle.std.specs.Prelude.{◌≡◌, ◌<◌, OnOk};
 ghost use Rattle.std.specs.List.{AllByRecursion};
 ghost use Rattle.ifmap_elem.specs.Chars.{IsCharacters};
-ghost use Rattle.ifmap_drill.specs.Drills.{Drilling, after_answer, after_event, beginning, id_given, ids_after};
+ghost use Rattle.ifmap_drill.specs.Drills.{Drilling, after_answer, after_event, drill_beginning, id_given, ids_after};
 ghost use Rattle.ifmap_drill.specs.Following.{drill_of};
 ghost use Rattle.ifmap_drill.specs.Summaries.{summary_of};
 
@@ -34,7 +34,7 @@ pub struct Drill {
 impl Drill {
     /// Before the first event.
     pub fn new(alloc: Global, key: u64) -> Drill
-        ensures { result ≡ drill_of (beginning key) }
+        ensures { result ≡ drill_of (drill_beginning key) }
     {
         Drill {
             core: Core::new(alloc, SESSION_SECONDS),

@@ -9,8 +9,8 @@ use Rattle.ifmap_elem.specs.Chars.{is_white}
 use Rattle.ifmap_elem.specs.declared.elements.Child.TheOpen.{Child-F}
 use Rattle.ifmap_elem.specs.declared.elements.Element.{Element}
 use Rattle.ifmap_elem.specs.declared.elements.Name.{Name}
-use Rattle.ifmap_envelopes.specs.Envelopes.{IsAlone, IsBodyAt, IsEnvelope, MayHoldHeader, envelope_name}
-use Rattle.ifmap_forms.specs.Tables.{Part, is_white_part, parts_of}
+use Rattle.ifmap_envelopes.specs.Envelopes.{IsOnlyElement, IsBodyAt, IsEnvelope, MayHoldHeader, envelope_name}
+use Rattle.ifmap_forms.specs.Tables.{Part, is_white_part, element_parts}
 
 abbrev pub part_of : Element → Part
 part_of e = Child-F.Element e
@@ -66,7 +66,7 @@ one_split (Child-F.Text t ∷ more) after (Child-F.Text u ∷ others) rest e f s
     record { befores = (λ i. heads i ∷ one.befores i); elements = one.elements; afters = one.afters }
 
 -- an element that is alone is the only one
-pub one_alone : (parts : List Part) (i j : ℕ) (e f : Element) → IsAlone parts i e → IsAlone parts j f → (i ≡ j) × (e ≡ f)
+pub one_alone : (parts : List Part) (i j : ℕ) (e f : Element) → IsOnlyElement parts i e → IsOnlyElement parts j f → (i ≡ j) × (e ≡ f)
 one_alone parts i j e f a b =
     let one = one_split a.before a.after b.before b.after e f (sym a.parts_are ∙ b.parts_are) a.blank_before b.blank_before in
     (a.index_is ∙ (ap length one.befores ∙ sym b.index_is), one.elements)
@@ -79,7 +79,7 @@ names_differ e =
     omega (arith, lengths)
 
 -- a split of a list with a header in its front, as a split at the header
-pub at_header : (front after : List Part) (index : ℕ) (header body : Element) (h : IsAlone front index header)
+pub at_header : (front after : List Part) (index : ℕ) (header body : Element) (h : IsOnlyElement front index header)
     → front ++ (part_of body ∷ after) ≡ h.before ++ (part_of header ∷ (h.after ++ (part_of body ∷ after)))
 at_header front after index header body h =
     ap (λ (xs : List Part). xs ++ (part_of body ∷ after)) h.parts_are
@@ -121,7 +121,7 @@ one_body_at parts i j body twin a b =
 pub one_envelope : (root e f : Element) (path route : List ℕ) → IsEnvelope root path e → IsEnvelope root route f
     → (path ≡ route) × (e ≡ f)
 one_envelope root e f path route a b =
-    let bodies = one_body_at (parts_of root) a.place b.place a.body b.body a.body_at b.body_at in
-    let inner = one_alone (parts_of a.body) a.index b.index e f a.alone
-    (subst (λ (body : Element). IsAlone (parts_of body) b.index f) (sym bodies.1) b.alone) in
+    let bodies = one_body_at (element_parts root) a.place b.place a.body b.body a.body_at b.body_at in
+    let inner = one_alone (element_parts a.body) a.index b.index e f a.alone
+    (subst (λ (body : Element). IsOnlyElement (element_parts body) b.index f) (sym bodies.1) b.alone) in
     (a.path_is ∙ ((λ i. bodies.0 i ∷ (inner.0 i ∷ [])) ∙ sym b.path_is), inner.1)

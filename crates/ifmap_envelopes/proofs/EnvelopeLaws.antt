@@ -22,7 +22,7 @@ use Rattle.ifmap_filter.specs.Holding.{is_name}
 use Rattle.ifmap_forms.specs.PositionLaws.{at_place, no_place, place_is}
 use Rattle.ifmap_forms.specs.Tables.{Part, is_white_part, parts_in}
 use Rattle.ifmap_lemmas.specs.Texts.{eq_itself, eq_tells}
-use Rattle.ifmap_envelopes.specs.Envelopes.{IsAlone, IsBodyAt, IsPartAt, blank_front, envelope_name, is_element, is_first, is_last, is_part_named, is_solid_part}
+use Rattle.ifmap_envelopes.specs.Envelopes.{IsOnlyElement, IsBodyAt, IsPartAt, blank_front, envelope_name, is_element, is_first, is_last_part, is_part_named, is_solid_part}
 use Rattle.ifmap_elem.specs.Chars.{is_white}
 use Rattle.ifmap_envelopes.proofs.Alone.{at_header, AreBlank, part_of, text_of, no_element, after_text}
 use Rattle.ifmap_elem.specs.laws.ArrangedLaws.{out_element}
@@ -70,14 +70,14 @@ front_of (Child-F.Text t ∷ before) after e blank =
 
 module _ (p : Part → Bool) where
   -- what passes at the front of some parts, and white space after it
-  pub open_last : (rest : List Part) → is_last p rest ≡ true
+  pub open_last : (rest : List Part) → is_last_part p rest ≡ true
       → (part : Part) × (after : List Part) × (rest ≡ part ∷ after) × (p part ≡ true) × AreBlank after
   open_last [] h = let wrong : false ≡ true = h in cc
   open_last (part ∷ after) h =
       let parts = and_parts (p part) (list_all is_white_part after) h in
       (part, after, refl, parts.0, parts.1)
 
-  pub close_last : (part : Part) (after : List Part) → p part ≡ true → AreBlank after → is_last p (part ∷ after) ≡ true
+  pub close_last : (part : Part) (after : List Part) → p part ≡ true → AreBlank after → is_last_part p (part ∷ after) ≡ true
   close_last part after h blank = λ i. h i && blank i
 
 element_there : (part : Part) → is_element part ≡ true → (e : Element) × (part ≡ part_of e)
@@ -96,7 +96,7 @@ module _ (parts : List Part) (index : ℕ) (is : index ≡ blank_front parts) wh
   front_blank : AreBlank (take index parts)
   front_blank = subst (λ (n : ℕ). AreBlank (take n parts)) (sym is) (front_is_blank parts)
 
-  pub alone_there : is_last is_element (drop index parts) ≡ true → (e : Element) × IsAlone parts index e
+  pub alone_there : is_last_part is_element (drop index parts) ≡ true → (e : Element) × IsOnlyElement parts index e
   alone_there h =
       let o = open_last is_element (drop index parts) h in
       let e = element_there o.0 o.3 in (
@@ -112,14 +112,14 @@ module _ (parts : List Part) (index : ℕ) (is : index ≡ blank_front parts) wh
         },
       )
 
-  pub none_alone : is_last is_element (drop index parts) ≡ false → (j : ℕ) (e : Element) → IsAlone parts j e → ⊥
+  pub none_alone : is_last_part is_element (drop index parts) ≡ false → (j : ℕ) (e : Element) → IsOnlyElement parts j e → ⊥
   none_alone h j e a =
       let there : index ≡ length a.before =
       is ∙ (ap blank_front a.parts_are ∙ front_of a.before a.after e a.blank_before) in
       let rest : drop index parts ≡ part_of e ∷ a.after =
       (λ i. drop (there i) (a.parts_are i)) ∙ drop-append_seam a.before (part_of e ∷ a.after) in
-      let passes : is_last is_element (drop index parts) ≡ true =
-      ap (is_last is_element) rest ∙ close_last is_element (part_of e) a.after refl a.blank_after in
+      let passes : is_last_part is_element (drop index parts) ≡ true =
+      ap (is_last_part is_element) rest ∙ close_last is_element (part_of e) a.after refl a.blank_after in
       let wrong : false ≡ true = sym h ∙ passes in
       cc
 
@@ -132,7 +132,7 @@ abbrev is_header : Part → Bool
 is_header = is_part_named (codes "Header")
 
 module _ (parts : List Part) (first : ℕ) (is : first ≡ blank_front parts) where
-  pub body_first : is_last is_body (drop first parts) ≡ true → (body : Element) × IsBodyAt parts first body
+  pub body_first : is_last_part is_body (drop first parts) ≡ true → (body : Element) × IsBodyAt parts first body
   body_first h =
       let o = open_last is_body (drop first parts) h in
       let e = element_named (codes "Body") o.0 o.3 in (
@@ -186,12 +186,12 @@ module _ (parts : List Part) (first : ℕ) (is : first ≡ blank_front parts) wh
     pub after_blank : (k : ℕ) → drop (first + 1 + k) parts ≡ drop k rest
     after_blank k = (let one : first + 1 + k ≡ first + suc k = omega arith in ap (λ n. drop n parts) one) ∙ past_front k
 
-    pub body_after : (index : ℕ) → index ≡ first + 1 + blank_front rest → is_last is_body (drop index parts) ≡ true
+    pub body_after : (index : ℕ) → index ≡ first + 1 + blank_front rest → is_last_part is_body (drop index parts) ≡ true
         → (body : Element) × IsBodyAt parts index body
     body_after index at h =
         let k = blank_front rest in
         let left : drop index parts ≡ drop k rest = ap (λ n. drop n parts) at ∙ after_blank k in
-        let o = open_last is_body (drop k rest) (sym (ap (is_last is_body) left) ∙ h) in
+        let o = open_last is_body (drop k rest) (sym (ap (is_last_part is_body) left) ∙ h) in
         let e = element_named (codes "Body") o.0 o.3 in
         let low : k ≤ length rest = prefix_len-le-length is_white_part rest in
         let before : List Part = take first parts ++ (part_of header ∷ take k rest) in
@@ -228,12 +228,12 @@ module _ (parts : List Part) (first : ℕ) (is : first ≡ blank_front parts) wh
         )
 
   -- a body beside which no header stands is the first
-  body_is_first : (j : ℕ) (body : Element) (b : IsBodyAt parts j body) → AreBlank b.before → is_last is_body (drop first parts) ≡ true
+  body_is_first : (j : ℕ) (body : Element) (b : IsBodyAt parts j body) → AreBlank b.before → is_last_part is_body (drop first parts) ≡ true
   body_is_first j body b blank =
       let there : first ≡ length b.before = is ∙ (ap blank_front b.parts_are ∙ front_of b.before b.after body blank) in
       let rest : drop first parts ≡ part_of body ∷ b.after =
       (λ i. drop (there i) (b.parts_are i)) ∙ drop-append_seam b.before (part_of body ∷ b.after) in
-      ap (is_last is_body) rest ∙ close_last is_body (part_of body) b.after (names_itself body.name (envelope_name (codes "Body")) b.named)
+      ap (is_last_part is_body) rest ∙ close_last is_body (part_of body) b.after (names_itself body.name (envelope_name (codes "Body")) b.named)
       b.blank
 
   -- where a header stands before a body, it is the first
@@ -246,7 +246,7 @@ module _ (parts : List Part) (first : ℕ) (is : first ≡ blank_front parts) wh
     pub parts_are : parts ≡ take first parts ++ (part_of header ∷ (between ++ (part_of body ∷ b_after)))
 
   has_header : (j : ℕ) (body : Element) (b : IsBodyAt parts j body) (index : ℕ) (header : Element)
-      → header.name ≡ envelope_name (codes "Header") → IsAlone b.before index header → HasHeader b.after body
+      → header.name ≡ envelope_name (codes "Header") → IsOnlyElement b.before index header → HasHeader b.after body
   has_header j body b index header named h =
       let split : parts ≡ h.before ++ (part_of header ∷ (h.after ++ (part_of body ∷ b.after))) =
       b.parts_are ∙ at_header b.before b.after index header body h in
@@ -270,19 +270,19 @@ module _ (parts : List Part) (first : ℕ) (is : first ≡ blank_front parts) wh
   contrary : (t : Bool) → t ≡ false → t ≡ true → ⊥
   contrary t f h = let wrong : false ≡ true = sym f ∙ h in cc
 
-  pub no_body_first : is_last is_body (drop first parts) ≡ false → is_first is_header (drop first parts) ≡ false → (j : ℕ) (body : Element)
+  pub no_body_first : is_last_part is_body (drop first parts) ≡ false → is_first is_header (drop first parts) ≡ false → (j : ℕ) (body : Element)
       → IsBodyAt parts j body → ⊥
   no_body_first f g j body b = elim b.header [
-    | inl blank ↦ contrary (is_last is_body (drop first parts)) f (body_is_first j body b blank)
+    | inl blank ↦ contrary (is_last_part is_body (drop first parts)) f (body_is_first j body b blank)
     | inr h ↦ contrary (is_first is_header (drop first parts)) g
         (starts_headed b.after body (has_header j body b h.0 h.1 h.2 h.3))
   ]
 
-  pub no_body_after : is_last is_body (drop first parts) ≡ false → (index : ℕ)
-      → index ≡ first + 1 + blank_front (drop (first + 1) parts) → is_last is_body (drop index parts) ≡ false → (j : ℕ) (body : Element)
+  pub no_body_after : is_last_part is_body (drop first parts) ≡ false → (index : ℕ)
+      → index ≡ first + 1 + blank_front (drop (first + 1) parts) → is_last_part is_body (drop index parts) ≡ false → (j : ℕ) (body : Element)
       → IsBodyAt parts j body → ⊥
   no_body_after f index at g j body b = elim b.header [
-    | inl blank ↦ contrary (is_last is_body (drop first parts)) f (body_is_first j body b blank)
+    | inl blank ↦ contrary (is_last_part is_body (drop first parts)) f (body_is_first j body b blank)
     | inr h ↦ behind (has_header j body b h.0 h.1 h.2 h.3)
   ]
     where
@@ -295,8 +295,8 @@ module _ (parts : List Part) (first : ℕ) (is : first ≡ blank_front parts) wh
           let left : drop index parts ≡ part_of body ∷ b.after =
           ap (λ n. drop n parts) (at ∙ ap (λ n. first + 1 + n) k) ∙ after_blank h.header rest head (length h.between)
           ∙ drop-append_seam h.between (part_of body ∷ b.after) in
-          contrary (is_last is_body (drop index parts)) g
-          (ap (is_last is_body) left
+          contrary (is_last_part is_body (drop index parts)) g
+          (ap (is_last_part is_body) left
           ∙ close_last is_body (part_of body) b.after (names_itself body.name (envelope_name (codes "Body")) b.named) b.blank)
 
 -- ---- 4. what stands at an index
@@ -312,7 +312,7 @@ stands parts before after index e is at = (λ i. slice_get (is i) (at i)) ∙ se
 pub body_stands : (parts : List Part) (index : ℕ) (body : Element) → IsBodyAt parts index body → IsPartAt parts index body
 body_stands parts index body b = stands parts b.before b.after index body b.parts_are b.index_is
 
-pub alone_stands : (parts : List Part) (index : ℕ) (e : Element) → IsAlone parts index e → IsPartAt parts index e
+pub alone_stands : (parts : List Part) (index : ℕ) (e : Element) → IsOnlyElement parts index e → IsPartAt parts index e
 alone_stands parts index e a = stands parts a.before a.after index e a.parts_are a.index_is
 
 one_part : (parts : List Part) (index : ℕ) (e f : Element) → IsPartAt parts index e → IsPartAt parts index f → e ≡ f
@@ -326,10 +326,10 @@ pub body_taken : (parts : List Part) (index : ℕ) (e : Element) → ((body : El
 body_taken parts index e b there =
     subst (λ (body : Element). IsBodyAt parts index body) (one_part parts index b.0 e (body_stands parts index b.0 b.1) there) b.1
 
-pub alone_taken : (parts : List Part) (index : ℕ) (e : Element) → ((f : Element) × IsAlone parts index f) → IsPartAt parts index e
-    → IsAlone parts index e
+pub alone_taken : (parts : List Part) (index : ℕ) (e : Element) → ((f : Element) × IsOnlyElement parts index f) → IsPartAt parts index e
+    → IsOnlyElement parts index e
 alone_taken parts index e a there =
-    subst (λ (f : Element). IsAlone parts index f) (one_part parts index a.0 e (alone_stands parts index a.0 a.1) there) a.1
+    subst (λ (f : Element). IsOnlyElement parts index f) (one_part parts index a.0 e (alone_stands parts index a.0 a.1) there) a.1
 
 -- a child that is taken out
 

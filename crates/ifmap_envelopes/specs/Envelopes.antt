@@ -10,14 +10,14 @@ use Rattle.ifmap_elem.specs.declared.elements.Element.{Element}
 use Rattle.ifmap_elem.specs.declared.elements.Name.{Name}
 use Rattle.ifmap_elem.specs.declared.readings.Reading.{Reading}
 use Rattle.ifmap_filter.specs.Holding.{is_name}
-use Rattle.ifmap_forms.specs.Tables.{Part, is_white_part, parts_of}
+use Rattle.ifmap_forms.specs.Tables.{Part, is_white_part, element_parts}
 use Rattle.ifmap_envelopes.specs.Spaces.{envelope_space}
 
 abbrev pub envelope_name : List ℕ → Name
 envelope_name local = record { space = envelope_space; local = local }
 
 -- the part with that index is this element, and the others are white space
-pub record IsAlone (parts : List Part) (index : ℕ) (e : Element) : Type 0 where
+pub record IsOnlyElement (parts : List Part) (index : ℕ) (e : Element) : Type 0 where
   pub before : List Part
   pub after : List Part
   pub parts_are : parts ≡ before ++ (Child-F.Element e ∷ after)
@@ -29,7 +29,7 @@ pub record IsAlone (parts : List Part) (index : ℕ) (e : Element) : Type 0 wher
 abbrev pub MayHoldHeader : List Part → Type 0
 MayHoldHeader parts =
     IsTrue (list_all is_white_part parts)
-    ⊎ ((index : ℕ) × (header : Element) × (header.name ≡ envelope_name (codes "Header")) × IsAlone parts index header)
+    ⊎ ((index : ℕ) × (header : Element) × (header.name ≡ envelope_name (codes "Header")) × IsOnlyElement parts index header)
 
 -- the part with that index is this body, with a header or none before it and white space after it
 pub record IsBodyAt (parts : List Part) (index : ℕ) (body : Element) : Type 0 where
@@ -46,9 +46,9 @@ pub record IsEnvelope (root : Element) (path : List ℕ) (inner : Element) : Typ
   pub named : root.name ≡ envelope_name (codes "Envelope")
   pub place : ℕ
   pub body : Element
-  pub body_at : IsBodyAt (parts_of root) place body
+  pub body_at : IsBodyAt (element_parts root) place body
   pub index : ℕ
-  pub alone : IsAlone (parts_of body) index inner
+  pub alone : IsOnlyElement (element_parts body) index inner
   pub path_is : path ≡ place ∷ (index ∷ [])
 
 -- the bytes spell an envelope of so many levels at most, of the element at this path
@@ -86,9 +86,9 @@ is_part_named local (Child-F.Element e) = is_name e.name (envelope_name local)
 is_part_named local (Child-F.Text text) = false
 
 -- the first part passes, and the others are white space
-abbrev pub is_last : (Part → Bool) → List Part → Bool
-is_last p [] = false
-is_last p (part ∷ parts) = p part && list_all is_white_part parts
+abbrev pub is_last_part : (Part → Bool) → List Part → Bool
+is_last_part p [] = false
+is_last_part p (part ∷ parts) = p part && list_all is_white_part parts
 
 -- the first part passes
 abbrev pub is_first : (Part → Bool) → List Part → Bool

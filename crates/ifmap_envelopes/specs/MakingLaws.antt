@@ -3,10 +3,10 @@ use Rattle.std.proofs.Common.{[], ◌∷◌, codes, inl, refl}
 use Rattle.ifmap_elem.specs.declared.elements.Child as the
 use Rattle.ifmap_elem.specs.declared.elements.Element.{Element}
 use Rattle.ifmap_forms.specs.Tables.{parts_in}
-use Rattle.ifmap_envelopes.specs.Envelopes.{IsAlone, IsEnvelope, around, envelope_name, in_envelope}
+use Rattle.ifmap_envelopes.specs.Envelopes.{IsOnlyElement, IsEnvelope, around, envelope_name, in_envelope}
 use Rattle.ifmap_elem.specs.laws.ArrangedLaws.{out_element}
 
-alone : (e : Element) → IsAlone (parts_in (the.Element e ∷ [])) 0 e
+alone : (e : Element) → IsOnlyElement (parts_in (the.Element e ∷ [])) 0 e
 alone e = record {
   before = [];
   after = [];

@@ -5,8 +5,8 @@ ghost use Rattle.std.specs.List.{position};
 ghost use Rattle.ifmap_elem.specs.declared.elements.Child.{out-Child};
 ghost use Rattle.ifmap_elem.specs.declared.elements.Element.{Element};
 ghost use Rattle.ifmap_filter.specs.Holding.{is_name};
-ghost use Rattle.ifmap_forms.specs.Tables.{parts_in, parts_of};
-ghost use Rattle.ifmap_envelopes.specs.Envelopes.{IsAlone, IsBodyAt, IsEnvelope, IsPartAt, blank_front, envelope_name, is_element, is_first, is_last, is_part_named, is_solid_part};
+ghost use Rattle.ifmap_forms.specs.Tables.{parts_in, element_parts};
+ghost use Rattle.ifmap_envelopes.specs.Envelopes.{IsOnlyElement, IsBodyAt, IsEnvelope, IsPartAt, blank_front, envelope_name, is_element, is_first, is_last_part, is_part_named, is_solid_part};
 
 use crate::spaces::ENVELOPE_SPACE;
 use ifmap_elem::{Child, Element, Name};
@@ -50,9 +50,9 @@ fn is_named(name: &Name, local: &str) -> bool
 
 // The body of an envelope, with its index.
 fn take_body(root: Element) -> Option<(usize, Element)>
-    ensures found { IfSome result (λ body. IsBodyAt (parts_of root) body.0 body.1) }
+    ensures found { IfSome result (λ body. IsBodyAt (element_parts root) body.0 body.1) }
     ensures none { IsNone result → (index : ℕ) (body : Element) →
-        IsBodyAt (parts_of root) index body → ⊥ }
+        IsBodyAt (element_parts root) index body → ⊥ }
 {
     let children = root.children;
     let index = body_index(children.as_slice())?;
@@ -62,9 +62,9 @@ fn take_body(root: Element) -> Option<(usize, Element)>
 
 // The one element in a body, with its index.
 fn take_alone(body: Element) -> Option<(usize, Element)>
-    ensures found { IfSome result (λ inner. IsAlone (parts_of body) inner.0 inner.1) }
+    ensures found { IfSome result (λ inner. IsOnlyElement (element_parts body) inner.0 inner.1) }
     ensures none { IsNone result → (index : ℕ) (e : Element) →
-        IsAlone (parts_of body) index e → ⊥ }
+        IsOnlyElement (element_parts body) index e → ⊥ }
 {
     let children = body.children;
     let index = alone_index(children.as_slice())?;
@@ -99,9 +99,9 @@ fn body_index(children: &[Child]) -> Option<usize>
 // The index of the one element, where nothing but white space stands beside it.
 fn alone_index(children: &[Child]) -> Option<usize>
     ensures found { IfSome result (λ index.
-        (e : Element) × IsAlone (parts_in children.now) index e) }
+        (e : Element) × IsOnlyElement (parts_in children.now) index e) }
     ensures none { IsNone result → (index : ℕ) (e : Element) →
-        IsAlone (parts_in children.now) index e → ⊥ }
+        IsOnlyElement (parts_in children.now) index e → ⊥ }
 {
     let index = blank_front(children);
     if is_last_element(children_from(children, index)) {
@@ -137,7 +137,7 @@ fn first_solid(children: &[Child]) -> Option<usize>
 
 // Whether the first child is a body, and the others are white space.
 fn is_last_body(children: &[Child]) -> bool
-    ensures { result ≡ is_last (is_part_named (codes "Body")) (parts_in children.now) }
+    ensures { result ≡ is_last_part (is_part_named (codes "Body")) (parts_in children.now) }
 {
     match children.split_first() {
         Some((first, others)) => is_element_named(first, "Body") && are_blank(others),
@@ -147,7 +147,7 @@ fn is_last_body(children: &[Child]) -> bool
 
 // Whether the first child is an element, and the others are white space.
 fn is_last_element(children: &[Child]) -> bool
-    ensures { result ≡ is_last is_element (parts_in children.now) }
+    ensures { result ≡ is_last_part is_element (parts_in children.now) }
 {
     match children.split_first() {
         Some((first, others)) => is_element(first) && are_blank(others),

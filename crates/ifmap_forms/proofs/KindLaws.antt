@@ -14,8 +14,8 @@ use Rattle.ifmap_ident.specs.declared.codes.Code.{Code}
 use Rattle.ifmap_ident.specs.declared.kinds.Kind.{Kind}
 use Rattle.ifmap_forms.specs.declared.errors.FormError.{FormError}
 use Rattle.ifmap_forms.specs.declared.errors.FormError.TheVariants.{Named, NoMemory}
-use Rattle.ifmap_forms.specs.Answers.{IsRefused}
-use Rattle.ifmap_forms.specs.Gathering.{after}
+use Rattle.ifmap_forms.specs.Answers.{IsCheckRefusal}
+use Rattle.ifmap_forms.specs.Gathering.{after_made}
 use Rattle.ifmap_forms.specs.PositionLaws.{at_place, no_place, place_inside, place_is}
 use Rattle.ifmap_forms.specs.Values.{begins_white, kinds_check, piece_check, pieces_of, with_first}
 
@@ -105,12 +105,12 @@ abbrev good : Kind → Result Kind Code
 good kind = Ok kind
 
 pub kind_goes_on : (piece : List ℕ) (pieces : List (List ℕ)) (kind : Kind) → piece_check piece (good kind)
-    → (found : Result (List Kind) Code) → kinds_check pieces found → kinds_check (piece ∷ pieces) (after (kind ∷ []) found)
+    → (found : Result (List Kind) Code) → kinds_check pieces found → kinds_check (piece ∷ pieces) (after_made (kind ∷ []) found)
 kind_goes_on piece pieces kind is (Ok kinds) f = (kind, is, (kinds, f, refl))
 kind_goes_on piece pieces kind is (Err code) f = inr (kind, is, inl f)
 
-pub kind_stops : (piece : List ℕ) (pieces : List (List ℕ)) (error : FormError) → IsRefused (piece_check piece) error
-    → IsRefused (kinds_check (piece ∷ pieces)) error
+pub kind_stops : (piece : List ℕ) (pieces : List (List ℕ)) (error : FormError) → IsCheckRefusal (piece_check piece) error
+    → IsCheckRefusal (kinds_check (piece ∷ pieces)) error
 kind_stops piece pieces (Named code) f = inl f
 kind_stops piece pieces NoMemory f = tt
 

@@ -9,22 +9,22 @@ use Rattle.ifmap_ident.specs.declared.codes.Code.TheVariants.{Failure}
 use Rattle.ifmap_reader.specs.declared.scoping.Scope.{Scope}
 use Rattle.ifmap_forms.specs.declared.errors.FormError.{FormError}
 use Rattle.ifmap_forms.specs.declared.errors.FormError.TheVariants.{Named, NoMemory}
-use Rattle.ifmap_forms.specs.Answers.{IsChecked, IsCheckedAs, IsRefused}
+use Rattle.ifmap_forms.specs.Answers.{IsChecked, IsCheckedAs, IsCheckRefusal}
 use Rattle.ifmap_forms.specs.Checks.{Check, check_then, need, pass}
 use Rattle.ifmap_forms.specs.Scopes.{Scopes}
-use Rattle.ifmap_forms.specs.Tables.{Both, Form, Table, beside, both, form_check, no_attributes, parts_of}
+use Rattle.ifmap_forms.specs.Tables.{Both, Form, AttributeTable, beside, both, form_check, no_attributes, element_parts}
 use Rattle.ifmap_forms.specs.Values.{Field, field_check}
 
 module _ {X Y : Type 0} (first : Check X) (second : X → Check Y) where
   abbrev value : X → Result X Code
   value x = Ok x
 
-  pub refused_first : (error : FormError) → IsRefused first error → IsRefused (check_then first second) error
+  pub refused_first : (error : FormError) → IsCheckRefusal first error → IsCheckRefusal (check_then first second) error
   refused_first (Named code) f = inl f
   refused_first NoMemory f = tt
 
-  pub refused_second : (x : X) (error : FormError) → first (value x) → IsRefused (second x) error
-      → IsRefused (check_then first second) error
+  pub refused_second : (x : X) (error : FormError) → first (value x) → IsCheckRefusal (second x) error
+      → IsCheckRefusal (check_then first second) error
   refused_second x (Named code) f g = inr (x, f, g)
   refused_second x NoMemory f g = tt
 
@@ -32,15 +32,15 @@ module _ {X Y : Type 0} (first : Check X) (second : X → Check Y) where
   found_both x y f g = (x, f, g)
 
 module _ {X : Type 0} (check : Check X) where
-  abbrev refusal : Code → Result X Code
-  refusal code = Err code
+  abbrev refused_code : Code → Result X Code
+  refused_code code = Err code
 
-  pub refused_test : (b : Bool) (code : Code) → b ≡ false → need b code check (refusal code)
+  pub refused_test : (b : Bool) (code : Code) → b ≡ false → need b code check (refused_code code)
   refused_test true code is = cc
   refused_test false code is = refl
 
-  pub refused_after : (b : Bool) (code : Code) (error : FormError) → b ≡ true → IsRefused check error
-      → IsRefused (need b code check) error
+  pub refused_after : (b : Bool) (code : Code) (error : FormError) → b ≡ true → IsCheckRefusal check error
+      → IsCheckRefusal (need b code check) error
   refused_after true code error is f = f
   refused_after false code error is f = cc
 
@@ -52,15 +52,15 @@ module _ {X : Type 0} (check : Check X) where
 
 module _ {V X : Type 0} where
   pub refused_exit_as : (seen : V → X) (check : Check X) (r : Result V FormError) (error : FormError)
-      → IsErrAnd r (λ e. e ≡ error) → IsRefused check error → IsCheckedAs seen check r
+      → IsErrAnd r (λ e. e ≡ error) → IsCheckRefusal check error → IsCheckedAs seen check r
   refused_exit_as seen check (Ok v) error is f = absurd is
-  refused_exit_as seen check (Err e) error is f = subst (λ (x : FormError). IsRefused check x) (sym is) f
+  refused_exit_as seen check (Err e) error is f = subst (λ (x : FormError). IsCheckRefusal check x) (sym is) f
 
 module _ {X : Type 0} where
   pub refused_exit : (check : Check X) (r : Result X FormError) (error : FormError) → IsErrAnd r (λ e. e ≡ error)
-      → IsRefused check error → IsChecked check r
+      → IsCheckRefusal check error → IsChecked check r
   refused_exit check (Ok x) error is f = absurd is
-  refused_exit check (Err e) error is f = subst (λ (x : FormError). IsRefused check x) (sym is) f
+  refused_exit check (Err e) error is f = subst (λ (x : FormError). IsCheckRefusal check x) (sym is) f
 
 -- ---- one attribute alone
 
@@ -68,25 +68,25 @@ module _ {X : Type 0} (field : Field X) (scope : Scope) (e : Element) where
   pub found_alone : (x : X) → field_check field scope e (Ok x) → (beside field no_attributes).reads scope e (Ok (both x tt))
   found_alone x f = (x, f, (tt, refl, refl))
 
-  pub refused_alone : (error : FormError) → IsRefused (field_check field scope e) error
-      → IsRefused ((beside field no_attributes).reads scope e) error
+  pub refused_alone : (error : FormError) → IsCheckRefusal (field_check field scope e) error
+      → IsCheckRefusal ((beside field no_attributes).reads scope e) error
   refused_alone (Named code) f = inl f
   refused_alone NoMemory f = tt
 
 -- ---- an attribute and others
 
-module _ {X Y : Type 0} (field : Field X) (table : Table Y) (scope : Scope) (e : Element) where
+module _ {X Y : Type 0} (field : Field X) (table : AttributeTable Y) (scope : Scope) (e : Element) where
   pub found_beside : (x : X) (y : Y) → field_check field scope e (Ok x) → table.reads scope e (Ok y)
       → (beside field table).reads scope e (Ok (both x y))
   found_beside x y f g = (x, f, (y, g, refl))
 
-  pub refused_at_field : (error : FormError) → IsRefused (field_check field scope e) error
-      → IsRefused ((beside field table).reads scope e) error
+  pub refused_at_field : (error : FormError) → IsCheckRefusal (field_check field scope e) error
+      → IsCheckRefusal ((beside field table).reads scope e) error
   refused_at_field (Named code) f = inl f
   refused_at_field NoMemory f = tt
 
-  pub refused_beside : (x : X) (error : FormError) → field_check field scope e (Ok x) → IsRefused (table.reads scope e) error
-      → IsRefused ((beside field table).reads scope e) error
+  pub refused_beside : (x : X) (error : FormError) → field_check field scope e (Ok x) → IsCheckRefusal (table.reads scope e) error
+      → IsCheckRefusal ((beside field table).reads scope e) error
   refused_beside x (Named code) f g = inr (x, f, inl g)
   refused_beside x NoMemory f g = tt
 
@@ -96,22 +96,22 @@ module _ {X A C : Type 0} (form : Form A C) (make : A → C → X) (scopes : Sco
   abbrev only : Bool
   only = has_only (form.passed_over ++ form.attributes.locals) e
 
-  pub refused_at_attributes : (error : FormError) → IsRefused (form.attributes.reads (scopes []) e) error
-      → IsRefused (form_check form make scopes e) error
+  pub refused_at_attributes : (error : FormError) → IsCheckRefusal (form.attributes.reads (scopes []) e) error
+      → IsCheckRefusal (form_check form make scopes e) error
   refused_at_attributes (Named code) f = inl (inl f)
   refused_at_attributes NoMemory f = tt
 
   module _ (a : A) (f : form.attributes.reads (scopes []) e (Ok a)) where
     abbrev inside : Check (Both A C)
-    inside = check_then (form.content scopes (parts_of e)) (λ c. pass (both a c))
+    inside = check_then (form.content scopes (element_parts e)) (λ c. pass (both a c))
 
     pub refused_at_others : only ≡ false → form_check form make scopes e (Err Failure)
     refused_at_others is = inl (inr (a, f, refused_test inside only Failure is))
 
-    pub refused_at_content : (error : FormError) → only ≡ true → IsRefused (form.content scopes (parts_of e)) error
-        → IsRefused (form_check form make scopes e) error
+    pub refused_at_content : (error : FormError) → only ≡ true → IsCheckRefusal (form.content scopes (element_parts e)) error
+        → IsCheckRefusal (form_check form make scopes e) error
     refused_at_content (Named code) is g = inl (inr (a, f, found_after inside only Failure (Err code) is (inl g)))
     refused_at_content NoMemory is g = tt
 
-    pub found_form : (c : C) → only ≡ true → form.content scopes (parts_of e) (Ok c) → form_check form make scopes e (Ok (make a c))
+    pub found_form : (c : C) → only ≡ true → form.content scopes (element_parts e) (Ok c) → form_check form make scopes e (Ok (make a c))
     found_form c is g = (both a c, (a, f, found_after inside only Failure (Ok (both a c)) is (c, g, refl)), refl)

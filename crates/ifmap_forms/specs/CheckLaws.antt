@@ -3,7 +3,7 @@
 use Rattle.std.specs.Prelude.{◌≡◌, Bool, true, false, Option, None, Some, Result, Ok, Err, refl}
 use Rattle.std.proofs.Common.{◌∙◌, inl, inr, subst, sym}
 use Rattle.ifmap_ident.specs.declared.codes.Code.{Code}
-use Rattle.ifmap_forms.specs.Checks.{Check, IsDone, IsSingle, check_if, check_then, fail, need, need_some, pass}
+use Rattle.ifmap_forms.specs.Checks.{Check, IsConclusive, IsSingle, check_if, check_then, fail, need, need_some, pass}
 
 module _ {X : Type 0} where
   abbrev ok_value : X → Result X Code
@@ -15,20 +15,20 @@ module _ {X : Type 0} where
   pub pass_single : (x : X) → IsSingle (pass x)
   pass_single x one other a b = a ∙ sym b
 
-  pub pass_done : (x : X) → IsDone (pass x)
+  pub pass_done : (x : X) → IsConclusive (pass x)
   pass_done x = (ok_value x, refl)
 
   pub fail_single : (code : Code) → IsSingle {X = X} (fail code)
   fail_single code one other a b = a ∙ sym b
 
-  pub fail_done : (code : Code) → IsDone {X = X} (fail code)
+  pub fail_done : (code : Code) → IsConclusive {X = X} (fail code)
   fail_done code = (err_value code, refl)
 
   pub need_single : (b : Bool) (code : Code) (check : Check X) → IsSingle check → IsSingle (need b code check)
   need_single true code check single = single
   need_single false code check single = fail_single code
 
-  pub need_done : (b : Bool) (code : Code) (check : Check X) → IsDone check → IsDone (need b code check)
+  pub need_done : (b : Bool) (code : Code) (check : Check X) → IsConclusive check → IsConclusive (need b code check)
   need_done true code check done = done
   need_done false code check done = fail_done code
 
@@ -36,7 +36,7 @@ module _ {X : Type 0} where
   if_single true one other s t = s
   if_single false one other s t = t
 
-  pub if_done : (b : Bool) (one other : Check X) → IsDone one → IsDone other → IsDone (check_if b one other)
+  pub if_done : (b : Bool) (one other : Check X) → IsConclusive one → IsConclusive other → IsConclusive (check_if b one other)
   if_done true one other s t = s
   if_done false one other s t = t
 
@@ -46,7 +46,7 @@ module _ {X Y : Type 0} where
   some_single code None check s = fail_single code
   some_single code (Some x) check s = s x
 
-  pub some_done : (code : Code) (o : Option X) (check : X → Check Y) → ((x : X) → IsDone (check x)) → IsDone (need_some code o check)
+  pub some_done : (code : Code) (o : Option X) (check : X → Check Y) → ((x : X) → IsConclusive (check x)) → IsConclusive (need_some code o check)
   some_done code None check s = fail_done code
   some_done code (Some x) check s = s x
 
@@ -79,15 +79,15 @@ module _ {X Y : Type 0} (first : Check X) (second : X → Check Y) where
     then_single (Err c) (Err d) (inr a) (inl b) = absurd (not_both a.0 d a.1 b)
     then_single (Err c) (Err d) (inr a) (inr b) = seconds a.0 b.0 (Err c) (Err d) a.1 b.1 a.2 b.2
 
-  module _ (t : (x : X) → first (ok_value x) → IsDone (second x)) where
-    after_value : (x : X) → first (ok_value x) → (found : Result Y Code) → second x found → IsDone (check_then first second)
+  module _ (t : (x : X) → first (ok_value x) → IsConclusive (second x)) where
+    after_value : (x : X) → first (ok_value x) → (found : Result Y Code) → second x found → IsConclusive (check_then first second)
     after_value x f (Ok y) g = (Ok y, (x, f, g))
     after_value x f (Err code) g = (Err code, inr (x, f, g))
 
-    after_first : (found : Result X Code) → first found → IsDone (check_then first second)
+    after_first : (found : Result X Code) → first found → IsConclusive (check_then first second)
     after_first (Ok x) f = let g = t x f in after_value x f g.0 g.1
     after_first (Err code) f = (Err code, inl f)
 
     -- it is enough that the second finds something of each value that the first finds
-    pub then_done : IsDone first → IsDone (check_then first second)
+    pub then_done : IsConclusive first → IsConclusive (check_then first second)
     then_done s = after_first s.0 s.1

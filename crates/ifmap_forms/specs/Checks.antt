@@ -30,8 +30,8 @@ module _ {X : Type 0} where
   IsSingle check = (one other : Result X Code) → check one → check other → one ≡ other
 
   -- the check finds something
-  abbrev pub IsDone : Check X → Type 0
-  IsDone check = (found : Result X Code) × check found
+  abbrev pub IsConclusive : Check X → Type 0
+  IsConclusive check = (found : Result X Code) × check found
 
 module _ {X Y : Type 0} where
   -- a check, and then one that knows what it found

@@ -18,7 +18,7 @@ use Rattle.ifmap_ident.specs.declared.codes.Code.TheVariants.{Failure}
 use Rattle.ifmap_ident.specs.declared.identifiers.Identifier.{Identifier}
 use Rattle.ifmap_forms.specs.declared.errors.FormError.{FormError}
 use Rattle.ifmap_forms.specs.declared.errors.FormError.TheVariants.{Named, NoMemory}
-use Rattle.ifmap_forms.specs.Answers.{IsRefused}
+use Rattle.ifmap_forms.specs.Answers.{IsCheckRefusal}
 use Rattle.ifmap_forms.specs.Checks.{Check, check_then, need, pass}
 use Rattle.ifmap_forms.specs.Items.{identifier_check, identifiers_check, may_follow}
 use Rattle.ifmap_forms.specs.Tables.{Part, each_element, parts_in}
@@ -37,37 +37,37 @@ module _ {X : Type 0} where
   err_list code = Err code
 
   -- these, and then what is found
-  abbrev pub after : List X → Result (List X) Code → Result (List X) Code
-  after made (Ok xs) = Ok (made ++ xs)
-  after made (Err code) = Err code
+  abbrev pub after_made : List X → Result (List X) Code → Result (List X) Code
+  after_made made (Ok xs) = Ok (made ++ xs)
+  after_made made (Err code) = Err code
 
   -- what a check finds in the rest is, after what was made, what the check of the whole finds
-  pub record GoesOn (whole rest : Check (List X)) (made : List X) : Type 0 where
-    pub goes : (found : Result (List X) Code) → rest found → whole (after made found)
+  pub record IsRestAfter (whole rest : Check (List X)) (made : List X) : Type 0 where
+    pub goes : (found : Result (List X) Code) → rest found → whole (after_made made found)
 
-  after_none : (found : Result (List X) Code) → after [] found ≡ found
+  after_none : (found : Result (List X) Code) → after_made [] found ≡ found
   after_none (Ok xs) = refl
   after_none (Err code) = refl
 
-  after_more : (made more : List X) (found : Result (List X) Code) → after (made ++ more) found ≡ after made (after more found)
+  after_more : (made more : List X) (found : Result (List X) Code) → after_made (made ++ more) found ≡ after_made made (after_made more found)
   after_more made more (Ok xs) = ap ok_list (append_assoc made more xs)
   after_more made more (Err code) = refl
 
-  pub starts : (check : Check (List X)) → GoesOn check check []
+  pub starts : (check : Check (List X)) → IsRestAfter check check []
   starts check = record { goes = λ found f. subst check (sym (after_none found)) f }
 
-  pub further : (whole rest next : Check (List X)) (made more : List X) → GoesOn whole rest made
-      → ((found : Result (List X) Code) → next found → rest (after more found)) → GoesOn whole next (made ++ more)
+  pub further : (whole rest next : Check (List X)) (made more : List X) → IsRestAfter whole rest made
+      → ((found : Result (List X) Code) → next found → rest (after_made more found)) → IsRestAfter whole next (made ++ more)
   further whole rest next made more g step = record {
-    goes = λ found f. subst whole (sym (after_more made more found)) (g.goes (after more found) (step found f));
+    goes = λ found f. subst whole (sym (after_more made more found)) (g.goes (after_made more found) (step found f));
   }
 
-  pub stops : (whole rest : Check (List X)) (made : List X) → GoesOn whole rest made → (error : FormError) → IsRefused rest error
-      → IsRefused whole error
+  pub stops : (whole rest : Check (List X)) (made : List X) → IsRestAfter whole rest made → (error : FormError) → IsCheckRefusal rest error
+      → IsCheckRefusal whole error
   stops whole rest made g (Named code) f = g.goes (err_list code) f
   stops whole rest made g NoMemory f = tt
 
-  pub ends : (whole rest : Check (List X)) (made : List X) → GoesOn whole rest made → rest (Ok []) → whole (Ok made)
+  pub ends : (whole rest : Check (List X)) (made : List X) → IsRestAfter whole rest made → rest (Ok []) → whole (Ok made)
   ends whole rest made g f = subst (λ xs. whole (Ok xs)) (append-nil made) (g.goes (ok_list []) f)
 
 -- ---- one child
@@ -86,7 +86,7 @@ module _ {X : Type 0} where
 
   -- a child that is passed over adds nothing
   past : (b : Bool) (code : Code) (found : Result (List X) Code) (check : Check (List X)) (o : Option X)
-      → need b code (pass {X = Option X} None) (one_found o) → check found → need b code check (after (option_list o) found)
+      → need b code (pass {X = Option X} None) (one_found o) → check found → need b code check (after_made (option_list o) found)
   past true code found check None is f = subst check (sym (after_none found)) f
   past true code found check (Some x) is f = let wrong : one_found (Some x) ≡ one_found None = is in cc
   past false code found check o is f = let wrong : one_found o ≡ one_refused code = is in cc
@@ -102,7 +102,7 @@ module _ {X : Type 0} (one : ℕ → Element → Check X) (index : ℕ) (parts :
 
   -- where a child is found to be this, what is found of the others comes after it
   pub part_goes_on : (part : Part) (o : Option X) → part_check (one index) part (one_found o) → (found : Result (List X) Code)
-      → each_element one (index + 1) parts found → each_element one index (part ∷ parts) (after (option_list o) found)
+      → each_element one (index + 1) parts found → each_element one index (part ∷ parts) (after_made (option_list o) found)
   part_goes_on (Child-F.Element e) None is found f = let wrong : one_found None ≡ one_found (Some is.0) = is.2 in cc
   part_goes_on (Child-F.Element e) (Some x) is (Ok xs) f =
       let same : one_found (Some x) ≡ one_found (Some is.0) = is.2 in
@@ -113,8 +113,8 @@ module _ {X : Type 0} (one : ℕ → Element → Check X) (index : ℕ) (parts :
       past (list_all is_white text) Failure found (each_element one (index + 1) parts) o is f
 
   -- where it is found to be nothing, that is so of all
-  pub part_stops : (part : Part) (error : FormError) → IsRefused (part_check (one index) part) error
-      → IsRefused (each_element one index (part ∷ parts)) error
+  pub part_stops : (part : Part) (error : FormError) → IsCheckRefusal (part_check (one index) part) error
+      → IsCheckRefusal (each_element one index (part ∷ parts)) error
   part_stops part NoMemory is = tt
   part_stops (Child-F.Element e) (Named code) is = elim is [
     | inl f ↦ inl f
@@ -159,21 +159,21 @@ module _ (most : ℕ) (before : List Identifier) (parts : List Part) where
   others_after i = check_then (identifiers_check most (before ++ i ∷ []) parts) (λ others. pass (i ∷ others))
 
   later : (i : Identifier) (found : Result (List Identifier) Code) → identifiers_check most (before ++ i ∷ []) parts found
-      → others_after i (after (i ∷ []) found)
+      → others_after i (after_made (i ∷ []) found)
   later i (Ok others) f = (others, f, refl)
   later i (Err code) f = inl f
 
   joined : (e : Element) (i : Identifier) → identifier_check e (identifier_found i) → may_follow most before i ≡ true
-      → (found : Result (List Identifier) Code) → others_after i (after (i ∷ []) found)
-      → identifiers_check most before (Child-F.Element e ∷ parts) (after (i ∷ []) found)
+      → (found : Result (List Identifier) Code) → others_after i (after_made (i ∷ []) found)
+      → identifiers_check most before (Child-F.Element e ∷ parts) (after_made (i ∷ []) found)
   joined e i is may (Ok others) f =
-      (i, is, passes_on (may_follow most before i) Failure (others_after i) (after (i ∷ []) (ok_list others)) may f)
+      (i, is, passes_on (may_follow most before i) Failure (others_after i) (after_made (i ∷ []) (ok_list others)) may f)
   joined e i is may (Err code) f = inr (i, is, passes_on (may_follow most before i) Failure (others_after i) (err_list code) may f)
 
   -- where an identifier is found there, what is found of the others comes after it
   pub place_goes_on : (part : Part) (o : Option Identifier) → part_check (following_check most before) part (one_found o)
       → (found : Result (List Identifier) Code) → identifiers_check most (before ++ option_list o) parts found
-      → identifiers_check most before (part ∷ parts) (after (option_list o) found)
+      → identifiers_check most before (part ∷ parts) (after_made (option_list o) found)
   place_goes_on (Child-F.Element e) None is found f = let wrong : one_found {X = Identifier} None ≡ one_found (Some is.0) = is.2 in cc
   place_goes_on (Child-F.Element e) (Some i) is found f =
       let same : one_found (Some i) ≡ one_found (Some is.0) = is.2 in
@@ -204,8 +204,8 @@ module _ (most : ℕ) (before : List Identifier) (parts : List Part) where
   ]
 
   -- where none is found there, none are found in all
-  pub place_stops : (part : Part) (error : FormError) → IsRefused (part_check (following_check most before) part) error
-      → IsRefused (identifiers_check most before (part ∷ parts)) error
+  pub place_stops : (part : Part) (error : FormError) → IsCheckRefusal (part_check (following_check most before) part) error
+      → IsCheckRefusal (identifiers_check most before (part ∷ parts)) error
   place_stops part NoMemory is = tt
   place_stops (Child-F.Element e) (Named code) is = elim is [
     | inl f ↦ refused_on e code f
@@ -224,12 +224,12 @@ module _ {X : Type 0} (one : Element → Check X) (child : Child) where
     pub part_found : (x : X) → one e (Ok x) → part_check one (out-Child child) (one_found (Some x))
     part_found x f = subst (λ (part : Part). part_check one part (one_found (Some x))) (sym opened) (x, f, refl)
 
-    at_element : (error : FormError) → IsRefused (one e) error → IsRefused (part_check one (Child-F.Element e)) error
+    at_element : (error : FormError) → IsCheckRefusal (one e) error → IsCheckRefusal (part_check one (Child-F.Element e)) error
     at_element (Named code) f = inl f
     at_element NoMemory f = tt
 
-    pub part_refused : (error : FormError) → IsRefused (one e) error → IsRefused (part_check one (out-Child child)) error
-    part_refused error f = subst (λ (part : Part). IsRefused (part_check one part) error) (sym opened) (at_element error f)
+    pub part_refused : (error : FormError) → IsCheckRefusal (one e) error → IsCheckRefusal (part_check one (out-Child child)) error
+    part_refused error f = subst (λ (part : Part). IsCheckRefusal (part_check one part) error) (sym opened) (at_element error f)
 
   module _ (text : List ℕ) (is : child ≡ the.Text text) where
     text_opened : out-Child child ≡ Child-F.Text text
@@ -246,27 +246,27 @@ module _ {X : Type 0} (one : Element → Check X) (child : Child) where
 -- ---- the turns of a loop along children
 
 module _ {X : Type 0} (whole : Check (List X)) where
-  pub begins : (made : List X) → made ≡ [] → GoesOn whole whole made
-  begins made none = subst (λ (m : List X). GoesOn whole whole m) (sym none) (starts whole)
+  pub begins : (made : List X) → made ≡ [] → IsRestAfter whole whole made
+  begins made none = subst (λ (m : List X). IsRestAfter whole whole m) (sym none) (starts whole)
 
   module _ (one : ℕ → Element → Check X) (index : ℕ) (left : List Child) (made : List X)
-      (g : GoesOn whole (each_element one index (parts_in left)) made) where
+      (g : IsRestAfter whole (each_element one index (parts_in left)) made) where
     module _ (child : Child) (others : List Child) (is : left ≡ child ∷ others) where
       parts_are : parts_in left ≡ out-Child child ∷ parts_in others
       parts_are = ap parts_in is
 
       pub elements_further : (o : Option X) (more : List X) → part_check (one index) (out-Child child) (one_found o)
-          → more ≡ made ++ option_list o → GoesOn whole (each_element one (index + 1) (parts_in others)) more
+          → more ≡ made ++ option_list o → IsRestAfter whole (each_element one (index + 1) (parts_in others)) more
       elements_further o more f same =
-          subst (λ (m : List X). GoesOn whole (each_element one (index + 1) (parts_in others)) m) (sym same)
+          subst (λ (m : List X). IsRestAfter whole (each_element one (index + 1) (parts_in others)) m) (sym same)
           (further whole (each_element one index (parts_in left)) (each_element one (index + 1) (parts_in others)) made (option_list o) g
-          (λ found r. subst (λ (ps : List Part). each_element one index ps (after (option_list o) found)) (sym parts_are)
+          (λ found r. subst (λ (ps : List Part). each_element one index ps (after_made (option_list o) found)) (sym parts_are)
           (part_goes_on one index (parts_in others) (out-Child child) o f found r)))
 
-      pub elements_stop : (error : FormError) → IsRefused (part_check (one index) (out-Child child)) error → IsRefused whole error
+      pub elements_stop : (error : FormError) → IsCheckRefusal (part_check (one index) (out-Child child)) error → IsCheckRefusal whole error
       elements_stop error f =
           stops whole (each_element one index (parts_in left)) made g error
-          (subst (λ (ps : List Part). IsRefused (each_element one index ps) error) (sym parts_are)
+          (subst (λ (ps : List Part). IsCheckRefusal (each_element one index ps) error) (sym parts_are)
           (part_stops one index (parts_in others) (out-Child child) error f))
 
     pub elements_end : left ≡ [] → whole (ok_list made)
@@ -276,32 +276,32 @@ module _ {X : Type 0} (whole : Check (List X)) where
 
 module _ (whole : Check (List Identifier)) (most : ℕ) where
   pub identifiers_begin : (parts : List Part) (made : List Identifier) → made ≡ []
-      → GoesOn (identifiers_check most [] parts) (identifiers_check most made parts) made
+      → IsRestAfter (identifiers_check most [] parts) (identifiers_check most made parts) made
   identifiers_begin parts made none =
-      subst (λ (m : List Identifier). GoesOn (identifiers_check most [] parts) (identifiers_check most m parts) m) (sym none)
+      subst (λ (m : List Identifier). IsRestAfter (identifiers_check most [] parts) (identifiers_check most m parts) m) (sym none)
       (starts (identifiers_check most [] parts))
 
-  module _ (left : List Child) (made : List Identifier) (g : GoesOn whole (identifiers_check most made (parts_in left)) made) where
+  module _ (left : List Child) (made : List Identifier) (g : IsRestAfter whole (identifiers_check most made (parts_in left)) made) where
     module _ (child : Child) (others : List Child) (is : left ≡ child ∷ others) where
       places_are : parts_in left ≡ out-Child child ∷ parts_in others
       places_are = ap parts_in is
 
       pub identifiers_further : (o : Option Identifier) (more : List Identifier)
           → part_check (following_check most made) (out-Child child) (one_found o) → more ≡ made ++ option_list o
-          → GoesOn whole (identifiers_check most more (parts_in others)) more
+          → IsRestAfter whole (identifiers_check most more (parts_in others)) more
       identifiers_further o more f same =
-          subst (λ (m : List Identifier). GoesOn whole (identifiers_check most m (parts_in others)) m) (sym same)
+          subst (λ (m : List Identifier). IsRestAfter whole (identifiers_check most m (parts_in others)) m) (sym same)
           (further whole (identifiers_check most made (parts_in left))
           (identifiers_check most (made ++ option_list o) (parts_in others)) made
           (option_list o) g
-          (λ found r. subst (λ (ps : List Part). identifiers_check most made ps (after (option_list o) found)) (sym places_are)
+          (λ found r. subst (λ (ps : List Part). identifiers_check most made ps (after_made (option_list o) found)) (sym places_are)
           (place_goes_on most made (parts_in others) (out-Child child) o f found r)))
 
-      pub identifiers_stop : (error : FormError) → IsRefused (part_check (following_check most made) (out-Child child)) error
-          → IsRefused whole error
+      pub identifiers_stop : (error : FormError) → IsCheckRefusal (part_check (following_check most made) (out-Child child)) error
+          → IsCheckRefusal whole error
       identifiers_stop error f =
           stops whole (identifiers_check most made (parts_in left)) made g error
-          (subst (λ (ps : List Part). IsRefused (identifiers_check most made ps) error) (sym places_are)
+          (subst (λ (ps : List Part). IsCheckRefusal (identifiers_check most made ps) error) (sym places_are)
           (place_stops most made (parts_in others) (out-Child child) error f))
 
     pub identifiers_end : left ≡ [] → whole (ok_list made)

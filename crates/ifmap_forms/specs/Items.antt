@@ -19,7 +19,7 @@ use Rattle.ifmap_ident.specs.Parts.{has_only}
 use Rattle.ifmap_forms.specs.declared.errors.FormError.{FormError}
 use Rattle.ifmap_forms.specs.declared.errors.FormError.TheVariants as form
 use Rattle.ifmap_forms.specs.Checks.{Check, check_then, fail, need, need_some, pass}
-use Rattle.ifmap_forms.specs.Tables.{ContentCheck, Part, each_element, is_white_part, parts_of}
+use Rattle.ifmap_forms.specs.Tables.{ContentCheck, Part, each_element, is_white_part, element_parts}
 
 -- ---- one identifier
 
@@ -103,11 +103,11 @@ from_list (part ∷ parts) = if is_list part then part ∷ parts else from_list 
 module _ {X : Type 0} (one : Element → Check X) where
   -- the list: no attributes of its own, and elements alone
   abbrev pub list_check : Element → Check (List X)
-  list_check e = need (has_only [] e) Failure (each_element (λ index inner. one inner) 0 (parts_of e))
+  list_check e = need (has_only [] e) Failure (each_element (λ index inner. one inner) 0 (element_parts e))
 
   -- the list where there is one, and nothing after it but white space
-  abbrev pub list_at : List Part → Check (Option (List X))
-  list_at [] = pass None
-  list_at (Child-F.Element e ∷ after) =
+  abbrev pub list_if_there : List Part → Check (Option (List X))
+  list_if_there [] = pass None
+  list_if_there (Child-F.Element e ∷ after) =
       check_then (list_check e) (λ xs. need (list_all is_white_part after) Failure (pass (Some xs)))
-  list_at (Child-F.Text text ∷ after) = fail Failure
+  list_if_there (Child-F.Text text ∷ after) = fail Failure

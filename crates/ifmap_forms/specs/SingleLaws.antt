@@ -19,11 +19,11 @@ use Rattle.ifmap_ident.specs.Laws.{AreOneAnswer}
 use Rattle.ifmap_ident.specs.Parts.{has_only, value_of}
 use Rattle.ifmap_forms.specs.CheckLaws.{fail_single, if_single, need_single, pass_single, some_single, then_single}
 use Rattle.ifmap_forms.specs.Checks.{Check, IsSingle, check_then, need, need_some, pass}
-use Rattle.ifmap_forms.specs.Items.{identifier_check, identifier_code, identifiers_check, item_content, item_of, list_at, list_check}
+use Rattle.ifmap_forms.specs.Items.{identifier_check, identifier_code, identifiers_check, item_content, item_of, list_if_there, list_check}
 use Rattle.ifmap_forms.specs.Items.{may_follow, only_identifier, start_content}
 use Rattle.ifmap_forms.specs.Scopes.{Scopes}
-use Rattle.ifmap_forms.specs.Tables.{ContentCheck, Form, Part, Table, beside, both, each_element, form_or, is_white_part, no_attributes}
-use Rattle.ifmap_forms.specs.Tables.{no_children, parts_of, read_form, form_check}
+use Rattle.ifmap_forms.specs.Tables.{ContentCheck, Form, Part, AttributeTable, beside, both, each_element, form_or, is_white_part, no_attributes}
+use Rattle.ifmap_forms.specs.Tables.{no_children, element_parts, read_form, form_check}
 use Rattle.ifmap_forms.specs.Values.{Field, field_check, read_text}
 
 -- ---- 1. identifiers
@@ -91,13 +91,13 @@ module _ (one_answer : (e : Element) (one other : Result Identifier IdentError) 
 abbrev pub OneOfField : {X : Type 0} → Field X → Type 0
 OneOfField field = (scope : Scope) (text : Option (List ℕ)) → IsSingle (field.reads scope text)
 
-abbrev pub OneOfTable : {X : Type 0} → Table X → Type 0
+abbrev pub OneOfTable : {X : Type 0} → AttributeTable X → Type 0
 OneOfTable table = (scope : Scope) (e : Element) → IsSingle (table.reads scope e)
 
 abbrev pub OneOfContent : {X : Type 0} → ContentCheck X → Type 0
 OneOfContent content = (scopes : Scopes) (parts : List Part) → IsSingle (content scopes parts)
 
-module _ {X Y : Type 0} (field : Field X) (table : Table Y) where
+module _ {X Y : Type 0} (field : Field X) (table : AttributeTable Y) where
   pub beside_single : OneOfField field → OneOfTable table → OneOfTable (beside field table)
   beside_single f t scope e =
       then_single (field_check field scope e) (λ x. check_then (table.reads scope e) (λ y. pass (both x y)))
@@ -110,11 +110,11 @@ module _ {A C : Type 0} (form : Form A C) where
   form_single t s scopes e =
       then_single (form.attributes.reads (scopes []) e)
       (λ a. need (has_only (form.passed_over ++ form.attributes.locals) e) Failure
-      (check_then (form.content scopes (parts_of e)) (λ c. pass (both a c))))
+      (check_then (form.content scopes (element_parts e)) (λ c. pass (both a c))))
       (t (scopes []) e)
       (λ a. need_single (has_only (form.passed_over ++ form.attributes.locals) e) Failure
-      (check_then (form.content scopes (parts_of e)) (λ c. pass (both a c)))
-      (then_single (form.content scopes (parts_of e)) (λ c. pass (both a c)) (s scopes (parts_of e))
+      (check_then (form.content scopes (element_parts e)) (λ c. pass (both a c)))
+      (then_single (form.content scopes (element_parts e)) (λ c. pass (both a c)) (s scopes (element_parts e))
       (λ c. pass_single (both a c))))
 
 module _ {X A C : Type 0} (form : Form A C) (make : A → C → X) where
@@ -151,10 +151,10 @@ read_text_single scope (Some text) = pass_single text
 module _ {X : Type 0} (one : Element → Check X) (s : (e : Element) → IsSingle (one e)) where
   list_check_single : (e : Element) → IsSingle (list_check one e)
   list_check_single e =
-      need_single (has_only [] e) Failure (each_element (λ index inner. one inner) 0 (parts_of e))
-      (each_single (λ index inner. one inner) (λ index inner. s inner) 0 (parts_of e))
+      need_single (has_only [] e) Failure (each_element (λ index inner. one inner) 0 (element_parts e))
+      (each_single (λ index inner. one inner) (λ index inner. s inner) 0 (element_parts e))
 
-  pub list_at_single : (parts : List Part) → IsSingle (list_at one parts)
+  pub list_at_single : (parts : List Part) → IsSingle (list_if_there one parts)
   list_at_single [] = pass_single None
   list_at_single (Child-F.Element e ∷ after) =
       then_single (list_check one e) (λ xs. need (list_all is_white_part after) Failure (pass (Some xs))) (list_check_single e)

@@ -26,20 +26,20 @@ both x y = record { first = x; others = y }
 -- ---- attributes
 
 -- the names of attributes in the order in which they are checked, and what an element means by them
-pub record Table (X : Type 0) : Type 1 where
+pub record AttributeTable (X : Type 0) : Type 1 where
   pub locals : List (List ℕ)
   pub reads : Scope → Element → Check X
 
-abbrev pub no_attributes : Table (Unit {0})
+abbrev pub no_attributes : AttributeTable (Unit {0})
 no_attributes = record { locals = []; reads = λ scope e. pass tt }
 
 module _ {X Y : Type 0} where
-  abbrev pub read_both : Field X → Table Y → Scope → Element → Check (Both X Y)
+  abbrev pub read_both : Field X → AttributeTable Y → Scope → Element → Check (Both X Y)
   read_both field table scope e =
       check_then (field_check field scope e) (λ x. check_then (table.reads scope e) (λ y. pass (both x y)))
 
   -- an attribute, and then others
-  abbrev pub beside : Field X → Table Y → Table (Both X Y)
+  abbrev pub beside : Field X → AttributeTable Y → AttributeTable (Both X Y)
   beside field table = record { locals = field.local ∷ table.locals; reads = read_both field table }
 
 -- what an element means by an attribute that is a text, and by no other
@@ -55,8 +55,8 @@ Part = Child-F Child Element
 abbrev pub parts_in : List Child → List Part
 parts_in children = map out-Child children
 
-abbrev pub parts_of : Element → List Part
-parts_of e = parts_in e.children
+abbrev pub element_parts : Element → List Part
+element_parts e = parts_in e.children
 
 -- the part is a text of white space alone
 abbrev pub is_white_part : Part → Bool
@@ -88,12 +88,12 @@ module _ {X : Type 0} where
 pub record Form (A C : Type 0) : Type 1 where
   pub name : Name
   pub passed_over : List (List ℕ)
-  pub attributes : Table A
+  pub attributes : AttributeTable A
   pub content : ContentCheck C
 
 module _ {A C : Type 0} where
   -- a form of an element in no namespace, where no further attribute is passed over
-  abbrev pub bare_form : List ℕ → Table A → ContentCheck C → Form A C
+  abbrev pub bare_form : List ℕ → AttributeTable A → ContentCheck C → Form A C
   bare_form local attributes content =
       record { name = bare_name local; passed_over = []; attributes = attributes; content = content }
 
@@ -102,7 +102,7 @@ module _ {A C : Type 0} where
   read_form form scopes e =
       check_then (form.attributes.reads (scopes []) e)
       (λ a. need (has_only (form.passed_over ++ form.attributes.locals) e) Failure
-      (check_then (form.content scopes (parts_of e)) (λ c. pass (both a c))))
+      (check_then (form.content scopes (element_parts e)) (λ c. pass (both a c))))
 
 module _ {X A C : Type 0} where
   -- what is made of what an element means by its attributes and its children

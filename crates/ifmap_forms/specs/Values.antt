@@ -54,13 +54,13 @@ abbrev pub number_of : List ℕ → Option ℕ
 number_of text = if is_number text then Some (digits_value 10 text) else None
 
 -- the number, or the end of the range that it passes
-abbrev pub within : ℕ → ℕ → ℕ → ℕ
-within low high n = max low (min n high)
+abbrev pub within_range : ℕ → ℕ → ℕ → ℕ
+within_range low high n = max low (min n high)
 
 -- how large a poll's result may be: from 10,000 to 5,000,000, where it is said
 abbrev pub read_limit : Option (List ℕ) → Check (Option ℕ)
 read_limit None = pass None
-read_limit (Some text) = need_some Failure (number_of text) (λ n. pass (Some (within 10_000 5_000_000 n)))
+read_limit (Some text) = need_some Failure (number_of text) (λ n. pass (Some (within_range 10_000 5_000_000 n)))
 
 abbrev pub limit_field : Field (Option ℕ)
 limit_field = record { local = codes "max-poll-result-size"; reads = λ scope. read_limit }

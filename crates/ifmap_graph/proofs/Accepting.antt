@@ -11,7 +11,7 @@ use Rattle.ifmap_meta.specs.declared.stored.Stored.{Stored}
 use Rattle.ifmap_view.specs.Rows.{stored_on}
 use Rattle.ifmap_graph.specs.declared.shelves.Shelves.{Shelves}
 use Rattle.ifmap_graph.specs.Drafted.{AreBare, DraftsWithin, ends_at}
-use Rattle.ifmap_graph.specs.Shelved.{AreShelved, HasDraft, place_of, rows_of}
+use Rattle.ifmap_graph.specs.Shelved.{AreShelved, HasDraft, slot_of_item, rows_on_side}
 use Rattle.ifmap_graph.specs.Sides.{next, now}
 use Rattle.ifmap_graph.specs.Waits.{waits_on}
 use Rattle.ifmap_graph.proofs.Bare.{none_left, one_gone, sides_same}
@@ -57,13 +57,13 @@ here_mapped f xs i d h =
 
 -- what is stored on an item
 abbrev pub stored_at : Shelves → Item → List Stored
-stored_at s x = stored_on x (rows_of now s)
+stored_at s x = stored_on x (rows_on_side now s)
 
 module _ (items : List Item) (first : Shelves) where
   -- so many drafts are accepted, and the lists that were there stand in the places of those that were given
   pub record Accepting (lists : List (List Stored)) (shelves : Shelves) (i : ℕ) : Type 0 where
     pub shelved : AreShelved shelves
-    pub same : rows_of next shelves ≡ rows_of next first
+    pub same : rows_on_side next shelves ≡ rows_on_side next first
     pub drafted : AllByRecursion (HasDraft shelves) (drop i items)
     pub within : DraftsWithin (drop i items) shelves
     pub apart : IsDistinct same_item (drop i items)
@@ -100,10 +100,10 @@ module _ (items : List Item) (first : Shelves) where
     rest_apart = apart_parts item (drop (i + 1) items) (subst (λ l. IsDistinct same_item l) here g.apart)
 
     module _ (lists' : List (List Stored)) (shelves' : Shelves) (shelved : AreShelved shelves')
-        (same : rows_of next shelves' ≡ rows_of next shelves)
+        (same : rows_on_side next shelves' ≡ rows_on_side next shelves)
         (drafts : (x : Item) → HasDraft shelves' x → HasDraft shelves x × (same_item x item ≡ false))
         (others : (x : Item) → same_item x item ≡ false
-        → (HasDraft shelves x → HasDraft shelves' x) × (stored_on x (rows_of now shelves') ≡ stored_on x (rows_of now shelves)))
+        → (HasDraft shelves x → HasDraft shelves' x) × (stored_on x (rows_on_side now shelves') ≡ stored_on x (rows_on_side now shelves)))
         (ends : (at : ℕ) → ends_at shelves' at ≡ ends_at shelves at) (waits : (x : Item) → waits_on shelves' x ≡ waits_on shelves x)
         (places : shelves'.places ≡ shelves.places) (wrote : lists' ≡ set lists i (stored_at shelves item)) where
       within : i < length lists
@@ -144,7 +144,7 @@ module _ (items : List Item) (first : Shelves) where
     pub accepted_bare : AreBare shelves
     accepted_bare = none_left shelves g.shelved (subst (λ l. DraftsWithin l shelves) none g.within)
 
-    pub accepted_now : rows_of now shelves ≡ rows_of next first
+    pub accepted_now : rows_on_side now shelves ≡ rows_on_side next first
     accepted_now = sym (sides_same shelves accepted_bare) ∙ g.same
 
     pub accepted_lists : lists ≡ map (stored_at first) items
@@ -153,20 +153,20 @@ module _ (items : List Item) (first : Shelves) where
         ∙ sym (ap (λ l. take i lists ++ map (stored_at shelves) l) none) ∙ g.made
 
   -- what has a draft has a shelf
-  pub drafted_there : AllByRecursion (HasDraft first) items → AllByRecursion (λ x. IsSome (place_of first x)) items
-  drafted_there drafted = all_given (HasDraft first) (λ x. IsSome (place_of first x)) items (λ x k. subst IsSome (sym k.2) refl) drafted
+  pub drafted_there : AllByRecursion (HasDraft first) items → AllByRecursion (λ x. IsSome (slot_of_item first x)) items
+  drafted_there drafted = all_given (HasDraft first) (λ x. IsSome (slot_of_item first x)) items (λ x k. subst IsSome (sym k.2) refl) drafted
 
   -- so many drafts are taken back
   pub record Discarding (shelves : Shelves) (i : ℕ) : Type 0 where
     pub shelved : AreShelved shelves
-    pub same : rows_of now shelves ≡ rows_of now first
-    pub there : AllByRecursion (λ x. IsSome (place_of first x)) (drop i items)
+    pub same : rows_on_side now shelves ≡ rows_on_side now first
+    pub there : AllByRecursion (λ x. IsSome (slot_of_item first x)) (drop i items)
     pub within : DraftsWithin (drop i items) shelves
     pub ends : (at : ℕ) → ends_at shelves at ≡ ends_at first at
     pub waits : (x : Item) → waits_on shelves x ≡ waits_on first x
     pub places : shelves.places ≡ first.places
 
-  pub discarding : AreShelved first → AllByRecursion (λ x. IsSome (place_of first x)) items → DraftsWithin items first → Discarding first 0
+  pub discarding : AreShelved first → AllByRecursion (λ x. IsSome (slot_of_item first x)) items → DraftsWithin items first → Discarding first 0
   discarding shelved there within = record {
     shelved = shelved;
     same = refl;
@@ -179,13 +179,13 @@ module _ (items : List Item) (first : Shelves) where
 
   module _ (shelves : Shelves) (i : ℕ) (item : Item) (h : i < length items) (here : drop i items ≡ item ∷ drop (i + 1) items)
       (g : Discarding shelves i) where
-    now_there : AllByRecursion (λ x. IsSome (place_of first x)) (item ∷ drop (i + 1) items)
-    now_there = subst (AllByRecursion (λ x. IsSome (place_of first x))) here g.there
+    now_there : AllByRecursion (λ x. IsSome (slot_of_item first x)) (item ∷ drop (i + 1) items)
+    now_there = subst (AllByRecursion (λ x. IsSome (slot_of_item first x))) here g.there
 
-    pub there_at : IsSome (place_of shelves item)
-    there_at = subst (λ p. IsSome (place_of (record { places = p; slots = shelves.slots }) item)) (sym g.places) now_there.0
+    pub there_at : IsSome (slot_of_item shelves item)
+    there_at = subst (λ p. IsSome (slot_of_item (record { places = p; slots = shelves.slots }) item)) (sym g.places) now_there.0
 
-    pub discards_on : (shelves' : Shelves) → AreShelved shelves' → rows_of now shelves' ≡ rows_of now shelves
+    pub discards_on : (shelves' : Shelves) → AreShelved shelves' → rows_on_side now shelves' ≡ rows_on_side now shelves
         → ((x : Item) → HasDraft shelves' x → HasDraft shelves x × (same_item x item ≡ false))
         → ((at : ℕ) → ends_at shelves' at ≡ ends_at shelves at) → ((x : Item) → waits_on shelves' x ≡ waits_on shelves x)
         → shelves'.places ≡ shelves.places
@@ -205,5 +205,5 @@ module _ (items : List Item) (first : Shelves) where
     pub discarded_bare : AreBare shelves
     discarded_bare = none_left shelves g.shelved (subst (λ l. DraftsWithin l shelves) (drop_all i items e) g.within)
 
-    pub discarded_next : rows_of next shelves ≡ rows_of now first
+    pub discarded_next : rows_on_side next shelves ≡ rows_on_side now first
     discarded_next = sides_same shelves discarded_bare ∙ g.same

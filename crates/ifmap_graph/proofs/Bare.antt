@@ -12,7 +12,7 @@ use Rattle.ifmap_meta.specs.declared.stored.Stored.{Stored}
 use Rattle.ifmap_graph.specs.declared.shelves.Shelf.{Shelf}
 use Rattle.ifmap_graph.specs.declared.shelves.Shelves.{Shelves}
 use Rattle.ifmap_graph.specs.Drafted.{AreBare, DraftsWithin, NoDraft}
-use Rattle.ifmap_graph.specs.Shelved.{AreShelved, HasDraft, list_at, row_on, rows_by, rows_of}
+use Rattle.ifmap_graph.specs.Shelved.{AreShelved, HasDraft, list_at, row_on, rows_by, rows_on_side}
 use Rattle.ifmap_graph.specs.Sides.{next, now}
 use Rattle.ifmap_graph.proofs.Following.{entry_hits}
 use Rattle.ifmap_graph.proofs.Shelving.{Entries}
@@ -29,7 +29,7 @@ rows_bare look (e ∷ es) a =
     ∙ ap (λ l. map (row_on e.0) (list_at now (look e.1)) ++ l) (rows_bare look es a.1)
 
 -- where no shelf has a draft, what is stored is what is to be
-pub sides_same : (s : Shelves) → AreBare s → rows_of next s ≡ rows_of now s
+pub sides_same : (s : Shelves) → AreBare s → rows_on_side next s ≡ rows_on_side now s
 sides_same s a = rows_bare (get s.slots) s.places.entries a
 
 pub no_draft : (o : Option Shelf) → ((shelf : Shelf) → o ≡ Some shelf → IsSome shelf.stored.draft → ⊥) → NoDraft o

@@ -12,7 +12,7 @@ use Rattle.ifmap_graph.specs.Held.{IsInside, IsSide, links_at}
 use Rattle.ifmap_graph.specs.Joined.{joined_pair}
 use Rattle.ifmap_graph.specs.Linked.{ats}
 use Rattle.ifmap_graph.specs.Seen.{IsStill}
-use Rattle.ifmap_graph.specs.Shelved.{Side}
+use Rattle.ifmap_graph.specs.Shelved.{StoredSide}
 use Rattle.ifmap_graph.specs.Sides.{next, now}
 use Rattle.ifmap_graph.proofs.Shelving.{no_slots, nothing_placed}
 
@@ -46,7 +46,7 @@ module _ (names : Holdings Identifier) (none : (v : ℕ) → entry_at names v �
     unjoined : (at v w : ℕ) → joined_pair (look at) ≡ Some (v, w) → ⊥
     unjoined at v w j = none-some _ (sym (ap joined_pair (vacant at)) ∙ j)
 
-    pub no_side : (side : Side) (links : ℕ → List LinkSeen) → ((v : ℕ) → links v ≡ []) → IsSide side look [] links
+    pub no_side : (side : StoredSide) (links : ℕ → List LinkSeen) → ((v : ℕ) → links v ≡ []) → IsSide side look [] links
     no_side side links empty = record {
       lists = tt;
       listed = record {

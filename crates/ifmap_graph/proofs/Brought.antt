@@ -18,7 +18,7 @@ use Rattle.ifmap_graph.specs.declared.shelves.Shelves.{Shelves}
 use Rattle.ifmap_graph.specs.Bringing.{BringsShelves, IsOther, flagged_items, named_of}
 use Rattle.ifmap_graph.specs.Drafted.{AreBare, NoDraft, ends_at}
 use Rattle.ifmap_graph.specs.Named.{named_by, named_in}
-use Rattle.ifmap_graph.specs.Shelved.{AreShelved, place_of}
+use Rattle.ifmap_graph.specs.Shelved.{AreShelved, slot_of_item}
 use Rattle.ifmap_graph.specs.Waits.{waits_of, waits_on, waits_there}
 use Rattle.ifmap_graph.proofs.Finding.{all_inserted}
 use Rattle.ifmap_graph.proofs.Following.{lookup_tied}
@@ -34,27 +34,27 @@ nothing_some : {X : Type 0} (o : Option X) → o ≡ None → IsSome o → ⊥
 nothing_some {X} o e s = let q : IsSome {T = X} None = subst (λ (o : Option X). IsSome o) e s in cc
 
 -- what ties is in one place
-place_tied : (s : Shelves) (x y : Item) → is_at (item_order x) y ≡ true → place_of s x ≡ place_of s y
+place_tied : (s : Shelves) (x y : Item) → is_at (item_order x) y ≡ true → slot_of_item s x ≡ slot_of_item s y
 place_tied s x y t = lookup_tied x y s.places.entries (equal_is (item_order x y) t)
 
 -- an item that has no shelf is none of those that have one; and one that has is none of those that have none
-other_there : (s : Shelves) (xs : List Item) (y : Item) → AllByRecursion (λ x. IsSome (place_of s x)) xs → place_of s y ≡ None
+other_there : (s : Shelves) (xs : List Item) (y : Item) → AllByRecursion (λ x. IsSome (slot_of_item s x)) xs → slot_of_item s y ≡ None
     → IsOther xs y
 other_there s [] y a e = tt
 other_there s (x ∷ xs) y a e = (
   elim (cases_Bool (is_at (item_order x) y)) [
-    | inl t ↦ absurd (nothing_some (place_of s x) (place_tied s x y t ∙ e) a.0)
+    | inl t ↦ absurd (nothing_some (slot_of_item s x) (place_tied s x y t ∙ e) a.0)
     | inr f ↦ f
   ],
   other_there s xs y a.1 e,
 )
 
-pub other_absent : (s : Shelves) (xs : List Item) (y : Item) → AllByRecursion (λ x. place_of s x ≡ None) xs → IsSome (place_of s y)
+pub other_absent : (s : Shelves) (xs : List Item) (y : Item) → AllByRecursion (λ x. slot_of_item s x ≡ None) xs → IsSome (slot_of_item s y)
     → IsOther xs y
 other_absent s [] y a e = tt
 other_absent s (x ∷ xs) y a e = (
   elim (cases_Bool (is_at (item_order x) y)) [
-    | inl t ↦ absurd (nothing_some (place_of s y) (sym (place_tied s x y t) ∙ a.0) e)
+    | inl t ↦ absurd (nothing_some (slot_of_item s y) (sym (place_tied s x y t) ∙ a.0) e)
     | inr f ↦ f
   ],
   other_absent s xs y a.1 e,
@@ -98,14 +98,14 @@ brings_none s t entries ends waits = record {
 -- first these, then those
 pub brings_both : (xs ys : List Item) (s t u : Shelves) → BringsShelves xs s t → BringsShelves ys t u → BringsShelves (xs ++ ys) s u
 brings_both xs ys s t u p q = record {
-  absent = all_joined (λ x. place_of s x ≡ None) xs ys p.absent
-      (all_given (λ y. place_of t y ≡ None) (λ y. place_of s y ≡ None) ys
+  absent = all_joined (λ x. slot_of_item s x ≡ None) xs ys p.absent
+      (all_given (λ y. slot_of_item t y ≡ None) (λ y. slot_of_item s y ≡ None) ys
       (λ y e. sym (p.places y (other_there t xs y p.there e)) ∙ e) q.absent);
-  there = all_joined (λ x. IsSome (place_of u x)) xs ys
-      (all_given (λ x. IsSome (place_of t x)) (λ x. IsSome (place_of u x)) xs
+  there = all_joined (λ x. IsSome (slot_of_item u x)) xs ys
+      (all_given (λ x. IsSome (slot_of_item t x)) (λ x. IsSome (slot_of_item u x)) xs
       (λ x h. subst (λ (o : Option ℕ). IsSome o) (sym (q.places x (other_absent t ys x q.absent h))) h) p.there) q.there;
   places = λ x o. let r = other_parts xs ys x o in q.places x r.1 ∙ p.places x r.0;
-  ends = λ x at e. q.ends x at (p.places x (other_absent s xs x p.absent (some_place (place_of s x) at e)) ∙ e) ∙ p.ends x at e;
+  ends = λ x at e. q.ends x at (p.places x (other_absent s xs x p.absent (some_place (slot_of_item s x) at e)) ∙ e) ∙ p.ends x at e;
   waits = λ x. q.waits x ∙ p.waits x;
   named = λ a. omega (arith, p.named a, q.named a, named_joined xs ys a);
 }
@@ -121,14 +121,14 @@ brings_less x rest s t u p q apart = record {
     | inr f ↦ sym (q.places z (f, tt)) ∙ p.places z (f, o)
   ];
   ends = λ z at e.
-      let o = other_absent s (x ∷ rest) z p.absent (some_place (place_of s z) at e)
+      let o = other_absent s (x ∷ rest) z p.absent (some_place (slot_of_item s z) at e)
       in sym (q.ends z at (sym (q.places z (o.0, tt)) ∙ p.places z o ∙ e)) ∙ p.ends z at e;
   waits = λ z. sym (q.waits z) ∙ p.waits z;
   named = λ a. omega (arith, p.named a, q.named a);
 }
   where
-    all_there : (ys : List Item) → AllByRecursion (λ y. same_item x y ≡ false) ys → AllByRecursion (λ y. IsSome (place_of u y)) ys
-        → AllByRecursion (λ y. IsSome (place_of t y)) ys
+    all_there : (ys : List Item) → AllByRecursion (λ y. same_item x y ≡ false) ys → AllByRecursion (λ y. IsSome (slot_of_item u y)) ys
+        → AllByRecursion (λ y. IsSome (slot_of_item t y)) ys
     all_there [] a b = tt
     all_there (y ∷ ys) a b = (
       subst (λ (o : Option ℕ). IsSome o) (q.places y (sym (items_tie x y) ∙ a.0, tt)) b.0,
@@ -141,7 +141,7 @@ pub brings_written : (items : List Item) (s t u : Shelves) → BringsShelves ite
     → ((x : Item) → waits_on u x ≡ waits_on t x) → BringsShelves items s u
 brings_written items s t u p places ends waits = record {
   absent = p.absent;
-  there = all_given (λ x. IsSome (place_of t x)) (λ x. IsSome (place_of u x)) items
+  there = all_given (λ x. IsSome (slot_of_item t x)) (λ x. IsSome (slot_of_item u x)) items
       (λ x h. subst (λ (o : Option ℕ). IsSome o) (sym (ap (λ p. lookup (is_at (item_order x)) p.entries) places)) h) p.there;
   places = λ x o. ap (λ p. lookup (is_at (item_order x)) p.entries) places ∙ p.places x o;
   ends = λ x at e. ends at ∙ p.ends x at e;
@@ -150,20 +150,20 @@ brings_written items s t u p places ends waits = record {
 }
 
 -- the shelf of one item comes
-pub brings_one : (s t : Shelves) (item : Item) (at : ℕ) (shelf : Shelf) → AreShelved s → place_of s item ≡ None
-    → ((x : Item) → place_of t x ≡ cond (is_at (item_order item) x) (Some at) (place_of s x))
+pub brings_one : (s t : Shelves) (item : Item) (at : ℕ) (shelf : Shelf) → AreShelved s → slot_of_item s item ≡ None
+    → ((x : Item) → slot_of_item t x ≡ cond (is_at (item_order item) x) (Some at) (slot_of_item s x))
     → t.places.entries ≡ insert_entry item_order s.places.entries item at
     → get s.slots at ≡ None → get t.slots at ≡ Some shelf → shelf.waits ≡ 0 → ((o : ℕ) → (o ≡ at → ⊥) → get t.slots o ≡ get s.slots o)
     → BringsShelves (item ∷ []) s t
 brings_one s t item at shelf is none updates inserts vacant has zero others = record {
   absent = (none, tt);
-  there = (some_place (place_of t item) at (here item (ap is_eq (tied_itself items_total item))), tt);
+  there = (some_place (slot_of_item t item) at (here item (ap is_eq (tied_itself items_total item))), tt);
   places = λ x o. elsewhere x o.0;
   ends = λ x n e. ap ends_of (others n (λ q. vacant_not x n e q));
   waits = λ x. elim (cases_Bool (is_at (item_order item) x)) [
     | inl y ↦ ap (waits_there (get t.slots)) (here x y) ∙ ap waits_of has ∙ zero
         ∙ sym (ap (waits_there (get s.slots)) (sym (place_tied s item x y) ∙ none))
-    | inr f ↦ waits_same x f (place_of s x) refl
+    | inr f ↦ waits_same x f (slot_of_item s x) refl
   ];
   named = λ a. ap (λ es. named_in es a) inserts ∙ comes s.places.entries item at a none
       ∙ plus (named_by item a) (named_in s.places.entries a);
@@ -172,34 +172,34 @@ brings_one s t item at shelf is none updates inserts vacant has zero others = re
     plus : (n m : ℕ) → n + m ≡ (n + 0) + m
     plus n m = omega arith
 
-    here : (x : Item) → is_at (item_order item) x ≡ true → place_of t x ≡ Some at
-    here x y = updates x ∙ ap (λ b. cond b (Some at) (place_of s x)) y
+    here : (x : Item) → is_at (item_order item) x ≡ true → slot_of_item t x ≡ Some at
+    here x y = updates x ∙ ap (λ b. cond b (Some at) (slot_of_item s x)) y
 
-    elsewhere : (x : Item) → is_at (item_order item) x ≡ false → place_of t x ≡ place_of s x
-    elsewhere x f = updates x ∙ ap (λ b. cond b (Some at) (place_of s x)) f
+    elsewhere : (x : Item) → is_at (item_order item) x ≡ false → slot_of_item t x ≡ slot_of_item s x
+    elsewhere x f = updates x ∙ ap (λ b. cond b (Some at) (slot_of_item s x)) f
 
-    vacant_not : (x : Item) (n : ℕ) → place_of s x ≡ Some n → n ≡ at → ⊥
+    vacant_not : (x : Item) (n : ℕ) → slot_of_item s x ≡ Some n → n ≡ at → ⊥
     vacant_not x n e q = nothing_some (get s.slots n) (ap (get s.slots) q ∙ vacant) (slot_live (get s.slots) s.places.entries x n is e)
 
-    waits_same : (x : Item) → is_at (item_order item) x ≡ false → (o : Option ℕ) → place_of s x ≡ o → waits_on t x ≡ waits_on s x
+    waits_same : (x : Item) → is_at (item_order item) x ≡ false → (o : Option ℕ) → slot_of_item s x ≡ o → waits_on t x ≡ waits_on s x
     waits_same x f None e = ap (waits_there (get t.slots)) (elsewhere x f ∙ e) ∙ sym (ap (waits_there (get s.slots)) e)
     waits_same x f (Some n) e =
         ap (waits_there (get t.slots)) (elsewhere x f ∙ e) ∙ ap waits_of (others n (vacant_not x n e))
         ∙ sym (ap (waits_there (get s.slots)) e)
 
 -- the shelf of one item goes
-pub brings_taken : (s t : Shelves) (item : Item) (at : ℕ) → place_of s item ≡ Some at
-    → ((x : Item) → place_of t x ≡ cond (is_at (item_order item) x) None (place_of s x))
+pub brings_taken : (s t : Shelves) (item : Item) (at : ℕ) → slot_of_item s item ≡ Some at
+    → ((x : Item) → slot_of_item t x ≡ cond (is_at (item_order item) x) None (slot_of_item s x))
     → t.places.entries ≡ remove_entry (is_at (item_order item)) s.places.entries
-    → ((x : Item) (n : ℕ) → place_of t x ≡ Some n → get t.slots n ≡ get s.slots n) → waits_on s item ≡ 0 → BringsShelves (item ∷ []) t s
+    → ((x : Item) (n : ℕ) → slot_of_item t x ≡ Some n → get t.slots n ≡ get s.slots n) → waits_on s item ≡ 0 → BringsShelves (item ∷ []) t s
 brings_taken s t item at here updates removes before zero = record {
   absent = (gone item (ap is_eq (tied_itself items_total item)), tt);
-  there = (some_place (place_of s item) at here, tt);
+  there = (some_place (slot_of_item s item) at here, tt);
   places = λ x o. sym (elsewhere x o.0);
   ends = λ x n e. sym (ap ends_of (before x n e));
   waits = λ x. elim (cases_Bool (is_at (item_order item) x)) [
     | inl y ↦ ap (waits_there (get s.slots)) (sym (place_tied s item x y)) ∙ zero ∙ sym (ap (waits_there (get t.slots)) (gone x y))
-    | inr f ↦ waits_same x f (place_of t x) refl
+    | inr f ↦ waits_same x f (slot_of_item t x) refl
   ];
   named = λ a. sym (goes s.places.entries item at a here) ∙ ap (λ es. named_by item a + named_in es a) (sym removes)
       ∙ plus (named_by item a) (named_in t.places.entries a);
@@ -208,13 +208,13 @@ brings_taken s t item at here updates removes before zero = record {
     plus : (n m : ℕ) → n + m ≡ (n + 0) + m
     plus n m = omega arith
 
-    gone : (x : Item) → is_at (item_order item) x ≡ true → place_of t x ≡ None
-    gone x y = updates x ∙ ap (λ b. cond b None (place_of s x)) y
+    gone : (x : Item) → is_at (item_order item) x ≡ true → slot_of_item t x ≡ None
+    gone x y = updates x ∙ ap (λ b. cond b None (slot_of_item s x)) y
 
-    elsewhere : (x : Item) → is_at (item_order item) x ≡ false → place_of t x ≡ place_of s x
-    elsewhere x f = updates x ∙ ap (λ b. cond b None (place_of s x)) f
+    elsewhere : (x : Item) → is_at (item_order item) x ≡ false → slot_of_item t x ≡ slot_of_item s x
+    elsewhere x f = updates x ∙ ap (λ b. cond b None (slot_of_item s x)) f
 
-    waits_same : (x : Item) → is_at (item_order item) x ≡ false → (o : Option ℕ) → place_of t x ≡ o → waits_on s x ≡ waits_on t x
+    waits_same : (x : Item) → is_at (item_order item) x ≡ false → (o : Option ℕ) → slot_of_item t x ≡ o → waits_on s x ≡ waits_on t x
     waits_same x f None e = ap (waits_there (get s.slots)) (sym (elsewhere x f) ∙ e) ∙ sym (ap (waits_there (get t.slots)) e)
     waits_same x f (Some n) e =
         ap (waits_there (get s.slots)) (sym (elsewhere x f) ∙ e) ∙ sym (ap waits_of (before x n e)) ∙ sym (ap (waits_there (get t.slots)) e)
@@ -223,26 +223,26 @@ brings_taken s t item at here updates removes before zero = record {
 pub brings_unless : (items : List Item) (s t u : Shelves) → BringsShelves items s u → BringsShelves [] t u → BringsShelves items s t
 brings_unless items s t u p q = record {
   absent = p.absent;
-  there = all_given (λ x. IsSome (place_of u x)) (λ x. IsSome (place_of t x)) items
+  there = all_given (λ x. IsSome (slot_of_item u x)) (λ x. IsSome (slot_of_item t x)) items
       (λ x h. subst (λ (o : Option ℕ). IsSome o) (q.places x tt) h) p.there;
   places = λ x o. sym (q.places x tt) ∙ p.places x o;
   ends = λ x at e.
-      let o = other_absent s items x p.absent (some_place (place_of s x) at e)
+      let o = other_absent s items x p.absent (some_place (slot_of_item s x) at e)
       in sym (q.ends x at (sym (q.places x tt) ∙ p.places x o ∙ e)) ∙ p.ends x at e;
   waits = λ x. sym (q.waits x) ∙ p.waits x;
   named = λ a. omega (arith, p.named a, q.named a);
 }
 
 -- shelves that had come do not change what is there
-pub there_still : (items : List Item) (s t : Shelves) → BringsShelves items s t → (x : Item) → IsSome (place_of s x) → IsSome (place_of t x)
+pub there_still : (items : List Item) (s t : Shelves) → BringsShelves items s t → (x : Item) → IsSome (slot_of_item s x) → IsSome (slot_of_item t x)
 there_still items s t p x h = subst (λ (o : Option ℕ). IsSome o) (sym (p.places x (other_absent s items x p.absent h))) h
 
 -- who has no shelf is not waited for
-pub never_waited : (s : Shelves) (x : Item) → place_of s x ≡ None → waits_on s x ≡ 0
+pub never_waited : (s : Shelves) (x : Item) → slot_of_item s x ≡ None → waits_on s x ≡ 0
 never_waited s x e = ap (waits_there (get s.slots)) e
 
 -- a shelf that comes has no draft
-pub bare_comes : (s t : Shelves) (item : Item) (at : ℕ) (shelf : Shelf) → AreShelved s → AreBare s → place_of s item ≡ None
+pub bare_comes : (s t : Shelves) (item : Item) (at : ℕ) (shelf : Shelf) → AreShelved s → AreBare s → slot_of_item s item ≡ None
     → t.places.entries ≡ insert_entry item_order s.places.entries item at → get s.slots at ≡ None → get t.slots at ≡ Some shelf
     → shelf.stored.draft ≡ None
     → ((o : ℕ) → (o ≡ at → ⊥) → get t.slots o ≡ get s.slots o) → AreBare t

@@ -15,7 +15,7 @@ use Rattle.ifmap_view.specs.declared.views.LinkSeen.{LinkSeen}
 use Rattle.ifmap_graph.specs.declared.shelves.Shelf.{Shelf}
 use Rattle.ifmap_graph.specs.Held.{IsInside, links_at}
 use Rattle.ifmap_graph.specs.Named.{AreEnds, AreIdentifiers, AreNumbered, HasEnds, named_by, named_in}
-use Rattle.ifmap_graph.specs.Shelved.{IsPlaced, Rises, list_at}
+use Rattle.ifmap_graph.specs.Shelved.{IsPlaced, ItemsRise, list_at}
 use Rattle.ifmap_graph.specs.Sides.{Sides, next, now}
 use Rattle.ifmap_graph.specs.Turning.{sides_at}
 use Rattle.ifmap_graph.proofs.Alike.{alike_equal}
@@ -125,7 +125,7 @@ module _ (old new : Holdings Identifier) (look later : ℕ → Option Shelf) (es
 
   module _ (gone : later at ≡ None) (others : (o : ℕ) → o ≢ at → later o ≡ look o) (removes : entries ≡ remove_entry
       (is_at (item_order item)) es)
-      (rises : Rises entries) (pool : IsPool identifier_order new) (keys : AreIdentifiers new)
+      (rises : ItemsRise entries) (pool : IsPool identifier_order new) (keys : AreIdentifiers new)
       (before : (v : ℕ) (a : Identifier) → Names identifier_order new v a → Names identifier_order old v a)
       (held : (i : Item) (a : Identifier) (count : ℕ) → AreEnds old i shelf.ends → IsHeld identifier_order old a count
       → IsHeld identifier_order new a (count - named_by i a)) where

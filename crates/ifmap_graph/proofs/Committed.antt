@@ -7,7 +7,7 @@ use Rattle.ifmap_view.specs.declared.views.LinkSeen.{LinkSeen}
 use Rattle.ifmap_graph.specs.declared.shelves.Shelves.{Shelves}
 use Rattle.ifmap_graph.specs.Drafted.{ends_at}
 use Rattle.ifmap_graph.specs.Held.{IsInside, links_at}
-use Rattle.ifmap_graph.specs.Shelved.{AreShelved, rows_of}
+use Rattle.ifmap_graph.specs.Shelved.{AreShelved, rows_on_side}
 use Rattle.ifmap_graph.specs.Sides.{Sides, next, now}
 use Rattle.ifmap_graph.specs.Turning.{AreDrafted, NoOthers, accept_each}
 use Rattle.ifmap_graph.proofs.Moved.{inside_moved, lists_stay}
@@ -16,7 +16,7 @@ use Rattle.ifmap_graph.proofs.Turns.{accepted_all, next_same, same_length}
 module _ (names : Holdings Identifier) (s t : Shelves) (links moved : List (Sides LinkSeen))
     (is : IsInside names (get s.slots) s.places.entries links)
     (later : AreShelved t) (places : t.places ≡ s.places) (ends : (at : ℕ) → ends_at t at ≡ ends_at s at)
-    (rows : rows_of now t ≡ rows_of next s) (same : rows_of next t ≡ rows_of next s)
+    (rows : rows_on_side now t ≡ rows_on_side next s) (same : rows_on_side next t ≡ rows_on_side next s)
     (ways : List (ℕ × List LinkSeen)) (drafted : AreDrafted ways links) (others : NoOthers ways links)
     (turned : moved ≡ accept_each ways links) where
   pub made_links : (v : ℕ) → links_at now moved v ≡ links_at next links v

@@ -7,8 +7,8 @@ use Rattle.ifmap_ident.specs.declared.items.Item.TheVariants.{One, Pair}
 use Rattle.ifmap_ident.specs.Items.{item_order, same_item}
 use Rattle.ifmap_meta.specs.declared.stored.Stored.{Stored}
 use Rattle.ifmap_view.specs.declared.attachments.Attachment.{Attachment}
-use Rattle.ifmap_graph.specs.Counted.{count_links, is_link, items_in, link_once, links_of}
-use Rattle.ifmap_graph.specs.Shelved.{Rises, row_on, rows_by}
+use Rattle.ifmap_graph.specs.Counted.{count_links, is_link, items_in, link_once, links_among}
+use Rattle.ifmap_graph.specs.Shelved.{ItemsRise, row_on, rows_by}
 use Rattle.ifmap_graph.proofs.Finding.{first_rises}
 use Rattle.ifmap_ident.specs.SameLaws.{item_itself, greater_differs}
 
@@ -44,7 +44,7 @@ module _ {X : Type 0} (list_of : X → List Stored) where
   one_link (Pair a b) (x ∷ xs) rest e =
       ap (λ l. length (filter is_link l)) (items_first (Pair a b) x xs rest e) ∙ omega arith
 
-  pub links_counted : (es : List (Item × X)) → Rises es → links_of list_of es ≡ count_links (rows_by list_of es)
+  pub links_counted : (es : List (Item × X)) → ItemsRise es → links_among list_of es ≡ count_links (rows_by list_of es)
   links_counted [] r = refl
   links_counted (e ∷ es) r =
       let p = first_rises e es r

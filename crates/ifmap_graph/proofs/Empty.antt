@@ -13,9 +13,9 @@ use Rattle.ifmap_view.specs.declared.views.LinkSeen.{LinkSeen}
 use Rattle.ifmap_view.specs.Attachments.{stored_order}
 use Rattle.ifmap_graph.specs.declared.shelves.Shelf.{Shelf}
 use Rattle.ifmap_graph.specs.Held.{IsSide}
-use Rattle.ifmap_graph.specs.Joined.{is_full, joined_pair}
-use Rattle.ifmap_graph.specs.Linked.{AreListed, Ends, ats}
-use Rattle.ifmap_graph.specs.Shelved.{Side, list_at}
+use Rattle.ifmap_graph.specs.Joined.{is_not_empty, joined_pair}
+use Rattle.ifmap_graph.specs.Linked.{AreListed, JoinsNumbers, ats}
+use Rattle.ifmap_graph.specs.Shelved.{StoredSide, list_at}
 use Rattle.ifmap_graph.proofs.Finding.{all_inserted, all_left}
 
 no_rows_rise : IsStrictlySortedBy stored_order []
@@ -36,7 +36,7 @@ one_pushed [] (suc v) d = refl
 one_pushed (x ∷ xs) zero d = refl
 one_pushed (x ∷ xs) (suc v) d = one_pushed xs v d
 
-module _ (side : Side) (look later : ℕ → Option Shelf) (at : ℕ) (before : list_at side (look at) ≡ [])
+module _ (side : StoredSide) (look later : ℕ → Option Shelf) (at : ℕ) (before : list_at side (look at) ≡ [])
     (after : list_at side (later at) ≡ [])
     (others : (o : ℕ) → o ≢ at → later o ≡ look o) where
   -- every slot has the list that it had
@@ -46,26 +46,26 @@ module _ (side : Side) (look later : ℕ → Option Shelf) (at : ℕ) (before : 
     | inr o ↦ ap (list_at side) (others n o)
   ]
 
-  full_other : (n : ℕ) → is_full (list_at side (look n)) ≡ true → n ≢ at
-  full_other n f q = let r : false ≡ true = sym (ap (λ m. is_full (list_at side (look m))) q ∙ ap is_full before) ∙ f in cc
+  full_other : (n : ℕ) → is_not_empty (list_at side (look n)) ≡ true → n ≢ at
+  full_other n f q = let r : false ≡ true = sym (ap (λ m. is_not_empty (list_at side (look m))) q ∙ ap is_not_empty before) ∙ f in cc
 
-  pub listed_same : (links : ℕ → List LinkSeen) → AreListed (λ n. joined_pair (look n)) (λ n. is_full (list_at side (look n))) links
-      → AreListed (λ n. joined_pair (later n)) (λ n. is_full (list_at side (later n))) links
+  pub listed_same : (links : ℕ → List LinkSeen) → AreListed (λ n. joined_pair (look n)) (λ n. is_not_empty (list_at side (look n))) links
+      → AreListed (λ n. joined_pair (later n)) (λ n. is_not_empty (list_at side (later n))) links
   listed_same links old = record {
     only = λ v seen c.
         let p = old.only v seen c
         in let o = full_other seen.at p.1
-        in (to_later seen.at v seen.other o p.0, ap is_full (same_list seen.at) ∙ p.1);
+        in (to_later seen.at v seen.other o p.0, ap is_not_empty (same_list seen.at) ∙ p.1);
     each = λ v w n e f.
-        let g : is_full (list_at side (look n)) ≡ true = sym (ap is_full (same_list n)) ∙ f
+        let g : is_not_empty (list_at side (look n)) ≡ true = sym (ap is_not_empty (same_list n)) ∙ f
         in old.each v w n (to_look n v w (full_other n g) e) g;
   }
     where
-      to_later : (n v w : ℕ) → n ≢ at → Ends (λ n. joined_pair (look n)) n v w → Ends (λ n. joined_pair (later n)) n v w
+      to_later : (n v w : ℕ) → n ≢ at → JoinsNumbers (λ n. joined_pair (look n)) n v w → JoinsNumbers (λ n. joined_pair (later n)) n v w
       to_later n v w o (inl j) = inl (ap joined_pair (others n o) ∙ j)
       to_later n v w o (inr j) = inr (ap joined_pair (others n o) ∙ j)
 
-      to_look : (n v w : ℕ) → n ≢ at → Ends (λ n. joined_pair (later n)) n v w → Ends (λ n. joined_pair (look n)) n v w
+      to_look : (n v w : ℕ) → n ≢ at → JoinsNumbers (λ n. joined_pair (later n)) n v w → JoinsNumbers (λ n. joined_pair (look n)) n v w
       to_look n v w o (inl j) = inl (sym (ap joined_pair (others n o)) ∙ j)
       to_look n v w o (inr j) = inr (sym (ap joined_pair (others n o)) ∙ j)
 
@@ -96,7 +96,7 @@ module _ (side : Side) (look later : ℕ → Option Shelf) (at : ℕ) (before : 
   }
 
 -- links that are the same of each number
-pub side_same : (side : Side) (look : ℕ → Option Shelf) (es : List (Item × ℕ)) (links others : ℕ → List LinkSeen)
+pub side_same : (side : StoredSide) (look : ℕ → Option Shelf) (es : List (Item × ℕ)) (links others : ℕ → List LinkSeen)
     → ((v : ℕ) → others v ≡ links v)
     → IsSide side look es links → IsSide side look es others
 side_same side look es links others same is = record {

@@ -11,7 +11,7 @@ use Rattle.ifmap_view.specs.Rows.{stored_on}
 use Rattle.ifmap_graph.specs.declared.shelves.Shelves.{Shelves}
 use Rattle.ifmap_graph.specs.Bringing.{BringsShelves}
 use Rattle.ifmap_graph.specs.Releasing.{AreFilled}
-use Rattle.ifmap_graph.specs.Shelved.{place_of, rows_of}
+use Rattle.ifmap_graph.specs.Shelved.{slot_of_item, rows_on_side}
 use Rattle.ifmap_graph.specs.Sides.{now}
 use Rattle.ifmap_graph.specs.Waits.{WaitsFor, waits_on, waits_there}
 use Rattle.ifmap_graph.proofs.Brought.{other_absent}
@@ -23,28 +23,28 @@ use Rattle.ifmap_plans.specs.laws.OnItemLaws.{stored_tied}
 waits_tied : (s : Shelves) (x y : Item) → is_at (item_order x) y ≡ true → waits_on s x ≡ waits_on s y
 waits_tied s x y t = ap (waits_there (get s.slots)) (lookup_tied x y s.places.entries (equal_is (item_order x y) t))
 
-module _ (s t : Shelves) (item : Item) (places : t.places ≡ s.places) (rows : rows_of now t ≡ rows_of now s)
+module _ (s t : Shelves) (item : Item) (places : t.places ≡ s.places) (rows : rows_on_side now t ≡ rows_on_side now s)
     (waits : WaitsFor (item ∷ []) t s) where
-  had_place : (x : Item) → IsSome (place_of t x) → IsSome (place_of s x)
+  had_place : (x : Item) → IsSome (slot_of_item t x) → IsSome (slot_of_item s x)
   had_place x h = subst IsSome (ap (λ p. lookup (is_at (item_order x)) p.entries) places) h
 
   -- what is stored on another item, which is not waited for
-  filled_else : AreFilled s → (x : Item) → is_at (item_order item) x ≡ false → IsSome (place_of t x) → waits_on t x ≡ 0
-      → stored_on x (rows_of now s) ≢ []
+  filled_else : AreFilled s → (x : Item) → is_at (item_order item) x ≡ false → IsSome (slot_of_item t x) → waits_on t x ≡ 0
+      → stored_on x (rows_on_side now s) ≢ []
   filled_else f x other place none =
       let w = rw other at (waits x)
       in f x (had_place x place) (omega (arith, w, none))
 
-  pub filled_still : (0 < waits_on t item) ⊎ (stored_on item (rows_of now s) ≢ []) → AreFilled s → AreFilled t
+  pub filled_still : (0 < waits_on t item) ⊎ (stored_on item (rows_on_side now s) ≢ []) → AreFilled s → AreFilled t
   filled_still why f x place none = elim (cases_Bool (is_at (item_order item) x)) [
     | inr other ↦ λ e. filled_else f x other place none (sym (ap (stored_on x) rows) ∙ e)
     | inl tie ↦ elim why [
       | inl some ↦ absurd (omega (arith, some, none, waits_tied t item x tie))
-      | inr full ↦ λ e. full (stored_tied item x (rows_of now s) (equal_is (item_order item x) tie) ∙ sym (ap (stored_on x) rows) ∙ e)
+      | inr full ↦ λ e. full (stored_tied item x (rows_on_side now s) (equal_is (item_order item x) tie) ∙ sym (ap (stored_on x) rows) ∙ e)
     ]
   ]
 
-  pub filled_less : (u : Shelves) → BringsShelves (item ∷ []) u t → rows_of now u ≡ rows_of now t → AreFilled s → AreFilled u
+  pub filled_less : (u : Shelves) → BringsShelves (item ∷ []) u t → rows_on_side now u ≡ rows_on_side now t → AreFilled s → AreFilled u
   filled_less u taken less f x place none =
       let other = other_absent u (item ∷ []) x taken.absent place
       in λ e. filled_else f x other.0 (subst IsSome (sym (taken.places x other)) place) (taken.waits x ∙ none)

@@ -15,7 +15,7 @@ use Rattle.ifmap_ident.specs.Items.{item_order, same_item}
 use Rattle.ifmap_meta.specs.declared.stored.Stored.{Stored}
 use Rattle.ifmap_view.specs.declared.attachments.Attachment.{Attachment}
 use Rattle.ifmap_view.specs.Rows.{stored_on}
-use Rattle.ifmap_graph.specs.Shelved.{Rises, row_on, rows_by}
+use Rattle.ifmap_graph.specs.Shelved.{ItemsRise, row_on, rows_by}
 use Rattle.ifmap_graph.proofs.Ordered.{above_tied, equal_is}
 use Rattle.ifmap_ident.specs.SameLaws.{ties, greater_differs}
 
@@ -29,17 +29,17 @@ pub passed_one : (item at : Item) (xs : List Stored) (rest : List Attachment) �
 passed_one item at [] rest e = refl
 passed_one item at (x ∷ xs) rest e = rw e (passed_one item at xs rest e)
 
-pub first_rises : {X : Type 0} (e : Item × X) (es : List (Item × X)) → Rises (e ∷ es)
-    → AllByRecursion (λ y. item_order e.0 y ≡ Less) (map (λ e. e.0) es) × Rises es
+pub first_rises : {X : Type 0} (e : Item × X) (es : List (Item × X)) → ItemsRise (e ∷ es)
+    → AllByRecursion (λ y. item_order e.0 y ≡ Less) (map (λ e. e.0) es) × ItemsRise es
 unfolding IsStrictlySortedBy
 first_rises e es r = r
 
-pub nothing_rises : (X : Type 0) → Rises {X = X} []
+pub nothing_rises : (X : Type 0) → ItemsRise {X = X} []
 unfolding IsStrictlySortedBy
 nothing_rises X = tt
 
 pub rises_first : {X : Type 0} (e : Item × X) (es : List (Item × X)) → AllByRecursion (λ y. item_order e.0 y ≡ Less) (map (λ e. e.0) es)
-    → Rises es → Rises (e ∷ es)
+    → ItemsRise es → ItemsRise (e ∷ es)
 unfolding IsStrictlySortedBy
 rises_first e es a r = (a, r)
 
@@ -50,7 +50,7 @@ module _ {X : Type 0} (list_of : X → List Stored) (item : Item) where
   none_above (e ∷ es) a = passed_one item e.0 (list_of e.1) (rows_by list_of es) (greater_differs item e.0 a.0) ∙ none_above es a.1
 
   -- a look-up that hits gives what is stored on the item
-  pub found : (es : List (Item × X)) (at : X) → Rises es → lookup (is_at (item_order item)) es ≡ Some at → list_of at ≡ stored_on item
+  pub found : (es : List (Item × X)) (at : X) → ItemsRise es → lookup (is_at (item_order item)) es ≡ Some at → list_of at ≡ stored_on item
       (rows_by list_of es)
   found [] at r h = absurd (none-some _ h)
   found (e ∷ es) at r h = elim (cases_Bool (is_at (item_order item) e.0)) [

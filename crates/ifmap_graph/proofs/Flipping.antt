@@ -32,11 +32,11 @@ use Rattle.ifmap_graph.specs.declared.shelves.Shelf.{Shelf}
 use Rattle.ifmap_graph.specs.declared.shelves.Shelves.{Shelves}
 use Rattle.ifmap_graph.specs.Drafted.{AreOut, DraftsWithin, ends_at}
 use Rattle.ifmap_graph.specs.Held.{IsInside, IsSide, links_at}
-use Rattle.ifmap_graph.specs.Joined.{is_full, joined_pair, two_of}
+use Rattle.ifmap_graph.specs.Joined.{is_not_empty, joined_pair, two_of}
 use Rattle.ifmap_graph.specs.Linked.{changed_links}
 use Rattle.ifmap_graph.specs.Named.{AreEnds, AreNumbered, HasEnds}
-use Rattle.ifmap_graph.specs.Out.{items_of}
-use Rattle.ifmap_graph.specs.Shelved.{AreShelved, IsPlaced, Side, list_at, place_of, rows_of}
+use Rattle.ifmap_graph.specs.Out.{items_changed}
+use Rattle.ifmap_graph.specs.Shelved.{AreShelved, IsPlaced, StoredSide, list_at, slot_of_item, rows_on_side}
 use Rattle.ifmap_graph.specs.Sides.{Sides, next, now}
 use Rattle.ifmap_graph.specs.Touched.{ArePairs, KeepsLinks, differ, draft_of, flip_in, flip_of, full_next, full_now}
 use Rattle.ifmap_graph.specs.Turning.{sides_at}
@@ -77,15 +77,15 @@ module _ (s : Shelves) where
       by false q = absurd (none-some _ q)
 
   -- a shelf whose lists differ has a draft
-  has_draft : (o : Option Shelf) (shelf : Shelf) → o ≡ Some shelf → differ (is_full (list_at now o)) (is_full (list_at next o)) ≡ true
+  has_draft : (o : Option Shelf) (shelf : Shelf) → o ≡ Some shelf → differ (is_not_empty (list_at now o)) (is_not_empty (list_at next o)) ≡ true
       → IsSome shelf.stored.draft
   has_draft o shelf e d = by shelf.stored.draft refl
     where
       by : (draft : Option (List Stored)) → shelf.stored.draft ≡ draft → IsSome shelf.stored.draft
       by (Some l) q = subst (λ (o : Option (List Stored)). IsSome o) (sym q) refl
-      by None q = absurd (differ_not (is_full (list_at now o)) (is_full (list_at next o)) d
-          (ap (λ o. is_full (list_at now o)) e ∙ ap (λ d. is_full (unwrap_or d shelf.stored.now)) (sym q)
-          ∙ sym (ap (λ o. is_full (list_at next o)) e)))
+      by None q = absurd (differ_not (is_not_empty (list_at now o)) (is_not_empty (list_at next o)) d
+          (ap (λ o. is_not_empty (list_at now o)) e ∙ ap (λ d. is_not_empty (unwrap_or d shelf.stored.now)) (sym q)
+          ∙ sym (ap (λ o. is_not_empty (list_at next o)) e)))
 
   module _ (is : AreShelved s) (used : (at : ℕ) → IsSome (get s.slots at) → (item : Item) × Has s.places.entries (item, at))
       (items : List Item)
@@ -94,7 +94,7 @@ module _ (s : Shelves) where
         → (x : Item) × Has items x × (flip_of s x ≡ Some at)
     touched_item at shelf e d =
         let u = used at (subst (λ (o : Option Shelf). IsSome o) (sym e) refl)
-        in let place : place_of s u.0 ≡ Some at = entry_hits s.places.entries u.0 at is.rising u.1
+        in let place : slot_of_item s u.0 ≡ Some at = entry_hits s.places.entries u.0 at is.rising u.1
         in let w = within u.0 (at, shelf, place, e, has_draft (get s.slots at) shelf e d)
         in (
           w.0,
@@ -104,7 +104,7 @@ module _ (s : Shelves) where
 
     by_slot : (at : ℕ) (o : Option Shelf) → get s.slots at ≡ o
         → (full_now s.slots at ≡ full_next s.slots at) ⊎ Contains (filter_map (flip_of s) items) at
-    by_slot at None e = inl (ap (λ o. is_full (list_at now o)) e ∙ sym (ap (λ o. is_full (list_at next o)) e))
+    by_slot at None e = inl (ap (λ o. is_not_empty (list_at now o)) e ∙ sym (ap (λ o. is_not_empty (list_at next o)) e))
     by_slot at (Some shelf) e = elim (cases_Bool (differ (full_now s.slots at) (full_next s.slots at))) [
       | inl d ↦ let t = touched_item at shelf e d
           in inr (from_has (filter_map (flip_of s) items) at (has_mapped (flip_of s) items t.0 at t.1 t.2))
@@ -116,7 +116,7 @@ module _ (s : Shelves) where
 
   -- no slot is touched twice
   module _ (is : AreShelved s) where
-    one_slot : (x y : Item) (at : ℕ) → place_of s x ≡ Some at → place_of s y ≡ Some at → same_item x y ≡ true
+    one_slot : (x y : Item) (at : ℕ) → slot_of_item s x ≡ Some at → slot_of_item s y ≡ Some at → same_item x y ≡ true
     one_slot x y at e f =
         let a = looked_up s.places.entries x at e
         in let b = looked_up s.places.entries y at f
@@ -137,7 +137,7 @@ module _ (s : Shelves) where
         by (Some bt) f rest = (
           differ_numbers at bt (λ q.
               (let r : true ≡ false
-              = sym (one_slot x y at (flip_place (place_of s x) at e) (flip_place (place_of s y) at (f ∙ ap Some (sym q)))) ∙ a.0 in cc)),
+              = sym (one_slot x y at (flip_place (slot_of_item s x) at e) (flip_place (slot_of_item s y) at (f ∙ ap Some (sym q)))) ∙ a.0 in cc)),
           rest,
         )
 
@@ -159,7 +159,7 @@ module _ (s : Shelves) where
         by (Some at) e rest = one_number at (filter_map (flip_of s) xs) (out_of x at xs e (apart_parts x xs d).0) rest
 
 pub flips_mapped : (s : Shelves) (changes : List ItemChange)
-    → filter_map (λ (c : ItemChange). flip_of s c.item) changes ≡ filter_map (flip_of s) (items_of changes)
+    → filter_map (λ (c : ItemChange). flip_of s c.item) changes ≡ filter_map (flip_of s) (items_changed changes)
 flips_mapped s [] = refl
 flips_mapped s (c ∷ cs) = ap (λ l. cons_option (flip_of s c.item) l) (flips_mapped s cs)
 
@@ -211,12 +211,12 @@ pairs_after names s t links old shelved places ends =
     (still_numbered (get s.slots) (get t.slots) ends names t.places.entries is.numbered) is.table
 
 -- what is stored on an item is a list
-pub stored_list : (side : Side) (s : Shelves) → AreShelved s
+pub stored_list : (side : StoredSide) (s : Shelves) → AreShelved s
     → AllByRecursion (λ e. IsList (list_at side (get s.slots e.1))) s.places.entries → (x : Item)
-    → IsList (stored_on x (rows_of side s))
-stored_list side s is all x = by (place_of s x) refl
+    → IsList (stored_on x (rows_on_side side s))
+stored_list side s is all x = by (slot_of_item s x) refl
   where
-    by : (o : Option ℕ) → place_of s x ≡ o → IsList (stored_on x (rows_of side s))
+    by : (o : Option ℕ) → slot_of_item s x ≡ o → IsList (stored_on x (rows_on_side side s))
     by None e = subst IsList (absent (λ at. list_at side (get s.slots at)) x s.places.entries e) nothing_is_list
     by (Some at) e =
         subst IsList (found (λ n. list_at side (get s.slots n)) x s.places.entries at is.rising e)
@@ -238,10 +238,10 @@ after_list rows (c ∷ cs) x f l = elim (cases_Bool (same_item c.item x)) [
 module _ (names : Holdings Identifier) (s t : Shelves) (links later : List (Sides LinkSeen))
     (old : IsInside names (get s.slots) s.places.entries links)
     (shelved : AreShelved t) (places : t.places ≡ s.places) (ends : (at : ℕ) → ends_at t at ≡ ends_at s at)
-    (rows : rows_of now t ≡ rows_of now s)
-    (changes : List ItemChange) (fits : Fits (rows_of now s) changes) (after : IsAfter changes (rows_of now s) (rows_of next t))
-    (out : AreOut (items_of changes) t) (kept : KeepsLinks links later)
-    (drafts : (v : ℕ) → (sides_at later v).draft ≡ draft_of t.slots (filter_map (flip_of t) (items_of changes)) v (sides_at links v).now)
+    (rows : rows_on_side now t ≡ rows_on_side now s)
+    (changes : List ItemChange) (fits : Fits (rows_on_side now s) changes) (after : IsAfter changes (rows_on_side now s) (rows_on_side next t))
+    (out : AreOut (items_changed changes) t) (kept : KeepsLinks links later)
+    (drafts : (v : ℕ) → (sides_at later v).draft ≡ draft_of t.slots (filter_map (flip_of t) (items_changed changes)) v (sides_at links v).now)
   where
     is : IsInside names (get s.slots) t.places.entries links
     is = subst (λ p. IsInside names (get s.slots) p.entries links) (sym places) old
@@ -265,19 +265,19 @@ module _ (names : Holdings Identifier) (s t : Shelves) (links later : List (Side
           (sym (found (λ n. list_at next (get t.slots n)) e.0 t.places.entries e.1 shelved.rising
           (entry_hits t.places.entries e.0 e.1 shelved.rising (f e (inl refl)))
           ∙ after e.0))
-          (after_list (rows_of now s) changes e.0 fits.each (stored_list now s old.placed old.side.lists e.0)),
+          (after_list (rows_on_side now s) changes e.0 fits.each (stored_list now s old.placed old.side.lists e.0)),
       all_lists es (λ x h. f x (inr h)),
     )
 
     next_links : (v : ℕ) → links_at next later v
         ≡ changed_links (λ at. joined_pair (get t.slots at)) (full_now t.slots) (full_next t.slots)
-        (filter_map (flip_of t) (items_of changes))
+        (filter_map (flip_of t) (items_changed changes))
         (links_at now links) v
     next_links v =
         ap (λ d. unwrap_or d (sides_at later v).now) (drafts v)
-        ∙ ap (unwrap_or (draft_of t.slots (filter_map (flip_of t) (items_of changes)) v (sides_at links v).now)) (kept.now v)
-        ∙ drafted_links t.slots (filter_map (flip_of t) (items_of changes)) (links_at now links) now_side.listed
-        (all_touched t shelved used (items_of changes) out.within) v
+        ∙ ap (unwrap_or (draft_of t.slots (filter_map (flip_of t) (items_changed changes)) v (sides_at links v).now)) (kept.now v)
+        ∙ drafted_links t.slots (filter_map (flip_of t) (items_changed changes)) (links_at now links) now_side.listed
+        (all_touched t shelved used (items_changed changes) out.within) v
 
     pub inside_drafted : IsInside names (get t.slots) t.places.entries later
     inside_drafted = record {
@@ -292,25 +292,25 @@ module _ (names : Holdings Identifier) (s t : Shelves) (links later : List (Side
       next_side =
           side_same next (get t.slots) t.places.entries
           (changed_links (λ at. joined_pair (get t.slots at)) (full_now t.slots) (full_next t.slots)
-          (filter_map (flip_of t) (items_of changes))
+          (filter_map (flip_of t) (items_changed changes))
           (links_at now links))
           (links_at next later) next_links
           (record {
             lists = all_lists t.places.entries (λ e h. h);
             listed = changed_listed (λ at. joined_pair (get t.slots at)) (full_now t.slots) (full_next t.slots)
-                (filter_map (flip_of t) (items_of changes)) (links_at now links)
-                now_side.listed (all_touched t shelved used (items_of changes) out.within);
+                (filter_map (flip_of t) (items_changed changes)) (links_at now links)
+                now_side.listed (all_touched t shelved used (items_changed changes) out.within);
             once = λ v. changed_apart (λ at. joined_pair (get t.slots at)) (full_now t.slots) (full_next t.slots) v
-                (filter_map (flip_of t) (items_of changes)) (links_at now links)
-                now_side.listed (touched_apart t shelved (items_of changes) out.apart) (now_side.once v);
+                (filter_map (flip_of t) (items_changed changes)) (links_at now links)
+                now_side.listed (touched_apart t shelved (items_changed changes) out.apart) (now_side.once v);
           });
     }
 
 -- once nothing has a draft any more, both sides are what is there
 pub inside_dropped : (names : Holdings Identifier) (s t : Shelves) (links later : List (Sides LinkSeen))
     → IsInside names (get s.slots) s.places.entries links
-    → AreShelved t → t.places ≡ s.places → ((at : ℕ) → ends_at t at ≡ ends_at s at) → rows_of now t ≡ rows_of now s
-    → rows_of next t ≡ rows_of now s
+    → AreShelved t → t.places ≡ s.places → ((at : ℕ) → ends_at t at ≡ ends_at s at) → rows_on_side now t ≡ rows_on_side now s
+    → rows_on_side next t ≡ rows_on_side now s
     → KeepsLinks links later → ((v : ℕ) → (sides_at later v).draft ≡ None) → IsInside names (get t.slots) t.places.entries later
 inside_dropped names s t links later is shelved places ends rows same kept none =
     subst (λ p. IsInside names (get t.slots) p.entries later) (sym places)

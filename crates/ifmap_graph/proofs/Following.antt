@@ -14,8 +14,8 @@ use Rattle.ifmap_ident.specs.Items.{item_order}
 use Rattle.ifmap_meta.specs.declared.stored.Stored.{Stored}
 use Rattle.ifmap_plans.specs.After.{IsAbove, IsNextItem, NoItem}
 use Rattle.ifmap_view.specs.Rows.{stored_on}
-use Rattle.ifmap_graph.specs.After.{AreEmpty, IsFirst, entries_after}
-use Rattle.ifmap_graph.specs.Shelved.{Rises, rows_by}
+use Rattle.ifmap_graph.specs.After.{AreEmpty, IsFirstFull, entries_after}
+use Rattle.ifmap_graph.specs.Shelved.{ItemsRise, rows_by}
 use Rattle.ifmap_graph.proofs.Ordered.{equal_is}
 use Rattle.ifmap_graph.proofs.Finding.{absent, first_rises, found, nothing_rises, rises_first}
 use Rattle.ifmap_lemmas.specs.Orderings.{is_less}
@@ -51,7 +51,7 @@ module _ {X : Type 0} where
   ]
 
   -- an entry is looked up, where entries rise
-  pub entry_hits : (es : List (Item × X)) (item : Item) (at : X) → Rises es → Has es (item, at) → lookup (is_at (item_order item)) es ≡
+  pub entry_hits : (es : List (Item × X)) (item : Item) (at : X) → ItemsRise es → Has es (item, at) → lookup (is_at (item_order item)) es ≡
       Some at
   entry_hits [] item at r h = absurd h
   entry_hits (e ∷ es) item at r (inl p) =
@@ -82,11 +82,11 @@ module _ {X : Type 0} where
       at true rest = (a.0, rest)
       at false rest = rest
 
-  kept_rises : (p : Item × X → Bool) (es : List (Item × X)) → Rises es → Rises (filter p es)
+  kept_rises : (p : Item × X → Bool) (es : List (Item × X)) → ItemsRise es → ItemsRise (filter p es)
   kept_rises p [] r = nothing_rises X
   kept_rises p (e ∷ es) r = at (p e) (kept_rises p es (first_rises e es r).1)
     where
-      at : (b : Bool) → Rises (filter p es) → Rises (cond b (e ∷ filter p es) (filter p es))
+      at : (b : Bool) → ItemsRise (filter p es) → ItemsRise (cond b (e ∷ filter p es) (filter p es))
       at true rest = rises_first e (filter p es) (all_kept e.0 p es (first_rises e es r).0) rest
       at false rest = rest
 
@@ -98,7 +98,7 @@ module _ {X : Type 0} where
   of_after None es e h a = h
   of_after (Some i) es e h a = has_filter (λ x. is_lt (item_order i x.0)) es e h (ap is_lt a)
 
-  after_rises : (after : Option Item) (es : List (Item × X)) → Rises es → Rises (entries_after after es)
+  after_rises : (after : Option Item) (es : List (Item × X)) → ItemsRise es → ItemsRise (entries_after after es)
   after_rises None es r = r
   after_rises (Some a) es r = kept_rises (λ x. is_lt (item_order a x.0)) es r
 
@@ -112,7 +112,7 @@ module _ {X : Type 0} where
   part_of (f ∷ fs) rest e x (inl p) = inl (inl p)
   part_of (f ∷ fs) rest e x (inr h) = elim (part_of fs rest e x h) [ inl a ↦ inl (inr a) | inr b ↦ inr b ]
 
-  rest_rises : (before rest : List (Item × X)) (e : Item × X) → Rises (before ++ e ∷ rest) → AllByRecursion (λ y. item_order e.0 y ≡ Less)
+  rest_rises : (before rest : List (Item × X)) (e : Item × X) → ItemsRise (before ++ e ∷ rest) → AllByRecursion (λ y. item_order e.0 y ≡ Less)
       (map (λ e. e.0) rest)
   rest_rises [] rest e r = (first_rises e rest r).0
   rest_rises (f ∷ fs) rest e r = rest_rises fs rest e (first_rises f (fs ++ e ∷ rest) r).1
@@ -126,7 +126,7 @@ tied_above : (after : Option Item) (x y : Item) → item_order x y ≡ Equal →
 tied_above None x y e a = tt
 tied_above (Some i) x y e a = sym (tied_right i x y e) ∙ a
 
-module _ {X : Type 0} (list_of : X → List Stored) (es : List (Item × X)) (rising : Rises es) (after : Option Item) where
+module _ {X : Type 0} (list_of : X → List Stored) (es : List (Item × X)) (rising : ItemsRise es) (after : Option Item) where
   pub stands : (item : Item) (at : X) → Has es (item, at) → list_of at ≡ stored_on item (rows_by list_of es)
   stands item at h = found list_of item es at rising (entry_hits es item at rising h)
 
@@ -146,7 +146,7 @@ module _ {X : Type 0} (list_of : X → List Stored) (es : List (Item × X)) (ris
         h.2,
       )
 
-  pub next_is : (item : Item) → IsFirst list_of (entries_after after es) item → IsNextItem (rows_by list_of es) after item
+  pub next_is : (item : Item) → IsFirstFull list_of (entries_after after es) item → IsNextItem (rows_by list_of es) after item
   next_is item f =
       let here : Has (entries_after after es) (item, f.at) = subst (λ l. Has l (item, f.at)) (sym f.split)
       (middle f.before f.rest (item, f.at))
@@ -163,13 +163,13 @@ module _ {X : Type 0} (list_of : X → List Stored) (es : List (Item × X)) (ris
                 | inl p ↦ never_below item (subst (λ x. item_order x item ≡ Less) (sym (ap (λ x. x.0) p)) below)
                 | inr p ↦ one_way item c.0
                     (less_of item c.0 c.1 f.rest (rest_rises f.before f.rest (item, f.at)
-                    (subst (λ l. Rises l) f.split (after_rises after es rising))) p) below
+                    (subst (λ l. ItemsRise l) f.split (after_rises after es rising))) p) below
               ]
             ];
       }
 
   -- the first entry is one of all
-  pub first_has : (item : Item) → IsFirst list_of (entries_after after es) item → (at : X) × Has es (item, at)
+  pub first_has : (item : Item) → IsFirstFull list_of (entries_after after es) item → (at : X) × Has es (item, at)
   first_has item f =
       let here : Has (entries_after after es) (item, f.at) = subst (λ l. Has l (item, f.at)) (sym f.split)
       (middle f.before f.rest (item, f.at))

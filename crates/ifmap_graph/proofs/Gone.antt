@@ -12,7 +12,7 @@ use Rattle.ifmap_ident.specs.Items.{item_order}
 use Rattle.ifmap_graph.specs.declared.shelves.Shelf.{Shelf}
 use Rattle.ifmap_graph.specs.declared.shelves.Shelves.{Shelves}
 use Rattle.ifmap_graph.specs.Drafted.{AreBare, NoDraft}
-use Rattle.ifmap_graph.specs.Shelved.{AreShelved, IsPlaced, Rises, place_of}
+use Rattle.ifmap_graph.specs.Shelved.{AreShelved, IsPlaced, ItemsRise, slot_of_item}
 use Rattle.ifmap_graph.proofs.Following.{entry_hits, lookup_tied, looked_up}
 use Rattle.ifmap_graph.proofs.Leaving.{removed_has, slots_kept}
 use Rattle.ifmap_graph.proofs.Ordered.{turned_tie}
@@ -33,7 +33,7 @@ has_left test (e ∷ es) x h = by (test e.0) (has_left test es x) h
 module _ (es new : Entries) (look later : ℕ → Option Shelf) (item : Item) (at : ℕ) (is : IsPlaced look es)
     (here : lookup (is_at (item_order item)) es ≡ Some at)
     (gone : later at ≡ None) (others : (o : ℕ) → o ≢ at → later o ≡ look o) (removes : new ≡ remove_entry (is_at (item_order item)) es)
-    (rises : Rises new) where
+    (rises : ItemsRise new) where
   -- the shelf that an item has stood there before
   pub was_there : (x : Item) (n : ℕ) → lookup (is_at (item_order x)) new ≡ Some n → (lookup (is_at (item_order x)) es ≡ Some n)
       × (later n ≡ look n)
@@ -70,7 +70,7 @@ module _ (es new : Entries) (look later : ℕ → Option Shelf) (item : Item) (a
           ∙ sym e
 
 module _ (s t : Shelves)
-    (before : (x : Item) (at : ℕ) → place_of t x ≡ Some at → (place_of s x ≡ Some at) × (get t.slots at ≡ get s.slots at)) where
+    (before : (x : Item) (at : ℕ) → slot_of_item t x ≡ Some at → (slot_of_item s x ≡ Some at) × (get t.slots at ≡ get s.slots at)) where
   -- where no shelf had a draft, none has
   pub bare_left : AreShelved t → AreBare s → AreBare t
   bare_left is b = has_all (λ e. NoDraft (get t.slots e.1)) t.places.entries (λ e h.

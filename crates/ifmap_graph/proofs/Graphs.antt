@@ -14,7 +14,7 @@ use Rattle.ifmap_meta.specs.Keys.{same_key}
 use Rattle.ifmap_plans.specs.Lists.{IsList}
 use Rattle.ifmap_view.specs.declared.attachments.Attachment.{Attachment}
 use Rattle.ifmap_view.specs.Attachments.{IsGraph, attachment_order, of_one_key, stored_order}
-use Rattle.ifmap_graph.specs.Shelved.{Rises, row_on, rows_by}
+use Rattle.ifmap_graph.specs.Shelved.{ItemsRise, row_on, rows_by}
 use Rattle.ifmap_graph.proofs.Finding.{first_rises}
 use Rattle.ifmap_lemmas.specs.Pairwise.{Pairwise, pairwise_onto, pairwise_both}
 use Rattle.ifmap_ident.specs.SameLaws.{items_total}
@@ -74,7 +74,7 @@ module _ {X : Type 0} (list_of : X → List Stored) where
   -- what holds within each list, and across items that rise, holds of all rows
   rows_pairwise : (P : Attachment → Attachment → Type 0) → ((i k : Item) (x y : Stored) → item_order i k ≡ Less → P (row_on i x)
       (row_on k y))
-      → (es : List (Item × X)) → Rises es → AllByRecursion (λ e. Pairwise P (map (row_on e.0) (list_of e.1))) es
+      → (es : List (Item × X)) → ItemsRise es → AllByRecursion (λ e. Pairwise P (map (row_on e.0) (list_of e.1))) es
       → Pairwise P (rows_by list_of es)
   rows_pairwise P f [] r a = tt
   rows_pairwise P f (e ∷ es) r a =
@@ -92,7 +92,7 @@ module _ {X : Type 0} (list_of : X → List Stored) where
   and_false true = refl
   and_false false = refl
 
-  pub graph_is : (es : List (Item × X)) → Rises es → AllByRecursion (λ e. IsCanonItem e.0) es → AllByRecursion (λ e. IsList (list_of e.1))
+  pub graph_is : (es : List (Item × X)) → ItemsRise es → AllByRecursion (λ e. IsCanonItem e.0) es → AllByRecursion (λ e. IsList (list_of e.1))
       es
       → IsGraph (rows_by list_of es)
   graph_is es r c l = record {

@@ -11,9 +11,9 @@ use Rattle.ifmap_pool.specs.Holdings.{Holdings, IsPool, Names, entry_at, holds_a
 use Rattle.ifmap_view.specs.declared.views.LinkSeen.{LinkSeen}
 use Rattle.slab.specs.Slab.{get}
 use Rattle.ifmap_graph.specs.declared.shelves.Shelves.{Shelves}
-use Rattle.ifmap_graph.specs.Bringing.{AreGrown, AreInside, BringsShelves, HasOwn, HaveFewOwn, Parts, flagged_items, parts_of}
+use Rattle.ifmap_graph.specs.Bringing.{AreGrown, AreInside, BringsShelves, HasOwn, HaveFewOwn, Parts, flagged_items, graph_parts}
 use Rattle.ifmap_graph.specs.Named.{named_by, named_in}
-use Rattle.ifmap_graph.specs.Shelved.{place_of}
+use Rattle.ifmap_graph.specs.Shelved.{slot_of_item}
 use Rattle.ifmap_graph.specs.Sides.{Sides}
 use Rattle.ifmap_graph.specs.Turning.{sides_at}
 use Rattle.ifmap_graph.proofs.Alike.{alike_equal}
@@ -52,8 +52,8 @@ few_kept p q g few a = let f = few a in (f.0, g.own a f.0 f.1, f.2)
 
 pub grown_room : (names more : Holdings Identifier) (s : Shelves) (links longer : List (Sides LinkSeen)) → more.live ≡ names.live
     → IsPool identifier_order more
-    → ((v : ℕ) → sides_at longer v ≡ sides_at links v) → length links ≤ length longer → AreInside (parts_of names s links)
-    → AreGrown (parts_of names s links) (parts_of more s longer)
+    → ((v : ℕ) → sides_at longer v ≡ sides_at links v) → length links ≤ length longer → AreInside (graph_parts names s links)
+    → AreGrown (graph_parts names s links) (graph_parts more s longer)
 grown_room names more s links longer live pool same long is = record {
   inside = roomier names more live (get s.slots) s.places.entries links longer pool same long is;
   now = refl;
@@ -99,7 +99,7 @@ module _ (items : List Item) (first : Parts) where
     pub grown : AreGrown first p
     pub long : length marks ≡ i
     pub brought : BringsShelves (flagged_items items marks) first.shelves p.shelves
-    pub there : AllByRecursion (λ x. IsSome (place_of p.shelves x)) (take i items)
+    pub there : AllByRecursion (λ x. IsSome (slot_of_item p.shelves x)) (take i items)
 
   pub placing : AreInside first → (marks : List Bool) → marks ≡ [] → Placing first marks 0
   placing is marks e = record {
@@ -126,8 +126,8 @@ module _ (items : List Item) (first : Parts) where
     grown_on = grown_both first p q g.grown grown
 
     all_still : (xs : List Item) (came : List Item) → BringsShelves came p.shelves q.shelves
-        → AllByRecursion (λ x. IsSome (place_of p.shelves x)) xs
-        → AllByRecursion (λ x. IsSome (place_of q.shelves x)) xs
+        → AllByRecursion (λ x. IsSome (slot_of_item p.shelves x)) xs
+        → AllByRecursion (λ x. IsSome (slot_of_item q.shelves x)) xs
     all_still [] came b a = tt
     all_still (x ∷ xs) came b a = (there_still came p.shelves q.shelves b x a.0, all_still xs came b a.1)
 
@@ -136,7 +136,7 @@ module _ (items : List Item) (first : Parts) where
     all_snoc P (y ∷ ys) x a h = (a.0, all_snoc P ys x a.1 h)
 
     pub places_on : (x : Item) (came : Bool) (later : List Bool) → i < length items → get_or items i x ≡ x → later ≡ marks ++ came ∷ []
-        → BringsShelves (cond came (x ∷ []) []) p.shelves q.shelves → IsSome (place_of q.shelves x) → Placing q later (i + 1)
+        → BringsShelves (cond came (x ∷ []) []) p.shelves q.shelves → IsSome (slot_of_item q.shelves x) → Placing q later (i + 1)
     places_on x came later h is e b there = record {
       grown = grown_on;
       long = ap length e ∙ one_longer marks came ∙ ap (λ n. n + 1) g.long;
@@ -144,9 +144,9 @@ module _ (items : List Item) (first : Parts) where
           subst (λ l. BringsShelves (flagged_items items l) first.shelves q.shelves) (sym e)
           (subst (λ l. BringsShelves l first.shelves q.shelves) (sym one_mark)
           (brings_both (flagged_items items marks) (cond came (x ∷ []) []) first.shelves p.shelves q.shelves g.brought b));
-      there = subst (λ l. AllByRecursion (λ x. IsSome (place_of q.shelves x)) l)
+      there = subst (λ l. AllByRecursion (λ x. IsSome (slot_of_item q.shelves x)) l)
           (ap (λ y. take i items ++ y ∷ []) (sym is) ∙ sym (take-suc items i x h) ∙ ap (λ n. take n items) (sym (add-one i)))
-          (all_snoc (λ x. IsSome (place_of q.shelves x)) (take i items) x
+          (all_snoc (λ x. IsSome (slot_of_item q.shelves x)) (take i items) x
           (all_still (take i items) (cond came (x ∷ []) []) b g.there) there);
     }
       where
@@ -161,5 +161,5 @@ module _ (items : List Item) (first : Parts) where
             ∙ ap (λ y. flagged_items items marks ++ cond came (y ∷ []) []) is
 
   pub placed_there : (p : Parts) (marks : List Bool) (i : ℕ) → length items ≤ i → Placing p marks i
-      → AllByRecursion (λ x. IsSome (place_of p.shelves x)) items
-  placed_there p marks i h g = subst (λ l. AllByRecursion (λ x. IsSome (place_of p.shelves x)) l) (take_all i items h) g.there
+      → AllByRecursion (λ x. IsSome (slot_of_item p.shelves x)) items
+  placed_there p marks i h g = subst (λ l. AllByRecursion (λ x. IsSome (slot_of_item p.shelves x)) l) (take_all i items h) g.there

@@ -18,15 +18,15 @@ use Rattle.ifmap_graph.specs.declared.ends.Ends.TheVariants as ends
 use Rattle.ifmap_graph.specs.declared.shelves.Shelf.{Shelf}
 use Rattle.ifmap_graph.specs.Held.{IsSide, shown_shelves}
 use Rattle.ifmap_graph.specs.Joined.{AreJoined, AreSingle, IsNumber, joined_pair, two_of}
-use Rattle.ifmap_graph.specs.Linked.{Ends}
+use Rattle.ifmap_graph.specs.Linked.{JoinsNumbers}
 use Rattle.ifmap_graph.specs.Named.{AreEnds, AreIdentifiers, AreNumbered, HasEnds, named_by, named_in}
-use Rattle.ifmap_graph.specs.Shelved.{IsPlaced, Side, list_at, row_on, rows_by}
+use Rattle.ifmap_graph.specs.Shelved.{IsPlaced, StoredSide, list_at, row_on, rows_by}
 use Rattle.ifmap_graph.proofs.Alike.{Tells, alike_equal, equal_alike}
 use Rattle.ifmap_graph.proofs.Graphs.{graph_is}
 use Rattle.ifmap_graph.proofs.Viewed.{alone, apart, each, handled, linked, only}
 
 -- the rows of shelves are those of their entries
-pub rows_shown : (side : Side) (look : ℕ → Option Shelf) (es : List (Item × ℕ)) → rows_by (list_at side) (shown_shelves look es) ≡ rows_by
+pub rows_shown : (side : StoredSide) (look : ℕ → Option Shelf) (es : List (Item × ℕ)) → rows_by (list_at side) (shown_shelves look es) ≡ rows_by
     (λ at. list_at side (look at)) es
 rows_shown side look [] = refl
 rows_shown side look (e ∷ es) = ap (λ l. map (row_on e.0) (list_at side (look e.1)) ++ l) (rows_shown side look es)
@@ -59,7 +59,7 @@ there None v w j = absurd (none-some _ j)
 there (Some shelf) v w j = refl
 
 -- a slot that joins numbers is live
-pub live_by : (look : ℕ → Option Shelf) (at v w : ℕ) → Ends (λ n. joined_pair (look n)) at v w → IsSome (look at)
+pub live_by : (look : ℕ → Option Shelf) (at v w : ℕ) → JoinsNumbers (λ n. joined_pair (look n)) at v w → IsSome (look at)
 live_by look at v w (inl j) = there (look at) v w j
 live_by look at v w (inr j) = there (look at) w v j
 
@@ -145,7 +145,7 @@ module _ (names : Holdings Identifier) where
         in (x.0, x.1, subst (λ i. Has entries (i, at)) x.2 u.1, x.3, x.4);
   }
 
-module _ (names : Holdings Identifier) (look : ℕ → Option Shelf) (entries : List (Item × ℕ)) (links : ℕ → List LinkSeen) (side : Side)
+module _ (names : Holdings Identifier) (look : ℕ → Option Shelf) (entries : List (Item × ℕ)) (links : ℕ → List LinkSeen) (side : StoredSide)
     (placed : IsPlaced look entries) (used : (at : ℕ) → IsSome (look at) → (item : Item) × Has entries (item, at))
     (numbered : AreNumbered names look entries)
     (pool : IsPool identifier_order names) (keys : AreIdentifiers names) (is : IsSide side look entries links) where

@@ -11,13 +11,13 @@ use Rattle.ifmap_graph.specs.Out.{IsDrafted}
 use Rattle.ifmap_graph.specs.Seen.{AwaitsMore, IsStill, StaysLean, waits_in, waits_there_in}
 use Rattle.ifmap_graph.specs.Shelved.{list_at, rows_by}
 use Rattle.ifmap_graph.specs.Sides.{now}
-use Rattle.ifmap_graph.specs.Stays.{IsThere, StayPlaced, ends_there_in}
+use Rattle.ifmap_graph.specs.Stays.{HasSameShelf, StayPlaced, ends_there_in}
 use Rattle.ifmap_graph.specs.Turning.{sides_at}
 use Rattle.ifmap_graph.proofs.Backs.{keeps_backs}
 
 module _ (old new : Held) (shelves : new.shelves ≡ old.shelves) (places : new.places ≡ old.places)
     (links : (v : ℕ) → sides_at new.links v ≡ sides_at old.links v) (long : length old.links ≤ length new.links) where
-  there : (x : Item) → IsThere old new x
+  there : (x : Item) → HasSameShelf old new x
   there x = (
     ap (λ l. lookup (is_at (item_order x)) l) places,
     ap (λ l. ends_there_in (lookup (is_at (item_order x)) l)) shelves,

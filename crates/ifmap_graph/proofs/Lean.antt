@@ -14,13 +14,13 @@ use Rattle.ifmap_view.specs.declared.views.LinkSeen.{LinkSeen}
 use Rattle.ifmap_view.specs.Rows.{stored_on}
 use Rattle.ifmap_graph.specs.declared.shelves.Shelves.{Shelves}
 use Rattle.ifmap_graph.specs.Back.{stand_each}
-use Rattle.ifmap_graph.specs.Bringing.{IsOther, parts_of}
+use Rattle.ifmap_graph.specs.Bringing.{IsOther, graph_parts}
 use Rattle.ifmap_graph.specs.Drafted.{AreOut}
 use Rattle.ifmap_graph.specs.Making.{IsMade, IsUnmade}
-use Rattle.ifmap_graph.specs.Out.{items_of}
+use Rattle.ifmap_graph.specs.Out.{items_changed}
 use Rattle.ifmap_graph.specs.Releasing.{AreFilled}
-use Rattle.ifmap_graph.specs.Seen.{Awaits, HasShelf, IsLean, StaysLean, StaysLeanWith, StaysLeanWithout}
-use Rattle.ifmap_graph.specs.Shelved.{AreShelved, place_of, rows_of}
+use Rattle.ifmap_graph.specs.Seen.{AreAwaited, HasShelf, IsLean, StaysLean, StaysLeanWith, StaysLeanWithout}
+use Rattle.ifmap_graph.specs.Shelved.{AreShelved, slot_of_item, rows_on_side}
 use Rattle.ifmap_graph.specs.Sides.{Sides, next, now}
 use Rattle.ifmap_graph.specs.Waits.{WaitsFor, times_in, waits_on}
 use Rattle.ifmap_graph.proofs.Insides.{lookup_shown, rows_shown}
@@ -38,15 +38,15 @@ never_times (i ∷ is) x e = elim (cases_Bool (is_at (item_order i) x)) [
 ]
 
 module _ (names : Holdings Identifier) (s : Shelves) (links : List (Sides LinkSeen)) where
-  pub shelf_place : (x : Item) → HasShelf (held_of names s links) x → IsSome (place_of s x)
-  shelf_place x h = by (place_of s x) (subst IsSome (lookup_shown (get s.slots) (is_at (item_order x)) s.places.entries) h)
+  pub shelf_place : (x : Item) → HasShelf (held_of names s links) x → IsSome (slot_of_item s x)
+  shelf_place x h = by (slot_of_item s x) (subst IsSome (lookup_shown (get s.slots) (is_at (item_order x)) s.places.entries) h)
     where
       by : (o : Option ℕ) → IsSome (option_map (get s.slots) o) → IsSome o
       by None e = e
       by (Some at) e = refl
 
-  pub place_shelf : (x : Item) → IsSome (place_of s x) → HasShelf (held_of names s links) x
-  place_shelf x h = subst IsSome (sym (lookup_shown (get s.slots) (is_at (item_order x)) s.places.entries)) (by (place_of s x) h)
+  pub place_shelf : (x : Item) → IsSome (slot_of_item s x) → HasShelf (held_of names s links) x
+  place_shelf x h = subst IsSome (sym (lookup_shown (get s.slots) (is_at (item_order x)) s.places.entries)) (by (slot_of_item s x) h)
     where
       by : (o : Option ℕ) → IsSome o → IsSome (option_map (get s.slots) o)
       by None e = e
@@ -76,8 +76,8 @@ module _ (names later : Holdings Identifier) (s t : Shelves) (links moved : List
 
   -- shelves stay, and so does what is stored on items that nobody waits for
   pub same_lean : ((x : Item) → waits_on t x ≡ waits_on s x)
-      → ((x : Item) → waits_on s x ≡ 0 → place_of t x ≡ place_of s x)
-      → ((x : Item) → waits_on s x ≡ 0 → stored_on x (rows_of now t) ≡ stored_on x (rows_of now s))
+      → ((x : Item) → waits_on s x ≡ 0 → slot_of_item t x ≡ slot_of_item s x)
+      → ((x : Item) → waits_on s x ≡ 0 → stored_on x (rows_on_side now t) ≡ stored_on x (rows_on_side now s))
       → StaysLean (held_of names s links) (held_of later t moved)
   same_lean waits places rows rest lean =
       lean_to later t moved rest (λ x. omega (arith, lean.waits x, waits x, waits_shown names s links x))
@@ -87,24 +87,24 @@ module _ (names later : Holdings Identifier) (s t : Shelves) (links moved : List
 
   -- a change came to be out
   pub made_lean : (changes : List ItemChange) (ways : List (ℕ × List LinkSeen))
-      → IsMade changes ways (parts_of names s links) (parts_of later t moved)
-      → StaysLeanWith (items_of changes) (held_of names s links) (held_of later t moved)
+      → IsMade changes ways (graph_parts names s links) (graph_parts later t moved)
+      → StaysLeanWith (items_changed changes) (held_of names s links) (held_of later t moved)
   made_lean changes ways made rest lean =
-      lean_to later t moved (items_of changes ++ rest)
-      (λ x. omega (arith, lean.waits x, made.waits x, waits_shown names s links x, times_append (items_of changes) rest x))
+      lean_to later t moved (items_changed changes ++ rest)
+      (λ x. omega (arith, lean.waits x, made.waits x, waits_shown names s links x, times_append (items_changed changes) rest x))
       (λ x place none e.
       let both = made.waits x
-      in let other = never_times (items_of changes) x (omega (arith, both, none))
+      in let other = never_times (items_changed changes) x (omega (arith, both, none))
       in lean_from names s links rest lean x (subst IsSome (made.same x other) place) (omega (arith, both, none))
       (sym (ap (stored_on x) made.rows) ∙ e))
 
   -- it did not
-  pub unmade_lean : IsUnmade (parts_of names s links) (parts_of later t moved) → StaysLean (held_of names s links) (held_of later t moved)
+  pub unmade_lean : IsUnmade (graph_parts names s links) (graph_parts later t moved) → StaysLean (held_of names s links) (held_of later t moved)
   unmade_lean un = same_lean un.shelves.waits (λ x none. un.shelves.places x tt) (λ x none. ap (stored_on x) un.rows)
 
   -- the drafts of these items, which are waited for, came to be the lists
-  pub turned_lean : (items : List Item) → Awaits items (held_of names s links) → AreShelved s → AreOut items s
-      → ((x : Item) → waits_on t x ≡ waits_on s x) → t.places ≡ s.places → rows_of now t ≡ rows_of next s
+  pub turned_lean : (items : List Item) → AreAwaited items (held_of names s links) → AreShelved s → AreOut items s
+      → ((x : Item) → waits_on t x ≡ waits_on s x) → t.places ≡ s.places → rows_on_side now t ≡ rows_on_side next s
       → StaysLean (held_of names s links) (held_of later t moved)
   turned_lean items awaits is out waits places rows =
       same_lean waits (λ x none. ap (λ p. lookup (is_at (item_order x)) p.entries) places)
@@ -113,14 +113,14 @@ module _ (names later : Holdings Identifier) (s t : Shelves) (links moved : List
       in has_times items x w.0 w.1 w.2 (omega (arith, awaits x, none, waits_shown names s links x))))
 
   -- lists came to stand on these items, which are waited for
-  pub stood_lean : (items : List Item) → Awaits items (held_of names s links) → ((x : Item) → waits_on t x ≡ waits_on s x)
+  pub stood_lean : (items : List Item) → AreAwaited items (held_of names s links) → ((x : Item) → waits_on t x ≡ waits_on s x)
       → t.places ≡ s.places → (lists : List (List Stored))
-      → ((x : Item) → stored_on x (rows_of now t) ≡ stand_each items lists x (stored_on x (rows_of now s)))
+      → ((x : Item) → stored_on x (rows_on_side now t) ≡ stand_each items lists x (stored_on x (rows_on_side now s)))
       → StaysLean (held_of names s links) (held_of later t moved)
   stood_lean items awaits waits places lists stands =
       same_lean waits (λ x none. ap (λ p. lookup (is_at (item_order x)) p.entries) places)
       (λ x none. stands x
-      ∙ stand_others items lists x (stored_on x (rows_of now s)) (omega (arith, awaits x, none, waits_shown names s links x)))
+      ∙ stand_others items lists x (stored_on x (rows_on_side now s)) (omega (arith, awaits x, none, waits_shown names s links x)))
 
 -- nothing at all is left behind of nothing
 pub none_lean : (names : Holdings Identifier) → IsLean [] (record { shelves = []; names = names; links = []; places = [] })

@@ -18,7 +18,7 @@ use Rattle.ifmap_ident.specs.Items.{IsCanonItem, item_order}
 use Rattle.ifmap_pool.specs.Holdings.{once}
 use Rattle.ifmap_graph.specs.declared.shelves.Shelf.{Shelf}
 use Rattle.ifmap_graph.specs.Named.{named_by, named_in}
-use Rattle.ifmap_graph.specs.Shelved.{IsPlaced, Rises, Side, list_at, row_on, rows_by}
+use Rattle.ifmap_graph.specs.Shelved.{IsPlaced, ItemsRise, StoredSide, list_at, row_on, rows_by}
 use Rattle.ifmap_graph.proofs.Alike.{Alike, one_tied, order_alike, pair_tied}
 use Rattle.ifmap_graph.proofs.Ordered.{equal_is}
 use Rattle.ifmap_graph.proofs.Finding.{all_left, leaves}
@@ -126,7 +126,7 @@ removed_has test (e ∷ es) at n k h o i = elim (cases_Bool (test e.0)) [
 module _ (es new : Entries) (look later : ℕ → Option Shelf) (item : Item) (at : ℕ) (is : IsPlaced look es)
     (here : lookup (is_at (item_order item)) es ≡ Some at)
     (gone : later at ≡ None) (others : (o : ℕ) → o ≢ at → later o ≡ look o) (removes : new ≡ remove_entry (is_at (item_order item)) es)
-    (rises : Rises new) where
+    (rises : ItemsRise new) where
   apart_from : AllByRecursion (λ e. e.1 ≢ at) (remove_entry (is_at (item_order item)) es)
   apart_from = others_left (is_at (item_order item)) es at is.apart here
 
@@ -135,7 +135,7 @@ module _ (es new : Entries) (look later : ℕ → Option Shelf) (item : Item) (a
   live_left [] o a = tt
   live_left (e ∷ es) o a = (subst (λ (x : Option Shelf). IsSome x) (sym (others e.1 o.0)) a.0, live_left es o.1 a.1)
 
-  rows_left : (side : Side) (es : Entries) → AllByRecursion (λ e. e.1 ≢ at) es → rows_by (λ n. list_at side (later n)) es ≡ rows_by
+  rows_left : (side : StoredSide) (es : Entries) → AllByRecursion (λ e. e.1 ≢ at) es → rows_by (λ n. list_at side (later n)) es ≡ rows_by
       (λ n. list_at side (look n)) es
   rows_left side [] o = refl
   rows_left side (e ∷ es) o =
@@ -163,7 +163,7 @@ module _ (es new : Entries) (look later : ℕ → Option Shelf) (item : Item) (a
     apart = subst (λ l. IsDistinct nat_eq (slots_of l)) (sym removes) (slots_left (is_at (item_order item)) es is.apart);
   }
 
-  pub same_rows : (side : Side) → list_at side (look at) ≡ [] → rows_by (λ n. list_at side (later n)) new ≡ rows_by
+  pub same_rows : (side : StoredSide) → list_at side (look at) ≡ [] → rows_by (λ n. list_at side (later n)) new ≡ rows_by
       (λ n. list_at side (look n)) es
   same_rows side empty =
       ap (rows_by (λ n. list_at side (later n))) removes

@@ -19,7 +19,7 @@ use Rattle.ifmap_graph.specs.Drafted.{AreBare, NoDraft, ends_at}
 use Rattle.ifmap_graph.specs.Held.{IsInside}
 use Rattle.ifmap_graph.specs.Named.{named_in}
 use Rattle.ifmap_graph.specs.Releasing.{IsLess}
-use Rattle.ifmap_graph.specs.Shelved.{AreShelved, IsBare, Rises, list_at, place_of, rows_by, rows_of}
+use Rattle.ifmap_graph.specs.Shelved.{AreShelved, HasEmptyShelf, ItemsRise, list_at, slot_of_item, rows_by, rows_on_side}
 use Rattle.ifmap_graph.specs.Sides.{Sides, next, now}
 use Rattle.ifmap_graph.specs.Waits.{waits_on, waits_there}
 use Rattle.ifmap_graph.proofs.Finding.{absent, found}
@@ -59,7 +59,7 @@ less_on one two three s t u p q = record {
 -- shelves are written that show the same, on both sides
 module _ (names : Holdings Identifier) (s t : Shelves) (later : AreShelved t) (places : t.places ≡ s.places)
     (ends : (at : ℕ) → ends_at t at ≡ ends_at s at)
-    (rows : rows_of now t ≡ rows_of now s) (same : rows_of next t ≡ rows_of next s) where
+    (rows : rows_on_side now t ≡ rows_on_side now s) (same : rows_on_side next t ≡ rows_on_side next s) where
   pub inside_written : (links : List (Sides LinkSeen)) → IsInside names (get s.slots) s.places.entries links
       → IsInside names (get t.slots) t.places.entries links
   inside_written links is =
@@ -80,7 +80,7 @@ module _ (names : Holdings Identifier) (s t : Shelves) (later : AreShelved t) (p
   }
 
 -- on items that tie the same is stored
-stored_tied : (list_of : ℕ → List Stored) (es : Entries) → Rises es → (x y : Item) → item_order x y ≡ Equal
+stored_tied : (list_of : ℕ → List Stored) (es : Entries) → ItemsRise es → (x y : Item) → item_order x y ≡ Equal
     → stored_on x (rows_by list_of es) ≡ stored_on y (rows_by list_of es)
 stored_tied list_of es rising x y t = by (lookup (is_at (item_order y)) es) refl
   where
@@ -90,12 +90,12 @@ stored_tied list_of es rising x y t = by (lookup (is_at (item_order y)) es) refl
 
 -- the shelf of an item goes, on which nothing is stored
 pub less_removed : (names left : Holdings Identifier) (s t : Shelves) (item : Item) → AreShelved s → AreShelved t
-    → stored_on item (rows_of now s) ≡ []
+    → stored_on item (rows_on_side now s) ≡ []
     → ((links : List (Sides LinkSeen)) → IsInside names (get s.slots) s.places.entries links
     → IsInside left (get t.slots) t.places.entries links)
-    → rows_of now t ≡ rows_of now s
-    → ((x : Item) (at : ℕ) → place_of t x ≡ Some at → (place_of s x ≡ Some at) × (get t.slots at ≡ get s.slots at))
-    → ((x : Item) → is_at (item_order item) x ≡ false → place_of t x ≡ place_of s x)
+    → rows_on_side now t ≡ rows_on_side now s
+    → ((x : Item) (at : ℕ) → slot_of_item t x ≡ Some at → (slot_of_item s x ≡ Some at) × (get t.slots at ≡ get s.slots at))
+    → ((x : Item) → is_at (item_order item) x ≡ false → slot_of_item t x ≡ slot_of_item s x)
     → ((v : ℕ) (a : Identifier) → Names identifier_order left v a → Names identifier_order names v a)
     → ((a : Identifier) (own : ℕ) → IsHeld identifier_order names a (named_in s.places.entries a + own)
     → IsHeld identifier_order left a (named_in t.places.entries a + own))
@@ -115,23 +115,23 @@ less_removed names left s t item is later empty inside rows before others named 
 }
 
 -- an item that is waited for has a shelf
-pub waited_there : (s : Shelves) (x : Item) → 0 < waits_on s x → (at : ℕ) × (place_of s x ≡ Some at)
-waited_there s x w = by (place_of s x) refl w
+pub waited_there : (s : Shelves) (x : Item) → 0 < waits_on s x → (at : ℕ) × (slot_of_item s x ≡ Some at)
+waited_there s x w = by (slot_of_item s x) refl w
   where
-    by : (o : Option ℕ) → place_of s x ≡ o → 0 < waits_on s x → (at : ℕ) × (place_of s x ≡ Some at)
+    by : (o : Option ℕ) → slot_of_item s x ≡ o → 0 < waits_on s x → (at : ℕ) × (slot_of_item s x ≡ Some at)
     by None e w = let zero : waits_on s x ≡ 0 = ap (waits_there (get s.slots)) e in absurd (omega (arith, w, zero))
     by (Some at) e w = (at, e)
 
 -- places that stay
-pub is_there_still : (s t : Shelves) (x : Item) (at : ℕ) → t.places ≡ s.places → place_of s x ≡ Some at → place_of t x ≡ Some at
+pub is_there_still : (s t : Shelves) (x : Item) (at : ℕ) → t.places ≡ s.places → slot_of_item s x ≡ Some at → slot_of_item t x ≡ Some at
 is_there_still s t x at places e = ap (λ p. lookup (is_at (item_order x)) p.entries) places ∙ e
 
 both : (x : Sides Stored) → x.now ≡ [] → x.draft ≡ None → x ≡ record { now = []; draft = None }
 both x e f = ap (λ n. record { now = n; draft = x.draft }) e ∙ ap (λ d. record { now = []; draft = d }) f
 
 -- where no shelf has a draft, a shelf on whose item nothing is stored is empty
-pub is_bare : (s : Shelves) (item : Item) (at : ℕ) → AreShelved s → AreBare s → place_of s item ≡ Some at
-    → stored_on item (rows_of now s) ≡ [] → IsBare s item
+pub is_bare : (s : Shelves) (item : Item) (at : ℕ) → AreShelved s → AreBare s → slot_of_item s item ≡ Some at
+    → stored_on item (rows_on_side now s) ≡ [] → HasEmptyShelf s item
 is_bare s item at is bare here empty =
     let l = some_is (get s.slots at) (slot_live (get s.slots) s.places.entries item at is here)
     in let q = looked_up s.places.entries item at here

@@ -7,7 +7,7 @@ use Rattle.std.proofs.lemmas.Option.{same_Some, none-some}
 use Rattle.std.specs.List.{Contains, filter}
 use Rattle.ifmap_lemmas.specs.Having.{filter_has, from_has, has_filter, has_from, has_mapped, mapped_has}
 use Rattle.ifmap_view.specs.declared.views.LinkSeen.{LinkSeen}
-use Rattle.ifmap_graph.specs.Linked.{Ends, far_of, seen_at, AreListed, coming_links, changed_links}
+use Rattle.ifmap_graph.specs.Linked.{JoinsNumbers, far_of, seen_at, AreListed, coming_links, changed_links}
 
 pub far_first : (v w : ℕ) → far_of (Some (v, w)) v ≡ Some w
 far_first v w = let e : nat_eq v v ≡ true = grind (arith, nat_tests) in rw e refl
@@ -50,11 +50,11 @@ both_true true false e = (refl, refl)
 both_true false b e = let r : false ≡ true = e in cc
 
 module _ (joins : ℕ → Option (ℕ × ℕ)) where
-  far_is : (at v w : ℕ) (o : Option (ℕ × ℕ)) → joins at ≡ o → far_of o v ≡ Some w → Ends joins at v w
+  far_is : (at v w : ℕ) (o : Option (ℕ × ℕ)) → joins at ≡ o → far_of o v ≡ Some w → JoinsNumbers joins at v w
   far_is at v w None is e = absurd (none-some _ e)
   far_is at v w (Some p) is e = elim (far_ends p v w e) [ inl q ↦ inl (is ∙ ap Some q) | inr q ↦ inr (is ∙ ap Some q) ]
 
-  pub is_far : (at v w : ℕ) → Ends joins at v w → far_of (joins at) v ≡ Some w
+  pub is_far : (at v w : ℕ) → JoinsNumbers joins at v w → far_of (joins at) v ≡ Some w
   is_far at v w (inl e) = ap (λ o. far_of o v) e ∙ far_first v w
   is_far at v w (inr e) = ap (λ o. far_of o v) e ∙ far_second v w
 
@@ -64,7 +64,7 @@ module _ (joins : ℕ → Option (ℕ × ℕ)) where
     pick v at = cond (after at && not (before at)) (seen_at at (far_of (joins at) v)) None
 
     new_only : (v : ℕ) (seen : LinkSeen) → Contains (changed_links joins before after touched links v) seen
-        → Ends joins seen.at v seen.other
+        → JoinsNumbers joins seen.at v seen.other
         × (after seen.at ≡ true)
     new_only v seen c = elim (Contains-append_cases (filter (λ l. after l.at) (links v))
         (coming_links joins before after touched v) seen c) [
@@ -72,11 +72,11 @@ module _ (joins : ℕ → Option (ℕ × ℕ)) where
               in ((old.only v seen (from_has (links v) seen h.0)).0, h.1)
           | inr b ↦ let h = mapped_has (pick v) touched seen (has_from _ _ b)
               in let p = picked (after h.0 && not (before h.0)) h.0 (far_of (joins h.0) v) seen h.2
-              in let ends : Ends joins h.0 v seen.other = far_is h.0 v seen.other (joins h.0) refl p.1
-              in (subst (λ at. Ends joins at v seen.other) p.2 ends, ap after (sym p.2) ∙ (both_true (after h.0) (before h.0) p.0).0)
+              in let ends : JoinsNumbers joins h.0 v seen.other = far_is h.0 v seen.other (joins h.0) refl p.1
+              in (subst (λ at. JoinsNumbers joins at v seen.other) p.2 ends, ap after (sym p.2) ∙ (both_true (after h.0) (before h.0) p.0).0)
         ]
 
-    new_each : (v w at : ℕ) → Ends joins at v w → after at ≡ true → Contains (changed_links joins before after touched links v)
+    new_each : (v w at : ℕ) → JoinsNumbers joins at v w → after at ≡ true → Contains (changed_links joins before after touched links v)
         (record { other = w; at = at })
     new_each v w at ends full = elim (cases_Bool (before at)) [
       | inl was ↦ Contains-append_left (filter (λ l. after l.at) (links v)) (coming_links joins before after touched v)

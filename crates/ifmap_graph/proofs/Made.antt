@@ -13,42 +13,42 @@ use Rattle.ifmap_pool.specs.Holdings.{Holdings, IsHeld, IsPool, Names, holds_at}
 use Rattle.ifmap_view.specs.declared.attachments.Attachment.{Attachment}
 use Rattle.ifmap_view.specs.declared.views.LinkSeen.{LinkSeen}
 use Rattle.ifmap_graph.specs.declared.shelves.Shelves.{Shelves}
-use Rattle.ifmap_graph.specs.Bringing.{AreGrown, AreInside, BringsShelves, HasOwn, IsOther, Parts, parts_of}
+use Rattle.ifmap_graph.specs.Bringing.{AreGrown, AreInside, BringsShelves, HasOwn, IsOther, Parts, graph_parts}
 use Rattle.ifmap_graph.specs.Drafted.{AreBare, AreOut, ends_at}
 use Rattle.ifmap_graph.specs.Making.{IsMade, IsUnmade}
 use Rattle.ifmap_graph.specs.Named.{named_in}
-use Rattle.ifmap_graph.specs.Out.{items_of}
-use Rattle.ifmap_graph.specs.Shelved.{place_of, rows_of}
+use Rattle.ifmap_graph.specs.Out.{items_changed}
+use Rattle.ifmap_graph.specs.Shelved.{slot_of_item, rows_on_side}
 use Rattle.ifmap_graph.specs.Sides.{Sides, next, now}
-use Rattle.ifmap_graph.specs.Touched.{AreReady, KeepsLinks}
+use Rattle.ifmap_graph.specs.Touched.{AreExactlyDrafted, KeepsLinks}
 use Rattle.ifmap_graph.specs.Turning.{sides_at}
 use Rattle.ifmap_graph.specs.Waits.{WaitsFor}
 use Rattle.ifmap_graph.proofs.Brought.{other_absent, some_place}
 
 -- the items of changes that fit are such as elements mean
 pub all_canon : (rows : List Attachment) (changes : List ItemChange) → AllByRecursion (FitsItem rows) changes
-    → AllByRecursion IsCanonItem (items_of changes)
+    → AllByRecursion IsCanonItem (items_changed changes)
 all_canon rows [] a = tt
 all_canon rows (c ∷ cs) a = (a.0.canon, all_canon rows cs a.1)
 
 -- where nothing is drafted, no way is named
 pub none_ready : (ways : List (ℕ × List LinkSeen)) (links : List (Sides LinkSeen)) → ways ≡ [] → ((v : ℕ) → (sides_at links v).draft ≡ None)
-    → AreReady ways links
-none_ready ways links e none = subst (λ w. AreReady w links) (sym e) (record { drafted = tt; no_others = λ v. inl (none v) })
+    → AreExactlyDrafted ways links
+none_ready ways links e none = subst (λ w. AreExactlyDrafted w links) (sym e) (record { drafted = tt; no_others = λ v. inl (none v) })
 
 pub made_by : (changes : List ItemChange) (ways : List (ℕ × List LinkSeen)) (items : List Item) (first old : Parts) (t : Shelves)
     (links : List (Sides LinkSeen))
-    → AreGrown first old → BringsShelves items first.shelves old.shelves → AreInside (parts_of old.names t links)
-    → rows_of now t ≡ rows_of now old.shelves
-    → IsAfter changes (rows_of now old.shelves) (rows_of next t) → AreOut (items_of changes) t → AreReady ways links
+    → AreGrown first old → BringsShelves items first.shelves old.shelves → AreInside (graph_parts old.names t links)
+    → rows_on_side now t ≡ rows_on_side now old.shelves
+    → IsAfter changes (rows_on_side now old.shelves) (rows_on_side next t) → AreOut (items_changed changes) t → AreExactlyDrafted ways links
     → KeepsLinks old.links links
     → ((at : ℕ) → ends_at t at ≡ ends_at old.shelves at) → t.places ≡ old.shelves.places
-    → ((x : Item) → IsOther (items_of changes) x → IsOther items x) → WaitsFor (items_of changes) old.shelves t
-    → IsMade changes ways first (parts_of old.names t links)
+    → ((x : Item) → IsOther (items_changed changes) x → IsOther items x) → WaitsFor (items_changed changes) old.shelves t
+    → IsMade changes ways first (graph_parts old.names t links)
 made_by changes ways items first old t links grown brought inside rows after out ready kept ends places within waits = record {
   inside = inside;
   rows = rows ∙ grown.now;
-  after = subst (λ r. IsAfter changes r (rows_of next t)) grown.now after;
+  after = subst (λ r. IsAfter changes r (rows_on_side next t)) grown.now after;
   out = out;
   ready = ready;
   links = λ v. kept.now v ∙ ap (λ s. s.now) (grown.links v);
@@ -56,7 +56,7 @@ made_by changes ways items first old t links grown brought inside rows after out
   kept = grown.kept;
   own = λ a own h. subst (λ p. IsHeld identifier_order old.names a (named_in p.entries a + own)) (sym places) (grown.own a own h);
   places = λ x at e.
-      let o = other_absent first.shelves items x brought.absent (some_place (place_of first.shelves x) at e)
+      let o = other_absent first.shelves items x brought.absent (some_place (slot_of_item first.shelves x) at e)
       in (ap (λ p. lookup (is_at (item_order x)) p.entries) places ∙ brought.places x o ∙ e, ends at ∙ brought.ends x at e);
   same = λ x o. ap (λ p. lookup (is_at (item_order x)) p.entries) places ∙ brought.places x (within x o);
   waits = λ x. omega (arith, waits x, brought.waits x);
@@ -84,12 +84,12 @@ module _ (one two mid : Holdings Identifier) (first : IsPool identifier_order on
 
 pub unmade_by : (first : Parts) (mid left : Holdings Identifier) (t : Shelves) (links : List (Sides LinkSeen)) → AreInside first
     → IsPool identifier_order mid
-    → AreInside (parts_of left t links) → AreBare t → ((v : ℕ) → (sides_at links v).draft ≡ None)
-    → rows_of now t ≡ rows_of now first.shelves
+    → AreInside (graph_parts left t links) → AreBare t → ((v : ℕ) → (sides_at links v).draft ≡ None)
+    → rows_on_side now t ≡ rows_on_side now first.shelves
     → ((v : ℕ) → (sides_at links v).now ≡ (sides_at first.links v).now) → length first.links ≤ length links
-    → ((a : Identifier) (own : ℕ) → HasOwn first a own → HasOwn (parts_of left t links) a own) → BringsShelves [] first.shelves t
+    → ((a : Identifier) (own : ℕ) → HasOwn first a own → HasOwn (graph_parts left t links) a own) → BringsShelves [] first.shelves t
     → ((v : ℕ) (a : Identifier) → Names identifier_order first.names v a → Names identifier_order mid v a)
-    → ((v : ℕ) (a : Identifier) → Names identifier_order left v a → Names identifier_order mid v a) → IsUnmade first (parts_of left t links)
+    → ((v : ℕ) (a : Identifier) → Names identifier_order left v a → Names identifier_order mid v a) → IsUnmade first (graph_parts left t links)
 unmade_by first mid left t links is pool inside bare none rows same longer own brought from into = record {
   inside = inside;
   bare = bare;

@@ -14,10 +14,10 @@ use Rattle.ifmap_graph.specs.declared.shelves.Shelf.{Shelf}
 use Rattle.ifmap_graph.specs.declared.shelves.Shelves.{Shelves}
 use Rattle.ifmap_graph.specs.Drafted.{ends_at}
 use Rattle.ifmap_graph.specs.Held.{IsInside, IsSide, links_at}
-use Rattle.ifmap_graph.specs.Joined.{is_full, joined_pair, two_of}
-use Rattle.ifmap_graph.specs.Linked.{Ends, ats}
+use Rattle.ifmap_graph.specs.Joined.{is_not_empty, joined_pair, two_of}
+use Rattle.ifmap_graph.specs.Linked.{JoinsNumbers, ats}
 use Rattle.ifmap_graph.specs.Named.{AreEnds, AreNumbered, HasEnds}
-use Rattle.ifmap_graph.specs.Shelved.{AreShelved, IsPlaced, Side, list_at, rows_of}
+use Rattle.ifmap_graph.specs.Shelved.{AreShelved, IsPlaced, StoredSide, list_at, rows_on_side}
 use Rattle.ifmap_graph.specs.Sides.{Sides, next, now}
 use Rattle.ifmap_graph.proofs.Finding.{found}
 use Rattle.ifmap_graph.proofs.Following.{entry_hits}
@@ -51,16 +51,16 @@ module _ (look later : ℕ → Option Shelf) (ends : (at : ℕ) → ends_of (lat
   still_numbered names [] a = tt
   still_numbered names (e ∷ es) a = (has_by names e.0 (later e.1) (look e.1) (ends e.1) a.0, still_numbered names es a.1)
 
-  ends_moved : (at v w : ℕ) → Ends (λ n. joined_pair (look n)) at v w → Ends (λ n. joined_pair (later n)) at v w
+  ends_moved : (at v w : ℕ) → JoinsNumbers (λ n. joined_pair (look n)) at v w → JoinsNumbers (λ n. joined_pair (later n)) at v w
   ends_moved at v w (inl e) = inl (joined_by (later at) (look at) (ends at) ∙ e)
   ends_moved at v w (inr e) = inr (joined_by (later at) (look at) (ends at) ∙ e)
 
-  ends_back : (at v w : ℕ) → Ends (λ n. joined_pair (later n)) at v w → Ends (λ n. joined_pair (look n)) at v w
+  ends_back : (at v w : ℕ) → JoinsNumbers (λ n. joined_pair (later n)) at v w → JoinsNumbers (λ n. joined_pair (look n)) at v w
   ends_back at v w (inl e) = inl (sym (joined_by (later at) (look at) (ends at)) ∙ e)
   ends_back at v w (inr e) = inr (sym (joined_by (later at) (look at) (ends at)) ∙ e)
 
   -- the lists and the links of one side come to be those of another
-  module _ (side other : Side) (lists : (at : ℕ) → list_at other (later at) ≡ list_at side (look at)) (links moved : ℕ → List LinkSeen)
+  module _ (side other : StoredSide) (lists : (at : ℕ) → list_at other (later at) ≡ list_at side (look at)) (links moved : ℕ → List LinkSeen)
       (same : (v : ℕ) → moved v ≡ links v) where
     all_lists : (es : Entries) → AllByRecursion (λ e. IsList (list_at side (look e.1))) es → AllByRecursion
         (λ e. IsList (list_at other (later e.1))) es
@@ -73,10 +73,10 @@ module _ (look later : ℕ → Option Shelf) (ends : (at : ℕ) → ends_of (lat
       listed = record {
         only = λ v seen c.
             let p = is.listed.only v seen (subst (λ l. Contains l seen) (same v) c)
-            in (ends_moved seen.at v seen.other p.0, ap is_full (lists seen.at) ∙ p.1);
+            in (ends_moved seen.at v seen.other p.0, ap is_not_empty (lists seen.at) ∙ p.1);
         each = λ v w at e f.
             subst (λ l. Contains l (record { other = w; at = at })) (sym (same v))
-            (is.listed.each v w at (ends_back at v w e) (sym (ap is_full (lists at)) ∙ f));
+            (is.listed.each v w at (ends_back at v w e) (sym (ap is_not_empty (lists at)) ∙ f));
       };
       once = λ v. subst (λ l. IsDistinct nat_eq (ats l)) (sym (same v)) (is.once v);
     }
@@ -105,7 +105,7 @@ module _ (look later : ℕ → Option Shelf) (ends : (at : ℕ) → ends_of (lat
   }
 
   -- all parts together, where both sides come to be what one was
-  pub inside_moved : (names : Holdings Identifier) (es : Entries) (links moved : List (Sides LinkSeen)) (one two : Side)
+  pub inside_moved : (names : Holdings Identifier) (es : Entries) (links moved : List (Sides LinkSeen)) (one two : StoredSide)
       (from : (Sides LinkSeen → List LinkSeen)) (then : (Sides LinkSeen → List LinkSeen))
       → ((at : ℕ) → list_at now (later at) ≡ list_at one (look at)) → ((at : ℕ) → list_at next (later at) ≡ list_at two (look at))
       → ((v : ℕ) → links_at now moved v ≡ links_at from links v) → ((v : ℕ) → links_at next moved v ≡ links_at then links v)
@@ -119,7 +119,7 @@ module _ (look later : ℕ → Option Shelf) (ends : (at : ℕ) → ends_of (lat
 -- lists are the same at each slot where the same is stored on each item
 module _ (s t : Shelves) (is : AreShelved s) (later : AreShelved t) (places : t.places ≡ s.places)
     (used : (at : ℕ) → IsSome (get s.slots at) → (item : Item) × Has s.places.entries (item, at))
-    (ends : (at : ℕ) → ends_at t at ≡ ends_at s at) (side other : Side) (rows : rows_of other t ≡ rows_of side s) where
+    (ends : (at : ℕ) → ends_at t at ≡ ends_at s at) (side other : StoredSide) (rows : rows_on_side other t ≡ rows_on_side side s) where
   at_item : (at : ℕ) (item : Item) → Has s.places.entries (item, at) → list_at other (get t.slots at) ≡ list_at side (get s.slots at)
   at_item at item h =
       found (λ n. list_at other (get t.slots n)) item t.places.entries at later.rising

@@ -21,8 +21,8 @@ use Rattle.ifmap_plans.specs.Plans.{Fits, IsAfter, after_on, change_of, changed_
 use Rattle.ifmap_view.specs.Rows.{stored_on}
 use Rattle.ifmap_graph.specs.declared.shelves.Shelves.{Shelves}
 use Rattle.ifmap_graph.specs.Drafted.{AreBare, AreOut, DraftsWithin, NoDraft, ends_at}
-use Rattle.ifmap_graph.specs.Out.{items_of}
-use Rattle.ifmap_graph.specs.Shelved.{AreShelved, HasDraft, place_of, rows_of}
+use Rattle.ifmap_graph.specs.Out.{items_changed}
+use Rattle.ifmap_graph.specs.Shelved.{AreShelved, HasDraft, slot_of_item, rows_on_side}
 use Rattle.ifmap_graph.specs.Sides.{next, now}
 use Rattle.ifmap_graph.specs.Waits.{waits_on}
 use Rattle.ifmap_graph.proofs.Accepting.{all_given, apart_parts}
@@ -41,7 +41,7 @@ tied_both i j x a b =
     in items_tie i j ∙ ap is_eq (items_total.congr i x j one ∙ turned_tie j x two)
 
 no_change : (i x : Item) (changes : List ItemChange) → is_at (item_order i) x ≡ true
-    → AllByRecursion (λ y. same_item i y ≡ false) (items_of changes)
+    → AllByRecursion (λ y. same_item i y ≡ false) (items_changed changes)
     → change_of changes x ≡ None
 no_change i x [] t a = refl
 no_change i x (c ∷ cs) t a = elim (cases_Bool (same_item c.item x)) [
@@ -49,11 +49,11 @@ no_change i x (c ∷ cs) t a = elim (cases_Bool (same_item c.item x)) [
   | inr f ↦ rw f (no_change i x cs t a.1)
 ]
 
-map_snoc : (xs : List ItemChange) (x : ItemChange) → items_of (xs ++ x ∷ []) ≡ items_of xs ++ x.item ∷ []
+map_snoc : (xs : List ItemChange) (x : ItemChange) → items_changed (xs ++ x ∷ []) ≡ items_changed xs ++ x.item ∷ []
 map_snoc [] x = refl
 map_snoc (y ∷ ys) x = ap (λ l. y.item ∷ l) (map_snoc ys x)
 
-has_at : (changes : List ItemChange) (i : ℕ) (d : ItemChange) → i < length changes → Has (items_of changes) (get_or changes i d).item
+has_at : (changes : List ItemChange) (i : ℕ) (d : ItemChange) → i < length changes → Has (items_changed changes) (get_or changes i d).item
 has_at [] i d h = absurd (omega (arith, h))
 has_at (c ∷ cs) zero d h = inl refl
 has_at (c ∷ cs) (suc i) d h = inr (has_at cs i d (omega (arith, h)))
@@ -72,7 +72,7 @@ bare_none s bare x d =
 
 -- what is stored after one change, of those that are left
 step_of : (c : ItemChange) (rest : List ItemChange) (x : Item) (was here later : List Stored)
-    → AllByRecursion (λ y. same_item c.item y ≡ false) (items_of rest)
+    → AllByRecursion (λ y. same_item c.item y ≡ false) (items_changed rest)
     → later ≡ cond (is_at (item_order c.item) x) (next_on c.removed c.added here) was → (is_at (item_order c.item) x ≡ true → was ≡ here)
     → after_on rest x later ≡ after_on (c ∷ rest) x was
 step_of c rest x was here later apart e same = elim (cases_Bool (is_at (item_order c.item) x)) [
@@ -87,30 +87,30 @@ module _ (changes : List ItemChange) (first : Shelves) where
   -- so many items have their drafts
   pub record Drafting (s : Shelves) (i : ℕ) : Type 0 where
     pub shelved : AreShelved s
-    pub same : rows_of now s ≡ rows_of now first
-    pub drafted : AllByRecursion (HasDraft s) (items_of (take i changes))
-    pub within : DraftsWithin (items_of changes) s
-    pub apart : IsDistinct same_item (items_of (drop i changes))
-    pub fresh : AllByRecursion (λ x. stored_on x (rows_of next s) ≡ stored_on x (rows_of now first)) (items_of (drop i changes))
-    pub left : (x : Item) → after_on (drop i changes) x (stored_on x (rows_of next s)) ≡ after_on changes x
-        (stored_on x (rows_of now first))
+    pub same : rows_on_side now s ≡ rows_on_side now first
+    pub drafted : AllByRecursion (HasDraft s) (items_changed (take i changes))
+    pub within : DraftsWithin (items_changed changes) s
+    pub apart : IsDistinct same_item (items_changed (drop i changes))
+    pub fresh : AllByRecursion (λ x. stored_on x (rows_on_side next s) ≡ stored_on x (rows_on_side now first)) (items_changed (drop i changes))
+    pub left : (x : Item) → after_on (drop i changes) x (stored_on x (rows_on_side next s)) ≡ after_on changes x
+        (stored_on x (rows_on_side now first))
     pub ends : (at : ℕ) → ends_at s at ≡ ends_at first at
     pub waits : (x : Item) → waits_on s x ≡ waits_on first x
     pub places : s.places ≡ first.places
 
-  all_same : (xs : List Item) → ((x : Item) → stored_on x (rows_of next first) ≡ stored_on x (rows_of now first))
-      → AllByRecursion (λ x. stored_on x (rows_of next first) ≡ stored_on x (rows_of now first)) xs
+  all_same : (xs : List Item) → ((x : Item) → stored_on x (rows_on_side next first) ≡ stored_on x (rows_on_side now first))
+      → AllByRecursion (λ x. stored_on x (rows_on_side next first) ≡ stored_on x (rows_on_side now first)) xs
   all_same [] f = tt
   all_same (x ∷ xs) f = (f x, all_same xs f)
 
-  pub drafting : AreShelved first → AreBare first → Fits (rows_of now first) changes → Drafting first 0
+  pub drafting : AreShelved first → AreBare first → Fits (rows_on_side now first) changes → Drafting first 0
   drafting shelved bare fits = record {
     shelved = shelved;
     same = refl;
     drafted = tt;
     within = λ x d. absurd (bare_none first bare x d);
     apart = fits.apart;
-    fresh = all_same (items_of changes) (λ x. ap (stored_on x) (sides_same first bare));
+    fresh = all_same (items_changed changes) (λ x. ap (stored_on x) (sides_same first bare));
     left = λ x. ap (λ rows. after_on changes x (stored_on x rows)) (sides_same first bare);
     ends = λ at. refl;
     waits = λ x. refl;
@@ -118,20 +118,20 @@ module _ (changes : List ItemChange) (first : Shelves) where
   }
 
   module _ (s : Shelves) (i : ℕ) (h : i < length changes) (c : ItemChange) (is : c ≡ get_or changes i c) (g : Drafting s i) where
-    pub there_at : AllByRecursion (λ x. IsSome (place_of first x)) (items_of changes) → IsSome (place_of s c.item)
+    pub there_at : AllByRecursion (λ x. IsSome (slot_of_item first x)) (items_changed changes) → IsSome (slot_of_item s c.item)
     there_at all =
-        subst (λ p. IsSome (place_of (record { places = p; slots = s.slots }) c.item)) (sym g.places)
-        (subst (λ (x : ItemChange). IsSome (place_of first x.item)) (sym is)
-        (all_at_place (λ (x : ItemChange). IsSome (place_of first x.item)) changes i c h
-        (all_of_map (λ x. IsSome (place_of first x)) (λ (x : ItemChange). x.item) changes all)))
+        subst (λ p. IsSome (slot_of_item (record { places = p; slots = s.slots }) c.item)) (sym g.places)
+        (subst (λ (x : ItemChange). IsSome (slot_of_item first x.item)) (sym is)
+        (all_at_place (λ (x : ItemChange). IsSome (slot_of_item first x.item)) changes i c h
+        (all_of_map (λ x. IsSome (slot_of_item first x)) (λ (x : ItemChange). x.item) changes all)))
 
     pub within_on : (t : Shelves) → ((x : Item) → HasDraft t x → HasDraft s x ⊎ (is_at (item_order c.item) x ≡ true))
-        → DraftsWithin (items_of changes) t
+        → DraftsWithin (items_changed changes) t
     within_on t drafts x d = elim (drafts x d) [
       | inl old ↦ g.within x old
       | inr tie ↦ (
         c.item,
-        subst (λ (y : ItemChange). Has (items_of changes) y.item) (sym is) (has_at changes i c h),
+        subst (λ (y : ItemChange). Has (items_changed changes) y.item) (sym is) (has_at changes i c h),
         equal_is
             (item_order c.item x) tie,
       )
@@ -140,27 +140,27 @@ module _ (changes : List ItemChange) (first : Shelves) where
     here : drop i changes ≡ c ∷ drop (i + 1) changes
     here = drop-cons changes i c h ∙ ap (λ x. x ∷ drop (suc i) changes) (sym is) ∙ ap (λ n. c ∷ drop n changes) (sym (add-one i))
 
-    apart_here : AllByRecursion (λ y. same_item c.item y ≡ false) (items_of (drop (i + 1) changes))
-        × IsDistinct same_item (items_of (drop (i + 1) changes))
-    apart_here = apart_parts c.item (items_of (drop (i + 1) changes)) (subst (λ l. IsDistinct same_item (items_of l)) here g.apart)
+    apart_here : AllByRecursion (λ y. same_item c.item y ≡ false) (items_changed (drop (i + 1) changes))
+        × IsDistinct same_item (items_changed (drop (i + 1) changes))
+    apart_here = apart_parts c.item (items_changed (drop (i + 1) changes)) (subst (λ l. IsDistinct same_item (items_changed l)) here g.apart)
 
-    fresh_here : AllByRecursion (λ x. stored_on x (rows_of next s) ≡ stored_on x (rows_of now first)) (items_of (c ∷ drop (i + 1) changes))
-    fresh_here = subst (λ l. AllByRecursion (λ x. stored_on x (rows_of next s) ≡ stored_on x (rows_of now first)) (items_of l)) here g.fresh
+    fresh_here : AllByRecursion (λ x. stored_on x (rows_on_side next s) ≡ stored_on x (rows_on_side now first)) (items_changed (c ∷ drop (i + 1) changes))
+    fresh_here = subst (λ l. AllByRecursion (λ x. stored_on x (rows_on_side next s) ≡ stored_on x (rows_on_side now first)) (items_changed l)) here g.fresh
 
-    module _ (t : Shelves) (shelved : AreShelved t) (same : rows_of now t ≡ rows_of now s)
-        (shows : (x : Item) → stored_on x (rows_of next t)
-        ≡ cond (is_at (item_order c.item) x) (next_on c.removed c.added (stored_on c.item (rows_of now s))) (stored_on x (rows_of next s)))
+    module _ (t : Shelves) (shelved : AreShelved t) (same : rows_on_side now t ≡ rows_on_side now s)
+        (shows : (x : Item) → stored_on x (rows_on_side next t)
+        ≡ cond (is_at (item_order c.item) x) (next_on c.removed c.added (stored_on c.item (rows_on_side now s))) (stored_on x (rows_on_side next s)))
         (drafts : (x : Item) → HasDraft t x → HasDraft s x ⊎ (is_at (item_order c.item) x ≡ true))
         (kept : (x : Item) → HasDraft s x → HasDraft t x)
         (there : HasDraft t c.item) (ends : (at : ℕ) → ends_at t at ≡ ends_at s at) (waits : (x : Item) → waits_on t x ≡ waits_on s x)
         (places : t.places ≡ s.places) where
       still_fresh : (xs : List Item) → AllByRecursion (λ y. same_item c.item y ≡ false) xs
-          → AllByRecursion (λ x. stored_on x (rows_of next s) ≡ stored_on x (rows_of now first)) xs
-          → AllByRecursion (λ x. stored_on x (rows_of next t) ≡ stored_on x (rows_of now first)) xs
+          → AllByRecursion (λ x. stored_on x (rows_on_side next s) ≡ stored_on x (rows_on_side now first)) xs
+          → AllByRecursion (λ x. stored_on x (rows_on_side next t) ≡ stored_on x (rows_on_side now first)) xs
       still_fresh [] a b = tt
       still_fresh (x ∷ xs) a b = (
         shows x
-            ∙ ap (λ b. cond b (next_on c.removed c.added (stored_on c.item (rows_of now s))) (stored_on x (rows_of next s)))
+            ∙ ap (λ b. cond b (next_on c.removed c.added (stored_on c.item (rows_on_side now s))) (stored_on x (rows_on_side next s)))
             (sym (items_tie c.item x) ∙ a.0) ∙ b.0,
         still_fresh xs a.1 b.1,
       )
@@ -169,33 +169,33 @@ module _ (changes : List ItemChange) (first : Shelves) where
       drafts_on = record {
         shelved = shelved;
         same = same ∙ g.same;
-        drafted = subst (λ l. AllByRecursion (HasDraft t) (items_of l))
+        drafted = subst (λ l. AllByRecursion (HasDraft t) (items_changed l))
             (ap (λ x. take i changes ++ x ∷ []) is ∙ sym (take-suc changes i c h) ∙ ap (λ n. take n changes) (sym (add-one i)))
             (subst (AllByRecursion (HasDraft t)) (sym (map_snoc (take i changes) c))
-            (all_last (HasDraft t) (items_of (take i changes)) c.item
-            (all_given (HasDraft s) (HasDraft t) (items_of (take i changes)) kept g.drafted) there));
+            (all_last (HasDraft t) (items_changed (take i changes)) c.item
+            (all_given (HasDraft s) (HasDraft t) (items_changed (take i changes)) kept g.drafted) there));
         within = within_on t drafts;
         apart = apart_here.1;
-        fresh = still_fresh (items_of (drop (i + 1) changes)) apart_here.0 fresh_here.1;
+        fresh = still_fresh (items_changed (drop (i + 1) changes)) apart_here.0 fresh_here.1;
         left = λ x.
-            step_of c (drop (i + 1) changes) x (stored_on x (rows_of next s)) (stored_on c.item (rows_of now s))
-            (stored_on x (rows_of next t)) apart_here.0
+            step_of c (drop (i + 1) changes) x (stored_on x (rows_on_side next s)) (stored_on c.item (rows_on_side now s))
+            (stored_on x (rows_on_side next t)) apart_here.0
             (shows x)
-            (λ t. sym (stored_tied c.item x (rows_of next s) (equal_is (item_order c.item x) t)) ∙ fresh_here.0
+            (λ t. sym (stored_tied c.item x (rows_on_side next s) (equal_is (item_order c.item x) t)) ∙ fresh_here.0
             ∙ sym (ap (stored_on c.item) g.same))
-            ∙ sym (ap (λ l. after_on l x (stored_on x (rows_of next s))) here) ∙ g.left x;
+            ∙ sym (ap (λ l. after_on l x (stored_on x (rows_on_side next s))) here) ∙ g.left x;
         ends = λ at. ends at ∙ g.ends at;
         waits = λ x. waits x ∙ g.waits x;
         places = places ∙ g.places;
       }
 
   module _ (s : Shelves) (i : ℕ) (e : length changes ≤ i) (g : Drafting s i) where
-    pub drafted_after : IsAfter changes (rows_of now first) (rows_of next s)
-    drafted_after x = sym (ap (λ l. after_on l x (stored_on x (rows_of next s))) (drop_all i changes e)) ∙ g.left x
+    pub drafted_after : IsAfter changes (rows_on_side now first) (rows_on_side next s)
+    drafted_after x = sym (ap (λ l. after_on l x (stored_on x (rows_on_side next s))) (drop_all i changes e)) ∙ g.left x
 
-    pub drafted_out : Fits (rows_of now first) changes → AreOut (items_of changes) s
+    pub drafted_out : Fits (rows_on_side now first) changes → AreOut (items_changed changes) s
     drafted_out fits = record {
-      drafted = subst (λ l. AllByRecursion (HasDraft s) (items_of l)) (take_all i changes e) g.drafted;
+      drafted = subst (λ l. AllByRecursion (HasDraft s) (items_changed l)) (take_all i changes e) g.drafted;
       within = g.within;
       apart = fits.apart;
     }

@@ -7,7 +7,7 @@ use Rattle.std.proofs.lemmas.Bool.{cases_eq}
 use Rattle.std.proofs.lemmas.List.{drop_all, length-set}
 use Rattle.ifmap_view.specs.declared.views.LinkSeen.{LinkSeen}
 use Rattle.ifmap_graph.specs.Sides.{Sides}
-use Rattle.ifmap_graph.specs.Touched.{AreReady, KeepsLinks}
+use Rattle.ifmap_graph.specs.Touched.{AreExactlyDrafted, KeepsLinks}
 use Rattle.ifmap_graph.specs.Turning.{AreDrafted, IsNamed, NoOthers, accepted_sides, sides_at}
 use Rattle.ifmap_graph.proofs.Turns.{at_set}
 
@@ -98,9 +98,9 @@ module _ {T : Type 0} where
       (named_within ws (set ls w.0 (accepted_sides (sides_at ls w.0))) d.2 v n)
 
 -- a draft comes at a place that had none
-pub ready_more : (ways : List (ℕ × List LinkSeen)) (ls xs : List (Sides LinkSeen)) (place : ℕ) → AreReady ways ls → KeepsLinks ls xs
+pub ready_more : (ways : List (ℕ × List LinkSeen)) (ls xs : List (Sides LinkSeen)) (place : ℕ) → AreExactlyDrafted ways ls → KeepsLinks ls xs
     → ((v : ℕ) → v ≢ place → sides_at xs v ≡ sides_at ls v) → (sides_at ls place).draft ≡ None → place < length ls
-    → IsSome (sides_at xs place).draft → AreReady (ways ++ (place, []) ∷ []) xs
+    → IsSome (sides_at xs place).draft → AreExactlyDrafted (ways ++ (place, []) ∷ []) xs
 ready_more ways ls xs place r k f none within has = record {
   drafted = drafted_more ways ls xs place [] k.long
       (λ v n s. subst (λ (x : Sides LinkSeen). IsSome x.draft) (sym (f v n)) s) none
@@ -109,9 +109,9 @@ ready_more ways ls xs place r k f none within has = record {
 }
 
 -- the draft at a place that has one changes
-pub ready_still : (ways : List (ℕ × List LinkSeen)) (ls xs : List (Sides LinkSeen)) (place : ℕ) → AreReady ways ls → KeepsLinks ls xs
+pub ready_still : (ways : List (ℕ × List LinkSeen)) (ls xs : List (Sides LinkSeen)) (place : ℕ) → AreExactlyDrafted ways ls → KeepsLinks ls xs
     → ((v : ℕ) → v ≢ place → sides_at xs v ≡ sides_at ls v) → IsSome (sides_at ls place).draft → IsSome (sides_at xs place).draft
-    → AreReady ways xs
+    → AreExactlyDrafted ways xs
 ready_still ways ls xs place r k f had has = record {
   drafted = drafted_still ways ls xs k.long (λ v s. elim (cases_eq v place) [
     | inl e ↦ subst (λ n. IsSome (sides_at xs n).draft) (sym e) has
@@ -134,7 +134,7 @@ pub record Dropping (first : List (Sides LinkSeen)) (ways : List (ℕ × List Li
   pub kept : KeepsLinks first links
   pub left : (v : ℕ) → ((sides_at links v).draft ≡ None) ⊎ IsNamed (drop i ways) v
 
-pub dropping : (first : List (Sides LinkSeen)) (ways : List (ℕ × List LinkSeen)) → AreReady ways first → Dropping first ways first 0
+pub dropping : (first : List (Sides LinkSeen)) (ways : List (ℕ × List LinkSeen)) → AreExactlyDrafted ways first → Dropping first ways first 0
 dropping first ways r = record { kept = record { now = λ v. refl; long = refl }; left = r.no_others }
 
 named_here : (ways : List (ℕ × List LinkSeen)) (i : ℕ) (w : ℕ × List LinkSeen) → i < length ways → IsNamed ways (get_or ways i w).0
@@ -143,7 +143,7 @@ named_here (x ∷ xs) zero w h = inl refl
 named_here (x ∷ xs) (suc i) w h = inr (named_here xs i w (omega (arith, h)))
 
 pub drops_within : (first : List (Sides LinkSeen)) (ways : List (ℕ × List LinkSeen)) (links : List (Sides LinkSeen)) (i : ℕ)
-    (w : ℕ × List LinkSeen) → AreReady ways first
+    (w : ℕ × List LinkSeen) → AreExactlyDrafted ways first
     → Dropping first ways links i → i < length ways → w ≡ get_or ways i w → w.0 < length links
 drops_within first ways links i w r d h e =
     subst (λ n. w.0 < n) (sym d.kept.long)
@@ -204,8 +204,8 @@ set_there ls place s h = elim (at_set ls place place s h) [
 ]
 
 pub set_ready : (ls : List (Sides LinkSeen)) (place : ℕ) (s : Sides LinkSeen) → place < length ls → s.now ≡ (sides_at ls place).now
-    → IsSome (sides_at ls place).draft → IsSome s.draft → (ways : List (ℕ × List LinkSeen)) → AreReady ways ls
-    → AreReady ways (set ls place s)
+    → IsSome (sides_at ls place).draft → IsSome s.draft → (ways : List (ℕ × List LinkSeen)) → AreExactlyDrafted ways ls
+    → AreExactlyDrafted ways (set ls place s)
 set_ready ls place s h e had has ways r =
     ready_still ways ls (set ls place s) place r (set_keeps ls place s h e) (set_others ls place s h) had
     (subst (λ (x : Sides LinkSeen). IsSome x.draft) (sym (set_there ls place s h)) has)

@@ -17,16 +17,16 @@ use Rattle.ifmap_view.specs.Rows.{stored_on}
 use Rattle.ifmap_graph.specs.declared.changes.Ready.{Ready}
 use Rattle.ifmap_graph.specs.declared.shelves.Shelves.{Shelves}
 use Rattle.ifmap_graph.specs.Back.{KeepsBacks}
-use Rattle.ifmap_graph.specs.Bringing.{parts_of}
+use Rattle.ifmap_graph.specs.Bringing.{graph_parts}
 use Rattle.ifmap_graph.specs.Drafted.{ends_at}
 use Rattle.ifmap_graph.specs.Held.{shown_shelves}
 use Rattle.ifmap_graph.specs.Making.{IsMade, IsUnmade}
 use Rattle.ifmap_graph.specs.Named.{AreIdentifiers, named_in}
-use Rattle.ifmap_graph.specs.Out.{IsDrafted, IsOut, items_of}
+use Rattle.ifmap_graph.specs.Out.{IsDrafted, IsOut, items_changed}
 use Rattle.ifmap_graph.specs.Seen.{AwaitsMore, IsSeenSame, IsStill, KeepsNumbers, KeepsOwn, rows_next, rows_now}
-use Rattle.ifmap_graph.specs.Shelved.{HasDraft, list_at, place_of, rows_of}
+use Rattle.ifmap_graph.specs.Shelved.{HasDraft, list_at, slot_of_item, rows_on_side}
 use Rattle.ifmap_graph.specs.Sides.{Sides, next, now}
-use Rattle.ifmap_graph.specs.Stays.{IsThere, StayPlaced}
+use Rattle.ifmap_graph.specs.Stays.{HasSameShelf, StayPlaced}
 use Rattle.ifmap_graph.specs.Turning.{AreDrafted, NoOthers}
 use Rattle.ifmap_graph.specs.Waits.{waits_on}
 use Rattle.ifmap_graph.proofs.Alike.{Tells}
@@ -56,7 +56,7 @@ same_keys one two f g v = by (key_at one v) refl (key_at two v) refl
     by None e (Some a) q = absurd (none-some _ (sym e ∙ g v a q))
 
 module _ (names later : Holdings Identifier) (s t : Shelves) (links moved : List (Sides LinkSeen)) where
-  rows_same : rows_of now t ≡ rows_of now s → rows_now (held_of later t moved) ≡ rows_now (held_of names s links)
+  rows_same : rows_on_side now t ≡ rows_on_side now s → rows_now (held_of later t moved) ≡ rows_now (held_of names s links)
   rows_same rows = rows_shown now (get t.slots) t.places.entries ∙ rows ∙ sym (rows_shown now (get s.slots) s.places.entries)
 
   own_same : ((a : Identifier) (own : ℕ) → IsHeld identifier_order names a (named_in s.places.entries a + own)
@@ -66,8 +66,8 @@ module _ (names later : Holdings Identifier) (s t : Shelves) (links moved : List
       (f a own (subst (λ (n : ℕ). IsHeld identifier_order names a (n + own)) (named_shown (get s.slots) s.places.entries a) h))
 
   -- shelves stay in their slots with their numbers
-  module _ (places : (x : Item) (at : ℕ) → place_of s x ≡ Some at → (place_of t x ≡ Some at) × (ends_at t at ≡ ends_at s at)) where
-    there : (x : Item) (at : ℕ) → place_of s x ≡ Some at → IsThere (held_of names s links) (held_of later t moved) x
+  module _ (places : (x : Item) (at : ℕ) → slot_of_item s x ≡ Some at → (slot_of_item t x ≡ Some at) × (ends_at t at ≡ ends_at s at)) where
+    there : (x : Item) (at : ℕ) → slot_of_item s x ≡ Some at → HasSameShelf (held_of names s links) (held_of later t moved) x
     there x at e =
         let p = places x at e
         in (
@@ -75,8 +75,8 @@ module _ (names later : Holdings Identifier) (s t : Shelves) (links moved : List
           ends_shown later t moved x ∙ ap (ends_there t) p.0 ∙ p.1 ∙ sym (ap (ends_there s) e) ∙ sym (ends_shown names s links x),
         )
 
-    full_there : (x : Item) (o : Option ℕ) → place_of s x ≡ o → stored_on x (rows_now (held_of names s links)) ≢ []
-        → IsThere (held_of names s links) (held_of later t moved) x
+    full_there : (x : Item) (o : Option ℕ) → slot_of_item s x ≡ o → stored_on x (rows_now (held_of names s links)) ≢ []
+        → HasSameShelf (held_of names s links) (held_of later t moved) x
     full_there x None e n =
         absurd (n (ap (stored_on x) (rows_shown now (get s.slots) s.places.entries)
         ∙ sym (absent (λ at. list_at now (get s.slots at)) x s.places.entries e)))
@@ -87,29 +87,29 @@ module _ (names later : Holdings Identifier) (s t : Shelves) (links moved : List
       waited = λ x a b.
           let w : 0 < waits_on s x = omega (arith, a, waits_shown names s links x)
           in let q = waited_there s x w in there x q.0 q.1;
-      full = λ x a b. full_there x (place_of s x) refl a;
+      full = λ x a b. full_there x (slot_of_item s x) refl a;
     }
 
   -- the change is out
   module _ (changes : List ItemChange) (ways : List (ℕ × List LinkSeen))
-      (made : IsMade changes ways (parts_of names s links) (parts_of later t moved)) where
+      (made : IsMade changes ways (graph_parts names s links) (graph_parts later t moved)) where
     pub made_now : rows_now (held_of later t moved) ≡ rows_now (held_of names s links)
     made_now = rows_same made.rows
 
     pub made_after : IsAfter changes (rows_now (held_of names s links)) (rows_next (held_of later t moved))
     made_after =
         subst (λ r. IsAfter changes r (rows_next (held_of later t moved))) (sym (rows_shown now (get s.slots) s.places.entries))
-        (subst (λ r. IsAfter changes (rows_of now s) r) (sym (rows_shown next (get t.slots) t.places.entries)) made.after)
+        (subst (λ r. IsAfter changes (rows_on_side now s) r) (sym (rows_shown next (get t.slots) t.places.entries)) made.after)
 
     pub made_own : KeepsOwn (held_of names s links) (held_of later t moved)
     made_own = own_same made.own
 
-    pub made_waits : AwaitsMore (items_of changes) (held_of names s links) (held_of later t moved)
+    pub made_waits : AwaitsMore (items_changed changes) (held_of names s links) (held_of later t moved)
     made_waits rest a x =
-        omega (arith, a x, made.waits x, waits_shown names s links x, waits_shown later t moved x, times_append (items_of changes) rest x)
+        omega (arith, a x, made.waits x, waits_shown names s links x, waits_shown later t moved x, times_append (items_changed changes) rest x)
 
     more_waits : AwaitsMore [] (held_of names s links) (held_of later t moved)
-    more_waits rest a x = let w = made_waits rest a x in omega (arith, w, times_append (items_of changes) rest x)
+    more_waits rest a x = let w = made_waits rest a x in omega (arith, w, times_append (items_changed changes) rest x)
 
     pub made_backs : KeepsBacks (held_of names s links) (held_of later t moved)
     made_backs = keeps_backs (held_of names s links) (held_of later t moved) made_now made.links made.longer (stay made.places) more_waits
@@ -120,19 +120,19 @@ module _ (names later : Holdings Identifier) (s t : Shelves) (links moved : List
     pub made_out : (ready : Ready) → ready.plan.changes ≡ changes → length ready.lists ≡ length changes → ready.ways ≡ ways
         → IsOut ready (held_of later t moved)
     made_out ready plan lists way = record {
-      drafted = subst (λ l. AllByRecursion (IsDrafted (shown_shelves (get t.slots) t.places.entries)) (items_of l)) (sym plan)
-          (all_shown t (items_of changes) made.out.drafted);
+      drafted = subst (λ l. AllByRecursion (IsDrafted (shown_shelves (get t.slots) t.places.entries)) (items_changed l)) (sym plan)
+          (all_shown t (items_changed changes) made.out.drafted);
       within = λ x d.
-          subst (λ l. (i : Item) × Has (items_of l) i × (item_order i x ≡ Equal)) (sym plan)
+          subst (λ l. (i : Item) × Has (items_changed l) i × (item_order i x ≡ Equal)) (sym plan)
           (made.out.within x (from_shown t x d));
-      apart = subst (λ l. IsDistinct same_item (items_of l)) (sym plan) made.out.apart;
+      apart = subst (λ l. IsDistinct same_item (items_changed l)) (sym plan) made.out.apart;
       lists = lists ∙ sym (ap length plan);
       links = subst (λ w. AreDrafted w moved) (sym way) made.ready.drafted;
       no_others = subst (λ w. NoOthers w moved) (sym way) made.ready.no_others;
     }
 
   -- nothing is out, and all is as before
-  module _ (un : IsUnmade (parts_of names s links) (parts_of later t moved)) where
+  module _ (un : IsUnmade (graph_parts names s links) (graph_parts later t moved)) where
     pub unmade_now : rows_now (held_of later t moved) ≡ rows_now (held_of names s links)
     unmade_now = rows_same un.rows
 

@@ -10,7 +10,7 @@ use Rattle.ifmap_meta.specs.declared.stored.Stored.{Stored}
 use Rattle.ifmap_graph.specs.declared.shelves.Shelves.{Shelves}
 use Rattle.ifmap_graph.specs.Back.{stand_each}
 use Rattle.ifmap_graph.specs.Drafted.{AreBare, NoDraft, ends_at}
-use Rattle.ifmap_graph.specs.Shelved.{AreShelved, HasNoDraft, place_of}
+use Rattle.ifmap_graph.specs.Shelved.{AreShelved, HasNoDraft, slot_of_item}
 use Rattle.ifmap_graph.specs.Waits.{waits_on}
 use Rattle.ifmap_graph.proofs.Accepting.{stored_at}
 use Rattle.ifmap_graph.proofs.Finding.{live_at}
@@ -18,9 +18,9 @@ use Rattle.ifmap_graph.proofs.Writes.{slot_live}
 use Rattle.ifmap_lemmas.specs.Options.{some_is}
 
 -- an item that has a shelf has one without a draft, where none has one
-pub no_draft_on : (s : Shelves) (x : Item) → AreShelved s → AreBare s → IsSome (place_of s x) → HasNoDraft s x
+pub no_draft_on : (s : Shelves) (x : Item) → AreShelved s → AreBare s → IsSome (slot_of_item s x) → HasNoDraft s x
 no_draft_on s x is bare there =
-    let p = some_is (place_of s x) there
+    let p = some_is (slot_of_item s x) there
     in let q = some_is (get s.slots p.0) (slot_live (get s.slots) s.places.entries x p.0 is p.1)
     in let none : NoDraft (Some q.0) = subst NoDraft q.1
     (live_at (λ at. NoDraft (get s.slots at)) (is_at (item_order x)) s.places.entries p.0 bare p.1)
@@ -31,14 +31,14 @@ module _ (items : List Item) (given : List (List Stored)) (first : Shelves) wher
   pub record Restoring (lists : List (List Stored)) (shelves : Shelves) (i : ℕ) : Type 0 where
     pub shelved : AreShelved shelves
     pub bare : AreBare shelves
-    pub there : AllByRecursion (λ x. IsSome (place_of first x)) (drop i items)
+    pub there : AllByRecursion (λ x. IsSome (slot_of_item first x)) (drop i items)
     pub long : length lists ≡ length items
     pub left : (x : Item) → stand_each (drop i items) (drop i lists) x (stored_at shelves x) ≡ stand_each items given x (stored_at first x)
     pub ends : (at : ℕ) → ends_at shelves at ≡ ends_at first at
     pub waits : (x : Item) → waits_on shelves x ≡ waits_on first x
     pub places : shelves.places ≡ first.places
 
-  pub restoring : AreShelved first → AreBare first → AllByRecursion (λ x. IsSome (place_of first x)) items → length given ≡ length items
+  pub restoring : AreShelved first → AreBare first → AllByRecursion (λ x. IsSome (slot_of_item first x)) items → length given ≡ length items
       → Restoring given first 0
   restoring shelved bare there long = record {
     shelved = shelved;
@@ -53,11 +53,11 @@ module _ (items : List Item) (given : List (List Stored)) (first : Shelves) wher
 
   module _ (lists : List (List Stored)) (shelves : Shelves) (i : ℕ) (item : Item) (h : i < length items)
       (here : drop i items ≡ item ∷ drop (i + 1) items) (g : Restoring lists shelves i) where
-    now_there : AllByRecursion (λ x. IsSome (place_of first x)) (item ∷ drop (i + 1) items)
-    now_there = subst (AllByRecursion (λ x. IsSome (place_of first x))) here g.there
+    now_there : AllByRecursion (λ x. IsSome (slot_of_item first x)) (item ∷ drop (i + 1) items)
+    now_there = subst (AllByRecursion (λ x. IsSome (slot_of_item first x))) here g.there
 
-    pub shelf_there : IsSome (place_of shelves item)
-    shelf_there = subst (λ p. IsSome (place_of (record { places = p; slots = shelves.slots }) item)) (sym g.places) now_there.0
+    pub shelf_there : IsSome (slot_of_item shelves item)
+    shelf_there = subst (λ p. IsSome (slot_of_item (record { places = p; slots = shelves.slots }) item)) (sym g.places) now_there.0
 
     list_here : (d : List Stored) → drop i lists ≡ get_or lists i d ∷ drop (i + 1) lists
     list_here d = drop-cons lists i d (omega (arith, h, g.long)) ∙ ap (λ n. get_or lists i d ∷ drop n lists) (sym (add-one i))

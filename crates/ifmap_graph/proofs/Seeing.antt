@@ -13,13 +13,13 @@ use Rattle.ifmap_view.specs.declared.attachments.Attachment.{Attachment}
 use Rattle.ifmap_view.specs.declared.views.LinkSeen.{LinkSeen}
 use Rattle.ifmap_view.specs.Rows.{stored_on}
 use Rattle.ifmap_graph.specs.declared.shelves.Shelf.{Shelf}
-use Rattle.ifmap_graph.specs.Back.{AreLinks, AreTwo}
+use Rattle.ifmap_graph.specs.Back.{AreLinks, AreBothEnds}
 use Rattle.ifmap_graph.specs.Held.{Held, shown_shelves}
-use Rattle.ifmap_graph.specs.Joined.{is_full, joined_pair, full_some, some_full}
+use Rattle.ifmap_graph.specs.Joined.{is_not_empty, joined_pair, full_some, some_full}
 use Rattle.ifmap_graph.specs.Linked.{AreListed, ats}
 use Rattle.ifmap_graph.specs.Shelved.{IsPlaced, list_at, rows_by}
 use Rattle.ifmap_graph.specs.Sides.{Sides, now}
-use Rattle.ifmap_graph.specs.Stays.{IsThere, ends_in, ends_there_in}
+use Rattle.ifmap_graph.specs.Stays.{HasSameShelf, ends_in, ends_there_in}
 use Rattle.ifmap_graph.proofs.Finding.{found}
 use Rattle.ifmap_graph.proofs.Following.{entry_hits}
 use Rattle.ifmap_graph.proofs.Insides.{live_by, lookup_shown}
@@ -41,19 +41,19 @@ module _ (look : ℕ → Option Shelf) (es : Entries) (names : Holdings Identifi
 -- shelves that are written stay where they are
 pub stays_there : (look later : ℕ → Option Shelf) (es : Entries) (names others : Holdings Identifier) (links moved : List (Sides LinkSeen))
     → ((at : ℕ) → ends_of (later at) ≡ ends_of (look at)) → (x : Item)
-    → IsThere (seen_of look es names links) (seen_of later es others moved) x
+    → HasSameShelf (seen_of look es names links) (seen_of later es others moved) x
 stays_there look later es names others links moved f x = by (lookup (is_at (item_order x)) es) refl
   where
-    by : (o : Option ℕ) → lookup (is_at (item_order x)) es ≡ o → IsThere (seen_of look es names links) (seen_of later es others moved) x
+    by : (o : Option ℕ) → lookup (is_at (item_order x)) es ≡ o → HasSameShelf (seen_of look es names links) (seen_of later es others moved) x
     by None e = (refl, seen_none later es others moved x e ∙ sym (seen_none look es names links x e))
     by (Some at) e = (refl, seen_ends later es others moved x at e ∙ f at ∙ sym (seen_ends look es names links x at e))
 
-two_by : (o : Option Shelf) (v w : ℕ) → (joined_pair o ≡ Some (v, w)) ⊎ (joined_pair o ≡ Some (w, v)) → AreTwo (ends_of o) v w
+two_by : (o : Option Shelf) (v w : ℕ) → (joined_pair o ≡ Some (v, w)) ⊎ (joined_pair o ≡ Some (w, v)) → AreBothEnds (ends_of o) v w
 two_by None v w (inl e) = absurd (none-some _ e)
 two_by None v w (inr e) = absurd (none-some _ e)
 two_by (Some shelf) v w e = e
 
-by_two : (o : Option Shelf) (v w : ℕ) → AreTwo (ends_of o) v w → (joined_pair o ≡ Some (v, w)) ⊎ (joined_pair o ≡ Some (w, v))
+by_two : (o : Option Shelf) (v w : ℕ) → AreBothEnds (ends_of o) v w → (joined_pair o ≡ Some (v, w)) ⊎ (joined_pair o ≡ Some (w, v))
 by_two None v w e = absurd e
 by_two (Some shelf) v w e = e
 
@@ -64,7 +64,7 @@ module _ (look : ℕ → Option Shelf) (es : Entries) (names : Holdings Identifi
   on_slot : (x : Item) (at : ℕ) → lookup (is_at (item_order x)) es ≡ Some at → list_at now (look at) ≡ stored_on x rows
   on_slot x at e = found (λ n. list_at now (look n)) x es at placed.rising e ∙ same x
 
-  pub links_by_items : AreListed (λ at. joined_pair (look at)) (λ at. is_full (list_at now (look at))) links
+  pub links_by_items : AreListed (λ at. joined_pair (look at)) (λ at. is_not_empty (list_at now (look at))) links
       → ((v : ℕ) → IsDistinct nat_eq (ats (links v))) → AreLinks rows links (seen_of look es names sides)
   links_by_items is once = record {
     only = λ v seen c.
@@ -74,27 +74,27 @@ module _ (look : ℕ → Option Shelf) (es : Entries) (names : Holdings Identifi
         in (
           u.0,
           e,
-          subst (λ o. AreTwo o v seen.other) (sym (seen_ends look es names sides u.0 seen.at e)) (two_by (look seen.at) v seen.other p.0),
+          subst (λ o. AreBothEnds o v seen.other) (sym (seen_ends look es names sides u.0 seen.at e)) (two_by (look seen.at) v seen.other p.0),
           (λ n. full_some (list_at now (look seen.at)) p.1 (on_slot u.0 seen.at e ∙ n)),
         );
     each = λ x v w at e two full.
-        is.each v w at (by_two (look at) v w (subst (λ o. AreTwo o v w) (seen_ends look es names sides x at e) two))
+        is.each v w at (by_two (look at) v w (subst (λ o. AreBothEnds o v w) (seen_ends look es names sides x at e) two))
         (some_full (list_at now (look at)) (λ n. full (sym (on_slot x at e) ∙ n)));
     once = once;
   }
 
   pub links_by_slots : AreLinks rows links (seen_of look es names sides)
-      → AreListed (λ at. joined_pair (look at)) (λ at. is_full (list_at now (look at))) links
+      → AreListed (λ at. joined_pair (look at)) (λ at. is_not_empty (list_at now (look at))) links
   links_by_slots is = record {
     only = λ v seen c.
         let p = is.only v seen c
         in (
-          by_two (look seen.at) v seen.other (subst (λ o. AreTwo o v seen.other) (seen_ends look es names sides p.0 seen.at p.1) p.2),
+          by_two (look seen.at) v seen.other (subst (λ o. AreBothEnds o v seen.other) (seen_ends look es names sides p.0 seen.at p.1) p.2),
           some_full (list_at now (look seen.at)) (λ n. p.3 (sym (on_slot p.0 seen.at p.1) ∙ n)),
         );
     each = λ v w at e full.
         let u = used at (live_by look at v w e)
         in let h : lookup (is_at (item_order u.0)) es ≡ Some at = entry_hits es u.0 at placed.rising u.1
-        in is.each u.0 v w at h (subst (λ o. AreTwo o v w) (sym (seen_ends look es names sides u.0 at h)) (two_by (look at) v w e))
+        in is.each u.0 v w at h (subst (λ o. AreBothEnds o v w) (sym (seen_ends look es names sides u.0 at h)) (two_by (look at) v w e))
         (λ n. full_some (list_at now (look at)) full (on_slot u.0 at h ∙ n));
   }

@@ -12,15 +12,15 @@ use Rattle.ifmap_view.specs.declared.views.LinkSeen.{LinkSeen}
 use Rattle.ifmap_view.specs.Rows.{stored_on}
 use Rattle.ifmap_graph.specs.declared.ends.Ends.{Ends}
 use Rattle.ifmap_graph.specs.declared.shelves.Shelves.{Shelves}
-use Rattle.ifmap_graph.specs.Bringing.{HaveFewOwn, parts_of}
+use Rattle.ifmap_graph.specs.Bringing.{HaveFewOwn, graph_parts}
 use Rattle.ifmap_graph.specs.Drafted.{AreBare, NoDraft, ends_at}
 use Rattle.ifmap_graph.specs.Held.{Held, shown_shelves}
 use Rattle.ifmap_graph.specs.Out.{IsDrafted}
 use Rattle.ifmap_graph.specs.Releasing.{IsLess}
-use Rattle.ifmap_graph.specs.Seen.{Awaits, AwaitsLess, HasFewOwn, IsStill, KeepsOwn, rows_next, rows_now, waits_in, waits_there_in}
-use Rattle.ifmap_graph.specs.Shelved.{AreShelved, place_of}
+use Rattle.ifmap_graph.specs.Seen.{AreAwaited, AwaitsLess, HasFewOwn, IsStill, KeepsOwn, rows_next, rows_now, waits_in, waits_there_in}
+use Rattle.ifmap_graph.specs.Shelved.{AreShelved, slot_of_item}
 use Rattle.ifmap_graph.specs.Sides.{Sides, next, now}
-use Rattle.ifmap_graph.specs.Stays.{IsThere, StayPlaced, ends_in, ends_there_in}
+use Rattle.ifmap_graph.specs.Stays.{HasSameShelf, StayPlaced, ends_in, ends_there_in}
 use Rattle.ifmap_graph.specs.Turning.{sides_at}
 use Rattle.ifmap_graph.specs.Waits.{AreWaited, WaitsFor, waits_on, waits_there}
 use Rattle.ifmap_graph.proofs.Bare.{none_left, sides_same}
@@ -49,29 +49,29 @@ module _ (names : Holdings Identifier) (s : Shelves) (links : List (Sides LinkSe
   -- an item is waited for as often as its slot is
   pub waits_shown : (x : Item) → waits_in (held_of names s links) x ≡ waits_on s x
   waits_shown x =
-      ap waits_there_in (lookup_shown (get s.slots) (is_at (item_order x)) s.places.entries) ∙ by (place_of s x)
+      ap waits_there_in (lookup_shown (get s.slots) (is_at (item_order x)) s.places.entries) ∙ by (slot_of_item s x)
     where
       by : (o : Option ℕ) → waits_there_in (option_map (get s.slots) o) ≡ waits_there (get s.slots) o
       by None = refl
       by (Some at) = refl
 
-  pub ends_shown : (x : Item) → ends_in (held_of names s links) x ≡ ends_there s (place_of s x)
+  pub ends_shown : (x : Item) → ends_in (held_of names s links) x ≡ ends_there s (slot_of_item s x)
   ends_shown x =
-      ap ends_there_in (lookup_shown (get s.slots) (is_at (item_order x)) s.places.entries) ∙ by (place_of s x)
+      ap ends_there_in (lookup_shown (get s.slots) (is_at (item_order x)) s.places.entries) ∙ by (slot_of_item s x)
     where
       by : (o : Option ℕ) → ends_there_in (option_map (get s.slots) o) ≡ ends_there s o
       by None = refl
       by (Some at) = refl
 
   -- items are waited for as slots are
-  pub waited_from : (items : List Item) → Awaits items (held_of names s links) → AreWaited items (waits_on s)
+  pub waited_from : (items : List Item) → AreAwaited items (held_of names s links) → AreWaited items (waits_on s)
   waited_from items a x = omega (arith, a x, waits_shown x)
 
-  pub waited_to : (items : List Item) → AreWaited items (waits_on s) → Awaits items (held_of names s links)
+  pub waited_to : (items : List Item) → AreWaited items (waits_on s) → AreAwaited items (held_of names s links)
   waited_to items a x = omega (arith, a x, waits_shown x)
 
   -- others hold identifiers as often as contracts see it
-  pub few_from : HasFewOwn (held_of names s links) → HaveFewOwn (parts_of names s links)
+  pub few_from : HasFewOwn (held_of names s links) → HaveFewOwn (graph_parts names s links)
   few_from few a =
       let f = few a
       in (f.0, subst (λ (n : ℕ). IsHeld identifier_order names a (n + f.0)) (named_shown (get s.slots) s.places.entries a) f.1, f.2)
@@ -110,10 +110,10 @@ module _ (names left : Holdings Identifier) (s t : Shelves) (links : List (Sides
       omega (arith, a x, f x, waits_shown names s links x, waits_shown left t links x, times_append items rest x)
 
   -- a shelf that is in its slot has its numbers
-  there_by : (x : Item) → place_of t x ≡ place_of s x → IsThere (held_of names s links) (held_of left t links) x
-  there_by x e = (e, ends_shown left t links x ∙ by (place_of t x) refl ∙ sym (ends_shown names s links x))
+  there_by : (x : Item) → slot_of_item t x ≡ slot_of_item s x → HasSameShelf (held_of names s links) (held_of left t links) x
+  there_by x e = (e, ends_shown left t links x ∙ by (slot_of_item t x) refl ∙ sym (ends_shown names s links x))
     where
-      by : (o : Option ℕ) → place_of t x ≡ o → ends_there t (place_of t x) ≡ ends_there s (place_of s x)
+      by : (o : Option ℕ) → slot_of_item t x ≡ o → ends_there t (slot_of_item t x) ≡ ends_there s (slot_of_item s x)
       by None q = ap (ends_there t) q ∙ sym (ap (ends_there s) (sym e ∙ q))
       by (Some at) q = ap (ends_there t) q ∙ (less.before x at q).1 ∙ sym (ap (ends_there s) (sym e ∙ q))
 

@@ -13,7 +13,7 @@ use Rattle.ifmap_lemmas.specs.Having.{Has}
 use Rattle.ifmap_ident.specs.declared.items.Item.{Item}
 use Rattle.ifmap_ident.specs.Items.{IsCanonItem, item_order}
 use Rattle.ifmap_graph.specs.declared.shelves.Shelf.{Shelf}
-use Rattle.ifmap_graph.specs.Shelved.{IsPlaced, Rises, Side, list_at, row_on, rows_by}
+use Rattle.ifmap_graph.specs.Shelved.{IsPlaced, ItemsRise, StoredSide, list_at, row_on, rows_by}
 use Rattle.ifmap_graph.proofs.Finding.{all_inserted, inserted, nothing_rises}
 use Rattle.ifmap_lemmas.specs.Numbers.{is_number}
 
@@ -88,7 +88,7 @@ module _ (look later : ℕ → Option Shelf) (at : ℕ) (vacant : look at ≡ No
   stays : (n : ℕ) → IsSome (look n) → later n ≡ look n
   stays n s = others n (λ e. let q : IsSome {T = Shelf} None = subst (λ (o : Option Shelf). IsSome o) (ap look e ∙ vacant) s in cc)
 
-  pub rows_stay : (side : Side) (es : Entries) → AllByRecursion (λ e. IsSome (look e.1)) es
+  pub rows_stay : (side : StoredSide) (es : Entries) → AllByRecursion (λ e. IsSome (look e.1)) es
       → rows_by (λ n. list_at side (later n)) es ≡ rows_by (λ n. list_at side (look n)) es
   rows_stay side [] a = refl
   rows_stay side (e ∷ es) a =
@@ -134,7 +134,7 @@ module _ (es new : Entries) (look later : ℕ → Option Shelf) (item : Item) (a
     (is : IsPlaced look es) (canon : IsCanonItem item) (none : lookup (is_at (item_order item)) es ≡ None) (here : at ≡ place)
     (vacant : look at ≡ None)
     (later_at : later at ≡ Some shelf) (empty : shelf.stored ≡ record { now = []; draft = None })
-    (others : (o : ℕ) → o ≢ at → later o ≡ look o) (inserts : new ≡ insert_entry item_order es item place) (rises : Rises new) where
+    (others : (o : ℕ) → o ≢ at → later o ≡ look o) (inserts : new ≡ insert_entry item_order es item place) (rises : ItemsRise new) where
   becomes : new ≡ insert_entry item_order es item at
   becomes = inserts ∙ ap (λ n. insert_entry item_order es item n) (sym here)
 
@@ -150,7 +150,7 @@ module _ (es new : Entries) (look later : ℕ → Option Shelf) (item : Item) (a
         (vacant_out look at es vacant is.live));
   }
 
-  pub same_rows : (side : Side) → side (record { now = []; draft = None }) ≡ []
+  pub same_rows : (side : StoredSide) → side (record { now = []; draft = None }) ≡ []
       → rows_by (λ n. list_at side (later n)) new ≡ rows_by (λ n. list_at side (look n)) es
   same_rows side nothing =
       ap (rows_by (λ n. list_at side (later n))) becomes

@@ -20,14 +20,14 @@ use Rattle.ifmap_view.specs.Rows.{stored_on}
 use Rattle.ifmap_graph.specs.declared.changes.Ready.{Ready}
 use Rattle.ifmap_graph.specs.declared.changes.Undo.{Undo}
 use Rattle.ifmap_graph.specs.declared.shelves.Shelves.{Shelves}
-use Rattle.ifmap_graph.specs.Back.{IsWayBack, stand_each}
+use Rattle.ifmap_graph.specs.Back.{IsUndoTo, stand_each}
 use Rattle.ifmap_graph.specs.Drafted.{AreOut, ends_at}
 use Rattle.ifmap_graph.specs.Held.{IsInside, links_at, shown_shelves}
-use Rattle.ifmap_graph.specs.Out.{items_of}
-use Rattle.ifmap_graph.specs.Seen.{Awaits, links_now, rows_now}
-use Rattle.ifmap_graph.specs.Shelved.{AreShelved, HasDraft, list_at, place_of, rows_by, rows_of}
+use Rattle.ifmap_graph.specs.Out.{items_changed}
+use Rattle.ifmap_graph.specs.Seen.{AreAwaited, links_now, rows_now}
+use Rattle.ifmap_graph.specs.Shelved.{AreShelved, HasDraft, list_at, slot_of_item, rows_by, rows_on_side}
 use Rattle.ifmap_graph.specs.Sides.{Sides, next, now}
-use Rattle.ifmap_graph.specs.Stays.{IsThere}
+use Rattle.ifmap_graph.specs.Stays.{HasSameShelf}
 use Rattle.ifmap_graph.specs.Turning.{AreDrafted, AreWithin, NoOthers, accept_each, backs, restore_each}
 use Rattle.ifmap_graph.specs.Waits.{times_in, waits_on}
 use Rattle.ifmap_graph.proofs.Accepting.{maps_join}
@@ -61,10 +61,10 @@ has_times (k ∷ ks) x i (inl p) e t =
 has_times (k ∷ ks) x i (inr h) e t = has_times ks x i h e (omega (arith, t))
 
 -- on an item without a draft both sides are the same
-pub else_same : (s : Shelves) (x : Item) → AreShelved s → (HasDraft s x → ⊥) → stored_on x (rows_of next s) ≡ stored_on x (rows_of now s)
-else_same s x is f = by (place_of s x) refl
+pub else_same : (s : Shelves) (x : Item) → AreShelved s → (HasDraft s x → ⊥) → stored_on x (rows_on_side next s) ≡ stored_on x (rows_on_side now s)
+else_same s x is f = by (slot_of_item s x) refl
   where
-    by : (o : Option ℕ) → place_of s x ≡ o → stored_on x (rows_of next s) ≡ stored_on x (rows_of now s)
+    by : (o : Option ℕ) → slot_of_item s x ≡ o → stored_on x (rows_on_side next s) ≡ stored_on x (rows_on_side now s)
     by None e = sym (absent (λ n. list_at next (get s.slots n)) x s.places.entries e)
         ∙ absent (λ n. list_at now (get s.slots n)) x s.places.entries e
     by (Some at) e =
@@ -75,8 +75,8 @@ else_same s x is f = by (place_of s x) refl
 module _ (names : Holdings Identifier) (s t : Shelves) (links moved : List (Sides LinkSeen))
     (is : IsInside names (get s.slots) s.places.entries links)
     (places : t.places ≡ s.places) (ends : (at : ℕ) → ends_at t at ≡ ends_at s at) (waits : (x : Item) → waits_on t x ≡ waits_on s x)
-    (rows : rows_of now t ≡ rows_of next s)
-    (ready : Ready) (result : Undo) (out : AreOut (items_of ready.plan.changes) s)
+    (rows : rows_on_side now t ≡ rows_on_side next s)
+    (ready : Ready) (result : Undo) (out : AreOut (items_changed ready.plan.changes) s)
     (drafted : AreDrafted ready.ways links) (others : NoOthers ready.ways links) (turned : moved ≡ accept_each ready.ways links)
     (plan : result.plan ≡ ready.plan)
     (lists : result.lists ≡ map
@@ -86,10 +86,10 @@ module _ (names : Holdings Identifier) (s t : Shelves) (links moved : List (Side
   before = rows_by (list_at now) (shown_shelves (get s.slots) s.places.entries)
 
   abbrev items : List Item
-  items = items_of ready.plan.changes
+  items = items_changed ready.plan.changes
 
-  same_items : items_of result.plan.changes ≡ items
-  same_items = ap (λ p. items_of p.changes) plan
+  same_items : items_changed result.plan.changes ≡ items
+  same_items = ap (λ p. items_changed p.changes) plan
 
   lists_are : result.lists ≡ map (λ i. stored_on i before) items
   lists_are = lists ∙ sym (maps_join (λ i. stored_on i before) (λ (c : ItemChange). c.item) ready.plan.changes)
@@ -102,8 +102,8 @@ module _ (names : Holdings Identifier) (s t : Shelves) (links moved : List (Side
       ∙ else_same s x is.placed (λ d. let w = out.within x d in has_times items x w.0 w.1 w.2 e)
       ∙ sym (ap (stored_on x) (rows_shown now (get s.slots) s.places.entries))
 
-  pub can_go_back : Awaits items (seen_of (get s.slots) s.places.entries names links)
-      → IsWayBack result (rows_now (seen_of (get s.slots) s.places.entries names links))
+  pub can_go_back : AreAwaited items (seen_of (get s.slots) s.places.entries names links)
+      → IsUndoTo result (rows_now (seen_of (get s.slots) s.places.entries names links))
       (links_now (seen_of (get s.slots) s.places.entries names links))
       (seen_of (get t.slots) t.places.entries names moved)
   can_go_back awaited = record {
@@ -121,7 +121,7 @@ module _ (names : Holdings Identifier) (s t : Shelves) (links moved : List (Side
         ∙ sym (ap (λ l. links_at now (restore_each result.ways l) v) turned);
     slots = links_stay before (links_at now links) (seen_of (get s.slots) s.places.entries names links)
         (seen_of (get t.slots) t.places.entries names moved)
-        (λ x n. subst (λ p. IsThere (seen_of (get s.slots) s.places.entries names links) (seen_of (get t.slots) p.entries names moved) x)
+        (λ x n. subst (λ p. HasSameShelf (seen_of (get s.slots) s.places.entries names links) (seen_of (get t.slots) p.entries names moved) x)
         (sym places)
         (stays_there (get s.slots) (get t.slots) s.places.entries names names links moved ends x))
         (links_by_items (get s.slots) s.places.entries names links before (links_at now links) is.placed is.used
@@ -130,6 +130,6 @@ module _ (names : Holdings Identifier) (s t : Shelves) (links moved : List (Side
     within = subst (λ w. AreWithin w (length moved)) (sym ways)
         (subst (λ n. AreWithin (backs ready.ways links) n) (sym (ap length turned ∙ same_length ready.ways links))
         (backs_within ready.ways links drafted));
-    waits = subst (λ l. Awaits l (seen_of (get t.slots) t.places.entries names moved)) (sym same_items)
+    waits = subst (λ l. AreAwaited l (seen_of (get t.slots) t.places.entries names moved)) (sym same_items)
         (λ x. omega (arith, awaited x, waits_shown names s links x, waits_shown names t moved x, waits x));
   }

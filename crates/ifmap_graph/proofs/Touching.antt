@@ -12,7 +12,7 @@ use Rattle.ifmap_graph.specs.declared.shelves.Shelf.{Shelf}
 use Rattle.ifmap_graph.specs.Joined.{joined_pair}
 use Rattle.ifmap_graph.specs.Linked.{AreListed, changed_links, far_of, seen_at}
 use Rattle.ifmap_graph.specs.Sides.{Sides}
-use Rattle.ifmap_graph.specs.Touched.{AreReady, KeepsLinks, begun_draft, brought_link, draft_of, full_next, full_now, joins, links_kept, touched_draft}
+use Rattle.ifmap_graph.specs.Touched.{AreExactlyDrafted, KeepsLinks, begun_draft, brought_link, draft_of, full_next, full_now, joins, links_kept, touched_draft}
 use Rattle.ifmap_graph.specs.Turning.{sides_at}
 use Rattle.ifmap_graph.proofs.Joining.{one_more}
 use Rattle.ifmap_graph.proofs.Links.{far_first, far_second, is_far}
@@ -111,11 +111,11 @@ module _ (slots : Slab Shelf) where
   -- so many slots were looked at
   pub record Touching (first : List (Sides LinkSeen)) (touched : List ℕ) (ways : List (ℕ × List LinkSeen)) (links : List (Sides LinkSeen))
       (i : ℕ) : Type 0 where
-    pub ready : AreReady ways links
+    pub ready : AreExactlyDrafted ways links
     pub kept : KeepsLinks first links
     pub drafts : (v : ℕ) → (sides_at links v).draft ≡ draft_of slots (take i touched) v (sides_at first v).now
 
-  pub touching : (first : List (Sides LinkSeen)) (touched : List ℕ) (ways : List (ℕ × List LinkSeen)) → AreReady ways first
+  pub touching : (first : List (Sides LinkSeen)) (touched : List ℕ) (ways : List (ℕ × List LinkSeen)) → AreExactlyDrafted ways first
       → ((v : ℕ) → (sides_at first v).draft ≡ None) → Touching first touched ways first 0
   touching first touched ways r bare = record { ready = r; kept = record { now = λ v. refl; long = refl }; drafts = λ v. bare v }
 
@@ -124,7 +124,7 @@ module _ (slots : Slab Shelf) where
 
   pub touches_on : (first links later : List (Sides LinkSeen)) (touched : List ℕ) (ways others : List (ℕ × List LinkSeen)) (i : ℕ)
       → i < length touched
-      → Touching first touched ways links i → AreReady others later → KeepsLinks links later
+      → Touching first touched ways links i → AreExactlyDrafted others later → KeepsLinks links later
       → ((v : ℕ) → (sides_at later v).draft ≡ touched_draft slots (get_or touched i 0) v (sides_at links v))
       → Touching first touched others later (i + 1)
   touches_on first links later touched ways others i h t ready kept drafts = record {

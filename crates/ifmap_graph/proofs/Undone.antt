@@ -15,14 +15,14 @@ use Rattle.ifmap_view.specs.Rows.{stored_on}
 use Rattle.ifmap_graph.specs.declared.changes.Undo.{Undo}
 use Rattle.ifmap_graph.specs.declared.shelves.Shelf.{Shelf}
 use Rattle.ifmap_graph.specs.declared.shelves.Shelves.{Shelves}
-use Rattle.ifmap_graph.specs.Back.{AreLinks, IsWayBack, stand_each}
+use Rattle.ifmap_graph.specs.Back.{AreLinks, IsUndoTo, stand_each}
 use Rattle.ifmap_graph.specs.Drafted.{AreBare, NoDraft, ends_at}
 use Rattle.ifmap_graph.specs.Held.{Held, IsInside, IsSide, links_at}
 use Rattle.ifmap_graph.specs.Linked.{ats}
 use Rattle.ifmap_graph.specs.Named.{named_in}
-use Rattle.ifmap_graph.specs.Out.{items_of}
-use Rattle.ifmap_graph.specs.Seen.{Awaits, IsStill, KeepsOwn, links_now, rows_now}
-use Rattle.ifmap_graph.specs.Shelved.{IsPlaced, list_at, place_of, rows_by, rows_of}
+use Rattle.ifmap_graph.specs.Out.{items_changed}
+use Rattle.ifmap_graph.specs.Seen.{AreAwaited, IsStill, KeepsOwn, links_now, rows_now}
+use Rattle.ifmap_graph.specs.Shelved.{IsPlaced, list_at, slot_of_item, rows_by, rows_on_side}
 use Rattle.ifmap_graph.specs.Sides.{Sides, next, now}
 use Rattle.ifmap_graph.specs.Turning.{restore_each, sides_at}
 use Rattle.ifmap_graph.specs.Waits.{times_in, waits_on}
@@ -57,9 +57,9 @@ module _ (names : Holdings Identifier) (look later : ℕ → Option Shelf) (es :
     (is : IsInside names look es links)
     (ends : (at : ℕ) → ends_of (later at) ≡ ends_of (look at)) (bare : AllByRecursion (λ e. NoDraft (later e.1)) es)
     (none : (v : ℕ) → (sides_at links v).draft ≡ None)
-    (u : Undo) (rows : List Attachment) (seen : ℕ → List LinkSeen) (back : IsWayBack u rows seen (seen_of look es names links))
+    (u : Undo) (rows : List Attachment) (seen : ℕ → List LinkSeen) (back : IsUndoTo u rows seen (seen_of look es names links))
     (stands : (x : Item) → stored_on x (rows_by (λ at. list_at now (later at)) es)
-    ≡ stand_each (items_of u.plan.changes) u.lists x (stored_on x (rows_by (λ at. list_at now (look at)) es)))
+    ≡ stand_each (items_changed u.plan.changes) u.lists x (stored_on x (rows_by (λ at. list_at now (look at)) es)))
     (turned : moved ≡ restore_each u.ways links) where
   placed : IsPlaced later es
   placed = placed_still look later ends es is.placed
@@ -70,7 +70,7 @@ module _ (names : Holdings Identifier) (look later : ℕ → Option Shelf) (es :
   -- on each item stands what is to stand there again
   stored : (x : Item) → stored_on x (rows_by (λ at. list_at now (later at)) es) ≡ stored_on x rows
   stored x =
-      stands x ∙ sym (ap (λ r. stand_each (items_of u.plan.changes) u.lists x (stored_on x r)) (rows_shown now look es))
+      stands x ∙ sym (ap (λ r. stand_each (items_changed u.plan.changes) u.lists x (stored_on x r)) (rows_shown now look es))
       ∙ sym (back.stored x)
 
   pub back_links : (v : ℕ) → links_at now moved v ≡ seen v
@@ -127,15 +127,15 @@ module _ (names : Holdings Identifier) (look later : ℕ → Option Shelf) (es :
 
 -- items that are waited for have shelves
 pub all_there : (names : Holdings Identifier) (s : Shelves) (links : List (Sides LinkSeen)) (items : List Item)
-    → Awaits items (held_of names s links)
-    → AllByRecursion (λ x. IsSome (place_of s x)) items
+    → AreAwaited items (held_of names s links)
+    → AllByRecursion (λ x. IsSome (slot_of_item s x)) items
 all_there names s links items a = by items (λ x h. h)
   where
     waited : (x : Item) → Has items x → (t : ℕ) → times_in items x ≡ t → 0 < waits_on s x
     waited x h zero e = absurd (has_times items x x h (tied_itself items_total x) e)
     waited x h (suc k) e = omega (arith, a x, waits_shown names s links x, e)
 
-    by : (xs : List Item) → ((x : Item) → Has xs x → Has items x) → AllByRecursion (λ x. IsSome (place_of s x)) xs
+    by : (xs : List Item) → ((x : Item) → Has xs x → Has items x) → AllByRecursion (λ x. IsSome (slot_of_item s x)) xs
     by [] f = tt
     by (x ∷ xs) f = (
       let q = waited_there s x (waited x (f x (inl refl)) (times_in items x) refl) in subst IsSome (sym q.1) refl,
@@ -151,18 +151,18 @@ module _ (names : Holdings Identifier) (s t : Shelves) (links moved : List (Side
       (named_shown (get s.slots) s.places.entries a ∙ sym (ap (λ p. named_in p.entries a) places)
       ∙ sym (named_shown (get t.slots) t.places.entries a)) h
 
-  pub waits_stay_seen : (items : List Item) → Awaits items (held_of names s links) → Awaits items (held_of names t moved)
+  pub waits_stay_seen : (items : List Item) → AreAwaited items (held_of names s links) → AreAwaited items (held_of names t moved)
   waits_stay_seen items a x = omega (arith, a x, waits_shown names s links x, waits_shown names t moved x, waits x)
 
   module _ (is : IsInside names (get s.slots) s.places.entries links) (bare : AreBare t) (none : (v : ℕ) → (sides_at links v).draft ≡ None)
-      (u : Undo) (rows : List Attachment) (seen : ℕ → List LinkSeen) (back : IsWayBack u rows seen (held_of names s links))
-      (stands : (x : Item) → stored_on x (rows_of now t) ≡ stand_each (items_of u.plan.changes) u.lists x (stored_on x (rows_of now s)))
+      (u : Undo) (rows : List Attachment) (seen : ℕ → List LinkSeen) (back : IsUndoTo u rows seen (held_of names s links))
+      (stands : (x : Item) → stored_on x (rows_on_side now t) ≡ stand_each (items_changed u.plan.changes) u.lists x (stored_on x (rows_on_side now s)))
       (turned : moved ≡ restore_each u.ways links) where
     still_bare : AllByRecursion (λ e. NoDraft (get t.slots e.1)) s.places.entries
     still_bare = subst (λ p. AllByRecursion (λ e. NoDraft (get t.slots e.1)) p.entries) places bare
 
     still_stands : (x : Item) → stored_on x (rows_by (λ at. list_at now (get t.slots at)) s.places.entries)
-        ≡ stand_each (items_of u.plan.changes) u.lists x (stored_on x (rows_of now s))
+        ≡ stand_each (items_changed u.plan.changes) u.lists x (stored_on x (rows_on_side now s))
     still_stands x = ap (λ p. stored_on x (rows_by (λ at. list_at now (get t.slots at)) p.entries)) (sym places) ∙ stands x
 
     pub undone_inside : IsInside names (get t.slots) t.places.entries moved

@@ -26,9 +26,9 @@ use Rattle.ifmap_view.specs.declared.attachments.Attachment.{Attachment}
 use Rattle.ifmap_view.specs.declared.views.LinkSeen.{LinkSeen}
 use Rattle.ifmap_view.specs.Rows.{stored_on, stored_where, stored_between, stored_linked}
 use Rattle.ifmap_view.specs.Views.{IsLink, others}
-use Rattle.ifmap_graph.specs.Joined.{AreJoined, AreSingle, IsNumber, is_full, full_some, some_full}
-use Rattle.ifmap_graph.specs.Linked.{AreListed, Ends, ats}
-use Rattle.ifmap_graph.specs.Shelved.{Rises, rows_by}
+use Rattle.ifmap_graph.specs.Joined.{AreJoined, AreSingle, IsNumber, is_not_empty, full_some, some_full}
+use Rattle.ifmap_graph.specs.Linked.{AreListed, JoinsNumbers, ats}
+use Rattle.ifmap_graph.specs.Shelved.{ItemsRise, rows_by}
 use Rattle.ifmap_graph.proofs.Alike.{Alike, Tells, one_tied, order_alike, pair_less, pair_more, pair_tied, pairs_tie, same_pair, stored_alike}
 use Rattle.ifmap_graph.proofs.Following.{entry_hits, lookup_tied, looked_up, stands}
 use Rattle.ifmap_graph.proofs.Finding.{absent, found}
@@ -73,9 +73,9 @@ distinct_by (l ∷ ls) d f =
 
 module _ (list_of : ℕ → List Stored) (entries : List (Item × ℕ)) (id_at : ℕ → Option Identifier) (joins : ℕ → Option (ℕ × ℕ))
     (links : ℕ → List LinkSeen)
-    (rising : Rises entries) (canon : AllByRecursion (λ e. IsCanonItem e.0) entries) (single : AreSingle id_at)
+    (rising : ItemsRise entries) (canon : AllByRecursion (λ e. IsCanonItem e.0) entries) (single : AreSingle id_at)
     (joined : AreJoined entries id_at joins)
-    (listed : AreListed joins (λ at. is_full (list_of at)) links) where
+    (listed : AreListed joins (λ at. is_not_empty (list_of at)) links) where
   abbrev rows : List Attachment
   rows = rows_by list_of entries
 
@@ -102,7 +102,7 @@ module _ (list_of : ℕ → List Stored) (entries : List (Item × ℕ)) (id_at :
       ∙ ap (λ i. stored_where i rows) (pair_more e.0 e.1 e.3.0 e.4.0 e.3.2 e.4.2 (ordered e.0 e.1 at e.2)))
 
   -- what a slot that joins two numbers has is what is stored between them
-  pub on_place : (at v w : ℕ) → Ends joins at v w → list_of at ≡ stored_linked (id_at v) (id_at w) rows
+  pub on_place : (at v w : ℕ) → JoinsNumbers joins at v w → list_of at ≡ stored_linked (id_at v) (id_at w) rows
   on_place at v w (inl j) = on_ends at v w j
   on_place at v w (inr j) = on_turned at v w j
 
@@ -117,13 +117,13 @@ module _ (list_of : ℕ → List Stored) (entries : List (Item × ℕ)) (id_at :
       in subst (λ x. stored_linked (id_at v) (id_at x) rows ≢ []) s.2 (λ n. full_some (list_of s.0.at) l.1 (on_place s.0.at v s.0.other l.0
       ∙ n))
 
-  named : (v w at : ℕ) → Ends joins at v w → is_full (list_of at) ≡ true → Contains (others (links v)) w
+  named : (v w at : ℕ) → JoinsNumbers joins at v w → is_not_empty (list_of at) ≡ true → Contains (others (links v)) w
   named v w at j f = from_has _ _ (has_map (λ (l : LinkSeen). l.other) (links v) (record { other = w; at = at })
       (has_from _ _ (listed.each v w at j f)))
 
   -- what is stored on a pair stands at a slot that joins its numbers
   placed : (k m : Identifier) → stored_on (Pair k m) rows ≢ [] → (o : Option ℕ) → lookup (is_at (item_order (Pair k m))) entries ≡ o
-      → (at : ℕ) × (v : ℕ) × (w : ℕ) × (joins at ≡ Some (v, w)) × IsNumber id_at v k × IsNumber id_at w m × (is_full (list_of at) ≡ true)
+      → (at : ℕ) × (v : ℕ) × (w : ℕ) × (joins at ≡ Some (v, w)) × IsNumber id_at v k × IsNumber id_at w m × (is_not_empty (list_of at) ≡ true)
   placed k m n None e = absurd (n (sym (absent list_of (Pair k m) entries e)))
   placed k m n (Some at) e =
       let h = looked_up entries (Pair k m) at e
@@ -136,7 +136,7 @@ module _ (list_of : ℕ → List Stored) (entries : List (Item × ℕ)) (id_at :
         j.2,
         (j.3.0, j.3.1, j.3.2 ∙ t.3),
         (j.4.0, j.4.1, j.4.2 ∙ t.4),
-        ap is_full (found list_of (Pair k m) entries at rising e) ∙ some_full _ n,
+        ap is_not_empty (found list_of (Pair k m) entries at rising e) ∙ some_full _ n,
       )
 
   same_number : (v w : ℕ) (a : Identifier) → IsNumber id_at v a → id_at w ≡ Some a → v ≡ w
@@ -214,7 +214,7 @@ module _ (list_of : ℕ → List Stored) (entries : List (Item × ℕ)) (id_at :
       in let q : Less ≡ Greater = sym (ordered f.0 f.1 bt f.2) ∙ back ∙ turned_order e.1 e.0 ∙ ap ordering_reverse (ordered e.0 e.1 at e.2)
       in cc
 
-  one_slot : (at bt v w : ℕ) → Ends joins at v w → Ends joins bt v w → at ≡ bt
+  one_slot : (at bt v w : ℕ) → JoinsNumbers joins at v w → JoinsNumbers joins bt v w → at ≡ bt
   one_slot at bt v w (inl j) (inl k) = straight at bt v w j k
   one_slot at bt v w (inl j) (inr k) = absurd (crossed at bt v w j k)
   one_slot at bt v w (inr j) (inl k) = absurd (crossed at bt w v j k)
@@ -223,4 +223,4 @@ module _ (list_of : ℕ → List Stored) (entries : List (Item × ℕ)) (id_at :
   -- so no other end is named twice, where no slot is
   pub apart : (v : ℕ) → IsDistinct nat_eq (ats (links v)) → IsDistinct nat_eq (others (links v))
   apart v d = distinct_by (links v) d (λ l m h k e. one_slot l.at m.at v m.other
-      (subst (λ w. Ends joins l.at v w) e (listed.only v l (from_has _ _ h)).0) (listed.only v m (from_has _ _ k)).0)
+      (subst (λ w. JoinsNumbers joins l.at v w) e (listed.only v l (from_has _ _ h)).0) (listed.only v m (from_has _ _ k)).0)

@@ -9,7 +9,7 @@ use Rattle.ifmap_ident.specs.declared.items.Item.{Item}
 use Rattle.ifmap_ident.specs.Items.{item_order, items_tie, same_item}
 use Rattle.ifmap_graph.specs.declared.shelves.Shelves.{Shelves}
 use Rattle.ifmap_graph.specs.Drafted.{ends_at}
-use Rattle.ifmap_graph.specs.Shelved.{AreShelved, HasDraft, place_of, rows_of}
+use Rattle.ifmap_graph.specs.Shelved.{AreShelved, HasDraft, slot_of_item, rows_on_side}
 use Rattle.ifmap_graph.specs.Sides.{next, now}
 use Rattle.ifmap_graph.specs.Waits.{WaitsFor, waits_on}
 use Rattle.ifmap_graph.proofs.Accepting.{apart_parts}
@@ -24,10 +24,10 @@ Few s x = waits_on s x < 2 ^ 64 - 1
 module _ (items : List Item) (first : Shelves) where
   pub record Waiting (s : Shelves) (i : ℕ) : Type 0 where
     pub shelved : AreShelved s
-    pub same : rows_of now s ≡ rows_of now first
-    pub other : rows_of next s ≡ rows_of next first
+    pub same : rows_on_side now s ≡ rows_on_side now first
+    pub other : rows_on_side next s ≡ rows_on_side next first
     pub waits : WaitsFor (take i items) first s
-    pub there : AllByRecursion (λ x. IsSome (place_of first x)) (drop i items)
+    pub there : AllByRecursion (λ x. IsSome (slot_of_item first x)) (drop i items)
     pub few : AllByRecursion (Few s) (drop i items)
     pub apart : IsDistinct same_item (drop i items)
     pub drafts : (x : Item) → HasDraft s x → HasDraft first x
@@ -35,7 +35,7 @@ module _ (items : List Item) (first : Shelves) where
     pub ends : (at : ℕ) → ends_at s at ≡ ends_at first at
     pub places : s.places ≡ first.places
 
-  pub waiting : AreShelved first → AllByRecursion (λ x. IsSome (place_of first x)) items → AllByRecursion (Few first) items
+  pub waiting : AreShelved first → AllByRecursion (λ x. IsSome (slot_of_item first x)) items → AllByRecursion (Few first) items
       → IsDistinct same_item items
       → Waiting first 0
   waiting shelved there few apart = record {
@@ -56,10 +56,10 @@ module _ (items : List Item) (first : Shelves) where
     here : drop i items ≡ x ∷ drop (i + 1) items
     here = here_of items i x h ∙ ap (λ y. y ∷ drop (i + 1) items) is
 
-    pub has_place : IsSome (place_of s x)
+    pub has_place : IsSome (slot_of_item s x)
     has_place =
         subst (λ (o : Option ℕ). IsSome o) (sym (ap (λ p. lookup (is_at (item_order x)) p.entries) g.places))
-        (subst (AllByRecursion (λ x. IsSome (place_of first x))) here g.there).0
+        (subst (AllByRecursion (λ x. IsSome (slot_of_item first x))) here g.there).0
 
     pub is_few : Few s x
     is_few = (subst (AllByRecursion (Few s)) here g.few).0
@@ -67,7 +67,7 @@ module _ (items : List Item) (first : Shelves) where
     apart_here : AllByRecursion (λ y. same_item x y ≡ false) (drop (i + 1) items) × IsDistinct same_item (drop (i + 1) items)
     apart_here = apart_parts x (drop (i + 1) items) (subst (λ l. IsDistinct same_item l) here g.apart)
 
-    module _ (t : Shelves) (shelved : AreShelved t) (same : rows_of now t ≡ rows_of now s) (other : rows_of next t ≡ rows_of next s)
+    module _ (t : Shelves) (shelved : AreShelved t) (same : rows_on_side now t ≡ rows_on_side now s) (other : rows_on_side next t ≡ rows_on_side next s)
         (waits : WaitsFor (x ∷ []) s t)
         (drafts : (y : Item) → HasDraft t y → HasDraft s y) (kept : (y : Item) → HasDraft s y → HasDraft t y)
         (ends : (at : ℕ) → ends_at t at ≡ ends_at s at) (places : t.places ≡ s.places) where
@@ -87,7 +87,7 @@ module _ (items : List Item) (first : Shelves) where
             subst (λ l. WaitsFor l first t)
             (ap (λ y. take i items ++ y ∷ []) (sym is) ∙ sym (take-suc items i x h) ∙ ap (λ n. take n items) (sym (add-one i)))
             (λ y. omega (arith, waits y, g.waits y, times_append (take i items) (x ∷ []) y));
-        there = (subst (AllByRecursion (λ x. IsSome (place_of first x))) here g.there).1;
+        there = (subst (AllByRecursion (λ x. IsSome (slot_of_item first x))) here g.there).1;
         few = still_few (drop (i + 1) items) apart_here.0 (subst (AllByRecursion (Few s)) here g.few).1;
         apart = apart_here.1;
         drafts = λ y d. g.drafts y (drafts y d);

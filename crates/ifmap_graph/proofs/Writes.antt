@@ -19,7 +19,7 @@ use Rattle.ifmap_ident.specs.Items.{item_order}
 use Rattle.ifmap_meta.specs.declared.stored.Stored.{Stored}
 use Rattle.ifmap_view.specs.Rows.{stored_on}
 use Rattle.ifmap_graph.specs.declared.shelves.Shelf.{Shelf}
-use Rattle.ifmap_graph.specs.Shelved.{IsPlaced, Side, list_at, row_on, rows_by}
+use Rattle.ifmap_graph.specs.Shelved.{IsPlaced, StoredSide, list_at, row_on, rows_by}
 use Rattle.ifmap_graph.specs.Waits.{waits_at, waits_of, waits_there}
 use Rattle.ifmap_graph.proofs.Following.{lookup_tied, looked_up}
 use Rattle.ifmap_graph.proofs.Ordered.{equal_is, turned_tie}
@@ -66,11 +66,11 @@ module _ (look later : ℕ → Option Shelf) (es : Entries) (is : IsPlaced look 
       = items_total.congr item i.0 x i.2 ∙ ap (λ y. item_order y x) (sym same) ∙ turned_tie x h.0 h.2
       in let r : false ≡ true = sym f ∙ ap is_eq tie in cc
 
-  pub on_item : (side : Side) (x : Item) → is_at (item_order item) x ≡ true
+  pub on_item : (side : StoredSide) (x : Item) → is_at (item_order item) x ≡ true
       → stored_on x (rows_by (λ n. list_at side (later n)) es) ≡ list_at side (later at)
   on_item side x t = sym (found (λ n. list_at side (later n)) x es at is.rising (tied_there x t))
 
-  pub on_others : (side : Side) (x : Item) → is_at (item_order item) x ≡ false
+  pub on_others : (side : StoredSide) (x : Item) → is_at (item_order item) x ≡ false
       → stored_on x (rows_by (λ n. list_at side (later n)) es) ≡ stored_on x (rows_by (λ n. list_at side (look n)) es)
   on_others side x f = by (lookup (is_at (item_order x)) es) refl
     where
@@ -95,7 +95,7 @@ module _ (look later : ℕ → Option Shelf) (es : Entries) (is : IsPlaced look 
   stays_placed s = record { rising = is.rising; canon = is.canon; live = live_later s es is.live; apart = is.apart }
 
   -- a side that the change leaves shows the same rows
-  pub same_side : (side : Side) → list_at side (later at) ≡ list_at side (look at)
+  pub same_side : (side : StoredSide) → list_at side (later at) ≡ list_at side (look at)
       → rows_by (λ n. list_at side (later n)) es ≡ rows_by (λ n. list_at side (look n)) es
   same_side side e = rows_alike (λ n. list_at side (later n)) (λ n. list_at side (look n)) (λ n. elim (cases_eq n at) [
     | inl q ↦ ap (λ m. list_at side (later m)) q ∙ e ∙ ap (λ m. list_at side (look m)) (sym q)
@@ -132,14 +132,14 @@ module _ (slots new : Slab Shelf) (es : Entries) (is : IsPlaced (get slots) es) 
   shelved = stays_placed (get slots) (get new) es is item at here (written_elsewhere slots new at t wrote)
       (subst (λ (o : Option Shelf). IsSome o) (sym has) refl)
 
-  pub side_stays : (side : Side) → side t.stored ≡ side s.stored
+  pub side_stays : (side : StoredSide) → side t.stored ≡ side s.stored
       → rows_by (λ n. list_at side (get new n)) es ≡ rows_by (λ n. list_at side (get slots n)) es
   side_stays side e =
       same_side (get slots) (get new) es is item at here (written_elsewhere slots new at t wrote) side (ap (list_at side) has ∙ e
       ∙ sym (ap (list_at side) had))
 
   -- what was stored on what ties with the item
-  pub was : (side : Side) (x : Item) → is_at (item_order item) x ≡ true → side s.stored ≡ stored_on x
+  pub was : (side : StoredSide) (x : Item) → is_at (item_order item) x ≡ true → side s.stored ≡ stored_on x
       (rows_by (λ n. list_at side (get slots n)) es)
   was side x e =
       sym (ap (list_at side) had)
@@ -147,7 +147,7 @@ module _ (slots new : Slab Shelf) (es : Entries) (is : IsPlaced (get slots) es) 
       (written_elsewhere slots new at t wrote) x e)
 
   -- what is stored on each item now
-  pub shows : (side : Side) (list : List Stored) → side t.stored ≡ list → (x : Item)
+  pub shows : (side : StoredSide) (list : List Stored) → side t.stored ≡ list → (x : Item)
       → stored_on x (rows_by (λ n. list_at side (get new n)) es)
       ≡ cond (is_at (item_order item) x) list (stored_on x (rows_by (λ n. list_at side (get slots n)) es))
   shows side list e x = elim (cases_Bool (is_at (item_order item) x)) [
@@ -157,7 +157,7 @@ module _ (slots new : Slab Shelf) (es : Entries) (is : IsPlaced (get slots) es) 
   ]
 
   -- the same, where the new list is that of a side before
-  pub comes : (side other : Side) → side t.stored ≡ other s.stored → (x : Item)
+  pub comes : (side other : StoredSide) → side t.stored ≡ other s.stored → (x : Item)
       → stored_on x (rows_by (λ n. list_at side (get new n)) es)
       ≡ stored_on x (cond (is_at (item_order item) x) (rows_by (λ n. list_at other (get slots n)) es)
       (rows_by (λ n. list_at side (get slots n)) es))

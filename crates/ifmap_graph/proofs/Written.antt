@@ -11,11 +11,11 @@ use Rattle.ifmap_graph.specs.Back.{KeepsBacks, KeepsOtherBacks}
 use Rattle.ifmap_graph.specs.Drafted.{ends_at}
 use Rattle.ifmap_graph.specs.Held.{Held}
 use Rattle.ifmap_graph.specs.Named.{named_in}
-use Rattle.ifmap_graph.specs.Out.{items_of}
-use Rattle.ifmap_graph.specs.Seen.{Awaits, KeepsOwn, rows_now, waits_in}
-use Rattle.ifmap_graph.specs.Shelved.{rows_of}
+use Rattle.ifmap_graph.specs.Out.{items_changed}
+use Rattle.ifmap_graph.specs.Seen.{AreAwaited, KeepsOwn, rows_now, waits_in}
+use Rattle.ifmap_graph.specs.Shelved.{rows_on_side}
 use Rattle.ifmap_graph.specs.Sides.{Sides, now}
-use Rattle.ifmap_graph.specs.Stays.{IsThere, StayPlaced}
+use Rattle.ifmap_graph.specs.Stays.{HasSameShelf, StayPlaced}
 use Rattle.ifmap_graph.specs.Touched.{KeepsLinks}
 use Rattle.ifmap_graph.specs.Waits.{waits_on}
 use Rattle.ifmap_graph.proofs.Backs.{keeps_backs}
@@ -25,7 +25,7 @@ use Rattle.ifmap_graph.proofs.Settled.{held_of, waits_shown}
 
 module _ (names : Holdings Identifier) (s t : Shelves) (links later : List (Sides LinkSeen)) (places : t.places ≡ s.places)
     (ends : (at : ℕ) → ends_at t at ≡ ends_at s at) (waits : (x : Item) → waits_on t x ≡ waits_on s x)
-    (rows : rows_of now t ≡ rows_of now s)
+    (rows : rows_on_side now t ≡ rows_on_side now s)
     (kept : KeepsLinks links later) where
   pub written_now : rows_now (held_of names t later) ≡ rows_now (held_of names s links)
   written_now = rows_shown now (get t.slots) t.places.entries ∙ rows ∙ sym (rows_shown now (get s.slots) s.places.entries)
@@ -40,12 +40,12 @@ module _ (names : Holdings Identifier) (s t : Shelves) (links later : List (Side
   written_waited : (x : Item) → waits_in (held_of names t later) x ≡ waits_in (held_of names s links) x
   written_waited x = waits_shown names t later x ∙ waits x ∙ sym (waits_shown names s links x)
 
-  pub written_waits : (items : List Item) → Awaits items (held_of names s links) → Awaits items (held_of names t later)
+  pub written_waits : (items : List Item) → AreAwaited items (held_of names s links) → AreAwaited items (held_of names t later)
   written_waits items a x = omega (arith, a x, written_waited x)
 
-  there : (x : Item) → IsThere (held_of names s links) (held_of names t later) x
+  there : (x : Item) → HasSameShelf (held_of names s links) (held_of names t later) x
   there x =
-      subst (λ p. IsThere (held_of names s links) (seen_of (get t.slots) p.entries names later) x) (sym places)
+      subst (λ p. HasSameShelf (held_of names s links) (seen_of (get t.slots) p.entries names later) x) (sym places)
       (stays_there (get s.slots) (get t.slots) s.places.entries names names links later ends x)
 
   pub written_stay : StayPlaced (held_of names s links) (held_of names t later)
@@ -57,7 +57,7 @@ module _ (names : Holdings Identifier) (s t : Shelves) (links later : List (Side
       (λ rest a. written_waits rest a)
 
 -- ways back stay beside these items, where they stay at first, and beside them then
-pub first_backs : (items : List Item) (old mid new : Held) → ((rest : List Item) → Awaits rest old → Awaits rest mid) → KeepsBacks old mid
+pub first_backs : (items : List Item) (old mid new : Held) → ((rest : List Item) → AreAwaited rest old → AreAwaited rest mid) → KeepsBacks old mid
     → KeepsOtherBacks items mid new → KeepsOtherBacks items old new
-first_backs items old mid new more one other u rows links waits b = other u rows links (more (items ++ items_of u.plan.changes) waits)
+first_backs items old mid new more one other u rows links waits b = other u rows links (more (items ++ items_changed u.plan.changes) waits)
     (one u rows links b)

@@ -16,7 +16,7 @@ module _ {X : Type 0} (list_of : X → List Stored) where
   AreEmpty es = AllByRecursion (λ e. list_of e.1 ≡ []) es
 
   -- the first entry that is not empty
-  pub record IsFirst (es : List (Item × X)) (item : Item) : Type 0 where
+  pub record IsFirstFull (es : List (Item × X)) (item : Item) : Type 0 where
     pub before : List (Item × X)
     pub rest : List (Item × X)
     pub at : X

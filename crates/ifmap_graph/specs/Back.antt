@@ -14,8 +14,8 @@ use Rattle.ifmap_graph.specs.declared.ends.Ends.{Ends}
 use Rattle.ifmap_graph.specs.Held.{Held, links_at}
 use Rattle.ifmap_graph.specs.Joined.{two_of}
 use Rattle.ifmap_graph.specs.Linked.{ats}
-use Rattle.ifmap_graph.specs.Out.{items_of}
-use Rattle.ifmap_graph.specs.Seen.{Awaits, rows_now}
+use Rattle.ifmap_graph.specs.Out.{items_changed}
+use Rattle.ifmap_graph.specs.Seen.{AreAwaited, rows_now}
 use Rattle.ifmap_graph.specs.Sides.{now}
 use Rattle.ifmap_graph.specs.Stays.{ends_in, place_in}
 use Rattle.ifmap_graph.specs.Turning.{AreWithin, restore_each}
@@ -27,36 +27,36 @@ stand_each (i ∷ is) [] x before = before
 stand_each (i ∷ is) (list ∷ lists) x before = stand_each is lists x (if is_at (item_order i) x then list else before)
 
 -- these are the two numbers of a link, whichever comes first
-abbrev pub AreTwo : Option Ends → ℕ → ℕ → Type 0
-AreTwo None v w = ⊥
-AreTwo (Some ends) v w = (two_of ends ≡ Some (v, w)) ⊎ (two_of ends ≡ Some (w, v))
+abbrev pub AreBothEnds : Option Ends → ℕ → ℕ → Type 0
+AreBothEnds None v w = ⊥
+AreBothEnds (Some ends) v w = (two_of ends ≡ Some (v, w)) ⊎ (two_of ends ≡ Some (w, v))
 
 -- links are those of the shelves whose items have something stored on them, each once
 pub record AreLinks (rows : List Attachment) (links : ℕ → List LinkSeen) (h : Held) : Type 0 where
   pub only : (v : ℕ) (seen : LinkSeen) → Contains (links v) seen
-      → (x : Item) × (place_in h x ≡ Some seen.at) × AreTwo (ends_in h x) v seen.other × (stored_on x rows ≢ [])
-  pub each : (x : Item) (v w at : ℕ) → place_in h x ≡ Some at → AreTwo (ends_in h x) v w → stored_on x rows ≢ []
+      → (x : Item) × (place_in h x ≡ Some seen.at) × AreBothEnds (ends_in h x) v seen.other × (stored_on x rows ≢ [])
+  pub each : (x : Item) (v w at : ℕ) → place_in h x ≡ Some at → AreBothEnds (ends_in h x) v w → stored_on x rows ≢ []
       → Contains (links v) (record { other = w; at = at })
   pub once : (v : ℕ) → IsDistinct nat_eq (ats (links v))
 
 -- taken back, the change leaves these attachments and links: its lists stand on its items and at its numbers, and all else is what is
 -- there; its items are waited for
-pub record IsWayBack (u : Undo) (rows : List Attachment) (links : ℕ → List LinkSeen) (h : Held) : Type 0 where
+pub record IsUndoTo (u : Undo) (rows : List Attachment) (links : ℕ → List LinkSeen) (h : Held) : Type 0 where
   pub graph : IsGraph rows
-  pub stored : (x : Item) → stored_on x rows ≡ stand_each (items_of u.plan.changes) u.lists x (stored_on x (rows_now h))
+  pub stored : (x : Item) → stored_on x rows ≡ stand_each (items_changed u.plan.changes) u.lists x (stored_on x (rows_now h))
   pub linked : (v : ℕ) → links v ≡ links_at now (restore_each u.ways h.links) v
   pub slots : AreLinks rows links h
   pub lists : length u.lists ≡ length u.plan.changes
   pub within : AreWithin u.ways (length h.links)
-  pub waits : Awaits (items_of u.plan.changes) h
+  pub waits : AreAwaited (items_changed u.plan.changes) h
 
 -- ways back stay
 abbrev pub KeepsBacks : Held → Held → Type 0
 KeepsBacks old new =
-    (u : Undo) (rows : List Attachment) (links : ℕ → List LinkSeen) → IsWayBack u rows links old → IsWayBack u rows links new
+    (u : Undo) (rows : List Attachment) (links : ℕ → List LinkSeen) → IsUndoTo u rows links old → IsUndoTo u rows links new
 
 -- so do those of which the items are waited for beside these
 abbrev pub KeepsOtherBacks : List Item → Held → Held → Type 0
 KeepsOtherBacks items old new =
-    (u : Undo) (rows : List Attachment) (links : ℕ → List LinkSeen) → Awaits (items ++ items_of u.plan.changes) old
-    → IsWayBack u rows links old → IsWayBack u rows links new
+    (u : Undo) (rows : List Attachment) (links : ℕ → List LinkSeen) → AreAwaited (items ++ items_changed u.plan.changes) old
+    → IsUndoTo u rows links old → IsUndoTo u rows links new

@@ -13,7 +13,7 @@ use Rattle.ifmap_graph.specs.declared.shelves.Shelves.{Shelves}
 use Rattle.ifmap_graph.specs.Drafted.{AreBare, ends_at}
 use Rattle.ifmap_graph.specs.Held.{IsInside}
 use Rattle.ifmap_graph.specs.Named.{named_by, named_in}
-use Rattle.ifmap_graph.specs.Shelved.{place_of, rows_of}
+use Rattle.ifmap_graph.specs.Shelved.{slot_of_item, rows_on_side}
 use Rattle.ifmap_graph.specs.Sides.{Sides, next, now}
 use Rattle.ifmap_graph.specs.Turning.{sides_at}
 use Rattle.ifmap_graph.specs.Waits.{waits_on}
@@ -35,10 +35,10 @@ IsOther items x = AllByRecursion (λ i. is_at (item_order i) x ≡ false) items
 
 -- these items had no shelf and have one, that nobody waits for; all else that is said of shelves but for their lists is as it was
 pub record BringsShelves (items : List Item) (old new : Shelves) : Type 0 where
-  pub absent : AllByRecursion (λ i. place_of old i ≡ None) items
-  pub there : AllByRecursion (λ i. IsSome (place_of new i)) items
-  pub places : (x : Item) → IsOther items x → place_of new x ≡ place_of old x
-  pub ends : (x : Item) (at : ℕ) → place_of old x ≡ Some at → ends_at new at ≡ ends_at old at
+  pub absent : AllByRecursion (λ i. slot_of_item old i ≡ None) items
+  pub there : AllByRecursion (λ i. IsSome (slot_of_item new i)) items
+  pub places : (x : Item) → IsOther items x → slot_of_item new x ≡ slot_of_item old x
+  pub ends : (x : Item) (at : ℕ) → slot_of_item old x ≡ Some at → ends_at new at ≡ ends_at old at
   pub waits : (x : Item) → waits_on new x ≡ waits_on old x
   pub named : (a : Identifier) → named_in new.places.entries a ≡ named_of items a + named_in old.places.entries a
 
@@ -48,8 +48,8 @@ pub record Parts : Type 0 where
   pub shelves : Shelves
   pub links : List (Sides LinkSeen)
 
-abbrev pub parts_of : Holdings Identifier → Shelves → List (Sides LinkSeen) → Parts
-parts_of n s l = record { names = n; shelves = s; links = l }
+abbrev pub graph_parts : Holdings Identifier → Shelves → List (Sides LinkSeen) → Parts
+graph_parts n s l = record { names = n; shelves = s; links = l }
 
 abbrev pub AreInside : Parts → Type 0
 AreInside p = IsInside p.names (get p.shelves.slots) p.shelves.places.entries p.links
@@ -65,8 +65,8 @@ HaveFewOwn p = (a : Identifier) → (own : ℕ) × HasOwn p a own × (own < 2 ^ 
 -- there are numbers and room for more, and what is stored and drafted is as before
 pub record AreGrown (old new : Parts) : Type 0 where
   pub inside : AreInside new
-  pub now : rows_of now new.shelves ≡ rows_of now old.shelves
-  pub next : rows_of next new.shelves ≡ rows_of next old.shelves
+  pub now : rows_on_side now new.shelves ≡ rows_on_side now old.shelves
+  pub next : rows_on_side next new.shelves ≡ rows_on_side next old.shelves
   pub bare : AreBare old.shelves → AreBare new.shelves
   pub links : (v : ℕ) → sides_at new.links v ≡ sides_at old.links v
   pub longer : length old.links ≤ length new.links

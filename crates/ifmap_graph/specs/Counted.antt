@@ -9,7 +9,7 @@ use Rattle.ifmap_ident.specs.Identifiers.{same_identifier}
 use Rattle.ifmap_ident.specs.Items.{same_item}
 use Rattle.ifmap_meta.specs.declared.stored.Stored.{Stored}
 use Rattle.ifmap_view.specs.declared.attachments.Attachment.{Attachment}
-use Rattle.ifmap_graph.specs.Joined.{is_full}
+use Rattle.ifmap_graph.specs.Joined.{is_not_empty}
 
 -- so many identifiers are such: a list has each of them once, and no other
 abbrev pub AreSoMany : ℕ → (Identifier → Type 0) → Type 0
@@ -33,9 +33,9 @@ count_links rows = length (filter is_link (items_in rows))
 -- one, where the item is a link that has something on it
 abbrev pub link_once : Item → List Stored → ℕ
 link_once (One a) xs = 0
-link_once (Pair a b) xs = if is_full xs then 1 else 0
+link_once (Pair a b) xs = if is_not_empty xs then 1 else 0
 
 -- how many entries are of such links
-abbrev pub links_of : {X : Type 0} → (X → List Stored) → List (Item × X) → ℕ
-links_of list_of [] = 0
-links_of list_of (e ∷ es) = link_once e.0 (list_of e.1) + links_of list_of es
+abbrev pub links_among : {X : Type 0} → (X → List Stored) → List (Item × X) → ℕ
+links_among list_of [] = 0
+links_among list_of (e ∷ es) = link_once e.0 (list_of e.1) + links_among list_of es

@@ -10,10 +10,10 @@ use Rattle.ifmap_pool.specs.Holdings.{Holdings, IsHeld, IsPool, entry_at, holdin
 use Rattle.ifmap_plans.specs.Lists.{IsList}
 use Rattle.ifmap_view.specs.declared.views.LinkSeen.{LinkSeen}
 use Rattle.ifmap_graph.specs.declared.shelves.Shelf.{Shelf}
-use Rattle.ifmap_graph.specs.Joined.{is_full, joined_pair}
+use Rattle.ifmap_graph.specs.Joined.{is_not_empty, joined_pair}
 use Rattle.ifmap_graph.specs.Linked.{AreListed, ats}
 use Rattle.ifmap_graph.specs.Named.{AreHeld, AreIdentifiers, AreNumbered, named_in}
-use Rattle.ifmap_graph.specs.Shelved.{IsPlaced, Side, list_at}
+use Rattle.ifmap_graph.specs.Shelved.{IsPlaced, StoredSide, list_at}
 use Rattle.ifmap_graph.specs.Sides.{Sides, next, now, sides_code}
 
 -- the shelves in the order of their items, the empty ones among them; the identifiers with their numbers; the links of each number on
@@ -43,9 +43,9 @@ abbrev pub links_at : (Sides LinkSeen → List LinkSeen) → List (Sides LinkSee
 links_at side links v = side (slice_index_or links v (record { now = []; draft = None }))
 
 -- on a side: each list rises with its keys apart; a number's links are those whose shelves are not empty, each once
-pub record IsSide (side : Side) (look : ℕ → Option Shelf) (entries : List (Item × ℕ)) (links : ℕ → List LinkSeen) : Type 0 where
+pub record IsSide (side : StoredSide) (look : ℕ → Option Shelf) (entries : List (Item × ℕ)) (links : ℕ → List LinkSeen) : Type 0 where
   pub lists : AllByRecursion (λ e. IsList (list_at side (look e.1))) entries
-  pub listed : AreListed (λ at. joined_pair (look at)) (λ at. is_full (list_at side (look at))) links
+  pub listed : AreListed (λ at. joined_pair (look at)) (λ at. is_not_empty (list_at side (look at))) links
   pub once : (v : ℕ) → IsDistinct nat_eq (ats (links v))
 
 -- what holds of a graph's parts: each item has a shelf of its own with the numbers of its identifiers, and each shelf is an item's; the

@@ -20,9 +20,9 @@ abbrev pub joined_pair : Option Shelf → Option (ℕ × ℕ)
 joined_pair None = None
 joined_pair (Some shelf) = two_of shelf.ends
 
-abbrev pub is_full : {X : Type 0} → List X → Bool
-is_full [] = false
-is_full (x ∷ xs) = true
+abbrev pub is_not_empty : {X : Type 0} → List X → Bool
+is_not_empty [] = false
+is_not_empty (x ∷ xs) = true
 
 -- the number is that of the identifier: its bytes are those of the number's
 abbrev pub IsNumber : (ℕ → Option Identifier) → ℕ → Identifier → Type 0
@@ -40,10 +40,10 @@ pub record AreJoined (entries : List (Item × ℕ)) (id_at : ℕ → Option Iden
   pub only : (at v w : ℕ) → joins at ≡ Some (v, w)
       → (a : Identifier) × (b : Identifier) × Has entries (Pair a b, at) × IsNumber id_at v a × IsNumber id_at w b
 
-pub full_some : {X : Type 0} (l : List X) → is_full l ≡ true → l ≢ []
+pub full_some : {X : Type 0} (l : List X) → is_not_empty l ≡ true → l ≢ []
 full_some [] e n = cc
 full_some (x ∷ xs) e n = cc
 
-pub some_full : {X : Type 0} (l : List X) → l ≢ [] → is_full l ≡ true
+pub some_full : {X : Type 0} (l : List X) → l ≢ [] → is_not_empty l ≡ true
 some_full [] n = absurd (n refl)
 some_full (x ∷ xs) n = refl

@@ -14,13 +14,13 @@ seen_at at (Some w) = Some (record { other = w; at = at })
 
 module _ (joins : ℕ → Option (ℕ × ℕ)) where
   -- the place joins these two numbers
-  abbrev pub Ends : ℕ → ℕ → ℕ → Type 0
-  Ends at v w = (joins at ≡ Some (v, w)) ⊎ (joins at ≡ Some (w, v))
+  abbrev pub JoinsNumbers : ℕ → ℕ → ℕ → Type 0
+  JoinsNumbers at v w = (joins at ≡ Some (v, w)) ⊎ (joins at ≡ Some (w, v))
 
   -- the lists have a link exactly where a place that joins is full, and each place once
   pub record AreListed (full : ℕ → Bool) (links : ℕ → List LinkSeen) : Type 0 where
-    pub only : (v : ℕ) (seen : LinkSeen) → Contains (links v) seen → Ends seen.at v seen.other × (full seen.at ≡ true)
-    pub each : (v w at : ℕ) → Ends at v w → full at ≡ true → Contains (links v) (record { other = w; at = at })
+    pub only : (v : ℕ) (seen : LinkSeen) → Contains (links v) seen → JoinsNumbers seen.at v seen.other × (full seen.at ≡ true)
+    pub each : (v w at : ℕ) → JoinsNumbers at v w → full at ≡ true → Contains (links v) (record { other = w; at = at })
 
   -- what comes to a number, from the places that were touched
   abbrev pub coming_links : (ℕ → Bool) → (ℕ → Bool) → List ℕ → ℕ → List LinkSeen

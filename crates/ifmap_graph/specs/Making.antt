@@ -9,35 +9,35 @@ use Rattle.ifmap_pool.specs.Holdings.{Names}
 use Rattle.ifmap_view.specs.declared.views.LinkSeen.{LinkSeen}
 use Rattle.ifmap_graph.specs.Bringing.{AreInside, BringsShelves, HasOwn, IsOther, Parts}
 use Rattle.ifmap_graph.specs.Drafted.{AreBare, AreOut, ends_at}
-use Rattle.ifmap_graph.specs.Out.{items_of}
-use Rattle.ifmap_graph.specs.Shelved.{place_of, rows_of}
+use Rattle.ifmap_graph.specs.Out.{items_changed}
+use Rattle.ifmap_graph.specs.Shelved.{slot_of_item, rows_on_side}
 use Rattle.ifmap_graph.specs.Sides.{next, now}
-use Rattle.ifmap_graph.specs.Touched.{AreReady}
+use Rattle.ifmap_graph.specs.Touched.{AreExactlyDrafted}
 use Rattle.ifmap_graph.specs.Turning.{sides_at}
 use Rattle.ifmap_graph.specs.Waits.{WaitsFor}
 
 -- a change is out, with these ways: its drafts stand, its items are waited for once more, and what is there stays
 pub record IsMade (changes : List ItemChange) (ways : List (ℕ × List LinkSeen)) (old new : Parts) : Type 0 where
   pub inside : AreInside new
-  pub rows : rows_of now new.shelves ≡ rows_of now old.shelves
-  pub after : IsAfter changes (rows_of now old.shelves) (rows_of next new.shelves)
-  pub out : AreOut (items_of changes) new.shelves
-  pub ready : AreReady ways new.links
+  pub rows : rows_on_side now new.shelves ≡ rows_on_side now old.shelves
+  pub after : IsAfter changes (rows_on_side now old.shelves) (rows_on_side next new.shelves)
+  pub out : AreOut (items_changed changes) new.shelves
+  pub ready : AreExactlyDrafted ways new.links
   pub links : (v : ℕ) → (sides_at new.links v).now ≡ (sides_at old.links v).now
   pub longer : length old.links ≤ length new.links
   pub kept : (v : ℕ) (a : Identifier) → Names identifier_order old.names v a → Names identifier_order new.names v a
   pub own : (a : Identifier) (own : ℕ) → HasOwn old a own → HasOwn new a own
-  pub places : (x : Item) (at : ℕ) → place_of old.shelves x ≡ Some at
-      → (place_of new.shelves x ≡ Some at) × (ends_at new.shelves at ≡ ends_at old.shelves at)
-  pub same : (x : Item) → IsOther (items_of changes) x → place_of new.shelves x ≡ place_of old.shelves x
-  pub waits : WaitsFor (items_of changes) old.shelves new.shelves
+  pub places : (x : Item) (at : ℕ) → slot_of_item old.shelves x ≡ Some at
+      → (slot_of_item new.shelves x ≡ Some at) × (ends_at new.shelves at ≡ ends_at old.shelves at)
+  pub same : (x : Item) → IsOther (items_changed changes) x → slot_of_item new.shelves x ≡ slot_of_item old.shelves x
+  pub waits : WaitsFor (items_changed changes) old.shelves new.shelves
 
 -- nothing is out, and all is as before but for room
 pub record IsUnmade (old new : Parts) : Type 0 where
   pub inside : AreInside new
   pub bare : AreBare new.shelves
   pub none : (v : ℕ) → (sides_at new.links v).draft ≡ None
-  pub rows : rows_of now new.shelves ≡ rows_of now old.shelves
+  pub rows : rows_on_side now new.shelves ≡ rows_on_side now old.shelves
   pub links : (v : ℕ) → (sides_at new.links v).now ≡ (sides_at old.links v).now
   pub longer : length old.links ≤ length new.links
   pub kept : (v : ℕ) (a : Identifier) → Names identifier_order old.names v a → Names identifier_order new.names v a

@@ -2,7 +2,7 @@
 use Rattle.std.proofs.Common.{◌≡◌, ℕ, Some, ◌∙◌, sym, ◌≤◌, Bool, true, false, cond, arith, refl, ap, List, [], subst, append-nil}
 use Rattle.std.proofs.lemmas.Option.{same_Some}
 use Rattle.ifmap_graph.specs.Held.{Held}
-use Rattle.ifmap_graph.specs.Seen.{BringsNoNumbers, Awaits, AwaitsMore}
+use Rattle.ifmap_graph.specs.Seen.{BringsNoNumbers, AreAwaited, AwaitsMore}
 use Rattle.ifmap_ident.specs.declared.identifiers.Identifier.{Identifier}
 use Rattle.ifmap_pool.specs.Holdings.{key_at, once}
 use Rattle.std.specs.Ordering.{is_eq}
@@ -25,5 +25,5 @@ once_few a b = by (is_eq (identifier_order a b))
 pub once_itself : (a : Identifier) → once identifier_order a a ≡ 1
 once_itself a = ap (λ o. cond (is_eq o) 1 0) (slice_cmp-same (identifier_bytes a) (identifier_bytes a) refl)
 
-pub awaits_these : (items : List Item) (old new : Held) → AwaitsMore items old new → Awaits items new
-awaits_these items old new more = subst (λ (is : List Item). Awaits is new) (append-nil items) (more [] (λ x. omega arith))
+pub awaits_these : (items : List Item) (old new : Held) → AwaitsMore items old new → AreAwaited items new
+awaits_these items old new more = subst (λ (is : List Item). AreAwaited is new) (append-nil items) (more [] (λ x. omega arith))

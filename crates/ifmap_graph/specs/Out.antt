@@ -14,8 +14,8 @@ use Rattle.ifmap_graph.specs.Held.{Held}
 use Rattle.ifmap_graph.specs.Turning.{AreDrafted, NoOthers}
 
 -- the items of changes
-abbrev pub items_of : List ItemChange → List Item
-items_of changes = map (λ c. c.item) changes
+abbrev pub items_changed : List ItemChange → List Item
+items_changed changes = map (λ c. c.item) changes
 
 -- the shelf of an item has a draft
 abbrev pub IsDrafted : List (Item × Option Shelf) → Item → Type 0
@@ -24,9 +24,9 @@ IsDrafted shelves x = (shelf : Shelf) × (lookup (is_at (item_order x)) shelves 
 -- the shelves of the change's items have drafts, and no others; so have the links of its numbers; and there is room for each list that
 -- gives way
 pub record IsOut (ready : Ready) (h : Held) : Type 0 where
-  pub drafted : AllByRecursion (IsDrafted h.shelves) (items_of ready.plan.changes)
-  pub within : (x : Item) → IsDrafted h.shelves x → (i : Item) × Has (items_of ready.plan.changes) i × (item_order i x ≡ Equal)
-  pub apart : IsDistinct same_item (items_of ready.plan.changes)
+  pub drafted : AllByRecursion (IsDrafted h.shelves) (items_changed ready.plan.changes)
+  pub within : (x : Item) → IsDrafted h.shelves x → (i : Item) × Has (items_changed ready.plan.changes) i × (item_order i x ≡ Equal)
+  pub apart : IsDistinct same_item (items_changed ready.plan.changes)
   pub lists : length ready.lists ≡ length ready.plan.changes
   pub links : AreDrafted ready.ways h.links
   pub no_others : NoOthers ready.ways h.links

@@ -47,8 +47,8 @@ abbrev pub waits_in : Held → Item → ℕ
 waits_in h x = waits_there_in (lookup (is_at (item_order x)) h.shelves)
 
 -- each of these items is waited for, as often as it stands here
-abbrev pub Awaits : List Item → Held → Type 0
-Awaits items h = (x : Item) → times_in items x ≤ waits_in h x
+abbrev pub AreAwaited : List Item → Held → Type 0
+AreAwaited items h = (x : Item) → times_in items x ≤ waits_in h x
 
 -- fewer than 2^32 hold each identifier beside the items that name it
 abbrev pub HasFewOwn : Held → Type 0
@@ -68,10 +68,10 @@ KeepsOwn old new = (a : Identifier) (own : ℕ) → IsOwn old a own → IsOwn ne
 
 -- these items are waited for once more, and once less
 abbrev pub AwaitsMore : List Item → Held → Held → Type 0
-AwaitsMore items old new = (rest : List Item) → Awaits rest old → Awaits (items ++ rest) new
+AwaitsMore items old new = (rest : List Item) → AreAwaited rest old → AreAwaited (items ++ rest) new
 
 abbrev pub AwaitsLess : List Item → Held → Held → Type 0
-AwaitsLess items old new = (rest : List Item) → Awaits (items ++ rest) old → Awaits rest new
+AwaitsLess items old new = (rest : List Item) → AreAwaited (items ++ rest) old → AreAwaited rest new
 
 -- the item has a shelf
 abbrev pub HasShelf : Held → Item → Type 0
@@ -94,8 +94,8 @@ abbrev pub StaysLean : Held → Held → Type 0
 StaysLean = StaysLeanWith []
 
 -- an identifier has a number
-abbrev pub HasNumber : Held → Identifier → Type 0
-HasNumber h a = (v : ℕ) × (key_at h.names v ≡ Some a)
+abbrev pub HasPoolNumber : Held → Identifier → Type 0
+HasPoolNumber h a = (v : ℕ) × (key_at h.names v ≡ Some a)
 
 -- it stands in an item that carries an attachment
 abbrev pub IsAttached : List Attachment → Identifier → Type 0
@@ -107,8 +107,8 @@ IsHeldBeside h a = (own : ℕ) → IsOwn h a own → 0 < own
 
 -- the identifiers that have numbers are those that stand in an item with an attachment or that others hold
 pub record AreUsed (h : Held) : Type 0 where
-  pub only : (a : Identifier) → HasNumber h a → IsAttached (rows_now h) a ⊎ IsHeldBeside h a
-  pub each : (a : Identifier) → IsIdentifier a → IsAttached (rows_now h) a ⊎ IsHeldBeside h a → HasNumber h a
+  pub only : (a : Identifier) → HasPoolNumber h a → IsAttached (rows_now h) a ⊎ IsHeldBeside h a
+  pub each : (a : Identifier) → IsIdentifier a → IsAttached (rows_now h) a ⊎ IsHeldBeside h a → HasPoolNumber h a
 
 -- all that others see is the same
 pub record IsSeenSame (old new : Held) : Type 0 where

@@ -23,10 +23,10 @@ abbrev pub ends_in : Held → Item → Option Ends
 ends_in h x = ends_there_in (lookup (is_at (item_order x)) h.shelves)
 
 -- the shelf of an item is in the same slot, and has the same numbers
-abbrev pub IsThere : Held → Held → Item → Type 0
-IsThere old new x = (place_in new x ≡ place_in old x) × (ends_in new x ≡ ends_in old x)
+abbrev pub HasSameShelf : Held → Held → Item → Type 0
+HasSameShelf old new x = (place_in new x ≡ place_in old x) × (ends_in new x ≡ ends_in old x)
 
 -- shelves stay where they are, with their numbers: those of items that are waited for before and after, and those that have something
 pub record StayPlaced (old new : Held) : Type 0 where
-  pub waited : (x : Item) → 0 < waits_in old x → 0 < waits_in new x → IsThere old new x
-  pub full : (x : Item) → stored_on x (rows_now old) ≢ [] → stored_on x (rows_now new) ≢ [] → IsThere old new x
+  pub waited : (x : Item) → 0 < waits_in old x → 0 < waits_in new x → HasSameShelf old new x
+  pub full : (x : Item) → stored_on x (rows_now old) ≢ [] → stored_on x (rows_now new) ≢ [] → HasSameShelf old new x

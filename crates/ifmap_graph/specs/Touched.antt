@@ -6,19 +6,19 @@ use Rattle.ifmap_ident.specs.declared.items.Item.{Item}
 use Rattle.ifmap_view.specs.declared.views.LinkSeen.{LinkSeen}
 use Rattle.ifmap_graph.specs.declared.shelves.Shelf.{Shelf}
 use Rattle.ifmap_graph.specs.declared.shelves.Shelves.{Shelves}
-use Rattle.ifmap_graph.specs.Joined.{is_full, joined_pair}
+use Rattle.ifmap_graph.specs.Joined.{is_not_empty, joined_pair}
 use Rattle.ifmap_graph.specs.Linked.{far_of, seen_at}
-use Rattle.ifmap_graph.specs.Shelved.{list_at, place_of}
+use Rattle.ifmap_graph.specs.Shelved.{list_at, slot_of_item}
 use Rattle.ifmap_graph.specs.Sides.{Sides, next, now}
 use Rattle.ifmap_graph.specs.Turning.{AreDrafted, NoOthers, sides_at}
 
 module _ (slots : Slab Shelf) where
   -- whether a slot has something, and whether it is to have something
   abbrev pub full_now : ℕ → Bool
-  full_now at = is_full (list_at now (get slots at))
+  full_now at = is_not_empty (list_at now (get slots at))
 
   abbrev pub full_next : ℕ → Bool
-  full_next at = is_full (list_at next (get slots at))
+  full_next at = is_not_empty (list_at next (get slots at))
 
   -- whether a slot joins the number with another
   abbrev pub joins : ℕ → ℕ → Bool
@@ -61,10 +61,10 @@ flip_in slots (Some at) = cond (differ (full_now slots at) (full_next slots at))
 
 -- the slot of an item, where it does
 abbrev pub flip_of : Shelves → Item → Option ℕ
-flip_of s x = flip_in s.slots (place_of s x)
+flip_of s x = flip_in s.slots (slot_of_item s x)
 
 -- drafts stand at these places alone, each of which is named once
-pub record AreReady (ways : List (ℕ × List LinkSeen)) (links : List (Sides LinkSeen)) : Type 0 where
+pub record AreExactlyDrafted (ways : List (ℕ × List LinkSeen)) (links : List (Sides LinkSeen)) : Type 0 where
   pub drafted : AreDrafted ways links
   pub no_others : NoOthers ways links
 

@@ -7,12 +7,12 @@ ghost use Rattle.ifmap_ident.specs.Items.{IsCanonItem, same_item};
 ghost use Rattle.ifmap_pool.specs.Holdings.{IsPool};
 ghost use Rattle.ifmap_view.specs.declared.views.LinkSeen.{LinkSeen};
 ghost use Rattle.ifmap_graph.specs.declared.shelves.Shelves.{Shelves};
-ghost use Rattle.ifmap_graph.specs.Bringing.{AreGrown, AreInside, BringsShelves, HaveFewOwn, flagged_items, parts_of};
+ghost use Rattle.ifmap_graph.specs.Bringing.{AreGrown, AreInside, BringsShelves, HaveFewOwn, flagged_items, graph_parts};
 ghost use Rattle.ifmap_graph.specs.Drafted.{AreBare};
 ghost use Rattle.ifmap_graph.specs.Held.{IsInside};
-ghost use Rattle.ifmap_graph.specs.Out.{items_of};
+ghost use Rattle.ifmap_graph.specs.Out.{items_changed};
 ghost use Rattle.ifmap_graph.specs.Releasing.{IsLess};
-ghost use Rattle.ifmap_graph.specs.Shelved.{AreShelved, IsBare, place_of, rows_of};
+ghost use Rattle.ifmap_graph.specs.Shelved.{AreShelved, HasEmptyShelf, slot_of_item, rows_on_side};
 ghost use Rattle.ifmap_graph.specs.Sides.{Sides, now};
 ghost use Rattle.ifmap_graph.specs.Turning.{sides_at};
 ghost use Rattle.ifmap_graph.specs.Waits.{waits_on};
@@ -55,12 +55,12 @@ fn place_item(
     alloc: Global,
     item: &Item,
 ) -> Result<(), NoMemory>
-    requires inside { AreInside (parts_of names.old shelves.old links.old.items) }
+    requires inside { AreInside (graph_parts names.old shelves.old links.old.items) }
     requires canon { IsCanonItem item.now }
-    requires absent { place_of shelves.old item.now ≡ None }
-    requires few { HaveFewOwn (parts_of names.old shelves.old links.old.items) }
-    ensures grown { AreGrown (parts_of names.old shelves.old links.old.items)
-        (parts_of names.new shelves.new links.new.items) }
+    requires absent { slot_of_item shelves.old item.now ≡ None }
+    requires few { HaveFewOwn (graph_parts names.old shelves.old links.old.items) }
+    ensures grown { AreGrown (graph_parts names.old shelves.old links.old.items)
+        (graph_parts names.new shelves.new links.new.items) }
     ensures brought { OnOk result (BringsShelves (item.now ∷ []) shelves.old shelves.new) }
     ensures none { OnErr result (BringsShelves [] shelves.old shelves.new) }
 {
@@ -81,15 +81,15 @@ fn place_missing(
     alloc: Global,
     item: &Item,
 ) -> Result<bool, NoMemory>
-    requires inside { AreInside (parts_of names.old shelves.old links.old.items) }
+    requires inside { AreInside (graph_parts names.old shelves.old links.old.items) }
     requires canon { IsCanonItem item.now }
-    requires few { HaveFewOwn (parts_of names.old shelves.old links.old.items) }
-    ensures grown { AreGrown (parts_of names.old shelves.old links.old.items)
-        (parts_of names.new shelves.new links.new.items) }
+    requires few { HaveFewOwn (graph_parts names.old shelves.old links.old.items) }
+    ensures grown { AreGrown (graph_parts names.old shelves.old links.old.items)
+        (graph_parts names.new shelves.new links.new.items) }
     ensures brought { IfOk result
         (λ comes. BringsShelves (if comes then item.now ∷ [] else []) shelves.old shelves.new) }
     ensures none { OnErr result (BringsShelves [] shelves.old shelves.new) }
-    ensures there { OnOk result (IsSome (place_of shelves.new item.now)) }
+    ensures there { OnOk result (IsSome (slot_of_item shelves.new item.now)) }
 {
     if shelves.places.contains_key(item) {
         return Ok(false);
@@ -108,17 +108,17 @@ pub(crate) fn place_items(
     changes: &[ItemChange],
     fresh: &mut Vec<bool>,
 ) -> Result<(), NoMemory>
-    requires inside { AreInside (parts_of names.old shelves.old links.old.items) }
-    requires canon { AllByRecursion IsCanonItem (items_of changes.now) }
-    requires few { HaveFewOwn (parts_of names.old shelves.old links.old.items) }
+    requires inside { AreInside (graph_parts names.old shelves.old links.old.items) }
+    requires canon { AllByRecursion IsCanonItem (items_changed changes.now) }
+    requires few { HaveFewOwn (graph_parts names.old shelves.old links.old.items) }
     requires none { fresh.old.items ≡ [] }
-    ensures grown { AreGrown (parts_of names.old shelves.old links.old.items)
-        (parts_of names.new shelves.new links.new.items) }
+    ensures grown { AreGrown (graph_parts names.old shelves.old links.old.items)
+        (graph_parts names.new shelves.new links.new.items) }
     ensures brought { BringsShelves
-        (flagged_items (items_of changes.now) fresh.new.items) shelves.old
+        (flagged_items (items_changed changes.now) fresh.new.items) shelves.old
         shelves.new }
     ensures there { OnOk result
-        (AllByRecursion (λ x. IsSome (place_of shelves.new x)) (items_of changes.now)) }
+        (AllByRecursion (λ x. IsSome (slot_of_item shelves.new x)) (items_changed changes.now)) }
     ensures long { length fresh.new.items ≤ length changes.now }
 {
     for change in changes {
@@ -133,7 +133,7 @@ pub(crate) fn place_items(
 fn take_shelf(names: &mut Pool<Identifier>, shelves: &mut Shelves, item: &Item, came: bool)
     requires inside { (links : List (Sides LinkSeen)) × IsInside names.old (get shelves.old.slots)
         shelves.old.places.entries links }
-    requires empty { came ≡ true → IsBare shelves.old item.now }
+    requires empty { came ≡ true → HasEmptyShelf shelves.old item.now }
     requires idle { came ≡ true → waits_on shelves.old item.now ≡ 0 }
     ensures less { IsLess names.old names.new shelves.old shelves.new }
     ensures taken { BringsShelves (if came then item.now ∷ [] else []) shelves.new shelves.old }
@@ -153,13 +153,13 @@ pub(crate) fn take_shelves(
     requires inside { (links : List (Sides LinkSeen)) × IsInside names.old (get shelves.old.slots)
         shelves.old.places.entries links }
     requires bare { AreBare shelves.old }
-    requires apart { IsDistinct same_item (items_of changes.now) }
+    requires apart { IsDistinct same_item (items_changed changes.now) }
     requires long { length fresh.now ≤ length changes.now }
-    requires brought { (first : Shelves) × (rows_of now first ≡ rows_of now shelves.old)
-        × BringsShelves (flagged_items (items_of changes.now) fresh.now) first shelves.old }
+    requires brought { (first : Shelves) × (rows_on_side now first ≡ rows_on_side now shelves.old)
+        × BringsShelves (flagged_items (items_changed changes.now) fresh.now) first shelves.old }
     ensures less { IsLess names.old names.new shelves.old shelves.new }
     ensures taken { (first : Shelves)
-        → BringsShelves (flagged_items (items_of changes.now) fresh.now) first shelves.old
+        → BringsShelves (flagged_items (items_changed changes.now) fresh.now) first shelves.old
         → BringsShelves [] first shelves.new }
 {
     for i in 0..fresh.len() {

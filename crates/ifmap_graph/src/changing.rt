@@ -10,7 +10,7 @@ ghost use Rattle.ifmap_plans.specs.Lists.{next_on};
 ghost use Rattle.ifmap_view.specs.Rows.{stored_on};
 ghost use Rattle.ifmap_graph.specs.declared.shelves.Shelf.{Shelf};
 ghost use Rattle.ifmap_graph.specs.Drafted.{AreBare, ends_at};
-ghost use Rattle.ifmap_graph.specs.Shelved.{AreShelved, HasDraft, HasNoDraft, place_of, rows_of};
+ghost use Rattle.ifmap_graph.specs.Shelved.{AreShelved, HasDraft, HasNoDraft, slot_of_item, rows_on_side};
 ghost use Rattle.ifmap_graph.specs.Sides.{next, now};
 ghost use Rattle.ifmap_graph.specs.Waits.{WaitsFor, waits_on};
 
@@ -110,10 +110,10 @@ impl Shelves {
         change: &ItemChange,
     ) -> Result<Box<RowList>, NoMemory>
         requires shelved { AreShelved self.old }
-        requires there { IsSome (place_of self.old change.now.item) }
+        requires there { IsSome (slot_of_item self.old change.now.item) }
         ensures next { IfOk result (λ list. list.value
             ≡ next_on change.now.removed change.now.added
-            (stored_on change.now.item (rows_of now self.old))) }
+            (stored_on change.now.item (rows_on_side now self.old))) }
         ensures same { self.new ≡ self.old }
     {
         let at = self.places[&change.item];
@@ -123,12 +123,12 @@ impl Shelves {
     /// What is to be stored on an item that has a shelf.
     pub fn propose(&mut self, item: &Item, list: Box<RowList>)
         requires shelved { AreShelved self.old }
-        requires there { IsSome (place_of self.old item.now) }
+        requires there { IsSome (slot_of_item self.old item.now) }
         ensures shelved { AreShelved self.new }
-        ensures now { rows_of now self.new ≡ rows_of now self.old }
-        ensures next { (x : Item) → stored_on x (rows_of next self.new)
+        ensures now { rows_on_side now self.new ≡ rows_on_side now self.old }
+        ensures next { (x : Item) → stored_on x (rows_on_side next self.new)
             ≡ (if is_at (item_order item.now) x then list.value
-            else stored_on x (rows_of next self.old)) }
+            else stored_on x (rows_on_side next self.old)) }
         ensures drafts { (x : Item) → HasDraft self.new x
             → HasDraft self.old x ⊎ (is_at (item_order item.now) x ≡ true) }
         ensures kept { (x : Item) → HasDraft self.old x → HasDraft self.new x }
@@ -146,11 +146,11 @@ impl Shelves {
         requires shelved { AreShelved self.old }
         requires drafted { HasDraft self.old item.now }
         ensures shelved { AreShelved self.new }
-        ensures next { rows_of next self.new ≡ rows_of next self.old }
-        ensures now { (x : Item) → stored_on x (rows_of now self.new)
-            ≡ stored_on x (if is_at (item_order item.now) x then rows_of next self.old
-            else rows_of now self.old) }
-        ensures old { result ≡ stored_on item.now (rows_of now self.old) }
+        ensures next { rows_on_side next self.new ≡ rows_on_side next self.old }
+        ensures now { (x : Item) → stored_on x (rows_on_side now self.new)
+            ≡ stored_on x (if is_at (item_order item.now) x then rows_on_side next self.old
+            else rows_on_side now self.old) }
+        ensures old { result ≡ stored_on item.now (rows_on_side now self.old) }
         ensures drafts { (x : Item) → HasDraft self.new x
             → HasDraft self.old x × (is_at (item_order item.now) x ≡ false) }
         ensures kept { (x : Item) → is_at (item_order item.now) x ≡ false → HasDraft self.old x
@@ -166,12 +166,12 @@ impl Shelves {
     /// What is stored on an item that has a shelf is what is to be.
     pub fn discard(&mut self, item: &Item)
         requires shelved { AreShelved self.old }
-        requires there { IsSome (place_of self.old item.now) }
+        requires there { IsSome (slot_of_item self.old item.now) }
         ensures shelved { AreShelved self.new }
-        ensures now { rows_of now self.new ≡ rows_of now self.old }
-        ensures next { (x : Item) → stored_on x (rows_of next self.new)
-            ≡ stored_on x (if is_at (item_order item.now) x then rows_of now self.old
-            else rows_of next self.old) }
+        ensures now { rows_on_side now self.new ≡ rows_on_side now self.old }
+        ensures next { (x : Item) → stored_on x (rows_on_side next self.new)
+            ≡ stored_on x (if is_at (item_order item.now) x then rows_on_side now self.old
+            else rows_on_side next self.old) }
         ensures drafts { (x : Item) → HasDraft self.new x
             → HasDraft self.old x × (is_at (item_order item.now) x ≡ false) }
         ensures ends { (at : ℕ) → ends_at self.new at ≡ ends_at self.old at }
@@ -185,14 +185,14 @@ impl Shelves {
     /// One change more that is out names an item that has a shelf.
     pub fn wait(&mut self, item: &Item)
         requires shelved { AreShelved self.old }
-        requires there { IsSome (place_of self.old item.now) }
+        requires there { IsSome (slot_of_item self.old item.now) }
         requires few { waits_on self.old item.now < 2 ^ 64 - 1 }
         ensures shelved { AreShelved self.new }
         ensures waits { WaitsFor (item.now ∷ []) self.old self.new }
         ensures drafts { (x : Item) → HasDraft self.new x → HasDraft self.old x }
         ensures kept { (x : Item) → HasDraft self.old x → HasDraft self.new x }
-        ensures now { rows_of now self.new ≡ rows_of now self.old }
-        ensures next { rows_of next self.new ≡ rows_of next self.old }
+        ensures now { rows_on_side now self.new ≡ rows_on_side now self.old }
+        ensures next { rows_on_side next self.new ≡ rows_on_side next self.old }
         ensures ends { (at : ℕ) → ends_at self.new at ≡ ends_at self.old at }
         ensures places { self.new.places ≡ self.old.places }
     {
@@ -203,14 +203,14 @@ impl Shelves {
     /// And one less. Gives how many are left.
     pub fn unwait(&mut self, item: &Item) -> u64
         requires shelved { AreShelved self.old }
-        requires there { IsSome (place_of self.old item.now) }
+        requires there { IsSome (slot_of_item self.old item.now) }
         requires waited { 0 < waits_on self.old item.now }
         ensures shelved { AreShelved self.new }
         ensures left { result ≡ waits_on self.new item.now }
         ensures waits { WaitsFor (item.now ∷ []) self.new self.old }
         ensures bare { AreBare self.old → AreBare self.new }
-        ensures now { rows_of now self.new ≡ rows_of now self.old }
-        ensures next { rows_of next self.new ≡ rows_of next self.old }
+        ensures now { rows_on_side now self.new ≡ rows_on_side now self.old }
+        ensures next { rows_on_side next self.new ≡ rows_on_side next self.old }
         ensures ends { (at : ℕ) → ends_at self.new at ≡ ends_at self.old at }
         ensures places { self.new.places ≡ self.old.places }
     {
@@ -223,13 +223,13 @@ impl Shelves {
         requires shelved { AreShelved self.old }
         requires drafted { HasNoDraft self.old item.now }
         ensures shelved { AreShelved self.new }
-        ensures now { (x : Item) → stored_on x (rows_of now self.new)
+        ensures now { (x : Item) → stored_on x (rows_on_side now self.new)
             ≡ (if is_at (item_order item.now) x then list.old
-            else stored_on x (rows_of now self.old)) }
-        ensures next { (x : Item) → stored_on x (rows_of next self.new)
+            else stored_on x (rows_on_side now self.old)) }
+        ensures next { (x : Item) → stored_on x (rows_on_side next self.new)
             ≡ (if is_at (item_order item.now) x then list.old
-            else stored_on x (rows_of next self.old)) }
-        ensures old { list.new ≡ stored_on item.now (rows_of now self.old) }
+            else stored_on x (rows_on_side next self.old)) }
+        ensures old { list.new ≡ stored_on item.now (rows_on_side now self.old) }
         ensures bare { AreBare self.old → AreBare self.new }
         ensures ends { (at : ℕ) → ends_at self.new at ≡ ends_at self.old at }
         ensures waits { (x : Item) → waits_on self.new x ≡ waits_on self.old x }

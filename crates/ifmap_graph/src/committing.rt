@@ -2,9 +2,9 @@
 ghost use Rattle.std.specs.Prelude.{◌≡◌, ℕ, [], map};
 ghost use Rattle.ifmap_view.specs.Rows.{stored_on};
 ghost use Rattle.ifmap_graph.specs.Held.{links_at};
-ghost use Rattle.ifmap_graph.specs.Back.{IsWayBack};
-ghost use Rattle.ifmap_graph.specs.Out.{IsOut, items_of};
-ghost use Rattle.ifmap_graph.specs.Seen.{Awaits, AwaitsMore, IsStill, KeepsOwn, StaysLean, links_now, rows_now};
+ghost use Rattle.ifmap_graph.specs.Back.{IsUndoTo};
+ghost use Rattle.ifmap_graph.specs.Out.{IsOut, items_changed};
+ghost use Rattle.ifmap_graph.specs.Seen.{AreAwaited, AwaitsMore, IsStill, KeepsOwn, StaysLean, links_now, rows_now};
 ghost use Rattle.ifmap_graph.specs.Shelved.{list_at, rows_by};
 ghost use Rattle.ifmap_graph.specs.Sides.{next, now};
 ghost use Rattle.ifmap_graph.specs.Turning.{backs};
@@ -28,13 +28,13 @@ impl Graph {
         ensures still { IsStill self.new }
         ensures own { KeepsOwn self.old self.new }
         ensures waits { AwaitsMore [] self.old self.new }
-        ensures lean { Awaits (items_of ready.plan.changes) self.old
+        ensures lean { AreAwaited (items_changed ready.plan.changes) self.old
             → StaysLean self.old self.new }
         ensures plan { result.plan ≡ ready.plan }
         ensures lists { result.lists ≡ map
             (λ c. stored_on c.item (rows_by (list_at now) self.old.shelves)) ready.plan.changes }
         ensures ways { result.ways ≡ backs ready.ways self.old.links }
-        ensures back { Awaits (items_of ready.plan.changes) self.old → IsWayBack result
+        ensures back { AreAwaited (items_changed ready.plan.changes) self.old → IsUndoTo result
             (rows_now self.old) (links_now self.old) self.new }
     {
         let mut lists = ready.lists;

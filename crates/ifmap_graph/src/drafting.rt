@@ -12,10 +12,10 @@ ghost use Rattle.ifmap_pool.specs.Holdings.{Holdings};
 ghost use Rattle.ifmap_view.specs.Rows.{stored_on};
 ghost use Rattle.ifmap_graph.specs.Drafted.{AreBare, AreOut, DraftsWithin, ends_at};
 ghost use Rattle.ifmap_graph.specs.Held.{IsInside};
-ghost use Rattle.ifmap_graph.specs.Out.{items_of};
-ghost use Rattle.ifmap_graph.specs.Shelved.{AreShelved, HasDraft, place_of, rows_of};
+ghost use Rattle.ifmap_graph.specs.Out.{items_changed};
+ghost use Rattle.ifmap_graph.specs.Shelved.{AreShelved, HasDraft, slot_of_item, rows_on_side};
 ghost use Rattle.ifmap_graph.specs.Sides.{next, now};
-ghost use Rattle.ifmap_graph.specs.Touched.{AreReady, KeepsLinks};
+ghost use Rattle.ifmap_graph.specs.Touched.{AreExactlyDrafted, KeepsLinks};
 ghost use Rattle.ifmap_graph.specs.Turning.{sides_at};
 ghost use Rattle.ifmap_graph.specs.Waits.{WaitsFor, waits_on};
 
@@ -32,14 +32,14 @@ use std::alloc::{AllocError as NoMemory, Global};
 // The draft of one item that has a shelf.
 fn draft_one(shelves: &mut Shelves, alloc: Global, change: &ItemChange) -> Result<(), NoMemory>
     requires shelved { AreShelved shelves.old }
-    requires there { IsSome (place_of shelves.old change.now.item) }
+    requires there { IsSome (slot_of_item shelves.old change.now.item) }
     ensures shelved { AreShelved shelves.new }
-    ensures now { rows_of now shelves.new ≡ rows_of now shelves.old }
-    ensures next { OnOk result ((x : Item) → stored_on x (rows_of next shelves.new)
+    ensures now { rows_on_side now shelves.new ≡ rows_on_side now shelves.old }
+    ensures next { OnOk result ((x : Item) → stored_on x (rows_on_side next shelves.new)
         ≡ (if is_at (item_order change.now.item) x
         then next_on change.now.removed change.now.added
-        (stored_on change.now.item (rows_of now shelves.old))
-        else stored_on x (rows_of next shelves.old))) }
+        (stored_on change.now.item (rows_on_side now shelves.old))
+        else stored_on x (rows_on_side next shelves.old))) }
     ensures drafts { (x : Item) → HasDraft shelves.new x
         → HasDraft shelves.old x ⊎ (is_at (item_order change.now.item) x ≡ true) }
     ensures kept { (x : Item) → HasDraft shelves.old x → HasDraft shelves.new x }
@@ -62,14 +62,14 @@ pub(crate) fn draft_changes(
 ) -> Result<(), NoMemory>
     requires shelved { AreShelved shelves.old }
     requires bare { AreBare shelves.old }
-    requires there { AllByRecursion (λ x. IsSome (place_of shelves.old x)) (items_of changes.now) }
-    requires fits { Fits (rows_of now shelves.old) changes.now }
+    requires there { AllByRecursion (λ x. IsSome (slot_of_item shelves.old x)) (items_changed changes.now) }
+    requires fits { Fits (rows_on_side now shelves.old) changes.now }
     ensures shelved { AreShelved shelves.new }
-    ensures now { rows_of now shelves.new ≡ rows_of now shelves.old }
+    ensures now { rows_on_side now shelves.new ≡ rows_on_side now shelves.old }
     ensures next { OnOk result
-        (IsAfter changes.now (rows_of now shelves.old) (rows_of next shelves.new)) }
-    ensures within { DraftsWithin (items_of changes.now) shelves.new }
-    ensures out { OnOk result (AreOut (items_of changes.now) shelves.new) }
+        (IsAfter changes.now (rows_on_side now shelves.old) (rows_on_side next shelves.new)) }
+    ensures within { DraftsWithin (items_changed changes.now) shelves.new }
+    ensures out { OnOk result (AreOut (items_changed changes.now) shelves.new) }
     ensures ends { (at : ℕ) → ends_at shelves.new at ≡ ends_at shelves.old at }
     ensures waits { (x : Item) → waits_on shelves.new x ≡ waits_on shelves.old x }
     ensures places { shelves.new.places ≡ shelves.old.places }
@@ -93,20 +93,20 @@ pub(crate) fn draft_plan(
         shelves.old.places.entries links.old.items }
     requires bare { AreBare shelves.old }
     requires none { (v : ℕ) → (sides_at links.old.items v).draft ≡ None }
-    requires ready { AreReady ways.old.items links.old.items }
-    requires there { AllByRecursion (λ x. IsSome (place_of shelves.old x)) (items_of changes.now) }
-    requires fits { Fits (rows_of now shelves.old) changes.now }
+    requires ready { AreExactlyDrafted ways.old.items links.old.items }
+    requires there { AllByRecursion (λ x. IsSome (slot_of_item shelves.old x)) (items_changed changes.now) }
+    requires fits { Fits (rows_on_side now shelves.old) changes.now }
     ensures shelved { AreShelved shelves.new }
     ensures inside { OnOk result ((names : Holdings Identifier)
         → IsInside names (get shelves.old.slots) shelves.old.places.entries links.old.items
         → IsInside names (get shelves.new.slots) shelves.new.places.entries links.new.items) }
-    ensures now { rows_of now shelves.new ≡ rows_of now shelves.old }
+    ensures now { rows_on_side now shelves.new ≡ rows_on_side now shelves.old }
     ensures next { OnOk result
-        (IsAfter changes.now (rows_of now shelves.old) (rows_of next shelves.new)) }
-    ensures within { DraftsWithin (items_of changes.now) shelves.new }
-    ensures out { OnOk result (AreOut (items_of changes.now) shelves.new) }
+        (IsAfter changes.now (rows_on_side now shelves.old) (rows_on_side next shelves.new)) }
+    ensures within { DraftsWithin (items_changed changes.now) shelves.new }
+    ensures out { OnOk result (AreOut (items_changed changes.now) shelves.new) }
     ensures links { KeepsLinks links.old.items links.new.items }
-    ensures ready { AreReady ways.new.items links.new.items }
+    ensures ready { AreExactlyDrafted ways.new.items links.new.items }
     ensures ends { (at : ℕ) → ends_at shelves.new at ≡ ends_at shelves.old at }
     ensures waits { (x : Item) → waits_on shelves.new x ≡ waits_on shelves.old x }
     ensures places { shelves.new.places ≡ shelves.old.places }
@@ -128,22 +128,22 @@ pub(crate) fn draft_and_wait(
         shelves.old.places.entries links.old.items }
     requires bare { AreBare shelves.old }
     requires none { (v : ℕ) → (sides_at links.old.items v).draft ≡ None }
-    requires ready { AreReady ways.old.items links.old.items }
-    requires there { AllByRecursion (λ x. IsSome (place_of shelves.old x)) (items_of changes.now) }
-    requires fits { Fits (rows_of now shelves.old) changes.now }
+    requires ready { AreExactlyDrafted ways.old.items links.old.items }
+    requires there { AllByRecursion (λ x. IsSome (slot_of_item shelves.old x)) (items_changed changes.now) }
+    requires fits { Fits (rows_on_side now shelves.old) changes.now }
     ensures shelved { AreShelved shelves.new }
     ensures inside { OnOk result ((names : Holdings Identifier)
         → IsInside names (get shelves.old.slots) shelves.old.places.entries links.old.items
         → IsInside names (get shelves.new.slots) shelves.new.places.entries links.new.items) }
-    ensures now { rows_of now shelves.new ≡ rows_of now shelves.old }
+    ensures now { rows_on_side now shelves.new ≡ rows_on_side now shelves.old }
     ensures next { OnOk result
-        (IsAfter changes.now (rows_of now shelves.old) (rows_of next shelves.new)) }
-    ensures within { DraftsWithin (items_of changes.now) shelves.new }
-    ensures out { OnOk result (AreOut (items_of changes.now) shelves.new) }
-    ensures waited { OnOk result (WaitsFor (items_of changes.now) shelves.old shelves.new) }
+        (IsAfter changes.now (rows_on_side now shelves.old) (rows_on_side next shelves.new)) }
+    ensures within { DraftsWithin (items_changed changes.now) shelves.new }
+    ensures out { OnOk result (AreOut (items_changed changes.now) shelves.new) }
+    ensures waited { OnOk result (WaitsFor (items_changed changes.now) shelves.old shelves.new) }
     ensures waits { OnErr result ((x : Item) → waits_on shelves.new x ≡ waits_on shelves.old x) }
     ensures links { KeepsLinks links.old.items links.new.items }
-    ensures ready { AreReady ways.new.items links.new.items }
+    ensures ready { AreExactlyDrafted ways.new.items links.new.items }
     ensures ends { (at : ℕ) → ends_at shelves.new at ≡ ends_at shelves.old at }
     ensures places { shelves.new.places ≡ shelves.old.places }
 {
@@ -163,13 +163,13 @@ pub(crate) fn drop_plan(
     ways: &[Way<LinkSeen>],
 )
     requires shelved { AreShelved shelves.old }
-    requires there { AllByRecursion (λ x. IsSome (place_of shelves.old x)) (items_of changes.now) }
-    requires within { DraftsWithin (items_of changes.now) shelves.old }
-    requires ready { AreReady ways.now links.old.items }
+    requires there { AllByRecursion (λ x. IsSome (slot_of_item shelves.old x)) (items_changed changes.now) }
+    requires within { DraftsWithin (items_changed changes.now) shelves.old }
+    requires ready { AreExactlyDrafted ways.now links.old.items }
     ensures shelved { AreShelved shelves.new }
     ensures bare { AreBare shelves.new }
-    ensures now { rows_of now shelves.new ≡ rows_of now shelves.old }
-    ensures next { rows_of next shelves.new ≡ rows_of now shelves.old }
+    ensures now { rows_on_side now shelves.new ≡ rows_on_side now shelves.old }
+    ensures next { rows_on_side next shelves.new ≡ rows_on_side now shelves.old }
     ensures links { KeepsLinks links.old.items links.new.items }
     ensures none { (v : ℕ) → (sides_at links.new.items v).draft ≡ None }
     ensures ends { (at : ℕ) → ends_at shelves.new at ≡ ends_at shelves.old at }

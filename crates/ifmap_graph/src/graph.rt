@@ -5,7 +5,7 @@ ghost use Rattle.ifmap_ident.specs.Identifiers.{identifier_bytes, identifier_ord
 ghost use Rattle.ifmap_pool.specs.Holdings.{IsPool, Names, key_at};
 ghost use Rattle.ifmap_graph.specs.Counted.{AreSoMany, count_links};
 ghost use Rattle.ifmap_graph.specs.Held.{IsOwn, links_at};
-ghost use Rattle.ifmap_graph.specs.Seen.{AreUsed, HasNumber, IsLean, IsStill, links_next, links_now, rows_next, rows_now};
+ghost use Rattle.ifmap_graph.specs.Seen.{AreUsed, HasPoolNumber, IsLean, IsStill, links_next, links_now, rows_next, rows_now};
 ghost use Rattle.ifmap_graph.specs.Shelved.{list_at, rows_by};
 ghost use Rattle.ifmap_graph.specs.Sides.{next, now};
 ghost use Rattle.ifmap_view.specs.Rows.{stored_linked, stored_on};
@@ -149,7 +149,7 @@ impl Graph {
     /// How many identifiers have a number. Where nothing is out or left behind, these are the
     /// identifiers that stand in an item with an attachment or that others hold.
     pub fn identifiers(&self) -> u64
-        ensures count { AreSoMany result (HasNumber self.now) }
+        ensures count { AreSoMany result (HasPoolNumber self.now) }
         ensures used { IsLean [] self.now → AreUsed self.now }
     {
         bytes_tell_identifiers_apart();

@@ -6,7 +6,7 @@ ghost use Rattle.slab.specs.Slab.{get};
 ghost use Rattle.ifmap_view.specs.declared.views.LinkSeen.{LinkSeen};
 ghost use Rattle.ifmap_graph.specs.Joined.{joined_pair, two_of};
 ghost use Rattle.ifmap_graph.specs.Linked.{far_of, seen_at};
-ghost use Rattle.ifmap_graph.specs.Touched.{AreReady, ArePairs, KeepsLinks, begun_draft, brought_link, differ, draft_of, flip_in, flip_of, full_next, full_now, links_kept, touched_draft};
+ghost use Rattle.ifmap_graph.specs.Touched.{AreExactlyDrafted, ArePairs, KeepsLinks, begun_draft, brought_link, differ, draft_of, flip_in, flip_of, full_next, full_now, links_kept, touched_draft};
 ghost use Rattle.ifmap_graph.specs.Turning.{sides_at};
 
 use crate::ends::Ends;
@@ -184,8 +184,8 @@ fn begin_draft(
     ways: &mut Vec<Way<LinkSeen>>,
 ) -> Result<(), NoMemory>
     requires place { place < length links.old.items }
-    requires ready { AreReady ways.old.items links.old.items }
-    ensures ready { AreReady ways.new.items links.new.items }
+    requires ready { AreExactlyDrafted ways.old.items links.old.items }
+    ensures ready { AreExactlyDrafted ways.new.items links.new.items }
     ensures kept { KeepsLinks links.old.items links.new.items }
     ensures others { (v : ℕ) → v ≢ place
         → sides_at links.new.items v ≡ sides_at links.old.items v }
@@ -219,8 +219,8 @@ fn add_link(links: &mut Vec<Sided<LinkSeen>>, place: usize, seen: LinkSeen) -> R
     ensures kept { KeepsLinks links.old.items links.new.items }
     ensures others { (v : ℕ) → v ≢ place
         → sides_at links.new.items v ≡ sides_at links.old.items v }
-    ensures ready { (ways : List (ℕ × List LinkSeen)) → AreReady ways links.old.items
-        → AreReady ways links.new.items }
+    ensures ready { (ways : List (ℕ × List LinkSeen)) → AreExactlyDrafted ways links.old.items
+        → AreExactlyDrafted ways links.new.items }
     ensures ok { OnOk result ((list : List LinkSeen)
         → (sides_at links.old.items place).draft ≡ Some list
         → (sides_at links.new.items place).draft ≡ Some (list ++ seen ∷ [])) }
@@ -239,8 +239,8 @@ fn touch_number(
     ways: &mut Vec<Way<LinkSeen>>,
 ) -> Result<(), NoMemory>
     requires place { place < length links.old.items }
-    requires ready { AreReady ways.old.items links.old.items }
-    ensures ready { AreReady ways.new.items links.new.items }
+    requires ready { AreExactlyDrafted ways.old.items links.old.items }
+    ensures ready { AreExactlyDrafted ways.new.items links.new.items }
     ensures kept { KeepsLinks links.old.items links.new.items }
     ensures others { (v : ℕ) → v ≢ place
         → sides_at links.new.items v ≡ sides_at links.old.items v }
@@ -264,8 +264,8 @@ fn touch_slot(
     ways: &mut Vec<Way<LinkSeen>>,
 ) -> Result<(), NoMemory>
     requires pairs { ArePairs slots.now (length links.old.items) }
-    requires ready { AreReady ways.old.items links.old.items }
-    ensures ready { AreReady ways.new.items links.new.items }
+    requires ready { AreExactlyDrafted ways.old.items links.old.items }
+    ensures ready { AreExactlyDrafted ways.new.items links.new.items }
     ensures kept { KeepsLinks links.old.items links.new.items }
     ensures ok { OnOk result ((v : ℕ) → (sides_at links.new.items v).draft
         ≡ touched_draft slots.now at v (sides_at links.old.items v)) }
@@ -287,9 +287,9 @@ pub(crate) fn touch_slots(
     ways: &mut Vec<Way<LinkSeen>>,
 ) -> Result<(), NoMemory>
     requires pairs { ArePairs slots.now (length links.old.items) }
-    requires ready { AreReady ways.old.items links.old.items }
+    requires ready { AreExactlyDrafted ways.old.items links.old.items }
     requires bare { (v : ℕ) → (sides_at links.old.items v).draft ≡ None }
-    ensures ready { AreReady ways.new.items links.new.items }
+    ensures ready { AreExactlyDrafted ways.new.items links.new.items }
     ensures kept { KeepsLinks links.old.items links.new.items }
     ensures ok { OnOk result ((v : ℕ) → (sides_at links.new.items v).draft
         ≡ draft_of slots.now touched.now v (sides_at links.old.items v).now) }
@@ -313,7 +313,7 @@ fn drop_draft(links: &mut Vec<Sided<LinkSeen>>, place: usize)
 
 /// The drafts of links go.
 pub(crate) fn drop_drafts(links: &mut Vec<Sided<LinkSeen>>, ways: &[Way<LinkSeen>])
-    requires { AreReady ways.now links.old.items }
+    requires { AreExactlyDrafted ways.now links.old.items }
     ensures kept { KeepsLinks links.old.items links.new.items }
     ensures bare { (v : ℕ) → (sides_at links.new.items v).draft ≡ None }
 {

@@ -12,7 +12,7 @@ ghost use Rattle.ifmap_graph.specs.Bringing.{BringsShelves};
 ghost use Rattle.ifmap_graph.specs.Drafted.{AreBare};
 ghost use Rattle.ifmap_graph.specs.Held.{IsInside};
 ghost use Rattle.ifmap_graph.specs.Named.{named_by, named_in};
-ghost use Rattle.ifmap_graph.specs.Shelved.{IsBare, Side, place_of, rows_of};
+ghost use Rattle.ifmap_graph.specs.Shelved.{HasEmptyShelf, StoredSide, slot_of_item, rows_on_side};
 ghost use Rattle.ifmap_graph.specs.Sides.{Sides, next, now};
 ghost use Rattle.ifmap_graph.specs.Turning.{sides_at};
 ghost use Rattle.ifmap_graph.specs.Waits.{waits_on};
@@ -55,14 +55,14 @@ pub(crate) fn place_shelf(
         shelves.old.places.entries links }
     requires canon { IsCanonItem item }
     requires same { ends ≡ item }
-    requires absent { place_of shelves.old item ≡ None }
+    requires absent { slot_of_item shelves.old item ≡ None }
     requires room { 2 ≤ names.old.spare }
     requires few { (v : ℕ) → holds_at names.old v < 2 ^ 64 - 2 }
     ensures inside { (links : List (Sides LinkSeen)) → names.old.limit ≤ length links
         → IsInside names.old (get shelves.old.slots) shelves.old.places.entries links
         → IsInside names.new (get shelves.new.slots) shelves.new.places.entries links }
-    ensures rows { (side : Side) → side (record { now = []; draft = None }) ≡ []
-        → rows_of side shelves.new ≡ rows_of side shelves.old }
+    ensures rows { (side : StoredSide) → side (record { now = []; draft = None }) ≡ []
+        → rows_on_side side shelves.new ≡ rows_on_side side shelves.old }
     ensures held { OnOk result ((a : Identifier) (count : ℕ)
         → IsHeld identifier_order names.old a count
         → IsHeld identifier_order names.new a (count + named_by item a)) }
@@ -93,7 +93,7 @@ pub(crate) fn place_shelf(
 pub(crate) fn remove_shelf(names: &mut Pool<Identifier>, shelves: &mut Shelves, item: &Item)
     requires inside { (links : List (Sides LinkSeen)) × IsInside names.old (get shelves.old.slots)
         shelves.old.places.entries links }
-    requires empty { IsBare shelves.old item.now }
+    requires empty { HasEmptyShelf shelves.old item.now }
     ensures inside { (links : List (Sides LinkSeen))
         → IsInside names.old (get shelves.old.slots) shelves.old.places.entries links
         → IsInside names.new (get shelves.new.slots) shelves.new.places.entries links }
@@ -102,13 +102,13 @@ pub(crate) fn remove_shelf(names: &mut Pool<Identifier>, shelves: &mut Shelves, 
         → IsHeld identifier_order names.new a (named_in shelves.new.places.entries a + own) }
     ensures named { (v : ℕ) (a : Identifier) → Names identifier_order names.new v a
         → Names identifier_order names.old v a }
-    ensures now { rows_of now shelves.new ≡ rows_of now shelves.old }
-    ensures next { rows_of next shelves.new ≡ rows_of next shelves.old }
-    ensures before { (x : Item) (at : ℕ) → place_of shelves.new x ≡ Some at
-        → (place_of shelves.old x ≡ Some at)
+    ensures now { rows_on_side now shelves.new ≡ rows_on_side now shelves.old }
+    ensures next { rows_on_side next shelves.new ≡ rows_on_side next shelves.old }
+    ensures before { (x : Item) (at : ℕ) → slot_of_item shelves.new x ≡ Some at
+        → (slot_of_item shelves.old x ≡ Some at)
         × (get shelves.new.slots at ≡ get shelves.old.slots at) }
     ensures others { (x : Item) → is_at (item_order item.now) x ≡ false
-        → place_of shelves.new x ≡ place_of shelves.old x }
+        → slot_of_item shelves.new x ≡ slot_of_item shelves.old x }
     ensures taken { waits_on shelves.old item.now ≡ 0
         → BringsShelves (item.now ∷ []) shelves.new shelves.old }
 {

@@ -5,7 +5,7 @@ ghost use Rattle.ifmap_ident.specs.declared.items.Item.{Item};
 ghost use Rattle.ifmap_view.specs.declared.views.LinkSeen.{LinkSeen};
 ghost use Rattle.ifmap_graph.specs.Drafted.{AreBare};
 ghost use Rattle.ifmap_graph.specs.Held.{IsInside};
-ghost use Rattle.ifmap_graph.specs.Out.{items_of};
+ghost use Rattle.ifmap_graph.specs.Out.{items_changed};
 ghost use Rattle.ifmap_graph.specs.Releasing.{AreFilled, IsLess};
 ghost use Rattle.ifmap_graph.specs.Sides.{Sides};
 ghost use Rattle.ifmap_graph.specs.Waits.{AreWaited, WaitsFor, waits_on};
@@ -44,9 +44,9 @@ pub(crate) fn release_items(
     requires inside { (links : List (Sides LinkSeen)) × IsInside names.old (get shelves.old.slots)
         shelves.old.places.entries links }
     requires bare { AreBare shelves.old }
-    requires waits { AreWaited (items_of changes.now) (waits_on shelves.old) }
+    requires waits { AreWaited (items_changed changes.now) (waits_on shelves.old) }
     ensures less { IsLess names.old names.new shelves.old shelves.new }
-    ensures waits { WaitsFor (items_of changes.now) shelves.new shelves.old }
+    ensures waits { WaitsFor (items_changed changes.now) shelves.new shelves.old }
     ensures filled { AreFilled shelves.old → AreFilled shelves.new }
 {
     for change in changes {

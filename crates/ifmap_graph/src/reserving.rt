@@ -4,14 +4,14 @@ ghost use Rattle.std.specs.List.{AllByRecursion};
 ghost use Rattle.ifmap_plans.specs.Plans.{Fits, IsAfter};
 ghost use Rattle.ifmap_graph.specs.declared.shelves.Shelves.{Shelves};
 ghost use Rattle.ifmap_graph.specs.Back.{KeepsBacks, KeepsOtherBacks};
-ghost use Rattle.ifmap_graph.specs.Bringing.{AreGrown, AreInside, BringsShelves, HaveFewOwn, Parts, flagged_items, parts_of};
+ghost use Rattle.ifmap_graph.specs.Bringing.{AreGrown, AreInside, BringsShelves, HaveFewOwn, Parts, flagged_items, graph_parts};
 ghost use Rattle.ifmap_graph.specs.Drafted.{AreBare};
 ghost use Rattle.ifmap_graph.specs.Making.{IsMade, IsUnmade};
-ghost use Rattle.ifmap_graph.specs.Out.{IsOut, items_of};
-ghost use Rattle.ifmap_graph.specs.Seen.{Awaits, AwaitsLess, AwaitsMore, BringsNoNumbers, HasFewOwn, IsSeenSame, IsStill, KeepsNumbers, KeepsOwn, StaysLeanWith, StaysLeanWithout, links_now, rows_next, rows_now};
-ghost use Rattle.ifmap_graph.specs.Shelved.{place_of, rows_of};
+ghost use Rattle.ifmap_graph.specs.Out.{IsOut, items_changed};
+ghost use Rattle.ifmap_graph.specs.Seen.{AreAwaited, AwaitsLess, AwaitsMore, BringsNoNumbers, HasFewOwn, IsSeenSame, IsStill, KeepsNumbers, KeepsOwn, StaysLeanWith, StaysLeanWithout, links_now, rows_next, rows_now};
+ghost use Rattle.ifmap_graph.specs.Shelved.{slot_of_item, rows_on_side};
 ghost use Rattle.ifmap_graph.specs.Sides.{now};
-ghost use Rattle.ifmap_graph.specs.Touched.{AreReady};
+ghost use Rattle.ifmap_graph.specs.Touched.{AreExactlyDrafted};
 ghost use Rattle.ifmap_graph.specs.Turning.{sides_at};
 
 use crate::bringing::{place_items, take_shelves};
@@ -58,28 +58,28 @@ fn draft_or_take(
     coming: &Coming<'_>,
     ways: &mut Vec<Way<LinkSeen>>,
 ) -> Result<(), NoMemory>
-    requires inside { AreInside (parts_of names.old shelves.old links.old.items) }
+    requires inside { AreInside (graph_parts names.old shelves.old links.old.items) }
     requires bare { AreBare shelves.old }
     requires none { (v : ℕ) → (sides_at links.old.items v).draft ≡ None }
-    requires ready { AreReady ways.old.items links.old.items }
-    requires there { AllByRecursion (λ x. IsSome (place_of shelves.old x))
-        (items_of coming.now.changes.now) }
-    requires fits { Fits (rows_of now shelves.old) coming.now.changes.now }
+    requires ready { AreExactlyDrafted ways.old.items links.old.items }
+    requires there { AllByRecursion (λ x. IsSome (slot_of_item shelves.old x))
+        (items_changed coming.now.changes.now) }
+    requires fits { Fits (rows_on_side now shelves.old) coming.now.changes.now }
     requires long { length coming.now.fresh.now ≤ length coming.now.changes.now }
-    requires brought { (first : Shelves) × (rows_of now first ≡ rows_of now shelves.old)
-        × BringsShelves (flagged_items (items_of coming.now.changes.now) coming.now.fresh.now)
+    requires brought { (first : Shelves) × (rows_on_side now first ≡ rows_on_side now shelves.old)
+        × BringsShelves (flagged_items (items_changed coming.now.changes.now) coming.now.fresh.now)
         first shelves.old }
     ensures made { OnOk result ((first : Parts)
-        → AreGrown first (parts_of names.old shelves.old links.old.items)
-        → BringsShelves (flagged_items (items_of coming.now.changes.now) coming.now.fresh.now)
+        → AreGrown first (graph_parts names.old shelves.old links.old.items)
+        → BringsShelves (flagged_items (items_changed coming.now.changes.now) coming.now.fresh.now)
         first.shelves shelves.old
         → IsMade coming.now.changes.now ways.new.items first
-        (parts_of names.new shelves.new links.new.items)) }
+        (graph_parts names.new shelves.new links.new.items)) }
     ensures unmade { OnErr result ((first : Parts) → AreInside first
-        → AreGrown first (parts_of names.old shelves.old links.old.items)
-        → BringsShelves (flagged_items (items_of coming.now.changes.now) coming.now.fresh.now)
+        → AreGrown first (graph_parts names.old shelves.old links.old.items)
+        → BringsShelves (flagged_items (items_changed coming.now.changes.now) coming.now.fresh.now)
         first.shelves shelves.old
-        → IsUnmade first (parts_of names.new shelves.new links.new.items)) }
+        → IsUnmade first (graph_parts names.new shelves.new links.new.items)) }
 {
     match draft_and_wait(shelves, links, alloc, coming.changes, ways) {
         Ok(()) => Ok(()),
@@ -100,17 +100,17 @@ fn make_ready(
     changes: &[ItemChange],
     ways: &mut Vec<Way<LinkSeen>>,
 ) -> Result<(), NoMemory>
-    requires inside { AreInside (parts_of names.old shelves.old links.old.items) }
+    requires inside { AreInside (graph_parts names.old shelves.old links.old.items) }
     requires bare { AreBare shelves.old }
     requires none { (v : ℕ) → (sides_at links.old.items v).draft ≡ None }
-    requires few { HaveFewOwn (parts_of names.old shelves.old links.old.items) }
-    requires fits { Fits (rows_of now shelves.old) changes.now }
+    requires few { HaveFewOwn (graph_parts names.old shelves.old links.old.items) }
+    requires fits { Fits (rows_on_side now shelves.old) changes.now }
     requires empty { ways.old.items ≡ [] }
     ensures made { OnOk result (IsMade changes.now ways.new.items
-        (parts_of names.old shelves.old links.old.items)
-        (parts_of names.new shelves.new links.new.items)) }
-    ensures unmade { OnErr result (IsUnmade (parts_of names.old shelves.old links.old.items)
-        (parts_of names.new shelves.new links.new.items)) }
+        (graph_parts names.old shelves.old links.old.items)
+        (graph_parts names.new shelves.new links.new.items)) }
+    ensures unmade { OnErr result (IsUnmade (graph_parts names.old shelves.old links.old.items)
+        (graph_parts names.new shelves.new links.new.items)) }
 {
     let mut fresh = Vec::new(alloc);
     match place_items(names, shelves, links, alloc, changes, &mut fresh) {
@@ -142,8 +142,8 @@ impl Graph {
         ensures links { (v : ℕ) → links_now self.new v ≡ links_now self.old v }
         ensures numbers { KeepsNumbers self.old self.new }
         ensures own { KeepsOwn self.old self.new }
-        ensures waits { OnOk result (AwaitsMore (items_of plan.changes) self.old self.new) }
-        ensures lean { OnOk result (StaysLeanWith (items_of plan.changes) self.old self.new) }
+        ensures waits { OnOk result (AwaitsMore (items_changed plan.changes) self.old self.new) }
+        ensures lean { OnOk result (StaysLeanWith (items_changed plan.changes) self.old self.new) }
         ensures backs { KeepsBacks self.old self.new }
         ensures still { OnErr result (IsStill self.new) }
         ensures err { OnErr result (IsSeenSame self.old self.new) }
@@ -169,15 +169,15 @@ impl Graph {
     /// Gives up a plan that is out. It takes no memory.
     pub fn forget(&mut self, ready: Ready)
         requires out { IsOut ready self.old }
-        requires waits { Awaits (items_of ready.plan.changes) self.old }
+        requires waits { AreAwaited (items_changed ready.plan.changes) self.old }
         ensures still { IsStill self.new }
         ensures now { rows_now self.new ≡ rows_now self.old }
         ensures links { (v : ℕ) → links_now self.new v ≡ links_now self.old v }
         ensures numbers { BringsNoNumbers self.old self.new }
         ensures own { KeepsOwn self.old self.new }
-        ensures waits { AwaitsLess (items_of ready.plan.changes) self.old self.new }
-        ensures lean { StaysLeanWithout (items_of ready.plan.changes) self.old self.new }
-        ensures backs { KeepsOtherBacks (items_of ready.plan.changes) self.old self.new }
+        ensures waits { AwaitsLess (items_changed ready.plan.changes) self.old self.new }
+        ensures lean { StaysLeanWithout (items_changed ready.plan.changes) self.old self.new }
+        ensures backs { KeepsOtherBacks (items_changed ready.plan.changes) self.old self.new }
     {
         drop_plan(
             &mut self.shelves,

@@ -1,8 +1,8 @@
 //! A change that was made stays: its items are waited for no longer, and shelves that are empty go.
 ghost use Rattle.std.specs.Prelude.{◌≡◌, ℕ};
 ghost use Rattle.ifmap_graph.specs.Back.{KeepsOtherBacks};
-ghost use Rattle.ifmap_graph.specs.Out.{IsOut, items_of};
-ghost use Rattle.ifmap_graph.specs.Seen.{Awaits, AwaitsLess, BringsNoNumbers, IsStill, KeepsOwn, StaysLeanWithout, links_next, links_now, rows_next, rows_now};
+ghost use Rattle.ifmap_graph.specs.Out.{IsOut, items_changed};
+ghost use Rattle.ifmap_graph.specs.Seen.{AreAwaited, AwaitsLess, BringsNoNumbers, IsStill, KeepsOwn, StaysLeanWithout, links_next, links_now, rows_next, rows_now};
 ghost use Rattle.ifmap_graph.specs.Stays.{StayPlaced};
 
 use crate::changes::{Ready, Undo};
@@ -16,17 +16,17 @@ impl Graph {
     // for go. It takes no memory.
     pub(crate) fn release_waits(&mut self, changes: &[ItemChange])
         requires still { IsStill self.old }
-        requires waits { Awaits (items_of changes.now) self.old }
+        requires waits { AreAwaited (items_changed changes.now) self.old }
         ensures now { rows_now self.new ≡ rows_now self.old }
         ensures next { rows_next self.new ≡ rows_next self.old }
         ensures links { self.new.links ≡ self.old.links }
         ensures still { IsStill self.new }
         ensures numbers { BringsNoNumbers self.old self.new }
         ensures own { KeepsOwn self.old self.new }
-        ensures waits { AwaitsLess (items_of changes.now) self.old self.new }
-        ensures lean { StaysLeanWithout (items_of changes.now) self.old self.new }
+        ensures waits { AwaitsLess (items_changed changes.now) self.old self.new }
+        ensures lean { StaysLeanWithout (items_changed changes.now) self.old self.new }
         ensures stay { StayPlaced self.old self.new }
-        ensures backs { KeepsOtherBacks (items_of changes.now) self.old self.new }
+        ensures backs { KeepsOtherBacks (items_changed changes.now) self.old self.new }
     {
         bytes_tell_identifiers_apart();
         release_items(&mut self.names, &mut self.shelves, changes);
@@ -35,16 +35,16 @@ impl Graph {
     /// Gives up a way back, and hands out the plan. It takes no memory.
     pub fn settle(&mut self, undo: Undo) -> Plan
         requires still { IsStill self.old }
-        requires waits { Awaits (items_of undo.plan.changes) self.old }
+        requires waits { AreAwaited (items_changed undo.plan.changes) self.old }
         ensures plan { result ≡ undo.plan }
         ensures now { rows_now self.new ≡ rows_now self.old }
         ensures links { (v : ℕ) → links_now self.new v ≡ links_now self.old v }
         ensures still { IsStill self.new }
         ensures numbers { BringsNoNumbers self.old self.new }
         ensures own { KeepsOwn self.old self.new }
-        ensures waits { AwaitsLess (items_of undo.plan.changes) self.old self.new }
-        ensures lean { StaysLeanWithout (items_of undo.plan.changes) self.old self.new }
-        ensures backs { KeepsOtherBacks (items_of undo.plan.changes) self.old self.new }
+        ensures waits { AwaitsLess (items_changed undo.plan.changes) self.old self.new }
+        ensures lean { StaysLeanWithout (items_changed undo.plan.changes) self.old self.new }
+        ensures backs { KeepsOtherBacks (items_changed undo.plan.changes) self.old self.new }
     {
         self.release_waits(&undo.plan.changes.0);
         undo.plan
@@ -53,15 +53,15 @@ impl Graph {
     /// Carries out a plan that is out. It takes no memory.
     pub fn commit(&mut self, ready: Ready) -> Plan
         requires out { IsOut ready self.old }
-        requires waits { Awaits (items_of ready.plan.changes) self.old }
+        requires waits { AreAwaited (items_changed ready.plan.changes) self.old }
         ensures plan { result ≡ ready.plan }
         ensures now { rows_now self.new ≡ rows_next self.old }
         ensures links { (v : ℕ) → links_now self.new v ≡ links_next self.old v }
         ensures still { IsStill self.new }
         ensures numbers { BringsNoNumbers self.old self.new }
         ensures own { KeepsOwn self.old self.new }
-        ensures waits { AwaitsLess (items_of ready.plan.changes) self.old self.new }
-        ensures lean { StaysLeanWithout (items_of ready.plan.changes) self.old self.new }
+        ensures waits { AwaitsLess (items_changed ready.plan.changes) self.old self.new }
+        ensures lean { StaysLeanWithout (items_changed ready.plan.changes) self.old self.new }
     {
         let undo = self.commit_kept(ready);
         self.settle(undo)

@@ -7,7 +7,7 @@ ghost use Rattle.ifmap_ident.specs.Items.{same_item};
 ghost use Rattle.ifmap_plans.specs.declared.plans.ItemChange.{ItemChange};
 ghost use Rattle.ifmap_view.specs.Rows.{stored_on};
 ghost use Rattle.ifmap_graph.specs.Drafted.{AreBare, AreOut, DraftsWithin, ends_at};
-ghost use Rattle.ifmap_graph.specs.Shelved.{AreShelved, HasDraft, place_of, rows_of};
+ghost use Rattle.ifmap_graph.specs.Shelved.{AreShelved, HasDraft, slot_of_item, rows_on_side};
 ghost use Rattle.ifmap_graph.specs.Sides.{next, now};
 ghost use Rattle.ifmap_graph.specs.Waits.{waits_on};
 
@@ -21,13 +21,13 @@ fn accept_one(shelves: &mut Shelves, item: &Item, list: &mut RowList)
     requires shelved { AreShelved shelves.old }
     requires drafted { HasDraft shelves.old item.now }
     ensures shelved { AreShelved shelves.new }
-    ensures next { rows_of next shelves.new ≡ rows_of next shelves.old }
-    ensures list { list.new ≡ stored_on item.now (rows_of now shelves.old) }
+    ensures next { rows_on_side next shelves.new ≡ rows_on_side next shelves.old }
+    ensures list { list.new ≡ stored_on item.now (rows_on_side now shelves.old) }
     ensures drafts { (x : Item) → HasDraft shelves.new x
         → HasDraft shelves.old x × (same_item x item.now ≡ false) }
     ensures others { (x : Item) → same_item x item.now ≡ false
         → (HasDraft shelves.old x → HasDraft shelves.new x)
-        × (stored_on x (rows_of now shelves.new) ≡ stored_on x (rows_of now shelves.old)) }
+        × (stored_on x (rows_on_side now shelves.new) ≡ stored_on x (rows_on_side now shelves.old)) }
     ensures ends { (at : ℕ) → ends_at shelves.new at ≡ ends_at shelves.old at }
     ensures waits { (x : Item) → waits_on shelves.new x ≡ waits_on shelves.old x }
     ensures places { shelves.new.places ≡ shelves.old.places }
@@ -43,15 +43,15 @@ fn accept_at(shelves: &mut Shelves, changes: &[ItemChange], lists: &mut Vec<RowL
     requires drafted { (c : ItemChange)
         → HasDraft shelves.old (slice_index_or changes.now i c).item }
     ensures shelved { AreShelved shelves.new }
-    ensures next { rows_of next shelves.new ≡ rows_of next shelves.old }
+    ensures next { rows_on_side next shelves.new ≡ rows_on_side next shelves.old }
     ensures lists { (c : ItemChange) → lists.new.items ≡ set lists.old.items i
-        (stored_on (slice_index_or changes.now i c).item (rows_of now shelves.old)) }
+        (stored_on (slice_index_or changes.now i c).item (rows_on_side now shelves.old)) }
     ensures drafts { (c : ItemChange) (x : Item) → HasDraft shelves.new x
         → HasDraft shelves.old x × (same_item x (slice_index_or changes.now i c).item ≡ false) }
     ensures others { (c : ItemChange) (x : Item)
         → same_item x (slice_index_or changes.now i c).item ≡ false
         → (HasDraft shelves.old x → HasDraft shelves.new x)
-        × (stored_on x (rows_of now shelves.new) ≡ stored_on x (rows_of now shelves.old)) }
+        × (stored_on x (rows_on_side now shelves.new) ≡ stored_on x (rows_on_side now shelves.old)) }
     ensures ends { (at : ℕ) → ends_at shelves.new at ≡ ends_at shelves.old at }
     ensures waits { (x : Item) → waits_on shelves.new x ≡ waits_on shelves.old x }
     ensures places { shelves.new.places ≡ shelves.old.places }
@@ -70,10 +70,10 @@ pub(crate) fn accept_changes(
     requires long { length lists.old.items ≡ length changes.now }
     ensures shelved { AreShelved shelves.new }
     ensures bare { AreBare shelves.new }
-    ensures next { rows_of next shelves.new ≡ rows_of next shelves.old }
-    ensures now { rows_of now shelves.new ≡ rows_of next shelves.old }
+    ensures next { rows_on_side next shelves.new ≡ rows_on_side next shelves.old }
+    ensures now { rows_on_side now shelves.new ≡ rows_on_side next shelves.old }
     ensures lists { lists.new.items
-        ≡ map (λ c. stored_on c.item (rows_of now shelves.old)) changes.now }
+        ≡ map (λ c. stored_on c.item (rows_on_side now shelves.old)) changes.now }
     ensures ends { (at : ℕ) → ends_at shelves.new at ≡ ends_at shelves.old at }
     ensures waits { (x : Item) → waits_on shelves.new x ≡ waits_on shelves.old x }
     ensures places { shelves.new.places ≡ shelves.old.places }
@@ -88,9 +88,9 @@ fn discard_at(shelves: &mut Shelves, changes: &[ItemChange], i: usize)
     requires shelved { AreShelved shelves.old }
     requires place { i < length changes.now }
     requires there { (c : ItemChange)
-        → IsSome (place_of shelves.old (slice_index_or changes.now i c).item) }
+        → IsSome (slot_of_item shelves.old (slice_index_or changes.now i c).item) }
     ensures shelved { AreShelved shelves.new }
-    ensures now { rows_of now shelves.new ≡ rows_of now shelves.old }
+    ensures now { rows_on_side now shelves.new ≡ rows_on_side now shelves.old }
     ensures drafts { (c : ItemChange) (x : Item) → HasDraft shelves.new x
         → HasDraft shelves.old x × (same_item x (slice_index_or changes.now i c).item ≡ false) }
     ensures ends { (at : ℕ) → ends_at shelves.new at ≡ ends_at shelves.old at }
@@ -103,13 +103,13 @@ fn discard_at(shelves: &mut Shelves, changes: &[ItemChange], i: usize)
 // What is stored is what is to be: the drafts are taken back.
 pub(crate) fn discard_changes(shelves: &mut Shelves, changes: &[ItemChange])
     requires shelved { AreShelved shelves.old }
-    requires there { AllByRecursion (λ x. IsSome (place_of shelves.old x))
+    requires there { AllByRecursion (λ x. IsSome (slot_of_item shelves.old x))
         (map (λ c. c.item) changes.now) }
     requires within { DraftsWithin (map (λ c. c.item) changes.now) shelves.old }
     ensures shelved { AreShelved shelves.new }
     ensures bare { AreBare shelves.new }
-    ensures now { rows_of now shelves.new ≡ rows_of now shelves.old }
-    ensures next { rows_of next shelves.new ≡ rows_of now shelves.old }
+    ensures now { rows_on_side now shelves.new ≡ rows_on_side now shelves.old }
+    ensures next { rows_on_side next shelves.new ≡ rows_on_side now shelves.old }
     ensures ends { (at : ℕ) → ends_at shelves.new at ≡ ends_at shelves.old at }
     ensures waits { (x : Item) → waits_on shelves.new x ≡ waits_on shelves.old x }
     ensures places { shelves.new.places ≡ shelves.old.places }

@@ -9,11 +9,11 @@ ghost use Rattle.ifmap_plans.specs.declared.plans.ItemChange.{ItemChange};
 ghost use Rattle.ifmap_view.specs.declared.attachments.Attachment.{Attachment};
 ghost use Rattle.ifmap_view.specs.declared.views.LinkSeen.{LinkSeen};
 ghost use Rattle.ifmap_view.specs.Rows.{stored_on};
-ghost use Rattle.ifmap_graph.specs.Back.{IsWayBack, stand_each};
+ghost use Rattle.ifmap_graph.specs.Back.{IsUndoTo, stand_each};
 ghost use Rattle.ifmap_graph.specs.Drafted.{AreBare, ends_at};
-ghost use Rattle.ifmap_graph.specs.Out.{items_of};
+ghost use Rattle.ifmap_graph.specs.Out.{items_changed};
 ghost use Rattle.ifmap_graph.specs.Seen.{AwaitsLess, BringsNoNumbers, IsStill, KeepsOwn, StaysLeanWithout, links_now, rows_now};
-ghost use Rattle.ifmap_graph.specs.Shelved.{AreShelved, place_of, rows_of};
+ghost use Rattle.ifmap_graph.specs.Shelved.{AreShelved, slot_of_item, rows_on_side};
 ghost use Rattle.ifmap_graph.specs.Sides.{now};
 ghost use Rattle.ifmap_graph.specs.Waits.{waits_on};
 
@@ -30,13 +30,13 @@ use ifmap_plans::ItemChange;
 fn exchange_one(shelves: &mut Shelves, item: &Item, list: &mut RowList)
     requires shelved { AreShelved shelves.old }
     requires bare { AreBare shelves.old }
-    requires there { IsSome (place_of shelves.old item.now) }
+    requires there { IsSome (slot_of_item shelves.old item.now) }
     ensures shelved { AreShelved shelves.new }
     ensures bare { AreBare shelves.new }
-    ensures now { (x : Item) → stored_on x (rows_of now shelves.new)
+    ensures now { (x : Item) → stored_on x (rows_on_side now shelves.new)
         ≡ (if is_at (item_order item.now) x then list.old
-        else stored_on x (rows_of now shelves.old)) }
-    ensures list { list.new ≡ stored_on item.now (rows_of now shelves.old) }
+        else stored_on x (rows_on_side now shelves.old)) }
+    ensures list { list.new ≡ stored_on item.now (rows_on_side now shelves.old) }
     ensures ends { (at : ℕ) → ends_at shelves.new at ≡ ends_at shelves.old at }
     ensures waits { (x : Item) → waits_on shelves.new x ≡ waits_on shelves.old x }
     ensures places { shelves.new.places ≡ shelves.old.places }
@@ -51,16 +51,16 @@ fn exchange_at(shelves: &mut Shelves, changes: &[ItemChange], lists: &mut Vec<Ro
     requires place { i < length changes.now }
     requires room { i < length lists.old.items }
     requires there { (c : ItemChange)
-        → IsSome (place_of shelves.old (slice_index_or changes.now i c).item) }
+        → IsSome (slot_of_item shelves.old (slice_index_or changes.now i c).item) }
     ensures shelved { AreShelved shelves.new }
     ensures bare { AreBare shelves.new }
     ensures now { (c : ItemChange) (list : List Stored) (x : Item)
-        → stored_on x (rows_of now shelves.new)
+        → stored_on x (rows_on_side now shelves.new)
         ≡ (if is_at (item_order (slice_index_or changes.now i c).item) x
         then slice_index_or lists.old.items i list
-        else stored_on x (rows_of now shelves.old)) }
+        else stored_on x (rows_on_side now shelves.old)) }
     ensures lists { (c : ItemChange) → lists.new.items ≡ set lists.old.items i
-        (stored_on (slice_index_or changes.now i c).item (rows_of now shelves.old)) }
+        (stored_on (slice_index_or changes.now i c).item (rows_on_side now shelves.old)) }
     ensures ends { (at : ℕ) → ends_at shelves.new at ≡ ends_at shelves.old at }
     ensures waits { (x : Item) → waits_on shelves.new x ≡ waits_on shelves.old x }
     ensures places { shelves.new.places ≡ shelves.old.places }
@@ -72,14 +72,14 @@ fn exchange_at(shelves: &mut Shelves, changes: &[ItemChange], lists: &mut Vec<Ro
 fn exchange_changes(shelves: &mut Shelves, changes: &[ItemChange], lists: &mut Vec<RowList>)
     requires shelved { AreShelved shelves.old }
     requires bare { AreBare shelves.old }
-    requires there { AllByRecursion (λ x. IsSome (place_of shelves.old x))
+    requires there { AllByRecursion (λ x. IsSome (slot_of_item shelves.old x))
         (map (λ c. c.item) changes.now) }
     requires long { length lists.old.items ≡ length changes.now }
     ensures shelved { AreShelved shelves.new }
     ensures bare { AreBare shelves.new }
-    ensures now { (x : Item) → stored_on x (rows_of now shelves.new)
+    ensures now { (x : Item) → stored_on x (rows_on_side now shelves.new)
         ≡ stand_each (map (λ c. c.item) changes.now) lists.old.items x
-        (stored_on x (rows_of now shelves.old)) }
+        (stored_on x (rows_on_side now shelves.old)) }
     ensures ends { (at : ℕ) → ends_at shelves.new at ≡ ends_at shelves.old at }
     ensures waits { (x : Item) → waits_on shelves.new x ≡ waits_on shelves.old x }
     ensures places { shelves.new.places ≡ shelves.old.places }
@@ -95,15 +95,15 @@ impl Graph {
     pub fn undo(&mut self, undo: Undo)
         requires still { IsStill self.old }
         requires back { (rows : List Attachment) × (links : ℕ → List LinkSeen)
-            × IsWayBack undo rows links self.old }
+            × IsUndoTo undo rows links self.old }
         ensures back { (rows : List Attachment) (links : ℕ → List LinkSeen)
-            → IsWayBack undo rows links self.old
+            → IsUndoTo undo rows links self.old
             → (rows_now self.new ≡ rows) × ((v : ℕ) → links_now self.new v ≡ links v) }
         ensures still { IsStill self.new }
         ensures numbers { BringsNoNumbers self.old self.new }
         ensures own { KeepsOwn self.old self.new }
-        ensures waits { AwaitsLess (items_of undo.plan.changes) self.old self.new }
-        ensures lean { StaysLeanWithout (items_of undo.plan.changes) self.old self.new }
+        ensures waits { AwaitsLess (items_changed undo.plan.changes) self.old self.new }
+        ensures lean { StaysLeanWithout (items_changed undo.plan.changes) self.old self.new }
     {
         let mut lists = undo.lists;
         let mut ways = undo.ways;

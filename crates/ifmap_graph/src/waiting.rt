@@ -5,8 +5,8 @@ ghost use Rattle.slab.specs.Slab.{get};
 ghost use Rattle.ifmap_ident.specs.declared.items.Item.{Item};
 ghost use Rattle.ifmap_ident.specs.Items.{same_item};
 ghost use Rattle.ifmap_graph.specs.Drafted.{ends_at};
-ghost use Rattle.ifmap_graph.specs.Out.{items_of};
-ghost use Rattle.ifmap_graph.specs.Shelved.{AreShelved, HasDraft, place_of, rows_of};
+ghost use Rattle.ifmap_graph.specs.Out.{items_changed};
+ghost use Rattle.ifmap_graph.specs.Shelved.{AreShelved, HasDraft, slot_of_item, rows_on_side};
 ghost use Rattle.ifmap_graph.specs.Sides.{next, now};
 ghost use Rattle.ifmap_graph.specs.Waits.{WaitsFor, waits_of, waits_on};
 
@@ -38,7 +38,7 @@ fn waits_for(shelves: &Shelves, item: &Item) -> u64
 /// Whether each item of a change can be waited for once more and still be counted.
 pub(crate) fn can_wait(shelves: &Shelves, changes: &[ItemChange]) -> bool
     ensures { result ≡ true
-        → AllByRecursion (λ x. waits_on shelves.now x < 2 ^ 64 - 1) (items_of changes.now) }
+        → AllByRecursion (λ x. waits_on shelves.now x < 2 ^ 64 - 1) (items_changed changes.now) }
 {
     for change in changes {
         if waits_for(shelves, &change.item) == u64::MAX {
@@ -51,14 +51,14 @@ pub(crate) fn can_wait(shelves: &Shelves, changes: &[ItemChange]) -> bool
 /// The items of a change, which have shelves, are waited for once more.
 pub(crate) fn wait_for(shelves: &mut Shelves, changes: &[ItemChange])
     requires shelved { AreShelved shelves.old }
-    requires there { AllByRecursion (λ x. IsSome (place_of shelves.old x)) (items_of changes.now) }
+    requires there { AllByRecursion (λ x. IsSome (slot_of_item shelves.old x)) (items_changed changes.now) }
     requires few { AllByRecursion (λ x. waits_on shelves.old x < 2 ^ 64 - 1)
-        (items_of changes.now) }
-    requires apart { IsDistinct same_item (items_of changes.now) }
+        (items_changed changes.now) }
+    requires apart { IsDistinct same_item (items_changed changes.now) }
     ensures shelved { AreShelved shelves.new }
-    ensures now { rows_of now shelves.new ≡ rows_of now shelves.old }
-    ensures next { rows_of next shelves.new ≡ rows_of next shelves.old }
-    ensures waits { WaitsFor (items_of changes.now) shelves.old shelves.new }
+    ensures now { rows_on_side now shelves.new ≡ rows_on_side now shelves.old }
+    ensures next { rows_on_side next shelves.new ≡ rows_on_side next shelves.old }
+    ensures waits { WaitsFor (items_changed changes.now) shelves.old shelves.new }
     ensures drafts { (x : Item) → HasDraft shelves.new x → HasDraft shelves.old x }
     ensures kept { (x : Item) → HasDraft shelves.old x → HasDraft shelves.new x }
     ensures ends { (at : ℕ) → ends_at shelves.new at ≡ ends_at shelves.old at }

@@ -1,12 +1,12 @@
 -- What is left of the facts about a graph as a change comes to be out, is made, stays or goes.
 use Rattle.std.proofs.Common.{◌≡◌, List, [], subst, sym, arith}
 use Rattle.ifmap_ident.specs.declared.identifiers.Identifier.{Identifier}
-use Rattle.ifmap_graph.specs.Back.{IsWayBack}
+use Rattle.ifmap_graph.specs.Back.{IsUndoTo}
 use Rattle.ifmap_graph.specs.declared.changes.Ready.{Ready}
 use Rattle.ifmap_graph.specs.declared.changes.Undo.{Undo}
 use Rattle.ifmap_graph.specs.Held.{Held}
-use Rattle.ifmap_graph.specs.Out.{IsOut, items_of}
-use Rattle.ifmap_graph.specs.Seen.{Awaits, AwaitsMore, HasFewOwn, IsStill, KeepsOwn, links_now, rows_next, rows_now}
+use Rattle.ifmap_graph.specs.Out.{IsOut, items_changed}
+use Rattle.ifmap_graph.specs.Seen.{AreAwaited, AwaitsMore, HasFewOwn, IsStill, KeepsOwn, links_now, rows_next, rows_now}
 use Rattle.ifmap_plans.specs.declared.plans.Plan.{Plan}
 use Rattle.ifmap_plans.specs.Plans.{AreWhole, Fits, IsAfter}
 use Rattle.ifmap_view.specs.declared.attachments.Attachment.{Attachment}
@@ -14,7 +14,7 @@ use Rattle.ifmap_graph_tests.specs.Steady.{IsBegun, IsMade, IsSteady, OwnsNothin
 use Rattle.ifmap_plans.specs.laws.OnItemLaws.{whole_after}
 use Rattle.ifmap_graph.specs.NumberLaws.{awaits_these}
 
-awaits_none : (h : Held) → Awaits [] h
+awaits_none : (h : Held) → AreAwaited [] h
 awaits_none h x = omega arith
 
 pub few_own : (h : Held) → OwnsNothing h → HasFewOwn h
@@ -31,17 +31,17 @@ steady_by old new rows own whole still now keeps = record {
 
 pub begun_by : (old new : Held) (ready : Ready) (plan : Plan) → IsSteady old → Fits (rows_now old) plan.changes → ready.plan ≡ plan
     → IsOut ready new → IsAfter plan.changes (rows_now old) (rows_next new) → rows_now new ≡ rows_now old
-    → KeepsOwn old new → AwaitsMore (items_of plan.changes) old new → IsBegun ready new
+    → KeepsOwn old new → AwaitsMore (items_changed plan.changes) old new → IsBegun ready new
 begun_by old new ready plan steady fits same out after now keeps more = record {
   out = out;
-  waits = subst (λ (p : Plan). Awaits (items_of p.changes) new) (sym same) (awaits_these (items_of plan.changes) old new more);
+  waits = subst (λ (p : Plan). AreAwaited (items_changed p.changes) new) (sym same) (awaits_these (items_changed plan.changes) old new more);
   before = subst AreWhole (sym now) steady.whole;
   after = whole_after (rows_now old) (rows_next new) plan.changes fits after steady.whole;
   own = λ a. keeps a 0 (steady.own a);
 }
 
 pub made_by : (old new : Held) (ready : Ready) (undo : Undo) → IsBegun ready old → IsStill new → rows_now new ≡ rows_next old
-    → KeepsOwn old new → (Awaits (items_of ready.plan.changes) old → IsWayBack undo (rows_now old) (links_now old) new)
+    → KeepsOwn old new → (AreAwaited (items_changed ready.plan.changes) old → IsUndoTo undo (rows_now old) (links_now old) new)
     → IsMade undo new
 made_by old new ready undo begun still now keeps back = record {
   steady = steady_by old new (rows_next old) begun.own begun.after still now keeps;

@@ -6,10 +6,10 @@ use Rattle.ifmap_view.specs.declared.attachments.Attachment.{Attachment}
 use Rattle.ifmap_view.specs.declared.views.LinkSeen.{LinkSeen}
 use Rattle.ifmap_graph.specs.declared.changes.Ready.{Ready}
 use Rattle.ifmap_graph.specs.declared.changes.Undo.{Undo}
-use Rattle.ifmap_graph.specs.Back.{IsWayBack}
+use Rattle.ifmap_graph.specs.Back.{IsUndoTo}
 use Rattle.ifmap_graph.specs.Held.{Held, IsOwn}
-use Rattle.ifmap_graph.specs.Out.{IsOut, items_of}
-use Rattle.ifmap_graph.specs.Seen.{Awaits, IsStill, rows_next, rows_now}
+use Rattle.ifmap_graph.specs.Out.{IsOut, items_changed}
+use Rattle.ifmap_graph.specs.Seen.{AreAwaited, IsStill, rows_next, rows_now}
 
 -- nobody holds an identifier but items
 abbrev pub OwnsNothing : Held → Type 0
@@ -24,7 +24,7 @@ pub record IsSteady (h : Held) : Type 0 where
 -- a change is out, before and after which what is stored is whole
 pub record IsBegun (ready : Ready) (h : Held) : Type 0 where
   pub out : IsOut ready h
-  pub waits : Awaits (items_of ready.plan.changes) h
+  pub waits : AreAwaited (items_changed ready.plan.changes) h
   pub before : AreWhole (rows_now h)
   pub after : AreWhole (rows_next h)
   pub own : OwnsNothing h
@@ -34,5 +34,5 @@ pub record IsMade (undo : Undo) (h : Held) : Type 0 where
   pub steady : IsSteady h
   pub rows : List Attachment
   pub links : ℕ → List LinkSeen
-  pub back : IsWayBack undo rows links h
+  pub back : IsUndoTo undo rows links h
   pub before : AreWhole rows

@@ -12,26 +12,26 @@ abbrev pub Fields : Type 0
 Fields = List (List ℕ × List ℕ)
 
 -- a field has that name, in any ASCII case
-abbrev pub is_named : List ℕ → List ℕ × List ℕ → Bool
-is_named name field = str_eq_ignore_ascii_case field.0 name
+abbrev pub is_field_named : List ℕ → List ℕ × List ℕ → Bool
+is_field_named name field = str_eq_ignore_ascii_case field.0 name
 
 -- the values of the fields of a name, in their order
 abbrev pub values : List ℕ → Fields → List (List ℕ)
-values name fields = map (λ field. field.1) (filter (is_named name) fields)
+values name fields = map (λ field. field.1) (filter (is_field_named name) fields)
 
 -- there is a field of that name
 abbrev pub has_field : List ℕ → Fields → Bool
 has_field name fields = nat_lt 0 (length (values name fields))
 
 -- a byte before the parts of a list
-abbrev pub put_before : ℕ → List (List ℕ) → List (List ℕ)
-put_before b [] = (b ∷ []) ∷ []
-put_before b (part ∷ parts) = (b ∷ part) ∷ parts
+abbrev pub put_byte_before : ℕ → List (List ℕ) → List (List ℕ)
+put_byte_before b [] = (b ∷ []) ∷ []
+put_byte_before b (part ∷ parts) = (b ∷ part) ∷ parts
 
 -- what stands between the commas
 abbrev pub comma_parts : List ℕ → List (List ℕ)
 comma_parts [] = [] ∷ []
-comma_parts (b ∷ bytes) = if b == comma then [] ∷ comma_parts bytes else put_before b (comma_parts bytes)
+comma_parts (b ∷ bytes) = if b == comma then [] ∷ comma_parts bytes else put_byte_before b (comma_parts bytes)
 
 -- a value lists the word, in any ASCII case
 abbrev pub lists_word : List ℕ → List ℕ → Bool

@@ -9,10 +9,10 @@ use Rattle.ifmap_heads.specs.Heads.{IsAnswerHead, IsPostHead}
 use Rattle.ifmap_heads.specs.Posts.{Judgement, ReadsPost, judge_post, posted, refused, status, taken, truncated}
 use Rattle.ifmap_heads.specs.Starts.{HasAnswerHead, HasPostHead}
 use Rattle.ifmap_heads.specs.declared.posts.PostTerms.{PostTerms}
-use Rattle.ifmap_http.specs.Buffers.{LacksBody, Takes, TakesBody}
+use Rattle.ifmap_http.specs.Buffers.{LacksBody, TakesFromSource, TakesBody}
 
 -- what is claimed of all that a wire had left, where it is told, by what it has taken and what is left then
-pub for_told : (P : List ℕ → Type 0) (left_old left_new : Option (List ℕ)) (old new : List ℕ) → Takes left_old left_new old new
+pub for_told : (P : List ℕ → Type 0) (left_old left_new : Option (List ℕ)) (old new : List ℕ) → TakesFromSource left_old left_new old new
     → ((rest : List ℕ) → left_new ≡ Some rest → P (new ++ rest)) → IfSome (prepend_known old left_old) P
 for_told P None left_new old new takes claim = tt
 for_told P (Some xs) None old new takes claim = absurd takes.consumed

@@ -2,17 +2,17 @@
 use Rattle.std.proofs.Common.{ℕ, List, [], ◌++◌, sym, ap, ◌∙◌, append_assoc, append-nil}
 use Rattle.std.specs.Prelude.{Option}
 use Rattle.std.proofs.KnownBytes.{Consumes-nil, Consumes-trans}
-use Rattle.ifmap_http.specs.Buffers.{Takes, UnlessAnswerFails, UnlessPostFails}
+use Rattle.ifmap_http.specs.Buffers.{TakesFromSource, UnlessAnswerFails, UnlessPostFails}
 use Rattle.ifmap_http.specs.declared.heads.AwaitedAnswer.{AwaitedAnswer}
 use Rattle.ifmap_http.specs.declared.heads.AwaitedAnswer.TheVariants as answer
 use Rattle.ifmap_http.specs.declared.heads.AwaitedPost.{AwaitedPost}
 use Rattle.ifmap_http.specs.declared.heads.AwaitedPost.TheVariants as post
 
-pub takes_nothing : (left : Option (List ℕ)) (pending : List ℕ) → Takes left left pending pending
+pub takes_nothing : (left : Option (List ℕ)) (pending : List ℕ) → TakesFromSource left left pending pending
 takes_nothing left pending = record { got = []; consumed = Consumes-nil left; grown = sym (append-nil pending) }
 
-pub takes_more : (left_old left_mid left_new : Option (List ℕ)) (old mid new : List ℕ) → Takes left_old left_mid old mid
-    → Takes left_mid left_new mid new → Takes left_old left_new old new
+pub takes_more : (left_old left_mid left_new : Option (List ℕ)) (old mid new : List ℕ) → TakesFromSource left_old left_mid old mid
+    → TakesFromSource left_mid left_new mid new → TakesFromSource left_old left_new old new
 takes_more left_old left_mid left_new old mid new a b =
     record {
       got = a.got ++ b.got;

@@ -10,7 +10,7 @@ use Rattle.ifmap_http.specs.declared.heads.AwaitedPost.{AwaitedPost}
 use Rattle.ifmap_http.specs.declared.heads.AwaitedPost.TheVariants as post
 
 -- what is pending grew by what was taken from the source
-pub record Takes (left_old left_new : Option (List ℕ)) (old new : List ℕ) : Type 0 where
+pub record TakesFromSource (left_old left_new : Option (List ℕ)) (old new : List ℕ) : Type 0 where
   pub got : List ℕ
   pub consumed : Consumes left_old left_new got
   pub grown : new ≡ old ++ got

@@ -3,7 +3,7 @@ ghost use Rattle.std.specs.Prelude.{◌≡◌, ◌≢◌, ◌<◌, ◌≤◌, []
 ghost use Rattle.std.specs.Bool.{OnFalse, OnTrue};
 ghost use Rattle.std.specs.Io.KnownBytes.{IsAtEnd};
 ghost use Rattle.ifmap_io.specs.Causes.{Rose};
-ghost use Rattle.ifmap_http.specs.Buffers.{Takes};
+ghost use Rattle.ifmap_http.specs.Buffers.{TakesFromSource};
 
 use crate::bodies::Unread;
 use ifmap_io::Source;
@@ -61,7 +61,7 @@ impl Buffer {
     // Takes more from the source by one read; false at its end.
     pub(crate) fn fill<S: Source>(&mut self, source: &mut S) -> Result<bool, Unread>
         ensures taken { OnOk result
-            (Takes (S.left source.old) (S.left source.new) self.old self.new) }
+            (TakesFromSource (S.left source.old) (S.left source.new) self.old self.new) }
         ensures more { IfOk result (λ more. OnTrue more (length self.old < length self.new)) }
         ensures end { IfOk result (λ more. OnFalse more
             (IsAtEnd (S.left source.new) × (self.new ≡ self.old))) }

@@ -5,7 +5,7 @@ ghost use Rattle.ifmap_io.specs.Causes.{Rose};
 ghost use Rattle.httparse.specs.Grammar.{RequestHead};
 ghost use Rattle.ifmap_heads.specs.Heads.{HasNoPostHead, IsPostHead};
 ghost use Rattle.ifmap_heads.specs.Limits.{longest_head};
-ghost use Rattle.ifmap_http.specs.Buffers.{AwaitsAnswer, AwaitsPost, Takes, UnlessAnswerFails, UnlessPostFails};
+ghost use Rattle.ifmap_http.specs.Buffers.{AwaitsAnswer, AwaitsPost, TakesFromSource, UnlessAnswerFails, UnlessPostFails};
 
 use crate::bodies::Unread;
 use crate::buffers::Buffer;
@@ -47,7 +47,7 @@ pub(crate) fn await_post<S: Source>(
     source: &mut S,
 ) -> AwaitedPost
     ensures taken { UnlessPostFails result
-        (Takes (S.left source.old) (S.left source.new) buffer.old buffer.new) }
+        (TakesFromSource (S.left source.old) (S.left source.new) buffer.old buffer.new) }
     ensures is { AwaitsPost buffer.new (S.left source.new) result }
     ensures fault { result ≡ AwaitedPost.ReadFault
         → Rose (S.faults source.old) (S.faults source.new) }
@@ -73,7 +73,7 @@ fn await_more<S: Source>(
     source: &mut S,
 ) -> AwaitedPost
     ensures taken { UnlessPostFails result
-        (Takes (S.left source.old) (S.left source.new) buffer.old buffer.new) }
+        (TakesFromSource (S.left source.old) (S.left source.new) buffer.old buffer.new) }
     ensures is { AwaitsPost buffer.new (S.left source.new) result }
     ensures fault { result ≡ AwaitedPost.ReadFault
         → Rose (S.faults source.old) (S.faults source.new) }
@@ -140,7 +140,7 @@ fn end_post(alloc: Global, bytes: &[u8]) -> AwaitedPost
 #[tactic(auto, using(crate::proofs::Taking::takes_nothing, crate::proofs::Taking::takes_more, ifmap_io::specs::Rises::rose_since))]
 pub(crate) fn await_answer<S: Source>(buffer: &mut Buffer, source: &mut S) -> AwaitedAnswer
     ensures taken { UnlessAnswerFails result
-        (Takes (S.left source.old) (S.left source.new) buffer.old buffer.new) }
+        (TakesFromSource (S.left source.old) (S.left source.new) buffer.old buffer.new) }
     ensures is { AwaitsAnswer buffer.new (S.left source.new) result }
     ensures fault { result ≡ AwaitedAnswer.ReadFault
         → Rose (S.faults source.old) (S.faults source.new) }

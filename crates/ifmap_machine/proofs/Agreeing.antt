@@ -12,14 +12,14 @@ use Rattle.ifmap_folds.specs.Folds.{Sets, fold_items, with_entries}
 use Rattle.ifmap_fresh.specs.Fresh.{fresh}
 use Rattle.ifmap_lemmas.specs.Filters.{all_weaker, filter_passes}
 use Rattle.ifmap_lemmas.specs.Having.{Has, filter_has, has_any, has_either, has_filter, map_has, all_has}
-use Rattle.ifmap_machine.specs.Agreeing.{items_of}
+use Rattle.ifmap_machine.specs.Agreeing.{items_polled}
 use Rattle.ifmap_machine.specs.Ending.{drop_sessions}
 use Rattle.ifmap_machine.specs.State.{Standing, State, standing_in, standing_order}
 use Rattle.ifmap_machine.specs.Step.{begin_session, in_session, next_session}
 use Rattle.ifmap_machine.specs.Step.{poll, poll_in, poll_queue, renew, renew_first}
 use Rattle.ifmap_machine.specs.Step.{with_told}
 use Rattle.ifmap_machine.specs.Subscribing.{Told, begin_name, drop_name, is_full_for, is_of_name, subscribe_op, subscribe_ops}
-use Rattle.ifmap_machine.specs.Telling.{is_overfull, is_overrun, is_too_big, overflow, overflow_session, tell, tell_session, told_in}
+use Rattle.ifmap_machine.specs.Telling.{is_overfull, is_overrun, is_too_big, overflow, overflow_session, tell, tell_session, told_in_session}
 use Rattle.ifmap_machine.specs.Telling.{too_big_item}
 use Rattle.ifmap_machine.proofs.Folding.{AreOf, Folds, dropped_stay, fold_joined, other_stays, told_all}
 use Rattle.ifmap_machine.proofs.Ids.{find_has, one_of_serial}
@@ -32,7 +32,7 @@ use Rattle.ifmap_requests.specs.declared.requests.SubscribeOp.TheVariants.{Updat
 use Rattle.ifmap_search.specs.declared.results.PollItem.{PollItem}
 use Rattle.ifmap_search.specs.declared.results.PollItem.TheVariants as the_item
 use Rattle.ifmap_search.specs.declared.searches.Search.{Search}
-use Rattle.ifmap_session.specs.Sessions.{Session, change, is_named, is_text, session_with_id, without_items}
+use Rattle.ifmap_session.specs.Sessions.{Session, change, is_named, is_same_text, session_with_id, without_items}
 use Rattle.ifmap_session.specs.laws.TextLaws.{text_flip, text_is, text_itself, text_same}
 use Rattle.ifmap_view.specs.declared.attachments.Attachment.{Attachment}
 use Rattle.ifmap_session.specs.laws.IdLaws.{ids_tell}
@@ -82,7 +82,7 @@ pub tell_follows : {Live : Standing → Type 0} (after : List Attachment) (notes
     → ((s : Search) → Folds state.graph after s) → IsStood state → Follows Live done state → Follows Live done (tell after notes state)
 tell_follows after notes done state folds stood w = record {
   folded = λ s x hs hx same live.
-      let f : Session → Session = λ t. tell_session (told_in state.graph after notes state.standing t.serial) t in
+      let f : Session → Session = λ t. tell_session (told_in_session state.graph after notes state.standing t.serial) t in
       let from = map_has f state.sessions s hs in
       let u : Session = from.0 in
       let kept = filter_has (λ y. not (is_too_big after y.search)) state.standing x hx in
@@ -98,7 +98,7 @@ tell_follows after notes done state folds stood w = record {
       let told = told_all state.graph after notes u.serial mine x (fold_items u.queue (done u.id)) up are has (folds x.search)
       (not-true (is_too_big after x.search) kept.1) there in
       subst (λ (t : Session). fold_items t.queue (done t.id) x.name ≡ Some (fresh after x.search)) from.2
-      (ap (λ g. g x.name) (fold_joined u.queue (told_in state.graph after notes state.standing u.serial) (done u.id)) ∙ told);
+      (ap (λ g. g x.name) (fold_joined u.queue (told_in_session state.graph after notes state.standing u.serial) (done u.id)) ∙ told);
   below = λ x hx. w.below x (filter_has (λ y. not (is_too_big after y.search)) state.standing x hx).0;
 }
 
@@ -177,9 +177,9 @@ module _ (rows : List Attachment) (serial counter : ℕ) (sets : Sets) (standing
   TellSome Live (Some t) = Tells Live rows serial counter sets standing t
 
   -- a subscription that stays has another name
-  kept_apart : (name : List ℕ) (x : Standing) → x.serial ≡ serial → not (is_of_name serial name x) ≡ true → is_text name x.name ≡ false
+  kept_apart : (name : List ℕ) (x : Standing) → x.serial ≡ serial → not (is_of_name serial name x) ≡ true → is_same_text name x.name ≡ false
   kept_apart name x own stays =
-      elim (and_cases (x.serial == serial) (is_text x.name name) (not-true (is_of_name serial name x) stays)) [
+      elim (and_cases (x.serial == serial) (is_same_text x.name name) (not-true (is_of_name serial name x) stays)) [
         | inl other ↦ absurd (both_ways (x.serial == serial) other (eq-eqb x.serial serial own))
         | inr other ↦ text_flip name x.name ∙ other
       ]
@@ -196,7 +196,7 @@ module _ (rows : List Attachment) (serial counter : ℕ) (sets : Sets) (standing
 
   -- of those that count now, the ones of other names counted before
   abbrev pub Counted : (Standing → Type 0) → (Standing → Type 0) → List ℕ → Type 0
-  Counted Live Now name = (x : Standing) → Now x → is_text name x.name ≡ false → Live x
+  Counted Live Now name = (x : Standing) → Now x → is_same_text name x.name ≡ false → Live x
 
   -- an item of a name more, where that name has no subscription
   more_tells : {Live Now : Standing → Type 0} (name : List ℕ) (item : PollItem) (t : Told) → is_named name item ≡ true
@@ -277,7 +277,7 @@ module _ (rows : List Attachment) (serial counter : ℕ) (sets : Sets) (standing
       subst (λ (one : SubscribeOp). TellSome (λ (x : Standing). x.name ≡ name) (subscribe_ops rows serial (one ∷ ops) t)) (sym e)
       (then_tells (λ (x : Standing). x.name ≡ name) (λ (x : Standing). x.name ≡ name) ops (subscribe_op rows serial (Update name asked) t)
       (updated_tells {Live = Live} {Now = λ (x : Standing). x.name ≡ name} name asked t
-      (λ x is apart. absurd (both_ways (is_text name x.name) apart (text_same name x.name (sym is)))) w)
+      (λ x is apart. absurd (both_ways (is_same_text name x.name) apart (text_same name x.name (sym is)))) w)
       (λ u k. ops_tell ops u k))
   ops_renew {Live} name asked (op ∷ ops) t (inr h) w =
       then_tells Live (λ (x : Standing). x.name ≡ name) ops (subscribe_op rows serial op t) (op_tells op t w)
@@ -333,7 +333,7 @@ told_follows done state q s t tabled found goes tells w = record {
 
 -- what polls of an id were told, with these items more
 abbrev pub polled_more : List ℕ → List PollItem → (List ℕ → Sets) → List ℕ → Sets
-polled_more own items done id = fold_items (cond (is_text own id) items []) (done id)
+polled_more own items done id = fold_items (cond (is_same_text own id) items []) (done id)
 
 follows_same : {Live : Standing → Type 0} (done other : List ℕ → Sets) (state : State) → ((id : List ℕ) → other id ≡ done id)
     → Follows Live done state
@@ -346,7 +346,7 @@ follows_same done other state same w = record {
 nothing_more : {Live : Standing → Type 0} (own : List ℕ) (done : List ℕ → Sets) (state : State)
     → Follows Live done state → Follows Live (polled_more own [] done) state
 nothing_more own done state w = follows_same done (polled_more own [] done) state
-    (λ id. elim (cases_Bool (is_text own id)) [ inl h ↦ rw h refl | inr h ↦ rw h refl ]) w
+    (λ id. elim (cases_Bool (is_same_text own id)) [ inl h ↦ rw h refl | inr h ↦ rw h refl ]) w
 
 -- sessions of one id have one serial, in whatever states they are
 pub one_serial : (a b : State) (s u : Session) → IsTabled a → IsTabled b → Has a.sessions s → Has b.sessions u → s.id ≡ u.id
@@ -370,7 +370,7 @@ polled_follows : {Live : Standing → Type 0} (done : List ℕ → Sets) (state 
     → session_with_id own state.sessions ≡ Some s → s.queue ≡ items → Follows Live done state
     → Follows Live (polled_more own items done) (record state { sessions = change s.serial without_items state.sessions })
 polled_follows done state own s items tabled found queue w =
-    let there = find_has (λ (y : Session). is_text y.id own) state.sessions s found in
+    let there = find_has (λ (y : Session). is_same_text y.id own) state.sessions s found in
     let own_is : s.id ≡ own = text_is s.id own there.1 in
     record {
       folded = λ one x hs hx same live.
@@ -384,7 +384,7 @@ polled_follows done state own s items tabled found queue w =
                 one_of_serial state.sessions u s tabled.rising from.1 there.0 (eqb-true u.serial s.serial hit) in
                 let serials : x.serial ≡ s.serial =
                 same ∙ ap (λ (y : Session). y.serial) (sym mine) ∙ ap (λ (y : Session). y.serial) found_one in
-                let named : is_text own s.id ≡ true = text_same own s.id (sym own_is) in
+                let named : is_same_text own s.id ≡ true = text_same own s.id (sym own_is) in
                 let told : fold_items items (done s.id) x.name ≡ Some (fresh state.graph x.search) =
                 subst (λ q. fold_items q (done s.id) x.name ≡ Some (fresh state.graph x.search)) queue
                 (w.folded s x there.0 hx serials live) in
@@ -396,7 +396,7 @@ polled_follows done state own s items tabled found queue w =
                 let is : queue_one s.serial [] u ≡ u = rw miss refl in
                 let one_is : u ≡ one = sym is ∙ from.2 in
                 let serials : x.serial ≡ u.serial = same ∙ ap (λ (y : Session). y.serial) (sym one_is) in
-                let other : is_text own u.id ≡ false = elim (cases_Bool (is_text own u.id)) [
+                let other : is_same_text own u.id ≡ false = elim (cases_Bool (is_same_text own u.id)) [
                   | inl hit ↦ absurd (both_ways (u.serial == s.serial) miss
                       (id_tells state s u tabled there.0 from.1 (own_is ∙ text_is own u.id hit)))
                   | inr apart ↦ apart
@@ -411,7 +411,7 @@ polled_follows done state own s items tabled found queue w =
 queue_follows : {Live : Standing → Type 0} (done : List ℕ → Sets) (state : State) (own : List ℕ) (again : Bool) (s : Session)
     (queue : List PollItem) → IsTabled state
     → session_with_id own state.sessions ≡ Some s → s.queue ≡ queue → Follows Live done state
-    → Follows Live (polled_more own (items_of (poll_queue state again s queue).1) done) (poll_queue state again s queue).0
+    → Follows Live (polled_more own (items_polled (poll_queue state again s queue).1) done) (poll_queue state again s queue).0
 queue_follows done state own again s [] tabled found queue w =
     nothing_more own done _ (first_follows again s.serial done state w)
 queue_follows done state own again s (item ∷ items) tabled found queue w =
@@ -420,11 +420,11 @@ queue_follows done state own again s (item ∷ items) tabled found queue w =
 in_poll_follows : {Live : Standing → Type 0} (done : List ℕ → Sets) (state : State) (client own : List ℕ) (again : Bool)
     (o : Option Session) → IsTabled state
     → session_with_id own state.sessions ≡ o → Follows Live done state
-    → Follows Live (polled_more own (items_of (in_session state client o (poll_in state again)).1) done)
+    → Follows Live (polled_more own (items_polled (in_session state client o (poll_in state again)).1) done)
     (in_session state client o (poll_in state again)).0
 in_poll_follows done state client own again None tabled found w = nothing_more own done state w
 in_poll_follows done state client own again (Some s) tabled found w =
-    elim (cases_Bool (is_text s.client client)) [
+    elim (cases_Bool (is_same_text s.client client)) [
       | inl hit ↦ rw hit (queue_follows done state own again s s.queue tabled found refl w)
       | inr miss ↦ rw miss (nothing_more own done state w)
     ]
@@ -432,7 +432,7 @@ in_poll_follows done state client own again (Some s) tabled found w =
 pub poll_follows : {Live : Standing → Type 0} (done : List ℕ → Sets) (state : State) (client own : List ℕ) (again : Bool)
     (o : Option Session) → IsTabled state
     → session_with_id own state.sessions ≡ o → Follows Live done state
-    → Follows Live (polled_more own (items_of (poll state client again o).1) done) (poll state client again o).0
+    → Follows Live (polled_more own (items_polled (poll state client again o).1) done) (poll state client again o).0
 poll_follows done state client own true None tabled found w = nothing_more own done state w
 poll_follows done state client own true (Some s) tabled found w = in_poll_follows done state client own true (Some s) tabled found w
 poll_follows done state client own false o tabled found w = in_poll_follows done state client own false o tabled found w

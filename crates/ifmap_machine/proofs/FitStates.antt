@@ -30,8 +30,8 @@ use Rattle.ifmap_machine.specs.Step.{answer_subscribed, author_in, begin_session
 use Rattle.ifmap_machine.specs.Step.{next_session, poll, poll_in, poll_queue, publish, purge, renew, renew_first, renew_session}
 use Rattle.ifmap_machine.specs.Step.{search, step, step_ask, subscribe}
 use Rattle.ifmap_machine.specs.Subscribing.{Told, begin_name, drop_name, is_full_for, is_of_name, subscribe_op, subscribe_ops}
-use Rattle.ifmap_machine.specs.Telling.{differences, is_overfull, is_overrun, is_too_big, item_where, overflow, overflow_session, tell}
-use Rattle.ifmap_machine.specs.Telling.{tell_session, told_in, told_to, too_big_item}
+use Rattle.ifmap_machine.specs.Telling.{differences, is_overfull, is_overrun, is_too_big, item_if_any, overflow, overflow_session, tell}
+use Rattle.ifmap_machine.specs.Telling.{tell_session, told_in_session, told_to, too_big_item}
 use Rattle.ifmap_machine.proofs.FitTexts.{code_characters, limit_characters, limit_word}
 use Rattle.ifmap_meta.specs.ClientNames.{IsClientName}
 use Rattle.ifmap_meta.specs.Whole.{IsMetadata}
@@ -57,7 +57,7 @@ use Rattle.ifmap_search.specs.declared.results.Entry.{Entry}
 use Rattle.ifmap_search.specs.declared.results.PollItem.{PollItem}
 use Rattle.ifmap_search.specs.declared.results.PollItem.TheVariants as the_item
 use Rattle.ifmap_search.specs.declared.searches.Search.{Search}
-use Rattle.ifmap_session.specs.Sessions.{Session, change, is_named, is_text, session_of_client, with_last, without_items}
+use Rattle.ifmap_session.specs.Sessions.{Session, change, is_named, is_same_text, session_of_client, with_last, without_items}
 use Rattle.ifmap_session.specs.Sessions.{session_with_id}
 use Rattle.ifmap_session.specs.laws.TextLaws.{text_is}
 use Rattle.ifmap_view.specs.declared.attachments.Attachment.{Attachment}
@@ -101,7 +101,7 @@ fit_noted after s notes f =
     (all_filter (λ n. IsFitEntry (entry_noted n)) (is_told after s) notes f)
 
 fit_where : (item : List Entry → PollItem) → ((entries : List Entry) → AreFitEntries entries → IsFitPollItem (item entries))
-    → (entries : List Entry) → AreFitEntries entries → IsFitQueue (item_where item entries)
+    → (entries : List Entry) → AreFitEntries entries → IsFitQueue (item_if_any item entries)
 fit_where item f [] e = tt
 fit_where item f (x ∷ entries) e = (f (x ∷ entries) e, tt)
 
@@ -118,9 +118,9 @@ module _ (before after : List Attachment) (notes : List Note) (graph : IsGraph b
       let old = fresh before x.search in
       let new = fresh after x.search in
       let told = told_notes after x.search notes in
-      let went = item_where (the_item.Delete x.name) (difference old new) in
-      let came = item_where (the_item.Update x.name) (difference new old) in
-      let noted = item_where (the_item.Notify x.name) told in
+      let went = item_if_any (the_item.Delete x.name) (difference old new) in
+      let came = item_if_any (the_item.Update x.name) (difference new old) in
+      let noted = item_if_any (the_item.Notify x.name) told in
       both_all IsFitPollItem went (came ++ noted)
       (fit_where (the_item.Delete x.name) (λ es f. (name, f)) (difference old new)
       (fit_difference old new (fit_fresh before graph whole x.search)))
@@ -136,7 +136,7 @@ module _ (before after : List Attachment) (notes : List Note) (graph : IsGraph b
   ]
 
   fit_told_in : (standing : List Standing) (serial : ℕ) → AllByRecursion HasFitName standing
-      → IsFitQueue (told_in before after notes standing serial)
+      → IsFitQueue (told_in_session before after notes standing serial)
   fit_told_in standing serial names =
       fit_flat HasFitName IsFitPollItem (told_to before after notes) fit_told_to (standing_in serial standing)
       (all_filter HasFitName (λ x. x.serial == serial) standing names)
@@ -144,13 +144,13 @@ module _ (before after : List Attachment) (notes : List Note) (graph : IsGraph b
 -- ---- 2. what keeps states fit
 
 abbrev told_session : List Attachment → List Note → State → Session → Session
-told_session after notes state s = tell_session (told_in state.graph after notes state.standing s.serial) s
+told_session after notes state s = tell_session (told_in_session state.graph after notes state.standing s.serial) s
 
 module _ (after : List Attachment) (notes : List Note) (state : State) (at : IsFitState state) (graph : IsGraph after)
     (whole : AreWhole after) (fit : AreFitNotes notes) where
   fit_more : (s : Session) → HasFitQueue s → HasFitQueue (told_session after notes state s)
   fit_more s f =
-      both_all IsFitPollItem s.queue (told_in state.graph after notes state.standing s.serial) f
+      both_all IsFitPollItem s.queue (told_in_session state.graph after notes state.standing s.serial) f
       (fit_told_in state.graph after notes at.graph at.whole graph whole fit state.standing s.serial at.names)
 
   fit_tell : IsFitState (tell after notes state)
@@ -303,10 +303,10 @@ module _ (graph_retracted : (who : Who) (rows : List Attachment) → IsGraph row
   fit_former (Some s) state at = fit_end (s.serial ∷ []) state at
 
   fit_in_session : (state : State) (client : List ℕ) (accept : Session → State × Answer) (o : Option Session) → IsFitState state
-      → IfSome o HasFitQueue → ((s : Session) → HasFitQueue s → is_text s.client client ≡ true → IsFitStep (accept s))
+      → IfSome o HasFitQueue → ((s : Session) → HasFitQueue s → is_same_text s.client client ≡ true → IsFitStep (accept s))
       → IsFitStep (in_session state client o accept)
   fit_in_session state client accept None at queue f = (at, code_characters InvalidSessionID)
-  fit_in_session state client accept (Some s) at queue f = elim (cases_Bool (is_text s.client client)) [
+  fit_in_session state client accept (Some s) at queue f = elim (cases_Bool (is_same_text s.client client)) [
     | inl e ↦ rw e (f s queue e)
     | inr e ↦ rw e (at, code_characters AccessDenied)
   ]
@@ -343,7 +343,7 @@ module _ (graph_retracted : (who : Who) (rows : List Attachment) → IsGraph row
       )
 
   fit_purge : (state : State) (publisher : List ℕ) (s : Session) → IsFitState state → IsFitStep (purge state publisher s)
-  fit_purge state publisher s at = elim (cases_Bool (is_text publisher s.client)) [
+  fit_purge state publisher s at = elim (cases_Bool (is_same_text publisher s.client)) [
     | inl e ↦ rw e (
       fit_renew s.serial _ (fit_overflow _ (fit_retracted (Publisher publisher) state at state.graph at.graph at.whole)),
       tt,
@@ -400,20 +400,20 @@ module _ (graph_retracted : (who : Who) (rows : List Attachment) → IsGraph row
 
   fit_lost : (state : State) (client : List ℕ) (o : Option Session) → IsFitState state → IsFitStep (lose state client o)
   fit_lost state client None at = (at, tt)
-  fit_lost state client (Some s) at = elim (cases_Bool (is_text s.client client)) [
+  fit_lost state client (Some s) at = elim (cases_Bool (is_same_text s.client client)) [
     | inl e ↦ rw e (fit_end (s.serial ∷ []) state at, tt)
     | inr e ↦ rw e (at, tt)
   ]
 
   module _ (state : State) (event : Event) (name : IsClientName event.client) (at : IsFitState state) where
     in_own : (id : List ℕ) (accept : Session → State × Answer)
-        → ((s : Session) → HasFitQueue s → is_text s.client event.client ≡ true → IsFitStep (accept s))
+        → ((s : Session) → HasFitQueue s → is_same_text s.client event.client ≡ true → IsFitStep (accept s))
         → IsFitStep (in_session state event.client (session_with_id id state.sessions) accept)
     in_own id accept f =
         fit_in_session state event.client accept (session_with_id id state.sessions) at
-        (fit_found (λ s. is_text s.id id) state.sessions at.queues) f
+        (fit_found (λ s. is_same_text s.id id) state.sessions at.queues) f
 
-    own_name : (s : Session) → is_text s.client event.client ≡ true → IsClientName s.client
+    own_name : (s : Session) → is_same_text s.client event.client ≡ true → IsClientName s.client
     own_name s own = subst IsClientName (sym (text_is s.client event.client own)) name
 
     fit_ask : (ask : Ask) → IsFitAsk ask → IsFitStep (step_ask state event ask)
@@ -431,7 +431,7 @@ module _ (graph_retracted : (who : Who) (rows : List Attachment) → IsGraph row
         (record { queue = f; names = at.names })) at)
     fit_ask (Request (the_request.Poll id)) fit =
         fit_poll state event.client event.again (session_with_id id state.sessions)
-        (fit_found (λ s. is_text s.id id) state.sessions at.queues) at
+        (fit_found (λ s. is_same_text s.id id) state.sessions at.queues) at
     fit_ask (Request (the_request.PurgePublisher id publisher)) fit =
         in_own id (purge state publisher) (λ s f own. fit_purge state publisher s at)
 

@@ -17,13 +17,13 @@ use Rattle.ifmap_fresh.specs.Fresh.{fresh}
 use Rattle.ifmap_lemmas.specs.Having.{Has}
 use Rattle.ifmap_lemmas.specs.Members.{both_all}
 use Rattle.ifmap_machine.specs.State.{Standing, standing_order}
-use Rattle.ifmap_machine.specs.Telling.{is_too_big, item_where, told_to}
+use Rattle.ifmap_machine.specs.Telling.{is_too_big, item_if_any, told_to}
 use Rattle.ifmap_plans.specs.declared.plans.Note.{Note}
 use Rattle.ifmap_search.specs.declared.results.Entry.{Entry}
 use Rattle.ifmap_search.specs.declared.results.PollItem.{PollItem}
 use Rattle.ifmap_search.specs.declared.results.PollItem.TheVariants as the_item
 use Rattle.ifmap_search.specs.declared.searches.Search.{Search}
-use Rattle.ifmap_session.specs.Sessions.{is_named, is_text}
+use Rattle.ifmap_session.specs.Sessions.{is_named, is_same_text}
 use Rattle.ifmap_session.specs.laws.TextLaws.{text_flip, text_is, text_itself}
 use Rattle.ifmap_view.specs.declared.attachments.Attachment.{Attachment}
 use Rattle.ifmap_folds.specs.laws.FoldingLaws.{difference_none}
@@ -36,13 +36,13 @@ fold_joined (item ∷ items) more sets = fold_joined items more (fold_item item 
 -- ---- other names
 
 -- what is set under a name is not seen under another
-other_set : (m n : List ℕ) (new old : Option (List Entry)) → is_text m n ≡ false → cond (bytes_eq m n) new old ≡ old
+other_set : (m n : List ℕ) (new old : Option (List Entry)) → is_same_text m n ≡ false → cond (bytes_eq m n) new old ≡ old
 other_set m n new old other = rw other refl
 
-renamed : (own m n : List ℕ) → is_text own m ≡ true → is_text m n ≡ false → is_text own n ≡ false
-renamed own m n named other = subst (λ t. is_text t n ≡ false) (sym (text_is own m named)) other
+renamed : (own m n : List ℕ) → is_same_text own m ≡ true → is_same_text m n ≡ false → is_same_text own n ≡ false
+renamed own m n named other = subst (λ t. is_same_text t n ≡ false) (sym (text_is own m named)) other
 
-pub other_stays : (item : PollItem) (sets : Sets) (m n : List ℕ) → is_named m item ≡ true → is_text m n ≡ false
+pub other_stays : (item : PollItem) (sets : Sets) (m n : List ℕ) → is_named m item ≡ true → is_same_text m n ≡ false
     → fold_item item sets n ≡ sets n
 other_stays (the_item.Search own entries) sets m n named other = other_set own n _ (sets n) (renamed own m n named other)
 other_stays (the_item.Update own entries) sets m n named other = other_set own n _ (sets n) (renamed own m n named other)
@@ -52,7 +52,7 @@ other_stays (the_item.Error None code note) sets m n named other = let bad : fal
 other_stays (the_item.Error (Some own) code note) sets m n named other = other_set own n _ (sets n) (renamed own m n named other)
 
 pub others_stay : (items : List PollItem) (sets : Sets) (m n : List ℕ) → AllByRecursion (λ i. is_named m i ≡ true) items
-    → is_text m n ≡ false → fold_items items sets n ≡ sets n
+    → is_same_text m n ≡ false → fold_items items sets n ≡ sets n
 others_stay [] sets m n named other = refl
 others_stay (item ∷ items) sets m n named other =
     others_stay items (fold_item item sets) m n named.1 other ∙ other_stays item sets m n named.0 other
@@ -63,7 +63,7 @@ others_stay (item ∷ items) sets m n named other =
 local_set : (own n : List ℕ) (f : Option (List Entry) → Option (List Entry)) (sets other : Sets) → sets n ≡ other n
     → cond (bytes_eq own n) (f (sets own)) (sets n) ≡ cond (bytes_eq own n) (f (other own)) (other n)
 local_set own n f sets other same =
-    elim (cases_Bool (is_text own n)) [
+    elim (cases_Bool (is_same_text own n)) [
       | inl hit ↦
           let there : sets own ≡ other own = subst (λ t. sets t ≡ other t) (sym (text_is own n hit)) same in
           rw hit (ap f there)
@@ -88,7 +88,7 @@ items_local (item ∷ items) sets other n same =
     items_local items (fold_item item sets) (fold_item item other) n (item_local item sets other n same)
 
 -- items of another name can be left out
-pub dropped_stay : (items : List PollItem) (sets other : Sets) (m n : List ℕ) → is_text m n ≡ false → sets n ≡ other n
+pub dropped_stay : (items : List PollItem) (sets other : Sets) (m n : List ℕ) → is_same_text m n ≡ false → sets n ≡ other n
     → fold_items (filter (λ item. not (is_named m item)) items) sets n ≡ fold_items items other n
 dropped_stay [] sets other m n apart same = same
 dropped_stay (item ∷ items) sets other m n apart same =
@@ -102,7 +102,7 @@ dropped_stay (item ∷ items) sets other m n apart same =
 -- ---- what one subscription is told
 
 where_named : (name : List ℕ) (item : List Entry → PollItem) → ((entries : List Entry) → is_named name (item entries) ≡ true)
-    → (entries : List Entry) → AllByRecursion (λ i. is_named name i ≡ true) (item_where item entries)
+    → (entries : List Entry) → AllByRecursion (λ i. is_named name i ≡ true) (item_if_any item entries)
 where_named name item named [] = tt
 where_named name item named (e ∷ entries) = (named (e ∷ entries), tt)
 
@@ -114,32 +114,32 @@ told_named before after notes x =
     let b : List Entry = fresh after x.search in
     elim (cases_Bool (is_too_big after x.search)) [
       | inl hit ↦ rw hit (own, tt)
-      | inr miss ↦ rw miss (both_all (λ i. is_named x.name i ≡ true) (item_where (the_item.Delete x.name) (difference a b)) _
+      | inr miss ↦ rw miss (both_all (λ i. is_named x.name i ≡ true) (item_if_any (the_item.Delete x.name) (difference a b)) _
           (where_named x.name (the_item.Delete x.name) (λ entries. own) (difference a b))
-          (both_all (λ i. is_named x.name i ≡ true) (item_where (the_item.Update x.name) (difference b a)) _
+          (both_all (λ i. is_named x.name i ≡ true) (item_if_any (the_item.Update x.name) (difference b a)) _
           (where_named x.name (the_item.Update x.name) (λ entries. own) (difference b a))
           (where_named x.name (the_item.Notify x.name) (λ entries. own) (told_notes after x.search notes))))
     ]
 
 own_set : (n : List ℕ) (new old : Option (List Entry)) → cond (bytes_eq n n) new old ≡ new
-own_set n new old = let own : is_text n n ≡ true = text_itself n in rw own refl
+own_set n new old = let own : is_same_text n n ≡ true = text_itself n in rw own refl
 
 deleted : (name : List ℕ) (entries : List Entry) (sets : Sets) (a : List Entry) → sets name ≡ Some a
-    → fold_items (item_where (the_item.Delete name) entries) sets name ≡ Some (difference a entries)
+    → fold_items (item_if_any (the_item.Delete name) entries) sets name ≡ Some (difference a entries)
 deleted name [] sets a is = is ∙ ap Some (sym (difference_none a))
 deleted name (e ∷ entries) sets a is =
     own_set name (option_map (λ set. difference set (e ∷ entries)) (sets name)) (sets name)
     ∙ ap (option_map (λ set. difference set (e ∷ entries))) is
 
 updated : (name : List ℕ) (entries : List Entry) (sets : Sets) (a : List Entry) → sets name ≡ Some a
-    → fold_items (item_where (the_item.Update name) entries) sets name ≡ Some (with_entries entries a)
+    → fold_items (item_if_any (the_item.Update name) entries) sets name ≡ Some (with_entries entries a)
 updated name [] sets a is = is
 updated name (e ∷ entries) sets a is =
     own_set name (Some (with_entries (e ∷ entries) (unwrap_or (sets name) []))) (sets name)
     ∙ ap (λ set. Some (with_entries (e ∷ entries) (unwrap_or set []))) is
 
 notified : (name : List ℕ) (entries : List Entry) (sets : Sets)
-    → fold_items (item_where (the_item.Notify name) entries) sets name ≡ sets name
+    → fold_items (item_if_any (the_item.Notify name) entries) sets name ≡ sets name
 notified name [] sets = refl
 notified name (e ∷ entries) sets = refl
 
@@ -155,9 +155,9 @@ pub told_own : (before after : List Attachment) (notes : List Note) (x : Standin
 told_own before after notes x sets folds fits is =
     let a : List Entry = fresh before x.search in
     let b : List Entry = fresh after x.search in
-    let gone : List PollItem = item_where (the_item.Delete x.name) (difference a b) in
-    let come : List PollItem = item_where (the_item.Update x.name) (difference b a) in
-    let heard : List PollItem = item_where (the_item.Notify x.name) (told_notes after x.search notes) in
+    let gone : List PollItem = item_if_any (the_item.Delete x.name) (difference a b) in
+    let come : List PollItem = item_if_any (the_item.Update x.name) (difference b a) in
+    let heard : List PollItem = item_if_any (the_item.Notify x.name) (told_notes after x.search notes) in
     let first = deleted x.name (difference a b) sets a is in
     let second = updated x.name (difference b a) (fold_items gone sets) (difference a (difference a b)) first in
     let third = notified x.name (told_notes after x.search notes) (fold_items come (fold_items gone sets)) in
@@ -167,9 +167,9 @@ told_own before after notes x sets folds fits is =
 -- ---- what all subscriptions of a session are told
 
 -- later ones of the same session have other names
-pub names_apart : (y z : Standing) → y.serial ≡ z.serial → standing_order y z ≡ Less → is_text y.name z.name ≡ false
+pub names_apart : (y z : Standing) → y.serial ≡ z.serial → standing_order y z ≡ Less → is_same_text y.name z.name ≡ false
 names_apart y z serials less =
-    elim (cases_Bool (is_text y.name z.name)) [
+    elim (cases_Bool (is_same_text y.name z.name)) [
       | inl hit ↦ let tied = order_same y z serials (text_is y.name z.name hit) in let bad : Less ≡ Equal = sym less ∙ tied in cc
       | inr miss ↦ miss
     ]
@@ -179,7 +179,7 @@ abbrev pub AreOf : ℕ → List Standing → Type 0
 AreOf serial xs = AllByRecursion (λ (x : Standing). x.serial ≡ serial) xs
 
 others_named : (serial : ℕ) (y : Standing) (xs : List Standing) → y.serial ≡ serial → AreOf serial xs
-    → AllByRecursion (λ z. standing_order y z ≡ Less) xs → AllByRecursion (λ (z : Standing). is_text z.name y.name ≡ false) xs
+    → AllByRecursion (λ z. standing_order y z ≡ Less) xs → AllByRecursion (λ (z : Standing). is_same_text z.name y.name ≡ false) xs
 others_named serial y [] own are less = tt
 others_named serial y (z ∷ xs) own are less = (
   text_flip z.name y.name ∙ names_apart y z (own ∙ sym are.0) less.0,
@@ -187,7 +187,7 @@ others_named serial y (z ∷ xs) own are less = (
 )
 
 told_others : (before after : List Attachment) (notes : List Note) (xs : List Standing) (sets : Sets) (n : List ℕ)
-    → AllByRecursion (λ (z : Standing). is_text z.name n ≡ false) xs
+    → AllByRecursion (λ (z : Standing). is_same_text z.name n ≡ false) xs
     → fold_items (flat_map (told_to before after notes) xs) sets n ≡ sets n
 told_others before after notes [] sets n apart = refl
 told_others before after notes (z ∷ xs) sets n apart =
@@ -217,13 +217,13 @@ told_all before after notes serial (y ∷ xs) x sets up are (inl e) folds fits i
     let told = told_own before after notes x sets folds fits is in
     let same : fold_items (told_to before after notes y) sets x.name ≡ Some (fresh after x.search) =
     subst (λ z. fold_items (told_to before after notes z) sets x.name ≡ Some (fresh after x.search)) (sym e) told in
-    let apart : AllByRecursion (λ (z : Standing). is_text z.name x.name ≡ false) xs =
-    subst (λ (w : Standing). AllByRecursion (λ (z : Standing). is_text z.name w.name ≡ false) xs) e
+    let apart : AllByRecursion (λ (z : Standing). is_same_text z.name x.name ≡ false) xs =
+    subst (λ (w : Standing). AllByRecursion (λ (z : Standing). is_same_text z.name w.name ≡ false) xs) e
     (others_named serial y xs are.0 are.1 up.0) in
     ap (λ f. f x.name) (fold_joined (told_to before after notes y) (flat_map (told_to before after notes) xs) sets)
     ∙ told_others before after notes xs (fold_items (told_to before after notes y) sets) x.name apart ∙ same
 told_all before after notes serial (y ∷ xs) x sets up are (inr h) folds fits is =
-    let other : is_text y.name x.name ≡ false =
+    let other : is_same_text y.name x.name ≡ false =
     names_apart y x (are.0 ∙ sym (of_all serial x xs are.1 h)) (less_all y x xs up.0 h) in
     ap (λ f. f x.name) (fold_joined (told_to before after notes y) (flat_map (told_to before after notes) xs) sets)
     ∙ told_all before after notes serial xs x (fold_items (told_to before after notes y) sets) up.1 are.1 h folds fits

@@ -22,7 +22,7 @@ use Rattle.ifmap_requests.specs.declared.publishing.PublishOp.{PublishOp}
 use Rattle.ifmap_requests.specs.declared.requests.Request.TheVariants as the_request
 use Rattle.ifmap_requests.specs.Fit.{IsFitOp}
 use Rattle.ifmap_search.specs.declared.results.PollItem.{PollItem}
-use Rattle.ifmap_session.specs.Sessions.{Session, is_text, session_of_client, session_with_id}
+use Rattle.ifmap_session.specs.Sessions.{Session, is_same_text, session_of_client, session_with_id}
 use Rattle.ifmap_session.specs.laws.TextLaws.{text_is}
 use Rattle.ifmap_view.specs.declared.attachments.Attachment.{Attachment}
 
@@ -41,11 +41,11 @@ module _ (Good : List Attachment → Type 0) (good_none : Good []) (good_retract
   former_good (Some s) state g = ended_good (s.serial ∷ []) state g
 
   in_session_good : (state : State) (client : List ℕ) (accept : Session → State × Answer) (o : Option Session)
-      → ((s : Session) → is_text s.client client ≡ true → Good (accept s).0.graph) → Good state.graph
+      → ((s : Session) → is_same_text s.client client ≡ true → Good (accept s).0.graph) → Good state.graph
       → Good (in_session state client o accept).0.graph
   in_session_good state client accept None f g = g
   in_session_good state client accept (Some s) f g =
-      elim (cases_Bool (is_text s.client client)) [ inl hit ↦ rw hit (f s hit) | inr miss ↦ rw miss g ]
+      elim (cases_Bool (is_same_text s.client client)) [ inl hit ↦ rw hit (f s hit) | inr miss ↦ rw miss g ]
 
   subscribed_good : (state : State) (s : Session) (o : Option Told) → Good state.graph → Good (answer_subscribed state s o).0.graph
   subscribed_good state s None g = g
@@ -71,7 +71,7 @@ module _ (Good : List Attachment → Type 0) (good_none : Good []) (good_retract
   lost_good : (state : State) (client : List ℕ) (o : Option Session) → Good state.graph → Good (lose state client o).0.graph
   lost_good state client None g = g
   lost_good state client (Some s) g =
-      elim (cases_Bool (is_text s.client client)) [ inl hit ↦ rw hit (ended_good (s.serial ∷ []) state g) | inr miss ↦ rw miss g ]
+      elim (cases_Bool (is_same_text s.client client)) [ inl hit ↦ rw hit (ended_good (s.serial ∷ []) state g) | inr miss ↦ rw miss g ]
 
   pub step_good : (state : State) (event : Event) (ask : Ask) → IsClientName event.client → IsFitAsk ask → Good state.graph
       → Good (step_ask state event ask).0.graph
@@ -100,7 +100,7 @@ module _ (Good : List Attachment → Type 0) (good_none : Good []) (good_retract
       poll_good state event.client event.again (session_with_id id state.sessions) g
   step_good state event (Request (the_request.PurgePublisher id publisher)) name fit g =
       in_session_good state event.client (purge state publisher) (session_with_id id state.sessions)
-      (λ s own. elim (cases_Bool (is_text publisher s.client)) [
+      (λ s own. elim (cases_Bool (is_same_text publisher s.client)) [
         | inl hit ↦ rw hit (good_retracted (Publisher publisher) state.graph g)
         | inr miss ↦ rw miss g
       ]) g

@@ -18,11 +18,11 @@ use Rattle.ifmap_machine.specs.declared.events.Answer.{Answer}
 use Rattle.ifmap_machine.specs.declared.events.Answer.TheVariants as the_answer
 use Rattle.ifmap_machine.specs.declared.events.Ask.{Ask}
 use Rattle.ifmap_machine.specs.declared.events.Ask.TheVariants.{Request, Lost}
-use Rattle.ifmap_machine.specs.Agreeing.{Agrees, AgreesAfter, IsTold, all_polled, items_of, polled_by}
+use Rattle.ifmap_machine.specs.Agreeing.{Agrees, AgreesAfter, IsToldOrHeld, all_polled, items_polled, polled_by}
 use Rattle.ifmap_machine.specs.Ending.{drop_sessions, end_former, end_some, expire}
 use Rattle.ifmap_machine.specs.Events.{Event, IsFitAsk, IsFitEvent}
 use Rattle.ifmap_machine.specs.Legal.{AreFit, History, Legal, LegalFrom, state_after, state_from}
-use Rattle.ifmap_machine.specs.Since.{AgreesFrom, FoldsSince, IsToldPoll, Keeps, Updates}
+use Rattle.ifmap_machine.specs.Since.{AgreesFrom, FoldsSince, IsToldPoll, KeepsSubscription, Updates}
 use Rattle.ifmap_machine.specs.State.{Standing, State, advance, opening}
 use Rattle.ifmap_machine.specs.Step.{answer_subscribed, author_in, end_session, in_session, is_full, lose, poll, poll_in}
 use Rattle.ifmap_machine.specs.Step.{poll_queue, publish, purge, renew, renew_first, renew_session, search, step, step_ask, subscribe}
@@ -50,7 +50,7 @@ use Rattle.ifmap_requests.specs.declared.requests.SubscribeOp.TheVariants.{Updat
 use Rattle.ifmap_requests.specs.Fit.{IsFitOp}
 use Rattle.ifmap_search.specs.declared.results.PollItem.{PollItem}
 use Rattle.ifmap_search.specs.declared.searches.Search.{Search}
-use Rattle.ifmap_session.specs.Sessions.{Session, change, is_text, session_of_client, session_with_id, with_last, without_items}
+use Rattle.ifmap_session.specs.Sessions.{Session, change, is_same_text, session_of_client, session_with_id, with_last, without_items}
 use Rattle.ifmap_session.specs.laws.TextLaws.{text_is}
 use Rattle.ifmap_view.specs.declared.attachments.Attachment.{Attachment}
 
@@ -61,9 +61,9 @@ find_mapped : (id : List ℕ) (f : Session → Session) → ((s : Session) → (
     → session_with_id id (map f live) ≡ option_map f (session_with_id id live)
 find_mapped id f k [] = refl
 find_mapped id f k (x ∷ live) =
-    elim (cases_Bool (is_text x.id id)) [
-      | inl hit ↦ let now : is_text (f x).id id ≡ true = ap (λ t. is_text t id) (k x) ∙ hit in rw (now, hit) refl
-      | inr miss ↦ let now : is_text (f x).id id ≡ false = ap (λ t. is_text t id) (k x) ∙ miss in
+    elim (cases_Bool (is_same_text x.id id)) [
+      | inl hit ↦ let now : is_same_text (f x).id id ≡ true = ap (λ t. is_same_text t id) (k x) ∙ hit in rw (now, hit) refl
+      | inr miss ↦ let now : is_same_text (f x).id id ≡ false = ap (λ t. is_same_text t id) (k x) ∙ miss in
           rw (now, miss) (find_mapped id f k live)
     ]
 
@@ -114,17 +114,17 @@ queue_empties id state again own (item ∷ items) is there =
     (emptied_empty id state own there)
 
 in_session_empties : (id client : List ℕ) (state : State) (again : Bool) (o : Option Session) → session_with_id id state.sessions ≡ o
-    → IsTold (in_session state client o (poll_in state again)).1 → (s : Session)
+    → IsToldOrHeld (in_session state client o (poll_in state again)).1 → (s : Session)
     → session_with_id id (in_session state client o (poll_in state again)).0.sessions ≡ Some s → s.queue ≡ []
 in_session_empties id client state again None there told = absurd told
 in_session_empties id client state again (Some own) there told =
-    elim (cases_Bool (is_text own.client client)) [
+    elim (cases_Bool (is_same_text own.client client)) [
       | inl hit ↦ rw hit (queue_empties id state again own own.queue refl there)
       | inr miss ↦ absurd (rw miss at told)
     ]
 
 told_empties : (id client : List ℕ) (state : State) (again : Bool) (o : Option Session) → session_with_id id state.sessions ≡ o
-    → IsTold (poll state client again o).1 → (s : Session)
+    → IsToldOrHeld (poll state client again o).1 → (s : Session)
     → session_with_id id (poll state client again o).0.sessions ≡ Some s → s.queue ≡ []
 told_empties id client state true None there told = absurd told
 told_empties id client state true (Some own) there told = in_session_empties id client state true (Some own) there told
@@ -153,17 +153,17 @@ queue_finds id state again own (item ∷ items) there =
     renewed_finds id again own.serial (record state { sessions = change own.serial without_items state.sessions }) one.0 one.1
 
 in_session_finds : (id client : List ℕ) (state : State) (again : Bool) (o : Option Session) → session_with_id id state.sessions ≡ o
-    → IsTold (in_session state client o (poll_in state again)).1
+    → IsToldOrHeld (in_session state client o (poll_in state again)).1
     → (s : Session) × (session_with_id id (in_session state client o (poll_in state again)).0.sessions ≡ Some s)
 in_session_finds id client state again None there told = absurd told
 in_session_finds id client state again (Some own) there told =
-    elim (cases_Bool (is_text own.client client)) [
+    elim (cases_Bool (is_same_text own.client client)) [
       | inl hit ↦ rw hit (queue_finds id state again own own.queue there)
       | inr miss ↦ absurd (rw miss at told)
     ]
 
 told_finds : (id client : List ℕ) (state : State) (again : Bool) (o : Option Session) → session_with_id id state.sessions ≡ o
-    → IsTold (poll state client again o).1 → (s : Session) × (session_with_id id (poll state client again o).0.sessions ≡ Some s)
+    → IsToldOrHeld (poll state client again o).1 → (s : Session) × (session_with_id id (poll state client again o).0.sessions ≡ Some s)
 told_finds id client state true None there told = absurd told
 told_finds id client state true (Some own) there told = in_session_finds id client state true (Some own) there told
 told_finds id client state false o there told = in_session_finds id client state false o there told
@@ -211,12 +211,12 @@ module _ (Good : List Attachment → Type 0) (good_none : Good []) (good_retract
 
   in_session_follows : {Live : Standing → Type 0} (done : List ℕ → Sets) (state : State) (client : List ℕ)
       (accept : Session → State × Answer) (o : Option Session)
-      → ((s : Session) → o ≡ Some s → is_text s.client client ≡ true → Good (accept s).0.graph × Follows Live done (accept s).0)
+      → ((s : Session) → o ≡ Some s → is_same_text s.client client ≡ true → Good (accept s).0.graph × Follows Live done (accept s).0)
       → Good state.graph → Follows Live done state
       → Good (in_session state client o accept).0.graph × Follows Live done (in_session state client o accept).0
   in_session_follows done state client accept None f good w = (good, w)
   in_session_follows done state client accept (Some s) f good w =
-      elim (cases_Bool (is_text s.client client)) [ inl hit ↦ rw hit (f s refl hit) | inr miss ↦ rw miss (good, w) ]
+      elim (cases_Bool (is_same_text s.client client)) [ inl hit ↦ rw hit (f s refl hit) | inr miss ↦ rw miss (good, w) ]
 
   subscribed_follows : {Live : Standing → Type 0} (done : List ℕ → Sets) (state : State) (q : Session → Bool) (s : Session)
       (ops : List SubscribeOp)
@@ -247,7 +247,7 @@ module _ (Good : List Attachment → Type 0) (good_none : Good []) (good_retract
 
   -- what is told after one more ask
   abbrev done_after : Ask → Answer → (List ℕ → Sets) → List ℕ → Sets
-  done_after ask answer done id = fold_items (polled_by id ask (items_of answer)) (done id)
+  done_after ask answer done id = fold_items (polled_by id ask (items_polled answer)) (done id)
 
   step_follows : {Live : Standing → Type 0} (done : List ℕ → Sets) (state : State) (event : Event) (ask : Ask)
       → IsClientName event.client → IsFitAsk ask
@@ -258,7 +258,7 @@ module _ (Good : List Attachment → Type 0) (good_none : Good []) (good_retract
     where
       lost : (o : Option Session) → Good (lose state event.client o).0.graph × Follows Live done (lose state event.client o).0
       lost None = (good, w)
-      lost (Some s) = elim (cases_Bool (is_text s.client event.client)) [
+      lost (Some s) = elim (cases_Bool (is_same_text s.client event.client)) [
         | inl hit ↦ rw hit (ended_follows (s.serial ∷ []) done state stood good w)
         | inr miss ↦ rw miss (good, w)
       ]
@@ -292,7 +292,7 @@ module _ (Good : List Attachment → Type 0) (good_none : Good []) (good_retract
       ]) good w
   step_follows done state event (Request (the_request.Subscribe id ops)) name fit tabled stood good w =
       in_session_follows done state event.client (subscribe state ops) (session_with_id id state.sessions)
-      (λ s found own. subscribed_follows done state (λ (y : Session). is_text y.id id) s ops tabled good w found) good w
+      (λ s found own. subscribed_follows done state (λ (y : Session). is_same_text y.id id) s ops tabled good w found) good w
   step_follows done state event (Request (the_request.Poll id)) name fit tabled stood good w = (
     polled event.again (session_with_id id state.sessions),
     poll_follows done state event.client id event.again (session_with_id id state.sessions) tabled refl w,
@@ -308,7 +308,7 @@ module _ (Good : List Attachment → Type 0) (good_none : Good []) (good_retract
 
       in_one : (again : Bool) (o : Option Session) → Good (in_session state event.client o (poll_in state again)).0.graph
       in_one again None = good
-      in_one again (Some s) = elim (cases_Bool (is_text s.client event.client)) [
+      in_one again (Some s) = elim (cases_Bool (is_same_text s.client event.client)) [
         | inl hit ↦ rw hit (queued again s s.queue)
         | inr miss ↦ rw miss good
       ]
@@ -319,7 +319,7 @@ module _ (Good : List Attachment → Type 0) (good_none : Good []) (good_retract
       polled false o = in_one false o
   step_follows done state event (Request (the_request.PurgePublisher id publisher)) name fit tabled stood good w =
       in_session_follows done state event.client (purge state publisher) (session_with_id id state.sessions)
-      (λ s found own. elim (cases_Bool (is_text publisher s.client)) [
+      (λ s found own. elim (cases_Bool (is_same_text publisher s.client)) [
         | inl hit ↦
             let good_after = good_retracted (Publisher publisher) state.graph good in
             rw hit (good_after, changed_follows s.serial (retract (Publisher publisher) state.graph) [] done state stood good good_after w)
@@ -361,7 +361,7 @@ module _ (Good : List Attachment → Type 0) (good_none : Good []) (good_retract
         follows = record {
           folded = λ s x hs hx same live.
               ap (λ (g : Sets). fold_items s.queue g x.name)
-              (fold_joined (polled_by s.id e.0.ask (items_of e.1)) (all_polled s.id history) (done s.id))
+              (fold_joined (polled_by s.id e.0.ask (items_polled e.1)) (all_polled s.id history) (done s.id))
               ∙ rest.follows.folded s x hs hx same live;
           below = rest.follows.below;
         };
@@ -409,13 +409,13 @@ module _ (Good : List Attachment → Type 0) (good_none : Good []) (good_retract
       let history : History = before ++ asked ∷ [] in
       let after : State = state_from start history in
       let held = history_holds history done start legal fit holds in
-      let there = find_has (λ (y : Session). is_text y.id id) after.sessions s found in
+      let there = find_has (λ (y : Session). is_same_text y.id id) after.sessions s found in
       let own : s.id ≡ id = text_is s.id id there.1 in
       let parts = legal_before start before (asked ∷ []) legal in
       let joined = state_joined start before (asked ∷ []) in
       let now : State = expire (advance asked.0.moment (state_from start before)) in
-      let answered : IsTold (step_ask now asked.0 (Request (the_request.Poll id))).1 =
-      subst (λ ask. IsTold (step_ask now asked.0 ask).1) told.0 (subst IsTold parts.1.0 told.1) in
+      let answered : IsToldOrHeld (step_ask now asked.0 (Request (the_request.Poll id))).1 =
+      subst (λ ask. IsToldOrHeld (step_ask now asked.0 ask).1) told.0 (subst IsToldOrHeld parts.1.0 told.1) in
       let found_now : session_with_id id (step_ask now asked.0 (Request (the_request.Poll id))).0.sessions ≡ Some s =
       subst (λ ask. session_with_id id (step_ask now asked.0 ask).0.sessions ≡ Some s) told.0
       (ap (λ (y : State). session_with_id id y.sessions) (sym joined) ∙ found) in
@@ -426,7 +426,7 @@ module _ (Good : List Attachment → Type 0) (good_none : Good []) (good_retract
       (subst (λ q. fold_items q (fold_items (all_polled s.id history) (done s.id)) x.name ≡ Some (fresh after.graph x.search)) empty folded)
 
   after_one : (ttl : ℕ) (before : History) (event : Event) (answer : Answer) (id : List ℕ) → Legal ttl (before ++ ((event, answer) ∷ []))
-      → AreFit (before ++ ((event, answer) ∷ [])) → event.ask ≡ Request (the_request.Poll id) → IsTold answer
+      → AreFit (before ++ ((event, answer) ∷ [])) → event.ask ≡ Request (the_request.Poll id) → IsToldOrHeld answer
       → AgreesAfter ttl (before ++ ((event, answer) ∷ [])) id
   after_one ttl before event answer id legal fit asked told s x found hx same =
       polled_folds {Live = λ (y : Standing). Unit {0}} (λ _. no_sets) (opening ttl) before (event, answer) id
@@ -494,10 +494,10 @@ module _ (Good : List Attachment → Type 0) (good_none : Good []) (good_retract
       → Follows (λ (x : Standing). (x.serial ≡ n) × (x.name ≡ name)) done (in_session state client o (subscribe state ops)).0
   renewed_in done state client id ops name asked n None found tabled good w has serial e = cc
   renewed_in done state client id ops name asked n (Some s) found tabled good w has serial e =
-      elim (cases_Bool (is_text s.client client)) [
+      elim (cases_Bool (is_same_text s.client client)) [
         | inl hit ↦
-            let there = find_has (λ (y : Session). is_text y.id id) state.sessions s found in
-            rw hit (renewed_answer done state (λ (y : Session). is_text y.id id) s ops name asked n tabled good w found has
+            let there = find_has (λ (y : Session). is_same_text y.id id) state.sessions s found in
+            rw hit (renewed_answer done state (λ (y : Session). is_same_text y.id id) s ops name asked n tabled good w found has
             (serial s there.0 (text_is s.id id there.1)) (rw hit at e))
         | inr miss ↦ let bad = rw miss at e in cc
       ]
@@ -537,14 +537,14 @@ module _ (Good : List Attachment → Type 0) (good_none : Good []) (good_retract
       let bare = none_hold done (λ _. sets) state holds in
       let whole = event_holds (λ _. sets) state e.0 fit bare in
       let now : State = expire (advance e.0.moment state) in
-      let told : IsTold (step_ask now e.0 (Request (the_request.Poll id))).1 =
-      subst (λ ask. IsTold (step_ask now e.0 ask).1) poll.0 (subst IsTold answered poll.1) in
+      let told : IsToldOrHeld (step_ask now e.0 (Request (the_request.Poll id))).1 =
+      subst (λ ask. IsToldOrHeld (step_ask now e.0 ask).1) poll.0 (subst IsToldOrHeld answered poll.1) in
       let one = told_finds id e.0.client now e.0.again (session_with_id id now.sessions) refl told in
       let found : session_with_id id (step state e.0).0.sessions ≡ Some one.0 =
       subst (λ ask. session_with_id id (step_ask now e.0 ask).0.sessions ≡ Some one.0) (sym poll.0) one.1 in
       let empty : one.0.queue ≡ [] =
       told_empties id e.0.client now e.0.again (session_with_id id now.sessions) refl told one.0 one.1 in
-      let has = find_has (λ (y : Session). is_text y.id id) (step state e.0).0.sessions one.0 found in
+      let has = find_has (λ (y : Session). is_same_text y.id id) (step state e.0).0.sessions one.0 found in
       let serials : one.0.serial ≡ own.serial =
       one_serial (step state e.0).0 last one.0 own whole.tabled tabled has.0 there (text_is one.0.id id has.1 ∙ sym own_is) in
       record {
@@ -564,9 +564,9 @@ module _ (Good : List Attachment → Type 0) (good_none : Good []) (good_retract
 
   all_joined : (id : List ℕ) (first since : History) (e : Event × Answer) (sets : Sets)
       → fold_items (all_polled id (first ++ e ∷ since)) sets
-      ≡ fold_items (all_polled id since) (fold_items (polled_by id e.0.ask (items_of e.1)) (fold_items (all_polled id first) sets))
+      ≡ fold_items (all_polled id since) (fold_items (polled_by id e.0.ask (items_polled e.1)) (fold_items (all_polled id first) sets))
   all_joined id first since e sets =
-      let told : Event × Answer → List PollItem = λ a. polled_by id a.0.ask (items_of a.1) in
+      let told : Event × Answer → List PollItem = λ a. polled_by id a.0.ask (items_polled a.1) in
       ap (λ items. fold_items items sets) (flat_map-append told first (e ∷ since))
       ∙ fold_joined (all_polled id first) (all_polled id (e ∷ since)) sets
       ∙ fold_joined (told e) (all_polled id since) (fold_items (all_polled id first) sets)
@@ -574,7 +574,7 @@ module _ (Good : List Attachment → Type 0) (good_none : Good []) (good_retract
   since_entry : (start : State) (first later : History) (e asked : Event × Answer) (id : List ℕ) (x : Standing)
       → Holds (λ (y : Standing). ⊥) (λ _. no_sets) start → LegalFrom start (first ++ e ∷ (later ++ asked ∷ []))
       → AreFit (first ++ e ∷ (later ++ asked ∷ [])) → IsToldPoll id asked
-      → Keeps (state_from start (first ++ e ∷ (later ++ asked ∷ []))) id x → FoldsSince start first (later ++ asked ∷ []) e id x
+      → KeepsSubscription (state_from start (first ++ e ∷ (later ++ asked ∷ []))) id x → FoldsSince start first (later ++ asked ∷ []) e id x
   since_entry start first later e asked id x holds legal fit told keeps =
       let since : History = later ++ asked ∷ [] in
       let last : State = state_from start (first ++ e ∷ since) in
@@ -583,7 +583,7 @@ module _ (Good : List Attachment → Type 0) (good_none : Good []) (good_retract
       let fits = fit_before first (e ∷ since) fit in
       let bare = history_holds first (λ _. no_sets) start parts.0 fits.0 holds in
       let whole = history_holds (first ++ e ∷ since) (λ _. no_sets) start legal fit holds in
-      let there = find_has (λ (y : Session). is_text y.id id) last.sessions keeps.session keeps.found in
+      let there = find_has (λ (y : Session). is_same_text y.id id) last.sessions keeps.session keeps.found in
       let own_is : keeps.session.id ≡ id = text_is keeps.session.id id there.1 in
       let joined : last ≡ state_from (step mid e.0).0 since = state_joined start first (e ∷ since) in
       let found : session_with_id id (state_from (step mid e.0).0 since).sessions ≡ Some keeps.session =
@@ -593,7 +593,7 @@ module _ (Good : List Attachment → Type 0) (good_none : Good []) (good_retract
       ap (λ (y : State). Some (fresh y.graph x.search)) (sym joined) in
       record {
         updated = λ u.
-            let sets : List ℕ → Sets = λ i. fold_items (polled_by i e.0.ask (items_of e.1)) (fold_items (all_polled i first) no_sets) in
+            let sets : List ℕ → Sets = λ i. fold_items (polled_by i e.0.ask (items_polled e.1)) (fold_items (all_polled i first) no_sets) in
             let renewed = renewed_holds _ sets mid last e id x.name keeps.session bare fits.1.0 parts.1.0 u whole.tabled there.0 own_is in
             ap (λ (f : Sets). f x.name) (all_joined id first since e no_sets)
             ∙ polled_folds sets (step mid e.0).0 later asked id renewed parts.1.1 fits.1.1 told keeps.session x found stands keeps.own

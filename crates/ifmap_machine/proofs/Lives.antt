@@ -35,16 +35,16 @@ use Rattle.ifmap_requests.specs.declared.publishing.PublishOp.{PublishOp}
 use Rattle.ifmap_requests.specs.declared.publishing.PublishOp.TheVariants.{Update, Notify, Delete}
 use Rattle.ifmap_requests.specs.declared.requests.Request.TheVariants as the_request
 use Rattle.ifmap_search.specs.declared.results.PollItem.{PollItem}
-use Rattle.ifmap_session.specs.Sessions.{Session, change, is_text, session_of_client, session_with_id, with_last, without_items}
+use Rattle.ifmap_session.specs.Sessions.{Session, change, is_same_text, session_of_client, session_with_id, with_last, without_items}
 use Rattle.ifmap_session.specs.Sessions.{session_with_serial, without_sessions}
-use Rattle.ifmap_session.specs.laws.TableLaws.{Keeps, found_by_serial, found_beside_begun}
+use Rattle.ifmap_session.specs.laws.TableLaws.{KeepsIdAndClient, found_by_serial, found_beside_begun}
 use Rattle.ifmap_session.specs.laws.TextLaws.{find_kept}
 use Rattle.ifmap_view.specs.declared.attachments.Attachment.{Attachment}
 use Rattle.ifmap_view.specs.Attachments.{attachment_order, of_one_key}
 
 -- ---- one life
 
-found_mapped : (f : Session → Session) → Keeps f → (n : ℕ) (live : List Session) (s : Session) → session_with_serial n live ≡ Some s
+found_mapped : (f : Session → Session) → KeepsIdAndClient f → (n : ℕ) (live : List Session) (s : Session) → session_with_serial n live ≡ Some s
     → session_with_serial n (map f live) ≡ Some (f s)
 found_mapped f k n [] s e = cc
 found_mapped f k n (x ∷ live) s e =
@@ -58,7 +58,7 @@ found_mapped f k n (x ∷ live) s e =
           rw now (found_mapped f k n live s (rw miss at e))
     ]
 
-life_mapped : (f : Session → Session) → Keeps f → (sessions : List Session) (publisher : List ℕ) (life : Life)
+life_mapped : (f : Session → Session) → KeepsIdAndClient f → (sessions : List Session) (publisher : List ℕ) (life : Life)
     → IsLifeFor sessions publisher life → IsLifeFor (map f sessions) publisher life
 life_mapped f k sessions publisher (the_life.Session n) h = (f h.0, found_mapped f k n sessions h.0 h.1, k.client h.0 ∙ h.2)
 life_mapped f k sessions publisher the_life.Forever h = tt
@@ -89,7 +89,7 @@ life_begun sessions s publisher the_life.Forever h = tt
 abbrev Live : List Session → List Attachment → Type 0
 Live sessions rows = AllByRecursion (λ (a : Attachment). IsLifeFor sessions a.stored.publisher a.stored.life) rows
 
-lives_mapped : (f : Session → Session) → Keeps f → (sessions : List Session) (rows : List Attachment) → Live sessions rows
+lives_mapped : (f : Session → Session) → KeepsIdAndClient f → (sessions : List Session) (rows : List Attachment) → Live sessions rows
     → Live (map f sessions) rows
 lives_mapped f k sessions rows w =
     all_weaker (λ (a : Attachment). IsLifeFor sessions a.stored.publisher a.stored.life)
@@ -151,14 +151,14 @@ module _ (sessions : List Session) (by : Authorship) (author : (s : Session) × 
 
 -- ---- the cases of the step
 
-kept_renewed : (n moment : ℕ) → Keeps (λ (s : Session). if s.serial == n then with_last moment s else s)
+kept_renewed : (n moment : ℕ) → KeepsIdAndClient (λ (s : Session). if s.serial == n then with_last moment s else s)
 kept_renewed n moment = record {
   serial = λ s. elim (cases_Bool (s.serial == n)) [ inl h ↦ rw h refl | inr h ↦ rw h refl ];
   id = λ s. elim (cases_Bool (s.serial == n)) [ inl h ↦ rw h refl | inr h ↦ rw h refl ];
   client = λ s. elim (cases_Bool (s.serial == n)) [ inl h ↦ rw h refl | inr h ↦ rw h refl ];
 }
 
-kept_queued : (n : ℕ) (queue : List PollItem) → Keeps (λ (s : Session). if s.serial == n then record s { queue = queue } else s)
+kept_queued : (n : ℕ) (queue : List PollItem) → KeepsIdAndClient (λ (s : Session). if s.serial == n then record s { queue = queue } else s)
 kept_queued n queue = record {
   serial = λ s. elim (cases_Bool (s.serial == n)) [ inl h ↦ rw h refl | inr h ↦ rw h refl ];
   id = λ s. elim (cases_Bool (s.serial == n)) [ inl h ↦ rw h refl | inr h ↦ rw h refl ];
@@ -205,7 +205,7 @@ in_session_lives : (state : State) (client : List ℕ) (accept : Session → Sta
     → ((s : Session) → o ≡ Some s → AllLive (accept s).0) → AllLive state → AllLive (in_session state client o accept).0
 in_session_lives state client accept None f w = w
 in_session_lives state client accept (Some s) f w =
-    elim (cases_Bool (is_text s.client client)) [ inl hit ↦ rw hit (f s refl) | inr miss ↦ rw miss w ]
+    elim (cases_Bool (is_same_text s.client client)) [ inl hit ↦ rw hit (f s refl) | inr miss ↦ rw miss w ]
 
 subscribed_lives : (state : State) (s : Session) (o : Option Told) → AllLive state → AllLive (answer_subscribed state s o).0
 subscribed_lives state s None w = w
@@ -231,7 +231,7 @@ poll_lives state client false o w = in_session_lives state client (poll_in state
 lost_lives : (state : State) (client : List ℕ) (o : Option Session) → AllLive state → AllLive (lose state client o).0
 lost_lives state client None w = w
 lost_lives state client (Some s) w =
-    elim (cases_Bool (is_text s.client client)) [
+    elim (cases_Bool (is_same_text s.client client)) [
       | inl hit ↦ rw hit (ended_lives (s.serial ∷ []) state w)
       | inr miss ↦ rw miss w
     ]
@@ -254,7 +254,7 @@ step_lives state event (Request (the_request.Publish id ops)) tabled w =
     in_session_lives state event.client (publish state ops) (session_with_id id state.sessions)
     (λ s e. changed_lives s.serial (apply state.graph (author_in state s) ops) (notes_of (author_in state s) ops) state
     (apply_lives state.sessions (author_in state s)
-    (s, found_by_serial (λ (t : Session). is_text t.id id) state.sessions s tabled.rising e, refl) ops state.graph w)) w
+    (s, found_by_serial (λ (t : Session). is_same_text t.id id) state.sessions s tabled.rising e, refl) ops state.graph w)) w
 step_lives state event (Request (the_request.Search id asked)) tabled w =
     in_session_lives state event.client (search state asked) (session_with_id id state.sessions)
     (λ s e. elim (cases_Bool (is_too_big state.graph asked)) [
@@ -268,7 +268,7 @@ step_lives state event (Request (the_request.Poll id)) tabled w =
     poll_lives state event.client event.again (session_with_id id state.sessions) w
 step_lives state event (Request (the_request.PurgePublisher id publisher)) tabled w =
     in_session_lives state event.client (purge state publisher) (session_with_id id state.sessions)
-    (λ s e. elim (cases_Bool (is_text publisher s.client)) [
+    (λ s e. elim (cases_Bool (is_same_text publisher s.client)) [
       | inl hit ↦ rw hit (changed_lives s.serial (retract (Publisher publisher) state.graph) [] state
           (lives_filter _ state.sessions state.graph w))
       | inr miss ↦ rw miss w

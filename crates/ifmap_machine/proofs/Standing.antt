@@ -32,7 +32,7 @@ use Rattle.ifmap_requests.specs.declared.requests.SubscribeOp.{SubscribeOp}
 use Rattle.ifmap_requests.specs.declared.requests.SubscribeOp.TheVariants.{Update, Delete}
 use Rattle.ifmap_search.specs.declared.results.PollItem.{PollItem}
 use Rattle.ifmap_search.specs.declared.searches.Search.{Search}
-use Rattle.ifmap_session.specs.Sessions.{Session, is_text, session_of_client, session_with_id}
+use Rattle.ifmap_session.specs.Sessions.{Session, is_same_text, session_of_client, session_with_id}
 use Rattle.ifmap_view.specs.declared.attachments.Attachment.{Attachment}
 
 pub standing_total : IsTotalOrder standing_order
@@ -201,7 +201,7 @@ in_session_stood : (state : State) (client : List ℕ) (accept : Session → Sta
     → ((s : Session) → IsStood (accept s).0) → IsStood state → IsStood (in_session state client o accept).0
 in_session_stood state client accept None f w = w
 in_session_stood state client accept (Some s) f w =
-    elim (cases_Bool (is_text s.client client)) [ inl hit ↦ rw hit (f s) | inr miss ↦ rw miss w ]
+    elim (cases_Bool (is_same_text s.client client)) [ inl hit ↦ rw hit (f s) | inr miss ↦ rw miss w ]
 
 search_stood : (state : State) (asked : Search) (s : Session) → IsStood state → IsStood (search state asked s).0
 search_stood state asked s w =
@@ -209,7 +209,7 @@ search_stood state asked s w =
 
 purge_stood : (state : State) (publisher : List ℕ) (s : Session) → IsStood state → IsStood (purge state publisher s).0
 purge_stood state publisher s w =
-    elim (cases_Bool (is_text publisher s.client)) [
+    elim (cases_Bool (is_same_text publisher s.client)) [
       | inl hit ↦ rw hit (stood_filter _ _ (stood_filter _ state.standing w))
       | inr miss ↦ rw miss w
     ]
@@ -237,7 +237,7 @@ poll_stood state client false o w = in_session_stood state client (poll_in state
 lost_stood : (state : State) (client : List ℕ) (o : Option Session) → IsStood state → IsStood (lose state client o).0
 lost_stood state client None w = w
 lost_stood state client (Some s) w =
-    elim (cases_Bool (is_text s.client client)) [
+    elim (cases_Bool (is_same_text s.client client)) [
       | inl hit ↦ rw hit (ended_stood (s.serial ∷ []) state w)
       | inr miss ↦ rw miss w
     ]

@@ -22,20 +22,20 @@ use Rattle.ifmap_machine.specs.Step.{answer_subscribed, begin_session, end_sessi
 use Rattle.ifmap_machine.specs.Step.{poll, poll_in, poll_queue, publish, purge, renew, renew_first, renew_session, search, step, step_ask}
 use Rattle.ifmap_machine.specs.Step.{subscribe, with_told}
 use Rattle.ifmap_machine.specs.Subscribing.{Told}
-use Rattle.ifmap_machine.specs.Telling.{is_overfull, is_too_big, overflow, overflow_session, tell, tell_session, told_in}
+use Rattle.ifmap_machine.specs.Telling.{is_overfull, is_too_big, overflow, overflow_session, tell, tell_session, told_in_session}
 use Rattle.ifmap_plans.specs.declared.plans.Note.{Note}
 use Rattle.ifmap_requests.specs.declared.requests.Request.TheVariants as the_request
 use Rattle.ifmap_search.specs.declared.results.PollItem.{PollItem}
 use Rattle.ifmap_search.specs.declared.searches.Search.{Search}
 use Rattle.ifmap_session.specs.SessionIds.{BeginsWithSerial}
-use Rattle.ifmap_session.specs.Sessions.{IsTable, Session, Table, change, is_text, most_sessions, session_of_client, session_order, without_items}
+use Rattle.ifmap_session.specs.Sessions.{IsTable, Session, SessionTable, change, is_same_text, most_sessions, session_of_client, session_order, without_items}
 use Rattle.ifmap_session.specs.Sessions.{session_with_id, without_sessions}
-use Rattle.ifmap_session.specs.laws.TableLaws.{Keeps, begun_table, changed_table, client_freed, id_begins, one_fewer, renewed_keeps}
+use Rattle.ifmap_session.specs.laws.TableLaws.{KeepsIdAndClient, begun_table, changed_table, client_freed, id_begins, one_fewer, renewed_keeps}
 use Rattle.ifmap_session.specs.laws.TextLaws.{distinct_filter}
 use Rattle.ifmap_view.specs.declared.attachments.Attachment.{Attachment}
 
 -- the sessions of a state, as a table without room
-abbrev pub table_of : State → Table
+abbrev pub table_of : State → SessionTable
 table_of state = record { counter = state.counter; live = state.sessions; spare = []; room = 0 }
 
 -- what holds of the sessions in every state
@@ -44,7 +44,7 @@ IsTabled state = IsTable (table_of state)
 
 -- ---- a function of each session
 
-module _ (f : Session → Session) (k : Keeps f) where
+module _ (f : Session → Session) (k : KeepsIdAndClient f) where
   all_mapped : (P Q : Session → Type 0) → ((s : Session) → P s → Q (f s)) → (live : List Session) → AllByRecursion P live
       → AllByRecursion Q (map f live)
   all_mapped P Q g live h = map_of_all Q f live (all_weaker P (λ s. Q (f s)) g live h)
@@ -61,7 +61,7 @@ module _ (f : Session → Session) (k : Keeps f) where
       → session_of_client client (map f live) ≡ None
   none_mapped client [] e = refl
   none_mapped client (x ∷ live) e =
-      elim (cases_Bool (is_text x.client client)) [
+      elim (cases_Bool (is_same_text x.client client)) [
         | inl hit ↦ let bad : Some x ≡ None = rw hit at e in cc
         | inr miss ↦ rw (k.client x, miss) (none_mapped client live (rw miss at e))
       ]
@@ -75,7 +75,7 @@ module _ (f : Session → Session) (k : Keeps f) where
     mapped_rising live up.1,
   )
 
-  pub mapped_table : (table : Table) → IsTable table → IsTable (record table { live = map f table.live })
+  pub mapped_table : (table : SessionTable) → IsTable table → IsTable (record table { live = map f table.live })
   mapped_table table h = record {
     rising = mapped_rising table.live h.rising;
     counted = all_mapped (λ (s : Session). s.serial ≤ table.counter) (λ (s : Session). s.serial ≤ table.counter)
@@ -83,16 +83,16 @@ module _ (f : Session → Session) (k : Keeps f) where
     small = h.small;
     ids = all_mapped (λ (s : Session). BeginsWithSerial s.serial s.id) (λ (s : Session). BeginsWithSerial s.serial s.id)
         (λ s id. rw (k.serial s, k.id s) id) table.live h.ids;
-    apart = subst (IsDistinct is_text) (sym (clients_mapped table.live)) h.apart;
+    apart = subst (IsDistinct is_same_text) (sym (clients_mapped table.live)) h.apart;
     few = subst (λ m. m ≤ most_sessions) (sym (length_mapped table.live)) h.few;
   }
 
 -- telling and overflowing keep serials, ids and clients
 pub told_keeps : (before after : List Attachment) (notes : List Note) (state : State)
-    → Keeps (λ (s : Session). tell_session (told_in before after notes state.standing s.serial) s)
+    → KeepsIdAndClient (λ (s : Session). tell_session (told_in_session before after notes state.standing s.serial) s)
 told_keeps before after notes state = record { serial = λ s. refl; id = λ s. refl; client = λ s. refl }
 
-pub overflow_keeps : Keeps overflow_session
+pub overflow_keeps : KeepsIdAndClient overflow_session
 overflow_keeps = record {
   serial = λ s. elim (cases_Bool (is_overfull s)) [ inl hit ↦ rw hit refl | inr miss ↦ rw miss refl ];
   id = λ s. elim (cases_Bool (is_overfull s)) [ inl hit ↦ rw hit refl | inr miss ↦ rw miss refl ];
@@ -110,7 +110,7 @@ overflow_table state w = mapped_table overflow_session overflow_keeps (table_of 
 abbrev pub remains : List ℕ → Session → Bool
 remains serials s = not (list_any (λ n. n == s.serial) serials)
 
-pub dropped_table : (serials : List ℕ) (table : Table) → IsTable table
+pub dropped_table : (serials : List ℕ) (table : SessionTable) → IsTable table
     → IsTable (record table { live = without_sessions serials table.live })
 dropped_table serials table h = record {
   rising = IsStrictlySortedBy-filter session_order (remains serials) table.live h.rising;
@@ -196,7 +196,7 @@ in_session_table : (state : State) (client : List ℕ) (accept : Session → Sta
     → ((s : Session) → IsTabled (accept s).0) → IsTabled state → IsTabled (in_session state client o accept).0
 in_session_table state client accept None f w = w
 in_session_table state client accept (Some s) f w =
-    elim (cases_Bool (is_text s.client client)) [ inl hit ↦ rw hit (f s) | inr miss ↦ rw miss w ]
+    elim (cases_Bool (is_same_text s.client client)) [ inl hit ↦ rw hit (f s) | inr miss ↦ rw miss w ]
 
 search_table : (state : State) (asked : Search) (s : Session) → IsTabled state → IsTabled (search state asked s).0
 search_table state asked s w =
@@ -212,7 +212,7 @@ changed_tell serial after notes state w =
 
 purge_table : (state : State) (publisher : List ℕ) (s : Session) → IsTabled state → IsTabled (purge state publisher s).0
 purge_table state publisher s w =
-    elim (cases_Bool (is_text publisher s.client)) [
+    elim (cases_Bool (is_same_text publisher s.client)) [
       | inl hit ↦ rw hit (changed_tell s.serial _ [] state w)
       | inr miss ↦ rw miss w
     ]
@@ -242,7 +242,7 @@ poll_table state client false o w = in_session_table state client (poll_in state
 lost_table : (state : State) (client : List ℕ) (o : Option Session) → IsTabled state → IsTabled (lose state client o).0
 lost_table state client None w = w
 lost_table state client (Some s) w =
-    elim (cases_Bool (is_text s.client client)) [
+    elim (cases_Bool (is_same_text s.client client)) [
       | inl hit ↦ rw hit (ended_table (s.serial ∷ []) state w)
       | inr miss ↦ rw miss w
     ]

@@ -13,25 +13,25 @@ use Rattle.ifmap_machine.specs.State.{Standing}
 use Rattle.ifmap_replies.specs.declared.replies.Reply.TheVariants as the_reply
 use Rattle.ifmap_requests.specs.declared.requests.Request.TheVariants as the_request
 use Rattle.ifmap_search.specs.declared.results.PollItem.{PollItem}
-use Rattle.ifmap_session.specs.Sessions.{Session, is_text, session_with_id}
+use Rattle.ifmap_session.specs.Sessions.{Session, is_same_text, session_with_id}
 
 -- what a poll's answer tells
-abbrev pub items_of : Answer → List PollItem
-items_of (the_answer.Reply (the_reply.Polled items)) = items
-items_of (the_answer.Reply (the_reply.NewSession session publisher limit)) = []
-items_of (the_answer.Reply the_reply.Renewed) = []
-items_of (the_answer.Reply the_reply.Ended) = []
-items_of (the_answer.Reply the_reply.Published) = []
-items_of (the_answer.Reply the_reply.Subscribed) = []
-items_of (the_answer.Reply the_reply.Purged) = []
-items_of (the_answer.Reply (the_reply.Found entries)) = []
-items_of (the_answer.Reply (the_reply.Error code note)) = []
-items_of the_answer.Held = []
-items_of the_answer.Heard = []
+abbrev pub items_polled : Answer → List PollItem
+items_polled (the_answer.Reply (the_reply.Polled items)) = items
+items_polled (the_answer.Reply (the_reply.NewSession session publisher limit)) = []
+items_polled (the_answer.Reply the_reply.Renewed) = []
+items_polled (the_answer.Reply the_reply.Ended) = []
+items_polled (the_answer.Reply the_reply.Published) = []
+items_polled (the_answer.Reply the_reply.Subscribed) = []
+items_polled (the_answer.Reply the_reply.Purged) = []
+items_polled (the_answer.Reply (the_reply.Found entries)) = []
+items_polled (the_answer.Reply (the_reply.Error code note)) = []
+items_polled the_answer.Held = []
+items_polled the_answer.Heard = []
 
 -- what is told of a poll in the session of an id, where one is asked
 abbrev pub polled_by : List ℕ → Ask → List PollItem → List PollItem
-polled_by id (Request (the_request.Poll own)) items = if is_text own id then items else []
+polled_by id (Request (the_request.Poll own)) items = if is_same_text own id then items else []
 polled_by id (Request (the_request.NewSession limit)) items = []
 polled_by id (Request (the_request.RenewSession own)) items = []
 polled_by id (Request (the_request.EndSession own)) items = []
@@ -43,25 +43,25 @@ polled_by id (Lost own) items = []
 
 -- all that polls in the session of an id were told, in order
 abbrev pub all_polled : List ℕ → History → List PollItem
-all_polled id history = flat_map (λ (e : Event × Answer). polled_by id e.0.ask (items_of e.1)) history
+all_polled id history = flat_map (λ (e : Event × Answer). polled_by id e.0.ask (items_polled e.1)) history
 
 -- what a client folds of that
 abbrev pub client_sets : List ℕ → History → Sets
 client_sets id history = fold_items (all_polled id history) no_sets
 
 -- the answer tells a poll its items, or holds it
-abbrev pub IsTold : Answer → Type 0
-IsTold (the_answer.Reply (the_reply.Polled items)) = Unit {0}
-IsTold (the_answer.Reply (the_reply.NewSession session publisher limit)) = ⊥
-IsTold (the_answer.Reply the_reply.Renewed) = ⊥
-IsTold (the_answer.Reply the_reply.Ended) = ⊥
-IsTold (the_answer.Reply the_reply.Published) = ⊥
-IsTold (the_answer.Reply the_reply.Subscribed) = ⊥
-IsTold (the_answer.Reply the_reply.Purged) = ⊥
-IsTold (the_answer.Reply (the_reply.Found entries)) = ⊥
-IsTold (the_answer.Reply (the_reply.Error code note)) = ⊥
-IsTold the_answer.Held = Unit {0}
-IsTold the_answer.Heard = ⊥
+abbrev pub IsToldOrHeld : Answer → Type 0
+IsToldOrHeld (the_answer.Reply (the_reply.Polled items)) = Unit {0}
+IsToldOrHeld (the_answer.Reply (the_reply.NewSession session publisher limit)) = ⊥
+IsToldOrHeld (the_answer.Reply the_reply.Renewed) = ⊥
+IsToldOrHeld (the_answer.Reply the_reply.Ended) = ⊥
+IsToldOrHeld (the_answer.Reply the_reply.Published) = ⊥
+IsToldOrHeld (the_answer.Reply the_reply.Subscribed) = ⊥
+IsToldOrHeld (the_answer.Reply the_reply.Purged) = ⊥
+IsToldOrHeld (the_answer.Reply (the_reply.Found entries)) = ⊥
+IsToldOrHeld (the_answer.Reply (the_reply.Error code note)) = ⊥
+IsToldOrHeld the_answer.Held = Unit {0}
+IsToldOrHeld the_answer.Heard = ⊥
 
 abbrev pub is_poll_of : List ℕ → Ask → Type 0
 is_poll_of id ask = ask ≡ Request (the_request.Poll id)
@@ -77,4 +77,4 @@ AgreesAfter ttl history id =
 abbrev pub Agrees : ℕ → History → Type 0
 Agrees ttl history =
     (before rest : History) (event : Event) (answer : Answer) (id : List ℕ) → history ≡ before ++ ((event, answer) ∷ rest)
-    → is_poll_of id event.ask → IsTold answer → AgreesAfter ttl (before ++ ((event, answer) ∷ [])) id
+    → is_poll_of id event.ask → IsToldOrHeld answer → AgreesAfter ttl (before ++ ((event, answer) ∷ [])) id

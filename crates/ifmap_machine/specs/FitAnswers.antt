@@ -9,7 +9,7 @@ use Rattle.ifmap_machine.specs.Legal.{History}
 use Rattle.ifmap_machine.specs.State.{Standing, State}
 use Rattle.ifmap_plans.specs.Plans.{AreWhole}
 use Rattle.ifmap_replies.specs.Fit.{IsFitPollItem, IsFitReply}
-use Rattle.ifmap_replies.specs.Means.{Means}
+use Rattle.ifmap_replies.specs.Means.{MeansReply}
 use Rattle.ifmap_replies.specs.Results.{reply_bytes}
 use Rattle.ifmap_search.specs.declared.results.PollItem.{PollItem}
 use Rattle.ifmap_session.specs.Sessions.{Session}
@@ -23,7 +23,7 @@ IsFitAnswer the_answer.Heard = Unit {0}
 
 -- the bytes of what is sent mean it
 abbrev pub IsReadBack : Answer → Type 0
-IsReadBack (the_answer.Reply reply) = Means (reply_bytes reply) reply
+IsReadBack (the_answer.Reply reply) = MeansReply (reply_bytes reply) reply
 IsReadBack the_answer.Held = Unit {0}
 IsReadBack the_answer.Heard = Unit {0}
 

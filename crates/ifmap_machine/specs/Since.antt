@@ -6,7 +6,7 @@ use Rattle.ifmap_lemmas.specs.Having.{Has}
 use Rattle.ifmap_machine.specs.declared.events.Answer.{Answer}
 use Rattle.ifmap_machine.specs.declared.events.Answer.TheVariants as the_answer
 use Rattle.ifmap_machine.specs.declared.events.Ask.TheVariants.{Request}
-use Rattle.ifmap_machine.specs.Agreeing.{IsTold, all_polled, client_sets, is_poll_of}
+use Rattle.ifmap_machine.specs.Agreeing.{IsToldOrHeld, all_polled, client_sets, is_poll_of}
 use Rattle.ifmap_machine.specs.Events.{Event}
 use Rattle.ifmap_machine.specs.Legal.{History, state_from}
 use Rattle.ifmap_machine.specs.State.{Standing, State}
@@ -19,7 +19,7 @@ use Rattle.ifmap_session.specs.Sessions.{Session, session_with_id}
 
 -- a poll in the session of an id, which is answered with what there is to tell, or held
 abbrev pub IsToldPoll : List ℕ → Event × Answer → Type 0
-IsToldPoll id e = is_poll_of id e.0.ask × IsTold e.1
+IsToldPoll id e = is_poll_of id e.0.ask × IsToldOrHeld e.1
 
 -- an accepted subscribe in the session of an id, which updates the subscription of this name
 pub record Updates (id name : List ℕ) (e : Event × Answer) : Type 0 where
@@ -30,7 +30,7 @@ pub record Updates (id name : List ℕ) (e : Event × Answer) : Type 0 where
   pub answer : e.1 ≡ the_answer.Reply the_reply.Subscribed
 
 -- the session of an id keeps the subscription
-pub record Keeps (state : State) (id : List ℕ) (x : Standing) : Type 0 where
+pub record KeepsSubscription (state : State) (id : List ℕ) (x : Standing) : Type 0 where
   pub session : Session
   pub found : session_with_id id state.sessions ≡ Some session
   pub stands : Has state.standing x
@@ -52,5 +52,5 @@ pub record FoldsSince (start : State) (first since : History) (e : Event × Answ
 abbrev pub AgreesFrom : State → History → Type 0
 AgreesFrom start entries =
     (first later rest : History) (e poll : Event × Answer) (id : List ℕ) (x : Standing) → entries ≡ first ++ e ∷ (later ++ poll ∷ rest)
-    → IsToldPoll id poll → Keeps (state_from start (first ++ e ∷ (later ++ poll ∷ []))) id x
+    → IsToldPoll id poll → KeepsSubscription (state_from start (first ++ e ∷ (later ++ poll ∷ []))) id x
     → FoldsSince start first (later ++ poll ∷ []) e id x

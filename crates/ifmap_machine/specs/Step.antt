@@ -25,7 +25,7 @@ use Rattle.ifmap_requests.specs.declared.requests.SubscribeOp.{SubscribeOp}
 use Rattle.ifmap_search.specs.declared.results.PollItem.{PollItem}
 use Rattle.ifmap_search.specs.declared.searches.Search.{Search}
 use Rattle.ifmap_session.specs.SessionIds.{session_id}
-use Rattle.ifmap_session.specs.Sessions.{Session, change, is_text, limit_of, most_sessions, session_from, session_of_client, with_last, without_items}
+use Rattle.ifmap_session.specs.Sessions.{Session, change, is_same_text, limit_of, most_sessions, session_from, session_of_client, with_last, without_items}
 use Rattle.ifmap_session.specs.Sessions.{session_with_id}
 
 -- a refusal with a note
@@ -69,7 +69,7 @@ renew serial state = record state { sessions = change serial (with_last state.mo
 -- a request in the session that it names: refused where none is live, or where it is another client's
 abbrev pub in_session : State → List ℕ → Option Session → (Session → State × Answer) → State × Answer
 in_session state client None accept = (state, refusal InvalidSessionID)
-in_session state client (Some s) accept = if is_text s.client client then accept s else (state, refusal AccessDenied)
+in_session state client (Some s) accept = if is_same_text s.client client then accept s else (state, refusal AccessDenied)
 
 abbrev pub renew_session : State → Session → State × Answer
 renew_session state s = (renew s.serial state, the_answer.Reply the_reply.Renewed)
@@ -91,7 +91,7 @@ publish state ops s =
 -- the client takes away what a publisher published: only what it published itself
 abbrev pub purge : State → List ℕ → Session → State × Answer
 purge state publisher s =
-    if is_text publisher s.client
+    if is_same_text publisher s.client
     then (renew s.serial (overflow (tell (retract (Publisher publisher) state.graph) [] state)), the_answer.Reply the_reply.Purged)
     else (state, refusal AccessDenied)
 
@@ -144,7 +144,7 @@ poll state client false found = in_session state client found (poll_in state fal
 -- an answer was lost: the session ends, where it is the client's
 abbrev pub lose : State → List ℕ → Option Session → State × Answer
 lose state client None = (state, the_answer.Heard)
-lose state client (Some s) = (if is_text s.client client then end_some (s.serial ∷ []) state else state, the_answer.Heard)
+lose state client (Some s) = (if is_same_text s.client client then end_some (s.serial ∷ []) state else state, the_answer.Heard)
 
 -- the case of each request
 abbrev pub step_ask : State → Event → Ask → State × Answer

@@ -11,7 +11,7 @@ use Rattle.ifmap_requests.specs.declared.requests.SubscribeOp.TheVariants.{Updat
 use Rattle.ifmap_search.specs.declared.results.PollItem.{PollItem}
 use Rattle.ifmap_search.specs.declared.results.PollItem.TheVariants as the_item
 use Rattle.ifmap_search.specs.declared.searches.Search.{Search}
-use Rattle.ifmap_session.specs.Sessions.{is_named, is_text}
+use Rattle.ifmap_session.specs.Sessions.{is_named, is_same_text}
 use Rattle.ifmap_view.specs.declared.attachments.Attachment.{Attachment}
 
 -- how many subscriptions a session may keep
@@ -25,7 +25,7 @@ pub record Told : Type 0 where
 
 -- a subscription is that of a session under a name
 abbrev pub is_of_name : ℕ → List ℕ → Standing → Bool
-is_of_name serial name x = x.serial == serial && is_text x.name name
+is_of_name serial name x = x.serial == serial && is_same_text x.name name
 
 -- nothing of a name is to be told, and its subscription stands no longer
 abbrev pub drop_name : ℕ → List ℕ → Told → Told

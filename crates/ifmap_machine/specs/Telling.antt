@@ -27,9 +27,9 @@ abbrev pub is_too_big : List Attachment → Search → Bool
 is_too_big rows search = nat_lt search.max_size (fresh_size rows search)
 
 -- an item of these entries, where there is one
-abbrev pub item_where : (List Entry → PollItem) → List Entry → List PollItem
-item_where item [] = []
-item_where item (e ∷ entries) = item (e ∷ entries) ∷ []
+abbrev pub item_if_any : (List Entry → PollItem) → List Entry → List PollItem
+item_if_any item [] = []
+item_if_any item (e ∷ entries) = item (e ∷ entries) ∷ []
 
 -- the error of a subscription whose result is too big
 abbrev pub too_big_item : List ℕ → List Attachment → Search → PollItem
@@ -39,8 +39,8 @@ too_big_item name rows search =
 -- what went, what came, and what was notified, each where there is something
 abbrev pub differences : List ℕ → List Entry → List Entry → List Entry → List PollItem
 differences name before after notes =
-    item_where (the_item.Delete name) (difference before after)
-    ++ (item_where (the_item.Update name) (difference after before) ++ item_where (the_item.Notify name) notes)
+    item_if_any (the_item.Delete name) (difference before after)
+    ++ (item_if_any (the_item.Update name) (difference after before) ++ item_if_any (the_item.Notify name) notes)
 
 -- what is told to one subscription
 abbrev pub told_to : List Attachment → List Attachment → List Note → Standing → List PollItem
@@ -50,8 +50,8 @@ told_to before after notes x =
     else differences x.name (fresh before x.search) (fresh after x.search) (told_notes after x.search notes)
 
 -- and to all of a session
-abbrev pub told_in : List Attachment → List Attachment → List Note → List Standing → ℕ → List PollItem
-told_in before after notes standing serial = flat_map (told_to before after notes) (standing_in serial standing)
+abbrev pub told_in_session : List Attachment → List Attachment → List Note → List Standing → ℕ → List PollItem
+told_in_session before after notes standing serial = flat_map (told_to before after notes) (standing_in serial standing)
 
 -- a session with more to tell
 abbrev pub tell_session : List PollItem → Session → Session
@@ -61,7 +61,7 @@ tell_session items s = record s { queue = s.queue ++ items }
 abbrev pub tell : List Attachment → List Note → State → State
 tell after notes state = record state {
   graph = after;
-  sessions = map (λ (s : Session). tell_session (told_in state.graph after notes state.standing s.serial) s) state.sessions;
+  sessions = map (λ (s : Session). tell_session (told_in_session state.graph after notes state.standing s.serial) s) state.sessions;
   standing = filter (λ x. not (is_too_big after x.search)) state.standing;
 }
 

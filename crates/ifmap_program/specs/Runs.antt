@@ -6,7 +6,7 @@ use Rattle.ifmap_command.specs.declared.forms.Form.TheVariants as form
 use Rattle.ifmap_command.specs.Words.{Asks}
 use Rattle.ifmap_drill.specs.Drilled.{Drills, side}
 use Rattle.ifmap_program.specs.Usage.{TellsUsage}
-use Rattle.ifmap_server.specs.Ends.{Ends}
+use Rattle.ifmap_server.specs.Ends.{SourceAndSink}
 use Rattle.ifmap_server.specs.Replayed.{Replays}
 use Rattle.ifmap_serving.specs.declared.stands.Stand.{Stand}
 use Rattle.ifmap_serving.specs.Stands.{AreServed, AreUnserved, status_of}
@@ -22,10 +22,10 @@ pub record ServesStands {D G : Type 0} (gives : ℕ → Type 0) (see : D → Doo
 
 -- what contracts see of the outside at one moment: a source and a sink, and the stands
 pub record Outside (D G : Type 0) : Type 0 where
-  pub ends : Ends
+  pub ends : SourceAndSink
   pub stands : List (Stand D G)
 
-abbrev pub outside : {D G : Type 0} → Ends → List (Stand D G) → Outside D G
+abbrev pub outside : {D G : Type 0} → SourceAndSink → List (Stand D G) → Outside D G
 outside ends stands = record { ends = ends; stands = stands }
 
 module _ {D G : Type 0} where
@@ -42,8 +42,8 @@ module _ {D G : Type 0} where
   WritesNothing before after = Keeps before.ends.held after.ends.held
 
   -- the usage was told, and nothing else was done
-  abbrev pub Refuses : ℕ → Outside D G → Outside D G → Type 0
-  Refuses status before after =
+  abbrev pub TellsOnlyUsage : ℕ → Outside D G → Outside D G → Type 0
+  TellsOnlyUsage status before after =
       ServesNothing before after × ReadsNothing before after
       × TellsUsage status before.ends.held after.ends.held before.ends.write_faults after.ends.write_faults
 
@@ -53,7 +53,7 @@ module _ {D G : Type 0} where
     ServesAs workers status before after =
         ((length before.stands ≡ workers) × ReadsNothing before after × WritesNothing before after
         × ServesStands gives see key before.stands after.stands status)
-        ⊎ ((length before.stands ≢ workers) × Refuses status before after)
+        ⊎ ((length before.stands ≢ workers) × TellsOnlyUsage status before after)
 
     -- what was asked was done
     abbrev pub Does : Form → ℕ → Outside D G → Outside D G → Type 0
@@ -62,7 +62,7 @@ module _ {D G : Type 0} where
         ServesNothing before after × ReadsNothing before after
         × Drills number count status (side before.ends.held before.ends.write_faults) (side after.ends.held after.ends.write_faults)
     Does (form.Serve address workers) status before after = ServesAs workers status before after
-    Does form.Wrong status before after = Refuses status before after
+    Does form.Wrong status before after = TellsOnlyUsage status before after
     Does form.NoMemory status before after =
         (status ≡ 6) × ServesNothing before after × ReadsNothing before after × WritesNothing before after
 

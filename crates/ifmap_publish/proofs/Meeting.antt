@@ -13,7 +13,7 @@ use Rattle.ifmap_meta.specs.declared.stored.Stored.{Stored}
 use Rattle.ifmap_plans.specs.Lists.{put_each}
 use Rattle.ifmap_plans.specs.laws.KeepingLaws.{kept_more, passed_more}
 use Rattle.ifmap_view.specs.Attachments.{stored_order}
-use Rattle.ifmap_publish.specs.Working.{Passes, after_like, is_among}
+use Rattle.ifmap_publish.specs.Working.{PassesOneStored, after_like, is_among}
 use Rattle.ifmap_publish.proofs.Differing.{AllAbove, itself, sorted_first, turned}
 use Rattle.ifmap_publish.proofs.Gathering.{put_found}
 use Rattle.ifmap_publish.proofs.Passing.{sorted_drop}
@@ -40,11 +40,11 @@ Case k row rest rest2 met met2 o =
     MatchOption o ((rest2 ≡ rest) × (met2 ≡ met ++ filter k (row ∷ []))) (λ after. (rest2 ≡ after) × (met2 ≡ met))
 
 pub passes_over : (k : Stored → Bool) (row : Stored) (taken after met : List Stored) → after_like row taken ≡ Some after
-    → Passes k row taken after met met
+    → PassesOneStored k row taken after met met
 passes_over k row taken after met e = subst (Case k row taken after met met) (sym e) (refl, refl)
 
 pub passes_by : (k : Stored → Bool) (row : Stored) (taken met next : List Stored) → after_like row taken ≡ None
-    → next ≡ met ++ filter k (row ∷ []) → Passes k row taken taken met next
+    → next ≡ met ++ filter k (row ∷ []) → PassesOneStored k row taken taken met next
 passes_by k row taken met next e is = subst (Case k row taken taken met next) (sym e) (refl, is)
 
 pub met_not : (k : Stored → Bool) (row : Stored) (met : List Stored) → k row ≡ false → met ≡ met ++ filter k (row ∷ [])
@@ -57,7 +57,7 @@ met_too k row met next e is = is ∙ ap (λ b. met ++ cond b (row ∷ []) []) (s
 -- one row is passed
 module _ (t k : Stored → Bool) (rows : List Stored) (up : IsStrictlySortedBy stored_order rows) (i : ℕ) (row : Stored)
     (low : i < length rows) (at : row ≡ get_or rows i row) (rest met rest2 met2 : List Stored) (left : rest ≡ filter t (drop i rows))
-    (so : met ≡ filter (λ s. not (t s) && k s) (take i rows)) (passes : Passes k row rest rest2 met met2) where
+    (so : met ≡ filter (λ s. not (t s) && k s) (take i rows)) (passes : PassesOneStored k row rest rest2 met met2) where
   abbrev p : Stored → Bool
   p s = not (t s) && k s
 

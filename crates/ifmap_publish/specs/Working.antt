@@ -44,8 +44,8 @@ after_like s [] = None
 after_like s (r ∷ rest) = cond (eq_by_cmp stored_order r s) (Some rest) None
 
 -- one of a list is passed: where it is the first of those that are taken, that one is passed too, else it is met if it passes a test
-abbrev pub Passes : (Stored → Bool) → Stored → List Stored → List Stored → List Stored → List Stored → Type 0
-Passes test s taken rest met next =
+abbrev pub PassesOneStored : (Stored → Bool) → Stored → List Stored → List Stored → List Stored → List Stored → Type 0
+PassesOneStored test s taken rest met next =
     MatchOption (after_like s taken) ((rest ≡ taken) × (next ≡ met ++ filter test (s ∷ []))) (λ after. (rest ≡ after) × (next ≡ met))
 
 -- an edit makes a list of what is stored on an item: what it takes is stored, what it puts is in the list, and all else is in both

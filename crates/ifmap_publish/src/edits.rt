@@ -8,7 +8,7 @@ ghost use Rattle.ifmap_plans.specs.Plans.{AreWhole};
 ghost use Rattle.ifmap_view.specs.Attachments.{IsGraph, stored_order};
 ghost use Rattle.ifmap_view.specs.Rows.{stored_on};
 ghost use Rattle.ifmap_publish.specs.OnItems.{attach_all, delete_on};
-ghost use Rattle.ifmap_publish.specs.Working.{AreKeyed, EditMakes, IsEdit, IsSound, Passes, after_like, is_among, is_keyed, list_by, over_keys};
+ghost use Rattle.ifmap_publish.specs.Working.{AreKeyed, EditMakes, IsEdit, IsSound, PassesOneStored, after_like, is_among, is_keyed, list_by, over_keys};
 
 use ifmap_elem::Many;
 use ifmap_filter::{Filter, meets_optional};
@@ -214,7 +214,7 @@ fn pass_row<'a>(
     test: &Option<Filter>,
     met: &mut Vec<Row>,
 ) -> Result<&'a [Row], NoMemory>
-    ensures { IfOk result (λ rest. Passes (λ s. meets_optional test.now s.element)
+    ensures { IfOk result (λ rest. PassesOneStored (λ s. meets_optional test.now s.element)
         row.now taken.now rest.now met.old.items met.new.items) }
 {
     match after_like(taken, row) {

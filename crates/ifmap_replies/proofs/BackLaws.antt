@@ -41,8 +41,8 @@ use Rattle.ifmap_search.specs.declared.results.PollItem.{PollItem}
 use Rattle.ifmap_search.specs.declared.results.PollItem.TheVariants as poll
 use Rattle.ifmap_forms.specs.AnswerLaws.{found_after, found_form}
 use Rattle.ifmap_forms.specs.Checks.{Check, check_then, need, need_some, pass}
-use Rattle.ifmap_forms.specs.Items.{before_list, from_list, identifiers_check, is_list, item_of, list_at, may_follow}
-use Rattle.ifmap_forms.specs.Tables.{Part, both, each_element, form_check, parts_in, parts_of}
+use Rattle.ifmap_forms.specs.Items.{before_list, from_list, identifiers_check, is_list, item_of, list_if_there, may_follow}
+use Rattle.ifmap_forms.specs.Tables.{Part, both, each_element, form_check, parts_in, element_parts}
 use Rattle.ifmap_replies.specs.declared.kinds.EntriesKind.{EntriesKind}
 use Rattle.ifmap_replies.specs.declared.kinds.EntriesKind.TheVariants as entries_kind
 use Rattle.ifmap_replies.specs.declared.kinds.ResultKind.{ResultKind}
@@ -55,7 +55,7 @@ use Rattle.ifmap_replies.specs.Fit.{AreFitEntries, IsFitEntry, IsFitPollItem, Is
 use Rattle.ifmap_replies.specs.Means.{IsReplyOf}
 use Rattle.ifmap_replies.specs.ResultForms as forms
 use Rattle.ifmap_replies.specs.ResultForms.{element_check, entries_check, entries_local, error_form, error_made, found_made, is_text}
-use Rattle.ifmap_replies.specs.ResultForms.{members_check, new_session_form, new_session_made, no_scopes, note_check, only_check, or_none}
+use Rattle.ifmap_replies.specs.ResultForms.{members_check, session_result_form, new_session_made, no_scopes, note_check, only_check, or_none}
 use Rattle.ifmap_replies.specs.ResultForms.{plain_check, plain_form, plain_made, poll_check, polled_form, polled_made, response_check}
 use Rattle.ifmap_replies.specs.ResultForms.{response_form, response_made, result_check, result_local, run_check, run_form, run_from}
 use Rattle.ifmap_replies.specs.ResultForms.{run_made, run_parts, told_error_form, told_error_made, told_form, told_made}
@@ -151,7 +151,7 @@ abbrev list_element : List Element → Element
 list_element es = bare_element (codes "metadata") [] (as_children es)
 
 list_back : (es : List Element) → AllByRecursion IsSent es
-    → list_at element_check (Child-F.Element (list_element es) ∷ []) (Ok (Some es))
+    → list_if_there element_check (Child-F.Element (list_element es) ∷ []) (Ok (Some es))
 list_back es f = (es, arranged_back es f, refl)
 
 -- the smaller of two identifiers is not the other
@@ -260,13 +260,13 @@ module _ (again : (i : Identifier) → IsIdentifier i → IsCanon (identifier_el
         let front : identifiers_check 2 [] (before_list (parts_with list refl ids)) (Ok ids) =
         subst (λ (ps : List Part). identifiers_check 2 [] ps (Ok ids)) (sym (before_back list refl ids))
         (identifiers_back run.item f.item) in
-        let rest : list_at element_check (from_list (parts_with list refl ids)) (Ok (Some run.elements)) =
-        subst (λ (ps : List Part). list_at element_check ps (Ok (Some run.elements))) (sym (from_back list refl ids))
+        let rest : list_if_there element_check (from_list (parts_with list refl ids)) (Ok (Some run.elements)) =
+        subst (λ (ps : List Part). list_if_there element_check ps (Ok (Some run.elements))) (sym (from_back list refl ids))
         (list_back run.elements f.elements) in
         let made : run_from ids (Some run.elements) (Ok run) =
         subst (λ (o : Option Item). need_some Failure o (λ item. pass (run_on item (or_none (Some run.elements)))) (Ok run))
         (sym (item_back run.item f.item)) refl in
-        let parts : run_parts (parts_of (run_element run)) (Ok run) =
+        let parts : run_parts (element_parts (run_element run)) (Ok run) =
         subst (λ (ps : List Part). run_parts ps (Ok run)) (sym (parts_are (map identifier_element ids ++ list ∷ [])))
         (ids, front, (Some run.elements, rest, made)) in
         found_form run_form run_made no_scopes (run_element run) tt refl run refl parts
@@ -303,7 +303,7 @@ module _ (again : (i : Identifier) → IsIdentifier i → IsCanon (identifier_el
 
     result_back : (answer : Reply) → IsFitReply answer → result_check (result_element answer) (Ok answer)
     result_back (reply.NewSession session publisher limit) f =
-        found_form new_session_form new_session_made no_scopes (new_session_element session publisher limit)
+        found_form session_result_form new_session_made no_scopes (new_session_element session publisher limit)
         (both publisher (both limit (both session tt))) (
           publisher,
           refl,

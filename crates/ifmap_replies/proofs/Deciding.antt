@@ -22,11 +22,11 @@ use Rattle.ifmap_ident.specs.Laws.{HasAnswer}
 use Rattle.ifmap_ident.specs.Parts.{has_only, value_of}
 use Rattle.ifmap_reader.specs.declared.scoping.Scope.{Scope}
 use Rattle.ifmap_forms.specs.CheckLaws.{fail_done, need_done, pass_done, some_done, then_done}
-use Rattle.ifmap_forms.specs.Checks.{Check, IsDone, check_then, need, need_some, pass}
-use Rattle.ifmap_forms.specs.Items.{before_list, from_list, identifier_check, identifiers_check, item_of, list_at, list_check, may_follow}
+use Rattle.ifmap_forms.specs.Checks.{Check, IsConclusive, check_then, need, need_some, pass}
+use Rattle.ifmap_forms.specs.Items.{before_list, from_list, identifier_check, identifiers_check, item_of, list_if_there, list_check, may_follow}
 use Rattle.ifmap_forms.specs.Scopes.{Scopes}
-use Rattle.ifmap_forms.specs.Tables.{ContentCheck, Form, Part, Table, beside, both, each_element, form_check, is_white_part, no_attributes}
-use Rattle.ifmap_forms.specs.Tables.{no_children, parts_of, read_form}
+use Rattle.ifmap_forms.specs.Tables.{ContentCheck, Form, Part, AttributeTable, beside, both, each_element, form_check, is_white_part, no_attributes}
+use Rattle.ifmap_forms.specs.Tables.{no_children, element_parts, read_form}
 use Rattle.ifmap_forms.specs.Values.{Field, field_check, number_of, read_text, text_field}
 use Rattle.ifmap_replies.specs.declared.kinds.PollKind.{PollKind}
 use Rattle.ifmap_replies.specs.declared.kinds.PollKind.TheVariants as told
@@ -38,7 +38,7 @@ use Rattle.ifmap_replies.specs.Fields.{code_field, code_of, optional_field, read
 use Rattle.ifmap_replies.specs.Laws.{NoReplyWithDefect, ReplyOrNone}
 use Rattle.ifmap_replies.specs.Means.{IsReplyOf}
 use Rattle.ifmap_replies.specs.ResultForms.{element_check, entries_check, error_form, error_made, found_form, found_made, is_text}
-use Rattle.ifmap_replies.specs.ResultForms.{members_check, new_session_form, new_session_made, no_scopes, note_check, only_check}
+use Rattle.ifmap_replies.specs.ResultForms.{members_check, session_result_form, new_session_made, no_scopes, note_check, only_check}
 use Rattle.ifmap_replies.specs.ResultForms.{only_member, or_none, plain_check, plain_form, plain_made, poll_check, poll_kind_check}
 use Rattle.ifmap_replies.specs.ResultForms.{poll_kind_of, polled_form, polled_made, response_check, response_form, response_made}
 use Rattle.ifmap_replies.specs.ResultForms.{result_check, result_kind_check, result_kind_of, run_check, run_form, run_from, run_made}
@@ -57,28 +57,28 @@ bad_identifier code = Err code
 abbrev good_identifier : Identifier → Result Identifier Code
 good_identifier i = Ok i
 
-checked : (e : Element) (found : Result Identifier IdentError) → IsAnswer e found → found ≢ refused NoMemory → IsDone (identifier_check e)
+checked : (e : Element) (found : Result Identifier IdentError) → IsAnswer e found → found ≢ refused NoMemory → IsConclusive (identifier_check e)
 checked e (Ok i) f some = (good_identifier i, f)
 checked e (Err WrongKind) f some = (bad_identifier InvalidIdentifierType, (WrongKind, refl, f))
 checked e (Err Invalid) f some = (bad_identifier InvalidIdentifier, (Invalid, refl, f))
 checked e (Err TooLong) f some = (bad_identifier IdentifierTooLong, (TooLong, refl, f))
 checked e (Err NoMemory) f some = absurd (some refl)
 
-pub identifier_done : ((e : Element) → HasAnswer e) → (e : Element) → IsDone (identifier_check e)
+pub identifier_done : ((e : Element) → HasAnswer e) → (e : Element) → IsConclusive (identifier_check e)
 identifier_done answers e = let a = answers e in checked e a.0 a.1 a.2
 
 -- ---- tables, children, forms
 
 abbrev SomeOfField : {X : Type 0} → Field X → Type 0
-SomeOfField field = (scope : Scope) (text : Option (List ℕ)) → IsDone (field.reads scope text)
+SomeOfField field = (scope : Scope) (text : Option (List ℕ)) → IsConclusive (field.reads scope text)
 
-abbrev SomeOfTable : {X : Type 0} → Table X → Type 0
-SomeOfTable table = (scope : Scope) (e : Element) → IsDone (table.reads scope e)
+abbrev SomeOfTable : {X : Type 0} → AttributeTable X → Type 0
+SomeOfTable table = (scope : Scope) (e : Element) → IsConclusive (table.reads scope e)
 
 abbrev SomeOfContent : {X : Type 0} → ContentCheck X → Type 0
-SomeOfContent content = (scopes : Scopes) (parts : List Part) → IsDone (content scopes parts)
+SomeOfContent content = (scopes : Scopes) (parts : List Part) → IsConclusive (content scopes parts)
 
-module _ {X Y : Type 0} (field : Field X) (table : Table Y) where
+module _ {X Y : Type 0} (field : Field X) (table : AttributeTable Y) where
   beside_done : SomeOfField field → SomeOfTable table → SomeOfTable (beside field table)
   beside_done f t scope e =
       then_done (field_check field scope e) (λ x. check_then (table.reads scope e) (λ y. pass (both x y)))
@@ -86,25 +86,25 @@ module _ {X Y : Type 0} (field : Field X) (table : Table Y) where
       (f scope (value_of field.local e))
 
 module _ {A C : Type 0} (form : Form A C) where
-  form_done : SomeOfTable form.attributes → SomeOfContent form.content → (scopes : Scopes) (e : Element) → IsDone (read_form form scopes e)
+  form_done : SomeOfTable form.attributes → SomeOfContent form.content → (scopes : Scopes) (e : Element) → IsConclusive (read_form form scopes e)
   form_done t s scopes e =
       then_done (form.attributes.reads (scopes []) e)
       (λ a. need (has_only (form.passed_over ++ form.attributes.locals) e) Failure
-      (check_then (form.content scopes (parts_of e)) (λ c. pass (both a c))))
+      (check_then (form.content scopes (element_parts e)) (λ c. pass (both a c))))
       (λ a is. need_done (has_only (form.passed_over ++ form.attributes.locals) e) Failure
-      (check_then (form.content scopes (parts_of e)) (λ c. pass (both a c)))
-      (then_done (form.content scopes (parts_of e)) (λ c. pass (both a c)) (λ c there. pass_done (both a c)) (s scopes (parts_of e))))
+      (check_then (form.content scopes (element_parts e)) (λ c. pass (both a c)))
+      (then_done (form.content scopes (element_parts e)) (λ c. pass (both a c)) (λ c there. pass_done (both a c)) (s scopes (element_parts e))))
       (t (scopes []) e)
 
 module _ {X A C : Type 0} (form : Form A C) (make : A → C → X) where
   made_done : SomeOfTable form.attributes → SomeOfContent form.content → (scopes : Scopes) (e : Element)
-      → IsDone (form_check form make scopes e)
+      → IsConclusive (form_check form make scopes e)
   made_done t s scopes e =
       then_done (read_form form scopes e) (λ x. pass (make x.first x.others)) (λ x is. pass_done (make x.first x.others))
       (form_done form t s scopes e)
 
-module _ {X : Type 0} (one : Element → Check X) (s : (e : Element) → IsDone (one e)) where
-  each_done : (index : ℕ) (parts : List Part) → IsDone (each_element (λ n e. one e) index parts)
+module _ {X : Type 0} (one : Element → Check X) (s : (e : Element) → IsConclusive (one e)) where
+  each_done : (index : ℕ) (parts : List Part) → IsConclusive (each_element (λ n e. one e) index parts)
   each_done index [] = pass_done []
   each_done index (Child-F.Element e ∷ parts) =
       then_done (one e) (λ x. check_then (each_element (λ n e. one e) (index + 1) parts) (λ xs. pass (x ∷ xs)))
@@ -114,18 +114,18 @@ module _ {X : Type 0} (one : Element → Check X) (s : (e : Element) → IsDone 
   each_done index (Child-F.Text text ∷ parts) =
       need_done (list_all is_white text) Failure (each_element (λ n e. one e) (index + 1) parts) (each_done (index + 1) parts)
 
-  members_done : (parts : List Part) → IsDone (members_check one parts)
+  members_done : (parts : List Part) → IsConclusive (members_check one parts)
   members_done parts = each_done 0 parts
 
-  only_done : (parts : List Part) → IsDone (only_check one parts)
+  only_done : (parts : List Part) → IsConclusive (only_check one parts)
   only_done parts =
       then_done (members_check one parts) (λ xs. need_some Failure (only_member xs) (λ x. pass x))
       (λ xs is. some_done Failure (only_member xs) (λ x. pass x) (λ x. pass_done x)) (members_done parts)
 
-  list_done : (e : Element) → IsDone (list_check one e)
-  list_done e = need_done (has_only [] e) Failure (members_check one (parts_of e)) (members_done (parts_of e))
+  list_done : (e : Element) → IsConclusive (list_check one e)
+  list_done e = need_done (has_only [] e) Failure (members_check one (element_parts e)) (members_done (element_parts e))
 
-  list_at_done : (parts : List Part) → IsDone (list_at one parts)
+  list_at_done : (parts : List Part) → IsConclusive (list_if_there one parts)
   list_at_done [] = pass_done None
   list_at_done (Child-F.Element e ∷ after) =
       then_done (list_check one e) (λ xs. need (list_all is_white_part after) Failure (pass (Some xs)))
@@ -140,34 +140,34 @@ no_children_done scopes parts = need_done (list_all is_white_part parts) Failure
 
 -- ---- values
 
-text_done : (scope : Scope) (text : Option (List ℕ)) → IsDone (read_text text)
+text_done : (scope : Scope) (text : Option (List ℕ)) → IsConclusive (read_text text)
 text_done scope None = fail_done Failure
 text_done scope (Some text) = pass_done text
 
-word_done : (scope : Scope) (text : Option (List ℕ)) → IsDone (read_word text)
+word_done : (scope : Scope) (text : Option (List ℕ)) → IsConclusive (read_word text)
 word_done scope None = fail_done Failure
 word_done scope (Some text) =
     some_done Failure (number_of text) (λ n. need (nat_lt n (2 ^ 32)) Failure (pass n))
     (λ n. need_done (nat_lt n (2 ^ 32)) Failure (pass n) (pass_done n))
 
-code_done : (scope : Scope) (text : Option (List ℕ)) → IsDone (read_code text)
+code_done : (scope : Scope) (text : Option (List ℕ)) → IsConclusive (read_code text)
 code_done scope None = fail_done Failure
 code_done scope (Some text) = some_done Failure (code_of text) (λ code. pass code) (λ code. pass_done code)
 
-optional_done : (scope : Scope) (text : Option (List ℕ)) → IsDone (read_optional text)
+optional_done : (scope : Scope) (text : Option (List ℕ)) → IsConclusive (read_optional text)
 optional_done scope text = pass_done text
 
 -- ---- results and responses
 
-note_done : (e : Element) → IsDone (note_check e)
+note_done : (e : Element) → IsConclusive (note_check e)
 note_done e =
     need_done (is_bare (codes "errorString") e.name) Failure
-    (need (has_only [] e) Failure (need (list_all is_text (parts_of e)) Failure (pass (text_among e.children))))
-    (need_done (has_only [] e) Failure (need (list_all is_text (parts_of e)) Failure (pass (text_among e.children)))
-    (need_done (list_all is_text (parts_of e)) Failure (pass (text_among e.children)) (pass_done (text_among e.children))))
+    (need (has_only [] e) Failure (need (list_all is_text (element_parts e)) Failure (pass (text_among e.children))))
+    (need_done (has_only [] e) Failure (need (list_all is_text (element_parts e)) Failure (pass (text_among e.children)))
+    (need_done (list_all is_text (element_parts e)) Failure (pass (text_among e.children)) (pass_done (text_among e.children))))
 
-module _ (identifier_some : (e : Element) → IsDone (identifier_check e)) where
-  identifiers_done : (most : ℕ) (before : List Identifier) (parts : List Part) → IsDone (identifiers_check most before parts)
+module _ (identifier_some : (e : Element) → IsConclusive (identifier_check e)) where
+  identifiers_done : (most : ℕ) (before : List Identifier) (parts : List Part) → IsConclusive (identifiers_check most before parts)
   identifiers_done most before [] = pass_done []
   identifiers_done most before (Child-F.Element e ∷ parts) =
       then_done (identifier_check e)
@@ -181,27 +181,27 @@ module _ (identifier_some : (e : Element) → IsDone (identifier_check e)) where
   identifiers_done most before (Child-F.Text text ∷ parts) =
       need_done (list_all is_white text) Failure (identifiers_check most before parts) (identifiers_done most before parts)
 
-  run_parts_done : (parts : List Part) → IsDone (run_parts parts)
+  run_parts_done : (parts : List Part) → IsConclusive (run_parts parts)
   run_parts_done parts =
       then_done (identifiers_check 2 [] (before_list parts))
-      (λ identifiers. check_then (list_at element_check (from_list parts)) (λ list. run_from identifiers list))
-      (λ identifiers is. then_done (list_at element_check (from_list parts)) (λ list. run_from identifiers list)
+      (λ identifiers. check_then (list_if_there element_check (from_list parts)) (λ list. run_from identifiers list))
+      (λ identifiers is. then_done (list_if_there element_check (from_list parts)) (λ list. run_from identifiers list)
       (λ list there. some_done Failure (item_of identifiers) (λ item. pass (run_on item (or_none list)))
       (λ item. pass_done (run_on item (or_none list))))
       (list_at_done element_check (λ e. pass_done (arrange e)) (from_list parts)))
       (identifiers_done 2 [] (before_list parts))
 
-  run_done : (e : Element) → IsDone (run_check e)
+  run_done : (e : Element) → IsConclusive (run_check e)
   run_done e =
       need_done (is_bare (codes "resultItem") e.name) Failure (form_check run_form run_made no_scopes e)
       (made_done run_form run_made no_attributes_done (λ scopes. run_parts_done) no_scopes e)
 
-  entries_done : (parts : List Part) → IsDone (entries_check parts)
+  entries_done : (parts : List Part) → IsConclusive (entries_check parts)
   entries_done parts =
       then_done (members_check run_check parts) (λ runs. pass (entries_of runs)) (λ runs is. pass_done (entries_of runs))
       (members_done run_check run_done parts)
 
-  poll_kind_done : (kind : PollKind) (e : Element) → IsDone (poll_kind_check kind e)
+  poll_kind_done : (kind : PollKind) (e : Element) → IsConclusive (poll_kind_check kind e)
   poll_kind_done (told.Entries kind) e =
       made_done (told_form kind) (told_made kind) (beside_done (text_field (codes "name")) no_attributes text_done no_attributes_done)
       (λ scopes. entries_done) no_scopes e
@@ -211,15 +211,15 @@ module _ (identifier_some : (e : Element) → IsDone (identifier_check e)) where
       (beside_done (optional_field (codes "name")) no_attributes optional_done no_attributes_done))
       (λ scopes. only_done note_check note_done) no_scopes e
 
-  poll_done : (e : Element) → IsDone (poll_check e)
+  poll_done : (e : Element) → IsConclusive (poll_check e)
   poll_done e = some_done Failure (poll_kind_of e.name) (λ kind. poll_kind_check kind e) (λ kind. poll_kind_done kind e)
 
-  plain_done : (kind : ResultKind) (answer : Reply) (e : Element) → IsDone (plain_check kind answer e)
+  plain_done : (kind : ResultKind) (answer : Reply) (e : Element) → IsConclusive (plain_check kind answer e)
   plain_done kind answer e = made_done (plain_form kind) (plain_made answer) no_attributes_done no_children_done no_scopes e
 
-  result_kind_done : (kind : ResultKind) (e : Element) → IsDone (result_kind_check kind e)
+  result_kind_done : (kind : ResultKind) (e : Element) → IsConclusive (result_kind_check kind e)
   result_kind_done result.NewSession e =
-      made_done new_session_form new_session_made
+      made_done session_result_form new_session_made
       (beside_done (text_field (codes "ifmap-publisher-id"))
       (beside (word_field (codes "max-poll-result-size")) (beside (text_field (codes "session-id")) no_attributes)) text_done
       (beside_done (word_field (codes "max-poll-result-size")) (beside (text_field (codes "session-id")) no_attributes) word_done
@@ -237,10 +237,10 @@ module _ (identifier_some : (e : Element) → IsDone (identifier_check e)) where
       made_done error_form error_made (beside_done code_field no_attributes code_done no_attributes_done)
       (λ scopes. only_done note_check note_done) no_scopes e
 
-  result_done : (e : Element) → IsDone (result_check e)
+  result_done : (e : Element) → IsConclusive (result_check e)
   result_done e = some_done Failure (result_kind_of e.name) (λ kind. result_kind_check kind e) (λ kind. result_kind_done kind e)
 
-  pub response_done : (e : Element) → IsDone (response_check e)
+  pub response_done : (e : Element) → IsConclusive (response_check e)
   response_done e =
       need_done (is_name e.name response_name) Failure (form_check response_form response_made no_scopes e)
       (made_done response_form response_made no_attributes_done (λ scopes. only_done result_check result_done) no_scopes e)

@@ -7,10 +7,10 @@ use Rattle.ifmap_ident.specs.declared.codes.Code.TheVariants.{Failure}
 use Rattle.ifmap_forms.specs.declared.errors.FormError.{FormError}
 use Rattle.ifmap_forms.specs.declared.errors.FormError.TheVariants.{Named, NoMemory}
 use Rattle.ifmap_forms.specs.AnswerLaws.{found_form, refused_at_content}
-use Rattle.ifmap_forms.specs.Answers.{IsChecked, IsRefused}
+use Rattle.ifmap_forms.specs.Answers.{IsChecked, IsCheckRefusal}
 use Rattle.ifmap_forms.specs.Checks.{Check, need, need_some, pass}
 use Rattle.ifmap_forms.specs.Scopes.{Scopes}
-use Rattle.ifmap_forms.specs.Tables.{Form, Part, form_check, parts_of}
+use Rattle.ifmap_forms.specs.Tables.{Form, Part, form_check, element_parts}
 use Rattle.ifmap_replies.specs.ResultForms.{members_check, only_check, only_member}
 
 module _ {X : Type 0} where
@@ -31,7 +31,7 @@ module _ {X : Type 0} where
   pub content_alone : {A : Type 0} (form : Form A X) (make : A → X → X) (scopes : Scopes) (e : Element) (a : A)
       → form.attributes.reads (scopes []) e (Ok a) → ((x : X) → make a x ≡ x)
       → has_only (form.passed_over ++ form.attributes.locals) e ≡ true → (r : Result X FormError)
-      → IsChecked (form.content scopes (parts_of e)) r → IsChecked (form_check form make scopes e) r
+      → IsChecked (form.content scopes (element_parts e)) r → IsChecked (form_check form make scopes e) r
   content_alone form make scopes e a f same is (Ok x) g =
       subst (λ y. form_check form make scopes e (Ok y)) (same x) (found_form form make scopes e a f x is g)
   content_alone form make scopes e a f same is (Err error) g = refused_at_content form make scopes e a f error is g
@@ -42,7 +42,7 @@ module _ {X : Type 0} (one : Element → Check X) (parts : List Part) where
   abbrev chosen : List X → Check X
   chosen xs = need_some Failure (only_member xs) (λ x. pass x)
 
-  pub refused_member : (error : FormError) → IsRefused (members_check one parts) error → IsRefused (only_check one parts) error
+  pub refused_member : (error : FormError) → IsCheckRefusal (members_check one parts) error → IsCheckRefusal (only_check one parts) error
   refused_member (Named code) f = inl f
   refused_member NoMemory f = tt
 

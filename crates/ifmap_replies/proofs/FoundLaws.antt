@@ -6,9 +6,9 @@ use Rattle.ifmap_ident.specs.declared.identifiers.Identifier.{Identifier}
 use Rattle.ifmap_ident.specs.declared.items.Item.{Item}
 use Rattle.ifmap_forms.specs.declared.errors.FormError.{FormError}
 use Rattle.ifmap_forms.specs.declared.errors.FormError.TheVariants.{Named, NoMemory}
-use Rattle.ifmap_forms.specs.Answers.{IsChecked, IsRefused}
+use Rattle.ifmap_forms.specs.Answers.{IsChecked, IsCheckRefusal}
 use Rattle.ifmap_forms.specs.Checks.{Check, need_some, pass}
-use Rattle.ifmap_forms.specs.Items.{before_list, from_list, identifiers_check, item_of, list_at}
+use Rattle.ifmap_forms.specs.Items.{before_list, from_list, identifiers_check, item_of, list_if_there}
 use Rattle.ifmap_forms.specs.Tables.{Part}
 use Rattle.ifmap_replies.specs.declared.runs.Run.{Run}
 use Rattle.ifmap_replies.specs.ResultForms.{element_check, or_none, run_from, run_parts}
@@ -19,19 +19,19 @@ module _ (parts : List Part) where
   identifiers_there = identifiers_check 2 [] (before_list parts)
 
   abbrev list_there : Check (Option (List Element))
-  list_there = list_at element_check (from_list parts)
+  list_there = list_if_there element_check (from_list parts)
 
-  pub refused_identifiers : (error : FormError) → IsRefused identifiers_there error → IsRefused (run_parts parts) error
+  pub refused_identifiers : (error : FormError) → IsCheckRefusal identifiers_there error → IsCheckRefusal (run_parts parts) error
   refused_identifiers (Named code) f = inl f
   refused_identifiers NoMemory f = tt
 
   module _ (identifiers : List Identifier) (f : identifiers_there (Ok identifiers)) where
-    pub refused_list : (error : FormError) → IsRefused list_there error → IsRefused (run_parts parts) error
+    pub refused_list : (error : FormError) → IsCheckRefusal list_there error → IsCheckRefusal (run_parts parts) error
     refused_list (Named code) g = inr (identifiers, f, inl g)
     refused_list NoMemory g = tt
 
     refused_rest : (list : Option (List Element)) → list_there (Ok list) → (error : FormError)
-        → IsRefused (run_from identifiers list) error → IsRefused (run_parts parts) error
+        → IsCheckRefusal (run_from identifiers list) error → IsCheckRefusal (run_parts parts) error
     refused_rest list g (Named code) h = inr (identifiers, f, inr (list, g, h))
     refused_rest list g NoMemory h = tt
 

@@ -6,13 +6,13 @@ use Rattle.ifmap_elem.specs.Nesting.{nesting}
 use Rattle.ifmap_elem.specs.Spells.{Spells}
 use Rattle.ifmap_elem.specs.declared.elements.Element.{Element}
 use Rattle.ifmap_replies.specs.declared.replies.Reply.{Reply}
-use Rattle.ifmap_replies.specs.Means.{IsReplyOf, Means}
+use Rattle.ifmap_replies.specs.Means.{IsReplyOf, MeansReply}
 use Rattle.ifmap_replies.specs.Results.{reply_bytes, reply_element}
 use Rattle.ifmap_replies.proofs.GoodLaws.{IsGood}
 
 module _ (spelled : (e : Element) → IsFit e → Spells (canonical_bytes e) (canonical_reading e)) where
   pub bytes_back : (answer : Reply) → IsGood 71 (reply_element answer) → IsReplyOf (reply_element answer) answer
-      → Means (reply_bytes answer) answer
+      → MeansReply (reply_bytes answer) answer
   unfolding reply_bytes
   bytes_back answer good meant =
       let e = reply_element answer in

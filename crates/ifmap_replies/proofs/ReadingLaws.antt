@@ -9,13 +9,13 @@ use Rattle.ifmap_reader.specs.Reads.{IsTooDeep, IsUnreadable}
 use Rattle.ifmap_envelopes.specs.Envelopes.{IsEnvelope}
 use Rattle.ifmap_forms.specs.declared.errors.FormError.{FormError}
 use Rattle.ifmap_forms.specs.declared.errors.FormError.TheVariants as form
-use Rattle.ifmap_forms.specs.Answers.{IsRefused}
+use Rattle.ifmap_forms.specs.Answers.{IsCheckRefusal}
 use Rattle.ifmap_replies.specs.declared.errors.ReplyError.{ReplyError}
 use Rattle.ifmap_replies.specs.declared.errors.ReplyError.TheVariants.{NotAReply, NoMemory}
 use Rattle.ifmap_replies.specs.declared.replies.Reply.{Reply}
-use Rattle.ifmap_replies.specs.Answers.{IsAnswer, as_refusal}
+use Rattle.ifmap_replies.specs.Answers.{IsMeantReply, as_reply_error}
 use Rattle.ifmap_replies.specs.Laws.{NoReplyWithDefect}
-use Rattle.ifmap_replies.specs.Means.{IsReplyOf, Means}
+use Rattle.ifmap_replies.specs.Means.{IsReplyOf, MeansReply}
 use Rattle.ifmap_replies.specs.ResultForms.{response_check}
 
 -- ---- elements
@@ -24,23 +24,23 @@ module _ (e : Element) (path : List ℕ) (response : Element) (envelope : IsEnve
   pub reply_read : (answer : Reply) → response_check response (Ok answer) → IsReplyOf e answer
   reply_read answer f = record { path = path; response = response; envelope = envelope; checked = f }
 
-  pub reply_refused : NoReplyWithDefect → (error : FormError) → IsRefused (response_check response) error
-      → IsAnswer (IsReplyOf e) (Err (as_refusal error))
+  pub reply_refused : NoReplyWithDefect → (error : FormError) → IsCheckRefusal (response_check response) error
+      → IsMeantReply (IsReplyOf e) (Err (as_reply_error error))
   reply_refused none (form.Named code) f = none e path response code envelope f
   reply_refused none form.NoMemory f = tt
 
-pub refused_answer : (Meant : Reply → Type 0) (r : Result Reply ReplyError) (error : FormError) → IsErrAnd r (λ e. e ≡ as_refusal error)
-    → IsAnswer Meant (Err (as_refusal error)) → IsAnswer Meant r
+pub refused_answer : (Meant : Reply → Type 0) (r : Result Reply ReplyError) (error : FormError) → IsErrAnd r (λ e. e ≡ as_reply_error error)
+    → IsMeantReply Meant (Err (as_reply_error error)) → IsMeantReply Meant r
 refused_answer Meant (Ok answer) error is f = absurd is
-refused_answer Meant (Err e) error is f = subst (λ (x : ReplyError). IsAnswer Meant (Err x)) (sym is) f
+refused_answer Meant (Err e) error is f = subst (λ (x : ReplyError). IsMeantReply Meant (Err x)) (sym is) f
 
 -- ---- bodies
 
 module _ (bytes : List ℕ) where
-  pub spells_nothing : (at : ℕ) → IsUnreadable bytes 80 at → (answer : Reply) → Means bytes answer → ⊥
+  pub spells_nothing : (at : ℕ) → IsUnreadable bytes 80 at → (answer : Reply) → MeansReply bytes answer → ⊥
   spells_nothing at u answer m = u.none m.reading m.spelled
 
-  pub spells_too_deep : (at : ℕ) → IsTooDeep bytes 80 at → (answer : Reply) → Means bytes answer → ⊥
+  pub spells_too_deep : (at : ℕ) → IsTooDeep bytes 80 at → (answer : Reply) → MeansReply bytes answer → ⊥
   spells_too_deep at u answer m =
       let deep : 80 < nesting m.reading.root = u.deeper m.reading m.spelled in
       let shallow : nesting m.reading.root ≤ 80 = m.shallow in
@@ -48,7 +48,7 @@ module _ (bytes : List ℕ) where
 
   module _ (reading : Reading) (spelled : Spells bytes reading) (shallow : nesting reading.root ≤ 80)
       (one : (other : Reading) → Spells bytes other → reading ≡ other) where
-    pub body_answer : (r : Result Reply ReplyError) → IsAnswer (IsReplyOf reading.root) r → IsAnswer (Means bytes) r
+    pub body_answer : (r : Result Reply ReplyError) → IsMeantReply (IsReplyOf reading.root) r → IsMeantReply (MeansReply bytes) r
     body_answer (Ok answer) f = record { reading = reading; spelled = spelled; shallow = shallow; reply = f }
     body_answer (Err NotAReply) f = λ answer m.
         f answer (subst (λ (r : Reading). IsReplyOf r.root answer) (sym (one m.reading m.spelled)) m.reply)

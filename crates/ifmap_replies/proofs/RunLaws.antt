@@ -10,7 +10,7 @@ use Rattle.ifmap_ident.specs.Items.{same_item}
 use Rattle.ifmap_search.specs.declared.results.Entry.{Entry}
 use Rattle.ifmap_replies.specs.declared.runs.Run.{Run}
 use Rattle.ifmap_replies.specs.Results.{as_children, entry_children, run_element}
-use Rattle.ifmap_replies.specs.Runs.{before, elements_of, run_length, run_on, runs_of}
+use Rattle.ifmap_replies.specs.Runs.{before, entry_elements, run_length, run_on, runs_of}
 
 -- ---- how long a run is
 
@@ -34,7 +34,7 @@ run_ends last xs i high = ap (run_length last) (drop_all i xs high)
 -- ---- the run in front
 
 abbrev front_run : Entry → List Entry → ℕ → Run
-front_run first others n = run_on first.item (first.element ∷ elements_of (take n others))
+front_run first others n = run_on first.item (first.element ∷ entry_elements (take n others))
 
 -- an entry before a run, as the test of their items says
 joined : (first entry : Entry) (entries : List Entry) (run : Run) (runs : List Run) (n : ℕ) (b : Bool)
@@ -65,7 +65,7 @@ tail_whole xs index =
     take_all (length xs - index) (drop index xs) (omega (arith, e))
 
 pub one_run : (all made more : List Child) (rest others : List Entry) (first : Entry) (run : Element) (n : ℕ) → rest ≡ first ∷ others
-    → n ≡ run_length first others → run ≡ run_element (run_on first.item (first.element ∷ elements_of (take n others)))
+    → n ≡ run_length first others → run ≡ run_element (run_on first.item (first.element ∷ entry_elements (take n others)))
     → more ≡ made ++ the.Element run ∷ [] → made ++ entry_children rest ≡ all
     → more ++ entry_children (take (length others - n) (drop n others)) ≡ all
 one_run all made more rest others first run n r long is pushed before =

@@ -18,10 +18,10 @@ use Rattle.ifmap_ident.specs.Parts.{has_only}
 use Rattle.ifmap_reader.specs.declared.scoping.Scope.{Scope}
 use Rattle.ifmap_forms.specs.CheckLaws.{fail_single, need_single, pass_single, some_single, then_single}
 use Rattle.ifmap_forms.specs.Checks.{Check, IsSingle, check_then, need, need_some, pass}
-use Rattle.ifmap_forms.specs.Items.{before_list, from_list, identifier_check, identifiers_check, item_of, list_at}
+use Rattle.ifmap_forms.specs.Items.{before_list, from_list, identifier_check, identifiers_check, item_of, list_if_there}
 use Rattle.ifmap_forms.specs.SingleLaws.{beside_single, made_single, each_single, read_text_single, list_at_single, no_attributes_single}
 use Rattle.ifmap_forms.specs.SingleLaws.{no_children_single, identifiers_single}
-use Rattle.ifmap_forms.specs.Tables.{Part, beside, form_check, no_attributes, parts_of}
+use Rattle.ifmap_forms.specs.Tables.{Part, beside, form_check, no_attributes, element_parts}
 use Rattle.ifmap_forms.specs.Values.{number_of, text_field}
 use Rattle.ifmap_replies.specs.declared.kinds.PollKind.{PollKind}
 use Rattle.ifmap_replies.specs.declared.kinds.PollKind.TheVariants as told
@@ -30,10 +30,10 @@ use Rattle.ifmap_replies.specs.declared.kinds.ResultKind.TheVariants as result
 use Rattle.ifmap_replies.specs.declared.replies.Reply.{Reply}
 use Rattle.ifmap_replies.specs.declared.replies.Reply.TheVariants as reply
 use Rattle.ifmap_replies.specs.Fields.{code_field, code_of, optional_field, read_code, read_optional, read_word, word_field}
-use Rattle.ifmap_replies.specs.Laws.{NoReplyWithDefect, OneMeaning, OneReply}
+use Rattle.ifmap_replies.specs.Laws.{NoReplyWithDefect, OneReplyMeaning, OneReply}
 use Rattle.ifmap_replies.specs.Means.{IsReplyOf}
 use Rattle.ifmap_replies.specs.ResultForms.{element_check, entries_check, error_form, error_made, found_form, found_made, is_text}
-use Rattle.ifmap_replies.specs.ResultForms.{members_check, new_session_form, new_session_made, no_scopes, note_check, only_check}
+use Rattle.ifmap_replies.specs.ResultForms.{members_check, session_result_form, new_session_made, no_scopes, note_check, only_check}
 use Rattle.ifmap_replies.specs.ResultForms.{only_member, or_none, plain_check, plain_form, plain_made, poll_check, poll_kind_check}
 use Rattle.ifmap_replies.specs.ResultForms.{poll_kind_of, polled_form, polled_made, response_check, response_form, response_made}
 use Rattle.ifmap_replies.specs.ResultForms.{result_check, result_kind_check, result_kind_of, run_check, run_form, run_from, run_made}
@@ -70,17 +70,17 @@ module _ {X : Type 0} (one : Element → Check X) (s : (e : Element) → IsSingl
 note_single : (e : Element) → IsSingle (note_check e)
 note_single e =
     need_single (is_bare (codes "errorString") e.name) Failure
-    (need (has_only [] e) Failure (need (list_all is_text (parts_of e)) Failure (pass (text_among e.children))))
-    (need_single (has_only [] e) Failure (need (list_all is_text (parts_of e)) Failure (pass (text_among e.children)))
-    (need_single (list_all is_text (parts_of e)) Failure (pass (text_among e.children)) (pass_single (text_among e.children))))
+    (need (has_only [] e) Failure (need (list_all is_text (element_parts e)) Failure (pass (text_among e.children))))
+    (need_single (has_only [] e) Failure (need (list_all is_text (element_parts e)) Failure (pass (text_among e.children)))
+    (need_single (list_all is_text (element_parts e)) Failure (pass (text_among e.children)) (pass_single (text_among e.children))))
 
 module _ (identifier_one : (e : Element) → IsSingle (identifier_check e)) where
   run_parts_single : (parts : List Part) → IsSingle (run_parts parts)
   run_parts_single parts =
       then_single (identifiers_check 2 [] (before_list parts))
-      (λ identifiers. check_then (list_at element_check (from_list parts)) (λ list. run_from identifiers list))
+      (λ identifiers. check_then (list_if_there element_check (from_list parts)) (λ list. run_from identifiers list))
       (identifiers_single identifier_one 2 [] (before_list parts))
-      (λ identifiers. then_single (list_at element_check (from_list parts)) (λ list. run_from identifiers list)
+      (λ identifiers. then_single (list_if_there element_check (from_list parts)) (λ list. run_from identifiers list)
       (list_at_single element_check (λ e. pass_single (arrange e)) (from_list parts))
       (λ list. some_single Failure (item_of identifiers) (λ item. pass (run_on item (or_none list)))
       (λ item. pass_single (run_on item (or_none list)))))
@@ -116,7 +116,7 @@ module _ (identifier_one : (e : Element) → IsSingle (identifier_check e)) wher
 
   result_kind_single : (kind : ResultKind) (e : Element) → IsSingle (result_kind_check kind e)
   result_kind_single result.NewSession e =
-      made_single new_session_form new_session_made
+      made_single session_result_form new_session_made
       (beside_single (text_field (codes "ifmap-publisher-id"))
       (beside (word_field (codes "max-poll-result-size")) (beside (text_field (codes "session-id")) no_attributes)) read_text_single
       (beside_single (word_field (codes "max-poll-result-size")) (beside (text_field (codes "session-id")) no_attributes) read_word_single
@@ -172,7 +172,7 @@ module _ (identifier_one : (e : Element) → IsSingle (identifier_check e)) (env
       found_one e path b.path response b.response (Err code) (Ok answer) envelope b.envelope defect b.checked in
       cc
 
-pub one_meaning : ((bytes : List ℕ) (one other : Reading) → Spells bytes one → Spells bytes other → one ≡ other) → OneReply → OneMeaning
+pub one_meaning : ((bytes : List ℕ) (one other : Reading) → Spells bytes one → Spells bytes other → one ≡ other) → OneReply → OneReplyMeaning
 one_meaning readings replies bytes one other a b =
     replies b.reading.root one other
     (subst (λ (r : Reading). IsReplyOf r.root one) (readings bytes a.reading b.reading a.spelled b.spelled) a.reply) b.reply

@@ -19,15 +19,15 @@ abbrev pub AreFitEntries : List Entry → Type 0
 AreFitEntries entries = AllByRecursion IsFitEntry entries
 
 -- the name of a subscription, where there is one
-abbrev pub IsFitName : Option (List ℕ) → Type 0
-IsFitName name = IfSome name IsCharacters
+abbrev pub IsFitSubscriptionName : Option (List ℕ) → Type 0
+IsFitSubscriptionName name = IfSome name IsCharacters
 
 abbrev pub IsFitPollItem : PollItem → Type 0
 IsFitPollItem (poll.Search name entries) = IsCharacters name × AreFitEntries entries
 IsFitPollItem (poll.Update name entries) = IsCharacters name × AreFitEntries entries
 IsFitPollItem (poll.Delete name entries) = IsCharacters name × AreFitEntries entries
 IsFitPollItem (poll.Notify name entries) = IsCharacters name × AreFitEntries entries
-IsFitPollItem (poll.Error name code note) = IsFitName name × IsCharacters note
+IsFitPollItem (poll.Error name code note) = IsFitSubscriptionName name × IsCharacters note
 
 -- a number as its type holds it
 abbrev pub IsWord : ℕ → Type 0

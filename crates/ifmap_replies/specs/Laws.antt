@@ -5,7 +5,7 @@ use Rattle.ifmap_envelopes.specs.Envelopes.{IsEnvelope}
 use Rattle.ifmap_ident.specs.declared.codes.Code.{Code}
 use Rattle.ifmap_replies.specs.declared.replies.Reply.{Reply}
 use Rattle.ifmap_replies.specs.Fit.{IsFitReply}
-use Rattle.ifmap_replies.specs.Means.{IsReplyOf, Means}
+use Rattle.ifmap_replies.specs.Means.{IsReplyOf, MeansReply}
 use Rattle.ifmap_replies.specs.ResultForms.{response_check}
 use Rattle.ifmap_replies.specs.Results.{reply_bytes, reply_element}
 
@@ -20,8 +20,8 @@ NoReplyWithDefect =
     → (answer : Reply) → IsReplyOf e answer → ⊥
 
 -- bytes mean one reply at most
-abbrev pub OneMeaning : Type 0
-OneMeaning = (bytes : List ℕ) (one other : Reply) → Means bytes one → Means bytes other → one ≡ other
+abbrev pub OneReplyMeaning : Type 0
+OneReplyMeaning = (bytes : List ℕ) (one other : Reply) → MeansReply bytes one → MeansReply bytes other → one ≡ other
 
 -- an envelope means a reply or none
 abbrev pub ReplyOrNone : Type 0
@@ -34,4 +34,4 @@ abbrev pub ElementsReadBack : Type 0
 ElementsReadBack = (answer : Reply) → IsFitReply answer → IsReplyOf (reply_element answer) answer
 
 abbrev pub BytesReadBack : Type 0
-BytesReadBack = (answer : Reply) → IsFitReply answer → Means (reply_bytes answer) answer
+BytesReadBack = (answer : Reply) → IsFitReply answer → MeansReply (reply_bytes answer) answer

@@ -20,7 +20,7 @@ abbrev pub reply_levels : ℕ
 reply_levels = 80
 
 -- the bytes spell an element of so many levels at most that means this reply
-pub record Means (bytes : List ℕ) (answer : Reply) : Type 0 where
+pub record MeansReply (bytes : List ℕ) (answer : Reply) : Type 0 where
   pub reading : Reading
   pub spelled : Spells bytes reading
   pub shallow : nesting reading.root ≤ reply_levels

@@ -15,10 +15,10 @@ use Rattle.ifmap_search.specs.declared.results.Entry.{Entry}
 use Rattle.ifmap_search.specs.declared.results.PollItem.{PollItem}
 use Rattle.ifmap_search.specs.declared.results.PollItem.TheVariants as poll
 use Rattle.ifmap_forms.specs.Checks.{Check, check_then, need, need_some, pass}
-use Rattle.ifmap_forms.specs.Items.{before_list, from_list, identifiers_check, item_of, list_at}
+use Rattle.ifmap_forms.specs.Items.{before_list, from_list, identifiers_check, item_of, list_if_there}
 use Rattle.ifmap_forms.specs.Scopes.{Scopes}
 use Rattle.ifmap_forms.specs.Tables.{Both, ContentCheck, Form, OneText, Part, bare_form, beside, each_element, form_check, no_attributes}
-use Rattle.ifmap_forms.specs.Tables.{no_children, parts_of}
+use Rattle.ifmap_forms.specs.Tables.{no_children, element_parts}
 use Rattle.ifmap_forms.specs.Values.{text_field}
 use Rattle.ifmap_replies.specs.declared.kinds.EntriesKind.{EntriesKind}
 use Rattle.ifmap_replies.specs.declared.kinds.EntriesKind.TheVariants as entries
@@ -69,7 +69,7 @@ run_from identifiers list = need_some Failure (item_of identifiers) (λ item. pa
 abbrev pub run_parts : List Part → Check Run
 run_parts parts =
     check_then (identifiers_check 2 [] (before_list parts))
-    (λ identifiers. check_then (list_at element_check (from_list parts)) (λ list. run_from identifiers list))
+    (λ identifiers. check_then (list_if_there element_check (from_list parts)) (λ list. run_from identifiers list))
 
 abbrev pub run_form : Form (Unit {0}) Run
 run_form = bare_form (codes "resultItem") no_attributes (λ scopes. run_parts)
@@ -98,7 +98,7 @@ abbrev pub note_check : Element → Check (List ℕ)
 note_check e =
     need (is_bare (codes "errorString") e.name) Failure
     (need (has_only [] e) Failure
-    (need (list_all is_text (parts_of e)) Failure (pass (text_among e.children))))
+    (need (list_all is_text (element_parts e)) Failure (pass (text_among e.children))))
 
 abbrev pub note_content : ContentCheck (List ℕ)
 note_content scopes = only_check note_check
@@ -182,8 +182,8 @@ result_kind_of name = find (λ kind. is_bare (result_local kind) name) result_ki
 abbrev pub SessionValues : Type 0
 SessionValues = Both (List ℕ) (Both ℕ (Both (List ℕ) (Unit {0})))
 
-abbrev pub new_session_form : Form SessionValues (Unit {0})
-new_session_form =
+abbrev pub session_result_form : Form SessionValues (Unit {0})
+session_result_form =
     bare_form (result_local result.NewSession)
     (beside (text_field (codes "ifmap-publisher-id")) (beside (word_field (codes "max-poll-result-size"))
     (beside (text_field (codes "session-id")) no_attributes)))
@@ -221,7 +221,7 @@ abbrev pub error_made : Both Code (Unit {0}) → List ℕ → Reply
 error_made a note = reply.Error a.first note
 
 abbrev pub result_kind_check : ResultKind → Element → Check Reply
-result_kind_check result.NewSession e = form_check new_session_form new_session_made no_scopes e
+result_kind_check result.NewSession e = form_check session_result_form new_session_made no_scopes e
 result_kind_check result.Renewed e = plain_check result.Renewed reply.Renewed e
 result_kind_check result.Ended e = plain_check result.Ended reply.Ended e
 result_kind_check result.Published e = plain_check result.Published reply.Published e

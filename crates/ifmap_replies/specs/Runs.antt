@@ -41,5 +41,5 @@ abbrev pub run_length : Entry → List Entry → ℕ
 run_length last [] = 0
 run_length last (entry ∷ entries) = if same_item last.item entry.item then suc (run_length entry entries) else 0
 
-abbrev pub elements_of : List Entry → List Element
-elements_of entries = map (λ entry. entry.element) entries
+abbrev pub entry_elements : List Entry → List Element
+entry_elements entries = map (λ entry. entry.element) entries

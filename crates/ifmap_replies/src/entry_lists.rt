@@ -2,7 +2,7 @@
 ghost use Rattle.std.specs.Prelude.{◌≡◌, ◌≤◌, ◌∷◌, ◌++◌, [], drop, length, take, IfOk, OnOk};
 ghost use Rattle.ifmap_elem.specs.declared.elements.Child.{out-Child};
 ghost use Rattle.ifmap_forms.specs.Answers.{IsChecked, IsCheckedAs};
-ghost use Rattle.ifmap_forms.specs.Items.{before_list, identifiers_check, list_at, list_check};
+ghost use Rattle.ifmap_forms.specs.Items.{before_list, identifiers_check, list_if_there, list_check};
 ghost use Rattle.ifmap_forms.specs.Tables.{form_check, parts_in};
 ghost use Rattle.ifmap_replies.specs.ResultForms.{element_check, entries_check, no_scopes, or_none, run_check, run_form, run_from, run_made, run_parts};
 ghost use Rattle.ifmap_replies.specs.Runs.{entries_of, run_entries};
@@ -136,7 +136,7 @@ fn read_list(
     mut children: Vec<Child>,
     index: usize,
 ) -> Result<Option<Many<SharedElement>>, FormError>
-    ensures { IsChecked (list_at element_check (drop index (parts_in children.items))) result }
+    ensures { IsChecked (list_if_there element_check (drop index (parts_in children.items))) result }
 {
     if index >= children.len() {
         return Ok(None);
@@ -150,7 +150,7 @@ fn read_list_child(
     child: Child,
     after: &[Child],
 ) -> Result<Option<Many<SharedElement>>, FormError>
-    ensures { IsChecked (list_at element_check (out-Child child ∷ parts_in after.now)) result }
+    ensures { IsChecked (list_if_there element_check (out-Child child ∷ parts_in after.now)) result }
 {
     match child {
         Child::Element(element) => {

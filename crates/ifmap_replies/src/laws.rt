@@ -1,5 +1,5 @@
 //! Laws on replies: functions that do nothing, whose contracts are the laws.
-ghost use Rattle.ifmap_replies.specs.Laws.{BytesReadBack, ElementsReadBack, NoReplyWithDefect, OneMeaning, OneReply, ReplyOrNone};
+ghost use Rattle.ifmap_replies.specs.Laws.{BytesReadBack, ElementsReadBack, NoReplyWithDefect, OneReplyMeaning, OneReply, ReplyOrNone};
 
 use ifmap_elem::laws::{bytes_spell_one_element, canonical_bytes_spell_the_element};
 use ifmap_envelopes::laws::envelopes_hold_one_element;
@@ -26,7 +26,7 @@ pub fn envelopes_mean_a_reply_or_none()
 
 /// A body means one reply at most.
 pub fn bodies_have_one_meaning()
-    ensures { OneMeaning }
+    ensures { OneReplyMeaning }
 {
     elements_have_one_reply();
     bytes_spell_one_element();

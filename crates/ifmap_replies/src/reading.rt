@@ -1,6 +1,6 @@
 //! Replies, read from elements and bodies.
-ghost use Rattle.ifmap_replies.specs.Answers.{IsAnswer};
-ghost use Rattle.ifmap_replies.specs.Means.{IsReplyOf, Means};
+ghost use Rattle.ifmap_replies.specs.Answers.{IsMeantReply};
+ghost use Rattle.ifmap_replies.specs.Means.{IsReplyOf, MeansReply};
 
 use crate::errors::ReplyError;
 use crate::laws::elements_have_one_reply;
@@ -18,7 +18,7 @@ const LEVELS: u32 = 80;
 /// The reply that an element means, an envelope of a response with one result; `NotAReply` exactly
 /// where it means none.
 pub fn reply_of(alloc: Global, element: &Element) -> Result<Reply, ReplyError>
-    ensures { IsAnswer (IsReplyOf element.now) result }
+    ensures { IsMeantReply (IsReplyOf element.now) result }
 {
     let element = element.copy(alloc)?;
     read_envelope(alloc, element)
@@ -27,7 +27,7 @@ pub fn reply_of(alloc: Global, element: &Element) -> Result<Reply, ReplyError>
 /// The reply that a body means in any spelling of its element; `NotAReply` exactly where it means
 /// none, or has more than 80 levels.
 pub fn read_reply(alloc: Global, body: &[u8]) -> Result<Reply, ReplyError>
-    ensures { IsAnswer (Means body.now) result }
+    ensures { IsMeantReply (MeansReply body.now) result }
 {
     bytes_spell_one_element();
     match read(alloc, body, LEVELS) {
@@ -40,7 +40,7 @@ pub fn read_reply(alloc: Global, body: &[u8]) -> Result<Reply, ReplyError>
 
 // The reply of an envelope. Elements of entries are moved out of it.
 fn read_envelope(alloc: Global, root: Element) -> Result<Reply, ReplyError>
-    ensures { IsAnswer (IsReplyOf root) result }
+    ensures { IsMeantReply (IsReplyOf root) result }
 {
     elements_have_one_reply();
     let Some(inner) = open_envelope(root) else {

@@ -4,7 +4,7 @@ ghost use Rattle.ifmap_filter.specs.Holding.{is_name};
 ghost use Rattle.ifmap_forms.specs.Answers.{IsChecked};
 ghost use Rattle.ifmap_forms.specs.Tables.{form_check};
 ghost use Rattle.ifmap_replies.specs.Results.{response_name};
-ghost use Rattle.ifmap_replies.specs.ResultForms.{error_form, error_made, found_form, found_made, new_session_form, new_session_made, no_scopes, plain_check, polled_form, polled_made, response_check, response_form, response_made, result_check, result_kind_check};
+ghost use Rattle.ifmap_replies.specs.ResultForms.{error_form, error_made, found_form, found_made, session_result_form, new_session_made, no_scopes, plain_check, polled_form, polled_made, response_check, response_form, response_made, result_check, result_kind_check};
 ghost use Rattle.ifmap_replies.specs.declared.kinds.ResultKind.{ResultKind};
 
 use crate::entry_lists::read_entries;
@@ -83,7 +83,7 @@ fn read_result_kind(alloc: Global, kind: ResultKind, element: Element) -> Result
 }
 
 fn read_new_session(alloc: Global, element: &Element) -> Result<Reply, FormError>
-    ensures { IsChecked (form_check new_session_form new_session_made no_scopes element.now)
+    ensures { IsChecked (form_check session_result_form new_session_made no_scopes element.now)
         result }
 {
     let publisher = read_text(alloc, element, "ifmap-publisher-id")?;

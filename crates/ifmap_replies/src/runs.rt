@@ -4,7 +4,7 @@ ghost use Rattle.ifmap_elem.specs.Outlines.{outline_child, outline_element};
 ghost use Rattle.ifmap_ident.specs.Identifiers.{identifier_element};
 ghost use Rattle.ifmap_ident.specs.Items.{identifiers_of, same_item};
 ghost use Rattle.ifmap_replies.specs.Results.{as_children, entry_children, run_element};
-ghost use Rattle.ifmap_replies.specs.Runs.{elements_of, run_length, run_on};
+ghost use Rattle.ifmap_replies.specs.Runs.{entry_elements, run_length, run_on};
 
 use ifmap_elem::{Many, Outline, Piece};
 use ifmap_ident::{Item, SharedItem};
@@ -69,7 +69,7 @@ fn run_outline<'a>(
     others: &'a [Entry],
 ) -> Result<Outline<'a>, NoMemory>
     ensures { IfOk result (λ outline. outline_element outline ≡ run_element
-        (run_on first.now.item (first.now.element ∷ elements_of others.now))) }
+        (run_on first.now.item (first.now.element ∷ entry_elements others.now))) }
 {
     let elements = element_pieces(alloc, first, others)?;
     let metadata = Outline::with_local("metadata", Vec::new(alloc), elements);
@@ -84,7 +84,7 @@ fn element_pieces<'a>(
     others: &'a [Entry],
 ) -> Result<Vec<Piece<'a>>, NoMemory>
     ensures { IfOk result (λ pieces. map outline_child pieces.items
-        ≡ as_children (first.now.element ∷ elements_of others.now)) }
+        ≡ as_children (first.now.element ∷ entry_elements others.now)) }
 {
     let mut pieces = Vec::with_capacity(alloc, others.len().saturating_add(1))?;
     push_element(first, &mut pieces)?;

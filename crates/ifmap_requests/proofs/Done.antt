@@ -36,49 +36,49 @@ use Rattle.ifmap_meta.specs.Keys.{content_bytes}
 use Rattle.ifmap_meta.specs.Stamps.{content_of}
 use Rattle.ifmap_meta.specs.Whole.{content_limit}
 use Rattle.ifmap_forms.specs.CheckLaws.{fail_done, if_done, need_done, pass_done, some_done, then_done}
-use Rattle.ifmap_forms.specs.Checks.{Check, IsDone, check_if, check_then, fail, need, need_some, pass}
-use Rattle.ifmap_forms.specs.Items.{before_list, from_list, identifier_check, identifiers_check, item_content, item_of, list_at, list_check}
+use Rattle.ifmap_forms.specs.Checks.{Check, IsConclusive, check_if, check_then, fail, need, need_some, pass}
+use Rattle.ifmap_forms.specs.Items.{before_list, from_list, identifier_check, identifiers_check, item_content, item_of, list_if_there, list_check}
 use Rattle.ifmap_forms.specs.Items.{may_follow, only_identifier, start_content}
 use Rattle.ifmap_forms.specs.Scopes.{Scopes, scopes_below}
-use Rattle.ifmap_forms.specs.Tables.{ContentCheck, Form, Part, Table, beside, both, each_element, form_or, is_white_part, list_of, no_attributes}
-use Rattle.ifmap_forms.specs.Tables.{no_children, parts_of, read_form}
+use Rattle.ifmap_forms.specs.Tables.{ContentCheck, Form, Part, AttributeTable, beside, both, each_element, form_or, is_white_part, list_of, no_attributes}
+use Rattle.ifmap_forms.specs.Tables.{no_children, element_parts, read_form}
 use Rattle.ifmap_forms.specs.Values.{Field, depth_field, field_check, filter_check, filter_field, kind_of, kinds_check, kinds_field}
 use Rattle.ifmap_forms.specs.Values.{lifetime_field, limit_field, name_field, number_of, piece_check, pieces_of, size_field, text_field}
-use Rattle.ifmap_forms.specs.Values.{trim_white, within}
+use Rattle.ifmap_forms.specs.Values.{trim_white, within_range}
 use Rattle.ifmap_requests.specs.declared.requests.Request.{Request}
 use Rattle.ifmap_requests.specs.Published.{metadata_check, published_content, published_from}
 use Rattle.ifmap_envelopes.specs.Spaces.{ifmap_space}
-use Rattle.ifmap_requests.specs.RequestForms.{delete_form, delete_of, end_form, end_of, end_session_form, end_session_of}
+use Rattle.ifmap_requests.specs.RequestForms.{delete_form, delete_from_form, end_form, end_from_form, end_session_form, end_session_of}
 use Rattle.ifmap_requests.specs.RequestForms.{named_request_check, new_session_form, new_session_of, notify_form, notify_of}
 use Rattle.ifmap_requests.specs.RequestForms.{other_request_check, poll_form, poll_of, publish_form, publish_of, publish_op_check}
 use Rattle.ifmap_requests.specs.RequestForms.{publisher_field, purge_form, purge_of, renew_form, renewal_of, request_check}
 use Rattle.ifmap_requests.specs.RequestForms.{search_attributes, search_form, search_of, session_attribute, session_field, subscribe_form}
-use Rattle.ifmap_requests.specs.RequestForms.{subscribe_of, subscribe_op_check, subscription_form, subscription_of, update_form, update_of}
+use Rattle.ifmap_requests.specs.RequestForms.{subscribe_of, subscribe_op_check, subscription_form, subscription_from_form, update_form, update_from_form}
 use Rattle.ifmap_requests.proofs.Sound.{AreSound, IsSound, from_sound, parts_sound, value_fit}
 use Rattle.ifmap_elem.specs.laws.CharacterLaws.{characters_are_utf8}
 
 -- ---- 1. identifiers
 
 identifier_found : (e : Element) (result : Result Identifier IdentError) → IsAnswer e result → (result ≡ Err NoMemory → ⊥)
-    → IsDone (identifier_check e)
+    → IsConclusive (identifier_check e)
 identifier_found e (Ok i) a memory = (Ok i, a)
 identifier_found e (Err WrongKind) a memory = (Err InvalidIdentifierType, (WrongKind, refl, a))
 identifier_found e (Err Invalid) a memory = (Err InvalidIdentifier, (Invalid, refl, a))
 identifier_found e (Err TooLong) a memory = (Err IdentifierTooLong, (TooLong, refl, a))
 identifier_found e (Err NoMemory) a memory = absurd (memory refl)
 
-pub identifier_done : ((e : Element) → HasAnswer e) → (e : Element) → IsDone (identifier_check e)
+pub identifier_done : ((e : Element) → HasAnswer e) → (e : Element) → IsConclusive (identifier_check e)
 identifier_done some e = let a = some e in identifier_found e a.0 a.1 a.2
 
 -- ---- 2. tables, children, forms
 
 abbrev FieldDone : {X : Type 0} → Field X → Type 0
-FieldDone field = (scope : Scope) (text : Option (List ℕ)) → IfSome text IsCharacters → IsDone (field.reads scope text)
+FieldDone field = (scope : Scope) (text : Option (List ℕ)) → IfSome text IsCharacters → IsConclusive (field.reads scope text)
 
-abbrev TableDone : {X : Type 0} → Table X → Type 0
-TableDone table = (scope : Scope) (e : Element) → IsFit e → IsDone (table.reads scope e)
+abbrev TableDone : {X : Type 0} → AttributeTable X → Type 0
+TableDone table = (scope : Scope) (e : Element) → IsFit e → IsConclusive (table.reads scope e)
 
-module _ {X Y : Type 0} (field : Field X) (table : Table Y) where
+module _ {X Y : Type 0} (field : Field X) (table : AttributeTable Y) where
   beside_done : FieldDone field → TableDone table → TableDone (beside field table)
   beside_done f t scope e fit =
       then_done (field_check field scope e) (λ x. check_then (table.reads scope e) (λ y. pass (both x y)))
@@ -90,26 +90,26 @@ no_attributes_done scope e fit = pass_done tt
 
 module _ (most : ℕ) where
   abbrev ContentDone : {X : Type 0} → ContentCheck X → Type 0
-  ContentDone content = (scopes : Scopes) (parts : List Part) → AreSound most parts → IsDone (content scopes parts)
+  ContentDone content = (scopes : Scopes) (parts : List Part) → AreSound most parts → IsConclusive (content scopes parts)
 
   abbrev ElementDone : {X : Type 0} → (Element → Check X) → Type 0
-  ElementDone check = (e : Element) → IsSound most e → IsDone (check e)
+  ElementDone check = (e : Element) → IsSound most e → IsConclusive (check e)
 
   module _ {A C : Type 0} (form : Form A C) where
     form_done : TableDone form.attributes → ContentDone form.content → (scopes : Scopes) → ElementDone (read_form form scopes)
     form_done t s scopes e sound =
         then_done (form.attributes.reads (scopes []) e)
         (λ a. need (has_only (form.passed_over ++ form.attributes.locals) e) Failure
-        (check_then (form.content scopes (parts_of e)) (λ c. pass (both a c))))
+        (check_then (form.content scopes (element_parts e)) (λ c. pass (both a c))))
         (λ a found. need_done (has_only (form.passed_over ++ form.attributes.locals) e) Failure
-        (check_then (form.content scopes (parts_of e)) (λ c. pass (both a c)))
-        (then_done (form.content scopes (parts_of e)) (λ c. pass (both a c)) (λ c got. pass_done (both a c))
-        (s scopes (parts_of e) (parts_sound most e sound))))
+        (check_then (form.content scopes (element_parts e)) (λ c. pass (both a c)))
+        (then_done (form.content scopes (element_parts e)) (λ c. pass (both a c)) (λ c got. pass_done (both a c))
+        (s scopes (element_parts e) (parts_sound most e sound))))
         (t (scopes []) e sound.fit)
 
   module _ {X A C : Type 0} (form : Form A C) (make : A → C → X) where
     or_done : TableDone form.attributes → ContentDone form.content → (scopes : Scopes) (e : Element) → IsSound most e → (other : Check X)
-        → IsDone other → IsDone (form_or form make scopes e other)
+        → IsConclusive other → IsConclusive (form_or form make scopes e other)
     or_done t s scopes e sound other done =
         if_done (is_name e.name form.name) (check_then (read_form form scopes e) (λ x. pass (make x.first x.others))) other
         (then_done (read_form form scopes e) (λ x. pass (make x.first x.others)) (λ x found. pass_done (make x.first x.others))
@@ -117,7 +117,7 @@ module _ (most : ℕ) where
         done
 
   module _ {X : Type 0} (one : ℕ → Element → Check X) (s : (index : ℕ) → ElementDone (one index)) where
-    each_done : (index : ℕ) (parts : List Part) → AreSound most parts → IsDone (each_element one index parts)
+    each_done : (index : ℕ) (parts : List Part) → AreSound most parts → IsConclusive (each_element one index parts)
     each_done index [] sound = pass_done []
     each_done index (Child-F.Element e ∷ parts) sound =
         then_done (one index e) (λ x. check_then (each_element one (index + 1) parts) (λ xs. pass (x ∷ xs)))
@@ -144,7 +144,7 @@ name_done scope (Some text) is =
 limit_done : FieldDone limit_field
 limit_done scope None is = pass_done None
 limit_done scope (Some text) is =
-    some_done Failure (number_of text) (λ n. pass (Some (within 10_000 5_000_000 n))) (λ n. pass_done (Some (within 10_000 5_000_000 n)))
+    some_done Failure (number_of text) (λ n. pass (Some (within_range 10_000 5_000_000 n))) (λ n. pass_done (Some (within_range 10_000 5_000_000 n)))
 
 depth_done : FieldDone depth_field
 depth_done scope None is = pass_done 0
@@ -164,7 +164,7 @@ lifetime_done scope (Some text) is =
     (pass_done false)
     (if_done (bytes_eq text (codes "forever")) (pass true) (fail Failure) (pass_done true) (fail_done Failure))
 
-pieces_done : (pieces : List (List ℕ)) → IsDone (kinds_check pieces)
+pieces_done : (pieces : List (List ℕ)) → IsConclusive (kinds_check pieces)
 pieces_done [] = pass_done []
 pieces_done (piece ∷ pieces) =
     then_done (piece_check piece) (λ kind. check_then (kinds_check pieces) (λ others. pass (kind ∷ others)))
@@ -179,7 +179,7 @@ kinds_done scope (Some text) is =
 
 module _ (decided : FilterOrStop) (apart : StopsWhereNone) where
   filter_found : (scope : Scope) (text : List ℕ) → ((filter : Filter) × Writes text scope filter) ⊎ ((at : ℕ) × StopsAt text scope at)
-      → IsDone (filter_check scope text)
+      → IsConclusive (filter_check scope text)
   filter_found scope text (inl w) = (Ok w.0, w.1)
   filter_found scope text (inr stops) = (Err Failure, apart text scope stops.0 stops.1)
 
@@ -192,21 +192,21 @@ module _ (decided : FilterOrStop) (apart : StopsWhereNone) where
 -- ---- 4. metadata
 
 made_of : (e : Element) (cardinality : Cardinality) → cardinality_of e ≡ Some cardinality
-    → (length (content_bytes e) ≤ content_limit) ⊎ (content_limit < length (content_bytes e)) → IsDone (metadata_check e)
+    → (length (content_bytes e) ≤ content_limit) ⊎ (content_limit < length (content_bytes e)) → IsConclusive (metadata_check e)
 made_of e cardinality is (inl low) = (
   Ok (record { element = arrange (content_of e); cardinality = cardinality }),
   record { element = refl; cardinality = is; size = low },
 )
 made_of e cardinality is (inr high) = (Err MetadataTooLong, (rw is refl, high))
 
-metadata_by : (e : Element) (o : Option Cardinality) → cardinality_of e ≡ o → IsDone (metadata_check e)
+metadata_by : (e : Element) (o : Option Cardinality) → cardinality_of e ≡ o → IsConclusive (metadata_check e)
 metadata_by e None is = (Err InvalidMetadata, is)
 metadata_by e (Some cardinality) is = made_of e cardinality is (elim (cases_lt content_limit (length (content_bytes e))) [
   | inl high ↦ inr high
   | inr low ↦ inl low
 ])
 
-metadata_done : (e : Element) → IsDone (metadata_check e)
+metadata_done : (e : Element) → IsConclusive (metadata_check e)
 metadata_done e = metadata_by e (cardinality_of e) refl
 
 -- ---- 5. children
@@ -214,11 +214,11 @@ metadata_done e = metadata_by e (cardinality_of e) refl
 module _ (most : ℕ) where
   list_done : ElementDone most (list_check metadata_check)
   list_done e sound =
-      need_done (has_only [] e) Failure (each_element (λ index inner. metadata_check inner) 0 (parts_of e))
-      (each_done most (λ index inner. metadata_check inner) (λ index inner s. metadata_done inner) 0 (parts_of e)
+      need_done (has_only [] e) Failure (each_element (λ index inner. metadata_check inner) 0 (element_parts e))
+      (each_done most (λ index inner. metadata_check inner) (λ index inner s. metadata_done inner) 0 (element_parts e)
       (parts_sound most e sound))
 
-  list_at_done : (parts : List Part) → AreSound most parts → IsDone (list_at metadata_check parts)
+  list_at_done : (parts : List Part) → AreSound most parts → IsConclusive (list_if_there metadata_check parts)
   list_at_done [] sound = pass_done None
   list_at_done (Child-F.Element e ∷ after) sound =
       then_done (list_check metadata_check e) (λ xs. need (list_all is_white_part after) Failure (pass (Some xs)))
@@ -226,8 +226,8 @@ module _ (most : ℕ) where
       (list_done e sound.0)
   list_at_done (Child-F.Text text ∷ after) sound = fail_done Failure
 
-  module _ (identifier : (e : Element) → IsDone (identifier_check e)) where
-    identifiers_done : (number : ℕ) (before : List Identifier) (parts : List Part) → IsDone (identifiers_check number before parts)
+  module _ (identifier : (e : Element) → IsConclusive (identifier_check e)) where
+    identifiers_done : (number : ℕ) (before : List Identifier) (parts : List Part) → IsConclusive (identifiers_check number before parts)
     identifiers_done number before [] = pass_done []
     identifiers_done number before (Child-F.Element e ∷ parts) =
         then_done (identifier_check e)
@@ -256,8 +256,8 @@ module _ (most : ℕ) where
     published_done : ContentDone most published_content
     published_done scopes parts sound =
         then_done (identifiers_check 2 [] (before_list parts))
-        (λ identifiers. check_then (list_at metadata_check (from_list parts)) (λ list. published_from identifiers list))
-        (λ identifiers found. then_done (list_at metadata_check (from_list parts)) (λ list. published_from identifiers list)
+        (λ identifiers. check_then (list_if_there metadata_check (from_list parts)) (λ list. published_from identifiers list))
+        (λ identifiers found. then_done (list_if_there metadata_check (from_list parts)) (λ list. published_from identifiers list)
         (λ list got. some_done Failure (item_of identifiers)
         (λ item. need_some Failure list (λ elements. pass (both item elements)))
         (λ item. some_done Failure list (λ elements. pass (both item elements)) (λ elements. pass_done (both item elements))))
@@ -266,7 +266,7 @@ module _ (most : ℕ) where
 
 -- ---- 6. operations and requests
 
-module _ (identifier : (e : Element) → IsDone (identifier_check e)) (decided : FilterOrStop) (apart : StopsWhereNone) where
+module _ (identifier : (e : Element) → IsConclusive (identifier_check e)) (decided : FilterOrStop) (apart : StopsWhereNone) where
   search_attributes_done : TableDone search_attributes
   search_attributes_done =
       beside_done (filter_field (codes "match-links")) (beside depth_field (beside size_field
@@ -290,21 +290,21 @@ module _ (identifier : (e : Element) → IsDone (identifier_check e)) (decided :
   module _ (most : ℕ) where
     publish_op_done : (scopes : Scopes) → ElementDone most (publish_op_check scopes)
     publish_op_done scopes e sound =
-        or_done most update_form update_of (beside_done lifetime_field no_attributes lifetime_done no_attributes_done)
+        or_done most update_form update_from_form (beside_done lifetime_field no_attributes lifetime_done no_attributes_done)
         (published_done most identifier) scopes e sound
-        (form_or notify_form notify_of scopes e (form_or delete_form delete_of scopes e (fail Failure)))
+        (form_or notify_form notify_of scopes e (form_or delete_form delete_from_form scopes e (fail Failure)))
         (or_done most notify_form notify_of no_attributes_done (published_done most identifier) scopes e sound
-        (form_or delete_form delete_of scopes e (fail Failure))
-        (or_done most delete_form delete_of
+        (form_or delete_form delete_from_form scopes e (fail Failure))
+        (or_done most delete_form delete_from_form
         (beside_done (filter_field (codes "filter")) no_attributes (filter_done decided apart (codes "filter")) no_attributes_done)
         (item_done most identifier) scopes e sound (fail Failure) (fail_done Failure)))
 
     subscribe_op_done : (scopes : Scopes) → ElementDone most (subscribe_op_check scopes)
     subscribe_op_done scopes e sound =
-        or_done most subscription_form subscription_of
+        or_done most subscription_form subscription_from_form
         (beside_done name_field search_attributes name_done search_attributes_done) (start_done most identifier) scopes e sound
-        (form_or end_form end_of scopes e (fail Failure))
-        (or_done most end_form end_of (beside_done name_field no_attributes name_done no_attributes_done) (no_children_done most)
+        (form_or end_form end_from_form scopes e (fail Failure))
+        (or_done most end_form end_from_form (beside_done name_field no_attributes name_done no_attributes_done) (no_children_done most)
         scopes e sound (fail Failure) (fail_done Failure))
 
     publish_ops_done : ContentDone most (list_of publish_op_check)
@@ -337,37 +337,37 @@ module _ (identifier : (e : Element) → IsDone (identifier_check e)) (decided :
       abbrev from_renew : Check Request
       from_renew = form_or renew_form renewal_of scopes e from_end
 
-      purges : IsDone from_purge
+      purges : IsConclusive from_purge
       purges = or_done most purge_form purge_of purge_done (no_children_done most) scopes e sound (fail Failure) (fail_done Failure)
 
-      subscribes : IsDone from_subscribe
+      subscribes : IsConclusive from_subscribe
       subscribes = or_done most subscribe_form subscribe_of session_done subscribe_ops_done scopes e sound from_purge purges
 
-      searches : IsDone from_search
+      searches : IsConclusive from_search
       searches =
           or_done most search_form search_of
           (beside_done session_field search_attributes (text_done session_field.local) search_attributes_done)
           (start_done most identifier) scopes e sound from_subscribe subscribes
 
-      polls : IsDone from_poll
+      polls : IsConclusive from_poll
       polls = or_done most poll_form poll_of session_done (no_children_done most) scopes e sound from_search searches
 
-      ends : IsDone from_end
+      ends : IsConclusive from_end
       ends = or_done most end_session_form end_session_of session_done (no_children_done most) scopes e sound from_poll polls
 
-      renews : IsDone from_renew
+      renews : IsConclusive from_renew
       renews = or_done most renew_form renewal_of session_done (no_children_done most) scopes e sound from_end ends
 
-      others : IsDone (other_request_check scopes e)
+      others : IsConclusive (other_request_check scopes e)
       others =
           or_done most new_session_form new_session_of (beside_done limit_field no_attributes limit_done no_attributes_done)
           (no_children_done most) scopes e sound from_renew renews
 
-      named_done : IsDone (named_request_check scopes e)
+      named_done : IsConclusive (named_request_check scopes e)
       named_done =
           or_done most publish_form publish_of session_done publish_ops_done scopes e sound (other_request_check scopes e) others
 
-  pub request_done : (scopes : Scopes) (e : Element) → IsFit e → IsDone (request_check scopes e)
+  pub request_done : (scopes : Scopes) (e : Element) → IsFit e → IsConclusive (request_check scopes e)
   request_done scopes e fit =
       need_done (bytes_eq e.name.space ifmap_space) InvalidSchemaVersion (named_request_check scopes e)
       (named_done (nesting e) scopes e (record { fit = fit; levels = omega arith }))

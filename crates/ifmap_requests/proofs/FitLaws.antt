@@ -30,28 +30,28 @@ use Rattle.ifmap_ident.specs.Parts.{has_only, value_of}
 use Rattle.ifmap_meta.specs.declared.metadata.Metadata.{Metadata}
 use Rattle.ifmap_meta.specs.Whole.{IsMadeOf, IsMetadata, level_limit}
 use Rattle.ifmap_forms.specs.Checks.{Check, check_if, check_then, fail, need, need_some, pass}
-use Rattle.ifmap_forms.specs.Items.{before_list, from_list, identifier_check, identifiers_check, item_content, item_of, list_at, list_check}
+use Rattle.ifmap_forms.specs.Items.{before_list, from_list, identifier_check, identifiers_check, item_content, item_of, list_if_there, list_check}
 use Rattle.ifmap_forms.specs.Items.{may_follow, only_identifier, start_content}
 use Rattle.ifmap_forms.specs.Scopes.{Scopes, scopes_below}
-use Rattle.ifmap_forms.specs.Tables.{Both, ContentCheck, Form, OneText, Part, Table, beside, both, each_element, form_check, form_or}
-use Rattle.ifmap_forms.specs.Tables.{is_white_part, list_of, no_attributes, no_children, parts_of, read_form}
+use Rattle.ifmap_forms.specs.Tables.{Both, ContentCheck, Form, OneText, Part, AttributeTable, beside, both, each_element, form_check, form_or}
+use Rattle.ifmap_forms.specs.Tables.{is_white_part, list_of, no_attributes, no_children, element_parts, read_form}
 use Rattle.ifmap_filter.specs.declared.filters.Filter.{Filter}
 use Rattle.ifmap_ident.specs.declared.kinds.Kind.{Kind}
 use Rattle.ifmap_forms.specs.Values.{depth_field, filter_check, filter_field, kinds_field, size_field, Field, field_check, limit_field}
-use Rattle.ifmap_forms.specs.Values.{name_field, number_of, text_field, within}
+use Rattle.ifmap_forms.specs.Values.{name_field, number_of, text_field, within_range}
 use Rattle.ifmap_requests.specs.declared.requests.Request.{Request}
 use Rattle.ifmap_requests.specs.Fit.{IsFitLimit, IsFitOp, IsFitRequest, IsFitSearch, IsFitSubscribeOp, MayBeFitFilter}
 use Rattle.ifmap_requests.specs.FitFilters.{IsFitFilter}
 use Rattle.ifmap_requests.specs.Means.{Means, scopes_from}
 use Rattle.ifmap_requests.specs.Published.{metadata_check, published_content, published_from}
-use Rattle.ifmap_requests.specs.RequestForms.{SearchValues, search_from, delete_form, delete_of, end_form, end_of}
+use Rattle.ifmap_requests.specs.RequestForms.{SearchValues, search_from, delete_form, delete_from_form, end_form, end_from_form}
 use Rattle.ifmap_envelopes.specs.Spaces.{ifmap_space}
 use Rattle.ifmap_requests.specs.RequestForms.{end_session_form, end_session_of, named_request_check, new_session_form}
 use Rattle.ifmap_requests.specs.RequestForms.{new_session_of, notify_form, notify_of, other_request_check, poll_form, poll_of, publish_form}
 use Rattle.ifmap_requests.specs.RequestForms.{publish_of, publish_op_check, publisher_field, purge_form, purge_of, renew_form, renewal_of}
 use Rattle.ifmap_requests.specs.RequestForms.{request_check, search_attributes, search_form, search_of, session_attribute, session_field}
-use Rattle.ifmap_requests.specs.RequestForms.{subscribe_form, subscribe_of, subscribe_op_check, subscription_form, subscription_of}
-use Rattle.ifmap_requests.specs.RequestForms.{update_form, update_of}
+use Rattle.ifmap_requests.specs.RequestForms.{subscribe_form, subscribe_of, subscribe_op_check, subscription_form, subscription_from_form}
+use Rattle.ifmap_requests.specs.RequestForms.{update_form, update_from_form}
 use Rattle.ifmap_requests.proofs.FilterLaws.{AreFitDeclared, IsFitScope, filter_fit, scopes_fit}
 use Rattle.ifmap_requests.proofs.Sound.{AreSound, IsSound, before_sound, from_sound, inner_sound, parts_sound, value_fit}
 
@@ -104,7 +104,7 @@ abbrev FieldGives : {X : Type 0} → Field X → (X → Type 0) → Type 0
 FieldGives field P =
     (scope : Scope) (text : Option (List ℕ)) → IsFitScope scope → IfSome text IsCharacters → Gives (field.reads scope text) P
 
-abbrev TableGives : {X : Type 0} → Table X → (X → Type 0) → Type 0
+abbrev TableGives : {X : Type 0} → AttributeTable X → (X → Type 0) → Type 0
 TableGives table P = (scope : Scope) (e : Element) → IsFitScope scope → IsSound level_limit e → Gives (table.reads scope e) P
 
 abbrev ContentGives : {X : Type 0} → ContentCheck X → (X → Type 0) → Type 0
@@ -117,7 +117,7 @@ Any x = Unit {0}
 abbrev AreBoth : {X Y : Type 0} → (X → Type 0) → (Y → Type 0) → Both X Y → Type 0
 AreBoth P Q b = P b.first × Q b.others
 
-module _ {X Y : Type 0} (P : X → Type 0) (Q : Y → Type 0) (field : Field X) (table : Table Y) where
+module _ {X Y : Type 0} (P : X → Type 0) (Q : Y → Type 0) (field : Field X) (table : AttributeTable Y) where
   beside_gives : FieldGives field P → TableGives table Q → TableGives (beside field table) (AreBoth P Q)
   beside_gives f t scope e fit s =
       then_gives P (AreBoth P Q) (field_check field scope e) (λ x. check_then (table.reads scope e) (λ y. pass (both x y)))
@@ -129,7 +129,7 @@ module _ {X Y : Type 0} (P : X → Type 0) (Q : Y → Type 0) (field : Field X) 
 any_field : {X : Type 0} (field : Field X) → FieldGives field Any
 any_field field scope text fit is x f = tt
 
-any_table : {X : Type 0} (table : Table X) → TableGives table Any
+any_table : {X : Type 0} (table : AttributeTable X) → TableGives table Any
 any_table table scope e fit s x f = tt
 
 any_content : {X : Type 0} (content : ContentCheck X) → ContentGives content Any
@@ -144,7 +144,7 @@ name_gives scope None fit is = fail_gives IsCharacters Failure
 name_gives scope (Some text) fit is =
     need_gives IsCharacters (nat_le 1 (length text) && nat_le (length text) 1000) Failure (pass text) (pass_gives IsCharacters text is)
 
-limit_within : (n : ℕ) → IsFitLimit (Some (within 10_000 5_000_000 n))
+limit_within : (n : ℕ) → IsFitLimit (Some (within_range 10_000 5_000_000 n))
 limit_within n = (omega arith, omega arith)
 
 any_number : (o : Option ℕ) → IfSome o Any
@@ -154,8 +154,8 @@ any_number (Some n) = tt
 limit_gives : FieldGives limit_field IsFitLimit
 limit_gives scope None fit is = pass_gives IsFitLimit None tt
 limit_gives scope (Some text) fit is =
-    some_gives Any IsFitLimit Failure (number_of text) (λ n. pass (Some (within 10_000 5_000_000 n))) (any_number (number_of text))
-    (λ n any. pass_gives IsFitLimit (Some (within 10_000 5_000_000 n)) (limit_within n))
+    some_gives Any IsFitLimit Failure (number_of text) (λ n. pass (Some (within_range 10_000 5_000_000 n))) (any_number (number_of text))
+    (λ n any. pass_gives IsFitLimit (Some (within_range 10_000 5_000_000 n)) (limit_within n))
 
 filter_gives : (local : List ℕ) → FieldGives (filter_field local) MayBeFitFilter
 filter_gives local scope None fit is = pass_gives MayBeFitFilter None tt
@@ -172,12 +172,12 @@ module _ {X A C : Type 0} (P : A → Type 0) (Q : C → Type 0) (R : X → Type 
       then_gives (AreBoth P Q) R (read_form form scopes e) (λ x. pass (make x.first x.others))
       (then_gives P (AreBoth P Q) (form.attributes.reads (scopes []) e)
       (λ a. need (has_only (form.passed_over ++ form.attributes.locals) e) Failure
-      (check_then (form.content scopes (parts_of e)) (λ c. pass (both a c))))
+      (check_then (form.content scopes (element_parts e)) (λ c. pass (both a c))))
       (t (scopes []) e (fit []) sound)
       (λ a p. need_gives (AreBoth P Q) (has_only (form.passed_over ++ form.attributes.locals) e) Failure
-      (check_then (form.content scopes (parts_of e)) (λ c. pass (both a c)))
-      (then_gives Q (AreBoth P Q) (form.content scopes (parts_of e)) (λ c. pass (both a c))
-      (s scopes (parts_of e) fit (parts_sound level_limit e sound))
+      (check_then (form.content scopes (element_parts e)) (λ c. pass (both a c)))
+      (then_gives Q (AreBoth P Q) (form.content scopes (element_parts e)) (λ c. pass (both a c))
+      (s scopes (element_parts e) fit (parts_sound level_limit e sound))
       (λ c q. pass_gives (AreBoth P Q) (both a c) (p, q)))))
       (λ x pq. pass_gives R (make x.first x.others) (r x.first x.others pq.0 pq.1))
 
@@ -277,11 +277,11 @@ module _ (made : MakesMetadata) where
 
   list_gives : (e : Element) → IsSound level_limit e → Gives (list_check metadata_check e) AreMetadata
   list_gives e s =
-      need_gives AreMetadata (has_only [] e) Failure (each_element (λ index inner. metadata_check inner) 0 (parts_of e))
-      (each_gives IsMetadata (λ index inner. metadata_check inner) (λ index inner sound. metadata_gives inner sound) 0 (parts_of e)
+      need_gives AreMetadata (has_only [] e) Failure (each_element (λ index inner. metadata_check inner) 0 (element_parts e))
+      (each_gives IsMetadata (λ index inner. metadata_check inner) (λ index inner sound. metadata_gives inner sound) 0 (element_parts e)
       (parts_sound level_limit e s))
 
-  list_at_gives : (parts : List Part) → AreSound level_limit parts → Gives (list_at metadata_check parts) MayBeMetadata
+  list_at_gives : (parts : List Part) → AreSound level_limit parts → Gives (list_if_there metadata_check parts) MayBeMetadata
   list_at_gives [] s = pass_gives MayBeMetadata None tt
   list_at_gives (Child-F.Element e ∷ after) s =
       then_gives AreMetadata MayBeMetadata (list_check metadata_check e)
@@ -300,9 +300,9 @@ module _ (made : MakesMetadata) where
   published_gives : ContentGives published_content ArePublished
   published_gives scopes parts fit s =
       then_gives AreIdentifiers ArePublished (identifiers_check 2 [] (before_list parts))
-      (λ identifiers. check_then (list_at metadata_check (from_list parts)) (λ list. published_from identifiers list))
+      (λ identifiers. check_then (list_if_there metadata_check (from_list parts)) (λ list. published_from identifiers list))
       (identifiers_gives 2 [] (before_list parts) (before_sound level_limit parts s))
-      (λ identifiers p. then_gives MayBeMetadata ArePublished (list_at metadata_check (from_list parts))
+      (λ identifiers p. then_gives MayBeMetadata ArePublished (list_if_there metadata_check (from_list parts))
       (λ list. published_from identifiers list) (list_at_gives (from_list parts) (from_sound level_limit parts s))
       (λ list q. from_gives identifiers list p q))
 
@@ -319,11 +319,11 @@ module _ (made : MakesMetadata) where
   publish_op_gives : (scopes : Scopes) (e : Element) → AreFitScopes scopes → IsSound level_limit e
       → Gives (publish_op_check scopes e) IsFitOp
   publish_op_gives scopes e f s =
-      or_gives Any ArePublished IsFitOp update_form update_of (any_table update_form.attributes) published_gives (λ a c p q. q) scopes
-      e f s (form_or notify_form notify_of scopes e (form_or delete_form delete_of scopes e (fail Failure)))
+      or_gives Any ArePublished IsFitOp update_form update_from_form (any_table update_form.attributes) published_gives (λ a c p q. q) scopes
+      e f s (form_or notify_form notify_of scopes e (form_or delete_form delete_from_form scopes e (fail Failure)))
       (or_gives Any ArePublished IsFitOp notify_form notify_of (any_table notify_form.attributes) published_gives (λ a c p q. q) scopes
-      e f s (form_or delete_form delete_of scopes e (fail Failure))
-      (or_gives HasFilter IsCanonItem IsFitOp delete_form delete_of delete_table_gives item_gives (λ a c p q. (q, p.0)) scopes e f s
+      e f s (form_or delete_form delete_from_form scopes e (fail Failure))
+      (or_gives HasFilter IsCanonItem IsFitOp delete_form delete_from_form delete_table_gives item_gives (λ a c p q. (q, p.0)) scopes e f s
       (fail Failure) (fail_gives IsFitOp Failure)))
 
   abbrev HasName : {Y : Type 0} → Both (List ℕ) Y → Type 0
@@ -358,10 +358,10 @@ module _ (made : MakesMetadata) where
   subscribe_op_gives : (scopes : Scopes) (e : Element) → AreFitScopes scopes → IsSound level_limit e
       → Gives (subscribe_op_check scopes e) IsFitSubscribeOp
   subscribe_op_gives scopes e f s =
-      or_gives HasSearch IsIdentifier IsFitSubscribeOp subscription_form subscription_of
+      or_gives HasSearch IsIdentifier IsFitSubscribeOp subscription_form subscription_from_form
       (beside_gives IsCharacters HasFilters name_field search_attributes name_gives search_attributes_give) start_gives
-      (λ a c p q. (p.0, search_fit c a.others q p.1)) scopes e f s (form_or end_form end_of scopes e (fail Failure))
-      (or_gives HasName Any IsFitSubscribeOp end_form end_of
+      (λ a c p q. (p.0, search_fit c a.others q p.1)) scopes e f s (form_or end_form end_from_form scopes e (fail Failure))
+      (or_gives HasName Any IsFitSubscribeOp end_form end_from_form
       (beside_gives IsCharacters Any name_field no_attributes name_gives (any_table no_attributes)) (any_content no_children)
       (λ a c p q. p.0) scopes e f s (fail Failure) (fail_gives IsFitSubscribeOp Failure))
 

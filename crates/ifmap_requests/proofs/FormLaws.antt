@@ -19,12 +19,12 @@ use Rattle.ifmap_forms.specs.declared.errors.FormError.{FormError}
 use Rattle.ifmap_forms.specs.declared.errors.FormError.TheVariants.{Named, NoMemory}
 use Rattle.ifmap_forms.specs.AnswerLaws.{found_after, found_alone, found_beside, refused_alone, refused_at_field, refused_beside}
 use Rattle.ifmap_forms.specs.AnswerLaws.{refused_test}
-use Rattle.ifmap_forms.specs.Answers.{IsChecked, IsRefused}
+use Rattle.ifmap_forms.specs.Answers.{IsChecked, IsCheckRefusal}
 use Rattle.ifmap_forms.specs.Checks.{Check, check_if, check_then, need, pass}
 use Rattle.ifmap_forms.specs.Items.{start_check, start_content}
 use Rattle.ifmap_forms.specs.Scopes.{Scopes}
-use Rattle.ifmap_forms.specs.Tables.{Both, Form, Table, beside, both, form_check, form_or, no_attributes}
-use Rattle.ifmap_forms.specs.Tables.{parts_of, read_form}
+use Rattle.ifmap_forms.specs.Tables.{Both, Form, AttributeTable, beside, both, form_check, form_or, no_attributes}
+use Rattle.ifmap_forms.specs.Tables.{element_parts, read_form}
 use Rattle.ifmap_forms.specs.Values.{Field, depth_field, field_check, filter_field, kinds_field, size_field}
 use Rattle.ifmap_requests.specs.declared.searching.Bounds.{Bounds}
 use Rattle.ifmap_requests.specs.RequestForms.{SearchValues, search_attributes, search_check, search_from, values_of}
@@ -59,21 +59,21 @@ module _ {X : Type 0} (field : Field (List ℕ)) (name : Name) (passed : List (L
   locals = passed ++ (field.local ∷ search_attributes.locals)
 
   module _ (scopes : Scopes) (e : Element) where
-    pub refused_text : (error : FormError) → IsRefused (field_check field (scopes []) e) error
-        → IsRefused (form_check searching make_from scopes e) error
+    pub refused_text : (error : FormError) → IsCheckRefusal (field_check field (scopes []) e) error
+        → IsCheckRefusal (form_check searching make_from scopes e) error
     refused_text (Named code) f = inl (inl (inl f))
     refused_text NoMemory f = tt
 
     module _ (text : List ℕ) (f : field_check field (scopes []) e (Ok text)) where
       abbrev inside : SearchValues → Check (Both (Both (List ℕ) SearchValues) Identifier)
-      inside values = check_then (start_check (parts_of e)) (λ start. pass (both (both text values) start))
+      inside values = check_then (start_check (element_parts e)) (λ start. pass (both (both text values) start))
 
       pub found_search : (search : Search) → search_check locals (scopes []) e (Ok search)
           → form_check searching make_from scopes e (Ok (make text search))
       found_search search (values, g, h) = opened (has_only locals e) refl h
         where
           opened : (b : Bool) → b ≡ has_only locals e
-              → need b Failure (check_then (start_check (parts_of e)) (λ start. pass (search_from start values))) (Ok search)
+              → need b Failure (check_then (start_check (element_parts e)) (λ start. pass (search_from start values))) (Ok search)
               → form_check searching make_from scopes e (Ok (make text search))
           opened true is (start, s, same) = (
             both (both text values) start,
@@ -87,8 +87,8 @@ module _ {X : Type 0} (field : Field (List ℕ)) (name : Name) (passed : List (L
           )
           opened false is h = let wrong : one_search search ≡ no_search Failure = h in cc
 
-      pub refused_search : (error : FormError) → IsRefused (search_check locals (scopes []) e) error
-          → IsRefused (form_check searching make_from scopes e) error
+      pub refused_search : (error : FormError) → IsCheckRefusal (search_check locals (scopes []) e) error
+          → IsCheckRefusal (form_check searching make_from scopes e) error
       refused_search NoMemory g = tt
       refused_search (Named code) g = elim g [
         | inl values ↦ inl (inl (inr (text, f, inl values)))
@@ -96,8 +96,8 @@ module _ {X : Type 0} (field : Field (List ℕ)) (name : Name) (passed : List (L
       ]
         where
           opened : (values : SearchValues) → search_attributes.reads (scopes []) e (Ok values) → (b : Bool) → b ≡ has_only locals e
-              → need b Failure (check_then (start_check (parts_of e)) (λ start. pass (search_from start values))) (Err code)
-              → IsRefused (form_check searching make_from scopes e) (Named code)
+              → need b Failure (check_then (start_check (element_parts e)) (λ start. pass (search_from start values))) (Err code)
+              → IsCheckRefusal (form_check searching make_from scopes e) (Named code)
           opened values v true is h = elim h [
             | inl s ↦ inl (inr (
               both text values,
@@ -109,7 +109,7 @@ module _ {X : Type 0} (field : Field (List ℕ)) (name : Name) (passed : List (L
           opened values v false is h =
               let same : no_search code ≡ no_search Failure = h in
               let one : code ≡ Failure = cc in
-              subst (λ (c : Code). IsRefused (form_check searching make_from scopes e) (Named c)) (sym one)
+              subst (λ (c : Code). IsCheckRefusal (form_check searching make_from scopes e) (Named c)) (sym one)
               (inl (inr (
                 both text values,
                 (text, f, (values, v, refl)),
@@ -120,13 +120,13 @@ module _ {X : Type 0} (field : Field (List ℕ)) (name : Name) (passed : List (L
 -- ---- 3. the attributes
 
 module _ (scope : Scope) (e : Element) where
-  abbrev after_size : Table (Both (Option Filter) (Both (List Kind) (Unit {0})))
+  abbrev after_size : AttributeTable (Both (Option Filter) (Both (List Kind) (Unit {0})))
   after_size = beside (filter_field (codes "result-filter")) (beside kinds_field no_attributes)
 
-  abbrev after_depth : Table (Both ℕ (Both (Option Filter) (Both (List Kind) (Unit {0}))))
+  abbrev after_depth : AttributeTable (Both ℕ (Both (Option Filter) (Both (List Kind) (Unit {0}))))
   after_depth = beside size_field after_size
 
-  abbrev after_links : Table (Both ℕ (Both ℕ (Both (Option Filter) (Both (List Kind) (Unit {0})))))
+  abbrev after_links : AttributeTable (Both ℕ (Both ℕ (Both (Option Filter) (Both (List Kind) (Unit {0})))))
   after_links = beside depth_field after_depth
 
   abbrev links_field : Field (Option Filter)
@@ -135,26 +135,26 @@ module _ (scope : Scope) (e : Element) where
   abbrev result_field : Field (Option Filter)
   result_field = filter_field (codes "result-filter")
 
-  pub refused_links : (error : FormError) → IsRefused (field_check links_field scope e) error
-      → IsRefused (search_attributes.reads scope e) error
+  pub refused_links : (error : FormError) → IsCheckRefusal (field_check links_field scope e) error
+      → IsCheckRefusal (search_attributes.reads scope e) error
   refused_links error f = refused_at_field links_field after_links scope e error f
 
   module _ (links : Option Filter) (a : field_check links_field scope e (Ok links)) where
-    pub refused_depth : (error : FormError) → IsRefused (field_check depth_field scope e) error
-        → IsRefused (search_attributes.reads scope e) error
+    pub refused_depth : (error : FormError) → IsCheckRefusal (field_check depth_field scope e) error
+        → IsCheckRefusal (search_attributes.reads scope e) error
     refused_depth error f =
         refused_beside links_field after_links scope e links error a (refused_at_field depth_field after_depth scope e error f)
 
     module _ (depth : ℕ) (b : field_check depth_field scope e (Ok depth)) where
-      pub refused_size : (error : FormError) → IsRefused (field_check size_field scope e) error
-          → IsRefused (search_attributes.reads scope e) error
+      pub refused_size : (error : FormError) → IsCheckRefusal (field_check size_field scope e) error
+          → IsCheckRefusal (search_attributes.reads scope e) error
       refused_size error f =
           refused_beside links_field after_links scope e links error a
           (refused_beside depth_field after_depth scope e depth error b (refused_at_field size_field after_size scope e error f))
 
       module _ (size : ℕ) (c : field_check size_field scope e (Ok size)) where
-        pub refused_results : (error : FormError) → IsRefused (field_check result_field scope e) error
-            → IsRefused (search_attributes.reads scope e) error
+        pub refused_results : (error : FormError) → IsCheckRefusal (field_check result_field scope e) error
+            → IsCheckRefusal (search_attributes.reads scope e) error
         refused_results error f =
             refused_beside links_field after_links scope e links error a
             (refused_beside depth_field after_depth scope e depth error b
@@ -162,8 +162,8 @@ module _ (scope : Scope) (e : Element) where
             (refused_at_field result_field (beside kinds_field no_attributes) scope e error f)))
 
         module _ (results : Option Filter) (d : field_check result_field scope e (Ok results)) where
-          pub refused_kinds : (error : FormError) → IsRefused (field_check kinds_field scope e) error
-              → IsRefused (search_attributes.reads scope e) error
+          pub refused_kinds : (error : FormError) → IsCheckRefusal (field_check kinds_field scope e) error
+              → IsCheckRefusal (search_attributes.reads scope e) error
           refused_kinds error f =
               refused_beside links_field after_links scope e links error a
               (refused_beside depth_field after_depth scope e depth error b
@@ -183,25 +183,25 @@ module _ (scope : Scope) (e : Element) where
 -- ---- 4. a search, after its attributes
 
 module _ (allowed : List (List ℕ)) (scope : Scope) (e : Element) where
-  pub refused_bounds : (error : FormError) → IsRefused (search_attributes.reads scope e) error
-      → IsRefused (search_check allowed scope e) error
+  pub refused_bounds : (error : FormError) → IsCheckRefusal (search_attributes.reads scope e) error
+      → IsCheckRefusal (search_check allowed scope e) error
   refused_bounds (Named code) f = inl f
   refused_bounds NoMemory f = tt
 
   module _ (bounds : Bounds) (a : search_attributes.reads scope e (Ok (values_of bounds))) where
     abbrev from_bounds : Check Search
-    from_bounds = check_then (start_check (parts_of e)) (λ start. pass (search_from start (values_of bounds)))
+    from_bounds = check_then (start_check (element_parts e)) (λ start. pass (search_from start (values_of bounds)))
 
     pub refused_others : has_only allowed e ≡ false → search_check allowed scope e (Err Failure)
     refused_others is = inr (values_of bounds, a, refused_test from_bounds (has_only allowed e) Failure is)
 
-    pub refused_start : (error : FormError) → has_only allowed e ≡ true → IsRefused (start_check (parts_of e)) error
-        → IsRefused (search_check allowed scope e) error
+    pub refused_start : (error : FormError) → has_only allowed e ≡ true → IsCheckRefusal (start_check (element_parts e)) error
+        → IsCheckRefusal (search_check allowed scope e) error
     refused_start (Named code) is f =
         inr (values_of bounds, a, found_after from_bounds (has_only allowed e) Failure (Err code) is (inl f))
     refused_start NoMemory is f = tt
 
-    pub whole_search : (start : Identifier) → has_only allowed e ≡ true → start_check (parts_of e) (Ok start)
+    pub whole_search : (start : Identifier) → has_only allowed e ≡ true → start_check (element_parts e) (Ok start)
         → search_check allowed scope e (Ok (search_from start (values_of bounds)))
     whole_search start is f = (
       values_of bounds,
@@ -215,24 +215,24 @@ module _ {A C : Type 0} (form : Form A C) (scopes : Scopes) (e : Element) where
   abbrev only : Bool
   only = has_only (form.passed_over ++ form.attributes.locals) e
 
-  pub read_no_attributes : (error : FormError) → IsRefused (form.attributes.reads (scopes []) e) error
-      → IsRefused (read_form form scopes e) error
+  pub read_no_attributes : (error : FormError) → IsCheckRefusal (form.attributes.reads (scopes []) e) error
+      → IsCheckRefusal (read_form form scopes e) error
   read_no_attributes (Named code) f = inl f
   read_no_attributes NoMemory f = tt
 
   module _ (a : A) (f : form.attributes.reads (scopes []) e (Ok a)) where
     abbrev children_of : Check (Both A C)
-    children_of = check_then (form.content scopes (parts_of e)) (λ c. pass (both a c))
+    children_of = check_then (form.content scopes (element_parts e)) (λ c. pass (both a c))
 
     pub read_others : only ≡ false → read_form form scopes e (Err Failure)
     read_others is = inr (a, f, refused_test children_of only Failure is)
 
-    pub read_no_content : (error : FormError) → only ≡ true → IsRefused (form.content scopes (parts_of e)) error
-        → IsRefused (read_form form scopes e) error
+    pub read_no_content : (error : FormError) → only ≡ true → IsCheckRefusal (form.content scopes (element_parts e)) error
+        → IsCheckRefusal (read_form form scopes e) error
     read_no_content (Named code) is g = inr (a, f, found_after children_of only Failure (Err code) is (inl g))
     read_no_content NoMemory is g = tt
 
-    pub read_whole : (c : C) → only ≡ true → form.content scopes (parts_of e) (Ok c) → read_form form scopes e (Ok (both a c))
+    pub read_whole : (c : C) → only ≡ true → form.content scopes (element_parts e) (Ok c) → read_form form scopes e (Ok (both a c))
     read_whole c is g = (a, f, found_after children_of only Failure (Ok (both a c)) is (c, g, refl))
 
 -- what is made of a form that is read
@@ -240,6 +240,6 @@ module _ {X A C : Type 0} (form : Form A C) (make : A → C → X) (scopes : Sco
   pub made_of_form : (a : A) (c : C) → read_form form scopes e (Ok (both a c)) → form_check form make scopes e (Ok (make a c))
   made_of_form a c f = (both a c, f, refl)
 
-  pub refused_form : (error : FormError) → IsRefused (read_form form scopes e) error → IsRefused (form_check form make scopes e) error
+  pub refused_form : (error : FormError) → IsCheckRefusal (read_form form scopes e) error → IsCheckRefusal (form_check form make scopes e) error
   refused_form (Named code) f = inl f
   refused_form NoMemory f = tt

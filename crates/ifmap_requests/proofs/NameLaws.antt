@@ -27,12 +27,12 @@ use Rattle.ifmap_requests.specs.declared.publishing.PublishOp.{PublishOp}
 use Rattle.ifmap_requests.specs.declared.requests.Request.{Request}
 use Rattle.ifmap_requests.specs.declared.requests.SubscribeOp.{SubscribeOp}
 use Rattle.ifmap_envelopes.specs.Spaces.{ifmap_space}
-use Rattle.ifmap_requests.specs.RequestForms.{asking_name, delete_form, delete_of, end_form, end_of, end_session_form}
+use Rattle.ifmap_requests.specs.RequestForms.{asking_name, delete_form, delete_from_form, end_form, end_from_form, end_session_form}
 use Rattle.ifmap_requests.specs.RequestForms.{end_session_of, named_request_check, new_session_form, new_session_of, notify_form, notify_of}
 use Rattle.ifmap_requests.specs.RequestForms.{operation_of, other_request_check, poll_form, poll_of, publish_form, publish_of}
 use Rattle.ifmap_requests.specs.RequestForms.{publish_op_check, purge_form, purge_of, renew_form, renewal_of, request_check, search_form}
 use Rattle.ifmap_requests.specs.RequestForms.{search_of, subscribe_form, subscribe_of, subscribe_op_check, subscription_form}
-use Rattle.ifmap_requests.specs.RequestForms.{subscription_of, update_form, update_of}
+use Rattle.ifmap_requests.specs.RequestForms.{subscription_from_form, update_form, update_from_form}
 use Rattle.ifmap_requests.proofs.FormLaws.{by_form, past_form}
 
 -- ---- 1. operations
@@ -69,7 +69,7 @@ is_none false false false h = (refl, refl, refl)
 
 module _ (scopes : Scopes) (e : Element) where
   abbrev from_delete : Check PublishOp
-  from_delete = form_or delete_form delete_of scopes e (fail Failure)
+  from_delete = form_or delete_form delete_from_form scopes e (fail Failure)
 
   abbrev from_notify : Check PublishOp
   from_notify = form_or notify_form notify_of scopes e from_delete
@@ -84,44 +84,44 @@ module _ (scopes : Scopes) (e : Element) where
   named_delete = is_bare (codes "delete") e.name
 
   pub at_update : operation_of e.name ≡ op operation.Update → (r : Result PublishOp FormError)
-      → IsChecked (form_check update_form update_of scopes e) r → IsChecked (publish_op_check scopes e) r
-  at_update h r f = by_form update_form update_of scopes e from_notify (is_update named_update named_notify named_delete h) r f
+      → IsChecked (form_check update_form update_from_form scopes e) r → IsChecked (publish_op_check scopes e) r
+  at_update h r f = by_form update_form update_from_form scopes e from_notify (is_update named_update named_notify named_delete h) r f
 
   pub at_notify : operation_of e.name ≡ op operation.Notify → (r : Result PublishOp FormError)
       → IsChecked (form_check notify_form notify_of scopes e) r → IsChecked (publish_op_check scopes e) r
   at_notify h r f =
       let n = is_notify named_update named_notify named_delete h in
-      past_form update_form update_of scopes e from_notify n.0 r (by_form notify_form notify_of scopes e from_delete n.1 r f)
+      past_form update_form update_from_form scopes e from_notify n.0 r (by_form notify_form notify_of scopes e from_delete n.1 r f)
 
   pub at_delete : operation_of e.name ≡ op operation.Delete → (r : Result PublishOp FormError)
-      → IsChecked (form_check delete_form delete_of scopes e) r → IsChecked (publish_op_check scopes e) r
+      → IsChecked (form_check delete_form delete_from_form scopes e) r → IsChecked (publish_op_check scopes e) r
   at_delete h r f =
       let n = is_delete named_update named_notify named_delete h in
-      past_form update_form update_of scopes e from_notify n.0 r
-      (past_form notify_form notify_of scopes e from_delete n.1 r (by_form delete_form delete_of scopes e (fail Failure) n.2 r f))
+      past_form update_form update_from_form scopes e from_notify n.0 r
+      (past_form notify_form notify_of scopes e from_delete n.1 r (by_form delete_form delete_from_form scopes e (fail Failure) n.2 r f))
 
   pub at_no_operation : operation_of e.name ≡ None → publish_op_check scopes e (Err Failure)
   at_no_operation h =
       let n = is_none named_update named_notify named_delete h in
       let r : Result PublishOp FormError = Err (Named Failure) in
-      past_form update_form update_of scopes e from_notify n.0 r
-      (past_form notify_form notify_of scopes e from_delete n.1 r (past_form delete_form delete_of scopes e (fail Failure) n.2 r refl))
+      past_form update_form update_from_form scopes e from_notify n.0 r
+      (past_form notify_form notify_of scopes e from_delete n.1 r (past_form delete_form delete_from_form scopes e (fail Failure) n.2 r refl))
 
 -- ---- 2. operations of a subscribe
 
 module _ (scopes : Scopes) (e : Element) where
   abbrev from_subscription_end : Check SubscribeOp
-  from_subscription_end = form_or end_form end_of scopes e (fail Failure)
+  from_subscription_end = form_or end_form end_from_form scopes e (fail Failure)
 
   pub at_subscription : is_bare (codes "update") e.name ≡ true → (r : Result SubscribeOp FormError)
-      → IsChecked (form_check subscription_form subscription_of scopes e) r → IsChecked (subscribe_op_check scopes e) r
-  at_subscription is r f = by_form subscription_form subscription_of scopes e from_subscription_end is r f
+      → IsChecked (form_check subscription_form subscription_from_form scopes e) r → IsChecked (subscribe_op_check scopes e) r
+  at_subscription is r f = by_form subscription_form subscription_from_form scopes e from_subscription_end is r f
 
   pub at_end : is_bare (codes "update") e.name ≡ false → is_bare (codes "delete") e.name ≡ true → (r : Result SubscribeOp FormError)
-      → IsChecked (form_check end_form end_of scopes e) r → IsChecked (subscribe_op_check scopes e) r
+      → IsChecked (form_check end_form end_from_form scopes e) r → IsChecked (subscribe_op_check scopes e) r
   at_end past is r f =
-      past_form subscription_form subscription_of scopes e from_subscription_end past r
-      (by_form end_form end_of scopes e (fail Failure) is r f)
+      past_form subscription_form subscription_from_form scopes e from_subscription_end past r
+      (by_form end_form end_from_form scopes e (fail Failure) is r f)
 
 -- ---- 3. requests
 

@@ -3,7 +3,7 @@ use Rattle.std.proofs.Common.{◌≡◌, ℕ, List, [], Option, None, Some, refl
 use Rattle.ifmap_elem.specs.declared.readings.Declared.{Declared}
 use Rattle.ifmap_forms.specs.declared.errors.FormError.{FormError}
 use Rattle.ifmap_forms.specs.declared.errors.FormError.TheVariants.{NoMemory}
-use Rattle.ifmap_forms.specs.Answers.{IsRefused}
+use Rattle.ifmap_forms.specs.Answers.{IsCheckRefusal}
 use Rattle.ifmap_forms.specs.Checks.{Check}
 use Rattle.ifmap_forms.specs.Scopes.{place_scope, place_scopes, scopes_below, scopes_by}
 
@@ -23,5 +23,5 @@ pub own_place : (declared : List Declared) (path : List ℕ) (child : Option ℕ
     → place_scope declared path child ≡ scopes_by declared path []
 own_place declared path child c = λ i. place_scope declared path (c i)
 
-pub out_of_memory : {X : Type 0} (check : Check X) (error : FormError) → error ≡ NoMemory → IsRefused check error
-out_of_memory check error is = subst (λ (e : FormError). IsRefused check e) (sym is) tt
+pub out_of_memory : {X : Type 0} (check : Check X) (error : FormError) → error ≡ NoMemory → IsCheckRefusal check error
+out_of_memory check error is = subst (λ (e : FormError). IsCheckRefusal check e) (sym is) tt

@@ -12,7 +12,7 @@ use Rattle.ifmap_elem.specs.declared.readings.Reading.{Reading}
 use Rattle.ifmap_reader.specs.Reads.{IsTooDeep, IsUnreadable}
 use Rattle.ifmap_forms.specs.declared.errors.FormError.{FormError}
 use Rattle.ifmap_forms.specs.declared.errors.FormError.TheVariants as form
-use Rattle.ifmap_forms.specs.Answers.{IsChecked, IsRefused}
+use Rattle.ifmap_forms.specs.Answers.{IsChecked, IsCheckRefusal}
 use Rattle.ifmap_requests.specs.declared.errors.Refusal.{Refusal}
 use Rattle.ifmap_requests.specs.declared.errors.Refusal.TheVariants as refusal
 use Rattle.ifmap_requests.specs.declared.requests.Request.{Request}
@@ -47,7 +47,7 @@ module _ (reading : Reading) (path : List ℕ) (inner : Element) (envelope : IsE
       → ReadingFinds reading (Ok request)
   request_read request f = record { path = path; inner = inner; envelope = envelope; checked = f }
 
-  pub request_refused : (error : FormError) → IsRefused (request_check (scopes_from reading path) inner) error
+  pub request_refused : (error : FormError) → IsCheckRefusal (request_check (scopes_from reading path) inner) error
       → IsReadingAnswer reading (Err (as_refusal error))
   request_refused (form.Named code) f = record { path = path; inner = inner; envelope = envelope; checked = f }
   request_refused form.NoMemory f = tt

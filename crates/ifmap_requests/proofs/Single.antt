@@ -24,23 +24,23 @@ use Rattle.ifmap_meta.specs.Cardinality.{cardinality_of}
 use Rattle.ifmap_meta.specs.Whole.{IsMadeOf}
 use Rattle.ifmap_forms.specs.CheckLaws.{fail_single, if_single, need_single, pass_single, some_single, then_single}
 use Rattle.ifmap_forms.specs.Checks.{Check, IsSingle, check_if, check_then, fail, need, need_some, pass}
-use Rattle.ifmap_forms.specs.Items.{before_list, from_list, identifier_check, identifiers_check, item_of, list_at}
+use Rattle.ifmap_forms.specs.Items.{before_list, from_list, identifier_check, identifiers_check, item_of, list_if_there}
 use Rattle.ifmap_forms.specs.Scopes.{Scopes, scopes_below}
 use Rattle.ifmap_forms.specs.SingleLaws.{OneOfTable, OneOfContent, beside_single, or_single, each_single, read_text_single, list_at_single}
 use Rattle.ifmap_forms.specs.SingleLaws.{no_attributes_single, no_children_single, identifiers_single, start_single, item_single}
 use Rattle.ifmap_forms.specs.Tables.{beside, both, form_or, list_of, no_attributes}
 use Rattle.ifmap_forms.specs.Values.{FilterDefect, depth_field, filter_check, filter_field, kinds_field, lifetime_field, limit_field}
 use Rattle.ifmap_forms.specs.Values.{name_field, size_field, kind_of, kinds_check, number_of, piece_check, pieces_of, read_depth}
-use Rattle.ifmap_forms.specs.Values.{read_filter, read_kinds, read_lifetime, read_limit, read_name, read_size, trim_white, within}
+use Rattle.ifmap_forms.specs.Values.{read_filter, read_kinds, read_lifetime, read_limit, read_name, read_size, trim_white, within_range}
 use Rattle.ifmap_requests.specs.declared.requests.Request.{Request}
 use Rattle.ifmap_requests.specs.Published.{MetadataDefect, metadata_check, published_content, published_from}
 use Rattle.ifmap_envelopes.specs.Spaces.{ifmap_space}
-use Rattle.ifmap_requests.specs.RequestForms.{delete_form, delete_of, end_form, end_of, end_session_form, end_session_of}
+use Rattle.ifmap_requests.specs.RequestForms.{delete_form, delete_from_form, end_form, end_from_form, end_session_form, end_session_of}
 use Rattle.ifmap_requests.specs.RequestForms.{named_request_check, new_session_form, new_session_of, notify_form, notify_of}
 use Rattle.ifmap_requests.specs.RequestForms.{other_request_check, poll_form, poll_of, publish_form, publish_of, publish_op_check}
 use Rattle.ifmap_requests.specs.RequestForms.{publisher_field, purge_form, purge_of, renew_form, renewal_of, request_check}
 use Rattle.ifmap_requests.specs.RequestForms.{search_attributes, search_form, search_of, session_attribute, session_field, subscribe_form}
-use Rattle.ifmap_requests.specs.RequestForms.{subscribe_of, subscribe_op_check, subscription_form, subscription_of, update_form, update_of}
+use Rattle.ifmap_requests.specs.RequestForms.{subscribe_of, subscribe_op_check, subscription_form, subscription_from_form, update_form, update_from_form}
 
 -- ---- 1. values
 
@@ -58,8 +58,8 @@ read_name_single scope (Some text) =
 read_limit_single : (scope : Scope) (text : Option (List ℕ)) → IsSingle (read_limit text)
 read_limit_single scope None = pass_single None
 read_limit_single scope (Some text) =
-    some_single Failure (number_of text) (λ n. pass (Some (within 10_000 5_000_000 n)))
-    (λ n. pass_single (Some (within 10_000 5_000_000 n)))
+    some_single Failure (number_of text) (λ n. pass (Some (within_range 10_000 5_000_000 n)))
+    (λ n. pass_single (Some (within_range 10_000 5_000_000 n)))
 
 read_depth_single : (scope : Scope) (text : Option (List ℕ)) → IsSingle (read_depth text)
 read_depth_single scope None = pass_single 0
@@ -202,9 +202,9 @@ module _ (identifier_one : (e : Element) → IsSingle (identifier_check e)) wher
   published_single : OneOfContent published_content
   published_single scopes parts =
       then_single (identifiers_check 2 [] (before_list parts))
-      (λ identifiers. check_then (list_at metadata_check (from_list parts)) (λ list. published_from identifiers list))
+      (λ identifiers. check_then (list_if_there metadata_check (from_list parts)) (λ list. published_from identifiers list))
       (identifiers_single identifier_one 2 [] (before_list parts))
-      (λ identifiers. then_single (list_at metadata_check (from_list parts)) (λ list. published_from identifiers list)
+      (λ identifiers. then_single (list_if_there metadata_check (from_list parts)) (λ list. published_from identifiers list)
       (list_at_single metadata_check metadata_single (from_list parts))
       (λ list. some_single Failure (item_of identifiers) (λ item. need_some Failure list (λ elements. pass (both item elements)))
       (λ item. some_single Failure list (λ elements. pass (both item elements)) (λ elements. pass_single (both item elements)))))
@@ -225,21 +225,21 @@ module _ (identifier_one : (e : Element) → IsSingle (identifier_check e)) (one
 
   publish_op_single : (scopes : Scopes) (e : Element) → IsSingle (publish_op_check scopes e)
   publish_op_single scopes e =
-      or_single update_form update_of (beside_single lifetime_field no_attributes read_lifetime_single no_attributes_single)
+      or_single update_form update_from_form (beside_single lifetime_field no_attributes read_lifetime_single no_attributes_single)
       (published_single identifier_one) scopes e
-      (form_or notify_form notify_of scopes e (form_or delete_form delete_of scopes e (fail Failure)))
+      (form_or notify_form notify_of scopes e (form_or delete_form delete_from_form scopes e (fail Failure)))
       (or_single notify_form notify_of no_attributes_single (published_single identifier_one) scopes e
-      (form_or delete_form delete_of scopes e (fail Failure))
-      (or_single delete_form delete_of
+      (form_or delete_form delete_from_form scopes e (fail Failure))
+      (or_single delete_form delete_from_form
       (beside_single (filter_field (codes "filter")) no_attributes (read_filter_single one_filter) no_attributes_single)
       (item_single identifier_one) scopes e (fail Failure) (fail_single Failure)))
 
   subscribe_op_single : (scopes : Scopes) (e : Element) → IsSingle (subscribe_op_check scopes e)
   subscribe_op_single scopes e =
-      or_single subscription_form subscription_of
+      or_single subscription_form subscription_from_form
       (beside_single name_field search_attributes read_name_single search_attributes_single) (start_single identifier_one) scopes e
-      (form_or end_form end_of scopes e (fail Failure))
-      (or_single end_form end_of (beside_single name_field no_attributes read_name_single no_attributes_single) no_children_single
+      (form_or end_form end_from_form scopes e (fail Failure))
+      (or_single end_form end_from_form (beside_single name_field no_attributes read_name_single no_attributes_single) no_children_single
       scopes e (fail Failure) (fail_single Failure))
 
   ops_single : OneOfContent (list_of publish_op_check)

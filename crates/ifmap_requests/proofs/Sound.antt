@@ -17,7 +17,7 @@ use Rattle.ifmap_elem.specs.laws.FitLaws.{elements_in, elements_of_child, fit_pa
 use Rattle.ifmap_envelopes.specs.Envelopes.{IsEnvelope}
 use Rattle.ifmap_ident.specs.Parts.{value_of}
 use Rattle.ifmap_forms.specs.Items.{before_list, from_list, is_list}
-use Rattle.ifmap_forms.specs.Tables.{Part, parts_in, parts_of}
+use Rattle.ifmap_forms.specs.Tables.{Part, parts_in, element_parts}
 use Rattle.ifmap_elem.specs.laws.ArrangedLaws.{out_element}
 
 module _ (most : ℕ) where
@@ -56,7 +56,7 @@ module _ (most : ℕ) where
         children_sound cs fits.1 (omega arith),
       )
 
-  pub parts_sound : (e : Element) → IsSound e → AreSound (parts_of e)
+  pub parts_sound : (e : Element) → IsSound e → AreSound (element_parts e)
   parts_sound e s =
       let deep : nesting e ≡ suc (greatest (map child_nesting e.children)) = at_element ℕ ℕ child_levels element_levels e in
       let levels = s.levels in
@@ -87,8 +87,8 @@ module _ (most : ℕ) where
   inner_sound root path inner envelope s =
       let at = envelope.body_at in
       let alone = envelope.alone in
-      let body = sound_within at.before at.after (parts_of root) envelope.body at.parts_are (parts_sound root s) in
-      sound_within alone.before alone.after (parts_of envelope.body) inner alone.parts_are (parts_sound envelope.body body)
+      let body = sound_within at.before at.after (element_parts root) envelope.body at.parts_are (parts_sound root s) in
+      sound_within alone.before alone.after (element_parts envelope.body) inner alone.parts_are (parts_sound envelope.body body)
 
 -- ---- attributes
 

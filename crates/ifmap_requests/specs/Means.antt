@@ -22,18 +22,18 @@ abbrev pub scopes_from : Reading → List ℕ → Scopes
 scopes_from reading path = scopes_by reading.declared path
 
 -- the path names an element of the reading, for which the check finds this
-pub record Finds (reading : Reading) (path : List ℕ) (found : Result Request Code) : Type 0 where
+pub record IsFoundAtPath (reading : Reading) (path : List ℕ) (found : Result Request Code) : Type 0 where
   pub element : Element
   pub named : NamesElementAt reading.root path element
   pub checked : request_check (scopes_from reading path) element found
 
 -- the element there means the request
 abbrev pub IsRequest : Reading → List ℕ → Request → Type 0
-IsRequest reading path request = Finds reading path (Ok request)
+IsRequest reading path request = IsFoundAtPath reading path (Ok request)
 
 -- the first defect of the element there has this code
 abbrev pub IsDefect : Reading → List ℕ → Code → Type 0
-IsDefect reading path code = Finds reading path (Err code)
+IsDefect reading path code = IsFoundAtPath reading path (Err code)
 
 -- the answer to an element
 abbrev pub IsFormAnswer : Reading → List ℕ → Result Request FormError → Type 0

@@ -11,7 +11,7 @@ use Rattle.ifmap_meta.specs.Keys.{content_bytes}
 use Rattle.ifmap_meta.specs.Whole.{IsMadeOf, content_limit}
 use Rattle.ifmap_requests.specs.declared.metadata.Published.{Published}
 use Rattle.ifmap_forms.specs.Checks.{Check, check_then, need_some, pass}
-use Rattle.ifmap_forms.specs.Items.{before_list, from_list, identifiers_check, item_of, list_at}
+use Rattle.ifmap_forms.specs.Items.{before_list, from_list, identifiers_check, item_of, list_if_there}
 use Rattle.ifmap_forms.specs.Tables.{Both, ContentCheck, Part, both}
 
 abbrev pub MetadataDefect : Code → Element → Type 0
@@ -33,7 +33,7 @@ published_from identifiers list =
 abbrev pub published_check : List Part → Check (Both Item (List Metadata))
 published_check parts =
     check_then (identifiers_check 2 [] (before_list parts))
-    (λ identifiers. check_then (list_at metadata_check (from_list parts))
+    (λ identifiers. check_then (list_if_there metadata_check (from_list parts))
     (λ list. published_from identifiers list))
 
 abbrev pub published_content : ContentCheck (Both Item (List Metadata))

@@ -18,8 +18,8 @@ use Rattle.ifmap_envelopes.specs.Spaces.{ifmap_space}
 use Rattle.ifmap_forms.specs.Checks.{Check, check_then, fail, need, pass}
 use Rattle.ifmap_forms.specs.Items.{item_content, start_check, start_content}
 use Rattle.ifmap_forms.specs.Scopes.{Scopes}
-use Rattle.ifmap_forms.specs.Tables.{Both, ContentCheck, Form, OneText, Table, bare_form, beside, both, form_or, list_of, no_attributes}
-use Rattle.ifmap_forms.specs.Tables.{no_children, parts_of}
+use Rattle.ifmap_forms.specs.Tables.{Both, ContentCheck, Form, OneText, AttributeTable, bare_form, beside, both, form_or, list_of, no_attributes}
+use Rattle.ifmap_forms.specs.Tables.{no_children, element_parts}
 use Rattle.ifmap_forms.specs.Values.{Field, depth_field, filter_field, kinds_field, lifetime_field, limit_field, name_field, size_field}
 use Rattle.ifmap_forms.specs.Values.{text_field}
 use Rattle.ifmap_requests.specs.declared.asking.Asking.{Asking}
@@ -45,14 +45,14 @@ notify_form = bare_form (codes "notify") no_attributes published_content
 abbrev pub delete_form : Form (Both (Option Filter) (Unit {0})) Item
 delete_form = bare_form (codes "delete") (beside (filter_field (codes "filter")) no_attributes) item_content
 
-abbrev pub update_of : Both Bool (Unit {0}) → Both Item (List Metadata) → PublishOp
-update_of a published = publish.Update published.first published.others a.first
+abbrev pub update_from_form : Both Bool (Unit {0}) → Both Item (List Metadata) → PublishOp
+update_from_form a published = publish.Update published.first published.others a.first
 
 abbrev pub notify_of : Unit {0} → Both Item (List Metadata) → PublishOp
 notify_of none published = publish.Notify published.first published.others
 
-abbrev pub delete_of : Both (Option Filter) (Unit {0}) → Item → PublishOp
-delete_of a item = publish.Delete item a.first
+abbrev pub delete_from_form : Both (Option Filter) (Unit {0}) → Item → PublishOp
+delete_from_form a item = publish.Delete item a.first
 
 -- the operation that is so named
 abbrev pub operation_of : Name → Option Operation
@@ -62,7 +62,7 @@ operation_of name =
 
 abbrev pub publish_op_check : Scopes → Element → Check PublishOp
 publish_op_check scopes e =
-    form_or update_form update_of scopes e (form_or notify_form notify_of scopes e (form_or delete_form delete_of scopes e
+    form_or update_form update_from_form scopes e (form_or notify_form notify_of scopes e (form_or delete_form delete_from_form scopes e
     (fail Failure)))
 
 -- ---- searches
@@ -71,7 +71,7 @@ publish_op_check scopes e =
 abbrev pub SearchValues : Type 0
 SearchValues = Both (Option Filter) (Both ℕ (Both ℕ (Both (Option Filter) (Both (List Kind) (Unit {0})))))
 
-abbrev pub search_attributes : Table SearchValues
+abbrev pub search_attributes : AttributeTable SearchValues
 search_attributes =
     beside (filter_field (codes "match-links")) (beside depth_field (beside size_field
     (beside (filter_field (codes "result-filter")) (beside kinds_field no_attributes))))
@@ -92,7 +92,7 @@ abbrev pub search_check : List (List ℕ) → Scope → Element → Check Search
 search_check locals scope e =
     check_then (search_attributes.reads scope e)
     (λ values. need (has_only locals e) Failure
-    (check_then (start_check (parts_of e)) (λ start. pass (search_from start values))))
+    (check_then (start_check (element_parts e)) (λ start. pass (search_from start values))))
 
 -- the values of what the code keeps of the attributes
 abbrev pub values_of : Bounds → SearchValues
@@ -107,15 +107,15 @@ subscription_form = bare_form (codes "update") (beside name_field search_attribu
 abbrev pub end_form : Form (Both (List ℕ) (Unit {0})) (Unit {0})
 end_form = bare_form (codes "delete") (beside name_field no_attributes) no_children
 
-abbrev pub subscription_of : Both (List ℕ) SearchValues → Identifier → SubscribeOp
-subscription_of a start = subscribe.Update a.first (search_from start a.others)
+abbrev pub subscription_from_form : Both (List ℕ) SearchValues → Identifier → SubscribeOp
+subscription_from_form a start = subscribe.Update a.first (search_from start a.others)
 
-abbrev pub end_of : Both (List ℕ) (Unit {0}) → Unit {0} → SubscribeOp
-end_of a none = subscribe.Delete a.first
+abbrev pub end_from_form : Both (List ℕ) (Unit {0}) → Unit {0} → SubscribeOp
+end_from_form a none = subscribe.Delete a.first
 
 abbrev pub subscribe_op_check : Scopes → Element → Check SubscribeOp
 subscribe_op_check scopes e =
-    form_or subscription_form subscription_of scopes e (form_or end_form end_of scopes e (fail Failure))
+    form_or subscription_form subscription_from_form scopes e (form_or end_form end_from_form scopes e (fail Failure))
 
 -- ---- requests
 
@@ -131,7 +131,7 @@ asking_name asking.PurgePublisher = codes "purgePublisher"
 
 module _ {A C : Type 0} where
   -- a form of a request, beside whose attributes `validation` is passed over
-  abbrev pub asking_form : List ℕ → Table A → ContentCheck C → Form A C
+  abbrev pub asking_form : List ℕ → AttributeTable A → ContentCheck C → Form A C
   asking_form local attributes content =
       record {
         name = record { space = ifmap_space; local = local };
@@ -143,7 +143,7 @@ module _ {A C : Type 0} where
 abbrev pub session_field : Field (List ℕ)
 session_field = text_field (codes "session-id")
 
-abbrev pub session_attribute : Table OneText
+abbrev pub session_attribute : AttributeTable OneText
 session_attribute = beside session_field no_attributes
 
 abbrev pub new_session_form : Form (Both (Option ℕ) (Unit {0})) (Unit {0})

@@ -3,7 +3,7 @@ ghost use Rattle.std.specs.Prelude.{◌≡◌, ◌≤◌, ◌∷◌, [], drop, l
 ghost use Rattle.ifmap_elem.specs.declared.elements.Child.{out-Child};
 ghost use Rattle.ifmap_forms.specs.Answers.{IsChecked, IsCheckedAs};
 ghost use Rattle.ifmap_forms.specs.Gathering.{part_check};
-ghost use Rattle.ifmap_forms.specs.Items.{before_list, identifiers_check, list_at, list_check};
+ghost use Rattle.ifmap_forms.specs.Items.{before_list, identifiers_check, list_if_there, list_check};
 ghost use Rattle.ifmap_forms.specs.Tables.{each_element, parts_in};
 ghost use Rattle.ifmap_requests.specs.Published.{metadata_check, published_check, published_from, published_parts};
 
@@ -72,7 +72,7 @@ fn read_list(
     mut children: Vec<Child>,
     index: usize,
 ) -> Result<Option<Many<Metadata>>, FormError>
-    ensures { IsChecked (list_at metadata_check (drop index (parts_in children.items))) result }
+    ensures { IsChecked (list_if_there metadata_check (drop index (parts_in children.items))) result }
 {
     if index >= children.len() {
         return Ok(None);
@@ -86,7 +86,7 @@ fn read_list_child(
     child: Child,
     after: &[Child],
 ) -> Result<Option<Many<Metadata>>, FormError>
-    ensures { IsChecked (list_at metadata_check (out-Child child ∷ parts_in after.now)) result }
+    ensures { IsChecked (list_if_there metadata_check (out-Child child ∷ parts_in after.now)) result }
 {
     match child {
         Child::Element(element) => {

@@ -5,7 +5,7 @@ ghost use Rattle.ifmap_forms.specs.Answers.{IsChecked};
 ghost use Rattle.ifmap_forms.specs.Gathering.{part_check};
 ghost use Rattle.ifmap_forms.specs.Scopes.{Scopes, place_scopes, scopes_below, scopes_by};
 ghost use Rattle.ifmap_forms.specs.Tables.{form_check, list_of, parts_in};
-ghost use Rattle.ifmap_requests.specs.RequestForms.{delete_form, delete_of, notify_form, notify_of, operation_of, publish_op_check, update_form, update_of};
+ghost use Rattle.ifmap_requests.specs.RequestForms.{delete_form, delete_from_form, notify_form, notify_of, operation_of, publish_op_check, update_form, update_from_form};
 
 use crate::metadata::read_published;
 use crate::publishing::PublishOp;
@@ -98,7 +98,7 @@ fn read_op(alloc: Global, place: &Place<'_, '_>, element: Element) -> Result<Pub
 
 fn read_update(alloc: Global, element: Element) -> Result<PublishOp, FormError>
     ensures { (scopes : Scopes) →
-        IsChecked (form_check update_form update_of scopes element) result }
+        IsChecked (form_check update_form update_from_form scopes element) result }
 {
     let forever = read_lifetime(&element)?;
     if !has_only(&element, &["lifetime"]) {
@@ -133,7 +133,7 @@ fn read_delete(
     place: &Place<'_, '_>,
     element: &Element,
 ) -> Result<PublishOp, FormError>
-    ensures { IsChecked (form_check delete_form delete_of (place_scopes place.now.declared.now
+    ensures { IsChecked (form_check delete_form delete_from_form (place_scopes place.now.declared.now
         place.now.path.now place.now.child) element.now) result }
 {
     let filter = read_filter(alloc, place, element, "filter")?;

@@ -5,7 +5,7 @@ ghost use Rattle.ifmap_forms.specs.Answers.{IsChecked};
 ghost use Rattle.ifmap_forms.specs.Gathering.{part_check};
 ghost use Rattle.ifmap_forms.specs.Scopes.{Scopes, place_scopes, scopes_below, scopes_by};
 ghost use Rattle.ifmap_forms.specs.Tables.{form_check, list_of, parts_in};
-ghost use Rattle.ifmap_requests.specs.RequestForms.{end_form, end_of, subscribe_op_check, subscription_form, subscription_of};
+ghost use Rattle.ifmap_requests.specs.RequestForms.{end_form, end_from_form, subscribe_op_check, subscription_form, subscription_from_form};
 
 use crate::requests::SubscribeOp;
 use crate::searching::read_search;
@@ -82,7 +82,7 @@ fn read_subscription(
     place: &Place<'_, '_>,
     element: &Element,
 ) -> Result<SubscribeOp, FormError>
-    ensures { IsChecked (form_check subscription_form subscription_of (place_scopes
+    ensures { IsChecked (form_check subscription_form subscription_from_form (place_scopes
         place.now.declared.now place.now.path.now place.now.child) element.now) result }
 {
     let name = read_name(alloc, element)?;
@@ -103,7 +103,7 @@ fn read_subscription(
 }
 
 fn read_end(alloc: Global, element: &Element) -> Result<SubscribeOp, FormError>
-    ensures { (scopes : Scopes) → IsChecked (form_check end_form end_of scopes element.now) result }
+    ensures { (scopes : Scopes) → IsChecked (form_check end_form end_from_form scopes element.now) result }
 {
     let name = read_name(alloc, element)?;
     if !has_only(element, &["name"]) {

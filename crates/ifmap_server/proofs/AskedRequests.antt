@@ -10,12 +10,12 @@ use Rattle.ifmap_requests.specs.declared.requests.Request.{Request}
 use Rattle.ifmap_requests.specs.Means.{Means}
 use Rattle.ifmap_server.specs.declared.errors.ReplayError.{ReplayError}
 use Rattle.ifmap_server.specs.declared.headers.Header.{Header}
-use Rattle.ifmap_server.specs.Output.{Asking, answer_text, step_frame, step_request, unreadable_text}
+use Rattle.ifmap_server.specs.Output.{EventByRequest, answer_text, step_frame, step_request, unreadable_text}
 use Rattle.ifmap_server.specs.Turns.{IsAnswered, asking_of, frame_of}
 
 module _ (old : State) (header : Header) (body : List ℕ) where
   -- what is asked where the body has this length
-  abbrev asking_at : ℕ → Asking
+  abbrev asking_at : ℕ → EventByRequest
   asking_at size request = record {
     moment = header.moment;
     client = header.client;

@@ -7,22 +7,22 @@ use Rattle.ifmap_server.specs.declared.errors.ReplayError.{ReplayError}
 use Rattle.ifmap_server.specs.declared.errors.ReplayError.TheVariants.{FrameFault, NoMemory, ReadFault, WriteFault}
 use Rattle.ifmap_server.specs.Awaited.{IsAwaited}
 use Rattle.ifmap_server.specs.Output.{AppendsPrefix, fault_line}
-use Rattle.ifmap_server.specs.Pending.{Takes}
-use Rattle.ifmap_server.specs.Replayed.{Promises}
-use Rattle.ifmap_server.specs.Ends.{IsLater, Ends, ends}
-use Rattle.ifmap_server.specs.Turns.{BeginsNone, Replaying, Turns}
+use Rattle.ifmap_server.specs.Pending.{GrowsFromSource}
+use Rattle.ifmap_server.specs.Replayed.{ReplayPromises}
+use Rattle.ifmap_server.specs.Ends.{IsLaterMoment, SourceAndSink, source_and_sink}
+use Rattle.ifmap_server.specs.Turns.{BeginsNone, Replaying, IsReplayTurn}
 use Rattle.ifmap_server.proofs.Pieces.{keeps_prefix}
 use Rattle.ifmap_server.proofs.Progress.{Progress, fault_part, fault_told, part, unread, unwritten}
 use Rattle.ifmap_io.specs.Rises.{rose_since}
 
 -- no frame was taken: the turn ends as the taking did
 pub untaken : (e : ReplayError) (left_old left_new held : Option (List ℕ)) (reads_old reads_new writes : ℕ) (old new : Replaying)
-    → (e ≡ FrameFault → Takes left_old left_new old.pending new.pending
+    → (e ≡ FrameFault → GrowsFromSource left_old left_new old.pending new.pending
     × IfSome left_new (λ rest. (new.pending ++ rest ≢ []) × BeginsNone old.offset (new.pending ++ rest)))
-    → (e ≡ ReadFault → Takes left_old left_new old.pending new.pending × IsAwaited old.offset new.pending)
+    → (e ≡ ReadFault → GrowsFromSource left_old left_new old.pending new.pending × IsAwaited old.offset new.pending)
     → (e ≡ ReadFault → Rose reads_old reads_new)
     → e ≢ WriteFault → new.offset ≡ old.offset
-    → Turns (Err e) (ends left_old reads_old held writes) (ends left_new reads_new held writes) old new
+    → IsReplayTurn (Err e) (source_and_sink left_old reads_old held writes) (source_and_sink left_new reads_new held writes) old new
 untaken FrameFault left_old left_new held reads_old reads_new writes old new fault read rose not same =
     (record { taken = new.pending; takes = (fault refl).0; fault = (fault refl).1; kept = Keeps-refl held }, same)
 untaken ReadFault left_old left_new held reads_old reads_new writes old new fault read rose not same =
@@ -30,9 +30,9 @@ untaken ReadFault left_old left_new held reads_old reads_new writes old new faul
 untaken WriteFault left_old left_new held reads_old reads_new writes old new fault read rose not same = absurd (not refl)
 untaken NoMemory left_old left_new held reads_old reads_new writes old new fault read rose not same = Keeps-refl held
 
-module _ (before mid after : Ends) (now new : Replaying) (p : Progress before mid now) where
+module _ (before mid after : SourceAndSink) (now new : Replaying) (p : Progress before mid now) where
   -- any error but that of a frame ends the replay
-  pub error_ends : (e : ReplayError) → e ≢ FrameFault → Turns (Err e) mid after now new → Promises (Err e) before after
+  pub error_ends : (e : ReplayError) → e ≢ FrameFault → IsReplayTurn (Err e) mid after now new → ReplayPromises (Err e) before after
   error_ends FrameFault not t = absurd (not refl)
   error_ends ReadFault not t =
       (unread before mid after now p t, rose_since before.read_faults mid.read_faults after.read_faults p.later.read t.cause)
@@ -41,11 +41,11 @@ module _ (before mid after : Ends) (now new : Replaying) (p : Progress before mi
   error_ends NoMemory not t = part before mid after now p t
 
   -- a frame is at fault, and its offset is told
-  pub fault_ends : (last : Ends) (e : ReplayError) → Turns (Err FrameFault) mid after now new → IsLater mid after
+  pub fault_ends : (last : SourceAndSink) (e : ReplayError) → IsReplayTurn (Err FrameFault) mid after now new → IsLaterMoment mid after
       → (e ≡ FrameFault → Appends after.held last.held (fault_line (Some new.offset)))
       → (e ≡ WriteFault → AppendsPrefix after.held last.held (fault_line (Some new.offset)))
       → (e ≡ NoMemory → Keeps after.held last.held) → e ≢ ReadFault
-      → (e ≡ WriteFault → Rose after.write_faults last.write_faults) → Promises (Err e) before last
+      → (e ≡ WriteFault → Rose after.write_faults last.write_faults) → ReplayPromises (Err e) before last
   fault_ends last FrameFault t later told part_told kept not rose =
       fault_told before mid after now p last t.0
       (subst (λ (n : ℕ). Appends after.held last.held (fault_line (Some n))) t.1 (told refl))

@@ -14,8 +14,8 @@ use Rattle.ifmap_server.specs.declared.headers.Header.{Header}
 use Rattle.ifmap_server.specs.declared.replaying.TakenFrame.{TakenFrame}
 use Rattle.ifmap_server.specs.Frames.{Frame, IsHeader, Meaning, frame_text}
 use Rattle.ifmap_server.specs.Awaited.{AwaitsBody, HasNoLine, IsAwaited}
-use Rattle.ifmap_server.specs.Pending.{IsLineEnd, Takes}
-use Rattle.ifmap_server.specs.Script.{Begins, longest_script}
+use Rattle.ifmap_server.specs.Pending.{IsHeaderLineEnd, GrowsFromSource}
+use Rattle.ifmap_server.specs.Script.{BeginsFrame, longest_script}
 use Rattle.ifmap_server.specs.Turns.{BeginsNone, IsFramed, frame_within}
 use Rattle.ifmap_server.proofs.HeaderLines.{header_of_line_one, line_of, line_text}
 use Rattle.ifmap_server.proofs.Scripts.{BeginsWith, begins_alike, begins_line, frame_length, header_of_frame, line_begins}
@@ -40,7 +40,7 @@ no_line_none offset bytes none f rest b =
 
 -- ---- the line that is there is that of the frame
 
-line_place : (bytes more line : List ℕ) (place : ℕ) (f : Frame) (rest : List ℕ) → IsLineEnd bytes place
+line_place : (bytes more line : List ℕ) (place : ℕ) (f : Frame) (rest : List ℕ) → IsHeaderLineEnd bytes place
     → BeginsWith line (bytes ++ more) f rest → place ≡ length line
 line_place bytes more line place f rest is w =
     elim (cases_lt place (length line)) [
@@ -58,7 +58,7 @@ line_place bytes more line place f rest is w =
           ]
     ]
 
-line_taken : (bytes more line : List ℕ) (place : ℕ) (f : Frame) (rest : List ℕ) → IsLineEnd bytes place
+line_taken : (bytes more line : List ℕ) (place : ℕ) (f : Frame) (rest : List ℕ) → IsHeaderLineEnd bytes place
     → BeginsWith line (bytes ++ more) f rest → line ≡ take place bytes
 line_taken bytes more line place f rest is w =
     let within = is.within in
@@ -66,20 +66,20 @@ line_taken bytes more line place f rest is w =
     ∙ ap (λ (n : ℕ). take n (bytes ++ more)) (sym (line_place bytes more line place f rest is w))
     ∙ take-append-le place bytes more (omega arith)
 
-its_header : (offset : ℕ) (bytes more : List ℕ) (place : ℕ) (f : Frame) (rest : List ℕ) → IsLineEnd bytes place
-    → Begins offset (bytes ++ more) f rest → IsHeader (take place bytes) (header_of_frame f)
+its_header : (offset : ℕ) (bytes more : List ℕ) (place : ℕ) (f : Frame) (rest : List ℕ) → IsHeaderLineEnd bytes place
+    → BeginsFrame offset (bytes ++ more) f rest → IsHeader (take place bytes) (header_of_frame f)
 its_header offset bytes more place f rest is b =
     let l = begins_line offset (bytes ++ more) f rest b in
     subst (λ (line : List ℕ). IsHeader line (header_of_frame f)) (line_taken bytes more l.0 place f rest is l.1) l.1.header
 
 -- where the line is no header, no frame begins, whatever follows
-pub no_header_none : (offset : ℕ) (bytes more : List ℕ) (place : ℕ) → IsLineEnd bytes place
+pub no_header_none : (offset : ℕ) (bytes more : List ℕ) (place : ℕ) → IsHeaderLineEnd bytes place
     → ((h : Header) → IsHeader (take place bytes) h → ⊥) → BeginsNone offset (bytes ++ more)
 no_header_none offset bytes more place is none f rest b = none (header_of_frame f) (its_header offset bytes more place f rest is b)
 
 -- a frame that begins with this header ends where the header says
-pub ends_there : (offset : ℕ) (bytes more : List ℕ) (place : ℕ) (h : Header) (f : Frame) (rest : List ℕ) → IsLineEnd bytes place
-    → IsHeader (take place bytes) h → Begins offset (bytes ++ more) f rest
+pub ends_there : (offset : ℕ) (bytes more : List ℕ) (place : ℕ) (h : Header) (f : Frame) (rest : List ℕ) → IsHeaderLineEnd bytes place
+    → IsHeader (take place bytes) h → BeginsFrame offset (bytes ++ more) f rest
     → (offset + (place + 1 + h.size) ≤ longest_script) × (place + 1 + h.size ≤ length (bytes ++ more))
 ends_there offset bytes more place h f rest is header b =
     let l = begins_line offset (bytes ++ more) f rest b in
@@ -93,19 +93,19 @@ ends_there offset bytes more place h f rest is header b =
     let within = newline_within l.0 (bytes ++ more) f rest l.1 in
     (omega arith, omega arith)
 
-pub too_long_none : (offset : ℕ) (bytes more : List ℕ) (place : ℕ) (h : Header) → IsLineEnd bytes place → IsHeader (take place bytes) h
+pub too_long_none : (offset : ℕ) (bytes more : List ℕ) (place : ℕ) (h : Header) → IsHeaderLineEnd bytes place → IsHeader (take place bytes) h
     → longest_script < offset + (place + 1 + h.size) → BeginsNone offset (bytes ++ more)
 too_long_none offset bytes more place h is header long f rest b = let e = ends_there offset bytes more place h f rest is header b in
     omega arith
 
-pub too_short_none : (offset : ℕ) (bytes more : List ℕ) (place : ℕ) (h : Header) → IsLineEnd bytes place → IsHeader (take place bytes) h
+pub too_short_none : (offset : ℕ) (bytes more : List ℕ) (place : ℕ) (h : Header) → IsHeaderLineEnd bytes place → IsHeader (take place bytes) h
     → length (bytes ++ more) < place + 1 + h.size → BeginsNone offset (bytes ++ more)
 too_short_none offset bytes more place h is header short f rest b = let e = ends_there offset bytes more place h f rest is header b in
     omega arith
 
 -- ---- more bytes after a line
 
-pub line_more : (bytes more : List ℕ) (place : ℕ) → IsLineEnd bytes place → IsLineEnd (bytes ++ more) place
+pub line_more : (bytes more : List ℕ) (place : ℕ) → IsHeaderLineEnd bytes place → IsHeaderLineEnd (bytes ++ more) place
 line_more bytes more place is =
     let within = is.within in
     record {
@@ -133,7 +133,7 @@ cut_body bytes start end order =
 abbrev unread : Meaning
 unread = Err Unreadable
 
-pub framed : (offset : ℕ) (bytes : List ℕ) (place : ℕ) (there : TakenFrame) → IsLineEnd bytes place
+pub framed : (offset : ℕ) (bytes : List ℕ) (place : ℕ) (there : TakenFrame) → IsHeaderLineEnd bytes place
     → IsHeader (take place bytes) there.header
     → there.start ≡ place + 1 → there.end ≡ there.start + there.header.size
     → there.end ≤ length bytes → offset + there.end ≤ longest_script → IsFramed offset bytes there
@@ -180,7 +180,7 @@ pub line_fault : (offset : ℕ) (left : Option (List ℕ)) (pending : List ℕ) 
 line_fault offset None pending h = tt
 line_fault offset (Some rest) pending h = (some_byte pending rest h.0, no_line_none offset (pending ++ rest) h.1)
 
-pub header_fault : (offset : ℕ) (left : Option (List ℕ)) (pending : List ℕ) (place : ℕ) → IsLineEnd pending place
+pub header_fault : (offset : ℕ) (left : Option (List ℕ)) (pending : List ℕ) (place : ℕ) → IsHeaderLineEnd pending place
     → ((h : Header) → IsHeader (take place pending) h → ⊥) → IfSome left
     (λ rest. (pending ++ rest ≢ []) × BeginsNone offset (pending ++ rest))
 header_fault offset None pending place is none = tt
@@ -188,7 +188,7 @@ header_fault offset (Some rest) pending place is none =
     let within = is.within in
     (not_empty_left pending rest (omega arith), no_header_none offset pending rest place is none)
 
-pub long_fault : (offset : ℕ) (left : Option (List ℕ)) (pending : List ℕ) (place : ℕ) (h : Header) → IsLineEnd pending place
+pub long_fault : (offset : ℕ) (left : Option (List ℕ)) (pending : List ℕ) (place : ℕ) (h : Header) → IsHeaderLineEnd pending place
     → IsHeader (take place pending) h → longest_script < offset + (place + 1 + h.size) → IfSome left
     (λ rest. (pending ++ rest ≢ []) × BeginsNone offset (pending ++ rest))
 long_fault offset None pending place h is header long = tt
@@ -196,8 +196,8 @@ long_fault offset (Some rest) pending place h is header long =
     let within = is.within in
     (not_empty_left pending rest (omega arith), too_long_none offset pending rest place h is header long)
 
-module _ (offset : ℕ) (left_old left : Option (List ℕ)) (mid new : List ℕ) (place : ℕ) (h : Header) (took : Takes left_old left mid new)
-    (is : IsLineEnd mid place) (header : IsHeader (take place mid) h) where
+module _ (offset : ℕ) (left_old left : Option (List ℕ)) (mid new : List ℕ) (place : ℕ) (h : Header) (took : GrowsFromSource left_old left mid new)
+    (is : IsHeaderLineEnd mid place) (header : IsHeader (take place mid) h) where
   pub short_none : length new < place + 1 + h.size → BeginsNone offset new
   short_none short =
       subst (BeginsNone offset) (sym took.grown) (too_short_none offset mid took.got place h is header (let e = ap length took.grown in
@@ -217,7 +217,7 @@ module _ (offset : ℕ) (left_old left : Option (List ℕ)) (mid new : List ℕ)
       → IsFramed offset new (record { header = h; start = place + 1; end = place + 1 + h.size })
   whole within ends =
       let early = is.within in
-      let line : IsLineEnd new place = subst (λ (b : List ℕ). IsLineEnd b place) (sym took.grown) (line_more mid took.got place is) in
+      let line : IsHeaderLineEnd new place = subst (λ (b : List ℕ). IsHeaderLineEnd b place) (sym took.grown) (line_more mid took.got place is) in
       let front : take place mid ≡ take place new = sym (take-append-le place mid took.got (omega arith))
       ∙ ap (take place) (sym took.grown) in
       framed offset new place (record { header = h; start = place + 1; end = place + 1 + h.size }) line (subst
@@ -226,8 +226,8 @@ module _ (offset : ℕ) (left_old left : Option (List ℕ)) (mid new : List ℕ)
 -- ---- a read that is due
 
 -- the body goes on with as many bytes as are missing
-module _ (offset : ℕ) (left_old left : Option (List ℕ)) (mid new : List ℕ) (place : ℕ) (h : Header) (took : Takes left_old left mid new)
-    (is : IsLineEnd mid place) (header : IsHeader (take place mid) h) where
+module _ (offset : ℕ) (left_old left : Option (List ℕ)) (mid new : List ℕ) (place : ℕ) (h : Header) (took : GrowsFromSource left_old left mid new)
+    (is : IsHeaderLineEnd mid place) (header : IsHeader (take place mid) h) where
   missing : List ℕ
   missing = replicate (place + 1 + h.size - length new) 0
 
@@ -239,7 +239,7 @@ module _ (offset : ℕ) (left_old left : Option (List ℕ)) (mid new : List ℕ)
   short_awaits short ends =
       let m = missing_length in
       let all = length-append new missing in
-      let more : Takes None None mid (new ++ missing) = record {
+      let more : GrowsFromSource None None mid (new ++ missing) = record {
         got = took.got ++ missing;
         consumed = tt;
         grown = ap (λ (b : List ℕ). b ++ missing) took.grown ∙ append_assoc mid took.got missing;
@@ -249,7 +249,7 @@ module _ (offset : ℕ) (left_old left : Option (List ℕ)) (mid new : List ℕ)
         frame = frame_within (record { header = h; start = place + 1; end = place + 1 + h.size }) (new ++ missing) unread;
         more = missing;
         some = λ e. let l : length missing ≡ 0 = ap length e in omega arith;
-        begins = subst (Begins offset (new ++ missing) _) (drop_all (place + 1 + h.size) (new ++ missing) (omega arith)) (w.begins unread);
+        begins = subst (BeginsFrame offset (new ++ missing) _) (drop_all (place + 1 + h.size) (new ++ missing) (omega arith)) (w.begins unread);
       }
 
 nil_right : (a b : List ℕ) → a ++ b ≡ [] → b ≡ []
@@ -260,7 +260,7 @@ nil_right (x ∷ a) b e = cc
 pub awaited_none : (offset : ℕ) (bytes : List ℕ) → IsAwaited offset bytes → BeginsNone offset bytes
 awaited_none offset bytes (inl line) = no_line_none offset bytes line.none
 awaited_none offset bytes (inr body) = λ f rest b.
-    let on : Begins offset (bytes ++ body.more) f (rest ++ body.more) = record {
+    let on : BeginsFrame offset (bytes ++ body.more) f (rest ++ body.more) = record {
       fits = b.fits;
       text = ap (λ (x : List ℕ). x ++ body.more) b.text ∙ append_assoc (frame_text f) rest body.more;
       ends = b.ends;

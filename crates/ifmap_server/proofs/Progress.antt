@@ -16,9 +16,9 @@ use Rattle.ifmap_server.specs.Awaited.{IsAwaited}
 use Rattle.ifmap_server.specs.Frames.{Frame, frame_text}
 use Rattle.ifmap_server.specs.Output.{AppendsPrefix, IsOutput, step_frame, answers, answers_from, fault_line}
 use Rattle.ifmap_server.specs.Replayed.{AnswersAll, AnswersPart, AnswersTaken, AnswersUpToFault}
-use Rattle.ifmap_server.specs.Script.{Begins, IsScript, IsScriptFrom}
-use Rattle.ifmap_server.specs.Ends.{IsLater, Ends}
-use Rattle.ifmap_server.specs.Turns.{Answers, BeginsNone, IsFaulty, IsOver, IsUnread, IsUnwritten, Replaying, beginning}
+use Rattle.ifmap_server.specs.Script.{BeginsFrame, IsScript, IsScriptFrom}
+use Rattle.ifmap_server.specs.Ends.{IsLaterMoment, SourceAndSink}
+use Rattle.ifmap_server.specs.Turns.{Answers, BeginsNone, IsFaulty, IsOver, IsUnread, IsUnwritten, Replaying, replay_beginning}
 use Rattle.ifmap_server.proofs.Framing.{awaited_none}
 use Rattle.ifmap_server.proofs.Scripts.{script_begins, script_one}
 use Rattle.ifmap_server.proofs.Pieces.{appends_prefix, keeps_prefix}
@@ -29,7 +29,7 @@ Unframed done taken now =
     (more : List ℕ) (frames : List Frame) (fault : Option ℕ) → IsScript (taken ++ more) frames fault
     → (others : List Frame) × (frames ≡ done ++ others) × IsScriptFrom now.offset (now.pending ++ more) others fault
 
-pub record Progress (before mid : Ends) (now : Replaying) : Type 0 where
+pub record Progress (before mid : SourceAndSink) (now : Replaying) : Type 0 where
   pub one : OneMeaning
   pub done : List Frame
   pub taken : List ℕ
@@ -40,9 +40,9 @@ pub record Progress (before mid : Ends) (now : Replaying) : Type 0 where
   pub place : (more : List ℕ) → drop now.offset (taken ++ more) ≡ now.pending ++ more
   pub told : (frames : List Frame) → answers (done ++ frames) ≡ answers done ++ answers_from now.state frames
   pub wrote : Appends before.held mid.held (answers done)
-  pub later : IsLater before mid
+  pub later : IsLaterMoment before mid
 
-pub begin : OneMeaning → (before : Ends) (now : Replaying) → now ≡ beginning → Progress before before now
+pub begin : OneMeaning → (before : SourceAndSink) (now : Replaying) → now ≡ replay_beginning → Progress before before now
 begin one before now is =
     subst (λ (r : Replaying). Progress before before r) (sym is) (record {
       one = one;
@@ -57,7 +57,7 @@ begin one before now is =
       later = record { read = omega arith; write = omega arith };
     })
 
-later_on : (before mid after : Ends) → IsLater before mid → IsLater mid after → IsLater before after
+later_on : (before mid after : SourceAndSink) → IsLaterMoment before mid → IsLaterMoment mid after → IsLaterMoment before after
 later_on before mid after first second =
     let read = first.read in
     let write = first.write in
@@ -75,12 +75,12 @@ grown_text : (pending got more taken text rest : List ℕ) → taken ≡ pending
 grown_text pending got more taken text rest grown begins =
     sym (append_assoc pending got more) ∙ ap (λ (x : List ℕ). x ++ more) (sym grown ∙ begins) ∙ append_assoc text rest more
 
-begins_more : (offset : ℕ) (pending got more taken rest : List ℕ) (f : Frame) → taken ≡ pending ++ got → Begins offset taken f rest
-    → Begins offset (pending ++ (got ++ more)) f (rest ++ more)
+begins_more : (offset : ℕ) (pending got more taken rest : List ℕ) (f : Frame) → taken ≡ pending ++ got → BeginsFrame offset taken f rest
+    → BeginsFrame offset (pending ++ (got ++ more)) f (rest ++ more)
 begins_more offset pending got more taken rest f grown begins =
     record { fits = begins.fits; text = grown_text pending got more taken (frame_text f) rest grown begins.text; ends = begins.ends }
 
-module _ (before mid after : Ends) (now : Replaying) (p : Progress before mid now) where
+module _ (before mid after : SourceAndSink) (now : Replaying) (p : Progress before mid now) where
   -- the frames that were answered, and these
   framed_on : (got more : List ℕ) (frames : List Frame) (fault : Option ℕ)
       → IsScriptFrom now.offset (now.pending ++ (got ++ more)) frames fault → IsScript (p.taken ++ got ++ more) (p.done ++ frames) fault
@@ -96,7 +96,7 @@ module _ (before mid after : Ends) (now : Replaying) (p : Progress before mid no
       (subst (λ (bytes : List ℕ). IsScript bytes frames fault) (append_assoc p.taken got more) script)
 
   -- and where a frame begins with what was taken, it is the next of them
-  unframed_one : (f : Frame) (got more taken rest : List ℕ) → taken ≡ now.pending ++ got → Begins now.offset taken f rest
+  unframed_one : (f : Frame) (got more taken rest : List ℕ) → taken ≡ now.pending ++ got → BeginsFrame now.offset taken f rest
       → Means f.body f.meaning → (frames : List Frame) (fault : Option ℕ) → IsScript (p.taken ++ got ++ more) frames fault
       → (others : List Frame) × (frames ≡ p.done ++ f ∷ others)
       × IsScriptFrom (now.offset + length (frame_text f)) (rest ++ more) others fault
@@ -121,7 +121,7 @@ module _ (before mid after : Ends) (now : Replaying) (p : Progress before mid no
       a.begins.text)
       ∙ drop_at text (new.pending ++ more) (length text) refl
 
-  pub next : (new : Replaying) → Answers mid after now new → IsLater mid after → Progress before after new
+  pub next : (new : Replaying) → Answers mid after now new → IsLaterMoment mid after → Progress before after new
   next new a later =
       let f = a.frame in
       let got = a.takes.got in
@@ -179,7 +179,7 @@ some_for (Some x) P f = f x
 -- ---- how a replay ends
 
 -- a prefix was written of each output of these bytes
-abbrev IsPart : (before after : Ends) → List ℕ → Type 0
+abbrev IsPart : (before after : SourceAndSink) → List ℕ → Type 0
 IsPart before after bytes = (text : List ℕ) → IsOutput bytes text → AppendsPrefix before.held after.held text
 
 -- a read is due here, so the script ends here, or goes on with what is awaited
@@ -189,7 +189,7 @@ script_here offset whole [] here awaited = (None, refl, tt)
 script_here offset whole (x ∷ bytes) here awaited =
     (Some offset, (refl, (λ e. cc), awaited_none offset (x ∷ bytes) awaited), subst (IsAwaited offset) (sym here) awaited)
 
-module _ (before mid after : Ends) (now : Replaying) (p : Progress before mid now) where
+module _ (before mid after : SourceAndSink) (now : Replaying) (p : Progress before mid now) where
   wrote_kept : Keeps mid.held after.held → Appends before.held after.held (answers p.done)
   wrote_kept kept = Appends-kept before.held mid.held after.held (answers p.done) p.wrote kept
 
@@ -268,7 +268,7 @@ module _ (before mid after : Ends) (now : Replaying) (p : Progress before mid no
       framed_on before mid after now p f.takes.got rest [] (Some now.offset)
       (subst (λ (bytes : List ℕ). IsScriptFrom now.offset bytes [] (Some now.offset)) same (refl, h.0, h.1))
 
-  pub fault_told : (last : Ends) → IsFaulty mid after now → Appends after.held last.held (fault_line (Some now.offset))
+  pub fault_told : (last : SourceAndSink) → IsFaulty mid after now → Appends after.held last.held (fault_line (Some now.offset))
       → AnswersUpToFault before last
   fault_told last f told =
       taken_and_rest before.left after.left (p.taken ++ f.takes.got)
@@ -283,7 +283,7 @@ module _ (before mid after : Ends) (now : Replaying) (p : Progress before mid no
             (Appends-trans before.held after.held last.held (answers p.done) (fault_line (Some now.offset)) (wrote_kept f.kept) told),
       )))
 
-  pub fault_part : (last : Ends) → IsFaulty mid after now → AppendsPrefix after.held last.held (fault_line (Some now.offset))
+  pub fault_part : (last : SourceAndSink) → IsFaulty mid after now → AppendsPrefix after.held last.held (fault_line (Some now.offset))
       → AnswersPart before last
   fault_part last f told =
       taken_and_rest before.left after.left (p.taken ++ f.takes.got) (λ bytes. IsPart before last bytes)
@@ -300,7 +300,7 @@ module _ (before mid after : Ends) (now : Replaying) (p : Progress before mid no
       (wrote_kept f.kept) told))
 
 -- nothing was read or written
-pub nothing_done : (before : Ends) → AnswersPart before before
+pub nothing_done : (before : SourceAndSink) → AnswersPart before before
 nothing_done before =
     some_for before.left (λ bytes. IsPart before before bytes)
     (λ bytes text output. keeps_prefix before.held before.held text (Keeps-refl before.held))

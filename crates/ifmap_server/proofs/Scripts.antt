@@ -8,7 +8,7 @@ use Rattle.ifmap_requests.specs.Laws.{OneMeaning}
 use Rattle.ifmap_requests.specs.Means.{Means}
 use Rattle.ifmap_server.specs.declared.headers.Header.{Header}
 use Rattle.ifmap_server.specs.Frames.{Frame, IsFrame, IsHeader, Meaning, frame_text}
-use Rattle.ifmap_server.specs.Script.{Begins, IsScriptFrom, longest_script}
+use Rattle.ifmap_server.specs.Script.{BeginsFrame, IsScriptFrom, longest_script}
 use Rattle.ifmap_server.specs.Turns.{frame_of}
 use Rattle.ifmap_server.proofs.Splits.{without_at, before, after, before_at, after_at}
 use Rattle.ifmap_server.proofs.HeaderLines.{IsWithin, line_text, line_of, line_length, line_without, is_header, header_of_line_one, read_line}
@@ -41,7 +41,7 @@ pub record BeginsWith (line bytes : List ℕ) (f : Frame) (rest : List ℕ) : Ty
 cut_line : (a b c : List ℕ) → a ++ 10 ∷ b ++ c ≡ a ++ 10 ∷ (b ++ c)
 cut_line a b c = append_assoc a (10 ∷ b) c
 
-begins_with : (offset : ℕ) (bytes : List ℕ) (f : Frame) (rest : List ℕ) → Begins offset bytes f rest
+begins_with : (offset : ℕ) (bytes : List ℕ) (f : Frame) (rest : List ℕ) → BeginsFrame offset bytes f rest
     → BeginsWith (line_text (header_of_frame f)) bytes f rest
 begins_with offset bytes f rest b =
     let w = frame_within f b.fits in
@@ -53,14 +53,14 @@ begins_with offset bytes f rest b =
       short = line_length (header_of_frame f) w;
     }
 
-pub begins_line : (offset : ℕ) (bytes : List ℕ) (f : Frame) (rest : List ℕ) → Begins offset bytes f rest
+pub begins_line : (offset : ℕ) (bytes : List ℕ) (f : Frame) (rest : List ℕ) → BeginsFrame offset bytes f rest
     → (line : List ℕ) × BeginsWith line bytes f rest
 begins_line offset bytes f rest b = (line_text (header_of_frame f), begins_with offset bytes f rest b)
 
 -- and where a header stands, with its body after it, its frame begins
 pub line_begins : (offset : ℕ) (bytes line body rest : List ℕ) (h : Header) → bytes ≡ line ++ 10 ∷ (body ++ rest) → IsHeader line h
     → length body ≡ h.size → offset + (length line + 1 + h.size) ≤ longest_script → (meaning : Meaning)
-    → Begins offset bytes (frame_of h body meaning) rest
+    → BeginsFrame offset bytes (frame_of h body meaning) rest
 line_begins offset bytes line body rest h text is size ends meaning =
     let same : header_of_frame (frame_of h body meaning) ≡ h = ap (λ (n : ℕ).
     record { moment = h.moment; client = h.client; random = h.random; size = n }) size in
@@ -94,7 +94,7 @@ read_is bytes f rest e b = record {
   rest_is = rw (e, b) (drop_at f.body rest (length f.body) refl);
 }
 
-pub reads : (offset : ℕ) (bytes : List ℕ) (f : Frame) (rest : List ℕ) → Begins offset bytes f rest → Reads bytes f rest
+pub reads : (offset : ℕ) (bytes : List ℕ) (f : Frame) (rest : List ℕ) → BeginsFrame offset bytes f rest → Reads bytes f rest
 unfolding read_header
 reads offset bytes f rest b =
     let w = frame_within f b.fits in
@@ -111,8 +111,8 @@ pub record AreAlike (f g : Frame) (rest others : List ℕ) : Type 0 where
   pub bodies : f.body ≡ g.body
   pub rests : rest ≡ others
 
-pub begins_alike : (offset : ℕ) (bytes : List ℕ) (f g : Frame) (rest others : List ℕ) → Begins offset bytes f rest
-    → Begins offset bytes g others → AreAlike f g rest others
+pub begins_alike : (offset : ℕ) (bytes : List ℕ) (f g : Frame) (rest others : List ℕ) → BeginsFrame offset bytes f rest
+    → BeginsFrame offset bytes g others → AreAlike f g rest others
 begins_alike offset bytes f g rest others a b =
     let p = reads offset bytes f rest a in
     let q = reads offset bytes g others b in
@@ -125,26 +125,26 @@ same_frame f g h b m =
 
 -- ---- scripts
 
-pub begins_shorter : (offset : ℕ) (bytes : List ℕ) (f : Frame) (rest : List ℕ) → Begins offset bytes f rest → length rest < length bytes
+pub begins_shorter : (offset : ℕ) (bytes : List ℕ) (f : Frame) (rest : List ℕ) → BeginsFrame offset bytes f rest → length rest < length bytes
 begins_shorter offset bytes f rest b =
     let text = (begins_with offset bytes f rest b).text in
     omega (arith, ap length text, length-append (line_text (header_of_frame f)) (10 ∷ (f.body ++ rest)), length-append f.body rest)
 
-nothing_begins : (offset : ℕ) (bytes : List ℕ) (f : Frame) (rest : List ℕ) → bytes ≡ [] → Begins offset bytes f rest → ⊥
+nothing_begins : (offset : ℕ) (bytes : List ℕ) (f : Frame) (rest : List ℕ) → bytes ≡ [] → BeginsFrame offset bytes f rest → ⊥
 nothing_begins offset bytes f rest e b = let s = begins_shorter offset bytes f rest b in let l : length bytes ≡ 0 = ap length e in
     absurd (omega arith)
 
 module _ (one : OneMeaning) where
   -- bodies have one meaning, so that one frame begins
-  begins_one : (offset : ℕ) (bytes : List ℕ) (f g : Frame) (rest others : List ℕ) → Begins offset bytes f rest → Means f.body f.meaning
-      → Begins offset bytes g others → Means g.body g.meaning → (f ≡ g) × (rest ≡ others)
+  begins_one : (offset : ℕ) (bytes : List ℕ) (f g : Frame) (rest others : List ℕ) → BeginsFrame offset bytes f rest → Means f.body f.meaning
+      → BeginsFrame offset bytes g others → Means g.body g.meaning → (f ≡ g) × (rest ≡ others)
   begins_one offset bytes f g rest others a m b n =
       let alike = begins_alike offset bytes f g rest others a b in
       let meanings = one f.body f.meaning g.meaning m (subst (λ (x : List ℕ). Means x g.meaning) (sym alike.bodies) n) in
       (same_frame f g alike.headers alike.bodies meanings, alike.rests)
 
   -- where a frame begins, a script begins with it
-  pub script_begins : (offset : ℕ) (bytes : List ℕ) (f : Frame) (rest : List ℕ) → Begins offset bytes f rest → Means f.body f.meaning
+  pub script_begins : (offset : ℕ) (bytes : List ℕ) (f : Frame) (rest : List ℕ) → BeginsFrame offset bytes f rest → Means f.body f.meaning
       → (frames : List Frame) (fault : Option ℕ) → IsScriptFrom offset bytes frames fault
       → (others : List Frame) × (frames ≡ f ∷ others) × IsScriptFrom (offset + length (frame_text f)) rest others fault
   script_begins offset bytes f rest b m [] None s = absurd (nothing_begins offset bytes f rest s b)

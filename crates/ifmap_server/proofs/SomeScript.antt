@@ -11,7 +11,7 @@ use Rattle.ifmap_requests.specs.Laws.{SomeMeaning}
 use Rattle.ifmap_server.specs.declared.headers.Header.{Header}
 use Rattle.ifmap_server.specs.Frames.{Frame, IsFrame, Meaning, frame_text}
 use Rattle.ifmap_server.specs.Output.{IsOutput, answers, fault_line}
-use Rattle.ifmap_server.specs.Script.{Begins, IsScript, IsScriptFrom, longest_script}
+use Rattle.ifmap_server.specs.Script.{BeginsFrame, IsScript, IsScriptFrom, longest_script}
 use Rattle.ifmap_server.specs.Turns.{frame_of}
 use Rattle.ifmap_server.proofs.Scripts.{begins_shorter, header_of_frame, read_header, reads}
 use Rattle.ifmap_server.proofs.Splits.{after}
@@ -36,15 +36,15 @@ frame_or_not f =
     (decided_both (below_or_not f.random (2 ^ 128)) (within_or_not (length f.body) 10000000))))
 
 module _ (offset : ℕ) (bytes : List ℕ) where
-  this_or_not : (f : Frame) (rest : List ℕ) → Decided (Begins offset bytes f rest)
+  this_or_not : (f : Frame) (rest : List ℕ) → Decided (BeginsFrame offset bytes f rest)
   this_or_not f rest =
       decided_by (λ p. record { fits = p.0; text = p.1.0; ends = p.1.1 }) (λ b. (b.fits, (b.text, b.ends)))
       (decided_both (frame_or_not f)
       (decided_both (same_or_not bytes (frame_text f ++ rest)) (within_or_not (offset + length (frame_text f)) longest_script)))
 
   -- where a frame begins does not look at its meaning
-  module _ (f : Frame) (rest : List ℕ) (b : Begins offset bytes f rest) (meaning : Meaning) where
-    begins_meaning : Begins offset bytes (frame_of (header_of_frame f) f.body meaning) rest
+  module _ (f : Frame) (rest : List ℕ) (b : BeginsFrame offset bytes f rest) (meaning : Meaning) where
+    begins_meaning : BeginsFrame offset bytes (frame_of (header_of_frame f) f.body meaning) rest
     begins_meaning =
         let is = b.fits in
         record {
@@ -54,17 +54,17 @@ module _ (offset : ℕ) (bytes : List ℕ) where
         }
 
     -- and it is the frame that is read
-    begins_read : Begins offset bytes (frame_of (read_header bytes) (take (read_header bytes).size (after 10 bytes)) meaning)
+    begins_read : BeginsFrame offset bytes (frame_of (read_header bytes) (take (read_header bytes).size (after 10 bytes)) meaning)
         (drop (read_header bytes).size (after 10 bytes))
     begins_read =
         let r = reads offset bytes f rest b in
         let body = take (read_header bytes).size (after 10 bytes) in
-        subst (λ (left : List ℕ). Begins offset bytes (frame_of (read_header bytes) body meaning) left) (sym r.rest_is)
-        (subst (λ (text : List ℕ). Begins offset bytes (frame_of (read_header bytes) text meaning) rest) (sym r.body)
-        (subst (λ (h : Header). Begins offset bytes (frame_of h f.body meaning) rest) (sym r.header) begins_meaning))
+        subst (λ (left : List ℕ). BeginsFrame offset bytes (frame_of (read_header bytes) body meaning) left) (sym r.rest_is)
+        (subst (λ (text : List ℕ). BeginsFrame offset bytes (frame_of (read_header bytes) text meaning) rest) (sym r.body)
+        (subst (λ (h : Header). BeginsFrame offset bytes (frame_of h f.body meaning) rest) (sym r.header) begins_meaning))
 
   abbrev SomeBegins : Type 0
-  SomeBegins = (f : Frame) × (rest : List ℕ) × Begins offset bytes f rest
+  SomeBegins = (f : Frame) × (rest : List ℕ) × BeginsFrame offset bytes f rest
 
   frame_begins_or_not : Decided SomeBegins
   frame_begins_or_not =
@@ -83,7 +83,7 @@ module _ (some : SomeMeaning) where
 
   module _ (bytes : List ℕ) (shorter : (rest : List ℕ) → length rest < length bytes → HasScripts rest) (offset : ℕ) where
     -- a frame, and then a script of what comes after it
-    with_frame : (f : Frame) (rest : List ℕ) → Begins offset bytes f rest → HasScriptFrom offset bytes
+    with_frame : (f : Frame) (rest : List ℕ) → BeginsFrame offset bytes f rest → HasScriptFrom offset bytes
     with_frame f rest b =
         let m = some f.body in
         let one = frame_of (header_of_frame f) f.body m.0 in

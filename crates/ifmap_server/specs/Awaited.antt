@@ -2,14 +2,14 @@
 use Rattle.std.specs.Prelude.{◌≢◌, ℕ, ◌<◌, List, [], ◌++◌, length, slice_index, ◌⊎◌}
 use Rattle.ifmap_elem.specs.Chars.{line_feed}
 use Rattle.ifmap_server.specs.Frames.{Frame, longest_header}
-use Rattle.ifmap_server.specs.Script.{Begins}
+use Rattle.ifmap_server.specs.Script.{BeginsFrame}
 
 -- no newline stands where that of a header can
 abbrev pub HasNoLine : List ℕ → Type 0
 HasNoLine bytes = (k : ℕ) → k < longest_header → k < length bytes → slice_index bytes k ≢ line_feed
 
 -- a header's line is due: no newline has come, and that of a header still can
-pub record AwaitsLine (bytes : List ℕ) : Type 0 where
+pub record AwaitsHeaderLine (bytes : List ℕ) : Type 0 where
   pub early : length bytes < longest_header
   pub none : HasNoLine bytes
 
@@ -18,8 +18,8 @@ pub record AwaitsBody (offset : ℕ) (bytes : List ℕ) : Type 0 where
   pub frame : Frame
   pub more : List ℕ
   pub some : more ≢ []
-  pub begins : Begins offset (bytes ++ more) frame []
+  pub begins : BeginsFrame offset (bytes ++ more) frame []
 
 -- a read is due: of a line that is not whole yet, or of the body of a frame that is not at fault
 abbrev pub IsAwaited : ℕ → List ℕ → Type 0
-IsAwaited offset bytes = AwaitsLine bytes ⊎ AwaitsBody offset bytes
+IsAwaited offset bytes = AwaitsHeaderLine bytes ⊎ AwaitsBody offset bytes

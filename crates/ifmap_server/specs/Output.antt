@@ -15,12 +15,12 @@ use Rattle.ifmap_server.specs.Frames.{Frame, Meaning}
 use Rattle.ifmap_server.specs.Script.{IsScript}
 
 -- what is asked of the machine, by the request
-abbrev pub Asking : Type 0
-Asking = Request → Event
+abbrev pub EventByRequest : Type 0
+EventByRequest = Request → Event
 
 -- the event of a frame that asks a request
-abbrev pub event_of : Frame → Asking
-event_of f request =
+abbrev pub event_of_frame : Frame → EventByRequest
+event_of_frame f request =
     record { moment = f.moment; client = f.client; random = f.random; again = false; bytes = length f.body; ask = ask.Request request }
 
 -- `=`, the length of the reply, a newline and the reply; or that nothing is told to a poll yet. That an answer was lost is heard and
@@ -35,19 +35,19 @@ abbrev pub unreadable_text : List ℕ
 unreadable_text = codes "unreadable\n"
 
 -- the state after what the machine is asked, and what is written for it
-abbrev pub step_request : State → Asking → Request → State × List ℕ
+abbrev pub step_request : State → EventByRequest → Request → State × List ℕ
 step_request state event request = ((step state (event request)).0, answer_text (step state (event request)).1)
 
 -- the same of a meaning: a code is told, with its name as the note, and nothing is asked, so that the state's moment stays too; no
 -- body means a want of memory
-abbrev pub step_meaning : State → Asking → Meaning → State × List ℕ
+abbrev pub step_meaning : State → EventByRequest → Meaning → State × List ℕ
 step_meaning state event (Ok request) = step_request state event request
 step_meaning state event (Err (Named code)) = (state, answer_text (refusal code))
 step_meaning state event (Err Unreadable) = (state, unreadable_text)
 step_meaning state event (Err NoMemory) = (state, unreadable_text)
 
 abbrev pub step_frame : State → Frame → State × List ℕ
-step_frame state f = step_meaning state (event_of f) f.meaning
+step_frame state f = step_meaning state (event_of_frame f) f.meaning
 
 -- what is written for frames, one after another, from a state on
 abbrev pub answers_from : State → List Frame → List ℕ

@@ -8,7 +8,7 @@ abbrev pub longest_script : ℕ
 longest_script = 2 ^ 32
 
 -- these bytes, of which the first stands at an offset, begin with this frame and go on with a rest, whatever the frame's meaning
-pub record Begins (offset : ℕ) (bytes : List ℕ) (f : Frame) (rest : List ℕ) : Type 0 where
+pub record BeginsFrame (offset : ℕ) (bytes : List ℕ) (f : Frame) (rest : List ℕ) : Type 0 where
   pub fits : IsFrame f
   pub text : bytes ≡ frame_text f ++ rest
   pub ends : offset + length (frame_text f) ≤ longest_script
@@ -17,11 +17,11 @@ pub record Begins (offset : ℕ) (bytes : List ℕ) (f : Frame) (rest : List ℕ
 -- means its meaning
 abbrev pub IsScriptFrom : ℕ → List ℕ → List Frame → Option ℕ → Type 0
 IsScriptFrom offset bytes (f ∷ frames) fault =
-    (rest : List ℕ) × Begins offset bytes f rest × Means f.body f.meaning
+    (rest : List ℕ) × BeginsFrame offset bytes f rest × Means f.body f.meaning
     × IsScriptFrom (offset + length (frame_text f)) rest frames fault
 IsScriptFrom offset bytes [] None = bytes ≡ []
 IsScriptFrom offset bytes [] (Some place) =
-    (place ≡ offset) × (bytes ≢ []) × ((f : Frame) (rest : List ℕ) → Begins offset bytes f rest → ⊥)
+    (place ≡ offset) × (bytes ≢ []) × ((f : Frame) (rest : List ℕ) → BeginsFrame offset bytes f rest → ⊥)
 
 -- the bytes are these frames, up to the end or to the first fault
 abbrev pub IsScript : List ℕ → List Frame → Option ℕ → Type 0

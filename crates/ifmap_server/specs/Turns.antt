@@ -12,10 +12,10 @@ use Rattle.ifmap_server.specs.declared.replaying.Turn.TheVariants.{Answered, End
 use Rattle.ifmap_requests.specs.Means.{Means}
 use Rattle.ifmap_server.specs.Awaited.{IsAwaited}
 use Rattle.ifmap_server.specs.Frames.{Frame, Meaning, frame_text}
-use Rattle.ifmap_server.specs.Output.{AppendsPrefix, Asking, step_frame}
-use Rattle.ifmap_server.specs.Pending.{Takes}
-use Rattle.ifmap_server.specs.Script.{Begins, longest_script}
-use Rattle.ifmap_server.specs.Ends.{ReadFailed, Ends, WriteFailed}
+use Rattle.ifmap_server.specs.Output.{AppendsPrefix, EventByRequest, step_frame}
+use Rattle.ifmap_server.specs.Pending.{GrowsFromSource}
+use Rattle.ifmap_server.specs.Script.{BeginsFrame, longest_script}
+use Rattle.ifmap_server.specs.Ends.{ReadFailed, SourceAndSink, WriteFailed}
 
 -- a replay: the state of the machine, what is pending, and the offset of the next frame
 pub record Replaying : Type 0 where
@@ -23,11 +23,11 @@ pub record Replaying : Type 0 where
   pub pending : List ℕ
   pub offset : ℕ
 
-abbrev pub beginning : Replaying
-beginning = record { state = opening session_seconds; pending = []; offset = 0 }
+abbrev pub replay_beginning : Replaying
+replay_beginning = record { state = opening session_seconds; pending = []; offset = 0 }
 
 -- what is asked of the machine by a request that came with a header
-abbrev pub asking_of : Header → Asking
+abbrev pub asking_of : Header → EventByRequest
 asking_of header request = record {
   moment = header.moment;
   client = header.client;
@@ -48,7 +48,7 @@ frame_within framed pending meaning = frame_of framed.header (slice_range pendin
 
 -- a whole frame stands at the front of what is pending, and its body from `start` to `end`, whatever its meaning
 pub record IsFramed (offset : ℕ) (pending : List ℕ) (framed : TakenFrame) : Type 0 where
-  pub begins : (meaning : Meaning) → Begins offset pending (frame_within framed pending meaning) (drop framed.end pending)
+  pub begins : (meaning : Meaning) → BeginsFrame offset pending (frame_within framed pending meaning) (drop framed.end pending)
   pub end : (meaning : Meaning) → framed.end ≡ length (frame_text (frame_within framed pending meaning))
   pub ends : offset + framed.end ≤ longest_script
   pub size : framed.header.size ≡ length (slice_range pending framed.start framed.end)
@@ -64,15 +64,15 @@ pub record IsAnswered (old new : State) (header : Header) (body text : List ℕ)
 
 -- no frame begins here
 abbrev pub BeginsNone : ℕ → List ℕ → Type 0
-BeginsNone offset bytes = (f : Frame) (rest : List ℕ) → Begins offset bytes f rest → ⊥
+BeginsNone offset bytes = (f : Frame) (rest : List ℕ) → BeginsFrame offset bytes f rest → ⊥
 
-module _ (before after : Ends) (old : Replaying) where
+module _ (before after : SourceAndSink) (old : Replaying) where
   -- a frame was taken and answered
   pub record Answers (new : Replaying) : Type 0 where
     pub frame : Frame
     pub taken : List ℕ
-    pub takes : Takes before.left after.left old.pending taken
-    pub begins : Begins old.offset taken frame new.pending
+    pub takes : GrowsFromSource before.left after.left old.pending taken
+    pub begins : BeginsFrame old.offset taken frame new.pending
     pub means : Means frame.body frame.meaning
     pub state : new.state ≡ (step_frame old.state frame).0
     pub offset : new.offset ≡ old.offset + length (frame_text frame)
@@ -80,21 +80,21 @@ module _ (before after : Ends) (old : Replaying) where
 
   -- nothing was pending, and the source is at its end
   pub record IsOver : Type 0 where
-    pub takes : Takes before.left after.left old.pending []
+    pub takes : GrowsFromSource before.left after.left old.pending []
     pub end : IsAtEnd after.left
     pub kept : Keeps before.held after.held
 
   -- no frame begins, whatever the source has left
   pub record IsFaulty : Type 0 where
     pub taken : List ℕ
-    pub takes : Takes before.left after.left old.pending taken
+    pub takes : GrowsFromSource before.left after.left old.pending taken
     pub fault : IfSome after.left (λ rest. (taken ++ rest ≢ []) × BeginsNone old.offset (taken ++ rest))
     pub kept : Keeps before.held after.held
 
   -- a read failed that was due
   pub record IsUnread : Type 0 where
     pub taken : List ℕ
-    pub takes : Takes before.left after.left old.pending taken
+    pub takes : GrowsFromSource before.left after.left old.pending taken
     pub awaited : IsAwaited old.offset taken
     pub kept : Keeps before.held after.held
     pub cause : ReadFailed before after
@@ -104,17 +104,17 @@ module _ (before after : Ends) (old : Replaying) where
     pub frame : Frame
     pub taken : List ℕ
     pub rest : List ℕ
-    pub takes : Takes before.left after.left old.pending taken
-    pub begins : Begins old.offset taken frame rest
+    pub takes : GrowsFromSource before.left after.left old.pending taken
+    pub begins : BeginsFrame old.offset taken frame rest
     pub means : Means frame.body frame.meaning
     pub wrote : AppendsPrefix before.held after.held (step_frame old.state frame).1
     pub cause : WriteFailed before after
 
 -- what a turn did; a fault leaves the offset of the frame
-abbrev pub Turns : Result Turn ReplayError → (before after : Ends) → (old new : Replaying) → Type 0
-Turns (Ok Answered) before after old new = Answers before after old new
-Turns (Ok Ended) before after old new = IsOver before after old
-Turns (Err FrameFault) before after old new = IsFaulty before after old × (new.offset ≡ old.offset)
-Turns (Err ReadFault) before after old new = IsUnread before after old
-Turns (Err WriteFault) before after old new = IsUnwritten before after old
-Turns (Err NoMemory) before after old new = Keeps before.held after.held
+abbrev pub IsReplayTurn : Result Turn ReplayError → (before after : SourceAndSink) → (old new : Replaying) → Type 0
+IsReplayTurn (Ok Answered) before after old new = Answers before after old new
+IsReplayTurn (Ok Ended) before after old new = IsOver before after old
+IsReplayTurn (Err FrameFault) before after old new = IsFaulty before after old × (new.offset ≡ old.offset)
+IsReplayTurn (Err ReadFault) before after old new = IsUnread before after old
+IsReplayTurn (Err WriteFault) before after old new = IsUnwritten before after old
+IsReplayTurn (Err NoMemory) before after old new = Keeps before.held after.held

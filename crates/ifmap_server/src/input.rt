@@ -3,8 +3,8 @@ ghost use Rattle.std.specs.Prelude.{◌≡◌, ◌≢◌, ◌+◌, ◌<◌, ◌�
 ghost use Rattle.std.specs.Bool.{OnFalse, OnTrue};
 ghost use Rattle.std.specs.Io.KnownBytes.{IsAtEnd};
 ghost use Rattle.ifmap_io.specs.Causes.{Rose};
-ghost use Rattle.ifmap_server.specs.Awaited.{AwaitsLine, HasNoLine};
-ghost use Rattle.ifmap_server.specs.Pending.{IsLineEnd, Takes};
+ghost use Rattle.ifmap_server.specs.Awaited.{AwaitsHeaderLine, HasNoLine};
+ghost use Rattle.ifmap_server.specs.Pending.{IsHeaderLineEnd, GrowsFromSource};
 
 use crate::errors::ReplayError;
 use crate::headers::LONGEST_HEADER;
@@ -61,7 +61,7 @@ impl Input {
 
     /// Takes more from the source; false at its end.
     pub fn fill<S: Source>(&mut self, source: &mut S) -> Result<bool, ReplayError>
-        ensures taken { OnOk result (Takes (S.left source.old) (S.left source.new) self.old
+        ensures taken { OnOk result (GrowsFromSource (S.left source.old) (S.left source.new) self.old
             self.new) }
         ensures more { IfOk result (λ more. OnTrue more (length self.old < length self.new)) }
         ensures end { IfOk result (λ more.
@@ -69,7 +69,7 @@ impl Input {
         ensures fault { result ≡ Err ReplayError.ReadFault
             → Rose (S.faults source.old) (S.faults source.new) }
         ensures kept { result ≡ Err ReplayError.ReadFault →
-            Takes (S.left source.old) (S.left source.new) self.old self.new
+            GrowsFromSource (S.left source.old) (S.left source.new) self.old self.new
             × (self.new ≡ self.old) }
         ensures cause { IfErr result (λ e. (e ≡ ReplayError.ReadFault)
             ⊎ (e ≡ ReplayError.NoMemory)) }
@@ -99,15 +99,15 @@ impl Input {
     /// and nothing is pending.
     #[tactic(auto, using(crate::proofs::Taking::takes_nothing, crate::proofs::Taking::takes_more, ifmap_io::specs::Rises::rose_since))]
     pub fn await_line<S: Source>(&mut self, source: &mut S) -> Result<Option<usize>, ReplayError>
-        ensures taken { OnOk result (Takes (S.left source.old) (S.left source.new) self.old
+        ensures taken { OnOk result (GrowsFromSource (S.left source.old) (S.left source.new) self.old
             self.new) }
-        ensures line { IfOk result (λ found. IfSome found (λ place. IsLineEnd self.new place)) }
+        ensures line { IfOk result (λ found. IfSome found (λ place. IsHeaderLineEnd self.new place)) }
         ensures end { result ≡ Ok None → IsAtEnd (S.left source.new) × (self.new ≡ []) }
         ensures fault { result ≡ Err ReplayError.FrameFault →
-            Takes (S.left source.old) (S.left source.new) self.old self.new
+            GrowsFromSource (S.left source.old) (S.left source.new) self.old self.new
             × IfSome (S.left source.new) (λ rest. (self.new ≢ []) × HasNoLine (self.new ++ rest)) }
         ensures read { result ≡ Err ReplayError.ReadFault →
-            Takes (S.left source.old) (S.left source.new) self.old self.new × AwaitsLine self.new }
+            GrowsFromSource (S.left source.old) (S.left source.new) self.old self.new × AwaitsHeaderLine self.new }
         ensures rose { result ≡ Err ReplayError.ReadFault
             → Rose (S.faults source.old) (S.faults source.new) }
         ensures cause { result ≢ Err ReplayError.WriteFault }
@@ -137,13 +137,13 @@ impl Input {
         source: &mut S,
         count: usize,
     ) -> Result<bool, ReplayError>
-        ensures taken { OnOk result (Takes (S.left source.old) (S.left source.new) self.old
+        ensures taken { OnOk result (GrowsFromSource (S.left source.old) (S.left source.new) self.old
             self.new) }
         ensures enough { IfOk result (λ enough. OnTrue enough (count ≤ length self.new)) }
         ensures end { IfOk result (λ enough.
             OnFalse enough (IsAtEnd (S.left source.new) × (length self.new < count))) }
         ensures read { result ≡ Err ReplayError.ReadFault →
-            Takes (S.left source.old) (S.left source.new) self.old self.new
+            GrowsFromSource (S.left source.old) (S.left source.new) self.old self.new
             × (length self.new < count) }
         ensures rose { result ≡ Err ReplayError.ReadFault
             → Rose (S.faults source.old) (S.faults source.new) }
@@ -162,7 +162,7 @@ impl Input {
 
 // The place of the first newline, where it stands where a header's can.
 fn line_end(pending: &[u8]) -> Option<usize>
-    ensures line { IfSome result (λ place. IsLineEnd pending.now place) }
+    ensures line { IfSome result (λ place. IsHeaderLineEnd pending.now place) }
     ensures none { IfNone result (HasNoLine pending.now) }
 {
     let within = pending.len().min(LONGEST_HEADER);

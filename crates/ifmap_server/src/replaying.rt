@@ -6,11 +6,11 @@ ghost use Rattle.ifmap_server.specs.declared.headers.Header.{Header};
 ghost use Rattle.ifmap_server.specs.Awaited.{IsAwaited};
 ghost use Rattle.ifmap_requests.specs.Fit.{IsFitRequest};
 ghost use Rattle.ifmap_server.specs.Output.{AppendsPrefix, fault_line, step_request};
-ghost use Rattle.ifmap_server.specs.Pending.{Takes};
-ghost use Rattle.ifmap_server.specs.Replayed.{Promises};
+ghost use Rattle.ifmap_server.specs.Pending.{GrowsFromSource};
+ghost use Rattle.ifmap_server.specs.Replayed.{ReplayPromises};
 ghost use Rattle.ifmap_server.specs.Script.{longest_script};
-ghost use Rattle.ifmap_server.specs.Ends.{IsLater, ends};
-ghost use Rattle.ifmap_server.specs.Turns.{BeginsNone, IsAnswered, IsFramed, Turns, asking_of, beginning};
+ghost use Rattle.ifmap_server.specs.Ends.{IsLaterMoment, source_and_sink};
+ghost use Rattle.ifmap_server.specs.Turns.{BeginsNone, IsAnswered, IsFramed, IsReplayTurn, asking_of, replay_beginning};
 
 use crate::errors::ReplayError;
 use crate::headers::{Header, header_of};
@@ -48,17 +48,17 @@ pub fn next_frame<S: Source>(
     source: &mut S,
 ) -> Result<Option<TakenFrame>, ReplayError>
     requires { offset ≤ longest_script }
-    ensures taken { OnOk result (Takes (S.left source.old) (S.left source.new) input.old
+    ensures taken { OnOk result (GrowsFromSource (S.left source.old) (S.left source.new) input.old
         input.new) }
     ensures frame { IfOk result (λ found. IfSome found
         (λ framed. IsFramed offset input.new framed)) }
     ensures end { result ≡ Ok None → IsAtEnd (S.left source.new) × (input.new ≡ []) }
     ensures fault { result ≡ Err ReplayError.FrameFault →
-        Takes (S.left source.old) (S.left source.new) input.old input.new
+        GrowsFromSource (S.left source.old) (S.left source.new) input.old input.new
         × IfSome (S.left source.new) (λ rest.
         (input.new ++ rest ≢ []) × BeginsNone offset (input.new ++ rest)) }
     ensures read { result ≡ Err ReplayError.ReadFault →
-        Takes (S.left source.old) (S.left source.new) input.old input.new
+        GrowsFromSource (S.left source.old) (S.left source.new) input.old input.new
         × IsAwaited offset input.new }
     ensures rose { result ≡ Err ReplayError.ReadFault
         → Rose (S.faults source.old) (S.faults source.new) }
@@ -176,7 +176,7 @@ impl Model for Replay {
 impl Replay {
     /// Nothing taken yet, before the opening state.
     pub fn new(alloc: Global) -> Result<Replay, NoMemory>
-        ensures { IfOk result (λ replay. replay ≡ beginning) }
+        ensures { IfOk result (λ replay. replay ≡ replay_beginning) }
     {
         Ok(Replay {
             core: Core::new(alloc, SESSION_SECONDS),
@@ -193,13 +193,13 @@ impl Replay {
         sink: &mut K,
         steps: &mut Steps<L>,
     ) -> Result<Turn, ReplayError>
-        ensures turn { Turns result
-            (ends (S.left source.old) (S.faults source.old) (K.held sink.old) (K.faults sink.old))
-            (ends (S.left source.new) (S.faults source.new) (K.held sink.new) (K.faults sink.new))
+        ensures turn { IsReplayTurn result
+            (source_and_sink (S.left source.old) (S.faults source.old) (K.held sink.old) (K.faults sink.old))
+            (source_and_sink (S.left source.new) (S.faults source.new) (K.held sink.new) (K.faults sink.new))
             self.old self.new }
-        ensures later { IsLater
-            (ends (S.left source.old) (S.faults source.old) (K.held sink.old) (K.faults sink.old))
-            (ends (S.left source.new) (S.faults source.new) (K.held sink.new) (K.faults sink.new)) }
+        ensures later { IsLaterMoment
+            (source_and_sink (S.left source.old) (S.faults source.old) (K.held sink.old) (K.faults sink.old))
+            (source_and_sink (S.left source.new) (S.faults source.new) (K.held sink.new) (K.faults sink.new)) }
     {
         let Some(framed) = next_frame(alloc, &mut self.input, self.offset, source)? else {
             return Ok(Turn::Ended);
@@ -221,10 +221,10 @@ impl Replay {
         sink: &mut K,
         steps: &mut Steps<L>,
     ) -> Result<(), ReplayError>
-        requires { self.old ≡ beginning }
-        ensures { Promises result
-            (ends (S.left source.old) (S.faults source.old) (K.held sink.old) (K.faults sink.old))
-            (ends (S.left source.new) (S.faults source.new) (K.held sink.new) (K.faults sink.new)) }
+        requires { self.old ≡ replay_beginning }
+        ensures { ReplayPromises result
+            (source_and_sink (S.left source.old) (S.faults source.old) (K.held sink.old) (K.faults sink.old))
+            (source_and_sink (S.left source.new) (S.faults source.new) (K.held sink.new) (K.faults sink.new)) }
     {
         bodies_have_one_meaning();
         'frames: loop {

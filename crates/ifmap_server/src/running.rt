@@ -1,7 +1,7 @@
 //! A replay, with its status.
 ghost use Rattle.std.specs.Prelude.{◌≡◌, ◌<◌};
 ghost use Rattle.ifmap_server.specs.Replayed.{Replays};
-ghost use Rattle.ifmap_server.specs.Ends.{ends};
+ghost use Rattle.ifmap_server.specs.Ends.{source_and_sink};
 
 use crate::errors::status_of;
 use crate::laws::scripts_agree;
@@ -24,8 +24,8 @@ use std::sync::ledger::{Blank, Ledger};
 /// output was written. 4 and 5 come only where the object counted a fault.
 pub fn replay<S: Source, K: Sink>(alloc: Global, source: &mut S, sink: &mut K) -> u8
     ensures { Replays result
-        (ends (S.left source.old) (S.faults source.old) (K.held sink.old) (K.faults sink.old))
-        (ends (S.left source.new) (S.faults source.new) (K.held sink.new) (K.faults sink.new)) }
+        (source_and_sink (S.left source.old) (S.faults source.old) (K.held sink.old) (K.faults sink.old))
+        (source_and_sink (S.left source.new) (S.faults source.new) (K.held sink.new) (K.faults sink.new)) }
 {
     replay_from::<S, K, Brand>(alloc, source, sink, Blank::new(1))
 }
@@ -40,8 +40,8 @@ fn replay_from<S: Source, K: Sink, L: Ledger>(
     requires parts { blank.parts ≡ L.parts }
     requires some { 0 < blank.parts }
     ensures { Replays result
-        (ends (S.left source.old) (S.faults source.old) (K.held sink.old) (K.faults sink.old))
-        (ends (S.left source.new) (S.faults source.new) (K.held sink.new) (K.faults sink.new)) }
+        (source_and_sink (S.left source.old) (S.faults source.old) (K.held sink.old) (K.faults sink.old))
+        (source_and_sink (S.left source.new) (S.faults source.new) (K.held sink.new) (K.faults sink.new)) }
 {
     scripts_agree();
     let mut steps: Steps<L> = Steps::from_blank(blank);

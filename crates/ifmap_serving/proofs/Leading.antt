@@ -6,7 +6,7 @@ use Rattle.std.proofs.lemmas.List.{length-map, map-append, take-append-le, take_
 use Rattle.ifmap_io.specs.Doors.{Doorway, Hands, HandsOut, StaysOpen, TakesBack, take_back}
 use Rattle.ifmap_io.specs.Links.{Seen}
 use Rattle.ifmap_serving.specs.Connections.{Connection}
-use Rattle.ifmap_serving.specs.Works.{Leads, PassThrough}
+use Rattle.ifmap_serving.specs.Works.{DoorPassesThrough, PassThrough}
 
 -- of links for which there is room in this order, one more finds room exactly where some is left
 take_full : (n : ℕ) (links : List Seen) (link : Seen) → n - length links ≡ 0 → take n (links ++ link ∷ []) ≡ take n links
@@ -24,7 +24,7 @@ back_by : (f : Doorway) (link : Seen) (full : Bool) → (f.room == 0) ≡ full
 back_by f link full is = rw is refl
 
 -- no connection yet
-pub leads_none : (H : Type 0) (links : Option Doorway) → Leads {H = H} [] links links
+pub leads_none : (H : Type 0) (links : Option Doorway) → DoorPassesThrough {H = H} [] links links
 leads_none H None = refl
 leads_none H (Some door) = record {
   left = refl;
@@ -78,8 +78,8 @@ module _ {H : Type 0} where
 
   -- one more connection, whose link left the door and came back
   pub leads_more : (cs : List (Connection H)) (c : Connection H) (door before between after : Option Doorway)
-      → Leads cs door before → Hands before between (Some c.came) → is_some between ≡ is_some before
-      → TakesBack between after c.back → is_some after ≡ is_some between → Leads (cs ++ c ∷ []) door after
+      → DoorPassesThrough cs door before → Hands before between (Some c.came) → is_some between ≡ is_some before
+      → TakesBack between after c.back → is_some after ≡ is_some between → DoorPassesThrough (cs ++ c ∷ []) door after
   leads_more cs c None None None None w hands told takes still = refl
   leads_more cs c None None None (Some h) w hands told takes still = cc
   leads_more cs c None None (Some f) after w hands told takes still = cc
@@ -91,7 +91,7 @@ module _ {H : Type 0} where
 
 -- the door stayed as it was
 pub leads_on : {H : Type 0} (cs : List (Connection H)) (door before after : Option Doorway)
-    → Leads cs door before → StaysOpen before after → is_some after ≡ is_some before → Leads cs door after
+    → DoorPassesThrough cs door before → StaysOpen before after → is_some after ≡ is_some before → DoorPassesThrough cs door after
 leads_on cs None None None w stays told = refl
 leads_on cs None None (Some e) w stays told = cc
 leads_on cs None (Some d) after w stays told = cc

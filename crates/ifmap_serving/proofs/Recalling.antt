@@ -2,7 +2,7 @@
 use Rattle.std.proofs.Common.{◌≡◌, ℕ, ◌<◌, Some, subst, arith}
 use Rattle.rand_chacha.specs.ChaCha.{ChaCha}
 use Rattle.ifmap_desks.specs.Machines.{CoreView}
-use Rattle.ifmap_dialogue.specs.Desks.{CountsOn, Rises}
+use Rattle.ifmap_dialogue.specs.Desks.{CountsOn, CountRises}
 use Rattle.ifmap_serving.specs.Stands.{ServerHall, WorksBy}
 use Rattle.ifmap_serving.specs.Works.{DoorSeen}
 
@@ -16,5 +16,5 @@ pub turns_are : (before after many : ℕ) → CountsOn (Some before) (Some after
 turns_are before after many (former, was, is) none = let same : before ≡ former = cc was in omega (arith, none, same, is)
 
 -- a count that was 0 has risen
-pub some_spent : (many before after : ℕ) → Rises many before after → before ≡ 0 → 0 < many → 0 < after
+pub some_spent : (many before after : ℕ) → CountRises many before after → before ≡ 0 → 0 < many → 0 < after
 some_spent many before after rises none some = omega (arith, rises.least, none, some)

@@ -7,12 +7,12 @@ use Rattle.ifmap_io.specs.Doors.{Doorway, Hands, StaysOpen, TakesBack}
 use Rattle.ifmap_io.specs.Links.{Seen, wire_link_seen}
 use Rattle.ifmap_http.specs.Wires.{Wired}
 use Rattle.ifmap_dialogue.specs.declared.endings.Ending.{Ending}
-use Rattle.ifmap_dialogue.specs.Desks.{Tells}
+use Rattle.ifmap_dialogue.specs.Desks.{DeskTakesTurns}
 use Rattle.ifmap_dialogue.specs.Dialogue.{Serves}
 use Rattle.ifmap_dialogue.specs.Scenes.{scene}
 use Rattle.ifmap_dialogue.specs.Wires.{wire_seen}
 use Rattle.ifmap_serving.specs.Connections.{Connection, FollowOn, IsServed, ServesLink, Worker}
-use Rattle.ifmap_serving.specs.Works.{DoorSeen, Ends, Works}
+use Rattle.ifmap_serving.specs.Works.{DoorSeen, IsWorkStatus, Works}
 use Rattle.ifmap_serving.proofs.Leading.{leads_more, leads_none, leads_on, none_left}
 use Rattle.ifmap_dialogue.specs.Telling.{tells_more, tells_none}
 
@@ -61,9 +61,9 @@ works_more {H} gives first mid last door now left came back w s o =
     record {
       connections = w.connections ++ c ∷ [];
       served = follow_one_more gives first w.connections c w.served s.served;
-      tells = subst (Tells first.desk last.desk) (sym turns)
+      tells = subst (DeskTakesTurns first.desk last.desk) (sym turns)
           (tells_more first.desk mid.desk last.desk (flat_map (λ (x : Connection H). x.turns) w.connections) s.turns w.tells
-          (subst (Tells mid.desk last.desk) s.served.turns s.served.serves.tells));
+          (subst (DeskTakesTurns mid.desk last.desk) s.served.turns s.served.serves.tells));
       led = leads_more w.connections c door.links now.links o.between left.links w.led o.hands o.told o.takes o.still;
       later = omega (arith, w.later, o.later);
     }
@@ -82,12 +82,12 @@ works_still gives first last door now left w stays told later = record {
 
 -- it had none left
 pub ends_empty : (door left : DoorSeen) (links : Option Doorway) → Hands links left.links None → is_some left.links ≡ is_some links
-    → Ends door left 0
+    → IsWorkStatus door left 0
 ends_empty door left links hands told = inl (refl, none_left links left.links hands told)
 
 -- it failed
 pub ends_failed : {H : Type 0} (gives : ℕ → Type 0) (first last : Worker H) (door now left : DoorSeen)
-    → Works gives first last door now → Rose now.faults left.faults → Ends door left 7
+    → Works gives first last door now → Rose now.faults left.faults → IsWorkStatus door left 7
 ends_failed gives first last door now left w rose = inr (refl, omega (arith, w.later, rose))
 
 -- a connection over a new wire is one over the link that came, and the link that is in the wire afterwards comes back

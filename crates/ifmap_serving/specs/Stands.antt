@@ -15,7 +15,7 @@ use Rattle.ifmap_machine.specs.declared.events.Answer.{Answer}
 use Rattle.ifmap_machine.specs.State.{opening, session_seconds}
 use Rattle.ifmap_serving.specs.declared.stands.Stand.{Stand}
 use Rattle.ifmap_serving.specs.Connections.{Connection, Worker}
-use Rattle.ifmap_serving.specs.Works.{DoorSeen, Ends, Works}
+use Rattle.ifmap_serving.specs.Works.{DoorSeen, IsWorkStatus, Works}
 
 -- the hall of a server
 abbrev pub ServerHall : Type 0
@@ -57,18 +57,18 @@ pub record WorksBy (gives : ℕ → Type 0) (hall : ServerHall) (words : ChaCha)
   pub turns : v.turns ≡ length (flat_map (λ (c : Connection ServerHall). c.turns) works.connections)
   pub spent : 0 < count_by is_spent (flat_map (λ (c : Connection ServerHall). c.turns) works.connections)
       → length v.history.log ≡ 2 ^ 64 - 1
-  pub ends : Ends door left status
+  pub ends : IsWorkStatus door left status
 
 module _ {D G : Type 0} where
   -- the stand has a pass of the hall, which has asked nothing
-  pub record IsReady (hall : ServerHall) (stand : Stand D G) : Type 0 where
+  pub record HasUnusedPass (hall : ServerHall) (stand : Stand D G) : Type 0 where
     pub some : IsSome stand.pass
     pub pass : IfSome stand.pass (λ p. IsOf hall p × OpensServer (view_of p))
 
   -- each stand has its place and such a pass, and is otherwise as it was
   pub record IsReadied (hall : ServerHall) (place : ℕ) (before after : Stand D G) : Type 0 where
     pub place_is : after.place ≡ place
-    pub ready : IsReady hall after
+    pub ready : HasUnusedPass hall after
     pub door : after.door ≡ before.door
     pub gate : after.gate ≡ before.gate
 

@@ -2,7 +2,7 @@
 use Rattle.std.specs.Prelude.{◌≡◌, ℕ, ◌-◌, ◌≤◌, ◌⊎◌, List, [], ◌++◌, Option, None, Some, IfSome, IsNone, flat_map, length, map, take}
 use Rattle.ifmap_io.specs.Causes.{Rose}
 use Rattle.ifmap_io.specs.Doors.{Doorway}
-use Rattle.ifmap_dialogue.specs.Desks.{Tells}
+use Rattle.ifmap_dialogue.specs.Desks.{DeskTakesTurns}
 use Rattle.ifmap_serving.specs.Connections.{Connection, FollowOn, Worker}
 
 -- a door: its links, where they are told, and how often `accept` has failed
@@ -21,20 +21,20 @@ pub record PassThrough {H : Type 0} (connections : List (Connection H)) (door af
   pub room : after.room ≡ door.room - length connections
 
 -- the same of a door that tells; one that tells nothing goes on telling nothing
-abbrev pub Leads : {H : Type 0} → List (Connection H) → Option Doorway → Option Doorway → Type 0
-Leads connections None new = IsNone new
-Leads connections (Some door) None = ⊥
-Leads connections (Some door) (Some after) = PassThrough connections door after
+abbrev pub DoorPassesThrough : {H : Type 0} → List (Connection H) → Option Doorway → Option Doorway → Type 0
+DoorPassesThrough connections None new = IsNone new
+DoorPassesThrough connections (Some door) None = ⊥
+DoorPassesThrough connections (Some door) (Some after) = PassThrough connections door after
 
 -- connections of a door were served one after another: what they asked, in their order, is what the desk was told
 pub record Works {H : Type 0} (gives : ℕ → Type 0) (before after : Worker H) (door left : DoorSeen) : Type 0 where
   pub connections : List (Connection H)
   pub served : FollowOn gives before connections after
-  pub tells : Tells before.desk after.desk (flat_map (λ (c : Connection H). c.turns) connections)
-  pub led : Leads connections door.links left.links
+  pub tells : DeskTakesTurns before.desk after.desk (flat_map (λ (c : Connection H). c.turns) connections)
+  pub led : DoorPassesThrough connections door.links left.links
   pub later : door.faults ≤ left.faults
 
 -- work ended with status 0 where no link was left, and with 7 where `accept` failed
-abbrev pub Ends : DoorSeen → DoorSeen → ℕ → Type 0
-Ends door left status =
+abbrev pub IsWorkStatus : DoorSeen → DoorSeen → ℕ → Type 0
+IsWorkStatus door left status =
     ((status ≡ 0) × IfSome left.links (λ doorway. doorway.left ≡ [])) ⊎ ((status ≡ 7) × Rose door.faults left.faults)

@@ -3,7 +3,7 @@ ghost use Rattle.std.specs.Prelude.{◌≡◌, ◌≢◌, ◌≤◌, ◌<◌, �
 ghost use Rattle.std.specs.List.{list_any};
 ghost use Rattle.ifmap_hall.specs.Passes.{IsOf, view_of};
 ghost use Rattle.ifmap_serving.specs.declared.stands.Stand.{Stand};
-ghost use Rattle.ifmap_serving.specs.Stands.{AreReady, AreServed, AreUnserved, IsReady, OpensServer};
+ghost use Rattle.ifmap_serving.specs.Stands.{AreReady, AreServed, AreUnserved, HasUnusedPass, OpensServer};
 ghost use Rattle.ifmap_serving.specs.Stands.{IsStandServed, ServerHall, WorksBy, status_of, words_at};
 ghost use Rattle.ifmap_serving.specs.Works.{door_seen};
 
@@ -137,7 +137,7 @@ where
     R: Threads + Wait + Sync,
     requires some { 1 ≤ length stands.old }
     requires ready { (i : ℕ) (d : Stand D G) → i < length stands.old
-        → IsReady (X.hall shared.now) (slice_index_or stands.old i d) }
+        → HasUnusedPass (X.hall shared.now) (slice_index_or stands.old i d) }
     ensures { (i : ℕ) (d : Stand D G) → i < length stands.old
         → IsStandServed (C.gives clock.now) (door_seen D.links D.faults) key.now
         (X.hall shared.now) (slice_index_or stands.old i d).place
@@ -149,7 +149,7 @@ where
         stands,
         workers,
         &|_, stand: &mut Stand<D, G>|
-            requires { IsReady (X.hall shared.now) stand.now }
+            requires { HasUnusedPass (X.hall shared.now) stand.now }
             ensures { IsStandServed (C.gives clock.entry.now) (door_seen D.links D.faults)
                 key.entry.now (X.hall shared.entry.now)
                 stand.entry.now.place stand.entry.now stand.exit.now }
@@ -171,7 +171,7 @@ fn serve_stand<R: Wait, D: Door, C: Clock, G: Gate>(
     common: &Common<'_, R, C>,
     stand: &mut Stand<D, G>,
 )
-    requires { IsReady common.now.hall.now stand.old }
+    requires { HasUnusedPass common.now.hall.now stand.old }
     ensures { IsStandServed (C.gives common.now.clock.now) (door_seen D.links D.faults)
         common.now.key.now common.now.hall.now stand.old.place stand.old stand.new }
 {

@@ -2,7 +2,7 @@
 ghost use Rattle.ifmap_dialogue.specs.Desks.{desk_seen};
 ghost use Rattle.ifmap_io.specs.Links.{wire_link_seen};
 ghost use Rattle.ifmap_serving.specs.Connections.{ServesLink, worker};
-ghost use Rattle.ifmap_serving.specs.Works.{Ends, Works, door_seen};
+ghost use Rattle.ifmap_serving.specs.Works.{IsWorkStatus, Works, door_seen};
 
 use ifmap_dialogue::{Desk, Gate, serve_connection};
 use ifmap_http::Wire;
@@ -34,7 +34,7 @@ pub fn work<R: Wait, K: Desk, D: Door, C: Clock, G: Gate>(
         (worker (desk_seen K.said K.turns K.held K.spent K.home K.loan desk.old) words.old)
         (worker (desk_seen K.said K.turns K.held K.spent K.home K.loan desk.new) words.new)
         (door_seen D.links D.faults door.old) (door_seen D.links D.faults door.new) }
-    ensures ends { Ends
+    ensures ends { IsWorkStatus
         (door_seen D.links D.faults door.old) (door_seen D.links D.faults door.new) result }
 {
     for _ in rt.forever() {

@@ -10,12 +10,12 @@ use Rattle.ifmap_search.specs.declared.results.PollItem.{PollItem}
 use Rattle.ifmap_session.specs.declared.holders.Holder.{Holder}
 use Rattle.ifmap_session.specs.declared.rows.SessionRow.{SessionRow}
 use Rattle.ifmap_session.specs.SessionIds.{session_id}
-use Rattle.ifmap_session.specs.Rows.{AreHolders, AreRows, AreStamps, ChangesSeat, AreTied, IsOwn, Rewrites, live_of, spare_in}
+use Rattle.ifmap_session.specs.Rows.{AreHolders, AreRows, AreStamps, ChangesSeat, AreTied, HasOwnSerial, Rewrites, live_of, spare_in}
 use Rattle.ifmap_session.specs.Seats.{Seat}
 use Rattle.ifmap_session.specs.Sessions.{Session, change, session_with_serial, spare_of, with_error, with_item, with_last, without_items, without_name}
 use Rattle.ifmap_session.specs.Stamps.{Restamps, no_stamp}
 use Rattle.ifmap_session.proofs.RowLaws.{changed, empty_row, found, spare_found, spare_other, row_of}
-use Rattle.ifmap_session.specs.laws.TableLaws.{Keeps, renewed_keeps}
+use Rattle.ifmap_session.specs.laws.TableLaws.{KeepsIdAndClient, renewed_keeps}
 use Rattle.ifmap_session.proofs.SessionLaws.{holders_changed, own_at, rows_changed}
 use Rattle.ifmap_session.proofs.StampLaws.{stamped_alike, stamped_push, stamped_set}
 
@@ -49,7 +49,7 @@ pub record Rewritten (counter n : ℕ) (f : Session → Session) (P : Seat → S
 
 -- f changes no more of a session than its queue
 pub record ChangesQueue (f : Session → Session) : Type 0 where
-  pub names : Keeps f
+  pub names : KeepsIdAndClient f
   pub last : (s : Session) → (f s).last ≡ s.last
 
 pub queue_stays : ChangesQueue (λ s. s)
@@ -83,7 +83,7 @@ set_got (z ∷ xs) (suc i) x y e = set_got xs i x y e
 
 module _ {counter : ℕ} {rows : List SessionRow} {holders : List Holder} {width : ℕ} {tree : List ℕ}
     (k : AreTied counter rows holders width tree) (n place : ℕ) (a : Seat) (e : slice_get rows place ≡ Some (row_of n a)) where
-  pub rewritten : (new : List SessionRow) (f : Session → Session) (P : Seat → Seat → Type 0) → Keeps f
+  pub rewritten : (new : List SessionRow) (f : Session → Session) (P : Seat → Seat → Type 0) → KeepsIdAndClient f
       → Rewrites place (ChangesSeat f P) rows new → Rewritten counter n f P rows new holders
   rewritten new f P keeps w =
       let r = w n a e in
@@ -191,5 +191,5 @@ pub some_width : (rows : List SessionRow) (width : ℕ) → length rows ≤ widt
 some_width rows width fits none = omega arith
 
 -- a session that was ready has the serial that its id begins with
-pub begun_own : (n random : ℕ) (y : Seat) → y.session.serial ≡ n → y.session.id ≡ session_id n random → IsOwn n y
+pub begun_own : (n random : ℕ) (y : Seat) → y.session.serial ≡ n → y.session.id ≡ session_id n random → HasOwnSerial n y
 begun_own n random y same id = record { numbered = same; id = (_, id) }

@@ -14,7 +14,7 @@ use Rattle.std.specs.declared.cmp.Ordering.TheVariants.{Less}
 use Rattle.ifmap_lemmas.specs.Filters.{all_filter, all_weaker}
 use Rattle.ifmap_lemmas.specs.Places.{all_got}
 use Rattle.ifmap_session.specs.declared.rows.SessionRow.{SessionRow}
-use Rattle.ifmap_session.specs.Rows.{AreOwn, IsOwn, live_of, row_order, seats_of, spare_in}
+use Rattle.ifmap_session.specs.Rows.{AreOwn, HasOwnSerial, live_of, row_order, seats_of, spare_in}
 use Rattle.ifmap_session.specs.Seats.{Seat}
 use Rattle.ifmap_session.specs.Sessions.{Session, change, session_with_serial, spare_of, without_sessions}
 use Rattle.ifmap_lemmas.specs.Members.{all_last}
@@ -25,7 +25,7 @@ Up rows = IsStrictlySortedBy row_order rows
 
 -- each row's session has its serial, with which its id begins
 abbrev pub Own : List SessionRow → Type 0
-Own rows = AllByRecursion (λ (r : SessionRow). IfSome r.kept (IsOwn r.serial)) rows
+Own rows = AllByRecursion (λ (r : SessionRow). IfSome r.kept (HasOwnSerial r.serial)) rows
 
 -- no row has that serial
 abbrev pub Others : ℕ → List SessionRow → Type 0
@@ -77,11 +77,11 @@ module _ {X : Type 0} (g : Seat → X) where
 
 -- a row with another serial keeps a session with another one
 weaker_own : (serial : ℕ) (P : Seat → Type 0) → ((s : Seat) → s.session.serial ≡ serial → P s) → (kept : Option Seat)
-    → IfSome kept (IsOwn serial) → IfSome kept P
+    → IfSome kept (HasOwnSerial serial) → IfSome kept P
 weaker_own serial P f None own = tt
 weaker_own serial P f (Some s) own = f s own.numbered
 
-differs : (n serial : ℕ) (kept : Option Seat) → IfSome kept (IsOwn serial) → (serial == n) ≡ false
+differs : (n serial : ℕ) (kept : Option Seat) → IfSome kept (HasOwnSerial serial) → (serial == n) ≡ false
     → IfSome kept (λ s. (s.session.serial == n) ≡ false)
 differs n serial kept own e = weaker_own serial (λ s. (s.session.serial == n) ≡ false) (λ s is. rw is e) kept own
 
@@ -110,8 +110,8 @@ none_of n (r ∷ rows) own others =
     ∙ none_of n rows own.1 others.1
 
 module _ (n : ℕ) where
-  own_is : (r : SessionRow) (a : Seat) → IfSome r.kept (IsOwn r.serial) → r ≡ row_of n a → IsOwn n a
-  own_is r a own same = subst (λ (x : SessionRow). IfSome x.kept (IsOwn x.serial)) same own
+  own_is : (r : SessionRow) (a : Seat) → IfSome r.kept (HasOwnSerial r.serial) → r ≡ row_of n a → HasOwnSerial n a
+  own_is r a own same = subst (λ (x : SessionRow). IfSome x.kept (HasOwnSerial x.serial)) same own
 
   pub found : (rows : List SessionRow) (i : ℕ) (a : Seat) → Up rows → Own rows → slice_get rows i ≡ Some (row_of n a)
       → session_with_serial n (live_of rows) ≡ Some a.session
@@ -277,10 +277,10 @@ up_set (x ∷ rows) (suc i) r q up e same = (
 )
 
 pub own_set : (n : ℕ) (rows : List SessionRow) (i : ℕ) (a : Seat) (kept : Option Seat) → AreOwn rows → slice_get rows i ≡ Some (row_of n a)
-    → IfSome kept (IsOwn n) → AreOwn (set rows i (record { serial = n; kept = kept }))
+    → IfSome kept (HasOwnSerial n) → AreOwn (set rows i (record { serial = n; kept = kept }))
 own_set n rows i a kept o e mine = record {
   rising = up_set rows i (row_of n a) (record { serial = n; kept = kept }) o.rising e refl;
-  own = all_set (λ (r : SessionRow). IfSome r.kept (IsOwn r.serial)) rows i (record { serial = n; kept = kept }) o.own mine;
+  own = all_set (λ (r : SessionRow). IfSome r.kept (HasOwnSerial r.serial)) rows i (record { serial = n; kept = kept }) o.own mine;
 }
 
 pub counted_set : (counter n : ℕ) (rows : List SessionRow) (i : ℕ) (a : Seat) (kept : Option Seat)
@@ -299,10 +299,10 @@ up_push counter (x ∷ rows) y up counted above =
 
 pub own_push : (counter : ℕ) (rows : List SessionRow) (y : SessionRow) → AreOwn rows
     → AllByRecursion (λ (r : SessionRow). r.serial ≤ counter) rows
-    → counter < y.serial → IfSome y.kept (IsOwn y.serial) → AreOwn (rows ++ y ∷ [])
+    → counter < y.serial → IfSome y.kept (HasOwnSerial y.serial) → AreOwn (rows ++ y ∷ [])
 own_push counter rows y o counted above mine = record {
   rising = up_push counter rows y o.rising counted above;
-  own = all_last (λ (r : SessionRow). IfSome r.kept (IsOwn r.serial)) rows y o.own mine;
+  own = all_last (λ (r : SessionRow). IfSome r.kept (HasOwnSerial r.serial)) rows y o.own mine;
 }
 
 pub counted_push : (counter : ℕ) (rows : List SessionRow) (y : SessionRow) → AllByRecursion (λ (r : SessionRow). r.serial ≤ counter) rows
@@ -352,7 +352,7 @@ seats_filter (r ∷ rows) = filter_one r r.kept rows (filter (λ (r : SessionRow
 pub own_filter : (rows : List SessionRow) → AreOwn rows → AreOwn (filter (λ (r : SessionRow). is_some r.kept) rows)
 own_filter rows o = record {
   rising = IsStrictlySortedBy-filter row_order (λ (r : SessionRow). is_some r.kept) rows o.rising;
-  own = all_filter (λ (r : SessionRow). IfSome r.kept (IsOwn r.serial)) (λ (r : SessionRow). is_some r.kept) rows o.own;
+  own = all_filter (λ (r : SessionRow). IfSome r.kept (HasOwnSerial r.serial)) (λ (r : SessionRow). is_some r.kept) rows o.own;
 }
 
 pub counted_filter : (counter : ℕ) (rows : List SessionRow) → AllByRecursion (λ (r : SessionRow). r.serial ≤ counter) rows

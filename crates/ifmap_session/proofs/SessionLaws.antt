@@ -21,12 +21,12 @@ use Rattle.std.specs.declared.cmp.Ordering.TheVariants.{Less}
 use Rattle.ifmap_lemmas.specs.Options.{or_none, some_none}
 use Rattle.ifmap_session.specs.declared.holders.Holder.{Holder}
 use Rattle.ifmap_session.specs.declared.rows.SessionRow.{SessionRow}
-use Rattle.ifmap_session.specs.Rows.{AreHolders, AreOwn, AreRows, IsOwn, client_order, holder_of, live_of, row_order, seats_of}
+use Rattle.ifmap_session.specs.Rows.{AreHolders, AreOwn, AreRows, HasOwnSerial, client_order, holder_of, live_of, row_order, seats_of}
 use Rattle.ifmap_session.specs.Places.{IsPlaceFor, IsPlaceOf}
 use Rattle.ifmap_session.specs.Seats.{Seat}
 use Rattle.ifmap_session.specs.SessionIds.{BeginsWithSerial, hyphen}
-use Rattle.ifmap_session.specs.Sessions.{IsLive, Session, change, is_text, most_sessions, session_of_client, session_order, session_with_id, session_with_serial, without_sessions}
-use Rattle.ifmap_session.specs.laws.TableLaws.{Keeps, clients_same, length_same, one_changed, one_numbered}
+use Rattle.ifmap_session.specs.Sessions.{IsLive, Session, change, is_same_text, most_sessions, session_of_client, session_order, session_with_id, session_with_serial, without_sessions}
+use Rattle.ifmap_session.specs.laws.TableLaws.{KeepsIdAndClient, clients_same, length_same, one_changed, one_numbered}
 use Rattle.ifmap_session.specs.laws.TextLaws.{all_found, distinct_filter, distinct_push, find_none, rest_differ, text_is, text_itself}
 use Rattle.ifmap_session.proofs.Halving.{filter_same, find_insert, place_for, placed}
 use Rattle.ifmap_session.proofs.RowLaws.{Own, Up, begun_last, changed, counted_filter, counted_push, counted_set, empty_row, ended, found, own_filter, own_push, own_set, row_of, seats_filter}
@@ -35,15 +35,15 @@ use Rattle.ifmap_lemmas.specs.Finding.{none_passes}
 
 pub holder_placed : (holders : List Holder) (client : List ℕ) (r : Result ℕ ℕ) → IsStrictlySortedBy client_order holders
     → IsSearchInRange r (length holders) → IsBinarySearchResult (λ (h : Holder). slice_cmp nat_cmp h.client client) holders r → IsPlaceOf
-    (λ (h : Holder). is_text h.client client) holders r
+    (λ (h : Holder). is_same_text h.client client) holders r
 holder_placed holders client r up within is =
-    placed Holder (List ℕ) (λ (h : Holder). h.client) (slice_cmp nat_cmp) nat_list_cmp_total is_text
+    placed Holder (List ℕ) (λ (h : Holder). h.client) (slice_cmp nat_cmp) nat_list_cmp_total is_same_text
     (λ a b. sym (is_eq-slice_cmp a b)) holders client r up within is
 
 pub holder_gap : (holders : List Holder) (client : List ℕ) (i : ℕ) → IsStrictlySortedBy client_order holders → i ≤ length holders
     → IsBinarySearchResult (λ (h : Holder). slice_cmp nat_cmp h.client client) holders (Err i) → IsPlaceFor client holders i
 holder_gap holders client i up within is =
-    λ serial. place_for Holder (List ℕ) (λ (h : Holder). h.client) (slice_cmp nat_cmp) nat_list_cmp_total is_text
+    λ serial. place_for Holder (List ℕ) (λ (h : Holder). h.client) (slice_cmp nat_cmp) nat_list_cmp_total is_same_text
     (λ a b. sym (is_eq-slice_cmp a b)) holders i (record { client = client; serial = serial }) up within is
 
 -- the sessions without one serial
@@ -69,8 +69,8 @@ swap_choices true false u v w h = refl
 swap_choices false true u v w h = refl
 swap_choices false false u v w h = refl
 
-not_both : (a b c : List ℕ) → is_text a b ≡ false → is_text a c ≡ true → is_text b c ≡ true → ⊥
-not_both a b c differ one other = both_ways (is_text a b) differ (subst (λ t. is_text a t ≡ true) (sym (text_is b c other)) one)
+not_both : (a b c : List ℕ) → is_same_text a b ≡ false → is_same_text a c ≡ true → is_same_text b c ≡ true → ⊥
+not_both a b c differ one other = both_ways (is_same_text a b) differ (subst (λ t. is_same_text a t ≡ true) (sym (text_is b c other)) one)
 
 map_choice : {A B : Type 0} (f : A → B) (a : Bool) (o : Option A) → option_map f (cond a None o) ≡ cond a None (option_map f o)
 map_choice f true o = refl
@@ -85,18 +85,18 @@ later_stays : (serial : ℕ) (x t : Session) → x.serial ≡ serial → session
 later_stays serial x t hit less = grind (arith, nat_tests)
 
 at_first : (x : Session) (xs : List Session) (c : List ℕ) → AllByRecursion
-    (λ k. is_text x.client k ≡ false) (map (λ (t : Session). t.client) xs)
-    → session_of_client c xs ≡ cond (is_text x.client c) None (session_of_client c (x ∷ xs))
+    (λ k. is_same_text x.client k ≡ false) (map (λ (t : Session). t.client) xs)
+    → session_of_client c xs ≡ cond (is_same_text x.client c) None (session_of_client c (x ∷ xs))
 at_first x xs c differ =
-    elim (cases_Bool (is_text x.client c)) [
-      | inl hit ↦ rw hit (find_none (λ (t : Session). is_text t.client c) xs (rest_differ (λ (t : Session). t.client) x c xs differ hit))
+    elim (cases_Bool (is_same_text x.client c)) [
+      | inl hit ↦ rw hit (find_none (λ (t : Session). is_same_text t.client c) xs (rest_differ (λ (t : Session). t.client) x c xs differ hit))
       | inr miss ↦ rw miss refl
     ]
 
 pub client_after : (live : List Session) (serial : ℕ) (s : Session) (c : List ℕ) → IsStrictlySortedBy session_order live
-    → IsDistinct is_text (map (λ (t : Session). t.client) live) → session_with_serial serial live ≡ Some s
+    → IsDistinct is_same_text (map (λ (t : Session). t.client) live) → session_with_serial serial live ≡ Some s
     → session_of_client c (filter (λ (t : Session). not (t.serial == serial)) live)
-    ≡ cond (is_text s.client c) None (session_of_client c live)
+    ≡ cond (is_same_text s.client c) None (session_of_client c live)
 unfolding IsStrictlySortedBy IsDistinct
 client_after [] serial s c up apart e = cc
 client_after (x ∷ xs) serial s c up apart e =
@@ -106,14 +106,14 @@ client_after (x ∷ xs) serial s c up apart e =
           let kept : filter (λ (t : Session). not (t.serial == serial)) xs ≡ xs =
           filter_all (λ (t : Session). not (t.serial == serial)) xs (all_weaker (λ z. session_order x z ≡ Less)
           (λ t. not (t.serial == serial) ≡ true) (λ t l. later_stays serial x t (eqb-true x.serial serial hit) l) xs up.0) in
-          rw (hit, kept) (subst (λ t. session_of_client c xs ≡ cond (is_text t.client c) None (session_of_client c (x ∷ xs))) same
+          rw (hit, kept) (subst (λ t. session_of_client c xs ≡ cond (is_same_text t.client c) None (session_of_client c (x ∷ xs))) same
           (at_first x xs c apart.0))
       | inr miss ↦
           let there : session_with_serial serial xs ≡ Some s = rw miss at e in
-          let differ : is_text x.client s.client ≡ false = all_map_found (λ (t : Session). t.client) (λ k. is_text x.client k ≡ false)
+          let differ : is_same_text x.client s.client ≡ false = all_map_found (λ (t : Session). t.client) (λ k. is_same_text x.client k ≡ false)
           (λ (t : Session). t.serial == serial) xs s apart.0 there in
           rw (miss, client_after xs serial s c up.1 apart.1 there)
-          (swap_choices (is_text x.client c) (is_text s.client c) (Some x) None (session_of_client c xs)
+          (swap_choices (is_same_text x.client c) (is_same_text s.client c) (Some x) None (session_of_client c xs)
           (not_both x.client s.client c differ))
     ]
 
@@ -126,15 +126,15 @@ once true u w = refl
 once false u w = refl
 
 -- a client's holder after the one of a client went
-pub holder_after : (holders : List Holder) (k c : List ℕ) → holder_of c (filter (λ (h : Holder). not (is_text h.client k)) holders)
-    ≡ cond (is_text k c) None (holder_of c holders)
-holder_after [] k c = no_choice (is_text k c)
+pub holder_after : (holders : List Holder) (k c : List ℕ) → holder_of c (filter (λ (h : Holder). not (is_same_text h.client k)) holders)
+    ≡ cond (is_same_text k c) None (holder_of c holders)
+holder_after [] k c = no_choice (is_same_text k c)
 holder_after (x ∷ xs) k c =
-    elim (cases_Bool (is_text x.client k)) [
-      | inl hit ↦ rw (hit, holder_after xs k c) (subst (λ t. cond (is_text k c) None (holder_of c xs)
-          ≡ cond (is_text k c) None (cond (is_text t c) (Some x) (holder_of c xs))) (sym (text_is x.client k hit))
-          (once (is_text k c) (Some x) (holder_of c xs)))
-      | inr miss ↦ rw (miss, holder_after xs k c) (swap_choices (is_text x.client c) (is_text k c) (Some x) None (holder_of c xs)
+    elim (cases_Bool (is_same_text x.client k)) [
+      | inl hit ↦ rw (hit, holder_after xs k c) (subst (λ t. cond (is_same_text k c) None (holder_of c xs)
+          ≡ cond (is_same_text k c) None (cond (is_same_text t c) (Some x) (holder_of c xs))) (sym (text_is x.client k hit))
+          (once (is_same_text k c) (Some x) (holder_of c xs)))
+      | inr miss ↦ rw (miss, holder_after xs k c) (swap_choices (is_same_text x.client c) (is_same_text k c) (Some x) None (holder_of c xs)
           (not_both x.client k c miss))
     ]
 
@@ -145,17 +145,17 @@ still_there serial c None rest h e held = cc
 still_there serial c (Some t) rest h e held =
     let same : t.serial ≡ serial = cc in
     let other : not (t.serial == serial) ≡ true = all_found (λ (t : Session). not (t.serial == serial) ≡ true)
-    (λ (t : Session). is_text t.client c) rest t h e in
+    (λ (t : Session). is_same_text t.client c) rest t h e in
     both_ways (t.serial == serial) (not-true (t.serial == serial) other) (eq-eqb t.serial serial same)
 
 -- the client whose session ended has none
 pub client_gone : (live : List Session) (serial : ℕ) (s : Session) (c : List ℕ) → IsStrictlySortedBy session_order live
-    → IsDistinct is_text (map (λ (t : Session). t.client) live) → session_with_serial serial live ≡ Some s → option_map
+    → IsDistinct is_same_text (map (λ (t : Session). t.client) live) → session_with_serial serial live ≡ Some s → option_map
     (λ (t : Session). t.serial) (session_of_client c live) ≡ Some serial
     → session_of_client c (filter (λ (t : Session). not (t.serial == serial)) live) ≡ None
 client_gone live serial s c up apart e held =
     let after = client_after live serial s c up apart e in
-    elim (cases_Bool (is_text s.client c)) [
+    elim (cases_Bool (is_same_text s.client c)) [
       | inl hit ↦ rw hit at after
       | inr miss ↦ absurd (still_there serial c (session_of_client c live) (filter
           (λ (t : Session). not (t.serial == serial)) live) (filter_passes
@@ -169,16 +169,16 @@ pub begun_indexed : (y : Session) (live : List Session) (holders : List Holder) 
     (λ (h : Holder). h.serial) (holder_of c (insert holders i (record { client = y.client; serial = y.serial }))) ≡ option_map
     (λ (s : Session). s.serial) (session_of_client c (live ++ y ∷ []))
 begun_indexed y live holders i c none indexed =
-    let no_session : is_text y.client c ≡ true → session_of_client c live ≡ None =
+    let no_session : is_same_text y.client c ≡ true → session_of_client c live ≡ None =
     λ e. subst (λ t. session_of_client t live ≡ None) (text_is y.client c e) none in
-    let no_holder : is_text y.client c ≡ true → holder_of c holders ≡ None =
+    let no_holder : is_same_text y.client c ≡ true → holder_of c holders ≡ None =
     λ e. map_none (λ (h : Holder). h.serial) (holder_of c holders) (indexed c
     ∙ ap (option_map (λ (s : Session). s.serial)) (no_session e)) in
     let entry : holder_of c (insert holders i (record { client = y.client; serial = y.serial }))
-    ≡ cond (is_text y.client c) (Some (record { client = y.client; serial = y.serial })) (holder_of c holders) =
-    find_insert (λ (h : Holder). is_text h.client c) holders i (record { client = y.client; serial = y.serial }) no_holder in
-    let session = find-append (λ (s : Session). is_text s.client c) live (y ∷ []) in
-    elim (cases_Bool (is_text y.client c)) [
+    ≡ cond (is_same_text y.client c) (Some (record { client = y.client; serial = y.serial })) (holder_of c holders) =
+    find_insert (λ (h : Holder). is_same_text h.client c) holders i (record { client = y.client; serial = y.serial }) no_holder in
+    let session = find-append (λ (s : Session). is_same_text s.client c) live (y ∷ []) in
+    elim (cases_Bool (is_same_text y.client c)) [
       | inl hit ↦ rw (entry, session, hit, no_session hit) refl
       | inr miss ↦ rw (entry, session, miss, or_none (session_of_client c live)) (indexed c)
     ]
@@ -190,29 +190,29 @@ choose_serial : (b : Bool) (x y : Session) (o p : Option Session) → x.serial �
 choose_serial true x y o p e h = ap Some e
 choose_serial false x y o p e h = h
 
-pub client_changed : (n : ℕ) (f : Session → Session) → Keeps f → (c : List ℕ) (live : List Session)
+pub client_changed : (n : ℕ) (f : Session → Session) → KeepsIdAndClient f → (c : List ℕ) (live : List Session)
     → option_map (λ (s : Session). s.serial) (session_of_client c (change n f live)) ≡ option_map
     (λ (s : Session). s.serial) (session_of_client c live)
 client_changed n f k c [] = refl
 client_changed n f k c (x ∷ live) =
-    rw (one_changed n f k x) (choose_serial (is_text x.client c) (cond (x.serial == n) (f x) x) x (session_of_client c (change n f live))
+    rw (one_changed n f k x) (choose_serial (is_same_text x.client c) (cond (x.serial == n) (f x) x) x (session_of_client c (change n f live))
     (session_of_client c live) (one_numbered n f k x) (client_changed n f k c live))
 
 -- the session that an id names
 with_serial_none : (live : List Session) (n : ℕ) (id : List ℕ) → AllByRecursion
-    (λ (s : Session). is_text s.id id ≡ true → s.serial ≡ n) live → AllByRecursion (λ (s : Session). (s.serial == n) ≡ false) live
+    (λ (s : Session). is_same_text s.id id ≡ true → s.serial ≡ n) live → AllByRecursion (λ (s : Session). (s.serial == n) ≡ false) live
     → session_with_id id live ≡ None
 with_serial_none [] n id leads none = refl
 with_serial_none (x ∷ xs) n id leads none =
-    rw (false_from_ne_true (is_text x.id id) (λ e. eqb-false x.serial n none.0 (leads.0 e))) (with_serial_none xs n id leads.1 none.1)
+    rw (false_from_ne_true (is_same_text x.id id) (λ e. eqb-false x.serial n none.0 (leads.0 e))) (with_serial_none xs n id leads.1 none.1)
 
-pub id_nowhere : (live : List Session) (n : ℕ) (id : List ℕ) → AllByRecursion (λ (s : Session). is_text s.id id ≡ true → s.serial ≡ n) live
+pub id_nowhere : (live : List Session) (n : ℕ) (id : List ℕ) → AllByRecursion (λ (s : Session). is_same_text s.id id ≡ true → s.serial ≡ n) live
     → session_with_serial n live ≡ None → session_with_id id live ≡ None
 id_nowhere live n id leads e = with_serial_none live n id leads (none_passes (λ (s : Session). s.serial == n) live e)
 
 pub id_at : (live : List Session) (n : ℕ) (id : List ℕ) (s : Session) → IsStrictlySortedBy session_order live → AllByRecursion
-    (λ (t : Session). is_text t.id id ≡ true → t.serial ≡ n) live → session_with_serial n live ≡ Some s
-    → session_with_id id live ≡ cond (is_text s.id id) (Some s) None
+    (λ (t : Session). is_same_text t.id id ≡ true → t.serial ≡ n) live → session_with_serial n live ≡ Some s
+    → session_with_id id live ≡ cond (is_same_text s.id id) (Some s) None
 unfolding IsStrictlySortedBy
 id_at [] n id s up leads e = cc
 id_at (x ∷ xs) n id s up leads e =
@@ -222,17 +222,17 @@ id_at (x ∷ xs) n id s up leads e =
           let none : session_with_id id xs ≡ None = with_serial_none xs n id leads.1 (all_weaker (λ z. session_order x z ≡ Less)
           (λ (t : Session). (t.serial == n) ≡ false) (λ t l. not-true (t.serial == n) (later_stays n x t (eqb-true x.serial n hit) l))
           xs up.0) in
-          rw none (subst (λ t. cond (is_text x.id id) (Some x) None ≡ cond (is_text t.id id) (Some t) None) same refl)
+          rw none (subst (λ t. cond (is_same_text x.id id) (Some x) None ≡ cond (is_same_text t.id id) (Some t) None) same refl)
       | inr miss ↦
           let there : session_with_serial n xs ≡ Some s = rw miss at e in
-          rw (false_from_ne_true (is_text x.id id) (λ h. eqb-false x.serial n miss (leads.0 h))) (id_at xs n id s up.1 leads.1 there)
+          rw (false_from_ne_true (is_same_text x.id id) (λ h. eqb-false x.serial n miss (leads.0 h))) (id_at xs n id s up.1 leads.1 there)
     ]
 
 -- an id that a live session has leads to that session's serial
 pub id_leads : (counter : ℕ) (live : List Session) (id : List ℕ) (r : Option ℕ) → counter < 2 ^ 64 → AllByRecursion
     (λ (s : Session). s.serial ≤ counter) live → AllByRecursion (λ (s : Session). BeginsWithSerial s.serial s.id) live
     → ((n : ℕ) (rest : List ℕ) → n < 2 ^ 64 → id ≡ decimal n ++ hyphen ∷ rest → r ≡ Some n) → AllByRecursion
-    (λ (s : Session). is_text s.id id ≡ true → r ≡ Some s.serial) live
+    (λ (s : Session). is_same_text s.id id ≡ true → r ≡ Some s.serial) live
 id_leads counter [] id r small counted ids f = tt
 id_leads counter (x ∷ xs) id r small counted ids f = (
   (λ e. f x.serial ids.0.0 (omega (arith, counted.0)) (sym (text_is x.id id e) ∙ ids.0.1)),
@@ -240,16 +240,16 @@ id_leads counter (x ∷ xs) id r small counted ids f = (
 )
 
 pub id_of_none : (live : List Session) (id : List ℕ) (r : Option ℕ) → AllByRecursion
-    (λ (s : Session). is_text s.id id ≡ true → r ≡ Some s.serial) live → r ≡ None → session_with_id id live ≡ None
+    (λ (s : Session). is_same_text s.id id ≡ true → r ≡ Some s.serial) live → r ≡ None → session_with_id id live ≡ None
 id_of_none [] id r leads e = refl
 id_of_none (x ∷ xs) id r leads e =
-    rw (false_from_ne_true (is_text x.id id) (λ h. let t = leads.0 h in cc)) (id_of_none xs id r leads.1 e)
+    rw (false_from_ne_true (is_same_text x.id id) (λ h. let t = leads.0 h in cc)) (id_of_none xs id r leads.1 e)
 
 pub leads_to : (n : ℕ) (live : List Session) (id : List ℕ) (r : Option ℕ) → r ≡ Some n → AllByRecursion
-    (λ (s : Session). is_text s.id id ≡ true → r ≡ Some s.serial) live → AllByRecursion
-    (λ (s : Session). is_text s.id id ≡ true → s.serial ≡ n) live
-leads_to n live id r e leads = all_weaker (λ (s : Session). is_text s.id id ≡ true → r ≡ Some s.serial)
-    (λ (s : Session). is_text s.id id ≡ true → s.serial ≡ n) (λ s f h. let t = f h in cc) live leads
+    (λ (s : Session). is_same_text s.id id ≡ true → r ≡ Some s.serial) live → AllByRecursion
+    (λ (s : Session). is_same_text s.id id ≡ true → s.serial ≡ n) live
+leads_to n live id r e leads = all_weaker (λ (s : Session). is_same_text s.id id ≡ true → r ≡ Some s.serial)
+    (λ (s : Session). is_same_text s.id id ≡ true → s.serial ≡ n) (λ s f h. let t = f h in cc) live leads
 
 -- what a search answers where something, or nothing, passes
 pub place_is_ok : {X : Type 0} (test : X → Bool) (xs : List X) (r : Result ℕ ℕ) → IsPlaceOf test xs r → IsSome (find test xs) → IsOk r
@@ -282,7 +282,7 @@ client_live live c serial e = go (session_of_client c live) refl e where
   go None same e = cc
   go (Some s) same e =
       let is : s.serial ≡ serial = cc in
-      found_again (λ (t : Session). is_text t.client c) (λ (t : Session). t.serial == serial) live s same (eq-eqb s.serial serial is)
+      found_again (λ (t : Session). is_same_text t.client c) (λ (t : Session). t.serial == serial) live s same (eq-eqb s.serial serial is)
 
 some_alike : {X Y : Type 0} (f : X → ℕ) (g : Y → ℕ) (o : Option X) (q : Option Y) → option_map f o ≡ option_map g q → IsSome q → IsSome o
 some_alike f g (Some x) q e h = refl
@@ -311,13 +311,13 @@ live_counted counter rows counted own = all_live (λ s. s.serial ≤ counter) ro
       → AllByRecursion (λ (r : SessionRow). IfSome r.kept (λ (s : Seat). s.session.serial ≤ counter)) rows
   both [] c o = tt
   both (r ∷ rows) c o =
-      (if_some r.kept (IsOwn r.serial) (λ s. s.session.serial ≤ counter) (λ s h. rw h.numbered c.0) o.0, both rows c.1 o.1)
+      (if_some r.kept (HasOwnSerial r.serial) (λ s. s.session.serial ≤ counter) (λ s h. rw h.numbered c.0) o.0, both rows c.1 o.1)
 
 pub live_ids : (rows : List SessionRow) → Own rows → AllByRecursion (λ (s : Session). BeginsWithSerial s.serial s.id) (live_of rows)
 live_ids rows own = all_live (λ s. BeginsWithSerial s.serial s.id) rows (all_weaker
-    (λ (r : SessionRow). IfSome r.kept (IsOwn r.serial))
+    (λ (r : SessionRow). IfSome r.kept (HasOwnSerial r.serial))
     (λ (r : SessionRow). IfSome r.kept (λ (s : Seat). BeginsWithSerial s.session.serial s.session.id))
-    (λ r h. if_some r.kept (IsOwn r.serial) (λ s. BeginsWithSerial s.session.serial s.session.id) (λ s k. rw k.numbered k.id) h) rows own)
+    (λ r h. if_some r.kept (HasOwnSerial r.serial) (λ s. BeginsWithSerial s.session.serial s.session.id) (λ s k. rw k.numbered k.id) h) rows own)
 
 pub live_up : (rows : List SessionRow) → Up rows → Own rows → IsStrictlySortedBy session_order (live_of rows)
 unfolding IsStrictlySortedBy
@@ -327,18 +327,18 @@ live_up (r ∷ rows) up own = one r.kept own.0 (live_up rows up.1 own.1) where
       → AllByRecursion (λ (z : SessionRow). IfSome z.kept (λ (t : Seat). session_order s.session t.session ≡ Less)) rows
   above s e [] all own = tt
   above s e (z ∷ rows) all own = (
-    if_some z.kept (IsOwn z.serial) (λ t. session_order s.session t.session ≡ Less) (λ t h. rw (e, h.numbered) all.0) own.0,
+    if_some z.kept (HasOwnSerial z.serial) (λ t. session_order s.session t.session ≡ Less) (λ t h. rw (e, h.numbered) all.0) own.0,
     above s e rows all.1 own.1,
   )
 
-  one : (o : Option Seat) → IfSome o (IsOwn r.serial) → IsStrictlySortedBy session_order (live_of rows)
+  one : (o : Option Seat) → IfSome o (HasOwnSerial r.serial) → IsStrictlySortedBy session_order (live_of rows)
       → IsStrictlySortedBy session_order (map (λ (s : Seat). s.session) (option_to_list o ++ seats_of rows))
   one None h rest = rest
   one (Some s) h rest = (all_live (λ t. session_order s.session t ≡ Less) rows (above s h.numbered rows up.0 own.1), rest)
 
 -- rows and holders, as they are kept
-pub rows_changed : (counter n : ℕ) (f : Session → Session) (rows : List SessionRow) (i : ℕ) (a b : Seat) → Keeps f → AreRows counter rows
-    → slice_get rows i ≡ Some (row_of n a) → IsOwn n a → b.session ≡ f a.session → AreRows counter (set rows i (row_of n b))
+pub rows_changed : (counter n : ℕ) (f : Session → Session) (rows : List SessionRow) (i : ℕ) (a b : Seat) → KeepsIdAndClient f → AreRows counter rows
+    → slice_get rows i ≡ Some (row_of n a) → HasOwnSerial n a → b.session ≡ f a.session → AreRows counter (set rows i (row_of n b))
 rows_changed counter n f rows i a b k kept e own is =
     let live : live_of (set rows i (row_of n b)) ≡ change n f (live_of rows) =
     changed n f rows i a b kept.own.rising kept.own.own e is in
@@ -353,7 +353,7 @@ rows_changed counter n f rows i a b k kept e own is =
       few = rw (live, length_same n f (live_of rows)) kept.few;
     }
 
-pub holders_changed : (n : ℕ) (f : Session → Session) (rows : List SessionRow) (holders : List Holder) (i : ℕ) (a b : Seat) → Keeps f
+pub holders_changed : (n : ℕ) (f : Session → Session) (rows : List SessionRow) (holders : List Holder) (i : ℕ) (a b : Seat) → KeepsIdAndClient f
     → AreOwn rows
     → AreHolders rows holders → slice_get rows i ≡ Some (row_of n a) → b.session ≡ f a.session
     → AreHolders (set rows i (row_of n b)) holders
@@ -379,10 +379,10 @@ rows_ended counter n rows i a kept e =
       few = let less = filter_shorter (λ (t : Session). not (t.serial == n)) (live_of rows) in let few = kept.few in rw live (omega arith);
     }
 
-pub own_at : (n : ℕ) (rows : List SessionRow) (i : ℕ) (a : Seat) → Own rows → slice_get rows i ≡ Some (row_of n a) → IsOwn n a
+pub own_at : (n : ℕ) (rows : List SessionRow) (i : ℕ) (a : Seat) → Own rows → slice_get rows i ≡ Some (row_of n a) → HasOwnSerial n a
 own_at n [] i a own e = cc
 own_at n (r ∷ rows) zero a own e =
-    let same : r ≡ row_of n a = cc in subst (λ (x : SessionRow). IfSome x.kept (IsOwn x.serial)) same own.0
+    let same : r ≡ row_of n a = cc in subst (λ (x : SessionRow). IfSome x.kept (HasOwnSerial x.serial)) same own.0
 own_at n (r ∷ rows) (suc i) a own e = own_at n rows i a own.1 e
 
 count_less : (n : ℕ) (live : List Session) (s : Session) → IsStrictlySortedBy session_order live → session_with_serial n live ≡ Some s
@@ -407,25 +407,25 @@ holder_less k (x ∷ holders) zero less = refl
 holder_less k (x ∷ holders) (suc j) less = ap (λ m. suc m) (holder_less k holders j (omega arith))
 
 pub holders_ended : (n : ℕ) (rows : List SessionRow) (holders holders2 : List Holder) (i : ℕ) (a : Seat) (q : Result ℕ ℕ) (j : ℕ)
-    → IsDistinct is_text (map (λ (t : Session). t.client) (live_of rows)) → AreOwn rows → AreHolders rows holders
-    → slice_get rows i ≡ Some (row_of n a) → IsPlaceOf (λ (h : Holder). is_text h.client a.session.client) holders q → q ≡ Ok j
+    → IsDistinct is_same_text (map (λ (t : Session). t.client) (live_of rows)) → AreOwn rows → AreHolders rows holders
+    → slice_get rows i ≡ Some (row_of n a) → IsPlaceOf (λ (h : Holder). is_same_text h.client a.session.client) holders q → q ≡ Ok j
     → holders2 ≡ remove holders j → AreHolders (set rows i (empty_row n)) holders2
 holders_ended n rows holders holders2 i a q j apart own h e place is rest =
     let up = live_up rows own.rising own.own in
     let there : session_with_serial n (live_of rows) ≡ Some a.session = found n rows i a own.rising own.own e in
     let live : live_of (set rows i (empty_row n)) ≡ filter (λ (t : Session). not (t.serial == n)) (live_of rows) =
     ended n rows i a own.rising own.own e ∙ sym (without_one n (live_of rows)) in
-    let at = subst (IsPlaceOf (λ (x : Holder). is_text x.client a.session.client) holders) is place in
-    let left : holders2 ≡ filter (λ (x : Holder). not (is_text x.client a.session.client)) holders = rest ∙ at.2 in
+    let at = subst (IsPlaceOf (λ (x : Holder). is_same_text x.client a.session.client) holders) is place in
+    let left : holders2 ≡ filter (λ (x : Holder). not (is_same_text x.client a.session.client)) holders = rest ∙ at.2 in
     record {
       ordered = rw left
-          (IsStrictlySortedBy-filter client_order (λ (x : Holder). not (is_text x.client a.session.client)) holders h.ordered);
+          (IsStrictlySortedBy-filter client_order (λ (x : Holder). not (is_same_text x.client a.session.client)) holders h.ordered);
       indexed = λ c.
           rw (left, live)
           (ap (option_map (λ (x : Holder). x.serial)) (holder_after holders a.session.client c)
-          ∙ map_choice (λ (x : Holder). x.serial) (is_text a.session.client c) (holder_of c holders)
-          ∙ ap (λ o. cond (is_text a.session.client c) None o) (h.indexed c)
-          ∙ sym (map_choice (λ (t : Session). t.serial) (is_text a.session.client c) (session_of_client c (live_of rows)))
+          ∙ map_choice (λ (x : Holder). x.serial) (is_same_text a.session.client c) (holder_of c holders)
+          ∙ ap (λ o. cond (is_same_text a.session.client c) None o) (h.indexed c)
+          ∙ sym (map_choice (λ (t : Session). t.serial) (is_same_text a.session.client c) (session_of_client c (live_of rows)))
           ∙ sym (ap (option_map (λ (t : Session). t.serial)) (client_after (live_of rows) n a.session c up apart there)));
       counts =
           let one : suc (length holders2) ≡ length holders =
@@ -437,7 +437,7 @@ holders_ended n rows holders holders2 i a q j apart own h e place is rest =
     }
 
 pub rows_begun : (counter : ℕ) (rows : List SessionRow) (y : Seat) → AreRows counter rows → counter < 2 ^ 64 - 1
-    → session_of_client y.session.client (live_of rows) ≡ None → length (live_of rows) < most_sessions → IsOwn (counter + 1) y
+    → session_of_client y.session.client (live_of rows) ≡ None → length (live_of rows) < most_sessions → HasOwnSerial (counter + 1) y
     → AreRows (counter + 1) (rows ++ row_of (counter + 1) y ∷ [])
 rows_begun counter rows y kept small none few own =
     let live = begun_last rows (counter + 1) y in
@@ -467,12 +467,12 @@ pushed_length (z ∷ xs) x = ap (λ m. suc m) (pushed_length xs x)
 pub holders_begun : (n : ℕ) (rows : List SessionRow) (holders holders2 : List Holder) (y : Seat) (j : ℕ) (r : Result ℕ ℕ)
     → AreHolders rows holders
     → session_of_client y.session.client (live_of rows) ≡ None → y.session.serial ≡ n
-    → IsPlaceOf (λ (h : Holder). is_text h.client y.session.client) holders r → IfErr r (IsPlaceFor y.session.client holders) → r ≡ Err j
+    → IsPlaceOf (λ (h : Holder). is_same_text h.client y.session.client) holders r → IfErr r (IsPlaceFor y.session.client holders) → r ≡ Err j
     → holders2 ≡ insert holders j (record { client = y.session.client; serial = n })
     → AreHolders (rows ++ row_of n y ∷ []) holders2
 holders_begun n rows holders holders2 y j r h none same place gap is entry =
     let live = begun_last rows n y in
-    let at = subst (IsPlaceOf (λ (x : Holder). is_text x.client y.session.client) holders) is place in
+    let at = subst (IsPlaceOf (λ (x : Holder). is_same_text x.client y.session.client) holders) is place in
     let open_at = subst (λ t. IfErr t (IsPlaceFor y.session.client holders)) is gap in
     record {
       ordered = rw entry (open_at n);
@@ -520,5 +520,5 @@ pub holder_is_there : (n : ℕ) (rows : List SessionRow) (holders : List Holder)
 holder_is_there n rows holders i a own h e =
     some_alike (λ (x : Holder). x.serial) (λ (t : Session). t.serial) (holder_of a.session.client holders)
     (session_of_client a.session.client (live_of rows)) (h.indexed a.session.client)
-    (found_again (λ (t : Session). t.serial == n) (λ (t : Session). is_text t.client a.session.client) (live_of rows) a.session
+    (found_again (λ (t : Session). t.serial == n) (λ (t : Session). is_same_text t.client a.session.client) (live_of rows) a.session
     (found n rows i a own.rising own.own e) (text_itself a.session.client))

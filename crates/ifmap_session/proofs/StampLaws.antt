@@ -9,10 +9,10 @@ use Rattle.std.specs.List.{All, AllByRecursion, filter, list_any, slice_get}
 use Rattle.std.specs.Option.{IfSome, option_map, option_to_list, unwrap_or}
 use Rattle.ifmap_lemmas.specs.Places.{last_there, written_elsewhere, written_there}
 use Rattle.ifmap_session.specs.declared.rows.SessionRow.{SessionRow}
-use Rattle.ifmap_session.specs.Rows.{AreStamps, IsOwn, IsStamped, due_rows, live_of, seats_of, serial_at, stamp_of}
+use Rattle.ifmap_session.specs.Rows.{AreStamps, HasOwnSerial, IsStamped, due_rows, live_of, seats_of, serial_at, stamp_of}
 use Rattle.ifmap_session.specs.Seats.{Seat}
 use Rattle.ifmap_session.specs.Sessions.{Session, expired_serials, is_expired}
-use Rattle.ifmap_session.specs.Stamps.{IsPower, IsTree, Restamps, at, due_nodes, is_any_due, is_due, no_stamp, numbers_from}
+use Rattle.ifmap_session.specs.Stamps.{IsPower, IsTree, Restamps, node_value, due_nodes, is_any_due, is_due, no_stamp, numbers_from}
 use Rattle.ifmap_session.proofs.RowLaws.{Own}
 use Rattle.ifmap_session.proofs.Trees.{root_least, root_there}
 
@@ -29,11 +29,11 @@ stamp_in row = unwrap_or (option_map stamp_of row) no_stamp
 -- rows up to a place are stamped, and no other place has a stamp
 pub record StampedTo (rows : List SessionRow) (width place : ℕ) (tree : List ℕ) : Type 0 where
   pub lesser : IsTree width tree
-  pub before : (p : ℕ) → p < place → p < width → at tree (width + p) ≡ stamp_in (slice_get rows p)
-  pub after : (p : ℕ) → place ≤ p → p < width → at tree (width + p) ≡ no_stamp
+  pub before : (p : ℕ) → p < place → p < width → node_value tree (width + p) ≡ stamp_in (slice_get rows p)
+  pub after : (p : ℕ) → place ≤ p → p < width → node_value tree (width + p) ≡ no_stamp
 
 pub stamps_begin : (rows : List SessionRow) (width : ℕ) (tree : List ℕ) → IsTree width tree
-    → ((node : ℕ) → width ≤ node → node < 2 * width → at tree node ≡ no_stamp) → StampedTo rows width 0 tree
+    → ((node : ℕ) → width ≤ node → node < 2 * width → node_value tree node ≡ no_stamp) → StampedTo rows width 0 tree
 stamps_begin rows width tree t blank = record {
   lesser = t;
   before = λ p low high. absurd (omega arith);
@@ -41,7 +41,7 @@ stamps_begin rows width tree t blank = record {
 }
 
 kept_stamp : (width place stamp p : ℕ) (old new : List ℕ) → Restamps width place stamp old new → p < width → p ≢ place
-    → at new (width + p) ≡ at old (width + p)
+    → node_value new (width + p) ≡ node_value old (width + p)
 kept_stamp width place stamp p old new r less apart =
     elim (r.others (width + p) (omega arith) (omega arith)) [ inl e ↦ absurd (apart (omega arith)) | inr e ↦ e ]
 
@@ -52,7 +52,7 @@ stamps_on rows width place stamp old new s r is = record {
   before = λ p low high. elim (cases_lt p place) [
     | inl less ↦ kept_stamp width place stamp p old new r high (omega arith) ∙ s.before p less high
     | inr here ↦ let e : p ≡ place = omega arith in
-        subst (λ q. at new (width + q) ≡ stamp_in (slice_get rows q)) (sym e) (r.there ∙ is)
+        subst (λ q. node_value new (width + q) ≡ stamp_in (slice_get rows q)) (sym e) (r.there ∙ is)
   ];
   after = λ p low high. kept_stamp width place stamp p old new r high (omega arith) ∙ s.after p (omega arith) high;
 }
@@ -72,11 +72,11 @@ stamped_set rows width i stamp q old new s within r is = λ p high. elim (cases_
   | inr not_less ↦ elim (cases_lt i p) [
     | inl more ↦ other p high (omega arith)
     | inr here ↦ let e : p ≡ i = omega arith in
-        subst (λ k. at new (width + k) ≡ stamp_in (slice_get (set rows i q) k)) (sym e)
+        subst (λ k. node_value new (width + k) ≡ stamp_in (slice_get (set rows i q) k)) (sym e)
         (r.there ∙ is ∙ ap stamp_in (sym (written_there rows i q within)))
   ]
 ] where
-  other : (p : ℕ) → p < width → p ≢ i → at new (width + p) ≡ stamp_in (slice_get (set rows i q) p)
+  other : (p : ℕ) → p < width → p ≢ i → node_value new (width + p) ≡ stamp_in (slice_get (set rows i q) p)
   other p high apart = kept_stamp width i stamp p old new r high apart ∙ s p high ∙ ap stamp_in (sym (written_elsewhere rows i p q apart))
 
 pub stamped_push : (rows : List SessionRow) (width stamp : ℕ) (q : SessionRow) (old new : List ℕ) → IsStamped rows width old
@@ -86,11 +86,11 @@ stamped_push rows width stamp q old new s r is = λ p high. elim (cases_lt p (le
   | inr not_less ↦ elim (cases_lt (length rows) p) [
     | inl more ↦ other p high (omega arith)
     | inr here ↦ let e : p ≡ length rows = omega arith in
-        subst (λ k. at new (width + k) ≡ stamp_in (slice_get (rows ++ q ∷ []) k)) (sym e)
+        subst (λ k. node_value new (width + k) ≡ stamp_in (slice_get (rows ++ q ∷ []) k)) (sym e)
         (r.there ∙ is ∙ ap stamp_in (sym (last_there rows q)))
   ]
 ] where
-  other : (p : ℕ) → p < width → p ≢ length rows → at new (width + p) ≡ stamp_in (slice_get (rows ++ q ∷ []) p)
+  other : (p : ℕ) → p < width → p ≢ length rows → node_value new (width + p) ≡ stamp_in (slice_get (rows ++ q ∷ []) p)
   other p high apart = kept_stamp width (length rows) stamp p old new r high apart ∙ s p high
       ∙ ap stamp_in (sym (get_push_other rows q p apart))
 
@@ -132,21 +132,21 @@ none_yet moment ttl early [] = refl
 none_yet moment ttl early (s ∷ sessions) =
     let e : is_expired moment ttl s ≡ false = grind (arith, nat_tests) in rw (e, none_yet moment ttl early sessions) refl
 
-never_due : (tree : List ℕ) (limit k : ℕ) → limit < no_stamp → at tree k ≡ no_stamp → is_due tree limit k ≡ false
+never_due : (tree : List ℕ) (limit k : ℕ) → limit < no_stamp → node_value tree k ≡ no_stamp → is_due tree limit k ≡ false
 never_due tree limit k low e = grind (arith, nat_tests)
 
-none_due : (tree : List ℕ) (limit base n : ℕ) → limit < no_stamp → ((p : ℕ) → p < n → at tree (base + p) ≡ no_stamp)
+none_due : (tree : List ℕ) (limit base n : ℕ) → limit < no_stamp → ((p : ℕ) → p < n → node_value tree (base + p) ≡ no_stamp)
     → filter (is_due tree limit) (numbers_from base n) ≡ []
 none_due tree limit base zero low blank = refl
 none_due tree limit base (suc n) low blank =
-    let first : at tree base ≡ no_stamp = subst (λ k. at tree k ≡ no_stamp) (omega arith) (blank 0 (omega arith)) in
+    let first : node_value tree base ≡ no_stamp = subst (λ k. node_value tree k ≡ no_stamp) (omega arith) (blank 0 (omega arith)) in
     rw (never_due tree limit base low first) (none_due tree limit (base + 1) n low (λ p less.
-    subst (λ k. at tree k ≡ no_stamp) (omega arith) (blank (suc p) (omega arith))))
+    subst (λ k. node_value tree k ≡ no_stamp) (omega arith) (blank (suc p) (omega arith))))
 
 -- the serials at the nodes that are due are those of the sessions that are
 due_one : (g : ℕ → ℕ) (tree : List ℕ) (limit base : ℕ) (serial : ℕ) (kept : Option Seat) (nodes : List ℕ) (rows : List SessionRow)
-    → limit < no_stamp → IfSome kept (IsOwn serial) → g base ≡ serial
-    → at tree base ≡ stamp_of (record { serial = serial; kept = kept })
+    → limit < no_stamp → IfSome kept (HasOwnSerial serial) → g base ≡ serial
+    → node_value tree base ≡ stamp_of (record { serial = serial; kept = kept })
     → map g (filter (is_due tree limit) nodes) ≡ map (λ (s : Session). s.serial) (filter (λ s. nat_le s.last limit) (live_of rows))
     → map g (filter (is_due tree limit) (base ∷ nodes)) ≡ map (λ (s : Session). s.serial) (filter
     (λ s. nat_le s.last limit) (map (λ (s : Seat). s.session) (option_to_list kept ++ seats_of rows)))
@@ -160,7 +160,7 @@ due_one g tree limit base serial (Some seat) nodes rows low own named stamp rest
 
 due_all : (g : ℕ → ℕ) (tree : List ℕ) (limit base n : ℕ) (rows : List SessionRow) → limit < no_stamp → Own rows → length rows ≤ n
     → ((p : ℕ) (r : SessionRow) → slice_get rows p ≡ Some r → g (base + p) ≡ r.serial)
-    → ((p : ℕ) → p < n → at tree (base + p) ≡ stamp_in (slice_get rows p))
+    → ((p : ℕ) → p < n → node_value tree (base + p) ≡ stamp_in (slice_get rows p))
     → map g (filter (is_due tree limit) (numbers_from base n)) ≡ map (λ (s : Session). s.serial) (filter
     (λ s. nat_le s.last limit) (live_of rows))
 due_all g tree limit base n [] low own fits named stamped =
@@ -169,10 +169,10 @@ due_all g tree limit base zero (r ∷ rows) low own fits named stamped = absurd 
 due_all g tree limit base (suc n) (r ∷ rows) low own fits named stamped =
     due_one g tree limit base r.serial r.kept (numbers_from (base + 1) n) rows low own.0
     (subst (λ k. g k ≡ r.serial) (omega arith) (named 0 r refl))
-    (subst (λ k. at tree k ≡ stamp_of r) (omega arith) (stamped 0 (omega arith)))
+    (subst (λ k. node_value tree k ≡ stamp_of r) (omega arith) (stamped 0 (omega arith)))
     (due_all g tree limit (base + 1) n rows low own.1 (omega arith)
     (λ p q e. subst (λ k. g k ≡ q.serial) (omega arith) (named (suc p) q e))
-    (λ p less. subst (λ k. at tree k ≡ stamp_in (slice_get rows p)) (omega arith) (stamped (suc p) (omega arith))))
+    (λ p less. subst (λ k. node_value tree k ≡ stamp_in (slice_get rows p)) (omega arith) (stamped (suc p) (omega arith))))
 
 pub due_serials : (width : ℕ) (tree : List ℕ) (rows : List SessionRow) (moment ttl limit : ℕ) → limit < no_stamp → limit + ttl ≡ moment
     → Own rows → length rows ≤ width → IsStamped rows width tree
@@ -209,16 +209,16 @@ none_any limit (r ∷ rows) f = one r.kept (f 0 (omega arith)) (none_any limit r
 
 pub root_any : (width : ℕ) (tree : List ℕ) (rows : List SessionRow) (moment ttl limit : ℕ) → limit < no_stamp → limit + ttl ≡ moment
     → IsTree width tree → 1 ≤ width → length rows ≤ width → IsStamped rows width tree
-    → nat_le (at tree 1) limit ≡ list_any (is_expired moment ttl) (live_of rows)
+    → nat_le (node_value tree 1) limit ≡ list_any (is_expired moment ttl) (live_of rows)
 root_any width tree rows moment ttl limit low e t some fits stamped =
-    elim (cases_lt limit (at tree 1)) [
+    elim (cases_lt limit (node_value tree 1)) [
       | inl above ↦
-          let k : nat_le (at tree 1) limit ≡ false = grind (arith, nat_tests) in
+          let k : nat_le (node_value tree 1) limit ≡ false = grind (arith, nat_tests) in
           k ∙ sym (any_by moment ttl limit e (live_of rows) ∙ none_any limit rows (λ p less.
           let least = root_least width tree t (width + p) (omega arith) (omega arith) in
           let is = stamped p (omega arith) in omega arith))
       | inr within ↦
-          let k : nat_le (at tree 1) limit ≡ true = grind (arith, nat_tests) in
+          let k : nat_le (node_value tree 1) limit ≡ true = grind (arith, nat_tests) in
           let there = root_there width tree t some in
           k ∙ sym (any_by moment ttl limit e (live_of rows) ∙ any_at limit rows there.0 low
           (let is = stamped there.0 there.1 in let at_root = there.2 in omega arith))
@@ -244,9 +244,9 @@ all_due width tree rows limit base (suc n) low high small stamped =
           elim (cases_lt (base - width) (length rows)) [
             | inl less ↦ less
             | inr past ↦
-                let is : at tree (width + (base - width)) ≡ stamp_in (slice_get rows (base - width)) =
+                let is : node_value tree (width + (base - width)) ≡ stamp_in (slice_get rows (base - width)) =
                 stamped (base - width) (omega arith) in
-                let none : at tree base ≡ no_stamp = subst (λ k. at tree k ≡ no_stamp) (omega arith) (is ∙ ap stamp_in
+                let none : node_value tree base ≡ no_stamp = subst (λ k. node_value tree k ≡ no_stamp) (omega arith) (is ∙ ap stamp_in
                 (slice_get_past rows (base - width) (omega arith))) in
                 absurd (both_ways (is_due tree limit base) (never_due tree limit base small none) hit)
           ],

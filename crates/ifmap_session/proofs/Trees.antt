@@ -10,7 +10,7 @@ use Rattle.std.proofs.lemmas.Nat.{div-add-mod'}
 use Rattle.std.proofs.lemmas.List.Elements.{All-from_recursion}
 use Rattle.std.specs.List.{All, AllByRecursion}
 use Rattle.ifmap_lemmas.specs.Filters.{all_filter}
-use Rattle.ifmap_session.specs.Stamps.{IsPower, IsTree, Restamps, at, children_of, doubling, due_nodes, is_due, numbers_from}
+use Rattle.ifmap_session.specs.Stamps.{IsPower, IsTree, Restamps, node_value, children_of, doubling, due_nodes, is_due, numbers_from}
 
 -- a number halved so often
 abbrev pub half : ℕ → ℕ → ℕ
@@ -36,7 +36,7 @@ halved node =
 
 -- the node is the lesser of its children
 abbrev pub IsLesser : List ℕ → ℕ → Type 0
-IsLesser tree k = at tree k ≡ min (at tree (2 * k)) (at tree (2 * k + 1))
+IsLesser tree k = node_value tree k ≡ min (node_value tree (2 * k)) (node_value tree (2 * k + 1))
 
 -- where a walk from a place stands
 pub record Walks (width place stamp : ℕ) (old tree : List ℕ) (node : ℕ) : Type 0 where
@@ -44,8 +44,8 @@ pub record Walks (width place stamp : ℕ) (old tree : List ℕ) (node : ℕ) : 
   pub low : 1 ≤ node
   pub high : node < 2 * width
   pub lesser : (k : ℕ) → 1 ≤ k → k < width → IsLesser tree k ⊎ Above k node
-  pub there : at tree (width + place) ≡ stamp
-  pub others : (k : ℕ) → width ≤ k → k < 2 * width → (k ≡ width + place) ⊎ (at tree k ≡ at old k)
+  pub there : node_value tree (width + place) ≡ stamp
+  pub others : (k : ℕ) → width ≤ k → k < 2 * width → (k ≡ width + place) ⊎ (node_value tree k ≡ node_value old k)
 
 pub walk_begins : (width place stamp : ℕ) (old : List ℕ) → IsTree width old → place < width
     → Walks width place stamp old (set old (width + place) stamp) (width + place)
@@ -83,7 +83,7 @@ walk_begins width place stamp old t within = record {
 
 -- one step up
 pub walk_on : (width place stamp : ℕ) (old tree : List ℕ) (node lesser : ℕ) → Walks width place stamp old tree node → 1 < node
-    → lesser ≡ min (at tree (2 * (node / 2))) (at tree (2 * (node / 2) + 1))
+    → lesser ≡ min (node_value tree (2 * (node / 2))) (node_value tree (2 * (node / 2) + 1))
     → Walks width place stamp old (set tree (node / 2) lesser) (node / 2)
 walk_on width place stamp old tree node lesser w more is = record {
   long = length-set tree (node / 2) lesser ∙ w.long;
@@ -169,7 +169,7 @@ walk_ends width place stamp old tree node w end = record {
       let o = sym (half_of_none above.0) ∙ z in omega arith
 
 -- what stands at the root is no greater than what stands anywhere
-least_by : (fuel width : ℕ) (tree : List ℕ) → IsTree width tree → (k : ℕ) → k ≤ fuel → 1 ≤ k → k < 2 * width → at tree 1 ≤ at tree k
+least_by : (fuel width : ℕ) (tree : List ℕ) → IsTree width tree → (k : ℕ) → k ≤ fuel → 1 ≤ k → k < 2 * width → node_value tree 1 ≤ node_value tree k
 least_by zero width tree t k few one less = absurd (omega arith)
 least_by (suc fuel) width tree t k few one less =
     elim (cases_lt 1 k) [
@@ -178,35 +178,35 @@ least_by (suc fuel) width tree t k few one less =
           let p : 1 ≤ k / 2 = elim h.is [ inl e ↦ omega arith | inr e ↦ omega arith ] in
           let q : k / 2 < width = elim h.is [ inl e ↦ omega arith | inr e ↦ omega arith ] in
           let f : k / 2 ≤ fuel = elim h.is [ inl e ↦ omega arith | inr e ↦ omega arith ] in
-          let up : at tree 1 ≤ at tree (k / 2) = least_by fuel width tree t (k / 2) f p (omega arith) in
+          let up : node_value tree 1 ≤ node_value tree (k / 2) = least_by fuel width tree t (k / 2) f p (omega arith) in
           let is = t.lesser (k / 2) p q in
           elim h.is [
-            | inl e ↦ subst (λ j. at tree 1 ≤ at tree j) (sym e) (omega arith)
-            | inr e ↦ subst (λ j. at tree 1 ≤ at tree j) (sym e) (omega arith)
+            | inl e ↦ subst (λ j. node_value tree 1 ≤ node_value tree j) (sym e) (omega arith)
+            | inr e ↦ subst (λ j. node_value tree 1 ≤ node_value tree j) (sym e) (omega arith)
           ]
-      | inr here ↦ let e : k ≡ 1 = omega arith in subst (λ j. at tree 1 ≤ at tree j) (sym e) (omega arith)
+      | inr here ↦ let e : k ≡ 1 = omega arith in subst (λ j. node_value tree 1 ≤ node_value tree j) (sym e) (omega arith)
     ]
 
-pub root_least : (width : ℕ) (tree : List ℕ) → IsTree width tree → (k : ℕ) → 1 ≤ k → k < 2 * width → at tree 1 ≤ at tree k
+pub root_least : (width : ℕ) (tree : List ℕ) → IsTree width tree → (k : ℕ) → 1 ≤ k → k < 2 * width → node_value tree 1 ≤ node_value tree k
 root_least width tree t k one less = least_by k width tree t k (omega arith) one less
 
 -- what stands at a node stands at a place too
 place_by : (fuel width : ℕ) (tree : List ℕ) → IsTree width tree → (k : ℕ) → 2 * width ≤ fuel + k → 1 ≤ k → k < 2 * width
-    → (place : ℕ) × (place < width) × (at tree (width + place) ≡ at tree k)
+    → (place : ℕ) × (place < width) × (node_value tree (width + place) ≡ node_value tree k)
 place_by zero width tree t k few one less = absurd (omega arith)
 place_by (suc fuel) width tree t k few one less =
     elim (cases_lt k width) [
       | inl inner ↦
           let is = t.lesser k one inner in
-          elim (cases_lt (at tree (2 * k)) (at tree (2 * k + 1))) [
+          elim (cases_lt (node_value tree (2 * k)) (node_value tree (2 * k + 1))) [
             | inl l ↦ let p = place_by fuel width tree t (2 * k) (omega arith) (omega arith) (omega arith) in (p.0, p.1, omega arith)
             | inr g ↦ let p = place_by fuel width tree t (2 * k + 1) (omega arith) (omega arith) (omega arith) in (p.0, p.1, omega arith)
           ]
-      | inr outer ↦ (k - width, omega arith, ap (at tree) (omega arith))
+      | inr outer ↦ (k - width, omega arith, ap (node_value tree) (omega arith))
     ]
 
 pub root_there : (width : ℕ) (tree : List ℕ) → IsTree width tree → 1 ≤ width
-    → (place : ℕ) × (place < width) × (at tree (width + place) ≡ at tree 1)
+    → (place : ℕ) × (place < width) × (node_value tree (width + place) ≡ node_value tree 1)
 root_there width tree t some = place_by (2 * width) width tree t 1 (omega arith) (omega arith) (omega arith)
 
 -- levels
@@ -268,7 +268,7 @@ front_two : (p : ℕ → Bool) (a b : ℕ) (xs ys : List ℕ) → filter p xs �
 front_two p a b xs ys e =
     ap (λ zs. cond (p a) (a ∷ cond (p b) (b ∷ zs) zs) (cond (p b) (b ∷ zs) zs)) e
 
-not_due : (tree : List ℕ) (limit x y : ℕ) → is_due tree limit x ≡ false → at tree x ≤ at tree y → is_due tree limit y ≡ false
+not_due : (tree : List ℕ) (limit x y : ℕ) → is_due tree limit x ≡ false → node_value tree x ≤ node_value tree y → is_due tree limit y ≡ false
 not_due tree limit x y e le = grind (arith, nat_tests)
 
 due_below : (tree : List ℕ) (limit : ℕ) (xs : List ℕ) → AllByRecursion (IsLesser tree) xs

@@ -9,8 +9,8 @@ use Rattle.ifmap_session.specs.declared.holders.Holder.{Holder}
 use Rattle.ifmap_session.specs.declared.rows.SessionRow.{SessionRow}
 use Rattle.ifmap_session.specs.Seats.{Seat}
 use Rattle.ifmap_session.specs.SessionIds.{BeginsWithSerial}
-use Rattle.ifmap_session.specs.Sessions.{Session, is_text, most_sessions, session_of_client, session_with_serial}
-use Rattle.ifmap_session.specs.Stamps.{IsPower, IsTree, at, due_nodes, no_stamp, width_bound}
+use Rattle.ifmap_session.specs.Sessions.{Session, is_same_text, most_sessions, session_of_client, session_with_serial}
+use Rattle.ifmap_session.specs.Stamps.{IsPower, IsTree, node_value, due_nodes, no_stamp, width_bound}
 
 -- the sessions of rows: an empty row has none
 abbrev pub seats_of : List SessionRow → List Seat
@@ -34,10 +34,10 @@ client_order = on (λ (h : Holder). h.client) (slice_cmp nat_cmp)
 
 -- the holder of a client
 abbrev pub holder_of : List ℕ → List Holder → Option Holder
-holder_of client holders = find (λ h. is_text h.client client) holders
+holder_of client holders = find (λ h. is_same_text h.client client) holders
 
 -- the session of a row has its serial, with which its id begins
-pub record IsOwn (serial : ℕ) (seat : Seat) : Type 0 where
+pub record HasOwnSerial (serial : ℕ) (seat : Seat) : Type 0 where
   pub numbered : seat.session.serial ≡ serial
   pub id : BeginsWithSerial serial seat.session.id
 
@@ -59,7 +59,7 @@ IsSeatOf serial rows seat = (i : ℕ) × (slice_get rows i ≡ Some (record { se
 -- the serials of rows rise, and the session of each has the row's serial, with which its id begins
 pub record AreOwn (rows : List SessionRow) : Type 0 where
   pub rising : IsStrictlySortedBy row_order rows
-  pub own : AllByRecursion (λ (r : SessionRow). IfSome r.kept (IsOwn r.serial)) rows
+  pub own : AllByRecursion (λ (r : SessionRow). IfSome r.kept (HasOwnSerial r.serial)) rows
 
 -- what holds of the rows between two calls
 pub record AreRows (counter : ℕ) (rows : List SessionRow) : Type 0 where
@@ -68,7 +68,7 @@ pub record AreRows (counter : ℕ) (rows : List SessionRow) : Type 0 where
   pub own : AreOwn rows
   pub counted : AllByRecursion (λ (r : SessionRow). r.serial ≤ counter) rows
   -- a client has one session
-  pub apart : IsDistinct is_text (map (λ (s : Session). s.client) (live_of rows))
+  pub apart : IsDistinct is_same_text (map (λ (s : Session). s.client) (live_of rows))
   pub few : length (live_of rows) ≤ most_sessions
 
 -- what holds of the holders: they are in order, and each leads to its client's session
@@ -81,7 +81,7 @@ pub record AreHolders (rows : List SessionRow) (holders : List Holder) : Type 0 
 -- each row has its stamp, and no other place has one
 abbrev pub IsStamped : List SessionRow → ℕ → List ℕ → Type 0
 IsStamped rows width tree =
-    (place : ℕ) → place < width → at tree (width + place) ≡ unwrap_or (option_map stamp_of (slice_get rows place)) no_stamp
+    (place : ℕ) → place < width → node_value tree (width + place) ≡ unwrap_or (option_map stamp_of (slice_get rows place)) no_stamp
 
 -- what holds of the stamps: each row has its own, and no other place has one
 pub record AreStamps (rows : List SessionRow) (width : ℕ) (tree : List ℕ) : Type 0 where

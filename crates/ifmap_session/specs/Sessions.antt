@@ -27,7 +27,7 @@ pub record Session : Type 0 where
 
 -- the serial that was given last, the live sessions in the order of their serials, for how many more items the queue of each
 -- serial has room, and for how many more sessions there is room
-pub record Table : Type 0 where
+pub record SessionTable : Type 0 where
   pub counter : ℕ
   pub live : List Session
   pub spare : List (ℕ × ℕ)
@@ -44,16 +44,16 @@ abbrev pub most_sessions : ℕ
 most_sessions = 10000
 
 -- whether two texts are one
-abbrev pub is_text : List ℕ → List ℕ → Bool
-is_text = pointwise ◌==◌
+abbrev pub is_same_text : List ℕ → List ℕ → Bool
+is_same_text = pointwise ◌==◌
 
 -- the live session with an id
 abbrev pub session_with_id : List ℕ → List Session → Option Session
-session_with_id id sessions = find (λ s. is_text s.id id) sessions
+session_with_id id sessions = find (λ s. is_same_text s.id id) sessions
 
 -- the live session of a client
 abbrev pub session_of_client : List ℕ → List Session → Option Session
-session_of_client client sessions = find (λ s. is_text s.client client) sessions
+session_of_client client sessions = find (λ s. is_same_text s.client client) sessions
 
 -- the live session with a serial
 abbrev pub session_with_serial : ℕ → List Session → Option Session
@@ -68,7 +68,7 @@ abbrev pub session_order : Session → Session → Ordering
 session_order = on (λ (s : Session). s.serial) nat_cmp
 
 -- what holds of the live sessions at every moment (one session a client: IF-MAP binding for SOAP 2.2, newSession)
-pub record IsTable (table : Table) : Type 0 where
+pub record IsTable (table : SessionTable) : Type 0 where
   -- their serials rise, and none is above the one that was given last
   pub rising : IsStrictlySortedBy session_order table.live
   pub counted : AllByRecursion (λ (s : Session). s.serial ≤ table.counter) table.live
@@ -76,7 +76,7 @@ pub record IsTable (table : Table) : Type 0 where
   -- each id begins with its serial, so that no two are alike
   pub ids : AllByRecursion (λ (s : Session). BeginsWithSerial s.serial s.id) table.live
   -- a client has one session
-  pub apart : IsDistinct is_text (map (λ (s : Session). s.client) table.live)
+  pub apart : IsDistinct is_same_text (map (λ (s : Session). s.client) table.live)
   pub few : length table.live ≤ most_sessions
 
 -- for how many more items the queue of a session has room
@@ -92,28 +92,28 @@ abbrev pub change : ℕ → (Session → Session) → List Session → List Sess
 change serial f sessions = map (λ s. if s.serial == serial then f s else s) sessions
 
 -- one session is changed; the others, the room of their queues and the counter stay, and the room for more is no less
-pub record Changes (serial : ℕ) (f : Session → Session) (old new : Table) : Type 0 where
+pub record Changes (serial : ℕ) (f : Session → Session) (old new : SessionTable) : Type 0 where
   pub live : new.live ≡ change serial f old.live
   pub counter : new.counter ≡ old.counter
   pub others : (other : ℕ) → other ≢ serial → spare_of other new.spare ≡ spare_of other old.spare
   pub room : old.room ≤ new.room
 
 -- only room changes: the sessions, the counter and the room of the other queues stay, and the room for more is no less
-pub record ChangesRoom (serial : ℕ) (old new : Table) : Type 0 where
+pub record ChangesRoom (serial : ℕ) (old new : SessionTable) : Type 0 where
   pub live : new.live ≡ old.live
   pub counter : new.counter ≡ old.counter
   pub others : (other : ℕ) → other ≢ serial → spare_of other new.spare ≡ spare_of other old.spare
   pub room : old.room ≤ new.room
 
 -- the same sessions, room of their queues and counter; the room for more is no less
-pub record IsAsBefore (old new : Table) : Type 0 where
+pub record IsAsBefore (old new : SessionTable) : Type 0 where
   pub live : new.live ≡ old.live
   pub counter : new.counter ≡ old.counter
   pub spare : new.spare ≡ old.spare
   pub room : old.room ≤ new.room
 
 -- the queue of a session has room for one item, once it is empty
-abbrev pub HasRoomForOne : ℕ → Table → Type 0
+abbrev pub HasRoomForOne : ℕ → SessionTable → Type 0
 HasRoomForOne serial table =
     (s : Session) → session_with_serial serial table.live ≡ Some s → 1 ≤ spare_of serial table.spare + length s.queue
 
@@ -140,12 +140,12 @@ without_items s = record s { queue = [] }
 
 -- whether an item tells of the subscription of that name
 abbrev pub is_named : List ℕ → PollItem → Bool
-is_named name (the_item.Search own entries) = is_text own name
-is_named name (the_item.Update own entries) = is_text own name
-is_named name (the_item.Delete own entries) = is_text own name
-is_named name (the_item.Notify own entries) = is_text own name
+is_named name (the_item.Search own entries) = is_same_text own name
+is_named name (the_item.Update own entries) = is_same_text own name
+is_named name (the_item.Delete own entries) = is_same_text own name
+is_named name (the_item.Notify own entries) = is_same_text own name
 is_named name (the_item.Error None code note) = false
-is_named name (the_item.Error (Some own) code note) = is_text own name
+is_named name (the_item.Error (Some own) code note) = is_same_text own name
 
 -- nothing of the subscription of that name is to be told
 abbrev pub without_name : List ℕ → Session → Session

@@ -7,19 +7,19 @@ abbrev pub no_stamp : ℕ
 no_stamp = 2 ^ 64 - 1
 
 -- what stands at a node
-abbrev pub at : List ℕ → ℕ → ℕ
-at tree node = slice_index_or tree node 0
+abbrev pub node_value : List ℕ → ℕ → ℕ
+node_value tree node = slice_index_or tree node 0
 
 -- the second half has a stamp for each place; before it stands at each node from 1 on the lesser of what stands at its two children
 pub record IsTree (width : ℕ) (tree : List ℕ) : Type 0 where
   pub long : length tree ≡ 2 * width
-  pub lesser : (node : ℕ) → 1 ≤ node → node < width → at tree node ≡ min (at tree (2 * node)) (at tree (2 * node + 1))
+  pub lesser : (node : ℕ) → 1 ≤ node → node < width → node_value tree node ≡ min (node_value tree (2 * node)) (node_value tree (2 * node + 1))
 
 -- one place has another stamp
 pub record Restamps (width place stamp : ℕ) (old new : List ℕ) : Type 0 where
   pub tree : IsTree width new
-  pub there : at new (width + place) ≡ stamp
-  pub others : (node : ℕ) → width ≤ node → node < 2 * width → (node ≡ width + place) ⊎ (at new node ≡ at old node)
+  pub there : node_value new (width + place) ≡ stamp
+  pub others : (node : ℕ) → width ≤ node → node < 2 * width → (node ≡ width + place) ⊎ (node_value new node ≡ node_value old node)
 
 -- n numbers, from the first on
 abbrev pub numbers_from : ℕ → ℕ → List ℕ
@@ -28,7 +28,7 @@ numbers_from first (suc n) = first ∷ numbers_from (first + 1) n
 
 -- whether a stamp is no later than the limit
 abbrev pub is_due : List ℕ → ℕ → ℕ → Bool
-is_due tree limit node = nat_le (at tree node) limit
+is_due tree limit node = nat_le (node_value tree node) limit
 
 -- the two children of each node
 abbrev pub children_of : List ℕ → List ℕ

@@ -5,7 +5,7 @@ ghost use Rattle.std.specs.List.{All};
 ghost use Rattle.ifmap_session.specs.Rows.{AreOwn, AreStamps, CanWiden, ChangesSeat, IsRowOf, IsSeatOf, IsStamped, IsTaken, Rewrites, due_rows, live_of, serial_at, stamp_of};
 ghost use Rattle.ifmap_session.specs.Seats.{Seat};
 ghost use Rattle.ifmap_session.specs.Sessions.{IsLive, session_with_serial, with_error, with_item, with_last, without_items, without_name};
-ghost use Rattle.ifmap_session.specs.Stamps.{IsTree, at, no_stamp};
+ghost use Rattle.ifmap_session.specs.Stamps.{IsTree, node_value, no_stamp};
 
 use crate::queues::LiveSession;
 use crate::stamps::{NO_STAMP, due_nodes, next_width, set_stamp};
@@ -196,7 +196,7 @@ fn drop_empty(rows: &mut Vec<SessionRow>)
 fn stamp_rows(stamps: &mut Vec<u64>, width: usize, rows: &[SessionRow])
     requires tree { IsTree width stamps.old.items }
     requires blank { (node : ℕ) → width ≤ node → node < 2 * width
-        → at stamps.old.items node ≡ no_stamp }
+        → node_value stamps.old.items node ≡ no_stamp }
     requires within { length rows.now ≤ width }
     ensures tree { IsTree width stamps.new.items }
     ensures stamped { IsStamped rows.now width stamps.new.items }

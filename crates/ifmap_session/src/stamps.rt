@@ -2,7 +2,7 @@
 //! in the first half stands at each node from 1 on the lesser of what stands at its two children,
 //! so that one stamp is changed by a walk to the root.
 ghost use Rattle.std.specs.Prelude.{◌≡◌, ◌⊎◌, ℕ, ◌+◌, ◌*◌, ◌≤◌, ◌<◌, ◌∷◌, ◌++◌, [], All, IfOk, OnOk, filter, length, min};
-ghost use Rattle.ifmap_session.specs.Stamps.{IsPower, IsTree, Restamps, at, children_of, due_nodes, is_any_due, is_due, width_bound};
+ghost use Rattle.ifmap_session.specs.Stamps.{IsPower, IsTree, Restamps, node_value, children_of, due_nodes, is_any_due, is_due, width_bound};
 ghost use Rattle.ifmap_session.specs.Sessions.{most_sessions};
 
 use std::alloc::{AllocError as NoMemory, Global};
@@ -49,7 +49,7 @@ pub fn set_stamp(tree: &mut Vec<u64>, width: usize, place: usize, stamp: u64)
 // The lesser of what stands at a node's children.
 fn lesser_child(tree: &[u64], node: usize) -> u64
     requires { 2 * node + 1 < length tree.now }
-    ensures { result ≡ min (at tree.now (2 * node)) (at tree.now (2 * node + 1)) }
+    ensures { result ≡ min (node_value tree.now (2 * node)) (node_value tree.now (2 * node + 1)) }
 {
     tree[2 * node].min(tree[2 * node + 1])
 }

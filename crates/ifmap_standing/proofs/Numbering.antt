@@ -7,7 +7,7 @@ use Rattle.std.proofs.lemmas.List.{get_or-map, length-map}
 use Rattle.std.proofs.lemmas.Option.{slice_get-get_or, same_Some, none-some}
 use Rattle.std.specs.List.{Contains}
 use Rattle.ifmap_delta.specs.declared.subscriptions.Subscription.{Subscription}
-use Rattle.ifmap_delta.specs.Sights.{AreMarks, IsKept, Links, Sight, is_terminal_in}
+use Rattle.ifmap_delta.specs.Sights.{AreMarks, IsUpToDate, Links, ViewSeen, is_terminal_in}
 use Rattle.ifmap_delta.specs.Ways.{HasSameSearch}
 use Rattle.ifmap_fresh.specs.Fresh.{fresh_size}
 use Rattle.ifmap_fresh.specs.Linking.{end_where, is_terminal_at}
@@ -16,7 +16,7 @@ use Rattle.ifmap_ident.specs.declared.identifiers.Identifier.{Identifier}
 use Rattle.ifmap_region.specs.Marks.{mark_of}
 use Rattle.ifmap_region.specs.Walks.{HasDepth}
 use Rattle.ifmap_search.specs.declared.searches.Search.{Search}
-use Rattle.ifmap_standing.specs.Ways.{IsSettled, Way}
+use Rattle.ifmap_standing.specs.Ways.{IsWayGivenUp, Way}
 use Rattle.ifmap_view.specs.declared.attachments.Attachment.{Attachment}
 use Rattle.ifmap_view.specs.declared.views.LinkSeen.{LinkSeen}
 use Rattle.ifmap_view.specs.Rows.{stored_linked}
@@ -31,7 +31,7 @@ named rows None y n = absurd (n refl)
 named rows (Some a) None n = absurd (n refl)
 named rows (Some a) (Some b) n = (a, b, refl, refl)
 
-module _ (g : Sight) (s : Search) where
+module _ (g : ViewSeen) (s : Search) where
   abbrev Matches : ℕ → ℕ → Type 0
   Matches v w = one_meets s.match_links (stored_linked (g.id_at v) (g.id_at w) g.rows) ≡ true
 
@@ -72,7 +72,7 @@ depth_to L M T U start top f g v k d = record {
 }
 
 -- a link of one view is one of the other, and walks go on from its beginning alike
-module _ (one other : Sight) (s : Search) (was : IsView one.rows one.id_at one.links)
+module _ (one other : ViewSeen) (s : Search) (was : IsView one.rows one.id_at one.links)
     (is : IsView other.rows other.id_at other.links) (rows : other.rows ≡ one.rows) (links : (v : ℕ) → other.links v ≡ one.links v)
     (ids : (v : ℕ) (a b : Identifier) → one.id_at v ≡ Some a → other.id_at v ≡ Some b → b ≡ a) where
   there : (v w : ℕ) → Links one s v w
@@ -100,10 +100,10 @@ module _ (one other : Sight) (s : Search) (was : IsView one.rows one.id_at one.l
         matches_linked other s is v w (subst (λ xs. one_meets s.match_links xs ≡ true) (sym stored) (linked_matches one s v w l)),
       )
 
-pub kept_elsewhere : (one other : Sight) (sub : Subscription) → IsView one.rows one.id_at one.links
+pub kept_elsewhere : (one other : ViewSeen) (sub : Subscription) → IsView one.rows one.id_at one.links
     → IsView other.rows other.id_at other.links → other.rows ≡ one.rows → ((v : ℕ) → other.links v ≡ one.links v)
     → ((v : ℕ) (a b : Identifier) → one.id_at v ≡ Some a → other.id_at v ≡ Some b → b ≡ a)
-    → other.id_at sub.region.start ≡ Some sub.search.start → IsKept one sub → IsKept other sub
+    → other.id_at sub.region.start ≡ Some sub.search.start → IsUpToDate one sub → IsUpToDate other sub
 kept_elsewhere one other sub was is rows links ids here kept =
     let s = sub.search
     in let f = over one other s was is rows links ids
@@ -128,8 +128,8 @@ kept_elsewhere one other sub was is rows links ids here kept =
       size = kept.size ∙ ap (λ r. fresh_size r s) (sym rows);
     }
 
-pub kept_the_same : (g : Sight) (old new : Subscription) → HasSameSearch old new → new.size ≡ old.size
-    → ((v : ℕ) → mark_of new.region.marks.entries v ≡ mark_of old.region.marks.entries v) → IsKept g old → IsKept g new
+pub kept_the_same : (g : ViewSeen) (old new : Subscription) → HasSameSearch old new → new.size ≡ old.size
+    → ((v : ℕ) → mark_of new.region.marks.entries v ≡ mark_of old.region.marks.entries v) → IsUpToDate g old → IsUpToDate g new
 kept_the_same g old new same size marks kept =
     let old_mark = mark_of old.region.marks.entries
     in let new_mark = mark_of new.region.marks.entries
@@ -147,8 +147,8 @@ kept_the_same g old new same size marks kept =
       size = size ∙ kept.size ∙ ap (fresh_size g.rows) (sym same.search);
     }
 
-pub kept_settled : (g : Sight) (way : Option (Option Way)) (old new : Subscription) → IsSettled way old new → IsKept g old
-    → IsKept g new
-kept_settled g None old new e kept = subst (λ x. IsKept g x) (sym e) kept
-kept_settled g (Some None) old new e kept = subst (λ x. IsKept g x) (sym e) kept
+pub kept_settled : (g : ViewSeen) (way : Option (Option Way)) (old new : Subscription) → IsWayGivenUp way old new → IsUpToDate g old
+    → IsUpToDate g new
+kept_settled g None old new e kept = subst (λ x. IsUpToDate g x) (sym e) kept
+kept_settled g (Some None) old new e kept = subst (λ x. IsUpToDate g x) (sym e) kept
 kept_settled g (Some (Some way)) old new e kept = kept_the_same g old new e.0 e.1 e.2 kept

@@ -8,7 +8,7 @@ use Rattle.std.proofs.lemmas.Option.{slice_get_past, slice_get_read, slice_get_w
 use Rattle.ifmap_delta.specs.declared.subscriptions.Subscription.{Subscription}
 use Rattle.ifmap_lemmas.specs.Places.{last_there, written_elsewhere, written_there}
 use Rattle.ifmap_standing.specs.declared.standing.Standing.{Standing}
-use Rattle.ifmap_standing.specs.Kept.{AtEach, KeepsSame, Stands}
+use Rattle.ifmap_standing.specs.Kept.{AtEach, KeepsSame, StaysRelated}
 use Rattle.ifmap_standing.specs.Ways.{LeadBack, LeadsBackWhere, Way}
 use Rattle.ifmap_standing.specs.PlaceLaws.{at_each_joined, searches_twice, keeps_twice}
 
@@ -41,7 +41,7 @@ stays (Some (Some way)) a b c s t = record {
 }
 
 pub stand_joined : (R S T : Subscription → Subscription → Type 0) → ((x y z : Subscription) → R x y → S y z → T x z)
-    → (x y z : Standing) → Stands R x y → Stands S y z → Stands T x z
+    → (x y z : Standing) → StaysRelated R x y → StaysRelated S y z → StaysRelated T x z
 stand_joined R S T f x y z r s = record {
   serial = s.serial ∙ r.serial;
   name = s.name ∙ r.name;
@@ -49,11 +49,11 @@ stand_joined R S T f x y z r s = record {
 }
 
 pub stay : (before now after : List Standing) (ways : List (Option Way)) → LeadBack before ways now
-    → AtEach (λ _. Stands KeepsSame) now after → LeadBack before ways after
+    → AtEach (λ _. StaysRelated KeepsSame) now after → LeadBack before ways after
 stay before now after ways l k = record {
   long = rw k.long l.long;
-  each = at_each_joined (λ i. Stands (LeadsBackWhere (slice_get ways i))) (λ _. Stands KeepsSame)
-      (λ i. Stands (LeadsBackWhere (slice_get ways i)))
+  each = at_each_joined (λ i. StaysRelated (LeadsBackWhere (slice_get ways i))) (λ _. StaysRelated KeepsSame)
+      (λ i. StaysRelated (LeadsBackWhere (slice_get ways i)))
       (λ i x y z r s. stand_joined (LeadsBackWhere (slice_get ways i)) KeepsSame (LeadsBackWhere (slice_get ways i))
       (stays (slice_get ways i)) x y z r s) before now after l.each k;
 }
@@ -67,7 +67,7 @@ module _ (R : Option (Option Way) → Subscription → Subscription → Type 0) 
     pub these : (i : ℕ) → i < length left → slice_get left i ≡ slice_get ways i
     pub rest : (i : ℕ) → i < length left → slice_get now i ≡ slice_get old i
     pub done : (i : ℕ) (x y : Standing) → length left ≤ i → slice_get old i ≡ Some x → slice_get now i ≡ Some y
-        → Stands (R (slice_get ways i)) x y
+        → StaysRelated (R (slice_get ways i)) x y
 
   pub down_first : length ways ≤ length old → Down ways old
   down_first few = record {
@@ -76,12 +76,12 @@ module _ (R : Option (Option Way) → Subscription → Subscription → Type 0) 
     these = λ i less. refl;
     rest = λ i less. refl;
     done = λ i x y past p q. let e : y ≡ x = same_Some y x (sym q ∙ p) in
-        subst (λ o. Stands (R o) x y) (sym (slice_get_past ways i past))
-        (subst (λ z. Stands (R None) x z) (sym e) (record { serial = refl; name = refl; subscription = stands x.subscription }));
+        subst (λ o. StaysRelated (R o) x y) (sym (slice_get_past ways i past))
+        (subst (λ z. StaysRelated (R None) x z) (sym e) (record { serial = refl; name = refl; subscription = stands x.subscription }));
   }
 
   pub down_next : (left less : List (Option Way)) (now after : List Standing) (way : Option Way) (x y : Standing) → Down left now
-      → left ≡ less ++ way ∷ [] → slice_get now (length less) ≡ Some x → Stands (R (Some way)) x y
+      → left ≡ less ++ way ∷ [] → slice_get now (length less) ≡ Some x → StaysRelated (R (Some way)) x y
       → after ≡ set now (length less) y → Down less after
   down_next left less now after way x y d cut here is so =
       let n = length less
@@ -100,8 +100,8 @@ module _ (R : Option (Option Way) → Subscription → Subscription → Type 0) 
               ∙ ap (slice_get after) e ∙ q)
               in let by : slice_get ways i ≡ Some way = ap (slice_get ways) (sym e) ∙ sym (d.these n (omega (arith, size)))
               ∙ ap (λ l. slice_get l n) cut ∙ last_there less way
-              in subst (λ o. Stands (R o) a b) (sym by) (subst (λ z. Stands (R (Some way)) z b) one
-              (subst (λ z. Stands (R (Some way)) x z) two is))
+              in subst (λ o. StaysRelated (R o) a b) (sym by) (subst (λ z. StaysRelated (R (Some way)) z b) one
+              (subst (λ z. StaysRelated (R (Some way)) x z) two is))
           | inr o ↦ elim o [
             | inl low ↦ d.done i a b (omega (arith, low, size)) p
                 (sym (written_elsewhere now n i y (omega (arith, low))) ∙ ap (λ l. slice_get l i) (sym so) ∙ q)
@@ -110,7 +110,7 @@ module _ (R : Option (Option Way) → Subscription → Subscription → Type 0) 
         ];
       }
 
-  pub down_last : (now : List Standing) → Down [] now → AtEach (λ i. Stands (R (slice_get ways i))) old now
+  pub down_last : (now : List Standing) → Down [] now → AtEach (λ i. StaysRelated (R (slice_get ways i))) old now
   down_last now d = record { long = d.long; at = λ i x y p q. d.done i x y (omega arith) p q }
 
   module _ (left less : List (Option Way)) (now : List Standing) (way : Option Way) (at : ℕ) (x : Standing) (d : Down left now)
@@ -135,7 +135,7 @@ module _ (R : Option (Option Way) → Subscription → Subscription → Type 0) 
         → Down less (set now at (record { serial = (get_or now at x).serial; name = (get_or now at x).name; subscription = sub }))
     down_step sub r =
         let y : Standing = record { serial = (get_or now at x).serial; name = (get_or now at x).name; subscription = sub }
-        in let moved : Stands (R (Some way)) x y = record {
+        in let moved : StaysRelated (R (Some way)) x y = record {
           serial = ap (λ z. z.serial) (sym is);
           name = ap (λ z. z.name) (sym is);
           subscription = subst (λ z. R (Some way) z.subscription sub) (sym is) r;

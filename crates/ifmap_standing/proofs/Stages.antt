@@ -9,8 +9,8 @@ use Rattle.std.proofs.Math.Numerals.{add-one}
 use Rattle.std.proofs.lemmas.Option.{slice_get_past, slice_get_within, same_Some, none-some}
 use Rattle.std.proofs.lemmas.Slice.Zip.{length-zip}
 use Rattle.ifmap_delta.specs.declared.subscriptions.Subscription.{Subscription}
-use Rattle.ifmap_delta.specs.Bounds.{IsNear, links_of}
-use Rattle.ifmap_delta.specs.Sights.{IsKept, Sight}
+use Rattle.ifmap_delta.specs.Bounds.{IsNear, one_and_links}
+use Rattle.ifmap_delta.specs.Sights.{IsUpToDate, ViewSeen}
 use Rattle.ifmap_delta.specs.Ways.{HasSameSearch}
 use Rattle.ifmap_lemmas.specs.Places.{last_there, written_elsewhere, written_there}
 use Rattle.ifmap_machine.specs.State as machine
@@ -19,7 +19,7 @@ use Rattle.ifmap_region.specs.Bounds.{within_nothing}
 use Rattle.ifmap_standing.specs.Bounds.{IsWithinEach, IsWithinWhere}
 use Rattle.ifmap_standing.specs.declared.standing.Standing.{Standing}
 use Rattle.ifmap_standing.specs.declared.telling.News.{News}
-use Rattle.ifmap_standing.specs.Kept.{AtEach, KeepsSame, Stands}
+use Rattle.ifmap_standing.specs.Kept.{AtEach, KeepsSame, StaysRelated}
 use Rattle.ifmap_standing.specs.News.{news_of_each, news_where}
 use Rattle.ifmap_standing.specs.Standing.{standing_of}
 use Rattle.ifmap_standing.specs.Ways.{LeadBack, LeadsBackWhere, Way}
@@ -40,11 +40,11 @@ mapped_there f (y ∷ xs) zero x p = ap (λ z. Some (f z)) (same_Some y x p)
 mapped_there f (y ∷ xs) (suc n) x p = mapped_there f xs n x p
 
 -- steps
-module _ (old new : Sight) where
+module _ (old new : ViewSeen) where
   pub where_none : (skip : Bool) (x : Standing) (steps : ℕ) → IsWithinWhere old new skip x steps steps
   where_none true x steps = omega arith
   where_none false x steps =
-      within_nothing (links_of old new x.subscription.search)
+      within_nothing (one_and_links old new x.subscription.search)
       (IsNear old new x.subscription.search x.subscription.region.start) 10 steps
 
   pub within_none : (ps : List (Bool × Standing)) (steps : ℕ) → IsWithinEach old new ps steps steps
@@ -93,11 +93,11 @@ at_set R S xs now after n x y r here within so is others = record {
 }
 
 pub stands_itself : (R : Subscription → Subscription → Type 0) → ((x : Subscription) → R x x) → (xs : List Standing)
-    → AtEach (λ _. Stands R) xs xs
+    → AtEach (λ _. StaysRelated R) xs xs
 stands_itself R f xs =
-    at_each_same (λ _. Stands R) (λ i x. record { serial = refl; name = refl; subscription = f x.subscription }) xs
+    at_each_same (λ _. StaysRelated R) (λ i x. record { serial = refl; name = refl; subscription = f x.subscription }) xs
 
-module _ (old new : Sight) (notes : List Note) (skipped : List Bool) (xs : List Standing) (begun : ℕ) where
+module _ (old new : ViewSeen) (notes : List Note) (skipped : List Bool) (xs : List Standing) (begun : ℕ) where
   abbrev pub told : Bool × machine.Standing → News
   told p = news_where old.rows new.rows notes p.0 p.1
 
@@ -108,14 +108,14 @@ module _ (old new : Sight) (notes : List Note) (skipped : List Bool) (xs : List 
     pub count : length ways ≡ n
     pub lead : LeadBack xs ways now
     pub rest : (i : ℕ) → n ≤ i → slice_get now i ≡ slice_get xs i
-    pub kept : (i : ℕ) (y : Standing) → i < n → slice_get now i ≡ Some y → slice_get skipped i ≡ Some false → IsKept new y.subscription
+    pub kept : (i : ℕ) (y : Standing) → i < n → slice_get now i ≡ Some y → slice_get skipped i ≡ Some false → IsUpToDate new y.subscription
     pub skips : AtEach (λ i x y. slice_get skipped i ≡ Some true → y ≡ x) xs now
     pub within : IsWithinEach old new (take n (zip skipped xs)) begun steps
 
   pub lead_nowhere : LeadBack xs [] xs
   lead_nowhere = record {
     long = omega arith;
-    each = at_each_same (λ i. Stands (LeadsBackWhere (slice_get [] i)))
+    each = at_each_same (λ i. StaysRelated (LeadsBackWhere (slice_get [] i)))
         (λ i x. record { serial = refl; name = refl; subscription = keeps_itself x.subscription }) xs;
   }
 
@@ -153,18 +153,18 @@ module _ (old new : Sight) (notes : List Note) (skipped : List Bool) (xs : List 
         (within_none old new (drop (n + 1) (zip skipped xs)) more))
 
     -- one fails, and keeps what it kept
-    pub ways_failed : Stands KeepsSame x y → LeadBack xs ways after
+    pub ways_failed : StaysRelated KeepsSame x y → LeadBack xs ways after
     ways_failed same = record {
       long = omega (arith, s.lead.long, ap length so ∙ length-set now n y);
-      each = at_set (λ i. Stands (LeadsBackWhere (slice_get ways i))) (λ i. Stands (LeadsBackWhere (slice_get ways i))) xs now after n x y
+      each = at_set (λ i. StaysRelated (LeadsBackWhere (slice_get ways i))) (λ i. StaysRelated (LeadsBackWhere (slice_get ways i))) xs now after n x y
           s.lead.each before low so
-          (subst (λ o. Stands (LeadsBackWhere o) x y) (sym (slice_get_past ways n (omega (arith, s.count)))) same)
+          (subst (λ o. StaysRelated (LeadsBackWhere o) x y) (sym (slice_get_past ways n (omega (arith, s.count)))) same)
           (λ i a b apart r. r);
     }
 
     module _ (one : News) (way : Option Way) (is : one ≡ news_where old.rows new.rows notes skip (standing_of x))
-        (back : Stands (LeadsBackWhere (Some way)) x y) (stays : skip ≡ true → y ≡ x)
-        (keeps : skip ≡ false → IsKept new y.subscription) where
+        (back : StaysRelated (LeadsBackWhere (Some way)) x y) (stays : skip ≡ true → y ≡ x)
+        (keeps : skip ≡ false → IsUpToDate new y.subscription) where
       news_next : news ++ one ∷ [] ≡ map told (take (n + 1) (zip skipped (map standing_of xs)))
       news_next =
           let list = zip skipped (map standing_of xs)
@@ -188,20 +188,20 @@ module _ (old new : Sight) (notes : List Note) (skipped : List Bool) (xs : List 
           ]
           in record {
             long = omega (arith, low, longer, ap length so ∙ length-set now n y);
-            each = at_set (λ i. Stands (LeadsBackWhere (slice_get ways i))) (λ i. Stands (LeadsBackWhere (slice_get (ways ++ way ∷ []) i)))
+            each = at_set (λ i. StaysRelated (LeadsBackWhere (slice_get ways i))) (λ i. StaysRelated (LeadsBackWhere (slice_get (ways ++ way ∷ []) i)))
                 xs now after n x y s.lead.each before low so
-                (subst (λ o. Stands (LeadsBackWhere o) x y) (sym there) back)
-                (λ i a b apart r. subst (λ o. Stands (LeadsBackWhere o) a b) (sym (same i apart)) r);
+                (subst (λ o. StaysRelated (LeadsBackWhere o) x y) (sym there) back)
+                (λ i a b apart r. subst (λ o. StaysRelated (LeadsBackWhere o) a b) (sym (same i apart)) r);
           }
 
       kept_next : (i : ℕ) (z : Standing) → i < n + 1 → slice_get after i ≡ Some z → slice_get skipped i ≡ Some false
-          → IsKept new z.subscription
+          → IsUpToDate new z.subscription
       kept_next i z less p f = elim (cases_order i n) [
         | inl e ↦
             let at : y ≡ z = same_Some y z (sym (written_there now n y low) ∙ ap (λ l. slice_get l n) (sym so) ∙ ap (slice_get after)
             (sym e) ∙ p)
             in let no : skip ≡ false = same_Some skip false (sym flag ∙ ap (slice_get skipped) (sym e) ∙ f)
-            in subst (λ u. IsKept new u.subscription) at (keeps no)
+            in subst (λ u. IsUpToDate new u.subscription) at (keeps no)
         | inr o ↦ elim o [
           | inl l ↦ s.kept i z l (sym (written_elsewhere now n i y (omega (arith, l))) ∙ ap (λ k. slice_get k i) (sym so) ∙ p) f
           | inr l ↦ absurd (omega (arith, less, l))
@@ -228,7 +228,7 @@ module _ (old new : Sight) (notes : List Note) (skipped : List Bool) (xs : List 
     news_end = s.says ∙ ap (map told) (take_all n (zip skipped (map standing_of xs))
         (omega (arith, past, length-zip skipped (map standing_of xs))))
 
-    pub kept_end : (i : ℕ) (y : Standing) → slice_get now i ≡ Some y → slice_get skipped i ≡ Some false → IsKept new y.subscription
+    pub kept_end : (i : ℕ) (y : Standing) → slice_get now i ≡ Some y → slice_get skipped i ≡ Some false → IsUpToDate new y.subscription
     kept_end i y p f = s.kept i y (omega (arith, past, slice_get_within skipped i false f)) p f
 
     pub steps_all : IsWithinEach old new (zip skipped xs) begun steps
@@ -236,9 +236,9 @@ module _ (old new : Sight) (notes : List Note) (skipped : List Bool) (xs : List 
         (take_all n (zip skipped xs) (omega (arith, past, length-zip skipped xs))) s.within
 
 pub lead_searches : (xs : List Standing) (ways : List (Option Way)) (now : List Standing) → LeadBack xs ways now
-    → AtEach (λ _. Stands HasSameSearch) xs now
+    → AtEach (λ _. StaysRelated HasSameSearch) xs now
 lead_searches xs ways now l =
-    weaker (λ i. Stands (LeadsBackWhere (slice_get ways i))) (λ _. Stands HasSameSearch)
+    weaker (λ i. StaysRelated (LeadsBackWhere (slice_get ways i))) (λ _. StaysRelated HasSameSearch)
     (λ i x y s. record {
       serial = s.serial;
       name = s.name;

@@ -5,7 +5,7 @@ use Rattle.std.specs.Prelude.{is_some, unwrap_or}
 use Rattle.std.proofs.lemmas.Bool.{false≢true}
 use Rattle.ifmap_delta.specs.Changes.{WouldKeep}
 use Rattle.ifmap_delta.specs.declared.subscriptions.Subscription.{Subscription}
-use Rattle.ifmap_delta.specs.Sights.{AreMarks, Links, Sight, is_terminal_in}
+use Rattle.ifmap_delta.specs.Sights.{AreMarks, Links, ViewSeen, is_terminal_in}
 use Rattle.ifmap_delta.specs.Ways.{HasSameSearch}
 use Rattle.ifmap_fresh.specs.Fresh.{fresh_size}
 use Rattle.ifmap_region.specs.Marks.{mark_of, over, row_of}
@@ -29,7 +29,7 @@ room_keeps old new patch search size marks only = record {
   ];
 }
 
-pub would_keep : (g : Sight) (old new : Subscription) (patch : List (ℕ × Option ℕ)) (size : ℕ) → KeepsSame old new
+pub would_keep : (g : ViewSeen) (old new : Subscription) (patch : List (ℕ × Option ℕ)) (size : ℕ) → KeepsSame old new
     → WouldKeep g old patch size → WouldKeep g new patch size
 would_keep g old new patch size k w =
     let old_mark = over patch (mark_of old.region.marks.entries)

@@ -3,7 +3,7 @@ use Rattle.std.proofs.Common.{◌≡◌, ℕ, Option, Some, List, [], ◌∷◌,
 use Rattle.ifmap_delta.specs.declared.subscriptions.Subscription.{Subscription}
 use Rattle.ifmap_lemmas.specs.Places.{present}
 use Rattle.ifmap_standing.specs.declared.standing.Standing.{Standing}
-use Rattle.ifmap_standing.specs.Kept.{AtEach, KeepsSame, Stands}
+use Rattle.ifmap_standing.specs.Kept.{AtEach, KeepsSame, StaysRelated}
 use Rattle.ifmap_standing.specs.Ways.{LeadBack, LeadsBackWhere, Way}
 use Rattle.ifmap_standing.proofs.Places.{Down, stand_joined, there_old, way_there}
 use Rattle.ifmap_standing.specs.PlaceLaws.{at_each_joined}
@@ -12,10 +12,10 @@ use Rattle.ifmap_standing.specs.PlaceLaws.{at_each_joined}
 abbrev pub IsUndone : Option (Option Way) → Subscription → Subscription → Type 0
 IsUndone way now new = (before : Subscription) → LeadsBackWhere way before now → KeepsSame before new
 
-pub undone : (ways : List (Option Way)) (now new before : List Standing) → AtEach (λ i. Stands (IsUndone (slice_get ways i))) now new
-    → LeadBack before ways now → AtEach (λ _. Stands KeepsSame) before new
+pub undone : (ways : List (Option Way)) (now new before : List Standing) → AtEach (λ i. StaysRelated (IsUndone (slice_get ways i))) now new
+    → LeadBack before ways now → AtEach (λ _. StaysRelated KeepsSame) before new
 undone ways now new before u l =
-    at_each_joined (λ i. Stands (LeadsBackWhere (slice_get ways i))) (λ i. Stands (IsUndone (slice_get ways i))) (λ _. Stands KeepsSame)
+    at_each_joined (λ i. StaysRelated (LeadsBackWhere (slice_get ways i))) (λ i. StaysRelated (IsUndone (slice_get ways i))) (λ _. StaysRelated KeepsSame)
     (λ i x y z r s. stand_joined (LeadsBackWhere (slice_get ways i)) (IsUndone (slice_get ways i)) KeepsSame (λ a b c h k. k a h)
     x y z r s) before now new l.each u
 

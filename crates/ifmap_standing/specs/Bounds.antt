@@ -1,10 +1,10 @@
 -- How many steps it takes to tell a change: the sum of what each that is not skipped may take.
 use Rattle.std.specs.Prelude.{◌≤◌, ℕ, Bool, true, false, List, [], ◌∷◌}
 use Rattle.ifmap_delta.specs.Bounds.{IsWithinBound}
-use Rattle.ifmap_delta.specs.Sights.{Sight}
+use Rattle.ifmap_delta.specs.Sights.{ViewSeen}
 use Rattle.ifmap_standing.specs.declared.standing.Standing.{Standing}
 
-module _ (old new : Sight) where
+module _ (old new : ViewSeen) where
   -- the steps rose by at most the bound of one; where it is skipped they did not rise
   abbrev pub IsWithinWhere : Bool → Standing → ℕ → ℕ → Type 0
   IsWithinWhere true x before after = after ≤ before

@@ -11,7 +11,7 @@ pub record AtEach {X : Type 0} (R : ℕ → X → X → Type 0) (old new : List 
   pub at : (i : ℕ) (x y : X) → slice_get old i ≡ Some x → slice_get new i ≡ Some y → R i x y
 
 -- the serial and the name stay, and a relation holds of the subscription before and after
-pub record Stands (R : Subscription → Subscription → Type 0) (old new : Standing) : Type 0 where
+pub record StaysRelated (R : Subscription → Subscription → Type 0) (old new : Standing) : Type 0 where
   pub serial : new.serial ≡ old.serial
   pub name : new.name ≡ old.name
   pub subscription : R old.subscription new.subscription

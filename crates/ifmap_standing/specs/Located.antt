@@ -1,11 +1,11 @@
 -- A change whose plan's items were looked up.
 use Rattle.ifmap_delta.specs.declared.locating.LocatedPlan.{LocatedPlan}
 use Rattle.ifmap_delta.specs.Located.{IsLocatedPlan}
-use Rattle.ifmap_delta.specs.Sights.{Sight}
+use Rattle.ifmap_delta.specs.Sights.{ViewSeen}
 use Rattle.ifmap_view.specs.Views.{IsView}
 
 -- the plan's items are located in two views
-pub record IsLocatedIn (old new : Sight) (p : LocatedPlan) : Type 0 where
+pub record IsLocatedIn (old new : ViewSeen) (p : LocatedPlan) : Type 0 where
   pub graph : IsView old.rows old.id_at old.links
   pub draft : IsView new.rows new.id_at new.links
   pub items : IsLocatedPlan old new p

@@ -1,7 +1,7 @@
 -- Subscriptions place by place.
 use Rattle.std.proofs.Common.{ℕ, List, ◌∙◌, refl, sym, subst, Option, None, Some}
 use Rattle.ifmap_lemmas.specs.Places.{present}
-use Rattle.ifmap_standing.specs.Kept.{AtEach, KeepsSame, Stands}
+use Rattle.ifmap_standing.specs.Kept.{AtEach, KeepsSame, StaysRelated}
 use Rattle.std.proofs.lemmas.Option.{same_Some}
 use Rattle.ifmap_delta.specs.declared.subscriptions.Subscription.{Subscription}
 use Rattle.ifmap_delta.specs.Ways.{HasSameSearch}
@@ -45,30 +45,30 @@ keeps_twice a b c s t = record {
   rows = λ v r. t.rows v (s.rows v r);
 }
 
-pub stands_itself : (R : Subscription → Subscription → Type 0) → ((x : Subscription) → R x x) → (x : Standing) → Stands R x x
+pub stands_itself : (R : Subscription → Subscription → Type 0) → ((x : Subscription) → R x x) → (x : Standing) → StaysRelated R x x
 stands_itself R f x = record { serial = refl; name = refl; subscription = f x.subscription }
 
-pub kept_itself : (a : List Standing) → AtEach (λ _. Stands KeepsSame) a a
-kept_itself a = at_each_same (λ _. Stands KeepsSame) (λ i. stands_itself KeepsSame keeps_itself) a
+pub kept_itself : (a : List Standing) → AtEach (λ _. StaysRelated KeepsSame) a a
+kept_itself a = at_each_same (λ _. StaysRelated KeepsSame) (λ i. stands_itself KeepsSame keeps_itself) a
 
-pub keep_searches : (old new : List Standing) → AtEach (λ _. Stands KeepsSame) old new → AtEach (λ _. Stands HasSameSearch) old new
+pub keep_searches : (old new : List Standing) → AtEach (λ _. StaysRelated KeepsSame) old new → AtEach (λ _. StaysRelated HasSameSearch) old new
 keep_searches old new keep = record {
   long = keep.long;
   at = λ i x y p q. let s = keep.at i x y p q in record { serial = s.serial; name = s.name; subscription = s.subscription.search };
 }
 
 pub stands_twice : (R : Subscription → Subscription → Type 0) → ((a b c : Subscription) → R a b → R b c → R a c) → (x y z : Standing)
-    → Stands R x y → Stands R y z → Stands R x z
+    → StaysRelated R x y → StaysRelated R y z → StaysRelated R x z
 stands_twice R f x y z r s = record {
   serial = s.serial ∙ r.serial;
   name = s.name ∙ r.name;
   subscription = f x.subscription y.subscription z.subscription r.subscription s.subscription;
 }
 
-pub searched_twice : (a b c : List Standing) → AtEach (λ _. Stands HasSameSearch) a b → AtEach (λ _. Stands HasSameSearch) b c
-    → AtEach (λ _. Stands HasSameSearch) a c
+pub searched_twice : (a b c : List Standing) → AtEach (λ _. StaysRelated HasSameSearch) a b → AtEach (λ _. StaysRelated HasSameSearch) b c
+    → AtEach (λ _. StaysRelated HasSameSearch) a c
 searched_twice a b c r s =
-    at_each_joined (λ _. Stands HasSameSearch) (λ _. Stands HasSameSearch) (λ _. Stands HasSameSearch)
+    at_each_joined (λ _. StaysRelated HasSameSearch) (λ _. StaysRelated HasSameSearch) (λ _. StaysRelated HasSameSearch)
     (λ i x y z. stands_twice HasSameSearch searches_twice x y z) a b c r s
 
 pub leads_search : (way : Option (Option Way)) (x y : Subscription) → LeadsBackWhere way x y → HasSameSearch x y

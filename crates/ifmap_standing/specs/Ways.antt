@@ -4,7 +4,7 @@ use Rattle.ifmap_delta.specs.declared.subscriptions.Subscription.{Subscription}
 use Rattle.ifmap_delta.specs.Ways.{HasSameSearch}
 use Rattle.ifmap_region.specs.Marks.{mark_of, row_of}
 use Rattle.ifmap_region.specs.Ways.{HasRoom, IsWayBack, Sweeps}
-use Rattle.ifmap_standing.specs.Kept.{AtEach, KeepsSame, Stands}
+use Rattle.ifmap_standing.specs.Kept.{AtEach, KeepsSame, StaysRelated}
 use Rattle.ifmap_standing.specs.declared.standing.Standing.{Standing}
 
 -- the marks and the size of before, as contracts see a `SubUndo`
@@ -29,14 +29,14 @@ LeadsBackWhere (Some (Some way)) before now = LeadsBack before way now
 -- and of each in a list
 pub record LeadBack (before : List Standing) (ways : List (Option Way)) (now : List Standing) : Type 0 where
   pub long : length ways ≤ length now
-  pub each : AtEach (λ i. Stands (LeadsBackWhere (slice_get ways i))) before now
+  pub each : AtEach (λ i. StaysRelated (LeadsBackWhere (slice_get ways i))) before now
 
 -- a way back is given up: the subscription keeps what it keeps, no number of the change has a row without a mark any more, and
 -- all other rows stay. Where there is no way it stays as it is
-abbrev pub IsSettled : Option (Option Way) → Subscription → Subscription → Type 0
-IsSettled None old new = new ≡ old
-IsSettled (Some None) old new = new ≡ old
-IsSettled (Some (Some way)) old new =
+abbrev pub IsWayGivenUp : Option (Option Way) → Subscription → Subscription → Type 0
+IsWayGivenUp None old new = new ≡ old
+IsWayGivenUp (Some None) old new = new ≡ old
+IsWayGivenUp (Some (Some way)) old new =
     HasSameSearch old new × (new.size ≡ old.size)
     × ((v : ℕ) → mark_of new.region.marks.entries v ≡ mark_of old.region.marks.entries v)
     × Sweeps way.0 old.region.marks.entries new.region.marks.entries

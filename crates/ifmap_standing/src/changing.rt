@@ -3,13 +3,13 @@ ghost use Rattle.std.specs.Prelude.{◌≡◌, ◌≤◌, ◌<◌, ℕ, [], Some
 ghost use Rattle.std.specs.List.{AllByRecursion, zip};
 ghost use Rattle.ifmap_delta.specs.Bounds.{IsWithinBound};
 ghost use Rattle.ifmap_delta.specs.Changes.{ShowsAfter};
-ghost use Rattle.ifmap_delta.specs.Sights.{IsKept, sight_of};
+ghost use Rattle.ifmap_delta.specs.Sights.{IsUpToDate, view_seen};
 ghost use Rattle.ifmap_delta.specs.Ways.{HasSameSearch};
 ghost use Rattle.ifmap_folds.specs.Differences.{difference};
 ghost use Rattle.ifmap_fresh.specs.Fresh.{fresh};
 ghost use Rattle.ifmap_ident.specs.Items.{IsCanonItem};
 ghost use Rattle.ifmap_standing.specs.Bounds.{IsWithinEach, IsWithinWhere};
-ghost use Rattle.ifmap_standing.specs.Kept.{AtEach, KeepsSame, Stands};
+ghost use Rattle.ifmap_standing.specs.Kept.{AtEach, KeepsSame, StaysRelated};
 ghost use Rattle.ifmap_standing.specs.Located.{IsLocatedIn};
 ghost use Rattle.ifmap_standing.specs.News.{news_of, news_of_each, news_where};
 ghost use Rattle.ifmap_standing.specs.Standing.{standing_of};
@@ -51,25 +51,25 @@ pub fn tell_change<G: View, D: View, L: Ledger>(
     requires flags { length skipped.now ≡ length standing.old }
     requires kept { let graph = change.now.graph.now in (i : ℕ) (x : Standing)
         → slice_get standing.old i ≡ Some x → slice_get skipped.now i ≡ Some false
-        → IsKept (sight_of G.rows G.id_at G.links graph) x.subscription }
-    requires change { ShowsAfter (sight_of G.rows G.id_at G.links change.now.graph.now)
-        (sight_of D.rows D.id_at D.links change.now.draft.now) change.now.plan.now.changes }
+        → IsUpToDate (view_seen G.rows G.id_at G.links graph) x.subscription }
+    requires change { ShowsAfter (view_seen G.rows G.id_at G.links change.now.graph.now)
+        (view_seen D.rows D.id_at D.links change.now.draft.now) change.now.plan.now.changes }
     requires canon { AllByRecursion (λ n. IsCanonItem n.item) change.now.plan.now.notes }
-    ensures same { AtEach (λ _. Stands HasSameSearch) standing.old standing.new }
+    ensures same { AtEach (λ _. StaysRelated HasSameSearch) standing.old standing.new }
     ensures news { IfOk result (λ told. told.news ≡ news_of_each (G.rows change.now.graph.now)
         (D.rows change.now.draft.now) change.now.plan.now.notes skipped.now
         (map standing_of standing.old)) }
     ensures kept { let draft = change.now.draft.now in OnOk result ((i : ℕ) (x : Standing)
         → slice_get standing.new i ≡ Some x → slice_get skipped.now i ≡ Some false
-        → IsKept (sight_of D.rows D.id_at D.links draft) x.subscription) }
+        → IsUpToDate (view_seen D.rows D.id_at D.links draft) x.subscription) }
     ensures skipped { OnOk result (AtEach (λ i old new. slice_get skipped.now i ≡ Some true
         → new ≡ old) standing.old standing.new) }
     ensures ways { IfOk result (λ told. LeadBack standing.old told.ways standing.new) }
-    ensures err { OnErr result (AtEach (λ _. Stands KeepsSame) standing.old standing.new) }
+    ensures err { OnErr result (AtEach (λ _. StaysRelated KeepsSame) standing.old standing.new) }
 
     // Also where memory runs out.
-    ensures steps { IsWithinEach (sight_of G.rows G.id_at G.links change.now.graph.now)
-        (sight_of D.rows D.id_at D.links change.now.draft.now) (zip skipped.now standing.old)
+    ensures steps { IsWithinEach (view_seen G.rows G.id_at G.links change.now.graph.now)
+        (view_seen D.rows D.id_at D.links change.now.draft.now) (zip skipped.now standing.old)
         steps.old steps.new }
 {
     let mut records = Records {
@@ -140,13 +140,13 @@ fn tell_all<G: View, D: View, L: Ledger>(
 ) -> Result<(), NoMemory>
     requires flags { length skipped.now ≡ length standing.old }
     requires located { 0 < length skipped.now → IsLocatedIn
-        (sight_of G.rows G.id_at G.links change.now.graph.now)
-        (sight_of D.rows D.id_at D.links change.now.draft.now) change.now.located }
+        (view_seen G.rows G.id_at G.links change.now.graph.now)
+        (view_seen D.rows D.id_at D.links change.now.draft.now) change.now.located }
     requires kept { let graph = change.now.graph.now in (i : ℕ) (x : Standing)
         → slice_get standing.old i ≡ Some x → slice_get skipped.now i ≡ Some false
-        → IsKept (sight_of G.rows G.id_at G.links graph) x.subscription }
-    requires change { ShowsAfter (sight_of G.rows G.id_at G.links change.now.graph.now)
-        (sight_of D.rows D.id_at D.links change.now.draft.now) change.now.located.plan.now.changes }
+        → IsUpToDate (view_seen G.rows G.id_at G.links graph) x.subscription }
+    requires change { ShowsAfter (view_seen G.rows G.id_at G.links change.now.graph.now)
+        (view_seen D.rows D.id_at D.links change.now.draft.now) change.now.located.plan.now.changes }
     requires canon { AllByRecursion (λ n. IsCanonItem n.item) change.now.located.plan.now.notes }
     requires no_news { records.old.news.items ≡ [] }
     requires no_ways { records.old.ways.items ≡ [] }
@@ -157,12 +157,12 @@ fn tell_all<G: View, D: View, L: Ledger>(
         change.now.located.plan.now.notes skipped.now (map standing_of standing.old)) }
     ensures kept { let draft = change.now.draft.now in OnOk result ((i : ℕ) (x : Standing)
         → slice_get standing.new i ≡ Some x → slice_get skipped.now i ≡ Some false
-        → IsKept (sight_of D.rows D.id_at D.links draft) x.subscription) }
+        → IsUpToDate (view_seen D.rows D.id_at D.links draft) x.subscription) }
     ensures skipped { OnOk result (AtEach (λ i old new. slice_get skipped.now i ≡ Some true
         → new ≡ old) standing.old standing.new) }
     ensures ways { LeadBack standing.old records.new.ways.items standing.new }
-    ensures steps { IsWithinEach (sight_of G.rows G.id_at G.links change.now.graph.now)
-        (sight_of D.rows D.id_at D.links change.now.draft.now) (zip skipped.now standing.old)
+    ensures steps { IsWithinEach (view_seen G.rows G.id_at G.links change.now.graph.now)
+        (view_seen D.rows D.id_at D.links change.now.draft.now) (zip skipped.now standing.old)
         steps.old steps.new }
 {
     for at in 0..skipped.len() {
@@ -188,24 +188,24 @@ fn tell_where<G: View, D: View, L: Ledger>(
     change: &LocatedGraphChange<'_, G, D>,
     steps: &mut Steps<L>,
 ) -> Result<Record, NoMemory>
-    requires located { IsLocatedIn (sight_of G.rows G.id_at G.links change.now.graph.now)
-        (sight_of D.rows D.id_at D.links change.now.draft.now) change.now.located }
-    requires kept { is_skipped ≡ false → IsKept
-        (sight_of G.rows G.id_at G.links change.now.graph.now) standing.old.subscription }
-    requires change { ShowsAfter (sight_of G.rows G.id_at G.links change.now.graph.now)
-        (sight_of D.rows D.id_at D.links change.now.draft.now) change.now.located.plan.now.changes }
+    requires located { IsLocatedIn (view_seen G.rows G.id_at G.links change.now.graph.now)
+        (view_seen D.rows D.id_at D.links change.now.draft.now) change.now.located }
+    requires kept { is_skipped ≡ false → IsUpToDate
+        (view_seen G.rows G.id_at G.links change.now.graph.now) standing.old.subscription }
+    requires change { ShowsAfter (view_seen G.rows G.id_at G.links change.now.graph.now)
+        (view_seen D.rows D.id_at D.links change.now.draft.now) change.now.located.plan.now.changes }
     requires canon { AllByRecursion (λ n. IsCanonItem n.item) change.now.located.plan.now.notes }
     ensures news { IfOk result (λ told. told.news ≡ news_where (G.rows change.now.graph.now)
         (D.rows change.now.draft.now) change.now.located.plan.now.notes is_skipped
         (standing_of standing.old)) }
-    ensures kept { OnOk result (is_skipped ≡ false → IsKept
-        (sight_of D.rows D.id_at D.links change.now.draft.now) standing.new.subscription) }
+    ensures kept { OnOk result (is_skipped ≡ false → IsUpToDate
+        (view_seen D.rows D.id_at D.links change.now.draft.now) standing.new.subscription) }
     ensures skipped { OnOk result (is_skipped ≡ true → standing.new ≡ standing.old) }
-    ensures way { IfOk result (λ told. Stands (LeadsBackWhere (Some told.way)) standing.old
+    ensures way { IfOk result (λ told. StaysRelated (LeadsBackWhere (Some told.way)) standing.old
         standing.new) }
-    ensures err { OnErr result (Stands KeepsSame standing.old standing.new) }
-    ensures steps { IsWithinWhere (sight_of G.rows G.id_at G.links change.now.graph.now)
-        (sight_of D.rows D.id_at D.links change.now.draft.now) is_skipped standing.old
+    ensures err { OnErr result (StaysRelated KeepsSame standing.old standing.new) }
+    ensures steps { IsWithinWhere (view_seen G.rows G.id_at G.links change.now.graph.now)
+        (view_seen D.rows D.id_at D.links change.now.draft.now) is_skipped standing.old
         steps.old steps.new }
 {
     if is_skipped {
@@ -225,23 +225,23 @@ fn tell_one<G: View, D: View, L: Ledger>(
     change: &LocatedGraphChange<'_, G, D>,
     steps: &mut Steps<L>,
 ) -> Result<Record, NoMemory>
-    requires located { IsLocatedIn (sight_of G.rows G.id_at G.links change.now.graph.now)
-        (sight_of D.rows D.id_at D.links change.now.draft.now) change.now.located }
-    requires kept { IsKept (sight_of G.rows G.id_at G.links change.now.graph.now)
+    requires located { IsLocatedIn (view_seen G.rows G.id_at G.links change.now.graph.now)
+        (view_seen D.rows D.id_at D.links change.now.draft.now) change.now.located }
+    requires kept { IsUpToDate (view_seen G.rows G.id_at G.links change.now.graph.now)
         standing.old.subscription }
-    requires change { ShowsAfter (sight_of G.rows G.id_at G.links change.now.graph.now)
-        (sight_of D.rows D.id_at D.links change.now.draft.now) change.now.located.plan.now.changes }
+    requires change { ShowsAfter (view_seen G.rows G.id_at G.links change.now.graph.now)
+        (view_seen D.rows D.id_at D.links change.now.draft.now) change.now.located.plan.now.changes }
     requires canon { AllByRecursion (λ n. IsCanonItem n.item) change.now.located.plan.now.notes }
     ensures news { IfOk result (λ told. told.news ≡ news_of (G.rows change.now.graph.now)
         (D.rows change.now.draft.now) change.now.located.plan.now.notes
         (standing_of standing.old)) }
-    ensures kept { OnOk result (IsKept
-        (sight_of D.rows D.id_at D.links change.now.draft.now) standing.new.subscription) }
-    ensures way { IfOk result (λ told. Stands (LeadsBackWhere (Some told.way)) standing.old
+    ensures kept { OnOk result (IsUpToDate
+        (view_seen D.rows D.id_at D.links change.now.draft.now) standing.new.subscription) }
+    ensures way { IfOk result (λ told. StaysRelated (LeadsBackWhere (Some told.way)) standing.old
         standing.new) }
-    ensures err { OnErr result (Stands KeepsSame standing.old standing.new) }
-    ensures steps { IsWithinBound (sight_of G.rows G.id_at G.links change.now.graph.now)
-        (sight_of D.rows D.id_at D.links change.now.draft.now)
+    ensures err { OnErr result (StaysRelated KeepsSame standing.old standing.new) }
+    ensures steps { IsWithinBound (view_seen G.rows G.id_at G.links change.now.graph.now)
+        (view_seen D.rows D.id_at D.links change.now.draft.now)
         standing.old.subscription.search standing.old.subscription.region.start
         steps.old steps.new }
 {
@@ -273,25 +273,25 @@ fn take_over<G: View, D: View, L: Ledger>(
     change: &LocatedGraphChange<'_, G, D>,
     steps: &mut Steps<L>,
 ) -> Result<TakenOver, NoMemory>
-    requires located { IsLocatedIn (sight_of G.rows G.id_at G.links change.now.graph.now)
-        (sight_of D.rows D.id_at D.links change.now.draft.now) change.now.located }
-    requires kept { IsKept (sight_of G.rows G.id_at G.links change.now.graph.now)
+    requires located { IsLocatedIn (view_seen G.rows G.id_at G.links change.now.graph.now)
+        (view_seen D.rows D.id_at D.links change.now.draft.now) change.now.located }
+    requires kept { IsUpToDate (view_seen G.rows G.id_at G.links change.now.graph.now)
         subscription.old }
-    requires change { ShowsAfter (sight_of G.rows G.id_at G.links change.now.graph.now)
-        (sight_of D.rows D.id_at D.links change.now.draft.now) change.now.located.plan.now.changes }
+    requires change { ShowsAfter (view_seen G.rows G.id_at G.links change.now.graph.now)
+        (view_seen D.rows D.id_at D.links change.now.draft.now) change.now.located.plan.now.changes }
     ensures deleted { IfOk result (λ taken. taken.differences.deleted
         ≡ difference (fresh (G.rows change.now.graph.now) subscription.old.search)
         (fresh (D.rows change.now.draft.now) subscription.old.search)) }
     ensures updated { IfOk result (λ taken. taken.differences.updated
         ≡ difference (fresh (D.rows change.now.draft.now) subscription.old.search)
         (fresh (G.rows change.now.graph.now) subscription.old.search)) }
-    ensures kept { OnOk result (IsKept
-        (sight_of D.rows D.id_at D.links change.now.draft.now) subscription.new) }
+    ensures kept { OnOk result (IsUpToDate
+        (view_seen D.rows D.id_at D.links change.now.draft.now) subscription.new) }
     ensures way { IfOk result (λ taken. LeadsBack subscription.old taken.undo
         subscription.new) }
     ensures err { OnErr result (KeepsSame subscription.old subscription.new) }
-    ensures steps { IsWithinBound (sight_of G.rows G.id_at G.links change.now.graph.now)
-        (sight_of D.rows D.id_at D.links change.now.draft.now) subscription.old.search
+    ensures steps { IsWithinBound (view_seen G.rows G.id_at G.links change.now.graph.now)
+        (view_seen D.rows D.id_at D.links change.now.draft.now) subscription.old.search
         subscription.old.region.start steps.old steps.new }
 {
     let LocatedGraphChange {

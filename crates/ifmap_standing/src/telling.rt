@@ -1,7 +1,7 @@
 //! What one subscription is told of a change.
 ghost use Rattle.std.specs.Prelude.{◌≡◌, ◌++◌, ◌∷◌, [], Some, true, IfOk, OnOk};
 ghost use Rattle.std.specs.List.{AllByRecursion};
-ghost use Rattle.ifmap_delta.specs.Sights.{IsKept, sight_of};
+ghost use Rattle.ifmap_delta.specs.Sights.{IsUpToDate, view_seen};
 ghost use Rattle.ifmap_fresh.specs.Fresh.{fresh};
 ghost use Rattle.ifmap_folds.specs.Differences.{difference};
 ghost use Rattle.ifmap_ident.specs.Items.{IsCanonItem};
@@ -62,9 +62,9 @@ pub(crate) fn news_of<G: View, D: View>(
     differences: Differences,
     change: &LocatedGraphChange<'_, G, D>,
 ) -> Result<News, NoMemory>
-    requires located { IsLocatedIn (sight_of G.rows G.id_at G.links change.now.graph.now)
-        (sight_of D.rows D.id_at D.links change.now.draft.now) change.now.located }
-    requires kept { IsKept (sight_of D.rows D.id_at D.links change.now.draft.now)
+    requires located { IsLocatedIn (view_seen G.rows G.id_at G.links change.now.graph.now)
+        (view_seen D.rows D.id_at D.links change.now.draft.now) change.now.located }
+    requires kept { IsUpToDate (view_seen D.rows D.id_at D.links change.now.draft.now)
         standing.now.subscription }
     requires canon { AllByRecursion (λ n. IsCanonItem n.item) change.now.located.plan.now.notes }
     requires deleted { let search = standing.now.subscription.search in differences.deleted
@@ -112,9 +112,9 @@ fn differing_items(
     notified: Many<Entry>,
 ) -> Result<Many<PollItem>, NoMemory>
     ensures { IfOk result (λ items. items
-        ≡ machine.item_where (the_item.Delete name.now) differences.deleted
-        ++ (machine.item_where (the_item.Update name.now) differences.updated
-        ++ machine.item_where (the_item.Notify name.now) notified)) }
+        ≡ machine.item_if_any (the_item.Delete name.now) differences.deleted
+        ++ (machine.item_if_any (the_item.Update name.now) differences.updated
+        ++ machine.item_if_any (the_item.Notify name.now) notified)) }
 {
     let mut items = Vec::new(alloc);
     add_deleted(alloc, name, differences.deleted, &mut items)?;
@@ -151,7 +151,7 @@ fn add_deleted(
     items: &mut Vec<PollItem>,
 ) -> Result<(), NoMemory>
     ensures { OnOk result (items.new.items
-        ≡ items.old.items ++ machine.item_where (the_item.Delete name.now) entries) }
+        ≡ items.old.items ++ machine.item_if_any (the_item.Delete name.now) entries) }
 {
     if entries.0.is_empty() {
         return Ok(());
@@ -169,7 +169,7 @@ fn add_updated(
     items: &mut Vec<PollItem>,
 ) -> Result<(), NoMemory>
     ensures { OnOk result (items.new.items
-        ≡ items.old.items ++ machine.item_where (the_item.Update name.now) entries) }
+        ≡ items.old.items ++ machine.item_if_any (the_item.Update name.now) entries) }
 {
     if entries.0.is_empty() {
         return Ok(());
@@ -187,7 +187,7 @@ fn add_notified(
     items: &mut Vec<PollItem>,
 ) -> Result<(), NoMemory>
     ensures { OnOk result (items.new.items
-        ≡ items.old.items ++ machine.item_where (the_item.Notify name.now) entries) }
+        ≡ items.old.items ++ machine.item_if_any (the_item.Notify name.now) entries) }
 {
     if entries.0.is_empty() {
         return Ok(());

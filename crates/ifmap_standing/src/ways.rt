@@ -1,8 +1,8 @@
 //! Ways back: what all subscriptions took over of a change, to be taken back or left as it is.
 ghost use Rattle.std.specs.Prelude.{◌≤◌, List, Option, Some, length, slice_get};
 ghost use Rattle.ifmap_delta.specs.declared.subscriptions.Subscription.{Subscription};
-ghost use Rattle.ifmap_standing.specs.Kept.{AtEach, KeepsSame, Stands};
-ghost use Rattle.ifmap_standing.specs.Ways.{IsSettled, LeadBack, LeadsBackWhere, Way};
+ghost use Rattle.ifmap_standing.specs.Kept.{AtEach, KeepsSame, StaysRelated};
+ghost use Rattle.ifmap_standing.specs.Ways.{IsWayGivenUp, LeadBack, LeadsBackWhere, Way};
 ghost use Rattle.ifmap_standing.specs.declared.standing.Standing.{Standing};
 
 use crate::standing::Standing;
@@ -32,7 +32,7 @@ impl Model for Ways {
 pub fn take_back(standing: &mut [Standing], ways: Ways)
     requires { (before : List Standing) × LeadBack before ways standing.old }
     ensures { (before : List Standing) → LeadBack before ways standing.old
-        → AtEach (λ _. Stands KeepsSame) before standing.new }
+        → AtEach (λ _. StaysRelated KeepsSame) before standing.new }
 {
     let mut left = ways.of_each;
     while let Some(way) = left.pop() {
@@ -56,7 +56,7 @@ pub(crate) fn take_back_one(subscription: &mut Subscription, way: Option<SubUndo
 /// without a mark any more. It takes no memory.
 pub fn settle(standing: &mut [Standing], ways: Ways)
     requires { length ways ≤ length standing.old }
-    ensures { AtEach (λ i. Stands (IsSettled (slice_get ways i))) standing.old standing.new }
+    ensures { AtEach (λ i. StaysRelated (IsWayGivenUp (slice_get ways i))) standing.old standing.new }
 {
     let mut left = ways.of_each;
     while let Some(way) = left.pop() {
@@ -67,7 +67,7 @@ pub fn settle(standing: &mut [Standing], ways: Ways)
 
 // A subscription leaves its change as it is, where it has one.
 fn settle_one(subscription: &mut Subscription, way: Option<SubUndo>)
-    ensures { IsSettled (Some way) subscription.old subscription.new }
+    ensures { IsWayGivenUp (Some way) subscription.old subscription.new }
 {
     if let Some(undo) = way {
         subscription.settle(undo);

@@ -5,7 +5,7 @@ use Rattle.std.proofs.lemmas.Bool.{and_cases, both_ways, cases_Bool, leb-false}
 use Rattle.std.specs.List.{AllByRecursion, list_any}
 use Rattle.ifmap_changes.specs.Between.{IsSteady, sight_now}
 use Rattle.ifmap_changes.specs.declared.parts.Parts.{Parts}
-use Rattle.ifmap_delta.specs.Sights.{IsKept}
+use Rattle.ifmap_delta.specs.Sights.{IsUpToDate}
 use Rattle.ifmap_lemmas.specs.Members.{both_all}
 use Rattle.ifmap_fresh.specs.Fresh.{fresh}
 use Rattle.ifmap_machine.specs.State.{standing_in}
@@ -102,7 +102,7 @@ stand_none serial p made name c =
     record {
       session = both_all (IsOfSession serial) made (ending name ∷ []) c.session (tt, tt);
       steady = subst (λ xs. IsSteady p.graph (p.standing.items ++ xs)) (sym same) c.steady;
-      kept = subst (λ xs. AllByRecursion (λ (x : Standing). IsKept (sight_now p.graph) x.subscription) xs) (sym same) c.kept;
+      kept = subst (λ xs. AllByRecursion (λ (x : Standing). IsUpToDate (sight_now p.graph) x.subscription) xs) (sym same) c.kept;
     }
 
 pub ending_drops : (serial : ℕ) (name : List ℕ) (u : Told) → drop_name serial name u ≡ rename serial (ending name) u

@@ -17,7 +17,7 @@ use Rattle.std.specs.declared.cmp.Ordering.{Ordering}
 use Rattle.std.specs.declared.cmp.Ordering.TheVariants.{Equal, Less}
 use Rattle.ifmap_machine.specs.State.{standing_in, standing_order}
 use Rattle.ifmap_machine.specs.Subscribing.{is_of_name}
-use Rattle.ifmap_session.specs.Sessions.{is_text}
+use Rattle.ifmap_session.specs.Sessions.{is_same_text}
 use Rattle.ifmap_session.specs.laws.TextLaws.{text_is}
 use Rattle.ifmap_standing.specs.Standing.{standing_of}
 use Rattle.ifmap_standing.specs.declared.standing.Standing.{Standing}
@@ -95,8 +95,8 @@ any_shown serial name (x ∷ xs) = ap (λ b. is_of_name serial name (standing_of
 not_below : (serial : ℕ) (name : List ℕ) (x y : Standing) → is_of_name serial name (standing_of x) ≡ true
     → is_of_name serial name (standing_of y) ≡ true → standing_order (standing_of x) (standing_of y) ≡ Less → ⊥
 not_below serial name x y mine its less =
-    let a = and_parts (x.serial == serial) (is_text x.name name) mine in
-    let b = and_parts (y.serial == serial) (is_text y.name name) its in
+    let a = and_parts (x.serial == serial) (is_same_text x.name name) mine in
+    let b = and_parts (y.serial == serial) (is_same_text y.name name) its in
     let serials : x.serial ≡ y.serial = grind (arith, nat_tests, a.0, b.0) in
     let names : x.name ≡ y.name = text_is x.name name a.1 ∙ sym (text_is y.name name b.1) in
     let order : standing_order (standing_of x) (record { serial = x.serial; name = x.name; search = y.subscription.search }) ≡ Less =

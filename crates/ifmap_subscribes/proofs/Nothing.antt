@@ -8,7 +8,7 @@ use Rattle.std.specs.List.Sorted.{IsStrictlySortedBy}
 use Rattle.std.specs.Ordering.{nat_cmp}
 use Rattle.std.specs.declared.cmp.Ordering.{Ordering}
 use Rattle.std.specs.declared.cmp.Ordering.TheVariants.{Less}
-use Rattle.ifmap_changes.specs.Between.{IsReady, IsSteady, sessions_left}
+use Rattle.ifmap_changes.specs.Between.{IsSoundSoFar, IsSteady, sessions_left}
 use Rattle.ifmap_changes.specs.declared.parts.Parts.{Parts}
 use Rattle.ifmap_machine.specs.State.{standing_in, standing_order}
 use Rattle.ifmap_machine.specs.Subscribing.{Told, is_of_name}
@@ -17,7 +17,7 @@ use Rattle.ifmap_session.specs.Sessions.{IsLive, Session, is_named, session_with
 use Rattle.ifmap_standing.specs.Standing.{standing_of}
 use Rattle.ifmap_subscribes.proofs.OfScene.{live_session, told_session}
 use Rattle.ifmap_subscribes.proofs.ToldSizes.{found_left}
-use Rattle.ifmap_subscribes.specs.Readying.{AreCounted, CanStand, told_after, told_in}
+use Rattle.ifmap_subscribes.specs.Readying.{AreCounted, CanStand, told_after, told_in_scene}
 use Rattle.ifmap_subscribes.specs.Renamings.{rename_all}
 use Rattle.ifmap_subscribes.specs.declared.readying.Readying.{Readying}
 use Rattle.ifmap_subscribes.specs.declared.readying.Scene.{Scene}
@@ -50,23 +50,23 @@ module _ {X Y : Type 0} (f : X → Y) where
       let rest = fewer_kept p gone xs in
       elim (cases_Bool (p (f x))) [ inl hit ↦ rw hit (omega (arith, rest)) | inr miss ↦ rw miss rest ]
 
-module _ (scene : Scene) (p : Parts) (r : Readying) (ready : IsReady scene.asking.now p scene.pending.now)
+module _ (scene : Scene) (p : Parts) (r : Readying) (ready : IsSoundSoFar scene.asking.now p scene.pending.now)
     (live : IsLive scene.serial (sessions_left scene.asking.now p.sessions)) (made : r.made.items ≡ []) where
-  same_told : told_after scene.serial r (told_in scene p) ≡ told_in scene p
-  same_told = ap (λ rs. rename_all scene.serial rs (told_in scene p)) made
+  same_told : told_after scene.serial r (told_in_scene scene p) ≡ told_in_scene scene p
+  same_told = ap (λ rs. rename_all scene.serial rs (told_in_scene scene p)) made
 
   size_of_queue : ((s : Session) → session_with_serial scene.serial p.sessions.live ≡ Some s
-      → r.size ≡ queue_size (told_by scene.pending.now.tellings s).queue) → r.size ≡ queue_size (told_in scene p).queue
+      → r.size ≡ queue_size (told_by scene.pending.now.tellings s).queue) → r.size ≡ queue_size (told_in_scene scene p).queue
   size_of_queue size =
       let one = live_session scene.serial (sessions_left scene.asking.now p.sessions) live in
       size one.0 (found_left scene.asking.now.ended scene.serial p.sessions.live one.0 one.1)
       ∙ ap (λ (t : Told). queue_size t.queue) (sym (told_session scene p one.0 one.1).1)
 
   pub nothing_counted : ((other : List ℕ) → get (slice_cmp nat_cmp) r.names other ≡ None)
-      → r.count ≡ length (standing_in scene.serial (told_in scene p).standing)
+      → r.count ≡ length (standing_in scene.serial (told_in_scene scene p).standing)
       → ((s : Session) → session_with_serial scene.serial p.sessions.live ≡ Some s
       → r.size ≡ queue_size (told_by scene.pending.now.tellings s).queue) → r.size < 2 ^ 64
-      → AreCounted scene.serial (told_in scene p) r
+      → AreCounted scene.serial (told_in_scene scene p) r
   nothing_counted none count size small =
       let whole = size_of_queue size in
       let long = ap length made in

@@ -20,7 +20,7 @@ use Rattle.ifmap_machine.specs.Subscribing.{is_of_name}
 use Rattle.ifmap_plans.specs.Placing.{put}
 use Rattle.ifmap_search.specs.declared.results.PollItem.{PollItem}
 use Rattle.ifmap_search.specs.declared.results.PollItem.TheVariants as the_item
-use Rattle.ifmap_session.specs.Sessions.{is_named, is_text}
+use Rattle.ifmap_session.specs.Sessions.{is_named, is_same_text}
 use Rattle.ifmap_session.specs.laws.TextLaws.{text_is, text_same}
 use Rattle.ifmap_subscribes.proofs.Parting.{any_put, any_put_other, any_within, length_put, length_without}
 use Rattle.ifmap_machine.specs.OrderLaws.{order_same}
@@ -28,11 +28,11 @@ use Rattle.ifmap_machine.specs.OrderLaws.{order_same}
 -- a subscription of a session's name has that serial and that name, and no other has both
 pub of_name : (serial : ℕ) (name : List ℕ) (x : Standing) → is_of_name serial name x ≡ true → (x.serial ≡ serial) × (x.name ≡ name)
 of_name serial name x h =
-    let both = and_parts (x.serial == serial) (is_text x.name name) h in
+    let both = and_parts (x.serial == serial) (is_same_text x.name name) h in
     (is_number x.serial serial both.0, text_is x.name name both.1)
 
 pub is_of : (serial : ℕ) (name : List ℕ) (x : Standing) → x.serial ≡ serial → x.name ≡ name → is_of_name serial name x ≡ true
-is_of serial name x s n = and_from (x.serial == serial) (is_text x.name name) (eq-eqb x.serial serial s) (text_same x.name name n)
+is_of serial name x s n = and_from (x.serial == serial) (is_same_text x.name name) (eq-eqb x.serial serial s) (text_same x.name name n)
 
 not_of_other : (serial : ℕ) (name other : List ℕ) (x : Standing) → other ≢ name → is_of_name serial other x ≡ true
     → not (is_of_name serial name x) ≡ true
@@ -61,7 +61,7 @@ module _ (serial : ℕ) (name : List ℕ) where
       → length (standing_in serial (dropped xs)) + cond (list_any (is_of_name serial name) xs) 1 0 ≡ length (standing_in serial xs)
   one_fewer xs up =
       length_without (is_of_name serial name) (λ x. x.serial == serial)
-      (λ x h. (and_parts (x.serial == serial) (is_text x.name name) h).0) standing_order
+      (λ x h. (and_parts (x.serial == serial) (is_same_text x.name name) h).0) standing_order
       (λ x y h k. order_same x y ((of_name serial name x h).0 ∙ sym (of_name serial name y k).0)
       ((of_name serial name x h).1 ∙ sym (of_name serial name y k).1)) xs up
 

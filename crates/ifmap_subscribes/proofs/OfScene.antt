@@ -14,7 +14,7 @@ use Rattle.ifmap_search.specs.declared.results.PollItem.{PollItem}
 use Rattle.ifmap_search.specs.Sizes.{queue_size}
 use Rattle.ifmap_session.specs.Sessions.{IsLive, Session, session_with_serial}
 use Rattle.ifmap_subscribes.proofs.Ready.{told_same}
-use Rattle.ifmap_subscribes.specs.Readying.{IsNameBefore, OnlyHolds, queue_where, told_after, told_in, told_then}
+use Rattle.ifmap_subscribes.specs.Readying.{IsNameBefore, OnlyHolds, queue_where, told_after, told_in_scene, told_then}
 use Rattle.ifmap_subscribes.specs.declared.readying.Readying.{Readying}
 use Rattle.ifmap_subscribes.specs.Renamings.{IsNameNow, told_so_far}
 use Rattle.ifmap_subscribes.specs.declared.names.NameNow.{NameNow}
@@ -50,7 +50,7 @@ pub told_session : (scene : Scene) (parts : Parts) (s : Session)
     → session_with_serial scene.serial (sessions_left scene.asking.now parts.sessions) ≡ Some s
     → (session_with_serial scene.serial (so_far scene.asking.now parts scene.pending.now).sessions
     ≡ Some (told_by scene.pending.now.tellings s))
-    × (told_in scene parts ≡ told_so_far scene.asking.now parts scene.pending.now (told_by scene.pending.now.tellings s))
+    × (told_in_scene scene parts ≡ told_so_far scene.asking.now parts scene.pending.now (told_by scene.pending.now.tellings s))
 told_session scene parts s e =
     let found = found_told scene.pending.now.tellings scene.serial (sessions_left scene.asking.now parts.sessions) s e in
     (found, ap (λ o. told_with (queue_where o)) found)
@@ -67,7 +67,7 @@ pub name_told : (scene : Scene) (parts : Parts) (name : List ℕ) (v : NameNow)
     → IsLive scene.serial (sessions_left scene.asking.now parts.sessions)
     → ((s : Session) → session_with_serial scene.serial (so_far scene.asking.now parts scene.pending.now).sessions ≡ Some s
     → IsNameNow scene.serial name (told_so_far scene.asking.now parts scene.pending.now s) v)
-    → IsNameNow scene.serial name (told_in scene parts) v
+    → IsNameNow scene.serial name (told_in_scene scene parts) v
 name_told scene parts name v live h =
     let one = live_session scene.serial (sessions_left scene.asking.now parts.sessions) live in
     let told = told_session scene parts one.0 one.1 in

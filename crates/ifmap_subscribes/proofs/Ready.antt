@@ -7,9 +7,9 @@ use Rattle.std.proofs.lemmas.List.{length-map}
 use Rattle.std.specs.List.{AllByRecursion}
 use Rattle.ifmap_lemmas.specs.Places.{all_got}
 use Rattle.ifmap_machine.specs.State as machine
-use Rattle.ifmap_changes.specs.Between.{AreOrdered, Asking, IsReady, IsSteady, SharesNumbers, sessions_left, sight_now, starts_of}
+use Rattle.ifmap_changes.specs.Between.{AreOrdered, Asking, IsSoundSoFar, IsSteady, SharesNumbers, sessions_left, sight_now, starts_of}
 use Rattle.ifmap_changes.specs.declared.parts.Parts.{Parts}
-use Rattle.ifmap_delta.specs.Sights.{IsKept, Sight}
+use Rattle.ifmap_delta.specs.Sights.{IsUpToDate, ViewSeen}
 use Rattle.ifmap_delta.specs.declared.subscriptions.Subscription.{Subscription}
 use Rattle.ifmap_graph.specs.Held.{Held}
 use Rattle.ifmap_graph.specs.Seen.{HasFewOwn, KeepsNumbers, links_now, rows_now}
@@ -17,12 +17,12 @@ use Rattle.ifmap_ident.specs.declared.identifiers.Identifier.{Identifier}
 use Rattle.ifmap_lemmas.specs.Members.{all_both, both_all, map_of_all}
 use Rattle.ifmap_machine.specs.Subscribing.{Told}
 use Rattle.ifmap_pool.specs.Holdings.{key_at}
-use Rattle.ifmap_session.specs.Sessions.{IsLive, Session, Table, session_with_serial}
+use Rattle.ifmap_session.specs.Sessions.{IsLive, Session, SessionTable, session_with_serial}
 use Rattle.ifmap_standing.specs.Standing.{standing_of}
 use Rattle.ifmap_standing.specs.declared.standing.Standing.{Standing}
 use Rattle.ifmap_subscribes.proofs.Counting.{fewer_joined, thousand_each}
 use Rattle.ifmap_subscribes.proofs.Renamed.{begun_more}
-use Rattle.ifmap_subscribes.specs.Readying.{AreReadied, CanReady, CanStand, GraphHolds, IsGivenUp, OnlyHolds, queue_where, told_in}
+use Rattle.ifmap_subscribes.specs.Readying.{AreReadied, CanReady, CanStand, GraphHolds, IsGivenUp, OnlyHolds, queue_where, told_in_scene}
 use Rattle.ifmap_subscribes.specs.Renamings.{IsOfSession, KeepsNumbered, begun_by}
 use Rattle.ifmap_subscribes.specs.declared.readying.Readying.{Readying}
 use Rattle.ifmap_subscribes.specs.declared.readying.Scene.{Scene}
@@ -46,7 +46,7 @@ holds_on a b c h k = record {
 }
 
 -- what is to be told is the same
-abbrev told_from : Scene → Table → List Standing → Told
+abbrev told_from : Scene → SessionTable → List Standing → Told
 told_from scene sessions standing = record {
   queue = queue_where (session_with_serial scene.serial
       (map (told_by scene.pending.now.tellings) (sessions_left scene.asking.now sessions)));
@@ -54,12 +54,12 @@ told_from scene sessions standing = record {
 }
 
 pub told_same : (scene : Scene) (old new : Parts) → new.sessions ≡ old.sessions → new.standing ≡ old.standing
-    → told_in scene new ≡ told_in scene old
+    → told_in_scene scene new ≡ told_in_scene scene old
 told_same scene old new s v =
     ap (λ t. told_from scene t new.standing.items) s ∙ ap (λ w. told_from scene old.sessions w.items) v
 
-pub can_on : (scene : Scene) (old new : Parts) (r : Readying) → OnlyHolds old new → IsReady scene.asking.now new scene.pending.now
-    → IsLive scene.serial (sessions_left scene.asking.now old.sessions) → AreReadied scene.serial (told_in scene old) new r
+pub can_on : (scene : Scene) (old new : Parts) (r : Readying) → OnlyHolds old new → IsSoundSoFar scene.asking.now new scene.pending.now
+    → IsLive scene.serial (sessions_left scene.asking.now old.sessions) → AreReadied scene.serial (told_in_scene scene old) new r
     → CanReady scene new r
 can_on scene old new r h ready live readied = record {
   ready = ready;
@@ -80,34 +80,34 @@ numbered_on old new k (x ∷ xs) h =
 -- views with the same links are kept alike
 abbrev pub SameLinks : Type 0
 SameLinks =
-    (one other : Sight) (sub : Subscription)
+    (one other : ViewSeen) (sub : Subscription)
     → IsView one.rows one.id_at one.links → IsView other.rows other.id_at other.links
     → other.rows ≡ one.rows → ((v : ℕ) → other.links v ≡ one.links v)
     → ((v : ℕ) (a b : Identifier) → one.id_at v ≡ Some a → other.id_at v ≡ Some b → b ≡ a)
     → other.id_at sub.region.start ≡ Some sub.search.start
-    → IsKept one sub → IsKept other sub
+    → IsUpToDate one sub → IsUpToDate other sub
 
 abbrev pub IsSeen : Held → Type 0
 IsSeen h = IsView (rows_now h) (key_at h.names) (links_now h)
 
 module _ (law : SameLinks) (old new : Held) (seen_old : IsSeen old) (seen_new : IsSeen new) (rows : rows_now new ≡ rows_now old)
     (links : (v : ℕ) → links_now new v ≡ links_now old v) (numbers : SharesNumbers old new) where
-  kept_one : (x : Standing) → IsNumbered new x → IsKept (sight_now old) x.subscription → IsKept (sight_now new) x.subscription
+  kept_one : (x : Standing) → IsNumbered new x → IsUpToDate (sight_now old) x.subscription → IsUpToDate (sight_now new) x.subscription
   kept_one x e k = law (sight_now old) (sight_now new) x.subscription seen_old seen_new rows links numbers e k
 
-  pub kept_all : (xs : List Standing) → AllByRecursion (IsNumbered new) xs → AllByRecursion (λ x. IsKept (sight_now old) x.subscription) xs
-      → AllByRecursion (λ x. IsKept (sight_now new) x.subscription) xs
+  pub kept_all : (xs : List Standing) → AllByRecursion (IsNumbered new) xs → AllByRecursion (λ x. IsUpToDate (sight_now old) x.subscription) xs
+      → AllByRecursion (λ x. IsUpToDate (sight_now new) x.subscription) xs
   kept_all [] n h = tt
   kept_all (x ∷ xs) n h = (kept_one x n.0 h.0, kept_all xs n.1 h.1)
 
   pub kept_each : (gone : List Bool) (xs : List Standing) → AllByRecursion (IsNumbered new) xs
-      → AllKept (λ x. IsKept (sight_now old) x.subscription) gone xs → AllKept (λ x. IsKept (sight_now new) x.subscription) gone xs
+      → AllKept (λ x. IsUpToDate (sight_now old) x.subscription) gone xs → AllKept (λ x. IsUpToDate (sight_now new) x.subscription) gone xs
   kept_each gone xs n k i x at here = kept_one x (all_got (IsNumbered new) xs i x n at) (k i x at here)
 
 -- parts stay ready
-ready_of : (a : Asking) (old : Parts) (pending : Pending) (g : Held) → IsReady a old pending
-    → AllKept (λ x. IsKept (sight_now g) x.subscription) pending.gone.items old.standing.items
-    → IsReady a (record old { graph = g }) pending
+ready_of : (a : Asking) (old : Parts) (pending : Pending) (g : Held) → IsSoundSoFar a old pending
+    → AllKept (λ x. IsUpToDate (sight_now g) x.subscription) pending.gone.items old.standing.items
+    → IsSoundSoFar a (record old { graph = g }) pending
 ready_of a old pending g r k = record {
   ended = r.ended;
   ordered = r.ordered;
@@ -127,7 +127,7 @@ module _ (law : SameLinks) (serial : ℕ) (old : Parts) (g : Held) (made : List 
   numbered_all : AllByRecursion (IsNumbered g) (old.standing.items ++ begun_by made)
   numbered_all = numbered_on old.graph g h.numbers (old.standing.items ++ begun_by made) c.steady.numbered
 
-  kept_begun : AllByRecursion (λ x. IsKept (sight_now g) x.subscription) (begun_by made)
+  kept_begun : AllByRecursion (λ x. IsUpToDate (sight_now g) x.subscription) (begun_by made)
   kept_begun =
       kept_all law old.graph g seen_old seen_new h.rows h.links (shares_kept old.graph g h.numbers) (begun_by made)
       (all_both (IsNumbered g) old.standing.items (begun_by made) numbered_all).1 c.kept
@@ -136,7 +136,7 @@ module _ (law : SameLinks) (serial : ℕ) (old : Parts) (g : Held) (made : List 
   stand_still steady = record { session = c.session; steady = steady; kept = kept_begun }
 
   pub stand_more : (r : Renaming) → IsOfSession serial r
-      → AllByRecursion (λ x. IsKept (sight_now g) x.subscription) (option_to_list r.standing)
+      → AllByRecursion (λ x. IsUpToDate (sight_now g) x.subscription) (option_to_list r.standing)
       → IsSteady g ((old.standing.items ++ begun_by made) ++ option_to_list r.standing)
       → CanStand serial (record old { graph = g }) (made ++ r ∷ [])
   stand_more r s k steady =
@@ -145,18 +145,18 @@ module _ (law : SameLinks) (serial : ℕ) (old : Parts) (g : Held) (made : List 
       record {
         session = both_all (IsOfSession serial) made (r ∷ []) c.session (s, tt);
         steady = subst (λ xs. IsSteady g xs) joined steady;
-        kept = subst (λ xs. AllByRecursion (λ (x : Standing). IsKept (sight_now g) x.subscription) xs) (sym (begun_more made r))
-            (both_all (λ x. IsKept (sight_now g) x.subscription) (begun_by made) (option_to_list r.standing) kept_begun k);
+        kept = subst (λ xs. AllByRecursion (λ (x : Standing). IsUpToDate (sight_now g) x.subscription) xs) (sym (begun_more made r))
+            (both_all (λ x. IsUpToDate (sight_now g) x.subscription) (begun_by made) (option_to_list r.standing) kept_begun k);
       }
 
-  pub stays_ready : (a : Asking) (pending : Pending) → IsReady a old pending → IsReady a (record old { graph = g }) pending
+  pub stays_ready : (a : Asking) (pending : Pending) → IsSoundSoFar a old pending → IsSoundSoFar a (record old { graph = g }) pending
   stays_ready a pending r =
       ready_of a old pending g r (kept_each law old.graph g seen_old seen_new h.rows h.links (shares_kept old.graph g h.numbers)
       pending.gone.items old.standing.items (all_both (IsNumbered g) old.standing.items (begun_by made) numbered_all).0 r.kept)
 
 -- where starts are let go of, what is numbered still is kept still
-pub ready_after : (a : Asking) (old : Parts) (pending : Pending) (g : Held) → IsReady a old pending → KeepsNumbered old.graph g
-    → AllByRecursion (IsNumbered g) old.standing.items → IsReady a (record old { graph = g }) pending
+pub ready_after : (a : Asking) (old : Parts) (pending : Pending) (g : Held) → IsSoundSoFar a old pending → KeepsNumbered old.graph g
+    → AllByRecursion (IsNumbered g) old.standing.items → IsSoundSoFar a (record old { graph = g }) pending
 ready_after a old pending g r k n =
     ready_of a old pending g r (λ i x at here. k x.subscription (all_got (IsNumbered g) old.standing.items i x n at)
     (r.kept i x at here))

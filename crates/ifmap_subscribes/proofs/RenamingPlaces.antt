@@ -20,7 +20,7 @@ use Rattle.ifmap_machine.specs.State.{standing_order}
 use Rattle.ifmap_machine.specs.Subscribing.{is_of_name}
 use Rattle.ifmap_plans.specs.Placing.{put}
 use Rattle.ifmap_plans.specs.laws.PlacingLaws.{gap_is_put, gap_none}
-use Rattle.ifmap_session.specs.Sessions.{is_text}
+use Rattle.ifmap_session.specs.Sessions.{is_same_text}
 use Rattle.ifmap_session.specs.laws.TextLaws.{text_is}
 use Rattle.ifmap_standing.specs.declared.standing.Standing.{Standing}
 use Rattle.ifmap_standing.specs.Standing.{standing_of}
@@ -50,7 +50,7 @@ shown_put x xs =
 
 pub named_is : (serial : ℕ) (name : List ℕ) (x : Standing) → is_of_name serial name (standing_of x) ≡ is_eq (name_order serial name x)
 named_is serial name x =
-    ap (λ b. b && is_text x.name name) (equal_by_order x.serial serial)
+    ap (λ b. b && is_same_text x.name name) (equal_by_order x.serial serial)
     ∙ ap (λ b. is_eq (nat_cmp x.serial serial) && b) (texts_ties x.name name)
     ∙ tied_then (nat_cmp x.serial serial) (slice_cmp nat_cmp x.name name)
 
@@ -107,7 +107,7 @@ module _ (serial : ℕ) (name : List ℕ) (xs : List Standing) where
 same_name : (serial : ℕ) (name : List ℕ) (x : Standing) → is_of_name serial name (standing_of x) ≡ true
     → (x.serial ≡ serial) × (x.name ≡ name)
 same_name serial name x is =
-    let parts = and_parts (x.serial == serial) (is_text x.name name) is in
+    let parts = and_parts (x.serial == serial) (is_same_text x.name name) is in
     (eqb-true x.serial serial parts.0, text_is x.name name parts.1)
 
 -- two of one name are not one before the other

@@ -9,7 +9,7 @@ use Rattle.std.specs.Option.{option_map}
 use Rattle.ifmap_changes.specs.Between.{IsSteady, sight_now, starts_of}
 use Rattle.ifmap_graph.specs.Held.{Held, IsOwn, links_at}
 use Rattle.ifmap_graph.specs.Named.{named_in}
-use Rattle.ifmap_delta.specs.Sights.{IsKept}
+use Rattle.ifmap_delta.specs.Sights.{IsUpToDate}
 use Rattle.ifmap_graph.specs.Seen.{IsStill, links_now, rows_now}
 use Rattle.ifmap_graph.specs.Shelved.{list_at, rows_by}
 use Rattle.ifmap_graph.specs.Sides.{now}
@@ -23,7 +23,7 @@ use Rattle.ifmap_plans.specs.Plans.{AreWhole}
 use Rattle.ifmap_pool.specs.Holdings.{IsHeld, Names, holds_at, key_at, once}
 use Rattle.ifmap_standing.specs.declared.standing.Standing.{Standing}
 use Rattle.ifmap_subscribes.specs.declared.renamings.Renaming.{Renaming}
-use Rattle.ifmap_subscribes.specs.Renamings.{KeepsNumbered, LetsGo, StandsAmong, begun_by}
+use Rattle.ifmap_subscribes.specs.Renamings.{KeepsNumbered, LetsNumbersGo, StandsAmong, begun_by}
 use Rattle.ifmap_view.specs.Views.{IsView}
 use Rattle.ifmap_graph.specs.NumberLaws.{once_itself}
 use Rattle.ifmap_changes.specs.StartLaws.{starts_cons, starts_append}
@@ -156,7 +156,7 @@ links_same old new e v = ap (λ l. links_at now l v) e
 
 -- ---- several numbers went, one after the other
 
-pub released_none : (h : Held) → LetsGo h h
+pub released_none : (h : Held) → LetsNumbersGo h h
 released_none h = record {
   rows = refl;
   links = λ v. refl;
@@ -167,7 +167,7 @@ released_none h = record {
   kept = λ sub e k. k;
 }
 
-pub released_both : (old mid new : Held) → LetsGo old mid → LetsGo mid new → LetsGo old new
+pub released_both : (old mid new : Held) → LetsNumbersGo old mid → LetsNumbersGo mid new → LetsNumbersGo old new
 released_both old mid new a b = record {
   rows = b.rows ∙ a.rows;
   links = λ v. b.links v ∙ a.links v;
@@ -181,7 +181,7 @@ released_both old mid new a b = record {
 -- what some have of the starts of these renamings, once the first are let go of
 pub record ReleasesOn (all : List Renaming) (old now : Held) (rest : List Renaming) : Type 0 where
   pub steady : (standing : List Standing) → IsSteady old (standing ++ begun_by all) → IsSteady now (standing ++ begun_by rest)
-  pub released : LetsGo old now
+  pub released : LetsNumbersGo old now
 
 pub releases_none : (all rest : List Renaming) (old : Held) → rest ≡ all → ReleasesOn all old old rest
 releases_none all rest old is = record {
@@ -202,7 +202,7 @@ module _ (all : List Renaming) (old now : Held) (left : List Renaming) (r : Rena
   can_go_on some = (some.0 ++ begun_by rest, next_steady some.0 some.1)
 
   pub releases_more : (new : Held) → ((more : List Standing) → IsSteady now (option_to_list r.standing ++ more) → IsSteady new more)
-      → LetsGo now new → ReleasesOn all old new rest
+      → LetsNumbersGo now new → ReleasesOn all old new rest
   releases_more new steady released = record {
     steady = λ standing s. steady (standing ++ begun_by rest) (next_steady standing s);
     released = released_both old now new so.released released;
@@ -218,8 +218,8 @@ releases_all all old now rest so none standing s =
 
 -- what was kept is kept, where it is numbered still
 pub kept_still : (old new : Held) (xs : List Standing) → KeepsNumbered old new
-    → AllByRecursion (IsNumbered new) xs → AllByRecursion (λ x. IsKept (sight_now old) x.subscription) xs
-    → AllByRecursion (λ x. IsKept (sight_now new) x.subscription) xs
+    → AllByRecursion (IsNumbered new) xs → AllByRecursion (λ x. IsUpToDate (sight_now old) x.subscription) xs
+    → AllByRecursion (λ x. IsUpToDate (sight_now new) x.subscription) xs
 kept_still old new [] keeps numbered kept = tt
 kept_still old new (x ∷ xs) keeps numbered kept =
     (keeps x.subscription numbered.0 kept.0, kept_still old new xs keeps numbered.1 kept.1)

@@ -13,7 +13,7 @@ use Rattle.std.specs.List.{AllByRecursion, filter, list_any}
 use Rattle.std.specs.List.Sorted.{IsStrictlySortedBy}
 use Rattle.ifmap_changes.specs.Between.{IsSteady, sight_now}
 use Rattle.ifmap_changes.specs.declared.parts.Parts.{Parts}
-use Rattle.ifmap_delta.specs.Sights.{IsKept}
+use Rattle.ifmap_delta.specs.Sights.{IsUpToDate}
 use Rattle.ifmap_graph.specs.Seen.{StaysLean, rows_now}
 use Rattle.ifmap_lemmas.specs.Filters.{all_filter, map_filter}
 use Rattle.ifmap_lemmas.specs.Members.{all_both, both_all}
@@ -24,8 +24,8 @@ use Rattle.ifmap_machine.specs.Subscribing.{Told, is_of_name}
 use Rattle.ifmap_machine.specs.Telling.{tell_session}
 use Rattle.ifmap_plans.specs.laws.PlacingLaws.{put_sorted}
 use Rattle.ifmap_search.specs.declared.results.PollItem.{PollItem}
-use Rattle.ifmap_session.specs.Sessions.{Changes, IsLive, Session, Table, change, is_named, session_order, session_with_serial, spare_of, without_name}
-use Rattle.ifmap_session.specs.laws.TableLaws.{Keeps, found_changed}
+use Rattle.ifmap_session.specs.Sessions.{Changes, IsLive, Session, SessionTable, change, is_named, session_order, session_with_serial, spare_of, without_name}
+use Rattle.ifmap_session.specs.laws.TableLaws.{KeepsIdAndClient, found_changed}
 use Rattle.ifmap_standing.specs.declared.standing.Standing.{Standing}
 use Rattle.ifmap_standing.specs.Standing.{standing_of}
 use Rattle.ifmap_subscribes.specs.declared.renamings.Renaming.{Renaming}
@@ -55,7 +55,7 @@ module _ (n : ℕ) where
         | inr miss ↦ rw (miss, miss, change_both f g h keeps same live) refl
       ]
 
-  changes_none : (f : Session → Session) → ((s : Session) → f s ≡ s) → (table : Table) → Changes n f table table
+  changes_none : (f : Session → Session) → ((s : Session) → f s ≡ s) → (table : SessionTable) → Changes n f table table
   changes_none f same table = record {
     live = sym (change_none f same table.live);
     counter = refl;
@@ -63,11 +63,11 @@ module _ (n : ℕ) where
     room = omega arith;
   }
 
-  pub tells_nothing : (table : Table) → Changes n (tell_session []) table table
+  pub tells_nothing : (table : SessionTable) → Changes n (tell_session []) table table
   tells_nothing table = changes_none (tell_session []) (λ s. ap (λ q. record s { queue = q }) (append-nil s.queue)) table
 
   pub changes_both : (f g h : Session → Session) → ((s : Session) → (f s).serial ≡ s.serial) → ((s : Session) → g (f s) ≡ h s)
-      → (old mid new : Table) → Changes n f old mid → Changes n g mid new → Changes n h old new
+      → (old mid new : SessionTable) → Changes n f old mid → Changes n g mid new → Changes n h old new
   changes_both f g h keeps same old mid new a b = record {
     live = b.live ∙ ap (change n g) a.live ∙ change_both f g h keeps same old.live;
     counter = b.counter ∙ a.counter;
@@ -105,31 +105,31 @@ module _ (n : ℕ) where
       ]
 
   -- it is found still, as it is changed
-  pub found_then : (f : Session → Session) → Keeps f → (live : List Session) (s : Session) → session_with_serial n live ≡ Some s
+  pub found_then : (f : Session → Session) → KeepsIdAndClient f → (live : List Session) (s : Session) → session_with_serial n live ≡ Some s
       → session_with_serial n (change n f live) ≡ Some (f s)
   found_then f k live s e =
       found_changed n f k n live s e ∙ ap (λ b. Some (cond b (f s) s)) (numbered live s e)
 
-pub live_then : (n : ℕ) (f : Session → Session) → Keeps f → (old new : Table) → Changes n f old new → IsLive n old.live → IsLive n new.live
+pub live_then : (n : ℕ) (f : Session → Session) → KeepsIdAndClient f → (old new : SessionTable) → Changes n f old new → IsLive n old.live → IsLive n new.live
 live_then n f k old new c l =
     let there = some_is (session_with_serial n old.live) l in
     subst (IsLive n) (sym c.live) (is_some_of (session_with_serial n (change n f old.live)) (f there.0)
     (found_then n f k old.live there.0 there.1))
 
-pub name_keeps : (name : List ℕ) → Keeps (without_name name)
+pub name_keeps : (name : List ℕ) → KeepsIdAndClient (without_name name)
 name_keeps name = record { serial = λ s. refl; id = λ s. refl; client = λ s. refl }
 
 -- what is to be told of a name goes, and other items are to be told
 abbrev retold : List ℕ → List PollItem → Session → Session
 retold name items s = record s { queue = filter (λ item. not (is_named name item)) s.queue ++ items }
 
-retold_keeps : (name : List ℕ) (items : List PollItem) → Keeps (retold name items)
+retold_keeps : (name : List ℕ) (items : List PollItem) → KeepsIdAndClient (retold name items)
 retold_keeps name items = record { serial = λ s. refl; id = λ s. refl; client = λ s. refl }
 
 abbrev requeued : List PollItem → Session → Session
 requeued queue s = record s { queue = queue }
 
-requeued_keeps : (queue : List PollItem) → Keeps (requeued queue)
+requeued_keeps : (queue : List PollItem) → KeepsIdAndClient (requeued queue)
 requeued_keeps queue = record { serial = λ s. refl; id = λ s. refl; client = λ s. refl }
 
 -- ---- renamings are made one after the other
@@ -258,7 +258,7 @@ module _ (serial : ℕ) (r : Renaming) (old : Parts) (rest : List Renaming) (can
   items_cons : item_count (r ∷ rest) ≡ length (option_to_list r.item) + item_count rest
   items_cons = sum_by-cons (λ (x : Renaming). length (option_to_list x.item)) r rest
 
-  pub item_room : (mid : Table) → spare_of serial old.sessions.spare ≤ spare_of serial mid.spare
+  pub item_room : (mid : SessionTable) → spare_of serial old.sessions.spare ≤ spare_of serial mid.spare
       → length (option_to_list r.item) ≤ spare_of serial mid.spare
   item_room mid more = omega (arith, items_cons, can.room, more)
 
@@ -301,9 +301,9 @@ module _ (serial : ℕ) (r : Renaming) (old : Parts) (rest : List Renaming) (can
         (steady_among mid.graph r.standing mid.standing.items new.standing.items (begun_by rest) among
         (steady (option_to_list r.standing ++ begun_by rest) can.steady))
 
-    kept_then : AllByRecursion (λ x. IsKept (sight_now new.graph) x.subscription) (new.standing.items ++ begun_by rest)
+    kept_then : AllByRecursion (λ x. IsUpToDate (sight_now new.graph) x.subscription) (new.standing.items ++ begun_by rest)
     kept_then =
-        let kept : Standing → Type 0 = λ x. IsKept (sight_now old.graph) x.subscription in
+        let kept : Standing → Type 0 = λ x. IsUpToDate (sight_now old.graph) x.subscription in
         let more = option_to_list r.standing ++ begun_by rest in
         let parts = all_both kept old.standing.items more can.kept in
         let fewer : AllByRecursion kept mid.standing.items =

@@ -5,7 +5,7 @@ use Rattle.std.proofs.lemmas.List.Sums.{sum_by-cons, sum_by_push}
 use Rattle.std.proofs.lemmas.Option.{same_Some}
 use Rattle.std.specs.List.{AllByRecursion, sum_by}
 use Rattle.ifmap_changes.specs.Between.{IsSteady, sight_now, starts_of}
-use Rattle.ifmap_delta.specs.Sights.{IsKept}
+use Rattle.ifmap_delta.specs.Sights.{IsUpToDate}
 use Rattle.ifmap_graph.specs.Back.{KeepsBacks}
 use Rattle.ifmap_graph.specs.Held.{Held, IsOwn}
 use Rattle.ifmap_graph.specs.Named.{named_in}
@@ -154,7 +154,7 @@ module _ (h : Held) (standing : List Standing) (v : ℕ) (start : Identifier) (w
 -- a subscription that is to stand has the number, or there is none and the number is let go of
 pub ends_steady : (mid new : Held) (standing : List Standing) (v : ℕ) (search : Search) (o : Option Standing)
     → IsHolding mid standing v search.start → (o ≡ None → IsSteady new standing) → IfSome o (λ x. new ≡ mid)
-    → AllByRecursion (λ x. (x.subscription.search ≡ search) × (x.subscription.region.start ≡ v) × IsKept (sight_now mid) x.subscription)
+    → AllByRecursion (λ x. (x.subscription.search ≡ search) × (x.subscription.region.start ≡ v) × IsUpToDate (sight_now mid) x.subscription)
     (option_to_list o) → IsSteady new (standing ++ option_to_list o)
 ends_steady mid new standing v search None held unused used begun =
     subst (λ l. IsSteady new l) (sym (append-nil standing)) (unused refl)

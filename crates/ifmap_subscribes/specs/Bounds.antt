@@ -2,7 +2,7 @@
 -- any of these bounds.
 use Rattle.std.specs.Prelude.{◌≡◌, ◌≤◌, ◌⊎◌, ℕ, List, [], ◌∷◌, length}
 use Rattle.std.proofs.Common.{arith, inl}
-use Rattle.ifmap_delta.specs.Sights.{Sight}
+use Rattle.ifmap_delta.specs.Sights.{ViewSeen}
 use Rattle.ifmap_fresh.specs.Linking.{IsReachedAt}
 use Rattle.ifmap_region.specs.Bounds.{IsWithin}
 use Rattle.ifmap_requests.specs.declared.requests.SubscribeOp.{SubscribeOp}
@@ -16,7 +16,7 @@ use Rattle.ifmap_view.specs.Views.{IsView}
 abbrev pub IsWithinSpan : ℕ → List Attachment → Search → ℕ → ℕ → Type 0
 IsWithinSpan times rows s before after =
     (after ≤ before)
-    ⊎ ((g : Sight) × (g.rows ≡ rows) × IsView g.rows g.id_at g.links
+    ⊎ ((g : ViewSeen) × (g.rows ≡ rows) × IsView g.rows g.id_at g.links
     × IsWithin (λ v. length (g.links v)) (IsReachedAt g.rows g.id_at s) times before after)
 
 -- by at most four times that for an update

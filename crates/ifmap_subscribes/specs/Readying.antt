@@ -5,9 +5,9 @@ use Rattle.std.specs.Cmp.Lexicographic.{slice_cmp}
 use Rattle.std.specs.List.{AllByRecursion, list_any}
 use Rattle.std.specs.List.Sorted.{IsStrictlySortedBy}
 use Rattle.std.specs.Ordering.{nat_cmp}
-use Rattle.ifmap_changes.specs.Between.{Asking, IsReady, IsSteady, SharesNumbers, sessions_left, sight_now, so_far, starts_of}
+use Rattle.ifmap_changes.specs.Between.{Asking, IsSoundSoFar, IsSteady, SharesNumbers, sessions_left, sight_now, so_far, starts_of}
 use Rattle.ifmap_changes.specs.declared.parts.Parts.{Parts}
-use Rattle.ifmap_delta.specs.Sights.{IsKept}
+use Rattle.ifmap_delta.specs.Sights.{IsUpToDate}
 use Rattle.ifmap_graph.specs.Back.{KeepsBacks}
 use Rattle.ifmap_graph.specs.Held.{Held, IsOwn}
 use Rattle.ifmap_graph.specs.Seen.{AwaitsMore, BringsNoNumbers, IsStill, KeepsNumbers, StaysLean, links_now, rows_now}
@@ -45,11 +45,11 @@ abbrev pub told_after : ℕ → Readying → Told → Told
 told_after serial readying t = rename_all serial readying.made.items t
 
 -- the same of the session of a scene
-abbrev pub told_in : Scene → Parts → Told
-told_in scene parts = told_at scene.serial scene.asking.now parts scene.pending.now
+abbrev pub told_in_scene : Scene → Parts → Told
+told_in_scene scene parts = told_at scene.serial scene.asking.now parts scene.pending.now
 
 abbrev pub told_then : Scene → Parts → Readying → Told
-told_then scene parts readying = told_after scene.serial readying (told_in scene parts)
+told_then scene parts readying = told_after scene.serial readying (told_in_scene scene parts)
 
 -- what is so of a name is what was so before
 pub record IsNameBefore (serial : ℕ) (name : List ℕ) (before after : Told) : Type 0 where
@@ -74,7 +74,7 @@ pub record AreCounted (serial : ℕ) (t : Told) (readying : Readying) : Type 0 w
 pub record CanStand (serial : ℕ) (parts : Parts) (renamings : List Renaming) : Type 0 where
   pub session : AllByRecursion (IsOfSession serial) renamings
   pub steady : IsSteady parts.graph (parts.standing.items ++ begun_by renamings)
-  pub kept : AllByRecursion (λ x. IsKept (sight_now parts.graph) x.subscription) (begun_by renamings)
+  pub kept : AllByRecursion (λ x. IsUpToDate (sight_now parts.graph) x.subscription) (begun_by renamings)
 
 -- operations are ready: what is to stand can, and what is kept of them is so
 pub record AreReadied (serial : ℕ) (t : Told) (parts : Parts) (readying : Readying) : Type 0 where
@@ -83,9 +83,9 @@ pub record AreReadied (serial : ℕ) (t : Told) (parts : Parts) (readying : Read
 
 -- an operation can be made ready: the parts are ready for it, the session lives, and what is kept of those before it is so
 pub record CanReady (scene : Scene) (parts : Parts) (readying : Readying) : Type 0 where
-  pub ready : IsReady scene.asking.now parts scene.pending.now
+  pub ready : IsSoundSoFar scene.asking.now parts scene.pending.now
   pub live : IsLive scene.serial (sessions_left scene.asking.now parts.sessions)
-  pub readied : AreReadied scene.serial (told_in scene parts) parts readying
+  pub readied : AreReadied scene.serial (told_in_scene scene parts) parts readying
 
 -- identifiers are held, and nothing else that is seen changes
 pub record OnlyHolds (old new : Parts) : Type 0 where

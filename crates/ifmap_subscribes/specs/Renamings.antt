@@ -10,7 +10,7 @@ use Rattle.ifmap_subscribes.specs.declared.names.NameNow.{NameNow}
 use Rattle.ifmap_changes.specs.declared.parts.Parts.{Parts}
 use Rattle.ifmap_subscribes.specs.declared.renamings.Renaming.{Renaming}
 use Rattle.ifmap_delta.specs.declared.subscriptions.Subscription.{Subscription}
-use Rattle.ifmap_delta.specs.Sights.{IsKept}
+use Rattle.ifmap_delta.specs.Sights.{IsUpToDate}
 use Rattle.ifmap_machine.specs.State as machine
 use Rattle.ifmap_machine.specs.State.{standing_order}
 use Rattle.ifmap_machine.specs.Subscribing.{Told, drop_name, is_of_name}
@@ -62,11 +62,11 @@ IsOfSession serial r = AllByRecursion (λ (x : Standing). (x.serial ≡ serial) 
 abbrev pub KeepsNumbered : Held → Held → Type 0
 KeepsNumbered old new =
     (sub : Subscription) → key_at new.names sub.region.start ≡ Some sub.search.start
-    → IsKept (sight_now old) sub → IsKept (sight_now new) sub
+    → IsUpToDate (sight_now old) sub → IsUpToDate (sight_now new) sub
 
 -- holds of numbers were let go of: what is stored, the links, the ways back and what is waited for stay, nothing is left behind, no
 -- number comes, and what is kept is kept still
-pub record LetsGo (old new : Held) : Type 0 where
+pub record LetsNumbersGo (old new : Held) : Type 0 where
   pub rows : rows_now new ≡ rows_now old
   pub links : (v : ℕ) → links_now new v ≡ links_now old v
   pub numbers : BringsNoNumbers old new
@@ -100,7 +100,7 @@ pub record CanRenameEach (serial : ℕ) (renamings : List Renaming) (parts : Par
   pub session : AllByRecursion (IsOfSession serial) renamings
   pub steady : IsSteady parts.graph (parts.standing.items ++ begun_by renamings)
   pub ordered : IsStrictlySortedBy standing_order (map standing_of parts.standing.items)
-  pub kept : AllByRecursion (λ x. IsKept (sight_now parts.graph) x.subscription) (parts.standing.items ++ begun_by renamings)
+  pub kept : AllByRecursion (λ x. IsUpToDate (sight_now parts.graph) x.subscription) (parts.standing.items ++ begun_by renamings)
   pub places : vec_len parts.standing + length renamings ≤ vec_capacity parts.standing
   pub room : item_count renamings ≤ spare_of serial parts.sessions.spare
 

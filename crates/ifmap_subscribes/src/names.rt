@@ -2,7 +2,7 @@
 ghost use Rattle.std.specs.Prelude.{◌≡◌, Some, false, filter, length, map};
 ghost use Rattle.std.specs.List.{AllByRecursion, list_any};
 ghost use Rattle.std.specs.List.Sorted.{IsStrictlySortedBy};
-ghost use Rattle.ifmap_changes.specs.Between.{IsReady, sessions_left, so_far};
+ghost use Rattle.ifmap_changes.specs.Between.{IsSoundSoFar, sessions_left, so_far};
 ghost use Rattle.ifmap_subscribes.specs.Renamings.{IsNameNow, told_so_far};
 ghost use Rattle.ifmap_tellings.specs.Tellings.{EachTelling, IsSized, kept_of, told_by};
 ghost use Rattle.ifmap_machine.specs.State.{standing_in, standing_order};
@@ -38,7 +38,7 @@ pub(crate) fn name_before(
     serial: u64,
     name: &Text,
 ) -> NameNow
-    requires ready { IsReady asking.now parts.now pending.now }
+    requires ready { IsSoundSoFar asking.now parts.now pending.now }
     requires live { IsLive serial (sessions_left asking.now parts.now.sessions) }
     ensures { (s : Session)
         → session_with_serial serial (so_far asking.now parts.now pending.now).sessions ≡ Some s

@@ -4,7 +4,7 @@ ghost use Rattle.std.specs.BTreeMap.{get};
 ghost use Rattle.std.specs.Cmp.Lexicographic.{slice_cmp};
 ghost use Rattle.std.specs.List.{AllByRecursion};
 ghost use Rattle.std.specs.Ordering.{nat_cmp};
-ghost use Rattle.ifmap_changes.specs.Between.{IsReady, IsSteady, sessions_left};
+ghost use Rattle.ifmap_changes.specs.Between.{IsSoundSoFar, IsSteady, sessions_left};
 ghost use Rattle.ifmap_graph.specs.Seen.{rows_now};
 ghost use Rattle.ifmap_machine.specs.Subscribing.{Told, most_names, subscribe_op, subscribe_ops};
 ghost use Rattle.ifmap_machine.specs.Subscribing as machine;
@@ -12,7 +12,7 @@ ghost use Rattle.ifmap_requests.specs.Fit.{IsFitSearch, IsFitSubscribeOp};
 ghost use Rattle.ifmap_requests.specs.declared.requests.SubscribeOp.TheVariants as the_op;
 ghost use Rattle.ifmap_session.specs.Sessions.{IsLive};
 ghost use Rattle.ifmap_subscribes.specs.Bounds.{AreOpsWithin, IsOpWithin, IsWithinSpan};
-ghost use Rattle.ifmap_subscribes.specs.Readying.{CanReady, CanStand, IsAdded, IsGivenUp, IsNoted, IsSmall, OnlyHolds, now_of, told_in, told_then};
+ghost use Rattle.ifmap_subscribes.specs.Readying.{CanReady, CanStand, IsAdded, IsGivenUp, IsNoted, IsSmall, OnlyHolds, now_of, told_in_scene, told_then};
 ghost use Rattle.ifmap_subscribes.specs.Renamings.{IsNameNow, rename};
 ghost use Rattle.ifmap_subscribes.specs.declared.readying.SubscribeError.TheVariants as the_error;
 
@@ -80,19 +80,19 @@ pub fn ready_ops<L: Ledger>(
     steps: &mut Steps<L>,
 ) -> Result<Readying, SubscribeError>
     requires steady { IsSteady parts.old.graph parts.old.standing.items }
-    requires ready { IsReady scene.now.asking.now parts.old scene.now.pending.now }
+    requires ready { IsSoundSoFar scene.now.asking.now parts.old scene.now.pending.now }
     requires live { IsLive scene.now.serial
         (sessions_left scene.now.asking.now parts.old.sessions) }
     requires fit { AllByRecursion IsFitSubscribeOp ops.now }
     ensures ops { IfOk result (λ readying. subscribe_ops (rows_now parts.old.graph)
-        scene.now.serial ops.now (told_in scene.now parts.old)
+        scene.now.serial ops.now (told_in_scene scene.now parts.old)
         ≡ Some (told_then scene.now parts.old readying)) }
     ensures can { IfOk result (CanReady scene.now parts.new) }
     ensures holds { OnOk result (OnlyHolds parts.old parts.new) }
     ensures full { result ≡ Err the_error.TooMany → subscribe_ops (rows_now parts.old.graph)
-        scene.now.serial ops.now (told_in scene.now parts.old) ≡ None }
+        scene.now.serial ops.now (told_in_scene scene.now parts.old) ≡ None }
     ensures given_up { OnErr result (IsGivenUp parts.old parts.new) }
-    ensures ready { IsReady scene.now.asking.now parts.new scene.now.pending.now }
+    ensures ready { IsSoundSoFar scene.now.asking.now parts.new scene.now.pending.now }
 
     // Also where memory runs out.
     ensures steps { AreOpsWithin (rows_now parts.old.graph) ops.now steps.old steps.new }
@@ -110,7 +110,7 @@ pub fn ready_ops<L: Ledger>(
 // No operation is made ready yet.
 fn nothing_ready(alloc: Global, parts: &Parts, scene: &Scene<'_>) -> Readying
     requires steady { IsSteady parts.now.graph parts.now.standing.items }
-    requires ready { IsReady scene.now.asking.now parts.now scene.now.pending.now }
+    requires ready { IsSoundSoFar scene.now.asking.now parts.now scene.now.pending.now }
     requires live { IsLive scene.now.serial
         (sessions_left scene.now.asking.now parts.now.sessions) }
     ensures none { result.made.items ≡ [] }
@@ -129,7 +129,7 @@ fn nothing_ready(alloc: Global, parts: &Parts, scene: &Scene<'_>) -> Readying
 fn give_up(parts: &mut Parts, scene: &Scene<'_>, readying: Readying)
     requires { CanReady scene.now parts.old readying }
     ensures given_up { IsGivenUp parts.old parts.new }
-    ensures ready { IsReady scene.now.asking.now parts.new scene.now.pending.now }
+    ensures ready { IsSoundSoFar scene.now.asking.now parts.new scene.now.pending.now }
 {
     let Readying { made, .. } = readying;
     release_all(&mut parts.graph, Many(made));
@@ -317,7 +317,7 @@ fn begin_beside<L: Ledger>(
     made: &[Renaming],
     steps: &mut Steps<L>,
 ) -> Result<Renaming, NoMemory>
-    requires ready { IsReady scene.now.asking.now parts.old scene.now.pending.now }
+    requires ready { IsSoundSoFar scene.now.asking.now parts.old scene.now.pending.now }
     requires stand { CanStand scene.now.serial parts.old made.now }
     requires most { length made.now ≤ 2 ^ 30 }
     requires fit { IsFitSearch wish.now.search.now }
@@ -329,7 +329,7 @@ fn begin_beside<L: Ledger>(
     ensures stand { IfOk result (λ renaming. CanStand scene.now.serial parts.new
         (made.now ++ renaming ∷ [])) }
     ensures err { OnErr result (CanStand scene.now.serial parts.new made.now) }
-    ensures ready { IsReady scene.now.asking.now parts.new scene.now.pending.now }
+    ensures ready { IsSoundSoFar scene.now.asking.now parts.new scene.now.pending.now }
     ensures holds { OnlyHolds parts.old parts.new }
     ensures steps { IsWithinSpan 4 (rows_now parts.old.graph) wish.now.search.now steps.old
         steps.new }

@@ -13,7 +13,7 @@ ghost use Rattle.ifmap_session.specs.Sessions.{Changes, IsLive, spare_of};
 ghost use Rattle.ifmap_standing.specs.declared.standing.Standing.{Standing};
 ghost use Rattle.ifmap_standing.specs.Standing.{standing_of};
 ghost use Rattle.ifmap_subscribes.specs.declared.renamings.Renaming.{Renaming};
-ghost use Rattle.ifmap_subscribes.specs.Renamings.{AreRenamed, CanRenameEach, KeepsNumbered, LetsGo, StandsAmong, begun_by, name_order, stand_where};
+ghost use Rattle.ifmap_subscribes.specs.Renamings.{AreRenamed, CanRenameEach, KeepsNumbered, LetsNumbersGo, StandsAmong, begun_by, name_order, stand_where};
 
 use ifmap_changes::parts::Parts;
 use ifmap_elem::{Many, Text};
@@ -63,7 +63,7 @@ fn release_where(graph: &mut Graph, renaming: &Renaming)
     ensures steady { (more : List Standing)
         → IsSteady graph.old (option_to_list renaming.now.standing ++ more)
         → IsSteady graph.new more }
-    ensures lets_go { LetsGo graph.old graph.new }
+    ensures lets_go { LetsNumbersGo graph.old graph.new }
 {
     if let Some(standing) = &renaming.standing {
         release_start(graph, standing);
@@ -76,7 +76,7 @@ pub fn release_start(graph: &mut Graph, one: &Standing)
     requires { (more : List Standing) × IsSteady graph.old (one.now ∷ more) }
     ensures steady { (more : List Standing) → IsSteady graph.old (one.now ∷ more)
         → IsSteady graph.new more }
-    ensures lets_go { LetsGo graph.old graph.new }
+    ensures lets_go { LetsNumbersGo graph.old graph.new }
 {
     bytes_tell_identifiers_apart();
     same_links_keep_subscriptions();

@@ -2,7 +2,7 @@
 ghost use Rattle.std.specs.Prelude.{◌≡◌, ◌<◌, ◌++◌, ℕ, List, None, Some, IfOk, IfSome, OnErr, option_to_list};
 ghost use Rattle.std.specs.List.{AllByRecursion};
 ghost use Rattle.ifmap_changes.specs.Between.{IsSteady, sight_now};
-ghost use Rattle.ifmap_delta.specs.Sights.{IsKept};
+ghost use Rattle.ifmap_delta.specs.Sights.{IsUpToDate};
 ghost use Rattle.ifmap_graph.specs.Seen.{HasFewOwn, rows_now};
 ghost use Rattle.ifmap_ident.specs.declared.codes.Code.TheVariants.{SearchResultsTooBig};
 ghost use Rattle.ifmap_machine.specs.Subscribing as machine;
@@ -57,7 +57,7 @@ pub(crate) fn begin_name<L: Ledger>(
     ensures session { IfOk result (IsOfSession wanted.now.serial) }
     ensures small { IfOk result IsSmall }
     ensures kept { IfOk result (λ renaming. AllByRecursion
-        (λ x. IsKept (sight_now graph.new) x.subscription) (option_to_list renaming.standing)) }
+        (λ x. IsUpToDate (sight_now graph.new) x.subscription) (option_to_list renaming.standing)) }
     ensures steady { IfOk result (λ renaming. (standing : List Standing)
         → IsSteady graph.old standing
         → IsSteady graph.new (standing ++ option_to_list renaming.standing)) }
@@ -128,7 +128,7 @@ fn begin_at<L: Ledger>(
     ensures kept { IfOk result (λ renaming. AllByRecursion
         (λ x. (x.subscription.search ≡ wanted.now.search.now)
         × (x.subscription.region.start ≡ number)
-        × IsKept (sight_now graph.now) x.subscription) (option_to_list renaming.standing)) }
+        × IsUpToDate (sight_now graph.now) x.subscription) (option_to_list renaming.standing)) }
     ensures steps { IsWithinSpan 4 (rows_now graph.now) wanted.now.search.now steps.old steps.new }
 {
     graph.is_view();

@@ -8,17 +8,17 @@ use Rattle.std.specs.Ordering.{nat_cmp}
 use Rattle.ifmap_lemmas.specs.Having.{Has, all_has}
 use Rattle.ifmap_lemmas.specs.Members.{all_of_map}
 use Rattle.ifmap_machine.specs.Telling.{is_overfull, overflow_session, tell_session}
-use Rattle.ifmap_session.specs.Sessions.{Session, Table}
+use Rattle.ifmap_session.specs.Sessions.{Session, SessionTable}
 use Rattle.ifmap_session.specs.laws.TextLaws.{all_found}
 use Rattle.ifmap_standing.specs.declared.standing.Standing.{Standing}
 use Rattle.ifmap_standing.specs.declared.telling.News.{News}
-use Rattle.ifmap_tellings.specs.Tellings.{AddsTo, AreWithin, CanTell, EachTelling, Tellings, gone_after, queued_for, told_by, told_where}
+use Rattle.ifmap_tellings.specs.Tellings.{AddsTo, AreUntoldWithinLimits, CanTell, EachTelling, Tellings, gone_after, queued_for, told_by, told_where}
 use Rattle.ifmap_tellings.proofs.FlagLaws.{flags_all, flags_long}
 use Rattle.ifmap_tellings.proofs.PassedLaws.{IsFree, map_alike}
 use Rattle.ifmap_session.specs.laws.TableLaws.{found_serial}
 
 pub queues_within : (tellings : Tellings) (live : List Session)
-    → AllByRecursion (λ s. is_overfull s ≡ false) (map (told_by tellings) live) → AreWithin tellings live
+    → AllByRecursion (λ s. is_overfull s ≡ false) (map (told_by tellings) live) → AreUntoldWithinLimits tellings live
 queues_within tellings live within = λ n s found none.
     let own : get nat_cmp tellings s.serial ≡ None = ap (get nat_cmp tellings) (found_serial n live s found) ∙ none in
     let each = all_of_map (λ s. is_overfull s ≡ false) (told_by tellings) live within in
@@ -32,7 +32,7 @@ gone_long gone news long =
 
 module _ (standing : List Standing) (news : List News) (old mid : Tellings)
     (added : (n : ℕ) → AddsTo (queued_for n standing news) (get nat_cmp old n) (get nat_cmp mid n)) where
-  pub mid_within : (live : List Session) → AllByRecursion (λ s. is_overfull s ≡ false) (map (told_by old) live) → AreWithin mid live
+  pub mid_within : (live : List Session) → AllByRecursion (λ s. is_overfull s ≡ false) (map (told_by old) live) → AreUntoldWithinLimits mid live
   mid_within live within = λ n s found none. queues_within old live within n s found ((added n).kept none)
 
   pub told_all : (live : List Session) → map (λ s. overflow_session (told_by mid s)) live
@@ -48,7 +48,7 @@ module _ (standing : List Standing) (news : List News) (old mid : Tellings)
 -- of sessions with no subscription nothing changes
 module _ (standing : List Standing) (old mid : Tellings)
     (others : (n : ℕ) → IsFree standing n → get nat_cmp mid n ≡ get nat_cmp old n) where
-  pub mid_can : (table : Table) → EachTelling (CanTell table) old → EachTelling (λ n t. IsFree standing n → CanTell table n t) mid
+  pub mid_can : (table : SessionTable) → EachTelling (CanTell table) old → EachTelling (λ n t. IsFree standing n → CanTell table n t) mid
   mid_can table can = λ n t e free. can n t (sym (others n free) ∙ e)
 
   pub mid_fits : (live : List Session) → AllByRecursion (λ s. is_overfull s ≡ false) (map (told_by old) live)

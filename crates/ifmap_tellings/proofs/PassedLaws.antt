@@ -11,10 +11,10 @@ use Rattle.std.specs.Option.{is_some}
 use Rattle.std.specs.Ordering.{nat_cmp}
 use Rattle.ifmap_lemmas.specs.Having.{Has, all_has}
 use Rattle.ifmap_machine.specs.Telling.{is_overfull, overflow_session}
-use Rattle.ifmap_session.specs.Sessions.{Session, Table, session_order, session_with_serial}
+use Rattle.ifmap_session.specs.Sessions.{Session, SessionTable, session_order, session_with_serial}
 use Rattle.ifmap_standing.specs.declared.standing.Standing.{Standing}
 use Rattle.ifmap_tellings.specs.declared.tellings.Telling.{Telling}
-use Rattle.ifmap_tellings.specs.Tellings.{AreWithin, CanTell, EachTelling, HasSameSessions, IsSized, Tellings, is_alone, told_by, told_where}
+use Rattle.ifmap_tellings.specs.Tellings.{AreUntoldWithinLimits, CanTell, EachTelling, HasSameSessions, IsSized, Tellings, is_alone, told_by, told_where}
 use Rattle.ifmap_tellings.proofs.OverflowLaws.{overflowed_within, within_stays}
 use Rattle.ifmap_tellings.proofs.RoomLaws.{found_here, tells_still}
 use Rattle.ifmap_tellings.specs.ToldLaws.{same_itself, same_twice, told_limit}
@@ -32,7 +32,7 @@ map_alike f g [] h = refl
 map_alike f g (x ∷ xs) h = ap (λ y. y ∷ map f xs) (h x (inl refl)) ∙ ap (λ ys. g x ∷ ys) (map_alike f g xs (λ y e. h y (inr e)))
 
 -- the subscriptions from this place on are left
-pub record Overflowing (standing : List Standing) (begun now : Table) (old tellings : Tellings) (at : ℕ) : Type 0 where
+pub record Overflowing (standing : List Standing) (begun now : SessionTable) (old tellings : Tellings) (at : ℕ) : Type 0 where
   pub told : (s : Session) → Has begun.live s → overflow_session (told_by tellings s) ≡ overflow_session (told_by old s)
   pub within : (s : Session) → Has begun.live s → IsFree (drop at standing) s.serial → is_overfull (told_by tellings s) ≡ false
   -- who was or is to be told one error in place of all
@@ -43,7 +43,7 @@ pub record Overflowing (standing : List Standing) (begun now : Table) (old telli
   pub sized : EachTelling (λ n t. IsSized n t begun.live) tellings
   pub same : HasSameSessions begun now
 
-pub passed_first : (standing : List Standing) (begun : Table) (old : Tellings)
+pub passed_first : (standing : List Standing) (begun : SessionTable) (old : Tellings)
     → ((s : Session) → Has begun.live s → IsFree standing s.serial → is_overfull (told_by old s) ≡ false)
     → EachTelling (λ n t. IsFree standing n → CanTell begun n t) old → EachTelling (λ n t. IsSized n t begun.live) old
     → Overflowing standing begun begun old old 0
@@ -57,9 +57,9 @@ passed_first standing begun old within rest sized = record {
   same = same_itself begun;
 }
 
-module _ (standing : List Standing) (begun now : Table) (old tellings : Tellings) (at : ℕ)
+module _ (standing : List Standing) (begun now : SessionTable) (old tellings : Tellings) (at : ℕ)
     (o : Overflowing standing begun now old tellings at) where
-  pub passed_within : AreWithin old begun.live → AreWithin tellings now.live
+  pub passed_within : AreUntoldWithinLimits old begun.live → AreUntoldWithinLimits tellings now.live
   passed_within within = λ n s found none.
       within n s (subst (λ live. session_with_serial n live ≡ Some s) o.same.live found)
       (some_alike (get nat_cmp tellings n) (get nat_cmp old n) (o.keys n) none)
@@ -86,7 +86,7 @@ module _ (standing : List Standing) (begun now : Table) (old tellings : Tellings
     passed_can = λ n t e. o.rest n t e (all_free n)
 
   module _ (x : Standing) (here : slice_get standing at ≡ Some x) (up : IsStrictlySortedBy session_order begun.live)
-      (wide : AllByRecursion (λ s. 100 ≤ s.limit) begun.live) (later : Table) (after : Tellings)
+      (wide : AllByRecursion (λ s. 100 ≤ s.limit) begun.live) (later : SessionTable) (after : Tellings)
       (told : (s : Session) → session_with_serial x.serial now.live ≡ Some s → told_by after s ≡ overflow_session (told_by tellings s))
       (alone : (s : Session) → session_with_serial x.serial now.live ≡ Some s
       → is_alone (get nat_cmp after s.serial) ≡ (is_alone (get nat_cmp tellings s.serial) || is_overfull (told_by tellings s)))

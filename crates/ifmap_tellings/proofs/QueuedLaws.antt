@@ -12,7 +12,7 @@ use Rattle.ifmap_search.specs.declared.results.PollItem.{PollItem}
 use Rattle.ifmap_session.specs.Sessions.{Session}
 use Rattle.ifmap_standing.specs.declared.standing.Standing.{Standing}
 use Rattle.ifmap_standing.specs.declared.telling.News.{News}
-use Rattle.ifmap_tellings.specs.Tellings.{AddsTo, AllKept, AreWithin, EachTelling, IsSized, LeaveAlone, SkipsGone, Tellings, is_alone, queued_for}
+use Rattle.ifmap_tellings.specs.Tellings.{AddsTo, AllKept, AreUntoldWithinLimits, EachTelling, IsSized, LeaveAlone, SkipsGone, Tellings, is_alone, queued_for}
 use Rattle.ifmap_tellings.proofs.AddedLaws.{adds_both, adds_nothing, both_empty}
 
 -- what there is of one subscription for a session
@@ -68,7 +68,7 @@ queueing_first live standing news old sized long = record {
 
 module _ (live : List Session) (standing : List Standing) (news : List News) (old now : Tellings) (at : ℕ) (left : List News)
     (q : Queueing live standing news old now at left) where
-  pub still_within : AreWithin old live → AreWithin now live
+  pub still_within : AreUntoldWithinLimits old live → AreUntoldWithinLimits now live
   still_within within = λ n s e none. within n s e ((q.added n).1.kept none)
 
   -- the place that is next

@@ -11,8 +11,8 @@ use Rattle.ifmap_tellings.specs.declared.tellings.Telling.TheVariants.{After, Al
 use Rattle.ifmap_tellings.specs.Tellings.{CanTell, EachTelling, Tellings, count_told, count_where, told_by, told_where}
 use Rattle.ifmap_machine.specs.Telling.{tell_session}
 use Rattle.ifmap_search.specs.declared.results.PollItem.{PollItem}
-use Rattle.ifmap_session.specs.Sessions.{Changes, IsLive, Session, Table, change, session_with_serial, spare_of, with_item}
-use Rattle.ifmap_session.specs.laws.TableLaws.{Keeps, changed_one, found_changed}
+use Rattle.ifmap_session.specs.Sessions.{Changes, IsLive, Session, SessionTable, change, session_with_serial, spare_of, with_item}
+use Rattle.ifmap_session.specs.laws.TableLaws.{KeepsIdAndClient, changed_one, found_changed}
 use Rattle.ifmap_machine.specs.OrderLaws.{tell_nothing}
 
 -- ---- one session changes
@@ -37,7 +37,7 @@ module _ (n : ℕ) where
         | inr miss ↦ rw (miss, miss, change_both f g h keeps same live) refl
       ]
 
-  pub changes_none : (f : Session → Session) → ((s : Session) → f s ≡ s) → (table : Table) → Changes n f table table
+  pub changes_none : (f : Session → Session) → ((s : Session) → f s ≡ s) → (table : SessionTable) → Changes n f table table
   changes_none f same table = record {
     live = sym (change_none f same table.live);
     counter = refl;
@@ -46,7 +46,7 @@ module _ (n : ℕ) where
   }
 
   pub changes_both : (f g h : Session → Session) → ((s : Session) → (f s).serial ≡ s.serial) → ((s : Session) → g (f s) ≡ h s)
-      → (old mid new : Table) → Changes n f old mid → Changes n g mid new → Changes n h old new
+      → (old mid new : SessionTable) → Changes n f old mid → Changes n g mid new → Changes n h old new
   changes_both f g h keeps same old mid new a b = record {
     live = b.live ∙ ap (change n g) a.live ∙ change_both f g h keeps same old.live;
     counter = b.counter ∙ a.counter;
@@ -55,7 +55,7 @@ module _ (n : ℕ) where
   }
 
 -- who lives goes on to live
-pub live_changed : (n : ℕ) (f : Session → Session) → Keeps f → (old new : Table) → Changes n f old new → (m : ℕ) → IsLive m old.live
+pub live_changed : (n : ℕ) (f : Session → Session) → KeepsIdAndClient f → (old new : SessionTable) → Changes n f old new → (m : ℕ) → IsLive m old.live
     → IsLive m new.live
 live_changed n f k old new c m l =
     let there = some_is (session_with_serial m old.live) l in
@@ -67,17 +67,17 @@ live_changed n f k old new c m l =
 told_more : (item : PollItem) (items : List PollItem) (s : Session) → tell_session items (with_item item s) ≡ tell_session (item ∷ items) s
 told_more item items s = ap (λ q. record s { queue = q }) (append_assoc s.queue (item ∷ []) items)
 
-queued_keeps : (item : PollItem) → Keeps (with_item item)
+queued_keeps : (item : PollItem) → KeepsIdAndClient (with_item item)
 queued_keeps item = record { serial = λ s. refl; id = λ s. refl; client = λ s. refl }
 
 -- of these items some are queued, and the rest is left
-pub record PushesOn (n : ℕ) (items : List PollItem) (old now : Table) (rest : List PollItem) : Type 0 where
+pub record PushesOn (n : ℕ) (items : List PollItem) (old now : SessionTable) (rest : List PollItem) : Type 0 where
   pub live : IsLive n now.live
-  pub on : (new : Table) → Changes n (tell_session rest) now new → Changes n (tell_session items) old new
+  pub on : (new : SessionTable) → Changes n (tell_session rest) now new → Changes n (tell_session items) old new
   pub spare : spare_of n now.spare + length items ≡ spare_of n old.spare + length rest
   pub fits : length items ≤ spare_of n old.spare
 
-module _ (n : ℕ) (items : List PollItem) (old : Table) where
+module _ (n : ℕ) (items : List PollItem) (old : SessionTable) where
   pub pushes_none : (rest : List PollItem) → rest ≡ items → IsLive n old.live → length items ≤ spare_of n old.spare
       → PushesOn n items old old rest
   pushes_none rest is live fits = record {
@@ -87,12 +87,12 @@ module _ (n : ℕ) (items : List PollItem) (old : Table) where
     fits = fits;
   }
 
-  module _ (now : Table) (all : List PollItem) (item : PollItem) (rest : List PollItem) (p : PushesOn n items old now all)
+  module _ (now : SessionTable) (all : List PollItem) (item : PollItem) (rest : List PollItem) (p : PushesOn n items old now all)
       (cut : all ≡ item ∷ rest) where
     pub push_fits : 1 ≤ spare_of n now.spare
     push_fits = let long = ap length cut in omega (arith, long, p.spare, p.fits)
 
-    pub pushes_more : (new : Table) → Changes n (with_item item) now new → spare_of n new.spare + 1 ≡ spare_of n now.spare
+    pub pushes_more : (new : SessionTable) → Changes n (with_item item) now new → spare_of n new.spare + 1 ≡ spare_of n now.spare
         → PushesOn n items old new rest
     pushes_more new c less = record {
       live = live_changed n (with_item item) (queued_keeps item) now new c n p.live;
@@ -104,7 +104,7 @@ module _ (n : ℕ) (items : List PollItem) (old : Table) where
       fits = p.fits;
     }
 
-  module _ (now : Table) (rest : List PollItem) (p : PushesOn n items old now rest) (none : rest ≡ []) where
+  module _ (now : SessionTable) (rest : List PollItem) (p : PushesOn n items old now rest) (none : rest ≡ []) where
     pub pushes_all : Changes n (tell_session items) old now
     pushes_all = p.on now (subst (λ xs. Changes n (tell_session xs) now now) (sym none) (changes_none n (tell_session []) tell_nothing now))
 
@@ -120,19 +120,19 @@ none_there (Some x) n there is = cc
 -- ---- one session is told
 
 -- with room for one more, there is room for one in place of all
-pub room_for_one : (n : ℕ) (table : Table) (t : Telling) → count_told t ≡ 1 → CanTell table n t → (s : Session)
+pub room_for_one : (n : ℕ) (table : SessionTable) (t : Telling) → count_told t ≡ 1 → CanTell table n t → (s : Session)
     → session_with_serial n table.live ≡ Some s → 1 ≤ spare_of n table.spare + length s.queue
 room_for_one n table t one can s is = omega (arith, one, can.room)
 
 -- ---- sessions are told one after the other
 
-told_keeps : (o : Option Telling) → Keeps (told_where o)
+told_keeps : (o : Option Telling) → KeepsIdAndClient (told_where o)
 told_keeps None = record { serial = λ s. refl; id = λ s. refl; client = λ s. refl }
 told_keeps (Some (After items size)) = record { serial = λ s. refl; id = λ s. refl; client = λ s. refl }
 told_keeps (Some (Alone error)) = record { serial = λ s. refl; id = λ s. refl; client = λ s. refl }
 
 -- some tellings are left, the others are told
-pub record TellsOn (tellings : Tellings) (old now : Table) (left : Tellings) : Type 0 where
+pub record TellsOn (tellings : Tellings) (old now : SessionTable) (left : Tellings) : Type 0 where
   pub can : EachTelling (CanTell now) left
   pub live : map (told_by left) now.live ≡ map (told_by tellings) old.live
   pub counter : now.counter ≡ old.counter
@@ -140,7 +140,7 @@ pub record TellsOn (tellings : Tellings) (old now : Table) (left : Tellings) : T
       ≤ spare_of n now.spare + count_where (get nat_cmp tellings n)
   pub room : old.room ≤ now.room
 
-pub tells_none : (tellings : Tellings) (old : Table) → EachTelling (CanTell old) tellings → TellsOn tellings old old tellings
+pub tells_none : (tellings : Tellings) (old : SessionTable) → EachTelling (CanTell old) tellings → TellsOn tellings old old tellings
 tells_none tellings old can = record {
   can = can;
   live = refl;
@@ -179,7 +179,7 @@ module _ (n : ℕ) (t : Telling) (left less : Tellings) (there : get nat_cmp lef
   told_each [] = refl
   told_each (s ∷ live) = rw (told_then s, told_each live) refl
 
-  module _ (tellings : Tellings) (old now new : Table) (so : TellsOn tellings old now left)
+  module _ (tellings : Tellings) (old now new : SessionTable) (so : TellsOn tellings old now left)
       (c : Changes n (told_where (Some t)) now new) (spare : spare_of n now.spare ≤ spare_of n new.spare + count_told t) where
     spare_at : (m : ℕ) → spare_of m old.spare + count_where (get nat_cmp less m)
         ≤ spare_of m new.spare + count_where (get nat_cmp tellings m)
@@ -221,7 +221,7 @@ module _ (n : ℕ) (t : Telling) (left less : Tellings) (there : get nat_cmp lef
       room = omega (arith, c.room, so.room);
     }
 
-module _ (tellings : Tellings) (old now : Table) (left : Tellings) (so : TellsOn tellings old now left) (none : left.entries ≡ []) where
+module _ (tellings : Tellings) (old now : SessionTable) (left : Tellings) (so : TellsOn tellings old now left) (none : left.entries ≡ []) where
   none_at : (n : ℕ) → get nat_cmp left n ≡ None
   none_at n = rw none refl
 

@@ -6,12 +6,12 @@ use Rattle.std.proofs.lemmas.Bool.Decides.{nat_tests}
 use Rattle.std.specs.List.Sorted.{IsStrictlySortedBy}
 use Rattle.std.specs.declared.cmp.Ordering.TheVariants.{Less}
 use Rattle.ifmap_lemmas.specs.Having.{Has, all_has}
-use Rattle.ifmap_session.specs.Sessions.{IsLive, Session, Table, session_order, session_with_serial, spare_of}
+use Rattle.ifmap_session.specs.Sessions.{IsLive, Session, SessionTable, session_order, session_with_serial, spare_of}
 use Rattle.ifmap_tellings.specs.declared.tellings.Telling.{Telling}
 use Rattle.ifmap_tellings.specs.Tellings.{CanTell, HasSameSessions, count_told}
 use Rattle.ifmap_tellings.specs.ToldLaws.{at_most}
 
-pub tells_still : (a b : Table) (n : ℕ) (t : Telling) → HasSameSessions a b → CanTell a n t → CanTell b n t
+pub tells_still : (a b : SessionTable) (n : ℕ) (t : Telling) → HasSameSessions a b → CanTell a n t → CanTell b n t
 tells_still a b n t same can = record {
   live = subst (λ l. IsLive n l) (sym same.live) can.live;
   room = at_most (count_told t) (spare_of n a.spare) (spare_of n b.spare) can.room (same.spare n);

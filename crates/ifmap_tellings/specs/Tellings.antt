@@ -10,7 +10,7 @@ use Rattle.ifmap_machine.specs.Telling.{is_overfull, tell_session}
 use Rattle.ifmap_search.specs.declared.results.PollItem.{PollItem}
 use Rattle.ifmap_search.specs.declared.results.PollItem.TheVariants as the_item
 use Rattle.ifmap_search.specs.Sizes.{queue_size}
-use Rattle.ifmap_session.specs.Sessions.{IsLive, Session, Table, session_with_serial, spare_of, with_error}
+use Rattle.ifmap_session.specs.Sessions.{IsLive, Session, SessionTable, session_with_serial, spare_of, with_error}
 use Rattle.ifmap_standing.specs.declared.standing.Standing.{Standing}
 use Rattle.ifmap_standing.specs.declared.telling.News.{News}
 
@@ -68,7 +68,7 @@ IsSized n (After items size) live =
 IsSized n (Alone error) live = (note : List ℕ) × (error ≡ the_item.Error None PollResultsTooBig note)
 
 -- a telling is of a live session, whose queue has room for it
-pub record CanTell (table : Table) (n : ℕ) (t : Telling) : Type 0 where
+pub record CanTell (table : SessionTable) (n : ℕ) (t : Telling) : Type 0 where
   pub live : IsLive n table.live
   pub room : count_told t ≤ spare_of n table.spare
 
@@ -77,8 +77,8 @@ abbrev pub EachTelling : (ℕ → Telling → Type 0) → Tellings → Type 0
 EachTelling P tellings = (n : ℕ) (t : Telling) → get nat_cmp tellings n ≡ Some t → P n t
 
 -- the queue of a session that is to be told nothing is within its limit
-abbrev pub AreWithin : Tellings → List Session → Type 0
-AreWithin tellings live =
+abbrev pub AreUntoldWithinLimits : Tellings → List Session → Type 0
+AreUntoldWithinLimits tellings live =
     (n : ℕ) (s : Session) → session_with_serial n live ≡ Some s → get nat_cmp tellings n ≡ None → is_overfull s ≡ false
 
 -- what there is to queue for a session of the news of each subscription
@@ -98,7 +98,7 @@ abbrev pub gone_alone : Tellings → List Bool → List Standing → List Bool
 gone_alone tellings gone standing = map (λ (p : Bool × Standing). p.0 || is_alone (get nat_cmp tellings p.1.serial)) (zip gone standing)
 
 -- the same sessions and counter; the room for more, and that of each queue, is no less
-pub record HasSameSessions (old new : Table) : Type 0 where
+pub record HasSameSessions (old new : SessionTable) : Type 0 where
   pub live : new.live ≡ old.live
   pub counter : new.counter ≡ old.counter
   pub spare : (n : ℕ) → spare_of n old.spare ≤ spare_of n new.spare

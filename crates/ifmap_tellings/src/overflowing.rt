@@ -5,7 +5,7 @@ ghost use Rattle.std.specs.BTreeMap.{get};
 ghost use Rattle.std.specs.List.{AllByRecursion};
 ghost use Rattle.std.specs.Ordering.{nat_cmp};
 ghost use Rattle.ifmap_tellings.specs.declared.tellings.Telling.{Telling};
-ghost use Rattle.ifmap_tellings.specs.Tellings.{AreWithin, CanTell, EachTelling, HasSameSessions, IsSized, count_where, is_alone, told_by, told_where};
+ghost use Rattle.ifmap_tellings.specs.Tellings.{AreUntoldWithinLimits, CanTell, EachTelling, HasSameSessions, IsSized, count_where, is_alone, told_by, told_where};
 ghost use Rattle.ifmap_ident.specs.declared.codes.Code.TheVariants.{PollResultsTooBig};
 ghost use Rattle.ifmap_lemmas.specs.Having.{Has};
 ghost use Rattle.ifmap_machine.specs.Telling.{is_overfull, limit_note, overflow_session};
@@ -33,7 +33,7 @@ pub(crate) fn overflow_all(
     requires live { AllByRecursion (λ x. IsLive x.serial sessions.old.live) standing.now }
     requires sized { EachTelling (λ n t. IsSized n t sessions.old.live) tellings.old }
     requires wide { AllByRecursion (λ s. 100 ≤ s.limit) sessions.old.live }
-    requires within { AreWithin tellings.old sessions.old.live }
+    requires within { AreUntoldWithinLimits tellings.old sessions.old.live }
     // What no subscription is of has room, and is within its limit.
     requires rest { EachTelling (λ n t. ((x : Standing) → Has standing.now x → x.serial ≢ n)
         → CanTell sessions.old n t) tellings.old }
@@ -69,7 +69,7 @@ fn overflow_one(
     requires live { IsLive serial sessions.old.live }
     requires sized { EachTelling (λ n t. IsSized n t sessions.old.live) tellings.old }
     requires wide { AllByRecursion (λ s. 100 ≤ s.limit) sessions.old.live }
-    requires within { AreWithin tellings.old sessions.old.live }
+    requires within { AreUntoldWithinLimits tellings.old sessions.old.live }
     ensures told { OnOk result ((s : Session)
         → session_with_serial serial sessions.old.live ≡ Some s
         → told_by tellings.new s ≡ overflow_session (told_by tellings.old s)) }
@@ -103,13 +103,13 @@ fn overflow_where(
 ) -> Result<u64, NoMemory>
     ensures told { OnOk result ((live : List Session) (s : Session)
         → EachTelling (λ n t. IsSized n t live) tellings.old
-        → AreWithin tellings.old live
+        → AreUntoldWithinLimits tellings.old live
         → session_with_serial serial live ≡ Some s → s.limit ≡ limit → 100 ≤ limit
         → told_where (get nat_cmp tellings.new serial) s
         ≡ overflow_session (told_where (get nat_cmp tellings.old serial) s)) }
     ensures alone { OnOk result ((live : List Session) (s : Session)
         → EachTelling (λ n t. IsSized n t live) tellings.old
-        → AreWithin tellings.old live
+        → AreUntoldWithinLimits tellings.old live
         → session_with_serial serial live ≡ Some s → s.limit ≡ limit
         → is_alone (get nat_cmp tellings.new serial) ≡ (is_alone (get nat_cmp tellings.old serial)
         || is_overfull (told_where (get nat_cmp tellings.old serial) s))) }

@@ -4,7 +4,7 @@ ghost use Rattle.std.specs.BTreeMap.{get};
 ghost use Rattle.std.specs.List.{AllByRecursion};
 ghost use Rattle.std.specs.Ordering.{nat_cmp};
 ghost use Rattle.ifmap_tellings.specs.declared.tellings.Telling.{Telling};
-ghost use Rattle.ifmap_tellings.specs.Tellings.{AddsTo, AreWithin, EachTelling, IsSized, LeaveAlone, is_alone, queued_for};
+ghost use Rattle.ifmap_tellings.specs.Tellings.{AddsTo, AreUntoldWithinLimits, EachTelling, IsSized, LeaveAlone, is_alone, queued_for};
 ghost use Rattle.ifmap_lemmas.specs.Having.{Has};
 ghost use Rattle.ifmap_machine.specs.Telling.{is_overfull};
 ghost use Rattle.ifmap_search.specs.Sizes.{poll_size, queue_size};
@@ -30,7 +30,7 @@ pub(crate) fn queue_all(
 ) -> Result<(), NoMemory>
     requires long { length news ≡ length standing.now }
     requires live { AllByRecursion (λ x. IsLive x.serial sessions.now.live) standing.now }
-    requires within { AreWithin tellings.old sessions.now.live }
+    requires within { AreUntoldWithinLimits tellings.old sessions.now.live }
     requires sized { EachTelling (λ n t. IsSized n t sessions.now.live) tellings.old }
     requires alone { LeaveAlone tellings.old standing.now news }
     ensures added { OnOk result ((n : ℕ) → AddsTo (queued_for n standing.now news)
@@ -58,7 +58,7 @@ fn queue_items(
     items: Many<PollItem>,
 ) -> Result<(), NoMemory>
     requires live { IsLive serial sessions.now.live }
-    requires within { AreWithin tellings.old sessions.now.live }
+    requires within { AreUntoldWithinLimits tellings.old sessions.now.live }
     requires sized { EachTelling (λ n t. IsSized n t sessions.now.live) tellings.old }
     requires alone { is_alone (get nat_cmp tellings.old serial) ≡ true → items ≡ [] }
     ensures added { OnOk result (AddsTo items (get nat_cmp tellings.old serial)

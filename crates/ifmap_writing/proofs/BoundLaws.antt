@@ -28,10 +28,10 @@ use Rattle.ifmap_ident.specs.Parts.{has_only, value_of}
 use Rattle.ifmap_meta.specs.declared.metadata.Metadata.{Metadata}
 use Rattle.ifmap_meta.specs.Stamps.{content_of}
 use Rattle.ifmap_forms.specs.Checks.{Check, check_if, check_then, fail, need, need_some, pass}
-use Rattle.ifmap_forms.specs.Items.{from_list, is_list, item_of, list_at, list_check}
+use Rattle.ifmap_forms.specs.Items.{from_list, is_list, item_of, list_if_there, list_check}
 use Rattle.ifmap_forms.specs.Scopes.{Scopes, scopes_below}
-use Rattle.ifmap_forms.specs.Tables.{Both, Form, Part, Table, beside, both, each_element, form_check, form_or, no_attributes, parts_in}
-use Rattle.ifmap_forms.specs.Tables.{parts_of}
+use Rattle.ifmap_forms.specs.Tables.{Both, Form, Part, AttributeTable, beside, both, each_element, form_check, form_or, no_attributes, parts_in}
+use Rattle.ifmap_forms.specs.Tables.{element_parts}
 use Rattle.ifmap_forms.specs.Values.{Field, depth_field, field_check, filter_field, kinds_field, name_field, number_of, read_depth}
 use Rattle.ifmap_forms.specs.Values.{read_name, read_size, size_field}
 use Rattle.ifmap_requests.specs.declared.publishing.PublishOp.{PublishOp}
@@ -39,13 +39,13 @@ use Rattle.ifmap_requests.specs.declared.requests.Request.{Request}
 use Rattle.ifmap_requests.specs.declared.requests.SubscribeOp.{SubscribeOp}
 use Rattle.ifmap_requests.specs.Means.{Means, scopes_from}
 use Rattle.ifmap_requests.specs.Published.{metadata_check, published_check}
-use Rattle.ifmap_requests.specs.RequestForms.{SearchValues, delete_form, delete_of, end_form, end_of, end_session_form, end_session_of}
+use Rattle.ifmap_requests.specs.RequestForms.{SearchValues, delete_form, delete_from_form, end_form, end_from_form, end_session_form, end_session_of}
 use Rattle.ifmap_envelopes.specs.Spaces.{ifmap_space}
 use Rattle.ifmap_requests.specs.RequestForms.{named_request_check, new_session_form, new_session_of, notify_form, notify_of}
 use Rattle.ifmap_requests.specs.RequestForms.{other_request_check, poll_form, poll_of, publish_form, publish_of, publish_op_check}
 use Rattle.ifmap_requests.specs.RequestForms.{purge_form, purge_of, renew_form, renewal_of, request_check, search_attributes, search_form}
 use Rattle.ifmap_requests.specs.RequestForms.{search_from, search_of, session_field, subscribe_form, subscribe_of, subscribe_op_check}
-use Rattle.ifmap_requests.specs.RequestForms.{subscription_form, subscription_of, update_form, update_of}
+use Rattle.ifmap_requests.specs.RequestForms.{subscription_form, subscription_from_form, update_form, update_from_form}
 use Rattle.ifmap_writing.specs.Bounds.{IsBounded, IsBoundedMetadata, IsBoundedName, IsBoundedPublish, IsBoundedSearch, IsBoundedSubscribe}
 use Rattle.ifmap_elem.specs.laws.ArrangedLaws.{out_element}
 
@@ -81,14 +81,14 @@ module _ {X A C : Type 0} (form : Form A C) (make : A → C → X) (scopes : Sco
     pub first : A
     pub others : C
     pub attributes : form.attributes.reads (scopes []) e (good first)
-    pub content : form.content scopes (parts_of e) (good others)
+    pub content : form.content scopes (element_parts e) (good others)
     pub made : x ≡ make first others
 
   form_parts : form_check form make scopes e (good x) → Parts
   form_parts h =
       let r = h.1 in
       let inner = needed (has_only (form.passed_over ++ form.attributes.locals) e) Failure
-      (check_then (form.content scopes (parts_of e)) (λ c. pass (both r.0 c))) h.0 r.2 in
+      (check_then (form.content scopes (element_parts e)) (λ c. pass (both r.0 c))) h.0 r.2 in
       let is : h.0 ≡ both r.0 inner.1.0 = passed h.0 (both r.0 inner.1.0) inner.1.2 in
       record {
         first = r.0;
@@ -98,7 +98,7 @@ module _ {X A C : Type 0} (form : Form A C) (make : A → C → X) (scopes : Sco
         made = passed x (make h.0.first h.0.others) h.2 ∙ ap (λ (b : Both A C). make b.first b.others) is;
       }
 
-module _ {X Y : Type 0} (field : Field X) (table : Table Y) (scope : Scope) (e : Element) (b : Both X Y) where
+module _ {X Y : Type 0} (field : Field X) (table : AttributeTable Y) (scope : Scope) (e : Element) (b : Both X Y) where
   beside_parts : (beside field table).reads scope e (good b)
       → field_check field scope e (good b.first) × table.reads scope e (good b.others)
   beside_parts h =
@@ -138,13 +138,13 @@ size_bounded (Some text) n h =
     omega (arith, is)
 
 -- the attributes of a search, one after another
-abbrev after_size : Table (Both (Option Filter) (Both (List Kind) (Unit {0})))
+abbrev after_size : AttributeTable (Both (Option Filter) (Both (List Kind) (Unit {0})))
 after_size = beside (filter_field (codes "result-filter")) (beside kinds_field no_attributes)
 
-abbrev after_depth : Table (Both ℕ (Both (Option Filter) (Both (List Kind) (Unit {0}))))
+abbrev after_depth : AttributeTable (Both ℕ (Both (Option Filter) (Both (List Kind) (Unit {0}))))
 after_depth = beside size_field after_size
 
-abbrev after_links : Table (Both ℕ (Both ℕ (Both (Option Filter) (Both (List Kind) (Unit {0})))))
+abbrev after_links : AttributeTable (Both ℕ (Both ℕ (Both (Option Filter) (Both (List Kind) (Unit {0})))))
 after_links = beside depth_field after_depth
 
 search_bounded : (scope : Scope) (e : Element) (v : SearchValues) → search_attributes.reads scope e (good v)
@@ -182,7 +182,7 @@ module _ (n : ℕ) where
   children_low (c ∷ cs) low =
       (child_low c (omega (arith, low)), children_low cs (omega (arith, low)))
 
-  pub parts_low : (e : Element) → nesting e ≤ suc n → AreLow n (parts_of e)
+  pub parts_low : (e : Element) → nesting e ≤ suc n → AreLow n (element_parts e)
   parts_low e low =
       let is : nesting e ≡ suc (greatest (map child_nesting e.children)) = at_element ℕ ℕ child_levels element_levels e in
       children_low e.children (omega (arith, is, low))
@@ -225,13 +225,13 @@ metadata_bounded index e m low made =
 list_bounded : (e : Element) (elements : List Metadata) → nesting e ≤ 60 → list_check metadata_check e (good elements)
     → AllByRecursion IsBoundedMetadata elements
 list_bounded e elements low h =
-    each_given 59 (λ index inner. metadata_check inner) IsBoundedMetadata metadata_bounded (parts_of e) 0 elements (parts_low 59 e low)
-    (needed (has_only [] e) Failure (each_element (λ index inner. metadata_check inner) 0 (parts_of e)) elements h).1
+    each_given 59 (λ index inner. metadata_check inner) IsBoundedMetadata metadata_bounded (element_parts e) 0 elements (parts_low 59 e low)
+    (needed (has_only [] e) Failure (each_element (λ index inner. metadata_check inner) 0 (element_parts e)) elements h).1
 
 abbrev AreBounded : Option (List Metadata) → Type 0
 AreBounded list = IfSome list (λ elements. AllByRecursion IsBoundedMetadata elements)
 
-list_at_bounded : (parts : List Part) (list : Option (List Metadata)) → AreLow 60 parts → list_at metadata_check parts (good list)
+list_at_bounded : (parts : List Part) (list : Option (List Metadata)) → AreLow 60 parts → list_if_there metadata_check parts (good list)
     → AreBounded list
 list_at_bounded [] list low h = subst AreBounded (sym (passed list None h)) tt
 list_at_bounded (Child-F.Element e ∷ after) list low h =
@@ -253,18 +253,18 @@ published_bounded parts b low h =
 
 publish_bounded : (scopes : Scopes) (e : Element) (op : PublishOp) → nesting e ≤ 61 → publish_op_check scopes e (good op)
     → IsBoundedPublish op
-publish_bounded scopes e op low h = elim (either_found (is_name e.name update_form.name) (form_check update_form update_of scopes e) _ op
+publish_bounded scopes e op low h = elim (either_found (is_name e.name update_form.name) (form_check update_form update_from_form scopes e) _ op
     h) [
       | inl found ↦
-          let p = form_parts update_form update_of scopes e op found in
-          subst IsBoundedPublish (sym p.made) (published_bounded (parts_of e) p.others (parts_low 60 e low) p.content)
+          let p = form_parts update_form update_from_form scopes e op found in
+          subst IsBoundedPublish (sym p.made) (published_bounded (element_parts e) p.others (parts_low 60 e low) p.content)
       | inr later ↦ elim (either_found (is_name e.name notify_form.name) (form_check notify_form notify_of scopes e) _ op later) [
         | inl found ↦
             let p = form_parts notify_form notify_of scopes e op found in
-            subst IsBoundedPublish (sym p.made) (published_bounded (parts_of e) p.others (parts_low 60 e low) p.content)
-        | inr last ↦ elim (either_found (is_name e.name delete_form.name) (form_check delete_form delete_of scopes e) (fail Failure) op
+            subst IsBoundedPublish (sym p.made) (published_bounded (element_parts e) p.others (parts_low 60 e low) p.content)
+        | inr last ↦ elim (either_found (is_name e.name delete_form.name) (form_check delete_form delete_from_form scopes e) (fail Failure) op
             last) [
-              | inl found ↦ let p = form_parts delete_form delete_of scopes e op found in subst IsBoundedPublish (sym p.made) tt
+              | inl found ↦ let p = form_parts delete_form delete_from_form scopes e op found in subst IsBoundedPublish (sym p.made) tt
               | inr wrong ↦ let apart : good op ≡ bad Failure = wrong in cc
             ]
       ]
@@ -276,17 +276,17 @@ bounded_of start v b = record { depth = b.0; size = b.1 }
 
 subscribe_bounded : (scopes : Scopes) (e : Element) (op : SubscribeOp) → subscribe_op_check scopes e (good op) → IsBoundedSubscribe op
 subscribe_bounded scopes e op h =
-    elim (either_found (is_name e.name subscription_form.name) (form_check subscription_form subscription_of scopes e) _ op h) [
+    elim (either_found (is_name e.name subscription_form.name) (form_check subscription_form subscription_from_form scopes e) _ op h) [
       | inl found ↦
-          let p = form_parts subscription_form subscription_of scopes e op found in
+          let p = form_parts subscription_form subscription_from_form scopes e op found in
           let a = beside_parts name_field search_attributes (scopes []) e p.first p.attributes in
           subst IsBoundedSubscribe (sym p.made) (
             name_bounded (value_of name_field.local e) p.first.first a.0,
             bounded_of p.others p.first.others (search_bounded (scopes []) e p.first.others a.1),
           )
-      | inr later ↦ elim (either_found (is_name e.name end_form.name) (form_check end_form end_of scopes e) (fail Failure) op later) [
+      | inr later ↦ elim (either_found (is_name e.name end_form.name) (form_check end_form end_from_form scopes e) (fail Failure) op later) [
         | inl found ↦
-            let p = form_parts end_form end_of scopes e op found in
+            let p = form_parts end_form end_from_form scopes e op found in
             let a = beside_parts name_field no_attributes (scopes []) e p.first p.attributes in
             subst IsBoundedSubscribe (sym p.made) (name_bounded (value_of name_field.local e) p.first.first a.0)
         | inr wrong ↦ let apart : good op ≡ bad Failure = wrong in cc
@@ -333,7 +333,7 @@ module _ (scopes : Scopes) (e : Element) (r : Request) where
             let p = form_parts subscribe_form subscribe_of scopes e r found in
             subst IsBounded (sym p.made)
             (each_given (nesting e) (λ index inner. subscribe_op_check (scopes_below scopes index) inner) IsBoundedSubscribe
-            (λ index inner op low found. subscribe_bounded (scopes_below scopes index) inner op found) (parts_of e) 0 p.others
+            (λ index inner op low found. subscribe_bounded (scopes_below scopes index) inner op found) (element_parts e) 0 p.others
             (parts_low (nesting e) e (omega arith)) p.content)
         | inr rest ↦ purge_bounded rest
       ]
@@ -364,7 +364,7 @@ module _ (scopes : Scopes) (e : Element) (r : Request) where
             let p = form_parts publish_form publish_of scopes e r found in
             subst IsBounded (sym p.made)
             (each_given 61 (λ index inner. publish_op_check (scopes_below scopes index) inner) IsBoundedPublish
-            (λ index inner op low found. publish_bounded (scopes_below scopes index) inner op low found) (parts_of e) 0 p.others
+            (λ index inner op low found. publish_bounded (scopes_below scopes index) inner op low found) (element_parts e) 0 p.others
             (parts_low 61 e low) p.content)
         | inr rest ↦ other_bounded rest
       ]

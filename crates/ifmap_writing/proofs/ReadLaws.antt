@@ -32,7 +32,7 @@ use Rattle.ifmap_meta.specs.Whole.{IsMadeOf, IsMetadata}
 use Rattle.ifmap_search.specs.declared.searches.Search as search
 use Rattle.ifmap_forms.specs.AnswerLaws.{found_after, found_alone, found_beside, found_form}
 use Rattle.ifmap_forms.specs.Checks.{Check, check_then, need_some, pass}
-use Rattle.ifmap_forms.specs.Items.{before_list, from_list, identifiers_check, item_check, item_of, list_at, list_check, may_follow}
+use Rattle.ifmap_forms.specs.Items.{before_list, from_list, identifiers_check, item_check, item_of, list_if_there, list_check, may_follow}
 use Rattle.ifmap_forms.specs.Items.{start_check}
 use Rattle.ifmap_forms.specs.Scopes.{Scopes, scopes_below}
 use Rattle.ifmap_forms.specs.Tables.{Part, both, each_element, list_of, parts_in}
@@ -46,11 +46,11 @@ use Rattle.ifmap_requests.specs.declared.requests.Request.TheVariants.{Poll, Pur
 use Rattle.ifmap_requests.specs.declared.requests.SubscribeOp.{SubscribeOp}
 use Rattle.ifmap_requests.specs.declared.requests.SubscribeOp.TheVariants as subscribe
 use Rattle.ifmap_requests.specs.Published.{metadata_check, published_check}
-use Rattle.ifmap_requests.specs.RequestForms.{SearchValues, delete_form, delete_of, end_form, end_of, end_session_form, end_session_of}
+use Rattle.ifmap_requests.specs.RequestForms.{SearchValues, delete_form, delete_from_form, end_form, end_from_form, end_session_form, end_session_of}
 use Rattle.ifmap_requests.specs.RequestForms.{new_session_form, new_session_of, notify_form, notify_of, poll_form, poll_of, publish_form}
 use Rattle.ifmap_requests.specs.RequestForms.{publish_of, publish_op_check, publisher_field, purge_form, purge_of, renew_form, renewal_of}
 use Rattle.ifmap_requests.specs.RequestForms.{request_check, search_attributes, search_form, search_of, session_field, subscribe_form}
-use Rattle.ifmap_requests.specs.RequestForms.{subscribe_of, subscribe_op_check, subscription_form, subscription_of, update_form, update_of}
+use Rattle.ifmap_requests.specs.RequestForms.{subscribe_of, subscribe_op_check, subscription_form, subscription_from_form, update_form, update_from_form}
 use Rattle.ifmap_requests.specs.Fit.{IsFitLimit, IsFitOp, IsFitRequest, IsFitSubscribeOp}
 use Rattle.ifmap_writing.specs.Attributes.{AttributeRow, attributes_of, filter_rows, filter_value, kinds_value, lifetime_rows, lifetime_value}
 use Rattle.ifmap_writing.specs.Attributes.{limit_rows, limit_value, name_rows, number_value, purge_rows, search_rows, session_rows}
@@ -221,7 +221,7 @@ module _ (canon : (i : Identifier) → IsIdentifier i → IsCanon (identifier_el
         (identifiers_back canon item i),
     (
       Some elements,
-      subst (λ (parts : List Part). list_at metadata_check parts (good (Some elements))) (sym (from_back item elements))
+      subst (λ (parts : List Part). list_if_there metadata_check parts (good (Some elements))) (sym (from_back item elements))
           (elements, metadata_back elements f, refl),
       subst (λ (o : Option Item). need_some Failure o (λ (x : Item). need_some Failure (Some elements) (λ es. pass (both x es)))
           (good (both item elements))) (sym (item_is canon item i)) refl,
@@ -294,7 +294,7 @@ module _ (canon : (i : Identifier) → IsIdentifier i → IsCanon (identifier_el
         → publish_op_check scopes (publish_element spaces op) (good op)
     publish_back scopes (publish.Update item elements forever) f w =
         let e : Element = publish_element spaces (publish.Update item elements forever) in
-        found_form update_form update_of scopes e (both forever tt)
+        found_form update_form update_from_form scopes e (both forever tt)
         (found_alone lifetime_field (scopes []) e forever
         (field_back lifetime_field (scopes []) (bare_name (codes "update")) (lifetime_rows forever) (published_children item elements)
         (lifetime_value forever) forever (or_none (lifetime_value forever)) (lifetime_back forever)))
@@ -304,7 +304,7 @@ module _ (canon : (i : Identifier) → IsIdentifier i → IsCanon (identifier_el
         (published_back item elements f.0 f.1)
     publish_back scopes (publish.Delete item filter) f w =
         let e : Element = publish_element spaces (publish.Delete item filter) in
-        found_form delete_form delete_of scopes e (both filter tt)
+        found_form delete_form delete_from_form scopes e (both filter tt)
         (found_alone (filter_field (codes "filter")) (scopes []) e filter
         (field_back (filter_field (codes "filter")) (scopes []) (bare_name (codes "delete")) (filter_rows spaces filter)
         (item_children item) (filter_value spaces filter) filter (or_none (filter_value spaces filter))
@@ -317,7 +317,7 @@ module _ (canon : (i : Identifier) → IsIdentifier i → IsCanon (identifier_el
         let rows : List AttributeRow = subscription_rows spaces name s in
         let children : List Child = identifier_children (s.start ∷ []) in
         let e : Element = subscribe_element spaces (subscribe.Update name s) in
-        found_form subscription_form subscription_of scopes e (both name (search_values s))
+        found_form subscription_form subscription_from_form scopes e (both name (search_values s))
         (found_beside name_field search_attributes (scopes []) e name (search_values s)
         (field_back name_field (scopes []) (bare_name (codes "update")) rows children (Some name) name refl
         (name_back name within.0.some within.0.few))
@@ -327,7 +327,7 @@ module _ (canon : (i : Identifier) → IsIdentifier i → IsCanon (identifier_el
         s.start (only_rows subscription_form.attributes.locals rows refl) (start_back canon s.start f.1.start)
     subscribe_back scopes (subscribe.Delete name) f within w =
         let e : Element = subscribe_element spaces (subscribe.Delete name) in
-        found_form end_form end_of scopes e (both name tt)
+        found_form end_form end_from_form scopes e (both name tt)
         (found_alone name_field (scopes []) e name
         (field_back name_field (scopes []) (bare_name (codes "delete")) (name_rows name) [] (Some name) name refl
         (name_back name within.some within.few)))

@@ -20,7 +20,7 @@ use Rattle.ifmap_ident.specs.declared.kinds.Kind.TheVariants.{AccessRequest, Dev
 use Rattle.ifmap_ident.specs.Kinds.{kind_name}
 use Rattle.ifmap_forms.specs.Checks.{Check, check_if, need_some, pass}
 use Rattle.ifmap_forms.specs.Values.{kind_of, kinds_check, number_of, piece_check, pieces_of, read_depth, read_kinds}
-use Rattle.ifmap_forms.specs.Values.{read_lifetime, read_limit, read_name, read_size, trim_white, within}
+use Rattle.ifmap_forms.specs.Values.{read_lifetime, read_limit, read_name, read_size, trim_white, within_range}
 use Rattle.ifmap_writing.specs.Attributes.{kinds_value, lifetime_value, limit_value, number_value}
 use Rattle.ifmap_elem.specs.laws.PrintedScopes.{digits_ascii}
 use Rattle.ifmap_forms.specs.FormLaws.{number_back}
@@ -78,8 +78,8 @@ limit_back (Some n) f =
     let bounds = f n refl in
     let low = bounds.0 in
     let high = bounds.1 in
-    let same : n ≡ within 10_000 5_000_000 n = omega (arith, low, high) in
-    number_passes n _ (λ m. pass (Some (within 10_000 5_000_000 m))) (Some n) (ap (λ (m : ℕ). good (Some m)) same)
+    let same : n ≡ within_range 10_000 5_000_000 n = omega (arith, low, high) in
+    number_passes n _ (λ m. pass (Some (within_range 10_000 5_000_000 m))) (Some n) (ap (λ (m : ℕ). good (Some m)) same)
 
 pub depth_back : (n : ℕ) → n < 2 ^ 32 → read_depth (number_value n) (good n)
 depth_back n low =

@@ -13,9 +13,9 @@ abbrev pub IsAskable : List ℕ → List ℕ → Type 0
 IsAskable address name = IsAddress address × IsClientName name
 
 -- these are the host and the client of a call
-abbrev pub AsksFor : List ℕ → List ℕ → List ℕ → List ℕ → Type 0
-AsksFor address name host client = (host ≡ address) × (client ≡ name) × IsAskable address name
+abbrev pub AreHostAndClient : List ℕ → List ℕ → List ℕ → List ℕ → Type 0
+AreHostAndClient address name host client = (host ≡ address) × (client ≡ name) × IsAskable address name
 
 -- `ADDRESS NAME`, neither of them an option
-abbrev pub IsCall : List (List ℕ) → List ℕ → List ℕ → Type 0
-IsCall words host client = IsPair words host client × IsAskable host client
+abbrev pub AreAddressAndName : List (List ℕ) → List ℕ → List ℕ → Type 0
+AreAddressAndName words host client = IsPair words host client × IsAskable host client

@@ -1,7 +1,7 @@
 //! What the words of the program ask for.
 ghost use Rattle.std.specs.Prelude.{◌≡◌, ◌&&◌, ℕ, List, true, IfNone, IfOk, IfSome, map, nat_lt, string_bytes};
 ghost use Rattle.ifmap_heads.specs.Messages.{is_visible};
-ghost use Rattle.mapc.specs.Calls.{AsksFor, IsAskable, IsCall};
+ghost use Rattle.mapc.specs.Calls.{AreHostAndClient, IsAskable, AreAddressAndName};
 
 use ifmap_elem::Text;
 use ifmap_meta::ClientName;
@@ -20,9 +20,9 @@ pub struct Call {
 /// The call that the words ask for, `ADDRESS NAME`; `None` exactly where they ask for none.
 pub fn call_of(alloc: Global, words: &[String]) -> Result<Option<Call>, NoMemory>
     ensures some { IfOk result (λ found. IfSome found (λ call.
-        IsCall (map string_bytes words.now) call.host call.client)) }
+        AreAddressAndName (map string_bytes words.now) call.host call.client)) }
     ensures none { IfOk result (λ found. IfNone found ((host client : List ℕ)
-        → IsCall (map string_bytes words.now) host client → ⊥)) }
+        → AreAddressAndName (map string_bytes words.now) host client → ⊥)) }
 {
     let Some(pair) = two_words(alloc, "mapc", words)? else {
         return Ok(None);
@@ -33,7 +33,7 @@ pub fn call_of(alloc: Global, words: &[String]) -> Result<Option<Call>, NoMemory
 // The call with that address and that name.
 fn call_in(alloc: Global, address: &str, name: &str) -> Result<Option<Call>, NoMemory>
     ensures some { IfOk result (λ found. IfSome found (λ call.
-        AsksFor address.now name.now call.host call.client)) }
+        AreHostAndClient address.now name.now call.host call.client)) }
     ensures none { IfOk result (λ found. IfNone found (IsAskable address.now name.now → ⊥)) }
 {
     if address.is_empty() || !is_visible(address) {

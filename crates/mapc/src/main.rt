@@ -6,7 +6,7 @@ mod endings;
 
 ghost use Rattle.std.specs.Prelude.{◌≡◌, IsFalse};
 ghost use Rattle.std.specs.Process.{exit_status};
-ghost use Rattle.ifmap_client_script.specs.Ends.{ends, ports};
+ghost use Rattle.ifmap_client_script.specs.Ends.{source_and_ports, ports};
 ghost use Rattle.ifmap_client_script.specs.Exchanges.{wiring};
 ghost use Rattle.ifmap_client_script.specs.Promises.{IsCarriedOut};
 ghost use Rattle.mapc.specs.Statuses.{status_of};
@@ -88,10 +88,10 @@ fn carry_out<S: Source, K: Sink, A: Link, B: Link>(
     requires first { IsFalse first.old.spent }
     requires second { IsFalse second.old.spent }
     ensures { IsCarriedOut (record { client = call.now.client; host = call.now.host })
-        (ends (S.left source.old) (S.faults source.old) (ports (K.held sink.old) (K.faults sink.old)
+        (source_and_ports (S.left source.old) (S.faults source.old) (ports (K.held sink.old) (K.faults sink.old)
         (wiring A.left A.held A.Source.faults A.Sink.faults first.old)
         (wiring B.left B.held B.Source.faults B.Sink.faults second.old)))
-        (ends (S.left source.new) (S.faults source.new) (ports (K.held sink.new) (K.faults sink.new)
+        (source_and_ports (S.left source.new) (S.faults source.new) (ports (K.held sink.new) (K.faults sink.new)
         (wiring A.left A.held A.Source.faults A.Sink.faults first.new)
         (wiring B.left B.held B.Source.faults B.Sink.faults second.new))) result }
 {

@@ -2,7 +2,7 @@
 use Rattle.std.specs.Prelude.{◌≡◌, ℕ, ◌⊎◌, List, [], None, length}
 use Rattle.ifmap_command.specs.Words.{IsServe}
 use Rattle.ifmap_program.specs.Runs.{Runs, outside}
-use Rattle.ifmap_server.specs.Ends.{Ends}
+use Rattle.ifmap_server.specs.Ends.{SourceAndSink}
 use Rattle.ifmap_serving.specs.declared.stands.Stand.{Stand}
 use Rattle.ifmap_serving.specs.Works.{DoorSeen}
 use Rattle.mapd.specs.declared.outside.OpenGate.{OpenGate}
@@ -16,24 +16,24 @@ abbrev pub listener_seen : ℕ → DoorSeen
 listener_seen faults = record { links = None; faults = faults }
 
 -- the words were carried out over these stands, with some key
-abbrev pub RunsOver : List (Stand ℕ OpenGate) → List (List ℕ) → ℕ → Ends → Ends → Type 0
+abbrev pub RunsOver : List (Stand ℕ OpenGate) → List (List ℕ) → ℕ → SourceAndSink → SourceAndSink → Type 0
 RunsOver stands words status before after =
     (key : List ℕ) × (left : List (Stand ℕ OpenGate))
     × Runs any_moment listener_seen key words status (outside before stands) (outside after left)
 
 -- no server began, with the status for that it cannot listen or has no random key (7) or no memory (6), and nothing was read or
 -- written
-abbrev pub BeginsNothing : ℕ → Ends → Ends → Type 0
+abbrev pub BeginsNothing : ℕ → SourceAndSink → SourceAndSink → Type 0
 BeginsNothing status before after = ((status ≡ 7) ⊎ (status ≡ 6)) × (after ≡ before)
 
 -- the words were carried out over a stand for each worker, or no server began
-abbrev pub ServesOrBeginsNone : ℕ → List (List ℕ) → ℕ → Ends → Ends → Type 0
+abbrev pub ServesOrBeginsNone : ℕ → List (List ℕ) → ℕ → SourceAndSink → SourceAndSink → Type 0
 ServesOrBeginsNone workers words status before after =
     BeginsNothing status before after
     ⊎ ((stands : List (Stand ℕ OpenGate)) × (length stands ≡ workers) × RunsOver stands words status before after)
 
 -- the words were carried out with nothing to serve, or they ask for a server, and were carried out as one or none began
-abbrev pub IsRunDone : List (List ℕ) → ℕ → Ends → Ends → Type 0
+abbrev pub IsRunDone : List (List ℕ) → ℕ → SourceAndSink → SourceAndSink → Type 0
 IsRunDone words status before after =
     RunsOver [] words status before after
     ⊎ ((address : List ℕ) × (workers : ℕ) × IsServe words address workers × ServesOrBeginsNone workers words status before after)

@@ -6,7 +6,7 @@ mod outside;
 ghost use Rattle.std.specs.Prelude.{◌≡◌, IfErr, IfOk, List, [], map, string_bytes};
 ghost use Rattle.std.specs.Process.{exit_status};
 ghost use Rattle.ifmap_program.specs.Runs.{Runs, outside};
-ghost use Rattle.ifmap_server.specs.Ends.{ends};
+ghost use Rattle.ifmap_server.specs.Ends.{source_and_sink};
 ghost use Rattle.ifmap_serving.specs.declared.stands.Stand.{Stand};
 ghost use Rattle.ifmap_serving.specs.Works.{door_seen};
 ghost use Rattle.mapd.specs.Done.{IsRunDone, RunsOver, ServesOrBeginsNone};
@@ -58,8 +58,8 @@ where
     R: Eprint + AllocGlobal,
     ensures done { IfOk words (λ given. IsRunDone (map string_bytes given.items)
         (exit_status result)
-        (ends (S.left source.old) (S.faults source.old) (K.held sink.old) (K.faults sink.old))
-        (ends (S.left source.new) (S.faults source.new) (K.held sink.new) (K.faults sink.new))) }
+        (source_and_sink (S.left source.old) (S.faults source.old) (K.held sink.old) (K.faults sink.old))
+        (source_and_sink (S.left source.new) (S.faults source.new) (K.held sink.new) (K.faults sink.new))) }
     ensures no_memory { IfErr words (λ _. exit_status result ≡ 6) }
 {
     let Ok(words) = words else {
@@ -92,8 +92,8 @@ where
         + RandomSource,
     R: Eprint + AllocGlobal,
     ensures { IsRunDone (map string_bytes words.now) result
-        (ends (S.left source.old) (S.faults source.old) (K.held sink.old) (K.faults sink.old))
-        (ends (S.left source.new) (S.faults source.new) (K.held sink.new) (K.faults sink.new)) }
+        (source_and_sink (S.left source.old) (S.faults source.old) (K.held sink.old) (K.faults sink.old))
+        (source_and_sink (S.left source.new) (S.faults source.new) (K.held sink.new) (K.faults sink.new)) }
 {
     match form_of(rt.alloc(), words) {
         Form::Serve { address, workers } => {
@@ -114,8 +114,8 @@ fn run_plainly<R, S: Source, K: Sink, P: Progress>(
 where
     R: Threads + Wait + Sync + time::Clock + AllocGlobal,
     ensures { RunsOver [] (map string_bytes words.now) result
-        (ends (S.left source.old) (S.faults source.old) (K.held sink.old) (K.faults sink.old))
-        (ends (S.left source.new) (S.faults source.new) (K.held sink.new) (K.faults sink.new)) }
+        (source_and_sink (S.left source.old) (S.faults source.old) (K.held sink.old) (K.faults sink.old))
+        (source_and_sink (S.left source.new) (S.faults source.new) (K.held sink.new) (K.faults sink.new)) }
 {
     let clock = SystemClock::new(rt);
     let setting = Setting {
@@ -139,9 +139,9 @@ fn run_alone<R: Threads + Wait + Sync, C: Clock + Sync, S: Source, K: Sink, P: P
         (door_seen ⟦<TcpDoor<'static> as Door>⟧.links ⟦<TcpDoor<'static> as Door>⟧.faults)
         setting.now.key
         (map string_bytes words.now) result
-        (outside (ends (S.left source.old) (S.faults source.old) (K.held sink.old)
+        (outside (source_and_sink (S.left source.old) (S.faults source.old) (K.held sink.old)
         (K.faults sink.old)) [])
-        (outside (ends (S.left source.new) (S.faults source.new) (K.held sink.new)
+        (outside (source_and_sink (S.left source.new) (S.faults source.new) (K.held sink.new)
         (K.faults sink.new)) left) }
 {
     let mut stands: [Stand<TcpDoor<'_>, OpenGate>; 0] = [];
@@ -166,8 +166,8 @@ where
         + RandomSource,
     R: Eprint + AllocGlobal,
     ensures { ServesOrBeginsNone workers (map string_bytes words.now) result
-        (ends (S.left source.old) (S.faults source.old) (K.held sink.old) (K.faults sink.old))
-        (ends (S.left source.new) (S.faults source.new) (K.held sink.new) (K.faults sink.new)) }
+        (source_and_sink (S.left source.old) (S.faults source.old) (K.held sink.old) (K.faults sink.old))
+        (source_and_sink (S.left source.new) (S.faults source.new) (K.held sink.new) (K.faults sink.new)) }
 {
     let Ok(listener) = TcpListener::bind(rt, address.as_str()) else {
         return tell_cannot_listen(rt);

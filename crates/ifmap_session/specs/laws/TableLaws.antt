@@ -14,7 +14,7 @@ use Rattle.std.specs.declared.cmp.Ordering.TheVariants.{Less}
 use Rattle.ifmap_lemmas.specs.Filters.{all_filter, all_weaker, filter_shorter}
 use Rattle.ifmap_lemmas.specs.Members.{both_all, map_of_all}
 use Rattle.ifmap_session.specs.SessionIds.{BeginsWithSerial, session_id}
-use Rattle.ifmap_session.specs.Sessions.{IsTable, Session, Table, change, is_text, most_sessions, session_of_client, session_order, session_with_serial, with_last, without_sessions, IsLive, expired_serials, is_expired}
+use Rattle.ifmap_session.specs.Sessions.{IsTable, Session, SessionTable, change, is_same_text, most_sessions, session_of_client, session_order, session_with_serial, with_last, without_sessions, IsLive, expired_serials, is_expired}
 use Rattle.ifmap_session.specs.laws.TextLaws.{all_found, distinct_filter, distinct_push, find_kept, find_none, rest_differ}
 use Rattle.uuid.specs.Text.{hyphenated_text, lower}
 
@@ -42,7 +42,7 @@ one_less q p (y ∷ ys) x e out =
     ]
 
 -- one ends
-pub ended_table : (serial : ℕ) (table : Table) → IsTable table → IsTable (record table { live = without_sessions (serial ∷ []) table.live })
+pub ended_table : (serial : ℕ) (table : SessionTable) → IsTable table → IsTable (record table { live = without_sessions (serial ∷ []) table.live })
 ended_table serial table h = record {
   rising = IsStrictlySortedBy-filter session_order (remains serial) table.live h.rising;
   counted = all_filter (λ (s : Session). s.serial ≤ table.counter) (remains serial) table.live h.counted;
@@ -55,19 +55,19 @@ ended_table serial table h = record {
 -- a client that has a session has one alone: without it fewer are left, and none of the client's
 pub one_fewer : (live : List Session) (client : List ℕ) (s : Session) → session_of_client client live ≡ Some s
     → length (without_sessions (s.serial ∷ []) live) < length live
-one_fewer live client s e = one_less (λ (t : Session). is_text t.client client) (remains s.serial) live s e (goes_itself s)
+one_fewer live client s e = one_less (λ (t : Session). is_same_text t.client client) (remains s.serial) live s e (goes_itself s)
 
-pub client_freed : (live : List Session) (client : List ℕ) (s : Session) → IsDistinct is_text (map (λ (t : Session). t.client) live)
+pub client_freed : (live : List Session) (client : List ℕ) (s : Session) → IsDistinct is_same_text (map (λ (t : Session). t.client) live)
     → session_of_client client live ≡ Some s → session_of_client client (without_sessions (s.serial ∷ []) live) ≡ None
 unfolding IsDistinct
 client_freed [] client s apart e = refl
 client_freed (x ∷ live) client s apart e =
-    elim (cases_Bool (is_text x.client client)) [
+    elim (cases_Bool (is_same_text x.client client)) [
       | inl hit ↦
           let same : x ≡ s = cc (rw hit at e) in
           let goes : remains s.serial x ≡ false = subst (λ (t : Session). remains s.serial t ≡ false) (sym same) (goes_itself s) in
-          rw goes (find_none (λ (t : Session). is_text t.client client) (filter (remains s.serial) live) (all_filter
-          (λ (t : Session). is_text t.client client ≡ false) (remains s.serial) live (rest_differ
+          rw goes (find_none (λ (t : Session). is_same_text t.client client) (filter (remains s.serial) live) (all_filter
+          (λ (t : Session). is_same_text t.client client ≡ false) (remains s.serial) live (rest_differ
           (λ (t : Session). t.client) x client live apart.0 hit)))
       | inr miss ↦
           elim (cases_Bool (remains s.serial x)) [
@@ -90,7 +90,7 @@ sorted_push counter (x ∷ live) y up counted above = (
   sorted_push counter live y up.1 counted.1 above,
 )
 
-pub begun_table : (table : Table) (s : Session) → IsTable table → s.serial ≡ table.counter + 1 → BeginsWithSerial s.serial s.id
+pub begun_table : (table : SessionTable) (s : Session) → IsTable table → s.serial ≡ table.counter + 1 → BeginsWithSerial s.serial s.id
     → table.counter < 2 ^ 64 - 1 → session_of_client s.client table.live ≡ None → length table.live < most_sessions
     → IsTable (record table { counter = table.counter + 1; live = table.live ++ s ∷ [] })
 begun_table table s h next id small none room = record {
@@ -105,19 +105,19 @@ begun_table table s h next id small none room = record {
 }
 
 -- one changes, by a function that keeps its serial, id and client
-pub record Keeps (f : Session → Session) : Type 0 where
+pub record KeepsIdAndClient (f : Session → Session) : Type 0 where
   pub serial : (s : Session) → (f s).serial ≡ s.serial
   pub id : (s : Session) → (f s).id ≡ s.id
   pub client : (s : Session) → (f s).client ≡ s.client
 
-pub renewed_keeps : (moment : ℕ) → Keeps (with_last moment)
+pub renewed_keeps : (moment : ℕ) → KeepsIdAndClient (with_last moment)
 renewed_keeps moment = record { serial = λ s. refl; id = λ s. refl; client = λ s. refl }
 
 -- what a change makes of one session
 abbrev pub changed_one : ℕ → (Session → Session) → Session → Session
 changed_one n f s = cond (s.serial == n) (f s) s
 
-module _ (n : ℕ) (f : Session → Session) (k : Keeps f) where
+module _ (n : ℕ) (f : Session → Session) (k : KeepsIdAndClient f) where
   pub one_numbered : (s : Session) → (changed_one n f s).serial ≡ s.serial
   one_numbered s = elim (cases_Bool (s.serial == n)) [ inl hit ↦ rw hit (k.serial s) | inr miss ↦ rw miss refl ]
 
@@ -160,7 +160,7 @@ pub length_same : (n : ℕ) (f : Session → Session) (live : List Session) → 
 length_same n f [] = refl
 length_same n f (x ∷ live) = ap (λ m. suc m) (length_same n f live)
 
-pub changed_table : (n : ℕ) (f : Session → Session) → Keeps f → (table : Table) → IsTable table
+pub changed_table : (n : ℕ) (f : Session → Session) → KeepsIdAndClient f → (table : SessionTable) → IsTable table
     → IsTable (record table { live = change n f table.live })
 changed_table n f k table h = record {
   rising = changed_rising n f k table.live h.rising;
@@ -169,7 +169,7 @@ changed_table n f k table h = record {
   small = h.small;
   ids = all_changed n f k (λ (s : Session). BeginsWithSerial s.serial s.id) (λ (s : Session). BeginsWithSerial s.serial s.id)
       (λ s id. rw (one_numbered n f k s, one_named n f k s) id) table.live h.ids;
-  apart = subst (IsDistinct is_text) (sym (clients_same n f k table.live)) h.apart;
+  apart = subst (IsDistinct is_same_text) (sym (clients_same n f k table.live)) h.apart;
   few = subst (λ m. m ≤ most_sessions) (sym (length_same n f table.live)) h.few;
 }
 

@@ -1,5 +1,5 @@
 use Rattle.std.proofs.Common.{◌≢◌, ◌∙◌, [], append-nil, subst, sym}
-use Rattle.ifmap_session.specs.Sessions.{Table}
+use Rattle.ifmap_session.specs.Sessions.{SessionTable}
 use Rattle.ifmap_tellings.specs.Tellings.{HasSameSessions}
 use Rattle.ifmap_changes.specs.Between.{IsSteady}
 use Rattle.ifmap_changes.proofs.Flags.{kept_later}
@@ -32,5 +32,5 @@ returns-clause-turned g c =
       lean = λ rest l. c.settle_made.ensures.lean rest (made.turned.lean rest l);
       searches = searched_twice c.args.parts.now.standing.items c.make_kept.new.parts.standing.items
           c.settle_made.new.parts.standing.items made.turned.searches settled.searches;
-      sessions = subst (λ (t : Table). HasSameSessions c.args.parts.now.sessions t) (sym settled.sessions) made.turned.sessions;
+      sessions = subst (λ (t : SessionTable). HasSameSessions c.args.parts.now.sessions t) (sym settled.sessions) made.turned.sessions;
     }

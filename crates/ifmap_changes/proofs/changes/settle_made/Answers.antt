@@ -1,6 +1,6 @@
 use Rattle.std.proofs.Common.{◌++◌, refl, sym, subst}
 use Rattle.std.specs.List.{AllByRecursion}
-use Rattle.ifmap_changes.specs.Between.{IsNumbered, so_far}
+use Rattle.ifmap_changes.specs.Between.{HasStartNumber, so_far}
 use Rattle.ifmap_changes.proofs.Settling.{kept_settled, ready_after, same_left, same_state, settled_searches}
 use Rattle.ifmap_changes.proofs.Steady.{HaveSameSearches, all_numbered, steady_beside}
 use Rattle.ifmap_changes.proofs.changes.settle_made.Goals as goal
@@ -34,8 +34,8 @@ returns-clause-ready c = λ asking pending r.
     let more = c.requires.steady.0 in
     let g = c.args.parts.now.graph in
     let h = c.settle-plan.new.self in
-    let numbered : AllByRecursion (IsNumbered h) xs =
-    (all_both (IsNumbered h) xs more (all_numbered c.bytes_tell_identifiers_apart.ensures g h c.is_view.ensures
+    let numbered : AllByRecursion (HasStartNumber h) xs =
+    (all_both (HasStartNumber h) xs more (all_numbered c.bytes_tell_identifiers_apart.ensures g h c.is_view.ensures
     c.settle-plan.ensures.numbers c.settle-plan.ensures.own (xs ++ more) c.requires.steady.1)).0 in
     ready_after asking c.args.parts.now (record c.args.parts.now { graph = h; standing = c.settle_all.new.standing }) pending refl same
     (kept_settled c.same_links_keep_subscriptions.ensures c.same_marks_keep_subscriptions.ensures.settled g h c.is_view.ensures

@@ -4,15 +4,15 @@
 -- each is said of the parts of before, and carried to those whose sessions alone differ; (3) what was queued is what the
 -- definition says of the change.
 use Rattle.std.proofs.Common.{◌≡◌, ◌∙◌, ap, refl, sym, subst, map, slice_get}
-use Rattle.ifmap_delta.specs.Sights.{IsKept}
+use Rattle.ifmap_delta.specs.Sights.{IsUpToDate}
 use Rattle.ifmap_delta.specs.Ways.{HasSameSearch}
-use Rattle.ifmap_standing.specs.Kept.{AtEach, Stands}
+use Rattle.ifmap_standing.specs.Kept.{AtEach, StaysRelated}
 use Rattle.ifmap_standing.specs.News.{news_of_each}
 use Rattle.ifmap_standing.specs.Standing.{standing_of}
 use Rattle.ifmap_graph.specs.Seen.{rows_next, rows_now}
 use Rattle.ifmap_tellings.specs.Tellings.{AllKept}
 use Rattle.ifmap_changes.specs.declared.parts.Parts.{Parts}
-use Rattle.ifmap_changes.specs.Between.{IsReady}
+use Rattle.ifmap_changes.specs.Between.{IsSoundSoFar}
 use Rattle.ifmap_changes.specs.Changes.{IsTold, sight_next}
 use Rattle.ifmap_changes.proofs.Told.{alone_now, can_tell_all, is_told, live_now, long_news, skips, wide_all, within_all}
 use Rattle.ifmap_changes.proofs.changes.tell_parts.Goals as goal
@@ -36,9 +36,9 @@ queue_news-requires-clause-long g c =
       sessions = c.tell_standing.ensures.sessions i;
       standing = c.args.parts.now.standing;
     })
-    in let ready = subst (λ (p : Parts). IsReady a p before) (sym is) c.requires.ready
+    in let ready = subst (λ (p : Parts). IsSoundSoFar a p before) (sym is) c.requires.ready
     in let stands = c.deref-2.result.now
-    in let same = subst (AtEach (λ _. Stands HasSameSearch) old.standing.items) (sym c.deref-2.ensures.value) c.tell_standing.ensures.same
+    in let same = subst (AtEach (λ _. StaysRelated HasSameSearch) old.standing.items) (sym c.deref-2.ensures.value) c.tell_standing.ensures.same
     in let news = c.in_ok-told.told.news
     in let rows = rows_now old.graph
     in let next = rows_next old.graph
@@ -61,9 +61,9 @@ queue_news-requires-clause-live g c =
       sessions = c.tell_standing.ensures.sessions i;
       standing = c.args.parts.now.standing;
     })
-    in let ready = subst (λ (p : Parts). IsReady a p before) (sym is) c.requires.ready
+    in let ready = subst (λ (p : Parts). IsSoundSoFar a p before) (sym is) c.requires.ready
     in let stands = c.deref-2.result.now
-    in let same = subst (AtEach (λ _. Stands HasSameSearch) old.standing.items) (sym c.deref-2.ensures.value) c.tell_standing.ensures.same
+    in let same = subst (AtEach (λ _. StaysRelated HasSameSearch) old.standing.items) (sym c.deref-2.ensures.value) c.tell_standing.ensures.same
     in let news = c.in_ok-told.told.news
     in let rows = rows_now old.graph
     in let next = rows_next old.graph
@@ -86,9 +86,9 @@ queue_news-requires-clause-alone g c =
       sessions = c.tell_standing.ensures.sessions i;
       standing = c.args.parts.now.standing;
     })
-    in let ready = subst (λ (p : Parts). IsReady a p before) (sym is) c.requires.ready
+    in let ready = subst (λ (p : Parts). IsSoundSoFar a p before) (sym is) c.requires.ready
     in let stands = c.deref-2.result.now
-    in let same = subst (AtEach (λ _. Stands HasSameSearch) old.standing.items) (sym c.deref-2.ensures.value) c.tell_standing.ensures.same
+    in let same = subst (AtEach (λ _. StaysRelated HasSameSearch) old.standing.items) (sym c.deref-2.ensures.value) c.tell_standing.ensures.same
     in let news = c.in_ok-told.told.news
     in let rows = rows_now old.graph
     in let next = rows_next old.graph
@@ -111,9 +111,9 @@ queue_news-requires-clause-skipped g c =
       sessions = c.tell_standing.ensures.sessions i;
       standing = c.args.parts.now.standing;
     })
-    in let ready = subst (λ (p : Parts). IsReady a p before) (sym is) c.requires.ready
+    in let ready = subst (λ (p : Parts). IsSoundSoFar a p before) (sym is) c.requires.ready
     in let stands = c.deref-2.result.now
-    in let same = subst (AtEach (λ _. Stands HasSameSearch) old.standing.items) (sym c.deref-2.ensures.value) c.tell_standing.ensures.same
+    in let same = subst (AtEach (λ _. StaysRelated HasSameSearch) old.standing.items) (sym c.deref-2.ensures.value) c.tell_standing.ensures.same
     in let news = c.in_ok-told.told.news
     in let rows = rows_now old.graph
     in let next = rows_next old.graph
@@ -136,7 +136,7 @@ queue_news-requires-clause-wide g c =
       sessions = c.tell_standing.ensures.sessions i;
       standing = c.args.parts.now.standing;
     })
-    in let ready = subst (λ (p : Parts). IsReady a p before) (sym is) c.requires.ready
+    in let ready = subst (λ (p : Parts). IsSoundSoFar a p before) (sym is) c.requires.ready
     in wide_all a old before ready
 
 pub queue_news-requires-clause-within : goal.queue_news-requires-clause-within
@@ -154,7 +154,7 @@ queue_news-requires-clause-within g c =
       sessions = c.tell_standing.ensures.sessions i;
       standing = c.args.parts.now.standing;
     })
-    in let ready = subst (λ (p : Parts). IsReady a p before) (sym is) c.requires.ready
+    in let ready = subst (λ (p : Parts). IsSoundSoFar a p before) (sym is) c.requires.ready
     in within_all a old before ready
 
 pub queue_news-requires-clause-can_tell : goal.queue_news-requires-clause-can_tell
@@ -172,7 +172,7 @@ queue_news-requires-clause-can_tell g c =
       sessions = c.tell_standing.ensures.sessions i;
       standing = c.args.parts.now.standing;
     })
-    in let ready = subst (λ (p : Parts). IsReady a p before) (sym is) c.requires.ready
+    in let ready = subst (λ (p : Parts). IsSoundSoFar a p before) (sym is) c.requires.ready
     in can_tell_all a old before ready
 
 pub returns-in-Ok-clause-told : goal.returns-in-Ok-clause-told
@@ -190,16 +190,16 @@ returns-in-Ok-clause-told g c =
       sessions = c.tell_standing.ensures.sessions i;
       standing = c.args.parts.now.standing;
     })
-    in let ready = subst (λ (p : Parts). IsReady a p before) (sym is) c.requires.ready
+    in let ready = subst (λ (p : Parts). IsSoundSoFar a p before) (sym is) c.requires.ready
     in let stands = c.deref-2.result.now
-    in let same = subst (AtEach (λ _. Stands HasSameSearch) old.standing.items) (sym c.deref-2.ensures.value) c.tell_standing.ensures.same
+    in let same = subst (AtEach (λ _. StaysRelated HasSameSearch) old.standing.items) (sym c.deref-2.ensures.value) c.tell_standing.ensures.same
     in let news = c.in_ok-told.told.news
     in let rows = rows_now old.graph
     in let next = rows_next old.graph
     in let is_news = subst (λ flags. news ≡ news_of_each rows next notes flags (map standing_of old.standing.items)) c.deref.ensures.value
     c.in_ok-told.ensures.news
     in let told = c.in-Ok.ensures
-    in let kept = subst (AllKept (λ x. IsKept (sight_next old.graph) x.subscription) before.gone.items) (sym c.deref-2.ensures.value)
+    in let kept = subst (AllKept (λ x. IsUpToDate (sight_next old.graph) x.subscription) before.gone.items) (sym c.deref-2.ensures.value)
     (λ i x e f. c.in_ok-told.ensures.kept i x e (ap (λ l. slice_get l i) c.deref.ensures.value ∙ f))
     in let new : Parts = record {
       graph = c.tell_standing.new.parts.graph;

@@ -1,6 +1,6 @@
 use Rattle.std.proofs.Common.{subst}
 use Rattle.std.specs.Result.{IfOk}
-use Rattle.ifmap_core.specs.Outcomes.{LeadsTo}
+use Rattle.ifmap_core.specs.Outcomes.{LeadsToAnswer}
 use Rattle.ifmap_machine.specs.State.{State}
 use Rattle.ifmap_machine.specs.declared.events.Answer.{Answer}
 use Rattle.ifmap_changes.specs.Between.{so_far}
@@ -33,7 +33,7 @@ returns-in-Own-clause-leads g c =
     let serial = c.in-Own.serial in
     let o = owner_so_far a parts pending c.args.wish.now.id.now a.client (Own serial) c.in-Own.ensures in
     subst (λ (wanted : State × Answer). IfOk c.subscribe_in.result
-    (λ outcome. LeadsTo outcome a c.subscribe_in.new.parts c.subscribe_in.new.pending wanted))
+    (λ outcome. LeadsToAnswer outcome a c.subscribe_in.new.parts c.subscribe_in.new.pending wanted))
     (subscribes (so_far a parts pending) c.args.wish.now.id.now a.client serial o c.args.wish.now.asked.now)
     (c.subscribe_in.ensures.leads o.0 o.4)
 

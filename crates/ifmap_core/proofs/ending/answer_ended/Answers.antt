@@ -2,7 +2,7 @@ use Rattle.std.proofs.Common.{◌++◌, sym, ◌∙◌, ap}
 use Rattle.ifmap_core.proofs.Expiring.{can_back, can_settle_later}
 use Rattle.ifmap_core.proofs.ending.answer_ended.Goals as goal
 use Rattle.ifmap_core.specs.Outcomes.{after_outcome}
-use Rattle.ifmap_graph.specs.Out.{items_of}
+use Rattle.ifmap_graph.specs.Out.{items_changed}
 
 pub settle_ended-requires-clause-settle : goal.settle_ended-requires-clause-settle
 settle_ended-requires-clause-settle g c =
@@ -28,4 +28,4 @@ returns-in-Err-clause-kept g c = λ before sound numbers back.
 pub returns-in-Ok-clause-lean : goal.returns-in-Ok-clause-lean
 returns-in-Ok-clause-lean g c = λ before back rest l.
     c.finish.ensures.lean rest (c.settle_ended.ensures.lean rest
-    (c.in-Ok.ensures.turned.lean (items_of c.args.ending.made.undo.plan.changes ++ rest) (back.lean rest l)))
+    (c.in-Ok.ensures.turned.lean (items_changed c.args.ending.made.undo.plan.changes ++ rest) (back.lean rest l)))

@@ -1,5 +1,5 @@
 use Rattle.std.proofs.Common.{◌+◌, ◌∷◌, [], refl, sym, ◌∙◌, ap, subst}
-use Rattle.ifmap_changes.specs.Between.{AreWithin, AreOrdered}
+use Rattle.ifmap_changes.specs.Between.{AreWithinLimits, AreOrdered}
 use Rattle.ifmap_core.specs.Outcomes.{CanApplyTo, WouldBeParts, after_outcome, held_by}
 use Rattle.ifmap_core.proofs.Applied.{accept_leaves, end_leaves, open_leaves, parts_moved, parts_renamed, poll_leaves, rename_leaves, say_leaves}
 use Rattle.ifmap_core.proofs.Applying.{former_ordered, live_begun, live_changed, live_first, ordered_beside, ordered_moved, within_begun, within_emptied, within_first, within_former, within_left, within_renewed, emptied_keeps}
@@ -34,7 +34,7 @@ returns-in-Accept c =
           (λ m l. live_changed c.in-Accept.serial (with_last c.args.moment)
           (renewed_keeps c.args.moment) m c.args.parts.now.sessions.live l)
           c.args.parts.now.standing.items would.ordered))
-          (subst AreWithin (sym c.renew.ensures.changes.live)
+          (subst AreWithinLimits (sym c.renew.ensures.changes.live)
           (within_renewed c.in-Accept.serial c.args.moment c.args.parts.now.sessions.live would.within));
       rows = refl;
       lean = λ rest l. l;
@@ -52,7 +52,7 @@ returns-in-End c =
       parts = parts_moved c.args.parts.now c.end.new.self would
           (subst (λ l. AreOrdered l c.args.parts.now.standing.items) (sym c.end.ensures.live)
           (ordered_beside c.in-End.serial c.args.parts.now.sessions.live c.args.parts.now.standing.items can.1 would.ordered))
-          (subst AreWithin (sym c.end.ensures.live)
+          (subst AreWithinLimits (sym c.end.ensures.live)
           (within_left (c.in-End.serial ∷ []) c.args.parts.now.sessions.live would.within));
       rows = refl;
       lean = λ rest l. l;
@@ -64,7 +64,7 @@ returns-in-Open c =
     let can = subst (λ o. CanApplyTo o c.args.parts.now) c.in-Open.is c.requires.can in
     let ordered = subst (λ l. AreOrdered l c.args.parts.now.standing.items) (sym c.end_former.ensures.live)
     (former_ordered c.in-Open.former c.args.parts.now.sessions.live c.args.parts.now.standing.items can.1 would.ordered) in
-    let within = subst AreWithin (sym c.end_former.ensures.live)
+    let within = subst AreWithinLimits (sym c.end_former.ensures.live)
     (within_former c.in-Open.former c.args.parts.now.sessions.live would.within) in
     record {
       answer = λ state m s n t. ap (λ o. after_outcome o state) c.in-Open.is
@@ -79,7 +79,7 @@ returns-in-Open c =
           (ordered_moved c.end_former.new.sessions.live _
           (λ m l. live_begun m c.end_former.new.sessions.live (session_from c.in-Open.opening c.in-Open.limit c.args.moment) l)
           c.args.parts.now.standing.items ordered))
-          (subst AreWithin (sym c.open-session.ensures.live)
+          (subst AreWithinLimits (sym c.open-session.ensures.live)
           (within_begun c.in-Open.opening c.in-Open.limit c.args.moment c.end_former.new.sessions.live can.0.wide within));
       rows = refl;
       lean = λ rest l. l;
@@ -121,7 +121,7 @@ returns-in-Poll c =
           (λ m l. live_first c.in-Poll.again c.in-Poll.serial c.args.moment m live
           (live_changed c.in-Poll.serial without_items emptied_keeps m c.args.parts.now.sessions.live l))
           c.args.parts.now.standing.items would.ordered))
-          (subst AreWithin (sym c.tell_queue.ensures.live) (within_first c.in-Poll.again c.in-Poll.serial c.args.moment live
+          (subst AreWithinLimits (sym c.tell_queue.ensures.live) (within_first c.in-Poll.again c.in-Poll.serial c.args.moment live
           (within_emptied c.in-Poll.serial c.args.parts.now.sessions.live would.within)));
       rows = refl;
       lean = λ rest l. l;

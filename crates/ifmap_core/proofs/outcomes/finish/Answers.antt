@@ -3,7 +3,7 @@ use Rattle.ifmap_changes.specs.Between.{Asking, so_far}
 use Rattle.ifmap_core.proofs.Finishing.{can_apply, can_tell_rest, finished, would_be}
 use Rattle.ifmap_core.proofs.outcomes.finish.Goals as goal
 use Rattle.ifmap_core.specs.Outcomes.{held_by}
-use Rattle.ifmap_session.specs.Sessions.{IsLive, Table, spare_of, without_sessions}
+use Rattle.ifmap_session.specs.Sessions.{IsLive, SessionTable, spare_of, without_sessions}
 use Rattle.ifmap_standing.specs.Standing.{standing_of}
 use Rattle.ifmap_tellings.specs.Tellings.{kept_of, told_by}
 
@@ -27,14 +27,14 @@ apply-requires c =
     let pending = c.args.pending in
     let mid = c.end_expired.ensures.live
     ∙ ap (λ (a : Asking). without_sessions a.ended old.sessions.live) c.asking.view_is in
-    let live = ap (λ (t : Table). t.live) c.remove_gone.ensures.sessions ∙ c.tell_sessions.ensures.live
+    let live = ap (λ (t : SessionTable). t.live) c.remove_gone.ensures.sessions ∙ c.tell_sessions.ensures.live
     ∙ ap (map (told_by pending.tellings)) mid in
     let standing = c.remove_gone.ensures.standing ∙ ap (λ (g : List Bool). kept_of g old.standing.items) c.deref.ensures.value in
     let steady = c.remove_gone.ensures.steady (held_by c.args.outcome) c.requires.steady in
-    let counter = ap (λ (t : Table). t.counter) c.remove_gone.ensures.sessions ∙ c.tell_sessions.ensures.counter
+    let counter = ap (λ (t : SessionTable). t.counter) c.remove_gone.ensures.sessions ∙ c.tell_sessions.ensures.counter
     ∙ c.end_expired.ensures.counter in
     let room : old.sessions.room ≤ new.sessions.room =
-    (let same = ap (λ (t : Table). t.room) c.remove_gone.ensures.sessions in
+    (let same = ap (λ (t : SessionTable). t.room) c.remove_gone.ensures.sessions in
     let first = c.end_expired.ensures.room in
     let then_told = c.tell_sessions.ensures.room in omega (arith, same, first, then_told)) in
     record {
@@ -42,7 +42,7 @@ apply-requires c =
           (λ n l. let there = subst (IsLive n) (sym mid) l in
           let first = c.end_expired.ensures.spare n there in
           let then_told = c.tell_sessions.ensures.spare n in
-          let same = ap (λ (t : Table). spare_of n t.spare) c.remove_gone.ensures.sessions in omega (arith, first, then_told, same))
+          let same = ap (λ (t : SessionTable). spare_of n t.spare) c.remove_gone.ensures.sessions in omega (arith, first, then_told, same))
           c.remove_gone.ensures.len c.remove_gone.ensures.capacity c.args.outcome c.requires.can steady;
       parts = would_be c.args.asking.now old new pending c.requires.ready live standing c.remove_gone.ensures.kept (held_by c.args.outcome)
           steady;
@@ -54,10 +54,10 @@ returns-clause-answer c =
     let pending = c.args.pending in
     let mid = c.end_expired.ensures.live
     ∙ ap (λ (a : Asking). without_sessions a.ended old.sessions.live) c.asking.view_is in
-    let live = ap (λ (t : Table). t.live) c.remove_gone.ensures.sessions ∙ c.tell_sessions.ensures.live
+    let live = ap (λ (t : SessionTable). t.live) c.remove_gone.ensures.sessions ∙ c.tell_sessions.ensures.live
     ∙ ap (map (told_by pending.tellings)) mid in
     let standing = c.remove_gone.ensures.standing ∙ ap (λ (g : List Bool). kept_of g old.standing.items) c.deref.ensures.value in
-    let counter = ap (λ (t : Table). t.counter) c.remove_gone.ensures.sessions ∙ c.tell_sessions.ensures.counter
+    let counter = ap (λ (t : SessionTable). t.counter) c.remove_gone.ensures.sessions ∙ c.tell_sessions.ensures.counter
     ∙ c.end_expired.ensures.counter in
     finished c.args.asking.now old c.apply.new.parts pending c.args.outcome c.apply.result
     (c.apply.ensures.rows ∙ c.remove_gone.ensures.rows) (c.apply.ensures.answer (so_far c.args.asking.now old pending)

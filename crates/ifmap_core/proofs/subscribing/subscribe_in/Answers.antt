@@ -5,7 +5,7 @@ use Rattle.ifmap_changes.specs.Between.{AreKept, AreTurned}
 use Rattle.ifmap_core.proofs.Subscribed.{holds_kept, holds_leads, holds_turned, told_is}
 use Rattle.ifmap_core.proofs.Turned.{turned_twice}
 use Rattle.ifmap_core.proofs.subscribing.subscribe_in.Goals as goal
-use Rattle.ifmap_core.specs.Outcomes.{LeadsTo}
+use Rattle.ifmap_core.specs.Outcomes.{LeadsToAnswer}
 use Rattle.ifmap_graph.specs.Seen.{rows_now}
 use Rattle.ifmap_machine.specs.Subscribing.{subscribe_ops}
 
@@ -15,7 +15,7 @@ returns-in-Ok-clause-leads g c = λ s e.
     let old = c.args.parts.now in
     let pending = c.args.pending.now in
     holds_leads
-    (λ wanted. IfOk c.accept_ops.result (λ outcome. LeadsTo outcome a c.accept_ops.new.parts c.accept_ops.new.pending wanted)) a old
+    (λ wanted. IfOk c.accept_ops.result (λ outcome. LeadsToAnswer outcome a c.accept_ops.new.parts c.accept_ops.new.pending wanted)) a old
     c.ready_ops.new.parts pending c.args.ops.now.serial c.in-Ok.readying _ c.in-Ok.ensures.holds
     (ap (subscribe_ops (rows_now old.graph) c.args.ops.now.serial c.args.ops.now.ops.now)
     (sym (told_is a old pending c.args.ops.now.serial s e))

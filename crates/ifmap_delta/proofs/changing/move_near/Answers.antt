@@ -7,7 +7,7 @@ use Rattle.ifmap_region.specs.Marks.{mark_of, over}
 use Rattle.ifmap_delta.specs.Changes.{ShowsAfter}
 use Rattle.ifmap_delta.specs.Located.{AreLocated}
 use Rattle.ifmap_folds.specs.Differences.{difference}
-use Rattle.ifmap_delta.specs.Sights.{sight_of}
+use Rattle.ifmap_delta.specs.Sights.{view_seen}
 use Rattle.ifmap_delta.proofs.Repairing.{change_steps, repair_steps}
 use Rattle.ifmap_delta.proofs.Sizing.{sizes_differ}
 use Rattle.ifmap_delta.proofs.Telling.{difference_is}
@@ -16,8 +16,8 @@ use Rattle.ifmap_folds.specs.laws.FoldingLaws.{fresh_rises}
 
 pub returns-in_err-patch-clause-steps : goal.returns-in_err-patch-clause-steps
 returns-in_err-patch-clause-steps g c =
-    let old = sight_of g.G.View.rows g.G.View.id_at g.G.View.links c.args.graph.now
-    in let new = sight_of g.D.View.rows g.D.View.id_at g.D.View.links c.args.draft.now
+    let old = view_seen g.G.View.rows g.G.View.id_at g.G.View.links c.args.graph.now
+    in let new = view_seen g.D.View.rows g.D.View.id_at g.D.View.links c.args.draft.now
     in let sub = c.args.subscription.now
     in repair_steps c.bytes_tell_identifiers_apart.ensures old new sub.search c.requires.graph c.requires.draft
     c.args.located.now.plan.now.changes c.requires.change sub.region.start sub.region.max_depth (mark_of sub.region.marks.entries)
@@ -33,15 +33,15 @@ touched_items-requires-clause-after g c =
 
 pub touched_items-requires-clause-change : goal.touched_items-requires-clause-change
 touched_items-requires-clause-change g c =
-    let old = sight_of g.G.View.rows g.G.View.id_at g.G.View.links c.args.graph.now
-    in let new = sight_of g.D.View.rows g.D.View.id_at g.D.View.links c.args.draft.now
+    let old = view_seen g.G.View.rows g.G.View.id_at g.G.View.links c.args.graph.now
+    in let new = view_seen g.D.View.rows g.D.View.id_at g.D.View.links c.args.draft.now
     in let at : c.deref.result.now ≡ c.args.located.now.plan.now.changes = search rules
     in subst (ShowsAfter old new) (sym at) c.requires.change
 
 pub touched_items-requires-clause-located : goal.touched_items-requires-clause-located
 touched_items-requires-clause-located g c =
-    let old = sight_of g.G.View.rows g.G.View.id_at g.G.View.links c.args.graph.now
-    in let new = sight_of g.D.View.rows g.D.View.id_at g.D.View.links c.args.draft.now
+    let old = view_seen g.G.View.rows g.G.View.id_at g.G.View.links c.args.graph.now
+    in let new = view_seen g.D.View.rows g.D.View.id_at g.D.View.links c.args.draft.now
     in let at : c.deref.result.now ≡ c.args.located.now.plan.now.changes = search rules
     in let on : c.deref-2.result.now ≡ c.args.located.now.changes.items = search rules
     in subst (λ cs. AreLocated old new cs c.deref-2.result.now) (sym at)
@@ -60,15 +60,15 @@ differences_on-requires-clause-rising g c = c.in_ok-items.ensures.touched.rising
 
 pub differences_on-requires-clause-change : goal.differences_on-requires-clause-change
 differences_on-requires-clause-change g c =
-    let old = sight_of g.G.View.rows g.G.View.id_at g.G.View.links c.args.graph.now
-    in let new = sight_of g.D.View.rows g.D.View.id_at g.D.View.links c.args.draft.now
+    let old = view_seen g.G.View.rows g.G.View.id_at g.G.View.links c.args.graph.now
+    in let new = view_seen g.D.View.rows g.D.View.id_at g.D.View.links c.args.draft.now
     in let at : c.deref-3.result.now ≡ c.args.located.now.plan.now.changes = search rules
     in subst (λ cs. IsAfter cs old.rows new.rows) (sym at) c.requires.change.after
 
 pub returns-in_err-items-clause-steps : goal.returns-in_err-items-clause-steps
 returns-in_err-items-clause-steps g c =
-    let old = sight_of g.G.View.rows g.G.View.id_at g.G.View.links c.args.graph.now
-    in let new = sight_of g.D.View.rows g.D.View.id_at g.D.View.links c.args.draft.now
+    let old = view_seen g.G.View.rows g.G.View.id_at g.G.View.links c.args.graph.now
+    in let new = view_seen g.D.View.rows g.D.View.id_at g.D.View.links c.args.draft.now
     in let sub = c.args.subscription.now
     in let mark = mark_of sub.region.marks.entries
     in change_steps c.bytes_tell_identifiers_apart.ensures old new sub.search c.requires.graph c.requires.draft
@@ -78,8 +78,8 @@ returns-in_err-items-clause-steps g c =
 
 pub returns-in_err-told-clause-steps : goal.returns-in_err-told-clause-steps
 returns-in_err-told-clause-steps g c =
-    let old = sight_of g.G.View.rows g.G.View.id_at g.G.View.links c.args.graph.now
-    in let new = sight_of g.D.View.rows g.D.View.id_at g.D.View.links c.args.draft.now
+    let old = view_seen g.G.View.rows g.G.View.id_at g.G.View.links c.args.graph.now
+    in let new = view_seen g.D.View.rows g.D.View.id_at g.D.View.links c.args.draft.now
     in let sub = c.args.subscription.now
     in let mark = mark_of sub.region.marks.entries
     in change_steps c.bytes_tell_identifiers_apart.ensures old new sub.search c.requires.graph c.requires.draft
@@ -89,8 +89,8 @@ returns-in_err-told-clause-steps g c =
 
 pub returns-in_default-clause-steps : goal.returns-in_default-clause-steps
 returns-in_default-clause-steps g c =
-    let old = sight_of g.G.View.rows g.G.View.id_at g.G.View.links c.args.graph.now
-    in let new = sight_of g.D.View.rows g.D.View.id_at g.D.View.links c.args.draft.now
+    let old = view_seen g.G.View.rows g.G.View.id_at g.G.View.links c.args.graph.now
+    in let new = view_seen g.D.View.rows g.D.View.id_at g.D.View.links c.args.draft.now
     in let sub = c.args.subscription.now
     in let mark = mark_of sub.region.marks.entries
     in change_steps c.bytes_tell_identifiers_apart.ensures old new sub.search c.requires.graph c.requires.draft
@@ -100,8 +100,8 @@ returns-in_default-clause-steps g c =
 
 pub returns-clause-steps : goal.returns-clause-steps
 returns-clause-steps g c =
-    let old = sight_of g.G.View.rows g.G.View.id_at g.G.View.links c.args.graph.now
-    in let new = sight_of g.D.View.rows g.D.View.id_at g.D.View.links c.args.draft.now
+    let old = view_seen g.G.View.rows g.G.View.id_at g.G.View.links c.args.graph.now
+    in let new = view_seen g.D.View.rows g.D.View.id_at g.D.View.links c.args.draft.now
     in let sub = c.args.subscription.now
     in let mark = mark_of sub.region.marks.entries
     in change_steps c.bytes_tell_identifiers_apart.ensures old new sub.search c.requires.graph c.requires.draft
@@ -111,8 +111,8 @@ returns-clause-steps g c =
 
 pub returns-clause-moved : goal.returns-clause-moved
 returns-clause-moved g c =
-    let old = sight_of g.G.View.rows g.G.View.id_at g.G.View.links c.args.graph.now
-    in let new = sight_of g.D.View.rows g.D.View.id_at g.D.View.links c.args.draft.now
+    let old = view_seen g.G.View.rows g.G.View.id_at g.G.View.links c.args.graph.now
+    in let new = view_seen g.D.View.rows g.D.View.id_at g.D.View.links c.args.draft.now
     in let sub = c.args.subscription.now
     in let s = sub.search
     in let tells = c.bytes_tell_identifiers_apart.ensures

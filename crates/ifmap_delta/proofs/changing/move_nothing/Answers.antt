@@ -3,7 +3,7 @@ use Rattle.ifmap_search.specs.Sizes.{entries_size}
 use Rattle.ifmap_fresh.specs.Fresh.{fresh}
 use Rattle.ifmap_region.specs.Marks.{mark_of, over}
 use Rattle.ifmap_folds.specs.Differences.{difference}
-use Rattle.ifmap_delta.specs.Sights.{sight_of}
+use Rattle.ifmap_delta.specs.Sights.{view_seen}
 use Rattle.ifmap_delta.proofs.Repairing.{repair_steps, repaired_marks, repaired_steps}
 use Rattle.ifmap_delta.proofs.Sizing.{sizes_differ}
 use Rattle.ifmap_delta.proofs.Staying.{all_settled, no_flips, none_rises}
@@ -13,8 +13,8 @@ use Rattle.ifmap_folds.specs.laws.FoldingLaws.{fresh_rises}
 
 pub returns-clause-steps : goal.returns-clause-steps
 returns-clause-steps g c =
-    let old = sight_of g.G.View.rows g.G.View.id_at g.G.View.links c.args.graph.now
-    in let new = sight_of g.D.View.rows g.D.View.id_at g.D.View.links c.args.draft.now
+    let old = view_seen g.G.View.rows g.G.View.id_at g.G.View.links c.args.graph.now
+    in let new = view_seen g.D.View.rows g.D.View.id_at g.D.View.links c.args.draft.now
     in let sub = c.args.subscription.now
     in let mark = mark_of sub.region.marks.entries
     in let tells = c.bytes_tell_identifiers_apart.ensures
@@ -28,8 +28,8 @@ returns-clause-steps g c =
 
 pub returns-in_err-patch-clause-steps : goal.returns-in_err-patch-clause-steps
 returns-in_err-patch-clause-steps g c =
-    let old = sight_of g.G.View.rows g.G.View.id_at g.G.View.links c.args.graph.now
-    in let new = sight_of g.D.View.rows g.D.View.id_at g.D.View.links c.args.draft.now
+    let old = view_seen g.G.View.rows g.G.View.id_at g.G.View.links c.args.graph.now
+    in let new = view_seen g.D.View.rows g.D.View.id_at g.D.View.links c.args.draft.now
     in let sub = c.args.subscription.now
     in let mark = mark_of sub.region.marks.entries
     in let tells = c.bytes_tell_identifiers_apart.ensures
@@ -43,8 +43,8 @@ returns-in_err-patch-clause-steps g c =
 
 pub returns-clause-moved : goal.returns-clause-moved
 returns-clause-moved g c =
-    let old = sight_of g.G.View.rows g.G.View.id_at g.G.View.links c.args.graph.now
-    in let new = sight_of g.D.View.rows g.D.View.id_at g.D.View.links c.args.draft.now
+    let old = view_seen g.G.View.rows g.G.View.id_at g.G.View.links c.args.graph.now
+    in let new = view_seen g.D.View.rows g.D.View.id_at g.D.View.links c.args.draft.now
     in let sub = c.args.subscription.now
     in let s = sub.search
     in let mark = mark_of sub.region.marks.entries

@@ -2,10 +2,10 @@ use Rattle.std.proofs.Common.{rules, ◌≡◌, ◌∙◌, ap, length, subst, sy
 use Rattle.std.proofs.lemmas.Result.{IfOk-weaker}
 use Rattle.ifmap_region.specs.Bounds.{within_nothing}
 use Rattle.ifmap_region.specs.Marks.{mark_of, over}
-use Rattle.ifmap_delta.specs.Bounds.{IsNear, links_of}
+use Rattle.ifmap_delta.specs.Bounds.{IsNear, one_and_links}
 use Rattle.ifmap_delta.specs.Flipped.{AreFlipsOf}
 use Rattle.ifmap_delta.specs.Located.{AreLocated, IsLocatedTwice}
-use Rattle.ifmap_delta.specs.Sights.{sight_of}
+use Rattle.ifmap_delta.specs.Sights.{view_seen}
 use Rattle.ifmap_delta.proofs.Flipping.{added_linked}
 use Rattle.ifmap_delta.proofs.InStep.{each_long}
 use Rattle.ifmap_delta.proofs.Repairing.{repaired_marks, repaired_steps}
@@ -13,15 +13,15 @@ use Rattle.ifmap_delta.proofs.changing.patch_for.Goals as goal
 
 pub returns-in_err-flips-clause-steps : goal.returns-in_err-flips-clause-steps
 returns-in_err-flips-clause-steps g c =
-    let old = sight_of g.G.View.rows g.G.View.id_at g.G.View.links c.args.graph.now
-    in let new = sight_of g.D.View.rows g.D.View.id_at g.D.View.links c.args.draft.now
+    let old = view_seen g.G.View.rows g.G.View.id_at g.G.View.links c.args.graph.now
+    in let new = view_seen g.D.View.rows g.D.View.id_at g.D.View.links c.args.draft.now
     in let sub = c.args.subscription.now
-    in within_nothing (links_of old new sub.search) (IsNear old new sub.search sub.region.start) 5 c.args.steps.now
+    in within_nothing (one_and_links old new sub.search) (IsNear old new sub.search sub.region.start) 5 c.args.steps.now
 
 pub flips_of-requires : goal.flips_of-requires
 flips_of-requires g c =
-    let old = sight_of g.G.View.rows g.G.View.id_at g.G.View.links c.args.graph.now
-    in let new = sight_of g.D.View.rows g.D.View.id_at g.D.View.links c.args.draft.now
+    let old = view_seen g.G.View.rows g.G.View.id_at g.G.View.links c.args.graph.now
+    in let new = view_seen g.D.View.rows g.D.View.id_at g.D.View.links c.args.draft.now
     in let at : c.deref.result.now ≡ c.args.located.now.plan.now.changes = search rules
     in let on : c.deref-2.result.now ≡ c.args.located.now.changes.items = search rules
     in ap length on
@@ -31,8 +31,8 @@ flips_of-requires g c =
 
 pub repair-requires-clause-added : goal.repair-requires-clause-added
 repair-requires-clause-added g c =
-    let old = sight_of g.G.View.rows g.G.View.id_at g.G.View.links c.args.graph.now
-    in let new = sight_of g.D.View.rows g.D.View.id_at g.D.View.links c.args.draft.now
+    let old = view_seen g.G.View.rows g.G.View.id_at g.G.View.links c.args.graph.now
+    in let new = view_seen g.D.View.rows g.D.View.id_at g.D.View.links c.args.draft.now
     in let sub = c.args.subscription.now
     in let mark = mark_of sub.region.marks.entries
     in let at : c.deref.result.now ≡ c.args.located.now.plan.now.changes = search rules
@@ -47,8 +47,8 @@ repair-requires-clause-added g c =
 
 pub returns-clause-marks : goal.returns-clause-marks
 returns-clause-marks g c =
-    let old = sight_of g.G.View.rows g.G.View.id_at g.G.View.links c.args.graph.now
-    in let new = sight_of g.D.View.rows g.D.View.id_at g.D.View.links c.args.draft.now
+    let old = view_seen g.G.View.rows g.G.View.id_at g.G.View.links c.args.graph.now
+    in let new = view_seen g.D.View.rows g.D.View.id_at g.D.View.links c.args.draft.now
     in let sub = c.args.subscription.now
     in let mark = mark_of sub.region.marks.entries
     in let at : c.deref.result.now ≡ c.args.located.now.plan.now.changes = search rules
@@ -66,8 +66,8 @@ returns-clause-marks g c =
 
 pub returns-clause-steps : goal.returns-clause-steps
 returns-clause-steps g c =
-    let old = sight_of g.G.View.rows g.G.View.id_at g.G.View.links c.args.graph.now
-    in let new = sight_of g.D.View.rows g.D.View.id_at g.D.View.links c.args.draft.now
+    let old = view_seen g.G.View.rows g.G.View.id_at g.G.View.links c.args.graph.now
+    in let new = view_seen g.D.View.rows g.D.View.id_at g.D.View.links c.args.draft.now
     in let sub = c.args.subscription.now
     in let mark = mark_of sub.region.marks.entries
     in let at : c.deref.result.now ≡ c.args.located.now.plan.now.changes = search rules

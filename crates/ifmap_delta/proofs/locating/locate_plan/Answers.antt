@@ -1,13 +1,13 @@
 use Rattle.std.proofs.Common.{rules, ◌≡◌, ◌<◌, ◌+◌, length, take, get_or, subst, sym}
 use Rattle.ifmap_delta.specs.Located.{AreLocated, AreNotesLocated, IsLocated, IsLocatedTwice}
-use Rattle.ifmap_delta.specs.Sights.{sight_of}
+use Rattle.ifmap_delta.specs.Sights.{view_seen}
 use Rattle.ifmap_delta.proofs.InStep.{each_more}
 use Rattle.ifmap_delta.proofs.locating.locate_plan.Goals as goal
 
 pub loop-change-preserved : goal.loop-change-preserved
 loop-change-preserved g c =
-    let old = sight_of g.G.View.rows g.G.View.id_at g.G.View.links c.args.graph.now
-    in let new = sight_of g.D.View.rows g.D.View.id_at g.D.View.links c.args.draft.now
+    let old = view_seen g.G.View.rows g.G.View.id_at g.G.View.links c.args.graph.now
+    in let new = view_seen g.D.View.rows g.D.View.id_at g.D.View.links c.args.draft.now
     in let changes = c.args.plan.now.changes
     in let at : c.deref-change-items.result.now ≡ changes = search rules
     in let i = c.loop-change.change-index
@@ -20,7 +20,7 @@ loop-change-preserved g c =
 
 pub loop-note-preserved : goal.loop-note-preserved
 loop-note-preserved g c =
-    let new = sight_of g.D.View.rows g.D.View.id_at g.D.View.links c.args.draft.now
+    let new = view_seen g.D.View.rows g.D.View.id_at g.D.View.links c.args.draft.now
     in let notes = c.args.plan.now.notes
     in let at : c.deref-note-items.result.now ≡ notes = search rules
     in let i = c.loop-note.note-index

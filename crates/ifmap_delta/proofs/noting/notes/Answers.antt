@@ -2,7 +2,7 @@ use Rattle.std.proofs.Common.{rules, ◌≡◌, ◌∙◌, ap, length, sym, subs
 use Rattle.std.specs.List.{AllByRecursion}
 use Rattle.ifmap_ident.specs.Items.{IsCanonItem}
 use Rattle.ifmap_delta.specs.Located.{AreNotesLocated, IsLocated}
-use Rattle.ifmap_delta.specs.Sights.{sight_of}
+use Rattle.ifmap_delta.specs.Sights.{view_seen}
 use Rattle.ifmap_delta.proofs.InStep.{each_long}
 use Rattle.ifmap_delta.proofs.noting.notes.Goals as goal
 
@@ -17,7 +17,7 @@ told_of-requires-clause-canon g c =
 
 pub told_of-requires-clause-located : goal.told_of-requires-clause-located
 told_of-requires-clause-located g c =
-    let new = sight_of g.D.View.rows g.D.View.id_at g.D.View.links c.args.draft.now
+    let new = view_seen g.D.View.rows g.D.View.id_at g.D.View.links c.args.draft.now
     in let at : c.deref.result.now ≡ c.args.located.now.plan.now.notes = search rules
     in let on : c.deref-2.result.now ≡ c.args.located.now.notes.items = search rules
     in subst (λ ns. AreNotesLocated new ns c.deref-2.result.now) (sym at)
@@ -25,7 +25,7 @@ told_of-requires-clause-located g c =
 
 pub told_of-requires-clause-long : goal.told_of-requires-clause-long
 told_of-requires-clause-long g c =
-    let new = sight_of g.D.View.rows g.D.View.id_at g.D.View.links c.args.draft.now
+    let new = view_seen g.D.View.rows g.D.View.id_at g.D.View.links c.args.draft.now
     in let at : c.deref.result.now ≡ c.args.located.now.plan.now.notes = search rules
     in let on : c.deref-2.result.now ≡ c.args.located.now.notes.items = search rules
     in ap length on

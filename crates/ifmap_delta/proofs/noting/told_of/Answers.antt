@@ -2,7 +2,7 @@ use Rattle.std.proofs.Common.{◌∙◌, ap, sym, ◌++◌, ◌∷◌, []}
 use Rattle.ifmap_ident.specs.Items.{IsCanonItem}
 use Rattle.ifmap_folds.specs.Notes.{told_notes}
 use Rattle.ifmap_delta.specs.Located.{IsLocated}
-use Rattle.ifmap_delta.specs.Sights.{sight_of}
+use Rattle.ifmap_delta.specs.Sights.{view_seen}
 use Rattle.ifmap_delta.proofs.Along.{item_holds, notes_more}
 use Rattle.ifmap_delta.proofs.InStep.{each_at}
 use Rattle.ifmap_delta.proofs.noting.told_of.Goals as goal
@@ -15,7 +15,7 @@ add_told-requires-clause-canon g c =
 pub add_told-requires-clause-located : goal.add_told-requires-clause-located
 add_told-requires-clause-located g c =
     let view = c.args.after.now.view.now
-    in each_at (λ n l. IsLocated (sight_of g.D.View.rows g.D.View.id_at g.D.View.links view) n.item l) c.args.notes.now
+    in each_at (λ n l. IsLocated (view_seen g.D.View.rows g.D.View.id_at g.D.View.links view) n.item l) c.args.notes.now
     c.args.located.now c.loop-i.i c.index-notes-i.result c.index-located-i.result c.requires.located c.loop-i-test.true
     c.index-notes-i.is c.index-located-i.is
 

@@ -2,7 +2,7 @@ use Rattle.std.proofs.Common.{◌≡◌, ◌∙◌, ap, sym, subst, refl, arith,
 use Rattle.std.specs.List.{AllByRecursion}
 use Rattle.std.specs.List.Sorted.{IsStrictlySortedBy}
 use Rattle.ifmap_ident.specs.Items.{item_order}
-use Rattle.ifmap_delta.specs.Touched.{IsPaired, items_of}
+use Rattle.ifmap_delta.specs.Touched.{IsPaired, items_touched}
 use Rattle.ifmap_delta.proofs.Beside.{items_unpaired, unpaired_paired}
 use Rattle.ifmap_delta.proofs.pairing.pair_with_changes.Goals as goal
 
@@ -12,7 +12,7 @@ loop-place-init c =
     in let items = c.args.items.items
     in record {
       within = omega arith;
-      items = ap items_of c.in_ok-touched.ensures ∙ items_unpaired items;
+      items = ap items_touched c.in_ok-touched.ensures ∙ items_unpaired items;
       paired = subst (AllByRecursion (IsPaired changes (length changes))) (sym c.in_ok-touched.ensures)
           (unpaired_paired changes (length changes) refl items);
     }

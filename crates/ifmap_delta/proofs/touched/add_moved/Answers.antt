@@ -2,7 +2,7 @@ use Rattle.std.proofs.Common.{ℕ, ◌++◌, ap, ◌∙◌, sym, arith, append_a
 use Rattle.ifmap_fresh.specs.Collected.{numbers_of}
 use Rattle.ifmap_lemmas.specs.Weights.{weight_more, weight_within}
 use Rattle.ifmap_region.specs.Marks.{mark_of, over}
-use Rattle.ifmap_delta.specs.Sights.{sight_of}
+use Rattle.ifmap_delta.specs.Sights.{view_seen}
 use Rattle.ifmap_delta.specs.Touched.{brought_items, looked_along}
 use Rattle.ifmap_fresh.specs.laws.AlongLaws.{brought_more}
 use Rattle.ifmap_delta.proofs.touched.add_moved.Goals as goal
@@ -10,7 +10,7 @@ use Rattle.ifmap_delta.proofs.touched.add_moved.Goals as goal
 pub returns-in_err-add_brought-clause-steps : goal.returns-in_err-add_brought-clause-steps
 returns-in_err-add_brought-clause-steps g c =
     let side = c.args.side.now
-    in let new = sight_of g.D.View.rows g.D.View.id_at g.D.View.links side.view.now
+    in let new = view_seen g.D.View.rows g.D.View.id_at g.D.View.links side.view.now
     in let mark = mark_of side.marks.now.marks.entries
     in let patch = c.args.patch.now
     in omega (
@@ -24,7 +24,7 @@ returns-in_err-add_brought-clause-steps g c =
 pub loop-i-preserved : goal.loop-i-preserved
 loop-i-preserved g c =
     let side = c.args.side.now
-    in let new = sight_of g.D.View.rows g.D.View.id_at g.D.View.links side.view.now
+    in let new = view_seen g.D.View.rows g.D.View.id_at g.D.View.links side.view.now
     in let mark = mark_of side.marks.now.marks.entries
     in let patch = c.args.patch.now
     in let numbers = numbers_of patch

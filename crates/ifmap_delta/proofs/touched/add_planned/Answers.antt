@@ -3,7 +3,7 @@ use Rattle.ifmap_fresh.specs.Fresh.{is_looked_at}
 use Rattle.ifmap_ident.specs.Items.{IsCanonItem}
 use Rattle.ifmap_ident.specs.declared.items.Item.{Item}
 use Rattle.ifmap_delta.specs.Located.{IsLocatedTwice}
-use Rattle.ifmap_delta.specs.Sights.{sight_of}
+use Rattle.ifmap_delta.specs.Sights.{view_seen}
 use Rattle.ifmap_delta.specs.Touched.{planned_items}
 use Rattle.ifmap_delta.proofs.Along.{item_holds, planned_more}
 use Rattle.ifmap_delta.proofs.InStep.{each_at}
@@ -16,8 +16,8 @@ add_changed-requires-clause-canon g c =
 
 pub add_changed-requires-clause-located : goal.add_changed-requires-clause-located
 add_changed-requires-clause-located g c =
-    let old = sight_of g.G.View.rows g.G.View.id_at g.G.View.links c.args.before.now.view.now
-    in let new = sight_of g.D.View.rows g.D.View.id_at g.D.View.links c.args.after.now.view.now
+    let old = view_seen g.G.View.rows g.G.View.id_at g.G.View.links c.args.before.now.view.now
+    in let new = view_seen g.D.View.rows g.D.View.id_at g.D.View.links c.args.after.now.view.now
     in each_at (λ d l. IsLocatedTwice old new d.item l) c.args.changes.now c.args.located.now c.loop-i.i c.index-changes-i.result
     c.index-located-i.result c.requires.located c.loop-i-test.true c.index-changes-i.is c.index-located-i.is
 

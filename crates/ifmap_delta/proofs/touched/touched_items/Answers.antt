@@ -6,7 +6,7 @@ use Rattle.ifmap_fresh.specs.Fresh.{is_looked_at}
 use Rattle.ifmap_region.specs.Marks.{mark_of}
 use Rattle.ifmap_delta.specs.Located.{IsLocatedTwice}
 use Rattle.ifmap_delta.specs.Shown.{patched_mark}
-use Rattle.ifmap_delta.specs.Sights.{HaveMarks, sight_of}
+use Rattle.ifmap_delta.specs.Sights.{HaveMarks, view_seen}
 use Rattle.ifmap_delta.specs.Touched.{is_looked_at_either, moved_items, planned_items}
 use Rattle.ifmap_fresh.specs.laws.OrderedLaws.{came, rises, stays}
 use Rattle.ifmap_delta.proofs.InStep.{each_long}
@@ -18,16 +18,16 @@ add_planned-requires-clause-canon g c = c.requires.change.canon
 
 pub add_planned-requires-clause-long : goal.add_planned-requires-clause-long
 add_planned-requires-clause-long g c =
-    let old = sight_of g.G.View.rows g.G.View.id_at g.G.View.links c.args.before.now.view.now
-    in let new = sight_of g.D.View.rows g.D.View.id_at g.D.View.links c.args.after.now.view.now
+    let old = view_seen g.G.View.rows g.G.View.id_at g.G.View.links c.args.before.now.view.now
+    in let new = view_seen g.D.View.rows g.D.View.id_at g.D.View.links c.args.after.now.view.now
     in each_long (λ d l. IsLocatedTwice old new d.item l) c.args.changes.now c.args.located.now c.requires.located
 
 pub returns-clause-touched : goal.returns-clause-touched
 returns-clause-touched g c =
     let before = c.args.before.now
     in let after = c.args.after.now
-    in let old = sight_of g.G.View.rows g.G.View.id_at g.G.View.links before.view.now
-    in let new = sight_of g.D.View.rows g.D.View.id_at g.D.View.links after.view.now
+    in let old = view_seen g.G.View.rows g.G.View.id_at g.G.View.links before.view.now
+    in let new = view_seen g.D.View.rows g.D.View.id_at g.D.View.links after.view.now
     in let s = after.search.now
     in let mark = mark_of after.marks.now.region.now.marks.entries
     in let mark' = patched_mark after.marks.now

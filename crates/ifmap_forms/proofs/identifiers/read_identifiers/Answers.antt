@@ -3,7 +3,7 @@ use Rattle.std.proofs.lemmas.List.{drop_all, drop_more}
 use Rattle.ifmap_elem.specs.declared.elements.Child.{Child, out-Child}
 use Rattle.ifmap_ident.specs.declared.identifiers.Identifier.{Identifier}
 use Rattle.ifmap_forms.specs.AnswerLaws.{refused_exit_as}
-use Rattle.ifmap_forms.specs.Answers.{IsRefused}
+use Rattle.ifmap_forms.specs.Answers.{IsCheckRefusal}
 use Rattle.ifmap_forms.specs.Gathering.{following_check, identifiers_end, identifiers_further, identifiers_stop, one_found, part_check}
 use Rattle.ifmap_forms.specs.Items.{identifiers_check}
 use Rattle.ifmap_forms.specs.Tables.{parts_in}
@@ -24,8 +24,8 @@ returns-in_err-found c =
     let whole = identifiers_check c.args.most [] (parts_in children) in
     let left = left_at children i child c.loop-child-test.true c.child-item.is in
     let error = c.in_err-found.field-0.0 in
-    let stops : IsRefused (part_check (following_check c.args.most made) (out-Child child)) error =
-    subst (λ (before : List Identifier). IsRefused (part_check (following_check c.args.most before) (out-Child child)) error)
+    let stops : IsCheckRefusal (part_check (following_check c.args.most made) (out-Child child)) error =
+    subst (λ (before : List Identifier). IsCheckRefusal (part_check (following_check c.args.most before) (out-Child child)) error)
     c.deref.ensures.value c.in_err-found.ensures in
     refused_exit_as (λ made. made.items) whole c.from_residual.result error c.from_residual.ensures.1
     (identifiers_stop whole c.args.most (drop i children) made c.loop-child.invariant child (drop (i + 1) children) left error stops)

@@ -3,9 +3,9 @@ use Rattle.std.specs.Result.{OnOk}
 use Rattle.slab.specs.Slab.{get}
 use Rattle.ifmap_ident.specs.declared.items.Item.{Item}
 use Rattle.ifmap_ident.specs.Items.{IsCanonItem}
-use Rattle.ifmap_graph.specs.Bringing.{BringsShelves, parts_of}
+use Rattle.ifmap_graph.specs.Bringing.{BringsShelves, graph_parts}
 use Rattle.ifmap_graph.specs.Held.{IsInside}
-use Rattle.ifmap_graph.specs.Shelved.{place_of}
+use Rattle.ifmap_graph.specs.Shelved.{slot_of_item}
 use Rattle.ifmap_graph.specs.Sides.{next, now}
 use Rattle.ifmap_graph.proofs.Changed.{names_alike, held_alike, roomier}
 use Rattle.ifmap_graph.proofs.Grown.{few_holds, grown_room}
@@ -33,14 +33,14 @@ pub place_shelf-requires-clause-same : goal.place_shelf-requires-clause-same
 place_shelf-requires-clause-same c = c.in_ok-ends.ensures ∙ sym c.in_ok-key.ensures
 
 pub place_shelf-requires-clause-absent : goal.place_shelf-requires-clause-absent
-place_shelf-requires-clause-absent c = subst (λ (k : Item). place_of c.args.shelves.now k ≡ None)
+place_shelf-requires-clause-absent c = subst (λ (k : Item). slot_of_item c.args.shelves.now k ≡ None)
     (sym c.in_ok-key.ensures) c.requires.absent
 
 pub place_shelf-requires-clause-few : goal.place_shelf-requires-clause-few
 place_shelf-requires-clause-few c = λ v.
     let small : length c.args.shelves.now.places.entries < 2 ^ 62 = omega (arith, c.if-len-ge-MOST_ITEMS.false, c.len.ensures.len)
     in subst (λ (n : ℕ). n < 2 ^ 64 - 2) (sym (holds_alike c.args.names.now c.make_room.new.names c.make_room.ensures.live v))
-    (few_holds (parts_of c.args.names.now c.args.shelves.now c.args.links.now.items) c.requires.inside c.requires.few small v)
+    (few_holds (graph_parts c.args.names.now c.args.shelves.now c.args.links.now.items) c.requires.inside c.requires.few small v)
 
 pub returns-clause-grown : goal.returns-clause-grown
 returns-clause-grown c =

@@ -2,8 +2,8 @@ use Rattle.std.proofs.Common.{◌++◌, ◌∷◌, [], Bool, List, length, ap, �
 use Rattle.std.proofs.lemmas.List.{get_or-map, length-map}
 use Rattle.ifmap_ident.specs.Items.{IsCanonItem}
 use Rattle.ifmap_plans.specs.declared.plans.ItemChange.{ItemChange}
-use Rattle.ifmap_graph.specs.Bringing.{BringsShelves, flagged_items, parts_of}
-use Rattle.ifmap_graph.specs.Out.{items_of}
+use Rattle.ifmap_graph.specs.Bringing.{BringsShelves, flagged_items, graph_parts}
+use Rattle.ifmap_graph.specs.Out.{items_changed}
 use Rattle.ifmap_graph.proofs.Grown.{few_kept, grown_on, placed_there, places_none, places_on, placing}
 use Rattle.ifmap_graph.proofs.Planned.{all_at_place}
 use Rattle.ifmap_graph.proofs.bringing.place_items.Goals as goal
@@ -11,8 +11,8 @@ use Rattle.ifmap_lemmas.specs.Members.{all_of_map}
 
 pub loop-change-init : goal.loop-change-init
 loop-change-init c =
-    placing (items_of c.args.changes.now)
-    (parts_of c.args.names.now c.args.shelves.now c.args.links.now.items) c.requires.inside c.args.fresh.now.items c.requires.none
+    placing (items_changed c.args.changes.now)
+    (graph_parts c.args.names.now c.args.shelves.now c.args.links.now.items) c.requires.inside c.args.fresh.now.items c.requires.none
 
 pub place_missing-requires-clause-inside : goal.place_missing-requires-clause-inside
 place_missing-requires-clause-inside c = c.loop-change.invariant.grown.inside
@@ -26,15 +26,15 @@ place_missing-requires-clause-canon c =
 
 pub place_missing-requires-clause-few : goal.place_missing-requires-clause-few
 place_missing-requires-clause-few c =
-    few_kept (parts_of c.args.names.now c.args.shelves.now c.args.links.now.items)
-    (parts_of c.loop-change.names c.loop-change.shelves c.loop-change.links.items)
+    few_kept (graph_parts c.args.names.now c.args.shelves.now c.args.links.now.items)
+    (graph_parts c.loop-change.names c.loop-change.shelves c.loop-change.links.items)
     c.loop-change.invariant.grown c.requires.few
 
 pub loop-change-preserved : goal.loop-change-preserved
 loop-change-preserved c =
-    places_on (items_of c.args.changes.now) (parts_of c.args.names.now c.args.shelves.now c.args.links.now.items)
-    (parts_of c.loop-change.names c.loop-change.shelves c.loop-change.links.items)
-    (parts_of c.place_missing.new.names c.place_missing.new.shelves c.place_missing.new.links.items) c.loop-change.fresh.items
+    places_on (items_changed c.args.changes.now) (graph_parts c.args.names.now c.args.shelves.now c.args.links.now.items)
+    (graph_parts c.loop-change.names c.loop-change.shelves c.loop-change.links.items)
+    (graph_parts c.place_missing.new.names c.place_missing.new.shelves c.place_missing.new.links.items) c.loop-change.fresh.items
     c.loop-change.change-index c.loop-change.invariant c.place_missing.ensures.grown c.change-item.result.item c.in_ok-comes.comes _
     (omega (arith, c.loop-change-test.true, length-map c.args.changes.now (λ (x : ItemChange). x.item)))
     (get_or-map (λ (x : ItemChange). x.item) c.args.changes.now c.loop-change.change-index c.change-item.result c.change-item.result.item
@@ -47,15 +47,15 @@ pub returns : goal.returns
 returns c = record {
   grown = c.loop-change.invariant.grown;
   brought = c.loop-change.invariant.brought;
-  there = placed_there (items_of c.args.changes.now) (parts_of c.args.names.now c.args.shelves.now c.args.links.now.items)
-      (parts_of c.loop-change.names c.loop-change.shelves c.loop-change.links.items) c.loop-change.fresh.items c.loop-change.change-index
+  there = placed_there (items_changed c.args.changes.now) (graph_parts c.args.names.now c.args.shelves.now c.args.links.now.items)
+      (graph_parts c.loop-change.names c.loop-change.shelves c.loop-change.links.items) c.loop-change.fresh.items c.loop-change.change-index
       (omega (arith, c.loop-change-test.false, length-map c.args.changes.now (λ (x : ItemChange). x.item))) c.loop-change.invariant;
   long = omega (arith, c.loop-change.invariant.long, c.loop-change.auto.change-index-end);
 }
 
 pub returns-in_err-reserve-clause-brought : goal.returns-in_err-reserve-clause-brought
 returns-in_err-reserve-clause-brought c =
-    subst (λ (l : List Bool). BringsShelves (flagged_items (items_of c.args.changes.now) l) c.args.shelves.now c.loop-change.shelves)
+    subst (λ (l : List Bool). BringsShelves (flagged_items (items_changed c.args.changes.now) l) c.args.shelves.now c.loop-change.shelves)
     (sym c.reserve.ensures.items)
     c.loop-change.invariant.brought
 
@@ -65,18 +65,18 @@ returns-in_err-reserve-clause-long c = omega
 
 pub returns-in_err-comes-clause-grown : goal.returns-in_err-comes-clause-grown
 returns-in_err-comes-clause-grown c =
-    grown_on (items_of c.args.changes.now) (parts_of c.args.names.now c.args.shelves.now c.args.links.now.items)
-    (parts_of c.loop-change.names c.loop-change.shelves c.loop-change.links.items)
-    (parts_of c.place_missing.new.names c.place_missing.new.shelves c.place_missing.new.links.items) c.loop-change.fresh.items
+    grown_on (items_changed c.args.changes.now) (graph_parts c.args.names.now c.args.shelves.now c.args.links.now.items)
+    (graph_parts c.loop-change.names c.loop-change.shelves c.loop-change.links.items)
+    (graph_parts c.place_missing.new.names c.place_missing.new.shelves c.place_missing.new.links.items) c.loop-change.fresh.items
     c.loop-change.change-index c.loop-change.invariant c.place_missing.ensures.grown
 
 pub returns-in_err-comes-clause-brought : goal.returns-in_err-comes-clause-brought
 returns-in_err-comes-clause-brought c =
-    subst (λ (l : List Bool). BringsShelves (flagged_items (items_of c.args.changes.now) l) c.args.shelves.now c.place_missing.new.shelves)
+    subst (λ (l : List Bool). BringsShelves (flagged_items (items_changed c.args.changes.now) l) c.args.shelves.now c.place_missing.new.shelves)
     (sym c.reserve.ensures.items)
-    (places_none (items_of c.args.changes.now) (parts_of c.args.names.now c.args.shelves.now c.args.links.now.items)
-    (parts_of c.loop-change.names c.loop-change.shelves c.loop-change.links.items)
-    (parts_of c.place_missing.new.names c.place_missing.new.shelves c.place_missing.new.links.items) c.loop-change.fresh.items
+    (places_none (items_changed c.args.changes.now) (graph_parts c.args.names.now c.args.shelves.now c.args.links.now.items)
+    (graph_parts c.loop-change.names c.loop-change.shelves c.loop-change.links.items)
+    (graph_parts c.place_missing.new.names c.place_missing.new.shelves c.place_missing.new.links.items) c.loop-change.fresh.items
     c.loop-change.change-index c.loop-change.invariant c.place_missing.ensures.grown c.in_err-comes.ensures.none)
 
 pub returns-in_err-comes-clause-long : goal.returns-in_err-comes-clause-long

@@ -1,19 +1,19 @@
 use Rattle.std.proofs.Common.{false, get_or, arith}
 use Rattle.ifmap_plans.specs.declared.plans.ItemChange.{ItemChange}
-use Rattle.ifmap_graph.specs.Out.{items_of}
+use Rattle.ifmap_graph.specs.Out.{items_changed}
 use Rattle.ifmap_graph.proofs.Accepting.{here_mapped}
 use Rattle.ifmap_graph.proofs.Marks.{here_of, taken_all, takes_empty, takes_idle, takes_on, taking}
 use Rattle.ifmap_graph.proofs.bringing.take_shelves.Goals as goal
 
 pub loop-i-init : goal.loop-i-init
-loop-i-init c = taking (items_of c.args.changes.now) c.args.fresh.now c.args.names.now c.args.shelves.now c.requires.apart
+loop-i-init c = taking (items_changed c.args.changes.now) c.args.fresh.now c.args.names.now c.args.shelves.now c.requires.apart
 
 pub take_shelf-requires-clause-inside : goal.take_shelf-requires-clause-inside
 take_shelf-requires-clause-inside c = (c.requires.inside.0, c.loop-i.invariant.less.inside c.requires.inside.0 c.requires.inside.1)
 
 pub take_shelf-requires-clause-empty : goal.take_shelf-requires-clause-empty
 take_shelf-requires-clause-empty c =
-    takes_empty (items_of c.args.changes.now) c.args.fresh.now c.args.names.now c.args.shelves.now c.loop-i.names c.loop-i.shelves
+    takes_empty (items_changed c.args.changes.now) c.args.fresh.now c.args.names.now c.args.shelves.now c.loop-i.names c.loop-i.shelves
     c.loop-i.i
     (get_or c.args.changes.now c.loop-i.i c.index-changes-i.result).item (get_or c.args.fresh.now c.loop-i.i false)
     (here_mapped (λ (x : ItemChange). x.item) c.args.changes.now c.loop-i.i c.index-changes-i.result
@@ -24,7 +24,7 @@ take_shelf-requires-clause-empty c =
 
 pub take_shelf-requires-clause-idle : goal.take_shelf-requires-clause-idle
 take_shelf-requires-clause-idle c =
-    takes_idle (items_of c.args.changes.now) c.args.fresh.now c.args.names.now c.args.shelves.now c.loop-i.names c.loop-i.shelves c.loop-i.i
+    takes_idle (items_changed c.args.changes.now) c.args.fresh.now c.args.names.now c.args.shelves.now c.loop-i.names c.loop-i.shelves c.loop-i.i
     (get_or c.args.changes.now c.loop-i.i c.index-changes-i.result).item (get_or c.args.fresh.now c.loop-i.i false)
     (here_mapped (λ (x : ItemChange). x.item) c.args.changes.now c.loop-i.i c.index-changes-i.result
     (omega (arith, c.loop-i-test.true, c.requires.long)))
@@ -33,7 +33,7 @@ take_shelf-requires-clause-idle c =
 
 pub loop-i-preserved : goal.loop-i-preserved
 loop-i-preserved c =
-    takes_on (items_of c.args.changes.now) c.args.fresh.now c.args.names.now c.args.shelves.now c.loop-i.names c.loop-i.shelves c.loop-i.i
+    takes_on (items_changed c.args.changes.now) c.args.fresh.now c.args.names.now c.args.shelves.now c.loop-i.names c.loop-i.shelves c.loop-i.i
     (get_or c.args.changes.now c.loop-i.i c.index-changes-i.result).item (get_or c.args.fresh.now c.loop-i.i false)
     (here_mapped (λ (x : ItemChange). x.item) c.args.changes.now c.loop-i.i c.index-changes-i.result
     (omega (arith, c.loop-i-test.true, c.requires.long)))
@@ -43,5 +43,5 @@ loop-i-preserved c =
 
 pub returns-clause-taken : goal.returns-clause-taken
 returns-clause-taken c =
-    taken_all (items_of c.args.changes.now) c.args.fresh.now c.args.names.now c.args.shelves.now c.loop-i.names c.loop-i.shelves c.loop-i.i
+    taken_all (items_changed c.args.changes.now) c.args.fresh.now c.args.names.now c.args.shelves.now c.loop-i.names c.loop-i.shelves c.loop-i.i
     (omega (arith, c.loop-i-test.false)) c.loop-i.invariant

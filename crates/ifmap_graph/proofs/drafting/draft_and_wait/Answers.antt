@@ -3,7 +3,7 @@ use Rattle.std.specs.BTreeMap.{is_at}
 use Rattle.std.specs.List.{AllByRecursion}
 use Rattle.std.specs.Map.{lookup}
 use Rattle.ifmap_ident.specs.Items.{item_order}
-use Rattle.ifmap_graph.specs.Out.{items_of}
+use Rattle.ifmap_graph.specs.Out.{items_changed}
 use Rattle.ifmap_graph.specs.Shelved.{HasDraft}
 use Rattle.ifmap_graph.proofs.Accepting.{all_given}
 use Rattle.ifmap_graph.proofs.Lessening.{inside_written}
@@ -11,7 +11,7 @@ use Rattle.ifmap_graph.proofs.drafting.draft_and_wait.Goals as goal
 
 pub wait_for-requires-clause-there : goal.wait_for-requires-clause-there
 wait_for-requires-clause-there c =
-    subst (λ p. AllByRecursion (λ x. IsSome (lookup (is_at (item_order x)) p.entries)) (items_of c.args.changes.now))
+    subst (λ p. AllByRecursion (λ x. IsSome (lookup (is_at (item_order x)) p.entries)) (items_changed c.args.changes.now))
     (sym c.draft_plan.ensures.places) c.requires.there
 
 pub returns-clause-inside : goal.returns-clause-inside
@@ -23,7 +23,7 @@ returns-clause-inside c = λ names is.
 pub returns-clause-out : goal.returns-clause-out
 returns-clause-out c = record {
   drafted = all_given (HasDraft c.draft_plan.new.shelves) (HasDraft c.wait_for.new.shelves)
-      (items_of c.args.changes.now) c.wait_for.ensures.kept
+      (items_changed c.args.changes.now) c.wait_for.ensures.kept
       c.in_ok-draft_plan.ensures.out.drafted;
   within = λ x d. c.in_ok-draft_plan.ensures.out.within x (c.wait_for.ensures.drafts x d);
   apart = c.in_ok-draft_plan.ensures.out.apart;

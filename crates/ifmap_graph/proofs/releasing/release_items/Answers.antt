@@ -2,7 +2,7 @@ use Rattle.std.proofs.Common.{◌≡◌, ◌+◌, ◌≤◌, ◌∷◌, List, []
 use Rattle.std.proofs.lemmas.List.{drop_all, length-map}
 use Rattle.ifmap_ident.specs.declared.items.Item.{Item}
 use Rattle.ifmap_plans.specs.declared.plans.ItemChange.{ItemChange}
-use Rattle.ifmap_graph.specs.Out.{items_of}
+use Rattle.ifmap_graph.specs.Out.{items_changed}
 use Rattle.ifmap_graph.specs.Waits.{times_in}
 use Rattle.ifmap_graph.proofs.Accepting.{here_mapped}
 use Rattle.ifmap_graph.proofs.Lessening.{less_itself, less_on}
@@ -15,7 +15,7 @@ loop-change-init c = (less_itself c.args.names.now c.args.shelves.now, λ x. ome
 pub release_item-requires : goal.release_item-requires
 release_item-requires c =
     let i = c.loop-change.change-index
-    in let items = items_of c.args.changes.now
+    in let items = items_changed c.args.changes.now
     in let x = c.change-item.result.item
     in let here : times_in (drop i items) x ≡ times_in (x ∷ drop (i + 1) items) x
     = ap (λ (l : List Item). times_in l x)
@@ -30,7 +30,7 @@ release_item-requires c =
 pub loop-change-preserved : goal.loop-change-preserved
 loop-change-preserved c =
     let i = c.loop-change.change-index
-    in let items = items_of c.args.changes.now
+    in let items = items_changed c.args.changes.now
     in let here : drop i items ≡ c.change-item.result.item ∷ drop (i + 1) items
     = here_mapped (λ (x : ItemChange). x.item) c.args.changes.now i c.change-item.result c.loop-change-test.true
     ∙ ap (λ (x : ItemChange). x.item ∷ drop (i + 1) items) (sym c.change-item.is)
@@ -50,7 +50,7 @@ loop-change-preserved c =
 
 pub returns : goal.returns
 returns c =
-    let items = items_of c.args.changes.now
+    let items = items_changed c.args.changes.now
     in let all : length items ≤ c.loop-change.change-index
     = omega (arith, c.loop-change-test.false, length-map c.args.changes.now (λ (x : ItemChange). x.item))
     in record {

@@ -5,9 +5,9 @@ use Rattle.std.specs.Map.{lookup}
 use Rattle.ifmap_ident.specs.Identifiers.{identifier_order}
 use Rattle.ifmap_ident.specs.Items.{item_order}
 use Rattle.ifmap_pool.specs.Holdings.{IsHeld}
-use Rattle.ifmap_graph.specs.Bringing.{flagged_items, parts_of}
+use Rattle.ifmap_graph.specs.Bringing.{flagged_items, graph_parts}
 use Rattle.ifmap_graph.specs.Named.{named_in}
-use Rattle.ifmap_graph.specs.Out.{items_of}
+use Rattle.ifmap_graph.specs.Out.{items_changed}
 use Rattle.ifmap_graph.proofs.Brought.{brings_written, other_marked}
 use Rattle.ifmap_graph.proofs.Flipping.{inside_dropped, kept_both}
 use Rattle.ifmap_graph.proofs.Made.{made_by, unmade_by}
@@ -15,7 +15,7 @@ use Rattle.ifmap_graph.proofs.reserving.draft_or_take.Goals as goal
 
 pub drop_plan-requires-clause-there : goal.drop_plan-requires-clause-there
 drop_plan-requires-clause-there c =
-    subst (λ p. AllByRecursion (λ x. IsSome (lookup (is_at (item_order x)) p.entries)) (items_of c.args.coming.now.changes.now))
+    subst (λ p. AllByRecursion (λ x. IsSome (lookup (is_at (item_order x)) p.entries)) (items_changed c.args.coming.now.changes.now))
     (sym c.draft_and_wait.ensures.places)
     c.requires.there
 
@@ -38,7 +38,7 @@ take_shelves-requires c = record {
   brought = (
     c.requires.brought.0,
     c.requires.brought.1 ∙ sym (c.drop_plan.ensures.now ∙ c.draft_and_wait.ensures.now),
-    brings_written (flagged_items (items_of c.args.coming.now.changes.now) c.args.coming.now.fresh.now) c.requires.brought.0
+    brings_written (flagged_items (items_changed c.args.coming.now.changes.now) c.args.coming.now.fresh.now) c.requires.brought.0
         c.args.shelves.now
         c.drop_plan.new.shelves
         c.requires.brought.2
@@ -50,13 +50,13 @@ take_shelves-requires c = record {
 
 pub returns-in-Ok-clause-made : goal.returns-in-Ok-clause-made
 returns-in-Ok-clause-made c = λ first grown brought.
-    made_by c.args.coming.now.changes.now c.draft_and_wait.new.ways.items (flagged_items (items_of c.args.coming.now.changes.now)
+    made_by c.args.coming.now.changes.now c.draft_and_wait.new.ways.items (flagged_items (items_changed c.args.coming.now.changes.now)
     c.args.coming.now.fresh.now) first
-    (parts_of c.args.names.now c.args.shelves.now c.args.links.now.items) c.draft_and_wait.new.shelves c.draft_and_wait.new.links.items
+    (graph_parts c.args.names.now c.args.shelves.now c.args.links.now.items) c.draft_and_wait.new.shelves c.draft_and_wait.new.links.items
     grown brought
     (c.in-Ok.ensures.inside c.args.names.now c.requires.inside) c.draft_and_wait.ensures.now c.in-Ok.ensures.next c.in-Ok.ensures.out
     c.draft_and_wait.ensures.ready c.draft_and_wait.ensures.links c.draft_and_wait.ensures.ends c.draft_and_wait.ensures.places
-    (other_marked (items_of c.args.coming.now.changes.now) c.args.coming.now.fresh.now) c.in-Ok.ensures.waited
+    (other_marked (items_changed c.args.coming.now.changes.now) c.args.coming.now.fresh.now) c.in-Ok.ensures.waited
 
 pub returns-in-Err-clause-unmade : goal.returns-in-Err-clause-unmade
 returns-in-Err-clause-unmade c = λ first is grown brought.
@@ -80,7 +80,7 @@ returns-in-Err-clause-unmade c = λ first is grown brought.
     (sym (c.drop_plan.ensures.places ∙ c.draft_and_wait.ensures.places))
     (grown.own a own h)))
     (c.take_shelves.ensures.taken first.shelves
-    (brings_written (flagged_items (items_of c.args.coming.now.changes.now) c.args.coming.now.fresh.now) first.shelves c.args.shelves.now
+    (brings_written (flagged_items (items_changed c.args.coming.now.changes.now) c.args.coming.now.fresh.now) first.shelves c.args.shelves.now
     c.drop_plan.new.shelves brought
     (c.drop_plan.ensures.places ∙ c.draft_and_wait.ensures.places) (λ at. c.drop_plan.ensures.ends at ∙ c.draft_and_wait.ensures.ends at)
     (λ x. c.drop_plan.ensures.waits x ∙ c.in-Err.ensures.waits x)))

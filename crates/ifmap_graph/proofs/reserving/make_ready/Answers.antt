@@ -1,14 +1,14 @@
 use Rattle.std.proofs.Common.{◌≤◌, Bool, List, length, ap, ◌∙◌, sym, subst}
-use Rattle.ifmap_graph.specs.Bringing.{BringsShelves, flagged_items, parts_of}
-use Rattle.ifmap_graph.specs.Out.{items_of}
-use Rattle.ifmap_graph.specs.Shelved.{rows_of}
+use Rattle.ifmap_graph.specs.Bringing.{BringsShelves, flagged_items, graph_parts}
+use Rattle.ifmap_graph.specs.Out.{items_changed}
+use Rattle.ifmap_graph.specs.Shelved.{rows_on_side}
 use Rattle.ifmap_graph.specs.Sides.{now}
 use Rattle.ifmap_graph.proofs.Joining.{on_err, on_ok}
 use Rattle.ifmap_graph.proofs.Made.{all_canon, unmade_by}
 use Rattle.ifmap_graph.proofs.reserving.make_ready.Goals as goal
 
 pub place_items-requires-clause-canon : goal.place_items-requires-clause-canon
-place_items-requires-clause-canon c = all_canon (rows_of now c.args.shelves.now) c.args.changes.now c.requires.fits.each
+place_items-requires-clause-canon c = all_canon (rows_on_side now c.args.shelves.now) c.args.changes.now c.requires.fits.each
 
 pub take_shelves-requires : goal.take_shelves-requires
 take_shelves-requires c = record {
@@ -19,7 +19,7 @@ take_shelves-requires c = record {
   brought = (
     c.args.shelves.now,
     sym c.place_items.ensures.grown.now,
-    subst (λ (l : List Bool). BringsShelves (flagged_items (items_of c.args.changes.now) l) c.args.shelves.now c.place_items.new.shelves)
+    subst (λ (l : List Bool). BringsShelves (flagged_items (items_changed c.args.changes.now) l) c.args.shelves.now c.place_items.new.shelves)
         (sym c.deref-in-Err.ensures.value)
         c.place_items.ensures.brought,
   );
@@ -28,8 +28,8 @@ take_shelves-requires c = record {
 pub returns-in-Ok-clause-made : goal.returns-in-Ok-clause-made
 returns-in-Ok-clause-made c =
     on_ok c.draft_or_take.result
-    (λ made. made (parts_of c.args.names.now c.args.shelves.now c.args.links.now.items) c.place_items.ensures.grown
-    (subst (λ (l : List Bool). BringsShelves (flagged_items (items_of c.args.changes.now) l) c.args.shelves.now c.place_items.new.shelves)
+    (λ made. made (graph_parts c.args.names.now c.args.shelves.now c.args.links.now.items) c.place_items.ensures.grown
+    (subst (λ (l : List Bool). BringsShelves (flagged_items (items_changed c.args.changes.now) l) c.args.shelves.now c.place_items.new.shelves)
     (sym c.deref.ensures.value)
     c.place_items.ensures.brought))
     c.draft_or_take.ensures.made
@@ -37,15 +37,15 @@ returns-in-Ok-clause-made c =
 pub returns-in-Ok-clause-unmade : goal.returns-in-Ok-clause-unmade
 returns-in-Ok-clause-unmade c =
     on_err c.draft_or_take.result
-    (λ unmade. unmade (parts_of c.args.names.now c.args.shelves.now c.args.links.now.items) c.requires.inside c.place_items.ensures.grown
-    (subst (λ (l : List Bool). BringsShelves (flagged_items (items_of c.args.changes.now) l) c.args.shelves.now c.place_items.new.shelves)
+    (λ unmade. unmade (graph_parts c.args.names.now c.args.shelves.now c.args.links.now.items) c.requires.inside c.place_items.ensures.grown
+    (subst (λ (l : List Bool). BringsShelves (flagged_items (items_changed c.args.changes.now) l) c.args.shelves.now c.place_items.new.shelves)
     (sym c.deref.ensures.value)
     c.place_items.ensures.brought))
     c.draft_or_take.ensures.unmade
 
 pub returns-clause-unmade : goal.returns-clause-unmade
 returns-clause-unmade c =
-    unmade_by (parts_of c.args.names.now c.args.shelves.now c.args.links.now.items) c.place_items.new.names c.take_shelves.new.names
+    unmade_by (graph_parts c.args.names.now c.args.shelves.now c.args.links.now.items) c.place_items.new.names c.take_shelves.new.names
     c.take_shelves.new.shelves
     c.place_items.new.links.items c.requires.inside c.place_items.ensures.grown.inside.pool
     (c.take_shelves.ensures.less.inside c.place_items.new.links.items c.place_items.ensures.grown.inside)
@@ -54,7 +54,7 @@ returns-clause-unmade c =
     (c.take_shelves.ensures.less.rows ∙ c.place_items.ensures.grown.now) (λ v. ap (λ s. s.now) (c.place_items.ensures.grown.links v))
     c.place_items.ensures.grown.longer (λ a own h. c.take_shelves.ensures.less.own a own (c.place_items.ensures.grown.own a own h))
     (c.take_shelves.ensures.taken c.args.shelves.now
-    (subst (λ (l : List Bool). BringsShelves (flagged_items (items_of c.args.changes.now) l) c.args.shelves.now c.place_items.new.shelves)
+    (subst (λ (l : List Bool). BringsShelves (flagged_items (items_changed c.args.changes.now) l) c.args.shelves.now c.place_items.new.shelves)
     (sym c.deref-in-Err.ensures.value)
     c.place_items.ensures.brought))
     c.place_items.ensures.grown.kept c.take_shelves.ensures.less.named

@@ -1,13 +1,13 @@
 use Rattle.std.proofs.Common.{◌-◌, ◌^◌, ◌<◌, ℕ, ap, ◌∙◌, sym, subst, arith}
 use Rattle.std.proofs.lemmas.List.{get_or-map, length-map}
 use Rattle.ifmap_plans.specs.declared.plans.ItemChange.{ItemChange}
-use Rattle.ifmap_graph.specs.Out.{items_of}
+use Rattle.ifmap_graph.specs.Out.{items_changed}
 use Rattle.ifmap_graph.proofs.Waits.{few_more}
 use Rattle.ifmap_graph.proofs.waiting.can_wait.Goals as goal
 
 pub loop-change-preserved : goal.loop-change-preserved
 loop-change-preserved c =
-    few_more c.args.shelves.now (items_of c.args.changes.now) c.loop-change.change-index c.change-item.result.item
+    few_more c.args.shelves.now (items_changed c.args.changes.now) c.loop-change.change-index c.change-item.result.item
     (omega (arith, c.loop-change-test.true, length-map c.args.changes.now (λ (x : ItemChange). x.item)))
     (get_or-map (λ (x : ItemChange). x.item) c.args.changes.now c.loop-change.change-index c.change-item.result c.change-item.result.item
     c.loop-change-test.true

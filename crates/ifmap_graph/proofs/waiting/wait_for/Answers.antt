@@ -1,41 +1,41 @@
 use Rattle.std.proofs.Common.{◌≡◌, ◌<◌, length, get_or, ap, ◌∙◌, sym, arith}
 use Rattle.std.proofs.lemmas.List.{get_or-map, length-map}
 use Rattle.ifmap_plans.specs.declared.plans.ItemChange.{ItemChange}
-use Rattle.ifmap_graph.specs.Out.{items_of}
+use Rattle.ifmap_graph.specs.Out.{items_changed}
 use Rattle.ifmap_graph.proofs.Waits.{has_place, is_few, waited_all, waiting, waits_on_more}
 use Rattle.ifmap_graph.proofs.waiting.wait_for.Goals as goal
 
 pub loop-change-init : goal.loop-change-init
-loop-change-init c = waiting (items_of c.args.changes.now) c.args.shelves.now c.requires.shelved c.requires.there c.requires.few
+loop-change-init c = waiting (items_changed c.args.changes.now) c.args.shelves.now c.requires.shelved c.requires.there c.requires.few
     c.requires.apart
 
 pub wait-requires : goal.wait-requires
 wait-requires c =
-    let h : c.loop-change.change-index < length (items_of c.args.changes.now)
+    let h : c.loop-change.change-index < length (items_changed c.args.changes.now)
     = omega (arith, c.loop-change-test.true, length-map c.args.changes.now (λ (x : ItemChange). x.item))
-    in let is : get_or (items_of c.args.changes.now) c.loop-change.change-index c.change-item.result.item ≡ c.change-item.result.item
+    in let is : get_or (items_changed c.args.changes.now) c.loop-change.change-index c.change-item.result.item ≡ c.change-item.result.item
     = get_or-map (λ (x : ItemChange). x.item) c.args.changes.now c.loop-change.change-index c.change-item.result c.change-item.result.item
     c.loop-change-test.true
     ∙ ap (λ (x : ItemChange). x.item) (sym c.change-item.is)
     in record {
       shelved = c.loop-change.invariant.shelved;
-      there = has_place (items_of c.args.changes.now) c.args.shelves.now c.loop-change.shelves c.loop-change.change-index
+      there = has_place (items_changed c.args.changes.now) c.args.shelves.now c.loop-change.shelves c.loop-change.change-index
           c.change-item.result.item h is
           c.loop-change.invariant;
-      few = is_few (items_of c.args.changes.now) c.args.shelves.now c.loop-change.shelves c.loop-change.change-index
+      few = is_few (items_changed c.args.changes.now) c.args.shelves.now c.loop-change.shelves c.loop-change.change-index
           c.change-item.result.item h is
           c.loop-change.invariant;
     }
 
 pub loop-change-preserved : goal.loop-change-preserved
 loop-change-preserved c =
-    let h : c.loop-change.change-index < length (items_of c.args.changes.now)
+    let h : c.loop-change.change-index < length (items_changed c.args.changes.now)
     = omega (arith, c.loop-change-test.true, length-map c.args.changes.now (λ (x : ItemChange). x.item))
-    in let is : get_or (items_of c.args.changes.now) c.loop-change.change-index c.change-item.result.item ≡ c.change-item.result.item
+    in let is : get_or (items_changed c.args.changes.now) c.loop-change.change-index c.change-item.result.item ≡ c.change-item.result.item
     = get_or-map (λ (x : ItemChange). x.item) c.args.changes.now c.loop-change.change-index c.change-item.result c.change-item.result.item
     c.loop-change-test.true
     ∙ ap (λ (x : ItemChange). x.item) (sym c.change-item.is)
-    in waits_on_more (items_of c.args.changes.now) c.args.shelves.now c.loop-change.shelves c.loop-change.change-index
+    in waits_on_more (items_changed c.args.changes.now) c.args.shelves.now c.loop-change.shelves c.loop-change.change-index
     c.change-item.result.item h is
     c.loop-change.invariant c.wait.new.self c.wait.ensures.shelved c.wait.ensures.now c.wait.ensures.next c.wait.ensures.waits
     c.wait.ensures.drafts c.wait.ensures.kept c.wait.ensures.ends c.wait.ensures.places
@@ -45,7 +45,7 @@ returns c = record {
   shelved = c.loop-change.invariant.shelved;
   now = c.loop-change.invariant.same;
   next = c.loop-change.invariant.other;
-  waits = waited_all (items_of c.args.changes.now) c.args.shelves.now c.loop-change.shelves c.loop-change.change-index
+  waits = waited_all (items_changed c.args.changes.now) c.args.shelves.now c.loop-change.shelves c.loop-change.change-index
       (omega (arith, c.loop-change-test.false, length-map c.args.changes.now (λ (x : ItemChange). x.item))) c.loop-change.invariant;
   drafts = c.loop-change.invariant.drafts;
   kept = c.loop-change.invariant.kept;

@@ -1,5 +1,5 @@
 use Rattle.std.proofs.Common.{◌≡◌, false, ℕ, List, subst}
-use Rattle.ifmap_http.specs.Buffers.{AwaitsPost, Takes}
+use Rattle.ifmap_http.specs.Buffers.{AwaitsPost, TakesFromSource}
 use Rattle.ifmap_http.proofs.Taking.{takes_more, unless_post}
 use Rattle.ifmap_http.proofs.heads.await_more.Goals as goal
 
@@ -14,7 +14,7 @@ returns-in-Some-clause-fault g c = λ e. absurd (c.in-Some.ensures.never e)
 pub returns-in-Ok-false-clause-taken : goal.returns-in-Ok-false-clause-taken
 returns-in-Ok-false-clause-taken g c =
     unless_post c.end_post.result
-    (Takes (g.S.Source.left c.args.source.now) (g.S.Source.left c.fill.new.source) c.args.buffer.now c.fill.new.self)
+    (TakesFromSource (g.S.Source.left c.args.source.now) (g.S.Source.left c.fill.new.source) c.args.buffer.now c.fill.new.self)
     (takes_more (g.S.Source.left c.args.source.now) (g.S.Source.left c.head.source) (g.S.Source.left c.fill.new.source)
     c.args.buffer.now c.head.buffer c.fill.new.self c.head.invariant.takes c.in-Ok-false.ensures.taken)
 

@@ -4,7 +4,7 @@ use Rattle.ifmap_elem.specs.declared.elements.Element.{Element}
 use Rattle.ifmap_ident.specs.Parts.{has_only}
 use Rattle.ifmap_ident.specs.declared.codes.Code.TheVariants.{Failure}
 use Rattle.ifmap_forms.specs.AnswerLaws.{refused_after, refused_exit}
-use Rattle.ifmap_forms.specs.Answers.{IsRefused}
+use Rattle.ifmap_forms.specs.Answers.{IsCheckRefusal}
 use Rattle.ifmap_forms.specs.Checks.{Check, need}
 use Rattle.ifmap_forms.specs.Items.{list_check}
 use Rattle.ifmap_forms.specs.Tables.{parts_in}
@@ -21,7 +21,7 @@ returns-in_err-read_members c =
     let only : has_only [] e ≡ true = sym c.has_only.ensures ∙ c.if-not-has_only.false in
     refused_exit (list_check element_check e) c.from_residual.result error c.from_residual.ensures.1
     (refused_after (elements_in e.children) (has_only [] e) Failure error only
-    (subst (λ (cs : List Child). IsRefused (elements_in cs) error) c.children.view_is c.in_err-read_members.ensures))
+    (subst (λ (cs : List Child). IsCheckRefusal (elements_in cs) error) c.children.view_is c.in_err-read_members.ensures))
 
 pub returns : goal.returns
 returns c =

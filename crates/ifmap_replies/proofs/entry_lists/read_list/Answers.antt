@@ -1,7 +1,7 @@
 use Rattle.std.proofs.Common.{◌≡◌, ◌∙◌, ◌-◌, ◌<◌, ◌≤◌, ◌∷◌, List, None, Ok, ap, arith, drop, length, refl, subst, sym, take}
 use Rattle.ifmap_elem.specs.declared.elements.Child.{Child, out-Child}
 use Rattle.ifmap_forms.specs.Answers.{IsChecked}
-use Rattle.ifmap_forms.specs.Items.{list_at}
+use Rattle.ifmap_forms.specs.Items.{list_if_there}
 use Rattle.ifmap_forms.specs.Tables.{Part, parts_in}
 use Rattle.ifmap_replies.specs.ResultForms.{element_check}
 use Rattle.ifmap_forms.specs.CutLaws.{list_parts, no_parts, tail_whole}
@@ -10,7 +10,7 @@ use Rattle.ifmap_replies.proofs.entry_lists.read_list.Goals as goal
 pub returns-then-index-len : goal.returns-then-index-len
 returns-then-index-len c =
     let high : length c.args.children.items ≤ c.args.index = omega (arith, c.args.children.ok.0) in
-    subst (λ (parts : List Part). list_at element_check parts (Ok None)) (sym (no_parts c.args.children.items c.args.index high)) refl
+    subst (λ (parts : List Part). list_if_there element_check parts (Ok None)) (sym (no_parts c.args.children.items c.args.index high)) refl
 
 pub returns : goal.returns
 returns c =
@@ -18,7 +18,7 @@ returns c =
     let others = c.deref.result.now in
     let left : take (length others - c.args.index) (drop c.args.index others) ≡ drop c.args.index c.remove-child.new.self.items =
     tail_whole others c.args.index ∙ ap (drop c.args.index) c.deref.ensures.value in
-    subst (λ (parts : List Part). IsChecked (list_at element_check parts) c.read_list_child.result)
+    subst (λ (parts : List Part). IsChecked (list_if_there element_check parts) c.read_list_child.result)
     (ap (λ (cs : List Child). out-Child c.remove-child.result ∷ parts_in cs) left
     ∙ list_parts c.args.children.items c.remove-child.new.self.items c.args.index c.remove-child.result low
     c.remove-child.ensures.value c.remove-child.ensures.items) c.read_list_child.ensures

@@ -1,8 +1,8 @@
 use Rattle.std.proofs.Common.{◌≡◌, [], List, Ok, drop, subst}
 use Rattle.ifmap_elem.specs.declared.elements.Child.{Child}
 use Rattle.ifmap_forms.specs.AnswerLaws.{refused_exit}
-use Rattle.ifmap_forms.specs.Answers.{IsRefused}
-use Rattle.ifmap_forms.specs.Items.{before_list, from_list, identifiers_check, list_at}
+use Rattle.ifmap_forms.specs.Answers.{IsCheckRefusal}
+use Rattle.ifmap_forms.specs.Items.{before_list, from_list, identifiers_check, list_if_there}
 use Rattle.ifmap_forms.specs.Tables.{Part, parts_in}
 use Rattle.ifmap_replies.specs.ResultForms.{element_check, run_parts}
 use Rattle.ifmap_replies.proofs.FoundLaws.{refused_identifiers, refused_list, run_whole}
@@ -12,7 +12,7 @@ pub returns-in_err-identifiers : goal.returns-in_err-identifiers
 returns-in_err-identifiers c =
     let error = c.in_err-identifiers.field-0.0 in
     refused_exit (run_parts (parts_in c.args.children.items)) c.from_residual.result error c.from_residual.ensures.1
-    (subst (λ (cs : List Child). IsRefused (run_parts (parts_in cs)) error) c.as_slice-all.ensures.value
+    (subst (λ (cs : List Child). IsCheckRefusal (run_parts (parts_in cs)) error) c.as_slice-all.ensures.value
     (refused_identifiers (parts_in c.as_slice-all.result.now) error c.in_err-identifiers.ensures))
 
 pub returns-in_err-list : goal.returns-in_err-list
@@ -29,7 +29,7 @@ returns-in_err-list c =
     c.list_index-index.ensures.after in
     refused_exit (run_parts parts) c.from_residual-in_err-list.result error c.from_residual-in_err-list.ensures.1
     (refused_list parts identifiers before error
-    (subst (λ (ps : List Part). IsRefused (list_at element_check ps) error) after c.in_err-list.ensures))
+    (subst (λ (ps : List Part). IsCheckRefusal (list_if_there element_check ps) error) after c.in_err-list.ensures))
 
 pub returns : goal.returns
 returns c =
@@ -43,5 +43,5 @@ returns c =
     subst (λ (cs : List Child). drop index (parts_in cs) ≡ from_list (parts_in cs)) c.as_slice-all.ensures.value
     c.list_index-index.ensures.after in
     run_whole parts identifiers before c.in_ok-list.list
-    (subst (λ (ps : List Part). list_at element_check ps (Ok c.in_ok-list.list)) after c.in_ok-list.ensures) c.run_from.result
+    (subst (λ (ps : List Part). list_if_there element_check ps (Ok c.in_ok-list.list)) after c.in_ok-list.ensures) c.run_from.result
     c.run_from.ensures

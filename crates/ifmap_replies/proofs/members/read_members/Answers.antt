@@ -3,7 +3,7 @@ use Rattle.std.proofs.lemmas.List.{nil_from_length}
 use Rattle.std.specs.Vec.Iter.{into_iter_items}
 use Rattle.ifmap_elem.specs.declared.elements.Child.{Child}
 use Rattle.ifmap_forms.specs.AnswerLaws.{refused_exit_as}
-use Rattle.ifmap_forms.specs.Gathering.{GoesOn, begins, elements_end, elements_further, elements_stop}
+use Rattle.ifmap_forms.specs.Gathering.{IsRestAfter, begins, elements_end, elements_further, elements_stop}
 use Rattle.ifmap_forms.specs.Tables.{each_element, parts_in}
 use Rattle.ifmap_replies.proofs.members.read_members.Goals as goal
 
@@ -11,7 +11,7 @@ pub loop-child-init : goal.loop-child-init
 loop-child-init g c =
     let whole = each_element (λ index e. g.T.Member.finds e) 0 (parts_in c.args.children.items) in (
       0,
-      subst (λ (cs : List Child). GoesOn whole (each_element (λ index e. g.T.Member.finds e) 0 (parts_in cs)) c.new-made.result.items)
+      subst (λ (cs : List Child). IsRestAfter whole (each_element (λ index e. g.T.Member.finds e) 0 (parts_in cs)) c.new-made.result.items)
           (sym c.into_iter-child-iterator.ensures.into_iter_gives.0)
           (begins whole c.new-made.result.items c.new-made.ensures.items),
     )

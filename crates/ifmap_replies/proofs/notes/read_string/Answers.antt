@@ -9,12 +9,12 @@ use Rattle.ifmap_ident.specs.declared.codes.Code.{Code}
 use Rattle.ifmap_ident.specs.declared.codes.Code.TheVariants.{Failure}
 use Rattle.ifmap_forms.specs.AnswerLaws.{found_after, refused_test}
 use Rattle.ifmap_forms.specs.Checks.{Check, need, pass}
-use Rattle.ifmap_forms.specs.Tables.{parts_in, parts_of}
+use Rattle.ifmap_forms.specs.Tables.{parts_in, element_parts}
 use Rattle.ifmap_replies.specs.ResultForms.{is_text, note_check}
 use Rattle.ifmap_replies.proofs.notes.read_string.Goals as goal
 
 abbrev text_inside : Element → Check (List ℕ)
-text_inside e = need (list_all is_text (parts_of e)) Failure (pass (text_among e.children))
+text_inside e = need (list_all is_text (element_parts e)) Failure (pass (text_among e.children))
 
 abbrev named : Element → Check (List ℕ)
 named e = need (has_only [] e) Failure (text_inside e)
@@ -41,7 +41,7 @@ pub returns-then-not-are_texts : goal.returns-then-not-are_texts
 returns-then-not-are_texts c =
     let e = c.args.element.now in
     after_attributes e (sym c.is_bare.ensures ∙ c.if-not-is_bare.false) (sym c.has_only.ensures ∙ c.if-not-has_only.false) (Err Failure)
-    (refused_test (pass (text_among e.children)) (list_all is_text (parts_of e)) Failure
+    (refused_test (pass (text_among e.children)) (list_all is_text (element_parts e)) Failure
     (ap (λ (cs : List Child). list_all is_text (parts_in cs)) (sym c.as_slice-children.ensures)
     ∙ (sym c.are_texts.ensures ∙ c.if-not-are_texts.true)))
 
@@ -51,6 +51,6 @@ returns c =
     let text = c.in_ok-text_among.field-0 in
     let same : text ≡ text_among e.children = c.in_ok-text_among.ensures ∙ ap text_among c.as_slice-children.ensures in
     after_attributes e (sym c.is_bare.ensures ∙ c.if-not-is_bare.false) (sym c.has_only.ensures ∙ c.if-not-has_only.false) (Ok text)
-    (found_after (pass (text_among e.children)) (list_all is_text (parts_of e)) Failure (Ok text)
+    (found_after (pass (text_among e.children)) (list_all is_text (element_parts e)) Failure (Ok text)
     (ap (λ (cs : List Child). list_all is_text (parts_in cs)) (sym c.as_slice-children.ensures)
     ∙ (sym c.are_texts.ensures ∙ c.if-not-are_texts.false)) (ap (λ t. Ok t) same))

@@ -2,7 +2,7 @@ use Rattle.std.proofs.Common.{[], ◌∙◌, List, Ok, codes, subst, sym}
 use Rattle.ifmap_elem.specs.declared.elements.Child.{Child}
 use Rattle.ifmap_forms.specs.AnswerLaws.{found_alone, found_form, refused_alone, refused_at_attributes, refused_at_content}
 use Rattle.ifmap_forms.specs.AnswerLaws.{refused_at_others, refused_exit}
-use Rattle.ifmap_forms.specs.Answers.{IsRefused}
+use Rattle.ifmap_forms.specs.Answers.{IsCheckRefusal}
 use Rattle.ifmap_forms.specs.Tables.{both, form_check, parts_in}
 use Rattle.ifmap_forms.specs.Values.{text_field}
 use Rattle.ifmap_replies.specs.ResultForms.{entries_check, no_scopes, told_form, told_made}
@@ -35,7 +35,7 @@ returns-in_err-entries c =
     (refused_at_content (told_form kind) (told_made kind) no_scopes e (both c.in_ok-name.name tt)
     (found_alone (text_field (codes "name")) (no_scopes []) e c.in_ok-name.name c.in_ok-name.ensures) error
     (sym c.has_only.ensures ∙ c.if-not-has_only.false)
-    (subst (λ (cs : List Child). IsRefused (entries_check (parts_in cs)) error) c.children.view_is c.in_err-entries.ensures))
+    (subst (λ (cs : List Child). IsCheckRefusal (entries_check (parts_in cs)) error) c.children.view_is c.in_err-entries.ensures))
 
 pub returns : goal.returns
 returns c =

@@ -2,7 +2,7 @@ use Rattle.std.proofs.Common.{[], ◌∙◌, List, Ok, codes, subst, sym}
 use Rattle.ifmap_elem.specs.declared.elements.Child.{Child}
 use Rattle.ifmap_forms.specs.AnswerLaws.{found_alone, found_beside, found_form, refused_alone, refused_at_attributes, refused_at_content}
 use Rattle.ifmap_forms.specs.AnswerLaws.{refused_at_field, refused_at_others, refused_beside, refused_exit}
-use Rattle.ifmap_forms.specs.Answers.{IsRefused}
+use Rattle.ifmap_forms.specs.Answers.{IsCheckRefusal}
 use Rattle.ifmap_forms.specs.Tables.{beside, both, form_check, no_attributes, parts_in}
 use Rattle.ifmap_replies.specs.Fields.{code_field, optional_field}
 use Rattle.ifmap_replies.specs.ResultForms.{no_scopes, note_check, only_check, told_error_form, told_error_made}
@@ -46,7 +46,7 @@ returns-in_err-note c =
     (both c.in_ok-name.name tt) c.in_ok-code.ensures
     (found_alone (optional_field (codes "name")) (no_scopes []) e c.in_ok-name.name c.in_ok-name.ensures)) error
     (sym c.has_only.ensures ∙ c.if-not-has_only.false)
-    (subst (λ (cs : List Child). IsRefused (only_check note_check (parts_in cs)) error) c.children.view_is c.in_err-note.ensures))
+    (subst (λ (cs : List Child). IsCheckRefusal (only_check note_check (parts_in cs)) error) c.children.view_is c.in_err-note.ensures))
 
 pub returns : goal.returns
 returns c =

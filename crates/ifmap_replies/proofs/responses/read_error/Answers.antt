@@ -2,7 +2,7 @@ use Rattle.std.proofs.Common.{[], ◌∙◌, List, Ok, subst, sym}
 use Rattle.ifmap_elem.specs.declared.elements.Child.{Child}
 use Rattle.ifmap_forms.specs.AnswerLaws.{found_alone, found_form, refused_alone, refused_at_attributes, refused_at_content}
 use Rattle.ifmap_forms.specs.AnswerLaws.{refused_at_others, refused_exit}
-use Rattle.ifmap_forms.specs.Answers.{IsRefused}
+use Rattle.ifmap_forms.specs.Answers.{IsCheckRefusal}
 use Rattle.ifmap_forms.specs.Tables.{both, form_check, parts_in}
 use Rattle.ifmap_replies.specs.Fields.{code_field}
 use Rattle.ifmap_replies.specs.ResultForms.{error_form, error_made, no_scopes, note_check, only_check}
@@ -31,7 +31,7 @@ returns-in_err-note c =
     (refused_at_content error_form error_made no_scopes e (both c.in_ok-code.code tt)
     (found_alone code_field (no_scopes []) e c.in_ok-code.code c.in_ok-code.ensures) error
     (sym c.has_only.ensures ∙ c.if-not-has_only.false)
-    (subst (λ (cs : List Child). IsRefused (only_check note_check (parts_in cs)) error) c.children.view_is c.in_err-note.ensures))
+    (subst (λ (cs : List Child). IsCheckRefusal (only_check note_check (parts_in cs)) error) c.children.view_is c.in_err-note.ensures))
 
 pub returns : goal.returns
 returns c =

@@ -1,7 +1,7 @@
 use Rattle.std.proofs.Common.{◌∙◌, List, Ok, refl, subst, sym}
 use Rattle.ifmap_elem.specs.declared.elements.Child.{Child}
 use Rattle.ifmap_forms.specs.AnswerLaws as laws
-use Rattle.ifmap_forms.specs.Answers.{IsRefused}
+use Rattle.ifmap_forms.specs.Answers.{IsCheckRefusal}
 use Rattle.ifmap_forms.specs.Tables.{form_check, parts_in}
 use Rattle.ifmap_replies.specs.ResultForms.{entries_check, found_form, found_made, no_scopes}
 use Rattle.ifmap_replies.proofs.responses.read_found.Goals as goal
@@ -16,7 +16,7 @@ returns-in_err-entries c =
     let error = c.in_err-entries.field-0.0 in
     laws.refused_exit (form_check found_form found_made no_scopes e) c.from_residual.result error c.from_residual.ensures.1
     (laws.refused_at_content found_form found_made no_scopes e tt refl error (sym c.has_only.ensures ∙ c.if-not-has_only.false)
-    (subst (λ (cs : List Child). IsRefused (entries_check (parts_in cs)) error) c.children.view_is c.in_err-entries.ensures))
+    (subst (λ (cs : List Child). IsCheckRefusal (entries_check (parts_in cs)) error) c.children.view_is c.in_err-entries.ensures))
 
 pub returns : goal.returns
 returns c =

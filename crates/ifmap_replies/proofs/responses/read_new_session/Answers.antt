@@ -9,7 +9,7 @@ use Rattle.ifmap_forms.specs.AnswerLaws.{refused_at_field, refused_at_others, re
 use Rattle.ifmap_forms.specs.Tables.{beside, both, form_check, is_white_part, no_attributes, parts_in}
 use Rattle.ifmap_forms.specs.Values.{Field, field_check, text_field}
 use Rattle.ifmap_replies.specs.Fields.{word_field}
-use Rattle.ifmap_replies.specs.ResultForms.{new_session_form, new_session_made, no_scopes}
+use Rattle.ifmap_replies.specs.ResultForms.{session_result_form, new_session_made, no_scopes}
 use Rattle.ifmap_replies.proofs.responses.read_new_session.Goals as goal
 use Rattle.ifmap_forms.specs.FormLaws.{blank_children, other_children}
 
@@ -24,7 +24,7 @@ session_field = text_field (codes "session-id")
 
 module _ (e : Element) (publisher : List ℕ) (limit : ℕ) (session : List ℕ) (p : field_check publisher_field (no_scopes []) e (Ok publisher))
     (l : field_check limit_field (no_scopes []) e (Ok limit)) (s : field_check session_field (no_scopes []) e (Ok session)) where
-  attributes_found : new_session_form.attributes.reads (no_scopes []) e (Ok (both publisher (both limit (both session tt))))
+  attributes_found : session_result_form.attributes.reads (no_scopes []) e (Ok (both publisher (both limit (both session tt))))
   attributes_found =
       found_beside publisher_field (beside limit_field (beside session_field no_attributes)) (no_scopes []) e publisher
       (both limit (both session tt)) p
@@ -35,8 +35,8 @@ pub returns-in_err-publisher : goal.returns-in_err-publisher
 returns-in_err-publisher c =
     let e = c.args.element.now in
     let error = c.in_err-publisher.field-0.0 in
-    refused_exit (form_check new_session_form new_session_made no_scopes e) c.from_residual.result error c.from_residual.ensures.1
-    (refused_at_attributes new_session_form new_session_made no_scopes e error
+    refused_exit (form_check session_result_form new_session_made no_scopes e) c.from_residual.result error c.from_residual.ensures.1
+    (refused_at_attributes session_result_form new_session_made no_scopes e error
     (refused_at_field publisher_field (beside limit_field (beside session_field no_attributes)) (no_scopes []) e error
     c.in_err-publisher.ensures))
 
@@ -44,9 +44,9 @@ pub returns-in_err-limit : goal.returns-in_err-limit
 returns-in_err-limit c =
     let e = c.args.element.now in
     let error = c.in_err-limit.field-0.0 in
-    refused_exit (form_check new_session_form new_session_made no_scopes e) c.from_residual-in_err-limit.result error
+    refused_exit (form_check session_result_form new_session_made no_scopes e) c.from_residual-in_err-limit.result error
     c.from_residual-in_err-limit.ensures.1
-    (refused_at_attributes new_session_form new_session_made no_scopes e error
+    (refused_at_attributes session_result_form new_session_made no_scopes e error
     (refused_beside publisher_field (beside limit_field (beside session_field no_attributes)) (no_scopes []) e
     c.in_ok-publisher.publisher error c.in_ok-publisher.ensures
     (refused_at_field limit_field (beside session_field no_attributes) (no_scopes []) e error c.in_err-limit.ensures)))
@@ -55,9 +55,9 @@ pub returns-in_err-session : goal.returns-in_err-session
 returns-in_err-session c =
     let e = c.args.element.now in
     let error = c.in_err-session.field-0.0 in
-    refused_exit (form_check new_session_form new_session_made no_scopes e) c.from_residual-in_err-session.result error
+    refused_exit (form_check session_result_form new_session_made no_scopes e) c.from_residual-in_err-session.result error
     c.from_residual-in_err-session.ensures.1
-    (refused_at_attributes new_session_form new_session_made no_scopes e error
+    (refused_at_attributes session_result_form new_session_made no_scopes e error
     (refused_beside publisher_field (beside limit_field (beside session_field no_attributes)) (no_scopes []) e
     c.in_ok-publisher.publisher error c.in_ok-publisher.ensures
     (refused_beside limit_field (beside session_field no_attributes) (no_scopes []) e c.in_ok-limit.limit error c.in_ok-limit.ensures
@@ -66,7 +66,7 @@ returns-in_err-session c =
 pub returns-then-not-has_only : goal.returns-then-not-has_only
 returns-then-not-has_only c =
     let e = c.args.element.now in
-    refused_at_others new_session_form new_session_made no_scopes e
+    refused_at_others session_result_form new_session_made no_scopes e
     (both c.in_ok-publisher.publisher (both c.in_ok-limit.limit (both c.in_ok-session.session tt)))
     (attributes_found e c.in_ok-publisher.publisher c.in_ok-limit.limit c.in_ok-session.session c.in_ok-publisher.ensures
     c.in_ok-limit.ensures c.in_ok-session.ensures)
@@ -75,7 +75,7 @@ returns-then-not-has_only c =
 pub returns-then-not-are_blank : goal.returns-then-not-are_blank
 returns-then-not-are_blank c =
     let e = c.args.element.now in
-    refused_at_content new_session_form new_session_made no_scopes e
+    refused_at_content session_result_form new_session_made no_scopes e
     (both c.in_ok-publisher.publisher (both c.in_ok-limit.limit (both c.in_ok-session.session tt)))
     (attributes_found e c.in_ok-publisher.publisher c.in_ok-limit.limit c.in_ok-session.session c.in_ok-publisher.ensures
     c.in_ok-limit.ensures c.in_ok-session.ensures) (Named Failure) (sym c.has_only.ensures ∙ c.if-not-has_only.false)
@@ -85,7 +85,7 @@ returns-then-not-are_blank c =
 pub returns : goal.returns
 returns c =
     let e = c.args.element.now in
-    found_form new_session_form new_session_made no_scopes e
+    found_form session_result_form new_session_made no_scopes e
     (both c.in_ok-publisher.publisher (both c.in_ok-limit.limit (both c.in_ok-session.session tt)))
     (attributes_found e c.in_ok-publisher.publisher c.in_ok-limit.limit c.in_ok-session.session c.in_ok-publisher.ensures
     c.in_ok-limit.ensures c.in_ok-session.ensures) tt (sym c.has_only.ensures ∙ c.if-not-has_only.false)

@@ -1,7 +1,7 @@
 use Rattle.std.proofs.Common.{[], ◌∷◌, ◌++◌, Ok, codes, subst}
 use Rattle.ifmap_reader.specs.declared.scoping.Scope.{Scope}
 use Rattle.ifmap_forms.specs.AnswerLaws.{refused_exit}
-use Rattle.ifmap_forms.specs.Answers.{IsRefused}
+use Rattle.ifmap_forms.specs.Answers.{IsCheckRefusal}
 use Rattle.ifmap_forms.specs.Scopes.{scopes_by}
 use Rattle.ifmap_forms.specs.Tables.{form_check}
 use Rattle.ifmap_requests.specs.declared.requests.Request.TheVariants as request
@@ -30,7 +30,7 @@ returns-in_err-search c =
     c.from_residual-in_err-search.ensures.1
     (refused_search session_field (record { space = ifmap_space; local = codes "search" }) (codes "validation" ∷ [])
     (λ session search. request.Search session search) scopes e c.in_ok-session.session c.in_ok-session.ensures error
-    (subst (λ (scope : Scope). IsRefused (search_check allowed scope e) error)
+    (subst (λ (scope : Scope). IsCheckRefusal (search_check allowed scope e) error)
     (own_place c.args.place.now.declared.now c.args.place.now.path.now c.args.place.now.child c.requires) c.in_err-search.ensures))
 
 pub returns : goal.returns

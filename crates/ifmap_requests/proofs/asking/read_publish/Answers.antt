@@ -3,7 +3,7 @@ use Rattle.ifmap_elem.specs.declared.elements.Child.{Child}
 use Rattle.ifmap_ident.specs.declared.codes.Code.TheVariants.{Failure}
 use Rattle.ifmap_forms.specs.declared.errors.FormError.TheVariants.{Named}
 use Rattle.ifmap_forms.specs.AnswerLaws.{found_alone, refused_alone, refused_exit}
-use Rattle.ifmap_forms.specs.Answers.{IsRefused}
+use Rattle.ifmap_forms.specs.Answers.{IsCheckRefusal}
 use Rattle.ifmap_forms.specs.Scopes.{scopes_by}
 use Rattle.ifmap_forms.specs.Tables.{both, form_check, list_of, parts_in}
 use Rattle.ifmap_requests.specs.RequestForms.{publish_form, publish_of, publish_op_check, session_field}
@@ -38,7 +38,7 @@ returns-in_err-ops c =
     (read_no_content publish_form scopes e (both c.in_ok-session.session tt)
     (found_alone session_field (scopes []) e c.in_ok-session.session c.in_ok-session.ensures) error
     (sym c.has_only.ensures ∙ c.if-not-has_only.false)
-    (subst (λ (cs : List Child). IsRefused (list_of publish_op_check scopes (parts_in cs)) error) c.children.view_is c.in_err-ops.ensures)))
+    (subst (λ (cs : List Child). IsCheckRefusal (list_of publish_op_check scopes (parts_in cs)) error) c.children.view_is c.in_err-ops.ensures)))
 
 pub returns : goal.returns
 returns c =

@@ -6,7 +6,7 @@ use Rattle.ifmap_elem.specs.declared.elements.Element.{Element}
 use Rattle.ifmap_meta.specs.declared.metadata.Metadata.{Metadata}
 use Rattle.ifmap_forms.specs.AnswerLaws.{refused_exit}
 use Rattle.ifmap_forms.specs.Checks.{Check}
-use Rattle.ifmap_forms.specs.Gathering.{GoesOn, begins, elements_end, elements_further, elements_stop}
+use Rattle.ifmap_forms.specs.Gathering.{IsRestAfter, begins, elements_end, elements_further, elements_stop}
 use Rattle.ifmap_forms.specs.Tables.{each_element, parts_in}
 use Rattle.ifmap_requests.specs.Published.{metadata_check}
 use Rattle.ifmap_requests.proofs.metadata.read_each.Goals as goal
@@ -18,7 +18,7 @@ pub loop-child-init : goal.loop-child-init
 loop-child-init c =
     let whole = each_element one 0 (parts_in c.args.children.items) in (
       0,
-      subst (λ (cs : List Child). GoesOn whole (each_element one 0 (parts_in cs)) c.new-made.result.items)
+      subst (λ (cs : List Child). IsRestAfter whole (each_element one 0 (parts_in cs)) c.new-made.result.items)
           (sym c.into_iter-child-iterator.ensures.into_iter_gives.0)
           (begins whole c.new-made.result.items c.new-made.ensures.items),
     )

@@ -1,7 +1,7 @@
 use Rattle.std.proofs.Common.{◌≡◌, Ok, subst}
 use Rattle.ifmap_elem.specs.declared.elements.Child.{out-Child}
 use Rattle.ifmap_forms.specs.AnswerLaws.{refused_exit}
-use Rattle.ifmap_forms.specs.Answers.{IsRefused}
+use Rattle.ifmap_forms.specs.Answers.{IsCheckRefusal}
 use Rattle.ifmap_forms.specs.Gathering.{part_check, part_found, part_refused}
 use Rattle.ifmap_forms.specs.Scopes.{Scopes, place_scopes, scopes_below, scopes_by}
 use Rattle.ifmap_requests.specs.RequestForms.{publish_op_check}
@@ -23,7 +23,7 @@ returns-in_err-read_op-in-Element c =
     refused_exit (part_check one (out-Child c.args.child)) c.from_residual-in_err-read_op-in-Element.result error
     c.from_residual-in_err-read_op-in-Element.ensures.1
     (part_refused one c.args.child e c.in-Element.is error
-    (subst (λ (scopes : Scopes). IsRefused (publish_op_check scopes e) error) moved c.in_err-read_op-in-Element.ensures))
+    (subst (λ (scopes : Scopes). IsCheckRefusal (publish_op_check scopes e) error) moved c.in_err-read_op-in-Element.ensures))
 
 pub returns-in-Element : goal.returns-in-Element
 returns-in-Element c =

@@ -3,7 +3,7 @@ use Rattle.ifmap_elem.specs.declared.elements.Child.{Child}
 use Rattle.ifmap_ident.specs.declared.codes.Code.TheVariants.{Failure}
 use Rattle.ifmap_forms.specs.declared.errors.FormError.TheVariants.{Named}
 use Rattle.ifmap_forms.specs.AnswerLaws.{refused_exit}
-use Rattle.ifmap_forms.specs.Answers.{IsRefused}
+use Rattle.ifmap_forms.specs.Answers.{IsCheckRefusal}
 use Rattle.ifmap_forms.specs.Tables.{form_check, parts_in}
 use Rattle.ifmap_requests.specs.Published.{published_check, published_parts}
 use Rattle.ifmap_requests.specs.RequestForms.{notify_form, notify_of}
@@ -23,7 +23,7 @@ returns-in_err-published c = λ scopes.
     refused_exit (form_check notify_form notify_of scopes e) c.from_residual.result error c.from_residual.ensures.1
     (refused_form notify_form notify_of scopes e error
     (read_no_content notify_form scopes e tt refl error (sym c.has_only.ensures ∙ c.if-not-has_only.false)
-    (subst (λ (cs : List Child). IsRefused (published_check (parts_in cs)) error) c.children.view_is c.in_err-published.ensures)))
+    (subst (λ (cs : List Child). IsCheckRefusal (published_check (parts_in cs)) error) c.children.view_is c.in_err-published.ensures)))
 
 pub returns : goal.returns
 returns c = λ scopes.

@@ -5,7 +5,7 @@ use Rattle.ifmap_elem.specs.declared.elements.Child.{Child}
 use Rattle.ifmap_elem.specs.declared.elements.Element.{Element}
 use Rattle.ifmap_forms.specs.AnswerLaws.{refused_exit}
 use Rattle.ifmap_forms.specs.Checks.{Check}
-use Rattle.ifmap_forms.specs.Gathering.{GoesOn, begins, elements_end, elements_further, elements_stop}
+use Rattle.ifmap_forms.specs.Gathering.{IsRestAfter, begins, elements_end, elements_further, elements_stop}
 use Rattle.ifmap_forms.specs.Scopes.{Scopes, scopes_below, scopes_by}
 use Rattle.ifmap_forms.specs.Tables.{each_element, parts_in}
 use Rattle.ifmap_requests.specs.declared.publishing.PublishOp.{PublishOp}
@@ -19,7 +19,7 @@ pub loop-child-init : goal.loop-child-init
 loop-child-init c =
     let scopes = scopes_by c.args.place.now.declared.now c.args.place.now.path.now in
     let whole = each_element (one scopes) 0 (parts_in c.args.children.items) in (
-      subst (λ (cs : List Child). GoesOn whole (each_element (one scopes) 0 (parts_in cs)) c.new-ops.result.items)
+      subst (λ (cs : List Child). IsRestAfter whole (each_element (one scopes) 0 (parts_in cs)) c.new-ops.result.items)
           (sym c.into_iter-child-iterator.ensures.into_iter_gives.0) (begins whole c.new-ops.result.items c.new-ops.ensures.items),
       omega (arith, ap length c.into_iter-child-iterator.ensures.into_iter_gives.0),
     )

@@ -1,6 +1,6 @@
 use Rattle.std.proofs.Common.{◌∷◌, [], List, Ok, refl, subst}
 use Rattle.ifmap_elem.specs.declared.readings.Declared.{Declared}
-use Rattle.ifmap_forms.specs.Answers.{IsRefused}
+use Rattle.ifmap_forms.specs.Answers.{IsCheckRefusal}
 use Rattle.ifmap_forms.specs.Scopes.{scopes_by}
 use Rattle.ifmap_requests.specs.RequestForms.{request_check}
 use Rattle.ifmap_requests.proofs.ReadingLaws.{refused_reading, request_read, request_refused}
@@ -16,7 +16,7 @@ returns-in_err-read_inner c =
     let error = c.in_err-read_inner.field-0.0 in
     refused_reading c.args.reading c.from_residual.result error c.from_residual.ensures.1
     (request_refused c.args.reading path inner.element c.in-Some.ensures.found error
-    (subst (λ (declared : List Declared). IsRefused (request_check (scopes_by declared path) inner.element) error) c.as_slice.ensures
+    (subst (λ (declared : List Declared). IsCheckRefusal (request_check (scopes_by declared path) inner.element) error) c.as_slice.ensures
     c.in_err-read_inner.ensures))
 
 pub returns : goal.returns

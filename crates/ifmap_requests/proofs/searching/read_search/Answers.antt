@@ -2,7 +2,7 @@ use Rattle.std.proofs.Common.{◌∙◌, List, Ok, map, subst, sym}
 use Rattle.ifmap_elem.specs.declared.elements.Child.{Child}
 use Rattle.ifmap_search.specs.declared.searches.Search.{Search}
 use Rattle.ifmap_forms.specs.AnswerLaws.{refused_exit}
-use Rattle.ifmap_forms.specs.Answers.{IsRefused}
+use Rattle.ifmap_forms.specs.Answers.{IsCheckRefusal}
 use Rattle.ifmap_forms.specs.Items.{start_check}
 use Rattle.ifmap_forms.specs.Scopes.{place_scope}
 use Rattle.ifmap_forms.specs.Tables.{parts_in}
@@ -34,7 +34,7 @@ returns-in_err-start c =
     c.from_residual-in_err-start.ensures.1
     (refused_start allowed scope e c.in_ok-bounds.bounds c.in_ok-bounds.ensures c.in_err-start.field-0.0
     (sym c.has_only.ensures ∙ c.if-not-has_only.false)
-    (subst (λ (cs : List Child). IsRefused (start_check (parts_in cs)) c.in_err-start.field-0.0) c.as_slice.ensures c.in_err-start.ensures))
+    (subst (λ (cs : List Child). IsCheckRefusal (start_check (parts_in cs)) c.in_err-start.field-0.0) c.as_slice.ensures c.in_err-start.ensures))
 
 pub returns : goal.returns
 returns c =

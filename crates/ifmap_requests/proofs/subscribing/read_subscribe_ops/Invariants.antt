@@ -1,5 +1,5 @@
 use Rattle.std.proofs.Common.{drop}
-use Rattle.ifmap_forms.specs.Gathering.{GoesOn}
+use Rattle.ifmap_forms.specs.Gathering.{IsRestAfter}
 use Rattle.ifmap_forms.specs.Scopes.{scopes_below, scopes_by}
 use Rattle.ifmap_forms.specs.Tables.{each_element, parts_in}
 use Rattle.ifmap_requests.specs.RequestForms.{subscribe_op_check}
@@ -7,7 +7,7 @@ use Rattle.ifmap_requests.proofs.subscribing.read_subscribe_ops.Given as goal
 
 abbrev pub invariant-loop-index : goal.invariant-loop-index
 invariant-loop-index l =
-    GoesOn
+    IsRestAfter
     (each_element (λ index e. subscribe_op_check (scopes_below (scopes_by l.place.declared.now l.place.path.now) index) e) 0
     (parts_in l.children))
     (each_element (λ index e. subscribe_op_check (scopes_below (scopes_by l.place.declared.now l.place.path.now) index) e) l.index

@@ -1,21 +1,21 @@
 -- The status tells how the replay ended; with no memory for its start, nothing was done.
 use Rattle.std.proofs.Common.{Err, refl}
 use Rattle.ifmap_server.specs.declared.errors.ReplayError.TheVariants.{NoMemory}
-use Rattle.ifmap_server.specs.Ends.{ends}
-use Rattle.ifmap_server.specs.Replayed.{ClientsAgree}
+use Rattle.ifmap_server.specs.Ends.{source_and_sink}
+use Rattle.ifmap_server.specs.Replayed.{ScriptClientsAgree}
 use Rattle.ifmap_server.proofs.Progress.{nothing_done}
 use Rattle.ifmap_server.proofs.ScriptHistories.{so_of_left}
 use Rattle.ifmap_server.proofs.running.replay_from.Goals as goal
 
 pub returns-in_default : goal.returns-in_default
 returns-in_default g c =
-    let before = ends (g.S.Source.left c.args.source.now) (g.S.Source.faults c.args.source.now) (g.K.Sink.held c.args.sink.now)
+    let before = source_and_sink (g.S.Source.left c.args.source.now) (g.S.Source.faults c.args.source.now) (g.K.Sink.held c.args.sink.now)
     (g.K.Sink.faults c.args.sink.now) in
     record {
       ended = Err NoMemory;
       told = refl;
       promise = nothing_done before;
-      agrees = so_of_left ClientsAgree before.left c.scripts_agree.ensures.agrees;
+      agrees = so_of_left ScriptClientsAgree before.left c.scripts_agree.ensures.agrees;
     }
 
 pub returns : goal.returns
@@ -23,5 +23,5 @@ returns g c = record {
   ended = c.run.result;
   told = c.status_of.ensures;
   promise = c.run.ensures;
-  agrees = so_of_left ClientsAgree (g.S.Source.left c.args.source.now) c.scripts_agree.ensures.agrees;
+  agrees = so_of_left ScriptClientsAgree (g.S.Source.left c.args.source.now) c.scripts_agree.ensures.agrees;
 }

@@ -1,10 +1,10 @@
-use Rattle.ifmap_delta.specs.Sights.{sight_of}
+use Rattle.ifmap_delta.specs.Sights.{view_seen}
 use Rattle.ifmap_standing.proofs.Taking.{leads, room_keeps, would_keep}
 use Rattle.ifmap_standing.proofs.changing.take_over.Goals as goal
 
 pub returns-clause-kept : goal.returns-clause-kept
 returns-clause-kept g c =
-    let new = sight_of g.D.View.rows g.D.View.id_at g.D.View.links c.args.change.now.draft.now
+    let new = view_seen g.D.View.rows g.D.View.id_at g.D.View.links c.args.change.now.draft.now
     in let moved = c.in_ok-moved.moved
     in let room = c.in_ok-reserve.ensures
     in let same = room_keeps c.args.subscription.now c.reserve.new.self moved.patch room.search room.size room.marks room.only

@@ -1,13 +1,13 @@
 use Rattle.std.proofs.Common.{◌≡◌, ◌∙◌, ap, refl, sym, subst, arith, ◌+◌, ◌<◌, false, Some, ◌∷◌, [], ◌++◌, length, get_or, set, slice_get}
 use Rattle.std.proofs.lemmas.Option.{slice_get-get_or}
-use Rattle.ifmap_delta.specs.Sights.{sight_of}
+use Rattle.ifmap_delta.specs.Sights.{view_seen}
 use Rattle.ifmap_standing.proofs.Stages.{Stage, kept_end, news_end, stage_first, stage_next, steps_all, steps_end, ways_failed}
 use Rattle.ifmap_standing.proofs.changing.tell_all.Goals as goal
 
 pub loop-at-init : goal.loop-at-init
 loop-at-init g c =
-    let old = sight_of g.G.View.rows g.G.View.id_at g.G.View.links c.args.change.now.graph.now
-    in let new = sight_of g.D.View.rows g.D.View.id_at g.D.View.links c.args.change.now.draft.now
+    let old = view_seen g.G.View.rows g.G.View.id_at g.G.View.links c.args.change.now.graph.now
+    in let new = view_seen g.D.View.rows g.D.View.id_at g.D.View.links c.args.change.now.draft.now
     in record {
       stage = rw (c.requires.no_news, c.requires.no_ways) (stage_first old new c.args.change.now.located.plan.now.notes c.args.skipped.now
           c.args.standing.now c.args.steps.now);
@@ -17,8 +17,8 @@ loop-at-init g c =
 
 pub tell_where-requires-clause-kept : goal.tell_where-requires-clause-kept
 tell_where-requires-clause-kept g c = λ none.
-    let old = sight_of g.G.View.rows g.G.View.id_at g.G.View.links c.args.change.now.graph.now
-    in let new = sight_of g.D.View.rows g.D.View.id_at g.D.View.links c.args.change.now.draft.now
+    let old = view_seen g.G.View.rows g.G.View.id_at g.G.View.links c.args.change.now.graph.now
+    in let new = view_seen g.D.View.rows g.D.View.id_at g.D.View.links c.args.change.now.draft.now
     in let notes = c.args.change.now.located.plan.now.notes
     in let skipped = c.args.skipped.now
     in let xs = c.args.standing.now
@@ -47,8 +47,8 @@ push_reserved-requires-in-loop-at g c =
 
 pub loop-at-preserved : goal.loop-at-preserved
 loop-at-preserved g c =
-    let old = sight_of g.G.View.rows g.G.View.id_at g.G.View.links c.args.change.now.graph.now
-    in let new = sight_of g.D.View.rows g.D.View.id_at g.D.View.links c.args.change.now.draft.now
+    let old = view_seen g.G.View.rows g.G.View.id_at g.G.View.links c.args.change.now.graph.now
+    in let new = view_seen g.D.View.rows g.D.View.id_at g.D.View.links c.args.change.now.draft.now
     in let notes = c.args.change.now.located.plan.now.notes
     in let skipped = c.args.skipped.now
     in let xs = c.args.standing.now
@@ -81,8 +81,8 @@ loop-at-preserved g c =
 
 pub returns-in_err-told-clause-ways : goal.returns-in_err-told-clause-ways
 returns-in_err-told-clause-ways g c =
-    let old = sight_of g.G.View.rows g.G.View.id_at g.G.View.links c.args.change.now.graph.now
-    in let new = sight_of g.D.View.rows g.D.View.id_at g.D.View.links c.args.change.now.draft.now
+    let old = view_seen g.G.View.rows g.G.View.id_at g.G.View.links c.args.change.now.graph.now
+    in let new = view_seen g.D.View.rows g.D.View.id_at g.D.View.links c.args.change.now.draft.now
     in let notes = c.args.change.now.located.plan.now.notes
     in let skipped = c.args.skipped.now
     in let xs = c.args.standing.now
@@ -102,8 +102,8 @@ returns-in_err-told-clause-ways g c =
 
 pub returns-in_err-told-clause-steps : goal.returns-in_err-told-clause-steps
 returns-in_err-told-clause-steps g c =
-    let old = sight_of g.G.View.rows g.G.View.id_at g.G.View.links c.args.change.now.graph.now
-    in let new = sight_of g.D.View.rows g.D.View.id_at g.D.View.links c.args.change.now.draft.now
+    let old = view_seen g.G.View.rows g.G.View.id_at g.G.View.links c.args.change.now.graph.now
+    in let new = view_seen g.D.View.rows g.D.View.id_at g.D.View.links c.args.change.now.draft.now
     in let notes = c.args.change.now.located.plan.now.notes
     in let skipped = c.args.skipped.now
     in let xs = c.args.standing.now
@@ -123,8 +123,8 @@ returns-in_err-told-clause-steps g c =
 
 pub returns-clause-news : goal.returns-clause-news
 returns-clause-news g c =
-    let old = sight_of g.G.View.rows g.G.View.id_at g.G.View.links c.args.change.now.graph.now
-    in let new = sight_of g.D.View.rows g.D.View.id_at g.D.View.links c.args.change.now.draft.now
+    let old = view_seen g.G.View.rows g.G.View.id_at g.G.View.links c.args.change.now.graph.now
+    in let new = view_seen g.D.View.rows g.D.View.id_at g.D.View.links c.args.change.now.draft.now
     in let notes = c.args.change.now.located.plan.now.notes
     in let skipped = c.args.skipped.now
     in let xs = c.args.standing.now
@@ -136,8 +136,8 @@ returns-clause-news g c =
 
 pub returns-clause-kept : goal.returns-clause-kept
 returns-clause-kept g c =
-    let old = sight_of g.G.View.rows g.G.View.id_at g.G.View.links c.args.change.now.graph.now
-    in let new = sight_of g.D.View.rows g.D.View.id_at g.D.View.links c.args.change.now.draft.now
+    let old = view_seen g.G.View.rows g.G.View.id_at g.G.View.links c.args.change.now.graph.now
+    in let new = view_seen g.D.View.rows g.D.View.id_at g.D.View.links c.args.change.now.draft.now
     in let notes = c.args.change.now.located.plan.now.notes
     in let skipped = c.args.skipped.now
     in let xs = c.args.standing.now
@@ -155,8 +155,8 @@ returns-clause-ways g c = c.loop-at.invariant.stage.lead
 
 pub returns-clause-steps : goal.returns-clause-steps
 returns-clause-steps g c =
-    let old = sight_of g.G.View.rows g.G.View.id_at g.G.View.links c.args.change.now.graph.now
-    in let new = sight_of g.D.View.rows g.D.View.id_at g.D.View.links c.args.change.now.draft.now
+    let old = view_seen g.G.View.rows g.G.View.id_at g.G.View.links c.args.change.now.graph.now
+    in let new = view_seen g.D.View.rows g.D.View.id_at g.D.View.links c.args.change.now.draft.now
     in let notes = c.args.change.now.located.plan.now.notes
     in let skipped = c.args.skipped.now
     in let xs = c.args.standing.now

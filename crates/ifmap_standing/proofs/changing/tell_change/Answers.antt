@@ -1,12 +1,12 @@
 use Rattle.std.proofs.Common.{◌∙◌, ◌<◌, ap, length, map, subst, sym, arith}
 use Rattle.ifmap_delta.specs.Changes.{ShowsAfter}
-use Rattle.ifmap_delta.specs.Sights.{sight_of}
+use Rattle.ifmap_delta.specs.Sights.{view_seen}
 use Rattle.ifmap_delta.specs.Ways.{HasSameSearch}
 use Rattle.std.specs.List.{AllByRecursion, zip}
 use Rattle.ifmap_ident.specs.Items.{IsCanonItem}
 use Rattle.ifmap_lemmas.specs.Results.{on_err}
 use Rattle.ifmap_plans.specs.declared.plans.Plan.{Plan}
-use Rattle.ifmap_standing.specs.Kept.{AtEach, KeepsSame, Stands}
+use Rattle.ifmap_standing.specs.Kept.{AtEach, KeepsSame, StaysRelated}
 use Rattle.ifmap_standing.specs.News.{news_of_each}
 use Rattle.ifmap_standing.specs.Standing.{standing_of}
 use Rattle.ifmap_standing.proofs.Stages.{lead_searches, stands_itself, within_none}
@@ -18,13 +18,13 @@ returns-in_err-with_capacity-clause-same g c = stands_itself HasSameSearch searc
 
 pub returns-in_err-with_capacity-clause-err : goal.returns-in_err-with_capacity-clause-err
 returns-in_err-with_capacity-clause-err g c =
-    on_err c.from_residual.result (AtEach (λ _. Stands KeepsSame) c.args.standing.now c.args.standing.now)
+    on_err c.from_residual.result (AtEach (λ _. StaysRelated KeepsSame) c.args.standing.now c.args.standing.now)
     (stands_itself KeepsSame keeps_itself c.args.standing.now)
 
 pub returns-in_err-with_capacity-clause-steps : goal.returns-in_err-with_capacity-clause-steps
 returns-in_err-with_capacity-clause-steps g c =
-    let old = sight_of g.G.View.rows g.G.View.id_at g.G.View.links c.args.change.now.graph.now
-    in let new = sight_of g.D.View.rows g.D.View.id_at g.D.View.links c.args.change.now.draft.now
+    let old = view_seen g.G.View.rows g.G.View.id_at g.G.View.links c.args.change.now.graph.now
+    in let new = view_seen g.D.View.rows g.D.View.id_at g.D.View.links c.args.change.now.draft.now
     in within_none old new (zip c.args.skipped.now c.args.standing.now) c.args.steps.now
 
 pub take_back-requires : goal.take_back-requires
@@ -43,8 +43,8 @@ returns-in-Ok-clause-same g c =
 
 pub returns-in_err-with_capacity-2-clause-steps : goal.returns-in_err-with_capacity-2-clause-steps
 returns-in_err-with_capacity-2-clause-steps g c =
-    let old = sight_of g.G.View.rows g.G.View.id_at g.G.View.links c.args.change.now.graph.now
-    in let new = sight_of g.D.View.rows g.D.View.id_at g.D.View.links c.args.change.now.draft.now
+    let old = view_seen g.G.View.rows g.G.View.id_at g.G.View.links c.args.change.now.graph.now
+    in let new = view_seen g.D.View.rows g.D.View.id_at g.D.View.links c.args.change.now.draft.now
     in within_none old new (zip c.args.skipped.now c.args.standing.now) c.args.steps.now
 
 pub returns-in_err-located-clause-same : goal.returns-in_err-located-clause-same
@@ -52,13 +52,13 @@ returns-in_err-located-clause-same g c = stands_itself HasSameSearch search_itse
 
 pub returns-in_err-located-clause-err : goal.returns-in_err-located-clause-err
 returns-in_err-located-clause-err g c =
-    on_err c.from_residual-in_err-located.result (AtEach (λ _. Stands KeepsSame) c.args.standing.now c.args.standing.now)
+    on_err c.from_residual-in_err-located.result (AtEach (λ _. StaysRelated KeepsSame) c.args.standing.now c.args.standing.now)
     (stands_itself KeepsSame keeps_itself c.args.standing.now)
 
 pub returns-in_err-located-clause-steps : goal.returns-in_err-located-clause-steps
 returns-in_err-located-clause-steps g c =
-    let old = sight_of g.G.View.rows g.G.View.id_at g.G.View.links c.args.change.now.graph.now
-    in let new = sight_of g.D.View.rows g.D.View.id_at g.D.View.links c.args.change.now.draft.now
+    let old = view_seen g.G.View.rows g.G.View.id_at g.G.View.links c.args.change.now.graph.now
+    in let new = view_seen g.D.View.rows g.D.View.id_at g.D.View.links c.args.change.now.draft.now
     in within_none old new (zip c.args.skipped.now c.args.standing.now) c.args.steps.now
 
 pub tell_all-requires-clause-located : goal.tell_all-requires-clause-located
@@ -72,8 +72,8 @@ tell_all-requires-clause-located g c = λ some.
 
 pub tell_all-requires-clause-change : goal.tell_all-requires-clause-change
 tell_all-requires-clause-change g c =
-    let old = sight_of g.G.View.rows g.G.View.id_at g.G.View.links c.args.change.now.graph.now
-    in let new = sight_of g.D.View.rows g.D.View.id_at g.D.View.links c.args.change.now.draft.now
+    let old = view_seen g.G.View.rows g.G.View.id_at g.G.View.links c.args.change.now.graph.now
+    in let new = view_seen g.D.View.rows g.D.View.id_at g.D.View.links c.args.change.now.draft.now
     in subst (λ (p : Plan). ShowsAfter old new p.changes) (sym c.in_ok-located.ensures.plan) c.requires.change
 
 pub tell_all-requires-clause-canon : goal.tell_all-requires-clause-canon

@@ -1,6 +1,6 @@
 use Rattle.std.proofs.Common.{◌≡◌, refl, sym, subst}
 use Rattle.std.specs.Prelude.{IfOk}
-use Rattle.ifmap_delta.specs.Sights.{sight_of}
+use Rattle.ifmap_delta.specs.Sights.{view_seen}
 use Rattle.ifmap_standing.specs.Bounds.{IsWithinWhere}
 use Rattle.ifmap_standing.specs.News.{news_where}
 use Rattle.ifmap_standing.specs.Standing.{standing_of}
@@ -17,14 +17,14 @@ returns-then-is_skipped-clause-way g c = record {
 
 pub returns-then-is_skipped-clause-steps : goal.returns-then-is_skipped-clause-steps
 returns-then-is_skipped-clause-steps g c =
-    let old = sight_of g.G.View.rows g.G.View.id_at g.G.View.links c.args.change.now.graph.now
-    in let new = sight_of g.D.View.rows g.D.View.id_at g.D.View.links c.args.change.now.draft.now
+    let old = view_seen g.G.View.rows g.G.View.id_at g.G.View.links c.args.change.now.graph.now
+    in let new = view_seen g.D.View.rows g.D.View.id_at g.D.View.links c.args.change.now.draft.now
     in where_none old new c.args.is_skipped c.args.standing.now c.args.steps.now
 
 pub returns-clause-steps : goal.returns-clause-steps
 returns-clause-steps g c =
-    let old = sight_of g.G.View.rows g.G.View.id_at g.G.View.links c.args.change.now.graph.now
-    in let new = sight_of g.D.View.rows g.D.View.id_at g.D.View.links c.args.change.now.draft.now
+    let old = view_seen g.G.View.rows g.G.View.id_at g.G.View.links c.args.change.now.graph.now
+    in let new = view_seen g.D.View.rows g.D.View.id_at g.D.View.links c.args.change.now.draft.now
     in subst (λ b. IsWithinWhere old new b c.args.standing.now c.args.steps.now c.tell_one.new.steps) (sym c.if-is_skipped.false)
     c.tell_one.ensures.steps
 

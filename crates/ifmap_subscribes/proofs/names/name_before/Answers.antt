@@ -1,5 +1,5 @@
 use Rattle.std.proofs.Common.{◌≡◌, ◌∙◌, ap, sym, false, filter}
-use Rattle.ifmap_changes.specs.Between.{IsWithin, sessions_left}
+use Rattle.ifmap_changes.specs.Between.{IsWithinLimit, sessions_left}
 use Rattle.ifmap_lemmas.specs.Filters.{all_weaker}
 use Rattle.ifmap_machine.specs.Telling.{is_overfull}
 use Rattle.ifmap_search.specs.Sizes.{queue_size}
@@ -13,7 +13,7 @@ told_size-requires-clause-live c =
 
 pub told_size-requires-clause-within : goal.told_size-requires-clause-within
 told_size-requires-clause-within c =
-    all_weaker IsWithin (λ (s : Session). is_overfull s ≡ false) (λ s w. w.full) c.args.parts.now.sessions.live c.requires.ready.queues
+    all_weaker IsWithinLimit (λ (s : Session). is_overfull s ≡ false) (λ s w. w.full) c.args.parts.now.sessions.live c.requires.ready.queues
 
 pub returns : goal.returns
 returns c = λ s e.

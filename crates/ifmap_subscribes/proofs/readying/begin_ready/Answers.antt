@@ -3,7 +3,7 @@ use Rattle.ifmap_graph.specs.Seen.{rows_now}
 use Rattle.ifmap_lemmas.specs.Members.{all_both}
 use Rattle.ifmap_subscribes.proofs.Adding.{begun_more_told, begun_told, can_add, counted_more, readied_more, readied_noted, room_for}
 use Rattle.ifmap_subscribes.proofs.Ready.{can_on}
-use Rattle.ifmap_subscribes.specs.Readying.{CanStand, told_in, told_then}
+use Rattle.ifmap_subscribes.specs.Readying.{CanStand, told_in_scene, told_then}
 use Rattle.ifmap_subscribes.specs.Renamings.{IsNameNow, IsOfSession}
 use Rattle.ifmap_subscribes.proofs.readying.begin_ready.Goals as goal
 
@@ -18,7 +18,7 @@ returns-in_err-make_room-clause-can g c =
     record {
       ready = c.requires.can.ready;
       live = c.requires.can.live;
-      readied = readied_noted s.serial (told_in s p) old c.make_room.new.readying k now p p c.requires.can.readied is
+      readied = readied_noted s.serial (told_in_scene s p) old c.make_room.new.readying k now p p c.requires.can.readied is
           c.make_room.ensures.noted c.requires.can.readied.stand;
     }
 
@@ -36,7 +36,7 @@ returns-in_err-renaming-clause-can g c =
     let is = subst (λ x. IsNameNow n x (told_then s p old) now) (sym c.in_ok-copy.ensures) c.requires.before in
     let stand = subst (λ rs. CanStand n q rs) (c.deref.ensures.value ∙ noted.made) c.in_err-renaming.ensures.err in
     can_on s p q mid c.begin_beside.ensures.holds c.begin_beside.ensures.ready c.requires.can.live
-    (readied_noted n (told_in s p) old mid k now p q c.requires.can.readied is noted stand)
+    (readied_noted n (told_in_scene s p) old mid k now p q c.requires.can.readied is noted stand)
 
 pub add_renaming-requires-clause-count : goal.add_renaming-requires-clause-count
 add_renaming-requires-clause-count g c =
@@ -46,7 +46,7 @@ add_renaming-requires-clause-count g c =
     let now = c.args.wish.now.before in
     let k = c.in_ok-copy.field-0 in
     let is = subst (λ x. IsNameNow s.serial x (told_then s p old) now) (sym c.in_ok-copy.ensures) c.requires.before in
-    (can_add s.serial (told_in s p) old c.make_room.new.readying k now c.requires.can.readied.counted is c.make_room.ensures.noted).count
+    (can_add s.serial (told_in_scene s p) old c.make_room.new.readying k now c.requires.can.readied.counted is c.make_room.ensures.noted).count
 
 pub add_renaming-requires-clause-size : goal.add_renaming-requires-clause-size
 add_renaming-requires-clause-size g c =
@@ -56,7 +56,7 @@ add_renaming-requires-clause-size g c =
     let now = c.args.wish.now.before in
     let k = c.in_ok-copy.field-0 in
     let is = subst (λ x. IsNameNow s.serial x (told_then s p old) now) (sym c.in_ok-copy.ensures) c.requires.before in
-    (can_add s.serial (told_in s p) old c.make_room.new.readying k now c.requires.can.readied.counted is c.make_room.ensures.noted).size
+    (can_add s.serial (told_in_scene s p) old c.make_room.new.readying k now c.requires.can.readied.counted is c.make_room.ensures.noted).size
 
 pub returns-clause-op : goal.returns-clause-op
 returns-clause-op g c =
@@ -66,7 +66,7 @@ returns-clause-op g c =
     let wish = c.args.wish.now in
     let k = c.in_ok-copy.field-0 in
     let is = subst (λ x. IsNameNow s.serial x (told_then s p old) wish.before) (sym c.in_ok-copy.ensures) c.requires.before in
-    begun_more_told s.serial (told_in s p) old c.make_room.new.readying k wish.before c.requires.can.readied.counted is
+    begun_more_told s.serial (told_in_scene s p) old c.make_room.new.readying k wish.before c.requires.can.readied.counted is
     c.make_room.ensures.noted c.add_renaming.new.readying c.in_ok-renaming.renaming c.add_renaming.ensures (rows_now p.graph) wish.name.now
     wish.search.now c.in_ok-renaming.ensures.begun
 
@@ -76,7 +76,7 @@ returns-clause-can g c =
     let n = s.serial in
     let p = c.args.parts.now in
     let q = c.begin_beside.new.parts in
-    let t = told_in s p in
+    let t = told_in_scene s p in
     let old = c.args.readying.now in
     let mid = c.make_room.new.readying in
     let new = c.add_renaming.new.readying in

@@ -3,7 +3,7 @@ use Rattle.std.specs.BTreeMap.{is_at}
 use Rattle.std.specs.Cmp.Lexicographic.{slice_cmp}
 use Rattle.std.specs.Map.{lookup}
 use Rattle.std.specs.Ordering.{nat_cmp}
-use Rattle.ifmap_changes.specs.Between.{IsWithin}
+use Rattle.ifmap_changes.specs.Between.{IsWithinLimit}
 use Rattle.ifmap_lemmas.specs.Filters.{all_weaker}
 use Rattle.ifmap_machine.specs.Telling.{is_overfull}
 use Rattle.ifmap_session.specs.Sessions.{Session}
@@ -18,7 +18,7 @@ whole_size-requires-clause-live c =
 
 pub whole_size-requires-clause-within : goal.whole_size-requires-clause-within
 whole_size-requires-clause-within c =
-    all_weaker IsWithin (λ (s : Session). is_overfull s ≡ false) (λ s w. w.full) c.args.parts.now.sessions.live c.requires.ready.queues
+    all_weaker IsWithinLimit (λ (s : Session). is_overfull s ≡ false) (λ s w. w.full) c.args.parts.now.sessions.live c.requires.ready.queues
 
 pub returns-clause-can : goal.returns-clause-can
 returns-clause-can c =

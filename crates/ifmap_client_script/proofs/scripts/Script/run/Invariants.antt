@@ -1,5 +1,5 @@
 use Rattle.std.proofs.Common.{◌+◌, ◌-◌}
-use Rattle.ifmap_client_script.specs.Ends.{ends}
+use Rattle.ifmap_client_script.specs.Ends.{source_and_ports}
 use Rattle.ifmap_client_script.specs.Outlets.{AreSame}
 use Rattle.ifmap_client_script.specs.Scripts.{longest_script}
 use Rattle.ifmap_client_script.proofs.Endings.{Reached}
@@ -8,8 +8,8 @@ use Rattle.ifmap_client_script.proofs.scripts.Script.run.Given as goal
 abbrev pub invariant-lines : goal.invariant-lines
 invariant-lines g l =
     Reached l.caller
-    (ends (g.S.Source.left l.initial.source) (g.S.Source.faults l.initial.source) (g.O.Outlets.seen l.initial.outlets))
-    (ends (g.S.Source.left l.source) (g.S.Source.faults l.source) (g.O.Outlets.seen l.outlets)) l.self
+    (source_and_ports (g.S.Source.left l.initial.source) (g.S.Source.faults l.initial.source) (g.O.Outlets.seen l.initial.outlets))
+    (source_and_ports (g.S.Source.left l.source) (g.S.Source.faults l.source) (g.O.Outlets.seen l.outlets)) l.self
     × AreSame (g.O.Outlets.loans l.initial.outlets) (g.O.Outlets.loans l.outlets)
 
 abbrev pub decreases-lines : goal.decreases-lines

@@ -1,7 +1,7 @@
 -- The next line is read, and then carried out.
 use Rattle.std.proofs.Common.{ap, subst, Err}
-use Rattle.ifmap_client_script.specs.Ends.{ends}
-use Rattle.ifmap_client_script.specs.Turns.{Scripting, Turns}
+use Rattle.ifmap_client_script.specs.Ends.{source_and_ports}
+use Rattle.ifmap_client_script.specs.Turns.{Scripting, IsScriptTurn}
 use Rattle.ifmap_client_script.proofs.Turning.{turned, turned_end, turned_err}
 use Rattle.ifmap_client_script.proofs.scripts.Script.turn.Goals as goal
 
@@ -30,8 +30,8 @@ returns-in-Err-clause-turns g c =
     let s = c.self.inside in
     let b = g.O.Outlets.seen c.args.outlets.now in
     subst
-    (λ (o : Scripting). Turns c.args.caller.now (ends (g.S.Source.left c.args.source.now) (g.S.Source.faults c.args.source.now) b)
-    (ends (g.S.Source.left c.next_line.new.source) (g.S.Source.faults c.next_line.new.source) b) o
+    (λ (o : Scripting). IsScriptTurn c.args.caller.now (source_and_ports (g.S.Source.left c.args.source.now) (g.S.Source.faults c.args.source.now) b)
+    (source_and_ports (g.S.Source.left c.next_line.new.source) (g.S.Source.faults c.next_line.new.source) b) o
     (record { client = s.client; pending = c.next_line.new.input; offset = s.offset; line = s.line }) (Err c.in-Err.stop)) c.self.view_is
     (turned_err c.args.caller.now (g.S.Source.left c.args.source.now) (g.S.Source.left c.next_line.new.source)
     (g.S.Source.faults c.args.source.now) (g.S.Source.faults c.next_line.new.source) b

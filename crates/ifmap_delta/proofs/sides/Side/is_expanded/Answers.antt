@@ -1,6 +1,6 @@
 use Rattle.std.proofs.Common.{◌∙◌, ap, sym}
 use Rattle.ifmap_delta.specs.Shown.{goes_on}
-use Rattle.ifmap_delta.specs.Sights.{sight_of}
+use Rattle.ifmap_delta.specs.Sights.{view_seen}
 use Rattle.ifmap_delta.proofs.InStep.{number_found, number_none}
 use Rattle.ifmap_delta.proofs.Marking.{expanded_is, not_expanded}
 use Rattle.ifmap_delta.proofs.sides.Side.is_expanded.Goals as goal
@@ -8,7 +8,7 @@ use Rattle.ifmap_delta.proofs.sides.Side.is_expanded.Goals as goal
 pub returns-in-Some : goal.returns-in-Some
 returns-in-Some g c = λ a i n.
     let view = c.args.self.now.view.now
-    in let sight = sight_of g.V.View.rows g.V.View.id_at g.V.View.links view
+    in let sight = view_seen g.V.View.rows g.V.View.id_at g.V.View.links view
     in let s = c.args.self.now.search.now
     in let h = c.requires.marks
     in let whole = c.requires.view
@@ -21,7 +21,7 @@ returns-in-Some g c = λ a i n.
 pub returns-in-None : goal.returns-in-None
 returns-in-None g c = λ a i n.
     let view = c.args.self.now.view.now
-    in let sight = sight_of g.V.View.rows g.V.View.id_at g.V.View.links view
+    in let sight = view_seen g.V.View.rows g.V.View.id_at g.V.View.links view
     in let s = c.args.self.now.search.now
     in let h = c.requires.marks
     in let whole = c.requires.view

@@ -3,8 +3,8 @@ use Rattle.slab.specs.Slab.{get}
 use Rattle.ifmap_plans.specs.declared.plans.ItemChange.{ItemChange}
 use Rattle.ifmap_view.specs.Rows.{stored_on}
 use Rattle.ifmap_graph.specs.Drafted.{AreOut}
-use Rattle.ifmap_graph.specs.Out.{items_of}
-use Rattle.ifmap_graph.specs.Shelved.{rows_of}
+use Rattle.ifmap_graph.specs.Out.{items_changed}
+use Rattle.ifmap_graph.specs.Shelved.{rows_on_side}
 use Rattle.ifmap_graph.specs.Sides.{next, now}
 use Rattle.ifmap_graph.specs.Turning.{AreDrafted, NoOthers, accept_each, backs, sides_at}
 use Rattle.ifmap_graph.proofs.Committed.{made_inside, made_links}
@@ -20,8 +20,8 @@ use Rattle.ifmap_graph.proofs.graph.Graph.commit_kept.Goals as goal
 pub accept_changes-requires-clause-out : goal.accept_changes-requires-clause-out
 accept_changes-requires-clause-out c =
     let q = rw (← c.self.view_is) at c.requires
-    in subst (λ l. AreOut (items_of l) c.self.inside.shelves) (sym (c.deref.ensures.value ∙ ap (λ r. r.plan.changes) c.ready.view_is))
-    (are_out c.self.inside.shelves (items_of c.args.ready.plan.changes) q.drafted q.within q.apart)
+    in subst (λ l. AreOut (items_changed l) c.self.inside.shelves) (sym (c.deref.ensures.value ∙ ap (λ r. r.plan.changes) c.ready.view_is))
+    (are_out c.self.inside.shelves (items_changed c.args.ready.plan.changes) q.drafted q.within q.apart)
 
 pub accept_changes-requires-clause-long : goal.accept_changes-requires-clause-long
 accept_changes-requires-clause-long c = ap length (c.lists.view_is ∙ ap (λ r. r.lists) c.ready.view_is) ∙ c.requires.lists
@@ -73,7 +73,7 @@ pub returns-clause-lists : goal.returns-clause-lists
 returns-clause-lists c =
     rw (← c.self.view_is)
     (c.accept_changes.ensures.lists
-    ∙ ap (λ l. map (λ (x : ItemChange). stored_on x.item (rows_of now c.self.inside.shelves)) l) (c.deref.ensures.value
+    ∙ ap (λ l. map (λ (x : ItemChange). stored_on x.item (rows_on_side now c.self.inside.shelves)) l) (c.deref.ensures.value
     ∙ ap (λ r. r.plan.changes) c.ready.view_is)
     ∙ ap (λ rows. map (λ (x : ItemChange). stored_on x.item rows) c.args.ready.plan.changes)
     (sym (rows_shown now (get c.self.inside.shelves.slots) c.self.inside.shelves.places.entries)))
@@ -95,7 +95,7 @@ returns-clause-back c =
     c.accept_all.new.lists.items
     c.self.invariant c.accept_changes.ensures.places c.accept_changes.ensures.ends c.accept_changes.ensures.waits
     c.accept_changes.ensures.now
-    c.args.ready _ (are_out c.self.inside.shelves (items_of c.args.ready.plan.changes) q.drafted q.within q.apart) q.links q.no_others
+    c.args.ready _ (are_out c.self.inside.shelves (items_changed c.args.ready.plan.changes) q.drafted q.within q.apart) q.links q.no_others
     (c.accept_all.ensures.lists ∙ ap (λ w. accept_each w c.self.inside.links.items) ways) (returns-clause-plan c)
     (rw (← c.self.view_is) at (returns-clause-lists c)) (rw (← c.self.view_is) at (returns-clause-ways c)))
 
@@ -124,6 +124,6 @@ returns-clause-lean c =
     in rw (← c.self.view_is)
     (λ awaits. turned_lean c.self.inside.names c.self.inside.names c.self.inside.shelves c.accept_changes.new.shelves
     c.self.inside.links.items
-    c.accept_all.new.lists.items (items_of c.args.ready.plan.changes) awaits c.self.invariant.placed
-    (are_out c.self.inside.shelves (items_of c.args.ready.plan.changes) q.drafted q.within q.apart) c.accept_changes.ensures.waits
+    c.accept_all.new.lists.items (items_changed c.args.ready.plan.changes) awaits c.self.invariant.placed
+    (are_out c.self.inside.shelves (items_changed c.args.ready.plan.changes) q.drafted q.within q.apart) c.accept_changes.ensures.waits
     c.accept_changes.ensures.places c.accept_changes.ensures.now)

@@ -6,10 +6,10 @@ use Rattle.ifmap_ident.specs.Items.{item_order}
 use Rattle.ifmap_view.specs.Rows.{stored_on}
 use Rattle.ifmap_graph.specs.Back.{KeepsOtherBacks}
 use Rattle.ifmap_graph.specs.Drafted.{DraftsWithin}
-use Rattle.ifmap_graph.specs.Out.{items_of}
-use Rattle.ifmap_graph.specs.Seen.{Awaits, IsLean}
-use Rattle.ifmap_graph.specs.Shelved.{place_of}
-use Rattle.ifmap_graph.specs.Touched.{AreReady}
+use Rattle.ifmap_graph.specs.Out.{items_changed}
+use Rattle.ifmap_graph.specs.Seen.{AreAwaited, IsLean}
+use Rattle.ifmap_graph.specs.Shelved.{slot_of_item}
+use Rattle.ifmap_graph.specs.Touched.{AreExactlyDrafted}
 use Rattle.ifmap_graph.specs.Turning.{sides_at}
 use Rattle.ifmap_graph.proofs.Accepting.{drafted_there}
 use Rattle.ifmap_graph.proofs.Flipping.{inside_dropped}
@@ -22,21 +22,21 @@ use Rattle.ifmap_graph.proofs.graph.Graph.forget.Goals as goal
 pub drop_plan-requires-clause-there : goal.drop_plan-requires-clause-there
 drop_plan-requires-clause-there c =
     let q = rw (← c.self.view_is) at c.requires.out
-    in subst (λ l. AllByRecursion (λ x. IsSome (place_of c.self.inside.shelves x)) (items_of l))
+    in subst (λ l. AllByRecursion (λ x. IsSome (slot_of_item c.self.inside.shelves x)) (items_changed l))
     (sym (c.deref.ensures.value ∙ ap (λ r. r.plan.changes) c.ready.view_is))
-    (drafted_there (items_of c.args.ready.plan.changes) c.self.inside.shelves
-    (are_out c.self.inside.shelves (items_of c.args.ready.plan.changes) q.drafted q.within q.apart).drafted)
+    (drafted_there (items_changed c.args.ready.plan.changes) c.self.inside.shelves
+    (are_out c.self.inside.shelves (items_changed c.args.ready.plan.changes) q.drafted q.within q.apart).drafted)
 
 pub drop_plan-requires-clause-within : goal.drop_plan-requires-clause-within
 drop_plan-requires-clause-within c =
     let q = rw (← c.self.view_is) at c.requires.out
-    in subst (λ l. DraftsWithin (items_of l) c.self.inside.shelves) (sym (c.deref.ensures.value ∙ ap (λ r. r.plan.changes) c.ready.view_is))
-    (are_out c.self.inside.shelves (items_of c.args.ready.plan.changes) q.drafted q.within q.apart).within
+    in subst (λ l. DraftsWithin (items_changed l) c.self.inside.shelves) (sym (c.deref.ensures.value ∙ ap (λ r. r.plan.changes) c.ready.view_is))
+    (are_out c.self.inside.shelves (items_changed c.args.ready.plan.changes) q.drafted q.within q.apart).within
 
 pub drop_plan-requires-clause-ready : goal.drop_plan-requires-clause-ready
 drop_plan-requires-clause-ready c =
     let q = rw (← c.self.view_is) at c.requires.out
-    in subst (λ w. AreReady w c.self.inside.links.items) (sym (c.deref-2.ensures.value ∙ ap (λ r. r.ways) c.ready.view_is))
+    in subst (λ w. AreExactlyDrafted w c.self.inside.links.items) (sym (c.deref-2.ensures.value ∙ ap (λ r. r.ways) c.ready.view_is))
     (record { drafted = q.links; no_others = q.no_others })
 
 pub invariant_of-self : goal.invariant_of-self
@@ -53,12 +53,12 @@ release_waits-requires c =
     in record {
       still = bare_to c.self.inside.names c.drop_plan.new.shelves c.drop_plan.new.links.items c.drop_plan.ensures.bare
           c.drop_plan.ensures.none;
-      waits = subst (λ l. Awaits (items_of l) (held_of c.self.inside.names c.drop_plan.new.shelves c.drop_plan.new.links.items))
+      waits = subst (λ l. AreAwaited (items_changed l) (held_of c.self.inside.names c.drop_plan.new.shelves c.drop_plan.new.links.items))
           (sym (c.deref-3.ensures.value ∙ ap (λ r. r.plan.changes) c.ready.view_is))
           (written_waits c.self.inside.names c.self.inside.shelves c.drop_plan.new.shelves c.self.inside.links.items
           c.drop_plan.new.links.items
           c.drop_plan.ensures.places c.drop_plan.ensures.ends c.drop_plan.ensures.waits c.drop_plan.ensures.now c.drop_plan.ensures.links
-          (items_of c.args.ready.plan.changes) w);
+          (items_changed c.args.ready.plan.changes) w);
     }
 
 pub returns-clause-now : goal.returns-clause-now
@@ -88,7 +88,7 @@ pub returns-clause-waits : goal.returns-clause-waits
 returns-clause-waits c =
     rw (← c.self.view_is)
     (λ rest a. c.release_waits.ensures.waits rest
-    (subst (λ l. Awaits (items_of l ++ rest) (held_of c.self.inside.names c.drop_plan.new.shelves c.drop_plan.new.links.items))
+    (subst (λ l. AreAwaited (items_changed l ++ rest) (held_of c.self.inside.names c.drop_plan.new.shelves c.drop_plan.new.links.items))
     (sym (c.deref-3.ensures.value ∙ ap (λ r. r.plan.changes) c.ready.view_is))
     (written_waits c.self.inside.names c.self.inside.shelves c.drop_plan.new.shelves c.self.inside.links.items c.drop_plan.new.links.items
     c.drop_plan.ensures.places c.drop_plan.ensures.ends c.drop_plan.ensures.waits c.drop_plan.ensures.now c.drop_plan.ensures.links _ a)))
@@ -96,14 +96,14 @@ returns-clause-waits c =
 pub returns-clause-backs : goal.returns-clause-backs
 returns-clause-backs c =
     rw (← c.self.view_is)
-    (first_backs (items_of c.args.ready.plan.changes) (held_of c.self.inside.names c.self.inside.shelves c.self.inside.links.items)
+    (first_backs (items_changed c.args.ready.plan.changes) (held_of c.self.inside.names c.self.inside.shelves c.self.inside.links.items)
     (held_of c.self.inside.names c.drop_plan.new.shelves c.drop_plan.new.links.items) c.release_waits.new.self
     (λ rest a. written_waits c.self.inside.names c.self.inside.shelves c.drop_plan.new.shelves c.self.inside.links.items
     c.drop_plan.new.links.items
     c.drop_plan.ensures.places c.drop_plan.ensures.ends c.drop_plan.ensures.waits c.drop_plan.ensures.now c.drop_plan.ensures.links rest a)
     (written_backs c.self.inside.names c.self.inside.shelves c.drop_plan.new.shelves c.self.inside.links.items c.drop_plan.new.links.items
     c.drop_plan.ensures.places c.drop_plan.ensures.ends c.drop_plan.ensures.waits c.drop_plan.ensures.now c.drop_plan.ensures.links)
-    (subst (λ l. KeepsOtherBacks (items_of l)
+    (subst (λ l. KeepsOtherBacks (items_changed l)
     (held_of c.self.inside.names c.drop_plan.new.shelves c.drop_plan.new.links.items) c.release_waits.new.self)
     (c.deref-3.ensures.value ∙ ap (λ r. r.plan.changes) c.ready.view_is) c.release_waits.ensures.backs))
 
@@ -111,7 +111,7 @@ pub returns-clause-lean : goal.returns-clause-lean
 returns-clause-lean c =
     rw (← c.self.view_is)
     (λ rest lean. c.release_waits.ensures.lean rest
-    (subst (λ l. IsLean (items_of l ++ rest) (held_of c.self.inside.names c.drop_plan.new.shelves c.drop_plan.new.links.items))
+    (subst (λ l. IsLean (items_changed l ++ rest) (held_of c.self.inside.names c.drop_plan.new.shelves c.drop_plan.new.links.items))
     (sym (c.deref-3.ensures.value ∙ ap (λ r. r.plan.changes) c.ready.view_is))
     (same_lean c.self.inside.names c.self.inside.names c.self.inside.shelves c.drop_plan.new.shelves c.self.inside.links.items
     c.drop_plan.new.links.items c.drop_plan.ensures.waits

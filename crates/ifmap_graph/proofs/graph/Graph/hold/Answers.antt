@@ -5,7 +5,7 @@ use Rattle.ifmap_ident.specs.Identifiers.{identifier_order}
 use Rattle.ifmap_pool.specs.Holdings.{IsHeld, Names, once}
 use Rattle.ifmap_graph.specs.Held.{IsInside, shown_shelves}
 use Rattle.ifmap_graph.specs.Named.{named_in}
-use Rattle.ifmap_graph.specs.Bringing.{parts_of}
+use Rattle.ifmap_graph.specs.Bringing.{graph_parts}
 use Rattle.ifmap_graph.proofs.Grown.{few_holds}
 use Rattle.ifmap_graph.proofs.Changed.{held_alike, inside_held, keys_alike, names_alike, roomier}
 use Rattle.ifmap_graph.proofs.Holds.{add_two, still_identifiers}
@@ -25,7 +25,7 @@ pub hold-requires-clause-few : goal.hold-requires-clause-few
 hold-requires-clause-few c = λ number n.
     let few = rw (← c.self.view_is) at c.requires.few
     in let small : length c.self.inside.shelves.places.entries < 2 ^ 62 = omega (arith, c.if-len-ge-MOST_ITEMS.false, c.len.ensures.len)
-    in let held = few_holds (parts_of c.self.inside.names c.self.inside.shelves c.self.inside.links.items) c.self.invariant
+    in let held = few_holds (graph_parts c.self.inside.names c.self.inside.shelves c.self.inside.links.items) c.self.invariant
     (few_from c.self.inside.names c.self.inside.shelves c.self.inside.links.items few) small number
     in let same = holds_alike c.self.inside.names c.reserve.new.self c.reserve.ensures.live number
     in omega (arith, held, same)

@@ -1,5 +1,5 @@
 use Rattle.std.proofs.Common.{refl, arith}
-use Rattle.ifmap_graph.specs.Out.{items_of}
+use Rattle.ifmap_graph.specs.Out.{items_changed}
 use Rattle.ifmap_graph.proofs.Own.{key_kept}
 use Rattle.ifmap_graph.proofs.Backs.{keeps_other_backs}
 use Rattle.ifmap_graph.proofs.Lean.{less_lean}
@@ -17,7 +17,7 @@ release_items-requires-clause-bare c =
 pub release_items-requires-clause-waits : goal.release_items-requires-clause-waits
 release_items-requires-clause-waits c =
     let q = rw (← c.self.view_is) at c.requires
-    in waited_from c.self.inside.names c.self.inside.shelves c.self.inside.links.items (items_of c.args.changes.now) q.waits
+    in waited_from c.self.inside.names c.self.inside.shelves c.self.inside.links.items (items_changed c.args.changes.now) q.waits
 
 pub invariant_of-self : goal.invariant_of-self
 invariant_of-self c = c.release_items.ensures.less.inside c.self.inside.links.items c.self.invariant
@@ -61,7 +61,7 @@ returns-clause-waits c =
     rw (← c.self.view_is)
     (less_waits c.self.inside.names c.release_items.new.names c.self.inside.shelves c.release_items.new.shelves c.self.inside.links.items
     c.release_items.ensures.less
-    (items_of c.args.changes.now) c.release_items.ensures.waits)
+    (items_changed c.args.changes.now) c.release_items.ensures.waits)
 
 pub returns-clause-stay : goal.returns-clause-stay
 returns-clause-stay c =
@@ -79,13 +79,13 @@ returns-clause-backs c =
     (λ v. refl) (omega arith)
     (less_stay c.self.inside.names c.release_items.new.names c.self.inside.shelves c.release_items.new.shelves c.self.inside.links.items
     c.release_items.ensures.less)
-    (items_of c.args.changes.now)
+    (items_changed c.args.changes.now)
     (less_waits c.self.inside.names c.release_items.new.names c.self.inside.shelves c.release_items.new.shelves c.self.inside.links.items
     c.release_items.ensures.less
-    (items_of c.args.changes.now) c.release_items.ensures.waits))
+    (items_changed c.args.changes.now) c.release_items.ensures.waits))
 
 pub returns-clause-lean : goal.returns-clause-lean
 returns-clause-lean c =
     rw (← c.self.view_is)
     (less_lean c.self.inside.names c.release_items.new.names c.self.inside.shelves c.release_items.new.shelves c.self.inside.links.items
-    c.self.inside.links.items (items_of c.args.changes.now) c.release_items.ensures.waits c.release_items.ensures.filled)
+    c.self.inside.links.items (items_changed c.args.changes.now) c.release_items.ensures.waits c.release_items.ensures.filled)

@@ -1,9 +1,9 @@
 use Rattle.std.proofs.Common.{refl, ap, ◌∙◌, sym, subst}
 use Rattle.slab.specs.Slab.{get}
 use Rattle.ifmap_plans.specs.Plans.{Fits}
-use Rattle.ifmap_graph.specs.Bringing.{parts_of}
+use Rattle.ifmap_graph.specs.Bringing.{graph_parts}
 use Rattle.ifmap_graph.specs.Making.{IsMade}
-use Rattle.ifmap_graph.specs.Shelved.{rows_of}
+use Rattle.ifmap_graph.specs.Shelved.{rows_on_side}
 use Rattle.ifmap_graph.specs.Sides.{now}
 use Rattle.ifmap_graph.proofs.Insides.{rows_shown}
 use Rattle.ifmap_graph.proofs.Joining.{any_err}
@@ -25,7 +25,7 @@ make_ready-requires-clause-few c =
 pub make_ready-requires-clause-fits : goal.make_ready-requires-clause-fits
 make_ready-requires-clause-fits c =
     let q = rw (← c.self.view_is) at c.requires.fits
-    in subst (λ l. Fits (rows_of now c.self.inside.shelves) l) (sym (c.deref.ensures.value ∙ ap (λ p. p.changes) c.plan.view_is))
+    in subst (λ l. Fits (rows_on_side now c.self.inside.shelves) l) (sym (c.deref.ensures.value ∙ ap (λ p. p.changes) c.plan.view_is))
     (subst (λ r. Fits r c.args.plan.changes) (rows_shown now (get c.self.inside.shelves.slots) c.self.inside.shelves.places.entries) q)
 
 pub returns-in_err-make_ready-clause-now : goal.returns-in_err-make_ready-clause-now
@@ -82,10 +82,10 @@ returns-clause-out c =
 pub returns-clause-after : goal.returns-clause-after
 returns-clause-after c =
     let made : IsMade c.args.plan.changes c.make_ready.new.ways.items
-    (parts_of c.self.inside.names c.self.inside.shelves c.self.inside.links.items)
-    (parts_of c.make_ready.new.names c.make_ready.new.shelves c.make_ready.new.links.items)
-    = subst (λ l. IsMade l c.make_ready.new.ways.items (parts_of c.self.inside.names c.self.inside.shelves c.self.inside.links.items)
-    (parts_of c.make_ready.new.names c.make_ready.new.shelves c.make_ready.new.links.items))
+    (graph_parts c.self.inside.names c.self.inside.shelves c.self.inside.links.items)
+    (graph_parts c.make_ready.new.names c.make_ready.new.shelves c.make_ready.new.links.items)
+    = subst (λ l. IsMade l c.make_ready.new.ways.items (graph_parts c.self.inside.names c.self.inside.shelves c.self.inside.links.items)
+    (graph_parts c.make_ready.new.names c.make_ready.new.shelves c.make_ready.new.links.items))
     (c.deref.ensures.value ∙ ap (λ p. p.changes) c.plan.view_is)
     c.in_ok-make_ready.ensures.made
     in rw (← c.self.view_is)
@@ -118,10 +118,10 @@ returns-clause-own c =
 pub returns-clause-waits : goal.returns-clause-waits
 returns-clause-waits c =
     let made : IsMade c.args.plan.changes c.make_ready.new.ways.items
-    (parts_of c.self.inside.names c.self.inside.shelves c.self.inside.links.items)
-    (parts_of c.make_ready.new.names c.make_ready.new.shelves c.make_ready.new.links.items)
-    = subst (λ l. IsMade l c.make_ready.new.ways.items (parts_of c.self.inside.names c.self.inside.shelves c.self.inside.links.items)
-    (parts_of c.make_ready.new.names c.make_ready.new.shelves c.make_ready.new.links.items))
+    (graph_parts c.self.inside.names c.self.inside.shelves c.self.inside.links.items)
+    (graph_parts c.make_ready.new.names c.make_ready.new.shelves c.make_ready.new.links.items)
+    = subst (λ l. IsMade l c.make_ready.new.ways.items (graph_parts c.self.inside.names c.self.inside.shelves c.self.inside.links.items)
+    (graph_parts c.make_ready.new.names c.make_ready.new.shelves c.make_ready.new.links.items))
     (c.deref.ensures.value ∙ ap (λ p. p.changes) c.plan.view_is)
     c.in_ok-make_ready.ensures.made
     in rw (← c.self.view_is)
@@ -139,10 +139,10 @@ returns-clause-backs c =
 pub returns-clause-lean : goal.returns-clause-lean
 returns-clause-lean c =
     let made : IsMade c.args.plan.changes c.make_ready.new.ways.items
-    (parts_of c.self.inside.names c.self.inside.shelves c.self.inside.links.items)
-    (parts_of c.make_ready.new.names c.make_ready.new.shelves c.make_ready.new.links.items)
-    = subst (λ l. IsMade l c.make_ready.new.ways.items (parts_of c.self.inside.names c.self.inside.shelves c.self.inside.links.items)
-    (parts_of c.make_ready.new.names c.make_ready.new.shelves c.make_ready.new.links.items))
+    (graph_parts c.self.inside.names c.self.inside.shelves c.self.inside.links.items)
+    (graph_parts c.make_ready.new.names c.make_ready.new.shelves c.make_ready.new.links.items)
+    = subst (λ l. IsMade l c.make_ready.new.ways.items (graph_parts c.self.inside.names c.self.inside.shelves c.self.inside.links.items)
+    (graph_parts c.make_ready.new.names c.make_ready.new.shelves c.make_ready.new.links.items))
     (c.deref.ensures.value ∙ ap (λ p. p.changes) c.plan.view_is)
     c.in_ok-make_ready.ensures.made
     in rw (← c.self.view_is)

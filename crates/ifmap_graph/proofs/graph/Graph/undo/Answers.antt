@@ -3,9 +3,9 @@ use Rattle.std.specs.List.{AllByRecursion}
 use Rattle.ifmap_view.specs.Rows.{stored_on}
 use Rattle.ifmap_graph.specs.Back.{stand_each}
 use Rattle.ifmap_graph.specs.Held.{links_at}
-use Rattle.ifmap_graph.specs.Out.{items_of}
-use Rattle.ifmap_graph.specs.Seen.{Awaits, IsLean}
-use Rattle.ifmap_graph.specs.Shelved.{place_of, rows_of}
+use Rattle.ifmap_graph.specs.Out.{items_changed}
+use Rattle.ifmap_graph.specs.Seen.{AreAwaited, IsLean}
+use Rattle.ifmap_graph.specs.Shelved.{slot_of_item, rows_on_side}
 use Rattle.ifmap_graph.specs.Sides.{now}
 use Rattle.ifmap_graph.specs.Turning.{restore_each}
 use Rattle.ifmap_graph.proofs.Lean.{stood_lean}
@@ -21,9 +21,9 @@ exchange_changes-requires-clause-bare c =
 pub exchange_changes-requires-clause-there : goal.exchange_changes-requires-clause-there
 exchange_changes-requires-clause-there c =
     let b = rw (← c.self.view_is) at c.requires.back
-    in subst (λ l. AllByRecursion (λ x. IsSome (place_of c.self.inside.shelves x)) (items_of l))
+    in subst (λ l. AllByRecursion (λ x. IsSome (slot_of_item c.self.inside.shelves x)) (items_changed l))
     (sym (c.deref.ensures.value ∙ ap (λ r. r.plan.changes) c.undo.view_is))
-    (all_there c.self.inside.names c.self.inside.shelves c.self.inside.links.items (items_of c.args.undo.plan.changes) b.2.waits)
+    (all_there c.self.inside.names c.self.inside.shelves c.self.inside.links.items (items_changed c.args.undo.plan.changes) b.2.waits)
 
 pub invariant_of-self : goal.invariant_of-self
 invariant_of-self c =
@@ -35,9 +35,9 @@ invariant_of-self c =
     c.exchange_changes.ensures.bare still.links
     c.args.undo b.0 b.1 b.2
     (λ x. c.exchange_changes.ensures.now x
-    ∙ ap (λ l. stand_each (items_of l) c.lists.inside.0.items x (stored_on x (rows_of now c.self.inside.shelves)))
+    ∙ ap (λ l. stand_each (items_changed l) c.lists.inside.0.items x (stored_on x (rows_on_side now c.self.inside.shelves)))
     (c.deref.ensures.value ∙ ap (λ r. r.plan.changes) c.undo.view_is)
-    ∙ ap (λ l. stand_each (items_of c.args.undo.plan.changes) l x (stored_on x (rows_of now c.self.inside.shelves)))
+    ∙ ap (λ l. stand_each (items_changed c.args.undo.plan.changes) l x (stored_on x (rows_on_side now c.self.inside.shelves)))
     (c.lists.view_is ∙ ap (λ r. r.lists) c.undo.view_is))
     (c.restore_all.ensures ∙ ap (λ w. restore_each w c.self.inside.links.items) (c.ways.view_is ∙ ap (λ r. r.ways) c.undo.view_is))
 
@@ -51,21 +51,21 @@ release_waits-requires-clause-still c =
     c.exchange_changes.ensures.bare still.links
     c.args.undo b.0 b.1 b.2
     (λ x. c.exchange_changes.ensures.now x
-    ∙ ap (λ l. stand_each (items_of l) c.lists.inside.0.items x (stored_on x (rows_of now c.self.inside.shelves)))
+    ∙ ap (λ l. stand_each (items_changed l) c.lists.inside.0.items x (stored_on x (rows_on_side now c.self.inside.shelves)))
     (c.deref.ensures.value ∙ ap (λ r. r.plan.changes) c.undo.view_is)
-    ∙ ap (λ l. stand_each (items_of c.args.undo.plan.changes) l x (stored_on x (rows_of now c.self.inside.shelves)))
+    ∙ ap (λ l. stand_each (items_changed c.args.undo.plan.changes) l x (stored_on x (rows_on_side now c.self.inside.shelves)))
     (c.lists.view_is ∙ ap (λ r. r.lists) c.undo.view_is))
     (c.restore_all.ensures ∙ ap (λ w. restore_each w c.self.inside.links.items) (c.ways.view_is ∙ ap (λ r. r.ways) c.undo.view_is))
 
 pub release_waits-requires-clause-waits : goal.release_waits-requires-clause-waits
 release_waits-requires-clause-waits c =
     let b = rw (← c.self.view_is) at c.requires.back
-    in subst (λ l. Awaits (items_of l) (held_of c.self.inside.names c.exchange_changes.new.shelves c.restore_all.new.lists.items))
+    in subst (λ l. AreAwaited (items_changed l) (held_of c.self.inside.names c.exchange_changes.new.shelves c.restore_all.new.lists.items))
     (sym (c.deref-2.ensures.value ∙ ap (λ r. r.plan.changes) c.undo.view_is))
     (waits_stay_seen c.self.inside.names c.self.inside.shelves c.exchange_changes.new.shelves c.self.inside.links.items
     c.restore_all.new.lists.items
     c.exchange_changes.ensures.places c.exchange_changes.ensures.ends c.exchange_changes.ensures.waits
-    (items_of c.args.undo.plan.changes) b.2.waits)
+    (items_changed c.args.undo.plan.changes) b.2.waits)
 
 pub returns-clause-back : goal.returns-clause-back
 returns-clause-back c = λ rows links b.
@@ -79,9 +79,9 @@ returns-clause-back c = λ rows links b.
           c.exchange_changes.ensures.bare still.links
           c.args.undo rows links back
           (λ x. c.exchange_changes.ensures.now x
-          ∙ ap (λ l. stand_each (items_of l) c.lists.inside.0.items x (stored_on x (rows_of now c.self.inside.shelves)))
+          ∙ ap (λ l. stand_each (items_changed l) c.lists.inside.0.items x (stored_on x (rows_on_side now c.self.inside.shelves)))
           (c.deref.ensures.value ∙ ap (λ r. r.plan.changes) c.undo.view_is)
-          ∙ ap (λ l. stand_each (items_of c.args.undo.plan.changes) l x (stored_on x (rows_of now c.self.inside.shelves)))
+          ∙ ap (λ l. stand_each (items_changed c.args.undo.plan.changes) l x (stored_on x (rows_on_side now c.self.inside.shelves)))
           (c.lists.view_is ∙ ap (λ r. r.lists) c.undo.view_is))
           (c.restore_all.ensures ∙ ap (λ w. restore_each w c.self.inside.links.items) (c.ways.view_is ∙ ap (λ r. r.ways) c.undo.view_is))
           c.bytes_tell_identifiers_apart.ensures,
@@ -92,9 +92,9 @@ returns-clause-back c = λ rows links b.
           c.exchange_changes.ensures.bare still.links
           c.args.undo rows links back
           (λ x. c.exchange_changes.ensures.now x
-          ∙ ap (λ l. stand_each (items_of l) c.lists.inside.0.items x (stored_on x (rows_of now c.self.inside.shelves)))
+          ∙ ap (λ l. stand_each (items_changed l) c.lists.inside.0.items x (stored_on x (rows_on_side now c.self.inside.shelves)))
           (c.deref.ensures.value ∙ ap (λ r. r.plan.changes) c.undo.view_is)
-          ∙ ap (λ l. stand_each (items_of c.args.undo.plan.changes) l x (stored_on x (rows_of now c.self.inside.shelves)))
+          ∙ ap (λ l. stand_each (items_changed c.args.undo.plan.changes) l x (stored_on x (rows_on_side now c.self.inside.shelves)))
           (c.lists.view_is ∙ ap (λ r. r.lists) c.undo.view_is))
           (c.restore_all.ensures ∙ ap (λ w. restore_each w c.self.inside.links.items) (c.ways.view_is ∙ ap (λ r. r.ways) c.undo.view_is)) v,
     )
@@ -109,24 +109,24 @@ returns-clause-own c = λ a own h.
 pub returns-clause-waits : goal.returns-clause-waits
 returns-clause-waits c = λ rest a.
     c.release_waits.ensures.waits rest
-    (subst (λ l. Awaits (items_of l ++ rest) (held_of c.self.inside.names c.exchange_changes.new.shelves c.restore_all.new.lists.items))
+    (subst (λ l. AreAwaited (items_changed l ++ rest) (held_of c.self.inside.names c.exchange_changes.new.shelves c.restore_all.new.lists.items))
     (sym (c.deref-2.ensures.value ∙ ap (λ r. r.plan.changes) c.undo.view_is))
     (waits_stay_seen c.self.inside.names c.self.inside.shelves c.exchange_changes.new.shelves c.self.inside.links.items
     c.restore_all.new.lists.items
     c.exchange_changes.ensures.places c.exchange_changes.ensures.ends c.exchange_changes.ensures.waits
-    (items_of c.args.undo.plan.changes ++ rest) (rw (← c.self.view_is) at a)))
+    (items_changed c.args.undo.plan.changes ++ rest) (rw (← c.self.view_is) at a)))
 
 pub returns-clause-lean : goal.returns-clause-lean
 returns-clause-lean c =
     let b = rw (← c.self.view_is) at c.requires.back
     in rw (← c.self.view_is)
     (λ rest lean. c.release_waits.ensures.lean rest
-    (subst (λ l. IsLean (items_of l ++ rest) (held_of c.self.inside.names c.exchange_changes.new.shelves c.restore_all.new.lists.items))
+    (subst (λ l. IsLean (items_changed l ++ rest) (held_of c.self.inside.names c.exchange_changes.new.shelves c.restore_all.new.lists.items))
     (sym (c.deref-2.ensures.value ∙ ap (λ r. r.plan.changes) c.undo.view_is))
     (stood_lean c.self.inside.names c.self.inside.names c.self.inside.shelves c.exchange_changes.new.shelves c.self.inside.links.items
-    c.restore_all.new.lists.items (items_of c.args.undo.plan.changes) b.2.waits c.exchange_changes.ensures.waits
+    c.restore_all.new.lists.items (items_changed c.args.undo.plan.changes) b.2.waits c.exchange_changes.ensures.waits
     c.exchange_changes.ensures.places c.lists.inside.0.items
     (λ x. c.exchange_changes.ensures.now x
-    ∙ ap (λ l. stand_each (items_of l) c.lists.inside.0.items x (stored_on x (rows_of now c.self.inside.shelves)))
+    ∙ ap (λ l. stand_each (items_changed l) c.lists.inside.0.items x (stored_on x (rows_on_side now c.self.inside.shelves)))
     (c.deref.ensures.value ∙ ap (λ r. r.plan.changes) c.undo.view_is))
     _ lean)))

@@ -1,10 +1,10 @@
 use Rattle.std.proofs.Common.{◌≤◌, ◌-◌, length}
-use Rattle.ifmap_server.specs.Pending.{Takes}
+use Rattle.ifmap_server.specs.Pending.{GrowsFromSource}
 use Rattle.ifmap_server.proofs.input.Input.await_bytes.Given as goal
 
 abbrev pub invariant-bytes : goal.invariant-bytes
 invariant-bytes g l =
-    Takes (g.S.Source.left l.initial.source) (g.S.Source.left l.source) l.initial.self l.self
+    GrowsFromSource (g.S.Source.left l.initial.source) (g.S.Source.left l.source) l.initial.self l.self
     × (g.S.Source.faults l.initial.source ≤ g.S.Source.faults l.source)
 
 abbrev pub decreases-bytes : goal.decreases-bytes

@@ -1,5 +1,5 @@
 -- Turn by turn to the end of the replay.
-use Rattle.ifmap_server.specs.Ends.{ends}
+use Rattle.ifmap_server.specs.Ends.{source_and_sink}
 use Rattle.ifmap_server.proofs.Endings.{error_ends, fault_ends}
 use Rattle.ifmap_server.proofs.Progress.{begin, next, over}
 use Rattle.ifmap_server.proofs.replaying.Replay.run.Goals as goal
@@ -22,24 +22,24 @@ returns-in-FrameFault g c =
     let turned = rw c.in-FrameFault.is at c.in-Err.ensures.turn in
     let told = c.tell_fault.ensures in
     fault_ends
-    (ends (g.S.Source.left c.args.source.now) (g.S.Source.faults c.args.source.now) (g.K.Sink.held c.args.sink.now)
+    (source_and_sink (g.S.Source.left c.args.source.now) (g.S.Source.faults c.args.source.now) (g.K.Sink.held c.args.sink.now)
     (g.K.Sink.faults c.args.sink.now))
-    (ends (g.S.Source.left c.frames.source) (g.S.Source.faults c.frames.source) (g.K.Sink.held c.frames.sink)
+    (source_and_sink (g.S.Source.left c.frames.source) (g.S.Source.faults c.frames.source) (g.K.Sink.held c.frames.sink)
     (g.K.Sink.faults c.frames.sink))
-    (ends (g.S.Source.left c.turn.new.source) (g.S.Source.faults c.turn.new.source) (g.K.Sink.held c.turn.new.sink)
+    (source_and_sink (g.S.Source.left c.turn.new.source) (g.S.Source.faults c.turn.new.source) (g.K.Sink.held c.turn.new.sink)
     (g.K.Sink.faults c.turn.new.sink))
     c.frames.self c.turn.new.self c.frames.invariant
-    (ends (g.S.Source.left c.turn.new.source) (g.S.Source.faults c.turn.new.source) (g.K.Sink.held c.tell_fault.new.sink)
+    (source_and_sink (g.S.Source.left c.turn.new.source) (g.S.Source.faults c.turn.new.source) (g.K.Sink.held c.tell_fault.new.sink)
     (g.K.Sink.faults c.tell_fault.new.sink))
     c.tell_fault.result turned c.in-Err.ensures.later told.told told.write told.memory told.only told.rose
 
 pub returns-in_default : goal.returns-in_default
 returns-in_default g c =
     error_ends
-    (ends (g.S.Source.left c.args.source.now) (g.S.Source.faults c.args.source.now) (g.K.Sink.held c.args.sink.now)
+    (source_and_sink (g.S.Source.left c.args.source.now) (g.S.Source.faults c.args.source.now) (g.K.Sink.held c.args.sink.now)
     (g.K.Sink.faults c.args.sink.now))
-    (ends (g.S.Source.left c.frames.source) (g.S.Source.faults c.frames.source) (g.K.Sink.held c.frames.sink)
+    (source_and_sink (g.S.Source.left c.frames.source) (g.S.Source.faults c.frames.source) (g.K.Sink.held c.frames.sink)
     (g.K.Sink.faults c.frames.sink))
-    (ends (g.S.Source.left c.turn.new.source) (g.S.Source.faults c.turn.new.source) (g.K.Sink.held c.turn.new.sink)
+    (source_and_sink (g.S.Source.left c.turn.new.source) (g.S.Source.faults c.turn.new.source) (g.K.Sink.held c.turn.new.sink)
     (g.K.Sink.faults c.turn.new.sink))
     c.frames.self c.turn.new.self c.frames.invariant _ c.in_default.not-FrameFault c.in-Err.ensures.turn

@@ -4,7 +4,7 @@ use Rattle.std.proofs.lemmas.Result.{err_from_is_err_and}
 use Rattle.std.specs.Io.KnownBytes.{Appends}
 use Rattle.ifmap_server.specs.declared.errors.ReplayError.TheVariants.{WriteFault}
 use Rattle.ifmap_server.specs.Output.{AppendsPrefix}
-use Rattle.ifmap_server.specs.Script.{Begins}
+use Rattle.ifmap_server.specs.Script.{BeginsFrame}
 use Rattle.ifmap_server.specs.Turns.{IsFramed, frame_within}
 use Rattle.ifmap_server.proofs.Endings.{untaken}
 use Rattle.ifmap_server.proofs.replaying.Replay.turn.Goals as goal
@@ -53,7 +53,7 @@ returns-clause-turn g c =
       frame = frame;
       taken = pending;
       takes = c.in_ok-framed.ensures.taken;
-      begins = subst (Begins c.self.inside.offset pending frame) (sym c.advance.ensures) (is.begins answered.meaning);
+      begins = subst (BeginsFrame c.self.inside.offset pending frame) (sym c.advance.ensures) (is.begins answered.meaning);
       means = answered.means;
       state = answered.state;
       offset = ap (λ (n : ℕ). c.self.inside.offset + n) (is.end answered.meaning);

@@ -3,7 +3,7 @@ use Rattle.ifmap_session.specs.Places.{IsPlaceOf}
 use Rattle.ifmap_session.specs.declared.holders.Holder.{Holder}
 use Rattle.ifmap_session.specs.Rows.{live_of}
 use Rattle.ifmap_session.specs.Seats.{Seat}
-use Rattle.ifmap_session.specs.Sessions.{is_text, session_of_client}
+use Rattle.ifmap_session.specs.Sessions.{is_same_text, session_of_client}
 use Rattle.ifmap_session.proofs.KeptLaws.{moments_ended, place_within}
 use Rattle.ifmap_session.proofs.RowLaws.{ended, found, spare_other}
 use Rattle.ifmap_session.proofs.SessionLaws.{client_gone, holder_is_there, holders_ended, live_up, place_is_ok, rows_ended, without_one}
@@ -14,7 +14,7 @@ unwrap-holder-requires c =
     let got = rw c.deref.ensures.value at c.place_in-place.ensures in
     let done = c.end_at-ended.ensures.rows c.args.serial got.0 got.1 in
     let same = c.client.ensures ∙ ap (λ (s : Seat). s.session.client) done.0 in
-    place_is_ok (λ h. is_text h.client c.client.result.now) c.deref-2.result.now c.place_of_client.result c.place_of_client.ensures.place
+    place_is_ok (λ h. is_same_text h.client c.client.result.now) c.deref-2.result.now c.place_of_client.result c.place_of_client.ensures.place
     (rw (c.deref-2.ensures.value, same) (holder_is_there c.args.serial c.self.inside.rows.items c.self.inside.holders.items
     c.place_in-place.result got.0 c.self.invariant.sessions.own c.self.invariant.clients got.1))
 
@@ -28,7 +28,7 @@ invariant_of-self c =
     let got = rw c.deref.ensures.value at c.place_in-place.ensures in
     let done = c.end_at-ended.ensures.rows c.args.serial got.0 got.1 in
     let same = c.client.ensures ∙ ap (λ (s : Seat). s.session.client) done.0 in
-    let place = subst (λ t. IsPlaceOf (λ (h : Holder). is_text h.client t) c.self.inside.holders.items c.place_of_client.result) same
+    let place = subst (λ t. IsPlaceOf (λ (h : Holder). is_same_text h.client t) c.self.inside.holders.items c.place_of_client.result) same
     (rw c.deref-2.ensures.value at c.place_of_client.ensures.place) in
     rw done.1 (record {
       sessions = rows_ended c.self.inside.counter c.args.serial c.self.inside.rows.items c.place_in-place.result got.0

@@ -5,7 +5,7 @@ use Rattle.ifmap_session.specs.declared.holders.Holder.{Holder}
 use Rattle.ifmap_session.specs.Rows.{live_of}
 use Rattle.ifmap_session.specs.Places.{IsPlaceFor, IsPlaceOf}
 use Rattle.ifmap_session.specs.SessionIds.{session_id}
-use Rattle.ifmap_session.specs.Sessions.{Session, is_text, session_of_client}
+use Rattle.ifmap_session.specs.Sessions.{Session, is_same_text, session_of_client}
 use Rattle.ifmap_session.specs.Stamps.{Restamps}
 use Rattle.ifmap_session.proofs.KeptLaws.{begun_own, moments_begun}
 use Rattle.ifmap_session.proofs.RowLaws.{spare_begun}
@@ -15,7 +15,7 @@ use Rattle.ifmap_session.proofs.sessions.Sessions.open.Goals as goal
 pub unwrap_err-place-requires : goal.unwrap_err-place-requires
 unwrap_err-place-requires c =
     let none = rw (← c.self.view_is, ← c.opening.view_is) at c.requires.none in
-    place_is_err (λ h. is_text h.client c.opening.inside.client) c.deref.result.now c.place_of_client.result c.place_of_client.ensures.place
+    place_is_err (λ h. is_same_text h.client c.opening.inside.client) c.deref.result.now c.place_of_client.result c.place_of_client.ensures.place
     (rw c.deref.ensures.value (no_holder c.self.inside.rows.items c.self.inside.holders.items c.opening.inside.client
     c.self.invariant.clients none))
 
@@ -32,7 +32,7 @@ invariant_of-self c =
     let room = rw (← c.self.view_is) at c.requires.room in
     let id = ap (λ (s : Session). s.id) c.new-kept.ensures ∙ c.opening.invariant.named.1
     ∙ ap (λ n. session_id n c.opening.invariant.named.0) same in
-    let place = subst (λ t. IsPlaceOf (λ (h : Holder). is_text h.client t) c.self.inside.holders.items c.place_of_client.result)
+    let place = subst (λ t. IsPlaceOf (λ (h : Holder). is_same_text h.client t) c.self.inside.holders.items c.place_of_client.result)
     (sym client) (rw c.deref.ensures.value at c.place_of_client.ensures.place) in
     let gap = subst (λ t. IfErr c.place_of_client.result (IsPlaceFor t c.self.inside.holders.items)) (sym client)
     (rw c.deref.ensures.value at c.place_of_client.ensures.gap) in

@@ -1,7 +1,7 @@
 use Rattle.std.proofs.Common.{◌≡◌, sym, ◌∙◌, subst, false, Some}
 use Rattle.std.proofs.lemmas.Bool.{both_ways, false_from_ne_true}
 use Rattle.ifmap_session.specs.Rows.{live_of}
-use Rattle.ifmap_session.specs.Sessions.{is_text, session_with_serial}
+use Rattle.ifmap_session.specs.Sessions.{is_same_text, session_with_serial}
 use Rattle.ifmap_session.proofs.RowLaws.{found}
 use Rattle.ifmap_session.specs.laws.TextLaws.{text_is, text_same}
 use Rattle.ifmap_session.proofs.SessionLaws.{id_at, id_leads, id_nowhere, id_of_none, leads_to, live_counted, live_ids, live_up, own_at}
@@ -67,7 +67,7 @@ returns-else-equals-clause-none c =
     let at = id_at live c.in_ok-serial.serial c.args.id.now seat.session (live_up c.self.inside.rows.items k.own.rising k.own.own)
     (leads_to c.in_ok-serial.serial live c.args.id.now c.serial_of.result c.in_ok-serial.was leads)
     (found c.in_ok-serial.serial c.self.inside.rows.items got.0 seat k.own.rising k.own.own got.1) in
-    let differ : is_text seat.session.id c.args.id.now ≡ false =
-    false_from_ne_true (is_text seat.session.id c.args.id.now)
+    let differ : is_same_text seat.session.id c.args.id.now ≡ false =
+    false_from_ne_true (is_same_text seat.session.id c.args.id.now)
     (λ e. both_ways c.equals.result c.if-equals.false (c.equals.ensures.1 (c.id-2.ensures ∙ text_is seat.session.id c.args.id.now e))) in
     rw (← c.self.view_is) (rw differ at at)
