@@ -102,7 +102,8 @@ module _ (a : Asking) (old : Parts) (before : Pending) (after : Pending) (ready 
 
   lean_made : StaysLeanWith (items_changed undo.plan.changes) old.graph g
   lean_made rest l = subst (λ (p : Plan). IsLean (items_changed p.changes ++ rest) g) (sym made.same)
-      (made.lean (awaits_these (items_changed wanted.changes) old.graph mid begun.waits) (items_changed wanted.changes ++ rest) (begun.lean rest l))
+      (made.lean (awaits_these (items_changed wanted.changes) old.graph mid begun.waits) (items_changed wanted.changes ++ rest)
+      (begun.lean rest l))
 
   pub turned_made : AreTurnedWith (items_changed undo.plan.changes) old new
   turned_made = record {
@@ -143,9 +144,11 @@ module _ (a : Asking) (old : Parts) (before : Pending) (after : Pending) (ready 
     within_made =
         let some = map (told_by before.tellings) (sessions_left a old.sessions)
         in let those = map standing_of (kept_of before.gone.items old.standing.items)
-        in let tells_it : Session → Session = λ s. tell_session (told_in_session (rows_now mid) (rows_next mid) wanted.notes those s.serial) s
+        in let tells_it : Session → Session = λ s. tell_session
+        (told_in_session (rows_now mid) (rows_next mid) wanted.notes those s.serial) s
         in let wide : AllByRecursion (λ (s : Session). 100 ≤ s.limit) (map tells_it some)
-        = map_of_all (λ (s : Session). 100 ≤ s.limit) tells_it some (all_weaker IsWithinLimit (λ s. 100 ≤ s.limit) (λ s w. w.wide) some r.within)
+        = map_of_all (λ (s : Session). 100 ≤ s.limit) tells_it some
+        (all_weaker IsWithinLimit (λ s. 100 ≤ s.limit) (λ s w. w.wide) some r.within)
         in subst AreWithinLimits (sym (ap (λ s. s.sessions) told.state))
         (map_of_all IsWithinLimit overflow_session (map tells_it some)
         (all_weaker (λ (s : Session). 100 ≤ s.limit) (λ s. IsWithinLimit (overflow_session s)) overflow_within (map tells_it some) wide))

@@ -45,7 +45,8 @@ SameLinks = (one other : ViewSeen) (sub : Subscription) → IsView one.rows one.
     → other.id_at sub.region.start ≡ Some sub.search.start → IsUpToDate one sub → IsUpToDate other sub
 
 abbrev pub StaysSettled : Type 0
-StaysSettled = (g : ViewSeen) (way : Option (Option Way)) (old new : Subscription) → IsWayGivenUp way old new → IsUpToDate g old → IsUpToDate g new
+StaysSettled = (g : ViewSeen) (way : Option (Option Way)) (old new : Subscription) → IsWayGivenUp way old new → IsUpToDate g old →
+    IsUpToDate g new
 
 abbrev pub AreSettled : List (Option Way) → List Standing → List Standing → Type 0
 AreSettled ways old new = AtEach (λ i. StaysRelated (IsWayGivenUp (slice_get ways i))) old new

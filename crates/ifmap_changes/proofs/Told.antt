@@ -95,7 +95,8 @@ module _ (a : Asking) (old : Parts) (before : Pending) (ready : IsSoundSoFar a o
             (told_by before.tellings s)
             (has_map (told_by before.tellings) (sessions_left a old.sessions) s
             (has_filter (λ (t : Session). stays_in a t.serial) old.sessions.live s there stays))).full
-        | inr goes ↦ subst (λ t. is_overfull t ≡ false) (sym (untold s goes)) (all_has IsWithinLimit old.sessions.live ready.queues s there).full
+        | inr goes ↦ subst (λ t. is_overfull t ≡ false) (sym (untold s goes))
+            (all_has IsWithinLimit old.sessions.live ready.queues s there).full
       ]
 
   pub can_tell_all : EachTelling (CanTell old.sessions) before.tellings
@@ -324,7 +325,8 @@ module _ (a : Asking) (old : Parts) (before : Pending) (ready : IsSoundSoFar a o
             standing = which i;
           };
           kept = subst (λ xs. AllKept (λ x. IsUpToDate (sight_next new.graph) x.subscription) after.gone.items xs) (sym is_standing)
-              (kept_later (λ x. IsUpToDate (sight_next old.graph) x.subscription) (λ x. IsUpToDate (sight_next new.graph) x.subscription) gone
+              (kept_later (λ x. IsUpToDate (sight_next old.graph) x.subscription) (λ x. IsUpToDate (sight_next new.graph) x.subscription)
+              gone
               after.gone.items stand_now stand_now flags_now refl
               (λ i x y p q h. subst (λ h. IsUpToDate (sight_next h) y.subscription) (sym graph)
               (subst (λ (z : Standing). IsUpToDate (sight_next old.graph) z.subscription) (same_Some x y (sym p ∙ q)) h)) gone_stays kept);

@@ -20,7 +20,8 @@ abbrev pub OneSpelled : Type 0
 OneSpelled = (bytes : List ℕ) (one other : Reading) → Spells bytes one → Spells bytes other → one ≡ other
 
 -- what is found of the root of a reading is found of one element
-pub root_finds : OneRequest → (r : Reading) (one other : Result Request Code) → IsFoundAtPath r [] one → IsFoundAtPath r [] other → one ≡ other
+pub root_finds : OneRequest → (r : Reading) (one other : Result Request Code) → IsFoundAtPath r [] one → IsFoundAtPath r [] other → one ≡
+    other
 root_finds law r one other l m =
     law (scopes_from r []) l.element one other l.checked
     (subst (λ (e : Element). request_check (scopes_from r []) e other) (m.named ∙ sym l.named) m.checked)

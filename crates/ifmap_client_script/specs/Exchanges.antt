@@ -104,7 +104,8 @@ asked_of request told = record { request = request; body = told.body; answer = t
 
 -- what a wire does for one request
 abbrev pub AsksOnWire : Caller → Request → Wiring → Wiring → Result Told Stop → Type 0
-AsksOnWire caller request before after (Ok told) = HasPostedAndHeard caller (asked_of request told ∷ []) before after × MeansReply told.body told.reply
+AsksOnWire caller request before after (Ok told) = HasPostedAndHeard caller (asked_of request told ∷ []) before after × MeansReply
+    told.body told.reply
 AsksOnWire caller request before after (Err stop.LinkFault) =
     ((front : List ℕ) × IsFront (request_post caller request) front × Breaks caller [] front HasAny before after)
     × WireFailed before after

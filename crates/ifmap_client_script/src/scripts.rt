@@ -58,10 +58,12 @@ pub fn run_script<S: Source, K: Sink, A: Link, B: Link>(
     requires first { IsFalse first.old.spent }
     requires second { IsFalse second.old.spent }
     ensures { IsCarriedOut (record { client = client.now; host = host.now })
-        (source_and_ports (S.left source.old) (S.faults source.old) (ports (K.held sink.old) (K.faults sink.old)
+        (source_and_ports (S.left source.old) (S.faults source.old)
+        (ports (K.held sink.old) (K.faults sink.old)
         (wiring A.left A.held A.Source.faults A.Sink.faults first.old)
         (wiring B.left B.held B.Source.faults B.Sink.faults second.old)))
-        (source_and_ports (S.left source.new) (S.faults source.new) (ports (K.held sink.new) (K.faults sink.new)
+        (source_and_ports (S.left source.new) (S.faults source.new)
+        (ports (K.held sink.new) (K.faults sink.new)
         (wiring A.left A.held A.Source.faults A.Sink.faults first.new)
         (wiring B.left B.held B.Source.faults B.Sink.faults second.new))) result }
 {
@@ -131,7 +133,8 @@ impl Script {
         requires unspent { AreUnspent (O.seen outlets.old) }
         ensures carried { IsCarriedOut caller.now
             (source_and_ports (S.left source.old) (S.faults source.old) (O.seen outlets.old))
-            (source_and_ports (S.left source.new) (S.faults source.new) (O.seen outlets.new)) result }
+            (source_and_ports (S.left source.new) (S.faults source.new) (O.seen outlets.new))
+            result }
         ensures same { AreSame (O.loans outlets.old) (O.loans outlets.new) }
     {
         'lines: loop {

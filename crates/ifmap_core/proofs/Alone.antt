@@ -132,7 +132,8 @@ module _ (a : Asking) (old new : Parts) (before after : Pending) (n size : ℕ) 
       }) standing
       ∙ ap (λ (xs : List machine.Standing). record (alone_told n size (so_far a old before)) { standing = xs }) gone
 
-  pub alone_ready : IsSoundSoFar a old before → length after.gone.items ≡ length old.standing.items → Rises before.gone.items after.gone.items
+  pub alone_ready : IsSoundSoFar a old before → length after.gone.items ≡ length old.standing.items → Rises before.gone.items
+      after.gone.items
       → AllKept (λ (x : Standing). x.serial ≢ n) after.gone.items old.standing.items → 1 ≤ spare_of n new.sessions.spare
       → IsSoundSoFar a new after
   alone_ready r flags more bare room =
@@ -144,7 +145,8 @@ module _ (a : Asking) (old new : Parts) (before after : Pending) (n size : ℕ) 
         kept = rw (rows, standing) (kept_fewer _ before.gone.items after.gone.items old.standing.items long more r.kept);
         live = rw (sessions.live, standing) (kept_fewer _ before.gone.items after.gone.items old.standing.items long more r.live);
         queues = rw (sessions.live) r.queues;
-        within = subst AreWithinLimits (sym told_now) (errors_fit n size (map (told_by before.tellings) (sessions_left a old.sessions)) r.within);
+        within = subst AreWithinLimits (sym told_now)
+            (errors_fit n size (map (told_by before.tellings) (sessions_left a old.sessions)) r.within);
         can_tell = can_each r;
         sized = sized_each r;
         alone = rw standing (alone_each r long more bare);

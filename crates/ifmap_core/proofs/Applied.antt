@@ -168,8 +168,10 @@ module _ (serial moment : ℕ) (renamings : List Renaming) (old new : Parts) (ta
           (all_shown old.standing.items w_ordered.live)));
       few = few_after;
     };
-    kept = subst (AllByRecursion (λ (x : Standing). IsUpToDate (sight_now new.graph) x.subscription)) (append-nil new.standing.items) rest.kept;
-    within = subst AreWithinLimits (sym moved) (within_renewed serial moment new.sessions.live (subst AreWithinLimits (sym (are.told one found).1)
+    kept = subst (AllByRecursion (λ (x : Standing). IsUpToDate (sight_now new.graph) x.subscription)) (append-nil new.standing.items)
+        rest.kept;
+    within = subst AreWithinLimits (sym moved)
+        (within_renewed serial moment new.sessions.live (subst AreWithinLimits (sym (are.told one found).1)
         (fits_within serial (rename_all serial renamings told).queue old.sessions.live rising w_within
         (λ s e. subst (λ (x : Session). queue_size (rename_all serial renamings told).queue ≤ x.limit) (same_Some one s (sym found ∙ e))
         (fits one found).0))));

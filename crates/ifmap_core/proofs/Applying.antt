@@ -49,7 +49,8 @@ emptied_full s = grind (arith, nat_tests)
 pub within_emptied : (n : ℕ) (live : List Session) → AreWithinLimits live → AreWithinLimits (change n without_items live)
 within_emptied n live h = within_changed n without_items (λ s w. record { full = emptied_full s; wide = w.wide }) live h
 
-pub within_first : (again : Bool) (n moment : ℕ) (live : List Session) → AreWithinLimits live → AreWithinLimits (first_renewed again n moment live)
+pub within_first : (again : Bool) (n moment : ℕ) (live : List Session) → AreWithinLimits live → AreWithinLimits
+    (first_renewed again n moment live)
 within_first true n moment live h = h
 within_first false n moment live h = within_renewed n moment live h
 
@@ -66,7 +67,8 @@ begun_full opening limit moment = grind (arith, nat_tests)
 pub within_begun : (opening : Opening) (limit moment : ℕ) (live : List Session) → 100 ≤ limit → AreWithinLimits live
     → AreWithinLimits (live ++ session_from opening limit moment ∷ [])
 within_begun opening limit moment live wide h =
-    both_all IsWithinLimit live (session_from opening limit moment ∷ []) h (record { full = begun_full opening limit moment; wide = wide }, tt)
+    both_all IsWithinLimit live (session_from opening limit moment ∷ []) h
+    (record { full = begun_full opening limit moment; wide = wide }, tt)
 
 not_full : (s : Session) (queue : List PollItem) → queue_size queue ≤ s.limit → is_overfull (record s { queue = queue }) ≡ false
 not_full s queue le = grind (arith, nat_tests, le)

@@ -119,7 +119,8 @@ module _ (parts : Parts) (table : SessionTable) (b : IsAsBefore parts.sessions t
 
 -- ---- whether a client can be given a session
 
-client_mapped : (f : Session → Session) (c : List ℕ) → ((s : Session) → is_same_text (f s).client c ≡ is_same_text s.client c) → (live : List Session)
+client_mapped : (f : Session → Session) (c : List ℕ) → ((s : Session) → is_same_text (f s).client c ≡ is_same_text s.client c) →
+    (live : List Session)
     → session_of_client c (map f live) ≡ option_map f (session_of_client c live)
 client_mapped f c same [] = refl
 client_mapped f c same (x ∷ live) =
@@ -143,7 +144,8 @@ full_is a table parts pending e =
     let none : is_none (session_of_client a.client (map f live)) ≡ is_none (session_of_client a.client live) =
     ap is_none (client_mapped f a.client (client_told pending.tellings a.client) live) ∙ none_mapped f (session_of_client a.client live) in
     (λ i. (nat_le most_sessions (count i) && none i) || (parts.sessions.counter == 2 ^ 64 - 1))
-    ∙ ap (λ (t : SessionTable). (nat_le most_sessions (length (sessions_left a t)) && is_none (session_of_client a.client (sessions_left a t)))
+    ∙ ap (λ (t : SessionTable).
+    (nat_le most_sessions (length (sessions_left a t)) && is_none (session_of_client a.client (sessions_left a t)))
     || (t.counter == 2 ^ 64 - 1)) e
 
 -- by what was found of both causes

@@ -75,7 +75,8 @@ id_lost table serials id s h e goes =
     (subst (BeginsWithSerial t.serial) (text_is t.id id is) begins) (subst (BeginsWithSerial s.serial) (text_is s.id id own) mine) in
     subst (λ n. not (list_any (λ m. m == n) serials) ≡ false) (sym same) goes in
     lost_left q (remains serials) table.live (all_two (λ (t : Session). BeginsWithSerial t.serial t.id)
-    (λ (t : Session). t.serial ≤ table.counter) (λ (t : Session). is_same_text t.id id ≡ true → remains serials t ≡ false) one table.live h.ids
+    (λ (t : Session). t.serial ≤ table.counter) (λ (t : Session). is_same_text t.id id ≡ true → remains serials t ≡ false) one table.live
+    h.ids
     h.counted)
   where
     found_passes : (q : Session → Bool) (xs : List Session) (x : Session) → find q xs ≡ Some x → q x ≡ true
@@ -98,7 +99,8 @@ client_lost p (x ∷ live) client s apart e goes =
           let same : x ≡ s = cc (rw hit at e) in
           let out : p x ≡ false = subst (λ (t : Session). p t ≡ false) (sym same) goes in
           rw out (find_none (λ (t : Session). is_same_text t.client client) (filter p live) (all_filter
-          (λ (t : Session). is_same_text t.client client ≡ false) p live (rest_differ (λ (t : Session). t.client) x client live apart.0 hit)))
+          (λ (t : Session). is_same_text t.client client ≡ false) p live
+          (rest_differ (λ (t : Session). t.client) x client live apart.0 hit)))
       | inr miss ↦
           let rest = client_lost p live client s apart.1 (rw miss at e) goes in
           elim (cases_Bool (p x)) [ inl stays ↦ rw (stays, miss) rest | inr out ↦ rw out rest ]

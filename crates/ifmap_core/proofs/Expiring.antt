@@ -238,7 +238,8 @@ can_settle_later made old new c t = record {
 
 abbrev pub WaysStay : Type 0
 WaysStay =
-    (before now after : List Standing) (ways : List (Option Way)) → LeadBack before ways now → AtEach (λ _. StaysRelated KeepsSame) now after
+    (before now after : List Standing) (ways : List (Option Way)) → LeadBack before ways now → AtEach (λ _. StaysRelated KeepsSame) now
+    after
     → LeadBack before ways after
 
 pub can_back : WaysStay → (made : Made) (before old new : Parts) → KeepsNumbers before.graph old.graph → CanTakeBack made before old

@@ -111,7 +111,8 @@ module _ (a : Asking) (old new : Parts) (pending : Pending) (ready : IsSoundSoFa
         → AllByRecursion (λ (x : Standing). IsUpToDate (sight_now new.graph) x.subscription) more
     more_now was =
         all_two (IsNumbered new.graph) (λ (x : Standing). IsUpToDate (sight_now old.graph) x.subscription)
-        (λ (x : Standing). IsUpToDate (sight_now new.graph) x.subscription) (λ x key was. kept x.subscription key was) more numbered_now.1 was
+        (λ (x : Standing). IsUpToDate (sight_now new.graph) x.subscription) (λ x key was. kept x.subscription key was) more numbered_now.1
+        was
 
     pub would_be : WouldBeParts more new
     would_be = record {

@@ -146,13 +146,15 @@ module _ (state : State) (client : List ℕ) (accept : Session → State × Answ
   other : (o : Option Session) (code : Code) → (InvalidSessionID ≡ code → ⊥) → (AccessDenied ≡ code → ⊥)
       → ((s : Session) → IsRefusal code (accept s).1 → ⊥) → IsRefusal code (in_session state client o accept).1 → ⊥
   other None code a b f h = a h
-  other (Some s) code a b f h = elim (cases_Bool (is_same_text s.client client)) [ inl hit ↦ f s (rw hit at h) | inr miss ↦ b (rw miss at h) ]
+  other (Some s) code a b f h = elim (cases_Bool (is_same_text s.client client))
+      [ inl hit ↦ f s (rw hit at h) | inr miss ↦ b (rw miss at h) ]
 
   -- a refusal leaves the state
   leaves : (o : Option Session) (code : Code) → ((s : Session) → IsRefusal code (accept s).1 → (accept s).0 ≡ state)
       → IsRefusal code (in_session state client o accept).1 → (in_session state client o accept).0 ≡ state
   leaves None code f h = refl
-  leaves (Some s) code f h = elim (cases_Bool (is_same_text s.client client)) [ inl hit ↦ rw hit (f s (rw hit at h)) | inr miss ↦ rw miss refl ]
+  leaves (Some s) code f h = elim (cases_Bool (is_same_text s.client client))
+      [ inl hit ↦ rw hit (f s (rw hit at h)) | inr miss ↦ rw miss refl ]
 
 -- a poll
 module _ (state : State) (client : List ℕ) where

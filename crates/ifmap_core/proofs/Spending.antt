@@ -77,7 +77,8 @@ module _ (state : State) (client : List ℕ) (found : Option Session) (n : ℕ) 
       → IsWithinOwn client found (λ s. IsWithinIf (is_same_text publisher s.client) (IsTakenWithin (Publisher publisher) state)) n n
   purges_none publisher =
       own_none client found (λ s. IsWithinIf (is_same_text publisher s.client) (IsTakenWithin (Publisher publisher) state)) n
-      (λ s. if_none (is_same_text publisher s.client) (IsTakenWithin (Publisher publisher) state) n (taken_none (Publisher publisher) state n))
+      (λ s. if_none (is_same_text publisher s.client) (IsTakenWithin (Publisher publisher) state) n
+      (taken_none (Publisher publisher) state n))
 
 pub ask_none : (state : State) (event : Event) (ask : Ask) (n : ℕ) → IsAskWithin state event ask n n
 ask_none state event (Lost id) n = ends_none state event.client (session_with_id id state.sessions) n
@@ -125,7 +126,8 @@ module _ (state : State) (id client : List ℕ) (serial : ℕ) (o : IsOwner stat
   subscribes_within ops w = own_is (λ s. AreOpsWithin state.graph ops) w
 
   pub purges_within : (publisher : List ℕ) → publisher ≡ client → IsTakenWithin (Publisher client) state before after
-      → IsWithinOwn client found (λ s. IsWithinIf (is_same_text publisher s.client) (IsTakenWithin (Publisher publisher) state)) before after
+      → IsWithinOwn client found (λ s. IsWithinIf (is_same_text publisher s.client) (IsTakenWithin (Publisher publisher) state)) before
+      after
   purges_within publisher own w =
       let same : is_same_text publisher o.0.client ≡ true
       = text_same publisher o.0.client (own ∙ sym (own_client state id client serial o)) in

@@ -64,7 +64,8 @@ ready_there a old new pending sessions standing there steady r =
     (λ (x : Standing). key_at new.graph.names x.subscription.region.start ≡ Some x.subscription.search.start)
     (λ (x : Standing). IsUpToDate (sight_now new.graph) x.subscription)
     (λ x k n. there x.subscription n k) pending.gone.items new.standing.items
-    (subst (AllKept (λ (x : Standing). IsUpToDate (sight_now old.graph) x.subscription) pending.gone.items) (sym standing) r.kept) numbers in
+    (subst (AllKept (λ (x : Standing). IsUpToDate (sight_now old.graph) x.subscription) pending.gone.items) (sym standing) r.kept) numbers
+    in
     record {
       ended = rw sessions r.ended;
       ordered = rw (sessions, standing) r.ordered;
@@ -272,7 +273,8 @@ module _ (a : Asking) (old : Parts) (pending : Pending) (serial : ℕ) (readying
   }
 
   -- one error in place of all
-  pub overruns : IsSoundSoFar a old pending → ((s : Session) → session_with_serial serial old.sessions.live ≡ Some s → s.limit < readying.size)
+  pub overruns : IsSoundSoFar a old pending →
+      ((s : Session) → session_with_serial serial old.sessions.live ≡ Some s → s.limit < readying.size)
       → (s : Session) → session_with_serial serial (so_far a old pending).sessions ≡ Some s
       → (next : State) → next ≡ alone_told serial readying.size (so_far a old pending)
       → ◌≡◌ {A = State × Answer} (renew serial next, the_answer.Reply the_reply.Subscribed)

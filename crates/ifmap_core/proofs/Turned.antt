@@ -102,7 +102,8 @@ keeps_there law old new was is rows links numbers sub here kept =
 -- all that stand keep what the graph has, where they kept it and hold their starts
 pub all_there : (old new : Held) → KeepsThere old new → (xs : List Standing)
     → AllByRecursion (λ x. key_at new.names x.subscription.region.start ≡ Some x.subscription.search.start) xs
-    → AllByRecursion (λ x. IsUpToDate (sight_now old) x.subscription) xs → AllByRecursion (λ x. IsUpToDate (sight_now new) x.subscription) xs
+    → AllByRecursion (λ x. IsUpToDate (sight_now old) x.subscription) xs → AllByRecursion (λ x. IsUpToDate (sight_now new) x.subscription)
+    xs
 all_there old new k [] n h = tt
 all_there old new k (x ∷ xs) n h = (k x.subscription n.0 h.0, all_there old new k xs n.1 h.1)
 

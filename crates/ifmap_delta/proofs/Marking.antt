@@ -26,7 +26,8 @@ use Rattle.ifmap_delta.specs.Shown.{goes_on}
 use Rattle.ifmap_delta.specs.Sights.{AreMarks, Links, ViewSeen, is_terminal_in}
 
 -- the region of a search has its marks
-pub marks_are : (g : ViewSeen) (s : Search) (start : ℕ) → IsIdentifier s.start → g.id_at start ≡ Some s.start → (r : Result Region AllocError)
+pub marks_are : (g : ViewSeen) (s : Search) (start : ℕ) → IsIdentifier s.start → g.id_at start ≡ Some s.start →
+    (r : Result Region AllocError)
     → IfOk r (λ region. region.start ≡ start) → IfOk r (λ region. region.max_depth ≡ s.max_depth)
     → IfOk r (λ region. AreDepths (Links g s) (is_terminal_in g s) start s.max_depth (mark_of region.marks.entries))
     → IfOk r (λ region. AreMarks g s region.start region.max_depth (mark_of region.marks.entries))

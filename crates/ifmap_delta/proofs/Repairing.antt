@@ -62,7 +62,8 @@ module _ (tells : Tells) (old new : ViewSeen) (s : Search) (was : IsView old.row
     change_steps from mid to numbers apart repaired bound =
         within_more (one_and_links old new s) (IsNear old new s start) 6 10 from to (omega arith)
         (within_both (one_and_links old new s) (IsNear old new s start) 5 1 from mid to repaired
-        (turned_within (λ v. turns new s v (mark v) (mark' v)) (λ v. length (new.links v)) (one_and_links old new s) (IsNear old new s start)
+        (turned_within (λ v. turns new s v (mark v) (mark' v)) (λ v. length (new.links v)) (one_and_links old new s)
+        (IsNear old new s start)
         numbers mid to (λ v. omega arith) apart turned_near bound))
 
   pub repair_steps : (from to : ℕ) → IsWithin (one_and_links old new s) (IsNear old new s start) 5 from to

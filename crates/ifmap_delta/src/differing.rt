@@ -275,7 +275,8 @@ fn differences_of<G: View, D: View>(
     ensures updated { IfOk result (λ told. told.updated.items ≡ left_out_on
         after.now.search.now.result_filter
         (shown_on (D.rows after.now.view.now) after.now.search.now)
-        (shown_on (G.rows before.now.view.now) before.now.search.now) (items_touched touched.items)) }
+        (shown_on (G.rows before.now.view.now) before.now.search.now)
+        (items_touched touched.items)) }
 {
     let mut told = Told {
         deleted: Vec::new(alloc),

@@ -102,7 +102,8 @@ sight_made mid new rows links names = λ i. record {
 }
 
 pub kept_made : (mid new : Held) (sub : Subscription) → rows_now new ≡ rows_next mid
-    → ((v : ℕ) → links_now new v ≡ links_next mid v) → new.names ≡ mid.names → IsUpToDate (sight_next mid) sub → IsUpToDate (sight_now new) sub
+    → ((v : ℕ) → links_now new v ≡ links_next mid v) → new.names ≡ mid.names → IsUpToDate (sight_next mid) sub → IsUpToDate (sight_now new)
+    sub
 kept_made mid new sub rows links names kept = subst (λ (g : ViewSeen). IsUpToDate g sub) (sight_made mid new rows links names) kept
 
 -- ---- a subscription

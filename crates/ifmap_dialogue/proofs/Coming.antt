@@ -152,7 +152,8 @@ first_is gives client named session copied bytes random event same_client same_s
   given,
   is
       ∙ ap
-      (λ (c : List ℕ). event_of_question (record { client = c; request = Polling copied; bytes = bytes; random = random }) false moment) same_client
+      (λ (c : List ℕ). event_of_question (record { client = c; request = Polling copied; bytes = bytes; random = random }) false moment)
+      same_client
       ∙ ap
       (λ (s : List ℕ).
       event_of_question (record { client = client; request = Polling s; bytes = bytes; random = random }) false moment) same_session,

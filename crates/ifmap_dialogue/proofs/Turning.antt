@@ -29,7 +29,8 @@ use Rattle.ifmap_dialogue.specs.Telling.{tells_more, tells_none}
 -- ---- what an answer is for
 
 -- `Heard` answers no request
-pub not_heard : (event : Event) (request : Request) (the_asked : Asked Event Answer) → event.ask ≡ Asking request → FitsAsked event the_asked
+pub not_heard : (event : Event) (request : Request) (the_asked : Asked Event Answer) → event.ask ≡ Asking request → FitsAsked event
+    the_asked
     → outcome_of the_asked ≢ outcome.Heard
 not_heard event request (asked.Done place (answer.Reply r)) is fits e = cc
 not_heard event request (asked.Done place answer.Held) is fits e = cc
@@ -128,7 +129,8 @@ waits_first gives desk question event first = record {
 }
 
 module _ {H : Type 0} (gives : ℕ → Type 0) (before now after : DeskSeen H) (question : Question) (many : ℕ) (event : Event)
-    (w : Waits gives before now question many event) (turn : Turn) (asks : turn.event ≡ event) (tells : DeskTakesTurns now after (turn ∷ [])) where
+    (w : Waits gives before now question many event) (turn : Turn) (asks : turn.event ≡ event)
+    (tells : DeskTakesTurns now after (turn ∷ [])) where
   pub tells_now : DeskTakesTurns before after (w.turns ++ turn ∷ [])
   tells_now = tells_more before now after w.turns (turn ∷ []) w.tells tells
 

@@ -51,7 +51,8 @@ tells_none desk = record {
 }
 
 -- turns after turns
-pub tells_more : {H : Type 0} (a b c : DeskSeen H) (first then : List Turn) → DeskTakesTurns a b first → DeskTakesTurns b c then → DeskTakesTurns a c (first ++ then)
+pub tells_more : {H : Type 0} (a b c : DeskSeen H) (first then : List Turn) → DeskTakesTurns a b first → DeskTakesTurns b c then →
+    DeskTakesTurns a c (first ++ then)
 tells_more a b c first then p q = record {
   said = subst (λ (l : List Call). Gains a.said c.said l)
       (sym (flat_map-append (λ (turn : Turn). call_of turn.event turn.asked) first then))

@@ -270,7 +270,8 @@ module _ (parts : List Part) (first : ℕ) (is : first ≡ blank_front parts) wh
   contrary : (t : Bool) → t ≡ false → t ≡ true → ⊥
   contrary t f h = let wrong : false ≡ true = sym f ∙ h in cc
 
-  pub no_body_first : is_last_part is_body (drop first parts) ≡ false → is_first is_header (drop first parts) ≡ false → (j : ℕ) (body : Element)
+  pub no_body_first : is_last_part is_body (drop first parts) ≡ false → is_first is_header (drop first parts) ≡ false → (j : ℕ)
+      (body : Element)
       → IsBodyAt parts j body → ⊥
   no_body_first f g j body b = elim b.header [
     | inl blank ↦ contrary (is_last_part is_body (drop first parts)) f (body_is_first j body b blank)
@@ -279,7 +280,8 @@ module _ (parts : List Part) (first : ℕ) (is : first ≡ blank_front parts) wh
   ]
 
   pub no_body_after : is_last_part is_body (drop first parts) ≡ false → (index : ℕ)
-      → index ≡ first + 1 + blank_front (drop (first + 1) parts) → is_last_part is_body (drop index parts) ≡ false → (j : ℕ) (body : Element)
+      → index ≡ first + 1 + blank_front (drop (first + 1) parts) → is_last_part is_body (drop index parts) ≡ false → (j : ℕ)
+      (body : Element)
       → IsBodyAt parts j body → ⊥
   no_body_after f index at g j body b = elim b.header [
     | inl blank ↦ contrary (is_last_part is_body (drop first parts)) f (body_is_first j body b blank)

@@ -46,7 +46,8 @@ module _ {X Y : Type 0} where
   some_single code None check s = fail_single code
   some_single code (Some x) check s = s x
 
-  pub some_done : (code : Code) (o : Option X) (check : X → Check Y) → ((x : X) → IsConclusive (check x)) → IsConclusive (need_some code o check)
+  pub some_done : (code : Code) (o : Option X) (check : X → Check Y) → ((x : X) → IsConclusive (check x)) → IsConclusive
+      (need_some code o check)
   some_done code None check s = fail_done code
   some_done code (Some x) check s = s x
 

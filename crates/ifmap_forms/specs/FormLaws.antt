@@ -52,7 +52,8 @@ number_back n =
     (λ i. if numeral_is_number n i then Some (digits_value 10 (numeral n)) else None) ∙ ap (λ m. Some m) (numeral_value n)
 
 -- no children but white space
-pub blank_children : (scopes : Scopes) (e : Element) → list_all is_white_part (element_parts e) ≡ true → no_children scopes (element_parts e) (Ok tt)
+pub blank_children : (scopes : Scopes) (e : Element) → list_all is_white_part (element_parts e) ≡ true → no_children scopes
+    (element_parts e) (Ok tt)
 blank_children scopes e is = found_after (pass tt) (list_all is_white_part (element_parts e)) Failure (Ok tt) is refl
 
 pub other_children : (scopes : Scopes) (e : Element) → list_all is_white_part (element_parts e) ≡ false

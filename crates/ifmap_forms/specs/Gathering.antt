@@ -49,7 +49,8 @@ module _ {X : Type 0} where
   after_none (Ok xs) = refl
   after_none (Err code) = refl
 
-  after_more : (made more : List X) (found : Result (List X) Code) → after_made (made ++ more) found ≡ after_made made (after_made more found)
+  after_more : (made more : List X) (found : Result (List X) Code) → after_made (made ++ more) found ≡ after_made made
+      (after_made more found)
   after_more made more (Ok xs) = ap ok_list (append_assoc made more xs)
   after_more made more (Err code) = refl
 

@@ -166,7 +166,8 @@ module _ (items : List Item) (first : Shelves) where
     pub waits : (x : Item) → waits_on shelves x ≡ waits_on first x
     pub places : shelves.places ≡ first.places
 
-  pub discarding : AreShelved first → AllByRecursion (λ x. IsSome (slot_of_item first x)) items → DraftsWithin items first → Discarding first 0
+  pub discarding : AreShelved first → AllByRecursion (λ x. IsSome (slot_of_item first x)) items → DraftsWithin items first → Discarding
+      first 0
   discarding shelved there within = record {
     shelved = shelved;
     same = refl;

@@ -234,7 +234,8 @@ brings_unless items s t u p q = record {
 }
 
 -- shelves that had come do not change what is there
-pub there_still : (items : List Item) (s t : Shelves) → BringsShelves items s t → (x : Item) → IsSome (slot_of_item s x) → IsSome (slot_of_item t x)
+pub there_still : (items : List Item) (s t : Shelves) → BringsShelves items s t → (x : Item) → IsSome (slot_of_item s x) → IsSome
+    (slot_of_item t x)
 there_still items s t p x h = subst (λ (o : Option ℕ). IsSome o) (sym (p.places x (other_absent s items x p.absent h))) h
 
 -- who has no shelf is not waited for

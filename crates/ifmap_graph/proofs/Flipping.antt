@@ -77,7 +77,8 @@ module _ (s : Shelves) where
       by false q = absurd (none-some _ q)
 
   -- a shelf whose lists differ has a draft
-  has_draft : (o : Option Shelf) (shelf : Shelf) → o ≡ Some shelf → differ (is_not_empty (list_at now o)) (is_not_empty (list_at next o)) ≡ true
+  has_draft : (o : Option Shelf) (shelf : Shelf) → o ≡ Some shelf → differ (is_not_empty (list_at now o)) (is_not_empty (list_at next o)) ≡
+      true
       → IsSome shelf.stored.draft
   has_draft o shelf e d = by shelf.stored.draft refl
     where
@@ -137,7 +138,8 @@ module _ (s : Shelves) where
         by (Some bt) f rest = (
           differ_numbers at bt (λ q.
               (let r : true ≡ false
-              = sym (one_slot x y at (flip_place (slot_of_item s x) at e) (flip_place (slot_of_item s y) at (f ∙ ap Some (sym q)))) ∙ a.0 in cc)),
+              = sym (one_slot x y at (flip_place (slot_of_item s x) at e) (flip_place (slot_of_item s y) at (f ∙ ap Some (sym q)))) ∙ a.0
+              in cc)),
           rest,
         )
 
@@ -239,9 +241,11 @@ module _ (names : Holdings Identifier) (s t : Shelves) (links later : List (Side
     (old : IsInside names (get s.slots) s.places.entries links)
     (shelved : AreShelved t) (places : t.places ≡ s.places) (ends : (at : ℕ) → ends_at t at ≡ ends_at s at)
     (rows : rows_on_side now t ≡ rows_on_side now s)
-    (changes : List ItemChange) (fits : Fits (rows_on_side now s) changes) (after : IsAfter changes (rows_on_side now s) (rows_on_side next t))
+    (changes : List ItemChange) (fits : Fits (rows_on_side now s) changes)
+    (after : IsAfter changes (rows_on_side now s) (rows_on_side next t))
     (out : AreOut (items_changed changes) t) (kept : KeepsLinks links later)
-    (drafts : (v : ℕ) → (sides_at later v).draft ≡ draft_of t.slots (filter_map (flip_of t) (items_changed changes)) v (sides_at links v).now)
+    (drafts : (v : ℕ) → (sides_at later v).draft ≡ draft_of t.slots (filter_map (flip_of t) (items_changed changes)) v
+    (sides_at links v).now)
   where
     is : IsInside names (get s.slots) t.places.entries links
     is = subst (λ p. IsInside names (get s.slots) p.entries links) (sym places) old

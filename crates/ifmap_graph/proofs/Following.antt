@@ -112,7 +112,8 @@ module _ {X : Type 0} where
   part_of (f ∷ fs) rest e x (inl p) = inl (inl p)
   part_of (f ∷ fs) rest e x (inr h) = elim (part_of fs rest e x h) [ inl a ↦ inl (inr a) | inr b ↦ inr b ]
 
-  rest_rises : (before rest : List (Item × X)) (e : Item × X) → ItemsRise (before ++ e ∷ rest) → AllByRecursion (λ y. item_order e.0 y ≡ Less)
+  rest_rises : (before rest : List (Item × X)) (e : Item × X) → ItemsRise (before ++ e ∷ rest) → AllByRecursion
+      (λ y. item_order e.0 y ≡ Less)
       (map (λ e. e.0) rest)
   rest_rises [] rest e r = (first_rises e rest r).0
   rest_rises (f ∷ fs) rest e r = rest_rises fs rest e (first_rises f (fs ++ e ∷ rest) r).1

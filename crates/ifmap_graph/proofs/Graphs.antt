@@ -92,7 +92,8 @@ module _ {X : Type 0} (list_of : X → List Stored) where
   and_false true = refl
   and_false false = refl
 
-  pub graph_is : (es : List (Item × X)) → ItemsRise es → AllByRecursion (λ e. IsCanonItem e.0) es → AllByRecursion (λ e. IsList (list_of e.1))
+  pub graph_is : (es : List (Item × X)) → ItemsRise es → AllByRecursion (λ e. IsCanonItem e.0) es → AllByRecursion
+      (λ e. IsList (list_of e.1))
       es
       → IsGraph (rows_by list_of es)
   graph_is es r c l = record {

@@ -26,7 +26,8 @@ use Rattle.ifmap_graph.proofs.Graphs.{graph_is}
 use Rattle.ifmap_graph.proofs.Viewed.{alone, apart, each, handled, linked, only}
 
 -- the rows of shelves are those of their entries
-pub rows_shown : (side : StoredSide) (look : ℕ → Option Shelf) (es : List (Item × ℕ)) → rows_by (list_at side) (shown_shelves look es) ≡ rows_by
+pub rows_shown : (side : StoredSide) (look : ℕ → Option Shelf) (es : List (Item × ℕ)) → rows_by (list_at side) (shown_shelves look es) ≡
+    rows_by
     (λ at. list_at side (look at)) es
 rows_shown side look [] = refl
 rows_shown side look (e ∷ es) = ap (λ l. map (row_on e.0) (list_at side (look e.1)) ++ l) (rows_shown side look es)

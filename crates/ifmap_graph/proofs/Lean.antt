@@ -99,7 +99,8 @@ module _ (names later : Holdings Identifier) (s t : Shelves) (links moved : List
       (sym (ap (stored_on x) made.rows) ∙ e))
 
   -- it did not
-  pub unmade_lean : IsUnmade (graph_parts names s links) (graph_parts later t moved) → StaysLean (held_of names s links) (held_of later t moved)
+  pub unmade_lean : IsUnmade (graph_parts names s links) (graph_parts later t moved) → StaysLean (held_of names s links)
+      (held_of later t moved)
   unmade_lean un = same_lean un.shelves.waits (λ x none. un.shelves.places x tt) (λ x none. ap (stored_on x) un.rows)
 
   -- the drafts of these items, which are waited for, came to be the lists

@@ -73,7 +73,11 @@ module _ (joins : ℕ → Option (ℕ × ℕ)) where
           | inr b ↦ let h = mapped_has (pick v) touched seen (has_from _ _ b)
               in let p = picked (after h.0 && not (before h.0)) h.0 (far_of (joins h.0) v) seen h.2
               in let ends : JoinsNumbers joins h.0 v seen.other = far_is h.0 v seen.other (joins h.0) refl p.1
-              in (subst (λ at. JoinsNumbers joins at v seen.other) p.2 ends, ap after (sym p.2) ∙ (both_true (after h.0) (before h.0) p.0).0)
+              in (
+                subst (λ at. JoinsNumbers joins at v seen.other) p.2 ends,
+                ap after (sym p.2) ∙
+                    (both_true (after h.0) (before h.0) p.0).0,
+              )
         ]
 
     new_each : (v w at : ℕ) → JoinsNumbers joins at v w → after at ≡ true → Contains (changed_links joins before after touched links v)

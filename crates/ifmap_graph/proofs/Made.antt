@@ -89,7 +89,8 @@ pub unmade_by : (first : Parts) (mid left : Holdings Identifier) (t : Shelves) (
     → ((v : ℕ) → (sides_at links v).now ≡ (sides_at first.links v).now) → length first.links ≤ length links
     → ((a : Identifier) (own : ℕ) → HasOwn first a own → HasOwn (graph_parts left t links) a own) → BringsShelves [] first.shelves t
     → ((v : ℕ) (a : Identifier) → Names identifier_order first.names v a → Names identifier_order mid v a)
-    → ((v : ℕ) (a : Identifier) → Names identifier_order left v a → Names identifier_order mid v a) → IsUnmade first (graph_parts left t links)
+    → ((v : ℕ) (a : Identifier) → Names identifier_order left v a → Names identifier_order mid v a) → IsUnmade first
+    (graph_parts left t links)
 unmade_by first mid left t links is pool inside bare none rows same longer own brought from into = record {
   inside = inside;
   bare = bare;

@@ -75,7 +75,8 @@ module _ (items : List Item) (marks : List Bool) (names : Holdings Identifier) (
 
     -- the shelf that goes is empty, and nobody waits for it
     pub takes_empty : (links : List (Sides LinkSeen)) → IsInside names (get first.slots) first.places.entries links → AreBare first
-        → (origin : Shelves) → rows_on_side now origin ≡ rows_on_side now first → BringsShelves (flagged_items items marks) origin first → came ≡ true
+        → (origin : Shelves) → rows_on_side now origin ≡ rows_on_side now first → BringsShelves (flagged_items items marks) origin first →
+        came ≡ true
         → HasEmptyShelf s x
     takes_empty links is bare origin rows b t =
         let p = came_here origin b t

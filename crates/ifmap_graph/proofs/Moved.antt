@@ -60,7 +60,8 @@ module _ (look later : ℕ → Option Shelf) (ends : (at : ℕ) → ends_of (lat
   ends_back at v w (inr e) = inr (sym (joined_by (later at) (look at) (ends at)) ∙ e)
 
   -- the lists and the links of one side come to be those of another
-  module _ (side other : StoredSide) (lists : (at : ℕ) → list_at other (later at) ≡ list_at side (look at)) (links moved : ℕ → List LinkSeen)
+  module _ (side other : StoredSide) (lists : (at : ℕ) → list_at other (later at) ≡ list_at side (look at))
+      (links moved : ℕ → List LinkSeen)
       (same : (v : ℕ) → moved v ≡ links v) where
     all_lists : (es : Entries) → AllByRecursion (λ e. IsList (list_at side (look e.1))) es → AllByRecursion
         (λ e. IsList (list_at other (later e.1))) es

@@ -91,7 +91,8 @@ module _ (changes : List ItemChange) (first : Shelves) where
     pub drafted : AllByRecursion (HasDraft s) (items_changed (take i changes))
     pub within : DraftsWithin (items_changed changes) s
     pub apart : IsDistinct same_item (items_changed (drop i changes))
-    pub fresh : AllByRecursion (λ x. stored_on x (rows_on_side next s) ≡ stored_on x (rows_on_side now first)) (items_changed (drop i changes))
+    pub fresh : AllByRecursion (λ x. stored_on x (rows_on_side next s) ≡ stored_on x (rows_on_side now first))
+        (items_changed (drop i changes))
     pub left : (x : Item) → after_on (drop i changes) x (stored_on x (rows_on_side next s)) ≡ after_on changes x
         (stored_on x (rows_on_side now first))
     pub ends : (at : ℕ) → ends_at s at ≡ ends_at first at
@@ -142,14 +143,18 @@ module _ (changes : List ItemChange) (first : Shelves) where
 
     apart_here : AllByRecursion (λ y. same_item c.item y ≡ false) (items_changed (drop (i + 1) changes))
         × IsDistinct same_item (items_changed (drop (i + 1) changes))
-    apart_here = apart_parts c.item (items_changed (drop (i + 1) changes)) (subst (λ l. IsDistinct same_item (items_changed l)) here g.apart)
+    apart_here = apart_parts c.item (items_changed (drop (i + 1) changes))
+        (subst (λ l. IsDistinct same_item (items_changed l)) here g.apart)
 
-    fresh_here : AllByRecursion (λ x. stored_on x (rows_on_side next s) ≡ stored_on x (rows_on_side now first)) (items_changed (c ∷ drop (i + 1) changes))
-    fresh_here = subst (λ l. AllByRecursion (λ x. stored_on x (rows_on_side next s) ≡ stored_on x (rows_on_side now first)) (items_changed l)) here g.fresh
+    fresh_here : AllByRecursion (λ x. stored_on x (rows_on_side next s) ≡ stored_on x (rows_on_side now first))
+        (items_changed (c ∷ drop (i + 1) changes))
+    fresh_here = subst
+        (λ l. AllByRecursion (λ x. stored_on x (rows_on_side next s) ≡ stored_on x (rows_on_side now first)) (items_changed l)) here g.fresh
 
     module _ (t : Shelves) (shelved : AreShelved t) (same : rows_on_side now t ≡ rows_on_side now s)
         (shows : (x : Item) → stored_on x (rows_on_side next t)
-        ≡ cond (is_at (item_order c.item) x) (next_on c.removed c.added (stored_on c.item (rows_on_side now s))) (stored_on x (rows_on_side next s)))
+        ≡ cond (is_at (item_order c.item) x) (next_on c.removed c.added (stored_on c.item (rows_on_side now s)))
+        (stored_on x (rows_on_side next s)))
         (drafts : (x : Item) → HasDraft t x → HasDraft s x ⊎ (is_at (item_order c.item) x ≡ true))
         (kept : (x : Item) → HasDraft s x → HasDraft t x)
         (there : HasDraft t c.item) (ends : (at : ℕ) → ends_at t at ≡ ends_at s at) (waits : (x : Item) → waits_on t x ≡ waits_on s x)

@@ -98,7 +98,8 @@ module _ {T : Type 0} where
       (named_within ws (set ls w.0 (accepted_sides (sides_at ls w.0))) d.2 v n)
 
 -- a draft comes at a place that had none
-pub ready_more : (ways : List (ℕ × List LinkSeen)) (ls xs : List (Sides LinkSeen)) (place : ℕ) → AreExactlyDrafted ways ls → KeepsLinks ls xs
+pub ready_more : (ways : List (ℕ × List LinkSeen)) (ls xs : List (Sides LinkSeen)) (place : ℕ) → AreExactlyDrafted ways ls → KeepsLinks ls
+    xs
     → ((v : ℕ) → v ≢ place → sides_at xs v ≡ sides_at ls v) → (sides_at ls place).draft ≡ None → place < length ls
     → IsSome (sides_at xs place).draft → AreExactlyDrafted (ways ++ (place, []) ∷ []) xs
 ready_more ways ls xs place r k f none within has = record {
@@ -109,7 +110,8 @@ ready_more ways ls xs place r k f none within has = record {
 }
 
 -- the draft at a place that has one changes
-pub ready_still : (ways : List (ℕ × List LinkSeen)) (ls xs : List (Sides LinkSeen)) (place : ℕ) → AreExactlyDrafted ways ls → KeepsLinks ls xs
+pub ready_still : (ways : List (ℕ × List LinkSeen)) (ls xs : List (Sides LinkSeen)) (place : ℕ) → AreExactlyDrafted ways ls → KeepsLinks ls
+    xs
     → ((v : ℕ) → v ≢ place → sides_at xs v ≡ sides_at ls v) → IsSome (sides_at ls place).draft → IsSome (sides_at xs place).draft
     → AreExactlyDrafted ways xs
 ready_still ways ls xs place r k f had has = record {
@@ -134,7 +136,8 @@ pub record Dropping (first : List (Sides LinkSeen)) (ways : List (ℕ × List Li
   pub kept : KeepsLinks first links
   pub left : (v : ℕ) → ((sides_at links v).draft ≡ None) ⊎ IsNamed (drop i ways) v
 
-pub dropping : (first : List (Sides LinkSeen)) (ways : List (ℕ × List LinkSeen)) → AreExactlyDrafted ways first → Dropping first ways first 0
+pub dropping : (first : List (Sides LinkSeen)) (ways : List (ℕ × List LinkSeen)) → AreExactlyDrafted ways first → Dropping first ways first
+    0
 dropping first ways r = record { kept = record { now = λ v. refl; long = refl }; left = r.no_others }
 
 named_here : (ways : List (ℕ × List LinkSeen)) (i : ℕ) (w : ℕ × List LinkSeen) → i < length ways → IsNamed ways (get_or ways i w).0

@@ -106,7 +106,15 @@ module _ (names later : Holdings Identifier) (s t : Shelves) (links moved : List
 
     pub made_waits : AwaitsMore (items_changed changes) (held_of names s links) (held_of later t moved)
     made_waits rest a x =
-        omega (arith, a x, made.waits x, waits_shown names s links x, waits_shown later t moved x, times_append (items_changed changes) rest x)
+        omega (
+          arith,
+          a x,
+          made.waits x,
+          waits_shown names s links x,
+          waits_shown later t moved x,
+          times_append (items_changed changes)
+              rest x,
+        )
 
     more_waits : AwaitsMore [] (held_of names s links) (held_of later t moved)
     more_waits rest a x = let w = made_waits rest a x in omega (arith, w, times_append (items_changed changes) rest x)

@@ -44,7 +44,8 @@ pub stays_there : (look later : ℕ → Option Shelf) (es : Entries) (names othe
     → HasSameShelf (seen_of look es names links) (seen_of later es others moved) x
 stays_there look later es names others links moved f x = by (lookup (is_at (item_order x)) es) refl
   where
-    by : (o : Option ℕ) → lookup (is_at (item_order x)) es ≡ o → HasSameShelf (seen_of look es names links) (seen_of later es others moved) x
+    by : (o : Option ℕ) → lookup (is_at (item_order x)) es ≡ o → HasSameShelf (seen_of look es names links) (seen_of later es others moved)
+        x
     by None e = (refl, seen_none later es others moved x e ∙ sym (seen_none look es names links x e))
     by (Some at) e = (refl, seen_ends later es others moved x at e ∙ f at ∙ sym (seen_ends look es names links x at e))
 
@@ -74,7 +75,8 @@ module _ (look : ℕ → Option Shelf) (es : Entries) (names : Holdings Identifi
         in (
           u.0,
           e,
-          subst (λ o. AreBothEnds o v seen.other) (sym (seen_ends look es names sides u.0 seen.at e)) (two_by (look seen.at) v seen.other p.0),
+          subst (λ o. AreBothEnds o v seen.other) (sym (seen_ends look es names sides u.0 seen.at e))
+              (two_by (look seen.at) v seen.other p.0),
           (λ n. full_some (list_at now (look seen.at)) p.1 (on_slot u.0 seen.at e ∙ n)),
         );
     each = λ x v w at e two full.

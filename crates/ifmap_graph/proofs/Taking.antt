@@ -61,7 +61,8 @@ has_times (k ∷ ks) x i (inl p) e t =
 has_times (k ∷ ks) x i (inr h) e t = has_times ks x i h e (omega (arith, t))
 
 -- on an item without a draft both sides are the same
-pub else_same : (s : Shelves) (x : Item) → AreShelved s → (HasDraft s x → ⊥) → stored_on x (rows_on_side next s) ≡ stored_on x (rows_on_side now s)
+pub else_same : (s : Shelves) (x : Item) → AreShelved s → (HasDraft s x → ⊥) → stored_on x (rows_on_side next s) ≡ stored_on x
+    (rows_on_side now s)
 else_same s x is f = by (slot_of_item s x) refl
   where
     by : (o : Option ℕ) → slot_of_item s x ≡ o → stored_on x (rows_on_side next s) ≡ stored_on x (rows_on_side now s)
@@ -121,7 +122,8 @@ module _ (names : Holdings Identifier) (s t : Shelves) (links moved : List (Side
         ∙ sym (ap (λ l. links_at now (restore_each result.ways l) v) turned);
     slots = links_stay before (links_at now links) (seen_of (get s.slots) s.places.entries names links)
         (seen_of (get t.slots) t.places.entries names moved)
-        (λ x n. subst (λ p. HasSameShelf (seen_of (get s.slots) s.places.entries names links) (seen_of (get t.slots) p.entries names moved) x)
+        (λ x n. subst
+        (λ p. HasSameShelf (seen_of (get s.slots) s.places.entries names links) (seen_of (get t.slots) p.entries names moved) x)
         (sym places)
         (stays_there (get s.slots) (get t.slots) s.places.entries names names links moved ends x))
         (links_by_items (get s.slots) s.places.entries names links before (links_at now links) is.placed is.used

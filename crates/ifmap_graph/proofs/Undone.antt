@@ -156,7 +156,8 @@ module _ (names : Holdings Identifier) (s t : Shelves) (links moved : List (Side
 
   module _ (is : IsInside names (get s.slots) s.places.entries links) (bare : AreBare t) (none : (v : ℕ) → (sides_at links v).draft ≡ None)
       (u : Undo) (rows : List Attachment) (seen : ℕ → List LinkSeen) (back : IsUndoTo u rows seen (held_of names s links))
-      (stands : (x : Item) → stored_on x (rows_on_side now t) ≡ stand_each (items_changed u.plan.changes) u.lists x (stored_on x (rows_on_side now s)))
+      (stands : (x : Item) → stored_on x (rows_on_side now t) ≡ stand_each (items_changed u.plan.changes) u.lists x
+      (stored_on x (rows_on_side now s)))
       (turned : moved ≡ restore_each u.ways links) where
     still_bare : AllByRecursion (λ e. NoDraft (get t.slots e.1)) s.places.entries
     still_bare = subst (λ p. AllByRecursion (λ e. NoDraft (get t.slots e.1)) p.entries) places bare

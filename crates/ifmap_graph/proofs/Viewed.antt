@@ -123,7 +123,8 @@ module _ (list_of : ℕ → List Stored) (entries : List (Item × ℕ)) (id_at :
 
   -- what is stored on a pair stands at a slot that joins its numbers
   placed : (k m : Identifier) → stored_on (Pair k m) rows ≢ [] → (o : Option ℕ) → lookup (is_at (item_order (Pair k m))) entries ≡ o
-      → (at : ℕ) × (v : ℕ) × (w : ℕ) × (joins at ≡ Some (v, w)) × IsNumber id_at v k × IsNumber id_at w m × (is_not_empty (list_of at) ≡ true)
+      → (at : ℕ) × (v : ℕ) × (w : ℕ) × (joins at ≡ Some (v, w)) × IsNumber id_at v k × IsNumber id_at w m ×
+      (is_not_empty (list_of at) ≡ true)
   placed k m n None e = absurd (n (sym (absent list_of (Pair k m) entries e)))
   placed k m n (Some at) e =
       let h = looked_up entries (Pair k m) at e

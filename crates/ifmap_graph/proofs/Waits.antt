@@ -67,7 +67,8 @@ module _ (items : List Item) (first : Shelves) where
     apart_here : AllByRecursion (λ y. same_item x y ≡ false) (drop (i + 1) items) × IsDistinct same_item (drop (i + 1) items)
     apart_here = apart_parts x (drop (i + 1) items) (subst (λ l. IsDistinct same_item l) here g.apart)
 
-    module _ (t : Shelves) (shelved : AreShelved t) (same : rows_on_side now t ≡ rows_on_side now s) (other : rows_on_side next t ≡ rows_on_side next s)
+    module _ (t : Shelves) (shelved : AreShelved t) (same : rows_on_side now t ≡ rows_on_side now s)
+        (other : rows_on_side next t ≡ rows_on_side next s)
         (waits : WaitsFor (x ∷ []) s t)
         (drafts : (y : Item) → HasDraft t y → HasDraft s y) (kept : (y : Item) → HasDraft s y → HasDraft t y)
         (ends : (at : ℕ) → ends_at t at ≡ ends_at s at) (places : t.places ≡ s.places) where

@@ -57,7 +57,8 @@ module _ (names : Holdings Identifier) (s t : Shelves) (links later : List (Side
       (λ rest a. written_waits rest a)
 
 -- ways back stay beside these items, where they stay at first, and beside them then
-pub first_backs : (items : List Item) (old mid new : Held) → ((rest : List Item) → AreAwaited rest old → AreAwaited rest mid) → KeepsBacks old mid
+pub first_backs : (items : List Item) (old mid new : Held) → ((rest : List Item) → AreAwaited rest old → AreAwaited rest mid) → KeepsBacks
+    old mid
     → KeepsOtherBacks items mid new → KeepsOtherBacks items old new
 first_backs items old mid new more one other u rows links waits b = other u rows links (more (items ++ items_changed u.plan.changes) waits)
     (one u rows links b)

@@ -48,7 +48,8 @@ HasDraft s item = (at : ℕ) × (shelf : Shelf) × (slot_of_item s item ≡ Some
 
 -- the shelf of an item has none
 abbrev pub HasNoDraft : Shelves → Item → Type 0
-HasNoDraft s item = (at : ℕ) × (shelf : Shelf) × (slot_of_item s item ≡ Some at) × (get s.slots at ≡ Some shelf) × (shelf.stored.draft ≡ None)
+HasNoDraft s item = (at : ℕ) × (shelf : Shelf) × (slot_of_item s item ≡ Some at) × (get s.slots at ≡ Some shelf) ×
+    (shelf.stored.draft ≡ None)
 
 -- the shelf of an item is empty, with no draft
 abbrev pub HasEmptyShelf : Shelves → Item → Type 0

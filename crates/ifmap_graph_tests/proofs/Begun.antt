@@ -34,7 +34,8 @@ pub begun_by : (old new : Held) (ready : Ready) (plan : Plan) → IsSteady old �
     → KeepsOwn old new → AwaitsMore (items_changed plan.changes) old new → IsBegun ready new
 begun_by old new ready plan steady fits same out after now keeps more = record {
   out = out;
-  waits = subst (λ (p : Plan). AreAwaited (items_changed p.changes) new) (sym same) (awaits_these (items_changed plan.changes) old new more);
+  waits = subst (λ (p : Plan). AreAwaited (items_changed p.changes) new) (sym same)
+      (awaits_these (items_changed plan.changes) old new more);
   before = subst AreWhole (sym now) steady.whole;
   after = whole_after (rows_now old) (rows_next new) plan.changes fits after steady.whole;
   own = λ a. keeps a 0 (steady.own a);

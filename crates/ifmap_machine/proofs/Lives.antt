@@ -44,7 +44,8 @@ use Rattle.ifmap_view.specs.Attachments.{attachment_order, of_one_key}
 
 -- ---- one life
 
-found_mapped : (f : Session → Session) → KeepsIdAndClient f → (n : ℕ) (live : List Session) (s : Session) → session_with_serial n live ≡ Some s
+found_mapped : (f : Session → Session) → KeepsIdAndClient f → (n : ℕ) (live : List Session) (s : Session) → session_with_serial n live ≡
+    Some s
     → session_with_serial n (map f live) ≡ Some (f s)
 found_mapped f k n [] s e = cc
 found_mapped f k n (x ∷ live) s e =

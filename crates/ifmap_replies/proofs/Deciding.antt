@@ -57,7 +57,8 @@ bad_identifier code = Err code
 abbrev good_identifier : Identifier → Result Identifier Code
 good_identifier i = Ok i
 
-checked : (e : Element) (found : Result Identifier IdentError) → IsAnswer e found → found ≢ refused NoMemory → IsConclusive (identifier_check e)
+checked : (e : Element) (found : Result Identifier IdentError) → IsAnswer e found → found ≢ refused NoMemory → IsConclusive
+    (identifier_check e)
 checked e (Ok i) f some = (good_identifier i, f)
 checked e (Err WrongKind) f some = (bad_identifier InvalidIdentifierType, (WrongKind, refl, f))
 checked e (Err Invalid) f some = (bad_identifier InvalidIdentifier, (Invalid, refl, f))
@@ -86,14 +87,16 @@ module _ {X Y : Type 0} (field : Field X) (table : AttributeTable Y) where
       (f scope (value_of field.local e))
 
 module _ {A C : Type 0} (form : Form A C) where
-  form_done : SomeOfTable form.attributes → SomeOfContent form.content → (scopes : Scopes) (e : Element) → IsConclusive (read_form form scopes e)
+  form_done : SomeOfTable form.attributes → SomeOfContent form.content → (scopes : Scopes) (e : Element) → IsConclusive
+      (read_form form scopes e)
   form_done t s scopes e =
       then_done (form.attributes.reads (scopes []) e)
       (λ a. need (has_only (form.passed_over ++ form.attributes.locals) e) Failure
       (check_then (form.content scopes (element_parts e)) (λ c. pass (both a c))))
       (λ a is. need_done (has_only (form.passed_over ++ form.attributes.locals) e) Failure
       (check_then (form.content scopes (element_parts e)) (λ c. pass (both a c)))
-      (then_done (form.content scopes (element_parts e)) (λ c. pass (both a c)) (λ c there. pass_done (both a c)) (s scopes (element_parts e))))
+      (then_done (form.content scopes (element_parts e)) (λ c. pass (both a c)) (λ c there. pass_done (both a c))
+      (s scopes (element_parts e))))
       (t (scopes []) e)
 
 module _ {X A C : Type 0} (form : Form A C) (make : A → C → X) where

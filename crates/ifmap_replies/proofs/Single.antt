@@ -172,7 +172,8 @@ module _ (identifier_one : (e : Element) → IsSingle (identifier_check e)) (env
       found_one e path b.path response b.response (Err code) (Ok answer) envelope b.envelope defect b.checked in
       cc
 
-pub one_meaning : ((bytes : List ℕ) (one other : Reading) → Spells bytes one → Spells bytes other → one ≡ other) → OneReply → OneReplyMeaning
+pub one_meaning : ((bytes : List ℕ) (one other : Reading) → Spells bytes one → Spells bytes other → one ≡ other) → OneReply →
+    OneReplyMeaning
 one_meaning readings replies bytes one other a b =
     replies b.reading.root one other
     (subst (λ (r : Reading). IsReplyOf r.root one) (readings bytes a.reading b.reading a.spelled b.spelled) a.reply) b.reply

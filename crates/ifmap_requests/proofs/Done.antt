@@ -144,7 +144,8 @@ name_done scope (Some text) is =
 limit_done : FieldDone limit_field
 limit_done scope None is = pass_done None
 limit_done scope (Some text) is =
-    some_done Failure (number_of text) (λ n. pass (Some (within_range 10_000 5_000_000 n))) (λ n. pass_done (Some (within_range 10_000 5_000_000 n)))
+    some_done Failure (number_of text) (λ n. pass (Some (within_range 10_000 5_000_000 n)))
+    (λ n. pass_done (Some (within_range 10_000 5_000_000 n)))
 
 depth_done : FieldDone depth_field
 depth_done scope None is = pass_done 0

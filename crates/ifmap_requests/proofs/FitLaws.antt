@@ -319,7 +319,8 @@ module _ (made : MakesMetadata) where
   publish_op_gives : (scopes : Scopes) (e : Element) → AreFitScopes scopes → IsSound level_limit e
       → Gives (publish_op_check scopes e) IsFitOp
   publish_op_gives scopes e f s =
-      or_gives Any ArePublished IsFitOp update_form update_from_form (any_table update_form.attributes) published_gives (λ a c p q. q) scopes
+      or_gives Any ArePublished IsFitOp update_form update_from_form (any_table update_form.attributes) published_gives (λ a c p q. q)
+      scopes
       e f s (form_or notify_form notify_of scopes e (form_or delete_form delete_from_form scopes e (fail Failure)))
       (or_gives Any ArePublished IsFitOp notify_form notify_of (any_table notify_form.attributes) published_gives (λ a c p q. q) scopes
       e f s (form_or delete_form delete_from_form scopes e (fail Failure))

@@ -240,6 +240,7 @@ module _ {X A C : Type 0} (form : Form A C) (make : A → C → X) (scopes : Sco
   pub made_of_form : (a : A) (c : C) → read_form form scopes e (Ok (both a c)) → form_check form make scopes e (Ok (make a c))
   made_of_form a c f = (both a c, f, refl)
 
-  pub refused_form : (error : FormError) → IsCheckRefusal (read_form form scopes e) error → IsCheckRefusal (form_check form make scopes e) error
+  pub refused_form : (error : FormError) → IsCheckRefusal (read_form form scopes e) error → IsCheckRefusal (form_check form make scopes e)
+      error
   refused_form (Named code) f = inl f
   refused_form NoMemory f = tt

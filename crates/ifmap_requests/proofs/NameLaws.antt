@@ -105,7 +105,8 @@ module _ (scopes : Scopes) (e : Element) where
       let n = is_none named_update named_notify named_delete h in
       let r : Result PublishOp FormError = Err (Named Failure) in
       past_form update_form update_from_form scopes e from_notify n.0 r
-      (past_form notify_form notify_of scopes e from_delete n.1 r (past_form delete_form delete_from_form scopes e (fail Failure) n.2 r refl))
+      (past_form notify_form notify_of scopes e from_delete n.1 r
+      (past_form delete_form delete_from_form scopes e (fail Failure) n.2 r refl))
 
 -- ---- 2. operations of a subscribe
 

@@ -72,7 +72,8 @@ fn read_list(
     mut children: Vec<Child>,
     index: usize,
 ) -> Result<Option<Many<Metadata>>, FormError>
-    ensures { IsChecked (list_if_there metadata_check (drop index (parts_in children.items))) result }
+    ensures { IsChecked (list_if_there metadata_check (drop index (parts_in children.items)))
+        result }
 {
     if index >= children.len() {
         return Ok(None);
@@ -86,7 +87,8 @@ fn read_list_child(
     child: Child,
     after: &[Child],
 ) -> Result<Option<Many<Metadata>>, FormError>
-    ensures { IsChecked (list_if_there metadata_check (out-Child child ∷ parts_in after.now)) result }
+    ensures { IsChecked (list_if_there metadata_check (out-Child child ∷ parts_in after.now))
+        result }
 {
     match child {
         Child::Element(element) => {

@@ -133,7 +133,8 @@ fn read_delete(
     place: &Place<'_, '_>,
     element: &Element,
 ) -> Result<PublishOp, FormError>
-    ensures { IsChecked (form_check delete_form delete_from_form (place_scopes place.now.declared.now
+    ensures { IsChecked
+        (form_check delete_form delete_from_form (place_scopes place.now.declared.now
         place.now.path.now place.now.child) element.now) result }
 {
     let filter = read_filter(alloc, place, element, "filter")?;

@@ -103,7 +103,8 @@ fn read_subscription(
 }
 
 fn read_end(alloc: Global, element: &Element) -> Result<SubscribeOp, FormError>
-    ensures { (scopes : Scopes) → IsChecked (form_check end_form end_from_form scopes element.now) result }
+    ensures { (scopes : Scopes) → IsChecked (form_check end_form end_from_form scopes element.now)
+        result }
 {
     let name = read_name(alloc, element)?;
     if !has_only(element, &["name"]) {

@@ -93,12 +93,14 @@ ends_there offset bytes more place h f rest is header b =
     let within = newline_within l.0 (bytes ++ more) f rest l.1 in
     (omega arith, omega arith)
 
-pub too_long_none : (offset : ℕ) (bytes more : List ℕ) (place : ℕ) (h : Header) → IsHeaderLineEnd bytes place → IsHeader (take place bytes) h
+pub too_long_none : (offset : ℕ) (bytes more : List ℕ) (place : ℕ) (h : Header) → IsHeaderLineEnd bytes place → IsHeader (take place bytes)
+    h
     → longest_script < offset + (place + 1 + h.size) → BeginsNone offset (bytes ++ more)
 too_long_none offset bytes more place h is header long f rest b = let e = ends_there offset bytes more place h f rest is header b in
     omega arith
 
-pub too_short_none : (offset : ℕ) (bytes more : List ℕ) (place : ℕ) (h : Header) → IsHeaderLineEnd bytes place → IsHeader (take place bytes) h
+pub too_short_none : (offset : ℕ) (bytes more : List ℕ) (place : ℕ) (h : Header) → IsHeaderLineEnd bytes place → IsHeader
+    (take place bytes) h
     → length (bytes ++ more) < place + 1 + h.size → BeginsNone offset (bytes ++ more)
 too_short_none offset bytes more place h is header short f rest b = let e = ends_there offset bytes more place h f rest is header b in
     omega arith
@@ -196,7 +198,8 @@ long_fault offset (Some rest) pending place h is header long =
     let within = is.within in
     (not_empty_left pending rest (omega arith), too_long_none offset pending rest place h is header long)
 
-module _ (offset : ℕ) (left_old left : Option (List ℕ)) (mid new : List ℕ) (place : ℕ) (h : Header) (took : GrowsFromSource left_old left mid new)
+module _ (offset : ℕ) (left_old left : Option (List ℕ)) (mid new : List ℕ) (place : ℕ) (h : Header)
+    (took : GrowsFromSource left_old left mid new)
     (is : IsHeaderLineEnd mid place) (header : IsHeader (take place mid) h) where
   pub short_none : length new < place + 1 + h.size → BeginsNone offset new
   short_none short =
@@ -217,7 +220,8 @@ module _ (offset : ℕ) (left_old left : Option (List ℕ)) (mid new : List ℕ)
       → IsFramed offset new (record { header = h; start = place + 1; end = place + 1 + h.size })
   whole within ends =
       let early = is.within in
-      let line : IsHeaderLineEnd new place = subst (λ (b : List ℕ). IsHeaderLineEnd b place) (sym took.grown) (line_more mid took.got place is) in
+      let line : IsHeaderLineEnd new place = subst (λ (b : List ℕ). IsHeaderLineEnd b place) (sym took.grown)
+      (line_more mid took.got place is) in
       let front : take place mid ≡ take place new = sym (take-append-le place mid took.got (omega arith))
       ∙ ap (take place) (sym took.grown) in
       framed offset new place (record { header = h; start = place + 1; end = place + 1 + h.size }) line (subst
@@ -226,7 +230,8 @@ module _ (offset : ℕ) (left_old left : Option (List ℕ)) (mid new : List ℕ)
 -- ---- a read that is due
 
 -- the body goes on with as many bytes as are missing
-module _ (offset : ℕ) (left_old left : Option (List ℕ)) (mid new : List ℕ) (place : ℕ) (h : Header) (took : GrowsFromSource left_old left mid new)
+module _ (offset : ℕ) (left_old left : Option (List ℕ)) (mid new : List ℕ) (place : ℕ) (h : Header)
+    (took : GrowsFromSource left_old left mid new)
     (is : IsHeaderLineEnd mid place) (header : IsHeader (take place mid) h) where
   missing : List ℕ
   missing = replicate (place + 1 + h.size - length new) 0
@@ -249,7 +254,8 @@ module _ (offset : ℕ) (left_old left : Option (List ℕ)) (mid new : List ℕ)
         frame = frame_within (record { header = h; start = place + 1; end = place + 1 + h.size }) (new ++ missing) unread;
         more = missing;
         some = λ e. let l : length missing ≡ 0 = ap length e in omega arith;
-        begins = subst (BeginsFrame offset (new ++ missing) _) (drop_all (place + 1 + h.size) (new ++ missing) (omega arith)) (w.begins unread);
+        begins = subst (BeginsFrame offset (new ++ missing) _) (drop_all (place + 1 + h.size) (new ++ missing) (omega arith))
+            (w.begins unread);
       }
 
 nil_right : (a b : List ℕ) → a ++ b ≡ [] → b ≡ []

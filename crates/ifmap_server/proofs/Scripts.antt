@@ -125,7 +125,8 @@ same_frame f g h b m =
 
 -- ---- scripts
 
-pub begins_shorter : (offset : ℕ) (bytes : List ℕ) (f : Frame) (rest : List ℕ) → BeginsFrame offset bytes f rest → length rest < length bytes
+pub begins_shorter : (offset : ℕ) (bytes : List ℕ) (f : Frame) (rest : List ℕ) → BeginsFrame offset bytes f rest → length rest < length
+    bytes
 begins_shorter offset bytes f rest b =
     let text = (begins_with offset bytes f rest b).text in
     omega (arith, ap length text, length-append (line_text (header_of_frame f)) (10 ∷ (f.body ++ rest)), length-append f.body rest)

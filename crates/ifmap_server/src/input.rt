@@ -107,7 +107,8 @@ impl Input {
             GrowsFromSource (S.left source.old) (S.left source.new) self.old self.new
             × IfSome (S.left source.new) (λ rest. (self.new ≢ []) × HasNoLine (self.new ++ rest)) }
         ensures read { result ≡ Err ReplayError.ReadFault →
-            GrowsFromSource (S.left source.old) (S.left source.new) self.old self.new × AwaitsHeaderLine self.new }
+            GrowsFromSource (S.left source.old) (S.left source.new) self.old self.new ×
+            AwaitsHeaderLine self.new }
         ensures rose { result ≡ Err ReplayError.ReadFault
             → Rose (S.faults source.old) (S.faults source.new) }
         ensures cause { result ≢ Err ReplayError.WriteFault }

@@ -194,12 +194,16 @@ impl Replay {
         steps: &mut Steps<L>,
     ) -> Result<Turn, ReplayError>
         ensures turn { IsReplayTurn result
-            (source_and_sink (S.left source.old) (S.faults source.old) (K.held sink.old) (K.faults sink.old))
-            (source_and_sink (S.left source.new) (S.faults source.new) (K.held sink.new) (K.faults sink.new))
+            (source_and_sink (S.left source.old) (S.faults source.old) (K.held sink.old)
+            (K.faults sink.old))
+            (source_and_sink (S.left source.new) (S.faults source.new) (K.held sink.new)
+            (K.faults sink.new))
             self.old self.new }
         ensures later { IsLaterMoment
-            (source_and_sink (S.left source.old) (S.faults source.old) (K.held sink.old) (K.faults sink.old))
-            (source_and_sink (S.left source.new) (S.faults source.new) (K.held sink.new) (K.faults sink.new)) }
+            (source_and_sink (S.left source.old) (S.faults source.old) (K.held sink.old)
+            (K.faults sink.old))
+            (source_and_sink (S.left source.new) (S.faults source.new) (K.held sink.new)
+            (K.faults sink.new)) }
     {
         let Some(framed) = next_frame(alloc, &mut self.input, self.offset, source)? else {
             return Ok(Turn::Ended);
@@ -223,8 +227,10 @@ impl Replay {
     ) -> Result<(), ReplayError>
         requires { self.old ≡ replay_beginning }
         ensures { ReplayPromises result
-            (source_and_sink (S.left source.old) (S.faults source.old) (K.held sink.old) (K.faults sink.old))
-            (source_and_sink (S.left source.new) (S.faults source.new) (K.held sink.new) (K.faults sink.new)) }
+            (source_and_sink (S.left source.old) (S.faults source.old) (K.held sink.old)
+            (K.faults sink.old))
+            (source_and_sink (S.left source.new) (S.faults source.new) (K.held sink.new)
+            (K.faults sink.new)) }
     {
         bodies_have_one_meaning();
         'frames: loop {

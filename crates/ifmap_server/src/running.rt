@@ -24,8 +24,10 @@ use std::sync::ledger::{Blank, Ledger};
 /// output was written. 4 and 5 come only where the object counted a fault.
 pub fn replay<S: Source, K: Sink>(alloc: Global, source: &mut S, sink: &mut K) -> u8
     ensures { Replays result
-        (source_and_sink (S.left source.old) (S.faults source.old) (K.held sink.old) (K.faults sink.old))
-        (source_and_sink (S.left source.new) (S.faults source.new) (K.held sink.new) (K.faults sink.new)) }
+        (source_and_sink (S.left source.old) (S.faults source.old) (K.held sink.old)
+        (K.faults sink.old))
+        (source_and_sink (S.left source.new) (S.faults source.new) (K.held sink.new)
+        (K.faults sink.new)) }
 {
     replay_from::<S, K, Brand>(alloc, source, sink, Blank::new(1))
 }
@@ -40,8 +42,10 @@ fn replay_from<S: Source, K: Sink, L: Ledger>(
     requires parts { blank.parts ≡ L.parts }
     requires some { 0 < blank.parts }
     ensures { Replays result
-        (source_and_sink (S.left source.old) (S.faults source.old) (K.held sink.old) (K.faults sink.old))
-        (source_and_sink (S.left source.new) (S.faults source.new) (K.held sink.new) (K.faults sink.new)) }
+        (source_and_sink (S.left source.old) (S.faults source.old) (K.held sink.old)
+        (K.faults sink.old))
+        (source_and_sink (S.left source.new) (S.faults source.new) (K.held sink.new)
+        (K.faults sink.new)) }
 {
     scripts_agree();
     let mut steps: Steps<L> = Steps::from_blank(blank);

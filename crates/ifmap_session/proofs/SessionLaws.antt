@@ -89,7 +89,8 @@ at_first : (x : Session) (xs : List Session) (c : List ℕ) → AllByRecursion
     → session_of_client c xs ≡ cond (is_same_text x.client c) None (session_of_client c (x ∷ xs))
 at_first x xs c differ =
     elim (cases_Bool (is_same_text x.client c)) [
-      | inl hit ↦ rw hit (find_none (λ (t : Session). is_same_text t.client c) xs (rest_differ (λ (t : Session). t.client) x c xs differ hit))
+      | inl hit ↦ rw hit
+          (find_none (λ (t : Session). is_same_text t.client c) xs (rest_differ (λ (t : Session). t.client) x c xs differ hit))
       | inr miss ↦ rw miss refl
     ]
 
@@ -110,7 +111,8 @@ client_after (x ∷ xs) serial s c up apart e =
           (at_first x xs c apart.0))
       | inr miss ↦
           let there : session_with_serial serial xs ≡ Some s = rw miss at e in
-          let differ : is_same_text x.client s.client ≡ false = all_map_found (λ (t : Session). t.client) (λ k. is_same_text x.client k ≡ false)
+          let differ : is_same_text x.client s.client ≡ false = all_map_found (λ (t : Session). t.client)
+          (λ k. is_same_text x.client k ≡ false)
           (λ (t : Session). t.serial == serial) xs s apart.0 there in
           rw (miss, client_after xs serial s c up.1 apart.1 there)
           (swap_choices (is_same_text x.client c) (is_same_text s.client c) (Some x) None (session_of_client c xs)
@@ -195,7 +197,8 @@ pub client_changed : (n : ℕ) (f : Session → Session) → KeepsIdAndClient f 
     (λ (s : Session). s.serial) (session_of_client c live)
 client_changed n f k c [] = refl
 client_changed n f k c (x ∷ live) =
-    rw (one_changed n f k x) (choose_serial (is_same_text x.client c) (cond (x.serial == n) (f x) x) x (session_of_client c (change n f live))
+    rw (one_changed n f k x)
+    (choose_serial (is_same_text x.client c) (cond (x.serial == n) (f x) x) x (session_of_client c (change n f live))
     (session_of_client c live) (one_numbered n f k x) (client_changed n f k c live))
 
 -- the session that an id names
@@ -206,7 +209,8 @@ with_serial_none [] n id leads none = refl
 with_serial_none (x ∷ xs) n id leads none =
     rw (false_from_ne_true (is_same_text x.id id) (λ e. eqb-false x.serial n none.0 (leads.0 e))) (with_serial_none xs n id leads.1 none.1)
 
-pub id_nowhere : (live : List Session) (n : ℕ) (id : List ℕ) → AllByRecursion (λ (s : Session). is_same_text s.id id ≡ true → s.serial ≡ n) live
+pub id_nowhere : (live : List Session) (n : ℕ) (id : List ℕ) → AllByRecursion (λ (s : Session). is_same_text s.id id ≡ true → s.serial ≡ n)
+    live
     → session_with_serial n live ≡ None → session_with_id id live ≡ None
 id_nowhere live n id leads e = with_serial_none live n id leads (none_passes (λ (s : Session). s.serial == n) live e)
 
@@ -317,7 +321,8 @@ pub live_ids : (rows : List SessionRow) → Own rows → AllByRecursion (λ (s :
 live_ids rows own = all_live (λ s. BeginsWithSerial s.serial s.id) rows (all_weaker
     (λ (r : SessionRow). IfSome r.kept (HasOwnSerial r.serial))
     (λ (r : SessionRow). IfSome r.kept (λ (s : Seat). BeginsWithSerial s.session.serial s.session.id))
-    (λ r h. if_some r.kept (HasOwnSerial r.serial) (λ s. BeginsWithSerial s.session.serial s.session.id) (λ s k. rw k.numbered k.id) h) rows own)
+    (λ r h. if_some r.kept (HasOwnSerial r.serial) (λ s. BeginsWithSerial s.session.serial s.session.id) (λ s k. rw k.numbered k.id) h)
+    rows own)
 
 pub live_up : (rows : List SessionRow) → Up rows → Own rows → IsStrictlySortedBy session_order (live_of rows)
 unfolding IsStrictlySortedBy
@@ -337,7 +342,8 @@ live_up (r ∷ rows) up own = one r.kept own.0 (live_up rows up.1 own.1) where
   one (Some s) h rest = (all_live (λ t. session_order s.session t ≡ Less) rows (above s h.numbered rows up.0 own.1), rest)
 
 -- rows and holders, as they are kept
-pub rows_changed : (counter n : ℕ) (f : Session → Session) (rows : List SessionRow) (i : ℕ) (a b : Seat) → KeepsIdAndClient f → AreRows counter rows
+pub rows_changed : (counter n : ℕ) (f : Session → Session) (rows : List SessionRow) (i : ℕ) (a b : Seat) → KeepsIdAndClient f → AreRows
+    counter rows
     → slice_get rows i ≡ Some (row_of n a) → HasOwnSerial n a → b.session ≡ f a.session → AreRows counter (set rows i (row_of n b))
 rows_changed counter n f rows i a b k kept e own is =
     let live : live_of (set rows i (row_of n b)) ≡ change n f (live_of rows) =
@@ -353,7 +359,8 @@ rows_changed counter n f rows i a b k kept e own is =
       few = rw (live, length_same n f (live_of rows)) kept.few;
     }
 
-pub holders_changed : (n : ℕ) (f : Session → Session) (rows : List SessionRow) (holders : List Holder) (i : ℕ) (a b : Seat) → KeepsIdAndClient f
+pub holders_changed : (n : ℕ) (f : Session → Session) (rows : List SessionRow) (holders : List Holder) (i : ℕ) (a b : Seat) →
+    KeepsIdAndClient f
     → AreOwn rows
     → AreHolders rows holders → slice_get rows i ≡ Some (row_of n a) → b.session ≡ f a.session
     → AreHolders (set rows i (row_of n b)) holders
@@ -467,7 +474,8 @@ pushed_length (z ∷ xs) x = ap (λ m. suc m) (pushed_length xs x)
 pub holders_begun : (n : ℕ) (rows : List SessionRow) (holders holders2 : List Holder) (y : Seat) (j : ℕ) (r : Result ℕ ℕ)
     → AreHolders rows holders
     → session_of_client y.session.client (live_of rows) ≡ None → y.session.serial ≡ n
-    → IsPlaceOf (λ (h : Holder). is_same_text h.client y.session.client) holders r → IfErr r (IsPlaceFor y.session.client holders) → r ≡ Err j
+    → IsPlaceOf (λ (h : Holder). is_same_text h.client y.session.client) holders r → IfErr r (IsPlaceFor y.session.client holders) → r ≡
+    Err j
     → holders2 ≡ insert holders j (record { client = y.session.client; serial = n })
     → AreHolders (rows ++ row_of n y ∷ []) holders2
 holders_begun n rows holders holders2 y j r h none same place gap is entry =

@@ -169,7 +169,8 @@ walk_ends width place stamp old tree node w end = record {
       let o = sym (half_of_none above.0) ∙ z in omega arith
 
 -- what stands at the root is no greater than what stands anywhere
-least_by : (fuel width : ℕ) (tree : List ℕ) → IsTree width tree → (k : ℕ) → k ≤ fuel → 1 ≤ k → k < 2 * width → node_value tree 1 ≤ node_value tree k
+least_by : (fuel width : ℕ) (tree : List ℕ) → IsTree width tree → (k : ℕ) → k ≤ fuel → 1 ≤ k → k < 2 * width → node_value tree 1 ≤
+    node_value tree k
 least_by zero width tree t k few one less = absurd (omega arith)
 least_by (suc fuel) width tree t k few one less =
     elim (cases_lt 1 k) [
@@ -268,7 +269,8 @@ front_two : (p : ℕ → Bool) (a b : ℕ) (xs ys : List ℕ) → filter p xs �
 front_two p a b xs ys e =
     ap (λ zs. cond (p a) (a ∷ cond (p b) (b ∷ zs) zs) (cond (p b) (b ∷ zs) zs)) e
 
-not_due : (tree : List ℕ) (limit x y : ℕ) → is_due tree limit x ≡ false → node_value tree x ≤ node_value tree y → is_due tree limit y ≡ false
+not_due : (tree : List ℕ) (limit x y : ℕ) → is_due tree limit x ≡ false → node_value tree x ≤ node_value tree y → is_due tree limit y ≡
+    false
 not_due tree limit x y e le = grind (arith, nat_tests)
 
 due_below : (tree : List ℕ) (limit : ℕ) (xs : List ℕ) → AllByRecursion (IsLesser tree) xs

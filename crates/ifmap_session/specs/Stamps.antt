@@ -13,7 +13,8 @@ node_value tree node = slice_index_or tree node 0
 -- the second half has a stamp for each place; before it stands at each node from 1 on the lesser of what stands at its two children
 pub record IsTree (width : ℕ) (tree : List ℕ) : Type 0 where
   pub long : length tree ≡ 2 * width
-  pub lesser : (node : ℕ) → 1 ≤ node → node < width → node_value tree node ≡ min (node_value tree (2 * node)) (node_value tree (2 * node + 1))
+  pub lesser : (node : ℕ) → 1 ≤ node → node < width → node_value tree node ≡ min (node_value tree (2 * node))
+      (node_value tree (2 * node + 1))
 
 -- one place has another stamp
 pub record Restamps (width place stamp : ℕ) (old new : List ℕ) : Type 0 where

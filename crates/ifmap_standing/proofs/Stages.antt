@@ -156,7 +156,8 @@ module _ (old new : ViewSeen) (notes : List Note) (skipped : List Bool) (xs : Li
     pub ways_failed : StaysRelated KeepsSame x y → LeadBack xs ways after
     ways_failed same = record {
       long = omega (arith, s.lead.long, ap length so ∙ length-set now n y);
-      each = at_set (λ i. StaysRelated (LeadsBackWhere (slice_get ways i))) (λ i. StaysRelated (LeadsBackWhere (slice_get ways i))) xs now after n x y
+      each = at_set (λ i. StaysRelated (LeadsBackWhere (slice_get ways i))) (λ i. StaysRelated (LeadsBackWhere (slice_get ways i))) xs now
+          after n x y
           s.lead.each before low so
           (subst (λ o. StaysRelated (LeadsBackWhere o) x y) (sym (slice_get_past ways n (omega (arith, s.count)))) same)
           (λ i a b apart r. r);
@@ -188,7 +189,8 @@ module _ (old new : ViewSeen) (notes : List Note) (skipped : List Bool) (xs : Li
           ]
           in record {
             long = omega (arith, low, longer, ap length so ∙ length-set now n y);
-            each = at_set (λ i. StaysRelated (LeadsBackWhere (slice_get ways i))) (λ i. StaysRelated (LeadsBackWhere (slice_get (ways ++ way ∷ []) i)))
+            each = at_set (λ i. StaysRelated (LeadsBackWhere (slice_get ways i)))
+                (λ i. StaysRelated (LeadsBackWhere (slice_get (ways ++ way ∷ []) i)))
                 xs now after n x y s.lead.each before low so
                 (subst (λ o. StaysRelated (LeadsBackWhere o) x y) (sym there) back)
                 (λ i a b apart r. subst (λ o. StaysRelated (LeadsBackWhere o) a b) (sym (same i apart)) r);

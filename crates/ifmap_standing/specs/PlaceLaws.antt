@@ -51,7 +51,8 @@ stands_itself R f x = record { serial = refl; name = refl; subscription = f x.su
 pub kept_itself : (a : List Standing) → AtEach (λ _. StaysRelated KeepsSame) a a
 kept_itself a = at_each_same (λ _. StaysRelated KeepsSame) (λ i. stands_itself KeepsSame keeps_itself) a
 
-pub keep_searches : (old new : List Standing) → AtEach (λ _. StaysRelated KeepsSame) old new → AtEach (λ _. StaysRelated HasSameSearch) old new
+pub keep_searches : (old new : List Standing) → AtEach (λ _. StaysRelated KeepsSame) old new → AtEach (λ _. StaysRelated HasSameSearch) old
+    new
 keep_searches old new keep = record {
   long = keep.long;
   at = λ i x y p q. let s = keep.at i x y p q in record { serial = s.serial; name = s.name; subscription = s.subscription.search };

@@ -56,7 +56,8 @@ pub(crate) fn take_back_one(subscription: &mut Subscription, way: Option<SubUndo
 /// without a mark any more. It takes no memory.
 pub fn settle(standing: &mut [Standing], ways: Ways)
     requires { length ways ≤ length standing.old }
-    ensures { AtEach (λ i. StaysRelated (IsWayGivenUp (slice_get ways i))) standing.old standing.new }
+    ensures { AtEach (λ i. StaysRelated (IsWayGivenUp (slice_get ways i))) standing.old
+        standing.new }
 {
     let mut left = ways.of_each;
     while let Some(way) = left.pop() {

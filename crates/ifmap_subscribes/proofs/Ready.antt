@@ -95,7 +95,8 @@ module _ (law : SameLinks) (old new : Held) (seen_old : IsSeen old) (seen_new : 
   kept_one : (x : Standing) → IsNumbered new x → IsUpToDate (sight_now old) x.subscription → IsUpToDate (sight_now new) x.subscription
   kept_one x e k = law (sight_now old) (sight_now new) x.subscription seen_old seen_new rows links numbers e k
 
-  pub kept_all : (xs : List Standing) → AllByRecursion (IsNumbered new) xs → AllByRecursion (λ x. IsUpToDate (sight_now old) x.subscription) xs
+  pub kept_all : (xs : List Standing) → AllByRecursion (IsNumbered new) xs → AllByRecursion
+      (λ x. IsUpToDate (sight_now old) x.subscription) xs
       → AllByRecursion (λ x. IsUpToDate (sight_now new) x.subscription) xs
   kept_all [] n h = tt
   kept_all (x ∷ xs) n h = (kept_one x n.0 h.0, kept_all xs n.1 h.1)

@@ -110,7 +110,8 @@ module _ (n : ℕ) where
   found_then f k live s e =
       found_changed n f k n live s e ∙ ap (λ b. Some (cond b (f s) s)) (numbered live s e)
 
-pub live_then : (n : ℕ) (f : Session → Session) → KeepsIdAndClient f → (old new : SessionTable) → Changes n f old new → IsLive n old.live → IsLive n new.live
+pub live_then : (n : ℕ) (f : Session → Session) → KeepsIdAndClient f → (old new : SessionTable) → Changes n f old new → IsLive n old.live →
+    IsLive n new.live
 live_then n f k old new c l =
     let there = some_is (session_with_serial n old.live) l in
     subst (IsLive n) (sym c.live) (is_some_of (session_with_serial n (change n f old.live)) (f there.0)

@@ -32,7 +32,8 @@ gone_long gone news long =
 
 module _ (standing : List Standing) (news : List News) (old mid : Tellings)
     (added : (n : ℕ) → AddsTo (queued_for n standing news) (get nat_cmp old n) (get nat_cmp mid n)) where
-  pub mid_within : (live : List Session) → AllByRecursion (λ s. is_overfull s ≡ false) (map (told_by old) live) → AreUntoldWithinLimits mid live
+  pub mid_within : (live : List Session) → AllByRecursion (λ s. is_overfull s ≡ false) (map (told_by old) live) → AreUntoldWithinLimits mid
+      live
   mid_within live within = λ n s found none. queues_within old live within n s found ((added n).kept none)
 
   pub told_all : (live : List Session) → map (λ s. overflow_session (told_by mid s)) live

@@ -55,7 +55,8 @@ module _ (n : ℕ) where
   }
 
 -- who lives goes on to live
-pub live_changed : (n : ℕ) (f : Session → Session) → KeepsIdAndClient f → (old new : SessionTable) → Changes n f old new → (m : ℕ) → IsLive m old.live
+pub live_changed : (n : ℕ) (f : Session → Session) → KeepsIdAndClient f → (old new : SessionTable) → Changes n f old new → (m : ℕ) → IsLive
+    m old.live
     → IsLive m new.live
 live_changed n f k old new c m l =
     let there = some_is (session_with_serial m old.live) l in
@@ -221,16 +222,17 @@ module _ (n : ℕ) (t : Telling) (left less : Tellings) (there : get nat_cmp lef
       room = omega (arith, c.room, so.room);
     }
 
-module _ (tellings : Tellings) (old now : SessionTable) (left : Tellings) (so : TellsOn tellings old now left) (none : left.entries ≡ []) where
-  none_at : (n : ℕ) → get nat_cmp left n ≡ None
-  none_at n = rw none refl
+module _ (tellings : Tellings) (old now : SessionTable) (left : Tellings) (so : TellsOn tellings old now left) (none : left.entries ≡ [])
+  where
+    none_at : (n : ℕ) → get nat_cmp left n ≡ None
+    none_at n = rw none refl
 
-  told_as_is : (live : List Session) → map (told_by left) live ≡ live
-  told_as_is [] = refl
-  told_as_is (s ∷ live) = rw (none_at s.serial, told_as_is live) refl
+    told_as_is : (live : List Session) → map (told_by left) live ≡ live
+    told_as_is [] = refl
+    told_as_is (s ∷ live) = rw (none_at s.serial, told_as_is live) refl
 
-  pub tells_all : now.live ≡ map (told_by tellings) old.live
-  tells_all = sym (told_as_is now.live) ∙ so.live
+    pub tells_all : now.live ≡ map (told_by tellings) old.live
+    tells_all = sym (told_as_is now.live) ∙ so.live
 
-  pub tells_spare : (n : ℕ) → spare_of n old.spare ≤ spare_of n now.spare + count_where (get nat_cmp tellings n)
-  tells_spare n = let nothing : count_where (get nat_cmp left n) ≡ 0 = ap count_where (none_at n) in omega (arith, nothing, so.spare n)
+    pub tells_spare : (n : ℕ) → spare_of n old.spare ≤ spare_of n now.spare + count_where (get nat_cmp tellings n)
+    tells_spare n = let nothing : count_where (get nat_cmp left n) ≡ 0 = ap count_where (none_at n) in omega (arith, nothing, so.spare n)

@@ -253,7 +253,8 @@ published_bounded parts b low h =
 
 publish_bounded : (scopes : Scopes) (e : Element) (op : PublishOp) → nesting e ≤ 61 → publish_op_check scopes e (good op)
     → IsBoundedPublish op
-publish_bounded scopes e op low h = elim (either_found (is_name e.name update_form.name) (form_check update_form update_from_form scopes e) _ op
+publish_bounded scopes e op low h = elim
+    (either_found (is_name e.name update_form.name) (form_check update_form update_from_form scopes e) _ op
     h) [
       | inl found ↦
           let p = form_parts update_form update_from_form scopes e op found in
@@ -262,7 +263,8 @@ publish_bounded scopes e op low h = elim (either_found (is_name e.name update_fo
         | inl found ↦
             let p = form_parts notify_form notify_of scopes e op found in
             subst IsBoundedPublish (sym p.made) (published_bounded (element_parts e) p.others (parts_low 60 e low) p.content)
-        | inr last ↦ elim (either_found (is_name e.name delete_form.name) (form_check delete_form delete_from_form scopes e) (fail Failure) op
+        | inr last ↦ elim
+            (either_found (is_name e.name delete_form.name) (form_check delete_form delete_from_form scopes e) (fail Failure) op
             last) [
               | inl found ↦ let p = form_parts delete_form delete_from_form scopes e op found in subst IsBoundedPublish (sym p.made) tt
               | inr wrong ↦ let apart : good op ≡ bad Failure = wrong in cc

@@ -88,10 +88,12 @@ fn carry_out<S: Source, K: Sink, A: Link, B: Link>(
     requires first { IsFalse first.old.spent }
     requires second { IsFalse second.old.spent }
     ensures { IsCarriedOut (record { client = call.now.client; host = call.now.host })
-        (source_and_ports (S.left source.old) (S.faults source.old) (ports (K.held sink.old) (K.faults sink.old)
+        (source_and_ports (S.left source.old) (S.faults source.old)
+        (ports (K.held sink.old) (K.faults sink.old)
         (wiring A.left A.held A.Source.faults A.Sink.faults first.old)
         (wiring B.left B.held B.Source.faults B.Sink.faults second.old)))
-        (source_and_ports (S.left source.new) (S.faults source.new) (ports (K.held sink.new) (K.faults sink.new)
+        (source_and_ports (S.left source.new) (S.faults source.new)
+        (ports (K.held sink.new) (K.faults sink.new)
         (wiring A.left A.held A.Source.faults A.Sink.faults first.new)
         (wiring B.left B.held B.Source.faults B.Sink.faults second.new))) result }
 {

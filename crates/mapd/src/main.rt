@@ -58,8 +58,10 @@ where
     R: Eprint + AllocGlobal,
     ensures done { IfOk words (λ given. IsRunDone (map string_bytes given.items)
         (exit_status result)
-        (source_and_sink (S.left source.old) (S.faults source.old) (K.held sink.old) (K.faults sink.old))
-        (source_and_sink (S.left source.new) (S.faults source.new) (K.held sink.new) (K.faults sink.new))) }
+        (source_and_sink (S.left source.old) (S.faults source.old) (K.held sink.old)
+        (K.faults sink.old))
+        (source_and_sink (S.left source.new) (S.faults source.new) (K.held sink.new)
+        (K.faults sink.new))) }
     ensures no_memory { IfErr words (λ _. exit_status result ≡ 6) }
 {
     let Ok(words) = words else {
@@ -92,8 +94,10 @@ where
         + RandomSource,
     R: Eprint + AllocGlobal,
     ensures { IsRunDone (map string_bytes words.now) result
-        (source_and_sink (S.left source.old) (S.faults source.old) (K.held sink.old) (K.faults sink.old))
-        (source_and_sink (S.left source.new) (S.faults source.new) (K.held sink.new) (K.faults sink.new)) }
+        (source_and_sink (S.left source.old) (S.faults source.old) (K.held sink.old)
+        (K.faults sink.old))
+        (source_and_sink (S.left source.new) (S.faults source.new) (K.held sink.new)
+        (K.faults sink.new)) }
 {
     match form_of(rt.alloc(), words) {
         Form::Serve { address, workers } => {
@@ -114,8 +118,10 @@ fn run_plainly<R, S: Source, K: Sink, P: Progress>(
 where
     R: Threads + Wait + Sync + time::Clock + AllocGlobal,
     ensures { RunsOver [] (map string_bytes words.now) result
-        (source_and_sink (S.left source.old) (S.faults source.old) (K.held sink.old) (K.faults sink.old))
-        (source_and_sink (S.left source.new) (S.faults source.new) (K.held sink.new) (K.faults sink.new)) }
+        (source_and_sink (S.left source.old) (S.faults source.old) (K.held sink.old)
+        (K.faults sink.old))
+        (source_and_sink (S.left source.new) (S.faults source.new) (K.held sink.new)
+        (K.faults sink.new)) }
 {
     let clock = SystemClock::new(rt);
     let setting = Setting {
@@ -166,8 +172,10 @@ where
         + RandomSource,
     R: Eprint + AllocGlobal,
     ensures { ServesOrBeginsNone workers (map string_bytes words.now) result
-        (source_and_sink (S.left source.old) (S.faults source.old) (K.held sink.old) (K.faults sink.old))
-        (source_and_sink (S.left source.new) (S.faults source.new) (K.held sink.new) (K.faults sink.new)) }
+        (source_and_sink (S.left source.old) (S.faults source.old) (K.held sink.old)
+        (K.faults sink.old))
+        (source_and_sink (S.left source.new) (S.faults source.new) (K.held sink.new)
+        (K.faults sink.new)) }
 {
     let Ok(listener) = TcpListener::bind(rt, address.as_str()) else {
         return tell_cannot_listen(rt);

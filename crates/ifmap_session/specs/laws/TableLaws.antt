@@ -42,7 +42,8 @@ one_less q p (y ∷ ys) x e out =
     ]
 
 -- one ends
-pub ended_table : (serial : ℕ) (table : SessionTable) → IsTable table → IsTable (record table { live = without_sessions (serial ∷ []) table.live })
+pub ended_table : (serial : ℕ) (table : SessionTable) → IsTable table → IsTable
+    (record table { live = without_sessions (serial ∷ []) table.live })
 ended_table serial table h = record {
   rising = IsStrictlySortedBy-filter session_order (remains serial) table.live h.rising;
   counted = all_filter (λ (s : Session). s.serial ≤ table.counter) (remains serial) table.live h.counted;

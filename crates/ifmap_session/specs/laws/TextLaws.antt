@@ -75,14 +75,16 @@ pub distinct_push : {X : Type 0} (key : X → List ℕ) (xs : List X) (y : X) �
 unfolding IsDistinct
 distinct_push key [] y h e = (tt, tt)
 distinct_push key (x ∷ xs) y h e =
-    let none : AllByRecursion (λ z. is_same_text (key z) (key y) ≡ false) (x ∷ xs) = none_passes (λ z. is_same_text (key z) (key y)) (x ∷ xs) e in (
+    let none : AllByRecursion (λ z. is_same_text (key z) (key y) ≡ false) (x ∷ xs) = none_passes (λ z. is_same_text (key z) (key y))
+    (x ∷ xs) e in (
       all_map_push key (λ k. is_same_text (key x) k ≡ false) xs y h.0 none.0,
       distinct_push key xs y h.1 (find_none (λ z. is_same_text (key z) (key y)) xs none.1),
     )
 
 -- none of those that follow has the text of the one before them
 pub rest_differ : {X : Type 0} (key : X → List ℕ) (x : X) (c : List ℕ) (xs : List X) → AllByRecursion
-    (λ k. is_same_text (key x) k ≡ false) (map key xs) → is_same_text (key x) c ≡ true → AllByRecursion (λ z. is_same_text (key z) c ≡ false) xs
+    (λ k. is_same_text (key x) k ≡ false) (map key xs) → is_same_text (key x) c ≡ true → AllByRecursion
+    (λ z. is_same_text (key z) c ≡ false) xs
 rest_differ key x c [] h e = tt
 rest_differ key x c (z ∷ zs) h e =
     (subst (λ k. is_same_text (key z) k ≡ false) (text_is (key x) c e) (text_flip (key z) (key x) ∙ h.0), rest_differ key x c zs h.1 e)

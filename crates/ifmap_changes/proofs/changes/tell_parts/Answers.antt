@@ -38,7 +38,8 @@ queue_news-requires-clause-long g c =
     })
     in let ready = subst (λ (p : Parts). IsSoundSoFar a p before) (sym is) c.requires.ready
     in let stands = c.deref-2.result.now
-    in let same = subst (AtEach (λ _. StaysRelated HasSameSearch) old.standing.items) (sym c.deref-2.ensures.value) c.tell_standing.ensures.same
+    in let same = subst (AtEach (λ _. StaysRelated HasSameSearch) old.standing.items) (sym c.deref-2.ensures.value)
+    c.tell_standing.ensures.same
     in let news = c.in_ok-told.told.news
     in let rows = rows_now old.graph
     in let next = rows_next old.graph
@@ -63,7 +64,8 @@ queue_news-requires-clause-live g c =
     })
     in let ready = subst (λ (p : Parts). IsSoundSoFar a p before) (sym is) c.requires.ready
     in let stands = c.deref-2.result.now
-    in let same = subst (AtEach (λ _. StaysRelated HasSameSearch) old.standing.items) (sym c.deref-2.ensures.value) c.tell_standing.ensures.same
+    in let same = subst (AtEach (λ _. StaysRelated HasSameSearch) old.standing.items) (sym c.deref-2.ensures.value)
+    c.tell_standing.ensures.same
     in let news = c.in_ok-told.told.news
     in let rows = rows_now old.graph
     in let next = rows_next old.graph
@@ -88,7 +90,8 @@ queue_news-requires-clause-alone g c =
     })
     in let ready = subst (λ (p : Parts). IsSoundSoFar a p before) (sym is) c.requires.ready
     in let stands = c.deref-2.result.now
-    in let same = subst (AtEach (λ _. StaysRelated HasSameSearch) old.standing.items) (sym c.deref-2.ensures.value) c.tell_standing.ensures.same
+    in let same = subst (AtEach (λ _. StaysRelated HasSameSearch) old.standing.items) (sym c.deref-2.ensures.value)
+    c.tell_standing.ensures.same
     in let news = c.in_ok-told.told.news
     in let rows = rows_now old.graph
     in let next = rows_next old.graph
@@ -113,7 +116,8 @@ queue_news-requires-clause-skipped g c =
     })
     in let ready = subst (λ (p : Parts). IsSoundSoFar a p before) (sym is) c.requires.ready
     in let stands = c.deref-2.result.now
-    in let same = subst (AtEach (λ _. StaysRelated HasSameSearch) old.standing.items) (sym c.deref-2.ensures.value) c.tell_standing.ensures.same
+    in let same = subst (AtEach (λ _. StaysRelated HasSameSearch) old.standing.items) (sym c.deref-2.ensures.value)
+    c.tell_standing.ensures.same
     in let news = c.in_ok-told.told.news
     in let rows = rows_now old.graph
     in let next = rows_next old.graph
@@ -192,7 +196,8 @@ returns-in-Ok-clause-told g c =
     })
     in let ready = subst (λ (p : Parts). IsSoundSoFar a p before) (sym is) c.requires.ready
     in let stands = c.deref-2.result.now
-    in let same = subst (AtEach (λ _. StaysRelated HasSameSearch) old.standing.items) (sym c.deref-2.ensures.value) c.tell_standing.ensures.same
+    in let same = subst (AtEach (λ _. StaysRelated HasSameSearch) old.standing.items) (sym c.deref-2.ensures.value)
+    c.tell_standing.ensures.same
     in let news = c.in_ok-told.told.news
     in let rows = rows_now old.graph
     in let next = rows_next old.graph

@@ -72,7 +72,8 @@ returns-in_err-comes-clause-grown c =
 
 pub returns-in_err-comes-clause-brought : goal.returns-in_err-comes-clause-brought
 returns-in_err-comes-clause-brought c =
-    subst (λ (l : List Bool). BringsShelves (flagged_items (items_changed c.args.changes.now) l) c.args.shelves.now c.place_missing.new.shelves)
+    subst (λ (l : List Bool). BringsShelves (flagged_items (items_changed c.args.changes.now) l) c.args.shelves.now
+    c.place_missing.new.shelves)
     (sym c.reserve.ensures.items)
     (places_none (items_changed c.args.changes.now) (graph_parts c.args.names.now c.args.shelves.now c.args.links.now.items)
     (graph_parts c.loop-change.names c.loop-change.shelves c.loop-change.links.items)

@@ -24,7 +24,8 @@ take_shelf-requires-clause-empty c =
 
 pub take_shelf-requires-clause-idle : goal.take_shelf-requires-clause-idle
 take_shelf-requires-clause-idle c =
-    takes_idle (items_changed c.args.changes.now) c.args.fresh.now c.args.names.now c.args.shelves.now c.loop-i.names c.loop-i.shelves c.loop-i.i
+    takes_idle (items_changed c.args.changes.now) c.args.fresh.now c.args.names.now c.args.shelves.now c.loop-i.names c.loop-i.shelves
+    c.loop-i.i
     (get_or c.args.changes.now c.loop-i.i c.index-changes-i.result).item (get_or c.args.fresh.now c.loop-i.i false)
     (here_mapped (λ (x : ItemChange). x.item) c.args.changes.now c.loop-i.i c.index-changes-i.result
     (omega (arith, c.loop-i-test.true, c.requires.long)))
@@ -33,7 +34,8 @@ take_shelf-requires-clause-idle c =
 
 pub loop-i-preserved : goal.loop-i-preserved
 loop-i-preserved c =
-    takes_on (items_changed c.args.changes.now) c.args.fresh.now c.args.names.now c.args.shelves.now c.loop-i.names c.loop-i.shelves c.loop-i.i
+    takes_on (items_changed c.args.changes.now) c.args.fresh.now c.args.names.now c.args.shelves.now c.loop-i.names c.loop-i.shelves
+    c.loop-i.i
     (get_or c.args.changes.now c.loop-i.i c.index-changes-i.result).item (get_or c.args.fresh.now c.loop-i.i false)
     (here_mapped (λ (x : ItemChange). x.item) c.args.changes.now c.loop-i.i c.index-changes-i.result
     (omega (arith, c.loop-i-test.true, c.requires.long)))
@@ -43,5 +45,6 @@ loop-i-preserved c =
 
 pub returns-clause-taken : goal.returns-clause-taken
 returns-clause-taken c =
-    taken_all (items_changed c.args.changes.now) c.args.fresh.now c.args.names.now c.args.shelves.now c.loop-i.names c.loop-i.shelves c.loop-i.i
+    taken_all (items_changed c.args.changes.now) c.args.fresh.now c.args.names.now c.args.shelves.now c.loop-i.names c.loop-i.shelves
+    c.loop-i.i
     (omega (arith, c.loop-i-test.false)) c.loop-i.invariant

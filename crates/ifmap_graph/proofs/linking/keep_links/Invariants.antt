@@ -9,4 +9,5 @@ use Rattle.ifmap_graph.proofs.linking.keep_links.Given as goal
 
 abbrev pub invariant-loop-seen : goal.invariant-loop-seen
 invariant-loop-seen l =
-    l.list.items ≡ l.initial.list.items ++ filter (λ (x : LinkSeen). is_not_empty (list_at next (get l.slots x.at))) (take l.seen-index l.links)
+    l.list.items ≡ l.initial.list.items ++ filter (λ (x : LinkSeen). is_not_empty (list_at next (get l.slots x.at)))
+    (take l.seen-index l.links)

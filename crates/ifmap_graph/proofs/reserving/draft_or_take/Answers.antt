@@ -80,7 +80,8 @@ returns-in-Err-clause-unmade c = λ first is grown brought.
     (sym (c.drop_plan.ensures.places ∙ c.draft_and_wait.ensures.places))
     (grown.own a own h)))
     (c.take_shelves.ensures.taken first.shelves
-    (brings_written (flagged_items (items_changed c.args.coming.now.changes.now) c.args.coming.now.fresh.now) first.shelves c.args.shelves.now
+    (brings_written (flagged_items (items_changed c.args.coming.now.changes.now) c.args.coming.now.fresh.now) first.shelves
+    c.args.shelves.now
     c.drop_plan.new.shelves brought
     (c.drop_plan.ensures.places ∙ c.draft_and_wait.ensures.places) (λ at. c.drop_plan.ensures.ends at ∙ c.draft_and_wait.ensures.ends at)
     (λ x. c.drop_plan.ensures.waits x ∙ c.in-Err.ensures.waits x)))

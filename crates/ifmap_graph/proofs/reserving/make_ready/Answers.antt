@@ -19,7 +19,8 @@ take_shelves-requires c = record {
   brought = (
     c.args.shelves.now,
     sym c.place_items.ensures.grown.now,
-    subst (λ (l : List Bool). BringsShelves (flagged_items (items_changed c.args.changes.now) l) c.args.shelves.now c.place_items.new.shelves)
+    subst (λ (l : List Bool). BringsShelves (flagged_items (items_changed c.args.changes.now) l) c.args.shelves.now
+        c.place_items.new.shelves)
         (sym c.deref-in-Err.ensures.value)
         c.place_items.ensures.brought,
   );
@@ -29,7 +30,8 @@ pub returns-in-Ok-clause-made : goal.returns-in-Ok-clause-made
 returns-in-Ok-clause-made c =
     on_ok c.draft_or_take.result
     (λ made. made (graph_parts c.args.names.now c.args.shelves.now c.args.links.now.items) c.place_items.ensures.grown
-    (subst (λ (l : List Bool). BringsShelves (flagged_items (items_changed c.args.changes.now) l) c.args.shelves.now c.place_items.new.shelves)
+    (subst (λ (l : List Bool). BringsShelves (flagged_items (items_changed c.args.changes.now) l) c.args.shelves.now
+    c.place_items.new.shelves)
     (sym c.deref.ensures.value)
     c.place_items.ensures.brought))
     c.draft_or_take.ensures.made
@@ -38,7 +40,8 @@ pub returns-in-Ok-clause-unmade : goal.returns-in-Ok-clause-unmade
 returns-in-Ok-clause-unmade c =
     on_err c.draft_or_take.result
     (λ unmade. unmade (graph_parts c.args.names.now c.args.shelves.now c.args.links.now.items) c.requires.inside c.place_items.ensures.grown
-    (subst (λ (l : List Bool). BringsShelves (flagged_items (items_changed c.args.changes.now) l) c.args.shelves.now c.place_items.new.shelves)
+    (subst (λ (l : List Bool). BringsShelves (flagged_items (items_changed c.args.changes.now) l) c.args.shelves.now
+    c.place_items.new.shelves)
     (sym c.deref.ensures.value)
     c.place_items.ensures.brought))
     c.draft_or_take.ensures.unmade
@@ -54,7 +57,8 @@ returns-clause-unmade c =
     (c.take_shelves.ensures.less.rows ∙ c.place_items.ensures.grown.now) (λ v. ap (λ s. s.now) (c.place_items.ensures.grown.links v))
     c.place_items.ensures.grown.longer (λ a own h. c.take_shelves.ensures.less.own a own (c.place_items.ensures.grown.own a own h))
     (c.take_shelves.ensures.taken c.args.shelves.now
-    (subst (λ (l : List Bool). BringsShelves (flagged_items (items_changed c.args.changes.now) l) c.args.shelves.now c.place_items.new.shelves)
+    (subst (λ (l : List Bool). BringsShelves (flagged_items (items_changed c.args.changes.now) l) c.args.shelves.now
+    c.place_items.new.shelves)
     (sym c.deref-in-Err.ensures.value)
     c.place_items.ensures.brought))
     c.place_items.ensures.grown.kept c.take_shelves.ensures.less.named

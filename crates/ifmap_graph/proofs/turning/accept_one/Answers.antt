@@ -18,5 +18,6 @@ returns-clause-others c = λ x f.
     let g : is_at (item_order c.args.item.now) x ≡ false = ties c.args.item.now x ∙ f
     in (
       c.accept.ensures.kept x g,
-      c.accept.ensures.now x ∙ ap (λ b. stored_on x (cond b (rows_on_side next c.args.shelves.now) (rows_on_side now c.args.shelves.now))) g,
+      c.accept.ensures.now x ∙ ap (λ b. stored_on x (cond b (rows_on_side next c.args.shelves.now) (rows_on_side now c.args.shelves.now)))
+          g,
     )

@@ -16,5 +16,6 @@ returns-clause-now c = λ d list x.
     c.exchange_one.ensures.now x
     ∙ ap (λ (y : ItemChange). cond (is_at (item_order y.item) x) c.index_mut.result.now (stored_on x (rows_on_side now c.args.shelves.now)))
     (get_or_default c.args.changes.now c.args.i c.index-changes-i.result d c.requires.place)
-    ∙ ap (λ l. cond (is_at (item_order (get_or c.args.changes.now c.args.i d).item) x) l (stored_on x (rows_on_side now c.args.shelves.now)))
+    ∙ ap (λ l. cond (is_at (item_order (get_or c.args.changes.now c.args.i d).item) x) l
+    (stored_on x (rows_on_side now c.args.shelves.now)))
     (c.index_mut.ensures.value ∙ get_or_default c.args.lists.now.items c.args.i c.index_mut.result.now list c.requires.room)

@@ -38,7 +38,8 @@ returns-in_err-ops c =
     (read_no_content publish_form scopes e (both c.in_ok-session.session tt)
     (found_alone session_field (scopes []) e c.in_ok-session.session c.in_ok-session.ensures) error
     (sym c.has_only.ensures ∙ c.if-not-has_only.false)
-    (subst (λ (cs : List Child). IsCheckRefusal (list_of publish_op_check scopes (parts_in cs)) error) c.children.view_is c.in_err-ops.ensures)))
+    (subst (λ (cs : List Child). IsCheckRefusal (list_of publish_op_check scopes (parts_in cs)) error) c.children.view_is
+    c.in_err-ops.ensures)))
 
 pub returns : goal.returns
 returns c =

@@ -10,7 +10,8 @@ use Rattle.ifmap_requests.proofs.metadata.read_list.Goals as goal
 pub returns-then-index-len : goal.returns-then-index-len
 returns-then-index-len c =
     let high : length c.args.children.items ≤ c.args.index = omega (arith, c.args.children.ok.0) in
-    subst (λ (parts : List Part). list_if_there metadata_check parts (Ok None)) (sym (no_parts c.args.children.items c.args.index high)) refl
+    subst (λ (parts : List Part). list_if_there metadata_check parts (Ok None)) (sym (no_parts c.args.children.items c.args.index high))
+    refl
 
 pub returns : goal.returns
 returns c =

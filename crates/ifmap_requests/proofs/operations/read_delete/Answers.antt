@@ -43,7 +43,8 @@ returns-in_err-item c =
     let scopes = place_scopes c.args.place.now.declared.now c.args.place.now.path.now c.args.place.now.child in
     let e = c.args.element.now in
     let error = c.in_err-item.field-0.0 in
-    refused_exit (form_check delete_form delete_from_form scopes e) c.from_residual-in_err-item.result error c.from_residual-in_err-item.ensures.1
+    refused_exit (form_check delete_form delete_from_form scopes e) c.from_residual-in_err-item.result error
+    c.from_residual-in_err-item.ensures.1
     (refused_form delete_form delete_from_form scopes e error
     (read_no_content delete_form scopes e (both c.in_ok-filter.filter tt)
     (found_alone (filter_field (codes "filter")) (scopes []) e c.in_ok-filter.filter

@@ -34,7 +34,8 @@ returns-in_err-start c =
     c.from_residual-in_err-start.ensures.1
     (refused_start allowed scope e c.in_ok-bounds.bounds c.in_ok-bounds.ensures c.in_err-start.field-0.0
     (sym c.has_only.ensures ∙ c.if-not-has_only.false)
-    (subst (λ (cs : List Child). IsCheckRefusal (start_check (parts_in cs)) c.in_err-start.field-0.0) c.as_slice.ensures c.in_err-start.ensures))
+    (subst (λ (cs : List Child). IsCheckRefusal (start_check (parts_in cs)) c.in_err-start.field-0.0) c.as_slice.ensures
+    c.in_err-start.ensures))
 
 pub returns : goal.returns
 returns c =

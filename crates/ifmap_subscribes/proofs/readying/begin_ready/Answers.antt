@@ -46,7 +46,8 @@ add_renaming-requires-clause-count g c =
     let now = c.args.wish.now.before in
     let k = c.in_ok-copy.field-0 in
     let is = subst (λ x. IsNameNow s.serial x (told_then s p old) now) (sym c.in_ok-copy.ensures) c.requires.before in
-    (can_add s.serial (told_in_scene s p) old c.make_room.new.readying k now c.requires.can.readied.counted is c.make_room.ensures.noted).count
+    (can_add s.serial (told_in_scene s p) old c.make_room.new.readying k now c.requires.can.readied.counted is
+    c.make_room.ensures.noted).count
 
 pub add_renaming-requires-clause-size : goal.add_renaming-requires-clause-size
 add_renaming-requires-clause-size g c =
@@ -56,7 +57,8 @@ add_renaming-requires-clause-size g c =
     let now = c.args.wish.now.before in
     let k = c.in_ok-copy.field-0 in
     let is = subst (λ x. IsNameNow s.serial x (told_then s p old) now) (sym c.in_ok-copy.ensures) c.requires.before in
-    (can_add s.serial (told_in_scene s p) old c.make_room.new.readying k now c.requires.can.readied.counted is c.make_room.ensures.noted).size
+    (can_add s.serial (told_in_scene s p) old c.make_room.new.readying k now c.requires.can.readied.counted is
+    c.make_room.ensures.noted).size
 
 pub returns-clause-op : goal.returns-clause-op
 returns-clause-op g c =

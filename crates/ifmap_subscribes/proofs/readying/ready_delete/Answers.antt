@@ -28,7 +28,8 @@ add_renaming-requires-clause-count c =
     let now = c.name_now-now.result in
     let k = c.in_ok-copy.field-0 in
     let is = subst (λ x. IsNameNow s.serial x (told_then s p old) now) (sym c.in_ok-copy.ensures) c.name_now-now.ensures in
-    (can_add s.serial (told_in_scene s p) old c.make_room.new.readying k now c.requires.can.readied.counted is c.make_room.ensures.noted).count
+    (can_add s.serial (told_in_scene s p) old c.make_room.new.readying k now c.requires.can.readied.counted is
+    c.make_room.ensures.noted).count
 
 pub add_renaming-requires-clause-size : goal.add_renaming-requires-clause-size
 add_renaming-requires-clause-size c =
@@ -38,7 +39,8 @@ add_renaming-requires-clause-size c =
     let now = c.name_now-now.result in
     let k = c.in_ok-copy.field-0 in
     let is = subst (λ x. IsNameNow s.serial x (told_then s p old) now) (sym c.in_ok-copy.ensures) c.name_now-now.ensures in
-    (can_add s.serial (told_in_scene s p) old c.make_room.new.readying k now c.requires.can.readied.counted is c.make_room.ensures.noted).size
+    (can_add s.serial (told_in_scene s p) old c.make_room.new.readying k now c.requires.can.readied.counted is
+    c.make_room.ensures.noted).size
 
 pub returns-clause-op : goal.returns-clause-op
 returns-clause-op c =
@@ -51,7 +53,8 @@ returns-clause-op c =
     let u = told_then s p old in
     let is = subst (λ x. IsNameNow s.serial x u now) (sym c.in_ok-copy.ensures) c.name_now-now.ensures in
     ap (λ x. drop_name s.serial x u) (sym c.in_ok-own_name.ensures) ∙ ending_drops s.serial own u
-    ∙ sym (told_more s.serial (told_in_scene s p) old c.make_room.new.readying k now c.requires.can.readied.counted is c.make_room.ensures.noted
+    ∙ sym (told_more s.serial (told_in_scene s p) old c.make_room.new.readying k now c.requires.can.readied.counted is
+    c.make_room.ensures.noted
     c.add_renaming.new.readying (ending own) c.add_renaming.ensures)
 
 pub returns-clause-can : goal.returns-clause-can

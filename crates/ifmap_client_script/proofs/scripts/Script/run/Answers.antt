@@ -8,7 +8,8 @@ use Rattle.ifmap_client_script.proofs.scripts.Script.run.Goals as goal
 
 pub lines-init : goal.lines-init
 lines-init g c =
-    let before = source_and_ports (g.S.Source.left c.args.source.now) (g.S.Source.faults c.args.source.now) (g.O.Outlets.seen c.args.outlets.now) in (
+    let before = source_and_ports (g.S.Source.left c.args.source.now) (g.S.Source.faults c.args.source.now)
+    (g.O.Outlets.seen c.args.outlets.now) in (
       begin c.args.caller.now before c.args.self.now c.requires.beginning c.requires.unspent.first c.requires.unspent.second,
       record { sink = refl; first = refl; second = refl },
     )
@@ -20,9 +21,11 @@ turn-requires-clause-unspent g c =
 
 pub lines-preserved : goal.lines-preserved
 lines-preserved g c =
-    let before = source_and_ports (g.S.Source.left c.args.source.now) (g.S.Source.faults c.args.source.now) (g.O.Outlets.seen c.args.outlets.now) in
+    let before = source_and_ports (g.S.Source.left c.args.source.now) (g.S.Source.faults c.args.source.now)
+    (g.O.Outlets.seen c.args.outlets.now) in
     let now = source_and_ports (g.S.Source.left c.lines.source) (g.S.Source.faults c.lines.source) (g.O.Outlets.seen c.lines.outlets) in
-    let after = source_and_ports (g.S.Source.left c.turn.new.source) (g.S.Source.faults c.turn.new.source) (g.O.Outlets.seen c.turn.new.outlets) in (
+    let after = source_and_ports (g.S.Source.left c.turn.new.source) (g.S.Source.faults c.turn.new.source)
+    (g.O.Outlets.seen c.turn.new.outlets) in (
       next c.args.caller.now before now after c.lines.self c.lines.invariant.0 c.turn.new.self c.in-Ok-Carried.ensures.later
           (rw c.in-Ok-Carried.field-0-is at c.in-Ok-Carried.ensures.turns),
       same_then _ _ _ c.lines.invariant.1 c.in-Ok-Carried.ensures.same,
@@ -31,14 +34,17 @@ lines-preserved g c =
 pub lines-smaller : goal.lines-smaller
 lines-smaller g c =
     let now = source_and_ports (g.S.Source.left c.lines.source) (g.S.Source.faults c.lines.source) (g.O.Outlets.seen c.lines.outlets) in
-    let after = source_and_ports (g.S.Source.left c.turn.new.source) (g.S.Source.faults c.turn.new.source) (g.O.Outlets.seen c.turn.new.outlets) in
+    let after = source_and_ports (g.S.Source.left c.turn.new.source) (g.S.Source.faults c.turn.new.source)
+    (g.O.Outlets.seen c.turn.new.outlets) in
     nearer c.args.caller.now now after c.lines.self c.turn.new.self (rw c.in-Ok-Carried.field-0-is at c.in-Ok-Carried.ensures.turns)
 
 pub returns-in-Ok-Ended-clause-carried : goal.returns-in-Ok-Ended-clause-carried
 returns-in-Ok-Ended-clause-carried g c =
-    let before = source_and_ports (g.S.Source.left c.args.source.now) (g.S.Source.faults c.args.source.now) (g.O.Outlets.seen c.args.outlets.now) in
+    let before = source_and_ports (g.S.Source.left c.args.source.now) (g.S.Source.faults c.args.source.now)
+    (g.O.Outlets.seen c.args.outlets.now) in
     let now = source_and_ports (g.S.Source.left c.lines.source) (g.S.Source.faults c.lines.source) (g.O.Outlets.seen c.lines.outlets) in
-    let after = source_and_ports (g.S.Source.left c.turn.new.source) (g.S.Source.faults c.turn.new.source) (g.O.Outlets.seen c.turn.new.outlets) in
+    let after = source_and_ports (g.S.Source.left c.turn.new.source) (g.S.Source.faults c.turn.new.source)
+    (g.O.Outlets.seen c.turn.new.outlets) in
     record {
       promises = done c.args.caller.now before now after c.lines.self c.lines.invariant.0
           (rw c.in-Ok-Ended.field-0-is at c.in-Ok-Ended.ensures.turns);
@@ -50,9 +56,11 @@ returns-in-Ok-Ended-clause-same g c = same_then _ _ _ c.lines.invariant.1 c.in-O
 
 pub returns-in-Err-clause-carried : goal.returns-in-Err-clause-carried
 returns-in-Err-clause-carried g c =
-    let before = source_and_ports (g.S.Source.left c.args.source.now) (g.S.Source.faults c.args.source.now) (g.O.Outlets.seen c.args.outlets.now) in
+    let before = source_and_ports (g.S.Source.left c.args.source.now) (g.S.Source.faults c.args.source.now)
+    (g.O.Outlets.seen c.args.outlets.now) in
     let now = source_and_ports (g.S.Source.left c.lines.source) (g.S.Source.faults c.lines.source) (g.O.Outlets.seen c.lines.outlets) in
-    let after = source_and_ports (g.S.Source.left c.turn.new.source) (g.S.Source.faults c.turn.new.source) (g.O.Outlets.seen c.turn.new.outlets) in
+    let after = source_and_ports (g.S.Source.left c.turn.new.source) (g.S.Source.faults c.turn.new.source)
+    (g.O.Outlets.seen c.turn.new.outlets) in
     let line = ap (λ (t : Scripting). t.line) c.self.view_is ∙ c.in-Err.ensures.line in
     record {
       promises = ends_with c.args.caller.now before now after c.lines.self c.lines.invariant.0 c.turn.new.self c.in-Err.stop

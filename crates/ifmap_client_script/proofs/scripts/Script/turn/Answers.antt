@@ -30,7 +30,8 @@ returns-in-Err-clause-turns g c =
     let s = c.self.inside in
     let b = g.O.Outlets.seen c.args.outlets.now in
     subst
-    (λ (o : Scripting). IsScriptTurn c.args.caller.now (source_and_ports (g.S.Source.left c.args.source.now) (g.S.Source.faults c.args.source.now) b)
+    (λ (o : Scripting). IsScriptTurn c.args.caller.now
+    (source_and_ports (g.S.Source.left c.args.source.now) (g.S.Source.faults c.args.source.now) b)
     (source_and_ports (g.S.Source.left c.next_line.new.source) (g.S.Source.faults c.next_line.new.source) b) o
     (record { client = s.client; pending = c.next_line.new.input; offset = s.offset; line = s.line }) (Err c.in-Err.stop)) c.self.view_is
     (turned_err c.args.caller.now (g.S.Source.left c.args.source.now) (g.S.Source.left c.next_line.new.source)

@@ -30,7 +30,8 @@ drop_plan-requires-clause-there c =
 pub drop_plan-requires-clause-within : goal.drop_plan-requires-clause-within
 drop_plan-requires-clause-within c =
     let q = rw (← c.self.view_is) at c.requires.out
-    in subst (λ l. DraftsWithin (items_changed l) c.self.inside.shelves) (sym (c.deref.ensures.value ∙ ap (λ r. r.plan.changes) c.ready.view_is))
+    in subst (λ l. DraftsWithin (items_changed l) c.self.inside.shelves)
+    (sym (c.deref.ensures.value ∙ ap (λ r. r.plan.changes) c.ready.view_is))
     (are_out c.self.inside.shelves (items_changed c.args.ready.plan.changes) q.drafted q.within q.apart).within
 
 pub drop_plan-requires-clause-ready : goal.drop_plan-requires-clause-ready

@@ -109,7 +109,8 @@ returns-clause-own c = λ a own h.
 pub returns-clause-waits : goal.returns-clause-waits
 returns-clause-waits c = λ rest a.
     c.release_waits.ensures.waits rest
-    (subst (λ l. AreAwaited (items_changed l ++ rest) (held_of c.self.inside.names c.exchange_changes.new.shelves c.restore_all.new.lists.items))
+    (subst (λ l. AreAwaited (items_changed l ++ rest)
+    (held_of c.self.inside.names c.exchange_changes.new.shelves c.restore_all.new.lists.items))
     (sym (c.deref-2.ensures.value ∙ ap (λ r. r.plan.changes) c.undo.view_is))
     (waits_stay_seen c.self.inside.names c.self.inside.shelves c.exchange_changes.new.shelves c.self.inside.links.items
     c.restore_all.new.lists.items
@@ -121,7 +122,8 @@ returns-clause-lean c =
     let b = rw (← c.self.view_is) at c.requires.back
     in rw (← c.self.view_is)
     (λ rest lean. c.release_waits.ensures.lean rest
-    (subst (λ l. IsLean (items_changed l ++ rest) (held_of c.self.inside.names c.exchange_changes.new.shelves c.restore_all.new.lists.items))
+    (subst (λ l. IsLean (items_changed l ++ rest)
+    (held_of c.self.inside.names c.exchange_changes.new.shelves c.restore_all.new.lists.items))
     (sym (c.deref-2.ensures.value ∙ ap (λ r. r.plan.changes) c.undo.view_is))
     (stood_lean c.self.inside.names c.self.inside.names c.self.inside.shelves c.exchange_changes.new.shelves c.self.inside.links.items
     c.restore_all.new.lists.items (items_changed c.args.undo.plan.changes) b.2.waits c.exchange_changes.ensures.waits

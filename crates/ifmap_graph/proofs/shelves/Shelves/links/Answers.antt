@@ -10,5 +10,6 @@ use Rattle.ifmap_lemmas.specs.Filters.{all_pass}
 pub returns : goal.returns
 returns c =
     c.count_entries.ensures
-    ∙ ap (links_among (λ at. list_at now (get c.args.self.now.slots at))) (c.range.ensures.between _ ∙ all_pass c.args.self.now.places.entries)
+    ∙ ap (links_among (λ at. list_at now (get c.args.self.now.slots at)))
+    (c.range.ensures.between _ ∙ all_pass c.args.self.now.places.entries)
     ∙ links_counted (λ at. list_at now (get c.args.self.now.slots at)) c.args.self.now.places.entries c.requires.rising

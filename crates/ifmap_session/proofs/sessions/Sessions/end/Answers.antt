@@ -14,7 +14,8 @@ unwrap-holder-requires c =
     let got = rw c.deref.ensures.value at c.place_in-place.ensures in
     let done = c.end_at-ended.ensures.rows c.args.serial got.0 got.1 in
     let same = c.client.ensures ∙ ap (λ (s : Seat). s.session.client) done.0 in
-    place_is_ok (λ h. is_same_text h.client c.client.result.now) c.deref-2.result.now c.place_of_client.result c.place_of_client.ensures.place
+    place_is_ok (λ h. is_same_text h.client c.client.result.now) c.deref-2.result.now c.place_of_client.result
+    c.place_of_client.ensures.place
     (rw (c.deref-2.ensures.value, same) (holder_is_there c.args.serial c.self.inside.rows.items c.self.inside.holders.items
     c.place_in-place.result got.0 c.self.invariant.sessions.own c.self.invariant.clients got.1))
 

@@ -15,7 +15,8 @@ use Rattle.ifmap_session.proofs.sessions.Sessions.open.Goals as goal
 pub unwrap_err-place-requires : goal.unwrap_err-place-requires
 unwrap_err-place-requires c =
     let none = rw (← c.self.view_is, ← c.opening.view_is) at c.requires.none in
-    place_is_err (λ h. is_same_text h.client c.opening.inside.client) c.deref.result.now c.place_of_client.result c.place_of_client.ensures.place
+    place_is_err (λ h. is_same_text h.client c.opening.inside.client) c.deref.result.now c.place_of_client.result
+    c.place_of_client.ensures.place
     (rw c.deref.ensures.value (no_holder c.self.inside.rows.items c.self.inside.holders.items c.opening.inside.client
     c.self.invariant.clients none))
 
