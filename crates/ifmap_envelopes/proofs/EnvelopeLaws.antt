@@ -233,7 +233,8 @@ module _ (parts : List Part) (first : ℕ) (is : first ≡ blank_front parts) wh
       let there : first ≡ length b.before = is ∙ (ap blank_front b.parts_are ∙ front_of b.before b.after body blank) in
       let rest : drop first parts ≡ part_of body ∷ b.after =
       (λ i. drop (there i) (b.parts_are i)) ∙ drop-append_seam b.before (part_of body ∷ b.after) in
-      ap (is_last_part is_body) rest ∙ close_last is_body (part_of body) b.after (names_itself body.name (envelope_name (codes "Body")) b.named)
+      ap (is_last_part is_body) rest
+      ∙ close_last is_body (part_of body) b.after (names_itself body.name (envelope_name (codes "Body")) b.named)
       b.blank
 
   -- where a header stands before a body, it is the first

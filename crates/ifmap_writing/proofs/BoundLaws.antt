@@ -286,13 +286,14 @@ subscribe_bounded scopes e op h =
             name_bounded (value_of name_field.local e) p.first.first a.0,
             bounded_of p.others p.first.others (search_bounded (scopes []) e p.first.others a.1),
           )
-      | inr later ↦ elim (either_found (is_name e.name end_form.name) (form_check end_form end_from_form scopes e) (fail Failure) op later) [
-        | inl found ↦
-            let p = form_parts end_form end_from_form scopes e op found in
-            let a = beside_parts name_field no_attributes (scopes []) e p.first p.attributes in
-            subst IsBoundedSubscribe (sym p.made) (name_bounded (value_of name_field.local e) p.first.first a.0)
-        | inr wrong ↦ let apart : good op ≡ bad Failure = wrong in cc
-      ]
+      | inr later ↦
+          elim (either_found (is_name e.name end_form.name) (form_check end_form end_from_form scopes e) (fail Failure) op later) [
+            | inl found ↦
+                let p = form_parts end_form end_from_form scopes e op found in
+                let a = beside_parts name_field no_attributes (scopes []) e p.first p.attributes in
+                subst IsBoundedSubscribe (sym p.made) (name_bounded (value_of name_field.local e) p.first.first a.0)
+            | inr wrong ↦ let apart : good op ≡ bad Failure = wrong in cc
+          ]
     ]
 
 module _ (scopes : Scopes) (e : Element) (r : Request) where
