@@ -18,9 +18,10 @@ use Rattle.ifmap_tellings.specs.declared.tellings.Pending.{Pending}
 use Rattle.ifmap_changes.specs.declared.parts.Parts.{Parts}
 use Rattle.ifmap_changes.specs.Between.{AreKept, Asking, HasStartNumber, IsSoundSoFar, IsSteady, sight_now, so_far, starts_of}
 use Rattle.ifmap_changes.specs.Changes.{IsBegun}
-use Rattle.ifmap_changes.proofs.Settling.{SameLinks, ready_after}
+use Rattle.ifmap_changes.proofs.Settling.{ready_after}
 use Rattle.ifmap_standing.specs.PlaceLaws.{kept_itself, keep_searches}
 use Rattle.ifmap_tellings.specs.ToldLaws.{same_itself}
+use Rattle.ifmap_delta.specs.Sights.{SameLinks}
 
 -- ---- what keeps itself
 

@@ -35,7 +35,6 @@ use Rattle.ifmap_changes.specs.Changes.{CanTakeBack, IsBegun, IsTold, sight_next
 use Rattle.ifmap_changes.proofs.Begun.{same_so_far, shared}
 use Rattle.ifmap_changes.proofs.Flags.{kept_later}
 use Rattle.ifmap_changes.proofs.Starts.{numbered_beside, numbered_more, own_beside}
-use Rattle.ifmap_changes.proofs.Numbers.{Tells}
 use Rattle.ifmap_changes.proofs.OneGraph.{one_graph}
 use Rattle.ifmap_changes.proofs.Settling.{same_ordered}
 use Rattle.ifmap_changes.proofs.Steady.{numbered_still}
@@ -43,6 +42,7 @@ use Rattle.ifmap_changes.proofs.Told.{overflow_within}
 use Rattle.ifmap_plans.specs.laws.OnItemLaws.{whole_after}
 use Rattle.ifmap_standing.specs.PlaceLaws.{keep_searches}
 use Rattle.ifmap_graph.specs.NumberLaws.{awaits_these}
+use Rattle.ifmap_ident.specs.SameLaws.{BytesTellIdentifiers}
 
 -- ---- the change is made
 
@@ -127,7 +127,7 @@ module _ (a : Asking) (old : Parts) (before : Pending) (after : Pending) (ready 
   }
 
   module _ (told : IsTold a first before wanted.notes last after) (r : IsSoundSoFar a first before) where
-    pub told_made : Tells → (rows : List Attachment) → IsGraph rows → IsAfter wanted.changes (rows_now old.graph) rows
+    pub told_made : BytesTellIdentifiers → (rows : List Attachment) → IsGraph rows → IsAfter wanted.changes (rows_now old.graph) rows
         → so_far a new after ≡ overflow (tell rows wanted.notes (so_far a old before))
     told_made tells rows graph is =
         let one : rows_next mid ≡ rows = one_graph tells (rows_next mid) rows begun.next.graph graph (λ x. after_now x ∙ sym (is x))
@@ -184,7 +184,8 @@ pub record Forgets (plan : Plan) (old new : Held) : Type 0 where
   pub lean : StaysLeanWithout (items_changed plan.changes) old new
   pub backs : KeepsOtherBacks (items_changed plan.changes) old new
 
-pub given_up : Tells → (old : Parts) (ready : Ready) (wanted : Plan) (mid g : Held) (to : Parts) → IsBegun ready wanted old.graph mid
+pub given_up : BytesTellIdentifiers → (old : Parts) (ready : Ready) (wanted : Plan) (mid g : Held) (to : Parts) → IsBegun ready wanted
+    old.graph mid
     → Forgets wanted mid g → IsSteady old.graph old.standing.items
     → AtEach (λ _. StaysRelated KeepsSame) old.standing.items to.standing.items → HasSameSessions old.sessions to.sessions
     → AreKept old (record { graph = g; sessions = to.sessions; standing = to.standing })

@@ -4,18 +4,14 @@ use Rattle.std.specs.Prelude.{option_map}
 use Rattle.ifmap_changes.specs.Between.{IsSeen}
 use Rattle.ifmap_graph.specs.Held.{Held, IsOwn}
 use Rattle.ifmap_graph.specs.Seen.{BringsNoNumbers}
-use Rattle.ifmap_ident.specs.Canon.{IsIdentifier}
 use Rattle.ifmap_ident.specs.declared.identifiers.Identifier.{Identifier}
 use Rattle.ifmap_ident.specs.Identifiers.{identifier_bytes}
 use Rattle.ifmap_lemmas.specs.Texts.{same_texts}
 use Rattle.ifmap_pool.specs.Holdings.{key_at}
-
--- identifiers of one list of canonical bytes are one
-abbrev pub Tells : Type 0
-Tells = (one other : Identifier) → IsIdentifier one → IsIdentifier other → identifier_bytes one ≡ identifier_bytes other → one ≡ other
+use Rattle.ifmap_ident.specs.SameLaws.{BytesTellIdentifiers}
 
 -- the number of an identifier that somebody holds stays its number
-pub number_stays : Tells → (old new : Held) → IsSeen old → BringsNoNumbers old new → (v : ℕ) (a : Identifier) (n : ℕ)
+pub number_stays : BytesTellIdentifiers → (old new : Held) → IsSeen old → BringsNoNumbers old new → (v : ℕ) (a : Identifier) (n : ℕ)
     → key_at old.names v ≡ Some a → IsOwn new a n → 1 ≤ n → key_at new.names v ≡ Some a
 number_stays tells old new seen fewer v a n here (inl p) some =
     let b : Identifier = p.1.0.0 in

@@ -7,13 +7,12 @@ use Rattle.std.specs.List.Sorted.{IsStrictlySortedBy}
 use Rattle.std.specs.Ordering.{is_eq}
 use Rattle.std.specs.declared.cmp.Ordering.{Ordering}
 use Rattle.std.specs.declared.cmp.Ordering.TheVariants.{Less, Equal, Greater}
-use Rattle.ifmap_changes.proofs.Numbers.{Tells}
 use Rattle.ifmap_ident.specs.Canon.{IsIdentifier}
 use Rattle.ifmap_ident.specs.declared.identifiers.Identifier.{Identifier}
 use Rattle.ifmap_ident.specs.declared.items.Item.{Item}
 use Rattle.ifmap_ident.specs.declared.items.Item.TheVariants.{One, Pair}
 use Rattle.ifmap_ident.specs.Identifiers.{identifier_bytes, same_identifier}
-use Rattle.ifmap_ident.specs.Items.{IsCanonItem, identifiers_of, item_order, same_item}
+use Rattle.ifmap_ident.specs.Items.{IsCanonItem, item_order, same_item}
 use Rattle.ifmap_lemmas.specs.Filters.{all_weaker, filter_none}
 use Rattle.ifmap_lemmas.specs.Orderings.{first_of_less}
 use Rattle.ifmap_lemmas.specs.Texts.{eq_tells}
@@ -23,12 +22,10 @@ use Rattle.ifmap_plans.specs.laws.PlacingLaws.{less_of_greater}
 use Rattle.ifmap_view.specs.declared.attachments.Attachment.{Attachment}
 use Rattle.ifmap_view.specs.Attachments.{IsGraph, attachment_order, stored_order}
 use Rattle.ifmap_view.specs.Rows.{stored_on}
-use Rattle.ifmap_ident.specs.SameLaws.{item_itself, greater_differs}
+use Rattle.ifmap_ident.specs.SameLaws.{item_itself, greater_differs, BytesTellIdentifiers}
+use Rattle.ifmap_fresh.specs.laws.SameLaws.{AreCanon}
 
-abbrev AreCanon : Item → Type 0
-AreCanon x = AllByRecursion IsIdentifier (identifiers_of x)
-
-module _ (tells : Tells) where
+module _ (tells : BytesTellIdentifiers) where
   one_identifier : (a b : Identifier) → IsIdentifier a → IsIdentifier b → same_identifier a b ≡ true → a ≡ b
   one_identifier a b p q e = tells a b p q (eq_tells (identifier_bytes a) (identifier_bytes b) e)
 
@@ -95,7 +92,7 @@ rest_alike a xs ys same x =
       | inr miss ↦ rw miss at (same x)
     ]
 
-module _ (tells : Tells) where
+module _ (tells : BytesTellIdentifiers) where
   alike_same : (xs ys : List Attachment) → AllByRecursion (λ r. IsCanonItem r.item) xs → AllByRecursion (λ r. IsCanonItem r.item) ys
       → IsStrictlySortedBy attachment_order xs → IsStrictlySortedBy attachment_order ys → Alike xs ys → xs ≡ ys
   unfolding IsStrictlySortedBy

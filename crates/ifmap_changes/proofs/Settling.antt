@@ -9,15 +9,13 @@ use Rattle.ifmap_changes.specs.Changes.{CanTakeBack}
 use Rattle.ifmap_changes.specs.declared.changes.Made.{Made}
 use Rattle.ifmap_changes.specs.declared.parts.Parts.{Parts}
 use Rattle.ifmap_changes.proofs.EachPlace.{same_all, same_map, weaker}
-use Rattle.ifmap_changes.proofs.Numbers.{Tells}
 use Rattle.ifmap_changes.proofs.Steady.{HaveSameSearches, steady_after}
-use Rattle.ifmap_delta.specs.Sights.{IsUpToDate, ViewSeen}
+use Rattle.ifmap_delta.specs.Sights.{IsUpToDate, ViewSeen, SameLinks}
 use Rattle.ifmap_delta.specs.Ways.{HasSameSearch}
 use Rattle.ifmap_delta.specs.declared.subscriptions.Subscription.{Subscription}
 use Rattle.ifmap_graph.specs.Held.{Held}
 use Rattle.ifmap_graph.specs.Out.{items_changed}
 use Rattle.ifmap_graph.specs.Seen.{BringsNoNumbers, IsStill, KeepsOwn, StaysLeanWithout, links_now, rows_now}
-use Rattle.ifmap_ident.specs.declared.identifiers.Identifier.{Identifier}
 use Rattle.ifmap_lemmas.specs.Places.{all_got, present}
 use Rattle.ifmap_machine.specs.State as machine
 use Rattle.ifmap_machine.specs.State.{standing_in, standing_order}
@@ -26,23 +24,16 @@ use Rattle.ifmap_plans.specs.Plans.{AreWhole}
 use Rattle.ifmap_pool.specs.Holdings.{key_at}
 use Rattle.ifmap_session.specs.Sessions.{IsLive, Session}
 use Rattle.ifmap_standing.specs.declared.standing.Standing.{Standing}
-use Rattle.ifmap_standing.specs.Kept.{AtEach, KeepsSame, StaysRelated}
+use Rattle.ifmap_standing.specs.Kept.{AtEach, KeepsSame, StaysRelated, StaysSame}
 use Rattle.ifmap_standing.specs.Standing.{standing_of}
 use Rattle.ifmap_standing.specs.Ways.{IsWayGivenUp, LeadsBackWhere, Way}
 use Rattle.ifmap_tellings.specs.declared.tellings.Pending.{Pending}
 use Rattle.ifmap_tellings.specs.Tellings.{AllKept, CanTell, EachTelling, HasSameSessions, IsSized, kept_of, told_by}
 use Rattle.ifmap_view.specs.declared.attachments.Attachment.{Attachment}
-use Rattle.ifmap_view.specs.Views.{IsView}
 use Rattle.ifmap_standing.specs.PlaceLaws.{leads_search}
 use Rattle.ifmap_tellings.specs.ToldLaws.{same_kept}
 use Rattle.ifmap_graph.specs.NumberLaws.{numbers_shared}
-
--- the laws on what subscriptions keep
-abbrev pub SameLinks : Type 0
-SameLinks = (one other : ViewSeen) (sub : Subscription) → IsView one.rows one.id_at one.links → IsView other.rows other.id_at other.links
-    → other.rows ≡ one.rows → ((v : ℕ) → other.links v ≡ one.links v)
-    → ((v : ℕ) (a b : Identifier) → one.id_at v ≡ Some a → other.id_at v ≡ Some b → b ≡ a)
-    → other.id_at sub.region.start ≡ Some sub.search.start → IsUpToDate one sub → IsUpToDate other sub
+use Rattle.ifmap_ident.specs.SameLaws.{BytesTellIdentifiers}
 
 abbrev pub StaysSettled : Type 0
 StaysSettled = (g : ViewSeen) (way : Option (Option Way)) (old new : Subscription) → IsWayGivenUp way old new → IsUpToDate g old →
@@ -165,7 +156,7 @@ ready_after a old new pending same searches kept r =
 
 -- ---- all is back
 
-pub are_back : Tells → (made : Made) (before old new : Parts) → IsSeen old.graph → IsSteady old.graph old.standing.items
+pub are_back : BytesTellIdentifiers → (made : Made) (before old new : Parts) → IsSeen old.graph → IsSteady old.graph old.standing.items
     → AreParts before → CanTakeBack made before old → IsStill new.graph
     → rows_now new.graph ≡ rows_now before.graph → ((v : ℕ) → links_now new.graph v ≡ links_now before.graph v)
     → BringsNoNumbers old.graph new.graph → KeepsOwn old.graph new.graph
@@ -193,9 +184,6 @@ are_back tells made before old new seen s parts can still rows links fewer own l
     }
 
 -- ---- what is back is sound
-
-abbrev pub StaysSame : Type 0
-StaysSame = (g : ViewSeen) (old new : Subscription) → KeepsSame old new → IsUpToDate g old → IsUpToDate g new
 
 pub sound_back : SameLinks → StaysSame → (old new : Parts) → IsSeen old.graph → IsSeen new.graph → AreParts old → AreBack old new
     → AreParts new

@@ -23,9 +23,9 @@ use Rattle.ifmap_changes.specs.declared.parts.Parts.{Parts}
 use Rattle.ifmap_changes.specs.Between.{Asking, IsSteady, sight_now, so_far}
 use Rattle.ifmap_changes.specs.Bounds.{IsEndedWithin, IsTakenWithin, IsToldWithin, IsWithinAll, IsWithinOne}
 use Rattle.ifmap_changes.specs.Changes.{IsBegun, sight_next}
-use Rattle.ifmap_changes.proofs.Numbers.{Tells}
 use Rattle.ifmap_changes.proofs.OneGraph.{one_graph}
 use Rattle.ifmap_changes.proofs.Starts.{numbered_more}
+use Rattle.ifmap_ident.specs.SameLaws.{BytesTellIdentifiers}
 
 module _ (old new : ViewSeen) where
   -- from more steps at the beginning
@@ -57,7 +57,7 @@ module _ (old new : ViewSeen) where
       (s.0, (x.subscription.region.start, numbered.0, s.1), within_kept gone xs s.0 b numbered.1 s.2)
 
 -- a change that is out was told to all that stand
-pub told_within : Tells → (a : Asking) (old : Parts) (before : Pending) (ready : Ready) (wanted : Plan) (mid : Held)
+pub told_within : BytesTellIdentifiers → (a : Asking) (old : Parts) (before : Pending) (ready : Ready) (wanted : Plan) (mid : Held)
     → IsBegun ready wanted old.graph mid → IsSteady old.graph old.standing.items → (from to : ℕ)
     → IsWithinEach (sight_now mid) (sight_next mid) (zip before.gone.items old.standing.items) from to
     → (rows : List Attachment) → IsGraph rows → IsAfter wanted.changes (rows_now old.graph) rows

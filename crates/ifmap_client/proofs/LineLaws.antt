@@ -6,18 +6,14 @@ use Rattle.ifmap_elem.specs.declared.elements.Element.{Element}
 use Rattle.ifmap_elem.specs.declared.readings.Reading.{Reading}
 use Rattle.ifmap_ident.specs.declared.codes.Code.{Code}
 use Rattle.ifmap_reader.specs.Reads.{IsUnreadable}
-use Rattle.ifmap_requests.specs.Laws.{OneRequest}
+use Rattle.ifmap_requests.specs.Laws.{OneRequest, OneReading}
 use Rattle.ifmap_requests.specs.Means.{IsFoundAtPath, IsRequest, scopes_from}
 use Rattle.ifmap_requests.specs.RequestForms.{request_check}
 use Rattle.ifmap_requests.specs.declared.requests.Request.{Request}
-use Rattle.ifmap_client.specs.Lines.{IsForm, IsLine, IsReadRequest, IsRequestAnswer, NamesSet, OneLine, SpellsRequest, line_levels}
+use Rattle.ifmap_client.specs.Lines.{IsForm, IsReadRequest, IsRequestAnswer, NamesSet, OneLine, SpellsRequest, line_levels}
 use Rattle.ifmap_client.specs.declared.lines.Line.{Line}
 use Rattle.ifmap_client.specs.declared.lines.Line.TheVariants as the_line
 use Rattle.ifmap_client.proofs.Fronts.{black_spelled, nothing_spelled}
-
--- bytes spell one element at most
-abbrev pub OneSpelled : Type 0
-OneSpelled = (bytes : List ℕ) (one other : Reading) → Spells bytes one → Spells bytes other → one ≡ other
 
 -- what is found of the root of a reading is found of one element
 pub root_finds : OneRequest → (r : Reading) (one other : Result Request Code) → IsFoundAtPath r [] one → IsFoundAtPath r [] other → one ≡
@@ -46,7 +42,7 @@ no_blank_set bytes name none l = let q : [] ≡ 115 ∷ (codes "et " ++ name) = 
 one_name : (bytes a b : List ℕ) → NamesSet bytes a → NamesSet bytes b → a ≡ b
 one_name bytes a b l m = let q : codes "set " ++ a ≡ codes "set " ++ b = sym l.bytes_are ∙ m.bytes_are in cc
 
-module _ (spelled : OneSpelled) (found : OneRequest) where
+module _ (spelled : OneReading) (found : OneRequest) where
   one_request : (bytes : List ℕ) (a b : Request) → SpellsRequest bytes a → SpellsRequest bytes b → a ≡ b
   one_request bytes a b l m =
       let same : m.reading ≡ l.reading = spelled bytes m.reading l.reading m.spelled l.spelled in
@@ -70,7 +66,7 @@ module _ (spelled : OneSpelled) (found : OneRequest) where
 
 -- ---- what bytes that were read are
 
-module _ (spelled : OneSpelled) (bytes : List ℕ) (reading : Reading) (read : Spells bytes reading)
+module _ (spelled : OneReading) (bytes : List ℕ) (reading : Reading) (read : Spells bytes reading)
     (shallow : nesting reading.root ≤ line_levels) where
   pub request_answer : {E : Type 0} (r : Result (Option Request) E) → IsReadRequest reading r → IsRequestAnswer bytes r
   request_answer (Ok (Some request)) h = record { reading = reading; spelled = read; shallow = shallow; means = h }

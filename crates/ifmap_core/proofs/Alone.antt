@@ -12,7 +12,6 @@ use Rattle.std.specs.Ordering.{nat_cmp}
 use Rattle.ifmap_changes.specs.Between.{AreWithinLimits, Asking, IsSoundSoFar, IsWithinLimit, rest_of, sessions_left, so_far}
 use Rattle.ifmap_changes.specs.declared.parts.Parts.{Parts}
 use Rattle.ifmap_core.specs.Outcomes.{alone_told}
-use Rattle.ifmap_core.proofs.Ended.{remains}
 use Rattle.ifmap_core.proofs.Places.{Rises, kept_fewer}
 use Rattle.ifmap_core.proofs.Subscribed.{live_left}
 use Rattle.ifmap_core.proofs.Told.{one_numbered, told_by_leaves}
@@ -33,6 +32,7 @@ use Rattle.ifmap_tellings.specs.declared.tellings.Pending.{Pending}
 use Rattle.ifmap_tellings.specs.declared.tellings.Telling.{Telling}
 use Rattle.ifmap_tellings.specs.declared.tellings.Telling.TheVariants.{After, Alone}
 use Rattle.ifmap_tellings.specs.Tellings.{AllKept, AloneAreBare, CanTell, EachTelling, HasSameSessions, IsSized, Tellings, is_alone, kept_of, told_by, told_where}
+use Rattle.ifmap_session.specs.laws.TableLaws.{is_left}
 
 abbrev pub error_of : ℕ → ℕ → PollItem
 error_of size limit = the_item.Error None PollResultsTooBig (limit_note size limit)
@@ -112,7 +112,7 @@ module _ (a : Asking) (old new : Parts) (before after : Pending) (n size : ℕ) 
   told_now =
       ap (λ (l : List Session). map (told_by after.tellings) (without_sessions a.ended l)) sessions.live
       ∙ told_each n size before.tellings after.tellings old.sessions.live told others there.0 there.1 (sessions_left a old.sessions)
-      (all_filter (λ (x : Session). (x.serial == n) ≡ true → x ≡ there.0) (remains a.ended) old.sessions.live
+      (all_filter (λ (x : Session). (x.serial == n) ≡ true → x ≡ there.0) (is_left a.ended) old.sessions.live
       (one_numbered n old.sessions.live there.0 up there.1))
 
   pub alone_so_far : map standing_of (kept_of after.gone.items old.standing.items)

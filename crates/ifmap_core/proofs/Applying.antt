@@ -11,7 +11,7 @@ use Rattle.std.specs.Option.{IfSome}
 use Rattle.std.specs.declared.cmp.Ordering.TheVariants.{Less}
 use Rattle.ifmap_changes.specs.Between.{AreOrdered, AreWithinLimits, CanEnd, IsWithinLimit}
 use Rattle.ifmap_core.specs.Outcomes.{after_former, first_renewed, poll_answer, poll_found}
-use Rattle.ifmap_core.proofs.Ended.{live_beside, remains, without_each, without_none}
+use Rattle.ifmap_core.proofs.Ended.{live_beside, without_each, without_none}
 use Rattle.ifmap_lemmas.specs.Filters.{all_filter, all_weaker}
 use Rattle.ifmap_lemmas.specs.Members.{both_all, all_two}
 use Rattle.ifmap_lemmas.specs.Numbers.{is_other}
@@ -25,7 +25,7 @@ use Rattle.ifmap_replies.specs.declared.replies.Reply.TheVariants as the_reply
 use Rattle.ifmap_search.specs.declared.results.PollItem.{PollItem}
 use Rattle.ifmap_search.specs.Sizes.{queue_size}
 use Rattle.ifmap_session.specs.Sessions.{IsLive, Opening, Session, change, session_from, session_order, session_with_serial, with_last, without_items, without_sessions}
-use Rattle.ifmap_session.specs.laws.TableLaws.{KeepsIdAndClient, changed_one, found_beside_begun, found_changed, renewed_keeps, found_serial}
+use Rattle.ifmap_session.specs.laws.TableLaws.{KeepsIdAndClient, changed_one, found_beside_begun, found_changed, renewed_keeps, found_serial, is_left}
 use Rattle.ifmap_standing.specs.declared.standing.Standing.{Standing}
 use Rattle.ifmap_standing.specs.Standing.{standing_of}
 
@@ -55,7 +55,7 @@ within_first true n moment live h = h
 within_first false n moment live h = within_renewed n moment live h
 
 pub within_left : (serials : List ℕ) (live : List Session) → AreWithinLimits live → AreWithinLimits (without_sessions serials live)
-within_left serials live h = all_filter IsWithinLimit (remains serials) live h
+within_left serials live h = all_filter IsWithinLimit (is_left serials) live h
 
 pub within_former : (former : Option ℕ) (live : List Session) → AreWithinLimits live → AreWithinLimits (after_former former live)
 within_former None live h = h
@@ -197,7 +197,7 @@ lived n serials (x ∷ live) l =
     elim (cases_Bool (x.serial == n)) [
       | inl hit ↦ rw hit refl
       | inr miss ↦
-          elim (cases_Bool (remains serials x)) [
+          elim (cases_Bool (is_left serials x)) [
             | inl stays ↦ rw miss (lived n serials live (rw (stays, miss) at l))
             | inr goes ↦ rw miss (lived n serials live (rw goes at l))
           ]

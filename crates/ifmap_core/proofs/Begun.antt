@@ -14,7 +14,6 @@ use Rattle.ifmap_changes.specs.declared.parts.Parts.{Parts}
 use Rattle.ifmap_core.specs.Outcomes.{CanOpen, LeadsToAnswer, after_former, after_outcome, drop_former, open_session, taken_former}
 use Rattle.ifmap_core.specs.declared.outcomes.Outcome.{Outcome}
 use Rattle.ifmap_core.specs.declared.outcomes.Outcome.TheVariants.{Say, Open}
-use Rattle.ifmap_core.proofs.Ended.{remains}
 use Rattle.ifmap_core.proofs.Finishing.{client_told, serial_told}
 use Rattle.ifmap_core.proofs.Places.{searched_itself}
 use Rattle.ifmap_core.proofs.Taking.{taken_is}
@@ -26,7 +25,7 @@ use Rattle.ifmap_machine.specs.Step.{begin_session, is_full, new_session, next_s
 use Rattle.ifmap_replies.specs.declared.replies.Reply.TheVariants as the_reply
 use Rattle.ifmap_session.specs.SessionIds.{session_id}
 use Rattle.ifmap_session.specs.Sessions.{IsAsBefore, IsLive, IsTable, Opening, Session, SessionTable, is_same_text, limit_of, most_sessions, session_from, session_of_client, spare_of, without_sessions}
-use Rattle.ifmap_session.specs.laws.TableLaws.{client_freed, one_fewer}
+use Rattle.ifmap_session.specs.laws.TableLaws.{client_freed, one_fewer, is_left}
 use Rattle.ifmap_session.specs.laws.TextLaws.{distinct_filter}
 use Rattle.ifmap_tellings.specs.declared.tellings.Pending.{Pending}
 use Rattle.ifmap_tellings.specs.Tellings.{HasSameSessions, IsSized, count_told, told_by}
@@ -284,7 +283,7 @@ module _ (a : Asking) (old new : Parts) (pending after : Pending) (random : ℕ)
       let same_now : former ≡ option_map (λ (s : Session). s.serial) o =
       same ∙ ap (λ l. option_map (λ (s : Session). s.serial) (session_of_client a.client l)) before in
       let few : length (sessions_left a table) ≤ most_sessions =
-      (let less = filter_shorter (remains a.ended) table.live in let most = whole.few in omega (arith, less, most)) in
+      (let less = filter_shorter (is_left a.ended) table.live in let most = whole.few in omega (arith, less, most)) in
       let test : (nat_le most_sessions (length (sessions_left a table)) && is_none o) ≡ false =
       (or_parts _ _ (sym (full_is a table (with_table old table b) pending refl)
       ∙ ap (λ (t : State). is_full t a.client) (so_far_with old table b a pending) ∙ free)).0 in
@@ -293,7 +292,7 @@ module _ (a : Asking) (old new : Parts) (pending after : Pending) (random : ℕ)
         live = subst (λ l. IfSome former (λ n. IsLive n l)) (before ∙ live_is) live;
         none = subst (λ l. session_of_client opening.client (after_former former l) ≡ None) live_is
             (rw (owner, same_now) (freed table a.client (sessions_left a table) o refl
-            (distinct_filter (λ (s : Session). s.client) (remains a.ended) table.live whole.apart)));
+            (distinct_filter (λ (s : Session). s.client) (is_left a.ended) table.live whole.apart)));
         few = subst (λ l. length (after_former former l) < most_sessions) live_is
             (rw same_now (fewer table a.client (sessions_left a table) o refl few test));
         counter = subst (λ n. n < 2 ^ 64 - 1) (sym counter_is) next;

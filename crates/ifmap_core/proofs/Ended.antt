@@ -14,12 +14,9 @@ use Rattle.ifmap_lemmas.specs.Members.{map_of_all, all_two}
 use Rattle.ifmap_lemmas.specs.Options.{is_some_of, some_is}
 use Rattle.ifmap_session.specs.SessionIds.{BeginsWithSerial}
 use Rattle.ifmap_session.specs.Sessions.{IsLive, IsTable, Session, SessionTable, expired_serials, is_expired, is_same_text, session_of_client, session_order, session_with_id, session_with_serial, without_sessions}
-use Rattle.ifmap_session.specs.laws.TableLaws.{found_beside_ended}
+use Rattle.ifmap_session.specs.laws.TableLaws.{found_beside_ended, is_left}
 use Rattle.ifmap_session.specs.laws.TextLaws.{all_found, find_none, rest_differ, text_is}
 use Rattle.ifmap_session.specs.laws.IdLaws.{ids_tell}
-
-abbrev pub remains : List ℕ → Session → Bool
-remains serials s = not (list_any (λ n. n == s.serial) serials)
 
 -- ---- what a search finds among those that a filter leaves
 
@@ -62,20 +59,20 @@ module _ {X : Type 0} (q p : X → Bool) where
 
 -- no other session has the id of one that goes
 pub id_lost : (table : SessionTable) (serials : List ℕ) (id : List ℕ) (s : Session) → IsTable table → session_with_id id table.live ≡ Some s
-    → remains serials s ≡ false → session_with_id id (without_sessions serials table.live) ≡ None
+    → is_left serials s ≡ false → session_with_id id (without_sessions serials table.live) ≡ None
 id_lost table serials id s h e goes =
     let q : Session → Bool = λ (t : Session). is_same_text t.id id in
     let mine : BeginsWithSerial s.serial s.id = all_found (λ (t : Session). BeginsWithSerial t.serial t.id) q table.live s h.ids e in
     let low : s.serial ≤ table.counter = all_found (λ (t : Session). t.serial ≤ table.counter) q table.live s h.counted e in
     let own : is_same_text s.id id ≡ true = found_passes q table.live s e in
     let one : (t : Session) → BeginsWithSerial t.serial t.id → t.serial ≤ table.counter → is_same_text t.id id ≡ true
-    → remains serials t ≡ false =
+    → is_left serials t ≡ false =
     λ t begins below is. let same : t.serial ≡ s.serial =
     ids_tell t.serial s.serial id (omega (arith, below, h.small)) (omega (arith, low, h.small))
     (subst (BeginsWithSerial t.serial) (text_is t.id id is) begins) (subst (BeginsWithSerial s.serial) (text_is s.id id own) mine) in
     subst (λ n. not (list_any (λ m. m == n) serials) ≡ false) (sym same) goes in
-    lost_left q (remains serials) table.live (all_two (λ (t : Session). BeginsWithSerial t.serial t.id)
-    (λ (t : Session). t.serial ≤ table.counter) (λ (t : Session). is_same_text t.id id ≡ true → remains serials t ≡ false) one table.live
+    lost_left q (is_left serials) table.live (all_two (λ (t : Session). BeginsWithSerial t.serial t.id)
+    (λ (t : Session). t.serial ≤ table.counter) (λ (t : Session). is_same_text t.id id ≡ true → is_left serials t ≡ false) one table.live
     h.ids
     h.counted)
   where
@@ -146,7 +143,7 @@ without_each n serials (x ∷ live) =
 
 pub rising_left : (serials : List ℕ) (live : List Session) → IsStrictlySortedBy session_order live
     → IsStrictlySortedBy session_order (without_sessions serials live)
-rising_left serials live up = IsStrictlySortedBy-filter session_order (remains serials) live up
+rising_left serials live up = IsStrictlySortedBy-filter session_order (is_left serials) live up
 
 all_remain : (n : ℕ) (x : Session) (live : List Session) → (x.serial == n) ≡ true → AllByRecursion (λ y. session_order x y ≡ Less) live
     → without_sessions (n ∷ []) live ≡ live

@@ -20,10 +20,10 @@ use Rattle.ifmap_changes.specs.declared.parts.Parts.{Parts}
 use Rattle.ifmap_core.specs.Outcomes.{CanApply, CanRename, IsStepOutcome, WouldBeParts, after_outcome, held_by}
 use Rattle.ifmap_core.specs.declared.outcomes.Outcome.{Outcome}
 use Rattle.ifmap_core.specs.declared.outcomes.Outcome.TheVariants.{Say, Accept, End, Open, Rename, Poll}
-use Rattle.ifmap_core.proofs.Ended.{found_left, remains}
+use Rattle.ifmap_core.proofs.Ended.{found_left}
 use Rattle.ifmap_core.proofs.Places.{all_are_kept, kept_both, kept_of_all, none_gone}
 use Rattle.ifmap_core.proofs.Told.{none_told}
-use Rattle.ifmap_core.proofs.Turned.{KeepsThere, all_there, shares_later}
+use Rattle.ifmap_core.proofs.Turned.{all_there, shares_later}
 use Rattle.ifmap_delta.specs.Sights.{IsUpToDate}
 use Rattle.ifmap_delta.specs.Ways.{HasSameSearch}
 use Rattle.ifmap_graph.specs.Out.{items_changed}
@@ -48,10 +48,10 @@ use Rattle.ifmap_standing.specs.Kept.{AtEach, KeepsSame, StaysRelated}
 use Rattle.ifmap_standing.specs.Ways.{LeadBack, Way}
 use Rattle.ifmap_standing.specs.Standing.{standing_of}
 use Rattle.ifmap_subscribes.specs.declared.renamings.Renaming.{Renaming}
-use Rattle.ifmap_subscribes.specs.Renamings.{begun_by, rename_all, told_so_far}
+use Rattle.ifmap_subscribes.specs.Renamings.{begun_by, rename_all, told_so_far, KeepsNumbered}
 use Rattle.ifmap_tellings.specs.declared.tellings.Pending.{Pending}
 use Rattle.ifmap_tellings.specs.Tellings.{AllKept, Tellings, is_alone, kept_of}
-use Rattle.ifmap_session.specs.laws.TableLaws.{found_serial, none_expired}
+use Rattle.ifmap_session.specs.laws.TableLaws.{found_serial, none_expired, is_left}
 use Rattle.ifmap_tellings.specs.ToldLaws.{same_twice, same_kept}
 
 -- ---- an event begins
@@ -83,7 +83,7 @@ module _ (a : Asking) (parts : Parts) (pending : Pending) (sound : AreParts part
       let s = some_is (session_with_serial x.serial parts.sessions.live) l in
       let same : s.0.serial ≡ x.serial = found_serial x.serial parts.sessions.live s.0 s.1 in
       is_some_of (session_with_serial x.serial (sessions_left a parts.sessions)) s.0
-      (found_left (λ (t : Session). t.serial == x.serial) (remains a.ended) parts.sessions.live s.0 s.1
+      (found_left (λ (t : Session). t.serial == x.serial) (is_left a.ended) parts.sessions.live s.0 s.1
       (subst (λ (n : ℕ). not (list_any (λ m. m == n) a.ended) ≡ true) (sym same) (ap not stays)))
 
   pub begins_ready : length pending.gone.items ≡ length parts.standing.items → IsSoundSoFar a parts pending
@@ -98,7 +98,7 @@ module _ (a : Asking) (parts : Parts) (pending : Pending) (sound : AreParts part
         (all_are_kept (λ (x : Standing). IsLive x.serial parts.sessions.live) pending.gone.items parts.standing.items sound.ordered.live);
     queues = sound.within;
     within = subst AreWithinLimits (sym (none_told pending.tellings none (sessions_left a parts.sessions)))
-        (all_filter IsWithinLimit (remains a.ended) parts.sessions.live sound.within);
+        (all_filter IsWithinLimit (is_left a.ended) parts.sessions.live sound.within);
     can_tell = λ n t e. absurd (none-some t (sym (none n) ∙ e));
     sized = λ n t e. absurd (none-some t (sym (none n) ∙ e));
     alone = λ n e. let bad : false ≡ true = ap is_alone (sym (none n)) ∙ e in cc;
@@ -181,7 +181,7 @@ expired_rise moment ttl live up =
 
 -- ---- a change stays as it is
 
-module _ (a : Asking) (old new : Parts) (pending : Pending) (settled : IsSettled old new) (there : KeepsThere old.graph new.graph)
+module _ (a : Asking) (old new : Parts) (pending : Pending) (settled : IsSettled old new) (there : KeepsNumbered old.graph new.graph)
     (same : so_far a new pending ≡ so_far a old pending) where
   live_settled : (n : ℕ) → IsLive n (sessions_left a old.sessions) → IsLive n (sessions_left a new.sessions)
   live_settled n l = rw (settled.sessions) l

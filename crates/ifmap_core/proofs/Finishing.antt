@@ -9,13 +9,12 @@ use Rattle.std.specs.List.Sorted.{IsStrictlySortedBy}
 use Rattle.std.specs.Option.{IfSome}
 use Rattle.std.specs.Ordering.{nat_cmp}
 use Rattle.std.specs.Prelude.{vec_capacity, vec_len}
-use Rattle.ifmap_changes.specs.Between.{AreWithinLimits, Asking, HasNoSubscriptions, IsSoundSoFar, IsSteady, rest_of, sessions_left, sight_now, so_far, state_at}
+use Rattle.ifmap_changes.specs.Between.{AreWithinLimits, Asking, HasNoSubscriptions, IsSoundSoFar, IsSteady, rest_of, sessions_left, sight_now, so_far, state_at, HasStartNumber}
 use Rattle.ifmap_changes.specs.declared.parts.Parts.{Parts}
 use Rattle.ifmap_core.specs.Outcomes.{CanApply, CanApplyTo, CanOpen, CanRename, FitsAfter, WouldBeParts, after_former, after_outcome, held_by}
 use Rattle.ifmap_core.specs.declared.outcomes.Outcome.{Outcome}
 use Rattle.ifmap_core.specs.declared.outcomes.Outcome.TheVariants.{Say, Accept, End, Open, Rename, Poll}
 use Rattle.ifmap_core.proofs.Keeping.{all_kept, kept_fewer, kept_rising}
-use Rattle.ifmap_core.proofs.Steady.{IsNumbered}
 use Rattle.ifmap_core.proofs.Taking.{map_after}
 use Rattle.ifmap_core.proofs.Told.{after_told, none_mapped, told_by_leaves}
 use Rattle.ifmap_delta.specs.Sights.{IsUpToDate}
@@ -97,12 +96,12 @@ module _ (a : Asking) (old new : Parts) (pending : Pending) (ready : IsSoundSoFa
       all_now (λ (x : Standing). x.serial ≢ n) (all_kept (λ (x : Standing). x.serial ≢ n) pending.gone.items old.standing.items bare)
 
   module _ (more : List Standing) (steady : IsSteady new.graph (new.standing.items ++ more)) where
-    numbered_now : AllByRecursion (IsNumbered new.graph) new.standing.items × AllByRecursion (IsNumbered new.graph) more
-    numbered_now = all_both (IsNumbered new.graph) new.standing.items more steady.numbered
+    numbered_now : AllByRecursion (HasStartNumber new.graph) new.standing.items × AllByRecursion (HasStartNumber new.graph) more
+    numbered_now = all_both (HasStartNumber new.graph) new.standing.items more steady.numbered
 
     kept_now : AllByRecursion (λ (x : Standing). IsUpToDate (sight_now new.graph) x.subscription) new.standing.items
     kept_now =
-        all_two (IsNumbered new.graph) (λ (x : Standing). IsUpToDate (sight_now old.graph) x.subscription)
+        all_two (HasStartNumber new.graph) (λ (x : Standing). IsUpToDate (sight_now old.graph) x.subscription)
         (λ (x : Standing). IsUpToDate (sight_now new.graph) x.subscription) (λ x key was. kept x.subscription key was) new.standing.items
         numbered_now.0 (all_now (λ (x : Standing). IsUpToDate (sight_now old.graph) x.subscription)
         (all_kept (λ (x : Standing). IsUpToDate (sight_now old.graph) x.subscription) pending.gone.items old.standing.items ready.kept))
@@ -110,7 +109,7 @@ module _ (a : Asking) (old new : Parts) (pending : Pending) (ready : IsSoundSoFa
     more_now : AllByRecursion (λ (x : Standing). IsUpToDate (sight_now old.graph) x.subscription) more
         → AllByRecursion (λ (x : Standing). IsUpToDate (sight_now new.graph) x.subscription) more
     more_now was =
-        all_two (IsNumbered new.graph) (λ (x : Standing). IsUpToDate (sight_now old.graph) x.subscription)
+        all_two (HasStartNumber new.graph) (λ (x : Standing). IsUpToDate (sight_now old.graph) x.subscription)
         (λ (x : Standing). IsUpToDate (sight_now new.graph) x.subscription) (λ x key was. kept x.subscription key was) more numbered_now.1
         was
 

@@ -20,11 +20,9 @@ use Rattle.ifmap_pool.specs.Holdings.{once}
 use Rattle.ifmap_standing.specs.declared.standing.Standing.{Standing}
 use Rattle.ifmap_standing.specs.Standing.{standing_of}
 use Rattle.ifmap_view.specs.declared.attachments.Attachment.{Attachment}
+use Rattle.ifmap_ident.specs.SameLaws.{BytesTellIdentifiers}
 
-abbrev pub Tells : Type 0
-Tells = (one other : Identifier) → IsIdentifier one → IsIdentifier other → identifier_bytes one ≡ identifier_bytes other → one ≡ other
-
-module _ (h : Held) (tells : Tells) (view : IsSeen h) where
+module _ (h : Held) (tells : BytesTellIdentifiers) (view : IsSeen h) where
   -- where some of these subscriptions start at an identifier, there is one
   start_there : (xs : List Standing) (a : Identifier) → IsIdentifier a → AllByRecursion (HasStartNumber h) xs → 0 < starts_of a xs
       → (x : Standing) × Has xs x × (x.subscription.search.start ≡ a)

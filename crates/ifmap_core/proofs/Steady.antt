@@ -1,16 +1,11 @@
 -- What others than items hold while subscriptions stand: the order of these does not matter.
-use Rattle.std.proofs.Common.{◌≡◌, subst, List, ◌∷◌, ◌++◌, Some, arith}
-use Rattle.ifmap_changes.specs.Between.{IsSteady, starts_of}
+use Rattle.std.proofs.Common.{◌≡◌, subst, List, ◌∷◌, ◌++◌, arith}
+use Rattle.ifmap_changes.specs.Between.{IsSteady, starts_of, HasStartNumber}
 use Rattle.ifmap_graph.specs.Held.{Held, IsOwn}
 use Rattle.ifmap_ident.specs.declared.identifiers.Identifier.{Identifier}
 use Rattle.ifmap_lemmas.specs.Members.{all_both, both_all}
-use Rattle.ifmap_pool.specs.Holdings.{key_at}
 use Rattle.ifmap_standing.specs.declared.standing.Standing.{Standing}
 use Rattle.ifmap_changes.specs.StartLaws.{starts_cons, starts_append}
-
--- the start of a subscription has its number
-abbrev pub IsNumbered : Held → Standing → Type 0
-IsNumbered h x = key_at h.names x.subscription.region.start ≡ Some x.subscription.search.start
 
 -- ---- one moves to the front
 
@@ -20,7 +15,8 @@ steady_front h before x bs s = record {
   still = s.still;
   whole = s.whole;
   own = λ a. subst (λ n. IsOwn h a n) (same a) (s.own a);
-  numbered = let both = all_both (IsNumbered h) before (x ∷ bs) s.numbered in (both.1.0, both_all (IsNumbered h) before bs both.0 both.1.1);
+  numbered = let both = all_both (HasStartNumber h) before (x ∷ bs) s.numbered in
+      (both.1.0, both_all (HasStartNumber h) before bs both.0 both.1.1);
 }
   where
     same : (a : Identifier) → starts_of a (before ++ x ∷ bs) ≡ starts_of a (x ∷ (before ++ bs))

@@ -21,7 +21,7 @@ use Rattle.ifmap_core.proofs.Ended.{rising_left}
 use Rattle.ifmap_core.proofs.Overrun.{Grows, IsFit, changed_within, grows_rising, no_overflow, others_renamed, over_is}
 use Rattle.ifmap_core.proofs.Places.{all_are_kept, all_left, kept_both, searched_itself}
 use Rattle.ifmap_core.proofs.Told.{before_told, one_numbered, told_by_leaves, told_rising}
-use Rattle.ifmap_core.proofs.Turned.{KeepsThere, shares_later}
+use Rattle.ifmap_core.proofs.Turned.{shares_later}
 use Rattle.ifmap_delta.specs.Sights.{IsUpToDate}
 use Rattle.ifmap_delta.specs.Ways.{HasSameSearch}
 use Rattle.ifmap_graph.specs.Seen.{rows_now}
@@ -44,7 +44,7 @@ use Rattle.ifmap_standing.specs.Standing.{standing_of}
 use Rattle.ifmap_subscribes.specs.declared.renamings.Renaming.{Renaming}
 use Rattle.ifmap_subscribes.specs.declared.readying.Readying.{Readying}
 use Rattle.ifmap_subscribes.specs.Readying.{AreReadied, OnlyHolds, queue_where, told_after, told_at}
-use Rattle.ifmap_subscribes.specs.Renamings.{item_count, rename_all, told_so_far}
+use Rattle.ifmap_subscribes.specs.Renamings.{item_count, rename_all, told_so_far, KeepsNumbered}
 use Rattle.ifmap_tellings.specs.declared.tellings.Pending.{Pending}
 use Rattle.ifmap_tellings.specs.Tellings.{AllKept, HasSameSessions, count_where, kept_of, told_by}
 use Rattle.ifmap_session.specs.laws.TableLaws.{found_serial, left_live}
@@ -54,7 +54,7 @@ use Rattle.ifmap_tellings.specs.ToldLaws.{same_itself, map_kept}
 
 -- parts whose sessions and subscriptions stay, and whose graph keeps what is kept there
 pub ready_there : (a : Asking) (old new : Parts) (pending : Pending) → new.sessions ≡ old.sessions
-    → new.standing.items ≡ old.standing.items → KeepsThere old.graph new.graph → IsSteady new.graph new.standing.items
+    → new.standing.items ≡ old.standing.items → KeepsNumbered old.graph new.graph → IsSteady new.graph new.standing.items
     → IsSoundSoFar a old pending → IsSoundSoFar a new pending
 ready_there a old new pending sessions standing there steady r =
     let numbers = all_are_kept (λ (x : Standing). key_at new.graph.names x.subscription.region.start ≡ Some x.subscription.search.start)

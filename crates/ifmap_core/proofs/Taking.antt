@@ -11,15 +11,15 @@ use Rattle.ifmap_machine.specs.Telling.{is_overfull, is_overrun, is_too_big, ove
 use Rattle.ifmap_publish.specs.declared.who.Who.TheVariants.{Sessions}
 use Rattle.ifmap_publish.specs.Retract.{retract}
 use Rattle.ifmap_session.specs.Sessions.{Session, without_sessions}
-use Rattle.ifmap_core.proofs.Ended.{remains}
+use Rattle.ifmap_session.specs.laws.TableLaws.{is_left}
 
 -- what makes sessions others, and keeps their serials, does so after some are gone as before
 pub map_after : (serials : List ℕ) (f : Session → Session) → ((s : Session) → (f s).serial ≡ s.serial) → (live : List Session)
     → without_sessions serials (map f live) ≡ map f (without_sessions serials live)
 map_after serials f keeps [] = refl
 map_after serials f keeps (x ∷ live) =
-    let same : remains serials (f x) ≡ remains serials x = ap (λ m. not (list_any (λ n. n == m) serials)) (keeps x) in
-    elim (cases_Bool (remains serials x)) [
+    let same : is_left serials (f x) ≡ is_left serials x = ap (λ m. not (list_any (λ n. n == m) serials)) (keeps x) in
+    elim (cases_Bool (is_left serials x)) [
       | inl stays ↦ rw (same, stays) (ap (λ t. f x ∷ t) (map_after serials f keeps live))
       | inr goes ↦ rw (same, goes) (map_after serials f keeps live)
     ]

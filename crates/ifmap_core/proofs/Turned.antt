@@ -7,11 +7,10 @@ use Rattle.std.proofs.Common.{◌≡◌, refl, sym, ◌∙◌, ap, subst, ℕ, �
 use Rattle.std.proofs.lemmas.Option.{same_Some}
 use Rattle.std.specs.List.{AllByRecursion}
 use Rattle.std.specs.List.Sorted.{IsStrictlySortedBy}
-use Rattle.ifmap_changes.specs.Between.{AreBack, AreKept, AreOrdered, AreParts, AreTurned, IsSteady, SharesNumbers, sight_now, state_at}
+use Rattle.ifmap_changes.specs.Between.{AreBack, AreKept, AreOrdered, AreParts, AreTurned, IsSteady, SharesNumbers, sight_now, state_at, IsSeen}
 use Rattle.ifmap_changes.specs.declared.parts.Parts.{Parts}
 use Rattle.ifmap_core.proofs.Places.{all_moved, same_map, searched_itself, shown_kept}
-use Rattle.ifmap_delta.specs.declared.subscriptions.Subscription.{Subscription}
-use Rattle.ifmap_delta.specs.Sights.{IsUpToDate, ViewSeen}
+use Rattle.ifmap_delta.specs.Sights.{IsUpToDate, SameLinks}
 use Rattle.ifmap_graph.specs.Back.{KeepsBacks}
 use Rattle.ifmap_graph.specs.Held.{Held, IsOwn}
 use Rattle.ifmap_graph.specs.Seen.{IsStill, KeepsNumbers, StaysLean, links_now, rows_now}
@@ -22,12 +21,12 @@ use Rattle.ifmap_machine.specs.Subscribing.{most_names}
 use Rattle.ifmap_pool.specs.Holdings.{key_at}
 use Rattle.ifmap_session.specs.Sessions.{IsLive, Session}
 use Rattle.ifmap_standing.specs.declared.standing.Standing.{Standing}
-use Rattle.ifmap_standing.specs.Kept.{AtEach, KeepsSame, StaysRelated}
+use Rattle.ifmap_standing.specs.Kept.{AtEach, KeepsSame, StaysRelated, StaysSame}
 use Rattle.ifmap_standing.specs.Standing.{standing_of}
 use Rattle.ifmap_tellings.specs.Tellings.{HasSameSessions}
-use Rattle.ifmap_view.specs.Views.{IsView}
 use Rattle.ifmap_standing.specs.PlaceLaws.{kept_itself, searched_twice}
 use Rattle.ifmap_tellings.specs.ToldLaws.{same_itself, same_twice}
+use Rattle.ifmap_subscribes.specs.Renamings.{KeepsNumbered}
 
 -- ---- of themselves
 
@@ -78,37 +77,18 @@ back_state ttl moment old new b =
     ∙ ap (λ (xs : List machine.Standing). record (state_at ttl moment old) { standing = xs })
     (same_map standing_of (λ _. StaysRelated KeepsSame) shown_kept old.standing.items new.standing.items b.standing)
 
--- a subscription that keeps what one graph has keeps what another has, where its start has its number there
-abbrev pub KeepsThere : Held → Held → Type 0
-KeepsThere old new =
-    (sub : Subscription) → key_at new.names sub.region.start ≡ Some sub.search.start → IsUpToDate (sight_now old) sub
-    → IsUpToDate (sight_now new) sub
-
-abbrev pub SameLinks : Type 0
-SameLinks =
-    (one other : ViewSeen) (sub : Subscription) → IsView one.rows one.id_at one.links → IsView other.rows other.id_at other.links
-    → other.rows ≡ one.rows → ((v : ℕ) → other.links v ≡ one.links v)
-    → ((v : ℕ) (a b : Identifier) → one.id_at v ≡ Some a → other.id_at v ≡ Some b → b ≡ a)
-    → other.id_at sub.region.start ≡ Some sub.search.start → IsUpToDate one sub → IsUpToDate other sub
-
-abbrev pub IsSeen : Held → Type 0
-IsSeen h = IsView (rows_now h) (key_at h.names) (links_now h)
-
 pub keeps_there : SameLinks → (old new : Held) → IsSeen old → IsSeen new → rows_now new ≡ rows_now old
-    → ((v : ℕ) → links_now new v ≡ links_now old v) → SharesNumbers old new → KeepsThere old new
+    → ((v : ℕ) → links_now new v ≡ links_now old v) → SharesNumbers old new → KeepsNumbered old new
 keeps_there law old new was is rows links numbers sub here kept =
     law (sight_now old) (sight_now new) sub was is rows links numbers here kept
 
 -- all that stand keep what the graph has, where they kept it and hold their starts
-pub all_there : (old new : Held) → KeepsThere old new → (xs : List Standing)
+pub all_there : (old new : Held) → KeepsNumbered old new → (xs : List Standing)
     → AllByRecursion (λ x. key_at new.names x.subscription.region.start ≡ Some x.subscription.search.start) xs
     → AllByRecursion (λ x. IsUpToDate (sight_now old) x.subscription) xs → AllByRecursion (λ x. IsUpToDate (sight_now new) x.subscription)
     xs
 all_there old new k [] n h = tt
 all_there old new k (x ∷ xs) n h = (k x.subscription n.0 h.0, all_there old new k xs n.1 h.1)
-
-abbrev pub SameMarks : Type 0
-SameMarks = (g : ViewSeen) (old new : Subscription) → KeepsSame old new → IsUpToDate g old → IsUpToDate g new
 
 ordered_back : (old new : Parts) → AreBack old new → AreOrdered old.sessions.live old.standing.items
     → AreOrdered new.sessions.live new.standing.items
@@ -124,7 +104,7 @@ ordered_back old new b o =
       few = λ n. subst (λ (xs : List machine.Standing). length (standing_in n xs) ≤ most_names) (sym same) (o.few n);
     }
 
-pub back_parts : SameLinks → SameMarks → (old new : Parts) → IsSeen old.graph → IsSeen new.graph → AreParts old → AreBack old new
+pub back_parts : SameLinks → StaysSame → (old new : Parts) → IsSeen old.graph → IsSeen new.graph → AreParts old → AreBack old new
     → AreParts new
 back_parts law marks old new was is p b =
     let there = keeps_there law old.graph new.graph was is b.rows b.links b.numbers in

@@ -27,7 +27,8 @@ use Rattle.ifmap_delta.specs.Changes.{ShowsAfter}
 use Rattle.ifmap_delta.specs.Flipped.{AreFlipsOf, IsFlipAt}
 use Rattle.ifmap_delta.specs.Sights.{Links, ViewSeen}
 use Rattle.ifmap_fresh.specs.laws.JoiningLaws.{linked_matches, match_turned, matches_linked, some_there}
-use Rattle.ifmap_fresh.specs.laws.SameLaws.{Tells, pair_canon, pair_is, pair_parts, same_item_is}
+use Rattle.ifmap_fresh.specs.laws.SameLaws.{pair_canon, pair_is, pair_parts, same_item_is}
+use Rattle.ifmap_ident.specs.SameLaws.{BytesTellIdentifiers}
 
 pub found_change : (p : ItemChange → Bool) (cs : List ItemChange) (c : ItemChange) → find p cs ≡ Some c → Has cs c × (p c ≡ true)
 found_change p [] c e = absurd (none-some c e)
@@ -56,7 +57,7 @@ module _ (g : ViewSeen) (s : Search) where
       (subst (λ o. one_meets s.match_links (stored_linked o (g.id_at w) g.rows) ≡ true) (sym i)
       (subst (λ o. one_meets s.match_links (stored_linked (Some a) o g.rows) ≡ true) (sym j) m))
 
-module _ (tells : Tells) (old new : ViewSeen) (s : Search) (was : IsView old.rows old.id_at old.links)
+module _ (tells : BytesTellIdentifiers) (old new : ViewSeen) (s : Search) (was : IsView old.rows old.id_at old.links)
     (is : IsView new.rows new.id_at new.links) (changes : List ItemChange) (change : ShowsAfter old new changes) where
   -- an identifier with a match before has the number that it has afterwards
   pub number_before : (w : ℕ) (a b : Identifier) → new.id_at w ≡ Some b → is_match old.rows s.match_links a b ≡ true

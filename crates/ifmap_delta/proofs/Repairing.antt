@@ -15,11 +15,11 @@ use Rattle.ifmap_delta.specs.Flipped.{AreFlipsOf}
 use Rattle.ifmap_delta.specs.Shown.{goes_on}
 use Rattle.ifmap_delta.specs.Sights.{AreMarks, Links, ViewSeen, is_terminal_in}
 use Rattle.ifmap_delta.specs.Touched.{looked_along, turns}
-use Rattle.ifmap_fresh.specs.laws.SameLaws.{Tells}
 use Rattle.ifmap_delta.proofs.Settling.{same_not}
 use Rattle.ifmap_delta.proofs.Walking.{moved_near, old_depths, repaired_within, turned_within}
+use Rattle.ifmap_ident.specs.SameLaws.{BytesTellIdentifiers}
 
-module _ (tells : Tells) (old new : ViewSeen) (s : Search) (was : IsView old.rows old.id_at old.links)
+module _ (tells : BytesTellIdentifiers) (old new : ViewSeen) (s : Search) (was : IsView old.rows old.id_at old.links)
     (is : IsView new.rows new.id_at new.links) (changes : List ItemChange) (change : ShowsAfter old new changes) (start top : ℕ)
     (mark : ℕ → Option ℕ) (before : AreMarks old s start top mark) where
   module _ (flips : List Flip) (are : AreFlipsOf old new s mark changes flips) where

@@ -35,8 +35,9 @@ use Rattle.ifmap_delta.proofs.Flipping.{change_at, unchanged}
 use Rattle.ifmap_fresh.specs.laws.JoiningLaws.{match_turned, some_there}
 use Rattle.ifmap_delta.proofs.Marking.{LevelsExpand, LevelsReach, expanded_is, expanded_marked, mark_named, marked_expanded}
 use Rattle.ifmap_delta.proofs.Marking.{marked_reached, reached_is, reached_marked}
-use Rattle.ifmap_fresh.specs.laws.SameLaws.{Tells, pair_canon, pair_is, pair_turned}
+use Rattle.ifmap_fresh.specs.laws.SameLaws.{pair_canon, pair_is, pair_turned}
 use Rattle.ifmap_fresh.specs.laws.GatheringLaws.{row_has}
+use Rattle.ifmap_ident.specs.SameLaws.{BytesTellIdentifiers}
 
 -- two tests agree, or are told apart
 same_or : (p q : Bool) → (p ≡ q) ⊎ (not (beq p q) ≡ true)
@@ -64,7 +65,7 @@ in_patch patch below v differ = by (row_of patch v) refl
     by None e = absurd (differ (sym (ap (λ o. unwrap_or o (below v)) e)))
     by (Some r) e = row_has patch v r e
 
-module _ (tells : Tells) (reach : LevelsReach) (expand : LevelsExpand) (old new : ViewSeen) (s : Search)
+module _ (tells : BytesTellIdentifiers) (reach : LevelsReach) (expand : LevelsExpand) (old new : ViewSeen) (s : Search)
     (was : IsView old.rows old.id_at old.links) (is : IsView new.rows new.id_at new.links) (changes : List ItemChange)
     (change : ShowsAfter old new changes) (start top start' top' : ℕ) (mark mark' : ℕ → Option ℕ)
     (before : AreMarks old s start top mark) (now : AreMarks new s start' top' mark')

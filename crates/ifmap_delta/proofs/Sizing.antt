@@ -27,7 +27,7 @@ use Rattle.ifmap_view.specs.Attachments.{attachment_order, stored_bytes}
 use Rattle.ifmap_folds.specs.Differences.{difference, entry_bytes, entry_order, has_entry, same_entry}
 use Rattle.ifmap_folds.specs.laws.FoldingLaws.{entries_tie, entries_total, same_turned}
 use Rattle.ifmap_folds.specs.laws.RisingLaws.{head_rises, tail_rises}
-use Rattle.ifmap_delta.proofs.Telling.{entry_of}
+use Rattle.ifmap_fresh.specs.laws.GatheringLaws.{entry_of}
 
 -- a sum over a list, in two parts
 parts : {X : Type 0} (f : X → ℕ) (p : X → Bool) (xs : List X)

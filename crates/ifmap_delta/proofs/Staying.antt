@@ -21,7 +21,6 @@ use Rattle.ifmap_fresh.specs.Fresh.{is_looked_at}
 use Rattle.ifmap_fresh.specs.Matching.{is_match}
 use Rattle.ifmap_fresh.specs.Numbered.{KeepsWalks}
 use Rattle.ifmap_fresh.specs.Reached.{is_expanded, is_reached}
-use Rattle.ifmap_fresh.specs.laws.SameLaws.{Tells}
 use Rattle.ifmap_delta.specs.declared.locating.LocatedChange.{LocatedChange}
 use Rattle.ifmap_delta.specs.Changes.{ShowsAfter}
 use Rattle.ifmap_delta.specs.Flipped.{AreFlipsOf, IsFlipAt, is_marked, is_near, is_one_marked}
@@ -34,6 +33,7 @@ use Rattle.ifmap_delta.proofs.Marking.{LevelsExpand, LevelsReach, expanded_is, n
 use Rattle.ifmap_delta.proofs.Repairing.{repaired_marks}
 use Rattle.ifmap_delta.proofs.Settling.{expanded_before, reached_before, settled}
 use Rattle.ifmap_delta.proofs.Walking.{depths_over}
+use Rattle.ifmap_ident.specs.SameLaws.{BytesTellIdentifiers}
 
 never_both : (b : Bool) → b ≡ true → b ≡ false → ⊥
 never_both b t f = let c : true ≡ false = sym t ∙ f in cc
@@ -62,7 +62,7 @@ near_flip old new s mark (Pair a b) l t flip at m =
     ap (λ o. is_one_marked mark o l.after.second) (t.after.ends.0.only flip.a at.0)
     ∙ ap (λ o. is_one_marked mark (Some flip.a) o) (t.after.ends.1.only flip.b at.1) ∙ m
 
-module _ (tells : Tells) (old new : ViewSeen) (s : Search) (was : IsView old.rows old.id_at old.links)
+module _ (tells : BytesTellIdentifiers) (old new : ViewSeen) (s : Search) (was : IsView old.rows old.id_at old.links)
     (is : IsView new.rows new.id_at new.links) (changes : List ItemChange) (change : ShowsAfter old new changes) (start top : ℕ)
     (mark : ℕ → Option ℕ) (before : AreMarks old s start top mark) (located : List LocatedChange)
     (are : AreLocated old new changes located) (far : list_any (is_near mark) located ≡ false) where

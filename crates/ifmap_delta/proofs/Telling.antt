@@ -30,12 +30,9 @@ use Rattle.ifmap_folds.specs.Differences.{difference, entry_bytes, has_entry, sa
 use Rattle.ifmap_delta.specs.Shown.{shown_on}
 use Rattle.ifmap_delta.specs.Sights.{ViewSeen}
 use Rattle.ifmap_delta.specs.Touched.{has_met, left_out_on}
-use Rattle.ifmap_fresh.specs.laws.GatheringLaws.{gathers, grouped, all_items}
-use Rattle.ifmap_fresh.specs.laws.SameLaws.{Tells, member, same_item_is}
-use Rattle.ifmap_ident.specs.SameLaws.{item_itself}
-
-abbrev pub entry_of : Attachment → Entry
-entry_of r = record { item = r.item; element = r.stored.element }
+use Rattle.ifmap_fresh.specs.laws.GatheringLaws.{gathers, grouped, all_items, entry_of}
+use Rattle.ifmap_fresh.specs.laws.SameLaws.{member, same_item_is}
+use Rattle.ifmap_ident.specs.SameLaws.{item_itself, BytesTellIdentifiers}
 
 -- rows of one list of canonical bytes are one entry
 bytes_tie : (a b : Attachment) → bytes_eq (entry_bytes (entry_of a)) (entry_bytes (entry_of b)) ≡ true
@@ -90,7 +87,7 @@ outside false m a f = refl
 outside true false a f = refl
 outside true true a f = ap not (f refl refl)
 
-module _ (tells : Tells) (one other : ViewSeen) (s : Search) (graph : IsGraph one.rows) (beside : IsGraph other.rows) where
+module _ (tells : BytesTellIdentifiers) (one other : ViewSeen) (s : Search) (graph : IsGraph one.rows) (beside : IsGraph other.rows) where
   abbrev met : Stored → Bool
   met t = meets_optional s.result_filter t.element
 

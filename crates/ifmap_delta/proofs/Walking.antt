@@ -29,8 +29,8 @@ use Rattle.ifmap_delta.specs.Flipped.{AreFlipsOf}
 use Rattle.ifmap_delta.specs.Sights.{Links, ViewSeen, is_terminal_in}
 use Rattle.ifmap_delta.proofs.Flipping.{added_flip, named, old_there, removed_flip, removed_linked, there_mid, there_old}
 use Rattle.ifmap_delta.proofs.Marking.{walk_marked}
-use Rattle.ifmap_fresh.specs.laws.SameLaws.{Tells}
 use Rattle.ifmap_region.specs.DepthLaws.{walk_over}
+use Rattle.ifmap_ident.specs.SameLaws.{BytesTellIdentifiers}
 
 module _ (L M : ℕ → ℕ → Type 0) (T U : ℕ → Bool) (start top : ℕ) (f : (u v : ℕ) → T u ≡ false → L u v → (U u ≡ false) × M u v)
     (g : (u v : ℕ) → U u ≡ false → M u v → (T u ≡ false) × L u v) where
@@ -136,7 +136,7 @@ turned_within p f g Among ns before after le apart among bound = record {
   bound = omega (arith, bound, sum_passed p f g le ns);
 }
 
-module _ (tells : Tells) (old new : ViewSeen) (s : Search) (was : IsView old.rows old.id_at old.links)
+module _ (tells : BytesTellIdentifiers) (old new : ViewSeen) (s : Search) (was : IsView old.rows old.id_at old.links)
     (is : IsView new.rows new.id_at new.links) (changes : List ItemChange) (change : ShowsAfter old new changes) where
   abbrev T : ℕ → Bool
   T = is_terminal_in old s

@@ -10,6 +10,7 @@ use Rattle.ifmap_view.specs.declared.views.LinkSeen.{LinkSeen}
 use Rattle.ifmap_fresh.specs.Fresh.{fresh_size}
 use Rattle.ifmap_fresh.specs.Numbered.{AreLinked, is_terminal_number}
 use Rattle.ifmap_delta.specs.declared.subscriptions.Subscription.{Subscription}
+use Rattle.ifmap_view.specs.Views.{IsView}
 
 -- what a view shows: the attachments, the identifiers of numbers, and the links of each number
 pub record ViewSeen : Type 0 where
@@ -51,3 +52,10 @@ pub record IsUpToDate (g : ViewSeen) (sub : Subscription) : Type 0 where
 -- the marks are those of a search from some start
 abbrev pub HaveMarks : ViewSeen → Search → (ℕ → Option ℕ) → Type 0
 HaveMarks g s mark = (start : ℕ) × (top : ℕ) × AreMarks g s start top mark
+
+-- the laws on what subscriptions keep
+abbrev pub SameLinks : Type 0
+SameLinks = (one other : ViewSeen) (sub : Subscription) → IsView one.rows one.id_at one.links → IsView other.rows other.id_at other.links
+    → other.rows ≡ one.rows → ((v : ℕ) → other.links v ≡ one.links v)
+    → ((v : ℕ) (a b : Identifier) → one.id_at v ≡ Some a → other.id_at v ≡ Some b → b ≡ a)
+    → other.id_at sub.region.start ≡ Some sub.search.start → IsUpToDate one sub → IsUpToDate other sub

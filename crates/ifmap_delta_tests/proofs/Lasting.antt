@@ -2,12 +2,12 @@
 -- on each item (`whole_like`); a new graph (`new_quiet`); the notes of a publish (`notes_canon`); a change that is out
 -- (`few_still`), and made (`quiet_made`, `kept_made`); what a subscription keeps as a change comes to be out (`kept_begun`), and
 -- as it gets room (`would_still`).
-use Rattle.std.proofs.Common.{◌≡◌, ℕ, ◌+◌, Option, Some, List, [], ◌∷◌}
+use Rattle.std.proofs.Common.{◌≡◌, ℕ, ◌+◌, Option, List, [], ◌∷◌}
 use Rattle.std.proofs.Common.{◌∙◌, sym, subst, arith}
 use Rattle.std.proofs.lemmas.Option.{same_Some}
 use Rattle.std.specs.List.{AllByRecursion, filter}
 use Rattle.ifmap_delta.specs.Changes.{WouldKeep}
-use Rattle.ifmap_delta.specs.Sights.{AreMarks, IsUpToDate, ViewSeen}
+use Rattle.ifmap_delta.specs.Sights.{AreMarks, IsUpToDate, ViewSeen, SameLinks}
 use Rattle.ifmap_delta.specs.Ways.{HasSameSearch}
 use Rattle.ifmap_delta.specs.declared.subscriptions.Subscription.{Subscription}
 use Rattle.ifmap_fresh.specs.Fresh.{fresh_size}
@@ -107,13 +107,6 @@ pub kept_made : (mid new : Held) (sub : Subscription) → rows_now new ≡ rows_
 kept_made mid new sub rows links names kept = subst (λ (g : ViewSeen). IsUpToDate g sub) (sight_made mid new rows links names) kept
 
 -- ---- a subscription
-
--- what laws of subscriptions say of views with the same links
-abbrev pub SameLinks : Type 0
-SameLinks = (one other : ViewSeen) (sub : Subscription) → IsView one.rows one.id_at one.links → IsView other.rows other.id_at other.links
-    → other.rows ≡ one.rows → ((v : ℕ) → other.links v ≡ one.links v)
-    → ((v : ℕ) (a b : Identifier) → one.id_at v ≡ Some a → other.id_at v ≡ Some b → b ≡ a)
-    → other.id_at sub.region.start ≡ Some sub.search.start → IsUpToDate one sub → IsUpToDate other sub
 
 pub kept_begun : SameLinks → (old new : Held) (ready : Ready) (sub : Subscription)
     → IsView (rows_now old) (key_at old.names) (links_now old)

@@ -17,8 +17,9 @@ use Rattle.ifmap_elem.specs.Names.{is_name_character, is_name_start}
 use Rattle.ifmap_filter.specs.declared.tokens.Token.{Token}
 use Rattle.ifmap_filter.specs.declared.tokens.Token.TheVariants.{Any, OpenBracket, CloseBracket, OpenParenthesis, CloseParenthesis, EqualsSign, At, Name}
 use Rattle.ifmap_filter.specs.Grammar.{and_word, bare_name, or_word}
-use Rattle.ifmap_filter.specs.Tokens.{Takes, after_while, front_while, is_quote, name_from, name_token, part_bytes, prefixed_name_at, symbol_of, front_token, token_at, without_white}
+use Rattle.ifmap_filter.specs.Tokens.{Takes, after_while, front_while, name_from, name_token, part_bytes, prefixed_name_at, symbol_of, front_token, token_at, without_white}
 use Rattle.ifmap_filter.proofs.TokenLaws.{named, one_symbol}
+use Rattle.ifmap_lexer.specs.There.{is_quote}
 
 -- a name ends here
 abbrev pub Ends : List ℕ → Type 0

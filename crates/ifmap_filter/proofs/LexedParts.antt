@@ -17,12 +17,14 @@ use Rattle.ifmap_elem.specs.Names.{is_name_character, is_name_start}
 use Rattle.ifmap_filter.specs.declared.tokens.Token.{Token}
 use Rattle.ifmap_filter.specs.declared.tokens.Token.TheVariants.{Any, OpenBracket, CloseBracket, OpenParenthesis, CloseParenthesis, EqualsSign, At, Name, Literal}
 use Rattle.ifmap_filter.specs.Printing.{literal_text, quote_of}
-use Rattle.ifmap_filter.specs.Tokens.{FrontToken, Takes, after_while, closed_literal, front_while, is_but, is_quote, literal_at, name_at, name_from, name_token, part_bytes, prefixed_name_at, symbol_of, front_token, token_at, with_symbol, without_white}
+use Rattle.ifmap_filter.specs.Tokens.{FrontToken, Takes, after_while, closed_literal, front_while, literal_at, name_at, name_from, name_token, part_bytes, prefixed_name_at, symbol_of, front_token, token_at, with_symbol, without_white}
 use Rattle.ifmap_filter.proofs.CharLaws.{same_number}
 use Rattle.ifmap_filter.proofs.Lexed.{IsOne, IsPart, Lexes, after_all, after_one, front_all, not_white, one_chars, one_first, one_of}
 use Rattle.ifmap_filter.proofs.Reaching.{after_is, token_later, white_after}
 use Rattle.ifmap_filter.proofs.TokenLaws.{quoted}
 use Rattle.ifmap_elem.specs.laws.NameBytes.{starts_are_characters}
+use Rattle.ifmap_lexer.specs.Cutting.{is_but}
+use Rattle.ifmap_lexer.specs.There.{is_quote}
 
 -- (1) quotes in bytes and characters
 

@@ -17,10 +17,12 @@ use Rattle.ifmap_filter.specs.Grammar.{IsFilter, deepest}
 use Rattle.ifmap_filter.specs.Progress.{GoesOn, Where, Start, step_token, filter_at}
 use Rattle.ifmap_filter.specs.Reaching.{Reaches}
 use Rattle.ifmap_filter.specs.Texts.{BeginsFilter, StopsAt, Writes, offset}
-use Rattle.ifmap_filter.specs.Tokens.{IsEnd, FrontToken, Takes, after_while, closed_literal, front_while, is_but, is_quote, literal_at, name_at, name_from, name_token, part_bytes, prefixed_name_at, symbol_of, front_token, token_at, with_symbol, without_white}
+use Rattle.ifmap_filter.specs.Tokens.{IsEnd, FrontToken, Takes, after_while, closed_literal, front_while, literal_at, name_at, name_from, name_token, part_bytes, prefixed_name_at, symbol_of, front_token, token_at, with_symbol, without_white}
 use Rattle.ifmap_filter.proofs.Ending.{EndsAt, ends, goes_on}
 use Rattle.ifmap_filter.proofs.Stepping.{IsRight, right}
 use Rattle.ifmap_elem.specs.laws.NameBytes.{starts_are_characters}
+use Rattle.ifmap_lexer.specs.Cutting.{is_but}
+use Rattle.ifmap_lexer.specs.There.{is_quote}
 
 -- (1) tokens take characters
 

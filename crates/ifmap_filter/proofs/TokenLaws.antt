@@ -2,7 +2,8 @@
 use Rattle.std.proofs.Common.{◌≡◌, ℕ, true, false, List, [], ◌∷◌, refl, ap, sym, ◌∙◌, Some, None}
 use Rattle.ifmap_elem.specs.Names.{is_name_start}
 use Rattle.ifmap_filter.specs.declared.tokens.Token.{Token}
-use Rattle.ifmap_filter.specs.Tokens.{is_quote, literal_at, name_at, symbol_of, front_token, token_at, with_symbol}
+use Rattle.ifmap_filter.specs.Tokens.{literal_at, name_at, symbol_of, front_token, token_at, with_symbol}
+use Rattle.ifmap_lexer.specs.There.{is_quote}
 
 module _ (cs : List ℕ) (c : ℕ) (more : List ℕ) (is : cs ≡ c ∷ more) where
   pub quoted : is_quote c ≡ true → token_at cs ≡ literal_at c more

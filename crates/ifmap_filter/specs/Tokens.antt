@@ -1,11 +1,13 @@
 -- The tokens of a filter, by the characters of its text. Names are those of XML 1.0 (fifth edition), section 2.3, and of Namespaces in
 -- XML 1.0, section 4; white space is that of XML 1.0, section 2.3.
-use Rattle.std.specs.Prelude.{◌≡◌, ℕ, Bool, not, ◌==◌, ◌||◌, if◌then◌else◌, List, [], ◌∷◌, encode_utf8_all, Option, Some, None}
+use Rattle.std.specs.Prelude.{◌≡◌, ℕ, Bool, ◌==◌, if◌then◌else◌, List, [], ◌∷◌, encode_utf8_all, Option, Some, None}
 use Rattle.std.specs.Str.{byte}
-use Rattle.ifmap_elem.specs.Chars.{colon, double_quote, equals_sign, is_white, single_quote}
+use Rattle.ifmap_elem.specs.Chars.{colon, equals_sign, is_white}
 use Rattle.ifmap_elem.specs.Names.{is_name_character, is_name_start}
 use Rattle.ifmap_filter.specs.declared.tokens.Token.{Token}
 use Rattle.ifmap_filter.specs.declared.tokens.Token.TheVariants.{Any, OpenBracket, CloseBracket, OpenParenthesis, CloseParenthesis, EqualsSign, At, Name, Literal}
+use Rattle.ifmap_lexer.specs.Cutting.{is_but}
+use Rattle.ifmap_lexer.specs.There.{is_quote}
 
 -- a token at the front of characters, and what is left
 pub record FrontToken : Type 0 where
@@ -43,9 +45,6 @@ abbrev pub closed_literal : List ℕ → List ℕ → Option FrontToken
 closed_literal own [] = None
 closed_literal own (quote ∷ rest) = Some (front_token (Literal (encode_utf8_all own)) rest)
 
-abbrev pub is_but : ℕ → ℕ → Bool
-is_but quote c = not (c == quote)
-
 -- the literal after its first quote: all up to the next quote of that kind
 abbrev pub literal_at : ℕ → List ℕ → Option FrontToken
 literal_at quote cs = closed_literal (front_while (is_but quote) cs) (after_while (is_but quote) cs)
@@ -71,9 +70,6 @@ name_from part (c ∷ cs) = if c == colon then prefixed_name_at part cs else Som
 -- the name at the front, whose parts are as long as can be
 abbrev pub name_at : List ℕ → Option FrontToken
 name_at cs = name_from (part_bytes cs) (after_while is_name_character cs)
-
-abbrev pub is_quote : ℕ → Bool
-is_quote c = c == double_quote || c == single_quote
 
 -- the token at the front, by its first character; none where it is malformed, or nothing is there
 abbrev pub token_at : List ℕ → Option FrontToken

@@ -5,7 +5,9 @@ ghost use Rattle.ifmap_elem.specs.Chars.{is_white};
 ghost use Rattle.ifmap_elem.specs.Names.{is_name_character};
 ghost use Rattle.ifmap_filter.specs.Lexing.{Cuts};
 ghost use Rattle.ifmap_filter.specs.Marks.{IsFrontMark, token_of};
-ghost use Rattle.ifmap_filter.specs.Tokens.{is_but, is_quote, literal_at, name_at, prefixed_name_at, symbol_of, token_at, without_white};
+ghost use Rattle.ifmap_filter.specs.Tokens.{literal_at, name_at, prefixed_name_at, symbol_of, token_at, without_white};
+ghost use Rattle.ifmap_lexer.specs.Cutting.{is_but};
+ghost use Rattle.ifmap_lexer.specs.There.{is_quote};
 
 use crate::marks::Mark;
 use ifmap_lexer::{is_name_character, is_name_start};

@@ -21,7 +21,6 @@ use Rattle.ifmap_lemmas.specs.Having.{Has, any_has, has_either, has_filter, has_
 use Rattle.ifmap_lemmas.specs.Filters.{filter_alike, filter_twice}
 use Rattle.ifmap_meta.specs.declared.stored.Stored.{Stored}
 use Rattle.ifmap_region.specs.Walks.{AreDepths}
-use Rattle.ifmap_search.specs.declared.results.Entry.{Entry}
 use Rattle.ifmap_search.specs.declared.searches.Search.{Search}
 use Rattle.ifmap_view.specs.declared.attachments.Attachment.{Attachment}
 use Rattle.ifmap_view.specs.declared.views.LinkSeen.{LinkSeen}
@@ -35,18 +34,18 @@ use Rattle.ifmap_fresh.specs.Gathered.{entries_of, entries_on, entry_at, gathere
 use Rattle.ifmap_fresh.specs.Linking.{end_where, is_terminal_at}
 use Rattle.ifmap_fresh.specs.Matching.{is_match, is_terminal, one_meets}
 use Rattle.ifmap_fresh.specs.Reached.{is_expanded, is_reached}
-use Rattle.ifmap_fresh.specs.laws.GatheringLaws.{gathers, grouped, all_items}
+use Rattle.ifmap_fresh.specs.laws.GatheringLaws.{gathers, grouped, all_items, entry_of}
 use Rattle.ifmap_fresh.specs.laws.JoiningLaws.{match_turned, some_there}
 use Rattle.ifmap_fresh.proofs.Levels.{expanded_walk, reached_by_walks, walk_expanded}
 use Rattle.ifmap_fresh.proofs.Meaning.{L, T, mark_walk, to_identifier, to_number, walk_mark}
-use Rattle.ifmap_fresh.specs.laws.SameLaws.{Tells, member, pair_canon, pair_is, pair_parts, pair_turned}
+use Rattle.ifmap_fresh.specs.laws.SameLaws.{member, pair_canon, pair_is, pair_parts, pair_turned}
 use Rattle.ifmap_fresh.specs.laws.SameLaws.{same_item_is}
-use Rattle.ifmap_ident.specs.SameLaws.{item_itself}
+use Rattle.ifmap_ident.specs.SameLaws.{item_itself, BytesTellIdentifiers}
 
 lt_turned : (a b : ℕ) → nat_lt a b ≡ true → nat_lt b a ≡ false
 lt_turned a b e = grind (arith, nat_tests)
 
-module _ (tells : Tells) (rows : List Attachment) (id_at : ℕ → Option Identifier) (links : ℕ → List LinkSeen) (s : Search)
+module _ (tells : BytesTellIdentifiers) (rows : List Attachment) (id_at : ℕ → Option Identifier) (links : ℕ → List LinkSeen) (s : Search)
     (is : IsView rows id_at links)
     (first : IsIdentifier s.start) (start : ℕ) (here : id_at start ≡ Some s.start) (mark : ℕ → Option ℕ)
     (depths : AreDepths (L rows id_at links s is start here) (T rows id_at links s is start here) start s.max_depth mark)
@@ -229,10 +228,6 @@ module _ (tells : Tells) (rows : List Attachment) (id_at : ℕ → Option Identi
             (pair_turned b a ∙ pair_is a b i.ordered) x
       ]
 
--- entries item by item
-abbrev entry_of : Attachment → Entry
-entry_of r = record { item = r.item; element = r.stored.element }
-
 module _ (by : Option Filter) where
   abbrev meeting : Attachment → Bool
   meeting r = meets_optional by r.stored.element
@@ -264,7 +259,7 @@ carries rows r h e =
     (has_map (λ (x : Attachment). x.stored) (filter (λ x. same_item x.item r.item) rows) r
     (has_filter (λ x. same_item x.item r.item) rows r h (item_itself r.item)))
 
-module _ (tells : Tells) (rows : List Attachment) (s : Search) (items : List Item) (graph : IsGraph rows)
+module _ (tells : BytesTellIdentifiers) (rows : List Attachment) (s : Search) (items : List Item) (graph : IsGraph rows)
     (are : AreLookedAt rows s items) where
   among : (x : Item) → IsCanonItem x → stored_on x rows ≢ [] → has_item items x ≡ is_looked_at rows s x
   among x i n = both_ways (has_item items x) (is_looked_at rows s x)

@@ -16,8 +16,8 @@ use Rattle.ifmap_view.specs.Rows.{stored_between}
 use Rattle.ifmap_fresh.specs.Matching.{LeadsTo, is_match, is_terminal}
 use Rattle.ifmap_fresh.specs.Reached.{identifiers_in, is_below, is_expanded, is_reached, is_within, next_to, within}
 use Rattle.ifmap_fresh.specs.laws.JoiningLaws.{some_there, stands_in}
-use Rattle.ifmap_fresh.specs.laws.SameLaws.{Tells, member, same_is}
-use Rattle.ifmap_ident.specs.SameLaws.{identifier_itself}
+use Rattle.ifmap_fresh.specs.laws.SameLaws.{member, same_is}
+use Rattle.ifmap_ident.specs.SameLaws.{identifier_itself, BytesTellIdentifiers}
 
 -- a walk of the search
 abbrev pub On : List Attachment → Search → ℕ → Identifier → Type 0
@@ -27,7 +27,7 @@ pub on_canon : (rows : List Attachment) (s : Search) → IsIdentifier s.start �
 on_canon rows s i zero a (begins e) = subst IsIdentifier (sym e) i
 on_canon rows s i (suc k) a (goes_on w t l) = l.0
 
-module _ (tells : Tells) (rows : List Attachment) (items : AllByRecursion (λ r. IsCanonItem r.item) rows) (s : Search)
+module _ (tells : BytesTellIdentifiers) (rows : List Attachment) (items : AllByRecursion (λ r. IsCanonItem r.item) rows) (s : Search)
     (start : IsIdentifier s.start) where
   abbrev M : Identifier → Identifier → Type 0
   M = LeadsTo rows s.match_links

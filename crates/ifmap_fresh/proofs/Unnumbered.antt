@@ -1,5 +1,5 @@
 -- A search from an identifier without a number finds nothing.
-use Rattle.std.proofs.Common.{◌≡◌, ◌≢◌, ℕ, zero, suc, ◌&&◌, ◌||◌, true, Option, Some, List, [], ap, ◌∙◌, sym, subst}
+use Rattle.std.proofs.Common.{◌≡◌, ◌≢◌, ℕ, zero, suc, ◌||◌, true, Option, Some, List, [], ap, ◌∙◌, sym, subst}
 use Rattle.std.proofs.Common.{inl, inr}
 use Rattle.std.proofs.lemmas.Bool.{and_parts, or_cases}
 use Rattle.ifmap_ident.specs.declared.identifiers.Identifier.{Identifier}
@@ -18,9 +18,9 @@ use Rattle.ifmap_fresh.specs.Matching.{IsMatch, is_match}
 use Rattle.ifmap_fresh.specs.Reached.{is_expanded}
 use Rattle.ifmap_fresh.specs.laws.JoiningLaws.{match_turned, some_there}
 use Rattle.ifmap_fresh.proofs.Levels.{On, expanded_walk, reached_by_walks}
-use Rattle.ifmap_fresh.specs.laws.SameLaws.{Tells}
+use Rattle.ifmap_ident.specs.SameLaws.{BytesTellIdentifiers}
 
-module _ (tells : Tells) (rows : List Attachment) (id_at : ℕ → Option Identifier) (links : ℕ → List LinkSeen) (s : Search)
+module _ (tells : BytesTellIdentifiers) (rows : List Attachment) (id_at : ℕ → Option Identifier) (links : ℕ → List LinkSeen) (s : Search)
     (is : IsView rows id_at links)
     (start : IsIdentifier s.start) (unnumbered : (v : ℕ) → id_at v ≡ Some s.start → ⊥) where
   no_match : (b : Identifier) → IsMatch rows s.match_links s.start b → ⊥

@@ -28,10 +28,7 @@ use Rattle.ifmap_fresh_tests.proofs.Graphs.{graph_is}
 use Rattle.ifmap_fresh_tests.proofs.Numbers.{below_differ, has_below, pairwise_kept}
 use Rattle.ifmap_fresh_tests.proofs.Pairs.{pairs_of, to_distinct}
 use Rattle.ifmap_lemmas.specs.Pairwise.{Pairwise}
-
--- identifiers of one list of canonical bytes are one, where elements are them
-abbrev pub Tells : Type 0
-Tells = (one other : Identifier) → IsIdentifier one → IsIdentifier other → identifier_bytes one ≡ identifier_bytes other → one ≡ other
+use Rattle.ifmap_ident.specs.SameLaws.{BytesTellIdentifiers}
 
 pub full_is : (xs : List Stored) → xs ≢ [] → is_full xs ≡ true
 full_is [] n = absurd (n refl)
@@ -128,7 +125,7 @@ sound_parts names ss e =
     in let r = and_parts (all_pairs differ names) (all_pairs item_below ss) q.0
     in record { apart = r.0; rising = r.1; lists = q.1; known = p.1 }
 
-module _ (tells : Tells) (names : List Identifier) (ss : List Shelf) (named : AllByRecursion IsIdentifier names)
+module _ (tells : BytesTellIdentifiers) (names : List Identifier) (ss : List Shelf) (named : AllByRecursion IsIdentifier names)
     (canon : AllByRecursion (λ s. IsCanonItem s.item) ss)
     (sound : AreSound names ss) where
   abbrev rows : List Attachment

@@ -9,7 +9,6 @@ use Rattle.ifmap_lemmas.specs.Texts.{eq_itself, eq_tells, same_texts, slice_cmp-
 use Rattle.ifmap_ident.specs.declared.identifiers.Identifier.{Identifier}
 use Rattle.ifmap_ident.specs.declared.items.Item.{Item}
 use Rattle.ifmap_ident.specs.declared.items.Item.TheVariants.{One, Pair}
-use Rattle.ifmap_ident.specs.Canon.{IsIdentifier}
 use Rattle.ifmap_ident.specs.Identifiers.{identifier_bytes, identifier_order, same_identifier}
 use Rattle.ifmap_ident.specs.Items.{item_order, ordered_pair, pair_of, same_item}
 use Rattle.ifmap_view.specs.declared.attachments.Attachment.{Attachment}
@@ -19,10 +18,6 @@ use Rattle.ifmap_ident.specs.SameLaws.{turned_order, ties}
 
 abbrev pub Alike : Identifier → Identifier → Type 0
 Alike a b = identifier_bytes a ≡ identifier_bytes b
-
--- identifiers of one list of canonical bytes are one, where elements gave them
-abbrev pub Tells : Type 0
-Tells = (one other : Identifier) → IsIdentifier one → IsIdentifier other → identifier_bytes one ≡ identifier_bytes other → one ≡ other
 
 pub equal_alike : (a b : Identifier) → identifier_order a b ≡ Equal → Alike a b
 equal_alike a b e = same_texts (identifier_bytes a) (identifier_bytes b) e

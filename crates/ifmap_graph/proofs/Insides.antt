@@ -21,9 +21,10 @@ use Rattle.ifmap_graph.specs.Joined.{AreJoined, AreSingle, IsNumber, joined_pair
 use Rattle.ifmap_graph.specs.Linked.{JoinsNumbers}
 use Rattle.ifmap_graph.specs.Named.{AreEnds, AreIdentifiers, AreNumbered, HasEnds, named_by, named_in}
 use Rattle.ifmap_graph.specs.Shelved.{IsPlaced, StoredSide, list_at, row_on, rows_by}
-use Rattle.ifmap_graph.proofs.Alike.{Tells, alike_equal, equal_alike}
+use Rattle.ifmap_graph.proofs.Alike.{alike_equal, equal_alike}
 use Rattle.ifmap_graph.proofs.Graphs.{graph_is}
 use Rattle.ifmap_graph.proofs.Viewed.{alone, apart, each, handled, linked, only}
+use Rattle.ifmap_ident.specs.SameLaws.{BytesTellIdentifiers}
 
 -- the rows of shelves are those of their entries
 pub rows_shown : (side : StoredSide) (look : ℕ → Option Shelf) (es : List (Item × ℕ)) → rows_by (list_at side) (shown_shelves look es) ≡
@@ -160,7 +161,7 @@ module _ (names : Holdings Identifier) (look : ℕ → Option Shelf) (entries : 
       (are_joined names look entries used numbered) is.listed v seen c
       ∙ sym (ap (stored_linked (key_at names v) (key_at names seen.other)) (rows_shown side look entries))
 
-  module _ (tells : Tells) where
+  module _ (tells : BytesTellIdentifiers) where
     -- a side is a view
     pub view_of : IsView (rows_by (λ at. list_at side (look at)) entries) (key_at names) links
     view_of =

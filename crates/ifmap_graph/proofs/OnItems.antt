@@ -19,9 +19,9 @@ use Rattle.ifmap_plans.specs.Lists.{IsList}
 use Rattle.ifmap_view.specs.declared.attachments.Attachment.{Attachment}
 use Rattle.ifmap_view.specs.Attachments.{IsGraph, attachment_order, of_one_key, stored_order}
 use Rattle.ifmap_view.specs.Rows.{stored_on}
-use Rattle.ifmap_graph.proofs.Alike.{Tells, one_tied, pair_tied}
+use Rattle.ifmap_graph.proofs.Alike.{one_tied, pair_tied}
 use Rattle.ifmap_graph.proofs.Ordered.{equal_is}
-use Rattle.ifmap_ident.specs.SameLaws.{items_total, ties}
+use Rattle.ifmap_ident.specs.SameLaws.{items_total, ties, BytesTellIdentifiers}
 
 tied_with : (x k : Item) → same_item k x ≡ true → item_order x k ≡ Equal
 tied_with x k e = equal_is (item_order x k) (ties x k ∙ e)
@@ -116,7 +116,7 @@ module _ {X : Type 0} (R : X → X → Ordering) (total : IsTotalOrder R) where
       (rest_has y ys xs b.0 (subst (λ k. (z : X) → Has (y ∷ ys) z → Has (k ∷ xs) z) e g)))
 
 -- items that tie are one, where elements gave their identifiers
-canon_tied : Tells → (x y : Item) → IsCanonItem x → IsCanonItem y → item_order x y ≡ Equal → y ≡ x
+canon_tied : BytesTellIdentifiers → (x y : Item) → IsCanonItem x → IsCanonItem y → item_order x y ≡ Equal → y ≡ x
 canon_tied tells (One k) y p q e =
     let t = one_tied k y e
     in t.1 ∙ ap One (tells t.0 k (subst IsCanonItem t.1 q).identifiers.0 p.identifiers.0 t.2)
@@ -132,7 +132,8 @@ has_on r rows h =
     in has_map (λ (a : Attachment). a.stored) (filter (λ (a : Attachment). same_item a.item r.item) rows) r
     (has_filter (λ (a : Attachment). same_item a.item r.item) rows r h t)
 
-on_has : Tells → (r : Attachment) (rows : List Attachment) → IsCanonItem r.item → IsGraph rows → Has (stored_on r.item rows) r.stored
+on_has : BytesTellIdentifiers → (r : Attachment) (rows : List Attachment) → IsCanonItem r.item → IsGraph rows → Has (stored_on r.item rows)
+    r.stored
     → Has rows r
 on_has tells r rows canon g h =
     let m = map_has (λ (a : Attachment). a.stored) (filter (λ (a : Attachment). same_item a.item r.item) rows) r.stored h
@@ -143,7 +144,8 @@ on_has tells r rows canon g h =
     in let same : m.0 ≡ r = ap (λ i. record { item = i; stored = m.0.stored }) e ∙ ap (λ s. record { item = r.item; stored = s }) m.2
     in subst (Has rows) same k.0
 
-pub rows_same : Tells → (a b : List Attachment) → IsGraph a → IsGraph b → ((x : Item) → stored_on x a ≡ stored_on x b) → a ≡ b
+pub rows_same : BytesTellIdentifiers → (a b : List Attachment) → IsGraph a → IsGraph b → ((x : Item) → stored_on x a ≡ stored_on x b) → a ≡
+    b
 rows_same tells a b p q f =
     sorted_same attachment_order attachments_total a b p.rising q.rising
     (λ r h. on_has tells r b (all_has (λ (k : Attachment). IsCanonItem k.item) a p.items r h) q

@@ -15,13 +15,14 @@ use Rattle.ifmap_graph.specs.declared.shelves.Shelf.{Shelf}
 use Rattle.ifmap_graph.specs.Held.{IsInside, shown_shelves}
 use Rattle.ifmap_graph.specs.Named.{AreIdentifiers, named_by, named_in}
 use Rattle.ifmap_graph.specs.Sides.{Sides}
-use Rattle.ifmap_graph.proofs.Alike.{Alike, Tells, alike_equal, equal_alike, order_alike}
+use Rattle.ifmap_graph.proofs.Alike.{Alike, alike_equal, equal_alike, order_alike}
 use Rattle.ifmap_graph.proofs.Changed.{all_same, own_less}
 use Rattle.ifmap_graph.proofs.Departing.{numbered_stay}
 use Rattle.ifmap_graph.proofs.Holds.{identifiers_stay, named_before}
 use Rattle.ifmap_graph.proofs.Insides.{key_is, named_shown, names_by}
 use Rattle.ifmap_graph.proofs.Ordered.{equal_is}
 use Rattle.ifmap_graph.proofs.Shelving.{Entries}
+use Rattle.ifmap_ident.specs.SameLaws.{BytesTellIdentifiers}
 
 -- what lives is the same: a number is held as often
 pub holds_alike : (old new : Holdings Identifier) → new.live ≡ old.live → (v : ℕ) → holds_at new v ≡ holds_at old v
@@ -44,7 +45,7 @@ pub live_key : (names : Holdings Identifier) (v : ℕ) (a : Identifier) → key_
 live_key names v a e = subst (λ (o : Option (Identifier × ℕ)). IsSome o) (sym (names_by names v a a e refl).1) refl
 
 -- the key of a number is the identifier that it names, where elements gave both
-pub key_told : (names : Holdings Identifier) (v : ℕ) (a : Identifier) → Tells → AreIdentifiers names → IsIdentifier a
+pub key_told : (names : Holdings Identifier) (v : ℕ) (a : Identifier) → BytesTellIdentifiers → AreIdentifiers names → IsIdentifier a
     → Names identifier_order names v a
     → key_at names v ≡ Some a
 key_told names v a tells all is n =
@@ -52,7 +53,7 @@ key_told names v a tells all is n =
 
 -- a key stays that of its number
 pub key_kept : (old new : Holdings Identifier) → ((v : ℕ) (a : Identifier) → Names identifier_order old v a → Names identifier_order new v
-    a) → Tells
+    a) → BytesTellIdentifiers
     → AreIdentifiers old → AreIdentifiers new → (v : ℕ) (a : Identifier) → key_at old v ≡ Some a → key_at new v ≡ Some a
 key_kept old new kept tells before after v a e = key_told new v a tells after (before v a e) (kept v a (names_by old v a a e refl))
 

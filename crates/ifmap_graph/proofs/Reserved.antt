@@ -29,7 +29,6 @@ use Rattle.ifmap_graph.specs.Sides.{Sides, next, now}
 use Rattle.ifmap_graph.specs.Stays.{HasSameShelf, StayPlaced}
 use Rattle.ifmap_graph.specs.Turning.{AreDrafted, NoOthers}
 use Rattle.ifmap_graph.specs.Waits.{waits_on}
-use Rattle.ifmap_graph.proofs.Alike.{Tells}
 use Rattle.ifmap_graph.proofs.Backs.{keeps_backs}
 use Rattle.ifmap_graph.proofs.Finding.{absent}
 use Rattle.ifmap_graph.proofs.Insides.{named_shown, rows_shown}
@@ -39,6 +38,7 @@ use Rattle.ifmap_graph.proofs.Outs.{from_shown, to_shown}
 use Rattle.ifmap_graph.proofs.Own.{key_kept}
 use Rattle.ifmap_graph.proofs.Settled.{bare_to, ends_shown, ends_there, held_of, waits_shown}
 use Rattle.ifmap_graph.proofs.Waited.{times_append}
+use Rattle.ifmap_ident.specs.SameLaws.{BytesTellIdentifiers}
 
 all_shown : (s : Shelves) (xs : List Item) → AllByRecursion (HasDraft s) xs
     → AllByRecursion (IsDrafted (shown_shelves (get s.slots) s.places.entries)) xs
@@ -122,7 +122,7 @@ module _ (names later : Holdings Identifier) (s t : Shelves) (links moved : List
     pub made_backs : KeepsBacks (held_of names s links) (held_of later t moved)
     made_backs = keeps_backs (held_of names s links) (held_of later t moved) made_now made.links made.longer (stay made.places) more_waits
 
-    pub made_numbers : Tells → AreIdentifiers names → KeepsNumbers (held_of names s links) (held_of later t moved)
+    pub made_numbers : BytesTellIdentifiers → AreIdentifiers names → KeepsNumbers (held_of names s links) (held_of later t moved)
     made_numbers tells keys = key_kept names later made.kept tells keys made.inside.keys
 
     pub made_out : (ready : Ready) → ready.plan.changes ≡ changes → length ready.lists ≡ length changes → ready.ways ≡ ways
@@ -158,10 +158,10 @@ module _ (names later : Holdings Identifier) (s t : Shelves) (links moved : List
         keeps_backs (held_of names s links) (held_of later t moved) unmade_now un.links un.longer
         (stay (λ x at e. (un.shelves.places x tt ∙ e, un.shelves.ends x at e))) unmade_waits
 
-    pub unmade_numbers : Tells → AreIdentifiers names → KeepsNumbers (held_of names s links) (held_of later t moved)
+    pub unmade_numbers : BytesTellIdentifiers → AreIdentifiers names → KeepsNumbers (held_of names s links) (held_of later t moved)
     unmade_numbers tells keys = key_kept names later un.kept tells keys un.inside.keys
 
-    pub unmade_same : Tells → AreIdentifiers names → IsSeenSame (held_of names s links) (held_of later t moved)
+    pub unmade_same : BytesTellIdentifiers → AreIdentifiers names → IsSeenSame (held_of names s links) (held_of later t moved)
     unmade_same tells keys = record {
       rows = unmade_now;
       links = un.links;

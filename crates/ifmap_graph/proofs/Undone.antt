@@ -26,7 +26,6 @@ use Rattle.ifmap_graph.specs.Shelved.{IsPlaced, list_at, slot_of_item, rows_by, 
 use Rattle.ifmap_graph.specs.Sides.{Sides, next, now}
 use Rattle.ifmap_graph.specs.Turning.{restore_each, sides_at}
 use Rattle.ifmap_graph.specs.Waits.{times_in, waits_on}
-use Rattle.ifmap_graph.proofs.Alike.{Tells}
 use Rattle.ifmap_graph.proofs.Backs.{links_stay}
 use Rattle.ifmap_graph.proofs.Bare.{list_bare}
 use Rattle.ifmap_graph.proofs.Finding.{found}
@@ -42,7 +41,7 @@ use Rattle.ifmap_graph.proofs.Shelving.{Entries}
 use Rattle.ifmap_graph.proofs.Staying.{ends_of}
 use Rattle.ifmap_graph.proofs.Taking.{has_times}
 use Rattle.ifmap_graph.proofs.Turns.{next_of_bare, restored_drafts, restored_length}
-use Rattle.ifmap_ident.specs.SameLaws.{items_total}
+use Rattle.ifmap_ident.specs.SameLaws.{items_total, BytesTellIdentifiers}
 
 -- links that are alike at each number
 links_alike : (rows : List Attachment) (links moved : ℕ → List LinkSeen) (h : Held) → ((v : ℕ) → moved v ≡ links v)
@@ -118,7 +117,7 @@ module _ (names : Holdings Identifier) (look later : ℕ → Option Shelf) (es :
   pub back_inside : IsInside names later es moved
   back_inside = inside_anew look later ends names es links moved (ap length turned ∙ restored_length u.ways links) side next_side is
 
-  pub back_rows : Tells → rows_now (seen_of later es names moved) ≡ rows
+  pub back_rows : BytesTellIdentifiers → rows_now (seen_of later es names moved) ≡ rows
   back_rows tells =
       rows_shown now later es
       ∙ rows_same tells (rows_by (λ at. list_at now (later at)) es) rows
@@ -172,7 +171,7 @@ module _ (names : Holdings Identifier) (s t : Shelves) (links moved : List (Side
         (back_inside names (get s.slots)
         (get t.slots) s.places.entries links moved is ends still_bare none u rows seen back still_stands turned)
 
-    pub undone_rows : Tells → rows_now (held_of names t moved) ≡ rows
+    pub undone_rows : BytesTellIdentifiers → rows_now (held_of names t moved) ≡ rows
     undone_rows tells =
         ap (λ p. rows_now (seen_of (get t.slots) p.entries names moved)) places
         ∙ back_rows names (get s.slots)

@@ -26,7 +26,7 @@ use Rattle.ifmap_graph.specs.Seen.{AreUsed, IsAttached, IsHeldBeside, IsLean, ro
 use Rattle.ifmap_graph.specs.Shelved.{list_at, row_on, rows_on_side}
 use Rattle.ifmap_graph.specs.Sides.{Sides, now}
 use Rattle.ifmap_graph.specs.Waits.{waits_on}
-use Rattle.ifmap_graph.proofs.Alike.{Tells, equal_alike}
+use Rattle.ifmap_graph.proofs.Alike.{equal_alike}
 use Rattle.ifmap_graph.proofs.Finding.{found}
 use Rattle.ifmap_graph.proofs.Following.{entry_hits}
 use Rattle.ifmap_graph.proofs.Insides.{named_shown, names_by, rows_shown}
@@ -34,6 +34,7 @@ use Rattle.ifmap_graph.proofs.Lean.{lean_from}
 use Rattle.ifmap_graph.proofs.Ordered.{equal_is}
 use Rattle.ifmap_graph.proofs.Own.{key_told, live_key}
 use Rattle.ifmap_graph.proofs.Settled.{held_of, waits_shown}
+use Rattle.ifmap_ident.specs.SameLaws.{BytesTellIdentifiers}
 
 -- an identifier that entries name is one of some entry's item
 named_entry : {X : Type 0} (es : List (Item × X)) (a : Identifier) → 0 < named_in es a → (e : Item × X) × Has es e × (0 < named_by e.0 a)
@@ -46,13 +47,14 @@ named_entry {X} (e ∷ es) a h = by (named_by e.0 a) refl (λ some. named_entry 
     by zero q rest = let r = rest (omega (arith, h, q)) in (r.0, inr r.1, r.2)
 
 -- it is the identifier itself, where elements gave both
-once_is : (b a : Identifier) → Tells → IsIdentifier b → IsIdentifier a → 0 < once identifier_order b a → b ≡ a
+once_is : (b a : Identifier) → BytesTellIdentifiers → IsIdentifier b → IsIdentifier a → 0 < once identifier_order b a → b ≡ a
 once_is b a tells is other h = elim (cases_Bool (is_eq (identifier_order b a))) [
   | inl t ↦ tells b a is other (equal_alike b a (equal_is (identifier_order b a) t))
   | inr f ↦ let none = rw f at h in absurd (omega (arith, none))
 ]
 
-named_has : (i : Item) (a : Identifier) → Tells → AllByRecursion IsIdentifier (identifiers_of i) → IsIdentifier a → 0 < named_by i a
+named_has : (i : Item) (a : Identifier) → BytesTellIdentifiers → AllByRecursion IsIdentifier (identifiers_of i) → IsIdentifier a → 0 <
+    named_by i a
     → Has (identifiers_of i) a
 named_has (One b) a tells is other h = inl (once_is b a tells is.0 other h)
 named_has (Pair b c) a tells is other h = by (once identifier_order b a) refl
@@ -85,7 +87,7 @@ shelf_named : (names : Holdings Identifier) (i : Item) (o : Option Shelf) (a : I
 shelf_named names i None a n h = absurd n
 shelf_named names i (Some shelf) a n h = ends_named names i shelf.ends a n h
 
-module _ (names : Holdings Identifier) (s : Shelves) (links : List (Sides LinkSeen)) (tells : Tells)
+module _ (names : Holdings Identifier) (s : Shelves) (links : List (Sides LinkSeen)) (tells : BytesTellIdentifiers)
     (is : IsInside names (get s.slots) s.places.entries links) where
   abbrev list_of : ℕ → List Stored
   list_of at = list_at now (get s.slots at)

@@ -29,10 +29,10 @@ use Rattle.ifmap_view.specs.Views.{IsLink, others}
 use Rattle.ifmap_graph.specs.Joined.{AreJoined, AreSingle, IsNumber, is_not_empty, full_some, some_full}
 use Rattle.ifmap_graph.specs.Linked.{AreListed, JoinsNumbers, ats}
 use Rattle.ifmap_graph.specs.Shelved.{ItemsRise, rows_by}
-use Rattle.ifmap_graph.proofs.Alike.{Alike, Tells, one_tied, order_alike, pair_less, pair_more, pair_tied, pairs_tie, same_pair, stored_alike}
+use Rattle.ifmap_graph.proofs.Alike.{Alike, one_tied, order_alike, pair_less, pair_more, pair_tied, pairs_tie, same_pair, stored_alike}
 use Rattle.ifmap_graph.proofs.Following.{entry_hits, lookup_tied, looked_up, stands}
 use Rattle.ifmap_graph.proofs.Finding.{absent, found}
-use Rattle.ifmap_ident.specs.SameLaws.{turned_order}
+use Rattle.ifmap_ident.specs.SameLaws.{turned_order, BytesTellIdentifiers}
 
 never_other : (n : ℕ) → nat_eq n n ≡ false → ⊥
 never_other n e = grind (arith, nat_tests)
@@ -167,7 +167,7 @@ module _ (list_of : ℕ → List Stored) (entries : List (Item × ℕ)) (id_at :
       by (Some a) (Some b) p q n = between v w a b p q n
 
   -- the number of an identifier, where bytes tell identifiers of elements apart
-  module _ (tells : Tells) (keys : (v : ℕ) (a : Identifier) → id_at v ≡ Some a → IsIdentifier a) where
+  module _ (tells : BytesTellIdentifiers) (keys : (v : ℕ) (a : Identifier) → id_at v ≡ Some a → IsIdentifier a) where
     exact : (v : ℕ) (a : Identifier) → IsIdentifier a → IsNumber id_at v a → id_at v ≡ Some a
     exact v a i n = n.1 ∙ ap Some (tells n.0 a (keys v n.0 n.1) i n.2)
 

@@ -13,6 +13,7 @@ use Rattle.std.specs.declared.cmp.Ordering.TheVariants.{Equal, Less}
 use Rattle.std.specs.Cmp.Rules.{comparing}
 use Rattle.std.specs.BTreeMap.{is_at}
 use Rattle.ifmap_lemmas.specs.Orderings.{eq_turned}
+use Rattle.ifmap_ident.specs.Canon.{IsIdentifier}
 
 pub identifier_itself : (a : Identifier) → same_identifier a a ≡ true
 identifier_itself a = eq_itself (identifier_bytes a)
@@ -41,3 +42,8 @@ ties item other = sym (items_tie other item ∙ ap is_eq (items_total.antisymm o
 -- an item below another is not the same
 pub greater_differs : (i y : Item) → item_order i y ≡ Less → same_item y i ≡ false
 greater_differs i y e = sym (ties i y) ∙ ap is_eq e
+
+-- identifiers of one list of canonical bytes are one
+abbrev pub BytesTellIdentifiers : Type 0
+BytesTellIdentifiers = (one other : Identifier) → IsIdentifier one → IsIdentifier other → identifier_bytes one ≡ identifier_bytes other →
+    one ≡ other

@@ -63,11 +63,9 @@ use Rattle.ifmap_session.specs.laws.TextLaws.{text_is}
 use Rattle.ifmap_view.specs.declared.attachments.Attachment.{Attachment}
 use Rattle.ifmap_view.specs.Attachments.{IsGraph}
 use Rattle.ifmap_session.specs.laws.IdLaws.{id_characters}
+use Rattle.ifmap_fresh.specs.laws.GatheringLaws.{entry_of}
 
 -- ---- 1. what is found and told
-
-abbrev entry_of : Attachment → Entry
-entry_of r = record { item = r.item; element = r.stored.element }
 
 abbrev entry_noted : Note → Entry
 entry_noted n = record { item = n.item; element = n.element }

@@ -28,7 +28,8 @@ use Rattle.ifmap_search.specs.declared.searches.Search.{Search}
 use Rattle.ifmap_session.specs.laws.TextLaws.{text_is}
 use Rattle.ifmap_view.specs.declared.attachments.Attachment.{Attachment}
 use Rattle.ifmap_view.specs.Attachments.{IsGraph}
-use Rattle.ifmap_folds.specs.laws.FoldingLaws.{difference_none, entry_of, fresh_rises}
+use Rattle.ifmap_folds.specs.laws.FoldingLaws.{difference_none, fresh_rises}
+use Rattle.ifmap_fresh.specs.laws.GatheringLaws.{entry_of}
 
 -- a graph whose attachments are whole
 pub record IsWholeGraph (rows : List Attachment) : Type 0 where

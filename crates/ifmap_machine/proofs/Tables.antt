@@ -1,12 +1,12 @@
 -- What holds of the sessions in every state: `IsTable`, kept by each case of the step.
 -- First: a function of each session that keeps its serial, id and client keeps it (`mapped_table`); so telling and overflowing do.
 -- Then: some sessions end (`dropped_table`). Then the cases of the step (`step_table`), and histories (`table_after`).
-use Rattle.std.proofs.Common.{◌≡◌, refl, sym, ◌∙◌, ap, subst, ℕ, suc, ◌+◌, ◌-◌, ◌^◌, ◌<◌, ◌≤◌, ◌==◌, ◌&&◌, Bool, true, false, not}
+use Rattle.std.proofs.Common.{◌≡◌, refl, sym, ◌∙◌, ap, subst, ℕ, suc, ◌+◌, ◌-◌, ◌^◌, ◌<◌, ◌≤◌, ◌==◌, ◌&&◌, Bool, true, false}
 use Rattle.std.proofs.Common.{List, [], ◌∷◌, length, map, Option, None, Some, inl, inr, nat_le, is_none, arith}
 use Rattle.std.proofs.lemmas.Bool.{and_cases, both_ways, cases_Bool, or_parts}
 use Rattle.std.proofs.lemmas.Bool.Decides.{nat_tests}
 use Rattle.std.proofs.lemmas.List.Kept.{IsStrictlySortedBy-filter}
-use Rattle.std.specs.List.{AllByRecursion, IsDistinct, list_any}
+use Rattle.std.specs.List.{AllByRecursion, IsDistinct}
 use Rattle.std.specs.List.Sorted.{IsStrictlySortedBy}
 use Rattle.std.specs.declared.cmp.Ordering.TheVariants.{Less}
 use Rattle.ifmap_lemmas.specs.Filters.{all_filter, all_weaker, filter_shorter}
@@ -30,7 +30,7 @@ use Rattle.ifmap_search.specs.declared.searches.Search.{Search}
 use Rattle.ifmap_session.specs.SessionIds.{BeginsWithSerial}
 use Rattle.ifmap_session.specs.Sessions.{IsTable, Session, SessionTable, change, is_same_text, most_sessions, session_of_client, session_order, without_items}
 use Rattle.ifmap_session.specs.Sessions.{session_with_id, without_sessions}
-use Rattle.ifmap_session.specs.laws.TableLaws.{KeepsIdAndClient, begun_table, changed_table, client_freed, id_begins, one_fewer, renewed_keeps}
+use Rattle.ifmap_session.specs.laws.TableLaws.{KeepsIdAndClient, begun_table, changed_table, client_freed, id_begins, one_fewer, renewed_keeps, is_left}
 use Rattle.ifmap_session.specs.laws.TextLaws.{distinct_filter}
 use Rattle.ifmap_view.specs.declared.attachments.Attachment.{Attachment}
 
@@ -107,18 +107,15 @@ overflow_table state w = mapped_table overflow_session overflow_keeps (table_of 
 
 -- ---- some sessions end
 
-abbrev pub remains : List ℕ → Session → Bool
-remains serials s = not (list_any (λ n. n == s.serial) serials)
-
 pub dropped_table : (serials : List ℕ) (table : SessionTable) → IsTable table
     → IsTable (record table { live = without_sessions serials table.live })
 dropped_table serials table h = record {
-  rising = IsStrictlySortedBy-filter session_order (remains serials) table.live h.rising;
-  counted = all_filter (λ (s : Session). s.serial ≤ table.counter) (remains serials) table.live h.counted;
+  rising = IsStrictlySortedBy-filter session_order (is_left serials) table.live h.rising;
+  counted = all_filter (λ (s : Session). s.serial ≤ table.counter) (is_left serials) table.live h.counted;
   small = h.small;
-  ids = all_filter (λ (s : Session). BeginsWithSerial s.serial s.id) (remains serials) table.live h.ids;
-  apart = distinct_filter (λ (s : Session). s.client) (remains serials) table.live h.apart;
-  few = let less = filter_shorter (remains serials) table.live in omega (arith, less, h.few);
+  ids = all_filter (λ (s : Session). BeginsWithSerial s.serial s.id) (is_left serials) table.live h.ids;
+  apart = distinct_filter (λ (s : Session). s.client) (is_left serials) table.live h.apart;
+  few = let less = filter_shorter (is_left serials) table.live in omega (arith, less, h.few);
 }
 
 pub ended_table : (serials : List ℕ) (state : State) → IsTabled state → IsTabled (end_some serials state)

@@ -1,5 +1,5 @@
 -- A word that is mixed of one member after another.
-use Rattle.std.proofs.Common.{◌≡◌, ℕ, ◌+◌, ◌<◌, Bool, true, false, not, List, [], ◌∷◌, ◌++◌, take, length, get_or, refl, ap, sym, ◌∙◌}
+use Rattle.std.proofs.Common.{◌≡◌, ℕ, ◌+◌, ◌<◌, true, false, List, [], ◌∷◌, ◌++◌, take, length, get_or, refl, ap, sym, ◌∙◌}
 use Rattle.std.specs.List.{flat_map}
 use Rattle.std.proofs.lemmas.Grind.{flat_map-append}
 use Rattle.std.proofs.lemmas.List.{append-nil, take_more}
@@ -8,6 +8,7 @@ use Rattle.ifmap_elem.specs.declared.elements.Attribute.{Attribute}
 use Rattle.ifmap_meta.specs.KeyWords.{attribute_parts, mix_all}
 use Rattle.ifmap_meta.specs.Stamps.{is_stamp, without_stamps}
 use Rattle.ifmap_meta.specs.laws.KeyWordLaws.{mix_append}
+use Rattle.ifmap_meta.specs.laws.StampLaws.{is_content}
 
 module _ {X : Type 0} (f : X → List ℕ) (word : ℕ) where
   -- the word after one member more
@@ -30,9 +31,6 @@ pub bytes_more : (word : ℕ) (xs : List ℕ) (i x m n : ℕ) → i < length xs 
 bytes_more word xs i x m n l at e g =
     g ∙ ap (λ w. mix_all w (x ∷ [])) e ∙ sym (mix_append word (take i xs) (x ∷ []))
     ∙ ap (mix_all word) (sym (take_more xs i 0 l ∙ ap (λ y. take i xs ++ y ∷ []) (sym at)))
-
-abbrev is_content : Attribute → Bool
-is_content a = not (is_stamp a)
 
 content_more : (xs : List Attribute) (i : ℕ) (x : Attribute) → i < length xs → x ≡ get_or xs i x
     → without_stamps (take (i + 1) xs) ≡ without_stamps (take i xs) ++ without_stamps (x ∷ [])

@@ -37,7 +37,7 @@ use Rattle.ifmap_filter.specs.declared.tokens.Token.TheVariants.{EqualsSign, At,
 use Rattle.ifmap_filter.specs.Grammar.{AreTests, AsksFor, Rule, StandsFor, TakesAnds, TakesComparison, TakesFactor, TakesGroup, TakesJoined}
 use Rattle.ifmap_filter.specs.Grammar.{TakesMore, TakesOrs, TakesPredicate, TakesTest, and_word, join_of, or_word, space_of}
 use Rattle.ifmap_filter.specs.Texts.{Writes}
-use Rattle.ifmap_filter.specs.Tokens.{FrontToken, Takes, after_while, closed_literal, front_token, front_while, is_but, is_quote}
+use Rattle.ifmap_filter.specs.Tokens.{FrontToken, Takes, after_while, closed_literal, front_token, front_while}
 use Rattle.ifmap_filter.specs.Tokens.{literal_at, name_at, name_from, name_token, part_bytes, prefixed_name_at, symbol_of, token_at}
 use Rattle.ifmap_filter.specs.Tokens.{with_symbol, without_white}
 use Rattle.ifmap_forms.specs.Scopes.{scopes_by}
@@ -46,6 +46,8 @@ use Rattle.ifmap_requests.specs.FitFilters.{comparisons_of}
 use Rattle.ifmap_requests.proofs.Characters.{are_characters}
 use Rattle.ifmap_elem.specs.laws.CharacterLaws.{characters_are_utf8}
 use Rattle.ifmap_elem.specs.laws.NameBytes.{starts_are_characters}
+use Rattle.ifmap_lexer.specs.Cutting.{is_but}
+use Rattle.ifmap_lexer.specs.There.{is_quote}
 
 -- ---- (1) tokens
 

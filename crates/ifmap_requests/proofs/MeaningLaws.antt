@@ -1,6 +1,5 @@
 -- A body means one thing at most: it spells one reading, which is an envelope of one element, and that has one request or one code.
 use Rattle.std.proofs.Common.{◌≡◌, ℕ, List, Result, Ok, Err, ap, refl, subst, sym}
-use Rattle.ifmap_elem.specs.Spells.{Spells}
 use Rattle.ifmap_elem.specs.declared.elements.Element.{Element}
 use Rattle.ifmap_elem.specs.declared.readings.Reading.{Reading}
 use Rattle.ifmap_envelopes.specs.Envelopes.{IsEnvelope, OneEnvelope}
@@ -8,7 +7,7 @@ use Rattle.ifmap_ident.specs.declared.codes.Code.{Code}
 use Rattle.ifmap_requests.specs.declared.errors.Refusal.{Refusal}
 use Rattle.ifmap_requests.specs.declared.errors.Refusal.TheVariants.{Named, Unreadable, NoMemory}
 use Rattle.ifmap_requests.specs.declared.requests.Request.{Request}
-use Rattle.ifmap_requests.specs.Laws.{OneRequest}
+use Rattle.ifmap_requests.specs.Laws.{OneRequest, OneReading}
 use Rattle.ifmap_requests.specs.Means.{BodyFinds, Means, scopes_from}
 use Rattle.ifmap_requests.specs.RequestForms.{request_check}
 
@@ -20,9 +19,6 @@ good request = Ok request
 
 abbrev bad : Code → Found
 bad code = Err code
-
-abbrev pub OneReading : Type 0
-OneReading = (bytes : List ℕ) (one other : Reading) → Spells bytes one → Spells bytes other → one ≡ other
 
 module _ (readings : OneReading) (envelopes : OneEnvelope) (requests : OneRequest) where
   found_in : (reading : Reading) (path route : List ℕ) (e f : Element) (one other : Found) → IsEnvelope reading.root path e

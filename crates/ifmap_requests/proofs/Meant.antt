@@ -13,10 +13,9 @@ use Rattle.ifmap_ident.specs.declared.codes.Code.{Code}
 use Rattle.ifmap_requests.specs.declared.errors.Refusal.{Refusal}
 use Rattle.ifmap_requests.specs.declared.errors.Refusal.TheVariants.{Named, Unreadable}
 use Rattle.ifmap_requests.specs.declared.requests.Request.{Request}
-use Rattle.ifmap_requests.specs.Laws.{RequestOrCode, SomeMeaning}
+use Rattle.ifmap_requests.specs.Laws.{RequestOrCode, SomeMeaning, OneReading}
 use Rattle.ifmap_requests.specs.Means.{Means, request_levels, scopes_from}
 use Rattle.ifmap_requests.specs.RequestForms.{request_check}
-use Rattle.ifmap_requests.proofs.MeaningLaws.{OneReading}
 use Rattle.ifmap_requests.proofs.Sound.{inner_sound}
 
 module _ (requests : RequestOrCode) (readings : OneReading) (fits : (bytes : List ℕ) (r : Reading) → Spells bytes r → IsFit r.root)

@@ -9,6 +9,8 @@ use Rattle.ifmap_requests.specs.Fit.{IsFitRequest}
 use Rattle.ifmap_requests.specs.Means.{Means}
 use Rattle.ifmap_requests.specs.RequestForms.{request_check}
 use Rattle.ifmap_forms.specs.Scopes.{Scopes}
+use Rattle.ifmap_elem.specs.Spells.{Spells}
+use Rattle.ifmap_elem.specs.declared.readings.Reading.{Reading}
 
 -- an element has one request or one code, in given scopes
 abbrev pub OneRequest : Type 0
@@ -30,3 +32,6 @@ SomeMeaning = (bytes : List ℕ) → (meaning : Result Request Refusal) × Means
 -- every request that a body means is fit
 abbrev pub FitMeaning : Type 0
 FitMeaning = (bytes : List ℕ) (request : Request) → Means bytes (Ok request) → IsFitRequest request
+
+abbrev pub OneReading : Type 0
+OneReading = (bytes : List ℕ) (one other : Reading) → Spells bytes one → Spells bytes other → one ≡ other

@@ -4,6 +4,7 @@ use Rattle.ifmap_delta.specs.declared.subscriptions.Subscription.{Subscription}
 use Rattle.ifmap_delta.specs.Ways.{HasSameSearch}
 use Rattle.ifmap_region.specs.Marks.{mark_of, row_of}
 use Rattle.ifmap_standing.specs.declared.standing.Standing.{Standing}
+use Rattle.ifmap_delta.specs.Sights.{IsUpToDate, ViewSeen}
 
 -- a relation holds at each place of two lists of one length
 pub record AtEach {X : Type 0} (R : ℕ → X → X → Type 0) (old new : List X) : Type 0 where
@@ -22,3 +23,6 @@ pub record KeepsSame (old new : Subscription) : Type 0 where
   pub size : new.size ≡ old.size
   pub marks : (v : ℕ) → mark_of new.region.marks.entries v ≡ mark_of old.region.marks.entries v
   pub rows : (v : ℕ) → IsSome (row_of old.region.marks.entries v) → IsSome (row_of new.region.marks.entries v)
+
+abbrev pub StaysSame : Type 0
+StaysSame = (g : ViewSeen) (old new : Subscription) → KeepsSame old new → IsUpToDate g old → IsUpToDate g new

@@ -1,22 +1,19 @@
 -- What stays ready where identifiers are only held.
 -- First: `OnlyHolds` of one state after another, and what is to be told then. Then: subscriptions keep what the graph has, by the law
 -- that views with the same links are kept alike (`SameLinks`). Then: parts stay ready. Last: few hold one identifier.
-use Rattle.std.proofs.Common.{◌≡◌, sym, ◌∙◌, ap, subst, ℕ, ◌*◌, ◌^◌, ◌≤◌, Bool, List, [], ◌∷◌, ◌++◌, length, map, Some, Result, Ok, Err, arith, append_assoc, length-append, option_to_list}
+use Rattle.std.proofs.Common.{◌≡◌, sym, ◌∙◌, ap, subst, ℕ, ◌*◌, ◌^◌, ◌≤◌, Bool, List, [], ◌∷◌, ◌++◌, length, map, Result, Ok, Err, arith, append_assoc, length-append, option_to_list}
 use Rattle.std.specs.Prelude.{IfOk}
 use Rattle.std.proofs.lemmas.List.{length-map}
 use Rattle.std.specs.List.{AllByRecursion}
 use Rattle.ifmap_lemmas.specs.Places.{all_got}
 use Rattle.ifmap_machine.specs.State as machine
-use Rattle.ifmap_changes.specs.Between.{AreOrdered, Asking, IsSoundSoFar, IsSteady, SharesNumbers, sessions_left, sight_now, starts_of}
+use Rattle.ifmap_changes.specs.Between.{AreOrdered, Asking, IsSoundSoFar, IsSteady, SharesNumbers, sessions_left, sight_now, starts_of, HasStartNumber, IsSeen}
 use Rattle.ifmap_changes.specs.declared.parts.Parts.{Parts}
-use Rattle.ifmap_delta.specs.Sights.{IsUpToDate, ViewSeen}
-use Rattle.ifmap_delta.specs.declared.subscriptions.Subscription.{Subscription}
+use Rattle.ifmap_delta.specs.Sights.{IsUpToDate, SameLinks}
 use Rattle.ifmap_graph.specs.Held.{Held}
 use Rattle.ifmap_graph.specs.Seen.{HasFewOwn, KeepsNumbers, links_now, rows_now}
-use Rattle.ifmap_ident.specs.declared.identifiers.Identifier.{Identifier}
 use Rattle.ifmap_lemmas.specs.Members.{all_both, both_all, map_of_all}
 use Rattle.ifmap_machine.specs.Subscribing.{Told}
-use Rattle.ifmap_pool.specs.Holdings.{key_at}
 use Rattle.ifmap_session.specs.Sessions.{IsLive, Session, SessionTable, session_with_serial}
 use Rattle.ifmap_standing.specs.Standing.{standing_of}
 use Rattle.ifmap_standing.specs.declared.standing.Standing.{Standing}
@@ -29,7 +26,6 @@ use Rattle.ifmap_subscribes.specs.declared.readying.Scene.{Scene}
 use Rattle.ifmap_subscribes.specs.declared.renamings.Renaming.{Renaming}
 use Rattle.ifmap_tellings.specs.Tellings.{AllKept, kept_of, told_by}
 use Rattle.ifmap_tellings.specs.declared.tellings.Pending.{Pending}
-use Rattle.ifmap_view.specs.Views.{IsView}
 use Rattle.ifmap_changes.specs.StartLaws.{starts_few, shares_kept}
 
 -- one state after another
@@ -67,43 +63,26 @@ can_on scene old new r h ready live readied = record {
   readied = subst (λ t. AreReadied scene.serial t new r) (sym (told_same scene old new h.sessions h.standing)) readied;
 }
 
--- the start of each subscription has a number
-abbrev pub IsNumbered : Held → Standing → Type 0
-IsNumbered h x = key_at h.names x.subscription.region.start ≡ Some x.subscription.search.start
-
-pub numbered_on : (old new : Held) → KeepsNumbers old new → (xs : List Standing) → AllByRecursion (IsNumbered old) xs
-    → AllByRecursion (IsNumbered new) xs
+pub numbered_on : (old new : Held) → KeepsNumbers old new → (xs : List Standing) → AllByRecursion (HasStartNumber old) xs
+    → AllByRecursion (HasStartNumber new) xs
 numbered_on old new k [] h = tt
 numbered_on old new k (x ∷ xs) h =
     (k x.subscription.region.start x.subscription.search.start h.0, numbered_on old new k xs h.1)
 
--- views with the same links are kept alike
-abbrev pub SameLinks : Type 0
-SameLinks =
-    (one other : ViewSeen) (sub : Subscription)
-    → IsView one.rows one.id_at one.links → IsView other.rows other.id_at other.links
-    → other.rows ≡ one.rows → ((v : ℕ) → other.links v ≡ one.links v)
-    → ((v : ℕ) (a b : Identifier) → one.id_at v ≡ Some a → other.id_at v ≡ Some b → b ≡ a)
-    → other.id_at sub.region.start ≡ Some sub.search.start
-    → IsUpToDate one sub → IsUpToDate other sub
-
-abbrev pub IsSeen : Held → Type 0
-IsSeen h = IsView (rows_now h) (key_at h.names) (links_now h)
-
 module _ (law : SameLinks) (old new : Held) (seen_old : IsSeen old) (seen_new : IsSeen new) (rows : rows_now new ≡ rows_now old)
     (links : (v : ℕ) → links_now new v ≡ links_now old v) (numbers : SharesNumbers old new) where
-  kept_one : (x : Standing) → IsNumbered new x → IsUpToDate (sight_now old) x.subscription → IsUpToDate (sight_now new) x.subscription
+  kept_one : (x : Standing) → HasStartNumber new x → IsUpToDate (sight_now old) x.subscription → IsUpToDate (sight_now new) x.subscription
   kept_one x e k = law (sight_now old) (sight_now new) x.subscription seen_old seen_new rows links numbers e k
 
-  pub kept_all : (xs : List Standing) → AllByRecursion (IsNumbered new) xs → AllByRecursion
+  pub kept_all : (xs : List Standing) → AllByRecursion (HasStartNumber new) xs → AllByRecursion
       (λ x. IsUpToDate (sight_now old) x.subscription) xs
       → AllByRecursion (λ x. IsUpToDate (sight_now new) x.subscription) xs
   kept_all [] n h = tt
   kept_all (x ∷ xs) n h = (kept_one x n.0 h.0, kept_all xs n.1 h.1)
 
-  pub kept_each : (gone : List Bool) (xs : List Standing) → AllByRecursion (IsNumbered new) xs
+  pub kept_each : (gone : List Bool) (xs : List Standing) → AllByRecursion (HasStartNumber new) xs
       → AllKept (λ x. IsUpToDate (sight_now old) x.subscription) gone xs → AllKept (λ x. IsUpToDate (sight_now new) x.subscription) gone xs
-  kept_each gone xs n k i x at here = kept_one x (all_got (IsNumbered new) xs i x n at) (k i x at here)
+  kept_each gone xs n k i x at here = kept_one x (all_got (HasStartNumber new) xs i x n at) (k i x at here)
 
 -- parts stay ready
 ready_of : (a : Asking) (old : Parts) (pending : Pending) (g : Held) → IsSoundSoFar a old pending
@@ -125,13 +104,13 @@ ready_of a old pending g r k = record {
 -- what is to stand can still, in a graph in which more is held, and one renaming more can
 module _ (law : SameLinks) (serial : ℕ) (old : Parts) (g : Held) (made : List Renaming) (seen_old : IsSeen old.graph) (seen_new : IsSeen g)
     (h : GraphHolds old.graph g) (c : CanStand serial old made) where
-  numbered_all : AllByRecursion (IsNumbered g) (old.standing.items ++ begun_by made)
+  numbered_all : AllByRecursion (HasStartNumber g) (old.standing.items ++ begun_by made)
   numbered_all = numbered_on old.graph g h.numbers (old.standing.items ++ begun_by made) c.steady.numbered
 
   kept_begun : AllByRecursion (λ x. IsUpToDate (sight_now g) x.subscription) (begun_by made)
   kept_begun =
       kept_all law old.graph g seen_old seen_new h.rows h.links (shares_kept old.graph g h.numbers) (begun_by made)
-      (all_both (IsNumbered g) old.standing.items (begun_by made) numbered_all).1 c.kept
+      (all_both (HasStartNumber g) old.standing.items (begun_by made) numbered_all).1 c.kept
 
   pub stand_still : IsSteady g (old.standing.items ++ begun_by made) → CanStand serial (record old { graph = g }) made
   stand_still steady = record { session = c.session; steady = steady; kept = kept_begun }
@@ -153,13 +132,13 @@ module _ (law : SameLinks) (serial : ℕ) (old : Parts) (g : Held) (made : List 
   pub stays_ready : (a : Asking) (pending : Pending) → IsSoundSoFar a old pending → IsSoundSoFar a (record old { graph = g }) pending
   stays_ready a pending r =
       ready_of a old pending g r (kept_each law old.graph g seen_old seen_new h.rows h.links (shares_kept old.graph g h.numbers)
-      pending.gone.items old.standing.items (all_both (IsNumbered g) old.standing.items (begun_by made) numbered_all).0 r.kept)
+      pending.gone.items old.standing.items (all_both (HasStartNumber g) old.standing.items (begun_by made) numbered_all).0 r.kept)
 
 -- where starts are let go of, what is numbered still is kept still
 pub ready_after : (a : Asking) (old : Parts) (pending : Pending) (g : Held) → IsSoundSoFar a old pending → KeepsNumbered old.graph g
-    → AllByRecursion (IsNumbered g) old.standing.items → IsSoundSoFar a (record old { graph = g }) pending
+    → AllByRecursion (HasStartNumber g) old.standing.items → IsSoundSoFar a (record old { graph = g }) pending
 ready_after a old pending g r k n =
-    ready_of a old pending g r (λ i x at here. k x.subscription (all_got (IsNumbered g) old.standing.items i x n at)
+    ready_of a old pending g r (λ i x at here. k x.subscription (all_got (HasStartNumber g) old.standing.items i x n at)
     (r.kept i x at here))
 
 -- results

@@ -6,7 +6,7 @@ use Rattle.std.proofs.Common.{◌≡◌, refl, sym, ◌∙◌, ap, subst, ℕ, �
 use Rattle.std.proofs.lemmas.Option.{same_Some}
 use Rattle.std.specs.List.{AllByRecursion, remove}
 use Rattle.std.specs.Option.{option_map}
-use Rattle.ifmap_changes.specs.Between.{IsSteady, sight_now, starts_of}
+use Rattle.ifmap_changes.specs.Between.{IsSteady, sight_now, starts_of, HasStartNumber}
 use Rattle.ifmap_graph.specs.Held.{Held, IsOwn, links_at}
 use Rattle.ifmap_graph.specs.Named.{named_in}
 use Rattle.ifmap_delta.specs.Sights.{IsUpToDate}
@@ -28,10 +28,6 @@ use Rattle.ifmap_view.specs.Views.{IsView}
 use Rattle.ifmap_graph.specs.NumberLaws.{once_itself}
 use Rattle.ifmap_changes.specs.StartLaws.{starts_cons, starts_append}
 
--- the start of a subscription has its number
-abbrev pub IsNumbered : Held → Standing → Type 0
-IsNumbered h x = key_at h.names x.subscription.region.start ≡ Some x.subscription.search.start
-
 -- ---- some move to the front, or back
 
 module _ (h : Held) (front xs back : List Standing) where
@@ -49,9 +45,9 @@ module _ (h : Held) (front xs back : List Standing) where
     whole = s.whole;
     own = λ a. subst (λ n. IsOwn h a n) (sym (same_starts a)) (s.own a);
     numbered =
-        let outer = all_both (IsNumbered h) front (xs ++ back) s.numbered in
-        let inner = all_both (IsNumbered h) xs back outer.1 in
-        both_all (IsNumbered h) xs (front ++ back) inner.0 (both_all (IsNumbered h) front back outer.0 inner.1);
+        let outer = all_both (HasStartNumber h) front (xs ++ back) s.numbered in
+        let inner = all_both (HasStartNumber h) xs back outer.1 in
+        both_all (HasStartNumber h) xs (front ++ back) inner.0 (both_all (HasStartNumber h) front back outer.0 inner.1);
   }
 
   pub steady_back : IsSteady h (xs ++ (front ++ back)) → IsSteady h (front ++ (xs ++ back))
@@ -60,9 +56,9 @@ module _ (h : Held) (front xs back : List Standing) where
     whole = s.whole;
     own = λ a. subst (λ n. IsOwn h a n) (same_starts a) (s.own a);
     numbered =
-        let outer = all_both (IsNumbered h) xs (front ++ back) s.numbered in
-        let inner = all_both (IsNumbered h) front back outer.1 in
-        both_all (IsNumbered h) front (xs ++ back) inner.0 (both_all (IsNumbered h) xs back outer.0 inner.1);
+        let outer = all_both (HasStartNumber h) xs (front ++ back) s.numbered in
+        let inner = all_both (HasStartNumber h) front back outer.1 in
+        both_all (HasStartNumber h) front (xs ++ back) inner.0 (both_all (HasStartNumber h) xs back outer.0 inner.1);
   }
 
 -- ---- how often the start of each is held
@@ -116,7 +112,7 @@ module _ (old new : Held) (x : Standing)
         less : (a : Identifier) → starts_of a (x ∷ more) - once identifier_order x.subscription.search.start a ≡ starts_of a more
         less a = let sum = starts_cons a x more in omega (arith, sum)
 
-        twice : (y : Standing) → 1 ≤ starts_of y.subscription.search.start more → IsNumbered old y
+        twice : (y : Standing) → 1 ≤ starts_of y.subscription.search.start more → HasStartNumber old y
             → y.subscription.region.start ≡ x.subscription.region.start → 1 < holds_at old.names y.subscription.region.start
         twice y counted key same =
             let start : x.subscription.search.start ≡ y.subscription.search.start = same_Some x.subscription.search.start
@@ -128,9 +124,9 @@ module _ (old new : Held) (x : Standing)
             (s.own y.subscription.search.start) (omega (arith, sum, one, counted))
 
         each : (ys : List Standing)
-            → ((y : Standing) → 1 ≤ starts_of y.subscription.search.start more → IsNumbered old y → IsNumbered new y)
-            → AllByRecursion (λ y. 1 ≤ starts_of y.subscription.search.start more) ys → AllByRecursion (IsNumbered old) ys
-            → AllByRecursion (IsNumbered new) ys
+            → ((y : Standing) → 1 ≤ starts_of y.subscription.search.start more → HasStartNumber old y → HasStartNumber new y)
+            → AllByRecursion (λ y. 1 ≤ starts_of y.subscription.search.start more) ys → AllByRecursion (HasStartNumber old) ys
+            → AllByRecursion (HasStartNumber new) ys
         each [] f p q = tt
         each (y ∷ ys) f p q = (f y p.0 q.0, each ys f p.1 q.1)
 
@@ -218,7 +214,7 @@ releases_all all old now rest so none standing s =
 
 -- what was kept is kept, where it is numbered still
 pub kept_still : (old new : Held) (xs : List Standing) → KeepsNumbered old new
-    → AllByRecursion (IsNumbered new) xs → AllByRecursion (λ x. IsUpToDate (sight_now old) x.subscription) xs
+    → AllByRecursion (HasStartNumber new) xs → AllByRecursion (λ x. IsUpToDate (sight_now old) x.subscription) xs
     → AllByRecursion (λ x. IsUpToDate (sight_now new) x.subscription) xs
 kept_still old new [] keeps numbered kept = tt
 kept_still old new (x ∷ xs) keeps numbered kept =

@@ -4,7 +4,7 @@ use Rattle.std.proofs.Common.{◌≡◌, ℕ, ◌+◌, ◌-◌, ◌<◌, ◌≤�
 use Rattle.std.proofs.lemmas.List.Sums.{sum_by-cons, sum_by_push}
 use Rattle.std.proofs.lemmas.Option.{same_Some}
 use Rattle.std.specs.List.{AllByRecursion, sum_by}
-use Rattle.ifmap_changes.specs.Between.{IsSteady, sight_now, starts_of}
+use Rattle.ifmap_changes.specs.Between.{IsSteady, sight_now, starts_of, HasStartNumber}
 use Rattle.ifmap_delta.specs.Sights.{IsUpToDate}
 use Rattle.ifmap_graph.specs.Back.{KeepsBacks}
 use Rattle.ifmap_graph.specs.Held.{Held, IsOwn}
@@ -14,7 +14,6 @@ use Rattle.ifmap_graph.specs.Shelved.{list_at, rows_by}
 use Rattle.ifmap_graph.specs.Sides.{now}
 use Rattle.ifmap_graph.specs.Turning.{sides_at}
 use Rattle.ifmap_ident.specs.declared.identifiers.Identifier.{Identifier}
-use Rattle.ifmap_ident.specs.Canon.{IsIdentifier}
 use Rattle.ifmap_ident.specs.Identifiers.{identifier_bytes, identifier_order}
 use Rattle.ifmap_lemmas.specs.Filters.{all_weaker}
 use Rattle.ifmap_lemmas.specs.Having.{Has}
@@ -27,14 +26,7 @@ use Rattle.ifmap_standing.specs.declared.standing.Standing.{Standing}
 use Rattle.ifmap_subscribes.specs.Readying.{GraphHolds, IsHolding, IsReleased}
 use Rattle.ifmap_view.specs.Views.{IsView}
 use Rattle.ifmap_graph.specs.NumberLaws.{once_itself}
-
--- a subscription has the number of its start
-abbrev pub Numbered : Held → Standing → Type 0
-Numbered h x = key_at h.names x.subscription.region.start ≡ Some x.subscription.search.start
-
--- identifiers of one list of canonical bytes are one, where elements gave them
-abbrev pub Tells : Type 0
-Tells = (one other : Identifier) → IsIdentifier one → IsIdentifier other → identifier_bytes one ≡ identifier_bytes other → one ≡ other
+use Rattle.ifmap_ident.specs.SameLaws.{BytesTellIdentifiers}
 
 -- ---- lists
 
@@ -62,7 +54,8 @@ held_steady old new standing v start was shelves still kept own named = record {
   still = still was.still;
   whole = subst (λ s. AreWhole (rows_by (list_at now) s)) (sym shelves) was.whole;
   own = λ a. own a (starts_of a standing) (was.own a);
-  numbered = all_weaker (Numbered old) (Numbered new) (λ x e. kept x.subscription.region.start x.subscription.search.start e) standing
+  numbered = all_weaker (HasStartNumber old) (HasStartNumber new) (λ x e. kept x.subscription.region.start x.subscription.search.start e)
+      standing
       was.numbered;
   start = named;
 }
@@ -80,7 +73,8 @@ unheld_steady old new standing was shelves still kept live = record {
   still = still was.still;
   whole = subst (λ s. AreWhole (rows_by (list_at now) s)) (sym shelves) was.whole;
   own = λ a. own_alike old new a (starts_of a standing) shelves live (was.own a);
-  numbered = all_weaker (Numbered old) (Numbered new) (λ x e. kept x.subscription.region.start x.subscription.search.start e) standing
+  numbered = all_weaker (HasStartNumber old) (HasStartNumber new) (λ x e. kept x.subscription.region.start x.subscription.search.start e)
+      standing
       was.numbered;
 }
 
@@ -104,15 +98,15 @@ stands_steady h standing v start x was starts at = record {
   whole = was.whole;
   own = λ a. subst (λ n. IsOwn h a n)
       (ap (λ i. starts_of a standing + once identifier_order i a) (sym starts) ∙ sym (starts_more a standing x)) (was.own a);
-  numbered = both_all (Numbered h) standing (x ∷ []) was.numbered (ap (key_at h.names) at ∙ was.start ∙ ap Some (sym starts), tt);
+  numbered = both_all (HasStartNumber h) standing (x ∷ []) was.numbered (ap (key_at h.names) at ∙ was.start ∙ ap Some (sym starts), tt);
 }
 
 -- ---- or it is let go of
 
 module _ (h : Held) (standing : List Standing) (v : ℕ) (start : Identifier) (was : IsHolding h standing v start)
-    (view : IsView (rows_now h) (key_at h.names) (links_now h)) (tells : Tells) where
+    (view : IsView (rows_now h) (key_at h.names) (links_now h)) (tells : BytesTellIdentifiers) where
   -- the identifier that it has is held by a subscription too, where one starts there
-  twice : (x : Standing) → Has standing x → Numbered h x → x.subscription.region.start ≡ v → 1 < holds_at h.names v
+  twice : (x : Standing) → Has standing x → HasStartNumber h x → x.subscription.region.start ≡ v → 1 < holds_at h.names v
   twice x there mine at =
       let same : x.subscription.search.start ≡ start =
       same_Some x.subscription.search.start start (sym mine ∙ ap (key_at h.names) at ∙ was.start) in
@@ -146,7 +140,7 @@ module _ (h : Held) (standing : List Standing) (v : ℕ) (start : Identifier) (w
     whole = subst (λ s. AreWhole (rows_by (list_at now) s)) (sym shelves) was.whole;
     own = λ a. subst (λ n. IsOwn new a n) (omega arith)
         (own start a (starts_of a standing + once identifier_order start a) was.start (was.own a));
-    numbered = all_members (Numbered h) (Numbered new) standing
+    numbered = all_members (HasStartNumber h) (HasStartNumber new) standing
         (λ x there mine. stays x.subscription.region.start
         (λ at. subst (λ n. 1 < holds_at h.names n) (sym at) (twice x there mine at)) ∙ mine) was.numbered;
   }

@@ -26,6 +26,7 @@ use Rattle.ifmap_lemmas.specs.Filters.{all_weaker}
 use Rattle.ifmap_lemmas.specs.Members.{map_of_all}
 use Rattle.ifmap_fresh.specs.Fresh.{fresh, is_found}
 use Rattle.ifmap_search.specs.declared.searches.Search.{Search}
+use Rattle.ifmap_fresh.specs.laws.GatheringLaws.{entry_of}
 
 pub entries_total : IsTotalOrder entry_order
 entries_total = then_total (on_total (λ (e : Entry). e.item) items_total) (on_total entry_bytes nat_list_cmp_total)
@@ -129,9 +130,6 @@ module _ (a b : List Entry) (apart : (x y : Entry) → Has a x → Has b y → s
 pub difference_none : (entries : List Entry) → difference entries [] ≡ entries
 difference_none [] = refl
 difference_none (e ∷ entries) = ap (λ t. e ∷ t) (difference_none entries)
-
-abbrev pub entry_of : Attachment → Entry
-entry_of r = record { item = r.item; element = r.stored.element }
 
 pub entries_order : (a b : Attachment) → attachment_order a b ≡ entry_order (entry_of a) (entry_of b)
 unfolding stored_bytes entry_bytes

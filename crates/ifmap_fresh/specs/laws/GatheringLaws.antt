@@ -14,11 +14,13 @@ use Rattle.ifmap_view.specs.Attachments.{attachment_order}
 use Rattle.ifmap_view.specs.Rows.{stored_on}
 use Rattle.ifmap_fresh.specs.Gathered.{IsGrouped, gathered_rows, has_item, row_at}
 use Rattle.ifmap_fresh.specs.laws.OrderLaws.{items_total}
-use Rattle.ifmap_fresh.specs.laws.SameLaws.{AreCanon, Tells, same_item_is}
+use Rattle.ifmap_fresh.specs.laws.SameLaws.{AreCanon, same_item_is}
 use Rattle.std.proofs.lemmas.Option.{none-some}
 use Rattle.ifmap_lemmas.specs.Having.{Has}
 use Rattle.ifmap_region.specs.Marks.{row_of}
 use Rattle.ifmap_fresh.specs.Collected.{numbers_of}
+use Rattle.ifmap_ident.specs.SameLaws.{BytesTellIdentifiers}
+use Rattle.ifmap_search.specs.declared.results.Entry.{Entry}
 
 -- items that the order tells apart are not the same
 pub apart : (x y : Item) (o : Ordering) → item_order x y ≡ o → is_eq o ≡ false → same_item x y ≡ false
@@ -54,7 +56,7 @@ not_among k [] a = refl
 not_among k (i ∷ is) a = rw (apart k i Less a.0 refl) (not_among k is a.1)
 
 -- what is among items that are all above another is above it
-among_above : Tells → (i : Item) (is : List Item) → AllByRecursion AreCanon is → (k : Item) → AreCanon k
+among_above : BytesTellIdentifiers → (i : Item) (is : List Item) → AllByRecursion AreCanon is → (k : Item) → AreCanon k
     → AllByRecursion (λ y. item_order i y ≡ Less) is
     → has_item is k ≡ true → item_order i k ≡ Less
 among_above tells i [] c k ck a h = let q : false ≡ true = h in cc
@@ -72,7 +74,7 @@ without r rs (i ∷ is) h =
     in rw p.0 (ap (λ l. map (row_at i) (stored_on i rs) ++ l) (without r rs is p.1))
 
 -- and stands in front of all, where it is among them and at or below all
-with_first : Tells → (r : Attachment) (rs : List Attachment) (is : List Item) → AreCanon r.item → AllByRecursion AreCanon is
+with_first : BytesTellIdentifiers → (r : Attachment) (rs : List Attachment) (is : List Item) → AreCanon r.item → AllByRecursion AreCanon is
     → AllByRecursion (λ s. is_gt (item_order r.item s.item) ≡ false) rs → IsStrictlySortedBy item_order is
     → has_item is r.item ≡ true → gathered_rows (r ∷ rs) is ≡ r ∷ gathered_rows rs is
 with_first tells r rs [] cr c a s h = let q : false ≡ true = h in cc
@@ -89,7 +91,7 @@ with_first tells r rs (i ∷ is) cr c a s h = elim (cases_Bool (same_item r.item
       ∙ ap (λ l. r ∷ (map (row_at i) l ++ gathered_rows rs is)) (sym nothing))
 ]
 
-pub gathers : Tells → (rows : List Attachment) (items : List Item) → AllByRecursion (λ r. IsCanonItem r.item) rows
+pub gathers : BytesTellIdentifiers → (rows : List Attachment) (items : List Item) → AllByRecursion (λ r. IsCanonItem r.item) rows
     → AllByRecursion AreCanon items
     → IsGrouped rows → IsStrictlySortedBy item_order items → gathered_rows rows items ≡ filter (λ r. has_item items r.item) rows
 gathers tells [] items cr c g s = none items
@@ -128,3 +130,6 @@ row_has (x ∷ xs) v r e = elim (cases_Bool (nat_eq v x.0)) [
 pub all_items : (is : List Item) → ((x : Item) → Has is x → IsCanonItem x) → AllByRecursion AreCanon is
 all_items [] f = tt
 all_items (i ∷ is) f = ((f i (inl refl)).identifiers, all_items is (λ x h. f x (inr h)))
+
+abbrev pub entry_of : Attachment → Entry
+entry_of r = record { item = r.item; element = r.stored.element }

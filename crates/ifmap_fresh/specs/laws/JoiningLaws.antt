@@ -20,7 +20,8 @@ use Rattle.ifmap_view.specs.Views.{IsView}
 use Rattle.ifmap_fresh.specs.Matching.{is_match, one_meets}
 use Rattle.ifmap_fresh.specs.Linking.{end_where}
 use Rattle.ifmap_fresh.specs.Reached.{identifiers_in}
-use Rattle.ifmap_fresh.specs.laws.SameLaws.{Tells, member, pair_canon, pair_of_one, pair_parts, pair_turned, same_item_is}
+use Rattle.ifmap_fresh.specs.laws.SameLaws.{member, pair_canon, pair_of_one, pair_parts, pair_turned, same_item_is}
+use Rattle.ifmap_ident.specs.SameLaws.{BytesTellIdentifiers}
 
 pub turned : (a b : Option Identifier) (rows : List Attachment) → stored_linked a b rows ≡ stored_linked b a rows
 turned None None rows = refl
@@ -40,7 +41,8 @@ pub some_there : (filter : Option Filter) (xs : List Stored) → one_meets filte
 some_there filter xs e n = let p : one_meets filter [] ≡ true = subst (λ ys. one_meets filter ys ≡ true) n e in cc
 
 -- where something is stored on the pair of two identifiers, the second stands in an item
-pub stands_in : Tells → (rows : List Attachment) → AllByRecursion (λ r. IsCanonItem r.item) rows → (a b : Identifier) → IsIdentifier a
+pub stands_in : BytesTellIdentifiers → (rows : List Attachment) → AllByRecursion (λ r. IsCanonItem r.item) rows → (a b : Identifier) →
+    IsIdentifier a
     → IsIdentifier b
     → stored_between a b rows ≢ [] → Has (identifiers_in rows) b
 stands_in tells rows items a b ia ib n = by (pair_of a b) refl

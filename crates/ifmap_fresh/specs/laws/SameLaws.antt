@@ -16,7 +16,7 @@ use Rattle.ifmap_ident.specs.declared.items.Item.{Item}
 use Rattle.ifmap_ident.specs.declared.items.Item.TheVariants.{One, Pair}
 use Rattle.ifmap_ident.specs.Identifiers.{identifier_bytes, identifier_order, same_identifier}
 use Rattle.ifmap_ident.specs.Items.{IsItem, identifiers_of, ordered_pair, pair_of, same_item}
-use Rattle.ifmap_ident.specs.SameLaws.{turned_order}
+use Rattle.ifmap_ident.specs.SameLaws.{turned_order, BytesTellIdentifiers}
 
 -- the pair of two identifiers is that of them the other way round, and of one there is none
 pub pair_turned : (a b : Identifier) → pair_of a b ≡ pair_of b a
@@ -43,14 +43,10 @@ pair_parts a b item e = by (identifier_order a b) refl
     by Equal is = absurd (none-some item (sym (ap (λ o. ordered_pair o a b) is) ∙ e))
     by Greater is = inr (same_Some item (Pair b a) (sym e ∙ ap (λ o. ordered_pair o a b) is))
 
--- identifiers of one list of canonical bytes are one
-abbrev pub Tells : Type 0
-Tells = (one other : Identifier) → IsIdentifier one → IsIdentifier other → identifier_bytes one ≡ identifier_bytes other → one ≡ other
-
 abbrev pub AreCanon : Item → Type 0
 AreCanon x = AllByRecursion IsIdentifier (identifiers_of x)
 
-module _ (tells : Tells) where
+module _ (tells : BytesTellIdentifiers) where
   pub same_is : (a b : Identifier) → IsIdentifier a → IsIdentifier b → same_identifier a b ≡ true → a ≡ b
   same_is a b p q e = tells a b p q (eq_tells (identifier_bytes a) (identifier_bytes b) e)
 

@@ -3,7 +3,6 @@ use Rattle.std.proofs.Common.{◌≡◌, List, [], ◌∷◌, not, map, refl, ap
 use Rattle.ifmap_elem.specs.Arranged.{arrange, arrange_child, sort_attributes}
 use Rattle.ifmap_elem.specs.Canonical.{canonical_bytes}
 use Rattle.ifmap_elem.specs.Folds.{Each}
-use Rattle.ifmap_elem.specs.declared.elements.Attribute.{Attribute}
 use Rattle.ifmap_elem.specs.declared.elements.Child.{Child}
 use Rattle.ifmap_elem.specs.declared.elements.Child as the
 use Rattle.ifmap_elem.specs.declared.elements.Element.{Element}
@@ -12,16 +11,9 @@ use Rattle.ifmap_lemmas.specs.Filters.{filter_again}
 use Rattle.ifmap_meta.specs.Keys.{content_bytes}
 use Rattle.ifmap_meta.specs.Stamps.{content_of, is_stamp, without_stamps}
 use Rattle.ifmap_meta.specs.laws.Order.{filter_sorted}
-use Rattle.ifmap_elem.specs.laws.AgainLaws.{printed_again}
+use Rattle.ifmap_elem.specs.laws.AgainLaws.{printed_again, with_parts, StaysArranged}
 
--- an element of these parts
-abbrev with_parts : Element → List Attribute → List Child → Element
-with_parts e attributes children = record { name = e.name; attributes = attributes; children = children }
-
-abbrev StaysChild : Child → Type 0
-StaysChild c = arrange_child (arrange_child c) ≡ arrange_child c
-
-children_again : (cs : List Child) → Each StaysChild cs → map arrange_child (map arrange_child cs) ≡ map arrange_child cs
+children_again : (cs : List Child) → Each StaysArranged cs → map arrange_child (map arrange_child cs) ≡ map arrange_child cs
 children_again [] each = refl
 children_again (c ∷ cs) each = (λ i. each.0 i ∷ children_again cs each.1 i)
 

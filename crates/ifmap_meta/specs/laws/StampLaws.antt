@@ -26,7 +26,7 @@ use Rattle.ifmap_elem.specs.Building.{is_bare}
 use Rattle.ifmap_meta.specs.laws.Order.{filter_sorted}
 use Rattle.ifmap_elem.specs.laws.AgainLaws.{sorted_again}
 
-abbrev is_content : Attribute → Bool
+abbrev pub is_content : Attribute → Bool
 is_content a = not (is_stamp a)
 
 stamps_go : (publisher : List ℕ) (moment : ℕ) (xs : List Attribute)

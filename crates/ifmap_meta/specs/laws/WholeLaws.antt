@@ -1,7 +1,7 @@
 -- What is made of an element that a client can send is metadata, and what is stamped of metadata is whole.
 use Rattle.std.proofs.Common.{◌≡◌, ◌≢◌, ℕ, ◌≤◌, Bool, true, false, not, List, [], ◌∷◌, ◌++◌, map, length, codes, IsSome, refl, ap, sym, ◌∙◌, subst, arith, inl, inr}
 use Rattle.std.specs.List.{AllByRecursion, filter}
-use Rattle.std.proofs.Common.{◌&&◌, ◌||◌, rules}
+use Rattle.std.proofs.Common.{◌||◌, rules}
 use Rattle.std.proofs.lemmas.Bool.{and_parts, cases_Bool, not-true}
 use Rattle.std.proofs.lemmas.Bool.Decides.{nat_tests}
 use Rattle.ifmap_elem.specs.Arranged.{arrange, arrange_child, sort_attributes}
@@ -34,6 +34,7 @@ use Rattle.ifmap_meta.specs.laws.ContentLaws.{content_bare, content_printed}
 use Rattle.ifmap_meta.specs.laws.StampLaws.{cardinality_stays, content_says, content_stays, stamps_stay}
 use Rattle.ifmap_elem.specs.laws.AgainLaws.{arranged_again}
 use Rattle.ifmap_elem.specs.laws.BareNames.{another_bare}
+use Rattle.ifmap_elem.specs.laws.CharacterLaws.{is_plain}
 
 -- an element of these attributes, and otherwise as it is
 abbrev with_attributes : Element → List Attribute → Element
@@ -96,29 +97,26 @@ made_is_metadata e m fit levels made =
 ascii_characters : (bytes : List ℕ) → AllAre is_ascii bytes → AllAre is_character bytes → IsCharacters bytes
 ascii_characters bytes ascii characters = (bytes, ascii_encoded bytes ascii, characters)
 
-abbrev is_both : ℕ → Bool
-is_both b = is_ascii b && is_character b
-
-client_is_both : (b : ℕ) → is_client_byte b ≡ true → is_both b ≡ true
+client_is_both : (b : ℕ) → is_client_byte b ≡ true → is_plain b ≡ true
 client_is_both b h = grind (arith, nat_tests)
 
-both_are : (bytes : List ℕ) → AllAre is_both bytes → IsCharacters bytes
+both_are : (bytes : List ℕ) → AllAre is_plain bytes → IsCharacters bytes
 both_are bytes h =
-    ascii_characters bytes (all_weaker is_both is_ascii (λ b q. (and_parts (is_ascii b) (is_character b) q).0) bytes h)
-    (all_weaker is_both is_character (λ b q. (and_parts (is_ascii b) (is_character b) q).1) bytes h)
+    ascii_characters bytes (all_weaker is_plain is_ascii (λ b q. (and_parts (is_ascii b) (is_character b) q).0) bytes h)
+    (all_weaker is_plain is_character (λ b q. (and_parts (is_ascii b) (is_character b) q).1) bytes h)
 
 pub client_characters : (publisher : List ℕ) → IsClientName publisher → IsCharacters publisher
 client_characters publisher name =
-    both_are publisher (all_weaker is_client_byte is_both client_is_both publisher (all_of_test is_client_byte publisher name.2))
+    both_are publisher (all_weaker is_client_byte is_plain client_is_both publisher (all_of_test is_client_byte publisher name.2))
 
-digit_is_both : (n : ℕ) → is_both (digit n) ≡ true
+digit_is_both : (n : ℕ) → is_plain (digit n) ≡ true
 digit_is_both n = grind (arith, nat_tests)
 
 moment_characters : (moment : ℕ) → IsCharacters (moment_text moment)
 unfolding moment_text
 moment_characters moment = both_are (civil_text (civil_of moment)) (all_digits (civil_of moment))
   where
-    all_digits : (c : Civil) → AllAre is_both (civil_text c)
+    all_digits : (c : Civil) → AllAre is_plain (civil_text c)
     all_digits c = search (digit_is_both, rules)
 
 no_namespace : IsNamespace []

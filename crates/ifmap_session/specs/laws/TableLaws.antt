@@ -18,6 +18,10 @@ use Rattle.ifmap_session.specs.Sessions.{IsTable, Session, SessionTable, change,
 use Rattle.ifmap_session.specs.laws.TextLaws.{all_found, distinct_filter, distinct_push, find_kept, find_none, rest_differ}
 use Rattle.uuid.specs.Text.{hyphenated_text, lower}
 
+-- a session that these numbers are not of
+abbrev pub is_left : List ℕ → Session → Bool
+is_left serials s = not (list_any (λ n. n == s.serial) serials)
+
 -- whether a session is not that of a serial
 abbrev remains : ℕ → Session → Bool
 remains serial s = not (list_any (λ n. n == s.serial) (serial ∷ []))
