@@ -37,9 +37,9 @@ impl<T: Drop> From<AllocFailed<T>> for ReplyError {
 
 impl From<FormError> for ReplyError {
     ghost use Rattle.std.specs.Prelude.{◌≡◌};
-    ghost use Rattle.ifmap_replies.specs.Answers.{as_refusal};
+    ghost use Rattle.ifmap_replies.specs.Answers.{as_reply_error};
 
-    ghost from_gives = { λ error e. e ≡ as_refusal error };
+    ghost from_gives = { λ error e. e ≡ as_reply_error error };
 
     fn from(error: FormError) -> Self {
         match error {

@@ -30,14 +30,14 @@ pub struct Opening {
 
 impl Model for Opening {
     ghost use Rattle.std.specs.Prelude.{◌≡◌};
-    ghost use Rattle.ifmap_session.specs.Openings.{IsReady};
+    ghost use Rattle.ifmap_session.specs.Openings.{IsReadyToBegin};
     ghost use Rattle.ifmap_session.specs.Sessions.{Opening};
 
     ghost Value = { Opening };
 
     ghost view = { λ o. record { serial = o.serial; id = o.id; client = o.client } };
 
-    ghost invariant = { λ o. IsReady o.serial o.id o.told o.client o.holder };
+    ghost invariant = { λ o. IsReadyToBegin o.serial o.id o.told o.client o.holder };
 }
 
 impl Opening {

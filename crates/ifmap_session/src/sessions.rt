@@ -44,9 +44,9 @@ impl Model for Sessions {
     ghost use Rattle.std.specs.Coded.{codes};
     ghost use Rattle.ifmap_search.specs.contracts.results.PollItem as the_poll_item;
     ghost use Rattle.ifmap_session.specs.Rows.{AreTied, live_of, spare_in};
-    ghost use Rattle.ifmap_session.specs.Sessions.{Table};
+    ghost use Rattle.ifmap_session.specs.Sessions.{SessionTable};
 
-    ghost Value = { Table };
+    ghost Value = { SessionTable };
 
     ghost coded = { Prim.hlevel (codes, the_poll_item.the_row.coded) };
 
