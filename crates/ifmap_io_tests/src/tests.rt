@@ -12,29 +12,35 @@ use std::thread;
 use std::thread::Threads;
 
 // As `date -u` prints them.
+const DATES: [(u64, &str); 15] = [
+    (0, "1970-01-01T00:00:00Z"),
+    (951782399, "2000-02-28T23:59:59Z"),
+    (951782400, "2000-02-29T00:00:00Z"),
+    (951868799, "2000-02-29T23:59:59Z"),
+    (951868800, "2000-03-01T00:00:00Z"),
+    (1000000000, "2001-09-09T01:46:40Z"),
+    (1614556799, "2021-02-28T23:59:59Z"),
+    (1709164800, "2024-02-29T00:00:00Z"),
+    (4102444799, "2099-12-31T23:59:59Z"),
+    (4102444800, "2100-01-01T00:00:00Z"),
+    (4107542399, "2100-02-28T23:59:59Z"),
+    (4107542400, "2100-03-01T00:00:00Z"),
+    (13574563199, "2400-02-28T23:59:59Z"),
+    (13574563200, "2400-02-29T00:00:00Z"),
+    (253402300799, "9999-12-31T23:59:59Z"),
+];
+
+// Whether a moment has these seconds and prints as this date.
+fn prints(seconds: u64, date: &str) -> bool {
+    Moment::new(seconds).is_some_and(|moment| {
+        moment.seconds() == seconds && moment.text().as_slice() == date.as_bytes()
+    })
+}
+
 #[test]
 fn moments_print_as_their_dates(rt: HostRuntime) -> Result<(), Fail> {
-    let dates: [(u64, &str); 15] = [
-        (0, "1970-01-01T00:00:00Z"),
-        (951782399, "2000-02-28T23:59:59Z"),
-        (951782400, "2000-02-29T00:00:00Z"),
-        (951868799, "2000-02-29T23:59:59Z"),
-        (951868800, "2000-03-01T00:00:00Z"),
-        (1000000000, "2001-09-09T01:46:40Z"),
-        (1614556799, "2021-02-28T23:59:59Z"),
-        (1709164800, "2024-02-29T00:00:00Z"),
-        (4102444799, "2099-12-31T23:59:59Z"),
-        (4102444800, "2100-01-01T00:00:00Z"),
-        (4107542399, "2100-02-28T23:59:59Z"),
-        (4107542400, "2100-03-01T00:00:00Z"),
-        (13574563199, "2400-02-28T23:59:59Z"),
-        (13574563200, "2400-02-29T00:00:00Z"),
-        (253402300799, "9999-12-31T23:59:59Z"),
-    ];
-    for (seconds, text) in dates {
-        let moment = Moment::new(seconds).expect(&rt, "a moment");
-        assert_eq!(rt; moment.seconds(), seconds);
-        assert!(rt; moment.text().as_slice() == text.as_bytes(), "at {seconds}");
+    for (seconds, date) in &DATES {
+        assert!(rt; prints(*seconds, date), "at {seconds}");
     }
     assert!(rt; Moment::new(253402300800).is_none());
     Ok(())
@@ -260,42 +266,53 @@ fn serve_all<R: Threads + Sync, D: Door + Send, C: Clock + Sync>(
     );
 }
 
-#[test]
-fn doors_and_links_cross_threads(rt: HostRuntime) -> Result<(), Fail> {
+// Two doors, each of one link.
+fn two_doors(rt: &HostRuntime) -> Result<Vec<MemoryDoor>, Fail> {
     let alloc = rt.alloc();
     let mut doors = Vec::new(alloc);
     for text in [b"one", b"two"] {
         let mut links = VecDeque::new(alloc);
-        links.push_back(link_of(&rt, text, &[])?)?;
+        links.push_back(link_of(rt, text, &[])?)?;
         doors.push(MemoryDoor::new(alloc, links, Vec::new(alloc))?)?;
     }
-    let (Some(first), Some(last)) = (Moment::new(0), Moment::new(9)) else {
-        return Ok(());
-    };
-    let clock = MemoryClock::new(first, 1, last);
-    serve_all(&rt, &mut doors, &clock);
-    assert_eq!(rt; clock.now().seconds(), 2);
-    for door in &doors {
-        assert_eq!(rt; door.back().len(), 1);
-        assert_eq!(rt; door.back()[0].held().len(), 3);
-    }
+    Ok(doors)
+}
+
+// What a clock says after both doors were served beside each other, where each has its link back.
+fn serve_beside(rt: &(impl Threads + Sync), doors: &mut [MemoryDoor]) -> Option<u64> {
+    let clock = MemoryClock::new(Moment::new(0)?, 1, Moment::new(9)?);
+    serve_all(rt, doors, &clock);
+    let are_back = has_back(doors.first()?, &[b"one"]) && has_back(doors.last()?, &[b"two"]);
+    are_back.then_some(clock.now().seconds())
+}
+
+#[test]
+fn doors_and_links_cross_threads(rt: HostRuntime) -> Result<(), Fail> {
+    let mut doors = two_doors(&rt)?;
+    assert_eq!(rt; serve_beside(&rt, &mut doors), Some(2));
     Ok(())
+}
+
+// Whether a client is answered with what it has sent, by doors in threads, and then no more.
+fn is_echoed<C: Clock + Sync>(
+    rt: &(impl Threads + Sync),
+    clock: &C,
+    listener: &TcpListener,
+    stream: TcpStream,
+) -> bool {
+    let mut doors = [TcpDoor::new(listener), TcpDoor::new(listener)];
+    serve_all(rt, &mut doors, clock);
+    reads(&mut TcpLink::new(stream), b"ping")
 }
 
 #[test]
 fn sockets_are_served_in_threads(rt: HostRuntime) -> Result<(), Fail> {
     let listener = TcpListener::bind(&rt, "127.0.0.1:0")?;
     let stream = TcpStream::connect(&rt, listener.local_addr()?)?;
-    let mut room = [0; 16];
     (&stream).write_all(b"ping")?;
     stream.shutdown(Shutdown::Write)?;
     // So that a door fails, and ends its thread, where no connection waits.
     listener.set_nonblocking(true)?;
-    let mut doors = [TcpDoor::new(&listener), TcpDoor::new(&listener)];
-    serve_all(&rt, &mut doors, &SystemClock::new(&rt));
-    let mut client = TcpLink::new(stream);
-    assert_eq!(rt; client.read(&mut room), Ok(4));
-    assert!(rt; room[..4] == b"ping"[..]);
-    assert_eq!(rt; client.read(&mut room), Ok(0));
+    assert!(rt; is_echoed(&rt, &SystemClock::new(&rt), &listener, stream));
     Ok(())
 }
