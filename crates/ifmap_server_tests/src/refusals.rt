@@ -184,7 +184,7 @@ fn without_a_session_nothing_is_done_in_it(rt: HostRuntime) -> Result<(), Fail> 
 }
 
 // What is written for a session that begins, and then this.
-fn begun_and(alloc: Global, written: &str) -> Result<String, Fail> {
+fn answers_with(alloc: Global, written: &str) -> Result<String, Fail> {
     let begun = FOUND.get(..FIRST_ANSWER).ok_or("a short output")?;
     Ok(format!(in alloc; "{begun}{written}")?)
 }
@@ -201,7 +201,7 @@ fn stranger_script(alloc: Global, request: &str) -> Result<String, Fail> {
 #[test]
 fn nobody_asks_in_the_session_of_another(rt: HostRuntime) -> Result<(), Fail> {
     let alloc = rt.alloc();
-    let written = begun_and(alloc, refusal_of(alloc, "AccessDenied")?.as_str())?;
+    let written = answers_with(alloc, refusal_of(alloc, "AccessDenied")?.as_str())?;
     for request in IN_A_SESSION {
         let script = stranger_script(alloc, request)?;
         expect_replay(&rt, script.as_str(), 0, written.as_str())?;
@@ -297,7 +297,7 @@ fn nested_script(alloc: Global, levels: usize) -> Result<String, Fail> {
 #[test]
 fn requests_have_64_levels_at_most(rt: HostRuntime) -> Result<(), Fail> {
     let alloc = rt.alloc();
-    let written = begun_and(alloc, answer_of(alloc, "<publishReceived/>")?.as_str())?;
+    let written = answers_with(alloc, answer_of(alloc, "<publishReceived/>")?.as_str())?;
     expect_replay(&rt, nested_script(alloc, 58)?.as_str(), 0, written.as_str())?;
     expect_unreadable(&rt, nested_publish(alloc, 59)?.as_str())
 }
