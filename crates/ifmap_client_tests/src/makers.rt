@@ -43,24 +43,30 @@ pub(crate) enum Step {
     Error,
 }
 
+// A name with its entries.
+fn list_of(alloc: Global, name: &str, told: &[Told]) -> Result<(Text, Many<Entry>), NoMemory> {
+    let name = Text::from_str(alloc, name)?;
+    Ok((name, entries_of(alloc, told)?))
+}
+
 pub(crate) fn item_of(alloc: Global, step: Step) -> Result<PollItem, NoMemory> {
     match step {
-        Step::Search(name, told) => Ok(PollItem::Search {
-            name: Text::from_str(alloc, name)?,
-            entries: entries_of(alloc, told)?,
-        }),
-        Step::Update(name, told) => Ok(PollItem::Update {
-            name: Text::from_str(alloc, name)?,
-            entries: entries_of(alloc, told)?,
-        }),
-        Step::Delete(name, told) => Ok(PollItem::Delete {
-            name: Text::from_str(alloc, name)?,
-            entries: entries_of(alloc, told)?,
-        }),
-        Step::Notify(name, told) => Ok(PollItem::Notify {
-            name: Text::from_str(alloc, name)?,
-            entries: entries_of(alloc, told)?,
-        }),
+        Step::Search(name, told) => {
+            let (name, entries) = list_of(alloc, name, told)?;
+            Ok(PollItem::Search { name, entries })
+        }
+        Step::Update(name, told) => {
+            let (name, entries) = list_of(alloc, name, told)?;
+            Ok(PollItem::Update { name, entries })
+        }
+        Step::Delete(name, told) => {
+            let (name, entries) = list_of(alloc, name, told)?;
+            Ok(PollItem::Delete { name, entries })
+        }
+        Step::Notify(name, told) => {
+            let (name, entries) = list_of(alloc, name, told)?;
+            Ok(PollItem::Notify { name, entries })
+        }
         Step::NamedError(name) => error_of(alloc, Some(Text::from_str(alloc, name)?)),
         Step::Error => error_of(alloc, None),
     }

@@ -138,6 +138,11 @@ fn desk_of(alloc: Global, polls: &[Plan], others: Plan, lost: Plan) -> Result<Pl
     Ok(PlainDesk::new(alloc, polls.to_vec(alloc)?, others, lost))
 }
 
+// Whether a connection ended so, and this was written to its link.
+fn is_served(served: &Served, ending: &Ending, held: &str) -> bool {
+    served.ending == *ending && served.link.held() == held.as_bytes()
+}
+
 // The first words of the stream as one, the lowest first.
 fn first_random() -> u128 {
     let mut words = ChaCha20Rng::from_seed([1; 32]);
@@ -148,31 +153,34 @@ fn first_random() -> u128 {
     random
 }
 
+// Whether a part of a post ends the connection so, and nothing is asked or written.
+fn ends_with(alloc: Global, part: &str, ending: &Ending) -> Result<bool, NoMemory> {
+    let mut desk = desk_of(alloc, &[Plan::Told], Plan::Answered, Plan::Answered)?;
+    let served = serve(alloc, &mut desk, part, &[], 0)?;
+    Ok(is_served(&served, ending, "") && desk.noted.is_empty())
+}
+
 #[test]
 fn a_post_that_is_cut_is_truncated_and_asks_nothing(rt: HostRuntime) -> Result<(), Fail> {
     let alloc = rt.alloc();
     let post = posts_of(alloc, &[POLL])?;
     for cut in 0..post.len() {
-        let mut desk = desk_of(alloc, &[Plan::Told], Plan::Answered, Plan::Answered)?;
         let part = post.get(..cut).expect(&rt, "a post of ASCII");
-        let served = serve(alloc, &mut desk, part, &[], 0)?;
         let ending = if cut == 0 {
             Ending::Ended
         } else {
             Ending::Truncated
         };
-        assert!(rt; served.ending == ending, "at {cut}");
-        assert!(rt;
-            served.link.held().is_empty() && desk.noted.is_empty(),
-            "at {cut}"
-        );
+        assert!(rt; ends_with(alloc, part, &ending)?, "at {cut}");
     }
     Ok(())
 }
 
 // The call that fails, the ending, the results that were answered before, and how often a lost answer
 // was told.
-static FAILING: [(u64, Ending, &[&str], u64); 6] = [
+type Failing = (u64, Ending, &'static [&'static str], u64);
+
+static FAILING: [Failing; 6] = [
     (0, Ending::ReadFault, &[], 0),
     (1, Ending::WriteFault, &[], 1),
     (2, Ending::WriteFault, &[TOLD], 1),
@@ -181,41 +189,57 @@ static FAILING: [(u64, Ending, &[&str], u64); 6] = [
     (5, Ending::ReadFault, &[TOLD, RENEWED], 0),
 ];
 
+// Whether a link with these posts fails so.
+fn fails_so(alloc: Global, posts: &str, failing: &Failing) -> Result<bool, NoMemory> {
+    let (call, ending, results, lost) = failing;
+    let held = answers_of(alloc, results)?;
+    let mut desk = desk_of(alloc, &[Plan::Told], Plan::Answered, Plan::Answered)?;
+    let served = serve(alloc, &mut desk, posts, &[*call], 0)?;
+    Ok(is_served(&served, ending, &held) && desk.lost_in_s == *lost)
+}
+
 #[test]
 fn each_call_of_the_link_fails_in_turn(rt: HostRuntime) -> Result<(), Fail> {
     let alloc = rt.alloc();
     let posts = posts_of(alloc, &[POLL, RENEW])?;
-    for (call, ending, results, lost) in &FAILING {
-        let mut desk = desk_of(alloc, &[Plan::Told], Plan::Answered, Plan::Answered)?;
-        let served = serve(alloc, &mut desk, &posts, &[*call], 0)?;
-        let held = answers_of(alloc, results)?;
-        assert!(rt; served.ending == *ending, "{call}");
-        assert!(rt; served.link.held() == held.as_bytes(), "{call}");
-        assert!(rt; desk.lost_in_s == *lost, "{call}");
+    for failing in &FAILING {
+        let call = failing.0;
+        assert!(rt; fails_so(alloc, &posts, failing)?, "{call}");
     }
     Ok(())
 }
 
 // What stands in the body of a post, what is answered, and the ending.
-static BODIES: [(&str, &[&str], &str, Ending); 3] = [
+type Body = (&'static str, &'static [&'static str], &'static str, Ending);
+
+static BODIES: [Body; 3] = [
     (RENEW, &[RENEWED], "", Ending::Ended),
     (OTHER, &[FAILURE], "", Ending::Ended),
     ("<a/><b/>", &[], BAD, Ending::Refused(400)),
 ];
 
+// The answers with these results, and bytes after them.
+fn answers_and(alloc: Global, results: &[&str], bare: &str) -> Result<String, NoMemory> {
+    let mut held = answers_of(alloc, results)?;
+    held.push_str(bare)?;
+    Ok(held)
+}
+
+// Whether a post with this body is answered once, and so.
+fn is_answered(alloc: Global, body: &Body) -> Result<bool, NoMemory> {
+    let (inner, results, bare, ending) = body;
+    let held = answers_and(alloc, results, bare)?;
+    let mut desk = desk_of(alloc, &[Plan::Told], Plan::Answered, Plan::Answered)?;
+    let served = serve(alloc, &mut desk, &posts_of(alloc, &[inner])?, &[], 0)?;
+    Ok(is_served(&served, ending, &held) && served.gate.answers == 1)
+}
+
 #[test]
 fn a_body_is_answered_by_what_it_means(rt: HostRuntime) -> Result<(), Fail> {
     let alloc = rt.alloc();
-    for (inner, results, bare, ending) in &BODIES {
-        let mut desk = desk_of(alloc, &[Plan::Told], Plan::Answered, Plan::Answered)?;
-        let served = serve(alloc, &mut desk, &posts_of(alloc, &[inner])?, &[], 0)?;
-        let mut held = answers_of(alloc, results)?;
-        held.push_str(bare)?;
-        assert!(rt;
-            served.ending == *ending && served.gate.answers == 1,
-            "{inner}"
-        );
-        assert!(rt; served.link.held() == held.as_bytes(), "{inner}");
+    for body in &BODIES {
+        let inner = body.0;
+        assert!(rt; is_answered(alloc, body)?, "{inner}");
     }
     Ok(())
 }
@@ -236,6 +260,11 @@ fn are_polls(noted: &[Noted], random: u128) -> bool {
         .all(|(place, note)| is_poll_at(note, place as u64, random))
 }
 
+// Serves one poll at a desk, with a clock that goes on by a second at each pause.
+fn serve_poll(alloc: Global, desk: &mut PlainDesk, fails: &[u64]) -> Result<Served, NoMemory> {
+    serve(alloc, desk, &posts_of(alloc, &[POLL])?, fails, 1)
+}
+
 #[test]
 fn a_poll_that_is_held_36000_times_is_held_out(rt: HostRuntime) -> Result<(), Fail> {
     let alloc = rt.alloc();
@@ -245,11 +274,11 @@ fn a_poll_that_is_held_36000_times_is_held_out(rt: HostRuntime) -> Result<(), Fa
         Plan::Answered,
         Plan::Answered,
     )?;
-    let served = serve(alloc, &mut desk, &posts_of(alloc, &[POLL])?, &[], 1)?;
-    assert!(rt; served.ending == Ending::HeldOut { turns: 36_000 });
-    assert!(rt; served.link.held().is_empty() && served.gate.answers == 0);
-    assert!(rt; desk.noted.len() == 36_000 && served.gate.asks == 36_000);
-    assert!(rt; are_polls(&desk.noted, first_random()));
+    let served = serve_poll(alloc, &mut desk, &[])?;
+    let held_out = is_served(&served, &Ending::HeldOut { turns: 36_000 }, "");
+    let passes = (served.gate.asks, served.gate.answers);
+    let polled = desk.noted.len() == 36_000 && are_polls(&desk.noted, first_random());
+    assert!(rt; held_out && passes == (36_000, 0) && polled);
     Ok(())
 }
 
@@ -258,10 +287,10 @@ fn a_poll_is_asked_until_it_is_told_something(rt: HostRuntime) -> Result<(), Fai
     let alloc = rt.alloc();
     let plans = [Plan::StillHeld, Plan::Held, Plan::StillHeld, Plan::Told];
     let mut desk = desk_of(alloc, &plans, Plan::Answered, Plan::Answered)?;
-    let served = serve(alloc, &mut desk, &posts_of(alloc, &[POLL])?, &[], 1)?;
-    assert!(rt; served.ending == Ending::Ended && desk.noted.len() == 4);
-    assert!(rt; are_polls(&desk.noted, first_random()));
-    assert!(rt; served.link.held() == answers_of(alloc, &[TOLD])?.as_bytes());
+    let served = serve_poll(alloc, &mut desk, &[])?;
+    let told = is_served(&served, &Ending::Ended, &answers_of(alloc, &[TOLD])?);
+    let polled = desk.noted.len() == 4 && are_polls(&desk.noted, first_random());
+    assert!(rt; told && polled);
     Ok(())
 }
 
@@ -272,52 +301,73 @@ static LOSING: [(Plan, Ending); 3] = [
     (Plan::NoMemory, Ending::NoMemory),
 ];
 
+// Whether a desk was asked three times, the last time for the one lost answer.
+fn was_told(desk: &PlainDesk) -> bool {
+    let note = Noted {
+        kind: Kind::Lost,
+        again: false,
+        moment: 1_000_000_001,
+        random: first_random(),
+        bytes: 0,
+    };
+    desk.noted.len() == 3 && desk.lost_in_s == 1 && desk.noted.get(2) == Some(&note)
+}
+
 #[test]
 fn an_answer_that_is_lost_is_told_to_the_desk(rt: HostRuntime) -> Result<(), Fail> {
     let alloc = rt.alloc();
     for (lost, ending) in &LOSING {
         let mut desk = desk_of(alloc, &[Plan::Held, Plan::Told], Plan::Answered, *lost)?;
-        let served = serve(alloc, &mut desk, &posts_of(alloc, &[POLL])?, &[1], 1)?;
-        assert!(rt; served.ending == *ending && served.link.held().is_empty());
-        assert!(rt; desk.noted.len() == 3 && desk.lost_in_s == 1);
-        let note = Noted {
-            kind: Kind::Lost,
-            again: false,
-            moment: 1_000_000_001,
-            random: first_random(),
-            bytes: 0,
-        };
-        assert!(rt; desk.noted.get(2) == Some(&note));
+        let served = serve_poll(alloc, &mut desk, &[1])?;
+        assert!(rt; is_served(&served, ending, "") && was_told(&desk));
     }
     Ok(())
 }
 
+// How a post is served at a desk without a number left, and how often that was asked.
+fn serve_spent(alloc: Global, inner: &str, fails: &[u64]) -> Result<(Served, usize), NoMemory> {
+    let mut desk = desk_of(alloc, &[Plan::Spent], Plan::Spent, Plan::Answered)?;
+    let served = serve(alloc, &mut desk, &posts_of(alloc, &[inner])?, fails, 0)?;
+    Ok((served, desk.noted.len()))
+}
+
+// Whether a post is answered there, and asked once where the answer cannot be written.
+fn is_spent(alloc: Global, inner: &str) -> Result<bool, NoMemory> {
+    let (served, _) = serve_spent(alloc, inner, &[])?;
+    let answered = is_served(&served, &Ending::Spent { entries: 7 }, FULL);
+    let (failed, asked) = serve_spent(alloc, inner, &[1])?;
+    Ok(answered && failed.ending == Ending::WriteFault && asked == 1)
+}
+
 #[test]
 fn a_desk_without_a_number_left_is_answered_507(rt: HostRuntime) -> Result<(), Fail> {
-    let alloc = rt.alloc();
     for inner in [POLL, RENEW] {
-        let mut desk = desk_of(alloc, &[Plan::Spent], Plan::Spent, Plan::Answered)?;
-        let served = serve(alloc, &mut desk, &posts_of(alloc, &[inner])?, &[], 0)?;
-        assert!(rt; served.ending == Ending::Spent { entries: 7 });
-        assert!(rt; served.link.held() == FULL.as_bytes());
-        let mut desk = desk_of(alloc, &[Plan::Spent], Plan::Spent, Plan::Answered)?;
-        let served = serve(alloc, &mut desk, &posts_of(alloc, &[inner])?, &[1], 0)?;
-        assert!(rt; served.ending == Ending::WriteFault && desk.noted.len() == 1);
+        assert!(rt; is_spent(rt.alloc(), inner)?);
     }
     Ok(())
+}
+
+// A renewal, a poll that asks for closing, and a renewal.
+fn closing_posts(alloc: Global) -> Result<String, NoMemory> {
+    let mut posts = posts_of(alloc, &[RENEW])?;
+    push_post(alloc, &mut posts, POLL, true)?;
+    push_post(alloc, &mut posts, RENEW, false)?;
+    Ok(posts)
+}
+
+// The answers to the first two of them.
+fn closing_answers(alloc: Global) -> Result<String, NoMemory> {
+    let mut held = answers_of(alloc, &[RENEWED])?;
+    push_answer(alloc, &mut held, TOLD, true)?;
+    Ok(held)
 }
 
 #[test]
 fn a_post_that_asks_for_it_closes_the_connection(rt: HostRuntime) -> Result<(), Fail> {
     let alloc = rt.alloc();
-    let mut posts = posts_of(alloc, &[RENEW])?;
-    push_post(alloc, &mut posts, POLL, true)?;
-    push_post(alloc, &mut posts, RENEW, false)?;
-    let mut held = answers_of(alloc, &[RENEWED])?;
-    push_answer(alloc, &mut held, TOLD, true)?;
     let mut desk = desk_of(alloc, &[Plan::Told], Plan::Answered, Plan::Answered)?;
-    let served = serve(alloc, &mut desk, &posts, &[], 0)?;
-    assert!(rt; served.ending == Ending::Closed && desk.noted.len() == 2);
-    assert!(rt; served.link.held() == held.as_bytes());
+    let served = serve(alloc, &mut desk, &closing_posts(alloc)?, &[], 0)?;
+    let closed = is_served(&served, &Ending::Closed, &closing_answers(alloc)?);
+    assert!(rt; closed && desk.noted.len() == 2);
     Ok(())
 }

@@ -71,29 +71,47 @@ fn element_of(
     })
 }
 
-// `<m:name>a<m:inner>c</m:inner>b</m:name>`
-fn name_element(alloc: Global) -> Result<Element, NoMemory> {
+// A text, an element, and another child.
+fn children_of(
+    alloc: Global,
+    words: &str,
+    element: Element,
+    last: Child,
+) -> Result<Vec<Child>, NoMemory> {
+    let mut children = Vec::new(alloc);
+    children.push(text_child(alloc, words)?)?;
+    children.push(Child::Element(element))?;
+    children.push(last)?;
+    Ok(children)
+}
+
+// `<m:inner>c</m:inner>`
+fn inner_element(alloc: Global) -> Result<Element, NoMemory> {
     let mut words = Vec::new(alloc);
     words.push(text_child(alloc, "c")?)?;
-    let inner = element_of(alloc, "inner", Vec::new(alloc), words)?;
-    let mut children = Vec::new(alloc);
-    children.push(text_child(alloc, "a")?)?;
-    children.push(Child::Element(inner))?;
-    children.push(text_child(alloc, "b")?)?;
+    element_of(alloc, "inner", Vec::new(alloc), words)
+}
+
+// `<m:name>a<m:inner>c</m:inner>b</m:name>`
+fn name_element(alloc: Global) -> Result<Element, NoMemory> {
+    let last = text_child(alloc, "b")?;
+    let children = children_of(alloc, "a", inner_element(alloc)?, last)?;
     element_of(alloc, "name", Vec::new(alloc), children)
+}
+
+// `a="1" m:b="2"`
+fn role_attributes(alloc: Global) -> Result<Vec<Attribute>, NoMemory> {
+    let mut attributes = Vec::new(alloc);
+    attributes.push(attribute_of(alloc, "", "a", "1")?)?;
+    attributes.push(attribute_of(alloc, "m", "b", "2")?)?;
+    Ok(attributes)
 }
 
 // `<m:role a="1" m:b="2">x<m:name>a<m:inner>c</m:inner>b</m:name><m:none/></m:role>`
 pub(crate) fn role(alloc: Global) -> Result<Element, NoMemory> {
-    let mut attributes = Vec::new(alloc);
-    attributes.push(attribute_of(alloc, "", "a", "1")?)?;
-    attributes.push(attribute_of(alloc, "m", "b", "2")?)?;
-    let mut children = Vec::new(alloc);
-    children.push(text_child(alloc, "x")?)?;
-    children.push(Child::Element(name_element(alloc)?))?;
     let none = element_of(alloc, "none", Vec::new(alloc), Vec::new(alloc))?;
-    children.push(Child::Element(none))?;
-    element_of(alloc, "role", attributes, children)
+    let children = children_of(alloc, "x", name_element(alloc)?, Child::Element(none))?;
+    element_of(alloc, "role", role_attributes(alloc)?, children)
 }
 
 // `m:role[name='a' or @x='b' and c='d']`, where `m` is this namespace.

@@ -82,23 +82,30 @@ fn meets_name(alloc: Global, name: Option<Name>) -> Result<bool, NoMemory> {
     Ok(filter.matches(&role(alloc)?))
 }
 
+fn meets_name_of(alloc: Global, space: &str, local: &str) -> Result<bool, NoMemory> {
+    meets_name(alloc, Some(Name::new(alloc, space, local)?))
+}
+
+fn meets_no_test(alloc: Global) -> Result<bool, NoMemory> {
+    let none = Filter {
+        tests: Many(Vec::new(alloc)),
+    };
+    Ok(none.matches(&role(alloc)?))
+}
+
 #[test]
 fn names_are_met_by_their_elements_and_no_name_by_all(rt: HostRuntime) -> Result<(), Fail> {
     let alloc = rt.alloc();
-    assert_eq!(rt; meets_name(alloc, None)?, true);
     let cases = [
         ("m", "role", true),
         ("m", "name", false),
         ("", "role", false),
     ];
     for (space, local, wanted) in cases {
-        let name = Name::new(alloc, space, local)?;
-        assert_eq!(rt; meets_name(alloc, Some(name))?, wanted);
+        assert_eq!(rt; meets_name_of(alloc, space, local)?, wanted);
     }
-    let none = Filter {
-        tests: Many(Vec::new(alloc)),
-    };
-    assert_eq!(rt; none.matches(&role(alloc)?), false);
+    let of_none = (meets_name(alloc, None)?, meets_no_test(alloc)?);
+    assert_eq!(rt; of_none, (true, false));
     Ok(())
 }
 
@@ -117,13 +124,17 @@ fn an_absent_filter_is_met_and_one_without_tests_is_not(rt: HostRuntime) -> Resu
     Ok(())
 }
 
+// Whether a copy of the filter equals it, and whether it equals another.
+fn copy_equals(alloc: Global, filter: &Filter, other: &Filter) -> Result<(bool, bool), NoMemory> {
+    let copy = filter.copy(alloc)?;
+    Ok((copy.equals(filter), copy.equals(other)))
+}
+
 #[test]
 fn a_copy_equals_its_original_and_no_other_filter(rt: HostRuntime) -> Result<(), Fail> {
     let alloc = rt.alloc();
     let filter = or_of_and(alloc, "m")?;
-    let copy = filter.copy(alloc)?;
-    assert_eq!(rt; copy.equals(&filter), true);
     let other = filter_of(alloc, Some(Name::new(alloc, "m", "role")?), None)?;
-    assert_eq!(rt; copy.equals(&other), false);
+    assert_eq!(rt; copy_equals(alloc, &filter, &other)?, (true, false));
     Ok(())
 }

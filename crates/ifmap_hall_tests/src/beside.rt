@@ -136,7 +136,7 @@ fn hand_out(
     Ok(stands)
 }
 
-// The answers of all stands.
+// The answers of all stands, in order.
 fn gather(alloc: Global, stands: &[Stand]) -> Result<Vec<(u64, u64)>, NoMemory> {
     let mut all = Vec::new(alloc);
     for stand in stands {
@@ -144,6 +144,7 @@ fn gather(alloc: Global, stands: &[Stand]) -> Result<Vec<(u64, u64)>, NoMemory> 
             all.push(*answer)?;
         }
     }
+    all.sort()?;
     Ok(all)
 }
 
@@ -174,8 +175,7 @@ fn are_served<R: Threads + Wait + Clock + Sync>(
     }
     let answered = AtomicU64::new(0);
     run_all(rt, alloc, &hall, &answered, stands.as_mut_slice());
-    let mut answers = gather(alloc, stands.as_slice())?;
-    answers.sort()?;
+    let answers = gather(alloc, stands.as_slice())?;
     let book = hall.close(rt, pass);
     let all = answered.into_inner() == 4 && answers.len() as u64 == 4 * ASKS;
     Ok(all && are_in_order(answers.as_slice(), &book))

@@ -12,53 +12,81 @@ use std::thread;
 use std::thread::Threads;
 
 // As `date -u` prints them.
+const DATES: [(u64, &str); 15] = [
+    (0, "1970-01-01T00:00:00Z"),
+    (951782399, "2000-02-28T23:59:59Z"),
+    (951782400, "2000-02-29T00:00:00Z"),
+    (951868799, "2000-02-29T23:59:59Z"),
+    (951868800, "2000-03-01T00:00:00Z"),
+    (1000000000, "2001-09-09T01:46:40Z"),
+    (1614556799, "2021-02-28T23:59:59Z"),
+    (1709164800, "2024-02-29T00:00:00Z"),
+    (4102444799, "2099-12-31T23:59:59Z"),
+    (4102444800, "2100-01-01T00:00:00Z"),
+    (4107542399, "2100-02-28T23:59:59Z"),
+    (4107542400, "2100-03-01T00:00:00Z"),
+    (13574563199, "2400-02-28T23:59:59Z"),
+    (13574563200, "2400-02-29T00:00:00Z"),
+    (253402300799, "9999-12-31T23:59:59Z"),
+];
+
+// Whether a moment has these seconds and prints as this date.
+fn prints(seconds: u64, date: &str) -> bool {
+    Moment::new(seconds).is_some_and(|moment| {
+        moment.seconds() == seconds && moment.text().as_slice() == date.as_bytes()
+    })
+}
+
 #[test]
 fn moments_print_as_their_dates(rt: HostRuntime) -> Result<(), Fail> {
-    let dates: [(u64, &str); 15] = [
-        (0, "1970-01-01T00:00:00Z"),
-        (951782399, "2000-02-28T23:59:59Z"),
-        (951782400, "2000-02-29T00:00:00Z"),
-        (951868799, "2000-02-29T23:59:59Z"),
-        (951868800, "2000-03-01T00:00:00Z"),
-        (1000000000, "2001-09-09T01:46:40Z"),
-        (1614556799, "2021-02-28T23:59:59Z"),
-        (1709164800, "2024-02-29T00:00:00Z"),
-        (4102444799, "2099-12-31T23:59:59Z"),
-        (4102444800, "2100-01-01T00:00:00Z"),
-        (4107542399, "2100-02-28T23:59:59Z"),
-        (4107542400, "2100-03-01T00:00:00Z"),
-        (13574563199, "2400-02-28T23:59:59Z"),
-        (13574563200, "2400-02-29T00:00:00Z"),
-        (253402300799, "9999-12-31T23:59:59Z"),
-    ];
-    for (seconds, text) in dates {
-        let moment = Moment::new(seconds).expect(&rt, "a moment");
-        assert_eq!(rt; moment.seconds(), seconds);
-        assert!(rt; moment.text().as_slice() == text.as_bytes(), "at {seconds}");
+    for (seconds, date) in &DATES {
+        assert!(rt; prints(*seconds, date), "at {seconds}");
     }
     assert!(rt; Moment::new(253402300800).is_none());
     Ok(())
 }
 
-#[test]
-fn a_listed_call_fails_and_takes_and_writes_nothing(rt: HostRuntime) -> Result<(), Fail> {
-    let alloc = rt.alloc();
-    let mut source = MemorySource::new(b"abcde".to_vec(alloc)?, [1].to_vec(alloc)?);
+// What four reads answer, of which the second fails, and whether each took what it says.
+fn read_answers(source: &mut MemorySource) -> [Result<usize, Failed>; 4] {
     let mut room = [0; 3];
     let mut answers = [Ok(0); 4];
     for answer in answers.iter_mut() {
         *answer = source.read(&mut room);
     }
-    assert_eq!(rt; answers, [Ok(3), Err(Failed), Ok(2), Ok(0)]);
-    assert_eq!(rt; room, *b"dec");
-    let mut sink = MemorySink::new(b"a".to_vec(alloc)?, [1, 2].to_vec(alloc)?);
-    let answers = [
+    if room == *b"dec" {
+        answers
+    } else {
+        [Err(Failed); 4]
+    }
+}
+
+// What writes and flushes answer in turn, of which the second and third fail.
+fn write_answers(sink: &mut MemorySink) -> [Result<(), Failed>; 5] {
+    [
         sink.write_all(b"bc"),
         sink.flush(),
         sink.write_all(b"d"),
         sink.flush(),
         sink.write_all(b"e"),
-    ];
+    ]
+}
+
+#[test]
+fn a_listed_read_fails_and_takes_nothing(rt: HostRuntime) -> Result<(), Fail> {
+    let alloc = rt.alloc();
+    let mut source = MemorySource::new(b"abcde".to_vec(alloc)?, [1].to_vec(alloc)?);
+    assert_eq!(rt;
+        read_answers(&mut source),
+        [Ok(3), Err(Failed), Ok(2), Ok(0)]
+    );
+    Ok(())
+}
+
+#[test]
+fn a_listed_write_fails_and_writes_nothing(rt: HostRuntime) -> Result<(), Fail> {
+    let alloc = rt.alloc();
+    let mut sink = MemorySink::new(b"a".to_vec(alloc)?, [1, 2].to_vec(alloc)?);
+    let answers = write_answers(&mut sink);
     assert_eq!(rt; answers, [Ok(()), Err(Failed), Err(Failed), Ok(()), Ok(())]);
     assert!(rt; sink.held() == b"abce".as_slice());
     Ok(())
@@ -69,17 +97,22 @@ fn link_of(rt: &HostRuntime, left: &[u8], fails: &[u64]) -> Result<MemoryLink, F
     Ok(MemoryLink::new(left.to_vec(alloc)?, Vec::new(alloc), fails.to_vec(alloc)?))
 }
 
-#[test]
-fn a_link_counts_its_reads_and_writes_together(rt: HostRuntime) -> Result<(), Fail> {
-    let mut link = link_of(&rt, b"abc", &[1, 2])?;
+// What reads and writes answer in turn, of which the second and third fail.
+fn link_answers(link: &mut MemoryLink) -> ([Result<usize, Failed>; 3], [Result<(), Failed>; 3]) {
     let mut room = [0; 2];
     let first = link.read(&mut room);
     let write = link.write_all(b"x");
     let second = link.read(&mut room);
-    assert_eq!(rt; (first, write, second), (Ok(2), Err(Failed), Err(Failed)));
-    let writes = [link.write_all(b"y"), link.flush()];
-    assert_eq!(rt; writes, [Ok(()), Ok(())]);
-    assert_eq!(rt; link.read(&mut room), Ok(1));
+    let writes = [write, link.write_all(b"y"), link.flush()];
+    ([first, second, link.read(&mut room)], writes)
+}
+
+#[test]
+fn a_link_counts_its_reads_and_writes_together(rt: HostRuntime) -> Result<(), Fail> {
+    let mut link = link_of(&rt, b"abc", &[1, 2])?;
+    let (reads, writes) = link_answers(&mut link);
+    assert_eq!(rt; reads, [Ok(2), Err(Failed), Ok(1)]);
+    assert_eq!(rt; writes, [Err(Failed), Ok(()), Ok(())]);
     assert!(rt; link.held() == b"y".as_slice());
     Ok(())
 }
@@ -113,25 +146,41 @@ fn serve<D: Door, C: Clock>(door: &mut D, clock: &C) -> bool {
     false
 }
 
-#[test]
-fn a_door_hands_out_its_links_and_takes_them_back(rt: HostRuntime) -> Result<(), Fail> {
+// A door of two links, whose second call fails.
+fn two_links(rt: &HostRuntime) -> Result<MemoryDoor, Fail> {
     let alloc = rt.alloc();
     let mut links = VecDeque::new(alloc);
-    links.push_back(link_of(&rt, b"first", &[])?)?;
-    links.push_back(link_of(&rt, b"second", &[])?)?;
-    let mut door = MemoryDoor::new(alloc, links, [1].to_vec(alloc)?)?;
+    links.push_back(link_of(rt, b"first", &[])?)?;
+    links.push_back(link_of(rt, b"second", &[])?)?;
+    Ok(MemoryDoor::new(alloc, links, [1].to_vec(alloc)?)?)
+}
+
+// Whether so many links are back, the first of them with these bytes.
+fn has_back(door: &MemoryDoor, texts: &[&[u8]]) -> bool {
+    door.back().len() == texts.len()
+        && door
+            .back()
+            .iter()
+            .zip(texts)
+            .all(|(link, text)| link.held() == *text)
+}
+
+// Whether a door fails once and goes on, and has its links back as they were served.
+fn hands_out(door: &mut MemoryDoor) -> bool {
     let Some(moment) = Moment::new(5) else {
-        return Ok(());
+        return false;
     };
     let clock = MemoryClock::new(moment, 1, moment);
-    assert!(rt; !serve(&mut door, &clock));
-    assert_eq!(rt; door.back().len(), 1);
-    assert!(rt; serve(&mut door, &clock));
-    assert_eq!(rt; door.back().len(), 2);
-    assert!(rt; door.back()[0].held() == b"first".as_slice());
-    assert!(rt; door.back()[1].held() == b"second".as_slice());
+    let failed = !serve(door, &clock) && has_back(door, &[b"first"]);
+    failed && serve(door, &clock) && has_back(door, &[b"first", b"second"])
+}
+
+#[test]
+fn a_door_hands_out_its_links_and_takes_them_back(rt: HostRuntime) -> Result<(), Fail> {
+    let mut door = two_links(&rt)?;
+    let handed_out = hands_out(&mut door);
     door.ended(link_of(&rt, b"", &[])?);
-    assert_eq!(rt; door.back().len(), 2);
+    assert_eq!(rt; (handed_out, door.back().len()), (true, 2));
     Ok(())
 }
 
@@ -154,21 +203,38 @@ fn clocks_go_on(rt: HostRuntime) -> Result<(), Fail> {
     Ok(())
 }
 
+// Whether the bytes are written, and handed on.
+fn writes<S: Sink>(sink: &mut S, bytes: &[u8]) -> bool {
+    sink.write_all(bytes).is_ok() && sink.flush().is_ok()
+}
+
+// Whether a source has these bytes, at most sixteen, and then none.
+fn reads<S: Source>(source: &mut S, bytes: &[u8]) -> bool {
+    let mut room = [0; 16];
+    source.read(&mut room) == Ok(bytes.len())
+        && room.starts_with(bytes)
+        && source.read(&mut room) == Ok(0)
+}
+
 #[test]
 fn a_file_is_a_sink_and_then_a_source(rt: HostRuntime) -> Result<(), Fail> {
-    let mut sink = StdSink::new(File::create(&rt, "bytes")?);
-    assert_eq!(rt; sink.write_all(b"on disk"), Ok(()));
-    assert_eq!(rt; sink.flush(), Ok(()));
-    drop(sink);
-    let mut source = StdSource::new(File::open(&rt, "bytes")?);
-    let mut room = [0; 16];
-    assert_eq!(rt; source.read(&mut room), Ok(7));
-    assert!(rt; room[..7] == b"on disk"[..]);
-    assert_eq!(rt; source.read(&mut room), Ok(0));
+    let written = writes(&mut StdSink::new(File::create(&rt, "bytes")?), b"on disk");
+    let read = reads(&mut StdSource::new(File::open(&rt, "bytes")?), b"on disk");
     // The file is open for reading alone.
-    let mut closed = StdSink::new(File::open(&rt, "bytes")?);
-    assert_eq!(rt; closed.write_all(b"no"), Err(Failed));
+    let refused = StdSink::new(File::open(&rt, "bytes")?).write_all(b"no");
+    assert_eq!(rt; (written, read, refused), (true, true, Err(Failed)));
     Ok(())
+}
+
+// What goes from a client through a door's link, and what the client reads once the link has ended.
+fn carries(door: &mut TcpDoor<'_>, client: &mut TcpLink) -> bool {
+    let Ok(Some(mut server)) = door.accept() else {
+        return false;
+    };
+    let mut room = [0; 16];
+    let carried = writes(client, b"ping") && server.read(&mut room) == Ok(4);
+    door.ended(server);
+    carried && room.starts_with(b"ping") && client.read(&mut room) == Ok(0)
 }
 
 #[test]
@@ -176,18 +242,10 @@ fn a_socket_is_a_link_of_a_door(rt: HostRuntime) -> Result<(), Fail> {
     let listener = TcpListener::bind(&rt, "127.0.0.1:0")?;
     let mut client = TcpLink::new(TcpStream::connect(&rt, listener.local_addr()?)?);
     let mut door = TcpDoor::new(&listener);
-    let Ok(Some(mut server)) = door.accept() else {
-        panic!(rt; "no link");
-    };
-    let mut room = [0; 16];
-    assert_eq!(rt; client.write_all(b"ping"), Ok(()));
-    assert_eq!(rt; client.flush(), Ok(()));
-    assert_eq!(rt; server.read(&mut room), Ok(4));
-    assert!(rt; room[..4] == b"ping"[..]);
-    door.ended(server);
-    assert_eq!(rt; client.read(&mut room), Ok(0));
+    let carried = carries(&mut door, &mut client);
     listener.set_nonblocking(true)?;
-    assert!(rt; door.accept().is_err());
+    let none = door.accept().is_err();
+    assert!(rt; carried && none);
     Ok(())
 }
 
@@ -208,42 +266,53 @@ fn serve_all<R: Threads + Sync, D: Door + Send, C: Clock + Sync>(
     );
 }
 
-#[test]
-fn doors_and_links_cross_threads(rt: HostRuntime) -> Result<(), Fail> {
+// Two doors, each of one link.
+fn two_doors(rt: &HostRuntime) -> Result<Vec<MemoryDoor>, Fail> {
     let alloc = rt.alloc();
     let mut doors = Vec::new(alloc);
     for text in [b"one", b"two"] {
         let mut links = VecDeque::new(alloc);
-        links.push_back(link_of(&rt, text, &[])?)?;
+        links.push_back(link_of(rt, text, &[])?)?;
         doors.push(MemoryDoor::new(alloc, links, Vec::new(alloc))?)?;
     }
-    let (Some(first), Some(last)) = (Moment::new(0), Moment::new(9)) else {
-        return Ok(());
-    };
-    let clock = MemoryClock::new(first, 1, last);
-    serve_all(&rt, &mut doors, &clock);
-    assert_eq!(rt; clock.now().seconds(), 2);
-    for door in &doors {
-        assert_eq!(rt; door.back().len(), 1);
-        assert_eq!(rt; door.back()[0].held().len(), 3);
-    }
+    Ok(doors)
+}
+
+// What a clock says after both doors were served beside each other, where each has its link back.
+fn serve_beside(rt: &(impl Threads + Sync), doors: &mut [MemoryDoor]) -> Option<u64> {
+    let clock = MemoryClock::new(Moment::new(0)?, 1, Moment::new(9)?);
+    serve_all(rt, doors, &clock);
+    let are_back = has_back(doors.first()?, &[b"one"]) && has_back(doors.last()?, &[b"two"]);
+    are_back.then_some(clock.now().seconds())
+}
+
+#[test]
+fn doors_and_links_cross_threads(rt: HostRuntime) -> Result<(), Fail> {
+    let mut doors = two_doors(&rt)?;
+    assert_eq!(rt; serve_beside(&rt, &mut doors), Some(2));
     Ok(())
+}
+
+// Whether a client is answered with what it has sent, by doors in threads, and then no more.
+fn is_echoed<C: Clock + Sync>(
+    rt: &(impl Threads + Sync),
+    clock: &C,
+    listener: &TcpListener,
+    stream: TcpStream,
+) -> bool {
+    let mut doors = [TcpDoor::new(listener), TcpDoor::new(listener)];
+    serve_all(rt, &mut doors, clock);
+    reads(&mut TcpLink::new(stream), b"ping")
 }
 
 #[test]
 fn sockets_are_served_in_threads(rt: HostRuntime) -> Result<(), Fail> {
     let listener = TcpListener::bind(&rt, "127.0.0.1:0")?;
     let stream = TcpStream::connect(&rt, listener.local_addr()?)?;
-    let mut room = [0; 16];
     (&stream).write_all(b"ping")?;
     stream.shutdown(Shutdown::Write)?;
     // So that a door fails, and ends its thread, where no connection waits.
     listener.set_nonblocking(true)?;
-    let mut doors = [TcpDoor::new(&listener), TcpDoor::new(&listener)];
-    serve_all(&rt, &mut doors, &SystemClock::new(&rt));
-    let mut client = TcpLink::new(stream);
-    assert_eq!(rt; client.read(&mut room), Ok(4));
-    assert!(rt; room[..4] == b"ping"[..]);
-    assert_eq!(rt; client.read(&mut room), Ok(0));
+    assert!(rt; is_echoed(&rt, &SystemClock::new(&rt), &listener, stream));
     Ok(())
 }

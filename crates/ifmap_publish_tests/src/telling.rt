@@ -38,16 +38,19 @@ fn life_text(alloc: Global, life: Life) -> Result<String, NoMemory> {
     }
 }
 
-fn push_row(alloc: Global, out: &mut String, sign: &str, row: &Row) -> Result<(), NoMemory> {
+// The element of a row, its publisher and its life.
+fn row_text(alloc: Global, row: &Row) -> Result<String, NoMemory> {
     let stored = row.stored();
     let element = element_text(alloc, stored.element.element())?;
     let life = life_text(alloc, stored.life)?;
+    let publisher = stored.publisher.text().0.as_str();
+    format!(in alloc; "{element} {publisher} {life}")
+}
+
+fn push_row(alloc: Global, out: &mut String, sign: &str, row: &Row) -> Result<(), NoMemory> {
+    let text = row_text(alloc, row)?;
     out.push_str(sign)?;
-    out.push_str(element.as_str())?;
-    out.push_str(" ")?;
-    out.push_str(stored.publisher.text().0.as_str())?;
-    out.push_str(" ")?;
-    out.push_str(life.as_str())
+    out.push_str(text.as_str())
 }
 
 fn push_rows(alloc: Global, out: &mut String, sign: &str, rows: &[Row]) -> Result<(), NoMemory> {

@@ -59,22 +59,37 @@ fn a_number_is_kept_until_its_last_hold(rt: HostRuntime) -> Result<(), Fail> {
     Ok(())
 }
 
+// Holds a text: whether its number is that of this text.
+fn holds_text(alloc: Global, counted: &mut Counted<String>, name: &str) -> Result<bool, NoMemory> {
+    let number = counted.hold(String::from_str(alloc, name)?)?;
+    Ok(
+        counted
+            .pool
+            .key_of(number)
+            .is_some_and(|key| key.as_str() == name),
+    )
+}
+
+// Releases a text: whether it was held, and has no number then.
+fn releases_text(
+    alloc: Global,
+    counted: &mut Counted<String>,
+    name: &str,
+) -> Result<bool, NoMemory> {
+    let key = String::from_str(alloc, name)?;
+    Ok(counted.release(&key) && counted.pool.number_of(&key).is_none())
+}
+
 #[test]
 fn texts_are_found_whatever_their_order(rt: HostRuntime) -> Result<(), Fail> {
     let alloc = rt.alloc();
     let mut counted: Counted<String> = Counted::new(alloc);
     let names = ["mac", "ip", "device", "access request", "identity"];
     for name in names {
-        let number = counted.hold(String::from_str(alloc, name)?)?;
-        assert_eq!(rt;
-            counted.pool.key_of(number).map(|key| key.as_str()),
-            Some(name)
-        );
+        assert!(rt; holds_text(alloc, &mut counted, name)?, "{name}");
     }
     for name in names {
-        let key = String::from_str(alloc, name)?;
-        assert!(rt; counted.release(&key));
-        assert!(rt; counted.pool.number_of(&key).is_none());
+        assert!(rt; releases_text(alloc, &mut counted, name)?, "{name}");
     }
     Ok(())
 }

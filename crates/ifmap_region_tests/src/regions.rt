@@ -230,6 +230,32 @@ fn go(region: &mut Region, patch: Patch, after: &[(u64, u32)]) -> Result<bool, N
     Ok(has_rows(region, after))
 }
 
+/// Makes the change of a case and takes it back: whether the marks are right at each moment.
+fn change_and_return<L: Ledger>(
+    alloc: Global,
+    region: &mut Region,
+    case: &Case<'_>,
+    steps: &mut Steps<L>,
+) -> Result<bool, NoMemory> {
+    match patch_to(alloc, region, case.new, case.flips, steps)? {
+        Some(patch) => go_and_return(region, patch, case.before, case.after),
+        None => Ok(false),
+    }
+}
+
+/// Makes the change of a case for good: whether the marks are right then.
+fn change_for_good<L: Ledger>(
+    alloc: Global,
+    region: &mut Region,
+    case: &Case<'_>,
+    steps: &mut Steps<L>,
+) -> Result<bool, NoMemory> {
+    match patch_to(alloc, region, case.new, case.flips, steps)? {
+        Some(patch) => go(region, patch, case.after),
+        None => Ok(false),
+    }
+}
+
 /// Builds the region of a case, and changes it twice.
 fn change_twice<L: Ledger>(
     alloc: Global,
@@ -238,19 +264,9 @@ fn change_twice<L: Ledger>(
 ) -> Result<bool, NoMemory> {
     let old = Pairs { links: case.old };
     let mut region = build(alloc, 0, case.max_depth, &old, steps)?;
-    if !has_rows(&region, case.before) {
-        return Ok(false);
-    }
-    let Some(patch) = patch_to(alloc, &region, case.new, case.flips, steps)? else {
-        return Ok(false);
-    };
-    if !go_and_return(&mut region, patch, case.before, case.after)? {
-        return Ok(false);
-    }
-    let Some(patch) = patch_to(alloc, &region, case.new, case.flips, steps)? else {
-        return Ok(false);
-    };
-    go(&mut region, patch, case.after)
+    let built = has_rows(&region, case.before);
+    let returned = change_and_return(alloc, &mut region, case, steps)?;
+    Ok(built && returned && change_for_good(alloc, &mut region, case, steps)?)
 }
 
 fn run<L: Ledger>(alloc: Global, case: &Case<'_>, blank: Blank) -> Result<bool, NoMemory>
@@ -328,7 +344,43 @@ fn return_in_turn(
     Ok(reserved && between && has_rows(region, &[(0, 0), (1, 1), (2, 2)]))
 }
 
-/// Changes a region twice, and gives the ways back and a third patch.
+/// Makes a third patch of a region that was changed twice, and takes both changes back.
+fn plan_and_return<L: Ledger>(
+    alloc: Global,
+    region: &mut Region,
+    steps: &mut Steps<L>,
+    first: RegionUndo,
+    second: RegionUndo,
+) -> Result<bool, NoMemory>
+    requires first { HasRoom first region.old.marks.entries }
+    requires second { HasRoom second region.old.marks.entries }
+{
+    let flips = [flip_out(0, 2), flip_out(0, 3), flip_in(0, 1), flip_in(3, 4)];
+    match patch_to(alloc, region, &[(0, 1), (3, 4)], &flips, steps)? {
+        Some(third) => return_in_turn(region, first, second, third),
+        None => Ok(false),
+    }
+}
+
+/// Changes a region again, and goes on to the third patch.
+fn change_again<L: Ledger>(
+    alloc: Global,
+    region: &mut Region,
+    steps: &mut Steps<L>,
+    first: RegionUndo,
+) -> Result<bool, NoMemory>
+    requires { HasRoom first region.old.marks.entries }
+{
+    let flips = [flip_out(1, 2), flip_in(0, 2)];
+    let Some(second) = patch_to(alloc, region, &[(0, 2), (0, 3)], &flips, steps)? else {
+        return Ok(false);
+    };
+    make_room(region, &second)?;
+    let second = make_change(region, second);
+    plan_and_return(alloc, region, steps, first, second)
+}
+
+/// Changes a region twice, and goes on to a third patch and the ways back.
 fn change_on<L: Ledger>(
     alloc: Global,
     region: &mut Region,
@@ -340,17 +392,7 @@ fn change_on<L: Ledger>(
     };
     make_room(region, &first)?;
     let first = make_change(region, first);
-    let flips = [flip_out(1, 2), flip_in(0, 2)];
-    let Some(second) = patch_to(alloc, region, &[(0, 2), (0, 3)], &flips, steps)? else {
-        return Ok(false);
-    };
-    make_room(region, &second)?;
-    let second = make_change(region, second);
-    let flips = [flip_out(0, 2), flip_out(0, 3), flip_in(0, 1), flip_in(3, 4)];
-    let Some(third) = patch_to(alloc, region, &[(0, 1), (3, 4)], &flips, steps)? else {
-        return Ok(false);
-    };
-    return_in_turn(region, first, second, third)
+    change_again(alloc, region, steps, first)
 }
 
 fn go_back<L: Ledger>(alloc: Global, blank: Blank) -> Result<bool, NoMemory>

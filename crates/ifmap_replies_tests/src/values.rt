@@ -27,18 +27,28 @@ fn attribute_of(alloc: Global, local: &str, value: &str) -> Result<Attribute, No
     Attribute::with_local(alloc, local, Text::from_str(alloc, value)?)
 }
 
-// A stored role.
-fn role(alloc: Global) -> Result<Element, NoMemory> {
+// The attributes of a stored role.
+fn role_attributes(alloc: Global) -> Result<Many<Attribute>, NoMemory> {
+    Ok(Many(vec![in alloc;
+        attribute_of(alloc, "ifmap-cardinality", "multiValue")?,
+        attribute_of(alloc, "ifmap-publisher-id", "c1")?,
+        attribute_of(alloc, "ifmap-timestamp", "2001-09-09T01:46:40Z")?,
+    ]?))
+}
+
+// The child of a stored role, its name.
+fn role_children(alloc: Global) -> Result<Many<Child>, NoMemory> {
     let text = vec![in alloc; Child::Text(Text::from_str(alloc, "r")?)]?;
     let name = Element::with_local(alloc, "name", Vec::new(alloc), text)?;
+    Ok(Many(vec![in alloc; Child::Element(name)]?))
+}
+
+// A stored role.
+fn role(alloc: Global) -> Result<Element, NoMemory> {
     Ok(Element {
         name: Name::new(alloc, METADATA, "role")?,
-        attributes: Many(vec![in alloc;
-            attribute_of(alloc, "ifmap-cardinality", "multiValue")?,
-            attribute_of(alloc, "ifmap-publisher-id", "c1")?,
-            attribute_of(alloc, "ifmap-timestamp", "2001-09-09T01:46:40Z")?,
-        ]?),
-        children: Many(vec![in alloc; Child::Element(name)]?),
+        attributes: role_attributes(alloc)?,
+        children: role_children(alloc)?,
     })
 }
 
@@ -69,23 +79,33 @@ fn error_reply(alloc: Global) -> Result<Reply, NoMemory> {
     })
 }
 
+// Whether these bytes are written for the reply.
+fn is_written_as(alloc: Global, reply: &Reply, bytes: &str) -> Result<bool, NoMemory> {
+    let written = write_reply(alloc, reply)?;
+    Ok(written.as_slice() == bytes.as_bytes())
+}
+
+// Whether these bytes are written for what they mean.
+fn is_read_back(alloc: Global, bytes: &str) -> Result<bool, NoMemory> {
+    match read_reply(alloc, bytes.as_bytes()) {
+        Ok(read) => is_written_as(alloc, &read, bytes),
+        Err(_) => Ok(false),
+    }
+}
+
+// Whether these bytes are written for a copy of what the element of the reply means.
+fn is_meant(alloc: Global, reply: &Reply, bytes: &str) -> Result<bool, NoMemory> {
+    match reply_of(alloc, &element_of(alloc, reply)?) {
+        Ok(meant) => is_written_as(alloc, &meant.copy(alloc)?, bytes),
+        Err(_) => Ok(false),
+    }
+}
+
 // Whether these bytes are written for the reply, and for what they and its element mean.
 fn is_written(alloc: Global, reply: &Reply, bytes: &str) -> Result<bool, NoMemory> {
-    let written = write_reply(alloc, reply)?;
-    let Ok(read) = read_reply(alloc, bytes.as_bytes()) else {
-        return Ok(false);
-    };
-    let Ok(meant) = reply_of(alloc, &element_of(alloc, reply)?) else {
-        return Ok(false);
-    };
-    let again = write_reply(alloc, &read)?;
-    let once_more = write_reply(alloc, &meant.copy(alloc)?)?;
-    let expected = bytes.as_bytes();
-    Ok(
-        written.as_slice() == expected
-            && again.as_slice() == expected
-            && once_more.as_slice() == expected,
-    )
+    let written = is_written_as(alloc, reply, bytes)?;
+    let read_back = is_read_back(alloc, bytes)?;
+    Ok(written && read_back && is_meant(alloc, reply, bytes)?)
 }
 
 #[test]

@@ -1,5 +1,6 @@
 //! Rows are found by their keys, also where two keys have one word.
 use crate::makers::{row_with, rows_of};
+use ifmap_rows::Rows;
 use ifmap_view::Row;
 use std::alloc::Global;
 use std::test::Fail;
@@ -13,6 +14,20 @@ fn have_one_word(one: &Row, other: &Row) -> bool {
     one.stored().key_word() == other.stored().key_word()
 }
 
+// Whether each of the first two rows is found by its key, and the third by none.
+fn finds_two(rows: &Rows, one: &Row, other: &Row, third: &Row) -> bool {
+    let finds = |row: &Row| rows
+        .row_with_key(row)
+        .is_some_and(|found| found.stored().same_key(row.stored()));
+    finds(one) && finds(other) && rows.row_with_key(third).is_none()
+}
+
+// Puts both rows at once.
+fn put_both(rows: &mut Rows, one: &Row, other: &Row) -> Option<()> {
+    rows.carry_out(&[], &[one.share().ok()?, other.share().ok()?])
+        .ok()
+}
+
 // Whether rows with these texts are found by their keys among others, and by no other key.
 fn are_told_apart(alloc: Global) -> Option<bool> {
     let one = row_with(alloc, ONE)?;
@@ -20,15 +35,9 @@ fn are_told_apart(alloc: Global) -> Option<bool> {
     let third = row_with(alloc, "pnmrlnjjmorppnkn")?;
     let mut rows = rows_of(alloc, &[row_with(alloc, "a")?, row_with(alloc, "z")?]).ok()?;
     let none = rows.row_with_key(&one).is_none();
-    rows.carry_out(&[], &[one.share().ok()?, other.share().ok()?])
-        .ok()?;
-    Some(
-        none && have_one_word(&one, &other)
-            && !have_one_word(&one, &third)
-            && rows.row_with_key(&one)?.stored().same_key(one.stored())
-            && rows.row_with_key(&other)?.stored().same_key(other.stored())
-            && rows.row_with_key(&third).is_none(),
-    )
+    put_both(&mut rows, &one, &other)?;
+    let apart = have_one_word(&one, &other) && !have_one_word(&one, &third);
+    Some(none && apart && finds_two(&rows, &one, &other, &third))
 }
 
 #[test]

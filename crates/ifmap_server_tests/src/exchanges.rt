@@ -61,6 +61,32 @@ fn written_for(alloc: Global, due: &str, long: &str) -> Result<String, Fail> {
     answer_of(alloc, spell(alloc, due, long)?.as_str())
 }
 
+// The frame of an exchange.
+fn frame_for(alloc: Global, exchange: &Exchange, long: &str) -> Result<String, Fail> {
+    let (moment, client, request, _) = exchange;
+    let spelled = spell(alloc, request, long)?;
+    let body = body_of(alloc, spelled.as_str())?;
+    frame_of(alloc, *moment, client, body.as_str())
+}
+
+// The frames of the exchanges.
+fn frames_for(alloc: Global, exchanges: &[Exchange], long: &str) -> Result<String, Fail> {
+    let mut script = String::new(alloc);
+    for exchange in exchanges {
+        script.push_str(frame_for(alloc, exchange, long)?.as_str())?;
+    }
+    Ok(script)
+}
+
+// What is due for the exchanges.
+fn all_written_for(alloc: Global, exchanges: &[Exchange], long: &str) -> Result<String, Fail> {
+    let mut written = String::new(alloc);
+    for (_, _, _, due) in exchanges {
+        written.push_str(written_for(alloc, due, long)?.as_str())?;
+    }
+    Ok(written)
+}
+
 /// The requests are answered with these results, one after another.
 pub fn expect_exchanges(
     rt: &(impl Abort + AllocGlobal),
@@ -76,14 +102,8 @@ pub fn expect_exchanges_with(
     exchanges: &[Exchange],
 ) -> Result<(), Fail> {
     let alloc = rt.alloc();
-    let mut script = String::new(alloc);
-    let mut written = String::new(alloc);
-    for (moment, client, request, due) in exchanges {
-        let request = spell(alloc, request, long)?;
-        let body = body_of(alloc, request.as_str())?;
-        script.push_str(frame_of(alloc, *moment, client, body.as_str())?.as_str())?;
-        written.push_str(written_for(alloc, due, long)?.as_str())?;
-    }
+    let script = frames_for(alloc, exchanges, long)?;
+    let written = all_written_for(alloc, exchanges, long)?;
     expect_replay(rt, script.as_str(), 0, written.as_str())
 }
 

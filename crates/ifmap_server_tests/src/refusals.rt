@@ -11,11 +11,16 @@ use std::test::Fail;
 // A request in a session; what stands between it and its end is up to the test.
 const IN_SESSION: &str = "session-id=\"1-00000000-0000-0000-0000-000000000001\"";
 
+// The body with this request in it; `SESSION` stands for that of the first session.
+fn body_in_session(alloc: Global, request: &str) -> Result<String, Fail> {
+    let request = request.replace(alloc, "SESSION", IN_SESSION)?;
+    body_of(alloc, request.as_str())
+}
+
 /// The request is answered with the code; `SESSION` stands for that of the first session.
 pub fn expect_code(rt: &(impl Abort + AllocGlobal), request: &str, code: &str) -> Result<(), Fail> {
     let alloc = rt.alloc();
-    let request = request.replace(alloc, "SESSION", IN_SESSION)?;
-    let body = body_of(alloc, request.as_str())?;
+    let body = body_in_session(alloc, request)?;
     let script = script_of(alloc, &[body.as_str()])?;
     expect_replay(rt, script.as_str(), 0, refusal_of(alloc, code)?.as_str())
 }
@@ -127,23 +132,31 @@ fn long_identifiers_and_metadata_are_refused(rt: HostRuntime) -> Result<(), Fail
     expect_code(&rt, publish.as_str(), "MetadataTooLong")
 }
 
+// The text with another at this place.
+fn insert_at(alloc: Global, text: &str, place: usize, other: &str) -> Result<String, Fail> {
+    let (before, after) = text.split_at_checked(place).ok_or("a short text")?;
+    Ok(format!(in alloc; "{before}{other}{after}")?)
+}
+
+// A request with a defect, later than all others.
+fn late_frame(alloc: Global) -> Result<String, Fail> {
+    let refused = body_of(alloc, "<n2:frobnicate/>")?;
+    frame_of(alloc, 2_000_000_000, "c1", refused.as_str())
+}
+
+// A script with that request after the one that begins the session.
+fn late_script(alloc: Global) -> Result<String, Fail> {
+    let begun = frame_of(alloc, 1_000_000_000, "c1", NEW_SESSION)?.len();
+    insert_at(alloc, PUBLISH_AND_FIND, begun, late_frame(alloc)?.as_str())
+}
+
 // A request with a defect comes later than what is published after it, whose stamp has its own moment.
 #[test]
 fn a_code_moves_no_moment(rt: HostRuntime) -> Result<(), Fail> {
     let alloc = rt.alloc();
-    let refused = body_of(alloc, "<n2:frobnicate/>")?;
-    let begun = frame_of(alloc, 1_000_000_000, "c1", NEW_SESSION)?;
-    let (first, others) = PUBLISH_AND_FIND
-        .split_at_checked(begun.len())
-        .ok_or("a short script")?;
-    let late = frame_of(alloc, 2_000_000_000, "c1", refused.as_str())?;
-    let script = format!(in alloc; "{first}{late}{others}")?;
-    let (answer, answers) = FOUND
-        .split_at_checked(FIRST_ANSWER)
-        .ok_or("a short output")?;
     let failure = refusal_of(alloc, "Failure")?;
-    let written = format!(in alloc; "{answer}{failure}{answers}")?;
-    expect_replay(&rt, script.as_str(), 0, written.as_str())
+    let written = insert_at(alloc, FOUND, FIRST_ANSWER, failure.as_str())?;
+    expect_replay(&rt, late_script(alloc)?.as_str(), 0, written.as_str())
 }
 
 const IN_A_SESSION: [&str; 13] = [
@@ -170,18 +183,27 @@ fn without_a_session_nothing_is_done_in_it(rt: HostRuntime) -> Result<(), Fail> 
     Ok(())
 }
 
+// What is written for a session that begins, and then this.
+fn answers_with(alloc: Global, written: &str) -> Result<String, Fail> {
+    let begun = FOUND.get(..FIRST_ANSWER).ok_or("a short output")?;
+    Ok(format!(in alloc; "{begun}{written}")?)
+}
+
+// The script in which the client `c1` begins a session, and `c2` asks in it.
+fn stranger_script(alloc: Global, request: &str) -> Result<String, Fail> {
+    let body = body_in_session(alloc, request)?;
+    let mut script = frame_of(alloc, 1_000_000_000, "c1", NEW_SESSION)?;
+    script.push_str(frame_of(alloc, 1_000_000_000, "c2", body.as_str())?.as_str())?;
+    Ok(script)
+}
+
 // The session is the client `c1`'s, and `c2` asks in it.
 #[test]
 fn nobody_asks_in_the_session_of_another(rt: HostRuntime) -> Result<(), Fail> {
     let alloc = rt.alloc();
-    let begun = FOUND.get(..FIRST_ANSWER).ok_or("a short output")?;
-    let denied = refusal_of(alloc, "AccessDenied")?;
-    let written = format!(in alloc; "{begun}{denied}")?;
+    let written = answers_with(alloc, refusal_of(alloc, "AccessDenied")?.as_str())?;
     for request in IN_A_SESSION {
-        let request = request.replace(alloc, "SESSION", IN_SESSION)?;
-        let body = body_of(alloc, request.as_str())?;
-        let mut script = frame_of(alloc, 1_000_000_000, "c1", NEW_SESSION)?;
-        script.push_str(frame_of(alloc, 1_000_000_000, "c2", body.as_str())?.as_str())?;
+        let script = stranger_script(alloc, request)?;
         expect_replay(&rt, script.as_str(), 0, written.as_str())?;
     }
     Ok(())
@@ -196,21 +218,31 @@ const LIMITS: [(&str, &str); 5] = [
     ("99999999999999999999", "5000000"),
 ];
 
+// The script that asks for a session with this limit.
+fn limit_script(alloc: Global, asked: &str) -> Result<String, Fail> {
+    let request = format!(in alloc; "<n2:newSession max-poll-result-size='{asked}'/>")?;
+    let body = body_of(alloc, request.as_str())?;
+    script_of(alloc, &[body.as_str()])
+}
+
+// What is written for a session with that limit.
+fn limit_answer(alloc: Global, limit: &str) -> Result<String, Fail> {
+    let result = format!(in alloc;
+        "<newSessionResult ifmap-publisher-id=\"c1\" max-poll-result-size=\"{limit}\" {IN_SESSION}/>"
+    )?;
+    answer_of(alloc, result.as_str())
+}
+
 #[test]
 fn limits_are_put_into_their_range(rt: HostRuntime) -> Result<(), Fail> {
     let alloc = rt.alloc();
     for (asked, limit) in LIMITS {
-        let request = format!(in alloc; "<n2:newSession max-poll-result-size='{asked}'/>")?;
-        let body = body_of(alloc, request.as_str())?;
-        let script = script_of(alloc, &[body.as_str()])?;
-        let result = format!(in alloc;
-            "<newSessionResult ifmap-publisher-id=\"c1\" max-poll-result-size=\"{limit}\" {IN_SESSION}/>"
-        )?;
+        let script = limit_script(alloc, asked)?;
         expect_replay(
             &rt,
             script.as_str(),
             0,
-            answer_of(alloc, result.as_str())?.as_str(),
+            limit_answer(alloc, limit)?.as_str(),
         )?;
     }
     Ok(())
@@ -256,14 +288,16 @@ fn nested_publish(alloc: Global, levels: usize) -> Result<String, Fail> {
     body_of(alloc, publish.as_str())
 }
 
+// The script that begins a session and publishes so many levels.
+fn nested_script(alloc: Global, levels: usize) -> Result<String, Fail> {
+    let deep = nested_publish(alloc, levels)?;
+    script_of(alloc, &[NEW_SESSION, deep.as_str()])
+}
+
 #[test]
 fn requests_have_64_levels_at_most(rt: HostRuntime) -> Result<(), Fail> {
     let alloc = rt.alloc();
-    let deep = nested_publish(alloc, 58)?;
-    let script = script_of(alloc, &[NEW_SESSION, deep.as_str()])?;
-    let begun = FOUND.get(..FIRST_ANSWER).ok_or("a short output")?;
-    let published = answer_of(alloc, "<publishReceived/>")?;
-    let written = format!(in alloc; "{begun}{published}")?;
-    expect_replay(&rt, script.as_str(), 0, written.as_str())?;
+    let written = answers_with(alloc, answer_of(alloc, "<publishReceived/>")?.as_str())?;
+    expect_replay(&rt, nested_script(alloc, 58)?.as_str(), 0, written.as_str())?;
     expect_unreadable(&rt, nested_publish(alloc, 59)?.as_str())
 }

@@ -99,21 +99,38 @@ fn headers_are_of_one_form(rt: HostRuntime) -> Result<(), Fail> {
     Ok(())
 }
 
+// The status of a replay of three frames where a read or a write fails, and whether a beginning of
+// their answers is written.
+fn cut_replay(alloc: Global, reads: &[u64], writes: &[u64]) -> Result<(u8, bool), Fail> {
+    let (status, held) = replay_of(alloc, THREE_FRAMES, reads, writes)?;
+    Ok((
+        status,
+        THREE_ANSWERS.as_bytes().starts_with(held.as_slice()),
+    ))
+}
+
+// The status of a replay where a read and a write would fail, and whether just this is written.
+fn whole_replay(
+    alloc: Global,
+    script: &str,
+    reads: &[u64],
+    writes: &[u64],
+    written: &str,
+) -> Result<(u8, bool), Fail> {
+    let (status, held) = replay_of(alloc, script, reads, writes)?;
+    Ok((status, held.as_slice() == written.as_bytes()))
+}
+
 #[test]
 fn a_failing_read_or_write_ends_the_replay(rt: HostRuntime) -> Result<(), Fail> {
     for read in 0..2 {
-        let (status, held) = replay_of(rt.alloc(), THREE_FRAMES, &[read], &[])?;
-        assert_eq!(rt; status, 4);
-        assert!(rt; THREE_ANSWERS.as_bytes().starts_with(held.as_slice()));
+        assert_eq!(rt; cut_replay(rt.alloc(), &[read], &[])?, (4, true));
     }
     for write in 0..9 {
-        let (status, held) = replay_of(rt.alloc(), THREE_FRAMES, &[], &[write])?;
-        assert_eq!(rt; status, 5);
-        assert!(rt; THREE_ANSWERS.as_bytes().starts_with(held.as_slice()));
+        assert_eq!(rt; cut_replay(rt.alloc(), &[], &[write])?, (5, true));
     }
-    let (status, held) = replay_of(rt.alloc(), THREE_FRAMES, &[2], &[9])?;
-    assert_eq!(rt; status, 0);
-    assert_eq!(rt; held.as_slice(), THREE_ANSWERS.as_bytes());
+    let whole = whole_replay(rt.alloc(), THREE_FRAMES, &[2], &[9], THREE_ANSWERS)?;
+    assert_eq!(rt; whole, (0, true));
     Ok(())
 }
 
@@ -142,15 +159,13 @@ fn a_faulty_header_is_told_though_the_next_read_fails(rt: HostRuntime) -> Result
         "@1 c 00000000000000000000000000000000 10000001\nabc",
     ];
     for script in faulty {
-        let (status, held) = replay_of(alloc, script, &[1], &[])?;
-        assert_eq!(rt; status, 3, "{script}");
-        assert_eq!(rt; held.as_slice(), b"!0\n".as_slice());
+        let told = whole_replay(alloc, script, &[1], &[], "!0\n")?;
+        assert_eq!(rt; told, (3, true), "{script}");
     }
     let awaited = ["@1 c 0000", "@1 c 00000000000000000000000000000000 9\nabc"];
     for script in awaited {
-        let (status, held) = replay_of(alloc, script, &[1], &[])?;
-        assert_eq!(rt; status, 4, "{script}");
-        assert!(rt; held.is_empty());
+        let told = whole_replay(alloc, script, &[1], &[], "")?;
+        assert_eq!(rt; told, (4, true), "{script}");
     }
     Ok(())
 }

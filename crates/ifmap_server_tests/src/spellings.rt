@@ -1,6 +1,7 @@
 //! Requests in other spellings than the canonical one.
 use crate::replays::expect_replay;
 use crate::scripts::{FOUND, NEW_SESSION, THREE_ANSWERS, answer_of, body_of, frame_of, script_of};
+use std::alloc::Global;
 use std::process::Abort;
 use std::test::Fail;
 
@@ -65,43 +66,72 @@ const USUAL_TOLD: &str =
 
 const STAMP: &str = "ifmap-publisher-id=\"pdp\" ifmap-timestamp=\"1970-01-01T00:00:02Z\"";
 
-// Its publish is taken, and a subscription of its own from the address is told of all of it.
-#[test]
-fn a_usual_client_is_told_what_it_published(rt: HostRuntime) -> Result<(), Fail> {
-    let alloc = rt.alloc();
-    let subscribe = body_of(
-        alloc,
+// A subscription from the address, and a poll, each with its moment.
+const USUAL_REQUESTS: [(u64, &str); 2] = [
+    (
+        3,
         "<n2:subscribe session-id=\"1-00000000-0000-0000-0000-000000000001\"><update name=\"s\" max-depth=\"3\"><mac-address value=\"00:00:5e:00:53:01\"/></update></n2:subscribe>",
-    )?;
-    let poll = body_of(
-        alloc,
+    ),
+    (
+        4,
         "<n2:poll session-id=\"1-00000000-0000-0000-0000-000000000001\"/>",
-    )?;
-    let bodies = [NEW_SESSION, USUAL, subscribe.as_str(), poll.as_str()];
-    let mut script = String::new(alloc);
-    for (at, body) in bodies.iter().enumerate() {
-        script.push_str(frame_of(alloc, at as u64 + 1, "pdp", body)?.as_str())?;
+    ),
+];
+
+// The frame of the client `pdp` at this moment.
+fn usual_frame(alloc: Global, moment: u64, body: &str) -> Result<String, Fail> {
+    frame_of(alloc, moment, "pdp", body)
+}
+
+// The script in which it begins a session, publishes, subscribes and polls, a second after the other.
+fn usual_script(alloc: Global) -> Result<String, Fail> {
+    let mut script = usual_frame(alloc, 1, NEW_SESSION)?;
+    script.push_str(usual_frame(alloc, 2, USUAL)?.as_str())?;
+    for (moment, request) in USUAL_REQUESTS {
+        let body = body_of(alloc, request)?;
+        script.push_str(usual_frame(alloc, moment, body.as_str())?.as_str())?;
     }
+    Ok(script)
+}
+
+// What is written for it.
+fn usual_answers(rt: &(impl Abort + AllocGlobal)) -> Result<String, Fail> {
+    let alloc = rt.alloc();
     let told = USUAL_TOLD.replace(alloc, "STAMP", STAMP)?;
-    let mut written = session_answer(&rt, "pdp")?;
+    let mut written = session_answer(rt, "pdp")?;
     for result in ["<publishReceived/>", "<subscribeReceived/>", told.as_str()] {
         written.push_str(answer_of(alloc, result)?.as_str())?;
     }
-    expect_replay(&rt, script.as_str(), 0, written.as_str())
+    Ok(written)
+}
+
+// Its publish is taken, and a subscription of its own from the address is told of all of it.
+#[test]
+fn a_usual_client_is_told_what_it_published(rt: HostRuntime) -> Result<(), Fail> {
+    let script = usual_script(rt.alloc())?;
+    expect_replay(&rt, script.as_str(), 0, usual_answers(&rt)?.as_str())
+}
+
+// A publish on an address, and a search of it in another spelling.
+const IPV6_REQUESTS: [&str; 2] = [
+    "<n2:publish session-id=\"1-00000000-0000-0000-0000-000000000001\"><update><ip-address value=\"2001:DB8::1\" type=\"IPv6\"/><metadata><n3:role ifmap-cardinality=\"multiValue\"><name>r</name></n3:role></metadata></update></n2:publish>",
+    "<n2:search session-id=\"1-00000000-0000-0000-0000-000000000001\"><ip-address type=\"IPv6\" value=\"2001:db8:0:0:0:0:0:1\"/></n2:search>",
+];
+
+// The script that makes these requests in a session.
+fn ipv6_script(alloc: Global) -> Result<String, Fail> {
+    let mut script = script_of(alloc, &[NEW_SESSION])?;
+    for request in IPV6_REQUESTS {
+        let body = body_of(alloc, request)?;
+        script.push_str(script_of(alloc, &[body.as_str()])?.as_str())?;
+    }
+    Ok(script)
 }
 
 #[test]
 fn spellings_of_an_ipv6_address_are_one(rt: HostRuntime) -> Result<(), Fail> {
     let alloc = rt.alloc();
-    let publish = body_of(
-        alloc,
-        "<n2:publish session-id=\"1-00000000-0000-0000-0000-000000000001\"><update><ip-address value=\"2001:DB8::1\" type=\"IPv6\"/><metadata><n3:role ifmap-cardinality=\"multiValue\"><name>r</name></n3:role></metadata></update></n2:publish>",
-    )?;
-    let search = body_of(
-        alloc,
-        "<n2:search session-id=\"1-00000000-0000-0000-0000-000000000001\"><ip-address type=\"IPv6\" value=\"2001:db8:0:0:0:0:0:1\"/></n2:search>",
-    )?;
-    let script = script_of(alloc, &[NEW_SESSION, publish.as_str(), search.as_str()])?;
+    let script = ipv6_script(alloc)?;
     let address = "<mac-address value=\"00:00:5e:00:53:01\"/>";
     let other = "<ip-address type=\"IPv6\" value=\"2001:db8:0:0:0:0:0:1\"/>";
     let found = FOUND
