@@ -19,29 +19,30 @@ fn count_right_cases(alloc: Global, cases: &[(Comparison, bool)]) -> Result<usiz
     Ok(cases.len())
 }
 
+const JUDGED: [(Comparison, bool); 14] = [
+    (Attr("a", "1"), true),
+    (Attr("a", "2"), false),
+    (Attr("a", ""), false),
+    // In a namespace.
+    (Attr("b", "2"), false),
+    (Attr("c", ""), false),
+    // The text children alone, joined.
+    (Child("m", "name", "ab"), true),
+    (Child("m", "name", "acb"), false),
+    (Child("m", "name", "a"), false),
+    (Child("m", "name", "abc"), false),
+    (Child("", "name", "ab"), false),
+    (Child("m", "none", ""), true),
+    (Child("m", "none", "x"), false),
+    // Neither the element itself nor what stands deeper.
+    (Child("m", "role", "x"), false),
+    (Child("m", "inner", "c"), false),
+];
+
 #[test]
 fn comparisons_hold_as_judged_by_hand(rt: HostRuntime) -> Result<(), Fail> {
     let alloc = rt.alloc();
-    let cases: [(Comparison, bool); 14] = [
-        (Attr("a", "1"), true),
-        (Attr("a", "2"), false),
-        (Attr("a", ""), false),
-        // In a namespace.
-        (Attr("b", "2"), false),
-        (Attr("c", ""), false),
-        // The text children alone, joined.
-        (Child("m", "name", "ab"), true),
-        (Child("m", "name", "acb"), false),
-        (Child("m", "name", "a"), false),
-        (Child("m", "name", "abc"), false),
-        (Child("", "name", "ab"), false),
-        (Child("m", "none", ""), true),
-        (Child("m", "none", "x"), false),
-        // Neither the element itself nor what stands deeper.
-        (Child("m", "role", "x"), false),
-        (Child("m", "inner", "c"), false),
-    ];
-    assert_eq!(rt; count_right_cases(alloc, &cases)?, cases.len());
+    assert_eq!(rt; count_right_cases(alloc, &JUDGED)?, JUDGED.len());
     Ok(())
 }
 
@@ -60,19 +61,21 @@ fn meets_joined(alloc: Global, all: bool, asked: &[Comparison]) -> Result<bool, 
     Ok(filter.matches(&role(alloc)?))
 }
 
+// Whether all parts are to hold, the parts, and whether they do.
+const JOINED: [(bool, [Comparison; 2], bool); 6] = [
+    (true, [HOLDS, HOLDS], true),
+    (true, [HOLDS, FAILS], false),
+    (true, [FAILS, HOLDS], false),
+    (false, [HOLDS, FAILS], true),
+    (false, [FAILS, HOLDS], true),
+    (false, [FAILS, FAILS], false),
+];
+
 #[test]
 fn all_parts_hold_or_one_does(rt: HostRuntime) -> Result<(), Fail> {
     let alloc = rt.alloc();
-    let cases: [(bool, [Comparison; 2], bool); 6] = [
-        (true, [HOLDS, HOLDS], true),
-        (true, [HOLDS, FAILS], false),
-        (true, [FAILS, HOLDS], false),
-        (false, [HOLDS, FAILS], true),
-        (false, [FAILS, HOLDS], true),
-        (false, [FAILS, FAILS], false),
-    ];
-    for (all, asked, wanted) in cases {
-        assert_eq!(rt; meets_joined(alloc, all, &asked)?, wanted);
+    for (all, asked, wanted) in &JOINED {
+        assert_eq!(rt; meets_joined(alloc, *all, asked)?, *wanted);
     }
     Ok(())
 }
@@ -93,16 +96,17 @@ fn meets_no_test(alloc: Global) -> Result<bool, NoMemory> {
     Ok(none.matches(&role(alloc)?))
 }
 
+const NAMES: [(&str, &str, bool); 3] = [
+    ("m", "role", true),
+    ("m", "name", false),
+    ("", "role", false),
+];
+
 #[test]
 fn names_are_met_by_their_elements_and_no_name_by_all(rt: HostRuntime) -> Result<(), Fail> {
     let alloc = rt.alloc();
-    let cases = [
-        ("m", "role", true),
-        ("m", "name", false),
-        ("", "role", false),
-    ];
-    for (space, local, wanted) in cases {
-        assert_eq!(rt; meets_name_of(alloc, space, local)?, wanted);
+    for (space, local, wanted) in &NAMES {
+        assert_eq!(rt; meets_name_of(alloc, space, local)?, *wanted);
     }
     let of_none = (meets_name(alloc, None)?, meets_no_test(alloc)?);
     assert_eq!(rt; of_none, (true, false));

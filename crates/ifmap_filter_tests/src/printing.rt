@@ -109,6 +109,14 @@ fn name_is_printed(
     is_printed(alloc, &filter, spaces, wanted)
 }
 
+const NUMBERED: [(&str, &str, bool); 5] = [
+    ("a", "f1:n", true),
+    ("i", "f9:n", true),
+    ("j", "f10:n", true),
+    ("l", "f12:n", true),
+    ("m", "f13:n", false),
+];
+
 #[test]
 fn prefixes_count_the_given_namespaces(rt: HostRuntime) -> Result<(), Fail> {
     let alloc = rt.alloc();
@@ -116,15 +124,8 @@ fn prefixes_count_the_given_namespaces(rt: HostRuntime) -> Result<(), Fail> {
         alloc,
         &["a", "b", "c", "d", "e", "f", "g", "h", "i", "j", "k", "l"],
     )?;
-    let cases = [
-        ("a", "f1:n", true),
-        ("i", "f9:n", true),
-        ("j", "f10:n", true),
-        ("l", "f12:n", true),
-        ("m", "f13:n", false),
-    ];
-    for (space, wanted, there) in cases {
-        assert_eq!(rt; name_is_printed(alloc, &spaces, space, wanted)?, there);
+    for (space, wanted, there) in &NUMBERED {
+        assert_eq!(rt; name_is_printed(alloc, &spaces, space, wanted)?, *there);
     }
     Ok(())
 }
@@ -171,17 +172,19 @@ fn two_filters_share_a_list_of_namespaces(rt: HostRuntime) -> Result<(), Fail> {
     Ok(())
 }
 
+// Whether the namespaces of the first text's filter serve the second's.
+const SERVED: [(&str, &str, bool); 4] = [
+    ("q:a[m:b='' or c='']", "m:d or p:e or xml:f", false),
+    ("a or xml:b", "c[@d='']", true),
+    ("m:a or p:b", "p:c[m:d='']", true),
+    ("", "*[@a='' and q:b='']", false),
+];
+
 #[test]
 fn namespaces_of_one_filter_serve_another_or_not(rt: HostRuntime) -> Result<(), Fail> {
     let alloc = rt.alloc();
-    let cases = [
-        ("q:a[m:b='' or c='']", "m:d or p:e or xml:f", false),
-        ("a or xml:b", "c[@d='']", true),
-        ("m:a or p:b", "p:c[m:d='']", true),
-        ("", "*[@a='' and q:b='']", false),
-    ];
-    for (one, other, wanted) in cases {
-        assert_eq!(rt; serve(alloc, one, other)?, wanted);
+    for (one, other, wanted) in &SERVED {
+        assert_eq!(rt; serve(alloc, one, other)?, *wanted);
     }
     Ok(())
 }
