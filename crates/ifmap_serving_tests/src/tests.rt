@@ -17,7 +17,6 @@ use std::net::{TcpListener, TcpStream};
 use std::sync::Wait;
 use std::sync::atomic::AtomicU64;
 use std::test::Fail;
-use std::thread::Threads;
 use std::time::Clock;
 
 const BEGIN: &str = "<n2:newSession/>";
@@ -135,22 +134,17 @@ fn next_random(words: &mut ChaCha20Rng) -> u128 {
     random
 }
 
-// The three links of that door came back, and each renewal was answered.
-fn are_renewed(alloc: Global, door: &MemoryDoor) -> bool {
-    door.back().len() == 3
-        && is_told(alloc, door, 0, &[RENEWED])
-        && is_told(alloc, door, 1, &[RENEWED, RENEWED])
-        && is_told(alloc, door, 2, &[])
-}
-
 #[test]
 fn the_connections_of_a_door_are_served_in_order(rt: HostRuntime) -> Result<(), Fail> {
     let alloc = rt.alloc();
     let mut door = renewals_door(alloc)?;
     let mut desk = PlainDesk::new(alloc, Vec::new(alloc), Plan::Answered, Plan::Answered);
     let status = work_at(&rt, alloc, &mut desk, &mut door);
-    let asked = desk.noted.len() == 3 && are_drawn(desk.noted.as_slice());
-    assert!(rt; status == 0 && are_renewed(alloc, &door) && asked);
+    assert!(rt; status == 0 && door.back().len() == 3);
+    assert!(rt; is_told(alloc, &door, 0, &[RENEWED]));
+    assert!(rt; is_told(alloc, &door, 1, &[RENEWED, RENEWED]));
+    assert!(rt; is_told(alloc, &door, 2, &[]));
+    assert!(rt; desk.noted.len() == 3 && are_drawn(desk.noted.as_slice()));
     Ok(())
 }
 
@@ -261,23 +255,18 @@ fn is_begun(alloc: Global, client: TcpLink) -> Result<bool, NoMemory> {
     })
 }
 
-// Serves one connection of the listener.
-fn serve_one<R: Threads + Wait + Sync>(rt: &R, alloc: Global, listener: &TcpListener) -> u8 {
-    let door = ShortDoor {
-        door: TcpDoor::new(listener),
-        left: 1,
-    };
-    let mut stands = [Stand::new(door, open_gate())];
-    serve(rt, alloc, KEY, &mut stands, &still_clock())
-}
-
 #[test]
 fn a_connection_is_served_over_sockets(rt: HostRuntime) -> Result<(), Fail> {
     let alloc = rt.alloc();
     let listener = TcpListener::bind(&rt, "127.0.0.1:0")?;
     let mut client = TcpLink::new(TcpStream::connect(&rt, listener.local_addr()?)?);
     assert!(rt; asks(alloc, &mut client));
-    let status = serve_one(&rt, alloc, &listener);
+    let door = ShortDoor {
+        door: TcpDoor::new(&listener),
+        left: 1,
+    };
+    let mut stands = [Stand::new(door, open_gate())];
+    let status = serve(&rt, alloc, KEY, &mut stands, &still_clock());
     assert!(rt; status == 0 && is_begun(alloc, client) == Ok(true));
     Ok(())
 }
