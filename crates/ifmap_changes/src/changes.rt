@@ -198,7 +198,8 @@ fn tell_standing<L: Ledger>(
     ensures news { IfOk result (λ told. told.news ≡ news_of_each (rows_now parts.old.graph)
         (rows_next parts.old.graph) plan.now.notes gone.now
         (map standing_of parts.old.standing.items)) }
-    ensures kept { OnOk result (AllKept (λ x. IsUpToDate (sight_next parts.old.graph) x.subscription)
+    ensures kept { OnOk result
+        (AllKept (λ x. IsUpToDate (sight_next parts.old.graph) x.subscription)
         gone.now parts.new.standing.items) }
     ensures ways { IfOk result (λ told. LeadBack parts.old.standing.items told.ways
         parts.new.standing.items) }

@@ -79,7 +79,8 @@ impl Input {
         offset: u64,
     ) -> Result<Option<usize>, Stop>
         requires { offset ≤ longest_script + 1 }
-        ensures awaits { WaitsForLine (S.left source.old) (S.left source.new) offset self.old self.new
+        ensures awaits { WaitsForLine (S.left source.old) (S.left source.new) offset
+            self.old self.new
             result }
         ensures fault { result ≡ Err Stop.ReadFault
             → Rose (S.faults source.old) (S.faults source.new) }

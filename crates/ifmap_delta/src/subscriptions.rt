@@ -100,7 +100,8 @@ impl Subscription {
             ≡ is_some (row_of self.old.region.marks.entries v) }
 
         // Where the patch and the size are those of a change, the subscription keeps what the draft has.
-        ensures kept { (g : ViewSeen) → WouldKeep g self.old patch new_size → IsUpToDate g self.new }
+        ensures kept { (g : ViewSeen) → WouldKeep g self.old patch new_size
+            → IsUpToDate g self.new }
     {
         self.region.commit(patch);
         self.size = new_size;
@@ -116,7 +117,8 @@ impl Subscription {
         ensures undo { result.0 ≡ taken_from (mark_of self.old.region.marks.entries) patch }
         ensures undo_size { result.1 ≡ self.old.size }
         ensures room { HasRoom result.0 self.new.region.marks.entries }
-        ensures kept { (g : ViewSeen) → WouldKeep g self.old patch new_size → IsUpToDate g self.new }
+        ensures kept { (g : ViewSeen) → WouldKeep g self.old patch new_size
+            → IsUpToDate g self.new }
     {
         let region = self.region.commit_kept(patch);
         let size = self.size;

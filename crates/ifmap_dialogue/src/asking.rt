@@ -195,7 +195,8 @@ fn begin_poll<C: Clock>(
       random = random_word words.old;
       bytes = asker.bytes;
     }) }
-    ensures event { IfOk result (λ made. IsFirstPoll (C.gives setting.now.clock.now) made.0 made.1) }
+    ensures event { IfOk result
+        (λ made. IsFirstPoll (C.gives setting.now.clock.now) made.0 made.1) }
     ensures drawn { IfOk result (λ _. words.new ≡ after_random words.old) }
     ensures none { OnErr result (words.new ≡ words.old) }
 {

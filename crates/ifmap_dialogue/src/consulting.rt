@@ -50,7 +50,8 @@ pub(crate) fn consult<K: Desk, C: Clock, G: Gate>(
 
 // A body with a defect of this code comes to its refusal.
 fn refuse(alloc: Global, code: Code) -> Finding
-    ensures { (result ≡ the_finding.Replied (refusal_reply code)) ⊎ (result ≡ the_finding.NoMemory) }
+    ensures { (result ≡ the_finding.Replied (refusal_reply code))
+        ⊎ (result ≡ the_finding.NoMemory) }
 {
     match refusal_of(alloc, code) {
         Ok(reply) => Finding::Replied(reply),

@@ -29,7 +29,8 @@ pub(crate) fn send_reply<L: Link, G: Gate>(
     reply: &Reply,
     then: Then,
 ) -> Sent
-    ensures writes { (output : List ℕ) × WritesAnswer (reply_answer reply.now (closes then)) result output
+    ensures writes { (output : List ℕ) × WritesAnswer (reply_answer reply.now (closes then))
+        result output
         × GainsBytes (wire_seen L.left L.held L.Source.faults L.Sink.faults wire.old)
         (wire_seen L.left L.held L.Source.faults L.Sink.faults wire.new) output }
     ensures fault { result ≡ Sent.WriteFault
@@ -71,7 +72,8 @@ fn send<L: Link, G: Gate>(
     then: Then,
 ) -> Sent
     requires { IsTrue (is_answer_status status) }
-    ensures writes { (output : List ℕ) × WritesAnswer (answer_bytes status body.now (closes then)) result
+    ensures writes { (output : List ℕ) × WritesAnswer
+        (answer_bytes status body.now (closes then)) result
         output × GainsBytes (wire_seen L.left L.held L.Source.faults L.Sink.faults wire.old)
         (wire_seen L.left L.held L.Source.faults L.Sink.faults wire.new) output }
     ensures fault { result ≡ Sent.WriteFault

@@ -34,7 +34,8 @@ fn first_of<'a>(entries: Range<'a, Item, usize>, slots: &Slab<Shelf>) -> Option<
 // The first item above another, or of all, whose shelf is not empty.
 fn first_after<'a>(shelves: &'a Shelves, after: Option<&Item>) -> Option<&'a Item>
     requires { AreShelved shelves.now }
-    ensures found { IfSome result (λ item. IsFirstFull (λ at. list_at now (get shelves.now.slots at))
+    ensures found { IfSome result
+        (λ item. IsFirstFull (λ at. list_at now (get shelves.now.slots at))
         (entries_after (option_copied after.entry) shelves.now.places.entries) item.now) }
     ensures none { IfNone result (AreEmpty (λ at. list_at now (get shelves.now.slots at))
         (entries_after (option_copied after.entry) shelves.now.places.entries)) }
@@ -58,7 +59,8 @@ impl Shelves {
         ensures found { IfSome result (λ found.
             IsNextItem (rows_on_side now self.now) (option_copied item.entry) found.now) }
         ensures canon { IfSome result (λ found. IsCanonItem found.now) }
-        ensures none { IfNone result (NoItem (rows_on_side now self.now) (option_copied item.entry)) }
+        ensures none { IfNone result
+            (NoItem (rows_on_side now self.now) (option_copied item.entry)) }
         ensures step { steps.new ≡ steps.old + 1 }
     {
         steps.tick();

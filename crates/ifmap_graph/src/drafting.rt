@@ -62,7 +62,8 @@ pub(crate) fn draft_changes(
 ) -> Result<(), NoMemory>
     requires shelved { AreShelved shelves.old }
     requires bare { AreBare shelves.old }
-    requires there { AllByRecursion (λ x. IsSome (slot_of_item shelves.old x)) (items_changed changes.now) }
+    requires there { AllByRecursion (λ x. IsSome (slot_of_item shelves.old x))
+        (items_changed changes.now) }
     requires fits { Fits (rows_on_side now shelves.old) changes.now }
     ensures shelved { AreShelved shelves.new }
     ensures now { rows_on_side now shelves.new ≡ rows_on_side now shelves.old }
@@ -94,7 +95,8 @@ pub(crate) fn draft_plan(
     requires bare { AreBare shelves.old }
     requires none { (v : ℕ) → (sides_at links.old.items v).draft ≡ None }
     requires ready { AreExactlyDrafted ways.old.items links.old.items }
-    requires there { AllByRecursion (λ x. IsSome (slot_of_item shelves.old x)) (items_changed changes.now) }
+    requires there { AllByRecursion (λ x. IsSome (slot_of_item shelves.old x))
+        (items_changed changes.now) }
     requires fits { Fits (rows_on_side now shelves.old) changes.now }
     ensures shelved { AreShelved shelves.new }
     ensures inside { OnOk result ((names : Holdings Identifier)
@@ -129,7 +131,8 @@ pub(crate) fn draft_and_wait(
     requires bare { AreBare shelves.old }
     requires none { (v : ℕ) → (sides_at links.old.items v).draft ≡ None }
     requires ready { AreExactlyDrafted ways.old.items links.old.items }
-    requires there { AllByRecursion (λ x. IsSome (slot_of_item shelves.old x)) (items_changed changes.now) }
+    requires there { AllByRecursion (λ x. IsSome (slot_of_item shelves.old x))
+        (items_changed changes.now) }
     requires fits { Fits (rows_on_side now shelves.old) changes.now }
     ensures shelved { AreShelved shelves.new }
     ensures inside { OnOk result ((names : Holdings Identifier)
@@ -163,7 +166,8 @@ pub(crate) fn drop_plan(
     ways: &[Way<LinkSeen>],
 )
     requires shelved { AreShelved shelves.old }
-    requires there { AllByRecursion (λ x. IsSome (slot_of_item shelves.old x)) (items_changed changes.now) }
+    requires there { AllByRecursion (λ x. IsSome (slot_of_item shelves.old x))
+        (items_changed changes.now) }
     requires within { DraftsWithin (items_changed changes.now) shelves.old }
     requires ready { AreExactlyDrafted ways.now links.old.items }
     ensures shelved { AreShelved shelves.new }

@@ -27,7 +27,8 @@ fn accept_one(shelves: &mut Shelves, item: &Item, list: &mut RowList)
         → HasDraft shelves.old x × (same_item x item.now ≡ false) }
     ensures others { (x : Item) → same_item x item.now ≡ false
         → (HasDraft shelves.old x → HasDraft shelves.new x)
-        × (stored_on x (rows_on_side now shelves.new) ≡ stored_on x (rows_on_side now shelves.old)) }
+        × (stored_on x (rows_on_side now shelves.new)
+        ≡ stored_on x (rows_on_side now shelves.old)) }
     ensures ends { (at : ℕ) → ends_at shelves.new at ≡ ends_at shelves.old at }
     ensures waits { (x : Item) → waits_on shelves.new x ≡ waits_on shelves.old x }
     ensures places { shelves.new.places ≡ shelves.old.places }
@@ -51,7 +52,8 @@ fn accept_at(shelves: &mut Shelves, changes: &[ItemChange], lists: &mut Vec<RowL
     ensures others { (c : ItemChange) (x : Item)
         → same_item x (slice_index_or changes.now i c).item ≡ false
         → (HasDraft shelves.old x → HasDraft shelves.new x)
-        × (stored_on x (rows_on_side now shelves.new) ≡ stored_on x (rows_on_side now shelves.old)) }
+        × (stored_on x (rows_on_side now shelves.new)
+        ≡ stored_on x (rows_on_side now shelves.old)) }
     ensures ends { (at : ℕ) → ends_at shelves.new at ≡ ends_at shelves.old at }
     ensures waits { (x : Item) → waits_on shelves.new x ≡ waits_on shelves.old x }
     ensures places { shelves.new.places ≡ shelves.old.places }

@@ -51,7 +51,8 @@ pub(crate) fn can_wait(shelves: &Shelves, changes: &[ItemChange]) -> bool
 /// The items of a change, which have shelves, are waited for once more.
 pub(crate) fn wait_for(shelves: &mut Shelves, changes: &[ItemChange])
     requires shelved { AreShelved shelves.old }
-    requires there { AllByRecursion (λ x. IsSome (slot_of_item shelves.old x)) (items_changed changes.now) }
+    requires there { AllByRecursion (λ x. IsSome (slot_of_item shelves.old x))
+        (items_changed changes.now) }
     requires few { AllByRecursion (λ x. waits_on shelves.old x < 2 ^ 64 - 1)
         (items_changed changes.now) }
     requires apart { IsDistinct same_item (items_changed changes.now) }

@@ -136,7 +136,8 @@ fn read_list(
     mut children: Vec<Child>,
     index: usize,
 ) -> Result<Option<Many<SharedElement>>, FormError>
-    ensures { IsChecked (list_if_there element_check (drop index (parts_in children.items))) result }
+    ensures { IsChecked (list_if_there element_check (drop index (parts_in children.items)))
+        result }
 {
     if index >= children.len() {
         return Ok(None);
@@ -150,7 +151,8 @@ fn read_list_child(
     child: Child,
     after: &[Child],
 ) -> Result<Option<Many<SharedElement>>, FormError>
-    ensures { IsChecked (list_if_there element_check (out-Child child ∷ parts_in after.now)) result }
+    ensures { IsChecked (list_if_there element_check (out-Child child ∷ parts_in after.now))
+        result }
 {
     match child {
         Child::Element(element) => {

@@ -61,7 +61,8 @@ impl Input {
 
     /// Takes more from the source; false at its end.
     pub fn fill<S: Source>(&mut self, source: &mut S) -> Result<bool, ReplayError>
-        ensures taken { OnOk result (GrowsFromSource (S.left source.old) (S.left source.new) self.old
+        ensures taken { OnOk result
+            (GrowsFromSource (S.left source.old) (S.left source.new) self.old
             self.new) }
         ensures more { IfOk result (λ more. OnTrue more (length self.old < length self.new)) }
         ensures end { IfOk result (λ more.
@@ -99,9 +100,11 @@ impl Input {
     /// and nothing is pending.
     #[tactic(auto, using(crate::proofs::Taking::takes_nothing, crate::proofs::Taking::takes_more, ifmap_io::specs::Rises::rose_since))]
     pub fn await_line<S: Source>(&mut self, source: &mut S) -> Result<Option<usize>, ReplayError>
-        ensures taken { OnOk result (GrowsFromSource (S.left source.old) (S.left source.new) self.old
+        ensures taken { OnOk result
+            (GrowsFromSource (S.left source.old) (S.left source.new) self.old
             self.new) }
-        ensures line { IfOk result (λ found. IfSome found (λ place. IsHeaderLineEnd self.new place)) }
+        ensures line { IfOk result
+            (λ found. IfSome found (λ place. IsHeaderLineEnd self.new place)) }
         ensures end { result ≡ Ok None → IsAtEnd (S.left source.new) × (self.new ≡ []) }
         ensures fault { result ≡ Err ReplayError.FrameFault →
             GrowsFromSource (S.left source.old) (S.left source.new) self.old self.new
@@ -138,7 +141,8 @@ impl Input {
         source: &mut S,
         count: usize,
     ) -> Result<bool, ReplayError>
-        ensures taken { OnOk result (GrowsFromSource (S.left source.old) (S.left source.new) self.old
+        ensures taken { OnOk result
+            (GrowsFromSource (S.left source.old) (S.left source.new) self.old
             self.new) }
         ensures enough { IfOk result (λ enough. OnTrue enough (count ≤ length self.new)) }
         ensures end { IfOk result (λ enough.

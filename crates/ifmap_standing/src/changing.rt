@@ -146,7 +146,8 @@ fn tell_all<G: View, D: View, L: Ledger>(
         → slice_get standing.old i ≡ Some x → slice_get skipped.now i ≡ Some false
         → IsUpToDate (view_seen G.rows G.id_at G.links graph) x.subscription }
     requires change { ShowsAfter (view_seen G.rows G.id_at G.links change.now.graph.now)
-        (view_seen D.rows D.id_at D.links change.now.draft.now) change.now.located.plan.now.changes }
+        (view_seen D.rows D.id_at D.links change.now.draft.now)
+        change.now.located.plan.now.changes }
     requires canon { AllByRecursion (λ n. IsCanonItem n.item) change.now.located.plan.now.notes }
     requires no_news { records.old.news.items ≡ [] }
     requires no_ways { records.old.ways.items ≡ [] }
@@ -193,7 +194,8 @@ fn tell_where<G: View, D: View, L: Ledger>(
     requires kept { is_skipped ≡ false → IsUpToDate
         (view_seen G.rows G.id_at G.links change.now.graph.now) standing.old.subscription }
     requires change { ShowsAfter (view_seen G.rows G.id_at G.links change.now.graph.now)
-        (view_seen D.rows D.id_at D.links change.now.draft.now) change.now.located.plan.now.changes }
+        (view_seen D.rows D.id_at D.links change.now.draft.now)
+        change.now.located.plan.now.changes }
     requires canon { AllByRecursion (λ n. IsCanonItem n.item) change.now.located.plan.now.notes }
     ensures news { IfOk result (λ told. told.news ≡ news_where (G.rows change.now.graph.now)
         (D.rows change.now.draft.now) change.now.located.plan.now.notes is_skipped
@@ -230,7 +232,8 @@ fn tell_one<G: View, D: View, L: Ledger>(
     requires kept { IsUpToDate (view_seen G.rows G.id_at G.links change.now.graph.now)
         standing.old.subscription }
     requires change { ShowsAfter (view_seen G.rows G.id_at G.links change.now.graph.now)
-        (view_seen D.rows D.id_at D.links change.now.draft.now) change.now.located.plan.now.changes }
+        (view_seen D.rows D.id_at D.links change.now.draft.now)
+        change.now.located.plan.now.changes }
     requires canon { AllByRecursion (λ n. IsCanonItem n.item) change.now.located.plan.now.notes }
     ensures news { IfOk result (λ told. told.news ≡ news_of (G.rows change.now.graph.now)
         (D.rows change.now.draft.now) change.now.located.plan.now.notes
@@ -278,7 +281,8 @@ fn take_over<G: View, D: View, L: Ledger>(
     requires kept { IsUpToDate (view_seen G.rows G.id_at G.links change.now.graph.now)
         subscription.old }
     requires change { ShowsAfter (view_seen G.rows G.id_at G.links change.now.graph.now)
-        (view_seen D.rows D.id_at D.links change.now.draft.now) change.now.located.plan.now.changes }
+        (view_seen D.rows D.id_at D.links change.now.draft.now)
+        change.now.located.plan.now.changes }
     ensures deleted { IfOk result (λ taken. taken.differences.deleted
         ≡ difference (fresh (G.rows change.now.graph.now) subscription.old.search)
         (fresh (D.rows change.now.draft.now) subscription.old.search)) }
