@@ -11,7 +11,7 @@ use Rattle.std.specs.Char.{digit_char, digit_value}
 use Rattle.std.specs.List.{AllByRecursion, list_any}
 use Rattle.std.specs.Net.Grammar.{IsColonHex}
 use Rattle.std.specs.Net.Reader.{Read, read_ipv4, read_ipv6}
-use Rattle.std.specs.Str.{str_to_ascii_lowercase}
+use Rattle.std.specs.Str.{byte, str_to_ascii_lowercase}
 use Rattle.ifmap_addresses.specs.DigitLaws.{digit_value-digit_char}
 use Rattle.ifmap_addresses.specs.IpV4.{IsIpV4}
 use Rattle.ifmap_addresses.specs.IpV6.{IsIpV6}
@@ -49,7 +49,7 @@ colon_hex_or_none text =
 pub ip_v6_or_none : (text : List ℕ) → Decided ((value : List ℕ) × IsIpV6 text value)
 ip_v6_or_none text =
     decided_by (λ p. (p.0.0, (p.0.1, p.1))) (λ v. ((v.0, v.1.0), v.1.1))
-    (decided_both (colon_hex_or_none text) (decided_untrue (list_any (λ b. b == 46) text)))
+    (decided_both (colon_hex_or_none text) (decided_untrue (list_any (λ b. b == byte ".") text)))
 
 -- ---- the one value that pairs of digits can have
 

@@ -4,6 +4,7 @@ use Rattle.std.specs.Cmp.Lexicographic.{slice_cmp}
 use Rattle.std.specs.List.{AllByRecursion}
 use Rattle.std.specs.Ordering.{nat_cmp, ordering_then}
 use Rattle.std.specs.declared.cmp.Ordering.{Ordering}
+use Rattle.std.specs.Str.{byte}
 use Rattle.ifmap_addresses.specs.DigitLaws.{decimal_digits}
 use Rattle.ifmap_addresses.specs.IpV4.{ip_v4_text}
 use Rattle.ifmap_addresses.specs.IpV4Laws.{dotted_parts}
@@ -11,20 +12,21 @@ use Rattle.ifmap_addresses.specs.Values.{IsDigit}
 use Rattle.ifmap_addresses.specs.OrderLaws.{closed_below}
 use Rattle.ifmap_lemmas.specs.Orderings.{then_then}
 
-above_dot : (text : List ℕ) → AllByRecursion IsDigit text → AllByRecursion (λ b. 46 < b) text
+above_dot : (text : List ℕ) → AllByRecursion IsDigit text → AllByRecursion (λ b. byte "." < b) text
 above_dot [] h = tt
 above_dot (b ∷ bs) h = (digit_above b h.0, above_dot bs h.1)
   where
-    digit_above : (b : ℕ) → IsDigit b → 46 < b
+    digit_above : (b : ℕ) → IsDigit b → byte "." < b
     digit_above b (inl f) = omega arith
     digit_above b (inr f) = omega arith
 
 -- a number, a dot, and what follows
 number_first : (m n : ℕ) (x y : List ℕ) → m < 256 → n < 256
-    → slice_cmp nat_cmp (decimal m ++ (46 ∷ x)) (decimal n ++ (46 ∷ y))
+    → slice_cmp nat_cmp (decimal m ++ (byte "." ∷ x)) (decimal n ++ (byte "." ∷ y))
     ≡ ordering_then (slice_cmp nat_cmp (decimal m) (decimal n)) (slice_cmp nat_cmp x y)
 number_first m n x y f g =
-    closed_below 46 (decimal m) (decimal n) x y (above_dot (decimal m) (decimal_digits m f)) (above_dot (decimal n) (decimal_digits n g))
+    closed_below (byte ".") (decimal m) (decimal n) x y
+    (above_dot (decimal m) (decimal_digits m f)) (above_dot (decimal n) (decimal_digits n g))
 
 abbrev number_order : ℕ → ℕ → Ordering
 number_order m n = slice_cmp nat_cmp (decimal m) (decimal n)

@@ -8,8 +8,9 @@ use Rattle.std.specs.List.{AllByRecursion, sum_by}
 use Rattle.std.specs.Net.Text.{hex, leading_zero_digits}
 use Rattle.std.specs.Ordering.{nat_cmp, ordering_then}
 use Rattle.std.specs.declared.cmp.Ordering.{Ordering}
+use Rattle.std.specs.Str.{byte}
 use Rattle.ifmap_addresses.specs.DigitLaws.{hex_digits}
-use Rattle.ifmap_addresses.specs.IpV6.{four_digits, ip_v6_text}
+use Rattle.ifmap_addresses.specs.IpV6.{four_hex_digits, ip_v6_text}
 use Rattle.ifmap_addresses.specs.Values.{IsDigit}
 use Rattle.ifmap_addresses.specs.OrderLaws.{closed_apart}
 use Rattle.ifmap_lemmas.specs.Orderings.{then_then}
@@ -18,7 +19,7 @@ use Rattle.ifmap_lemmas.specs.Orderings.{then_then}
 
 pub hex_length : (n k : ℕ) → k ≡ leading_zero_digits n → 4 - k ≡ length (hex n)
 unfolding hex
-hex_length n k e = ap (λ j. 4 - j) e ∙ sym (length-drop (leading_zero_digits n) (four_digits n))
+hex_length n k e = ap (λ j. 4 - j) e ∙ sym (length-drop (leading_zero_digits n) (four_hex_digits n))
 
 dropped_before : (k : ℕ) (xs ys : List ℕ) → k ≤ length xs → drop k (xs ++ ys) ≡ drop k xs ++ ys
 dropped_before zero xs ys h = refl
@@ -26,35 +27,37 @@ dropped_before (suc k) [] ys h = absurd (omega arith)
 dropped_before (suc k) (x ∷ xs) ys h = dropped_before k xs ys (omega arith)
 
 -- of the digits of n and a colon, from the first that is written on
-module _ (n k : ℕ) (digits : List ℕ) (is : digits ≡ four_digits n ++ (58 ∷ [])) (zeros : k ≡ leading_zero_digits n) (few : k < 4) where
-  closed : drop k digits ≡ hex n ++ (58 ∷ [])
+module _ (n k : ℕ) (digits : List ℕ) (is : digits ≡ four_hex_digits n ++ (byte ":" ∷ [])) (zeros : k ≡ leading_zero_digits n)
+    (few : k < 4) where
+  closed : drop k digits ≡ hex n ++ (byte ":" ∷ [])
   unfolding hex
-  closed = ap (drop k) is ∙ dropped_before k (four_digits n) (58 ∷ []) (omega arith) ∙ ap (λ j. drop j (four_digits n) ++ (58 ∷ [])) zeros
+  closed = ap (drop k) is ∙ dropped_before k (four_hex_digits n) (byte ":" ∷ []) (omega arith)
+      ∙ ap (λ j. drop j (four_hex_digits n) ++ (byte ":" ∷ [])) zeros
 
-  pub closed_hex : take (5 - k) (drop k digits) ≡ hex n ++ (58 ∷ [])
+  pub closed_hex : take (5 - k) (drop k digits) ≡ hex n ++ (byte ":" ∷ [])
   closed_hex = take_all (5 - k) (drop k digits) (let all = length-drop k digits in let many = ap length is in omega arith) ∙ closed
 
   pub bare_hex : take (4 - k) (drop k digits) ≡ hex n
-  bare_hex = (λ i. take (hex_length n k zeros i) (closed i)) ∙ take-append_seam (hex n) (58 ∷ [])
+  bare_hex = (λ i. take (hex_length n k zeros i) (closed i)) ∙ take-append_seam (hex n) (byte ":" ∷ [])
 
 -- ---- order
 
-no_colon : (text : List ℕ) → AllByRecursion IsDigit text → AllByRecursion (λ b. b ≢ 58) text
+no_colon : (text : List ℕ) → AllByRecursion IsDigit text → AllByRecursion (λ b. b ≢ byte ":") text
 no_colon [] h = tt
 no_colon (b ∷ bs) h = (digit_apart b h.0, no_colon bs h.1)
   where
-    digit_apart : (b : ℕ) → IsDigit b → b ≢ 58
+    digit_apart : (b : ℕ) → IsDigit b → b ≢ byte ":"
     digit_apart b (inl f) = λ e. omega arith
     digit_apart b (inr f) = λ e. omega arith
 
 abbrev pub inner_order : ℕ → ℕ → Ordering
-inner_order x y = slice_cmp nat_cmp (hex x ++ (58 ∷ [])) (hex y ++ (58 ∷ []))
+inner_order x y = slice_cmp nat_cmp (hex x ++ (byte ":" ∷ [])) (hex y ++ (byte ":" ∷ []))
 
 -- a group, a colon, and what follows
 group_first : (x y : ℕ) (s t : List ℕ) → x < 65536 → y < 65536
-    → slice_cmp nat_cmp (hex x ++ (58 ∷ s)) (hex y ++ (58 ∷ t)) ≡ ordering_then (inner_order x y) (slice_cmp nat_cmp s t)
+    → slice_cmp nat_cmp (hex x ++ (byte ":" ∷ s)) (hex y ++ (byte ":" ∷ t)) ≡ ordering_then (inner_order x y) (slice_cmp nat_cmp s t)
 group_first x y s t f g =
-    closed_apart 58 (hex x) (hex y) s t (no_colon (hex x) (hex_digits x f)) (no_colon (hex y) (hex_digits y g))
+    closed_apart (byte ":") (hex x) (hex y) s t (no_colon (hex x) (hex_digits x f)) (no_colon (hex y) (hex_digits y g))
 
 abbrev text_order : List ℕ → List ℕ → Ordering
 text_order v w = slice_cmp nat_cmp (ip_v6_text v) (ip_v6_text w)
@@ -106,7 +109,7 @@ groups_length : (x : ℕ) (xs : List ℕ) → length (ip_v6_text (x ∷ xs)) ≡
 groups_length x [] = omega arith
 groups_length x (y ∷ ys) =
     let rest = groups_length y ys in
-    let whole = length-append (hex x) (58 ∷ ip_v6_text (y ∷ ys)) in
+    let whole = length-append (hex x) (byte ":" ∷ ip_v6_text (y ∷ ys)) in
     let sums = sum_by-cons (λ g. length (hex g)) x (y ∷ ys) in
     omega arith
 

@@ -3,23 +3,24 @@ use Rattle.std.proofs.Common.{◌≡◌, ℕ, ◌+◌, ◌<◌, ◌≤◌, List,
 use Rattle.std.proofs.lemmas.List.{take_all}
 use Rattle.std.proofs.Math.Seq.{take-suc}
 use Rattle.std.specs.List.{join_with_byte}
+use Rattle.std.specs.Str.{byte}
 
 -- how each number is written, and all of them
 module _ (written : ℕ → List ℕ) where
   abbrev pub joined : List ℕ → List ℕ
-  joined xs = join_with_byte 58 (map written xs)
+  joined xs = join_with_byte (byte ":") (map written xs)
 
-  one_more : (x y : ℕ) (xs : List ℕ) → joined (x ∷ (xs ++ (y ∷ []))) ≡ joined (x ∷ xs) ++ (58 ∷ written y)
+  one_more : (x y : ℕ) (xs : List ℕ) → joined (x ∷ (xs ++ (y ∷ []))) ≡ joined (x ∷ xs) ++ (byte ":" ∷ written y)
   one_more x y [] = refl
-  one_more x y (z ∷ xs) = ap (λ t. written x ++ (58 ∷ t)) (one_more z y xs)
-      ∙ sym (append_assoc (written x) (58 ∷ joined (z ∷ xs)) (58 ∷ written y))
+  one_more x y (z ∷ xs) = ap (λ t. written x ++ (byte ":" ∷ t)) (one_more z y xs)
+      ∙ sym (append_assoc (written x) (byte ":" ∷ joined (z ∷ xs)) (byte ":" ∷ written y))
 
   -- of numbers that begin with x and go on with the others
   module _ (xs rest : List ℕ) (x : ℕ) (is : xs ≡ x ∷ rest) where
     pub first_written : joined (take 1 xs) ≡ written x
     first_written = rw is refl
 
-    pub next_written : (i : ℕ) → i < length rest → joined (take (i + 1 + 1) xs) ≡ joined (take (i + 1) xs) ++ (58 ∷ written
+    pub next_written : (i : ℕ) → i < length rest → joined (take (i + 1 + 1) xs) ≡ joined (take (i + 1) xs) ++ (byte ":" ∷ written
         (get_or rest i 0))
     next_written i h = rw (is, add-one (i + 1), add-one i, take-suc rest i 0 h) (one_more x (get_or rest i 0) (take i rest))
 
@@ -27,7 +28,7 @@ module _ (written : ℕ → List ℕ) where
     all_written i h = rw (is, add-one i, take_all i rest h) refl
 
 -- a text, and then a colon and another
-pub after_colon : (old text more : List ℕ) → ((old ++ text) ++ (58 ∷ [])) ++ more ≡ old ++ (text ++ (58 ∷ more))
+pub after_colon : (old text more : List ℕ) → ((old ++ text) ++ (byte ":" ∷ [])) ++ more ≡ old ++ (text ++ (byte ":" ∷ more))
 after_colon old text more = simp append_assoc
 
 -- and one more byte of a list

@@ -4,6 +4,7 @@ use Rattle.std.proofs.NetLemmas.Texts.{IsDotted-ipv4_text}
 use Rattle.std.proofs.NetLemmas.Theorems.{IsIpv4Text_unique}
 use Rattle.std.specs.List.{AllByRecursion}
 use Rattle.std.specs.Net.Text.{dotted_text}
+use Rattle.std.specs.Str.{byte}
 use Rattle.ifmap_addresses.specs.DigitLaws.{address_digits, decimal_digits}
 use Rattle.ifmap_addresses.specs.IpV4.{IsIpV4, ip_v4_text}
 use Rattle.ifmap_addresses.specs.Values.{AreBelow, IsAddressByte}
@@ -27,13 +28,14 @@ ip_v4_tells v w f g e =
     one_ip_v4 (ip_v4_text w) v w (subst (λ text. IsIpV4 text v) e (ip_v4_spelled v f)) (ip_v4_spelled w g)
 
 -- a number, and another after a dot
-pub dotted_parts : (a b c d : ℕ) → dotted_text a b c d ≡ decimal a ++ (46 ∷ (decimal b ++ (46 ∷ (decimal c ++ (46 ∷ decimal d)))))
+pub dotted_parts : (a b c d : ℕ)
+    → dotted_text a b c d ≡ decimal a ++ (byte "." ∷ (decimal b ++ (byte "." ∷ (decimal c ++ (byte "." ∷ decimal d)))))
 dotted_parts a b c d = simp append_assoc
 
 plain_number : (n : ℕ) (rest : List ℕ) → n < 256 → AllByRecursion IsAddressByte rest
-    → AllByRecursion IsAddressByte (decimal n ++ (46 ∷ rest))
+    → AllByRecursion IsAddressByte (decimal n ++ (byte "." ∷ rest))
 plain_number n rest h f =
-    both_all IsAddressByte (decimal n) (46 ∷ rest) (address_digits (decimal n) (decimal_digits n h)) (inr (inl refl), f)
+    both_all IsAddressByte (decimal n) (byte "." ∷ rest) (address_digits (decimal n) (decimal_digits n h)) (inr (inl refl), f)
 
 pub ip_v4_plain : (value : List ℕ) → ((i : ℕ) → get_or value i 0 < 256) → AllByRecursion IsAddressByte (ip_v4_text value)
 ip_v4_plain value h =

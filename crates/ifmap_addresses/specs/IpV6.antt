@@ -16,5 +16,5 @@ abbrev pub ip_v6_text : List ℕ → List ℕ
 ip_v6_text value = join_with_byte (byte ":") (map hex value)
 
 -- a group with its leading zeros
-abbrev pub four_digits : ℕ → List ℕ
-four_digits n = digit_char (n / 0x1000) ∷ digit_char (n / 0x100 % 16) ∷ digit_char (n / 0x10 % 16) ∷ digit_char (n % 16) ∷ []
+abbrev pub four_hex_digits : ℕ → List ℕ
+four_hex_digits n = digit_char (n / 0x1000) ∷ digit_char (n / 0x100 % 16) ∷ digit_char (n / 0x10 % 16) ∷ digit_char (n % 16) ∷ []

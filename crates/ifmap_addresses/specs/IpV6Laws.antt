@@ -12,6 +12,7 @@ use Rattle.std.specs.List.{AllByRecursion, list_any}
 use Rattle.std.specs.Net.Addr.{segments_of}
 use Rattle.std.specs.Net.Grammar.{IsDotted, IsGroup, IsGroups, IsGroupsAfter}
 use Rattle.std.specs.Net.Text.{hex}
+use Rattle.std.specs.Str.{byte}
 use Rattle.ifmap_addresses.specs.DigitLaws.{digit_value-digit_char, hex_digits, joined_digits}
 use Rattle.ifmap_addresses.specs.IpV6.{IsIpV6, ip_v6_text}
 use Rattle.ifmap_addresses.specs.Values.{AreBelow, IsAddressByte, IsDigit}
@@ -45,13 +46,13 @@ hex_is_group n fits =
 -- the groups after the first, each after a colon
 abbrev after : List ℕ → List ℕ
 after [] = []
-after (x ∷ xs) = 58 ∷ (hex x ++ after xs)
+after (x ∷ xs) = byte ":" ∷ (hex x ++ after xs)
 
 text_parts : (x : ℕ) (xs : List ℕ) → ip_v6_text (x ∷ xs) ≡ hex x ++ after xs
 text_parts x [] = sym (append-nil (hex x))
-text_parts x (y ∷ ys) = ap (λ t. hex x ++ (58 ∷ t)) (text_parts y ys)
+text_parts x (y ∷ ys) = ap (λ t. hex x ++ (byte ":" ∷ t)) (text_parts y ys)
 
-groups_after : (xs : List ℕ) → AllByRecursion (λ n. n < 65536) xs → IsGroupsAfter true (58 ∷ []) (after xs) xs
+groups_after : (xs : List ℕ) → AllByRecursion (λ n. n < 65536) xs → IsGroupsAfter true (byte ":" ∷ []) (after xs) xs
 groups_after [] h = refl
 groups_after (x ∷ xs) h = inl (hex x, after xs, refl, hex_is_group x h.0, groups_after xs h.1)
 
@@ -62,19 +63,19 @@ text_groups (x ∷ xs) h = inl (hex x, after xs, text_parts x xs, hex_is_group x
 pub ip_v6_plain : (value : List ℕ) → AllByRecursion (λ n. n < 65536) value → AllByRecursion IsAddressByte (ip_v6_text value)
 ip_v6_plain value h = joined_digits hex 65536 value hex_digits h
 
-digit_is_no_dot : (b : ℕ) → IsDigit b → nat_eq b 46 ≡ false
+digit_is_no_dot : (b : ℕ) → IsDigit b → nat_eq b (byte ".") ≡ false
 digit_is_no_dot b (inl h) = grind (arith, nat_tests)
 digit_is_no_dot b (inr h) = grind (arith, nat_tests)
 
 abbrev has_dot : List ℕ → Bool
-has_dot text = list_any (λ b. nat_eq b 46) text
+has_dot text = list_any (λ b. nat_eq b (byte ".")) text
 
 no_dot_joins : (one other : List ℕ) → has_dot one ≡ false → has_dot other ≡ false → has_dot (one ++ other) ≡ false
-no_dot_joins one other f g = list_any-append (λ b. nat_eq b 46) one other ∙ or_from (has_dot one) (has_dot other) f g
+no_dot_joins one other f g = list_any-append (λ b. nat_eq b (byte ".")) one other ∙ or_from (has_dot one) (has_dot other) f g
 
 digits_no_dot : (text : List ℕ) → AllByRecursion IsDigit text → has_dot text ≡ false
 digits_no_dot [] h = refl
-digits_no_dot (b ∷ bs) h = or_from (nat_eq b 46) (has_dot bs) (digit_is_no_dot b h.0) (digits_no_dot bs h.1)
+digits_no_dot (b ∷ bs) h = or_from (nat_eq b (byte ".")) (has_dot bs) (digit_is_no_dot b h.0) (digits_no_dot bs h.1)
 
 after_no_dot : (xs : List ℕ) → AllByRecursion (λ n. n < 65536) xs → has_dot (after xs) ≡ false
 after_no_dot [] h = refl
@@ -114,7 +115,7 @@ dotted_below text octets h =
 
 groups_below : (ipv4 : Bool) (lead text xs : List ℕ) → IsGroupsAfter ipv4 lead text xs → AllByRecursion (λ n. n < 65536) xs
 groups_below ipv4 lead text [] h = tt
-groups_below ipv4 lead text (x ∷ xs) (inl h) = (group_below h.0 x h.3, groups_below ipv4 (58 ∷ []) h.1 xs h.4)
+groups_below ipv4 lead text (x ∷ xs) (inl h) = (group_below h.0 x h.3, groups_below ipv4 (byte ":" ∷ []) h.1 xs h.4)
 groups_below ipv4 lead text (x ∷ xs) (inr h) =
     subst (AllByRecursion (λ n. n < 65536)) (sym h.5) (dotted_below h.0 h.1 h.4)
 

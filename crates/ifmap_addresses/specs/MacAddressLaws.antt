@@ -9,7 +9,7 @@ use Rattle.std.specs.Cmp.{nat_cmp_is, nat_cmp_total, tied_itself}
 use Rattle.std.specs.Cmp.Lexicographic.{slice_cmp}
 use Rattle.std.specs.List.{AllByRecursion}
 use Rattle.std.specs.Ordering.{MatchOrdering, nat_cmp, ordering_then}
-use Rattle.std.specs.Str.{str_to_ascii_lowercase}
+use Rattle.std.specs.Str.{byte, str_to_ascii_lowercase}
 use Rattle.std.specs.declared.cmp.Ordering.{Ordering}
 use Rattle.std.specs.declared.cmp.Ordering.TheVariants.{Less, Equal, Greater}
 use Rattle.ifmap_addresses.specs.DigitLaws.{is_digit, joined_digits}
@@ -68,9 +68,9 @@ mac_address_in_order (b ∷ []) (c ∷ []) e = pair_first b c [] []
 mac_address_in_order (b ∷ []) (c ∷ (d ∷ w)) e = absurd (omega arith)
 mac_address_in_order (b ∷ (a ∷ v)) (c ∷ []) e = absurd (omega arith)
 mac_address_in_order (b ∷ (a ∷ v)) (c ∷ (d ∷ w)) e =
-    pair_first b c (58 ∷ mac_address_text (a ∷ v)) (58 ∷ mac_address_text (d ∷ w))
+    pair_first b c (byte ":" ∷ mac_address_text (a ∷ v)) (byte ":" ∷ mac_address_text (d ∷ w))
     ∙ ap (ordering_then (nat_cmp b c)) (ap (λ o. ordering_then o (slice_cmp nat_cmp (mac_address_text (a ∷ v)) (mac_address_text (d ∷ w))))
-    (tied_itself nat_cmp_total 58) ∙ mac_address_in_order (a ∷ v) (d ∷ w) (omega arith))
+    (tied_itself nat_cmp_total (byte ":")) ∙ mac_address_in_order (a ∷ v) (d ∷ w) (omega arith))
 
 -- so texts tell values apart
 pub mac_address_tells : (v w : List ℕ) → length v ≡ length w → mac_address_text v ≡ mac_address_text w → v ≡ w

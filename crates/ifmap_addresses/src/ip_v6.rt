@@ -4,7 +4,7 @@ ghost use Rattle.std.specs.Char.{digit_char};
 ghost use Rattle.std.specs.Cmp.Lexicographic.{slice_cmp};
 ghost use Rattle.std.specs.Net.Text.{hex, leading_zero_digits};
 ghost use Rattle.std.specs.Ordering.{nat_cmp};
-ghost use Rattle.ifmap_addresses.specs.IpV6.{IsIpV6, four_digits, ip_v6_text};
+ghost use Rattle.ifmap_addresses.specs.IpV6.{IsIpV6, four_hex_digits, ip_v6_text};
 
 use crate::digits::hex_digit;
 use std::alloc::AllocError as NoMemory;
@@ -118,7 +118,7 @@ fn last_order(one: u16, other: u16) -> Ordering
 
 // The four digits of a group, and a colon.
 fn closed_group(group: u16) -> [u8; 5]
-    ensures { result ≡ four_digits group ++ codes ":" }
+    ensures { result ≡ four_hex_digits group ++ codes ":" }
 {
     [
         hex_digit(group / 0x1000),

@@ -1,15 +1,15 @@
 -- A change of the graph comes to be out, and is given up or made.
 -- First what keeps itself (`kept_itself`, `searched_twice`, `same_itself`), and what stands where nothing came to be out
 -- (`kept_seen`). Then what is waited for (`awaits_these`), and what holds of the parts with a change out (`ready_begun`,
--- `same_so_far`).
+-- `same_so_far`), also once subscriptions were told of it (`IsOutAndTold`).
 use Rattle.std.proofs.Common.{◌≡◌, ℕ, Some, refl, ◌∙◌, sym, subst}
 use Rattle.std.proofs.lemmas.Option.{same_Some}
 use Rattle.ifmap_lemmas.specs.Filters.{all_weaker}
 use Rattle.ifmap_ident.specs.declared.identifiers.Identifier.{Identifier}
 use Rattle.ifmap_lemmas.specs.Places.{all_got}
-use Rattle.ifmap_plans.specs.declared.plans.Plan.{Plan}
-use Rattle.ifmap_plans.specs.Plans.{AreWhole}
-use Rattle.ifmap_pool.specs.Holdings.{key_at}
+use Rattle.ifmap_graph.specs.ifmap_plans.declared.plans.Plan.{Plan}
+use Rattle.ifmap_graph.specs.ifmap_plans.Plans.{AreWhole}
+use Rattle.ifmap_graph.specs.ifmap_pool.Holdings.{key_at}
 use Rattle.ifmap_graph.specs.declared.changes.Ready.{Ready}
 use Rattle.ifmap_graph.specs.Back.{KeepsBacks}
 use Rattle.ifmap_graph.specs.Held.{Held}
@@ -19,9 +19,12 @@ use Rattle.ifmap_changes.specs.declared.parts.Parts.{Parts}
 use Rattle.ifmap_changes.specs.Between.{AreKept, Asking, HasStartNumber, IsSoundSoFar, IsSteady, sight_now, so_far, starts_of}
 use Rattle.ifmap_changes.specs.Changes.{IsBegun}
 use Rattle.ifmap_changes.proofs.Settling.{ready_after}
-use Rattle.ifmap_standing.specs.PlaceLaws.{kept_itself, keep_searches}
-use Rattle.ifmap_tellings.specs.ToldLaws.{same_itself}
-use Rattle.ifmap_delta.specs.Sights.{SameLinks}
+use Rattle.ifmap_tellings.specs.ifmap_standing.PlaceLaws.{kept_itself, keep_searches}
+use Rattle.ifmap_tellings.specs.ToldLaws.{same_sessions_itself}
+use Rattle.ifmap_tellings.specs.ifmap_delta.Sights.{SameLinks}
+use Rattle.ifmap_tellings.specs.ifmap_delta.Ways.{HasSameSearch}
+use Rattle.ifmap_tellings.specs.ifmap_standing.Kept.{AtEach, StaysRelated}
+use Rattle.ifmap_tellings.specs.Tellings.{HasSameSessions}
 
 -- ---- what keeps itself
 
@@ -42,7 +45,7 @@ kept_seen old new steady still same backs = record {
     numbers = λ v a b p q. same_Some b a (sym q ∙ same.numbers v ∙ p);
     lean = same.lean;
     standing = kept_itself old.standing.items;
-    sessions = same_itself old.sessions;
+    sessions = same_sessions_itself old.sessions;
   };
   backs = backs;
 }
@@ -69,3 +72,21 @@ module _ (ready : Ready) (wanted : Plan) (old : Parts) (mid : Held) (begun : IsB
 
   pub same_so_far : (a : Asking) (pending : Pending) → so_far a begun_parts pending ≡ so_far a old pending
   same_so_far a pending = λ i. record (so_far a old pending) { graph = begun.rows i }
+
+-- and as calls say it, of parts with that graph
+pub ready_out : (ready : Ready) (wanted : Plan) (old mid : Parts) → IsBegun ready wanted old.graph mid.graph
+    → mid.sessions ≡ old.sessions → mid.standing ≡ old.standing → SameLinks → IsSteady old.graph old.standing.items
+    → (a : Asking) (pending : Pending) → IsSoundSoFar a old pending → IsSoundSoFar a mid pending
+ready_out ready wanted old mid begun sessions standing links steady a pending r =
+    let is : begun_parts ready wanted old mid.graph begun ≡ mid
+    = λ i. record { graph = mid.graph; sessions = sym sessions i; standing = sym standing i }
+    in subst (λ p. IsSoundSoFar a p pending) is (ready_begun ready wanted old mid.graph begun links steady a pending r)
+
+-- the change came to be out, and the subscriptions were told of it: the parts are the first, and then the last
+pub record IsOutAndTold (ready : Ready) (wanted : Plan) (old mid to : Parts) : Type 0 where
+  pub begun : IsBegun ready wanted old.graph mid.graph
+  pub was_sessions : mid.sessions ≡ old.sessions
+  pub was_standing : mid.standing ≡ old.standing
+  pub graph : to.graph ≡ mid.graph
+  pub same : AtEach (λ _. StaysRelated HasSameSearch) mid.standing.items to.standing.items
+  pub sessions : HasSameSessions mid.sessions to.sessions

@@ -12,10 +12,10 @@ use Rattle.std.specs.List.Sorted.{IsBinarySearchResult, IsSearchInRange, IsStric
 use Rattle.std.specs.Ordering.{nat_cmp}
 use Rattle.std.specs.Result.{is_ok}
 use Rattle.ifmap_changes.specs.Changes.{gone_with}
-use Rattle.ifmap_machine.specs.Ending.{without_standing}
-use Rattle.ifmap_plans.specs.laws.PlacingLaws.{found_any, gap_none}
-use Rattle.ifmap_standing.specs.declared.standing.Standing.{Standing}
-use Rattle.ifmap_standing.specs.Standing.{standing_of}
+use Rattle.ifmap_tellings.specs.ifmap_machine.Ending.{without_standing}
+use Rattle.ifmap_graph.specs.ifmap_plans.laws.PlacingLaws.{found_any, gap_none}
+use Rattle.ifmap_tellings.specs.ifmap_standing.declared.standing.Standing.{Standing}
+use Rattle.ifmap_tellings.specs.ifmap_standing.Standing.{standing_of}
 use Rattle.ifmap_tellings.specs.Tellings.{AllKept, kept_of}
 
 abbrev pub is_of : List ℕ → Standing → Bool

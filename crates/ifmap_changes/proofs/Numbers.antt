@@ -7,7 +7,7 @@ use Rattle.ifmap_graph.specs.Seen.{BringsNoNumbers}
 use Rattle.ifmap_ident.specs.declared.identifiers.Identifier.{Identifier}
 use Rattle.ifmap_ident.specs.Identifiers.{identifier_bytes}
 use Rattle.ifmap_lemmas.specs.Texts.{same_texts}
-use Rattle.ifmap_pool.specs.Holdings.{key_at}
+use Rattle.ifmap_graph.specs.ifmap_pool.Holdings.{key_at}
 use Rattle.ifmap_ident.specs.SameLaws.{BytesTellIdentifiers}
 
 -- the number of an identifier that somebody holds stays its number

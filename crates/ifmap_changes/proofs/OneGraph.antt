@@ -12,18 +12,17 @@ use Rattle.ifmap_ident.specs.declared.identifiers.Identifier.{Identifier}
 use Rattle.ifmap_ident.specs.declared.items.Item.{Item}
 use Rattle.ifmap_ident.specs.declared.items.Item.TheVariants.{One, Pair}
 use Rattle.ifmap_ident.specs.Identifiers.{identifier_bytes, same_identifier}
-use Rattle.ifmap_ident.specs.Items.{IsCanonItem, item_order, same_item}
+use Rattle.ifmap_ident.specs.Items.{IsCanonItem, item_order, same_item, items_tie}
 use Rattle.ifmap_lemmas.specs.Filters.{all_weaker, filter_none}
 use Rattle.ifmap_lemmas.specs.Orderings.{first_of_less}
 use Rattle.ifmap_lemmas.specs.Texts.{eq_tells}
 use Rattle.ifmap_meta.specs.declared.stored.Stored.{Stored}
-use Rattle.ifmap_plans.specs.laws.KeyLaws.{items_tied, items_total}
-use Rattle.ifmap_plans.specs.laws.PlacingLaws.{less_of_greater}
-use Rattle.ifmap_view.specs.declared.attachments.Attachment.{Attachment}
-use Rattle.ifmap_view.specs.Attachments.{IsGraph, attachment_order, stored_order}
-use Rattle.ifmap_view.specs.Rows.{stored_on}
-use Rattle.ifmap_ident.specs.SameLaws.{item_itself, greater_differs, BytesTellIdentifiers}
-use Rattle.ifmap_fresh.specs.laws.SameLaws.{AreCanon}
+use Rattle.ifmap_graph.specs.ifmap_plans.laws.PlacingLaws.{less_of_greater}
+use Rattle.ifmap_graph.specs.ifmap_view.declared.attachments.Attachment.{Attachment}
+use Rattle.ifmap_graph.specs.ifmap_view.Attachments.{IsGraph, attachment_order, stored_order}
+use Rattle.ifmap_graph.specs.ifmap_view.Rows.{stored_on}
+use Rattle.ifmap_ident.specs.SameLaws.{item_itself, greater_item_differs, BytesTellIdentifiers, items_total}
+use Rattle.ifmap_tellings.specs.ifmap_fresh.laws.SameLaws.{AreCanon}
 
 module _ (tells : BytesTellIdentifiers) where
   one_identifier : (a b : Identifier) → IsIdentifier a → IsIdentifier b → same_identifier a b ≡ true → a ≡ b
@@ -54,9 +53,9 @@ none_below : (x : Item) (b : Attachment) (ys : List Attachment) → item_order x
 none_below x b ys l up =
     let others : AllByRecursion (λ (r : Attachment). same_item r.item x ≡ false) ys =
     all_weaker (λ y. attachment_order b y ≡ Less) (λ (r : Attachment). same_item r.item x ≡ false)
-    (λ y h. greater_differs x y.item (next_above x b y l h)) ys up in
+    (λ y h. greater_item_differs x y.item (next_above x b y l h)) ys up in
     ap (λ (rs : List Attachment). map (λ (r : Attachment). r.stored) rs)
-    (filter_none (λ (r : Attachment). same_item r.item x) (b ∷ ys) (greater_differs x b.item l, others))
+    (filter_none (λ (r : Attachment). same_item r.item x) (b ∷ ys) (greater_item_differs x b.item l, others))
 
 abbrev Alike : List Attachment → List Attachment → Type 0
 Alike xs ys = (x : Item) → stored_on x xs ≡ stored_on x ys
@@ -102,7 +101,7 @@ module _ (tells : BytesTellIdentifiers) where
   alike_same (a ∷ xs) (b ∷ ys) p q up vp same =
       let equal = firsts a b xs ys up.0 vp.0 same in
       let item : a.item ≡ b.item = one_item tells a.item b.item p.0.identifiers q.0.identifiers
-      (items_tied a.item b.item ∙ ap is_eq equal) in
+      (items_tie a.item b.item ∙ ap is_eq equal) in
       let one : a ≡ b = first_same a b xs ys item same in
       let tails : Alike (a ∷ xs) (a ∷ ys) = subst (λ c. Alike (a ∷ xs) (c ∷ ys)) (sym one) same in
       ap (λ c. c ∷ xs) one ∙ ap (λ t. b ∷ t) (alike_same xs ys p.1 q.1 up.1 vp.1 (rest_alike a xs ys tails))

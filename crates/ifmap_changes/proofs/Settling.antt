@@ -10,27 +10,27 @@ use Rattle.ifmap_changes.specs.declared.changes.Made.{Made}
 use Rattle.ifmap_changes.specs.declared.parts.Parts.{Parts}
 use Rattle.ifmap_changes.proofs.EachPlace.{same_all, same_map, weaker}
 use Rattle.ifmap_changes.proofs.Steady.{HaveSameSearches, steady_after}
-use Rattle.ifmap_delta.specs.Sights.{IsUpToDate, ViewSeen, SameLinks}
-use Rattle.ifmap_delta.specs.Ways.{HasSameSearch}
-use Rattle.ifmap_delta.specs.declared.subscriptions.Subscription.{Subscription}
+use Rattle.ifmap_tellings.specs.ifmap_delta.Sights.{IsUpToDate, ViewSeen, SameLinks}
+use Rattle.ifmap_tellings.specs.ifmap_delta.Ways.{HasSameSearch}
+use Rattle.ifmap_tellings.specs.ifmap_delta.declared.subscriptions.Subscription.{Subscription}
 use Rattle.ifmap_graph.specs.Held.{Held}
 use Rattle.ifmap_graph.specs.Out.{items_changed}
 use Rattle.ifmap_graph.specs.Seen.{BringsNoNumbers, IsStill, KeepsOwn, StaysLeanWithout, links_now, rows_now}
 use Rattle.ifmap_lemmas.specs.Places.{all_got, present}
-use Rattle.ifmap_machine.specs.State as machine
-use Rattle.ifmap_machine.specs.State.{standing_in, standing_order}
-use Rattle.ifmap_machine.specs.Subscribing.{most_names}
-use Rattle.ifmap_plans.specs.Plans.{AreWhole}
-use Rattle.ifmap_pool.specs.Holdings.{key_at}
-use Rattle.ifmap_session.specs.Sessions.{IsLive, Session}
-use Rattle.ifmap_standing.specs.declared.standing.Standing.{Standing}
-use Rattle.ifmap_standing.specs.Kept.{AtEach, KeepsSame, StaysRelated, StaysSame}
-use Rattle.ifmap_standing.specs.Standing.{standing_of}
-use Rattle.ifmap_standing.specs.Ways.{IsWayGivenUp, LeadsBackWhere, Way}
+use Rattle.ifmap_tellings.specs.ifmap_machine.State as machine
+use Rattle.ifmap_tellings.specs.ifmap_machine.State.{standing_in, standing_order}
+use Rattle.ifmap_tellings.specs.ifmap_machine.Subscribing.{most_names}
+use Rattle.ifmap_graph.specs.ifmap_plans.Plans.{AreWhole}
+use Rattle.ifmap_graph.specs.ifmap_pool.Holdings.{key_at}
+use Rattle.ifmap_tellings.specs.ifmap_session.Sessions.{IsLive, Session}
+use Rattle.ifmap_tellings.specs.ifmap_standing.declared.standing.Standing.{Standing}
+use Rattle.ifmap_tellings.specs.ifmap_standing.Kept.{AtEach, KeepsSame, StaysRelated, StaysSame}
+use Rattle.ifmap_tellings.specs.ifmap_standing.Standing.{standing_of}
+use Rattle.ifmap_tellings.specs.ifmap_standing.Ways.{IsWayGivenUp, LeadsBackWhere, Way}
 use Rattle.ifmap_tellings.specs.declared.tellings.Pending.{Pending}
 use Rattle.ifmap_tellings.specs.Tellings.{AllKept, CanTell, EachTelling, HasSameSessions, IsSized, kept_of, told_by}
-use Rattle.ifmap_view.specs.declared.attachments.Attachment.{Attachment}
-use Rattle.ifmap_standing.specs.PlaceLaws.{leads_search}
+use Rattle.ifmap_graph.specs.ifmap_view.declared.attachments.Attachment.{Attachment}
+use Rattle.ifmap_tellings.specs.ifmap_standing.PlaceLaws.{leads_search}
 use Rattle.ifmap_tellings.specs.ToldLaws.{same_kept}
 use Rattle.ifmap_graph.specs.NumberLaws.{numbers_shared}
 use Rattle.ifmap_ident.specs.SameLaws.{BytesTellIdentifiers}

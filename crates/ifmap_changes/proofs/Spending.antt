@@ -1,28 +1,27 @@
 -- The steps of a change. What is told to each that is not gone is told to all that stand (`within_kept`), and a change that is out shows
 -- what is before it and after it with one numbering (`told_within`). Then the end of a session (`ended_within`).
-use Rattle.std.proofs.Common.{◌≡◌, refl, sym, ◌∙◌, subst, inl, inr, ℕ, ◌≤◌, Bool, true, false, Some, List, [], ◌∷◌, map, arith}
+use Rattle.std.proofs.Common.{◌≡◌, refl, ap, sym, ◌∙◌, subst, inl, inr, ℕ, ◌≤◌, Bool, true, false, Some, List, [], ◌∷◌, map, arith}
 use Rattle.std.specs.List.{AllByRecursion, zip}
-use Rattle.ifmap_delta.specs.Sights.{ViewSeen}
+use Rattle.ifmap_tellings.specs.ifmap_delta.Sights.{ViewSeen}
 use Rattle.ifmap_graph.specs.declared.changes.Ready.{Ready}
-use Rattle.ifmap_graph.specs.Held.{Held}
 use Rattle.ifmap_graph.specs.Seen.{rows_next, rows_now}
-use Rattle.ifmap_machine.specs.Ending.{without_standing}
-use Rattle.ifmap_machine.specs.State as machine
-use Rattle.ifmap_machine.specs.State.{State}
-use Rattle.ifmap_plans.specs.declared.plans.Plan.{Plan}
-use Rattle.ifmap_plans.specs.Plans.{IsAfter}
-use Rattle.ifmap_publish.specs.declared.who.Who.TheVariants.{Sessions}
-use Rattle.ifmap_standing.specs.Bounds.{IsWithinEach}
-use Rattle.ifmap_standing.specs.declared.standing.Standing.{Standing}
-use Rattle.ifmap_standing.specs.Standing.{standing_of}
+use Rattle.ifmap_tellings.specs.ifmap_machine.Ending.{without_standing}
+use Rattle.ifmap_tellings.specs.ifmap_machine.State as machine
+use Rattle.ifmap_tellings.specs.ifmap_machine.State.{State}
+use Rattle.ifmap_graph.specs.ifmap_plans.declared.plans.Plan.{Plan}
+use Rattle.ifmap_graph.specs.ifmap_plans.Plans.{IsAfter}
+use Rattle.ifmap_tellings.specs.ifmap_publish.declared.who.Who.TheVariants.{Sessions}
+use Rattle.ifmap_tellings.specs.ifmap_standing.Bounds.{IsWithinEach}
+use Rattle.ifmap_tellings.specs.ifmap_standing.declared.standing.Standing.{Standing}
+use Rattle.ifmap_tellings.specs.ifmap_standing.Standing.{standing_of}
 use Rattle.ifmap_tellings.specs.declared.tellings.Pending.{Pending}
 use Rattle.ifmap_tellings.specs.Tellings.{kept_of}
-use Rattle.ifmap_view.specs.declared.attachments.Attachment.{Attachment}
-use Rattle.ifmap_view.specs.Attachments.{IsGraph}
+use Rattle.ifmap_graph.specs.ifmap_view.declared.attachments.Attachment.{Attachment}
 use Rattle.ifmap_changes.specs.declared.parts.Parts.{Parts}
 use Rattle.ifmap_changes.specs.Between.{Asking, IsSteady, sight_now, so_far}
-use Rattle.ifmap_changes.specs.Bounds.{IsEndedWithin, IsTakenWithin, IsToldWithin, IsWithinAll, IsWithinOne}
-use Rattle.ifmap_changes.specs.Changes.{IsBegun, sight_next}
+use Rattle.ifmap_changes.specs.Bounds.{IsEndedWithin, IsPlanWithin, IsTakenWithin, IsWithinAll, IsWithinOne}
+use Rattle.ifmap_changes.specs.Changes.{sight_next}
+use Rattle.ifmap_changes.proofs.Begun.{IsOutAndTold}
 use Rattle.ifmap_changes.proofs.OneGraph.{one_graph}
 use Rattle.ifmap_changes.proofs.Starts.{numbered_more}
 use Rattle.ifmap_ident.specs.SameLaws.{BytesTellIdentifiers}
@@ -57,30 +56,25 @@ module _ (old new : ViewSeen) where
       (s.0, (x.subscription.region.start, numbered.0, s.1), within_kept gone xs s.0 b numbered.1 s.2)
 
 -- a change that is out was told to all that stand
-pub told_within : BytesTellIdentifiers → (a : Asking) (old : Parts) (before : Pending) (ready : Ready) (wanted : Plan) (mid : Held)
-    → IsBegun ready wanted old.graph mid → IsSteady old.graph old.standing.items → (from to : ℕ)
-    → IsWithinEach (sight_now mid) (sight_next mid) (zip before.gone.items old.standing.items) from to
-    → (rows : List Attachment) → IsGraph rows → IsAfter wanted.changes (rows_now old.graph) rows
-    → IsToldWithin rows (so_far a old before) from to
-told_within tells a old before ready wanted mid begun steady from to spent rows graph after =
-    let after_now : IsAfter wanted.changes (rows_now old.graph) (rows_next mid)
-    = subst (λ (was : List Attachment). IsAfter wanted.changes was (rows_next mid)) begun.rows begun.change.after
-    in let one : rows_next mid ≡ rows
-    = one_graph tells (rows_next mid) rows begun.next.graph graph (λ x. after_now x ∙ sym (after x))
+pub told_within : {ready : Ready} {wanted : Plan} {old mid to : Parts} → IsOutAndTold ready wanted old mid to → BytesTellIdentifiers
+    → IsSteady old.graph old.standing.items → (a : Asking) (before : Pending) (from till : ℕ)
+    → IsWithinEach (sight_now mid.graph) (sight_next mid.graph) (zip before.gone.items mid.standing.items) from till
+    → IsPlanWithin wanted (so_far a old before) from till
+told_within {ready} {wanted} {old} {mid} {to} out tells steady a before from till spent = λ rows graph after.
+    let g = mid.graph
+    in let begun = out.begun
+    in let after_now : IsAfter wanted.changes (rows_now old.graph) (rows_next g)
+    = subst (λ (was : List Attachment). IsAfter wanted.changes was (rows_next g)) begun.rows begun.change.after
+    in let one : rows_next g ≡ rows = one_graph tells (rows_next g) rows begun.next.graph graph (λ x. after_now x ∙ sym (after x))
     in inr (
-      sight_now mid,
-      sight_next mid,
+      sight_now g,
+      sight_next g,
       record { before = begun.now; after = begun.next; rows = begun.rows; next = one; numbers = λ v. refl },
-      within_kept (sight_now mid) (sight_next mid) before.gone.items old.standing.items from to
-          (numbered_more old.graph mid old.standing.items begun.numbers steady.numbered) spent,
+      within_kept (sight_now g) (sight_next g) before.gone.items old.standing.items from till
+          (numbered_more old.graph g old.standing.items begun.numbers steady.numbered)
+          (subst (λ (l : List Standing). IsWithinEach (sight_now g) (sight_next g) (zip before.gone.items l) from till)
+          (ap (λ v. v.items) out.was_standing) spent),
     )
-
--- as the call says it, of the parts with the change out
-pub each_of : (mid : Held) (xs ys : List Standing) → xs ≡ ys → (gone : List Bool) (from to : ℕ)
-    → IsWithinEach (sight_now mid) (sight_next mid) (zip gone xs) from to
-    → IsWithinEach (sight_now mid) (sight_next mid) (zip gone ys) from to
-each_of mid xs ys same gone from to spent =
-    subst (λ (l : List Standing). IsWithinEach (sight_now mid) (sight_next mid) (zip gone l) from to) same spent
 
 -- ---- the end of a session
 

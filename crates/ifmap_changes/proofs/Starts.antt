@@ -6,16 +6,16 @@ use Rattle.std.proofs.lemmas.Bool.Decides.{nat_tests}
 use Rattle.std.proofs.lemmas.List.{length-map}
 use Rattle.std.specs.List.{AllByRecursion, filter}
 use Rattle.ifmap_lemmas.specs.Filters.{all_weaker, filter_fewer}
-use Rattle.ifmap_delta.specs.Ways.{HasSameSearch}
+use Rattle.ifmap_tellings.specs.ifmap_delta.Ways.{HasSameSearch}
 use Rattle.ifmap_ident.specs.declared.identifiers.Identifier.{Identifier}
-use Rattle.ifmap_machine.specs.State as machine
-use Rattle.ifmap_machine.specs.State.{standing_in}
-use Rattle.ifmap_machine.specs.Subscribing.{most_names}
-use Rattle.ifmap_pool.specs.Holdings.{key_at}
-use Rattle.ifmap_session.specs.Sessions.{IsLive, Session, most_sessions}
-use Rattle.ifmap_standing.specs.declared.standing.Standing.{Standing}
-use Rattle.ifmap_standing.specs.Kept.{AtEach, StaysRelated}
-use Rattle.ifmap_standing.specs.Standing.{standing_of}
+use Rattle.ifmap_tellings.specs.ifmap_machine.State as machine
+use Rattle.ifmap_tellings.specs.ifmap_machine.State.{standing_in}
+use Rattle.ifmap_tellings.specs.ifmap_machine.Subscribing.{most_names}
+use Rattle.ifmap_graph.specs.ifmap_pool.Holdings.{key_at}
+use Rattle.ifmap_tellings.specs.ifmap_session.Sessions.{IsLive, Session, most_sessions}
+use Rattle.ifmap_tellings.specs.ifmap_standing.declared.standing.Standing.{Standing}
+use Rattle.ifmap_tellings.specs.ifmap_standing.Kept.{AtEach, StaysRelated}
+use Rattle.ifmap_tellings.specs.ifmap_standing.Standing.{standing_of}
 use Rattle.ifmap_graph.specs.Held.{Held, IsOwn}
 use Rattle.ifmap_graph.specs.Seen.{HasFewOwn, KeepsNumbers}
 use Rattle.ifmap_changes.specs.Between.{AreOrdered, HasStartNumber, IsSteady, starts_of}

@@ -4,16 +4,16 @@ use Rattle.std.specs.List.{AllByRecursion}
 use Rattle.ifmap_changes.specs.Between.{HasStartNumber, IsSeen, IsSteady, starts_of}
 use Rattle.ifmap_changes.proofs.EachPlace.{same_all, same_sum, within_sum}
 use Rattle.ifmap_changes.proofs.Numbers.{number_stays}
-use Rattle.ifmap_delta.specs.Ways.{HasSameSearch}
+use Rattle.ifmap_tellings.specs.ifmap_delta.Ways.{HasSameSearch}
 use Rattle.ifmap_graph.specs.Held.{Held, IsOwn}
 use Rattle.ifmap_graph.specs.Seen.{BringsNoNumbers, IsStill, KeepsOwn, rows_now}
 use Rattle.ifmap_ident.specs.declared.identifiers.Identifier.{Identifier}
 use Rattle.ifmap_ident.specs.Identifiers.{identifier_order}
 use Rattle.ifmap_lemmas.specs.Members.{all_both, both_all}
-use Rattle.ifmap_plans.specs.Plans.{AreWhole}
-use Rattle.ifmap_pool.specs.Holdings.{key_at, once}
-use Rattle.ifmap_standing.specs.declared.standing.Standing.{Standing}
-use Rattle.ifmap_standing.specs.Kept.{AtEach, StaysRelated}
+use Rattle.ifmap_graph.specs.ifmap_plans.Plans.{AreWhole}
+use Rattle.ifmap_graph.specs.ifmap_pool.Holdings.{key_at, once}
+use Rattle.ifmap_tellings.specs.ifmap_standing.declared.standing.Standing.{Standing}
+use Rattle.ifmap_tellings.specs.ifmap_standing.Kept.{AtEach, StaysRelated}
 use Rattle.ifmap_graph.specs.NumberLaws.{once_itself}
 use Rattle.ifmap_changes.specs.StartLaws.{starts_at, starts_append}
 use Rattle.ifmap_ident.specs.SameLaws.{BytesTellIdentifiers}

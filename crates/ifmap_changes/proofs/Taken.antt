@@ -1,19 +1,30 @@
--- What publishes and retractions meet: parts that were not changed (`stays_kept`), notes on items that elements are (`notes_canon`),
--- subscriptions that are marked (`ready_marked`, `marked_state`).
-use Rattle.std.proofs.Common.{◌≡◌, ◌≢◌, ℕ, true, Some, List, length, map, slice_get, sym, subst}
+-- What publishes and retractions meet: subscriptions that are marked (`ready_marked`, `marked_state`), a change that can stay as it is
+-- (`can_settle`), and a plan that takes away (`taken_canon`, `taken_told`).
+use Rattle.std.proofs.Common.{◌≡◌, ◌≢◌, ◌∙◌, ℕ, true, Some, List, [], length, map, slice_get, ap, sym, subst}
+use Rattle.std.specs.List.{AllByRecursion}
 use Rattle.ifmap_changes.specs.Between.{AreWithinLimits, Asking, IsSoundSoFar, rest_of, sessions_left, sight_now, so_far}
-use Rattle.ifmap_changes.specs.Changes.{CanSettle, CanTakeBack}
+use Rattle.ifmap_changes.specs.Changes.{CanSettle, CanTakeBack, TakesAway}
 use Rattle.ifmap_changes.specs.declared.changes.Made.{Made}
 use Rattle.ifmap_changes.specs.declared.parts.Parts.{Parts}
 use Rattle.ifmap_changes.proofs.EachPlace.{less_kept}
-use Rattle.ifmap_delta.specs.Sights.{IsUpToDate}
+use Rattle.ifmap_tellings.specs.ifmap_delta.Sights.{IsUpToDate}
 use Rattle.ifmap_graph.specs.Seen.{rows_now}
-use Rattle.ifmap_machine.specs.Ending.{without_standing}
-use Rattle.ifmap_publish.specs.Apply.{Authorship}
-use Rattle.ifmap_session.specs.Sessions.{IsLive}
-use Rattle.ifmap_standing.specs.Standing.{standing_of}
+use Rattle.ifmap_ident.specs.Items.{IsCanonItem}
+use Rattle.ifmap_tellings.specs.ifmap_machine.Ending.{without_standing}
+use Rattle.ifmap_tellings.specs.ifmap_machine.State.{State}
+use Rattle.ifmap_tellings.specs.ifmap_machine.Telling.{overflow, tell}
+use Rattle.ifmap_graph.specs.ifmap_plans.declared.plans.Note.{Note}
+use Rattle.ifmap_graph.specs.ifmap_plans.declared.plans.Plan.{Plan}
+use Rattle.ifmap_graph.specs.ifmap_plans.Plans.{IsAfter}
+use Rattle.ifmap_tellings.specs.ifmap_publish.declared.who.Who.{Who}
+use Rattle.ifmap_tellings.specs.ifmap_publish.Apply.{Authorship}
+use Rattle.ifmap_tellings.specs.ifmap_publish.Retract.{retract}
+use Rattle.ifmap_tellings.specs.ifmap_session.Sessions.{IsLive}
+use Rattle.ifmap_tellings.specs.ifmap_standing.Standing.{standing_of}
 use Rattle.ifmap_tellings.specs.declared.tellings.Pending.{Pending}
 use Rattle.ifmap_tellings.specs.Tellings.{AloneAreBare, CanTell, EachTelling, IsSized, kept_of, told_by}
+use Rattle.ifmap_graph.specs.ifmap_view.declared.attachments.Attachment.{Attachment}
+use Rattle.ifmap_graph.specs.ifmap_view.Attachments.{IsGraph}
 
 -- who asks, as an author in a session
 abbrev pub author_of : ℕ → Asking → Authorship
@@ -57,3 +68,14 @@ marked_state serials a parts old new gone same = λ k. record {
 -- what can be taken back can stay as it is
 pub can_settle : (made : Made) (before parts : Parts) → CanTakeBack made before parts → CanSettle made parts
 can_settle made before parts can = record { waits = can.graph.waits; ways = can.standing.long }
+
+-- a plan that takes away notifies nothing, and tells what goes
+module _ {who : Who} {first : List Attachment} {plan : Plan} (taken : TakesAway who first plan) where
+  pub taken_canon : AllByRecursion (λ (n : Note). IsCanonItem n.item) plan.notes
+  taken_canon = subst (AllByRecursion (λ (n : Note). IsCanonItem n.item)) (sym taken.notes) tt
+
+  pub taken_told : (after before : State)
+      → ((rows : List Attachment) → IsGraph rows → IsAfter plan.changes first rows → after ≡ overflow (tell rows plan.notes before))
+      → after ≡ overflow (tell (retract who first) [] before)
+  taken_told after before tells =
+      tells (retract who first) taken.graph taken.after ∙ ap (λ notes. overflow (tell (retract who first) notes before)) taken.notes

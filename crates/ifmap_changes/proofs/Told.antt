@@ -1,7 +1,7 @@
 -- Subscriptions are told of a change that is out, and their news are queued: what is pending then is what the machine tells.
 -- First what a telling leaves of a session (`told_serial`, `told_limit`, `overflow_within`), and that a session which is not left is told
--- nothing (`within_all`). Then, of subscriptions that were told: what is queued for a session (`queued`), which stand (`stand`), what
--- the sessions have to tell (`tell_each`), whose queue is overrun (`overrun_one`), and all of it together (`is_told`).
+-- nothing (`within_all`). Then, of subscriptions that were told (`HasNews`): what is queued for a session (`queued`), which stand
+-- (`stand`), what the sessions have to tell (`tell_each`), whose queue is overrun (`overrun_one`), and all of it together (`is_told`).
 use Rattle.std.proofs.Common.{◌≡◌, ◌≢◌, inl, inr, ℕ, ◌≤◌, ◌==◌, nat_lt, Bool, true, false, not, ◌||◌, ◌&&◌, Option, Some, None, List, [], ◌∷◌, length, map, flat_map, slice_get, refl, ap, ◌∙◌, sym, subst, arith}
 use Rattle.std.proofs.lemmas.Bool.{cases_Bool, eqb-true}
 use Rattle.std.proofs.lemmas.Bool.Decides.{nat_tests}
@@ -14,18 +14,18 @@ use Rattle.std.specs.Ordering.{nat_cmp}
 use Rattle.ifmap_lemmas.specs.Filters.{all_filter, all_weaker, filter_alike, map_filter}
 use Rattle.ifmap_lemmas.specs.Having.{Has, filter_has, has_filter, has_map, all_has, has_all}
 use Rattle.ifmap_lemmas.specs.Members.{map_of_all}
-use Rattle.ifmap_delta.specs.Sights.{IsUpToDate}
-use Rattle.ifmap_delta.specs.Ways.{HasSameSearch}
-use Rattle.ifmap_machine.specs.State as machine
-use Rattle.ifmap_machine.specs.Telling.{is_overfull, is_overrun, is_too_big, overflow_session, tell_session, told_in_session, told_to}
-use Rattle.ifmap_plans.specs.declared.plans.Note.{Note}
-use Rattle.ifmap_session.specs.Sessions.{IsLive, Session, SessionTable, spare_of, without_sessions}
-use Rattle.ifmap_standing.specs.declared.standing.Standing.{Standing}
-use Rattle.ifmap_standing.specs.declared.telling.News.{News}
-use Rattle.ifmap_standing.specs.Kept.{AtEach, StaysRelated}
-use Rattle.ifmap_standing.specs.News.{news_of_each, news_where}
-use Rattle.ifmap_standing.specs.Standing.{standing_of}
-use Rattle.ifmap_view.specs.declared.attachments.Attachment.{Attachment}
+use Rattle.ifmap_tellings.specs.ifmap_delta.Sights.{IsUpToDate}
+use Rattle.ifmap_tellings.specs.ifmap_delta.Ways.{HasSameSearch}
+use Rattle.ifmap_tellings.specs.ifmap_machine.State as machine
+use Rattle.ifmap_tellings.specs.ifmap_machine.Telling.{is_overfull, is_overrun, is_too_big, overflow_session, tell_session, told_in_session, told_to}
+use Rattle.ifmap_graph.specs.ifmap_plans.declared.plans.Note.{Note}
+use Rattle.ifmap_tellings.specs.ifmap_session.Sessions.{IsLive, Session, SessionTable, spare_of, without_sessions}
+use Rattle.ifmap_tellings.specs.ifmap_standing.declared.standing.Standing.{Standing}
+use Rattle.ifmap_tellings.specs.ifmap_standing.declared.telling.News.{News}
+use Rattle.ifmap_tellings.specs.ifmap_standing.Kept.{AtEach, StaysRelated}
+use Rattle.ifmap_tellings.specs.ifmap_standing.News.{news_of_each, news_where}
+use Rattle.ifmap_tellings.specs.ifmap_standing.Standing.{standing_of}
+use Rattle.ifmap_graph.specs.ifmap_view.declared.attachments.Attachment.{Attachment}
 use Rattle.ifmap_graph.specs.Seen.{rows_next, rows_now}
 use Rattle.ifmap_tellings.specs.declared.tellings.Pending.{Pending}
 use Rattle.ifmap_tellings.specs.declared.tellings.Telling.{Telling}
@@ -35,7 +35,7 @@ use Rattle.ifmap_changes.specs.Between.{Asking, IsSoundSoFar, IsWithinLimit, ses
 use Rattle.ifmap_changes.specs.Changes.{IsTold, sight_next}
 use Rattle.ifmap_changes.proofs.Settling.{same_ordered, same_shown}
 use Rattle.ifmap_changes.proofs.Flags.{alike_maps, any_alike, any_both, any_mapped, kept_all, kept_later, kept_made, kept_marked, map_twice, mapped_long, maps_alike, marks_stay, queued_made, skip_made, some_of, zip_mapped}
-use Rattle.ifmap_session.specs.laws.TableLaws.{left_live}
+use Rattle.ifmap_tellings.specs.ifmap_session.laws.TableLaws.{left_live}
 use Rattle.ifmap_tellings.specs.ToldLaws.{told_serial, map_kept}
 
 -- ---- a telling and a session
@@ -74,7 +74,7 @@ live_has n (s ∷ live) l = elim (cases_Bool (s.serial == n)) [
 
 -- ---- before the news are queued
 
-module _ (a : Asking) (old : Parts) (before : Pending) (ready : IsSoundSoFar a old before) where
+module _ {a : Asking} {old : Parts} {before : Pending} (ready : IsSoundSoFar a old before) where
   untold : (s : Session) → stays_in a s.serial ≡ false → told_by before.tellings s ≡ s
   untold s goes = by (get nat_cmp before.tellings s.serial) refl
     where
@@ -114,10 +114,15 @@ all_shown P xs h = map_of_all P standing_of xs h
 
 -- ---- the news of a change
 
-module _ (a : Asking) (old : Parts) (before : Pending) (ready : IsSoundSoFar a old before) (notes : List Note) (stand_now : List Standing)
-    (same : AtEach (λ _. StaysRelated HasSameSearch) old.standing.items stand_now) (news : List News)
-    (is_news : news ≡ news_of_each (rows_now old.graph) (rows_next old.graph) notes before.gone.items
-    (map standing_of old.standing.items)) where
+-- the subscriptions were told of a change, and these are their news
+pub record HasNews (a : Asking) (old : Parts) (before : Pending) (notes : List Note) (stand_now : List Standing)
+    (news : List News) : Type 0 where
+  pub ready : IsSoundSoFar a old before
+  pub same : AtEach (λ _. StaysRelated HasSameSearch) old.standing.items stand_now
+  pub are_news : news ≡ news_of_each (rows_now old.graph) (rows_next old.graph) notes before.gone.items (map standing_of old.standing.items)
+
+module _ {a : Asking} {old : Parts} {before : Pending} {notes : List Note} {stand_now : List Standing} {news : List News}
+    (known : HasNews a old before notes stand_now news) where
   abbrev rows : List Attachment
   rows = rows_now old.graph
 
@@ -139,32 +144,32 @@ module _ (a : Asking) (old : Parts) (before : Pending) (ready : IsSoundSoFar a o
   lives = sessions_left a old.sessions
 
   shown_now : map standing_of stand_now ≡ ys
-  shown_now = same_shown old.standing.items stand_now same
+  shown_now = same_shown old.standing.items stand_now known.same
 
-  flags_now : length gone ≡ length stand_now
-  flags_now = ready.flags ∙ sym same.long
+  pub flags_now : length gone ≡ length stand_now
+  flags_now = known.ready.flags ∙ sym known.same.long
 
   pub long_news : length news ≡ length stand_now
-  long_news = ap length is_news
+  long_news = ap length known.are_news
       ∙ mapped_long (λ (p : Bool × machine.Standing). news_where rows next notes p.0 p.1) gone ys
-      (ready.flags ∙ sym (length-map old.standing.items standing_of))
-      ∙ length-map old.standing.items standing_of ∙ sym same.long
+      (known.ready.flags ∙ sym (length-map old.standing.items standing_of))
+      ∙ length-map old.standing.items standing_of ∙ sym known.same.long
 
   pub skips : SkipsGone gone news
   skips i one e f = skip_made (news_where rows next notes) (λ (n : News). n.items) (λ y. refl) gone ys i one e
-      (ap (λ ns. slice_get ns i) (sym is_news) ∙ f)
+      (ap (λ ns. slice_get ns i) (sym known.are_news) ∙ f)
 
   pub alone_now : AloneAreBare before.tellings gone stand_now
-  alone_now n h = kept_later (λ x. x.serial ≢ n) (λ x. x.serial ≢ n) gone gone old.standing.items stand_now ready.flags same.long
-      (λ i x y p q other e. other (sym (same.at i x y p q).serial ∙ e)) (λ i e. e) (ready.alone n h)
+  alone_now n h = kept_later (λ x. x.serial ≢ n) (λ x. x.serial ≢ n) gone gone old.standing.items stand_now known.ready.flags
+      known.same.long (λ i x y p q other e. other (sym (known.same.at i x y p q).serial ∙ e)) (λ i e. e) (known.ready.alone n h)
 
   pub live_now : AllByRecursion (λ x. IsLive x.serial old.sessions.live) stand_now
-  live_now = (same_ordered old.sessions.live old.standing.items stand_now same ready.ordered).live
+  live_now = (same_ordered old.sessions.live old.standing.items stand_now known.same known.ready.ordered).live
 
   -- what is queued for a session
   pub queued : (n : ℕ) → queued_for n stand_now news ≡ told_in_session rows next notes those n
   queued n =
-      ap (queued_for n stand_now) is_news
+      ap (queued_for n stand_now) known.are_news
       ∙ zip_mapped standing_of (λ y. y.serial == n) (λ (one : News). one.items) stand_now (news_of_each rows next notes gone ys)
       ∙ ap (λ zs. flat_map (λ (p : machine.Standing × News). p.1.items)
       (filter (λ (p : machine.Standing × News). p.0.serial == n) (zip zs (news_of_each rows next notes gone ys)))) shown_now
@@ -184,7 +189,7 @@ module _ (a : Asking) (old : Parts) (before : Pending) (ready : IsSoundSoFar a o
       ∙ ap (filter (λ y. not (alone y.serial)))
       (map_kept standing_of (gone_after gone news) stand_now
       ∙ ap (kept_of (gone_after gone news)) shown_now
-      ∙ ap (λ ns. kept_of (gone_after gone ns) ys) is_news
+      ∙ ap (λ ns. kept_of (gone_after gone ns) ys) known.are_news
       ∙ kept_made (news_where rows next notes) (λ (one : News). one.is_too_big) (λ y. is_too_big next y.search) (λ y. refl) gone ys
       ∙ ap (filter (λ y. not (is_too_big next y.search))) (sym (map_kept standing_of gone old.standing.items)))
 
@@ -203,13 +208,13 @@ module _ (a : Asking) (old : Parts) (before : Pending) (ready : IsSoundSoFar a o
 
   live_those : AllByRecursion (λ (y : machine.Standing). IsLive y.serial lives) those
   live_those = all_shown (λ y. IsLive y.serial lives) (kept_of gone old.standing.items)
-      (kept_all (λ x. IsLive x.serial lives) gone old.standing.items ready.live)
+      (kept_all (λ x. IsLive x.serial lives) gone old.standing.items known.ready.live)
 
   not_alone : (y : machine.Standing) → Has those y → is_alone (get nat_cmp before.tellings y.serial) ≡ false
   not_alone y there = elim (cases_Bool (is_alone (get nat_cmp before.tellings y.serial))) [
     | inl is ↦
         let bare = all_shown (λ z. z.serial ≢ y.serial) (kept_of gone old.standing.items)
-        (kept_all (λ x. x.serial ≢ y.serial) gone old.standing.items (ready.alone y.serial is))
+        (kept_all (λ x. x.serial ≢ y.serial) gone old.standing.items (known.ready.alone y.serial is))
         in absurd (all_has (λ (z : machine.Standing). z.serial ≢ y.serial) those bare y there refl)
     | inr is ↦ is
   ]
@@ -293,7 +298,7 @@ module _ (a : Asking) (old : Parts) (before : Pending) (ready : IsSoundSoFar a o
     live_told n t is = by (get nat_cmp before.tellings n) refl
       where
         by : (o : Option Telling) → get nat_cmp before.tellings n ≡ o → IsLive n lives
-        by (Some u) was = (ready.can_tell n u was).live
+        by (Some u) was = (known.ready.can_tell n u was).live
         by None was =
             let some = brought n (subst IsSome (sym is) refl) was
             in let one = some_of (told_to rows next notes) (λ (y : machine.Standing). y.serial == n) those (λ e. some (queued n ∙ e))

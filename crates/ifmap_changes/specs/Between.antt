@@ -5,23 +5,23 @@ use Rattle.std.specs.List.Sorted.{IsStrictlySortedBy}
 use Rattle.ifmap_changes.specs.declared.parts.Parts.{Parts}
 use Rattle.ifmap_tellings.specs.declared.tellings.Pending.{Pending}
 use Rattle.ifmap_tellings.specs.Tellings.{AllKept, AloneAreBare, CanTell, EachTelling, HasSameSessions, IsSized, kept_of, told_by}
-use Rattle.ifmap_delta.specs.declared.subscriptions.Subscription.{Subscription}
-use Rattle.ifmap_delta.specs.Sights.{IsUpToDate, ViewSeen}
-use Rattle.ifmap_delta.specs.Ways.{HasSameSearch}
+use Rattle.ifmap_tellings.specs.ifmap_delta.declared.subscriptions.Subscription.{Subscription}
+use Rattle.ifmap_tellings.specs.ifmap_delta.Sights.{IsUpToDate, ViewSeen}
+use Rattle.ifmap_tellings.specs.ifmap_delta.Ways.{HasSameSearch}
 use Rattle.ifmap_ident.specs.declared.identifiers.Identifier.{Identifier}
 use Rattle.ifmap_ident.specs.declared.items.Item.{Item}
 use Rattle.ifmap_ident.specs.Identifiers.{identifier_order}
-use Rattle.ifmap_machine.specs.State.{State, standing_in, standing_order}
-use Rattle.ifmap_machine.specs.Subscribing.{most_names}
-use Rattle.ifmap_machine.specs.Telling.{is_overfull}
-use Rattle.ifmap_plans.specs.Plans.{AreWhole}
-use Rattle.ifmap_pool.specs.Holdings.{key_at, once}
-use Rattle.ifmap_region.specs.Marks.{mark_of}
-use Rattle.ifmap_session.specs.Sessions.{IsLive, Session, SessionTable, without_sessions}
-use Rattle.ifmap_standing.specs.declared.standing.Standing.{Standing}
-use Rattle.ifmap_standing.specs.Kept.{AtEach, KeepsSame, StaysRelated}
-use Rattle.ifmap_standing.specs.Standing.{standing_of}
-use Rattle.ifmap_view.specs.Views.{IsView}
+use Rattle.ifmap_tellings.specs.ifmap_machine.State.{State, standing_in, standing_order}
+use Rattle.ifmap_tellings.specs.ifmap_machine.Subscribing.{most_names}
+use Rattle.ifmap_tellings.specs.ifmap_machine.Telling.{is_overfull}
+use Rattle.ifmap_graph.specs.ifmap_plans.Plans.{AreWhole}
+use Rattle.ifmap_graph.specs.ifmap_pool.Holdings.{key_at, once}
+use Rattle.ifmap_tellings.specs.ifmap_region.Marks.{mark_of}
+use Rattle.ifmap_tellings.specs.ifmap_session.Sessions.{IsLive, Session, SessionTable, without_sessions}
+use Rattle.ifmap_tellings.specs.ifmap_standing.declared.standing.Standing.{Standing}
+use Rattle.ifmap_tellings.specs.ifmap_standing.Kept.{AtEach, KeepsSame, StaysRelated}
+use Rattle.ifmap_tellings.specs.ifmap_standing.Standing.{standing_of}
+use Rattle.ifmap_graph.specs.ifmap_view.Views.{IsView}
 use Rattle.ifmap_graph.specs.Back.{KeepsBacks}
 use Rattle.ifmap_graph.specs.Held.{Held, IsOwn}
 use Rattle.ifmap_graph.specs.Seen.{AwaitsMore, IsLean, IsStill, StaysLean, StaysLeanWith, links_now, rows_now}

@@ -1,18 +1,18 @@
 -- How many steps a change of the graph takes, of the state that it is made in: what it is is found, and all that stand are told of it.
 use Rattle.std.specs.Prelude.{◌≡◌, ◌≤◌, ◌+◌, ◌⊎◌, ℕ, List, [], ◌∷◌, length, Some}
-use Rattle.ifmap_delta.specs.Bounds.{IsWithinBound}
-use Rattle.ifmap_delta.specs.Sights.{ViewSeen}
-use Rattle.ifmap_machine.specs.Ending.{drop_sessions}
-use Rattle.ifmap_machine.specs.State.{Standing, State}
-use Rattle.ifmap_plans.specs.After.{items_of}
-use Rattle.ifmap_plans.specs.declared.plans.Plan.{Plan}
-use Rattle.ifmap_plans.specs.Plans.{IsAfter}
-use Rattle.ifmap_publish.specs.declared.who.Who.{Who}
-use Rattle.ifmap_publish.specs.declared.who.Who.TheVariants.{Sessions}
-use Rattle.ifmap_publish.specs.Retract.{retract}
-use Rattle.ifmap_view.specs.declared.attachments.Attachment.{Attachment}
-use Rattle.ifmap_view.specs.Attachments.{IsGraph}
-use Rattle.ifmap_view.specs.Views.{IsView}
+use Rattle.ifmap_tellings.specs.ifmap_delta.Bounds.{IsWithinBound}
+use Rattle.ifmap_tellings.specs.ifmap_delta.Sights.{ViewSeen}
+use Rattle.ifmap_tellings.specs.ifmap_machine.Ending.{drop_sessions}
+use Rattle.ifmap_tellings.specs.ifmap_machine.State.{Standing, State}
+use Rattle.ifmap_graph.specs.ifmap_plans.After.{items_of}
+use Rattle.ifmap_graph.specs.ifmap_plans.declared.plans.Plan.{Plan}
+use Rattle.ifmap_graph.specs.ifmap_plans.Plans.{IsAfter}
+use Rattle.ifmap_tellings.specs.ifmap_publish.declared.who.Who.{Who}
+use Rattle.ifmap_tellings.specs.ifmap_publish.declared.who.Who.TheVariants.{Sessions}
+use Rattle.ifmap_tellings.specs.ifmap_publish.Retract.{retract}
+use Rattle.ifmap_graph.specs.ifmap_view.declared.attachments.Attachment.{Attachment}
+use Rattle.ifmap_graph.specs.ifmap_view.Attachments.{IsGraph}
+use Rattle.ifmap_graph.specs.ifmap_view.Views.{IsView}
 
 -- these attachments before a change and those after it, seen with one numbering of identifiers
 pub record AreSights (first last : List Attachment) (old new : ViewSeen) : Type 0 where

@@ -6,30 +6,30 @@ use Rattle.ifmap_changes.specs.declared.changes.Made.{Made}
 use Rattle.ifmap_changes.specs.declared.parts.Parts.{Parts}
 use Rattle.ifmap_tellings.specs.declared.tellings.Pending.{Pending}
 use Rattle.ifmap_tellings.specs.Tellings.{AllKept, AloneAreBare, CanTell, EachTelling, HasSameSessions, IsSized}
-use Rattle.ifmap_delta.specs.Changes.{ShowsAfter}
-use Rattle.ifmap_delta.specs.Sights.{IsUpToDate, ViewSeen}
-use Rattle.ifmap_delta.specs.Ways.{HasSameSearch}
-use Rattle.ifmap_machine.specs.Ending.{without_standing}
-use Rattle.ifmap_machine.specs.State.{State}
-use Rattle.ifmap_machine.specs.Telling.{overflow, tell}
-use Rattle.ifmap_plans.specs.declared.plans.Note.{Note}
-use Rattle.ifmap_plans.specs.declared.plans.Plan.{Plan}
-use Rattle.ifmap_plans.specs.Plans.{IsAfter}
-use Rattle.ifmap_pool.specs.Holdings.{key_at}
-use Rattle.ifmap_publish.specs.declared.who.Who.{Who}
-use Rattle.ifmap_publish.specs.declared.who.Who.TheVariants.{Sessions}
-use Rattle.ifmap_publish.specs.Retract.{retract}
-use Rattle.ifmap_standing.specs.declared.standing.Standing.{Standing}
-use Rattle.ifmap_standing.specs.Kept.{AtEach, StaysRelated}
-use Rattle.ifmap_standing.specs.Ways.{LeadBack}
+use Rattle.ifmap_tellings.specs.ifmap_delta.Changes.{ShowsAfter}
+use Rattle.ifmap_tellings.specs.ifmap_delta.Sights.{IsUpToDate, ViewSeen}
+use Rattle.ifmap_tellings.specs.ifmap_delta.Ways.{HasSameSearch}
+use Rattle.ifmap_tellings.specs.ifmap_machine.Ending.{without_standing}
+use Rattle.ifmap_tellings.specs.ifmap_machine.State.{State}
+use Rattle.ifmap_tellings.specs.ifmap_machine.Telling.{overflow, tell}
+use Rattle.ifmap_graph.specs.ifmap_plans.declared.plans.Note.{Note}
+use Rattle.ifmap_graph.specs.ifmap_plans.declared.plans.Plan.{Plan}
+use Rattle.ifmap_graph.specs.ifmap_plans.Plans.{Fits, IsAfter}
+use Rattle.ifmap_graph.specs.ifmap_pool.Holdings.{key_at}
+use Rattle.ifmap_tellings.specs.ifmap_publish.declared.who.Who.{Who}
+use Rattle.ifmap_tellings.specs.ifmap_publish.declared.who.Who.TheVariants.{Sessions}
+use Rattle.ifmap_tellings.specs.ifmap_publish.Retract.{retract}
+use Rattle.ifmap_tellings.specs.ifmap_standing.declared.standing.Standing.{Standing}
+use Rattle.ifmap_tellings.specs.ifmap_standing.Kept.{AtEach, StaysRelated}
+use Rattle.ifmap_tellings.specs.ifmap_standing.Ways.{LeadBack}
 use Rattle.ifmap_graph.specs.declared.changes.Ready.{Ready}
 use Rattle.ifmap_graph.specs.Back.{IsUndoTo, KeepsBacks}
 use Rattle.ifmap_graph.specs.Held.{Held}
 use Rattle.ifmap_graph.specs.Out.{IsOut, items_changed}
 use Rattle.ifmap_graph.specs.Seen.{AreAwaited, AwaitsMore, BringsNoNumbers, KeepsNumbers, KeepsOwn, StaysLeanWith, links_next, links_now, rows_next, rows_now}
-use Rattle.ifmap_view.specs.declared.attachments.Attachment.{Attachment}
-use Rattle.ifmap_view.specs.Attachments.{IsGraph}
-use Rattle.ifmap_view.specs.Views.{IsView}
+use Rattle.ifmap_graph.specs.ifmap_view.declared.attachments.Attachment.{Attachment}
+use Rattle.ifmap_graph.specs.ifmap_view.Attachments.{IsGraph}
+use Rattle.ifmap_graph.specs.ifmap_view.Views.{IsView}
 
 -- the graph as it is to be, as subscriptions see it
 abbrev pub sight_next : Held → ViewSeen
@@ -101,6 +101,13 @@ pub record IsSettled (old new : Parts) : Type 0 where
 -- also gone are the subscriptions of these sessions
 abbrev pub gone_with : List ℕ → List Bool → List Standing → List Bool
 gone_with serials gone standing = map (λ (p : Bool × Standing). p.0 || list_any (λ n. n == p.1.serial) serials) (zip gone standing)
+
+-- a plan takes away what is of these, and notifies nothing
+pub record TakesAway (who : Who) (rows : List Attachment) (plan : Plan) : Type 0 where
+  pub fits : Fits rows plan.changes
+  pub graph : IsGraph (retract who rows)
+  pub after : IsAfter plan.changes rows (retract who rows)
+  pub notes : plan.notes ≡ []
 
 -- the state once what is of these is taken away, and all are told
 abbrev pub state_taken_from : Who → State → State

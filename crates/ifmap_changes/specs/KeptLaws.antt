@@ -1,13 +1,13 @@
 -- Parts that are steady are kept as they are.
 use Rattle.std.proofs.Common.{refl, ◌∙◌, sym, subst, arith}
-use Rattle.ifmap_standing.specs.declared.standing.Standing.{Standing}
-use Rattle.ifmap_standing.specs.Kept.{KeepsSame, StaysRelated}
+use Rattle.ifmap_tellings.specs.ifmap_standing.declared.standing.Standing.{Standing}
+use Rattle.ifmap_tellings.specs.ifmap_standing.Kept.{KeepsSame, StaysRelated}
 use Rattle.std.proofs.lemmas.Option.{same_Some}
 use Rattle.ifmap_changes.specs.Between.{AreKept, IsSteady}
 use Rattle.ifmap_changes.specs.declared.parts.Parts.{Parts}
 
-pub stands_itself : (x : Standing) → StaysRelated KeepsSame x x
-stands_itself x = record {
+pub stands_same_itself : (x : Standing) → StaysRelated KeepsSame x x
+stands_same_itself x = record {
   serial = refl;
   name = refl;
   subscription = record {
@@ -29,7 +29,7 @@ stays_kept parts s = record {
     lean = λ rest l. l;
     standing = record {
       long = refl;
-      at = λ i x y p q. subst (λ z. StaysRelated KeepsSame x z) (same_Some x y (sym p ∙ q)) (stands_itself x);
+      at = λ i x y p q. subst (λ z. StaysRelated KeepsSame x z) (same_Some x y (sym p ∙ q)) (stands_same_itself x);
     };
     sessions = record { live = refl; counter = refl; spare = λ n. omega arith; room = omega arith };
   };

@@ -2,8 +2,8 @@
 use Rattle.std.proofs.Common.{ℕ, ◌≡◌, ◌+◌, List, ◌∷◌, ◌++◌, ◌≤◌, [], length, arith, sym, ◌∙◌}
 use Rattle.ifmap_ident.specs.Identifiers.{identifier_order}
 use Rattle.ifmap_ident.specs.declared.identifiers.Identifier.{Identifier}
-use Rattle.ifmap_pool.specs.Holdings.{once}
-use Rattle.ifmap_standing.specs.declared.standing.Standing.{Standing}
+use Rattle.ifmap_graph.specs.ifmap_pool.Holdings.{once}
+use Rattle.ifmap_tellings.specs.ifmap_standing.declared.standing.Standing.{Standing}
 use Rattle.std.proofs.lemmas.List.Sums.{sum_by-cons, sum_by-append}
 use Rattle.ifmap_changes.specs.Between.{starts_of, SharesNumbers}
 use Rattle.ifmap_graph.specs.NumberLaws.{once_few}

@@ -9,31 +9,32 @@ ghost use Rattle.ifmap_changes.specs.Changes.{CanSettle, CanTakeBack, IsBegun, I
 ghost use Rattle.ifmap_changes.specs.declared.parts.Parts.{Parts};
 ghost use Rattle.ifmap_tellings.specs.declared.tellings.Pending.{Pending};
 ghost use Rattle.ifmap_tellings.specs.Tellings.{AllKept, HasSameSessions, kept_of};
-ghost use Rattle.ifmap_delta.specs.Changes.{ShowsAfter};
-ghost use Rattle.ifmap_delta.specs.Sights.{IsUpToDate};
-ghost use Rattle.ifmap_delta.specs.Ways.{HasSameSearch};
+ghost use Rattle.ifmap_tellings.specs.ifmap_delta.Changes.{ShowsAfter};
+ghost use Rattle.ifmap_tellings.specs.ifmap_delta.Sights.{IsUpToDate};
+ghost use Rattle.ifmap_tellings.specs.ifmap_delta.Ways.{HasSameSearch};
 ghost use Rattle.ifmap_ident.specs.Items.{IsCanonItem};
-ghost use Rattle.ifmap_machine.specs.Ending.{without_standing};
-ghost use Rattle.ifmap_plans.specs.Plans.{Fits};
-ghost use Rattle.ifmap_standing.specs.Bounds.{IsWithinEach};
-ghost use Rattle.ifmap_standing.specs.Kept.{AtEach, KeepsSame, StaysRelated};
-ghost use Rattle.ifmap_standing.specs.declared.standing.Standing.{Standing};
-ghost use Rattle.ifmap_standing.specs.News.{news_of_each};
-ghost use Rattle.ifmap_standing.specs.Standing.{standing_of};
-ghost use Rattle.ifmap_standing.specs.Ways.{LeadBack};
-ghost use Rattle.ifmap_standing.specs.Ways as the_ways;
+ghost use Rattle.ifmap_tellings.specs.ifmap_machine.Ending.{without_standing};
+ghost use Rattle.ifmap_graph.specs.ifmap_plans.Plans.{Fits};
+ghost use Rattle.ifmap_tellings.specs.ifmap_standing.Bounds.{IsWithinEach};
+ghost use Rattle.ifmap_tellings.specs.ifmap_standing.Kept.{AtEach, KeepsSame, StaysRelated};
+ghost use Rattle.ifmap_tellings.specs.ifmap_standing.declared.standing.Standing.{Standing};
+ghost use Rattle.ifmap_tellings.specs.ifmap_standing.News.{news_of_each};
+ghost use Rattle.ifmap_tellings.specs.ifmap_standing.Standing.{standing_of};
+ghost use Rattle.ifmap_tellings.specs.ifmap_standing.Ways.{LeadBack};
+ghost use Rattle.ifmap_tellings.specs.ifmap_standing.Ways as the_ways;
 ghost use Rattle.ifmap_graph.specs.Out.{items_changed};
 ghost use Rattle.ifmap_graph.specs.Seen.{AwaitsLess, KeepsNumbers, StaysLeanWithout, rows_next, rows_now};
 
 use crate::asking::Asking;
 use crate::parts::Parts;
-use ifmap_graph::{Draft, Ready, Undo};
+use ifmap_graph::{Draft, Plan, Ready, Undo};
 use ifmap_ident::laws::bytes_tell_identifiers_apart;
-use ifmap_plans::Plan;
-use ifmap_standing::laws::{same_links_keep_subscriptions, same_marks_keep_subscriptions};
-use ifmap_standing::{GraphChange, Standing, Told, Ways, settle, take_back, tell_change};
 use ifmap_steps::Steps;
 use ifmap_tellings::tellings::{Pending, queue_news};
+use ifmap_tellings::{
+    GraphChange, Standing, Told, Ways, same_links_keep_subscriptions,
+    same_marks_keep_subscriptions, settle, take_back, tell_change,
+};
 use std::alloc::{AllocError as NoMemory, Global};
 use std::sync::ledger::Ledger;
 

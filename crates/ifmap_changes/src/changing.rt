@@ -2,12 +2,13 @@
 ghost use Rattle.std.specs.Prelude.{◌≡◌, ◌∷◌, ℕ, [], IfOk, OnErr, OnOk};
 ghost use Rattle.std.specs.List.{AllByRecursion};
 ghost use Rattle.ifmap_changes.specs.Between.{AreKept, AreTurned, AreTurnedWith, HasNoSubscriptions, IsSoundSoFar, IsSteady, so_far};
-ghost use Rattle.ifmap_changes.specs.Bounds.{IsEndedWithin, IsTakenWithin, IsToldWithin};
-ghost use Rattle.ifmap_changes.specs.Changes.{CanSettle, CanTakeBack, state_taken_from, taken_one};
-ghost use Rattle.ifmap_machine.specs.Telling.{overflow, tell};
-ghost use Rattle.ifmap_publish.specs.Apply.{Authorship, apply};
-ghost use Rattle.ifmap_publish.specs.Notes.{notes_of};
-ghost use Rattle.ifmap_requests.specs.Fit.{IsFitOp};
+ghost use Rattle.ifmap_changes.specs.Bounds.{IsEndedWithin, IsRetractedWithin, IsTakenWithin, IsToldWithin};
+ghost use Rattle.ifmap_changes.specs.Changes.{CanSettle, CanTakeBack, TakesAway, state_taken_from, taken_one};
+ghost use Rattle.ifmap_tellings.specs.ifmap_machine.Telling.{overflow, tell};
+ghost use Rattle.ifmap_graph.specs.ifmap_plans.Plans.{AreWhole};
+ghost use Rattle.ifmap_tellings.specs.ifmap_publish.Apply.{Authorship, apply};
+ghost use Rattle.ifmap_tellings.specs.ifmap_publish.Notes.{notes_of};
+ghost use Rattle.ifmap_tellings.specs.ifmap_requests.Fit.{IsFitOp};
 ghost use Rattle.ifmap_graph.specs.Out.{items_changed};
 ghost use Rattle.ifmap_graph.specs.Seen.{KeepsNumbers, rows_now};
 
@@ -15,11 +16,12 @@ use crate::asking::Asking;
 use crate::changes::{Made, flag_session, make_change, make_kept};
 use crate::parts::Parts;
 use ifmap_elem::Many;
-use ifmap_publish::laws::{publishing_keeps_graphs, retracting_keeps_graphs};
-use ifmap_publish::{Author, Who, plan, retract};
-use ifmap_requests::PublishOp;
+use ifmap_graph::{Graph, Plan};
 use ifmap_steps::Steps;
 use ifmap_tellings::tellings::Pending;
+use ifmap_tellings::{
+    Author, PublishOp, Who, plan, publishing_keeps_graphs, retract, retracting_keeps_graphs,
+};
 use std::alloc::{AllocError as NoMemory, Global};
 use std::sync::ledger::Ledger;
 
@@ -97,10 +99,25 @@ pub fn take_away<L: Ledger>(
     ensures steps { IsTakenWithin who.now (so_far asking.now parts.old pending.old) steps.old
         steps.new }
 {
-    retracting_keeps_graphs();
-    parts.graph.is_view();
-    let plan = retract(alloc, &parts.graph, who, steps)?;
+    let plan = plan_retraction(alloc, &parts.graph, who, steps)?;
     make_change(alloc, parts, pending, asking, plan, steps)
+}
+
+// The plan that takes away what is of these.
+fn plan_retraction<L: Ledger>(
+    alloc: Global,
+    graph: &Graph,
+    who: &Who,
+    steps: &mut Steps<L>,
+) -> Result<Plan, NoMemory>
+    requires { AreWhole (rows_now graph.now) }
+    ensures plan { IfOk result (TakesAway who.now (rows_now graph.now)) }
+    ensures steps { IsRetractedWithin (rows_now graph.now) steps.old steps.new }
+{
+    retracting_keeps_graphs();
+    graph.is_view();
+    let plan = retract(alloc, graph, who, steps)?;
+    Ok(plan)
 }
 
 /// Takes away what was to stay as long as a session, whose own subscriptions are not told.
@@ -159,8 +176,6 @@ pub fn take_away_kept<L: Ledger>(
     ensures steps { IsTakenWithin who.now (so_far asking.now parts.old pending.old) steps.old
         steps.new }
 {
-    retracting_keeps_graphs();
-    parts.graph.is_view();
-    let plan = retract(alloc, &parts.graph, who, steps)?;
+    let plan = plan_retraction(alloc, &parts.graph, who, steps)?;
     make_kept(alloc, parts, pending, asking, plan, steps)
 }

@@ -6,13 +6,14 @@ ghost use Rattle.ifmap_changes.specs.declared.parts.Parts.{Parts};
 ghost use Rattle.ifmap_graph.specs.Held.{Held, IsOwn};
 ghost use Rattle.ifmap_graph.specs.Seen.{BringsNoNumbers, IsStill, rows_now};
 ghost use Rattle.ifmap_ident.specs.declared.identifiers.Identifier.{Identifier};
-ghost use Rattle.ifmap_plans.specs.Plans.{AreWhole};
-ghost use Rattle.ifmap_pool.specs.Holdings.{key_at};
-ghost use Rattle.ifmap_standing.specs.declared.standing.Standing.{Standing};
+ghost use Rattle.ifmap_graph.specs.ifmap_plans.Plans.{AreWhole};
+ghost use Rattle.ifmap_graph.specs.ifmap_pool.Holdings.{key_at};
+ghost use Rattle.ifmap_tellings.specs.ifmap_standing.declared.standing.Standing.{Standing};
 
-use ifmap_fresh::laws::numbers_keep_walks;
 use ifmap_ident::laws::bytes_tell_identifiers_apart;
-use ifmap_standing::laws::{same_links_keep_subscriptions, same_marks_keep_subscriptions};
+use ifmap_tellings::{
+    numbers_keep_walks, same_links_keep_subscriptions, same_marks_keep_subscriptions,
+};
 
 /// Where numbers only go, those of identifiers that somebody holds stay. So a graph is steady for
 /// subscriptions whose starts had their numbers, where others than items hold each identifier as

@@ -1,7 +1,6 @@
 //! The parts of the machine.
 use ifmap_graph::Graph;
-use ifmap_session::Sessions;
-use ifmap_standing::Standing;
+use ifmap_tellings::{Sessions, Standing};
 
 // The graph, the live sessions, and the subscriptions that stand, in their order.
 #[derive(Drop)]

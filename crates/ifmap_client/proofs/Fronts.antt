@@ -1,6 +1,6 @@
 -- What a document begins with: none is empty, and none begins with a byte that is neither `<` nor white space.
 -- The first token of such bytes is a text that is not white space alone, and a document has no such text outside its root.
-use Rattle.std.proofs.Common.{◌≡◌, ◌≢◌, refl, ap, ◌∙◌, sym, subst, ℕ, Bool, true, false, ◌&&◌, ◌==◌, List, [], ◌∷◌, ◌++◌, arith}
+use Rattle.std.proofs.Common.{◌≡◌, ◌≢◌, refl, ap, ◌∙◌, sym, subst, ℕ, Bool, true, false, ◌&&◌, ◌==◌, List, [], ◌∷◌, ◌++◌}
 use Rattle.std.specs.Prelude.{if◌then◌else◌}
 use Rattle.std.specs.List.{list_all}
 use Rattle.ifmap_elem.specs.Chars.{is_white}
@@ -8,7 +8,9 @@ use Rattle.ifmap_elem.specs.Document as piece
 use Rattle.ifmap_elem.specs.Document.{IsDocument, Nothing, Pieces, heading, tokens_of}
 use Rattle.ifmap_elem.specs.Spells.{Spells, without_byte_order_mark}
 use Rattle.ifmap_elem.specs.Tokens.{TakesToken}
-use Rattle.ifmap_elem.specs.laws.OneToken.{kind_is, kind_of, no_token, second_kind}
+use Rattle.ifmap_elem.specs.Kinds.{kind_of, kind_of_markup}
+use Rattle.ifmap_elem.specs.declared.tokens.TokenKind.TheVariants as kinds
+use Rattle.ifmap_elem.specs.laws.OneToken.{kind_is, no_token}
 use Rattle.ifmap_elem.specs.laws.Roots.{BeginsWithRoot, root_begins}
 use Rattle.ifmap_elem.specs.declared.readings.Reading.{Reading}
 use Rattle.ifmap_elem.specs.declared.tokens.Token.{Token}
@@ -76,15 +78,15 @@ module _ (b : ℕ) (bs : List ℕ) (no_tag : (b == 0x3C) ≡ false) (black : is_
       let head : b ≡ o = cc in ap (λ t. t && list_all is_white os) (ap is_white (sym head) ∙ black)
 
   solid_token : (t : Token) (rest : List ℕ) → TakesToken (b ∷ bs) t rest → IsSolid t
-  solid_token t rest l = by t l (ap (λ x. if x then second_kind bs else 1) (sym no_tag) ∙ kind_is (b ∷ bs) t rest l)
+  solid_token t rest l = by t l (ap (λ x. if x then kind_of_markup bs else kinds.Text) (sym no_tag) ∙ kind_is (b ∷ bs) t rest l)
     where
-      by : (u : Token) → TakesToken (b ∷ bs) u rest → 1 ≡ kind_of u → IsSolid u
-      by Declaration m e = absurd (omega (arith, e))
-      by Comment m e = absurd (omega (arith, e))
-      by (Start tag) m e = absurd (omega (arith, e))
-      by (Empty tag) m e = absurd (omega (arith, e))
-      by (End name) m e = absurd (omega (arith, e))
-      by (Section text) m e = absurd (omega (arith, e))
+      by : (u : Token) → TakesToken (b ∷ bs) u rest → kinds.Text ≡ kind_of u → IsSolid u
+      by Declaration m e = cc
+      by Comment m e = cc
+      by (Start tag) m e = cc
+      by (Empty tag) m e = cc
+      by (End name) m e = cc
+      by (Section text) m e = cc
       by (Characters blank text) m e = m.blank_is ∙ black_front m.own rest m.some m.bytes_are
 
   -- bytes that begin with such a byte spell nothing

@@ -12,8 +12,8 @@ use Rattle.std.specs.declared.cmp.Ordering.TheVariants.{Less, Equal}
 use Rattle.ifmap_client.specs.EntrySets.{IsEntryPlace, without_entry}
 use Rattle.ifmap_folds.specs.Differences.{difference, entry_order, has_entry, same_entry}
 use Rattle.ifmap_lemmas.specs.Filters.{all_at, all_weaker, filter_all, none_dropped}
-use Rattle.ifmap_plans.specs.Placing.{put}
-use Rattle.ifmap_plans.specs.laws.PlacingLaws.{found_is_put, gap_is_put, gap_none, greater_of_less, put_sorted}
+use Rattle.ifmap_folds.specs.ifmap_plans.Placing.{put}
+use Rattle.ifmap_folds.specs.ifmap_plans.laws.PlacingLaws.{found_is_put, gap_is_put, gap_none, greater_of_less, put_sorted}
 use Rattle.ifmap_search.specs.declared.results.Entry.{Entry}
 use Rattle.ifmap_folds.specs.laws.FoldingLaws.{entries_tie, difference_none}
 

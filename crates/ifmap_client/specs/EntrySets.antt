@@ -2,7 +2,7 @@
 use Rattle.std.specs.Prelude.{◌≡◌, ◌<◌, ◌≤◌, ℕ, not, List, length, Result, MatchResult, set}
 use Rattle.std.specs.List.{filter, insert, remove}
 use Rattle.std.specs.Ordering.{eq_by_cmp}
-use Rattle.ifmap_plans.specs.Placing.{put}
+use Rattle.ifmap_folds.specs.ifmap_plans.Placing.{put}
 use Rattle.ifmap_search.specs.declared.results.Entry.{Entry}
 use Rattle.ifmap_folds.specs.Differences.{entry_order}
 

@@ -2,3 +2,5 @@
 pub mod EntrySets
 pub mod Keeping
 pub mod Lines
+-- What is passed on to the crates above.
+pub mod ifmap_folds

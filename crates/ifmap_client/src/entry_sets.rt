@@ -4,7 +4,7 @@ ghost use Rattle.std.specs.List.Sorted.{IsStrictlySortedBy};
 ghost use Rattle.ifmap_client.specs.EntrySets.{IsEntryPlace, without_entry};
 ghost use Rattle.ifmap_folds.specs.Differences.{difference, entry_bytes, entry_order};
 ghost use Rattle.ifmap_folds.specs.Folds.{with_entries};
-ghost use Rattle.ifmap_plans.specs.Placing.{put};
+ghost use Rattle.ifmap_folds.specs.ifmap_plans.Placing.{put};
 
 use ifmap_elem::{Copied, Many};
 use ifmap_search::Entry;

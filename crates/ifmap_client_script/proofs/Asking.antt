@@ -3,13 +3,13 @@ use Rattle.std.proofs.Common.{◌≡◌, inl, inr, refl, sym, subst, ℕ, List, 
 use Rattle.std.specs.Prelude.{IfSome, Option, Some, None, Result, Ok, Err}
 use Rattle.std.specs.Io.KnownBytes.{Appends}
 use Rattle.std.proofs.Math.Seq.{take-length}
-use Rattle.ifmap_heads.specs.Answers.{ReadsAnswer, answered}
+use Rattle.ifmap_http.specs.ifmap_heads.Answers.{ReadsAnswer, answered}
 use Rattle.ifmap_io.specs.Causes.{Rose}
 use Rattle.ifmap_replies.specs.Means.{MeansReply}
 use Rattle.ifmap_replies.specs.declared.replies.Reply.{Reply}
 use Rattle.ifmap_requests.specs.declared.requests.Request.{Request}
 use Rattle.ifmap_client_script.specs.declared.exchanges.Caller.{Caller}
-use Rattle.ifmap_client_script.specs.declared.exchanges.Told.{Told}
+use Rattle.ifmap_client_script.specs.declared.exchanges.ReadReply.{ReadReply}
 use Rattle.ifmap_client_script.specs.declared.outcomes.Stop.{Stop}
 use Rattle.ifmap_client_script.specs.declared.outcomes.Stop.TheVariants as stop
 use Rattle.ifmap_client_script.specs.Exchanges.{AnswersTo, AsksOnWire, Breaks, HasAny, HasNoReply, HasPart, Hears, Posts, Reads, Receives, BodyTellsReply, Unread, Unwritten, Wiring, asked_of, request_post}
@@ -32,7 +32,7 @@ unmeant before after body stop.WriteFault came reads = absurd reads
 unmeant before after body stop.LinkFault came reads = absurd reads
 unmeant before after body stop.LinkEnded came reads = absurd reads
 
-pub hears : (before after : Wiring) (body : List ℕ) (r : Result Told Stop) → Receives before after (Ok body) → BodyTellsReply body r
+pub hears : (before after : Wiring) (body : List ℕ) (r : Result ReadReply Stop) → Receives before after (Ok body) → BodyTellsReply body r
     → Hears before after r
 hears before after body (Ok told) came tells =
     (subst (λ (b : List ℕ). Receives before after (Ok b)) (sym tells.0) came, tells.1)
@@ -61,7 +61,7 @@ module _ (caller : Caller) (request : Request) (before mid after : Wiring) (unre
   has_left Has None h = tt
   has_left Has (Some l) h = (l, refl, h)
 
-  came : (told : Told) (left : Option (List ℕ))
+  came : (told : ReadReply) (left : Option (List ℕ))
       → IfSome left (λ l. (rest : List ℕ) × (after.left ≡ Some rest) × ReadsAnswer l (answered told.body rest))
       → IfSome left (λ l. (rest : List ℕ) × (after.left ≡ Some rest) × AnswersTo (asked_of request told ∷ []) l rest)
   came told None h = tt
@@ -76,7 +76,7 @@ module _ (caller : Caller) (request : Request) (before mid after : Wiring) (unre
   whole_part a =
       (post, (length post, sym (take-length post)), record { posted = held_after post a; answered = any_left before.left })
 
-  pub asks : (r : Result Told Stop) → Appends before.held mid.held post → Hears mid after r → AsksOnWire caller request before after r
+  pub asks : (r : Result ReadReply Stop) → Appends before.held mid.held post → Hears mid after r → AsksOnWire caller request before after r
   asks (Ok told) a h = (
     record {
       posted = held_after (post ++ []) (subst (λ (t : List ℕ). Appends before.held mid.held t) (sym (append-nil post)) a);

@@ -9,7 +9,7 @@ use Rattle.ifmap_client.specs.Lines.{IsLine, line_limit}
 use Rattle.ifmap_client.specs.declared.lines.Line.{Line}
 use Rattle.ifmap_client_script.specs.declared.outcomes.Stop.{Stop}
 use Rattle.ifmap_client_script.specs.declared.outcomes.Stop.TheVariants as stop
-use Rattle.ifmap_client_script.specs.declared.scripts.Next.{Next}
+use Rattle.ifmap_client_script.specs.declared.scripts.NextLine.{NextLine}
 use Rattle.ifmap_client_script.specs.Deeds.{CanDo, Known}
 use Rattle.ifmap_client_script.specs.Pending.{WaitsForLine, IsLineEnd, IsLineTooLong, Pending}
 use Rattle.ifmap_client_script.specs.Scripts.{BeginsLine, HasNoNewline, IsBadLine, IsWithinLineLimits}
@@ -101,7 +101,7 @@ bad_long offset bytes known long = (
 -- ---- what reading the next line gives
 
 module _ (left_old left_new : Option (List ℕ)) (offset : ℕ) (old new : Pending) where
-  pub reads_line : (place : ℕ) (r : Result (Option Next) Stop) → WaitsForLine left_old left_new offset old new (Ok (Some place))
+  pub reads_line : (place : ℕ) (r : Result (Option NextLine) Stop) → WaitsForLine left_old left_new offset old new (Ok (Some place))
       → ReadsAt new.bytes place r → ReadsNext left_old left_new offset old new r
   reads_line place (Ok (Some next)) a reads = (
     a.0,
@@ -131,10 +131,10 @@ module _ (left_old left_new : Option (List ℕ)) (offset : ℕ) (old new : Pendi
   reads_err stop.LinkEnded a = absurd a
   reads_err stop.BadReply a = absurd a
 
-abbrev IsFault : Result (Option Next) Stop → Type 0
+abbrev IsFault : Result (Option NextLine) Stop → Type 0
 IsFault r = r ≡ Err stop.ReadFault
 
-pub reads_no_fault : {P : Type 0} (bytes : List ℕ) (place : ℕ) (r : Result (Option Next) Stop) → ReadsAt bytes place r → IsFault r → P
+pub reads_no_fault : {P : Type 0} (bytes : List ℕ) (place : ℕ) (r : Result (Option NextLine) Stop) → ReadsAt bytes place r → IsFault r → P
 reads_no_fault bytes place (Ok found) reads e = cc
 reads_no_fault bytes place (Err stop.ReadFault) reads e = absurd reads
 reads_no_fault bytes place (Err stop.BadLine) reads e = cc

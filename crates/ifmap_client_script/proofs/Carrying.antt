@@ -12,13 +12,13 @@ use Rattle.ifmap_client.specs.declared.lines.Line.TheVariants as the_line
 use Rattle.ifmap_replies.specs.Means.{MeansReply}
 use Rattle.ifmap_requests.specs.declared.requests.Request.{Request}
 use Rattle.ifmap_client_script.specs.declared.exchanges.Caller.{Caller}
-use Rattle.ifmap_client_script.specs.declared.exchanges.Told.{Told}
+use Rattle.ifmap_client_script.specs.declared.exchanges.ReadReply.{ReadReply}
 use Rattle.ifmap_client_script.specs.declared.outcomes.Stop.{Stop}
 use Rattle.ifmap_client_script.specs.declared.outcomes.Stop.TheVariants as stop
 use Rattle.ifmap_client_script.specs.Deeds.{Known, after_reply, is_poll, request_in}
 use Rattle.ifmap_client_script.specs.Deeds as deed
 use Rattle.ifmap_client_script.specs.Ends.{LinkFailed, Ports}
-use Rattle.ifmap_client_script.specs.Exchanges.{AnswersTo, AsksOnWire, HasPostedAndHeard, HasAny, HasNoReply, HasPart, IsFront, Wiring, asked_of, request_post}
+use Rattle.ifmap_client_script.specs.Exchanges.{AnswersTo, AsksOnWire, HasPostedAndHeard, HasAny, HasNoReply, HasPart, IsFrontOfPost, Wiring, asked_of, request_post}
 use Rattle.ifmap_client_script.specs.Outlets.{AreUnspent, AsksBy, AsksOver, IsAsked, Prints}
 use Rattle.ifmap_client_script.specs.Printing.{body_text, set_text}
 use Rattle.ifmap_client_script.specs.Promises.{Broken, Cutting, Exchanged, IsWholePost}
@@ -51,7 +51,7 @@ named_exit o stop.LinkFault n = absurd n
 named_exit o stop.LinkEnded n = absurd n
 named_exit o stop.BadReply n = absurd n
 
-abbrev IsSame : Result Told Stop → Result Told Stop → Type 0
+abbrev IsSame : Result ReadReply Stop → Result ReadReply Stop → Type 0
 IsSame r s = r ≡ s
 
 stop_is : (a b : Stop) → IsSame (Err a) (Err b) → a ≡ b
@@ -75,32 +75,32 @@ module _ (caller : Caller) (sent : Request) (before after : Ports) (unspent : Ar
   none_second same = exchanges_none caller before.second after.second unspent.second same
 
   -- each wire was asked what it was to be asked
-  asked_first : (told : Told) (b : Bool) → AsksBy b caller sent before after (Ok told)
+  asked_first : (told : ReadReply) (b : Bool) → AsksBy b caller sent before after (Ok told)
       → HasPostedAndHeard caller (if b then [] else asked_of sent told ∷ []) before.first after.first
   asked_first told true w = none_first w.0
   asked_first told false w = w.1.0
 
-  asked_second : (told : Told) (b : Bool) → AsksBy b caller sent before after (Ok told)
+  asked_second : (told : ReadReply) (b : Bool) → AsksBy b caller sent before after (Ok told)
       → HasPostedAndHeard caller (if b then asked_of sent told ∷ [] else []) before.second after.second
   asked_second told true w = w.1.0
   asked_second told false w = none_second w.0
 
-  told_means : (told : Told) (b : Bool) → AsksBy b caller sent before after (Ok told) → MeansReply told.body told.reply
+  told_means : (told : ReadReply) (b : Bool) → AsksBy b caller sent before after (Ok told) → MeansReply told.body told.reply
   told_means told true w = w.1.1
   told_means told false w = w.1.1
 
-  exchanged : (told : Told) → AsksBy (is_poll sent) caller sent before after (Ok told)
+  exchanged : (told : ReadReply) → AsksBy (is_poll sent) caller sent before after (Ok told)
       → Exchanged caller before after (deed.asked (asked_of sent told) ∷ [])
   exchanged told w = record { first = asked_first told (is_poll sent) w; second = asked_second told (is_poll sent) w }
 
   -- a part of the post was written, or an answer was cut
   cut_off : (b : Bool) → AsksBy b caller sent before after (Err stop.NoMemory)
-      → (front : List ℕ) × IsFront (request_post caller sent) front × Broken caller before after b [] front HasAny
+      → (front : List ℕ) × IsFrontOfPost (request_post caller sent) front × Broken caller before after b [] front HasAny
   cut_off true w = (w.1.0, w.1.1, (none_first w.0, w.1.2))
   cut_off false w = (w.1.0, w.1.1, (w.1.2, none_second w.0))
 
   faulty : (b : Bool) → AsksBy b caller sent before after (Err stop.LinkFault)
-      → ((front : List ℕ) × IsFront (request_post caller sent) front × Broken caller before after b [] front HasAny)
+      → ((front : List ℕ) × IsFrontOfPost (request_post caller sent) front × Broken caller before after b [] front HasAny)
       × LinkFailed before after
   faulty true w = ((w.1.0.0, w.1.0.1, (none_first w.0, w.1.0.2)), inr w.1.1)
   faulty false w = ((w.1.0.0, w.1.0.1, (w.1.0.2, none_second w.0)), inl w.1.1)
@@ -136,16 +136,16 @@ module _ (caller : Caller) (sent : Request) (before after : Ports) (unspent : Ar
       unanswered : (new : Known) (e : Stop) → AsksBy (is_poll sent) caller sent before after (Err e)
           → CarriesOut caller (the_line.Request request) before after known new (Err e)
       unanswered new stop.LinkFault w =
-          let p = faulty (is_poll sent) w in (posted IsFront HasAny p.0.0 p.0.1 p.0.2, p.1)
+          let p = faulty (is_poll sent) w in (posted IsFrontOfPost HasAny p.0.0 p.0.1 p.0.2, p.1)
       unanswered new stop.LinkEnded w = posted IsWholePost HasPart (request_post caller sent) refl (ended (is_poll sent) w)
       unanswered new stop.BadReply w = posted IsWholePost HasNoReply (request_post caller sent) refl (bad (is_poll sent) w)
       unanswered new stop.NoMemory w =
-          let p = cut_off (is_poll sent) w in inr (inl (posted IsFront HasAny p.0 p.1 p.2))
+          let p = cut_off (is_poll sent) w in inr (inl (posted IsFrontOfPost HasAny p.0 p.1 p.2))
       unanswered new stop.BadLine w = none_asks (is_poll sent) stop.BadLine absurd absurd w
       unanswered new stop.ReadFault w = none_asks (is_poll sent) stop.ReadFault absurd absurd w
       unanswered new stop.WriteFault w = none_asks (is_poll sent) stop.WriteFault absurd absurd w
 
-    module _ (told : Told) (w : AsksBy (is_poll sent) caller sent before after (Ok told)) where
+    module _ (told : ReadReply) (w : AsksBy (is_poll sent) caller sent before after (Ok told)) where
       -- a reply was told, but not written whole
       cut_at : (n : ℕ) → Appends before.held after.held (take n (body_text told.body))
           → Cut caller (the_line.Request request) before after known
@@ -179,7 +179,7 @@ module _ (caller : Caller) (sent : Request) (before after : Ports) (unspent : Ar
 -- ---- from what was asked over either wire
 
 -- the wire by the request
-pub by_second : (caller : Caller) (sent : Request) (before after : Ports) (r : Result Told Stop) → is_poll sent ≡ true
+pub by_second : (caller : Caller) (sent : Request) (before after : Ports) (r : Result ReadReply Stop) → is_poll sent ≡ true
     → AsksOnWire caller sent before.second after.second r → after.first ≡ before.first → after.held ≡ before.held
     → after.write_faults ≡ before.write_faults → IsAsked caller sent before after r
 by_second caller sent before after r poll asks first held faults = record {
@@ -188,7 +188,7 @@ by_second caller sent before after r poll asks first held faults = record {
   write_faults = faults;
 }
 
-pub by_first : (caller : Caller) (sent : Request) (before after : Ports) (r : Result Told Stop) → is_poll sent ≡ false
+pub by_first : (caller : Caller) (sent : Request) (before after : Ports) (r : Result ReadReply Stop) → is_poll sent ≡ false
     → AsksOnWire caller sent before.first after.first r → after.second ≡ before.second → after.held ≡ before.held
     → after.write_faults ≡ before.write_faults → IsAsked caller sent before after r
 by_first caller sent before after r other asks second held faults = record {
@@ -209,7 +209,7 @@ over_none caller request known before e n = at (named_exit (request_in known.ses
 
 module _ (caller : Caller) (request : Request) (known : Known) (before mid : Ports) (unspent : AreUnspent before) where
   -- a request was answered, and the reply printed
-  module _ (after : Ports) (new : Known) (told : Told) (r : Result (Unit {0}) Stop) (prints : Prints (body_text told.body) mid after r)
+  module _ (after : Ports) (new : Known) (told : ReadReply) (r : Result (Unit {0}) Stop) (prints : Prints (body_text told.body) mid after r)
       (is : OnOk r (new ≡ after_reply told.reply known)) where
     -- as if the reply had been printed while it was asked
     abbrev joined : Ports

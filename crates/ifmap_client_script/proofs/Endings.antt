@@ -1,5 +1,9 @@
--- A script turn by turn: `Reached` holds after each line that was carried out (`begin`, `next`), and each way to end leads from it to
--- what the script promises (`done`, `ends_with`, and `not_begun` where there was no memory to begin).
+-- A script turn by turn, from its beginning to each way to end.
+-- 1. Counts of faults stay or rise over turns in a row (`later_ends`), and what has failed since a turn has failed since the beginning.
+-- 2. `Reached` holds where nothing was done yet (`begin`); what is promised where nothing was (`not_begun`).
+-- 3. It holds after each line that was carried out (`next`).
+-- 4. Each way to end leads from it to what the script promises: `done`, and the others together in `ends_with`.
+-- 5. Each turn that goes on brings the end nearer (`nearer`).
 use Rattle.std.proofs.Common.{◌≡◌, ◌⊎◌, inl, inr, refl, ap, ◌∙◌, sym, subst, ℕ, ◌+◌, ◌-◌, ◌<◌, true, false, List, [], ◌∷◌, ◌++◌, length, length-append, arith}
 use Rattle.std.specs.Prelude.{Option, Some, Err}
 use Rattle.std.proofs.KnownBytes.{Appends-nil, Consumes-nil, Consumes-trans}
@@ -12,12 +16,12 @@ use Rattle.ifmap_client_script.specs.declared.outcomes.Stop.{Stop}
 use Rattle.ifmap_client_script.specs.declared.outcomes.Stop.TheVariants as stop
 use Rattle.ifmap_client_script.specs.Deeds.{Deed, Does, Known, after_deed, nothing_known, request_in}
 use Rattle.ifmap_client_script.specs.Ends.{ArePortsLater, SourceAndPorts, IsLaterInRun, IsLaterWire, LinkFailed, Ports}
-use Rattle.ifmap_client_script.specs.Exchanges.{HasAny, HasNoReply, HasPart, IsFront, WireFailed, Wiring}
+use Rattle.ifmap_client_script.specs.Exchanges.{HasAny, HasNoReply, HasPart, IsFrontOfPost, WireFailed, Wiring}
 use Rattle.ifmap_client_script.specs.Holding.{known_of}
 use Rattle.ifmap_client_script.specs.Pending.{Fetches, Pending, nothing_taken}
 use Rattle.ifmap_client_script.specs.Promises.{Cutting, Did, IsCarriedOut, IsFaulty, IsLost, IsUnanswered, IsUnread, IsUnwritten, IsWholePost, Posted, ScriptPromises, Takes, Wrote, known_after}
-use Rattle.ifmap_client_script.specs.Scripts.{IsBadLine, longest_script}
-use Rattle.ifmap_client_script.specs.Stops.{outcome_of}
+use Rattle.ifmap_client_script.specs.Scripts.{IsBadLine, longest_client_script}
+use Rattle.ifmap_client_script.specs.Stops.{script_outcome}
 use Rattle.ifmap_client_script.specs.Turns.{IsAtFault, IsBeginning, IsCutShort, IsDue, IsIdle, IsLeft, IsOver, Scripting, TakesLine, IsScriptTurn, TurnsOn}
 use Rattle.ifmap_client_script.proofs.Carrying.{exchanges_none}
 use Rattle.ifmap_client_script.proofs.Progress.{known_snoc}
@@ -249,33 +253,34 @@ module _ (caller : Caller) (before now after : SourceAndPorts) (old : Scripting)
     did = did_still t.kept;
   }
 
-  no_memory : (IsIdle caller now after old ⊎ (IsLeft caller now after old IsFront HasAny ⊎ IsCutShort caller now after old))
+  no_memory : (IsIdle caller now after old ⊎ (IsLeft caller now after old IsFrontOfPost HasAny ⊎ IsCutShort caller now after old))
       → ScriptPromises caller before after outcome.NoMemory
   no_memory (inl t) = inl (lost t)
-  no_memory (inr (inl t)) = inr (inl (old.line, unanswered IsFront HasAny t))
+  no_memory (inr (inl t)) = inr (inl (old.line, unanswered IsFrontOfPost HasAny t))
   no_memory (inr (inr t)) = inr (inr (unwritten t))
 
   ends_by : (new : Scripting) (e : Stop) → IsScriptTurn caller now after old new (Err e)
-      → ScriptPromises caller before after (outcome_of e old.line)
+      → ScriptPromises caller before after (script_outcome e old.line)
   ends_by new stop.BadLine t = faulty t
   ends_by new stop.ReadFault t =
       (unread t.0, rose_since before.read_faults now.read_faults after.read_faults r.later.read t.1)
   ends_by new stop.WriteFault t =
       (unwritten t.0, rose_since before.ports.write_faults now.ports.write_faults after.ports.write_faults r.later.ports.write t.1)
   ends_by new stop.LinkFault t =
-      ((old.line, unanswered IsFront HasAny t.0), link_failed before.ports now.ports after.ports r.later.ports t.1)
+      ((old.line, unanswered IsFrontOfPost HasAny t.0), link_failed before.ports now.ports after.ports r.later.ports t.1)
   ends_by new stop.LinkEnded t = unanswered IsWholePost HasPart t
   ends_by new stop.BadReply t = unanswered IsWholePost HasNoReply t
   ends_by new stop.NoMemory t = no_memory t
 
-  pub ends_with : (new : Scripting) (e : Stop) (line : ℕ) (told : Outcome) → told ≡ outcome_of e line → line ≡ old.line
+  pub ends_with : (new : Scripting) (e : Stop) (line : ℕ) (told : Outcome) → told ≡ script_outcome e line → line ≡ old.line
       → IsScriptTurn caller now after old new (Err e) → ScriptPromises caller before after told
   ends_with new e line told is same t =
-      subst (λ (o : Outcome). ScriptPromises caller before after o) (sym (is ∙ ap (λ (n : ℕ). outcome_of e n) same)) (ends_by new e t)
+      subst (λ (o : Outcome). ScriptPromises caller before after o) (sym (is
+      ∙ ap (λ (n : ℕ). script_outcome e n) same)) (ends_by new e t)
 
 -- the next line begins later
 pub nearer : (caller : Caller) (now after : SourceAndPorts) (old new : Scripting) → TurnsOn caller now after old new
-    → longest_script + 1 - new.offset < longest_script + 1 - old.offset
+    → longest_client_script + 1 - new.offset < longest_client_script + 1 - old.offset
 nearer caller now after old new t =
     let a = t.takes.begins.ends in
     let b = t.offset in

@@ -9,12 +9,12 @@ use Rattle.ifmap_client.specs.declared.lines.Line.{Line}
 use Rattle.ifmap_client_script.specs.declared.exchanges.Caller.{Caller}
 use Rattle.ifmap_client_script.specs.declared.outcomes.Stop.{Stop}
 use Rattle.ifmap_client_script.specs.declared.outcomes.Stop.TheVariants as stop
-use Rattle.ifmap_client_script.specs.declared.scripts.Next.{Next}
-use Rattle.ifmap_client_script.specs.declared.scripts.Turn.{Turn}
-use Rattle.ifmap_client_script.specs.declared.scripts.Turn.TheVariants as turn
+use Rattle.ifmap_client_script.specs.declared.scripts.NextLine.{NextLine}
+use Rattle.ifmap_client_script.specs.declared.scripts.ScriptTurn.{ScriptTurn}
+use Rattle.ifmap_client_script.specs.declared.scripts.ScriptTurn.TheVariants as turn
 use Rattle.ifmap_client_script.specs.Deeds.{CanDo}
 use Rattle.ifmap_client_script.specs.Ends.{SourceAndPorts, Ports, source_and_ports}
-use Rattle.ifmap_client_script.specs.Exchanges.{HasAny, IsFront}
+use Rattle.ifmap_client_script.specs.Exchanges.{HasAny, IsFrontOfPost}
 use Rattle.ifmap_client_script.specs.Holding.{known_of}
 use Rattle.ifmap_client_script.specs.Pending.{Fetches, Pending}
 use Rattle.ifmap_client_script.specs.Turns.{Cut, DoesNext, IsNextLine, ReadsNext, Scripting, TakesLine, IsScriptTurn, Unanswered}
@@ -32,7 +32,7 @@ module _ (caller : Caller) (left left_new : Option (List ℕ)) (faults faults_ne
   abbrev to_ends : SourceAndPorts
   to_ends = source_and_ports left_new faults_new after
 
-  module _ (next : Next) (one : OneLine) (read : ReadsNext left left_new old.offset old.pending pending (Ok (Some next))) where
+  module _ (next : NextLine) (one : OneLine) (read : ReadsNext left left_new old.offset old.pending pending (Ok (Some next))) where
     is_next : IsNextLine old.offset pending.bytes next
     is_next = read.1
 
@@ -50,7 +50,7 @@ module _ (caller : Caller) (left left_new : Option (List ℕ)) (faults faults_ne
     size = let h = is_next.end.within in length-take-le next.place pending.bytes (omega arith)
 
     memory : ((after ≡ before)
-        ⊎ (Unanswered caller next.line before after (known_of old.client) IsFront HasAny
+        ⊎ (Unanswered caller next.line before after (known_of old.client) IsFrontOfPost HasAny
         ⊎ Cut caller next.line before after (known_of old.client)))
         → IsScriptTurn caller from_ends to_ends old new (Err stop.NoMemory)
     memory (inl same) =
@@ -58,7 +58,7 @@ module _ (caller : Caller) (left left_new : Option (List ℕ)) (faults faults_ne
     memory (inr (inl u)) = inr (inl (record { line = next.line; takes = takes; unanswered = u }))
     memory (inr (inr c)) = inr (inr (record { line = next.line; takes = takes; cut = c }))
 
-    pub turned : (r : Result Turn Stop) → DoesNext caller next before after (at_pending old pending) new r
+    pub turned : (r : Result ScriptTurn Stop) → DoesNext caller next before after (at_pending old pending) new r
         → IsScriptTurn caller from_ends to_ends old new r
     unfolding takes
     turned (Ok turn.Carried) d = record {

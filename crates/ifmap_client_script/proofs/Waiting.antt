@@ -3,10 +3,12 @@
 -- fetches one after the other are one; (3) one read appends what it gave, or tells the end; (4) reads until a line is
 -- there: the room for a line shrinks with each (`room_shrinks`), so they end; (5) a line, by what was looked at last,
 -- and no fault is told where none stands.
-use Rattle.std.proofs.Common.{◌≡◌, ◌≢◌, ◌⊎◌, inl, inr, refl, ap, ◌∙◌, sym, subst, ℕ, ◌+◌, ◌-◌, ◌<◌, ◌≤◌, Bool, true, false, List, [], ◌∷◌, ◌++◌, length, append_assoc, append-nil, length-append, arith}
+use Rattle.std.proofs.Common.{◌≡◌, ◌≢◌, ◌⊎◌, inl, inr, refl, ap, ◌∙◌, sym, subst, ℕ, ◌+◌, ◌-◌, ◌<◌, ◌≤◌, Bool, true, false, List, [], ◌∷◌, ◌++◌, length, append_assoc, append-nil, arith}
 use Rattle.std.specs.Prelude.{Option, Some, None, Result, Ok, Err, if◌then◌else◌}
-use Rattle.std.specs.Io.KnownBytes.{Consumes, IsAtEnd, Keeps}
+use Rattle.std.specs.Io.KnownBytes.{IsAtEnd}
 use Rattle.std.proofs.KnownBytes.{Consumes-nil, Consumes-trans}
+use Rattle.ifmap_input.specs.InputLaws.{takes_none}
+use Rattle.ifmap_input.specs.Inputs.{TakesFromSource}
 use Rattle.ifmap_client.specs.Lines.{line_limit}
 use Rattle.ifmap_client_script.specs.declared.outcomes.Stop.{Stop}
 use Rattle.ifmap_client_script.specs.declared.outcomes.Stop.TheVariants as stop
@@ -99,21 +101,17 @@ module _ (left_old left_mid left_new : Option (List ℕ)) (old mid new : Pending
 
 -- ---- one read
 
-pub keeps_consumes : (old new : Option (List ℕ)) → Keeps old new → Consumes old new []
-keeps_consumes None new k = tt
-keeps_consumes (Some xs) None k = absurd k
-keeps_consumes (Some xs) (Some ys) k = sym k
-
-module _ (left_old left_new : Option (List ℕ)) (old new : Pending) (open_yet : old.ended ≡ false) where
-  pub fills_end : (got : List ℕ) → HasNoNewline old.bytes → Consumes left_old left_new got → got ≡ [] → IsAtEnd left_new
-      → new ≡ record { bytes = with_last_newline old.bytes; ended = true } → Fills left_old left_new old new (Ok tt)
-  fills_end got plain consumed none end is = (
+module _ (left_old left_new : Option (List ℕ)) (old new : Pending) (bytes : List ℕ) (open_yet : old.ended ≡ false)
+    (takes : TakesFromSource left_old left_new old.bytes bytes) where
+  pub fills_end : HasNoNewline old.bytes → bytes ≡ old.bytes → IsAtEnd left_new
+      → new ≡ record { bytes = with_last_newline bytes; ended = true } → Fills left_old left_new old new (Ok tt)
+  fills_end plain same end is = (
     record {
       got = [];
-      consumed = subst (Consumes left_old left_new) none consumed;
+      consumed = takes_none left_old left_new old.bytes bytes takes same;
       idle = λ ended. not_both old.ended ended open_yet;
       grown = inr (
-        is ∙ ap (λ (b : List ℕ). record { bytes = with_last_newline b; ended = true }) (sym (append-nil old.bytes)),
+        is ∙ ap (λ (b : List ℕ). record { bytes = with_last_newline b; ended = true }) (same ∙ sym (append-nil old.bytes)),
         open_yet,
         end,
         subst HasNoNewline (sym (append-nil old.bytes)) plain,
@@ -122,20 +120,24 @@ module _ (left_old left_new : Option (List ℕ)) (old new : Pending) (open_yet :
     inl (ap (λ (p : Pending). p.ended) is),
   )
 
-  pub fills_more : (got : List ℕ) → Consumes left_old left_new got → 0 < length got → new ≡ with_bytes old got
+  pub fills_more : length old.bytes < length bytes → new ≡ record { bytes = bytes; ended = old.ended }
       → Fills left_old left_new old new (Ok tt)
-  fills_more got consumed some is = (
+  fills_more longer is = (
     record {
-      got = got;
-      consumed = consumed;
+      got = takes.got;
+      consumed = takes.consumed;
       idle = λ ended. not_both old.ended ended open_yet;
-      grown = inl is;
+      grown = inl (is ∙ ap (λ (b : List ℕ). record { bytes = b; ended = old.ended }) takes.grown);
     },
-    inr (subst (λ (p : Pending). length old.bytes < length p.bytes) (sym is) (longer old.bytes got some)),
+    inr (subst (λ (p : Pending). length old.bytes < length p.bytes) (sym is) longer),
   )
-    where
-      longer : (a b : List ℕ) → 0 < length b → length a < length (a ++ b)
-      longer a b some = let l = length-append a b in omega arith
+
+  pub fills_fault : bytes ≡ old.bytes → new ≡ record { bytes = bytes; ended = old.ended }
+      → Fills left_old left_new old new (Err stop.ReadFault)
+  fills_fault same is = (
+    takes_none left_old left_new old.bytes bytes takes same,
+    is ∙ ap (λ (b : List ℕ). record { bytes = b; ended = old.ended }) same,
+  )
 
 -- ---- taking until a line is there
 

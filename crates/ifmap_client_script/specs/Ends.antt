@@ -38,12 +38,12 @@ pub record IsLaterInRun (before after : SourceAndPorts) : Type 0 where
   pub ports : ArePortsLater before.ports after.ports
 
 -- a read of the script has failed
-abbrev pub ReadFailed : SourceAndPorts → SourceAndPorts → Type 0
-ReadFailed before after = Rose before.read_faults after.read_faults
+abbrev pub ScriptReadFailed : SourceAndPorts → SourceAndPorts → Type 0
+ScriptReadFailed before after = Rose before.read_faults after.read_faults
 
 -- a write of what is printed has failed
-abbrev pub WriteFailed : Ports → Ports → Type 0
-WriteFailed before after = Rose before.write_faults after.write_faults
+abbrev pub PrintFailed : Ports → Ports → Type 0
+PrintFailed before after = Rose before.write_faults after.write_faults
 
 -- a read or a write of a link has failed
 abbrev pub LinkFailed : Ports → Ports → Type 0

@@ -2,8 +2,8 @@
 use Rattle.std.specs.Prelude.{◌≡◌, ◌⊎◌, ◌≤◌, ℕ, Bool, false, List, [], ◌∷◌, ◌++◌, take, Option, Some, IfSome, Result, Ok, Err, if◌then◌else◌}
 use Rattle.std.specs.Io.KnownBytes.{Appends, Keeps, prepend_known}
 use Rattle.std.specs.List.{flat_map}
-use Rattle.ifmap_heads.specs.Answers.{ReadsAnswer, answered, ended, not_http, status}
-use Rattle.ifmap_heads.specs.Messages.{post_bytes}
+use Rattle.ifmap_http.specs.ifmap_heads.Answers.{ReadsAnswer, answered, ended, not_http, status}
+use Rattle.ifmap_http.specs.ifmap_heads.Messages.{post_bytes}
 use Rattle.ifmap_http.specs.Wires.{Wired}
 use Rattle.ifmap_io.specs.Causes.{Rose}
 use Rattle.ifmap_replies.specs.declared.replies.Reply.{Reply}
@@ -11,7 +11,7 @@ use Rattle.ifmap_replies.specs.Means.{MeansReply}
 use Rattle.ifmap_requests.specs.declared.requests.Request.{Request}
 use Rattle.ifmap_writing.specs.RequestElements.{request_bytes}
 use Rattle.ifmap_client_script.specs.declared.exchanges.Caller.{Caller}
-use Rattle.ifmap_client_script.specs.declared.exchanges.Told.{Told}
+use Rattle.ifmap_client_script.specs.declared.exchanges.ReadReply.{ReadReply}
 use Rattle.ifmap_client_script.specs.declared.outcomes.Stop.{Stop}
 use Rattle.ifmap_client_script.specs.declared.outcomes.Stop.TheVariants as stop
 use Rattle.ifmap_client_script.specs.Deeds.{Asked, Deed, is_poll}
@@ -95,24 +95,24 @@ abbrev pub WireFailed : Wiring → Wiring → Type 0
 WireFailed before after = Rose before.read_faults after.read_faults ⊎ Rose before.write_faults after.write_faults
 
 -- a front of a post
-abbrev pub IsFront : List ℕ → List ℕ → Type 0
-IsFront post front = (n : ℕ) × (front ≡ take n post)
+abbrev pub IsFrontOfPost : List ℕ → List ℕ → Type 0
+IsFrontOfPost post front = (n : ℕ) × (front ≡ take n post)
 
 -- what was asked and told
-abbrev pub asked_of : Request → Told → Asked
+abbrev pub asked_of : Request → ReadReply → Asked
 asked_of request told = record { request = request; body = told.body; answer = told.reply }
 
 -- what a wire does for one request
-abbrev pub AsksOnWire : Caller → Request → Wiring → Wiring → Result Told Stop → Type 0
+abbrev pub AsksOnWire : Caller → Request → Wiring → Wiring → Result ReadReply Stop → Type 0
 AsksOnWire caller request before after (Ok told) = HasPostedAndHeard caller (asked_of request told ∷ []) before after × MeansReply
     told.body told.reply
 AsksOnWire caller request before after (Err stop.LinkFault) =
-    ((front : List ℕ) × IsFront (request_post caller request) front × Breaks caller [] front HasAny before after)
+    ((front : List ℕ) × IsFrontOfPost (request_post caller request) front × Breaks caller [] front HasAny before after)
     × WireFailed before after
 AsksOnWire caller request before after (Err stop.LinkEnded) = Breaks caller [] (request_post caller request) HasPart before after
 AsksOnWire caller request before after (Err stop.BadReply) = Breaks caller [] (request_post caller request) HasNoReply before after
 AsksOnWire caller request before after (Err stop.NoMemory) =
-    (front : List ℕ) × IsFront (request_post caller request) front × Breaks caller [] front HasAny before after
+    (front : List ℕ) × IsFrontOfPost (request_post caller request) front × Breaks caller [] front HasAny before after
 AsksOnWire caller request before after (Err stop.BadLine) = ⊥
 AsksOnWire caller request before after (Err stop.ReadFault) = ⊥
 AsksOnWire caller request before after (Err stop.WriteFault) = ⊥
@@ -169,11 +169,11 @@ Reads body (Err stop.LinkFault) = ⊥
 Reads body (Err stop.LinkEnded) = ⊥
 
 -- a body with the reply that it means
-abbrev pub BodyTellsReply : List ℕ → Result Told Stop → Type 0
+abbrev pub BodyTellsReply : List ℕ → Result ReadReply Stop → Type 0
 BodyTellsReply body (Ok told) = (told.body ≡ body) × MeansReply told.body told.reply
 BodyTellsReply body (Err e) = Reads body (Err e)
 
 -- an answer was taken
-abbrev pub Hears : Wiring → Wiring → Result Told Stop → Type 0
+abbrev pub Hears : Wiring → Wiring → Result ReadReply Stop → Type 0
 Hears before after (Ok told) = Receives before after (Ok told.body) × MeansReply told.body told.reply
 Hears before after (Err e) = Receives before after (Err e)

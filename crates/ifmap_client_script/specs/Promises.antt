@@ -8,8 +8,8 @@ use Rattle.ifmap_client_script.specs.declared.exchanges.Caller.{Caller}
 use Rattle.ifmap_client_script.specs.declared.outcomes.Outcome.{Outcome}
 use Rattle.ifmap_client_script.specs.declared.outcomes.Outcome.TheVariants as outcome
 use Rattle.ifmap_client_script.specs.Deeds.{Deed, Known, after_deeds, is_poll, nothing_known, request_in}
-use Rattle.ifmap_client_script.specs.Ends.{SourceAndPorts, IsLaterInRun, LinkFailed, Ports, ReadFailed, WriteFailed}
-use Rattle.ifmap_client_script.specs.Exchanges.{Breaks, HasPostedAndHeard, HasAny, HasNoReply, HasPart, IsFront, over_first, over_second, request_post}
+use Rattle.ifmap_client_script.specs.Ends.{SourceAndPorts, IsLaterInRun, LinkFailed, Ports, ScriptReadFailed, PrintFailed}
+use Rattle.ifmap_client_script.specs.Exchanges.{Breaks, HasPostedAndHeard, HasAny, HasNoReply, HasPart, IsFrontOfPost, over_first, over_second, request_post}
 use Rattle.ifmap_client_script.specs.Printing.{deed_text, deeds_text}
 use Rattle.ifmap_client_script.specs.Scripts.{AwaitsLine, BeginsLine, Carries, IsBadLine, IsTakenScript}
 
@@ -128,7 +128,7 @@ module _ (caller : Caller) (before after : SourceAndPorts) where
 
   -- a request or its answer was cut
   abbrev pub IsUnasked : Type 0
-  IsUnasked = (line : ℕ) × IsUnanswered IsFront HasAny line
+  IsUnasked = (line : ℕ) × IsUnanswered IsFrontOfPost HasAny line
 
   -- the lines of a front of what was taken were carried out
   pub record IsLost : Type 0 where
@@ -146,8 +146,8 @@ module _ (caller : Caller) (before after : SourceAndPorts) where
 abbrev pub ScriptPromises : Caller → (before after : SourceAndPorts) → Outcome → Type 0
 ScriptPromises caller before after outcome.Done = IsDone caller before after
 ScriptPromises caller before after (outcome.BadLine line) = IsFaulty caller before after line
-ScriptPromises caller before after outcome.ReadFault = IsUnread caller before after × ReadFailed before after
-ScriptPromises caller before after outcome.WriteFault = IsUnwritten caller before after × WriteFailed before.ports after.ports
+ScriptPromises caller before after outcome.ReadFault = IsUnread caller before after × ScriptReadFailed before after
+ScriptPromises caller before after outcome.WriteFault = IsUnwritten caller before after × PrintFailed before.ports after.ports
 ScriptPromises caller before after outcome.LinkFault = IsUnasked caller before after × LinkFailed before.ports after.ports
 ScriptPromises caller before after (outcome.LinkEnded line) = IsUnanswered caller before after IsWholePost HasPart line
 ScriptPromises caller before after (outcome.BadReply line) = IsUnanswered caller before after IsWholePost HasNoReply line

@@ -8,14 +8,14 @@ use Rattle.ifmap_client_script.specs.declared.outcomes.Stop.{Stop}
 use Rattle.ifmap_client_script.specs.declared.outcomes.Stop.TheVariants as stop
 
 -- how a script ends that stops at that line
-abbrev pub outcome_of : Stop → ℕ → Outcome
-outcome_of stop.BadLine line = outcome.BadLine line
-outcome_of stop.ReadFault line = outcome.ReadFault
-outcome_of stop.WriteFault line = outcome.WriteFault
-outcome_of stop.LinkFault line = outcome.LinkFault
-outcome_of stop.LinkEnded line = outcome.LinkEnded line
-outcome_of stop.BadReply line = outcome.BadReply line
-outcome_of stop.NoMemory line = outcome.NoMemory
+abbrev pub script_outcome : Stop → ℕ → Outcome
+script_outcome stop.BadLine line = outcome.BadLine line
+script_outcome stop.ReadFault line = outcome.ReadFault
+script_outcome stop.WriteFault line = outcome.WriteFault
+script_outcome stop.LinkFault line = outcome.LinkFault
+script_outcome stop.LinkEnded line = outcome.LinkEnded line
+script_outcome stop.BadReply line = outcome.BadReply line
+script_outcome stop.NoMemory line = outcome.NoMemory
 
 -- what is named, or that it names nothing
 abbrev pub IsNamedOrBadLine : {X : Type 0} → Option X → Result X Stop → Type 0

@@ -7,12 +7,12 @@ use Rattle.ifmap_requests.specs.declared.requests.Request.{Request}
 use Rattle.ifmap_client_script.specs.declared.exchanges.Caller.{Caller}
 use Rattle.ifmap_client_script.specs.declared.outcomes.Stop.{Stop}
 use Rattle.ifmap_client_script.specs.declared.outcomes.Stop.TheVariants as stop
-use Rattle.ifmap_client_script.specs.declared.scripts.Next.{Next}
-use Rattle.ifmap_client_script.specs.declared.scripts.Turn.{Turn}
-use Rattle.ifmap_client_script.specs.declared.scripts.Turn.TheVariants as turn
+use Rattle.ifmap_client_script.specs.declared.scripts.NextLine.{NextLine}
+use Rattle.ifmap_client_script.specs.declared.scripts.ScriptTurn.{ScriptTurn}
+use Rattle.ifmap_client_script.specs.declared.scripts.ScriptTurn.TheVariants as turn
 use Rattle.ifmap_client_script.specs.Deeds.{CanDo, Deed, Does, Known, after_deed, nothing_known, request_in}
-use Rattle.ifmap_client_script.specs.Ends.{SourceAndPorts, LinkFailed, Ports, ReadFailed, WriteFailed}
-use Rattle.ifmap_client_script.specs.Exchanges.{HasAny, HasNoReply, HasPart, IsFront}
+use Rattle.ifmap_client_script.specs.Ends.{SourceAndPorts, LinkFailed, Ports, ScriptReadFailed, PrintFailed}
+use Rattle.ifmap_client_script.specs.Exchanges.{HasAny, HasNoReply, HasPart, IsFrontOfPost}
 use Rattle.ifmap_client_script.specs.Holding.{Holding, known_of}
 use Rattle.ifmap_client_script.specs.Pending.{Fetches, IsLineEnd, Loses, Pending, nothing_taken}
 use Rattle.ifmap_client_script.specs.Promises.{Cutting, Did, IsWholePost, Posted, Wrote}
@@ -47,13 +47,13 @@ abbrev pub CarriesOut : Caller → Line → (before after : Ports) → (old new 
 CarriesOut caller line before after old new (Ok _) = Carried caller line before after old new
 CarriesOut caller line before after old new (Err stop.BadLine) = (CanDo old line → ⊥) × (after ≡ before)
 CarriesOut caller line before after old new (Err stop.ReadFault) = ⊥
-CarriesOut caller line before after old new (Err stop.WriteFault) = Cut caller line before after old × WriteFailed before after
+CarriesOut caller line before after old new (Err stop.WriteFault) = Cut caller line before after old × PrintFailed before after
 CarriesOut caller line before after old new (Err stop.LinkFault) =
-    Unanswered caller line before after old IsFront HasAny × LinkFailed before after
+    Unanswered caller line before after old IsFrontOfPost HasAny × LinkFailed before after
 CarriesOut caller line before after old new (Err stop.LinkEnded) = Unanswered caller line before after old IsWholePost HasPart
 CarriesOut caller line before after old new (Err stop.BadReply) = Unanswered caller line before after old IsWholePost HasNoReply
 CarriesOut caller line before after old new (Err stop.NoMemory) =
-    (after ≡ before) ⊎ (Unanswered caller line before after old IsFront HasAny ⊎ Cut caller line before after old)
+    (after ≡ before) ⊎ (Unanswered caller line before after old IsFrontOfPost HasAny ⊎ Cut caller line before after old)
 
 -- ---- a turn
 
@@ -72,13 +72,13 @@ pub record IsBeginning (script : Scripting) : Type 0 where
   pub line : script.line ≡ 1
 
 -- the first line of these bytes, of which the first stands at an offset
-pub record IsNextLine (offset : ℕ) (bytes : List ℕ) (next : Next) : Type 0 where
+pub record IsNextLine (offset : ℕ) (bytes : List ℕ) (next : NextLine) : Type 0 where
   pub end : IsLineEnd bytes next.place
   pub within : IsWithinLineLimits offset next.place
   pub means : IsLine (take next.place bytes) next.line
 
 -- what the line of bytes is that ends at this place
-abbrev pub ReadsAt : List ℕ → ℕ → Result (Option Next) Stop → Type 0
+abbrev pub ReadsAt : List ℕ → ℕ → Result (Option NextLine) Stop → Type 0
 ReadsAt bytes place (Ok (Some next)) = (next.place ≡ place) × IsLine (take place bytes) next.line
 ReadsAt bytes place (Ok None) = ⊥
 ReadsAt bytes place (Err stop.BadLine) = (line : Line) → IsLine (take place bytes) line → ⊥
@@ -90,7 +90,7 @@ ReadsAt bytes place (Err stop.LinkEnded) = ⊥
 ReadsAt bytes place (Err stop.BadReply) = ⊥
 
 -- what reading the next line gives
-abbrev pub ReadsNext : (left_old left_new : Option (List ℕ)) (offset : ℕ) (old new : Pending) → Result (Option Next) Stop → Type 0
+abbrev pub ReadsNext : (left_old left_new : Option (List ℕ)) (offset : ℕ) (old new : Pending) → Result (Option NextLine) Stop → Type 0
 ReadsNext left_old left_new offset old new (Ok (Some next)) = Fetches left_old left_new old new × IsNextLine offset new.bytes next
 ReadsNext left_old left_new offset old new (Ok None) =
     Fetches left_old left_new old new × (new ≡ record { bytes = []; ended = true })
@@ -104,13 +104,13 @@ ReadsNext left_old left_new offset old new (Err stop.LinkEnded) = ⊥
 ReadsNext left_old left_new offset old new (Err stop.BadReply) = ⊥
 
 -- the script goes on after the line
-pub record GoesPastLine (next : Next) (old new : Scripting) : Type 0 where
+pub record GoesPastLine (next : NextLine) (old new : Scripting) : Type 0 where
   pub pending : new.pending ≡ record { bytes = drop (next.place + 1) old.pending.bytes; ended = old.pending.ended }
   pub offset : new.offset ≡ old.offset + next.place + 1
   pub line : new.line ≡ old.line + 1
 
 -- what was done for the next line
-abbrev pub DoesNext : Caller → Next → (before after : Ports) → (old new : Scripting) → Result Turn Stop → Type 0
+abbrev pub DoesNext : Caller → NextLine → (before after : Ports) → (old new : Scripting) → Result ScriptTurn Stop → Type 0
 DoesNext caller next before after old new (Ok turn.Carried) =
     Carried caller next.line before after (known_of old.client) (known_of new.client) × GoesPastLine next old new
 DoesNext caller next before after old new (Ok turn.Ended) = ⊥
@@ -174,16 +174,16 @@ module _ (caller : Caller) (before after : SourceAndPorts) (old : Scripting) whe
     pub kept : after.ports ≡ before.ports
 
 -- what a turn did
-abbrev pub IsScriptTurn : Caller → (before after : SourceAndPorts) → (old new : Scripting) → Result Turn Stop → Type 0
+abbrev pub IsScriptTurn : Caller → (before after : SourceAndPorts) → (old new : Scripting) → Result ScriptTurn Stop → Type 0
 IsScriptTurn caller before after old new (Ok turn.Carried) = TurnsOn caller before after old new
 IsScriptTurn caller before after old new (Ok turn.Ended) = IsOver caller before after old
 IsScriptTurn caller before after old new (Err stop.BadLine) = IsAtFault caller before after old
-IsScriptTurn caller before after old new (Err stop.ReadFault) = IsDue caller before after old × ReadFailed before after
+IsScriptTurn caller before after old new (Err stop.ReadFault) = IsDue caller before after old × ScriptReadFailed before after
 IsScriptTurn caller before after old new (Err stop.WriteFault) =
-    IsCutShort caller before after old × WriteFailed before.ports after.ports
+    IsCutShort caller before after old × PrintFailed before.ports after.ports
 IsScriptTurn caller before after old new (Err stop.LinkFault) =
-    IsLeft caller before after old IsFront HasAny × LinkFailed before.ports after.ports
+    IsLeft caller before after old IsFrontOfPost HasAny × LinkFailed before.ports after.ports
 IsScriptTurn caller before after old new (Err stop.LinkEnded) = IsLeft caller before after old IsWholePost HasPart
 IsScriptTurn caller before after old new (Err stop.BadReply) = IsLeft caller before after old IsWholePost HasNoReply
 IsScriptTurn caller before after old new (Err stop.NoMemory) =
-    IsIdle caller before after old ⊎ (IsLeft caller before after old IsFront HasAny ⊎ IsCutShort caller before after old)
+    IsIdle caller before after old ⊎ (IsLeft caller before after old IsFrontOfPost HasAny ⊎ IsCutShort caller before after old)

@@ -1,7 +1,7 @@
 //! What a client knows, and the lines that it carries out.
 ghost use Rattle.std.specs.Prelude.{◌≡◌, IsTrue, OnOk};
-ghost use Rattle.ifmap_folds.specs.Folds.{fold_items};
-ghost use Rattle.ifmap_heads.specs.Messages.{is_visible};
+ghost use Rattle.ifmap_client.specs.ifmap_folds.Folds.{fold_items};
+ghost use Rattle.ifmap_http.specs.ifmap_heads.Messages.{is_visible};
 ghost use Rattle.ifmap_client.specs.Keeping.{sets_of};
 ghost use Rattle.ifmap_client_script.specs.Deeds.{after_reply, nothing_known};
 ghost use Rattle.ifmap_client_script.specs.Ends.{ArePortsLater};
@@ -10,7 +10,7 @@ ghost use Rattle.ifmap_client_script.specs.Outlets.{AreSame, AreUnspent, AsksOve
 ghost use Rattle.ifmap_client_script.specs.Printing.{body_text, set_text};
 ghost use Rattle.ifmap_client_script.specs.Turns.{CarriesOut};
 
-use crate::exchanges::{Caller, Told};
+use crate::exchanges::{Caller, ReadReply};
 use crate::outcomes::Stop;
 use crate::outlets::Outlets;
 use crate::printing::set_text;
@@ -97,7 +97,12 @@ impl Client {
     }
 
     // Takes what was answered, and writes it.
-    fn tell<O: Outlets>(&mut self, alloc: Global, told: Told, outlets: &mut O) -> Result<(), Stop>
+    fn tell<O: Outlets>(
+        &mut self,
+        alloc: Global,
+        told: ReadReply,
+        outlets: &mut O,
+    ) -> Result<(), Stop>
         ensures prints { Prints (body_text told.body) (O.seen outlets.old) (O.seen outlets.new)
             result }
         ensures known { OnOk result (known_of self.new
@@ -105,7 +110,7 @@ impl Client {
         ensures later { ArePortsLater (O.seen outlets.old) (O.seen outlets.new) }
         ensures same { AreSame (O.loans outlets.old) (O.loans outlets.new) }
     {
-        let Told { body, reply } = told;
+        let ReadReply { body, reply } = told;
         if self.take(alloc, reply).is_err() {
             return Err(Stop::NoMemory);
         }
@@ -132,7 +137,7 @@ impl Client {
         caller: &Caller,
         request: Request,
         outlets: &mut O,
-    ) -> Result<Told, Stop>
+    ) -> Result<ReadReply, Stop>
         requires unspent { AreUnspent (O.seen outlets.old) }
         requires visible { IsTrue (is_visible caller.now.host) }
         ensures asks { AsksOver caller.now request (known_of self.now) (O.seen outlets.old)

@@ -1,6 +1,6 @@
 //! Requests over a wire, each answered before the next is sent.
 ghost use Rattle.std.specs.Prelude.{IsFalse, IsTrue};
-ghost use Rattle.ifmap_heads.specs.Messages.{is_visible};
+ghost use Rattle.ifmap_http.specs.ifmap_heads.Messages.{is_visible};
 ghost use Rattle.ifmap_client_script.specs.Ends.{IsLaterWire};
 ghost use Rattle.ifmap_client_script.specs.Exchanges.{AsksOnWire, Hears, Posts, Reads, Receives, BodyTellsReply, Unread, Unwritten, request_post, wiring};
 
@@ -23,7 +23,7 @@ pub struct Caller {
 
 /// A body that came, and the reply that it means.
 #[derive(Drop)]
-pub struct Told {
+pub struct ReadReply {
     pub body: Many<u8>,
     pub reply: Reply,
 }
@@ -34,7 +34,7 @@ pub fn ask<L: Link>(
     caller: &Caller,
     request: &Request,
     wire: &mut Wire<L>,
-) -> Result<Told, Stop>
+) -> Result<ReadReply, Stop>
     requires unspent { IsFalse wire.old.spent }
     requires visible { IsTrue (is_visible caller.now.host) }
     ensures asks { AsksOnWire caller.now request.now
@@ -51,7 +51,7 @@ pub fn ask<L: Link>(
 }
 
 // Takes an answer.
-fn receive<L: Link>(alloc: Global, wire: &mut Wire<L>) -> Result<Told, Stop>
+fn receive<L: Link>(alloc: Global, wire: &mut Wire<L>) -> Result<ReadReply, Stop>
     requires { IsFalse wire.old.spent }
     ensures hears { Hears
         (wiring L.left L.held L.Source.faults L.Sink.faults wire.old)
@@ -67,11 +67,11 @@ fn receive<L: Link>(alloc: Global, wire: &mut Wire<L>) -> Result<Told, Stop>
 }
 
 // A body with the reply that it means.
-fn told_by(alloc: Global, body: Many<u8>) -> Result<Told, Stop>
+fn told_by(alloc: Global, body: Many<u8>) -> Result<ReadReply, Stop>
     ensures { BodyTellsReply body result }
 {
     match reply_in(alloc, &body) {
-        Ok(reply) => Ok(Told { body, reply }),
+        Ok(reply) => Ok(ReadReply { body, reply }),
         Err(stop) => Err(stop),
     }
 }

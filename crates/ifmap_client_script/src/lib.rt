@@ -3,7 +3,7 @@
 
 mod clients;
 mod exchanges;
-mod inputs;
+mod lines;
 pub mod outcomes;
 mod outlets;
 mod printing;

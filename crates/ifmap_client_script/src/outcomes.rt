@@ -1,6 +1,6 @@
 //! How a client's script ends.
 ghost use Rattle.std.specs.Prelude.{◌≡◌};
-ghost use Rattle.ifmap_client_script.specs.Stops.{outcome_of};
+ghost use Rattle.ifmap_client_script.specs.Stops.{script_outcome};
 
 use std::alloc::AllocError;
 
@@ -52,7 +52,7 @@ impl From<AllocError> for Stop {
 
 // How a script ends that stops at that line.
 pub(crate) fn outcome_of(stop: Stop, line: u64) -> Outcome
-    ensures { result ≡ outcome_of stop line }
+    ensures { result ≡ script_outcome stop line }
 {
     match stop {
         Stop::BadLine => Outcome::BadLine { line },

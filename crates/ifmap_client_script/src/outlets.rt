@@ -1,12 +1,12 @@
 //! Where a script prints, and over which wires it asks.
 ghost use Rattle.std.specs.Prelude.{IsTrue};
-ghost use Rattle.ifmap_heads.specs.Messages.{is_visible};
+ghost use Rattle.ifmap_http.specs.ifmap_heads.Messages.{is_visible};
 ghost use Rattle.ifmap_client_script.specs.Ends.{ArePortsLater, Ports, ports};
 ghost use Rattle.ifmap_client_script.specs.Exchanges.{wiring};
 ghost use Rattle.ifmap_client_script.specs.Outlets.{AreSame, AreUnspent, IsAsked, Loans, Prints};
 ghost use Rattle.ifmap_client_script.specs.Printing.{body_text};
 
-use crate::exchanges::{Caller, Told, ask};
+use crate::exchanges::{Caller, ReadReply, ask};
 use crate::outcomes::Stop;
 use crate::requests::is_poll;
 use crate::sending::{send, send_body};
@@ -25,7 +25,7 @@ pub trait Outlets {
     ghost loans: { Self → Loans };
 
     /// Sends a request over its wire, and takes the answer to it.
-    fn ask(&mut self, alloc: Global, caller: &Caller, sent: &Request) -> Result<Told, Stop>
+    fn ask(&mut self, alloc: Global, caller: &Caller, sent: &Request) -> Result<ReadReply, Stop>
         requires unspent { AreUnspent (seen self.old) }
         requires visible { IsTrue (is_visible caller.now.host) }
         ensures asks { IsAsked caller.now sent.now (seen self.old) (seen self.new) result }
@@ -65,7 +65,7 @@ impl<'a, 'b, 'c, K: Sink, A: Link, B: Link> Outlets for SinkAndWires<'a, 'b, 'c,
     } };
 
     #[tactic(auto, using(crate::proofs::Carrying::by_second, crate::proofs::Carrying::by_first))]
-    fn ask(&mut self, alloc: Global, caller: &Caller, sent: &Request) -> Result<Told, Stop> {
+    fn ask(&mut self, alloc: Global, caller: &Caller, sent: &Request) -> Result<ReadReply, Stop> {
         if is_poll(sent) {
             ask(alloc, caller, sent, self.second)
         } else {

@@ -2,7 +2,8 @@
 ghost use Rattle.std.specs.Prelude.{◌≡◌, ◌++◌, ◌∷◌, [], map, option_copied, IfOk, OnOk};
 ghost use Rattle.ifmap_ident.specs.Identifiers.{identifier_element};
 ghost use Rattle.ifmap_ident.specs.Items.{identifiers_of};
-ghost use Rattle.ifmap_replies.specs.Results.{as_children, run_element};
+ghost use Rattle.ifmap_elem.specs.Building.{as_children};
+ghost use Rattle.ifmap_replies.specs.Results.{run_element};
 ghost use Rattle.ifmap_replies.specs.Runs.{run_on};
 ghost use Rattle.ifmap_client_script.specs.Printing.{entry_line, entries_text, set_text};
 

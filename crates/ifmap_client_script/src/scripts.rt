@@ -1,8 +1,8 @@
 //! Scripts of a client, line by line.
-ghost use Rattle.std.specs.Prelude.{◌≡◌, ◌≤◌, ◌<◌, ◌+◌, length, Err, IfOk, OnErr, IsFalse, IsTrue};
-ghost use Rattle.ifmap_heads.specs.Messages.{is_visible};
+ghost use Rattle.std.specs.Prelude.{◌≡◌, ◌≤◌, ◌<◌, ◌+◌, length, Err, OnErr, IsFalse, IsTrue};
+ghost use Rattle.ifmap_http.specs.ifmap_heads.Messages.{is_visible};
 ghost use Rattle.ifmap_io.specs.Causes.{Rose};
-ghost use Rattle.ifmap_client_script.specs.Scripts.{longest_script};
+ghost use Rattle.ifmap_client_script.specs.Scripts.{longest_client_script};
 ghost use Rattle.ifmap_client_script.specs.Ends.{ArePortsLater, IsLaterInRun, source_and_ports, ports};
 ghost use Rattle.ifmap_client_script.specs.Exchanges.{wiring};
 ghost use Rattle.ifmap_client_script.specs.Outlets.{AreSame, AreUnspent};
@@ -11,7 +11,7 @@ ghost use Rattle.ifmap_client_script.specs.Turns.{DoesNext, IsBeginning, IsNextL
 
 use crate::clients::Client;
 use crate::exchanges::Caller;
-use crate::inputs::Input;
+use crate::lines::Lines;
 use crate::outcomes::{Outcome, Stop, outcome_of};
 use crate::outlets::{Outlets, SinkAndWires};
 use ifmap_client::laws::lines_mean_one_thing;
@@ -20,12 +20,12 @@ use ifmap_elem::{Copied, Text};
 use ifmap_http::Wire;
 use ifmap_io::{Link, Sink, Source};
 use ifmap_meta::ClientName;
-use std::alloc::{AllocError as NoMemory, Global};
+use std::alloc::Global;
 use std::marker::Model;
 
 /// What a turn did.
 #[derive(Clone, Copy, Debug, PartialEq, Eq)]
-pub enum Turn {
+pub enum ScriptTurn {
     /// A line was carried out.
     Carried,
     /// There is no further line: the source is at its end.
@@ -37,7 +37,7 @@ pub enum Turn {
 #[derive(Drop)]
 pub struct Script {
     client: Client,
-    input: Input,
+    lines: Lines,
     offset: u64,
     line: u64,
 }
@@ -73,9 +73,7 @@ pub fn run_script<S: Source, K: Sink, A: Link, B: Link>(
     let Ok(host) = host.copy(alloc) else {
         return Outcome::NoMemory;
     };
-    let Ok(mut script) = Script::new(alloc) else {
-        return Outcome::NoMemory;
-    };
+    let mut script = Script::new(alloc);
     let caller = Caller { client, host };
     let mut outlets = SinkAndWires {
         sink,
@@ -89,7 +87,7 @@ impl Model for Script {
     ghost use Rattle.std.specs.Prelude.{◌≤◌, ◌+◌};
     ghost use Rattle.std.specs.Coded.{codes};
     ghost use Rattle.ifmap_search.specs.contracts.results.Entry as the_entry;
-    ghost use Rattle.ifmap_client_script.specs.Scripts.{longest_script};
+    ghost use Rattle.ifmap_client_script.specs.Scripts.{longest_client_script};
     ghost use Rattle.ifmap_client_script.specs.Turns.{Scripting};
 
     ghost Value = { Scripting };
@@ -98,26 +96,26 @@ impl Model for Script {
 
     ghost view = { λ script. record {
       client = script.client;
-      pending = script.input;
+      pending = script.lines;
       offset = script.offset;
       line = script.line;
     } };
 
-    ghost invariant = { λ script. (script.offset ≤ longest_script + 1)
+    ghost invariant = { λ script. (script.offset ≤ longest_client_script + 1)
         × (script.line ≤ script.offset + 1) };
 }
 
 impl Script {
     /// Nothing taken yet.
-    pub fn new(alloc: Global) -> Result<Script, NoMemory>
-        ensures { IfOk result (λ script. IsBeginning script) }
+    pub fn new(alloc: Global) -> Script
+        ensures { IsBeginning result }
     {
-        Ok(Script {
+        Script {
             client: Client::new(alloc),
-            input: Input::new(alloc)?,
+            lines: Lines::new(alloc),
             offset: 0,
             line: 1,
-        })
+        }
     }
 
     /// Carries out lines until the script ends.
@@ -139,8 +137,8 @@ impl Script {
     {
         'lines: loop {
             match self.turn(alloc, caller, source, outlets) {
-                Ok(Turn::Carried) => {}
-                Ok(Turn::Ended) => return Outcome::Done,
+                Ok(ScriptTurn::Carried) => {}
+                Ok(ScriptTurn::Ended) => return Outcome::Done,
                 Err(stop) => return outcome_of(stop, self.line),
             }
         }
@@ -153,7 +151,7 @@ impl Script {
         caller: &Caller,
         source: &mut S,
         outlets: &mut O,
-    ) -> Result<Turn, Stop>
+    ) -> Result<ScriptTurn, Stop>
         requires visible { IsTrue (is_visible caller.now.host) }
         requires unspent { AreUnspent (O.seen outlets.old) }
         ensures line { OnErr result (self.new.line ≡ self.old.line) }
@@ -167,9 +165,9 @@ impl Script {
         ensures same { AreSame (O.loans outlets.old) (O.loans outlets.new) }
     {
         lines_mean_one_thing();
-        match next_line(alloc, &mut self.input, source, self.offset) {
+        match next_line(alloc, &mut self.lines, source, self.offset) {
             Ok(Some(next)) => self.do_next(alloc, caller, next, outlets),
-            Ok(None) => Ok(Turn::Ended),
+            Ok(None) => Ok(ScriptTurn::Ended),
             Err(stop) => Err(stop),
         }
     }
@@ -179,9 +177,9 @@ impl Script {
         &mut self,
         alloc: Global,
         caller: &Caller,
-        next: Next,
+        next: NextLine,
         outlets: &mut O,
-    ) -> Result<Turn, Stop>
+    ) -> Result<ScriptTurn, Stop>
         requires visible { IsTrue (is_visible caller.now.host) }
         requires unspent { AreUnspent (O.seen outlets.old) }
         requires line { IsNextLine self.old.offset self.old.pending.bytes next }
@@ -190,13 +188,13 @@ impl Script {
         ensures later { ArePortsLater (O.seen outlets.old) (O.seen outlets.new) }
         ensures same { AreSame (O.loans outlets.old) (O.loans outlets.new) }
     {
-        let Next { place, line } = next;
+        let NextLine { place, line } = next;
         match self.client.do_line(alloc, caller, line, outlets) {
             Ok(()) => {
-                self.input.advance(place + 1);
+                self.lines.advance(place + 1);
                 self.offset += place as u64 + 1;
                 self.line += 1;
-                Ok(Turn::Carried)
+                Ok(ScriptTurn::Carried)
             }
             Err(stop) => Err(stop),
         }
@@ -205,7 +203,7 @@ impl Script {
 
 // A line at the front of what is pending: where its newline stands, and what it means.
 #[derive(Drop)]
-pub(crate) struct Next {
+pub(crate) struct NextLine {
     pub(crate) place: usize,
     pub(crate) line: Line,
 }
@@ -214,30 +212,30 @@ pub(crate) struct Next {
 #[tactic(auto, using(crate::proofs::Beginnings::reads_line, crate::proofs::Beginnings::reads_err, crate::proofs::Beginnings::reads_no_fault))]
 fn next_line<S: Source>(
     alloc: Global,
-    input: &mut Input,
+    lines: &mut Lines,
     source: &mut S,
     offset: u64,
-) -> Result<Option<Next>, Stop>
-    requires { offset ≤ longest_script + 1 }
-    ensures reads { ReadsNext (S.left source.old) (S.left source.new) offset input.old input.new
+) -> Result<Option<NextLine>, Stop>
+    requires { offset ≤ longest_client_script + 1 }
+    ensures reads { ReadsNext (S.left source.old) (S.left source.new) offset lines.old lines.new
         result }
     ensures fault { result ≡ Err Stop.ReadFault → Rose (S.faults source.old) (S.faults source.new) }
     ensures later { S.faults source.old ≤ S.faults source.new }
 {
-    match input.await_line(source, offset) {
-        Ok(Some(place)) => next_at(alloc, input.pending(), place),
+    match lines.await_line(source, offset) {
+        Ok(Some(place)) => next_at(alloc, lines.pending_bytes(), place),
         Ok(None) => Ok(None),
         Err(stop) => Err(stop),
     }
 }
 
 // The line whose newline stands at that place.
-fn next_at(alloc: Global, pending: &[u8], place: usize) -> Result<Option<Next>, Stop>
+fn next_at(alloc: Global, pending: &[u8], place: usize) -> Result<Option<NextLine>, Stop>
     requires { place < length pending.now }
     ensures { ReadsAt pending.now place result }
 {
     match line_of(alloc, &pending[..place]) {
-        Ok(Some(line)) => Ok(Some(Next { place, line })),
+        Ok(Some(line)) => Ok(Some(NextLine { place, line })),
         Ok(None) => Err(Stop::BadLine),
         Err(_) => Err(Stop::NoMemory),
     }

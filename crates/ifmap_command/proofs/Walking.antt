@@ -1,6 +1,7 @@
 -- What a parse of the command comes to, where no word is an option. A walk over words stops at the name of a subcommand, which has
--- the rest of them: `stopped_walk` and `stopped_faults`, by induction over the rest. `called` joins the two for a name, `unnamed` says
--- that another first word fails, and so does no word at all. `found_words` is what an `Ok` shows, and `takes_words` what an `Err` does.
+-- the rest of them: `stopped_walk` and `stopped_faults`, by induction over the rest. `replay_faults` and its like join the two for a name,
+-- `unnamed` says that another first word fails, and so does no word at all. `found_words` is what an `Ok` shows, and `failed_words` what an
+-- `Err` does.
 use Rattle.std.proofs.Common.{◌≡◌, ◌∙◌, ℕ, Bool, true, false, List, [], ◌∷◌, ◌++◌, Option, Some, None, arith, append-nil, append_assoc, codes, refl, sym, ap, ap₂, subst, inl, inr, ◌⊎◌}
 use Rattle.std.proofs.lemmas.Slice.Eq.{bytes_eq-Decides}
 use Rattle.std.specs.List.{fold, list_any, slice_index_or}
@@ -14,7 +15,7 @@ use Rattle.clap.specs.Faults.{check_fault, defaults_fault, entered_fault, fault_
 use Rattle.clap.specs.declared.error.Error.{Error}
 use Rattle.clap.specs.declared.error.kind.ErrorKind.TheVariants.{OutOfMemory}
 use Rattle.ifmap_words.specs.Options.{is_option}
-use Rattle.ifmap_words.specs.PairLaws.{none_of, pair_built, pair_only, pair_passes, pair_rows, walk_fails, some_kind, first_none}
+use Rattle.ifmap_words.specs.PairLaws.{no_option_among, pair_built, pair_only, pair_passes, pair_rows, walk_fails, some_kind, first_none}
 use Rattle.ifmap_words.specs.Pairs.{pair_shape}
 use Rattle.std.specs.Fmt.{decimal}
 use Rattle.ifmap_command.specs.Commands.{Finds, FindsPair, IsCall, command_app}
@@ -121,7 +122,8 @@ bare_only : (s : Shape) (words : List Text) → list_any is_option words ≡ fal
     → level_fault (bare_built s) [] nothing_held words false [] ≡ [] → words ≡ []
 bare_only s [] plain e = refl
 bare_only s (word ∷ rest) plain e =
-    absurd (some_kind _ _ (sym (walk_fails (bare_built s) [] nothing_held 1 word rest (none_of word rest plain).0 refl) ∙ first_none _ _ e))
+    absurd (some_kind _ _ (sym (walk_fails (bare_built s) [] nothing_held 1 word rest (no_option_among word rest plain).0 refl)
+    ∙ first_none _ _ e))
 
 -- the subcommands as they were built
 abbrev shape_at : ℕ → List Shape → Shape
@@ -198,8 +200,8 @@ found_two : (name x y : Text) (rest : List Text) → list_any is_option rest ≡
     → IsCall (name ∷ rest) name x y × FindsPair (subcommand_of command_app (name ∷ rest)) name x y
 found_two name x y rest plain two found =
     let here : list_any is_option (x ∷ y ∷ []) ≡ false = subst (λ (ws : List Text). list_any is_option ws ≡ false) two plain in
-    let one = none_of x (y ∷ []) here in
-    let other = none_of y [] one.1 in
+    let one = no_option_among x (y ∷ []) here in
+    let other = no_option_among y [] one.1 in
     let got = pair_rows x y one.0 other.0 in (
       record { words_are = ap (λ ws. name ∷ ws) two; plain = one.0 },
       record {
@@ -230,7 +232,7 @@ found_words (word ∷ rest) p = elim (named word) [
   | inl e ↦ subst (λ w. Passes (w ∷ rest) → Finds (w ∷ rest) (subcommand_of command_app (w ∷ rest))) e (found_replay rest) p
   | inr (inl e) ↦ subst (λ w. Passes (w ∷ rest) → Finds (w ∷ rest) (subcommand_of command_app (w ∷ rest))) e (found_drill rest) p
   | inr (inr (inl e)) ↦ subst (λ w. Passes (w ∷ rest) → Finds (w ∷ rest) (subcommand_of command_app (w ∷ rest))) e (found_serve rest) p
-  | inr (inr (inr none)) ↦ absurd (unnamed word rest (none_of word rest p.0).0 none p.1)
+  | inr (inr (inr none)) ↦ absurd (unnamed word rest (no_option_among word rest p.0).0 none p.1)
 ]
 
 -- ---- what passes

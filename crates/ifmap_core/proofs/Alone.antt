@@ -9,29 +9,29 @@ use Rattle.std.specs.BTreeMap.{get}
 use Rattle.std.specs.List.{AllByRecursion}
 use Rattle.std.specs.List.Sorted.{IsStrictlySortedBy}
 use Rattle.std.specs.Ordering.{nat_cmp}
-use Rattle.ifmap_changes.specs.Between.{AreWithinLimits, Asking, IsSoundSoFar, IsWithinLimit, rest_of, sessions_left, so_far}
-use Rattle.ifmap_changes.specs.declared.parts.Parts.{Parts}
-use Rattle.ifmap_core.specs.Outcomes.{alone_told}
+use Rattle.ifmap_subscribes.specs.ifmap_changes.Between.{AreWithinLimits, Asking, IsSoundSoFar, IsWithinLimit, rest_of, sessions_left, so_far}
+use Rattle.ifmap_subscribes.specs.ifmap_changes.declared.parts.Parts.{Parts}
+use Rattle.ifmap_core.specs.Completions.{alone_told}
 use Rattle.ifmap_core.proofs.Places.{Rises, kept_fewer}
 use Rattle.ifmap_core.proofs.Subscribed.{live_left}
 use Rattle.ifmap_core.proofs.Told.{one_numbered, told_by_leaves}
-use Rattle.ifmap_graph.specs.Seen.{rows_now}
+use Rattle.ifmap_subscribes.specs.ifmap_graph.Seen.{rows_now}
 use Rattle.ifmap_ident.specs.declared.codes.Code.TheVariants.{PollResultsTooBig}
 use Rattle.ifmap_lemmas.specs.Filters.{all_filter}
 use Rattle.ifmap_lemmas.specs.Options.{some_is}
-use Rattle.ifmap_machine.specs.Ending.{without_standing}
-use Rattle.ifmap_machine.specs.State as machine
-use Rattle.ifmap_machine.specs.Telling.{limit_note}
-use Rattle.ifmap_search.specs.declared.results.PollItem.{PollItem}
-use Rattle.ifmap_search.specs.declared.results.PollItem.TheVariants as the_item
-use Rattle.ifmap_search.specs.Sizes.{poll_size, queue_size}
+use Rattle.ifmap_subscribes.specs.ifmap_machine.Ending.{without_standing}
+use Rattle.ifmap_subscribes.specs.ifmap_machine.State as machine
+use Rattle.ifmap_subscribes.specs.ifmap_machine.Telling.{limit_note}
+use Rattle.ifmap_session.specs.ifmap_search.declared.results.PollItem.{PollItem}
+use Rattle.ifmap_session.specs.ifmap_search.declared.results.PollItem.TheVariants as the_item
+use Rattle.ifmap_session.specs.ifmap_search.Sizes.{poll_size, queue_size}
 use Rattle.ifmap_session.specs.Sessions.{IsLive, Session, change, session_order, session_with_serial, spare_of, with_error, without_sessions}
-use Rattle.ifmap_standing.specs.declared.standing.Standing.{Standing}
-use Rattle.ifmap_standing.specs.Standing.{standing_of}
-use Rattle.ifmap_tellings.specs.declared.tellings.Pending.{Pending}
-use Rattle.ifmap_tellings.specs.declared.tellings.Telling.{Telling}
-use Rattle.ifmap_tellings.specs.declared.tellings.Telling.TheVariants.{After, Alone}
-use Rattle.ifmap_tellings.specs.Tellings.{AllKept, AloneAreBare, CanTell, EachTelling, HasSameSessions, IsSized, Tellings, is_alone, kept_of, told_by, told_where}
+use Rattle.ifmap_subscribes.specs.ifmap_standing.declared.standing.Standing.{Standing}
+use Rattle.ifmap_subscribes.specs.ifmap_standing.Standing.{standing_of}
+use Rattle.ifmap_subscribes.specs.ifmap_tellings.declared.tellings.Pending.{Pending}
+use Rattle.ifmap_subscribes.specs.ifmap_tellings.declared.tellings.Telling.{Telling}
+use Rattle.ifmap_subscribes.specs.ifmap_tellings.declared.tellings.Telling.TheVariants.{After, Alone}
+use Rattle.ifmap_subscribes.specs.ifmap_tellings.Tellings.{AllKept, AloneAreBare, CanTell, EachTelling, HasSameSessions, IsSized, Tellings, is_alone, kept_of, told_by, told_where}
 use Rattle.ifmap_session.specs.laws.TableLaws.{is_left}
 
 abbrev pub error_of : ℕ → ℕ → PollItem

@@ -8,22 +8,22 @@ use Rattle.std.proofs.lemmas.Bool.{cases_Bool}
 use Rattle.ifmap_core.specs.Causes.{AsksPoll, IsLoss, PollsNoSession, PollsNothing}
 use Rattle.ifmap_core.specs.Holding.{HasNothing}
 use Rattle.ifmap_ident.specs.declared.codes.Code.{Code}
-use Rattle.ifmap_machine.specs.declared.events.Answer.{Answer}
-use Rattle.ifmap_machine.specs.declared.events.Answer.TheVariants.{Reply, Held, Heard}
-use Rattle.ifmap_machine.specs.declared.events.Ask.{Ask}
-use Rattle.ifmap_machine.specs.declared.events.Ask.TheVariants.{Request, Lost}
-use Rattle.ifmap_machine.specs.Events.{Event}
-use Rattle.ifmap_machine.specs.State.{State}
-use Rattle.ifmap_machine.specs.Step.{answer_subscribed, end_session, in_session, is_full, lose, new_session, poll, poll_in, poll_queue, publish, purge, renew_session, search, step_ask, subscribe}
-use Rattle.ifmap_machine.specs.Subscribing.{Told, subscribe_ops}
-use Rattle.ifmap_machine.specs.Telling.{is_too_big}
-use Rattle.ifmap_replies.specs.declared.replies.Reply.{Reply as AnyReply}
-use Rattle.ifmap_replies.specs.declared.replies.Reply.TheVariants.{Error, Ended}
-use Rattle.ifmap_requests.specs.declared.publishing.PublishOp.{PublishOp}
-use Rattle.ifmap_requests.specs.declared.requests.Request.TheVariants as the_request
-use Rattle.ifmap_requests.specs.declared.requests.SubscribeOp.{SubscribeOp}
-use Rattle.ifmap_search.specs.declared.results.PollItem.{PollItem}
-use Rattle.ifmap_search.specs.declared.searches.Search.{Search}
+use Rattle.ifmap_subscribes.specs.ifmap_machine.declared.events.Answer.{Answer}
+use Rattle.ifmap_subscribes.specs.ifmap_machine.declared.events.Answer.TheVariants.{Reply, Held, Heard}
+use Rattle.ifmap_subscribes.specs.ifmap_machine.declared.events.Ask.{Ask}
+use Rattle.ifmap_subscribes.specs.ifmap_machine.declared.events.Ask.TheVariants.{Request, Lost}
+use Rattle.ifmap_subscribes.specs.ifmap_machine.Events.{Event}
+use Rattle.ifmap_subscribes.specs.ifmap_machine.State.{State}
+use Rattle.ifmap_subscribes.specs.ifmap_machine.Step.{answer_subscribed, end_session, in_session, is_full, lose, new_session, poll, poll_in, poll_queue, publish, purge, renew_session, search, step_ask, subscribe}
+use Rattle.ifmap_subscribes.specs.ifmap_machine.Subscribing.{Told, subscribe_ops}
+use Rattle.ifmap_subscribes.specs.ifmap_machine.Telling.{is_too_big}
+use Rattle.ifmap_subscribes.specs.ifmap_replies.declared.replies.Reply.{Reply as AnyReply}
+use Rattle.ifmap_subscribes.specs.ifmap_replies.declared.replies.Reply.TheVariants.{Error, Ended}
+use Rattle.ifmap_subscribes.specs.ifmap_requests.declared.publishing.PublishOp.{PublishOp}
+use Rattle.ifmap_subscribes.specs.ifmap_requests.declared.requests.Request.TheVariants as the_request
+use Rattle.ifmap_subscribes.specs.ifmap_requests.declared.requests.SubscribeOp.{SubscribeOp}
+use Rattle.ifmap_session.specs.ifmap_search.declared.results.PollItem.{PollItem}
+use Rattle.ifmap_session.specs.ifmap_search.declared.searches.Search.{Search}
 use Rattle.ifmap_session.specs.Sessions.{Session, is_same_text, session_with_id}
 use Rattle.ifmap_session.specs.laws.TextLaws.{text_is, text_same}
 
@@ -205,3 +205,7 @@ module _ (state : State) (event : Event) where
         (λ h. (poll_ended state client event.again (found id)).1
             (h.2, subst (λ (i : List ℕ). found i ≡ None) (sym (poll_id id h.0 h.1)) h.3)),
       )
+
+-- what holds of the answer of one holds of that of another that is the same
+pub of_answer : (P : Answer → Type 0) (given wanted : State × Answer) → given ≡ wanted → P wanted.1 → P given.1
+of_answer P given wanted is p = subst (λ (x : State × Answer). P x.1) (sym is) p

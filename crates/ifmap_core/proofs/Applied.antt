@@ -1,4 +1,4 @@
--- The state that each outcome leaves, as the parts have it (`said_leaves` and the lemmas after it), and that the parts are sound
+-- The state that each completion leaves, as the parts have it (`say_leaves` and the lemmas after it), and that the parts are sound
 -- (`parts_moved`, `parts_renamed`).
 use Rattle.std.proofs.Common.{◌≡◌, ◌≢◌, refl, sym, ◌∙◌, ap, subst, ℕ, ◌+◌, ◌≤◌, ◌==◌, Bool, true, false, List, [], ◌∷◌, ◌++◌, length, map, Option, None, Some, inl, inr, arith, append-nil}
 use Rattle.std.proofs.lemmas.Bool.{cases_Bool, eq-eqb}
@@ -6,28 +6,28 @@ use Rattle.std.proofs.lemmas.Option.{same_Some}
 use Rattle.std.specs.List.{AllByRecursion}
 use Rattle.std.specs.List.Sorted.{IsStrictlySortedBy}
 use Rattle.std.specs.Option.{IfSome}
-use Rattle.ifmap_changes.specs.Between.{AreOrdered, AreParts, AreWithinLimits, IsSteady, sight_now}
-use Rattle.ifmap_changes.specs.declared.parts.Parts.{Parts}
-use Rattle.ifmap_core.specs.Outcomes.{FitsAfter, WouldBeParts, after_former, after_outcome, poll_found, rename_in}
-use Rattle.ifmap_core.specs.declared.outcomes.Outcome.{Outcome}
-use Rattle.ifmap_core.specs.declared.outcomes.Outcome.TheVariants.{Say, Accept, End, Open, Rename, Poll}
+use Rattle.ifmap_subscribes.specs.ifmap_changes.Between.{AreOrdered, AreParts, AreWithinLimits, IsSteady, sight_now}
+use Rattle.ifmap_subscribes.specs.ifmap_changes.declared.parts.Parts.{Parts}
+use Rattle.ifmap_core.specs.Completions.{FitsAfter, WouldBeParts, after_former, after_completion, poll_found, rename_in}
+use Rattle.ifmap_core.specs.declared.completions.Completion.{Completion}
+use Rattle.ifmap_core.specs.declared.completions.Completion.TheVariants.{Say, Accept, End, Open, Rename, Poll}
 use Rattle.ifmap_core.proofs.Applying.{bare_stays, fits_within, live_changed, within_renewed}
 use Rattle.ifmap_core.proofs.Renamed.{all_renamed, others_few}
-use Rattle.ifmap_delta.specs.Sights.{IsUpToDate}
+use Rattle.ifmap_subscribes.specs.ifmap_delta.Sights.{IsUpToDate}
 use Rattle.ifmap_lemmas.specs.Members.{all_of_map}
-use Rattle.ifmap_lemmas.specs.Numbers.{is_number}
-use Rattle.ifmap_machine.specs.declared.events.Answer.{Answer}
-use Rattle.ifmap_machine.specs.declared.events.Answer.TheVariants as the_answer
-use Rattle.ifmap_machine.specs.Ending.{without_standing}
-use Rattle.ifmap_machine.specs.State.{State, standing_in}
-use Rattle.ifmap_machine.specs.State as machine
-use Rattle.ifmap_machine.specs.Subscribing.{Told, most_names}
-use Rattle.ifmap_replies.specs.declared.replies.Reply.TheVariants as the_reply
-use Rattle.ifmap_search.specs.Sizes.{queue_size}
+use Rattle.ifmap_lemmas.specs.Numbers.{equal_numbers}
+use Rattle.ifmap_subscribes.specs.ifmap_machine.declared.events.Answer.{Answer}
+use Rattle.ifmap_subscribes.specs.ifmap_machine.declared.events.Answer.TheVariants as the_answer
+use Rattle.ifmap_subscribes.specs.ifmap_machine.Ending.{without_standing}
+use Rattle.ifmap_subscribes.specs.ifmap_machine.State.{State, standing_in}
+use Rattle.ifmap_subscribes.specs.ifmap_machine.State as machine
+use Rattle.ifmap_subscribes.specs.ifmap_machine.Subscribing.{Told, most_names}
+use Rattle.ifmap_subscribes.specs.ifmap_replies.declared.replies.Reply.TheVariants as the_reply
+use Rattle.ifmap_session.specs.ifmap_search.Sizes.{queue_size}
 use Rattle.ifmap_session.specs.Sessions.{IsLive, Opening, Session, SessionTable, change, session_from, session_order, session_with_serial, with_last, without_sessions}
 use Rattle.ifmap_session.specs.laws.TableLaws.{renewed_keeps}
-use Rattle.ifmap_standing.specs.declared.standing.Standing.{Standing}
-use Rattle.ifmap_standing.specs.Standing.{standing_of}
+use Rattle.ifmap_subscribes.specs.ifmap_standing.declared.standing.Standing.{Standing}
+use Rattle.ifmap_subscribes.specs.ifmap_standing.Standing.{standing_of}
 use Rattle.ifmap_subscribes.specs.declared.renamings.Renaming.{Renaming}
 use Rattle.ifmap_subscribes.specs.Renamings.{AreRenamed, CanRenameEach, IsOfSession, rename_all, told_in_parts}
 
@@ -37,9 +37,9 @@ with_parts state counter sessions standing = record state { counter = counter; s
 
 module _ (state : State) (moment counter : ℕ) (live : List Session) (standing : List Standing) (m : state.moment ≡ moment)
     (s : state.sessions ≡ live) (n : state.counter ≡ counter) (t : state.standing ≡ map standing_of standing) where
-  abbrev Leaves : Outcome → ℕ → List Session → List machine.Standing → Answer → Type 0
-  Leaves outcome later sessions standing answer =
-      ◌≡◌ {A = State × Answer} (after_outcome outcome state) (with_parts state later sessions standing, answer)
+  abbrev Leaves : Completion → ℕ → List Session → List machine.Standing → Answer → Type 0
+  Leaves completion later sessions standing answer =
+      ◌≡◌ {A = State × Answer} (after_completion completion state) (with_parts state later sessions standing, answer)
 
   pub say_leaves : (answer : Answer) → Leaves (Say answer) counter live (map standing_of standing) answer
   say_leaves answer = λ i. (with_parts state (n i) (s i) (t i), answer)
@@ -144,7 +144,7 @@ module _ (serial moment : ℕ) (renamings : List Renaming) (old new : Parts) (ta
   few_after : (n : ℕ) → length (standing_in n (map standing_of new.standing.items)) ≤ most_names
   few_after n = elim (cases_Bool (serial == n)) [
     | inl same ↦
-        let is : serial ≡ n = is_number serial n same in
+        let is : serial ≡ n = equal_numbers serial n same in
         subst (λ k. length (standing_in k (map standing_of new.standing.items)) ≤ most_names) is
         (subst (λ t. length (standing_in serial t) ≤ most_names) (sym stands) (fits one found).1)
     | inr other ↦

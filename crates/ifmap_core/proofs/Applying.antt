@@ -9,25 +9,25 @@ use Rattle.std.specs.List.{AllByRecursion}
 use Rattle.std.specs.List.Sorted.{IsStrictlySortedBy}
 use Rattle.std.specs.Option.{IfSome}
 use Rattle.std.specs.declared.cmp.Ordering.TheVariants.{Less}
-use Rattle.ifmap_changes.specs.Between.{AreOrdered, AreWithinLimits, CanEnd, IsWithinLimit}
-use Rattle.ifmap_core.specs.Outcomes.{after_former, first_renewed, poll_answer, poll_found}
+use Rattle.ifmap_subscribes.specs.ifmap_changes.Between.{AreOrdered, AreWithinLimits, CanEnd, IsWithinLimit}
+use Rattle.ifmap_core.specs.Completions.{after_former, first_renewed, poll_answer, poll_found}
 use Rattle.ifmap_core.proofs.Ended.{live_beside, without_each, without_none}
 use Rattle.ifmap_lemmas.specs.Filters.{all_filter, all_weaker}
 use Rattle.ifmap_lemmas.specs.Members.{both_all, all_two}
 use Rattle.ifmap_lemmas.specs.Numbers.{is_other}
 use Rattle.ifmap_lemmas.specs.Options.{is_some_of, some_is}
-use Rattle.ifmap_machine.specs.declared.events.Answer.TheVariants as the_answer
-use Rattle.ifmap_machine.specs.Ending.{without_standing}
-use Rattle.ifmap_machine.specs.State.{State}
-use Rattle.ifmap_machine.specs.Step.{poll_queue, renew_first}
-use Rattle.ifmap_machine.specs.Telling.{is_overfull}
-use Rattle.ifmap_replies.specs.declared.replies.Reply.TheVariants as the_reply
-use Rattle.ifmap_search.specs.declared.results.PollItem.{PollItem}
-use Rattle.ifmap_search.specs.Sizes.{queue_size}
+use Rattle.ifmap_subscribes.specs.ifmap_machine.declared.events.Answer.TheVariants as the_answer
+use Rattle.ifmap_subscribes.specs.ifmap_machine.Ending.{without_standing}
+use Rattle.ifmap_subscribes.specs.ifmap_machine.State.{State}
+use Rattle.ifmap_subscribes.specs.ifmap_machine.Step.{poll_queue, renew_first}
+use Rattle.ifmap_subscribes.specs.ifmap_machine.Telling.{is_overfull}
+use Rattle.ifmap_subscribes.specs.ifmap_replies.declared.replies.Reply.TheVariants as the_reply
+use Rattle.ifmap_session.specs.ifmap_search.declared.results.PollItem.{PollItem}
+use Rattle.ifmap_session.specs.ifmap_search.Sizes.{queue_size}
 use Rattle.ifmap_session.specs.Sessions.{IsLive, Opening, Session, change, session_from, session_order, session_with_serial, with_last, without_items, without_sessions}
 use Rattle.ifmap_session.specs.laws.TableLaws.{KeepsIdAndClient, changed_one, found_beside_begun, found_changed, renewed_keeps, found_serial, is_left}
-use Rattle.ifmap_standing.specs.declared.standing.Standing.{Standing}
-use Rattle.ifmap_standing.specs.Standing.{standing_of}
+use Rattle.ifmap_subscribes.specs.ifmap_standing.declared.standing.Standing.{Standing}
+use Rattle.ifmap_subscribes.specs.ifmap_standing.Standing.{standing_of}
 
 -- ---- queues stay within their limits
 

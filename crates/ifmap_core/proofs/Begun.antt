@@ -9,29 +9,30 @@ use Rattle.std.proofs.lemmas.Option.{same_Some}
 use Rattle.std.specs.List.{IsDistinct}
 use Rattle.std.specs.Option.{IfSome, option_map}
 use Rattle.std.specs.Result.{IfOk}
-use Rattle.ifmap_changes.specs.Between.{AreKept, AreOrdered, AreTurned, AreWithinLimits, Asking, CanEnd, HasNoSubscriptions, IsSoundSoFar, IsSteady, rest_of, sessions_left, so_far}
-use Rattle.ifmap_changes.specs.declared.parts.Parts.{Parts}
-use Rattle.ifmap_core.specs.Outcomes.{CanOpen, LeadsToAnswer, after_former, after_outcome, drop_former, open_session, taken_former}
-use Rattle.ifmap_core.specs.declared.outcomes.Outcome.{Outcome}
-use Rattle.ifmap_core.specs.declared.outcomes.Outcome.TheVariants.{Say, Open}
+use Rattle.ifmap_subscribes.specs.ifmap_changes.Between.{AreKept, AreOrdered, AreTurned, AreWithinLimits, Asking, CanEnd, HasNoSubscriptions, IsSoundSoFar, IsSteady, rest_of, sessions_left, so_far}
+use Rattle.ifmap_subscribes.specs.ifmap_changes.declared.parts.Parts.{Parts}
+use Rattle.ifmap_core.specs.Answering.{CanAnswer, GivesCompletion}
+use Rattle.ifmap_core.specs.Completions.{CanOpen, LeadsToAnswer, after_former, after_completion, drop_former, open_session, taken_former}
+use Rattle.ifmap_core.specs.declared.completions.Completion.{Completion}
+use Rattle.ifmap_core.specs.declared.completions.Completion.TheVariants.{Say, Open}
 use Rattle.ifmap_core.proofs.Finishing.{client_told, serial_told}
 use Rattle.ifmap_core.proofs.Places.{searched_itself}
 use Rattle.ifmap_core.proofs.Taking.{taken_is}
 use Rattle.ifmap_ident.specs.declared.codes.Code.TheVariants.{SystemError}
-use Rattle.ifmap_machine.specs.declared.events.Answer.TheVariants as the_answer
-use Rattle.ifmap_machine.specs.Ending.{end_former}
-use Rattle.ifmap_machine.specs.State.{State}
-use Rattle.ifmap_machine.specs.Step.{begin_session, is_full, new_session, next_session, refusal}
-use Rattle.ifmap_replies.specs.declared.replies.Reply.TheVariants as the_reply
+use Rattle.ifmap_subscribes.specs.ifmap_machine.declared.events.Answer.TheVariants as the_answer
+use Rattle.ifmap_subscribes.specs.ifmap_machine.Ending.{end_former}
+use Rattle.ifmap_subscribes.specs.ifmap_machine.State.{State}
+use Rattle.ifmap_subscribes.specs.ifmap_machine.Step.{begin_session, is_full, new_session, next_session, refusal}
+use Rattle.ifmap_subscribes.specs.ifmap_replies.declared.replies.Reply.TheVariants as the_reply
 use Rattle.ifmap_session.specs.SessionIds.{session_id}
 use Rattle.ifmap_session.specs.Sessions.{IsAsBefore, IsLive, IsTable, Opening, Session, SessionTable, is_same_text, limit_of, most_sessions, session_from, session_of_client, spare_of, without_sessions}
 use Rattle.ifmap_session.specs.laws.TableLaws.{client_freed, one_fewer, is_left}
 use Rattle.ifmap_session.specs.laws.TextLaws.{distinct_filter}
-use Rattle.ifmap_tellings.specs.declared.tellings.Pending.{Pending}
-use Rattle.ifmap_tellings.specs.Tellings.{HasSameSessions, IsSized, count_told, told_by}
+use Rattle.ifmap_subscribes.specs.ifmap_tellings.declared.tellings.Pending.{Pending}
+use Rattle.ifmap_subscribes.specs.ifmap_tellings.Tellings.{HasSameSessions, IsSized, count_told, told_by}
 use Rattle.ifmap_lemmas.specs.Filters.{filter_shorter}
-use Rattle.ifmap_standing.specs.PlaceLaws.{kept_itself}
-use Rattle.ifmap_tellings.specs.ToldLaws.{same_twice}
+use Rattle.ifmap_subscribes.specs.ifmap_standing.PlaceLaws.{kept_itself}
+use Rattle.ifmap_subscribes.specs.ifmap_tellings.ToldLaws.{same_twice}
 
 -- ---- parts of which the sessions have more room
 
@@ -160,15 +161,14 @@ module _ (a : Asking) (table : SessionTable) (parts : Parts) (pending : Pending)
       ap (λ k. k == 2 ^ 64 - 1) counted
       ∙ sym (full_is a table parts pending e ∙ ap (λ b. b || (table.counter == 2 ^ 64 - 1)) (sym is ∙ not_taken))
 
-pub full_leads : {E : Type 0} (a : Asking) (parts : Parts) (pending : Pending) (random : ℕ) (limit : Option ℕ) (r : Result Outcome E)
-    → IfOk r (λ q. q ≡ Say (refusal SystemError)) → IsSteady parts.graph parts.standing.items → IsSoundSoFar a parts pending
-    → is_full (so_far a parts pending) a.client ≡ true
-    → IfOk r (λ q. LeadsToAnswer q a parts pending (new_session (so_far a parts pending) a.client random limit))
-full_leads a parts pending random limit (Err e) is steady ready full = tt
-full_leads a parts pending random limit (Ok outcome) is steady ready full =
+pub full_leads : {E : Type 0} (a : Asking) (parts : Parts) (pending : Pending) (random : ℕ) (limit : Option ℕ) (r : Result Completion E)
+    → IfOk r (λ q. q ≡ Say (refusal SystemError)) → CanAnswer a parts pending → is_full (so_far a parts pending) a.client ≡ true
+    → GivesCompletion r a parts pending (new_session (so_far a parts pending) a.client random limit)
+full_leads a parts pending random limit (Err e) is can full = tt
+full_leads a parts pending random limit (Ok completion) is can full =
     subst (λ q. LeadsToAnswer q a parts pending (new_session (so_far a parts pending) a.client random limit)) (sym is) (record {
-      steady = subst (IsSteady parts.graph) (sym (append-nil parts.standing.items)) steady;
-      ready = ready;
+      steady = subst (IsSteady parts.graph) (sym (append-nil parts.standing.items)) can.steady;
+      ready = can.ready;
       can = tt;
       leads = rw full refl;
     })
@@ -248,7 +248,8 @@ module _ (a : Asking) (old new : Parts) (pending after : Pending) (random : ℕ)
   -- what it leads to
   leads : former ≡ option_map (λ (s : Session). s.serial) (session_of_client a.client (sessions_left a old.sessions))
       → is_full (so_far a old pending) a.client ≡ false → so_far a new after ≡ taken_former former (so_far a old pending)
-      → after_outcome (Open former opening count publisher) (so_far a new after) ≡ new_session (so_far a old pending) a.client random limit
+      → after_completion (Open former opening count publisher) (so_far a new after)
+      ≡ new_session (so_far a old pending) a.client random limit
   leads same free told =
       let state : State = so_far a old pending in
       let mine : Option Session = session_of_client a.client state.sessions in

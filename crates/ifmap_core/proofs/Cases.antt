@@ -1,51 +1,52 @@
 -- What each case of the step is, by whose session a request names.
--- First the parts of `LeadsTo` that are the same for all that holds no subscription (`leads_plain`). Then a request in the client's own
--- session, request by request (`module _ .. (o : IsOwner .. (Own serial))`). Then in another's and in nobody's. Last, the exits.
+-- First the parts of `LeadsToAnswer` that are the same for all that holds no subscription (`leads_plain`). Then a request in the client's own
+-- session, request by request (`module _ .. (o : IsOwner .. (Own serial))`). Then in another's and in nobody's. Last, what is accepted.
 use Rattle.std.proofs.Common.{◌≡◌, refl, sym, ◌∙◌, ap, subst, ℕ, ◌<◌, ◌≤◌, Bool, true, false, List, [], ◌∷◌, ◌++◌, Option, Result, Ok, Err, append-nil, inl, inr, arith}
 use Rattle.std.proofs.lemmas.Bool.{cases_Bool}
 use Rattle.std.proofs.lemmas.Bool.Decides.{nat_tests}
 use Rattle.std.specs.Result.{IfOk}
-use Rattle.ifmap_changes.specs.Between.{Asking, IsSoundSoFar, IsSteady, sessions_left, so_far}
-use Rattle.ifmap_changes.specs.Changes.{taken_one}
-use Rattle.ifmap_changes.specs.declared.parts.Parts.{Parts}
-use Rattle.ifmap_core.specs.declared.outcomes.Outcome.{Outcome}
-use Rattle.ifmap_core.specs.declared.outcomes.Outcome.TheVariants.{Say, Accept}
+use Rattle.ifmap_subscribes.specs.ifmap_changes.Between.{Asking, IsSoundSoFar, IsSteady, sessions_left, so_far}
+use Rattle.ifmap_subscribes.specs.ifmap_changes.Changes.{taken_one}
+use Rattle.ifmap_subscribes.specs.ifmap_changes.declared.parts.Parts.{Parts}
+use Rattle.ifmap_core.specs.declared.completions.Completion.{Completion}
+use Rattle.ifmap_core.specs.declared.completions.Completion.TheVariants.{Say, Accept}
 use Rattle.ifmap_core.specs.declared.owning.Owner.{Owner}
 use Rattle.ifmap_core.specs.declared.owning.Owner.TheVariants.{Own, Another, Nobody}
-use Rattle.ifmap_core.specs.Outcomes.{CanApply, IsOwner, LeadsToAnswer, after_outcome, end_of_poll, held_by, poll_found}
+use Rattle.ifmap_core.specs.Completions.{CanApply, IsOwner, LeadsToAnswer, after_completion, end_of_poll, held_by, poll_found}
 use Rattle.ifmap_core.proofs.Taking.{taken_is}
 use Rattle.ifmap_core.proofs.Told.{owner_told}
-use Rattle.ifmap_fresh.specs.Fresh.{fresh, fresh_size}
+use Rattle.ifmap_subscribes.specs.ifmap_fresh.Fresh.{fresh, fresh_size}
 use Rattle.ifmap_ident.specs.declared.codes.Code.TheVariants.{AccessDenied, InvalidSessionID, SearchResultsTooBig}
 use Rattle.ifmap_lemmas.specs.Options.{is_some_of}
-use Rattle.ifmap_machine.specs.declared.events.Answer.{Answer}
-use Rattle.ifmap_machine.specs.declared.events.Answer.TheVariants as the_answer
-use Rattle.ifmap_machine.specs.Ending.{drop_sessions, end_some}
-use Rattle.ifmap_machine.specs.State.{State}
-use Rattle.ifmap_machine.specs.Step.{author_in, answer_subscribed, end_session, in_session, lose, poll, publish, purge, refusal, refusal_with, renew, renew_session, search, subscribe}
-use Rattle.ifmap_machine.specs.Subscribing.{subscribe_ops}
-use Rattle.ifmap_machine.specs.Telling.{is_too_big, limit_note, overflow, tell}
-use Rattle.ifmap_publish.specs.Apply.{Authorship, apply}
-use Rattle.ifmap_publish.specs.Notes.{notes_of}
-use Rattle.ifmap_publish.specs.declared.who.Who.TheVariants.{Publisher}
-use Rattle.ifmap_publish.specs.Retract.{retract}
-use Rattle.ifmap_replies.specs.declared.replies.Reply.TheVariants as the_reply
-use Rattle.ifmap_requests.specs.declared.publishing.PublishOp.{PublishOp}
-use Rattle.ifmap_requests.specs.declared.requests.SubscribeOp.{SubscribeOp}
-use Rattle.ifmap_search.specs.declared.results.Entry.{Entry}
-use Rattle.ifmap_search.specs.declared.searches.Search.{Search}
+use Rattle.ifmap_subscribes.specs.ifmap_machine.declared.events.Answer.{Answer}
+use Rattle.ifmap_subscribes.specs.ifmap_machine.declared.events.Answer.TheVariants as the_answer
+use Rattle.ifmap_subscribes.specs.ifmap_machine.Ending.{drop_sessions, end_some}
+use Rattle.ifmap_subscribes.specs.ifmap_machine.State.{State}
+use Rattle.ifmap_subscribes.specs.ifmap_machine.Step.{author_in, answer_subscribed, end_session, in_session, lose, poll, publish, purge, refusal, refusal_with, renew, renew_session, search, subscribe}
+use Rattle.ifmap_subscribes.specs.ifmap_machine.Subscribing.{subscribe_ops}
+use Rattle.ifmap_subscribes.specs.ifmap_machine.Telling.{is_too_big, limit_note, overflow, tell}
+use Rattle.ifmap_subscribes.specs.ifmap_publish.Apply.{Authorship, apply}
+use Rattle.ifmap_subscribes.specs.ifmap_publish.Notes.{notes_of}
+use Rattle.ifmap_subscribes.specs.ifmap_publish.declared.who.Who.TheVariants.{Publisher}
+use Rattle.ifmap_subscribes.specs.ifmap_publish.Retract.{retract}
+use Rattle.ifmap_subscribes.specs.ifmap_replies.declared.replies.Reply.TheVariants as the_reply
+use Rattle.ifmap_subscribes.specs.ifmap_requests.declared.publishing.PublishOp.{PublishOp}
+use Rattle.ifmap_subscribes.specs.ifmap_requests.declared.requests.SubscribeOp.{SubscribeOp}
+use Rattle.ifmap_session.specs.ifmap_search.declared.results.Entry.{Entry}
+use Rattle.ifmap_session.specs.ifmap_search.declared.searches.Search.{Search}
 use Rattle.ifmap_session.specs.Sessions.{IsLive, Session, SessionTable, is_same_text, session_with_id, session_with_serial}
 use Rattle.ifmap_session.specs.laws.TextLaws.{text_is, text_same}
-use Rattle.ifmap_tellings.specs.declared.tellings.Pending.{Pending}
-use Rattle.ifmap_tellings.specs.Tellings.{HasSameSessions}
+use Rattle.ifmap_subscribes.specs.ifmap_tellings.declared.tellings.Pending.{Pending}
+use Rattle.ifmap_subscribes.specs.ifmap_tellings.Tellings.{HasSameSessions}
 
 -- ---- what holds no subscription
 
 module _ (a : Asking) (parts : Parts) (pending : Pending) where
-  pub leads_plain : IsSteady parts.graph parts.standing.items → IsSoundSoFar a parts pending → (outcome : Outcome) → held_by outcome ≡ []
-      → CanApply outcome a parts pending → (wanted : State × Answer) → after_outcome outcome (so_far a parts pending) ≡ wanted
-      → LeadsToAnswer outcome a parts pending wanted
-  leads_plain steady ready outcome none can wanted e = record {
+  pub leads_plain : IsSteady parts.graph parts.standing.items → IsSoundSoFar a parts pending → (completion : Completion)
+      → held_by completion ≡ []
+      → CanApply completion a parts pending → (wanted : State × Answer) → after_completion completion (so_far a parts pending) ≡ wanted
+      → LeadsToAnswer completion a parts pending wanted
+  leads_plain steady ready completion none can wanted e = record {
     steady = subst (λ more. IsSteady parts.graph (parts.standing.items ++ more)) (sym none)
         (subst (IsSteady parts.graph) (sym (append-nil parts.standing.items)) steady);
     ready = ready;
@@ -60,10 +61,10 @@ module _ (a : Asking) (parts : Parts) (pending : Pending) where
   -- a refusal, or another answer that says all
   pub says : {E : Type 0} → IsSteady parts.graph parts.standing.items → IsSoundSoFar a parts pending
       → (answer : Answer) (wanted : State × Answer)
-      → ◌≡◌ {A = State × Answer} (so_far a parts pending, answer) wanted → (r : Result Outcome E) → IfOk r (λ o. o ≡ Say answer)
+      → ◌≡◌ {A = State × Answer} (so_far a parts pending, answer) wanted → (r : Result Completion E) → IfOk r (λ o. o ≡ Say answer)
       → IfOk r (λ o. LeadsToAnswer o a parts pending wanted)
-  says steady ready answer wanted e (Ok outcome) is =
-      subst (λ (o : Outcome). LeadsToAnswer o a parts pending wanted) (sym is) (leads_said steady ready answer wanted e)
+  says steady ready answer wanted e (Ok completion) is =
+      subst (λ (o : Completion). LeadsToAnswer o a parts pending wanted) (sym is) (leads_said steady ready answer wanted e)
   says steady ready answer wanted e (Err error) is = tt
 
   pub owner_so_far : (id client : List ℕ) (o : Owner) → IsOwner (sessions_left a parts.sessions) id client o
@@ -209,7 +210,7 @@ module _ (state : State) (id client : List ℕ) where
       → ◌≡◌ {A = State × Answer} (state, the_answer.Heard) (lose state client (session_with_id id state.sessions))
   nobody_hears o = rw o refl
 
--- ---- one request
+-- ---- what is accepted
 
 module _ (a : Asking) (parts : Parts) (pending : Pending) (steady : IsSteady parts.graph parts.standing.items)
     (ready : IsSoundSoFar a parts pending) where
@@ -218,20 +219,3 @@ module _ (a : Asking) (parts : Parts) (pending : Pending) (steady : IsSteady par
       → ◌≡◌ {A = State × Answer} (renew serial (so_far a parts pending), answer) wanted
       → LeadsToAnswer (Accept serial answer) a parts pending wanted
   accepts serial answer wanted live e = leads_plain a parts pending steady ready (Accept serial answer) refl live wanted e
-
-  pub another : {E : Type 0} (id : List ℕ) (accept : Session → State × Answer)
-      → IsOwner (sessions_left a parts.sessions) id a.client Another
-      → (r : Result Outcome E) → IfOk r (λ o. o ≡ Say (refusal AccessDenied))
-      → IfOk r (λ o. LeadsToAnswer o a parts pending
-      (in_session (so_far a parts pending) a.client (session_with_id id (so_far a parts pending).sessions) accept))
-  another id accept o r is =
-      says a parts pending steady ready (refusal AccessDenied) _
-      (another_denied (so_far a parts pending) id a.client accept (owner_so_far a parts pending id a.client Another o)) r is
-
-  pub nobody : {E : Type 0} (id : List ℕ) (accept : Session → State × Answer) → IsOwner (sessions_left a parts.sessions) id a.client Nobody
-      → (r : Result Outcome E) → IfOk r (λ o. o ≡ Say (refusal InvalidSessionID))
-      → IfOk r (λ o. LeadsToAnswer o a parts pending
-      (in_session (so_far a parts pending) a.client (session_with_id id (so_far a parts pending).sessions) accept))
-  nobody id accept o r is =
-      says a parts pending steady ready (refusal InvalidSessionID) _
-      (nobody_missing (so_far a parts pending) id a.client accept (owner_so_far a parts pending id a.client Nobody o)) r is

@@ -8,7 +8,7 @@ use Rattle.std.proofs.lemmas.List.Kept.{IsStrictlySortedBy-filter}
 use Rattle.std.specs.List.{AllByRecursion, IsDistinct, filter, find, list_any}
 use Rattle.std.specs.List.Sorted.{IsStrictlySortedBy}
 use Rattle.std.specs.declared.cmp.Ordering.TheVariants.{Less}
-use Rattle.ifmap_changes.specs.Between.{CanEnd}
+use Rattle.ifmap_subscribes.specs.ifmap_changes.Between.{CanEnd}
 use Rattle.ifmap_lemmas.specs.Filters.{all_filter, all_weaker}
 use Rattle.ifmap_lemmas.specs.Members.{map_of_all, all_two}
 use Rattle.ifmap_lemmas.specs.Options.{is_some_of, some_is}

@@ -1,8 +1,38 @@
 -- Clauses on results, at the exits of functions.
 use Rattle.std.proofs.Common.{Result, Ok, Err}
-use Rattle.std.specs.Result.{OnOk}
+use Rattle.std.proofs.lemmas.Bool.{false≢true}
+use Rattle.std.specs.Result.{IsErr, OnOk}
+use Rattle.ifmap_subscribes.specs.ifmap_changes.Between.{AreBack, AreKept, AreTurned, IsSteady}
+use Rattle.ifmap_subscribes.specs.ifmap_changes.declared.parts.Parts.{Parts}
+use Rattle.ifmap_subscribes.specs.ifmap_changes.KeptLaws.{stays_kept}
+use Rattle.ifmap_core.proofs.Turned.{stays_turned}
+use Rattle.ifmap_core.specs.Answering.{TurnsOrKeeps}
+use Rattle.ifmap_core.specs.declared.ending.Time.{Time}
+use Rattle.ifmap_core.specs.Ending.{AnswersEvent}
+use Rattle.ifmap_lemmas.specs.Results.{on_err}
+use Rattle.ifmap_subscribes.specs.ifmap_machine.declared.events.Answer.{Answer}
+use Rattle.ifmap_subscribes.specs.ifmap_machine.Events.{Event}
+use Rattle.ifmap_subscribes.specs.ifmap_machine.State.{State}
 
 module _ {X E : Type 0} where
-  pub always_ok : (r : Result X E) (P : Type 0) → P → OnOk r P
+  always_ok : (r : Result X E) (P : Type 0) → P → OnOk r P
   always_ok (Ok x) P p = p
   always_ok (Err e) P p = tt
+
+  -- parts that stay, whatever the result
+  pub stays_turns : (r : Result X E) (parts : Parts) → IsSteady parts.graph parts.standing.items → TurnsOrKeeps r parts parts
+  stays_turns r parts steady = record {
+    turned = always_ok r (AreTurned parts parts) (stays_turned parts);
+    kept = on_err r (AreKept parts parts) (stays_kept parts steady);
+  }
+
+  -- parts that are kept after an error
+  pub keeps : {old new : Parts} (r : Result X E) → IsErr r → AreKept old new → TurnsOrKeeps r old new
+  keeps (Ok x) is kept = absurd (false≢true is)
+  keeps (Err e) is kept = record { turned = tt; kept = kept }
+
+-- no answer, after which all is back
+pub gives_up : {E : Type 0} {time : Time} {state : State} {event : Event} {old new : Parts} (r : Result Answer E) → IsErr r
+    → AreBack old new → AnswersEvent r time state event old new
+gives_up (Ok answer) is back = absurd (false≢true is)
+gives_up (Err error) is back = record { answer = tt; kept = back; parts = tt; lean = tt }

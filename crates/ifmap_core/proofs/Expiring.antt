@@ -1,5 +1,5 @@
 -- What holds when an event begins: nothing is pending but the subscriptions of sessions that have expired (`begins_ready`), and the state
--- is the one without them (`begins_so_far`). Then which those are (`expires_none`, `expires_some`). Then an outcome that can be applied
+-- is the one without them (`begins_so_far`). Then which those are (`expires_none`, `expires_by`). Then an completion that can be applied
 -- can once a change stays as it is (`can_settled`), and a change can stay or be taken back after more (`can_settle_later`, `can_back`).
 -- Last, an event that is done at once (`done_leads`).
 use Rattle.std.proofs.Common.{◌≡◌, ◌≢◌, refl, sym, ◌∙◌, ap, subst, ℕ, ◌≤◌, ◌==◌, Bool, true, false, not, List, [], ◌∷◌, ◌++◌, length, map, append-nil, Option, Some, None, inl, inr, arith}
@@ -13,46 +13,47 @@ use Rattle.std.specs.List.Sorted.{IsStrictlySortedBy}
 use Rattle.std.specs.Option.{IfSome}
 use Rattle.std.specs.Ordering.{nat_cmp}
 use Rattle.std.specs.declared.cmp.Ordering.TheVariants.{Less}
-use Rattle.ifmap_changes.specs.Between.{AreKept, AreParts, AreTurned, AreWithinLimits, Asking, CanEnd, IsSoundSoFar, IsSteady, IsWithinLimit, sessions_left, sight_now, so_far, state_at}
-use Rattle.ifmap_changes.specs.Changes.{CanSettle, CanTakeBack, IsSettled}
-use Rattle.ifmap_changes.specs.declared.changes.Made.{Made}
-use Rattle.ifmap_changes.specs.declared.parts.Parts.{Parts}
-use Rattle.ifmap_core.specs.Outcomes.{CanApply, CanRename, IsStepOutcome, WouldBeParts, after_outcome, held_by}
-use Rattle.ifmap_core.specs.declared.outcomes.Outcome.{Outcome}
-use Rattle.ifmap_core.specs.declared.outcomes.Outcome.TheVariants.{Say, Accept, End, Open, Rename, Poll}
+use Rattle.ifmap_subscribes.specs.ifmap_changes.Between.{AreKept, AreParts, AreTurned, AreWithinLimits, Asking, CanEnd, IsSoundSoFar, IsSteady, IsWithinLimit, sessions_left, sight_now, so_far, state_at}
+use Rattle.ifmap_subscribes.specs.ifmap_changes.Changes.{CanSettle, CanTakeBack, IsSettled, state_taken_from}
+use Rattle.ifmap_subscribes.specs.ifmap_changes.declared.changes.Made.{Made}
+use Rattle.ifmap_subscribes.specs.ifmap_changes.declared.parts.Parts.{Parts}
+use Rattle.ifmap_core.specs.Completions.{CanApply, CanRename, IsStepCompletion, WouldBeParts, after_completion, held_by}
+use Rattle.ifmap_core.specs.declared.completions.Completion.{Completion}
+use Rattle.ifmap_core.specs.declared.completions.Completion.TheVariants.{Say, Accept, End, Open, Rename, Poll}
 use Rattle.ifmap_core.proofs.Ended.{found_left}
 use Rattle.ifmap_core.proofs.Places.{all_are_kept, kept_both, kept_of_all, none_gone}
 use Rattle.ifmap_core.proofs.Told.{none_told}
 use Rattle.ifmap_core.proofs.Turned.{all_there, shares_later}
-use Rattle.ifmap_delta.specs.Sights.{IsUpToDate}
-use Rattle.ifmap_delta.specs.Ways.{HasSameSearch}
-use Rattle.ifmap_graph.specs.Out.{items_changed}
-use Rattle.ifmap_graph.specs.Seen.{KeepsNumbers, links_now, rows_now}
+use Rattle.ifmap_subscribes.specs.ifmap_delta.Sights.{IsUpToDate}
+use Rattle.ifmap_subscribes.specs.ifmap_delta.Ways.{HasSameSearch}
+use Rattle.ifmap_subscribes.specs.ifmap_graph.Out.{items_changed}
+use Rattle.ifmap_subscribes.specs.ifmap_graph.Seen.{KeepsNumbers, links_now, rows_now}
 use Rattle.ifmap_lemmas.specs.Filters.{all_filter}
 use Rattle.ifmap_lemmas.specs.Members.{all_both, all_of_map, map_of_all}
 use Rattle.ifmap_lemmas.specs.Options.{is_some_of, some_is}
-use Rattle.ifmap_machine.specs.Ending.{drop_sessions, end_sessions, end_some, expire, without_standing}
-use Rattle.ifmap_machine.specs.declared.events.Answer.{Answer}
-use Rattle.ifmap_machine.specs.declared.events.Ask.{Ask}
-use Rattle.ifmap_machine.specs.Events.{Event}
-use Rattle.ifmap_machine.specs.State as machine
-use Rattle.ifmap_machine.specs.State.{State, standing_in}
-use Rattle.ifmap_machine.specs.Step.{step_ask}
-use Rattle.ifmap_machine.specs.Subscribing.{most_names}
-use Rattle.ifmap_machine.specs.Telling.{overflow}
-use Rattle.ifmap_pool.specs.Holdings.{key_at}
-use Rattle.ifmap_search.specs.Sizes.{queue_size}
+use Rattle.ifmap_subscribes.specs.ifmap_machine.Ending.{drop_sessions, end_sessions, end_some, expire, without_standing}
+use Rattle.ifmap_subscribes.specs.ifmap_machine.declared.events.Answer.{Answer}
+use Rattle.ifmap_subscribes.specs.ifmap_machine.declared.events.Ask.{Ask}
+use Rattle.ifmap_subscribes.specs.ifmap_machine.Events.{Event}
+use Rattle.ifmap_subscribes.specs.ifmap_machine.State as machine
+use Rattle.ifmap_subscribes.specs.ifmap_machine.State.{State, standing_in}
+use Rattle.ifmap_subscribes.specs.ifmap_machine.Step.{step_ask}
+use Rattle.ifmap_subscribes.specs.ifmap_machine.Subscribing.{most_names}
+use Rattle.ifmap_subscribes.specs.ifmap_machine.Telling.{overflow}
+use Rattle.ifmap_subscribes.specs.ifmap_pool.Holdings.{key_at}
+use Rattle.ifmap_subscribes.specs.ifmap_publish.declared.who.Who.TheVariants.{Sessions}
+use Rattle.ifmap_session.specs.ifmap_search.Sizes.{queue_size}
 use Rattle.ifmap_session.specs.Sessions.{IsLive, Session, expired_serials, is_expired, session_order, session_with_serial, without_sessions}
-use Rattle.ifmap_standing.specs.declared.standing.Standing.{Standing}
-use Rattle.ifmap_standing.specs.Kept.{AtEach, KeepsSame, StaysRelated}
-use Rattle.ifmap_standing.specs.Ways.{LeadBack, Way}
-use Rattle.ifmap_standing.specs.Standing.{standing_of}
+use Rattle.ifmap_subscribes.specs.ifmap_standing.declared.standing.Standing.{Standing}
+use Rattle.ifmap_subscribes.specs.ifmap_standing.Kept.{AtEach, KeepsSame, StaysRelated}
+use Rattle.ifmap_subscribes.specs.ifmap_standing.Ways.{LeadBack, Way}
+use Rattle.ifmap_subscribes.specs.ifmap_standing.Standing.{standing_of}
 use Rattle.ifmap_subscribes.specs.declared.renamings.Renaming.{Renaming}
 use Rattle.ifmap_subscribes.specs.Renamings.{begun_by, rename_all, told_so_far, KeepsNumbered}
-use Rattle.ifmap_tellings.specs.declared.tellings.Pending.{Pending}
-use Rattle.ifmap_tellings.specs.Tellings.{AllKept, Tellings, is_alone, kept_of}
+use Rattle.ifmap_subscribes.specs.ifmap_tellings.declared.tellings.Pending.{Pending}
+use Rattle.ifmap_subscribes.specs.ifmap_tellings.Tellings.{AllKept, Tellings, is_alone, kept_of}
 use Rattle.ifmap_session.specs.laws.TableLaws.{found_serial, none_expired, is_left}
-use Rattle.ifmap_tellings.specs.ToldLaws.{same_twice, same_kept}
+use Rattle.ifmap_subscribes.specs.ifmap_tellings.ToldLaws.{same_twice, same_kept}
 
 -- ---- an event begins
 
@@ -161,11 +162,20 @@ ended_some : (serials : List ℕ) → serials ≢ [] → (state : State) → ove
 ended_some [] some state = absurd (some refl)
 ended_some (n ∷ ns) some state = refl
 
-pub expires_some : (state : State) (serials : List ℕ) → list_any (is_expired state.moment state.ttl) state.sessions ≡ true
+expires_some : (state : State) (serials : List ℕ) → list_any (is_expired state.moment state.ttl) state.sessions ≡ true
     → serials ≡ expired_serials state.moment state.ttl state.sessions → overflow (end_sessions serials state) ≡ expire state
 expires_some state serials any is =
     ap (λ (ns : List ℕ). overflow (end_sessions ns state)) is
     ∙ ended_some (expired_serials state.moment state.ttl state.sessions) (some_expired state.moment state.ttl state.sessions any) state
+
+-- the state once they have ended: what is theirs was taken away by a list of the same serials
+pub expires_by : (state : State) (serials listed : List ℕ) → list_any (is_expired state.moment state.ttl) state.sessions ≡ true
+    → serials ≡ expired_serials state.moment state.ttl state.sessions → listed ≡ serials
+    → (first next : State) → first ≡ drop_sessions serials state → next ≡ state_taken_from (Sessions listed) first → next ≡ expire state
+expires_by state serials listed any is same first next dropped told =
+    told ∙ ap (state_taken_from (Sessions listed)) dropped
+    ∙ ap (λ (ns : List ℕ). state_taken_from (Sessions ns) (drop_sessions serials state)) same
+    ∙ expires_some state serials any is
 
 serials_rise : (live : List Session) → IsStrictlySortedBy session_order live → IsStrictlySortedBy nat_cmp
     (map (λ (s : Session). s.serial) live)
@@ -218,8 +228,9 @@ module _ (a : Asking) (old new : Parts) (pending : Pending) (settled : IsSettled
             (c.few s (back s e));
       }
 
-  pub can_settled : (outcome : Outcome) → IsSteady new.graph (new.standing.items ++ held_by outcome) → CanApply outcome a old pending
-      → CanApply outcome a new pending
+  pub can_settled : (completion : Completion) → IsSteady new.graph (new.standing.items ++ held_by completion)
+      → CanApply completion a old pending
+      → CanApply completion a new pending
   can_settled (Say answer) steady c = tt
   can_settled (Accept serial answer) steady c = live_settled serial c
   can_settled (End serial answer) steady c = (live_settled serial c.0, bare_settled serial c.1)
@@ -263,9 +274,9 @@ would_be parts more none p = record {
 }
 
 -- an event that is done at once
-pub done_leads : (ttl moment : ℕ) (old new : Parts) (event : Event) (ask : Ask) (outcome : Outcome) (answer : Answer)
-    → IsStepOutcome old.sessions.live event ask outcome → rows_now new.graph ≡ rows_now old.graph
-    → ◌≡◌ {A = State × Answer} (after_outcome outcome (state_at ttl moment old)) (
+pub done_leads : (ttl moment : ℕ) (old new : Parts) (event : Event) (ask : Ask) (completion : Completion) (answer : Answer)
+    → IsStepCompletion old.sessions.live event ask completion → rows_now new.graph ≡ rows_now old.graph
+    → ◌≡◌ {A = State × Answer} (after_completion completion (state_at ttl moment old)) (
       record (state_at ttl moment old) {
         counter = new.sessions.counter;
         sessions = new.sessions.live;
@@ -274,5 +285,5 @@ pub done_leads : (ttl moment : ℕ) (old new : Parts) (event : Event) (ask : Ask
       answer,
     )
     → ◌≡◌ {A = State × Answer} (state_at ttl moment new, answer) (step_ask (state_at ttl moment old) event ask)
-done_leads ttl moment old new event ask outcome answer d rows e =
+done_leads ttl moment old new event ask completion answer d rows e =
     ap (λ rs. (record (state_at ttl moment new) { graph = rs }, answer)) rows ∙ sym e ∙ d.done (state_at ttl moment old) refl

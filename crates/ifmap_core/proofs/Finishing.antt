@@ -9,32 +9,32 @@ use Rattle.std.specs.List.Sorted.{IsStrictlySortedBy}
 use Rattle.std.specs.Option.{IfSome}
 use Rattle.std.specs.Ordering.{nat_cmp}
 use Rattle.std.specs.Prelude.{vec_capacity, vec_len}
-use Rattle.ifmap_changes.specs.Between.{AreWithinLimits, Asking, HasNoSubscriptions, IsSoundSoFar, IsSteady, rest_of, sessions_left, sight_now, so_far, state_at, HasStartNumber}
-use Rattle.ifmap_changes.specs.declared.parts.Parts.{Parts}
-use Rattle.ifmap_core.specs.Outcomes.{CanApply, CanApplyTo, CanOpen, CanRename, FitsAfter, WouldBeParts, after_former, after_outcome, held_by}
-use Rattle.ifmap_core.specs.declared.outcomes.Outcome.{Outcome}
-use Rattle.ifmap_core.specs.declared.outcomes.Outcome.TheVariants.{Say, Accept, End, Open, Rename, Poll}
+use Rattle.ifmap_subscribes.specs.ifmap_changes.Between.{AreWithinLimits, Asking, HasNoSubscriptions, IsSoundSoFar, IsSteady, rest_of, sessions_left, sight_now, so_far, state_at, HasStartNumber}
+use Rattle.ifmap_subscribes.specs.ifmap_changes.declared.parts.Parts.{Parts}
+use Rattle.ifmap_core.specs.Completions.{CanApply, CanApplyTo, CanOpen, CanRename, FitsAfter, WouldBeParts, after_former, after_completion, held_by}
+use Rattle.ifmap_core.specs.declared.completions.Completion.{Completion}
+use Rattle.ifmap_core.specs.declared.completions.Completion.TheVariants.{Say, Accept, End, Open, Rename, Poll}
 use Rattle.ifmap_core.proofs.Keeping.{all_kept, kept_fewer, kept_rising}
 use Rattle.ifmap_core.proofs.Taking.{map_after}
 use Rattle.ifmap_core.proofs.Told.{after_told, none_mapped, told_by_leaves}
-use Rattle.ifmap_delta.specs.Sights.{IsUpToDate}
-use Rattle.ifmap_graph.specs.Seen.{rows_now}
+use Rattle.ifmap_subscribes.specs.ifmap_delta.Sights.{IsUpToDate}
+use Rattle.ifmap_subscribes.specs.ifmap_graph.Seen.{rows_now}
 use Rattle.ifmap_lemmas.specs.Members.{all_both, both_all, all_two}
 use Rattle.ifmap_lemmas.specs.Options.{is_some_of, some_is}
-use Rattle.ifmap_machine.specs.declared.events.Answer.{Answer}
-use Rattle.ifmap_machine.specs.State.{State, standing_in, standing_order}
-use Rattle.ifmap_machine.specs.State as machine
-use Rattle.ifmap_machine.specs.Subscribing.{most_names}
-use Rattle.ifmap_search.specs.Sizes.{queue_size}
+use Rattle.ifmap_subscribes.specs.ifmap_machine.declared.events.Answer.{Answer}
+use Rattle.ifmap_subscribes.specs.ifmap_machine.State.{State, standing_in, standing_order}
+use Rattle.ifmap_subscribes.specs.ifmap_machine.State as machine
+use Rattle.ifmap_subscribes.specs.ifmap_machine.Subscribing.{most_names}
+use Rattle.ifmap_session.specs.ifmap_search.Sizes.{queue_size}
 use Rattle.ifmap_session.specs.Sessions.{IsLive, Opening, Session, SessionTable, is_same_text, most_sessions, session_of_client, session_with_serial, spare_of}
-use Rattle.ifmap_standing.specs.declared.standing.Standing.{Standing}
-use Rattle.ifmap_standing.specs.Standing.{standing_of}
+use Rattle.ifmap_subscribes.specs.ifmap_standing.declared.standing.Standing.{Standing}
+use Rattle.ifmap_subscribes.specs.ifmap_standing.Standing.{standing_of}
 use Rattle.ifmap_subscribes.specs.declared.renamings.Renaming.{Renaming}
 use Rattle.ifmap_subscribes.specs.Renamings.{KeepsNumbered, begun_by, rename_all, told_in_parts, told_so_far}
-use Rattle.ifmap_tellings.specs.declared.tellings.Pending.{Pending}
-use Rattle.ifmap_view.specs.declared.attachments.Attachment.{Attachment}
-use Rattle.ifmap_tellings.specs.Tellings.{CanTell, EachTelling, Tellings, count_told, count_where, kept_of, told_by}
-use Rattle.ifmap_tellings.specs.ToldLaws.{map_kept}
+use Rattle.ifmap_subscribes.specs.ifmap_tellings.declared.tellings.Pending.{Pending}
+use Rattle.ifmap_subscribes.specs.ifmap_view.declared.attachments.Attachment.{Attachment}
+use Rattle.ifmap_subscribes.specs.ifmap_tellings.Tellings.{CanTell, EachTelling, Tellings, count_told, count_where, kept_of, told_by}
+use Rattle.ifmap_subscribes.specs.ifmap_tellings.ToldLaws.{map_kept}
 
 -- ---- sessions that are told something
 
@@ -171,8 +171,9 @@ module _ (a : Asking) (old new : Parts) (pending : Pending) (ready : IsSoundSoFa
           subst (λ t. length (standing_in serial (rename_all serial renamings t).standing) ≤ most_names) same (can.few s found),
         )
 
-    pub can_apply : (outcome : Outcome) → CanApply outcome a old pending → IsSteady new.graph (new.standing.items ++ held_by outcome)
-        → CanApplyTo outcome new
+    pub can_apply : (completion : Completion) → CanApply completion a old pending
+        → IsSteady new.graph (new.standing.items ++ held_by completion)
+        → CanApplyTo completion new
     can_apply (Say answer) can steady = tt
     can_apply (Accept serial answer) can steady = live_now serial can
     can_apply (End serial answer) can steady = (live_now serial can.0, bare_now serial can.1)
@@ -193,8 +194,8 @@ module _ (a : Asking) (old new : Parts) (pending : Pending) (ready : IsSoundSoFa
     can_apply (Poll serial again) can steady = live_now serial can
 
 -- the state that parts are in, and an answer
-pub finished : (a : Asking) (old new : Parts) (pending : Pending) (outcome : Outcome) (answer : Answer)
-    → rows_now new.graph ≡ rows_now old.graph → ◌≡◌ {A = State × Answer} (after_outcome outcome (so_far a old pending)) (
+pub finished : (a : Asking) (old new : Parts) (pending : Pending) (completion : Completion) (answer : Answer)
+    → rows_now new.graph ≡ rows_now old.graph → ◌≡◌ {A = State × Answer} (after_completion completion (so_far a old pending)) (
       record (so_far a old pending) {
         counter = new.sessions.counter;
         sessions = new.sessions.live;
@@ -202,6 +203,6 @@ pub finished : (a : Asking) (old new : Parts) (pending : Pending) (outcome : Out
       },
       answer,
     )
-    → ◌≡◌ {A = State × Answer} (after_outcome outcome (so_far a old pending)) (state_at a.ttl a.moment new, answer)
-finished a old new pending outcome answer rows e =
+    → ◌≡◌ {A = State × Answer} (after_completion completion (so_far a old pending)) (state_at a.ttl a.moment new, answer)
+finished a old new pending completion answer rows e =
     e ∙ ap (λ (g : List Attachment). (record (state_at a.ttl a.moment new) { graph = g }, answer)) (sym rows)

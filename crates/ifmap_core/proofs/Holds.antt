@@ -3,18 +3,18 @@ use Rattle.std.proofs.Common.{◌≡◌, refl, sym, ◌∙◌, ap, subst, ℕ, �
 use Rattle.std.proofs.lemmas.List.Sums.{sum_by-cons}
 use Rattle.std.specs.Bool.{OnTrue}
 use Rattle.ifmap_core.specs.Holding.{HasNothing, WouldHold}
-use Rattle.ifmap_machine.specs.declared.events.Answer.{Answer}
-use Rattle.ifmap_machine.specs.declared.events.Answer.TheVariants as the_answer
-use Rattle.ifmap_machine.specs.Ending.{end_some, expire}
-use Rattle.ifmap_machine.specs.Events.{Event}
-use Rattle.ifmap_machine.specs.State.{State, advance}
-use Rattle.ifmap_machine.specs.Step.{step}
-use Rattle.ifmap_machine.specs.declared.events.Ask.{Ask}
-use Rattle.ifmap_machine.specs.declared.events.Ask.TheVariants.{Request}
-use Rattle.ifmap_requests.specs.declared.requests.Request.TheVariants.{Poll}
-use Rattle.ifmap_search.specs.declared.results.PollItem.{PollItem}
-use Rattle.ifmap_search.specs.declared.results.PollItem.TheVariants.{Search, Update, Delete, Notify, Error}
-use Rattle.ifmap_search.specs.Sizes.{poll_size, queue_size}
+use Rattle.ifmap_subscribes.specs.ifmap_machine.declared.events.Answer.{Answer}
+use Rattle.ifmap_subscribes.specs.ifmap_machine.declared.events.Answer.TheVariants as the_answer
+use Rattle.ifmap_subscribes.specs.ifmap_machine.Ending.{end_some, expire}
+use Rattle.ifmap_subscribes.specs.ifmap_machine.Events.{Event}
+use Rattle.ifmap_subscribes.specs.ifmap_machine.State.{State, advance}
+use Rattle.ifmap_subscribes.specs.ifmap_machine.Step.{step}
+use Rattle.ifmap_subscribes.specs.ifmap_machine.declared.events.Ask.{Ask}
+use Rattle.ifmap_subscribes.specs.ifmap_machine.declared.events.Ask.TheVariants.{Request}
+use Rattle.ifmap_subscribes.specs.ifmap_requests.declared.requests.Request.TheVariants.{Poll}
+use Rattle.ifmap_session.specs.ifmap_search.declared.results.PollItem.{PollItem}
+use Rattle.ifmap_session.specs.ifmap_search.declared.results.PollItem.TheVariants.{Search, Update, Delete, Notify, Error}
+use Rattle.ifmap_session.specs.ifmap_search.Sizes.{poll_size, queue_size}
 use Rattle.ifmap_session.specs.Sessions.{Session, is_same_text}
 use Rattle.ifmap_session.specs.laws.TextLaws.{text_same}
 use Rattle.ifmap_session.specs.laws.TableLaws.{none_expired}

@@ -7,19 +7,19 @@ use Rattle.std.specs.List.{AllByRecursion}
 use Rattle.std.specs.Ordering.{is_eq}
 use Rattle.ifmap_lemmas.specs.Having.{Has, has_map, map_has, all_has}
 use Rattle.ifmap_lemmas.specs.Texts.{same_texts}
-use Rattle.ifmap_changes.specs.Between.{HasStartNumber, IsSeen, IsSteady, starts_of}
-use Rattle.ifmap_graph.specs.Counted.{AreSoMany}
-use Rattle.ifmap_graph.specs.Held.{Held}
-use Rattle.ifmap_graph.specs.Seen.{AreUsed, HasPoolNumber, IsAttached, rows_now}
+use Rattle.ifmap_subscribes.specs.ifmap_changes.Between.{HasStartNumber, IsSeen, IsSteady, starts_of}
+use Rattle.ifmap_subscribes.specs.ifmap_graph.Counted.{AreSoMany}
+use Rattle.ifmap_subscribes.specs.ifmap_graph.Held.{Held}
+use Rattle.ifmap_subscribes.specs.ifmap_graph.Seen.{AreUsed, HasPoolNumber, IsAttached, rows_now}
 use Rattle.ifmap_ident.specs.declared.identifiers.Identifier.{Identifier}
 use Rattle.ifmap_ident.specs.Canon.{IsIdentifier}
 use Rattle.ifmap_ident.specs.Identifiers.{identifier_bytes, identifier_order}
 use Rattle.ifmap_ident.specs.Items.{IsCanonItem}
-use Rattle.ifmap_machine.specs.State as machine
-use Rattle.ifmap_pool.specs.Holdings.{once}
-use Rattle.ifmap_standing.specs.declared.standing.Standing.{Standing}
-use Rattle.ifmap_standing.specs.Standing.{standing_of}
-use Rattle.ifmap_view.specs.declared.attachments.Attachment.{Attachment}
+use Rattle.ifmap_subscribes.specs.ifmap_machine.State as machine
+use Rattle.ifmap_subscribes.specs.ifmap_pool.Holdings.{once}
+use Rattle.ifmap_subscribes.specs.ifmap_standing.declared.standing.Standing.{Standing}
+use Rattle.ifmap_subscribes.specs.ifmap_standing.Standing.{standing_of}
+use Rattle.ifmap_subscribes.specs.ifmap_view.declared.attachments.Attachment.{Attachment}
 use Rattle.ifmap_ident.specs.SameLaws.{BytesTellIdentifiers}
 
 module _ (h : Held) (tells : BytesTellIdentifiers) (view : IsSeen h) where

@@ -7,7 +7,7 @@ use Rattle.std.specs.List.Sorted.{IsStrictlySortedBy}
 use Rattle.std.specs.declared.cmp.Ordering.{Ordering}
 use Rattle.std.specs.declared.cmp.Ordering.TheVariants.{Less}
 use Rattle.ifmap_core.proofs.Places.{all_left}
-use Rattle.ifmap_tellings.specs.Tellings.{kept_of}
+use Rattle.ifmap_subscribes.specs.ifmap_tellings.Tellings.{kept_of}
 
 module _ {X : Type 0} where
   -- what holds of each that has no flag holds of all that is left

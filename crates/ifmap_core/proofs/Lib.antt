@@ -23,4 +23,5 @@ pub mod Refusals
 pub mod Answered
 pub mod Holds
 pub mod Spending
+pub mod InSession
 pub mod InUse

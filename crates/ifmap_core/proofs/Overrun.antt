@@ -13,23 +13,23 @@ use Rattle.std.specs.Option.{option_to_list}
 use Rattle.std.specs.Ordering.{is_gt, is_lt, nat_cmp, ordering_then}
 use Rattle.std.specs.declared.cmp.Ordering.{Ordering}
 use Rattle.std.specs.declared.cmp.Ordering.TheVariants.{Less, Greater}
-use Rattle.ifmap_core.specs.Outcomes.{alone_told}
+use Rattle.ifmap_core.specs.Completions.{alone_told}
 use Rattle.ifmap_core.proofs.Told.{one_numbered}
 use Rattle.ifmap_ident.specs.declared.codes.Code.TheVariants.{PollResultsTooBig}
 use Rattle.ifmap_lemmas.specs.Filters.{all_around, all_filter, all_weaker, filter_none, filter_passes}
-use Rattle.ifmap_machine.specs.Ending.{without_standing}
-use Rattle.ifmap_machine.specs.State as machine
-use Rattle.ifmap_machine.specs.State.{State, standing_order}
-use Rattle.ifmap_machine.specs.Step.{with_told}
-use Rattle.ifmap_machine.specs.Subscribing.{Told, drop_name, is_of_name}
-use Rattle.ifmap_machine.specs.Telling.{is_overfull, is_overrun, limit_note, overflow, overflow_session}
-use Rattle.ifmap_plans.specs.Placing.{put}
-use Rattle.ifmap_search.specs.declared.results.PollItem.{PollItem}
-use Rattle.ifmap_search.specs.declared.results.PollItem.TheVariants as the_item
-use Rattle.ifmap_search.specs.Sizes.{queue_size}
+use Rattle.ifmap_subscribes.specs.ifmap_machine.Ending.{without_standing}
+use Rattle.ifmap_subscribes.specs.ifmap_machine.State as machine
+use Rattle.ifmap_subscribes.specs.ifmap_machine.State.{State, standing_order}
+use Rattle.ifmap_subscribes.specs.ifmap_machine.Step.{with_told}
+use Rattle.ifmap_subscribes.specs.ifmap_machine.Subscribing.{Told, drop_name, is_of_name}
+use Rattle.ifmap_subscribes.specs.ifmap_machine.Telling.{is_overfull, is_overrun, limit_note, overflow, overflow_session}
+use Rattle.ifmap_subscribes.specs.ifmap_plans.Placing.{put}
+use Rattle.ifmap_session.specs.ifmap_search.declared.results.PollItem.{PollItem}
+use Rattle.ifmap_session.specs.ifmap_search.declared.results.PollItem.TheVariants as the_item
+use Rattle.ifmap_session.specs.ifmap_search.Sizes.{queue_size}
 use Rattle.ifmap_session.specs.Sessions.{Session, change, session_order, session_with_serial, with_error}
-use Rattle.ifmap_standing.specs.declared.standing.Standing.{Standing}
-use Rattle.ifmap_standing.specs.Standing.{standing_of}
+use Rattle.ifmap_subscribes.specs.ifmap_standing.declared.standing.Standing.{Standing}
+use Rattle.ifmap_subscribes.specs.ifmap_standing.Standing.{standing_of}
 use Rattle.ifmap_subscribes.specs.declared.renamings.Renaming.{Renaming}
 use Rattle.ifmap_subscribes.specs.Renamings.{IsOfSession, rename, rename_all, stand_where}
 

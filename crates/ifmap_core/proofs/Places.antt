@@ -5,12 +5,12 @@
 use Rattle.std.proofs.Common.{◌≡◌, refl, sym, ◌∙◌, ap, subst, ℕ, zero, suc, Bool, true, false, List, [], ◌∷◌, length, map, Some, slice_get, arith}
 use Rattle.std.proofs.lemmas.Option.{same_Some, none-some}
 use Rattle.std.specs.List.{AllByRecursion}
-use Rattle.ifmap_delta.specs.Ways.{HasSameSearch}
-use Rattle.ifmap_standing.specs.declared.standing.Standing.{Standing}
-use Rattle.ifmap_standing.specs.Kept.{AtEach, KeepsSame, StaysRelated}
-use Rattle.ifmap_standing.specs.Standing.{standing_of}
-use Rattle.ifmap_tellings.specs.Tellings.{AllKept, kept_of}
-use Rattle.ifmap_standing.specs.PlaceLaws.{at_each_joined, at_each_same, search_itself, keeps_twice, stands_itself, stands_twice}
+use Rattle.ifmap_subscribes.specs.ifmap_delta.Ways.{HasSameSearch}
+use Rattle.ifmap_subscribes.specs.ifmap_standing.declared.standing.Standing.{Standing}
+use Rattle.ifmap_subscribes.specs.ifmap_standing.Kept.{AtEach, KeepsSame, StaysRelated}
+use Rattle.ifmap_subscribes.specs.ifmap_standing.Standing.{standing_of}
+use Rattle.ifmap_subscribes.specs.ifmap_tellings.Tellings.{AllKept, kept_of}
+use Rattle.ifmap_subscribes.specs.ifmap_standing.PlaceLaws.{at_each_joined, at_each_same, search_itself, keeps_twice, stands_itself, stands_twice}
 
 -- ---- what is not gone
 

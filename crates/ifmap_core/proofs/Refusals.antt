@@ -6,21 +6,21 @@ use Rattle.std.proofs.lemmas.Bool.{and_from, and_parts, both_ways, cases_Bool, e
 use Rattle.std.proofs.lemmas.Bool.Decides.{nat_tests}
 use Rattle.ifmap_core.specs.Causes.{AsksForNoneLeft, FindsTooMuch, HasNoRoomForName, IsRefusal, MeetsNoRoom, NamesAnothersSession, NamesNoSession, PurgesAnother}
 use Rattle.ifmap_core.proofs.Rooms.{no_room_where}
-use Rattle.ifmap_fresh.specs.Fresh.{fresh_size}
+use Rattle.ifmap_subscribes.specs.ifmap_fresh.Fresh.{fresh_size}
 use Rattle.ifmap_ident.specs.declared.codes.Code.{Code}
 use Rattle.ifmap_ident.specs.declared.codes.Code.TheVariants.{AccessDenied, InvalidSessionID, SearchResultsTooBig, SystemError}
-use Rattle.ifmap_machine.specs.declared.events.Answer.{Answer}
-use Rattle.ifmap_machine.specs.declared.events.Ask.{Ask}
-use Rattle.ifmap_machine.specs.declared.events.Ask.TheVariants.{Request, Lost}
-use Rattle.ifmap_machine.specs.Events.{Event}
-use Rattle.ifmap_machine.specs.State.{State}
-use Rattle.ifmap_machine.specs.Step.{answer_subscribed, end_session, in_session, is_full, lose, new_session, poll, poll_in, poll_queue, publish, purge, renew_session, search, step_ask, subscribe}
-use Rattle.ifmap_machine.specs.Subscribing.{Told, subscribe_ops}
-use Rattle.ifmap_machine.specs.Telling.{is_too_big}
-use Rattle.ifmap_requests.specs.declared.requests.SubscribeOp.{SubscribeOp}
-use Rattle.ifmap_requests.specs.declared.requests.Request.TheVariants as the_request
-use Rattle.ifmap_search.specs.declared.results.PollItem.{PollItem}
-use Rattle.ifmap_search.specs.declared.searches.Search.{Search}
+use Rattle.ifmap_subscribes.specs.ifmap_machine.declared.events.Answer.{Answer}
+use Rattle.ifmap_subscribes.specs.ifmap_machine.declared.events.Ask.{Ask}
+use Rattle.ifmap_subscribes.specs.ifmap_machine.declared.events.Ask.TheVariants.{Request, Lost}
+use Rattle.ifmap_subscribes.specs.ifmap_machine.Events.{Event}
+use Rattle.ifmap_subscribes.specs.ifmap_machine.State.{State}
+use Rattle.ifmap_subscribes.specs.ifmap_machine.Step.{answer_subscribed, end_session, in_session, is_full, lose, new_session, poll, poll_in, poll_queue, publish, purge, renew_session, search, step_ask, subscribe}
+use Rattle.ifmap_subscribes.specs.ifmap_machine.Subscribing.{Told, subscribe_ops}
+use Rattle.ifmap_subscribes.specs.ifmap_machine.Telling.{is_too_big}
+use Rattle.ifmap_subscribes.specs.ifmap_requests.declared.requests.SubscribeOp.{SubscribeOp}
+use Rattle.ifmap_subscribes.specs.ifmap_requests.declared.requests.Request.TheVariants as the_request
+use Rattle.ifmap_session.specs.ifmap_search.declared.results.PollItem.{PollItem}
+use Rattle.ifmap_session.specs.ifmap_search.declared.searches.Search.{Search}
 use Rattle.ifmap_session.specs.Sessions.{Session, is_same_text, most_sessions, session_of_client, session_with_id}
 use Rattle.ifmap_session.specs.laws.TextLaws.{text_is, text_same}
 

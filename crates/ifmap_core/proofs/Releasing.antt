@@ -1,14 +1,14 @@
 -- The starts of subscriptions that are gone are let go of, one after the other.
 use Rattle.std.proofs.Common.{◌≡◌, refl, sym, ◌∙◌, ap, subst, ℕ, zero, suc, ◌+◌, ◌<◌, ◌≤◌, Bool, true, false, cond, List, [], ◌∷◌, ◌++◌, drop, get_or, length, take, append-nil, append_assoc, add-one, arith}
 use Rattle.std.proofs.lemmas.List.{drop_all, drop_more, take_all}
-use Rattle.ifmap_changes.specs.Between.{IsSteady}
+use Rattle.ifmap_subscribes.specs.ifmap_changes.Between.{IsSteady}
 use Rattle.ifmap_core.proofs.Keeping.{kept_next}
 use Rattle.ifmap_core.proofs.Steady.{steady_front}
-use Rattle.ifmap_graph.specs.Held.{Held}
-use Rattle.ifmap_graph.specs.Seen.{BringsNoNumbers}
-use Rattle.ifmap_standing.specs.declared.standing.Standing.{Standing}
+use Rattle.ifmap_subscribes.specs.ifmap_graph.Held.{Held}
+use Rattle.ifmap_subscribes.specs.ifmap_graph.Seen.{BringsNoNumbers}
+use Rattle.ifmap_subscribes.specs.ifmap_standing.declared.standing.Standing.{Standing}
 use Rattle.ifmap_subscribes.specs.Renamings.{KeepsNumbered}
-use Rattle.ifmap_tellings.specs.Tellings.{kept_of}
+use Rattle.ifmap_subscribes.specs.ifmap_tellings.Tellings.{kept_of}
 
 -- of the first i those that are not gone hold their starts still, and so do all that are to come
 abbrev pub ReleasesSoFar : List Bool → List Standing → ℕ → Held → Held → Type 0

@@ -11,12 +11,12 @@ use Rattle.std.specs.declared.cmp.Ordering.TheVariants.{Less, Equal, Greater}
 use Rattle.ifmap_lemmas.specs.Filters.{all_filter, filter_fewer}
 use Rattle.ifmap_lemmas.specs.Members.{both_all}
 use Rattle.ifmap_lemmas.specs.Numbers.{is_other}
-use Rattle.ifmap_machine.specs.State.{standing_in, standing_order}
-use Rattle.ifmap_machine.specs.State as machine
-use Rattle.ifmap_machine.specs.Subscribing.{Told, drop_name, is_of_name}
-use Rattle.ifmap_plans.specs.Placing.{put}
-use Rattle.ifmap_standing.specs.declared.standing.Standing.{Standing}
-use Rattle.ifmap_standing.specs.Standing.{standing_of}
+use Rattle.ifmap_subscribes.specs.ifmap_machine.State.{standing_in, standing_order}
+use Rattle.ifmap_subscribes.specs.ifmap_machine.State as machine
+use Rattle.ifmap_subscribes.specs.ifmap_machine.Subscribing.{Told, drop_name, is_of_name}
+use Rattle.ifmap_subscribes.specs.ifmap_plans.Placing.{put}
+use Rattle.ifmap_subscribes.specs.ifmap_standing.declared.standing.Standing.{Standing}
+use Rattle.ifmap_subscribes.specs.ifmap_standing.Standing.{standing_of}
 use Rattle.ifmap_subscribes.specs.declared.renamings.Renaming.{Renaming}
 use Rattle.ifmap_subscribes.specs.Renamings.{IsOfSession, rename, rename_all, stand_where}
 

@@ -4,12 +4,12 @@ use Rattle.std.proofs.lemmas.Bool.{and_from, and_parts, cases_Bool, not-true}
 use Rattle.std.proofs.lemmas.Bool.Decides.{nat_tests}
 use Rattle.std.specs.List.{list_any}
 use Rattle.ifmap_core.specs.Causes.{MeetsNoRoom}
-use Rattle.ifmap_machine.specs.State.{Standing, standing_in}
-use Rattle.ifmap_machine.specs.Subscribing.{Told, begin_name, drop_name, is_full_for, is_of_name, most_names, subscribe_op, subscribe_ops}
-use Rattle.ifmap_requests.specs.declared.requests.SubscribeOp.{SubscribeOp}
-use Rattle.ifmap_requests.specs.declared.requests.SubscribeOp.TheVariants.{Update, Delete}
-use Rattle.ifmap_search.specs.declared.searches.Search.{Search}
-use Rattle.ifmap_view.specs.declared.attachments.Attachment.{Attachment}
+use Rattle.ifmap_subscribes.specs.ifmap_machine.State.{Standing, standing_in}
+use Rattle.ifmap_subscribes.specs.ifmap_machine.Subscribing.{Told, begin_name, drop_name, is_full_for, is_of_name, most_names, subscribe_op, subscribe_ops}
+use Rattle.ifmap_subscribes.specs.ifmap_requests.declared.requests.SubscribeOp.{SubscribeOp}
+use Rattle.ifmap_subscribes.specs.ifmap_requests.declared.requests.SubscribeOp.TheVariants.{Update, Delete}
+use Rattle.ifmap_session.specs.ifmap_search.declared.searches.Search.{Search}
+use Rattle.ifmap_subscribes.specs.ifmap_view.declared.attachments.Attachment.{Attachment}
 
 -- no room for a name
 full_means : (serial : ℕ) (name : List ℕ) (standing : List Standing) → is_full_for serial name standing ≡ true

@@ -4,32 +4,32 @@
 use Rattle.std.proofs.Common.{◌≡◌, ◌≢◌, refl, sym, ◌∙◌, ap, subst, inl, not, ℕ, Bool, true, false, List, [], ◌∷◌, Option, None, Some, max, arith}
 use Rattle.std.specs.List.{list_any}
 use Rattle.std.specs.Option.{option_map}
-use Rattle.ifmap_changes.specs.Between.{Asking, sessions_left, so_far, state_at}
-use Rattle.ifmap_changes.specs.Bounds.{IsEndedWithin, IsTakenWithin, IsToldWithin}
-use Rattle.ifmap_changes.specs.declared.parts.Parts.{Parts}
+use Rattle.ifmap_subscribes.specs.ifmap_changes.Between.{Asking, sessions_left, so_far, state_at}
+use Rattle.ifmap_subscribes.specs.ifmap_changes.Bounds.{IsEndedWithin, IsTakenWithin, IsToldWithin}
+use Rattle.ifmap_subscribes.specs.ifmap_changes.declared.parts.Parts.{Parts}
 use Rattle.ifmap_core.proofs.Begun.{former_so_far, so_far_with}
 use Rattle.ifmap_core.proofs.Cases.{author_is, own_client}
 use Rattle.ifmap_core.proofs.Expiring.{some_expired}
-use Rattle.ifmap_core.specs.Bounds.{IsAskWithin, IsBegunWithin, IsEventWithin, IsFormerWithin, IsWithinIf, IsWithinOwn}
+use Rattle.ifmap_core.specs.Bounds.{IsAskWithin, IsBegunWithin, IsEventWithin, IsFormerWithin, IsWithinIf, IsWithinOwn, IsWithinTable}
 use Rattle.ifmap_core.specs.declared.owning.Owner.TheVariants.{Own}
-use Rattle.ifmap_core.specs.Outcomes.{IsOwner}
-use Rattle.ifmap_machine.specs.declared.events.Ask.{Ask}
-use Rattle.ifmap_machine.specs.declared.events.Ask.TheVariants.{Request, Lost}
-use Rattle.ifmap_machine.specs.Ending.{drop_sessions, expire}
-use Rattle.ifmap_machine.specs.Events.{Event}
-use Rattle.ifmap_machine.specs.State.{State, advance}
-use Rattle.ifmap_machine.specs.Step.{author_in, is_full}
-use Rattle.ifmap_publish.specs.Apply.{Authorship, apply}
-use Rattle.ifmap_publish.specs.declared.who.Who.{Who}
-use Rattle.ifmap_publish.specs.declared.who.Who.TheVariants.{Publisher, Sessions}
-use Rattle.ifmap_requests.specs.declared.publishing.PublishOp.{PublishOp}
-use Rattle.ifmap_requests.specs.declared.requests.Request.TheVariants as the_request
-use Rattle.ifmap_requests.specs.declared.requests.SubscribeOp.{SubscribeOp}
-use Rattle.ifmap_search.specs.declared.searches.Search.{Search}
+use Rattle.ifmap_core.specs.Completions.{IsOwner}
+use Rattle.ifmap_subscribes.specs.ifmap_machine.declared.events.Ask.{Ask}
+use Rattle.ifmap_subscribes.specs.ifmap_machine.declared.events.Ask.TheVariants.{Request, Lost}
+use Rattle.ifmap_subscribes.specs.ifmap_machine.Ending.{drop_sessions, expire}
+use Rattle.ifmap_subscribes.specs.ifmap_machine.Events.{Event}
+use Rattle.ifmap_subscribes.specs.ifmap_machine.State.{State, advance}
+use Rattle.ifmap_subscribes.specs.ifmap_machine.Step.{author_in, is_full}
+use Rattle.ifmap_subscribes.specs.ifmap_publish.Apply.{Authorship, apply}
+use Rattle.ifmap_subscribes.specs.ifmap_publish.declared.who.Who.{Who}
+use Rattle.ifmap_subscribes.specs.ifmap_publish.declared.who.Who.TheVariants.{Publisher, Sessions}
+use Rattle.ifmap_subscribes.specs.ifmap_requests.declared.publishing.PublishOp.{PublishOp}
+use Rattle.ifmap_subscribes.specs.ifmap_requests.declared.requests.Request.TheVariants as the_request
+use Rattle.ifmap_subscribes.specs.ifmap_requests.declared.requests.SubscribeOp.{SubscribeOp}
+use Rattle.ifmap_session.specs.ifmap_search.declared.searches.Search.{Search}
 use Rattle.ifmap_session.specs.Sessions.{IsAsBefore, Session, SessionTable, expired_serials, is_expired, is_same_text, session_of_client, session_with_id}
 use Rattle.ifmap_session.specs.laws.TextLaws.{text_same}
 use Rattle.ifmap_subscribes.specs.Bounds.{AreOpsWithin, IsWithinSpan, no_ops}
-use Rattle.ifmap_tellings.specs.declared.tellings.Pending.{Pending}
+use Rattle.ifmap_subscribes.specs.ifmap_tellings.declared.tellings.Pending.{Pending}
 
 -- ---- no steps
 
@@ -173,19 +173,25 @@ ended_within [] some state before after w = absurd (some refl)
 ended_within (n ∷ serials) some state before after w = w
 
 -- some are
-pub event_expired : (state : State) (event : Event) (serials : List ℕ) (before middle after : ℕ)
+pub event_expired : (state : State) (event : Event) (serials listed : List ℕ)
     → list_any (is_expired state.moment state.ttl) state.sessions ≡ true
-    → serials ≡ expired_serials state.moment state.ttl state.sessions
-    → IsTakenWithin (Sessions serials) (drop_sessions serials state) before middle
-    → IsAskWithin (expire state) event event.ask middle after → IsEventWithin state event before after
-event_expired state event serials before middle after any is w asked = (
+    → serials ≡ expired_serials state.moment state.ttl state.sessions → listed ≡ serials
+    → (first : State) → first ≡ drop_sessions serials state → (before middle after : ℕ)
+    → IsTakenWithin (Sessions listed) first before middle → IsAskWithin (expire state) event event.ask middle after
+    → IsEventWithin state event before after
+event_expired state event serials listed any is same first dropped before middle after w asked = (
   middle,
   ended_within (expired_serials state.moment state.ttl state.sessions) (some_expired state.moment state.ttl state.sessions any) state before
-      middle (subst (λ (ns : List ℕ). IsTakenWithin (Sessions ns) (drop_sessions ns state) before middle) is w),
+      middle (subst (λ (ns : List ℕ). IsTakenWithin (Sessions ns) (drop_sessions ns state) before middle) is
+      (subst (λ (ns : List ℕ). IsTakenWithin (Sessions ns) (drop_sessions serials state) before middle) same
+      (subst (λ (s : State). IsTakenWithin (Sessions listed) s before middle) dropped w))),
   asked,
 )
 
--- the state at a later moment
-pub at_moment : (ttl first later given : ℕ) (parts : Parts) (state : State) → state_at ttl first parts ≡ state → later ≡ max first given
-    → state_at ttl later parts ≡ advance given state
-at_moment ttl first later given parts state is e = ap (λ (m : ℕ). state_at ttl m parts) e ∙ ap (advance given) is
+-- an event in the state at a later moment
+pub within_advanced : (ttl first later : ℕ) (parts : Parts) (state : State) (event : Event) → state_at ttl first parts ≡ state
+    → later ≡ max first event.moment → (before after : ℕ) → IsEventWithin (state_at ttl later parts) event before after
+    → IsWithinTable state event before after
+within_advanced ttl first later parts state event is e before after w =
+    subst (λ (s : State). IsEventWithin s event before after)
+    (ap (λ (m : ℕ). state_at ttl m parts) e ∙ ap (advance event.moment) is) w

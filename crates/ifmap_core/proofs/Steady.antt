@@ -1,11 +1,11 @@
 -- What others than items hold while subscriptions stand: the order of these does not matter.
 use Rattle.std.proofs.Common.{◌≡◌, subst, List, ◌∷◌, ◌++◌, arith}
-use Rattle.ifmap_changes.specs.Between.{IsSteady, starts_of, HasStartNumber}
-use Rattle.ifmap_graph.specs.Held.{Held, IsOwn}
+use Rattle.ifmap_subscribes.specs.ifmap_changes.Between.{IsSteady, starts_of, HasStartNumber}
+use Rattle.ifmap_subscribes.specs.ifmap_graph.Held.{Held, IsOwn}
 use Rattle.ifmap_ident.specs.declared.identifiers.Identifier.{Identifier}
 use Rattle.ifmap_lemmas.specs.Members.{all_both, both_all}
-use Rattle.ifmap_standing.specs.declared.standing.Standing.{Standing}
-use Rattle.ifmap_changes.specs.StartLaws.{starts_cons, starts_append}
+use Rattle.ifmap_subscribes.specs.ifmap_standing.declared.standing.Standing.{Standing}
+use Rattle.ifmap_subscribes.specs.ifmap_changes.StartLaws.{starts_cons, starts_append}
 
 -- ---- one moves to the front
 

@@ -1,8 +1,8 @@
 -- A subscribe that was made ready: its names are to be renamed, or one error takes the place of all.
 -- First what stays ready (`ready_there`, `ready_room`), and what is so far (`same_so_far`). Then the session's limit (`told_live`). Then an
--- outcome that renames (`leads_renamed`): no queue is greater than its limit, so that nothing overflows. Then one error in place of all
--- (`overruns`). Last, what holds once operations were made ready, and what they lead to (`holds_kept`, `holds_leads`).
-use Rattle.std.proofs.Common.{◌≡◌, sym, ◌∙◌, ap, subst, ℕ, ◌+◌, ◌<◌, ◌≤◌, ◌==◌, Bool, true, false, not, List, [], ◌∷◌, length, map, Option, Some, None, inl, inr, arith}
+-- completion that renames (`leads_renamed`): no queue is greater than its limit, so that nothing overflows. Then one error in place of all
+-- (`overruns`). Last, what holds once operations were made ready, and what they lead to (`holds_turns`, `holds_leads`).
+use Rattle.std.proofs.Common.{◌≡◌, sym, ◌∙◌, ap, subst, ℕ, ◌+◌, ◌<◌, ◌≤◌, ◌==◌, Bool, true, false, not, List, [], ◌∷◌, length, map, Option, Some, None, Result, Ok, Err, inl, inr, arith}
 use Rattle.std.proofs.lemmas.Bool.{cases_Bool}
 use Rattle.std.proofs.lemmas.Bool.Decides.{nat_tests}
 use Rattle.std.proofs.lemmas.List.Sums.{sum_by-cons}
@@ -13,42 +13,43 @@ use Rattle.std.specs.Ordering.{nat_cmp}
 use Rattle.std.specs.Option.{option_to_list}
 use Rattle.std.specs.Prelude.{vec_capacity, vec_len}
 use Rattle.std.specs.declared.cmp.Ordering.TheVariants.{Less}
-use Rattle.ifmap_changes.specs.Between.{AreKept, AreTurned, AreWithinLimits, Asking, IsSoundSoFar, IsSteady, IsWithinLimit, sessions_left, sight_now, so_far}
-use Rattle.ifmap_changes.specs.declared.parts.Parts.{Parts}
-use Rattle.ifmap_core.specs.Outcomes.{CanRename, LeadsToAnswer, after_outcome, alone_told, rename_in}
-use Rattle.ifmap_core.specs.declared.outcomes.Outcome.TheVariants.{Rename}
+use Rattle.ifmap_subscribes.specs.ifmap_changes.Between.{AreKept, AreTurned, AreWithinLimits, Asking, IsSoundSoFar, IsSteady, IsWithinLimit, sessions_left, sight_now, so_far}
+use Rattle.ifmap_subscribes.specs.ifmap_changes.declared.parts.Parts.{Parts}
+use Rattle.ifmap_core.specs.Answering.{TurnsOrKeeps}
+use Rattle.ifmap_core.specs.Completions.{CanRename, LeadsToAnswer, after_completion, alone_told, rename_in}
+use Rattle.ifmap_core.specs.declared.completions.Completion.TheVariants.{Rename}
 use Rattle.ifmap_core.proofs.Ended.{rising_left}
 use Rattle.ifmap_core.proofs.Overrun.{Grows, IsFit, changed_within, grows_rising, no_overflow, others_renamed, over_is}
 use Rattle.ifmap_core.proofs.Places.{all_are_kept, all_left, kept_both, searched_itself}
 use Rattle.ifmap_core.proofs.Told.{before_told, one_numbered, told_by_leaves, told_rising}
-use Rattle.ifmap_core.proofs.Turned.{shares_later}
-use Rattle.ifmap_delta.specs.Sights.{IsUpToDate}
-use Rattle.ifmap_delta.specs.Ways.{HasSameSearch}
-use Rattle.ifmap_graph.specs.Seen.{rows_now}
+use Rattle.ifmap_core.proofs.Turned.{shares_later, turned_twice}
+use Rattle.ifmap_subscribes.specs.ifmap_delta.Sights.{IsUpToDate}
+use Rattle.ifmap_subscribes.specs.ifmap_delta.Ways.{HasSameSearch}
+use Rattle.ifmap_subscribes.specs.ifmap_graph.Seen.{rows_now}
 use Rattle.ifmap_lemmas.specs.Filters.{all_weaker}
-use Rattle.ifmap_machine.specs.State as machine
-use Rattle.ifmap_machine.specs.State.{State, standing_in}
-use Rattle.ifmap_machine.specs.Step.{answer_subscribed, renew, with_told}
-use Rattle.ifmap_machine.specs.declared.events.Answer.{Answer}
-use Rattle.ifmap_machine.specs.declared.events.Answer.TheVariants as the_answer
-use Rattle.ifmap_replies.specs.declared.replies.Reply.TheVariants as the_reply
-use Rattle.ifmap_search.specs.declared.results.PollItem.{PollItem}
-use Rattle.ifmap_machine.specs.Subscribing.{Told, most_names}
-use Rattle.ifmap_machine.specs.Telling.{overflow}
-use Rattle.ifmap_pool.specs.Holdings.{key_at}
-use Rattle.ifmap_search.specs.Sizes.{queue_size}
+use Rattle.ifmap_subscribes.specs.ifmap_machine.State as machine
+use Rattle.ifmap_subscribes.specs.ifmap_machine.State.{State, standing_in}
+use Rattle.ifmap_subscribes.specs.ifmap_machine.Step.{answer_subscribed, renew, with_told}
+use Rattle.ifmap_subscribes.specs.ifmap_machine.declared.events.Answer.{Answer}
+use Rattle.ifmap_subscribes.specs.ifmap_machine.declared.events.Answer.TheVariants as the_answer
+use Rattle.ifmap_subscribes.specs.ifmap_replies.declared.replies.Reply.TheVariants as the_reply
+use Rattle.ifmap_session.specs.ifmap_search.declared.results.PollItem.{PollItem}
+use Rattle.ifmap_subscribes.specs.ifmap_machine.Subscribing.{Told, most_names}
+use Rattle.ifmap_subscribes.specs.ifmap_machine.Telling.{overflow}
+use Rattle.ifmap_subscribes.specs.ifmap_pool.Holdings.{key_at}
+use Rattle.ifmap_session.specs.ifmap_search.Sizes.{queue_size}
 use Rattle.ifmap_session.specs.Sessions.{IsLive, Session, SessionTable, session_order, session_with_serial, spare_of, without_sessions}
-use Rattle.ifmap_standing.specs.declared.standing.Standing.{Standing}
-use Rattle.ifmap_standing.specs.Kept.{AtEach, KeepsSame, StaysRelated}
-use Rattle.ifmap_standing.specs.Standing.{standing_of}
+use Rattle.ifmap_subscribes.specs.ifmap_standing.declared.standing.Standing.{Standing}
+use Rattle.ifmap_subscribes.specs.ifmap_standing.Kept.{AtEach, KeepsSame, StaysRelated}
+use Rattle.ifmap_subscribes.specs.ifmap_standing.Standing.{standing_of}
 use Rattle.ifmap_subscribes.specs.declared.renamings.Renaming.{Renaming}
 use Rattle.ifmap_subscribes.specs.declared.readying.Readying.{Readying}
 use Rattle.ifmap_subscribes.specs.Readying.{AreReadied, OnlyHolds, queue_where, told_after, told_at}
 use Rattle.ifmap_subscribes.specs.Renamings.{item_count, rename_all, told_so_far, KeepsNumbered}
-use Rattle.ifmap_tellings.specs.declared.tellings.Pending.{Pending}
-use Rattle.ifmap_tellings.specs.Tellings.{AllKept, HasSameSessions, count_where, kept_of, told_by}
+use Rattle.ifmap_subscribes.specs.ifmap_tellings.declared.tellings.Pending.{Pending}
+use Rattle.ifmap_subscribes.specs.ifmap_tellings.Tellings.{AllKept, HasSameSessions, count_where, kept_of, told_by}
 use Rattle.ifmap_session.specs.laws.TableLaws.{found_serial, left_live}
-use Rattle.ifmap_tellings.specs.ToldLaws.{same_itself, map_kept}
+use Rattle.ifmap_subscribes.specs.ifmap_tellings.ToldLaws.{same_sessions_itself, map_kept}
 
 -- ---- what only holds leave
 
@@ -79,13 +80,13 @@ ready_there a old new pending sessions standing there steady r =
       alone = rw standing r.alone;
     }
 
-pub holds_turned : (old new : Parts) → OnlyHolds old new → AreTurned old new
+holds_turned : (old new : Parts) → OnlyHolds old new → AreTurned old new
 holds_turned old new h = record {
   waits = h.waits;
   lean = h.lean;
   searches = subst (λ xs. AtEach (λ _. StaysRelated HasSameSearch) old.standing.items xs)
       (ap (λ v. v.items) (sym h.standing)) (searched_itself old.standing.items);
-  sessions = subst (HasSameSessions old.sessions) (sym h.sessions) (same_itself old.sessions);
+  sessions = subst (HasSameSessions old.sessions) (sym h.sessions) (same_sessions_itself old.sessions);
 }
 
 -- what is so far is what it was
@@ -267,7 +268,7 @@ module _ (a : Asking) (old : Parts) (pending : Pending) (serial : ℕ) (readying
     steady = rw (graph, standing) r.stand.steady;
     ready = ready_room a old new pending graph sessions standing ready;
     can = can_rename new graph sessions standing live limit places room;
-    leads = ap (after_outcome (Rename serial readying.made.items)) (same_so_far a old new pending (ap rows_now graph) sessions standing)
+    leads = ap (after_completion (Rename serial readying.made.items)) (same_so_far a old new pending (ap rows_now graph) sessions standing)
         ∙ renames serial readying.made.items (so_far a old pending) s (told_at serial a old pending) (so_far_rising a old pending up) e
         ready.within (told_is a old pending serial s e) (within_limit limit s e);
   }
@@ -302,7 +303,7 @@ module _ (a : Asking) (old : Parts) (pending : Pending) (serial : ℕ) (readying
 -- ---- holds, and then what is kept
 
 -- what only holds, and then is kept, is kept
-pub holds_kept : (old mid new : Parts) → OnlyHolds old mid → AreKept mid new → AreKept old new
+holds_kept : (old mid new : Parts) → OnlyHolds old mid → AreKept mid new → AreKept old new
 holds_kept old mid new h k = record {
   back = record {
     steady = k.back.steady;
@@ -316,9 +317,15 @@ holds_kept old mid new h k = record {
   backs = λ u rows links b. k.backs u rows links (h.backs u rows links b);
 }
 
+-- what only holds, and then turns or keeps the parts, does so from the start
+pub holds_turns : {X E : Type 0} (r : Result X E) (old mid new : Parts) → OnlyHolds old mid → TurnsOrKeeps r mid new
+    → TurnsOrKeeps r old new
+holds_turns (Ok x) old mid new h c = record { turned = turned_twice old mid new (holds_turned old mid h) c.turned; kept = tt }
+holds_turns (Err e) old mid new h c = record { turned = tt; kept = holds_kept old mid new h c.kept }
+
 pub holds_so_far : (a : Asking) (old new : Parts) (pending : Pending) → OnlyHolds old new → so_far a new pending ≡ so_far a old pending
 holds_so_far a old new pending h =
-    same_so_far a old new pending h.rows (subst (HasSameSessions old.sessions) (sym h.sessions) (same_itself old.sessions))
+    same_so_far a old new pending h.rows (subst (HasSameSessions old.sessions) (sym h.sessions) (same_sessions_itself old.sessions))
     (ap (λ v. v.items) h.standing)
 
 -- what operations that are ready lead to, said of the state before them

@@ -3,13 +3,13 @@ use Rattle.std.proofs.Common.{◌≡◌, refl, sym, ◌∙◌, ap, ℕ, ◌==◌
 use Rattle.std.proofs.lemmas.Bool.{cases_Bool}
 use Rattle.std.proofs.lemmas.Bool.Decides.{nat_tests}
 use Rattle.std.specs.List.{AllByRecursion, filter, list_any}
-use Rattle.ifmap_changes.specs.Changes.{taken_one}
+use Rattle.ifmap_subscribes.specs.ifmap_changes.Changes.{taken_one}
 use Rattle.ifmap_lemmas.specs.Filters.{all_filter}
-use Rattle.ifmap_machine.specs.Ending.{drop_sessions, end_some, without_standing}
-use Rattle.ifmap_machine.specs.State.{Standing, State}
-use Rattle.ifmap_machine.specs.Telling.{is_overfull, is_overrun, is_too_big, overflow_session, tell_session, told_in_session}
-use Rattle.ifmap_publish.specs.declared.who.Who.TheVariants.{Sessions}
-use Rattle.ifmap_publish.specs.Retract.{retract}
+use Rattle.ifmap_subscribes.specs.ifmap_machine.Ending.{drop_sessions, end_some, without_standing}
+use Rattle.ifmap_subscribes.specs.ifmap_machine.State.{Standing, State}
+use Rattle.ifmap_subscribes.specs.ifmap_machine.Telling.{is_overfull, is_overrun, is_too_big, overflow_session, tell_session, told_in_session}
+use Rattle.ifmap_subscribes.specs.ifmap_publish.declared.who.Who.TheVariants.{Sessions}
+use Rattle.ifmap_subscribes.specs.ifmap_publish.Retract.{retract}
 use Rattle.ifmap_session.specs.Sessions.{Session, without_sessions}
 use Rattle.ifmap_session.specs.laws.TableLaws.{is_left}
 

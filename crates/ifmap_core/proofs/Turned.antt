@@ -7,25 +7,25 @@ use Rattle.std.proofs.Common.{◌≡◌, refl, sym, ◌∙◌, ap, subst, ℕ, �
 use Rattle.std.proofs.lemmas.Option.{same_Some}
 use Rattle.std.specs.List.{AllByRecursion}
 use Rattle.std.specs.List.Sorted.{IsStrictlySortedBy}
-use Rattle.ifmap_changes.specs.Between.{AreBack, AreKept, AreOrdered, AreParts, AreTurned, IsSteady, SharesNumbers, sight_now, state_at, IsSeen}
-use Rattle.ifmap_changes.specs.declared.parts.Parts.{Parts}
+use Rattle.ifmap_subscribes.specs.ifmap_changes.Between.{AreBack, AreKept, AreOrdered, AreParts, AreTurned, IsSteady, SharesNumbers, sight_now, state_at, IsSeen}
+use Rattle.ifmap_subscribes.specs.ifmap_changes.declared.parts.Parts.{Parts}
 use Rattle.ifmap_core.proofs.Places.{all_moved, same_map, searched_itself, shown_kept}
-use Rattle.ifmap_delta.specs.Sights.{IsUpToDate, SameLinks}
-use Rattle.ifmap_graph.specs.Back.{KeepsBacks}
-use Rattle.ifmap_graph.specs.Held.{Held, IsOwn}
-use Rattle.ifmap_graph.specs.Seen.{IsStill, KeepsNumbers, StaysLean, links_now, rows_now}
+use Rattle.ifmap_subscribes.specs.ifmap_delta.Sights.{IsUpToDate, SameLinks}
+use Rattle.ifmap_subscribes.specs.ifmap_graph.Back.{KeepsBacks}
+use Rattle.ifmap_subscribes.specs.ifmap_graph.Held.{Held, IsOwn}
+use Rattle.ifmap_subscribes.specs.ifmap_graph.Seen.{IsStill, KeepsNumbers, StaysLean, links_now, rows_now}
 use Rattle.ifmap_ident.specs.declared.identifiers.Identifier.{Identifier}
-use Rattle.ifmap_machine.specs.State as machine
-use Rattle.ifmap_machine.specs.State.{standing_in}
-use Rattle.ifmap_machine.specs.Subscribing.{most_names}
-use Rattle.ifmap_pool.specs.Holdings.{key_at}
+use Rattle.ifmap_subscribes.specs.ifmap_machine.State as machine
+use Rattle.ifmap_subscribes.specs.ifmap_machine.State.{standing_in}
+use Rattle.ifmap_subscribes.specs.ifmap_machine.Subscribing.{most_names}
+use Rattle.ifmap_subscribes.specs.ifmap_pool.Holdings.{key_at}
 use Rattle.ifmap_session.specs.Sessions.{IsLive, Session}
-use Rattle.ifmap_standing.specs.declared.standing.Standing.{Standing}
-use Rattle.ifmap_standing.specs.Kept.{AtEach, KeepsSame, StaysRelated, StaysSame}
-use Rattle.ifmap_standing.specs.Standing.{standing_of}
-use Rattle.ifmap_tellings.specs.Tellings.{HasSameSessions}
-use Rattle.ifmap_standing.specs.PlaceLaws.{kept_itself, searched_twice}
-use Rattle.ifmap_tellings.specs.ToldLaws.{same_itself, same_twice}
+use Rattle.ifmap_subscribes.specs.ifmap_standing.declared.standing.Standing.{Standing}
+use Rattle.ifmap_subscribes.specs.ifmap_standing.Kept.{AtEach, KeepsSame, StaysRelated, StaysSame}
+use Rattle.ifmap_subscribes.specs.ifmap_standing.Standing.{standing_of}
+use Rattle.ifmap_subscribes.specs.ifmap_tellings.Tellings.{HasSameSessions}
+use Rattle.ifmap_subscribes.specs.ifmap_standing.PlaceLaws.{kept_itself, searched_twice}
+use Rattle.ifmap_subscribes.specs.ifmap_tellings.ToldLaws.{same_sessions_itself, same_twice}
 use Rattle.ifmap_subscribes.specs.Renamings.{KeepsNumbered}
 
 -- ---- of themselves
@@ -45,7 +45,7 @@ back_itself parts steady = record {
   numbers = shares_itself parts.graph;
   lean = λ rest l. l;
   standing = kept_itself parts.standing.items;
-  sessions = same_itself parts.sessions;
+  sessions = same_sessions_itself parts.sessions;
 }
 
 pub stays_turned : (parts : Parts) → AreTurned parts parts
@@ -53,7 +53,7 @@ stays_turned parts = record {
   waits = λ rest w. w;
   lean = λ rest l. l;
   searches = searched_itself parts.standing.items;
-  sessions = same_itself parts.sessions;
+  sessions = same_sessions_itself parts.sessions;
 }
 
 -- ---- one after the other

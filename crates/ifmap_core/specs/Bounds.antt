@@ -5,16 +5,16 @@
 --   a search                                        three times the links of all that it reaches (IsWithinSpan 3)
 --   each update of a subscribe                      four times the links of all that its search reaches (AreOpsWithin)
 use Rattle.std.specs.Prelude.{◌≤◌, ℕ, Bool, true, false, not, List, [], ◌∷◌, Option, None, Some, option_map}
-use Rattle.ifmap_changes.specs.Bounds.{IsEndedWithin, IsTakenWithin, IsToldWithin}
-use Rattle.ifmap_machine.specs.declared.events.Ask.{Ask}
-use Rattle.ifmap_machine.specs.declared.events.Ask.TheVariants.{Request, Lost}
-use Rattle.ifmap_machine.specs.Ending.{expire}
-use Rattle.ifmap_machine.specs.Events.{Event}
-use Rattle.ifmap_machine.specs.State.{State, advance}
-use Rattle.ifmap_machine.specs.Step.{author_in, is_full}
-use Rattle.ifmap_publish.specs.Apply.{apply}
-use Rattle.ifmap_publish.specs.declared.who.Who.TheVariants.{Publisher}
-use Rattle.ifmap_requests.specs.declared.requests.Request.TheVariants as the_request
+use Rattle.ifmap_subscribes.specs.ifmap_changes.Bounds.{IsEndedWithin, IsTakenWithin, IsToldWithin}
+use Rattle.ifmap_subscribes.specs.ifmap_machine.declared.events.Ask.{Ask}
+use Rattle.ifmap_subscribes.specs.ifmap_machine.declared.events.Ask.TheVariants.{Request, Lost}
+use Rattle.ifmap_subscribes.specs.ifmap_machine.Ending.{expire}
+use Rattle.ifmap_subscribes.specs.ifmap_machine.Events.{Event}
+use Rattle.ifmap_subscribes.specs.ifmap_machine.State.{State, advance}
+use Rattle.ifmap_subscribes.specs.ifmap_machine.Step.{author_in, is_full}
+use Rattle.ifmap_subscribes.specs.ifmap_publish.Apply.{apply}
+use Rattle.ifmap_subscribes.specs.ifmap_publish.declared.who.Who.TheVariants.{Publisher}
+use Rattle.ifmap_subscribes.specs.ifmap_requests.declared.requests.Request.TheVariants as the_request
 use Rattle.ifmap_session.specs.Sessions.{Session, expired_serials, is_same_text, session_of_client, session_with_id}
 use Rattle.ifmap_subscribes.specs.Bounds.{AreOpsWithin, IsWithinSpan}
 

@@ -1,10 +1,10 @@
 -- How many links carry something, and which identifiers are in use.
 use Rattle.std.specs.Prelude.{◌≡◌, ◌⊎◌, ℕ}
 use Rattle.ifmap_lemmas.specs.Having.{Has}
-use Rattle.ifmap_graph.specs.Counted.{count_links}
-use Rattle.ifmap_graph.specs.Seen.{IsAttached}
+use Rattle.ifmap_subscribes.specs.ifmap_graph.Counted.{count_links}
+use Rattle.ifmap_subscribes.specs.ifmap_graph.Seen.{IsAttached}
 use Rattle.ifmap_ident.specs.declared.identifiers.Identifier.{Identifier}
-use Rattle.ifmap_machine.specs.State.{Standing, State}
+use Rattle.ifmap_subscribes.specs.ifmap_machine.State.{Standing, State}
 
 -- how many links carry an attachment
 abbrev pub link_count : State → ℕ

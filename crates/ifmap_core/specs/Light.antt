@@ -1,11 +1,11 @@
 -- Events that take no memory.
 use Rattle.std.specs.Prelude.{◌≡◌, ℕ, ◌⊎◌, false, List, max, Some}
 use Rattle.std.specs.List.{list_any}
-use Rattle.ifmap_machine.specs.declared.events.Ask.{Ask}
-use Rattle.ifmap_machine.specs.declared.events.Ask.TheVariants.{Request}
-use Rattle.ifmap_machine.specs.Events.{Event}
-use Rattle.ifmap_machine.specs.State.{State}
-use Rattle.ifmap_requests.specs.declared.requests.Request.TheVariants.{Poll, RenewSession}
+use Rattle.ifmap_subscribes.specs.ifmap_machine.declared.events.Ask.{Ask}
+use Rattle.ifmap_subscribes.specs.ifmap_machine.declared.events.Ask.TheVariants.{Request}
+use Rattle.ifmap_subscribes.specs.ifmap_machine.Events.{Event}
+use Rattle.ifmap_subscribes.specs.ifmap_machine.State.{State}
+use Rattle.ifmap_subscribes.specs.ifmap_requests.declared.requests.Request.TheVariants.{Poll, RenewSession}
 use Rattle.ifmap_session.specs.Sessions.{Session, is_expired, session_with_id}
 
 -- the session of an id is renewed, or polled

@@ -1,38 +1,34 @@
 //! Requests in sessions. Each takes all the memory that it needs before it changes anything.
-ghost use Rattle.std.specs.Prelude.{◌≡◌, ◌∷◌, [], IfOk, OnErr, OnOk};
+ghost use Rattle.std.specs.Prelude.{◌≡◌, ◌∷◌, [], IfOk};
 ghost use Rattle.std.specs.List.{AllByRecursion};
-ghost use Rattle.ifmap_changes.specs.Between.{AreKept, AreTurned, IsSoundSoFar, IsSteady, so_far};
-ghost use Rattle.ifmap_changes.specs.Bounds.{IsEndedWithin, IsTakenWithin, IsToldWithin};
+ghost use Rattle.ifmap_subscribes.specs.ifmap_changes.Between.{so_far};
+ghost use Rattle.ifmap_subscribes.specs.ifmap_changes.Bounds.{IsEndedWithin, IsTakenWithin, IsToldWithin};
+ghost use Rattle.ifmap_core.specs.Answering.{CanAnswer, GivesCompletion, TurnsOrKeeps, case_in};
 ghost use Rattle.ifmap_core.specs.Bounds.{IsAskWithin, IsWithinIf, IsWithinOwn};
-ghost use Rattle.ifmap_core.specs.declared.outcomes.Outcome.TheVariants.{Say};
-ghost use Rattle.ifmap_core.specs.Outcomes.{LeadsToAnswer, end_of_poll};
+ghost use Rattle.ifmap_core.specs.declared.completions.Completion.TheVariants.{Say};
+ghost use Rattle.ifmap_core.specs.Completions.{end_of_poll};
 ghost use Rattle.ifmap_ident.specs.declared.codes.Code.TheVariants.{SearchResultsTooBig};
 ghost use Rattle.ifmap_ident.specs.Canon.{IsIdentifier};
-ghost use Rattle.ifmap_machine.specs.Step.{author_in, end_session, in_session, lose, poll, publish, purge, refusal_with, renew_session, search, step_ask, subscribe};
-ghost use Rattle.ifmap_machine.specs.Telling.{limit_note};
-ghost use Rattle.ifmap_publish.specs.Apply.{apply};
-ghost use Rattle.ifmap_publish.specs.declared.who.Who.TheVariants.{Publisher};
-ghost use Rattle.ifmap_requests.specs.Fit.{IsFitOp, IsFitSubscribeOp};
+ghost use Rattle.ifmap_subscribes.specs.ifmap_machine.Step.{author_in, end_session, lose, poll, publish, purge, refusal_with, renew_session, search, step_ask, subscribe};
+ghost use Rattle.ifmap_subscribes.specs.ifmap_machine.Telling.{limit_note};
+ghost use Rattle.ifmap_subscribes.specs.ifmap_publish.Apply.{apply};
+ghost use Rattle.ifmap_subscribes.specs.ifmap_publish.declared.who.Who.TheVariants.{Publisher};
+ghost use Rattle.ifmap_subscribes.specs.ifmap_requests.Fit.{IsFitOp, IsFitSubscribeOp};
 ghost use Rattle.ifmap_session.specs.Sessions.{is_same_text, session_with_id};
 ghost use Rattle.ifmap_subscribes.specs.Bounds.{AreOpsWithin, IsWithinSpan};
 
 use crate::beginning::{NewSession, new_session};
-use crate::outcomes::{Outcome, refuse};
+use crate::completions::{Completion, refuse};
 use crate::owning::{Owner, owner_of};
 use crate::subscribing::{SessionOps, subscribe_in};
-use ifmap_changes::asking::Asking;
-use ifmap_changes::changing::{Publication, publish as publish_in, take_away, take_away_one};
-use ifmap_changes::parts::Parts;
 use ifmap_elem::{Copied, Equals, Many, Text};
-use ifmap_fresh::fresh;
 use ifmap_ident::Code;
-use ifmap_machine::{Answer, Ask, Event};
-use ifmap_publish::Who;
-use ifmap_replies::Reply;
-use ifmap_requests::{PublishOp, Request, SubscribeOp};
-use ifmap_search::{Search, SearchError};
+use ifmap_session::{Search, SearchError};
 use ifmap_steps::Steps;
-use ifmap_tellings::tellings::Pending;
+use ifmap_subscribes::{
+    Answer, Ask, Asking, Event, Parts, Pending, Publication, PublishOp, Reply, Request,
+    SubscribeOp, Who, fresh, publish as publish_in, take_away, take_away_one,
+};
 use std::alloc::{AllocError as NoMemory, Global};
 use std::sync::ledger::Ledger;
 
@@ -51,14 +47,12 @@ pub(crate) fn answer<L: Ledger>(
     asking: &Asking,
     event: &Event,
     steps: &mut Steps<L>,
-) -> Result<Outcome, NoMemory>
-    requires steady { IsSteady parts.old.graph parts.old.standing.items }
-    requires ready { IsSoundSoFar asking.now parts.old pending.old }
+) -> Result<Completion, NoMemory>
+    requires can { CanAnswer asking.now parts.old pending.old }
     requires client { asking.now.client ≡ event.now.client }
-    ensures leads { IfOk result (λ outcome. LeadsToAnswer outcome asking.now parts.new pending.new
-        (step_ask (so_far asking.now parts.old pending.old) event.now event.now.ask)) }
-    ensures turned { OnOk result (AreTurned parts.old parts.new) }
-    ensures kept { OnErr result (AreKept parts.old parts.new) }
+    ensures leads { GivesCompletion result asking.now parts.new pending.new
+        (step_ask (so_far asking.now parts.old pending.old) event.now event.now.ask) }
+    ensures change { TurnsOrKeeps result parts.old parts.new }
     ensures steps { IsAskWithin (so_far asking.now parts.old pending.old) event.now
         event.now.ask steps.old steps.new }
 {
@@ -109,16 +103,14 @@ fn renew_session(
     pending: &Pending,
     asking: &Asking,
     id: &Text,
-) -> Result<Outcome, NoMemory>
-    requires steady { IsSteady parts.now.graph parts.now.standing.items }
-    requires ready { IsSoundSoFar asking.now parts.now pending.now }
-    ensures { IfOk result (λ outcome. LeadsToAnswer outcome asking.now parts.now pending.now
-        (in_session (so_far asking.now parts.now pending.now) asking.now.client
-        (session_with_id id.now (so_far asking.now parts.now pending.now).sessions)
-        (renew_session (so_far asking.now parts.now pending.now)))) }
+) -> Result<Completion, NoMemory>
+    requires { CanAnswer asking.now parts.now pending.now }
+    ensures { let before = so_far asking.now parts.now pending.now in
+        GivesCompletion result asking.now parts.now pending.now
+        (case_in before asking.now.client id.now (renew_session before)) }
 {
     match owner_of(&parts.sessions, asking, id) {
-        Owner::Own(serial) => Ok(Outcome::Accept {
+        Owner::Own(serial) => Ok(Completion::Accept {
             serial,
             answer: Answer::Reply(Reply::Renewed),
         }),
@@ -135,14 +127,12 @@ fn lose<L: Ledger>(
     asking: &Asking,
     id: &Text,
     steps: &mut Steps<L>,
-) -> Result<Outcome, NoMemory>
-    requires steady { IsSteady parts.old.graph parts.old.standing.items }
-    requires ready { IsSoundSoFar asking.now parts.old pending.old }
-    ensures leads { IfOk result (λ outcome. LeadsToAnswer outcome asking.now parts.new pending.new
-        (lose (so_far asking.now parts.old pending.old) asking.now.client
-        (session_with_id id.now (so_far asking.now parts.old pending.old).sessions))) }
-    ensures turned { OnOk result (AreTurned parts.old parts.new) }
-    ensures kept { OnErr result (AreKept parts.old parts.new) }
+) -> Result<Completion, NoMemory>
+    requires { CanAnswer asking.now parts.old pending.old }
+    ensures leads { let before = so_far asking.now parts.old pending.old in
+        GivesCompletion result asking.now parts.new pending.new
+        (lose before asking.now.client (session_with_id id.now before.sessions)) }
+    ensures change { TurnsOrKeeps result parts.old parts.new }
     ensures steps { let before = so_far asking.now parts.old pending.old in
         IsWithinOwn asking.now.client (session_with_id id.now before.sessions)
         (λ s. IsEndedWithin (s.serial ∷ []) before) steps.old steps.new }
@@ -151,10 +141,10 @@ fn lose<L: Ledger>(
         Owner::Own(serial) => {
             take_away_one(alloc, parts, pending, asking, serial, steps)?;
             let answer = Answer::Heard;
-            Ok(Outcome::End { serial, answer })
+            Ok(Completion::End { serial, answer })
         }
-        Owner::Another => Ok(Outcome::Say(Answer::Heard)),
-        Owner::Nobody => Ok(Outcome::Say(Answer::Heard)),
+        Owner::Another => Ok(Completion::Say(Answer::Heard)),
+        Owner::Nobody => Ok(Completion::Say(Answer::Heard)),
     }
 }
 
@@ -165,15 +155,12 @@ fn end_session<L: Ledger>(
     asking: &Asking,
     id: &Text,
     steps: &mut Steps<L>,
-) -> Result<Outcome, NoMemory>
-    requires steady { IsSteady parts.old.graph parts.old.standing.items }
-    requires ready { IsSoundSoFar asking.now parts.old pending.old }
-    ensures leads { IfOk result (λ outcome. LeadsToAnswer outcome asking.now parts.new pending.new
-        (in_session (so_far asking.now parts.old pending.old) asking.now.client
-        (session_with_id id.now (so_far asking.now parts.old pending.old).sessions)
-        (end_session (so_far asking.now parts.old pending.old)))) }
-    ensures turned { OnOk result (AreTurned parts.old parts.new) }
-    ensures kept { OnErr result (AreKept parts.old parts.new) }
+) -> Result<Completion, NoMemory>
+    requires { CanAnswer asking.now parts.old pending.old }
+    ensures leads { let before = so_far asking.now parts.old pending.old in
+        GivesCompletion result asking.now parts.new pending.new
+        (case_in before asking.now.client id.now (end_session before)) }
+    ensures change { TurnsOrKeeps result parts.old parts.new }
     ensures steps { let before = so_far asking.now parts.old pending.old in
         IsWithinOwn asking.now.client (session_with_id id.now before.sessions)
         (λ s. IsEndedWithin (s.serial ∷ []) before) steps.old steps.new }
@@ -182,7 +169,7 @@ fn end_session<L: Ledger>(
         Owner::Own(serial) => {
             take_away_one(alloc, parts, pending, asking, serial, steps)?;
             let answer = Answer::Reply(Reply::Ended);
-            Ok(Outcome::End { serial, answer })
+            Ok(Completion::End { serial, answer })
         }
         Owner::Another => refuse(alloc, Code::AccessDenied),
         Owner::Nobody => refuse(alloc, Code::InvalidSessionID),
@@ -196,16 +183,13 @@ fn publish<L: Ledger>(
     asking: &Asking,
     wish: &InSession<'_, Many<PublishOp>>,
     steps: &mut Steps<L>,
-) -> Result<Outcome, NoMemory>
-    requires steady { IsSteady parts.old.graph parts.old.standing.items }
-    requires ready { IsSoundSoFar asking.now parts.old pending.old }
+) -> Result<Completion, NoMemory>
+    requires can { CanAnswer asking.now parts.old pending.old }
     requires fit { AllByRecursion IsFitOp wish.now.asked.now }
-    ensures leads { IfOk result (λ outcome. LeadsToAnswer outcome asking.now parts.new pending.new
-        (in_session (so_far asking.now parts.old pending.old) asking.now.client
-        (session_with_id wish.now.id.now (so_far asking.now parts.old pending.old).sessions)
-        (publish (so_far asking.now parts.old pending.old) wish.now.asked.now))) }
-    ensures turned { OnOk result (AreTurned parts.old parts.new) }
-    ensures kept { OnErr result (AreKept parts.old parts.new) }
+    ensures leads { let before = so_far asking.now parts.old pending.old in
+        GivesCompletion result asking.now parts.new pending.new
+        (case_in before asking.now.client wish.now.id.now (publish before wish.now.asked.now)) }
+    ensures change { TurnsOrKeeps result parts.old parts.new }
     ensures steps { let before = so_far asking.now parts.old pending.old in
         IsWithinOwn asking.now.client (session_with_id wish.now.id.now before.sessions)
         (λ s. IsToldWithin (apply before.graph (author_in before s) wish.now.asked.now) before)
@@ -219,7 +203,7 @@ fn publish<L: Ledger>(
             };
             publish_in(alloc, parts, pending, asking, &publication, steps)?;
             let answer = Answer::Reply(Reply::Published);
-            Ok(Outcome::Accept { serial, answer })
+            Ok(Completion::Accept { serial, answer })
         }
         Owner::Another => refuse(alloc, Code::AccessDenied),
         Owner::Nobody => refuse(alloc, Code::InvalidSessionID),
@@ -233,15 +217,12 @@ fn purge<L: Ledger>(
     asking: &Asking,
     wish: &InSession<'_, Text>,
     steps: &mut Steps<L>,
-) -> Result<Outcome, NoMemory>
-    requires steady { IsSteady parts.old.graph parts.old.standing.items }
-    requires ready { IsSoundSoFar asking.now parts.old pending.old }
-    ensures leads { IfOk result (λ outcome. LeadsToAnswer outcome asking.now parts.new pending.new
-        (in_session (so_far asking.now parts.old pending.old) asking.now.client
-        (session_with_id wish.now.id.now (so_far asking.now parts.old pending.old).sessions)
-        (purge (so_far asking.now parts.old pending.old) wish.now.asked.now))) }
-    ensures turned { OnOk result (AreTurned parts.old parts.new) }
-    ensures kept { OnErr result (AreKept parts.old parts.new) }
+) -> Result<Completion, NoMemory>
+    requires { CanAnswer asking.now parts.old pending.old }
+    ensures leads { let before = so_far asking.now parts.old pending.old in
+        GivesCompletion result asking.now parts.new pending.new
+        (case_in before asking.now.client wish.now.id.now (purge before wish.now.asked.now)) }
+    ensures change { TurnsOrKeeps result parts.old parts.new }
     ensures steps { let before = so_far asking.now parts.old pending.old in
         IsWithinOwn asking.now.client (session_with_id wish.now.id.now before.sessions)
         (λ s. IsWithinIf (is_same_text wish.now.asked.now s.client)
@@ -255,7 +236,7 @@ fn purge<L: Ledger>(
             let who = Who::Publisher(asking.client.copy(alloc)?);
             take_away(alloc, parts, pending, asking, &who, steps)?;
             let answer = Answer::Reply(Reply::Purged);
-            Ok(Outcome::Accept { serial, answer })
+            Ok(Completion::Accept { serial, answer })
         }
         Owner::Another => refuse(alloc, Code::AccessDenied),
         Owner::Nobody => refuse(alloc, Code::InvalidSessionID),
@@ -269,14 +250,12 @@ fn run_search<L: Ledger>(
     asking: &Asking,
     wish: &InSession<'_, Search>,
     steps: &mut Steps<L>,
-) -> Result<Outcome, NoMemory>
-    requires steady { IsSteady parts.now.graph parts.now.standing.items }
-    requires ready { IsSoundSoFar asking.now parts.now pending.now }
+) -> Result<Completion, NoMemory>
+    requires can { CanAnswer asking.now parts.now pending.now }
     requires start { IsIdentifier wish.now.asked.now.start }
-    ensures leads { IfOk result (λ outcome. LeadsToAnswer outcome asking.now parts.now pending.now
-        (in_session (so_far asking.now parts.now pending.now) asking.now.client
-        (session_with_id wish.now.id.now (so_far asking.now parts.now pending.now).sessions)
-        (search (so_far asking.now parts.now pending.now) wish.now.asked.now))) }
+    ensures leads { let before = so_far asking.now parts.now pending.now in
+        GivesCompletion result asking.now parts.now pending.now
+        (case_in before asking.now.client wish.now.id.now (search before wish.now.asked.now)) }
     ensures steps { let before = so_far asking.now parts.now pending.now in
         IsWithinOwn asking.now.client (session_with_id wish.now.id.now before.sessions)
         (λ s. IsWithinSpan 3 before.graph wish.now.asked.now) steps.old steps.new }
@@ -284,7 +263,7 @@ fn run_search<L: Ledger>(
     parts.graph.is_view();
     match owner_of(&parts.sessions, asking, wish.id) {
         Owner::Own(serial) => match fresh(alloc, &parts.graph, wish.asked, steps) {
-            Ok(found) => Ok(Outcome::Accept {
+            Ok(found) => Ok(Completion::Accept {
                 serial,
                 answer: Answer::Reply(Reply::Found(found.entries)),
             }),
@@ -303,16 +282,13 @@ fn subscribe<L: Ledger>(
     asking: &Asking,
     wish: &InSession<'_, Many<SubscribeOp>>,
     steps: &mut Steps<L>,
-) -> Result<Outcome, NoMemory>
-    requires steady { IsSteady parts.old.graph parts.old.standing.items }
-    requires ready { IsSoundSoFar asking.now parts.old pending.old }
+) -> Result<Completion, NoMemory>
+    requires can { CanAnswer asking.now parts.old pending.old }
     requires fit { AllByRecursion IsFitSubscribeOp wish.now.asked.now }
-    ensures leads { IfOk result (λ outcome. LeadsToAnswer outcome asking.now parts.new pending.new
-        (in_session (so_far asking.now parts.old pending.old) asking.now.client
-        (session_with_id wish.now.id.now (so_far asking.now parts.old pending.old).sessions)
-        (subscribe (so_far asking.now parts.old pending.old) wish.now.asked.now))) }
-    ensures turned { OnOk result (AreTurned parts.old parts.new) }
-    ensures kept { OnErr result (AreKept parts.old parts.new) }
+    ensures leads { let before = so_far asking.now parts.old pending.old in
+        GivesCompletion result asking.now parts.new pending.new
+        (case_in before asking.now.client wish.now.id.now (subscribe before wish.now.asked.now)) }
+    ensures change { TurnsOrKeeps result parts.old parts.new }
     ensures steps { let before = so_far asking.now parts.old pending.old in
         IsWithinOwn asking.now.client (session_with_id wish.now.id.now before.sessions)
         (λ s. AreOpsWithin before.graph wish.now.asked.now) steps.old steps.new }
@@ -331,13 +307,13 @@ fn subscribe<L: Ledger>(
 }
 
 // The refusal of a search that finds too much.
-fn refuse_size(alloc: Global, size: u64, limit: u64) -> Result<Outcome, NoMemory>
-    ensures { IfOk result (λ outcome. outcome
+fn refuse_size(alloc: Global, size: u64, limit: u64) -> Result<Completion, NoMemory>
+    ensures { IfOk result (λ completion. completion
         ≡ Say (refusal_with SearchResultsTooBig (limit_note size limit))) }
 {
     let note = Text(format!(in alloc; "{size} of {limit}")?);
     let code = Code::SearchResultsTooBig;
-    Ok(Outcome::Say(Answer::Reply(Reply::Error { code, note })))
+    Ok(Completion::Say(Answer::Reply(Reply::Error { code, note })))
 }
 
 fn poll(
@@ -347,26 +323,25 @@ fn poll(
     asking: &Asking,
     id: &Text,
     again: bool,
-) -> Result<Outcome, NoMemory>
-    requires steady { IsSteady parts.now.graph parts.now.standing.items }
-    requires ready { IsSoundSoFar asking.now parts.now pending.now }
-    ensures { IfOk result (λ outcome. LeadsToAnswer outcome asking.now parts.now pending.now
-        (poll (so_far asking.now parts.now pending.now) asking.now.client again
-        (session_with_id id.now (so_far asking.now parts.now pending.now).sessions))) }
+) -> Result<Completion, NoMemory>
+    requires { CanAnswer asking.now parts.now pending.now }
+    ensures { let before = so_far asking.now parts.now pending.now in
+        GivesCompletion result asking.now parts.now pending.now
+        (poll before asking.now.client again (session_with_id id.now before.sessions)) }
 {
     match owner_of(&parts.sessions, asking, id) {
-        Owner::Own(serial) => Ok(Outcome::Poll { serial, again }),
+        Owner::Own(serial) => Ok(Completion::Poll { serial, again }),
         Owner::Another => refuse(alloc, Code::AccessDenied),
         Owner::Nobody => tell_end(alloc, again),
     }
 }
 
 // What a poll is told where no live session has its id: the end, where it is asked again.
-fn tell_end(alloc: Global, again: bool) -> Result<Outcome, NoMemory>
-    ensures { IfOk result (λ outcome. outcome ≡ end_of_poll again) }
+fn tell_end(alloc: Global, again: bool) -> Result<Completion, NoMemory>
+    ensures { IfOk result (λ completion. completion ≡ end_of_poll again) }
 {
     if again {
-        Ok(Outcome::Say(Answer::Reply(Reply::Ended)))
+        Ok(Completion::Say(Answer::Reply(Reply::Ended)))
     } else {
         refuse(alloc, Code::InvalidSessionID)
     }

@@ -1,24 +1,22 @@
 //! How a session begins.
-ghost use Rattle.std.specs.Prelude.{◌≡◌, ◌<◌, ◌-◌, ◌^◌, ◌&&◌, nat_le, false, is_none, length, option_map, IfOk, IfSome, OnErr, OnOk};
+ghost use Rattle.std.specs.Prelude.{◌≡◌, ◌<◌, ◌-◌, ◌^◌, ◌&&◌, nat_le, false, is_none, length, option_map, IfSome, OnOk};
 ghost use Rattle.std.specs.Bool.{OnFalse};
-ghost use Rattle.ifmap_changes.specs.Between.{AreKept, AreTurned, CanEnd, HasNoSubscriptions, IsSoundSoFar, IsSteady, sessions_left, so_far};
-ghost use Rattle.ifmap_changes.specs.declared.parts.Parts.{Parts};
-ghost use Rattle.ifmap_tellings.specs.declared.tellings.Pending.{Pending};
+ghost use Rattle.ifmap_subscribes.specs.ifmap_changes.Between.{CanEnd, HasNoSubscriptions, IsSoundSoFar, IsSteady, sessions_left, so_far};
+ghost use Rattle.ifmap_subscribes.specs.ifmap_changes.declared.parts.Parts.{Parts};
+ghost use Rattle.ifmap_subscribes.specs.ifmap_tellings.declared.tellings.Pending.{Pending};
+ghost use Rattle.ifmap_core.specs.Answering.{CanAnswer, GivesCompletion, TurnsOrKeeps};
 ghost use Rattle.ifmap_core.specs.Bounds.{IsBegunWithin, IsFormerWithin};
-ghost use Rattle.ifmap_core.specs.Outcomes.{LeadsToAnswer, taken_former};
-ghost use Rattle.ifmap_machine.specs.Step.{is_full, new_session};
+ghost use Rattle.ifmap_core.specs.Completions.{taken_former};
+ghost use Rattle.ifmap_subscribes.specs.ifmap_machine.Step.{is_full, new_session};
 ghost use Rattle.ifmap_session.specs.Sessions.{most_sessions, session_of_client};
 
-use crate::outcomes::{Outcome, refuse};
+use crate::completions::{Completion, refuse};
 use crate::owning::former_of;
-use ifmap_changes::asking::Asking;
-use ifmap_changes::changing::take_away_one;
-use ifmap_changes::parts::Parts;
 use ifmap_elem::Copied;
 use ifmap_ident::Code;
 use ifmap_session::{MOST_SESSIONS, Sessions, limit_of};
 use ifmap_steps::Steps;
-use ifmap_tellings::tellings::Pending;
+use ifmap_subscribes::{Asking, Parts, Pending, take_away_one};
 use std::alloc::{AllocError as NoMemory, Global};
 use std::sync::ledger::Ledger;
 
@@ -37,14 +35,12 @@ pub(crate) fn new_session<L: Ledger>(
     asking: &Asking,
     wish: NewSession,
     steps: &mut Steps<L>,
-) -> Result<Outcome, NoMemory>
-    requires steady { IsSteady parts.old.graph parts.old.standing.items }
-    requires ready { IsSoundSoFar asking.now parts.old pending.old }
-    ensures leads { IfOk result (λ outcome. LeadsToAnswer outcome asking.now parts.new pending.new
-        (new_session (so_far asking.now parts.old pending.old) asking.now.client wish.random
-        wish.limit)) }
-    ensures turned { OnOk result (AreTurned parts.old parts.new) }
-    ensures kept { OnErr result (AreKept parts.old parts.new) }
+) -> Result<Completion, NoMemory>
+    requires { CanAnswer asking.now parts.old pending.old }
+    ensures leads { let before = so_far asking.now parts.old pending.old in
+        GivesCompletion result asking.now parts.new pending.new
+        (new_session before asking.now.client wish.random wish.limit) }
+    ensures change { TurnsOrKeeps result parts.old parts.new }
     ensures steps { IsBegunWithin (so_far asking.now parts.old pending.old) asking.now.client
         steps.old steps.new }
 {
@@ -103,16 +99,14 @@ fn begin<L: Ledger>(
     asking: &Asking,
     wish: NewSession,
     steps: &mut Steps<L>,
-) -> Result<Outcome, NoMemory>
-    requires steady { IsSteady parts.old.graph parts.old.standing.items }
-    requires ready { IsSoundSoFar asking.now parts.old pending.old }
+) -> Result<Completion, NoMemory>
+    requires can { CanAnswer asking.now parts.old pending.old }
     requires free { is_full (so_far asking.now parts.old pending.old) asking.now.client ≡ false }
     requires next { parts.old.sessions.counter < 2 ^ 64 - 1 }
-    ensures leads { IfOk result (λ outcome. LeadsToAnswer outcome asking.now parts.new pending.new
-        (new_session (so_far asking.now parts.old pending.old) asking.now.client wish.random
-        wish.limit)) }
-    ensures turned { OnOk result (AreTurned parts.old parts.new) }
-    ensures kept { OnErr result (AreKept parts.old parts.new) }
+    ensures leads { let before = so_far asking.now parts.old pending.old in
+        GivesCompletion result asking.now parts.new pending.new
+        (new_session before asking.now.client wish.random wish.limit) }
+    ensures change { TurnsOrKeeps result parts.old parts.new }
     ensures steps { let before = so_far asking.now parts.old pending.old in
         IsFormerWithin (option_map (λ s. s.serial)
         (session_of_client asking.now.client before.sessions)) before steps.old steps.new }
@@ -122,7 +116,7 @@ fn begin<L: Ledger>(
     parts.sessions.is_table();
     let publisher = asking.client.text().copy(alloc)?;
     take_away_former(alloc, parts, pending, asking, former, steps)?;
-    Ok(Outcome::Open {
+    Ok(Completion::Open {
         former,
         opening,
         limit: limit_of(wish.limit),
@@ -139,15 +133,13 @@ fn take_away_former<L: Ledger>(
     former: Option<u64>,
     steps: &mut Steps<L>,
 ) -> Result<(), NoMemory>
-    requires steady { IsSteady parts.old.graph parts.old.standing.items }
-    requires ready { IsSoundSoFar asking.now parts.old pending.old }
+    requires { CanAnswer asking.now parts.old pending.old }
     ensures told { OnOk result (so_far asking.now parts.new pending.new
         ≡ taken_former former (so_far asking.now parts.old pending.old)) }
     ensures steady { OnOk result (IsSteady parts.new.graph parts.new.standing.items) }
     ensures ready { OnOk result (IsSoundSoFar asking.now parts.new pending.new) }
     ensures bare { OnOk result (IfSome former (λ n. HasNoSubscriptions n parts.new pending.new)) }
-    ensures turned { OnOk result (AreTurned parts.old parts.new) }
-    ensures kept { OnErr result (AreKept parts.old parts.new) }
+    ensures change { TurnsOrKeeps result parts.old parts.new }
     ensures steps { IsFormerWithin former (so_far asking.now parts.old pending.old) steps.old
         steps.new }
 {

@@ -3,34 +3,31 @@ ghost use Rattle.std.specs.Prelude.{◌≡◌, ◌++◌, true, false, IfOk, IsOk
 ghost use Rattle.std.specs.List.{list_any};
 ghost use Rattle.std.specs.List.Sorted.{IsStrictlySortedBy};
 ghost use Rattle.std.specs.Ordering.{nat_cmp};
-ghost use Rattle.ifmap_changes.specs.Between.{AreBack, AreParts, CanEnd, IsSoundSoFar, IsSteady, so_far, state_at};
-ghost use Rattle.ifmap_changes.specs.Changes.{CanSettle, CanTakeBack};
-ghost use Rattle.ifmap_changes.specs.declared.parts.Parts.{Parts};
+ghost use Rattle.ifmap_subscribes.specs.ifmap_changes.Between.{AreBack, AreParts, CanEnd, IsSoundSoFar, IsSteady, so_far, state_at};
+ghost use Rattle.ifmap_subscribes.specs.ifmap_changes.Changes.{CanSettle, CanTakeBack};
+ghost use Rattle.ifmap_subscribes.specs.ifmap_changes.declared.parts.Parts.{Parts};
+ghost use Rattle.ifmap_core.specs.Answering.{CanAnswer};
 ghost use Rattle.ifmap_core.specs.Bounds.{IsAskWithin, IsEventWithin};
+ghost use Rattle.ifmap_core.specs.Ending.{AnswersEvent, state_when};
 ghost use Rattle.ifmap_core.specs.Light.{IsLight};
-ghost use Rattle.ifmap_core.specs.Outcomes.{CanApply, held_by};
-ghost use Rattle.ifmap_graph.specs.Out.{items_changed};
-ghost use Rattle.ifmap_graph.specs.Seen.{KeepsNumbers, StaysLean, StaysLeanWithout};
-ghost use Rattle.ifmap_machine.specs.Ending.{drop_sessions, expire};
-ghost use Rattle.ifmap_machine.specs.Step.{step_ask};
+ghost use Rattle.ifmap_core.specs.Completions.{CanApply, held_by};
+ghost use Rattle.ifmap_subscribes.specs.ifmap_graph.Out.{items_changed};
+ghost use Rattle.ifmap_subscribes.specs.ifmap_graph.Seen.{KeepsNumbers, StaysLean, StaysLeanWithout};
+ghost use Rattle.ifmap_subscribes.specs.ifmap_machine.Ending.{drop_sessions, expire};
+ghost use Rattle.ifmap_subscribes.specs.ifmap_machine.Step.{step_ask};
 ghost use Rattle.ifmap_session.specs.Sessions.{is_expired};
 
 use crate::answering::answer;
-use crate::light::light_outcome;
-use crate::outcomes::{Outcome, apply, finish};
-use ifmap_changes::asking::Asking;
-use ifmap_changes::changes::{Made, flag_sessions, settle_made, undo_made};
-use ifmap_changes::changing::take_away_kept;
-use ifmap_changes::parts::Parts;
+use crate::completions::{Completion, apply, finish};
+use crate::light::light_completion;
 use ifmap_elem::Copied;
 use ifmap_io::Moment;
-use ifmap_machine::{Answer, Event};
-use ifmap_publish::Who;
-use ifmap_standing::laws::{
-    same_links_keep_subscriptions, same_marks_keep_subscriptions, ways_stay,
-};
 use ifmap_steps::Steps;
-use ifmap_tellings::tellings::{Pending, nothing_pending};
+use ifmap_subscribes::{
+    Answer, Asking, Event, Made, Parts, Pending, Who, flag_sessions, nothing_pending,
+    same_links_keep_subscriptions, same_marks_keep_subscriptions, settle_made, take_away_kept,
+    undo_made, ways_stay,
+};
 use std::alloc::{AllocError as NoMemory, Global};
 use std::sync::ledger::Ledger;
 
@@ -83,17 +80,11 @@ fn answer_once<L: Ledger>(
     steps: &mut Steps<L>,
 ) -> Result<Answer, NoMemory>
     requires { AreParts parts.old }
-    ensures answer { IfOk result (λ answer.
-        (state_at time.now.ttl time.now.moment parts.new, answer)
-        ≡ step_ask (expire (state_at time.now.ttl time.now.moment parts.old)) event.now
-        event.now.ask) }
-    ensures kept { OnErr result (AreBack parts.old parts.new) }
-    ensures parts { OnOk result (AreParts parts.new) }
-    ensures lean { OnOk result (StaysLean parts.old.graph parts.new.graph) }
+    ensures answers { AnswersEvent result time.now (expire (state_when time.now parts.old))
+        event.now parts.old parts.new }
     ensures light { list_any (is_expired time.now.moment time.now.ttl) parts.old.sessions.live
         ≡ false → IsLight parts.old.sessions.live event.now → IsOk result }
-    ensures steps { IsEventWithin (state_at time.now.ttl time.now.moment parts.old) event.now
-        steps.old steps.new }
+    ensures steps { IsEventWithin (state_when time.now parts.old) event.now steps.old steps.new }
 {
     if parts.sessions.any_expired(time.moment, time.ttl) {
         return end_and_answer(alloc, parts, time, event, steps);
@@ -110,19 +101,14 @@ fn answer_all<L: Ledger>(
     steps: &mut Steps<L>,
 ) -> Result<Answer, NoMemory>
     requires { AreParts parts.old }
-    ensures answer { IfOk result (λ answer.
-        (state_at time.now.ttl time.now.moment parts.new, answer)
-        ≡ step_ask (state_at time.now.ttl time.now.moment parts.old) event.now
-        event.now.ask) }
-    ensures kept { OnErr result (AreBack parts.old parts.new) }
-    ensures parts { OnOk result (AreParts parts.new) }
-    ensures lean { OnOk result (StaysLean parts.old.graph parts.new.graph) }
+    ensures answers { AnswersEvent result time.now (state_when time.now parts.old) event.now
+        parts.old parts.new }
     ensures light { IsLight parts.old.sessions.live event.now → IsOk result }
-    ensures steps { IsAskWithin (state_at time.now.ttl time.now.moment parts.old) event.now
-        event.now.ask steps.old steps.new }
+    ensures steps { IsAskWithin (state_when time.now parts.old) event.now event.now.ask steps.old
+        steps.new }
 {
-    match light_outcome(&parts.sessions, event) {
-        Some(outcome) => Ok(apply(parts, time.moment, outcome)),
+    match light_completion(&parts.sessions, event) {
+        Some(completion) => Ok(apply(parts, time.moment, completion)),
         None => answer_pending(alloc, parts, time, event, steps),
     }
 }
@@ -136,15 +122,10 @@ fn answer_pending<L: Ledger>(
     steps: &mut Steps<L>,
 ) -> Result<Answer, NoMemory>
     requires { AreParts parts.old }
-    ensures answer { IfOk result (λ answer.
-        (state_at time.now.ttl time.now.moment parts.new, answer)
-        ≡ step_ask (state_at time.now.ttl time.now.moment parts.old) event.now
-        event.now.ask) }
-    ensures kept { OnErr result (AreBack parts.old parts.new) }
-    ensures parts { OnOk result (AreParts parts.new) }
-    ensures steps { IsAskWithin (state_at time.now.ttl time.now.moment parts.old) event.now
-        event.now.ask steps.old steps.new }
-    ensures lean { OnOk result (StaysLean parts.old.graph parts.new.graph) }
+    ensures answers { AnswersEvent result time.now (state_when time.now parts.old) event.now
+        parts.old parts.new }
+    ensures steps { IsAskWithin (state_when time.now parts.old) event.now event.now.ask steps.old
+        steps.new }
 {
     let asking = Asking {
         client: &event.client,
@@ -153,8 +134,8 @@ fn answer_pending<L: Ledger>(
         ended: &[],
     };
     let mut pending = pending_without(alloc, parts, &asking)?;
-    let outcome = answer(alloc, parts, &mut pending, &asking, event, steps)?;
-    Ok(finish(parts, pending, &asking, outcome))
+    let completion = answer(alloc, parts, &mut pending, &asking, event, steps)?;
+    Ok(finish(parts, pending, &asking, completion))
 }
 
 // What is pending before an event is answered: the subscriptions of the sessions that have expired are
@@ -183,15 +164,9 @@ fn end_and_answer<L: Ledger>(
     requires parts { AreParts parts.old }
     requires some { list_any (is_expired time.now.moment time.now.ttl) parts.old.sessions.live
         ≡ true }
-    ensures answer { IfOk result (λ answer.
-        (state_at time.now.ttl time.now.moment parts.new, answer)
-        ≡ step_ask (expire (state_at time.now.ttl time.now.moment parts.old)) event.now
-        event.now.ask) }
-    ensures kept { OnErr result (AreBack parts.old parts.new) }
-    ensures parts { OnOk result (AreParts parts.new) }
-    ensures steps { IsEventWithin (state_at time.now.ttl time.now.moment parts.old) event.now
-        steps.old steps.new }
-    ensures lean { OnOk result (StaysLean parts.old.graph parts.new.graph) }
+    ensures answers { AnswersEvent result time.now (expire (state_when time.now parts.old))
+        event.now parts.old parts.new }
+    ensures steps { IsEventWithin (state_when time.now parts.old) event.now steps.old steps.new }
 {
     parts.sessions.is_table();
     let serials = parts.sessions.expired(alloc, time.moment, time.ttl)?;
@@ -204,13 +179,13 @@ fn end_and_answer<L: Ledger>(
     };
     let mut pending = pending_without(alloc, parts, &asking)?;
     let made = take_away_kept(alloc, parts, &mut pending, &asking, &who, steps)?;
-    let ending = Ending { pending, made };
+    let ending = Expiry { pending, made };
     answer_ended(alloc, parts, ending, &asking, event, steps)
 }
 
 // What is pending once sessions have expired, and the change of the graph that was made of it.
 #[derive(Drop)]
-struct Ending {
+struct Expiry {
     pending: Pending,
     made: Made,
 }
@@ -219,13 +194,12 @@ struct Ending {
 fn answer_ended<L: Ledger>(
     alloc: Global,
     parts: &mut Parts,
-    ending: Ending,
+    ending: Expiry,
     asking: &Asking,
     event: &Event,
     steps: &mut Steps<L>,
 ) -> Result<Answer, NoMemory>
-    requires steady { IsSteady parts.old.graph parts.old.standing.items }
-    requires ready { IsSoundSoFar asking.now parts.old ending.pending }
+    requires can { CanAnswer asking.now parts.old ending.pending }
     requires settle { CanSettle ending.made parts.old }
     requires back { (before : Parts) × AreParts before
         × KeepsNumbers before.graph parts.old.graph × CanTakeBack ending.made before parts.old }
@@ -243,11 +217,11 @@ fn answer_ended<L: Ledger>(
         → StaysLean before.graph parts.new.graph) }
 {
     ways_stay();
-    let Ending { mut pending, made } = ending;
+    let Expiry { mut pending, made } = ending;
     match answer(alloc, parts, &mut pending, asking, event, steps) {
-        Ok(outcome) => {
-            settle_ended(parts, &pending, asking, made, &outcome);
-            Ok(finish(parts, pending, asking, outcome))
+        Ok(completion) => {
+            settle_ended(parts, &pending, asking, made, &completion);
+            Ok(finish(parts, pending, asking, completion))
         }
         Err(no_memory) => {
             undo_made(parts, made);
@@ -262,16 +236,16 @@ fn settle_ended(
     pending: &Pending,
     asking: &Asking,
     made: Made,
-    outcome: &Outcome,
+    completion: &Completion,
 )
     requires steady { IsSteady parts.old.graph
-        (parts.old.standing.items ++ held_by outcome.now) }
+        (parts.old.standing.items ++ held_by completion.now) }
     requires ready { IsSoundSoFar asking.now parts.old pending.now }
-    requires can { CanApply outcome.now asking.now parts.old pending.now }
+    requires can { CanApply completion.now asking.now parts.old pending.now }
     requires settle { CanSettle made parts.old }
-    ensures steady { IsSteady parts.new.graph (parts.new.standing.items ++ held_by outcome.now) }
+    ensures steady { IsSteady parts.new.graph (parts.new.standing.items ++ held_by completion.now) }
     ensures ready { IsSoundSoFar asking.now parts.new pending.now }
-    ensures can { CanApply outcome.now asking.now parts.new pending.now }
+    ensures can { CanApply completion.now asking.now parts.new pending.now }
     ensures so_far { so_far asking.now parts.new pending.now
         ≡ so_far asking.now parts.old pending.now }
     ensures lean { StaysLeanWithout (items_changed made.undo.plan.changes) parts.old.graph

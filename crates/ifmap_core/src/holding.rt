@@ -1,15 +1,14 @@
 //! Whether a poll has nothing to tell. No call takes memory.
 ghost use Rattle.std.specs.Prelude.{◌≡◌, ◌≢◌, ◌↔◌, ℕ, List, [], Some, IfNone, IfSome, IsTrue};
 ghost use Rattle.ifmap_core.specs.Holding.{HasNothing};
-ghost use Rattle.ifmap_machine.specs.declared.events.Ask.TheVariants as the_ask;
-ghost use Rattle.ifmap_requests.specs.declared.requests.Request.TheVariants as the_request;
+ghost use Rattle.ifmap_subscribes.specs.ifmap_machine.declared.events.Ask.TheVariants as the_ask;
+ghost use Rattle.ifmap_subscribes.specs.ifmap_requests.declared.requests.Request.TheVariants as the_request;
 ghost use Rattle.ifmap_session.specs.Sessions.{IsLive, Session, session_with_serial};
 
 use ifmap_elem::{Equals, Text};
-use ifmap_machine::Ask;
 use ifmap_meta::ClientName;
-use ifmap_requests::Request;
 use ifmap_session::Sessions;
+use ifmap_subscribes::{Ask, Request};
 
 // The id of the session that a poll is in.
 pub(crate) fn polled_id(ask: &Ask) -> Option<&Text>

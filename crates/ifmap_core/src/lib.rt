@@ -3,12 +3,16 @@
 
 mod answering;
 mod beginning;
+mod completions;
 mod ending;
 mod holding;
 mod light;
 pub mod machine;
-mod outcomes;
 mod owning;
 mod subscribing;
 
+pub use ifmap_subscribes::{
+    Answer, Ask, Event, Parts, Reply, SESSION_SECONDS, Standing, clients_fold_fresh_results,
+    write_reply,
+};
 pub use machine::Core;

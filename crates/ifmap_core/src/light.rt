@@ -1,35 +1,33 @@
 //! Renewals and polls in a session of the client's, where nothing is pending. No call takes memory.
 ghost use Rattle.std.specs.Prelude.{◌≡◌, ◌≢◌, Some, IfNone, IfSome};
 ghost use Rattle.ifmap_core.specs.Light.{IsLight};
-ghost use Rattle.ifmap_core.specs.Outcomes.{IsStepOutcome, IsOwner};
+ghost use Rattle.ifmap_core.specs.Completions.{IsStepCompletion, IsOwner};
 ghost use Rattle.ifmap_core.specs.declared.owning.Owner.TheVariants.{Own};
-ghost use Rattle.ifmap_machine.specs.declared.events.Ask.TheVariants as the_ask;
+ghost use Rattle.ifmap_subscribes.specs.ifmap_machine.declared.events.Ask.TheVariants as the_ask;
 ghost use Rattle.ifmap_session.specs.Sessions.{Session, session_with_id};
 
-use crate::outcomes::Outcome;
+use crate::completions::Completion;
 use ifmap_elem::{Equals, Text};
-use ifmap_machine::{Answer, Ask, Event};
 use ifmap_meta::ClientName;
-use ifmap_replies::Reply;
-use ifmap_requests::Request;
 use ifmap_session::Sessions;
+use ifmap_subscribes::{Answer, Ask, Event, Reply, Request};
 
 // What is left to do of an event that renews or polls a live session of the client's.
-pub(crate) fn light_outcome(sessions: &Sessions, event: &Event) -> Option<Outcome>
-    ensures some { IfSome result (λ outcome. IsStepOutcome sessions.now.live event.now event.now.ask
-        outcome) }
+pub(crate) fn light_completion(sessions: &Sessions, event: &Event) -> Option<Completion>
+    ensures some { IfSome result (λ completion.
+        IsStepCompletion sessions.now.live event.now event.now.ask completion) }
     ensures none { IfNone result (IsLight sessions.now.live event.now → ⊥) }
 {
     match &event.ask {
         Ask::Lost(_) => None,
-        Ask::Request(request) => outcome_in(sessions, event, request),
+        Ask::Request(request) => completion_in(sessions, event, request),
     }
 }
 
 // The same of a request.
-fn outcome_in(sessions: &Sessions, event: &Event, request: &Request) -> Option<Outcome>
-    ensures some { IfSome result (λ outcome. IsStepOutcome sessions.now.live event.now
-        (the_ask.Request request.now) outcome) }
+fn completion_in(sessions: &Sessions, event: &Event, request: &Request) -> Option<Completion>
+    ensures some { IfSome result (λ completion. IsStepCompletion sessions.now.live event.now
+        (the_ask.Request request.now) completion) }
     ensures none { IfNone result (event.now.ask ≡ the_ask.Request request.now
         → IsLight sessions.now.live event.now → ⊥) }
 {
@@ -38,7 +36,7 @@ fn outcome_in(sessions: &Sessions, event: &Event, request: &Request) -> Option<O
         Request::RenewSession { session } => {
             let serial = own_serial(sessions, &event.client, session)?;
             let answer = Answer::Reply(Reply::Renewed);
-            Some(Outcome::Accept { serial, answer })
+            Some(Completion::Accept { serial, answer })
         }
         Request::EndSession { .. } => None,
         Request::Publish { .. } => None,
@@ -47,7 +45,7 @@ fn outcome_in(sessions: &Sessions, event: &Event, request: &Request) -> Option<O
         Request::Poll { session } => {
             let serial = own_serial(sessions, &event.client, session)?;
             let again = event.again;
-            Some(Outcome::Poll { serial, again })
+            Some(Completion::Poll { serial, again })
         }
         Request::PurgePublisher { .. } => None,
     }

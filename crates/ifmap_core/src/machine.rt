@@ -6,23 +6,21 @@ ghost use Rattle.ifmap_core.specs.Causes.{AsksForNoneLeft, AsksPoll, FindsTooMuc
 ghost use Rattle.ifmap_core.specs.Counts.{IsInUse, link_count};
 ghost use Rattle.ifmap_core.specs.Holding.{WouldHold};
 ghost use Rattle.ifmap_core.specs.Light.{TakesNoMemory};
-ghost use Rattle.ifmap_graph.specs.Counted.{AreSoMany};
+ghost use Rattle.ifmap_subscribes.specs.ifmap_graph.Counted.{AreSoMany};
 ghost use Rattle.ifmap_ident.specs.declared.codes.Code.{Code};
 ghost use Rattle.ifmap_ident.specs.declared.codes.Code.TheVariants as the_code;
-ghost use Rattle.ifmap_machine.specs.declared.events.Answer.TheVariants as the_answer;
-ghost use Rattle.ifmap_machine.specs.State.{advance, opening};
-ghost use Rattle.ifmap_machine.specs.Step.{step};
-ghost use Rattle.ifmap_replies.specs.declared.replies.Reply.TheVariants as the_reply;
+ghost use Rattle.ifmap_subscribes.specs.ifmap_machine.declared.events.Answer.TheVariants as the_answer;
+ghost use Rattle.ifmap_subscribes.specs.ifmap_machine.State.{advance, opening};
+ghost use Rattle.ifmap_subscribes.specs.ifmap_machine.Step.{step};
+ghost use Rattle.ifmap_subscribes.specs.ifmap_replies.declared.replies.Reply.TheVariants as the_reply;
 
 use crate::ending::{Time, answer_at};
 use crate::holding::{has_nothing, polled_id};
-use ifmap_changes::parts::Parts;
-use ifmap_graph::Graph;
 use ifmap_ident::laws::bytes_tell_identifiers_apart;
 use ifmap_io::Moment;
-use ifmap_machine::{Answer, Event};
 use ifmap_session::Sessions;
 use ifmap_steps::Steps;
+use ifmap_subscribes::{Answer, Event, Graph, Parts};
 use std::alloc::{AllocError as NoMemory, Global};
 use std::marker::Model;
 use std::sync::ledger::Ledger;
@@ -37,11 +35,11 @@ pub struct Core {
 
 impl Model for Core {
     ghost use Rattle.std.specs.Coded.{codes};
-    ghost use Rattle.ifmap_changes.specs.Between.{IsCore, state_at};
-    ghost use Rattle.ifmap_machine.specs.State.{State};
-    ghost use Rattle.ifmap_search.specs.contracts.results.PollItem as the_poll_item;
-    ghost use Rattle.ifmap_search.specs.contracts.searches.Search as the_search;
-    ghost use Rattle.ifmap_view.specs.contracts.attachments.Attachment as the_attachment;
+    ghost use Rattle.ifmap_subscribes.specs.ifmap_changes.Between.{IsCore, state_at};
+    ghost use Rattle.ifmap_subscribes.specs.ifmap_machine.State.{State};
+    ghost use Rattle.ifmap_session.specs.ifmap_search.contracts.results.PollItem as the_poll_item;
+    ghost use Rattle.ifmap_session.specs.ifmap_search.contracts.searches.Search as the_search;
+    ghost use Rattle.ifmap_subscribes.specs.ifmap_view.contracts.attachments.Attachment as the_attachment;
 
     ghost Value = { State };
 
@@ -58,7 +56,7 @@ impl Model for Core {
 }
 
 // The later of two moments.
-fn later(one: Moment, other: Moment) -> Moment
+fn later_moment(one: Moment, other: Moment) -> Moment
     ensures { result ≡ max one other }
 {
     one.max(other)
@@ -126,7 +124,7 @@ impl Core {
         // memory runs out.
         ensures steps { IsWithinTable self.old event.now steps.old steps.new }
     {
-        let moment = later(self.moment, event.moment);
+        let moment = later_moment(self.moment, event.moment);
         let time = Time {
             ttl: self.ttl,
             moment,
@@ -169,7 +167,7 @@ impl Core {
         let Some(id) = polled_id(&event.ask) else {
             return false;
         };
-        let moment = later(self.moment, event.moment);
+        let moment = later_moment(self.moment, event.moment);
         if !event.again || self.parts.sessions.any_expired(moment, self.ttl) {
             return false;
         }

@@ -1,12 +1,12 @@
 //! Whose session a request names.
 ghost use Rattle.std.specs.Prelude.{◌≡◌, IfSome, option_map};
-ghost use Rattle.ifmap_changes.specs.Between.{sessions_left};
-ghost use Rattle.ifmap_core.specs.Outcomes.{IsOwner};
+ghost use Rattle.ifmap_subscribes.specs.ifmap_changes.Between.{sessions_left};
+ghost use Rattle.ifmap_core.specs.Completions.{IsOwner};
 ghost use Rattle.ifmap_session.specs.Sessions.{IsLive, session_of_client};
 
-use ifmap_changes::asking::Asking;
 use ifmap_elem::{Equals, Text};
 use ifmap_session::Sessions;
+use ifmap_subscribes::Asking;
 
 /// Whose the session is that a request names.
 #[derive(Drop)]

@@ -1,34 +1,31 @@
 //! A subscribe in a session: its operations are made ready, and then accepted or refused.
-ghost use Rattle.std.specs.Prelude.{◌≡◌, ◌≤◌, ◌<◌, ◌+◌, ◌++◌, None, Some, IfOk, OnErr, OnOk, vec_capacity, vec_len};
+ghost use Rattle.std.specs.Prelude.{◌≡◌, ◌≤◌, ◌<◌, ◌+◌, ◌++◌, None, Some, OnOk, vec_capacity, vec_len};
 ghost use Rattle.std.specs.BTreeMap.{get};
 ghost use Rattle.std.specs.List.{AllByRecursion};
 ghost use Rattle.std.specs.Ordering.{nat_cmp};
-ghost use Rattle.ifmap_changes.specs.Between.{AreKept, AreTurned, IsSoundSoFar, IsSteady, sessions_left, so_far};
-ghost use Rattle.ifmap_core.specs.Outcomes.{LeadsToAnswer, alone_told};
-ghost use Rattle.ifmap_graph.specs.Seen.{rows_now};
-ghost use Rattle.ifmap_machine.specs.Step.{answer_subscribed};
-ghost use Rattle.ifmap_machine.specs.Subscribing.{subscribe_ops};
-ghost use Rattle.ifmap_requests.specs.Fit.{IsFitSubscribeOp};
+ghost use Rattle.ifmap_subscribes.specs.ifmap_changes.Between.{AreKept, AreTurned, IsSoundSoFar, IsSteady, sessions_left, so_far};
+ghost use Rattle.ifmap_core.specs.Answering.{CanAnswer, GivesCompletion, TurnsOrKeeps};
+ghost use Rattle.ifmap_core.specs.Completions.{alone_told};
+ghost use Rattle.ifmap_core.specs.Subscribing.{AcceptsReady, AreReadyIn};
+ghost use Rattle.ifmap_subscribes.specs.ifmap_graph.Seen.{rows_now};
+ghost use Rattle.ifmap_subscribes.specs.ifmap_machine.Step.{answer_subscribed};
+ghost use Rattle.ifmap_subscribes.specs.ifmap_machine.Subscribing.{subscribe_ops};
+ghost use Rattle.ifmap_subscribes.specs.ifmap_requests.Fit.{IsFitSubscribeOp};
 ghost use Rattle.ifmap_session.specs.Sessions.{IsLive, Session, session_with_serial, spare_of};
 ghost use Rattle.ifmap_subscribes.specs.Bounds.{AreOpsWithin};
-ghost use Rattle.ifmap_subscribes.specs.Readying.{AreReadied, told_after, told_at};
 ghost use Rattle.ifmap_subscribes.specs.Renamings.{begun_by};
-ghost use Rattle.ifmap_tellings.specs.Tellings.{HasSameSessions, count_where};
+ghost use Rattle.ifmap_subscribes.specs.ifmap_tellings.Tellings.{HasSameSessions, count_where};
 
-use crate::outcomes::{Outcome, refuse};
-use ifmap_changes::asking::Asking;
-use ifmap_changes::changes::flag_session;
-use ifmap_changes::parts::Parts;
+use crate::completions::{Completion, refuse};
 use ifmap_elem::Many;
 use ifmap_ident::Code;
-use ifmap_machine::Answer;
-use ifmap_replies::Reply;
-use ifmap_requests::SubscribeOp;
-use ifmap_standing::laws::same_links_keep_subscriptions;
 use ifmap_steps::Steps;
 use ifmap_subscribes::readying::{Readying, Scene, SubscribeError, ready_ops};
 use ifmap_subscribes::renamings::{Renaming, release_all};
-use ifmap_tellings::tellings::{Pending, count_told, tell_alone};
+use ifmap_subscribes::{
+    Answer, Asking, Parts, Pending, Reply, SubscribeOp, count_told, flag_session,
+    same_links_keep_subscriptions, tell_alone,
+};
 use std::alloc::{AllocError as NoMemory, Global};
 use std::sync::ledger::Ledger;
 
@@ -47,18 +44,16 @@ pub(crate) fn subscribe_in<L: Ledger>(
     asking: &Asking,
     ops: &SessionOps<'_>,
     steps: &mut Steps<L>,
-) -> Result<Outcome, NoMemory>
-    requires steady { IsSteady parts.old.graph parts.old.standing.items }
-    requires ready { IsSoundSoFar asking.now parts.old pending.old }
+) -> Result<Completion, NoMemory>
+    requires can { CanAnswer asking.now parts.old pending.old }
     requires live { IsLive ops.now.serial (sessions_left asking.now parts.old.sessions) }
     requires fit { AllByRecursion IsFitSubscribeOp ops.now.ops.now }
     ensures leads { let before = so_far asking.now parts.old pending.old in (s : Session)
         → session_with_serial ops.now.serial before.sessions ≡ Some s
-        → IfOk result (λ outcome. LeadsToAnswer outcome asking.now parts.new pending.new
+        → GivesCompletion result asking.now parts.new pending.new
         (answer_subscribed before s (subscribe_ops before.graph ops.now.serial ops.now.ops.now
-        (record { queue = s.queue; standing = before.standing })))) }
-    ensures turned { OnOk result (AreTurned parts.old parts.new) }
-    ensures kept { OnErr result (AreKept parts.old parts.new) }
+        (record { queue = s.queue; standing = before.standing }))) }
+    ensures change { TurnsOrKeeps result parts.old parts.new }
     ensures steps { AreOpsWithin (rows_now parts.old.graph) ops.now.ops.now steps.old steps.new }
 {
     let scene = Scene {
@@ -82,18 +77,11 @@ fn accept_ops(
     asking: &Asking,
     serial: u64,
     readying: Readying,
-) -> Result<Outcome, NoMemory>
-    requires ready { IsSoundSoFar asking.now parts.old pending.old }
-    requires live { IsLive serial (sessions_left asking.now parts.old.sessions) }
-    requires readied { AreReadied serial (told_at serial asking.now parts.old pending.old)
-        parts.old readying }
-    ensures leads { let before = so_far asking.now parts.old pending.old in (s : Session)
-        → session_with_serial serial before.sessions ≡ Some s
-        → IfOk result (λ outcome. LeadsToAnswer outcome asking.now parts.new pending.new
-        (answer_subscribed before s (Some (told_after serial readying
-        (told_at serial asking.now parts.old pending.old))))) }
-    ensures turned { OnOk result (AreTurned parts.old parts.new) }
-    ensures kept { OnErr result (AreKept parts.old parts.new) }
+) -> Result<Completion, NoMemory>
+    requires { AreReadyIn serial readying asking.now parts.old pending.old }
+    ensures leads { AcceptsReady result serial readying asking.now parts.old pending.old
+        parts.new pending.new }
+    ensures change { TurnsOrKeeps result parts.old parts.new }
 {
     parts.sessions.is_table();
     let (_size, limit) = parts.sessions.queue_size(serial);
@@ -111,25 +99,18 @@ fn rename_ready(
     asking: &Asking,
     serial: u64,
     readying: Readying,
-) -> Result<Outcome, NoMemory>
-    requires ready { IsSoundSoFar asking.now parts.old pending.now }
-    requires live { IsLive serial (sessions_left asking.now parts.old.sessions) }
-    requires readied { AreReadied serial (told_at serial asking.now parts.old pending.now)
-        parts.old readying }
+) -> Result<Completion, NoMemory>
+    requires ops { AreReadyIn serial readying asking.now parts.old pending.now }
     requires within { (s : Session) → session_with_serial serial parts.old.sessions.live ≡ Some s
         → readying.size ≤ s.limit }
-    ensures leads { let before = so_far asking.now parts.old pending.now in (s : Session)
-        → session_with_serial serial before.sessions ≡ Some s
-        → IfOk result (λ outcome. LeadsToAnswer outcome asking.now parts.new pending.now
-        (answer_subscribed before s (Some (told_after serial readying
-        (told_at serial asking.now parts.old pending.now))))) }
-    ensures turned { OnOk result (AreTurned parts.old parts.new) }
-    ensures kept { OnErr result (AreKept parts.old parts.new) }
+    ensures leads { AcceptsReady result serial readying asking.now parts.old pending.now
+        parts.new pending.now }
+    ensures change { TurnsOrKeeps result parts.old parts.new }
 {
     parts.sessions.is_table();
     let Readying { made, .. } = readying;
     match make_places(parts, pending, serial, made.len()) {
-        Ok(()) => Ok(Outcome::Rename {
+        Ok(()) => Ok(Completion::Rename {
             serial,
             renamings: Many(made),
         }),
@@ -149,27 +130,20 @@ fn overrun(
     asking: &Asking,
     serial: u64,
     readying: Readying,
-) -> Result<Outcome, NoMemory>
-    requires ready { IsSoundSoFar asking.now parts.old pending.old }
-    requires live { IsLive serial (sessions_left asking.now parts.old.sessions) }
-    requires readied { AreReadied serial (told_at serial asking.now parts.old pending.old)
-        parts.old readying }
+) -> Result<Completion, NoMemory>
+    requires ops { AreReadyIn serial readying asking.now parts.old pending.old }
     requires over { (s : Session) → session_with_serial serial parts.old.sessions.live ≡ Some s
         → s.limit < readying.size }
-    ensures leads { let before = so_far asking.now parts.old pending.old in (s : Session)
-        → session_with_serial serial before.sessions ≡ Some s
-        → IfOk result (λ outcome. LeadsToAnswer outcome asking.now parts.new pending.new
-        (answer_subscribed before s (Some (told_after serial readying
-        (told_at serial asking.now parts.old pending.old))))) }
-    ensures turned { OnOk result (AreTurned parts.old parts.new) }
-    ensures kept { OnErr result (AreKept parts.old parts.new) }
+    ensures leads { AcceptsReady result serial readying asking.now parts.old pending.old
+        parts.new pending.new }
+    ensures change { TurnsOrKeeps result parts.old parts.new }
 {
     parts.sessions.is_table();
     let Readying { made, size, .. } = readying;
     let_go(parts, pending, asking, Many(made));
     tell_over(alloc, parts, pending, asking, serial, size)?;
     let answer = Answer::Reply(Reply::Subscribed);
-    Ok(Outcome::Accept { serial, answer })
+    Ok(Completion::Accept { serial, answer })
 }
 
 // A session is to be told that its queue would have that size, in place of all, and its subscriptions

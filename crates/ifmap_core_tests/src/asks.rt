@@ -2,10 +2,9 @@
 ghost use Rattle.std.specs.Prelude.{◌≡◌, ◌<◌, IfOk};
 ghost use Rattle.ifmap_requests.specs.Fit.{IsFitRequest};
 
-use ifmap_core::Core;
+use ifmap_core::{Answer, Ask, Core, Event};
 use ifmap_elem::Text;
 use ifmap_io::Moment;
-use ifmap_machine::{Answer, Ask, Event};
 use ifmap_meta::ClientName;
 use ifmap_replies::Reply;
 use ifmap_requests::laws::bodies_mean_fit_requests;

@@ -1,5 +1,5 @@
 //! What a core keeps. The patterns name every field: with another one this does not compile.
-use ifmap_changes::parts::Parts;
+use ifmap_core::{Parts, Standing};
 use ifmap_delta::Subscription;
 use ifmap_elem::{Many, Text};
 use ifmap_graph::Graph;
@@ -7,7 +7,6 @@ use ifmap_ident::Identifier;
 use ifmap_region::Region;
 use ifmap_search::Search;
 use ifmap_session::Sessions;
-use ifmap_standing::Standing;
 use indexmap::IndexMap;
 use std::alloc::{AllocError as NoMemory, Global};
 use std::test::Fail;

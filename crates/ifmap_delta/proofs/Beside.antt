@@ -19,11 +19,10 @@ use Rattle.ifmap_ident.specs.Items.{item_order, items_tie, same_item}
 use Rattle.ifmap_lemmas.specs.Having.{all_has, Has, any_has, has_any, has_map}
 use Rattle.ifmap_plans.specs.declared.plans.ItemChange.{ItemChange}
 use Rattle.ifmap_plans.specs.Plans.{change_of}
-use Rattle.ifmap_plans.specs.laws.KeyLaws.{items_total}
 use Rattle.ifmap_folds.specs.laws.RisingLaws.{head_rises, tail_rises}
 use Rattle.ifmap_delta.specs.declared.pairing.TouchedItem.{TouchedItem}
 use Rattle.ifmap_delta.specs.Touched.{IsPaired, change_at, items_touched, with_no_place}
-use Rattle.ifmap_ident.specs.SameLaws.{same_equal, less_differs}
+use Rattle.ifmap_ident.specs.SameLaws.{same_equal, less_item_differs, items_total}
 
 abbrev pub touched_order : TouchedItem → TouchedItem → Ordering
 touched_order = on (λ (t : TouchedItem). t.item) item_order
@@ -113,7 +112,7 @@ module _ (changes : List ItemChange) (place : ℕ) (c : ItemChange) (low : place
   set_paired [] i u up lt e same is a = absurd (omega (arith, lt))
   set_paired (t ∷ ts) zero u up lt e same is a = (
     its_change t u e same is,
-    all_others ts (λ v h. less_differs c.item v.item
+    all_others ts (λ v h. less_item_differs c.item v.item
         (items_total.congr c.item t.item v.item (same_equal c.item t.item e) ∙ below t ts up v h)) a.1,
   )
   set_paired (t ∷ ts) (suc i) u up lt e same is a =

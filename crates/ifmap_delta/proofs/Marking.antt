@@ -18,7 +18,7 @@ use Rattle.ifmap_view.specs.Attachments.{IsGraph}
 use Rattle.ifmap_view.specs.Views.{IsView}
 use Rattle.ifmap_fresh.specs.Collected.{is_below}
 use Rattle.ifmap_fresh.specs.Linking.{IsReachedAt, is_terminal_at}
-use Rattle.ifmap_fresh.specs.Matching.{LeadsTo, is_terminal}
+use Rattle.ifmap_fresh.specs.Matching.{LinksTo, is_terminal}
 use Rattle.ifmap_fresh.specs.Numbered.{KeepsWalks}
 use Rattle.ifmap_fresh.specs.Reached.{is_expanded, is_reached}
 use Rattle.ifmap_fresh.specs.Walked.{IsExpanded}
@@ -79,7 +79,7 @@ module _ (L : ℕ → ℕ → Type 0) (T : ℕ → Bool) (start top : ℕ) (mark
 -- what the laws of searches say
 abbrev pub LevelsReach : Type 0
 LevelsReach = (rows : List Attachment) (s : Search) (a : Identifier) → IsGraph rows → IsIdentifier s.start → IsIdentifier a
-    → (is_reached rows s a ≡ true) ↔ IsReached (LeadsTo rows s.match_links) (is_terminal s.terminal) s.start s.max_depth a
+    → (is_reached rows s a ≡ true) ↔ IsReached (LinksTo rows s.match_links) (is_terminal s.terminal) s.start s.max_depth a
 
 abbrev pub LevelsExpand : Type 0
 LevelsExpand = (rows : List Attachment) (s : Search) (a : Identifier) → IsGraph rows → IsIdentifier s.start → IsIdentifier a

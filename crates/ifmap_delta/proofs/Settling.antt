@@ -1,5 +1,8 @@
--- Items that are not gathered tell nothing. In order: marks before the change by the numbers afterwards (`reached_before`,
--- `expanded_before`); a number whose marks differ is in the patch; one identifier (`one_settled`), one link (`pair_settled`).
+-- Items that are not gathered tell nothing.
+-- 1. Marks before the change, by the numbers afterwards (`reached_before`, `expanded_before`).
+-- 2. A number whose marks differ is in the patch.
+-- 3. One identifier (`one_settled`).
+-- 4. One link (`pair_settled`).
 use Rattle.std.proofs.Common.{◌≡◌, ◌≢◌, ◌⊎◌, inl, inr, ℕ, Bool, true, false, cond, not, ◌&&◌, ◌||◌, Option, Some, None, List, [], ◌++◌}
 use Rattle.std.proofs.Common.{is_some, unwrap_or, refl, ap, ◌∙◌, sym, subst}
 use Rattle.std.proofs.Math.Bool.{beq}
@@ -21,7 +24,7 @@ use Rattle.ifmap_search.specs.declared.searches.Search.{Search}
 use Rattle.ifmap_view.specs.declared.views.LinkSeen.{LinkSeen}
 use Rattle.ifmap_view.specs.Rows.{stored_between, stored_linked, stored_on, stored_where}
 use Rattle.ifmap_view.specs.Views.{IsView}
-use Rattle.ifmap_fresh.specs.Collected.{alone, numbers_of, pair_at}
+use Rattle.ifmap_fresh.specs.Collected.{item_alone, numbers_of, pair_at}
 use Rattle.ifmap_fresh.specs.Fresh.{is_looked_at}
 use Rattle.ifmap_fresh.specs.Linking.{end_where}
 use Rattle.ifmap_fresh.specs.Matching.{is_match, one_meets}
@@ -116,9 +119,10 @@ module _ (tells : BytesTellIdentifiers) (reach : LevelsReach) (expand : LevelsEx
         → Has gathered (One a)
     reached_changes v a i t =
         by_moved v (One a) (λ e. same_not (is_some (mark v)) (is_some (mark' v)) (ap is_some e) t)
-        (has_left (cond (not (beq (is_some (mark v)) (is_some (mark' v)))) (alone (new.id_at v)) [])
+        (has_left (cond (not (beq (is_some (mark v)) (is_some (mark' v)))) (item_alone (new.id_at v)) [])
         (cond (turns new s v (mark v) (mark' v)) (linked_items new s v) []) (One a)
-        (subst (λ b. Has (cond b (alone (new.id_at v)) []) (One a)) (sym t) (subst (λ o. Has (alone o) (One a)) (sym i) (inl refl))))
+        (subst (λ b. Has (cond b (item_alone (new.id_at v)) []) (One a)) (sym t) (subst (λ o. Has (item_alone o) (One a)) (sym i) (inl
+        refl))))
 
     -- the links of a number that walks go on from at one time alone are gathered
     along : (v w : ℕ) (a b : Identifier) (x : Item) → new.id_at v ≡ Some a → new.id_at w ≡ Some b
@@ -137,7 +141,7 @@ module _ (tells : BytesTellIdentifiers) (reach : LevelsReach) (expand : LevelsEx
         ∙ ap (λ o. pair_at o (new.id_at w)) i ∙ ap (λ o. pair_at (Some a) o) j ∙ e
         in by_moved v x
         (λ q. same_not (goes_on s (new.id_at v) (mark v)) (goes_on s (new.id_at v) (mark' v)) (ap (goes_on s (new.id_at v)) q) t)
-        (has_right (cond (not (beq (is_some (mark v)) (is_some (mark' v)))) (alone (new.id_at v)) [])
+        (has_right (cond (not (beq (is_some (mark v)) (is_some (mark' v)))) (item_alone (new.id_at v)) [])
         (cond (turns new s v (mark v) (mark' v)) (linked_items new s v) []) x
         (subst (λ b. Has (cond b (linked_items new s v) []) x) (sym t)
         (has_mapped (λ seen. link_item new s v (Some seen)) (new.links v) there.0 x there.1 at)))
@@ -235,7 +239,7 @@ module _ (tells : BytesTellIdentifiers) (reach : LevelsReach) (expand : LevelsEx
 module _ (old new : ViewSeen) (s : Search) (is : IsView new.rows new.id_at new.links) (changes : List ItemChange)
     (canon : AllByRecursion (λ c. IsCanonItem c.item) changes) (mark mark' : ℕ → Option ℕ) (numbers : List ℕ) where
   alone_canon : (b : Bool) (o : Option Identifier) (x : Item) → ((a : Identifier) → o ≡ Some a → IsIdentifier a)
-      → Has (cond b (alone o) []) x → IsCanonItem x
+      → Has (cond b (item_alone o) []) x → IsCanonItem x
   alone_canon false o x f h = absurd h
   alone_canon true None x f h = absurd h
   alone_canon true (Some a) x f (inr h) = absurd h
@@ -264,7 +268,7 @@ module _ (old new : ViewSeen) (s : Search) (is : IsView new.rows new.id_at new.l
             in let m = map_has (λ (d : ItemChange). d.item) (filter looks changes) x k
             in subst IsCanonItem m.2 (all_has (λ d. IsCanonItem d.item) changes canon m.0 (filter_has looks changes m.0 m.1).0)
         | inr k ↦ let j = joined_has (λ v. brought_items new s v (mark v) (mark' v)) numbers x k
-            in elim (has_either (cond (not (beq (is_some (mark j.0)) (is_some (mark' j.0)))) (alone (new.id_at j.0)) [])
+            in elim (has_either (cond (not (beq (is_some (mark j.0)) (is_some (mark' j.0)))) (item_alone (new.id_at j.0)) [])
             (cond (turns new s j.0 (mark j.0) (mark' j.0)) (linked_items new s j.0) []) x j.2) [
               | inl l ↦ alone_canon (not (beq (is_some (mark j.0)) (is_some (mark' j.0)))) (new.id_at j.0) x (is.canon j.0) l
               | inr l ↦ linked_canon (turns new s j.0 (mark j.0) (mark' j.0)) j.0 x l

@@ -8,14 +8,13 @@ use Rattle.std.specs.declared.cmp.Ordering.TheVariants.{Less, Equal}
 use Rattle.ifmap_ident.specs.declared.items.Item.{Item}
 use Rattle.ifmap_ident.specs.Items.{item_order, same_item}
 use Rattle.ifmap_lemmas.specs.Having.{filter_has, has_all}
-use Rattle.ifmap_plans.specs.laws.KeyLaws.{items_total}
 use Rattle.ifmap_search.specs.declared.searches.Search.{Search}
 use Rattle.ifmap_view.specs.declared.attachments.Attachment.{Attachment}
 use Rattle.ifmap_view.specs.Attachments.{IsGraph, attachment_order, stored_order}
 use Rattle.ifmap_view.specs.Rows.{stored_on}
 use Rattle.ifmap_fresh.specs.Fresh.{is_looked_at}
 use Rattle.ifmap_delta.specs.Shown.{shown_on}
-use Rattle.ifmap_ident.specs.SameLaws.{same_equal}
+use Rattle.ifmap_ident.specs.SameLaws.{same_equal, items_total}
 
 -- on one item, attachments are in the order of what is stored
 less_stored : (x : Item) (a b : Attachment) → same_item a.item x ≡ true → same_item b.item x ≡ true → attachment_order a b ≡ Less

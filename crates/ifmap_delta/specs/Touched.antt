@@ -21,7 +21,7 @@ use Rattle.ifmap_view.specs.Attachments.{stored_order}
 use Rattle.ifmap_view.specs.Rows.{stored_on}
 use Rattle.std.specs.Ordering.{eq_by_cmp}
 use Rattle.std.specs.List.{list_any}
-use Rattle.ifmap_fresh.specs.Collected.{alone, pair_at}
+use Rattle.ifmap_fresh.specs.Collected.{item_alone, pair_at}
 use Rattle.ifmap_fresh.specs.Fresh.{is_looked_at}
 use Rattle.ifmap_fresh.specs.Gathered.{entry_at, has_item}
 use Rattle.ifmap_fresh.specs.Linking.{end_where}
@@ -62,7 +62,7 @@ module _ (new : ViewSeen) (s : Search) where
   -- and those of its links, where walks go on from it with one of them alone
   abbrev pub brought_items : ℕ → Option ℕ → Option ℕ → List Item
   brought_items v was now =
-      (if not (beq (is_some was) (is_some now)) then alone (new.id_at v) else [])
+      (if not (beq (is_some was) (is_some now)) then item_alone (new.id_at v) else [])
       ++ (if turns v was now then linked_items v else [])
 
   -- the items that some numbers bring

@@ -29,7 +29,7 @@ use std::alloc::{AllocError as NoMemory, Global};
 
 // The entries that go from a result, and those that come into it.
 #[derive(Drop)]
-pub(crate) struct Told {
+pub(crate) struct ToldEntries {
     pub(crate) deleted: Vec<Entry>,
     pub(crate) updated: Vec<Entry>,
 }
@@ -127,7 +127,7 @@ struct ItemShown<'a> {
 }
 
 // Appends what goes and what comes on an item, where any of its rows may.
-fn add_any(shown: &ItemShown<'_>, told: &mut Told) -> Result<(), NoMemory>
+fn add_any(shown: &ItemShown<'_>, told: &mut ToldEntries) -> Result<(), NoMemory>
     requires before { IsStrictlySortedBy stored_order shown.now.before.now }
     requires after { IsStrictlySortedBy stored_order shown.now.after.now }
     ensures deleted { OnOk result (told.new.deleted.items ≡ told.old.deleted.items ++ left_out
@@ -156,7 +156,7 @@ fn add_named(
     alloc: Global,
     shown: &ItemShown<'_>,
     change: &ItemChange,
-    told: &mut Told,
+    told: &mut ToldEntries,
 ) -> Result<(), NoMemory>
     requires before { IsStrictlySortedBy stored_order shown.now.before.now }
     requires after { IsStrictlySortedBy stored_order shown.now.after.now }
@@ -212,7 +212,7 @@ fn add_differences<G: View, D: View>(
     after: &Side<'_, D, Patched<'_>>,
     one: TouchedItem,
     changes: &[ItemChange],
-    told: &mut Told,
+    told: &mut ToldEntries,
 ) -> Result<(), NoMemory>
     requires graph { IsGraph (G.rows before.now.view.now) }
     requires draft { IsGraph (D.rows after.now.view.now) }
@@ -258,7 +258,7 @@ fn differences_of<G: View, D: View>(
     after: &Side<'_, D, Patched<'_>>,
     touched: Vec<TouchedItem>,
     changes: &[ItemChange],
-) -> Result<Told, NoMemory>
+) -> Result<ToldEntries, NoMemory>
     requires graph { IsGraph (G.rows before.now.view.now) }
     requires draft { IsGraph (D.rows after.now.view.now) }
     requires before { HaveMarks (view_seen G.rows G.id_at G.links before.now.view.now)
@@ -278,7 +278,7 @@ fn differences_of<G: View, D: View>(
         (shown_on (G.rows before.now.view.now) before.now.search.now)
         (items_touched touched.items)) }
 {
-    let mut told = Told {
+    let mut told = ToldEntries {
         deleted: Vec::new(alloc),
         updated: Vec::new(alloc),
     };
@@ -295,7 +295,7 @@ pub(crate) fn differences_on<G: View, D: View>(
     after: &Side<'_, D, Patched<'_>>,
     items: Vec<Item>,
     changes: &[ItemChange],
-) -> Result<Told, NoMemory>
+) -> Result<ToldEntries, NoMemory>
     requires graph { IsGraph (G.rows before.now.view.now) }
     requires draft { IsGraph (D.rows after.now.view.now) }
     requires before { HaveMarks (view_seen G.rows G.id_at G.links before.now.view.now)
@@ -347,7 +347,7 @@ pub(crate) fn size_of(entries: &[Entry]) -> Option<u64>
 }
 
 // The size of a result after some entries went and others came, where a `u64` can tell it.
-pub(crate) fn size_after(size: u64, told: &Told) -> Option<u64>
+pub(crate) fn size_after(size: u64, told: &ToldEntries) -> Option<u64>
     ensures { IfSome result (λ after. after + entries_size told.now.deleted.items
         ≡ size + entries_size told.now.updated.items) }
 {

@@ -15,6 +15,10 @@ pub mod subscriptions;
 mod touched;
 
 pub use changing::change;
+pub use ifmap_fresh::fresh;
+pub use ifmap_fresh::laws::numbers_keep_walks;
+pub use ifmap_plans::Plan;
+pub use ifmap_search::{Entry, PollItem};
 pub use locating::{Located, LocatedChange, LocatedPlan, locate_plan};
 pub use noting::notes;
 pub use subscribing::subscribe;

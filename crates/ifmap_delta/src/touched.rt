@@ -6,7 +6,7 @@ ghost use Rattle.ifmap_delta.specs.Located.{AreLocated, IsLocatedTwice};
 ghost use Rattle.ifmap_delta.specs.Sights.{HaveMarks, view_seen};
 ghost use Rattle.ifmap_delta.specs.Shown.{patched_mark};
 ghost use Rattle.ifmap_delta.specs.Touched.{AreTouched, brought_items, link_item, linked_items, looked_along, moved_items, planned_items};
-ghost use Rattle.ifmap_fresh.specs.Collected.{alone, numbers_of, pair_at};
+ghost use Rattle.ifmap_fresh.specs.Collected.{item_alone, numbers_of, pair_at};
 ghost use Rattle.ifmap_fresh.specs.Fresh.{is_looked_at};
 ghost use Rattle.ifmap_region.specs.Marks.{mark_of, over};
 ghost use Rattle.ifmap_ident.specs.Items.{IsCanonItem};
@@ -29,7 +29,8 @@ use std::sync::ledger::Ledger;
 
 // Appends the item of an identifier alone, where there is one.
 fn add_alone(alloc: Global, id: Option<&Identifier>, items: &mut Vec<Item>) -> Result<(), NoMemory>
-    ensures { OnOk result (items.new.items ≡ items.old.items ++ alone (option_copied id.entry)) }
+    ensures { OnOk result
+        (items.new.items ≡ items.old.items ++ item_alone (option_copied id.entry)) }
 {
     if let Some(id) = id {
         items.push(Item::One(id.copy(alloc)?))?;

@@ -26,7 +26,7 @@ use Rattle.ifmap_lemmas.specs.Members.{map_of_all}
 use Rattle.ifmap_meta.specs.Whole.{IsWhole}
 use Rattle.ifmap_plans.specs.declared.plans.Note.{Note}
 use Rattle.ifmap_plans.specs.Plans.{AreWhole}
-use Rattle.ifmap_pool.specs.Holdings.{key_at, once}
+use Rattle.ifmap_graph.specs.ifmap_pool.Holdings.{key_at, once}
 use Rattle.ifmap_publish.specs.Apply.{Authorship}
 use Rattle.ifmap_publish.specs.Notes.{note_of, notes_of_op}
 use Rattle.ifmap_region.specs.Marks.{mark_of, over}

@@ -13,7 +13,7 @@ use Rattle.ifmap_graph.specs.Seen.{HasFewOwn, IsStill, KeepsNumbers, links_next,
 use Rattle.ifmap_plans.specs.Plans.{AreWhole, Fits, IsAfter}
 use Rattle.ifmap_plans.specs.declared.plans.Note.{Note}
 use Rattle.ifmap_plans.specs.declared.plans.Plan.{Plan}
-use Rattle.ifmap_pool.specs.Holdings.{key_at}
+use Rattle.ifmap_graph.specs.ifmap_pool.Holdings.{key_at}
 use Rattle.ifmap_region.specs.Marks.{row_of}
 use Rattle.ifmap_region.specs.Ways.{HasRoom}
 use Rattle.ifmap_view.specs.Views.{IsView}
@@ -26,8 +26,8 @@ sight_now h = record { rows = rows_now h; id_at = key_at h.names; links = links_
 abbrev pub sight_next : Held → ViewSeen
 sight_next h = record { rows = rows_next h; id_at = key_at h.names; links = links_next h }
 
-abbrev pub IsSeen : ViewSeen → Type 0
-IsSeen g = IsView g.rows g.id_at g.links
+abbrev pub IsWorldSeen : ViewSeen → Type 0
+IsWorldSeen g = IsView g.rows g.id_at g.links
 
 -- what it is to show is what it shows after a plan
 abbrev pub AreShown : Held → Plan → Type 0
@@ -52,8 +52,8 @@ pub record IsFitting (h : Held) (plan : Plan) : Type 0 where
 -- a change is out
 pub record IsUnderWay (h : Held) (ready : Ready) : Type 0 where
   pub out : IsOut ready h
-  pub now : IsSeen (sight_now h)
-  pub next : IsSeen (sight_next h)
+  pub now : IsWorldSeen (sight_now h)
+  pub next : IsWorldSeen (sight_next h)
   pub change : AreShown h ready.plan
   pub notes : HaveFitNotes ready.plan
   pub whole : AreWhole (rows_next h)

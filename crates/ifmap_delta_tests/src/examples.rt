@@ -3,7 +3,7 @@
 ghost use Rattle.std.specs.Prelude.{IfOk};
 ghost use Rattle.std.specs.List.{AllByRecursion};
 ghost use Rattle.ifmap_delta.specs.Sights.{HasMarks, IsUpToDate};
-ghost use Rattle.ifmap_delta_tests.specs.Worlds.{IsQuiet, IsSeen, IsStepOut, sight_next, sight_now};
+ghost use Rattle.ifmap_delta_tests.specs.Worlds.{IsQuiet, IsWorldSeen, IsStepOut, sight_next, sight_now};
 ghost use Rattle.ifmap_ident.specs.Items.{IsCanonItem};
 
 use crate::faults::{Fault, fault_unless};
@@ -89,7 +89,7 @@ fn check_notes(
     plan: &Plan,
     wanted: &str,
 ) -> Result<(), Fault>
-    requires next { IsSeen (sight_next graph.now) }
+    requires next { IsWorldSeen (sight_next graph.now) }
     requires marks { HasMarks (sight_next graph.now) subscription.now }
     requires canon { AllByRecursion (λ n. IsCanonItem n.item) plan.now.notes }
 {

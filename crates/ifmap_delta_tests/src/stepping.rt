@@ -3,11 +3,11 @@ ghost use Rattle.std.specs.Prelude.{◌≡◌, ◌<◌, Some, IfOk, OnOk};
 ghost use Rattle.std.specs.List.{AllByRecursion};
 ghost use Rattle.ifmap_delta.specs.Changes.{IsSubscribed, ShowsAfter, WouldKeep};
 ghost use Rattle.ifmap_delta.specs.Sights.{HasMarks, IsUpToDate, ViewSeen};
-ghost use Rattle.ifmap_delta_tests.specs.Worlds.{IsFitting, IsQuiet, IsSeen, IsStepOut, KeepsRows};
+ghost use Rattle.ifmap_delta_tests.specs.Worlds.{IsFitting, IsQuiet, IsWorldSeen, IsStepOut, KeepsRows};
 ghost use Rattle.ifmap_delta_tests.specs.Worlds.{sight_next, sight_now};
 ghost use Rattle.ifmap_ident.specs.Canon.{IsIdentifier};
 ghost use Rattle.ifmap_ident.specs.Items.{IsCanonItem};
-ghost use Rattle.ifmap_pool.specs.Holdings.{key_at};
+ghost use Rattle.ifmap_graph.specs.ifmap_pool.Holdings.{key_at};
 ghost use Rattle.ifmap_region.specs.Ways.{HasRoom};
 
 use crate::comparing::{is_as_in, take_snapshot, tells_difference};
@@ -128,8 +128,8 @@ fn change_with<L: Ledger>(
     plan: &Plan,
     blank: Blank,
 ) -> Result<Moved, NoMemory>
-    requires now { IsSeen (sight_now graph.now) }
-    requires next { IsSeen (sight_next graph.now) }
+    requires now { IsWorldSeen (sight_now graph.now) }
+    requires next { IsWorldSeen (sight_next graph.now) }
     requires kept { IsUpToDate (sight_now graph.now) subscription.now }
     requires change { ShowsAfter (sight_now graph.now) (sight_next graph.now) plan.now.changes }
     requires name { blank.name ≡ L.name }
@@ -169,8 +169,8 @@ fn change_of(
     graph: &Graph,
     plan: &Plan,
 ) -> Result<Moved, Fault>
-    requires now { IsSeen (sight_now graph.now) }
-    requires next { IsSeen (sight_next graph.now) }
+    requires now { IsWorldSeen (sight_now graph.now) }
+    requires next { IsWorldSeen (sight_next graph.now) }
     requires kept { IsUpToDate (sight_now graph.now) subscription.now }
     requires change { ShowsAfter (sight_now graph.now) (sight_next graph.now) plan.now.changes }
     ensures { IfOk result (λ moved. WouldKeep (sight_next graph.now) subscription.now moved.patch
@@ -206,8 +206,8 @@ fn prepare_change(
     subscription: &mut Subscription,
     plan: &Plan,
 ) -> Result<Moved, Fault>
-    requires now { IsSeen (sight_now graph.now) }
-    requires next { IsSeen (sight_next graph.now) }
+    requires now { IsWorldSeen (sight_now graph.now) }
+    requires next { IsWorldSeen (sight_next graph.now) }
     requires kept { IsUpToDate (sight_now graph.now) subscription.old }
     requires change { ShowsAfter (sight_now graph.now) (sight_next graph.now) plan.now.changes }
     ensures keeps { IfOk result (λ moved. WouldKeep (sight_next graph.now) subscription.new
@@ -292,7 +292,7 @@ pub(crate) fn notes_of(
     subscription: &Subscription,
     plan: &Plan,
 ) -> Result<Many<Entry>, NoMemory>
-    requires next { IsSeen (sight_next graph.now) }
+    requires next { IsWorldSeen (sight_next graph.now) }
     requires marks { HasMarks (sight_next graph.now) subscription.now }
     requires canon { AllByRecursion (λ n. IsCanonItem n.item) plan.now.notes }
 {

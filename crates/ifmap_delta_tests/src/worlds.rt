@@ -4,7 +4,7 @@ ghost use Rattle.std.specs.List.{AllByRecursion};
 ghost use Rattle.ifmap_delta_tests.specs.Worlds.{IsFitting, IsQuiet, IsUnderWay, ShowsSame};
 ghost use Rattle.ifmap_graph.specs.Seen.{KeepsNumbers};
 ghost use Rattle.ifmap_ident.specs.Canon.{IsIdentifier};
-ghost use Rattle.ifmap_pool.specs.Holdings.{key_at};
+ghost use Rattle.ifmap_graph.specs.ifmap_pool.Holdings.{key_at};
 ghost use Rattle.ifmap_requests.specs.Fit.{IsFitOp};
 
 use crate::faults::Fault;

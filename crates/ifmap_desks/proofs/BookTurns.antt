@@ -3,7 +3,7 @@ use Rattle.std.proofs.Common.{◌≡◌, ◌↔◌, refl, sym, ap, subst, ℕ, �
 use Rattle.std.proofs.lemmas.Bool.{cases_Bool}
 use Rattle.std.proofs.lemmas.Bool.Decides.{nat_tests}
 use Rattle.ifmap_core.specs.Holding.{WouldHold}
-use Rattle.ifmap_desks.specs.Answers.{plain}
+use Rattle.ifmap_desks.specs.Answers.{plain_asked}
 use Rattle.ifmap_desks.specs.Asking.{IsTurn}
 use Rattle.ifmap_desks.specs.Calls.{said_since, told_since}
 use Rattle.ifmap_desks.specs.Holding.{would_hold}
@@ -12,10 +12,10 @@ use Rattle.ifmap_desks.specs.declared.events.FitEvent.{FitEvent}
 use Rattle.ifmap_dialogue.specs.Desks.{FitsAsked, FitsAnswer, Gains, IsPoll, call_of}
 use Rattle.ifmap_hall.specs.declared.book.Asked.{Asked}
 use Rattle.ifmap_hall.specs.declared.book.Asked.TheVariants.{Done, Held, Spent, NoMemory}
-use Rattle.ifmap_machine.specs.declared.events.Answer.{Answer}
-use Rattle.ifmap_machine.specs.Events.{Event}
-use Rattle.ifmap_machine.specs.State.{State}
-use Rattle.ifmap_machine.specs.Step.{step}
+use Rattle.ifmap_dialogue.specs.ifmap_machine.declared.events.Answer.{Answer}
+use Rattle.ifmap_dialogue.specs.ifmap_machine.Events.{Event}
+use Rattle.ifmap_dialogue.specs.ifmap_machine.State.{State}
+use Rattle.ifmap_dialogue.specs.ifmap_machine.Step.{step}
 
 -- where what is said now can be told, what was said could, and this was added
 pub gains : (since : ℕ) (b b' : CoreBook) (event : Event) (answer : Asked Event Answer) → b.from ≤ b'.from
@@ -39,7 +39,7 @@ module _ (holding : (state : State) (event : Event) → would_hold state event �
     (fitting : (state : State) (event : Event) → FitsAnswer event (step state event).1) where
   -- the answer is one that the event can have
   pub fits : (b b' : CoreBook) (number : ℕ) (event : FitEvent) (given : Asked FitEvent Answer) → IsTurn b b' number event given
-      → FitsAsked event.event (plain given)
+      → FitsAsked event.event (plain_asked given)
   fits b b' number event (Done at r) t =
       subst (FitsAnswer event.event) (sym t.done.2.reply_is) (fitting b.machine.core event.event)
   fits b b' number event (Held at back) t = (

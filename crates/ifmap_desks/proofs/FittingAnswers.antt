@@ -2,20 +2,20 @@
 use Rattle.std.proofs.Common.{◌≡◌, refl, ℕ, Bool, true, false, List, [], ◌∷◌, Option, None, Some, inl, inr}
 use Rattle.std.proofs.lemmas.Bool.{cases_Bool}
 use Rattle.ifmap_dialogue.specs.Desks.{FitsAnswer, IsRequestEvent, IsLost, IsPoll}
-use Rattle.ifmap_machine.specs.declared.events.Answer.{Answer}
-use Rattle.ifmap_machine.specs.declared.events.Ask.{Ask}
-use Rattle.ifmap_machine.specs.declared.events.Ask.TheVariants.{Request, Lost}
-use Rattle.ifmap_machine.specs.Ending.{expire}
-use Rattle.ifmap_machine.specs.Events.{Event}
-use Rattle.ifmap_machine.specs.State.{State, advance}
-use Rattle.ifmap_machine.specs.Step.{answer_subscribed, in_session, is_full, lose, new_session, poll, poll_in, poll_queue, publish, purge, search, step, step_ask, subscribe}
-use Rattle.ifmap_machine.specs.Step.{end_session, renew_session}
-use Rattle.ifmap_machine.specs.Subscribing.{Told, subscribe_ops}
-use Rattle.ifmap_machine.specs.Telling.{is_too_big}
-use Rattle.ifmap_requests.specs.declared.requests.Request.TheVariants as the_request
-use Rattle.ifmap_search.specs.declared.results.PollItem.{PollItem}
-use Rattle.ifmap_search.specs.declared.searches.Search.{Search}
-use Rattle.ifmap_session.specs.Sessions.{Session, is_same_text, session_with_id}
+use Rattle.ifmap_dialogue.specs.ifmap_machine.declared.events.Answer.{Answer}
+use Rattle.ifmap_dialogue.specs.ifmap_machine.declared.events.Ask.{Ask}
+use Rattle.ifmap_dialogue.specs.ifmap_machine.declared.events.Ask.TheVariants.{Request, Lost}
+use Rattle.ifmap_dialogue.specs.ifmap_machine.Ending.{expire}
+use Rattle.ifmap_dialogue.specs.ifmap_machine.Events.{Event}
+use Rattle.ifmap_dialogue.specs.ifmap_machine.State.{State, advance}
+use Rattle.ifmap_dialogue.specs.ifmap_machine.Step.{answer_subscribed, in_session, is_full, lose, new_session, poll, poll_in, poll_queue, publish, purge, search, step, step_ask, subscribe}
+use Rattle.ifmap_dialogue.specs.ifmap_machine.Step.{end_session, renew_session}
+use Rattle.ifmap_dialogue.specs.ifmap_machine.Subscribing.{Told, subscribe_ops}
+use Rattle.ifmap_dialogue.specs.ifmap_machine.Telling.{is_too_big}
+use Rattle.ifmap_dialogue.specs.ifmap_requests.declared.requests.Request.TheVariants as the_request
+use Rattle.ifmap_core.specs.ifmap_search.declared.results.PollItem.{PollItem}
+use Rattle.ifmap_core.specs.ifmap_search.declared.searches.Search.{Search}
+use Rattle.ifmap_core.specs.ifmap_session.Sessions.{Session, is_same_text, session_with_id}
 
 module _ (event : Event) where
   -- a request in a session, where what is accepted is answered so

@@ -1,7 +1,7 @@
 -- What a turn adds to what was said since a place.
 use Rattle.std.proofs.Common.{◌≡◌, sym, ap, ◌∙◌, ℕ, ◌+◌, ◌-◌, ◌≤◌, [], ◌∷◌, ◌++◌, length, take, drop, arith, append-nil, length-append, length-drop, take-add, drop-drop}
 use Rattle.std.proofs.lemmas.List.{take-append-le, drop-append-le, take-append-drop, nil_from_length}
-use Rattle.ifmap_desks.specs.Answers.{plain}
+use Rattle.ifmap_desks.specs.Answers.{plain_asked}
 use Rattle.ifmap_desks.specs.Calls.{Log, calls_from, said_since}
 use Rattle.ifmap_desks.specs.Asking.{IsTurn}
 use Rattle.ifmap_desks.specs.Machines.{CoreBook, core_next, core_reply}
@@ -15,7 +15,7 @@ use Rattle.ifmap_hall.specs.Turns.{Enters}
 use Rattle.ifmap_hall.specs.declared.book.Asked.{Asked}
 use Rattle.ifmap_hall.specs.declared.book.Asked.TheVariants.{Done, Held, Spent, NoMemory}
 use Rattle.ifmap_lemmas.specs.Lists.{cut_same}
-use Rattle.ifmap_machine.specs.declared.events.Answer.{Answer}
+use Rattle.ifmap_dialogue.specs.ifmap_machine.declared.events.Answer.{Answer}
 
 module _ (place : ℕ) (b b' : CoreBook) (c : CarriesOn core_next (sight_of b) (sight_of b'))
     (near : b'.from ≤ place) (within : place ≤ end_of_book b) (state : b.machine ≡ run core_next b.base b.journal.items) where
@@ -80,7 +80,7 @@ module _ (place : ℕ) (b b' : CoreBook) (c : CarriesOn core_next (sight_of b) (
       ∙ ap (λ (q : Answer). said_since place b ++ (event.event, q) ∷ []) (sym enters.reply_is)
 
   pub adds : (number : ℕ) (event : FitEvent) (given : Asked FitEvent Answer) → IsTurn b b' number event given
-      → said_since place b' ≡ said_since place b ++ call_of event.event (plain given)
+      → said_since place b' ≡ said_since place b ++ call_of event.event (plain_asked given)
   adds number event (Done at r) t = one_said number at event r t.done.2
   adds number event (Held at back) t = ap (λ (x : CoreBook). said_since place x) t.held.4 ∙ sym (append-nil (said_since place b))
   adds number event (Spent entries back) t = ap (λ (x : CoreBook). said_since place x) t.spent.3 ∙ sym (append-nil (said_since place b))

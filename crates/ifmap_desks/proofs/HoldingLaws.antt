@@ -3,14 +3,14 @@ use Rattle.std.proofs.Common.{◌≡◌, ◌↔◌, refl, ℕ, Bool, true, false
 use Rattle.std.proofs.lemmas.Bool.{and_parts, not-true}
 use Rattle.ifmap_core.specs.Holding.{WouldHold}
 use Rattle.ifmap_desks.specs.Holding.{has_nothing, holds_ask, is_any_expired, is_nothing, would_hold}
-use Rattle.ifmap_machine.specs.declared.events.Ask.{Ask}
-use Rattle.ifmap_machine.specs.declared.events.Ask.TheVariants.{Request, Lost}
-use Rattle.ifmap_machine.specs.Events.{Event}
-use Rattle.ifmap_machine.specs.State.{State}
-use Rattle.ifmap_requests.specs.declared.requests.Request.TheVariants as the_request
-use Rattle.ifmap_search.specs.declared.results.PollItem.{PollItem}
-use Rattle.ifmap_session.specs.Sessions.{Session, is_same_text, session_with_id}
-use Rattle.ifmap_session.specs.laws.TextLaws.{text_is, text_same}
+use Rattle.ifmap_dialogue.specs.ifmap_machine.declared.events.Ask.{Ask}
+use Rattle.ifmap_dialogue.specs.ifmap_machine.declared.events.Ask.TheVariants.{Request, Lost}
+use Rattle.ifmap_dialogue.specs.ifmap_machine.Events.{Event}
+use Rattle.ifmap_dialogue.specs.ifmap_machine.State.{State}
+use Rattle.ifmap_dialogue.specs.ifmap_requests.declared.requests.Request.TheVariants as the_request
+use Rattle.ifmap_core.specs.ifmap_search.declared.results.PollItem.{PollItem}
+use Rattle.ifmap_core.specs.ifmap_session.Sessions.{Session, is_same_text, session_with_id}
+use Rattle.ifmap_core.specs.ifmap_session.laws.TextLaws.{text_is, text_same}
 
 no_items : (queue : List PollItem) → is_nothing queue ≡ true → queue ≡ []
 no_items [] e = refl

@@ -6,12 +6,12 @@ use Rattle.ifmap_desks.specs.Calls.{Log, calls_from}
 use Rattle.ifmap_desks.specs.Machines.{core_next}
 use Rattle.ifmap_desks.specs.declared.machine.CoreMachine.{CoreMachine}
 use Rattle.ifmap_hall.specs.Sights.{run}
-use Rattle.ifmap_machine.specs.Agreeing.{Agrees}
-use Rattle.ifmap_machine.specs.Legal.{AreFit, History, Legal, LegalFrom, state_after, state_from}
-use Rattle.ifmap_machine.specs.Since.{AgreesFrom}
-use Rattle.ifmap_machine.specs.State.{State, opening}
-use Rattle.ifmap_machine.specs.Step.{step}
-use Rattle.ifmap_search.specs.contracts.results.Entry as the_entry
+use Rattle.ifmap_dialogue.specs.ifmap_machine.Agreeing.{Agrees}
+use Rattle.ifmap_dialogue.specs.ifmap_machine.Legal.{AreFit, History, Legal, LegalFrom, state_after, state_from}
+use Rattle.ifmap_dialogue.specs.ifmap_machine.Since.{AgreesFrom}
+use Rattle.ifmap_dialogue.specs.ifmap_machine.State.{State, opening}
+use Rattle.ifmap_dialogue.specs.ifmap_machine.Step.{step}
+use Rattle.ifmap_core.specs.ifmap_search.contracts.results.Entry as the_entry
 
 pub legal_calls : (state : State) (log : Log) → LegalFrom state (calls_from state log)
 legal_calls state [] = tt

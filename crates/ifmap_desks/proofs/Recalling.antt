@@ -1,16 +1,16 @@
 -- What a pass said stays what the machine answered, and a spent hall stays spent.
 use Rattle.std.proofs.Common.{◌≡◌, sym, ap, subst, ◌∙◌, ℕ, ◌+◌, ◌-◌, ◌^◌, ◌<◌, List, [], ◌∷◌, ◌++◌, length, append_assoc, length-append, arith}
-use Rattle.ifmap_desks.specs.Answers.{Counted, plain}
+use Rattle.ifmap_desks.specs.Answers.{Counted, plain_asked}
 use Rattle.ifmap_desks.specs.Calls.{Log}
 use Rattle.ifmap_desks.specs.Machines.{CoreView, core_holds, core_next, core_reply}
 use Rattle.ifmap_desks.specs.Recalls.{AreCalls, IsCallOfEntry, Recalls}
-use Rattle.ifmap_desks.specs.declared.answers.Counts.{Counts}
+use Rattle.ifmap_desks.specs.declared.answers.AnswerCounts.{AnswerCounts}
 use Rattle.ifmap_desks.specs.declared.events.FitEvent.{FitEvent}
 use Rattle.ifmap_desks.specs.declared.machine.CoreMachine.{CoreMachine}
 use Rattle.ifmap_hall.specs.Asking.{Answered, Said, SaidNothing, TookATurn}
 use Rattle.ifmap_hall.specs.declared.book.Asked.{Asked}
 use Rattle.ifmap_hall.specs.declared.book.Asked.TheVariants.{Done, Held, Spent, NoMemory}
-use Rattle.ifmap_machine.specs.declared.events.Answer.{Answer}
+use Rattle.ifmap_dialogue.specs.ifmap_machine.declared.events.Answer.{Answer}
 
 module _ (opening : CoreMachine) (log : Log) where
   -- a call stays where the log grows at its end
@@ -90,19 +90,19 @@ module _ (v w : CoreView) (took : TookATurn v w) where
     grown = ap length took.history.whole ∙ length-append v.history.log took.history.rest
 
     -- where an answer was `Spent`, the history has 2^64 - 1 entries
-    pub used_up : (given : Asked FitEvent Answer) (old new : Counts) → Answered core_next core_holds core_reply v w number event given
-        → Counted (plain given) old new → (0 < old.spent → length v.history.log ≡ 2 ^ 64 - 1)
+    pub used_up : (given : Asked FitEvent Answer) (old new : AnswerCounts) → Answered core_next core_holds core_reply v w number event given
+        → Counted (plain_asked given) old new → (0 < old.spent → length v.history.log ≡ 2 ^ 64 - 1)
         → 0 < new.spent → length w.history.log ≡ 2 ^ 64 - 1
     used_up (Done place reply) old new a counted before some =
-        let e : new.spent ≡ old.spent = ap (λ (x : Counts). x.spent) counted in
+        let e : new.spent ≡ old.spent = ap (λ (x : AnswerCounts). x.spent) counted in
         let full = before (omega (arith, e, some)) in
         absurd (omega (arith, full, a.later, a.numbered))
     used_up (Held place back) old new a counted before some =
-        let e : new.spent ≡ old.spent = ap (λ (x : Counts). x.spent) counted in
+        let e : new.spent ≡ old.spent = ap (λ (x : AnswerCounts). x.spent) counted in
         let full = before (omega (arith, e, some)) in
         absurd (omega (arith, full, grown, a.1, a.2))
     used_up (Spent entries back) old new a counted before some = a.1 ∙ a.2
     used_up (NoMemory back) old new a counted before some =
-        let e : new.spent ≡ old.spent = ap (λ (x : Counts). x.spent) counted in
+        let e : new.spent ≡ old.spent = ap (λ (x : AnswerCounts). x.spent) counted in
         let full = before (omega (arith, e, some)) in
         absurd (omega (arith, full, grown, a.1))

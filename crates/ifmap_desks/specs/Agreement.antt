@@ -4,9 +4,9 @@ use Rattle.ifmap_desks.specs.Calls.{calls_from}
 use Rattle.ifmap_desks.specs.Machines.{CoreView, core_next}
 use Rattle.ifmap_dialogue.specs.Desks.{Call}
 use Rattle.ifmap_hall.specs.Views.{sight_by}
-use Rattle.ifmap_machine.specs.Agreeing.{Agrees}
-use Rattle.ifmap_machine.specs.Since.{AgreesFrom}
-use Rattle.ifmap_machine.specs.State.{opening}
+use Rattle.ifmap_dialogue.specs.ifmap_machine.Agreeing.{Agrees}
+use Rattle.ifmap_dialogue.specs.ifmap_machine.Since.{AgreesFrom}
+use Rattle.ifmap_dialogue.specs.ifmap_machine.State.{opening}
 
 -- all calls of the hall's machine that the pass has seen, from the opening state on
 abbrev pub calls_in : CoreView → List Call

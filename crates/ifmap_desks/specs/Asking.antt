@@ -1,6 +1,6 @@
 -- What an answer at a desk says of its book, or of the history of its hall.
 use Rattle.std.specs.Prelude.{◌≡◌, ℕ, ◌-◌, ◌^◌, ◌<◌, true, false, map, None, Some}
-use Rattle.ifmap_desks.specs.Answers.{plain}
+use Rattle.ifmap_desks.specs.Answers.{plain_asked}
 use Rattle.ifmap_desks.specs.Calls.{plain_call, told_since}
 use Rattle.ifmap_desks.specs.Machines.{CoreBook, CoreView, core_holds, core_next, core_reply, core_weight}
 use Rattle.ifmap_desks.specs.declared.book_desk.BookDesk.{BookDesk}
@@ -17,8 +17,8 @@ use Rattle.ifmap_hall.specs.Turns.{Enters, HadToGo, SameLimits, Settles}
 use Rattle.ifmap_hall.specs.Views.{sight_by}
 use Rattle.ifmap_hall.specs.declared.book.Asked.{Asked}
 use Rattle.ifmap_hall.specs.declared.hall.Hall.{Hall}
-use Rattle.ifmap_machine.specs.declared.events.Answer.{Answer}
-use Rattle.ifmap_machine.specs.Events.{Event}
+use Rattle.ifmap_dialogue.specs.ifmap_machine.declared.events.Answer.{Answer}
+use Rattle.ifmap_dialogue.specs.ifmap_machine.Events.{Event}
 
 -- a turn of a book of the core: what each answer says of the book before it and after it
 pub record IsTurn (old new : CoreBook) (pass : ℕ) (event : FitEvent) (given : Asked FitEvent Answer) : Type 0 where
@@ -38,7 +38,7 @@ pub record AnsweredByBook (old new : CoreBook) (pass : ℕ) (event : Event) (ans
   pub asked : FitEvent
   pub is_event : asked.event ≡ event
   pub given : Asked FitEvent Answer
-  pub is_plain : answer ≡ plain given
+  pub is_plain : answer ≡ plain_asked given
   pub turn : IsTurn old new pass asked given
 
 -- a desk handed on what the hall answered: what it says of the whole history that the pass has seen, and of the base and what follows it
@@ -46,7 +46,7 @@ pub record AnsweredByHall (v w : CoreView) (number : ℕ) (event : Event) (answe
   pub asked : FitEvent
   pub is_event : asked.event ≡ event
   pub given : Asked FitEvent Answer
-  pub is_plain : answer ≡ plain given
+  pub is_plain : answer ≡ plain_asked given
   pub answered : Answered core_next core_holds core_reply v w number asked given
   pub from_base : AnsweredFromBase core_next core_holds core_reply (sight_by core_next w) number asked given
 

@@ -4,9 +4,9 @@ use Rattle.ifmap_desks.specs.Machines.{CoreBook, core_next}
 use Rattle.ifmap_desks.specs.declared.events.FitEvent.{FitEvent}
 use Rattle.ifmap_dialogue.specs.Desks.{Call}
 use Rattle.ifmap_hall.specs.Sights.{run}
-use Rattle.ifmap_machine.specs.declared.events.Answer.{Answer}
-use Rattle.ifmap_machine.specs.State.{State}
-use Rattle.ifmap_machine.specs.Step.{step}
+use Rattle.ifmap_dialogue.specs.ifmap_machine.declared.events.Answer.{Answer}
+use Rattle.ifmap_dialogue.specs.ifmap_machine.State.{State}
+use Rattle.ifmap_dialogue.specs.ifmap_machine.Step.{step}
 
 -- entries, each the number of a pass and an event
 abbrev pub Log : Type 0

@@ -1,13 +1,13 @@
 -- Whether an event would be held, as a test.
 use Rattle.std.specs.Prelude.{ℕ, ◌&&◌, Bool, true, false, List, [], ◌∷◌, max, not, Option, None, Some}
 use Rattle.std.specs.List.{list_any}
-use Rattle.ifmap_machine.specs.declared.events.Ask.{Ask}
-use Rattle.ifmap_machine.specs.declared.events.Ask.TheVariants.{Request, Lost}
-use Rattle.ifmap_machine.specs.Events.{Event}
-use Rattle.ifmap_machine.specs.State.{State}
-use Rattle.ifmap_requests.specs.declared.requests.Request.TheVariants as the_request
-use Rattle.ifmap_search.specs.declared.results.PollItem.{PollItem}
-use Rattle.ifmap_session.specs.Sessions.{Session, is_expired, is_same_text, session_with_id}
+use Rattle.ifmap_dialogue.specs.ifmap_machine.declared.events.Ask.{Ask}
+use Rattle.ifmap_dialogue.specs.ifmap_machine.declared.events.Ask.TheVariants.{Request, Lost}
+use Rattle.ifmap_dialogue.specs.ifmap_machine.Events.{Event}
+use Rattle.ifmap_dialogue.specs.ifmap_machine.State.{State}
+use Rattle.ifmap_dialogue.specs.ifmap_requests.declared.requests.Request.TheVariants as the_request
+use Rattle.ifmap_core.specs.ifmap_search.declared.results.PollItem.{PollItem}
+use Rattle.ifmap_core.specs.ifmap_session.Sessions.{Session, is_expired, is_same_text, session_with_id}
 
 -- there is nothing to tell
 abbrev pub is_nothing : List PollItem → Bool

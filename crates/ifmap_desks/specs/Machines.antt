@@ -6,9 +6,9 @@ use Rattle.ifmap_desks.specs.declared.machine.CoreMachine.{CoreMachine}
 use Rattle.ifmap_dialogue.specs.Desks.{weight}
 use Rattle.ifmap_hall.specs.Books.{IsBook}
 use Rattle.ifmap_hall.specs.declared.book.Book.{Book}
-use Rattle.ifmap_hall.specs.declared.view.View.{View}
-use Rattle.ifmap_machine.specs.declared.events.Answer.{Answer}
-use Rattle.ifmap_machine.specs.Step.{step}
+use Rattle.ifmap_hall.specs.declared.view.HallView.{HallView}
+use Rattle.ifmap_dialogue.specs.ifmap_machine.declared.events.Answer.{Answer}
+use Rattle.ifmap_dialogue.specs.ifmap_machine.Step.{step}
 
 -- the machine after an event
 abbrev pub core_next : CoreMachine → FitEvent → CoreMachine
@@ -36,4 +36,4 @@ IsCoreBook b = IsBook core_next core_weight b
 
 -- what a pass of a hall over it is seen as
 abbrev pub CoreView : Type 0
-CoreView = View CoreMachine FitEvent Answer
+CoreView = HallView CoreMachine FitEvent Answer

@@ -5,7 +5,7 @@ use Rattle.ifmap_desks.specs.Machines.{CoreView, core_next, core_reply}
 use Rattle.ifmap_desks.specs.declared.events.FitEvent.{FitEvent}
 use Rattle.ifmap_desks.specs.declared.machine.CoreMachine.{CoreMachine}
 use Rattle.ifmap_hall.specs.Sights.{run}
-use Rattle.ifmap_machine.specs.declared.events.Answer.{Answer}
+use Rattle.ifmap_dialogue.specs.ifmap_machine.declared.events.Answer.{Answer}
 
 -- the call is that of the entry at this place: its event, and the answer of the machine after the entries before it
 pub record IsCallOfEntry (opening : CoreMachine) (log : Log) (place : ℕ) (call : FitEvent × Answer) : Type 0 where

@@ -1,25 +1,25 @@
 //! Answers of a book as a desk hands them on, and how many there were.
 ghost use Rattle.std.specs.Prelude.{◌≡◌};
-ghost use Rattle.ifmap_desks.specs.Answers.{plain, Counted};
+ghost use Rattle.ifmap_desks.specs.Answers.{plain_asked, Counted};
 
 use crate::events::FitEvent;
+use ifmap_dialogue::{Answer, Event};
 use ifmap_hall::Asked;
-use ifmap_machine::{Answer, Event};
 
 // How many answers were `Held`, and how many `Spent`. A count that is at its last value stays there.
 #[derive(Drop)]
-pub struct Counts {
+pub struct AnswerCounts {
     pub held: u64,
     pub spent: u64,
 }
 
-impl Counts {
+impl AnswerCounts {
     // No answer yet.
-    pub(crate) fn new() -> Counts
+    pub(crate) fn new() -> AnswerCounts
         ensures held { result.held ≡ 0 }
         ensures spent { result.spent ≡ 0 }
     {
-        Counts { held: 0, spent: 0 }
+        AnswerCounts { held: 0, spent: 0 }
     }
 
     // Counts an answer.
@@ -36,8 +36,8 @@ impl Counts {
 }
 
 // The answer with the event as it was asked.
-pub(crate) fn plain(asked: Asked<FitEvent, Answer>) -> Asked<Event, Answer>
-    ensures { result ≡ plain asked }
+pub(crate) fn plain_asked(asked: Asked<FitEvent, Answer>) -> Asked<Event, Answer>
+    ensures { result ≡ plain_asked asked }
 {
     match asked {
         Asked::Done { place, reply } => Asked::Done { place, reply },

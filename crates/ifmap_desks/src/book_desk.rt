@@ -5,7 +5,7 @@ ghost use Rattle.ifmap_desks.specs.Machines.{IsCoreBook};
 ghost use Rattle.ifmap_dialogue.specs.Desks.{heaviest};
 ghost use Rattle.ifmap_hall.specs.Books.{end_of_book};
 
-use crate::answers::Counts;
+use crate::answers::AnswerCounts;
 use crate::machine::CoreMachine;
 use ifmap_hall::Book;
 use std::alloc::Global;
@@ -18,7 +18,7 @@ pub struct BookDesk {
     pub(crate) pass: u64,
     // The place that was next at its making.
     pub(crate) since: u64,
-    pub(crate) counts: Counts,
+    pub(crate) counts: AnswerCounts,
     pub ghost in_order: { IsCoreBook book },
     pub ghost bears: { heaviest ≤ book.heaviest },
     pub ghost since_then: { since ≤ end_of_book book },

@@ -4,14 +4,13 @@ ghost use Rattle.ifmap_desks.specs.Asking.{AnsweredByBook, book_at, book_seen, p
 ghost use Rattle.ifmap_desks.specs.Machines.{IsCoreBook};
 ghost use Rattle.ifmap_dialogue.specs.Desks.{DeskTakesTurns, heaviest, weight};
 
-use crate::answers::{Counts, plain};
+use crate::answers::{AnswerCounts, plain_asked};
 use crate::book_desk::BookDesk;
 use crate::events::FitEvent;
 use crate::laws::{answers_fit_events, holding_is_exact};
 use crate::machine::CoreMachine;
-use ifmap_dialogue::Desk;
+use ifmap_dialogue::{Answer, Desk, Event};
 use ifmap_hall::{Asked, Book};
-use ifmap_machine::{Answer, Event};
 use std::alloc::Global;
 
 impl BookDesk {
@@ -31,7 +30,7 @@ impl BookDesk {
             book,
             pass,
             since,
-            counts: Counts::new(),
+            counts: AnswerCounts::new(),
         }
     }
 
@@ -79,7 +78,7 @@ impl Desk for BookDesk {
         let asked = self
             .book
             .turn(self.alloc, self.pass, FitEvent::from_event(event));
-        let answer = plain(asked);
+        let answer = plain_asked(asked);
         self.counts.count(&answer);
         answer
     }

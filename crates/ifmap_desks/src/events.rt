@@ -1,8 +1,8 @@
 //! Events as a hall keeps them.
 ghost use Rattle.std.specs.Prelude.{◌≡◌};
-ghost use Rattle.ifmap_machine.specs.Events.{IsFitEvent};
+ghost use Rattle.ifmap_dialogue.specs.ifmap_machine.Events.{IsFitEvent};
 
-use ifmap_machine::Event;
+use ifmap_dialogue::Event;
 
 /// An event that is known to be fit wherever contracts speak of it: of the entries of a history they
 /// see values alone, and this one has its proof beside it. It takes no more bytes than the event.

@@ -8,14 +8,14 @@ ghost use Rattle.ifmap_desks.specs.Recalls.{Recalls};
 ghost use Rattle.ifmap_desks.specs.declared.machine.CoreMachine.{CoreMachine};
 ghost use Rattle.ifmap_dialogue.specs.Desks.{FitsAnswer};
 ghost use Rattle.ifmap_hall.specs.Sights.{run};
-ghost use Rattle.ifmap_machine.specs.Agreeing.{Agrees};
-ghost use Rattle.ifmap_machine.specs.Events.{Event};
-ghost use Rattle.ifmap_machine.specs.Legal.{Legal, state_from};
-ghost use Rattle.ifmap_machine.specs.Since.{AgreesFrom};
-ghost use Rattle.ifmap_machine.specs.State.{State, opening};
-ghost use Rattle.ifmap_machine.specs.Step.{step};
+ghost use Rattle.ifmap_dialogue.specs.ifmap_machine.Agreeing.{Agrees};
+ghost use Rattle.ifmap_dialogue.specs.ifmap_machine.Events.{Event};
+ghost use Rattle.ifmap_dialogue.specs.ifmap_machine.Legal.{Legal, state_from};
+ghost use Rattle.ifmap_dialogue.specs.ifmap_machine.Since.{AgreesFrom};
+ghost use Rattle.ifmap_dialogue.specs.ifmap_machine.State.{State, opening};
+ghost use Rattle.ifmap_dialogue.specs.ifmap_machine.Step.{step};
 
-use ifmap_machine::laws::{clients_fold_fresh_results, clients_fold_fresh_results_from_any_entry};
+use ifmap_dialogue::{clients_fold_fresh_results, clients_fold_fresh_results_from_any_entry};
 
 /// The test whether an event would be held is true exactly where it would be.
 pub fn holding_is_exact()

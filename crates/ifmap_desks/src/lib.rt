@@ -13,6 +13,9 @@ mod passes;
 
 pub use book_desk::BookDesk;
 pub use events::FitEvent;
+pub use ifmap_core::Core;
+pub use ifmap_dialogue::desks::AFTER_ANSWER;
+pub use ifmap_dialogue::{Desk, Gate, SESSION_SECONDS, serve_connection};
 pub use laws::{
     answers_fit_events, clients_agree_in_every_log, holding_is_exact, silent_passes_recall,
 };

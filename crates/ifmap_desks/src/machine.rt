@@ -2,14 +2,14 @@
 ghost use Rattle.std.specs.Prelude.{◌≡◌, ◌<◌, MatchResult};
 ghost use Rattle.ifmap_dialogue.specs.Desks.{weight};
 ghost use Rattle.ifmap_desks.specs.Holding.{would_hold};
-ghost use Rattle.ifmap_machine.specs.State.{State, opening};
-ghost use Rattle.ifmap_machine.specs.Step.{step};
+ghost use Rattle.ifmap_dialogue.specs.ifmap_machine.State.{State, opening};
+ghost use Rattle.ifmap_dialogue.specs.ifmap_machine.Step.{step};
 
 use crate::events::FitEvent;
 use crate::laws::holding_is_exact;
 use ifmap_core::Core;
+use ifmap_dialogue::{Answer, Event};
 use ifmap_hall::Machine;
-use ifmap_machine::{Answer, Event};
 use ifmap_steps::Steps;
 use std::alloc::{AllocError as NoMemory, Global};
 use std::marker::Brand;

@@ -5,7 +5,7 @@ ghost use Rattle.ifmap_desks.specs.Recalls.{Recalls};
 ghost use Rattle.ifmap_dialogue.specs.Desks.{heaviest};
 ghost use Rattle.ifmap_hall.specs.Passes.{IsOf, view_of};
 
-use crate::answers::Counts;
+use crate::answers::AnswerCounts;
 use crate::machine::CoreMachine;
 use ifmap_hall::{Hall, Pass};
 use std::alloc::Global;
@@ -18,7 +18,7 @@ pub struct PassDesk<'a, R: Wait> {
     pub(crate) alloc: Global,
     pub(crate) hall: &'a Hall<CoreMachine>,
     pub(crate) pass: &'a mut Pass<CoreMachine>,
-    pub(crate) counts: Counts,
+    pub(crate) counts: AnswerCounts,
     pub ghost of: { IsOf hall.now pass.now },
     pub ghost bears: { heaviest ≤ (view_of pass.now).terms.heaviest },
     pub ghost recalls: { ∥ Recalls (view_of pass.now) ∥₁ },

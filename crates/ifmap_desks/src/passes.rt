@@ -10,14 +10,13 @@ ghost use Rattle.ifmap_hall.specs.Passes.{IsOf, view_of};
 ghost use Rattle.ifmap_hall.specs.Sights.{CarriesOn};
 ghost use Rattle.ifmap_hall.specs.Views.{sight_by};
 
-use crate::answers::{Counts, plain};
+use crate::answers::{AnswerCounts, plain_asked};
 use crate::events::FitEvent;
 use crate::laws::{answers_fit_events, clients_agree_in_every_log, holding_is_exact};
 use crate::machine::CoreMachine;
 use crate::pass_desk::PassDesk;
-use ifmap_dialogue::Desk;
+use ifmap_dialogue::{Answer, Desk, Event};
 use ifmap_hall::{Asked, Hall, Pass};
-use ifmap_machine::{Answer, Event};
 use std::alloc::Global;
 use std::sync::Wait;
 
@@ -43,7 +42,7 @@ impl<'a, R: Wait> PassDesk<'a, R> {
             alloc,
             hall,
             pass,
-            counts: Counts::new(),
+            counts: AnswerCounts::new(),
         }
     }
 }
@@ -86,7 +85,7 @@ impl<'a, R: Wait> Desk for PassDesk<'a, R> {
         holding_is_exact();
         clients_agree_in_every_log();
         let asked = self.hall.ask(self.rt, self.alloc, self.pass, FitEvent::from_event(event));
-        let answer = plain(asked);
+        let answer = plain_asked(asked);
         self.counts.count(&answer);
         answer
     }

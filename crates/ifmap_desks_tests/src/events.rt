@@ -1,15 +1,14 @@
 //! Events, and what is told of their answers.
 ghost use Rattle.std.specs.Prelude.{◌≡◌, IfOk};
-ghost use Rattle.ifmap_machine.specs.Events.{IsFitAsk};
+ghost use Rattle.ifmap_dialogue.specs.ifmap_machine.Events.{IsFitAsk};
 ghost use Rattle.ifmap_requests.specs.Fit.{IsFitRequest};
-ghost use Rattle.ifmap_machine.specs.State.{opening};
+ghost use Rattle.ifmap_dialogue.specs.ifmap_machine.State.{opening};
 
-use ifmap_core::Core;
-use ifmap_desks::CoreMachine;
+use ifmap_desks::{Core, CoreMachine};
+use ifmap_dialogue::{Answer, Ask, Event};
 use ifmap_elem::Text;
 use ifmap_hall::Asked;
 use ifmap_io::Moment;
-use ifmap_machine::{Answer, Ask, Event};
 use ifmap_meta::ClientName;
 use ifmap_replies::Reply;
 use ifmap_requests::laws::bodies_mean_fit_requests;

@@ -10,14 +10,14 @@ use Rattle.ifmap_http.specs.declared.wires.Post.{Post}
 use Rattle.ifmap_http.specs.declared.wires.Sent.{Sent}
 use Rattle.ifmap_http.specs.declared.wires.Sent.TheVariants as sent
 use Rattle.ifmap_io.specs.Causes.{Rose}
-use Rattle.ifmap_dialogue.specs.declared.desks.Outcome.{Outcome}
-use Rattle.ifmap_dialogue.specs.declared.desks.Outcome.TheVariants as outcome
+use Rattle.ifmap_dialogue.specs.declared.desks.AskOutcome.{AskOutcome}
+use Rattle.ifmap_dialogue.specs.declared.desks.AskOutcome.TheVariants as outcome
 use Rattle.ifmap_dialogue.specs.declared.endings.Ending.{Ending}
 use Rattle.ifmap_dialogue.specs.declared.endings.Ending.TheVariants as ending
 use Rattle.ifmap_dialogue.specs.declared.findings.Finding.{Finding}
 use Rattle.ifmap_dialogue.specs.declared.findings.Finding.TheVariants as finding
 use Rattle.ifmap_dialogue.specs.declared.polls.Poll.{Poll}
-use Rattle.ifmap_replies.specs.declared.replies.Reply.{Reply}
+use Rattle.ifmap_machine.specs.ifmap_replies.declared.replies.Reply.{Reply}
 use Rattle.ifmap_dialogue.specs.Answers.{Answers, LosesUnlessDone, end_after, ending_heard, next_after, reply_answer}
 use Rattle.ifmap_dialogue.specs.Desks.{DeskSeen, DeskTakesTurns, Turn, outcome_of}
 use Rattle.ifmap_dialogue.specs.Findings.{FindsPost}
@@ -75,14 +75,14 @@ module _ (before after : WireSeen) (output : List ℕ) (g : GainsBytes before af
   causes_after sent.WriteFault due quiet counts = causes_faulty (counts refl)
   causes_after sent.NoMemory due quiet counts = causes_quiet (Some ending.NoMemory) quiet_wanting
 
-  quiet_heard : (o : Outcome) → IsQuiet (Some (ending_heard ending.NoMemory o))
+  quiet_heard : (o : AskOutcome) → IsQuiet (Some (ending_heard ending.NoMemory o))
   quiet_heard (outcome.Replied reply) = quiet_wanting
   quiet_heard outcome.Heard = quiet_wanting
   quiet_heard outcome.Held = quiet_wanting
   quiet_heard (outcome.Spent entries) = record { reads = λ e. cc; writes = λ e. cc }
   quiet_heard outcome.NoMemory = quiet_wanting
 
-  causes_heard : Rose before.write_faults after.write_faults → (o : Outcome)
+  causes_heard : Rose before.write_faults after.write_faults → (o : AskOutcome)
       → HasCauses before after (Some (ending_heard ending.WriteFault o))
   causes_heard rose (outcome.Replied reply) = causes_faulty rose
   causes_heard rose outcome.Heard = causes_faulty rose

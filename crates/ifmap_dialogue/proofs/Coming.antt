@@ -1,18 +1,18 @@
 -- What comes of questions, of requests and of posts.
 use Rattle.std.proofs.Common.{◌≡◌, ◌≢◌, ◌⊎◌, ℕ, ◌+◌, ◌*◌, ◌≤◌, Bool, false, arith, List, [], ◌∷◌, length, Ok, Err, inl, inr, refl, sym, ap, subst, ◌∙◌}
-use Rattle.ifmap_heads.specs.Limits.{longest_post}
+use Rattle.ifmap_http.specs.ifmap_heads.Limits.{longest_post}
 use Rattle.rand_chacha.specs.ChaCha.{ChaCha}
 use Rattle.ifmap_ident.specs.declared.codes.Code.{Code}
 use Rattle.ifmap_machine.specs.Events.{Event}
-use Rattle.ifmap_replies.specs.declared.replies.Reply.{Reply}
-use Rattle.ifmap_replies.specs.declared.replies.Reply.TheVariants as reply
-use Rattle.ifmap_search.specs.declared.results.PollItem.{PollItem}
-use Rattle.ifmap_requests.specs.Laws.{FitMeaning}
-use Rattle.ifmap_requests.specs.Means.{Means}
-use Rattle.ifmap_requests.specs.declared.errors.Refusal.TheVariants.{Named, Unreadable}
-use Rattle.ifmap_requests.specs.declared.requests.Request.{Request}
-use Rattle.ifmap_requests.specs.declared.requests.Request.TheVariants.{Poll as Polling}
-use Rattle.ifmap_dialogue.specs.declared.desks.Outcome.TheVariants as outcome
+use Rattle.ifmap_machine.specs.ifmap_replies.declared.replies.Reply.{Reply}
+use Rattle.ifmap_machine.specs.ifmap_replies.declared.replies.Reply.TheVariants as reply
+use Rattle.ifmap_machine.specs.ifmap_search.declared.results.PollItem.{PollItem}
+use Rattle.ifmap_machine.specs.ifmap_requests.Laws.{FitMeaning}
+use Rattle.ifmap_machine.specs.ifmap_requests.Means.{Means}
+use Rattle.ifmap_machine.specs.ifmap_requests.declared.errors.Refusal.TheVariants.{Named, Unreadable}
+use Rattle.ifmap_machine.specs.ifmap_requests.declared.requests.Request.{Request}
+use Rattle.ifmap_machine.specs.ifmap_requests.declared.requests.Request.TheVariants.{Poll as Polling}
+use Rattle.ifmap_dialogue.specs.declared.desks.AskOutcome.TheVariants as outcome
 use Rattle.ifmap_dialogue.specs.declared.findings.Finding.{Finding}
 use Rattle.ifmap_dialogue.specs.declared.findings.Finding.TheVariants as finding
 use Rattle.ifmap_dialogue.specs.declared.polls.Poll.{Poll}

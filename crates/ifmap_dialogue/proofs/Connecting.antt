@@ -24,8 +24,8 @@ use Rattle.ifmap_dialogue.specs.declared.endings.Ending.TheVariants as ending
 use Rattle.ifmap_dialogue.specs.declared.findings.Finding.{Finding}
 use Rattle.ifmap_dialogue.specs.declared.findings.Finding.TheVariants as finding
 use Rattle.ifmap_dialogue.specs.declared.polls.Poll.{Poll}
-use Rattle.ifmap_dialogue.specs.declared.desks.Outcome.{Outcome}
-use Rattle.ifmap_dialogue.specs.declared.desks.Outcome.TheVariants as outcome
+use Rattle.ifmap_dialogue.specs.declared.desks.AskOutcome.{AskOutcome}
+use Rattle.ifmap_dialogue.specs.declared.desks.AskOutcome.TheVariants as outcome
 use Rattle.ifmap_dialogue.specs.Answers.{Answers, LosesUnlessDone, end_after, ending_heard, next_after}
 use Rattle.ifmap_dialogue.specs.Desks.{DeskSeen, DeskTakesTurns, Turn, outcome_of}
 use Rattle.ifmap_dialogue.specs.Dialogue.{AreRoundsInOrder, Serves}
@@ -233,7 +233,7 @@ goes_on_by gives number a b post last next same s is =
     (number_not number post.close (sym (ap (λ (p : Post). p.close) same) ∙ open_still), ap (λ (w : WireSeen). w.spent) s.gains.rest)
 
 -- a post is never answered by a fault of reading
-heard_not : (due : Ending) (o : Outcome) → due ≢ ending.ReadFault → Some (ending_heard due o) ≢ Some ending.ReadFault
+heard_not : (due : Ending) (o : AskOutcome) → due ≢ ending.ReadFault → Some (ending_heard due o) ≢ Some ending.ReadFault
 heard_not due (outcome.Replied reply) other = λ e. other (cc)
 heard_not due outcome.Heard other = λ e. other (cc)
 heard_not due outcome.Held other = λ e. other (cc)

@@ -12,12 +12,12 @@ use Rattle.ifmap_machine.specs.declared.events.Answer.{Answer}
 use Rattle.ifmap_machine.specs.declared.events.Answer.TheVariants as answer
 use Rattle.ifmap_machine.specs.declared.events.Ask.TheVariants.{Request as Asking}
 use Rattle.ifmap_machine.specs.Events.{Event}
-use Rattle.ifmap_replies.specs.declared.replies.Reply.{Reply}
-use Rattle.ifmap_replies.specs.declared.replies.Reply.TheVariants as reply
-use Rattle.ifmap_requests.specs.declared.requests.Request.{Request}
-use Rattle.ifmap_requests.specs.declared.requests.Request.TheVariants.{Poll as Polling}
-use Rattle.ifmap_dialogue.specs.declared.desks.Outcome.{Outcome}
-use Rattle.ifmap_dialogue.specs.declared.desks.Outcome.TheVariants as outcome
+use Rattle.ifmap_machine.specs.ifmap_replies.declared.replies.Reply.{Reply}
+use Rattle.ifmap_machine.specs.ifmap_replies.declared.replies.Reply.TheVariants as reply
+use Rattle.ifmap_machine.specs.ifmap_requests.declared.requests.Request.{Request}
+use Rattle.ifmap_machine.specs.ifmap_requests.declared.requests.Request.TheVariants.{Poll as Polling}
+use Rattle.ifmap_dialogue.specs.declared.desks.AskOutcome.{AskOutcome}
+use Rattle.ifmap_dialogue.specs.declared.desks.AskOutcome.TheVariants as outcome
 use Rattle.ifmap_dialogue.specs.declared.findings.Finding.{Finding}
 use Rattle.ifmap_dialogue.specs.declared.findings.Finding.TheVariants as finding
 use Rattle.ifmap_dialogue.specs.declared.polls.Poll.{Poll}
@@ -154,7 +154,7 @@ module _ {H : Type 0} (gives : ℕ → Type 0) (before now after : DeskSeen H) (
   }
 
   -- the turn was not held
-  pub ends_in : (the_outcome : Outcome) → outcome_of turn.asked ≡ the_outcome → EndsIn the_outcome (w.turns ++ turn ∷ [])
+  pub ends_in : (the_outcome : AskOutcome) → outcome_of turn.asked ≡ the_outcome → EndsIn the_outcome (w.turns ++ turn ∷ [])
   ends_in the_outcome is = record {
     held = w.turns;
     last = turn;

@@ -1,12 +1,12 @@
 -- How a post is answered, and whether the connection goes on.
 use Rattle.std.specs.Prelude.{◌≡◌, ℕ, Bool, true, false, List, [], ◌∷◌, Option, None, Some}
-use Rattle.ifmap_heads.specs.Messages.{answer_bytes}
+use Rattle.ifmap_http.specs.ifmap_heads.Messages.{answer_bytes}
 use Rattle.ifmap_http.specs.declared.wires.Sent.{Sent}
 use Rattle.ifmap_http.specs.declared.wires.Sent.TheVariants as sent
-use Rattle.ifmap_replies.specs.declared.replies.Reply.{Reply}
-use Rattle.ifmap_replies.specs.Results.{reply_bytes}
-use Rattle.ifmap_dialogue.specs.declared.desks.Outcome.{Outcome}
-use Rattle.ifmap_dialogue.specs.declared.desks.Outcome.TheVariants as outcome
+use Rattle.ifmap_machine.specs.ifmap_replies.declared.replies.Reply.{Reply}
+use Rattle.ifmap_machine.specs.ifmap_replies.Results.{reply_bytes}
+use Rattle.ifmap_dialogue.specs.declared.desks.AskOutcome.{AskOutcome}
+use Rattle.ifmap_dialogue.specs.declared.desks.AskOutcome.TheVariants as outcome
 use Rattle.ifmap_dialogue.specs.declared.endings.Ending.{Ending}
 use Rattle.ifmap_dialogue.specs.declared.endings.Ending.TheVariants as ending
 use Rattle.ifmap_dialogue.specs.declared.findings.Finding.{Finding}
@@ -43,7 +43,7 @@ abbrev pub reply_answer : Reply → Bool → List ℕ
 reply_answer reply close = answer_bytes 200 (reply_bytes reply) close
 
 -- the ending where the desk was told that an answer was lost
-abbrev pub ending_heard : Ending → Outcome → Ending
+abbrev pub ending_heard : Ending → AskOutcome → Ending
 ending_heard due (outcome.Replied reply) = due
 ending_heard due outcome.Heard = due
 ending_heard due outcome.Held = due

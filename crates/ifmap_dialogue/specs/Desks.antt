@@ -2,16 +2,16 @@
 use Rattle.std.specs.Prelude.{◌≡◌, ℕ, ◌+◌, ◌-◌, ◌*◌, ◌^◌, ◌≤◌, min, Bool, true, false, List, [], ◌∷◌, ◌++◌, length, Option, Some, IfSome, count_by, flat_map, All}
 use Rattle.ifmap_hall.specs.declared.book.Asked.{Asked}
 use Rattle.ifmap_hall.specs.declared.book.Asked.TheVariants as asked
-use Rattle.ifmap_dialogue.specs.declared.desks.Outcome.{Outcome}
-use Rattle.ifmap_dialogue.specs.declared.desks.Outcome.TheVariants as outcome
+use Rattle.ifmap_dialogue.specs.declared.desks.AskOutcome.{AskOutcome}
+use Rattle.ifmap_dialogue.specs.declared.desks.AskOutcome.TheVariants as outcome
 use Rattle.ifmap_machine.specs.declared.events.Answer.{Answer}
 use Rattle.ifmap_machine.specs.declared.events.Answer.TheVariants as answer
 use Rattle.ifmap_machine.specs.declared.events.Ask.TheVariants.{Request, Lost}
 use Rattle.ifmap_machine.specs.Events.{Event}
-use Rattle.ifmap_replies.specs.declared.replies.Reply.{Reply}
-use Rattle.ifmap_replies.specs.declared.replies.Reply.TheVariants as reply
-use Rattle.ifmap_requests.specs.declared.requests.Request.{Request as TheRequest}
-use Rattle.ifmap_requests.specs.declared.requests.Request.TheVariants.{Poll}
+use Rattle.ifmap_machine.specs.ifmap_replies.declared.replies.Reply.{Reply}
+use Rattle.ifmap_machine.specs.ifmap_replies.declared.replies.Reply.TheVariants as reply
+use Rattle.ifmap_machine.specs.ifmap_requests.declared.requests.Request.{Request as TheRequest}
+use Rattle.ifmap_machine.specs.ifmap_requests.declared.requests.Request.TheVariants.{Poll}
 
 -- what an event weighs in the book of a hall, in bytes
 abbrev pub weight : Event → ℕ
@@ -31,7 +31,7 @@ pub record Turn : Type 0 where
   pub asked : Asked Event Answer
 
 -- how a turn went: an ask is held where the desk answers that it is, or is done with that answer
-abbrev pub outcome_of : Asked Event Answer → Outcome
+abbrev pub outcome_of : Asked Event Answer → AskOutcome
 outcome_of (asked.Done place (answer.Reply reply)) = outcome.Replied reply
 outcome_of (asked.Done place answer.Held) = outcome.Held
 outcome_of (asked.Done place answer.Heard) = outcome.Heard

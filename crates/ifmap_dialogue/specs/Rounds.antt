@@ -35,12 +35,12 @@ pub record Round : Type 0 where
   pub next : Option Ending
 
 -- nothing is asked
-abbrev pub AsksNothing : Round → Type 0
-AsksNothing r = (r.turns ≡ []) × (r.after.words ≡ r.before.words)
+abbrev pub RoundAsksNothing : Round → Type 0
+RoundAsksNothing r = (r.turns ≡ []) × (r.after.words ≡ r.before.words)
 
 -- nothing is asked or answered, and the dialogue ends so
 abbrev pub EndsAtOnce : Round → Ending → Type 0
-EndsAtOnce r end = AsksNothing r × (r.output ≡ []) × (r.next ≡ Some end)
+EndsAtOnce r end = RoundAsksNothing r × (r.output ≡ []) × (r.next ≡ Some end)
 
 -- the body that a client posted is answered, and that is to close the connection or not
 pub record AnswersPost (gives : ℕ → Type 0) (client body : List ℕ) (close : Bool) (r : Round) : Type 0 where
@@ -58,9 +58,9 @@ AnswersGot gives number r (got.Posted post) = AnswersPost gives post.client post
 AnswersGot gives number r got.Ended = EndsAtOnce r ending.Ended
 AnswersGot gives number r got.Truncated = EndsAtOnce r ending.Truncated
 AnswersGot gives number r (got.Status status) =
-    AsksNothing r × Delivers (bare_answer status) (Some (ending.Refused status)) r.output r.next
+    RoundAsksNothing r × Delivers (bare_answer status) (Some (ending.Refused status)) r.output r.next
 AnswersGot gives number r got.ReadFault = EndsAtOnce r ending.ReadFault
-AnswersGot gives number r got.NoMemory = AsksNothing r × IsNoMemoryOutput r.output × (r.next ≡ Some ending.NoMemory)
+AnswersGot gives number r got.NoMemory = RoundAsksNothing r × IsNoMemoryOutput r.output × (r.next ≡ Some ending.NoMemory)
 
 -- this is the round of this number: what the wire had left begins with what was got
 abbrev pub IsRound : (ℕ → Type 0) → ℕ → Round → Type 0

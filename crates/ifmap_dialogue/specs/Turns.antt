@@ -2,10 +2,10 @@
 use Rattle.std.specs.Prelude.{◌≡◌, ℕ, ◌<◌, Bool, true, false, List, [], ◌∷◌, ◌++◌, length, All}
 use Rattle.ifmap_machine.specs.declared.events.Ask.TheVariants.{Request as Asking, Lost}
 use Rattle.ifmap_machine.specs.Events.{Event}
-use Rattle.ifmap_requests.specs.declared.requests.Request.{Request}
-use Rattle.ifmap_requests.specs.declared.requests.Request.TheVariants as request
-use Rattle.ifmap_dialogue.specs.declared.desks.Outcome.{Outcome}
-use Rattle.ifmap_dialogue.specs.declared.desks.Outcome.TheVariants as outcome
+use Rattle.ifmap_machine.specs.ifmap_requests.declared.requests.Request.{Request}
+use Rattle.ifmap_machine.specs.ifmap_requests.declared.requests.Request.TheVariants as request
+use Rattle.ifmap_dialogue.specs.declared.desks.AskOutcome.{AskOutcome}
+use Rattle.ifmap_dialogue.specs.declared.desks.AskOutcome.TheVariants as outcome
 use Rattle.ifmap_dialogue.specs.declared.polls.Poll.{Poll}
 use Rattle.ifmap_dialogue.specs.Desks.{Turn, outcome_of}
 
@@ -45,7 +45,7 @@ abbrev pub IsHeldTurn : Turn → Type 0
 IsHeldTurn turn = outcome_of turn.asked ≡ outcome.Held
 
 -- all turns but the last were held, and the last had this outcome
-pub record EndsIn (the_outcome : Outcome) (turns : List Turn) : Type 0 where
+pub record EndsIn (the_outcome : AskOutcome) (turns : List Turn) : Type 0 where
   pub held : List Turn
   pub last : Turn
   pub split : turns ≡ held ++ last ∷ []

@@ -1,7 +1,7 @@
 -- What writing an answer does to a wire.
 use Rattle.std.specs.Prelude.{◌≡◌, ℕ, ◌≤◌, Bool, true, List, [], take, Option}
 use Rattle.std.specs.Io.KnownBytes.{Appends, prepend_known}
-use Rattle.ifmap_heads.specs.Messages.{answer_bytes}
+use Rattle.ifmap_http.specs.ifmap_heads.Messages.{answer_bytes}
 use Rattle.ifmap_http.specs.declared.wires.Sent.{Sent}
 use Rattle.ifmap_http.specs.declared.wires.Sent.TheVariants as sent
 use Rattle.ifmap_http.specs.Wires.{Wired}

@@ -1,16 +1,16 @@
 //! Asking what posts mean.
 ghost use Rattle.std.specs.Prelude.{◌≡◌, ◌≢◌, ◌≤◌, ◌∷◌, ℕ, List, false, IfOk, OnErr, []};
 ghost use Rattle.ifmap_elem.specs.Chars.{IsCharacters};
-ghost use Rattle.ifmap_heads.specs.Limits.{longest_post};
-ghost use Rattle.ifmap_requests.specs.Fit.{IsFitRequest};
-ghost use Rattle.ifmap_requests.specs.declared.requests.Request.TheVariants.{Poll as Polling};
+ghost use Rattle.ifmap_http.specs.ifmap_heads.Limits.{longest_post};
+ghost use Rattle.ifmap_machine.specs.ifmap_requests.Fit.{IsFitRequest};
+ghost use Rattle.ifmap_machine.specs.ifmap_requests.declared.requests.Request.TheVariants.{Poll as Polling};
 ghost use Rattle.ifmap_dialogue.specs.Answers.{ending_heard};
 ghost use Rattle.ifmap_dialogue.specs.Desks.{DeskTakesTurns, Turn, desk_seen, heaviest, outcome_of, weight};
 ghost use Rattle.ifmap_dialogue.specs.Findings.{FindsQuestion, FindsRequest, finding_of};
 ghost use Rattle.ifmap_dialogue.specs.Turns.{AsksLost, IsFirstPoll, event_of_question, question_of};
 ghost use Rattle.ifmap_dialogue.specs.Words.{after_random, random_word};
 
-use crate::desks::{BEFORE_ASK, Desk, Gate, Outcome};
+use crate::desks::{AskOutcome, BEFORE_ASK, Desk, Gate};
 use crate::endings::Ending;
 use crate::findings::Finding;
 use crate::polls::Poll;
@@ -19,10 +19,8 @@ use crate::words::draw_word;
 use ifmap_elem::{Copied, Text};
 use ifmap_hall::Asked;
 use ifmap_io::Clock;
-use ifmap_machine::{Answer, Ask, Event};
+use ifmap_machine::{Answer, Ask, Event, Reply, Request};
 use ifmap_meta::ClientName;
-use ifmap_replies::Reply;
-use ifmap_requests::Request;
 use rand_chacha::ChaCha20Rng;
 use std::alloc::AllocError as NoMemory;
 
@@ -37,7 +35,7 @@ pub struct Asker {
 pub const MOST_TURNS: u32 = 36_000;
 
 // Asks one event at the desk.
-pub(crate) fn take_turn<K: Desk, G: Gate>(desk: &mut K, gate: &mut G, event: Event) -> Outcome
+pub(crate) fn take_turn<K: Desk, G: Gate>(desk: &mut K, gate: &mut G, event: Event) -> AskOutcome
     requires light { weight event ≤ heaviest }
     ensures { (turn : Turn) × (turn.event ≡ event) × (result ≡ outcome_of turn.asked)
         × DeskTakesTurns (desk_seen K.said K.turns K.held K.spent K.home K.loan desk.old)
@@ -48,18 +46,18 @@ pub(crate) fn take_turn<K: Desk, G: Gate>(desk: &mut K, gate: &mut G, event: Eve
 }
 
 // How a turn with this answer went.
-fn outcome_of(asked: Asked<Event, Answer>) -> Outcome
+fn outcome_of(asked: Asked<Event, Answer>) -> AskOutcome
     ensures { result ≡ outcome_of asked }
 {
     match asked {
         Asked::Done { reply, .. } => match reply {
-            Answer::Reply(reply) => Outcome::Replied(reply),
-            Answer::Held => Outcome::Held,
-            Answer::Heard => Outcome::Heard,
+            Answer::Reply(reply) => AskOutcome::Replied(reply),
+            Answer::Held => AskOutcome::Held,
+            Answer::Heard => AskOutcome::Heard,
         },
-        Asked::Held { .. } => Outcome::Held,
-        Asked::Spent { entries, .. } => Outcome::Spent { entries },
-        Asked::NoMemory { .. } => Outcome::NoMemory,
+        Asked::Held { .. } => AskOutcome::Held,
+        Asked::Spent { entries, .. } => AskOutcome::Spent { entries },
+        Asked::NoMemory { .. } => AskOutcome::NoMemory,
     }
 }
 
@@ -145,11 +143,11 @@ fn ask_once<K: Desk, C: Clock, G: Gate>(
     let random = draw_word(words);
     let event = first_event(setting, client, random, bytes, request);
     match take_turn(desk, gate, event) {
-        Outcome::Replied(reply) => Finding::Replied(reply),
-        Outcome::Spent { entries } => Finding::Spent { entries },
-        Outcome::NoMemory => Finding::NoMemory,
-        Outcome::Held => unreachable!(),
-        Outcome::Heard => unreachable!(),
+        AskOutcome::Replied(reply) => Finding::Replied(reply),
+        AskOutcome::Spent { entries } => Finding::Spent { entries },
+        AskOutcome::NoMemory => Finding::NoMemory,
+        AskOutcome::Held => unreachable!(),
+        AskOutcome::Heard => unreachable!(),
     }
 }
 
@@ -234,11 +232,11 @@ fn await_reply<K: Desk, C: Clock, G: Gate>(
     let mut turns = 0;
     'turns: loop {
         match take_turn(desk, gate, event) {
-            Outcome::Replied(reply) => return finding_of(reply, poll),
-            Outcome::Spent { entries } => return Finding::Spent { entries },
-            Outcome::NoMemory => return Finding::NoMemory,
-            Outcome::Held => {}
-            Outcome::Heard => unreachable!(),
+            AskOutcome::Replied(reply) => return finding_of(reply, poll),
+            AskOutcome::Spent { entries } => return Finding::Spent { entries },
+            AskOutcome::NoMemory => return Finding::NoMemory,
+            AskOutcome::Held => {}
+            AskOutcome::Heard => unreachable!(),
         }
         turns += 1;
         if turns == MOST_TURNS {
@@ -281,14 +279,14 @@ pub(crate) fn tell_lost<K: Desk, C: Clock, G: Gate>(
 }
 
 // How the connection ends where the desk was told so: as is due, where it has heard it.
-fn ending_heard(due: Ending, outcome: Outcome) -> Ending
+fn ending_heard(due: Ending, outcome: AskOutcome) -> Ending
     ensures { result ≡ ending_heard due outcome }
 {
     match outcome {
-        Outcome::Spent { entries } => Ending::Unheard { entries },
-        Outcome::NoMemory => Ending::NoMemory,
-        Outcome::Replied(_) => due,
-        Outcome::Heard => due,
-        Outcome::Held => due,
+        AskOutcome::Spent { entries } => Ending::Unheard { entries },
+        AskOutcome::NoMemory => Ending::NoMemory,
+        AskOutcome::Replied(_) => due,
+        AskOutcome::Heard => due,
+        AskOutcome::Held => due,
     }
 }

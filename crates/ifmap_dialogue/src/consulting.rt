@@ -1,6 +1,6 @@
 //! What posts come to: bodies are read, and what they mean is asked.
 ghost use Rattle.std.specs.Prelude.{◌≡◌, ◌≤◌, ◌⊎◌, IfOk, length};
-ghost use Rattle.ifmap_heads.specs.Limits.{longest_post};
+ghost use Rattle.ifmap_http.specs.ifmap_heads.Limits.{longest_post};
 ghost use Rattle.ifmap_dialogue.specs.Desks.{desk_seen};
 ghost use Rattle.ifmap_dialogue.specs.declared.findings.Finding.TheVariants as the_finding;
 ghost use Rattle.ifmap_dialogue.specs.Findings.{FindsPost, refusal_reply};
@@ -12,10 +12,8 @@ use crate::settings::Setting;
 use ifmap_elem::{Many, Text};
 use ifmap_ident::Code;
 use ifmap_io::Clock;
+use ifmap_machine::{Refusal, Reply, bodies_mean_fit_requests, read_request};
 use ifmap_meta::ClientName;
-use ifmap_replies::Reply;
-use ifmap_requests::laws::bodies_mean_fit_requests;
-use ifmap_requests::{Refusal, read_request};
 use rand_chacha::ChaCha20Rng;
 use std::alloc::{AllocError as NoMemory, Global};
 

@@ -3,8 +3,7 @@ ghost use Rattle.std.specs.Prelude.{◌≡◌, ◌≤◌, ◌∷◌, ℕ, List, 
 ghost use Rattle.ifmap_dialogue.specs.Desks.{Call, DeskTakesTurns, desk_seen, heaviest, weight};
 
 use ifmap_hall::Asked;
-use ifmap_machine::{Answer, Event};
-use ifmap_replies::Reply;
+use ifmap_machine::{Answer, Event, Reply};
 
 /// Where events are asked, one after another.
 pub trait Desk {
@@ -54,7 +53,7 @@ pub const AFTER_ANSWER: u32 = 2;
 
 /// How a turn at a desk went.
 #[derive(Debug, Drop)]
-pub enum Outcome {
+pub enum AskOutcome {
     /// The machine replied.
     Replied(Reply),
     /// It heard that an answer was lost.

@@ -1,6 +1,6 @@
 //! What comes of posts.
 use crate::polls::Poll;
-use ifmap_replies::Reply;
+use ifmap_machine::Reply;
 
 /// What came of a post.
 #[derive(Debug, Drop)]

@@ -14,8 +14,12 @@ mod serving;
 mod settings;
 mod words;
 
-pub use desks::{Desk, Gate, Outcome};
+pub use desks::{AskOutcome, Desk, Gate};
 pub use endings::Ending;
 pub use findings::Finding;
+pub use ifmap_machine::laws::{
+    clients_fold_fresh_results, clients_fold_fresh_results_from_any_entry,
+};
+pub use ifmap_machine::{Answer, Ask, Event, Reply, Request, SESSION_SECONDS};
 pub use polls::Poll;
 pub use serving::serve_connection;

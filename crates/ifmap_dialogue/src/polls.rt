@@ -6,9 +6,8 @@ ghost use Rattle.ifmap_dialogue.specs.Turns.{event_of_question, lost_event, ques
 use crate::settings::Setting;
 use ifmap_elem::{Copied, Text};
 use ifmap_io::Clock;
-use ifmap_machine::{Ask, Event};
+use ifmap_machine::{Ask, Event, Request};
 use ifmap_meta::ClientName;
-use ifmap_requests::Request;
 use std::alloc::AllocError as NoMemory;
 
 /// A poll, with what its events have in common.

@@ -2,7 +2,7 @@
 ghost use Rattle.std.specs.Prelude.{◌≡◌, ◌≢◌, ◌≤◌, ℕ, IsFalse, IfNone, List, length};
 ghost use Rattle.rand_chacha.specs.ChaCha.{ChaCha};
 ghost use Rattle.ifmap_elem.specs.Chars.{IsCharacters};
-ghost use Rattle.ifmap_heads.specs.Limits.{longest_post};
+ghost use Rattle.ifmap_http.specs.ifmap_heads.Limits.{longest_post};
 ghost use Rattle.ifmap_dialogue.specs.Answers.{LosesUnlessDone, closes};
 ghost use Rattle.ifmap_dialogue.specs.Desks.{DeskTakesTurns, Turn, desk_seen};
 ghost use Rattle.ifmap_dialogue.specs.Rounds.{is_last_post, most_posts};
@@ -19,7 +19,7 @@ use crate::sending::{Then, end_after, give_up, next_after, send_bare, send_reply
 use crate::settings::Setting;
 use ifmap_http::{Got, Post, Sent, Wire};
 use ifmap_io::{Clock, Link};
-use ifmap_requests::laws::bodies_mean_fit_requests;
+use ifmap_machine::bodies_mean_fit_requests;
 use rand_chacha::ChaCha20Rng;
 
 /// The most posts of a connection.

@@ -1,7 +1,7 @@
 //! Answers, as they are written.
 ghost use Rattle.std.specs.Prelude.{◌≡◌, ℕ, List, IsTrue};
 ghost use Rattle.ifmap_io.specs.Causes.{Rose};
-ghost use Rattle.ifmap_heads.specs.Messages.{answer_bytes, is_answer_status};
+ghost use Rattle.ifmap_http.specs.ifmap_heads.Messages.{answer_bytes, is_answer_status};
 ghost use Rattle.ifmap_dialogue.specs.Answers.{closes, end_after, next_after, reply_answer};
 ghost use Rattle.ifmap_dialogue.specs.Wires.{GainsBytes, IsNoMemoryOutput, WritesAnswer, WritesOnce, bare_answer, wire_seen};
 
@@ -9,7 +9,7 @@ use crate::desks::{AFTER_ANSWER, Gate};
 use crate::endings::Ending;
 use ifmap_http::{Sent, Wire};
 use ifmap_io::Link;
-use ifmap_replies::{Reply, write_reply};
+use ifmap_machine::{Reply, write_reply};
 use std::alloc::Global;
 
 /// What is done with a connection after an answer.

@@ -2,8 +2,8 @@
 use Rattle.std.proofs.Common.{◌≡◌, ℕ, [], ◌∷◌, arith}
 use Rattle.std.proofs.lemmas.List.Elements.{All-nil, All-push}
 use Rattle.ifmap_hall.specs.declared.book.Asked.TheVariants as asked
-use Rattle.ifmap_machine.specs.declared.events.Answer.{Answer}
-use Rattle.ifmap_machine.specs.Events.{Event}
+use Rattle.ifmap_dialogue.specs.ifmap_machine.declared.events.Answer.{Answer}
+use Rattle.ifmap_dialogue.specs.ifmap_machine.Events.{Event}
 use Rattle.ifmap_dialogue.specs.Desks.{CountsOn, DeskSeen, FitsAsked, FitsAnswer, Gains, DeskTakesTurns, Turn}
 
 -- a call that was done leaves the counts of other answers

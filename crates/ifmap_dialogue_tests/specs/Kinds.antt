@@ -2,10 +2,10 @@
 use Rattle.std.specs.Prelude.{◌≡◌, ℕ, List}
 use Rattle.ifmap_dialogue_tests.specs.declared.desk.Kind.{Kind}
 use Rattle.ifmap_dialogue_tests.specs.declared.desk.Kind.TheVariants as kind
-use Rattle.ifmap_machine.specs.declared.events.Ask.{Ask}
-use Rattle.ifmap_machine.specs.declared.events.Ask.TheVariants.{Lost, Request as Asking}
-use Rattle.ifmap_requests.specs.declared.requests.Request.{Request}
-use Rattle.ifmap_requests.specs.declared.requests.Request.TheVariants.{Poll}
+use Rattle.ifmap_dialogue.specs.ifmap_machine.declared.events.Ask.{Ask}
+use Rattle.ifmap_dialogue.specs.ifmap_machine.declared.events.Ask.TheVariants.{Lost, Request as Asking}
+use Rattle.ifmap_dialogue.specs.ifmap_requests.declared.requests.Request.{Request}
+use Rattle.ifmap_dialogue.specs.ifmap_requests.declared.requests.Request.TheVariants.{Poll}
 
 -- what is asked is of this kind
 abbrev pub IsKind : Ask → Kind → Type 0

@@ -3,12 +3,9 @@ ghost use Rattle.std.specs.Prelude.{◌≡◌};
 ghost use Rattle.ifmap_dialogue.specs.Desks.{FitsAnswer};
 ghost use Rattle.ifmap_dialogue_tests.specs.Kinds.{IsKind};
 
-use ifmap_dialogue::{Desk, Gate};
+use ifmap_dialogue::{Answer, Ask, Desk, Event, Gate, Reply, Request};
 use ifmap_elem::Many;
 use ifmap_hall::Asked;
-use ifmap_machine::{Answer, Ask, Event};
-use ifmap_replies::Reply;
-use ifmap_requests::Request;
 use std::alloc::{AllocError as NoMemory, Global};
 
 /// What was asked.

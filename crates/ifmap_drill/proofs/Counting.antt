@@ -3,11 +3,11 @@ use Rattle.std.proofs.Common.{◌≡◌, ℕ, ◌+◌, List, [], ◌∷◌, ◌+
 use Rattle.std.proofs.lemmas.List.Sums.{sum_by_push}
 use Rattle.std.specs.Prelude.{OnOk, Result, Ok, Err}
 use Rattle.rand_pcg.specs.Lcg.{Lcg}
-use Rattle.ifmap_machine.specs.declared.events.Answer.{Answer}
-use Rattle.ifmap_machine.specs.Events.{Event}
-use Rattle.ifmap_machine.specs.Legal.{History}
-use Rattle.ifmap_machine.specs.State.{State}
-use Rattle.ifmap_machine.specs.Step.{step}
+use Rattle.ifmap_core.specs.ifmap_machine.declared.events.Answer.{Answer}
+use Rattle.ifmap_core.specs.ifmap_machine.Events.{Event}
+use Rattle.ifmap_core.specs.ifmap_machine.Legal.{History}
+use Rattle.ifmap_core.specs.ifmap_machine.State.{State}
+use Rattle.ifmap_core.specs.ifmap_machine.Step.{step}
 use Rattle.ifmap_drill.specs.declared.counts.Counts.{Counts}
 use Rattle.ifmap_drill.specs.declared.drills.Drill.{Drill}
 use Rattle.ifmap_drill.specs.Counts.{capped_sum, counted_as, counts_of, counts_sum, total}

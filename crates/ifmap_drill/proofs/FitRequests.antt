@@ -4,7 +4,7 @@ use Rattle.std.specs.Prelude.{unwrap_or}
 use Rattle.std.specs.declared.cmp.Ordering.{Ordering}
 use Rattle.std.specs.declared.cmp.Ordering.TheVariants.{Less, Equal, Greater}
 use Rattle.rand_pcg.specs.Lcg.{Lcg}
-use Rattle.ifmap_addresses.specs.Values.{AreBelow}
+use Rattle.ifmap_ident.specs.ifmap_addresses.Values.{AreBelow}
 use Rattle.ifmap_elem.specs.Chars.{IsCharacters}
 use Rattle.ifmap_ident.specs.Canon.{IsIdentifier}
 use Rattle.ifmap_ident.specs.Identifiers.{identifier_bytes, identifier_order}
@@ -16,11 +16,11 @@ use Rattle.ifmap_lemmas.specs.Texts.{slice_cmp-turn}
 use Rattle.ifmap_meta.specs.Whole.{IsMetadata}
 use Rattle.ifmap_requests.specs.Fit.{IsFitRequest, IsFitSearch}
 use Rattle.ifmap_writing.specs.Bounds.{IsBounded, IsBoundedSearch}
-use Rattle.ifmap_drill.specs.declared.parts.Ends.{Ends}
+use Rattle.ifmap_drill.specs.declared.parts.AddressPair.{AddressPair}
 use Rattle.ifmap_drill.specs.declared.tasks.Task.{Task}
 use Rattle.ifmap_drill.specs.declared.tasks.Task.TheVariants.{Begin, Subscribe, Update, Delete, Search, Poll, Renew}
 use Rattle.ifmap_drill.specs.Parts.{address, draw_ends, link_metadata, link_of}
-use Rattle.ifmap_drill.specs.Requests.{request_by, search_from}
+use Rattle.ifmap_drill.specs.Requests.{request_by, drill_search}
 use Rattle.ifmap_drill.proofs.Marks.{mark_levels_within}
 use Rattle.ifmap_drill.proofs.Plain.{is_plain, plain_characters}
 
@@ -42,7 +42,7 @@ module _ (macs : AddressesAreIdentifiers) where
   link_by Greater a b e i j =
       record { ordered = slice_cmp-turn (identifier_bytes a) (identifier_bytes b) (sym e); identifiers = (j, (i, tt)) }
 
-  link_fit : (ends : Ends) → ends.first < 1000 → ends.second < 1000 → IsCanonItem (link_of ends)
+  link_fit : (ends : AddressPair) → ends.first < 1000 → ends.second < 1000 → IsCanonItem (link_of ends)
   link_fit ends first second =
       link_by (identifier_order (address ends.first) (address ends.second)) (address ends.first) (address ends.second) refl
       (address_is ends.first first) (address_is ends.second second)
@@ -50,7 +50,7 @@ module _ (macs : AddressesAreIdentifiers) where
   drawn_fit : (draws : Lcg) → IsCanonItem (link_of (draw_ends draws).0)
   drawn_fit draws = link_fit (draw_ends draws).0 (omega arith) (omega arith)
 
-  search_fit : (client depth : ℕ) → client < 10 → IsFitSearch (search_from client depth)
+  search_fit : (client depth : ℕ) → client < 10 → IsFitSearch (drill_search client depth)
   search_fit client depth few =
       record { start = address_is (client * 100) (omega arith); match_links = tt; result_filter = tt }
 
@@ -69,7 +69,7 @@ module _ (macs : AddressesAreIdentifiers) where
     request_fit Poll client session draws few fit = fit
     request_fit Renew client session draws few fit = fit
 
-search_bounded : (client depth : ℕ) → depth < 21 → IsBoundedSearch (search_from client depth)
+search_bounded : (client depth : ℕ) → depth < 21 → IsBoundedSearch (drill_search client depth)
 search_bounded client depth few = record { depth = omega arith; size = omega arith }
 
 pub request_bounded : (task : Task) (client : ℕ) (session : List ℕ) (draws : Lcg) → IsBounded (request_by task client session draws).0

@@ -2,7 +2,7 @@
 use Rattle.std.proofs.Common.{◌≡◌, ◌%◌, ◌∙◌, ℕ, List, ap}
 use Rattle.std.specs.Prelude.{IfOk, OnOk, Result, Ok, Err}
 use Rattle.rand_pcg.specs.Lcg.{Lcg}
-use Rattle.ifmap_machine.specs.Events.{Event}
+use Rattle.ifmap_core.specs.ifmap_machine.Events.{Event}
 use Rattle.ifmap_requests.specs.declared.requests.Request.{Request}
 use Rattle.ifmap_drill.specs.declared.tasks.Task.{Task}
 use Rattle.ifmap_drill.specs.Events.{event_at}

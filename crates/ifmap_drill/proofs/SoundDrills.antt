@@ -5,14 +5,14 @@ use Rattle.std.specs.List.{AllByRecursion}
 use Rattle.std.proofs.lemmas.Bool.{cases_Bool}
 use Rattle.ifmap_elem.specs.Chars.{IsCharacters}
 use Rattle.ifmap_lemmas.specs.Members.{both_all}
-use Rattle.ifmap_machine.specs.declared.events.Answer.{Answer}
-use Rattle.ifmap_machine.specs.declared.events.Ask.{Ask}
-use Rattle.ifmap_machine.specs.declared.events.Ask.TheVariants.{Request}
-use Rattle.ifmap_machine.specs.Ending.{expire}
-use Rattle.ifmap_machine.specs.Events.{Event, IsFitEvent}
-use Rattle.ifmap_machine.specs.Legal.{AreFit, History, Legal, LegalFrom, state_after, state_from}
-use Rattle.ifmap_machine.specs.State.{State, advance, opening, session_seconds}
-use Rattle.ifmap_machine.specs.Step.{is_full, new_session, step, step_ask}
+use Rattle.ifmap_core.specs.ifmap_machine.declared.events.Answer.{Answer}
+use Rattle.ifmap_core.specs.ifmap_machine.declared.events.Ask.{Ask}
+use Rattle.ifmap_core.specs.ifmap_machine.declared.events.Ask.TheVariants.{Request}
+use Rattle.ifmap_core.specs.ifmap_machine.Ending.{expire}
+use Rattle.ifmap_core.specs.ifmap_machine.Events.{Event, IsFitEvent}
+use Rattle.ifmap_core.specs.ifmap_machine.Legal.{AreFit, History, Legal, LegalFrom, state_after, state_from}
+use Rattle.ifmap_core.specs.ifmap_machine.State.{State, advance, opening, session_seconds}
+use Rattle.ifmap_core.specs.ifmap_machine.Step.{is_full, new_session, step, step_ask}
 use Rattle.ifmap_meta.specs.Whole.{IsMetadata}
 use Rattle.ifmap_requests.specs.declared.requests.Request.TheVariants.{NewSession}
 use Rattle.ifmap_drill.specs.declared.tasks.Task.TheVariants.{Begin}
@@ -24,7 +24,7 @@ use Rattle.ifmap_drill.specs.Tasks.{task_at}
 use Rattle.ifmap_drill.proofs.ClientNames.{name_is}
 use Rattle.ifmap_drill.proofs.FitRequests.{AddressesAreIdentifiers, request_fit}
 use Rattle.ifmap_drill.proofs.Plain.{plain_characters}
-use Rattle.ifmap_session.specs.laws.IdLaws.{id_characters}
+use Rattle.ifmap_core.specs.ifmap_session.laws.IdLaws.{id_characters}
 
 -- ---- a history with one event more
 

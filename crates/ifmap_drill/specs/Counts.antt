@@ -1,13 +1,13 @@
 -- What a drill counts.
 use Rattle.std.specs.Prelude.{ℕ, ◌-◌, ◌^◌, ◌+◌, min, length, sum_by}
-use Rattle.ifmap_machine.specs.declared.events.Answer.{Answer}
-use Rattle.ifmap_machine.specs.declared.events.Answer.TheVariants.{Reply, Held, Heard}
-use Rattle.ifmap_machine.specs.declared.events.Ask.{Ask}
-use Rattle.ifmap_machine.specs.declared.events.Ask.TheVariants.{Request, Lost}
-use Rattle.ifmap_machine.specs.Events.{Event}
-use Rattle.ifmap_machine.specs.Legal.{History}
-use Rattle.ifmap_replies.specs.declared.replies.Reply.{Reply as AnyReply}
-use Rattle.ifmap_replies.specs.declared.replies.Reply.TheVariants as the_reply
+use Rattle.ifmap_core.specs.ifmap_machine.declared.events.Answer.{Answer}
+use Rattle.ifmap_core.specs.ifmap_machine.declared.events.Answer.TheVariants.{Reply, Held, Heard}
+use Rattle.ifmap_core.specs.ifmap_machine.declared.events.Ask.{Ask}
+use Rattle.ifmap_core.specs.ifmap_machine.declared.events.Ask.TheVariants.{Request, Lost}
+use Rattle.ifmap_core.specs.ifmap_machine.Events.{Event}
+use Rattle.ifmap_core.specs.ifmap_machine.Legal.{History}
+use Rattle.ifmap_core.specs.ifmap_replies.declared.replies.Reply.{Reply as AnyReply}
+use Rattle.ifmap_core.specs.ifmap_replies.declared.replies.Reply.TheVariants as the_reply
 use Rattle.ifmap_requests.specs.declared.requests.Request.{Request as Asked}
 use Rattle.ifmap_requests.specs.declared.requests.Request.TheVariants as the_request
 use Rattle.ifmap_drill.specs.declared.counts.Counts.{Counts}

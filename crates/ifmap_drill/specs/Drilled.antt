@@ -2,20 +2,20 @@
 use Rattle.std.specs.Prelude.{◌≡◌, ◌⊎◌, ℕ, List, Option, take}
 use Rattle.std.specs.Io.KnownBytes.{Appends, Keeps}
 use Rattle.ifmap_io.specs.Causes.{Rose}
-use Rattle.ifmap_machine.specs.Agreeing.{Agrees}
-use Rattle.ifmap_machine.specs.State.{session_seconds}
+use Rattle.ifmap_core.specs.ifmap_machine.Agreeing.{Agrees}
+use Rattle.ifmap_core.specs.ifmap_machine.State.{session_seconds}
 use Rattle.ifmap_drill.specs.Drills.{drill_history}
 use Rattle.ifmap_drill.specs.Summaries.{drill_text}
 
 -- what contracts see of a sink at one moment: what it holds, where that is told, and how often a write has failed
-pub record Side : Type 0 where
+pub record SinkSeen : Type 0 where
   pub held : Option (List ℕ)
   pub faults : ℕ
 
-abbrev pub side : Option (List ℕ) → ℕ → Side
+abbrev pub side : Option (List ℕ) → ℕ → SinkSeen
 side held faults = record { held = held; faults = faults }
 
-module _ (text : List ℕ) (before after : Side) where
+module _ (text : List ℕ) (before after : SinkSeen) where
   -- all of the text was written
   abbrev pub IsWritten : ℕ → Type 0
   IsWritten status = (status ≡ 0) × Appends before.held after.held text
@@ -33,6 +33,6 @@ module _ (text : List ℕ) (before after : Side) where
 
 -- the status tells what was written of the summary; and the clients agree: after each poll that is told something or held, what its
 -- client folds of all that it was told is, for each subscription that its session keeps, the fresh result of its search
-pub record Drills (key count status : ℕ) (before after : Side) : Type 0 where
+pub record Drills (key count status : ℕ) (before after : SinkSeen) : Type 0 where
   pub ended : IsEnded (drill_text key count) before after status
   pub agrees : Agrees session_seconds (drill_history key count)

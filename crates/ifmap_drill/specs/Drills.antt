@@ -3,13 +3,13 @@ use Rattle.std.specs.Prelude.{ℕ, zero, suc, List, [], ◌∷◌, ◌++◌, nat
 use Rattle.rand_core.specs.Pcg32Seed.{pcg32_seed}
 use Rattle.rand_pcg.specs.Lcg.{Lcg}
 use Rattle.rand_pcg.specs.Pcg.{pcg64_of_seed}
-use Rattle.ifmap_machine.specs.declared.events.Answer.{Answer}
-use Rattle.ifmap_machine.specs.declared.events.Answer.TheVariants.{Reply, Held, Heard}
-use Rattle.ifmap_machine.specs.Events.{Event}
-use Rattle.ifmap_machine.specs.Legal.{History}
-use Rattle.ifmap_machine.specs.State.{State, opening, session_seconds}
-use Rattle.ifmap_machine.specs.Step.{step}
-use Rattle.ifmap_replies.specs.declared.replies.Reply.TheVariants as the_reply
+use Rattle.ifmap_core.specs.ifmap_machine.declared.events.Answer.{Answer}
+use Rattle.ifmap_core.specs.ifmap_machine.declared.events.Answer.TheVariants.{Reply, Held, Heard}
+use Rattle.ifmap_core.specs.ifmap_machine.Events.{Event}
+use Rattle.ifmap_core.specs.ifmap_machine.Legal.{History}
+use Rattle.ifmap_core.specs.ifmap_machine.State.{State, opening, session_seconds}
+use Rattle.ifmap_core.specs.ifmap_machine.Step.{step}
+use Rattle.ifmap_core.specs.ifmap_replies.declared.replies.Reply.TheVariants as the_reply
 use Rattle.ifmap_requests.specs.declared.requests.Request.{Request}
 use Rattle.ifmap_drill.specs.Events.{event_at}
 use Rattle.ifmap_drill.specs.Requests.{request_at}

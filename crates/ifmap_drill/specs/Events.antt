@@ -1,8 +1,8 @@
 -- The events of a drill.
 use Rattle.std.specs.Prelude.{ℕ, ◌+◌, ◌/◌, ◌%◌, List, ◌++◌, codes, false, length}
 use Rattle.std.specs.Fmt.{decimal}
-use Rattle.ifmap_machine.specs.declared.events.Ask.TheVariants as ask
-use Rattle.ifmap_machine.specs.Events.{Event}
+use Rattle.ifmap_core.specs.ifmap_machine.declared.events.Ask.TheVariants as ask
+use Rattle.ifmap_core.specs.ifmap_machine.Events.{Event}
 use Rattle.ifmap_requests.specs.declared.requests.Request.{Request}
 use Rattle.ifmap_writing.specs.RequestElements.{request_bytes}
 

@@ -15,8 +15,8 @@ use Rattle.ifmap_drill.specs.Parts.{address, draw_ends, link_metadata, link_of}
 use Rattle.ifmap_drill.specs.Tasks.{task_at}
 
 -- a search for what is within so many links of the client's own address, with no filter, that no kind of identifier ends
-abbrev pub search_from : ℕ → ℕ → AnySearch
-search_from client depth = record {
+abbrev pub drill_search : ℕ → ℕ → AnySearch
+drill_search client depth = record {
   start = address (client * 100);
   match_links = None;
   max_depth = depth;
@@ -34,7 +34,7 @@ delete_of link = publish.Delete link None
 
 -- a subscription to what is within twenty links
 abbrev pub subscription_of : ℕ → SubscribeOp
-subscription_of client = subscribe.Update (codes "s") (search_from client 20)
+subscription_of client = subscribe.Update (codes "s") (drill_search client 20)
 
 -- what a client with this number asks in its session, and the generator after the draws that it takes
 abbrev pub request_by : Task → ℕ → List ℕ → Lcg → Request × Lcg
@@ -44,7 +44,7 @@ request_by Update client session draws =
     (the_request.Publish session (update_of (link_of (draw_ends draws).0) ∷ []), (draw_ends draws).1)
 request_by Delete client session draws =
     (the_request.Publish session (delete_of (link_of (draw_ends draws).0) ∷ []), (draw_ends draws).1)
-request_by Search client session draws = (the_request.Search session (search_from client 1), draws)
+request_by Search client session draws = (the_request.Search session (drill_search client 1), draws)
 request_by Poll client session draws = (the_request.Poll session, draws)
 request_by Renew client session draws = (the_request.RenewSession session, draws)
 

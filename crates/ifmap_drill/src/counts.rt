@@ -2,8 +2,7 @@
 ghost use Rattle.std.specs.Prelude.{◌≡◌};
 ghost use Rattle.ifmap_drill.specs.Counts.{asked_by, counted_as, counts_sum, nothing, replied_as, requested_by};
 
-use ifmap_machine::{Answer, Ask};
-use ifmap_replies::Reply;
+use ifmap_core::{Answer, Ask, Reply};
 use ifmap_requests::Request;
 
 /// The numbers of a summary, in its order. Each stands still at the greatest of its type.

@@ -8,10 +8,8 @@ ghost use Rattle.ifmap_drill.specs.Summaries.{summary_of};
 
 use crate::counts::Counts;
 use crate::events::make_event;
-use ifmap_core::Core;
+use ifmap_core::{Answer, Core, Event, Reply, SESSION_SECONDS};
 use ifmap_elem::{Many, Text};
-use ifmap_machine::{Answer, Event, SESSION_SECONDS};
-use ifmap_replies::Reply;
 use ifmap_steps::Steps;
 use rand_core::SeedableRng;
 use rand_pcg::Lcg128Xsl64;

@@ -2,13 +2,13 @@
 ghost use Rattle.std.specs.Prelude.{ℕ};
 ghost use Rattle.std.specs.List.{AllByRecursion};
 ghost use Rattle.ifmap_elem.specs.Chars.{IsCharacters};
-ghost use Rattle.ifmap_machine.specs.Agreeing.{Agrees};
-ghost use Rattle.ifmap_machine.specs.Legal.{AreFit, Legal};
-ghost use Rattle.ifmap_machine.specs.State.{session_seconds};
+ghost use Rattle.ifmap_core.specs.ifmap_machine.Agreeing.{Agrees};
+ghost use Rattle.ifmap_core.specs.ifmap_machine.Legal.{AreFit, Legal};
+ghost use Rattle.ifmap_core.specs.ifmap_machine.State.{session_seconds};
 ghost use Rattle.ifmap_drill.specs.Drills.{drill_history, drilling_after};
 
+use ifmap_core::clients_fold_fresh_results;
 use ifmap_ident::laws::mac_addresses_are_identifiers;
-use ifmap_machine::laws::clients_fold_fresh_results;
 use ifmap_meta::laws::stamped_metadata_are_whole;
 
 /// The history that a drill makes is legal, its events are fit, and its clients agree: after each

@@ -26,13 +26,13 @@ pub(crate) fn address(alloc: Global, number: u64) -> Identifier
 
 /// The numbers of two different addresses.
 #[derive(Clone, Copy, Debug, PartialEq, Eq)]
-pub struct Ends {
+pub struct AddressPair {
     pub first: u64,
     pub second: u64,
 }
 
 // The ends of a link by two draws.
-fn draw_ends(draws: &mut Lcg128Xsl64) -> Ends
+fn draw_ends(draws: &mut Lcg128Xsl64) -> AddressPair
     ensures drawn { (result, draws.new) ≡ draw_ends draws.old }
     ensures first { result.first < 1000 }
     ensures second { result.second < 1000 }
@@ -41,7 +41,7 @@ fn draw_ends(draws: &mut Lcg128Xsl64) -> Ends
     let one = draws.next_word();
     let other = draws.next_word();
     let first = one % 1000;
-    Ends {
+    AddressPair {
         first,
         second: (first + 1 + other % 3) % 1000,
     }
@@ -57,7 +57,7 @@ pub(crate) fn draw_link(alloc: Global, draws: &mut Lcg128Xsl64) -> Item
 }
 
 // The link of two different numbers.
-fn link_of(alloc: Global, ends: Ends) -> Item
+fn link_of(alloc: Global, ends: AddressPair) -> Item
     requires first { ends.first < 1000 }
     requires second { ends.second < 1000 }
     requires apart { ends.first ≢ ends.second }

@@ -1,7 +1,7 @@
 //! The requests of a drill.
 ghost use Rattle.std.specs.Prelude.{◌≡◌, ◌<◌, ◌∷◌, [], IfOk};
 ghost use Rattle.ifmap_requests.specs.declared.requests.Request.TheVariants as the_request;
-ghost use Rattle.ifmap_drill.specs.Requests.{delete_of, request_by, search_from, subscription_of, update_of};
+ghost use Rattle.ifmap_drill.specs.Requests.{delete_of, request_by, drill_search, subscription_of, update_of};
 
 use crate::parts::{address, draw_link, link_metadata};
 use crate::tasks::Task;
@@ -93,7 +93,7 @@ fn subscribe_request(alloc: Global, client: u32, session: Text) -> Result<Reques
 // What is within so many links of a client's own address.
 fn search_from(alloc: Global, client: u32, depth: u32) -> Search
     requires { client < 10 }
-    ensures { result ≡ search_from client depth }
+    ensures { result ≡ drill_search client depth }
 {
     Search {
         start: address(alloc, u64::from(client) * 100),

@@ -10,17 +10,11 @@ use crate::laws::{drills_agree, ids_are_characters};
 use crate::progress::Progress;
 use crate::summaries::summary_text;
 use ifmap_io::Sink;
+use ifmap_io::statuses::{DONE, NO_MEMORY, WRITE_FAULT};
 use ifmap_steps::Steps;
 use std::alloc::{AllocError as NoMemory, Global};
 use std::marker::Brand;
 use std::sync::ledger::{Blank, Ledger};
-
-// The status of a drill that was written.
-const DONE: u8 = 0;
-// The status for a failed write.
-const WRITE_FAULT: u8 = 5;
-// The status for want of memory.
-const NO_MEMORY: u8 = 6;
 
 const SHOWN_EACH: u32 = 1_000;
 

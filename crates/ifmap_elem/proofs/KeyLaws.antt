@@ -16,7 +16,7 @@ use Rattle.ifmap_lemmas.specs.Texts.{eq_tells, eq_itself}
 use Rattle.ifmap_elem.specs.Namespaces.{name_prefixes}
 use Rattle.ifmap_elem.specs.Scopes.{xml_space}
 use Rattle.ifmap_elem.specs.laws.NamespaceLaws.{Texts, keyed, none_more}
-use Rattle.ifmap_elem.specs.printer.Keys.{key_order, mix}
+use Rattle.ifmap_elem.specs.printer.Keys.{key_order, space_word}
 use Rattle.ifmap_elem.proofs.NumberLaws.{labelled}
 
 ties_after : (one two : Ordering) → (is_eq two ≡ true → one ≡ Equal) → is_eq (ordering_then one two) ≡ is_eq two
@@ -30,8 +30,9 @@ ties_after Greater Greater h = refl
 
 pub key_ties : (a q : List ℕ) → is_eq (key_order a q) ≡ is_eq (slice_cmp nat_cmp a q)
 key_ties a q =
-    ties_after (nat_cmp (mix a) (mix q)) (slice_cmp nat_cmp a q)
-    (λ e. subst (λ t. nat_cmp (mix a) (mix t) ≡ Equal) (eq_tells a q (texts_ties a q ∙ e)) (sym (nat_cmp_is (mix a) (mix a) Equal refl)))
+    ties_after (nat_cmp (space_word a) (space_word q)) (slice_cmp nat_cmp a q)
+    (λ e. subst (λ t. nat_cmp (space_word a) (space_word t) ≡ Equal) (eq_tells a q (texts_ties a q
+    ∙ e)) (sym (nat_cmp_is (space_word a) (space_word a) Equal refl)))
 
 -- what puts a key's own value changes nothing
 pub puts_own : {X : Type 0} (old new : List ℕ → Option X) (key : List ℕ) (label : X)

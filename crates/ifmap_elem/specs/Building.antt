@@ -1,8 +1,9 @@
 -- Names, attributes and elements in no namespace (Namespaces in XML 1.0, section 6.2).
-use Rattle.std.specs.Prelude.{ℕ, List, [], Bool, ◌&&◌}
+use Rattle.std.specs.Prelude.{ℕ, List, [], Bool, ◌&&◌, map}
 use Rattle.std.specs.Str.{bytes_eq}
 use Rattle.ifmap_elem.specs.declared.elements.Attribute.{Attribute}
 use Rattle.ifmap_elem.specs.declared.elements.Child.{Child}
+use Rattle.ifmap_elem.specs.declared.elements.Child as the
 use Rattle.ifmap_elem.specs.declared.elements.Element.{Element}
 use Rattle.ifmap_elem.specs.declared.elements.Name.{Name}
 
@@ -13,6 +14,10 @@ bare_name local = record { space = []; local = local }
 -- it is the name of this local part in no namespace
 abbrev pub is_bare : List ℕ → Name → Bool
 is_bare local name = bytes_eq name.space [] && bytes_eq name.local local
+
+-- elements as children
+abbrev pub as_children : List Element → List Child
+as_children elements = map the.Element elements
 
 -- an attribute of such a name
 abbrev pub bare_attribute : List ℕ → List ℕ → Attribute

@@ -2,8 +2,9 @@
 use Rattle.std.specs.Prelude.{◌≡◌, ℕ, Bool, true, ◌==◌, ◌||◌, List, encode_utf8_all}
 use Rattle.std.specs.Int.{is_in_range}
 use Rattle.std.specs.List.{AllByRecursion}
+use Rattle.std.specs.Str.{byte}
 
--- characters that have a name here, by their codes
+-- characters that have a name here
 abbrev pub tab : ℕ
 tab = 0x9
 
@@ -14,31 +15,31 @@ abbrev pub carriage_return : ℕ
 carriage_return = 0xD
 
 abbrev pub space_character : ℕ
-space_character = 0x20
+space_character = byte " "
 
 abbrev pub ampersand : ℕ
-ampersand = 0x26
+ampersand = byte "&"
 
 abbrev pub semicolon : ℕ
-semicolon = 0x3B
+semicolon = byte ";"
 
 abbrev pub colon : ℕ
-colon = 0x3A
+colon = byte ":"
 
 abbrev pub less_than : ℕ
-less_than = 0x3C
+less_than = byte "<"
 
 abbrev pub greater_than : ℕ
-greater_than = 0x3E
+greater_than = byte ">"
 
 abbrev pub equals_sign : ℕ
-equals_sign = 0x3D
+equals_sign = byte "="
 
 abbrev pub double_quote : ℕ
-double_quote = 0x22
+double_quote = byte "\""
 
 abbrev pub single_quote : ℕ
-single_quote = 0x27
+single_quote = byte "'"
 
 -- each number of the list passes the test
 abbrev pub AllAre : (ℕ → Bool) → List ℕ → Type 0
@@ -47,7 +48,7 @@ AllAre p ns = AllByRecursion (λ n. p n ≡ true) ns
 -- a character that a document can have, by its code
 abbrev pub is_character : ℕ → Bool
 is_character c =
-    c == tab || c == line_feed || c == carriage_return || is_in_range 0x20 0xD7FF c || is_in_range 0xE000 0xFFFD c
+    c == tab || c == line_feed || c == carriage_return || is_in_range space_character 0xD7FF c || is_in_range 0xE000 0xFFFD c
     || is_in_range 0x1_0000 0x10_FFFF c
 
 -- the bytes are such characters, in UTF-8

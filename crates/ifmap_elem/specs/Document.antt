@@ -12,14 +12,14 @@ use Rattle.ifmap_elem.specs.declared.tokens.Token.{Token}
 use Rattle.ifmap_elem.specs.declared.tokens.Token.TheVariants as token
 
 -- what stands between two tags, piece by piece: a comment, characters, a section, an empty element, or a start tag with what stands
--- in its element; each constructor ends with the pieces after it
+-- in its element; each constructor ends with the pieces after it. Characters are blank where their own bytes are white space alone
 pub data Pieces : Type 0 where
   Nothing : Pieces
   Comment : Pieces → Pieces
-  Characters : Bool → List ℕ → Pieces → Pieces
-  Section : List ℕ → Pieces → Pieces
+  Characters : (blank : Bool) (text : List ℕ) → Pieces → Pieces
+  Section : (text : List ℕ) → Pieces → Pieces
   Empty : Tag → Pieces → Pieces
-  Start : Tag → Pieces → Pieces → Pieces
+  Start : Tag → (inside : Pieces) → Pieces → Pieces
 
 -- its tokens: the element of a start tag ends with an end tag of the same name
 abbrev pub tokens_of : Pieces → List Token
@@ -60,7 +60,7 @@ join_runs (Run text ∷ items) = put_before text (join_runs items)
 join_runs (Inner e declared ∷ items) = Inner e declared ∷ join_runs items
 
 -- white space alone is no child beside an element, and an empty text is none anywhere
-abbrev pub is_child : Bool → Item → Bool
+abbrev pub is_child : (beside : Bool) → Item → Bool
 is_child beside (Inner e declared) = true
 is_child beside (Run text) = if beside then not (list_all is_white text) else not (length text == 0)
 
@@ -125,7 +125,7 @@ pub record IsRoot (pieces : Pieces) (r : Reading) : Type 0 where
   pub margin_after : IsMargin after
 
 -- a declaration, or none
-abbrev pub heading : Bool → List Token
+abbrev pub heading : (declared : Bool) → List Token
 heading true = token.Declaration ∷ []
 heading false = []
 

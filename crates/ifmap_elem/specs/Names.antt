@@ -1,32 +1,24 @@
 -- Names: XML 1.0 (fifth edition), section 2.3, without the colon, and Namespaces in XML 1.0, sections 3 and 4.
 use Rattle.std.specs.Prelude.{◌≡◌, ℕ, Bool, true, ◌==◌, ◌||◌, ◌⊎◌, List, [], ◌∷◌, ◌++◌, encode_utf8_all}
 use Rattle.std.specs.Int.{is_in_range}
+use Rattle.std.specs.Str.{byte}
 use Rattle.ifmap_elem.specs.declared.tokens.Qualified.{Qualified}
 use Rattle.ifmap_elem.specs.Chars.{AllAre, colon}
 
 -- a capital letter, a small letter and a digit of ASCII
 abbrev pub is_capital : ℕ → Bool
-is_capital c = is_in_range 0x41 0x5A c
+is_capital c = is_in_range (byte "A") (byte "Z") c
 
 abbrev pub is_small : ℕ → Bool
-is_small c = is_in_range 0x61 0x7A c
+is_small c = is_in_range (byte "a") (byte "z") c
 
 abbrev pub is_decimal : ℕ → Bool
-is_decimal c = is_in_range 0x30 0x39 c
-
-abbrev underscore : ℕ
-underscore = 0x5F
-
-abbrev hyphen : ℕ
-hyphen = 0x2D
-
-abbrev full_stop : ℕ
-full_stop = 0x2E
+is_decimal c = is_in_range (byte "0") (byte "9") c
 
 -- a character that may begin a name part
 abbrev pub is_name_start : ℕ → Bool
 is_name_start c =
-    is_capital c || c == underscore || is_small c || is_in_range 0xC0 0xD6 c || is_in_range 0xD8 0xF6 c || is_in_range 0xF8 0x2FF c
+    is_capital c || c == byte "_" || is_small c || is_in_range 0xC0 0xD6 c || is_in_range 0xD8 0xF6 c || is_in_range 0xF8 0x2FF c
     || is_in_range 0x370 0x37D c || is_in_range 0x37F 0x1FFF c || is_in_range 0x200C 0x200D c || is_in_range 0x2070 0x218F c ||
     is_in_range 0x2C00 0x2FEF c
     || is_in_range 0x3001 0xD7FF c || is_in_range 0xF900 0xFDCF c || is_in_range 0xFDF0 0xFFFD c || is_in_range 0x1_0000 0xE_FFFF c
@@ -34,7 +26,7 @@ is_name_start c =
 -- a character that may stand in a name part: one that may begin it, `-`, `.`, a digit, or one of the further characters
 abbrev pub is_name_character : ℕ → Bool
 is_name_character c =
-    is_name_start c || c == hyphen || c == full_stop || is_decimal c || c == 0xB7 || is_in_range 0x300 0x36F c || is_in_range 0x203F
+    is_name_start c || c == byte "-" || c == byte "." || is_decimal c || c == 0xB7 || is_in_range 0x300 0x36F c || is_in_range 0x203F
     0x2040 c
 
 -- the bytes are a name part: a name without a colon

@@ -42,9 +42,9 @@ reference_value name =
     else None))))))
 
 -- a run of bytes that are as they are, or a reference to a character
-pub data Part : Type 0 where
-  Plain : List ℕ → Part
-  Reference : ℕ → Part
+pub data ValuePart : Type 0 where
+  Plain : List ℕ → ValuePart
+  Reference : ℕ → ValuePart
 
 -- a run goes on up to the next reference or the end
 abbrev pub EndsRun : List ℕ → Type 0
@@ -52,32 +52,32 @@ EndsRun [] = Unit {0}
 EndsRun (b ∷ bs) = b ≡ ampersand
 
 -- a part stands at the front: a run without `&`, or `&`, what names a character, and `;`
-abbrev pub TakesPart : List ℕ → Part → List ℕ → Type 0
+abbrev pub TakesPart : List ℕ → ValuePart → List ℕ → Type 0
 TakesPart bytes (Plain run) rest = (bytes ≡ run ++ rest) × (run ≢ []) × AllAre (λ b. not (b == ampersand)) run × EndsRun rest
 TakesPart bytes (Reference c) rest =
     (name : List ℕ) × (bytes ≡ ampersand ∷ (name ++ (semicolon ∷ rest))) × AllAre (λ b. not (b == semicolon)) name
     × (reference_value name ≡ Some c)
 
 -- what a part adds to a text: a run with its line ends as line feeds, or the character
-abbrev pub text_part : Part → List ℕ
+abbrev pub text_part : ValuePart → List ℕ
 text_part (Plain run) = line_ends run
 text_part (Reference c) = encode_utf8 c
 
 -- what a part adds to an attribute's value: a run with its white space as spaces, or the character
-abbrev pub value_part : Part → List ℕ
+abbrev pub value_part : ValuePart → List ℕ
 value_part (Plain run) = map as_space (line_ends run)
 value_part (Reference c) = encode_utf8 c
 
 -- the written bytes are parts, and what these add makes the text
-pub record Expands (adds : Part → List ℕ) (written text : List ℕ) : Type 0 where
-  pub parts : List Part
+pub record SpellsOut (adds : ValuePart → List ℕ) (written text : List ℕ) : Type 0 where
+  pub parts : List ValuePart
   pub taken : To TakesPart written parts []
   pub text_is : text ≡ flat_map adds parts
 
 -- written text means this text
 abbrev pub IsText : List ℕ → List ℕ → Type 0
-IsText written text = Expands text_part written text
+IsText written text = SpellsOut text_part written text
 
 -- a written attribute value means this value
 abbrev pub IsValue : List ℕ → List ℕ → Type 0
-IsValue written value = Expands value_part written value
+IsValue written value = SpellsOut value_part written value

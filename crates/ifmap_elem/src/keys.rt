@@ -4,7 +4,7 @@ ghost use Rattle.std.specs.Cmp.{partial_order_from_own_ties};
 ghost use Rattle.std.specs.Cmp.Rules.{comparing};
 ghost use Rattle.std.specs.Ordering.{as_partial_cmp};
 ghost use Rattle.std.proofs.Common.{rules};
-ghost use Rattle.ifmap_elem.specs.printer.Keys.{key_eq, key_order, mix};
+ghost use Rattle.ifmap_elem.specs.printer.Keys.{key_eq, key_order, space_word};
 
 use std::cmp::Ordering;
 use std::hash::{FoldHasher, Hasher};
@@ -20,13 +20,13 @@ pub(crate) struct Key<'a> {
 
 impl<'a> Model for Key<'a> {
     ghost use Rattle.std.specs.Prelude.{◌≡◌, List, ℕ};
-    ghost use Rattle.ifmap_elem.specs.printer.Keys.{mix};
+    ghost use Rattle.ifmap_elem.specs.printer.Keys.{space_word};
 
     ghost Value = { List ℕ };
 
     ghost view = { λ key. key.space.now };
 
-    ghost invariant = { λ key. key.word ≡ mix key.space.now };
+    ghost invariant = { λ key. key.word ≡ space_word key.space.now };
 }
 
 impl<'a> Key<'a> {
@@ -40,9 +40,9 @@ impl<'a> Key<'a> {
     }
 }
 
-#[tactic(auto, unfolding(crate::specs::printer::Keys::mix))]
+#[tactic(auto, unfolding(crate::specs::printer::Keys::space_word))]
 fn word_of(space: &[u8]) -> u64
-    ensures { result ≡ mix space.now }
+    ensures { result ≡ space_word space.now }
 {
     let mut hasher = FoldHasher::default();
     hasher.write(space);

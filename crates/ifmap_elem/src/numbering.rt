@@ -80,14 +80,14 @@ pub(crate) fn write_numbered(letter: &str, number: usize, out: &mut Vec<u8>) -> 
 // The namespaces that were met, in order, and the prefix of each. That of the last name is at hand,
 // since the next name is mostly of the same namespace.
 #[derive(Drop)]
-pub(crate) struct Prefixes<'a> {
+pub(crate) struct NumberedPrefixes<'a> {
     order: Vec<&'a Text>,
     labels: BTreeMap<Key<'a>, Prefix>,
     last: &'a [u8],
     last_prefix: Prefix,
 }
 
-impl<'a> Model for Prefixes<'a> {
+impl<'a> Model for NumberedPrefixes<'a> {
     ghost use Rattle.std.specs.Prelude.{◌≡◌, List, ℕ, [], None, Some, map};
     ghost use Rattle.std.specs.BTreeMap.{get};
     ghost use Rattle.std.specs.Map.{lookup};
@@ -107,8 +107,8 @@ impl<'a> Model for Prefixes<'a> {
         Some p.last_prefix) };
 }
 
-impl<'a> Prefixes<'a> {
-    pub(crate) fn new(alloc: Global) -> Result<Prefixes<'a>, NoMemory>
+impl<'a> NumberedPrefixes<'a> {
+    pub(crate) fn new(alloc: Global) -> Result<NumberedPrefixes<'a>, NoMemory>
         ensures { IfOk result (λ prefixes. prefixes ≡ []) }
     {
         let mut labels = BTreeMap::new(alloc);
@@ -117,7 +117,7 @@ impl<'a> Prefixes<'a> {
         let xml = Prefix::xml();
         labels.insert(key, xml.copy())?;
         let order = Vec::new(alloc);
-        Ok(Prefixes {
+        Ok(NumberedPrefixes {
             order,
             labels,
             last,

@@ -9,7 +9,7 @@ ghost use Rattle.ifmap_elem.specs.printer.Pieces.{AddsAttribute, AddsAttributes,
 
 use crate::escaping::{Place, write_escaped};
 use crate::lists::Many;
-use crate::numbering::{Prefix, Prefixes};
+use crate::numbering::{NumberedPrefixes, Prefix};
 use crate::outline_attributes::OutlineAttribute;
 use crate::outlines::{Label, Outline, Piece};
 use crate::printing::{write_element, write_label, write_name};
@@ -20,7 +20,7 @@ use std::alloc::{AllocError as NoMemory, Global};
 #[cycle(outlining)]
 pub(crate) fn write_pieces<'a, 'b>(
     alloc: Global,
-    prefixes: &mut Prefixes<'a>,
+    prefixes: &mut NumberedPrefixes<'a>,
     prefix: &Option<Prefix>,
     label: Label<'a>,
     pieces: &'a Many<Piece<'b>>,
@@ -48,7 +48,7 @@ pub(crate) fn write_pieces<'a, 'b>(
 #[cycle(outlining)]
 fn write_piece<'a, 'b>(
     alloc: Global,
-    prefixes: &mut Prefixes<'a>,
+    prefixes: &mut NumberedPrefixes<'a>,
     piece: &'a Piece<'b>,
     out: &mut Vec<u8>,
 ) -> Result<(), NoMemory>
@@ -74,7 +74,7 @@ fn write_piece<'a, 'b>(
 #[cycle(outlining)]
 fn write_outline<'a, 'b>(
     alloc: Global,
-    prefixes: &mut Prefixes<'a>,
+    prefixes: &mut NumberedPrefixes<'a>,
     outline: &'a Outline<'b>,
     out: &mut Vec<u8>,
 ) -> Result<(), NoMemory>
@@ -91,7 +91,7 @@ fn write_outline<'a, 'b>(
 
 pub(crate) fn write_outline_attributes<'a, 'b>(
     alloc: Global,
-    prefixes: &mut Prefixes<'a>,
+    prefixes: &mut NumberedPrefixes<'a>,
     attributes: &'a Many<OutlineAttribute<'b>>,
     out: &mut Vec<u8>,
 ) -> Result<(), NoMemory>
@@ -111,7 +111,7 @@ pub(crate) fn write_outline_attributes<'a, 'b>(
 
 // Writes attributes in the order in which they stand.
 fn write_each<'a, 'b>(
-    prefixes: &mut Prefixes<'a>,
+    prefixes: &mut NumberedPrefixes<'a>,
     attributes: &'a [OutlineAttribute<'b>],
     out: &mut Vec<u8>,
 ) -> Result<(), NoMemory>
@@ -126,7 +126,7 @@ fn write_each<'a, 'b>(
 
 #[inline(always)]
 fn write_outline_attribute<'a, 'b>(
-    prefixes: &mut Prefixes<'a>,
+    prefixes: &mut NumberedPrefixes<'a>,
     attribute: &'a OutlineAttribute<'b>,
     out: &mut Vec<u8>,
 ) -> Result<(), NoMemory>

@@ -17,7 +17,7 @@ ghost use Rattle.ifmap_elem.specs.Canonical.{written_bytes, written_reading};
 use crate::elements::{Attribute, Child, Element, Name};
 use crate::escaping::{Place, write_escaped};
 use crate::lists::Many;
-use crate::numbering::{Prefix, Prefixes, write_numbered};
+use crate::numbering::{NumberedPrefixes, Prefix, write_numbered};
 use crate::outline_attributes::OutlineAttribute;
 use crate::outlines::{Label, Outline, Piece};
 use crate::outlining::{write_outline_attributes, write_pieces};
@@ -75,7 +75,7 @@ fn print_root<'a, 'b>(
     ensures { IfOk result (λ bytes.
         bytes ≡ written_bytes (root_of (label_name label.entry) content.entry) spaces.now) }
 {
-    let mut prefixes = Prefixes::new(alloc)?;
+    let mut prefixes = NumberedPrefixes::new(alloc)?;
     let prefix = prefixes.number_label(label)?;
     let mut inside = Vec::new(alloc);
     write_root_attributes(alloc, &mut prefixes, content, &mut inside)?;
@@ -92,7 +92,7 @@ fn print_root<'a, 'b>(
 
 fn write_root_attributes<'a, 'b>(
     alloc: Global,
-    prefixes: &mut Prefixes<'a>,
+    prefixes: &mut NumberedPrefixes<'a>,
     content: RootContent<'a, 'b>,
     out: &mut Vec<u8>,
 ) -> Result<(), NoMemory>
@@ -115,7 +115,7 @@ fn write_root_attributes<'a, 'b>(
 // What follows the attributes of a root of this name, which is written with this prefix.
 fn write_inside<'a, 'b>(
     alloc: Global,
-    prefixes: &mut Prefixes<'a>,
+    prefixes: &mut NumberedPrefixes<'a>,
     prefix: &Option<Prefix>,
     label: Label<'a>,
     content: RootContent<'a, 'b>,
@@ -141,7 +141,7 @@ fn write_inside<'a, 'b>(
 #[cycle(printing)]
 pub(crate) fn write_element<'a>(
     alloc: Global,
-    prefixes: &mut Prefixes<'a>,
+    prefixes: &mut NumberedPrefixes<'a>,
     element: &'a Element,
     out: &mut Vec<u8>,
 ) -> Result<(), NoMemory>
@@ -166,7 +166,7 @@ pub(crate) fn write_element<'a>(
 #[cycle(printing)]
 fn write_content<'a>(
     alloc: Global,
-    prefixes: &mut Prefixes<'a>,
+    prefixes: &mut NumberedPrefixes<'a>,
     prefix: &Option<Prefix>,
     label: Label<'_>,
     children: &'a Many<Child>,
@@ -194,7 +194,7 @@ fn write_content<'a>(
 #[cycle(printing)]
 fn write_child<'a>(
     alloc: Global,
-    prefixes: &mut Prefixes<'a>,
+    prefixes: &mut NumberedPrefixes<'a>,
     child: &'a Child,
     out: &mut Vec<u8>,
 ) -> Result<(), NoMemory>
@@ -215,7 +215,7 @@ fn write_child<'a>(
 
 pub(crate) fn write_attributes<'a>(
     alloc: Global,
-    prefixes: &mut Prefixes<'a>,
+    prefixes: &mut NumberedPrefixes<'a>,
     attributes: &'a Many<Attribute>,
     out: &mut Vec<u8>,
 ) -> Result<(), NoMemory>
@@ -235,7 +235,7 @@ pub(crate) fn write_attributes<'a>(
 
 // Writes attributes in the order in which they stand.
 fn write_each<'a>(
-    prefixes: &mut Prefixes<'a>,
+    prefixes: &mut NumberedPrefixes<'a>,
     attributes: &'a [Attribute],
     out: &mut Vec<u8>,
 ) -> Result<(), NoMemory>
@@ -250,7 +250,7 @@ fn write_each<'a>(
 
 #[inline(always)]
 fn write_attribute<'a>(
-    prefixes: &mut Prefixes<'a>,
+    prefixes: &mut NumberedPrefixes<'a>,
     attribute: &'a Attribute,
     out: &mut Vec<u8>,
 ) -> Result<(), NoMemory>
@@ -268,7 +268,7 @@ fn write_attribute<'a>(
 // Writes a name whose namespace is numbered if it is new. Its prefix.
 #[inline(always)]
 pub(crate) fn write_label<'a>(
-    prefixes: &mut Prefixes<'a>,
+    prefixes: &mut NumberedPrefixes<'a>,
     label: Label<'a>,
     out: &mut Vec<u8>,
 ) -> Result<Option<Prefix>, NoMemory>

@@ -24,6 +24,20 @@ pub struct Tag {
     pub assignments: Many<Assignment>,
 }
 
+/// The kinds of tokens that their first bytes tell apart.
+#[derive(Clone, Copy, Debug, PartialEq, Eq)]
+pub enum TokenKind {
+    /// No token begins so.
+    Nothing,
+    Text,
+    Declaration,
+    End,
+    /// A start tag or an empty tag.
+    Tag,
+    Comment,
+    Section,
+}
+
 /// A token by what it means. Of characters it is told whether their own bytes are white space alone,
 /// and the text that they mean.
 #[derive(Debug, Drop)]

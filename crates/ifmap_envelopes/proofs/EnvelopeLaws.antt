@@ -18,11 +18,12 @@ use Rattle.ifmap_elem.specs.declared.elements.Child.{Child, out-Child}
 use Rattle.ifmap_elem.specs.declared.elements.Child.TheOpen.{Child-F}
 use Rattle.ifmap_elem.specs.declared.elements.Element.{Element}
 use Rattle.ifmap_elem.specs.declared.elements.Name.{Name}
-use Rattle.ifmap_filter.specs.Holding.{is_name}
+use Rattle.ifmap_forms.specs.ifmap_filter.Holding.{is_name}
 use Rattle.ifmap_forms.specs.PositionLaws.{at_place, no_place, place_is}
 use Rattle.ifmap_forms.specs.Tables.{Part, is_white_part, parts_in}
 use Rattle.ifmap_lemmas.specs.Texts.{eq_itself, eq_tells}
-use Rattle.ifmap_envelopes.specs.Envelopes.{IsOnlyElement, IsBodyAt, IsPartAt, blank_front, envelope_name, is_element, is_first, is_last_part, is_part_named, is_solid_part}
+use Rattle.ifmap_elem.specs.Fit.{is_element}
+use Rattle.ifmap_envelopes.specs.Envelopes.{IsOnlyElement, IsBodyAt, IsPartAt, blank_front, envelope_name, is_first, is_last_part, is_part_named, is_solid_part}
 use Rattle.ifmap_elem.specs.Chars.{is_white}
 use Rattle.ifmap_envelopes.proofs.Alone.{at_header, AreBlank, part_of, text_of, no_element, after_text}
 use Rattle.ifmap_elem.specs.laws.ArrangedLaws.{out_element}

@@ -4,7 +4,8 @@ use Rattle.std.specs.Prelude.{◌⊎◌}
 use Rattle.ifmap_lemmas.specs.Deciding.{Decided}
 use Rattle.ifmap_elem.specs.declared.elements.Element.{Element}
 use Rattle.ifmap_forms.specs.Tables.{Part, element_parts}
-use Rattle.ifmap_envelopes.specs.Envelopes.{IsOnlyElement, IsBodyAt, IsEnvelope, blank_front, envelope_name, is_element, is_first, is_last_part, is_part_named}
+use Rattle.ifmap_elem.specs.Fit.{is_element}
+use Rattle.ifmap_envelopes.specs.Envelopes.{IsOnlyElement, IsBodyAt, IsEnvelope, blank_front, envelope_name, is_first, is_last_part, is_part_named}
 use Rattle.ifmap_envelopes.proofs.Alone.{one_body_at}
 use Rattle.ifmap_envelopes.proofs.EnvelopeLaws.{after_header, alone_there, body_after, body_first, headed, named, no_body_after, no_body_first, none_alone}
 use Rattle.ifmap_elem.specs.laws.DecidedNames.{name_or_not}

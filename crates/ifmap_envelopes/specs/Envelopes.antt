@@ -1,5 +1,5 @@
 -- Envelopes of SOAP 1.2 (part 1, section 5) round one element.
-use Rattle.std.specs.Prelude.{◌≡◌, ◌⊎◌, ℕ, ◌≤◌, Bool, true, false, not, ◌&&◌, Some, IsTrue, List, [], ◌∷◌, ◌++◌, codes, length}
+use Rattle.std.specs.Prelude.{◌≡◌, ◌⊎◌, ℕ, ◌≤◌, Bool, false, not, ◌&&◌, Some, IsTrue, List, [], ◌∷◌, ◌++◌, codes, length}
 use Rattle.std.specs.List.{list_all, prefix_len, slice_get}
 use Rattle.ifmap_lemmas.specs.Deciding.{Decided}
 use Rattle.ifmap_elem.specs.Nesting.{nesting}
@@ -9,7 +9,7 @@ use Rattle.ifmap_elem.specs.declared.elements.Child.TheOpen.{Child-F}
 use Rattle.ifmap_elem.specs.declared.elements.Element.{Element}
 use Rattle.ifmap_elem.specs.declared.elements.Name.{Name}
 use Rattle.ifmap_elem.specs.declared.readings.Reading.{Reading}
-use Rattle.ifmap_filter.specs.Holding.{is_name}
+use Rattle.ifmap_forms.specs.ifmap_filter.Holding.{is_name}
 use Rattle.ifmap_forms.specs.Tables.{Part, is_white_part, element_parts}
 use Rattle.ifmap_envelopes.specs.Spaces.{envelope_space}
 
@@ -75,10 +75,6 @@ IsPartAt parts index e = slice_get parts index ≡ Some (Child-F.Element e)
 
 abbrev pub is_solid_part : Part → Bool
 is_solid_part part = not (is_white_part part)
-
-abbrev pub is_element : Part → Bool
-is_element (Child-F.Element e) = true
-is_element (Child-F.Text text) = false
 
 -- the part is an element of that name of envelopes
 abbrev pub is_part_named : List ℕ → Part → Bool

@@ -4,9 +4,10 @@ ghost use Rattle.std.specs.Bool.{OnTrue};
 ghost use Rattle.std.specs.List.{position};
 ghost use Rattle.ifmap_elem.specs.declared.elements.Child.{out-Child};
 ghost use Rattle.ifmap_elem.specs.declared.elements.Element.{Element};
-ghost use Rattle.ifmap_filter.specs.Holding.{is_name};
+ghost use Rattle.ifmap_forms.specs.ifmap_filter.Holding.{is_name};
 ghost use Rattle.ifmap_forms.specs.Tables.{parts_in, element_parts};
-ghost use Rattle.ifmap_envelopes.specs.Envelopes.{IsOnlyElement, IsBodyAt, IsEnvelope, IsPartAt, blank_front, envelope_name, is_element, is_first, is_last_part, is_part_named, is_solid_part};
+ghost use Rattle.ifmap_elem.specs.Fit.{is_element};
+ghost use Rattle.ifmap_envelopes.specs.Envelopes.{IsOnlyElement, IsBodyAt, IsEnvelope, IsPartAt, blank_front, envelope_name, is_first, is_last_part, is_part_named, is_solid_part};
 
 use crate::spaces::ENVELOPE_SPACE;
 use ifmap_elem::{Child, Element, Name};

@@ -6,7 +6,7 @@ use Rattle.std.specs.Str.Pattern.{FindsBy, HasCharAt}
 use Rattle.std.proofs.lemmas.Bool.Decides.{Decides-eqb}
 use Rattle.std.proofs.lemmas.List.{append-nil, take-append-drop}
 use Rattle.std.proofs.lemmas.Str.{IsUtf8-drop, chars-nil, chars_from_encodes, chars_past_char, encodes-append, encodes-chars}
-use Rattle.ifmap_filter.specs.Lexing.{Cuts}
+use Rattle.ifmap_filter.specs.Lexing.{CutsCharacters}
 use Rattle.ifmap_filter.specs.Tokens.{after_while, front_while}
 
 module _ (p t : ℕ → Bool) (turns : (c : ℕ) → t c ≡ not (p c)) where
@@ -32,7 +32,7 @@ module _ (p t : ℕ → Bool) (turns : (c : ℕ) → t c ≡ not (p c)) where
   after_more [] rest none = refl
   after_more (c ∷ cs) rest none = rw (passes c none.0) (after_more cs rest none.1)
 
-  pub cuts_all : (text : List ℕ) → IsUtf8 text → NoCharPasses t text → Cuts p text text []
+  pub cuts_all : (text : List ℕ) → IsUtf8 text → NoCharPasses t text → CutsCharacters p text text []
   cuts_all text u (cs, e, none) =
       let are : cs ≡ chars text = chars_from_encodes cs text u e in
       let all : front_while p (chars text) ≡ cs =
@@ -44,7 +44,7 @@ module _ (p t : ℕ → Bool) (turns : (c : ℕ) → t c ≡ not (p c)) where
 
   pub cuts_at : (text : List ℕ) (i j c : ℕ) → IsUtf8 text → IsCharBoundary text i → NoCharPasses t (take i text) → t c ≡ true
       → HasCharAt c text i j
-      → Cuts p text (take i text) (drop i text)
+      → CutsCharacters p text (take i text) (drop i text)
   cuts_at text i j c u bound (cs, e, none) stop has =
       let v : IsUtf8 (drop i text) = IsUtf8-drop text i u bound in
       let more : chars (drop i text) ≡ c ∷ chars (drop j text) = chars_past_char (drop i text) (drop j text) c v has.split in
@@ -75,7 +75,7 @@ twice false = refl
 
 pub cuts_from : (p t : ℕ → Bool) → ((c : ℕ) → t c ≡ not (p c)) → (text : List ℕ) (i j : ℕ) (front rest : List ℕ) → IsUtf8 text
     → IsCharBoundary text i
-    → FindsBy t text (Some (i, j)) → front ≡ take i text → rest ≡ drop i text → Cuts p text front rest
+    → FindsBy t text (Some (i, j)) → front ≡ take i text → rest ≡ drop i text → CutsCharacters p text front rest
 cuts_from p t turns text i j front rest u bound (none, has) e f =
     let cuts = cuts_at p t turns text i j has.0 u bound none has.1 has.2 in
     record { front_is = e ∙ cuts.front_is; rest_is = ap chars f ∙ cuts.rest_is }

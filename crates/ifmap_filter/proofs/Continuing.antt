@@ -11,36 +11,36 @@ use Rattle.std.proofs.lemmas.List.{append-nil}
 use Rattle.ifmap_lemmas.specs.Texts.{eq_itself, eq_tells}
 use Rattle.ifmap_elem.specs.declared.elements.Name as element
 use Rattle.ifmap_elem.specs.declared.tokens.Qualified.{Qualified}
-use Rattle.ifmap_reader.specs.declared.scoping.Scope.{Scope}
+use Rattle.ifmap_prefixes.specs.ifmap_reader.declared.scoping.Scope.{Scope}
 use Rattle.ifmap_filter.specs.declared.filters.Predicate.{Predicate, And, Or}
 use Rattle.ifmap_filter.specs.declared.filters.Test.{Test}
 use Rattle.ifmap_filter.specs.declared.filters.Filter.{Filter}
-use Rattle.ifmap_filter.specs.declared.tokens.Token.{Token}
-use Rattle.ifmap_filter.specs.declared.tokens.Token.TheVariants.{Any, OpenBracket, Name}
-use Rattle.ifmap_filter.specs.Grammar.{AreTests, AsksFor, IsFilter, TakesAnds, TakesFactor, TakesMore, TakesOrs, TakesPredicate, TakesTest, and_word, bare_name, deepest, join_of, or_word, space_of}
+use Rattle.ifmap_filter.specs.declared.tokens.FilterToken.{FilterToken}
+use Rattle.ifmap_filter.specs.declared.tokens.FilterToken.TheVariants.{Any, OpenBracket, Name}
+use Rattle.ifmap_filter.specs.Grammar.{AreTests, AsksFor, IsFilter, TakesAnds, TakesFactor, TakesMore, TakesOrs, TakesPredicate, TakesTest, and_word, unprefixed_name, deepest, join_of, or_word, space_of}
 use Rattle.ifmap_filter.specs.Progress.{MoreFactors, MoreTests, PredicateFirst, TestFirst, done_part, join_parts, is_word, test_of}
 
 -- (1) words
 
-pub word_is : (word : List ℕ) (q : Qualified) → is_word word q ≡ true → q ≡ bare_name word
+pub word_is : (word : List ℕ) (q : Qualified) → is_word word q ≡ true → q ≡ unprefixed_name word
 word_is word q h =
     let both = and_parts (bytes_eq q.prefix []) (bytes_eq q.local word) h in
     let p : q.prefix ≡ [] = eq_tells q.prefix [] both.0 in
     let l : q.local ≡ word = eq_tells q.local word both.1 in
     (λ i. record { prefix = p i; local = l i })
 
-pub is_that_word : (word : List ℕ) (q : Qualified) → q ≡ bare_name word → is_word word q ≡ true
+pub is_that_word : (word : List ℕ) (q : Qualified) → q ≡ unprefixed_name word → is_word word q ≡ true
 is_that_word word q e = ap (is_word word) e ∙ and_from (bytes_eq [] []) (bytes_eq word word) refl (eq_itself word)
 
-pub not_that_word : (word : List ℕ) (q : Qualified) → is_word word q ≡ false → Name q ≢ Name (bare_name word)
-not_that_word word q h e = let s : q ≡ bare_name word = cc in let wrong : false ≡ true = sym h ∙ is_that_word word q s in cc
+pub not_that_word : (word : List ℕ) (q : Qualified) → is_word word q ≡ false → Name q ≢ Name (unprefixed_name word)
+not_that_word word q h e = let s : q ≡ unprefixed_name word = cc in let wrong : false ≡ true = sym h ∙ is_that_word word q s in cc
 
 pub head_of : {X : Type 0} (x y : X) (xs ys : List X) → x ∷ xs ≡ y ∷ ys → (x ≡ y) × (xs ≡ ys)
 head_of x y xs ys e = let h : x ≡ y = cc in let t : xs ≡ ys = cc in (h, t)
 
 pub and_not_or : and_word ≢ or_word
 and_not_or e =
-    let q : bare_name (codes "and") ≡ bare_name (codes "or") = cc in
+    let q : unprefixed_name (codes "and") ≡ unprefixed_name (codes "or") = cc in
     let wrong : true ≡ false = ap (is_word (codes "and")) q in cc
 
 -- what joins to the left joins to the right
@@ -73,29 +73,30 @@ module _ (scope : Scope) where
         let there : space_of scope q.prefix ≡ Some n.space = ap (λ (v : Qualified). space_of scope v.prefix) same ∙ s.space_is in
         cc
 
-    pub named : (done : List Test) (t : Token) (name : Option element.Name) → AsksFor scope t name
+    pub named : (done : List Test) (t : FilterToken) (name : Option element.Name) → AsksFor scope t name
         → ((other : Option element.Name) → AsksFor scope t other → other ≡ name)
-        → (more : List Token) → TestFirst scope filter done (t ∷ more) ↔ PredicateFirst scope filter done name more
+        → (more : List FilterToken) → TestFirst scope filter done (t ∷ more) ↔ PredicateFirst scope filter done name more
     named done t name asks only more = (
       (λ (test, mid, takes, rest).
           let same = head_of t takes.head more takes.after takes.tokens_are in
-          let is = only test.name (subst (λ (h : Token). AsksFor scope h test.name) (sym same.0) takes.asks) in (
+          let is = only test.name (subst (λ (h : FilterToken). AsksFor scope h test.name) (sym same.0) takes.asks) in (
             test.predicate,
             mid,
-            subst (λ (ts : List Token). TakesPredicate scope deepest ts test.predicate mid) (sym same.1) takes.holds,
+            subst (λ (ts : List FilterToken). TakesPredicate scope deepest ts test.predicate mid) (sym same.1) takes.holds,
             subst (λ (n : Option element.Name). MoreTests scope filter (done ++ test_of n test.predicate ∷ []) mid) is rest,
           )),
       (λ (p, mid, takes, rest).
           (test_of name p, mid, record { head = t; after = more; tokens_are = refl; asks = asks; holds = takes }, rest)),
     )
 
-    pub unnamed : (done : List Test) (t : Token) → ((name : Option element.Name) → AsksFor scope t name → ⊥) → (more : List Token)
+    pub unnamed : (done : List Test) (t : FilterToken) → ((name : Option element.Name) → AsksFor scope t name → ⊥)
+        → (more : List FilterToken)
         → TestFirst scope filter done (t ∷ more) → ⊥
     unnamed done t none more (test, mid, takes, rest) =
         let same = head_of t takes.head more takes.after takes.tokens_are in
-        none test.name (subst (λ (h : Token). AsksFor scope h test.name) (sym same.0) takes.asks)
+        none test.name (subst (λ (h : FilterToken). AsksFor scope h test.name) (sym same.0) takes.asks)
 
-    pub started : (t : Token) (more : List Token) → IsFilter scope (t ∷ more) filter ↔ TestFirst scope filter [] (t ∷ more)
+    pub started : (t : FilterToken) (more : List FilterToken) → IsFilter scope (t ∷ more) filter ↔ TestFirst scope filter [] (t ∷ more)
     started t more = (
       (λ is. from filter.tests is refl),
       (λ (test, mid, takes, (tests, others, is)). subst (AreTests scope deepest (t ∷ more)) (sym is) (mid, takes, others)),
@@ -105,7 +106,8 @@ module _ (scope : Scope) where
         from [] e is = cc
         from (test ∷ tests) (mid, takes, others) is = (test, mid, takes, (tests, others, is))
 
-    pub tested_or : (done : List Test) (more : List Token) → MoreTests scope filter done (or_word ∷ more) ↔ TestFirst scope filter done more
+    pub tested_or : (done : List Test) (more : List FilterToken)
+        → MoreTests scope filter done (or_word ∷ more) ↔ TestFirst scope filter done more
     tested_or done more = (
       (λ (tests, takes, is). from tests takes is),
       (λ (test, mid, takes, (tests, others, is)). (test ∷ tests, (more, mid, refl, takes, others), is ∙ joins done test tests)),
@@ -118,22 +120,23 @@ module _ (scope : Scope) where
             let tail : after ≡ more = cc in (
               test,
               mid,
-              subst (λ (ts : List Token). TakesTest scope deepest ts test mid) tail takes,
+              subst (λ (ts : List FilterToken). TakesTest scope deepest ts test mid) tail takes,
               (tests, others, is ∙ sym (joins done test tests)),
             )
 
-    pub tested_other : (done : List Test) (t : Token) → t ≢ or_word → (more : List Token) → MoreTests scope filter done (t ∷ more) → ⊥
+    pub tested_other : (done : List Test) (t : FilterToken) → t ≢ or_word → (more : List FilterToken)
+        → MoreTests scope filter done (t ∷ more) → ⊥
     tested_other done t other more (tests, takes, is) = from tests takes
       where
         from : (tests : List Test) → TakesMore or_word (TakesTest scope deepest) (t ∷ more) tests [] → ⊥
         from [] e = cc
         from (test ∷ tests) (after, mid, e, takes, others) = let h : t ≡ or_word = cc in other h
 
-    pub bare_named : (done : List Test) (name : Option element.Name) (t : Token) → t ≢ OpenBracket → (more : List Token)
+    pub bare_named : (done : List Test) (name : Option element.Name) (t : FilterToken) → t ≢ OpenBracket → (more : List FilterToken)
         → PredicateFirst scope filter done name (t ∷ more) ↔ MoreTests scope filter (done ++ test_of name None ∷ []) (t ∷ more)
     bare_named done name t other more = ((λ (p, mid, takes, rest). from p mid takes rest), (λ rest. (None, t ∷ more, refl, rest)))
       where
-        from : (p : Option Predicate) (mid : List Token) → TakesPredicate scope deepest (t ∷ more) p mid
+        from : (p : Option Predicate) (mid : List FilterToken) → TakesPredicate scope deepest (t ∷ more) p mid
             → MoreTests scope filter (done ++ test_of name p ∷ []) mid
             → MoreTests scope filter (done ++ test_of name None ∷ []) (t ∷ more)
         from None mid e rest = subst (MoreTests scope filter (done ++ test_of name None ∷ [])) (sym e) rest
@@ -141,12 +144,13 @@ module _ (scope : Scope) where
 
   -- (3) an or-part, as its first factor and what is after it
 
-  module _ (n : ℕ) (Then : Predicate → List Token → Type 0) where
-    abbrev pub First : List Predicate → List Predicate → List Token → Type 0
+  module _ (n : ℕ) (Then : Predicate → List FilterToken → Type 0) where
+    abbrev pub First : List Predicate → List Predicate → List FilterToken → Type 0
     First ors ands ts =
-        (q : Predicate) × (mid : List Token) × TakesFactor scope n ts q mid × MoreFactors scope n Then ors (ands ++ q ∷ []) mid
+        (q : Predicate) × (mid : List FilterToken) × TakesFactor scope n ts q mid × MoreFactors scope n Then ors (ands ++ q ∷ []) mid
 
-    pub or_part : (ts : List Token) → ((p : Predicate) × (rest : List Token) × TakesOrs (TakesFactor scope n) ts p rest × Then p rest) ↔
+    pub or_part : (ts : List FilterToken) → ((p : Predicate) × (rest : List FilterToken) × TakesOrs (TakesFactor scope n) ts p rest
+        × Then p rest) ↔
         First [] [] ts
     or_part ts = (
       (λ (p, rest, takes, follow).
@@ -183,11 +187,11 @@ module _ (scope : Scope) where
 
     -- (4) after a factor
 
-    abbrev pub Refuses : Token → Type 0
-    Refuses t = (p : Predicate) (more : List Token) → Then p (t ∷ more) → ⊥
+    abbrev pub Refuses : FilterToken → Type 0
+    Refuses t = (p : Predicate) (more : List FilterToken) → Then p (t ∷ more) → ⊥
 
     module _ (ors ands : List Predicate) where
-      pub no_more : (ts : List Token) → Then (done_part ors ands) ts → MoreFactors scope n Then ors ands ts
+      pub no_more : (ts : List FilterToken) → Then (done_part ors ands) ts → MoreFactors scope n Then ors ands ts
       no_more ts follow = record {
         more_ands = [];
         more_ors = [];
@@ -198,7 +202,8 @@ module _ (scope : Scope) where
         followed = subst (λ as'. Then (join_parts Or (ors ++ (join_parts And as' ∷ []))) ts) (sym (append-nil ands)) follow;
       }
 
-      pub and_more : (more : List Token) → Refuses and_word → MoreFactors scope n Then ors ands (and_word ∷ more) ↔ First ors ands more
+      pub and_more : (more : List FilterToken) → Refuses and_word
+          → MoreFactors scope n Then ors ands (and_word ∷ more) ↔ First ors ands more
       and_more more refused = (
         (λ m. from m.more_ands m.more_ors m.mid m.rest m.takes_ands m.takes_ors m.followed),
         (λ (q, mid, takes, m). record {
@@ -213,14 +218,15 @@ module _ (scope : Scope) where
         }),
       )
         where
-          none : (xs : List Predicate) (mid rest : List Token) → and_word ∷ more ≡ mid
+          none : (xs : List Predicate) (mid rest : List FilterToken) → and_word ∷ more ≡ mid
               → TakesMore or_word (TakesAnds (TakesFactor scope n)) mid xs rest
               → (p : Predicate) → Then p rest → ⊥
           none [] mid rest e f p follow = refused p more (subst (Then p) (sym (e ∙ f)) follow)
           none (x ∷ xs) mid rest e (after, m, f, takes, others) p follow =
               and_not_or (head_of and_word or_word more after (e ∙ f)).0
 
-          from : (as' os : List Predicate) (mid rest : List Token) → TakesMore and_word (TakesFactor scope n) (and_word ∷ more) as' mid
+          from : (as' os : List Predicate) (mid rest : List FilterToken)
+              → TakesMore and_word (TakesFactor scope n) (and_word ∷ more) as' mid
               → TakesMore or_word (TakesAnds (TakesFactor scope n)) mid os rest
               → Then (join_parts Or (ors ++ (join_parts And (ands ++ as') ∷ os))) rest
               → First ors ands more
@@ -229,7 +235,7 @@ module _ (scope : Scope) where
               let tail = (head_of and_word and_word more after e).1 in (
                 q,
                 m,
-                subst (λ (ts : List Token). TakesFactor scope n ts q m) (sym tail) takes,
+                subst (λ (ts : List FilterToken). TakesFactor scope n ts q m) (sym tail) takes,
                 record {
                   more_ands = as';
                   more_ors = os;
@@ -241,7 +247,7 @@ module _ (scope : Scope) where
                 },
               )
 
-      pub or_more : (more : List Token) → Refuses or_word
+      pub or_more : (more : List FilterToken) → Refuses or_word
           → MoreFactors scope n Then ors ands (or_word ∷ more) ↔ First (ors ++ join_parts And ands ∷ []) [] more
       or_more more refused = (
         (λ m. from m.more_ands m.more_ors m.mid m.rest m.takes_ands m.takes_ors m.followed),
@@ -274,7 +280,7 @@ module _ (scope : Scope) where
         }),
       )
         where
-          inner : (xs : List Predicate) (mid rest : List Token) → or_word ∷ more ≡ mid
+          inner : (xs : List Predicate) (mid rest : List FilterToken) → or_word ∷ more ≡ mid
               → TakesMore or_word (TakesAnds (TakesFactor scope n)) mid xs rest
               → Then (join_parts Or (ors ++ (join_parts And (ands ++ []) ∷ xs))) rest → First (ors ++ join_parts And ands ∷ []) [] more
           inner [] mid rest e f follow = absurd (refused _ more (subst (Then _) (sym (e ∙ f)) follow))
@@ -282,7 +288,7 @@ module _ (scope : Scope) where
               let tail = (head_of or_word or_word more after (e ∙ f)).1 in (
                 takes.first,
                 takes.mid,
-                subst (λ (ts : List Token). TakesFactor scope n ts takes.first takes.mid) (sym tail) takes.one,
+                subst (λ (ts : List FilterToken). TakesFactor scope n ts takes.first takes.mid) (sym tail) takes.one,
                 record {
                   more_ands = takes.others;
                   more_ors = xs;
@@ -298,7 +304,7 @@ module _ (scope : Scope) where
                 },
               )
 
-          from : (as' os : List Predicate) (mid rest : List Token) → TakesMore and_word (TakesFactor scope n) (or_word ∷ more) as' mid
+          from : (as' os : List Predicate) (mid rest : List FilterToken) → TakesMore and_word (TakesFactor scope n) (or_word ∷ more) as' mid
               → TakesMore or_word (TakesAnds (TakesFactor scope n)) mid os rest
               → Then (join_parts Or (ors ++ (join_parts And (ands ++ as') ∷ os))) rest
               → First (ors ++ join_parts And ands ∷ []) [] more
@@ -306,14 +312,14 @@ module _ (scope : Scope) where
           from (q ∷ as') os mid rest (after, m, e, takes, others) takes_ors follow =
               absurd (and_not_or (sym (head_of or_word and_word more after e).0))
 
-      pub other_more : (t : Token) (more : List Token) → t ≢ and_word → t ≢ or_word
+      pub other_more : (t : FilterToken) (more : List FilterToken) → t ≢ and_word → t ≢ or_word
           → MoreFactors scope n Then ors ands (t ∷ more) ↔ Then (done_part ors ands) (t ∷ more)
       other_more t more no_and no_or = (
         (λ m. from m.more_ands m.more_ors m.mid m.rest m.takes_ands m.takes_ors m.followed),
         no_more (t ∷ more),
       )
         where
-          inner : (xs : List Predicate) (mid rest : List Token) → t ∷ more ≡ mid
+          inner : (xs : List Predicate) (mid rest : List FilterToken) → t ∷ more ≡ mid
               → TakesMore or_word (TakesAnds (TakesFactor scope n)) mid xs rest
               → Then (join_parts Or (ors ++ (join_parts And (ands ++ []) ∷ xs))) rest → Then (done_part ors ands) (t ∷ more)
           inner [] mid rest e f follow =
@@ -321,7 +327,7 @@ module _ (scope : Scope) where
               (subst (Then (join_parts Or (ors ++ (join_parts And (ands ++ []) ∷ [])))) (sym (e ∙ f)) follow)
           inner (x ∷ xs) mid rest e (after, m, f, takes, others) follow = absurd (no_or (head_of t or_word more after (e ∙ f)).0)
 
-          from : (as' os : List Predicate) (mid rest : List Token) → TakesMore and_word (TakesFactor scope n) (t ∷ more) as' mid
+          from : (as' os : List Predicate) (mid rest : List FilterToken) → TakesMore and_word (TakesFactor scope n) (t ∷ more) as' mid
               → TakesMore or_word (TakesAnds (TakesFactor scope n)) mid os rest
               → Then (join_parts Or (ors ++ (join_parts And (ands ++ as') ∷ os))) rest
               → Then (done_part ors ands) (t ∷ more)

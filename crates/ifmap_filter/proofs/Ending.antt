@@ -3,24 +3,24 @@ use Rattle.std.proofs.Common.{◌≡◌, ℕ, zero, suc, List, [], ◌∷◌, �
 use Rattle.std.specs.Prelude.{◌↔◌}
 use Rattle.std.proofs.lemmas.List.{append-nil}
 use Rattle.ifmap_elem.specs.declared.elements.Name as element
-use Rattle.ifmap_reader.specs.declared.scoping.Scope.{Scope}
+use Rattle.ifmap_prefixes.specs.ifmap_reader.declared.scoping.Scope.{Scope}
 use Rattle.ifmap_filter.specs.declared.filters.Predicate.{Predicate, And, Attr, Or}
 use Rattle.ifmap_filter.specs.declared.filters.Test.{Test}
 use Rattle.ifmap_filter.specs.declared.filters.Filter.{Filter}
 use Rattle.ifmap_filter.specs.declared.standing.OuterPart.{OuterPart}
 use Rattle.ifmap_filter.specs.declared.standing.Operand.{Operand}
 use Rattle.ifmap_filter.specs.declared.standing.Operand.TheVariants as operand
-use Rattle.ifmap_filter.specs.declared.tokens.Token.{Token}
-use Rattle.ifmap_filter.specs.declared.tokens.Token.TheVariants.{Any, CloseBracket, CloseParenthesis, EqualsSign, At, Name, Literal}
-use Rattle.ifmap_filter.specs.Grammar.{AreTests, IsFilter, TakesAnds, TakesFactor, TakesMore, TakesPredicate, TakesTest, and_word, bare_name, deepest, or_word}
-use Rattle.ifmap_filter.specs.Progress.{Closes, Context, Where, Start, TestDue, Named, Tested, FactorDue, LocalDue, EqualsDue, LiteralDue, FactorDone, AfterFactor, GoesOn, MoreTests, PredicateFirst, TestFirst, comparison_of, done_part, join_parts, test_of, filter_at, with_factor}
+use Rattle.ifmap_filter.specs.declared.tokens.FilterToken.{FilterToken}
+use Rattle.ifmap_filter.specs.declared.tokens.FilterToken.TheVariants.{Any, CloseBracket, CloseParenthesis, EqualsSign, At, Name, Literal}
+use Rattle.ifmap_filter.specs.Grammar.{AreTests, IsFilter, TakesAnds, TakesFactor, TakesMore, TakesPredicate, TakesTest, and_word, unprefixed_name, deepest, or_word}
+use Rattle.ifmap_filter.specs.Progress.{Closes, Context, FilterState, Start, TestDue, Named, Tested, FactorDue, LocalDue, EqualsDue, LiteralDue, FactorDone, AfterFactor, GoesOn, MoreTests, PredicateFirst, TestFirst, comparison_of, done_part, join_parts, test_of, filter_at, with_factor}
 use Rattle.ifmap_filter.proofs.Continuing.{no_more}
 
 module _ (scope : Scope) where
   -- (1) what ends
 
   -- the filter that ends at a place, or none does
-  abbrev pub EndsAt : ℕ → Where → Option Filter → Type 0
+  abbrev pub EndsAt : ℕ → FilterState → Option Filter → Type 0
   EndsAt n w None = (filter : Filter) → GoesOn scope filter n w [] → ⊥
   EndsAt n w (Some f) = (filter : Filter) → GoesOn scope filter n w [] ↔ (filter ≡ f)
 
@@ -45,7 +45,7 @@ module _ (scope : Scope) where
     (λ e. (None, [], refl, (nothing_more filter (done ++ test_of name None ∷ [])).1 e)),
   )
     where
-      from : (p : Option Predicate) (mid : List Token) → TakesPredicate scope deepest [] p mid
+      from : (p : Option Predicate) (mid : List FilterToken) → TakesPredicate scope deepest [] p mid
           → MoreTests scope filter (done ++ test_of name p ∷ []) mid
           → filter ≡ record { tests = done ++ test_of name None ∷ [] }
       from None mid e rest =
@@ -63,7 +63,7 @@ module _ (scope : Scope) where
       from [] e is = (λ i. record { tests = is i })
       from (test ∷ tests) (mid, takes, others) is = let e : [] ≡ takes.head ∷ takes.after = takes.tokens_are in cc
 
-  no_factor : (m : ℕ) (p : Predicate) (mid : List Token) → TakesFactor scope m [] p mid → ⊥
+  no_factor : (m : ℕ) (p : Predicate) (mid : List FilterToken) → TakesFactor scope m [] p mid → ⊥
   no_factor zero p mid (inl a) = let e : [] ≡ At ∷ _ = a.tokens_are in cc
   no_factor zero p mid (inr ch) = let e : [] ≡ Name ch.written ∷ _ = ch.tokens_are in cc
   no_factor (suc m) p mid (inl (inl a)) = let e : [] ≡ At ∷ _ = a.tokens_are in cc
@@ -78,33 +78,34 @@ module _ (scope : Scope) where
   no_end : (n : ℕ) (filter : Filter) (c : Context) → AfterFactor scope filter n c [] → ⊥
   no_end n filter c m = from m.more_ands m.more_ors m.mid m.rest m.takes_ands m.takes_ors m.followed
     where
-      inner : (os : List Predicate) (mid rest : List Token) → [] ≡ mid → TakesMore or_word (TakesAnds (TakesFactor scope n)) mid os rest
+      inner : (os : List Predicate) (mid rest : List FilterToken) → [] ≡ mid
+          → TakesMore or_word (TakesAnds (TakesFactor scope n)) mid os rest
           → (p : Predicate) → Closes scope filter c.tests c.name n c.outer p rest → ⊥
       inner [] mid rest e f p close =
           no_close filter c.tests c.name n c.outer p (subst (Closes scope filter c.tests c.name n c.outer p) (sym (e ∙ f)) close)
       inner (o ∷ os) mid rest e (after, m, f, takes, others) p close = let wrong : [] ≡ or_word ∷ after = e ∙ f in cc
 
-      from : (as' os : List Predicate) (mid rest : List Token) → TakesMore and_word (TakesFactor scope n) [] as' mid
+      from : (as' os : List Predicate) (mid rest : List FilterToken) → TakesMore and_word (TakesFactor scope n) [] as' mid
           → TakesMore or_word (TakesAnds (TakesFactor scope n)) mid os rest
           → Closes scope filter c.tests c.name n c.outer (join_parts Or (c.ors ++ (join_parts And (c.ands ++ as') ∷ os))) rest → ⊥
       from [] os mid rest e takes_ors close = inner os mid rest e takes_ors _ close
       from (a ∷ as') os mid rest (after, m, e, takes, others) takes_ors close = cc
 
-  pub ends : (n : ℕ) (w : Where) → EndsAt n w (filter_at w)
+  pub ends : (n : ℕ) (w : FilterState) → EndsAt n w (filter_at w)
   ends n Start = nothing_started
   ends n (TestDue done) = λ filter goes. no_test filter done goes
   ends n (Named done name) = λ filter. nothing_named filter done name
   ends n (Tested done) = λ filter. nothing_more filter done
   ends n (FactorDue c) = λ filter goes. no_factor n goes.0 goes.1 goes.2
-  ends n (LocalDue c) = λ filter goes. let e : [] ≡ Name (bare_name goes.0) ∷ goes.1 = goes.2 in cc
+  ends n (LocalDue c) = λ filter goes. let e : [] ≡ Name (unprefixed_name goes.0) ∷ goes.1 = goes.2 in cc
   ends n (EqualsDue c a) = λ filter goes. let e : [] ≡ EqualsSign ∷ goes.0 = goes.1 in cc
   ends n (LiteralDue c a) = λ filter goes. let e : [] ≡ Literal goes.0 ∷ goes.1 = goes.2 in cc
   ends n (FactorDone c) = λ filter goes. no_end n filter c goes
 
   -- (2) some filter goes on
 
-  abbrev SomeFilter : (Filter → List Token → Type 0) → Type 0
-  SomeFilter Goes = (filter : Filter) × (ts : List Token) × Goes filter ts
+  abbrev SomeFilter : (Filter → List FilterToken → Type 0) → Type 0
+  SomeFilter Goes = (filter : Filter) × (ts : List FilterToken) × Goes filter ts
 
   closable : (tests : List Test) (name : Option element.Name) (n : ℕ) (outer : List OuterPart) (p : Predicate)
       → SomeFilter (λ filter ts. Closes scope filter tests name n outer p ts)
@@ -131,7 +132,7 @@ module _ (scope : Scope) where
   equals : (n : ℕ) (c : Context) (a : Operand) → SomeFilter (λ filter ts. GoesOn scope filter n (EqualsDue c a) ts)
   equals n c a = let f = literal n c a in (f.0, EqualsSign ∷ f.1, (f.1, refl, f.2))
 
-  attribute_first : (n : ℕ) (ts mid : List Token) → ts ≡ At ∷ (Name (bare_name []) ∷ (EqualsSign ∷ (Literal [] ∷ mid)))
+  attribute_first : (n : ℕ) (ts mid : List FilterToken) → ts ≡ At ∷ (Name (unprefixed_name []) ∷ (EqualsSign ∷ (Literal [] ∷ mid)))
       → TakesFactor scope n ts (Attr [] []) mid
   attribute_first zero ts mid e = inl (record { local = []; value = []; tokens_are = e; means = refl })
   attribute_first (suc n) ts mid e = inl (inl (record { local = []; value = []; tokens_are = e; means = refl }))
@@ -148,7 +149,7 @@ module _ (scope : Scope) where
     ),
   )
 
-  pub goes_on : (n : ℕ) (w : Where) → SomeFilter (λ filter ts. GoesOn scope filter n w ts)
+  pub goes_on : (n : ℕ) (w : FilterState) → SomeFilter (λ filter ts. GoesOn scope filter n w ts)
   goes_on n Start = (record { tests = [] }, [], refl)
   goes_on n (TestDue done) = test_first done
   goes_on n (Named done name) = (
@@ -159,9 +160,9 @@ module _ (scope : Scope) where
   goes_on n (Tested done) = (record { tests = done }, [], ([], refl, sym (append-nil done)))
   goes_on n (FactorDue c) =
       let f = after_factor n (with_factor c (Attr [] [])) in
-      (f.0, At ∷ (Name (bare_name []) ∷ (EqualsSign ∷ (Literal [] ∷ f.1))), (Attr [] [], f.1, attribute_first n _ f.1 refl, f.2))
+      (f.0, At ∷ (Name (unprefixed_name []) ∷ (EqualsSign ∷ (Literal [] ∷ f.1))), (Attr [] [], f.1, attribute_first n _ f.1 refl, f.2))
   goes_on n (LocalDue c) =
-      let f = equals n c (operand.Attribute []) in (f.0, Name (bare_name []) ∷ f.1, ([], f.1, refl, f.2))
+      let f = equals n c (operand.Attribute []) in (f.0, Name (unprefixed_name []) ∷ f.1, ([], f.1, refl, f.2))
   goes_on n (EqualsDue c a) = equals n c a
   goes_on n (LiteralDue c a) = literal n c a
   goes_on n (FactorDone c) = after_factor n c

@@ -5,21 +5,21 @@
 -- (5) what is known of the tokens of a text: a name's local part is a name part, and a literal has no quote of one kind.
 use Rattle.std.proofs.Common.{◌≡◌, ℕ, Bool, true, false, List, [], ◌∷◌, ◌++◌, refl, ap, sym, ◌∙◌, subst, arith, ◌<◌, Some, None, append_assoc}
 use Rattle.std.specs.Prelude.{◌==◌, if◌then◌else◌, IsUtf8, chars, codes, encode_utf8_all}
-use Rattle.std.specs.Str.{all_scalars}
+use Rattle.std.specs.Str.{all_scalars, byte}
 use Rattle.std.proofs.lemmas.Str.{IsUtf8-append, IsUtf8-nil, chars-append, chars-nil, chars_from_encodes, encode_ascii}
 use Rattle.ifmap_lemmas.specs.Cuts.{Stops}
 use Rattle.ifmap_lemmas.specs.Items.{To}
 use Rattle.ifmap_lemmas.specs.Members.{all_of_test}
 use Rattle.ifmap_lemmas.specs.Numbers.{is_other}
 use Rattle.ifmap_lemmas.specs.Texts.{ascii_encoded, is_ascii}
-use Rattle.ifmap_elem.specs.Chars.{AllAre, colon, double_quote, is_white, single_quote, space_character}
+use Rattle.ifmap_elem.specs.Chars.{AllAre, colon, double_quote, is_white, single_quote, space_character, carriage_return, equals_sign, line_feed, tab}
 use Rattle.ifmap_elem.specs.Names.{is_name_character, is_name_start}
-use Rattle.ifmap_filter.specs.declared.tokens.Token.{Token}
-use Rattle.ifmap_filter.specs.declared.tokens.Token.TheVariants.{Any, OpenBracket, CloseBracket, OpenParenthesis, CloseParenthesis, EqualsSign, At, Name}
-use Rattle.ifmap_filter.specs.Grammar.{and_word, bare_name, or_word}
+use Rattle.ifmap_filter.specs.declared.tokens.FilterToken.{FilterToken}
+use Rattle.ifmap_filter.specs.declared.tokens.FilterToken.TheVariants.{Any, OpenBracket, CloseBracket, OpenParenthesis, CloseParenthesis, EqualsSign, At, Name}
+use Rattle.ifmap_filter.specs.Grammar.{and_word, unprefixed_name, or_word}
 use Rattle.ifmap_filter.specs.Tokens.{Takes, after_while, front_while, name_from, name_token, part_bytes, prefixed_name_at, symbol_of, front_token, token_at, without_white}
 use Rattle.ifmap_filter.proofs.TokenLaws.{named, one_symbol}
-use Rattle.ifmap_lexer.specs.There.{is_quote}
+use Rattle.ifmap_prefixes.specs.ifmap_lexer.There.{is_quote}
 
 -- a name ends here
 abbrev pub Ends : List ℕ → Type 0
@@ -27,7 +27,7 @@ Ends [] = Unit {0}
 Ends (c ∷ cs) = (is_name_character c ≡ false) × ((c == colon) ≡ false)
 
 -- the text's characters are these tokens, whatever stands after them at which a name ends
-pub record Lexes (text : List ℕ) (ts : List Token) : Type 0 where
+pub record Lexes (text : List ℕ) (ts : List FilterToken) : Type 0 where
   pub is_text : IsUtf8 text
   pub to : (cs : List ℕ) → Ends cs → To Takes (chars text ++ cs) ts cs
 
@@ -37,11 +37,11 @@ EndsName text = (cs : List ℕ) → Ends cs → Ends (chars text ++ cs)
 
 -- (1) texts in a row
 
-to_both : (bs mid end : List ℕ) (xs ys : List Token) → To Takes bs xs mid → To Takes mid ys end → To Takes bs (xs ++ ys) end
+to_both : (bs mid end : List ℕ) (xs ys : List FilterToken) → To Takes bs xs mid → To Takes mid ys end → To Takes bs (xs ++ ys) end
 to_both bs mid end [] ys l m = subst (λ b. To Takes b ys end) (sym l) m
 to_both bs mid end (x ∷ xs) ys l m = (l.0, l.1, to_both l.0 mid end xs ys l.2 m)
 
-pub both : (a b : List ℕ) (s t : List Token) → Lexes a s → Lexes b t → EndsName b → Lexes (a ++ b) (s ++ t)
+pub both : (a b : List ℕ) (s t : List FilterToken) → Lexes a s → Lexes b t → EndsName b → Lexes (a ++ b) (s ++ t)
 both a b s t l m ends = record {
   is_text = IsUtf8-append a b l.is_text m.is_text;
   to = λ cs e. subst (λ x. To Takes x (s ++ t) cs) (sym
@@ -79,7 +79,7 @@ module _ (c : ℕ) (is : IsOne c) where
   one_ends no_character no_colon text cs e = subst Ends (sym (ap (λ x. x ++ cs) (one_first text))) (no_character, no_colon)
 
 -- a character that is a token
-pub record IsSymbol (c : ℕ) (t : Token) : Type 0 where
+pub record IsSymbol (c : ℕ) (t : FilterToken) : Type 0 where
   pub one : IsOne c
   pub no_quote : is_quote c ≡ false
   pub no_start : is_name_start c ≡ false
@@ -91,11 +91,11 @@ pub record IsSymbol (c : ℕ) (t : Token) : Type 0 where
 pub not_white : (c : ℕ) (cs : List ℕ) → is_white c ≡ false → without_white (c ∷ cs) ≡ c ∷ cs
 not_white c cs e = rw e refl
 
-module _ (c : ℕ) (t : Token) (s : IsSymbol c t) where
+module _ (c : ℕ) (t : FilterToken) (s : IsSymbol c t) where
   symbol_takes : (more : List ℕ) → Takes (c ∷ more) t more
   symbol_takes more = ap token_at (not_white c more s.no_white) ∙ one_symbol (c ∷ more) c more refl s.no_quote s.no_start t s.is
 
-  pub before : (text : List ℕ) (ts : List Token) → Lexes text ts → Lexes (c ∷ text) (t ∷ ts)
+  pub before : (text : List ℕ) (ts : List FilterToken) → Lexes text ts → Lexes (c ∷ text) (t ∷ ts)
   before text ts l = record {
     is_text = after_one c s.one text l.is_text;
     to = λ cs e. subst (λ x. To Takes x (t ∷ ts) cs) (sym (ap (λ x. x ++ cs) (one_first c s.one text)))
@@ -111,89 +111,38 @@ module _ (c : ℕ) (t : Token) (s : IsSymbol c t) where
 pub one_of : (c : ℕ) → all_scalars (c ∷ []) ≡ true → c < 128 → IsOne c
 one_of c a low = record { scalar = a; one = ap (λ l. l ++ []) (encode_ascii c low) }
 
-pub any_is : IsSymbol 0x2A Any
-any_is =
-    record {
-      one = one_of 0x2A refl (omega arith);
-      no_quote = refl;
-      no_start = refl;
-      no_character = refl;
-      no_colon = refl;
-      no_white = refl;
-      is = refl;
-    }
+symbol_from : (c : ℕ) (t : FilterToken) → c < 128 → all_scalars (c ∷ []) ≡ true → is_quote c ≡ false → is_name_start c ≡ false
+    → is_name_character c ≡ false → (c == colon) ≡ false → is_white c ≡ false → symbol_of c ≡ Some t → IsSymbol c t
+symbol_from c t low scalar no_quote no_start no_character no_colon no_white is = record {
+  one = one_of c scalar low;
+  no_quote = no_quote;
+  no_start = no_start;
+  no_character = no_character;
+  no_colon = no_colon;
+  no_white = no_white;
+  is = is;
+}
 
-pub open_bracket_is : IsSymbol 0x5B OpenBracket
-open_bracket_is =
-    record {
-      one = one_of 0x5B refl (omega arith);
-      no_quote = refl;
-      no_start = refl;
-      no_character = refl;
-      no_colon = refl;
-      no_white = refl;
-      is = refl;
-    }
+pub any_is : IsSymbol (byte "*") Any
+any_is = symbol_from (byte "*") Any (omega arith) refl refl refl refl refl refl refl
 
-pub close_bracket_is : IsSymbol 0x5D CloseBracket
-close_bracket_is =
-    record {
-      one = one_of 0x5D refl (omega arith);
-      no_quote = refl;
-      no_start = refl;
-      no_character = refl;
-      no_colon = refl;
-      no_white = refl;
-      is = refl;
-    }
+pub open_bracket_is : IsSymbol (byte "[") OpenBracket
+open_bracket_is = symbol_from (byte "[") OpenBracket (omega arith) refl refl refl refl refl refl refl
 
-pub open_is : IsSymbol 0x28 OpenParenthesis
-open_is =
-    record {
-      one = one_of 0x28 refl (omega arith);
-      no_quote = refl;
-      no_start = refl;
-      no_character = refl;
-      no_colon = refl;
-      no_white = refl;
-      is = refl;
-    }
+pub close_bracket_is : IsSymbol (byte "]") CloseBracket
+close_bracket_is = symbol_from (byte "]") CloseBracket (omega arith) refl refl refl refl refl refl refl
 
-pub close_is : IsSymbol 0x29 CloseParenthesis
-close_is =
-    record {
-      one = one_of 0x29 refl (omega arith);
-      no_quote = refl;
-      no_start = refl;
-      no_character = refl;
-      no_colon = refl;
-      no_white = refl;
-      is = refl;
-    }
+pub open_is : IsSymbol (byte "(") OpenParenthesis
+open_is = symbol_from (byte "(") OpenParenthesis (omega arith) refl refl refl refl refl refl refl
 
-pub equals_is : IsSymbol 0x3D EqualsSign
-equals_is =
-    record {
-      one = one_of 0x3D refl (omega arith);
-      no_quote = refl;
-      no_start = refl;
-      no_character = refl;
-      no_colon = refl;
-      no_white = refl;
-      is = refl;
-    }
+pub close_is : IsSymbol (byte ")") CloseParenthesis
+close_is = symbol_from (byte ")") CloseParenthesis (omega arith) refl refl refl refl refl refl refl
 
-pub at_is : IsSymbol 0x40 At
-at_is =
-    record {
-      one = one_of 0x40 refl (omega arith);
-      no_quote = refl;
-      no_start = refl;
-      no_character = refl;
-      no_colon = refl;
-      no_white = refl;
-      is = refl;
-    }
+pub equals_is : IsSymbol equals_sign EqualsSign
+equals_is = symbol_from equals_sign EqualsSign (omega arith) refl refl refl refl refl refl refl
+
+pub at_is : IsSymbol (byte "@") At
+at_is = symbol_from (byte "@") At (omega arith) refl refl refl refl refl refl refl
 
 white_is : IsOne space_character
 white_is = one_of space_character refl (omega arith)
@@ -201,7 +150,7 @@ white_is = one_of space_character refl (omega arith)
 pub white_ends : (text : List ℕ) → EndsName (space_character ∷ text)
 white_ends = one_ends space_character white_is refl refl
 
-pub spaced : (text : List ℕ) (t : Token) (ts : List Token) → Lexes text (t ∷ ts) → Lexes (space_character ∷ text) (t ∷ ts)
+pub spaced : (text : List ℕ) (t : FilterToken) (ts : List FilterToken) → Lexes text (t ∷ ts) → Lexes (space_character ∷ text) (t ∷ ts)
 spaced text t ts l = record {
   is_text = after_one space_character white_is text l.is_text;
   to = λ cs e. subst (λ x. To Takes x (t ∷ ts) cs) (sym (ap (λ x. x ++ cs) (one_first space_character white_is text))) (l.to cs e);
@@ -234,7 +183,8 @@ start_is_other c n off on = is_other c n (λ e. let wrong : false ≡ true = sym
 
 start_no_white : (c : ℕ) → is_name_start c ≡ true → is_white c ≡ false
 start_no_white c h =
-    rw (start_is_other c 0x20 refl h, start_is_other c 0x9 refl h, start_is_other c 0xD refl h, start_is_other c 0xA refl h) refl
+    let other : (d : ℕ) → is_name_start d ≡ false → (c == d) ≡ false = λ d n. start_is_other c d n h in
+    rw (other space_character refl, other tab refl, other carriage_return refl, other line_feed refl) refl
 
 start_no_quote : (c : ℕ) → is_name_start c ≡ true → is_quote c ≡ false
 start_no_quote c h = rw (start_is_other c double_quote refl h, start_is_other c single_quote refl h) refl
@@ -243,7 +193,7 @@ stops_at_end : (cs : List ℕ) → Ends cs → Stops is_name_character cs
 stops_at_end [] e = tt
 stops_at_end (c ∷ cs) e = e.0
 
-from_end : (part cs : List ℕ) → Ends cs → name_from part cs ≡ Some (front_token (Name (bare_name part)) cs)
+from_end : (part cs : List ℕ) → Ends cs → name_from part cs ≡ Some (front_token (Name (unprefixed_name part)) cs)
 from_end part [] e = refl
 from_end part (c ∷ cs) e = rw (e.1) refl
 
@@ -268,10 +218,10 @@ module _ (bytes : List ℕ) (p : IsPart bytes) where
       ∙ named (p.first ∷ (p.others ++ rest)) p.first (p.others ++ rest) refl (start_no_quote p.first p.begins) p.begins
       ∙ (λ i. name_from (part_front rest s i) (part_after rest s i))
 
-  pub lexed_bare : Lexes bytes (Name (bare_name bytes) ∷ [])
+  pub lexed_bare : Lexes bytes (Name (unprefixed_name bytes) ∷ [])
   lexed_bare = record {
     is_text = part_text;
-    to = λ cs e. subst (λ x. To Takes x (Name (bare_name bytes) ∷ []) cs) (sym (ap (λ x. x ++ cs) part_chars))
+    to = λ cs e. subst (λ x. To Takes x (Name (unprefixed_name bytes) ∷ []) cs) (sym (ap (λ x. x ++ cs) part_chars))
         (cs, part_token cs (stops_at_end cs e) ∙ from_end bytes cs e, refl);
   }
 
@@ -309,8 +259,8 @@ module _ (prefix local : List ℕ) (p : IsPart prefix) (q : IsPart local) where
 
 pub or_part : IsPart (codes "or")
 or_part = record {
-  first = 0x6F;
-  others = 0x72 ∷ [];
+  first = byte "o";
+  others = codes "r";
   scalars = refl;
   bytes_are = ascii_encoded (codes "or") (all_of_test is_ascii (codes "or") refl);
   begins = refl;
@@ -319,8 +269,8 @@ or_part = record {
 
 pub and_part : IsPart (codes "and")
 and_part = record {
-  first = 0x61;
-  others = 0x6E ∷ (0x64 ∷ []);
+  first = byte "a";
+  others = codes "nd";
   scalars = refl;
   bytes_are = ascii_encoded (codes "and") (all_of_test is_ascii (codes "and") refl);
   begins = refl;
@@ -328,15 +278,16 @@ and_part = record {
 }
 
 -- a word between white space, which stands before further tokens
-pub record IsWord (word : List ℕ) (t : Token) : Type 0 where
-  pub stands : (text : List ℕ) (head : Token) (ts : List Token) → Lexes text (head ∷ ts) → Lexes (word ++ text) (t ∷ (head ∷ ts))
+pub record IsWord (word : List ℕ) (t : FilterToken) : Type 0 where
+  pub stands : (text : List ℕ) (head : FilterToken) (ts : List FilterToken) → Lexes text (head ∷ ts)
+      → Lexes (word ++ text) (t ∷ (head ∷ ts))
   pub ends : (text : List ℕ) → EndsName (word ++ text)
 
-word_stands : (part : List ℕ) → IsPart part → (text : List ℕ) (head : Token) (ts : List Token) → Lexes text (head ∷ ts)
-    → Lexes (space_character ∷ (part ++ (space_character ∷ text))) (Name (bare_name part) ∷ (head ∷ ts))
+word_stands : (part : List ℕ) → IsPart part → (text : List ℕ) (head : FilterToken) (ts : List FilterToken) → Lexes text (head ∷ ts)
+    → Lexes (space_character ∷ (part ++ (space_character ∷ text))) (Name (unprefixed_name part) ∷ (head ∷ ts))
 word_stands part p text head ts l =
-    spaced (part ++ (space_character ∷ text)) (Name (bare_name part)) (head ∷ ts)
-    (both part (space_character ∷ text) (Name (bare_name part) ∷ []) (head ∷ ts) (lexed_bare part p) (spaced text head ts l)
+    spaced (part ++ (space_character ∷ text)) (Name (unprefixed_name part)) (head ∷ ts)
+    (both part (space_character ∷ text) (Name (unprefixed_name part) ∷ []) (head ∷ ts) (lexed_bare part p) (spaced text head ts l)
     (white_ends text))
 
 pub or_is : IsWord (codes " or ") or_word

@@ -14,8 +14,8 @@ use Rattle.ifmap_lemmas.specs.Items.{To}
 use Rattle.ifmap_lemmas.specs.Cuts.{Stops}
 use Rattle.ifmap_elem.specs.Chars.{AllAre, colon, double_quote, equals_sign, is_white, single_quote}
 use Rattle.ifmap_elem.specs.Names.{is_name_character, is_name_start}
-use Rattle.ifmap_filter.specs.declared.tokens.Token.{Token}
-use Rattle.ifmap_filter.specs.declared.tokens.Token.TheVariants.{Any, OpenBracket, CloseBracket, OpenParenthesis, CloseParenthesis, EqualsSign, At, Name, Literal}
+use Rattle.ifmap_filter.specs.declared.tokens.FilterToken.{FilterToken}
+use Rattle.ifmap_filter.specs.declared.tokens.FilterToken.TheVariants.{Any, OpenBracket, CloseBracket, OpenParenthesis, CloseParenthesis, EqualsSign, At, Name, Literal}
 use Rattle.ifmap_filter.specs.Printing.{literal_text, quote_of}
 use Rattle.ifmap_filter.specs.Tokens.{FrontToken, Takes, after_while, closed_literal, front_while, literal_at, name_at, name_from, name_token, part_bytes, prefixed_name_at, symbol_of, front_token, token_at, with_symbol, without_white}
 use Rattle.ifmap_filter.proofs.CharLaws.{same_number}
@@ -23,8 +23,8 @@ use Rattle.ifmap_filter.proofs.Lexed.{IsOne, IsPart, Lexes, after_all, after_one
 use Rattle.ifmap_filter.proofs.Reaching.{after_is, token_later, white_after}
 use Rattle.ifmap_filter.proofs.TokenLaws.{quoted}
 use Rattle.ifmap_elem.specs.laws.NameBytes.{starts_are_characters}
-use Rattle.ifmap_lexer.specs.Cutting.{is_but}
-use Rattle.ifmap_lexer.specs.There.{is_quote}
+use Rattle.ifmap_prefixes.specs.ifmap_lexer.Cutting.{is_but}
+use Rattle.ifmap_prefixes.specs.ifmap_lexer.There.{is_quote}
 
 -- (1) quotes in bytes and characters
 
@@ -188,12 +188,12 @@ lexed_literal value l = elim (cases_Bool (list_any (λ b. b == single_quote) val
 
 -- (3) the tokens of a text
 
-abbrev pub IsToken : Token → Type 0
+abbrev pub IsToken : FilterToken → Type 0
 IsToken (Name q) = IsPart q.local
 IsToken (Literal value) = IsLiteral value
 IsToken _ = Unit {0}
 
-abbrev pub AreTokens : List Token → Type 0
+abbrev pub AreTokens : List FilterToken → Type 0
 AreTokens [] = Unit {0}
 AreTokens (t ∷ ts) = IsToken t × AreTokens ts
 
@@ -230,21 +230,22 @@ part_front_is c cs u starts =
       goes_on = subst (AllAre is_name_character) front (all_front is_name_character (c ∷ cs));
     }
 
-plain_if : (b : Bool) (o : Option Token) (one : Token) → IsToken one → ((s : Token) → o ≡ Some s → IsToken s) → (s : Token)
+plain_if : (b : Bool) (o : Option FilterToken) (one : FilterToken) → IsToken one → ((s : FilterToken) → o ≡ Some s → IsToken s)
+    → (s : FilterToken)
     → (if b then Some one else o) ≡ Some s → IsToken s
 plain_if true o one is others s e = let same : one ≡ s = cc in subst IsToken same is
 plain_if false o one is others s e = others s e
 
-plain_symbol : (c : ℕ) (s : Token) → symbol_of c ≡ Some s → IsToken s
+plain_symbol : (c : ℕ) (s : FilterToken) → symbol_of c ≡ Some s → IsToken s
 plain_symbol c =
     plain_if (c == byte "*") _ Any tt (plain_if (c == byte "[") _ OpenBracket tt (plain_if (c == byte "]") _ CloseBracket tt
     (plain_if (c == byte "(") _ OpenParenthesis tt (plain_if (c == byte ")") _ CloseParenthesis tt
     (plain_if (c == equals_sign) _ EqualsSign tt (plain_if (c == byte "@") None At tt (λ s e. let wrong : None ≡ Some s = e in cc)))))))
 
-token_of : (t : Token) (rest : List ℕ) (k : FrontToken) → Some k ≡ Some (front_token t rest) → k.token ≡ t
+token_of : (t : FilterToken) (rest : List ℕ) (k : FrontToken) → Some k ≡ Some (front_token t rest) → k.token ≡ t
 token_of t rest k e = let same : k ≡ front_token t rest = cc in ap (λ (x : FrontToken). x.token) same
 
-module _ (t : Token) (rest : List ℕ) where
+module _ (t : FilterToken) (rest : List ℕ) where
   prefixed_is : (prefix cs : List ℕ) → all_scalars cs ≡ true → prefixed_name_at prefix cs ≡ Some (front_token t rest) → IsToken t
   prefixed_is prefix [] u e = cc
   prefixed_is prefix (c ∷ cs) u e = by (is_name_start c) refl e
@@ -288,7 +289,7 @@ module _ (t : Token) (rest : List ℕ) where
   symbol_is : (c : ℕ) (cs : List ℕ) → with_symbol cs (symbol_of c) ≡ Some (front_token t rest) → IsToken t
   symbol_is c cs e = by (symbol_of c) refl e
     where
-      by : (o : Option Token) → symbol_of c ≡ o → with_symbol cs o ≡ Some (front_token t rest) → IsToken t
+      by : (o : Option FilterToken) → symbol_of c ≡ o → with_symbol cs o ≡ Some (front_token t rest) → IsToken t
       by None is f = cc
       by (Some s) is f = subst IsToken (token_of t rest _ f) (plain_symbol c s is)
 
@@ -310,7 +311,7 @@ module _ (t : Token) (rest : List ℕ) where
       by true kind f = literal_is c cs kind (scalars_rest (c ∷ []) cs u) f
       by false kind f = by_name (is_name_start c) refl f
 
-pub are_tokens : (cs : List ℕ) (ts : List Token) (rest : List ℕ) → all_scalars cs ≡ true → To Takes cs ts rest → AreTokens ts
+pub are_tokens : (cs : List ℕ) (ts : List FilterToken) (rest : List ℕ) → all_scalars cs ≡ true → To Takes cs ts rest → AreTokens ts
 are_tokens cs [] rest u l = tt
 are_tokens cs (t ∷ ts) rest u l =
     let white = white_after cs in

@@ -3,14 +3,14 @@ use Rattle.std.proofs.Common.{◌≡◌, ◌≢◌, ℕ, ◌-◌, ◌<◌, ◌�
 use Rattle.std.specs.Prelude.{◌==◌, true, false, IsUtf8, chars, encode_utf8_all, Result, Ok, Err}
 use Rattle.std.proofs.lemmas.Bool.Decides.{Decides-eqb}
 use Rattle.std.proofs.lemmas.Str.{encodes-chars}
-use Rattle.ifmap_reader.specs.declared.scoping.Scope.{Scope}
+use Rattle.ifmap_prefixes.specs.ifmap_reader.declared.scoping.Scope.{Scope}
 use Rattle.ifmap_filter.specs.declared.errors.FilterError.{FilterError}
 use Rattle.ifmap_filter.specs.declared.errors.FilterError.TheVariants.{NotAFilter, NoMemory}
 use Rattle.ifmap_filter.specs.declared.filters.Filter.{Filter}
-use Rattle.ifmap_filter.specs.declared.tokens.Token.{Token}
-use Rattle.ifmap_filter.specs.Progress.{Where, Start}
+use Rattle.ifmap_filter.specs.declared.tokens.FilterToken.{FilterToken}
+use Rattle.ifmap_filter.specs.Progress.{FilterState, Start}
 use Rattle.ifmap_filter.specs.Reaching.{IsEndAnswer, IsRefused, ReachesWhite, StepsOn}
-use Rattle.ifmap_filter.specs.Texts.{IsParsed, StopsAt, offset}
+use Rattle.ifmap_filter.specs.Texts.{IsParsed, StopsAt, token_offset}
 use Rattle.ifmap_filter.specs.Tokens.{Takes, front_token, token_at, without_white}
 use Rattle.ifmap_filter.proofs.CharLaws.{no_characters}
 use Rattle.ifmap_filter.proofs.Reaching.{after_bytes, at_start, later_bytes, next_place, stops_at_end, stops_at_token, stops_where_none, token_later, white_after, whole_text}
@@ -26,7 +26,7 @@ left_length after left v e =
     (λ cs. length (encode_utf8_all cs)) (sym e) in
     omega (arith, bound, same, byte_length left v)
 
-pub shorter : (scope : Scope) (w next : Where) (rest left : List ℕ) → IsUtf8 rest → StepsOn scope w rest next left
+pub shorter : (scope : Scope) (w next : FilterState) (rest left : List ℕ) → IsUtf8 rest → StepsOn scope w rest next left
     → length left < length rest
 shorter scope w next rest left u s =
     let less = later_bytes (chars rest) s.after (token_later s.token s.after (chars rest) s.is_there) in
@@ -44,14 +44,14 @@ module _ (text : List ℕ) (scope : Scope) (u : IsUtf8 text) where
     within = (let l = left_length (chars text) rest v e in omega (arith, l, byte_length text u));
   }
 
-  module _ (w : Where) (rest : List ℕ) (v : IsUtf8 rest) (r : ReachesWhite text scope w rest) where
-    place : length text - length rest ≡ offset text r.cs
+  module _ (w : FilterState) (rest : List ℕ) (v : IsUtf8 rest) (r : ReachesWhite text scope w rest) where
+    place : length text - length rest ≡ token_offset text r.cs
     place = ap (λ n. length text - n) (sym (byte_length rest v) ∙ ap (λ cs. length (encode_utf8_all cs)) r.rest_is)
 
-    takes : (t : Token) (after : List ℕ) → token_at (chars rest) ≡ Some (front_token t after) → Takes r.cs t after
+    takes : (t : FilterToken) (after : List ℕ) → token_at (chars rest) ≡ Some (front_token t after) → Takes r.cs t after
     takes t after e = ap token_at (sym r.rest_is) ∙ e
 
-    pub go_on : (next : Where) (left : List ℕ) → StepsOn scope w rest next left → ReachesWhite text scope next left
+    pub go_on : (next : FilterState) (left : List ℕ) → StepsOn scope w rest next left → ReachesWhite text scope next left
     go_on next left s = record {
       cs = s.after;
       reached = next_place text scope w r.cs r.reached s.token s.after (takes s.token s.after s.is_there) next s.steps;
@@ -77,7 +77,7 @@ module _ (text : List ℕ) (scope : Scope) (u : IsUtf8 text) where
     ended none at is (Ok filter) whole_is = whole_text text scope w r.cs r.reached (end none) filter whole_is
     ended none at is (Err NoMemory) answer = tt
     ended none at is (Err (NotAFilter found)) (same, no_filter) =
-        let there : at ≡ offset text r.cs = (let p = place in omega (arith, p, none, is)) in
+        let there : at ≡ token_offset text r.cs = (let p = place in omega (arith, p, none, is)) in
         subst (StopsAt text scope) (sym (same ∙ there)) (stops_at_end text scope w r.cs r.reached (end none) no_filter)
 
 pub none_left : (rest : List ℕ) → (length rest == 0) ≡ true → length rest ≡ 0

@@ -18,29 +18,30 @@ use Rattle.ifmap_filter.specs.declared.filters.Predicate.TheVariants.{rolls-Attr
 use Rattle.ifmap_filter.specs.declared.filters.Predicate.TheOpen.{Predicate-F}
 use Rattle.ifmap_filter.specs.declared.printing.Around.{Around}
 use Rattle.ifmap_filter.specs.declared.printing.Around.TheVariants.{Brackets, Ands, Ors}
-use Rattle.ifmap_filter.specs.Printing.{PredicateText, ands_text, attribute_text, child_text, comparison_text, joined_texts, numbered_prefix, ors_text, has_single_quote, name_text, parts_text, place_of, predicate_text, predicate_text_of, quote_of, text_in}
+use Rattle.ifmap_filter.specs.Printing.{PredicateText, ands_text, attribute_text, child_text, comparison_text, joined_texts, numbered_prefix, ors_text, has_single_quote, name_text, parts_text, space_place, predicate_text, predicate_text_of, quote_of, text_in}
 
 module _ (space : List ℕ) (spaces : List (List ℕ)) (i : ℕ) (other : List ℕ) (here : i < length spaces)
     (is : other ≡ get_or spaces i other) where
-  left : place_of space (drop i spaces) ≡ cond (not (bytes_eq other space)) (1 + place_of space (drop (i + 1) spaces)) 0
+  left : space_place space (drop i spaces) ≡ cond (not (bytes_eq other space)) (1 + space_place space (drop (i + 1) spaces)) 0
   left =
-      ap (place_of space) (drop-cons spaces i other here) ∙ ap (λ o. place_of space (o ∷ drop (suc i) spaces)) (sym is)
-      ∙ ap (λ k. cond (not (bytes_eq other space)) (1 + place_of space (drop k spaces)) 0) (sym (add-one i))
+      ap (space_place space) (drop-cons spaces i other here) ∙ ap (λ o. space_place space (o ∷ drop (suc i) spaces)) (sym is)
+      ∙ ap (λ k. cond (not (bytes_eq other space)) (1 + space_place space (drop k spaces)) 0) (sym (add-one i))
 
-  pub at_place : bytes_eq other space ≡ true → place_of space spaces ≡ i + place_of space (drop i spaces) → i ≡ place_of space spaces
-  at_place e was = let stop : place_of space (drop i spaces) ≡ 0 = left ∙ rw e refl in omega (arith, was, stop)
+  pub at_place : bytes_eq other space ≡ true → space_place space spaces ≡ i + space_place space (drop i spaces)
+      → i ≡ space_place space spaces
+  at_place e was = let stop : space_place space (drop i spaces) ≡ 0 = left ∙ rw e refl in omega (arith, was, stop)
 
-  pub past_place : bytes_eq other space ≡ false → place_of space spaces ≡ i + place_of space (drop i spaces)
-      → place_of space spaces ≡ (i + 1) + place_of space (drop (i + 1) spaces)
+  pub past_place : bytes_eq other space ≡ false → space_place space spaces ≡ i + space_place space (drop i spaces)
+      → space_place space spaces ≡ (i + 1) + space_place space (drop (i + 1) spaces)
   past_place e was =
-      let on : place_of space (drop i spaces) ≡ 1 + place_of space (drop (i + 1) spaces) = left ∙ rw e refl in omega (arith, was, on)
+      let on : space_place space (drop i spaces) ≡ 1 + space_place space (drop (i + 1) spaces) = left ∙ rw e refl in omega (arith, was, on)
 
 pub no_place : (space : List ℕ) (spaces : List (List ℕ)) (i : ℕ) → length spaces ≤ i → i ≤ length spaces
-    → place_of space spaces ≡ i + place_of space (drop i spaces) → length spaces ≡ place_of space spaces
+    → space_place space spaces ≡ i + space_place space (drop i spaces) → length spaces ≡ space_place space spaces
 no_place space spaces i past within was =
     let end : i ≡ length spaces = omega arith in
-    let none : place_of space (drop i spaces) ≡ 0 = ap (λ k. place_of space (drop k spaces)) end
-    ∙ ap (place_of space) (drop-length spaces) in
+    let none : space_place space (drop i spaces) ≡ 0 = ap (λ k. space_place space (drop k spaces)) end
+    ∙ ap (space_place space) (drop-length spaces) in
     omega (arith, was, none)
 
 -- words before all but the first
@@ -98,12 +99,12 @@ module _ (spaces : List (List ℕ)) (name : Name) (local : List ℕ) (P : List �
       by : codes "xml" ++ (colon ∷ name.local) ≡ name_text spaces name
       by = rw (some, is) refl
 
-  pub name_by_number : (place : ℕ) → bytes_eq name.space xml_space ≡ false → place ≡ place_of name.space spaces
+  pub name_by_number : (place : ℕ) → bytes_eq name.space xml_space ≡ false → place ≡ space_place name.space spaces
       → P (numbered_prefix (place + 1) ++ (colon ∷ local)) → P (name_text spaces name)
   name_by_number place other at h =
       subst P ((λ i. numbered_prefix (at i + 1) ++ (colon ∷ own i)) ∙ by) h
     where
-      by : numbered_prefix (place_of name.space spaces + 1) ++ (colon ∷ name.local) ≡ name_text spaces name
+      by : numbered_prefix (space_place name.space spaces + 1) ++ (colon ∷ name.local) ≡ name_text spaces name
       by = rw (some, other) refl
 
 -- what is printed of a predicate, by what it is

@@ -7,7 +7,7 @@ use Rattle.std.proofs.Common.{◌≡◌, ◌≢◌, ℕ, ◌+◌, zero, suc, Boo
 use Rattle.std.specs.Prelude.{◌||◌, ◌⊎◌, chars, codes, Ok, Err}
 use Rattle.std.specs.List.{flat_map, list_all, list_any}
 use Rattle.std.specs.Map.{lookup}
-use Rattle.std.specs.Str.{IsAscii, all_scalars, bytes_eq}
+use Rattle.std.specs.Str.{IsAscii, all_scalars, bytes_eq, byte}
 use Rattle.std.specs.Str.Parse.{AllDigits}
 use Rattle.std.proofs.lemmas.Bool.{and_parts, cases_Bool, false_from_ne_true}
 use Rattle.std.proofs.lemmas.List.{append-nil}
@@ -19,21 +19,21 @@ use Rattle.ifmap_lemmas.specs.Items.{To}
 use Rattle.ifmap_lemmas.specs.Numerals.{numeral, numeral_digits, one_number}
 use Rattle.ifmap_lemmas.specs.Members.{all_of_test}
 use Rattle.ifmap_lemmas.specs.Texts.{ascii_encoded, eq_itself, eq_tells, is_ascii, bytes_apart}
-use Rattle.ifmap_elem.specs.Chars.{colon}
+use Rattle.ifmap_elem.specs.Chars.{colon, equals_sign}
 use Rattle.ifmap_elem.specs.Names.{is_name_character}
 use Rattle.ifmap_elem.specs.Scopes.{xml_space}
 use Rattle.ifmap_elem.specs.declared.elements.Name as element
 use Rattle.ifmap_elem.specs.declared.tokens.Qualified.{Qualified}
-use Rattle.ifmap_reader.specs.declared.scoping.Scope.{Scope}
+use Rattle.ifmap_prefixes.specs.ifmap_reader.declared.scoping.Scope.{Scope}
 use Rattle.ifmap_filter.specs.declared.errors.FilterError.TheVariants.{NotAFilter, NoMemory}
 use Rattle.ifmap_filter.specs.declared.filters.Predicate.{Predicate, Attr, Child, And, Or}
 use Rattle.ifmap_filter.specs.declared.filters.Test.{Test}
 use Rattle.ifmap_filter.specs.declared.filters.Filter.{Filter}
-use Rattle.ifmap_filter.specs.declared.tokens.Token.{Token}
-use Rattle.ifmap_filter.specs.declared.tokens.Token.TheVariants.{Any, OpenBracket, CloseBracket, OpenParenthesis, CloseParenthesis, EqualsSign, At, Name, Literal}
+use Rattle.ifmap_filter.specs.declared.tokens.FilterToken.{FilterToken}
+use Rattle.ifmap_filter.specs.declared.tokens.FilterToken.TheVariants.{Any, OpenBracket, CloseBracket, OpenParenthesis, CloseParenthesis, EqualsSign, At, Name, Literal}
 use Rattle.ifmap_filter.specs.declared.printing.Around.TheVariants.{Ands, Ors}
-use Rattle.ifmap_filter.specs.Grammar.{AreTests, AsksFor, Rule, StandsFor, TakesAnds, TakesComparison, TakesFactor, TakesJoined, TakesMore, TakesOrPart, TakesOrs, TakesPredicate, TakesTest, and_word, bare_name, deepest, join_of, or_word}
-use Rattle.ifmap_filter.specs.Printing.{CanBeParsed, IsAnsweredBack, NestsNoDeeper, PredicateText, WritesBack, ands_text, attribute_text, brackets_text, child_text, comparison_text, filter_text, group_text, joined_texts, literal_text, name_text, numbered_prefix, numbered_rows, numbered_scope, ors_text, parts_text, place_of, predicate_text, test_name_text, test_text}
+use Rattle.ifmap_filter.specs.Grammar.{AreTests, AsksFor, Rule, StandsFor, TakesAnds, TakesComparison, TakesFactor, TakesJoined, TakesMore, TakesOrPart, TakesOrs, TakesPredicate, TakesTest, and_word, unprefixed_name, deepest, join_of, or_word}
+use Rattle.ifmap_filter.specs.Printing.{CanBeParsed, IsAnsweredBack, NestsNoDeeper, PredicateText, WritesBack, ands_text, attribute_text, brackets_text, child_text, comparison_text, filter_text, group_text, joined_texts, literal_text, name_text, numbered_prefix, numbered_rows, numbered_scope, ors_text, parts_text, space_place, predicate_text, test_name_text, test_text}
 use Rattle.ifmap_filter.specs.Spaces.{HasSpaces, brackets_spaces, has_each, has_space, name_spaces, predicate_spaces, test_spaces}
 use Rattle.ifmap_filter.specs.Texts.{WritesWithin}
 use Rattle.ifmap_filter.specs.Tokens.{Takes, name_token}
@@ -48,10 +48,10 @@ use Rattle.ifmap_elem.specs.laws.PrintedScopes.{digits_characters}
 
 -- the text is tokens, which the rule takes as that, whatever stands after them
 pub record Forms (X : Type 0) (R : Rule X) (text : List ℕ) (x : X) : Type 0 where
-  pub head : Token
-  pub others : List Token
+  pub head : FilterToken
+  pub others : List FilterToken
   pub lexed : Lexes text (head ∷ others)
-  pub takes : (rest : List Token) → R (head ∷ (others ++ rest)) x rest
+  pub takes : (rest : List FilterToken) → R (head ∷ (others ++ rest)) x rest
 
 abbrev Each : {X : Type 0} → (X → Type 0) → List X → Type 0
 Each P [] = Unit {0}
@@ -61,15 +61,15 @@ each_from : {X : Type 0} (P Q : X → Type 0) → ((x : X) → P x → Q x) → 
 each_from P Q leads [] h = tt
 each_from P Q leads (x ∷ xs) h = (leads x h.0, each_from P Q leads xs h.1)
 
-module _ (X : Type 0) (word : List ℕ) (wordy : Token) (is : IsWord word wordy) (Part : Rule X) (text : X → List ℕ) where
+module _ (X : Type 0) (word : List ℕ) (wordy : FilterToken) (is : IsWord word wordy) (Part : Rule X) (text : X → List ℕ) where
   abbrev more_text : List X → List ℕ
   more_text xs = flat_map (λ y. word ++ text y) xs
 
   record FormsMore (xs : List X) : Type 0 where
-    pub tokens : List Token
+    pub tokens : List FilterToken
     pub lexed : Lexes (more_text xs) tokens
     pub ends : EndsName (more_text xs)
-    pub takes : (rest : List Token) → TakesMore wordy Part (tokens ++ rest) xs rest
+    pub takes : (rest : List FilterToken) → TakesMore wordy Part (tokens ++ rest) xs rest
 
   more_ends : (x : X) (xs : List X) → EndsName (more_text (x ∷ xs))
   more_ends x xs =
@@ -96,10 +96,11 @@ module _ (X : Type 0) (word : List ℕ) (wordy : Token) (is : IsWord word wordy)
 
   -- the first and the others
   record FormsAll (x : X) (xs : List X) : Type 0 where
-    pub head : Token
-    pub others : List Token
+    pub head : FilterToken
+    pub others : List FilterToken
     pub lexed : Lexes (joined_texts word text (x ∷ xs)) (head ∷ others)
-    pub takes : (rest : List Token) → (mid : List Token) × Part (head ∷ (others ++ rest)) x mid × TakesMore wordy Part mid xs rest
+    pub takes : (rest : List FilterToken) → (mid : List FilterToken) × Part (head ∷ (others ++ rest)) x mid
+        × TakesMore wordy Part mid xs rest
 
   forms_all : (x : X) (xs : List X) → Forms X Part (text x) x → Each (λ x. Forms X Part (text x) x) xs → FormsAll x xs
   forms_all x xs f h =
@@ -115,7 +116,7 @@ module _ (X : Type 0) (word : List ℕ) (wordy : Token) (is : IsWord word wordy)
         );
       }
 
-module _ (join : List Predicate → Predicate) (wordy : Token) (Part : Rule Predicate) where
+module _ (join : List Predicate → Predicate) (wordy : FilterToken) (Part : Rule Predicate) where
   forms_one : (text : List ℕ) (p : Predicate) → Forms Predicate Part text p → Forms Predicate (TakesJoined join wordy Part) text p
   forms_one text p f = record {
     head = f.head;
@@ -137,7 +138,7 @@ module _ (join : List Predicate → Predicate) (wordy : Token) (Part : Rule Pred
             let t = all.takes rest in record { first = p; others = q ∷ ps; mid = t.0; one = t.1; more = t.2; means = refl };
       }
 
-forms_within : (X : Type 0) (R S : Rule X) → ((ts : List Token) (x : X) (rest : List Token) → R ts x rest → S ts x rest)
+forms_within : (X : Type 0) (R S : Rule X) → ((ts : List FilterToken) (x : X) (rest : List FilterToken) → R ts x rest → S ts x rest)
     → (text : List ℕ) (x : X)
     → Forms X R text x → Forms X S text x
 forms_within X R S leads text x f = record {
@@ -159,20 +160,20 @@ ascii_scalars bs f = subst (λ cs. all_scalars cs ≡ true) (chars-IsAscii bs f)
 prefix_part : (n : ℕ) → IsPart (numbered_prefix n)
 prefix_part n =
     let digits = numeral_digits n in
-    let low : IsAscii (0x66 ∷ numeral n) = IsAscii-cons 0x66 (numeral n) (omega arith) (digits_ascii (numeral n) digits) in
+    let low : IsAscii (byte "f" ∷ numeral n) = IsAscii-cons (byte "f") (numeral n) (omega arith) (digits_ascii (numeral n) digits) in
     record {
-      first = 0x66;
+      first = byte "f";
       others = numeral n;
-      scalars = ascii_scalars (0x66 ∷ numeral n) low;
-      bytes_are = encodes-IsAscii (0x66 ∷ numeral n) low;
+      scalars = ascii_scalars (byte "f" ∷ numeral n) low;
+      bytes_are = encodes-IsAscii (byte "f" ∷ numeral n) low;
       begins = refl;
       goes_on = (refl, digits_characters (numeral n) digits);
     }
 
 xml_part : IsPart (codes "xml")
 xml_part = record {
-  first = 0x78;
-  others = 0x6D ∷ (0x6C ∷ []);
+  first = byte "x";
+  others = codes "ml";
   scalars = refl;
   bytes_are = ascii_encoded (codes "xml") (all_of_test is_ascii (codes "xml") refl);
   begins = refl;
@@ -195,29 +196,29 @@ or_later true b e h = cc
 or_later false b e h = h
 
 module _ (space : List ℕ) where
-  first_place : (s : List ℕ) (ss : List (List ℕ)) → bytes_eq s space ≡ true → place_of space (s ∷ ss) ≡ 0
+  first_place : (s : List ℕ) (ss : List (List ℕ)) → bytes_eq s space ≡ true → space_place space (s ∷ ss) ≡ 0
   first_place s ss e = rw e refl
 
-  later_place : (s : List ℕ) (ss : List (List ℕ)) → bytes_eq s space ≡ false → place_of space (s ∷ ss) ≡ 1 + place_of space ss
+  later_place : (s : List ℕ) (ss : List (List ℕ)) → bytes_eq s space ≡ false → space_place space (s ∷ ss) ≡ 1 + space_place space ss
   later_place s ss e = rw e refl
 
   -- the prefix with the number of the namespace's place stands for it
   place_found : (spaces : List (List ℕ)) (n : ℕ) → list_any (bytes_eq space) spaces ≡ true
-      → lookup (bytes_eq (numbered_prefix (place_of space spaces + n))) (numbered_rows n spaces) ≡ Some space
+      → lookup (bytes_eq (numbered_prefix (space_place space spaces + n))) (numbered_rows n spaces) ≡ Some space
   place_found [] n h = cc
   place_found (s ∷ ss) n h = elim (cases_Bool (bytes_eq s space)) [
     | inl e ↦
-        let number : place_of space (s ∷ ss) + n ≡ n = (let p = first_place s ss e in omega (arith, p)) in
+        let number : space_place space (s ∷ ss) + n ≡ n = (let p = first_place s ss e in omega (arith, p)) in
         ap (λ k. lookup (bytes_eq (numbered_prefix k)) (numbered_rows n (s ∷ ss))) number
         ∙ row_here (bytes_eq (numbered_prefix n)) (numbered_prefix n) s (numbered_rows (n + 1) ss) (eq_itself (numbered_prefix n))
         ∙ ap (λ z. Some z) (eq_tells s space e)
     | inr e ↦
-        let number : place_of space (s ∷ ss) + n ≡ place_of space ss + (n + 1) = (let p = later_place s ss e in omega (arith, p)) in
+        let number : space_place space (s ∷ ss) + n ≡ space_place space ss + (n + 1) = (let p = later_place s ss e in omega (arith, p)) in
         let among : list_any (bytes_eq space) ss ≡ true =
         or_later (bytes_eq space s) (list_any (bytes_eq space) ss) (bytes_apart s space e) h in
         ap (λ k. lookup (bytes_eq (numbered_prefix k)) (numbered_rows n (s ∷ ss))) number
-        ∙ row_later (bytes_eq (numbered_prefix (place_of space ss + (n + 1)))) (numbered_prefix n) s (numbered_rows (n + 1) ss)
-        (other_prefix (place_of space ss + (n + 1)) n (λ q. absurd (omega (arith, q))))
+        ∙ row_later (bytes_eq (numbered_prefix (space_place space ss + (n + 1)))) (numbered_prefix n) s (numbered_rows (n + 1) ss)
+        (other_prefix (space_place space ss + (n + 1)) n (λ q. absurd (omega (arith, q))))
         ∙ place_found ss (n + 1) among
   ]
 
@@ -236,15 +237,15 @@ module _ (spaces : List (List ℕ)) (name : element.Name) (part : IsPart name.lo
   xml_text e f = rw (e, f) refl
 
   numbered_text : bytes_eq name.space [] ≡ false → bytes_eq name.space xml_space ≡ false
-      → name_text spaces name ≡ numbered_prefix (place_of name.space spaces + 1) ++ (colon ∷ name.local)
+      → name_text spaces name ≡ numbered_prefix (space_place name.space spaces + 1) ++ (colon ∷ name.local)
   numbered_text e f = rw (e, f) refl
 
   name_back : has_space spaces name.space ≡ true → Named spaces name
   name_back h = elim (cases_Bool (bytes_eq name.space [])) [
     | inl e ↦ record {
-      written = bare_name name.local;
+      written = unprefixed_name name.local;
       stands = record { space_is = ap (λ z. Some z) (sym (eq_tells name.space [] e)); local_is = refl };
-      lexed = subst (λ t. Lexes t (Name (bare_name name.local) ∷ [])) (sym (bare_text e)) (lexed_bare name.local part);
+      lexed = subst (λ t. Lexes t (Name (unprefixed_name name.local) ∷ [])) (sym (bare_text e)) (lexed_bare name.local part);
     }
     | inr e ↦ elim (cases_Bool (bytes_eq name.space xml_space)) [
       | inl f ↦ record {
@@ -254,7 +255,7 @@ module _ (spaces : List (List ℕ)) (name : element.Name) (part : IsPart name.lo
             (lexed_prefixed (codes "xml") name.local xml_part part);
       }
       | inr f ↦
-          let place = place_of name.space spaces in
+          let place = space_place name.space spaces in
           let among = or_later (bytes_eq name.space xml_space) (list_any (bytes_eq name.space) spaces) f
           (or_later (bytes_eq name.space []) (bytes_eq name.space xml_space || list_any (bytes_eq name.space) spaces) e h) in
           record {
@@ -267,18 +268,19 @@ module _ (spaces : List (List ℕ)) (name : element.Name) (part : IsPart name.lo
   ]
 
 equals_literal : (value : List ℕ) → IsLiteral value → Lexes (codes "=" ++ literal_text value) (EqualsSign ∷ (Literal value ∷ []))
-equals_literal value l = before 0x3D EqualsSign equals_is (literal_text value) (Literal value ∷ []) (lexed_literal value l)
+equals_literal value l = before equals_sign EqualsSign equals_is (literal_text value) (Literal value ∷ []) (lexed_literal value l)
 
 equals_ends : (value : List ℕ) → EndsName (codes "=" ++ literal_text value)
-equals_ends value = symbol_ends 0x3D EqualsSign equals_is (literal_text value)
+equals_ends value = symbol_ends equals_sign EqualsSign equals_is (literal_text value)
 
 attribute_back : (scope : Scope) (local value : List ℕ) → IsPart local → IsLiteral value
     → Forms Predicate (TakesComparison scope) (attribute_text local value) (Attr local value)
 attribute_back scope local value p l = record {
   head = At;
-  others = Name (bare_name local) ∷ (EqualsSign ∷ (Literal value ∷ []));
-  lexed = before 0x40 At at_is (local ++ (codes "=" ++ literal_text value)) (Name (bare_name local) ∷ (EqualsSign ∷ (Literal value ∷ [])))
-      (both local (codes "=" ++ literal_text value) (Name (bare_name local) ∷ []) (EqualsSign ∷ (Literal value ∷ []))
+  others = Name (unprefixed_name local) ∷ (EqualsSign ∷ (Literal value ∷ []));
+  lexed = before (byte "@") At at_is (local ++ (codes "=" ++ literal_text value))
+      (Name (unprefixed_name local) ∷ (EqualsSign ∷ (Literal value ∷ [])))
+      (both local (codes "=" ++ literal_text value) (Name (unprefixed_name local) ∷ []) (EqualsSign ∷ (Literal value ∷ []))
       (lexed_bare local p) (equals_literal value l) (equals_ends value));
   takes = λ rest. inl (record { local = local; value = value; tokens_are = refl; means = refl });
 }
@@ -296,15 +298,15 @@ child_back spaces name value n l = record {
 -- (3) deeper rules
 
 abbrev Within : {X : Type 0} → Rule X → Rule X → Type 0
-Within {X} R S = (ts : List Token) (x : X) (rest : List Token) → R ts x rest → S ts x rest
+Within {X} R S = (ts : List FilterToken) (x : X) (rest : List FilterToken) → R ts x rest → S ts x rest
 
 module _ (R S : Rule Predicate) (leads : Within R S) where
-  more_within : (word : Token) (ts : List Token) (xs : List Predicate) (rest : List Token) → TakesMore word R ts xs rest
+  more_within : (word : FilterToken) (ts : List FilterToken) (xs : List Predicate) (rest : List FilterToken) → TakesMore word R ts xs rest
       → TakesMore word S ts xs rest
   more_within word ts [] rest h = h
   more_within word ts (x ∷ xs) rest h = (h.0, h.1, h.2, leads h.0 x h.1 h.3, more_within word h.1 xs rest h.4)
 
-  joined_within : (join : List Predicate → Predicate) (word : Token) → Within (TakesJoined join word R) (TakesJoined join word S)
+  joined_within : (join : List Predicate → Predicate) (word : FilterToken) → Within (TakesJoined join word R) (TakesJoined join word S)
   joined_within join word ts p rest d = record {
     first = d.first;
     others = d.others;
@@ -340,10 +342,11 @@ has_test_spaces spaces test = has_each spaces (test_spaces test)
 
 -- what a rule takes from the tokens of a text is such, and tokens of a text are left
 abbrev Gives : (X : Type 0) → Rule X → (X → Bool) → (X → Type 0) → Type 0
-Gives X R has Q = (ts : List Token) (x : X) (rest : List Token) → R ts x rest → AreTokens ts → has x ≡ true → Q x × AreTokens rest
+Gives X R has Q = (ts : List FilterToken) (x : X) (rest : List FilterToken) → R ts x rest → AreTokens ts → has x ≡ true
+    → Q x × AreTokens rest
 
-more_given : (X : Type 0) (R : Rule X) (has : X → Bool) (Q : X → Type 0) (word : Token) → Gives X R has Q
-    → (ts : List Token) (xs : List X) (rest : List Token) → TakesMore word R ts xs rest → AreTokens ts → list_all has xs ≡ true
+more_given : (X : Type 0) (R : Rule X) (has : X → Bool) (Q : X → Type 0) (word : FilterToken) → Gives X R has Q
+    → (ts : List FilterToken) (xs : List X) (rest : List FilterToken) → TakesMore word R ts xs rest → AreTokens ts → list_all has xs ≡ true
     → Each Q xs × AreTokens rest
 more_given X R has Q word gives ts [] rest h v all = (tt, subst AreTokens h v)
 more_given X R has Q word gives ts (x ∷ xs) rest h v all =
@@ -407,9 +410,9 @@ module _ (spaces : List (List ℕ)) where
   group_forms n text p f = record {
     head = OpenParenthesis;
     others = f.head ∷ (f.others ++ (CloseParenthesis ∷ []));
-    lexed = before 0x28 OpenParenthesis open_is (text ++ codes ")") (f.head ∷ (f.others ++ (CloseParenthesis ∷ [])))
-        (both text (codes ")") (f.head ∷ f.others) (CloseParenthesis ∷ []) f.lexed (symbol_alone 0x29 CloseParenthesis close_is)
-        (symbol_ends 0x29 CloseParenthesis close_is []));
+    lexed = before (byte "(") OpenParenthesis open_is (text ++ codes ")") (f.head ∷ (f.others ++ (CloseParenthesis ∷ [])))
+        (both text (codes ")") (f.head ∷ f.others) (CloseParenthesis ∷ []) f.lexed (symbol_alone (byte ")") CloseParenthesis close_is)
+        (symbol_ends (byte ")") CloseParenthesis close_is []));
     takes = λ rest.
         inr (
           f.head ∷ ((f.others ++ (CloseParenthesis ∷ [])) ++ rest),
@@ -474,7 +477,8 @@ module _ (spaces : List (List ℕ)) where
 
     comparison_back : (n : ℕ) → Known n (TakesComparison scope) (Stands n)
     comparison_back n ts p rest (inl a) v has =
-        let w : AreTokens (At ∷ (Name (bare_name a.local) ∷ (EqualsSign ∷ (Literal a.value ∷ rest)))) = subst AreTokens a.tokens_are v in (
+        let w : AreTokens (At ∷ (Name (unprefixed_name a.local) ∷ (EqualsSign ∷ (Literal a.value ∷ rest)))) = subst AreTokens
+        a.tokens_are v in (
           comparison_stands n p (attribute_text a.local a.value) (ap (predicate_text spaces) a.means ∙ prints_attr spaces a.local a.value)
               (subst (Forms Predicate (TakesComparison (numbered_scope spaces)) (attribute_text a.local a.value)) (sym a.means)
               (attribute_back (numbered_scope spaces) a.local a.value w.1.0 w.1.1.1.0)),
@@ -563,33 +567,34 @@ module _ (spaces : List (List ℕ)) where
       pub forms : Forms Test (TakesTest printed_scope depth) (test_text spaces test) test
 
     record Head (name : Option element.Name) : Type 0 where
-      pub token : Token
+      pub token : FilterToken
       pub asks : AsksFor printed_scope token name
       pub lexed : Lexes (test_name_text spaces name) (token ∷ [])
 
-    head_back : (t : Token) (name : Option element.Name) → AsksFor scope t name → IsToken t → has_each spaces (name_spaces name) ≡ true
+    head_back : (t : FilterToken) (name : Option element.Name) → AsksFor scope t name → IsToken t
+        → has_each spaces (name_spaces name) ≡ true
         → Head name
-    head_back t None e v has = record { token = Any; asks = refl; lexed = symbol_alone 0x2A Any any_is }
+    head_back t None e v has = record { token = Any; asks = refl; lexed = symbol_alone (byte "*") Any any_is }
     head_back t (Some name) (q, e, s) v has =
         let w : IsToken (Name q) = subst IsToken e v in
         let n = name_back spaces name (subst IsPart (sym s.local_is) w) (sym (and_true (has_space spaces name.space)) ∙ has) in
         record { token = Name n.written; asks = (n.written, refl, n.stands); lexed = n.lexed }
 
     record Tail (predicate : Option Predicate) : Type 0 where
-      pub tokens : List Token
+      pub tokens : List FilterToken
       pub lexed : Lexes (brackets_text spaces predicate) tokens
       pub ends : EndsName (brackets_text spaces predicate)
-      pub takes : (rest : List Token) → TakesPredicate printed_scope depth (tokens ++ rest) predicate rest
+      pub takes : (rest : List FilterToken) → TakesPredicate printed_scope depth (tokens ++ rest) predicate rest
 
     in_brackets : (p : Predicate) → Forms Predicate (TakesOrPart printed_scope depth) (predicate_text spaces p).alone p → Tail (Some p)
     in_brackets p f =
         let text = (predicate_text spaces p).alone in
         record {
           tokens = OpenBracket ∷ (f.head ∷ (f.others ++ (CloseBracket ∷ [])));
-          lexed = before 0x5B OpenBracket open_bracket_is (text ++ codes "]") (f.head ∷ (f.others ++ (CloseBracket ∷ [])))
-              (both text (codes "]") (f.head ∷ f.others) (CloseBracket ∷ []) f.lexed (symbol_alone 0x5D CloseBracket close_bracket_is)
-              (symbol_ends 0x5D CloseBracket close_bracket_is []));
-          ends = symbol_ends 0x5B OpenBracket open_bracket_is (text ++ codes "]");
+          lexed = before (byte "[") OpenBracket open_bracket_is (text ++ codes "]") (f.head ∷ (f.others ++ (CloseBracket ∷ [])))
+              (both text (codes "]") (f.head ∷ f.others) (CloseBracket ∷ []) f.lexed (symbol_alone (byte "]") CloseBracket close_bracket_is)
+              (symbol_ends (byte "]") CloseBracket close_bracket_is []));
+          ends = symbol_ends (byte "[") OpenBracket open_bracket_is (text ++ codes "]");
           takes = λ rest. (
             f.head ∷ ((f.others ++ (CloseBracket ∷ [])) ++ rest),
             refl,
@@ -599,7 +604,8 @@ module _ (spaces : List (List ℕ)) where
           );
         }
 
-    tail_back : (ts : List Token) (predicate : Option Predicate) (rest : List Token) → TakesPredicate scope depth ts predicate rest
+    tail_back : (ts : List FilterToken) (predicate : Option Predicate) (rest : List FilterToken)
+        → TakesPredicate scope depth ts predicate rest
         → AreTokens ts
         → has_each spaces (brackets_spaces predicate) ≡ true → Tail predicate × AreTokens rest
     tail_back ts None rest e v has =
@@ -644,7 +650,7 @@ module _ (spaces : List (List ℕ)) where
               (t.0, subst (λ ts. TakesTest printed_scope depth (f.head ∷ ts) test t.0) (append-nil f.others) t.1, t.2);
         }
 
-    tests_back : (ts : List Token) (tests : List Test) (filter : Filter) → filter.tests ≡ tests → AreTests scope depth ts tests
+    tests_back : (ts : List FilterToken) (tests : List Test) (filter : Filter) → filter.tests ≡ tests → AreTests scope depth ts tests
         → AreTokens ts
         → list_all (has_test_spaces spaces) tests ≡ true → WritesWithin depth (filter_text spaces filter) printed_scope filter
     tests_back ts [] filter is e v has = record {

@@ -10,19 +10,19 @@ use Rattle.std.proofs.lemmas.List.{append-nil}
 use Rattle.ifmap_lemmas.specs.Items.{to_last}
 use Rattle.ifmap_elem.specs.Chars.{colon, is_white}
 use Rattle.ifmap_elem.specs.Names.{is_name_character, is_name_start}
-use Rattle.ifmap_reader.specs.declared.scoping.Scope.{Scope}
+use Rattle.ifmap_prefixes.specs.ifmap_reader.declared.scoping.Scope.{Scope}
 use Rattle.ifmap_filter.specs.declared.filters.Filter.{Filter}
-use Rattle.ifmap_filter.specs.declared.tokens.Token.{Token}
+use Rattle.ifmap_filter.specs.declared.tokens.FilterToken.{FilterToken}
 use Rattle.ifmap_filter.specs.Grammar.{IsFilter, deepest}
-use Rattle.ifmap_filter.specs.Progress.{GoesOn, Where, Start, step_token, filter_at}
-use Rattle.ifmap_filter.specs.Reaching.{Reaches}
-use Rattle.ifmap_filter.specs.Texts.{BeginsFilter, StopsAt, Writes, offset}
-use Rattle.ifmap_filter.specs.Tokens.{IsEnd, FrontToken, Takes, after_while, closed_literal, front_while, literal_at, name_at, name_from, name_token, part_bytes, prefixed_name_at, symbol_of, front_token, token_at, with_symbol, without_white}
+use Rattle.ifmap_filter.specs.Progress.{GoesOn, FilterState, Start, step_token, filter_at}
+use Rattle.ifmap_filter.specs.Reaching.{ReadsTo}
+use Rattle.ifmap_filter.specs.Texts.{BeginsFilter, StopsAt, Writes, token_offset}
+use Rattle.ifmap_filter.specs.Tokens.{HasNoToken, FrontToken, Takes, after_while, closed_literal, front_while, literal_at, name_at, name_from, name_token, part_bytes, prefixed_name_at, symbol_of, front_token, token_at, with_symbol, without_white}
 use Rattle.ifmap_filter.proofs.Ending.{EndsAt, ends, goes_on}
 use Rattle.ifmap_filter.proofs.Stepping.{IsRight, right}
 use Rattle.ifmap_elem.specs.laws.NameBytes.{starts_are_characters}
-use Rattle.ifmap_lexer.specs.Cutting.{is_but}
-use Rattle.ifmap_lexer.specs.There.{is_quote}
+use Rattle.ifmap_prefixes.specs.ifmap_lexer.Cutting.{is_but}
+use Rattle.ifmap_prefixes.specs.ifmap_lexer.There.{is_quote}
 
 -- (1) tokens take characters
 
@@ -53,7 +53,7 @@ after_later cs mid rest ([], e) l = subst (λ xs. IsLater xs rest) (sym e) l
 after_later cs mid rest (x ∷ front, e) (c, more, f) =
     (x, front ++ (c ∷ more), e ∙ ap (λ xs. x ∷ (front ++ xs)) f ∙ ap (λ xs. x ∷ xs) (sym (append_assoc front (c ∷ more) rest)))
 
-some_inj : (t : Token) (rest : List ℕ) (k : FrontToken) → Some k ≡ Some (front_token t rest) → k.rest ≡ rest
+some_inj : (t : FilterToken) (rest : List ℕ) (k : FrontToken) → Some k ≡ Some (front_token t rest) → k.rest ≡ rest
 some_inj t rest k e = let same : k ≡ front_token t rest = cc in ap (λ (x : FrontToken). x.rest) same
 
 part_later : (c : ℕ) (cs : List ℕ) → is_name_start c ≡ true → IsLater (c ∷ cs) (after_while is_name_character (c ∷ cs))
@@ -61,7 +61,7 @@ part_later c cs starts =
     subst (λ b. IsLater (c ∷ cs) (if b then after_while is_name_character cs else c ∷ cs)) (sym (starts_are_characters c starts))
     (later_from c cs (after_while is_name_character cs) (after_is is_name_character cs))
 
-module _ (t : Token) (rest : List ℕ) where
+module _ (t : FilterToken) (rest : List ℕ) where
   prefixed_later : (prefix cs : List ℕ) → prefixed_name_at prefix cs ≡ Some (front_token t rest) → IsAfter cs rest
   prefixed_later prefix [] e = cc
   prefixed_later prefix (c ∷ cs) e = by (is_name_start c) e
@@ -91,7 +91,7 @@ module _ (t : Token) (rest : List ℕ) where
           let same : after ≡ rest = some_inj t rest _ f in
           (front ++ q ∷ [], l ∙ sym (append_assoc front (q ∷ []) after) ∙ ap (λ xs. (front ++ q ∷ []) ++ xs) same)
 
-  symbol_later : (cs : List ℕ) (o : Option Token) → with_symbol cs o ≡ Some (front_token t rest) → IsAfter cs rest
+  symbol_later : (cs : List ℕ) (o : Option FilterToken) → with_symbol cs o ≡ Some (front_token t rest) → IsAfter cs rest
   symbol_later cs None e = cc
   symbol_later cs (Some s) e = subst (IsAfter cs) (some_inj t rest _ e) ([], refl)
 
@@ -133,22 +133,22 @@ after_bytes cs rest (front, e) =
 pub white_after : (cs : List ℕ) → IsAfter cs (without_white cs)
 white_after cs = after_is is_white cs
 
-pub taken_later : (cs : List ℕ) (t : Token) (rest : List ℕ) → Takes cs t rest → IsLater cs rest
+pub taken_later : (cs : List ℕ) (t : FilterToken) (rest : List ℕ) → Takes cs t rest → IsLater cs rest
 taken_later cs t rest takes = after_later cs (without_white cs) rest (white_after cs) (token_later t rest (without_white cs) takes)
 
 -- (2) what is reached
 
-pub only_taken : (cs : List ℕ) (t u : Token) (rest after : List ℕ) → Takes cs t rest → Takes cs u after → (t ≡ u) × (rest ≡ after)
+pub only_taken : (cs : List ℕ) (t u : FilterToken) (rest after : List ℕ) → Takes cs t rest → Takes cs u after → (t ≡ u) × (rest ≡ after)
 only_taken cs t u rest after one other =
     let both : Some (front_token t rest) ≡ Some (front_token u after) = sym one ∙ other in
     let same : front_token t rest ≡ front_token u after = cc in
     (ap (λ (k : FrontToken). k.token) same, ap (λ (k : FrontToken). k.rest) same)
 
-pub not_end : (cs : List ℕ) (t : Token) (rest : List ℕ) → Takes cs t rest → IsEnd cs → ⊥
+pub not_end : (cs : List ℕ) (t : FilterToken) (rest : List ℕ) → Takes cs t rest → HasNoToken cs → ⊥
 not_end cs t rest takes end = let wrong : None ≡ Some (front_token t rest) = sym (ap token_at end) ∙ takes in cc
 
 module _ (text : List ℕ) (scope : Scope) where
-  pub at_start : Reaches text scope Start (chars text)
+  pub at_start : ReadsTo text scope Start (chars text)
   at_start = record {
     tokens = [];
     room = deepest;
@@ -157,14 +157,14 @@ module _ (text : List ℕ) (scope : Scope) where
     goes = (λ filter more. ((λ is. is), (λ is. is)));
   }
 
-  module _ (w : Where) (cs : List ℕ) (r : Reaches text scope w cs) where
+  module _ (w : FilterState) (cs : List ℕ) (r : ReadsTo text scope w cs) where
     begins : BeginsFilter scope r.tokens
     begins =
         let g = goes_on scope r.room w in
         record { more = g.1; filter = g.0; filter_is = (r.goes g.0 g.1).1 g.2 }
 
-    pub next_place : (t : Token) (rest : List ℕ) → Takes cs t rest → (next : Where) → step_token scope w t ≡ Some next
-        → Reaches text scope next rest
+    pub next_place : (t : FilterToken) (rest : List ℕ) → Takes cs t rest → (next : FilterState) → step_token scope w t ≡ Some next
+        → ReadsTo text scope next rest
     next_place t rest takes next is =
         let ok = subst (IsRight scope r.room w t) is (right scope r.room w r.room_is t) in
         record {
@@ -180,7 +180,8 @@ module _ (text : List ℕ) (scope : Scope) where
           ));
         }
 
-    pub stops_at_token : (t : Token) (rest : List ℕ) → Takes cs t rest → step_token scope w t ≡ None → StopsAt text scope (offset text cs)
+    pub stops_at_token : (t : FilterToken) (rest : List ℕ) → Takes cs t rest → step_token scope w t ≡ None
+        → StopsAt text scope (token_offset text cs)
     stops_at_token t rest takes is =
         let none = subst (IsRight scope r.room w t) is (right scope r.room w r.room_is t) in
         record {
@@ -198,7 +199,7 @@ module _ (text : List ℕ) (scope : Scope) where
           at_is = refl;
         }
 
-    pub stops_where_none : token_at (without_white cs) ≡ None → without_white cs ≢ [] → StopsAt text scope (offset text cs)
+    pub stops_where_none : token_at (without_white cs) ≡ None → without_white cs ≢ [] → StopsAt text scope (token_offset text cs)
     stops_where_none none some = record {
       tokens = r.tokens;
       rest = cs;
@@ -209,7 +210,7 @@ module _ (text : List ℕ) (scope : Scope) where
       at_is = refl;
     }
 
-    pub whole_text : IsEnd cs → (filter : Filter) → filter_at w ≡ Some filter → Writes text scope filter
+    pub whole_text : HasNoToken cs → (filter : Filter) → filter_at w ≡ Some filter → Writes text scope filter
     whole_text end filter is =
         let ok = subst (EndsAt scope r.room w) is (ends scope r.room w) in
         record {
@@ -220,7 +221,7 @@ module _ (text : List ℕ) (scope : Scope) where
           filter_is = subst (λ ts. IsFilter scope ts filter) (append-nil r.tokens) ((r.goes filter []).1 ((ok filter).1 refl));
         }
 
-    pub stops_at_end : IsEnd cs → filter_at w ≡ None → StopsAt text scope (offset text cs)
+    pub stops_at_end : HasNoToken cs → filter_at w ≡ None → StopsAt text scope (token_offset text cs)
     stops_at_end end is =
         let none = subst (EndsAt scope r.room w) is (ends scope r.room w) in
         record {

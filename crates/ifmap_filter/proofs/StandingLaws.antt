@@ -4,7 +4,7 @@ use Rattle.std.specs.Prelude.{nat_lt}
 use Rattle.std.proofs.lemmas.Bool.Decides.{nat_tests}
 use Rattle.std.proofs.lemmas.List.{length-reverse, reverse-append}
 use Rattle.ifmap_elem.specs.declared.elements.Name as element
-use Rattle.ifmap_reader.specs.declared.scoping.Scope.{Scope}
+use Rattle.ifmap_prefixes.specs.ifmap_reader.declared.scoping.Scope.{Scope}
 use Rattle.ifmap_filter.specs.declared.filters.Predicate.{Predicate, Or}
 use Rattle.ifmap_filter.specs.declared.filters.Test.{Test}
 use Rattle.ifmap_filter.specs.declared.standing.OuterPart.{OuterPart}
@@ -56,98 +56,75 @@ IsNoName m = (prefix local : _) → m ≢ mark.Name prefix local
 abbrev pub IsNoLiteral : Mark → Type 0
 IsNoLiteral m = (value : _) → m ≢ mark.Literal value
 
+-- what holds of each kind of mark, where the mark is of that kind, holds of the mark
+by_kind : (P : Mark → Type 0) (m : Mark)
+    → (m ≡ mark.Any → P mark.Any) → (m ≡ mark.OpenBracket → P mark.OpenBracket) → (m ≡ mark.CloseBracket → P mark.CloseBracket)
+    → (m ≡ mark.OpenParenthesis → P mark.OpenParenthesis) → (m ≡ mark.CloseParenthesis → P mark.CloseParenthesis)
+    → (m ≡ mark.EqualsSign → P mark.EqualsSign) → (m ≡ mark.At → P mark.At)
+    → ((prefix local : _) → m ≡ mark.Name prefix local → P (mark.Name prefix local))
+    → ((value : _) → m ≡ mark.Literal value → P (mark.Literal value)) → P m
+by_kind P mark.Any on_any on_open on_close on_group on_end on_equals on_at on_name on_literal = on_any refl
+by_kind P mark.OpenBracket on_any on_open on_close on_group on_end on_equals on_at on_name on_literal = on_open refl
+by_kind P mark.CloseBracket on_any on_open on_close on_group on_end on_equals on_at on_name on_literal = on_close refl
+by_kind P mark.OpenParenthesis on_any on_open on_close on_group on_end on_equals on_at on_name on_literal = on_group refl
+by_kind P mark.CloseParenthesis on_any on_open on_close on_group on_end on_equals on_at on_name on_literal = on_end refl
+by_kind P mark.EqualsSign on_any on_open on_close on_group on_end on_equals on_at on_name on_literal = on_equals refl
+by_kind P mark.At on_any on_open on_close on_group on_end on_equals on_at on_name on_literal = on_at refl
+by_kind P (mark.Name prefix local) on_any on_open on_close on_group on_end on_equals on_at on_name on_literal = on_name prefix local refl
+by_kind P (mark.Literal value) on_any on_open on_close on_group on_end on_equals on_at on_name on_literal = on_literal value refl
+
 pub test_refused : (scope : Scope) (done : List Test) (m : Mark) → m ≢ mark.Any → IsNoName m
     → None ≡ step_test scope done (token_of m)
-test_refused scope done mark.Any no_Any no_Name = absurd (no_Any refl)
-test_refused scope done mark.OpenBracket no_Any no_Name = refl
-test_refused scope done mark.CloseBracket no_Any no_Name = refl
-test_refused scope done mark.OpenParenthesis no_Any no_Name = refl
-test_refused scope done mark.CloseParenthesis no_Any no_Name = refl
-test_refused scope done mark.EqualsSign no_Any no_Name = refl
-test_refused scope done mark.At no_Any no_Name = refl
-test_refused scope done (mark.Name prefix local) no_Any no_Name = absurd (no_Name prefix local refl)
-test_refused scope done (mark.Literal value) no_Any no_Name = refl
+test_refused scope done m no_Any no_Name =
+    by_kind (λ n. None ≡ step_test scope done (token_of n)) m
+    (λ e. absurd (no_Any e)) (λ e. refl) (λ e. refl) (λ e. refl) (λ e. refl) (λ e. refl) (λ e. refl)
+    (λ prefix local e. absurd (no_Name prefix local e)) (λ value e. refl)
 
 pub tested_refused : (done : List Test) (m : Mark) → IsNoName m
     → None ≡ step_tested done (token_of m)
-tested_refused done mark.Any no_Name = refl
-tested_refused done mark.OpenBracket no_Name = refl
-tested_refused done mark.CloseBracket no_Name = refl
-tested_refused done mark.OpenParenthesis no_Name = refl
-tested_refused done mark.CloseParenthesis no_Name = refl
-tested_refused done mark.EqualsSign no_Name = refl
-tested_refused done mark.At no_Name = refl
-tested_refused done (mark.Name prefix local) no_Name = absurd (no_Name prefix local refl)
-tested_refused done (mark.Literal value) no_Name = refl
+tested_refused done m no_Name =
+    by_kind (λ n. None ≡ step_tested done (token_of n)) m
+    (λ e. refl) (λ e. refl) (λ e. refl) (λ e. refl) (λ e. refl) (λ e. refl) (λ e. refl)
+    (λ prefix local e. absurd (no_Name prefix local e)) (λ value e. refl)
 
 pub factor_refused : (scope : Scope) (c : Context) (m : Mark) → m ≢ mark.OpenParenthesis → m ≢ mark.At → IsNoName m
     → None ≡ step_factor scope c (token_of m)
-factor_refused scope c mark.Any no_OpenParenthesis no_At no_Name = refl
-factor_refused scope c mark.OpenBracket no_OpenParenthesis no_At no_Name = refl
-factor_refused scope c mark.CloseBracket no_OpenParenthesis no_At no_Name = refl
-factor_refused scope c mark.OpenParenthesis no_OpenParenthesis no_At no_Name = absurd (no_OpenParenthesis refl)
-factor_refused scope c mark.CloseParenthesis no_OpenParenthesis no_At no_Name = refl
-factor_refused scope c mark.EqualsSign no_OpenParenthesis no_At no_Name = refl
-factor_refused scope c mark.At no_OpenParenthesis no_At no_Name = absurd (no_At refl)
-factor_refused scope c (mark.Name prefix local) no_OpenParenthesis no_At no_Name = absurd (no_Name prefix local refl)
-factor_refused scope c (mark.Literal value) no_OpenParenthesis no_At no_Name = refl
+factor_refused scope c m no_OpenParenthesis no_At no_Name =
+    by_kind (λ n. None ≡ step_factor scope c (token_of n)) m
+    (λ e. refl) (λ e. refl) (λ e. refl) (λ e. absurd (no_OpenParenthesis e)) (λ e. refl) (λ e. refl) (λ e. absurd (no_At e))
+    (λ prefix local e. absurd (no_Name prefix local e)) (λ value e. refl)
 
 pub local_refused : (c : Context) (m : Mark) → IsNoName m
     → None ≡ step_local c (token_of m)
-local_refused c mark.Any no_Name = refl
-local_refused c mark.OpenBracket no_Name = refl
-local_refused c mark.CloseBracket no_Name = refl
-local_refused c mark.OpenParenthesis no_Name = refl
-local_refused c mark.CloseParenthesis no_Name = refl
-local_refused c mark.EqualsSign no_Name = refl
-local_refused c mark.At no_Name = refl
-local_refused c (mark.Name prefix local) no_Name = absurd (no_Name prefix local refl)
-local_refused c (mark.Literal value) no_Name = refl
+local_refused c m no_Name =
+    by_kind (λ n. None ≡ step_local c (token_of n)) m
+    (λ e. refl) (λ e. refl) (λ e. refl) (λ e. refl) (λ e. refl) (λ e. refl) (λ e. refl)
+    (λ prefix local e. absurd (no_Name prefix local e)) (λ value e. refl)
 
 pub equals_refused : (c : Context) (a : Operand) (m : Mark) → m ≢ mark.EqualsSign
     → None ≡ step_equals c a (token_of m)
-equals_refused c a mark.Any no_EqualsSign = refl
-equals_refused c a mark.OpenBracket no_EqualsSign = refl
-equals_refused c a mark.CloseBracket no_EqualsSign = refl
-equals_refused c a mark.OpenParenthesis no_EqualsSign = refl
-equals_refused c a mark.CloseParenthesis no_EqualsSign = refl
-equals_refused c a mark.EqualsSign no_EqualsSign = absurd (no_EqualsSign refl)
-equals_refused c a mark.At no_EqualsSign = refl
-equals_refused c a (mark.Name prefix local) no_EqualsSign = refl
-equals_refused c a (mark.Literal value) no_EqualsSign = refl
+equals_refused c a m no_EqualsSign =
+    by_kind (λ n. None ≡ step_equals c a (token_of n)) m
+    (λ e. refl) (λ e. refl) (λ e. refl) (λ e. refl) (λ e. refl) (λ e. absurd (no_EqualsSign e)) (λ e. refl) (λ prefix local e. refl)
+    (λ value e. refl)
 
 pub literal_refused : (c : Context) (a : Operand) (m : Mark) → IsNoLiteral m
     → None ≡ step_literal c a (token_of m)
-literal_refused c a mark.Any no_Literal = refl
-literal_refused c a mark.OpenBracket no_Literal = refl
-literal_refused c a mark.CloseBracket no_Literal = refl
-literal_refused c a mark.OpenParenthesis no_Literal = refl
-literal_refused c a mark.CloseParenthesis no_Literal = refl
-literal_refused c a mark.EqualsSign no_Literal = refl
-literal_refused c a mark.At no_Literal = refl
-literal_refused c a (mark.Name prefix local) no_Literal = refl
-literal_refused c a (mark.Literal value) no_Literal = absurd (no_Literal value refl)
+literal_refused c a m no_Literal =
+    by_kind (λ n. None ≡ step_literal c a (token_of n)) m
+    (λ e. refl) (λ e. refl) (λ e. refl) (λ e. refl) (λ e. refl) (λ e. refl) (λ e. refl) (λ prefix local e. refl)
+    (λ value e. absurd (no_Literal value e))
 
 pub done_refused : (c : Context) (m : Mark) → IsNoName m → m ≢ mark.CloseParenthesis → m ≢ mark.CloseBracket
     → None ≡ step_done c (token_of m)
-done_refused c mark.Any no_Name no_CloseParenthesis no_CloseBracket = refl
-done_refused c mark.OpenBracket no_Name no_CloseParenthesis no_CloseBracket = refl
-done_refused c mark.CloseBracket no_Name no_CloseParenthesis no_CloseBracket = absurd (no_CloseBracket refl)
-done_refused c mark.OpenParenthesis no_Name no_CloseParenthesis no_CloseBracket = refl
-done_refused c mark.CloseParenthesis no_Name no_CloseParenthesis no_CloseBracket = absurd (no_CloseParenthesis refl)
-done_refused c mark.EqualsSign no_Name no_CloseParenthesis no_CloseBracket = refl
-done_refused c mark.At no_Name no_CloseParenthesis no_CloseBracket = refl
-done_refused c (mark.Name prefix local) no_Name no_CloseParenthesis no_CloseBracket = absurd (no_Name prefix local refl)
-done_refused c (mark.Literal value) no_Name no_CloseParenthesis no_CloseBracket = refl
+done_refused c m no_Name no_CloseParenthesis no_CloseBracket =
+    by_kind (λ n. None ≡ step_done c (token_of n)) m
+    (λ e. refl) (λ e. refl) (λ e. absurd (no_CloseBracket e)) (λ e. refl) (λ e. absurd (no_CloseParenthesis e)) (λ e. refl)
+    (λ e. refl) (λ prefix local e. absurd (no_Name prefix local e)) (λ value e. refl)
 
 pub named_other : (done : List Test) (name : Option element.Name) (m : Mark) → m ≢ mark.OpenBracket
     → step_named done name (token_of m) ≡ step_tested (done ++ test_of name None ∷ []) (token_of m)
-named_other done name mark.Any no_OpenBracket = refl
-named_other done name mark.OpenBracket no_OpenBracket = absurd (no_OpenBracket refl)
-named_other done name mark.CloseBracket no_OpenBracket = refl
-named_other done name mark.OpenParenthesis no_OpenBracket = refl
-named_other done name mark.CloseParenthesis no_OpenBracket = refl
-named_other done name mark.EqualsSign no_OpenBracket = refl
-named_other done name mark.At no_OpenBracket = refl
-named_other done name (mark.Name prefix local) no_OpenBracket = refl
-named_other done name (mark.Literal value) no_OpenBracket = refl
+named_other done name m no_OpenBracket =
+    by_kind (λ n. step_named done name (token_of n) ≡ step_tested (done ++ test_of name None ∷ []) (token_of n)) m
+    (λ e. refl) (λ e. absurd (no_OpenBracket e)) (λ e. refl) (λ e. refl) (λ e. refl) (λ e. refl) (λ e. refl) (λ prefix local e. refl)
+    (λ value e. refl)

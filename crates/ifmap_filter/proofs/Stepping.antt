@@ -10,31 +10,31 @@ use Rattle.std.proofs.lemmas.Bool.Decides.{nat_tests}
 use Rattle.ifmap_lemmas.specs.Texts.{eq_tells}
 use Rattle.ifmap_elem.specs.declared.elements.Name as element
 use Rattle.ifmap_elem.specs.declared.tokens.Qualified.{Qualified}
-use Rattle.ifmap_reader.specs.declared.scoping.Scope.{Scope}
+use Rattle.ifmap_prefixes.specs.ifmap_reader.declared.scoping.Scope.{Scope}
 use Rattle.ifmap_filter.specs.declared.filters.Predicate.{Predicate, Attr, Child}
 use Rattle.ifmap_filter.specs.declared.filters.Test.{Test}
 use Rattle.ifmap_filter.specs.declared.filters.Filter.{Filter}
-use Rattle.ifmap_filter.specs.declared.tokens.Token.{Token}
-use Rattle.ifmap_filter.specs.declared.tokens.Token.TheVariants.{Any, OpenBracket, CloseBracket, OpenParenthesis, CloseParenthesis, EqualsSign, At, Name, Literal}
+use Rattle.ifmap_filter.specs.declared.tokens.FilterToken.{FilterToken}
+use Rattle.ifmap_filter.specs.declared.tokens.FilterToken.TheVariants.{Any, OpenBracket, CloseBracket, OpenParenthesis, CloseParenthesis, EqualsSign, At, Name, Literal}
 use Rattle.ifmap_filter.specs.declared.standing.OuterPart.{OuterPart}
 use Rattle.ifmap_filter.specs.declared.standing.Operand.{Operand}
 use Rattle.ifmap_filter.specs.declared.standing.Operand.TheVariants as operand
-use Rattle.ifmap_filter.specs.Grammar.{AsksFor, StandsFor, TakesComparison, TakesFactor, TakesOrPart, TakesOrs, and_word, bare_name, deepest, or_word, space_of}
-use Rattle.ifmap_filter.specs.Progress.{Closes, Context, Where, Start, TestDue, Named, Tested, FactorDue, LocalDue, EqualsDue, LiteralDue, FactorDone, AfterFactor, EqualsFirst, FactorFirst, GoesOn, LiteralFirst, LocalFirst, MoreFactors, MoreTests, PredicateFirst, TestFirst, asks_named, child_named, close_group, close_test, comparison_of, done_part, inner_context, is_word, name_in, nesting, next_part, step_token, step_done, step_equals, step_factor, step_literal, step_local, step_named, step_test, step_tested, test_of, with_factor}
+use Rattle.ifmap_filter.specs.Grammar.{AsksFor, StandsFor, TakesComparison, TakesFactor, TakesOrPart, TakesOrs, and_word, unprefixed_name, deepest, or_word, space_of}
+use Rattle.ifmap_filter.specs.Progress.{Closes, Context, FilterState, Start, TestDue, Named, Tested, FactorDue, LocalDue, EqualsDue, LiteralDue, FactorDone, AfterFactor, EqualsFirst, FactorFirst, GoesOn, LiteralFirst, LocalFirst, MoreFactors, MoreTests, PredicateFirst, TestFirst, asks_named, child_named, close_group, close_test, comparison_of, done_part, inner_context, is_word, name_in, open_parts, next_part, step_token, step_done, step_equals, step_factor, step_literal, step_local, step_named, step_test, step_tested, test_of, with_factor}
 use Rattle.ifmap_filter.proofs.Continuing.{Refuses, and_more, any_asks, bare_named, head_of, name_asks, named, none_asks, not_that_word, or_more, or_part, other_more, started, tested_or, tested_other, unnamed, word_is}
 
 module _ (scope : Scope) where
   -- the step from a place by a token is right: the next place, where so much deeper, or none
-  abbrev pub IsRight : ℕ → Where → Token → Option Where → Type 0
-  IsRight n w t None = (filter : Filter) (more : List Token) → GoesOn scope filter n w (t ∷ more) → ⊥
+  abbrev pub IsRight : ℕ → FilterState → FilterToken → Option FilterState → Type 0
+  IsRight n w t None = (filter : Filter) (more : List FilterToken) → GoesOn scope filter n w (t ∷ more) → ⊥
   IsRight n w t (Some next) =
-      (m : ℕ) × (m + nesting next ≡ deepest)
-      × ((filter : Filter) (more : List Token) → GoesOn scope filter n w (t ∷ more) ↔ GoesOn scope filter m next more)
+      (m : ℕ) × (m + open_parts next ≡ deepest)
+      × ((filter : Filter) (more : List FilterToken) → GoesOn scope filter n w (t ∷ more) ↔ GoesOn scope filter m next more)
 
   -- what goes on from one place as from another
-  through : (n : ℕ) (w v : Where) (t : Token)
-      → ((filter : Filter) (more : List Token) → GoesOn scope filter n w (t ∷ more) ↔ GoesOn scope filter n v (t ∷ more))
-      → (o : Option Where) → IsRight n v t o → IsRight n w t o
+  through : (n : ℕ) (w v : FilterState) (t : FilterToken)
+      → ((filter : Filter) (more : List FilterToken) → GoesOn scope filter n w (t ∷ more) ↔ GoesOn scope filter n v (t ∷ more))
+      → (o : Option FilterState) → IsRight n v t o → IsRight n w t o
   through n w v t same None right = λ filter more goes. right filter more ((same filter more).0 goes)
   through n w v t same (Some next) (m, e, right) = (
     m,
@@ -47,7 +47,7 @@ module _ (scope : Scope) where
 
   -- (1) between tests
 
-  no_asks : (t : Token) → t ≢ Any → ((q : Qualified) → t ≢ Name q) → (name : Option element.Name) → AsksFor scope t name → ⊥
+  no_asks : (t : FilterToken) → t ≢ Any → ((q : Qualified) → t ≢ Name q) → (name : Option element.Name) → AsksFor scope t name → ⊥
   no_asks t no_any no_name None e = no_any e
   no_asks t no_any no_name (Some name) (q, e, s) = no_name q e
 
@@ -62,18 +62,19 @@ module _ (scope : Scope) where
         (name_asks scope filter q space is) more),
   )
 
-  right_test : (n : ℕ) (done : List Test) → n + 0 ≡ deepest → (t : Token) → IsRight n (TestDue done) t (step_test scope done t)
+  no_test : (n : ℕ) (done : List Test) (t : FilterToken) → t ≢ Any → ((q : Qualified) → t ≢ Name q) → IsRight n (TestDue done) t None
+  no_test n done t no_any no_name = λ filter more. unnamed scope filter done t (no_asks t no_any no_name) more
+
+  right_test : (n : ℕ) (done : List Test) → n + 0 ≡ deepest → (t : FilterToken) → IsRight n (TestDue done) t (step_test scope done t)
   right_test n done e Any = (n, e, (λ filter more. named scope filter done Any None refl (any_asks scope filter) more))
   right_test n done e (Name q) = test_named n done q e (space_of scope q.prefix) refl
-  right_test n done e OpenBracket = λ filter more. unnamed scope filter done OpenBracket (no_asks OpenBracket (λ e. cc) (λ q e. cc)) more
-  right_test n done e CloseBracket = λ filter more. unnamed scope filter done CloseBracket (no_asks CloseBracket (λ e. cc) (λ q e. cc)) more
-  right_test n done e OpenParenthesis =
-      λ filter more. unnamed scope filter done OpenParenthesis (no_asks OpenParenthesis (λ e. cc) (λ q e. cc)) more
-  right_test n done e CloseParenthesis =
-      λ filter more. unnamed scope filter done CloseParenthesis (no_asks CloseParenthesis (λ e. cc) (λ q e. cc)) more
-  right_test n done e EqualsSign = λ filter more. unnamed scope filter done EqualsSign (no_asks EqualsSign (λ e. cc) (λ q e. cc)) more
-  right_test n done e At = λ filter more. unnamed scope filter done At (no_asks At (λ e. cc) (λ q e. cc)) more
-  right_test n done e (Literal v) = λ filter more. unnamed scope filter done (Literal v) (no_asks (Literal v) (λ e. cc) (λ q e. cc)) more
+  right_test n done e OpenBracket = no_test n done OpenBracket (λ e. cc) (λ q e. cc)
+  right_test n done e CloseBracket = no_test n done CloseBracket (λ e. cc) (λ q e. cc)
+  right_test n done e OpenParenthesis = no_test n done OpenParenthesis (λ e. cc) (λ q e. cc)
+  right_test n done e CloseParenthesis = no_test n done CloseParenthesis (λ e. cc) (λ q e. cc)
+  right_test n done e EqualsSign = no_test n done EqualsSign (λ e. cc) (λ q e. cc)
+  right_test n done e At = no_test n done At (λ e. cc) (λ q e. cc)
+  right_test n done e (Literal v) = no_test n done (Literal v) (λ e. cc) (λ q e. cc)
 
   tested_name : (n : ℕ) (done : List Test) (q : Qualified) → n + 0 ≡ deepest → (b : Bool) → is_word (codes "or") q ≡ b
       → IsRight n (Tested done) (Name q) (if b then Some (TestDue done) else None)
@@ -86,7 +87,7 @@ module _ (scope : Scope) where
   )
   tested_name n done q e false is = λ filter more. tested_other scope filter done (Name q) (not_that_word (codes "or") q is) more
 
-  right_tested : (n : ℕ) (done : List Test) → n + 0 ≡ deepest → (t : Token) → IsRight n (Tested done) t (step_tested done t)
+  right_tested : (n : ℕ) (done : List Test) → n + 0 ≡ deepest → (t : FilterToken) → IsRight n (Tested done) t (step_tested done t)
   right_tested n done e (Name q) = tested_name n done q e (is_word (codes "or") q) refl
   right_tested n done e Any = λ filter more. tested_other scope filter done Any (λ e. cc) more
   right_tested n done e OpenBracket = λ filter more. tested_other scope filter done OpenBracket (λ e. cc) more
@@ -97,7 +98,7 @@ module _ (scope : Scope) where
   right_tested n done e At = λ filter more. tested_other scope filter done At (λ e. cc) more
   right_tested n done e (Literal v) = λ filter more. tested_other scope filter done (Literal v) (λ e. cc) more
 
-  module _ (filter : Filter) (done : List Test) (name : Option element.Name) (more : List Token) where
+  module _ (filter : Filter) (done : List Test) (name : Option element.Name) (more : List FilterToken) where
     opens : PredicateFirst scope filter done name (OpenBracket ∷ more)
         → FactorFirst scope filter deepest (record { tests = done; name = name; outer = []; ors = []; ands = [] }) more
     opens (None, mid, e, rest) =
@@ -108,7 +109,7 @@ module _ (scope : Scope) where
         (or_part scope deepest (Closes scope filter done name deepest []) more).0 (
           p,
           CloseBracket ∷ mid,
-          subst (λ (ts : List Token). TakesOrPart scope deepest ts p (CloseBracket ∷ mid)) tail takes,
+          subst (λ (ts : List FilterToken). TakesOrPart scope deepest ts p (CloseBracket ∷ mid)) tail takes,
           (mid, refl, rest),
         )
 
@@ -116,64 +117,53 @@ module _ (scope : Scope) where
         → PredicateFirst scope filter done name (OpenBracket ∷ more)
     opened first =
         let part = (or_part scope deepest (Closes scope filter done name deepest []) more).1 first in
-        let e = part.3.1 in
-        (Some part.0, part.3.0, (more, refl, subst (λ (ts : List Token). TakesOrPart scope deepest more part.0 ts) e part.2), part.3.2)
+        let e = part.3.1 in (
+          Some part.0,
+          part.3.0,
+          (more, refl, subst (λ (ts : List FilterToken). TakesOrPart scope deepest more part.0 ts) e part.2),
+          part.3.2,
+        )
 
-  right_named : (n : ℕ) (done : List Test) (name : Option element.Name) → n + 0 ≡ deepest → (t : Token)
+  named_without : (n : ℕ) (done : List Test) (name : Option element.Name) → n + 0 ≡ deepest → (t : FilterToken) → t ≢ OpenBracket
+      → IsRight n (Named done name) t (step_tested (done ++ test_of name None ∷ []) t)
+  named_without n done name e t other =
+      through n (Named done name) (Tested (done ++ test_of name None ∷ [])) t
+      (λ filter more. bare_named scope filter done name t other more)
+      (step_tested (done ++ test_of name None ∷ []) t) (right_tested n (done ++ test_of name None ∷ []) e t)
+
+  right_named : (n : ℕ) (done : List Test) (name : Option element.Name) → n + 0 ≡ deepest → (t : FilterToken)
       → IsRight n (Named done name) t (step_named done name t)
   right_named n done name e OpenBracket =
       (deepest, add-zero deepest, (λ filter more. (opens filter done name more, opened filter done name more)))
-  right_named n done name e Any =
-      through n (Named done name) (Tested (done ++ test_of name None ∷ [])) Any
-      (λ filter more. bare_named scope filter done name Any (λ e. cc) more)
-      (step_tested (done ++ test_of name None ∷ []) Any) (right_tested n (done ++ test_of name None ∷ []) e Any)
-  right_named n done name e CloseBracket =
-      through n (Named done name) (Tested (done ++ test_of name None ∷ [])) CloseBracket
-      (λ filter more. bare_named scope filter done name CloseBracket (λ e. cc) more)
-      (step_tested (done ++ test_of name None ∷ []) CloseBracket) (right_tested n (done ++ test_of name None ∷ []) e CloseBracket)
-  right_named n done name e OpenParenthesis =
-      through n (Named done name) (Tested (done ++ test_of name None ∷ [])) OpenParenthesis
-      (λ filter more. bare_named scope filter done name OpenParenthesis (λ e. cc) more)
-      (step_tested (done ++ test_of name None ∷ []) OpenParenthesis) (right_tested n (done ++ test_of name None ∷ []) e OpenParenthesis)
-  right_named n done name e CloseParenthesis =
-      through n (Named done name) (Tested (done ++ test_of name None ∷ [])) CloseParenthesis
-      (λ filter more. bare_named scope filter done name CloseParenthesis (λ e. cc) more)
-      (step_tested (done ++ test_of name None ∷ []) CloseParenthesis) (right_tested n (done ++ test_of name None ∷ []) e CloseParenthesis)
-  right_named n done name e EqualsSign =
-      through n (Named done name) (Tested (done ++ test_of name None ∷ [])) EqualsSign
-      (λ filter more. bare_named scope filter done name EqualsSign (λ e. cc) more)
-      (step_tested (done ++ test_of name None ∷ []) EqualsSign) (right_tested n (done ++ test_of name None ∷ []) e EqualsSign)
-  right_named n done name e At =
-      through n (Named done name) (Tested (done ++ test_of name None ∷ [])) At
-      (λ filter more. bare_named scope filter done name At (λ e. cc) more)
-      (step_tested (done ++ test_of name None ∷ []) At) (right_tested n (done ++ test_of name None ∷ []) e At)
-  right_named n done name e (Name q) =
-      through n (Named done name) (Tested (done ++ test_of name None ∷ [])) (Name q)
-      (λ filter more. bare_named scope filter done name (Name q) (λ e. cc) more)
-      (step_tested (done ++ test_of name None ∷ []) (Name q)) (right_tested n (done ++ test_of name None ∷ []) e (Name q))
-  right_named n done name e (Literal v) =
-      through n (Named done name) (Tested (done ++ test_of name None ∷ [])) (Literal v)
-      (λ filter more. bare_named scope filter done name (Literal v) (λ e. cc) more)
-      (step_tested (done ++ test_of name None ∷ []) (Literal v)) (right_tested n (done ++ test_of name None ∷ []) e (Literal v))
+  right_named n done name e Any = named_without n done name e Any (λ e. cc)
+  right_named n done name e CloseBracket = named_without n done name e CloseBracket (λ e. cc)
+  right_named n done name e OpenParenthesis = named_without n done name e OpenParenthesis (λ e. cc)
+  right_named n done name e CloseParenthesis = named_without n done name e CloseParenthesis (λ e. cc)
+  right_named n done name e EqualsSign = named_without n done name e EqualsSign (λ e. cc)
+  right_named n done name e At = named_without n done name e At (λ e. cc)
+  right_named n done name e (Name q) = named_without n done name e (Name q) (λ e. cc)
+  right_named n done name e (Literal v) = named_without n done name e (Literal v) (λ e. cc)
 
   -- (2) at a factor
 
   module _ (n : ℕ) (c : Context) where
-    comparison_only : (t : Token) → t ≢ OpenParenthesis → (m : ℕ) (more : List Token) (p : Predicate) (mid : List Token)
+    comparison_only : (t : FilterToken) → t ≢ OpenParenthesis → (m : ℕ) (more : List FilterToken) (p : Predicate) (mid : List FilterToken)
         → TakesFactor scope m (t ∷ more) p mid → TakesComparison scope (t ∷ more) p mid
     comparison_only t other zero more p mid takes = takes
     comparison_only t other (suc m) more p mid (inl takes) = takes
     comparison_only t other (suc m) more p mid (inr group) = absurd (other (head_of t OpenParenthesis more group.0 group.1).0)
 
-    as_factor : (m : ℕ) (ts : List Token) (p : Predicate) (mid : List Token) → TakesComparison scope ts p mid → TakesFactor scope m ts p mid
+    as_factor : (m : ℕ) (ts : List FilterToken) (p : Predicate) (mid : List FilterToken) → TakesComparison scope ts p mid
+        → TakesFactor scope m ts p mid
     as_factor zero ts p mid takes = takes
     as_factor (suc m) ts p mid takes = inl takes
 
-    module _ (filter : Filter) (more : List Token) where
+    module _ (filter : Filter) (more : List FilterToken) where
       at_local : FactorFirst scope filter n c (At ∷ more) → LocalFirst scope filter n c more
       at_local (p, mid, takes, rest) = elim (comparison_only At (λ e. cc) n more p mid takes) [
         | inl a ↦
-            let tail : more ≡ Name (bare_name a.local) ∷ (EqualsSign ∷ (Literal a.value ∷ mid)) = (head_of At At more _ a.tokens_are).1 in
+            let tail : more ≡ Name (unprefixed_name a.local) ∷ (EqualsSign ∷ (Literal a.value ∷ mid)) = (head_of At At more _
+            a.tokens_are).1 in
             let after : AfterFactor scope filter n (with_factor c (Attr a.local a.value)) mid =
             subst (λ f. AfterFactor scope filter n (with_factor c f) mid) a.means rest in
             (a.local, EqualsSign ∷ (Literal a.value ∷ mid), tail, (Literal a.value ∷ mid, refl, (a.value, mid, refl, after)))
@@ -182,8 +172,8 @@ module _ (scope : Scope) where
 
       local_at : LocalFirst scope filter n c more → FactorFirst scope filter n c (At ∷ more)
       local_at (local, rest, e, (others, f, (value, end, g, after))) =
-          let all : more ≡ Name (bare_name local) ∷ (EqualsSign ∷ (Literal value ∷ end)) =
-          e ∙ ap (λ ts. Name (bare_name local) ∷ ts) (f ∙ ap (λ ts. EqualsSign ∷ ts) g) in (
+          let all : more ≡ Name (unprefixed_name local) ∷ (EqualsSign ∷ (Literal value ∷ end)) =
+          e ∙ ap (λ ts. Name (unprefixed_name local) ∷ ts) (f ∙ ap (λ ts. EqualsSign ∷ ts) g) in (
             Attr local value,
             end,
             as_factor n (At ∷ more) (Attr local value) end
@@ -230,7 +220,8 @@ module _ (scope : Scope) where
             none ch.name (subst (λ (v : Qualified). StandsFor scope v ch.name) (sym same) ch.named)
       ]
 
-      no_factor : (t : Token) → t ≢ OpenParenthesis → t ≢ At → ((q : Qualified) → t ≢ Name q) → FactorFirst scope filter n c (t ∷ more) → ⊥
+      no_factor : (t : FilterToken) → t ≢ OpenParenthesis → t ≢ At → ((q : Qualified) → t ≢ Name q)
+          → FactorFirst scope filter n c (t ∷ more) → ⊥
       no_factor t no_open no_at no_name (p, mid, takes, rest) = elim (comparison_only t no_open n more p mid takes) [
         | inl a ↦ no_at (head_of t At more _ a.tokens_are).0
         | inr ch ↦ no_name ch.written (head_of t (Name ch.written) more _ ch.tokens_are).0
@@ -252,10 +243,10 @@ module _ (scope : Scope) where
       )),
     )
 
-  abbrev InnerThen : ℕ → Context → Filter → Predicate → List Token → Type 0
+  abbrev InnerThen : ℕ → Context → Filter → Predicate → List FilterToken → Type 0
   InnerThen m c filter = Closes scope filter c.tests c.name m (record { ors = c.ors; ands = c.ands } ∷ c.outer)
 
-  open_inner : (m : ℕ) (c : Context) (filter : Filter) (more : List Token)
+  open_inner : (m : ℕ) (c : Context) (filter : Filter) (more : List FilterToken)
       → FactorFirst scope filter (suc m) c (OpenParenthesis ∷ more) ↔ FactorFirst scope filter m (inner_context c) more
   open_inner m c filter more = (
     (λ (p, mid, takes, rest). elim takes [
@@ -268,7 +259,7 @@ module _ (scope : Scope) where
           (or_part scope m (InnerThen m c filter) more).0 (
             p,
             CloseParenthesis ∷ mid,
-            subst (λ (ts : List Token). TakesOrs (TakesFactor scope m) ts p (CloseParenthesis ∷ mid)) tail group.2,
+            subst (λ (ts : List FilterToken). TakesOrs (TakesFactor scope m) ts p (CloseParenthesis ∷ mid)) tail group.2,
             (mid, refl, rest),
           )
     ]),
@@ -277,7 +268,7 @@ module _ (scope : Scope) where
         let e = part.3.1 in (
           part.0,
           part.3.0,
-          inr (more, refl, subst (λ (ts : List Token). TakesOrs (TakesFactor scope m) more part.0 ts) e part.2),
+          inr (more, refl, subst (λ (ts : List FilterToken). TakesOrs (TakesFactor scope m) more part.0 ts) e part.2),
           part.3.2,
         )),
   )
@@ -295,7 +286,7 @@ module _ (scope : Scope) where
       (sym (no_room (length c.outer) e))
       (λ filter more first. none filter more first)
     where
-      none : (filter : Filter) (more : List Token) → FactorFirst scope filter zero c (OpenParenthesis ∷ more) → ⊥
+      none : (filter : Filter) (more : List FilterToken) → FactorFirst scope filter zero c (OpenParenthesis ∷ more) → ⊥
       none filter more (p, mid, inl a, rest) = let wrong : OpenParenthesis ≡ At = (head_of OpenParenthesis At more _ a.tokens_are).0 in cc
       none filter more (p, mid, inr ch, rest) =
           let wrong : OpenParenthesis ≡ Name ch.written = (head_of OpenParenthesis (Name ch.written) more _ ch.tokens_are).0 in cc
@@ -304,7 +295,8 @@ module _ (scope : Scope) where
       (sym (room m (length c.outer) e))
       (m, omega (arith, e), (λ filter more. open_inner m c filter more))
 
-  right_factor : (n : ℕ) (c : Context) → n + length c.outer ≡ deepest → (t : Token) → IsRight n (FactorDue c) t (step_factor scope c t)
+  right_factor : (n : ℕ) (c : Context) → n + length c.outer ≡ deepest → (t : FilterToken)
+      → IsRight n (FactorDue c) t (step_factor scope c t)
   right_factor n c e OpenParenthesis = right_open n c e
   right_factor n c e At = (n, e, (λ filter more. (at_local n c filter more, local_at n c filter more)))
   right_factor n c e (Name q) = factor_name n c q e (space_of scope q.prefix) refl
@@ -321,36 +313,37 @@ module _ (scope : Scope) where
       → IsRight n (LocalDue c) (Name q) (if b then Some (EqualsDue c (operand.Attribute q.local)) else None)
   local_name n c q e true is = (n, e, (λ filter more. (to filter more, back filter more)))
     where
-      same : q ≡ bare_name q.local
+      same : q ≡ unprefixed_name q.local
       same = let p : q.prefix ≡ [] = eq_tells q.prefix [] is in (λ i. record { prefix = p i; local = q.local })
 
-      to : (filter : Filter) (more : List Token) → LocalFirst scope filter n c (Name q ∷ more)
+      to : (filter : Filter) (more : List FilterToken) → LocalFirst scope filter n c (Name q ∷ more)
           → EqualsFirst scope filter n c (operand.Attribute q.local) more
       to filter more (local, rest, f, equals) =
-          let both = head_of (Name q) (Name (bare_name local)) more rest f in
-          let first : Name q ≡ Name (bare_name local) = both.0 in
-          let is : q ≡ bare_name local = cc in
+          let both = head_of (Name q) (Name (unprefixed_name local)) more rest f in
+          let first : Name q ≡ Name (unprefixed_name local) = both.0 in
+          let is : q ≡ unprefixed_name local = cc in
           let locals : local ≡ q.local = sym (ap (λ (v : Qualified). v.local) is) in
           subst (λ l. EqualsFirst scope filter n c (operand.Attribute l) more) locals
           (subst (EqualsFirst scope filter n c (operand.Attribute local)) (sym both.1) equals)
 
-      back : (filter : Filter) (more : List Token) → EqualsFirst scope filter n c (operand.Attribute q.local) more
+      back : (filter : Filter) (more : List FilterToken) → EqualsFirst scope filter n c (operand.Attribute q.local) more
           → LocalFirst scope filter n c (Name q ∷ more)
       back filter more equals = (q.local, more, ap (λ (v : Qualified). Name v ∷ more) same, equals)
   local_name n c q e false is = λ filter more first. none filter more first
     where
-      none : (filter : Filter) (more : List Token) → LocalFirst scope filter n c (Name q ∷ more) → ⊥
+      none : (filter : Filter) (more : List FilterToken) → LocalFirst scope filter n c (Name q ∷ more) → ⊥
       none filter more (local, rest, f, equals) =
-          let first : Name q ≡ Name (bare_name local) = (head_of (Name q) (Name (bare_name local)) more rest f).0 in
-          let same : q ≡ bare_name local = cc in
+          let first : Name q ≡ Name (unprefixed_name local) = (head_of (Name q) (Name (unprefixed_name local)) more rest f).0 in
+          let same : q ≡ unprefixed_name local = cc in
           let wrong : false ≡ true = sym is ∙ ap (λ (v : Qualified). bytes_eq v.prefix []) same in
           cc
 
-  no_local : (n : ℕ) (c : Context) (t : Token) → ((q : Qualified) → t ≢ Name q) → (filter : Filter) (more : List Token)
+  no_local : (n : ℕ) (c : Context) (t : FilterToken) → ((q : Qualified) → t ≢ Name q) → (filter : Filter) (more : List FilterToken)
       → LocalFirst scope filter n c (t ∷ more) → ⊥
-  no_local n c t other filter more (local, rest, e, equals) = other (bare_name local) (head_of t (Name (bare_name local)) more rest e).0
+  no_local n c t other filter more (local, rest, e, equals) = other (unprefixed_name local) (head_of t (Name (unprefixed_name local))
+      more rest e).0
 
-  right_local : (n : ℕ) (c : Context) → n + length c.outer ≡ deepest → (t : Token) → IsRight n (LocalDue c) t (step_local c t)
+  right_local : (n : ℕ) (c : Context) → n + length c.outer ≡ deepest → (t : FilterToken) → IsRight n (LocalDue c) t (step_local c t)
   right_local n c e (Name q) = local_name n c q e (bytes_eq q.prefix []) refl
   right_local n c e Any = no_local n c Any (λ q e. cc)
   right_local n c e OpenBracket = no_local n c OpenBracket (λ q e. cc)
@@ -361,18 +354,18 @@ module _ (scope : Scope) where
   right_local n c e At = no_local n c At (λ q e. cc)
   right_local n c e (Literal v) = no_local n c (Literal v) (λ q e. cc)
 
-  no_equals : (n : ℕ) (c : Context) (a : Operand) (t : Token) → t ≢ EqualsSign → (filter : Filter) (more : List Token)
+  no_equals : (n : ℕ) (c : Context) (a : Operand) (t : FilterToken) → t ≢ EqualsSign → (filter : Filter) (more : List FilterToken)
       → EqualsFirst scope filter n c a (t ∷ more) → ⊥
   no_equals n c a t other filter more (rest, e, literal) = other (head_of t EqualsSign more rest e).0
 
-  equals : (n : ℕ) (c : Context) (a : Operand) (filter : Filter) (more : List Token)
+  equals : (n : ℕ) (c : Context) (a : Operand) (filter : Filter) (more : List FilterToken)
       → EqualsFirst scope filter n c a (EqualsSign ∷ more) ↔ LiteralFirst scope filter n c a more
   equals n c a filter more = (
     (λ (rest, e, literal). subst (LiteralFirst scope filter n c a) (sym (head_of EqualsSign EqualsSign more rest e).1) literal),
     (λ literal. (more, refl, literal)),
   )
 
-  right_equals : (n : ℕ) (c : Context) (a : Operand) → n + length c.outer ≡ deepest → (t : Token)
+  right_equals : (n : ℕ) (c : Context) (a : Operand) → n + length c.outer ≡ deepest → (t : FilterToken)
       → IsRight n (EqualsDue c a) t (step_equals c a t)
   right_equals n c a e EqualsSign = (n, e, equals n c a)
   right_equals n c a e Any = no_equals n c a Any (λ e. cc)
@@ -384,11 +377,12 @@ module _ (scope : Scope) where
   right_equals n c a e At = no_equals n c a At (λ e. cc)
   right_equals n c a e (Literal v) = no_equals n c a (Literal v) (λ e. cc)
 
-  no_literal : (n : ℕ) (c : Context) (a : Operand) (t : Token) → ((v : List ℕ) → t ≢ Literal v) → (filter : Filter) (more : List Token)
+  no_literal : (n : ℕ) (c : Context) (a : Operand) (t : FilterToken) → ((v : List ℕ) → t ≢ Literal v)
+      → (filter : Filter) (more : List FilterToken)
       → LiteralFirst scope filter n c a (t ∷ more) → ⊥
   no_literal n c a t other filter more (value, rest, e, after) = other value (head_of t (Literal value) more rest e).0
 
-  literal : (n : ℕ) (c : Context) (a : Operand) (v : List ℕ) (filter : Filter) (more : List Token)
+  literal : (n : ℕ) (c : Context) (a : Operand) (v : List ℕ) (filter : Filter) (more : List FilterToken)
       → LiteralFirst scope filter n c a (Literal v ∷ more) ↔ AfterFactor scope filter n (with_factor c (comparison_of a v)) more
   literal n c a v filter more = (
     (λ (value, rest, e, after).
@@ -400,7 +394,7 @@ module _ (scope : Scope) where
     (λ after. (v, more, refl, after)),
   )
 
-  right_literal : (n : ℕ) (c : Context) (a : Operand) → n + length c.outer ≡ deepest → (t : Token)
+  right_literal : (n : ℕ) (c : Context) (a : Operand) → n + length c.outer ≡ deepest → (t : FilterToken)
       → IsRight n (LiteralDue c a) t (step_literal c a t)
   right_literal n c a e (Literal v) = (n, e, literal n c a v)
   right_literal n c a e Any = no_literal n c a Any (λ v e. cc)
@@ -414,7 +408,7 @@ module _ (scope : Scope) where
 
   -- (4) after a factor
 
-  no_close : (filter : Filter) (tests : List Test) (name : Option element.Name) (n : ℕ) (outer : List OuterPart) (t : Token)
+  no_close : (filter : Filter) (tests : List Test) (name : Option element.Name) (n : ℕ) (outer : List OuterPart) (t : FilterToken)
       → t ≢ CloseBracket
       → t ≢ CloseParenthesis → Refuses scope n (Closes scope filter tests name n outer) t
   no_close filter tests name n [] t no_bracket no_parenthesis p more (after, e, rest) = no_bracket (head_of t CloseBracket more after e).0
@@ -451,11 +445,11 @@ module _ (scope : Scope) where
   )
   after_name n c q e false is = after_or n c q e is (is_word (codes "or") q) refl
 
-  closing : (n : ℕ) (c : Context) (t : Token) → ((q : Qualified) → t ≢ Name q) → (filter : Filter) (more : List Token)
+  closing : (n : ℕ) (c : Context) (t : FilterToken) → ((q : Qualified) → t ≢ Name q) → (filter : Filter) (more : List FilterToken)
       → AfterFactor scope filter n c (t ∷ more) ↔ Closes scope filter c.tests c.name n c.outer (done_part c.ors c.ands) (t ∷ more)
   closing n c t other filter more =
-      other_more scope n (Closes scope filter c.tests c.name n c.outer) c.ors c.ands t more (other (bare_name (codes "and")))
-      (other (bare_name (codes "or")))
+      other_more scope n (Closes scope filter c.tests c.name n c.outer) c.ors c.ands t more (other (unprefixed_name (codes "and")))
+      (other (unprefixed_name (codes "or")))
 
   module _ (n : ℕ) (tests : List Test) (name : Option element.Name) (ors ands : List Predicate) where
     abbrev within : List OuterPart → Context
@@ -465,7 +459,8 @@ module _ (scope : Scope) where
         → IsRight n (FactorDone (within outer)) CloseParenthesis (close_group (within outer) outer)
     closes_group [] e = λ filter more after. none filter more ((closing n (within []) CloseParenthesis (λ q e. cc) filter more).0 after)
       where
-        none : (filter : Filter) (more : List Token) → Closes scope filter tests name n [] (done_part ors ands) (CloseParenthesis ∷ more)
+        none : (filter : Filter) (more : List FilterToken) → Closes scope filter tests name n [] (done_part ors ands) (CloseParenthesis ∷
+            more)
             → ⊥
         none filter more (after, f, rest) =
             let wrong : CloseParenthesis ≡ CloseBracket = (head_of CloseParenthesis CloseBracket more after f).0 in cc
@@ -478,7 +473,7 @@ module _ (scope : Scope) where
       )),
     )
       where
-        to : (filter : Filter) (more : List Token) → Closes scope filter tests name n (outer_part ∷ outer) (done_part ors ands)
+        to : (filter : Filter) (more : List FilterToken) → Closes scope filter tests name n (outer_part ∷ outer) (done_part ors ands)
             (CloseParenthesis ∷ more)
             → MoreFactors scope (suc n) (Closes scope filter tests name (suc n) outer) outer_part.ors
             (outer_part.ands ++ done_part ors ands ∷ []) more
@@ -498,7 +493,7 @@ module _ (scope : Scope) where
       )),
     )
       where
-        to : (filter : Filter) (more : List Token) → Closes scope filter tests name n [] (done_part ors ands) (CloseBracket ∷ more)
+        to : (filter : Filter) (more : List FilterToken) → Closes scope filter tests name n [] (done_part ors ands) (CloseBracket ∷ more)
             → MoreTests scope filter (tests ++ test_of name (Some (done_part ors ands)) ∷ []) more
         to filter more (after, f, rest) =
             subst (MoreTests scope filter (tests ++ test_of name (Some (done_part ors ands)) ∷ []))
@@ -506,18 +501,18 @@ module _ (scope : Scope) where
     closes_test (outer_part ∷ outer) e =
         λ filter more after. none filter more ((closing n (within (outer_part ∷ outer)) CloseBracket (λ q e. cc) filter more).0 after)
       where
-        none : (filter : Filter) (more : List Token) → Closes scope filter tests name n (outer_part ∷ outer) (done_part ors ands)
+        none : (filter : Filter) (more : List FilterToken) → Closes scope filter tests name n (outer_part ∷ outer) (done_part ors ands)
             (CloseBracket ∷ more) → ⊥
         none filter more (after, f, rest) =
             let wrong : CloseBracket ≡ CloseParenthesis = (head_of CloseBracket CloseParenthesis more after f).0 in cc
 
-  nothing_closes : (n : ℕ) (c : Context) (t : Token) → ((q : Qualified) → t ≢ Name q) → t ≢ CloseBracket → t ≢ CloseParenthesis
-      → (filter : Filter) (more : List Token) → AfterFactor scope filter n c (t ∷ more) → ⊥
+  nothing_closes : (n : ℕ) (c : Context) (t : FilterToken) → ((q : Qualified) → t ≢ Name q) → t ≢ CloseBracket → t ≢ CloseParenthesis
+      → (filter : Filter) (more : List FilterToken) → AfterFactor scope filter n c (t ∷ more) → ⊥
   nothing_closes n c t other no_bracket no_parenthesis filter more after =
       no_close filter c.tests c.name n c.outer t no_bracket no_parenthesis (done_part c.ors c.ands) more
       ((closing n c t other filter more).0 after)
 
-  right_done : (n : ℕ) (c : Context) → n + length c.outer ≡ deepest → (t : Token) → IsRight n (FactorDone c) t (step_done c t)
+  right_done : (n : ℕ) (c : Context) → n + length c.outer ≡ deepest → (t : FilterToken) → IsRight n (FactorDone c) t (step_done c t)
   right_done n c e (Name q) = after_name n c q e (is_word (codes "and") q) refl
   right_done n c e CloseParenthesis = closes_group n c.tests c.name c.ors c.ands c.outer e
   right_done n c e CloseBracket = closes_test n c.tests c.name c.ors c.ands c.outer e
@@ -530,7 +525,7 @@ module _ (scope : Scope) where
 
   -- (5) all together
 
-  pub right : (n : ℕ) (w : Where) → n + nesting w ≡ deepest → (t : Token) → IsRight n w t (step_token scope w t)
+  pub right : (n : ℕ) (w : FilterState) → n + open_parts w ≡ deepest → (t : FilterToken) → IsRight n w t (step_token scope w t)
   right n Start e t =
       through n Start (TestDue []) t (λ filter more. started scope filter t more) (step_test scope [] t) (right_test n [] e t)
   right n (TestDue done) e t = right_test n done e t

@@ -1,9 +1,9 @@
 -- The token at the front by its first character.
 use Rattle.std.proofs.Common.{◌≡◌, ℕ, true, false, List, [], ◌∷◌, refl, ap, sym, ◌∙◌, Some, None}
 use Rattle.ifmap_elem.specs.Names.{is_name_start}
-use Rattle.ifmap_filter.specs.declared.tokens.Token.{Token}
+use Rattle.ifmap_filter.specs.declared.tokens.FilterToken.{FilterToken}
 use Rattle.ifmap_filter.specs.Tokens.{literal_at, name_at, symbol_of, front_token, token_at, with_symbol}
-use Rattle.ifmap_lexer.specs.There.{is_quote}
+use Rattle.ifmap_prefixes.specs.ifmap_lexer.There.{is_quote}
 
 module _ (cs : List ℕ) (c : ℕ) (more : List ℕ) (is : cs ≡ c ∷ more) where
   pub quoted : is_quote c ≡ true → token_at cs ≡ literal_at c more
@@ -24,7 +24,7 @@ module _ (cs : List ℕ) (c : ℕ) (more : List ℕ) (is : cs ≡ c ∷ more) wh
       by : token_at (c ∷ more) ≡ with_symbol more (symbol_of c)
       by = rw (q, n) refl
 
-  pub one_symbol : is_quote c ≡ false → is_name_start c ≡ false → (t : Token) → symbol_of c ≡ Some t
+  pub one_symbol : is_quote c ≡ false → is_name_start c ≡ false → (t : FilterToken) → symbol_of c ≡ Some t
       → token_at cs ≡ Some (front_token t more)
   one_symbol q n t e = symbol q n ∙ ap (with_symbol more) e
 

@@ -5,26 +5,26 @@ use Rattle.std.specs.Str.{bytes_eq}
 use Rattle.ifmap_elem.specs.Scopes.{xml_space}
 use Rattle.ifmap_elem.specs.declared.elements.Name as element
 use Rattle.ifmap_elem.specs.declared.tokens.Qualified.{Qualified}
-use Rattle.ifmap_reader.specs.declared.scoping.Scope.{Scope}
+use Rattle.ifmap_prefixes.specs.ifmap_reader.declared.scoping.Scope.{Scope}
 use Rattle.ifmap_filter.specs.declared.filters.Predicate.{Predicate, Attr, Child, And, Or}
 use Rattle.ifmap_filter.specs.declared.filters.Test.{Test}
 use Rattle.ifmap_filter.specs.declared.filters.Filter.{Filter}
-use Rattle.ifmap_filter.specs.declared.tokens.Token.{Token}
-use Rattle.ifmap_filter.specs.declared.tokens.Token.TheVariants.{Any, OpenBracket, CloseBracket, OpenParenthesis, CloseParenthesis, EqualsSign, At, Name, Literal}
+use Rattle.ifmap_filter.specs.declared.tokens.FilterToken.{FilterToken}
+use Rattle.ifmap_filter.specs.declared.tokens.FilterToken.TheVariants.{Any, OpenBracket, CloseBracket, OpenParenthesis, CloseParenthesis, EqualsSign, At, Name, Literal}
 
 -- what a grammar rule takes from the front of tokens, and what is left
 abbrev pub Rule : Type 0 → Type 1
-Rule X = List Token → X → List Token → Type 0
+Rule X = List FilterToken → X → List FilterToken → Type 0
 
-abbrev pub bare_name : List ℕ → Qualified
-bare_name local = record { prefix = []; local = local }
+abbrev pub unprefixed_name : List ℕ → Qualified
+unprefixed_name local = record { prefix = []; local = local }
 
 -- the two names that join
-abbrev pub or_word : Token
-or_word = Name (bare_name (codes "or"))
+abbrev pub or_word : FilterToken
+or_word = Name (unprefixed_name (codes "or"))
 
-abbrev pub and_word : Token
-and_word = Name (bare_name (codes "and"))
+abbrev pub and_word : FilterToken
+and_word = Name (unprefixed_name (codes "and"))
 
 -- the namespace of a prefix: none without a prefix, its own for `xml` in every scope (Namespaces in XML 1.0, section 3), and else what the
 -- first row with it says
@@ -38,14 +38,14 @@ pub record StandsFor (scope : Scope) (q : Qualified) (name : element.Name) : Typ
   pub local_is : name.local ≡ q.local
 
 -- `@`, a name without a prefix, `=`, and a literal
-pub record TakesAttribute (ts : List Token) (p : Predicate) (rest : List Token) : Type 0 where
+pub record TakesAttribute (ts : List FilterToken) (p : Predicate) (rest : List FilterToken) : Type 0 where
   pub local : List ℕ
   pub value : List ℕ
-  pub tokens_are : ts ≡ At ∷ (Name (bare_name local) ∷ (EqualsSign ∷ (Literal value ∷ rest)))
+  pub tokens_are : ts ≡ At ∷ (Name (unprefixed_name local) ∷ (EqualsSign ∷ (Literal value ∷ rest)))
   pub means : p ≡ Attr local value
 
 -- a name, `=`, and a literal
-pub record TakesChild (scope : Scope) (ts : List Token) (p : Predicate) (rest : List Token) : Type 0 where
+pub record TakesChild (scope : Scope) (ts : List FilterToken) (p : Predicate) (rest : List FilterToken) : Type 0 where
   pub written : Qualified
   pub name : element.Name
   pub value : List ℕ
@@ -58,13 +58,13 @@ TakesComparison scope ts p rest = TakesAttribute ts p rest ⊎ TakesChild scope 
 
 -- parentheses round what this rule takes
 abbrev pub TakesGroup : Rule Predicate → Rule Predicate
-TakesGroup Inner ts p rest = (inner : List Token) × (ts ≡ OpenParenthesis ∷ inner) × Inner inner p (CloseParenthesis ∷ rest)
+TakesGroup Inner ts p rest = (inner : List FilterToken) × (ts ≡ OpenParenthesis ∷ inner) × Inner inner p (CloseParenthesis ∷ rest)
 
 -- further parts, each after the word that joins them
-abbrev pub TakesMore : {X : Type 0} → Token → Rule X → List Token → List X → List Token → Type 0
+abbrev pub TakesMore : {X : Type 0} → FilterToken → Rule X → List FilterToken → List X → List FilterToken → Type 0
 TakesMore word Part ts [] rest = ts ≡ rest
 TakesMore word Part ts (x ∷ xs) rest =
-    (after mid : List Token) × (ts ≡ word ∷ after) × Part after x mid × TakesMore word Part mid xs rest
+    (after mid : List FilterToken) × (ts ≡ word ∷ after) × Part after x mid × TakesMore word Part mid xs rest
 
 -- one part is that part; two or more are joined
 abbrev pub join_of : (List Predicate → Predicate) → Predicate → List Predicate → Predicate
@@ -72,11 +72,12 @@ join_of join first [] = first
 join_of join first (p ∷ ps) = join (first ∷ (p ∷ ps))
 
 -- parts that a word joins
-pub record TakesJoined (join : List Predicate → Predicate) (word : Token) (Part : Rule Predicate) (ts : List Token) (p : Predicate)
-    (rest : List Token) : Type 0 where
+pub record TakesJoined (join : List Predicate → Predicate) (word : FilterToken) (Part : Rule Predicate) (ts : List FilterToken) (p :
+    Predicate)
+    (rest : List FilterToken) : Type 0 where
   pub first : Predicate
   pub others : List Predicate
-  pub mid : List Token
+  pub mid : List FilterToken
   pub one : Part ts first mid
   pub more : TakesMore word Part mid others rest
   pub means : p ≡ join_of join first others
@@ -102,7 +103,7 @@ abbrev pub TakesOrPart : Scope → ℕ → Rule Predicate
 TakesOrPart scope depth = TakesOrs (TakesFactor scope depth)
 
 -- the name that a test asks for: `*` for any
-abbrev pub AsksFor : Scope → Token → Option element.Name → Type 0
+abbrev pub AsksFor : Scope → FilterToken → Option element.Name → Type 0
 AsksFor scope t None = t ≡ Any
 AsksFor scope t (Some name) = (q : Qualified) × (t ≡ Name q) × StandsFor scope q name
 
@@ -110,25 +111,25 @@ AsksFor scope t (Some name) = (q : Qualified) × (t ≡ Name q) × StandsFor sco
 abbrev pub TakesPredicate : Scope → ℕ → Rule (Option Predicate)
 TakesPredicate scope depth ts None rest = ts ≡ rest
 TakesPredicate scope depth ts (Some p) rest =
-    (inner : List Token) × (ts ≡ OpenBracket ∷ inner) × TakesOrPart scope depth inner p (CloseBracket ∷ rest)
+    (inner : List FilterToken) × (ts ≡ OpenBracket ∷ inner) × TakesOrPart scope depth inner p (CloseBracket ∷ rest)
 
-pub record TakesTest (scope : Scope) (depth : ℕ) (ts : List Token) (test : Test) (rest : List Token) : Type 0 where
-  pub head : Token
-  pub after : List Token
+pub record TakesTest (scope : Scope) (depth : ℕ) (ts : List FilterToken) (test : Test) (rest : List FilterToken) : Type 0 where
+  pub head : FilterToken
+  pub after : List FilterToken
   pub tokens_are : ts ≡ head ∷ after
   pub asks : AsksFor scope head test.name
   pub holds : TakesPredicate scope depth after test.predicate rest
 
 -- no tests, or tests joined by `or`
-abbrev pub AreTests : Scope → ℕ → List Token → List Test → Type 0
+abbrev pub AreTests : Scope → ℕ → List FilterToken → List Test → Type 0
 AreTests scope depth ts [] = ts ≡ []
 AreTests scope depth ts (test ∷ tests) =
-    (mid : List Token) × TakesTest scope depth ts test mid × TakesMore or_word (TakesTest scope depth) mid tests []
+    (mid : List FilterToken) × TakesTest scope depth ts test mid × TakesMore or_word (TakesTest scope depth) mid tests []
 
 -- the tokens are this filter, with parentheses that nest at most so deep
-abbrev pub IsFilterWithin : ℕ → Scope → List Token → Filter → Type 0
+abbrev pub IsFilterWithin : ℕ → Scope → List FilterToken → Filter → Type 0
 IsFilterWithin depth scope ts filter = AreTests scope depth ts filter.tests
 
 -- the tokens are this filter
-abbrev pub IsFilter : Scope → List Token → Filter → Type 0
+abbrev pub IsFilter : Scope → List FilterToken → Filter → Type 0
 IsFilter = IsFilterWithin deepest

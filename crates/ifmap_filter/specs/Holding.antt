@@ -43,8 +43,8 @@ is_child_of name value (Child-F.Element element) = is_text_element name value el
 is_child_of name value (Child-F.Text text) = false
 
 -- the child is an element of this name with this text
-abbrev pub is_child : Name → List ℕ → Child → Bool
-is_child name value child = is_child_of name value (out-Child child)
+abbrev pub is_child_with : Name → List ℕ → Child → Bool
+is_child_with name value child = is_child_of name value (out-Child child)
 
 abbrev pub has_child : Name → List ℕ → Element → Bool
-has_child name value element = list_any (is_child name value) element.children
+has_child name value element = list_any (is_child_with name value) element.children

@@ -11,3 +11,5 @@ pub mod Marks
 pub mod Laws
 pub mod Progress
 pub mod Reaching
+-- What is passed on to the crates above.
+pub mod ifmap_prefixes

@@ -1,13 +1,13 @@
 -- Which tokens the marks of a text are, which borrow from it what is written there.
 use Rattle.std.specs.Prelude.{◌≡◌, ℕ, List, chars, Option, Some}
-use Rattle.ifmap_lexer.specs.There.{qualified_of}
+use Rattle.ifmap_prefixes.specs.ifmap_lexer.There.{qualified_of}
 use Rattle.ifmap_filter.specs.declared.marks.Mark.{Mark}
 use Rattle.ifmap_filter.specs.declared.marks.Mark.TheVariants as mark
-use Rattle.ifmap_filter.specs.declared.tokens.Token.{Token}
-use Rattle.ifmap_filter.specs.declared.tokens.Token.TheVariants.{Any, OpenBracket, CloseBracket, OpenParenthesis, CloseParenthesis, EqualsSign, At, Name, Literal}
+use Rattle.ifmap_filter.specs.declared.tokens.FilterToken.{FilterToken}
+use Rattle.ifmap_filter.specs.declared.tokens.FilterToken.TheVariants.{Any, OpenBracket, CloseBracket, OpenParenthesis, CloseParenthesis, EqualsSign, At, Name, Literal}
 use Rattle.ifmap_filter.specs.Tokens.{FrontToken, front_token}
 
-abbrev pub token_of : Mark → Token
+abbrev pub token_of : Mark → FilterToken
 token_of mark.Any = Any
 token_of mark.OpenBracket = OpenBracket
 token_of mark.CloseBracket = CloseBracket

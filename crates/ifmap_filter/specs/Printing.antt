@@ -6,7 +6,7 @@ use Rattle.ifmap_lemmas.specs.Numerals.{numeral}
 use Rattle.ifmap_elem.specs.Chars.{colon, double_quote, single_quote}
 use Rattle.ifmap_elem.specs.Scopes.{xml_space}
 use Rattle.ifmap_elem.specs.declared.elements.Name.{Name}
-use Rattle.ifmap_reader.specs.declared.scoping.Scope.{Scope}
+use Rattle.ifmap_prefixes.specs.ifmap_reader.declared.scoping.Scope.{Scope}
 use Rattle.ifmap_filter.specs.declared.errors.FilterError.{FilterError}
 use Rattle.ifmap_filter.specs.declared.errors.FilterError.TheVariants.{NoMemory}
 use Rattle.ifmap_filter.specs.declared.filters.Predicate.{Predicate, fold-Predicate}
@@ -31,15 +31,15 @@ abbrev pub numbered_scope : List (List ℕ) → Scope
 numbered_scope spaces = record { rows = numbered_rows 1 spaces }
 
 -- the place of the namespace among the others, counted from 0
-abbrev pub place_of : List ℕ → List (List ℕ) → ℕ
-place_of space spaces = prefix_len (λ s. not (bytes_eq s space)) spaces
+abbrev pub space_place : List ℕ → List (List ℕ) → ℕ
+space_place space spaces = prefix_len (λ s. not (bytes_eq s space)) spaces
 
 -- a name: without a prefix where it is in no namespace, with `xml` where it is in that of `xml`, and else with the prefix of the place
 -- of its namespace
 abbrev pub name_text : List (List ℕ) → Name → List ℕ
 name_text spaces name =
     if bytes_eq name.space [] then name.local else if bytes_eq name.space xml_space then codes "xml:" ++ name.local
-    else numbered_prefix (place_of name.space spaces + 1) ++ (colon ∷ name.local)
+    else numbered_prefix (space_place name.space spaces + 1) ++ (colon ∷ name.local)
 
 abbrev pub has_single_quote : List ℕ → Bool
 has_single_quote value = list_any (λ b. b == single_quote) value

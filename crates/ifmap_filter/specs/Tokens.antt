@@ -4,17 +4,17 @@ use Rattle.std.specs.Prelude.{◌≡◌, ℕ, Bool, ◌==◌, if◌then◌else�
 use Rattle.std.specs.Str.{byte}
 use Rattle.ifmap_elem.specs.Chars.{colon, equals_sign, is_white}
 use Rattle.ifmap_elem.specs.Names.{is_name_character, is_name_start}
-use Rattle.ifmap_filter.specs.declared.tokens.Token.{Token}
-use Rattle.ifmap_filter.specs.declared.tokens.Token.TheVariants.{Any, OpenBracket, CloseBracket, OpenParenthesis, CloseParenthesis, EqualsSign, At, Name, Literal}
-use Rattle.ifmap_lexer.specs.Cutting.{is_but}
-use Rattle.ifmap_lexer.specs.There.{is_quote}
+use Rattle.ifmap_filter.specs.declared.tokens.FilterToken.{FilterToken}
+use Rattle.ifmap_filter.specs.declared.tokens.FilterToken.TheVariants.{Any, OpenBracket, CloseBracket, OpenParenthesis, CloseParenthesis, EqualsSign, At, Name, Literal}
+use Rattle.ifmap_prefixes.specs.ifmap_lexer.Cutting.{is_but}
+use Rattle.ifmap_prefixes.specs.ifmap_lexer.There.{is_quote}
 
 -- a token at the front of characters, and what is left
 pub record FrontToken : Type 0 where
-  pub token : Token
+  pub token : FilterToken
   pub rest : List ℕ
 
-abbrev pub front_token : Token → List ℕ → FrontToken
+abbrev pub front_token : FilterToken → List ℕ → FrontToken
 front_token t cs = record { token = t; rest = cs }
 
 -- the characters at the front that pass, and what is left after them
@@ -30,13 +30,13 @@ abbrev pub without_white : List ℕ → List ℕ
 without_white cs = after_while is_white cs
 
 -- the token that is one character
-abbrev pub symbol_of : ℕ → Option Token
+abbrev pub symbol_of : ℕ → Option FilterToken
 symbol_of c =
     if c == byte "*" then Some Any else if c == byte "[" then Some OpenBracket else if c == byte "]" then Some CloseBracket
     else if c == byte "(" then Some OpenParenthesis else if c == byte ")" then Some CloseParenthesis
     else if c == equals_sign then Some EqualsSign else if c == byte "@" then Some At else None
 
-abbrev pub with_symbol : List ℕ → Option Token → Option FrontToken
+abbrev pub with_symbol : List ℕ → Option FilterToken → Option FrontToken
 with_symbol cs None = None
 with_symbol cs (Some t) = Some (front_token t cs)
 
@@ -53,7 +53,7 @@ literal_at quote cs = closed_literal (front_while (is_but quote) cs) (after_whil
 abbrev pub part_bytes : List ℕ → List ℕ
 part_bytes cs = encode_utf8_all (front_while is_name_character cs)
 
-abbrev pub name_token : List ℕ → List ℕ → Token
+abbrev pub name_token : List ℕ → List ℕ → FilterToken
 name_token prefix local = Name (record { prefix = prefix; local = local })
 
 -- the name of this prefix, after its colon: where no part begins there, none
@@ -78,9 +78,9 @@ token_at (c ∷ cs) =
     if is_quote c then literal_at c cs else if is_name_start c then name_at (c ∷ cs) else with_symbol cs (symbol_of c)
 
 -- the token stands at the front, after white space or none, and this is left
-abbrev pub Takes : List ℕ → Token → List ℕ → Type 0
+abbrev pub Takes : List ℕ → FilterToken → List ℕ → Type 0
 Takes cs t rest = token_at (without_white cs) ≡ Some (front_token t rest)
 
 -- no token is left
-abbrev pub IsEnd : List ℕ → Type 0
-IsEnd cs = without_white cs ≡ []
+abbrev pub HasNoToken : List ℕ → Type 0
+HasNoToken cs = without_white cs ≡ []

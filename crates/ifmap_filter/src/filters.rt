@@ -55,7 +55,7 @@ fn copy_predicate(alloc: Global, predicate: &Predicate) -> Result<Predicate, NoM
 fn copy_parts(alloc: Global, parts: &Many<Predicate>) -> Result<Many<Predicate>, NoMemory>
     ensures { IfOk result (λ made. made ≡ parts.now) }
 {
-    let mut made = Vec::with_capacity(alloc, parts.0.len())?;
+    let mut made = Vec::with_capacity(alloc, parts.len())?;
     for part in &parts.0 {
         made.push(copy_predicate(alloc, part)?)?;
     }
@@ -114,7 +114,7 @@ fn predicates_are_one(one: &Predicate, other: &Predicate) -> bool
 fn parts_are_one(one: &Many<Predicate>, other: &Many<Predicate>) -> bool
     ensures { IsTrue result ↔ (one.now ≡ other.now) }
 {
-    if one.0.len() != other.0.len() {
+    if one.len() != other.len() {
         return false;
     }
     for i in 0..one.0.len() {

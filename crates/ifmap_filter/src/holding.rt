@@ -1,7 +1,7 @@
 //! What an element holds of what predicates ask for.
 ghost use Rattle.std.specs.Prelude.{◌≡◌, ◌++◌, ℕ, List, IfNone, IfSome};
 ghost use Rattle.std.specs.List.{list_any};
-ghost use Rattle.ifmap_filter.specs.Holding.{has_attribute, has_child, has_text, is_attribute, is_child, is_text_element, own_text};
+ghost use Rattle.ifmap_filter.specs.Holding.{has_attribute, has_child, has_text, is_attribute, is_child_with, is_text_element, own_text};
 
 use ifmap_elem::{Attribute, Child, Element, Equals, Many, Name, Text};
 
@@ -31,7 +31,7 @@ pub(crate) fn has_child(element: &Element, name: &Name, value: &Text) -> bool
 }
 
 fn is_child(child: &Child, name: &Name, value: &Text) -> bool
-    ensures { result ≡ is_child name.now value.now child.now }
+    ensures { result ≡ is_child_with name.now value.now child.now }
 {
     match child {
         Child::Element(element) => is_text_element(element, name, value),

@@ -3,14 +3,14 @@ ghost use Rattle.std.specs.Prelude.{◌≡◌, ◌∷◌, [], chars, IfNone, IfS
 ghost use Rattle.std.specs.Option.{option_map};
 ghost use Rattle.ifmap_elem.specs.Chars.{is_white};
 ghost use Rattle.ifmap_elem.specs.Names.{is_name_character};
-ghost use Rattle.ifmap_filter.specs.Lexing.{Cuts};
+ghost use Rattle.ifmap_filter.specs.Lexing.{CutsCharacters};
 ghost use Rattle.ifmap_filter.specs.Marks.{IsFrontMark, token_of};
 ghost use Rattle.ifmap_filter.specs.Tokens.{literal_at, name_at, prefixed_name_at, symbol_of, token_at, without_white};
-ghost use Rattle.ifmap_lexer.specs.Cutting.{is_but};
-ghost use Rattle.ifmap_lexer.specs.There.{is_quote};
+ghost use Rattle.ifmap_prefixes.specs.ifmap_lexer.Cutting.{is_but};
+ghost use Rattle.ifmap_prefixes.specs.ifmap_lexer.There.{is_quote};
 
 use crate::marks::Mark;
-use ifmap_lexer::{is_name_character, is_name_start};
+use ifmap_prefixes::{is_name_character, is_name_start};
 
 // The token at the front, and what is left; none where no token stands there.
 pub(crate) fn token_at(text: &str) -> Option<(Mark<'_>, &str)>
@@ -83,7 +83,7 @@ pub(crate) fn without_white(text: &str) -> &str
 
 // The white space at the front, and what is left.
 fn split_white(text: &str) -> (&str, &str)
-    ensures { Cuts is_white text.now result.0.now result.1.now }
+    ensures { CutsCharacters is_white text.now result.0.now result.1.now }
 {
     match text.find(|c: char| !is_white(c)) {
         Some(place) => text.split_at(place),
@@ -112,7 +112,7 @@ fn literal_at(quote: char, text: &str) -> Option<(Mark<'_>, &str)>
 
 // The characters before the next such quote, and what is left from it on.
 fn split_literal(quote: char, text: &str) -> (&str, &str)
-    ensures { Cuts (is_but quote) text.now result.0.now result.1.now }
+    ensures { CutsCharacters (is_but quote) text.now result.0.now result.1.now }
 {
     match text.find(quote) {
         Some(place) => text.split_at(place),
@@ -159,7 +159,7 @@ fn prefixed_name_at<'a>(prefix: &'a str, text: &'a str) -> Option<(Mark<'a>, &'a
 
 // The characters of names at the front, and what is left.
 fn split_name(text: &str) -> (&str, &str)
-    ensures { Cuts is_name_character text.now result.0.now result.1.now }
+    ensures { CutsCharacters is_name_character text.now result.0.now result.1.now }
 {
     match text.find(|c: char| !is_name_character(c)) {
         Some(place) => text.split_at(place),

@@ -19,4 +19,5 @@ pub mod tokens;
 
 pub use errors::FilterError;
 pub use filters::{Filter, Predicate, Test};
+pub use ifmap_prefixes::{Declarations, Prefixes};
 pub use matching::meets_optional;

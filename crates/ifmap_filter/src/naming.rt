@@ -2,8 +2,8 @@
 ghost use Rattle.std.specs.Prelude.{◌≡◌, IfOk};
 ghost use Rattle.std.specs.Option.{option_copied};
 ghost use Rattle.ifmap_filter.specs.Grammar.{space_of};
-ghost use Rattle.ifmap_lexer.specs.There.{qualified_of};
-ghost use Rattle.ifmap_filter.specs.Progress.{is_word, name_of};
+ghost use Rattle.ifmap_prefixes.specs.ifmap_lexer.There.{qualified_of};
+ghost use Rattle.ifmap_filter.specs.Progress.{is_word, resolved_name};
 
 use ifmap_elem::{Name, XML_SPACE};
 use ifmap_prefixes::Prefixes;
@@ -16,7 +16,7 @@ pub(crate) fn name_of(
     prefix: &str,
     local: &str,
 ) -> Result<Option<Name>, NoMemory>
-    ensures { IfOk result (λ o. o ≡ name_of scope.now (qualified_of prefix.now local.now)) }
+    ensures { IfOk result (λ o. o ≡ resolved_name scope.now (qualified_of prefix.now local.now)) }
 {
     match space_of(scope, prefix) {
         Some(space) => Ok(Some(Name::new(alloc, space, local)?)),

@@ -1,17 +1,16 @@
 //! Reads the text of a filter.
 ghost use Rattle.std.specs.Prelude.{IfErr, IfOk};
-ghost use Rattle.ifmap_filter.specs.Progress.{where_is};
+ghost use Rattle.ifmap_filter.specs.Progress.{filter_state};
 ghost use Rattle.ifmap_filter.specs.Reaching.{IsEndAnswer, IsRefused, StepsOn};
 ghost use Rattle.ifmap_filter.specs.Texts.{IsParsed};
 
 use crate::errors::FilterError;
 use crate::filters::Filter;
 use crate::lexing::{token_at, without_white};
-use crate::standing::{Standing, filter_at, take_token};
+use crate::standing::{FilterStanding, filter_at, take_token};
 use ifmap_elem::Text;
 use ifmap_prefixes::rows::declarations_of;
-use ifmap_prefixes::{Declarations, Prefixes};
-use ifmap_reader::Scope;
+use ifmap_prefixes::{Declarations, Prefixes, Scope};
 use std::alloc::Global;
 
 impl Filter {
@@ -54,7 +53,7 @@ impl Filter {
 fn read_filter(alloc: Global, text: &str, scope: &Prefixes<'_, '_>) -> Result<Filter, FilterError>
     ensures { IsParsed text.now scope.now result }
 {
-    let mut standing = Standing::new(alloc);
+    let mut standing = FilterStanding::new(alloc);
     let mut rest = without_white(text);
     while !rest.is_empty() {
         let at = (text.len() - rest.len()) as u64;
@@ -68,14 +67,14 @@ fn read_filter(alloc: Global, text: &str, scope: &Prefixes<'_, '_>) -> Result<Fi
 fn read_token<'a>(
     alloc: Global,
     scope: &Prefixes<'_, '_>,
-    standing: &mut Standing,
+    standing: &mut FilterStanding,
     rest: &'a str,
     at: u64,
 ) -> Result<&'a str, FilterError>
     ensures next { IfOk result (λ left.
-        StepsOn scope.now (where_is standing.old) rest.now (where_is standing.new) left.now) }
+        StepsOn scope.now (filter_state standing.old) rest.now (filter_state standing.new) left.now) }
     ensures refused { IfErr result (λ e.
-        IsRefused scope.now (where_is standing.old) rest.now at e) }
+        IsRefused scope.now (filter_state standing.old) rest.now at e) }
 {
     let Some((mark, after)) = token_at(rest) else {
         return Err(FilterError::NotAFilter { at });
@@ -88,8 +87,8 @@ fn read_token<'a>(
 }
 
 // The filter, where the text may end here, at that place.
-fn whole_filter(alloc: Global, standing: Standing, at: u64) -> Result<Filter, FilterError>
-    ensures { IsEndAnswer (where_is standing) at result }
+fn whole_filter(alloc: Global, standing: FilterStanding, at: u64) -> Result<Filter, FilterError>
+    ensures { IsEndAnswer (filter_state standing) at result }
 {
     match filter_at(alloc, standing)? {
         Some(filter) => Ok(filter),

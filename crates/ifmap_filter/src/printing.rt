@@ -2,7 +2,7 @@
 ghost use Rattle.std.specs.Prelude.{◌≡◌, ◌<◌, ◌≤◌, ◌+◌, ◌^◌, ◌++◌, ◌∷◌, [], IfOk, OnOk, codes, length, string_bytes};
 ghost use Rattle.ifmap_elem.specs.Chars.{colon};
 ghost use Rattle.ifmap_filter.specs.declared.printing.Around.TheVariants.{Ands, Ors};
-ghost use Rattle.ifmap_filter.specs.Printing.{NestsNoDeeper, WritesBack, ands_text, attribute_text, brackets_text, child_text, filter_text, group_text, has_single_quote, joined_texts, literal_text, name_text, numbered_prefix, ors_text, parts_text, place_of, predicate_text, quote_of, test_name_text, test_text, text_in, word_in};
+ghost use Rattle.ifmap_filter.specs.Printing.{NestsNoDeeper, WritesBack, ands_text, attribute_text, brackets_text, child_text, filter_text, group_text, has_single_quote, joined_texts, literal_text, name_text, numbered_prefix, ors_text, parts_text, space_place, predicate_text, quote_of, test_name_text, test_text, text_in, word_in};
 ghost use Rattle.ifmap_filter.specs.Spaces.{HasSpaces};
 
 use crate::filters::{Filter, Predicate, Test};
@@ -287,7 +287,7 @@ fn push_prefix(out: &mut String, number: usize) -> Result<(), NoMemory>
 // The place of the namespace, and the end where it is not among them.
 #[tactic(auto, using(crate::proofs::PrintLaws::at_place, crate::proofs::PrintLaws::past_place, crate::proofs::PrintLaws::no_place))]
 fn place_of(space: &str, spaces: &[Text]) -> usize
-    ensures place { result ≡ place_of space.now spaces.now }
+    ensures place { result ≡ space_place space.now spaces.now }
     ensures within { result ≤ length spaces.now }
 {
     for (i, other) in spaces.iter().enumerate() {

@@ -1,10 +1,10 @@
 //! Where a reader of filters stands, and what one more token makes of it.
 ghost use Rattle.std.specs.Prelude.{◌≡◌, ◌++◌, ◌∷◌, [], IfNone, IfOk, IfSome, OnOk};
-ghost use Rattle.ifmap_lexer.specs.There.{qualified_of};
+ghost use Rattle.ifmap_prefixes.specs.ifmap_lexer.There.{qualified_of};
 ghost use Rattle.ifmap_filter.specs.Marks.{token_of};
-ghost use Rattle.ifmap_filter.specs.Progress.{IsNotSingle, StandsAt, Start, comparison_of, context, done_part, join_parts, inner_place, step_token, step_done, step_equals, step_factor, step_joining, step_literal, step_local, step_named, step_test, step_tested, test_of, where_is, filter_at};
+ghost use Rattle.ifmap_filter.specs.Progress.{IsNotSingle, StandsAt, Start, comparison_of, context, done_part, join_parts, inner_place, step_token, step_done, step_equals, step_factor, step_joining, step_literal, step_local, step_named, step_test, step_tested, test_of, filter_state, filter_at};
 ghost use Rattle.ifmap_filter.specs.declared.filters.Predicate.{And, Or};
-ghost use Rattle.ifmap_filter.specs.declared.tokens.Token.TheVariants.{CloseBracket, CloseParenthesis};
+ghost use Rattle.ifmap_filter.specs.declared.tokens.FilterToken.TheVariants.{CloseBracket, CloseParenthesis};
 
 use crate::filters::{Filter, Predicate, Test};
 use crate::marks::Mark;
@@ -44,7 +44,7 @@ pub(crate) enum Operand {
 }
 
 #[derive(Clone, Copy)]
-pub(crate) enum Place {
+pub(crate) enum FilterPlace {
     Start,
     // After an `or` between tests.
     TestDue,
@@ -63,18 +63,18 @@ pub(crate) enum Place {
 // The place, and what was read before it. What is not there yet at this place (the parts of a test
 // before its name, an operand before a factor) may be anything: it is what was there before.
 #[derive(Drop)]
-pub(crate) struct Standing {
-    pub(crate) place: Place,
+pub(crate) struct FilterStanding {
+    pub(crate) place: FilterPlace,
     pub(crate) open_part: OpenPart,
     pub(crate) operand: Operand,
 }
 
-impl Standing {
-    pub(crate) fn new(alloc: Global) -> Standing
-        ensures { where_is result ≡ Start }
+impl FilterStanding {
+    pub(crate) fn new(alloc: Global) -> FilterStanding
+        ensures { filter_state result ≡ Start }
     {
-        Standing {
-            place: Place::Start,
+        FilterStanding {
+            place: FilterPlace::Start,
             open_part: OpenPart {
                 tests: Many(Vec::new(alloc)),
                 name: None,
@@ -91,32 +91,32 @@ impl Standing {
 pub(crate) fn take_token(
     alloc: Global,
     scope: &Prefixes<'_, '_>,
-    standing: &mut Standing,
+    standing: &mut FilterStanding,
     mark: Mark<'_>,
 ) -> Result<bool, NoMemory>
     ensures { IfOk result (λ allowed. StandsAt allowed standing.new
-        (step_token scope.now (where_is standing.old) (token_of mark.entry))) }
+        (step_token scope.now (filter_state standing.old) (token_of mark.entry))) }
 {
     match standing.place {
-        Place::Start => {
+        FilterPlace::Start => {
             standing.open_part.tests = Many(Vec::new(alloc));
             take_test(alloc, scope, standing, mark)
         }
-        Place::TestDue => take_test(alloc, scope, standing, mark),
-        Place::Named => take_named(standing, mark),
-        Place::Tested => Ok(take_tested(standing, mark)),
-        Place::FactorDue => take_factor(alloc, scope, standing, mark),
-        Place::LocalDue => take_local(alloc, standing, mark),
-        Place::EqualsDue => Ok(take_equals(standing, mark)),
-        Place::LiteralDue => take_literal(alloc, standing, mark),
-        Place::FactorDone => take_done(alloc, standing, mark),
+        FilterPlace::TestDue => take_test(alloc, scope, standing, mark),
+        FilterPlace::Named => take_named(standing, mark),
+        FilterPlace::Tested => Ok(take_tested(standing, mark)),
+        FilterPlace::FactorDue => take_factor(alloc, scope, standing, mark),
+        FilterPlace::LocalDue => take_local(alloc, standing, mark),
+        FilterPlace::EqualsDue => Ok(take_equals(standing, mark)),
+        FilterPlace::LiteralDue => take_literal(alloc, standing, mark),
+        FilterPlace::FactorDone => take_done(alloc, standing, mark),
     }
 }
 
 fn take_test(
     alloc: Global,
     scope: &Prefixes<'_, '_>,
-    standing: &mut Standing,
+    standing: &mut FilterStanding,
     mark: Mark<'_>,
 ) -> Result<bool, NoMemory>
     ensures { IfOk result (λ allowed. StandsAt allowed standing.new
@@ -125,13 +125,13 @@ fn take_test(
     match mark {
         Mark::Any => {
             standing.open_part.name = None;
-            standing.place = Place::Named;
+            standing.place = FilterPlace::Named;
             Ok(true)
         }
         Mark::Name(prefix, local) => match name_of(alloc, scope, prefix, local)? {
             Some(name) => {
                 standing.open_part.name = Some(name);
-                standing.place = Place::Named;
+                standing.place = FilterPlace::Named;
                 Ok(true)
             }
             None => Ok(false),
@@ -140,7 +140,7 @@ fn take_test(
     }
 }
 
-fn take_named(standing: &mut Standing, mark: Mark<'_>) -> Result<bool, NoMemory>
+fn take_named(standing: &mut FilterStanding, mark: Mark<'_>) -> Result<bool, NoMemory>
     ensures { IfOk result (λ allowed. StandsAt allowed standing.new
         (step_named standing.old.open_part.tests standing.old.open_part.name
         (token_of mark.entry))) }
@@ -150,7 +150,7 @@ fn take_named(standing: &mut Standing, mark: Mark<'_>) -> Result<bool, NoMemory>
             standing.open_part.outer.0.clear();
             standing.open_part.ors.0.clear();
             standing.open_part.ands.0.clear();
-            standing.place = Place::FactorDue;
+            standing.place = FilterPlace::FactorDue;
             Ok(true)
         }
         _ => {
@@ -166,11 +166,11 @@ fn push_test(open_part: &mut OpenPart, predicate: Option<Predicate>) -> Result<(
         ≡ open_part.old.tests ++ test_of open_part.old.name predicate ∷ []) }
 {
     let name = open_part.name.take();
-    open_part.tests.0.push(Test { name, predicate })?;
+    open_part.tests.push(Test { name, predicate })?;
     Ok(())
 }
 
-fn take_tested(standing: &mut Standing, mark: Mark<'_>) -> bool
+fn take_tested(standing: &mut FilterStanding, mark: Mark<'_>) -> bool
     ensures { StandsAt result standing.new
         (step_tested standing.old.open_part.tests (token_of mark.entry)) }
 {
@@ -179,7 +179,7 @@ fn take_tested(standing: &mut Standing, mark: Mark<'_>) -> bool
             if !is_word("or", prefix, local) {
                 return false;
             }
-            standing.place = Place::TestDue;
+            standing.place = FilterPlace::TestDue;
             true
         }
         _ => false,
@@ -189,7 +189,7 @@ fn take_tested(standing: &mut Standing, mark: Mark<'_>) -> bool
 fn take_factor(
     alloc: Global,
     scope: &Prefixes<'_, '_>,
-    standing: &mut Standing,
+    standing: &mut FilterStanding,
     mark: Mark<'_>,
 ) -> Result<bool, NoMemory>
     ensures { IfOk result (λ allowed. StandsAt allowed standing.new
@@ -198,13 +198,13 @@ fn take_factor(
     match mark {
         Mark::OpenParenthesis => open_group(alloc, standing),
         Mark::At => {
-            standing.place = Place::LocalDue;
+            standing.place = FilterPlace::LocalDue;
             Ok(true)
         }
         Mark::Name(prefix, local) => match name_of(alloc, scope, prefix, local)? {
             Some(name) => {
                 standing.operand = Operand::Child(name);
-                standing.place = Place::EqualsDue;
+                standing.place = FilterPlace::EqualsDue;
                 Ok(true)
             }
             None => Ok(false),
@@ -215,17 +215,17 @@ fn take_factor(
 
 // After an opening parenthesis: not allowed where it is one too deep.
 #[tactic(auto, using(crate::proofs::StandingLaws::too_deep, crate::proofs::StandingLaws::goes_deeper, crate::proofs::StandingLaws::pushed))]
-fn open_group(alloc: Global, standing: &mut Standing) -> Result<bool, NoMemory>
+fn open_group(alloc: Global, standing: &mut FilterStanding) -> Result<bool, NoMemory>
     ensures { IfOk result (λ allowed. StandsAt allowed standing.new
         (inner_place (context standing.old.open_part))) }
 {
-    if standing.open_part.outer.0.len() >= DEEPEST {
+    if standing.open_part.outer.len() >= DEEPEST {
         return Ok(false);
     }
     let ors = take_all(alloc, &mut standing.open_part.ors);
     let ands = take_all(alloc, &mut standing.open_part.ands);
-    standing.open_part.outer.0.push(OuterPart { ors, ands })?;
-    standing.place = Place::FactorDue;
+    standing.open_part.outer.push(OuterPart { ors, ands })?;
+    standing.place = FilterPlace::FactorDue;
     Ok(true)
 }
 
@@ -237,7 +237,11 @@ fn take_all(alloc: Global, parts: &mut Many<Predicate>) -> Many<Predicate>
     mem::replace(parts, Many(Vec::new(alloc)))
 }
 
-fn take_local(alloc: Global, standing: &mut Standing, mark: Mark<'_>) -> Result<bool, NoMemory>
+fn take_local(
+    alloc: Global,
+    standing: &mut FilterStanding,
+    mark: Mark<'_>,
+) -> Result<bool, NoMemory>
     ensures { IfOk result (λ allowed. StandsAt allowed standing.new
         (step_local (context standing.old.open_part) (token_of mark.entry))) }
 {
@@ -245,7 +249,7 @@ fn take_local(alloc: Global, standing: &mut Standing, mark: Mark<'_>) -> Result<
         Mark::Name(prefix, local) => {
             if prefix.is_empty() {
                 standing.operand = Operand::Attribute(Text(String::from_str(alloc, local)?));
-                standing.place = Place::EqualsDue;
+                standing.place = FilterPlace::EqualsDue;
                 Ok(true)
             } else {
                 Ok(false)
@@ -255,20 +259,24 @@ fn take_local(alloc: Global, standing: &mut Standing, mark: Mark<'_>) -> Result<
     }
 }
 
-fn take_equals(standing: &mut Standing, mark: Mark<'_>) -> bool
+fn take_equals(standing: &mut FilterStanding, mark: Mark<'_>) -> bool
     ensures { StandsAt result standing.new
         (step_equals (context standing.old.open_part) standing.old.operand (token_of mark.entry)) }
 {
     match mark {
         Mark::EqualsSign => {
-            standing.place = Place::LiteralDue;
+            standing.place = FilterPlace::LiteralDue;
             true
         }
         _ => false,
     }
 }
 
-fn take_literal(alloc: Global, standing: &mut Standing, mark: Mark<'_>) -> Result<bool, NoMemory>
+fn take_literal(
+    alloc: Global,
+    standing: &mut FilterStanding,
+    mark: Mark<'_>,
+) -> Result<bool, NoMemory>
     ensures { IfOk result (λ allowed. StandsAt allowed standing.new
         (step_literal (context standing.old.open_part) standing.old.operand
         (token_of mark.entry))) }
@@ -279,8 +287,8 @@ fn take_literal(alloc: Global, standing: &mut Standing, mark: Mark<'_>) -> Resul
             let none = Operand::Attribute(Text::new(alloc));
             let operand = mem::replace(&mut standing.operand, none);
             let factor = comparison_of(operand, value);
-            standing.open_part.ands.0.push(factor)?;
-            standing.place = Place::FactorDone;
+            standing.open_part.ands.push(factor)?;
+            standing.place = FilterPlace::FactorDone;
             Ok(true)
         }
         _ => Ok(false),
@@ -296,7 +304,7 @@ fn comparison_of(operand: Operand, value: Text) -> Predicate
     }
 }
 
-fn take_done(alloc: Global, standing: &mut Standing, mark: Mark<'_>) -> Result<bool, NoMemory>
+fn take_done(alloc: Global, standing: &mut FilterStanding, mark: Mark<'_>) -> Result<bool, NoMemory>
     ensures { IfOk result (λ allowed. StandsAt allowed standing.new
         (step_done (context standing.old.open_part) (token_of mark.entry))) }
 {
@@ -311,7 +319,7 @@ fn take_done(alloc: Global, standing: &mut Standing, mark: Mark<'_>) -> Result<b
 // After a name that joins: `and`, or `or`, with which the next part begins.
 fn take_joining(
     alloc: Global,
-    standing: &mut Standing,
+    standing: &mut FilterStanding,
     prefix: &str,
     local: &str,
 ) -> Result<bool, NoMemory>
@@ -319,13 +327,13 @@ fn take_joining(
         (step_joining (context standing.old.open_part) (qualified_of prefix.now local.now))) }
 {
     if is_word("and", prefix, local) {
-        standing.place = Place::FactorDue;
+        standing.place = FilterPlace::FactorDue;
         return Ok(true);
     }
     if is_word("or", prefix, local) {
         let open_part = &mut standing.open_part;
         next_part(alloc, &mut open_part.ors, &mut open_part.ands)?;
-        standing.place = Place::FactorDue;
+        standing.place = FilterPlace::FactorDue;
         return Ok(true);
     }
     Ok(false)
@@ -340,12 +348,12 @@ fn next_part(
     ensures done { OnOk result (ors.new ≡ ors.old ++ join_parts And ands.old ∷ []) }
     ensures none { OnOk result (ands.new ≡ []) }
 {
-    ors.0.push(all_of(alloc, ands))?;
+    ors.push(all_of(alloc, ands))?;
     Ok(())
 }
 
 // After a closing parenthesis: not allowed where none is open.
-fn close_group(alloc: Global, standing: &mut Standing) -> Result<bool, NoMemory>
+fn close_group(alloc: Global, standing: &mut FilterStanding) -> Result<bool, NoMemory>
     ensures { IfOk result (λ allowed. StandsAt allowed standing.new
         (step_done (context standing.old.open_part) CloseParenthesis)) }
 {
@@ -355,15 +363,15 @@ fn close_group(alloc: Global, standing: &mut Standing) -> Result<bool, NoMemory>
     };
     let part = close_part(alloc, &mut open_part.ors, &mut open_part.ands)?;
     let OuterPart { ors, mut ands } = outer_part;
-    ands.0.push(part)?;
+    ands.push(part)?;
     open_part.ors = ors;
     open_part.ands = ands;
-    standing.place = Place::FactorDone;
+    standing.place = FilterPlace::FactorDone;
     Ok(true)
 }
 
 // After a closing bracket: not allowed where parentheses are open.
-fn close_test(alloc: Global, standing: &mut Standing) -> Result<bool, NoMemory>
+fn close_test(alloc: Global, standing: &mut FilterStanding) -> Result<bool, NoMemory>
     ensures { IfOk result (λ allowed. StandsAt allowed standing.new
         (step_done (context standing.old.open_part) CloseBracket)) }
 {
@@ -373,7 +381,7 @@ fn close_test(alloc: Global, standing: &mut Standing) -> Result<bool, NoMemory>
     let open_part = &mut standing.open_part;
     let predicate = close_part(alloc, &mut open_part.ors, &mut open_part.ands)?;
     push_test(open_part, Some(predicate))?;
-    standing.place = Place::Tested;
+    standing.place = FilterPlace::Tested;
     Ok(true)
 }
 
@@ -388,10 +396,10 @@ fn close_part(
     ensures { IfOk result (λ part. part ≡ done_part ors.old ands.old) }
 {
     let last = all_of(alloc, ands);
-    if ors.0.is_empty() {
+    if ors.is_empty() {
         return Ok(last);
     }
-    ors.0.push(last)?;
+    ors.push(last)?;
     Ok(Predicate::Or(take_all(alloc, ors)))
 }
 
@@ -413,32 +421,32 @@ fn only_part(parts: &mut Many<Predicate>) -> Option<Predicate>
     ensures one { IfSome result (λ part. (parts.old ≡ part ∷ []) × (parts.new ≡ [])) }
     ensures others { IfNone result ((parts.new ≡ parts.old) × IsNotSingle parts.old) }
 {
-    if parts.0.len() != 1 {
+    if parts.len() != 1 {
         return None;
     }
     parts.0.pop()
 }
 
 // The filter, where the text may end here.
-pub(crate) fn filter_at(alloc: Global, standing: Standing) -> Result<Option<Filter>, NoMemory>
-    ensures { IfOk result (λ o. o ≡ filter_at (where_is standing)) }
+pub(crate) fn filter_at(alloc: Global, standing: FilterStanding) -> Result<Option<Filter>, NoMemory>
+    ensures { IfOk result (λ o. o ≡ filter_at (filter_state standing)) }
 {
-    let Standing {
+    let FilterStanding {
         place,
         mut open_part,
         operand: _,
     } = standing;
     match place {
-        Place::Start => Ok(Some(Filter {
+        FilterPlace::Start => Ok(Some(Filter {
             tests: Many(Vec::new(alloc)),
         })),
-        Place::Named => {
+        FilterPlace::Named => {
             push_test(&mut open_part, None)?;
             Ok(Some(Filter {
                 tests: open_part.tests,
             }))
         }
-        Place::Tested => Ok(Some(Filter {
+        FilterPlace::Tested => Ok(Some(Filter {
             tests: open_part.tests,
         })),
         _ => Ok(None),

@@ -4,7 +4,7 @@ use ifmap_elem::tokens::Qualified;
 
 /// A token by what it means.
 #[derive(Debug, Drop)]
-pub enum Token {
+pub enum FilterToken {
     /// `*`, which asks for any name.
     Any,
     OpenBracket,

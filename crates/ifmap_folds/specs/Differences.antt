@@ -8,7 +8,7 @@ use Rattle.std.specs.declared.cmp.Ordering.{Ordering}
 use Rattle.ifmap_elem.specs.Canonical.{canonical_bytes}
 use Rattle.ifmap_elem.specs.declared.elements.Element.{Element}
 use Rattle.ifmap_ident.specs.Items.{item_order, same_item}
-use Rattle.ifmap_search.specs.declared.results.Entry.{Entry}
+use Rattle.ifmap_fresh.specs.ifmap_search.declared.results.Entry.{Entry}
 
 -- the canonical bytes of an entry's element
 unfoldable pub entry_bytes : Entry → List ℕ

@@ -3,9 +3,9 @@ use Rattle.std.specs.Prelude.{ℕ, List, [], ◌∷◌, Option, Some, None, opti
 use Rattle.std.specs.Map.{update}
 use Rattle.std.specs.Str.{bytes_eq}
 use Rattle.ifmap_plans.specs.Placing.{put}
-use Rattle.ifmap_search.specs.declared.results.Entry.{Entry}
-use Rattle.ifmap_search.specs.declared.results.PollItem.{PollItem}
-use Rattle.ifmap_search.specs.declared.results.PollItem.TheVariants as the_item
+use Rattle.ifmap_fresh.specs.ifmap_search.declared.results.Entry.{Entry}
+use Rattle.ifmap_fresh.specs.ifmap_search.declared.results.PollItem.{PollItem}
+use Rattle.ifmap_fresh.specs.ifmap_search.declared.results.PollItem.TheVariants as the_item
 use Rattle.ifmap_folds.specs.Differences.{difference, entry_order}
 
 -- a set for each name that has one, in the order of entries

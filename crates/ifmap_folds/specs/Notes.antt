@@ -2,13 +2,13 @@
 use Rattle.std.specs.Prelude.{Bool, ◌&&◌, ◌||◌, List, map}
 use Rattle.std.specs.List.{filter}
 use Rattle.ifmap_elem.specs.declared.elements.Element.{Element}
-use Rattle.ifmap_filter.specs.Meets.{meets_optional}
+use Rattle.ifmap_fresh.specs.ifmap_filter.Meets.{meets_optional}
 use Rattle.ifmap_ident.specs.declared.items.Item.{Item}
 use Rattle.ifmap_ident.specs.declared.items.Item.TheVariants.{One, Pair}
 use Rattle.ifmap_plans.specs.declared.plans.Note.{Note}
-use Rattle.ifmap_search.specs.declared.results.Entry.{Entry}
-use Rattle.ifmap_search.specs.declared.searches.Search.{Search}
-use Rattle.ifmap_view.specs.declared.attachments.Attachment.{Attachment}
+use Rattle.ifmap_fresh.specs.ifmap_search.declared.results.Entry.{Entry}
+use Rattle.ifmap_fresh.specs.ifmap_search.declared.searches.Search.{Search}
+use Rattle.ifmap_fresh.specs.ifmap_view.declared.attachments.Attachment.{Attachment}
 use Rattle.ifmap_fresh.specs.Matching.{is_match}
 use Rattle.ifmap_fresh.specs.Reached.{is_expanded, is_reached}
 

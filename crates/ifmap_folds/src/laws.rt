@@ -4,8 +4,8 @@ ghost use Rattle.std.specs.List.Sorted.{IsStrictlySortedBy};
 ghost use Rattle.ifmap_folds.specs.Differences.{difference, entry_order, same_entry};
 ghost use Rattle.ifmap_folds.specs.Folds.{Sets, fold_items};
 ghost use Rattle.ifmap_lemmas.specs.Having.{Has};
-ghost use Rattle.ifmap_search.specs.declared.results.Entry.{Entry};
-ghost use Rattle.ifmap_search.specs.declared.results.PollItem.TheVariants.{Delete, Update};
+ghost use Rattle.ifmap_fresh.specs.ifmap_search.declared.results.Entry.{Entry};
+ghost use Rattle.ifmap_fresh.specs.ifmap_search.declared.results.PollItem.TheVariants.{Delete, Update};
 
 /// A client whose set is a result and that is told what went from it, and then what came, has the next
 /// result. Both are in the order of results, and their entries are told apart by bytes, as those of

@@ -11,3 +11,5 @@ pub mod CutLaws
 pub mod AnswerLaws
 pub mod PositionLaws
 pub mod FormLaws
+-- What is passed on to the crates above.
+pub mod ifmap_filter

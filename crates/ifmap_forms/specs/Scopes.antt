@@ -1,8 +1,8 @@
 -- Which prefixes are in scope at the elements of a message (Namespaces in XML 1.0, section 6).
 use Rattle.std.specs.Prelude.{ℕ, List, [], ◌∷◌, ◌++◌, Option, None, Some}
 use Rattle.ifmap_elem.specs.declared.readings.Declared.{Declared}
-use Rattle.ifmap_prefixes.specs.InScope.{scope_by}
-use Rattle.ifmap_reader.specs.declared.scoping.Scope.{Scope}
+use Rattle.ifmap_filter.specs.ifmap_prefixes.InScope.{scope_by}
+use Rattle.ifmap_ident.specs.ifmap_reader.declared.scoping.Scope.{Scope}
 
 -- the scope at each path of child indexes from an element on
 abbrev pub Scopes : Type 0

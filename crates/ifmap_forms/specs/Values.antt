@@ -6,7 +6,7 @@ use Rattle.std.specs.Str.{byte, bytes_eq}
 use Rattle.std.specs.Str.Parse.{digits_value}
 use Rattle.ifmap_elem.specs.Chars.{is_white}
 use Rattle.ifmap_elem.specs.declared.elements.Element.{Element}
-use Rattle.ifmap_reader.specs.declared.scoping.Scope.{Scope}
+use Rattle.ifmap_ident.specs.ifmap_reader.declared.scoping.Scope.{Scope}
 use Rattle.ifmap_filter.specs.declared.filters.Filter.{Filter}
 use Rattle.ifmap_filter.specs.Texts.{Writes}
 use Rattle.ifmap_filter.specs.Tokens.{without_white}
@@ -130,11 +130,11 @@ begins_white (b ∷ bs) = is_white b
 abbrev pub trim_white : List ℕ → List ℕ
 trim_white text = reverse (without_white (reverse (without_white text)))
 
-abbrev pub kind_of : List ℕ → Option Kind
-kind_of text = find (λ kind. bytes_eq (kind_name kind) text) kinds
+abbrev pub kind_named : List ℕ → Option Kind
+kind_named text = find (λ kind. bytes_eq (kind_name kind) text) kinds
 
 abbrev pub piece_check : List ℕ → Check Kind
-piece_check piece = need_some InvalidIdentifierType (kind_of (trim_white piece)) (λ kind. pass kind)
+piece_check piece = need_some InvalidIdentifierType (kind_named (trim_white piece)) (λ kind. pass kind)
 
 abbrev pub kinds_check : List (List ℕ) → Check (List Kind)
 kinds_check [] = pass []

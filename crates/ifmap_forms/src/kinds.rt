@@ -5,7 +5,7 @@ ghost use Rattle.std.specs.List.{position};
 ghost use Rattle.std.specs.Str.{byte};
 ghost use Rattle.ifmap_filter.specs.Tokens.{without_white};
 ghost use Rattle.ifmap_forms.specs.Answers.{IsChecked};
-ghost use Rattle.ifmap_forms.specs.Values.{begins_white, kind_of, kinds_check, piece_check, pieces_of, read_kinds, trim_white};
+ghost use Rattle.ifmap_forms.specs.Values.{begins_white, kind_named, kinds_check, piece_check, pieces_of, read_kinds, trim_white};
 
 use crate::errors::FormError;
 use crate::parts::{is_white, is_white_alone};
@@ -84,7 +84,7 @@ fn read_kind(piece: &[u8]) -> Result<Kind, FormError>
 }
 
 fn kind_of(name: &[u8]) -> Option<Kind>
-    ensures { result ≡ kind_of name.now }
+    ensures { result ≡ kind_named name.now }
 {
     KINDS
         .iter()

@@ -13,4 +13,6 @@ pub mod places;
 pub mod values;
 
 pub use errors::FormError;
-pub use places::Place;
+pub use ifmap_filter::laws::{text_is_filter_or_stops, text_is_one_filter};
+pub use ifmap_filter::{Declarations, Filter, meets_optional};
+pub use places::MessagePlace;

@@ -1,17 +1,17 @@
 //! Where an element stands.
 ghost use Rattle.std.specs.Prelude.{◌≡◌, ◌≤◌, ◌^◌, ◌++◌, IfErr, IfOk, IsErr};
 ghost use Rattle.ifmap_forms.specs.Scopes.{child_path, place_scope};
-ghost use Rattle.ifmap_prefixes.specs.InScope.{scope_by};
+ghost use Rattle.ifmap_filter.specs.ifmap_prefixes.InScope.{scope_by};
 
 use crate::errors::FormError;
 use crate::gathering::keep_found;
-use ifmap_prefixes::Declarations;
+use ifmap_filter::Declarations;
 use std::alloc::{AllocError as NoMemory, Global};
 
 /// Where an element of a message stands in the document: the element with this path, or a child of
 /// that one.
 #[derive(Clone, Copy)]
-pub struct Place<'d, 'p> {
+pub struct MessagePlace<'d, 'p> {
     /// The declarations of prefixes in the document, in its order.
     pub declared: &'p Declarations<'d>,
     /// The indexes of children from the root on.
@@ -20,10 +20,10 @@ pub struct Place<'d, 'p> {
     pub child: Option<u32>,
 }
 
-impl<'d, 'p> Place<'d, 'p> {
+impl<'d, 'p> MessagePlace<'d, 'p> {
     /// The place of the child with that index of the element at the path. The one error is want of
     /// memory, which is answered where no path can have the index, since it is 2^32 or more.
-    pub fn of_child(&self, index: usize) -> Result<Place<'d, 'p>, FormError>
+    pub fn of_child(&self, index: usize) -> Result<MessagePlace<'d, 'p>, FormError>
         ensures declared { IfOk result (λ place. place.declared.now ≡ self.now.declared.now) }
         ensures path { IfOk result (λ place. place.path.now ≡ self.now.path.now) }
         ensures child { IfOk result (λ place. place.child ≡ Some index) }
@@ -31,7 +31,7 @@ impl<'d, 'p> Place<'d, 'p> {
         ensures far { IsErr result → 2 ^ 32 ≤ index }
     {
         let index = narrow(index)?;
-        Ok(Place {
+        Ok(MessagePlace {
             declared: self.declared,
             path: self.path,
             child: Some(index),
@@ -53,7 +53,7 @@ pub fn narrow(index: usize) -> Result<u32, FormError>
 }
 
 // The path of the element at a place, at which its prefixes are in scope.
-pub(crate) fn full_path(alloc: Global, place: &Place<'_, '_>) -> Result<Vec<u32>, NoMemory>
+pub(crate) fn full_path(alloc: Global, place: &MessagePlace<'_, '_>) -> Result<Vec<u32>, NoMemory>
     ensures path { IfOk result (λ path.
         path.items ≡ place.now.path.now ++ child_path place.now.child) }
     ensures scope { IfOk result (λ path. scope_by place.now.declared.now path.items ≡

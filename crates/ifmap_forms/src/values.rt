@@ -12,12 +12,11 @@ ghost use Rattle.ifmap_forms.specs.Values.{depth_field, filter_check, kinds_fiel
 use crate::errors::FormError;
 use crate::kinds::kinds_in;
 use crate::numbers::number_of;
-use crate::places::{Place, full_path};
+use crate::places::{MessagePlace, full_path};
 use ifmap_elem::{Copied, Element, Many, Text};
 use ifmap_filter::laws::text_is_filter_or_stops;
-use ifmap_filter::{Filter, FilterError};
+use ifmap_filter::{Filter, FilterError, Prefixes};
 use ifmap_ident::{Code, Kind, value_of};
-use ifmap_prefixes::Prefixes;
 use std::alloc::Global;
 
 /// The text of the attribute of this name, whatever it is; Failure where there is none.
@@ -134,7 +133,7 @@ fn lifetime_of(text: &str) -> Result<bool, FormError>
 /// there; `None` where there is none. A value that is no filter is Failure.
 pub fn read_filter(
     alloc: Global,
-    place: &Place<'_, '_>,
+    place: &MessagePlace<'_, '_>,
     element: &Element,
     local: &str,
 ) -> Result<Option<Filter>, FormError>
@@ -147,7 +146,7 @@ pub fn read_filter(
     }
 }
 
-fn filter_of(alloc: Global, place: &Place<'_, '_>, text: &Text) -> Result<Filter, FormError>
+fn filter_of(alloc: Global, place: &MessagePlace<'_, '_>, text: &Text) -> Result<Filter, FormError>
     ensures { IsChecked (filter_check (place_scope place.now.declared.now place.now.path.now
         place.now.child) text.now) result }
 {

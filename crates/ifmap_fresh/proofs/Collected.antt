@@ -10,8 +10,8 @@ use Rattle.std.proofs.lemmas.List.Elements.{filter-append}
 use Rattle.std.proofs.lemmas.Option.{same_Some, none-some}
 use Rattle.std.specs.Cmp.{both_ways}
 use Rattle.std.specs.List.{AllByRecursion, filter, filter_map}
-use Rattle.ifmap_filter.specs.declared.filters.Filter.{Filter}
-use Rattle.ifmap_filter.specs.Meets.{meets_optional}
+use Rattle.ifmap_search.specs.ifmap_filter.declared.filters.Filter.{Filter}
+use Rattle.ifmap_search.specs.ifmap_filter.Meets.{meets_optional}
 use Rattle.ifmap_ident.specs.declared.identifiers.Identifier.{Identifier}
 use Rattle.ifmap_ident.specs.declared.items.Item.{Item}
 use Rattle.ifmap_ident.specs.declared.items.Item.TheVariants.{One, Pair}
@@ -27,7 +27,7 @@ use Rattle.ifmap_view.specs.declared.views.LinkSeen.{LinkSeen}
 use Rattle.ifmap_view.specs.Attachments.{IsGraph}
 use Rattle.ifmap_view.specs.Rows.{stored_between, stored_linked, stored_on}
 use Rattle.ifmap_view.specs.Views.{IsView}
-use Rattle.ifmap_fresh.specs.Collected.{AreLookedAt, alone, is_below, is_passed, item_along, item_to, item_where, items_of_number, items_of_numbers}
+use Rattle.ifmap_fresh.specs.Collected.{AreLookedAt, item_alone, is_below, is_passed, item_along, item_to, item_where, items_of_number, items_of_numbers}
 use Rattle.ifmap_fresh.specs.Collected.{pair_at}
 use Rattle.ifmap_fresh.specs.Fresh.{fresh, is_found, is_looked_at}
 use Rattle.ifmap_fresh.specs.Gathered.{entries_of, entries_on, entry_at, gathered_rows, has_item, row_at}
@@ -114,13 +114,13 @@ module _ (tells : BytesTellIdentifiers) (rows : List Attachment) (id_at : ℕ �
   pub looked_at : (item : Item) → Has (items_of_numbers rows id_at links s mark keys) item → is_looked_at rows s item ≡ true
   looked_at item h =
       let j = joined_has (items_of_number rows id_at links s mark) keys item h
-      in elim (has_either (alone (id_at j.0)) (cond (passed j.0)
+      in elim (has_either (item_alone (id_at j.0)) (cond (passed j.0)
       (filter_map (item_along rows id_at links s mark j.0) (links j.0)) []) item j.2) [
         | inl p ↦ own j.0 (id_at j.0) refl j.1 p
         | inr p ↦ others j.0 (passed j.0) refl p
       ]
     where
-      own : (v : ℕ) (o : Option Identifier) → id_at v ≡ o → Has keys v → Has (alone o) item → is_looked_at rows s item ≡ true
+      own : (v : ℕ) (o : Option Identifier) → id_at v ≡ o → Has keys v → Has (item_alone o) item → is_looked_at rows s item ≡ true
       own v None i k h = absurd h
       own v (Some a) i k (inr h) = absurd h
       own v (Some a) i k (inl e) =
@@ -141,13 +141,13 @@ module _ (tells : BytesTellIdentifiers) (rows : List Attachment) (id_at : ℕ �
   pub canon_of : (item : Item) → Has (items_of_numbers rows id_at links s mark keys) item → IsCanonItem item
   canon_of item h =
       let j = joined_has (items_of_number rows id_at links s mark) keys item h
-      in elim (has_either (alone (id_at j.0)) (cond (passed j.0)
+      in elim (has_either (item_alone (id_at j.0)) (cond (passed j.0)
       (filter_map (item_along rows id_at links s mark j.0) (links j.0)) []) item j.2) [
         | inl p ↦ own j.0 (id_at j.0) refl p
         | inr p ↦ others j.0 (passed j.0) p
       ]
     where
-      own : (v : ℕ) (o : Option Identifier) → id_at v ≡ o → Has (alone o) item → IsCanonItem item
+      own : (v : ℕ) (o : Option Identifier) → id_at v ≡ o → Has (item_alone o) item → IsCanonItem item
       own v None i h = absurd h
       own v (Some a) i (inr h) = absurd h
       own v (Some a) i (inl e) = subst IsCanonItem e (record { ordered = tt; identifiers = (is.canon v a i, tt) })
@@ -189,7 +189,7 @@ module _ (tells : BytesTellIdentifiers) (rows : List Attachment) (id_at : ℕ �
       ∙ ap (λ b. cond b None (pair_at (id_at v) (id_at w))) first
       ∙ ap (λ o. pair_at o (id_at w)) i ∙ ap (λ o. pair_at (Some a) o) j ∙ e
       in has_joined (items_of_number rows id_at links s mark) keys v item k
-      (has_right (alone (id_at v)) (cond (passed v) (filter_map (item_along rows id_at links s mark v) (links v)) []) item
+      (has_right (item_alone (id_at v)) (cond (passed v) (filter_map (item_along rows id_at links s mark v) (links v)) []) item
       (subst (λ c. Has (cond c (filter_map (item_along rows id_at links s mark v) (links v)) []) item) (sym p)
       (has_mapped (item_along rows id_at links s mark v) (links v) there.0 item there.1 along)))
 
@@ -218,8 +218,8 @@ module _ (tells : BytesTellIdentifiers) (rows : List Attachment) (id_at : ℕ �
       in let n = to_number rows id_at links s is start here r.0 a r.2
       in let m = walk_mark rows id_at links s is start here mark depths n.0 r.0 r.1 n.2
       in has_joined (items_of_number rows id_at links s mark) keys n.0 (One a) (keyed n.0 m.0 m.1)
-      (has_left (alone (id_at n.0)) (cond (passed n.0) (filter_map (item_along rows id_at links s mark n.0) (links n.0)) []) (One a)
-      (subst (λ o. Has (alone o) (One a)) (sym n.1) (inl refl)))
+      (has_left (item_alone (id_at n.0)) (cond (passed n.0) (filter_map (item_along rows id_at links s mark n.0) (links n.0)) []) (One a)
+      (subst (λ o. Has (item_alone o) (One a)) (sym n.1) (inl refl)))
   collects (Pair a b) i e =
       let p = and_parts (is_match rows s.match_links a b) (is_expanded rows s a || is_expanded rows s b) e
       in elim (or_cases (is_expanded rows s a) (is_expanded rows s b) p.1) [

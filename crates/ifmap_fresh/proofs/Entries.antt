@@ -7,8 +7,8 @@ use Rattle.std.proofs.lemmas.List.{append-nil, map-append, take_more}
 use Rattle.std.proofs.lemmas.List.Elements.{filter-append}
 use Rattle.std.proofs.lemmas.List.Sums.{sum_by-append, sum_by-cons}
 use Rattle.std.specs.List.{filter}
-use Rattle.ifmap_filter.specs.declared.filters.Filter.{Filter}
-use Rattle.ifmap_filter.specs.Meets.{meets_optional}
+use Rattle.ifmap_search.specs.ifmap_filter.declared.filters.Filter.{Filter}
+use Rattle.ifmap_search.specs.ifmap_filter.Meets.{meets_optional}
 use Rattle.ifmap_ident.specs.declared.items.Item.{Item}
 use Rattle.ifmap_meta.specs.declared.stored.Stored.{Stored}
 use Rattle.ifmap_search.specs.declared.results.Entry.{Entry}

@@ -13,7 +13,7 @@ use Rattle.ifmap_search.specs.declared.searches.Search.{Search}
 use Rattle.ifmap_view.specs.declared.attachments.Attachment.{Attachment}
 use Rattle.ifmap_ident.specs.Items.{IsCanonItem}
 use Rattle.ifmap_view.specs.Rows.{stored_between}
-use Rattle.ifmap_fresh.specs.Matching.{LeadsTo, is_match, is_terminal}
+use Rattle.ifmap_fresh.specs.Matching.{LinksTo, is_match, is_terminal}
 use Rattle.ifmap_fresh.specs.Reached.{identifiers_in, is_below, is_expanded, is_reached, is_within, next_to, within}
 use Rattle.ifmap_fresh.specs.laws.JoiningLaws.{some_there, stands_in}
 use Rattle.ifmap_fresh.specs.laws.SameLaws.{member, same_is}
@@ -21,7 +21,7 @@ use Rattle.ifmap_ident.specs.SameLaws.{identifier_itself, BytesTellIdentifiers}
 
 -- a walk of the search
 abbrev pub On : List Attachment → Search → ℕ → Identifier → Type 0
-On rows s k a = Walk (LeadsTo rows s.match_links) (is_terminal s.terminal) s.start k a
+On rows s k a = Walk (LinksTo rows s.match_links) (is_terminal s.terminal) s.start k a
 
 pub on_canon : (rows : List Attachment) (s : Search) → IsIdentifier s.start → (k : ℕ) (a : Identifier) → On rows s k a → IsIdentifier a
 on_canon rows s i zero a (begins e) = subst IsIdentifier (sym e) i
@@ -30,7 +30,7 @@ on_canon rows s i (suc k) a (goes_on w t l) = l.0
 module _ (tells : BytesTellIdentifiers) (rows : List Attachment) (items : AllByRecursion (λ r. IsCanonItem r.item) rows) (s : Search)
     (start : IsIdentifier s.start) where
   abbrev M : Identifier → Identifier → Type 0
-  M = LeadsTo rows s.match_links
+  M = LinksTo rows s.match_links
 
   abbrev T : Identifier → Bool
   T = is_terminal s.terminal

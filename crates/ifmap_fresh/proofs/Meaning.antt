@@ -13,7 +13,7 @@ use Rattle.ifmap_view.specs.declared.views.LinkSeen.{LinkSeen}
 use Rattle.ifmap_view.specs.Rows.{stored_linked}
 use Rattle.ifmap_view.specs.Views.{IsView}
 use Rattle.ifmap_fresh.specs.Linking.{IsReachedAt, is_terminal_at}
-use Rattle.ifmap_fresh.specs.Matching.{IsMatch, LeadsTo, is_terminal, one_meets}
+use Rattle.ifmap_fresh.specs.Matching.{IsMatch, LinksTo, is_terminal, one_meets}
 use Rattle.ifmap_fresh.specs.Numbered.{KeepsWalks}
 use Rattle.ifmap_fresh.specs.laws.JoiningLaws.{count, link, linked_matches, matches_linked, some_there}
 use Rattle.ifmap_fresh.proofs.Levels.{On}
@@ -64,7 +64,7 @@ module _ (rows : List Attachment) (id_at : ℕ → Option Identifier) (links : �
       in subst (λ y. Walk L T start k y) (is.one_to_one x.0 v a x.1 i) x.2
 
   abbrev Leads : Identifier → Identifier → Type 0
-  Leads = LeadsTo rows s.match_links
+  Leads = LinksTo rows s.match_links
 
   depth_of : (top k v : ℕ) (a : Identifier) → id_at v ≡ Some a → HasDepth L T start top v k
       → HasDepth Leads (is_terminal s.terminal) s.start top a k

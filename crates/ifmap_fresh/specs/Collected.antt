@@ -31,9 +31,9 @@ abbrev pub item_list : Option Item → List Item
 item_list item = cons_option item []
 
 -- the item of an identifier, where there is one
-abbrev pub alone : Option Identifier → List Item
-alone None = []
-alone (Some a) = One a ∷ []
+abbrev pub item_alone : Option Identifier → List Item
+item_alone None = []
+item_alone (Some a) = One a ∷ []
 
 -- the item of two identifiers, where there are both and they differ
 abbrev pub pair_at : Option Identifier → Option Identifier → Option Item
@@ -63,7 +63,7 @@ module _ (rows : List Attachment) (id_at : ℕ → Option Identifier) (links : �
 
   -- the items that a number brings: its own, and where walks go on from it, those of its matching links
   abbrev pub items_of_number : ℕ → List Item
-  items_of_number v = alone (id_at v) ++ (if is_passed v then filter_map (item_along v) (links v) else [])
+  items_of_number v = item_alone (id_at v) ++ (if is_passed v then filter_map (item_along v) (links v) else [])
 
   -- the items that some numbers bring
   abbrev pub items_of_numbers : List ℕ → List Item

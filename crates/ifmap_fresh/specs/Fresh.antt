@@ -1,7 +1,7 @@
 -- The result of a search.
 use Rattle.std.specs.Prelude.{◌≡◌, ℕ, ◌<◌, ◌≤◌, Bool, ◌&&◌, ◌||◌, List, map, Result, Ok, Err}
 use Rattle.std.specs.List.{filter}
-use Rattle.ifmap_filter.specs.Meets.{meets_optional}
+use Rattle.ifmap_search.specs.ifmap_filter.Meets.{meets_optional}
 use Rattle.ifmap_ident.specs.declared.items.Item.{Item}
 use Rattle.ifmap_ident.specs.declared.items.Item.TheVariants.{One, Pair}
 use Rattle.ifmap_search.specs.declared.results.Entry.{Entry}

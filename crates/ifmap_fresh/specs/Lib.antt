@@ -8,3 +8,8 @@ pub mod Numbered
 pub mod Gathered
 pub mod Collected
 pub mod laws
+-- What is passed on to the crates above.
+pub mod ifmap_filter
+pub mod ifmap_region
+pub mod ifmap_search
+pub mod ifmap_view

@@ -1,6 +1,6 @@
 -- The links of a view that a search goes along, by numbers.
 use Rattle.std.specs.Prelude.{◌≡◌, ◌≤◌, ℕ, Bool, false, List, Option, Some, None, if◌then◌else◌}
-use Rattle.ifmap_filter.specs.declared.filters.Filter.{Filter}
+use Rattle.ifmap_search.specs.ifmap_filter.declared.filters.Filter.{Filter}
 use Rattle.ifmap_ident.specs.declared.identifiers.Identifier.{Identifier}
 use Rattle.ifmap_ident.specs.declared.kinds.Kind.{Kind}
 use Rattle.ifmap_region.specs.Walks.{IsReached}
@@ -8,7 +8,7 @@ use Rattle.ifmap_search.specs.declared.searches.Search.{Search}
 use Rattle.ifmap_view.specs.declared.attachments.Attachment.{Attachment}
 use Rattle.ifmap_view.specs.declared.views.LinkSeen.{LinkSeen}
 use Rattle.ifmap_view.specs.Rows.{stored_linked}
-use Rattle.ifmap_fresh.specs.Matching.{LeadsTo, is_terminal, one_meets}
+use Rattle.ifmap_fresh.specs.Matching.{LinksTo, is_terminal, one_meets}
 
 -- the other end of a link of a number, where it matches
 abbrev pub end_where : List Attachment → (ℕ → Option Identifier) → Option Filter → ℕ → Option LinkSeen → Option ℕ
@@ -24,4 +24,4 @@ is_terminal_at kinds (Some a) = is_terminal kinds a
 -- a walk of the search ends in the identifier of the number
 abbrev pub IsReachedAt : List Attachment → (ℕ → Option Identifier) → Search → ℕ → Type 0
 IsReachedAt rows id_at s v =
-    (a : Identifier) × (id_at v ≡ Some a) × IsReached (LeadsTo rows s.match_links) (is_terminal s.terminal) s.start s.max_depth a
+    (a : Identifier) × (id_at v ≡ Some a) × IsReached (LinksTo rows s.match_links) (is_terminal s.terminal) s.start s.max_depth a

@@ -1,8 +1,8 @@
 -- Which links a search goes along, and from which identifiers it goes on.
 use Rattle.std.specs.Prelude.{◌≡◌, Bool, true, false, List, Option}
 use Rattle.std.specs.List.{list_any}
-use Rattle.ifmap_filter.specs.declared.filters.Filter.{Filter}
-use Rattle.ifmap_filter.specs.Meets.{meets_optional}
+use Rattle.ifmap_search.specs.ifmap_filter.declared.filters.Filter.{Filter}
+use Rattle.ifmap_search.specs.ifmap_filter.Meets.{meets_optional}
 use Rattle.ifmap_ident.specs.declared.identifiers.Identifier.{Identifier}
 use Rattle.ifmap_ident.specs.declared.kinds.Kind.{Kind}
 use Rattle.ifmap_ident.specs.declared.kinds.Kind.TheVariants.{AccessRequest, Device, Identity, IpAddress, MacAddress}
@@ -24,8 +24,8 @@ abbrev pub IsMatch : List Attachment → Option Filter → Identifier → Identi
 IsMatch rows filter a b = is_match rows filter a b ≡ true
 
 -- a matching link leads from an identifier to this one
-abbrev pub LeadsTo : List Attachment → Option Filter → Identifier → Identifier → Type 0
-LeadsTo rows filter a b = IsIdentifier b × IsMatch rows filter a b
+abbrev pub LinksTo : List Attachment → Option Filter → Identifier → Identifier → Type 0
+LinksTo rows filter a b = IsIdentifier b × IsMatch rows filter a b
 
 -- the two are one kind
 abbrev pub same_kind : Kind → Kind → Bool

@@ -7,7 +7,7 @@ use Rattle.ifmap_search.specs.declared.searches.Search.{Search}
 use Rattle.ifmap_view.specs.declared.attachments.Attachment.{Attachment}
 use Rattle.ifmap_view.specs.declared.views.LinkSeen.{LinkSeen}
 use Rattle.ifmap_fresh.specs.Linking.{end_where, is_terminal_at}
-use Rattle.ifmap_fresh.specs.Matching.{LeadsTo, is_terminal}
+use Rattle.ifmap_fresh.specs.Matching.{LinksTo, is_terminal}
 use Rattle.ifmap_fresh.specs.Walked.{SearchWalk}
 
 module _ (rows : List Attachment) (id_at : ℕ → Option Identifier) (links : ℕ → List LinkSeen) (s : Search) where
@@ -30,5 +30,5 @@ module _ (rows : List Attachment) (id_at : ℕ → Option Identifier) (links : �
     pub numbered : (k : ℕ) (a : Identifier) → SearchWalk rows s k a → (v : ℕ) × (id_at v ≡ Some a)
     pub walks : (k v : ℕ) (a : Identifier) → id_at v ≡ Some a → NumberWalk start k v ↔ SearchWalk rows s k a
     pub depths : (top k v : ℕ) (a : Identifier) → id_at v ≡ Some a
-        → HasDepth AreLinked is_terminal_number start top v k ↔ HasDepth (LeadsTo rows s.match_links)
+        → HasDepth AreLinked is_terminal_number start top v k ↔ HasDepth (LinksTo rows s.match_links)
         (is_terminal s.terminal) s.start top a k

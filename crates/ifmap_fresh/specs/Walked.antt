@@ -4,11 +4,11 @@ use Rattle.ifmap_ident.specs.declared.identifiers.Identifier.{Identifier}
 use Rattle.ifmap_region.specs.Walks.{Walk}
 use Rattle.ifmap_search.specs.declared.searches.Search.{Search}
 use Rattle.ifmap_view.specs.declared.attachments.Attachment.{Attachment}
-use Rattle.ifmap_fresh.specs.Matching.{LeadsTo, is_terminal}
+use Rattle.ifmap_fresh.specs.Matching.{LinksTo, is_terminal}
 
 -- a walk of the search of so many links ends in the identifier
 abbrev pub SearchWalk : List Attachment → Search → ℕ → Identifier → Type 0
-SearchWalk rows s k a = Walk (LeadsTo rows s.match_links) (is_terminal s.terminal) s.start k a
+SearchWalk rows s k a = Walk (LinksTo rows s.match_links) (is_terminal s.terminal) s.start k a
 
 -- the identifier is not of a terminal kind, and a walk of fewer links than the most ends in it
 abbrev pub IsExpanded : List Attachment → Search → Identifier → Type 0

@@ -1,5 +1,4 @@
 -- Laws on the definitions, which crates above cite.
-pub mod OrderLaws
 pub mod SameLaws
 pub mod OrderedLaws
 pub mod GatheringLaws

@@ -2,7 +2,7 @@
 ghost use Rattle.std.specs.Prelude.{◌≡◌, ◌<◌, ◌≤◌, ◌+◌, ◌++◌, Some, OnOk, IfOk, length, nat_eq, option_copied, slice_get, sum_by};
 ghost use Rattle.std.specs.List.{IsDistinct, filter_map};
 ghost use Rattle.ifmap_region.specs.Marks.{mark_of};
-ghost use Rattle.ifmap_fresh.specs.Collected.{alone, is_passed, item_along, item_at, item_list, item_to, items_of_number, items_of_numbers, numbers_of, pair_at};
+ghost use Rattle.ifmap_fresh.specs.Collected.{item_alone, is_passed, item_along, item_at, item_list, item_to, items_of_number, items_of_numbers, numbers_of, pair_at};
 
 use crate::links::LinksOf;
 use ifmap_elem::Copied;
@@ -150,7 +150,8 @@ impl<'a, V: View> Looking<'a, V> {
 
 // Appends the item of an identifier alone, where there is one.
 fn add_alone(alloc: Global, id: Option<&Identifier>, items: &mut Vec<Item>) -> Result<(), NoMemory>
-    ensures { OnOk result (items.new.items ≡ items.old.items ++ alone (option_copied id.entry)) }
+    ensures { OnOk result
+        (items.new.items ≡ items.old.items ++ item_alone (option_copied id.entry)) }
 {
     if let Some(id) = id {
         items.push(Item::One(id.copy(alloc)?))?;

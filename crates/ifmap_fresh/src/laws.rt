@@ -9,7 +9,7 @@ ghost use Rattle.ifmap_view.specs.declared.attachments.Attachment.{Attachment};
 ghost use Rattle.ifmap_view.specs.declared.views.LinkSeen.{LinkSeen};
 ghost use Rattle.ifmap_view.specs.Attachments.{IsGraph};
 ghost use Rattle.ifmap_view.specs.Views.{IsView};
-ghost use Rattle.ifmap_fresh.specs.Matching.{LeadsTo, is_terminal};
+ghost use Rattle.ifmap_fresh.specs.Matching.{LinksTo, is_terminal};
 ghost use Rattle.ifmap_fresh.specs.Numbered.{AreLinked, KeepsWalks};
 ghost use Rattle.ifmap_fresh.specs.Reached.{is_expanded, is_reached};
 ghost use Rattle.ifmap_fresh.specs.Walked.{IsExpanded};
@@ -21,7 +21,7 @@ use ifmap_ident::laws::bytes_tell_identifiers_apart;
 pub fn levels_are_walks()
     ensures reached { (rows : List Attachment) (s : Search) (a : Identifier)
         → IsGraph rows → IsIdentifier s.start → IsIdentifier a
-        → (is_reached rows s a ≡ true) ↔ IsReached (LeadsTo rows s.match_links)
+        → (is_reached rows s a ≡ true) ↔ IsReached (LinksTo rows s.match_links)
         (is_terminal s.terminal) s.start s.max_depth a }
     ensures expanded { (rows : List Attachment) (s : Search) (a : Identifier)
         → IsGraph rows → IsIdentifier s.start → IsIdentifier a

@@ -2,7 +2,7 @@
 ghost use Rattle.std.specs.Prelude.{◌≡◌};
 ghost use Rattle.ifmap_fresh.specs.Matching.{one_meets};
 
-use ifmap_filter::{Filter, meets_optional};
+use ifmap_search::{Filter, meets_optional};
 use ifmap_view::Row;
 
 /// Whether some of what is stored meets the filter. It takes no memory.

@@ -1,31 +1,28 @@
 -- What is stored on an item, shelf by shelf.
-use Rattle.std.proofs.Common.{rules, ◌≡◌, true, false, List, [], ◌∷◌, ◌++◌, map, refl, ap, ◌∙◌, sym}
+use Rattle.std.proofs.Common.{◌≡◌, true, false, List, [], ◌∷◌, ◌++◌, map, refl, ap, ◌∙◌, sym}
 use Rattle.std.proofs.lemmas.List.{append-nil}
-use Rattle.std.specs.Cmp.{Equal-is, IsTotalOrder}
-use Rattle.std.specs.Cmp.Rules.{comparing}
+use Rattle.std.specs.Cmp.{Equal-is}
 use Rattle.std.specs.List.{AllByRecursion}
 use Rattle.std.specs.Ordering.{is_eq, ordering_reverse}
 use Rattle.std.specs.declared.cmp.Ordering.TheVariants.{Less, Equal}
 use Rattle.ifmap_ident.specs.declared.items.Item.{Item}
 use Rattle.ifmap_ident.specs.Items.{item_order, items_tie, same_item}
+use Rattle.ifmap_ident.specs.SameLaws.{items_total}
 use Rattle.ifmap_lemmas.specs.Orderings.{is_less}
 use Rattle.ifmap_meta.specs.declared.stored.Stored.{Stored}
 use Rattle.ifmap_view.specs.declared.attachments.Attachment.{Attachment}
 use Rattle.ifmap_view.specs.Rows.{stored_on}
 use Rattle.ifmap_fresh_tests.specs.declared.shelves.Shelf.{Shelf}
-use Rattle.ifmap_fresh_tests.specs.Lists.{all_pairs, item_below, row_on, rows_of}
+use Rattle.ifmap_fresh_tests.specs.Lists.{all_pairs, item_below, attachment_on, rows_on_shelves}
 use Rattle.ifmap_fresh_tests.proofs.Pairs.{pairs_of}
 
-pub items_total : IsTotalOrder item_order
-items_total = search (comparing, rules)
-
 kept : (item at : Item) (xs : List Stored) (rest : List Attachment) → same_item at item ≡ true
-    → stored_on item (map (row_on at) xs ++ rest) ≡ xs ++ stored_on item rest
+    → stored_on item (map (attachment_on at) xs ++ rest) ≡ xs ++ stored_on item rest
 kept item at [] rest e = refl
 kept item at (x ∷ xs) rest e = rw e (ap (λ l. x ∷ l) (kept item at xs rest e))
 
 pub passed : (item at : Item) (xs : List Stored) (rest : List Attachment) → same_item at item ≡ false
-    → stored_on item (map (row_on at) xs ++ rest) ≡ stored_on item rest
+    → stored_on item (map (attachment_on at) xs ++ rest) ≡ stored_on item rest
 passed item at [] rest e = refl
 passed item at (x ∷ xs) rest e = rw e (passed item at xs rest e)
 
@@ -37,19 +34,19 @@ above item s t e l =
     in items_tie t.item item ∙ ap is_eq (items_total.antisymm t.item item ∙ ap ordering_reverse less)
 
 pub none_above : (item : Item) (s : Shelf) (ss : List Shelf) → same_item s.item item ≡ true → AllByRecursion (λ t. item_below s t ≡ true) ss
-    → stored_on item (rows_of ss) ≡ []
+    → stored_on item (rows_on_shelves ss) ≡ []
 none_above item s [] e a = refl
-none_above item s (t ∷ ts) e a = passed item t.item t.rows.items (rows_of ts) (above item s t e a.0) ∙ none_above item s ts e a.1
+none_above item s (t ∷ ts) e a = passed item t.item t.rows.items (rows_on_shelves ts) (above item s t e a.0) ∙ none_above item s ts e a.1
 
 -- the shelf of the item has all of it
 pub found : (item : Item) (s : Shelf) (ss : List Shelf) → all_pairs item_below (s ∷ ss) ≡ true → same_item s.item item ≡ true
-    → s.rows.items ≡ stored_on item (rows_of (s ∷ ss))
+    → s.rows.items ≡ stored_on item (rows_on_shelves (s ∷ ss))
 found item s ss r e =
-    sym (kept item s.item s.rows.items (rows_of ss) e
+    sym (kept item s.item s.rows.items (rows_on_shelves ss) e
     ∙ ap (λ l. s.rows.items ++ l) (none_above item s ss e (pairs_of item_below (s ∷ ss) r).0)
     ∙ append-nil s.rows.items)
 
 -- another shelf has nothing of it
 pub past : (item : Item) (s : Shelf) (ss : List Shelf) → same_item s.item item ≡ false
-    → stored_on item (rows_of (s ∷ ss)) ≡ stored_on item (rows_of ss)
-past item s ss e = passed item s.item s.rows.items (rows_of ss) e
+    → stored_on item (rows_on_shelves (s ∷ ss)) ≡ stored_on item (rows_on_shelves ss)
+past item s ss e = passed item s.item s.rows.items (rows_on_shelves ss) e

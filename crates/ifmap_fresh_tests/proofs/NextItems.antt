@@ -16,21 +16,21 @@ use Rattle.ifmap_meta.specs.declared.stored.Stored.{Stored}
 use Rattle.ifmap_plans.specs.After.{IsAbove, IsNextItem, NoItem}
 use Rattle.ifmap_view.specs.Rows.{stored_on}
 use Rattle.ifmap_fresh_tests.specs.declared.shelves.Shelf.{Shelf}
-use Rattle.ifmap_fresh_tests.specs.Lists.{all_pairs, carries, is_above, is_full, item_below, next_in, rows_of}
-use Rattle.ifmap_fresh_tests.proofs.Finding.{found, items_total, none_above, past}
+use Rattle.ifmap_fresh_tests.specs.Lists.{all_pairs, carries, is_above, has_rows, item_below, next_in, rows_on_shelves}
+use Rattle.ifmap_fresh_tests.proofs.Finding.{found, none_above, past}
 use Rattle.ifmap_fresh_tests.proofs.Pairs.{pairs_of}
-use Rattle.ifmap_ident.specs.SameLaws.{item_itself}
+use Rattle.ifmap_ident.specs.SameLaws.{item_itself, items_total}
 
-full : (xs : List Stored) → is_full xs ≡ true → xs ≢ []
+full : (xs : List Stored) → has_rows xs ≡ true → xs ≢ []
 full [] e n = let q : false ≡ true = e in cc
 full (x ∷ xs) e n = cc
 
-empty : (xs : List Stored) → is_full xs ≡ false → xs ≡ []
+empty : (xs : List Stored) → has_rows xs ≡ false → xs ≡ []
 empty [] e = refl
 empty (x ∷ xs) e = let q : true ≡ false = e in cc
 
 -- shelves above an item have nothing of it
-nothing_of : (x : Item) (ss : List Shelf) → AllByRecursion (λ t. item_order x t.item ≡ Less) ss → stored_on x (rows_of ss) ≡ []
+nothing_of : (x : Item) (ss : List Shelf) → AllByRecursion (λ t. item_order x t.item ≡ Less) ss → stored_on x (rows_on_shelves ss) ≡ []
 nothing_of x [] a = refl
 nothing_of x (t ∷ ts) a =
     past x t ts (items_tie t.item x ∙ ap is_eq (items_total.antisymm t.item x ∙ ap ordering_reverse a.0)) ∙ nothing_of x ts a.1
@@ -54,28 +54,28 @@ module _ (last : Option Item) where
 
   -- a shelf that is passed has nothing of an item above the last
   passed_over : (s : Shelf) (ss : List Shelf) → all_pairs item_below (s ∷ ss) ≡ true → carries last s ≡ false
-      → (x : Item) → IsAbove last x → same_item s.item x ≡ true → stored_on x (rows_of (s ∷ ss)) ≡ []
+      → (x : Item) → IsAbove last x → same_item s.item x ≡ true → stored_on x (rows_on_shelves (s ∷ ss)) ≡ []
   passed_over s ss r c x i e =
       let high : is_above last s.item ≡ true = above_same last s.item x e i in
-      sym (found x s ss r e) ∙ empty s.rows.items (only_full (is_full s.rows.items) (is_above last s.item) high c)
+      sym (found x s ss r e) ∙ empty s.rows.items (only_full (has_rows s.rows.items) (is_above last s.item) high c)
     where
       only_full : (p q : Bool) → q ≡ true → (p && q) ≡ false → p ≡ false
       only_full false q h n = refl
       only_full true q h n = let wrong : true ≡ false = sym h ∙ n in cc
 
   pub next_found : (ss : List Shelf) → all_pairs item_below ss ≡ true → AllByRecursion (λ s. IsCanonItem s.item) ss
-      → (x : Item) → next_in last ss ≡ Some x → IsNextItem (rows_of ss) last x × IsCanonItem x
+      → (x : Item) → next_in last ss ≡ Some x → IsNextItem (rows_on_shelves ss) last x × IsCanonItem x
   next_found [] r c x e = absurd (none-some x e)
   next_found (s ∷ ss) r c x e = elim (cases_Bool (carries last s)) [
     | inl t ↦
         let same : s.item ≡ x = same_Some s.item x (rw t at e) in
-        let p = and_parts (is_full s.rows.items) (is_above last s.item) t in
-        let here : IsNextItem (rows_of (s ∷ ss)) last s.item = record {
+        let p = and_parts (has_rows s.rows.items) (is_above last s.item) t in
+        let here : IsNextItem (rows_on_shelves (s ∷ ss)) last s.item = record {
           above = above_is last s.item p.1;
           carries = λ n. full s.rows.items p.0 (found s.item s ss r (item_itself s.item) ∙ n);
           least = λ other i m l. m (nothing_of other (s ∷ ss) (l, all_further other s ss l (pairs_of item_below (s ∷ ss) r).0));
         } in
-        (subst (λ i. IsNextItem (rows_of (s ∷ ss)) last i) same here, subst IsCanonItem same c.0)
+        (subst (λ i. IsNextItem (rows_on_shelves (s ∷ ss)) last i) same here, subst IsCanonItem same c.0)
     | inr t ↦
         let rest = next_found ss (and_parts (list_all (item_below s) ss) (all_pairs item_below ss) r).1 c.1 x (rw t at e) in (
           record {
@@ -93,7 +93,7 @@ module _ (last : Option Item) where
         )
   ]
 
-  pub none_found : (ss : List Shelf) → all_pairs item_below ss ≡ true → next_in last ss ≡ None → NoItem (rows_of ss) last
+  pub none_found : (ss : List Shelf) → all_pairs item_below ss ≡ true → next_in last ss ≡ None → NoItem (rows_on_shelves ss) last
   none_found [] r e x i = refl
   none_found (s ∷ ss) r e x i = elim (cases_Bool (carries last s)) [
     | inl t ↦ absurd (none-some s.item (sym (rw t at e)))
@@ -108,10 +108,10 @@ module _ (last : Option Item) where
 -- what is answered, where it is the first such item of shelves
 module _ (last : Option Item) (ss : List Shelf) (answer : Option (Bor Item)) (is : option_copied answer ≡ next_in last ss)
     (r : all_pairs item_below ss ≡ true) where
-  pub answer_is_next : AllByRecursion (λ s. IsCanonItem s.item) ss → IfSome answer (λ a. IsNextItem (rows_of ss) last a.now)
+  pub answer_is_next : AllByRecursion (λ s. IsCanonItem s.item) ss → IfSome answer (λ a. IsNextItem (rows_on_shelves ss) last a.now)
   answer_is_next c = by answer refl
     where
-      by : (o : Option (Bor Item)) → answer ≡ o → IfSome o (λ a. IsNextItem (rows_of ss) last a.now)
+      by : (o : Option (Bor Item)) → answer ≡ o → IfSome o (λ a. IsNextItem (rows_on_shelves ss) last a.now)
       by None e = tt
       by (Some b) e = (next_found last ss r c b.now (sym is ∙ ap option_copied e)).0
 
@@ -122,9 +122,9 @@ module _ (last : Option Item) (ss : List Shelf) (answer : Option (Bor Item)) (is
       by None e = tt
       by (Some b) e = (next_found last ss r c b.now (sym is ∙ ap option_copied e)).1
 
-  pub none_is_next : IfNone answer (NoItem (rows_of ss) last)
+  pub none_is_next : IfNone answer (NoItem (rows_on_shelves ss) last)
   none_is_next = by answer refl
     where
-      by : (o : Option (Bor Item)) → answer ≡ o → IfNone o (NoItem (rows_of ss) last)
+      by : (o : Option (Bor Item)) → answer ≡ o → IfNone o (NoItem (rows_on_shelves ss) last)
       by None e = none_found last ss r (sym is ∙ ap option_copied e)
       by (Some b) e = tt

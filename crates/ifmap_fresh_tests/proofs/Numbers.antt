@@ -7,7 +7,7 @@ use Rattle.std.specs.List.{AllByRecursion, filter}
 use Rattle.ifmap_lemmas.specs.Filters.{all_filter}
 use Rattle.ifmap_lemmas.specs.Having.{Has, has_either, has_left, has_right}
 use Rattle.ifmap_lemmas.specs.Members.{both_all}
-use Rattle.ifmap_fresh_tests.specs.Lists.{below, count_below}
+use Rattle.ifmap_fresh_tests.specs.Lists.{numbers_below, count_below}
 use Rattle.ifmap_lemmas.specs.Pairwise.{Pairwise, pairwise_both}
 
 get_left : {X : Type 0} (xs ys : List X) (i : ℕ) (x : X) → slice_get xs i ≡ Some x → slice_get (xs ++ ys) i ≡ Some x
@@ -19,16 +19,16 @@ get_next : {X : Type 0} (xs ys : List X) (x : X) → slice_get (xs ++ x ∷ ys) 
 get_next [] ys x = refl
 get_next (y ∷ xs) ys x = get_next xs ys x
 
-pub has_below : (n w : ℕ) → w < n → Has (below n) w
+pub has_below : (n w : ℕ) → w < n → Has (numbers_below n) w
 has_below zero w h = absurd (omega (arith, h))
 has_below (suc n) w h = elim (cases_lt w n) [
-  | inl l ↦ has_left (below n) (n ∷ []) w (has_below n w l)
-  | inr g ↦ has_right (below n) (n ∷ []) w (inl (omega (arith, h, g)))
+  | inl l ↦ has_left (numbers_below n) (n ∷ []) w (has_below n w l)
+  | inr g ↦ has_right (numbers_below n) (n ∷ []) w (inl (omega (arith, h, g)))
 ]
 
-pub below_has : (n w : ℕ) → Has (below n) w → w < n
+pub below_has : (n w : ℕ) → Has (numbers_below n) w → w < n
 below_has zero w h = absurd h
-below_has (suc n) w h = elim (has_either (below n) (n ∷ []) w h) [
+below_has (suc n) w h = elim (has_either (numbers_below n) (n ∷ []) w h) [
   | inl p ↦ let l = below_has n w p in omega (arith, l)
   | inr p ↦ elim p [
     | inl e ↦ omega (arith, e)
@@ -42,15 +42,16 @@ other_number a b h = grind (arith, nat_tests)
 pub number_itself : (a : ℕ) → nat_eq a a ≡ true
 number_itself a = grind (arith, nat_tests)
 
-all_less : (m n : ℕ) → n ≤ m → AllByRecursion (λ x. AllByRecursion (λ y. nat_eq x y ≡ false) (m ∷ [])) (below n)
+all_less : (m n : ℕ) → n ≤ m → AllByRecursion (λ x. AllByRecursion (λ y. nat_eq x y ≡ false) (m ∷ [])) (numbers_below n)
 all_less m zero h = tt
 all_less m (suc n) h =
-    both_all (λ x. AllByRecursion (λ y. nat_eq x y ≡ false) (m ∷ [])) (below n) (n ∷ [])
+    both_all (λ x. AllByRecursion (λ y. nat_eq x y ≡ false) (m ∷ [])) (numbers_below n) (n ∷ [])
     (all_less m n (omega (arith, h))) ((other_number n m (omega (arith, h)), tt), tt)
 
-pub below_differ : (n : ℕ) → Pairwise (λ x y. nat_eq x y ≡ false) (below n)
+pub below_differ : (n : ℕ) → Pairwise (λ x y. nat_eq x y ≡ false) (numbers_below n)
 below_differ zero = tt
-below_differ (suc n) = pairwise_both (λ x y. nat_eq x y ≡ false) (below n) (n ∷ []) (below_differ n) (tt, tt) (all_less n n (omega arith))
+below_differ (suc n) = pairwise_both (λ x y. nat_eq x y ≡ false) (numbers_below n) (n ∷ []) (below_differ n) (tt, tt) (all_less n n
+    (omega arith))
 
 pub pairwise_kept : {X : Type 0} (P : X → X → Type 0) (p : X → Bool) (xs : List X) → Pairwise P xs → Pairwise P (filter p xs)
 pairwise_kept P p [] a = tt
@@ -62,8 +63,8 @@ pairwise_kept P p (x ∷ xs) a = elim (cases_Bool (p x)) [
 module _ (test : ℕ → Bool) where
   one_more : (n : ℕ) → count_below test (suc n) ≡ count_below test n + cond (test n) 1 0
   one_more n =
-      ap length (filter-append test (below n) (n ∷ []))
-      ∙ length-append (filter test (below n)) (cond (test n) (n ∷ []) [])
+      ap length (filter-append test (numbers_below n) (n ∷ []))
+      ∙ length-append (filter test (numbers_below n)) (cond (test n) (n ∷ []) [])
       ∙ ap (λ k. count_below test n + k) (by (test n))
     where
       by : (b : Bool) → length (cond b (n ∷ []) []) ≡ cond b 1 0
@@ -82,20 +83,20 @@ module _ (test : ℕ → Bool) where
   count_fits (suc n) = omega (arith, one_more n, count_fits n, at_most_one (test n))
 
   -- where a number meets the test, it stands at the place that those before it tell
-  pub at_place : (n w : ℕ) → w < n → test w ≡ true → slice_get (filter test (below n)) (count_below test w) ≡ Some w
+  pub at_place : (n w : ℕ) → w < n → test w ≡ true → slice_get (filter test (numbers_below n)) (count_below test w) ≡ Some w
   at_place zero w h t = absurd (omega (arith, h))
   at_place (suc n) w h t = elim (cases_lt w n) [
-    | inl l ↦ ap (λ xs. slice_get xs (count_below test w)) (filter-append test (below n) (n ∷ []))
-        ∙ get_left (filter test (below n)) (filter test (n ∷ [])) (count_below test w) w (at_place n w l t)
+    | inl l ↦ ap (λ xs. slice_get xs (count_below test w)) (filter-append test (numbers_below n) (n ∷ []))
+        ∙ get_left (filter test (numbers_below n)) (filter test (n ∷ [])) (count_below test w) w (at_place n w l t)
     | inr g ↦ let same : n ≡ w = omega (arith, h, g) in subst
-        (λ x. slice_get (filter test (below (suc x))) (count_below test w) ≡ Some w) (sym same) last
+        (λ x. slice_get (filter test (numbers_below (suc x))) (count_below test w) ≡ Some w) (sym same) last
   ]
     where
-      last : slice_get (filter test (below (suc w))) (count_below test w) ≡ Some w
+      last : slice_get (filter test (numbers_below (suc w))) (count_below test w) ≡ Some w
       last =
-          ap (λ xs. slice_get xs (count_below test w)) (filter-append test (below w) (w ∷ []))
-          ∙ ap (λ b. slice_get (filter test (below w) ++ cond b (w ∷ []) []) (count_below test w)) t
-          ∙ get_next (filter test (below w)) [] w
+          ap (λ xs. slice_get xs (count_below test w)) (filter-append test (numbers_below w) (w ∷ []))
+          ∙ ap (λ b. slice_get (filter test (numbers_below w) ++ cond b (w ∷ []) []) (count_below test w)) t
+          ∙ get_next (filter test (numbers_below w)) [] w
 
   -- and each place is that of one
   pub place_of : (n i : ℕ) → i < count_below test n → (w : ℕ) × (w < n) × (test w ≡ true) × (count_below test w ≡ i)

@@ -19,29 +19,29 @@ use Rattle.ifmap_view.specs.Rows.{stored_linked}
 use Rattle.ifmap_fresh_tests.specs.declared.shelves.Shelf.{Shelf}
 
 -- identifiers, whose numbers are their places, and shelves
-pub record Held : Type 0 where
+pub record HeldLists : Type 0 where
   pub names : List Identifier
   pub shelves : List Shelf
 
-abbrev pub row_on : Item → Stored → Attachment
-row_on item stored = record { item = item; stored = stored }
+abbrev pub attachment_on : Item → Stored → Attachment
+attachment_on item stored = record { item = item; stored = stored }
 
 -- the attachments of shelves
-abbrev pub rows_of : List Shelf → List Attachment
-rows_of shelves = flat_map (λ s. map (row_on s.item) s.rows.items) shelves
+abbrev pub rows_on_shelves : List Shelf → List Attachment
+rows_on_shelves shelves = flat_map (λ s. map (attachment_on s.item) s.rows.items) shelves
 
 -- the numbers below one, in order
-abbrev pub below : ℕ → List ℕ
-below zero = []
-below (suc n) = below n ++ n ∷ []
+abbrev pub numbers_below : ℕ → List ℕ
+numbers_below zero = []
+numbers_below (suc n) = numbers_below n ++ n ∷ []
 
-abbrev pub is_full : List Stored → Bool
-is_full [] = false
-is_full (x ∷ xs) = true
+abbrev pub has_rows : List Stored → Bool
+has_rows [] = false
+has_rows (x ∷ xs) = true
 
 -- something is stored on the link of two numbers
 abbrev pub is_linked : List Identifier → List Shelf → ℕ → ℕ → Bool
-is_linked names shelves v w = is_full (stored_linked (slice_get names v) (slice_get names w) (rows_of shelves))
+is_linked names shelves v w = has_rows (stored_linked (slice_get names v) (slice_get names w) (rows_on_shelves shelves))
 
 -- a link keeps the number whose it is
 abbrev pub link_to : ℕ → ℕ → LinkSeen
@@ -49,14 +49,14 @@ link_to v w = record { other = w; at = v }
 
 -- the links of a number: those with each number with which it has one, in order
 abbrev pub links_of : List Identifier → List Shelf → ℕ → List LinkSeen
-links_of names shelves v = map (link_to v) (filter (is_linked names shelves v) (below (length names)))
+links_of names shelves v = map (link_to v) (filter (is_linked names shelves v) (numbers_below (length names)))
 
-abbrev pub links_in : Held → ℕ → List LinkSeen
+abbrev pub links_in : HeldLists → ℕ → List LinkSeen
 links_in h v = links_of h.names h.shelves v
 
 -- how many numbers below one meet a test
 abbrev pub count_below : (ℕ → Bool) → ℕ → ℕ
-count_below test n = length (filter test (below n))
+count_below test n = length (filter test (numbers_below n))
 
 -- a number meets a test, and so many below it do
 abbrev pub is_place : (ℕ → Bool) → ℕ → ℕ → Bool
@@ -67,8 +67,8 @@ abbrev pub all_pairs : {X : Type 0} → (X → X → Bool) → List X → Bool
 all_pairs test [] = true
 all_pairs test (x ∷ xs) = list_all (test x) xs && all_pairs test xs
 
-abbrev pub differ : Identifier → Identifier → Bool
-differ a b = not (same_identifier a b)
+abbrev pub different_identifiers : Identifier → Identifier → Bool
+different_identifiers a b = not (same_identifier a b)
 
 abbrev pub item_below : Shelf → Shelf → Bool
 item_below s t = is_lt (item_order s.item t.item)
@@ -81,16 +81,17 @@ abbrev pub are_lists : List Shelf → Bool
 are_lists shelves = list_all (λ s. all_pairs row_below s.rows.items) shelves
 
 -- the identifiers of an item are among these
-abbrev pub is_known : List Identifier → Item → Bool
-is_known names (One a) = list_any (same_identifier a) names
-is_known names (Pair a b) = list_any (same_identifier a) names && list_any (same_identifier b) names
+abbrev pub is_item_known : List Identifier → Item → Bool
+is_item_known names (One a) = list_any (same_identifier a) names
+is_item_known names (Pair a b) = list_any (same_identifier a) names && list_any (same_identifier b) names
 
 -- no identifier stands twice, the items rise, the elements on each do, and the identifiers of each are there
 abbrev pub are_sound : List Identifier → List Shelf → Bool
 are_sound names shelves =
-    ((all_pairs differ names && all_pairs item_below shelves) && are_lists shelves) && list_all (λ s. is_known names s.item) shelves
+    ((all_pairs different_identifiers names && all_pairs item_below shelves) && are_lists shelves) && list_all (λ s. is_item_known names
+    s.item) shelves
 
-pub record AreLists (h : Held) : Type 0 where
+pub record AreLists (h : HeldLists) : Type 0 where
   pub named : AllByRecursion IsIdentifier h.names
   pub canon : AllByRecursion (λ s. IsCanonItem s.item) h.shelves
   pub sound : are_sound h.names h.shelves ≡ true
@@ -103,7 +104,7 @@ is_above (Some a) x = is_lt (item_order a x)
 
 -- something stands on the shelf, and its item is above another, where there is one
 abbrev pub carries : Option Item → Shelf → Bool
-carries last s = is_full s.rows.items && is_above last s.item
+carries last s = has_rows s.rows.items && is_above last s.item
 
 -- the item of the first such shelf
 abbrev pub next_in : Option Item → List Shelf → Option Item

@@ -5,7 +5,7 @@ ghost use Rattle.std.specs.Ordering.{is_lt};
 ghost use Rattle.ifmap_ident.specs.Identifiers.{same_identifier};
 ghost use Rattle.ifmap_meta.specs.Keys.{same_type};
 ghost use Rattle.ifmap_view.specs.Attachments.{stored_bytes, stored_order};
-ghost use Rattle.ifmap_fresh_tests.specs.Lists.{all_pairs, are_lists, are_sound, differ, is_known, item_below, row_below};
+ghost use Rattle.ifmap_fresh_tests.specs.Lists.{all_pairs, are_lists, are_sound, different_identifiers, is_item_known, item_below, row_below};
 
 use crate::shelves::Shelf;
 use ifmap_ident::{Identifier, Item};
@@ -21,7 +21,7 @@ pub(crate) fn are_sound(names: &[Identifier], shelves: &[Shelf]) -> bool
 }
 
 fn are_apart(names: &[Identifier]) -> bool
-    ensures { result ≡ all_pairs differ names.now }
+    ensures { result ≡ all_pairs different_identifiers names.now }
 {
     let mut rest = names;
     while let Some((first, after)) = rest.split_first() {
@@ -34,7 +34,7 @@ fn are_apart(names: &[Identifier]) -> bool
 }
 
 fn differs(id: &Identifier, others: &[Identifier]) -> bool
-    ensures { result ≡ list_all (differ id.now) others.now }
+    ensures { result ≡ list_all (different_identifiers id.now) others.now }
 {
     others.iter().all(|other| id != other)
 }
@@ -114,13 +114,13 @@ fn is_other_type(row: &Row, other: &Row) -> bool
 }
 
 fn are_known(names: &[Identifier], shelves: &[Shelf]) -> bool
-    ensures { result ≡ list_all (λ s. is_known names.now s.item) shelves.now }
+    ensures { result ≡ list_all (λ s. is_item_known names.now s.item) shelves.now }
 {
     shelves.iter().all(|shelf| is_known(names, &shelf.item))
 }
 
 fn is_known(names: &[Identifier], item: &Item) -> bool
-    ensures { result ≡ is_known names.now item.now }
+    ensures { result ≡ is_item_known names.now item.now }
 {
     match item {
         Item::One(a) => stands_in(names, a),

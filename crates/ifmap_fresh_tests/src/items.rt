@@ -1,6 +1,6 @@
 //! The items of plain lists: each is looked for from the front.
 ghost use Rattle.std.specs.Prelude.{◌≡◌, option_copied};
-ghost use Rattle.ifmap_fresh_tests.specs.Lists.{carries, is_above, is_full, next_in};
+ghost use Rattle.ifmap_fresh_tests.specs.Lists.{carries, is_above, has_rows, next_in};
 
 use crate::lists::Lists;
 use crate::shelves::Shelf;
@@ -38,7 +38,7 @@ fn carries(item: Option<&Item>, shelf: &Shelf) -> bool
 }
 
 fn is_full(rows: &[Row]) -> bool
-    ensures { result ≡ is_full rows.now }
+    ensures { result ≡ has_rows rows.now }
 {
     !rows.is_empty()
 }

@@ -2,7 +2,7 @@
 ghost use Rattle.std.specs.Prelude.{◌≡◌, ◌<◌, true, Some, length, if◌then◌else◌};
 ghost use Rattle.std.specs.List.{slice_get};
 ghost use Rattle.ifmap_view.specs.Rows as on_rows;
-ghost use Rattle.ifmap_fresh_tests.specs.Lists.{all_pairs, count_below, is_linked, is_place, item_below, links_of, rows_of};
+ghost use Rattle.ifmap_fresh_tests.specs.Lists.{all_pairs, count_below, is_linked, is_place, item_below, links_of, rows_on_shelves};
 
 use crate::looking::stored_on_pair;
 use crate::shelves::Shelf;
@@ -19,7 +19,7 @@ pub(crate) fn stored_linked<'a>(
 ) -> &'a [Row]
     requires { all_pairs item_below shelves.now ≡ true }
     ensures { result.now ≡ on_rows.stored_linked (slice_get names.now number)
-        (slice_get names.now other) (rows_of shelves.now) }
+        (slice_get names.now other) (rows_on_shelves shelves.now) }
 {
     let Some(a) = names.get(number as usize) else {
         return &[];
@@ -33,7 +33,7 @@ pub(crate) fn stored_linked<'a>(
 // What is stored on the link of two identifiers.
 fn stored_between<'a>(shelves: &'a [Shelf], a: &Identifier, b: &Identifier) -> &'a [Row]
     requires { all_pairs item_below shelves.now ≡ true }
-    ensures { result.now ≡ on_rows.stored_between a.now b.now (rows_of shelves.now) }
+    ensures { result.now ≡ on_rows.stored_between a.now b.now (rows_on_shelves shelves.now) }
 {
     match a.cmp(b) {
         Ordering::Less => stored_on_pair(shelves, a, b),

@@ -3,7 +3,7 @@ ghost use Rattle.std.specs.Prelude.{◌≡◌, IfSome};
 ghost use Rattle.std.specs.List.{AllByRecursion, slice_get};
 ghost use Rattle.ifmap_ident.specs.Canon.{IsIdentifier};
 ghost use Rattle.ifmap_ident.specs.Items.{IsCanonItem};
-ghost use Rattle.ifmap_fresh_tests.specs.Lists.{AreLists, links_in, rows_of};
+ghost use Rattle.ifmap_fresh_tests.specs.Lists.{AreLists, links_in, rows_on_shelves};
 
 use crate::checking::are_sound;
 use crate::linking::{count_links, link_in, stored_linked};
@@ -28,9 +28,9 @@ impl Model for Lists {
     ghost use Rattle.std.specs.Coded.{codes};
     ghost use Rattle.ifmap_ident.specs.contracts.identifiers.Identifier as the_identifier;
     ghost use Rattle.ifmap_fresh_tests.specs.contracts.shelves.Shelf as the_shelf;
-    ghost use Rattle.ifmap_fresh_tests.specs.Lists.{AreLists, Held};
+    ghost use Rattle.ifmap_fresh_tests.specs.Lists.{AreLists, HeldLists};
 
-    ghost Value = { Held };
+    ghost Value = { HeldLists };
 
     ghost coded = { Prim.hlevel (codes, the_identifier.the_row.coded, the_shelf.the_row.coded) };
 
@@ -67,7 +67,7 @@ impl Lists {
 }
 
 impl View for Lists {
-    ghost rows = { λ l. rows_of l.shelves };
+    ghost rows = { λ l. rows_on_shelves l.shelves };
 
     ghost id_at = { λ l v. slice_get l.names v };
 

@@ -5,7 +5,7 @@ ghost use Rattle.ifmap_ident.specs.declared.items.Item.TheVariants.{One, Pair};
 ghost use Rattle.ifmap_ident.specs.Items.{same_item};
 ghost use Rattle.ifmap_meta.specs.Keys.{HaveOneKey};
 ghost use Rattle.ifmap_view.specs.Rows.{stored_on};
-ghost use Rattle.ifmap_fresh_tests.specs.Lists.{all_pairs, differ, item_below, rows_of};
+ghost use Rattle.ifmap_fresh_tests.specs.Lists.{all_pairs, different_identifiers, item_below, rows_on_shelves};
 
 use crate::shelves::Shelf;
 use ifmap_elem::Equals;
@@ -14,7 +14,7 @@ use ifmap_view::Row;
 
 // The place of an identifier.
 pub(crate) fn number_of(names: &[Identifier], id: &Identifier) -> Option<u64>
-    requires { all_pairs differ names.now ≡ true }
+    requires { all_pairs different_identifiers names.now ≡ true }
     ensures found { IfSome result (λ v. slice_get names.now v ≡ Some id.now) }
     ensures only { (v : ℕ) → slice_get names.now v ≡ Some id.now → result ≡ Some v }
 {
@@ -29,7 +29,7 @@ pub(crate) fn number_of(names: &[Identifier], id: &Identifier) -> Option<u64>
 // What is stored on an identifier.
 pub(crate) fn stored_on_one<'a>(shelves: &'a [Shelf], id: &Identifier) -> &'a [Row]
     requires { all_pairs item_below shelves.now ≡ true }
-    ensures { result.now ≡ stored_on (One id.now) (rows_of shelves.now) }
+    ensures { result.now ≡ stored_on (One id.now) (rows_on_shelves shelves.now) }
 {
     let mut rest = shelves;
     while let Some((shelf, after)) = rest.split_first() {
@@ -48,7 +48,7 @@ pub(crate) fn stored_on_pair<'a>(
     second: &Identifier,
 ) -> &'a [Row]
     requires { all_pairs item_below shelves.now ≡ true }
-    ensures { result.now ≡ stored_on (Pair first.now second.now) (rows_of shelves.now) }
+    ensures { result.now ≡ stored_on (Pair first.now second.now) (rows_on_shelves shelves.now) }
 {
     let mut rest = shelves;
     while let Some((shelf, after)) = rest.split_first() {

@@ -5,8 +5,9 @@
 use Rattle.std.proofs.Common.{◌≡◌, ℕ, suc, ◌+◌, ◌<◌, ◌≤◌, false, IsSome, List, [], ◌∷◌, ◌++◌, map, length, get_or, set, take, drop, refl, ap, ◌∙◌, sym, subst, arith, add-one, append_assoc, drop-cons}
 use Rattle.std.proofs.lemmas.List.{append-nil, drop_all, get_or-map, length-map, length-set, take_all, take_more_set}
 use Rattle.std.specs.List.{AllByRecursion, IsDistinct}
+use Rattle.std.proofs.lemmas.Map.Keys.{IsDistinct-head, IsDistinct-tail}
 use Rattle.ifmap_ident.specs.declared.items.Item.{Item}
-use Rattle.ifmap_ident.specs.Items.{items_tie, same_item}
+use Rattle.ifmap_ident.specs.Items.{same_item}
 use Rattle.ifmap_meta.specs.declared.stored.Stored.{Stored}
 use Rattle.ifmap_view.specs.Rows.{stored_on}
 use Rattle.ifmap_graph.specs.declared.shelves.Shelves.{Shelves}
@@ -15,33 +16,16 @@ use Rattle.ifmap_graph.specs.Shelved.{AreShelved, HasDraft, slot_of_item, rows_o
 use Rattle.ifmap_graph.specs.Sides.{next, now}
 use Rattle.ifmap_graph.specs.Waits.{waits_on}
 use Rattle.ifmap_graph.proofs.Bare.{none_left, one_gone, sides_same}
-use Rattle.ifmap_ident.specs.SameLaws.{ties}
-
--- an item is another, or it is not, whichever comes first
-turned : (a b : Item) → same_item a b ≡ same_item b a
-turned a b = items_tie a b ∙ ties a b
-
-pub apart_parts : (x : Item) (xs : List Item) → IsDistinct same_item (x ∷ xs) → AllByRecursion (λ y. same_item x y ≡ false) xs
-    × IsDistinct same_item xs
-unfolding IsDistinct
-apart_parts x xs d = d
-
-pub all_given : (P Q : Item → Type 0) (xs : List Item) → ((x : Item) → P x → Q x) → AllByRecursion P xs → AllByRecursion Q xs
-all_given P Q [] f a = tt
-all_given P Q (x ∷ xs) f a = (f x a.0, all_given P Q xs f a.1)
-
-all_both : (P Q R : Item → Type 0) (xs : List Item) → ((x : Item) → P x → Q x → R x) → AllByRecursion P xs → AllByRecursion Q xs
-    → AllByRecursion R xs
-all_both P Q R [] f a b = tt
-all_both P Q R (x ∷ xs) f a b = (f x a.0 b.0, all_both P Q R xs f a.1 b.1)
+use Rattle.ifmap_ident.specs.SameLaws.{ties, items_equiv}
+use Rattle.ifmap_lemmas.specs.Filters.{all_weaker}
+use Rattle.ifmap_lemmas.specs.Members.{all_two}
+use Rattle.ifmap_lemmas.specs.Options.{is_some_of}
+use Rattle.ifmap_plans.specs.declared.plans.ItemChange.{ItemChange}
+use Rattle.ifmap_graph.specs.Out.{items_changed}
 
 map_same : {Y : Type 0} (f g : Item → Y) (xs : List Item) → AllByRecursion (λ x. f x ≡ g x) xs → map f xs ≡ map g xs
 map_same f g [] a = refl
 map_same f g (x ∷ xs) a = ap (λ y. y ∷ map f xs) a.0 ∙ ap (λ l. g x ∷ l) (map_same f g xs a.1)
-
-pub maps_join : {X Y Z : Type 0} (f : Y → Z) (g : X → Y) (xs : List X) → map f (map g xs) ≡ map (λ x. f (g x)) xs
-maps_join f g [] = refl
-maps_join f g (x ∷ xs) = ap (λ l. f (g x) ∷ l) (maps_join f g xs)
 
 -- something of a list that has a place
 pub some_in : {X : Type 0} (xs : List X) (i : ℕ) → i < length xs → X
@@ -49,11 +33,26 @@ some_in [] i h = absurd (omega (arith, h))
 some_in (x ∷ xs) i h = x
 
 -- what stands at a place, and the rest
-pub here_mapped : {X Y : Type 0} (f : X → Y) (xs : List X) (i : ℕ) (d : X) → i < length xs
+here_mapped : {X Y : Type 0} (f : X → Y) (xs : List X) (i : ℕ) (d : X) → i < length xs
     → drop i (map f xs) ≡ f (get_or xs i d) ∷ drop (i + 1) (map f xs)
 here_mapped f xs i d h =
     drop-cons (map f xs) i (f d) (omega (arith, h, length-map xs f)) ∙ ap (λ y. y ∷ drop (suc i) (map f xs)) (get_or-map f xs i d (f d) h)
     ∙ ap (λ n. f (get_or xs i d) ∷ drop n (map f xs)) (sym (add-one i))
+
+-- as many items as changes, and the item of the change at a place
+pub as_many : (changes : List ItemChange) → length (items_changed changes) ≡ length changes
+as_many changes = length-map changes (λ (c : ItemChange). c.item)
+
+pub here_changed : (changes : List ItemChange) (i : ℕ) (d : ItemChange) → i < length changes
+    → drop i (items_changed changes) ≡ (get_or changes i d).item ∷ drop (i + 1) (items_changed changes)
+here_changed = here_mapped (λ (c : ItemChange). c.item)
+
+-- an item is another than those after it, which differ among themselves
+pub apart_after : (items : List Item) (i : ℕ) (x : Item) → drop i items ≡ x ∷ drop (i + 1) items → IsDistinct same_item (drop i items)
+    → AllByRecursion (λ y. same_item x y ≡ false) (drop (i + 1) items) × IsDistinct same_item (drop (i + 1) items)
+apart_after items i x here apart =
+    let d : IsDistinct same_item (x ∷ drop (i + 1) items) = subst (λ l. IsDistinct same_item l) here apart
+    in (IsDistinct-head same_item x (drop (i + 1) items) d, IsDistinct-tail same_item x (drop (i + 1) items) d)
 
 -- what is stored on an item
 abbrev pub stored_at : Shelves → Item → List Stored
@@ -96,9 +95,6 @@ module _ (items : List Item) (first : Shelves) where
     pub drafted_at : HasDraft shelves item
     drafted_at = now_drafted.0
 
-    rest_apart : AllByRecursion (λ y. same_item item y ≡ false) (drop (i + 1) items) × IsDistinct same_item (drop (i + 1) items)
-    rest_apart = apart_parts item (drop (i + 1) items) (subst (λ l. IsDistinct same_item l) here g.apart)
-
     module _ (lists' : List (List Stored)) (shelves' : Shelves) (shelved : AreShelved shelves')
         (same : rows_on_side next shelves' ≡ rows_on_side next shelves)
         (drafts : (x : Item) → HasDraft shelves' x → HasDraft shelves x × (same_item x item ≡ false))
@@ -115,18 +111,19 @@ module _ (items : List Item) (first : Shelves) where
       rest : map (stored_at shelves') (drop (i + 1) items) ≡ map (stored_at shelves) (drop (i + 1) items)
       rest =
           map_same (stored_at shelves') (stored_at shelves) (drop (i + 1) items)
-          (all_given (λ y. same_item item y ≡ false) (λ x. stored_at shelves' x ≡ stored_at shelves x) (drop (i + 1) items)
-          (λ x f. (others x (turned x item ∙ f)).1) rest_apart.0)
+          (all_weaker (λ y. same_item item y ≡ false) (λ x. stored_at shelves' x ≡ stored_at shelves x)
+          (λ x f. (others x (items_equiv.symm x item ∙ f)).1) (drop (i + 1) items) (apart_after items i item here g.apart).0)
 
       pub accepts_on : Accepting lists' shelves' (i + 1)
       accepts_on = record {
         shelved = shelved;
         same = same ∙ g.same;
-        drafted = all_both (λ y. same_item item y ≡ false) (HasDraft shelves) (HasDraft shelves') (drop (i + 1) items)
-            (λ x f. (others x (turned x item ∙ f)).0) rest_apart.0 now_drafted.1;
+        drafted = all_two (λ y. same_item item y ≡ false) (HasDraft shelves) (HasDraft shelves')
+            (λ x f. (others x (items_equiv.symm x item ∙ f)).0) (drop (i + 1) items) (apart_after items i item here g.apart).0
+            now_drafted.1;
         within = one_gone shelves shelves' item (drop (i + 1) items) (subst (λ l. DraftsWithin l shelves) here g.within)
             (λ x k. let p = drafts x k in (p.0, ties item x ∙ p.1));
-        apart = rest_apart.1;
+        apart = (apart_after items i item here g.apart).1;
         long = ap length wrote ∙ length-set lists i (stored_at shelves item) ∙ g.long;
         made = ap (λ l. l ++ map (stored_at shelves') (drop (i + 1) items)) front
             ∙ append_assoc (take i lists) (stored_at shelves item ∷ []) (map (stored_at shelves') (drop (i + 1) items))
@@ -154,7 +151,8 @@ module _ (items : List Item) (first : Shelves) where
 
   -- what has a draft has a shelf
   pub drafted_there : AllByRecursion (HasDraft first) items → AllByRecursion (λ x. IsSome (slot_of_item first x)) items
-  drafted_there drafted = all_given (HasDraft first) (λ x. IsSome (slot_of_item first x)) items (λ x k. subst IsSome (sym k.2) refl) drafted
+  drafted_there drafted =
+      all_weaker (HasDraft first) (λ x. IsSome (slot_of_item first x)) (λ x k. is_some_of (slot_of_item first x) k.0 k.2) items drafted
 
   -- so many drafts are taken back
   pub record Discarding (shelves : Shelves) (i : ℕ) : Type 0 where

@@ -5,7 +5,8 @@ use Rattle.std.specs.Cmp.Lexicographic.{nat_list_cmp_total}
 use Rattle.std.specs.Ordering.{is_eq, ordering_reverse}
 use Rattle.std.specs.Str.{bytes_eq}
 use Rattle.std.specs.declared.cmp.Ordering.TheVariants.{Less, Equal}
-use Rattle.ifmap_lemmas.specs.Texts.{eq_itself, eq_tells, same_texts, slice_cmp-same}
+use Rattle.std.specs.Cmp.{Equal-is}
+use Rattle.ifmap_lemmas.specs.Texts.{eq_tells, same_texts, slice_cmp-same}
 use Rattle.ifmap_ident.specs.declared.identifiers.Identifier.{Identifier}
 use Rattle.ifmap_ident.specs.declared.items.Item.{Item}
 use Rattle.ifmap_ident.specs.declared.items.Item.TheVariants.{One, Pair}
@@ -13,8 +14,7 @@ use Rattle.ifmap_ident.specs.Identifiers.{identifier_bytes, identifier_order, sa
 use Rattle.ifmap_ident.specs.Items.{item_order, ordered_pair, pair_of, same_item}
 use Rattle.ifmap_view.specs.declared.attachments.Attachment.{Attachment}
 use Rattle.ifmap_view.specs.Rows.{stored_on}
-use Rattle.ifmap_graph.proofs.Ordered.{equal_is}
-use Rattle.ifmap_ident.specs.SameLaws.{turned_order, ties}
+use Rattle.ifmap_ident.specs.SameLaws.{turned_order, ties, item_itself}
 
 abbrev pub Alike : Identifier → Identifier → Type 0
 Alike a b = identifier_bytes a ≡ identifier_bytes b
@@ -81,12 +81,6 @@ one_tied k (Pair a b) e =
     let t : same_item (Pair a b) (One k) ≡ true = sym (ties (One k) (Pair a b)) ∙ ap is_eq e
     in let r : false ≡ true = (and_parts (same_identifier a k) false t).1 in cc
 
-pair_itself : (a b : Identifier) → same_item (Pair a b) (Pair a b) ≡ true
-pair_itself a b =
-    let p : same_identifier a a ≡ true = eq_itself (identifier_bytes a)
-    in let q : same_identifier b b ≡ true = eq_itself (identifier_bytes b)
-    in rw (p, q) refl
-
 pub pairs_tie : (a b k m : Identifier) → Alike a k → Alike b m → item_order (Pair a b) (Pair k m) ≡ Equal
 pairs_tie a b k m p q =
-    equal_is (item_order (Pair a b) (Pair k m)) (ties (Pair a b) (Pair k m) ∙ same_pair k m a b p q (Pair k m) ∙ pair_itself k m)
+    (Equal-is (item_order (Pair a b) (Pair k m))).0 (ties (Pair a b) (Pair k m) ∙ same_pair k m a b p q (Pair k m) ∙ item_itself (Pair k m))

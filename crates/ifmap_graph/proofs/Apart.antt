@@ -2,10 +2,15 @@
 use Rattle.std.proofs.Common.{◌≡◌, ◌&&◌, ℕ, Bool, true, false, not, cond, nat_eq, Option, Some, None, List, [], ◌∷◌, ◌++◌, refl, ap, ◌∙◌, sym, inl, inr}
 use Rattle.std.proofs.lemmas.Bool.{cases_Bool}
 use Rattle.std.specs.List.{AllByRecursion, IsDistinct, filter, cons_option}
+use Rattle.std.proofs.lemmas.Map.Keys.{IsDistinct-cons, IsDistinct-head, IsDistinct-tail}
 use Rattle.ifmap_view.specs.declared.views.LinkSeen.{LinkSeen}
 use Rattle.ifmap_graph.specs.Linked.{AreListed, ats, changed_links, coming_links, far_of, seen_at}
-use Rattle.ifmap_lemmas.specs.Having.{Has, from_has}
-use Rattle.ifmap_lemmas.specs.Numbers.{is_number}
+use Rattle.ifmap_lemmas.specs.Having.{from_has, has_all}
+use Rattle.ifmap_lemmas.specs.Numbers.{equal_numbers}
+use Rattle.ifmap_graph.proofs.Rising.{to_distinct}
+use Rattle.ifmap_lemmas.specs.Filters.{all_filter}
+use Rattle.ifmap_lemmas.specs.Members.{map_of_all}
+use Rattle.ifmap_graph.proofs.Links.{both_true}
 
 -- the place is not among those of the links
 abbrev Out : ℕ → List LinkSeen → Type 0
@@ -13,22 +18,6 @@ Out k ls = AllByRecursion (λ y. nat_eq k y ≡ false) (ats ls)
 
 abbrev Once : List LinkSeen → Type 0
 Once ls = IsDistinct nat_eq (ats ls)
-
-once_nil : Once []
-unfolding IsDistinct
-once_nil = tt
-
-once_cons : (l : LinkSeen) (ls : List LinkSeen) → Out l.at ls → Once ls → Once (l ∷ ls)
-unfolding IsDistinct
-once_cons l ls o d = (o, d)
-
-once_parts : (l : LinkSeen) (ls : List LinkSeen) → Once (l ∷ ls) → Out l.at ls × Once ls
-unfolding IsDistinct
-once_parts l ls d = d
-
-number_parts : (n : ℕ) (ns : List ℕ) → IsDistinct nat_eq (n ∷ ns) → AllByRecursion (λ y. nat_eq n y ≡ false) ns × IsDistinct nat_eq ns
-unfolding IsDistinct
-number_parts n ns d = d
 
 out_filter : (k : ℕ) (p : LinkSeen → Bool) (ls : List LinkSeen) → Out k ls → Out k (filter p ls)
 out_filter k p [] o = tt
@@ -39,24 +28,12 @@ out_filter k p (l ∷ ls) o = at (p l) (out_filter k p ls o.1)
     at false rest = rest
 
 once_filter : (p : LinkSeen → Bool) (ls : List LinkSeen) → Once ls → Once (filter p ls)
-once_filter p [] d = once_nil
-once_filter p (l ∷ ls) d = at (p l) (once_filter p ls (once_parts l ls d).1)
+once_filter p [] d = to_distinct nat_eq [] tt
+once_filter p (l ∷ ls) d = at (p l) (once_filter p ls (IsDistinct-tail nat_eq l.at (ats ls) d))
   where
     at : (b : Bool) → Once (filter p ls) → Once (cond b (l ∷ filter p ls) (filter p ls))
-    at true rest = once_cons l (filter p ls) (out_filter l.at p ls (once_parts l ls d).0) rest
+    at true rest = IsDistinct-cons nat_eq l.at (ats (filter p ls)) (out_filter l.at p ls (IsDistinct-head nat_eq l.at (ats ls) d)) rest
     at false rest = rest
-
-all_filter : (P : LinkSeen → Type 0) (p : LinkSeen → Bool) (ls : List LinkSeen) → AllByRecursion P ls → AllByRecursion P (filter p ls)
-all_filter P p [] a = tt
-all_filter P p (l ∷ ls) a = at (p l) (all_filter P p ls a.1)
-  where
-    at : (b : Bool) → AllByRecursion P (filter p ls) → AllByRecursion P (cond b (l ∷ filter p ls) (filter p ls))
-    at true rest = (a.0, rest)
-    at false rest = rest
-
-all_of : (P : LinkSeen → Type 0) (ls : List LinkSeen) → ((l : LinkSeen) → Has ls l → P l) → AllByRecursion P ls
-all_of P [] f = tt
-all_of P (l ∷ ls) f = (f l (inl refl), all_of P ls (λ x h. f x (inr h)))
 
 out_append : (k : ℕ) (xs ys : List LinkSeen) → Out k xs → Out k ys → Out k (xs ++ ys)
 out_append k [] ys a b = b
@@ -64,12 +41,9 @@ out_append k (x ∷ xs) ys a b = (a.0, out_append k xs ys a.1 b)
 
 once_append : (xs ys : List LinkSeen) → Once xs → Once ys → AllByRecursion (λ l. Out l.at ys) xs → Once (xs ++ ys)
 once_append [] ys a b c = b
-once_append (x ∷ xs) ys a b c = once_cons x (xs ++ ys) (out_append x.at xs ys (once_parts x xs a).0 c.0)
-    (once_append xs ys (once_parts x xs a).1 b c.1)
-
-all_map : (P Q : LinkSeen → Type 0) (ls : List LinkSeen) → ((l : LinkSeen) → P l → Q l) → AllByRecursion P ls → AllByRecursion Q ls
-all_map P Q [] f a = tt
-all_map P Q (l ∷ ls) f a = (f l a.0, all_map P Q ls f a.1)
+once_append (x ∷ xs) ys a b c =
+    IsDistinct-cons nat_eq x.at (ats (xs ++ ys)) (out_append x.at xs ys (IsDistinct-head nat_eq x.at (ats xs) a) c.0)
+    (once_append xs ys (IsDistinct-tail nat_eq x.at (ats xs) a) b c.1)
 
 module _ (joins : ℕ → Option (ℕ × ℕ)) (before after : ℕ → Bool) (v : ℕ) where
   abbrev pick : ℕ → Option LinkSeen
@@ -83,16 +57,11 @@ module _ (joins : ℕ → Option (ℕ × ℕ)) (before after : ℕ → Bool) (v 
   from_place P at true None ls p a = a
   from_place P at true (Some w) ls p a = (p refl, a)
 
-  was_empty : (a b : Bool) → (a && not b) ≡ true → b ≡ false
-  was_empty true true e = let r : false ≡ true = e in cc
-  was_empty true false e = refl
-  was_empty false b e = let r : false ≡ true = e in cc
-
   comers_empty : (touched : List ℕ) → AllByRecursion (λ l. before l.at ≡ false) (coming_links joins before after touched v)
   comers_empty [] = tt
   comers_empty (at ∷ ats) = from_place (λ n. before n ≡ false) at (after at && not (before at)) (far_of (joins at) v)
       (coming_links joins before after ats v)
-      (was_empty (after at) (before at)) (comers_empty ats)
+      (λ e. (both_true (after at) (before at) e).1) (comers_empty ats)
 
   comers_out : (k : ℕ) (touched : List ℕ) → AllByRecursion (λ y. nat_eq k y ≡ false) touched → AllByRecursion (λ l. nat_eq k l.at ≡ false)
       (coming_links joins before after touched v)
@@ -100,26 +69,23 @@ module _ (joins : ℕ → Option (ℕ × ℕ)) (before after : ℕ → Bool) (v 
   comers_out k (at ∷ ats) a = from_place (λ n. nat_eq k n ≡ false) at (after at && not (before at)) (far_of (joins at) v)
       (coming_links joins before after ats v) (λ _. a.0) (comers_out k ats a.1)
 
-  out_of : (k : ℕ) (ls : List LinkSeen) → AllByRecursion (λ l. nat_eq k l.at ≡ false) ls → Out k ls
-  out_of k [] a = tt
-  out_of k (l ∷ ls) a = (a.0, out_of k ls a.1)
-
   comers_once : (touched : List ℕ) → IsDistinct nat_eq touched → Once (coming_links joins before after touched v)
-  comers_once [] d = once_nil
-  comers_once (at ∷ rest) d = put (after at && not (before at)) (far_of (joins at) v) (comers_once rest (number_parts at rest d).1)
+  comers_once [] d = to_distinct nat_eq [] tt
+  comers_once (at ∷ rest) d = put (after at && not (before at)) (far_of (joins at) v) (comers_once rest (IsDistinct-tail nat_eq at rest d))
     where
       put : (b : Bool) (o : Option ℕ) → Once (coming_links joins before after rest v) → Once (cons_option (cond b (seen_at at o) None)
           (coming_links joins before after rest v))
       put false o a = a
       put true None a = a
-      put true (Some w) a = once_cons (record { other = w; at = at }) (coming_links joins before after rest v)
-          (out_of at _ (comers_out at rest (number_parts at rest d).0)) a
+      put true (Some w) a = IsDistinct-cons nat_eq at (ats (coming_links joins before after rest v))
+          (map_of_all (λ y. nat_eq at y ≡ false) (λ (l : LinkSeen). l.at) (coming_links joins before after rest v)
+          (comers_out at rest (IsDistinct-head nat_eq at rest d))) a
 
   apart_from : (k : ℕ) (ls : List LinkSeen) → before k ≡ true → AllByRecursion (λ l. before l.at ≡ false) ls → Out k ls
   apart_from k [] full a = tt
   apart_from k (l ∷ ls) full a = (
     elim (cases_Bool (nat_eq k l.at)) [
-      | inl e ↦ let r : false ≡ true = sym a.0 ∙ ap before (sym (is_number k l.at e)) ∙ full in cc
+      | inl e ↦ let r : false ≡ true = sym a.0 ∙ ap before (sym (equal_numbers k l.at e)) ∙ full in cc
       | inr e ↦ e
     ],
     apart_from k ls full a.1,
@@ -132,6 +98,6 @@ module _ (joins : ℕ → Option (ℕ × ℕ)) (before after : ℕ → Bool) (v 
       (once_filter (λ l. after l.at) (links v) d)
       (comers_once touched t)
       (all_filter (λ l. Out l.at (coming_links joins before after touched v)) (λ l. after l.at) (links v)
-      (all_of (λ l. Out l.at (coming_links joins before after touched v)) (links v)
+      (has_all (λ l. Out l.at (coming_links joins before after touched v)) (links v)
       (λ l h. apart_from l.at (coming_links joins before after touched v) (listed.only v l (from_has (links v) l h)).1
       (comers_empty touched))))

@@ -14,7 +14,8 @@ use Rattle.ifmap_graph.specs.Linked.{ats}
 use Rattle.ifmap_graph.specs.Seen.{IsStill}
 use Rattle.ifmap_graph.specs.Shelved.{StoredSide}
 use Rattle.ifmap_graph.specs.Sides.{next, now}
-use Rattle.ifmap_graph.proofs.Shelving.{no_slots, nothing_placed}
+use Rattle.ifmap_graph.proofs.Shelving.{nothing_placed}
+use Rattle.ifmap_graph.proofs.Rising.{to_distinct}
 
 -- no number has an entry
 module _ (names : Holdings Identifier) (none : (v : ℕ) → entry_at names v ≡ None) where
@@ -53,7 +54,7 @@ module _ (names : Holdings Identifier) (none : (v : ℕ) → entry_at names v �
         only = λ v seen c. absurd (has_from [] seen (subst (λ l. Contains l seen) (empty v) c));
         each = λ v w at e f. absurd (elim e [ inl j ↦ unjoined at v w j | inr j ↦ unjoined at w v j ]);
       };
-      once = λ v. subst (λ l. IsDistinct nat_eq (ats l)) (sym (empty v)) no_slots;
+      once = λ v. subst (λ l. IsDistinct nat_eq (ats l)) (sym (empty v)) (to_distinct nat_eq [] tt);
     }
 
     pub no_inside : IsInside names look [] []

@@ -9,6 +9,7 @@ use Rattle.std.specs.BTreeMap.{is_at, insert_entry}
 use Rattle.std.specs.List.{AllByRecursion}
 use Rattle.std.specs.Map.{lookup, remove_entry}
 use Rattle.std.specs.Ordering.{is_eq}
+use Rattle.std.specs.Cmp.{Equal-is}
 use Rattle.slab.specs.Slab.{get}
 use Rattle.ifmap_ident.specs.declared.identifiers.Identifier.{Identifier}
 use Rattle.ifmap_ident.specs.declared.items.Item.{Item}
@@ -23,19 +24,17 @@ use Rattle.ifmap_graph.specs.Waits.{waits_of, waits_on, waits_there}
 use Rattle.ifmap_graph.proofs.Finding.{all_inserted}
 use Rattle.ifmap_graph.proofs.Following.{lookup_tied}
 use Rattle.ifmap_graph.proofs.Leaving.{comes, goes}
-use Rattle.ifmap_graph.proofs.Ordered.{equal_is}
 use Rattle.ifmap_graph.proofs.Shelving.{Entries, slots_stay}
 use Rattle.ifmap_graph.proofs.Staying.{ends_of}
 use Rattle.ifmap_graph.proofs.Writes.{slot_live}
 use Rattle.ifmap_ident.specs.SameLaws.{items_total}
-use Rattle.ifmap_graph.proofs.Accepting.{all_given}
-
-nothing_some : {X : Type 0} (o : Option X) → o ≡ None → IsSome o → ⊥
-nothing_some {X} o e s = let q : IsSome {T = X} None = subst (λ (o : Option X). IsSome o) e s in cc
+use Rattle.ifmap_lemmas.specs.Filters.{all_weaker}
+use Rattle.ifmap_lemmas.specs.Members.{both_all}
+use Rattle.ifmap_lemmas.specs.Options.{is_some_of, some_none}
 
 -- what ties is in one place
 place_tied : (s : Shelves) (x y : Item) → is_at (item_order x) y ≡ true → slot_of_item s x ≡ slot_of_item s y
-place_tied s x y t = lookup_tied x y s.places.entries (equal_is (item_order x y) t)
+place_tied s x y t = lookup_tied x y s.places.entries ((Equal-is (item_order x y)).0 t)
 
 -- an item that has no shelf is none of those that have one; and one that has is none of those that have none
 other_there : (s : Shelves) (xs : List Item) (y : Item) → AllByRecursion (λ x. IsSome (slot_of_item s x)) xs → slot_of_item s y ≡ None
@@ -43,7 +42,7 @@ other_there : (s : Shelves) (xs : List Item) (y : Item) → AllByRecursion (λ x
 other_there s [] y a e = tt
 other_there s (x ∷ xs) y a e = (
   elim (cases_Bool (is_at (item_order x) y)) [
-    | inl t ↦ absurd (nothing_some (slot_of_item s x) (place_tied s x y t ∙ e) a.0)
+    | inl t ↦ absurd (some_none (slot_of_item s x) a.0 (place_tied s x y t ∙ e))
     | inr f ↦ f
   ],
   other_there s xs y a.1 e,
@@ -54,7 +53,7 @@ pub other_absent : (s : Shelves) (xs : List Item) (y : Item) → AllByRecursion 
 other_absent s [] y a e = tt
 other_absent s (x ∷ xs) y a e = (
   elim (cases_Bool (is_at (item_order x) y)) [
-    | inl t ↦ absurd (nothing_some (slot_of_item s y) (sym (place_tied s x y t) ∙ a.0) e)
+    | inl t ↦ absurd (some_none (slot_of_item s y) e (sym (place_tied s x y t) ∙ a.0))
     | inr f ↦ f
   ],
   other_absent s xs y a.1 e,
@@ -71,16 +70,9 @@ other_parts : (xs ys : List Item) (x : Item) → IsOther (xs ++ ys) x → IsOthe
 other_parts [] ys x o = (tt, o)
 other_parts (z ∷ zs) ys x o = let p = other_parts zs ys x o.1 in ((o.0, p.0), p.1)
 
-all_joined : (P : Item → Type 0) (xs ys : List Item) → AllByRecursion P xs → AllByRecursion P ys → AllByRecursion P (xs ++ ys)
-all_joined P [] ys a b = b
-all_joined P (x ∷ xs) ys a b = (a.0, all_joined P xs ys a.1 b)
-
 named_joined : (xs ys : List Item) (a : Identifier) → named_of (xs ++ ys) a ≡ named_of xs a + named_of ys a
 named_joined [] ys a = omega arith
 named_joined (x ∷ xs) ys a = omega (arith, named_joined xs ys a)
-
-pub some_place : (o : Option ℕ) (at : ℕ) → o ≡ Some at → IsSome o
-some_place o at e = subst (λ (o : Option ℕ). IsSome o) (sym e) refl
 
 -- nothing came
 pub brings_none : (s t : Shelves) → t.places.entries ≡ s.places.entries → ((at : ℕ) → ends_at t at ≡ ends_at s at)
@@ -98,14 +90,14 @@ brings_none s t entries ends waits = record {
 -- first these, then those
 pub brings_both : (xs ys : List Item) (s t u : Shelves) → BringsShelves xs s t → BringsShelves ys t u → BringsShelves (xs ++ ys) s u
 brings_both xs ys s t u p q = record {
-  absent = all_joined (λ x. slot_of_item s x ≡ None) xs ys p.absent
-      (all_given (λ y. slot_of_item t y ≡ None) (λ y. slot_of_item s y ≡ None) ys
-      (λ y e. sym (p.places y (other_there t xs y p.there e)) ∙ e) q.absent);
-  there = all_joined (λ x. IsSome (slot_of_item u x)) xs ys
-      (all_given (λ x. IsSome (slot_of_item t x)) (λ x. IsSome (slot_of_item u x)) xs
-      (λ x h. subst (λ (o : Option ℕ). IsSome o) (sym (q.places x (other_absent t ys x q.absent h))) h) p.there) q.there;
+  absent = both_all (λ x. slot_of_item s x ≡ None) xs ys p.absent
+      (all_weaker (λ y. slot_of_item t y ≡ None) (λ y. slot_of_item s y ≡ None)
+      (λ y e. sym (p.places y (other_there t xs y p.there e)) ∙ e) ys q.absent);
+  there = both_all (λ x. IsSome (slot_of_item u x)) xs ys
+      (all_weaker (λ x. IsSome (slot_of_item t x)) (λ x. IsSome (slot_of_item u x))
+      (λ x h. subst (λ (o : Option ℕ). IsSome o) (sym (q.places x (other_absent t ys x q.absent h))) h) xs p.there) q.there;
   places = λ x o. let r = other_parts xs ys x o in q.places x r.1 ∙ p.places x r.0;
-  ends = λ x at e. q.ends x at (p.places x (other_absent s xs x p.absent (some_place (slot_of_item s x) at e)) ∙ e) ∙ p.ends x at e;
+  ends = λ x at e. q.ends x at (p.places x (other_absent s xs x p.absent (is_some_of (slot_of_item s x) at e)) ∙ e) ∙ p.ends x at e;
   waits = λ x. q.waits x ∙ p.waits x;
   named = λ a. omega (arith, p.named a, q.named a, named_joined xs ys a);
 }
@@ -121,7 +113,7 @@ brings_less x rest s t u p q apart = record {
     | inr f ↦ sym (q.places z (f, tt)) ∙ p.places z (f, o)
   ];
   ends = λ z at e.
-      let o = other_absent s (x ∷ rest) z p.absent (some_place (slot_of_item s z) at e)
+      let o = other_absent s (x ∷ rest) z p.absent (is_some_of (slot_of_item s z) at e)
       in sym (q.ends z at (sym (q.places z (o.0, tt)) ∙ p.places z o ∙ e)) ∙ p.ends z at e;
   waits = λ z. sym (q.waits z) ∙ p.waits z;
   named = λ a. omega (arith, p.named a, q.named a);
@@ -141,8 +133,8 @@ pub brings_written : (items : List Item) (s t u : Shelves) → BringsShelves ite
     → ((x : Item) → waits_on u x ≡ waits_on t x) → BringsShelves items s u
 brings_written items s t u p places ends waits = record {
   absent = p.absent;
-  there = all_given (λ x. IsSome (slot_of_item t x)) (λ x. IsSome (slot_of_item u x)) items
-      (λ x h. subst (λ (o : Option ℕ). IsSome o) (sym (ap (λ p. lookup (is_at (item_order x)) p.entries) places)) h) p.there;
+  there = all_weaker (λ x. IsSome (slot_of_item t x)) (λ x. IsSome (slot_of_item u x))
+      (λ x h. subst (λ (o : Option ℕ). IsSome o) (sym (ap (λ p. lookup (is_at (item_order x)) p.entries) places)) h) items p.there;
   places = λ x o. ap (λ p. lookup (is_at (item_order x)) p.entries) places ∙ p.places x o;
   ends = λ x at e. ends at ∙ p.ends x at e;
   waits = λ x. waits x ∙ p.waits x;
@@ -157,7 +149,7 @@ pub brings_one : (s t : Shelves) (item : Item) (at : ℕ) (shelf : Shelf) → Ar
     → BringsShelves (item ∷ []) s t
 brings_one s t item at shelf is none updates inserts vacant has zero others = record {
   absent = (none, tt);
-  there = (some_place (slot_of_item t item) at (here item (ap is_eq (tied_itself items_total item))), tt);
+  there = (is_some_of (slot_of_item t item) at (here item (ap is_eq (tied_itself items_total item))), tt);
   places = λ x o. elsewhere x o.0;
   ends = λ x n e. ap ends_of (others n (λ q. vacant_not x n e q));
   waits = λ x. elim (cases_Bool (is_at (item_order item) x)) [
@@ -179,7 +171,7 @@ brings_one s t item at shelf is none updates inserts vacant has zero others = re
     elsewhere x f = updates x ∙ ap (λ b. cond b (Some at) (slot_of_item s x)) f
 
     vacant_not : (x : Item) (n : ℕ) → slot_of_item s x ≡ Some n → n ≡ at → ⊥
-    vacant_not x n e q = nothing_some (get s.slots n) (ap (get s.slots) q ∙ vacant) (slot_live (get s.slots) s.places.entries x n is e)
+    vacant_not x n e q = some_none (get s.slots n) (slot_live (get s.slots) s.places.entries x n is e) (ap (get s.slots) q ∙ vacant)
 
     waits_same : (x : Item) → is_at (item_order item) x ≡ false → (o : Option ℕ) → slot_of_item s x ≡ o → waits_on t x ≡ waits_on s x
     waits_same x f None e = ap (waits_there (get t.slots)) (elsewhere x f ∙ e) ∙ sym (ap (waits_there (get s.slots)) e)
@@ -194,7 +186,7 @@ pub brings_taken : (s t : Shelves) (item : Item) (at : ℕ) → slot_of_item s i
     → ((x : Item) (n : ℕ) → slot_of_item t x ≡ Some n → get t.slots n ≡ get s.slots n) → waits_on s item ≡ 0 → BringsShelves (item ∷ []) t s
 brings_taken s t item at here updates removes before zero = record {
   absent = (gone item (ap is_eq (tied_itself items_total item)), tt);
-  there = (some_place (slot_of_item s item) at here, tt);
+  there = (is_some_of (slot_of_item s item) at here, tt);
   places = λ x o. sym (elsewhere x o.0);
   ends = λ x n e. sym (ap ends_of (before x n e));
   waits = λ x. elim (cases_Bool (is_at (item_order item) x)) [
@@ -223,11 +215,11 @@ brings_taken s t item at here updates removes before zero = record {
 pub brings_unless : (items : List Item) (s t u : Shelves) → BringsShelves items s u → BringsShelves [] t u → BringsShelves items s t
 brings_unless items s t u p q = record {
   absent = p.absent;
-  there = all_given (λ x. IsSome (slot_of_item u x)) (λ x. IsSome (slot_of_item t x)) items
-      (λ x h. subst (λ (o : Option ℕ). IsSome o) (q.places x tt) h) p.there;
+  there = all_weaker (λ x. IsSome (slot_of_item u x)) (λ x. IsSome (slot_of_item t x))
+      (λ x h. subst (λ (o : Option ℕ). IsSome o) (q.places x tt) h) items p.there;
   places = λ x o. sym (q.places x tt) ∙ p.places x o;
   ends = λ x at e.
-      let o = other_absent s items x p.absent (some_place (slot_of_item s x) at e)
+      let o = other_absent s items x p.absent (is_some_of (slot_of_item s x) at e)
       in sym (q.ends x at (sym (q.places x tt) ∙ p.places x o ∙ e)) ∙ p.ends x at e;
   waits = λ x. sym (q.waits x) ∙ p.waits x;
   named = λ a. omega (arith, p.named a, q.named a);

@@ -98,6 +98,15 @@ inside_comes old new look later es entries links item at shelf is placed used nu
           is.next_side;
     }
 
+-- a number that is live was live, where names were named before
+pub was_live : (old new : Holdings Identifier) → ((v : ℕ) (a : Identifier) → Names identifier_order new v a
+    → Names identifier_order old v a)
+    → (v : ℕ) (o : Option (Identifier × ℕ)) → entry_at new v ≡ o → IsSome o → IsSome (entry_at old v)
+was_live old new before v None e s = let q : IsSome {T = Identifier × ℕ} None = s in cc
+was_live old new before v (Some x) e s =
+    let n = before v x.0 (x, e, alike_equal x.0 x.0 refl)
+    in subst (λ (o : Option (Identifier × ℕ)). IsSome o) (sym n.1) refl
+
 -- what is taken from own holds
 pub own_less : (n own k : ℕ) → k ≤ own → (n + own) - k ≡ n + (own - k)
 own_less n own k l = omega (arith, l)
@@ -142,12 +151,6 @@ module _ (old new : Holdings Identifier) (look later : ℕ → Option Shelf) (es
     still_held : (a : Identifier) → (own : ℕ) × IsHeld identifier_order new a (named_in entries a + own)
     still_held a = let h = is.held a in (h.0, own_stays a h.0 h.1)
 
-    was_live : (v : ℕ) (o : Option (Identifier × ℕ)) → entry_at new v ≡ o → IsSome o → IsSome (entry_at old v)
-    was_live v None e s = let q : IsSome {T = Identifier × ℕ} None = s in cc
-    was_live v (Some x) e s =
-        let n = before v x.0 (x, e, alike_equal x.0 x.0 refl)
-        in subst (λ (o : Option (Identifier × ℕ)). IsSome o) (sym n.1) refl
-
     pub inside_goes : IsInside new later entries links
     inside_goes = record {
       placed = stays_placed es entries look later item at is.placed here gone others removes rises;
@@ -159,7 +162,7 @@ module _ (old new : Holdings Identifier) (look later : ℕ → Option Shelf) (es
       pool = pool;
       keys = keys;
       held = still_held;
-      table = λ v s. is.table v (was_live v (entry_at new v) refl s);
+      table = λ v s. is.table v (was_live old new before v (entry_at new v) refl s);
       side = side_goes now look later at (ap (list_at now) there ∙ ap now empty) (ap (list_at now) gone) others es entries item
           (links_at now links) removes is.side;
       next_side =

@@ -10,7 +10,7 @@ use Rattle.ifmap_view.specs.declared.attachments.Attachment.{Attachment}
 use Rattle.ifmap_graph.specs.Counted.{count_links, is_link, items_in, link_once, links_among}
 use Rattle.ifmap_graph.specs.Shelved.{ItemsRise, row_on, rows_by}
 use Rattle.ifmap_graph.proofs.Finding.{first_rises}
-use Rattle.ifmap_ident.specs.SameLaws.{item_itself, greater_differs}
+use Rattle.ifmap_ident.specs.SameLaws.{item_itself, greater_item_differs}
 
 -- whether an item is among those of attachments
 abbrev is_among : Item → List Attachment → Bool
@@ -33,7 +33,7 @@ module _ {X : Type 0} (list_of : X → List Stored) where
   not_among : (i : Item) (es : List (Item × X)) → AllByRecursion (λ y. item_order i y ≡ Less) (map (λ e. e.0) es)
       → is_among i (rows_by list_of es) ≡ false
   not_among i [] a = refl
-  not_among i (e ∷ es) a = passed_by i e.0 (list_of e.1) (rows_by list_of es) (greater_differs i e.0 a.0) ∙ not_among i es a.1
+  not_among i (e ∷ es) a = passed_by i e.0 (list_of e.1) (rows_by list_of es) (greater_item_differs i e.0 a.0) ∙ not_among i es a.1
 
   one_link : (i : Item) (xs : List Stored) (rest : List Attachment) → is_among i rest ≡ false
       → count_links (map (row_on i) xs ++ rest) ≡ link_once i xs + count_links rest

@@ -3,7 +3,6 @@ use Rattle.std.proofs.Common.{◌≡◌, ◌≢◌, ℕ, zero, suc, true, false,
 use Rattle.std.proofs.lemmas.Bool.{cases_eq}
 use Rattle.std.specs.BTreeMap.{is_at, insert_entry}
 use Rattle.std.specs.List.{AllByRecursion, Contains, IsDistinct}
-use Rattle.std.specs.List.Sorted.{IsStrictlySortedBy}
 use Rattle.std.specs.Map.{lookup, remove_entry}
 use Rattle.ifmap_ident.specs.declared.items.Item.{Item}
 use Rattle.ifmap_ident.specs.Items.{item_order}
@@ -14,20 +13,14 @@ use Rattle.ifmap_view.specs.Attachments.{stored_order}
 use Rattle.ifmap_graph.specs.declared.shelves.Shelf.{Shelf}
 use Rattle.ifmap_graph.specs.Held.{IsSide}
 use Rattle.ifmap_graph.specs.Joined.{is_not_empty, joined_pair}
-use Rattle.ifmap_graph.specs.Linked.{AreListed, JoinsNumbers, ats}
+use Rattle.ifmap_graph.specs.Linked.{AreListed, ats}
 use Rattle.ifmap_graph.specs.Shelved.{StoredSide, list_at}
 use Rattle.ifmap_graph.proofs.Finding.{all_inserted, all_left}
-
-no_rows_rise : IsStrictlySortedBy stored_order []
-unfolding IsStrictlySortedBy
-no_rows_rise = tt
-
-no_keys : IsDistinct same_key []
-unfolding IsDistinct
-no_keys = tt
+use Rattle.ifmap_graph.proofs.Rising.{to_distinct, to_sorted}
+use Rattle.ifmap_graph.proofs.Links.{joins_alike}
 
 pub nothing_is_list : IsList []
-nothing_is_list = record { rising = no_rows_rise; keys = no_keys }
+nothing_is_list = record { rising = to_sorted stored_order [] tt; keys = to_distinct same_key [] tt }
 
 -- one list more at the end, which is empty, is none
 pub one_pushed : {X : Type 0} (xs : List X) (v : ℕ) (d : X) → get_or (xs ++ d ∷ []) v d ≡ get_or xs v d
@@ -55,19 +48,15 @@ module _ (side : StoredSide) (look later : ℕ → Option Shelf) (at : ℕ) (bef
     only = λ v seen c.
         let p = old.only v seen c
         in let o = full_other seen.at p.1
-        in (to_later seen.at v seen.other o p.0, ap is_not_empty (same_list seen.at) ∙ p.1);
+        in (
+          joins_alike (λ n. joined_pair (look n)) (λ n. joined_pair (later n)) seen.at v seen.other (ap joined_pair (others seen.at o)) p.0,
+          ap is_not_empty (same_list seen.at) ∙ p.1,
+        );
     each = λ v w n e f.
         let g : is_not_empty (list_at side (look n)) ≡ true = sym (ap is_not_empty (same_list n)) ∙ f
-        in old.each v w n (to_look n v w (full_other n g) e) g;
+        in old.each v w n (joins_alike (λ n. joined_pair (later n)) (λ n. joined_pair (look n)) n v w
+        (sym (ap joined_pair (others n (full_other n g)))) e) g;
   }
-    where
-      to_later : (n v w : ℕ) → n ≢ at → JoinsNumbers (λ n. joined_pair (look n)) n v w → JoinsNumbers (λ n. joined_pair (later n)) n v w
-      to_later n v w o (inl j) = inl (ap joined_pair (others n o) ∙ j)
-      to_later n v w o (inr j) = inr (ap joined_pair (others n o) ∙ j)
-
-      to_look : (n v w : ℕ) → n ≢ at → JoinsNumbers (λ n. joined_pair (later n)) n v w → JoinsNumbers (λ n. joined_pair (look n)) n v w
-      to_look n v w o (inl j) = inl (sym (ap joined_pair (others n o)) ∙ j)
-      to_look n v w o (inr j) = inr (sym (ap joined_pair (others n o)) ∙ j)
 
   lists_same : (es : List (Item × ℕ)) → AllByRecursion (λ e. IsList (list_at side (look e.1))) es → AllByRecursion
       (λ e. IsList (list_at side (later e.1))) es

@@ -4,6 +4,7 @@ use Rattle.std.proofs.Common.{◌≡◌, ◌≢◌, ◌⊎◌, ◌<◌, true, fa
 use Rattle.std.proofs.lemmas.Bool.{cases_Bool}
 use Rattle.std.specs.BTreeMap.{is_at}
 use Rattle.std.specs.Map.{lookup}
+use Rattle.std.specs.Cmp.{Equal-is}
 use Rattle.slab.specs.Slab.{get}
 use Rattle.ifmap_ident.specs.declared.items.Item.{Item}
 use Rattle.ifmap_ident.specs.Items.{item_order}
@@ -16,12 +17,11 @@ use Rattle.ifmap_graph.specs.Sides.{now}
 use Rattle.ifmap_graph.specs.Waits.{WaitsFor, waits_on, waits_there}
 use Rattle.ifmap_graph.proofs.Brought.{other_absent}
 use Rattle.ifmap_graph.proofs.Following.{lookup_tied}
-use Rattle.ifmap_graph.proofs.Ordered.{equal_is}
 use Rattle.ifmap_plans.specs.laws.OnItemLaws.{stored_tied}
 
 -- items that tie are waited for alike
 waits_tied : (s : Shelves) (x y : Item) → is_at (item_order x) y ≡ true → waits_on s x ≡ waits_on s y
-waits_tied s x y t = ap (waits_there (get s.slots)) (lookup_tied x y s.places.entries (equal_is (item_order x y) t))
+waits_tied s x y t = ap (waits_there (get s.slots)) (lookup_tied x y s.places.entries ((Equal-is (item_order x y)).0 t))
 
 module _ (s t : Shelves) (item : Item) (places : t.places ≡ s.places) (rows : rows_on_side now t ≡ rows_on_side now s)
     (waits : WaitsFor (item ∷ []) t s) where
@@ -40,7 +40,8 @@ module _ (s t : Shelves) (item : Item) (places : t.places ≡ s.places) (rows : 
     | inr other ↦ λ e. filled_else f x other place none (sym (ap (stored_on x) rows) ∙ e)
     | inl tie ↦ elim why [
       | inl some ↦ absurd (omega (arith, some, none, waits_tied t item x tie))
-      | inr full ↦ λ e. full (stored_tied item x (rows_on_side now s) (equal_is (item_order item x) tie) ∙ sym (ap (stored_on x) rows) ∙ e)
+      | inr full ↦ λ e. full (stored_tied item x (rows_on_side now s) ((Equal-is (item_order item x)).0 tie)
+          ∙ sym (ap (stored_on x) rows) ∙ e)
     ]
   ]
 

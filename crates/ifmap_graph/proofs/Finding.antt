@@ -10,14 +10,15 @@ use Rattle.std.specs.Map.{lookup, remove_entry}
 use Rattle.std.specs.Ordering.{is_eq, match_ordering}
 use Rattle.std.specs.declared.cmp.Ordering.{Ordering}
 use Rattle.std.specs.declared.cmp.Ordering.TheVariants.{Less, Equal, Greater}
+use Rattle.std.specs.Cmp.{Equal-is}
 use Rattle.ifmap_ident.specs.declared.items.Item.{Item}
 use Rattle.ifmap_ident.specs.Items.{item_order, same_item}
 use Rattle.ifmap_meta.specs.declared.stored.Stored.{Stored}
 use Rattle.ifmap_view.specs.declared.attachments.Attachment.{Attachment}
 use Rattle.ifmap_view.specs.Rows.{stored_on}
 use Rattle.ifmap_graph.specs.Shelved.{ItemsRise, row_on, rows_by}
-use Rattle.ifmap_graph.proofs.Ordered.{above_tied, equal_is}
-use Rattle.ifmap_ident.specs.SameLaws.{ties, greater_differs}
+use Rattle.ifmap_graph.proofs.Ordered.{above_tied}
+use Rattle.ifmap_ident.specs.SameLaws.{ties, greater_item_differs}
 
 pub kept_one : (item at : Item) (xs : List Stored) (rest : List Attachment) → same_item at item ≡ true
     → stored_on item (map (row_on at) xs ++ rest) ≡ xs ++ stored_on item rest
@@ -47,7 +48,7 @@ module _ {X : Type 0} (list_of : X → List Stored) (item : Item) where
   none_above : (es : List (Item × X)) → AllByRecursion (λ y. item_order item y ≡ Less) (map (λ e. e.0) es) → stored_on item
       (rows_by list_of es) ≡ []
   none_above [] a = refl
-  none_above (e ∷ es) a = passed_one item e.0 (list_of e.1) (rows_by list_of es) (greater_differs item e.0 a.0) ∙ none_above es a.1
+  none_above (e ∷ es) a = passed_one item e.0 (list_of e.1) (rows_by list_of es) (greater_item_differs item e.0 a.0) ∙ none_above es a.1
 
   -- a look-up that hits gives what is stored on the item
   pub found : (es : List (Item × X)) (at : X) → ItemsRise es → lookup (is_at (item_order item)) es ≡ Some at → list_of at ≡ stored_on item
@@ -58,7 +59,7 @@ module _ {X : Type 0} (list_of : X → List Stored) (item : Item) where
         in ap list_of (sym here)
         ∙ sym (kept_one item e.0 (list_of e.1) (rows_by list_of es) (sym (ties item e.0) ∙ t)
         ∙ ap (λ l. list_of e.1 ++ l)
-        (none_above es (above_tied item e.0 (map (λ e. e.0) es) (equal_is (item_order item e.0) t) (first_rises e es r).0))
+        (none_above es (above_tied item e.0 (map (λ e. e.0) es) ((Equal-is (item_order item e.0)).0 t) (first_rises e es r).0))
         ∙ append-nil (list_of e.1))
     | inr t ↦ found es at (first_rises e es r).1 (rw t at h)
         ∙ sym (passed_one item e.0 (list_of e.1) (rows_by list_of es) (sym (ties item e.0) ∙ t))

@@ -3,13 +3,14 @@
 -- ones, and different (`are_pairs`), also once the drafts of shelves stand; (3) what is stored on an item is a list, now
 -- and after the change; (4) both sides are graphs whose links are those of their shelves; (5) once nothing has a draft
 -- any more, both sides are what is there.
-use Rattle.std.proofs.Common.{◌≡◌, ◌≢◌, ◌⊎◌, ℕ, ◌<◌, Bool, true, false, cond, Option, Some, None, IsSome, unwrap_or, List, [], ◌∷◌, length, nat_eq, refl, ap, ◌∙◌, sym, subst, inl, inr, arith}
+use Rattle.std.proofs.Common.{◌≡◌, ◌≢◌, ◌⊎◌, ℕ, ◌<◌, Bool, true, false, cond, Option, Some, None, IsSome, unwrap_or, List, [], ◌∷◌, length, nat_eq, refl, ap, ◌∙◌, sym, subst, inl, inr}
 use Rattle.std.proofs.lemmas.Bool.{cases_Bool}
-use Rattle.std.proofs.lemmas.Bool.Decides.{nat_tests}
 use Rattle.std.proofs.lemmas.Option.{none-some, same_Some}
 use Rattle.std.specs.BTreeMap.{is_at}
 use Rattle.std.specs.List.{AllByRecursion, Contains, IsDistinct, cons_option, filter_map}
 use Rattle.std.specs.Ordering.{is_eq}
+use Rattle.std.proofs.lemmas.Map.Keys.{IsDistinct-cons, IsDistinct-head, IsDistinct-tail}
+use Rattle.std.specs.Cmp.{tied_back, Equal-is}
 use Rattle.slab.specs.Slab.{Slab, get}
 use Rattle.ifmap_lemmas.specs.Having.{Has, from_has, has_mapped, all_has}
 use Rattle.ifmap_ident.specs.declared.items.Item.{Item}
@@ -38,9 +39,8 @@ use Rattle.ifmap_graph.specs.Named.{AreEnds, AreNumbered, HasEnds}
 use Rattle.ifmap_graph.specs.Out.{items_changed}
 use Rattle.ifmap_graph.specs.Shelved.{AreShelved, IsPlaced, StoredSide, list_at, slot_of_item, rows_on_side}
 use Rattle.ifmap_graph.specs.Sides.{Sides, next, now}
-use Rattle.ifmap_graph.specs.Touched.{ArePairs, KeepsLinks, differ, draft_of, flip_in, flip_of, full_next, full_now}
+use Rattle.ifmap_graph.specs.Touched.{ArePairs, KeepsLinks, exactly_one, draft_of, flip_in, flip_of, full_next, full_now}
 use Rattle.ifmap_graph.specs.Turning.{sides_at}
-use Rattle.ifmap_graph.proofs.Accepting.{apart_parts}
 use Rattle.ifmap_graph.proofs.Apart.{changed_apart}
 use Rattle.ifmap_graph.proofs.Empty.{nothing_is_list, side_same}
 use Rattle.ifmap_graph.proofs.Finding.{absent, found, live_at}
@@ -48,20 +48,21 @@ use Rattle.ifmap_graph.proofs.Following.{entry_hits, lookup_tied, looked_up}
 use Rattle.ifmap_graph.proofs.Holds.{numbers_differ}
 use Rattle.ifmap_graph.proofs.Links.{changed_listed}
 use Rattle.ifmap_graph.proofs.Moved.{inside_moved, lists_stay, live_by, side_moved, still_numbered}
-use Rattle.ifmap_graph.proofs.Ordered.{equal_is, turned_tie}
 use Rattle.ifmap_graph.proofs.Shelving.{Entries}
 use Rattle.ifmap_graph.proofs.Touching.{drafted_links}
 use Rattle.ifmap_graph.proofs.Writes.{one_item}
 use Rattle.ifmap_ident.specs.SameLaws.{items_total}
 use Rattle.ifmap_plans.specs.laws.OnItemLaws.{stored_tied}
+use Rattle.ifmap_lemmas.specs.Numbers.{is_other}
+use Rattle.ifmap_graph.proofs.Rising.{to_distinct}
 
-same_or_not : (a b : Bool) → differ a b ≡ false → a ≡ b
+same_or_not : (a b : Bool) → exactly_one a b ≡ false → a ≡ b
 same_or_not true true e = refl
 same_or_not true false e = let q : true ≡ false = e in cc
 same_or_not false true e = let q : true ≡ false = e in cc
 same_or_not false false e = refl
 
-differ_not : (a b : Bool) → differ a b ≡ true → a ≡ b → ⊥
+differ_not : (a b : Bool) → exactly_one a b ≡ true → a ≡ b → ⊥
 differ_not true true e q = let r : false ≡ true = e in cc
 differ_not true false e q = cc
 differ_not false true e q = cc
@@ -70,14 +71,15 @@ differ_not false false e q = let r : false ≡ true = e in cc
 module _ (s : Shelves) where
   flip_place : (o : Option ℕ) (at : ℕ) → flip_in s.slots o ≡ Some at → o ≡ Some at
   flip_place None at e = absurd (none-some _ e)
-  flip_place (Some bt) at e = by (differ (full_now s.slots bt) (full_next s.slots bt)) e
+  flip_place (Some bt) at e = by (exactly_one (full_now s.slots bt) (full_next s.slots bt)) e
     where
       by : (b : Bool) → cond b (Some bt) None ≡ Some at → Some bt ≡ Some at
       by true q = q
       by false q = absurd (none-some _ q)
 
   -- a shelf whose lists differ has a draft
-  has_draft : (o : Option Shelf) (shelf : Shelf) → o ≡ Some shelf → differ (is_not_empty (list_at now o)) (is_not_empty (list_at next o)) ≡
+  has_draft : (o : Option Shelf) (shelf : Shelf) → o ≡ Some shelf
+      → exactly_one (is_not_empty (list_at now o)) (is_not_empty (list_at next o)) ≡
       true
       → IsSome shelf.stored.draft
   has_draft o shelf e d = by shelf.stored.draft refl
@@ -91,7 +93,7 @@ module _ (s : Shelves) where
   module _ (is : AreShelved s) (used : (at : ℕ) → IsSome (get s.slots at) → (item : Item) × Has s.places.entries (item, at))
       (items : List Item)
       (within : DraftsWithin items s) where
-    touched_item : (at : ℕ) (shelf : Shelf) → get s.slots at ≡ Some shelf → differ (full_now s.slots at) (full_next s.slots at) ≡ true
+    touched_item : (at : ℕ) (shelf : Shelf) → get s.slots at ≡ Some shelf → exactly_one (full_now s.slots at) (full_next s.slots at) ≡ true
         → (x : Item) × Has items x × (flip_of s x ≡ Some at)
     touched_item at shelf e d =
         let u = used at (subst (λ (o : Option Shelf). IsSome o) (sym e) refl)
@@ -106,7 +108,7 @@ module _ (s : Shelves) where
     by_slot : (at : ℕ) (o : Option Shelf) → get s.slots at ≡ o
         → (full_now s.slots at ≡ full_next s.slots at) ⊎ Contains (filter_map (flip_of s) items) at
     by_slot at None e = inl (ap (λ o. is_not_empty (list_at now o)) e ∙ sym (ap (λ o. is_not_empty (list_at next o)) e))
-    by_slot at (Some shelf) e = elim (cases_Bool (differ (full_now s.slots at) (full_next s.slots at))) [
+    by_slot at (Some shelf) e = elim (cases_Bool (exactly_one (full_now s.slots at) (full_next s.slots at))) [
       | inl d ↦ let t = touched_item at shelf e d
           in inr (from_has (filter_map (flip_of s) items) at (has_mapped (flip_of s) items t.0 at t.1 t.2))
       | inr d ↦ inl (same_or_not (full_now s.slots at) (full_next s.slots at) d)
@@ -122,10 +124,7 @@ module _ (s : Shelves) where
         let a = looked_up s.places.entries x at e
         in let b = looked_up s.places.entries y at f
         in let same : a.0 ≡ b.0 = one_item s.places.entries a.0 b.0 at is.apart a.1 b.1
-        in items_tie x y ∙ ap is_eq (items_total.congr x a.0 y a.2 ∙ ap (λ k. item_order k y) same ∙ turned_tie y b.0 b.2)
-
-    differ_numbers : (a b : ℕ) → (a ≡ b → ⊥) → nat_eq a b ≡ false
-    differ_numbers a b n = grind (arith, nat_tests)
+        in items_tie x y ∙ ap is_eq (items_total.congr x a.0 y a.2 ∙ ap (λ k. item_order k y) same ∙ tied_back items_total y b.0 b.2)
 
     out_of : (x : Item) (at : ℕ) (items : List Item) → flip_of s x ≡ Some at → AllByRecursion (λ y. same_item x y ≡ false) items
         → AllByRecursion (λ n. nat_eq at n ≡ false) (filter_map (flip_of s) items)
@@ -136,29 +135,22 @@ module _ (s : Shelves) where
             → AllByRecursion (λ n. nat_eq at n ≡ false) (cons_option o (filter_map (flip_of s) ys))
         by None f rest = rest
         by (Some bt) f rest = (
-          differ_numbers at bt (λ q.
+          is_other at bt (λ q.
               (let r : true ≡ false
               = sym (one_slot x y at (flip_place (slot_of_item s x) at e) (flip_place (slot_of_item s y) at (f ∙ ap Some (sym q)))) ∙ a.0
               in cc)),
           rest,
         )
 
-    no_numbers : IsDistinct nat_eq []
-    unfolding IsDistinct
-    no_numbers = tt
-
-    one_number : (n : ℕ) (ns : List ℕ) → AllByRecursion (λ y. nat_eq n y ≡ false) ns → IsDistinct nat_eq ns → IsDistinct nat_eq (n ∷ ns)
-    unfolding IsDistinct
-    one_number n ns a d = (a, d)
-
     pub touched_apart : (items : List Item) → IsDistinct same_item items → IsDistinct nat_eq (filter_map (flip_of s) items)
-    touched_apart [] d = no_numbers
-    touched_apart (x ∷ xs) d = by (flip_of s x) refl (touched_apart xs (apart_parts x xs d).1)
+    touched_apart [] d = to_distinct nat_eq [] tt
+    touched_apart (x ∷ xs) d = by (flip_of s x) refl (touched_apart xs (IsDistinct-tail same_item x xs d))
       where
         by : (o : Option ℕ) → flip_of s x ≡ o → IsDistinct nat_eq (filter_map (flip_of s) xs)
             → IsDistinct nat_eq (cons_option o (filter_map (flip_of s) xs))
         by None e rest = rest
-        by (Some at) e rest = one_number at (filter_map (flip_of s) xs) (out_of x at xs e (apart_parts x xs d).0) rest
+        by (Some at) e rest = IsDistinct-cons nat_eq at (filter_map (flip_of s) xs) (out_of x at xs e (IsDistinct-head same_item x xs d))
+            rest
 
 pub flips_mapped : (s : Shelves) (changes : List ItemChange)
     → filter_map (λ (c : ItemChange). flip_of s c.item) changes ≡ filter_map (flip_of s) (items_changed changes)
@@ -232,7 +224,7 @@ after_list rows [] x f l = l
 after_list rows (c ∷ cs) x f l = elim (cases_Bool (same_item c.item x)) [
   | inl t ↦ let list = f.0.list
       in let tied : stored_on c.item rows ≡ stored_on x rows
-      = stored_tied c.item x rows (equal_is (item_order c.item x) (sym (items_tie c.item x) ∙ t))
+      = stored_tied c.item x rows ((Equal-is (item_order c.item x)).0 (sym (items_tie c.item x) ∙ t))
       in rw t (subst (λ l. IsList (plans.next_on c.removed c.added l)) tied (record { rising = list.rising; keys = list.keys }))
   | inr t ↦ rw t (after_list rows cs x f.1 l)
 ]
@@ -321,7 +313,3 @@ inside_dropped names s t links later is shelved places ends rows same kept none 
     (inside_moved (get s.slots) (get t.slots) ends names s.places.entries links later now now now now
     (lists_stay s t is.placed shelved places is.used ends now now rows) (lists_stay s t is.placed shelved places is.used ends now next same)
     kept.now (λ v. ap (λ d. unwrap_or d (sides_at later v).now) (none v) ∙ kept.now v) kept.long is.side is.side is)
-
--- there are as many places, and the links stay, whichever step comes first
-pub kept_both : (first mid later : List (Sides LinkSeen)) → KeepsLinks first mid → KeepsLinks mid later → KeepsLinks first later
-kept_both first mid later a b = record { now = λ v. b.now v ∙ a.now v; long = b.long ∙ a.long }

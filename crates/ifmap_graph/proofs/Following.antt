@@ -7,7 +7,8 @@ use Rattle.std.specs.BTreeMap.{is_at}
 use Rattle.std.specs.List.{AllByRecursion, filter}
 use Rattle.std.specs.Map.{lookup}
 use Rattle.std.specs.Ordering.{is_eq, is_lt, ordering_reverse}
-use Rattle.std.specs.declared.cmp.Ordering.TheVariants.{Less, Equal, Greater}
+use Rattle.std.specs.declared.cmp.Ordering.TheVariants.{Less, Equal}
+use Rattle.std.specs.Cmp.{Equal-is, alike_right}
 use Rattle.ifmap_lemmas.specs.Having.{Has, filter_has, has_filter}
 use Rattle.ifmap_ident.specs.declared.items.Item.{Item}
 use Rattle.ifmap_ident.specs.Items.{item_order}
@@ -16,23 +17,9 @@ use Rattle.ifmap_plans.specs.After.{IsAbove, IsNextItem, NoItem}
 use Rattle.ifmap_view.specs.Rows.{stored_on}
 use Rattle.ifmap_graph.specs.After.{AreEmpty, IsFirstFull, entries_after}
 use Rattle.ifmap_graph.specs.Shelved.{ItemsRise, rows_by}
-use Rattle.ifmap_graph.proofs.Ordered.{equal_is}
 use Rattle.ifmap_graph.proofs.Finding.{absent, first_rises, found, nothing_rises, rises_first}
-use Rattle.ifmap_lemmas.specs.Orderings.{is_less}
+use Rattle.ifmap_lemmas.specs.Orderings.{is_less, not_both}
 use Rattle.ifmap_ident.specs.SameLaws.{items_total}
-
-itself : (item : Item) → item_order item item ≡ Equal
-itself item = tied_itself items_total item
-
--- the order of what ties
-tied_right : (a x y : Item) → item_order x y ≡ Equal → item_order a x ≡ item_order a y
-tied_right a x y e = items_total.antisymm a x ∙ ap ordering_reverse (items_total.congr x y a e) ∙ sym (items_total.antisymm a y)
-
-never_below : (x : Item) → item_order x x ≡ Less → ⊥
-never_below x e = let q : Less ≡ Equal = sym e ∙ itself x in cc
-
-one_way : (x y : Item) → item_order x y ≡ Less → item_order y x ≡ Less → ⊥
-one_way x y e f = let q : Less ≡ Greater = sym f ∙ items_total.antisymm y x ∙ ap ordering_reverse e in cc
 
 module _ {X : Type 0} where
   less_of : (k item : Item) (at : X) (es : List (Item × X)) → AllByRecursion (λ y. item_order k y ≡ Less) (map (λ e. e.0) es)
@@ -46,7 +33,7 @@ module _ {X : Type 0} where
       → (k : Item) × Has es (k, at) × (item_order item k ≡ Equal)
   looked_up [] item at h = absurd (none-some _ h)
   looked_up (e ∷ es) item at h = elim (cases_Bool (is_at (item_order item) e.0)) [
-    | inl t ↦ let here : e.1 ≡ at = same_Some _ _ (rw t at h) in (e.0, inl (ap (λ n. (e.0, n)) here), equal_is (item_order item e.0) t)
+    | inl t ↦ let here : e.1 ≡ at = same_Some _ _ (rw t at h) in (e.0, inl (ap (λ n. (e.0, n)) here), (Equal-is (item_order item e.0)).0 t)
     | inr t ↦ let r = looked_up es item at (rw t at h) in (r.0, inr r.1, r.2)
   ]
 
@@ -55,7 +42,8 @@ module _ {X : Type 0} where
       Some at
   entry_hits [] item at r h = absurd h
   entry_hits (e ∷ es) item at r (inl p) =
-      let t : is_at (item_order item) e.0 ≡ true = ap (λ y. is_eq (item_order item y)) (ap (λ x. x.0) p) ∙ ap is_eq (itself item)
+      let t : is_at (item_order item) e.0 ≡ true = ap (λ y. is_eq (item_order item y)) (ap (λ x. x.0) p)
+      ∙ ap is_eq (tied_itself items_total item)
       in rw t (ap (λ x. Some x.1) p)
   entry_hits (e ∷ es) item at r (inr h) =
       let l : item_order e.0 item ≡ Less = less_of e.0 item at es (first_rises e es r).0 h
@@ -125,7 +113,7 @@ module _ {X : Type 0} where
 
 tied_above : (after : Option Item) (x y : Item) → item_order x y ≡ Equal → IsAbove after x → IsAbove after y
 tied_above None x y e a = tt
-tied_above (Some i) x y e a = sym (tied_right i x y e) ∙ a
+tied_above (Some i) x y e a = sym (alike_right items_total x y i e) ∙ a
 
 module _ {X : Type 0} (list_of : X → List Stored) (es : List (Item × X)) (rising : ItemsRise es) (after : Option Item) where
   pub stands : (item : Item) (at : X) → Has es (item, at) → list_of at ≡ stored_on item (rows_by list_of es)
@@ -161,8 +149,9 @@ module _ {X : Type 0} (list_of : X → List Stored) (es : List (Item × X)) (ris
             in elim (part_of f.before f.rest (item, f.at) (c.0, c.1) (subst (λ l. Has l (c.0, c.1)) f.split c.2)) [
               | inl p ↦ c.3 (empty_of list_of f.before (c.0, c.1) f.empty p)
               | inr q ↦ elim q [
-                | inl p ↦ never_below item (subst (λ x. item_order x item ≡ Less) (sym (ap (λ x. x.0) p)) below)
-                | inr p ↦ one_way item c.0
+                | inl p ↦ let less : item_order item item ≡ Less = subst (λ x. item_order x item ≡ Less) (sym (ap (λ x. x.0) p)) below
+                    in not_both items_total item item less less
+                | inr p ↦ not_both items_total item c.0
                     (less_of item c.0 c.1 f.rest (rest_rises f.before f.rest (item, f.at)
                     (subst (λ l. ItemsRise l) f.split (after_rises after es rising))) p) below
               ]

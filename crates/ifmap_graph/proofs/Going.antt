@@ -1,6 +1,6 @@
 -- Lists turn, one place after another.
-use Rattle.std.proofs.Common.{◌≡◌, ℕ, ◌+◌, ◌<◌, ◌≤◌, List, [], ◌∷◌, ◌++◌, IsSome, length, get_or, set, take, drop, refl, ap, ◌∙◌, sym, subst, arith, add-one, drop-cons, append_assoc}
-use Rattle.std.proofs.lemmas.List.{drop-set-lt, take_more_set, append-nil, length-set, drop_all, take_all}
+use Rattle.std.proofs.Common.{◌≡◌, ℕ, ◌+◌, ◌<◌, ◌≤◌, List, [], ◌∷◌, ◌++◌, IsSome, length, get_or, set, take, drop, refl, ap, ◌∙◌, sym, subst, arith, append_assoc}
+use Rattle.std.proofs.lemmas.List.{drop-set-lt, take_more_set, append-nil, length-set, drop_all, take_all, drop_more}
 use Rattle.ifmap_graph.specs.Sides.{Sides}
 use Rattle.ifmap_graph.specs.Turning.{sides_at, accepted_sides, accept_each, backs, AreDrafted}
 
@@ -16,7 +16,7 @@ module _ {T : Type 0} (all : List (ℕ × List T)) (first : List (Sides T)) wher
 
   module _ (ways : List (ℕ × List T)) (lists : List (Sides T)) (i : ℕ) (h : i < length ways) (g : Going ways lists i) (w : ℕ × List T) where
     here : drop i ways ≡ get_or ways i w ∷ drop (i + 1) ways
-    here = drop-cons ways i w h ∙ ap (λ n. get_or ways i w ∷ drop n ways) (sym (add-one i))
+    here = drop_more ways i w h
 
     way : ℕ × List T
     way = get_or ways i w

@@ -1,10 +1,8 @@
 -- An item's shelf goes: the others stand where they stood.
-use Rattle.std.proofs.Common.{◌≡◌, ◌≢◌, ℕ, Bool, true, false, cond, Option, Some, None, [], ◌∷◌, refl, ap, ◌∙◌, sym, subst, inl, inr}
+use Rattle.std.proofs.Common.{◌≡◌, ◌≢◌, ℕ, Bool, true, false, cond, Option, Some, None, [], ◌∷◌, refl, ◌∙◌, sym, subst, inl, inr}
 use Rattle.std.proofs.lemmas.Option.{none-some}
 use Rattle.std.specs.BTreeMap.{is_at}
 use Rattle.std.specs.Map.{lookup, remove_entry}
-use Rattle.std.specs.Ordering.{is_eq}
-use Rattle.std.specs.declared.cmp.Ordering.TheVariants.{Equal}
 use Rattle.slab.specs.Slab.{get}
 use Rattle.ifmap_lemmas.specs.Having.{Has, all_has, has_all}
 use Rattle.ifmap_ident.specs.declared.items.Item.{Item}
@@ -15,10 +13,8 @@ use Rattle.ifmap_graph.specs.Drafted.{AreBare, NoDraft}
 use Rattle.ifmap_graph.specs.Shelved.{AreShelved, IsPlaced, ItemsRise, slot_of_item}
 use Rattle.ifmap_graph.proofs.Following.{entry_hits, lookup_tied, looked_up}
 use Rattle.ifmap_graph.proofs.Leaving.{removed_has, slots_kept}
-use Rattle.ifmap_graph.proofs.Ordered.{turned_tie}
 use Rattle.ifmap_graph.proofs.Shelving.{Entries}
-use Rattle.ifmap_graph.proofs.Writes.{one_item}
-use Rattle.ifmap_ident.specs.SameLaws.{items_total}
+use Rattle.ifmap_graph.proofs.Writes.{other_slot}
 
 -- entries that are left were there
 has_left : (test : Item → Bool) (es : Entries) (x : Item × ℕ) → Has (remove_entry test es) x → Has es x
@@ -45,15 +41,6 @@ module _ (es new : Entries) (look later : ℕ → Option Shelf) (item : Item) (a
         all_has (λ e. later e.1 ≡ look e.1) new (slots_kept es new look later item at is here gone others removes rises) (h.0, n) h.1,
       )
 
-  other_slot : (x : Item) (n : ℕ) → is_at (item_order item) x ≡ false → lookup (is_at (item_order x)) es ≡ Some n → n ≢ at
-  other_slot x n f e q =
-      let h = looked_up es x n e
-      in let i = looked_up es item at here
-      in let same : h.0 ≡ i.0 = one_item es h.0 i.0 at is.apart (subst (λ m. Has es (h.0, m)) q h.1) i.1
-      in let tie : item_order item x ≡ Equal
-      = items_total.congr item i.0 x i.2 ∙ ap (λ y. item_order y x) (sym same) ∙ turned_tie x h.0 h.2
-      in let r : false ≡ true = sym f ∙ ap is_eq tie in cc
-
   -- the shelf of another item stays
   pub stays_there : (x : Item) → is_at (item_order item) x ≡ false → lookup (is_at (item_order x)) new ≡ lookup (is_at (item_order x)) es
   stays_there x f = by (lookup (is_at (item_order x)) es) refl (lookup (is_at (item_order x)) new) refl
@@ -66,7 +53,8 @@ module _ (es new : Entries) (look later : ℕ → Option Shelf) (item : Item) (a
           let h = looked_up es x n e
           in lookup_tied x h.0 new h.2
           ∙ entry_hits new h.0 n rises
-          (subst (λ l. Has l (h.0, n)) (sym removes) (removed_has (is_at (item_order item)) es at n h.0 here (other_slot x n f e) h.1))
+          (subst (λ l. Has l (h.0, n)) (sym removes) (removed_has (is_at (item_order item)) es at n h.0 here
+          (other_slot es item at is.apart here x n f e) h.1))
           ∙ sym e
 
 module _ (s t : Shelves)

@@ -1,23 +1,18 @@
 -- A list that grows by what is found at one place after another.
-use Rattle.std.proofs.Common.{◌≡◌, ℕ, zero, suc, ◌+◌, ◌<◌, Option, Some, None, List, [], ◌∷◌, ◌++◌, length, get_or, take, Result, Ok, Err, OnOk, OnErr, refl, ap, ◌∙◌, sym, arith, append_assoc, add-one}
+use Rattle.std.proofs.Common.{◌≡◌, ℕ, suc, ◌+◌, ◌<◌, Option, List, [], ◌∷◌, ◌++◌, length, get_or, take, ap, ◌∙◌, sym, append_assoc, add-one}
 use Rattle.std.specs.List.{cons_option, filter_map}
+use Rattle.std.proofs.Math.Seq.{take-suc}
+use Rattle.std.proofs.lemmas.List.Elements.{filter_map-append}
 use Rattle.ifmap_graph.specs.Sides.{Sides}
 use Rattle.ifmap_graph.specs.Turning.{no_list, sides_at}
 use Rattle.ifmap_graph.proofs.Empty.{one_pushed}
-
-cons_append : {Y : Type 0} (o : Option Y) (xs ys : List Y) → cons_option o (xs ++ ys) ≡ cons_option o xs ++ ys
-cons_append None xs ys = refl
-cons_append (Some y) xs ys = refl
 
 module _ {X Y : Type 0} (pick : X → Option Y) (d : X) where
   -- one place more is looked at
   pub one_more : (xs : List X) (i : ℕ) → i < length xs → filter_map pick (take (suc i) xs) ≡ filter_map pick (take i xs) ++ cons_option
       (pick (get_or xs i d)) []
-  one_more [] i h = absurd (omega (arith, h))
-  one_more (x ∷ xs) zero h = refl
-  one_more (x ∷ xs) (suc i) h =
-      ap (cons_option (pick x)) (one_more xs i (omega (arith, h)))
-      ∙ cons_append (pick x) (filter_map pick (take i xs)) (cons_option (pick (get_or xs i d)) [])
+  one_more xs i h =
+      ap (filter_map pick) (take-suc xs i d h) ∙ filter_map-append pick (take i xs) (get_or xs i d ∷ [])
 
   pub found_more : (xs : List X) (i : ℕ) (first before after : List Y) → i < length xs → before ≡ first ++ filter_map pick (take i xs)
       → after ≡ before ++ cons_option (pick (get_or xs i d)) [] → after ≡ first ++ filter_map pick (take (i + 1) xs)
@@ -34,22 +29,3 @@ grown first second third f g a b c = c ∙ ap (λ l. l ++ g) (b ∙ ap (λ l. l 
 pub one_longer : {T : Type 0} (lists longer : List (Sides T)) (x : Sides T) → longer ≡ lists ++ (x ∷ []) → x ≡ no_list → (v : ℕ)
     → sides_at longer v ≡ sides_at lists v
 one_longer lists longer x e n v = ap (λ l. sides_at l v) (e ∙ ap (λ y. lists ++ (y ∷ [])) n) ∙ one_pushed lists v no_list
-
--- what holds where a call succeeds, or fails, and what follows from it
-module _ {T E : Type 0} {P Q : Type 0} where
-  pub on_ok : (r : Result T E) → (P → Q) → OnOk r P → OnOk r Q
-  on_ok (Ok x) f h = f h
-  on_ok (Err e) f h = h
-
-  pub on_err : (r : Result T E) → (P → Q) → OnErr r P → OnErr r Q
-  on_err (Ok x) f h = h
-  on_err (Err e) f h = f h
-
--- what holds anyway
-pub any_ok : {T E P : Type 0} (r : Result T E) → P → OnOk r P
-any_ok (Ok x) h = h
-any_ok (Err e) h = tt
-
-pub any_err : {T E P : Type 0} (r : Result T E) → P → OnErr r P
-any_err (Ok x) h = tt
-any_err (Err e) h = h

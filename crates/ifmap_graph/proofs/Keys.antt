@@ -1,5 +1,5 @@
 -- The keys of a pool, each once.
-use Rattle.std.proofs.Common.{◌≡◌, ℕ, Bool, true, false, ◌&&◌, T, Option, Some, None, List, [], ◌∷◌, map, option_map, refl, ap, ◌∙◌, sym, subst, inl, inr}
+use Rattle.std.proofs.Common.{◌≡◌, ℕ, true, false, T, Option, Some, None, List, [], ◌∷◌, map, option_map, refl, ap, ◌∙◌, sym, subst, inl, inr}
 use Rattle.std.proofs.lemmas.Bool.{cases_Bool}
 use Rattle.std.proofs.lemmas.Cmp.{nat_cmp_total, tied_itself}
 use Rattle.std.proofs.lemmas.List.{length-map}
@@ -8,6 +8,8 @@ use Rattle.std.specs.FinMap.{entries, entries_sorted, find, get-entries, is_sort
 use Rattle.std.specs.FinMap.Entries.{below_all}
 use Rattle.std.specs.List.{AllByRecursion, IsDistinct}
 use Rattle.std.specs.Ordering.{eq_by_cmp, is_eq, is_lt, nat_cmp}
+use Rattle.std.proofs.Math.Facts.{and_yes}
+use Rattle.std.specs.Cmp.{Equal-is}
 use Rattle.ifmap_lemmas.specs.Having.{Has, has_map, map_has}
 use Rattle.ifmap_lemmas.specs.Texts.{eq_tells}
 use Rattle.ifmap_ident.specs.declared.identifiers.Identifier.{Identifier}
@@ -15,18 +17,9 @@ use Rattle.ifmap_ident.specs.Identifiers.{identifier_bytes, identifier_order, sa
 use Rattle.ifmap_pool.specs.Holdings.{Holdings, IsPool, entry_at, key_at}
 use Rattle.ifmap_graph.specs.Counted.{AreSoMany}
 use Rattle.ifmap_graph.proofs.Alike.{alike_equal}
-use Rattle.ifmap_graph.proofs.Ordered.{equal_is}
 
 abbrev Numbered : Type 0
 Numbered = List (ℕ × (Identifier × ℕ))
-
-first_of : (a b : Bool) → T (a && b) → T a
-first_of true b p = tt
-first_of false b p = p
-
-second_of : (a b : Bool) → T (a && b) → T b
-second_of true b p = p
-second_of false b p = absurd p
 
 -- a number is not below itself
 not_below : (v w : ℕ) → v ≡ w → T (is_lt (nat_cmp v w)) → ⊥
@@ -34,11 +27,11 @@ not_below v w e l = subst (λ o. T (is_lt o)) (tied_itself nat_cmp_total v) (sub
 
 below_has : (v : ℕ) (es : Numbered) → T (below_all nat_cmp v es) → (e : ℕ × (Identifier × ℕ)) → Has es e → T (is_lt (nat_cmp v e.0))
 below_has v [] b e h = absurd h
-below_has v (x ∷ xs) b e (inl p) = subst (λ y. T (is_lt (nat_cmp v y.0))) p (first_of (is_lt (nat_cmp v x.0)) (below_all nat_cmp v xs) b)
-below_has v (x ∷ xs) b e (inr h) = below_has v xs (second_of (is_lt (nat_cmp v x.0)) (below_all nat_cmp v xs) b) e h
+below_has v (x ∷ xs) b e (inl p) = subst (λ y. T (is_lt (nat_cmp v y.0))) p (and_yes (is_lt (nat_cmp v x.0)) (below_all nat_cmp v xs) b).0
+below_has v (x ∷ xs) b e (inr h) = below_has v xs (and_yes (is_lt (nat_cmp v x.0)) (below_all nat_cmp v xs) b).1 e h
 
 tie_is : (v w : ℕ) → eq_by_cmp nat_cmp v w ≡ true → v ≡ w
-tie_is v w t = nat_cmp-IsAntisymmetric v w (equal_is (nat_cmp v w) t)
+tie_is v w t = nat_cmp-IsAntisymmetric v w ((Equal-is (nat_cmp v w)).0 t)
 
 find_has : (es : Numbered) (v : ℕ) (x : Identifier × ℕ) → find nat_cmp v es ≡ Some x → Has es (v, x)
 find_has [] v x e = absurd (none-some _ e)
@@ -55,8 +48,8 @@ has_find (y ∷ ys) s e (inl p) =
     in rw t (ap (λ z. Some z.1) p)
 has_find (y ∷ ys) s e (inr h) = elim (cases_Bool (eq_by_cmp nat_cmp e.0 y.0)) [
   | inl t ↦ absurd (not_below y.0 e.0 (sym (tie_is e.0 y.0 t))
-      (below_has y.0 ys (first_of (below_all nat_cmp y.0 ys) (is_sorted nat_cmp ys) s) e h))
-  | inr f ↦ rw f (has_find ys (second_of (below_all nat_cmp y.0 ys) (is_sorted nat_cmp ys) s) e h)
+      (below_has y.0 ys (and_yes (below_all nat_cmp y.0 ys) (is_sorted nat_cmp ys) s).0 e h))
+  | inr f ↦ rw f (has_find ys (and_yes (below_all nat_cmp y.0 ys) (is_sorted nat_cmp ys) s).1 e h)
 ]
 
 module _ (names : Holdings Identifier) (pool : IsPool identifier_order names) where
@@ -69,10 +62,10 @@ module _ (names : Holdings Identifier) (pool : IsPool identifier_order names) wh
       | inl t ↦ let alike = eq_tells (identifier_bytes e.1.0) (identifier_bytes y.1.0) t
           in absurd (not_below e.0 y.0
           (pool.one_to_one e.0 y.0 y.1.0 (e.1, is, alike_equal e.1.0 y.1.0 alike) (y.1, all y (inl refl), alike_equal y.1.0 y.1.0 refl))
-          (first_of (is_lt (nat_cmp e.0 y.0)) (below_all nat_cmp e.0 ys) b))
+          (and_yes (is_lt (nat_cmp e.0 y.0)) (below_all nat_cmp e.0 ys) b).0)
       | inr f ↦ f
     ],
-    apart_all e ys (second_of (is_lt (nat_cmp e.0 y.0)) (below_all nat_cmp e.0 ys) b) is (λ x h. all x (inr h)),
+    apart_all e ys (and_yes (is_lt (nat_cmp e.0 y.0)) (below_all nat_cmp e.0 ys) b).1 is (λ x h. all x (inr h)),
   )
 
   distinct_keys : (es : Numbered) → T (is_sorted nat_cmp es) → ((x : ℕ × (Identifier × ℕ)) → Has es x → entry_at names x.0 ≡ Some x.1)
@@ -80,8 +73,8 @@ module _ (names : Holdings Identifier) (pool : IsPool identifier_order names) wh
   unfolding IsDistinct
   distinct_keys [] s all = tt
   distinct_keys (e ∷ es) s all = (
-    apart_all e es (first_of (below_all nat_cmp e.0 es) (is_sorted nat_cmp es) s) (all e (inl refl)) (λ x h. all x (inr h)),
-    distinct_keys es (second_of (below_all nat_cmp e.0 es) (is_sorted nat_cmp es) s) (λ x h. all x (inr h)),
+    apart_all e es (and_yes (below_all nat_cmp e.0 es) (is_sorted nat_cmp es) s).0 (all e (inl refl)) (λ x h. all x (inr h)),
+    distinct_keys es (and_yes (below_all nat_cmp e.0 es) (is_sorted nat_cmp es) s).1 (λ x h. all x (inr h)),
   )
 
   entry_is : (x : ℕ × (Identifier × ℕ)) → Has (entries names.live) x → entry_at names x.0 ≡ Some x.1

@@ -1,7 +1,6 @@
 -- Entries that come and go: which are there afterwards, and what they show.
 use Rattle.std.proofs.Common.{◌≡◌, ◌≢◌, ℕ, ◌+◌, Bool, true, false, cond, Option, Some, None, IsSome, [], ◌∷◌, ◌++◌, map, nat_eq, refl, ap, ◌∙◌, sym, subst, inl, inr, arith}
-use Rattle.std.proofs.lemmas.Bool.{cases_Bool}
-use Rattle.std.proofs.lemmas.Bool.Decides.{nat_tests}
+use Rattle.std.proofs.lemmas.Bool.{cases_Bool, eqb-false}
 use Rattle.std.proofs.lemmas.Option.{same_Some, none-some}
 use Rattle.std.specs.BTreeMap.{is_at, insert_entry}
 use Rattle.std.specs.List.{AllByRecursion, IsDistinct}
@@ -9,6 +8,8 @@ use Rattle.std.specs.Map.{lookup, remove_entry}
 use Rattle.std.specs.Ordering.{is_eq, match_ordering}
 use Rattle.std.specs.declared.cmp.Ordering.{Ordering}
 use Rattle.std.specs.declared.cmp.Ordering.TheVariants.{Less, Equal, Greater}
+use Rattle.std.specs.Cmp.{Equal-is}
+use Rattle.std.proofs.lemmas.Map.Keys.{IsDistinct-cons, IsDistinct-head, IsDistinct-tail}
 use Rattle.ifmap_lemmas.specs.Having.{Has}
 use Rattle.ifmap_ident.specs.declared.identifiers.Identifier.{Identifier}
 use Rattle.ifmap_ident.specs.declared.items.Item.{Item}
@@ -20,9 +21,9 @@ use Rattle.ifmap_graph.specs.declared.shelves.Shelf.{Shelf}
 use Rattle.ifmap_graph.specs.Named.{named_by, named_in}
 use Rattle.ifmap_graph.specs.Shelved.{IsPlaced, ItemsRise, StoredSide, list_at, row_on, rows_by}
 use Rattle.ifmap_graph.proofs.Alike.{Alike, one_tied, order_alike, pair_tied}
-use Rattle.ifmap_graph.proofs.Ordered.{equal_is}
 use Rattle.ifmap_graph.proofs.Finding.{all_left, leaves}
-use Rattle.ifmap_graph.proofs.Shelving.{Entries, first_slot, no_slots, slots_first, slots_of}
+use Rattle.ifmap_graph.proofs.Shelving.{Entries, slots_of}
+use Rattle.ifmap_graph.proofs.Rising.{to_distinct}
 
 swapped : (x y z : ℕ) → x + (y + z) ≡ y + (x + z)
 swapped x y z = omega arith
@@ -61,25 +62,22 @@ pub goes : (es : Entries) (item : Item) (at : ℕ) (a : Identifier) → lookup (
     → named_by item a + named_in (remove_entry (is_at (item_order item)) es) a ≡ named_in es a
 goes [] item at a h = absurd (none-some _ h)
 goes (e ∷ es) item at a h = elim (cases_Bool (is_at (item_order item) e.0)) [
-  | inl t ↦ rw t (ap (λ n. n + named_in es a) (sym (named_tied item e.0 a (equal_is (item_order item e.0) t))))
+  | inl t ↦ rw t (ap (λ n. n + named_in es a) (sym (named_tied item e.0 a ((Equal-is (item_order item e.0)).0 t))))
   | inr t ↦ let q : named_by item a + named_in (remove_entry (is_at (item_order item)) es) a ≡ named_in es a = goes es item at a (rw t at h)
       in rw t (swapped (named_by item a) (named_by e.0 a) (named_in (remove_entry (is_at (item_order item)) es) a)
       ∙ ap (λ n. named_by e.0 a + n) q)
 ]
 
-differs : (a b : ℕ) → nat_eq a b ≡ false → b ≢ a
-differs a b e q = let t : nat_eq a b ≡ true = grind (arith, nat_tests) in let r : false ≡ true = sym e ∙ t in cc
-
 others_apart : (at : ℕ) (es : Entries) → AllByRecursion (λ y. nat_eq at y ≡ false) (slots_of es) → AllByRecursion (λ e. e.1 ≢ at) es
 others_apart at [] a = tt
-others_apart at (e ∷ es) a = (differs at e.1 a.0, others_apart at es a.1)
+others_apart at (e ∷ es) a = (λ q. eqb-false at e.1 a.0 (sym q), others_apart at es a.1)
 
 -- a slot that is looked up further on is not that of the entry before
 not_first : (k : ℕ) (test : Item → Bool) (es : Entries) (at : ℕ) → AllByRecursion (λ y. nat_eq k y ≡ false) (slots_of es)
     → lookup test es ≡ Some at → k ≢ at
 not_first k test [] at a h = λ q. none-some _ h
 not_first k test (e ∷ es) at a h = elim (cases_Bool (test e.0)) [
-  | inl t ↦ let here : e.1 ≡ at = same_Some _ _ (rw t at h) in λ q. differs k e.1 a.0 (here ∙ sym q)
+  | inl t ↦ let here : e.1 ≡ at = same_Some _ _ (rw t at h) in λ q. eqb-false k e.1 a.0 (q ∙ sym here)
   | inr t ↦ not_first k test es at a.1 (rw t at h)
 ]
 
@@ -89,8 +87,12 @@ others_left : (test : Item → Bool) (es : Entries) (at : ℕ) → IsDistinct na
 others_left test [] at d h = tt
 others_left test (e ∷ es) at d h = elim (cases_Bool (test e.0)) [
   | inl t ↦ let here : e.1 ≡ at = same_Some _ _ (rw t at h)
-      in rw t (others_apart at es (subst (λ k. AllByRecursion (λ y. nat_eq k y ≡ false) (slots_of es)) here (slots_first e es d).0))
-  | inr t ↦ rw t (not_first e.1 test es at (slots_first e es d).0 (rw t at h), others_left test es at (slots_first e es d).1 (rw t at h))
+      in rw t (others_apart at es
+      (subst (λ k. AllByRecursion (λ y. nat_eq k y ≡ false) (slots_of es)) here (IsDistinct-head nat_eq e.1 (slots_of es) d)))
+  | inr t ↦ rw t (
+    not_first e.1 test es at (IsDistinct-head nat_eq e.1 (slots_of es) d) (rw t at h),
+    others_left test es at (IsDistinct-tail nat_eq e.1 (slots_of es) d) (rw t at h),
+  )
 ]
 
 out_left : (k : ℕ) (test : Item → Bool) (es : Entries) → AllByRecursion (λ y. nat_eq k y ≡ false) (slots_of es)
@@ -104,13 +106,14 @@ out_left k test (e ∷ es) a = by (test e.0) (out_left k test es a.1)
     by false rest = (a.0, rest)
 
 slots_left : (test : Item → Bool) (es : Entries) → IsDistinct nat_eq (slots_of es) → IsDistinct nat_eq (slots_of (remove_entry test es))
-slots_left test [] d = no_slots
-slots_left test (e ∷ es) d = by (test e.0) (slots_left test es (slots_first e es d).1)
+slots_left test [] d = to_distinct nat_eq [] tt
+slots_left test (e ∷ es) d = by (test e.0) (slots_left test es (IsDistinct-tail nat_eq e.1 (slots_of es) d))
   where
     by : (b : Bool) → IsDistinct nat_eq (slots_of (remove_entry test es)) → IsDistinct nat_eq
         (slots_of (cond b es (e ∷ remove_entry test es)))
-    by true rest = (slots_first e es d).1
-    by false rest = first_slot e (remove_entry test es) (out_left e.1 test es (slots_first e es d).0) rest
+    by true rest = IsDistinct-tail nat_eq e.1 (slots_of es) d
+    by false rest = IsDistinct-cons nat_eq e.1 (slots_of (remove_entry test es))
+        (out_left e.1 test es (IsDistinct-head nat_eq e.1 (slots_of es) d)) rest
 
 -- an entry of another slot stays
 pub removed_has : (test : Item → Bool) (es : Entries) (at n : ℕ) (k : Item) → lookup test es ≡ Some at → n ≢ at → Has es (k, n)

@@ -4,6 +4,7 @@ use Rattle.std.proofs.lemmas.Bool.{cases_Bool}
 use Rattle.std.specs.BTreeMap.{is_at}
 use Rattle.std.specs.Map.{lookup}
 use Rattle.std.specs.declared.cmp.Ordering.TheVariants.{Equal}
+use Rattle.std.specs.Cmp.{Equal-is}
 use Rattle.slab.specs.Slab.{get}
 use Rattle.ifmap_ident.specs.declared.identifiers.Identifier.{Identifier}
 use Rattle.ifmap_ident.specs.declared.items.Item.{Item}
@@ -26,7 +27,6 @@ use Rattle.ifmap_graph.proofs.Finding.{absent, found}
 use Rattle.ifmap_graph.proofs.Following.{lookup_tied, looked_up}
 use Rattle.ifmap_graph.proofs.Gone.{bare_left}
 use Rattle.ifmap_graph.proofs.Moved.{inside_moved, lists_stay}
-use Rattle.ifmap_graph.proofs.Ordered.{equal_is}
 use Rattle.ifmap_graph.proofs.Shelving.{Entries}
 use Rattle.ifmap_graph.proofs.Writes.{slot_live}
 use Rattle.ifmap_lemmas.specs.Having.{all_has}
@@ -106,7 +106,7 @@ less_removed names left s t item is later empty inside rows before others named 
   rows = rows;
   before = λ x at e. let p = before x at e in (p.0, ap (option_map (λ (shelf : Shelf). shelf.ends)) p.1);
   full = λ x n. elim (cases_Bool (is_at (item_order item) x)) [
-    | inl y ↦ let tie = equal_is (item_order item x) y
+    | inl y ↦ let tie = (Equal-is (item_order item x)).0 y
         in absurd (n (sym (stored_tied (λ at. list_at now (get s.slots at)) s.places.entries is.rising item x tie) ∙ empty))
     | inr f ↦ others x f
   ];

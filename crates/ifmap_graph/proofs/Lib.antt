@@ -1,3 +1,4 @@
+pub mod Rising
 pub mod Ordered
 pub mod Finding
 pub mod Shelving

@@ -44,10 +44,16 @@ picked true at (Some w) seen e = let q : record { other = w; at = at } ≡ seen 
       (λ s. s.at) q,
 )
 
-both_true : (a b : Bool) → (a && not b) ≡ true → (a ≡ true) × (b ≡ false)
+pub both_true : (a b : Bool) → (a && not b) ≡ true → (a ≡ true) × (b ≡ false)
 both_true true true e = let r : false ≡ true = e in cc
 both_true true false e = (refl, refl)
 both_true false b e = let r : false ≡ true = e in cc
+
+-- a place that joins the same in both
+pub joins_alike : (joins other : ℕ → Option (ℕ × ℕ)) (at v w : ℕ) → other at ≡ joins at → JoinsNumbers joins at v w
+    → JoinsNumbers other at v w
+joins_alike joins other at v w e (inl j) = inl (e ∙ j)
+joins_alike joins other at v w e (inr j) = inr (e ∙ j)
 
 module _ (joins : ℕ → Option (ℕ × ℕ)) where
   far_is : (at v w : ℕ) (o : Option (ℕ × ℕ)) → joins at ≡ o → far_of o v ≡ Some w → JoinsNumbers joins at v w

@@ -23,7 +23,8 @@ use Rattle.ifmap_graph.specs.Sides.{Sides, next, now}
 use Rattle.ifmap_graph.specs.Touched.{AreExactlyDrafted, KeepsLinks}
 use Rattle.ifmap_graph.specs.Turning.{sides_at}
 use Rattle.ifmap_graph.specs.Waits.{WaitsFor}
-use Rattle.ifmap_graph.proofs.Brought.{other_absent, some_place}
+use Rattle.ifmap_graph.proofs.Brought.{other_absent}
+use Rattle.ifmap_lemmas.specs.Options.{is_some_of}
 
 -- the items of changes that fit are such as elements mean
 pub all_canon : (rows : List Attachment) (changes : List ItemChange) → AllByRecursion (FitsItem rows) changes
@@ -56,7 +57,7 @@ made_by changes ways items first old t links grown brought inside rows after out
   kept = grown.kept;
   own = λ a own h. subst (λ p. IsHeld identifier_order old.names a (named_in p.entries a + own)) (sym places) (grown.own a own h);
   places = λ x at e.
-      let o = other_absent first.shelves items x brought.absent (some_place (slot_of_item first.shelves x) at e)
+      let o = other_absent first.shelves items x brought.absent (is_some_of (slot_of_item first.shelves x) at e)
       in (ap (λ p. lookup (is_at (item_order x)) p.entries) places ∙ brought.places x o ∙ e, ends at ∙ brought.ends x at e);
   same = λ x o. ap (λ p. lookup (is_at (item_order x)) p.entries) places ∙ brought.places x (within x o);
   waits = λ x. omega (arith, waits x, brought.waits x);

@@ -1,5 +1,5 @@
 -- Items that are marked, as marks come and as they are gone through; and the shelves that go.
-use Rattle.std.proofs.Common.{◌≡◌, ℕ, ◌+◌, ◌<◌, ◌≤◌, Bool, true, false, cond, List, [], ◌∷◌, ◌++◌, length, get_or, drop, refl, ap, ◌∙◌, sym, subst, arith, add-one, drop-cons}
+use Rattle.std.proofs.Common.{◌≡◌, ℕ, ◌+◌, ◌<◌, ◌≤◌, Bool, true, false, cond, List, [], ◌∷◌, ◌++◌, length, get_or, drop, refl, ap, ◌∙◌, sym, subst, arith}
 use Rattle.std.proofs.lemmas.List.{drop_all}
 use Rattle.std.specs.List.{AllByRecursion, IsDistinct}
 use Rattle.slab.specs.Slab.{get}
@@ -17,11 +17,11 @@ use Rattle.ifmap_graph.specs.Releasing.{IsLess}
 use Rattle.ifmap_graph.specs.Shelved.{HasEmptyShelf, list_at, slot_of_item, rows_on_side}
 use Rattle.ifmap_graph.specs.Sides.{Sides, now}
 use Rattle.ifmap_graph.specs.Waits.{waits_on}
-use Rattle.ifmap_graph.proofs.Accepting.{apart_parts}
 use Rattle.ifmap_graph.proofs.Brought.{brings_less, brings_unless, never_waited}
 use Rattle.ifmap_graph.proofs.Finding.{absent}
 use Rattle.ifmap_graph.proofs.Lessening.{is_bare, less_itself, less_on}
 use Rattle.ifmap_lemmas.specs.Options.{some_is}
+use Rattle.ifmap_graph.proofs.Accepting.{apart_after}
 
 marked_none : (xs : List Item) → flagged_items xs [] ≡ []
 marked_none [] = refl
@@ -42,9 +42,6 @@ all_marked P [] ms a = tt
 all_marked P (x ∷ xs) [] a = tt
 all_marked P (x ∷ xs) (true ∷ ms) a = (a.0, all_marked P xs ms a.1)
 all_marked P (x ∷ xs) (false ∷ ms) a = all_marked P xs ms a.1
-
-pub here_of : {X : Type 0} (xs : List X) (i : ℕ) (d : X) → i < length xs → drop i xs ≡ get_or xs i d ∷ drop (i + 1) xs
-here_of xs i d h = drop-cons xs i d h ∙ ap (λ n. get_or xs i d ∷ drop n xs) (sym (add-one i))
 
 module _ (items : List Item) (marks : List Bool) (names : Holdings Identifier) (first : Shelves) where
   -- of the shelves that came, so many went again
@@ -88,9 +85,6 @@ module _ (items : List Item) (marks : List Bool) (names : Holdings Identifier) (
     pub takes_idle : (origin : Shelves) → BringsShelves (flagged_items items marks) origin first → came ≡ true → waits_on s x ≡ 0
     takes_idle origin b t = let p = came_here origin b t in p.waits x ∙ never_waited origin x p.absent.0
 
-    apart_here : AllByRecursion (λ y. same_item x y ≡ false) (drop (i + 1) items) × IsDistinct same_item (drop (i + 1) items)
-    apart_here = apart_parts x (drop (i + 1) items) (subst (λ l. IsDistinct same_item l) here g.apart)
-
     module _ (later : Holdings Identifier) (t : Shelves) (less : IsLess left later s t)
         (taken : BringsShelves (cond came (x ∷ []) []) t s) where
       goes_by : (c : Bool) (origin : Shelves)
@@ -100,13 +94,13 @@ module _ (items : List Item) (marks : List Bool) (names : Holdings Identifier) (
           → BringsShelves (cond c (x ∷ []) []) t s → BringsShelves (flagged_items (drop (i + 1) items) (drop (i + 1) marks)) origin t
       goes_by true origin p q =
           brings_less x (flagged_items (drop (i + 1) items) (drop (i + 1) marks)) origin t s p q
-          (all_marked (λ y. same_item x y ≡ false) (drop (i + 1) items) (drop (i + 1) marks) apart_here.0)
+          (all_marked (λ y. same_item x y ≡ false) (drop (i + 1) items) (drop (i + 1) marks) (apart_after items i x here g.apart).0)
       goes_by false origin p q = brings_unless (flagged_items (drop (i + 1) items) (drop (i + 1) marks)) origin t s p q
 
       pub takes_on : Taking later t (i + 1)
       takes_on = record {
         less = less_on names left later first s t g.less less;
-        apart = apart_here.1;
+        apart = (apart_after items i x here g.apart).1;
         brought = λ origin b. goes_by came origin (left_of origin b) taken;
       }
 

@@ -1,5 +1,5 @@
 -- A graph's parts after its shelves were written, and none came or went: each side moves with its lists.
-use Rattle.std.proofs.Common.{◌≡◌, ℕ, ◌<◌, Option, Some, None, IsSome, List, [], ◌∷◌, length, nat_eq, refl, ap, ◌∙◌, sym, subst, inl, inr}
+use Rattle.std.proofs.Common.{◌≡◌, ℕ, ◌<◌, Option, Some, None, IsSome, List, [], ◌∷◌, length, nat_eq, refl, ap, ◌∙◌, sym, subst}
 use Rattle.std.proofs.lemmas.Option.{same_Some, none-some}
 use Rattle.std.specs.List.{AllByRecursion, Contains, IsDistinct}
 use Rattle.slab.specs.Slab.{get}
@@ -15,7 +15,7 @@ use Rattle.ifmap_graph.specs.declared.shelves.Shelves.{Shelves}
 use Rattle.ifmap_graph.specs.Drafted.{ends_at}
 use Rattle.ifmap_graph.specs.Held.{IsInside, IsSide, links_at}
 use Rattle.ifmap_graph.specs.Joined.{is_not_empty, joined_pair, two_of}
-use Rattle.ifmap_graph.specs.Linked.{JoinsNumbers, ats}
+use Rattle.ifmap_graph.specs.Linked.{ats}
 use Rattle.ifmap_graph.specs.Named.{AreEnds, AreNumbered, HasEnds}
 use Rattle.ifmap_graph.specs.Shelved.{AreShelved, IsPlaced, StoredSide, list_at, rows_on_side}
 use Rattle.ifmap_graph.specs.Sides.{Sides, next, now}
@@ -23,6 +23,7 @@ use Rattle.ifmap_graph.proofs.Finding.{found}
 use Rattle.ifmap_graph.proofs.Following.{entry_hits}
 use Rattle.ifmap_graph.proofs.Shelving.{Entries}
 use Rattle.ifmap_graph.proofs.Staying.{ends_of}
+use Rattle.ifmap_graph.proofs.Links.{joins_alike}
 
 joined_by : (o p : Option Shelf) → ends_of o ≡ ends_of p → joined_pair o ≡ joined_pair p
 joined_by None None e = refl
@@ -51,14 +52,6 @@ module _ (look later : ℕ → Option Shelf) (ends : (at : ℕ) → ends_of (lat
   still_numbered names [] a = tt
   still_numbered names (e ∷ es) a = (has_by names e.0 (later e.1) (look e.1) (ends e.1) a.0, still_numbered names es a.1)
 
-  ends_moved : (at v w : ℕ) → JoinsNumbers (λ n. joined_pair (look n)) at v w → JoinsNumbers (λ n. joined_pair (later n)) at v w
-  ends_moved at v w (inl e) = inl (joined_by (later at) (look at) (ends at) ∙ e)
-  ends_moved at v w (inr e) = inr (joined_by (later at) (look at) (ends at) ∙ e)
-
-  ends_back : (at v w : ℕ) → JoinsNumbers (λ n. joined_pair (later n)) at v w → JoinsNumbers (λ n. joined_pair (look n)) at v w
-  ends_back at v w (inl e) = inl (sym (joined_by (later at) (look at) (ends at)) ∙ e)
-  ends_back at v w (inr e) = inr (sym (joined_by (later at) (look at) (ends at)) ∙ e)
-
   -- the lists and the links of one side come to be those of another
   module _ (side other : StoredSide) (lists : (at : ℕ) → list_at other (later at) ≡ list_at side (look at))
       (links moved : ℕ → List LinkSeen)
@@ -74,10 +67,15 @@ module _ (look later : ℕ → Option Shelf) (ends : (at : ℕ) → ends_of (lat
       listed = record {
         only = λ v seen c.
             let p = is.listed.only v seen (subst (λ l. Contains l seen) (same v) c)
-            in (ends_moved seen.at v seen.other p.0, ap is_not_empty (lists seen.at) ∙ p.1);
+            in (
+              joins_alike (λ n. joined_pair (look n)) (λ n. joined_pair (later n)) seen.at v seen.other
+                  (joined_by (later seen.at) (look seen.at) (ends seen.at)) p.0,
+              ap is_not_empty (lists seen.at) ∙ p.1,
+            );
         each = λ v w at e f.
             subst (λ l. Contains l (record { other = w; at = at })) (sym (same v))
-            (is.listed.each v w at (ends_back at v w e) (sym (ap is_not_empty (lists at)) ∙ f));
+            (is.listed.each v w at (joins_alike (λ n. joined_pair (later n)) (λ n. joined_pair (look n)) at v w
+            (sym (joined_by (later at) (look at) (ends at))) e) (sym (ap is_not_empty (lists at)) ∙ f));
       };
       once = λ v. subst (λ l. IsDistinct nat_eq (ats l)) (sym (same v)) (is.once v);
     }

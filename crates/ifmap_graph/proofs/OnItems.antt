@@ -1,12 +1,10 @@
 -- What is stored on each item of a graph rises with its keys apart; and graphs with the same on each item are one.
-use Rattle.std.proofs.Common.{◌≡◌, ◌&&◌, true, false, List, [], ◌∷◌, refl, ap, ◌∙◌, sym, subst, inl, inr}
+use Rattle.std.proofs.Common.{◌≡◌, ◌&&◌, true, false, List, [], ◌∷◌, ap, ◌∙◌, sym, subst, inl, inr}
 use Rattle.std.proofs.lemmas.Bool.{cases_Bool}
 use Rattle.std.proofs.lemmas.Cmp.{tied_itself}
-use Rattle.std.specs.Cmp.{IsTotalOrder}
-use Rattle.std.specs.List.{AllByRecursion, IsDistinct, filter}
-use Rattle.std.specs.List.Sorted.{IsStrictlySortedBy}
+use Rattle.std.specs.Cmp.{Equal-is}
+use Rattle.std.specs.List.{AllByRecursion, filter}
 use Rattle.std.specs.Ordering.{is_eq, ordering_then}
-use Rattle.std.specs.declared.cmp.Ordering.{Ordering}
 use Rattle.std.specs.declared.cmp.Ordering.TheVariants.{Less, Equal}
 use Rattle.ifmap_lemmas.specs.Having.{Has, filter_has, has_filter, has_map, map_has, all_has}
 use Rattle.ifmap_ident.specs.declared.items.Item.{Item}
@@ -20,11 +18,13 @@ use Rattle.ifmap_view.specs.declared.attachments.Attachment.{Attachment}
 use Rattle.ifmap_view.specs.Attachments.{IsGraph, attachment_order, of_one_key, stored_order}
 use Rattle.ifmap_view.specs.Rows.{stored_on}
 use Rattle.ifmap_graph.proofs.Alike.{one_tied, pair_tied}
-use Rattle.ifmap_graph.proofs.Ordered.{equal_is}
 use Rattle.ifmap_ident.specs.SameLaws.{items_total, ties, BytesTellIdentifiers}
+use Rattle.ifmap_graph.proofs.Rising.{from_distinct, from_sorted, to_distinct, to_sorted}
+use Rattle.ifmap_lemmas.specs.Pairwise.{Pairwise}
+use Rattle.ifmap_rows.specs.laws.JoiningLaws.{one_list}
 
 tied_with : (x k : Item) → same_item k x ≡ true → item_order x k ≡ Equal
-tied_with x k e = equal_is (item_order x k) (ties x k ∙ e)
+tied_with x k e = (Equal-is (item_order x k)).0 (ties x k ∙ e)
 
 -- what is stored on an item
 module _ (x : Item) where
@@ -50,70 +50,24 @@ module _ (x : Item) where
       = sym (ties s.item r.item) ∙ ap is_eq (both_tied s.item r.item j i)
       in ap (λ b. b && same_key r.stored s.stored) (sym t) ∙ e
 
-  rising_on : (rows : List Attachment) → IsStrictlySortedBy attachment_order rows → IsStrictlySortedBy stored_order (stored_on x rows)
-  unfolding IsStrictlySortedBy
-  rising_on [] up = tt
-  rising_on (r ∷ rows) up = elim (cases_Bool (same_item r.item x)) [
-    | inl is ↦ rw is (
-      all_of (λ s. stored_order r.stored s ≡ Less) (λ s. attachment_order r s ≡ Less) (λ s j e. ordered r s is j e) rows up.0,
-      rising_on rows up.1,
-    )
-    | inr is ↦ rw is (rising_on rows up.1)
-  ]
-
-  keys_on : (rows : List Attachment) → IsDistinct of_one_key rows → IsDistinct same_key (stored_on x rows)
-  unfolding IsDistinct
-  keys_on [] d = tt
-  keys_on (r ∷ rows) d = elim (cases_Bool (same_item r.item x)) [
-    | inl is ↦ rw is (
-      all_of (λ s. same_key r.stored s ≡ false) (λ s. of_one_key r s ≡ false) (λ s j e. keyed r s is j e) rows d.0,
-      keys_on rows d.1,
-    )
-    | inr is ↦ rw is (keys_on rows d.1)
+  -- what holds of each two attachments of the item holds of what is stored
+  pairs_on : (P : Stored → Stored → Type 0) (Q : Attachment → Attachment → Type 0)
+      → ((r s : Attachment) → same_item r.item x ≡ true → same_item s.item x ≡ true → Q r s → P r.stored s.stored)
+      → (rows : List Attachment) → Pairwise Q rows → Pairwise P (stored_on x rows)
+  pairs_on P Q h [] p = tt
+  pairs_on P Q h (r ∷ rows) p = elim (cases_Bool (same_item r.item x)) [
+    | inl is ↦ rw is (all_of (P r.stored) (Q r) (λ s j q. h r s is j q) rows p.0, pairs_on P Q h rows p.1)
+    | inr is ↦ rw is (pairs_on P Q h rows p.1)
   ]
 
   pub list_on : (rows : List Attachment) → IsGraph rows → IsList (stored_on x rows)
-  list_on rows g = record { rising = rising_on rows g.rising; keys = keys_on rows g.keys }
-
--- lists that rise and have the same are one
-module _ {X : Type 0} (R : X → X → Ordering) (total : IsTotalOrder R) where
-  first_sorted : (x : X) (xs : List X) → IsStrictlySortedBy R (x ∷ xs) → AllByRecursion (λ y. R x y ≡ Less) xs × IsStrictlySortedBy R xs
-  unfolding IsStrictlySortedBy
-  first_sorted x xs r = r
-
-  not_below : (x : X) → R x x ≡ Less → ⊥
-  not_below x e = let q : Less ≡ Equal = sym e ∙ tied_itself total x in cc
-
-  not_both : (x y : X) → R x y ≡ Less → R y x ≡ Less → ⊥
-  not_both x y e f = not_below x (total.trans x y x e f)
-
-  rest_has : (x : X) (xs ys : List X) → AllByRecursion (λ y. R x y ≡ Less) xs → ((z : X) → Has (x ∷ xs) z → Has (x ∷ ys) z) → (z : X)
-      → Has xs z → Has ys z
-  rest_has x xs ys a f z h = elim (f z (inr h)) [
-    | inl e ↦ absurd (not_below x (subst (λ k. R x k ≡ Less) (sym e) (all_has (λ k. R x k ≡ Less) xs a z h)))
-    | inr k ↦ k
-  ]
-
-  first_same : (x y : X) (xs ys : List X) → AllByRecursion (λ z. R x z ≡ Less) xs → AllByRecursion (λ z. R y z ≡ Less) ys
-      → Has (y ∷ ys) x → Has (x ∷ xs) y → x ≡ y
-  first_same x y xs ys a b (inl e) k = sym e
-  first_same x y xs ys a b (inr h) (inl e) = e
-  first_same x y xs ys a b (inr h) (inr k) =
-      absurd (not_both x y (all_has (λ z. R x z ≡ Less) xs a y k) (all_has (λ z. R y z ≡ Less) ys b x h))
-
-  pub sorted_same : (xs ys : List X) → IsStrictlySortedBy R xs → IsStrictlySortedBy R ys → ((z : X) → Has xs z → Has ys z)
-      → ((z : X) → Has ys z → Has xs z) → xs ≡ ys
-  sorted_same [] [] r q f g = refl
-  sorted_same [] (y ∷ ys) r q f g = absurd (g y (inl refl))
-  sorted_same (x ∷ xs) [] r q f g = absurd (f x (inl refl))
-  sorted_same (x ∷ xs) (y ∷ ys) r q f g =
-      let a = first_sorted x xs r
-      in let b = first_sorted y ys q
-      in let e : x ≡ y = first_same x y xs ys a.0 b.0 (f x (inl refl)) (g y (inl refl))
-      in ap (λ k. k ∷ xs) e
-      ∙ ap (λ l. y ∷ l) (sorted_same xs ys a.1 b.1
-      (rest_has x xs ys a.0 (subst (λ k. (z : X) → Has (x ∷ xs) z → Has (k ∷ ys) z) (sym e) f))
-      (rest_has y ys xs b.0 (subst (λ k. (z : X) → Has (y ∷ ys) z → Has (k ∷ xs) z) e g)))
+  list_on rows g = record {
+    rising = to_sorted stored_order (stored_on x rows)
+        (pairs_on (λ r s. stored_order r s ≡ Less) (λ r s. attachment_order r s ≡ Less) ordered rows
+        (from_sorted attachment_order rows g.rising));
+    keys = to_distinct same_key (stored_on x rows)
+        (pairs_on (λ r s. same_key r s ≡ false) (λ r s. of_one_key r s ≡ false) keyed rows (from_distinct of_one_key rows g.keys));
+  }
 
 -- items that tie are one, where elements gave their identifiers
 canon_tied : BytesTellIdentifiers → (x y : Item) → IsCanonItem x → IsCanonItem y → item_order x y ≡ Equal → y ≡ x
@@ -147,7 +101,7 @@ on_has tells r rows canon g h =
 pub rows_same : BytesTellIdentifiers → (a b : List Attachment) → IsGraph a → IsGraph b → ((x : Item) → stored_on x a ≡ stored_on x b) → a ≡
     b
 rows_same tells a b p q f =
-    sorted_same attachment_order attachments_total a b p.rising q.rising
+    one_list Attachment attachment_order attachments_total a b p.rising q.rising
     (λ r h. on_has tells r b (all_has (λ (k : Attachment). IsCanonItem k.item) a p.items r h) q
     (subst (λ l. Has l r.stored) (f r.item) (has_on r a h)))
     (λ r h. on_has tells r a (all_has (λ (k : Attachment). IsCanonItem k.item) b q.items r h) p

@@ -4,6 +4,7 @@ use Rattle.std.proofs.lemmas.Bool.{cases_Bool}
 use Rattle.std.proofs.lemmas.Option.{same_Some}
 use Rattle.std.specs.FinMap.{get}
 use Rattle.std.specs.Ordering.{is_eq}
+use Rattle.std.specs.Cmp.{Equal-is}
 use Rattle.ifmap_ident.specs.declared.identifiers.Identifier.{Identifier}
 use Rattle.ifmap_ident.specs.declared.items.Item.{Item}
 use Rattle.ifmap_ident.specs.declared.items.Item.TheVariants.{One, Pair}
@@ -16,11 +17,10 @@ use Rattle.ifmap_graph.specs.Held.{IsInside, shown_shelves}
 use Rattle.ifmap_graph.specs.Named.{AreIdentifiers, named_by, named_in}
 use Rattle.ifmap_graph.specs.Sides.{Sides}
 use Rattle.ifmap_graph.proofs.Alike.{Alike, alike_equal, equal_alike, order_alike}
-use Rattle.ifmap_graph.proofs.Changed.{all_same, own_less}
+use Rattle.ifmap_graph.proofs.Changed.{all_same, own_less, was_live}
 use Rattle.ifmap_graph.proofs.Departing.{numbered_stay}
 use Rattle.ifmap_graph.proofs.Holds.{identifiers_stay, named_before}
 use Rattle.ifmap_graph.proofs.Insides.{key_is, named_shown, names_by}
-use Rattle.ifmap_graph.proofs.Ordered.{equal_is}
 use Rattle.ifmap_graph.proofs.Shelving.{Entries}
 use Rattle.ifmap_ident.specs.SameLaws.{BytesTellIdentifiers}
 
@@ -87,7 +87,7 @@ module _ (names : Holdings Identifier) (pool : IsPool identifier_order names) wh
       (named_in es a + mine) → 0 < mine
       → IsHeld identifier_order names other (named_in es other + own) → once identifier_order a other ≤ own
   goes_of es a other mine own k some h = elim (cases_Bool (is_eq (identifier_order a other))) [
-    | inl t ↦ let alike : Alike a other = equal_alike a other (equal_is (identifier_order a other) t)
+    | inl t ↦ let alike : Alike a other = equal_alike a other ((Equal-is (identifier_order a other)).0 t)
         in let same : named_in es other + own ≡ named_in es a + mine
         = one_count other (named_in es other + own) (named_in es a + mine) h (tied_held a other (named_in es a + mine) alike k)
         in let named : named_in es a ≡ named_in es other = in_tied es a other alike
@@ -134,10 +134,6 @@ module _ (old new : Holdings Identifier) (look : ℕ → Option Shelf) (es : Ent
             (own_of a h.0 (subst (λ (m : ℕ). IsHeld identifier_order old a (m + h.0)) (sym (named_shown look es a)) h.1)),
       )
 
-  was_live : (n : ℕ) (o : Option (Identifier × ℕ)) → entry_at new n ≡ o → IsSome o → IsSome (entry_at old n)
-  was_live n None e s = let q : IsSome {T = Identifier × ℕ} None = s in cc
-  was_live n (Some x) e s = subst (λ (o : Option (Identifier × ℕ)). IsSome o) (sym (before n x.0 (x, e, alike_equal x.0 x.0 refl)).1) refl
-
   pub inside_released : IsInside new look es links
   inside_released = record {
     placed = is.placed;
@@ -146,7 +142,7 @@ module _ (old new : Holdings Identifier) (look : ℕ → Option Shelf) (es : Ent
     pool = pool;
     keys = identifiers_stay old new v (live_key old v k key) kept last counted others is.keys;
     held = still_held;
-    table = λ n s. is.table n (was_live n (entry_at new n) refl s);
+    table = λ n s. is.table n (was_live old new before n (entry_at new n) refl s);
     side = is.side;
     next_side = is.next_side;
   }

@@ -10,6 +10,8 @@ use Rattle.std.specs.BTreeMap.{is_at}
 use Rattle.std.specs.List.{AllByRecursion, IsDistinct}
 use Rattle.std.specs.Ordering.{is_eq}
 use Rattle.std.specs.declared.cmp.Ordering.TheVariants.{Equal}
+use Rattle.std.proofs.lemmas.Map.Keys.{IsDistinct-head, IsDistinct-tail}
+use Rattle.std.specs.Cmp.{tied_back, Equal-is}
 use Rattle.slab.specs.Slab.{get}
 use Rattle.ifmap_lemmas.specs.Having.{Has}
 use Rattle.ifmap_ident.specs.declared.items.Item.{Item}
@@ -25,20 +27,19 @@ use Rattle.ifmap_graph.specs.Out.{items_changed}
 use Rattle.ifmap_graph.specs.Shelved.{AreShelved, HasDraft, slot_of_item, rows_on_side}
 use Rattle.ifmap_graph.specs.Sides.{next, now}
 use Rattle.ifmap_graph.specs.Waits.{waits_on}
-use Rattle.ifmap_graph.proofs.Accepting.{all_given, apart_parts}
 use Rattle.ifmap_graph.proofs.Bare.{sides_same}
 use Rattle.ifmap_graph.proofs.Finding.{live_at}
-use Rattle.ifmap_graph.proofs.Ordered.{equal_is, turned_tie}
 use Rattle.ifmap_lemmas.specs.Members.{all_last, all_of_map}
 use Rattle.ifmap_ident.specs.SameLaws.{items_total}
 use Rattle.ifmap_plans.specs.laws.OnItemLaws.{stored_tied}
+use Rattle.ifmap_lemmas.specs.Filters.{all_weaker, all_at}
 
 -- items that both tie with a third tie
 pub tied_both : (i j x : Item) → is_at (item_order i) x ≡ true → same_item j x ≡ true → same_item i j ≡ true
 tied_both i j x a b =
-    let one : item_order i x ≡ Equal = equal_is (item_order i x) a
-    in let two : item_order j x ≡ Equal = equal_is (item_order j x) (sym (items_tie j x) ∙ b)
-    in items_tie i j ∙ ap is_eq (items_total.congr i x j one ∙ turned_tie j x two)
+    let one : item_order i x ≡ Equal = (Equal-is (item_order i x)).0 a
+    in let two : item_order j x ≡ Equal = (Equal-is (item_order j x)).0 (sym (items_tie j x) ∙ b)
+    in items_tie i j ∙ ap is_eq (items_total.congr i x j one ∙ tied_back items_total j x two)
 
 no_change : (i x : Item) (changes : List ItemChange) → is_at (item_order i) x ≡ true
     → AllByRecursion (λ y. same_item i y ≡ false) (items_changed changes)
@@ -57,11 +58,6 @@ has_at : (changes : List ItemChange) (i : ℕ) (d : ItemChange) → i < length c
 has_at [] i d h = absurd (omega (arith, h))
 has_at (c ∷ cs) zero d h = inl refl
 has_at (c ∷ cs) (suc i) d h = inr (has_at cs i d (omega (arith, h)))
-
-pub all_at_place : {X : Type 0} (P : X → Type 0) (xs : List X) (i : ℕ) (d : X) → i < length xs → AllByRecursion P xs → P (get_or xs i d)
-all_at_place P [] i d h a = absurd (omega (arith, h))
-all_at_place P (x ∷ xs) zero d h a = a.0
-all_at_place P (x ∷ xs) (suc i) d h a = all_at_place P xs i d (omega (arith, h)) a.1
 
 -- no shelf has a draft where all are bare
 pub bare_none : (s : Shelves) → AreBare s → (x : Item) → HasDraft s x → ⊥
@@ -123,8 +119,8 @@ module _ (changes : List ItemChange) (first : Shelves) where
     there_at all =
         subst (λ p. IsSome (slot_of_item (record { places = p; slots = s.slots }) c.item)) (sym g.places)
         (subst (λ (x : ItemChange). IsSome (slot_of_item first x.item)) (sym is)
-        (all_at_place (λ (x : ItemChange). IsSome (slot_of_item first x.item)) changes i c h
-        (all_of_map (λ x. IsSome (slot_of_item first x)) (λ (x : ItemChange). x.item) changes all)))
+        (all_at (λ (x : ItemChange). IsSome (slot_of_item first x.item)) changes i c
+        (all_of_map (λ x. IsSome (slot_of_item first x)) (λ (x : ItemChange). x.item) changes all) h))
 
     pub within_on : (t : Shelves) → ((x : Item) → HasDraft t x → HasDraft s x ⊎ (is_at (item_order c.item) x ≡ true))
         → DraftsWithin (items_changed changes) t
@@ -133,8 +129,8 @@ module _ (changes : List ItemChange) (first : Shelves) where
       | inr tie ↦ (
         c.item,
         subst (λ (y : ItemChange). Has (items_changed changes) y.item) (sym is) (has_at changes i c h),
-        equal_is
-            (item_order c.item x) tie,
+        (Equal-is
+            (item_order c.item x)).0 tie,
       )
     ]
 
@@ -143,8 +139,10 @@ module _ (changes : List ItemChange) (first : Shelves) where
 
     apart_here : AllByRecursion (λ y. same_item c.item y ≡ false) (items_changed (drop (i + 1) changes))
         × IsDistinct same_item (items_changed (drop (i + 1) changes))
-    apart_here = apart_parts c.item (items_changed (drop (i + 1) changes))
-        (subst (λ l. IsDistinct same_item (items_changed l)) here g.apart)
+    apart_here =
+        let rest = items_changed (drop (i + 1) changes)
+        in let d : IsDistinct same_item (c.item ∷ rest) = subst (λ l. IsDistinct same_item (items_changed l)) here g.apart
+        in (IsDistinct-head same_item c.item rest d, IsDistinct-tail same_item c.item rest d)
 
     fresh_here : AllByRecursion (λ x. stored_on x (rows_on_side next s) ≡ stored_on x (rows_on_side now first))
         (items_changed (c ∷ drop (i + 1) changes))
@@ -178,7 +176,7 @@ module _ (changes : List ItemChange) (first : Shelves) where
             (ap (λ x. take i changes ++ x ∷ []) is ∙ sym (take-suc changes i c h) ∙ ap (λ n. take n changes) (sym (add-one i)))
             (subst (AllByRecursion (HasDraft t)) (sym (map_snoc (take i changes) c))
             (all_last (HasDraft t) (items_changed (take i changes)) c.item
-            (all_given (HasDraft s) (HasDraft t) (items_changed (take i changes)) kept g.drafted) there));
+            (all_weaker (HasDraft s) (HasDraft t) kept (items_changed (take i changes)) g.drafted) there));
         within = within_on t drafts;
         apart = apart_here.1;
         fresh = still_fresh (items_changed (drop (i + 1) changes)) apart_here.0 fresh_here.1;
@@ -186,7 +184,7 @@ module _ (changes : List ItemChange) (first : Shelves) where
             step_of c (drop (i + 1) changes) x (stored_on x (rows_on_side next s)) (stored_on c.item (rows_on_side now s))
             (stored_on x (rows_on_side next t)) apart_here.0
             (shows x)
-            (λ t. sym (stored_tied c.item x (rows_on_side next s) (equal_is (item_order c.item x) t)) ∙ fresh_here.0
+            (λ t. sym (stored_tied c.item x (rows_on_side next s) ((Equal-is (item_order c.item x)).0 t)) ∙ fresh_here.0
             ∙ sym (ap (stored_on c.item) g.same))
             ∙ sym (ap (λ l. after_on l x (stored_on x (rows_on_side next s))) here) ∙ g.left x;
         ends = λ at. ends at ∙ g.ends at;

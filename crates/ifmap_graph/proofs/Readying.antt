@@ -10,19 +10,16 @@ use Rattle.ifmap_graph.specs.Sides.{Sides}
 use Rattle.ifmap_graph.specs.Touched.{AreExactlyDrafted, KeepsLinks}
 use Rattle.ifmap_graph.specs.Turning.{AreDrafted, IsNamed, NoOthers, accepted_sides, sides_at}
 use Rattle.ifmap_graph.proofs.Turns.{at_set}
+use Rattle.ifmap_lemmas.specs.Options.{some_none}
 
 module _ {T : Type 0} where
-  -- none is not some
-  bare_not : (o : Option (List T)) → o ≡ None → IsSome o → ⊥
-  bare_not o e s = let q : IsSome {T = List T} None = subst (λ o. IsSome o) e s in cc
-
   -- where the places of some ways have drafts still, after one of them was accepted in both
   still : (ls xs : List (Sides T)) (w : ℕ) → w < length ls → w < length xs
       → (v : ℕ) → (IsSome (sides_at ls v).draft → IsSome (sides_at xs v).draft)
       → IsSome (sides_at (set ls w (accepted_sides (sides_at ls w))) v).draft
       → IsSome (sides_at (set xs w (accepted_sides (sides_at xs w))) v).draft
   still ls xs w h k v f s = elim (at_set ls w v (accepted_sides (sides_at ls w)) h) [
-    | inl p ↦ absurd (bare_not _ (ap (λ x. x.draft) p.1) s)
+    | inl p ↦ absurd (some_none _ s (ap (λ x. x.draft) p.1))
     | inr p ↦ elim (at_set xs w v (accepted_sides (sides_at xs w)) k) [
       | inl q ↦ absurd (p.0 q.0)
       | inr q ↦ subst (λ (o : Option (List T)). IsSome o) (sym (ap (λ x. x.draft) q.1))
@@ -51,7 +48,7 @@ module _ {T : Type 0} where
   drafted_more [] ls xs place list e f none within has d = (within, has, tt)
   drafted_more (w ∷ ws) ls xs place list e f none within has d =
       let k : w.0 < length xs = subst (λ n. w.0 < n) (sym e) d.0
-      in let apart : w.0 ≢ place = λ q. bare_not _ none (subst (λ n. IsSome (sides_at ls n).draft) q d.1)
+      in let apart : w.0 ≢ place = λ q. some_none _ (subst (λ n. IsSome (sides_at ls n).draft) q d.1) none
       in (
         k,
         f w.0 apart d.1,
@@ -121,7 +118,7 @@ ready_still ways ls xs place r k f had has = record {
   ]) r.drafted;
   no_others = λ v. elim (cases_eq v place) [
     | inl e ↦ elim (r.no_others v) [
-      | inl q ↦ absurd (bare_not _ q (subst (λ n. IsSome (sides_at ls n).draft) (sym e) had))
+      | inl q ↦ absurd (some_none _ (subst (λ n. IsSome (sides_at ls n).draft) (sym e) had) q)
       | inr q ↦ inr q
     ]
     | inr n ↦ elim (r.no_others v) [

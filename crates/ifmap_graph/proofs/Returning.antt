@@ -1,6 +1,6 @@
 -- Lists stand at their places again, one after another.
-use Rattle.std.proofs.Common.{◌≡◌, ℕ, ◌+◌, ◌<◌, ◌≤◌, List, ◌∷◌, length, get_or, set, drop, refl, ap, ◌∙◌, sym, subst, arith, add-one, drop-cons}
-use Rattle.std.proofs.lemmas.List.{drop-set-lt, drop_all, length-set}
+use Rattle.std.proofs.Common.{◌≡◌, ℕ, ◌+◌, ◌<◌, ◌≤◌, List, ◌∷◌, length, get_or, set, drop, refl, ap, ◌∙◌, sym, subst, arith}
+use Rattle.std.proofs.lemmas.List.{drop-set-lt, drop_all, length-set, drop_more}
 use Rattle.ifmap_graph.specs.Sides.{Sides}
 use Rattle.ifmap_graph.specs.Turning.{AreWithin, restore_each, restored_sides, sides_at}
 
@@ -17,7 +17,7 @@ module _ {T : Type 0} (all : List (ℕ × List T)) (first : List (Sides T)) wher
   module _ (ways : List (ℕ × List T)) (lists : List (Sides T)) (i : ℕ) (h : i < length ways) (g : Returning ways lists i)
       (w : ℕ × List T) where
     here : drop i ways ≡ get_or ways i w ∷ drop (i + 1) ways
-    here = drop-cons ways i w h ∙ ap (λ n. get_or ways i w ∷ drop n ways) (sym (add-one i))
+    here = drop_more ways i w h
 
     now_within : AreWithin (get_or ways i w ∷ drop (i + 1) ways) (length lists)
     now_within = subst (λ ws. AreWithin ws (length lists)) here g.within

@@ -9,13 +9,15 @@ use Rattle.std.specs.Map.{lookup}
 use Rattle.std.specs.Ordering.{is_eq, match_ordering}
 use Rattle.std.specs.declared.cmp.Ordering.{Ordering}
 use Rattle.std.specs.declared.cmp.Ordering.TheVariants.{Less, Equal, Greater}
+use Rattle.std.proofs.lemmas.Map.Keys.{IsDistinct-cons, IsDistinct-head, IsDistinct-tail}
 use Rattle.ifmap_lemmas.specs.Having.{Has}
 use Rattle.ifmap_ident.specs.declared.items.Item.{Item}
 use Rattle.ifmap_ident.specs.Items.{IsCanonItem, item_order}
 use Rattle.ifmap_graph.specs.declared.shelves.Shelf.{Shelf}
 use Rattle.ifmap_graph.specs.Shelved.{IsPlaced, ItemsRise, StoredSide, list_at, row_on, rows_by}
 use Rattle.ifmap_graph.proofs.Finding.{all_inserted, inserted, nothing_rises}
-use Rattle.ifmap_lemmas.specs.Numbers.{is_number}
+use Rattle.ifmap_lemmas.specs.Numbers.{equal_numbers}
+use Rattle.ifmap_graph.proofs.Rising.{to_distinct}
 
 abbrev pub Entries : Type 0
 Entries = List (Item × ℕ)
@@ -23,22 +25,8 @@ Entries = List (Item × ℕ)
 abbrev pub slots_of : Entries → List ℕ
 slots_of es = map (λ e. e.1) es
 
-pub no_slots : IsDistinct nat_eq (slots_of [])
-unfolding IsDistinct
-no_slots = tt
-
 pub nothing_placed : (look : ℕ → Option Shelf) → IsPlaced look []
-nothing_placed look = record { rising = nothing_rises ℕ; canon = tt; live = tt; apart = no_slots }
-
-pub slots_first : (e : Item × ℕ) (es : Entries) → IsDistinct nat_eq (slots_of (e ∷ es)) → AllByRecursion (λ y. nat_eq e.1 y ≡ false)
-    (slots_of es) × IsDistinct nat_eq (slots_of es)
-unfolding IsDistinct
-slots_first e es d = d
-
-pub first_slot : (e : Item × ℕ) (es : Entries) → AllByRecursion (λ y. nat_eq e.1 y ≡ false) (slots_of es) → IsDistinct nat_eq
-    (slots_of es) → IsDistinct nat_eq (slots_of (e ∷ es))
-unfolding IsDistinct
-first_slot e es a d = (a, d)
+nothing_placed look = record { rising = nothing_rises ℕ; canon = tt; live = tt; apart = to_distinct nat_eq [] tt }
 
 out_inserted : (k : ℕ) (es : Entries) (item : Item) (at : ℕ) → AllByRecursion (λ y. nat_eq k y ≡ false) (slots_of es) → nat_eq k at ≡ false
     → AllByRecursion (λ y. nat_eq k y ≡ false) (slots_of (insert_entry item_order es item at))
@@ -58,15 +46,15 @@ turned_tests a b e = grind (arith, nat_tests)
 slots_inserted : (es : Entries) (item : Item) (at : ℕ) → IsDistinct nat_eq (slots_of es) → AllByRecursion (λ y. nat_eq at y ≡ false)
     (slots_of es)
     → IsDistinct nat_eq (slots_of (insert_entry item_order es item at))
-slots_inserted [] item at d a = first_slot (item, at) [] tt d
-slots_inserted (e ∷ es) item at d a = by (item_order item e.0) (slots_inserted es item at (slots_first e es d).1 a.1)
+slots_inserted [] item at d a = IsDistinct-cons nat_eq at [] tt d
+slots_inserted (e ∷ es) item at d a = by (item_order item e.0) (slots_inserted es item at (IsDistinct-tail nat_eq e.1 (slots_of es) d) a.1)
   where
     by : (o : Ordering) → IsDistinct nat_eq (slots_of (insert_entry item_order es item at))
         → IsDistinct nat_eq (slots_of (match_ordering o ((item, at) ∷ e ∷ es) ((e.0, at) ∷ es) (e ∷ insert_entry item_order es item at)))
-    by Less rest = first_slot (item, at) (e ∷ es) a d
-    by Equal rest = first_slot (e.0, at) es a.1 (slots_first e es d).1
-    by Greater rest = first_slot e (insert_entry item_order es item at) (out_inserted e.1 es item at (slots_first e es d).0
-        (turned_tests at e.1 a.0)) rest
+    by Less rest = IsDistinct-cons nat_eq at (slots_of (e ∷ es)) a d
+    by Equal rest = IsDistinct-cons nat_eq at (slots_of es) a.1 (IsDistinct-tail nat_eq e.1 (slots_of es) d)
+    by Greater rest = IsDistinct-cons nat_eq e.1 (slots_of (insert_entry item_order es item at))
+        (out_inserted e.1 es item at (IsDistinct-head nat_eq e.1 (slots_of es) d) (turned_tests at e.1 a.0)) rest
 
 -- a vacant slot is no entry's
 vacant_out : (look : ℕ → Option Shelf) (at : ℕ) (es : Entries) → look at ≡ None → AllByRecursion (λ e. IsSome (look e.1)) es
@@ -74,7 +62,8 @@ vacant_out : (look : ℕ → Option Shelf) (at : ℕ) (es : Entries) → look at
 vacant_out look at [] v a = tt
 vacant_out look at (e ∷ es) v a = (
   elim (cases_Bool (nat_eq at e.1)) [
-    | inl t ↦ let q : IsSome {T = Shelf} None = subst (λ (o : Option Shelf). IsSome o) (ap look (sym (is_number at e.1 t)) ∙ v) a.0 in cc
+    | inl t ↦ let q : IsSome {T = Shelf} None = subst (λ (o : Option Shelf). IsSome o) (ap look (sym (equal_numbers at e.1 t))
+        ∙ v) a.0 in cc
     | inr t ↦ t
   ],
   vacant_out look at es v a.1,

@@ -5,6 +5,8 @@ use Rattle.std.proofs.lemmas.List.{length-map}
 use Rattle.std.specs.BTreeMap.{is_at}
 use Rattle.std.specs.Ordering.{is_eq}
 use Rattle.std.specs.declared.cmp.Ordering.TheVariants.{Equal}
+use Rattle.std.proofs.lemmas.Simd.{map-map}
+use Rattle.std.specs.Cmp.{Equal-is}
 use Rattle.slab.specs.Slab.{get}
 use Rattle.ifmap_lemmas.specs.Having.{Has}
 use Rattle.ifmap_ident.specs.declared.identifiers.Identifier.{Identifier}
@@ -30,13 +32,11 @@ use Rattle.ifmap_graph.specs.Sides.{Sides, next, now}
 use Rattle.ifmap_graph.specs.Stays.{HasSameShelf}
 use Rattle.ifmap_graph.specs.Turning.{AreDrafted, AreWithin, NoOthers, accept_each, backs, restore_each}
 use Rattle.ifmap_graph.specs.Waits.{times_in, waits_on}
-use Rattle.ifmap_graph.proofs.Accepting.{maps_join}
 use Rattle.ifmap_graph.proofs.Backs.{links_stay}
 use Rattle.ifmap_graph.proofs.Bare.{list_bare, no_draft}
 use Rattle.ifmap_graph.proofs.Finding.{absent, found}
 use Rattle.ifmap_graph.proofs.Graphs.{graph_is}
 use Rattle.ifmap_graph.proofs.Insides.{rows_shown}
-use Rattle.ifmap_graph.proofs.Ordered.{equal_is}
 use Rattle.ifmap_graph.proofs.Seeing.{links_by_items, seen_of, stays_there}
 use Rattle.ifmap_graph.proofs.Settled.{waits_shown}
 use Rattle.ifmap_graph.proofs.Turns.{backs_within, gone_again, same_length}
@@ -48,7 +48,7 @@ stands_again : (rows : List Attachment) (items : List Item) (x : Item) (before :
     → stand_each items (map (λ i. stored_on i rows) items) x before ≡ stored_on x rows
 stands_again rows [] x before f = f refl
 stands_again rows (i ∷ is) x before f = elim (cases_Bool (is_at (item_order i) x)) [
-  | inl t ↦ rw t (stands_again rows is x (stored_on i rows) (λ e. stored_tied i x rows (equal_is (item_order i x) t)))
+  | inl t ↦ rw t (stands_again rows is x (stored_on i rows) (λ e. stored_tied i x rows ((Equal-is (item_order i x)).0 t)))
   | inr n ↦ rw n (stands_again rows is x before (λ e. f (rw n (omega (arith, e)))))
 ]
 
@@ -93,7 +93,7 @@ module _ (names : Holdings Identifier) (s t : Shelves) (links moved : List (Side
   same_items = ap (λ p. items_changed p.changes) plan
 
   lists_are : result.lists ≡ map (λ i. stored_on i before) items
-  lists_are = lists ∙ sym (maps_join (λ i. stored_on i before) (λ (c : ItemChange). c.item) ready.plan.changes)
+  lists_are = lists ∙ sym (map-map (λ i. stored_on i before) (λ (c : ItemChange). c.item) ready.plan.changes)
 
   -- what is stored now on an item of none of these
   kept : (x : Item) → times_in items x ≡ 0

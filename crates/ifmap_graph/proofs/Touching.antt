@@ -4,9 +4,9 @@ use Rattle.std.proofs.lemmas.Bool.{cases_eq}
 use Rattle.std.proofs.lemmas.Bool.Decides.{nat_tests}
 use Rattle.std.proofs.lemmas.List.{append-nil, take_all}
 use Rattle.std.proofs.lemmas.List.Folds.{list_any_more}
-use Rattle.std.specs.List.{Contains, cons_option, filter, filter_map, list_any}
+use Rattle.std.specs.List.{Contains, cons_option, filter_map, list_any}
 use Rattle.slab.specs.Slab.{Slab, get}
-use Rattle.ifmap_lemmas.specs.Having.{Has, from_has, has_any, has_from}
+use Rattle.ifmap_lemmas.specs.Having.{Has, from_has, has_any, has_from, has_all}
 use Rattle.ifmap_view.specs.declared.views.LinkSeen.{LinkSeen}
 use Rattle.ifmap_graph.specs.declared.shelves.Shelf.{Shelf}
 use Rattle.ifmap_graph.specs.Joined.{joined_pair}
@@ -18,14 +18,15 @@ use Rattle.ifmap_graph.proofs.Joining.{one_more}
 use Rattle.ifmap_graph.proofs.Links.{far_first, far_second, is_far}
 use Rattle.ifmap_graph.proofs.Shelving.{none_is}
 use Rattle.ifmap_lemmas.specs.Deciding.{or_parts}
+use Rattle.ifmap_lemmas.specs.Filters.{filter_all}
 
 nothing_seen : (b : Bool) (at : ℕ) (o : Option ℕ) → o ≡ None → cond b (seen_at at o) None ≡ None
 nothing_seen false at o e = refl
 nothing_seen true at o e = ap (seen_at at) e
 
-filter_all : (p : LinkSeen → Bool) (xs : List LinkSeen) → ((x : LinkSeen) → Has xs x → p x ≡ true) → filter p xs ≡ xs
-filter_all p [] f = refl
-filter_all p (x ∷ xs) f = let t : p x ≡ true = f x (inl refl) in rw t (ap (λ l. x ∷ l) (filter_all p xs (λ y h. f y (inr h))))
+-- there are as many places, and the links stay, whichever step comes first
+pub kept_both : (first mid later : List (Sides LinkSeen)) → KeepsLinks first mid → KeepsLinks mid later → KeepsLinks first later
+kept_both first mid later a b = record { now = λ v. b.now v ∙ a.now v; long = b.long ∙ a.long }
 
 module _ (slots : Slab Shelf) where
   pub none_brought : (v at : ℕ) → joins slots v at ≡ false → brought_link slots v at ≡ None
@@ -119,9 +120,6 @@ module _ (slots : Slab Shelf) where
       → ((v : ℕ) → (sides_at first v).draft ≡ None) → Touching first touched ways first 0
   touching first touched ways r bare = record { ready = r; kept = record { now = λ v. refl; long = refl }; drafts = λ v. bare v }
 
-  pub keeps_on : (first links later : List (Sides LinkSeen)) → KeepsLinks first links → KeepsLinks links later → KeepsLinks first later
-  keeps_on first links later a b = record { now = λ v. b.now v ∙ a.now v; long = b.long ∙ a.long }
-
   pub touches_on : (first links later : List (Sides LinkSeen)) (touched : List ℕ) (ways others : List (ℕ × List LinkSeen)) (i : ℕ)
       → i < length touched
       → Touching first touched ways links i → AreExactlyDrafted others later → KeepsLinks links later
@@ -129,7 +127,7 @@ module _ (slots : Slab Shelf) where
       → Touching first touched others later (i + 1)
   touches_on first links later touched ways others i h t ready kept drafts = record {
     ready = ready;
-    kept = keeps_on first links later t.kept kept;
+    kept = kept_both first links later t.kept kept;
     drafts = λ v.
         drafts v
         ∙ ap (λ d. cond (joins slots v (get_or touched i 0))
@@ -163,7 +161,8 @@ module _ (slots : Slab Shelf) where
         ≡ links_kept slots (links v) ++ filter_map (brought_link slots v) touched
     by_any v true e = refl
     by_any v false e =
-        sym (append-nil (links v)) ∙ ap (λ l. l ++ []) (sym (filter_all (λ l. full_next slots l.at) (links v) (λ seen h. stays v seen e h)))
+        sym (append-nil (links v)) ∙ ap (λ l. l ++ []) (sym (filter_all (λ l. full_next slots l.at) (links v)
+        (has_all (λ l. full_next slots l.at ≡ true) (links v) (λ seen h. stays v seen e h))))
         ∙ ap (λ l. links_kept slots (links v) ++ l) (sym (nothing_brought v touched e))
 
     pub drafted_links : (v : ℕ) → unwrap_or (draft_of slots touched v (links v)) (links v)

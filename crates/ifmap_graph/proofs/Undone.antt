@@ -1,14 +1,13 @@
 -- A change that was made is taken back: what a way back says is stored and linked, and all parts are in order.
-use Rattle.std.proofs.Common.{◌≡◌, ℕ, zero, suc, ◌+◌, ◌<◌, Option, Some, None, IsSome, List, [], ◌∷◌, length, nat_eq, refl, ap, ◌∙◌, sym, subst, inl, inr, arith}
+use Rattle.std.proofs.Common.{◌≡◌, ℕ, zero, suc, ◌<◌, Option, Some, None, IsSome, List, [], ◌∷◌, length, nat_eq, refl, ap, ◌∙◌, sym, subst, inl, inr, arith}
 use Rattle.std.proofs.lemmas.Cmp.{tied_itself}
 use Rattle.std.specs.List.{AllByRecursion, Contains, IsDistinct}
 use Rattle.slab.specs.Slab.{get}
 use Rattle.ifmap_lemmas.specs.Having.{Has, all_has}
 use Rattle.ifmap_ident.specs.declared.identifiers.Identifier.{Identifier}
 use Rattle.ifmap_ident.specs.declared.items.Item.{Item}
-use Rattle.ifmap_ident.specs.Identifiers.{identifier_order}
 use Rattle.ifmap_plans.specs.Lists.{IsList}
-use Rattle.ifmap_pool.specs.Holdings.{Holdings, IsHeld}
+use Rattle.ifmap_pool.specs.Holdings.{Holdings}
 use Rattle.ifmap_view.specs.declared.attachments.Attachment.{Attachment}
 use Rattle.ifmap_view.specs.declared.views.LinkSeen.{LinkSeen}
 use Rattle.ifmap_view.specs.Rows.{stored_on}
@@ -19,9 +18,8 @@ use Rattle.ifmap_graph.specs.Back.{AreLinks, IsUndoTo, stand_each}
 use Rattle.ifmap_graph.specs.Drafted.{AreBare, NoDraft, ends_at}
 use Rattle.ifmap_graph.specs.Held.{Held, IsInside, IsSide, links_at}
 use Rattle.ifmap_graph.specs.Linked.{ats}
-use Rattle.ifmap_graph.specs.Named.{named_in}
 use Rattle.ifmap_graph.specs.Out.{items_changed}
-use Rattle.ifmap_graph.specs.Seen.{AreAwaited, IsStill, KeepsOwn, links_now, rows_now}
+use Rattle.ifmap_graph.specs.Seen.{AreAwaited, IsStill, links_now, rows_now}
 use Rattle.ifmap_graph.specs.Shelved.{IsPlaced, list_at, slot_of_item, rows_by, rows_on_side}
 use Rattle.ifmap_graph.specs.Sides.{Sides, next, now}
 use Rattle.ifmap_graph.specs.Turning.{restore_each, sides_at}
@@ -31,7 +29,7 @@ use Rattle.ifmap_graph.proofs.Bare.{list_bare}
 use Rattle.ifmap_graph.proofs.Finding.{found}
 use Rattle.ifmap_graph.proofs.Following.{entry_hits}
 use Rattle.ifmap_graph.proofs.Graphs.{graph_is}
-use Rattle.ifmap_graph.proofs.Insides.{named_shown, rows_shown}
+use Rattle.ifmap_graph.proofs.Insides.{rows_shown}
 use Rattle.ifmap_graph.proofs.Lessening.{waited_there}
 use Rattle.ifmap_graph.proofs.Moved.{inside_anew, placed_still, side_moved, used_still}
 use Rattle.ifmap_graph.proofs.OnItems.{list_on, rows_same}
@@ -144,15 +142,6 @@ all_there names s links items a = by items (λ x h. h)
 -- the same of shelves that stay in their places
 module _ (names : Holdings Identifier) (s t : Shelves) (links moved : List (Sides LinkSeen)) (places : t.places ≡ s.places)
     (ends : (at : ℕ) → ends_at t at ≡ ends_at s at) (waits : (x : Item) → waits_on t x ≡ waits_on s x) where
-  pub own_stays : KeepsOwn (held_of names s links) (held_of names t moved)
-  own_stays a own h =
-      subst (λ (n : ℕ). IsHeld identifier_order names a (n + own))
-      (named_shown (get s.slots) s.places.entries a ∙ sym (ap (λ p. named_in p.entries a) places)
-      ∙ sym (named_shown (get t.slots) t.places.entries a)) h
-
-  pub waits_stay_seen : (items : List Item) → AreAwaited items (held_of names s links) → AreAwaited items (held_of names t moved)
-  waits_stay_seen items a x = omega (arith, a x, waits_shown names s links x, waits_shown names t moved x, waits x)
-
   module _ (is : IsInside names (get s.slots) s.places.entries links) (bare : AreBare t) (none : (v : ℕ) → (sides_at links v).draft ≡ None)
       (u : Undo) (rows : List Attachment) (seen : ℕ → List LinkSeen) (back : IsUndoTo u rows seen (held_of names s links))
       (stands : (x : Item) → stored_on x (rows_on_side now t) ≡ stand_each (items_changed u.plan.changes) u.lists x

@@ -3,6 +3,7 @@ use Rattle.std.proofs.Common.{◌≡◌, ◌⊎◌, ℕ, zero, suc, ◌+◌, ◌
 use Rattle.std.proofs.lemmas.Bool.{cases_Bool}
 use Rattle.std.specs.List.{AllByRecursion}
 use Rattle.std.specs.Ordering.{is_eq}
+use Rattle.std.specs.Cmp.{Equal-is}
 use Rattle.slab.specs.Slab.{get}
 use Rattle.ifmap_lemmas.specs.Having.{Has, has_joined, has_map, joined_has, map_has, all_has, first_of}
 use Rattle.ifmap_ident.specs.declared.identifiers.Identifier.{Identifier}
@@ -31,7 +32,6 @@ use Rattle.ifmap_graph.proofs.Finding.{found}
 use Rattle.ifmap_graph.proofs.Following.{entry_hits}
 use Rattle.ifmap_graph.proofs.Insides.{named_shown, names_by, rows_shown}
 use Rattle.ifmap_graph.proofs.Lean.{lean_from}
-use Rattle.ifmap_graph.proofs.Ordered.{equal_is}
 use Rattle.ifmap_graph.proofs.Own.{key_told, live_key}
 use Rattle.ifmap_graph.proofs.Settled.{held_of, waits_shown}
 use Rattle.ifmap_ident.specs.SameLaws.{BytesTellIdentifiers}
@@ -49,7 +49,7 @@ named_entry {X} (e ∷ es) a h = by (named_by e.0 a) refl (λ some. named_entry 
 -- it is the identifier itself, where elements gave both
 once_is : (b a : Identifier) → BytesTellIdentifiers → IsIdentifier b → IsIdentifier a → 0 < once identifier_order b a → b ≡ a
 once_is b a tells is other h = elim (cases_Bool (is_eq (identifier_order b a))) [
-  | inl t ↦ tells b a is other (equal_alike b a (equal_is (identifier_order b a) t))
+  | inl t ↦ tells b a is other (equal_alike b a ((Equal-is (identifier_order b a)).0 t))
   | inr f ↦ let none = rw f at h in absurd (omega (arith, none))
 ]
 

@@ -3,9 +3,8 @@
 -- 2. So a handle leads to what is stored on its link, and a number's list names only numbers with which it has a link.
 -- 3. What is stored on a link stands at a slot that joins its two numbers, so the list names each of them.
 -- 4. With that the laws of a view hold, where bytes tell the identifiers of elements apart.
-use Rattle.std.proofs.Common.{◌≡◌, ◌≢◌, ℕ, true, false, Option, Some, None, List, [], ◌∷◌, refl, ap, ◌∙◌, sym, subst, inl, inr, nat_eq, arith}
-use Rattle.std.proofs.lemmas.Bool.{cases_Bool}
-use Rattle.std.proofs.lemmas.Bool.Decides.{nat_tests}
+use Rattle.std.proofs.Common.{◌≡◌, ◌≢◌, ℕ, true, false, Option, Some, None, List, [], ◌∷◌, refl, ap, ◌∙◌, sym, subst, inl, inr, nat_eq}
+use Rattle.std.proofs.lemmas.Bool.{cases_Bool, eqb-false}
 use Rattle.std.proofs.lemmas.Option.{same_Some}
 use Rattle.std.specs.BTreeMap.{is_at}
 use Rattle.std.specs.List.{AllByRecursion, Contains, IsDistinct}
@@ -13,8 +12,9 @@ use Rattle.std.specs.Map.{lookup}
 use Rattle.std.specs.Ordering.{ordering_reverse}
 use Rattle.std.specs.declared.cmp.Ordering.{Ordering}
 use Rattle.std.specs.declared.cmp.Ordering.TheVariants.{Less, Equal, Greater}
+use Rattle.std.proofs.lemmas.Map.Keys.{IsDistinct-cons, IsDistinct-head, IsDistinct-tail}
 use Rattle.ifmap_lemmas.specs.Having.{Has, from_has, has_from, has_map, map_has, all_has}
-use Rattle.ifmap_lemmas.specs.Numbers.{is_number}
+use Rattle.ifmap_lemmas.specs.Numbers.{equal_numbers}
 use Rattle.ifmap_ident.specs.declared.identifiers.Identifier.{Identifier}
 use Rattle.ifmap_ident.specs.declared.items.Item.{Item}
 use Rattle.ifmap_ident.specs.declared.items.Item.TheVariants.{One, Pair}
@@ -33,31 +33,16 @@ use Rattle.ifmap_graph.proofs.Alike.{Alike, one_tied, order_alike, pair_less, pa
 use Rattle.ifmap_graph.proofs.Following.{entry_hits, lookup_tied, looked_up, stands}
 use Rattle.ifmap_graph.proofs.Finding.{absent, found}
 use Rattle.ifmap_ident.specs.SameLaws.{turned_order, BytesTellIdentifiers}
-
-never_other : (n : ℕ) → nat_eq n n ≡ false → ⊥
-never_other n e = grind (arith, nat_tests)
-
--- links that name each slot once, and of which two with one other end have one slot, name each other end once
-distinct_parts : (n : ℕ) (ns : List ℕ) → IsDistinct nat_eq (n ∷ ns) → AllByRecursion (λ y. nat_eq n y ≡ false) ns × IsDistinct nat_eq ns
-unfolding IsDistinct
-distinct_parts n ns d = d
-
-distinct_whole : (n : ℕ) (ns : List ℕ) → AllByRecursion (λ y. nat_eq n y ≡ false) ns → IsDistinct nat_eq ns → IsDistinct nat_eq (n ∷ ns)
-unfolding IsDistinct
-distinct_whole n ns a d = (a, d)
-
-distinct_nothing : IsDistinct nat_eq []
-unfolding IsDistinct
-distinct_nothing = tt
+use Rattle.ifmap_graph.proofs.Rising.{to_distinct}
 
 others_differ : (l : LinkSeen) (ls : List LinkSeen) → AllByRecursion (λ y. nat_eq l.at y ≡ false) (ats ls)
     → ((m : LinkSeen) → Has ls m → l.other ≡ m.other → l.at ≡ m.at) → AllByRecursion (λ y. nat_eq l.other y ≡ false) (others ls)
 others_differ l [] a f = tt
 others_differ l (m ∷ ms) a f = (
   elim (cases_Bool (nat_eq l.other m.other)) [
-    | inl t ↦ let same : l.at ≡ m.at = f m (inl refl) (is_number l.other m.other t)
+    | inl t ↦ let same : l.at ≡ m.at = f m (inl refl) (equal_numbers l.other m.other t)
         in let q : nat_eq l.at l.at ≡ false = subst (λ y. nat_eq l.at y ≡ false) (sym same) a.0
-        in absurd (never_other l.at q)
+        in absurd (eqb-false l.at l.at q refl)
     | inr t ↦ t
   ],
   others_differ l ms a.1 (λ x h. f x (inr h)),
@@ -65,11 +50,11 @@ others_differ l (m ∷ ms) a f = (
 
 distinct_by : (ls : List LinkSeen) → IsDistinct nat_eq (ats ls) → ((l m : LinkSeen) → Has ls l → Has ls m → l.other ≡ m.other → l.at ≡ m.at)
     → IsDistinct nat_eq (others ls)
-distinct_by [] d f = distinct_nothing
+distinct_by [] d f = to_distinct nat_eq [] tt
 distinct_by (l ∷ ls) d f =
-    let p = distinct_parts l.at (ats ls) d
-    in distinct_whole l.other (others ls) (others_differ l ls p.0 (λ m h. f l m (inl refl) (inr h)))
-    (distinct_by ls p.1 (λ x y h k. f x y (inr h) (inr k)))
+    IsDistinct-cons nat_eq l.other (others ls)
+    (others_differ l ls (IsDistinct-head nat_eq l.at (ats ls) d) (λ m h. f l m (inl refl) (inr h)))
+    (distinct_by ls (IsDistinct-tail nat_eq l.at (ats ls) d) (λ x y h k. f x y (inr h) (inr k)))
 
 module _ (list_of : ℕ → List Stored) (entries : List (Item × ℕ)) (id_at : ℕ → Option Identifier) (joins : ℕ → Option (ℕ × ℕ))
     (links : ℕ → List LinkSeen)

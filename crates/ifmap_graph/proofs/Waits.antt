@@ -1,6 +1,6 @@
 -- The items of a change are waited for, one after another.
 use Rattle.std.proofs.Common.{◌≡◌, ℕ, ◌+◌, ◌-◌, ◌^◌, ◌<◌, ◌≤◌, false, Option, IsSome, List, [], ◌∷◌, ◌++◌, length, take, drop, refl, ap, ◌∙◌, sym, subst, add-one, get_or, arith}
-use Rattle.std.proofs.lemmas.List.{take_all}
+use Rattle.std.proofs.lemmas.List.{take_all, drop_more}
 use Rattle.std.proofs.Math.Seq.{take-suc}
 use Rattle.std.specs.BTreeMap.{is_at}
 use Rattle.std.specs.List.{AllByRecursion, IsDistinct}
@@ -12,10 +12,9 @@ use Rattle.ifmap_graph.specs.Drafted.{ends_at}
 use Rattle.ifmap_graph.specs.Shelved.{AreShelved, HasDraft, slot_of_item, rows_on_side}
 use Rattle.ifmap_graph.specs.Sides.{next, now}
 use Rattle.ifmap_graph.specs.Waits.{WaitsFor, waits_on}
-use Rattle.ifmap_graph.proofs.Accepting.{apart_parts}
-use Rattle.ifmap_graph.proofs.Marks.{here_of}
 use Rattle.ifmap_graph.proofs.Waited.{times_append}
 use Rattle.ifmap_lemmas.specs.Members.{all_last}
+use Rattle.ifmap_graph.proofs.Accepting.{apart_after}
 
 -- so often at most, that once more can be counted
 abbrev pub Few : Shelves → Item → Type 0
@@ -54,7 +53,7 @@ module _ (items : List Item) (first : Shelves) where
 
   module _ (s : Shelves) (i : ℕ) (x : Item) (h : i < length items) (is : get_or items i x ≡ x) (g : Waiting s i) where
     here : drop i items ≡ x ∷ drop (i + 1) items
-    here = here_of items i x h ∙ ap (λ y. y ∷ drop (i + 1) items) is
+    here = drop_more items i x h ∙ ap (λ y. y ∷ drop (i + 1) items) is
 
     pub has_place : IsSome (slot_of_item s x)
     has_place =
@@ -63,9 +62,6 @@ module _ (items : List Item) (first : Shelves) where
 
     pub is_few : Few s x
     is_few = (subst (AllByRecursion (Few s)) here g.few).0
-
-    apart_here : AllByRecursion (λ y. same_item x y ≡ false) (drop (i + 1) items) × IsDistinct same_item (drop (i + 1) items)
-    apart_here = apart_parts x (drop (i + 1) items) (subst (λ l. IsDistinct same_item l) here g.apart)
 
     module _ (t : Shelves) (shelved : AreShelved t) (same : rows_on_side now t ≡ rows_on_side now s)
         (other : rows_on_side next t ≡ rows_on_side next s)
@@ -89,8 +85,8 @@ module _ (items : List Item) (first : Shelves) where
             (ap (λ y. take i items ++ y ∷ []) (sym is) ∙ sym (take-suc items i x h) ∙ ap (λ n. take n items) (sym (add-one i)))
             (λ y. omega (arith, waits y, g.waits y, times_append (take i items) (x ∷ []) y));
         there = (subst (AllByRecursion (λ x. IsSome (slot_of_item first x))) here g.there).1;
-        few = still_few (drop (i + 1) items) apart_here.0 (subst (AllByRecursion (Few s)) here g.few).1;
-        apart = apart_here.1;
+        few = still_few (drop (i + 1) items) (apart_after items i x here g.apart).0 (subst (AllByRecursion (Few s)) here g.few).1;
+        apart = (apart_after items i x here g.apart).1;
         drafts = λ y d. g.drafts y (drafts y d);
         kept = λ y d. kept y (g.kept y d);
         ends = λ at. ends at ∙ g.ends at;

@@ -12,7 +12,7 @@ use Rattle.ifmap_graph.specs.Drafted.{ends_at}
 use Rattle.ifmap_graph.specs.Held.{Held}
 use Rattle.ifmap_graph.specs.Named.{named_in}
 use Rattle.ifmap_graph.specs.Out.{items_changed}
-use Rattle.ifmap_graph.specs.Seen.{AreAwaited, KeepsOwn, rows_now, waits_in}
+use Rattle.ifmap_graph.specs.Seen.{AreAwaited, KeepsOwn, rows_now}
 use Rattle.ifmap_graph.specs.Shelved.{rows_on_side}
 use Rattle.ifmap_graph.specs.Sides.{Sides, now}
 use Rattle.ifmap_graph.specs.Stays.{HasSameShelf, StayPlaced}
@@ -23,25 +23,24 @@ use Rattle.ifmap_graph.proofs.Insides.{named_shown, rows_shown}
 use Rattle.ifmap_graph.proofs.Seeing.{seen_of, stays_there}
 use Rattle.ifmap_graph.proofs.Settled.{held_of, waits_shown}
 
+-- shelves that stay in their places
+module _ (names : Holdings Identifier) (s t : Shelves) (links moved : List (Sides LinkSeen)) (places : t.places ≡ s.places)
+    (ends : (at : ℕ) → ends_at t at ≡ ends_at s at) (waits : (x : Item) → waits_on t x ≡ waits_on s x) where
+  pub own_stays : KeepsOwn (held_of names s links) (held_of names t moved)
+  own_stays a own h =
+      subst (λ (n : ℕ). IsHeld identifier_order names a (n + own))
+      (named_shown (get s.slots) s.places.entries a ∙ sym (ap (λ p. named_in p.entries a) places)
+      ∙ sym (named_shown (get t.slots) t.places.entries a)) h
+
+  pub waits_stay_seen : (items : List Item) → AreAwaited items (held_of names s links) → AreAwaited items (held_of names t moved)
+  waits_stay_seen items a x = omega (arith, a x, waits_shown names s links x, waits_shown names t moved x, waits x)
+
 module _ (names : Holdings Identifier) (s t : Shelves) (links later : List (Sides LinkSeen)) (places : t.places ≡ s.places)
     (ends : (at : ℕ) → ends_at t at ≡ ends_at s at) (waits : (x : Item) → waits_on t x ≡ waits_on s x)
     (rows : rows_on_side now t ≡ rows_on_side now s)
     (kept : KeepsLinks links later) where
   pub written_now : rows_now (held_of names t later) ≡ rows_now (held_of names s links)
   written_now = rows_shown now (get t.slots) t.places.entries ∙ rows ∙ sym (rows_shown now (get s.slots) s.places.entries)
-
-  pub written_own : KeepsOwn (held_of names s links) (held_of names t later)
-  written_own a own h =
-      let same : named_in (held_of names s links).shelves a ≡ named_in (held_of names t later).shelves a
-      = named_shown (get s.slots) s.places.entries a ∙ ap (λ p. named_in p.entries a) (sym places)
-      ∙ sym (named_shown (get t.slots) t.places.entries a)
-      in subst (λ (n : ℕ). IsHeld identifier_order names a (n + own)) same h
-
-  written_waited : (x : Item) → waits_in (held_of names t later) x ≡ waits_in (held_of names s links) x
-  written_waited x = waits_shown names t later x ∙ waits x ∙ sym (waits_shown names s links x)
-
-  pub written_waits : (items : List Item) → AreAwaited items (held_of names s links) → AreAwaited items (held_of names t later)
-  written_waits items a x = omega (arith, a x, written_waited x)
 
   there : (x : Item) → HasSameShelf (held_of names s links) (held_of names t later) x
   there x =
@@ -54,7 +53,7 @@ module _ (names : Holdings Identifier) (s t : Shelves) (links later : List (Side
   pub written_backs : KeepsBacks (held_of names s links) (held_of names t later)
   written_backs =
       keeps_backs (held_of names s links) (held_of names t later) written_now kept.now (omega (arith, kept.long)) written_stay
-      (λ rest a. written_waits rest a)
+      (λ rest a. waits_stay_seen names s t links later places ends waits rest a)
 
 -- ways back stay beside these items, where they stay at first, and beside them then
 pub first_backs : (items : List Item) (old mid new : Held) → ((rest : List Item) → AreAwaited rest old → AreAwaited rest mid) → KeepsBacks

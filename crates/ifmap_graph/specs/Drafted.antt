@@ -10,6 +10,7 @@ use Rattle.ifmap_graph.specs.declared.ends.Ends.{Ends}
 use Rattle.ifmap_graph.specs.declared.shelves.Shelf.{Shelf}
 use Rattle.ifmap_graph.specs.declared.shelves.Shelves.{Shelves}
 use Rattle.ifmap_graph.specs.Shelved.{HasDraft}
+use Rattle.ifmap_graph.specs.Waits.{waits_on}
 
 -- the numbers that the shelf of a slot has
 abbrev pub ends_at : Shelves → ℕ → Option Ends
@@ -33,3 +34,9 @@ pub record AreOut (items : List Item) (s : Shelves) : Type 0 where
   pub drafted : AllByRecursion (HasDraft s) items
   pub within : DraftsWithin items s
   pub apart : IsDistinct same_item items
+
+-- each shelf stays in its slot with its numbers, and each item is waited for as often
+pub record StayInPlace (old new : Shelves) : Type 0 where
+  pub ends : (at : ℕ) → ends_at new at ≡ ends_at old at
+  pub waits : (x : Item) → waits_on new x ≡ waits_on old x
+  pub places : new.places ≡ old.places

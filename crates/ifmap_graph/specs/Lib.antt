@@ -20,3 +20,8 @@ pub mod Stays
 pub mod Releasing
 pub mod Back
 pub mod NumberLaws
+-- What is passed on to the crates above.
+pub mod ifmap_plans
+pub mod ifmap_pool
+pub mod ifmap_rows
+pub mod ifmap_view

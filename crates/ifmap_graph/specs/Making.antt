@@ -1,20 +1,34 @@
 -- A change comes to be out, and what is left where it does not.
-use Rattle.std.specs.Prelude.{◌≡◌, ◌≤◌, ℕ, List, [], Some, None, length}
+use Rattle.std.specs.Prelude.{◌≡◌, ◌≤◌, ℕ, List, [], Some, None, length, IsSome}
+use Rattle.std.specs.List.{AllByRecursion}
 use Rattle.ifmap_ident.specs.declared.identifiers.Identifier.{Identifier}
 use Rattle.ifmap_ident.specs.declared.items.Item.{Item}
 use Rattle.ifmap_ident.specs.Identifiers.{identifier_order}
 use Rattle.ifmap_plans.specs.declared.plans.ItemChange.{ItemChange}
-use Rattle.ifmap_plans.specs.Plans.{IsAfter}
-use Rattle.ifmap_pool.specs.Holdings.{Names}
+use Rattle.ifmap_plans.specs.Plans.{IsAfter, Fits}
+use Rattle.ifmap_pool.specs.Holdings.{Names, Holdings}
 use Rattle.ifmap_view.specs.declared.views.LinkSeen.{LinkSeen}
 use Rattle.ifmap_graph.specs.Bringing.{AreInside, BringsShelves, HasOwn, IsOther, Parts}
 use Rattle.ifmap_graph.specs.Drafted.{AreBare, AreOut, ends_at}
 use Rattle.ifmap_graph.specs.Out.{items_changed}
 use Rattle.ifmap_graph.specs.Shelved.{slot_of_item, rows_on_side}
-use Rattle.ifmap_graph.specs.Sides.{next, now}
+use Rattle.ifmap_graph.specs.Sides.{next, now, Sides}
 use Rattle.ifmap_graph.specs.Touched.{AreExactlyDrafted}
 use Rattle.ifmap_graph.specs.Turning.{sides_at}
 use Rattle.ifmap_graph.specs.Waits.{WaitsFor}
+use Rattle.slab.specs.Slab.{get}
+use Rattle.ifmap_graph.specs.Held.{IsInside}
+use Rattle.ifmap_graph.specs.declared.shelves.Shelves.{Shelves}
+
+-- a change can be drafted: it fits, its items have shelves, and nothing has a draft
+pub record CanBeDrafted (shelves : Shelves) (links : List (Sides LinkSeen)) (ways : List (ℕ × List LinkSeen)) (changes : List ItemChange)
+    : Type 0 where
+  pub inside : (names : Holdings Identifier) × IsInside names (get shelves.slots) shelves.places.entries links
+  pub bare : AreBare shelves
+  pub none : (v : ℕ) → (sides_at links v).draft ≡ None
+  pub ready : AreExactlyDrafted ways links
+  pub there : AllByRecursion (λ x. IsSome (slot_of_item shelves x)) (items_changed changes)
+  pub fits : Fits (rows_on_side now shelves) changes
 
 -- a change is out, with these ways: its drafts stand, its items are waited for once more, and what is there stays
 pub record IsMade (changes : List ItemChange) (ways : List (ℕ × List LinkSeen)) (old new : Parts) : Type 0 where

@@ -50,14 +50,14 @@ module _ (slots : Slab Shelf) where
   ArePairs n = (at v w : ℕ) → joined_pair (get slots at) ≡ Some (v, w) → (v < n) × (w < n) × (v ≢ w)
 
 -- whether one of two is true, and not both
-abbrev pub differ : Bool → Bool → Bool
-differ true b = not b
-differ false b = b
+abbrev pub exactly_one : Bool → Bool → Bool
+exactly_one true b = not b
+exactly_one false b = b
 
 -- a slot that comes to be full or empty
 abbrev pub flip_in : Slab Shelf → Option ℕ → Option ℕ
 flip_in slots None = None
-flip_in slots (Some at) = cond (differ (full_now slots at) (full_next slots at)) (Some at) None
+flip_in slots (Some at) = cond (exactly_one (full_now slots at) (full_next slots at)) (Some at) None
 
 -- the slot of an item, where it does
 abbrev pub flip_of : Shelves → Item → Option ℕ

@@ -10,8 +10,9 @@ ghost use Rattle.ifmap_plans.specs.Lists.{next_on};
 ghost use Rattle.ifmap_plans.specs.Plans.{Fits, IsAfter};
 ghost use Rattle.ifmap_pool.specs.Holdings.{Holdings};
 ghost use Rattle.ifmap_view.specs.Rows.{stored_on};
-ghost use Rattle.ifmap_graph.specs.Drafted.{AreBare, AreOut, DraftsWithin, ends_at};
+ghost use Rattle.ifmap_graph.specs.Drafted.{AreBare, AreOut, DraftsWithin, StayInPlace, ends_at};
 ghost use Rattle.ifmap_graph.specs.Held.{IsInside};
+ghost use Rattle.ifmap_graph.specs.Making.{CanBeDrafted};
 ghost use Rattle.ifmap_graph.specs.Out.{items_changed};
 ghost use Rattle.ifmap_graph.specs.Shelved.{AreShelved, HasDraft, slot_of_item, rows_on_side};
 ghost use Rattle.ifmap_graph.specs.Sides.{next, now};
@@ -44,9 +45,7 @@ fn draft_one(shelves: &mut Shelves, alloc: Global, change: &ItemChange) -> Resul
         → HasDraft shelves.old x ⊎ (is_at (item_order change.now.item) x ≡ true) }
     ensures kept { (x : Item) → HasDraft shelves.old x → HasDraft shelves.new x }
     ensures drafted { OnOk result (HasDraft shelves.new change.now.item) }
-    ensures ends { (at : ℕ) → ends_at shelves.new at ≡ ends_at shelves.old at }
-    ensures waits { (x : Item) → waits_on shelves.new x ≡ waits_on shelves.old x }
-    ensures places { shelves.new.places ≡ shelves.old.places }
+    ensures stays { StayInPlace shelves.old shelves.new }
 {
     let list = shelves.make_next(alloc, change)?;
     shelves.propose(&change.item, list);
@@ -71,9 +70,7 @@ pub(crate) fn draft_changes(
         (IsAfter changes.now (rows_on_side now shelves.old) (rows_on_side next shelves.new)) }
     ensures within { DraftsWithin (items_changed changes.now) shelves.new }
     ensures out { OnOk result (AreOut (items_changed changes.now) shelves.new) }
-    ensures ends { (at : ℕ) → ends_at shelves.new at ≡ ends_at shelves.old at }
-    ensures waits { (x : Item) → waits_on shelves.new x ≡ waits_on shelves.old x }
-    ensures places { shelves.new.places ≡ shelves.old.places }
+    ensures stays { StayInPlace shelves.old shelves.new }
 {
     for change in changes {
         draft_one(shelves, alloc, change)?;
@@ -90,14 +87,7 @@ pub(crate) fn draft_plan(
     changes: &[ItemChange],
     ways: &mut Vec<Way<LinkSeen>>,
 ) -> Result<(), NoMemory>
-    requires inside { (names : Holdings Identifier) × IsInside names (get shelves.old.slots)
-        shelves.old.places.entries links.old.items }
-    requires bare { AreBare shelves.old }
-    requires none { (v : ℕ) → (sides_at links.old.items v).draft ≡ None }
-    requires ready { AreExactlyDrafted ways.old.items links.old.items }
-    requires there { AllByRecursion (λ x. IsSome (slot_of_item shelves.old x))
-        (items_changed changes.now) }
-    requires fits { Fits (rows_on_side now shelves.old) changes.now }
+    requires { CanBeDrafted shelves.old links.old.items ways.old.items changes.now }
     ensures shelved { AreShelved shelves.new }
     ensures inside { OnOk result ((names : Holdings Identifier)
         → IsInside names (get shelves.old.slots) shelves.old.places.entries links.old.items
@@ -109,9 +99,7 @@ pub(crate) fn draft_plan(
     ensures out { OnOk result (AreOut (items_changed changes.now) shelves.new) }
     ensures links { KeepsLinks links.old.items links.new.items }
     ensures ready { AreExactlyDrafted ways.new.items links.new.items }
-    ensures ends { (at : ℕ) → ends_at shelves.new at ≡ ends_at shelves.old at }
-    ensures waits { (x : Item) → waits_on shelves.new x ≡ waits_on shelves.old x }
-    ensures places { shelves.new.places ≡ shelves.old.places }
+    ensures stays { StayInPlace shelves.old shelves.new }
 {
     draft_changes(shelves, alloc, changes)?;
     let touched = flipped_slots(alloc, shelves, changes)?;
@@ -126,14 +114,7 @@ pub(crate) fn draft_and_wait(
     changes: &[ItemChange],
     ways: &mut Vec<Way<LinkSeen>>,
 ) -> Result<(), NoMemory>
-    requires inside { (names : Holdings Identifier) × IsInside names (get shelves.old.slots)
-        shelves.old.places.entries links.old.items }
-    requires bare { AreBare shelves.old }
-    requires none { (v : ℕ) → (sides_at links.old.items v).draft ≡ None }
-    requires ready { AreExactlyDrafted ways.old.items links.old.items }
-    requires there { AllByRecursion (λ x. IsSome (slot_of_item shelves.old x))
-        (items_changed changes.now) }
-    requires fits { Fits (rows_on_side now shelves.old) changes.now }
+    requires { CanBeDrafted shelves.old links.old.items ways.old.items changes.now }
     ensures shelved { AreShelved shelves.new }
     ensures inside { OnOk result ((names : Holdings Identifier)
         → IsInside names (get shelves.old.slots) shelves.old.places.entries links.old.items
@@ -176,9 +157,7 @@ pub(crate) fn drop_plan(
     ensures next { rows_on_side next shelves.new ≡ rows_on_side now shelves.old }
     ensures links { KeepsLinks links.old.items links.new.items }
     ensures none { (v : ℕ) → (sides_at links.new.items v).draft ≡ None }
-    ensures ends { (at : ℕ) → ends_at shelves.new at ≡ ends_at shelves.old at }
-    ensures waits { (x : Item) → waits_on shelves.new x ≡ waits_on shelves.old x }
-    ensures places { shelves.new.places ≡ shelves.old.places }
+    ensures stays { StayInPlace shelves.old shelves.new }
 {
     discard_changes(shelves, changes);
     drop_drafts(links, ways);

@@ -34,6 +34,8 @@ pub use changes::{Ready, Undo};
 pub use drafts::Draft;
 pub use ends::Ends;
 pub use graph::Graph;
+pub use ifmap_plans::Plan;
+pub use ifmap_view::View;
 pub use row_lists::RowList;
 pub use shared::SharedRows;
 pub use shelves::{Shelf, Shelves};

@@ -6,7 +6,7 @@ ghost use Rattle.slab.specs.Slab.{get};
 ghost use Rattle.ifmap_view.specs.declared.views.LinkSeen.{LinkSeen};
 ghost use Rattle.ifmap_graph.specs.Joined.{joined_pair, two_of};
 ghost use Rattle.ifmap_graph.specs.Linked.{far_of, seen_at};
-ghost use Rattle.ifmap_graph.specs.Touched.{AreExactlyDrafted, ArePairs, KeepsLinks, begun_draft, brought_link, differ, draft_of, flip_in, flip_of, full_next, full_now, links_kept, touched_draft};
+ghost use Rattle.ifmap_graph.specs.Touched.{AreExactlyDrafted, ArePairs, KeepsLinks, begun_draft, brought_link, exactly_one, draft_of, flip_in, flip_of, full_next, full_now, links_kept, touched_draft};
 ghost use Rattle.ifmap_graph.specs.Turning.{sides_at};
 
 use crate::ends::Ends;
@@ -63,7 +63,7 @@ fn is_now_full(slots: &Slab<Shelf>, at: usize) -> bool
 
 // Whether a slot comes to be full or empty.
 fn is_flipped(slots: &Slab<Shelf>, at: usize) -> bool
-    ensures { result ≡ differ (full_now slots.now at) (full_next slots.now at) }
+    ensures { result ≡ exactly_one (full_now slots.now at) (full_next slots.now at) }
 {
     is_now_full(slots, at) != is_to_be_full(slots, at)
 }

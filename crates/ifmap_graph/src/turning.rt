@@ -1,15 +1,14 @@
 //! The items of a change that is out, one after another: their drafts are accepted, or taken back.
 //! No call takes memory.
-ghost use Rattle.std.specs.Prelude.{◌≡◌, ℕ, ◌<◌, false, IsSome, length, map, set, slice_index_or};
+ghost use Rattle.std.specs.Prelude.{◌≡◌, ◌<◌, false, IsSome, length, map, set, slice_index_or};
 ghost use Rattle.std.specs.List.{AllByRecursion};
 ghost use Rattle.ifmap_ident.specs.declared.items.Item.{Item};
 ghost use Rattle.ifmap_ident.specs.Items.{same_item};
 ghost use Rattle.ifmap_plans.specs.declared.plans.ItemChange.{ItemChange};
 ghost use Rattle.ifmap_view.specs.Rows.{stored_on};
-ghost use Rattle.ifmap_graph.specs.Drafted.{AreBare, AreOut, DraftsWithin, ends_at};
+ghost use Rattle.ifmap_graph.specs.Drafted.{AreBare, AreOut, DraftsWithin, StayInPlace};
 ghost use Rattle.ifmap_graph.specs.Shelved.{AreShelved, HasDraft, slot_of_item, rows_on_side};
 ghost use Rattle.ifmap_graph.specs.Sides.{next, now};
-ghost use Rattle.ifmap_graph.specs.Waits.{waits_on};
 
 use crate::row_lists::RowList;
 use crate::shelves::Shelves;
@@ -29,9 +28,7 @@ fn accept_one(shelves: &mut Shelves, item: &Item, list: &mut RowList)
         → (HasDraft shelves.old x → HasDraft shelves.new x)
         × (stored_on x (rows_on_side now shelves.new)
         ≡ stored_on x (rows_on_side now shelves.old)) }
-    ensures ends { (at : ℕ) → ends_at shelves.new at ≡ ends_at shelves.old at }
-    ensures waits { (x : Item) → waits_on shelves.new x ≡ waits_on shelves.old x }
-    ensures places { shelves.new.places ≡ shelves.old.places }
+    ensures stays { StayInPlace shelves.old shelves.new }
 {
     *list = shelves.accept(item);
 }
@@ -54,9 +51,7 @@ fn accept_at(shelves: &mut Shelves, changes: &[ItemChange], lists: &mut Vec<RowL
         → (HasDraft shelves.old x → HasDraft shelves.new x)
         × (stored_on x (rows_on_side now shelves.new)
         ≡ stored_on x (rows_on_side now shelves.old)) }
-    ensures ends { (at : ℕ) → ends_at shelves.new at ≡ ends_at shelves.old at }
-    ensures waits { (x : Item) → waits_on shelves.new x ≡ waits_on shelves.old x }
-    ensures places { shelves.new.places ≡ shelves.old.places }
+    ensures stays { StayInPlace shelves.old shelves.new }
 {
     accept_one(shelves, &changes[i].item, &mut lists[i]);
 }
@@ -76,9 +71,7 @@ pub(crate) fn accept_changes(
     ensures now { rows_on_side now shelves.new ≡ rows_on_side next shelves.old }
     ensures lists { lists.new.items
         ≡ map (λ c. stored_on c.item (rows_on_side now shelves.old)) changes.now }
-    ensures ends { (at : ℕ) → ends_at shelves.new at ≡ ends_at shelves.old at }
-    ensures waits { (x : Item) → waits_on shelves.new x ≡ waits_on shelves.old x }
-    ensures places { shelves.new.places ≡ shelves.old.places }
+    ensures stays { StayInPlace shelves.old shelves.new }
 {
     for i in 0..changes.len() {
         accept_at(shelves, changes, lists, i);
@@ -95,9 +88,7 @@ fn discard_at(shelves: &mut Shelves, changes: &[ItemChange], i: usize)
     ensures now { rows_on_side now shelves.new ≡ rows_on_side now shelves.old }
     ensures drafts { (c : ItemChange) (x : Item) → HasDraft shelves.new x
         → HasDraft shelves.old x × (same_item x (slice_index_or changes.now i c).item ≡ false) }
-    ensures ends { (at : ℕ) → ends_at shelves.new at ≡ ends_at shelves.old at }
-    ensures waits { (x : Item) → waits_on shelves.new x ≡ waits_on shelves.old x }
-    ensures places { shelves.new.places ≡ shelves.old.places }
+    ensures stays { StayInPlace shelves.old shelves.new }
 {
     shelves.discard(&changes[i].item);
 }
@@ -112,9 +103,7 @@ pub(crate) fn discard_changes(shelves: &mut Shelves, changes: &[ItemChange])
     ensures bare { AreBare shelves.new }
     ensures now { rows_on_side now shelves.new ≡ rows_on_side now shelves.old }
     ensures next { rows_on_side next shelves.new ≡ rows_on_side now shelves.old }
-    ensures ends { (at : ℕ) → ends_at shelves.new at ≡ ends_at shelves.old at }
-    ensures waits { (x : Item) → waits_on shelves.new x ≡ waits_on shelves.old x }
-    ensures places { shelves.new.places ≡ shelves.old.places }
+    ensures stays { StayInPlace shelves.old shelves.new }
 {
     for i in 0..changes.len() {
         discard_at(shelves, changes, i);

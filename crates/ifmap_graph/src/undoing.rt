@@ -1,5 +1,5 @@
 //! A change that was made is taken back. No call takes memory.
-ghost use Rattle.std.specs.Prelude.{◌≡◌, ℕ, ◌<◌, List, IsSome, if◌then◌else◌, length, map, set, slice_index_or};
+ghost use Rattle.std.specs.Prelude.{◌≡◌, ℕ, ◌<◌, List, IsSome, length, map, set, slice_index_or, if◌then◌else◌};
 ghost use Rattle.std.specs.BTreeMap.{is_at};
 ghost use Rattle.std.specs.List.{AllByRecursion};
 ghost use Rattle.ifmap_ident.specs.declared.items.Item.{Item};
@@ -10,12 +10,11 @@ ghost use Rattle.ifmap_view.specs.declared.attachments.Attachment.{Attachment};
 ghost use Rattle.ifmap_view.specs.declared.views.LinkSeen.{LinkSeen};
 ghost use Rattle.ifmap_view.specs.Rows.{stored_on};
 ghost use Rattle.ifmap_graph.specs.Back.{IsUndoTo, stand_each};
-ghost use Rattle.ifmap_graph.specs.Drafted.{AreBare, ends_at};
+ghost use Rattle.ifmap_graph.specs.Drafted.{AreBare, StayInPlace};
 ghost use Rattle.ifmap_graph.specs.Out.{items_changed};
 ghost use Rattle.ifmap_graph.specs.Seen.{AwaitsLess, BringsNoNumbers, IsStill, KeepsOwn, StaysLeanWithout, links_now, rows_now};
 ghost use Rattle.ifmap_graph.specs.Shelved.{AreShelved, slot_of_item, rows_on_side};
 ghost use Rattle.ifmap_graph.specs.Sides.{now};
-ghost use Rattle.ifmap_graph.specs.Waits.{waits_on};
 
 use crate::changes::Undo;
 use crate::graph::Graph;
@@ -37,9 +36,7 @@ fn exchange_one(shelves: &mut Shelves, item: &Item, list: &mut RowList)
         ≡ (if is_at (item_order item.now) x then list.old
         else stored_on x (rows_on_side now shelves.old)) }
     ensures list { list.new ≡ stored_on item.now (rows_on_side now shelves.old) }
-    ensures ends { (at : ℕ) → ends_at shelves.new at ≡ ends_at shelves.old at }
-    ensures waits { (x : Item) → waits_on shelves.new x ≡ waits_on shelves.old x }
-    ensures places { shelves.new.places ≡ shelves.old.places }
+    ensures stays { StayInPlace shelves.old shelves.new }
 {
     shelves.exchange(item, list);
 }
@@ -61,9 +58,7 @@ fn exchange_at(shelves: &mut Shelves, changes: &[ItemChange], lists: &mut Vec<Ro
         else stored_on x (rows_on_side now shelves.old)) }
     ensures lists { (c : ItemChange) → lists.new.items ≡ set lists.old.items i
         (stored_on (slice_index_or changes.now i c).item (rows_on_side now shelves.old)) }
-    ensures ends { (at : ℕ) → ends_at shelves.new at ≡ ends_at shelves.old at }
-    ensures waits { (x : Item) → waits_on shelves.new x ≡ waits_on shelves.old x }
-    ensures places { shelves.new.places ≡ shelves.old.places }
+    ensures stays { StayInPlace shelves.old shelves.new }
 {
     exchange_one(shelves, &changes[i].item, &mut lists[i]);
 }
@@ -80,9 +75,7 @@ fn exchange_changes(shelves: &mut Shelves, changes: &[ItemChange], lists: &mut V
     ensures now { (x : Item) → stored_on x (rows_on_side now shelves.new)
         ≡ stand_each (map (λ c. c.item) changes.now) lists.old.items x
         (stored_on x (rows_on_side now shelves.old)) }
-    ensures ends { (at : ℕ) → ends_at shelves.new at ≡ ends_at shelves.old at }
-    ensures waits { (x : Item) → waits_on shelves.new x ≡ waits_on shelves.old x }
-    ensures places { shelves.new.places ≡ shelves.old.places }
+    ensures stays { StayInPlace shelves.old shelves.new }
 {
     for i in 0..changes.len() {
         exchange_at(shelves, changes, lists, i);

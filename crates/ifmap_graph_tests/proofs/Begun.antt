@@ -10,7 +10,7 @@ use Rattle.ifmap_graph.specs.Seen.{AreAwaited, AwaitsMore, HasFewOwn, IsStill, K
 use Rattle.ifmap_plans.specs.declared.plans.Plan.{Plan}
 use Rattle.ifmap_plans.specs.Plans.{AreWhole, Fits, IsAfter}
 use Rattle.ifmap_view.specs.declared.attachments.Attachment.{Attachment}
-use Rattle.ifmap_graph_tests.specs.Steady.{IsBegun, IsMade, IsSteady, OwnsNothing}
+use Rattle.ifmap_graph_tests.specs.Steady.{IsBegunWhole, IsMadeWhole, IsStillWhole, OwnsNothing}
 use Rattle.ifmap_plans.specs.laws.OnItemLaws.{whole_after}
 use Rattle.ifmap_graph.specs.NumberLaws.{awaits_these}
 
@@ -22,16 +22,16 @@ few_own h own = λ (a : Identifier). (0, own a, omega arith)
 
 -- nothing is out after a call that leaves these attachments
 pub steady_by : (old new : Held) (rows : List Attachment) → OwnsNothing old → AreWhole rows → IsStill new → rows_now new ≡ rows
-    → KeepsOwn old new → IsSteady new
+    → KeepsOwn old new → IsStillWhole new
 steady_by old new rows own whole still now keeps = record {
   still = still;
   whole = subst AreWhole (sym now) whole;
   own = λ a. keeps a 0 (own a);
 }
 
-pub begun_by : (old new : Held) (ready : Ready) (plan : Plan) → IsSteady old → Fits (rows_now old) plan.changes → ready.plan ≡ plan
+pub begun_by : (old new : Held) (ready : Ready) (plan : Plan) → IsStillWhole old → Fits (rows_now old) plan.changes → ready.plan ≡ plan
     → IsOut ready new → IsAfter plan.changes (rows_now old) (rows_next new) → rows_now new ≡ rows_now old
-    → KeepsOwn old new → AwaitsMore (items_changed plan.changes) old new → IsBegun ready new
+    → KeepsOwn old new → AwaitsMore (items_changed plan.changes) old new → IsBegunWhole ready new
 begun_by old new ready plan steady fits same out after now keeps more = record {
   out = out;
   waits = subst (λ (p : Plan). AreAwaited (items_changed p.changes) new) (sym same)
@@ -41,9 +41,9 @@ begun_by old new ready plan steady fits same out after now keeps more = record {
   own = λ a. keeps a 0 (steady.own a);
 }
 
-pub made_by : (old new : Held) (ready : Ready) (undo : Undo) → IsBegun ready old → IsStill new → rows_now new ≡ rows_next old
+pub made_by : (old new : Held) (ready : Ready) (undo : Undo) → IsBegunWhole ready old → IsStill new → rows_now new ≡ rows_next old
     → KeepsOwn old new → (AreAwaited (items_changed ready.plan.changes) old → IsUndoTo undo (rows_now old) (links_now old) new)
-    → IsMade undo new
+    → IsMadeWhole undo new
 made_by old new ready undo begun still now keeps back = record {
   steady = steady_by old new (rows_next old) begun.own begun.after still now keeps;
   rows = rows_now old;

@@ -16,13 +16,13 @@ abbrev pub OwnsNothing : Held → Type 0
 OwnsNothing h = (a : Identifier) → IsOwn h a 0
 
 -- nothing is out, and what is stored is whole
-pub record IsSteady (h : Held) : Type 0 where
+pub record IsStillWhole (h : Held) : Type 0 where
   pub still : IsStill h
   pub whole : AreWhole (rows_now h)
   pub own : OwnsNothing h
 
 -- a change is out, before and after which what is stored is whole
-pub record IsBegun (ready : Ready) (h : Held) : Type 0 where
+pub record IsBegunWhole (ready : Ready) (h : Held) : Type 0 where
   pub out : IsOut ready h
   pub waits : AreAwaited (items_changed ready.plan.changes) h
   pub before : AreWhole (rows_now h)
@@ -30,8 +30,8 @@ pub record IsBegun (ready : Ready) (h : Held) : Type 0 where
   pub own : OwnsNothing h
 
 -- a change was made that can be taken back
-pub record IsMade (undo : Undo) (h : Held) : Type 0 where
-  pub steady : IsSteady h
+pub record IsMadeWhole (undo : Undo) (h : Held) : Type 0 where
+  pub steady : IsStillWhole h
   pub rows : List Attachment
   pub links : ℕ → List LinkSeen
   pub back : IsUndoTo undo rows links h

@@ -4,7 +4,7 @@ ghost use Rattle.std.specs.List.{AllByRecursion};
 ghost use Rattle.ifmap_graph.specs.Seen.{rows_now};
 ghost use Rattle.ifmap_plans.specs.Plans.{Fits};
 ghost use Rattle.ifmap_requests.specs.Fit.{IsFitOp};
-ghost use Rattle.ifmap_graph_tests.specs.Steady.{IsBegun, IsMade, IsSteady};
+ghost use Rattle.ifmap_graph_tests.specs.Steady.{IsBegunWhole, IsMadeWhole, IsStillWhole};
 
 use crate::comparing::shows;
 use crate::facts::Fact;
@@ -47,7 +47,7 @@ impl Model for Carried {
     ghost use Rattle.ifmap_view.specs.contracts.views.LinkSeen as the_link;
     ghost use Rattle.ifmap_graph.specs.contracts.shelves.Shelf as the_shelf;
     ghost use Rattle.ifmap_graph.specs.Held.{Held, held_code};
-    ghost use Rattle.ifmap_graph_tests.specs.Steady.{IsSteady};
+    ghost use Rattle.ifmap_graph_tests.specs.Steady.{IsStillWhole};
 
     ghost Value = { Held };
 
@@ -56,12 +56,12 @@ impl Model for Carried {
 
     ghost view = { λ c. c.graph };
 
-    ghost invariant = { λ c. IsSteady c.graph };
+    ghost invariant = { λ c. IsStillWhole c.graph };
 }
 
 // What a publish changes.
 fn plan_ops(alloc: Global, graph: &Graph, ops: &Many<PublishOp>, author: &Author) -> Option<Plan>
-    requires steady { IsSteady graph.now }
+    requires steady { IsStillWhole graph.now }
     requires fit { AllByRecursion IsFitOp ops.now }
     ensures { IfSome result (λ plan. Fits (rows_now graph.now) plan.changes) }
 {
@@ -71,7 +71,7 @@ fn plan_ops(alloc: Global, graph: &Graph, ops: &Many<PublishOp>, author: &Author
 
 // What a retraction changes.
 fn plan_with<L: Ledger>(alloc: Global, graph: &Graph, who: &Who, blank: Blank) -> Option<Plan>
-    requires steady { IsSteady graph.now }
+    requires steady { IsStillWhole graph.now }
     requires name { blank.name ≡ L.name }
     requires parts { blank.parts ≡ L.parts }
     requires some { 0 < blank.parts }
@@ -83,7 +83,7 @@ fn plan_with<L: Ledger>(alloc: Global, graph: &Graph, who: &Who, blank: Blank) -
 }
 
 fn plan_retraction(alloc: Global, graph: &Graph, who: &Who) -> Option<Plan>
-    requires { IsSteady graph.now }
+    requires { IsStillWhole graph.now }
     ensures { IfSome result (λ plan. Fits (rows_now graph.now) plan.changes) }
 {
     plan_with::<Brand>(alloc, graph, who, Blank::new(1))
@@ -91,9 +91,9 @@ fn plan_retraction(alloc: Global, graph: &Graph, who: &Who) -> Option<Plan>
 
 // A change comes to be out.
 fn begin(alloc: Global, graph: &mut Graph, plan: Plan) -> Option<Ready>
-    requires steady { IsSteady graph.old }
+    requires steady { IsStillWhole graph.old }
     requires fits { Fits (rows_now graph.old) plan.changes }
-    ensures { MatchOption result (IsSteady graph.new) (λ ready. IsBegun ready graph.new) }
+    ensures { MatchOption result (IsStillWhole graph.new) (λ ready. IsBegunWhole ready graph.new) }
 {
     match graph.reserve(alloc, plan) {
         Ok(ready) => Some(ready),
@@ -103,44 +103,44 @@ fn begin(alloc: Global, graph: &mut Graph, plan: Plan) -> Option<Ready>
 
 // It is made, with a way back.
 fn make(graph: &mut Graph, ready: Ready) -> Undo
-    requires { IsBegun ready graph.old }
-    ensures { IsMade result graph.new }
+    requires { IsBegunWhole ready graph.old }
+    ensures { IsMadeWhole result graph.new }
 {
     graph.commit_kept(ready)
 }
 
 fn commit(graph: &mut Graph, ready: Ready)
-    requires { IsBegun ready graph.old }
-    ensures { IsSteady graph.new }
+    requires { IsBegunWhole ready graph.old }
+    ensures { IsStillWhole graph.new }
 {
     let _plan = graph.commit(ready);
 }
 
 fn settle(graph: &mut Graph, undo: Undo)
-    requires { IsMade undo graph.old }
-    ensures { IsSteady graph.new }
+    requires { IsMadeWhole undo graph.old }
+    ensures { IsStillWhole graph.new }
 {
     let _plan = graph.settle(undo);
 }
 
 fn take_back(graph: &mut Graph, undo: Undo)
-    requires { IsMade undo graph.old }
-    ensures { IsSteady graph.new }
+    requires { IsMadeWhole undo graph.old }
+    ensures { IsStillWhole graph.new }
 {
     graph.undo(undo);
 }
 
 fn give_up(graph: &mut Graph, ready: Ready)
-    requires { IsBegun ready graph.old }
-    ensures { IsSteady graph.new }
+    requires { IsBegunWhole ready graph.old }
+    ensures { IsStillWhole graph.new }
 {
     graph.forget(ready);
 }
 
 // It is made, and stays.
 fn make_for_good(alloc: Global, graph: &mut Graph, ready: Ready, after: &[Fact]) -> bool
-    requires { IsBegun ready graph.old }
-    ensures { IsSteady graph.new }
+    requires { IsBegunWhole ready graph.old }
+    ensures { IsStillWhole graph.new }
 {
     let undo = make(graph, ready);
     let shown = shows(alloc, &*graph, after);
@@ -150,8 +150,8 @@ fn make_for_good(alloc: Global, graph: &mut Graph, ready: Ready, after: &[Fact])
 
 // It is made, and taken back.
 fn make_for_now(alloc: Global, graph: &mut Graph, ready: Ready, after: &[Fact]) -> bool
-    requires { IsBegun ready graph.old }
-    ensures { IsSteady graph.new }
+    requires { IsBegunWhole ready graph.old }
+    ensures { IsStillWhole graph.new }
 {
     let undo = make(graph, ready);
     let shown = shows(alloc, &*graph, after);
@@ -161,8 +161,8 @@ fn make_for_now(alloc: Global, graph: &mut Graph, ready: Ready, after: &[Fact]) 
 
 // It comes to its end: whether the graph shows what is wanted where it is made with a way back.
 fn finish(alloc: Global, graph: &mut Graph, ready: Ready, course: &Course<'_>) -> bool
-    requires { IsBegun ready graph.old }
-    ensures { IsSteady graph.new }
+    requires { IsBegunWhole ready graph.old }
+    ensures { IsStillWhole graph.new }
 {
     match course.end {
         End::Commit => {
@@ -186,9 +186,9 @@ fn shows_both(alloc: Global, graph: &Graph, course: &Course<'_>) -> bool {
 
 // A change, to its end: whether all that is shown on the way is what is wanted.
 fn carry_out(alloc: Global, graph: &mut Graph, plan: Plan, course: &Course<'_>) -> bool
-    requires steady { IsSteady graph.old }
+    requires steady { IsStillWhole graph.old }
     requires fits { Fits (rows_now graph.old) plan.changes }
-    ensures { IsSteady graph.new }
+    ensures { IsStillWhole graph.new }
 {
     match begin(alloc, graph, plan) {
         Some(ready) => {
@@ -206,9 +206,9 @@ fn publish_in(
     author: &Author,
     course: &Course<'_>,
 ) -> bool
-    requires steady { IsSteady graph.old }
+    requires steady { IsStillWhole graph.old }
     requires fit { AllByRecursion IsFitOp ops.now }
-    ensures { IsSteady graph.new }
+    ensures { IsStillWhole graph.new }
 {
     match plan_ops(alloc, &*graph, ops, author) {
         Some(plan) => carry_out(alloc, graph, plan, course),
@@ -217,8 +217,8 @@ fn publish_in(
 }
 
 fn retract_in(alloc: Global, graph: &mut Graph, who: &Who, course: &Course<'_>) -> bool
-    requires { IsSteady graph.old }
-    ensures { IsSteady graph.new }
+    requires { IsStillWhole graph.old }
+    ensures { IsStillWhole graph.new }
 {
     match plan_retraction(alloc, &*graph, who) {
         Some(plan) => carry_out(alloc, graph, plan, course),

@@ -1,5 +1,7 @@
--- A seat is joined to another. `Place` says where a seat of the new list comes from, and each field of the rule goes by cases on
--- it. `Joint` is what the joined view is of two, whichever has seen more; `joint_of` makes it in both cases.
+-- A seat is joined to another.
+-- 1. `Place` says where a seat of the new list comes from.
+-- 2. Each field of the rule goes by cases on it.
+-- 3. `Joint` is what the joined view is of two, whichever has seen more; `joint_of` makes it in both cases.
 use Rattle.std.proofs.Common.{◌≡◌, ◌≢◌, ◌⊎◌, ℕ, ◌+◌, ◌<◌, ◌≤◌, List, [], length, set, Bool, true, false, cond, refl, sym, ap, subst, ◌∙◌, inl, inr, arith}
 use mathlib.Core.Option.{some-injective}
 use lib.ListN.{get_elem?}

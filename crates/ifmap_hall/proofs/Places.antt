@@ -3,7 +3,7 @@ use Rattle.std.proofs.Common.{◌≡◌, ◌≢◌, ◌⊎◌, ℕ, ◌+◌, ◌
 use Rattle.std.proofs.Math.Seq.{drop-append_seam, drop-length}
 use Rattle.std.proofs.lemmas.Bool.Decides.{nat_tests}
 use Rattle.std.proofs.lemmas.Bool.{cases_eq, cases_lt}
-use Rattle.ifmap_hall.specs.Places.{times, once_below, Rises, insert, merge}
+use Rattle.ifmap_hall.specs.Places.{times, once_below, Rises, insert_place, merge}
 
 pub times-append : (x : ℕ) (xs ys : List ℕ) → times x (xs ++ ys) ≡ times x xs + times x ys
 times-append x [] ys = omega arith
@@ -63,11 +63,11 @@ rises_low : (low higher : ℕ) (xs : List ℕ) (high : ℕ) → low ≤ higher �
 rises_low low higher [] high h r = let a : higher ≤ high = r in omega arith
 rises_low low higher (x ∷ xs) high h r = let a = r.0 in (omega arith, r.1)
 
-pub times-insert : (x y : ℕ) (ys : List ℕ) → times x (insert y ys) ≡ times x (y ∷ []) + times x ys
+pub times-insert : (x y : ℕ) (ys : List ℕ) → times x (insert_place y ys) ≡ times x (y ∷ []) + times x ys
 times-insert x y [] = omega arith
 times-insert x y (z ∷ zs) = placing (nat_lt y z) (times-insert x y zs) where
-  placing : (b : Bool) → times x (insert y zs) ≡ times x (y ∷ []) + times x zs
-      → times x (cond b (y ∷ z ∷ zs) (z ∷ insert y zs)) ≡ times x (y ∷ []) + times x (z ∷ zs)
+  placing : (b : Bool) → times x (insert_place y zs) ≡ times x (y ∷ []) + times x zs
+      → times x (cond b (y ∷ z ∷ zs) (z ∷ insert_place y zs)) ≡ times x (y ∷ []) + times x (z ∷ zs)
   placing true r = omega arith
   placing false r = omega arith
 
@@ -78,7 +78,8 @@ times-merge x (z ∷ zs) ys = let a = times-insert x z (merge zs ys) in let r = 
 times_itself : (x : ℕ) (xs : List ℕ) → times x (x ∷ xs) ≡ 1 + times x xs
 times_itself x xs = let e : nat_eq x x ≡ true = grind (arith, nat_tests) in rw e refl
 
-rises_insert : (low x : ℕ) (ys : List ℕ) (high : ℕ) → Rises low ys high → low ≤ x → x < high → times x ys ≡ 0 → Rises low (insert x ys) high
+rises_insert : (low x : ℕ) (ys : List ℕ) (high : ℕ) → Rises low ys high → low ≤ x → x < high → times x ys ≡ 0
+    → Rises low (insert_place x ys) high
 rises_insert low x [] high r l h none = (l, omega arith)
 rises_insert low x (y ∷ ys) high r l h none = elim (cases_lt x y) [
   | inl lt ↦

@@ -16,7 +16,7 @@ use Rattle.ifmap_hall.specs.declared.book.Book.{Book}
 use Rattle.ifmap_hall.specs.declared.view.History.{History}
 use Rattle.ifmap_hall.specs.declared.view.SeatView.{SeatView}
 use Rattle.ifmap_hall.specs.declared.view.Terms.{Terms}
-use Rattle.ifmap_hall.specs.declared.view.View.{View}
+use Rattle.ifmap_hall.specs.declared.view.HallView.{HallView}
 use Rattle.ifmap_hall.proofs.CarryingOn.{run-append}
 use Rattle.ifmap_hall.proofs.Extending.{extends-itself, longer}
 use Rattle.ifmap_hall.proofs.Places.{times-merge, rises_once}
@@ -56,14 +56,14 @@ module _ {M E : Type 0} (next : M → E → M) where
 
 module _ {M E R : Type 0} (next : M → E → M) where
   -- who took a turn carries on
-  pub turn_carries : (v w : View M E R) → v.history.from ≤ length v.history.log → TookATurn v w
+  pub turn_carries : (v w : HallView M E R) → v.history.from ≤ length v.history.log → TookATurn v w
       → CarriesOn next (sight_by next v) (sight_by next w)
   turn_carries v w inside t =
       subst (λ (q : Terms M). CarriesOn next (sight_by next v) (sight_in next q.opening.value w.history)) (sym t.terms)
       (extends_carries next v.terms.opening.value v.history w.history t.history inside t.sound.inside)
 
   -- the book that is found carries on
-  pub found_carries : (weight : E → ℕ) (v : View M E R) (h : History E) (b : Book M E R) → v.history.from ≤ length v.history.log
+  pub found_carries : (weight : E → ℕ) (v : HallView M E R) (h : History E) (b : Book M E R) → v.history.from ≤ length v.history.log
       → Finds next weight v h b → CarriesOn next (sight_by next v) (sight_of b)
   found_carries weight v h b inside f =
       subst (λ s. CarriesOn next (sight_by next v) s) (sym f.book.sight)
@@ -89,7 +89,7 @@ module _ {M E R : Type 0} (next : M → E → M) where
       let o = rises_once x 0 (merge s.view.mine u.view.mine) (length (joint_seat s u).view.history.log) sound.view.mine in omega arith
 
   -- what an answer says of what is seen
-  pub answers_from_base : (holds_on : M → E → Bool) (reply : M → E → R) (v w : View M E R) (number : ℕ) (event : E) (answer : Asked E R)
+  pub answers_from_base : (holds_on : M → E → Bool) (reply : M → E → R) (v w : HallView M E R) (number : ℕ) (event : E) (answer : Asked E R)
       → TookATurn v w
       → Answered next holds_on reply v w number event answer → AnsweredFromBase next holds_on reply (sight_by next w) number event answer
   answers_from_base holds_on reply v w number event (Done place r) t e =

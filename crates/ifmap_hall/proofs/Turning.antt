@@ -16,7 +16,7 @@ use Rattle.ifmap_hall.specs.declared.book.Asked.{Asked}
 use Rattle.ifmap_hall.specs.declared.book.Asked.TheVariants.{Done, Held, Spent, NoMemory}
 use Rattle.ifmap_hall.specs.declared.book.Book.{Book}
 use Rattle.ifmap_hall.specs.declared.view.History.{History}
-use Rattle.ifmap_hall.specs.declared.view.View.{View}
+use Rattle.ifmap_hall.specs.declared.view.HallView.{HallView}
 use Rattle.ifmap_hall.proofs.CarryingOn.{run-append}
 use Rattle.ifmap_hall.proofs.Extending.{extends-through, longer}
 use Rattle.ifmap_hall.proofs.General.{joined_up, front_of, rest_of}
@@ -37,7 +37,7 @@ module _ {M E R : Type 0} (next : M → E → M) (weight : E → ℕ) (holds_on 
         IfNoMemory answer (λ back. (back ≡ event) × (end_of_book b < 2 ^ 64 - 1) × (holds_on b.machine event ≡ false)
         × Settles next weight b b')
 
-  module _ (v : View M E R) (h : History E) (b : Book M E R) (found : Finds next weight v h b) where
+  module _ (v : HallView M E R) (h : History E) (b : Book M E R) (found : Finds next weight v h b) where
     from_is : b.from ≡ h.from
     from_is = ap (λ s. s.from) found.book.sight
 

@@ -9,11 +9,11 @@ use Rattle.ifmap_hall.specs.declared.book.Asked.{Asked}
 use Rattle.ifmap_hall.specs.declared.book.Asked.TheVariants.{Done, Held, Spent, NoMemory}
 use Rattle.ifmap_hall.specs.declared.book.Book.{Book}
 use Rattle.ifmap_hall.specs.declared.view.History.{History}
-use Rattle.ifmap_hall.specs.declared.view.View.{View}
+use Rattle.ifmap_hall.specs.declared.view.HallView.{HallView}
 
 module _ {M E R : Type 0} where
   -- the pass passed one turn on, and has seen all that it had seen and maybe more
-  pub record TookATurn (v w : View M E R) : Type 0 where
+  pub record TookATurn (v w : HallView M E R) : Type 0 where
     pub terms : w.terms ≡ v.terms
     pub lone : w.lone ≡ v.lone
     pub turns : w.turns ≡ v.turns + 1
@@ -23,7 +23,7 @@ module _ {M E R : Type 0} where
     pub near : v.lone ≡ true → w.history.from ≤ length v.history.log
 
   -- nothing of the pass's own was entered, and nothing at all if it was never split from
-  pub record SaidNothing (v w : View M E R) : Type 0 where
+  pub record SaidNothing (v w : HallView M E R) : Type 0 where
     pub mine : w.mine ≡ v.mine
     pub said : w.said ≡ v.said
     pub alone : v.lone ≡ true → w.history.log ≡ v.history.log
@@ -31,7 +31,7 @@ module _ {M E R : Type 0} where
   module _ (next : M → E → M) (holds_on : M → E → Bool) (reply : M → E → R) where
     -- the event is the last entry of the history, at this place, with the reply of the machine after the entries before it, which
     -- would not have held on it; if the pass was never split from, these are the entries that it had seen
-    pub record Said (v w : View M E R) (number : ℕ) (event : E) (place : ℕ) (r : R) : Type 0 where
+    pub record Said (v w : HallView M E R) (number : ℕ) (event : E) (place : ℕ) (r : R) : Type 0 where
       pub before : List (ℕ × E)
       pub entry : w.history.log ≡ before ++ (number, event) ∷ []
       pub place_is : length before ≡ place
@@ -45,7 +45,7 @@ module _ {M E R : Type 0} where
       pub said : w.said ≡ v.said ++ (event, r) ∷ []
 
     -- what each answer says of the whole history, from the opening state on
-    abbrev pub Answered : View M E R → View M E R → ℕ → E → Asked E R → Type 0
+    abbrev pub Answered : HallView M E R → HallView M E R → ℕ → E → Asked E R → Type 0
     Answered v w number event (Done place r) = Said v w number event place r
     Answered v w number event (Held place back) =
         (back ≡ event) × (length w.history.log ≡ place) × (place < 2 ^ 64 - 1)
@@ -67,7 +67,7 @@ module _ {M E R : Type 0} where
 
   module _ (next : M → E → M) (weight : E → ℕ) (holds_on : M → E → Bool) (reply : M → E → R) where
     -- a turn of a pass that found this history and leaves this book
-    pub record Turned (v : View M E R) (h : History E) (b : Book M E R) (number : ℕ) (event : E) (answer : Asked E R) : Type 0 where
+    pub record Turned (v : HallView M E R) (h : History E) (b : Book M E R) (number : ℕ) (event : E) (answer : Asked E R) : Type 0 where
       pub gives : Gives next weight v.terms h b
       pub took : TookATurn v (view_after next reply v h b)
       pub answered : Answered next holds_on reply v (view_after next reply v h b) number event answer

@@ -3,11 +3,11 @@ use Rattle.std.specs.Prelude.{◌≡◌, ℕ}
 use Rattle.ifmap_hall.specs.declared.hall.Hall.{Hall}
 use Rattle.ifmap_hall.specs.declared.hall.Pass.{Pass}
 use Rattle.ifmap_hall.specs.declared.machine.Machine.{Ghosts}
-use Rattle.ifmap_hall.specs.declared.view.View.{View}
+use Rattle.ifmap_hall.specs.declared.view.HallView.{HallView}
 
 module _ {M E R : Type 0} {G : Ghosts M E R} where
   -- what the pass is seen as
-  abbrev pub view_of : Pass M E R G → View M E R
+  abbrev pub view_of : Pass M E R G → HallView M E R
   view_of p = p.seat.me.0.view
 
   -- the number that is written beside its entries

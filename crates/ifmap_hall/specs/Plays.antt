@@ -8,7 +8,7 @@ use Rattle.ifmap_hall.specs.declared.book.Book.{Book}
 use Rattle.ifmap_hall.specs.declared.view.History.{History}
 use Rattle.ifmap_hall.specs.declared.view.SeatView.{SeatView}
 use Rattle.ifmap_hall.specs.declared.view.Terms.{Terms}
-use Rattle.ifmap_hall.specs.declared.view.View.{View}
+use Rattle.ifmap_hall.specs.declared.view.HallView.{HallView}
 
 -- what a seat knows, and the book where it has it
 abbrev pub Seated : Type 0 → Type 0 → Type 0 → Type 0
@@ -25,7 +25,7 @@ module _ {M E R : Type 0} where
 
   module _ (next : M → E → M) (weight : E → ℕ) where
     -- the book that a pass finds stands for a history that extends what it has seen, and is what it has seen if it is alone
-    pub record Finds (v : View M E R) (h : History E) (b : Book M E R) : Type 0 where
+    pub record Finds (v : HallView M E R) (h : History E) (b : Book M E R) : Type 0 where
       pub book : StandsFor next weight v.terms h b
       pub sound : IsSound v
       pub extends : Extends v.history h

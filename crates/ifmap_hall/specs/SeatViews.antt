@@ -10,7 +10,7 @@ use Rattle.ifmap_hall.specs.declared.view.SeatView.{SeatView}
 use Rattle.ifmap_hall.specs.declared.view.Stage.{Stage}
 use Rattle.ifmap_hall.specs.declared.view.Stage.TheVariants.{Idle, Waits, Holds}
 use Rattle.ifmap_hall.specs.declared.view.Terms.{Terms}
-use Rattle.ifmap_hall.specs.declared.view.View.{View}
+use Rattle.ifmap_hall.specs.declared.view.HallView.{HallView}
 
 module _ {E : Type 0} where
   -- how many tickets a seat has
@@ -80,7 +80,7 @@ module _ {M E R : Type 0} where
   module _ (next : M → E → M) (reply : M → E → R) where
     -- what a pass is seen as after a turn in which it found this history and left this book: it has seen what the book has seen,
     -- and where there is an entry more it is the pass's own
-    abbrev pub view_after : View M E R → History E → Book M E R → View M E R
+    abbrev pub view_after : HallView M E R → History E → Book M E R → HallView M E R
     view_after v h b =
         let gained = drop (length h.log) (history_in h b).log in
         record v {

@@ -23,7 +23,7 @@ pub struct History<E> {
 }
 
 /// What a pass is seen as.
-pub struct View<M: Machine> {
+pub struct HallView<M: Machine> {
     /// What its hall was begun with.
     pub terms: Terms<M>,
     /// Whether it is the first pass of its hall and was never split from.
@@ -51,7 +51,7 @@ pub enum Stage<E> {
 /// What a seat of the hall's table knows.
 pub struct SeatView<M: Machine> {
     /// What the pass of the seat is seen as.
-    pub view: View<M>,
+    pub view: HallView<M>,
     /// Its parts of the right to draw tickets. With none it is spent: its pass was joined to
     /// another.
     pub parts: u64,

@@ -1,5 +1,9 @@
 -- An answer that is written is read back: its head as one of the grammar, the bytes as that head and what
 -- comes after it, and what the head says. With a status other than 200 all of the head is spelled out.
+-- 1. A head that passes the tests of the grammar is read back (`head_is`); so is one whose bytes are all known.
+-- 2. Each status but 200, by cases (`status_is_read_back`).
+-- 3. Of a success: the bytes with the length of the body as a variable, how long its head is, and that its fields fit and are few.
+-- 4. What its fields say is the size of the body, so the body is read back (`body_is_read_back`).
 use Rattle.std.proofs.Common.{◌≡◌, ◌≢◌, ℕ, ◌+◌, ◌≤◌, Bool, true, false, List, [], ◌∷◌, ◌++◌, length, refl, ap, ◌∙◌, Some, arith, append_assoc, length-append}
 use Rattle.std.specs.Prelude.{◌||◌, ◌==◌, nat_le, nat_lt, codes, if◌then◌else◌}
 use Rattle.std.specs.Char.{is_ascii_digit}

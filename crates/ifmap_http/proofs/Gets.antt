@@ -5,7 +5,7 @@ use Rattle.std.specs.Io.KnownBytes.{IsAtEnd, prepend_known}
 use Rattle.ifmap_heads.specs.Answers.{ReadsAnswer, not_http, other, ended as unanswered}
 use Rattle.ifmap_heads.specs.Posts.{ReadsPost, status, truncated}
 use Rattle.ifmap_heads.specs.Starts.{HasAnswerHead}
-use Rattle.ifmap_http.specs.Buffers.{TakesFromSource}
+use Rattle.ifmap_input.specs.Inputs.{TakesFromSource}
 use Rattle.ifmap_http.specs.Outcomes.{GetsAnswer, GetsPost}
 use Rattle.ifmap_http.specs.declared.wires.Answered.{Answered}
 use Rattle.ifmap_http.specs.declared.wires.Answered.TheVariants as answer

@@ -1,6 +1,6 @@
 pub mod Bounds
+pub mod Failing
 pub mod Filling
 pub mod Gets
 pub mod Reading
 pub mod Sending
-pub mod Taking

@@ -9,7 +9,8 @@ use Rattle.ifmap_heads.specs.Heads.{IsAnswerHead, IsPostHead}
 use Rattle.ifmap_heads.specs.Posts.{Judgement, ReadsPost, judge_post, posted, refused, status, taken, truncated}
 use Rattle.ifmap_heads.specs.Starts.{HasAnswerHead, HasPostHead}
 use Rattle.ifmap_heads.specs.declared.posts.PostTerms.{PostTerms}
-use Rattle.ifmap_http.specs.Buffers.{LacksBody, TakesFromSource, TakesBody}
+use Rattle.ifmap_input.specs.Inputs.{TakesFromSource}
+use Rattle.ifmap_http.specs.Bodies.{LacksBody, TakesBody}
 
 -- what is claimed of all that a wire had left, where it is told, by what it has taken and what is left then
 pub for_told : (P : List ℕ → Type 0) (left_old left_new : Option (List ℕ)) (old new : List ℕ) → TakesFromSource left_old left_new old new

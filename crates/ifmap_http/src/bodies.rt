@@ -2,14 +2,11 @@
 ghost use Rattle.std.specs.Prelude.{◌≡◌, ◌<◌, ◌≤◌, ◌+◌, ◌++◌, ℕ, List, Err, IfOk, OnErr, OnOk, is_some, length, take, vec_len};
 ghost use Rattle.std.specs.Io.KnownBytes.{Consumes, IsAtEnd};
 ghost use Rattle.ifmap_io.specs.Causes.{Rose};
-ghost use Rattle.ifmap_http.specs.Buffers.{LacksBody, TakesBody};
+ghost use Rattle.ifmap_http.specs.Bodies.{LacksBody, TakesBody};
 
-use crate::buffers::Buffer;
+use ifmap_input::{CHUNK, Input};
 use ifmap_io::{Failed, Source};
 use std::alloc::{AllocError as NoMemory, Global};
-
-// How much of a body's room is cleared at once: a length that lies costs no more than this.
-const STEP: usize = 65_536;
 
 // Why bytes were not read.
 #[derive(Clone, Copy, Debug, PartialEq, Eq)]
@@ -22,30 +19,33 @@ pub enum Unread {
 // Takes a body of that size.
 pub(crate) fn take_body<S: Source>(
     alloc: Global,
-    buffer: &mut Buffer,
+    input: &mut Input,
     source: &mut S,
     size: usize,
 ) -> Result<Vec<u8>, Unread>
     ensures body { IfOk result (λ body.
-        TakesBody (S.left source.old) (S.left source.new) buffer.old buffer.new body.items) }
+        TakesBody (S.left source.old) (S.left source.new) input.old input.new body.items) }
     ensures size { IfOk result (λ body. length body.items ≡ size) }
     ensures truncated { result ≡ Err Unread.Truncated
-        → LacksBody (S.left source.old) (S.left source.new) buffer.old size }
+        → LacksBody (S.left source.old) (S.left source.new) input.old size }
     ensures fault { result ≡ Err Unread.ReadFault
         → Rose (S.faults source.old) (S.faults source.new) }
     ensures told { is_some (S.left source.new) ≡ is_some (S.left source.old) }
     ensures apart { S.outgoing source.new ≡ S.outgoing source.old }
     ensures later { S.faults source.old ≤ S.faults source.new }
-    ensures quiet { size ≤ length buffer.old → source.new ≡ source.old }
+    ensures quiet { size ≤ length input.old → source.new ≡ source.old }
 {
     let Ok(mut body) = Vec::with_capacity(alloc, size) else {
         return Err(Unread::NoMemory);
     };
-    let there = size.min(buffer.bytes().len());
-    if body.extend_from_slice(&buffer.bytes()[..there]).is_err() {
+    let there = size.min(input.pending_bytes().len());
+    if body
+        .extend_from_slice(&input.pending_bytes()[..there])
+        .is_err()
+    {
         return Err(Unread::NoMemory);
     }
-    buffer.advance(there);
+    input.advance(there);
     if there == size {
         return Ok(body);
     }
@@ -82,7 +82,8 @@ fn fill_body<S: Source>(mut body: Vec<u8>, source: &mut S, size: usize) -> Resul
     Ok(body)
 }
 
-// Clears some more of the body's room where all of it is filled.
+// Clears some more of the body's room where all of it is filled, and no more than one read takes: a
+// length that lies costs no more than this.
 fn make_room(body: &mut Vec<u8>, filled: usize, size: usize) -> Result<(), NoMemory>
     requires within { filled ≤ vec_len body.old }
     requires short { vec_len body.old ≤ size }
@@ -93,7 +94,7 @@ fn make_room(body: &mut Vec<u8>, filled: usize, size: usize) -> Result<(), NoMem
     if filled < body.len() {
         return Ok(());
     }
-    body.resize(size.min(filled.saturating_add(STEP)), 0)
+    body.resize(size.min(filled.saturating_add(CHUNK)), 0)
 }
 
 // Reads what comes next to the place after what is filled.

@@ -9,7 +9,7 @@ use ifmap_heads::LONGEST_HEAD;
 // has grown to twice what was parsed, and past its limit. It has at most 66 lines, so a client that
 // sends a byte at a time costs a time that is linear in the head.
 #[derive(Clone, Copy)]
-pub(crate) struct Progress {
+pub(crate) struct HeadProgress {
     // The line ends in front, as far as they were seen.
     blank: usize,
     // How many bytes were looked at.
@@ -18,11 +18,11 @@ pub(crate) struct Progress {
     parsed: usize,
 }
 
-impl Progress {
-    pub(crate) fn new() -> Progress
+impl HeadProgress {
+    pub(crate) fn new() -> HeadProgress
         ensures { result.parsed ≡ 0 }
     {
-        Progress {
+        HeadProgress {
             blank: 0,
             seen: 0,
             parsed: 0,

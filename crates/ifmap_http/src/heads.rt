@@ -5,15 +5,15 @@ ghost use Rattle.ifmap_io.specs.Causes.{Rose};
 ghost use Rattle.httparse.specs.Grammar.{RequestHead};
 ghost use Rattle.ifmap_heads.specs.Heads.{HasNoPostHead, IsPostHead};
 ghost use Rattle.ifmap_heads.specs.Limits.{longest_head};
-ghost use Rattle.ifmap_http.specs.Buffers.{AwaitsAnswer, AwaitsPost, TakesFromSource, UnlessAnswerFails, UnlessPostFails};
+ghost use Rattle.ifmap_input.specs.Inputs.{TakesFromSource};
+ghost use Rattle.ifmap_http.specs.Heads.{AwaitsAnswer, AwaitsPost, UnlessAnswerFails, UnlessPostFails};
 
-use crate::bodies::Unread;
-use crate::buffers::Buffer;
-use crate::dues::Progress;
+use crate::dues::HeadProgress;
 use http::StatusCode;
 use ifmap_heads::{
     AnswerStart, PostStart, PostTerms, passes_lines, read_answer_head, read_post_head,
 };
+use ifmap_input::{Input, InputError};
 use ifmap_io::Source;
 use std::alloc::Global;
 
@@ -40,41 +40,37 @@ pub enum AwaitedAnswer {
 }
 
 // Waits for the head of a post. The source is left alone where one was taken from it before.
-#[tactic(auto, using(crate::proofs::Taking::takes_nothing, crate::proofs::Taking::unless_post))]
-pub(crate) fn await_post<S: Source>(
-    alloc: Global,
-    buffer: &mut Buffer,
-    source: &mut S,
-) -> AwaitedPost
+#[tactic(auto, using(ifmap_input::specs::InputLaws::takes_nothing, crate::proofs::Failing::unless_post))]
+pub(crate) fn await_post<S: Source>(alloc: Global, input: &mut Input, source: &mut S) -> AwaitedPost
     ensures taken { UnlessPostFails result
-        (TakesFromSource (S.left source.old) (S.left source.new) buffer.old buffer.new) }
-    ensures is { AwaitsPost buffer.new (S.left source.new) result }
+        (TakesFromSource (S.left source.old) (S.left source.new) input.old input.new) }
+    ensures is { AwaitsPost input.new (S.left source.new) result }
     ensures fault { result ≡ AwaitedPost.ReadFault
         → Rose (S.faults source.old) (S.faults source.new) }
     ensures told { is_some (S.left source.new) ≡ is_some (S.left source.old) }
     ensures apart { S.outgoing source.new ≡ S.outgoing source.old }
     ensures later { S.faults source.old ≤ S.faults source.new }
-    ensures quiet { (head : RequestHead) (rest : List ℕ) → IsPostHead buffer.old head rest
-        → (source.new ≡ source.old) × (buffer.new ≡ buffer.old) }
+    ensures quiet { (head : RequestHead) (rest : List ℕ) → IsPostHead input.old head rest
+        → (source.new ≡ source.old) × (input.new ≡ input.old) }
 {
-    let mut progress = Progress::new();
-    if let Some(awaited) = look_at_post(alloc, &mut progress, buffer.bytes()) {
+    let mut progress = HeadProgress::new();
+    if let Some(awaited) = look_at_post(alloc, &mut progress, input.pending_bytes()) {
         return awaited;
     }
-    await_more(alloc, progress, buffer, source)
+    await_more(alloc, progress, input, source)
 }
 
 // Waits for the head of a post, of which some bytes were looked at.
-#[tactic(auto, using(crate::proofs::Taking::takes_nothing, crate::proofs::Taking::takes_more, ifmap_io::specs::Rises::rose_since))]
+#[tactic(auto, using(ifmap_input::specs::InputLaws::takes_nothing, ifmap_input::specs::InputLaws::takes_more, ifmap_io::specs::Rises::rose_since))]
 fn await_more<S: Source>(
     alloc: Global,
-    progress: Progress,
-    buffer: &mut Buffer,
+    progress: HeadProgress,
+    input: &mut Input,
     source: &mut S,
 ) -> AwaitedPost
     ensures taken { UnlessPostFails result
-        (TakesFromSource (S.left source.old) (S.left source.new) buffer.old buffer.new) }
-    ensures is { AwaitsPost buffer.new (S.left source.new) result }
+        (TakesFromSource (S.left source.old) (S.left source.new) input.old input.new) }
+    ensures is { AwaitsPost input.new (S.left source.new) result }
     ensures fault { result ≡ AwaitedPost.ReadFault
         → Rose (S.faults source.old) (S.faults source.new) }
     ensures told { is_some (S.left source.new) ≡ is_some (S.left source.old) }
@@ -83,20 +79,20 @@ fn await_more<S: Source>(
 {
     let mut progress = progress;
     'head: loop {
-        if let Some(awaited) = look_at_post(alloc, &mut progress, buffer.bytes()) {
+        if let Some(awaited) = look_at_post(alloc, &mut progress, input.pending_bytes()) {
             return awaited;
         }
-        match buffer.fill(source) {
+        match input.fill(source) {
             Ok(true) => {}
-            Ok(false) => return end_post(alloc, buffer.bytes()),
-            Err(Unread::ReadFault) => return AwaitedPost::ReadFault,
-            Err(_) => return AwaitedPost::NoMemory,
+            Ok(false) => return end_post(alloc, input.pending_bytes()),
+            Err(InputError::ReadFault) => return AwaitedPost::ReadFault,
+            Err(InputError::NoMemory) => return AwaitedPost::NoMemory,
         }
     }
 }
 
 // What the bytes of a post so far are, whatever comes after them; `None` where more is to be waited for.
-fn look_at_post(alloc: Global, progress: &mut Progress, bytes: &[u8]) -> Option<AwaitedPost>
+fn look_at_post(alloc: Global, progress: &mut HeadProgress, bytes: &[u8]) -> Option<AwaitedPost>
     ensures none { IfNone result (length bytes.now ≤ longest_head) }
     ensures first { IfNone result (progress.old.parsed ≡ 0 → HasNoPostHead bytes.now) }
     ensures some { IfSome result (λ awaited. (left : Option (List ℕ))
@@ -137,34 +133,34 @@ fn end_post(alloc: Global, bytes: &[u8]) -> AwaitedPost
 }
 
 // Waits for the head of an answer.
-#[tactic(auto, using(crate::proofs::Taking::takes_nothing, crate::proofs::Taking::takes_more, ifmap_io::specs::Rises::rose_since))]
-pub(crate) fn await_answer<S: Source>(buffer: &mut Buffer, source: &mut S) -> AwaitedAnswer
+#[tactic(auto, using(ifmap_input::specs::InputLaws::takes_nothing, ifmap_input::specs::InputLaws::takes_more, ifmap_io::specs::Rises::rose_since))]
+pub(crate) fn await_answer<S: Source>(input: &mut Input, source: &mut S) -> AwaitedAnswer
     ensures taken { UnlessAnswerFails result
-        (TakesFromSource (S.left source.old) (S.left source.new) buffer.old buffer.new) }
-    ensures is { AwaitsAnswer buffer.new (S.left source.new) result }
+        (TakesFromSource (S.left source.old) (S.left source.new) input.old input.new) }
+    ensures is { AwaitsAnswer input.new (S.left source.new) result }
     ensures fault { result ≡ AwaitedAnswer.ReadFault
         → Rose (S.faults source.old) (S.faults source.new) }
     ensures told { is_some (S.left source.new) ≡ is_some (S.left source.old) }
     ensures apart { S.outgoing source.new ≡ S.outgoing source.old }
     ensures later { S.faults source.old ≤ S.faults source.new }
 {
-    let mut progress = Progress::new();
+    let mut progress = HeadProgress::new();
     'head: loop {
-        if let Some(awaited) = look_at_answer(&mut progress, buffer.bytes()) {
+        if let Some(awaited) = look_at_answer(&mut progress, input.pending_bytes()) {
             return awaited;
         }
-        match buffer.fill(source) {
+        match input.fill(source) {
             Ok(true) => {}
-            Ok(false) => return end_answer(buffer.bytes()),
-            Err(Unread::ReadFault) => return AwaitedAnswer::ReadFault,
-            Err(_) => return AwaitedAnswer::NoMemory,
+            Ok(false) => return end_answer(input.pending_bytes()),
+            Err(InputError::ReadFault) => return AwaitedAnswer::ReadFault,
+            Err(InputError::NoMemory) => return AwaitedAnswer::NoMemory,
         }
     }
 }
 
 // What the bytes of an answer so far are, whatever comes after them; `None` where more is to be waited
 // for.
-fn look_at_answer(progress: &mut Progress, bytes: &[u8]) -> Option<AwaitedAnswer>
+fn look_at_answer(progress: &mut HeadProgress, bytes: &[u8]) -> Option<AwaitedAnswer>
     ensures none { IfNone result (length bytes.now ≤ longest_head) }
     ensures some { IfSome result (λ awaited. (left : Option (List ℕ))
         → AwaitsAnswer bytes.now left awaited) }

@@ -3,7 +3,6 @@
 #![tactic(auto)]
 
 mod bodies;
-mod buffers;
 mod dues;
 mod heads;
 mod wires;

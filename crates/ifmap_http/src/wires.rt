@@ -9,11 +9,11 @@ ghost use Rattle.ifmap_heads.specs.Starts.{HasAnswerHead, HasPostHead};
 ghost use Rattle.ifmap_http.specs.Outcomes.{GetsAnswer, GetsPost, IsAnswerable, Sends, is_answered, is_posted};
 
 use crate::bodies::{Unread, take_body};
-use crate::buffers::Buffer;
 use crate::heads::{AwaitedAnswer, AwaitedPost, await_answer, await_post};
 use http::StatusCode;
 use ifmap_elem::{Many, Text};
 use ifmap_heads::{PostTerms, answer_message, post_message};
+use ifmap_input::Input;
 use ifmap_io::{Link, Sink};
 use ifmap_meta::ClientName;
 use std::alloc::Global;
@@ -75,7 +75,7 @@ pub enum Sent {
 #[derive(Drop)]
 pub struct Wire<L: Drop> {
     link: L,
-    buffer: Buffer,
+    input: Input,
     spent: bool,
 }
 
@@ -86,7 +86,7 @@ impl<L: Drop> Model for Wire<L> {
 
     ghost coded = { wired_code L.code };
 
-    ghost view = { λ wire. record { link = wire.link; taken = wire.buffer; spent = wire.spent } };
+    ghost view = { λ wire. record { link = wire.link; taken = wire.input; spent = wire.spent } };
 }
 
 impl<L: Link> Wire<L> {
@@ -96,7 +96,7 @@ impl<L: Link> Wire<L> {
     {
         Wire {
             link,
-            buffer: Buffer::new(alloc),
+            input: Input::new(alloc),
             spent: false,
         }
     }
@@ -107,7 +107,7 @@ impl<L: Link> Wire<L> {
     {
         let Wire {
             link,
-            buffer: _,
+            input: _,
             spent: _,
         } = self;
         link
@@ -221,7 +221,7 @@ impl<L: Link> Wire<L> {
             → ReadsPost self.old.taken (posted client body close rest)
             → self.new.link ≡ self.old.link }
     {
-        match await_post(alloc, &mut self.buffer, &mut self.link) {
+        match await_post(alloc, &mut self.input, &mut self.link) {
             AwaitedPost::Taken(size, terms) => self.take_posted(alloc, size, terms),
             AwaitedPost::Refused(status) => Got::Status(status),
             AwaitedPost::Ended => Got::Ended,
@@ -246,8 +246,8 @@ impl<L: Link> Wire<L> {
         ensures quiet { terms.size ≤ length (drop size self.old.taken)
             → self.new.link ≡ self.old.link }
     {
-        self.buffer.advance(size);
-        match take_body(alloc, &mut self.buffer, &mut self.link, terms.size) {
+        self.input.advance(size);
+        match take_body(alloc, &mut self.input, &mut self.link, terms.size) {
             Ok(body) => Got::Posted(Post {
                 client: terms.client,
                 body: Many(body),
@@ -269,10 +269,10 @@ impl<L: Link> Wire<L> {
         ensures told { is_some (L.left self.new.link) ≡ is_some (L.left self.old.link) }
         ensures apart { L.outgoing self.new.link ≡ L.outgoing self.old.link }
     {
-        match await_answer(&mut self.buffer, &mut self.link) {
+        match await_answer(&mut self.input, &mut self.link) {
             AwaitedAnswer::Sized(size, body) => return self.take_answered(alloc, size, body),
             AwaitedAnswer::Refused(size, status) => {
-                self.buffer.advance(size);
+                self.input.advance(size);
                 return Answered::Status(status);
             }
             AwaitedAnswer::NotHttp => return Answered::NotHttp,
@@ -294,8 +294,8 @@ impl<L: Link> Wire<L> {
         ensures told { is_some (L.left self.new.link) ≡ is_some (L.left self.old.link) }
         ensures apart { L.outgoing self.new.link ≡ L.outgoing self.old.link }
     {
-        self.buffer.advance(size);
-        match take_body(alloc, &mut self.buffer, &mut self.link, body) {
+        self.input.advance(size);
+        match take_body(alloc, &mut self.input, &mut self.link, body) {
             Ok(body) => return Answered::Body(Many(body)),
             Err(Unread::Truncated) => return Answered::Ended,
             Err(Unread::ReadFault) => return Answered::ReadFault,

@@ -1,7 +1,7 @@
 //! What no clause says: limits, chunks, failing calls in mid-stream, printed messages, and an exchange
 //! over sockets.
 ghost use Rattle.std.specs.Prelude.{IsTrue, None};
-ghost use Rattle.ifmap_heads.specs.Messages.{is_answer_status};
+ghost use Rattle.ifmap_http.specs.ifmap_heads.Messages.{is_answer_status};
 
 use crate::{next_answer, next_post, show_posts};
 use ifmap_elem::Text;

@@ -26,7 +26,7 @@ use Rattle.ifmap_ident.specs.declared.names.NameForm.{NameForm}
 use Rattle.ifmap_ident.specs.declared.names.NameForm.TheVariants.{Literal, Domain, Spelled}
 use Rattle.ifmap_ident.specs.Canon.{HasParts, IsAccessRequest, IsCanon, IsDefinition, IsDevice, IsIdentifier, IsIdentity, IsIpAddress, IsMacAddressElement, domain_of}
 use Rattle.ifmap_ident.specs.Identifiers.{identifier_element, identifier_kind}
-use Rattle.ifmap_ident.specs.IdentityNames.{IsKept, domain_name, name_form}
+use Rattle.ifmap_ident.specs.IdentityNames.{IsKeptName, domain_name, name_form}
 use Rattle.ifmap_ident.specs.Kinds.{allowed_attributes, identity_type_name, kind_name}
 use Rattle.ifmap_ident.specs.Parts.{has_only, is_blank_inside, is_blank_part, is_solid, value_of}
 use Rattle.ifmap_ident.proofs.DotLaws.{domain_again}
@@ -37,7 +37,7 @@ use Rattle.ifmap_elem.specs.laws.ArrangedLaws.{out_element}
 
 module _ (fits : (bytes : List ℕ) (r : Reading) → Spells bytes r → IsFit r.root)
     (v4_size : (text value : List ℕ) → IsIpV4 text value → AreBelow 256 4 value) where
-  kept_again : (form : NameForm) (text name : List ℕ) → IsKept form text name → IsKept form name name
+  kept_again : (form : NameForm) (text name : List ℕ) → IsKeptName form text name → IsKeptName form name name
   kept_again Literal text name kept = refl
   kept_again Domain text name kept = kept ∙ sym (domain_again text) ∙ ap domain_name (sym kept)
   kept_again Spelled text name kept = spelled_again fits text name kept

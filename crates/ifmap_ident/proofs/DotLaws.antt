@@ -11,7 +11,7 @@ use Rattle.std.proofs.Math.Seq.{drop-length}
 use Rattle.std.proofs.lemmas.List.{take-append-drop}
 use Rattle.std.proofs.lemmas.Str.{encode_ascii}
 use Rattle.ifmap_ident.specs.IdentityNames.{domain_name, without_last_dots}
-use Rattle.ifmap_lemmas.specs.Numbers.{is_number}
+use Rattle.ifmap_lemmas.specs.Numbers.{equal_numbers}
 
 abbrev pub is_dot : ℕ → Bool
 is_dot c = c == byte "."
@@ -27,7 +27,7 @@ last_dot [] = refl
 last_dot (b ∷ xs) = λ i. cond (is_dot b && all_last xs i) [] (b ∷ last_dot xs i)
 
 dots_end : (b : ℕ) (bs : List ℕ) → list_all is_dot (b ∷ bs) ≡ true → (front : List ℕ) × (b ∷ bs ≡ front ++ 46 ∷ [])
-dots_end b [] h = ([], ap (λ c. c ∷ []) (is_number b 46 (and_parts (is_dot b) true h).0))
+dots_end b [] h = ([], ap (λ c. c ∷ []) (equal_numbers b 46 (and_parts (is_dot b) true h).0))
 dots_end b (c ∷ cs) h =
     let rest = dots_end c cs (and_parts (is_dot b) (list_all is_dot (c ∷ cs)) h).1 in
     (b ∷ rest.0, ap (λ ys. b ∷ ys) rest.1)

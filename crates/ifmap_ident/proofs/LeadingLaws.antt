@@ -7,16 +7,17 @@ use Rattle.std.specs.Cmp.Lexicographic.{slice_cmp}
 use Rattle.std.specs.Ordering.{is_eq, nat_cmp, ordering_then}
 use Rattle.std.specs.declared.cmp.Ordering.{Ordering}
 use Rattle.std.specs.declared.cmp.Ordering.TheVariants.{Equal}
-use Rattle.ifmap_ident.specs.Leading.{Leads}
+use Rattle.ifmap_ident.specs.Leading.{FrontsCompare}
 use Rattle.ifmap_lemmas.specs.Orderings.{both_equal, then_decided, then_equal, then_then, then_where_equal}
 use Rattle.ifmap_lemmas.specs.Texts.{slice_cmp-same}
 
 -- one byte each
-pub leads_one : (b c : ℕ) → Leads (nat_cmp b c) (b ∷ []) (c ∷ [])
+pub leads_one : (b c : ℕ) → FrontsCompare (nat_cmp b c) (b ∷ []) (c ∷ [])
 leads_one b c = record { compares = λ x y. refl }
 
 -- one beginning, and then another
-pub leads_both : {o r : Ordering} {p q s t : List ℕ} → Leads o p q → Leads r s t → Leads (ordering_then o r) (p ++ s) (q ++ t)
+pub leads_both : {o r : Ordering} {p q s t : List ℕ} → FrontsCompare o p q → FrontsCompare r s t
+    → FrontsCompare (ordering_then o r) (p ++ s) (q ++ t)
 leads_both {o} {r} {p} {q} {s} {t} f g =
     record {
       compares = λ x y. rw (append_assoc p s x, append_assoc q t y) (f.compares (s ++ x) (t ++ y)
@@ -24,7 +25,7 @@ leads_both {o} {r} {p} {q} {s} {t} f g =
     }
 
 -- the same beginning
-pub leads_same : (p : List ℕ) → Leads Equal p p
+pub leads_same : (p : List ℕ) → FrontsCompare Equal p p
 leads_same [] = record { compares = λ x y. refl }
 leads_same (b ∷ bs) =
     record {
@@ -33,11 +34,12 @@ leads_same (b ∷ bs) =
     }
 
 -- the same in front of two others
-pub leads_after : {o : Ordering} {p q : List ℕ} → (s : List ℕ) → Leads o p q → Leads o (s ++ p) (s ++ q)
+pub leads_after : {o : Ordering} {p q : List ℕ} → (s : List ℕ) → FrontsCompare o p q → FrontsCompare o (s ++ p) (s ++ q)
 leads_after s f = leads_both (leads_same s) f
 
 -- once they differ, whatever follows
-pub leads_decided : {o : Ordering} {p q : List ℕ} → Leads o p q → is_eq o ≡ false → (s t : List ℕ) → Leads o (p ++ s) (q ++ t)
+pub leads_decided : {o : Ordering} {p q : List ℕ} → FrontsCompare o p q → is_eq o ≡ false → (s t : List ℕ)
+    → FrontsCompare o (p ++ s) (q ++ t)
 leads_decided {o} {p} {q} f e s t =
     record {
       compares = λ x y. rw (append_assoc p s x, append_assoc q t y) (f.compares (s ++ x) (t ++ y)
@@ -45,7 +47,7 @@ leads_decided {o} {p} {q} f e s t =
     }
 
 -- with nothing after them
-pub leads_whole : {o : Ordering} {p q : List ℕ} → Leads o p q → slice_cmp nat_cmp p q ≡ o
+pub leads_whole : {o : Ordering} {p q : List ℕ} → FrontsCompare o p q → slice_cmp nat_cmp p q ≡ o
 leads_whole {o} {p} {q} f = (λ i. slice_cmp nat_cmp (sym (append-nil p) i) (sym (append-nil q) i)) ∙ f.compares [] [] ∙ then_equal o
 
 -- neither goes on from the other
@@ -55,7 +57,7 @@ Parted [] (c ∷ cs) = ⊥
 Parted (b ∷ bs) [] = ⊥
 Parted (b ∷ bs) (c ∷ cs) = b ≡ c → Parted bs cs
 
-pub leads_parted : (p q : List ℕ) → Parted p q → Leads (slice_cmp nat_cmp p q) p q
+pub leads_parted : (p q : List ℕ) → Parted p q → FrontsCompare (slice_cmp nat_cmp p q) p q
 leads_parted [] [] h = leads_same []
 leads_parted [] (c ∷ cs) h = absurd h
 leads_parted (b ∷ bs) [] h = absurd h
@@ -77,5 +79,5 @@ parted_alike (b ∷ bs) (c ∷ cs) s t h e =
     ((λ i. first i ∷ rest.0 i), rest.1)
 
 -- and they compare alike there
-pub leads_alike : {o : Ordering} {p q : List ℕ} → (s t : List ℕ) → Leads o p q → p ++ s ≡ q ++ t → o ≡ Equal
+pub leads_alike : {o : Ordering} {p q : List ℕ} → (s t : List ℕ) → FrontsCompare o p q → p ++ s ≡ q ++ t → o ≡ Equal
 leads_alike {o} {p} {q} s t f e = (both_equal o (slice_cmp nat_cmp s t) (sym (f.compares s t) ∙ slice_cmp-same (p ++ s) (q ++ t) e)).0

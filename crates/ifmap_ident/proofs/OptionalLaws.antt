@@ -2,7 +2,7 @@
 use Rattle.std.proofs.Common.{ap, ◌≡◌, ℕ, ◌<◌, List, [], ◌∷◌, ◌++◌, codes, drop, get_or, refl, sym, ◌∙◌, subst, arith, append_assoc}
 use Rattle.std.specs.Ordering.{ordering_then}
 use Rattle.std.specs.declared.cmp.Ordering.{Ordering}
-use Rattle.ifmap_ident.specs.Leading.{Leads}
+use Rattle.ifmap_ident.specs.Leading.{FrontsCompare}
 use Rattle.ifmap_ident.specs.Written.{OptionalsLead, attribute_written, closed_text, optional_written}
 use Rattle.ifmap_ident.specs.declared.written.Place.TheVariants.{Value}
 use Rattle.ifmap_lemmas.specs.Orderings.{then_equal}
@@ -13,32 +13,36 @@ use Rattle.ifmap_lemmas.specs.Lists.{same_front}
 -- ---- order
 
 -- attributes of one name are ordered as their values
-pub attributes_lead : (o : Ordering) (local v w : List ℕ) → Leads o (closed_text Value v) (closed_text Value w)
-    → Leads o (attribute_written local v) (attribute_written local w)
+pub attributes_lead : (o : Ordering) (local v w : List ℕ) → FrontsCompare o (closed_text Value v) (closed_text Value w)
+    → FrontsCompare o (attribute_written local v) (attribute_written local w)
 attributes_lead o local v w f = leads_after (32 ∷ []) (leads_after local (leads_after (codes "=\"") f))
 
-pub optionals_lead : (o : Ordering) (v w : List ℕ) → (v ≡ [] → ⊥) → (w ≡ [] → ⊥) → Leads o (closed_text Value v) (closed_text Value w)
+pub optionals_lead : (o : Ordering) (v w : List ℕ) → (v ≡ [] → ⊥) → (w ≡ [] → ⊥)
+    → FrontsCompare o (closed_text Value v) (closed_text Value w)
     → OptionalsLead o v w
 optionals_lead o [] w n m f = absurd (n refl)
 optionals_lead o (b ∷ v) [] n m f = absurd (m refl)
 optionals_lead o (b ∷ v) (c ∷ w) n m f = λ first letter local h.
-    subst (λ r. Leads r (attribute_written (first ∷ local) (b ∷ v) ++ (32 ∷ (letter ∷ []))) (attribute_written (first ∷ local) (c ∷ w)
+    subst (λ r. FrontsCompare r (attribute_written (first ∷ local) (b ∷ v) ++ (32 ∷ (letter ∷ []))) (attribute_written (first ∷ local) (c
+    ∷ w)
     ++ (32 ∷ (letter ∷ [])))) (then_equal o)
     (leads_both (attributes_lead o (first ∷ local) (b ∷ v) (c ∷ w) f) (leads_same (32 ∷ (letter ∷ []))))
 
 -- ---- one part and then another
 
-pub leads_before : {o : Ordering} {p q : List ℕ} → Leads o p q → (s : List ℕ) → Leads o (p ++ s) (q ++ s)
-leads_before {o} {p} {q} f s = subst (λ r. Leads r (p ++ s) (q ++ s)) (then_equal o) (leads_both f (leads_same s))
+pub leads_before : {o : Ordering} {p q : List ℕ} → FrontsCompare o p q → (s : List ℕ) → FrontsCompare o (p ++ s) (q ++ s)
+leads_before {o} {p} {q} f s = subst (λ r. FrontsCompare r (p ++ s) (q ++ s)) (then_equal o) (leads_both f (leads_same s))
 
 -- an attribute that may be left out, a space, a greater letter, and then others
-pub optional_then : (o r : Ordering) (first letter : ℕ) (local v w s t : List ℕ) → first < letter → OptionalsLead o v w → Leads r s t
-    → Leads (ordering_then o r) (optional_written (first ∷ local) v ++ (32 ∷ (letter ∷ s))) (optional_written (first ∷ local) w ++ (32 ∷
+pub optional_then : (o r : Ordering) (first letter : ℕ) (local v w s t : List ℕ) → first < letter → OptionalsLead o v w
+    → FrontsCompare r s t
+    → FrontsCompare (ordering_then o r) (optional_written (first ∷ local) v ++ (32 ∷ (letter ∷ s))) (optional_written (first ∷ local) w
+    ++ (32 ∷
     (letter ∷ t)))
 optional_then o r first letter local v w s t h f g =
-    subst (λ p. Leads (ordering_then o r) p (optional_written (first ∷ local) w ++ (32 ∷ (letter ∷ t))))
+    subst (λ p. FrontsCompare (ordering_then o r) p (optional_written (first ∷ local) w ++ (32 ∷ (letter ∷ t))))
     (append_assoc (optional_written (first ∷ local) v) (32 ∷ (letter ∷ [])) s)
-    (subst (λ q. Leads (ordering_then o r) ((optional_written (first ∷ local) v ++ (32 ∷ (letter ∷ []))) ++ s) q)
+    (subst (λ q. FrontsCompare (ordering_then o r) ((optional_written (first ∷ local) v ++ (32 ∷ (letter ∷ []))) ++ s) q)
     (append_assoc (optional_written (first ∷ local) w) (32 ∷ (letter ∷ [])) t) (leads_both (f first letter local h) g))
 
 -- ---- values are told apart

@@ -21,7 +21,7 @@ use Rattle.ifmap_ident.specs.declared.kinds.IdentityType.{IdentityType}
 use Rattle.ifmap_ident.specs.declared.written.Place.TheVariants.{Value, Content}
 use Rattle.ifmap_ident.specs.Identifiers.{identifier_kind, identifier_order}
 use Rattle.ifmap_ident.specs.Kinds.{identity_type_name}
-use Rattle.ifmap_ident.specs.Leading.{Leads}
+use Rattle.ifmap_ident.specs.Leading.{FrontsCompare}
 use Rattle.ifmap_ident.specs.Written.{OptionalsLead, closed_text, domain_written, identifier_written, kind_rank, placed_bytes}
 use Rattle.ifmap_ident.proofs.LeadingLaws.{leads_after, leads_both, leads_whole}
 use Rattle.ifmap_ident.proofs.OptionalLaws.{leads_before, optional_then}
@@ -45,7 +45,7 @@ above_quotes [] h = tt
 above_quotes (b ∷ bs) h = (above_quote b h.0, above_quotes bs h.1)
 
 plain_leads : (p q : List ℕ) → AllByRecursion IsAddressByte p → AllByRecursion IsAddressByte q
-    → Leads (slice_cmp nat_cmp p q) (closed_text Value p) (closed_text Value q)
+    → FrontsCompare (slice_cmp nat_cmp p q) (closed_text Value p) (closed_text Value q)
 plain_leads p q f g =
     record {
       compares = λ x y. (λ i. slice_cmp nat_cmp ((plain_text p f i) ++ x) ((plain_text q g i) ++ y))
@@ -60,30 +60,31 @@ below bound (x ∷ xs) f = (f 0, below bound xs (λ i. f (suc i)))
 -- ---- each kind
 
 -- from how two identifiers are written
-by_written : (o : Ordering) (a b : Identifier) → Leads o (identifier_written a) (identifier_written b) → o ≡ identifier_order a b
+by_written : (o : Ordering) (a b : Identifier) → FrontsCompare o (identifier_written a) (identifier_written b) → o ≡ identifier_order a b
 by_written o a b f =
     sym (leads_whole f) ∙ (λ i. slice_cmp nat_cmp (sym (printed a) i) (sym (printed b) i))
 
 -- the domain, and then an attribute whose name begins with this letter
-domain_then : (o r : Ordering) (letter : ℕ) (d e s t : List ℕ) → 97 < letter → OptionalsLead o d e → Leads r s t
-    → Leads (ordering_then o r) (domain_written d ++ (32 ∷ (letter ∷ s))) (domain_written e ++ (32 ∷ (letter ∷ t)))
+domain_then : (o r : Ordering) (letter : ℕ) (d e s t : List ℕ) → 97 < letter → OptionalsLead o d e → FrontsCompare r s t
+    → FrontsCompare (ordering_then o r) (domain_written d ++ (32 ∷ (letter ∷ s))) (domain_written e ++ (32 ∷ (letter ∷ t)))
 domain_then o r letter d e s t h f g = optional_then o r 97 letter (codes "dministrative-domain") d e s t h f g
 
-pub access_requests : (o r : Ordering) (n d m e : List ℕ) → OptionalsLead o d e → Leads r (closed_text Value n) (closed_text Value m)
+pub access_requests : (o r : Ordering) (n d m e : List ℕ) → OptionalsLead o d e
+    → FrontsCompare r (closed_text Value n) (closed_text Value m)
     → ordering_then o r ≡ identifier_order (AccessRequest n d) (AccessRequest m e)
 access_requests o r n d m e f g =
     by_written (ordering_then o r) (AccessRequest n d) (AccessRequest m e) (leads_after (codes "<access-request")
     (domain_then o r 110 d e (codes "ame=\"" ++ (closed_text Value n ++ codes "/>")) (codes "ame=\"" ++ (closed_text Value m ++ codes "/>"))
     (omega arith) f (leads_after (codes "ame=\"") (leads_before g (codes "/>")))))
 
-pub devices : (r : Ordering) (n m : List ℕ) → Leads r (closed_text Content n) (closed_text Content m)
+pub devices : (r : Ordering) (n m : List ℕ) → FrontsCompare r (closed_text Content n) (closed_text Content m)
     → r ≡ identifier_order (Device n) (Device m)
 devices r n m g =
     by_written r (Device n) (Device m) (leads_after (codes "<device><name>") (leads_before g (codes "/name></device>")))
 
 pub identities : (o r p q : Ordering) (n : List ℕ) (k : IdentityType) (u d m : List ℕ) (l : IdentityType) (v e : List ℕ)
-    → OptionalsLead o d e → Leads r (closed_text Value n) (closed_text Value m) → OptionalsLead p u v
-    → Leads q (closed_text Value (identity_type_name k)) (closed_text Value (identity_type_name l))
+    → OptionalsLead o d e → FrontsCompare r (closed_text Value n) (closed_text Value m) → OptionalsLead p u v
+    → FrontsCompare q (closed_text Value (identity_type_name k)) (closed_text Value (identity_type_name l))
     → ordering_then (ordering_then (ordering_then o r) p) q ≡ identifier_order (Identity n k u d) (Identity m l v e)
 identities o r p q n k u d m l v e f g h j =
     let types = leads_after (codes "ype=\"") (leads_before j (codes "/>")) in
@@ -95,15 +96,15 @@ identities o r p q n k u d m l v e f g h j =
 
 -- addresses with a type and the texts of their values
 typed_addresses : (o r : Ordering) (d e p q s t : List ℕ) → OptionalsLead o d e
-    → Leads r (p ++ (codes "\" value=\"" ++ closed_text Value s)) (q ++ (codes "\" value=\"" ++ closed_text Value t))
-    → Leads (ordering_then o r) (codes "<ip-address" ++ (domain_written d ++ (codes " type=\"" ++ (p ++ (codes "\" value=\""
+    → FrontsCompare r (p ++ (codes "\" value=\"" ++ closed_text Value s)) (q ++ (codes "\" value=\"" ++ closed_text Value t))
+    → FrontsCompare (ordering_then o r) (codes "<ip-address" ++ (domain_written d ++ (codes " type=\"" ++ (p ++ (codes "\" value=\""
     ++ (closed_text Value s ++ codes "/>"))))))
     (codes "<ip-address" ++ (domain_written e ++ (codes " type=\"" ++ (q ++ (codes "\" value=\"" ++ (closed_text Value t ++ codes "/>"))))))
 typed_addresses o r d e p q s t f g =
     leads_after (codes "<ip-address") (domain_then o r 116 d e _ _ (omega arith) f (leads_after (codes "ype=\"")
-    (subst (λ x. Leads r x (q ++ (codes "\" value=\"" ++ (closed_text Value t ++ codes "/>")))) (append_assoc p (codes "\" value=\""
+    (subst (λ x. FrontsCompare r x (q ++ (codes "\" value=\"" ++ (closed_text Value t ++ codes "/>")))) (append_assoc p (codes "\" value=\""
     ++ closed_text Value s) (codes "/>"))
-    (subst (λ y. Leads r ((p ++ (codes "\" value=\"" ++ closed_text Value s)) ++ codes "/>") y)
+    (subst (λ y. FrontsCompare r ((p ++ (codes "\" value=\"" ++ closed_text Value s)) ++ codes "/>") y)
     (append_assoc q (codes "\" value=\"" ++ closed_text Value t) (codes "/>")) (leads_before g (codes "/>"))))))
 
 pub v4_addresses : (o : Ordering) (v d w e : List ℕ) → ((i : ℕ) → get_or v i 0 < 256) → ((i : ℕ) → get_or w i 0 < 256) → OptionalsLead o d e

@@ -16,7 +16,7 @@ use Rattle.std.specs.List.{list_all, slice_get}
 use Rattle.std.specs.Ordering.{is_eq, nat_cmp}
 use Rattle.std.specs.declared.cmp.Ordering.{Ordering}
 use Rattle.ifmap_elem.specs.Escapes.{text_byte, value_byte}
-use Rattle.ifmap_ident.specs.Leading.{Leads}
+use Rattle.ifmap_ident.specs.Leading.{FrontsCompare}
 use Rattle.ifmap_ident.specs.Written.{closed_text, end_byte, placed_byte, placed_bytes, written_byte}
 use Rattle.ifmap_ident.specs.declared.written.Place.{Place}
 use Rattle.ifmap_ident.specs.declared.written.Place.TheVariants.{Value, Content}
@@ -131,7 +131,7 @@ byte_of_piece-written_byte Content (Some b) =
 -- ---- texts in one place
 
 module _ (place : Place) where
-  piece_leads : (o r : Option ℕ) → Leads (slice_cmp nat_cmp (written_byte place o) (written_byte place r)) (written_byte place o)
+  piece_leads : (o r : Option ℕ) → FrontsCompare (slice_cmp nat_cmp (written_byte place o) (written_byte place r)) (written_byte place o)
       (written_byte place r)
   piece_leads o r = leads_parted (written_byte place o) (written_byte place r) (parted_pieces (written_byte place o)
       (written_byte place r) (is_piece place o) (is_piece place r))
@@ -162,15 +162,16 @@ module _ (place : Place) where
   piece_order one other n = slice_cmp nat_cmp (written_byte place (slice_get one n)) (written_byte place (slice_get other n))
 
   differ_at_once : (one other : List ℕ) → (slice_get one 0 ≡ slice_get other 0 → ⊥)
-      → Leads (piece_order one other 0) (closed_text place one) (closed_text place other)
+      → FrontsCompare (piece_order one other 0) (closed_text place one) (closed_text place other)
   differ_at_once one other n =
-      subst (λ p. Leads (piece_order one other 0) p (closed_text place other)) (sym (first_piece one))
-      (subst (λ q. Leads (piece_order one other 0) (written_byte place (slice_get one 0) ++ after_first one) q) (sym (first_piece other))
+      subst (λ p. FrontsCompare (piece_order one other 0) p (closed_text place other)) (sym (first_piece one))
+      (subst (λ q. FrontsCompare (piece_order one other 0) (written_byte place (slice_get one 0) ++ after_first one) q) (sym (first_piece
+      other))
       (leads_decided (piece_leads (slice_get one 0) (slice_get other 0)) (pieces_differ (slice_get one 0) (slice_get other 0) n)
       (after_first one) (after_first other)))
 
   pub text_leads : (one other : List ℕ) (n : ℕ) → take n one ≡ take n other → Apart one other n
-      → Leads (piece_order one other n) (closed_text place one) (closed_text place other)
+      → FrontsCompare (piece_order one other n) (closed_text place one) (closed_text place other)
   text_leads [] [] zero e h = piece_leads None None
   text_leads [] [] (suc n) e h = piece_leads None None
   text_leads [] (c ∷ cs) zero e h = differ_at_once [] (c ∷ cs) (λ d. cc)
@@ -181,9 +182,9 @@ module _ (place : Place) where
   text_leads (b ∷ bs) (c ∷ cs) (suc n) e h =
       let same : b ≡ c = cc in
       let rest : take n bs ≡ take n cs = cc in
-      subst (λ p. Leads (piece_order bs cs n) p (closed_text place (c ∷ cs))) (sym (append_assoc (placed_byte place b)
+      subst (λ p. FrontsCompare (piece_order bs cs n) p (closed_text place (c ∷ cs))) (sym (append_assoc (placed_byte place b)
       (placed_bytes place bs) (end_byte place ∷ [])))
-      (subst (λ q. Leads (piece_order bs cs n) (placed_byte place b ++ closed_text place bs) q) (ap
+      (subst (λ q. FrontsCompare (piece_order bs cs n) (placed_byte place b ++ closed_text place bs) q) (ap
       (λ x. placed_byte place x ++ closed_text place cs) same ∙ sym (append_assoc (placed_byte place c) (placed_bytes place cs)
       (end_byte place ∷ [])))
       (leads_after (placed_byte place b) (text_leads bs cs n rest h)))

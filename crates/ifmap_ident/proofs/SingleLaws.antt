@@ -29,7 +29,7 @@ use Rattle.ifmap_ident.specs.declared.names.NameForm.{NameForm}
 use Rattle.ifmap_ident.specs.declared.names.NameForm.TheVariants.{Literal, Domain, Spelled}
 use Rattle.ifmap_ident.specs.Canon.{HasParts, HoldsName, IsAccessRequest, IsAnswer, IsCanon, IsDefinition, IsDevice, IsIdentity, IsInvalid, IsIpAddress, IsMacAddressElement, IsMeant, IsTooLong, IsWrongKind, most_bytes}
 use Rattle.ifmap_ident.specs.Identifiers.{identifier_bytes, identifier_kind}
-use Rattle.ifmap_ident.specs.IdentityNames.{IsKept, name_form}
+use Rattle.ifmap_ident.specs.IdentityNames.{IsKeptName, name_form}
 use Rattle.ifmap_ident.specs.Kinds.{identity_type_name}
 use Rattle.ifmap_ident.specs.Laws.{AreOneAnswer}
 use Rattle.ifmap_ident.specs.Parts.{value_of}
@@ -54,7 +54,7 @@ one_definition types.Username given x y p q = p ∙ sym q
 one_definition types.SipUri given x y p q = p ∙ sym q
 one_definition types.TelUri given x y p q = p ∙ sym q
 
-pub one_kept : (form : NameForm) (text x y : List ℕ) → IsKept form text x → IsKept form text y → x ≡ y
+pub one_kept : (form : NameForm) (text x y : List ℕ) → IsKeptName form text x → IsKeptName form text y → x ≡ y
 one_kept Literal text x y p q = p ∙ sym q
 one_kept Domain text x y p q = p ∙ sym q
 one_kept Spelled text x y p q =
@@ -96,9 +96,9 @@ one_identity e n k o d m l s c p q =
     let given : Option (List ℕ) = value_of (codes "other-type-definition") e in
     let others : o ≡ s = one_definition k given o s p.definition (subst (λ t. IsDefinition t given s) (sym kinds) q.definition) in
     let texts : p.text ≡ q.text = one_of (value_of (codes "name") e) p.text q.text p.text_is q.text_is in
-    let kept : IsKept (name_form k o) p.text m =
-    subst (λ t. IsKept (name_form k o) t m) (sym texts)
-    (subst (λ t. IsKept (name_form t o) q.text m) (sym kinds) (subst (λ t. IsKept (name_form l t) q.text m) (sym others) q.kept)) in
+    let kept : IsKeptName (name_form k o) p.text m =
+    subst (λ t. IsKeptName (name_form k o) t m) (sym texts)
+    (subst (λ t. IsKeptName (name_form t o) q.text m) (sym kinds) (subst (λ t. IsKeptName (name_form l t) q.text m) (sym others) q.kept)) in
     let names : n ≡ m = one_kept (name_form k o) p.text n m p.kept kept in
     λ i. Identity (names i) (kinds i) (others i) ((p.domain_is ∙ sym q.domain_is) i)
 

@@ -34,7 +34,7 @@ use Rattle.ifmap_ident.specs.declared.names.NameForm.{NameForm}
 use Rattle.ifmap_ident.specs.declared.names.NameForm.TheVariants.{Literal, Domain, Spelled}
 use Rattle.ifmap_ident.specs.Canon.{HoldsName, IsAccessRequest, IsDefinition, IsDevice, IsIdentity, IsIpAddress, IsMacAddressElement, IsOfKind, domain_of, most_bytes}
 use Rattle.ifmap_ident.specs.Identifiers.{identifier_bytes}
-use Rattle.ifmap_ident.specs.IdentityNames.{IsKept, domain_name, name_form}
+use Rattle.ifmap_ident.specs.IdentityNames.{IsKeptName, domain_name, name_form}
 use Rattle.ifmap_ident.specs.Kinds.{allowed_attributes, identity_type_name, identity_types, kind_name, kinds}
 use Rattle.ifmap_ident.specs.Laws.{HasAnswer}
 use Rattle.ifmap_ident.specs.Meaning.{ArePartsOf, IsMeaning}
@@ -244,7 +244,7 @@ module _ (reads : (bytes : List ℕ) → Decided ((reading : Reading) × Spells 
     (v4 : (text : List ℕ) → Decided ((value : List ℕ) × IsIpV4 text value))
     (v6 : (text : List ℕ) → Decided ((value : List ℕ) × IsIpV6 text value))
     (mac : (text : List ℕ) → Decided ((value : List ℕ) × IsMacAddress text value)) where
-  kept_or_none : (form : NameForm) (text : List ℕ) → Decided ((name : List ℕ) × IsKept form text name)
+  kept_or_none : (form : NameForm) (text : List ℕ) → Decided ((name : List ℕ) × IsKeptName form text name)
   kept_or_none Literal text = inl (text, refl)
   kept_or_none Domain text = inl (domain_name text, refl)
   kept_or_none Spelled text =
@@ -257,12 +257,13 @@ module _ (reads : (bytes : List ℕ) → Decided ((reading : Reading) × Spells 
   -- the name of an identity of this type and definition
   abbrev HasName : Element → IdentityType → List ℕ → Type 0
   HasName e kind other =
-      (text : List ℕ) × (value_of (codes "name") e ≡ Some text) × ((name : List ℕ) × IsKept (name_form kind other) text name × (name ≢ []))
+      (text : List ℕ) × (value_of (codes "name") e ≡ Some text) × ((name : List ℕ) × IsKeptName (name_form kind other) text name
+      × (name ≢ []))
 
   name_or_none : (e : Element) (kind : IdentityType) (other : List ℕ) → Decided (HasName e kind other)
   name_or_none e kind other =
-      with_value (value_of (codes "name") e) (λ text. (name : List ℕ) × IsKept (name_form kind other) text name × (name ≢ []))
-      (λ text. and_more (IsKept (name_form kind other) text) (λ name. name ≢ []) (one_kept (name_form kind other) text)
+      with_value (value_of (codes "name") e) (λ text. (name : List ℕ) × IsKeptName (name_form kind other) text name × (name ≢ []))
+      (λ text. and_more (IsKeptName (name_form kind other) text) (λ name. name ≢ []) (one_kept (name_form kind other) text)
       (kept_or_none (name_form kind other) text) some_or_empty)
 
   abbrev HasDefinition : Element → IdentityType → Type 0

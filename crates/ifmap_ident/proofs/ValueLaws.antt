@@ -24,12 +24,12 @@ use Rattle.ifmap_ident.specs.declared.kinds.IdentityType.TheVariants as types
 use Rattle.ifmap_ident.specs.declared.names.NameForm.{NameForm}
 use Rattle.ifmap_ident.specs.declared.names.NameForm.TheVariants.{Literal, Domain, Spelled}
 use Rattle.ifmap_ident.specs.Canon.{IsDefinition, domain_of}
-use Rattle.ifmap_ident.specs.IdentityNames.{IsKept, domain_name, without_last_dots}
+use Rattle.ifmap_ident.specs.IdentityNames.{IsKeptName, domain_name, without_last_dots}
 use Rattle.ifmap_ident.specs.Parts.{value_of}
 use Rattle.ifmap_ident.proofs.DotLaws.{dot_encoded, is_dot}
 use Rattle.ifmap_ident.proofs.KindLaws.{one_value}
 use Rattle.ifmap_ident.proofs.Utf8Laws.{canonical_characters, no_characters}
-use Rattle.ifmap_lemmas.specs.Numbers.{is_number}
+use Rattle.ifmap_lemmas.specs.Numbers.{equal_numbers}
 use Rattle.ifmap_addresses.specs.Values.{IsAddressByte}
 use Rattle.ifmap_lemmas.specs.Filters as filters
 use Rattle.ifmap_lemmas.specs.Texts.{ascii_encoded, is_ascii}
@@ -112,7 +112,7 @@ dots_cut : (cs : List ℕ) → AllAre is_character cs → IsCharacters (without_
 dots_cut [] f = no_characters
 dots_cut (c ∷ cs) f = elim (cases_Bool (is_dot c)) [
   | inl dot ↦ subst (λ (x : List ℕ). IsCharacters (without_last_dots (x ++ encode_utf8_all cs)))
-      (sym (ap encode_utf8 (is_number c 46 dot) ∙ dot_encoded))
+      (sym (ap encode_utf8 (equal_numbers c 46 dot) ∙ dot_encoded))
       (dot_first (list_all is_dot (46 ∷ encode_utf8_all cs)) (without_last_dots (encode_utf8_all cs)) (dots_cut cs f.1))
   | inr other ↦ subst IsCharacters
       (sym (over_others (encode_utf8 c) (encode_utf8_all cs)
@@ -131,7 +131,7 @@ lower_is_plain b l h = grind (arith, nat_tests)
 
 lower_itself : (xs : List ℕ) → AllAre is_lower xs → map to_ascii_lowercase xs ≡ xs
 lower_itself [] f = refl
-lower_itself (b ∷ xs) f = λ i. is_number (to_ascii_lowercase b) b f.0 i ∷ lower_itself xs f.1 i
+lower_itself (b ∷ xs) f = λ i. equal_numbers (to_ascii_lowercase b) b f.0 i ∷ lower_itself xs f.1 i
 
 lower_one : (c : ℕ) → is_character c ≡ true → IsCharacters (map to_ascii_lowercase (encode_utf8 c))
 lower_one c h = elim (cases_lt c 128) [
@@ -157,7 +157,7 @@ domain_name_characters text i =
 -- ---- names that are kept
 
 pub kept_characters : ((bytes : List ℕ) (r : Reading) → Spells bytes r → IsFit r.root) → (form : NameForm) (text name : List ℕ)
-    → IsCharacters text → IsKept form text name → IsCharacters name
+    → IsCharacters text → IsKeptName form text name → IsCharacters name
 kept_characters fits Literal text name h kept = subst IsCharacters (sym kept) h
 kept_characters fits Domain text name h kept = subst IsCharacters (sym kept) (domain_name_characters text h)
 kept_characters fits Spelled text name h kept =

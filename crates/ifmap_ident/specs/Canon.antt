@@ -15,7 +15,7 @@ use Rattle.ifmap_ident.specs.declared.kinds.IdentityType.{IdentityType}
 use Rattle.ifmap_ident.specs.declared.kinds.IdentityType.TheVariants as types
 use Rattle.ifmap_ident.specs.declared.kinds.Kind.{Kind}
 use Rattle.ifmap_ident.specs.Identifiers.{identifier_bytes, identifier_kind}
-use Rattle.ifmap_ident.specs.IdentityNames.{IsKept, name_form}
+use Rattle.ifmap_ident.specs.IdentityNames.{IsKeptName, name_form}
 use Rattle.ifmap_ident.specs.Kinds.{allowed_attributes, identity_type_name, kind_name}
 use Rattle.ifmap_ident.specs.Parts.{has_only, is_blank_inside, solid_children, value_of}
 
@@ -53,7 +53,7 @@ pub record IsIdentity (e : Element) (name : List ℕ) (kind : IdentityType) (oth
   pub definition : IsDefinition kind (value_of (codes "other-type-definition") e) other
   pub text : List ℕ
   pub text_is : value_of (codes "name") e ≡ Some text
-  pub kept : IsKept (name_form kind other) text name
+  pub kept : IsKeptName (name_form kind other) text name
   pub not_empty : name ≢ []
   pub domain_is : domain ≡ domain_of e
 

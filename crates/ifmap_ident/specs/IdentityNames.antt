@@ -35,7 +35,7 @@ name_form Other other = if bytes_eq other (codes "extended") then Spelled else L
 name_form _ other = Literal
 
 -- this text is kept as this name
-abbrev pub IsKept : NameForm → List ℕ → List ℕ → Type 0
-IsKept Literal text name = name ≡ text
-IsKept Domain text name = name ≡ domain_name text
-IsKept Spelled text name = IsSpelledName text name
+abbrev pub IsKeptName : NameForm → List ℕ → List ℕ → Type 0
+IsKeptName Literal text name = name ≡ text
+IsKeptName Domain text name = name ≡ domain_name text
+IsKeptName Spelled text name = IsSpelledName text name

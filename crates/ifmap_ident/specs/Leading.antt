@@ -5,5 +5,5 @@ use Rattle.std.specs.Ordering.{nat_cmp, ordering_then}
 use Rattle.std.specs.declared.cmp.Ordering.{Ordering}
 
 -- texts that begin with p and q compare like this, and where it is Equal, as what follows there does
-pub record Leads (order : Ordering) (p q : List ℕ) : Type 0 where
+pub record FrontsCompare (order : Ordering) (p q : List ℕ) : Type 0 where
   pub compares : (x y : List ℕ) → slice_cmp nat_cmp (p ++ x) (q ++ y) ≡ ordering_then order (slice_cmp nat_cmp x y)

@@ -8,7 +8,7 @@ use Rattle.ifmap_ident.specs.declared.items.Item.TheVariants.{One, Pair}
 use Rattle.ifmap_ident.specs.Items.{same_item, item_order, items_tie}
 use Rattle.std.specs.Cmp.Lexicographic.{nat_list_cmp_total}
 use Rattle.std.specs.Ordering.{ordering_reverse, is_eq}
-use Rattle.std.specs.Cmp.{Equal-is, IsTotalOrder}
+use Rattle.std.specs.Cmp.{Equal-is, IsEquivalence, IsTotalOrder}
 use Rattle.std.specs.declared.cmp.Ordering.TheVariants.{Equal, Less}
 use Rattle.std.specs.Cmp.Rules.{comparing}
 use Rattle.std.specs.BTreeMap.{is_at}
@@ -29,19 +29,22 @@ turned_order a b = nat_list_cmp_total.antisymm (identifier_bytes a) (identifier_
 pub same_equal : (a b : Item) → same_item a b ≡ true → item_order a b ≡ Equal
 same_equal a b e = (Equal-is (item_order a b)).0 (sym (items_tie a b) ∙ e)
 
-pub less_differs : (a b : Item) → item_order a b ≡ Less → same_item a b ≡ false
-less_differs a b e = items_tie a b ∙ ap is_eq e
+pub less_item_differs : (a b : Item) → item_order a b ≡ Less → same_item a b ≡ false
+less_item_differs a b e = items_tie a b ∙ ap is_eq e
 
 pub items_total : IsTotalOrder item_order
 items_total = search (comparing, rules)
+
+pub items_equiv : IsEquivalence same_item
+items_equiv = search (comparing, rules)
 
 -- the test of a look-up is that of what is stored on an item
 pub ties : (item other : Item) → is_at (item_order item) other ≡ same_item other item
 ties item other = sym (items_tie other item ∙ ap is_eq (items_total.antisymm other item) ∙ eq_turned (item_order item other))
 
 -- an item below another is not the same
-pub greater_differs : (i y : Item) → item_order i y ≡ Less → same_item y i ≡ false
-greater_differs i y e = sym (ties i y) ∙ ap is_eq e
+pub greater_item_differs : (i y : Item) → item_order i y ≡ Less → same_item y i ≡ false
+greater_item_differs i y e = sym (ties i y) ∙ ap is_eq e
 
 -- identifiers of one list of canonical bytes are one
 abbrev pub BytesTellIdentifiers : Type 0

@@ -14,7 +14,7 @@ use Rattle.ifmap_ident.specs.declared.written.Place.{Place}
 use Rattle.ifmap_ident.specs.declared.written.Place.TheVariants.{Value, Content}
 use Rattle.ifmap_ident.specs.declared.kinds.Kind.{Kind}
 use Rattle.ifmap_ident.specs.Kinds.{identity_type_name}
-use Rattle.ifmap_ident.specs.Leading.{Leads}
+use Rattle.ifmap_ident.specs.Leading.{FrontsCompare}
 
 -- ---- texts
 
@@ -55,7 +55,7 @@ optional_written local (b ∷ bs) = attribute_written local (b ∷ bs)
 abbrev pub OptionalsLead : Ordering → List ℕ → List ℕ → Type 0
 OptionalsLead order one other =
     (first letter : ℕ) (local : List ℕ) → first < letter
-    → Leads order (optional_written (first ∷ local) one ++ (codes " " ++ (letter ∷ [])))
+    → FrontsCompare order (optional_written (first ∷ local) one ++ (codes " " ++ (letter ∷ [])))
     (optional_written (first ∷ local) other ++ (codes " " ++ (letter ∷ [])))
 
 -- ---- identifiers

@@ -24,6 +24,10 @@ mod written;
 pub use codes::Code;
 pub use errors::IdentError;
 pub use identifiers::Identifier;
+pub use ifmap_reader::laws::{
+    bytes_spell_an_element_or_none, what_bytes_declare_fits, what_bytes_spell_fits,
+};
+pub use ifmap_reader::{ReadError, read};
 pub use items::Item;
 pub use kinds::{IdentityType, Kind};
 pub use parts::value_of;

@@ -1,6 +1,6 @@
 //! The names of identities, in the form in which they are kept.
 ghost use Rattle.std.specs.Prelude.{◌≡◌, ◌≢◌, [], IfOk};
-ghost use Rattle.ifmap_ident.specs.IdentityNames.{IsKept, IsSpelledName, domain_name, without_last_dots};
+ghost use Rattle.ifmap_ident.specs.IdentityNames.{IsKeptName, IsSpelledName, domain_name, without_last_dots};
 ghost use Rattle.ifmap_ident.specs.Meaning.{IsFound, unless_empty};
 ghost use Rattle.ifmap_elem.specs.Canonical.{canonical_bytes};
 ghost use Rattle.ifmap_elem.specs.Fit.{IsFit};
@@ -29,7 +29,7 @@ pub(crate) fn keep_name(
     form: NameForm,
     text: &Text,
 ) -> Result<Option<Text>, NoMemory>
-    ensures { IsFound (λ name. IsKept form text.now name × (name ≢ [])) result }
+    ensures { IsFound (λ name. IsKeptName form text.now name × (name ≢ [])) result }
 {
     match form {
         NameForm::Literal => Ok(unless_empty(text.copy(alloc)?)),

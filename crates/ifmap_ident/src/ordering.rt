@@ -3,7 +3,7 @@ ghost use Rattle.std.specs.Prelude.{◌≡◌};
 ghost use Rattle.std.specs.Ordering.{nat_cmp};
 ghost use Rattle.ifmap_ident.specs.Identifiers.{identifier_kind, identifier_order};
 ghost use Rattle.ifmap_ident.specs.Kinds.{identity_type_name};
-ghost use Rattle.ifmap_ident.specs.Leading.{Leads};
+ghost use Rattle.ifmap_ident.specs.Leading.{FrontsCompare};
 ghost use Rattle.ifmap_ident.specs.Written.{closed_text, kind_rank};
 ghost use Rattle.ifmap_ident.specs.declared.identifiers.Identifier.TheVariants.{AccessRequest, Device, Identity, IpV4, IpV6, MacAddress};
 ghost use Rattle.ifmap_ident.specs.declared.kinds.Kind;
@@ -208,7 +208,7 @@ fn identity_order(one: IdentityParts<'_>, other: IdentityParts<'_>) -> Ordering
 
 // How the types of two identities compare as they are written.
 fn type_order(one: IdentityType, other: IdentityType) -> Ordering
-    ensures { Leads result (closed_text Value (identity_type_name one))
+    ensures { FrontsCompare result (closed_text Value (identity_type_name one))
         (closed_text Value (identity_type_name other)) }
 {
     bytes_order(Place::Value, one.name().as_bytes(), other.name().as_bytes())

@@ -4,7 +4,7 @@ ghost use Rattle.std.specs.List.{slice_get};
 ghost use Rattle.std.specs.Option.{option_copied};
 ghost use Rattle.std.specs.Cmp.Lexicographic.{slice_cmp};
 ghost use Rattle.std.specs.Ordering.{nat_cmp};
-ghost use Rattle.ifmap_ident.specs.Leading.{Leads};
+ghost use Rattle.ifmap_ident.specs.Leading.{FrontsCompare};
 ghost use Rattle.ifmap_ident.specs.Written.{closed_text, placed_byte, placed_bytes, written_byte};
 
 use ifmap_elem::{Text, text_reference, value_reference};
@@ -23,13 +23,13 @@ pub(crate) enum Place {
 
 // How two texts compare as they are written, each with the byte that ends it in its place.
 pub(crate) fn text_order(place: Place, one: &Text, other: &Text) -> Ordering
-    ensures { Leads result (closed_text place one.now) (closed_text place other.now) }
+    ensures { FrontsCompare result (closed_text place one.now) (closed_text place other.now) }
 {
     bytes_order(place, one.as_bytes(), other.as_bytes())
 }
 
 pub(crate) fn bytes_order(place: Place, one: &[u8], other: &[u8]) -> Ordering
-    ensures { Leads result (closed_text place one.now) (closed_text place other.now) }
+    ensures { FrontsCompare result (closed_text place one.now) (closed_text place other.now) }
 {
     let shared = shared_len(one, other);
     order_after_shared(place, one.get(shared), other.get(shared))

@@ -44,16 +44,16 @@ abbrev pub second_number : Civil → ℕ
 second_number c = day_number c * 86400 + c.hour * 3600 + c.minute * 60 + c.second
 
 -- the last decimal digit, in ASCII
-abbrev pub digit : ℕ → ℕ
-digit n = byte "0" + n % 10
+abbrev pub last_digit : ℕ → ℕ
+last_digit n = byte "0" + n % 10
 
 -- the last two decimal digits
 abbrev pub two_digits : ℕ → List ℕ
-two_digits n = digit (n / 10) ∷ digit n ∷ []
+two_digits n = last_digit (n / 10) ∷ last_digit n ∷ []
 
 -- the last four decimal digits
 abbrev pub four_digits : ℕ → List ℕ
-four_digits n = digit (n / 1000) ∷ digit (n / 100) ∷ two_digits n
+four_digits n = last_digit (n / 1000) ∷ last_digit (n / 100) ∷ two_digits n
 
 -- `YYYY-MM-DDThh:mm:ssZ`
 abbrev pub civil_text : Civil → List ℕ

@@ -1,7 +1,7 @@
 //! The date and the time of day of a second, and their text.
 ghost use Rattle.std.specs.Prelude.{◌≡◌, ◌+◌, ◌*◌, ◌≤◌, ◌%◌, pos, unsigned_abs};
 ghost use Rattle.jiff.specs.Words.{civil_nanos};
-ghost use Rattle.ifmap_io.specs.Calendar.{civil_text, digit, two_digits};
+ghost use Rattle.ifmap_io.specs.Calendar.{civil_text, last_digit, two_digits};
 
 use jiff::civil::{DateTime, datetime};
 use std::time::Duration;
@@ -65,7 +65,7 @@ fn two_digits(number: i8) -> [u8; 2]
 
 // The last decimal digit.
 fn digit(number: u16) -> u8
-    ensures { result ≡ digit number }
+    ensures { result ≡ last_digit number }
 {
     b'0' + (number % 10) as u8
 }

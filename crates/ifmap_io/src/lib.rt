@@ -10,6 +10,7 @@ pub mod ends;
 pub mod links;
 pub mod memory;
 pub mod moments;
+pub mod statuses;
 pub mod std_ends;
 pub mod tcp;
 

@@ -4,8 +4,8 @@ use Rattle.std.specs.Prelude.{nat_eq}
 use Rattle.std.proofs.lemmas.Bool.Decides.{nat_tests}
 use Rattle.std.specs.Ordering.{is_eq, nat_cmp}
 
-pub is_number : (a b : ℕ) → nat_eq a b ≡ true → a ≡ b
-is_number a b h = grind (arith, nat_tests)
+pub equal_numbers : (a b : ℕ) → nat_eq a b ≡ true → a ≡ b
+equal_numbers a b h = grind (arith, nat_tests)
 
 pub is_other : (a b : ℕ) → a ≢ b → nat_eq a b ≡ false
 is_other a b h = grind (arith, nat_tests)

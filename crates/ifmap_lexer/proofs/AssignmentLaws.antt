@@ -6,8 +6,9 @@ use Rattle.std.proofs.Common.{◌≡◌, ◌≢◌, ℕ, ◌<◌, Bool, true, fa
 use Rattle.std.proofs.Common.{length-append, inl, inr}
 use Rattle.std.specs.Prelude.{◌==◌}
 use Rattle.std.proofs.lemmas.Bool.{or_cases}
+use Rattle.std.specs.Str.{byte}
 use Rattle.ifmap_lemmas.specs.Items.{To, to_last}
-use Rattle.ifmap_elem.specs.Chars.{AllAre, IsCharacters, is_white}
+use Rattle.ifmap_elem.specs.Chars.{AllAre, IsCharacters, is_white, equals_sign, greater_than, less_than}
 use Rattle.ifmap_elem.specs.Names.{name_bytes}
 use Rattle.ifmap_elem.specs.Tokens.{TakesAssignment, TakesQuoted, TakesTag}
 use Rattle.ifmap_elem.specs.Values.{IsValue}
@@ -15,11 +16,10 @@ use Rattle.ifmap_elem.specs.declared.tokens.Assignment.{Assignment}
 use Rattle.ifmap_elem.specs.declared.tokens.Qualified.{Qualified}
 use Rattle.ifmap_elem.specs.declared.tokens.Tag.{Tag}
 use Rattle.ifmap_lemmas.specs.Cuts.{Stops, cut}
-use Rattle.ifmap_lemmas.specs.Numbers.{is_number}
-use Rattle.ifmap_elem.specs.laws.NameBytes.{name_cut, white_stops_at_name}
+use Rattle.ifmap_lemmas.specs.Numbers.{equal_numbers}
+use Rattle.ifmap_elem.specs.laws.NameBytes.{name_cut, white_stops_at_name, is_name_byte}
 use Rattle.ifmap_elem.specs.laws.OneToken.{EndsTag, one_assignment, one_quoted, quoted_stops, assigned_stops}
 use Rattle.ifmap_lexer.specs.Cutting.{Cuts, is_but}
-use Rattle.ifmap_lexer.specs.Names.{is_name_byte}
 use Rattle.ifmap_lexer.specs.Tags.{ClosesTag, IsAtEnd, TakesAssignments}
 use Rattle.ifmap_lexer.specs.There.{IsGiven, NameAt, SomeAssignment, SomeAssignments, SomeGiven, SomeName, SomeTag}
 
@@ -49,7 +49,8 @@ module _ (bytes white inner : List ℕ) (c : Cuts is_white bytes white inner) wh
     no_value none s = none s.2.written s.1 (subst (λ (x : List ℕ). TakesQuoted x s.2.written s.1) (sym (named s.0 s.1 s.2).1) s.2.given)
 
     module _ (written rest : List ℕ) (q : TakesQuoted after written rest) where
-      pub some_value : SomeAssignment bytes → (value : List ℕ) × IsCharacters written × AllAre (is_but 0x3C) written × IsValue written value
+      pub some_value : SomeAssignment bytes
+          → (value : List ℕ) × IsCharacters written × AllAre (is_but less_than) written × IsValue written value
       some_value s =
           let t = s.2 in
           let same : written ≡ t.written =
@@ -57,7 +58,7 @@ module _ (bytes white inner : List ℕ) (c : Cuts is_white bytes white inner) wh
           (subst (λ (x : List ℕ). TakesQuoted x t.written s.1) (sym (named s.0 s.1 t).1) t.given)).0 in (
             s.0.value,
             subst IsCharacters (sym same) t.characters,
-            subst (AllAre (is_but 0x3C)) (sym same) t.no_tag,
+            subst (AllAre (is_but less_than)) (sym same) t.no_tag,
             subst
                 (λ (x : List ℕ). IsValue x s.0.value) (sym same) t.means,
           )
@@ -82,7 +83,7 @@ module _ (bytes white inner : List ℕ) (c : Cuts is_white bytes white inner) wh
       is_shorter =
           let end : List ℕ = q.quote ∷ rest in
           let value : List ℕ = q.quote ∷ (written ++ end) in
-          let sign : List ℕ = 0x3D ∷ (q.after ++ value) in
+          let sign : List ℕ = equals_sign ∷ (q.after ++ value) in
           omega (
             arith,
             ap length c.bytes_are,
@@ -101,9 +102,9 @@ module _ (bytes white inner : List ℕ) (c : Cuts is_white bytes white inner) wh
 pub closes_ends : (end : List ℕ) → ClosesTag end → EndsTag end
 closes_ends [] h = h
 closes_ends (b ∷ bs) h =
-    elim (or_cases (b == 0x3E) (b == 0x2F) h) [
-      | inl e ↦ subst (λ (n : ℕ). (is_white n ≡ false) × (is_name_byte n ≡ false)) (sym (is_number b 0x3E e)) (refl, refl)
-      | inr e ↦ subst (λ (n : ℕ). (is_white n ≡ false) × (is_name_byte n ≡ false)) (sym (is_number b 0x2F e)) (refl, refl)
+    elim (or_cases (b == greater_than) (b == byte "/") h) [
+      | inl e ↦ subst (λ (n : ℕ). (is_white n ≡ false) × (is_name_byte n ≡ false)) (sym (equal_numbers b greater_than e)) (refl, refl)
+      | inr e ↦ subst (λ (n : ℕ). (is_white n ≡ false) × (is_name_byte n ≡ false)) (sym (equal_numbers b (byte "/") e)) (refl, refl)
     ]
 
 closes_stops : (end : List ℕ) → ClosesTag end → Stops is_white end
@@ -173,9 +174,9 @@ tells_end bytes white end b c t = (
 
 -- tags
 
-module _ (bytes inner : List ℕ) (e : bytes ≡ 0x3C ∷ inner) where
+module _ (bytes inner : List ℕ) (e : bytes ≡ less_than ∷ inner) where
   inside : (tag : Tag) (end : List ℕ) (t : TakesTag bytes tag end) → inner ≡ name_bytes tag.name ++ t.after
-  inside tag end t = let both : 0x3C ∷ inner ≡ 0x3C ∷ (name_bytes tag.name ++ t.after) = sym e ∙ t.bytes_are in cc
+  inside tag end t = let both : less_than ∷ inner ≡ less_than ∷ (name_bytes tag.name ++ t.after) = sym e ∙ t.bytes_are in cc
 
   stops : (tag : Tag) (end : List ℕ) (t : TakesTag bytes tag end) → ClosesTag end → Stops is_name_byte t.after
   stops tag end t closes = assigned_stops t.after tag.assignments t.white end t.is_white (closes_ends end closes) t.assigned
@@ -205,7 +206,7 @@ module _ (bytes inner : List ℕ) (e : bytes ≡ 0x3C ∷ inner) where
       record {
         after = after;
         white = t.white;
-        bytes_are = e ∙ ap (λ x. 0x3C ∷ x) n.1;
+        bytes_are = e ∙ ap (λ x. less_than ∷ x) n.1;
         is_name = n.0;
         assigned = t.assigned;
         is_white = t.is_white;

@@ -4,7 +4,7 @@ use Rattle.std.specs.Prelude.{nat_eq, IsTrue, ◌↔◌, Result, Ok, Err, IfErr}
 use Rattle.std.specs.List.{list_all}
 use Rattle.std.proofs.lemmas.Bool.{and_from, and_parts}
 use Rattle.ifmap_elem.specs.Chars.{AllAre}
-use Rattle.ifmap_lemmas.specs.Numbers.{is_number}
+use Rattle.ifmap_lemmas.specs.Numbers.{equal_numbers}
 use Rattle.ifmap_lexer.specs.declared.errors.LexError.{LexError}
 use Rattle.ifmap_lexer.specs.declared.errors.LexError.TheVariants.{Malformed, NoMemory}
 use Rattle.ifmap_lexer.specs.Refusing.{Refuses}
@@ -36,7 +36,7 @@ all_back p (x ∷ xs) b f = all_back p xs b f.1
 -- a slice's test of emptiness
 pub is_none : (xs : List ℕ) → nat_eq (length xs) 0 ≡ true → xs ≡ []
 is_none [] h = refl
-is_none (x ∷ xs) h = absurd (omega (arith, is_number (length (x ∷ xs)) 0 h))
+is_none (x ∷ xs) h = absurd (omega (arith, equal_numbers (length (x ∷ xs)) 0 h))
 
 pub is_some_list : (xs : List ℕ) → nat_eq (length xs) 0 ≡ false → xs ≢ []
 is_some_list [] h e = let wrong : true ≡ false = h in cc

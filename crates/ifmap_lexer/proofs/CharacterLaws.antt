@@ -23,10 +23,10 @@ tells_characters text r u e = (
 low_common : (c : ℕ) → c < 128 → is_common c ≡ true → is_character c ≡ true
 low_common c l h = grind (arith, nat_tests)
 
-middle : (c : ℕ) → 128 ≤ c → c < 55296 → is_character c ≡ true
+middle : (c : ℕ) → 128 ≤ c → c < 0xD800 → is_character c ≡ true
 middle c l h = grind (arith, nat_tests)
 
-high : (c : ℕ) → 57344 ≤ c → c < 1114112 → c ≢ 0xFFFE → c ≢ 0xFFFF → is_character c ≡ true
+high : (c : ℕ) → 0xE000 ≤ c → c < 0x11_0000 → c ≢ 0xFFFE → c ≢ 0xFFFF → is_character c ≡ true
 high c l h p q = grind (arith, nat_tests)
 
 last_two : (c : ℕ) → (c ≡ 0xFFFE) ⊎ (c ≡ 0xFFFF) → AllAre is_common (encode_utf8 c) → ⊥

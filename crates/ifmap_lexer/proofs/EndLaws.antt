@@ -2,7 +2,7 @@
 use Rattle.std.proofs.Common.{◌≡◌, ℕ, ◌-◌, ◌≤◌, List, [], ◌∷◌, ◌++◌, drop, length, ap, sym, ◌∙◌, subst, append_assoc, inl, inr}
 use Rattle.std.proofs.Common.{Bor}
 use Rattle.std.specs.Prelude.{codes, Option, Some, None, IfSome}
-use Rattle.ifmap_elem.specs.Chars.{is_white}
+use Rattle.ifmap_elem.specs.Chars.{is_white, colon}
 use Rattle.ifmap_elem.specs.Names.{IsNamePart, name_bytes, with_prefix}
 use Rattle.ifmap_elem.specs.Tokens.{TakesEnd, TakesToken}
 use Rattle.ifmap_elem.specs.declared.tokens.Token.{Token}
@@ -22,7 +22,7 @@ pub both_named : (prefix local bytes mid after rest : List ℕ) → IsNamePart p
     → IsNamePart local → after ≡ local ++ rest → BeginsNamed prefix local bytes rest
 both_named prefix local bytes mid after rest p e f l g = (
   record { prefix_is = inr p; local_is = l },
-  e ∙ ap (λ x. prefix ++ x) (f ∙ ap (λ x. 58 ∷ x) g) ∙ sym (append_assoc prefix (58 ∷ local) rest)
+  e ∙ ap (λ x. prefix ++ x) (f ∙ ap (λ x. colon ∷ x) g) ∙ sym (append_assoc prefix (colon ∷ local) rest)
       ∙ ap (λ x. x ++ rest) (sym (prefixed_some prefix local (part_is_some prefix p))),
 )
 

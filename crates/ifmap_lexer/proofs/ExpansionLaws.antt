@@ -4,8 +4,8 @@ use Rattle.std.specs.Prelude.{Option, Some, None, encode_utf8}
 use Rattle.std.specs.List.{flat_map}
 use Rattle.std.proofs.lemmas.List.{append-nil}
 use Rattle.ifmap_lemmas.specs.Items.{To}
-use Rattle.ifmap_elem.specs.Chars.{AllAre}
-use Rattle.ifmap_elem.specs.Values.{Part, Plain, Reference, TakesPart, EndsRun, Expands, reference_value}
+use Rattle.ifmap_elem.specs.Chars.{AllAre, ampersand, semicolon}
+use Rattle.ifmap_elem.specs.Values.{ValuePart, Plain, Reference, TakesPart, EndsRun, SpellsOut, reference_value}
 use Rattle.ifmap_lemmas.specs.Cuts.{cut}
 use Rattle.ifmap_elem.specs.laws.OneToken.{one_part}
 use Rattle.ifmap_lexer.specs.Cutting.{CutsAt, is_but}
@@ -24,18 +24,18 @@ character_in AttributeValue c = refl
 no_cons : (b : ℕ) (bs : List ℕ) → b ∷ bs ≡ [] → ⊥
 no_cons b bs e = cc
 
-no_run : (run rest tail : List ℕ) → run ≢ [] → AllAre (is_but 0x26) run → 0x26 ∷ tail ≡ run ++ rest → ⊥
+no_run : (run rest tail : List ℕ) → run ≢ [] → AllAre (is_but ampersand) run → ampersand ∷ tail ≡ run ++ rest → ⊥
 no_run [] rest tail some f e = some refl
 no_run (b ∷ bs) rest tail some f e =
-    let head : b ≡ 0x26 = cc in
-    let wrong : false ≡ true = subst (λ (n : ℕ). is_but 0x26 n ≡ true) head f.0 in
+    let head : b ≡ ampersand = cc in
+    let wrong : false ≡ true = subst (λ (n : ℕ). is_but ampersand n ≡ true) head f.0 in
     cc
 
 module _ (place : Place) where
   abbrev Means : List ℕ → List ℕ → Type 0
-  Means written text = Expands (part_in place) written text
+  Means written text = SpellsOut (part_in place) written text
 
-  run_found : (run after u : List ℕ) → AllAre (is_but 0x26) run → EndsRun after → Means after u
+  run_found : (run after u : List ℕ) → AllAre (is_but ampersand) run → EndsRun after → Means after u
       → Means (run ++ after) (part_in place (Plain run) ++ u)
   run_found [] after u f ends x = subst (Means after) (sym (ap (λ y. y ++ u) (empty_run place))) x
   run_found (b ∷ bs) after u f ends x = record {
@@ -44,21 +44,21 @@ module _ (place : Place) where
     text_is = ap (λ y. part_in place (Plain (b ∷ bs)) ++ y) x.text_is;
   }
 
-  reference_found : (name beyond u : List ℕ) (c : ℕ) → AllAre (is_but 0x3B) name → reference_value name ≡ Some c → Means beyond u
-      → Means (0x26 ∷ (name ++ (0x3B ∷ beyond))) (encode_utf8 c ++ u)
+  reference_found : (name beyond u : List ℕ) (c : ℕ) → AllAre (is_but semicolon) name → reference_value name ≡ Some c → Means beyond u
+      → Means (ampersand ∷ (name ++ (semicolon ∷ beyond))) (encode_utf8 c ++ u)
   reference_found name beyond u c f e x =
-      subst (λ (y : List ℕ). Means (0x26 ∷ (name ++ (0x3B ∷ beyond))) (y ++ u)) (character_in place c) (record {
+      subst (λ (y : List ℕ). Means (ampersand ∷ (name ++ (semicolon ∷ beyond))) (y ++ u)) (character_in place c) (record {
         parts = Reference c ∷ x.parts;
         taken = (beyond, (name, refl, f, e), x.taken);
         text_is = ap (λ y. part_in place (Reference c) ++ y) x.text_is;
       })
 
-  run_ahead : (run after : List ℕ) → AllAre (is_but 0x26) run → EndsRun after → (t : List ℕ) → Means (run ++ after) t → (u : List ℕ)
+  run_ahead : (run after : List ℕ) → AllAre (is_but ampersand) run → EndsRun after → (t : List ℕ) → Means (run ++ after) t → (u : List ℕ)
       × Means after u
   run_ahead [] after f ends t x = (t, x)
   run_ahead (b ∷ bs) after f ends t x = first x.parts x.taken
     where
-      first : (parts : List Part) → To TakesPart ((b ∷ bs) ++ after) parts [] → (u : List ℕ) × Means after u
+      first : (parts : List ValuePart) → To TakesPart ((b ∷ bs) ++ after) parts [] → (u : List ℕ) × Means after u
       first [] l = absurd (no_cons b (bs ++ after) l)
       first (p ∷ ps) l =
           let both = one_part ((b ∷ bs) ++ after) (Plain (b ∷ bs)) p after l.0 (refl, no_cons b bs, f, ends) l.1 in (
@@ -70,18 +70,20 @@ module _ (place : Place) where
   abbrev Refers : List ℕ → List ℕ → Type 0
   Refers name beyond = (c : ℕ) × (reference_value name ≡ Some c) × ((u : List ℕ) × Means beyond u)
 
-  reference_ahead : (name beyond : List ℕ) → AllAre (is_but 0x3B) name → (t : List ℕ) → Means (0x26 ∷ (name ++ (0x3B ∷ beyond))) t
+  reference_ahead : (name beyond : List ℕ) → AllAre (is_but semicolon) name → (t : List ℕ)
+      → Means (ampersand ∷ (name ++ (semicolon ∷ beyond))) t
       → Refers name beyond
   reference_ahead name beyond f t x = first x.parts x.taken
     where
-      refers : (p : Part) (ps : List Part) (mid : List ℕ) → TakesPart (0x26 ∷ (name ++ (0x3B ∷ beyond))) p mid → To TakesPart mid ps []
+      refers : (p : ValuePart) (ps : List ValuePart) (mid : List ℕ) → TakesPart (ampersand ∷ (name ++ (semicolon ∷ beyond))) p mid
+          → To TakesPart mid ps []
           → Refers name beyond
-      refers (Plain run) ps mid l m = absurd (no_run run mid (name ++ (0x3B ∷ beyond)) l.1 l.2 l.0)
+      refers (Plain run) ps mid l m = absurd (no_run run mid (name ++ (semicolon ∷ beyond)) l.1 l.2 l.0)
       refers (Reference c) ps mid l m =
-          let e : 0x26 ∷ (name ++ (0x3B ∷ beyond)) ≡ 0x26 ∷ (l.0 ++ (0x3B ∷ mid)) = l.1 in
-          let tail : name ++ (0x3B ∷ beyond) ≡ l.0 ++ (0x3B ∷ mid) = cc in
-          let both = cut (is_but 0x3B) name l.0 (0x3B ∷ beyond) (0x3B ∷ mid) f l.2 refl refl tail in
-          let after : 0x3B ∷ beyond ≡ 0x3B ∷ mid = both.1 in
+          let e : ampersand ∷ (name ++ (semicolon ∷ beyond)) ≡ ampersand ∷ (l.0 ++ (semicolon ∷ mid)) = l.1 in
+          let tail : name ++ (semicolon ∷ beyond) ≡ l.0 ++ (semicolon ∷ mid) = cc in
+          let both = cut (is_but semicolon) name l.0 (semicolon ∷ beyond) (semicolon ∷ mid) f l.2 refl refl tail in
+          let after : semicolon ∷ beyond ≡ semicolon ∷ mid = both.1 in
           let same : mid ≡ beyond = cc in (
             c,
             ap reference_value both.0
@@ -93,31 +95,31 @@ module _ (place : Place) where
             ),
           )
 
-      first : (parts : List Part) → To TakesPart (0x26 ∷ (name ++ (0x3B ∷ beyond))) parts [] → Refers name beyond
-      first [] l = absurd (no_cons 0x26 (name ++ (0x3B ∷ beyond)) l)
+      first : (parts : List ValuePart) → To TakesPart (ampersand ∷ (name ++ (semicolon ∷ beyond))) parts [] → Refers name beyond
+      first [] l = absurd (no_cons ampersand (name ++ (semicolon ∷ beyond)) l)
       first (p ∷ ps) l = refers p ps l.0 l.1 l.2
 
-  no_reference : (after : List ℕ) → AllAre (is_but 0x3B) after → (t : List ℕ) → Means (0x26 ∷ after) t → ⊥
+  no_reference : (after : List ℕ) → AllAre (is_but semicolon) after → (t : List ℕ) → Means (ampersand ∷ after) t → ⊥
   no_reference after f t x = first x.parts x.taken
     where
-      inside : (name rest : List ℕ) (bs : List ℕ) → AllAre (is_but 0x3B) bs → bs ≡ name ++ (0x3B ∷ rest) → ⊥
+      inside : (name rest : List ℕ) (bs : List ℕ) → AllAre (is_but semicolon) bs → bs ≡ name ++ (semicolon ∷ rest) → ⊥
       inside [] rest [] g e = cc
       inside [] rest (b ∷ bs) g e =
-          let head : b ≡ 0x3B = cc in
-          let wrong : false ≡ true = subst (λ (n : ℕ). is_but 0x3B n ≡ true) head g.0 in
+          let head : b ≡ semicolon = cc in
+          let wrong : false ≡ true = subst (λ (n : ℕ). is_but semicolon n ≡ true) head g.0 in
           cc
       inside (n ∷ ns) rest [] g e = cc
-      inside (n ∷ ns) rest (b ∷ bs) g e = let tail : bs ≡ ns ++ (0x3B ∷ rest) = cc in inside ns rest bs g.1 tail
+      inside (n ∷ ns) rest (b ∷ bs) g e = let tail : bs ≡ ns ++ (semicolon ∷ rest) = cc in inside ns rest bs g.1 tail
 
-      refers : (p : Part) (mid : List ℕ) → TakesPart (0x26 ∷ after) p mid → ⊥
+      refers : (p : ValuePart) (mid : List ℕ) → TakesPart (ampersand ∷ after) p mid → ⊥
       refers (Plain run) mid l = no_run run mid after l.1 l.2 l.0
       refers (Reference c) mid l =
-          let e : 0x26 ∷ after ≡ 0x26 ∷ (l.0 ++ (0x3B ∷ mid)) = l.1 in
-          let tail : after ≡ l.0 ++ (0x3B ∷ mid) = cc in
+          let e : ampersand ∷ after ≡ ampersand ∷ (l.0 ++ (semicolon ∷ mid)) = l.1 in
+          let tail : after ≡ l.0 ++ (semicolon ∷ mid) = cc in
           inside l.0 mid after f tail
 
-      first : (parts : List Part) → To TakesPart (0x26 ∷ after) parts [] → ⊥
-      first [] l = no_cons 0x26 after l
+      first : (parts : List ValuePart) → To TakesPart (ampersand ∷ after) parts [] → ⊥
+      first [] l = no_cons ampersand after l
       first (p ∷ ps) l = refers p l.0 l.1
 
   -- how a reading goes on: what is left means what is missing
@@ -131,20 +133,20 @@ module _ (place : Place) where
     ahead = λ t x. (t, x);
   }
 
-  module _ (written made rest run after : List ℕ) (along : Along written made rest) (c : CutsAt 0x26 rest run after) where
-    reference_left : (t : List ℕ) → Means written t → (u : List ℕ) × Means (0x26 ∷ after) u
+  module _ (written made rest run after : List ℕ) (along : Along written made rest) (c : CutsAt ampersand rest run after) where
+    reference_left : (t : List ℕ) → Means written t → (u : List ℕ) × Means (ampersand ∷ after) u
     reference_left t x =
         let a = along.ahead t x in
-        run_ahead run (0x26 ∷ after) c.passes refl a.0 (subst (λ (b : List ℕ). Means b a.0) c.bytes_are a.1)
+        run_ahead run (ampersand ∷ after) c.passes refl a.0 (subst (λ (b : List ℕ). Means b a.0) c.bytes_are a.1)
 
-    pub along_unended : AllAre (is_but 0x3B) after → (t : List ℕ) × Means written t → ⊥
+    pub along_unended : AllAre (is_but semicolon) after → (t : List ℕ) × Means written t → ⊥
     along_unended f s = let r = reference_left s.0 s.1 in no_reference after f r.0 r.1
 
-    module _ (name beyond : List ℕ) (d : CutsAt 0x3B after name beyond) where
+    module _ (name beyond : List ℕ) (d : CutsAt semicolon after name beyond) where
       referred_left : (t : List ℕ) → Means written t → Refers name beyond
       referred_left t x =
           let r = reference_left t x in
-          reference_ahead name beyond d.passes r.0 (subst (λ (b : List ℕ). Means (0x26 ∷ b) r.0) d.bytes_are r.1)
+          reference_ahead name beyond d.passes r.0 (subst (λ (b : List ℕ). Means (ampersand ∷ b) r.0) d.bytes_are r.1)
 
       pub along_unknown : reference_value name ≡ None → (t : List ℕ) × Means written t → ⊥
       along_unknown e s =
@@ -157,8 +159,9 @@ module _ (place : Place) where
           → Along written new beyond
       along_next new ch e is = record {
         found = λ u x.
-            let whole : rest ≡ run ++ (0x26 ∷ (name ++ (0x3B ∷ beyond))) = c.bytes_are ∙ ap (λ b. run ++ (0x26 ∷ b)) d.bytes_are in
-            let m = run_found run (0x26 ∷ (name ++ (0x3B ∷ beyond))) (encode_utf8 ch ++ u) c.passes refl
+            let whole : rest ≡ run ++ (ampersand ∷ (name ++ (semicolon ∷ beyond))) =
+            c.bytes_are ∙ ap (λ b. run ++ (ampersand ∷ b)) d.bytes_are in
+            let m = run_found run (ampersand ∷ (name ++ (semicolon ∷ beyond))) (encode_utf8 ch ++ u) c.passes refl
             (reference_found name beyond u ch d.passes e x) in
             let all = along.found (part_in place (Plain run) ++ (encode_utf8 ch ++ u))
             (subst (λ (b : List ℕ). Means b (part_in place (Plain run) ++ (encode_utf8 ch ++ u))) (sym whole) m) in
@@ -169,7 +172,7 @@ module _ (place : Place) where
         ahead = λ t x. (referred_left t x).2;
       }
 
-  pub along_end : (written made rest text : List ℕ) → Along written made rest → AllAre (is_but 0x26) rest → text ≡ made
+  pub along_end : (written made rest text : List ℕ) → Along written made rest → AllAre (is_but ampersand) rest → text ≡ made
       ++ part_in place (Plain rest) → Means written text
   along_end written made rest text along f e =
       let nothing : Means [] [] = record { parts = []; taken = refl; text_is = refl } in

@@ -4,7 +4,6 @@ pub mod Basics
 pub mod CharacterLaws
 pub mod EndLaws
 pub mod ExpansionLaws
-pub mod KindLaws
 pub mod NameLaws
 pub mod NumberLaws
 mod QuoteLaws

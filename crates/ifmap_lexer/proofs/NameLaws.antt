@@ -9,29 +9,29 @@ use Rattle.std.proofs.Math.Utf8.{scalar, low_scalar}
 use Rattle.std.proofs.lemmas.Bool.{cases_lt, and_from, and_parts}
 use Rattle.std.proofs.lemmas.Bool.Decides.{nat_tests}
 use Rattle.std.proofs.lemmas.Str.{encode_ascii, encode_same, encodes-chars, chars_from_encodes, IsUtf8-past_char}
-use Rattle.ifmap_elem.specs.Chars.{AllAre}
+use Rattle.ifmap_elem.specs.Chars.{AllAre, colon}
 use Rattle.ifmap_elem.specs.declared.tokens.Qualified.{Qualified}
 use Rattle.ifmap_elem.specs.Names.{IsNamePart, IsQualified, is_name_start, is_name_character, name_bytes, with_prefix}
 use Rattle.ifmap_lemmas.specs.Cuts.{Stops, cut}
 use Rattle.ifmap_lemmas.specs.Members.{all_weaker}
 use Rattle.ifmap_lemmas.specs.Numbers.{is_other}
-use Rattle.ifmap_elem.specs.laws.NameBytes.{is_part_byte, name_are_bytes, part_bytes, part_is_some}
+use Rattle.ifmap_elem.specs.laws.NameBytes.{is_part_byte, name_are_bytes, name_part_bytes, part_is_some, is_name_byte}
 use Rattle.ifmap_lexer.specs.Cutting.{Cuts, CutsAt, is_but}
-use Rattle.ifmap_lexer.specs.Names.{is_name_byte, stands_in_ascii, starts_in_ascii}
+use Rattle.ifmap_lexer.specs.Names.{stands_in_ascii, starts_in_ascii}
 use Rattle.ifmap_lexer.proofs.Basics.{each, of_each, all_back}
 use Rattle.ifmap_lexer.specs.There.{NameAt}
 
-high_start : (c : ℕ) → 55296 ≤ c → is_name_start c ≡ true → scalar c ≡ true
+high_start : (c : ℕ) → 0xD800 ≤ c → is_name_start c ≡ true → scalar c ≡ true
 high_start c g h = grind (arith, nat_tests)
 
 start_is_scalar : (c : ℕ) → is_name_start c ≡ true → scalar c ≡ true
-start_is_scalar c h = elim (cases_lt c 55296) [ inl l ↦ low_scalar c l | inr g ↦ high_start c g h ]
+start_is_scalar c h = elim (cases_lt c 0xD800) [ inl l ↦ low_scalar c l | inr g ↦ high_start c g h ]
 
-high_inner : (c : ℕ) → 55296 ≤ c → is_name_character c ≡ true → scalar c ≡ true
+high_inner : (c : ℕ) → 0xD800 ≤ c → is_name_character c ≡ true → scalar c ≡ true
 high_inner c g h = grind (arith, nat_tests)
 
 inner_is_scalar : (c : ℕ) → is_name_character c ≡ true → scalar c ≡ true
-inner_is_scalar c h = elim (cases_lt c 55296) [ inl l ↦ low_scalar c l | inr g ↦ high_inner c g h ]
+inner_is_scalar c h = elim (cases_lt c 0xD800) [ inl l ↦ low_scalar c l | inr g ↦ high_inner c g h ]
 
 inner_are_scalars : (cs : List ℕ) → AllAre is_name_character cs → all_scalars cs ≡ true
 inner_are_scalars [] f = refl
@@ -101,14 +101,14 @@ no_part_of_none (b ∷ bs) e p = absurd (omega arith)
 
 -- a qualified name by its colon
 
-no_colon : (b : ℕ) → is_part_byte b ≡ true → is_but 58 b ≡ true
-no_colon b h = rw (is_other b 58 (λ e. let wrong : false ≡ true = subst (λ (n : ℕ). is_part_byte n ≡ true) e h in cc)) refl
+no_colon : (b : ℕ) → is_part_byte b ≡ true → is_but colon b ≡ true
+no_colon b h = rw (is_other b colon (λ e. let wrong : false ≡ true = subst (λ (n : ℕ). is_part_byte n ≡ true) e h in cc)) refl
 
-pub prefixed_some : (prefix local : List ℕ) → prefix ≢ [] → with_prefix prefix local ≡ prefix ++ (58 ∷ local)
+pub prefixed_some : (prefix local : List ℕ) → prefix ≢ [] → with_prefix prefix local ≡ prefix ++ (colon ∷ local)
 prefixed_some [] local some = absurd (some refl)
 prefixed_some (b ∷ bs) local some = refl
 
-pub prefixed_found : (bytes prefix local : List ℕ) → CutsAt 58 bytes prefix local → IsNamePart prefix → IsNamePart local
+pub prefixed_found : (bytes prefix local : List ℕ) → CutsAt colon bytes prefix local → IsNamePart prefix → IsNamePart local
     → (q : Qualified) → q.prefix ≡ prefix → q.local ≡ local → IsQualified q × (name_bytes q ≡ bytes)
 prefixed_found bytes prefix local c p l q e f = (
   record { prefix_is = inr (subst IsNamePart (sym e) p); local_is = subst IsNamePart (sym f) l },
@@ -122,32 +122,32 @@ unprefixed_found bytes l q e f = (record { prefix_is = inl e; local_is = subst I
 local_bytes : (q : Qualified) → q.prefix ≡ [] → name_bytes q ≡ q.local
 local_bytes q e = ap (λ x. with_prefix x q.local) e
 
-pub prefixed_parts : (bytes front after : List ℕ) → CutsAt 58 bytes front after → (q : Qualified) → IsQualified q → name_bytes q ≡ bytes
+pub prefixed_parts : (bytes front after : List ℕ) → CutsAt colon bytes front after → (q : Qualified) → IsQualified q → name_bytes q ≡ bytes
     → IsNamePart front × IsNamePart after
 prefixed_parts bytes front after c q i e =
     elim i.prefix_is [
       | inl none ↦
-          let all : AllAre is_part_byte (front ++ (58 ∷ after)) =
-          subst (AllAre is_part_byte) (sym (local_bytes q none) ∙ e ∙ c.bytes_are) (part_bytes q.local i.local_is) in
-          let wrong : false ≡ true = (all_back is_part_byte front (58 ∷ after) all).0 in cc
+          let all : AllAre is_part_byte (front ++ (colon ∷ after)) =
+          subst (AllAre is_part_byte) (sym (local_bytes q none) ∙ e ∙ c.bytes_are) (name_part_bytes q.local i.local_is) in
+          let wrong : false ≡ true = (all_back is_part_byte front (colon ∷ after) all).0 in cc
       | inr part ↦
-          let both = cut (is_but 58) q.prefix front (58 ∷ q.local) (58 ∷ after)
-          (all_weaker is_part_byte (is_but 58) no_colon q.prefix (part_bytes q.prefix part)) c.passes refl refl
+          let both = cut (is_but colon) q.prefix front (colon ∷ q.local) (colon ∷ after)
+          (all_weaker is_part_byte (is_but colon) no_colon q.prefix (name_part_bytes q.prefix part)) c.passes refl refl
           (sym (prefixed_some q.prefix q.local (part_is_some q.prefix part)) ∙ e ∙ c.bytes_are) in
-          let tail : 58 ∷ q.local ≡ 58 ∷ after = both.1 in
+          let tail : colon ∷ q.local ≡ colon ∷ after = both.1 in
           let local : q.local ≡ after = cc in
           (subst IsNamePart both.0 part, subst IsNamePart local i.local_is)
     ]
 
-pub unprefixed_part : (bytes : List ℕ) → AllAre (is_but 58) bytes → (q : Qualified) → IsQualified q → name_bytes q ≡ bytes
+pub unprefixed_part : (bytes : List ℕ) → AllAre (is_but colon) bytes → (q : Qualified) → IsQualified q → name_bytes q ≡ bytes
     → IsNamePart bytes
 unprefixed_part bytes f q i e =
     elim i.prefix_is [
       | inl none ↦ subst IsNamePart (sym (local_bytes q none) ∙ e) i.local_is
       | inr part ↦
-          let all : AllAre (is_but 58) (q.prefix ++ (58 ∷ q.local)) =
-          subst (AllAre (is_but 58)) (sym e ∙ prefixed_some q.prefix q.local (part_is_some q.prefix part)) f in
-          let wrong : false ≡ true = (all_back (is_but 58) q.prefix (58 ∷ q.local) all).0 in cc
+          let all : AllAre (is_but colon) (q.prefix ++ (colon ∷ q.local)) =
+          subst (AllAre (is_but colon)) (sym e ∙ prefixed_some q.prefix q.local (part_is_some q.prefix part)) f in
+          let wrong : false ≡ true = (all_back (is_but colon) q.prefix (colon ∷ q.local) all).0 in cc
     ]
 
 -- the name at the front

@@ -10,7 +10,7 @@ use Rattle.std.proofs.lemmas.Bool.{cases_lt, and_from}
 use Rattle.std.proofs.lemmas.Bool.Decides.{nat_tests}
 use Rattle.std.proofs.lemmas.Int.Digits.{digits_value_more}
 use Rattle.std.proofs.lemmas.List.Folds.{list_all_more, list_all_at}
-use Rattle.ifmap_lexer.specs.Numbers.{code_of}
+use Rattle.ifmap_lexer.specs.Numbers.{code_point_of}
 
 -- the digits so far are digits, and write this number, unless it is past all characters
 pub record Reads (base : ℕ) (digits : List ℕ) (i number : ℕ) : Type 0 where
@@ -50,7 +50,7 @@ take_all [] = refl
 take_all (x ∷ xs) = ap (λ ys. x ∷ ys) (take_all xs)
 
 pub reads_all : (base : ℕ) (digits : List ℕ) (i n : ℕ) → nat_eq (length digits) 0 ≡ false → i ≡ length digits → Reads base digits i n
-    → Some n ≡ code_of base digits
+    → Some n ≡ code_point_of base digits
 reads_all base digits i n some end r =
     let whole : take i digits ≡ digits = ap (λ k. take k digits) end ∙ take_all digits in
     let all : list_all (λ d. is_digit d base) digits ≡ true =
@@ -59,7 +59,7 @@ reads_all base digits i n some end r =
     rw (some, all) (ap Some is)
 
 pub no_digit : (base : ℕ) (digits : List ℕ) (i d : ℕ) → nat_eq (length digits) 0 ≡ false → i < length digits → d ≡ get_or digits i 0
-    → (digit_value d < base → ⊥) → None ≡ code_of base digits
+    → (digit_value d < base → ⊥) → None ≡ code_point_of base digits
 no_digit base digits i d some l at none =
     let here : is_digit d base ≡ false = grind (arith, nat_tests) in
     let all : list_all (λ x. is_digit x base) digits ≡ false =

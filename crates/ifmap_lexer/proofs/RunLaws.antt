@@ -3,7 +3,7 @@ use Rattle.std.proofs.Common.{◌≡◌, ℕ, true, false, List, [], ◌∷◌, 
 use Rattle.std.specs.Prelude.{◌==◌, if◌then◌else◌, Result, Ok, Err, OnOk, is_ok}
 use Rattle.std.proofs.lemmas.Bool.{not-true}
 use Rattle.std.proofs.lemmas.List.{map-append}
-use Rattle.ifmap_elem.specs.Chars.{AllAre}
+use Rattle.ifmap_elem.specs.Chars.{AllAre, carriage_return, line_feed, space_character, tab}
 use Rattle.ifmap_elem.specs.Values.{Plain, as_space, line_ends, begins_with}
 use Rattle.ifmap_lemmas.specs.Numbers.{is_other}
 use Rattle.ifmap_lexer.specs.Cutting.{CutsAt, is_but}
@@ -12,50 +12,52 @@ use Rattle.ifmap_lexer.specs.declared.values.Place.{Place}
 use Rattle.ifmap_lexer.specs.declared.values.Place.TheVariants.{AttributeValue, CharacterData}
 use Rattle.ifmap_lexer.proofs.Basics.{all_front, all_back}
 
-no_break : (b : ℕ) → is_but 9 b ≡ true → is_but 10 b ≡ true → as_space b ≡ b
-no_break b h g = rw (not-true (b == 9) h, not-true (b == 10) g) refl
+no_break : (b : ℕ) → is_but tab b ≡ true → is_but line_feed b ≡ true → as_space b ≡ b
+no_break b h g = rw (not-true (b == tab) h, not-true (b == line_feed) g) refl
 
-pub untabbed : (xs : List ℕ) → AllAre (is_but 9) xs → AllAre (is_but 10) xs → map as_space xs ≡ xs
+pub untabbed : (xs : List ℕ) → AllAre (is_but tab) xs → AllAre (is_but line_feed) xs → map as_space xs ≡ xs
 untabbed [] f g = refl
 untabbed (x ∷ xs) f g = λ i. no_break x f.0 g.0 i ∷ untabbed xs f.1 g.1 i
 
 module _ (rest front after : List ℕ) where
-  pub tab_step : CutsAt 9 rest front after → AllAre (is_but 10) rest → map as_space rest ≡ front ++ (0x20 ∷ map as_space after)
+  pub tab_step : CutsAt tab rest front after → AllAre (is_but line_feed) rest
+      → map as_space rest ≡ front ++ (space_character ∷ map as_space after)
   tab_step c g =
-      ap (map as_space) c.bytes_are ∙ map-append as_space front (9 ∷ after)
-      ∙ ap (λ x. x ++ (0x20 ∷ map as_space after))
-      (untabbed front c.passes (all_front (is_but 10) front (9 ∷ after) (subst (AllAre (is_but 10)) c.bytes_are g)))
+      ap (map as_space) c.bytes_are ∙ map-append as_space front (tab ∷ after)
+      ∙ ap (λ x. x ++ (space_character ∷ map as_space after))
+      (untabbed front c.passes (all_front (is_but line_feed) front (tab ∷ after) (subst (AllAre (is_but line_feed)) c.bytes_are g)))
 
-  pub tab_behind : CutsAt 9 rest front after → AllAre (is_but 10) rest → AllAre (is_but 10) after
-  tab_behind c g = (all_back (is_but 10) front (9 ∷ after) (subst (AllAre (is_but 10)) c.bytes_are g)).1
+  pub tab_behind : CutsAt tab rest front after → AllAre (is_but line_feed) rest → AllAre (is_but line_feed) after
+  tab_behind c g = (all_back (is_but line_feed) front (tab ∷ after) (subst (AllAre (is_but line_feed)) c.bytes_are g)).1
 
-  pub newline_step : CutsAt 10 rest front after → map as_space rest ≡ map as_space front ++ (0x20 ∷ map as_space after)
-  newline_step c = ap (map as_space) c.bytes_are ∙ map-append as_space front (10 ∷ after)
+  pub newline_step : CutsAt line_feed rest front after → map as_space rest ≡ map as_space front ++ (space_character ∷ map as_space after)
+  newline_step c = ap (map as_space) c.bytes_are ∙ map-append as_space front (line_feed ∷ after)
 
-lines_front : (front tail : List ℕ) → AllAre (is_but 13) front → line_ends (front ++ tail) ≡ front ++ line_ends tail
+lines_front : (front tail : List ℕ) → AllAre (is_but carriage_return) front → line_ends (front ++ tail) ≡ front ++ line_ends tail
 lines_front [] tail f = refl
-lines_front (b ∷ bs) tail f = rw (not-true (b == 0xD) f.0) (ap (λ x. b ∷ x) (lines_front bs tail f.1))
+lines_front (b ∷ bs) tail f = rw (not-true (b == carriage_return) f.0) (ap (λ x. b ∷ x) (lines_front bs tail f.1))
 
-lines_none : (xs : List ℕ) → AllAre (is_but 13) xs → line_ends xs ≡ xs
+lines_none : (xs : List ℕ) → AllAre (is_but carriage_return) xs → line_ends xs ≡ xs
 lines_none [] f = refl
-lines_none (b ∷ bs) f = rw (not-true (b == 0xD) f.0) (ap (λ x. b ∷ x) (lines_none bs f.1))
+lines_none (b ∷ bs) f = rw (not-true (b == carriage_return) f.0) (ap (λ x. b ∷ x) (lines_none bs f.1))
 
-pub break_step : (place : Place) (rest line after beyond : List ℕ) → CutsAt 13 rest line after → line_ends (0xD ∷ after) ≡ 0xA
-    ∷ line_ends beyond
+pub break_step : (place : Place) (rest line after beyond : List ℕ) → CutsAt carriage_return rest line after
+    → line_ends (carriage_return ∷ after) ≡ line_feed ∷ line_ends beyond
     → part_in place (Plain rest) ≡ line_in place line ++ (break_in place ∷ part_in place (Plain beyond))
-break_step CharacterData rest line after beyond c e = ap line_ends c.bytes_are ∙ lines_front line (0xD ∷ after) c.passes
+break_step CharacterData rest line after beyond c e = ap line_ends c.bytes_are ∙ lines_front line (carriage_return ∷ after) c.passes
     ∙ ap (λ x. line ++ x) e
 break_step AttributeValue rest line after beyond c e =
-    ap (λ x. map as_space (line_ends x)) c.bytes_are ∙ ap (map as_space) (lines_front line (0xD ∷ after) c.passes ∙ ap (λ x. line ++ x) e)
-    ∙ map-append as_space line (0xA ∷ line_ends beyond)
+    ap (λ x. map as_space (line_ends x)) c.bytes_are
+    ∙ ap (map as_space) (lines_front line (carriage_return ∷ after) c.passes ∙ ap (λ x. line ++ x) e)
+    ∙ map-append as_space line (line_feed ∷ line_ends beyond)
 
-pub break_end : (place : Place) (rest : List ℕ) → AllAre (is_but 13) rest → part_in place (Plain rest) ≡ line_in place rest
+pub break_end : (place : Place) (rest : List ℕ) → AllAre (is_but carriage_return) rest → part_in place (Plain rest) ≡ line_in place rest
 break_end CharacterData rest f = lines_none rest f
 break_end AttributeValue rest f = ap (map as_space) (lines_none rest f)
 
-pub no_newline : (bs : List ℕ) → ((rest : List ℕ) → bs ≡ 10 ∷ rest → ⊥) → begins_with 0xA bs ≡ false
+pub no_newline : (bs : List ℕ) → ((rest : List ℕ) → bs ≡ line_feed ∷ rest → ⊥) → begins_with line_feed bs ≡ false
 no_newline [] h = refl
-no_newline (b ∷ bs) h = is_other b 10 (λ e. h bs (ap (λ n. n ∷ bs) e))
+no_newline (b ∷ bs) h = is_other b line_feed (λ e. h bs (ap (λ n. n ∷ bs) e))
 
 -- what is appended in turn
 pub two_more : (start old first rest later a d : List ℕ) → old ++ rest ≡ start → first ≡ old ++ a → later ≡ first ++ d → (beyond : List ℕ)

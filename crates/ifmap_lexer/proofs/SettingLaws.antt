@@ -6,12 +6,13 @@ use Rattle.std.proofs.Common.{◌≡◌, ◌≢◌, ℕ, Bool, true, false, List
 use Rattle.std.specs.Prelude.{codes}
 use Rattle.std.specs.Char.{to_ascii_uppercase, to_ascii_lowercase}
 use Rattle.std.proofs.lemmas.Bool.Decides.{nat_tests}
+use Rattle.std.specs.Str.{byte}
 use Rattle.ifmap_elem.specs.Chars.{IsWhite, is_white}
 use Rattle.ifmap_elem.specs.Tokens.{TakesQuoted, TakesSetting, TakesOptional, TakesDeclaration}
 use Rattle.ifmap_lemmas.specs.Cuts.{Stops, cut}
 use Rattle.ifmap_elem.specs.laws.OneToken.{one_quoted}
 use Rattle.ifmap_lexer.specs.Cutting.{Cuts}
-use Rattle.ifmap_lexer.specs.Settings.{IsEncoding, IsVersion, IsYesOrNo, SetsTo, StartsNotWhite, TakesWhereSet}
+use Rattle.ifmap_lexer.specs.Settings.{IsEncoding, IsXmlVersion, IsYesOrNo, SetsTo, StartsNotWhite, TakesWhereSet}
 use Rattle.ifmap_lemmas.specs.Lists.{same_front}
 
 stops_at : (name after : List ℕ) → StartsNotWhite name → Stops is_white (name ++ after)
@@ -114,7 +115,7 @@ encoding_is_no_end : (bytes r white rest : List ℕ) → TakesSetting (codes "en
 encoding_is_no_end bytes r white rest t f e =
     let both : codes "encoding" ++ t.after ≡ codes "?>" ++ rest =
     heads t.white white (codes "encoding" ++ t.after) (codes "?>" ++ rest) t.is_white f refl refl (sym t.bytes_are ∙ e) in
-    let wrong : ◌≡◌ {A = ℕ} 101 63 = cc in
+    let wrong : ◌≡◌ {A = ℕ} (byte "e") (byte "?") = cc in
     absurd (omega arith)
 
 standalone_is_no_end : (bytes r white rest : List ℕ) → TakesSetting (codes "standalone") IsYesOrNo bytes r → IsWhite white → bytes ≡ white
@@ -122,7 +123,7 @@ standalone_is_no_end : (bytes r white rest : List ℕ) → TakesSetting (codes "
 standalone_is_no_end bytes r white rest t f e =
     let both : codes "standalone" ++ t.after ≡ codes "?>" ++ rest =
     heads t.white white (codes "standalone" ++ t.after) (codes "?>" ++ rest) t.is_white f refl refl (sym t.bytes_are ∙ e) in
-    let wrong : ◌≡◌ {A = ℕ} 115 63 = cc in
+    let wrong : ◌≡◌ {A = ℕ} (byte "s") (byte "?") = cc in
     absurd (omega arith)
 
 encoding_is_no_standalone : (bytes r s : List ℕ) → TakesSetting (codes "encoding") IsEncoding bytes r
@@ -131,23 +132,23 @@ encoding_is_no_standalone bytes r s t u =
     let both : codes "encoding" ++ t.after ≡ codes "standalone" ++ u.after
     = heads t.white u.white (codes "encoding" ++ t.after) (codes "standalone" ++ u.after) t.is_white u.is_white refl refl
     (sym t.bytes_are ∙ u.bytes_are) in
-    let wrong : ◌≡◌ {A = ℕ} 101 115 = cc in
+    let wrong : ◌≡◌ {A = ℕ} (byte "e") (byte "s") = cc in
     absurd (omega arith)
 
 module _ (bytes first : List ℕ) (e : bytes ≡ codes "<?xml" ++ first) where
   first_is : (r : List ℕ) (t : TakesDeclaration bytes r) → first ≡ t.first
   first_is r t = same_front (codes "<?xml") first t.first (sym e ∙ t.bytes_are)
 
-  pub no_version : ((r : List ℕ) → TakesSetting (codes "version") IsVersion first r → ⊥) → (r : List ℕ) → TakesDeclaration bytes r → ⊥
+  pub no_version : ((r : List ℕ) → TakesSetting (codes "version") IsXmlVersion first r → ⊥) → (r : List ℕ) → TakesDeclaration bytes r → ⊥
   no_version none r t =
-      none t.second (subst (λ (x : List ℕ). TakesSetting (codes "version") IsVersion x t.second) (sym (first_is r t)) t.version)
+      none t.second (subst (λ (x : List ℕ). TakesSetting (codes "version") IsXmlVersion x t.second) (sym (first_is r t)) t.version)
 
-  module _ (second third fourth white end : List ℕ) (v : TakesSetting (codes "version") IsVersion first second)
+  module _ (second third fourth white end : List ℕ) (v : TakesSetting (codes "version") IsXmlVersion first second)
       (enc : TakesWhereSet (codes "encoding") IsEncoding second third)
       (alone : TakesWhereSet (codes "standalone") IsYesOrNo third fourth) (c : Cuts is_white fourth white end) where
     second_is : (r : List ℕ) (t : TakesDeclaration bytes r) → second ≡ t.second
-    second_is r t = one_taken (codes "version") refl IsVersion first second t.second v
-        (subst (λ (x : List ℕ). TakesSetting (codes "version") IsVersion x t.second) (sym (first_is r t)) t.version)
+    second_is r t = one_taken (codes "version") refl IsXmlVersion first second t.second v
+        (subst (λ (x : List ℕ). TakesSetting (codes "version") IsXmlVersion x t.second) (sym (first_is r t)) t.version)
 
     no_skip : (r : List ℕ) (t : TakesDeclaration bytes r) → TakesSetting (codes "encoding") IsEncoding t.third third → ⊥
     no_skip r t s = elim t.standalone [

@@ -2,6 +2,7 @@
 use Rattle.std.proofs.Common.{◌≡◌, ℕ, zero, suc, ◌<◌, Bool, true, false, ◌&&◌, not, nat_eq, get_or, List, refl, arith, inl, inr}
 use Rattle.std.specs.Bool.{beq}
 use Rattle.std.proofs.lemmas.Bool.{cases_eq}
+use Rattle.std.specs.Str.{byte}
 
 -- two tests agree below a number
 unfoldable pub agree_below : (ℕ → Bool) → (ℕ → Bool) → ℕ → Bool
@@ -22,6 +23,7 @@ agree_at f g (suc n) h b l =
     elim (cases_eq b n) [ inl same ↦ rw same both.0 | inr other ↦ agree_at f g n both.1 b (omega arith) ]
 
 -- a byte is marked where the table has no comma (44) at its place
-pub from_table : (table : List ℕ) (g : ℕ → Bool) (b : ℕ) → b < 256 → agree_below (λ k. not (nat_eq (get_or table k 0) 44)) g 256 ≡ true
-    → not (nat_eq (get_or table b 0) 44) ≡ g b
+pub from_table : (table : List ℕ) (g : ℕ → Bool) (b : ℕ) → b < 256
+    → agree_below (λ k. not (nat_eq (get_or table k 0) (byte ","))) g 256 ≡ true
+    → not (nat_eq (get_or table b 0) (byte ",")) ≡ g b
 from_table table g b l h = agree_at _ _ 256 h b l

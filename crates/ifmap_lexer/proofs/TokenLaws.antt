@@ -7,7 +7,7 @@ use Rattle.std.specs.Prelude.{◌==◌, codes, Result, Ok, Err, IfErr}
 use Rattle.std.specs.List.{list_all}
 use Rattle.std.proofs.Math.Seq.{drop-append_seam}
 use Rattle.ifmap_lemmas.specs.Items.{To}
-use Rattle.ifmap_elem.specs.Chars.{IsCharacters, is_white}
+use Rattle.ifmap_elem.specs.Chars.{IsCharacters, is_white, equals_sign, less_than}
 use Rattle.ifmap_elem.specs.Names.{name_bytes}
 use Rattle.ifmap_elem.specs.Values.{IsText, line_ends}
 use Rattle.ifmap_elem.specs.Tokens.{Lacks, TakesDeclaration, TakesEnd, TakesTag, TakesText, TakesToken, TakesAssignment, EndsText}
@@ -18,20 +18,20 @@ use Rattle.ifmap_elem.specs.declared.tokens.Token.{Token}
 use Rattle.ifmap_elem.specs.declared.tokens.Token.TheVariants.{Declaration, Comment, Start, Empty, End, Section, Characters}
 use Rattle.ifmap_lemmas.specs.Cuts.{Stops, cut}
 use Rattle.ifmap_elem.specs.laws.Delimiters.{dash_cut, bracket_cut}
-use Rattle.ifmap_lemmas.specs.Numbers.{is_number}
+use Rattle.ifmap_lemmas.specs.Numbers.{equal_numbers}
 use Rattle.ifmap_elem.specs.laws.NameBytes.{name_cut, name_stops_at_white}
 use Rattle.ifmap_elem.specs.laws.OneToken.{one_tag, text_stops, declaration_no_end}
 use Rattle.ifmap_lexer.specs.Cutting.{Cuts, CutsWord, is_but}
-use Rattle.ifmap_lexer.specs.Kinds.{Stands, kind_at, kind_of}
+use Rattle.ifmap_elem.specs.Kinds.{Stands, kind_at, kind_of}
 use Rattle.ifmap_lexer.specs.Tags.{ClosesTag}
 use Rattle.ifmap_lexer.specs.Refusing.{Refuses}
 use Rattle.ifmap_lexer.specs.declared.errors.LexError.{LexError}
 use Rattle.ifmap_lexer.specs.declared.errors.LexError.TheVariants.{Malformed, NoMemory}
-use Rattle.ifmap_lexer.specs.declared.kinds.Kind.{Kind}
-use Rattle.ifmap_lexer.specs.declared.kinds.Kind.TheVariants as kinds
+use Rattle.ifmap_elem.specs.declared.tokens.TokenKind.{TokenKind}
+use Rattle.ifmap_elem.specs.declared.tokens.TokenKind.TheVariants as kinds
 use Rattle.ifmap_lexer.proofs.AssignmentLaws.{closes_ends}
 use Rattle.ifmap_lexer.proofs.Basics.{refuses_by}
-use Rattle.ifmap_lexer.proofs.KindLaws.{kind_is}
+use Rattle.ifmap_elem.specs.laws.OneToken.{kind_is}
 use Rattle.ifmap_lexer.specs.There.{NameAt, SomeName, SomeTag, SomeToken}
 
 abbrev pub SomeMeaning : List ℕ → Type 0
@@ -39,7 +39,7 @@ SomeMeaning written = (text : List ℕ) × IsText written text
 
 -- by kinds
 
-pub of_kind : (kind : Kind) (bytes : List ℕ) → kind ≡ kind_at bytes → SomeToken bytes → Stands kind bytes
+pub of_kind : (kind : TokenKind) (bytes : List ℕ) → kind ≡ kind_at bytes → SomeToken bytes → Stands kind bytes
 of_kind kind bytes e s = (s.0, s.1, s.2, sym (kind_is bytes s.0 s.1 s.2) ∙ sym e)
 
 pub of_no_kind : (bytes : List ℕ) → kinds.Nothing ≡ kind_at bytes → SomeToken bytes → ⊥
@@ -54,7 +54,7 @@ of_no_kind bytes e s = none s.0 (sym (kind_is bytes s.0 s.1 s.2) ∙ sym e)
     none (Section text) h = cc
     none (Characters blank text) h = cc
 
-pub kind_refused : {X : Type 0} (kind : Kind) (bytes : List ℕ) (r : Result X LexError) → kind ≡ kind_at bytes
+pub kind_refused : {X : Type 0} (kind : TokenKind) (bytes : List ℕ) (r : Result X LexError) → kind ≡ kind_at bytes
     → IfErr r (λ e. Refuses e (Stands kind bytes)) → IfErr r (λ e. Refuses e (SomeToken bytes))
 kind_refused kind bytes (Ok x) e h = tt
 kind_refused kind bytes (Err d) e h = refuses_by d (Stands kind bytes) (SomeToken bytes) (of_kind kind bytes e) h
@@ -232,18 +232,18 @@ empty_found bytes tag end rest t e = subst (TakesTag bytes tag) e t
 
 -- text
 
-ends_text : (rest : List ℕ) → Stops (is_but 0x3C) rest → EndsText rest
+ends_text : (rest : List ℕ) → Stops (is_but less_than) rest → EndsText rest
 ends_text [] s = tt
-ends_text (b ∷ bs) s = by_test (b == 0x3C) refl
+ends_text (b ∷ bs) s = by_test (b == less_than) refl
   where
-    by_test : (t : Bool) → (b == 0x3C) ≡ t → b ≡ 0x3C
-    by_test true e = is_number b 0x3C e
+    by_test : (t : Bool) → (b == less_than) ≡ t → b ≡ less_than
+    by_test true e = equal_numbers b less_than e
     by_test false e = let wrong : true ≡ false = sym (ap not e) ∙ s in cc
 
-module _ (bytes own rest : List ℕ) (c : Cuts (is_but 0x3C) bytes own rest) where
+module _ (bytes own rest : List ℕ) (c : Cuts (is_but less_than) bytes own rest) where
   text_cut : (blank : Bool) (text later : List ℕ) (t : TakesText bytes blank text later) → own ≡ t.own
   text_cut blank text later t =
-      (cut (is_but 0x3C) own t.own rest later c.passes t.no_tag c.stops (text_stops later t.ends) (sym c.bytes_are ∙ t.bytes_are)).0
+      (cut (is_but less_than) own t.own rest later c.passes t.no_tag c.stops (text_stops later t.ends) (sym c.bytes_are ∙ t.bytes_are)).0
 
   pub no_own : own ≡ [] → Stands kinds.Text bytes → ⊥
   no_own e s = let t = (text_by bytes s.0 s.1 s.2 s.3) in t.2.some (sym (text_cut t.0 t.1 s.1 t.2) ∙ e)
@@ -293,8 +293,8 @@ shorter (x ∷ xs) rest bytes e some =
 tag_front : (bytes : List ℕ) (tag : Tag) (end : List ℕ) → TakesTag bytes tag end → (front : List ℕ) × (bytes ≡ front ++ end) × (front ≢ [])
 tag_front bytes tag end t =
     let f = items_front t.after tag.assignments (t.white ++ end) t.assigned in (
-      0x3C ∷ (name_bytes tag.name ++ (f.0 ++ t.white)),
-      t.bytes_are ∙ ap (λ x. 0x3C ∷ (name_bytes tag.name ++ x)) f.1 ∙ simp append_assoc,
+      less_than ∷ (name_bytes tag.name ++ (f.0 ++ t.white)),
+      t.bytes_are ∙ ap (λ x. less_than ∷ (name_bytes tag.name ++ x)) f.1 ∙ simp append_assoc,
       (λ e. cc),
     )
   where
@@ -304,11 +304,11 @@ tag_front bytes tag end t =
     items_front bytes (x ∷ xs) rest l =
         let f = items_front l.0 xs rest l.2 in
         let q = l.1.given in
-        let quoted : List ℕ = q.before ++ (0x3D ∷ (q.after ++ (q.quote ∷ (l.1.written ++ (q.quote ∷ []))))) in (
+        let quoted : List ℕ = q.before ++ (equals_sign ∷ (q.after ++ (q.quote ∷ (l.1.written ++ (q.quote ∷ []))))) in (
           l.1.white ++ (name_bytes x.name ++ (quoted ++ f.0)),
           l.1.bytes_are ∙ ap (λ b. l.1.white ++ (name_bytes x.name ++ b)) q.bytes_are
               ∙ ap (λ b. l.1.white
-              ++ (name_bytes x.name ++ (q.before ++ (0x3D ∷ (q.after ++ (q.quote ∷ (l.1.written ++ (q.quote ∷ b)))))))) f.1
+              ++ (name_bytes x.name ++ (q.before ++ (equals_sign ∷ (q.after ++ (q.quote ∷ (l.1.written ++ (q.quote ∷ b)))))))) f.1
               ∙ simp append_assoc,
         )
 

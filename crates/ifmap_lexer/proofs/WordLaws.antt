@@ -7,11 +7,12 @@ use Rattle.std.proofs.lemmas.List.{take-append-drop, length-take}
 use Rattle.std.proofs.Math.ListN.{get_or-append}
 use Rattle.std.proofs.Math.Seq.{take-append_seam}
 use Rattle.std.proofs.lemmas.Slice.Eq.{bytes_eq-Decides}
+use Rattle.std.specs.Str.{byte}
 use Rattle.memchr.specs.Find.{OccursAt, NoneBefore, Passes, is_byte}
 use Rattle.memchr.proofs.lemmas.MatchLemmas.{OccursAt-part, OccursAt-from_part}
 use Rattle.ifmap_elem.specs.Chars.{AllAre}
 use Rattle.ifmap_elem.specs.Tokens.{Lacks}
-use Rattle.ifmap_lemmas.specs.Numbers.{is_number, is_other}
+use Rattle.ifmap_lemmas.specs.Numbers.{equal_numbers, is_other}
 use Rattle.ifmap_lexer.specs.Cutting.{CutsWord, CutsAt, is_but}
 
 fits : (w xs : List ℕ) → w ≡ take (length w) xs → 0 + length w ≤ length xs
@@ -72,7 +73,7 @@ byte_found c bytes front after k first here f b = record {
   where
     split : (xs : List ℕ) (n : ℕ) → n < length xs → nat_eq (get_or xs n 0) c ≡ true → xs ≡ take n xs ++ (c ∷ drop 1 (drop n xs))
     split [] n l e = absurd (omega arith)
-    split (x ∷ xs) zero l e = ap (λ y. y ∷ xs) (is_number x c e)
+    split (x ∷ xs) zero l e = ap (λ y. y ∷ xs) (equal_numbers x c e)
     split (x ∷ xs) (suc n) l e = ap (λ ys. x ∷ ys) (split xs n (omega arith) e)
 
     by_test : (x : ℕ) (t : Bool) → nat_eq x c ≡ t → (nat_eq x c ≡ true → ⊥) → is_but c x ≡ true
@@ -103,9 +104,9 @@ word_not_lacked (x ∷ xs) bytes front after some e l = at_seam front (subst (La
     at_seam (y ∷ ys) l = at_seam ys l.1
 
 -- without a bracket there is no end of a section
-pub lacks_section_end : (bytes : List ℕ) → AllAre (is_but 0x5D) bytes → Lacks (codes "]]>") bytes
+pub lacks_section_end : (bytes : List ℕ) → AllAre (is_but (byte "]")) bytes → Lacks (codes "]]>") bytes
 lacks_section_end [] f = tt
 lacks_section_end (b ∷ bs) f =
-    let other : (0x5D == b) ≡ false =
-    is_other 0x5D b (λ e. let wrong : true ≡ false = sym f.0 ∙ subst (λ (n : ℕ). is_but 0x5D n ≡ false) e refl in cc) in
+    let other : (byte "]" == b) ≡ false =
+    is_other (byte "]") b (λ e. let wrong : true ≡ false = sym f.0 ∙ subst (λ (n : ℕ). is_but (byte "]") n ≡ false) e refl in cc) in
     (rw other refl, lacks_section_end bs f.1)

@@ -1,6 +1,5 @@
 pub mod Common
 pub mod Cutting
-pub mod Kinds
 pub mod Names
 pub mod Numbers
 pub mod Refusing

@@ -13,6 +13,6 @@ by_number name =
     else None)
 
 -- the number that the digits write, where they are some, or the first number past all characters where it is greater
-abbrev pub code_of : ℕ → List ℕ → Option ℕ
-code_of base digits =
+abbrev pub code_point_of : ℕ → List ℕ → Option ℕ
+code_point_of base digits =
     if not (length digits == 0) && list_all (λ d. is_digit d base) digits then Some (min (digits_value base digits) 0x11_0000) else None

@@ -1,12 +1,12 @@
 -- What runs of written characters add to a text or a value (XML 1.0, sections 2.11 and 3.3.3).
 use Rattle.std.specs.Prelude.{ℕ, List, map}
 use Rattle.ifmap_elem.specs.Chars.{line_feed, space_character}
-use Rattle.ifmap_elem.specs.Values.{Part, Plain, text_part, value_part, as_space}
+use Rattle.ifmap_elem.specs.Values.{ValuePart, Plain, text_part, value_part, as_space}
 use Rattle.ifmap_lexer.specs.declared.values.Place.{Place}
 use Rattle.ifmap_lexer.specs.declared.values.Place.TheVariants.{AttributeValue, CharacterData}
 
 -- what a part adds in its place
-abbrev pub part_in : Place → Part → List ℕ
+abbrev pub part_in : Place → ValuePart → List ℕ
 part_in CharacterData part = text_part part
 part_in AttributeValue part = value_part part
 

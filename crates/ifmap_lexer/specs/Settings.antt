@@ -24,8 +24,8 @@ TakesWhereSet name IsAllowed bytes rest = TakesSetting name IsAllowed bytes rest
     ⊎ ((bytes ≡ rest) × ((r : List ℕ) → TakesSetting name IsAllowed bytes r → ⊥))
 
 -- the values that a declaration may have
-abbrev pub IsVersion : List ℕ → Type 0
-IsVersion v = v ≡ codes "1.0"
+abbrev pub IsXmlVersion : List ℕ → Type 0
+IsXmlVersion v = v ≡ codes "1.0"
 
 abbrev pub IsEncoding : List ℕ → Type 0
 IsEncoding v = map to_ascii_uppercase v ≡ codes "UTF-8"
@@ -35,4 +35,4 @@ IsYesOrNo v = (v ≡ codes "yes") ⊎ (v ≡ codes "no")
 
 -- the setting of the version
 abbrev pub SetsVersion : List ℕ → List ℕ → Type 0
-SetsVersion bytes rest = TakesSetting (codes "version") IsVersion bytes rest
+SetsVersion bytes rest = TakesSetting (codes "version") IsXmlVersion bytes rest

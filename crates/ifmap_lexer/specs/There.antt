@@ -3,7 +3,7 @@ use Rattle.std.specs.Prelude.{◌≡◌, ℕ, Bool, true, ◌==◌, ◌||◌, Li
 use Rattle.ifmap_elem.specs.Chars.{AllAre, IsCharacters, double_quote, less_than, single_quote}
 use Rattle.ifmap_elem.specs.Names.{IsQualified, name_bytes}
 use Rattle.ifmap_elem.specs.Tokens.{TakesAssignment, TakesQuoted, TakesTag, TakesToken}
-use Rattle.ifmap_elem.specs.Values.{Expands, IsValue}
+use Rattle.ifmap_elem.specs.Values.{SpellsOut, IsValue}
 use Rattle.ifmap_elem.specs.declared.tokens.Assignment.{Assignment}
 use Rattle.ifmap_elem.specs.declared.tokens.Qualified.{Qualified}
 use Rattle.ifmap_elem.specs.declared.tokens.Tag.{Tag}
@@ -11,7 +11,7 @@ use Rattle.ifmap_elem.specs.declared.tokens.Token.{Token}
 use Rattle.ifmap_elem.specs.declared.tokens.Token.TheVariants.{End}
 use Rattle.ifmap_lemmas.specs.Cuts.{Stops}
 use Rattle.ifmap_lexer.specs.Cutting.{is_but}
-use Rattle.ifmap_lexer.specs.Names.{is_name_byte}
+use Rattle.ifmap_elem.specs.laws.NameBytes.{is_name_byte}
 use Rattle.ifmap_lexer.specs.Runs.{part_in}
 use Rattle.ifmap_lexer.specs.Settings.{SetsTo}
 use Rattle.ifmap_lexer.specs.Tags.{ClosesTag, TakesAssignments}
@@ -58,7 +58,7 @@ SomeGiven written = (value : List ℕ) × IsCharacters written × AllAre (is_but
 
 -- written characters mean something in their place
 abbrev pub SomeExpansion : Place → List ℕ → Type 0
-SomeExpansion place written = (text : List ℕ) × Expands (part_in place) written text
+SomeExpansion place written = (text : List ℕ) × SpellsOut (part_in place) written text
 
 abbrev pub SomeAssignment : List ℕ → Type 0
 SomeAssignment bytes = (a : Assignment) × (rest : List ℕ) × TakesAssignment bytes a rest

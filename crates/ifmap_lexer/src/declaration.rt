@@ -2,7 +2,7 @@
 ghost use Rattle.std.specs.Prelude.{◌↔◌, ℕ, List, codes, IfNone, IfSome, IsTrue};
 ghost use Rattle.ifmap_elem.specs.Tokens.{TakesDeclaration};
 ghost use Rattle.ifmap_lexer.specs.There.{NoneLeaves, NotSet};
-ghost use Rattle.ifmap_lexer.specs.Settings.{IsEncoding, IsVersion, IsYesOrNo, SetsTo, SetsVersion, StartsNotWhite, TakesWhereSet};
+ghost use Rattle.ifmap_lexer.specs.Settings.{IsEncoding, IsXmlVersion, IsYesOrNo, SetsTo, SetsVersion, StartsNotWhite, TakesWhereSet};
 ghost use Rattle.ifmap_elem.specs.Tokens.{TakesSetting};
 
 use crate::quoting::quoted_value;

@@ -6,7 +6,8 @@ ghost use Rattle.ifmap_elem.specs.Names.{IsNamePart, IsQualified, is_name_start,
 ghost use Rattle.ifmap_lexer.specs.There.{BeginsNamed, NameAt, SomeName, Written};
 ghost use Rattle.ifmap_lexer.specs.Cutting.{Cuts};
 ghost use Rattle.std.specs.Bool.{OnTrue};
-ghost use Rattle.ifmap_lexer.specs.Names.{is_name_byte, stands_in_ascii, starts_in_ascii};
+ghost use Rattle.ifmap_elem.specs.laws.NameBytes.{is_name_byte};
+ghost use Rattle.ifmap_lexer.specs.Names.{stands_in_ascii, starts_in_ascii};
 ghost use Rattle.ifmap_lexer.specs.Refusing.{Refuses};
 
 use crate::errors::LexError;

@@ -1,7 +1,7 @@
 //! References to characters.
 ghost use Rattle.std.specs.Prelude.{◌≡◌, ◌≤◌};
 ghost use Rattle.ifmap_elem.specs.Values.{code_point, reference_value};
-ghost use Rattle.ifmap_lexer.specs.Numbers.{by_number, code_of};
+ghost use Rattle.ifmap_lexer.specs.Numbers.{by_number, code_point_of};
 
 use crate::characters::is_allowed;
 
@@ -56,7 +56,7 @@ const PAST: u32 = 0x11_0000;
 fn number_of(base: u32, digits: &[u8]) -> Option<u32>
     requires least { 2 ≤ base }
     requires most { base ≤ 36 }
-    ensures { result ≡ code_of base digits.now }
+    ensures { result ≡ code_point_of base digits.now }
 {
     if digits.is_empty() {
         return None;

@@ -5,20 +5,20 @@ ghost use Rattle.ifmap_elem.specs.Chars.{is_white};
 ghost use Rattle.ifmap_elem.specs.Tokens.{TakesToken};
 ghost use Rattle.ifmap_elem.specs.declared.tokens.Token.{Token};
 ghost use Rattle.ifmap_lexer.specs.There.{SomeToken, end_of};
-ghost use Rattle.ifmap_lexer.specs.Kinds.{Stands};
+ghost use Rattle.ifmap_elem.specs.Kinds.{Stands};
 ghost use Rattle.ifmap_lexer.specs.Refusing.{Refuses};
 
 use crate::characters::characters;
 use crate::declaration::after_declaration;
 use crate::errors::LexError;
-use crate::kinds::{Kind, kind_at};
+use crate::kinds::kind_at;
 use crate::names::{after_ascii_name, name_of};
 use crate::splitting::{
     after_word, has_section_end, is_white, split_byte, split_white, split_word,
 };
 use crate::tags::tag_of;
 use crate::values::{Place, meaning, plain_meaning};
-use ifmap_elem::tokens::Token;
+use ifmap_elem::tokens::{Token, TokenKind};
 use std::alloc::Global;
 
 // The token at the front, and what is left.
@@ -27,19 +27,19 @@ pub(crate) fn first_token(alloc: Global, bytes: &[u8]) -> Result<(Token, &[u8]),
     ensures refused { IfErr result (λ e. Refuses e (SomeToken bytes.now)) }
 {
     match kind_at(bytes) {
-        Kind::Nothing => Err(LexError::Malformed),
-        Kind::Text => text(alloc, bytes),
-        Kind::Declaration => declaration(bytes),
-        Kind::End => end_tag(alloc, bytes),
-        Kind::Tag => tag(alloc, bytes),
-        Kind::Comment => comment(bytes),
-        Kind::Section => section(alloc, bytes),
+        TokenKind::Nothing => Err(LexError::Malformed),
+        TokenKind::Text => text(alloc, bytes),
+        TokenKind::Declaration => declaration(bytes),
+        TokenKind::End => end_tag(alloc, bytes),
+        TokenKind::Tag => tag(alloc, bytes),
+        TokenKind::Comment => comment(bytes),
+        TokenKind::Section => section(alloc, bytes),
     }
 }
 
 fn declaration(bytes: &[u8]) -> Result<(Token, &[u8]), LexError>
     ensures found { IfOk result (λ f. TakesToken bytes.now f.0 f.1.now) }
-    ensures refused { IfErr result (λ e. Refuses e (Stands Kind.Declaration bytes.now)) }
+    ensures refused { IfErr result (λ e. Refuses e (Stands TokenKind.Declaration bytes.now)) }
 {
     match after_declaration(bytes) {
         Some(rest) => Ok((Token::Declaration, rest)),
@@ -49,7 +49,7 @@ fn declaration(bytes: &[u8]) -> Result<(Token, &[u8]), LexError>
 
 fn comment(bytes: &[u8]) -> Result<(Token, &[u8]), LexError>
     ensures found { IfOk result (λ f. TakesToken bytes.now f.0 f.1.now) }
-    ensures refused { IfErr result (λ e. Refuses e (Stands Kind.Comment bytes.now)) }
+    ensures refused { IfErr result (λ e. Refuses e (Stands TokenKind.Comment bytes.now)) }
 {
     let Some(inner) = after_word(b"<!--", bytes) else {
         return Err(LexError::Malformed);
@@ -68,7 +68,7 @@ fn comment(bytes: &[u8]) -> Result<(Token, &[u8]), LexError>
 
 fn section(alloc: Global, bytes: &[u8]) -> Result<(Token, &[u8]), LexError>
     ensures found { IfOk result (λ f. TakesToken bytes.now f.0 f.1.now) }
-    ensures refused { IfErr result (λ e. Refuses e (Stands Kind.Section bytes.now)) }
+    ensures refused { IfErr result (λ e. Refuses e (Stands TokenKind.Section bytes.now)) }
 {
     let Some(inner) = after_word(b"<![CDATA[", bytes) else {
         return Err(LexError::Malformed);
@@ -84,7 +84,7 @@ fn section(alloc: Global, bytes: &[u8]) -> Result<(Token, &[u8]), LexError>
 
 fn end_tag(alloc: Global, bytes: &[u8]) -> Result<(Token, &[u8]), LexError>
     ensures found { IfOk result (λ f. TakesToken bytes.now f.0 f.1.now) }
-    ensures refused { IfErr result (λ e. Refuses e (Stands Kind.End bytes.now)) }
+    ensures refused { IfErr result (λ e. Refuses e (Stands TokenKind.End bytes.now)) }
 {
     let Some(inner) = after_word(b"</", bytes) else {
         return Err(LexError::Malformed);
@@ -110,7 +110,7 @@ pub(crate) fn after_end_tag<'a>(prefix: &[u8], local: &[u8], bytes: &'a [u8]) ->
 
 fn tag(alloc: Global, bytes: &[u8]) -> Result<(Token, &[u8]), LexError>
     ensures found { IfOk result (λ f. TakesToken bytes.now f.0 f.1.now) }
-    ensures refused { IfErr result (λ e. Refuses e (Stands Kind.Tag bytes.now)) }
+    ensures refused { IfErr result (λ e. Refuses e (Stands TokenKind.Tag bytes.now)) }
 {
     let (tag, end) = tag_of(alloc, bytes)?;
     if let Some(rest) = after_word(b">", end) {
@@ -124,7 +124,7 @@ fn tag(alloc: Global, bytes: &[u8]) -> Result<(Token, &[u8]), LexError>
 
 fn text(alloc: Global, bytes: &[u8]) -> Result<(Token, &[u8]), LexError>
     ensures found { IfOk result (λ f. TakesToken bytes.now f.0 f.1.now) }
-    ensures refused { IfErr result (λ e. Refuses e (Stands Kind.Text bytes.now)) }
+    ensures refused { IfErr result (λ e. Refuses e (Stands TokenKind.Text bytes.now)) }
 {
     let (own, rest) = split_byte(b'<', bytes);
     if own.is_empty() {

@@ -1,7 +1,7 @@
 //! Written text and written values as what they mean.
 ghost use Rattle.std.specs.Prelude.{◌≡◌, ◌<◌, ◌++◌, [], ◌∷◌, ◌≤◌, ℕ, List, IfErr, IfOk, OnOk, length, map, string_bytes};
 ghost use Rattle.ifmap_elem.specs.Chars.{AllAre};
-ghost use Rattle.ifmap_elem.specs.Values.{Expands, Plain, as_space, line_ends};
+ghost use Rattle.ifmap_elem.specs.Values.{SpellsOut, Plain, as_space, line_ends};
 ghost use Rattle.ifmap_lexer.specs.There.{SomeExpansion};
 ghost use Rattle.ifmap_lexer.specs.Common.{is_verbatim};
 ghost use Rattle.ifmap_lexer.specs.Cutting.{is_but};
@@ -27,7 +27,7 @@ pub(crate) enum Place {
 // What the written characters mean. Most mean themselves.
 #[tactic(auto, using(crate::proofs::VerbatimLaws::verbatim_expands))]
 pub(crate) fn meaning(alloc: Global, place: Place, written: &str) -> Result<Text, LexError>
-    ensures found { IfOk result (λ text. Expands (part_in place) written.now text) }
+    ensures found { IfOk result (λ text. SpellsOut (part_in place) written.now text) }
     ensures refused { IfErr result (λ e. Refuses e (SomeExpansion place written.now)) }
 {
     if are_verbatim(written.as_bytes()) {
@@ -52,7 +52,7 @@ fn are_verbatim(bytes: &[u8]) -> bool
 
 // What the written characters mean, run by run and reference by reference.
 fn expand(alloc: Global, place: Place, written: &str) -> Result<Text, LexError>
-    ensures found { IfOk result (λ text. Expands (part_in place) written.now text) }
+    ensures found { IfOk result (λ text. SpellsOut (part_in place) written.now text) }
     ensures refused { IfErr result (λ e. Refuses e (SomeExpansion place written.now)) }
 {
     let mut text = String::with_capacity(alloc, written.len())?;

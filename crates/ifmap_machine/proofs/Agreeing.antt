@@ -9,7 +9,7 @@ use Rattle.std.proofs.lemmas.List.Kept.{IsStrictlySortedBy-filter}
 use Rattle.std.specs.List.{find}
 use Rattle.std.specs.List.Sorted.{IsStrictlySortedBy}
 use Rattle.ifmap_folds.specs.Folds.{Sets, fold_items, with_entries}
-use Rattle.ifmap_fresh.specs.Fresh.{fresh}
+use Rattle.ifmap_folds.specs.ifmap_fresh.Fresh.{fresh}
 use Rattle.ifmap_lemmas.specs.Filters.{all_weaker, filter_passes}
 use Rattle.ifmap_lemmas.specs.Having.{Has, filter_has, has_any, has_either, has_filter, map_has, all_has}
 use Rattle.ifmap_machine.specs.Agreeing.{items_polled}
@@ -25,16 +25,16 @@ use Rattle.ifmap_machine.proofs.Folding.{AreOf, Folds, dropped_stay, fold_joined
 use Rattle.ifmap_machine.proofs.Ids.{find_has, one_of_serial}
 use Rattle.ifmap_machine.proofs.Standing.{IsStood}
 use Rattle.ifmap_machine.proofs.Tables.{IsTabled, overflow_keeps}
-use Rattle.ifmap_plans.specs.declared.plans.Note.{Note}
-use Rattle.ifmap_plans.specs.Placing.{put}
-use Rattle.ifmap_requests.specs.declared.requests.SubscribeOp.{SubscribeOp}
-use Rattle.ifmap_requests.specs.declared.requests.SubscribeOp.TheVariants.{Update, Delete}
-use Rattle.ifmap_search.specs.declared.results.PollItem.{PollItem}
-use Rattle.ifmap_search.specs.declared.results.PollItem.TheVariants as the_item
-use Rattle.ifmap_search.specs.declared.searches.Search.{Search}
+use Rattle.ifmap_folds.specs.ifmap_plans.declared.plans.Note.{Note}
+use Rattle.ifmap_folds.specs.ifmap_plans.Placing.{put}
+use Rattle.ifmap_publish.specs.ifmap_requests.declared.requests.SubscribeOp.{SubscribeOp}
+use Rattle.ifmap_publish.specs.ifmap_requests.declared.requests.SubscribeOp.TheVariants.{Update, Delete}
+use Rattle.ifmap_replies.specs.ifmap_search.declared.results.PollItem.{PollItem}
+use Rattle.ifmap_replies.specs.ifmap_search.declared.results.PollItem.TheVariants as the_item
+use Rattle.ifmap_replies.specs.ifmap_search.declared.searches.Search.{Search}
 use Rattle.ifmap_session.specs.Sessions.{Session, change, is_named, is_same_text, session_with_id, without_items}
 use Rattle.ifmap_session.specs.laws.TextLaws.{text_flip, text_is, text_itself, text_same}
-use Rattle.ifmap_view.specs.declared.attachments.Attachment.{Attachment}
+use Rattle.ifmap_publish.specs.ifmap_view.declared.attachments.Attachment.{Attachment}
 use Rattle.ifmap_session.specs.laws.IdLaws.{ids_tell}
 
 -- what is queued for each session makes, of what its polls were told, the fresh results of its subscriptions; and these are of

@@ -12,7 +12,7 @@ use Rattle.std.specs.Ordering.{is_gt, is_lt}
 use Rattle.ifmap_elem.specs.Chars.{IsCharacters}
 use Rattle.ifmap_folds.specs.Differences.{difference, has_entry}
 use Rattle.ifmap_folds.specs.Notes.{is_told, told_notes}
-use Rattle.ifmap_fresh.specs.Fresh.{fresh, fresh_size, is_found}
+use Rattle.ifmap_folds.specs.ifmap_fresh.Fresh.{fresh, fresh_size, is_found}
 use Rattle.ifmap_ident.specs.Items.{IsCanonItem}
 use Rattle.ifmap_ident.specs.declared.codes.Code.TheVariants.{AccessDenied, InvalidSessionID, SystemError}
 use Rattle.ifmap_ident.specs.declared.items.Item.{Item}
@@ -38,32 +38,32 @@ use Rattle.ifmap_meta.specs.Whole.{IsMetadata}
 use Rattle.ifmap_meta.specs.declared.metadata.Metadata.{Metadata}
 use Rattle.ifmap_meta.specs.declared.stored.Life.TheVariants.{Forever}
 use Rattle.ifmap_meta.specs.laws.WholeLaws.{stamped_is_whole, client_characters}
-use Rattle.ifmap_plans.specs.declared.plans.Note.{Note}
-use Rattle.ifmap_plans.specs.Placing.{put}
-use Rattle.ifmap_plans.specs.Plans.{AreWhole}
+use Rattle.ifmap_folds.specs.ifmap_plans.declared.plans.Note.{Note}
+use Rattle.ifmap_folds.specs.ifmap_plans.Placing.{put}
+use Rattle.ifmap_folds.specs.ifmap_plans.Plans.{AreWhole}
 use Rattle.ifmap_publish.specs.Apply.{Authorship, apply}
 use Rattle.ifmap_publish.specs.Notes.{note_of, notes_of, notes_of_op}
 use Rattle.ifmap_publish.specs.Retract.{retract}
 use Rattle.ifmap_publish.specs.declared.who.Who.{Who}
 use Rattle.ifmap_publish.specs.declared.who.Who.TheVariants.{Sessions, Publisher}
 use Rattle.ifmap_replies.specs.Fit.{AreFitEntries, IsFitEntry, IsFitPollItem}
-use Rattle.ifmap_requests.specs.Fit.{IsFitOp, IsFitSubscribeOp}
-use Rattle.ifmap_requests.specs.declared.publishing.PublishOp.{PublishOp}
-use Rattle.ifmap_requests.specs.declared.publishing.PublishOp.TheVariants as publishing
-use Rattle.ifmap_requests.specs.declared.requests.Request.TheVariants as the_request
-use Rattle.ifmap_requests.specs.declared.requests.SubscribeOp.{SubscribeOp}
-use Rattle.ifmap_requests.specs.declared.requests.SubscribeOp.TheVariants.{Update, Delete}
-use Rattle.ifmap_search.specs.declared.results.Entry.{Entry}
-use Rattle.ifmap_search.specs.declared.results.PollItem.{PollItem}
-use Rattle.ifmap_search.specs.declared.results.PollItem.TheVariants as the_item
-use Rattle.ifmap_search.specs.declared.searches.Search.{Search}
+use Rattle.ifmap_publish.specs.ifmap_requests.Fit.{IsFitOp, IsFitSubscribeOp}
+use Rattle.ifmap_publish.specs.ifmap_requests.declared.publishing.PublishOp.{PublishOp}
+use Rattle.ifmap_publish.specs.ifmap_requests.declared.publishing.PublishOp.TheVariants as publishing
+use Rattle.ifmap_publish.specs.ifmap_requests.declared.requests.Request.TheVariants as the_request
+use Rattle.ifmap_publish.specs.ifmap_requests.declared.requests.SubscribeOp.{SubscribeOp}
+use Rattle.ifmap_publish.specs.ifmap_requests.declared.requests.SubscribeOp.TheVariants.{Update, Delete}
+use Rattle.ifmap_replies.specs.ifmap_search.declared.results.Entry.{Entry}
+use Rattle.ifmap_replies.specs.ifmap_search.declared.results.PollItem.{PollItem}
+use Rattle.ifmap_replies.specs.ifmap_search.declared.results.PollItem.TheVariants as the_item
+use Rattle.ifmap_replies.specs.ifmap_search.declared.searches.Search.{Search}
 use Rattle.ifmap_session.specs.Sessions.{Session, change, is_named, is_same_text, session_of_client, with_last, without_items}
 use Rattle.ifmap_session.specs.Sessions.{session_with_id}
 use Rattle.ifmap_session.specs.laws.TextLaws.{text_is}
-use Rattle.ifmap_view.specs.declared.attachments.Attachment.{Attachment}
-use Rattle.ifmap_view.specs.Attachments.{IsGraph}
+use Rattle.ifmap_publish.specs.ifmap_view.declared.attachments.Attachment.{Attachment}
+use Rattle.ifmap_publish.specs.ifmap_view.Attachments.{IsGraph}
 use Rattle.ifmap_session.specs.laws.IdLaws.{id_characters}
-use Rattle.ifmap_fresh.specs.laws.GatheringLaws.{entry_of}
+use Rattle.ifmap_folds.specs.ifmap_fresh.laws.GatheringLaws.{entry_of}
 
 -- ---- 1. what is found and told
 

@@ -13,19 +13,19 @@ use Rattle.std.specs.declared.cmp.Ordering.TheVariants.{Less, Equal}
 use Rattle.ifmap_folds.specs.Differences.{difference}
 use Rattle.ifmap_folds.specs.Folds.{Sets, fold_item, fold_items, with_entries}
 use Rattle.ifmap_folds.specs.Notes.{told_notes}
-use Rattle.ifmap_fresh.specs.Fresh.{fresh}
+use Rattle.ifmap_folds.specs.ifmap_fresh.Fresh.{fresh}
 use Rattle.ifmap_lemmas.specs.Having.{Has}
 use Rattle.ifmap_lemmas.specs.Members.{both_all}
 use Rattle.ifmap_machine.specs.State.{Standing, standing_order}
 use Rattle.ifmap_machine.specs.Telling.{is_too_big, item_if_any, told_to}
-use Rattle.ifmap_plans.specs.declared.plans.Note.{Note}
-use Rattle.ifmap_search.specs.declared.results.Entry.{Entry}
-use Rattle.ifmap_search.specs.declared.results.PollItem.{PollItem}
-use Rattle.ifmap_search.specs.declared.results.PollItem.TheVariants as the_item
-use Rattle.ifmap_search.specs.declared.searches.Search.{Search}
+use Rattle.ifmap_folds.specs.ifmap_plans.declared.plans.Note.{Note}
+use Rattle.ifmap_replies.specs.ifmap_search.declared.results.Entry.{Entry}
+use Rattle.ifmap_replies.specs.ifmap_search.declared.results.PollItem.{PollItem}
+use Rattle.ifmap_replies.specs.ifmap_search.declared.results.PollItem.TheVariants as the_item
+use Rattle.ifmap_replies.specs.ifmap_search.declared.searches.Search.{Search}
 use Rattle.ifmap_session.specs.Sessions.{is_named, is_same_text}
 use Rattle.ifmap_session.specs.laws.TextLaws.{text_flip, text_is, text_itself}
-use Rattle.ifmap_view.specs.declared.attachments.Attachment.{Attachment}
+use Rattle.ifmap_publish.specs.ifmap_view.declared.attachments.Attachment.{Attachment}
 use Rattle.ifmap_folds.specs.laws.FoldingLaws.{difference_none}
 use Rattle.ifmap_machine.specs.OrderLaws.{order_same}
 

@@ -11,7 +11,7 @@ use Rattle.ifmap_elem.specs.Arranged.{IsSame}
 use Rattle.ifmap_elem.specs.Canonical.{canonical_bytes}
 use Rattle.ifmap_elem.specs.declared.elements.Element.{Element}
 use Rattle.ifmap_elem.specs.Fit.{IsFit}
-use Rattle.ifmap_fresh.specs.Fresh.{fresh, is_found}
+use Rattle.ifmap_folds.specs.ifmap_fresh.Fresh.{fresh, is_found}
 use Rattle.ifmap_ident.specs.Canon.{IsIdentifier}
 use Rattle.ifmap_ident.specs.declared.identifiers.Identifier.{Identifier}
 use Rattle.ifmap_ident.specs.declared.items.Item.{Item}
@@ -21,15 +21,15 @@ use Rattle.ifmap_ident.specs.Items.{IsCanonItem, same_item}
 use Rattle.ifmap_lemmas.specs.Having.{Has, filter_has, map_has, all_has}
 use Rattle.ifmap_machine.proofs.Folding.{Folds}
 use Rattle.ifmap_meta.specs.Whole.{IsWhole}
-use Rattle.ifmap_plans.specs.Plans.{AreWhole}
-use Rattle.ifmap_search.specs.declared.results.Entry.{Entry}
-use Rattle.ifmap_search.specs.declared.results.PollItem.TheVariants.{Delete, Update}
-use Rattle.ifmap_search.specs.declared.searches.Search.{Search}
+use Rattle.ifmap_folds.specs.ifmap_plans.Plans.{AreWhole}
+use Rattle.ifmap_replies.specs.ifmap_search.declared.results.Entry.{Entry}
+use Rattle.ifmap_replies.specs.ifmap_search.declared.results.PollItem.TheVariants.{Delete, Update}
+use Rattle.ifmap_replies.specs.ifmap_search.declared.searches.Search.{Search}
 use Rattle.ifmap_session.specs.laws.TextLaws.{text_is}
-use Rattle.ifmap_view.specs.declared.attachments.Attachment.{Attachment}
-use Rattle.ifmap_view.specs.Attachments.{IsGraph}
+use Rattle.ifmap_publish.specs.ifmap_view.declared.attachments.Attachment.{Attachment}
+use Rattle.ifmap_publish.specs.ifmap_view.Attachments.{IsGraph}
 use Rattle.ifmap_folds.specs.laws.FoldingLaws.{difference_none, fresh_rises}
-use Rattle.ifmap_fresh.specs.laws.GatheringLaws.{entry_of}
+use Rattle.ifmap_folds.specs.ifmap_fresh.laws.GatheringLaws.{entry_of}
 
 -- a graph whose attachments are whole
 pub record IsWholeGraph (rows : List Attachment) : Type 0 where

@@ -18,13 +18,13 @@ use Rattle.ifmap_publish.specs.Apply.{Authorship, apply}
 use Rattle.ifmap_publish.specs.declared.who.Who.{Who}
 use Rattle.ifmap_publish.specs.declared.who.Who.TheVariants.{Sessions, Publisher}
 use Rattle.ifmap_publish.specs.Retract.{retract}
-use Rattle.ifmap_requests.specs.declared.publishing.PublishOp.{PublishOp}
-use Rattle.ifmap_requests.specs.declared.requests.Request.TheVariants as the_request
-use Rattle.ifmap_requests.specs.Fit.{IsFitOp}
-use Rattle.ifmap_search.specs.declared.results.PollItem.{PollItem}
+use Rattle.ifmap_publish.specs.ifmap_requests.declared.publishing.PublishOp.{PublishOp}
+use Rattle.ifmap_publish.specs.ifmap_requests.declared.requests.Request.TheVariants as the_request
+use Rattle.ifmap_publish.specs.ifmap_requests.Fit.{IsFitOp}
+use Rattle.ifmap_replies.specs.ifmap_search.declared.results.PollItem.{PollItem}
 use Rattle.ifmap_session.specs.Sessions.{Session, is_same_text, session_of_client, session_with_id}
 use Rattle.ifmap_session.specs.laws.TextLaws.{text_is}
-use Rattle.ifmap_view.specs.declared.attachments.Attachment.{Attachment}
+use Rattle.ifmap_publish.specs.ifmap_view.declared.attachments.Attachment.{Attachment}
 
 module _ (Good : List Attachment → Type 0) (good_none : Good []) (good_retracted : (who : Who) (rows : List Attachment) → Good rows
     → Good (retract who rows)) (good_applied : (rows : List Attachment) (by : Authorship) (ops : List PublishOp) → IsClientName by.client

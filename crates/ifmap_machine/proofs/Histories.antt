@@ -12,7 +12,7 @@ use Rattle.std.proofs.lemmas.Grind.{flat_map-append}
 use Rattle.std.specs.List.{AllByRecursion, find}
 use Rattle.std.specs.Option.{option_map}
 use Rattle.ifmap_folds.specs.Folds.{Sets, fold_items, no_sets, with_entries}
-use Rattle.ifmap_fresh.specs.Fresh.{fresh}
+use Rattle.ifmap_folds.specs.ifmap_fresh.Fresh.{fresh}
 use Rattle.ifmap_lemmas.specs.Having.{Has, all_has}
 use Rattle.ifmap_machine.specs.declared.events.Answer.{Answer}
 use Rattle.ifmap_machine.specs.declared.events.Answer.TheVariants as the_answer
@@ -36,23 +36,23 @@ use Rattle.ifmap_machine.proofs.Ids.{find_has, one_of_serial}
 use Rattle.ifmap_machine.proofs.Standing.{IsStood, ended_stood, event_stood, stood_filter, stood_none}
 use Rattle.ifmap_machine.proofs.Tables.{IsTabled, event_table, expired_table, opening_table}
 use Rattle.ifmap_meta.specs.ClientNames.{IsClientName}
-use Rattle.ifmap_plans.specs.declared.plans.Note.{Note}
+use Rattle.ifmap_folds.specs.ifmap_plans.declared.plans.Note.{Note}
 use Rattle.ifmap_publish.specs.Apply.{Authorship, apply}
 use Rattle.ifmap_publish.specs.Notes.{notes_of}
 use Rattle.ifmap_publish.specs.declared.who.Who.{Who}
 use Rattle.ifmap_publish.specs.declared.who.Who.TheVariants.{Sessions, Publisher}
 use Rattle.ifmap_publish.specs.Retract.{retract}
-use Rattle.ifmap_requests.specs.declared.publishing.PublishOp.{PublishOp}
-use Rattle.ifmap_requests.specs.declared.requests.Request.TheVariants as the_request
+use Rattle.ifmap_publish.specs.ifmap_requests.declared.publishing.PublishOp.{PublishOp}
+use Rattle.ifmap_publish.specs.ifmap_requests.declared.requests.Request.TheVariants as the_request
 use Rattle.ifmap_replies.specs.declared.replies.Reply.TheVariants as the_reply
-use Rattle.ifmap_requests.specs.declared.requests.SubscribeOp.{SubscribeOp}
-use Rattle.ifmap_requests.specs.declared.requests.SubscribeOp.TheVariants.{Update}
-use Rattle.ifmap_requests.specs.Fit.{IsFitOp}
-use Rattle.ifmap_search.specs.declared.results.PollItem.{PollItem}
-use Rattle.ifmap_search.specs.declared.searches.Search.{Search}
+use Rattle.ifmap_publish.specs.ifmap_requests.declared.requests.SubscribeOp.{SubscribeOp}
+use Rattle.ifmap_publish.specs.ifmap_requests.declared.requests.SubscribeOp.TheVariants.{Update}
+use Rattle.ifmap_publish.specs.ifmap_requests.Fit.{IsFitOp}
+use Rattle.ifmap_replies.specs.ifmap_search.declared.results.PollItem.{PollItem}
+use Rattle.ifmap_replies.specs.ifmap_search.declared.searches.Search.{Search}
 use Rattle.ifmap_session.specs.Sessions.{Session, change, is_same_text, session_of_client, session_with_id, with_last, without_items}
 use Rattle.ifmap_session.specs.laws.TextLaws.{text_is}
-use Rattle.ifmap_view.specs.declared.attachments.Attachment.{Attachment}
+use Rattle.ifmap_publish.specs.ifmap_view.declared.attachments.Attachment.{Attachment}
 
 -- ---- after a poll that was told
 

@@ -26,21 +26,21 @@ use Rattle.ifmap_machine.proofs.Tables.{IsTabled, event_table, expired_table, op
 use Rattle.ifmap_meta.specs.declared.metadata.Metadata.{Metadata}
 use Rattle.ifmap_meta.specs.declared.stored.Life.{Life}
 use Rattle.ifmap_meta.specs.declared.stored.Life.TheVariants as the_life
-use Rattle.ifmap_plans.specs.declared.plans.Note.{Note}
+use Rattle.ifmap_folds.specs.ifmap_plans.declared.plans.Note.{Note}
 use Rattle.ifmap_publish.specs.Apply.{Authorship, apply, apply_op, attach, attachment_of, life_of, update}
 use Rattle.ifmap_publish.specs.Notes.{notes_of}
 use Rattle.ifmap_publish.specs.declared.who.Who.TheVariants.{Sessions, Publisher}
 use Rattle.ifmap_publish.specs.Retract.{ends_with, retract}
-use Rattle.ifmap_requests.specs.declared.publishing.PublishOp.{PublishOp}
-use Rattle.ifmap_requests.specs.declared.publishing.PublishOp.TheVariants.{Update, Notify, Delete}
-use Rattle.ifmap_requests.specs.declared.requests.Request.TheVariants as the_request
-use Rattle.ifmap_search.specs.declared.results.PollItem.{PollItem}
+use Rattle.ifmap_publish.specs.ifmap_requests.declared.publishing.PublishOp.{PublishOp}
+use Rattle.ifmap_publish.specs.ifmap_requests.declared.publishing.PublishOp.TheVariants.{Update, Notify, Delete}
+use Rattle.ifmap_publish.specs.ifmap_requests.declared.requests.Request.TheVariants as the_request
+use Rattle.ifmap_replies.specs.ifmap_search.declared.results.PollItem.{PollItem}
 use Rattle.ifmap_session.specs.Sessions.{Session, change, is_same_text, session_of_client, session_with_id, with_last, without_items}
 use Rattle.ifmap_session.specs.Sessions.{session_with_serial, without_sessions}
 use Rattle.ifmap_session.specs.laws.TableLaws.{KeepsIdAndClient, found_by_serial, found_beside_begun}
 use Rattle.ifmap_session.specs.laws.TextLaws.{find_kept}
-use Rattle.ifmap_view.specs.declared.attachments.Attachment.{Attachment}
-use Rattle.ifmap_view.specs.Attachments.{attachment_order, of_one_key}
+use Rattle.ifmap_publish.specs.ifmap_view.declared.attachments.Attachment.{Attachment}
+use Rattle.ifmap_publish.specs.ifmap_view.Attachments.{attachment_order, of_one_key}
 
 -- ---- one life
 

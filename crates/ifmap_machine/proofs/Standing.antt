@@ -25,15 +25,15 @@ use Rattle.ifmap_machine.specs.Step.{answer_subscribed, end_session, in_session,
 use Rattle.ifmap_machine.specs.Step.{renew_first, renew_session, search, step, step_ask, subscribe}
 use Rattle.ifmap_machine.specs.Subscribing.{Told, is_full_for, is_of_name, most_names, subscribe_op, subscribe_ops}
 use Rattle.ifmap_machine.specs.Telling.{is_too_big}
-use Rattle.ifmap_plans.specs.Placing.{put}
-use Rattle.ifmap_plans.specs.laws.PlacingLaws.{put_sorted}
-use Rattle.ifmap_requests.specs.declared.requests.Request.TheVariants as the_request
-use Rattle.ifmap_requests.specs.declared.requests.SubscribeOp.{SubscribeOp}
-use Rattle.ifmap_requests.specs.declared.requests.SubscribeOp.TheVariants.{Update, Delete}
-use Rattle.ifmap_search.specs.declared.results.PollItem.{PollItem}
-use Rattle.ifmap_search.specs.declared.searches.Search.{Search}
+use Rattle.ifmap_folds.specs.ifmap_plans.Placing.{put}
+use Rattle.ifmap_folds.specs.ifmap_plans.laws.PlacingLaws.{put_sorted}
+use Rattle.ifmap_publish.specs.ifmap_requests.declared.requests.Request.TheVariants as the_request
+use Rattle.ifmap_publish.specs.ifmap_requests.declared.requests.SubscribeOp.{SubscribeOp}
+use Rattle.ifmap_publish.specs.ifmap_requests.declared.requests.SubscribeOp.TheVariants.{Update, Delete}
+use Rattle.ifmap_replies.specs.ifmap_search.declared.results.PollItem.{PollItem}
+use Rattle.ifmap_replies.specs.ifmap_search.declared.searches.Search.{Search}
 use Rattle.ifmap_session.specs.Sessions.{Session, is_same_text, session_of_client, session_with_id}
-use Rattle.ifmap_view.specs.declared.attachments.Attachment.{Attachment}
+use Rattle.ifmap_publish.specs.ifmap_view.declared.attachments.Attachment.{Attachment}
 
 pub standing_total : IsTotalOrder standing_order
 standing_total =

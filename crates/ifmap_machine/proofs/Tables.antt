@@ -23,16 +23,16 @@ use Rattle.ifmap_machine.specs.Step.{poll, poll_in, poll_queue, publish, purge, 
 use Rattle.ifmap_machine.specs.Step.{subscribe, with_told}
 use Rattle.ifmap_machine.specs.Subscribing.{Told}
 use Rattle.ifmap_machine.specs.Telling.{is_overfull, is_too_big, overflow, overflow_session, tell, tell_session, told_in_session}
-use Rattle.ifmap_plans.specs.declared.plans.Note.{Note}
-use Rattle.ifmap_requests.specs.declared.requests.Request.TheVariants as the_request
-use Rattle.ifmap_search.specs.declared.results.PollItem.{PollItem}
-use Rattle.ifmap_search.specs.declared.searches.Search.{Search}
+use Rattle.ifmap_folds.specs.ifmap_plans.declared.plans.Note.{Note}
+use Rattle.ifmap_publish.specs.ifmap_requests.declared.requests.Request.TheVariants as the_request
+use Rattle.ifmap_replies.specs.ifmap_search.declared.results.PollItem.{PollItem}
+use Rattle.ifmap_replies.specs.ifmap_search.declared.searches.Search.{Search}
 use Rattle.ifmap_session.specs.SessionIds.{BeginsWithSerial}
 use Rattle.ifmap_session.specs.Sessions.{IsTable, Session, SessionTable, change, is_same_text, most_sessions, session_of_client, session_order, without_items}
 use Rattle.ifmap_session.specs.Sessions.{session_with_id, without_sessions}
 use Rattle.ifmap_session.specs.laws.TableLaws.{KeepsIdAndClient, begun_table, changed_table, client_freed, id_begins, one_fewer, renewed_keeps, is_left}
 use Rattle.ifmap_session.specs.laws.TextLaws.{distinct_filter}
-use Rattle.ifmap_view.specs.declared.attachments.Attachment.{Attachment}
+use Rattle.ifmap_publish.specs.ifmap_view.declared.attachments.Attachment.{Attachment}
 
 -- the sessions of a state, as a table without room
 abbrev pub table_of : State → SessionTable

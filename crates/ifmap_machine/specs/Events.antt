@@ -4,7 +4,7 @@ use Rattle.ifmap_elem.specs.Chars.{IsCharacters}
 use Rattle.ifmap_machine.specs.declared.events.Ask.{Ask}
 use Rattle.ifmap_machine.specs.declared.events.Ask.TheVariants.{Request, Lost}
 use Rattle.ifmap_meta.specs.ClientNames.{IsClientName}
-use Rattle.ifmap_requests.specs.Fit.{IsFitRequest}
+use Rattle.ifmap_publish.specs.ifmap_requests.Fit.{IsFitRequest}
 
 -- what is asked, with all that its answer depends on beside the state: when it came, who asks, a random word, whether a poll is
 -- asked again, the length of its body, and what is asked

@@ -7,13 +7,13 @@ use Rattle.ifmap_machine.specs.declared.events.Answer.TheVariants as the_answer
 use Rattle.ifmap_machine.specs.Events.{Event}
 use Rattle.ifmap_machine.specs.Legal.{History}
 use Rattle.ifmap_machine.specs.State.{Standing, State}
-use Rattle.ifmap_plans.specs.Plans.{AreWhole}
+use Rattle.ifmap_folds.specs.ifmap_plans.Plans.{AreWhole}
 use Rattle.ifmap_replies.specs.Fit.{IsFitPollItem, IsFitReply}
 use Rattle.ifmap_replies.specs.Means.{MeansReply}
 use Rattle.ifmap_replies.specs.Results.{reply_bytes}
-use Rattle.ifmap_search.specs.declared.results.PollItem.{PollItem}
+use Rattle.ifmap_replies.specs.ifmap_search.declared.results.PollItem.{PollItem}
 use Rattle.ifmap_session.specs.Sessions.{Session}
-use Rattle.ifmap_view.specs.Attachments.{IsGraph}
+use Rattle.ifmap_publish.specs.ifmap_view.Attachments.{IsGraph}
 
 -- what is sent is a reply that is fit
 abbrev pub IsFitAnswer : Answer → Type 0

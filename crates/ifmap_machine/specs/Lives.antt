@@ -5,7 +5,7 @@ use Rattle.ifmap_machine.specs.State.{State}
 use Rattle.ifmap_meta.specs.declared.stored.Life.{Life}
 use Rattle.ifmap_meta.specs.declared.stored.Life.TheVariants as the_life
 use Rattle.ifmap_session.specs.Sessions.{Session, session_with_serial}
-use Rattle.ifmap_view.specs.declared.attachments.Attachment.{Attachment}
+use Rattle.ifmap_publish.specs.ifmap_view.declared.attachments.Attachment.{Attachment}
 
 -- what is to stay as long as a session belongs to a live one, of the client that published it
 abbrev pub IsLifeFor : List Session → List ℕ → Life → Type 0

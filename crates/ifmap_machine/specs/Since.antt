@@ -1,7 +1,7 @@
 -- What can be seen of a history from some entry on: a client's folds, and the fresh results beside them.
 use Rattle.std.specs.Prelude.{◌≡◌, ℕ, List, [], ◌∷◌, ◌++◌, Some}
 use Rattle.ifmap_folds.specs.Folds.{Sets, fold_items}
-use Rattle.ifmap_fresh.specs.Fresh.{fresh}
+use Rattle.ifmap_folds.specs.ifmap_fresh.Fresh.{fresh}
 use Rattle.ifmap_lemmas.specs.Having.{Has}
 use Rattle.ifmap_machine.specs.declared.events.Answer.{Answer}
 use Rattle.ifmap_machine.specs.declared.events.Answer.TheVariants as the_answer
@@ -11,10 +11,10 @@ use Rattle.ifmap_machine.specs.Events.{Event}
 use Rattle.ifmap_machine.specs.Legal.{History, state_from}
 use Rattle.ifmap_machine.specs.State.{Standing, State}
 use Rattle.ifmap_replies.specs.declared.replies.Reply.TheVariants as the_reply
-use Rattle.ifmap_requests.specs.declared.requests.Request.TheVariants as the_request
-use Rattle.ifmap_requests.specs.declared.requests.SubscribeOp.{SubscribeOp}
-use Rattle.ifmap_requests.specs.declared.requests.SubscribeOp.TheVariants.{Update}
-use Rattle.ifmap_search.specs.declared.searches.Search.{Search}
+use Rattle.ifmap_publish.specs.ifmap_requests.declared.requests.Request.TheVariants as the_request
+use Rattle.ifmap_publish.specs.ifmap_requests.declared.requests.SubscribeOp.{SubscribeOp}
+use Rattle.ifmap_publish.specs.ifmap_requests.declared.requests.SubscribeOp.TheVariants.{Update}
+use Rattle.ifmap_replies.specs.ifmap_search.declared.searches.Search.{Search}
 use Rattle.ifmap_session.specs.Sessions.{Session, session_with_id}
 
 -- a poll in the session of an id, which is answered with what there is to tell, or held

@@ -1,7 +1,7 @@
 -- What the machine answers to an event, and the state after it.
 use Rattle.std.specs.Prelude.{ℕ, ◌+◌, ◌-◌, ◌^◌, ◌==◌, ◌&&◌, ◌||◌, nat_le, Bool, true, false, List, [], ◌∷◌, ◌++◌, length, Option, None}
 use Rattle.std.specs.Prelude.{Some, is_none, if◌then◌else◌}
-use Rattle.ifmap_fresh.specs.Fresh.{fresh, fresh_size}
+use Rattle.ifmap_folds.specs.ifmap_fresh.Fresh.{fresh, fresh_size}
 use Rattle.ifmap_ident.specs.declared.codes.Code.{Code}
 use Rattle.ifmap_ident.specs.declared.codes.Code.TheVariants.{AccessDenied, InvalidSessionID, SearchResultsTooBig, SystemError}
 use Rattle.ifmap_ident.specs.Codes.{code_name}
@@ -19,11 +19,11 @@ use Rattle.ifmap_publish.specs.Notes.{notes_of}
 use Rattle.ifmap_publish.specs.declared.who.Who.TheVariants.{Publisher}
 use Rattle.ifmap_publish.specs.Retract.{retract}
 use Rattle.ifmap_replies.specs.declared.replies.Reply.TheVariants as the_reply
-use Rattle.ifmap_requests.specs.declared.publishing.PublishOp.{PublishOp}
-use Rattle.ifmap_requests.specs.declared.requests.Request.TheVariants as the_request
-use Rattle.ifmap_requests.specs.declared.requests.SubscribeOp.{SubscribeOp}
-use Rattle.ifmap_search.specs.declared.results.PollItem.{PollItem}
-use Rattle.ifmap_search.specs.declared.searches.Search.{Search}
+use Rattle.ifmap_publish.specs.ifmap_requests.declared.publishing.PublishOp.{PublishOp}
+use Rattle.ifmap_publish.specs.ifmap_requests.declared.requests.Request.TheVariants as the_request
+use Rattle.ifmap_publish.specs.ifmap_requests.declared.requests.SubscribeOp.{SubscribeOp}
+use Rattle.ifmap_replies.specs.ifmap_search.declared.results.PollItem.{PollItem}
+use Rattle.ifmap_replies.specs.ifmap_search.declared.searches.Search.{Search}
 use Rattle.ifmap_session.specs.SessionIds.{session_id}
 use Rattle.ifmap_session.specs.Sessions.{Session, change, is_same_text, limit_of, most_sessions, session_from, session_of_client, with_last, without_items}
 use Rattle.ifmap_session.specs.Sessions.{session_with_id}

@@ -2,17 +2,17 @@
 use Rattle.std.specs.Prelude.{ℕ, ◌==◌, ◌&&◌, nat_le, Bool, List, [], ◌∷◌, ◌++◌, filter, length, not, Option, None, Some, option_and_then}
 use Rattle.std.specs.Prelude.{if◌then◌else◌}
 use Rattle.std.specs.List.{list_any}
-use Rattle.ifmap_fresh.specs.Fresh.{fresh}
+use Rattle.ifmap_folds.specs.ifmap_fresh.Fresh.{fresh}
 use Rattle.ifmap_machine.specs.State.{Standing, standing_in, standing_order}
 use Rattle.ifmap_machine.specs.Telling.{is_too_big, too_big_item}
-use Rattle.ifmap_plans.specs.Placing.{put}
-use Rattle.ifmap_requests.specs.declared.requests.SubscribeOp.{SubscribeOp}
-use Rattle.ifmap_requests.specs.declared.requests.SubscribeOp.TheVariants.{Update, Delete}
-use Rattle.ifmap_search.specs.declared.results.PollItem.{PollItem}
-use Rattle.ifmap_search.specs.declared.results.PollItem.TheVariants as the_item
-use Rattle.ifmap_search.specs.declared.searches.Search.{Search}
+use Rattle.ifmap_folds.specs.ifmap_plans.Placing.{put}
+use Rattle.ifmap_publish.specs.ifmap_requests.declared.requests.SubscribeOp.{SubscribeOp}
+use Rattle.ifmap_publish.specs.ifmap_requests.declared.requests.SubscribeOp.TheVariants.{Update, Delete}
+use Rattle.ifmap_replies.specs.ifmap_search.declared.results.PollItem.{PollItem}
+use Rattle.ifmap_replies.specs.ifmap_search.declared.results.PollItem.TheVariants as the_item
+use Rattle.ifmap_replies.specs.ifmap_search.declared.searches.Search.{Search}
 use Rattle.ifmap_session.specs.Sessions.{is_named, is_same_text}
-use Rattle.ifmap_view.specs.declared.attachments.Attachment.{Attachment}
+use Rattle.ifmap_publish.specs.ifmap_view.declared.attachments.Attachment.{Attachment}
 
 -- how many subscriptions a session may keep
 abbrev pub most_names : ℕ

@@ -6,17 +6,17 @@ use Rattle.std.specs.Fmt.{decimal}
 use Rattle.std.specs.List.{list_any}
 use Rattle.ifmap_folds.specs.Differences.{difference}
 use Rattle.ifmap_folds.specs.Notes.{told_notes}
-use Rattle.ifmap_fresh.specs.Fresh.{fresh, fresh_size}
+use Rattle.ifmap_folds.specs.ifmap_fresh.Fresh.{fresh, fresh_size}
 use Rattle.ifmap_ident.specs.declared.codes.Code.TheVariants.{PollResultsTooBig, SearchResultsTooBig}
 use Rattle.ifmap_machine.specs.State.{Standing, State, standing_in}
-use Rattle.ifmap_plans.specs.declared.plans.Note.{Note}
-use Rattle.ifmap_search.specs.declared.results.Entry.{Entry}
-use Rattle.ifmap_search.specs.declared.results.PollItem.{PollItem}
-use Rattle.ifmap_search.specs.declared.results.PollItem.TheVariants as the_item
-use Rattle.ifmap_search.specs.declared.searches.Search.{Search}
-use Rattle.ifmap_search.specs.Sizes.{queue_size}
+use Rattle.ifmap_folds.specs.ifmap_plans.declared.plans.Note.{Note}
+use Rattle.ifmap_replies.specs.ifmap_search.declared.results.Entry.{Entry}
+use Rattle.ifmap_replies.specs.ifmap_search.declared.results.PollItem.{PollItem}
+use Rattle.ifmap_replies.specs.ifmap_search.declared.results.PollItem.TheVariants as the_item
+use Rattle.ifmap_replies.specs.ifmap_search.declared.searches.Search.{Search}
+use Rattle.ifmap_replies.specs.ifmap_search.Sizes.{queue_size}
 use Rattle.ifmap_session.specs.Sessions.{Session, with_error}
-use Rattle.ifmap_view.specs.declared.attachments.Attachment.{Attachment}
+use Rattle.ifmap_publish.specs.ifmap_view.declared.attachments.Attachment.{Attachment}
 
 -- the note of an error for size
 abbrev pub limit_note : ℕ → ℕ → List ℕ

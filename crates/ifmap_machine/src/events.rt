@@ -2,8 +2,8 @@
 use ifmap_elem::Text;
 use ifmap_io::Moment;
 use ifmap_meta::ClientName;
+use ifmap_publish::Request;
 use ifmap_replies::Reply;
-use ifmap_requests::Request;
 use std::marker::Model;
 
 /// What is asked of the machine.

@@ -10,9 +10,9 @@ ghost use Rattle.ifmap_machine.specs.Since.{AgreesFrom};
 ghost use Rattle.ifmap_machine.specs.State.{State, opening, standing_in, standing_order};
 ghost use Rattle.ifmap_machine.specs.Step.{step};
 ghost use Rattle.ifmap_machine.specs.Subscribing.{most_names};
-ghost use Rattle.ifmap_plans.specs.Plans.{AreWhole};
+ghost use Rattle.ifmap_folds.specs.ifmap_plans.Plans.{AreWhole};
 ghost use Rattle.ifmap_session.specs.Sessions.{most_sessions};
-ghost use Rattle.ifmap_view.specs.Attachments.{IsGraph};
+ghost use Rattle.ifmap_publish.specs.ifmap_view.Attachments.{IsGraph};
 
 use ifmap_elem::laws::canonical_bytes_tell_elements_apart;
 use ifmap_folds::laws::differences_make_the_next_result;

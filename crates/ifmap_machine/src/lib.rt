@@ -9,3 +9,10 @@ pub mod laws;
 
 pub use events::{Answer, Ask, Event};
 pub use expiry::SESSION_SECONDS;
+pub use ifmap_publish::laws::{publishing_keeps_graphs, retracting_keeps_graphs};
+pub use ifmap_publish::{
+    Author, PublishOp, Refusal, Request, SubscribeOp, Who, bodies_mean_fit_requests, plan,
+    read_request, retract,
+};
+pub use ifmap_replies::{Reply, write_reply};
+pub use ifmap_session::{Sessions, named_size};

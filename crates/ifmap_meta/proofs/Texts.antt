@@ -5,9 +5,9 @@ use Rattle.std.specs.Str.{IsUtf8}
 use Rattle.std.proofs.lemmas.List.Elements.{All-from_recursion}
 use Rattle.std.proofs.lemmas.Str.{IsUtf8-from_ascii}
 use Rattle.std.proofs.lemmas.Str.Ascii.{IsAscii-from_all}
-use Rattle.ifmap_io.specs.Calendar.{Civil, civil_text, digit}
+use Rattle.ifmap_io.specs.Calendar.{Civil, civil_text, last_digit}
 
-digit_is_ascii : (n : ℕ) → digit n < 128
+digit_is_ascii : (n : ℕ) → last_digit n < 128
 digit_is_ascii n = omega arith
 
 all_ascii : (c : Civil) → AllByRecursion (λ b. b < 128) (civil_text c)

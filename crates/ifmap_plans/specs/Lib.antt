@@ -4,3 +4,5 @@ pub mod Lists
 pub mod Plans
 pub mod After
 pub mod laws
+-- What is passed on to the crates above.
+pub mod ifmap_view

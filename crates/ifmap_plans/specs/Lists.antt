@@ -41,5 +41,5 @@ abbrev pub same_stored : Stored → Stored → Bool
 same_stored a b = bytes_eq (stored_bytes a) (stored_bytes b) && bytes_eq a.publisher b.publisher && same_life a.life b.life
 
 -- what is in the first list and not in the second
-abbrev pub difference : List Stored → List Stored → List Stored
-difference one other = filter (λ s. not (list_any (same_stored s) other)) one
+abbrev pub stored_difference : List Stored → List Stored → List Stored
+stored_difference one other = filter (λ s. not (list_any (same_stored s) other)) one

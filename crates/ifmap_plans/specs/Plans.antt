@@ -11,7 +11,7 @@ use Rattle.ifmap_view.specs.declared.attachments.Attachment.{Attachment}
 use Rattle.ifmap_view.specs.Attachments.{stored_order}
 use Rattle.ifmap_view.specs.Rows.{stored_on}
 use Rattle.ifmap_plans.specs.declared.plans.ItemChange.{ItemChange}
-use Rattle.ifmap_plans.specs.Lists.{IsList, difference, next_on}
+use Rattle.ifmap_plans.specs.Lists.{IsList, stored_difference, next_on}
 
 -- the change of an item, where there is one
 abbrev pub change_of : List ItemChange → Item → Option ItemChange
@@ -57,5 +57,5 @@ pub record Fits (rows : List Attachment) (changes : List ItemChange) : Type 0 wh
 -- the other
 abbrev pub AreExact : List Attachment → List Attachment → List ItemChange → Type 0
 AreExact before after changes = AllByRecursion (λ c.
-    (c.removed ≡ difference (stored_on c.item before) (stored_on c.item after))
-    × (c.added ≡ difference (stored_on c.item after) (stored_on c.item before))) changes
+    (c.removed ≡ stored_difference (stored_on c.item before) (stored_on c.item after))
+    × (c.added ≡ stored_difference (stored_on c.item after) (stored_on c.item before))) changes

@@ -6,6 +6,7 @@ pub mod items;
 pub mod lists;
 pub mod plans;
 
+pub use ifmap_view::{Row, View, share_rows};
 pub use items::Items;
 pub use lists::{bytes_of, place_of, put_row, row_order};
 pub use plans::{ItemChange, Note, Plan};

@@ -5,6 +5,7 @@
 use Rattle.std.proofs.Common.{◌≡◌, ◌≢◌, ◌⊎◌, ℕ, suc, ◌+◌, ◌-◌, ◌<◌, ◌≤◌, List, length, get_or, Option, Some, None, Ok, Err, Ordering, refl, sym, ap, subst, ◌∙◌, inl, inr, arith}
 use Rattle.std.proofs.lemmas.Bool.{cases_eq, cases_lt}
 use Rattle.std.proofs.lemmas.Cmp.{tied_itself, tied_back}
+use Rattle.std.proofs.lemmas.List.{get_or_default}
 use Rattle.std.proofs.lemmas.List.Edits.{length-insert, get_or-insert_below, get_or-insert_at, get_or-insert_above, length-remove, get_or-remove_below, get_or-remove_above}
 use Rattle.std.proofs.lemmas.Option.{same_Some, none-some}
 use Rattle.std.specs.Prelude.{IsSome}
@@ -118,11 +119,12 @@ module _ {K : Type 0} {cmp : K → K → Ordering} (total : IsTotalOrder cmp) wh
         ]
 
     -- the value at the place that the search finds
-    pub place_held : (key : K) (place : ℕ) → IsPlace cmp slot order key (Ok place) → (number : ℕ) → get_or order place 0 ≡ number
+    pub place_held : (key : K) (place : ℕ) → IsPlace cmp slot order key (Ok place) → (number : ℕ) → number ≡ get_or order place number
         → (held : Held K) × (slot number ≡ Some held) × (cmp held.key key ≡ Equal)
     place_held key place found number stands =
         let there = some_is _ (indexed.live place found.0) in
-        (there.0, sym (ap slot stands) ∙ there.1, found.1 there.0 there.1)
+        let same : get_or order place 0 ≡ number = get_or_default order place 0 number found.0 ∙ sym stands in
+        (there.0, sym (ap slot same) ∙ there.1, found.1 there.0 there.1)
 
     -- the search finds a value's key at its number
     pub number_found : (key : K) (place : ℕ) → IsPlace cmp slot order key (Ok place) → (number : ℕ) (held : Held K)

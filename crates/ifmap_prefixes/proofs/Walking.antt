@@ -7,7 +7,7 @@ use Rattle.std.proofs.lemmas.Bool.{and_from, and_parts, cases_lt}
 use Rattle.std.proofs.lemmas.List.{length-take, length-take-le}
 use Rattle.ifmap_elem.specs.declared.readings.Declared.{Declared}
 use Rattle.ifmap_lemmas.specs.Texts.{eq_itself, eq_tells}
-use Rattle.ifmap_prefixes.specs.Rows.{HasLast, IsLastOf, IsLater, IsLatest, HasIndexFrom, is_at_or_round}
+use Rattle.ifmap_prefixes.specs.Rows.{HasLast, IsLastOf, IsGreaterIndex, IsLatest, HasIndexFrom, is_at_or_round}
 
 -- of what is kept at the levels before this one, the greatest
 pub record IsLatestBefore (kept_at : List ℕ → Option ℕ) (path : List ℕ) (depth : ℕ) (answer : Option ℕ) : Type 0 where
@@ -29,7 +29,7 @@ module _ (kept_at : List ℕ → Option ℕ) (path : List ℕ) where
       record { index = next.index; is = next.is; late = omega arith }
 
   pub walks_on : (depth : ℕ) → depth ≤ length path → (one more : Option ℕ) → IsLatestBefore kept_at path depth one
-      → IsLater one (kept_at (take depth path)) more → IsLatestBefore kept_at path (depth + 1) more
+      → IsGreaterIndex one (kept_at (take depth path)) more → IsLatestBefore kept_at path (depth + 1) more
   walks_on depth low one more at is = record { found = found_on; last = last_on }
     where
       found_on : (i : ℕ) → more ≡ Some i → (level : ℕ) × (level ≤ length path) × (kept_at (take level path) ≡ Some i)

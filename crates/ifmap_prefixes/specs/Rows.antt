@@ -59,7 +59,7 @@ pub record IsLatest (kept_at : List ℕ → Option ℕ) (path : List ℕ) (answe
   pub last : (level i : ℕ) → level ≤ length path → kept_at (take level path) ≡ Some i → HasIndexFrom answer i
 
 -- the greater of two indexes, where there are two
-pub record IsLater (one other answer : Option ℕ) : Type 0 where
+pub record IsGreaterIndex (one other answer : Option ℕ) : Type 0 where
   pub either : (i : ℕ) → answer ≡ Some i → (one ≡ Some i) ⊎ (other ≡ Some i)
   pub first : (i : ℕ) → one ≡ Some i → HasIndexFrom answer i
   pub second : (i : ℕ) → other ≡ Some i → HasIndexFrom answer i

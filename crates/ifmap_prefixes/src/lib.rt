@@ -4,4 +4,5 @@
 pub mod prefixes;
 pub mod rows;
 
+pub use ifmap_reader::{Scope, is_name_character, is_name_start};
 pub use prefixes::{Declarations, Prefixes};

@@ -7,7 +7,7 @@ ghost use Rattle.std.specs.Option.{option_copied};
 ghost use Rattle.std.specs.Ordering.{nat_cmp};
 ghost use Rattle.std.specs.Str.{bytes_eq};
 ghost use Rattle.ifmap_prefixes.specs.InScope.{scope_by};
-ghost use Rattle.ifmap_prefixes.specs.Rows.{IsLastOf, IsLater, IsLatest, at_text, is_key, index_at};
+ghost use Rattle.ifmap_prefixes.specs.Rows.{IsLastOf, IsGreaterIndex, IsLatest, at_text, is_key, index_at};
 
 use ifmap_elem::Declared;
 use std::alloc::{AllocError as NoMemory, Global};
@@ -111,14 +111,14 @@ fn last_along(paths: &BTreeMap<&[u32], usize>, path: &[u32]) -> Option<usize>
 {
     let mut found = None;
     for depth in 0..path.len() + 1 {
-        found = later(found, paths.get(&path[..depth]).copied());
+        found = later_index(found, paths.get(&path[..depth]).copied());
     }
     found
 }
 
 // The greater of two indexes, where there are two.
-fn later(one: Option<usize>, other: Option<usize>) -> Option<usize>
-    ensures { IsLater one other result }
+fn later_index(one: Option<usize>, other: Option<usize>) -> Option<usize>
+    ensures { IsGreaterIndex one other result }
 {
     match (one, other) {
         (Some(one), Some(other)) => Some(one.max(other)),

@@ -5,4 +5,7 @@
 pub mod running;
 mod usage;
 
-pub use running::{Setting, run};
+pub use ifmap_drill::NoProgress;
+pub use ifmap_server::replay;
+pub use ifmap_serving::{Gate, Stand};
+pub use running::{RunSetting, run};

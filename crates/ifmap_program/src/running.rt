@@ -6,25 +6,18 @@ ghost use Rattle.ifmap_serving.specs.Works.{door_seen};
 
 use crate::usage::tell_usage;
 use ifmap_command::{Form, form_of};
-use ifmap_dialogue::Gate;
 use ifmap_drill::{Progress, drill};
+use ifmap_io::statuses::NO_MEMORY;
 use ifmap_io::{Clock, Door, Sink, Source};
 use ifmap_server::replay;
-use ifmap_serving::{Stand, serve};
+use ifmap_serving::{Gate, Stand, serve};
 use std::alloc::Global;
 use std::sync::Wait;
 use std::thread::Threads;
 
-/// The status for words that ask for nothing that the program does.
-pub const USAGE: u8 = 2;
-/// The status for a failed write.
-pub const WRITE_FAULT: u8 = 5;
-/// The status for want of memory.
-pub const NO_MEMORY: u8 = 6;
-
 /// What a run has beside its words, and what it reads, writes and serves.
 #[derive(Drop)]
-pub struct Setting<'a, R, C> {
+pub struct RunSetting<'a, R, C> {
     /// Threads, and waiting.
     pub rt: &'a R,
     /// Memory.
@@ -53,7 +46,7 @@ pub fn run<
     C: Clock + Sync,
     P: Progress,
 >(
-    setting: &Setting<'_, R, C>,
+    setting: &RunSetting<'_, R, C>,
     words: &[String],
     source: &mut S,
     sink: &mut K,
@@ -81,7 +74,7 @@ pub fn run<
 
 // Serves the stands where there are that many, and else tells the usage.
 fn serve_as<R: Threads + Wait + Sync, K: Sink, D: Door + Send, G: Gate + Send, C: Clock + Sync>(
-    setting: &Setting<'_, R, C>,
+    setting: &RunSetting<'_, R, C>,
     workers: u32,
     sink: &mut K,
     stands: &mut [Stand<D, G>],

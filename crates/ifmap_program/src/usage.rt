@@ -3,7 +3,7 @@ ghost use Rattle.ifmap_program.specs.Usage.{TellsUsage};
 ghost use Rattle.ifmap_io.specs.Written.{WritesAll};
 ghost use Rattle.ifmap_io.specs.Causes.{HasCause};
 
-use crate::running::{USAGE, WRITE_FAULT};
+use ifmap_io::statuses::{USAGE, WRITE_FAULT};
 use ifmap_io::{Failed, Sink};
 
 const USAGE_LINE: &str = "usage: mapd replay | drill KEY COUNT | serve ADDRESS WORKERS\n";

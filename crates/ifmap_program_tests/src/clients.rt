@@ -4,14 +4,11 @@ ghost use Rattle.std.specs.Prelude.{IsFalse};
 use crate::gates::OpenGate;
 use crate::makers::words_of;
 use ifmap_client_script::{Outcome, run_script};
-use ifmap_dialogue::Gate;
-use ifmap_drill::NoProgress;
 use ifmap_elem::Text;
 use ifmap_http::Wire;
 use ifmap_io::{Door, Link, MemoryClock, MemoryDoor, MemoryLink, MemorySink, MemorySource, Moment};
 use ifmap_meta::ClientName;
-use ifmap_program::{Setting, run};
-use ifmap_serving::Stand;
+use ifmap_program::{Gate, NoProgress, RunSetting, Stand, run};
 use ifmap_serving_tests::posts::{posts_of, reply_body};
 use std::alloc::{AllocError as NoMemory, Global};
 use std::collections::VecDeque;
@@ -80,7 +77,7 @@ pub fn serve_stands<R: Threads + Wait + Sync, D: Door + Send, G: Gate + Send>(
     let words = words_of(alloc, &["serve", "127.0.0.1:8080", workers])?;
     let mut source = MemorySource::new(Vec::new(alloc), Vec::new(alloc));
     let mut sink = MemorySink::new(Vec::new(alloc), Vec::new(alloc));
-    let setting = Setting {
+    let setting = RunSetting {
         rt,
         alloc,
         key: [7; 32],

@@ -2,7 +2,7 @@
 use crate::clients::{clock_of, serve_stands};
 use ifmap_dialogue_tests::desk::CountingGate;
 use ifmap_io::{MemoryDoor, MemoryLink};
-use ifmap_serving::Stand;
+use ifmap_program::Stand;
 use ifmap_serving_tests::posts::{answers_of, posts_of};
 use std::alloc::{AllocError as NoMemory, Global};
 use std::collections::VecDeque;

@@ -1,5 +1,5 @@
 //! A gate that holds nobody up.
-use ifmap_dialogue::Gate;
+use ifmap_program::Gate;
 
 /// A gate that holds nobody up.
 #[derive(Clone, Copy, Debug)]

@@ -1,10 +1,8 @@
 //! Words, with the status that they come to and what is written for them.
 use crate::gates::OpenGate;
 use crate::makers::words_of;
-use ifmap_drill::NoProgress;
 use ifmap_io::{MemoryClock, MemoryDoor, MemorySink, MemorySource, Moment};
-use ifmap_program::{Setting, run};
-use ifmap_serving::Stand;
+use ifmap_program::{NoProgress, RunSetting, Stand, run};
 use std::alloc::{AllocError as NoMemory, Global};
 use std::collections::VecDeque;
 use std::sync::Wait;
@@ -106,7 +104,7 @@ fn status_of<R: Threads + Wait + Sync>(
     let mut source = MemorySource::new(script, Vec::new(alloc));
     let start = Moment::new(0).unwrap();
     let clock = MemoryClock::new(start, 0, start);
-    let setting = Setting {
+    let setting = RunSetting {
         rt,
         alloc,
         key: [7; 32],

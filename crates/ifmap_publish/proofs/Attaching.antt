@@ -10,7 +10,7 @@ use Rattle.ifmap_meta.specs.declared.metadata.Metadata.{Metadata}
 use Rattle.ifmap_meta.specs.declared.stored.Stored.{Stored}
 use Rattle.ifmap_meta.specs.Keys.{same_key}
 use Rattle.ifmap_meta.specs.Whole.{IsWhole}
-use Rattle.ifmap_plans.specs.laws.ListLaws.{list_filter, list_put}
+use Rattle.ifmap_rows.specs.ifmap_plans.laws.ListLaws.{list_filter, list_put}
 use Rattle.ifmap_view.specs.Attachments.{stored_order}
 use Rattle.ifmap_publish.specs.Apply.{Authorship, stored_of}
 use Rattle.ifmap_publish.specs.OnItems.{attach_all, attach_on, update_on}

@@ -16,17 +16,16 @@ use Rattle.std.specs.Map.{keys_of, lookup}
 use Rattle.std.specs.Ordering.{is_eq}
 use Rattle.std.specs.declared.cmp.Ordering.TheVariants.{Less}
 use Rattle.ifmap_ident.specs.declared.items.Item.{Item}
-use Rattle.ifmap_ident.specs.Items.{IsCanonItem, item_order, same_item}
+use Rattle.ifmap_ident.specs.Items.{IsCanonItem, item_order, same_item, items_tie}
 use Rattle.ifmap_lemmas.specs.Filters.{all_filter, all_weaker}
 use Rattle.ifmap_lemmas.specs.Having.{Has, filter_has}
-use Rattle.ifmap_lemmas.specs.Numbers.{is_number}
+use Rattle.ifmap_lemmas.specs.Numbers.{equal_numbers}
 use Rattle.ifmap_lemmas.specs.Orderings.{less_turned}
 use Rattle.ifmap_meta.specs.declared.stored.Stored.{Stored}
 use Rattle.ifmap_meta.specs.Whole.{IsWhole}
-use Rattle.ifmap_plans.specs.declared.plans.ItemChange.{ItemChange}
-use Rattle.ifmap_plans.specs.Lists.{IsList, difference, next_on, same_stored}
-use Rattle.ifmap_plans.specs.Plans.{AreExact, AreWhole, Fits, FitsItem, IsAfter, IsChange, change_of, changed_by}
-use Rattle.ifmap_plans.specs.laws.KeyLaws.{items_equiv, items_tied, items_total}
+use Rattle.ifmap_rows.specs.ifmap_plans.declared.plans.ItemChange.{ItemChange}
+use Rattle.ifmap_rows.specs.ifmap_plans.Lists.{IsList, stored_difference, next_on, same_stored}
+use Rattle.ifmap_rows.specs.ifmap_plans.Plans.{AreExact, AreWhole, Fits, FitsItem, IsAfter, IsChange, change_of, changed_by}
 use Rattle.ifmap_view.specs.declared.attachments.Attachment.{Attachment}
 use Rattle.ifmap_view.specs.Attachments.{IsGraph, stored_order}
 use Rattle.ifmap_view.specs.Rows.{stored_on}
@@ -36,7 +35,7 @@ use Rattle.ifmap_publish.proofs.Differing.{differences_make}
 use Rattle.ifmap_publish.proofs.Editing.{added_is, nothing_moved, put_sound, removed_is, taken_rises}
 use Rattle.ifmap_publish.proofs.Entries.{stored_alike}
 use Rattle.ifmap_publish.proofs.Graphs.{sound_on}
-use Rattle.ifmap_ident.specs.SameLaws.{less_differs}
+use Rattle.ifmap_ident.specs.SameLaws.{less_item_differs, items_equiv, items_total}
 
 abbrev Entry : Type 0
 Entry = Item × List Stored
@@ -67,7 +66,7 @@ first_key e es up = up
 
 -- each entry is found by its key
 found_first : (e : Entry) (es : List Entry) → lookup (is_at (item_order e.0)) (e ∷ es) ≡ Some e.1
-found_first e es = ap (λ b. cond b (Some e.1) (lookup (is_at (item_order e.0)) es)) (sym (items_tied e.0 e.0) ∙ items_equiv.refl e.0)
+found_first e es = ap (λ b. cond b (Some e.1) (lookup (is_at (item_order e.0)) es)) (sym (items_tie e.0 e.0) ∙ items_equiv.refl e.0)
 
 found_later : (e : Entry) (es ys : List Entry) → AllOver e.0 ys
     → AllByRecursion (λ y. lookup (is_at (item_order y.0)) es ≡ Some y.1) ys
@@ -117,7 +116,7 @@ module _ (rows : List Attachment) where
       let parts = first_key e es up in
       by ((change_to rows e).removed ++ (change_to rows e).added)
       (all_items (λ y. same_item e.0 y ≡ false) es
-      (all_weaker (λ y. item_order e.0 y ≡ Less) (λ y. same_item e.0 y ≡ false) (λ y l. less_differs e.0 y l) (keys_of es) parts.0))
+      (all_weaker (λ y. item_order e.0 y ≡ Less) (λ y. same_item e.0 y ≡ false) (λ y l. less_item_differs e.0 y l) (keys_of es) parts.0))
       (items_apart es parts.1)
     where
       by : (l : List Stored) → AllByRecursion (λ y. same_item e.0 y ≡ false) (map (λ c. c.item) (changes_to rows es))
@@ -151,7 +150,7 @@ module _ (rows : List Attachment) where
         each (y ∷ ys) h = (h y (inl refl), each ys (λ s q. h s (inr q)))
 
     made : (e : Entry) → IsSoundEntry e
-        → next_on (difference (stored_on e.0 rows) e.1) (difference e.1 (stored_on e.0 rows)) (stored_on e.0 rows) ≡ e.1
+        → next_on (stored_difference (stored_on e.0 rows) e.1) (stored_difference e.1 (stored_on e.0 rows)) (stored_on e.0 rows) ≡ e.1
     made e s =
         let there = sound_on e.0 rows graph whole in
         differences_make (stored_on e.0 rows) e.1 there.keyed.rising s.sound.keyed.rising there.whole s.sound.whole
@@ -196,15 +195,15 @@ module _ (rows : List Attachment) where
           | inl is ↦
               let alike : stored_on x rows ≡ stored_on e.0 rows = stored_alike e.0 x is rows in
               let hit : lookup (is_at (item_order x)) (e ∷ es) ≡ Some e.1 =
-              ap (λ b. cond b (Some e.1) (lookup (is_at (item_order x)) es)) (sym (items_tied x e.0) ∙ items_equiv.symm x e.0 ∙ is) in
+              ap (λ b. cond b (Some e.1) (lookup (is_at (item_order x)) es)) (sym (items_tie x e.0) ∙ items_equiv.symm x e.0 ∙ is) in
               let others : AllByRecursion (λ y. same_item y x ≡ false) (keys_of es) =
               all_weaker (λ y. item_order e.0 y ≡ Less) (λ y. same_item y x ≡ false)
-              (λ y l. items_equiv.symm y x ∙ sym (items_equiv.congr e.0 x y is) ∙ less_differs e.0 y l) (keys_of es) parts.0 in
+              (λ y l. items_equiv.symm y x ∙ sym (items_equiv.congr e.0 x y is) ∙ less_item_differs e.0 y l) (keys_of es) parts.0 in
               at ((change_to rows e).removed ++ (change_to rows e).added) refl is alike (nothing_found x es others)
               ∙ sym (ap (λ o. list_or o (stored_on x rows)) hit)
           | inr is ↦
               let miss : lookup (is_at (item_order x)) (e ∷ es) ≡ lookup (is_at (item_order x)) es =
-              ap (λ b. cond b (Some e.1) (lookup (is_at (item_order x)) es)) (sym (items_tied x e.0) ∙ items_equiv.symm x e.0 ∙ is) in
+              ap (λ b. cond b (Some e.1) (lookup (is_at (item_order x)) es)) (sym (items_tie x e.0) ∙ items_equiv.symm x e.0 ∙ is) in
               past ((change_to rows e).removed ++ (change_to rows e).added) is
               ∙ rest ∙ sym (ap (λ o. list_or o (stored_on x rows)) miss)
         ]
@@ -234,22 +233,22 @@ module _ (rows : List Attachment) where
       is_after x = sym (applied x) ∙ sym (changed x es sound up)
 
       pub are_exact : AreExact rows after (changes_to rows es)
-      are_exact = all_kept (λ c. (c.removed ≡ difference (stored_on c.item rows) (stored_on c.item after))
-          × (c.added ≡ difference (stored_on c.item after) (stored_on c.item rows))) es
+      are_exact = all_kept (λ c. (c.removed ≡ stored_difference (stored_on c.item rows) (stored_on c.item after))
+          × (c.added ≡ stored_difference (stored_on c.item after) (stored_on c.item rows))) es
           (all_weaker (λ y. lookup (is_at (item_order y.0)) es ≡ Some y.1)
-          (λ y. ((change_to rows y).removed ≡ difference (stored_on y.0 rows) (stored_on y.0 after))
-          × ((change_to rows y).added ≡ difference (stored_on y.0 after) (stored_on y.0 rows))) exact es (all_found es up))
+          (λ y. ((change_to rows y).removed ≡ stored_difference (stored_on y.0 rows) (stored_on y.0 after))
+          × ((change_to rows y).added ≡ stored_difference (stored_on y.0 after) (stored_on y.0 rows))) exact es (all_found es up))
         where
           exact : (y : Entry) → lookup (is_at (item_order y.0)) es ≡ Some y.1
-              → ((change_to rows y).removed ≡ difference (stored_on y.0 rows) (stored_on y.0 after))
-              × ((change_to rows y).added ≡ difference (stored_on y.0 after) (stored_on y.0 rows))
+              → ((change_to rows y).removed ≡ stored_difference (stored_on y.0 rows) (stored_on y.0 after))
+              × ((change_to rows y).added ≡ stored_difference (stored_on y.0 after) (stored_on y.0 rows))
           exact y hit =
               let is : y.1 ≡ stored_on y.0 after = ap (λ o. list_or o (stored_on y.0 rows)) (sym hit) ∙ applied y.0 in
-              (ap (difference (stored_on y.0 rows)) is, ap (λ l. difference l (stored_on y.0 rows)) is)
+              (ap (stored_difference (stored_on y.0 rows)) is, ap (λ l. stored_difference l (stored_on y.0 rows)) is)
 
-pub difference_of : (one other taken put made : List Stored) → made ≡ difference one other → one ≡ taken → other ≡ put
-    → made ≡ difference taken put
-difference_of one other taken put made is p q = is ∙ (λ i. difference (p i) (q i))
+pub difference_of : (one other taken put made : List Stored) → made ≡ stored_difference one other → one ≡ taken → other ≡ put
+    → made ≡ stored_difference taken put
+difference_of one other taken put made is p q = is ∙ (λ i. stored_difference (p i) (q i))
 
 -- one change more, where something goes or comes
 module _ (c : ItemChange) (removed added : List Stored) (made : List ItemChange) (gone : removed ≡ c.removed)
@@ -275,7 +274,7 @@ filled_first c [] ys e = let q : true ≡ false = e in cc
 filled_first c (x ∷ xs) ys e = refl
 
 not_none : (x : Stored) (xs : List Stored) → (length (x ∷ xs) == 0) ≡ true → ⊥
-not_none x xs e = let q = is_number (length (x ∷ xs)) 0 e in omega (arith, q)
+not_none x xs e = let q = equal_numbers (length (x ∷ xs)) 0 e in omega (arith, q)
 
 pub filled_second : (c : ItemChange) (xs ys : List Stored) → (length xs == 0) ≡ true → (length ys == 0) ≡ false
     → kept_change c (xs ++ ys) ≡ c ∷ []
@@ -328,7 +327,7 @@ module _ (rows : List Attachment) where
           → list_or (cond b (Some (list_by e.1 (stored_on e.0 rows))) (lookup (is_at (item_order x)) (listed es))) (stored_on x rows)
           ≡ list_by (edit_or (cond b (Some e.1) (lookup (is_at (item_order x)) es))) (stored_on x rows)
       by true is rest =
-          ap (list_by e.1) (sym (stored_alike e.0 x (items_equiv.symm e.0 x ∙ items_tied x e.0 ∙ is) rows))
+          ap (list_by e.1) (sym (stored_alike e.0 x (items_equiv.symm e.0 x ∙ items_tie x e.0 ∙ is) rows))
       by false is rest = rest
 
   pub listed_applied : (after : List Attachment) (es : List (Item × Edit))

@@ -10,10 +10,10 @@ use Rattle.ifmap_lemmas.specs.Filters.{all_filter, all_weaker, filter_alike, fil
 use Rattle.ifmap_lemmas.specs.Orderings.{less_turned}
 use Rattle.ifmap_meta.specs.declared.stored.Stored.{Stored}
 use Rattle.ifmap_meta.specs.Whole.{IsWhole}
-use Rattle.ifmap_plans.specs.Lists.{difference, next_on, put_each, same_stored, without}
-use Rattle.ifmap_plans.specs.Placing.{put}
-use Rattle.ifmap_plans.specs.laws.KeyLaws.{stored_total}
-use Rattle.ifmap_plans.specs.laws.PlacingLaws.{put_front, put_less}
+use Rattle.ifmap_rows.specs.ifmap_plans.Lists.{stored_difference, next_on, put_each, same_stored, without}
+use Rattle.ifmap_rows.specs.ifmap_plans.Placing.{put}
+use Rattle.ifmap_rows.specs.ifmap_plans.laws.KeyLaws.{stored_total}
+use Rattle.ifmap_rows.specs.ifmap_plans.laws.PlacingLaws.{put_front, put_less}
 use Rattle.ifmap_view.specs.Attachments.{stored_order}
 use Rattle.ifmap_publish.proofs.Same.{greater_differs, less_differs, same_is, same_turned}
 
@@ -42,25 +42,25 @@ none_same s [] all = refl
 none_same s (x ∷ xs) all = ap (λ b. b || list_any (same_stored s) xs) (less_differs s x all.0) ∙ none_same s xs all.1
 
 -- one that is below all of the first list is passed over
-pub other_passed : (o : Stored) (os xs : List Stored) → AllAbove o xs → difference xs (o ∷ os) ≡ difference xs os
+pub other_passed : (o : Stored) (os xs : List Stored) → AllAbove o xs → stored_difference xs (o ∷ os) ≡ stored_difference xs os
 other_passed o os xs all =
     filter_alike (λ s. not (list_any (same_stored s) (o ∷ os))) (λ s. not (list_any (same_stored s) os)) xs
     (all_weaker (λ y. stored_order o y ≡ Less) (λ s. not (list_any (same_stored s) (o ∷ os)) ≡ not (list_any (same_stored s) os))
     (λ s l. ap (λ b. not (b || list_any (same_stored s) os)) (greater_differs s o (turned o s l))) xs all)
 
 -- one that is below all of the other list is in the difference
-pub first_kept : (o : Stored) (os ns : List Stored) → AllAbove o ns → difference (o ∷ os) ns ≡ o ∷ difference os ns
-first_kept o os ns all = ap (λ b. cond (not b) (o ∷ difference os ns) (difference os ns)) (none_same o ns all)
+pub first_kept : (o : Stored) (os ns : List Stored) → AllAbove o ns → stored_difference (o ∷ os) ns ≡ o ∷ stored_difference os ns
+first_kept o os ns all = ap (λ b. cond (not b) (o ∷ stored_difference os ns) (stored_difference os ns)) (none_same o ns all)
 
 -- where both first ones tie
 tied_first : (o n : Stored) (os ns : List Stored) (b : Bool) → same_stored o n ≡ b → AllAbove o ns → AllAbove n os
-    → difference (o ∷ os) (n ∷ ns) ≡ cond b (difference os ns) (o ∷ difference os ns)
+    → stored_difference (o ∷ os) (n ∷ ns) ≡ cond b (stored_difference os ns) (o ∷ stored_difference os ns)
 tied_first o n os ns true e up over =
-    ap (λ b. cond (not (b || list_any (same_stored o) ns)) (o ∷ difference os (n ∷ ns)) (difference os (n ∷ ns))) e
+    ap (λ b. cond (not (b || list_any (same_stored o) ns)) (o ∷ stored_difference os (n ∷ ns)) (stored_difference os (n ∷ ns))) e
     ∙ other_passed n ns os over
 tied_first o n os ns false e up over =
-    ap (λ b. cond (not (b || list_any (same_stored o) ns)) (o ∷ difference os (n ∷ ns)) (difference os (n ∷ ns))) e
-    ∙ ap (λ b. cond (not b) (o ∷ difference os (n ∷ ns)) (difference os (n ∷ ns))) (none_same o ns up)
+    ap (λ b. cond (not (b || list_any (same_stored o) ns)) (o ∷ stored_difference os (n ∷ ns)) (stored_difference os (n ∷ ns))) e
+    ∙ ap (λ b. cond (not b) (o ∷ stored_difference os (n ∷ ns)) (stored_difference os (n ∷ ns))) (none_same o ns up)
     ∙ ap (λ xs. o ∷ xs) (other_passed n ns os over)
 
 pub itself : (s : Stored) → stored_order s s ≡ Equal
@@ -102,7 +102,7 @@ put_all (n ∷ ns) up =
     let parts = sorted_first n ns up in
     put_past n ns [] parts.0 ∙ ap (λ xs. n ∷ xs) (put_all ns parts.1)
 
-all_new : (ns : List Stored) → difference ns [] ≡ ns
+all_new : (ns : List Stored) → stored_difference ns [] ≡ ns
 all_new ns = filter_all (λ s. not (list_any (same_stored s) [])) ns (every ns)
   where
     every : (xs : List Stored) → AllByRecursion (λ s. not (list_any (same_stored s) []) ≡ true) xs
@@ -110,28 +110,28 @@ all_new ns = filter_all (λ s. not (list_any (same_stored s) [])) ns (every ns)
     every (x ∷ xs) = (refl, every xs)
 
 abbrev pub AreSame : List Stored → List Stored → Type 0
-AreSame old new = next_on (difference old new) (difference new old) old ≡ new
+AreSame old new = next_on (stored_difference old new) (stored_difference new old) old ≡ new
 
 -- one step of a walk over both lists
 module _ (o n : Stored) (os ns : List Stored) (over : AllAbove o os) (up : AllAbove n ns) where
   below : stored_order o n ≡ Less → AreSame os (n ∷ ns) → AreSame (o ∷ os) (n ∷ ns)
   below e rest =
       let all : AllAbove o (n ∷ ns) = (e, above_above o n ns e up) in
-      ap (λ d. next_on d (difference (n ∷ ns) (o ∷ os)) (o ∷ os)) (first_kept o os (n ∷ ns) all)
-      ∙ ap (λ a. next_on (o ∷ difference os (n ∷ ns)) a (o ∷ os)) (other_passed o os (n ∷ ns) all)
-      ∙ ap (put_each (difference (n ∷ ns) os)) (first_gone o (difference os (n ∷ ns)) os over)
+      ap (λ d. next_on d (stored_difference (n ∷ ns) (o ∷ os)) (o ∷ os)) (first_kept o os (n ∷ ns) all)
+      ∙ ap (λ a. next_on (o ∷ stored_difference os (n ∷ ns)) a (o ∷ os)) (other_passed o os (n ∷ ns) all)
+      ∙ ap (put_each (stored_difference (n ∷ ns) os)) (first_gone o (stored_difference os (n ∷ ns)) os over)
       ∙ rest
 
   above : stored_order n o ≡ Less → AreSame (o ∷ os) ns → AreSame (o ∷ os) (n ∷ ns)
   above e rest =
       let all : AllAbove n (o ∷ os) = (e, above_above n o os e over) in
-      let gone = difference (o ∷ os) ns in
+      let gone = stored_difference (o ∷ os) ns in
       let base = without gone (o ∷ os) in
-      ap (λ d. next_on d (difference (n ∷ ns) (o ∷ os)) (o ∷ os)) (other_passed n ns (o ∷ os) all)
+      ap (λ d. next_on d (stored_difference (n ∷ ns) (o ∷ os)) (o ∷ os)) (other_passed n ns (o ∷ os) all)
       ∙ ap (λ a. next_on gone a (o ∷ os)) (first_kept n ns (o ∷ os) all)
-      ∙ ap (put_each (difference ns (o ∷ os))) (put_below n base (all_filter (λ y. stored_order n y ≡ Less)
+      ∙ ap (put_each (stored_difference ns (o ∷ os))) (put_below n base (all_filter (λ y. stored_order n y ≡ Less)
       (λ s. not (list_any (λ r. eq_by_cmp stored_order r s) gone)) (o ∷ os) all))
-      ∙ put_past n (difference ns (o ∷ os)) base (all_filter (λ y. stored_order n y ≡ Less)
+      ∙ put_past n (stored_difference ns (o ∷ os)) base (all_filter (λ y. stored_order n y ≡ Less)
       (λ s. not (list_any (same_stored s) (o ∷ os))) ns up)
       ∙ ap (λ xs. n ∷ xs) rest
 
@@ -142,26 +142,28 @@ module _ (o n : Stored) (os ns : List Stored) (over : AllAbove o os) (up : AllAb
       let back : stored_order n o ≡ Equal = stored_total.antisymm n o ∙ ap ordering_reverse e in
       let ns_over : AllAbove o ns = above_tied o n ns e up in
       let os_over : AllAbove n os = above_tied n o os back over in
-      let gone = difference os ns in
-      let come = difference ns os in
-      ap (λ d. next_on d (difference (n ∷ ns) (o ∷ os)) (o ∷ os)) (tied_first o n os ns b is ns_over os_over)
+      let gone = stored_difference os ns in
+      let come = stored_difference ns os in
+      ap (λ d. next_on d (stored_difference (n ∷ ns) (o ∷ os)) (o ∷ os)) (tied_first o n os ns b is ns_over os_over)
       ∙ ap (λ a. next_on (cond b gone (o ∷ gone)) a (o ∷ os)) (tied_first n o ns os b (same_turned n o ∙ is) os_over ns_over)
       ∙ by b is ns_over os_over
     where
       by : (b : Bool) → same_stored o n ≡ b → AllAbove o ns → AllAbove n os
-          → next_on (cond b (difference os ns) (o ∷ difference os ns)) (cond b (difference ns os) (n ∷ difference ns os)) (o ∷ os) ≡ n ∷ ns
+          → next_on (cond b (stored_difference os ns) (o ∷ stored_difference os ns)) (cond b (stored_difference ns os) (n ∷
+          stored_difference ns os)) (o ∷ os) ≡ n ∷ ns
       by true is ns_over os_over =
-          ap (put_each (difference ns os)) (first_stays o (difference os ns) os (all_filter (λ y. stored_order o y ≡ Less)
+          ap (put_each (stored_difference ns os)) (first_stays o (stored_difference os ns) os (all_filter (λ y. stored_order o y ≡ Less)
           (λ s. not (list_any (same_stored s) ns)) os over))
-          ∙ put_past o (difference ns os) (without (difference os ns) os) (all_filter (λ y. stored_order o y ≡ Less)
+          ∙ put_past o (stored_difference ns os) (without (stored_difference os ns) os) (all_filter (λ y. stored_order o y ≡ Less)
           (λ s. not (list_any (same_stored s) os)) ns ns_over)
-          ∙ ap (λ x. x ∷ put_each (difference ns os) (without (difference os ns) os)) (same_is o n v w is)
+          ∙ ap (λ x. x ∷ put_each (stored_difference ns os) (without (stored_difference os ns) os)) (same_is o n v w is)
           ∙ ap (λ xs. n ∷ xs) rest
       by false is ns_over os_over =
-          ap (λ l. put_each (difference ns os) (put stored_order n l)) (first_gone o (difference os ns) os over)
-          ∙ ap (put_each (difference ns os)) (put_below n (without (difference os ns) os) (all_filter (λ y. stored_order n y ≡ Less)
-          (λ s. not (list_any (λ r. eq_by_cmp stored_order r s) (difference os ns))) os os_over))
-          ∙ put_past n (difference ns os) (without (difference os ns) os) (all_filter (λ y. stored_order n y ≡ Less)
+          ap (λ l. put_each (stored_difference ns os) (put stored_order n l)) (first_gone o (stored_difference os ns) os over)
+          ∙ ap (put_each (stored_difference ns os)) (put_below n (without (stored_difference os ns) os) (all_filter (λ y. stored_order n
+          y ≡ Less)
+          (λ s. not (list_any (λ r. eq_by_cmp stored_order r s) (stored_difference os ns))) os os_over))
+          ∙ put_past n (stored_difference ns os) (without (stored_difference os ns) os) (all_filter (λ y. stored_order n y ≡ Less)
           (λ s. not (list_any (same_stored s) os)) ns up)
           ∙ ap (λ xs. n ∷ xs) rest
 
@@ -179,7 +181,7 @@ differences_make (o ∷ os) new over up v w = walk new up w (λ ns s t. differen
         none_left [] s = refl
         none_left (x ∷ xs) s =
             ap (λ d. without d (x ∷ xs)) (first_kept x xs [] tt)
-            ∙ first_gone x (difference xs []) xs (sorted_first x xs s).0
+            ∙ first_gone x (stored_difference xs []) xs (sorted_first x xs s).0
             ∙ none_left xs (sorted_first x xs s).1
     walk (n ∷ ns) up w later =
         at (stored_order o n) refl (sorted_first n ns up).0 (later (n ∷ ns) up w) (later ns (sorted_first n ns up).1 w.1)

@@ -19,9 +19,9 @@ use Rattle.ifmap_meta.specs.Keys.{HaveOneKey, same_key}
 use Rattle.ifmap_meta.specs.Stamps.{is_stamp, stamps_of}
 use Rattle.ifmap_meta.specs.Whole.{IsWhole}
 use Rattle.ifmap_meta.specs.laws.KeyLaws.{keys_told}
-use Rattle.ifmap_plans.specs.Lists.{difference, next_on, put_each, without}
-use Rattle.ifmap_plans.specs.Placing.{put}
-use Rattle.ifmap_plans.specs.laws.KeyLaws.{stored_equiv}
+use Rattle.ifmap_rows.specs.ifmap_plans.Lists.{stored_difference, next_on, put_each, without}
+use Rattle.ifmap_rows.specs.ifmap_plans.Placing.{put}
+use Rattle.ifmap_rows.specs.ifmap_plans.laws.KeyLaws.{stored_equiv}
 use Rattle.ifmap_view.specs.Attachments.{stored_bytes, stored_order}
 use Rattle.ifmap_publish.specs.Working.{EditMakes, IsEdit, IsSound, is_among, list_by}
 use Rattle.ifmap_publish.specs.declared.edits.Edit.{Edit}
@@ -159,10 +159,11 @@ passed_out k rows up =
 -- ---- what is told at the end
 
 pub removed_is : (stored list : List Stored) (e : Edit) → IsStrictlySortedBy stored_order stored → EditMakes stored e list
-    → difference e.taken e.put ≡ difference stored list
+    → stored_difference e.taken e.put ≡ stored_difference stored list
 removed_is stored list e up m = moved stored list e.taken e.put up m.taken m.put m.stays
 
-pub added_is : (stored list : List Stored) (e : Edit) → EditMakes stored e list → difference e.put e.taken ≡ difference list stored
+pub added_is : (stored list : List Stored) (e : Edit) → EditMakes stored e list
+    → stored_difference e.put e.taken ≡ stored_difference list stored
 added_is stored list e m = moved list stored e.put e.taken m.sound.keyed.rising m.put m.taken (sym m.stays)
 
 -- what is ensured after all memory was there

@@ -9,23 +9,22 @@ use Rattle.std.specs.Ordering.{is_eq, match_ordering}
 use Rattle.std.specs.declared.cmp.Ordering.{Ordering}
 use Rattle.std.specs.declared.cmp.Ordering.TheVariants.{Less, Equal, Greater}
 use Rattle.ifmap_ident.specs.declared.items.Item.{Item}
-use Rattle.ifmap_ident.specs.Items.{IsCanonItem, item_order, same_item}
+use Rattle.ifmap_ident.specs.Items.{IsCanonItem, item_order, same_item, items_tie}
 use Rattle.ifmap_meta.specs.declared.metadata.Metadata.{Metadata}
 use Rattle.ifmap_meta.specs.declared.stored.Stored.{Stored}
-use Rattle.ifmap_plans.specs.laws.KeyLaws.{items_equiv, items_tied, items_total}
 use Rattle.ifmap_requests.specs.declared.publishing.PublishOp.{PublishOp}
 use Rattle.ifmap_requests.specs.declared.publishing.PublishOp.TheVariants.{Update, Notify, Delete}
 use Rattle.ifmap_requests.specs.Fit.{IsFitOp}
 use Rattle.ifmap_view.specs.declared.attachments.Attachment.{Attachment}
 use Rattle.ifmap_view.specs.Rows.{stored_on}
 use Rattle.ifmap_publish.specs.Apply.{Authorship, apply, apply_op, stored_of}
-use Rattle.ifmap_publish.specs.OnItems.{apply_op_on, attach_all, item_of, op_on}
+use Rattle.ifmap_publish.specs.OnItems.{apply_op_on, attach_all, op_item, op_on}
 use Rattle.ifmap_publish.specs.Working.{AreEdits, EditMakes, IsEdit, IsSound, edit_or, list_by, working}
 use Rattle.ifmap_publish.specs.declared.edits.Edit.{Edit}
 use Rattle.ifmap_publish.proofs.Attaching.{attached_as_stored}
 use Rattle.ifmap_publish.proofs.Editing.{is_edit, makes_it, nothing_made, nothing_moved}
 use Rattle.ifmap_publish.proofs.Items.{op_told, told_as}
-use Rattle.ifmap_ident.specs.SameLaws.{same_equal}
+use Rattle.ifmap_ident.specs.SameLaws.{same_equal, items_equiv, items_total}
 
 abbrev Entry : Type 0
 Entry = Item × Edit
@@ -64,7 +63,7 @@ module _ (rows : List Attachment) where
       by Equal is rest = (
         record {
           canon = all.0.canon;
-          edit = subst (λ l. IsEdit l v) (sym (stored_alike k e.0 (items_tied k e.0 ∙ ap is_eq is) rows)) s;
+          edit = subst (λ l. IsEdit l v) (sym (stored_alike k e.0 (items_tie k e.0 ∙ ap is_eq is) rows)) s;
         },
         all.1,
       )
@@ -87,40 +86,40 @@ module _ (rows : List Attachment) where
       by : (b : Bool) → is_at (item_order x) e.0 ≡ b → IsEdit (stored_on x rows) (edit_or (lookup (is_at (item_order x)) es))
           → IsEdit (stored_on x rows) (edit_or (cond b (Some e.1) (lookup (is_at (item_order x)) es)))
       by true is rest =
-          subst (λ l. IsEdit l e.1) (sym (stored_alike e.0 x (items_equiv.symm e.0 x ∙ items_tied x e.0 ∙ is) rows)) all.0.edit
+          subst (λ l. IsEdit l e.1) (sym (stored_alike e.0 x (items_equiv.symm e.0 x ∙ items_tie x e.0 ∙ is) rows)) all.0.edit
       by false is rest = rest
 
 -- an update makes of its item what its elements do, as they are stored
 pub update_made : (rows : List Attachment) (by : Authorship) (op : PublishOp) (item : Item) (elements : List Metadata) (forever : Bool)
     (edit after : Edit) (made : List Stored) → op ≡ Update item elements forever → made ≡ map (stored_of by forever) elements
     → EditMakes (stored_on item rows) after (attach_all (list_by edit (stored_on item rows)) made)
-    → EditMakes (stored_on (item_of op) rows) after (op_on by op (list_by edit (stored_on (item_of op) rows)))
+    → EditMakes (stored_on (op_item op) rows) after (op_on by op (list_by edit (stored_on (op_item op) rows)))
 update_made rows by op item elements forever edit after made is so m =
     let list = list_by edit (stored_on item rows) in
-    subst (λ (o : PublishOp). EditMakes (stored_on (item_of o) rows) after (op_on by o (list_by edit (stored_on (item_of o) rows))))
+    subst (λ (o : PublishOp). EditMakes (stored_on (op_item o) rows) after (op_on by o (list_by edit (stored_on (op_item o) rows))))
     (sym is)
     (subst (EditMakes (stored_on item rows) after) (ap (attach_all list) so ∙ attached_as_stored by forever elements list) m)
 
 -- one operation
 module _ (rows : List Attachment) (by : Authorship) (op : PublishOp) (es : List Entry) (mid new : Item → Option Edit)
-    (key : Item) (edit after : Edit) (is_key : key ≡ item_of op)
-    (taken : edit ≡ edit_or (lookup (is_at (item_order (item_of op))) es))
-    (others : (q : Item) → same_item (item_of op) q ≡ false → mid q ≡ lookup (is_at (item_order q)) es)
+    (key : Item) (edit after : Edit) (is_key : key ≡ op_item op)
+    (taken : edit ≡ edit_or (lookup (is_at (item_order (op_item op))) es))
+    (others : (q : Item) → same_item (op_item op) q ≡ false → mid q ≡ lookup (is_at (item_order q)) es)
     (put : (q : Item) → new q ≡ cond (is_eq (item_order key q)) (Some after) (mid q))
-    (made : EditMakes (stored_on (item_of op) rows) after (op_on by op (list_by edit (stored_on (item_of op) rows)))) where
+    (made : EditMakes (stored_on (op_item op) rows) after (op_on by op (list_by edit (stored_on (op_item op) rows)))) where
   pub op_applied : (x : Item)
       → working rows new x ≡ apply_op_on x by op (working rows (λ q. lookup (is_at (item_order q)) es) x)
   op_applied x =
-      let hit : new x ≡ cond (same_item (item_of op) x) (Some after) (mid x) =
+      let hit : new x ≡ cond (same_item (op_item op) x) (Some after) (mid x) =
       put x ∙ ap (λ k. cond (is_eq (item_order k x)) (Some after) (mid x)) is_key
-      ∙ ap (λ b. cond b (Some after) (mid x)) (sym (items_tied (item_of op) x)) in
-      elim (cases_Bool (same_item (item_of op) x)) [
+      ∙ ap (λ b. cond b (Some after) (mid x)) (sym (items_tie (op_item op) x)) in
+      elim (cases_Bool (same_item (op_item op) x)) [
         | inl is ↦
             ap (λ o. list_by (edit_or o) (stored_on x rows)) (hit ∙ ap (λ b. cond b (Some after) (mid x)) is)
-            ∙ ap (list_by after) (stored_alike (item_of op) x is rows)
-            ∙ makes_it (stored_on (item_of op) rows) (op_on by op (list_by edit (stored_on (item_of op) rows))) after made
-            ∙ ap (λ e. op_on by op (list_by e (stored_on (item_of op) rows))) taken
-            ∙ ap (op_on by op) (sym (working_alike (item_of op) x is rows es))
+            ∙ ap (list_by after) (stored_alike (op_item op) x is rows)
+            ∙ makes_it (stored_on (op_item op) rows) (op_on by op (list_by edit (stored_on (op_item op) rows))) after made
+            ∙ ap (λ e. op_on by op (list_by e (stored_on (op_item op) rows))) taken
+            ∙ ap (op_on by op) (sym (working_alike (op_item op) x is rows es))
             ∙ ap (λ b. cond b (op_on by op (working rows (λ q. lookup (is_at (item_order q)) es) x))
             (working rows (λ q. lookup (is_at (item_order q)) es) x)) (sym is)
         | inr is ↦
@@ -148,7 +147,7 @@ one_more rows by ops i op low at old new so now x =
 
 pub unchanged : (by : Authorship) (op : PublishOp) (x : Item) (list : List Stored) → ((l : List Stored) → op_on by op l ≡ l)
     → list ≡ apply_op_on x by op list
-unchanged by op x list stays = elim (cases_Bool (same_item (item_of op) x)) [
+unchanged by op x list stays = elim (cases_Bool (same_item (op_item op) x)) [
   | inl is ↦ rw is (sym (stays list))
   | inr is ↦ rw is refl
 ]
@@ -162,7 +161,7 @@ pub none_applied : (rows : List Attachment) (by : Authorship) (ops : List Publis
 none_applied rows by ops [] is = record { edits = tt; applied = λ x. nothing_moved (stored_on x rows) }
 none_applied rows by ops (e ∷ es) is = cc
 
-pub fit_item : (op : PublishOp) → IsFitOp op → IsCanonItem (item_of op)
+pub fit_item : (op : PublishOp) → IsFitOp op → IsCanonItem (op_item op)
 fit_item (Update item elements forever) f = f.0
 fit_item (Notify item elements) f = f.0
 fit_item (Delete item f) fit = fit.0

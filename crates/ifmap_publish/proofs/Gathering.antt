@@ -17,10 +17,10 @@ use Rattle.ifmap_lemmas.specs.Having.{Has, all_has, any_has, filter_has, from_ha
 use Rattle.ifmap_meta.specs.declared.stored.Stored.{Stored}
 use Rattle.ifmap_meta.specs.Keys.{HaveOneKey, same_key}
 use Rattle.ifmap_meta.specs.Whole.{IsWhole}
-use Rattle.ifmap_plans.specs.Lists.{next_on, put_each, without}
-use Rattle.ifmap_plans.specs.Placing.{put}
-use Rattle.ifmap_plans.specs.laws.KeyLaws.{stored_equiv, stored_total}
-use Rattle.ifmap_rows.specs.laws.JoiningLaws.{differs, each_in, in_each, one_list, rising_each}
+use Rattle.ifmap_rows.specs.ifmap_plans.Lists.{next_on, put_each, without}
+use Rattle.ifmap_rows.specs.ifmap_plans.Placing.{put}
+use Rattle.ifmap_rows.specs.ifmap_plans.laws.KeyLaws.{stored_equiv, stored_total}
+use Rattle.ifmap_rows.specs.laws.JoiningLaws.{fails_too, each_in, in_each, one_list, rising_each}
 use Rattle.ifmap_view.specs.Attachments.{stored_order}
 use Rattle.ifmap_publish.specs.OnItems.{attach_all, attach_on}
 use Rattle.ifmap_publish.specs.Working.{AreKeyed, EditMakes, IsSound, is_among, is_keyed, over_keys}
@@ -132,7 +132,7 @@ keyed_apart rows keys found wr wk so =
     filter_all (λ s. not (is_among keys s)) (without found rows)
     (has_all (λ s. not (is_among keys s) ≡ true) (without found rows) (λ x h.
     let p = filter_has (λ s. not (is_among found s)) rows x h in
-    ap not (differs (is_among keys x) (is_keyed keys x) (tied_keyed x keys (all_has IsWhole rows wr x p.0) wk)
+    ap not (fails_too (is_among keys x) (is_keyed keys x) (tied_keyed x keys (all_has IsWhole rows wr x p.0) wk)
     (sym (so.among x p.0) ∙ not-true (is_among found x) p.1))))
 
 module _ (list more : List Stored) (wl : AllByRecursion IsWhole list) (wm : AllByRecursion IsWhole more) where
@@ -164,7 +164,7 @@ module _ (list more : List Stored) (wl : AllByRecursion IsWhole list) (wm : AllB
     has_old : Has list x → is_keyed more x ≡ false → Has (over_keys list more) x
     has_old h e =
         let apart : is_among more x ≡ false =
-        differs (is_among more x) (is_keyed more x) (tied_keyed x more (all_has IsWhole list wl x h) wm) e in
+        fails_too (is_among more x) (is_keyed more x) (tied_keyed x more (all_has IsWhole list wl x h) wm) e in
         in_each more others x up (inr (has_filter (λ s. not (is_among more s)) others x
         (has_filter (λ s. not (is_keyed more s)) list x h (ap not e)) (ap not apart)))
 
@@ -222,8 +222,8 @@ module _ (l a b : List Stored) (ul : IsStrictlySortedBy stored_order l) (ua : Is
       | inr p ↦ has_old (over_keys l a) b (over_whole l a wl wa) wb ub x (has_new l a wl wa ua x p.0) p.1
     ]
     | inr p ↦
-        let na : is_keyed a x ≡ false = differs (is_keyed a x) (is_keyed ab x) (keyed_early x) p.1 in
-        let nb : is_keyed b x ≡ false = differs (is_keyed b x) (is_keyed ab x) (keyed_late x) p.1 in
+        let na : is_keyed a x ≡ false = fails_too (is_keyed a x) (is_keyed ab x) (keyed_early x) p.1 in
+        let nb : is_keyed b x ≡ false = fails_too (is_keyed b x) (is_keyed ab x) (keyed_late x) p.1 in
         has_old (over_keys l a) b (over_whole l a wl wa) wb ub x (has_old l a wl wa ua x p.0 na) nb
   ]
 

@@ -15,11 +15,11 @@ use Rattle.ifmap_meta.specs.ClientNames.{IsClientName}
 use Rattle.ifmap_meta.specs.Keys.{same_key}
 use Rattle.ifmap_meta.specs.Whole.{IsMetadata, IsWhole}
 use Rattle.ifmap_meta.specs.laws.WholeLaws.{stamped_is_whole}
-use Rattle.ifmap_plans.specs.Lists.{IsList}
-use Rattle.ifmap_plans.specs.Placing.{put}
-use Rattle.ifmap_plans.specs.Plans.{AreWhole}
-use Rattle.ifmap_plans.specs.laws.KeyLaws.{attachments_total, keys_equiv}
-use Rattle.ifmap_plans.specs.laws.PlacingLaws.{put_distinct, put_sorted}
+use Rattle.ifmap_rows.specs.ifmap_plans.Lists.{IsList}
+use Rattle.ifmap_rows.specs.ifmap_plans.Placing.{put}
+use Rattle.ifmap_rows.specs.ifmap_plans.Plans.{AreWhole}
+use Rattle.ifmap_rows.specs.ifmap_plans.laws.KeyLaws.{attachments_total, keys_equiv}
+use Rattle.ifmap_rows.specs.ifmap_plans.laws.PlacingLaws.{put_distinct, put_sorted}
 use Rattle.ifmap_requests.specs.declared.publishing.PublishOp.{PublishOp}
 use Rattle.ifmap_requests.specs.declared.publishing.PublishOp.TheVariants.{Update, Notify, Delete}
 use Rattle.ifmap_requests.specs.Fit.{IsFitOp}

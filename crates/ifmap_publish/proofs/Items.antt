@@ -10,16 +10,15 @@ use Rattle.std.specs.List.{AllByRecursion, filter}
 use Rattle.std.specs.Ordering.{is_eq, is_gt, is_lt, ordering_then}
 use Rattle.std.specs.declared.cmp.Ordering.{Ordering}
 use Rattle.std.specs.declared.cmp.Ordering.TheVariants.{Less, Equal, Greater}
-use Rattle.ifmap_filter.specs.declared.filters.Filter.{Filter}
-use Rattle.ifmap_filter.specs.Meets.{meets_optional}
+use Rattle.ifmap_requests.specs.ifmap_filter.declared.filters.Filter.{Filter}
+use Rattle.ifmap_requests.specs.ifmap_filter.Meets.{meets_optional}
 use Rattle.ifmap_ident.specs.declared.items.Item.{Item}
-use Rattle.ifmap_ident.specs.Items.{item_order, same_item}
+use Rattle.ifmap_ident.specs.Items.{item_order, same_item, items_tie}
 use Rattle.ifmap_lemmas.specs.Filters.{filter_none, all_pass}
 use Rattle.ifmap_meta.specs.declared.metadata.Metadata.{Metadata}
 use Rattle.ifmap_meta.specs.declared.stored.Stored.{Stored}
 use Rattle.ifmap_meta.specs.Keys.{same_key}
-use Rattle.ifmap_plans.specs.Placing.{put}
-use Rattle.ifmap_plans.specs.laws.KeyLaws.{items_equiv, items_tied, items_total}
+use Rattle.ifmap_rows.specs.ifmap_plans.Placing.{put}
 use Rattle.ifmap_requests.specs.declared.publishing.PublishOp.{PublishOp}
 use Rattle.ifmap_requests.specs.declared.publishing.PublishOp.TheVariants.{Update, Notify, Delete}
 use Rattle.ifmap_view.specs.declared.attachments.Attachment.{Attachment}
@@ -29,7 +28,7 @@ use Rattle.ifmap_publish.specs.Apply.{Authorship, apply, apply_op, attach, attac
 use Rattle.ifmap_publish.specs.declared.who.Who.{Who}
 use Rattle.ifmap_publish.specs.Retract.{is_of, retract, retract_on}
 use Rattle.ifmap_publish.specs.OnItems.{apply_on, apply_op_on, attach_on, delete_on, update_on}
-use Rattle.ifmap_ident.specs.SameLaws.{same_equal}
+use Rattle.ifmap_ident.specs.SameLaws.{same_equal, items_equiv, items_total}
 
 -- one that stands on x is told from another as x is
 pub told_as : (x a b : Item) → same_item b x ≡ true → same_item a b ≡ same_item a x
@@ -142,7 +141,7 @@ module _ (x : Item) where
           ∙ ap (λ l. stored_on x others ++ l) (none_pass (stored_on x others))
           ∙ append-nil (stored_on x others)
       by Equal e others =
-          let bad : false ≡ true = sym is ∙ items_equiv.symm a.item x ∙ items_tied x a.item ∙ ap is_eq e in cc
+          let bad : false ≡ true = sym is ∙ items_equiv.symm a.item x ∙ items_tie x a.item ∙ ap is_eq e in cc
       by Greater e others =
           parts false true others (λ r t. ap is_lt (order Greater e r t)) (λ r t. ap is_gt (order Greater e r t))
           ∙ ap (λ l. l ++ filter (λ s. true) (stored_on x others)) (none_pass (stored_on x others))

@@ -10,8 +10,8 @@ use Rattle.std.specs.declared.cmp.Ordering.TheVariants.{Less, Equal}
 use Rattle.ifmap_lemmas.specs.Filters.{all_filter, filter_shorter}
 use Rattle.ifmap_lemmas.specs.Having.{filter_has}
 use Rattle.ifmap_meta.specs.declared.stored.Stored.{Stored}
-use Rattle.ifmap_plans.specs.Lists.{put_each}
-use Rattle.ifmap_plans.specs.laws.KeepingLaws.{kept_more, passed_more}
+use Rattle.ifmap_rows.specs.ifmap_plans.Lists.{put_each}
+use Rattle.ifmap_rows.specs.ifmap_plans.laws.KeepingLaws.{kept_more, passed_more}
 use Rattle.ifmap_view.specs.Attachments.{stored_order}
 use Rattle.ifmap_publish.specs.Working.{PassesOneStored, after_like, is_among}
 use Rattle.ifmap_publish.proofs.Differing.{AllAbove, itself, sorted_first, turned}

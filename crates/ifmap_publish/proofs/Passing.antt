@@ -11,8 +11,8 @@ use Rattle.std.specs.declared.cmp.Ordering.{Ordering}
 use Rattle.std.specs.declared.cmp.Ordering.TheVariants.{Less, Equal, Greater}
 use Rattle.ifmap_lemmas.specs.Orderings.{greater_turned, less_turned}
 use Rattle.ifmap_meta.specs.declared.stored.Stored.{Stored}
-use Rattle.ifmap_plans.specs.Lists.{same_stored}
-use Rattle.ifmap_plans.specs.laws.KeyLaws.{stored_total}
+use Rattle.ifmap_rows.specs.ifmap_plans.Lists.{same_stored}
+use Rattle.ifmap_rows.specs.ifmap_plans.laws.KeyLaws.{stored_total}
 use Rattle.ifmap_view.specs.Attachments.{stored_order}
 use Rattle.ifmap_publish.proofs.Differing.{AllAbove, above_above, above_tied, none_same, sorted_first}
 use Rattle.ifmap_publish.proofs.Same.{greater_differs}

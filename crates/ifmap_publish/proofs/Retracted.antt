@@ -21,16 +21,15 @@ use Rattle.std.specs.Str.{bytes_eq}
 use Rattle.std.specs.declared.cmp.Ordering.{Ordering}
 use Rattle.std.specs.declared.cmp.Ordering.TheVariants.{Less, Equal, Greater}
 use Rattle.ifmap_ident.specs.declared.items.Item.{Item}
-use Rattle.ifmap_ident.specs.Items.{IsCanonItem, item_order, same_item}
+use Rattle.ifmap_ident.specs.Items.{IsCanonItem, item_order, same_item, items_tie}
 use Rattle.ifmap_lemmas.specs.Filters.{all_weaker, filter_alike, filter_all, filter_none}
 use Rattle.ifmap_lemmas.specs.Having.{Has, any_has, filter_has, has_any, has_filter}
 use Rattle.ifmap_lemmas.specs.Members.{both_all}
 use Rattle.ifmap_meta.specs.declared.stored.Stored.{Stored}
-use Rattle.ifmap_plans.specs.declared.plans.ItemChange.{ItemChange}
-use Rattle.ifmap_plans.specs.After.{IsAbove, IsNextItem, NoItem, items_of}
-use Rattle.ifmap_plans.specs.Lists.{difference, same_stored}
-use Rattle.ifmap_plans.specs.Plans.{AreWhole}
-use Rattle.ifmap_plans.specs.laws.KeyLaws.{items_equiv, items_tied, items_total}
+use Rattle.ifmap_rows.specs.ifmap_plans.declared.plans.ItemChange.{ItemChange}
+use Rattle.ifmap_rows.specs.ifmap_plans.After.{IsAbove, IsNextItem, NoItem, items_of}
+use Rattle.ifmap_rows.specs.ifmap_plans.Lists.{stored_difference, same_stored}
+use Rattle.ifmap_rows.specs.ifmap_plans.Plans.{AreWhole}
 use Rattle.ifmap_view.specs.declared.attachments.Attachment.{Attachment}
 use Rattle.ifmap_view.specs.Attachments.{IsGraph}
 use Rattle.ifmap_view.specs.Rows.{stored_on}
@@ -44,7 +43,7 @@ use Rattle.ifmap_publish.proofs.Entries.{stored_alike}
 use Rattle.ifmap_publish.proofs.Graphs.{sound_on}
 use Rattle.ifmap_publish.proofs.Items.{every, retract_told, told_as}
 use Rattle.ifmap_publish.proofs.Same.{life_same, publisher_same, same_itself}
-use Rattle.ifmap_ident.specs.SameLaws.{same_equal}
+use Rattle.ifmap_ident.specs.SameLaws.{same_equal, items_equiv, items_total}
 
 -- one stored element is of these where the other is
 respects : (who : Who) (a b : Stored) → same_stored a b ≡ true → is_of who a ≡ is_of who b
@@ -77,12 +76,12 @@ module _ (who : Who) (list : List Stored) where
       ]
 
   -- what goes, and that nothing comes
-  pub goes : filter (is_of who) list ≡ difference list (retract_on who list)
+  pub goes : filter (is_of who) list ≡ stored_difference list (retract_on who list)
   goes = filter_alike (is_of who) (λ s. not (list_any (same_stored s) (filter stays list))) list
       (each (λ s. is_of who s ≡ not (list_any (same_stored s) (filter stays list))) list
       (λ s h. sym (ap not (tells s h) ∙ not_not (is_of who s))))
 
-  pub comes : [] ≡ difference (retract_on who list) list
+  pub comes : [] ≡ stored_difference (retract_on who list) list
   comes = sym (filter_none (λ s. not (list_any (same_stored s) list)) (filter stays list)
       (each (λ s. not (list_any (same_stored s) list) ≡ false) (filter stays list)
       (λ s h. ap not (has_any (same_stored s) list s (filter_has stays list s h).0 (same_itself s)))))
@@ -183,7 +182,7 @@ so_far_next who rows changes more last before steps after k so next canon one is
         → (list_any (same_item x) so.keys || list_any (same_item x) (k ∷ [])) ≡ true
     at x full under Less e = absurd (under e)
     at x full under Equal e =
-        let same : same_item x k ≡ true = items_equiv.symm x k ∙ items_tied k x ∙ ap is_eq e in
+        let same : same_item x k ≡ true = items_equiv.symm x k ∙ items_tie k x ∙ ap is_eq e in
         ap (λ b. list_any (same_item x) so.keys || (b || false)) same ∙ or_right (list_any (same_item x) so.keys) true refl
     at x full under Greater e = elim (above_or_not last x) [
       | inl over ↦ absurd (next.least x over full (greater_turned items_total k x e))
@@ -198,12 +197,12 @@ found_or_not who rows x [] = refl
 found_or_not who rows x (k ∷ keys) = elim (cases_Bool (same_item x k)) [
   | inl is ↦
       ap (λ b. list_or (cond b (Some (retract_on who (stored_on k rows))) (lookup (is_at (item_order x)) (map (entry_of who rows) keys)))
-      (stored_on x rows)) (sym (items_tied x k) ∙ is)
+      (stored_on x rows)) (sym (items_tie x k) ∙ is)
       ∙ ap (retract_on who) (sym (stored_alike k x (items_equiv.symm k x ∙ is) rows))
       ∙ sym (ap (λ b. cond (b || list_any (same_item x) keys) (retract_on who (stored_on x rows)) (stored_on x rows)) is)
   | inr is ↦
       ap (λ b. list_or (cond b (Some (retract_on who (stored_on k rows))) (lookup (is_at (item_order x)) (map (entry_of who rows) keys)))
-      (stored_on x rows)) (sym (items_tied x k) ∙ is)
+      (stored_on x rows)) (sym (items_tie x k) ∙ is)
       ∙ found_or_not who rows x keys
       ∙ sym (ap (λ b. cond (b || list_any (same_item x) keys) (retract_on who (stored_on x rows)) (stored_on x rows)) is)
 ]
@@ -291,7 +290,7 @@ counted (x ∷ xs) ys up all =
     walk : (zs : List Item) → AllByRecursion (λ y. item_order x y ≡ Less) zs → AllByRecursion (λ z. list_any (same_item z) ys ≡ true) zs
         → AllByRecursion (λ z. list_any (same_item z) (filter (λ y. not (same_item x y)) ys) ≡ true) zs
     walk [] u a = tt
-    walk (z ∷ zs) u a = (remain x z ys (items_tied x z ∙ ap is_eq u.0) a.0, walk zs u.1 a.1)
+    walk (z ∷ zs) u a = (remain x z ys (items_tie x z ∙ ap is_eq u.0) a.0, walk zs u.1 a.1)
 
 among_items : (k : Item) (rows : List Attachment) → stored_on k rows ≢ [] → list_any (same_item k) (items_of rows) ≡ true
 among_items k [] full = absurd (full refl)

@@ -20,10 +20,10 @@ use Rattle.ifmap_lemmas.specs.Having.{Has, all_has, any_has, filter_has, has_all
 use Rattle.ifmap_lemmas.specs.Orderings.{greater_turned}
 use Rattle.ifmap_meta.specs.declared.stored.Stored.{Stored}
 use Rattle.ifmap_meta.specs.Keys.{same_key}
-use Rattle.ifmap_plans.specs.Lists.{difference, put_each, same_life, same_stored, without}
-use Rattle.ifmap_plans.specs.Placing.{put}
-use Rattle.ifmap_plans.specs.laws.KeyLaws.{stored_equiv, stored_total}
-use Rattle.ifmap_plans.specs.laws.PlacingLaws.{put_less}
+use Rattle.ifmap_rows.specs.ifmap_plans.Lists.{stored_difference, put_each, same_life, same_stored, without}
+use Rattle.ifmap_rows.specs.ifmap_plans.Placing.{put}
+use Rattle.ifmap_rows.specs.ifmap_plans.laws.KeyLaws.{stored_equiv, stored_total}
+use Rattle.ifmap_rows.specs.ifmap_plans.laws.PlacingLaws.{put_less}
 use Rattle.ifmap_view.specs.Attachments.{stored_bytes, stored_order}
 use Rattle.ifmap_publish.specs.Working.{is_among}
 use Rattle.ifmap_publish.proofs.Differing.{AllAbove, itself, none_tied, put_below, put_past, sorted_first, turned}
@@ -333,8 +333,8 @@ module _ (xs ys xt yt : List Stored) (up : IsStrictlySortedBy stored_order xs) (
       by true e = ap not (sym (found_either s h e))
       by false e = sym (ap not (has_any (same_stored s) ys s (stayed s h e) (same_itself s)))
 
-  pub moved : difference xt yt ≡ difference xs ys
+  pub moved : stored_difference xt yt ≡ stored_difference xs ys
   moved =
-      ap (λ l. difference l yt) left
+      ap (λ l. stored_difference l yt) left
       ∙ filter_both (λ s. not (list_any (same_stored s) yt)) (is_among xt) xs
       ∙ filter_agrees (λ s. is_among xt s && not (list_any (same_stored s) yt)) (λ s. not (list_any (same_stored s) ys)) xs told_alike

@@ -8,13 +8,13 @@ use Rattle.std.specs.Str.{bytes_eq}
 use Rattle.std.specs.declared.cmp.Ordering.{Ordering}
 use Rattle.std.specs.declared.cmp.Ordering.TheVariants.{Less, Greater}
 use Rattle.ifmap_elem.specs.laws.CanonicalSpells.{same_when_alike}
-use Rattle.ifmap_lemmas.specs.Numbers.{is_number}
+use Rattle.ifmap_lemmas.specs.Numbers.{equal_numbers}
 use Rattle.ifmap_lemmas.specs.Texts.{eq_itself, eq_tells}
 use Rattle.ifmap_meta.specs.declared.stored.Life.{Life}
 use Rattle.ifmap_meta.specs.declared.stored.Life.TheVariants.{Session, Forever}
 use Rattle.ifmap_meta.specs.declared.stored.Stored.{Stored}
 use Rattle.ifmap_meta.specs.Whole.{IsWhole}
-use Rattle.ifmap_plans.specs.Lists.{same_life, same_stored}
+use Rattle.ifmap_rows.specs.ifmap_plans.Lists.{same_life, same_stored}
 use Rattle.ifmap_view.specs.Attachments.{stored_bytes, stored_order}
 
 -- those that the order tells apart are not one
@@ -42,7 +42,7 @@ same_turned a b =
     refl
 
 life_tells : (a b : Life) → same_life a b ≡ true → a ≡ b
-life_tells (Session a) (Session b) e = ap Session (is_number a b e)
+life_tells (Session a) (Session b) e = ap Session (equal_numbers a b e)
 life_tells (Session a) Forever e = cc
 life_tells Forever (Session b) e = cc
 life_tells Forever Forever e = refl

@@ -1,8 +1,8 @@
 -- What a publish makes of the attachments: its operations from left to right (IF-MAP binding for SOAP, version 2.2, section 3.7.3).
 use Rattle.std.specs.Prelude.{ℕ, Bool, true, false, ◌&&◌, not, List, [], ◌∷◌, Option}
 use Rattle.std.specs.List.{filter}
-use Rattle.ifmap_filter.specs.declared.filters.Filter.{Filter}
-use Rattle.ifmap_filter.specs.Meets.{meets_optional}
+use Rattle.ifmap_requests.specs.ifmap_filter.declared.filters.Filter.{Filter}
+use Rattle.ifmap_requests.specs.ifmap_filter.Meets.{meets_optional}
 use Rattle.ifmap_ident.specs.declared.items.Item.{Item}
 use Rattle.ifmap_ident.specs.Items.{same_item}
 use Rattle.ifmap_meta.specs.declared.metadata.Metadata.{Metadata}
@@ -10,7 +10,7 @@ use Rattle.ifmap_meta.specs.declared.stored.Life.{Life}
 use Rattle.ifmap_meta.specs.declared.stored.Life.TheVariants as the_life
 use Rattle.ifmap_meta.specs.declared.stored.Stored.{Stored}
 use Rattle.ifmap_meta.specs.Stored.{stored_as}
-use Rattle.ifmap_plans.specs.Placing.{put}
+use Rattle.ifmap_rows.specs.ifmap_plans.Placing.{put}
 use Rattle.ifmap_requests.specs.declared.publishing.PublishOp.{PublishOp}
 use Rattle.ifmap_requests.specs.declared.publishing.PublishOp.TheVariants.{Update, Notify, Delete}
 use Rattle.ifmap_view.specs.declared.attachments.Attachment.{Attachment}

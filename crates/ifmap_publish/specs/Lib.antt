@@ -5,3 +5,6 @@ pub mod Retract
 pub mod OnItems
 pub mod Working
 pub mod NoteLaws
+-- What is passed on to the crates above.
+pub mod ifmap_requests
+pub mod ifmap_view

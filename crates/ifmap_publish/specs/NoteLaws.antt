@@ -5,7 +5,7 @@ use Rattle.ifmap_ident.specs.declared.items.Item.{Item}
 use Rattle.ifmap_ident.specs.Items.{IsCanonItem}
 use Rattle.ifmap_lemmas.specs.Members.{both_all}
 use Rattle.ifmap_meta.specs.declared.metadata.Metadata.{Metadata}
-use Rattle.ifmap_plans.specs.declared.plans.Note.{Note}
+use Rattle.ifmap_rows.specs.ifmap_plans.declared.plans.Note.{Note}
 use Rattle.ifmap_publish.specs.Apply.{Authorship}
 use Rattle.ifmap_publish.specs.Notes.{note_of, notes_of, notes_of_op}
 use Rattle.ifmap_requests.specs.declared.publishing.PublishOp.{PublishOp}

@@ -1,14 +1,14 @@
 -- What a publish makes of what is stored on one item: of that alone.
 use Rattle.std.specs.Prelude.{Bool, cond, not, List, [], ◌∷◌, Option}
 use Rattle.std.specs.List.{filter}
-use Rattle.ifmap_filter.specs.declared.filters.Filter.{Filter}
-use Rattle.ifmap_filter.specs.Meets.{meets_optional}
+use Rattle.ifmap_requests.specs.ifmap_filter.declared.filters.Filter.{Filter}
+use Rattle.ifmap_requests.specs.ifmap_filter.Meets.{meets_optional}
 use Rattle.ifmap_ident.specs.declared.items.Item.{Item}
 use Rattle.ifmap_ident.specs.Items.{same_item}
 use Rattle.ifmap_meta.specs.declared.metadata.Metadata.{Metadata}
 use Rattle.ifmap_meta.specs.declared.stored.Stored.{Stored}
 use Rattle.ifmap_meta.specs.Keys.{same_key}
-use Rattle.ifmap_plans.specs.Placing.{put}
+use Rattle.ifmap_rows.specs.ifmap_plans.Placing.{put}
 use Rattle.ifmap_requests.specs.declared.publishing.PublishOp.{PublishOp}
 use Rattle.ifmap_requests.specs.declared.publishing.PublishOp.TheVariants.{Update, Notify, Delete}
 use Rattle.ifmap_view.specs.Attachments.{stored_order}
@@ -33,10 +33,10 @@ abbrev pub delete_on : List Stored → Option Filter → List Stored
 delete_on list f = filter (λ s. not (meets_optional f s.element)) list
 
 -- the item of an operation
-abbrev pub item_of : PublishOp → Item
-item_of (Update item elements forever) = item
-item_of (Notify item elements) = item
-item_of (Delete item f) = item
+abbrev pub op_item : PublishOp → Item
+op_item (Update item elements forever) = item
+op_item (Notify item elements) = item
+op_item (Delete item f) = item
 
 -- an operation on what is stored on its item
 abbrev pub op_on : Authorship → PublishOp → List Stored → List Stored
@@ -46,7 +46,7 @@ op_on by (Delete item f) list = delete_on list f
 
 -- an operation on what is stored on an item, its own or another
 abbrev pub apply_op_on : Item → Authorship → PublishOp → List Stored → List Stored
-apply_op_on x by op list = cond (same_item (item_of op) x) (op_on by op list) list
+apply_op_on x by op list = cond (same_item (op_item op) x) (op_on by op list) list
 
 -- operations from left to right
 abbrev pub apply_on : Item → Authorship → List PublishOp → List Stored → List Stored

@@ -9,8 +9,8 @@ use Rattle.ifmap_lemmas.specs.Having.{Has}
 use Rattle.ifmap_meta.specs.declared.stored.Stored.{Stored}
 use Rattle.ifmap_meta.specs.Keys.{same_key}
 use Rattle.ifmap_meta.specs.Whole.{IsWhole}
-use Rattle.ifmap_plans.specs.declared.plans.ItemChange.{ItemChange}
-use Rattle.ifmap_plans.specs.Lists.{IsList, difference, next_on, put_each, without}
+use Rattle.ifmap_rows.specs.ifmap_plans.declared.plans.ItemChange.{ItemChange}
+use Rattle.ifmap_rows.specs.ifmap_plans.Lists.{IsList, stored_difference, next_on, put_each, without}
 use Rattle.ifmap_view.specs.declared.attachments.Attachment.{Attachment}
 use Rattle.ifmap_view.specs.Attachments.{stored_order}
 use Rattle.ifmap_view.specs.Rows.{stored_on}
@@ -95,8 +95,8 @@ kept_change c (s ∷ stored) = c ∷ []
 abbrev pub change_by : Item × Edit → ItemChange
 change_by e = record {
   item = e.0;
-  removed = difference e.1.taken e.1.put;
-  added = difference e.1.put e.1.taken;
+  removed = stored_difference e.1.taken e.1.put;
+  added = stored_difference e.1.put e.1.taken;
 }
 
 -- the changes of items on which something does
@@ -108,8 +108,8 @@ changes_by (e ∷ entries) = kept_change (change_by e) ((change_by e).removed ++
 abbrev pub change_to : List Attachment → Item × List Stored → ItemChange
 change_to rows e = record {
   item = e.0;
-  removed = difference (stored_on e.0 rows) e.1;
-  added = difference e.1 (stored_on e.0 rows);
+  removed = stored_difference (stored_on e.0 rows) e.1;
+  added = stored_difference e.1 (stored_on e.0 rows);
 }
 
 -- the changes of items on which something does

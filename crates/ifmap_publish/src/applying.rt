@@ -2,12 +2,12 @@
 ghost use Rattle.std.specs.Prelude.{◌≡◌, IfOk, OnOk, map};
 ghost use Rattle.std.specs.List.{AllByRecursion};
 ghost use Rattle.ifmap_meta.specs.Whole.{IsMetadata, IsWhole};
-ghost use Rattle.ifmap_plans.specs.Plans.{AreWhole};
+ghost use Rattle.ifmap_rows.specs.ifmap_plans.Plans.{AreWhole};
 ghost use Rattle.ifmap_requests.specs.Fit.{IsFitOp};
 ghost use Rattle.ifmap_view.specs.Attachments.{IsGraph};
 ghost use Rattle.ifmap_view.specs.Rows.{stored_on};
 ghost use Rattle.ifmap_publish.specs.Apply.{life_of, stored_of};
-ghost use Rattle.ifmap_publish.specs.OnItems.{item_of, op_on};
+ghost use Rattle.ifmap_publish.specs.OnItems.{op_item, op_on};
 ghost use Rattle.ifmap_publish.specs.Working.{EditMakes, IsEdit, list_by};
 
 use crate::authors::Author;
@@ -21,7 +21,7 @@ use std::alloc::{AllocError as NoMemory, Global};
 
 // The item of an operation.
 pub(crate) fn item_of(op: &PublishOp) -> &Item
-    ensures { result.now ≡ item_of op.now }
+    ensures { result.now ≡ op_item op.now }
 {
     match op {
         PublishOp::Update { item, .. } => item,
@@ -41,10 +41,10 @@ pub(crate) fn apply_op<V: Keyed>(
     requires graph { IsGraph (V.rows view.now) }
     requires whole { AreWhole (V.rows view.now) }
     requires fit { IsFitOp op.now }
-    requires edit { IsEdit (stored_on (item_of op.now) (V.rows view.now)) edit.old }
-    ensures { OnOk result (EditMakes (stored_on (item_of op.now) (V.rows view.now)) edit.new
+    requires edit { IsEdit (stored_on (op_item op.now) (V.rows view.now)) edit.old }
+    ensures { OnOk result (EditMakes (stored_on (op_item op.now) (V.rows view.now)) edit.new
         (op_on author.now op.now
-        (list_by edit.old (stored_on (item_of op.now) (V.rows view.now))))) }
+        (list_by edit.old (stored_on (op_item op.now) (V.rows view.now))))) }
 {
     match op {
         PublishOp::Update {

@@ -6,11 +6,11 @@ ghost use Rattle.std.specs.Ordering.{is_lt};
 ghost use Rattle.std.specs.Str.{bytes_eq};
 ghost use Rattle.std.specs.declared.cmp.Ordering.TheVariants.{Less};
 ghost use Rattle.ifmap_meta.specs.declared.stored.Stored.{Stored};
-ghost use Rattle.ifmap_plans.specs.Lists.{difference, same_life, same_stored};
+ghost use Rattle.ifmap_rows.specs.ifmap_plans.Lists.{stored_difference, same_life, same_stored};
 ghost use Rattle.ifmap_view.specs.Attachments.{stored_bytes, stored_order};
 
 use ifmap_meta::{Life, Stored};
-use ifmap_plans::{bytes_of, row_order};
+use ifmap_rows::{bytes_of, row_order};
 use ifmap_view::Row;
 use std::alloc::{AllocError as NoMemory, Global};
 use std::cmp::Ordering;
@@ -19,7 +19,7 @@ use std::cmp::Ordering;
 pub(crate) fn difference(alloc: Global, one: &[Row], other: &[Row]) -> Result<Vec<Row>, NoMemory>
     requires one { IsStrictlySortedBy stored_order one.now }
     requires other { IsStrictlySortedBy stored_order other.now }
-    ensures { IfOk result (λ rows. rows.items ≡ difference one.now other.now) }
+    ensures { IfOk result (λ rows. rows.items ≡ stored_difference one.now other.now) }
 {
     let mut made = Vec::new(alloc);
     let mut rest = other;

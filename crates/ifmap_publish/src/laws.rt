@@ -3,7 +3,7 @@ ghost use Rattle.std.specs.Prelude.{◌≡◌, List};
 ghost use Rattle.std.specs.List.{AllByRecursion};
 ghost use Rattle.ifmap_ident.specs.declared.items.Item.{Item};
 ghost use Rattle.ifmap_meta.specs.ClientNames.{IsClientName};
-ghost use Rattle.ifmap_plans.specs.Plans.{AreWhole};
+ghost use Rattle.ifmap_rows.specs.ifmap_plans.Plans.{AreWhole};
 ghost use Rattle.ifmap_requests.specs.Fit.{IsFitOp};
 ghost use Rattle.ifmap_requests.specs.declared.publishing.PublishOp.{PublishOp};
 ghost use Rattle.ifmap_view.specs.declared.attachments.Attachment.{Attachment};

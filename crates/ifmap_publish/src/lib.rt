@@ -14,6 +14,8 @@ pub mod who;
 mod working;
 
 pub use authors::Author;
+pub use ifmap_requests::laws::bodies_mean_fit_requests;
+pub use ifmap_requests::{PublishOp, Refusal, Request, SubscribeOp, read_request};
 pub use publishing::plan;
 pub use retracting::retract;
 pub use who::Who;

@@ -6,8 +6,8 @@ use crate::authors::Author;
 use ifmap_elem::Copied;
 use ifmap_ident::{Item, SharedItem};
 use ifmap_meta::{Life, Metadata};
-use ifmap_plans::Note;
 use ifmap_requests::PublishOp;
+use ifmap_rows::Note;
 use std::alloc::{AllocError as NoMemory, Global};
 
 // What the operations notify, in their order.

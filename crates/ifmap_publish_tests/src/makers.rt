@@ -6,7 +6,7 @@ ghost use Rattle.ifmap_elem.specs.Nesting.{nesting};
 ghost use Rattle.ifmap_ident.specs.Items.{IsCanonItem};
 ghost use Rattle.ifmap_meta.specs.Whole.{IsMetadata, IsWhole, level_limit};
 ghost use Rattle.ifmap_plans.specs.Plans.{AreWhole};
-ghost use Rattle.ifmap_fresh_tests.specs.Lists.{rows_of};
+ghost use Rattle.ifmap_fresh_tests.specs.Lists.{rows_on_shelves};
 
 use crate::publishes::client_of;
 use ifmap_elem::Element;
@@ -98,7 +98,7 @@ fn shelf_of(alloc: Global, spot: Spot) -> Result<Shelf, NoMemory>
 fn shelves_of(alloc: Global, spots: &[Spot]) -> Result<Vec<Shelf>, NoMemory>
     ensures canon { IfOk result (λ shelves.
         AllByRecursion (λ s. IsCanonItem s.item) shelves.items) }
-    ensures whole { IfOk result (λ shelves. AreWhole (rows_of shelves.items)) }
+    ensures whole { IfOk result (λ shelves. AreWhole (rows_on_shelves shelves.items)) }
 {
     let mut shelves = Vec::new(alloc);
     for spot in spots {
@@ -109,7 +109,7 @@ fn shelves_of(alloc: Global, spots: &[Spot]) -> Result<Vec<Shelf>, NoMemory>
 
 // The addresses that end in a byte below 9, with these on them, in the order of their items.
 pub(crate) fn lists_of(alloc: Global, spots: &[Spot]) -> Result<Lists, NoMemory>
-    ensures { IfOk result (λ lists. AreWhole (rows_of lists.shelves)) }
+    ensures { IfOk result (λ lists. AreWhole (rows_on_shelves lists.shelves)) }
 {
     let names = addresses(alloc, 9)?;
     let shelves = shelves_of(alloc, spots)?;

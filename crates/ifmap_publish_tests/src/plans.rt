@@ -2,7 +2,7 @@
 ghost use Rattle.std.specs.List.{AllByRecursion};
 ghost use Rattle.ifmap_plans.specs.Plans.{AreWhole};
 ghost use Rattle.ifmap_requests.specs.Fit.{IsFitOp};
-ghost use Rattle.ifmap_fresh_tests.specs.Lists.{rows_of};
+ghost use Rattle.ifmap_fresh_tests.specs.Lists.{rows_on_shelves};
 
 use crate::makers::lists_of;
 use crate::outside::{Case, PUBLISHED, STATE};
@@ -26,7 +26,7 @@ fn plan_in(
     ops: &Many<PublishOp>,
     author: &Author,
 ) -> Result<Plan, NoMemory>
-    requires whole { AreWhole (rows_of lists.now.shelves) }
+    requires whole { AreWhole (rows_on_shelves lists.now.shelves) }
     requires ops { AllByRecursion IsFitOp ops.now }
 {
     let _known = lists.number(&address_of(alloc, 1));

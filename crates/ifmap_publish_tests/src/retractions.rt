@@ -1,7 +1,7 @@
 //! What goes when sessions end or a publisher is purged, beside what another program says.
 ghost use Rattle.std.specs.Prelude.{◌≡◌, ◌<◌};
 ghost use Rattle.ifmap_plans.specs.Plans.{AreWhole};
-ghost use Rattle.ifmap_fresh_tests.specs.Lists.{rows_of};
+ghost use Rattle.ifmap_fresh_tests.specs.Lists.{rows_on_shelves};
 
 use crate::makers::lists_of;
 use crate::outside::{Gone, RETRACTED, STATE, Whose};
@@ -25,7 +25,7 @@ fn retract_with<L: Ledger>(
     who: &Who,
     blank: Blank,
 ) -> Result<Plan, NoMemory>
-    requires whole { AreWhole (rows_of lists.now.shelves) }
+    requires whole { AreWhole (rows_on_shelves lists.now.shelves) }
     requires name { blank.name ≡ L.name }
     requires parts { blank.parts ≡ L.parts }
     requires some { 0 < blank.parts }
@@ -36,7 +36,7 @@ fn retract_with<L: Ledger>(
 }
 
 fn retract_in(alloc: Global, lists: &Lists, who: &Who) -> Result<Plan, NoMemory>
-    requires { AreWhole (rows_of lists.now.shelves) }
+    requires { AreWhole (rows_on_shelves lists.now.shelves) }
 {
     retract_with::<Brand>(alloc, lists, who, Blank::new(1))
 }

@@ -7,9 +7,9 @@ use Rattle.ifmap_elem.specs.declared.tokens.Assignment.{Assignment}
 use Rattle.ifmap_elem.specs.Scopes.{Scope, Binding, IsAttribute, AreAttributes, binding_of}
 use Rattle.ifmap_elem.specs.laws.OneReading.{one_attribute}
 use Rattle.ifmap_reader.proofs.Lasts.{last_first}
-use Rattle.ifmap_reader.specs.declared.errors.Refusal.{Refusal}
-use Rattle.ifmap_reader.specs.declared.errors.Refusal.TheVariants.{NotAllowed, TooDeep, NoMemory}
-use Rattle.ifmap_reader.specs.AllowedTags.{IsGiven, ArePlain, plain, told_binding}
+use Rattle.ifmap_reader.specs.declared.errors.TokenRefusal.{TokenRefusal}
+use Rattle.ifmap_reader.specs.declared.errors.TokenRefusal.TheVariants.{NotAllowed, TooDeep, NoMemory}
+use Rattle.ifmap_reader.specs.AllowedTags.{AnswersAttribute, AnswersAttributes, plain, told_binding}
 
 -- what the attributes so far and those of the assignments that are left are for all of them
 pub record Attributing (scope : Scope) (all : List Assignment) (made : List Attribute) (left : List Assignment) : Type 0 where
@@ -86,7 +86,8 @@ module _ (scope : Scope) (all : List Assignment) (made : List Attribute) (old ne
   binding_left e =
       subst (λ (as' : List Assignment). Attributing scope all made as') (ap plain (last_first old new a is) ∙ left_one a (reverse new) e) at
 
-  pub attribute_refused : is_none (binding_of a) ≡ true → (error : Refusal) → IsGiven scope a (Err error) → ArePlain scope all (Err error)
+  pub attribute_refused : is_none (binding_of a) ≡ true → (error : TokenRefusal) → AnswersAttribute scope a (Err error)
+      → AnswersAttributes scope all (Err error)
   attribute_refused e NotAllowed h = attributing_not scope all made a (plain (reverse new)) (at_one e) h
   attribute_refused e TooDeep h = absurd h
   attribute_refused e NoMemory h = tt

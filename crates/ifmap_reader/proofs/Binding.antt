@@ -16,9 +16,9 @@ use Rattle.ifmap_elem.specs.declared.tokens.Assignment.{Assignment}
 use Rattle.ifmap_elem.specs.Document.{declared_here}
 use Rattle.ifmap_elem.specs.Scopes.{Binding, IsBinding, AllDiffer, binding_of, bound, xml_space, xmlns_space}
 use Rattle.ifmap_lemmas.specs.Texts.{eq_tells, eq_itself}
-use Rattle.ifmap_reader.specs.declared.errors.Refusal.{Refusal}
-use Rattle.ifmap_reader.specs.declared.errors.Refusal.TheVariants.{NotAllowed, TooDeep, NoMemory}
-use Rattle.ifmap_reader.specs.AllowedTags.{Binds, IsBound, MayBind}
+use Rattle.ifmap_reader.specs.declared.errors.TokenRefusal.{TokenRefusal}
+use Rattle.ifmap_reader.specs.declared.errors.TokenRefusal.TheVariants.{NotAllowed, TooDeep, NoMemory}
+use Rattle.ifmap_reader.specs.AllowedTags.{Binds, AnswersBindings, MayBind}
 use Rattle.ifmap_elem.specs.InScope.{binding_told}
 use Rattle.ifmap_elem.specs.laws.ScopeLaws.{bound_outer}
 use Rattle.ifmap_lemmas.specs.Members.{all_last}
@@ -134,7 +134,8 @@ module _ (all : List Binding) (a : Assignment) (left : List Assignment) (old : L
   pub binding_next : (new : List Binding) → Binds old (binding_of a) (Ok new) → Binding-so-far all new left
   binding_next new h = next_by (binding_of a) new refl h
 
-  refused_by : (o : Option Binding) (error : Refusal) → binding_of a ≡ o → Binds old o (Err error) → error ≡ NotAllowed → MayBind all → ⊥
+  refused_by : (o : Option Binding) (error : TokenRefusal) → binding_of a ≡ o → Binds old o (Err error) → error ≡ NotAllowed
+      → MayBind all → ⊥
   refused_by None NotAllowed e h n m = h
   refused_by (Some b) NotAllowed e h n m =
       let is : all ≡ old ++ b ∷ Made left = at.whole ∙ ap (λ bs. old ++ bs) (taken_some a left b e) in
@@ -143,8 +144,8 @@ module _ (all : List Binding) (a : Assignment) (left : List Assignment) (old : L
   refused_by o TooDeep e h n m = cc
   refused_by o NoMemory e h n m = cc
 
-  pub binding_refused : (assignments : List Assignment) → all ≡ filter_map binding_of assignments → (error : Refusal)
-      → Binds old (binding_of a) (Err error) → IsBound assignments (Err error)
+  pub binding_refused : (assignments : List Assignment) → all ≡ filter_map binding_of assignments → (error : TokenRefusal)
+      → Binds old (binding_of a) (Err error) → AnswersBindings assignments (Err error)
   binding_refused assignments is NotAllowed h = λ m. refused_by (binding_of a) NotAllowed refl h refl (subst MayBind (sym is) m)
   binding_refused assignments is TooDeep h = no_depth (binding_of a) h
     where

@@ -12,11 +12,11 @@ use Rattle.std.proofs.lemmas.Bool.Decides.{nat_tests}
 use Rattle.std.proofs.lemmas.List.{map-append}
 use Rattle.std.proofs.lemmas.Str.{encode_ascii, encode_same}
 use Rattle.ifmap_lemmas.specs.Items.{To}
-use Rattle.ifmap_elem.specs.Chars.{AllAre, IsCharacters, is_character}
-use Rattle.ifmap_elem.specs.Values.{Part, Plain, Reference, TakesPart, Expands, IsText, IsValue, as_space, begins_with, line_ends, code_point, reference_value, text_part, value_part}
+use Rattle.ifmap_elem.specs.Chars.{AllAre, IsCharacters, is_character, ampersand, carriage_return, double_quote, greater_than, less_than, line_feed, semicolon, single_quote, space_character, tab}
+use Rattle.ifmap_elem.specs.Values.{ValuePart, Plain, Reference, TakesPart, SpellsOut, IsText, IsValue, as_space, begins_with, line_ends, code_point, reference_value, text_part, value_part}
 use Rattle.ifmap_lemmas.specs.Cuts.{Stops, cut}
 use Rattle.ifmap_lemmas.specs.Members.{all_append}
-use Rattle.ifmap_lemmas.specs.Numbers.{is_number, is_other}
+use Rattle.ifmap_lemmas.specs.Numbers.{equal_numbers, is_other}
 use Rattle.ifmap_elem.specs.laws.CharacterLaws.{characters_both, character_passes, one_character}
 use Rattle.ifmap_elem.specs.laws.OneToken.{run_stops}
 
@@ -38,28 +38,29 @@ behind_low c bytes low i = first i.0 i.1 i.2
 
 -- line ends
 
-lines_front : (front tail : List ℕ) → AllAre (λ b. not (b == 0xD)) front → line_ends (front ++ tail) ≡ front ++ line_ends tail
+lines_front : (front tail : List ℕ) → AllAre (λ b. not (b == carriage_return)) front → line_ends (front ++ tail) ≡ front ++ line_ends tail
 lines_front [] tail f = refl
-lines_front (b ∷ bs) tail f = rw (not-true (b == 0xD) f.0) (ap (λ x. b ∷ x) (lines_front bs tail f.1))
+lines_front (b ∷ bs) tail f = rw (not-true (b == carriage_return) f.0) (ap (λ x. b ∷ x) (lines_front bs tail f.1))
 
 high_but : (n : ℕ) → n < 128 → (b : ℕ) → 128 ≤ b → not (b == n) ≡ true
 high_but n low b high = ap not (is_other b n (λ e. absurd (omega (arith, e))))
 
-return_first : (bytes : List ℕ) → IsCharacters (line_ends bytes) → IsCharacters (line_ends (0xD ∷ bytes))
-return_first bytes i = elim (cases_Bool (begins_with 0xA bytes)) [
+return_first : (bytes : List ℕ) → IsCharacters (line_ends bytes) → IsCharacters (line_ends (carriage_return ∷ bytes))
+return_first bytes i = elim (cases_Bool (begins_with line_feed bytes)) [
   | inl e ↦ rw e i
-  | inr e ↦ rw e (low_first 0xA (line_ends bytes) (omega arith) refl i)
+  | inr e ↦ rw e (low_first line_feed (line_ends bytes) (omega arith) refl i)
 ]
 
 lines_of : (cs : List ℕ) → AllAre is_character cs → IsCharacters (line_ends (encode_utf8_all cs))
 lines_of [] f = no_characters
-lines_of (c ∷ cs) f = elim (cases_Bool (c == 0xD)) [
+lines_of (c ∷ cs) f = elim (cases_Bool (c == carriage_return)) [
   | inl e ↦
-      let is : encode_utf8 c ≡ 0xD ∷ [] = ap encode_utf8 (is_number c 0xD e) ∙ encode_ascii 0xD (omega arith) in
+      let is : encode_utf8 c ≡ carriage_return ∷ [] =
+      ap encode_utf8 (equal_numbers c carriage_return e) ∙ encode_ascii carriage_return (omega arith) in
       subst (λ (x : List ℕ). IsCharacters (line_ends (x ++ encode_utf8_all cs))) (sym is)
       (return_first (encode_utf8_all cs) (lines_of cs f.1))
   | inr e ↦
-      let front = character_passes (λ b. not (b == 0xD)) (high_but 0xD (omega arith)) c (ap not e) in
+      let front = character_passes (λ b. not (b == carriage_return)) (high_but carriage_return (omega arith)) c (ap not e) in
       subst IsCharacters (sym (lines_front (encode_utf8 c) (encode_utf8_all cs) front))
       (character_first c (line_ends (encode_utf8_all cs)) f.0 (lines_of cs f.1))
 ]
@@ -70,15 +71,15 @@ lines_characters bytes i = subst (λ (b : List ℕ). IsCharacters (line_ends b))
 -- white space as spaces
 
 high_space : (b : ℕ) → nat_le 128 b ≡ true → as_space b ≡ b
-high_space b h = let e : (b == 0x9 || b == 0xA) ≡ false = grind (arith, nat_tests) in rw e refl
+high_space b h = let e : (b == tab || b == line_feed) ≡ false = grind (arith, nat_tests) in rw e refl
 
 high_spaces : (bs : List ℕ) → AllAre (λ b. nat_le 128 b) bs → map as_space bs ≡ bs
 high_spaces [] f = refl
 high_spaces (b ∷ bs) f = λ i. high_space b f.0 i ∷ high_spaces bs f.1 i
 
 low_space : (c : ℕ) → c < 128 → is_character c ≡ true → IsCharacters (as_space c ∷ [])
-low_space c low h = elim (cases_Bool (c == 0x9 || c == 0xA)) [
-  | inl e ↦ rw e (low_first 0x20 [] (omega arith) refl no_characters)
+low_space c low h = elim (cases_Bool (c == tab || c == line_feed)) [
+  | inl e ↦ rw e (low_first space_character [] (omega arith) refl no_characters)
   | inr e ↦ rw e (low_first c [] low h no_characters)
 ]
 
@@ -169,31 +170,34 @@ none_named c e = cc
 
 pub referred_fits : (name : List ℕ) (c : ℕ) → reference_value name ≡ Some c → is_character c ≡ true
 referred_fits name c =
-    chosen (bytes_eq name (codes "amp")) _ _ c (named 0x26 c refl)
-    (chosen (bytes_eq name (codes "lt")) _ _ c (named 0x3C c refl)
-    (chosen (bytes_eq name (codes "gt")) _ _ c (named 0x3E c refl)
-    (chosen (bytes_eq name (codes "quot")) _ _ c (named 0x22 c refl)
-    (chosen (bytes_eq name (codes "apos")) _ _ c (named 0x27 c refl)
+    chosen (bytes_eq name (codes "amp")) _ _ c (named ampersand c refl)
+    (chosen (bytes_eq name (codes "lt")) _ _ c (named less_than c refl)
+    (chosen (bytes_eq name (codes "gt")) _ _ c (named greater_than c refl)
+    (chosen (bytes_eq name (codes "quot")) _ _ c (named double_quote c refl)
+    (chosen (bytes_eq name (codes "apos")) _ _ c (named single_quote c refl)
     (chosen (starts_with ◌==◌ name (codes "#x")) _ _ c (numbered_fits 16 (drop 2 name) c)
     (chosen (starts_with ◌==◌ name (codes "#")) _ _ c (numbered_fits 10 (drop 1 name) c) (none_named c)))))))
 
 -- what written characters mean
 
-module _ (adds : Part → List ℕ) (runs : (run : List ℕ) → IsCharacters run → IsCharacters (adds (Plain run)))
+module _ (adds : ValuePart → List ℕ) (runs : (run : List ℕ) → IsCharacters run → IsCharacters (adds (Plain run)))
     (references : (c : ℕ) → adds (Reference c) ≡ encode_utf8 c) where
-  parts_fit : (parts : List Part) (bytes : List ℕ) → To TakesPart bytes parts [] → IsCharacters bytes → IsCharacters (flat_map adds parts)
+  parts_fit : (parts : List ValuePart) (bytes : List ℕ) → To TakesPart bytes parts [] → IsCharacters bytes
+      → IsCharacters (flat_map adds parts)
   parts_fit [] bytes l i = no_characters
   parts_fit (Plain run ∷ parts) bytes l i =
-      let both = cut_characters (λ b. not (b == 0x26)) (high_but 0x26 (omega arith)) bytes run l.0 i l.1.0 l.1.2 (run_stops l.0 l.1.3) in
+      let both = cut_characters (λ b. not (b == ampersand)) (high_but ampersand (omega arith))
+      bytes run l.0 i l.1.0 l.1.2 (run_stops l.0 l.1.3) in
       characters_both (adds (Plain run)) (flat_map adds parts) (runs run both.0) (parts_fit parts l.0 l.2 both.1)
   parts_fit (Reference c ∷ parts) bytes l i =
-      let both = cut_characters (λ b. not (b == 0x3B)) (high_but 0x3B (omega arith)) bytes (0x26 ∷ l.1.0) (0x3B ∷ l.0) i l.1.1
+      let both = cut_characters (λ b. not (b == semicolon)) (high_but semicolon (omega arith))
+      bytes (ampersand ∷ l.1.0) (semicolon ∷ l.0) i l.1.1
       (refl, l.1.2) refl in
       characters_both (adds (Reference c)) (flat_map adds parts)
       (subst IsCharacters (sym (references c)) (one_character c (referred_fits l.1.0 c l.1.3)))
-      (parts_fit parts l.0 l.2 (behind_low 0x3B l.0 (omega arith) both.1))
+      (parts_fit parts l.0 l.2 (behind_low semicolon l.0 (omega arith) both.1))
 
-  means_characters : (written text : List ℕ) → IsCharacters written → Expands adds written text → IsCharacters text
+  means_characters : (written text : List ℕ) → IsCharacters written → SpellsOut adds written text → IsCharacters text
   means_characters written text i x = subst IsCharacters (sym x.text_is) (parts_fit x.parts written x.taken i)
 
 pub text_characters : (written text : List ℕ) → IsCharacters written → IsText written text → IsCharacters text

@@ -5,11 +5,11 @@ use Rattle.std.proofs.lemmas.List.{reverse-append, take_all, length-drop, length
 use Rattle.ifmap_elem.specs.Scopes.{Binding}
 use Rattle.ifmap_reader.specs.declared.open_elements.OpenElement.{OpenElement}
 use Rattle.ifmap_reader.proofs.Lookups.{element_before}
-use Rattle.ifmap_reader.specs.OpenElements.{AreLinked, Reaches, scope_of}
+use Rattle.ifmap_reader.specs.OpenElements.{AreLinked, CountsBindings, scope_of}
 
 -- an element that binds nothing reaches as far as the one round it
 pub reaches_outer : (bindings : List Binding) (f : OpenElement) (fs : List OpenElement) → bindings ≡ [] → AreLinked (f ∷ fs)
-    → Reaches bindings f.declaring (f ∷ fs)
+    → CountsBindings bindings f.declaring (f ∷ fs)
 reaches_outer bindings f fs none l = inr (elim l.0 [
   | inl e ↦ record {
     within = omega (arith, e);
@@ -29,18 +29,20 @@ reaches_outer bindings f fs none l = inr (elim l.0 [
     further : f.declaring ≤ length fs → length (f ∷ fs) - f.declaring ≡ suc (length fs - f.declaring)
     further l = omega (arith, l)
 
-pub reaches_none : (bindings : List Binding) → bindings ≡ [] → Reaches bindings 0 []
+pub reaches_none : (bindings : List Binding) → bindings ≡ [] → CountsBindings bindings 0 []
 reaches_none bindings none = inr (record { within = omega arith; none = none; same = refl })
 
 pub last_reaches : (bindings : List Binding) (xs : List OpenElement) (f : OpenElement) (n : ℕ) → 0 < n → n ≡ length xs
     → f ≡ get_or xs (n - 1) f → bindings ≡ [] → AreLinked (reverse xs)
-    → Reaches bindings f.declaring (reverse xs)
+    → CountsBindings bindings f.declaring (reverse xs)
 last_reaches bindings xs f n some end is none l =
     let last : reverse xs ≡ f ∷ reverse (take (n - 1) xs) = ap reverse (sym (take_all n xs (omega (arith, end))))
     ∙ element_before xs n f some (omega (arith, end)) is in
-    subst (Reaches bindings f.declaring) (sym last) (reaches_outer bindings f (reverse (take (n - 1) xs)) none (subst AreLinked last l))
+    subst (CountsBindings bindings f.declaring) (sym last) (reaches_outer bindings f (reverse (take (n - 1) xs)) none (subst AreLinked
+    last l))
 
-pub none_reaches : (bindings : List Binding) (xs : List OpenElement) → length xs ≡ 0 → bindings ≡ [] → Reaches bindings 0 (reverse xs)
+pub none_reaches : (bindings : List Binding) (xs : List OpenElement) → length xs ≡ 0 → bindings ≡ []
+    → CountsBindings bindings 0 (reverse xs)
 none_reaches bindings [] e none = reaches_none bindings none
 none_reaches bindings (x ∷ xs) e none = absurd (omega (arith, e))
 

@@ -17,10 +17,10 @@ use Rattle.ifmap_elem.specs.laws.OneToken.{no_token}
 use Rattle.ifmap_lexer.specs.There.{NoToken}
 use Rattle.ifmap_reader.specs.declared.errors.ReadError.{ReadError}
 use Rattle.ifmap_reader.specs.declared.errors.ReadError.TheVariants.{Unreadable}
-use Rattle.ifmap_reader.specs.declared.errors.Refusal.{Refusal}
-use Rattle.ifmap_reader.specs.declared.errors.Refusal.TheVariants as refusals
-use Rattle.ifmap_reader.specs.declared.standing.Standing.{Standing}
-use Rattle.ifmap_reader.specs.declared.standing.Standing.TheVariants as standing
+use Rattle.ifmap_reader.specs.declared.errors.TokenRefusal.{TokenRefusal}
+use Rattle.ifmap_reader.specs.declared.errors.TokenRefusal.TheVariants as refusals
+use Rattle.ifmap_reader.specs.declared.standing.DocumentStanding.{DocumentStanding}
+use Rattle.ifmap_reader.specs.declared.standing.DocumentStanding.TheVariants as standing
 use Rattle.ifmap_reader.specs.NextToken.{NextAnswer}
 use Rattle.ifmap_reader.specs.Progress.{Where, AtStart, Within, AfterRoot, GoesOn, IsLinked, Leads, Passes, TokenAnswer, open_in, so_deep, one_if, where_is}
 use Rattle.ifmap_reader.specs.Reads.{IsUnreadable, IsTooDeep, IsRead, refusal_error, read_at_end}
@@ -251,11 +251,12 @@ module _ (bytes : List ℕ) (depth : ℕ) (w : Where) (place : ℕ) (at : At byt
     pub next_at : (new : Where) → Leads depth w t new → At bytes depth new (drop (place + count) bytes)
     next_at new h = at_next bytes depth w (drop place bytes) at t (drop (place + count) bytes) (some_left l) taken_here alone_here new h
 
-    pub refused_at : (refusal : Refusal) (result : ReadError) → result ≡ refusal_error refusal place → TokenAnswer depth w t (Err refusal)
+    pub refused_at : (refusal : TokenRefusal) (result : ReadError) → result ≡ refusal_error refusal place
+        → TokenAnswer depth w t (Err refusal)
         → IsRead bytes depth (Err result)
     refused_at refusal result made h = subst (λ (e : ReadError). IsRead bytes depth (Err e)) (sym made) (by refusal h)
       where
-        by : (refusal : Refusal) → TokenAnswer depth w t (Err refusal) → IsRead bytes depth (Err (refusal_error refusal place))
+        by : (refusal : TokenRefusal) → TokenAnswer depth w t (Err refusal) → IsRead bytes depth (Err (refusal_error refusal place))
         by refusals.NotAllowed h =
             step_refused bytes depth w (drop place bytes) at t (drop (place + count) bytes) (some_left l) taken_here alone_here place
             (offset_is (omega (arith, l))) h
@@ -265,7 +266,7 @@ module _ (bytes : List ℕ) (depth : ℕ) (w : Where) (place : ℕ) (at : At byt
         by refusals.NoMemory h = tt
 
   -- the answers to the token at the front
-  pub token_refused : (shown : List ℕ) (refusal : Refusal) (result : ReadError) → place < length bytes → shown ≡ drop place bytes
+  pub token_refused : (shown : List ℕ) (refusal : TokenRefusal) (result : ReadError) → place < length bytes → shown ≡ drop place bytes
       → result ≡ refusal_error refusal place → NextAnswer depth w shown (Err refusal) → IsRead bytes depth (Err result)
   token_refused shown refusal result l is made a = elim a [
     | inl e ↦ subst (λ (x : ReadError). IsRead bytes depth (Err x)) (sym (made ∙ ap (λ r. refusal_error r place) e)) tt
@@ -284,7 +285,7 @@ pub within_next : (bytes : List ℕ) (place count : ℕ) → place < length byte
 within_next bytes place count l h = let a = ap length (shown_is bytes place) in let b = length-drop place bytes in omega (arith, a, b, h, l)
 
 -- at the end
-pub end_read : (bytes : List ℕ) (depth : ℕ) (s : Standing) (place : ℕ) (result : Result Reading ReadError)
+pub end_read : (bytes : List ℕ) (depth : ℕ) (s : DocumentStanding) (place : ℕ) (result : Result Reading ReadError)
     → At bytes depth (where_is s) (drop place bytes) → place ≤ length bytes → length bytes ≤ place → result ≡ read_at_end s place
     → IsRead bytes depth result
 end_read bytes depth s place result at within end made = subst (λ (a : Result Reading ReadError). IsRead bytes depth a) (sym made) (by s at)
@@ -299,7 +300,7 @@ end_read bytes depth s place result at within end made = subst (λ (a : Result R
     here : (w : Where) → At bytes depth w (drop place bytes) → place ≡ offset bytes (drop place bytes)
     here w a = offset_is bytes depth w place a within
 
-    by : (s : Standing) → At bytes depth (where_is s) (drop place bytes) → IsRead bytes depth (read_at_end s place)
+    by : (s : DocumentStanding) → At bytes depth (where_is s) (drop place bytes) → IsRead bytes depth (read_at_end s place)
     by standing.Start a = ended_early bytes depth AtStart (drop place bytes) a none_left no_tokens_start place (here AtStart a)
     by (standing.Open open_elements) a =
         ended_early bytes depth (Within (reverse open_elements)) (drop place bytes) a none_left (no_tokens (reverse open_elements)) place

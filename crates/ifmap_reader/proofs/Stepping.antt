@@ -13,12 +13,12 @@ use Rattle.ifmap_elem.specs.declared.tokens.Tag.{Tag}
 use Rattle.ifmap_elem.specs.declared.tokens.Token.{Token}
 use Rattle.ifmap_elem.specs.declared.tokens.Token.TheVariants.{Declaration, Comment, Start, Empty, End, Section, Characters}
 use Rattle.ifmap_elem.specs.Places.{is_start, is_end, Opens}
-use Rattle.ifmap_reader.specs.declared.errors.Refusal.{Refusal}
-use Rattle.ifmap_reader.specs.declared.errors.Refusal.TheVariants.{NotAllowed, TooDeep, NoMemory}
+use Rattle.ifmap_reader.specs.declared.errors.TokenRefusal.{TokenRefusal}
+use Rattle.ifmap_reader.specs.declared.errors.TokenRefusal.TheVariants.{NotAllowed, TooDeep, NoMemory}
 use Rattle.ifmap_reader.specs.declared.open_elements.OpenElement.{OpenElement}
-use Rattle.ifmap_reader.specs.declared.standing.Standing.{Standing}
+use Rattle.ifmap_reader.specs.declared.standing.DocumentStanding.{DocumentStanding}
 use Rattle.ifmap_reader.specs.Depths.{levels}
-use Rattle.ifmap_reader.specs.OpenElements.{AreLinked, Closes, Reaches, scope_of, with_characters, written_name}
+use Rattle.ifmap_reader.specs.OpenElements.{AreLinked, Closes, CountsBindings, scope_of, with_characters, written_name}
 use Rattle.ifmap_reader.specs.AllowedTags.{OpensElement, TagAnswer}
 use Rattle.ifmap_reader.specs.Progress.{Where, AtStart, Within, AfterRoot, GoesOn, Follows, IsCharacterData, IsLinked, is_margin, Leads, Passes, TokenAnswer, after_element, open_in, so_deep, one_if, where_is}
 use Rattle.ifmap_reader.proofs.Goings.{inner_comment, inner_words, inner_start, inner_empty, inner_end, inner_declaration, inner_other_end, root_comment, root_blank, IsInner, no_root, root_start, root_empty, no_start, no_empty, after_root_comment, after_root_blank, nothing_after_root, no_second_root, start_declaration, IsOther, start_other}
@@ -102,7 +102,7 @@ new_levels : (scope : _) (tag : Tag) (new : OpenElement) (fs : List OpenElement)
 new_levels scope tag new fs o = let h = none_deep new.children o.no_children in omega (arith, h)
 
 start_leads : (depth : ℕ) (fs : List OpenElement) (tag : Tag) (new : OpenElement) → OpensElement (scope_of fs) tag new
-    → Reaches new.bindings new.declaring fs → length fs < depth → Leads depth (Within fs) (Start tag) (Within (new ∷ fs))
+    → CountsBindings new.bindings new.declaring fs → length fs < depth → Leads depth (Within fs) (Start tag) (Within (new ∷ fs))
 start_leads depth fs tag new o reaches l = record {
   follows = tag_follows fs tag new o;
   fits = λ h. let k = new_levels (scope_of fs) tag new fs o in omega (arith, h, k, l);
@@ -141,7 +141,7 @@ start_passes depth fs tag new o l = record {
 
 -- of the code's list, whose last is the innermost
 pub start_step : (depth : ℕ) (old new : List OpenElement) (tag : Tag) (f : OpenElement) → OpensElement (scope_of (reverse old)) tag f
-    → Reaches f.bindings f.declaring (reverse old) → length old < depth → new ≡ old ++ f ∷ []
+    → CountsBindings f.bindings f.declaring (reverse old) → length old < depth → new ≡ old ++ f ∷ []
     → Leads depth (Within (reverse old)) (Start tag) (Within (reverse new))
 start_step depth old new tag f o reaches l is =
     subst (λ (fs : List OpenElement). Leads depth (Within (reverse old)) (Start tag) (Within fs)) (sym (last_first new old f is))
@@ -207,13 +207,13 @@ declaration_refused [] ts r x = no_root Declaration tt ts r x
 declaration_refused (f ∷ fs) ts r x = inner_declaration f fs ts r x
 
 -- a refusal by a tag's names
-pub start_refused : (depth : ℕ) (fs : List OpenElement) (tag : Tag) (error : Refusal) → TagAnswer fs tag (Err error)
+pub start_refused : (depth : ℕ) (fs : List OpenElement) (tag : Tag) (error : TokenRefusal) → TagAnswer fs tag (Err error)
     → TokenAnswer depth (Within fs) (Start tag) (Err error)
 start_refused depth fs tag NotAllowed h = no_start fs tag h
 start_refused depth fs tag TooDeep h = absurd h
 start_refused depth fs tag NoMemory h = tt
 
-pub empty_refused : (depth : ℕ) (fs : List OpenElement) (tag : Tag) (error : Refusal) → TagAnswer fs tag (Err error)
+pub empty_refused : (depth : ℕ) (fs : List OpenElement) (tag : Tag) (error : TokenRefusal) → TagAnswer fs tag (Err error)
     → TokenAnswer depth (Within fs) (Empty tag) (Err error)
 empty_refused depth fs tag NotAllowed h = no_empty fs tag h
 empty_refused depth fs tag TooDeep h = absurd h
@@ -254,7 +254,8 @@ module _ (depth : ℕ) (t : Token) (other : IsOther t) where
     linked = λ _. l.linked tt;
   }
 
-  start_steps : (result : Result Standing Refusal) → TokenAnswer depth (Within []) t result → TokenAnswer depth AtStart t result
+  start_steps : (result : Result DocumentStanding TokenRefusal) → TokenAnswer depth (Within []) t result
+      → TokenAnswer depth AtStart t result
   start_steps (Ok new) h = from_start (where_is new) h
   start_steps (Err NotAllowed) h = λ ts r x. h ts r ((start_other t other ts r).0 x)
   start_steps (Err TooDeep) h = record {
@@ -266,7 +267,7 @@ module _ (depth : ℕ) (t : Token) (other : IsOther t) where
   }
   start_steps (Err NoMemory) h = tt
 
-  pub steps_at_start : (s : Where) (fs : List OpenElement) (result : Result Standing Refusal) → s ≡ AtStart → fs ≡ []
+  pub steps_at_start : (s : Where) (fs : List OpenElement) (result : Result DocumentStanding TokenRefusal) → s ≡ AtStart → fs ≡ []
       → TokenAnswer depth (Within (reverse fs)) t result → TokenAnswer depth s t result
   steps_at_start s fs result is none h =
       subst (λ (w : Where). TokenAnswer depth w t result) (sym is)

@@ -7,10 +7,10 @@ use Rattle.ifmap_elem.specs.declared.elements.Attribute.{Attribute}
 use Rattle.ifmap_elem.specs.declared.elements.Name.{Name}
 use Rattle.ifmap_elem.specs.declared.tokens.Assignment.{Assignment}
 use Rattle.ifmap_elem.specs.declared.tokens.Tag.{Tag}
-use Rattle.ifmap_reader.specs.declared.errors.Refusal.{Refusal}
-use Rattle.ifmap_reader.specs.declared.errors.Refusal.TheVariants.{NotAllowed, TooDeep, NoMemory}
+use Rattle.ifmap_reader.specs.declared.errors.TokenRefusal.{TokenRefusal}
+use Rattle.ifmap_reader.specs.declared.errors.TokenRefusal.TheVariants.{NotAllowed, TooDeep, NoMemory}
 use Rattle.ifmap_reader.specs.declared.open_elements.OpenElement.{OpenElement}
-use Rattle.ifmap_reader.specs.OpenElements.{Reaches, scope_of, written_name}
+use Rattle.ifmap_reader.specs.OpenElements.{CountsBindings, scope_of, written_name}
 
 -- the binding of a prefix, if there is one, to a namespace
 abbrev pub told_binding : Option (Bor (List ℕ)) → List ℕ → Option Binding
@@ -18,7 +18,7 @@ told_binding None space = None
 told_binding (Some prefix) space = Some (record { prefix = prefix.now; space = space })
 
 -- the answer to one binding more: these bindings and that one, where it may be made and its prefix has none
-abbrev pub Binds : List Binding → Option Binding → Result (List Binding) Refusal → Type 0
+abbrev pub Binds : List Binding → Option Binding → Result (List Binding) TokenRefusal → Type 0
 Binds old None (Ok new) = new ≡ old
 Binds old (Some b) (Ok new) = IsBinding b × (bound old b.prefix ≡ None) × (new ≡ old ++ b ∷ [])
 Binds old None (Err NotAllowed) = ⊥
@@ -32,25 +32,25 @@ pub record MayBind (bs : List Binding) : Type 0 where
   pub binds_once : AllDiffer (map (λ b. b.prefix) bs)
 
 -- the answer to assignments: the bindings that they make, where these may be made
-abbrev pub IsBound : List Assignment → Result (List Binding) Refusal → Type 0
-IsBound assignments (Ok made) = (made ≡ filter_map binding_of assignments) × MayBind made
-IsBound assignments (Err NotAllowed) = MayBind (filter_map binding_of assignments) → ⊥
-IsBound assignments (Err TooDeep) = ⊥
-IsBound assignments (Err NoMemory) = Unit {0}
+abbrev pub AnswersBindings : List Assignment → Result (List Binding) TokenRefusal → Type 0
+AnswersBindings assignments (Ok made) = (made ≡ filter_map binding_of assignments) × MayBind made
+AnswersBindings assignments (Err NotAllowed) = MayBind (filter_map binding_of assignments) → ⊥
+AnswersBindings assignments (Err TooDeep) = ⊥
+AnswersBindings assignments (Err NoMemory) = Unit {0}
 
 -- the answer to an assignment of an attribute
-abbrev pub IsGiven : Scope → Assignment → Result Attribute Refusal → Type 0
-IsGiven scope a (Ok made) = IsAttribute scope a made
-IsGiven scope a (Err NotAllowed) = (t : Attribute) → IsAttribute scope a t → ⊥
-IsGiven scope a (Err TooDeep) = ⊥
-IsGiven scope a (Err NoMemory) = Unit {0}
+abbrev pub AnswersAttribute : Scope → Assignment → Result Attribute TokenRefusal → Type 0
+AnswersAttribute scope a (Ok made) = IsAttribute scope a made
+AnswersAttribute scope a (Err NotAllowed) = (t : Attribute) → IsAttribute scope a t → ⊥
+AnswersAttribute scope a (Err TooDeep) = ⊥
+AnswersAttribute scope a (Err NoMemory) = Unit {0}
 
 -- the answer to assignments: the attributes that they give
-abbrev pub ArePlain : Scope → List Assignment → Result (List Attribute) Refusal → Type 0
-ArePlain scope assignments (Ok made) = AreAttributes scope assignments made
-ArePlain scope assignments (Err NotAllowed) = (ts : List Attribute) → AreAttributes scope assignments ts → ⊥
-ArePlain scope assignments (Err TooDeep) = ⊥
-ArePlain scope assignments (Err NoMemory) = Unit {0}
+abbrev pub AnswersAttributes : Scope → List Assignment → Result (List Attribute) TokenRefusal → Type 0
+AnswersAttributes scope assignments (Ok made) = AreAttributes scope assignments made
+AnswersAttributes scope assignments (Err NotAllowed) = (ts : List Attribute) → AreAttributes scope assignments ts → ⊥
+AnswersAttributes scope assignments (Err TooDeep) = ⊥
+AnswersAttributes scope assignments (Err NoMemory) = Unit {0}
 
 -- an open element that an allowed tag has just opened
 pub record OpensElement (outer : Scope) (tag : Tag) (f : OpenElement) : Type 0 where
@@ -62,8 +62,8 @@ pub record OpensElement (outer : Scope) (tag : Tag) (f : OpenElement) : Type 0 w
   pub none_below : f.below ≡ []
 
 -- the answer to a tag: the element that it opens within the open elements, where the tag is allowed
-abbrev pub TagAnswer : List OpenElement → Tag → Result OpenElement Refusal → Type 0
-TagAnswer outer tag (Ok f) = OpensElement (scope_of outer) tag f × Reaches f.bindings f.declaring outer
+abbrev pub TagAnswer : List OpenElement → Tag → Result OpenElement TokenRefusal → Type 0
+TagAnswer outer tag (Ok f) = OpensElement (scope_of outer) tag f × CountsBindings f.bindings f.declaring outer
 TagAnswer outer tag (Err NotAllowed) = (name : Name) (attributes : List Attribute) → NamesElement (scope_of outer) tag name attributes → ⊥
 TagAnswer outer tag (Err TooDeep) = ⊥
 TagAnswer outer tag (Err NoMemory) = Unit {0}

@@ -7,3 +7,5 @@ pub mod AllowedTags
 pub mod Progress
 pub mod NextToken
 pub mod Reads
+-- What is passed on to the crates above.
+pub mod ifmap_lexer

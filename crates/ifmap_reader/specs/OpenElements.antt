@@ -26,13 +26,13 @@ pub record BindsNothing (bindings : List Binding) (count : ℕ) (outer : List Op
   pub none : bindings ≡ []
   pub same : scope_of (drop (length outer - count) outer) ≡ scope_of outer
 
-abbrev pub Reaches : List Binding → ℕ → List OpenElement → Type 0
-Reaches bindings count outer = (count ≡ length outer + 1) ⊎ BindsNothing bindings count outer
+abbrev pub CountsBindings : List Binding → ℕ → List OpenElement → Type 0
+CountsBindings bindings count outer = (count ≡ length outer + 1) ⊎ BindsNothing bindings count outer
 
 -- each open element, the innermost first, knows how many of the outermost bind all that is bound in it
 abbrev pub AreLinked : List OpenElement → Type 0
 AreLinked [] = Unit {0}
-AreLinked (f ∷ fs) = Reaches f.bindings f.declaring fs × AreLinked fs
+AreLinked (f ∷ fs) = CountsBindings f.bindings f.declaring fs × AreLinked fs
 
 -- some of its children have ended, an element among them
 abbrev pub has_children : OpenElement → Bool

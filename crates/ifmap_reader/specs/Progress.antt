@@ -13,11 +13,11 @@ use Rattle.ifmap_elem.specs.declared.tokens.Token.{Token}
 use Rattle.ifmap_elem.specs.declared.tokens.Token.TheVariants.{Declaration, Comment, Start, Empty, End, Section, Characters}
 use Rattle.ifmap_reader.specs.Depths.{levels}
 use Rattle.ifmap_reader.specs.OpenElements.{AreLinked, Closes, scope_of, with_inner, written_name}
-use Rattle.ifmap_reader.specs.declared.errors.Refusal.{Refusal}
-use Rattle.ifmap_reader.specs.declared.errors.Refusal.TheVariants.{NotAllowed, TooDeep, NoMemory}
+use Rattle.ifmap_reader.specs.declared.errors.TokenRefusal.{TokenRefusal}
+use Rattle.ifmap_reader.specs.declared.errors.TokenRefusal.TheVariants.{NotAllowed, TooDeep, NoMemory}
 use Rattle.ifmap_reader.specs.declared.open_elements.OpenElement.{OpenElement}
-use Rattle.ifmap_reader.specs.declared.standing.Standing.{Standing}
-use Rattle.ifmap_reader.specs.declared.standing.Standing.TheVariants as standing
+use Rattle.ifmap_reader.specs.declared.standing.DocumentStanding.{DocumentStanding}
+use Rattle.ifmap_reader.specs.declared.standing.DocumentStanding.TheVariants as standing
 
 -- where a reader stands: at the start, within some open elements, the innermost first and none before the root, or after the root
 pub data Where : Type 0 where
@@ -25,7 +25,7 @@ pub data Where : Type 0 where
   Within : List OpenElement → Where
   AfterRoot : Reading → Where
 
-abbrev pub where_is : Standing → Where
+abbrev pub where_is : DocumentStanding → Where
 where_is standing.Start = AtStart
 where_is (standing.Open open_elements) = Within (reverse open_elements)
 where_is (standing.Done r) = AfterRoot r.value
@@ -129,21 +129,21 @@ pub record Passes (depth : ℕ) (old : Where) (t : Token) : Type 0 where
   pub deeper : depth < so_deep new
 
 -- the answer to one more token
-abbrev pub TokenAnswer : ℕ → Where → Token → Result Standing Refusal → Type 0
+abbrev pub TokenAnswer : ℕ → Where → Token → Result DocumentStanding TokenRefusal → Type 0
 TokenAnswer depth old t (Ok new) = Leads depth old t (where_is new)
 TokenAnswer depth old t (Err NotAllowed) = (ts : List Token) (r : Reading) → GoesOn old (t ∷ ts) r → ⊥
 TokenAnswer depth old t (Err TooDeep) = Passes depth old t
 TokenAnswer depth old t (Err NoMemory) = Unit {0}
 
 -- the answer to characters or a section within some open elements, the innermost last
-abbrev pub TextAnswer : List OpenElement → Bool → List ℕ → Result Standing Refusal → Type 0
+abbrev pub TextAnswer : List OpenElement → Bool → List ℕ → Result DocumentStanding TokenRefusal → Type 0
 TextAnswer open_elements blank text result =
     (depth : ℕ) (t : Token) → IsCharacterData blank text t → TokenAnswer depth (Within (reverse open_elements)) t result
 
 -- the answer to an end tag there
-abbrev pub EndAnswer : List OpenElement → Qualified → Result Standing Refusal → Type 0
+abbrev pub EndAnswer : List OpenElement → Qualified → Result DocumentStanding TokenRefusal → Type 0
 EndAnswer open_elements name result = (depth : ℕ) → TokenAnswer depth (Within (reverse open_elements)) (End name) result
 
 -- a reader stands after an element that ended within these
-abbrev pub IsAfterElement : List OpenElement → Element → List Declared → Standing → Type 0
+abbrev pub IsAfterElement : List OpenElement → Element → List Declared → DocumentStanding → Type 0
 IsAfterElement open_elements e declared new = where_is new ≡ after_element (reverse open_elements) e declared

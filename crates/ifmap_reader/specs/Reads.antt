@@ -9,10 +9,10 @@ use Rattle.ifmap_elem.specs.Places.{Deep, Stop}
 use Rattle.ifmap_elem.specs.Spells.{Spells}
 use Rattle.ifmap_reader.specs.declared.errors.ReadError.{ReadError}
 use Rattle.ifmap_reader.specs.declared.errors.ReadError.TheVariants.{Unreadable, TooDeep, NoMemory}
-use Rattle.ifmap_reader.specs.declared.errors.Refusal.{Refusal}
-use Rattle.ifmap_reader.specs.declared.errors.Refusal.TheVariants as refusals
-use Rattle.ifmap_reader.specs.declared.standing.Standing.{Standing}
-use Rattle.ifmap_reader.specs.declared.standing.Standing.TheVariants.{Start, Open, Done}
+use Rattle.ifmap_reader.specs.declared.errors.TokenRefusal.{TokenRefusal}
+use Rattle.ifmap_reader.specs.declared.errors.TokenRefusal.TheVariants as refusals
+use Rattle.ifmap_reader.specs.declared.standing.DocumentStanding.{DocumentStanding}
+use Rattle.ifmap_reader.specs.declared.standing.DocumentStanding.TheVariants.{Start, Open, Done}
 
 -- no element is spelled, this is where the bytes stop to be the beginning of a document, and no tag opens a level too many
 pub record IsUnreadable (bytes : List ℕ) (depth at : ℕ) : Type 0 where
@@ -42,12 +42,12 @@ pub record AreCanonical (bytes : List ℕ) (depth : ℕ) (e : Element) : Type 0 
 abbrev pub GivesBack : Element → Result Reading ReadError → Type 0
 GivesBack e result = IfOk result (λ r. r ≡ canonical_reading e) × IfErr result (λ error. error ≡ NoMemory)
 
-abbrev pub refusal_error : Refusal → ℕ → ReadError
+abbrev pub refusal_error : TokenRefusal → ℕ → ReadError
 refusal_error refusals.NotAllowed at = Unreadable at
 refusal_error refusals.TooDeep at = TooDeep at
 refusal_error refusals.NoMemory at = NoMemory
 
-abbrev pub read_at_end : Standing → ℕ → Result Reading ReadError
+abbrev pub read_at_end : DocumentStanding → ℕ → Result Reading ReadError
 read_at_end Start at = Err (Unreadable at)
 read_at_end (Open open_elements) at = Err (Unreadable at)
 read_at_end (Done r) at = Ok r.value

@@ -1,13 +1,13 @@
 //! Whether a tag is allowed, and the element that it opens.
 ghost use Rattle.std.specs.Prelude.{◌≡◌, reverse, IfOk};
 ghost use Rattle.ifmap_elem.specs.Scopes.{bound, root_scope};
-ghost use Rattle.ifmap_reader.specs.OpenElements.{AreLinked, Reaches};
-ghost use Rattle.ifmap_reader.specs.AllowedTags.{ArePlain, IsGiven, TagAnswer, plain, scope_inside};
+ghost use Rattle.ifmap_reader.specs.OpenElements.{AreLinked, CountsBindings};
+ghost use Rattle.ifmap_reader.specs.AllowedTags.{AnswersAttributes, AnswersAttribute, TagAnswer, plain, scope_inside};
 
 use crate::bindings::{Bindings, XML, bindings_of, bound_prefix};
-use crate::declarations::Declarations;
+use crate::declarations::TurnedDeclarations;
 use crate::differing::have_other_names;
-use crate::errors::Refusal;
+use crate::errors::TokenRefusal;
 use crate::open_elements::OpenElement;
 use ifmap_elem::tokens::{Assignment, Tag};
 use ifmap_elem::{Attribute, Copied, Many, Name, Text, XML_SPACE};
@@ -19,18 +19,18 @@ pub(crate) fn open_element(
     alloc: Global,
     open_elements: &[OpenElement],
     tag: Tag,
-) -> Result<OpenElement, Refusal>
+) -> Result<OpenElement, TokenRefusal>
     requires { AreLinked (reverse open_elements.now) }
     ensures { TagAnswer (reverse open_elements.now) tag result }
 {
     let Tag { name, assignments } = tag;
     let bindings = bindings_of(alloc, &assignments.0)?;
     let Some(space) = space_of(alloc, &bindings, open_elements, &name.prefix)? else {
-        return Err(Refusal::NotAllowed);
+        return Err(TokenRefusal::NotAllowed);
     };
     let attributes = attributes_of(alloc, &bindings, open_elements, assignments)?;
     if !have_other_names(alloc, &attributes.0)? {
-        return Err(Refusal::NotAllowed);
+        return Err(TokenRefusal::NotAllowed);
     }
     let declaring = innermost_declaring(&bindings, open_elements);
     Ok(OpenElement {
@@ -44,7 +44,7 @@ pub(crate) fn open_element(
         declaring,
         children: Many(Vec::new(alloc)),
         text: Text(String::new(alloc)),
-        below: Declarations::new(alloc),
+        below: TurnedDeclarations::new(alloc),
     })
 }
 
@@ -53,7 +53,7 @@ pub(crate) fn open_element(
 #[inline(always)]
 fn innermost_declaring(bindings: &Bindings, open_elements: &[OpenElement]) -> usize
     requires { AreLinked (reverse open_elements.now) }
-    ensures { Reaches bindings.now result (reverse open_elements.now) }
+    ensures { CountsBindings bindings.now result (reverse open_elements.now) }
 {
     let count = open_elements.len();
     if !bindings.is_empty() {
@@ -114,9 +114,10 @@ fn attributes_of(
     bindings: &Bindings,
     open_elements: &[OpenElement],
     assignments: Many<Assignment>,
-) -> Result<Many<Attribute>, Refusal>
+) -> Result<Many<Attribute>, TokenRefusal>
     requires { AreLinked (reverse open_elements.now) }
-    ensures { ArePlain (scope_inside bindings.now open_elements.now) (plain assignments) result }
+    ensures { AnswersAttributes (scope_inside bindings.now open_elements.now) (plain assignments)
+        result }
 {
     let Many(mut left) = assignments;
     let mut made = Vec::with_capacity(alloc, left.len())?;
@@ -136,9 +137,9 @@ fn attribute_of(
     bindings: &Bindings,
     open_elements: &[OpenElement],
     assignment: Assignment,
-) -> Result<Attribute, Refusal>
+) -> Result<Attribute, TokenRefusal>
     requires { AreLinked (reverse open_elements.now) }
-    ensures { IsGiven (scope_inside bindings.now open_elements.now) assignment result }
+    ensures { AnswersAttribute (scope_inside bindings.now open_elements.now) assignment result }
 {
     let Assignment { name, value } = assignment;
     let local = name.local;
@@ -148,7 +149,7 @@ fn attribute_of(
         return Ok(Attribute { name, value });
     }
     let Some(space) = space_of(alloc, bindings, open_elements, &name.prefix)? else {
-        return Err(Refusal::NotAllowed);
+        return Err(TokenRefusal::NotAllowed);
     };
     let name = Name { space, local };
     Ok(Attribute { name, value })

@@ -4,9 +4,9 @@ ghost use Rattle.std.specs.Bool.{OnTrue};
 ghost use Rattle.std.specs.Option.{option_copied};
 ghost use Rattle.ifmap_elem.specs.Scopes.{Binding, IsBinding, binding_of, bound};
 ghost use Rattle.ifmap_elem.specs.Document.{declared_here};
-ghost use Rattle.ifmap_reader.specs.AllowedTags.{Binds, IsBound, told_binding};
+ghost use Rattle.ifmap_reader.specs.AllowedTags.{Binds, AnswersBindings, told_binding};
 
-use crate::errors::Refusal;
+use crate::errors::TokenRefusal;
 use ifmap_elem::tokens::Assignment;
 use ifmap_elem::{Copied, Declared, Many, Text, XML_SPACE};
 use std::alloc::{AllocError as NoMemory, Global};
@@ -99,7 +99,11 @@ impl Bindings {
     }
 
     // With the binding that an assignment makes, if it makes one.
-    fn with_assignment(self, alloc: Global, assignment: &Assignment) -> Result<Bindings, Refusal>
+    fn with_assignment(
+        self,
+        alloc: Global,
+        assignment: &Assignment,
+    ) -> Result<Bindings, TokenRefusal>
         ensures { Binds self (binding_of assignment.now) result }
     {
         let Some(prefix) = bound_prefix(assignment) else {
@@ -107,11 +111,11 @@ impl Bindings {
         };
         let space = &assignment.value;
         if !may_bind(prefix, space.0.as_str()) {
-            return Err(Refusal::NotAllowed);
+            return Err(TokenRefusal::NotAllowed);
         }
         let prefix = Text(String::from_str(alloc, prefix)?);
         if self.space_of(&prefix).is_some() {
-            return Err(Refusal::NotAllowed);
+            return Err(TokenRefusal::NotAllowed);
         }
         let made = self.with(alloc, prefix, space.copy(alloc)?)?;
         Ok(made)
@@ -162,8 +166,11 @@ fn is_word(text: &str, word: &str) -> bool
 
 // The bindings that the assignments of a tag make.
 #[inline(always)]
-pub(crate) fn bindings_of(alloc: Global, assignments: &[Assignment]) -> Result<Bindings, Refusal>
-    ensures { IsBound assignments.now result }
+pub(crate) fn bindings_of(
+    alloc: Global,
+    assignments: &[Assignment],
+) -> Result<Bindings, TokenRefusal>
+    ensures { AnswersBindings assignments.now result }
 {
     let mut made = Bindings::new(alloc);
     for assignment in assignments {

@@ -13,14 +13,14 @@ use std::marker::Model;
 // that ends, an index comes in front of all these paths. So the paths lie turned, and what comes in
 // front of all of them is kept once, until they come together with others.
 #[derive(Drop)]
-pub(crate) struct Declarations {
+pub(crate) struct TurnedDeclarations {
     // Each path begins with its last index.
     rows: Vec<Declared>,
     // What each of these paths goes on with.
     above: Vec<u32>,
 }
 
-impl Model for Declarations {
+impl Model for TurnedDeclarations {
     ghost use Rattle.std.specs.Prelude.{List, map};
     ghost use Rattle.ifmap_elem.specs.declared.readings.Declared.{Declared};
     ghost use Rattle.ifmap_reader.specs.TurnedPaths.{turn_path};
@@ -30,11 +30,11 @@ impl Model for Declarations {
     ghost view = { λ d. map (turn_path d.above.items) d.rows.items };
 }
 
-impl Declarations {
-    pub(crate) fn new(alloc: Global) -> Declarations
+impl TurnedDeclarations {
+    pub(crate) fn new(alloc: Global) -> TurnedDeclarations
         ensures { result ≡ [] }
     {
-        Declarations {
+        TurnedDeclarations {
             rows: Vec::new(alloc),
             above: Vec::new(alloc),
         }
@@ -47,21 +47,21 @@ impl Declarations {
     }
 
     // As the parent sees them.
-    pub(crate) fn raise(self, index: usize) -> Result<Declarations, NoMemory>
+    pub(crate) fn raise(self, index: usize) -> Result<TurnedDeclarations, NoMemory>
         ensures { IfOk result (λ made. made ≡ map (from_above index) self) }
     {
-        let Declarations { rows, mut above } = self;
+        let TurnedDeclarations { rows, mut above } = self;
         let step = step_of(index)?;
         above.push(step)?;
-        Ok(Declarations { rows, above })
+        Ok(TurnedDeclarations { rows, above })
     }
 
     // With others after them.
     pub(crate) fn with_more(
         self,
         alloc: Global,
-        more: Declarations,
-    ) -> Result<Declarations, NoMemory>
+        more: TurnedDeclarations,
+    ) -> Result<TurnedDeclarations, NoMemory>
         ensures { IfOk result (λ made. made ≡ self ++ more) }
     {
         if self.is_empty() {
@@ -74,7 +74,11 @@ impl Declarations {
 
     // With those of the element's own tag before them. Most tags declare nothing.
     #[inline(always)]
-    pub(crate) fn with_own(self, alloc: Global, own: Bindings) -> Result<Declarations, NoMemory>
+    pub(crate) fn with_own(
+        self,
+        alloc: Global,
+        own: Bindings,
+    ) -> Result<TurnedDeclarations, NoMemory>
         ensures { IfOk result (λ made. made ≡ declared_here own ++ self) }
     {
         if own.is_empty() {
@@ -89,7 +93,7 @@ impl Declarations {
     fn into_rows(self, alloc: Global) -> Result<Vec<Declared>, NoMemory>
         ensures { IfOk result (λ rows. map (turn_path []) rows.items ≡ self) }
     {
-        let Declarations { rows, above } = self;
+        let TurnedDeclarations { rows, above } = self;
         if above.is_empty() {
             return Ok(rows);
         }
@@ -102,7 +106,7 @@ impl Declarations {
     pub(crate) fn into_declared(self, alloc: Global) -> Result<Many<Declared>, NoMemory>
         ensures { IfOk result (λ declared. declared ≡ self) }
     {
-        let Declarations { rows, above } = self;
+        let TurnedDeclarations { rows, above } = self;
         let mut made = Vec::with_capacity(alloc, rows.len())?;
         for row in rows {
             made.push(turn_path(row, &above)?)?;
@@ -125,18 +129,18 @@ fn step_of(index: usize) -> Result<u32, NoMemory>
 fn join_rows(
     alloc: Global,
     rows: Vec<Declared>,
-    more: Declarations,
-) -> Result<Declarations, NoMemory>
+    more: TurnedDeclarations,
+) -> Result<TurnedDeclarations, NoMemory>
     ensures { IfOk result (λ made. made ≡ map (turn_path []) rows.items ++ more) }
 {
-    let Declarations {
+    let TurnedDeclarations {
         rows: others,
         above,
     } = more;
     let mut rows = rows;
     push_rows(&mut rows, others, &above)?;
     let above = Vec::new(alloc);
-    Ok(Declarations { rows, above })
+    Ok(TurnedDeclarations { rows, above })
 }
 
 // Puts more rows after the others, each with these indexes at the end of its path.

@@ -17,30 +17,30 @@ pub enum ReadError {
 
 // Why a reader does not go on with a token.
 #[derive(Debug, Drop)]
-pub(crate) enum Refusal {
+pub(crate) enum TokenRefusal {
     NotAllowed,
     TooDeep,
     NoMemory,
 }
 
-impl From<NoMemory> for Refusal {
+impl From<NoMemory> for TokenRefusal {
     ghost use Rattle.std.specs.Prelude.{◌≡◌};
-    ghost use Rattle.ifmap_reader.specs.declared.errors.Refusal.TheVariants.{NoMemory};
+    ghost use Rattle.ifmap_reader.specs.declared.errors.TokenRefusal.TheVariants.{NoMemory};
 
     ghost from_gives = { λ _ e. e ≡ NoMemory };
 
     fn from(_: NoMemory) -> Self {
-        Refusal::NoMemory
+        TokenRefusal::NoMemory
     }
 }
 
-impl<T: Drop> From<AllocFailed<T>> for Refusal {
+impl<T: Drop> From<AllocFailed<T>> for TokenRefusal {
     ghost use Rattle.std.specs.Prelude.{◌≡◌};
-    ghost use Rattle.ifmap_reader.specs.declared.errors.Refusal.TheVariants.{NoMemory};
+    ghost use Rattle.ifmap_reader.specs.declared.errors.TokenRefusal.TheVariants.{NoMemory};
 
     ghost from_gives = { λ _ e. e ≡ NoMemory };
 
     fn from(_: AllocFailed<T>) -> Self {
-        Refusal::NoMemory
+        TokenRefusal::NoMemory
     }
 }

@@ -16,5 +16,6 @@ pub mod scoping;
 mod standing;
 
 pub use errors::ReadError;
+pub use ifmap_lexer::{is_name_character, is_name_start};
 pub use reading::read;
 pub use scoping::{Scope, scope_at};

@@ -4,17 +4,17 @@ ghost use Rattle.ifmap_reader.specs.NextToken.{EndsInnermost, InnermostAnswer, N
 ghost use Rattle.ifmap_reader.specs.OpenElements.{AreLinked};
 ghost use Rattle.ifmap_reader.specs.Progress.{IsLinked, Within, where_is};
 
-use crate::errors::Refusal;
+use crate::errors::TokenRefusal;
 use crate::open_elements::OpenElement;
-use crate::standing::{Standing, take_token, with_element};
+use crate::standing::{DocumentStanding, take_token, with_element};
 use ifmap_elem::Many;
 use ifmap_lexer::{LexError, end_tag_length, token_of};
 use std::alloc::Global;
 
 // Where a reader stands after a token, and how many bytes that takes.
 #[derive(Drop)]
-pub(crate) struct Next {
-    pub standing: Standing,
+pub(crate) struct AfterToken {
+    pub standing: DocumentStanding,
     pub length: usize,
 }
 
@@ -22,14 +22,19 @@ pub(crate) struct Next {
 pub(crate) fn take_next(
     alloc: Global,
     depth: u32,
-    standing: Standing,
+    standing: DocumentStanding,
     bytes: &[u8],
-) -> Result<Next, Refusal>
+) -> Result<AfterToken, TokenRefusal>
     requires { IsLinked (where_is standing) }
     ensures { NextAnswer depth (where_is standing) bytes.now result }
 {
     match standing {
-        Standing::Open(open_elements) => take_next_inside(alloc, depth, open_elements, bytes),
+        DocumentStanding::Open(open_elements) => take_next_inside(
+            alloc,
+            depth,
+            open_elements,
+            bytes,
+        ),
         standing => take_made_token(alloc, depth, standing, bytes),
     }
 }
@@ -40,15 +45,15 @@ fn take_next_inside(
     depth: u32,
     open_elements: Many<OpenElement>,
     bytes: &[u8],
-) -> Result<Next, Refusal>
+) -> Result<AfterToken, TokenRefusal>
     requires { AreLinked (reverse open_elements) }
     ensures { NextAnswer depth (Within (reverse open_elements)) bytes.now result }
 {
     let Some(length) = innermost_end_length(&open_elements.0, bytes) else {
-        return take_made_token(alloc, depth, Standing::Open(open_elements), bytes);
+        return take_made_token(alloc, depth, DocumentStanding::Open(open_elements), bytes);
     };
     let standing = end_innermost(alloc, open_elements)?;
-    Ok(Next { standing, length })
+    Ok(AfterToken { standing, length })
 }
 
 // How many bytes the end tag of the innermost takes, where it stands at the front and is of ASCII.
@@ -64,12 +69,15 @@ fn innermost_end_length(open_elements: &[OpenElement], bytes: &[u8]) -> Option<u
 }
 
 // After the end tag of the innermost.
-fn end_innermost(alloc: Global, open_elements: Many<OpenElement>) -> Result<Standing, Refusal>
+fn end_innermost(
+    alloc: Global,
+    open_elements: Many<OpenElement>,
+) -> Result<DocumentStanding, TokenRefusal>
     ensures { InnermostAnswer open_elements result }
 {
     let Many(mut open_elements) = open_elements;
     let Some(innermost) = open_elements.pop() else {
-        return Err(Refusal::NotAllowed);
+        return Err(TokenRefusal::NotAllowed);
     };
     let (element, declared) = innermost.close(alloc)?;
     Ok(with_element(alloc, open_elements, element, declared)?)
@@ -79,19 +87,19 @@ fn end_innermost(alloc: Global, open_elements: Many<OpenElement>) -> Result<Stan
 fn take_made_token(
     alloc: Global,
     depth: u32,
-    standing: Standing,
+    standing: DocumentStanding,
     bytes: &[u8],
-) -> Result<Next, Refusal>
+) -> Result<AfterToken, TokenRefusal>
     requires { IsLinked (where_is standing) }
     ensures { NextAnswer depth (where_is standing) bytes.now result }
 {
     let lexed = match token_of(alloc, bytes) {
         Ok(lexed) => lexed,
-        Err(LexError::Malformed) => return Err(Refusal::NotAllowed),
-        Err(LexError::NoMemory) => return Err(Refusal::NoMemory),
+        Err(LexError::Malformed) => return Err(TokenRefusal::NotAllowed),
+        Err(LexError::NoMemory) => return Err(TokenRefusal::NoMemory),
     };
     let standing = take_token(alloc, depth, standing, lexed.token)?;
-    Ok(Next {
+    Ok(AfterToken {
         standing,
         length: lexed.length,
     })

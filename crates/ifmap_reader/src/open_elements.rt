@@ -6,7 +6,7 @@ ghost use Rattle.ifmap_elem.specs.Document.{from_above};
 ghost use Rattle.ifmap_reader.specs.OpenElements.{Closes, is_child_text, text_child, with_inner, with_characters, written_name};
 
 use crate::bindings::Bindings;
-use crate::declarations::Declarations;
+use crate::declarations::TurnedDeclarations;
 use ifmap_elem::tokens::Qualified;
 use ifmap_elem::{Attribute, Child, Element, Equals, Many, Name, Text};
 use std::alloc::{AllocError as NoMemory, Global};
@@ -28,7 +28,7 @@ pub(crate) struct OpenElement {
     // The text after these.
     pub text: Text,
     // The declarations in the children, with their paths from this element on.
-    pub below: Declarations,
+    pub below: TurnedDeclarations,
 }
 
 impl OpenElement {
@@ -52,7 +52,7 @@ impl OpenElement {
         &mut self,
         alloc: Global,
         element: Element,
-        declared: Declarations,
+        declared: TurnedDeclarations,
     ) -> Result<(), NoMemory>
         ensures { OnOk result (self.new ≡ with_inner self.old element declared) }
     {
@@ -64,7 +64,7 @@ impl OpenElement {
 
     // The element, at its end, and the declarations in it.
     #[inline(always)]
-    pub(crate) fn close(self, alloc: Global) -> Result<(Element, Declarations), NoMemory>
+    pub(crate) fn close(self, alloc: Global) -> Result<(Element, TurnedDeclarations), NoMemory>
         ensures { IfOk result (λ closed. Closes self [] closed.0 closed.1) }
     {
         let OpenElement {
@@ -145,16 +145,16 @@ fn add_child(children: &mut Many<Child>, child: Child) -> Result<(), NoMemory>
 #[inline(always)]
 fn add_below(
     alloc: Global,
-    below: &mut Declarations,
+    below: &mut TurnedDeclarations,
     index: usize,
-    declared: Declarations,
+    declared: TurnedDeclarations,
 ) -> Result<(), NoMemory>
     ensures { OnOk result (below.new ≡ below.old ++ map (from_above index) declared) }
 {
     if declared.is_empty() {
         return Ok(());
     }
-    let others = mem::replace(below, Declarations::new(alloc));
+    let others = mem::replace(below, TurnedDeclarations::new(alloc));
     *below = others.with_more(alloc, declared.raise(index)?)?;
     Ok(())
 }

@@ -5,9 +5,9 @@ ghost use Rattle.ifmap_elem.specs.Fit.{IsFit};
 ghost use Rattle.ifmap_elem.specs.Spells.{without_byte_order_mark};
 ghost use Rattle.ifmap_reader.specs.Reads.{AreCanonical, GivesBack, IsRead, read_at_end, refusal_error};
 
-use crate::errors::{ReadError, Refusal};
+use crate::errors::{ReadError, TokenRefusal};
 use crate::next_token::take_next;
-use crate::standing::Standing;
+use crate::standing::DocumentStanding;
 use ifmap_elem::Reading;
 use std::alloc::Global;
 
@@ -27,7 +27,7 @@ fn read_tokens(alloc: Global, bytes: &[u8], depth: u32) -> Result<Reading, ReadE
     ensures { IsRead bytes.now depth result }
 {
     let mut at = byte_order_mark_length(bytes);
-    let mut standing = Standing::Start;
+    let mut standing = DocumentStanding::Start;
     while at < bytes.len() {
         let next = match take_next(alloc, depth, standing, &bytes[at..]) {
             Ok(next) => next,
@@ -40,11 +40,11 @@ fn read_tokens(alloc: Global, bytes: &[u8], depth: u32) -> Result<Reading, ReadE
 }
 
 // What has been read where the input ends.
-fn read_at_end(standing: Standing, at: usize) -> Result<Reading, ReadError>
+fn read_at_end(standing: DocumentStanding, at: usize) -> Result<Reading, ReadError>
     ensures { result ≡ read_at_end standing at }
 {
     match standing {
-        Standing::Done(reading) => Ok(Box::into_inner(reading)),
+        DocumentStanding::Done(reading) => Ok(Box::into_inner(reading)),
         _ => Err(ReadError::Unreadable { at: at as u64 }),
     }
 }
@@ -61,12 +61,12 @@ fn byte_order_mark_length(bytes: &[u8]) -> usize
     }
 }
 
-fn refusal_error(refusal: Refusal, at: usize) -> ReadError
+fn refusal_error(refusal: TokenRefusal, at: usize) -> ReadError
     ensures { result ≡ refusal_error refusal at }
 {
     match refusal {
-        Refusal::NotAllowed => ReadError::Unreadable { at: at as u64 },
-        Refusal::TooDeep => ReadError::TooDeep { at: at as u64 },
-        Refusal::NoMemory => ReadError::NoMemory,
+        TokenRefusal::NotAllowed => ReadError::Unreadable { at: at as u64 },
+        TokenRefusal::TooDeep => ReadError::TooDeep { at: at as u64 },
+        TokenRefusal::NoMemory => ReadError::NoMemory,
     }
 }

@@ -5,15 +5,15 @@ ghost use Rattle.ifmap_reader.specs.Progress.{AfterRoot, EndAnswer, IsAfterEleme
 ghost use Rattle.ifmap_elem.specs.declared.tokens.Token.{Token};
 
 use crate::allowed_tags::open_element;
-use crate::declarations::Declarations;
-use crate::errors::Refusal;
+use crate::declarations::TurnedDeclarations;
+use crate::errors::TokenRefusal;
 use crate::open_elements::OpenElement;
 use ifmap_elem::tokens::{Qualified, Tag, Token};
 use ifmap_elem::{Element, Many, Reading, Text};
 use std::alloc::{AllocError as NoMemory, Global};
 
 #[derive(Drop)]
-pub(crate) enum Standing {
+pub(crate) enum DocumentStanding {
     // At the start, where a declaration may stand.
     Start,
     // Within the elements that are open, the innermost last; before the root where none is.
@@ -26,29 +26,33 @@ pub(crate) enum Standing {
 pub(crate) fn take_token(
     alloc: Global,
     depth: u32,
-    standing: Standing,
+    standing: DocumentStanding,
     token: Token,
-) -> Result<Standing, Refusal>
+) -> Result<DocumentStanding, TokenRefusal>
     requires { IsLinked (where_is standing) }
     ensures { TokenAnswer depth (where_is standing) token result }
 {
     match standing {
-        Standing::Start => match token {
-            Token::Declaration => Ok(Standing::Open(Many(Vec::new(alloc)))),
+        DocumentStanding::Start => match token {
+            Token::Declaration => Ok(DocumentStanding::Open(Many(Vec::new(alloc)))),
             token => take_inside(alloc, depth, Many(Vec::new(alloc)), token),
         },
-        Standing::Open(open_elements) => take_inside(alloc, depth, open_elements, token),
-        Standing::Done(reading) => take_after_root(depth, reading, token),
+        DocumentStanding::Open(open_elements) => take_inside(alloc, depth, open_elements, token),
+        DocumentStanding::Done(reading) => take_after_root(depth, reading, token),
     }
 }
 
-fn take_after_root(depth: u32, reading: Box<Reading>, token: Token) -> Result<Standing, Refusal>
+fn take_after_root(
+    depth: u32,
+    reading: Box<Reading>,
+    token: Token,
+) -> Result<DocumentStanding, TokenRefusal>
     ensures { TokenAnswer depth (AfterRoot reading.value) token result }
 {
     if !is_margin(&token) {
-        return Err(Refusal::NotAllowed);
+        return Err(TokenRefusal::NotAllowed);
     }
-    Ok(Standing::Done(reading))
+    Ok(DocumentStanding::Done(reading))
 }
 
 // Whether a token may stand beside the root.
@@ -66,13 +70,13 @@ fn take_inside(
     depth: u32,
     open_elements: Many<OpenElement>,
     token: Token,
-) -> Result<Standing, Refusal>
+) -> Result<DocumentStanding, TokenRefusal>
     requires { AreLinked (reverse open_elements) }
     ensures { TokenAnswer depth (Within (reverse open_elements)) token result }
 {
     match token {
-        Token::Declaration => Err(Refusal::NotAllowed),
-        Token::Comment => Ok(Standing::Open(open_elements)),
+        Token::Declaration => Err(TokenRefusal::NotAllowed),
+        Token::Comment => Ok(DocumentStanding::Open(open_elements)),
         Token::Start(tag) => take_start(alloc, depth, open_elements, tag),
         Token::Empty(tag) => take_empty(alloc, depth, open_elements, tag),
         Token::End(name) => take_end(alloc, open_elements, name),
@@ -82,18 +86,22 @@ fn take_inside(
 }
 
 // After a text. Outside the root it may be white space alone in its own bytes.
-fn take_text(open_elements: Many<OpenElement>, blank: bool, text: Text) -> Result<Standing, Refusal>
+fn take_text(
+    open_elements: Many<OpenElement>,
+    blank: bool,
+    text: Text,
+) -> Result<DocumentStanding, TokenRefusal>
     ensures { TextAnswer open_elements blank text result }
 {
     if open_elements.is_empty() {
         if blank {
-            return Ok(Standing::Open(open_elements));
+            return Ok(DocumentStanding::Open(open_elements));
         }
-        return Err(Refusal::NotAllowed);
+        return Err(TokenRefusal::NotAllowed);
     }
     let Many(mut open_elements) = open_elements;
     add_words(&mut open_elements, text)?;
-    Ok(Standing::Open(Many(open_elements)))
+    Ok(DocumentStanding::Open(Many(open_elements)))
 }
 
 // Puts more text after the children of the innermost.
@@ -113,17 +121,17 @@ fn take_start(
     depth: u32,
     open_elements: Many<OpenElement>,
     tag: Tag,
-) -> Result<Standing, Refusal>
+) -> Result<DocumentStanding, TokenRefusal>
     requires { AreLinked (reverse open_elements) }
     ensures { TokenAnswer depth (Within (reverse open_elements)) (Token.Start tag) result }
 {
     let Many(mut open_elements) = open_elements;
     let inner = open_element(alloc, &open_elements, tag)?;
     if open_elements.len() >= depth as usize {
-        return Err(Refusal::TooDeep);
+        return Err(TokenRefusal::TooDeep);
     }
     open_elements.push(inner)?;
-    Ok(Standing::Open(Many(open_elements)))
+    Ok(DocumentStanding::Open(Many(open_elements)))
 }
 
 #[inline(always)]
@@ -132,14 +140,14 @@ fn take_empty(
     depth: u32,
     open_elements: Many<OpenElement>,
     tag: Tag,
-) -> Result<Standing, Refusal>
+) -> Result<DocumentStanding, TokenRefusal>
     requires { AreLinked (reverse open_elements) }
     ensures { TokenAnswer depth (Within (reverse open_elements)) (Token.Empty tag) result }
 {
     let Many(open_elements) = open_elements;
     let inner = open_element(alloc, &open_elements, tag)?;
     if open_elements.len() >= depth as usize {
-        return Err(Refusal::TooDeep);
+        return Err(TokenRefusal::TooDeep);
     }
     let (element, declared) = inner.close(alloc)?;
     Ok(with_element(alloc, open_elements, element, declared)?)
@@ -149,15 +157,15 @@ fn take_end(
     alloc: Global,
     open_elements: Many<OpenElement>,
     name: Qualified,
-) -> Result<Standing, Refusal>
+) -> Result<DocumentStanding, TokenRefusal>
     ensures { EndAnswer open_elements name result }
 {
     let Many(mut open_elements) = open_elements;
     let Some(innermost) = open_elements.pop() else {
-        return Err(Refusal::NotAllowed);
+        return Err(TokenRefusal::NotAllowed);
     };
     if !innermost.is_named(&name) {
-        return Err(Refusal::NotAllowed);
+        return Err(TokenRefusal::NotAllowed);
     }
     let (element, declared) = innermost.close(alloc)?;
     Ok(with_element(alloc, open_elements, element, declared)?)
@@ -169,18 +177,18 @@ pub(crate) fn with_element(
     alloc: Global,
     open_elements: Vec<OpenElement>,
     element: Element,
-    declared: Declarations,
-) -> Result<Standing, NoMemory>
+    declared: TurnedDeclarations,
+) -> Result<DocumentStanding, NoMemory>
     ensures { IfOk result (λ new. IsAfterElement open_elements.items element declared new) }
 {
     let mut open_elements = open_elements;
     if open_elements.is_empty() {
         let root = element;
         let declared = declared.into_declared(alloc)?;
-        return Ok(Standing::Done(Box::new(alloc, Reading { root, declared })?));
+        return Ok(DocumentStanding::Done(Box::new(alloc, Reading { root, declared })?));
     }
     add_element(alloc, &mut open_elements, element, declared)?;
-    Ok(Standing::Open(Many(open_elements)))
+    Ok(DocumentStanding::Open(Many(open_elements)))
 }
 
 // Puts an element after the children of the innermost.
@@ -189,7 +197,7 @@ fn add_element(
     alloc: Global,
     open_elements: &mut Vec<OpenElement>,
     element: Element,
-    declared: Declarations,
+    declared: TurnedDeclarations,
 ) -> Result<(), NoMemory>
     requires { 0 < vec_len open_elements.old }
     ensures { OnOk result (ChangesLast (λ f. with_inner f element declared)

@@ -4,7 +4,7 @@ use Rattle.std.proofs.Common.{inl, inr, arith}
 use Rattle.std.proofs.Math.Nat.{mul-le-mul_left, mul-le-mul_right}
 use Rattle.std.specs.List.{IsDistinct}
 use Rattle.std.proofs.lemmas.List.Elements.{All-weaker, All-contains, All-nil}
-use Rattle.ifmap_region.specs.Distinct.{both, sum_within, sum_heavier}
+use Rattle.ifmap_region.specs.Distinct.{joined_distinct, sum_within, sum_heavier}
 
 -- the steps rose by at most so many times the sum of a weight over some distinct numbers, all of which are in the set
 pub record IsWithin (weight : ℕ → ℕ) (Among : ℕ → Type 0) (times before after : ℕ) : Type 0 where
@@ -68,7 +68,7 @@ pub within_both : (weight : ℕ → ℕ) (Among : ℕ → Type 0) (first second 
     → IsWithin weight Among first before mid → IsWithin weight Among second mid after
     → IsWithin weight Among (first + second) before after
 within_both weight Among first second before mid after a b =
-    let u = both Among a.numbers b.numbers a.distinct a.among b.among in
+    let u = joined_distinct Among a.numbers b.numbers a.distinct a.among b.among in
     let s : first * sum_by weight a.numbers ≤ first * sum_by weight u.0 = mul-le-mul_left first (sum_within weight
     a.numbers u.0 a.distinct u.3) in
     let t : second * sum_by weight b.numbers ≤ second * sum_by weight u.0 = mul-le-mul_left second (sum_within weight

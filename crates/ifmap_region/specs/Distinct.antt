@@ -56,8 +56,8 @@ unfolding IsDistinct
 distinct_tail x xs d = d.1
 
 -- a member parts a list in two
-pub parted : (ys : List ℕ) (x : ℕ) → Contains ys x → (front : List ℕ) × (back : List ℕ) × (ys ≡ front ++ x ∷ back)
-parted ys x h = (
+pub parts_in_two : (ys : List ℕ) (x : ℕ) → Contains ys x → (front : List ℕ) × (back : List ℕ) × (ys ≡ front ++ x ∷ back)
+parts_in_two ys x h = (
   take h.0 ys,
   drop (suc h.0) ys,
   sym (set-get_or ys h.0 x) ∙ set_split ys h.0 (get_or ys h.0 x) h.1 ∙ ap (λ (y :
@@ -69,7 +69,7 @@ pub sum_within : (f : ℕ → ℕ) (xs ys : List ℕ) → IsDistinct nat_eq xs �
     → sum_by f xs ≤ sum_by f ys
 sum_within f [] ys d within = omega arith
 sum_within f (x ∷ xs) ys d within =
-    let p = parted ys x (within x (0, omega arith, refl)) in
+    let p = parts_in_two ys x (within x (0, omega arith, refl)) in
     let rest = sum_within f xs (p.0 ++ p.1) (distinct_tail x xs d) (λ y h.
     let apart : x ≢ y = distinct_head x xs d y h in
     let there = subst (λ (l : List ℕ). Contains l y) p.2 (within y (Contains-append_right (x ∷ []) xs y h)) in
@@ -106,12 +106,12 @@ member_or_not (y ∷ ys) x = elim (cases_eq y x) [
 ]
 
 -- two lists of distinct numbers are both in a third
-pub both : (Among : ℕ → Type 0) (xs ys : List ℕ) → IsDistinct nat_eq xs → All Among xs → All Among ys
+pub joined_distinct : (Among : ℕ → Type 0) (xs ys : List ℕ) → IsDistinct nat_eq xs → All Among xs → All Among ys
     → (zs : List ℕ) × IsDistinct nat_eq zs × All Among zs × ((x : ℕ) → Contains xs x → Contains zs x) × ((y : ℕ)
     → Contains ys y → Contains zs y)
-both Among xs [] d a b = (xs, d, a, λ x h. h, λ y h. absurd (omega (arith, h.1)))
-both Among xs (y ∷ ys) d a b =
-    let rest = both Among xs ys d a (λ k e lt. b (suc k) e (omega (arith, lt))) in
+joined_distinct Among xs [] d a b = (xs, d, a, λ x h. h, λ y h. absurd (omega (arith, h.1)))
+joined_distinct Among xs (y ∷ ys) d a b =
+    let rest = joined_distinct Among xs ys d a (λ k e lt. b (suc k) e (omega (arith, lt))) in
     elim (member_or_not rest.0 y) [
       | inl there ↦ (
         rest.0,

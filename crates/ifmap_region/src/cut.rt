@@ -7,7 +7,7 @@ use crate::bases::Basis;
 use crate::flips::Flip;
 use crate::link_source::LinkSource;
 use crate::lose::{Losses, lose};
-use crate::rows::Rows;
+use crate::rows::MarkRows;
 use crate::seeds::{held_seeds, next_of, offer};
 use crate::spread::spread;
 use ifmap_steps::Steps;
@@ -16,7 +16,7 @@ use std::alloc::{AllocError as NoMemory, Global};
 use std::sync::ledger::Ledger;
 
 // The lesser of two levels, where there are two.
-fn lesser(a: Option<u32>, b: Option<u32>) -> Option<u32>
+fn lesser_depth(a: Option<u32>, b: Option<u32>) -> Option<u32>
     ensures one { (result ≡ a) ⊎ (result ≡ b) }
     ensures first { (k : ℕ) → a ≡ Some k → (m : ℕ) × (m ≤ k) × (result ≡ Some m) }
     ensures second { (k : ℕ) → b ≡ Some k → (m : ℕ) × (m ≤ k) × (result ≡ Some m) }
@@ -33,7 +33,7 @@ fn lesser(a: Option<u32>, b: Option<u32>) -> Option<u32>
 // The least level that a neighbour gives the number.
 fn lowest_level<G: LinkSource, L: Ledger>(
     basis: &Basis<'_, G>,
-    rows: &Rows,
+    rows: &MarkRows,
     number: u64,
     steps: &mut Steps<L>,
 ) -> Option<u32>
@@ -47,7 +47,7 @@ fn lowest_level<G: LinkSource, L: Ledger>(
     let mut least = None;
     for i in 0..basis.graph.count(number) {
         if let Some(neighbour) = basis.graph.at(number, i, steps) {
-            least = lesser(least, next_of(basis, rows, neighbour));
+            least = lesser_depth(least, next_of(basis, rows, neighbour));
         }
     }
     least
@@ -57,7 +57,7 @@ fn lowest_level<G: LinkSource, L: Ledger>(
 fn reseed<G: LinkSource, L: Ledger>(
     alloc: Global,
     basis: &Basis<'_, G>,
-    rows: &Rows,
+    rows: &MarkRows,
     gone: &[u64],
     steps: &mut Steps<L>,
 ) -> Result<Vec<(u32, u64)>, NoMemory>
@@ -85,7 +85,7 @@ pub(crate) fn cut<G: LinkSource, L: Ledger>(
     basis: &Basis<'_, G>,
     flips: &[Flip],
     steps: &mut Steps<L>,
-) -> Result<Rows, NoMemory>
+) -> Result<MarkRows, NoMemory>
     ensures depths { let layer = layer_of G.count G.link G.terminal basis.now in
         IfOk result (λ rows. (start : ℕ) → IsUncut (layer rows.entries) flips.now start
         → HasDepths (layer rows.entries) start) }

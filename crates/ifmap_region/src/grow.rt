@@ -6,7 +6,7 @@ ghost use Rattle.ifmap_region.specs.Layers.{layer_of, links, HasDepths, IsUngrow
 use crate::bases::Basis;
 use crate::flips::Flip;
 use crate::link_source::LinkSource;
-use crate::rows::Rows;
+use crate::rows::MarkRows;
 use crate::seeds::lowered_seeds;
 use crate::spread::spread;
 use ifmap_steps::Steps;
@@ -19,7 +19,7 @@ use std::sync::ledger::Ledger;
 pub(crate) fn grow<G: LinkSource, L: Ledger>(
     alloc: Global,
     basis: &Basis<'_, G>,
-    rows: &mut Rows,
+    rows: &mut MarkRows,
     flips: &[Flip],
     steps: &mut Steps<L>,
 ) -> Result<(), NoMemory>

@@ -8,7 +8,7 @@ ghost use Rattle.ifmap_region.specs.Seeds.{SeedsAlong};
 use crate::bases::Basis;
 use crate::levels::{Seeds, least_level};
 use crate::link_source::LinkSource;
-use crate::rows::{Rows, has_row, is_mark, mark, mark_in, put};
+use crate::rows::{MarkRows, has_row, is_mark, mark, mark_in, put};
 use ifmap_steps::Steps;
 use indexmap::IndexMap;
 use std::alloc::{AllocError as NoMemory, Global};
@@ -19,7 +19,7 @@ use std::sync::ledger::Ledger;
 // marks went.
 #[derive(Drop)]
 pub(crate) struct Losses {
-    pub(crate) rows: Rows,
+    pub(crate) rows: MarkRows,
     pub(crate) gone: Vec<u64>,
 }
 
@@ -38,7 +38,7 @@ fn is_just_below(mark: Option<u32>, level: u32) -> bool
 // first.
 fn is_held<G: LinkSource, L: Ledger>(
     basis: &Basis<'_, G>,
-    rows: &Rows,
+    rows: &MarkRows,
     number: u64,
     level: u32,
     steps: &mut Steps<L>,
@@ -61,7 +61,12 @@ fn is_held<G: LinkSource, L: Ledger>(
 }
 
 // Gives a number a row with the mark of a level and puts it into the queue, unless it has a row.
-fn enqueue(rows: &mut Rows, level: u32, number: u64, queue: &mut Vec<u64>) -> Result<(), NoMemory>
+fn enqueue(
+    rows: &mut MarkRows,
+    level: u32,
+    number: u64,
+    queue: &mut Vec<u64>,
+) -> Result<(), NoMemory>
     ensures { OnOk result (Awaits level number rows.old.entries rows.new.entries queue.old.items
         queue.new.items) }
 {
@@ -86,7 +91,7 @@ fn goes_on<G: LinkSource>(basis: &Basis<'_, G>, level: u32, number: u64) -> bool
 // the next level as their mark. There are none where no walk goes on from the number.
 fn follow<G: LinkSource, L: Ledger>(
     basis: &Basis<'_, G>,
-    rows: &mut Rows,
+    rows: &mut MarkRows,
     level: u32,
     number: u64,
     queue: &mut Vec<u64>,
@@ -188,7 +193,7 @@ fn look_level<G: LinkSource, L: Ledger>(
 // Takes out the seeds of a level that is not above that of any seed, and puts their numbers into
 // the queue of the level.
 fn queue_seeds(
-    rows: &mut Rows,
+    rows: &mut MarkRows,
     level: u32,
     seeds: &mut Seeds,
     queue: &mut Vec<u64>,

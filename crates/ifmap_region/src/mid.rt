@@ -7,7 +7,7 @@ ghost use Rattle.ifmap_region.specs.Marks.{mark_of, HasMarkedEnd};
 
 use crate::flips::Flip;
 use crate::link_source::LinkSource;
-use crate::rows::{Rows, mark_in};
+use crate::rows::{MarkRows, mark_in};
 use ifmap_steps::Steps;
 use std::alloc::{AllocError as NoMemory, Global};
 use std::collections::HashSet;
@@ -21,7 +21,7 @@ pub(crate) struct Mid<'a, G> {
 }
 
 // Whether the flip is an added link that may be met from a number with a mark.
-fn is_near(marks: &Rows, flip: &Flip) -> bool
+fn is_near(marks: &MarkRows, flip: &Flip) -> bool
     ensures added { result ≡ true → flip.now.added ≡ true }
     ensures near { result ≡ true → HasMarkedEnd marks.now.entries flip.now.a flip.now.b }
     ensures far { result ≡ false → flip.now.added ≡ true → (v w k : ℕ) → Joins flip.now v w
@@ -34,7 +34,7 @@ fn is_near(marks: &Rows, flip: &Flip) -> bool
 // the others before their ends are marked, so they need not be hidden, and cost no memory.
 pub(crate) fn near_pairs(
     alloc: Global,
-    marks: &Rows,
+    marks: &MarkRows,
     flips: &[Flip],
 ) -> Result<HashSet<(u64, u64)>, NoMemory>
     ensures only { IfOk result (λ pairs. (v w : ℕ) → hides pairs v w ≡ true

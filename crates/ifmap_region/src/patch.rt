@@ -4,7 +4,7 @@ ghost use Rattle.std.specs.List.{IsDistinct};
 ghost use Rattle.std.specs.Map.{keys_of};
 ghost use Rattle.ifmap_region.specs.Marks.{mark_of, row_of};
 
-use crate::rows::{Rows, mark_in, put};
+use crate::rows::{MarkRows, mark_in, put};
 use indexmap::IndexMap;
 use std::alloc::{AllocError as NoMemory, Global};
 use std::marker::Model;
@@ -13,7 +13,7 @@ use std::marker::Model;
 /// none for each number whose mark goes.
 #[derive(Drop)]
 pub struct Patch {
-    pub(crate) rows: Rows,
+    pub(crate) rows: MarkRows,
 }
 
 impl Model for Patch {
@@ -64,7 +64,7 @@ impl Patch {
 /// The way back of a change that was made: the marks that were there before.
 #[derive(Drop)]
 pub struct RegionUndo {
-    pub(crate) rows: Rows,
+    pub(crate) rows: MarkRows,
 }
 
 impl Model for RegionUndo {
@@ -93,7 +93,11 @@ fn is_same(a: Option<u32>, b: Option<u32>) -> bool
 }
 
 // The rows that differ from the marks below them.
-pub(crate) fn changed_rows(alloc: Global, base: &Rows, rows: &Rows) -> Result<Rows, NoMemory>
+pub(crate) fn changed_rows(
+    alloc: Global,
+    base: &MarkRows,
+    rows: &MarkRows,
+) -> Result<MarkRows, NoMemory>
     ensures only { IfOk result (λ changed. (v : ℕ) (r : Option ℕ)
         → row_of changed.entries v ≡ Some r → (row_of rows.now.entries v ≡ Some r)
         × (r ≢ mark_of base.now.entries v)) }

@@ -6,10 +6,10 @@ use indexmap::IndexMap;
 use std::alloc::AllocError as NoMemory;
 
 // Marks by their numbers; a row may stand without a mark.
-pub(crate) type Rows = IndexMap<u64, Option<u32>>;
+pub(crate) type MarkRows = IndexMap<u64, Option<u32>>;
 
 // The marks of `rows` where they have a row, else those of `base`.
-pub(crate) fn mark(base: &Rows, rows: &Rows, number: u64) -> Option<u32>
+pub(crate) fn mark(base: &MarkRows, rows: &MarkRows, number: u64) -> Option<u32>
     ensures { result ≡ over rows.now.entries (mark_of base.now.entries) number }
 {
     match rows.get(&number) {
@@ -22,14 +22,14 @@ pub(crate) fn mark(base: &Rows, rows: &Rows, number: u64) -> Option<u32>
 }
 
 // Whether the number has a row.
-pub(crate) fn has_row(rows: &Rows, number: u64) -> bool
+pub(crate) fn has_row(rows: &MarkRows, number: u64) -> bool
     ensures { result ≡ is_some (row_of rows.now.entries number) }
 {
     rows.contains_key(&number)
 }
 
 // Puts a row in, in place of the one that is there.
-pub(crate) fn put(rows: &mut Rows, number: u64, mark: Option<u32>) -> Result<(), NoMemory>
+pub(crate) fn put(rows: &mut MarkRows, number: u64, mark: Option<u32>) -> Result<(), NoMemory>
     ensures put { OnOk result (HasPut rows.old.entries rows.new.entries number mark) }
     ensures err { OnErr result (rows.new.entries ≡ rows.old.entries) }
 {
@@ -60,7 +60,7 @@ pub(crate) fn is_mark(mark: Option<u32>, level: u32) -> bool
 }
 
 // The mark of the number in these rows alone.
-pub(crate) fn mark_in(rows: &Rows, number: u64) -> Option<u32>
+pub(crate) fn mark_in(rows: &MarkRows, number: u64) -> Option<u32>
     ensures { result ≡ mark_of rows.now.entries number }
 {
     match rows.get(&number) {

@@ -6,11 +6,15 @@ ghost use Rattle.ifmap_region.specs.Seeds.{SeedsAlong};
 use crate::bases::Basis;
 use crate::flips::Flip;
 use crate::link_source::LinkSource;
-use crate::rows::{Rows, is_mark, is_within, mark};
+use crate::rows::{MarkRows, is_mark, is_within, mark};
 use std::alloc::{AllocError as NoMemory, Global};
 
 // The level that follows the mark of the number, where a walk may go on from it.
-pub(crate) fn next_of<G: LinkSource>(basis: &Basis<'_, G>, rows: &Rows, number: u64) -> Option<u32>
+pub(crate) fn next_of<G: LinkSource>(
+    basis: &Basis<'_, G>,
+    rows: &MarkRows,
+    number: u64,
+) -> Option<u32>
     ensures only { let layer = layer_of G.count G.link G.terminal basis.now rows.now.entries in
         IfSome result (λ k. IsNextOf layer number k) }
     ensures each { let layer = layer_of G.count G.link G.terminal basis.now rows.now.entries in
@@ -29,7 +33,7 @@ pub(crate) fn next_of<G: LinkSource>(basis: &Basis<'_, G>, rows: &Rows, number: 
 }
 
 // The mark of `to`, where `from` may have held it.
-fn held_at<G: LinkSource>(basis: &Basis<'_, G>, rows: &Rows, from: u64, to: u64) -> Option<u32>
+fn held_at<G: LinkSource>(basis: &Basis<'_, G>, rows: &MarkRows, from: u64, to: u64) -> Option<u32>
     ensures only { let layer = layer_of G.count G.link G.terminal basis.now rows.now.entries in
         IfSome result (λ k. MayHoldAt layer from to k) }
     ensures each { let layer = layer_of G.count G.link G.terminal basis.now rows.now.entries in
@@ -48,7 +52,12 @@ fn held_at<G: LinkSource>(basis: &Basis<'_, G>, rows: &Rows, from: u64, to: u64)
 }
 
 // The level to which `from` lowers `to`.
-fn lowered_to<G: LinkSource>(basis: &Basis<'_, G>, rows: &Rows, from: u64, to: u64) -> Option<u32>
+fn lowered_to<G: LinkSource>(
+    basis: &Basis<'_, G>,
+    rows: &MarkRows,
+    from: u64,
+    to: u64,
+) -> Option<u32>
     ensures only { let layer = layer_of G.count G.link G.terminal basis.now rows.now.entries in
         IfSome result (λ k. LowersTo layer from to k) }
     ensures each { let layer = layer_of G.count G.link G.terminal basis.now rows.now.entries in
@@ -85,7 +94,7 @@ pub(crate) fn offer(
 pub(crate) fn held_seeds<G: LinkSource>(
     alloc: Global,
     basis: &Basis<'_, G>,
-    rows: &Rows,
+    rows: &MarkRows,
     flips: &[Flip],
 ) -> Result<Vec<(u32, u64)>, NoMemory>
     ensures { let layer = layer_of G.count G.link G.terminal basis.now rows.now.entries in
@@ -107,7 +116,7 @@ pub(crate) fn held_seeds<G: LinkSource>(
 pub(crate) fn lowered_seeds<G: LinkSource>(
     alloc: Global,
     basis: &Basis<'_, G>,
-    rows: &Rows,
+    rows: &MarkRows,
     flips: &[Flip],
 ) -> Result<Vec<(u32, u64)>, NoMemory>
     ensures { let layer = layer_of G.count G.link G.terminal basis.now rows.now.entries in

@@ -8,7 +8,7 @@ ghost use Rattle.ifmap_region.specs.Spreading.{IsLowered, Enqueues};
 use crate::bases::Basis;
 use crate::levels::{Seeds, least_level};
 use crate::link_source::LinkSource;
-use crate::rows::{Rows, is_within, mark, put};
+use crate::rows::{MarkRows, is_within, mark, put};
 use ifmap_steps::Steps;
 use std::alloc::{AllocError as NoMemory, Global};
 use std::mem;
@@ -17,8 +17,8 @@ use std::sync::ledger::Ledger;
 // Gives a number the mark of a level and puts it into the queue, unless it has a mark that is at
 // most the level.
 fn enqueue(
-    base: &Rows,
-    rows: &mut Rows,
+    base: &MarkRows,
+    rows: &mut MarkRows,
     level: u32,
     number: u64,
     queue: &mut Vec<u64>,
@@ -43,7 +43,7 @@ fn enqueue(
 // follows; that is their mark then.
 fn offer_neighbours<G: LinkSource, L: Ledger>(
     basis: &Basis<'_, G>,
-    rows: &mut Rows,
+    rows: &mut MarkRows,
     number: u64,
     next: u32,
     queue: &mut Vec<u64>,
@@ -77,7 +77,7 @@ fn offer_neighbours<G: LinkSource, L: Ledger>(
 // of the level that follows.
 fn visit<G: LinkSource, L: Ledger>(
     basis: &Basis<'_, G>,
-    rows: &mut Rows,
+    rows: &mut MarkRows,
     level: u32,
     number: u64,
     queue: &mut Vec<u64>,
@@ -107,7 +107,7 @@ fn visit<G: LinkSource, L: Ledger>(
 // Scans the numbers of one level.
 fn visit_level<G: LinkSource, L: Ledger>(
     basis: &Basis<'_, G>,
-    rows: &mut Rows,
+    rows: &mut MarkRows,
     level: u32,
     now: &[u64],
     queue: &mut Vec<u64>,
@@ -137,7 +137,7 @@ fn visit_level<G: LinkSource, L: Ledger>(
 // the queue of the level.
 fn admit_seeds<G: LinkSource>(
     basis: &Basis<'_, G>,
-    rows: &mut Rows,
+    rows: &mut MarkRows,
     level: u32,
     seeds: &mut Seeds,
     queue: &mut Vec<u64>,
@@ -169,7 +169,7 @@ fn admit_seeds<G: LinkSource>(
 pub(crate) fn spread<G: LinkSource, L: Ledger>(
     alloc: Global,
     basis: &Basis<'_, G>,
-    rows: &mut Rows,
+    rows: &mut MarkRows,
     seeds: Vec<(u32, u64)>,
     steps: &mut Steps<L>,
 ) -> Result<(), NoMemory>

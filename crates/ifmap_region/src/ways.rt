@@ -5,11 +5,11 @@ ghost use Rattle.indexmap.specs.IndexMap.{spare, insert_entry};
 ghost use Rattle.ifmap_region.specs.Marks.{row_of, mark_of};
 ghost use Rattle.ifmap_region.specs.Ways.{HasRoom, HasSpare, missing_count, OnlyRoom, Makes, Sweeps, Exchanges, taken_from};
 
-use crate::rows::{Rows, has_row, mark_in};
+use crate::rows::{MarkRows, has_row, mark_in};
 use std::alloc::AllocError as NoMemory;
 
 // Puts a row in where there is room for one, or the number has one. It takes no memory.
-fn put_within(rows: &mut Rows, number: u64, mark: Option<u32>)
+fn put_within(rows: &mut MarkRows, number: u64, mark: Option<u32>)
     requires { (0 < spare rows.old) ⊎ IsSome (row_of rows.old.entries number) }
     ensures put { (q : ℕ)
         → row_of rows.new.entries q ≡ update nat_eq (row_of rows.old.entries) number (Some mark) q }
@@ -23,7 +23,7 @@ fn put_within(rows: &mut Rows, number: u64, mark: Option<u32>)
 }
 
 // Whether the number has a row without a mark.
-fn is_bare(rows: &Rows, number: u64) -> bool
+fn is_bare(rows: &MarkRows, number: u64) -> bool
     ensures yes { result ≡ true → row_of rows.now.entries number ≡ Some None }
     ensures no { result ≡ false → row_of rows.now.entries number ≡ Some None → ⊥ }
 {
@@ -34,7 +34,7 @@ fn is_bare(rows: &Rows, number: u64) -> bool
 }
 
 // How many numbers of `patch` have no row.
-fn count_missing(rows: &Rows, patch: &Rows) -> usize
+fn count_missing(rows: &MarkRows, patch: &MarkRows) -> usize
     ensures { result ≡ missing_count rows.now.entries patch.now.entries }
 {
     let mut count: usize = 0;
@@ -49,7 +49,7 @@ fn count_missing(rows: &Rows, patch: &Rows) -> usize
 }
 
 // Makes room for the numbers of `patch`: each that has no row gets one without a mark.
-pub(crate) fn make_room(rows: &mut Rows, patch: &Rows) -> Result<(), NoMemory>
+pub(crate) fn make_room(rows: &mut MarkRows, patch: &MarkRows) -> Result<(), NoMemory>
     ensures room { OnOk result (HasRoom patch.now.entries rows.new.entries) }
     ensures only { OnOk result (OnlyRoom patch.now.entries rows.old.entries rows.new.entries) }
     ensures err { OnErr result (rows.new.entries ≡ rows.old.entries) }
@@ -67,7 +67,7 @@ pub(crate) fn make_room(rows: &mut Rows, patch: &Rows) -> Result<(), NoMemory>
 }
 
 // Exchanges the marks of the numbers of `patch` with those that `patch` has.
-pub(crate) fn exchange(rows: &mut Rows, patch: &mut Rows)
+pub(crate) fn exchange(rows: &mut MarkRows, patch: &mut MarkRows)
     requires { HasRoom patch.old.entries rows.old.entries }
     ensures makes { Makes patch.old.entries rows.old.entries rows.new.entries }
     ensures taken { patch.new.entries ≡ taken_from (mark_of rows.old.entries) patch.old.entries }
@@ -78,7 +78,7 @@ pub(crate) fn exchange(rows: &mut Rows, patch: &mut Rows)
 }
 
 // Exchanges the mark of the number at a place of `patch` with the one that `patch` has.
-fn exchange_at(rows: &mut Rows, patch: &mut Rows, i: usize)
+fn exchange_at(rows: &mut MarkRows, patch: &mut MarkRows, i: usize)
     requires { HasRoom patch.old.entries rows.old.entries }
     ensures { Exchanges i rows.old.entries patch.old.entries rows.new.entries patch.new.entries }
 {
@@ -92,7 +92,7 @@ fn exchange_at(rows: &mut Rows, patch: &mut Rows, i: usize)
 }
 
 // Takes out the rows of the numbers of `patch` that have no mark.
-pub(crate) fn sweep(rows: &mut Rows, patch: &Rows)
+pub(crate) fn sweep(rows: &mut MarkRows, patch: &MarkRows)
     ensures { Sweeps patch.now.entries rows.old.entries rows.new.entries }
 {
     for i in 0..patch.len() {

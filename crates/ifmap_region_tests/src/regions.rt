@@ -4,7 +4,7 @@ ghost use Rattle.ifmap_region.specs.Flips.{IsFlipped};
 ghost use Rattle.ifmap_region_tests.specs.Grid.{beside, is_corner, grid_link};
 ghost use Rattle.ifmap_region.specs.Links.{Linked};
 ghost use Rattle.ifmap_region.specs.Ways.{HasRoom};
-ghost use Rattle.ifmap_region_tests.specs.Rooms.{KeepsRows};
+ghost use Rattle.ifmap_region_tests.specs.Rooms.{KeepsEachRow};
 ghost use Rattle.ifmap_region_tests.specs.Pairs.{far_end_of, far_end_at};
 
 use ifmap_region::{Flip, LinkSource, Patch, Region, RegionUndo, build, repair};
@@ -172,7 +172,7 @@ fn patch_to<L: Ledger>(
 /// Gives a patch its rows; those that were there stay.
 fn make_room(region: &mut Region, patch: &Patch) -> Result<(), NoMemory>
     ensures room { OnOk result (HasRoom patch.now region.new.marks.entries) }
-    ensures kept { KeepsRows region.old.marks.entries region.new.marks.entries }
+    ensures kept { KeepsEachRow region.old.marks.entries region.new.marks.entries }
 {
     region.reserve(patch)?;
     Ok(())
@@ -182,7 +182,7 @@ fn make_room(region: &mut Region, patch: &Patch) -> Result<(), NoMemory>
 fn make_change(region: &mut Region, patch: Patch) -> RegionUndo
     requires { HasRoom patch region.old.marks.entries }
     ensures room { HasRoom result region.new.marks.entries }
-    ensures kept { KeepsRows region.old.marks.entries region.new.marks.entries }
+    ensures kept { KeepsEachRow region.old.marks.entries region.new.marks.entries }
 {
     region.commit_kept(patch)
 }
@@ -190,7 +190,7 @@ fn make_change(region: &mut Region, patch: Patch) -> RegionUndo
 /// Takes a change back, and gives its patch.
 fn take_back(region: &mut Region, undo: RegionUndo) -> Patch
     requires { HasRoom undo region.old.marks.entries }
-    ensures kept { KeepsRows region.old.marks.entries region.new.marks.entries }
+    ensures kept { KeepsEachRow region.old.marks.entries region.new.marks.entries }
 {
     region.undo(undo)
 }

@@ -14,7 +14,7 @@ use Rattle.std.proofs.lemmas.Bool.{and_parts}
 use Rattle.std.proofs.lemmas.Bool.Decides.{nat_tests}
 use Rattle.ifmap_lemmas.specs.Numerals.{numeral}
 use Rattle.ifmap_lemmas.specs.Texts.{eq_tells, slice_cmp-less}
-use Rattle.ifmap_elem.specs.Building.{bare_element}
+use Rattle.ifmap_elem.specs.Building.{bare_element, as_children}
 use Rattle.ifmap_elem.specs.declared.elements.Child.{Child}
 use Rattle.ifmap_elem.specs.declared.elements.Child as the
 use Rattle.ifmap_elem.specs.declared.elements.Child.TheOpen.{Child-F}
@@ -22,7 +22,7 @@ use Rattle.ifmap_elem.specs.declared.elements.Element.{Element}
 use Rattle.ifmap_elem.specs.laws.FitLaws.{out_text}
 use Rattle.ifmap_envelopes.specs.Envelopes.{around}
 use Rattle.ifmap_envelopes.specs.MakingLaws.{made_envelope}
-use Rattle.ifmap_filter.specs.Holding.{own_text_of, text_among}
+use Rattle.ifmap_forms.specs.ifmap_filter.Holding.{own_text_of, text_among}
 use Rattle.ifmap_ident.specs.declared.codes.Code.{Code}
 use Rattle.ifmap_ident.specs.declared.codes.Code.TheVariants.{AccessDenied, Failure, InvalidIdentifier, InvalidIdentifierType}
 use Rattle.ifmap_ident.specs.declared.codes.Code.TheVariants.{IdentifierTooLong, InvalidMetadata, InvalidSchemaVersion, InvalidSessionID}
@@ -55,13 +55,13 @@ use Rattle.ifmap_replies.specs.Fit.{AreFitEntries, IsFitEntry, IsFitPollItem, Is
 use Rattle.ifmap_replies.specs.Means.{IsReplyOf}
 use Rattle.ifmap_replies.specs.ResultForms as forms
 use Rattle.ifmap_replies.specs.ResultForms.{element_check, entries_check, entries_local, error_form, error_made, found_made, is_text}
-use Rattle.ifmap_replies.specs.ResultForms.{members_check, session_result_form, new_session_made, no_scopes, note_check, only_check, or_none}
+use Rattle.ifmap_replies.specs.ResultForms.{members_check, session_result_form, new_session_made, no_scopes, note_check, only_check, elements_or_none}
 use Rattle.ifmap_replies.specs.ResultForms.{plain_check, plain_form, plain_made, poll_check, polled_form, polled_made, response_check}
 use Rattle.ifmap_replies.specs.ResultForms.{response_form, response_made, result_check, result_local, run_check, run_form, run_from}
 use Rattle.ifmap_replies.specs.ResultForms.{run_made, run_parts, told_error_form, told_error_made, told_form, told_made}
-use Rattle.ifmap_replies.specs.Results.{as_children, entry_children, error_element, new_session_element, poll_element}
+use Rattle.ifmap_replies.specs.Results.{entry_children, error_element, new_session_element, poll_element}
 use Rattle.ifmap_replies.specs.Results.{reply_element, response_name, result_element, run_element, text_children, told_element}
-use Rattle.ifmap_replies.specs.Runs.{before, entries_of, entry_on, run_on, runs_of}
+use Rattle.ifmap_replies.specs.Runs.{before, entries_in_runs, entry_on, run_on, runs_of}
 use Rattle.ifmap_replies.proofs.GoodLaws.{element_part, parts_are}
 use Rattle.ifmap_replies.proofs.WholeLaws.{IsFitRun, fit_runs}
 use Rattle.ifmap_forms.specs.FormLaws.{number_back}
@@ -234,21 +234,21 @@ module _ (again : (i : Identifier) → IsIdentifier i → IsCanon (identifier_el
 
     -- an entry before runs is told first
     first_back : (entry : Entry) (runs : List Run) → IsFitEntry entry → AllByRecursion IsFitRun runs
-        → entries_of (before entry runs) ≡ entry ∷ entries_of runs
+        → entries_in_runs (before entry runs) ≡ entry ∷ entries_in_runs runs
     first_back entry [] e f = refl
     first_back entry (run ∷ runs) e f = joined (same_item entry.item run.item) refl
       where
         joined : (t : Bool) → same_item entry.item run.item ≡ t
-            → entries_of (if t
+            → entries_in_runs (if t
             then run_on entry.item (entry.element ∷ run.elements) ∷ runs
             else run_on entry.item (entry.element ∷ []) ∷ (run ∷ runs))
-            ≡ entry ∷ entries_of (run ∷ runs)
+            ≡ entry ∷ entries_in_runs (run ∷ runs)
         joined true same =
             let item = items_back entry.item run.item e.item f.0.item same in
-            λ i. entry ∷ (map (entry_on (item i)) run.elements ++ entries_of runs)
+            λ i. entry ∷ (map (entry_on (item i)) run.elements ++ entries_in_runs runs)
         joined false other = refl
 
-    entries_back : (entries : List Entry) → AreFitEntries entries → entries_of (runs_of entries) ≡ entries
+    entries_back : (entries : List Entry) → AreFitEntries entries → entries_in_runs (runs_of entries) ≡ entries
     entries_back [] f = refl
     entries_back (entry ∷ entries) f =
         first_back entry (runs_of entries) f.0 (fit_runs entries f.1) ∙ ap (λ es. entry ∷ es) (entries_back entries f.1)
@@ -264,7 +264,7 @@ module _ (again : (i : Identifier) → IsIdentifier i → IsCanon (identifier_el
         subst (λ (ps : List Part). list_if_there element_check ps (Ok (Some run.elements))) (sym (from_back list refl ids))
         (list_back run.elements f.elements) in
         let made : run_from ids (Some run.elements) (Ok run) =
-        subst (λ (o : Option Item). need_some Failure o (λ item. pass (run_on item (or_none (Some run.elements)))) (Ok run))
+        subst (λ (o : Option Item). need_some Failure o (λ item. pass (run_on item (elements_or_none (Some run.elements)))) (Ok run))
         (sym (item_back run.item f.item)) refl in
         let parts : run_parts (element_parts (run_element run)) (Ok run) =
         subst (λ (ps : List Part). run_parts ps (Ok run)) (sym (parts_are (map identifier_element ids ++ list ∷ [])))

@@ -11,7 +11,7 @@ use Rattle.ifmap_elem.specs.Chars.{is_white}
 use Rattle.ifmap_elem.specs.declared.elements.Child.TheOpen.{Child-F}
 use Rattle.ifmap_elem.specs.declared.elements.Element.{Element}
 use Rattle.ifmap_envelopes.specs.Envelopes.{IsEnvelope}
-use Rattle.ifmap_filter.specs.Holding.{is_name, text_among}
+use Rattle.ifmap_forms.specs.ifmap_filter.Holding.{is_name, text_among}
 use Rattle.ifmap_ident.specs.declared.codes.Code.{Code}
 use Rattle.ifmap_ident.specs.declared.codes.Code.TheVariants.{Failure, InvalidIdentifier, InvalidIdentifierType, IdentifierTooLong}
 use Rattle.ifmap_ident.specs.declared.errors.IdentError.{IdentError}
@@ -20,7 +20,7 @@ use Rattle.ifmap_ident.specs.declared.identifiers.Identifier.{Identifier}
 use Rattle.ifmap_ident.specs.Canon.{IsAnswer}
 use Rattle.ifmap_ident.specs.Laws.{HasAnswer}
 use Rattle.ifmap_ident.specs.Parts.{has_only, value_of}
-use Rattle.ifmap_reader.specs.declared.scoping.Scope.{Scope}
+use Rattle.ifmap_ident.specs.ifmap_reader.declared.scoping.Scope.{Scope}
 use Rattle.ifmap_forms.specs.CheckLaws.{fail_done, need_done, pass_done, some_done, then_done}
 use Rattle.ifmap_forms.specs.Checks.{Check, IsConclusive, check_then, need, need_some, pass}
 use Rattle.ifmap_forms.specs.Items.{before_list, from_list, identifier_check, identifiers_check, item_of, list_if_there, list_check, may_follow}
@@ -39,12 +39,12 @@ use Rattle.ifmap_replies.specs.Laws.{NoReplyWithDefect, ReplyOrNone}
 use Rattle.ifmap_replies.specs.Means.{IsReplyOf}
 use Rattle.ifmap_replies.specs.ResultForms.{element_check, entries_check, error_form, error_made, found_form, found_made, is_text}
 use Rattle.ifmap_replies.specs.ResultForms.{members_check, session_result_form, new_session_made, no_scopes, note_check, only_check}
-use Rattle.ifmap_replies.specs.ResultForms.{only_member, or_none, plain_check, plain_form, plain_made, poll_check, poll_kind_check}
+use Rattle.ifmap_replies.specs.ResultForms.{only_member, elements_or_none, plain_check, plain_form, plain_made, poll_check, poll_kind_check}
 use Rattle.ifmap_replies.specs.ResultForms.{poll_kind_of, polled_form, polled_made, response_check, response_form, response_made}
 use Rattle.ifmap_replies.specs.ResultForms.{result_check, result_kind_check, result_kind_of, run_check, run_form, run_from, run_made}
 use Rattle.ifmap_replies.specs.ResultForms.{run_parts, told_error_form, told_error_made, told_form, told_made}
 use Rattle.ifmap_replies.specs.Results.{response_name}
-use Rattle.ifmap_replies.specs.Runs.{entries_of, run_on}
+use Rattle.ifmap_replies.specs.Runs.{entries_in_runs, run_on}
 
 -- ---- identifiers
 
@@ -189,8 +189,8 @@ module _ (identifier_some : (e : Element) → IsConclusive (identifier_check e))
       then_done (identifiers_check 2 [] (before_list parts))
       (λ identifiers. check_then (list_if_there element_check (from_list parts)) (λ list. run_from identifiers list))
       (λ identifiers is. then_done (list_if_there element_check (from_list parts)) (λ list. run_from identifiers list)
-      (λ list there. some_done Failure (item_of identifiers) (λ item. pass (run_on item (or_none list)))
-      (λ item. pass_done (run_on item (or_none list))))
+      (λ list there. some_done Failure (item_of identifiers) (λ item. pass (run_on item (elements_or_none list)))
+      (λ item. pass_done (run_on item (elements_or_none list))))
       (list_at_done element_check (λ e. pass_done (arrange e)) (from_list parts)))
       (identifiers_done 2 [] (before_list parts))
 
@@ -201,7 +201,7 @@ module _ (identifier_some : (e : Element) → IsConclusive (identifier_check e))
 
   entries_done : (parts : List Part) → IsConclusive (entries_check parts)
   entries_done parts =
-      then_done (members_check run_check parts) (λ runs. pass (entries_of runs)) (λ runs is. pass_done (entries_of runs))
+      then_done (members_check run_check parts) (λ runs. pass (entries_in_runs runs)) (λ runs is. pass_done (entries_in_runs runs))
       (members_done run_check run_done parts)
 
   poll_kind_done : (kind : PollKind) (e : Element) → IsConclusive (poll_kind_check kind e)

@@ -11,7 +11,7 @@ use Rattle.ifmap_forms.specs.Checks.{Check, need_some, pass}
 use Rattle.ifmap_forms.specs.Items.{before_list, from_list, identifiers_check, item_of, list_if_there}
 use Rattle.ifmap_forms.specs.Tables.{Part}
 use Rattle.ifmap_replies.specs.declared.runs.Run.{Run}
-use Rattle.ifmap_replies.specs.ResultForms.{element_check, or_none, run_from, run_parts}
+use Rattle.ifmap_replies.specs.ResultForms.{element_check, elements_or_none, run_from, run_parts}
 use Rattle.ifmap_replies.specs.Runs.{run_on}
 
 module _ (parts : List Part) where
@@ -42,12 +42,13 @@ module _ (parts : List Part) where
 
 module _ (identifiers : List Identifier) (list : Option (List Element)) where
   abbrev made_of : Option Item → Check Run
-  made_of o = need_some Failure o (λ item. pass (run_on item (or_none list)))
+  made_of o = need_some Failure o (λ item. pass (run_on item (elements_or_none list)))
 
   pub no_item : item_of identifiers ≡ None → run_from identifiers list (Err Failure)
   no_item is = subst (λ (o : Option Item). made_of o (Err Failure)) (sym is) refl
 
-  pub all_there : (item it : Item) (elements : List Element) → item_of identifiers ≡ Some item → it ≡ item → elements ≡ or_none list
+  pub all_there : (item it : Item) (elements : List Element) → item_of identifiers ≡ Some item → it ≡ item
+      → elements ≡ elements_or_none list
       → run_from identifiers list (Ok (run_on it elements))
   all_there item it elements is same found =
       subst (λ (o : Option Item). made_of o (Ok (run_on it elements))) (sym is) (λ i. Ok (run_on (same i) (found i)))

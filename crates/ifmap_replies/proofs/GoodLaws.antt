@@ -10,7 +10,7 @@ use Rattle.std.specs.List.{AllByRecursion, flat_map, list_all, list_any}
 use Rattle.std.specs.Str.{bytes_eq}
 use Rattle.std.proofs.lemmas.Bool.{and_parts}
 use Rattle.ifmap_elem.specs.Arranged.{arrange, arrange_child, sort_attributes}
-use Rattle.ifmap_elem.specs.Building.{bare_attribute, bare_name}
+use Rattle.ifmap_elem.specs.Building.{bare_attribute, bare_name, as_children}
 use Rattle.ifmap_elem.specs.Chars.{IsCharacters}
 use Rattle.ifmap_elem.specs.Fit.{AreApart, AreFitChildren, HasCharacters, IsFit, IsFitAlone, IsFitAttribute, IsFitName, IsNamespace}
 use Rattle.ifmap_elem.specs.Fit.{IsNotBlank, is_element}
@@ -28,7 +28,7 @@ use Rattle.ifmap_elem.specs.laws.ArrangedLaws.{arranged_in, arranged_is, arrange
 use Rattle.ifmap_elem.specs.laws.FitLaws.{elements_in, elements_of_child, elements_text, fit_whole, out_text}
 use Rattle.ifmap_lemmas.specs.Members.{all_of_test, both_all}
 use Rattle.ifmap_lemmas.specs.Texts.{ascii_encoded, is_ascii}
-use Rattle.ifmap_replies.specs.Results.{as_children, text_children}
+use Rattle.ifmap_replies.specs.Results.{text_children}
 use Rattle.ifmap_elem.specs.laws.CharacterLaws.{is_plain, plain_characters}
 
 -- ---- 1. names and attributes

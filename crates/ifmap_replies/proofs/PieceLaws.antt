@@ -6,7 +6,7 @@ use Rattle.ifmap_elem.specs.declared.elements.Child.{Child}
 use Rattle.ifmap_elem.specs.declared.elements.Child as the
 use Rattle.ifmap_elem.specs.declared.elements.Element.{Element}
 use Rattle.ifmap_elem.specs.declared.outlines.Piece.{Piece}
-use Rattle.ifmap_replies.specs.Results.{as_children}
+use Rattle.ifmap_elem.specs.Building.{as_children}
 
 -- what pieces stand for, where one is put behind them
 pub put : (pieces more : List Piece) (piece : Piece) (made : Child) → outline_child piece ≡ made → more ≡ pieces ++ piece ∷ []

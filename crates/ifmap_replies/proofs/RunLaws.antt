@@ -9,7 +9,8 @@ use Rattle.ifmap_elem.specs.declared.elements.Element.{Element}
 use Rattle.ifmap_ident.specs.Items.{same_item}
 use Rattle.ifmap_search.specs.declared.results.Entry.{Entry}
 use Rattle.ifmap_replies.specs.declared.runs.Run.{Run}
-use Rattle.ifmap_replies.specs.Results.{as_children, entry_children, run_element}
+use Rattle.ifmap_elem.specs.Building.{as_children}
+use Rattle.ifmap_replies.specs.Results.{entry_children, run_element}
 use Rattle.ifmap_replies.specs.Runs.{before, entry_elements, run_length, run_on, runs_of}
 
 -- ---- how long a run is

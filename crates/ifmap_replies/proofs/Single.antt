@@ -11,11 +11,11 @@ use Rattle.ifmap_elem.specs.Spells.{Spells}
 use Rattle.ifmap_elem.specs.declared.elements.Element.{Element}
 use Rattle.ifmap_elem.specs.declared.readings.Reading.{Reading}
 use Rattle.ifmap_envelopes.specs.Envelopes.{IsEnvelope, OneEnvelope}
-use Rattle.ifmap_filter.specs.Holding.{is_name, text_among}
+use Rattle.ifmap_forms.specs.ifmap_filter.Holding.{is_name, text_among}
 use Rattle.ifmap_ident.specs.declared.codes.Code.{Code}
 use Rattle.ifmap_ident.specs.declared.codes.Code.TheVariants.{Failure}
 use Rattle.ifmap_ident.specs.Parts.{has_only}
-use Rattle.ifmap_reader.specs.declared.scoping.Scope.{Scope}
+use Rattle.ifmap_ident.specs.ifmap_reader.declared.scoping.Scope.{Scope}
 use Rattle.ifmap_forms.specs.CheckLaws.{fail_single, need_single, pass_single, some_single, then_single}
 use Rattle.ifmap_forms.specs.Checks.{Check, IsSingle, check_then, need, need_some, pass}
 use Rattle.ifmap_forms.specs.Items.{before_list, from_list, identifier_check, identifiers_check, item_of, list_if_there}
@@ -34,12 +34,12 @@ use Rattle.ifmap_replies.specs.Laws.{NoReplyWithDefect, OneReplyMeaning, OneRepl
 use Rattle.ifmap_replies.specs.Means.{IsReplyOf}
 use Rattle.ifmap_replies.specs.ResultForms.{element_check, entries_check, error_form, error_made, found_form, found_made, is_text}
 use Rattle.ifmap_replies.specs.ResultForms.{members_check, session_result_form, new_session_made, no_scopes, note_check, only_check}
-use Rattle.ifmap_replies.specs.ResultForms.{only_member, or_none, plain_check, plain_form, plain_made, poll_check, poll_kind_check}
+use Rattle.ifmap_replies.specs.ResultForms.{only_member, elements_or_none, plain_check, plain_form, plain_made, poll_check, poll_kind_check}
 use Rattle.ifmap_replies.specs.ResultForms.{poll_kind_of, polled_form, polled_made, response_check, response_form, response_made}
 use Rattle.ifmap_replies.specs.ResultForms.{result_check, result_kind_check, result_kind_of, run_check, run_form, run_from, run_made}
 use Rattle.ifmap_replies.specs.ResultForms.{run_parts, told_error_form, told_error_made, told_form, told_made}
 use Rattle.ifmap_replies.specs.Results.{response_name}
-use Rattle.ifmap_replies.specs.Runs.{entries_of, run_on}
+use Rattle.ifmap_replies.specs.Runs.{entries_in_runs, run_on}
 
 -- ---- 1. values
 
@@ -82,8 +82,8 @@ module _ (identifier_one : (e : Element) → IsSingle (identifier_check e)) wher
       (identifiers_single identifier_one 2 [] (before_list parts))
       (λ identifiers. then_single (list_if_there element_check (from_list parts)) (λ list. run_from identifiers list)
       (list_at_single element_check (λ e. pass_single (arrange e)) (from_list parts))
-      (λ list. some_single Failure (item_of identifiers) (λ item. pass (run_on item (or_none list)))
-      (λ item. pass_single (run_on item (or_none list)))))
+      (λ list. some_single Failure (item_of identifiers) (λ item. pass (run_on item (elements_or_none list)))
+      (λ item. pass_single (run_on item (elements_or_none list)))))
 
   run_single : (e : Element) → IsSingle (run_check e)
   run_single e =
@@ -92,8 +92,8 @@ module _ (identifier_one : (e : Element) → IsSingle (identifier_check e)) wher
 
   entries_single : (parts : List Part) → IsSingle (entries_check parts)
   entries_single parts =
-      then_single (members_check run_check parts) (λ runs. pass (entries_of runs)) (members_single run_check run_single parts)
-      (λ runs. pass_single (entries_of runs))
+      then_single (members_check run_check parts) (λ runs. pass (entries_in_runs runs)) (members_single run_check run_single parts)
+      (λ runs. pass_single (entries_in_runs runs))
 
   poll_kind_single : (kind : PollKind) (e : Element) → IsSingle (poll_kind_check kind e)
   poll_kind_single (told.Entries kind) e =

@@ -9,7 +9,7 @@ use Rattle.std.proofs.lemmas.Bool.Decides.{nat_tests}
 use Rattle.ifmap_lemmas.specs.Members.{all_append, all_of_test, both_all}
 use Rattle.ifmap_lemmas.specs.Numerals.{digit, numeral, numeral_by_digits}
 use Rattle.ifmap_elem.specs.Arranged.{arrange}
-use Rattle.ifmap_elem.specs.Building.{bare_attribute, bare_element, bare_name}
+use Rattle.ifmap_elem.specs.Building.{bare_attribute, bare_element, bare_name, as_children}
 use Rattle.ifmap_elem.specs.Chars.{AllAre, IsCharacters}
 use Rattle.ifmap_elem.specs.Fit.{IsFit, IsFitName}
 use Rattle.ifmap_elem.specs.Nesting.{nesting}
@@ -35,7 +35,7 @@ use Rattle.ifmap_replies.specs.declared.replies.Reply.{Reply}
 use Rattle.ifmap_replies.specs.declared.replies.Reply.TheVariants as reply
 use Rattle.ifmap_replies.specs.declared.runs.Run.{Run}
 use Rattle.ifmap_replies.specs.Fit.{AreFitEntries, IsFitEntry, IsFitPollItem, IsFitReply}
-use Rattle.ifmap_replies.specs.Results.{as_children, error_element, name_attribute, new_session_element, plain_element}
+use Rattle.ifmap_replies.specs.Results.{error_element, name_attribute, new_session_element, plain_element}
 use Rattle.ifmap_replies.specs.Results.{poll_element, reply_element, response_name, result_element, run_element, text_children}
 use Rattle.ifmap_replies.specs.Results.{told_element}
 use Rattle.ifmap_replies.specs.Runs.{before, run_on, runs_of}

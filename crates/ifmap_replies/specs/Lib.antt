@@ -7,3 +7,5 @@ pub mod ResultForms
 pub mod Means
 pub mod Answers
 pub mod Laws
+-- What is passed on to the crates above.
+pub mod ifmap_search

@@ -1,4 +1,8 @@
 -- The table of results: IF-MAP binding for SOAP, version 2.2, section 3. No attribute in them is read by a scope.
+-- 1. Entries on one item: one identifier or two, and then the elements of `metadata` or nothing (`run_check`).
+-- 2. The note of an error, an element of text alone.
+-- 3. What a poll is told: entries of a kind under the name of a subscription, or an error (`poll_check`).
+-- 4. Results: the form of each kind, what is made of it, and the reply that an element means by its name.
 use Rattle.std.specs.Prelude.{ℕ, Bool, true, false, List, [], ◌∷◌, codes, Option, None, Some}
 use Rattle.std.specs.List.{find, list_all}
 use Rattle.ifmap_elem.specs.Arranged.{arrange}
@@ -6,7 +10,7 @@ use Rattle.ifmap_elem.specs.Building.{is_bare}
 use Rattle.ifmap_elem.specs.declared.elements.Child.TheOpen.{Child-F}
 use Rattle.ifmap_elem.specs.declared.elements.Element.{Element}
 use Rattle.ifmap_elem.specs.declared.elements.Name.{Name}
-use Rattle.ifmap_filter.specs.Holding.{is_name, text_among}
+use Rattle.ifmap_forms.specs.ifmap_filter.Holding.{is_name, text_among}
 use Rattle.ifmap_ident.specs.declared.codes.Code.{Code}
 use Rattle.ifmap_ident.specs.declared.codes.Code.TheVariants.{Failure}
 use Rattle.ifmap_ident.specs.declared.identifiers.Identifier.{Identifier}
@@ -31,7 +35,7 @@ use Rattle.ifmap_replies.specs.declared.replies.Reply.TheVariants as reply
 use Rattle.ifmap_replies.specs.declared.runs.Run.{Run}
 use Rattle.ifmap_replies.specs.Fields.{code_field, optional_field, word_field}
 use Rattle.ifmap_replies.specs.Results.{response_name}
-use Rattle.ifmap_replies.specs.Runs.{entries_of, run_on}
+use Rattle.ifmap_replies.specs.Runs.{entries_in_runs, run_on}
 
 -- no prefixes anywhere
 abbrev pub no_scopes : Scopes
@@ -58,12 +62,12 @@ abbrev pub element_check : Element → Check Element
 element_check e = pass (arrange e)
 
 -- none, where there is no list
-abbrev pub or_none : Option (List Element) → List Element
-or_none None = []
-or_none (Some elements) = elements
+abbrev pub elements_or_none : Option (List Element) → List Element
+elements_or_none None = []
+elements_or_none (Some elements) = elements
 
 abbrev pub run_from : List Identifier → Option (List Element) → Check Run
-run_from identifiers list = need_some Failure (item_of identifiers) (λ item. pass (run_on item (or_none list)))
+run_from identifiers list = need_some Failure (item_of identifiers) (λ item. pass (run_on item (elements_or_none list)))
 
 -- one identifier or two different ones in either order, and then `metadata` or nothing
 abbrev pub run_parts : List Part → Check Run
@@ -82,7 +86,7 @@ run_check e = need (is_bare (codes "resultItem") e.name) Failure (form_check run
 
 -- the entries of any number of `resultItem`s
 abbrev pub entries_check : List Part → Check (List Entry)
-entries_check parts = check_then (members_check run_check parts) (λ runs. pass (entries_of runs))
+entries_check parts = check_then (members_check run_check parts) (λ runs. pass (entries_in_runs runs))
 
 abbrev pub entries_content : ContentCheck (List Entry)
 entries_content scopes = entries_check

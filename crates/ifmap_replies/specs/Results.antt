@@ -2,7 +2,7 @@
 -- envelope of SOAP 1.2 (part 1, section 5).
 use Rattle.std.specs.Prelude.{ℕ, List, [], ◌∷◌, ◌++◌, codes, map, Option, None, Some}
 use Rattle.ifmap_lemmas.specs.Numerals.{numeral}
-use Rattle.ifmap_elem.specs.Building.{bare_attribute, bare_element}
+use Rattle.ifmap_elem.specs.Building.{as_children, bare_attribute, bare_element}
 use Rattle.ifmap_elem.specs.Canonical.{canonical_bytes}
 use Rattle.ifmap_elem.specs.declared.elements.Attribute.{Attribute}
 use Rattle.ifmap_elem.specs.declared.elements.Child.{Child}
@@ -25,9 +25,6 @@ use Rattle.ifmap_replies.specs.Runs.{runs_of}
 
 abbrev pub response_name : Name
 response_name = record { space = ifmap_space; local = codes "response" }
-
-abbrev pub as_children : List Element → List Child
-as_children elements = map the.Element elements
 
 -- ---- entries
 

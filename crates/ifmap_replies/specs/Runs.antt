@@ -31,8 +31,8 @@ abbrev pub run_entries : Run → List Entry
 run_entries run = map (entry_on run.item) run.elements
 
 -- the entries of runs
-abbrev pub entries_of : List Run → List Entry
-entries_of runs = flat_map run_entries runs
+abbrev pub entries_in_runs : List Run → List Entry
+entries_in_runs runs = flat_map run_entries runs
 
 -- ---- how long a run is
 

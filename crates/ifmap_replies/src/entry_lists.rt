@@ -4,8 +4,8 @@ ghost use Rattle.ifmap_elem.specs.declared.elements.Child.{out-Child};
 ghost use Rattle.ifmap_forms.specs.Answers.{IsChecked, IsCheckedAs};
 ghost use Rattle.ifmap_forms.specs.Items.{before_list, identifiers_check, list_if_there, list_check};
 ghost use Rattle.ifmap_forms.specs.Tables.{form_check, parts_in};
-ghost use Rattle.ifmap_replies.specs.ResultForms.{element_check, entries_check, no_scopes, or_none, run_check, run_form, run_from, run_made, run_parts};
-ghost use Rattle.ifmap_replies.specs.Runs.{entries_of, run_entries};
+ghost use Rattle.ifmap_replies.specs.ResultForms.{element_check, entries_check, no_scopes, elements_or_none, run_check, run_form, run_from, run_made, run_parts};
+ghost use Rattle.ifmap_replies.specs.Runs.{entries_in_runs, run_entries};
 
 use crate::members::{Member, read_members};
 use crate::runs::Run;
@@ -28,7 +28,7 @@ pub(crate) fn read_entries(alloc: Global, children: Vec<Child>) -> Result<Many<E
 }
 
 fn entries_of(alloc: Global, runs: Vec<Run>) -> Result<Vec<Entry>, NoMemory>
-    ensures { IfOk result (λ entries. entries.items ≡ entries_of runs.items) }
+    ensures { IfOk result (λ entries. entries.items ≡ entries_in_runs runs.items) }
 {
     let mut entries = Vec::new(alloc);
     for run in runs {
@@ -122,7 +122,7 @@ fn run_from(
 }
 
 fn or_none(alloc: Global, list: Option<Many<SharedElement>>) -> Many<SharedElement>
-    ensures { result ≡ or_none list }
+    ensures { result ≡ elements_or_none list }
 {
     match list {
         Some(elements) => elements,

@@ -2,7 +2,7 @@
 ghost use Rattle.std.specs.Prelude.{◌≡◌, ◌++◌, IfOk, OnOk};
 ghost use Rattle.std.specs.List.{list_all};
 ghost use Rattle.ifmap_elem.specs.declared.elements.Child.{out-Child};
-ghost use Rattle.ifmap_filter.specs.Holding.{own_text, text_among};
+ghost use Rattle.ifmap_forms.specs.ifmap_filter.Holding.{own_text, text_among};
 ghost use Rattle.ifmap_forms.specs.Answers.{IsChecked};
 ghost use Rattle.ifmap_forms.specs.Tables.{parts_in};
 ghost use Rattle.ifmap_replies.specs.ResultForms.{is_text, note_check, only_check};

@@ -9,7 +9,7 @@ use crate::responses::read_response;
 use ifmap_elem::laws::bytes_spell_one_element;
 use ifmap_elem::{Copied, Element};
 use ifmap_envelopes::open_envelope;
-use ifmap_reader::{ReadError, read};
+use ifmap_ident::{ReadError, read};
 use std::alloc::Global;
 
 // How many levels a reply can have.

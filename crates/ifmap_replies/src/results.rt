@@ -2,8 +2,8 @@
 ghost use Rattle.std.specs.Prelude.{◌≡◌, ◌∷◌, [], codes, map, IfOk};
 ghost use Rattle.std.specs.Option.{option_copied};
 ghost use Rattle.ifmap_lemmas.specs.Numerals.{numeral};
-ghost use Rattle.ifmap_replies.specs.Results.{as_children, error_element, name_attribute, name_attributes, new_session_element, plain_element, poll_element, result_element, text_children, told_element};
-ghost use Rattle.ifmap_elem.specs.Building.{bare_attribute};
+ghost use Rattle.ifmap_replies.specs.Results.{error_element, name_attribute, name_attributes, new_session_element, plain_element, poll_element, result_element, text_children, told_element};
+ghost use Rattle.ifmap_elem.specs.Building.{bare_attribute, as_children};
 ghost use Rattle.ifmap_elem.specs.Outlines.{outline_child, outline_element};
 ghost use Rattle.ifmap_ident.specs.Codes.{code_name};
 

@@ -3,7 +3,8 @@ ghost use Rattle.std.specs.Prelude.{◌≡◌, ◌≤◌, ◌∷◌, ◌++◌, [
 ghost use Rattle.ifmap_elem.specs.Outlines.{outline_child, outline_element};
 ghost use Rattle.ifmap_ident.specs.Identifiers.{identifier_element};
 ghost use Rattle.ifmap_ident.specs.Items.{identifiers_of, same_item};
-ghost use Rattle.ifmap_replies.specs.Results.{as_children, entry_children, run_element};
+ghost use Rattle.ifmap_elem.specs.Building.{as_children};
+ghost use Rattle.ifmap_replies.specs.Results.{entry_children, run_element};
 ghost use Rattle.ifmap_replies.specs.Runs.{entry_elements, run_length, run_on};
 
 use ifmap_elem::{Many, Outline, Piece};

@@ -60,13 +60,17 @@ fn outline_of<'a>(
         outline_element outline ≡ wrap_element names.now (result_element reply.now)) }
 {
     let result = result_of(alloc, reply)?;
-    let response = around(alloc, &names.response, result)?;
-    let body = around(alloc, &names.body, response)?;
-    around(alloc, &names.envelope, body)
+    let response = wrap_outline(alloc, &names.response, result)?;
+    let body = wrap_outline(alloc, &names.body, response)?;
+    wrap_outline(alloc, &names.envelope, body)
 }
 
 // An element that holds one other and nothing else.
-fn around<'a>(alloc: Global, name: &'a Name, inner: Outline<'a>) -> Result<Outline<'a>, NoMemory>
+fn wrap_outline<'a>(
+    alloc: Global,
+    name: &'a Name,
+    inner: Outline<'a>,
+) -> Result<Outline<'a>, NoMemory>
     ensures { IfOk result (λ outline.
         outline_element outline ≡ around name.now (outline_element inner.entry)) }
 {

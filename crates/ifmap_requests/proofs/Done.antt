@@ -17,11 +17,11 @@ use Rattle.ifmap_elem.specs.Fit.{IsFit}
 use Rattle.ifmap_elem.specs.Nesting.{nesting}
 use Rattle.ifmap_elem.specs.declared.elements.Child.TheOpen.{Child-F}
 use Rattle.ifmap_elem.specs.declared.elements.Element.{Element}
-use Rattle.ifmap_reader.specs.declared.scoping.Scope.{Scope}
-use Rattle.ifmap_filter.specs.declared.filters.Filter.{Filter}
-use Rattle.ifmap_filter.specs.Holding.{is_name}
-use Rattle.ifmap_filter.specs.Laws.{FilterOrStop, StopsWhereNone}
-use Rattle.ifmap_filter.specs.Texts.{StopsAt, Writes}
+use Rattle.ifmap_ident.specs.ifmap_reader.declared.scoping.Scope.{Scope}
+use Rattle.ifmap_forms.specs.ifmap_filter.declared.filters.Filter.{Filter}
+use Rattle.ifmap_forms.specs.ifmap_filter.Holding.{is_name}
+use Rattle.ifmap_forms.specs.ifmap_filter.Laws.{FilterOrStop, StopsWhereNone}
+use Rattle.ifmap_forms.specs.ifmap_filter.Texts.{StopsAt, Writes}
 use Rattle.ifmap_ident.specs.declared.codes.Code.TheVariants.{Failure, IdentifierTooLong, InvalidIdentifier, InvalidIdentifierType}
 use Rattle.ifmap_ident.specs.declared.codes.Code.TheVariants.{InvalidMetadata, InvalidSchemaVersion, MetadataTooLong}
 use Rattle.ifmap_ident.specs.declared.errors.IdentError.{IdentError}
@@ -42,7 +42,7 @@ use Rattle.ifmap_forms.specs.Items.{may_follow, only_identifier, start_content}
 use Rattle.ifmap_forms.specs.Scopes.{Scopes, scopes_below}
 use Rattle.ifmap_forms.specs.Tables.{ContentCheck, Form, Part, AttributeTable, beside, both, each_element, form_or, is_white_part, list_of, no_attributes}
 use Rattle.ifmap_forms.specs.Tables.{no_children, element_parts, read_form}
-use Rattle.ifmap_forms.specs.Values.{Field, depth_field, field_check, filter_check, filter_field, kind_of, kinds_check, kinds_field}
+use Rattle.ifmap_forms.specs.Values.{Field, depth_field, field_check, filter_check, filter_field, kind_named, kinds_check, kinds_field}
 use Rattle.ifmap_forms.specs.Values.{lifetime_field, limit_field, name_field, number_of, piece_check, pieces_of, size_field, text_field}
 use Rattle.ifmap_forms.specs.Values.{trim_white, within_range}
 use Rattle.ifmap_requests.specs.declared.requests.Request.{Request}
@@ -171,7 +171,7 @@ pieces_done (piece ∷ pieces) =
     then_done (piece_check piece) (λ kind. check_then (kinds_check pieces) (λ others. pass (kind ∷ others)))
     (λ kind found. then_done (kinds_check pieces) (λ others. pass (kind ∷ others)) (λ others got. pass_done (kind ∷ others))
     (pieces_done pieces))
-    (some_done InvalidIdentifierType (kind_of (trim_white piece)) (λ kind. pass kind) (λ kind. pass_done kind))
+    (some_done InvalidIdentifierType (kind_named (trim_white piece)) (λ kind. pass kind) (λ kind. pass_done kind))
 
 kinds_done : FieldDone kinds_field
 kinds_done scope None is = pass_done []

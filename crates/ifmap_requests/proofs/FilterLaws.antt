@@ -25,38 +25,38 @@ use Rattle.ifmap_elem.specs.Scopes.{Binding, xml_space, xmlns_space}
 use Rattle.ifmap_elem.specs.declared.elements.Name as element
 use Rattle.ifmap_elem.specs.declared.readings.Declared.{Declared}
 use Rattle.ifmap_elem.specs.declared.tokens.Qualified.{Qualified}
-use Rattle.ifmap_reader.specs.declared.scoping.Scope.{Scope}
-use Rattle.ifmap_filter.specs.declared.filters.Predicate.{Predicate, Attr, Child, And, Or, fold-roll-Predicate}
-use Rattle.ifmap_filter.specs.declared.filters.Predicate.TheVariants.{rolls-Attr, rolls-Child, rolls-And, rolls-Or}
-use Rattle.ifmap_filter.specs.declared.filters.Predicate.TheOpen.{Predicate-F}
-use Rattle.ifmap_filter.specs.declared.filters.Test.{Test}
-use Rattle.ifmap_filter.specs.declared.filters.Filter.{Filter}
-use Rattle.ifmap_filter.specs.declared.tokens.Token.{Token}
-use Rattle.ifmap_filter.specs.declared.tokens.Token.TheVariants.{Any, OpenBracket, CloseBracket, OpenParenthesis, CloseParenthesis}
-use Rattle.ifmap_filter.specs.declared.tokens.Token.TheVariants.{EqualsSign, At, Name, Literal}
-use Rattle.ifmap_filter.specs.Grammar.{AreTests, AsksFor, Rule, StandsFor, TakesAnds, TakesComparison, TakesFactor, TakesGroup, TakesJoined}
-use Rattle.ifmap_filter.specs.Grammar.{TakesMore, TakesOrs, TakesPredicate, TakesTest, and_word, join_of, or_word, space_of}
-use Rattle.ifmap_filter.specs.Texts.{Writes}
-use Rattle.ifmap_filter.specs.Tokens.{FrontToken, Takes, after_while, closed_literal, front_token, front_while}
-use Rattle.ifmap_filter.specs.Tokens.{literal_at, name_at, name_from, name_token, part_bytes, prefixed_name_at, symbol_of, token_at}
-use Rattle.ifmap_filter.specs.Tokens.{with_symbol, without_white}
+use Rattle.ifmap_ident.specs.ifmap_reader.declared.scoping.Scope.{Scope}
+use Rattle.ifmap_forms.specs.ifmap_filter.declared.filters.Predicate.{Predicate, Attr, Child, And, Or, fold-roll-Predicate}
+use Rattle.ifmap_forms.specs.ifmap_filter.declared.filters.Predicate.TheVariants.{rolls-Attr, rolls-Child, rolls-And, rolls-Or}
+use Rattle.ifmap_forms.specs.ifmap_filter.declared.filters.Predicate.TheOpen.{Predicate-F}
+use Rattle.ifmap_forms.specs.ifmap_filter.declared.filters.Test.{Test}
+use Rattle.ifmap_forms.specs.ifmap_filter.declared.filters.Filter.{Filter}
+use Rattle.ifmap_forms.specs.ifmap_filter.declared.tokens.FilterToken.{FilterToken}
+use Rattle.ifmap_forms.specs.ifmap_filter.declared.tokens.FilterToken.TheVariants.{Any, OpenBracket, CloseBracket, OpenParenthesis, CloseParenthesis}
+use Rattle.ifmap_forms.specs.ifmap_filter.declared.tokens.FilterToken.TheVariants.{EqualsSign, At, Name, Literal}
+use Rattle.ifmap_forms.specs.ifmap_filter.Grammar.{AreTests, AsksFor, Rule, StandsFor, TakesAnds, TakesComparison, TakesFactor, TakesGroup, TakesJoined}
+use Rattle.ifmap_forms.specs.ifmap_filter.Grammar.{TakesMore, TakesOrs, TakesPredicate, TakesTest, and_word, join_of, or_word, space_of}
+use Rattle.ifmap_forms.specs.ifmap_filter.Texts.{Writes}
+use Rattle.ifmap_forms.specs.ifmap_filter.Tokens.{FrontToken, Takes, after_while, closed_literal, front_token, front_while}
+use Rattle.ifmap_forms.specs.ifmap_filter.Tokens.{literal_at, name_at, name_from, name_token, part_bytes, prefixed_name_at, symbol_of, token_at}
+use Rattle.ifmap_forms.specs.ifmap_filter.Tokens.{with_symbol, without_white}
 use Rattle.ifmap_forms.specs.Scopes.{scopes_by}
 use Rattle.ifmap_requests.specs.FitFilters.{Comparison, IsFitComparison, IsFitFilter, IsFitPredicate, IsFitTest, comparison, comparisons}
 use Rattle.ifmap_requests.specs.FitFilters.{comparisons_of}
 use Rattle.ifmap_requests.proofs.Characters.{are_characters}
 use Rattle.ifmap_elem.specs.laws.CharacterLaws.{characters_are_utf8}
 use Rattle.ifmap_elem.specs.laws.NameBytes.{starts_are_characters}
-use Rattle.ifmap_lexer.specs.Cutting.{is_but}
-use Rattle.ifmap_lexer.specs.There.{is_quote}
+use Rattle.ifmap_ident.specs.ifmap_lexer.Cutting.{is_but}
+use Rattle.ifmap_ident.specs.ifmap_lexer.There.{is_quote}
 
 -- ---- (1) tokens
 
-abbrev IsFitToken : Token → Type 0
+abbrev IsFitToken : FilterToken → Type 0
 IsFitToken (Name q) = IsNamePart q.local
 IsFitToken (Literal value) = IsCharacters value
 IsFitToken _ = Unit {0}
 
-abbrev AreFitTokens : List Token → Type 0
+abbrev AreFitTokens : List FilterToken → Type 0
 AreFitTokens ts = AllByRecursion IsFitToken ts
 
 abbrev AreCharacters : List ℕ → Type 0
@@ -127,10 +127,10 @@ name_fit c cs starts f =
     (after_fit is_name_character (c ∷ cs) f)
 
 -- a token of one character has nothing that need be fit
-abbrev MayBeFitToken : Option Token → Type 0
+abbrev MayBeFitToken : Option FilterToken → Type 0
 MayBeFitToken t = IfSome t IsFitToken
 
-symbol_or : (b : Bool) (t : Token) (others : Option Token) → IsFitToken t → MayBeFitToken others
+symbol_or : (b : Bool) (t : FilterToken) (others : Option FilterToken) → IsFitToken t → MayBeFitToken others
     → MayBeFitToken (if b then Some t else others)
 symbol_or true t others f g = f
 symbol_or false t others f g = g
@@ -141,7 +141,7 @@ symbol_fit c =
     (symbol_or (c == byte "(") OpenParenthesis _ tt (symbol_or (c == byte ")") CloseParenthesis _ tt
     (symbol_or (c == equals_sign) EqualsSign _ tt (symbol_or (c == byte "@") At None tt tt))))))
 
-with_symbol_fit : (cs : List ℕ) (t : Option Token) → MayBeFitToken t → AreCharacters cs → IsFitFront (with_symbol cs t)
+with_symbol_fit : (cs : List ℕ) (t : Option FilterToken) → MayBeFitToken t → AreCharacters cs → IsFitFront (with_symbol cs t)
 with_symbol_fit cs None s f = tt
 with_symbol_fit cs (Some t) s f = (s, f)
 
@@ -153,10 +153,10 @@ token_fit (c ∷ cs) f =
     (λ e. either IsFitFront (is_name_start c) (name_at (c ∷ cs)) (with_symbol cs (symbol_of c)) (λ starts. name_fit c cs starts f)
     (λ other. with_symbol_fit cs (symbol_of c) (symbol_fit c) f.1))
 
-taken_fit : (cs : List ℕ) (t : Token) (rest : List ℕ) → AreCharacters cs → Takes cs t rest → IsFitToken t × AreCharacters rest
+taken_fit : (cs : List ℕ) (t : FilterToken) (rest : List ℕ) → AreCharacters cs → Takes cs t rest → IsFitToken t × AreCharacters rest
 taken_fit cs t rest f takes = subst IsFitFront takes (token_fit (without_white cs) (after_fit is_white cs f))
 
-tokens_fit : (cs : List ℕ) (ts : List Token) (rest : List ℕ) → AreCharacters cs → To Takes cs ts rest → AreFitTokens ts
+tokens_fit : (cs : List ℕ) (ts : List FilterToken) (rest : List ℕ) → AreCharacters cs → To Takes cs ts rest → AreFitTokens ts
 tokens_fit cs [] rest f l = tt
 tokens_fit cs (t ∷ ts) rest f l =
     let first = taken_fit cs t l.0 f l.1 in
@@ -266,9 +266,10 @@ or_fit parts f = subst (AllByRecursion IsFitComparison) (sym (or_is parts)) (par
 module _ {X : Type 0} where
   -- what the rule takes of fit tokens is such, and the tokens that are left are fit
   abbrev Keeps : Rule X → (X → Type 0) → Type 0
-  Keeps R P = (ts : List Token) (x : X) (rest : List Token) → AreFitTokens ts → R ts x rest → P x × AreFitTokens rest
+  Keeps R P = (ts : List FilterToken) (x : X) (rest : List FilterToken) → AreFitTokens ts → R ts x rest → P x × AreFitTokens rest
 
-  more_fit : (word : Token) (Part : Rule X) (P : X → Type 0) → Keeps Part P → (ts : List Token) (xs : List X) (rest : List Token)
+  more_fit : (word : FilterToken) (Part : Rule X) (P : X → Type 0) → Keeps Part P
+      → (ts : List FilterToken) (xs : List X) (rest : List FilterToken)
       → AreFitTokens ts → TakesMore word Part ts xs rest → AllByRecursion P xs × AreFitTokens rest
   more_fit word Part P keeps ts [] rest f m = (tt, subst AreFitTokens m f)
   more_fit word Part P keeps ts (x ∷ xs) rest f m =
@@ -283,7 +284,7 @@ module _ (join : List Predicate → Predicate) (joins : (parts : List Predicate)
   join_fit first [] f g = f
   join_fit first (p ∷ ps) f g = joins (first ∷ (p ∷ ps)) (f, g)
 
-  joined_fit : (word : Token) (Part : Rule Predicate) → Keeps Part IsFitPredicate → Keeps (TakesJoined join word Part) IsFitPredicate
+  joined_fit : (word : FilterToken) (Part : Rule Predicate) → Keeps Part IsFitPredicate → Keeps (TakesJoined join word Part) IsFitPredicate
   joined_fit word Part keeps ts p rest f t =
       let one = keeps ts t.first t.mid f t.one in
       let others = more_fit word Part IsFitPredicate keeps t.mid t.others rest one.1 t.more in
@@ -321,12 +322,13 @@ module _ (scope : Scope) (s : IsFitScope scope) where
   factor_fit (suc n) ts p rest f (inr t) =
       group_fit (TakesOrs (TakesFactor scope n)) (ors_fit (TakesFactor scope n) (factor_fit n)) ts p rest f t
 
-  asked_fit : (head : Token) (name : Option element.Name) → IsFitToken head → AsksFor scope head name → IfSome name IsFitName
+  asked_fit : (head : FilterToken) (name : Option element.Name) → IsFitToken head → AsksFor scope head name → IfSome name IsFitName
   asked_fit head None f a = tt
   asked_fit head (Some name) f a = named_fit scope s a.0 name (subst IsFitToken a.1 f) a.2
 
   module _ (depth : ℕ) where
-    brackets_fit : (ts : List Token) (p : Option Predicate) (rest : List Token) → AreFitTokens ts → TakesPredicate scope depth ts p rest
+    brackets_fit : (ts : List FilterToken) (p : Option Predicate) (rest : List FilterToken) → AreFitTokens ts
+        → TakesPredicate scope depth ts p rest
         → IfSome p IsFitPredicate × AreFitTokens rest
     brackets_fit ts None rest f t = (tt, subst AreFitTokens t f)
     brackets_fit ts (Some p) rest f t =
@@ -339,7 +341,8 @@ module _ (scope : Scope) (s : IsFitScope scope) where
         let brackets = brackets_fit t.after test.predicate rest tokens.1 t.holds in
         (record { name = asked_fit t.head test.name tokens.0 t.asks; predicate = brackets.0 }, brackets.1)
 
-    tests_fit : (ts : List Token) (tests : List Test) → AreFitTokens ts → AreTests scope depth ts tests → AllByRecursion IsFitTest tests
+    tests_fit : (ts : List FilterToken) (tests : List Test) → AreFitTokens ts → AreTests scope depth ts tests
+        → AllByRecursion IsFitTest tests
     tests_fit ts [] f t = tt
     tests_fit ts (test ∷ tests) f t =
         let one = test_fit ts test t.0 f t.1 in

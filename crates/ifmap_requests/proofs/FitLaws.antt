@@ -17,8 +17,8 @@ use Rattle.ifmap_elem.specs.Spells.{Spells}
 use Rattle.ifmap_elem.specs.declared.elements.Child.TheOpen.{Child-F}
 use Rattle.ifmap_elem.specs.declared.elements.Element.{Element}
 use Rattle.ifmap_elem.specs.declared.readings.Reading.{Reading}
-use Rattle.ifmap_filter.specs.Holding.{is_name}
-use Rattle.ifmap_reader.specs.declared.scoping.Scope.{Scope}
+use Rattle.ifmap_forms.specs.ifmap_filter.Holding.{is_name}
+use Rattle.ifmap_ident.specs.ifmap_reader.declared.scoping.Scope.{Scope}
 use Rattle.ifmap_ident.specs.declared.codes.Code.{Code}
 use Rattle.ifmap_ident.specs.declared.codes.Code.TheVariants.{Failure, InvalidSchemaVersion}
 use Rattle.ifmap_ident.specs.declared.identifiers.Identifier.{Identifier}
@@ -35,7 +35,7 @@ use Rattle.ifmap_forms.specs.Items.{may_follow, only_identifier, start_content}
 use Rattle.ifmap_forms.specs.Scopes.{Scopes, scopes_below}
 use Rattle.ifmap_forms.specs.Tables.{Both, ContentCheck, Form, OneText, Part, AttributeTable, beside, both, each_element, form_check, form_or}
 use Rattle.ifmap_forms.specs.Tables.{is_white_part, list_of, no_attributes, no_children, element_parts, read_form}
-use Rattle.ifmap_filter.specs.declared.filters.Filter.{Filter}
+use Rattle.ifmap_forms.specs.ifmap_filter.declared.filters.Filter.{Filter}
 use Rattle.ifmap_ident.specs.declared.kinds.Kind.{Kind}
 use Rattle.ifmap_forms.specs.Values.{depth_field, filter_check, filter_field, kinds_field, size_field, Field, field_check, limit_field}
 use Rattle.ifmap_forms.specs.Values.{name_field, number_of, text_field, within_range}

@@ -9,7 +9,7 @@ use Rattle.std.specs.Str.{bytes_eq}
 use Rattle.std.proofs.lemmas.Bool.{cases_Bool}
 use Rattle.ifmap_elem.specs.Building.{is_bare}
 use Rattle.ifmap_elem.specs.declared.elements.Element.{Element}
-use Rattle.ifmap_filter.specs.Holding.{is_name}
+use Rattle.ifmap_forms.specs.ifmap_filter.Holding.{is_name}
 use Rattle.ifmap_ident.specs.declared.codes.Code.TheVariants.{Failure, InvalidSchemaVersion}
 use Rattle.ifmap_lemmas.specs.Texts.{eq_tells}
 use Rattle.ifmap_forms.specs.declared.errors.FormError.{FormError}
@@ -19,8 +19,8 @@ use Rattle.ifmap_forms.specs.AnswerLaws.{refused_test}
 use Rattle.ifmap_forms.specs.Checks.{Check, fail, need}
 use Rattle.ifmap_forms.specs.Scopes.{Scopes}
 use Rattle.ifmap_forms.specs.Tables.{form_check, form_or}
-use Rattle.ifmap_requests.specs.declared.asking.Asking.{Asking}
-use Rattle.ifmap_requests.specs.declared.asking.Asking.TheVariants as asking
+use Rattle.ifmap_requests.specs.declared.asking.RequestName.{RequestName}
+use Rattle.ifmap_requests.specs.declared.asking.RequestName.TheVariants as asking
 use Rattle.ifmap_requests.specs.declared.operations.Operation.{Operation}
 use Rattle.ifmap_requests.specs.declared.operations.Operation.TheVariants as operation
 use Rattle.ifmap_requests.specs.declared.publishing.PublishOp.{PublishOp}
@@ -150,8 +150,8 @@ module _ (scopes : Scopes) (e : Element) (space : bytes_eq e.name.space ifmap_sp
   abbrev from_renewal : Check Request
   from_renewal = form_or renew_form renewal_of scopes e from_end
 
-  module _ (a : Asking) (same : e.name.local ≡ asking_name a) where
-    abbrev beside : Asking → Bool
+  module _ (a : RequestName) (same : e.name.local ≡ asking_name a) where
+    abbrev beside : RequestName → Bool
     beside b = bytes_eq (asking_name a) (asking_name b)
 
     past_new_session : beside asking.NewSession ≡ false → (r : Result Request FormError) → IsChecked from_renewal r
@@ -229,8 +229,8 @@ module _ (scopes : Scopes) (e : Element) (space : bytes_eq e.name.space ifmap_sp
       (tested (asking_name asking.PurgePublisher) same (asking_name asking.PurgePublisher)) r f))))))
 
   -- a name that is no name of a request
-  module _ (none : (a : Asking) → e.name.local ≡ asking_name a → ⊥) where
-    unnamed : (a : Asking) → is_name e.name (record { space = ifmap_space; local = asking_name a }) ≡ false
+  module _ (none : (a : RequestName) → e.name.local ≡ asking_name a → ⊥) where
+    unnamed : (a : RequestName) → is_name e.name (record { space = ifmap_space; local = asking_name a }) ≡ false
     unnamed a = elim (cases_Bool (bytes_eq e.name.local (asking_name a))) [
       | inl hit ↦ absurd (none a (eq_tells e.name.local (asking_name a) hit))
       | inr miss ↦ λ i. space i && miss i

@@ -9,7 +9,7 @@ use Rattle.ifmap_elem.specs.Spells.{Spells}
 use Rattle.ifmap_elem.specs.declared.elements.Child as the
 use Rattle.ifmap_elem.specs.declared.elements.Element.{Element}
 use Rattle.ifmap_elem.specs.declared.readings.Reading.{Reading}
-use Rattle.ifmap_reader.specs.Reads.{IsTooDeep, IsUnreadable}
+use Rattle.ifmap_ident.specs.ifmap_reader.Reads.{IsTooDeep, IsUnreadable}
 use Rattle.ifmap_forms.specs.declared.errors.FormError.{FormError}
 use Rattle.ifmap_forms.specs.declared.errors.FormError.TheVariants as form
 use Rattle.ifmap_forms.specs.Answers.{IsChecked, IsCheckRefusal}

@@ -10,10 +10,10 @@ use Rattle.std.specs.List.{list_all}
 use Rattle.std.specs.Str.{bytes_eq}
 use Rattle.ifmap_elem.specs.Chars.{is_white}
 use Rattle.ifmap_elem.specs.declared.elements.Element.{Element}
-use Rattle.ifmap_reader.specs.declared.scoping.Scope.{Scope}
-use Rattle.ifmap_filter.specs.declared.filters.Filter.{Filter}
-use Rattle.ifmap_filter.specs.Laws.{OneFilter}
-use Rattle.ifmap_filter.specs.Texts.{Writes}
+use Rattle.ifmap_ident.specs.ifmap_reader.declared.scoping.Scope.{Scope}
+use Rattle.ifmap_forms.specs.ifmap_filter.declared.filters.Filter.{Filter}
+use Rattle.ifmap_forms.specs.ifmap_filter.Laws.{OneFilter}
+use Rattle.ifmap_forms.specs.ifmap_filter.Texts.{Writes}
 use Rattle.ifmap_ident.specs.declared.codes.Code.{Code}
 use Rattle.ifmap_ident.specs.declared.codes.Code.TheVariants.{AccessDenied, Failure, InvalidIdentifier, InvalidIdentifierType}
 use Rattle.ifmap_ident.specs.declared.codes.Code.TheVariants.{IdentifierTooLong, InvalidMetadata, InvalidSchemaVersion, InvalidSessionID}
@@ -30,7 +30,7 @@ use Rattle.ifmap_forms.specs.SingleLaws.{OneOfTable, OneOfContent, beside_single
 use Rattle.ifmap_forms.specs.SingleLaws.{no_attributes_single, no_children_single, identifiers_single, start_single, item_single}
 use Rattle.ifmap_forms.specs.Tables.{beside, both, form_or, list_of, no_attributes}
 use Rattle.ifmap_forms.specs.Values.{FilterDefect, depth_field, filter_check, filter_field, kinds_field, lifetime_field, limit_field}
-use Rattle.ifmap_forms.specs.Values.{name_field, size_field, kind_of, kinds_check, number_of, piece_check, pieces_of, read_depth}
+use Rattle.ifmap_forms.specs.Values.{name_field, size_field, kind_named, kinds_check, number_of, piece_check, pieces_of, read_depth}
 use Rattle.ifmap_forms.specs.Values.{read_filter, read_kinds, read_lifetime, read_limit, read_name, read_size, trim_white, within_range}
 use Rattle.ifmap_requests.specs.declared.requests.Request.{Request}
 use Rattle.ifmap_requests.specs.Published.{MetadataDefect, metadata_check, published_content, published_from}
@@ -83,7 +83,7 @@ kinds_single : (pieces : List (List ℕ)) → IsSingle (kinds_check pieces)
 kinds_single [] = pass_single []
 kinds_single (piece ∷ pieces) =
     then_single (piece_check piece) (λ kind. check_then (kinds_check pieces) (λ others. pass (kind ∷ others)))
-    (some_single InvalidIdentifierType (kind_of (trim_white piece)) (λ kind. pass kind) (λ kind. pass_single kind))
+    (some_single InvalidIdentifierType (kind_named (trim_white piece)) (λ kind. pass kind) (λ kind. pass_single kind))
     (λ kind. then_single (kinds_check pieces) (λ others. pass (kind ∷ others)) (kinds_single pieces)
     (λ others. pass_single (kind ∷ others)))
 

@@ -5,11 +5,11 @@ use Rattle.ifmap_elem.specs.Building.{bare_name}
 use Rattle.ifmap_elem.specs.Chars.{IsCharacters}
 use Rattle.ifmap_elem.specs.Fit.{IsFitName}
 use Rattle.ifmap_elem.specs.declared.elements.Name.{Name}
-use Rattle.ifmap_filter.specs.declared.filters.Predicate.{Predicate, fold-Predicate}
-use Rattle.ifmap_filter.specs.declared.filters.Predicate.TheOpen.{Predicate-F}
-use Rattle.ifmap_filter.specs.declared.filters.Test.{Test}
-use Rattle.ifmap_filter.specs.declared.filters.Filter.{Filter}
-use Rattle.ifmap_filter.specs.Printing.{CanBeParsed}
+use Rattle.ifmap_forms.specs.ifmap_filter.declared.filters.Predicate.{Predicate, fold-Predicate}
+use Rattle.ifmap_forms.specs.ifmap_filter.declared.filters.Predicate.TheOpen.{Predicate-F}
+use Rattle.ifmap_forms.specs.ifmap_filter.declared.filters.Test.{Test}
+use Rattle.ifmap_forms.specs.ifmap_filter.declared.filters.Filter.{Filter}
+use Rattle.ifmap_forms.specs.ifmap_filter.Printing.{CanBeParsed}
 
 -- what a comparison asks for: an attribute in no namespace or a child, of this name and with this value
 pub record Comparison : Type 0 where

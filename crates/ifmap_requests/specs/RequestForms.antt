@@ -1,17 +1,22 @@
 -- The table of requests: IF-MAP binding for SOAP, version 2.2, section 3.
+-- 1. The operations of a publish: the form of each, what is made of it, and which one an element is by its name.
+-- 2. Searches: the attributes in the table's order, and the search that they and an identifier make.
+-- 3. The operations of a subscribe, in the same way.
+-- 4. Requests but for a publish, each by its form, with the session as its first attribute.
+-- 5. The request that an element means by its name and namespace, or the code of its first defect (`request_check`).
 use Rattle.std.specs.Prelude.{ℕ, Bool, if◌then◌else◌, List, [], ◌∷◌, codes, Option, None, Some}
 use Rattle.std.specs.Str.{bytes_eq}
 use Rattle.ifmap_elem.specs.Building.{is_bare}
 use Rattle.ifmap_elem.specs.declared.elements.Element.{Element}
 use Rattle.ifmap_elem.specs.declared.elements.Name.{Name}
-use Rattle.ifmap_filter.specs.declared.filters.Filter.{Filter}
+use Rattle.ifmap_forms.specs.ifmap_filter.declared.filters.Filter.{Filter}
 use Rattle.ifmap_ident.specs.declared.codes.Code.TheVariants.{Failure, InvalidSchemaVersion}
 use Rattle.ifmap_ident.specs.declared.identifiers.Identifier.{Identifier}
 use Rattle.ifmap_ident.specs.declared.items.Item.{Item}
 use Rattle.ifmap_ident.specs.declared.kinds.Kind.{Kind}
 use Rattle.ifmap_meta.specs.declared.metadata.Metadata.{Metadata}
 use Rattle.ifmap_search.specs.declared.searches.Search.{Search}
-use Rattle.ifmap_reader.specs.declared.scoping.Scope.{Scope}
+use Rattle.ifmap_ident.specs.ifmap_reader.declared.scoping.Scope.{Scope}
 use Rattle.ifmap_ident.specs.Parts.{has_only}
 use Rattle.ifmap_requests.specs.declared.searching.Bounds.{Bounds}
 use Rattle.ifmap_envelopes.specs.Spaces.{ifmap_space}
@@ -22,8 +27,8 @@ use Rattle.ifmap_forms.specs.Tables.{Both, ContentCheck, Form, OneText, Attribut
 use Rattle.ifmap_forms.specs.Tables.{no_children, element_parts}
 use Rattle.ifmap_forms.specs.Values.{Field, depth_field, filter_field, kinds_field, lifetime_field, limit_field, name_field, size_field}
 use Rattle.ifmap_forms.specs.Values.{text_field}
-use Rattle.ifmap_requests.specs.declared.asking.Asking.{Asking}
-use Rattle.ifmap_requests.specs.declared.asking.Asking.TheVariants as asking
+use Rattle.ifmap_requests.specs.declared.asking.RequestName.{RequestName}
+use Rattle.ifmap_requests.specs.declared.asking.RequestName.TheVariants as asking
 use Rattle.ifmap_requests.specs.declared.operations.Operation.{Operation}
 use Rattle.ifmap_requests.specs.declared.operations.Operation.TheVariants as operation
 use Rattle.ifmap_requests.specs.declared.publishing.PublishOp.{PublishOp}
@@ -120,7 +125,7 @@ subscribe_op_check scopes e =
 -- ---- requests
 
 -- the names of requests but for a publish
-abbrev pub asking_name : Asking → List ℕ
+abbrev pub asking_name : RequestName → List ℕ
 asking_name asking.NewSession = codes "newSession"
 asking_name asking.RenewSession = codes "renewSession"
 asking_name asking.EndSession = codes "endSession"

@@ -2,8 +2,8 @@
 ghost use Rattle.std.specs.Prelude.{◌≡◌, true, IfSome, IsNone, None};
 ghost use Rattle.std.specs.Str.{bytes_eq};
 ghost use Rattle.ifmap_envelopes.specs.Spaces.{ifmap_space};
-ghost use Rattle.ifmap_filter.specs.Holding.{is_name};
-ghost use Rattle.ifmap_requests.specs.declared.asking.Asking.{Asking};
+ghost use Rattle.ifmap_forms.specs.ifmap_filter.Holding.{is_name};
+ghost use Rattle.ifmap_requests.specs.declared.asking.RequestName.{RequestName};
 ghost use Rattle.ifmap_forms.specs.Answers.{IsChecked, IsCheckedAs};
 ghost use Rattle.ifmap_forms.specs.Scopes.{Scopes, scopes_by};
 ghost use Rattle.ifmap_forms.specs.Tables.{form_check, read_form};
@@ -17,14 +17,14 @@ use ifmap_elem::{Element, Many, Name, Text};
 use ifmap_envelopes::IFMAP_SPACE;
 use ifmap_forms::parts::{are_blank, has_only};
 use ifmap_forms::values::{read_limit, read_text};
-use ifmap_forms::{FormError, Place};
+use ifmap_forms::{FormError, MessagePlace};
 use ifmap_ident::Code;
 use std::alloc::Global;
 
 // The request that an element at a place means.
 pub(crate) fn read_element(
     alloc: Global,
-    place: &Place<'_, '_>,
+    place: &MessagePlace<'_, '_>,
     element: Element,
 ) -> Result<Request, FormError>
     requires { place.now.child ≡ None }
@@ -55,7 +55,7 @@ fn is_publish(name: &Name) -> bool
 }
 
 /// The name of a request that is no publish.
-pub enum Asking {
+pub enum RequestName {
     NewSession,
     RenewSession,
     EndSession,
@@ -65,37 +65,41 @@ pub enum Asking {
     PurgePublisher,
 }
 
-fn asking_of(local: &str) -> Option<Asking>
+fn asking_of(local: &str) -> Option<RequestName>
     ensures found { IfSome result (λ asking. local.now ≡ asking_name asking) }
-    ensures none { IsNone result → (asking : Asking) → local.now ≡ asking_name asking → ⊥ }
+    ensures none { IsNone result → (asking : RequestName) → local.now ≡ asking_name asking → ⊥ }
 {
     match local {
-        "newSession" => Some(Asking::NewSession),
-        "renewSession" => Some(Asking::RenewSession),
-        "endSession" => Some(Asking::EndSession),
-        "poll" => Some(Asking::Poll),
-        "search" => Some(Asking::Search),
-        "subscribe" => Some(Asking::Subscribe),
-        "purgePublisher" => Some(Asking::PurgePublisher),
+        "newSession" => Some(RequestName::NewSession),
+        "renewSession" => Some(RequestName::RenewSession),
+        "endSession" => Some(RequestName::EndSession),
+        "poll" => Some(RequestName::Poll),
+        "search" => Some(RequestName::Search),
+        "subscribe" => Some(RequestName::Subscribe),
+        "purgePublisher" => Some(RequestName::PurgePublisher),
         _ => None,
     }
 }
 
 // The request that an element means which is no publish.
-fn read_named(alloc: Global, place: &Place<'_, '_>, element: &Element) -> Result<Request, FormError>
+fn read_named(
+    alloc: Global,
+    place: &MessagePlace<'_, '_>,
+    element: &Element,
+) -> Result<Request, FormError>
     requires place { place.now.child ≡ None }
     requires space { bytes_eq element.now.name.space ifmap_space ≡ true }
     ensures { IsChecked (other_request_check (scopes_by place.now.declared.now place.now.path.now)
         element.now) result }
 {
     match asking_of(element.name.local.as_str()) {
-        Some(Asking::NewSession) => read_new_session(element),
-        Some(Asking::RenewSession) => read_renewal(alloc, element),
-        Some(Asking::EndSession) => read_end_session(alloc, element),
-        Some(Asking::Poll) => read_poll(alloc, element),
-        Some(Asking::Search) => read_asked_search(alloc, place, element),
-        Some(Asking::Subscribe) => read_subscribe(alloc, place, element),
-        Some(Asking::PurgePublisher) => read_purge(alloc, element),
+        Some(RequestName::NewSession) => read_new_session(element),
+        Some(RequestName::RenewSession) => read_renewal(alloc, element),
+        Some(RequestName::EndSession) => read_end_session(alloc, element),
+        Some(RequestName::Poll) => read_poll(alloc, element),
+        Some(RequestName::Search) => read_asked_search(alloc, place, element),
+        Some(RequestName::Subscribe) => read_subscribe(alloc, place, element),
+        Some(RequestName::PurgePublisher) => read_purge(alloc, element),
         None => Err(FormError::Named(Code::Failure)),
     }
 }
@@ -156,7 +160,7 @@ fn read_session(alloc: Global, element: &Element) -> Result<Text, FormError>
 
 fn read_publish(
     alloc: Global,
-    place: &Place<'_, '_>,
+    place: &MessagePlace<'_, '_>,
     element: Element,
 ) -> Result<Request, FormError>
     requires { place.now.child ≡ None }
@@ -174,7 +178,7 @@ fn read_publish(
 
 fn read_asked_search(
     alloc: Global,
-    place: &Place<'_, '_>,
+    place: &MessagePlace<'_, '_>,
     element: &Element,
 ) -> Result<Request, FormError>
     requires { place.now.child ≡ None }
@@ -201,7 +205,7 @@ fn read_asked_search(
 
 fn read_subscribe(
     alloc: Global,
-    place: &Place<'_, '_>,
+    place: &MessagePlace<'_, '_>,
     element: &Element,
 ) -> Result<Request, FormError>
     requires { place.now.child ≡ None }

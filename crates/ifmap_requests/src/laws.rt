@@ -3,12 +3,10 @@ ghost use Rattle.ifmap_requests.specs.Laws.{FitMeaning, OneMeaning, OneRequest, 
 
 use ifmap_elem::laws::bytes_spell_one_element;
 use ifmap_envelopes::laws::{elements_are_envelopes_or_none, envelopes_hold_one_element};
-use ifmap_filter::laws::{text_is_filter_or_stops, text_is_one_filter};
+use ifmap_forms::{text_is_filter_or_stops, text_is_one_filter};
 use ifmap_ident::laws::elements_have_one_answer;
+use ifmap_ident::{bytes_spell_an_element_or_none, what_bytes_declare_fits, what_bytes_spell_fits};
 use ifmap_meta::laws::stamped_metadata_are_whole;
-use ifmap_reader::laws::{
-    bytes_spell_an_element_or_none, what_bytes_declare_fits, what_bytes_spell_fits,
-};
 
 /// In given scopes an element has one request or one code, and not both; and an element that a
 /// document can have has one of them.

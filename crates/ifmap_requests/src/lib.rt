@@ -14,7 +14,8 @@ mod searching;
 mod subscribing;
 
 pub use errors::Refusal;
-pub use ifmap_forms::FormError;
+pub use ifmap_envelopes::{ENVELOPE_SPACE, IFMAP_SPACE};
+pub use ifmap_forms::{Filter, FormError, meets_optional};
 pub use publishing::PublishOp;
 pub use reading::{read_request, request_of};
 pub use requests::{Request, SubscribeOp};

@@ -14,14 +14,14 @@ use ifmap_forms::gathering::keep_found;
 use ifmap_forms::identifiers::read_item;
 use ifmap_forms::parts::{has_only, is_white_alone};
 use ifmap_forms::values::{read_filter, read_lifetime};
-use ifmap_forms::{FormError, Place};
+use ifmap_forms::{FormError, MessagePlace};
 use ifmap_ident::Code;
 use std::alloc::Global;
 
 // The operations that the children of a publish are, where the place is that of the publish.
 pub(crate) fn read_publish_ops(
     alloc: Global,
-    place: &Place<'_, '_>,
+    place: &MessagePlace<'_, '_>,
     children: Vec<Child>,
 ) -> Result<Many<PublishOp>, FormError>
     requires { place.now.child ≡ None }
@@ -41,7 +41,7 @@ pub(crate) fn read_publish_ops(
 
 fn next_op(
     alloc: Global,
-    place: &Place<'_, '_>,
+    place: &MessagePlace<'_, '_>,
     index: usize,
     child: Child,
 ) -> Result<Option<PublishOp>, FormError>
@@ -84,7 +84,11 @@ fn operation_of(name: &Name) -> Option<Operation>
     }
 }
 
-fn read_op(alloc: Global, place: &Place<'_, '_>, element: Element) -> Result<PublishOp, FormError>
+fn read_op(
+    alloc: Global,
+    place: &MessagePlace<'_, '_>,
+    element: Element,
+) -> Result<PublishOp, FormError>
     ensures { IsChecked (publish_op_check (place_scopes place.now.declared.now place.now.path.now
         place.now.child) element) result }
 {
@@ -130,7 +134,7 @@ fn read_notify(alloc: Global, element: Element) -> Result<PublishOp, FormError>
 
 fn read_delete(
     alloc: Global,
-    place: &Place<'_, '_>,
+    place: &MessagePlace<'_, '_>,
     element: &Element,
 ) -> Result<PublishOp, FormError>
     ensures { IsChecked

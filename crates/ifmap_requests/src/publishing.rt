@@ -1,6 +1,6 @@
 //! What a publish asks for.
 use ifmap_elem::{Copied, Many};
-use ifmap_filter::Filter;
+use ifmap_forms::Filter;
 use ifmap_ident::Item;
 use ifmap_meta::Metadata;
 use std::alloc::{AllocError as NoMemory, Global};

@@ -14,9 +14,8 @@ use ifmap_elem::laws::bytes_spell_one_element;
 use ifmap_elem::{Child, Copied, Declared, Element, Reading};
 use ifmap_envelopes::{Inner, open_envelope};
 use ifmap_forms::places::narrow;
-use ifmap_forms::{FormError, Place};
-use ifmap_prefixes::Declarations;
-use ifmap_reader::{ReadError, read};
+use ifmap_forms::{Declarations, FormError, MessagePlace};
+use ifmap_ident::{ReadError, read};
 use std::alloc::Global;
 
 /// How many levels a request can have.
@@ -58,7 +57,7 @@ fn read_at(
     ensures { IsChecked (request_check (scopes_by declared.now path.now) element) result }
 {
     let declarations = Declarations::of(alloc, declared)?;
-    let place = Place {
+    let place = MessagePlace {
         declared: &declarations,
         path,
         child: None,

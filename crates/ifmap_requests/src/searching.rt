@@ -5,11 +5,10 @@ ghost use Rattle.ifmap_forms.specs.Scopes.{place_scope};
 ghost use Rattle.ifmap_requests.specs.RequestForms.{search_attributes, search_check, search_from, values_of};
 
 use ifmap_elem::{Element, Many};
-use ifmap_filter::Filter;
 use ifmap_forms::identifiers::read_start;
 use ifmap_forms::parts::has_only;
 use ifmap_forms::values::{read_depth, read_filter, read_kinds, read_size};
-use ifmap_forms::{FormError, Place};
+use ifmap_forms::{Filter, FormError, MessagePlace};
 use ifmap_ident::{Code, Identifier, Kind};
 use ifmap_search::Search;
 use std::alloc::Global;
@@ -27,7 +26,7 @@ pub struct Bounds {
 // The search of an element that may have these attributes and no others.
 pub(crate) fn read_search(
     alloc: Global,
-    place: &Place<'_, '_>,
+    place: &MessagePlace<'_, '_>,
     element: &Element,
     locals: &[&str],
 ) -> Result<Search, FormError>
@@ -42,7 +41,11 @@ pub(crate) fn read_search(
     Ok(search_from(start, bounds))
 }
 
-fn read_bounds(alloc: Global, place: &Place<'_, '_>, element: &Element) -> Result<Bounds, FormError>
+fn read_bounds(
+    alloc: Global,
+    place: &MessagePlace<'_, '_>,
+    element: &Element,
+) -> Result<Bounds, FormError>
     ensures { IsCheckedAs values_of (search_attributes.reads (place_scope place.now.declared.now
         place.now.path.now place.now.child) element.now) result }
 {

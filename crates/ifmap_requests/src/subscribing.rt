@@ -13,14 +13,14 @@ use ifmap_elem::{Child, Element, Many};
 use ifmap_forms::gathering::keep_found;
 use ifmap_forms::parts::{are_blank, has_only, is_white_alone};
 use ifmap_forms::values::read_name;
-use ifmap_forms::{FormError, Place};
+use ifmap_forms::{FormError, MessagePlace};
 use ifmap_ident::Code;
 use std::alloc::Global;
 
 // The operations that the children of a subscribe are, where the place is that of the subscribe.
 pub(crate) fn read_subscribe_ops(
     alloc: Global,
-    place: &Place<'_, '_>,
+    place: &MessagePlace<'_, '_>,
     children: &[Child],
 ) -> Result<Many<SubscribeOp>, FormError>
     requires { place.now.child ≡ None }
@@ -38,7 +38,7 @@ pub(crate) fn read_subscribe_ops(
 
 fn next_op(
     alloc: Global,
-    place: &Place<'_, '_>,
+    place: &MessagePlace<'_, '_>,
     index: usize,
     child: &Child,
 ) -> Result<Option<SubscribeOp>, FormError>
@@ -62,7 +62,7 @@ fn next_op(
 
 fn read_op(
     alloc: Global,
-    place: &Place<'_, '_>,
+    place: &MessagePlace<'_, '_>,
     element: &Element,
 ) -> Result<SubscribeOp, FormError>
     ensures { IsChecked (subscribe_op_check (place_scopes place.now.declared.now place.now.path.now
@@ -79,7 +79,7 @@ fn read_op(
 
 fn read_subscription(
     alloc: Global,
-    place: &Place<'_, '_>,
+    place: &MessagePlace<'_, '_>,
     element: &Element,
 ) -> Result<SubscribeOp, FormError>
     ensures { IsChecked (form_check subscription_form subscription_from_form (place_scopes

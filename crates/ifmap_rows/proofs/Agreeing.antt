@@ -19,7 +19,7 @@ use Rattle.ifmap_lemmas.specs.Orderings.{first_of_less}
 use Rattle.ifmap_meta.specs.declared.stored.Stored.{Stored}
 use Rattle.ifmap_meta.specs.Keys.{HaveOneKey, word_of}
 use Rattle.ifmap_meta.specs.laws.KeyWordLaws.{words_agree}
-use Rattle.ifmap_view.specs.Attachments.{stored_order}
+use Rattle.ifmap_plans.specs.ifmap_view.Attachments.{stored_order}
 use Rattle.ifmap_rows.specs.Indexed.{IsIndexed, word_order}
 
 -- ---- along the index

@@ -19,9 +19,9 @@ use Rattle.ifmap_lemmas.specs.Members.{both_all}
 use Rattle.ifmap_meta.specs.declared.stored.Stored.{Stored}
 use Rattle.ifmap_plans.specs.Lists.{put_each, without}
 use Rattle.ifmap_plans.specs.laws.KeyLaws.{stored_total}
-use Rattle.ifmap_view.specs.Attachments.{stored_order}
+use Rattle.ifmap_plans.specs.ifmap_view.Attachments.{stored_order}
 use Rattle.ifmap_rows.specs.Indexed.{IsIndexed, IsJoined, word_order}
-use Rattle.ifmap_rows.specs.laws.JoiningLaws.{differs, each_in, in_each, one_list, rises_apart, rising_each, stays}
+use Rattle.ifmap_rows.specs.laws.JoiningLaws.{fails_too, each_in, in_each, one_list, rises_apart, rising_each, stays}
 use Rattle.ifmap_rows.specs.laws.RisingLaws.{flip_eq}
 use Rattle.ifmap_rows.proofs.Keeping.{words_total, worded_equal}
 
@@ -31,7 +31,8 @@ module _ (X : Type 0) (C D : X → X → Ordering) (finer : (a s : X) → is_eq 
   unfolding IsStrictlySortedBy IsDistinct
   apart [] up = tt
   apart (x ∷ xs) up = (
-    all_weaker (λ y. C x y ≡ Less) (λ y. eq_by_cmp D x y ≡ false) (λ y l. differs (is_eq (D x y)) (is_eq (C x y)) (finer x y) (ap is_eq l))
+    all_weaker (λ y. C x y ≡ Less) (λ y. eq_by_cmp D x y ≡ false) (λ y l. fails_too (is_eq (D x y)) (is_eq (C x y)) (finer x y) (ap is_eq
+        l))
         xs up.0,
     apart xs up.1,
   )
@@ -42,7 +43,7 @@ module _ (X : Type 0) (C D : X → X → Ordering) (finer : (a s : X) → is_eq 
   stays_apart o w [] e = tt
   stays_apart o w (a ∷ adds) e =
       let p = or_parts (eq_by_cmp C a w) (list_any (λ r. eq_by_cmp C r w) adds) e in
-      (differs (is_eq (D w a)) (is_eq (C w a)) (finer w a) (flip_eq X C o w a ∙ p.0), stays_apart o w adds p.1)
+      (fails_too (is_eq (D w a)) (is_eq (C w a)) (finer w a) (flip_eq X C o w a ∙ p.0), stays_apart o w adds p.1)
 
 joined_apart : {X : Type 0} (e : X → X → Bool) (ws adds : List X) → IsDistinct e ws → IsDistinct e adds
     → ((w : X) → Has ws w → AllByRecursion (λ a. e w a ≡ false) adds) → IsDistinct e (ws ++ adds)

@@ -14,10 +14,10 @@ use Rattle.ifmap_meta.specs.declared.stored.Stored.{Stored}
 use Rattle.ifmap_plans.specs.Placing.{put}
 use Rattle.ifmap_plans.specs.laws.KeyLaws.{stored_total}
 use Rattle.ifmap_plans.specs.laws.PlacingLaws.{put_sorted}
-use Rattle.ifmap_view.specs.Attachments.{stored_order}
+use Rattle.ifmap_plans.specs.ifmap_view.Attachments.{stored_order}
 use Rattle.ifmap_rows.specs.Indexed.{IsIndexed, without_one, word_order}
 use Rattle.ifmap_meta.specs.Keys.{word_of}
-use Rattle.ifmap_rows.specs.laws.JoiningLaws.{differs}
+use Rattle.ifmap_rows.specs.laws.JoiningLaws.{fails_too}
 use Rattle.ifmap_rows.specs.laws.RisingLaws.{has_put, has_put_one, none_equal, only_one, put_again, put_has}
 
 pub empty : IsIndexed [] []
@@ -32,7 +32,7 @@ pub worded_equal : (a s : Stored) → is_eq (word_order a s) ≡ true → stored
 worded_equal a s e = (both_equal (nat_cmp (word_of a) (word_of s)) (stored_order a s) ((Equal-is (word_order a s)).0 e)).1
 
 worded_differs : (a s : Stored) → is_eq (stored_order a s) ≡ false → is_eq (word_order a s) ≡ false
-worded_differs a s e = differs (is_eq (word_order a s)) (is_eq (stored_order a s)) (λ t. ap is_eq (worded_equal a s t)) e
+worded_differs a s e = fails_too (is_eq (word_order a s)) (is_eq (stored_order a s)) (λ t. ap is_eq (worded_equal a s t)) e
 
 -- nothing has the bytes of a row that went
 gone : (r : Stored) (rows : List Stored) (s : Stored) → Has (without_one stored_order r rows) s → is_eq (stored_order r s) ≡ false
@@ -64,13 +64,13 @@ module _ (rows index : List Stored) (is : IsIndexed rows index) where
         let p = filter_has (λ x. not (eq_by_cmp word_order taken x)) index s h in
         let q = is.there s p.0 in
         has_filter (λ x. not (eq_by_cmp stored_order r x)) rows s q
-        (ap not (differs (is_eq (stored_order r s)) (is_eq (word_order taken s)) (told s q) (not-true (is_eq (word_order taken s)) p.1)))
+        (ap not (fails_too (is_eq (stored_order r s)) (is_eq (word_order taken s)) (told s q) (not-true (is_eq (word_order taken s)) p.1)))
 
     back_still : (s : Stored) → Has (without_one stored_order r rows) s → Has (without_one word_order taken index) s
     back_still s h =
         let p = filter_has (λ x. not (eq_by_cmp stored_order r x)) rows s h in
         has_filter (λ x. not (eq_by_cmp word_order taken x)) index s (is.back s p.0)
-        (ap not (differs (is_eq (word_order taken s)) (is_eq (stored_order r s)) (back_told s) (not-true (is_eq (stored_order r s)) p.1)))
+        (ap not (fails_too (is_eq (word_order taken s)) (is_eq (stored_order r s)) (back_told s) (not-true (is_eq (stored_order r s)) p.1)))
 
     pub take_keeps : IsIndexed (without_one stored_order r rows) (without_one word_order taken index)
     take_keeps = record {

@@ -7,7 +7,7 @@ use Rattle.std.specs.declared.cmp.Ordering.{Ordering}
 use Rattle.ifmap_lemmas.specs.Having.{Has}
 use Rattle.ifmap_meta.specs.declared.stored.Stored.{Stored}
 use Rattle.ifmap_plans.specs.Lists.{without}
-use Rattle.ifmap_view.specs.Attachments.{stored_order}
+use Rattle.ifmap_plans.specs.ifmap_view.Attachments.{stored_order}
 use Rattle.ifmap_meta.specs.Keys.{word_of}
 
 -- the order of the index: by the words of the keys, and for one word by the canonical bytes

@@ -5,12 +5,11 @@ ghost use Rattle.std.specs.List.Sorted.{IsStrictlySortedBy};
 ghost use Rattle.ifmap_meta.specs.Keys.{HaveOneKey, word_of};
 ghost use Rattle.ifmap_plans.specs.Lists.{without};
 ghost use Rattle.ifmap_plans.specs.Placing.{IsSpot, put};
-ghost use Rattle.ifmap_view.specs.Attachments.{stored_order};
+ghost use Rattle.ifmap_plans.specs.ifmap_view.Attachments.{stored_order};
 ghost use Rattle.ifmap_rows.specs.Indexed.{IsJoined, without_one, word_order};
 
 use crate::lists::{is_among, room_for};
-use ifmap_plans::row_order;
-use ifmap_view::Row;
+use ifmap_plans::{Row, row_order};
 use std::alloc::{AllocError as NoMemory, Global};
 use std::cmp::Ordering;
 use std::marker::Model;

@@ -2,10 +2,10 @@
 ghost use Rattle.std.specs.Prelude.{IfNone, IfSome, Contains};
 ghost use Rattle.std.specs.List.{AllByRecursion};
 ghost use Rattle.ifmap_meta.specs.Keys.{HaveOneKey};
-ghost use Rattle.ifmap_view.specs.Rows.{stored_on};
+ghost use Rattle.ifmap_plans.specs.ifmap_view.Rows.{stored_on};
 
 use ifmap_ident::Item;
-use ifmap_view::{Row, View};
+use ifmap_plans::{Row, View};
 
 /// A view that finds what is stored under a key.
 pub trait Keyed: View {

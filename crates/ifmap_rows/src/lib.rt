@@ -7,6 +7,7 @@ pub mod keyed;
 mod lists;
 pub mod rows;
 
+pub use ifmap_plans::{ItemChange, Items, Note, Plan, bytes_of, row_order};
 pub use keyed::Keyed;
 pub use lists::put_rows;
 pub use rows::Rows;

@@ -7,11 +7,10 @@ ghost use Rattle.std.specs.declared.cmp.Ordering.TheVariants.{Equal};
 ghost use Rattle.ifmap_lemmas.specs.Having.{Has};
 ghost use Rattle.ifmap_plans.specs.Lists.{put_each, without};
 ghost use Rattle.ifmap_plans.specs.Placing.{put};
-ghost use Rattle.ifmap_view.specs.Attachments.{stored_order};
+ghost use Rattle.ifmap_plans.specs.ifmap_view.Attachments.{stored_order};
 ghost use Rattle.ifmap_rows.specs.Indexed.{without_one};
 
-use ifmap_plans::{place_of, put_row, row_order};
-use ifmap_view::{Row, share_rows};
+use ifmap_plans::{Row, place_of, put_row, row_order, share_rows};
 use std::alloc::{AllocError as NoMemory, Global};
 use std::mem;
 

@@ -5,7 +5,7 @@ ghost use Rattle.std.specs.List.Sorted.{IsStrictlySortedBy};
 ghost use Rattle.ifmap_meta.specs.Keys.{HaveOneKey};
 ghost use Rattle.ifmap_plans.specs.Lists.{next_on, put_each, without};
 ghost use Rattle.ifmap_plans.specs.Placing.{put};
-ghost use Rattle.ifmap_view.specs.Attachments.{stored_order};
+ghost use Rattle.ifmap_plans.specs.ifmap_view.Attachments.{stored_order};
 ghost use Rattle.ifmap_rows.specs.Indexed.{without_one};
 
 use crate::index::{
@@ -15,7 +15,7 @@ use crate::index::{
 use crate::lists::{
     are_many_in_order, exchange_row, join_rows, merge_rows, share_others, take_row, take_rows,
 };
-use ifmap_view::Row;
+use ifmap_plans::Row;
 use std::alloc::{AllocError as NoMemory, Global};
 use std::marker::Model;
 use std::mem;

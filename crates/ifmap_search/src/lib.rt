@@ -5,6 +5,7 @@ pub mod results;
 pub mod searches;
 pub mod sizes;
 
+pub use ifmap_filter::{Filter, meets_optional};
 pub use results::{Entry, Found, PollItem, SearchError};
 pub use searches::Search;
 pub use sizes::poll_size;

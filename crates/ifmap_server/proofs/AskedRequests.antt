@@ -2,9 +2,9 @@
 use Rattle.std.proofs.Common.{◌≡◌, ℕ, List, length, Ok, Err, OnOk, IfOk, refl, ap, ◌∙◌, false}
 use Rattle.std.specs.Prelude.{Result}
 use Rattle.ifmap_ident.specs.declared.codes.Code.{Code}
-use Rattle.ifmap_machine.specs.declared.events.Ask.TheVariants as ask
-use Rattle.ifmap_machine.specs.State.{State}
-use Rattle.ifmap_machine.specs.Step.{refusal}
+use Rattle.ifmap_core.specs.ifmap_machine.declared.events.Ask.TheVariants as ask
+use Rattle.ifmap_core.specs.ifmap_machine.State.{State}
+use Rattle.ifmap_core.specs.ifmap_machine.Step.{refusal}
 use Rattle.ifmap_requests.specs.declared.errors.Refusal.TheVariants.{Named, Unreadable}
 use Rattle.ifmap_requests.specs.declared.requests.Request.{Request}
 use Rattle.ifmap_requests.specs.Means.{Means}

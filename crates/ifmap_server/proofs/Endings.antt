@@ -3,11 +3,11 @@ use Rattle.std.proofs.Common.{◌≡◌, ◌≢◌, ℕ, List, [], ◌++◌, Opt
 use Rattle.std.proofs.KnownBytes.{Keeps-refl}
 use Rattle.std.specs.Io.KnownBytes.{Appends, Keeps}
 use Rattle.ifmap_io.specs.Causes.{Rose}
+use Rattle.ifmap_input.specs.Inputs.{TakesFromSource}
 use Rattle.ifmap_server.specs.declared.errors.ReplayError.{ReplayError}
 use Rattle.ifmap_server.specs.declared.errors.ReplayError.TheVariants.{FrameFault, NoMemory, ReadFault, WriteFault}
 use Rattle.ifmap_server.specs.Awaited.{IsAwaited}
 use Rattle.ifmap_server.specs.Output.{AppendsPrefix, fault_line}
-use Rattle.ifmap_server.specs.Pending.{GrowsFromSource}
 use Rattle.ifmap_server.specs.Replayed.{ReplayPromises}
 use Rattle.ifmap_server.specs.Ends.{IsLaterMoment, SourceAndSink, source_and_sink}
 use Rattle.ifmap_server.specs.Turns.{BeginsNone, Replaying, IsReplayTurn}
@@ -17,9 +17,9 @@ use Rattle.ifmap_io.specs.Rises.{rose_since}
 
 -- no frame was taken: the turn ends as the taking did
 pub untaken : (e : ReplayError) (left_old left_new held : Option (List ℕ)) (reads_old reads_new writes : ℕ) (old new : Replaying)
-    → (e ≡ FrameFault → GrowsFromSource left_old left_new old.pending new.pending
+    → (e ≡ FrameFault → TakesFromSource left_old left_new old.pending new.pending
     × IfSome left_new (λ rest. (new.pending ++ rest ≢ []) × BeginsNone old.offset (new.pending ++ rest)))
-    → (e ≡ ReadFault → GrowsFromSource left_old left_new old.pending new.pending × IsAwaited old.offset new.pending)
+    → (e ≡ ReadFault → TakesFromSource left_old left_new old.pending new.pending × IsAwaited old.offset new.pending)
     → (e ≡ ReadFault → Rose reads_old reads_new)
     → e ≢ WriteFault → new.offset ≡ old.offset
     → IsReplayTurn (Err e) (source_and_sink left_old reads_old held writes) (source_and_sink left_new reads_new held writes) old new

@@ -9,12 +9,12 @@ use Rattle.std.proofs.lemmas.List.{drop_all, length-drop, length-replicate, leng
 use Rattle.std.proofs.Math.Seq.{drop-cons, drop-drop, get_or-append_seam, take-append_seam}
 use Rattle.std.specs.Io.KnownBytes.{IsAtEnd}
 use Rattle.std.specs.Prelude.{slice_range}
+use Rattle.ifmap_input.specs.Inputs.{TakesFromSource}
 use Rattle.ifmap_requests.specs.declared.errors.Refusal.TheVariants.{Unreadable}
 use Rattle.ifmap_server.specs.declared.headers.Header.{Header}
 use Rattle.ifmap_server.specs.declared.replaying.TakenFrame.{TakenFrame}
 use Rattle.ifmap_server.specs.Frames.{Frame, IsHeader, Meaning, frame_text}
-use Rattle.ifmap_server.specs.Awaited.{AwaitsBody, HasNoLine, IsAwaited}
-use Rattle.ifmap_server.specs.Pending.{IsHeaderLineEnd, GrowsFromSource}
+use Rattle.ifmap_server.specs.Awaited.{AwaitsBody, HasNoLine, IsAwaited, IsHeaderLineEnd}
 use Rattle.ifmap_server.specs.Script.{BeginsFrame, longest_script}
 use Rattle.ifmap_server.specs.Turns.{BeginsNone, IsFramed, frame_within}
 use Rattle.ifmap_server.proofs.HeaderLines.{header_of_line_one, line_of, line_text}
@@ -199,7 +199,7 @@ long_fault offset (Some rest) pending place h is header long =
     (not_empty_left pending rest (omega arith), too_long_none offset pending rest place h is header long)
 
 module _ (offset : ℕ) (left_old left : Option (List ℕ)) (mid new : List ℕ) (place : ℕ) (h : Header)
-    (took : GrowsFromSource left_old left mid new)
+    (took : TakesFromSource left_old left mid new)
     (is : IsHeaderLineEnd mid place) (header : IsHeader (take place mid) h) where
   pub short_none : length new < place + 1 + h.size → BeginsNone offset new
   short_none short =
@@ -231,7 +231,7 @@ module _ (offset : ℕ) (left_old left : Option (List ℕ)) (mid new : List ℕ)
 
 -- the body goes on with as many bytes as are missing
 module _ (offset : ℕ) (left_old left : Option (List ℕ)) (mid new : List ℕ) (place : ℕ) (h : Header)
-    (took : GrowsFromSource left_old left mid new)
+    (took : TakesFromSource left_old left mid new)
     (is : IsHeaderLineEnd mid place) (header : IsHeader (take place mid) h) where
   missing : List ℕ
   missing = replicate (place + 1 + h.size - length new) 0
@@ -244,7 +244,7 @@ module _ (offset : ℕ) (left_old left : Option (List ℕ)) (mid new : List ℕ)
   short_awaits short ends =
       let m = missing_length in
       let all = length-append new missing in
-      let more : GrowsFromSource None None mid (new ++ missing) = record {
+      let more : TakesFromSource None None mid (new ++ missing) = record {
         got = took.got ++ missing;
         consumed = tt;
         grown = ap (λ (b : List ℕ). b ++ missing) took.grown ∙ append_assoc mid took.got missing;

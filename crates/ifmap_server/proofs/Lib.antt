@@ -10,4 +10,3 @@ pub mod ScriptHistories
 pub mod Scripts
 pub mod SomeScript
 pub mod Splits
-pub mod Taking

@@ -5,11 +5,11 @@
 use Rattle.std.proofs.Common.{◌≡◌, ◌≢◌, ℕ, ◌+◌, List, [], ◌∷◌, ◌++◌, length, drop, None, Some, IfSome, refl, sym, ap, subst, ◌∙◌, append_assoc, append-nil, arith}
 use Rattle.std.proofs.lemmas.Option.{IfSome_then}
 use Rattle.std.specs.Prelude.{Option}
-use Rattle.std.proofs.KnownBytes.{Appends-kept, Appends-nil, Appends-trans, Consumes-nil, Consumes-trans, Keeps-refl}
+use Rattle.std.proofs.KnownBytes.{Appends-kept, Appends-nil, Appends-trans, Consumes-nil, Consumes-trans}
 use Rattle.std.proofs.Math.Seq.{drop-drop}
 use Rattle.std.proofs.lemmas.List.{drop_at}
 use Rattle.std.specs.Io.KnownBytes.{Appends, Consumes, IsAtEnd, Keeps}
-use Rattle.ifmap_machine.specs.State.{State}
+use Rattle.ifmap_core.specs.ifmap_machine.State.{State}
 use Rattle.ifmap_requests.specs.Laws.{OneMeaning}
 use Rattle.ifmap_requests.specs.Means.{Means}
 use Rattle.ifmap_server.specs.Awaited.{IsAwaited}
@@ -298,9 +298,3 @@ module _ (before mid after : SourceAndSink) (now : Replaying) (p : Progress befo
       appends_prefix before.held after.held last.held (answers p.done) line [] text
       (is ∙ ap (λ (x : List ℕ). x ++ line) same_done ∙ ap (λ (x : List ℕ). answers p.done ++ x) (sym (append-nil line)))
       (wrote_kept f.kept) told))
-
--- nothing was read or written
-pub nothing_done : (before : SourceAndSink) → AnswersPart before before
-nothing_done before =
-    some_for before.left (λ bytes. IsPart before before bytes)
-    (λ bytes text output. keeps_prefix before.held before.held text (Keeps-refl before.held))

@@ -1,11 +1,11 @@
 -- The history of a script: it is legal, and its events are fit.
 use Rattle.std.proofs.Common.{◌≡◌, ℕ, ◌+◌, List, [], ◌∷◌, ◌++◌, length, Option, None, Some, IfSome, Ok, Err, refl, subst}
 use Rattle.std.specs.List.{AllByRecursion}
-use Rattle.ifmap_machine.specs.declared.events.Answer.{Answer}
-use Rattle.ifmap_machine.specs.Events.{Event, IsFitEvent}
-use Rattle.ifmap_machine.specs.Legal.{AreFit, History, LegalFrom}
-use Rattle.ifmap_machine.specs.State.{State}
-use Rattle.ifmap_machine.specs.Step.{step}
+use Rattle.ifmap_core.specs.ifmap_machine.declared.events.Answer.{Answer}
+use Rattle.ifmap_core.specs.ifmap_machine.Events.{Event, IsFitEvent}
+use Rattle.ifmap_core.specs.ifmap_machine.Legal.{AreFit, History, LegalFrom}
+use Rattle.ifmap_core.specs.ifmap_machine.State.{State}
+use Rattle.ifmap_core.specs.ifmap_machine.Step.{step}
 use Rattle.ifmap_requests.specs.declared.errors.Refusal.TheVariants.{Named, Unreadable, NoMemory}
 use Rattle.ifmap_requests.specs.declared.requests.Request.{Request}
 use Rattle.ifmap_requests.specs.Fit.{IsFitRequest}

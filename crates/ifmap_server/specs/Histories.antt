@@ -1,8 +1,8 @@
 -- The history of the machine that a script makes.
 use Rattle.std.specs.Prelude.{List, [], ◌∷◌, ◌++◌, Ok, Err}
-use Rattle.ifmap_machine.specs.Legal.{History}
-use Rattle.ifmap_machine.specs.State.{State, opening, session_seconds}
-use Rattle.ifmap_machine.specs.Step.{step}
+use Rattle.ifmap_core.specs.ifmap_machine.Legal.{History}
+use Rattle.ifmap_core.specs.ifmap_machine.State.{State, opening, session_seconds}
+use Rattle.ifmap_core.specs.ifmap_machine.Step.{step}
 use Rattle.ifmap_server.specs.Frames.{Frame, Meaning}
 use Rattle.ifmap_server.specs.Output.{EventByRequest, event_of_frame, step_frame}
 

@@ -5,7 +5,6 @@ pub mod Frames
 pub mod Histories
 pub mod Lines
 pub mod Output
-pub mod Pending
 pub mod Replayed
 pub mod Script
 pub mod Statuses

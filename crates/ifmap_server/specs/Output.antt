@@ -2,13 +2,13 @@
 use Rattle.std.specs.Prelude.{◌≡◌, ℕ, List, [], ◌∷◌, ◌++◌, codes, length, Option, None, Some, Ok, Err, false, take}
 use Rattle.std.specs.Fmt.{decimal}
 use Rattle.std.specs.Io.KnownBytes.{Appends}
-use Rattle.ifmap_machine.specs.declared.events.Answer.{Answer}
-use Rattle.ifmap_machine.specs.declared.events.Answer.TheVariants.{Reply, Held, Heard}
-use Rattle.ifmap_machine.specs.declared.events.Ask.TheVariants as ask
-use Rattle.ifmap_machine.specs.Events.{Event}
-use Rattle.ifmap_machine.specs.State.{State, opening, session_seconds}
-use Rattle.ifmap_machine.specs.Step.{refusal, step}
-use Rattle.ifmap_replies.specs.Results.{reply_bytes}
+use Rattle.ifmap_core.specs.ifmap_machine.declared.events.Answer.{Answer}
+use Rattle.ifmap_core.specs.ifmap_machine.declared.events.Answer.TheVariants.{Reply, Held, Heard}
+use Rattle.ifmap_core.specs.ifmap_machine.declared.events.Ask.TheVariants as ask
+use Rattle.ifmap_core.specs.ifmap_machine.Events.{Event}
+use Rattle.ifmap_core.specs.ifmap_machine.State.{State, opening, session_seconds}
+use Rattle.ifmap_core.specs.ifmap_machine.Step.{refusal, step}
+use Rattle.ifmap_core.specs.ifmap_replies.Results.{reply_bytes}
 use Rattle.ifmap_requests.specs.declared.errors.Refusal.TheVariants.{Named, Unreadable, NoMemory}
 use Rattle.ifmap_requests.specs.declared.requests.Request.{Request}
 use Rattle.ifmap_server.specs.Frames.{Frame, Meaning}

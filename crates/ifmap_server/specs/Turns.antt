@@ -1,8 +1,9 @@
 -- One turn of a replay: a frame is taken and answered, or the replay ends. No public clause cites this file.
 use Rattle.std.specs.Prelude.{◌≡◌, ◌≢◌, ℕ, ◌+◌, ◌≤◌, List, [], ◌++◌, drop, length, slice_range, IfSome, Result, Ok, Err, false}
 use Rattle.std.specs.Io.KnownBytes.{Appends, IsAtEnd, Keeps}
-use Rattle.ifmap_machine.specs.declared.events.Ask.TheVariants as ask
-use Rattle.ifmap_machine.specs.State.{State, opening, session_seconds}
+use Rattle.ifmap_input.specs.Inputs.{TakesFromSource}
+use Rattle.ifmap_core.specs.ifmap_machine.declared.events.Ask.TheVariants as ask
+use Rattle.ifmap_core.specs.ifmap_machine.State.{State, opening, session_seconds}
 use Rattle.ifmap_server.specs.declared.errors.ReplayError.{ReplayError}
 use Rattle.ifmap_server.specs.declared.errors.ReplayError.TheVariants.{FrameFault, NoMemory, ReadFault, WriteFault}
 use Rattle.ifmap_server.specs.declared.headers.Header.{Header}
@@ -13,7 +14,6 @@ use Rattle.ifmap_requests.specs.Means.{Means}
 use Rattle.ifmap_server.specs.Awaited.{IsAwaited}
 use Rattle.ifmap_server.specs.Frames.{Frame, Meaning, frame_text}
 use Rattle.ifmap_server.specs.Output.{AppendsPrefix, EventByRequest, step_frame}
-use Rattle.ifmap_server.specs.Pending.{GrowsFromSource}
 use Rattle.ifmap_server.specs.Script.{BeginsFrame, longest_script}
 use Rattle.ifmap_server.specs.Ends.{ReadFailed, SourceAndSink, WriteFailed}
 
@@ -71,7 +71,7 @@ module _ (before after : SourceAndSink) (old : Replaying) where
   pub record Answers (new : Replaying) : Type 0 where
     pub frame : Frame
     pub taken : List ℕ
-    pub takes : GrowsFromSource before.left after.left old.pending taken
+    pub takes : TakesFromSource before.left after.left old.pending taken
     pub begins : BeginsFrame old.offset taken frame new.pending
     pub means : Means frame.body frame.meaning
     pub state : new.state ≡ (step_frame old.state frame).0
@@ -80,21 +80,21 @@ module _ (before after : SourceAndSink) (old : Replaying) where
 
   -- nothing was pending, and the source is at its end
   pub record IsOver : Type 0 where
-    pub takes : GrowsFromSource before.left after.left old.pending []
+    pub takes : TakesFromSource before.left after.left old.pending []
     pub end : IsAtEnd after.left
     pub kept : Keeps before.held after.held
 
   -- no frame begins, whatever the source has left
   pub record IsFaulty : Type 0 where
     pub taken : List ℕ
-    pub takes : GrowsFromSource before.left after.left old.pending taken
+    pub takes : TakesFromSource before.left after.left old.pending taken
     pub fault : IfSome after.left (λ rest. (taken ++ rest ≢ []) × BeginsNone old.offset (taken ++ rest))
     pub kept : Keeps before.held after.held
 
   -- a read failed that was due
   pub record IsUnread : Type 0 where
     pub taken : List ℕ
-    pub takes : GrowsFromSource before.left after.left old.pending taken
+    pub takes : TakesFromSource before.left after.left old.pending taken
     pub awaited : IsAwaited old.offset taken
     pub kept : Keeps before.held after.held
     pub cause : ReadFailed before after
@@ -104,7 +104,7 @@ module _ (before after : SourceAndSink) (old : Replaying) where
     pub frame : Frame
     pub taken : List ℕ
     pub rest : List ℕ
-    pub takes : GrowsFromSource before.left after.left old.pending taken
+    pub takes : TakesFromSource before.left after.left old.pending taken
     pub begins : BeginsFrame old.offset taken frame rest
     pub means : Means frame.body frame.meaning
     pub wrote : AppendsPrefix before.held after.held (step_frame old.state frame).1

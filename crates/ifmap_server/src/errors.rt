@@ -3,7 +3,7 @@ ghost use Rattle.std.specs.Prelude.{◌≡◌};
 ghost use Rattle.ifmap_server.specs.Statuses.{status_of};
 ghost use Rattle.ifmap_server.specs.declared.errors.ReplayError.TheVariants.{NoMemory};
 
-use crate::statuses::{DONE, FRAME_FAULT, NO_MEMORY, READ_FAULT, WRITE_FAULT};
+use ifmap_io::statuses::{DONE, NO_MEMORY, READ_FAULT, SCRIPT_FAULT, WRITE_FAULT};
 use std::alloc::AllocError;
 
 /// Why a replay ends before its source does.
@@ -33,7 +33,7 @@ pub fn status_of(ended: Result<(), ReplayError>) -> u8
 {
     match ended {
         Ok(()) => DONE,
-        Err(ReplayError::FrameFault) => FRAME_FAULT,
+        Err(ReplayError::FrameFault) => SCRIPT_FAULT,
         Err(ReplayError::ReadFault) => READ_FAULT,
         Err(ReplayError::WriteFault) => WRITE_FAULT,
         Err(ReplayError::NoMemory) => NO_MEMORY,

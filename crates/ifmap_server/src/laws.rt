@@ -1,14 +1,14 @@
 //! Laws of scripts, over all bytes.
 ghost use Rattle.std.specs.Prelude.{◌≡◌, ℕ, List, Option};
-ghost use Rattle.ifmap_machine.specs.Agreeing.{Agrees};
-ghost use Rattle.ifmap_machine.specs.Legal.{AreFit, Legal};
-ghost use Rattle.ifmap_machine.specs.State.{session_seconds};
+ghost use Rattle.ifmap_core.specs.ifmap_machine.Agreeing.{Agrees};
+ghost use Rattle.ifmap_core.specs.ifmap_machine.Legal.{AreFit, Legal};
+ghost use Rattle.ifmap_core.specs.ifmap_machine.State.{session_seconds};
 ghost use Rattle.ifmap_server.specs.Frames.{Frame};
 ghost use Rattle.ifmap_server.specs.Histories.{history_of};
 ghost use Rattle.ifmap_server.specs.Output.{IsOutput};
 ghost use Rattle.ifmap_server.specs.Script.{IsScript};
 
-use ifmap_machine::laws::clients_fold_fresh_results;
+use ifmap_core::clients_fold_fresh_results;
 use ifmap_requests::laws::{
     bodies_have_one_meaning, bodies_mean_fit_requests, bodies_mean_something,
 };

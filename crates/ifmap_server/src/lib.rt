@@ -3,13 +3,12 @@
 
 mod errors;
 mod headers;
-mod input;
 mod laws;
 mod replaying;
 mod replies;
 mod running;
 mod sending;
-pub mod statuses;
+mod waiting;
 
 pub use laws::{bytes_are_one_script, bytes_have_some_output};
 pub use running::replay;

@@ -2,11 +2,11 @@
 ghost use Rattle.std.specs.Prelude.{◌≡◌, ◌≢◌, ◌≤◌, [], ◌++◌, length, IfErr, IfOk, IfSome, None, OnOk, Some};
 ghost use Rattle.std.specs.Io.KnownBytes.{Appends, IsAtEnd, Keeps};
 ghost use Rattle.ifmap_io.specs.Causes.{Rose};
+ghost use Rattle.ifmap_input.specs.Inputs.{TakesFromSource};
 ghost use Rattle.ifmap_server.specs.declared.headers.Header.{Header};
 ghost use Rattle.ifmap_server.specs.Awaited.{IsAwaited};
 ghost use Rattle.ifmap_requests.specs.Fit.{IsFitRequest};
 ghost use Rattle.ifmap_server.specs.Output.{AppendsPrefix, fault_line, step_request};
-ghost use Rattle.ifmap_server.specs.Pending.{GrowsFromSource};
 ghost use Rattle.ifmap_server.specs.Replayed.{ReplayPromises};
 ghost use Rattle.ifmap_server.specs.Script.{longest_script};
 ghost use Rattle.ifmap_server.specs.Ends.{IsLaterMoment, source_and_sink};
@@ -14,16 +14,16 @@ ghost use Rattle.ifmap_server.specs.Turns.{BeginsNone, IsAnswered, IsFramed, IsR
 
 use crate::errors::ReplayError;
 use crate::headers::{Header, header_of};
-use crate::input::Input;
 use crate::replies::AnswerText;
 use crate::sending::send;
-use ifmap_core::Core;
+use crate::waiting::{await_bytes, await_line};
+use ifmap_core::{Ask, Core, Event, SESSION_SECONDS};
+use ifmap_input::Input;
 use ifmap_io::{Sink, Source};
-use ifmap_machine::{Ask, Event, SESSION_SECONDS};
 use ifmap_requests::laws::{bodies_have_one_meaning, bodies_mean_fit_requests};
 use ifmap_requests::{Refusal, Request, read_request};
 use ifmap_steps::Steps;
-use std::alloc::{AllocError as NoMemory, Global};
+use std::alloc::Global;
 use std::marker::Model;
 use std::sync::ledger::Ledger;
 
@@ -40,7 +40,7 @@ pub struct TakenFrame {
 
 /// Takes the next frame, and leaves it pending; `None` at the end of the source. The frame begins at
 /// that offset of the script.
-#[tactic(auto, using(crate::proofs::Taking::takes_nothing, crate::proofs::Taking::takes_more, ifmap_io::specs::Rises::rose_since, crate::proofs::Framing::no_line_none))]
+#[tactic(auto, using(ifmap_input::specs::InputLaws::takes_nothing, ifmap_input::specs::InputLaws::takes_more, ifmap_io::specs::Rises::rose_since, crate::proofs::Framing::no_line_none))]
 pub fn next_frame<S: Source>(
     alloc: Global,
     input: &mut Input,
@@ -48,32 +48,32 @@ pub fn next_frame<S: Source>(
     source: &mut S,
 ) -> Result<Option<TakenFrame>, ReplayError>
     requires { offset ≤ longest_script }
-    ensures taken { OnOk result (GrowsFromSource (S.left source.old) (S.left source.new) input.old
+    ensures taken { OnOk result (TakesFromSource (S.left source.old) (S.left source.new) input.old
         input.new) }
     ensures frame { IfOk result (λ found. IfSome found
         (λ framed. IsFramed offset input.new framed)) }
     ensures end { result ≡ Ok None → IsAtEnd (S.left source.new) × (input.new ≡ []) }
     ensures fault { result ≡ Err ReplayError.FrameFault →
-        GrowsFromSource (S.left source.old) (S.left source.new) input.old input.new
+        TakesFromSource (S.left source.old) (S.left source.new) input.old input.new
         × IfSome (S.left source.new) (λ rest.
         (input.new ++ rest ≢ []) × BeginsNone offset (input.new ++ rest)) }
     ensures read { result ≡ Err ReplayError.ReadFault →
-        GrowsFromSource (S.left source.old) (S.left source.new) input.old input.new
+        TakesFromSource (S.left source.old) (S.left source.new) input.old input.new
         × IsAwaited offset input.new }
     ensures rose { result ≡ Err ReplayError.ReadFault
         → Rose (S.faults source.old) (S.faults source.new) }
     ensures cause { result ≢ Err ReplayError.WriteFault }
     ensures later { S.faults source.old ≤ S.faults source.new }
 {
-    let Some(line) = input.await_line(source)? else {
+    let Some(line) = await_line(input, source)? else {
         return Ok(None);
     };
-    let Some(header) = header_of(alloc, &input.pending()[..line])? else {
+    let Some(header) = header_of(alloc, &input.pending_bytes()[..line])? else {
         return Err(ReplayError::FrameFault);
     };
     let start = line + 1;
     let end = start + header.size as usize;
-    if end as u64 > LONGEST_SCRIPT - offset || !input.await_bytes(source, end)? {
+    if end as u64 > LONGEST_SCRIPT - offset || !await_bytes(input, source, end)? {
         return Err(ReplayError::FrameFault);
     }
     Ok(Some(TakenFrame { header, start, end }))
@@ -175,14 +175,14 @@ impl Model for Replay {
 
 impl Replay {
     /// Nothing taken yet, before the opening state.
-    pub fn new(alloc: Global) -> Result<Replay, NoMemory>
-        ensures { IfOk result (λ replay. replay ≡ replay_beginning) }
+    pub fn new(alloc: Global) -> Replay
+        ensures { result ≡ replay_beginning }
     {
-        Ok(Replay {
+        Replay {
             core: Core::new(alloc, SESSION_SECONDS),
-            input: Input::new(alloc)?,
+            input: Input::new(alloc),
             offset: 0,
-        })
+        }
     }
 
     /// Answers the next frame.
@@ -209,7 +209,7 @@ impl Replay {
             return Ok(Turn::Ended);
         };
         let TakenFrame { header, start, end } = framed;
-        let body = &self.input.pending()[start..end];
+        let body = &self.input.pending_bytes()[start..end];
         let text = answer_frame(alloc, &mut self.core, header, body, steps)?;
         text.send(sink)?;
         self.input.advance(end);

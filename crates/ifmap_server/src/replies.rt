@@ -2,16 +2,15 @@
 ghost use Rattle.std.specs.Prelude.{◌≡◌, IfErr, IfOk};
 ghost use Rattle.ifmap_io.specs.Causes.{HasCause};
 ghost use Rattle.ifmap_io.specs.Written.{WritesAll};
-ghost use Rattle.ifmap_machine.specs.Step.{refusal};
+ghost use Rattle.ifmap_core.specs.ifmap_machine.Step.{refusal};
 ghost use Rattle.ifmap_server.specs.Output.{answer_text, unreadable_text};
 
 use crate::errors::ReplayError;
 use crate::sending::{hand_on, write};
+use ifmap_core::{Answer, Reply, write_reply};
 use ifmap_elem::{Many, Text};
 use ifmap_ident::Code;
 use ifmap_io::Sink;
-use ifmap_machine::Answer;
-use ifmap_replies::{Reply, write_reply};
 use std::alloc::{AllocError as NoMemory, Global};
 use std::marker::Model;
 

@@ -6,7 +6,6 @@ ghost use Rattle.ifmap_server.specs.Ends.{source_and_sink};
 use crate::errors::status_of;
 use crate::laws::scripts_agree;
 use crate::replaying::Replay;
-use crate::statuses::NO_MEMORY;
 use ifmap_io::{Sink, Source};
 use ifmap_steps::Steps;
 use std::alloc::Global;
@@ -49,8 +48,6 @@ fn replay_from<S: Source, K: Sink, L: Ledger>(
 {
     scripts_agree();
     let mut steps: Steps<L> = Steps::from_blank(blank);
-    let Ok(mut replay) = Replay::new(alloc) else {
-        return NO_MEMORY;
-    };
+    let mut replay = Replay::new(alloc);
     status_of(replay.run(alloc, source, sink, &mut steps))
 }

@@ -5,39 +5,39 @@ use Rattle.std.proofs.lemmas.Bool.Decides.{nat_tests}
 use Rattle.std.proofs.lemmas.List.{get_or-set_same, get_or-set_other}
 use Rattle.ifmap_desks.specs.declared.events.FitEvent.{FitEvent}
 use Rattle.ifmap_desks.specs.declared.machine.CoreMachine.{CoreMachine}
-use Rattle.ifmap_hall.specs.declared.view.View.{View}
+use Rattle.ifmap_hall.specs.declared.view.HallView.{HallView}
 use Rattle.ifmap_hall.specs.Passes.{IsOf, view_of}
 use Rattle.ifmap_hall.specs.Views.{IsSound, given_view, kept_view}
-use Rattle.ifmap_machine.specs.declared.events.Answer.{Answer}
+use Rattle.ifmap_desks.specs.ifmap_machine.declared.events.Answer.{Answer}
 use Rattle.ifmap_serving.specs.declared.stands.Stand.{Stand}
 use Rattle.ifmap_serving.specs.Stands.{IsReadied, IsServerView, IsStandServed, OpensServer, ServerHall, WorksBy, words_at}
 use Rattle.ifmap_serving.specs.Works.{DoorSeen}
 
 -- a pass that was split from, and one that was split off
-pub opens_kept : (v w : View CoreMachine FitEvent Answer) → OpensServer v → w ≡ kept_view v → IsSound w → OpensServer w
+pub opens_kept : (v w : HallView CoreMachine FitEvent Answer) → OpensServer v → w ≡ kept_view v → IsSound w → OpensServer w
 opens_kept v w o is sound = record {
   view = record {
-    opening = ap (λ (x : View CoreMachine FitEvent Answer). x.terms.opening.value) is ∙ o.view.opening;
-    limit = ap (λ (x : View CoreMachine FitEvent Answer). x.terms.limit) is ∙ o.view.limit;
-    heaviest = ap (λ (x : View CoreMachine FitEvent Answer). x.terms.heaviest) is ∙ o.view.heaviest;
+    opening = ap (λ (x : HallView CoreMachine FitEvent Answer). x.terms.opening.value) is ∙ o.view.opening;
+    limit = ap (λ (x : HallView CoreMachine FitEvent Answer). x.terms.limit) is ∙ o.view.limit;
+    heaviest = ap (λ (x : HallView CoreMachine FitEvent Answer). x.terms.heaviest) is ∙ o.view.heaviest;
     sound = sound;
   };
-  idle = ap (λ (x : View CoreMachine FitEvent Answer). x.turns) is ∙ o.idle;
-  asked_none = ap (λ (x : View CoreMachine FitEvent Answer). x.mine) is ∙ o.asked_none;
-  silent = ap (λ (x : View CoreMachine FitEvent Answer). x.said) is ∙ o.silent;
+  idle = ap (λ (x : HallView CoreMachine FitEvent Answer). x.turns) is ∙ o.idle;
+  asked_none = ap (λ (x : HallView CoreMachine FitEvent Answer). x.mine) is ∙ o.asked_none;
+  silent = ap (λ (x : HallView CoreMachine FitEvent Answer). x.said) is ∙ o.silent;
 }
 
-pub opens_given : (v w : View CoreMachine FitEvent Answer) → OpensServer v → w ≡ given_view v → IsSound w → OpensServer w
+pub opens_given : (v w : HallView CoreMachine FitEvent Answer) → OpensServer v → w ≡ given_view v → IsSound w → OpensServer w
 opens_given v w o is sound = record {
   view = record {
-    opening = ap (λ (x : View CoreMachine FitEvent Answer). x.terms.opening.value) is ∙ o.view.opening;
-    limit = ap (λ (x : View CoreMachine FitEvent Answer). x.terms.limit) is ∙ o.view.limit;
-    heaviest = ap (λ (x : View CoreMachine FitEvent Answer). x.terms.heaviest) is ∙ o.view.heaviest;
+    opening = ap (λ (x : HallView CoreMachine FitEvent Answer). x.terms.opening.value) is ∙ o.view.opening;
+    limit = ap (λ (x : HallView CoreMachine FitEvent Answer). x.terms.limit) is ∙ o.view.limit;
+    heaviest = ap (λ (x : HallView CoreMachine FitEvent Answer). x.terms.heaviest) is ∙ o.view.heaviest;
     sound = sound;
   };
-  idle = ap (λ (x : View CoreMachine FitEvent Answer). x.turns) is;
-  asked_none = ap (λ (x : View CoreMachine FitEvent Answer). x.mine) is;
-  silent = ap (λ (x : View CoreMachine FitEvent Answer). x.said) is;
+  idle = ap (λ (x : HallView CoreMachine FitEvent Answer). x.turns) is;
+  asked_none = ap (λ (x : HallView CoreMachine FitEvent Answer). x.mine) is;
+  silent = ap (λ (x : HallView CoreMachine FitEvent Answer). x.said) is;
 }
 
 module _ {D G : Type 0} (hall : ServerHall) (before items : List (Stand D G)) (index : ℕ) (made : Stand D G) where

@@ -2,7 +2,7 @@
 use Rattle.std.proofs.Common.{◌≡◌, ℕ, ◌<◌, Some, subst, arith}
 use Rattle.rand_chacha.specs.ChaCha.{ChaCha}
 use Rattle.ifmap_desks.specs.Machines.{CoreView}
-use Rattle.ifmap_dialogue.specs.Desks.{CountsOn, CountRises}
+use Rattle.ifmap_desks.specs.ifmap_dialogue.Desks.{CountsOn, CountRises}
 use Rattle.ifmap_serving.specs.Stands.{ServerHall, WorksBy}
 use Rattle.ifmap_serving.specs.Works.{DoorSeen}
 

@@ -6,15 +6,15 @@ use Rattle.ifmap_io.specs.Causes.{Rose}
 use Rattle.ifmap_io.specs.Doors.{Doorway, Hands, StaysOpen, TakesBack}
 use Rattle.ifmap_io.specs.Links.{Seen, wire_link_seen}
 use Rattle.ifmap_http.specs.Wires.{Wired}
-use Rattle.ifmap_dialogue.specs.declared.endings.Ending.{Ending}
-use Rattle.ifmap_dialogue.specs.Desks.{DeskTakesTurns}
-use Rattle.ifmap_dialogue.specs.Dialogue.{Serves}
-use Rattle.ifmap_dialogue.specs.Scenes.{scene}
-use Rattle.ifmap_dialogue.specs.Wires.{wire_seen}
+use Rattle.ifmap_desks.specs.ifmap_dialogue.declared.endings.Ending.{Ending}
+use Rattle.ifmap_desks.specs.ifmap_dialogue.Desks.{DeskTakesTurns}
+use Rattle.ifmap_desks.specs.ifmap_dialogue.Dialogue.{Serves}
+use Rattle.ifmap_desks.specs.ifmap_dialogue.Scenes.{scene}
+use Rattle.ifmap_desks.specs.ifmap_dialogue.Wires.{wire_seen}
 use Rattle.ifmap_serving.specs.Connections.{Connection, FollowOn, IsServed, ServesLink, Worker}
 use Rattle.ifmap_serving.specs.Works.{DoorSeen, IsWorkStatus, Works}
 use Rattle.ifmap_serving.proofs.Leading.{leads_more, leads_none, leads_on, none_left}
-use Rattle.ifmap_dialogue.specs.Telling.{tells_more, tells_none}
+use Rattle.ifmap_desks.specs.ifmap_dialogue.Telling.{tells_more, tells_none}
 
 -- no connection was served yet
 pub works_first : {H : Type 0} (gives : ℕ → Type 0) (w : Worker H) (door : DoorSeen) → Works gives w w door door

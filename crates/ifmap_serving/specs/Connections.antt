@@ -3,11 +3,11 @@ use Rattle.std.specs.Prelude.{◌≡◌, ℕ, Bool, false, List, [], ◌∷◌}
 use Rattle.std.specs.Io.KnownBytes.{prepend_known}
 use Rattle.rand_chacha.specs.ChaCha.{ChaCha}
 use Rattle.ifmap_io.specs.Links.{Seen}
-use Rattle.ifmap_dialogue.specs.declared.endings.Ending.{Ending}
-use Rattle.ifmap_dialogue.specs.Desks.{DeskSeen, Turn}
-use Rattle.ifmap_dialogue.specs.Dialogue.{Serves}
-use Rattle.ifmap_dialogue.specs.Scenes.{scene}
-use Rattle.ifmap_dialogue.specs.Wires.{WireSeen}
+use Rattle.ifmap_desks.specs.ifmap_dialogue.declared.endings.Ending.{Ending}
+use Rattle.ifmap_desks.specs.ifmap_dialogue.Desks.{DeskSeen, Turn}
+use Rattle.ifmap_desks.specs.ifmap_dialogue.Dialogue.{Serves}
+use Rattle.ifmap_desks.specs.ifmap_dialogue.Scenes.{scene}
+use Rattle.ifmap_desks.specs.ifmap_dialogue.Wires.{WireSeen}
 
 -- a worker between two connections: its desk, and its stream of words
 pub record Worker (H : Type 0) : Type 0 where

@@ -2,17 +2,17 @@
 use Rattle.std.specs.Prelude.{◌≡◌, ℕ, ◌-◌, ◌^◌, ◌<◌, ◌==◌, List, [], Some, IfSome, IsSome, count_by, flat_map, length, map, slice_index_or, if◌then◌else◌}
 use Rattle.std.specs.List.{list_any}
 use Rattle.rand_chacha.specs.ChaCha.{ChaCha, of_seed}
-use Rattle.ifmap_dialogue.specs.Desks.{is_spent}
+use Rattle.ifmap_desks.specs.ifmap_dialogue.Desks.{is_spent}
 use Rattle.ifmap_desks.specs.Calls.{plain_call}
 use Rattle.ifmap_desks.specs.Recalls.{Recalls}
 use Rattle.ifmap_desks.specs.declared.events.FitEvent.{FitEvent}
 use Rattle.ifmap_desks.specs.declared.machine.CoreMachine.{CoreMachine}
 use Rattle.ifmap_hall.specs.declared.hall.Hall.{Hall}
-use Rattle.ifmap_hall.specs.declared.view.View.{View}
+use Rattle.ifmap_hall.specs.declared.view.HallView.{HallView}
 use Rattle.ifmap_hall.specs.Passes.{IsOf, view_of}
 use Rattle.ifmap_hall.specs.Views.{IsSound}
-use Rattle.ifmap_machine.specs.declared.events.Answer.{Answer}
-use Rattle.ifmap_machine.specs.State.{opening, session_seconds}
+use Rattle.ifmap_desks.specs.ifmap_machine.declared.events.Answer.{Answer}
+use Rattle.ifmap_desks.specs.ifmap_machine.State.{opening, session_seconds}
 use Rattle.ifmap_serving.specs.declared.stands.Stand.{Stand}
 use Rattle.ifmap_serving.specs.Connections.{Connection, Worker}
 use Rattle.ifmap_serving.specs.Works.{DoorSeen, IsWorkStatus, Works}
@@ -23,14 +23,14 @@ ServerHall = Hall CoreMachine FitEvent Answer
 
 -- a pass of a hall of these limits that began with an empty core. Its base is the run of some entries from there, since the entries that
 -- it has seen are all since the opening state, and as many of them are in the base
-pub record IsServerView (v : View CoreMachine FitEvent Answer) : Type 0 where
+pub record IsServerView (v : HallView CoreMachine FitEvent Answer) : Type 0 where
   pub opening : v.terms.opening.value ≡ record { core = opening session_seconds }
   pub limit : v.terms.limit ≡ 500_000_000
   pub heaviest : v.terms.heaviest ≡ 80_001_000
   pub sound : IsSound v
 
 -- the same of a pass that has asked nothing
-pub record OpensServer (v : View CoreMachine FitEvent Answer) : Type 0 where
+pub record OpensServer (v : HallView CoreMachine FitEvent Answer) : Type 0 where
   pub view : IsServerView v
   pub idle : v.turns ≡ 0
   pub asked_none : v.mine ≡ []
@@ -44,7 +44,8 @@ words_at key number = record (of_seed key) { stream = number }
 -- end all that the pass has said, which is what the machine answered at the places of the pass's own entries. The pass took as many
 -- turns as the connections have; where no number was left for one of them, the pass has seen 2^64 - 1 entries; and the status is that
 -- of how the work ended
-pub record WorksBy (gives : ℕ → Type 0) (hall : ServerHall) (words : ChaCha) (v : View CoreMachine FitEvent Answer) (door left : DoorSeen)
+pub record WorksBy (gives : ℕ → Type 0) (hall : ServerHall) (words : ChaCha) (v : HallView CoreMachine FitEvent Answer) (door left :
+    DoorSeen)
     (status : ℕ) : Type 0 where
   pub first : Worker ServerHall
   pub last : Worker ServerHall

@@ -2,7 +2,7 @@
 use Rattle.std.specs.Prelude.{◌≡◌, ℕ, ◌-◌, ◌≤◌, ◌⊎◌, List, [], ◌++◌, Option, None, Some, IfSome, IsNone, flat_map, length, map, take}
 use Rattle.ifmap_io.specs.Causes.{Rose}
 use Rattle.ifmap_io.specs.Doors.{Doorway}
-use Rattle.ifmap_dialogue.specs.Desks.{DeskTakesTurns}
+use Rattle.ifmap_desks.specs.ifmap_dialogue.Desks.{DeskTakesTurns}
 use Rattle.ifmap_serving.specs.Connections.{Connection, FollowOn, Worker}
 
 -- a door: its links, where they are told, and how often `accept` has failed

@@ -6,6 +6,7 @@ mod serving;
 mod stands;
 mod working;
 
+pub use ifmap_desks::{AFTER_ANSWER, Gate};
 pub use serving::serve;
 pub use stands::Stand;
 pub use working::work;

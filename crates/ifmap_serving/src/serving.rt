@@ -8,13 +8,11 @@ ghost use Rattle.ifmap_serving.specs.Stands.{IsStandServed, ServerHall, WorksBy,
 ghost use Rattle.ifmap_serving.specs.Works.{door_seen};
 
 use crate::stands::Stand;
-use crate::working::{DOOR_FAILED, NONE_LEFT, work};
-use ifmap_core::Core;
-use ifmap_desks::{CoreMachine, PassDesk, silent_passes_recall};
-use ifmap_dialogue::Gate;
+use crate::working::work;
+use ifmap_desks::{Core, CoreMachine, Gate, PassDesk, SESSION_SECONDS, silent_passes_recall};
 use ifmap_hall::{Hall, Pass};
+use ifmap_io::statuses::{DONE, LINK_FAULT, NO_MEMORY};
 use ifmap_io::{Clock, Door};
-use ifmap_machine::SESSION_SECONDS;
 use rand_chacha::ChaCha20Rng;
 use rand_core::SeedableRng;
 use std::alloc::{AllocError as NoMemory, Global};
@@ -27,9 +25,6 @@ pub const MOST_KEPT: u64 = 500_000_000;
 
 /// What one event may weigh at most, in bytes.
 pub const HEAVIEST: u64 = 80_001_000;
-
-/// The status where memory is wanting for a hall and its passes.
-pub const NO_MEMORY: u8 = 6;
 
 // What all workers have in common.
 #[derive(Drop)]
@@ -230,16 +225,12 @@ fn words_at(key: [u8; 32], number: u32) -> ChaCha20Rng
 fn status_of<D, G>(stands: &[Stand<D, G>]) -> u8
     ensures { result ≡ status_of stands.now }
 {
-    if has_failed(stands) {
-        DOOR_FAILED
-    } else {
-        NONE_LEFT
-    }
+    if has_failed(stands) { LINK_FAULT } else { DONE }
 }
 
 // The door of a stand failed.
 fn has_failed<D, G>(stands: &[Stand<D, G>]) -> bool
     ensures { result ≡ list_any (λ (s : Stand D G). s.status == 7) stands.now }
 {
-    stands.iter().any(|stand| stand.status == DOOR_FAILED)
+    stands.iter().any(|stand| stand.status == LINK_FAULT)
 }

@@ -1,21 +1,16 @@
 //! Work at a door: its connections are served one after another.
-ghost use Rattle.ifmap_dialogue.specs.Desks.{desk_seen};
+ghost use Rattle.ifmap_desks.specs.ifmap_dialogue.Desks.{desk_seen};
 ghost use Rattle.ifmap_io.specs.Links.{wire_link_seen};
 ghost use Rattle.ifmap_serving.specs.Connections.{ServesLink, worker};
 ghost use Rattle.ifmap_serving.specs.Works.{IsWorkStatus, Works, door_seen};
 
-use ifmap_dialogue::{Desk, Gate, serve_connection};
+use ifmap_desks::{Desk, Gate, serve_connection};
 use ifmap_http::Wire;
+use ifmap_io::statuses::{DONE, LINK_FAULT};
 use ifmap_io::{Clock, Door, Link};
 use rand_chacha::ChaCha20Rng;
 use std::alloc::Global;
 use std::sync::Wait;
-
-/// The status of work that ended where the door had no link left.
-pub const NONE_LEFT: u8 = 0;
-
-/// The status of work that ended where the door failed.
-pub const DOOR_FAILED: u8 = 7;
 
 /// Serves the connections of a door one after another, each over a wire of its own, and hands each
 /// link back to the door. The status is 0 where the door has no link left, and 7 where it fails. The
@@ -39,10 +34,10 @@ pub fn work<R: Wait, K: Desk, D: Door, C: Clock, G: Gate>(
 {
     for _ in rt.forever() {
         let Ok(next) = door.accept() else {
-            return DOOR_FAILED;
+            return LINK_FAULT;
         };
         let Some(link) = next else {
-            return NONE_LEFT;
+            return DONE;
         };
         let link = serve_link(alloc, desk, link, clock, words, gate);
         door.ended(link);

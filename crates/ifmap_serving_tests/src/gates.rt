@@ -1,6 +1,5 @@
 //! Gates by which one worker waits for another.
-use ifmap_dialogue::Gate;
-use ifmap_dialogue::desks::AFTER_ANSWER;
+use ifmap_serving::{AFTER_ANSWER, Gate};
 use std::sync::atomic::{AtomicU64, Ordering};
 use std::thread;
 use std::time::{Clock, Duration};

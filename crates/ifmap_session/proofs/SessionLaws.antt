@@ -27,7 +27,7 @@ use Rattle.ifmap_session.specs.Seats.{Seat}
 use Rattle.ifmap_session.specs.SessionIds.{BeginsWithSerial, hyphen}
 use Rattle.ifmap_session.specs.Sessions.{IsLive, Session, change, is_same_text, most_sessions, session_of_client, session_order, session_with_id, session_with_serial, without_sessions}
 use Rattle.ifmap_session.specs.laws.TableLaws.{KeepsIdAndClient, clients_same, length_same, one_changed, one_numbered}
-use Rattle.ifmap_session.specs.laws.TextLaws.{all_found, distinct_filter, distinct_push, find_none, rest_differ, text_is, text_itself}
+use Rattle.ifmap_session.specs.laws.TextLaws.{all_found, distinct_filter, distinct_keys_push, find_none, rest_differ, text_is, text_itself}
 use Rattle.ifmap_session.proofs.Halving.{filter_same, find_insert, place_for, placed}
 use Rattle.ifmap_session.proofs.RowLaws.{Own, Up, begun_last, changed, counted_filter, counted_push, counted_set, empty_row, ended, found, own_filter, own_push, own_set, row_of, seats_filter}
 use Rattle.ifmap_lemmas.specs.Filters.{all_weaker, filter_all, filter_passes, filter_shorter}
@@ -452,7 +452,7 @@ rows_begun counter rows y kept small none few own =
       small = omega arith;
       own = own_push counter rows (row_of (counter + 1) y) kept.own kept.counted (omega arith) own;
       counted = counted_push counter rows (row_of (counter + 1) y) kept.counted refl;
-      apart = rw live (distinct_push (λ (s : Session). s.client) (live_of rows) y.session kept.apart none);
+      apart = rw live (distinct_keys_push (λ (s : Session). s.client) (live_of rows) y.session kept.apart none);
       few = rw live (length_more (live_of rows) y.session few);
     } where
       length_more : (xs : List Session) (x : Session) → length xs < most_sessions → length (xs ++ x ∷ []) ≤ most_sessions

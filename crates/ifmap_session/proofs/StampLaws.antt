@@ -1,5 +1,10 @@
 -- The stamps of rows: as rows are stamped one by one, as one changes, and what the least and those that are due say of the
 -- sessions.
+-- 1. Rows up to a place are stamped (`StampedTo`): as it begins, one row on, and at the end.
+-- 2. A stamped list of which a row changes, gains a row, or has a row that keeps its stamp.
+-- 3. A session is expired exactly where its stamp is due, so the nodes that are due give the serials of those (`due_serials`).
+-- 4. Whether any is due is told by the least stamp, at the root (`root_any`).
+-- 5. Each node that is due is that of a row; and all of it once more in the words of the code (`any_is`, `due_is`).
 use Rattle.std.proofs.Common.{◌≡◌, ◌≢◌, ◌⊎◌, refl, sym, ◌∙◌, ap, subst, ℕ, zero, suc, ◌+◌, ◌-◌, ◌*◌, ◌<◌, ◌≤◌, ◌==◌, nat_le, true, false, List, [], ◌∷◌, ◌++◌, length, map, set, Option, None, Some, inl, inr, arith}
 use Rattle.std.proofs.lemmas.Bool.{cases_Bool, cases_lt, both_ways}
 use Rattle.std.proofs.lemmas.Bool.Decides.{nat_tests}

@@ -9,3 +9,5 @@ pub mod Rows
 pub mod Places
 -- Laws on the definitions, which crates above cite.
 pub mod laws
+-- What is passed on to the crates above.
+pub mod ifmap_search

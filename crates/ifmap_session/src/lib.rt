@@ -13,6 +13,7 @@ mod sessions;
 mod stamps;
 
 pub use errors::BeginError;
+pub use ifmap_search::{PollItem, Search, SearchError};
 pub use limits::limit_of;
 pub use openings::{Begun, Opening};
 pub use queues::named_size;

@@ -1,10 +1,8 @@
 //! The server: two workers at one listener, each for one connection, as the program serves.
-use ifmap_drill::NoProgress;
 use ifmap_io::{MemoryClock, MemorySink, MemorySource, Moment, TcpDoor};
-use ifmap_program::{Setting, run};
+use ifmap_program::{NoProgress, RunSetting, Stand, run};
 use ifmap_program_tests::gates::OpenGate;
 use ifmap_program_tests::makers::words_of;
-use ifmap_serving::Stand;
 use ifmap_serving_tests::doors::ShortDoor;
 use std::alloc::{AllocError as NoMemory, Global};
 use std::net::TcpListener;
@@ -43,7 +41,7 @@ fn serve_stands<R: Threads + Wait + Sync>(
     let mut source = MemorySource::new(Vec::new(alloc), Vec::new(alloc));
     let mut sink = MemorySink::new(Vec::new(alloc), Vec::new(alloc));
     let clock = still_clock();
-    let setting = Setting {
+    let setting = RunSetting {
         rt,
         alloc,
         key: [7; 32],

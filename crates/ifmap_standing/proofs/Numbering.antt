@@ -9,20 +9,20 @@ use Rattle.std.specs.List.{Contains}
 use Rattle.ifmap_delta.specs.declared.subscriptions.Subscription.{Subscription}
 use Rattle.ifmap_delta.specs.Sights.{AreMarks, IsUpToDate, Links, ViewSeen, is_terminal_in}
 use Rattle.ifmap_delta.specs.Ways.{HasSameSearch}
-use Rattle.ifmap_fresh.specs.Fresh.{fresh_size}
-use Rattle.ifmap_fresh.specs.Linking.{end_where, is_terminal_at}
-use Rattle.ifmap_fresh.specs.Matching.{one_meets}
+use Rattle.ifmap_delta.specs.ifmap_fresh.Fresh.{fresh_size}
+use Rattle.ifmap_delta.specs.ifmap_fresh.Linking.{end_where, is_terminal_at}
+use Rattle.ifmap_delta.specs.ifmap_fresh.Matching.{one_meets}
 use Rattle.ifmap_ident.specs.declared.identifiers.Identifier.{Identifier}
-use Rattle.ifmap_region.specs.Marks.{mark_of}
-use Rattle.ifmap_region.specs.Walks.{HasDepth}
-use Rattle.ifmap_search.specs.declared.searches.Search.{Search}
+use Rattle.ifmap_delta.specs.ifmap_region.Marks.{mark_of}
+use Rattle.ifmap_delta.specs.ifmap_region.Walks.{HasDepth}
+use Rattle.ifmap_delta.specs.ifmap_search.declared.searches.Search.{Search}
 use Rattle.ifmap_standing.specs.Ways.{IsWayGivenUp, Way}
 use Rattle.ifmap_view.specs.declared.attachments.Attachment.{Attachment}
 use Rattle.ifmap_view.specs.declared.views.LinkSeen.{LinkSeen}
 use Rattle.ifmap_view.specs.Rows.{stored_linked}
 use Rattle.ifmap_view.specs.Views.{IsView, others}
-use Rattle.ifmap_region.specs.DepthLaws.{depths_same, walk_over}
-use Rattle.ifmap_fresh.specs.laws.JoiningLaws.{some_there}
+use Rattle.ifmap_delta.specs.ifmap_region.DepthLaws.{depths_same, walk_over}
+use Rattle.ifmap_delta.specs.ifmap_fresh.laws.JoiningLaws.{some_there}
 
 -- what is stored on a link is stored between two identifiers
 named : (rows : List Attachment) (x y : Option Identifier) → stored_linked x y rows ≢ []

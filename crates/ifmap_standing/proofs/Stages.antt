@@ -1,12 +1,12 @@
 -- Telling a list of subscriptions, from the first on. First the steps of one more (`within_more`), and of none (`within_none`). Then
 -- a relation at each place, of which one is written (`at_set`). Then what holds as far as the loop has come (`Stage`): as it begins,
 -- one on, where one fails, and at its end.
-use Rattle.std.proofs.Common.{◌≡◌, ◌≢◌, inl, inr, ℕ, zero, suc, ◌+◌, ◌<◌, ◌≤◌, Bool, true, false, Option, Some, List, [], ◌∷◌, ◌++◌, length, map, set, slice_get, take, drop, refl, ap, ◌∙◌, sym, subst, arith}
+use Rattle.std.proofs.Common.{◌≡◌, ◌≢◌, inl, inr, ℕ, zero, suc, ◌+◌, ◌<◌, ◌≤◌, Bool, true, false, Option, Some, List, [], ◌∷◌, ◌++◌, length, map, get_or, set, slice_get, take, drop, refl, ap, ◌∙◌, sym, subst, arith}
 use Rattle.std.specs.List.{zip}
 use Rattle.std.proofs.lemmas.Bool.{cases_order}
 use Rattle.std.proofs.lemmas.List.{length-append, length-set, map-append, take-append-drop, take_all}
 use Rattle.std.proofs.Math.Numerals.{add-one}
-use Rattle.std.proofs.lemmas.Option.{slice_get_past, slice_get_within, same_Some, none-some}
+use Rattle.std.proofs.lemmas.Option.{slice_get_past, slice_get_within, slice_get-get_or, same_Some, none-some}
 use Rattle.std.proofs.lemmas.Slice.Zip.{length-zip}
 use Rattle.ifmap_delta.specs.declared.subscriptions.Subscription.{Subscription}
 use Rattle.ifmap_delta.specs.Bounds.{IsNear, one_and_links}
@@ -14,8 +14,8 @@ use Rattle.ifmap_delta.specs.Sights.{IsUpToDate, ViewSeen}
 use Rattle.ifmap_delta.specs.Ways.{HasSameSearch}
 use Rattle.ifmap_lemmas.specs.Places.{last_there, written_elsewhere, written_there}
 use Rattle.ifmap_machine.specs.State as machine
-use Rattle.ifmap_plans.specs.declared.plans.Note.{Note}
-use Rattle.ifmap_region.specs.Bounds.{within_nothing}
+use Rattle.ifmap_delta.specs.ifmap_plans.declared.plans.Note.{Note}
+use Rattle.ifmap_delta.specs.ifmap_region.Bounds.{within_nothing}
 use Rattle.ifmap_standing.specs.Bounds.{IsWithinEach, IsWithinWhere}
 use Rattle.ifmap_standing.specs.declared.standing.Standing.{Standing}
 use Rattle.ifmap_standing.specs.declared.telling.News.{News}
@@ -75,20 +75,18 @@ module _ (old new : ViewSeen) where
   within_more ps skip x a b c s t = within_joined ps ((skip, x) ∷ []) a b c s (c, t, omega arith)
 
 -- a relation at each place, one of which is written
-at_set : {X : Type 0} (R S : ℕ → X → X → Type 0) (xs now after : List X) (n : ℕ) (x y : X) → AtEach R xs now
-    → slice_get xs n ≡ Some x → n < length now → after ≡ set now n y → S n x y
-    → ((i : ℕ) (a b : X) → i ≢ n → R i a b → S i a b) → AtEach S xs after
-at_set R S xs now after n x y r here within so is others = record {
-  long = ap length so ∙ length-set now n y ∙ r.long;
+at_set : {X : Type 0} (R S : ℕ → X → X → Type 0) (xs now : List X) (n : ℕ) (x y : X) → AtEach R xs now → slice_get xs n ≡ Some x
+    → n < length now → S n x y → ((i : ℕ) (a b : X) → i ≢ n → R i a b → S i a b) → AtEach S xs (set now n y)
+at_set R S xs now n x y r here within is others = record {
+  long = length-set now n y ∙ r.long;
   at = λ i a b p q. elim (cases_order i n) [
     | inl e ↦
         let one : x ≡ a = same_Some x a (sym here ∙ ap (slice_get xs) (sym e) ∙ p)
-        in let two : y ≡ b = same_Some y b (sym (written_there now n y within) ∙ ap (λ l. slice_get l n) (sym so)
-        ∙ ap (slice_get after) (sym e) ∙ q)
+        in let two : y ≡ b = same_Some y b (sym (written_there now n y within) ∙ ap (slice_get (set now n y)) (sym e) ∙ q)
         in subst (λ j. S j a b) (sym e) (subst (λ z. S n z b) one (subst (λ z. S n x z) two is))
     | inr o ↦
         let apart : i ≢ n = λ e. elim o [ inl l ↦ omega (arith, l, e) | inr l ↦ omega (arith, l, e) ]
-        in others i a b apart (r.at i a b p (sym (written_elsewhere now n i y apart) ∙ ap (λ l. slice_get l i) (sym so) ∙ q))
+        in others i a b apart (r.at i a b p (sym (written_elsewhere now n i y apart) ∙ q))
   ];
 }
 
@@ -131,111 +129,136 @@ module _ (old new : ViewSeen) (notes : List Note) (skipped : List Bool) (xs : Li
     within = omega arith;
   }
 
-  module _ (n : ℕ) (news : List News) (ways : List (Option Way)) (now : List Standing) (steps : ℕ) (s : Stage n news ways now steps)
-      (skip : Bool) (x y : Standing) (flag : slice_get skipped n ≡ Some skip) (here : slice_get now n ≡ Some x)
-      (after : List Standing) (so : after ≡ set now n y) (more : ℕ) (within : IsWithinWhere old new skip x steps more) where
-    before : slice_get xs n ≡ Some x
-    before = sym (s.rest n (omega arith)) ∙ here
+-- one more is told, or fails
+module _ {old new : ViewSeen} {notes : List Note} {skipped : List Bool} {xs : List Standing} {begun n : ℕ} {news : List News}
+    {ways : List (Option Way)} {now : List Standing} {steps : ℕ} (s : Stage old new notes skipped xs begun n news ways now steps)
+    (flags : length skipped ≡ length xs) (less : n < length skipped) (fallback : Standing) where
+  -- whether it is skipped, and what stands at its place
+  abbrev skip : Bool
+  skip = get_or skipped n false
 
-    low : n < length now
-    low = slice_get_within now n x here
+  abbrev x : Standing
+  x = get_or now n fallback
 
-    one_on : take (n + 1) (zip skipped xs) ≡ take n (zip skipped xs) ++ (skip, x) ∷ []
-    one_on = ap (λ k. take k (zip skipped xs)) (add-one n) ∙ zip_more skipped xs n skip x flag before
+  low : n < length now
+  low = omega (arith, less, flags, s.skips.long)
 
-    pub steps_next : IsWithinEach old new (take (n + 1) (zip skipped xs)) begun more
-    steps_next = subst (λ ps. IsWithinEach old new ps begun more) (sym one_on)
-        (within_more old new (take n (zip skipped xs)) skip x begun steps more s.within within)
+  flag : slice_get skipped n ≡ Some skip
+  flag = slice_get-get_or skipped n false less
 
-    pub steps_end : IsWithinEach old new (zip skipped xs) begun more
-    steps_end = subst (λ ps. IsWithinEach old new ps begun more) (take-append-drop (n + 1) (zip skipped xs))
-        (within_joined old new (take (n + 1) (zip skipped xs)) (drop (n + 1) (zip skipped xs)) begun more more steps_next
-        (within_none old new (drop (n + 1) (zip skipped xs)) more))
+  here : slice_get now n ≡ Some x
+  here = slice_get-get_or now n fallback low
 
-    -- one fails, and keeps what it kept
-    pub ways_failed : StaysRelated KeepsSame x y → LeadBack xs ways after
-    ways_failed same = record {
-      long = omega (arith, s.lead.long, ap length so ∙ length-set now n y);
-      each = at_set (λ i. StaysRelated (LeadsBackWhere (slice_get ways i))) (λ i. StaysRelated (LeadsBackWhere (slice_get ways i))) xs now
-          after n x y
-          s.lead.each before low so
-          (subst (λ o. StaysRelated (LeadsBackWhere o) x y) (sym (slice_get_past ways n (omega (arith, s.count)))) same)
-          (λ i a b apart r. r);
+  before : slice_get xs n ≡ Some x
+  before = sym (s.rest n (omega arith)) ∙ here
+
+  -- it keeps what it kept before the first was told
+  pub kept_so_far : ((i : ℕ) (y : Standing) → slice_get xs i ≡ Some y → slice_get skipped i ≡ Some false → IsUpToDate old y.subscription)
+      → skip ≡ false → IsUpToDate old x.subscription
+  kept_so_far kept none = kept n x before (flag ∙ ap Some none)
+
+  one_on : take (n + 1) (zip skipped xs) ≡ take n (zip skipped xs) ++ (skip, x) ∷ []
+  one_on = ap (λ k. take k (zip skipped xs)) (add-one n) ∙ zip_more skipped xs n skip x flag before
+
+  steps_next : (more : ℕ) → IsWithinWhere old new skip x steps more → IsWithinEach old new (take (n + 1) (zip skipped xs)) begun more
+  steps_next more within = subst (λ ps. IsWithinEach old new ps begun more) (sym one_on)
+      (within_more old new (take n (zip skipped xs)) skip x begun steps more s.within within)
+
+  pub steps_end : (more : ℕ) → IsWithinWhere old new skip x steps more → IsWithinEach old new (zip skipped xs) begun more
+  steps_end more within = subst (λ ps. IsWithinEach old new ps begun more) (take-append-drop (n + 1) (zip skipped xs))
+      (within_joined old new (take (n + 1) (zip skipped xs)) (drop (n + 1) (zip skipped xs)) begun more more (steps_next more within)
+      (within_none old new (drop (n + 1) (zip skipped xs)) more))
+
+  -- one fails, and keeps what it kept
+  pub ways_failed : (y : Standing) → StaysRelated KeepsSame x y → LeadBack xs ways (set now n y)
+  ways_failed y same = record {
+    long = omega (arith, s.lead.long, length-set now n y);
+    each = at_set (λ i. StaysRelated (LeadsBackWhere (slice_get ways i))) (λ i. StaysRelated (LeadsBackWhere (slice_get ways i))) xs now n
+        x y s.lead.each before low
+        (subst (λ o. StaysRelated (LeadsBackWhere o) x y) (sym (slice_get_past ways n (omega (arith, s.count)))) same)
+        (λ i a b apart r. r);
+  }
+
+  module _ (y : Standing) (more : ℕ) (within : IsWithinWhere old new skip x steps more) (one : News) (way : Option Way)
+      (is : one ≡ news_where old.rows new.rows notes skip (standing_of x)) (back : StaysRelated (LeadsBackWhere (Some way)) x y)
+      (stays : skip ≡ true → y ≡ x) (keeps : skip ≡ false → IsUpToDate new y.subscription) where
+    news_next : news ++ one ∷ []
+        ≡ map (told old new notes skipped xs begun) (take (n + 1) (zip skipped (map standing_of xs)))
+    news_next =
+        let list = zip skipped (map standing_of xs)
+        in let tells = told old new notes skipped xs begun
+        in let on : take (n + 1) list ≡ take n list ++ (skip, standing_of x) ∷ [] = ap (λ k. take k list) (add-one n)
+        ∙ zip_more skipped (map standing_of xs) n skip (standing_of x) flag (mapped_there standing_of xs n x before)
+        in ap (λ l. l ++ one ∷ []) s.says ∙ ap (λ o. map tells (take n list) ++ o ∷ []) is
+        ∙ sym (ap (map tells) on ∙ map-append tells (take n list) ((skip, standing_of x) ∷ []))
+
+    ways_next : LeadBack xs (ways ++ way ∷ []) (set now n y)
+    ways_next =
+        let longer : length (ways ++ way ∷ []) ≡ n + 1 = length-append ways (way ∷ []) ∙ ap (λ k. k + 1) s.count
+        in let there : slice_get (ways ++ way ∷ []) n ≡ Some way
+        = ap (slice_get (ways ++ way ∷ [])) (sym s.count) ∙ last_there ways way
+        in let same : (i : ℕ) → i ≢ n → slice_get (ways ++ way ∷ []) i ≡ slice_get ways i
+        = λ i apart. elim (cases_order i n) [
+          | inl e ↦ absurd (apart e)
+          | inr o ↦ elim o [
+            | inl l ↦ before_last ways way i (omega (arith, l, s.count))
+            | inr l ↦ slice_get_past (ways ++ way ∷ []) i (omega (arith, l, longer))
+                ∙ sym (slice_get_past ways i (omega (arith, l, s.count)))
+          ]
+        ]
+        in record {
+          long = omega (arith, low, longer, length-set now n y);
+          each = at_set (λ i. StaysRelated (LeadsBackWhere (slice_get ways i)))
+              (λ i. StaysRelated (LeadsBackWhere (slice_get (ways ++ way ∷ []) i)))
+              xs now n x y s.lead.each before low
+              (subst (λ o. StaysRelated (LeadsBackWhere o) x y) (sym there) back)
+              (λ i a b apart r. subst (λ o. StaysRelated (LeadsBackWhere o) a b) (sym (same i apart)) r);
+        }
+
+    kept_next : (i : ℕ) (z : Standing) → i < n + 1 → slice_get (set now n y) i ≡ Some z → slice_get skipped i ≡ Some false
+        → IsUpToDate new z.subscription
+    kept_next i z past p f = elim (cases_order i n) [
+      | inl e ↦
+          let at : y ≡ z = same_Some y z (sym (written_there now n y low) ∙ ap (slice_get (set now n y)) (sym e) ∙ p)
+          in let no : skip ≡ false = same_Some skip false (sym flag ∙ ap (slice_get skipped) (sym e) ∙ f)
+          in subst (λ u. IsUpToDate new u.subscription) at (keeps no)
+      | inr o ↦ elim o [
+        | inl l ↦ s.kept i z l (sym (written_elsewhere now n i y (omega (arith, l))) ∙ p) f
+        | inr l ↦ absurd (omega (arith, past, l))
+      ]
+    ]
+
+    stage_one : Stage old new notes skipped xs begun (n + 1) (news ++ one ∷ []) (ways ++ way ∷ []) (set now n y) more
+    stage_one = record {
+      says = news_next;
+      told_count = length-append news (one ∷ []) ∙ ap (λ k. k + 1) s.told_count;
+      count = length-append ways (way ∷ []) ∙ ap (λ k. k + 1) s.count;
+      lead = ways_next;
+      rest = λ i past. written_elsewhere now n i y (omega (arith, past)) ∙ s.rest i (omega (arith, past));
+      kept = kept_next;
+      skips = at_set (λ i a b. slice_get skipped i ≡ Some true → b ≡ a) (λ i a b. slice_get skipped i ≡ Some true → b ≡ a) xs now n
+          x y s.skips before low (λ e. stays (same_Some skip true (sym flag ∙ e))) (λ i a b apart r. r);
+      within = steps_next more within;
     }
 
-    module _ (one : News) (way : Option Way) (is : one ≡ news_where old.rows new.rows notes skip (standing_of x))
-        (back : StaysRelated (LeadsBackWhere (Some way)) x y) (stays : skip ≡ true → y ≡ x)
-        (keeps : skip ≡ false → IsUpToDate new y.subscription) where
-      news_next : news ++ one ∷ [] ≡ map told (take (n + 1) (zip skipped (map standing_of xs)))
-      news_next =
-          let list = zip skipped (map standing_of xs)
-          in let on : take (n + 1) list ≡ take n list ++ (skip, standing_of x) ∷ [] = ap (λ k. take k list) (add-one n)
-          ∙ zip_more skipped (map standing_of xs) n skip (standing_of x) flag (mapped_there standing_of xs n x before)
-          in ap (λ l. l ++ one ∷ []) s.says ∙ ap (λ o. map told (take n list) ++ o ∷ []) is
-          ∙ sym (ap (map told) on ∙ map-append told (take n list) ((skip, standing_of x) ∷ []))
+    pub stage_next : {after_news : List News} {after_ways : List (Option Way)} → after_news ≡ news ++ one ∷ []
+        → after_ways ≡ ways ++ way ∷ [] → Stage old new notes skipped xs begun (n + 1) after_news after_ways (set now n y) more
+    stage_next grown_news grown_ways = rw (grown_news, grown_ways) stage_one
 
-      ways_next : LeadBack xs (ways ++ way ∷ []) after
-      ways_next =
-          let longer : length (ways ++ way ∷ []) ≡ n + 1 = length-append ways (way ∷ []) ∙ ap (λ k. k + 1) s.count
-          in let there : slice_get (ways ++ way ∷ []) n ≡ Some way = ap (slice_get (ways ++ way ∷ [])) (sym s.count) ∙ last_there ways way
-          in let same : (i : ℕ) → i ≢ n → slice_get (ways ++ way ∷ []) i ≡ slice_get ways i
-          = λ i apart. elim (cases_order i n) [
-            | inl e ↦ absurd (apart e)
-            | inr o ↦ elim o [
-              | inl l ↦ before_last ways way i (omega (arith, l, s.count))
-              | inr l ↦ slice_get_past (ways ++ way ∷ []) i (omega (arith, l, longer))
-                  ∙ sym (slice_get_past ways i (omega (arith, l, s.count)))
-            ]
-          ]
-          in record {
-            long = omega (arith, low, longer, ap length so ∙ length-set now n y);
-            each = at_set (λ i. StaysRelated (LeadsBackWhere (slice_get ways i)))
-                (λ i. StaysRelated (LeadsBackWhere (slice_get (ways ++ way ∷ []) i)))
-                xs now after n x y s.lead.each before low so
-                (subst (λ o. StaysRelated (LeadsBackWhere o) x y) (sym there) back)
-                (λ i a b apart r. subst (λ o. StaysRelated (LeadsBackWhere o) a b) (sym (same i apart)) r);
-          }
+-- all are told
+module _ {old new : ViewSeen} {notes : List Note} {skipped : List Bool} {xs : List Standing} {begun n : ℕ} {news : List News}
+    {ways : List (Option Way)} {now : List Standing} {steps : ℕ} (s : Stage old new notes skipped xs begun n news ways now steps)
+    (past : length skipped ≤ n) where
+  pub news_end : news ≡ news_of_each old.rows new.rows notes skipped (map standing_of xs)
+  news_end = s.says ∙ ap (map (told old new notes skipped xs begun)) (take_all n (zip skipped (map standing_of xs))
+      (omega (arith, past, length-zip skipped (map standing_of xs))))
 
-      kept_next : (i : ℕ) (z : Standing) → i < n + 1 → slice_get after i ≡ Some z → slice_get skipped i ≡ Some false
-          → IsUpToDate new z.subscription
-      kept_next i z less p f = elim (cases_order i n) [
-        | inl e ↦
-            let at : y ≡ z = same_Some y z (sym (written_there now n y low) ∙ ap (λ l. slice_get l n) (sym so) ∙ ap (slice_get after)
-            (sym e) ∙ p)
-            in let no : skip ≡ false = same_Some skip false (sym flag ∙ ap (slice_get skipped) (sym e) ∙ f)
-            in subst (λ u. IsUpToDate new u.subscription) at (keeps no)
-        | inr o ↦ elim o [
-          | inl l ↦ s.kept i z l (sym (written_elsewhere now n i y (omega (arith, l))) ∙ ap (λ k. slice_get k i) (sym so) ∙ p) f
-          | inr l ↦ absurd (omega (arith, less, l))
-        ]
-      ]
+  pub kept_end : (i : ℕ) (y : Standing) → slice_get now i ≡ Some y → slice_get skipped i ≡ Some false → IsUpToDate new y.subscription
+  kept_end i y p f = s.kept i y (omega (arith, past, slice_get_within skipped i false f)) p f
 
-      pub stage_next : Stage (n + 1) (news ++ one ∷ []) (ways ++ way ∷ []) after more
-      stage_next = record {
-        says = news_next;
-        told_count = length-append news (one ∷ []) ∙ ap (λ k. k + 1) s.told_count;
-        count = length-append ways (way ∷ []) ∙ ap (λ k. k + 1) s.count;
-        lead = ways_next;
-        rest = λ i past. ap (λ l. slice_get l i) so ∙ written_elsewhere now n i y (omega (arith, past)) ∙ s.rest i (omega (arith, past));
-        kept = kept_next;
-        skips = at_set (λ i a b. slice_get skipped i ≡ Some true → b ≡ a) (λ i a b. slice_get skipped i ≡ Some true → b ≡ a) xs now after n
-            x y s.skips before low so (λ e. stays (same_Some skip true (sym flag ∙ e))) (λ i a b apart r. r);
-        within = steps_next;
-      }
-
-  -- all are told
-  module _ (n : ℕ) (news : List News) (ways : List (Option Way)) (now : List Standing) (steps : ℕ)
-      (s : Stage n news ways now steps) (past : length skipped ≤ n) where
-    pub news_end : news ≡ news_of_each old.rows new.rows notes skipped (map standing_of xs)
-    news_end = s.says ∙ ap (map told) (take_all n (zip skipped (map standing_of xs))
-        (omega (arith, past, length-zip skipped (map standing_of xs))))
-
-    pub kept_end : (i : ℕ) (y : Standing) → slice_get now i ≡ Some y → slice_get skipped i ≡ Some false → IsUpToDate new y.subscription
-    kept_end i y p f = s.kept i y (omega (arith, past, slice_get_within skipped i false f)) p f
-
-    pub steps_all : IsWithinEach old new (zip skipped xs) begun steps
-    steps_all = subst (λ ps. IsWithinEach old new ps begun steps)
-        (take_all n (zip skipped xs) (omega (arith, past, length-zip skipped xs))) s.within
+  pub steps_all : IsWithinEach old new (zip skipped xs) begun steps
+  steps_all = subst (λ ps. IsWithinEach old new ps begun steps)
+      (take_all n (zip skipped xs) (omega (arith, past, length-zip skipped xs))) s.within
 
 pub lead_searches : (xs : List Standing) (ways : List (Option Way)) (now : List Standing) → LeadBack xs ways now
     → AtEach (λ _. StaysRelated HasSameSearch) xs now

@@ -7,12 +7,12 @@ use Rattle.ifmap_delta.specs.Changes.{WouldKeep}
 use Rattle.ifmap_delta.specs.declared.subscriptions.Subscription.{Subscription}
 use Rattle.ifmap_delta.specs.Sights.{AreMarks, Links, ViewSeen, is_terminal_in}
 use Rattle.ifmap_delta.specs.Ways.{HasSameSearch}
-use Rattle.ifmap_fresh.specs.Fresh.{fresh_size}
-use Rattle.ifmap_region.specs.Marks.{mark_of, over, row_of}
-use Rattle.ifmap_region.specs.Ways.{HasRoom, Makes, OnlyRoom, taken_from}
+use Rattle.ifmap_delta.specs.ifmap_fresh.Fresh.{fresh_size}
+use Rattle.ifmap_delta.specs.ifmap_region.Marks.{mark_of, over, row_of}
+use Rattle.ifmap_delta.specs.ifmap_region.Ways.{HasRoom, Makes, OnlyRoom, taken_from}
 use Rattle.ifmap_standing.specs.Kept.{KeepsSame}
 use Rattle.ifmap_standing.specs.Ways.{LeadsBack, Way}
-use Rattle.ifmap_region.specs.DepthLaws.{depths_same}
+use Rattle.ifmap_delta.specs.ifmap_region.DepthLaws.{depths_same}
 use Rattle.ifmap_standing.specs.PlaceLaws.{searches_twice}
 
 -- room for a patch leaves all but rows

@@ -2,7 +2,7 @@
 use Rattle.std.specs.Prelude.{◌≡◌, ℕ, List, length, Some, IsSome, slice_get}
 use Rattle.ifmap_delta.specs.declared.subscriptions.Subscription.{Subscription}
 use Rattle.ifmap_delta.specs.Ways.{HasSameSearch}
-use Rattle.ifmap_region.specs.Marks.{mark_of, row_of}
+use Rattle.ifmap_delta.specs.ifmap_region.Marks.{mark_of, row_of}
 use Rattle.ifmap_standing.specs.declared.standing.Standing.{Standing}
 use Rattle.ifmap_delta.specs.Sights.{IsUpToDate, ViewSeen}
 

@@ -2,8 +2,8 @@
 use Rattle.std.specs.Prelude.{◌≡◌, ◌≤◌, ℕ, List, Option, Some, None, IsSome, length, slice_get}
 use Rattle.ifmap_delta.specs.declared.subscriptions.Subscription.{Subscription}
 use Rattle.ifmap_delta.specs.Ways.{HasSameSearch}
-use Rattle.ifmap_region.specs.Marks.{mark_of, row_of}
-use Rattle.ifmap_region.specs.Ways.{HasRoom, IsWayBack, Sweeps}
+use Rattle.ifmap_delta.specs.ifmap_region.Marks.{mark_of, row_of}
+use Rattle.ifmap_delta.specs.ifmap_region.Ways.{HasRoom, IsWayBack, Sweeps}
 use Rattle.ifmap_standing.specs.Kept.{AtEach, KeepsSame, StaysRelated}
 use Rattle.ifmap_standing.specs.declared.standing.Standing.{Standing}
 

@@ -8,6 +8,12 @@ pub mod telling;
 pub mod ways;
 
 pub use changing::{Told, tell_change};
+pub use ifmap_delta::{Subscribed, Subscription, fresh, numbers_keep_walks, subscribe};
+pub use ifmap_machine::laws::clients_fold_fresh_results;
+pub use ifmap_machine::{
+    Answer, Ask, Author, Event, PublishOp, Reply, Request, SESSION_SECONDS, Sessions, SubscribeOp,
+    Who, named_size, plan, publishing_keeps_graphs, retract, retracting_keeps_graphs, write_reply,
+};
 pub use standing::Standing;
 pub use telling::{GraphChange, News};
 pub use ways::{Ways, settle, take_back};

@@ -2,22 +2,20 @@
 ghost use Rattle.std.specs.Prelude.{◌≡◌, ◌++◌, ◌∷◌, [], Some, true, IfOk, OnOk};
 ghost use Rattle.std.specs.List.{AllByRecursion};
 ghost use Rattle.ifmap_delta.specs.Sights.{IsUpToDate, view_seen};
-ghost use Rattle.ifmap_fresh.specs.Fresh.{fresh};
-ghost use Rattle.ifmap_folds.specs.Differences.{difference};
+ghost use Rattle.ifmap_delta.specs.ifmap_fresh.Fresh.{fresh};
+ghost use Rattle.ifmap_delta.specs.ifmap_folds.Differences.{difference};
 ghost use Rattle.ifmap_ident.specs.Items.{IsCanonItem};
 ghost use Rattle.ifmap_ident.specs.declared.codes.Code.TheVariants.{SearchResultsTooBig};
 ghost use Rattle.ifmap_machine.specs.Telling as machine;
-ghost use Rattle.ifmap_search.specs.declared.results.PollItem.TheVariants as the_item;
+ghost use Rattle.ifmap_delta.specs.ifmap_search.declared.results.PollItem.TheVariants as the_item;
 ghost use Rattle.ifmap_standing.specs.Located.{IsLocatedIn};
-ghost use Rattle.ifmap_standing.specs.News.{news_of};
+ghost use Rattle.ifmap_standing.specs.News.{item_by_cause, news_of};
 ghost use Rattle.ifmap_standing.specs.Standing.{standing_of};
 
 use crate::standing::Standing;
-use ifmap_delta::{LocatedPlan, notes};
+use ifmap_delta::{Entry, LocatedPlan, Plan, PollItem, notes};
 use ifmap_elem::{Copied, Many, Text};
 use ifmap_ident::Code;
-use ifmap_plans::Plan;
-use ifmap_search::{Entry, PollItem};
 use ifmap_view::View;
 use std::alloc::{AllocError as NoMemory, Global};
 
@@ -53,6 +51,17 @@ pub struct News {
 pub(crate) struct Differences {
     pub deleted: Many<Entry>,
     pub updated: Many<Entry>,
+}
+
+// Why entries are told.
+#[derive(Clone, Copy)]
+enum Cause {
+    // They went from the result.
+    Deleted,
+    // They came into it.
+    Updated,
+    // They were notified.
+    Notified,
 }
 
 /// What a subscription is told of a change that it took over.
@@ -117,9 +126,9 @@ fn differing_items(
         ++ machine.item_if_any (the_item.Notify name.now) notified)) }
 {
     let mut items = Vec::new(alloc);
-    add_deleted(alloc, name, differences.deleted, &mut items)?;
-    add_updated(alloc, name, differences.updated, &mut items)?;
-    add_notified(alloc, name, notified, &mut items)?;
+    add_item(alloc, name, Cause::Deleted, differences.deleted, &mut items)?;
+    add_item(alloc, name, Cause::Updated, differences.updated, &mut items)?;
+    add_item(alloc, name, Cause::Notified, notified, &mut items)?;
     Ok(Many(items))
 }
 
@@ -143,56 +152,32 @@ pub fn limit_note(alloc: Global, size: u64, limit: u64) -> Result<Text, NoMemory
     Ok(Text(format!(in alloc; "{size} of {limit}")?))
 }
 
-// One more item of what went, where something did.
-fn add_deleted(
+// One more item of these entries, where there is one.
+fn add_item(
     alloc: Global,
     name: &Text,
+    cause: Cause,
     entries: Many<Entry>,
     items: &mut Vec<PollItem>,
 ) -> Result<(), NoMemory>
     ensures { OnOk result (items.new.items
-        ≡ items.old.items ++ machine.item_if_any (the_item.Delete name.now) entries) }
+        ≡ items.old.items ++ machine.item_if_any (item_by_cause cause name.now) entries) }
 {
     if entries.0.is_empty() {
         return Ok(());
     }
     let name = name.copy(alloc)?;
-    items.push(PollItem::Delete { name, entries })?;
+    items.push(item_by_cause(cause, name, entries))?;
     Ok(())
 }
 
-// One more item of what came, where something did.
-fn add_updated(
-    alloc: Global,
-    name: &Text,
-    entries: Many<Entry>,
-    items: &mut Vec<PollItem>,
-) -> Result<(), NoMemory>
-    ensures { OnOk result (items.new.items
-        ≡ items.old.items ++ machine.item_if_any (the_item.Update name.now) entries) }
+// The item that tells entries.
+fn item_by_cause(cause: Cause, name: Text, entries: Many<Entry>) -> PollItem
+    ensures { result ≡ item_by_cause cause name entries }
 {
-    if entries.0.is_empty() {
-        return Ok(());
+    match cause {
+        Cause::Deleted => PollItem::Delete { name, entries },
+        Cause::Updated => PollItem::Update { name, entries },
+        Cause::Notified => PollItem::Notify { name, entries },
     }
-    let name = name.copy(alloc)?;
-    items.push(PollItem::Update { name, entries })?;
-    Ok(())
-}
-
-// One more item of what was notified, where something was.
-fn add_notified(
-    alloc: Global,
-    name: &Text,
-    entries: Many<Entry>,
-    items: &mut Vec<PollItem>,
-) -> Result<(), NoMemory>
-    ensures { OnOk result (items.new.items
-        ≡ items.old.items ++ machine.item_if_any (the_item.Notify name.now) entries) }
-{
-    if entries.0.is_empty() {
-        return Ok(());
-    }
-    let name = name.copy(alloc)?;
-    items.push(PollItem::Notify { name, entries })?;
-    Ok(())
 }

@@ -5,19 +5,19 @@ use Rattle.std.proofs.lemmas.Bool.{and_cases, both_ways, cases_Bool, leb-false}
 use Rattle.std.specs.List.{AllByRecursion, list_any}
 use Rattle.ifmap_changes.specs.Between.{IsSteady, sight_now}
 use Rattle.ifmap_changes.specs.declared.parts.Parts.{Parts}
-use Rattle.ifmap_delta.specs.Sights.{IsUpToDate}
+use Rattle.ifmap_changes.specs.ifmap_delta.Sights.{IsUpToDate}
 use Rattle.ifmap_lemmas.specs.Members.{both_all}
-use Rattle.ifmap_fresh.specs.Fresh.{fresh}
-use Rattle.ifmap_machine.specs.State.{standing_in}
-use Rattle.ifmap_machine.specs.Subscribing.{Told, begin_name, drop_name, is_full_for, is_of_name}
-use Rattle.ifmap_machine.specs.Telling.{is_too_big, too_big_item}
+use Rattle.ifmap_changes.specs.ifmap_fresh.Fresh.{fresh}
+use Rattle.ifmap_changes.specs.ifmap_machine.State.{standing_in}
+use Rattle.ifmap_changes.specs.ifmap_machine.Subscribing.{Told, begin_name, drop_name, is_full_for, is_of_name}
+use Rattle.ifmap_changes.specs.ifmap_machine.Telling.{is_too_big, too_big_item}
 use Rattle.ifmap_search.specs.declared.results.PollItem.{PollItem}
 use Rattle.ifmap_search.specs.declared.results.PollItem.TheVariants as the_item
 use Rattle.ifmap_search.specs.declared.searches.Search.{Search}
 use Rattle.ifmap_search.specs.Sizes.{poll_size}
-use Rattle.ifmap_session.specs.Sessions.{is_named}
-use Rattle.ifmap_session.specs.laws.TextLaws.{text_itself}
-use Rattle.ifmap_standing.specs.declared.standing.Standing.{Standing}
+use Rattle.ifmap_changes.specs.ifmap_session.Sessions.{is_named}
+use Rattle.ifmap_changes.specs.ifmap_session.laws.TextLaws.{text_itself}
+use Rattle.ifmap_changes.specs.ifmap_standing.declared.standing.Standing.{Standing}
 use Rattle.ifmap_subscribes.proofs.OfNames.{one_fewer}
 use Rattle.ifmap_subscribes.proofs.Parting.{sum_parted}
 use Rattle.ifmap_subscribes.proofs.Renamed.{IsTold, added, begun_more, noted, rename_more}
@@ -27,7 +27,7 @@ use Rattle.ifmap_subscribes.specs.Renamings.{IsNameNow, IsOfSession, begun_by, r
 use Rattle.ifmap_subscribes.specs.declared.names.NameNow.{NameNow}
 use Rattle.ifmap_subscribes.specs.declared.readying.Readying.{Readying}
 use Rattle.ifmap_subscribes.specs.declared.renamings.Renaming.{Renaming}
-use Rattle.ifmap_view.specs.declared.attachments.Attachment.{Attachment}
+use Rattle.ifmap_changes.specs.ifmap_view.declared.attachments.Attachment.{Attachment}
 
 -- what a renaming is added to may have its counts taken from
 pub record CanAdd (now : NameNow) (r : Readying) : Type 0 where
@@ -36,16 +36,21 @@ pub record CanAdd (now : NameNow) (r : Readying) : Type 0 where
   pub size : now.size ≤ r.size
   pub narrow : r.size < 2 ^ 127
 
-module _ (serial : ℕ) (t : Told) (old mid : Readying) (name : List ℕ) (now : NameNow) (c : AreCounted serial t old)
-    (is : IsNameNow serial name (told_after serial old t) now) (n : IsNoted name now old mid) where
+-- a name was noted, of which this is so, beside what was made ready
+pub record HasNoted (serial : ℕ) (t : Told) (old mid : Readying) (name : List ℕ) (now : NameNow) : Type 0 where
+  pub counted : AreCounted serial t old
+  pub is : IsNameNow serial name (told_after serial old t) now
+  pub noted : IsNoted name now old mid
+
+module _ {serial : ℕ} {t : Told} {old mid : Readying} {name : List ℕ} {now : NameNow} (h : HasNoted serial t old mid name now) where
   mid_told : told_after serial mid t ≡ told_after serial old t
-  mid_told = ap (λ rs. rename_all serial rs t) n.made
+  mid_told = ap (λ rs. rename_all serial rs t) h.noted.made
 
   mid_now : IsNameNow serial name (told_after serial mid t) now
-  mid_now = subst (λ u. IsNameNow serial name u now) (sym mid_told) is
+  mid_now = subst (λ u. IsNameNow serial name u now) (sym mid_told) h.is
 
-  pub mid_counted : AreCounted serial t mid
-  mid_counted = noted serial t old mid c name now n is
+  mid_counted : AreCounted serial t mid
+  mid_counted = noted serial t old mid h.counted name now h.noted h.is
 
   pub can_add : CanAdd now mid
   can_add =
@@ -60,8 +65,12 @@ module _ (serial : ℕ) (t : Told) (old mid : Readying) (name : List ℕ) (now :
         narrow = omega (arith, k.narrow, k.most);
       }
 
+  -- where only a name is noted, what was made ready is so still
+  pub readied_noted : (p : Parts) → CanStand serial p old.made.items → AreReadied serial t p mid
+  readied_noted p s = record { stand = subst (λ rs. CanStand serial p rs) (sym h.noted.made) s; counted = mid_counted }
+
   -- the renaming is added
-  module _ (new : Readying) (r : Renaming) (a : IsAdded now r mid new) where
+  module _ {new : Readying} {r : Renaming} (a : IsAdded now r mid new) where
     pub told_more : told_after serial new t ≡ rename serial r (told_after serial old t)
     told_more = ap (λ rs. rename_all serial rs t) a.made ∙ rename_more serial mid.made.items r t ∙ ap (rename serial r) mid_told
 
@@ -71,28 +80,24 @@ module _ (serial : ℕ) (t : Told) (old mid : Readying) (name : List ℕ) (now :
     begun_more_told rows begun search e = sym (told_more ∙ e (told_after serial old t))
 
     made_more : new.made.items ≡ old.made.items ++ r ∷ []
-    made_more = a.made ∙ ap (λ rs. rs ++ r ∷ []) n.made
+    made_more = a.made ∙ ap (λ rs. rs ++ r ∷ []) h.noted.made
 
-    pub counted_more : r.name ≡ name → IsOfSession serial r → IsTold r → IsSmall r → length mid.made.items < 2 ^ 30
+    counted_more : r.name ≡ name → IsOfSession serial r → IsTold r → IsSmall r → length mid.made.items < 2 ^ 30
         → (now.stands ≡ false → old.count + length (option_to_list r.standing) ≤ 1000) → AreCounted serial t new
     counted_more same s told small few room =
         added serial t mid new mid_counted now r s told a (subst (λ x. IsNameNow serial x (told_after serial mid t) now) (sym same) mid_now)
-        small few (λ free. omega (arith, room free, n.count))
+        small few (λ free. omega (arith, room free, h.noted.count))
 
-    pub readied_more : (p : Parts) → AreCounted serial t new → CanStand serial p (old.made.items ++ r ∷ []) → AreReadied serial t p new
-    readied_more p k s = record { stand = subst (λ rs. CanStand serial p rs) (sym made_more) s; counted = k }
-
--- where only a name is noted, what was made ready is so still
-pub readied_noted : (serial : ℕ) (t : Told) (old mid : Readying) (name : List ℕ) (now : NameNow) (p q : Parts) → AreReadied serial t p old
-    → IsNameNow serial name (told_after serial old t) now → IsNoted name now old mid → CanStand serial q old.made.items
-    → AreReadied serial t q mid
-readied_noted serial t old mid name now p q r is n s = record {
-  stand = subst (λ rs. CanStand serial q rs) (sym n.made) s;
-  counted = mid_counted serial t old mid name now r.counted is n;
-}
+    pub readied_more : (p : Parts) → r.name ≡ name → IsOfSession serial r → IsTold r → IsSmall r → length mid.made.items < 2 ^ 30
+        → (now.stands ≡ false → old.count + length (option_to_list r.standing) ≤ 1000)
+        → CanStand serial p (old.made.items ++ r ∷ []) → AreReadied serial t p new
+    readied_more p same s told small few room stand = record {
+      stand = subst (λ rs. CanStand serial p rs) (sym made_more) stand;
+      counted = counted_more same s told small few room;
+    }
 
 -- a renaming that ends a subscription
-abbrev pub ending : List ℕ → Renaming
+abbrev ending : List ℕ → Renaming
 ending name = record { name = name; item = None; standing = None }
 
 pub stand_none : (serial : ℕ) (p : Parts) (made : List Renaming) (name : List ℕ) → CanStand serial p made

@@ -15,13 +15,13 @@ use Rattle.std.specs.Ordering.{nat_cmp, ordering_then}
 use Rattle.std.specs.Prelude.{slice_get}
 use Rattle.std.specs.declared.cmp.Ordering.{Ordering}
 use Rattle.std.specs.declared.cmp.Ordering.TheVariants.{Equal, Less}
-use Rattle.ifmap_machine.specs.State.{standing_in, standing_order}
-use Rattle.ifmap_machine.specs.Subscribing.{is_of_name}
-use Rattle.ifmap_session.specs.Sessions.{is_same_text}
-use Rattle.ifmap_session.specs.laws.TextLaws.{text_is}
-use Rattle.ifmap_standing.specs.Standing.{standing_of}
-use Rattle.ifmap_standing.specs.declared.standing.Standing.{Standing}
-use Rattle.ifmap_tellings.specs.Tellings.{kept_of}
+use Rattle.ifmap_changes.specs.ifmap_machine.State.{standing_in, standing_order}
+use Rattle.ifmap_changes.specs.ifmap_machine.Subscribing.{is_of_name}
+use Rattle.ifmap_changes.specs.ifmap_session.Sessions.{is_same_text}
+use Rattle.ifmap_changes.specs.ifmap_session.laws.TextLaws.{text_is}
+use Rattle.ifmap_changes.specs.ifmap_standing.Standing.{standing_of}
+use Rattle.ifmap_changes.specs.ifmap_standing.declared.standing.Standing.{Standing}
+use Rattle.ifmap_changes.specs.ifmap_tellings.Tellings.{kept_of}
 
 module _ {X : Type 0} (p : X → Bool) where
   none_after : (x : X) (xs : List X) → list_any p (x ∷ xs) ≡ false → list_any p xs ≡ false

@@ -10,18 +10,18 @@ use Rattle.std.specs.declared.cmp.Ordering.{Ordering}
 use Rattle.std.specs.declared.cmp.Ordering.TheVariants.{Less}
 use Rattle.ifmap_changes.specs.Between.{IsSoundSoFar, IsSteady, sessions_left}
 use Rattle.ifmap_changes.specs.declared.parts.Parts.{Parts}
-use Rattle.ifmap_machine.specs.State.{standing_in, standing_order}
-use Rattle.ifmap_machine.specs.Subscribing.{Told, is_of_name}
+use Rattle.ifmap_changes.specs.ifmap_machine.State.{standing_in, standing_order}
+use Rattle.ifmap_changes.specs.ifmap_machine.Subscribing.{Told, is_of_name}
 use Rattle.ifmap_search.specs.Sizes.{queue_size}
-use Rattle.ifmap_session.specs.Sessions.{IsLive, Session, is_named, session_with_serial}
-use Rattle.ifmap_standing.specs.Standing.{standing_of}
+use Rattle.ifmap_changes.specs.ifmap_session.Sessions.{IsLive, Session, is_named, session_with_serial}
+use Rattle.ifmap_changes.specs.ifmap_standing.Standing.{standing_of}
 use Rattle.ifmap_subscribes.proofs.OfScene.{live_session, told_session}
 use Rattle.ifmap_subscribes.proofs.ToldSizes.{found_left}
 use Rattle.ifmap_subscribes.specs.Readying.{AreCounted, CanStand, told_after, told_in_scene}
 use Rattle.ifmap_subscribes.specs.Renamings.{rename_all}
 use Rattle.ifmap_subscribes.specs.declared.readying.Readying.{Readying}
 use Rattle.ifmap_subscribes.specs.declared.readying.Scene.{Scene}
-use Rattle.ifmap_tellings.specs.Tellings.{kept_of, told_by}
+use Rattle.ifmap_changes.specs.ifmap_tellings.Tellings.{kept_of, told_by}
 
 -- what is not gone stands in order still, and is no more than all
 module _ {X Y : Type 0} (f : X → Y) where

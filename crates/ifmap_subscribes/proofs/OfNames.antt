@@ -12,24 +12,24 @@ use Rattle.std.specs.List.Sorted.{IsStrictlySortedBy}
 use Rattle.std.specs.Ordering.{nat_cmp}
 use Rattle.std.specs.declared.cmp.Ordering.TheVariants.{Equal}
 use Rattle.ifmap_lemmas.specs.Filters.{all_weaker, filter_passes}
-use Rattle.ifmap_lemmas.specs.Numbers.{is_number}
+use Rattle.ifmap_lemmas.specs.Numbers.{equal_numbers}
 use Rattle.ifmap_lemmas.specs.Orderings.{both_equal}
 use Rattle.ifmap_lemmas.specs.Texts.{eq_tells, same_texts}
-use Rattle.ifmap_machine.specs.State.{Standing, standing_in, standing_order}
-use Rattle.ifmap_machine.specs.Subscribing.{is_of_name}
-use Rattle.ifmap_plans.specs.Placing.{put}
+use Rattle.ifmap_changes.specs.ifmap_machine.State.{Standing, standing_in, standing_order}
+use Rattle.ifmap_changes.specs.ifmap_machine.Subscribing.{is_of_name}
+use Rattle.ifmap_changes.specs.ifmap_plans.Placing.{put}
 use Rattle.ifmap_search.specs.declared.results.PollItem.{PollItem}
 use Rattle.ifmap_search.specs.declared.results.PollItem.TheVariants as the_item
-use Rattle.ifmap_session.specs.Sessions.{is_named, is_same_text}
-use Rattle.ifmap_session.specs.laws.TextLaws.{text_is, text_same}
+use Rattle.ifmap_changes.specs.ifmap_session.Sessions.{is_named, is_same_text}
+use Rattle.ifmap_changes.specs.ifmap_session.laws.TextLaws.{text_is, text_same}
 use Rattle.ifmap_subscribes.proofs.Parting.{any_put, any_put_other, any_within, length_put, length_without}
-use Rattle.ifmap_machine.specs.OrderLaws.{order_same}
+use Rattle.ifmap_changes.specs.ifmap_machine.OrderLaws.{order_same}
 
 -- a subscription of a session's name has that serial and that name, and no other has both
 pub of_name : (serial : ℕ) (name : List ℕ) (x : Standing) → is_of_name serial name x ≡ true → (x.serial ≡ serial) × (x.name ≡ name)
 of_name serial name x h =
     let both = and_parts (x.serial == serial) (is_same_text x.name name) h in
-    (is_number x.serial serial both.0, text_is x.name name both.1)
+    (equal_numbers x.serial serial both.0, text_is x.name name both.1)
 
 pub is_of : (serial : ℕ) (name : List ℕ) (x : Standing) → x.serial ≡ serial → x.name ≡ name → is_of_name serial name x ≡ true
 is_of serial name x s n = and_from (x.serial == serial) (is_same_text x.name name) (eq-eqb x.serial serial s) (text_same x.name name n)

@@ -7,21 +7,21 @@ use Rattle.std.specs.BTreeMap.{get}
 use Rattle.std.specs.Ordering.{nat_cmp}
 use Rattle.ifmap_changes.specs.Between.{sessions_left, so_far}
 use Rattle.ifmap_changes.specs.declared.parts.Parts.{Parts}
-use Rattle.ifmap_graph.specs.Seen.{rows_now}
-use Rattle.ifmap_machine.specs.Subscribing.{Told, subscribe_op, subscribe_ops}
-use Rattle.ifmap_requests.specs.declared.requests.SubscribeOp.{SubscribeOp}
+use Rattle.ifmap_changes.specs.ifmap_graph.Seen.{rows_now}
+use Rattle.ifmap_changes.specs.ifmap_machine.Subscribing.{Told, subscribe_op, subscribe_ops}
+use Rattle.ifmap_changes.specs.ifmap_requests.declared.requests.SubscribeOp.{SubscribeOp}
 use Rattle.ifmap_search.specs.declared.results.PollItem.{PollItem}
 use Rattle.ifmap_search.specs.Sizes.{queue_size}
-use Rattle.ifmap_session.specs.Sessions.{IsLive, Session, session_with_serial}
+use Rattle.ifmap_changes.specs.ifmap_session.Sessions.{IsLive, Session, session_with_serial}
 use Rattle.ifmap_subscribes.proofs.Ready.{told_same}
 use Rattle.ifmap_subscribes.specs.Readying.{IsNameBefore, OnlyHolds, queue_where, told_after, told_in_scene, told_then}
 use Rattle.ifmap_subscribes.specs.declared.readying.Readying.{Readying}
 use Rattle.ifmap_subscribes.specs.Renamings.{IsNameNow, told_so_far}
 use Rattle.ifmap_subscribes.specs.declared.names.NameNow.{NameNow}
 use Rattle.ifmap_subscribes.specs.declared.readying.Scene.{Scene}
-use Rattle.ifmap_tellings.specs.Tellings.{Tellings, told_by}
-use Rattle.ifmap_view.specs.declared.attachments.Attachment.{Attachment}
-use Rattle.ifmap_tellings.specs.ToldLaws.{told_serial}
+use Rattle.ifmap_changes.specs.ifmap_tellings.Tellings.{Tellings, told_by}
+use Rattle.ifmap_changes.specs.ifmap_view.declared.attachments.Attachment.{Attachment}
+use Rattle.ifmap_changes.specs.ifmap_tellings.ToldLaws.{told_serial}
 
 -- a session that is live is found once all are told
 found_told : (tellings : Tellings) (n : ℕ) (ss : List Session) (s : Session) → session_with_serial n ss ≡ Some s

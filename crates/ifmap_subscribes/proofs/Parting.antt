@@ -10,7 +10,7 @@ use Rattle.std.specs.Ordering.{is_gt, is_lt}
 use Rattle.std.specs.declared.cmp.Ordering.{Ordering}
 use Rattle.std.specs.declared.cmp.Ordering.TheVariants.{Less, Equal, Greater}
 use Rattle.ifmap_lemmas.specs.Filters.{all_weaker, filter_all}
-use Rattle.ifmap_plans.specs.Placing.{put}
+use Rattle.ifmap_changes.specs.ifmap_plans.Placing.{put}
 
 module _ {X : Type 0} where
   -- a filter leaves what passes a test that passes it too

@@ -6,17 +6,17 @@ use Rattle.std.specs.Prelude.{IfOk}
 use Rattle.std.proofs.lemmas.List.{length-map}
 use Rattle.std.specs.List.{AllByRecursion}
 use Rattle.ifmap_lemmas.specs.Places.{all_got}
-use Rattle.ifmap_machine.specs.State as machine
+use Rattle.ifmap_changes.specs.ifmap_machine.State as machine
 use Rattle.ifmap_changes.specs.Between.{AreOrdered, Asking, IsSoundSoFar, IsSteady, SharesNumbers, sessions_left, sight_now, starts_of, HasStartNumber, IsSeen}
 use Rattle.ifmap_changes.specs.declared.parts.Parts.{Parts}
-use Rattle.ifmap_delta.specs.Sights.{IsUpToDate, SameLinks}
-use Rattle.ifmap_graph.specs.Held.{Held}
-use Rattle.ifmap_graph.specs.Seen.{HasFewOwn, KeepsNumbers, links_now, rows_now}
+use Rattle.ifmap_changes.specs.ifmap_delta.Sights.{IsUpToDate, SameLinks}
+use Rattle.ifmap_changes.specs.ifmap_graph.Held.{Held}
+use Rattle.ifmap_changes.specs.ifmap_graph.Seen.{HasFewOwn, KeepsNumbers, links_now, rows_now}
 use Rattle.ifmap_lemmas.specs.Members.{all_both, both_all, map_of_all}
-use Rattle.ifmap_machine.specs.Subscribing.{Told}
-use Rattle.ifmap_session.specs.Sessions.{IsLive, Session, SessionTable, session_with_serial}
-use Rattle.ifmap_standing.specs.Standing.{standing_of}
-use Rattle.ifmap_standing.specs.declared.standing.Standing.{Standing}
+use Rattle.ifmap_changes.specs.ifmap_machine.Subscribing.{Told}
+use Rattle.ifmap_changes.specs.ifmap_session.Sessions.{IsLive, Session, SessionTable, session_with_serial}
+use Rattle.ifmap_changes.specs.ifmap_standing.Standing.{standing_of}
+use Rattle.ifmap_changes.specs.ifmap_standing.declared.standing.Standing.{Standing}
 use Rattle.ifmap_subscribes.proofs.Counting.{fewer_joined, thousand_each}
 use Rattle.ifmap_subscribes.proofs.Renamed.{begun_more}
 use Rattle.ifmap_subscribes.specs.Readying.{AreReadied, CanReady, CanStand, GraphHolds, IsGivenUp, OnlyHolds, queue_where, told_in_scene}
@@ -24,8 +24,8 @@ use Rattle.ifmap_subscribes.specs.Renamings.{IsOfSession, KeepsNumbered, begun_b
 use Rattle.ifmap_subscribes.specs.declared.readying.Readying.{Readying}
 use Rattle.ifmap_subscribes.specs.declared.readying.Scene.{Scene}
 use Rattle.ifmap_subscribes.specs.declared.renamings.Renaming.{Renaming}
-use Rattle.ifmap_tellings.specs.Tellings.{AllKept, kept_of, told_by}
-use Rattle.ifmap_tellings.specs.declared.tellings.Pending.{Pending}
+use Rattle.ifmap_changes.specs.ifmap_tellings.Tellings.{AllKept, kept_of, told_by}
+use Rattle.ifmap_changes.specs.ifmap_tellings.declared.tellings.Pending.{Pending}
 use Rattle.ifmap_changes.specs.StartLaws.{starts_few, shares_kept}
 
 -- one state after another

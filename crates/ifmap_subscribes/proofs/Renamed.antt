@@ -15,15 +15,15 @@ use Rattle.std.specs.List.Sorted.{IsStrictlySortedBy}
 use Rattle.std.specs.Ordering.{nat_cmp}
 use Rattle.ifmap_lemmas.specs.Deciding.{same_or_not}
 use Rattle.ifmap_lemmas.specs.Filters.{all_weaker, filter_all, filter_none}
-use Rattle.ifmap_machine.specs.State as machine
-use Rattle.ifmap_machine.specs.State.{standing_in, standing_order}
-use Rattle.ifmap_machine.specs.Subscribing.{Told, is_of_name}
-use Rattle.ifmap_plans.specs.laws.PlacingLaws.{put_sorted}
+use Rattle.ifmap_changes.specs.ifmap_machine.State as machine
+use Rattle.ifmap_changes.specs.ifmap_machine.State.{standing_in, standing_order}
+use Rattle.ifmap_changes.specs.ifmap_machine.Subscribing.{Told, is_of_name}
+use Rattle.ifmap_changes.specs.ifmap_plans.laws.PlacingLaws.{put_sorted}
 use Rattle.ifmap_search.specs.declared.results.PollItem.{PollItem}
 use Rattle.ifmap_search.specs.Sizes.{poll_size, queue_size}
-use Rattle.ifmap_session.specs.Sessions.{is_named}
-use Rattle.ifmap_standing.specs.Standing.{standing_of}
-use Rattle.ifmap_standing.specs.declared.standing.Standing.{Standing}
+use Rattle.ifmap_changes.specs.ifmap_session.Sessions.{is_named}
+use Rattle.ifmap_changes.specs.ifmap_standing.Standing.{standing_of}
+use Rattle.ifmap_changes.specs.ifmap_standing.declared.standing.Standing.{Standing}
 use Rattle.ifmap_subscribes.proofs.OfNames.{named_once, not_named_other, one_fewer, one_more, others_beside, others_stand, put_stands, standing_total}
 use Rattle.ifmap_subscribes.proofs.Parting.{filter_within, none_within, sum_parted}
 use Rattle.ifmap_subscribes.proofs.RenamingPlaces.{none_left}

@@ -16,15 +16,15 @@ use Rattle.std.specs.declared.cmp.Ordering.TheVariants.{Less, Equal}
 use Rattle.ifmap_lemmas.specs.Filters.{all_at, all_weaker, filter_all, map_filter}
 use Rattle.ifmap_lemmas.specs.Members.{all_both, all_of_map, both_all}
 use Rattle.ifmap_lemmas.specs.Numbers.{equal_by_order}
-use Rattle.ifmap_machine.specs.State.{standing_order}
-use Rattle.ifmap_machine.specs.Subscribing.{is_of_name}
-use Rattle.ifmap_plans.specs.Placing.{put}
-use Rattle.ifmap_plans.specs.laws.PlacingLaws.{gap_is_put, gap_none}
-use Rattle.ifmap_session.specs.Sessions.{is_same_text}
-use Rattle.ifmap_session.specs.laws.TextLaws.{text_is}
-use Rattle.ifmap_standing.specs.declared.standing.Standing.{Standing}
-use Rattle.ifmap_standing.specs.Standing.{standing_of}
-use Rattle.ifmap_subscribes.specs.Renamings.{StandsAmong, name_order}
+use Rattle.ifmap_changes.specs.ifmap_machine.State.{standing_order}
+use Rattle.ifmap_changes.specs.ifmap_machine.Subscribing.{is_of_name}
+use Rattle.ifmap_changes.specs.ifmap_plans.Placing.{put}
+use Rattle.ifmap_changes.specs.ifmap_plans.laws.PlacingLaws.{gap_is_put, gap_none}
+use Rattle.ifmap_changes.specs.ifmap_session.Sessions.{is_same_text}
+use Rattle.ifmap_changes.specs.ifmap_session.laws.TextLaws.{text_is}
+use Rattle.ifmap_changes.specs.ifmap_standing.declared.standing.Standing.{Standing}
+use Rattle.ifmap_changes.specs.ifmap_standing.Standing.{standing_of}
+use Rattle.ifmap_subscribes.specs.Renamings.{StandsAmong, order_to_name}
 
 -- ---- the order
 
@@ -48,7 +48,7 @@ shown_put x xs =
     ∙ ap (λ t. t ++ standing_of x ∷ map standing_of (filter (λ y. is_gt (kept_order y x)) xs)) less
     ∙ ap (λ t. filter (λ y. is_lt (standing_order y (standing_of x))) (map standing_of xs) ++ standing_of x ∷ t) more
 
-pub named_is : (serial : ℕ) (name : List ℕ) (x : Standing) → is_of_name serial name (standing_of x) ≡ is_eq (name_order serial name x)
+pub named_is : (serial : ℕ) (name : List ℕ) (x : Standing) → is_of_name serial name (standing_of x) ≡ is_eq (order_to_name serial name x)
 named_is serial name x =
     ap (λ b. b && is_same_text x.name name) (equal_by_order x.serial serial)
     ∙ ap (λ b. is_eq (nat_cmp x.serial serial) && b) (texts_ties x.name name)
@@ -66,17 +66,17 @@ there_is (x ∷ xs) zero lt = (x, refl)
 there_is (x ∷ xs) (suc i) lt = there_is xs i (omega (arith, lt))
 
 module _ (serial : ℕ) (name : List ℕ) (xs : List Standing) where
-  pub place_found : (r : Result ℕ ℕ) → IsSearchInRange r (length xs) → IsBinarySearchResult (name_order serial name) xs r
+  pub place_found : (r : Result ℕ ℕ) → IsSearchInRange r (length xs) → IsBinarySearchResult (order_to_name serial name) xs r
       → IfOk r (λ at. (x : Standing) × (slice_get xs at ≡ Some x) × (is_of_name serial name (standing_of x) ≡ true))
   place_found (Ok i) within is =
       let there = there_is xs i within in
-      let equal : name_order serial name there.0 ≡ Equal =
-      subst (λ y. name_order serial name y ≡ Equal) (get_or_from_slice_get xs i there.0 there.0 there.1) (is there.0) in
+      let equal : order_to_name serial name there.0 ≡ Equal =
+      subst (λ y. order_to_name serial name y ≡ Equal) (get_or_from_slice_get xs i there.0 there.0 there.1) (is there.0) in
       (there.0, there.1, named_is serial name there.0 ∙ ap is_eq equal)
   place_found (Err i) within is = tt
 
   pub place_none : IsStrictlySortedBy standing_order (map standing_of xs) → (r : Result ℕ ℕ) → IsSearchInRange r (length xs)
-      → IsBinarySearchResult (name_order serial name) xs r → OnErr r (list_any (λ x. is_of_name serial name (standing_of x)) xs ≡ false)
+      → IsBinarySearchResult (order_to_name serial name) xs r → OnErr r (list_any (λ x. is_of_name serial name (standing_of x)) xs ≡ false)
   place_none up (Ok i) within is = tt
   place_none up (Err i) within is = none xs refl
     where
@@ -84,18 +84,18 @@ module _ (serial : ℕ) (name : List ℕ) (xs : List Standing) where
       none [] same = ap (list_any (λ x. is_of_name serial name (standing_of x))) (sym same)
       none (y ∷ ys) same =
           let key : Standing = record y { serial = serial; name = name } in
-          any_same (λ x. is_of_name serial name (standing_of x)) (λ x. is_eq (name_order serial name x)) (named_is serial name) xs
+          any_same (λ x. is_of_name serial name (standing_of x)) (λ x. is_eq (order_to_name serial name x)) (named_is serial name) xs
           ∙ gap_none Standing kept_order kept_total key xs i (kept_rising xs up) within is
 
   pub place_gap : IsStrictlySortedBy standing_order (map standing_of xs) → (r : Result ℕ ℕ) → IsSearchInRange r (length xs)
-      → IsBinarySearchResult (name_order serial name) xs r
+      → IsBinarySearchResult (order_to_name serial name) xs r
       → IfErr r (λ at. (x : Standing) → x.serial ≡ serial → x.name ≡ name
       → map standing_of (insert xs at x) ≡ put standing_order (standing_of x) (map standing_of xs))
   place_gap up (Ok i) within is = tt
   place_gap up (Err i) within is = λ x s n.
-      let of_x : IsBinarySearchResult (name_order x.serial x.name) xs (Err i) =
-      subst (λ m. IsBinarySearchResult (name_order m x.name) xs (Err i)) (sym s)
-      (subst (λ m. IsBinarySearchResult (name_order serial m) xs (Err i)) (sym n) is) in
+      let of_x : IsBinarySearchResult (order_to_name x.serial x.name) xs (Err i) =
+      subst (λ m. IsBinarySearchResult (order_to_name m x.name) xs (Err i)) (sym s)
+      (subst (λ m. IsBinarySearchResult (order_to_name serial m) xs (Err i)) (sym n) is) in
       ap (map standing_of) (gap_is_put Standing kept_order kept_total x xs i (kept_rising xs up) within of_x).1 ∙ shown_put x xs
 
   pub place_within : (r : Result ℕ ℕ) → IsSearchInRange r (length xs) → IfErr r (λ at. at ≤ length xs)

@@ -7,25 +7,25 @@ use Rattle.std.proofs.lemmas.Option.{same_Some}
 use Rattle.std.specs.List.{AllByRecursion, remove}
 use Rattle.std.specs.Option.{option_map}
 use Rattle.ifmap_changes.specs.Between.{IsSteady, sight_now, starts_of, HasStartNumber}
-use Rattle.ifmap_graph.specs.Held.{Held, IsOwn, links_at}
-use Rattle.ifmap_graph.specs.Named.{named_in}
-use Rattle.ifmap_delta.specs.Sights.{IsUpToDate}
-use Rattle.ifmap_graph.specs.Seen.{IsStill, links_now, rows_now}
-use Rattle.ifmap_graph.specs.Shelved.{list_at, rows_by}
-use Rattle.ifmap_graph.specs.Sides.{now}
+use Rattle.ifmap_changes.specs.ifmap_graph.Held.{Held, IsOwn, links_at}
+use Rattle.ifmap_changes.specs.ifmap_graph.Named.{named_in}
+use Rattle.ifmap_changes.specs.ifmap_delta.Sights.{IsUpToDate}
+use Rattle.ifmap_changes.specs.ifmap_graph.Seen.{IsStill, links_now, rows_now}
+use Rattle.ifmap_changes.specs.ifmap_graph.Shelved.{list_at, rows_by}
+use Rattle.ifmap_changes.specs.ifmap_graph.Sides.{now}
 use Rattle.ifmap_ident.specs.Canon.{IsIdentifier}
 use Rattle.ifmap_ident.specs.Identifiers.{identifier_bytes, identifier_order}
 use Rattle.ifmap_ident.specs.declared.identifiers.Identifier.{Identifier}
 use Rattle.ifmap_lemmas.specs.Filters.{all_weaker}
 use Rattle.ifmap_lemmas.specs.Members.{all_both, both_all}
 use Rattle.ifmap_lemmas.specs.Texts.{same_texts}
-use Rattle.ifmap_plans.specs.Plans.{AreWhole}
-use Rattle.ifmap_pool.specs.Holdings.{IsHeld, Names, holds_at, key_at, once}
-use Rattle.ifmap_standing.specs.declared.standing.Standing.{Standing}
+use Rattle.ifmap_changes.specs.ifmap_plans.Plans.{AreWhole}
+use Rattle.ifmap_changes.specs.ifmap_pool.Holdings.{IsHeld, Names, holds_at, key_at, once}
+use Rattle.ifmap_changes.specs.ifmap_standing.declared.standing.Standing.{Standing}
 use Rattle.ifmap_subscribes.specs.declared.renamings.Renaming.{Renaming}
 use Rattle.ifmap_subscribes.specs.Renamings.{KeepsNumbered, LetsNumbersGo, StandsAmong, begun_by}
-use Rattle.ifmap_view.specs.Views.{IsView}
-use Rattle.ifmap_graph.specs.NumberLaws.{once_itself}
+use Rattle.ifmap_changes.specs.ifmap_view.Views.{IsView}
+use Rattle.ifmap_changes.specs.ifmap_graph.NumberLaws.{once_itself}
 use Rattle.ifmap_changes.specs.StartLaws.{starts_cons, starts_append}
 
 -- ---- some move to the front, or back

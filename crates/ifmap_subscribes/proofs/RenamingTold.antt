@@ -13,21 +13,21 @@ use Rattle.std.specs.List.{AllByRecursion, filter, list_any}
 use Rattle.std.specs.List.Sorted.{IsStrictlySortedBy}
 use Rattle.ifmap_changes.specs.Between.{IsSteady, sight_now}
 use Rattle.ifmap_changes.specs.declared.parts.Parts.{Parts}
-use Rattle.ifmap_delta.specs.Sights.{IsUpToDate}
-use Rattle.ifmap_graph.specs.Seen.{StaysLean, rows_now}
+use Rattle.ifmap_changes.specs.ifmap_delta.Sights.{IsUpToDate}
+use Rattle.ifmap_changes.specs.ifmap_graph.Seen.{StaysLean, rows_now}
 use Rattle.ifmap_lemmas.specs.Filters.{all_filter, map_filter}
 use Rattle.ifmap_lemmas.specs.Members.{all_both, both_all}
 use Rattle.ifmap_lemmas.specs.Options.{is_some_of, some_is}
-use Rattle.ifmap_machine.specs.State as machine
-use Rattle.ifmap_machine.specs.State.{standing_order}
-use Rattle.ifmap_machine.specs.Subscribing.{Told, is_of_name}
-use Rattle.ifmap_machine.specs.Telling.{tell_session}
-use Rattle.ifmap_plans.specs.laws.PlacingLaws.{put_sorted}
+use Rattle.ifmap_changes.specs.ifmap_machine.State as machine
+use Rattle.ifmap_changes.specs.ifmap_machine.State.{standing_order}
+use Rattle.ifmap_changes.specs.ifmap_machine.Subscribing.{Told, is_of_name}
+use Rattle.ifmap_changes.specs.ifmap_machine.Telling.{tell_session}
+use Rattle.ifmap_changes.specs.ifmap_plans.laws.PlacingLaws.{put_sorted}
 use Rattle.ifmap_search.specs.declared.results.PollItem.{PollItem}
-use Rattle.ifmap_session.specs.Sessions.{Changes, IsLive, Session, SessionTable, change, is_named, session_order, session_with_serial, spare_of, without_name}
-use Rattle.ifmap_session.specs.laws.TableLaws.{KeepsIdAndClient, found_changed}
-use Rattle.ifmap_standing.specs.declared.standing.Standing.{Standing}
-use Rattle.ifmap_standing.specs.Standing.{standing_of}
+use Rattle.ifmap_changes.specs.ifmap_session.Sessions.{Changes, IsLive, Session, SessionTable, change, is_named, session_order, session_with_serial, spare_of, without_name}
+use Rattle.ifmap_changes.specs.ifmap_session.laws.TableLaws.{KeepsIdAndClient, found_changed}
+use Rattle.ifmap_changes.specs.ifmap_standing.declared.standing.Standing.{Standing}
+use Rattle.ifmap_changes.specs.ifmap_standing.Standing.{standing_of}
 use Rattle.ifmap_subscribes.specs.declared.renamings.Renaming.{Renaming}
 use Rattle.ifmap_subscribes.specs.Renamings.{AreRenamed, CanRenameEach, IsOfSession, KeepsNumbered, StandsAmong, begun_by, item_count, rename, rename_all, stand_where, told_in_parts}
 use Rattle.ifmap_subscribes.proofs.RenamingPlaces.{all_stands, none_left}

@@ -2,15 +2,15 @@
 -- and of the rest are those of all (`one_more`), or they stop there (`one_stops`).
 use Rattle.std.proofs.Common.{◌≡◌, ◌∙◌, ◌<◌, ap, inr, refl, sym, subst, ℕ, suc, ◌+◌, add-one, List, ◌∷◌, drop, drop-cons, length, get_or}
 use Rattle.ifmap_changes.specs.Between.{IsSeen, sight_now}
-use Rattle.ifmap_fresh.specs.Linking.{IsReachedAt}
-use Rattle.ifmap_graph.specs.Held.{Held}
-use Rattle.ifmap_graph.specs.Seen.{links_now, rows_now}
-use Rattle.ifmap_pool.specs.Holdings.{key_at}
-use Rattle.ifmap_region.specs.Bounds.{IsWithin}
-use Rattle.ifmap_requests.specs.declared.requests.SubscribeOp.{SubscribeOp}
+use Rattle.ifmap_changes.specs.ifmap_fresh.Linking.{IsReachedAt}
+use Rattle.ifmap_changes.specs.ifmap_graph.Held.{Held}
+use Rattle.ifmap_changes.specs.ifmap_graph.Seen.{links_now, rows_now}
+use Rattle.ifmap_changes.specs.ifmap_pool.Holdings.{key_at}
+use Rattle.ifmap_changes.specs.ifmap_region.Bounds.{IsWithin}
+use Rattle.ifmap_changes.specs.ifmap_requests.declared.requests.SubscribeOp.{SubscribeOp}
 use Rattle.ifmap_search.specs.declared.searches.Search.{Search}
 use Rattle.ifmap_subscribes.specs.Bounds.{AreOpsWithin, IsOpWithin, IsWithinSpan, no_ops}
-use Rattle.ifmap_view.specs.declared.attachments.Attachment.{Attachment}
+use Rattle.ifmap_changes.specs.ifmap_view.declared.attachments.Attachment.{Attachment}
 
 -- a search that is the same as another, on a graph
 pub spanned : (h : Held) (times : ℕ) (s asked : Search) (before after : ℕ) → IsSeen h → s ≡ asked

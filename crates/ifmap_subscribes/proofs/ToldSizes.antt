@@ -9,17 +9,17 @@ use Rattle.std.specs.BTreeMap.{get}
 use Rattle.std.specs.List.{AllByRecursion, filter, list_any}
 use Rattle.std.specs.Ordering.{nat_cmp}
 use Rattle.ifmap_ident.specs.declared.codes.Code.TheVariants.{PollResultsTooBig}
-use Rattle.ifmap_machine.specs.Telling.{is_overfull}
+use Rattle.ifmap_changes.specs.ifmap_machine.Telling.{is_overfull}
 use Rattle.ifmap_search.specs.declared.results.PollItem.{PollItem}
 use Rattle.ifmap_search.specs.declared.results.PollItem.TheVariants as the_item
 use Rattle.ifmap_search.specs.Sizes.{poll_size, queue_size}
-use Rattle.ifmap_session.specs.Sessions.{IsLive, Session, is_named, session_with_serial, without_sessions}
-use Rattle.ifmap_session.specs.laws.TextLaws.{all_found}
-use Rattle.ifmap_tellings.specs.declared.tellings.Telling.{Telling}
-use Rattle.ifmap_tellings.specs.declared.tellings.Telling.TheVariants as the_telling
-use Rattle.ifmap_tellings.specs.Tellings.{IsSized, Tellings, told_by, told_where}
-use Rattle.ifmap_session.specs.laws.TableLaws.{found_serial}
-use Rattle.ifmap_tellings.specs.ToldLaws.{told_serial}
+use Rattle.ifmap_changes.specs.ifmap_session.Sessions.{IsLive, Session, is_named, session_with_serial, without_sessions}
+use Rattle.ifmap_changes.specs.ifmap_session.laws.TextLaws.{all_found}
+use Rattle.ifmap_changes.specs.ifmap_tellings.declared.tellings.Telling.{Telling}
+use Rattle.ifmap_changes.specs.ifmap_tellings.declared.tellings.Telling.TheVariants as the_telling
+use Rattle.ifmap_changes.specs.ifmap_tellings.Tellings.{IsSized, Tellings, told_by, told_where}
+use Rattle.ifmap_changes.specs.ifmap_session.laws.TableLaws.{found_serial}
+use Rattle.ifmap_changes.specs.ifmap_tellings.ToldLaws.{told_serial}
 
 -- ---- sizes
 

@@ -2,14 +2,14 @@
 -- any of these bounds.
 use Rattle.std.specs.Prelude.{◌≡◌, ◌≤◌, ◌⊎◌, ℕ, List, [], ◌∷◌, length}
 use Rattle.std.proofs.Common.{arith, inl}
-use Rattle.ifmap_delta.specs.Sights.{ViewSeen}
-use Rattle.ifmap_fresh.specs.Linking.{IsReachedAt}
-use Rattle.ifmap_region.specs.Bounds.{IsWithin}
-use Rattle.ifmap_requests.specs.declared.requests.SubscribeOp.{SubscribeOp}
-use Rattle.ifmap_requests.specs.declared.requests.SubscribeOp.TheVariants.{Update, Delete}
+use Rattle.ifmap_changes.specs.ifmap_delta.Sights.{ViewSeen}
+use Rattle.ifmap_changes.specs.ifmap_fresh.Linking.{IsReachedAt}
+use Rattle.ifmap_changes.specs.ifmap_region.Bounds.{IsWithin}
+use Rattle.ifmap_changes.specs.ifmap_requests.declared.requests.SubscribeOp.{SubscribeOp}
+use Rattle.ifmap_changes.specs.ifmap_requests.declared.requests.SubscribeOp.TheVariants.{Update, Delete}
 use Rattle.ifmap_search.specs.declared.searches.Search.{Search}
-use Rattle.ifmap_view.specs.declared.attachments.Attachment.{Attachment}
-use Rattle.ifmap_view.specs.Views.{IsView}
+use Rattle.ifmap_changes.specs.ifmap_view.declared.attachments.Attachment.{Attachment}
+use Rattle.ifmap_changes.specs.ifmap_view.Views.{IsView}
 
 -- the steps rose by at most so many times the links of all that a search reaches; or not at all. The sum is the same whichever numbers
 -- identifiers have, so it is enough that it holds with one numbering.

@@ -7,26 +7,26 @@ use Rattle.std.specs.List.Sorted.{IsStrictlySortedBy}
 use Rattle.std.specs.Ordering.{nat_cmp}
 use Rattle.ifmap_changes.specs.Between.{Asking, IsSoundSoFar, IsSteady, SharesNumbers, sessions_left, sight_now, so_far, starts_of}
 use Rattle.ifmap_changes.specs.declared.parts.Parts.{Parts}
-use Rattle.ifmap_delta.specs.Sights.{IsUpToDate}
-use Rattle.ifmap_graph.specs.Back.{KeepsBacks}
-use Rattle.ifmap_graph.specs.Held.{Held, IsOwn}
-use Rattle.ifmap_graph.specs.Seen.{AwaitsMore, BringsNoNumbers, IsStill, KeepsNumbers, StaysLean, links_now, rows_now}
+use Rattle.ifmap_changes.specs.ifmap_delta.Sights.{IsUpToDate}
+use Rattle.ifmap_changes.specs.ifmap_graph.Back.{KeepsBacks}
+use Rattle.ifmap_changes.specs.ifmap_graph.Held.{Held, IsOwn}
+use Rattle.ifmap_changes.specs.ifmap_graph.Seen.{AwaitsMore, BringsNoNumbers, IsStill, KeepsNumbers, StaysLean, links_now, rows_now}
 use Rattle.ifmap_ident.specs.declared.identifiers.Identifier.{Identifier}
 use Rattle.ifmap_ident.specs.Identifiers.{identifier_order}
-use Rattle.ifmap_machine.specs.State.{standing_in, standing_order}
-use Rattle.ifmap_machine.specs.Subscribing.{Told, is_of_name, most_names}
-use Rattle.ifmap_plans.specs.Plans.{AreWhole}
-use Rattle.ifmap_pool.specs.Holdings.{key_at, once}
+use Rattle.ifmap_changes.specs.ifmap_machine.State.{standing_in, standing_order}
+use Rattle.ifmap_changes.specs.ifmap_machine.Subscribing.{Told, is_of_name, most_names}
+use Rattle.ifmap_changes.specs.ifmap_plans.Plans.{AreWhole}
+use Rattle.ifmap_changes.specs.ifmap_pool.Holdings.{key_at, once}
 use Rattle.ifmap_search.specs.declared.results.PollItem.{PollItem}
 use Rattle.ifmap_search.specs.Sizes.{poll_size, queue_size}
-use Rattle.ifmap_session.specs.Sessions.{IsLive, Session, is_named, session_with_serial}
-use Rattle.ifmap_standing.specs.declared.standing.Standing.{Standing}
+use Rattle.ifmap_changes.specs.ifmap_session.Sessions.{IsLive, Session, is_named, session_with_serial}
+use Rattle.ifmap_changes.specs.ifmap_standing.declared.standing.Standing.{Standing}
 use Rattle.ifmap_subscribes.specs.Renamings.{IsNameNow, IsOfSession, begun_by, rename_all}
 use Rattle.ifmap_subscribes.specs.declared.names.NameNow.{NameNow}
 use Rattle.ifmap_subscribes.specs.declared.readying.Readying.{Readying}
 use Rattle.ifmap_subscribes.specs.declared.readying.Scene.{Scene}
 use Rattle.ifmap_subscribes.specs.declared.renamings.Renaming.{Renaming}
-use Rattle.ifmap_tellings.specs.declared.tellings.Pending.{Pending}
+use Rattle.ifmap_changes.specs.ifmap_tellings.declared.tellings.Pending.{Pending}
 
 -- what a session has to tell, if it is live
 abbrev pub queue_where : Option Session → List PollItem

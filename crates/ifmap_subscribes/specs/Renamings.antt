@@ -9,25 +9,25 @@ use Rattle.ifmap_changes.specs.Between.{Asking, IsSteady, sight_now, so_far}
 use Rattle.ifmap_subscribes.specs.declared.names.NameNow.{NameNow}
 use Rattle.ifmap_changes.specs.declared.parts.Parts.{Parts}
 use Rattle.ifmap_subscribes.specs.declared.renamings.Renaming.{Renaming}
-use Rattle.ifmap_delta.specs.declared.subscriptions.Subscription.{Subscription}
-use Rattle.ifmap_delta.specs.Sights.{IsUpToDate}
-use Rattle.ifmap_machine.specs.State as machine
-use Rattle.ifmap_machine.specs.State.{standing_order}
-use Rattle.ifmap_machine.specs.Subscribing.{Told, drop_name, is_of_name}
-use Rattle.ifmap_plans.specs.Placing.{put}
-use Rattle.ifmap_pool.specs.Holdings.{key_at}
+use Rattle.ifmap_changes.specs.ifmap_delta.declared.subscriptions.Subscription.{Subscription}
+use Rattle.ifmap_changes.specs.ifmap_delta.Sights.{IsUpToDate}
+use Rattle.ifmap_changes.specs.ifmap_machine.State as machine
+use Rattle.ifmap_changes.specs.ifmap_machine.State.{standing_order}
+use Rattle.ifmap_changes.specs.ifmap_machine.Subscribing.{Told, drop_name, is_of_name}
+use Rattle.ifmap_changes.specs.ifmap_plans.Placing.{put}
+use Rattle.ifmap_changes.specs.ifmap_pool.Holdings.{key_at}
 use Rattle.ifmap_search.specs.Sizes.{queue_size}
-use Rattle.ifmap_session.specs.Sessions.{IsLive, Session, change, is_named, session_with_serial, spare_of}
-use Rattle.ifmap_standing.specs.declared.standing.Standing.{Standing}
-use Rattle.ifmap_standing.specs.Standing.{standing_of}
-use Rattle.ifmap_tellings.specs.declared.tellings.Pending.{Pending}
-use Rattle.ifmap_graph.specs.Held.{Held}
-use Rattle.ifmap_graph.specs.Back.{KeepsBacks}
-use Rattle.ifmap_graph.specs.Seen.{AwaitsMore, BringsNoNumbers, StaysLean, links_now, rows_now}
+use Rattle.ifmap_changes.specs.ifmap_session.Sessions.{IsLive, Session, change, is_named, session_with_serial, spare_of}
+use Rattle.ifmap_changes.specs.ifmap_standing.declared.standing.Standing.{Standing}
+use Rattle.ifmap_changes.specs.ifmap_standing.Standing.{standing_of}
+use Rattle.ifmap_changes.specs.ifmap_tellings.declared.tellings.Pending.{Pending}
+use Rattle.ifmap_changes.specs.ifmap_graph.Held.{Held}
+use Rattle.ifmap_changes.specs.ifmap_graph.Back.{KeepsBacks}
+use Rattle.ifmap_changes.specs.ifmap_graph.Seen.{AwaitsMore, BringsNoNumbers, StaysLean, links_now, rows_now}
 
 -- how a subscription stands to that of a session under a name: by session, then by name
-abbrev pub name_order : ℕ → List ℕ → Standing → Ordering
-name_order serial name x = ordering_then (nat_cmp x.serial serial) (slice_cmp nat_cmp x.name name)
+abbrev pub order_to_name : ℕ → List ℕ → Standing → Ordering
+order_to_name serial name x = ordering_then (nat_cmp x.serial serial) (slice_cmp nat_cmp x.name name)
 
 -- one more subscription stands, where there is one
 abbrev pub stand_where : Option Standing → List machine.Standing → List machine.Standing

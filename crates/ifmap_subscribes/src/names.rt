@@ -4,21 +4,19 @@ ghost use Rattle.std.specs.List.{AllByRecursion, list_any};
 ghost use Rattle.std.specs.List.Sorted.{IsStrictlySortedBy};
 ghost use Rattle.ifmap_changes.specs.Between.{IsSoundSoFar, sessions_left, so_far};
 ghost use Rattle.ifmap_subscribes.specs.Renamings.{IsNameNow, told_so_far};
-ghost use Rattle.ifmap_tellings.specs.Tellings.{EachTelling, IsSized, kept_of, told_by};
-ghost use Rattle.ifmap_machine.specs.State.{standing_in, standing_order};
-ghost use Rattle.ifmap_machine.specs.Subscribing.{is_of_name};
-ghost use Rattle.ifmap_machine.specs.Telling.{is_overfull};
+ghost use Rattle.ifmap_changes.specs.ifmap_tellings.Tellings.{EachTelling, IsSized, kept_of, told_by};
+ghost use Rattle.ifmap_changes.specs.ifmap_machine.State.{standing_in, standing_order};
+ghost use Rattle.ifmap_changes.specs.ifmap_machine.Subscribing.{is_of_name};
+ghost use Rattle.ifmap_changes.specs.ifmap_machine.Telling.{is_overfull};
 ghost use Rattle.ifmap_search.specs.Sizes.{queue_size};
-ghost use Rattle.ifmap_session.specs.Sessions.{IsLive, Session, is_named, session_with_serial};
-ghost use Rattle.ifmap_standing.specs.Standing.{standing_of};
+ghost use Rattle.ifmap_changes.specs.ifmap_session.Sessions.{IsLive, Session, is_named, session_with_serial};
+ghost use Rattle.ifmap_changes.specs.ifmap_standing.Standing.{standing_of};
 
 use crate::renamings::place_of_name;
 use ifmap_changes::asking::Asking;
 use ifmap_changes::parts::Parts;
+use ifmap_changes::{Pending, Sessions, Standing, Telling, named_size};
 use ifmap_elem::Text;
-use ifmap_session::{Sessions, named_size};
-use ifmap_standing::Standing;
-use ifmap_tellings::tellings::{Pending, Telling};
 use std::collections::BTreeMap;
 
 /// What is so of a name: whether its subscription stands, and the size of what there is to tell of it.

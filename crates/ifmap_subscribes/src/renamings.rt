@@ -3,26 +3,23 @@ ghost use Rattle.std.specs.Prelude.{◌≡◌, ◌≤◌, ◌+◌, ◌++◌, ◌
 ghost use Rattle.std.specs.List.{insert, list_any};
 ghost use Rattle.std.specs.List.Sorted.{IsStrictlySortedBy};
 ghost use Rattle.ifmap_changes.specs.Between.{IsSteady};
-ghost use Rattle.ifmap_graph.specs.Back.{KeepsBacks};
-ghost use Rattle.ifmap_graph.specs.Seen.{AwaitsMore, BringsNoNumbers, StaysLean, links_now, rows_now};
-ghost use Rattle.ifmap_machine.specs.State.{standing_order};
-ghost use Rattle.ifmap_machine.specs.Subscribing.{is_of_name};
-ghost use Rattle.ifmap_machine.specs.Telling.{tell_session};
-ghost use Rattle.ifmap_plans.specs.Placing.{put};
-ghost use Rattle.ifmap_session.specs.Sessions.{Changes, IsLive, spare_of};
-ghost use Rattle.ifmap_standing.specs.declared.standing.Standing.{Standing};
-ghost use Rattle.ifmap_standing.specs.Standing.{standing_of};
+ghost use Rattle.ifmap_changes.specs.ifmap_graph.Back.{KeepsBacks};
+ghost use Rattle.ifmap_changes.specs.ifmap_graph.Seen.{AwaitsMore, BringsNoNumbers, StaysLean, links_now, rows_now};
+ghost use Rattle.ifmap_changes.specs.ifmap_machine.State.{standing_order};
+ghost use Rattle.ifmap_changes.specs.ifmap_machine.Subscribing.{is_of_name};
+ghost use Rattle.ifmap_changes.specs.ifmap_machine.Telling.{tell_session};
+ghost use Rattle.ifmap_changes.specs.ifmap_plans.Placing.{put};
+ghost use Rattle.ifmap_changes.specs.ifmap_session.Sessions.{Changes, IsLive, spare_of};
+ghost use Rattle.ifmap_changes.specs.ifmap_standing.declared.standing.Standing.{Standing};
+ghost use Rattle.ifmap_changes.specs.ifmap_standing.Standing.{standing_of};
 ghost use Rattle.ifmap_subscribes.specs.declared.renamings.Renaming.{Renaming};
-ghost use Rattle.ifmap_subscribes.specs.Renamings.{AreRenamed, CanRenameEach, KeepsNumbered, LetsNumbersGo, StandsAmong, begun_by, name_order, stand_where};
+ghost use Rattle.ifmap_subscribes.specs.Renamings.{AreRenamed, CanRenameEach, KeepsNumbered, LetsNumbersGo, StandsAmong, begun_by, order_to_name, stand_where};
 
 use ifmap_changes::parts::Parts;
+use ifmap_changes::{Graph, Sessions, Standing, same_links_keep_subscriptions};
 use ifmap_elem::{Many, Text};
-use ifmap_graph::Graph;
 use ifmap_ident::laws::bytes_tell_identifiers_apart;
 use ifmap_search::PollItem;
-use ifmap_session::Sessions;
-use ifmap_standing::Standing;
-use ifmap_standing::laws::same_links_keep_subscriptions;
 use std::cmp::Ordering;
 
 /// What becomes of one name: what is to be told of it goes, and its subscription too; then an item
@@ -168,7 +165,7 @@ pub fn place_of_name(standing: &[Standing], serial: u64, name: &Text) -> Result<
 
 // How a subscription stands to that of a session under a name.
 fn name_order(one: &Standing, serial: u64, name: &Text) -> Ordering
-    ensures { result ≡ name_order serial name.now one.now }
+    ensures { result ≡ order_to_name serial name.now one.now }
 {
     one.order(serial, name)
 }

@@ -9,14 +9,14 @@ use Rattle.std.specs.BTreeMap.{is_at}
 use Rattle.std.specs.Option.{IsSome, is_some}
 use Rattle.std.specs.Ordering.{nat_cmp}
 use Rattle.ifmap_lemmas.specs.Options.{some_none}
-use Rattle.ifmap_machine.specs.Telling.{is_overfull, tell_session}
+use Rattle.ifmap_standing.specs.ifmap_machine.Telling.{is_overfull, tell_session}
 use Rattle.ifmap_search.specs.declared.results.PollItem.{PollItem}
 use Rattle.ifmap_search.specs.Sizes.{poll_size, queue_size}
-use Rattle.ifmap_session.specs.Sessions.{Session, session_with_serial}
+use Rattle.ifmap_standing.specs.ifmap_session.Sessions.{Session, session_with_serial}
 use Rattle.ifmap_tellings.specs.declared.tellings.Telling.{Telling}
 use Rattle.ifmap_tellings.specs.declared.tellings.Telling.TheVariants.{After}
 use Rattle.ifmap_tellings.specs.Tellings.{AddsTo, IsSized, told_where}
-use Rattle.ifmap_machine.specs.OrderLaws.{tell_nothing}
+use Rattle.ifmap_standing.specs.ifmap_machine.OrderLaws.{tell_nothing}
 
 pub tell_twice : (a b : List PollItem) (s : Session) → tell_session b (tell_session a s) ≡ tell_session (a ++ b) s
 tell_twice a b s = ap (λ queue. record s { queue = queue }) (append_assoc s.queue a b)

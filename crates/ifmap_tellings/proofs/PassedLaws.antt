@@ -10,14 +10,14 @@ use Rattle.std.specs.List.Sorted.{IsStrictlySortedBy}
 use Rattle.std.specs.Option.{is_some}
 use Rattle.std.specs.Ordering.{nat_cmp}
 use Rattle.ifmap_lemmas.specs.Having.{Has, all_has}
-use Rattle.ifmap_machine.specs.Telling.{is_overfull, overflow_session}
-use Rattle.ifmap_session.specs.Sessions.{Session, SessionTable, session_order, session_with_serial}
+use Rattle.ifmap_standing.specs.ifmap_machine.Telling.{is_overfull, overflow_session}
+use Rattle.ifmap_standing.specs.ifmap_session.Sessions.{Session, SessionTable, session_order, session_with_serial}
 use Rattle.ifmap_standing.specs.declared.standing.Standing.{Standing}
 use Rattle.ifmap_tellings.specs.declared.tellings.Telling.{Telling}
 use Rattle.ifmap_tellings.specs.Tellings.{AreUntoldWithinLimits, CanTell, EachTelling, HasSameSessions, IsSized, Tellings, is_alone, told_by, told_where}
 use Rattle.ifmap_tellings.proofs.OverflowLaws.{overflowed_within, within_stays}
 use Rattle.ifmap_tellings.proofs.RoomLaws.{found_here, tells_still}
-use Rattle.ifmap_tellings.specs.ToldLaws.{same_itself, same_twice, told_limit}
+use Rattle.ifmap_tellings.specs.ToldLaws.{same_sessions_itself, same_twice, told_limit}
 
 -- none of these subscriptions is of a session
 abbrev pub IsFree : List Standing → ℕ → Type 0
@@ -54,7 +54,7 @@ passed_first standing begun old within rest sized = record {
   keys = λ n. refl;
   rest = rest;
   sized = sized;
-  same = same_itself begun;
+  same = same_sessions_itself begun;
 }
 
 module _ (standing : List Standing) (begun now : SessionTable) (old tellings : Tellings) (at : ℕ)

@@ -9,7 +9,7 @@ use Rattle.std.specs.List.{slice_get}
 use Rattle.std.specs.Ordering.{nat_cmp}
 use Rattle.ifmap_lemmas.specs.Having.{Has, has_from}
 use Rattle.ifmap_search.specs.declared.results.PollItem.{PollItem}
-use Rattle.ifmap_session.specs.Sessions.{Session}
+use Rattle.ifmap_standing.specs.ifmap_session.Sessions.{Session}
 use Rattle.ifmap_standing.specs.declared.standing.Standing.{Standing}
 use Rattle.ifmap_standing.specs.declared.telling.News.{News}
 use Rattle.ifmap_tellings.specs.Tellings.{AddsTo, AllKept, AreUntoldWithinLimits, EachTelling, IsSized, LeaveAlone, SkipsGone, Tellings, is_alone, queued_for}

@@ -9,11 +9,11 @@ use Rattle.ifmap_lemmas.specs.Options.{is_some_of, some_is}
 use Rattle.ifmap_tellings.specs.declared.tellings.Telling.{Telling}
 use Rattle.ifmap_tellings.specs.declared.tellings.Telling.TheVariants.{After, Alone}
 use Rattle.ifmap_tellings.specs.Tellings.{CanTell, EachTelling, Tellings, count_told, count_where, told_by, told_where}
-use Rattle.ifmap_machine.specs.Telling.{tell_session}
+use Rattle.ifmap_standing.specs.ifmap_machine.Telling.{tell_session}
 use Rattle.ifmap_search.specs.declared.results.PollItem.{PollItem}
-use Rattle.ifmap_session.specs.Sessions.{Changes, IsLive, Session, SessionTable, change, session_with_serial, spare_of, with_item}
-use Rattle.ifmap_session.specs.laws.TableLaws.{KeepsIdAndClient, changed_one, found_changed}
-use Rattle.ifmap_machine.specs.OrderLaws.{tell_nothing}
+use Rattle.ifmap_standing.specs.ifmap_session.Sessions.{Changes, IsLive, Session, SessionTable, change, session_with_serial, spare_of, with_item}
+use Rattle.ifmap_standing.specs.ifmap_session.laws.TableLaws.{KeepsIdAndClient, changed_one, found_changed}
+use Rattle.ifmap_standing.specs.ifmap_machine.OrderLaws.{tell_nothing}
 
 -- ---- one session changes
 

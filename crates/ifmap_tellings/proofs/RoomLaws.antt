@@ -6,7 +6,7 @@ use Rattle.std.proofs.lemmas.Bool.Decides.{nat_tests}
 use Rattle.std.specs.List.Sorted.{IsStrictlySortedBy}
 use Rattle.std.specs.declared.cmp.Ordering.TheVariants.{Less}
 use Rattle.ifmap_lemmas.specs.Having.{Has, all_has}
-use Rattle.ifmap_session.specs.Sessions.{IsLive, Session, SessionTable, session_order, session_with_serial, spare_of}
+use Rattle.ifmap_standing.specs.ifmap_session.Sessions.{IsLive, Session, SessionTable, session_order, session_with_serial, spare_of}
 use Rattle.ifmap_tellings.specs.declared.tellings.Telling.{Telling}
 use Rattle.ifmap_tellings.specs.Tellings.{CanTell, HasSameSessions, count_told}
 use Rattle.ifmap_tellings.specs.ToldLaws.{at_most}

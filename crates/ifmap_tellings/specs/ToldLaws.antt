@@ -1,6 +1,6 @@
 -- What is told a session, and whose sessions stay.
 use Rattle.std.proofs.Common.{refl, arith, ℕ, ◌≤◌, ◌∙◌, ◌≡◌, Option, Some, None, Bool, List, sym, true, false, [], ◌∷◌, map, ap}
-use Rattle.ifmap_session.specs.Sessions.{SessionTable, spare_of, Session}
+use Rattle.ifmap_standing.specs.ifmap_session.Sessions.{SessionTable, spare_of, Session}
 use Rattle.ifmap_tellings.specs.Tellings.{HasSameSessions, told_where, AllKept, kept_of}
 use Rattle.ifmap_tellings.specs.declared.tellings.Telling.{Telling}
 use Rattle.ifmap_tellings.specs.declared.tellings.Telling.TheVariants.{After, Alone}
@@ -8,8 +8,8 @@ use Rattle.ifmap_lemmas.specs.Places.{present}
 use Rattle.ifmap_standing.specs.declared.standing.Standing.{Standing}
 use Rattle.ifmap_standing.specs.Kept.{AtEach}
 
-pub same_itself : (t : SessionTable) → HasSameSessions t t
-same_itself t = record { live = refl; counter = refl; spare = λ n. omega arith; room = omega arith }
+pub same_sessions_itself : (t : SessionTable) → HasSameSessions t t
+same_sessions_itself t = record { live = refl; counter = refl; spare = λ n. omega arith; room = omega arith }
 
 pub at_most : (a b c : ℕ) → a ≤ b → b ≤ c → a ≤ c
 at_most a b c d e = omega arith

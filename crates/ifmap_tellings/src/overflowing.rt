@@ -8,17 +8,16 @@ ghost use Rattle.ifmap_tellings.specs.declared.tellings.Telling.{Telling};
 ghost use Rattle.ifmap_tellings.specs.Tellings.{AreUntoldWithinLimits, CanTell, EachTelling, HasSameSessions, IsSized, count_where, is_alone, told_by, told_where};
 ghost use Rattle.ifmap_ident.specs.declared.codes.Code.TheVariants.{PollResultsTooBig};
 ghost use Rattle.ifmap_lemmas.specs.Having.{Has};
-ghost use Rattle.ifmap_machine.specs.Telling.{is_overfull, limit_note, overflow_session};
+ghost use Rattle.ifmap_standing.specs.ifmap_machine.Telling.{is_overfull, limit_note, overflow_session};
 ghost use Rattle.ifmap_search.specs.declared.results.PollItem.TheVariants as the_item;
-ghost use Rattle.ifmap_session.specs.Sessions.{IsLive, Session, session_with_serial};
+ghost use Rattle.ifmap_standing.specs.ifmap_session.Sessions.{IsLive, Session, session_with_serial};
 ghost use Rattle.ifmap_standing.specs.declared.standing.Standing.{Standing};
 
 use crate::tellings::{Telling, count_told};
 use ifmap_ident::Code;
 use ifmap_search::PollItem;
-use ifmap_session::Sessions;
-use ifmap_standing::Standing;
 use ifmap_standing::telling::limit_note;
+use ifmap_standing::{Sessions, Standing};
 use std::alloc::{AllocError as NoMemory, Global};
 use std::collections::BTreeMap;
 

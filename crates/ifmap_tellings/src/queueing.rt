@@ -6,16 +6,15 @@ ghost use Rattle.std.specs.Ordering.{nat_cmp};
 ghost use Rattle.ifmap_tellings.specs.declared.tellings.Telling.{Telling};
 ghost use Rattle.ifmap_tellings.specs.Tellings.{AddsTo, AreUntoldWithinLimits, EachTelling, IsSized, LeaveAlone, is_alone, queued_for};
 ghost use Rattle.ifmap_lemmas.specs.Having.{Has};
-ghost use Rattle.ifmap_machine.specs.Telling.{is_overfull};
+ghost use Rattle.ifmap_standing.specs.ifmap_machine.Telling.{is_overfull};
 ghost use Rattle.ifmap_search.specs.Sizes.{poll_size, queue_size};
-ghost use Rattle.ifmap_session.specs.Sessions.{IsLive, Session, session_with_serial};
+ghost use Rattle.ifmap_standing.specs.ifmap_session.Sessions.{IsLive, Session, session_with_serial};
 ghost use Rattle.ifmap_standing.specs.declared.standing.Standing.{Standing};
 
 use crate::tellings::Telling;
 use ifmap_elem::Many;
 use ifmap_search::{PollItem, poll_size};
-use ifmap_session::Sessions;
-use ifmap_standing::{News, Standing};
+use ifmap_standing::{News, Sessions, Standing};
 use std::alloc::{AllocError as NoMemory, Global};
 use std::collections::BTreeMap;
 

@@ -10,9 +10,9 @@ ghost use Rattle.ifmap_tellings.specs.declared.tellings.Telling.TheVariants as t
 ghost use Rattle.ifmap_tellings.specs.Tellings.{AloneAreBare, CanTell, EachTelling, HasSameSessions, IsSized, SkipsGone, count_told, count_where, gone_after, gone_alone, is_alone, queued_for, told_by, told_where};
 ghost use Rattle.ifmap_ident.specs.declared.codes.Code.TheVariants.{PollResultsTooBig};
 ghost use Rattle.ifmap_lemmas.specs.Having.{Has};
-ghost use Rattle.ifmap_machine.specs.Telling.{is_overfull, limit_note, overflow_session, tell_session};
+ghost use Rattle.ifmap_standing.specs.ifmap_machine.Telling.{is_overfull, limit_note, overflow_session, tell_session};
 ghost use Rattle.ifmap_search.specs.declared.results.PollItem.TheVariants as the_item;
-ghost use Rattle.ifmap_session.specs.Sessions.{Changes, IsLive, Session, session_with_serial, spare_of};
+ghost use Rattle.ifmap_standing.specs.ifmap_session.Sessions.{Changes, IsLive, Session, session_with_serial, spare_of};
 ghost use Rattle.ifmap_standing.specs.declared.standing.Standing.{Standing};
 
 use crate::marking::{mark_alone, mark_too_big};
@@ -20,8 +20,7 @@ use crate::overflowing::{overflow_all, overflow_item};
 use crate::queueing::queue_all;
 use ifmap_elem::Many;
 use ifmap_search::PollItem;
-use ifmap_session::Sessions;
-use ifmap_standing::{News, Standing};
+use ifmap_standing::{News, Sessions, Standing};
 use std::alloc::{AllocError as NoMemory, Global};
 use std::collections::BTreeMap;
 

@@ -1,12 +1,12 @@
 -- Attachments: their order, their keys, and the lists that are graphs.
-use Rattle.std.specs.Prelude.{ℕ, ◌+◌, Bool, ◌&&◌, List, length}
+use Rattle.std.specs.Prelude.{ℕ, Bool, ◌&&◌, List}
 use Rattle.std.specs.Cmp.Lexicographic.{slice_cmp}
 use Rattle.std.specs.List.{AllByRecursion, IsDistinct}
 use Rattle.std.specs.List.Sorted.{IsStrictlySortedBy}
 use Rattle.std.specs.Ordering.{nat_cmp, on, then_cmp}
 use Rattle.std.specs.declared.cmp.Ordering.{Ordering}
 use Rattle.ifmap_elem.specs.Canonical.{canonical_bytes}
-use Rattle.ifmap_ident.specs.Items.{IsCanonItem, item_order, item_size, same_item}
+use Rattle.ifmap_ident.specs.Items.{IsCanonItem, item_order, same_item}
 use Rattle.ifmap_meta.specs.declared.stored.Stored.{Stored}
 use Rattle.ifmap_meta.specs.Keys.{same_key}
 use Rattle.ifmap_view.specs.declared.attachments.Attachment.{Attachment}
@@ -32,7 +32,3 @@ pub record IsGraph (rows : List Attachment) : Type 0 where
   pub items : AllByRecursion (λ r. IsCanonItem r.item) rows
   pub rising : IsStrictlySortedBy attachment_order rows
   pub keys : IsDistinct of_one_key rows
-
--- the size of an attachment's entry in a result: the canonical bytes of its identifiers and of its element
-abbrev pub entry_size : Attachment → ℕ
-entry_size a = item_size a.item + length (stored_bytes a.stored)

@@ -16,7 +16,7 @@ use Rattle.clap.specs.declared.error.kind.ErrorKind.TheVariants.{OutOfMemory}
 use Rattle.ifmap_words.specs.declared.pairs.Pair.{Pair}
 use Rattle.ifmap_words.specs.Options.{is_option}
 use Rattle.ifmap_words.specs.Pairs.{HasPair, IsPair, first_id, pair_app, second_id}
-use Rattle.ifmap_words.specs.PairLaws.{AreTwo, none_of, pair_built, pair_faults, pair_is_simple, pair_only, pair_passes, pair_rows}
+use Rattle.ifmap_words.specs.PairLaws.{AreTwo, no_option_among, pair_built, pair_faults, pair_is_simple, pair_only, pair_passes, pair_rows}
 
 -- a pair has no option
 pub pair_is_plain : (words : List Text) (x y : Text) → IsPair words x y → list_any is_option words ≡ false
@@ -54,8 +54,8 @@ found_pair name words rows found plain passes are has =
     let x = two.0 in
     let y = two.1 in
     let here : list_any is_option (x ∷ y ∷ []) ≡ false = subst (λ (ws : List Text). list_any is_option ws ≡ false) two.2 plain in
-    let one = none_of x (y ∷ []) here in
-    let other = none_of y [] one.1 in
+    let one = no_option_among x (y ∷ []) here in
+    let other = no_option_among y [] one.1 in
     let got = pair_rows x y one.0 other.0 in
     let is = are ∙ ap (λ ws. matches_of (pair_app name) ws) two.2 in
     (x, y, (two.2, one.0, other.0), has x y (ap (first_of first_id) is ∙ got.0) (ap (first_of second_id) is ∙ got.1))

@@ -63,9 +63,9 @@ walk_fails s names h position word rest plain none =
     (ap (λ w. walk_fault s names w rest) (walked_on s.rules names h position word plain none))
 
 -- none of the words is an option
-pub none_of : (word : Text) (rest : List Text) → list_any is_option (word ∷ rest) ≡ false
+pub no_option_among : (word : Text) (rest : List Text) → list_any is_option (word ∷ rest) ≡ false
     → (is_option word ≡ false) × (list_any is_option rest ≡ false)
-none_of word rest plain = or_parts (is_option word) (list_any is_option rest) plain
+no_option_among word rest plain = or_parts (is_option word) (list_any is_option rest) plain
 
 -- ---- a command that takes two words
 
@@ -139,14 +139,14 @@ pub pair_only : (s : Shape) (words : List Text) → list_any is_option words ≡
 unfolding walk_fault defaults_fault
 pair_only s [] plain e = absurd (some_kind _ _ e)
 pair_only s (x ∷ []) plain e =
-    let plain_x : is_option x ≡ false = (none_of x [] plain).0 in
+    let plain_x : is_option x ≡ false = (no_option_among x [] plain).0 in
     absurd (some_kind _ _ (sym (ap₂ (level_at (pair_built s)) (one_walked x plain_x)
     (walk_fails (pair_built s) [] nothing_held 1 x [] plain_x refl)) ∙ e))
 pair_only s (x ∷ y ∷ []) plain e = (x, y, refl)
 pair_only s (x ∷ y ∷ z ∷ rest) plain e =
-    let one = none_of x (y ∷ z ∷ rest) plain in
-    let two = none_of y (z ∷ rest) one.1 in
-    let three = none_of z rest two.1 in
+    let one = no_option_among x (y ∷ z ∷ rest) plain in
+    let two = no_option_among y (z ∷ rest) one.1 in
+    let three = no_option_among z rest two.1 in
     absurd (some_kind _ _ (sym (two_fail s x y (z ∷ rest) one.0 two.0
     ∙ walk_fails (pair_built s) [] (after_two x y).held 3 z rest three.0 refl)
     ∙ first_none _ _ e))

@@ -1,5 +1,10 @@
--- A request that a body means is within its bounds. Plan: (1) what checks find, taken apart; (2) values of attributes; (3) how deep parts
--- nest; (4) metadata; (5) operations and requests; (6) bodies.
+-- A request that a body means is within its bounds.
+-- 1. What checks find, taken apart.
+-- 2. Values of attributes.
+-- 3. How deep parts nest.
+-- 4. Metadata.
+-- 5. Operations and requests.
+-- 6. Bodies.
 use Rattle.std.proofs.Common.{◌≡◌, ◌⊎◌, ◌∙◌, ◌++◌, ◌+◌, ◌<◌, ◌≤◌, ◌^◌, ◌&&◌, ℕ, suc, min, Bool, true, false, List, [], ◌∷◌, Option, None}
 use Rattle.std.proofs.Common.{Some, IfSome, Result, Ok, Err, codes, length, map, refl, ap, sym, subst, inl, inr, arith}
 use Rattle.std.specs.Prelude.{if◌then◌else◌, nat_le, nat_lt}
@@ -15,10 +20,10 @@ use Rattle.ifmap_elem.specs.declared.elements.Child.{Child, out-Child}
 use Rattle.ifmap_elem.specs.declared.elements.Child.TheOpen.{Child-F}
 use Rattle.ifmap_elem.specs.declared.elements.Element.{Element}
 use Rattle.ifmap_elem.specs.laws.FitLaws.{nesting_arranged, out_text}
-use Rattle.ifmap_envelopes.specs.Envelopes.{IsEnvelope}
+use Rattle.ifmap_requests.specs.ifmap_envelopes.Envelopes.{IsEnvelope}
 use Rattle.ifmap_filter.specs.declared.filters.Filter.{Filter}
 use Rattle.ifmap_filter.specs.Holding.{is_name}
-use Rattle.ifmap_reader.specs.declared.scoping.Scope.{Scope}
+use Rattle.ifmap_ident.specs.ifmap_reader.declared.scoping.Scope.{Scope}
 use Rattle.ifmap_ident.specs.declared.codes.Code.{Code}
 use Rattle.ifmap_ident.specs.declared.codes.Code.TheVariants.{Failure, InvalidSchemaVersion}
 use Rattle.ifmap_ident.specs.declared.identifiers.Identifier.{Identifier}
@@ -27,20 +32,20 @@ use Rattle.ifmap_ident.specs.declared.kinds.Kind.{Kind}
 use Rattle.ifmap_ident.specs.Parts.{has_only, value_of}
 use Rattle.ifmap_meta.specs.declared.metadata.Metadata.{Metadata}
 use Rattle.ifmap_meta.specs.Stamps.{content_of}
-use Rattle.ifmap_forms.specs.Checks.{Check, check_if, check_then, fail, need, need_some, pass}
-use Rattle.ifmap_forms.specs.Items.{from_list, is_list, item_of, list_if_there, list_check}
-use Rattle.ifmap_forms.specs.Scopes.{Scopes, scopes_below}
-use Rattle.ifmap_forms.specs.Tables.{Both, Form, Part, AttributeTable, beside, both, each_element, form_check, form_or, no_attributes, parts_in}
-use Rattle.ifmap_forms.specs.Tables.{element_parts}
-use Rattle.ifmap_forms.specs.Values.{Field, depth_field, field_check, filter_field, kinds_field, name_field, number_of, read_depth}
-use Rattle.ifmap_forms.specs.Values.{read_name, read_size, size_field}
+use Rattle.ifmap_requests.specs.ifmap_forms.Checks.{Check, check_if, check_then, fail, need, need_some, pass}
+use Rattle.ifmap_requests.specs.ifmap_forms.Items.{from_list, is_list, item_of, list_if_there, list_check}
+use Rattle.ifmap_requests.specs.ifmap_forms.Scopes.{Scopes, scopes_below}
+use Rattle.ifmap_requests.specs.ifmap_forms.Tables.{Both, Form, Part, AttributeTable, beside, both, each_element, form_check, form_or, no_attributes, parts_in}
+use Rattle.ifmap_requests.specs.ifmap_forms.Tables.{element_parts}
+use Rattle.ifmap_requests.specs.ifmap_forms.Values.{Field, depth_field, field_check, filter_field, kinds_field, name_field, number_of, read_depth}
+use Rattle.ifmap_requests.specs.ifmap_forms.Values.{read_name, read_size, size_field}
 use Rattle.ifmap_requests.specs.declared.publishing.PublishOp.{PublishOp}
 use Rattle.ifmap_requests.specs.declared.requests.Request.{Request}
 use Rattle.ifmap_requests.specs.declared.requests.SubscribeOp.{SubscribeOp}
 use Rattle.ifmap_requests.specs.Means.{Means, scopes_from}
 use Rattle.ifmap_requests.specs.Published.{metadata_check, published_check}
 use Rattle.ifmap_requests.specs.RequestForms.{SearchValues, delete_form, delete_from_form, end_form, end_from_form, end_session_form, end_session_of}
-use Rattle.ifmap_envelopes.specs.Spaces.{ifmap_space}
+use Rattle.ifmap_requests.specs.ifmap_envelopes.Spaces.{ifmap_space}
 use Rattle.ifmap_requests.specs.RequestForms.{named_request_check, new_session_form, new_session_of, notify_form, notify_of}
 use Rattle.ifmap_requests.specs.RequestForms.{other_request_check, poll_form, poll_of, publish_form, publish_of, publish_op_check}
 use Rattle.ifmap_requests.specs.RequestForms.{purge_form, purge_of, renew_form, renewal_of, request_check, search_attributes, search_form}

@@ -1,5 +1,9 @@
--- What is printed of a fit filter is of characters, and its namespaces are such as a document can have. Plan: (1) induction on predicates;
--- (2) what is printed of names and literals; (3) of predicates; (4) their namespaces; (5) tests and filters.
+-- What is printed of a fit filter is of characters, and its namespaces are such as a document can have.
+-- 1. Induction on predicates.
+-- 2. What is printed of names and literals.
+-- 3. What is printed of predicates.
+-- 4. Their namespaces.
+-- 5. Tests and filters.
 use Rattle.std.proofs.Common.{◌≡◌, ◌∙◌, ◌++◌, ◌+◌, ℕ, Bool, true, false, List, [], ◌∷◌, Option, None, Some, IfSome, codes, map, refl, ap}
 use Rattle.std.proofs.Common.{sym, subst}
 use Rattle.std.specs.Prelude.{if◌then◌else◌}
@@ -18,7 +22,7 @@ use Rattle.ifmap_filter.specs.declared.filters.Predicate.TheOpen.{Predicate-F}
 use Rattle.ifmap_filter.specs.declared.filters.Test.{Test}
 use Rattle.ifmap_filter.specs.declared.filters.Filter.{Filter}
 use Rattle.ifmap_filter.specs.Printing.{PredicateText, attribute_text, brackets_text, child_text, comparison_text, filter_text, group_text}
-use Rattle.ifmap_filter.specs.Printing.{has_single_quote, joined_texts, literal_text, name_text, numbered_prefix, place_of, predicate_text}
+use Rattle.ifmap_filter.specs.Printing.{has_single_quote, joined_texts, literal_text, name_text, numbered_prefix, space_place, predicate_text}
 use Rattle.ifmap_filter.specs.Printing.{predicate_text_of, quote_of, test_name_text, test_text}
 use Rattle.ifmap_filter.specs.Spaces.{brackets_spaces, filter_spaces, name_spaces, predicate_spaces, predicate_spaces_of, test_spaces}
 use Rattle.ifmap_requests.specs.FitFilters.{Comparison, IsFitComparison, IsFitFilter, IsFitPredicate, IsFitTest, comparison, comparisons}
@@ -73,12 +77,12 @@ prefix_characters n = characters_both (codes "f") (numeral n) (plain_characters 
 name_characters : (spaces : List (List ℕ)) (name : element.Name) → IsFitName name → IsCharacters (name_text spaces name)
 name_characters spaces name f =
     let local = part_characters name.local f.local in
-    let numbered = numbered_prefix (place_of name.space spaces + 1) in
+    let numbered = numbered_prefix (space_place name.space spaces + 1) in
     if_both IsCharacters (bytes_eq name.space []) name.local
     (if bytes_eq name.space xml_space then codes "xml:" ++ name.local else numbered ++ (colon ∷ name.local)) local
     (if_both IsCharacters (bytes_eq name.space xml_space) (codes "xml:" ++ name.local) (numbered ++ (colon ∷ name.local))
     (characters_both (codes "xml:") name.local (plain_characters (codes "xml:") refl refl) local)
-    (characters_both numbered (colon ∷ name.local) (prefix_characters (place_of name.space spaces + 1))
+    (characters_both numbered (colon ∷ name.local) (prefix_characters (space_place name.space spaces + 1))
     (characters_both (codes ":") name.local (plain_characters (codes ":") refl refl) local)))
 
 quote_characters : (value : List ℕ) → IsCharacters (quote_of value ∷ [])

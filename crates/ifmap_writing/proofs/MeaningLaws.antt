@@ -11,10 +11,10 @@ use Rattle.ifmap_elem.specs.Nesting.{nesting}
 use Rattle.ifmap_elem.specs.Spells.{Spells}
 use Rattle.ifmap_elem.specs.declared.elements.Element.{Element}
 use Rattle.ifmap_elem.specs.declared.readings.Reading.{Reading}
-use Rattle.ifmap_envelopes.specs.Envelopes.{in_envelope}
-use Rattle.ifmap_envelopes.specs.MakingLaws.{made_envelope}
-use Rattle.ifmap_forms.specs.Scopes.{Scopes}
-use Rattle.ifmap_reader.specs.declared.scoping.Scope.{Scope}
+use Rattle.ifmap_requests.specs.ifmap_envelopes.Envelopes.{in_envelope}
+use Rattle.ifmap_requests.specs.ifmap_envelopes.MakingLaws.{made_envelope}
+use Rattle.ifmap_requests.specs.ifmap_forms.Scopes.{Scopes}
+use Rattle.ifmap_ident.specs.ifmap_reader.declared.scoping.Scope.{Scope}
 use Rattle.ifmap_filter.specs.declared.filters.Filter.{Filter}
 use Rattle.ifmap_filter.specs.Laws.{PrintedIsParsedBack}
 use Rattle.ifmap_filter.specs.Printing.{filter_text, numbered_scope}

@@ -1,5 +1,10 @@
--- What is written of a request is read back as that request. Plan: (1) attributes; (2) identifiers as children; (3) what is published;
--- (4) searches; (5) operations; (6) requests.
+-- What is written of a request is read back as that request.
+-- 1. Attributes.
+-- 2. Identifiers as children.
+-- 3. What is published.
+-- 4. Searches.
+-- 5. Operations.
+-- 6. Requests.
 use Rattle.std.proofs.Common.{◌≡◌, ◌∙◌, ◌&&◌, ◌||◌, ◌+◌, ◌≤◌, ℕ, Bool, true, false, not, List, [], ◌∷◌, Option, None, Some, IfSome, Result}
 use Rattle.std.proofs.Common.{Ok, codes, map, refl, ap, sym, subst}
 use Rattle.std.specs.Prelude.{nat_lt}
@@ -8,12 +13,12 @@ use Rattle.std.specs.declared.cmp.Ordering.{Ordering}
 use Rattle.std.specs.declared.cmp.Ordering.TheVariants.{Less, Equal}
 use Rattle.std.proofs.lemmas.Bool.{false_from_ne_true}
 use Rattle.ifmap_lemmas.specs.Texts.{eq_tells, slice_cmp-same}
-use Rattle.ifmap_elem.specs.Building.{bare_name, is_bare}
+use Rattle.ifmap_elem.specs.Building.{bare_name, is_bare, as_children}
 use Rattle.ifmap_elem.specs.declared.elements.Child.{Child}
 use Rattle.ifmap_elem.specs.declared.elements.Child.TheOpen.{Child-F}
 use Rattle.ifmap_elem.specs.declared.elements.Element.{Element}
 use Rattle.ifmap_elem.specs.declared.elements.Name.{Name}
-use Rattle.ifmap_reader.specs.declared.scoping.Scope.{Scope}
+use Rattle.ifmap_ident.specs.ifmap_reader.declared.scoping.Scope.{Scope}
 use Rattle.ifmap_filter.specs.declared.filters.Filter.{Filter}
 use Rattle.ifmap_filter.specs.Printing.{filter_text}
 use Rattle.ifmap_filter.specs.Texts.{Writes}
@@ -30,14 +35,14 @@ use Rattle.ifmap_ident.specs.Parts.{has_only}
 use Rattle.ifmap_meta.specs.declared.metadata.Metadata.{Metadata}
 use Rattle.ifmap_meta.specs.Whole.{IsMadeOf, IsMetadata}
 use Rattle.ifmap_search.specs.declared.searches.Search as search
-use Rattle.ifmap_forms.specs.AnswerLaws.{found_after, found_alone, found_beside, found_form}
-use Rattle.ifmap_forms.specs.Checks.{Check, check_then, need_some, pass}
-use Rattle.ifmap_forms.specs.Items.{before_list, from_list, identifiers_check, item_check, item_of, list_if_there, list_check, may_follow}
-use Rattle.ifmap_forms.specs.Items.{start_check}
-use Rattle.ifmap_forms.specs.Scopes.{Scopes, scopes_below}
-use Rattle.ifmap_forms.specs.Tables.{Part, both, each_element, list_of, parts_in}
-use Rattle.ifmap_forms.specs.Values.{Field, depth_field, field_check, filter_field, kinds_field, lifetime_field, limit_field, name_field}
-use Rattle.ifmap_forms.specs.Values.{read_filter, size_field}
+use Rattle.ifmap_requests.specs.ifmap_forms.AnswerLaws.{found_after, found_alone, found_beside, found_form}
+use Rattle.ifmap_requests.specs.ifmap_forms.Checks.{Check, check_then, need_some, pass}
+use Rattle.ifmap_requests.specs.ifmap_forms.Items.{before_list, from_list, identifiers_check, item_check, item_of, list_if_there, list_check, may_follow}
+use Rattle.ifmap_requests.specs.ifmap_forms.Items.{start_check}
+use Rattle.ifmap_requests.specs.ifmap_forms.Scopes.{Scopes, scopes_below}
+use Rattle.ifmap_requests.specs.ifmap_forms.Tables.{Part, both, each_element, list_of, parts_in}
+use Rattle.ifmap_requests.specs.ifmap_forms.Values.{Field, depth_field, field_check, filter_field, kinds_field, lifetime_field, limit_field, name_field}
+use Rattle.ifmap_requests.specs.ifmap_forms.Values.{read_filter, size_field}
 use Rattle.ifmap_requests.specs.declared.publishing.PublishOp.{PublishOp}
 use Rattle.ifmap_requests.specs.declared.publishing.PublishOp.TheVariants as publish
 use Rattle.ifmap_requests.specs.declared.requests.Request.{Request}
@@ -56,7 +61,7 @@ use Rattle.ifmap_writing.specs.Attributes.{AttributeRow, attributes_of, filter_r
 use Rattle.ifmap_writing.specs.Attributes.{limit_rows, limit_value, name_rows, number_value, purge_rows, search_rows, session_rows}
 use Rattle.ifmap_writing.specs.Attributes.{subscription_rows}
 use Rattle.ifmap_writing.specs.Bounds.{IsBounded, IsBoundedSearch, IsBoundedSubscribe}
-use Rattle.ifmap_writing.specs.RequestElements.{as_children, element_in, identifier_children, item_children, list_element, publish_element}
+use Rattle.ifmap_writing.specs.RequestElements.{element_in, identifier_children, item_children, list_element, publish_element}
 use Rattle.ifmap_writing.specs.RequestElements.{published_children, subscribe_element}
 use Rattle.ifmap_writing.proofs.RowLaws.{only_rows, or_none, row_value, value_found}
 use Rattle.ifmap_writing.proofs.SoundLaws.{as_parts, parts_are}

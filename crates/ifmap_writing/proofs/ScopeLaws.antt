@@ -16,14 +16,14 @@ use Rattle.ifmap_elem.specs.Scopes.{AllDiffer, Binding, xml_space}
 use Rattle.ifmap_elem.specs.declared.elements.Name as element
 use Rattle.ifmap_elem.specs.declared.readings.Declared.{Declared}
 use Rattle.ifmap_elem.specs.declared.tokens.Qualified.{Qualified}
-use Rattle.ifmap_elem.specs.laws.PrintedScopes.{both_differ, f_letter, n_letter, prefixes_differ, rows_of}
+use Rattle.ifmap_elem.specs.laws.PrintedScopes.{both_differ, f_letter, n_letter, prefixes_differ, numbered_prefix_rows}
 use Rattle.ifmap_elem.specs.laws.PrintedTags.{row_binding}
-use Rattle.ifmap_reader.specs.declared.scoping.Scope.{Scope}
+use Rattle.ifmap_ident.specs.ifmap_reader.declared.scoping.Scope.{Scope}
 use Rattle.ifmap_filter.specs.declared.filters.Filter.{Filter}
 use Rattle.ifmap_filter.specs.Grammar.{StandsFor, space_of}
 use Rattle.ifmap_filter.specs.Printing.{numbered_prefix, numbered_rows, numbered_scope}
 use Rattle.ifmap_filter.specs.Texts.{Writes}
-use Rattle.ifmap_forms.specs.Scopes.{scopes_by}
+use Rattle.ifmap_requests.specs.ifmap_forms.Scopes.{scopes_by}
 use Rattle.ifmap_writing.proofs.WiderLaws.{writes_in}
 
 -- ---- (1) rows
@@ -87,13 +87,13 @@ keys_are : (rows : Rows) → map (λ (b : Binding). b.prefix) (map row_binding r
 keys_are [] = refl
 keys_are (r ∷ rows) = ap (λ (l : List (List ℕ)). r.1 ∷ l) (keys_are rows)
 
-numbered_are : (n : ℕ) (spaces : List (List ℕ)) → map turn (rows_of 0x66 n spaces) ≡ numbered_rows n spaces
+numbered_are : (n : ℕ) (spaces : List (List ℕ)) → map turn (numbered_prefix_rows 0x66 n spaces) ≡ numbered_rows n spaces
 numbered_are n [] = refl
 numbered_are n (space ∷ spaces) = ap (λ (l : Rows). (numbered_prefix n, space) ∷ l) (numbered_are (n + 1) spaces)
 
 module _ (own spaces : List (List ℕ)) where
   abbrev pub its_rows : Rows
-  its_rows = rows_of 0x6E 1 own ++ rows_of 0x66 1 spaces
+  its_rows = numbered_prefix_rows 0x6E 1 own ++ numbered_prefix_rows 0x66 1 spaces
 
   its_differ : AllDiffer (keys (map turn its_rows))
   its_differ =
@@ -104,12 +104,12 @@ module _ (own spaces : List (List ℕ)) where
   found_there : (p s : List ℕ) → lookup (bytes_eq p) (numbered_rows 1 spaces) ≡ Some s
       → lookup (bytes_eq p) (reverse (map turn its_rows)) ≡ Some s
   found_there p s found =
-      let parts : map turn its_rows ≡ map turn (rows_of 0x6E 1 own) ++ numbered_rows 1 spaces =
-      map-append turn (rows_of 0x6E 1 own) (rows_of 0x66 1 spaces)
-      ∙ ap (λ (l : Rows). map turn (rows_of 0x6E 1 own) ++ l) (numbered_are 1 spaces) in
+      let parts : map turn its_rows ≡ map turn (numbered_prefix_rows 0x6E 1 own) ++ numbered_rows 1 spaces =
+      map-append turn (numbered_prefix_rows 0x6E 1 own) (numbered_prefix_rows 0x66 1 spaces)
+      ∙ ap (λ (l : Rows). map turn (numbered_prefix_rows 0x6E 1 own) ++ l) (numbered_are 1 spaces) in
       found_turned p (map turn its_rows) its_differ
       ∙ ap (lookup (bytes_eq p)) parts
-      ∙ found_behind p (map turn (rows_of 0x6E 1 own)) (numbered_rows 1 spaces) s
+      ∙ found_behind p (map turn (numbered_prefix_rows 0x6E 1 own)) (numbered_rows 1 spaces) s
       (subst (λ (rows : Rows). AllDiffer (keys rows)) parts its_differ) found
 
   -- ---- (3) the scope

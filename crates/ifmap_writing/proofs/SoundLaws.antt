@@ -15,7 +15,7 @@ use Rattle.ifmap_elem.specs.declared.elements.Name.{Name}
 use Rattle.ifmap_elem.specs.laws.ArrangedLaws.{arranged_in, arranged_is, out_element}
 use Rattle.ifmap_elem.specs.laws.FitLaws.{elements_in, elements_of_child, fit_whole}
 use Rattle.ifmap_writing.specs.Attributes.{AttributeRow, attributes_of}
-use Rattle.ifmap_writing.specs.RequestElements.{as_children}
+use Rattle.ifmap_elem.specs.Building.{as_children}
 use Rattle.ifmap_writing.proofs.RowLaws.{HasFitValue, rises, rows_differ, rows_fit, rows_plain, rows_sorted}
 
 -- a document can have the element, it is arranged, and it nests at most so deep

@@ -18,12 +18,12 @@ use Rattle.ifmap_ident.specs.declared.codes.Code.TheVariants.{InvalidIdentifierT
 use Rattle.ifmap_ident.specs.declared.kinds.Kind.{Kind}
 use Rattle.ifmap_ident.specs.declared.kinds.Kind.TheVariants.{AccessRequest, Device, Identity, IpAddress, MacAddress}
 use Rattle.ifmap_ident.specs.Kinds.{kind_name}
-use Rattle.ifmap_forms.specs.Checks.{Check, check_if, need_some, pass}
-use Rattle.ifmap_forms.specs.Values.{kind_of, kinds_check, number_of, piece_check, pieces_of, read_depth, read_kinds}
-use Rattle.ifmap_forms.specs.Values.{read_lifetime, read_limit, read_name, read_size, trim_white, within_range}
+use Rattle.ifmap_requests.specs.ifmap_forms.Checks.{Check, check_if, need_some, pass}
+use Rattle.ifmap_requests.specs.ifmap_forms.Values.{kind_named, kinds_check, number_of, piece_check, pieces_of, read_depth, read_kinds}
+use Rattle.ifmap_requests.specs.ifmap_forms.Values.{read_lifetime, read_limit, read_name, read_size, trim_white, within_range}
 use Rattle.ifmap_writing.specs.Attributes.{kinds_value, lifetime_value, limit_value, number_value}
 use Rattle.ifmap_elem.specs.laws.PrintedScopes.{digits_ascii}
-use Rattle.ifmap_forms.specs.FormLaws.{number_back}
+use Rattle.ifmap_requests.specs.ifmap_forms.FormLaws.{number_back}
 
 -- ---- (1) numbers
 
@@ -125,7 +125,7 @@ pieces_back kind (other ∷ others) =
     pieces_more kind (joined_texts (codes ",") kind_name (other ∷ others))
     ∙ ap (λ (l : List (List ℕ)). kind_name kind ∷ l) (pieces_back other others)
 
-kind_back : (kind : Kind) → kind_of (trim_white (kind_name kind)) ≡ Some kind
+kind_back : (kind : Kind) → kind_named (trim_white (kind_name kind)) ≡ Some kind
 kind_back AccessRequest = refl
 kind_back Device = refl
 kind_back Identity = refl

@@ -2,26 +2,28 @@
 use Rattle.std.proofs.Common.{ℕ, zero, suc, List, [], ◌∷◌, Option, None, Some, inl, inr}
 use Rattle.ifmap_elem.specs.declared.elements.Name as element
 use Rattle.ifmap_elem.specs.declared.tokens.Qualified.{Qualified}
-use Rattle.ifmap_reader.specs.declared.scoping.Scope.{Scope}
+use Rattle.ifmap_ident.specs.ifmap_reader.declared.scoping.Scope.{Scope}
 use Rattle.ifmap_filter.specs.declared.filters.Predicate.{Predicate, And, Or}
 use Rattle.ifmap_filter.specs.declared.filters.Test.{Test}
 use Rattle.ifmap_filter.specs.declared.filters.Filter.{Filter}
-use Rattle.ifmap_filter.specs.declared.tokens.Token.{Token}
-use Rattle.ifmap_filter.specs.declared.tokens.Token.TheVariants.{CloseBracket, CloseParenthesis}
+use Rattle.ifmap_filter.specs.declared.tokens.FilterToken.{FilterToken}
+use Rattle.ifmap_filter.specs.declared.tokens.FilterToken.TheVariants.{CloseBracket, CloseParenthesis}
 use Rattle.ifmap_filter.specs.Grammar.{AreTests, AsksFor, Rule, StandsFor, TakesAnds, TakesComparison, TakesFactor, TakesJoined, TakesMore}
 use Rattle.ifmap_filter.specs.Grammar.{TakesOrs, TakesPredicate, TakesTest, and_word, deepest, or_word}
 use Rattle.ifmap_filter.specs.Texts.{Writes}
 
-more_in : {X : Type 0} (word : Token) (Part Other : Rule X) → ((ts : List Token) (x : X) (rest : List Token) → Part ts x rest
-    → Other ts x rest) → (ts : List Token) (xs : List X) (rest : List Token) → TakesMore word Part ts xs rest
+more_in : {X : Type 0} (word : FilterToken) (Part Other : Rule X) → ((ts : List FilterToken) (x : X) (rest : List FilterToken)
+    → Part ts x rest
+    → Other ts x rest) → (ts : List FilterToken) (xs : List X) (rest : List FilterToken) → TakesMore word Part ts xs rest
     → TakesMore word Other ts xs rest
 more_in word Part Other f ts [] rest m = m
 more_in word Part Other f ts (x ∷ xs) rest m =
     (m.0, m.1, m.2, f m.0 x m.1 m.3, more_in word Part Other f m.1 xs rest m.4)
 
-joined_in : (join : List Predicate → Predicate) (word : Token) (Part Other : Rule Predicate)
-    → ((ts : List Token) (p : Predicate) (rest : List Token) → Part ts p rest → Other ts p rest) → (ts : List Token) (p : Predicate)
-    (rest : List Token) → TakesJoined join word Part ts p rest → TakesJoined join word Other ts p rest
+joined_in : (join : List Predicate → Predicate) (word : FilterToken) (Part Other : Rule Predicate)
+    → ((ts : List FilterToken) (p : Predicate) (rest : List FilterToken) → Part ts p rest → Other ts p rest)
+    → (ts : List FilterToken) (p : Predicate)
+    (rest : List FilterToken) → TakesJoined join word Part ts p rest → TakesJoined join word Other ts p rest
 joined_in join word Part Other f ts p rest j = record {
   first = j.first;
   others = j.others;
@@ -31,13 +33,15 @@ joined_in join word Part Other f ts p rest j = record {
   means = j.means;
 }
 
-ors_in : (Factor Other : Rule Predicate) → ((ts : List Token) (p : Predicate) (rest : List Token) → Factor ts p rest → Other ts p rest)
-    → (ts : List Token) (p : Predicate) (rest : List Token) → TakesOrs Factor ts p rest → TakesOrs Other ts p rest
+ors_in : (Factor Other : Rule Predicate) → ((ts : List FilterToken) (p : Predicate) (rest : List FilterToken) → Factor ts p rest
+    → Other ts p rest)
+    → (ts : List FilterToken) (p : Predicate) (rest : List FilterToken) → TakesOrs Factor ts p rest → TakesOrs Other ts p rest
 ors_in Factor Other f =
     joined_in Or or_word (TakesAnds Factor) (TakesAnds Other) (joined_in And and_word Factor Other f)
 
 module _ (one other : Scope) (wider : (q : Qualified) (name : element.Name) → StandsFor one q name → StandsFor other q name) where
-  comparison_in : (ts : List Token) (p : Predicate) (rest : List Token) → TakesComparison one ts p rest → TakesComparison other ts p rest
+  comparison_in : (ts : List FilterToken) (p : Predicate) (rest : List FilterToken) → TakesComparison one ts p rest
+      → TakesComparison other ts p rest
   comparison_in ts p rest (inl a) = inl a
   comparison_in ts p rest (inr c) = inr (record {
     written = c.written;
@@ -48,24 +52,24 @@ module _ (one other : Scope) (wider : (q : Qualified) (name : element.Name) → 
     means = c.means;
   })
 
-  factor_in : (depth : ℕ) (ts : List Token) (p : Predicate) (rest : List Token) → TakesFactor one depth ts p rest
+  factor_in : (depth : ℕ) (ts : List FilterToken) (p : Predicate) (rest : List FilterToken) → TakesFactor one depth ts p rest
       → TakesFactor other depth ts p rest
   factor_in zero ts p rest c = comparison_in ts p rest c
   factor_in (suc n) ts p rest (inl c) = inl (comparison_in ts p rest c)
   factor_in (suc n) ts p rest (inr g) =
       inr (g.0, g.1, ors_in (TakesFactor one n) (TakesFactor other n) (factor_in n) g.0 p (CloseParenthesis ∷ rest) g.2)
 
-  predicate_in : (depth : ℕ) (ts : List Token) (o : Option Predicate) (rest : List Token) → TakesPredicate one depth ts o rest
+  predicate_in : (depth : ℕ) (ts : List FilterToken) (o : Option Predicate) (rest : List FilterToken) → TakesPredicate one depth ts o rest
       → TakesPredicate other depth ts o rest
   predicate_in depth ts None rest m = m
   predicate_in depth ts (Some p) rest m =
       (m.0, m.1, ors_in (TakesFactor one depth) (TakesFactor other depth) (factor_in depth) m.0 p (CloseBracket ∷ rest) m.2)
 
-  asks_in : (t : Token) (o : Option element.Name) → AsksFor one t o → AsksFor other t o
+  asks_in : (t : FilterToken) (o : Option element.Name) → AsksFor one t o → AsksFor other t o
   asks_in t None h = h
   asks_in t (Some name) h = (h.0, h.1, wider h.0 name h.2)
 
-  test_in : (depth : ℕ) (ts : List Token) (test : Test) (rest : List Token) → TakesTest one depth ts test rest
+  test_in : (depth : ℕ) (ts : List FilterToken) (test : Test) (rest : List FilterToken) → TakesTest one depth ts test rest
       → TakesTest other depth ts test rest
   test_in depth ts test rest t = record {
     head = t.head;
@@ -75,7 +79,7 @@ module _ (one other : Scope) (wider : (q : Qualified) (name : element.Name) → 
     holds = predicate_in depth t.after test.predicate rest t.holds;
   }
 
-  tests_in : (depth : ℕ) (ts : List Token) (tests : List Test) → AreTests one depth ts tests → AreTests other depth ts tests
+  tests_in : (depth : ℕ) (ts : List FilterToken) (tests : List Test) → AreTests one depth ts tests → AreTests other depth ts tests
   tests_in depth ts [] h = h
   tests_in depth ts (test ∷ tests) h = (
     h.0,

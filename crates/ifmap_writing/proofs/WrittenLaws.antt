@@ -1,5 +1,10 @@
--- What is written of a request that is fit and within its bounds is sound. Plan: (1) names; (2) values; (3) rows; (4) identifiers and
--- metadata; (5) operations; (6) requests; (7) the envelope, and the namespaces that it declares.
+-- What is written of a request that is fit and within its bounds is sound.
+-- 1. Names, and then values.
+-- 2. Rows of attributes.
+-- 3. Identifiers and metadata.
+-- 4. Operations.
+-- 5. Requests.
+-- 6. The envelope, and the namespaces that it declares.
 use Rattle.std.proofs.Common.{◌≡◌, ◌≤◌, ℕ, Bool, true, false, List, [], ◌∷◌, Option, None, Some, IfSome, codes, map, refl, sym, subst}
 use Rattle.std.proofs.Common.{arith}
 use Rattle.std.proofs.lemmas.Bool.Decides.{not_from_Decides}
@@ -7,7 +12,7 @@ use Rattle.std.proofs.lemmas.Slice.Eq.{bytes_eq-Decides}
 use Rattle.std.specs.List.{AllByRecursion, flat_map}
 use Rattle.ifmap_lemmas.specs.Members.{both_all}
 use Rattle.ifmap_elem.specs.Arranged.{arrange}
-use Rattle.ifmap_elem.specs.Building.{bare_name}
+use Rattle.ifmap_elem.specs.Building.{bare_name, as_children}
 use Rattle.ifmap_elem.specs.Chars.{IsCharacters}
 use Rattle.ifmap_elem.specs.Fit.{IsDeclarable, IsFit, IsFitName, IsNamespace}
 use Rattle.ifmap_elem.specs.Nesting.{nesting}
@@ -15,7 +20,7 @@ use Rattle.ifmap_elem.specs.Scopes.{xmlns_space}
 use Rattle.ifmap_elem.specs.declared.elements.Child.{Child}
 use Rattle.ifmap_elem.specs.declared.elements.Element.{Element}
 use Rattle.ifmap_elem.specs.laws.PrintedScopes.{are_declared}
-use Rattle.ifmap_envelopes.specs.Envelopes.{around, envelope_name, in_envelope}
+use Rattle.ifmap_requests.specs.ifmap_envelopes.Envelopes.{around, envelope_name, in_envelope}
 use Rattle.ifmap_filter.specs.declared.filters.Filter.{Filter}
 use Rattle.ifmap_filter.specs.Spaces.{filter_spaces}
 use Rattle.ifmap_ident.specs.declared.identifiers.Identifier.{Identifier}
@@ -37,13 +42,13 @@ use Rattle.ifmap_requests.specs.declared.requests.Request.TheVariants.{NewSessio
 use Rattle.ifmap_requests.specs.declared.requests.Request.TheVariants.{Poll, PurgePublisher}
 use Rattle.ifmap_requests.specs.declared.requests.SubscribeOp.{SubscribeOp}
 use Rattle.ifmap_requests.specs.declared.requests.SubscribeOp.TheVariants as subscribe
-use Rattle.ifmap_envelopes.specs.Spaces.{envelope_space, ifmap_space}
+use Rattle.ifmap_requests.specs.ifmap_envelopes.Spaces.{envelope_space, ifmap_space}
 use Rattle.ifmap_requests.specs.Fit.{IsFitOp, IsFitRequest, IsFitSearch, IsFitSubscribeOp, MayBeFitFilter}
 use Rattle.ifmap_requests.specs.FitFilters.{IsFitFilter}
 use Rattle.ifmap_writing.specs.Attributes.{AttributeRow, filter_rows, filter_value, kinds_value, lifetime_rows, lifetime_value, limit_rows}
 use Rattle.ifmap_writing.specs.Attributes.{limit_value, name_rows, purge_rows, search_rows, session_rows, subscription_rows}
 use Rattle.ifmap_writing.specs.Bounds.{IsBounded, IsBoundedMetadata, IsBoundedPublish}
-use Rattle.ifmap_writing.specs.RequestElements.{as_children, asking_element, element_in, list_element, part_element}
+use Rattle.ifmap_writing.specs.RequestElements.{asking_element, element_in, list_element, part_element}
 use Rattle.ifmap_writing.specs.RequestElements.{publish_element, published_children, request_element, subscribe_element}
 use Rattle.ifmap_writing.specs.RequestSpaces.{optional_filter, publish_filters, request_filters, request_spaces, search_filters}
 use Rattle.ifmap_writing.specs.RequestSpaces.{subscribe_filters}

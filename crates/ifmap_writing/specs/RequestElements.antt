@@ -1,11 +1,11 @@
 -- Requests as elements and as bytes: IF-MAP binding for SOAP, version 2.2, section 3.
 use Rattle.std.specs.Prelude.{ℕ, List, [], ◌∷◌, ◌++◌, codes, map}
-use Rattle.ifmap_elem.specs.Building.{bare_element}
+use Rattle.ifmap_elem.specs.Building.{as_children, bare_element}
 use Rattle.ifmap_elem.specs.Canonical.{written_bytes}
 use Rattle.ifmap_elem.specs.declared.elements.Child as the
 use Rattle.ifmap_elem.specs.declared.elements.Child.{Child}
 use Rattle.ifmap_elem.specs.declared.elements.Element.{Element}
-use Rattle.ifmap_envelopes.specs.Envelopes.{in_envelope}
+use Rattle.ifmap_requests.specs.ifmap_envelopes.Envelopes.{in_envelope}
 use Rattle.ifmap_ident.specs.declared.identifiers.Identifier.{Identifier}
 use Rattle.ifmap_ident.specs.declared.items.Item.{Item}
 use Rattle.ifmap_ident.specs.Identifiers.{identifier_element}
@@ -18,14 +18,10 @@ use Rattle.ifmap_requests.specs.declared.requests.Request.TheVariants.{NewSessio
 use Rattle.ifmap_requests.specs.declared.requests.Request.TheVariants.{Poll, PurgePublisher}
 use Rattle.ifmap_requests.specs.declared.requests.SubscribeOp.{SubscribeOp}
 use Rattle.ifmap_requests.specs.declared.requests.SubscribeOp.TheVariants as subscribe
-use Rattle.ifmap_envelopes.specs.Spaces.{ifmap_space}
+use Rattle.ifmap_requests.specs.ifmap_envelopes.Spaces.{ifmap_space}
 use Rattle.ifmap_writing.specs.Attributes.{AttributeRow, attributes_of, filter_rows, lifetime_rows, limit_rows, name_rows, purge_rows, search_rows}
 use Rattle.ifmap_writing.specs.Attributes.{session_rows, subscription_rows}
 use Rattle.ifmap_writing.specs.RequestSpaces.{request_spaces}
-
--- elements as children
-abbrev pub as_children : List Element → List Child
-as_children elements = map (λ e. the.Element e) elements
 
 -- an element in no namespace with these attributes and children
 abbrev pub part_element : List ℕ → List AttributeRow → List Child → Element

@@ -1,6 +1,7 @@
 //! What operations carry, as children: identifiers, and lists of metadata.
 ghost use Rattle.std.specs.Prelude.{◌≡◌, ◌∷◌, [], map, IfOk};
-ghost use Rattle.ifmap_writing.specs.RequestElements.{as_children, identifier_children, item_children, list_element, published_children};
+ghost use Rattle.ifmap_elem.specs.Building.{as_children};
+ghost use Rattle.ifmap_writing.specs.RequestElements.{identifier_children, item_children, list_element, published_children};
 
 use ifmap_elem::{Child, Copied, Element, Many};
 use ifmap_ident::{Identifier, Item};

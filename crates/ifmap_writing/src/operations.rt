@@ -4,7 +4,8 @@ ghost use Rattle.std.specs.List.{AllByRecursion};
 ghost use Rattle.ifmap_requests.specs.declared.publishing.PublishOp.TheVariants as publish;
 ghost use Rattle.ifmap_requests.specs.declared.requests.SubscribeOp.TheVariants as subscribe;
 ghost use Rattle.ifmap_writing.specs.Attributes.{lifetime_rows, name_rows};
-ghost use Rattle.ifmap_writing.specs.RequestElements.{as_children, part_element, publish_element, published_children, subscribe_element};
+ghost use Rattle.ifmap_elem.specs.Building.{as_children};
+ghost use Rattle.ifmap_writing.specs.RequestElements.{part_element, publish_element, published_children, subscribe_element};
 ghost use Rattle.ifmap_writing.specs.RequestSpaces.{ServeFilter, ServePublish, ServeSearch, ServeSubscribe};
 
 use crate::attributes::{

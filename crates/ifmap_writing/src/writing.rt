@@ -1,7 +1,7 @@
 //! Requests as elements and as bytes.
 ghost use Rattle.std.specs.Prelude.{◌≡◌, [], IfOk};
-ghost use Rattle.ifmap_envelopes.specs.Envelopes.{around, in_envelope};
-ghost use Rattle.ifmap_envelopes.specs.Spaces.{ifmap_space};
+ghost use Rattle.ifmap_requests.specs.ifmap_envelopes.Envelopes.{around, in_envelope};
+ghost use Rattle.ifmap_requests.specs.ifmap_envelopes.Spaces.{ifmap_space};
 ghost use Rattle.ifmap_writing.specs.RequestElements.{asking_element, element_in, request_bytes, request_element};
 ghost use Rattle.ifmap_writing.specs.Attributes.{session_rows};
 ghost use Rattle.ifmap_writing.specs.RequestSpaces.{ServeRequest, request_spaces};
@@ -13,9 +13,8 @@ use crate::children::start_children;
 use crate::operations::{publish_children, subscribe_children};
 use crate::spaces::request_spaces;
 use ifmap_elem::{Attribute, Child, Element, Many, Name, Text, written};
-use ifmap_envelopes::{ENVELOPE_SPACE, IFMAP_SPACE};
 use ifmap_filter::laws::listed_spaces_serve_each_filter;
-use ifmap_requests::Request;
+use ifmap_requests::{ENVELOPE_SPACE, IFMAP_SPACE, Request};
 use std::alloc::{AllocError as NoMemory, Global};
 
 /// The element of a request, its attributes in order at every level, and the namespaces of its
@@ -117,12 +116,17 @@ fn asking_element(
 fn in_envelope(alloc: Global, inner: Element) -> Result<Element, NoMemory>
     ensures { IfOk result (λ element. element ≡ in_envelope inner) }
 {
-    let body = around(alloc, ENVELOPE_SPACE, "Body", inner)?;
-    around(alloc, ENVELOPE_SPACE, "Envelope", body)
+    let body = wrap_element(alloc, ENVELOPE_SPACE, "Body", inner)?;
+    wrap_element(alloc, ENVELOPE_SPACE, "Envelope", body)
 }
 
 // An element in a namespace that holds one other and nothing else.
-fn around(alloc: Global, space: &str, local: &str, inner: Element) -> Result<Element, NoMemory>
+fn wrap_element(
+    alloc: Global,
+    space: &str,
+    local: &str,
+    inner: Element,
+) -> Result<Element, NoMemory>
     ensures { IfOk result (λ element.
         element ≡ around (record { space = space.now; local = local.now }) inner) }
 {

@@ -1,6 +1,6 @@
 -- What the words of the program ask for.
 use Rattle.std.specs.Prelude.{◌≡◌, ◌≤◌, ℕ, true, List, length}
-use Rattle.ifmap_heads.specs.Messages.{is_visible}
+use Rattle.ifmap_http.specs.ifmap_heads.Messages.{is_visible}
 use Rattle.ifmap_meta.specs.ClientNames.{IsClientName}
 use Rattle.ifmap_words.specs.Pairs.{IsPair}
 

@@ -16,7 +16,7 @@ script_status outcome.LinkFault = 7
 script_status (outcome.LinkEnded line) = 8
 script_status (outcome.BadReply line) = 9
 
-abbrev pub status_of : End → ℕ
-status_of the_end.Usage = 2
-status_of the_end.NoConnection = 7
-status_of (the_end.Script outcome) = script_status outcome
+abbrev pub end_status : End → ℕ
+end_status the_end.Usage = 2
+end_status the_end.NoConnection = 7
+end_status (the_end.Script outcome) = script_status outcome

@@ -1,6 +1,6 @@
 //! What the words of the program ask for.
 ghost use Rattle.std.specs.Prelude.{◌≡◌, ◌&&◌, ℕ, List, true, IfNone, IfOk, IfSome, map, nat_lt, string_bytes};
-ghost use Rattle.ifmap_heads.specs.Messages.{is_visible};
+ghost use Rattle.ifmap_http.specs.ifmap_heads.Messages.{is_visible};
 ghost use Rattle.mapc.specs.Calls.{AreHostAndClient, IsAskable, AreAddressAndName};
 
 use ifmap_elem::Text;

@@ -1,28 +1,13 @@
 //! How the program ends, its statuses, and what is told of each.
 ghost use Rattle.std.specs.Prelude.{◌≡◌};
-ghost use Rattle.mapc.specs.Statuses.{script_status, status_of};
+ghost use Rattle.mapc.specs.Statuses.{script_status, end_status};
 
 use ifmap_client_script::Outcome;
+use ifmap_io::statuses::{
+    BAD_REPLY, DONE, LINK_ENDED, LINK_FAULT, NO_MEMORY, READ_FAULT, SCRIPT_FAULT, USAGE,
+    WRITE_FAULT,
+};
 use std::fmt;
-
-/// The status for a script that was carried out to its end.
-pub const DONE: u8 = 0;
-/// The status for words that ask for no call.
-pub const USAGE: u8 = 2;
-/// The status for a line that cannot be carried out.
-pub const BAD_LINE: u8 = 3;
-/// The status for a failed read of the script.
-pub const READ_FAULT: u8 = 4;
-/// The status for a failed write of what is printed.
-pub const WRITE_FAULT: u8 = 5;
-/// The status for want of memory.
-pub const NO_MEMORY: u8 = 6;
-/// The status for a connection that was not made, or failed.
-pub const LINK_FAULT: u8 = 7;
-/// The status for a connection that ended before an answer was whole.
-pub const LINK_ENDED: u8 = 8;
-/// The status for an answer that is no reply.
-pub const BAD_REPLY: u8 = 9;
 
 /// How the program ends.
 #[derive(Clone, Copy, Debug, PartialEq, Eq)]
@@ -37,7 +22,7 @@ pub enum End {
 
 /// The status of an end.
 pub fn status_of(end: End) -> u8
-    ensures { result ≡ status_of end }
+    ensures { result ≡ end_status end }
 {
     match end {
         End::Usage => USAGE,
@@ -52,7 +37,7 @@ fn script_status(outcome: Outcome) -> u8
 {
     match outcome {
         Outcome::Done => DONE,
-        Outcome::BadLine { line: _ } => BAD_LINE,
+        Outcome::BadLine { line: _ } => SCRIPT_FAULT,
         Outcome::ReadFault => READ_FAULT,
         Outcome::WriteFault => WRITE_FAULT,
         Outcome::NoMemory => NO_MEMORY,

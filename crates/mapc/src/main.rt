@@ -9,7 +9,7 @@ ghost use Rattle.std.specs.Process.{exit_status};
 ghost use Rattle.ifmap_client_script.specs.Ends.{source_and_ports, ports};
 ghost use Rattle.ifmap_client_script.specs.Exchanges.{wiring};
 ghost use Rattle.ifmap_client_script.specs.Promises.{IsCarriedOut};
-ghost use Rattle.mapc.specs.Statuses.{status_of};
+ghost use Rattle.mapc.specs.Statuses.{end_status};
 
 use crate::calls::{Call, call_of};
 use crate::endings::{End, status_of};
@@ -101,7 +101,7 @@ fn carry_out<S: Source, K: Sink, A: Link, B: Link>(
 }
 
 fn exit_code_of(end: End) -> ExitCode
-    ensures { exit_status result ≡ status_of end }
+    ensures { exit_status result ≡ end_status end }
 {
     ExitCode::from(status_of(end))
 }

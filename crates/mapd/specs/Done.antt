@@ -2,7 +2,7 @@
 use Rattle.std.specs.Prelude.{◌≡◌, ℕ, ◌⊎◌, List, [], None, length}
 use Rattle.ifmap_command.specs.Words.{IsServe}
 use Rattle.ifmap_program.specs.Runs.{Runs, outside}
-use Rattle.ifmap_server.specs.Ends.{SourceAndSink}
+use Rattle.ifmap_program.specs.ifmap_server.Ends.{SourceAndSink}
 use Rattle.ifmap_serving.specs.declared.stands.Stand.{Stand}
 use Rattle.ifmap_serving.specs.Works.{DoorSeen}
 use Rattle.mapd.specs.declared.outside.OpenGate.{OpenGate}

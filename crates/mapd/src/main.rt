@@ -6,7 +6,7 @@ mod outside;
 ghost use Rattle.std.specs.Prelude.{◌≡◌, IfErr, IfOk, List, [], map, string_bytes};
 ghost use Rattle.std.specs.Process.{exit_status};
 ghost use Rattle.ifmap_program.specs.Runs.{Runs, outside};
-ghost use Rattle.ifmap_server.specs.Ends.{source_and_sink};
+ghost use Rattle.ifmap_program.specs.ifmap_server.Ends.{source_and_sink};
 ghost use Rattle.ifmap_serving.specs.declared.stands.Stand.{Stand};
 ghost use Rattle.ifmap_serving.specs.Works.{door_seen};
 ghost use Rattle.mapd.specs.Done.{IsRunDone, RunsOver, ServesOrBeginsNone};
@@ -15,9 +15,9 @@ use crate::outside::{OpenGate, ProgressLine, random_key, stands_at};
 use ifmap_command::{Form, form_of};
 use ifmap_drill::{NoProgress, Progress};
 use ifmap_elem::Text;
+use ifmap_io::statuses::{LINK_FAULT, NO_MEMORY};
 use ifmap_io::{Clock, Door, Sink, Source, StdSink, StdSource, SystemClock, TcpDoor};
-use ifmap_program::running::NO_MEMORY;
-use ifmap_program::{Setting, run};
+use ifmap_program::{RunSetting, run};
 use ifmap_serving::Stand;
 use ifmap_words::words_of;
 use std::alloc::AllocError as NoMemory;
@@ -28,9 +28,6 @@ use std::random::RandomSource;
 use std::sync::Wait;
 use std::thread::Threads;
 use std::{env, time};
-
-// The status where nothing listens, or there is no random key.
-const CANNOT_LISTEN: u8 = 7;
 
 fn main(rt: HostRuntime) -> ExitCode {
     let mut source = StdSource::new(rt.stdin());
@@ -124,7 +121,7 @@ where
         (K.faults sink.new)) }
 {
     let clock = SystemClock::new(rt);
-    let setting = Setting {
+    let setting = RunSetting {
         rt,
         alloc: rt.alloc(),
         key: [0; 32],
@@ -135,7 +132,7 @@ where
 
 // Runs with no stand.
 fn run_alone<R: Threads + Wait + Sync, C: Clock + Sync, S: Source, K: Sink, P: Progress>(
-    setting: &Setting<'_, R, C>,
+    setting: &RunSetting<'_, R, C>,
     words: &[String],
     source: &mut S,
     sink: &mut K,
@@ -187,7 +184,7 @@ where
         return NO_MEMORY;
     };
     let clock = SystemClock::new(rt);
-    let setting = Setting {
+    let setting = RunSetting {
         rt,
         alloc: rt.alloc(),
         key,
@@ -208,5 +205,5 @@ fn tell_cannot_listen<R: Eprint>(rt: &R) -> u8
     ensures { result ≡ 7 }
 {
     let _told = eprintln!(rt; "mapd: cannot listen");
-    CANNOT_LISTEN
+    LINK_FAULT
 }

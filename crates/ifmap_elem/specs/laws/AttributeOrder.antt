@@ -1,4 +1,9 @@
 -- The order of attributes, and how often they occur.
+-- 1. The order is total, and attributes that are equal in it are one attribute; so it ranks them.
+-- 2. Sorting keeps the length and how often each occurs, so lists that differ in one of these are not the same in order.
+-- 3. Lists of one length in whose first each member occurs as often as in the second are permutations of each other.
+-- 4. A permutation that rises is the sorted list (`rising_is_sorted`); so is a list each of which is not greater than the next.
+-- 5. The same of references, which are put in order in place of what they refer to; and permutations have one order.
 use Rattle.std.proofs.Common.{◌≡◌, ℕ, ◌+◌, ◌≤◌, ◌<◌, suc, List, [], ◌∷◌, length, Bool, true, false, Option, Some, refl, ap, sym, ◌∙◌, subst, arith, get_or, map, inl, inr, ◌⊎◌, cond, add-one, Bor}
 use Rattle.std.proofs.lemmas.List.Sums.{sum_by-cons}
 use Rattle.std.specs.Bool.{OnTrue}
@@ -64,15 +69,15 @@ module _ {X : Type 0} (R : X → X → Ordering) (o : IsTotalOrder R) (tied : (x
 pub attribute_ranks : Ranks (λ a b. is_gt (attribute_order a b))
 attribute_ranks = ranks attribute_order attributes_total attributes_tied
 
-pub eq_itself : (a : Attribute) → attribute_eq a a ≡ true
-eq_itself a =
+pub attribute_eq_itself : (a : Attribute) → attribute_eq a a ≡ true
+attribute_eq_itself a =
     let s : bytes_eq a.name.space a.name.space ≡ true = (bytes_eq-Decides a.name.space a.name.space).1 refl in
     let l : bytes_eq a.name.local a.name.local ≡ true = (bytes_eq-Decides a.name.local a.name.local).1 refl in
     let v : bytes_eq a.value a.value ≡ true = (bytes_eq-Decides a.value a.value).1 refl in
     rw (s, l, v) refl
 
-pub eq_tells : (a b : Attribute) → attribute_eq a b ≡ true → a ≡ b
-eq_tells a b e =
+pub attribute_eq_tells : (a b : Attribute) → attribute_eq a b ≡ true → a ≡ b
+attribute_eq_tells a b e =
     let p = and_parts _ _ e in
     let q = and_parts _ _ p.0 in
     let s = (bytes_eq-Decides a.name.space b.name.space).0 q.0 in
@@ -84,7 +89,7 @@ pub length-sorted : (xs : List Attribute) → length (sort_attributes xs) ≡ le
 length-sorted xs = length-in_order attribute_order attribute_ranks xs
 
 pub occurrences-sorted : (a : Attribute) (xs : List Attribute) → occurrences_of a (sort_attributes xs) ≡ occurrences_of a xs
-occurrences-sorted a xs = count-in_order attribute_order attribute_ranks attribute_eq eq_itself eq_tells a xs
+occurrences-sorted a xs = count-in_order attribute_order attribute_ranks attribute_eq attribute_eq_itself attribute_eq_tells a xs
 
 -- different lengths, or numbers of occurrences, show that two lists are not the same in order
 pub not_same_lengths : (xs ys : List Attribute) → (length xs ≡ length ys → ⊥) → sort_attributes xs ≡ sort_attributes ys → ⊥
@@ -99,7 +104,7 @@ nowhere_or_at : (a : Attribute) (xs : List Attribute) → (occurrences_of a xs �
     ⊎ ((k : ℕ) × (k < length xs) × ((d : Attribute) → get_or xs k d ≡ a))
 nowhere_or_at a [] = inl refl
 nowhere_or_at a (x ∷ xs) = elim (cases_Bool (attribute_eq x a)) [
-  | inl e ↦ inr (0, omega arith, λ d. eq_tells x a e)
+  | inl e ↦ inr (0, omega arith, λ d. attribute_eq_tells x a e)
   | inr e ↦
       let none : cond {A = ℕ} (attribute_eq x a) 1 0 ≡ 0 = rw e refl in
       elim (nowhere_or_at a xs) [
@@ -111,7 +116,8 @@ nowhere_or_at a (x ∷ xs) = elim (cases_Bool (attribute_eq x a)) [
 -- lists of one length where each member of the first occurs as often in the second
 pub same_members : (xs ys : List Attribute) → length xs ≡ length ys → All (λ a. occurrences_of a xs ≡ occurrences_of a ys) xs
     → sort_attributes xs ≡ sort_attributes ys
-same_members xs ys long often = in_order_same attribute_order attribute_ranks attribute_eq eq_itself eq_tells xs ys long (λ a. fewer a)
+same_members xs ys long often = in_order_same attribute_order attribute_ranks attribute_eq attribute_eq_itself attribute_eq_tells xs ys
+    long (λ a. fewer a)
   where
     fewer : (a : Attribute) → occurrences_of a xs ≤ occurrences_of a ys
     fewer a = elim (nowhere_or_at a xs) [
@@ -134,7 +140,7 @@ pub rising_is_sorted : (xs ys : List Attribute) → IsPermutation xs ys
     → ((k : ℕ) (d : Attribute) → suc k < length ys → is_lt (attribute_order (get_or ys (suc k) d) (get_or ys k d)) ≡ false)
     → ys ≡ sort_attributes xs
 rising_is_sorted xs ys p up =
-    in_order_is attribute_order attribute_ranks attribute_eq eq_itself eq_tells xs ys p
+    in_order_is attribute_order attribute_ranks attribute_eq attribute_eq_itself attribute_eq_tells xs ys p
     (λ k d l. not_greater (attribute_order (get_or ys k d) (get_or ys (suc k) d)) (attribute_order (get_or ys (suc k) d) (get_or ys k d))
     (attributes_total.antisymm (get_or ys k d) (get_or ys (suc k) d)) (up k d l))
 
@@ -238,4 +244,4 @@ sorted_rises xs k d low high =
     subst (λ (n : ℕ). is_lt (attribute_order (get_or (sort_attributes xs) n d) here) ≡ false) (sym (add-one k)) step
 
 pub one_order : (xs ys : List Attribute) → IsPermutation xs ys → sort_attributes xs ≡ sort_attributes ys
-one_order xs ys p = in_order-permutation attribute_order attribute_ranks attribute_eq eq_itself eq_tells xs ys p
+one_order xs ys p = in_order-permutation attribute_order attribute_ranks attribute_eq attribute_eq_itself attribute_eq_tells xs ys p

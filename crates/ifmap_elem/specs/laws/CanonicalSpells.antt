@@ -11,6 +11,7 @@ use Rattle.ifmap_elem.specs.declared.elements.Element.{Element}
 use Rattle.ifmap_elem.specs.declared.readings.Declared.{Declared}
 use Rattle.ifmap_elem.specs.declared.readings.Reading.{Reading}
 use Rattle.std.proofs.lemmas.Simd.{map-map}
+use Rattle.std.specs.Str.{byte}
 use Rattle.ifmap_elem.specs.Folds.{at_child_element, at_child_text, Each, by_children}
 use Rattle.ifmap_elem.specs.Arranged.{arrange, IsSame}
 use Rattle.ifmap_elem.specs.Canonical.{root_bytes, written_bytes, canonical_bytes, root_declarations, written_reading, canonical_reading}
@@ -23,20 +24,18 @@ use Rattle.ifmap_elem.specs.Tokens.{TakesToken}
 use Rattle.ifmap_elem.specs.laws.FitLaws.{elements_of_child, elements_in, fit_parts, fit_arranged}
 use Rattle.ifmap_lemmas.specs.Members.{all_both, both_all}
 use Rattle.ifmap_elem.specs.laws.OneReading.{one_reading}
-use Rattle.ifmap_elem.specs.laws.PrintedTags.{Rows, row_binding, Resolves, FitRow}
-use Rattle.ifmap_elem.specs.laws.PrintedScopes.{n_letter, f_letter, rows_of, scope_of, root_outermost, rows_outermost, all_resolved, are_declared, rows_fit, rows_are_bindings, prefixes_differ, both_differ}
-use Rattle.ifmap_elem.specs.laws.PrintedElements.{ElementTaken, tagged_taken, children_taken, fits_in, spaces_is, one_is_root}
+use Rattle.ifmap_elem.specs.laws.NamespaceLaws.{Rows, Texts}
+use Rattle.ifmap_elem.specs.laws.PrintedTags.{row_binding, Resolves, FitRow}
+use Rattle.ifmap_elem.specs.laws.PrintedScopes.{n_letter, f_letter, numbered_prefix_rows, numbered_scope, root_outermost, rows_outermost, all_resolved, are_declared, rows_fit, rows_are_bindings, prefixes_differ, both_differ}
+use Rattle.ifmap_elem.specs.laws.PrintedElements.{ElementTaken, tagged_taken, children_taken, fits_in, spaces_is, one_is_root, attribute_space}
 
 -- all namespaces of an element that fits can be declared
-
-abbrev space_of : Attribute → List ℕ
-space_of a = a.name.space
 
 abbrev HasNamespaces : Child → Type 0
 HasNamespaces c = AllByRecursion IsFitAlone (elements_of_child c) → AllByRecursion IsNamespace (spaces_of_child c)
 
 attribute_spaces : (attributes : List Attribute) → AllByRecursion IsFitAttribute attributes
-    → AllByRecursion IsNamespace (map space_of attributes)
+    → AllByRecursion IsNamespace (map attribute_space attributes)
 attribute_spaces [] f = tt
 attribute_spaces (a ∷ attributes) f = (f.0.name.space, attribute_spaces attributes f.1)
 
@@ -61,20 +60,17 @@ fit_spaces = by_children HasNamespaces (λ e. IsFit e → AllByRecursion IsNames
     in_children : (e : Element) → Each HasNamespaces e.children → IsFit e → AllByRecursion IsNamespace (spaces_of e)
     in_children e each f =
         let parts = fit_parts e f in
-        let h : AllByRecursion IsNamespace (e.name.space ∷ (map space_of e.attributes ++ flat_map spaces_of_child e.children)) = (
+        let h : AllByRecursion IsNamespace (e.name.space ∷ (map attribute_space e.attributes ++ flat_map spaces_of_child e.children)) = (
           parts.0.name.space,
-          both_all IsNamespace (map space_of e.attributes) (flat_map spaces_of_child e.children)
+          both_all IsNamespace (map attribute_space e.attributes) (flat_map spaces_of_child e.children)
               (attribute_spaces e.attributes parts.0.attributes) (children_spaces e.children each parts.1),
         ) in
         subst (AllByRecursion IsNamespace) (sym (spaces_is e)) h
 
 -- the root
 
-abbrev Texts : Type 0
-Texts = List (List ℕ)
-
 abbrev its_rows : Element → Texts → Rows
-its_rows e given = rows_of 0x6E 1 (namespaces e) ++ rows_of 0x66 1 given
+its_rows e given = numbered_prefix_rows (byte "n") 1 (namespaces e) ++ numbered_prefix_rows (byte "f") 1 given
 
 rows_seam : (rows more : Rows) (scope : Scope) → map row_binding
     (rows ++ more) ++ scope ≡ map row_binding rows ++ (map row_binding more ++ scope)
@@ -87,28 +83,29 @@ bindings_both [] more f g = g
 bindings_both (row ∷ rows) more f g = (f.0, bindings_both rows more f.1 g)
 
 root_taken : (e : Element) (given : Texts) → IsFit e → AllByRecursion IsDeclarable given
-    → ElementTaken root_scope (root_bytes (rows_of 0x66 1 given) e) e (declared_here (map row_binding (its_rows e given)))
+    → ElementTaken root_scope (root_bytes (numbered_prefix_rows (byte "f") 1 given) e) e (declared_here (map row_binding (its_rows e
+    given)))
 root_taken e given fit can =
     let prefixes : Rows = name_prefixes (namespaces e) in
     let scope : Scope = map row_binding (its_rows e given) ++ root_scope in
     let parts = fit_parts e fit in
     let spaces : AllByRecursion IsDeclarable (namespaces e) = are_declared (spaces_of e) (fit_spaces e fit) in
-    let more : Scope = scope_of 0x66 1 given root_scope in
+    let more : Scope = numbered_scope (byte "f") 1 given root_scope in
     let all : AllByRecursion (Resolves prefixes scope) (spaces_of e) =
     subst (λ (s : Scope). AllByRecursion (Resolves prefixes s) (spaces_of e))
-    (sym (rows_seam (rows_of 0x6E 1 (namespaces e)) (rows_of 0x66 1 given) root_scope))
-    (all_resolved (spaces_of e) more (rows_outermost 0x66 1 given root_scope f_letter root_outermost)) in
+    (sym (rows_seam (numbered_prefix_rows (byte "n") 1 (namespaces e)) (numbered_prefix_rows (byte "f") 1 given) root_scope))
+    (all_resolved (spaces_of e) more (rows_outermost (byte "f") 1 given root_scope f_letter root_outermost)) in
     let r : AllByRecursion (Resolves prefixes scope) (e.name.space ∷
-    (map space_of e.attributes ++ flat_map spaces_of_child e.children)) = subst (AllByRecursion (Resolves prefixes scope))
+    (map attribute_space e.attributes ++ flat_map spaces_of_child e.children)) = subst (AllByRecursion (Resolves prefixes scope))
     (spaces_is e) all in
-    let s = all_both (Resolves prefixes scope) (map space_of e.attributes) (flat_map spaces_of_child e.children) r.1 in
+    let s = all_both (Resolves prefixes scope) (map attribute_space e.attributes) (flat_map spaces_of_child e.children) r.1 in
     tagged_taken prefixes (its_rows e given) root_scope e parts.0
-    (both_all FitRow (rows_of 0x6E 1 (namespaces e)) (rows_of 0x66 1 given) (rows_fit 0x6E n_letter 1 (namespaces e) spaces)
-    (rows_fit 0x66 f_letter 1 given can))
-    (bindings_both (rows_of 0x6E 1 (namespaces e)) (rows_of 0x66 1 given) (rows_are_bindings 0x6E n_letter 1 (namespaces e) spaces)
-    (rows_are_bindings 0x66 f_letter 1 given can))
-    (both_differ 0x6E 0x66 1 1 (namespaces e) given (λ q. absurd (omega arith)) (prefixes_differ 0x6E n_letter 1 (namespaces e))
-    (prefixes_differ 0x66 f_letter 1 given))
+    (both_all FitRow (numbered_prefix_rows (byte "n") 1 (namespaces e)) (numbered_prefix_rows (byte "f") 1 given)
+    (rows_fit (byte "n") n_letter 1 (namespaces e) spaces) (rows_fit (byte "f") f_letter 1 given can))
+    (bindings_both (numbered_prefix_rows (byte "n") 1 (namespaces e)) (numbered_prefix_rows (byte "f") 1 given)
+    (rows_are_bindings (byte "n") n_letter 1 (namespaces e) spaces) (rows_are_bindings (byte "f") f_letter 1 given can))
+    (both_differ (byte "n") (byte "f") 1 1 (namespaces e) given (λ q. absurd (omega arith))
+    (prefixes_differ (byte "n") n_letter 1 (namespaces e)) (prefixes_differ (byte "f") f_letter 1 given))
     r.0 (fits_in prefixes scope e.attributes parts.0.attributes s.0)
     (children_taken prefixes scope e.children parts.1 parts.0.children.texts s.1)
 
@@ -123,11 +120,11 @@ taken_spells e bytes declared marked t = record {
 
 -- the element as it stands, printed as a root, is spelled by its bytes, with the declarations of its rows
 pub root_spelled : (e : Element) (given : Texts) → IsFit e → AllByRecursion IsDeclarable given
-    → Spells (root_bytes (rows_of 0x66 1 given) e) (record { root = e; declared = root_declarations (its_rows e given) })
+    → Spells (root_bytes (numbered_prefix_rows (byte "f") 1 given) e) (record { root = e; declared = root_declarations (its_rows e given) })
 root_spelled e given fit can =
-    subst (λ (d : List Declared). Spells (root_bytes (rows_of 0x66 1 given) e) (record { root = e; declared = d }))
+    subst (λ (d : List Declared). Spells (root_bytes (numbered_prefix_rows (byte "f") 1 given) e) (record { root = e; declared = d }))
     (map-map (λ (b : Binding). record { path = []; prefix = b.prefix; space = b.space }) row_binding (its_rows e given))
-    (taken_spells e (root_bytes (rows_of 0x66 1 given) e) (declared_here (map row_binding (its_rows e given))) refl
+    (taken_spells e (root_bytes (numbered_prefix_rows (byte "f") 1 given) e) (declared_here (map row_binding (its_rows e given))) refl
     (root_taken e given fit can))
 
 pub written_spelled : (e : Element) (given : Texts) → IsFit e → AllByRecursion IsDeclarable given

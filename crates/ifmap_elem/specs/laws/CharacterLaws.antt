@@ -26,11 +26,11 @@ plain_characters bs f = (
 pub characters_both : (a b : List ℕ) → IsCharacters a → IsCharacters b → IsCharacters (a ++ b)
 characters_both a b i j = (i.0 ++ j.0, encodes-append i.0 j.0 ∙ (λ k. i.1 k ++ j.1 k), all_append is_character i.0 j.0 i.2 j.2)
 
-pub high_is_scalar : (c : ℕ) → 55296 ≤ c → is_character c ≡ true → scalar c ≡ true
+pub high_is_scalar : (c : ℕ) → 0xD800 ≤ c → is_character c ≡ true → scalar c ≡ true
 high_is_scalar c g h = grind (arith, nat_tests)
 
 pub character_is_scalar : (c : ℕ) → is_character c ≡ true → scalar c ≡ true
-character_is_scalar c h = elim (cases_lt c 55296) [ inl l ↦ low_scalar c l | inr g ↦ high_is_scalar c g h ]
+character_is_scalar c h = elim (cases_lt c 0xD800) [ inl l ↦ low_scalar c l | inr g ↦ high_is_scalar c g h ]
 
 pub characters_are_scalars : (cs : List ℕ) → AllAre is_character cs → all_scalars cs ≡ true
 characters_are_scalars [] f = refl

@@ -1,4 +1,9 @@
 -- What fits in an element fits, level by level, and an element that fits does so with its attributes in order.
+-- 1. The elements in an element are itself and those in its children (`elements_is`), by what the fold pairs with each child.
+-- 2. So it fits exactly where it fits alone and all elements in its children do (`fit_parts`, `fit_whole`).
+-- 3. Sorting attributes keeps what holds of each of them, and keeps their names different.
+-- 4. Arranged children are texts, apart and not blank where the children are; so an element fits alone with its own arranged.
+-- 5. By induction over elements: what fits does so arranged (`fit_arranged`), and nests as before (`nesting_arranged`).
 use Rattle.std.proofs.Common.{◌≡◌, ◌≢◌, ℕ, suc, List, [], ◌∷◌, map, refl, ap, sym, ◌∙◌, subst, inl, inr}
 use Rattle.std.specs.List.{AllByRecursion, flat_map, list_any}
 use Rattle.std.specs.Ordering.{is_gt}
@@ -121,42 +126,42 @@ module _ {Y : Type 0} (f : Attribute → Y) where
 
 -- children with their attributes in order
 
-abbrev over : Child-F Child Element → Child-F Child Element
-over (Child-F.Element e) = Child-F.Element (arrange e)
-over (Child-F.Text t) = Child-F.Text t
+abbrev arranged_part : Child-F Child Element → Child-F Child Element
+arranged_part (Child-F.Element e) = Child-F.Element (arrange e)
+arranged_part (Child-F.Text t) = Child-F.Text t
 
-over_child : (c : Child) → out-Child (arrange_child c) ≡ over (out-Child c)
-over_child = each_child (λ c. out-Child (arrange_child c) ≡ over (out-Child c)) (λ e. Unit {0})
-    (λ e none. ap out-Child (arranged_in e) ∙ out_element (arrange e) ∙ ap over (sym (out_element e)))
-    (λ t. ap out-Child (arranged_text t) ∙ out_text t ∙ ap over (sym (out_text t))) (λ e each. tt)
+over_child : (c : Child) → out-Child (arrange_child c) ≡ arranged_part (out-Child c)
+over_child = each_child (λ c. out-Child (arrange_child c) ≡ arranged_part (out-Child c)) (λ e. Unit {0})
+    (λ e none. ap out-Child (arranged_in e) ∙ out_element (arrange e) ∙ ap arranged_part (sym (out_element e)))
+    (λ t. ap out-Child (arranged_text t) ∙ out_text t ∙ ap arranged_part (sym (out_text t))) (λ e each. tt)
 
-over_children : (cs : List Child) → map over (map out-Child cs) ≡ map out-Child (map arrange_child cs)
+over_children : (cs : List Child) → map arranged_part (map out-Child cs) ≡ map out-Child (map arrange_child cs)
 over_children [] = refl
 over_children (c ∷ cs) = (λ i. sym (over_child c) i ∷ over_children cs i)
 
-texts_over : (xs : List (Child-F Child Element)) → AllByRecursion HasCharacters xs → AllByRecursion HasCharacters (map over xs)
+texts_over : (xs : List (Child-F Child Element)) → AllByRecursion HasCharacters xs → AllByRecursion HasCharacters (map arranged_part xs)
 texts_over [] f = tt
 texts_over (Child-F.Element e ∷ xs) f = (tt, texts_over xs f.1)
 texts_over (Child-F.Text t ∷ xs) f = (f.0, texts_over xs f.1)
 
-apart_over : (xs : List (Child-F Child Element)) → AreApart xs → AreApart (map over xs)
+apart_over : (xs : List (Child-F Child Element)) → AreApart xs → AreApart (map arranged_part xs)
 apart_over [] f = tt
 apart_over (Child-F.Element e ∷ xs) f = apart_over xs f
 apart_over (Child-F.Text t ∷ []) f = tt
 apart_over (Child-F.Text t ∷ (Child-F.Element e ∷ xs)) f = apart_over xs f
 apart_over (Child-F.Text t ∷ (Child-F.Text u ∷ xs)) f = absurd f
 
-any_over : (xs : List (Child-F Child Element)) → list_any is_element (map over xs) ≡ list_any is_element xs
+any_over : (xs : List (Child-F Child Element)) → list_any is_element (map arranged_part xs) ≡ list_any is_element xs
 any_over [] = refl
 any_over (Child-F.Element e ∷ xs) = refl
 any_over (Child-F.Text t ∷ xs) = any_over xs
 
-blank_over : (xs : List (Child-F Child Element)) → AllByRecursion IsNotBlank xs → AllByRecursion IsNotBlank (map over xs)
+blank_over : (xs : List (Child-F Child Element)) → AllByRecursion IsNotBlank xs → AllByRecursion IsNotBlank (map arranged_part xs)
 blank_over [] f = tt
 blank_over (Child-F.Element e ∷ xs) f = (tt, blank_over xs f.1)
 blank_over (Child-F.Text t ∷ xs) f = (f.0, blank_over xs f.1)
 
-fit_over : (xs : List (Child-F Child Element)) → AreFitChildren xs → AreFitChildren (map over xs)
+fit_over : (xs : List (Child-F Child Element)) → AreFitChildren xs → AreFitChildren (map arranged_part xs)
 fit_over xs f = record {
   texts = texts_over xs f.texts;
   apart = apart_over xs f.apart;

@@ -6,7 +6,7 @@ use Rattle.std.proofs.lemmas.Bool.{cases_lt, or_right}
 use Rattle.std.proofs.lemmas.List.{append-nil}
 use Rattle.std.proofs.lemmas.List.Elements.{recursion_from_All, All-from_get_or}
 use Rattle.std.proofs.lemmas.Str.{inside_one, length-encode, len_utf8_bounds}
-use Rattle.ifmap_elem.specs.Chars.{AllAre, IsWhite, is_white}
+use Rattle.ifmap_elem.specs.Chars.{AllAre, IsWhite, is_white, carriage_return, colon, line_feed, space_character, tab}
 use Rattle.ifmap_elem.specs.declared.tokens.Qualified.{Qualified}
 use Rattle.ifmap_elem.specs.Names.{is_name_start, is_name_character, IsNamePart, IsQualified, name_bytes, with_prefix}
 use Rattle.ifmap_lemmas.specs.Cuts.{Stops, cut, front_stops}
@@ -19,7 +19,7 @@ is_part_byte b = nat_le 128 b || is_name_character b
 
 -- a byte that a qualified name may have
 abbrev pub is_name_byte : ℕ → Bool
-is_name_byte b = b == 58 || is_part_byte b
+is_name_byte b = b == colon || is_part_byte b
 
 one_byte : (c : ℕ) → is_name_character c ≡ true → (b : ℕ) → (b < 128 → c ≡ b) → is_part_byte b ≡ true
 one_byte c h b low =
@@ -44,8 +44,8 @@ characters_bytes : (cs : List ℕ) → AllAre is_name_character cs → AllAre is
 characters_bytes [] f = tt
 characters_bytes (c ∷ cs) f = all_append is_part_byte (encode_utf8 c) (encode_utf8_all cs) (character_bytes c f.0) (characters_bytes cs f.1)
 
-pub part_bytes : (bytes : List ℕ) → IsNamePart bytes → AllAre is_part_byte bytes
-part_bytes bytes p =
+pub name_part_bytes : (bytes : List ℕ) → IsNamePart bytes → AllAre is_part_byte bytes
+name_part_bytes bytes p =
     subst (AllAre is_part_byte) p.bytes_are (characters_bytes (p.first ∷ p.others) (starts_are_characters p.first p.begins, p.goes_on))
 
 no_part_of_none : (first : ℕ) (others : List ℕ) → encode_utf8_all (first ∷ others) ≡ [] → ⊥
@@ -63,20 +63,20 @@ part_is_some bytes p none = no_part_of_none p.first p.others (p.bytes_are ∙ no
 
 -- the bytes of a qualified name
 any_of_part : (b : ℕ) → is_part_byte b ≡ true → is_name_byte b ≡ true
-any_of_part b h = or_right (b == 58) (is_part_byte b) h
+any_of_part b h = or_right (b == colon) (is_part_byte b) h
 
 colon_bytes : (prefix local : List ℕ) → AllAre is_name_byte prefix → AllAre is_name_byte local
     → AllAre is_name_byte (with_prefix prefix local)
 colon_bytes [] local f g = g
-colon_bytes (b ∷ bs) local f g = all_append is_name_byte (b ∷ bs) (58 ∷ local) f (refl, g)
+colon_bytes (b ∷ bs) local f g = all_append is_name_byte (b ∷ bs) (colon ∷ local) f (refl, g)
 
 prefix_bytes : (q : Qualified) → IsQualified q → AllAre is_part_byte q.prefix
-prefix_bytes q is = elim is.prefix_is [ inl none ↦ subst (AllAre is_part_byte) (sym none) tt | inr part ↦ part_bytes q.prefix part ]
+prefix_bytes q is = elim is.prefix_is [ inl none ↦ subst (AllAre is_part_byte) (sym none) tt | inr part ↦ name_part_bytes q.prefix part ]
 
 pub name_are_bytes : (q : Qualified) → IsQualified q → AllAre is_name_byte (name_bytes q)
 name_are_bytes q is =
     colon_bytes q.prefix q.local (all_weaker is_part_byte is_name_byte any_of_part q.prefix (prefix_bytes q is))
-    (all_weaker is_part_byte is_name_byte any_of_part q.local (part_bytes q.local is.local_is))
+    (all_weaker is_part_byte is_name_byte any_of_part q.local (name_part_bytes q.local is.local_is))
 
 some_prefixed : (prefix local : List ℕ) → local ≢ [] → with_prefix prefix local ≢ []
 some_prefixed [] local some e = some e
@@ -90,20 +90,20 @@ same_parts : (p l q m : List ℕ) → AllAre is_part_byte p → AllAre is_part_b
     → with_prefix p l ≡ with_prefix q m → (p ≡ q) × (l ≡ m)
 same_parts [] l [] m fp fl fq fm e = (refl, e)
 same_parts [] l (c ∷ cs) m fp fl fq fm e =
-    let both = cut is_part_byte l (c ∷ cs) [] (58 ∷ m) fl fq tt refl (append-nil l ∙ e) in
-    let wrong : [] ≡ 58 ∷ m = both.1 in cc
+    let both = cut is_part_byte l (c ∷ cs) [] (colon ∷ m) fl fq tt refl (append-nil l ∙ e) in
+    let wrong : [] ≡ colon ∷ m = both.1 in cc
 same_parts (b ∷ bs) l [] m fp fl fq fm e =
-    let both = cut is_part_byte m (b ∷ bs) [] (58 ∷ l) fm fp tt refl (append-nil m ∙ sym e) in
-    let wrong : [] ≡ 58 ∷ l = both.1 in cc
+    let both = cut is_part_byte m (b ∷ bs) [] (colon ∷ l) fm fp tt refl (append-nil m ∙ sym e) in
+    let wrong : [] ≡ colon ∷ l = both.1 in cc
 same_parts (b ∷ bs) l (c ∷ cs) m fp fl fq fm e =
-    let both = cut is_part_byte (b ∷ bs) (c ∷ cs) (58 ∷ l) (58 ∷ m) fp fq refl refl e in
-    let behind : 58 ∷ l ≡ 58 ∷ m = both.1 in
+    let both = cut is_part_byte (b ∷ bs) (c ∷ cs) (colon ∷ l) (colon ∷ m) fp fq refl refl e in
+    let behind : colon ∷ l ≡ colon ∷ m = both.1 in
     (both.0, cc)
 
 pub same_name : (q u : Qualified) → IsQualified q → IsQualified u → name_bytes q ≡ name_bytes u → q ≡ u
 same_name q u i j e =
-    let both = same_parts q.prefix q.local u.prefix u.local (prefix_bytes q i) (part_bytes q.local i.local_is) (prefix_bytes u j)
-    (part_bytes u.local j.local_is) e in
+    let both = same_parts q.prefix q.local u.prefix u.local (prefix_bytes q i) (name_part_bytes q.local i.local_is) (prefix_bytes u j)
+    (name_part_bytes u.local j.local_is) e in
     λ k. record { prefix = both.0 k; local = both.1 k }
 
 -- a name ends where no byte of a name stands
@@ -119,7 +119,8 @@ no_name_byte b n not h = is_other b n (λ e. let wrong : false ≡ true = sym no
 
 pub name_is_not_white : (b : ℕ) → is_name_byte b ≡ true → is_white b ≡ false
 name_is_not_white b h =
-    rw (no_name_byte b 0x20 refl h, no_name_byte b 0x9 refl h, no_name_byte b 0xD refl h, no_name_byte b 0xA refl h) refl
+    let none : (c : ℕ) → is_name_byte c ≡ false → (b == c) ≡ false = λ c n. no_name_byte b c n h in
+    rw (none space_character refl, none tab refl, none carriage_return refl, none line_feed refl) refl
 
 pub white_is_no_name : (b : ℕ) → is_white b ≡ true → is_name_byte b ≡ false
 white_is_no_name b h = by_test (is_name_byte b) refl

@@ -29,7 +29,7 @@ use Rattle.ifmap_elem.specs.laws.Roots.{BeginsWithRoot, root_begins}
 
 -- from a child element to its item
 
-pub record IsItem (items : List Item) (index : ℕ) (e : Element) : Type 0 where
+pub record IsElementAt (items : List Item) (index : ℕ) (e : Element) : Type 0 where
   pub before : List Item
   pub declared : List Declared
   pub after : List Item
@@ -39,7 +39,8 @@ pub record IsItem (items : List Item) (index : ℕ) (e : Element) : Type 0 where
 pub no_text : (text : List ℕ) (e : Element) → the.Text text ≡ the.Element e → ⊥
 no_text text e h = let wrong : Child-F.Text text ≡ Child-F.Element e = sym (out_text text) ∙ ap out-Child h ∙ out_element e in cc
 
-item_of : (items : List Item) (index : ℕ) (e : Element) → slice_get (map child_of items) index ≡ Some (the.Element e) → IsItem items index e
+item_of : (items : List Item) (index : ℕ) (e : Element) → slice_get (map child_of items) index ≡ Some (the.Element e)
+    → IsElementAt items index e
 item_of [] index e h = let wrong : None ≡ Some (the.Element e) = h in cc
 item_of (Inner f d ∷ items) zero e h =
     let same : the.Element f ≡ the.Element e = cc in
@@ -104,15 +105,15 @@ no_inner (Run text ∷ before) e d after h = no_inner before e d after h
 -- from a child's item to its place among all items
 
 -- after texts and an element's item, the other item is the same or comes later
-abbrev IsLater : (runs : List Item) (f : Element) (c : List Declared) (rest before : List Item) (e : Element) (d : List Declared)
+abbrev IsSameOrLater : (runs : List Item) (f : Element) (c : List Declared) (rest before : List Item) (e : Element) (d : List Declared)
     (after : List Item) → Type 0
-IsLater runs f c rest before e d after =
+IsSameOrLater runs f c rest before e d after =
     ((before ≡ runs) × (f ≡ e) × (c ≡ d))
     ⊎ ((more : List Item) × (before ≡ runs ++ (Inner f c ∷ more)) × (rest ≡ more ++ (Inner e d ∷ after)))
 
 is_later : (runs : List Item) (f : Element) (c : List Declared) (rest before : List Item) (e : Element) (d : List Declared)
     (after : List Item) → AreRuns runs
-    → runs ++ (Inner f c ∷ rest) ≡ before ++ (Inner e d ∷ after) → IsLater runs f c rest before e d after
+    → runs ++ (Inner f c ∷ rest) ≡ before ++ (Inner e d ∷ after) → IsSameOrLater runs f c rest before e d after
 is_later [] f c rest [] e d after h is =
     let element : f ≡ e = cc in
     let declared : c ≡ d = cc in
@@ -197,19 +198,21 @@ pub record IsPiece (scope : Scope) (inside : Pieces) (first : List Item) (e : El
   pub inner_are : AreItems (scope_within scope tag) within inner
   pub is_element : IsElement scope tag inner e d
 
--- after a comment, which means no item
-with_comment : (scope : Scope) (inside : Pieces) (first : List Item) (e : Element) (d : List Declared) → IsPiece scope inside first e d
-    → IsPiece scope (piece.Comment inside) first e d
-with_comment scope inside first e d p = record {
-  before = piece.Comment p.before;
+-- after one more piece
+with_piece : (wrap : Pieces → Pieces) → ((c d : Pieces) → chain_pieces (wrap c) d ≡ wrap (chain_pieces c d))
+    → (scope : Scope) (inside : Pieces) (first more : List Item) (e : Element) (d : List Declared)
+    → ((c : Pieces) → AreItems scope c first → AreItems scope (wrap c) more)
+    → IsPiece scope inside first e d → IsPiece scope (wrap inside) more e d
+with_piece wrap chains scope inside first more e d means p = record {
+  before = wrap p.before;
   element = p.element;
   after = p.after;
   tag = p.tag;
   within = p.within;
   inner = p.inner;
-  inside_is = ap piece.Comment p.inside_is;
+  inside_is = ap wrap p.inside_is ∙ sym (chains p.before p.element);
   is_piece = p.is_piece;
-  mean = p.mean;
+  mean = means p.before p.mean;
   inner_are = p.inner_are;
   is_element = p.is_element;
 }
@@ -220,46 +223,22 @@ piece_of : (scope : Scope) (inside : Pieces) (items first : List Item) (e : Elem
 piece_of scope Nothing items [] e d others m is = let wrong : [] ≡ Inner e d ∷ others = sym m ∙ is in cc
 piece_of scope Nothing items (item ∷ first) e d others m is = let wrong : [] ≡ item ∷ (first ++ (Inner e d ∷ others)) = sym m ∙ is in cc
 piece_of scope (piece.Comment after) items first e d others m is =
-    with_comment scope after first e d (piece_of scope after items first e d others m is)
+    with_piece piece.Comment (λ c q. refl) scope after first first e d (λ c t. t) (piece_of scope after items first e d others m is)
 piece_of scope (piece.Characters blank text after) items [] e d others m is =
     let wrong : Run text ∷ m.0 ≡ Inner e d ∷ others = sym m.1 ∙ is in cc
 piece_of scope (piece.Characters blank text after) items (item ∷ first) e d others m is =
     let both : Run text ∷ m.0 ≡ item ∷ (first ++ (Inner e d ∷ others)) = sym m.1 ∙ is in
     let head : item ≡ Run text = cc in
     let tail : m.0 ≡ first ++ (Inner e d ∷ others) = cc in
-    let p = piece_of scope after m.0 first e d others m.2 tail in
-    record {
-      before = piece.Characters blank text p.before;
-      element = p.element;
-      after = p.after;
-      tag = p.tag;
-      within = p.within;
-      inner = p.inner;
-      inside_is = ap (piece.Characters blank text) p.inside_is;
-      is_piece = p.is_piece;
-      mean = (first, ap (λ (i : Item). i ∷ first) head, p.mean);
-      inner_are = p.inner_are;
-      is_element = p.is_element;
-    }
+    with_piece (piece.Characters blank text) (λ c q. refl) scope after first (item ∷ first) e d
+    (λ c t. (first, ap (λ (i : Item). i ∷ first) head, t)) (piece_of scope after m.0 first e d others m.2 tail)
 piece_of scope (piece.Section text after) items [] e d others m is = let wrong : Run text ∷ m.0 ≡ Inner e d ∷ others = sym m.1 ∙ is in cc
 piece_of scope (piece.Section text after) items (item ∷ first) e d others m is =
     let both : Run text ∷ m.0 ≡ item ∷ (first ++ (Inner e d ∷ others)) = sym m.1 ∙ is in
     let head : item ≡ Run text = cc in
     let tail : m.0 ≡ first ++ (Inner e d ∷ others) = cc in
-    let p = piece_of scope after m.0 first e d others m.2 tail in
-    record {
-      before = piece.Section text p.before;
-      element = p.element;
-      after = p.after;
-      tag = p.tag;
-      within = p.within;
-      inner = p.inner;
-      inside_is = ap (piece.Section text) p.inside_is;
-      is_piece = p.is_piece;
-      mean = (first, ap (λ (i : Item). i ∷ first) head, p.mean);
-      inner_are = p.inner_are;
-      is_element = p.is_element;
-    }
+    with_piece (piece.Section text) (λ c q. refl) scope after first (item ∷ first) e d
+    (λ c t. (first, ap (λ (i : Item). i ∷ first) head, t)) (piece_of scope after m.0 first e d others m.2 tail)
 piece_of scope (piece.Empty tag after) items [] e d others m is =
     let both : Inner m.0 m.1 ∷ m.2 ≡ Inner e d ∷ others = sym m.3 ∙ is in
     let same : m.0 ≡ e = cc in
@@ -282,20 +261,8 @@ piece_of scope (piece.Empty tag after) items (item ∷ first) e d others m is =
     let both : Inner m.0 m.1 ∷ m.2 ≡ item ∷ (first ++ (Inner e d ∷ others)) = sym m.3 ∙ is in
     let head : item ≡ Inner m.0 m.1 = cc in
     let tail : m.2 ≡ first ++ (Inner e d ∷ others) = cc in
-    let p = piece_of scope after m.2 first e d others m.5 tail in
-    record {
-      before = piece.Empty tag p.before;
-      element = p.element;
-      after = p.after;
-      tag = p.tag;
-      within = p.within;
-      inner = p.inner;
-      inside_is = ap (piece.Empty tag) p.inside_is;
-      is_piece = p.is_piece;
-      mean = (m.0, m.1, first, ap (λ (i : Item). i ∷ first) head, m.4, p.mean);
-      inner_are = p.inner_are;
-      is_element = p.is_element;
-    }
+    with_piece (piece.Empty tag) (λ c q. refl) scope after first (item ∷ first) e d
+    (λ c t. (m.0, m.1, first, ap (λ (i : Item). i ∷ first) head, m.4, t)) (piece_of scope after m.2 first e d others m.5 tail)
 piece_of scope (piece.Start tag within after) items [] e d others m is =
     let both : Inner m.1 m.2 ∷ m.3 ≡ Inner e d ∷ others = sym m.4 ∙ is in
     let same : m.1 ≡ e = cc in
@@ -318,20 +285,8 @@ piece_of scope (piece.Start tag within after) items (item ∷ first) e d others 
     let both : Inner m.1 m.2 ∷ m.3 ≡ item ∷ (first ++ (Inner e d ∷ others)) = sym m.4 ∙ is in
     let head : item ≡ Inner m.1 m.2 = cc in
     let tail : m.3 ≡ first ++ (Inner e d ∷ others) = cc in
-    let p = piece_of scope after m.3 first e d others m.7 tail in
-    record {
-      before = piece.Start tag within p.before;
-      element = p.element;
-      after = p.after;
-      tag = p.tag;
-      within = p.within;
-      inner = p.inner;
-      inside_is = ap (piece.Start tag within) p.inside_is;
-      is_piece = p.is_piece;
-      mean = (m.0, m.1, m.2, first, ap (λ (i : Item). i ∷ first) head, m.5, m.6, p.mean);
-      inner_are = p.inner_are;
-      is_element = p.is_element;
-    }
+    with_piece (piece.Start tag within) (λ c q. refl) scope after first (item ∷ first) e d
+    (λ c t. (m.0, m.1, m.2, first, ap (λ (i : Item). i ∷ first) head, m.5, m.6, t)) (piece_of scope after m.3 first e d others m.7 tail)
 
 -- beside an element among the children white space is none
 among_both : (items before : List Item) (e : Element) (d : List Declared) (after : List Item)
@@ -439,38 +394,28 @@ pub record HasRoot (pieces : Pieces) (r : Reading) : Type 0 where
   pub inside_are : AreItems (scope_within root_scope tag) inside items
   pub is_element : IsElement root_scope tag items r.root r.declared
 
+-- after one more piece of the margin
+with_margin : (wrap : Pieces → Pieces) → ((c d : Pieces) → chain_pieces (wrap c) d ≡ wrap (chain_pieces c d))
+    → ((c : Pieces) → IsMargin c → IsMargin (wrap c)) → (after : Pieces) (r : Reading) → HasRoot after r → HasRoot (wrap after) r
+with_margin wrap chains stays after r p = record {
+  before = wrap p.before;
+  element = p.element;
+  tag = p.tag;
+  inside = p.inside;
+  after = p.after;
+  items = p.items;
+  pieces_are = ap wrap p.pieces_are ∙ sym (chains p.before p.element);
+  margin = stays p.before p.margin;
+  is_piece = p.is_piece;
+  inside_are = p.inside_are;
+  is_element = p.is_element;
+}
+
 root_of : (pieces : Pieces) (r : Reading) → BeginsWithRoot pieces r → HasRoot pieces r
 root_of Nothing r h = absurd h
-root_of (piece.Comment after) r h =
-    let p = root_of after r h in
-    record {
-      before = piece.Comment p.before;
-      element = p.element;
-      tag = p.tag;
-      inside = p.inside;
-      after = p.after;
-      items = p.items;
-      pieces_are = ap piece.Comment p.pieces_are;
-      margin = p.margin;
-      is_piece = p.is_piece;
-      inside_are = p.inside_are;
-      is_element = p.is_element;
-    }
+root_of (piece.Comment after) r h = with_margin piece.Comment (λ c q. refl) (λ c m. m) after r (root_of after r h)
 root_of (piece.Characters blank text after) r h =
-    let p = root_of after r h.1 in
-    record {
-      before = piece.Characters blank text p.before;
-      element = p.element;
-      tag = p.tag;
-      inside = p.inside;
-      after = p.after;
-      items = p.items;
-      pieces_are = ap (piece.Characters blank text) p.pieces_are;
-      margin = (h.0, p.margin);
-      is_piece = p.is_piece;
-      inside_are = p.inside_are;
-      is_element = p.is_element;
-    }
+    with_margin (piece.Characters blank text) (λ c q. refl) (λ c m. (h.0, m)) after r (root_of after r h.1)
 root_of (piece.Section text after) r h = absurd h
 root_of (piece.Empty tag after) r h = record {
   before = Nothing;

@@ -1,4 +1,9 @@
 -- Namespaces, each once, and their prefixes.
+-- 1. What one more namespace at the end of those seen changes: nothing where it is undeclared or among them, else one more.
+-- 2. So `AddsSpaces` holds of none, of two lists in turn, and of one namespace, by whether it is declared and known.
+-- 3. The rows of prefixes have a namespace exactly where it is among the declared ones, so a lookup in them decides step 2.
+-- 4. One row more is put at the end of the rows by the next number; so a table that gains one key keeps to the rows.
+-- 5. The table begins with the row of `xml`, and the lack of a namespace never has a prefix.
 use Rattle.std.proofs.Common.{◌≡◌, ◌≢◌, ℕ, ◌+◌, suc, List, [], ◌∷◌, ◌++◌, length, Bool, true, false, not, cond, ◌||◌, Option, Some, None, refl, ap, sym, ◌∙◌, subst, arith, inl, inr, append_assoc}
 use Rattle.std.proofs.lemmas.List.{append-nil}
 use Rattle.std.proofs.lemmas.List.Elements.{filter-append}
@@ -22,11 +27,11 @@ Texts = List (List ℕ)
 abbrev pub among : List ℕ → Texts → Bool
 among s xs = list_any (bytes_eq s) xs
 
-abbrev pub others : List ℕ → Texts → Texts
-others x xs = filter (λ y. not (bytes_eq y x)) xs
+abbrev pub others_than : List ℕ → Texts → Texts
+others_than x xs = filter (λ y. not (bytes_eq y x)) xs
 
 -- what is no x is among the others exactly where it is among all
-pub among-others : (s x : List ℕ) (ys : Texts) → bytes_eq s x ≡ false → among s (others x ys) ≡ among s ys
+pub among-others : (s x : List ℕ) (ys : Texts) → bytes_eq s x ≡ false → among s (others_than x ys) ≡ among s ys
 among-others s x [] e = refl
 among-others s x (y ∷ ys) e = elim (cases_Bool (bytes_eq y x)) [
   | inl f ↦
@@ -132,7 +137,7 @@ prefix_rows-push letter n (x ∷ xs) s =
     ap (λ l. (x, letter ++ numeral n) ∷ l) (prefix_rows-push letter (n + 1) xs s
     ∙ ap (λ (k : ℕ). numbered_prefixes letter (n + 1) xs ++ (s, letter ++ numeral k) ∷ []) e)
 
-abbrev Rows : Type 0
+abbrev pub Rows : Type 0
 Rows = List (List ℕ × List ℕ)
 
 lookup-other : (p : List ℕ → Bool) (rows : Rows) (s label : List ℕ) → p s ≡ false → lookup p (rows ++ (s, label) ∷ []) ≡ lookup p rows

@@ -29,24 +29,24 @@ is_end_tag (Section text) = false
 is_end_tag (Characters blank text) = false
 
 -- pieces has ended here: an end tag stands here, or nothing
-abbrev pub Closes : List Token → Type 0
-Closes [] = Unit {0}
-Closes (t ∷ ts) = is_end_tag t ≡ true
+abbrev pub EndsPieces : List Token → Type 0
+EndsPieces [] = Unit {0}
+EndsPieces (t ∷ ts) = is_end_tag t ≡ true
 
-nothing_is : (d : Pieces) (r s : List Token) → Closes r → r ≡ tokens_of d ++ s → (Nothing ≡ d) × (r ≡ s)
+nothing_is : (d : Pieces) (r s : List Token) → EndsPieces r → r ≡ tokens_of d ++ s → (Nothing ≡ d) × (r ≡ s)
 nothing_is Nothing r s h e = (refl, e)
-nothing_is (piece.Comment after) r s h e = let wrong : false ≡ true = subst Closes e h in cc
-nothing_is (piece.Characters blank text after) r s h e = let wrong : false ≡ true = subst Closes e h in cc
-nothing_is (piece.Section text after) r s h e = let wrong : false ≡ true = subst Closes e h in cc
-nothing_is (piece.Empty tag after) r s h e = let wrong : false ≡ true = subst Closes e h in cc
-nothing_is (piece.Start tag inside after) r s h e = let wrong : false ≡ true = subst Closes e h in cc
+nothing_is (piece.Comment after) r s h e = let wrong : false ≡ true = subst EndsPieces e h in cc
+nothing_is (piece.Characters blank text after) r s h e = let wrong : false ≡ true = subst EndsPieces e h in cc
+nothing_is (piece.Section text after) r s h e = let wrong : false ≡ true = subst EndsPieces e h in cc
+nothing_is (piece.Empty tag after) r s h e = let wrong : false ≡ true = subst EndsPieces e h in cc
+nothing_is (piece.Start tag inside after) r s h e = let wrong : false ≡ true = subst EndsPieces e h in cc
 
 branch_seam : (tag : Tag) (inside after : Pieces) (r : List Token)
     → tokens_of (piece.Start tag inside after) ++ r ≡ Start tag ∷ (tokens_of inside ++ (End tag.name ∷ (tokens_of after ++ r)))
 branch_seam tag inside after r = ap (λ ts. Start tag ∷ ts) (append_assoc (tokens_of inside) (End tag.name ∷ tokens_of after) r)
 
 -- tokens are those of one pieces
-pub one_content : (c d : Pieces) (r s : List Token) → Closes r → Closes s → tokens_of c ++ r ≡ tokens_of d ++ s → (c ≡ d) × (r ≡ s)
+pub one_content : (c d : Pieces) (r s : List Token) → EndsPieces r → EndsPieces s → tokens_of c ++ r ≡ tokens_of d ++ s → (c ≡ d) × (r ≡ s)
 one_content Nothing d r s h k e = nothing_is d r s h e
 one_content c Nothing r s h k e = let both = nothing_is c s r k (sym e) in (sym both.0, sym both.1)
 one_content (piece.Comment a) (piece.Comment b) r s h k e =

@@ -3,16 +3,19 @@
 -- lemmas `one_..` go from values in quotes to assignments, tags, the declaration and text. That tokens of different kinds do not stand at
 -- the same place is told by their first bytes (`kind_is`).
 use Rattle.std.proofs.Common.{◌≡◌, ◌≢◌, ℕ, Bool, true, false, not, ◌||◌, List, [], ◌∷◌, ◌++◌, map, refl, ap, sym, ◌∙◌, subst, arith, append_assoc, ◌⊎◌, inl, inr}
-use Rattle.std.specs.Prelude.{◌==◌, if◌then◌else◌, codes, Some}
+use Rattle.std.specs.Prelude.{◌==◌, codes, Some}
 use Rattle.std.specs.Char.{to_ascii_uppercase}
 use Rattle.std.specs.List.{flat_map, list_all}
 use Rattle.std.proofs.lemmas.Bool.{not-true, or_cases, and_parts}
 use Rattle.std.proofs.lemmas.Bool.Decides.{nat_tests}
+use Rattle.std.specs.Str.{byte}
 use Rattle.ifmap_lemmas.specs.Items.{To, one_list}
-use Rattle.ifmap_elem.specs.Chars.{AllAre, IsWhite, is_white}
+use Rattle.ifmap_elem.specs.Chars.{AllAre, IsWhite, is_white, ampersand, double_quote, equals_sign, greater_than, less_than, semicolon, single_quote}
 use Rattle.ifmap_elem.specs.declared.tokens.Qualified.{Qualified}
+use Rattle.ifmap_elem.specs.declared.tokens.TokenKind.TheVariants as kinds
+use Rattle.ifmap_elem.specs.Kinds.{kind_at, kind_of, kind_of_markup}
 use Rattle.ifmap_elem.specs.Names.{IsQualified, name_bytes}
-use Rattle.ifmap_elem.specs.Values.{Part, Plain, Reference, TakesPart, EndsRun, Expands, reference_value, IsText, IsValue, text_part, value_part, line_ends}
+use Rattle.ifmap_elem.specs.Values.{ValuePart, Plain, Reference, TakesPart, EndsRun, SpellsOut, reference_value, IsText, IsValue, text_part, value_part, line_ends}
 use Rattle.ifmap_elem.specs.declared.tokens.Assignment.{Assignment}
 use Rattle.ifmap_elem.specs.declared.tokens.Tag.{Tag}
 use Rattle.ifmap_elem.specs.declared.tokens.Token.{Token}
@@ -20,59 +23,59 @@ use Rattle.ifmap_elem.specs.declared.tokens.Token.TheVariants.{Declaration, Comm
 use Rattle.ifmap_elem.specs.Tokens.{TakesQuoted, TakesAssignment, TakesTag, TakesSetting, TakesOptional, TakesDeclaration, TakesEnd, EndsText, TakesText, TakesToken}
 use Rattle.ifmap_lemmas.specs.Cuts.{Stops, cut}
 use Rattle.ifmap_lemmas.specs.Members.{all_append}
-use Rattle.ifmap_lemmas.specs.Numbers.{is_number}
+use Rattle.ifmap_lemmas.specs.Numbers.{equal_numbers}
 use Rattle.ifmap_elem.specs.laws.Delimiters.{dash_cut, bracket_cut}
 use Rattle.ifmap_elem.specs.laws.NameBytes.{is_name_byte, name_are_bytes, name_is_some, name_cut, no_name_byte, white_is_no_name, white_stops_at_name, name_stops_at_white}
 
 -- one part
 
-pub run_stops : (rest : List ℕ) → EndsRun rest → Stops (λ b. not (b == 0x26)) rest
+pub run_stops : (rest : List ℕ) → EndsRun rest → Stops (λ b. not (b == ampersand)) rest
 run_stops [] e = tt
-run_stops (b ∷ bs) e = subst (λ (n : ℕ). not (n == 0x26) ≡ false) (sym e) refl
+run_stops (b ∷ bs) e = subst (λ (n : ℕ). not (n == ampersand) ≡ false) (sym e) refl
 
 -- no run stands where a reference does
-no_run : (run r s : List ℕ) → run ≢ [] → AllAre (λ b. not (b == 0x26)) run → run ++ r ≡ 0x26 ∷ s → ⊥
+no_run : (run r s : List ℕ) → run ≢ [] → AllAre (λ b. not (b == ampersand)) run → run ++ r ≡ ampersand ∷ s → ⊥
 no_run [] r s some f e = some refl
 no_run (b ∷ bs) r s some f e =
-    let head : b ≡ 0x26 = cc in
-    let wrong : false ≡ true = subst (λ (n : ℕ). not (n == 0x26) ≡ true) head f.0 in
+    let head : b ≡ ampersand = cc in
+    let wrong : false ≡ true = subst (λ (n : ℕ). not (n == ampersand) ≡ true) head f.0 in
     cc
 
-pub one_part : (bytes : List ℕ) (p q : Part) (r s : List ℕ) → TakesPart bytes p r → TakesPart bytes q s → (p ≡ q) × (r ≡ s)
+pub one_part : (bytes : List ℕ) (p q : ValuePart) (r s : List ℕ) → TakesPart bytes p r → TakesPart bytes q s → (p ≡ q) × (r ≡ s)
 one_part bytes (Plain a) (Plain b) r s l m =
-    let both = cut (λ b. not (b == 0x26)) a b r s l.2 m.2 (run_stops r l.3) (run_stops s m.3) (sym l.0 ∙ m.0) in
+    let both = cut (λ b. not (b == ampersand)) a b r s l.2 m.2 (run_stops r l.3) (run_stops s m.3) (sym l.0 ∙ m.0) in
     (ap Plain both.0, both.1)
 one_part bytes (Plain a) (Reference c) r s l m = absurd (no_run a r _ l.1 l.2 (sym l.0 ∙ m.1))
 one_part bytes (Reference c) (Plain b) r s l m = absurd (no_run b s _ m.1 m.2 (sym m.0 ∙ l.1))
 one_part bytes (Reference c) (Reference d) r s l m =
-    let e : 0x26 ∷ (l.0 ++ (0x3B ∷ r)) ≡ 0x26 ∷ (m.0 ++ (0x3B ∷ s)) = sym l.1 ∙ m.1 in
-    let tail : l.0 ++ (0x3B ∷ r) ≡ m.0 ++ (0x3B ∷ s) = cc in
-    let both = cut (λ b. not (b == 0x3B)) l.0 m.0 (0x3B ∷ r) (0x3B ∷ s) l.2 m.2 refl refl tail in
+    let e : ampersand ∷ (l.0 ++ (semicolon ∷ r)) ≡ ampersand ∷ (m.0 ++ (semicolon ∷ s)) = sym l.1 ∙ m.1 in
+    let tail : l.0 ++ (semicolon ∷ r) ≡ m.0 ++ (semicolon ∷ s) = cc in
+    let both = cut (λ b. not (b == semicolon)) l.0 m.0 (semicolon ∷ r) (semicolon ∷ s) l.2 m.2 refl refl tail in
     let found : Some c ≡ Some d = sym l.3 ∙ ap reference_value both.0 ∙ m.3 in
     let same : c ≡ d = cc in
-    let behind : 0x3B ∷ r ≡ 0x3B ∷ s = both.1 in
+    let behind : semicolon ∷ r ≡ semicolon ∷ s = both.1 in
     (ap Reference same, cc)
 
 no_run_of_none : (run rest : List ℕ) → run ≢ [] → [] ≡ run ++ rest → ⊥
 no_run_of_none [] rest some e = some refl
 no_run_of_none (b ∷ bs) rest some e = cc
 
-pub no_part : (end : List ℕ) (p : Part) (rest : List ℕ) → end ≡ [] → TakesPart end p rest → ⊥
+pub no_part : (end : List ℕ) (p : ValuePart) (rest : List ℕ) → end ≡ [] → TakesPart end p rest → ⊥
 no_part end (Plain run) rest none t = no_run_of_none run rest t.1 (sym none ∙ t.0)
-no_part end (Reference c) rest none t = let wrong : [] ≡ 0x26 ∷ (t.0 ++ (0x3B ∷ rest)) = sym none ∙ t.1 in cc
+no_part end (Reference c) rest none t = let wrong : [] ≡ ampersand ∷ (t.0 ++ (semicolon ∷ rest)) = sym none ∙ t.1 in cc
 
-pub one_expansion : (adds : Part → List ℕ) (bytes v w : List ℕ) → Expands adds bytes v → Expands adds bytes w → v ≡ w
+pub one_expansion : (adds : ValuePart → List ℕ) (bytes v w : List ℕ) → SpellsOut adds bytes v → SpellsOut adds bytes w → v ≡ w
 one_expansion adds bytes v w l m =
     let both = one_list TakesPart (λ (end : List ℕ). end ≡ []) no_part one_part bytes l.parts m.parts [] [] refl refl l.taken m.taken in
     l.text_is ∙ ap (flat_map adds) both.0 ∙ sym m.text_is
 
 -- one quoted value, and one assignment
 
-pub quote_is_not_white : (q : ℕ) → (q == 0x22 || q == 0x27) ≡ true → is_white q ≡ false
+pub quote_is_not_white : (q : ℕ) → (q == double_quote || q == single_quote) ≡ true → is_white q ≡ false
 quote_is_not_white q h =
-    elim (or_cases (q == 0x22) (q == 0x27) h) [
-      | inl e ↦ subst (λ (n : ℕ). is_white n ≡ false) (sym (is_number q 0x22 e)) refl
-      | inr e ↦ subst (λ (n : ℕ). is_white n ≡ false) (sym (is_number q 0x27 e)) refl
+    elim (or_cases (q == double_quote) (q == single_quote) h) [
+      | inl e ↦ subst (λ (n : ℕ). is_white n ≡ false) (sym (equal_numbers q double_quote e)) refl
+      | inr e ↦ subst (λ (n : ℕ). is_white n ≡ false) (sym (equal_numbers q single_quote e)) refl
     ]
 
 itself : (q : ℕ) → not (q == q) ≡ false
@@ -80,10 +83,11 @@ itself q = let same : (q == q) ≡ true = grind (arith, nat_tests) in rw same re
 
 pub one_quoted : (bytes v w r s : List ℕ) → TakesQuoted bytes v r → TakesQuoted bytes w s → (v ≡ w) × (r ≡ s)
 one_quoted bytes v w r s l m =
-    let first = cut is_white l.before m.before (0x3D ∷ (l.after ++ (l.quote ∷ (v ++ (l.quote ∷ r)))))
-    (0x3D ∷ (m.after ++ (m.quote ∷ (w ++ (m.quote ∷ s)))))
+    let first = cut is_white l.before m.before (equals_sign ∷ (l.after ++ (l.quote ∷ (v ++ (l.quote ∷ r)))))
+    (equals_sign ∷ (m.after ++ (m.quote ∷ (w ++ (m.quote ∷ s)))))
     l.white_before m.white_before refl refl (sym l.bytes_are ∙ m.bytes_are) in
-    let equals : 0x3D ∷ (l.after ++ (l.quote ∷ (v ++ (l.quote ∷ r)))) ≡ 0x3D ∷ (m.after ++ (m.quote ∷ (w ++ (m.quote ∷ s)))) = first.1 in
+    let equals : equals_sign ∷ (l.after ++ (l.quote ∷ (v ++ (l.quote ∷ r)))) ≡ equals_sign ∷ (m.after ++ (m.quote ∷ (w ++ (m.quote ∷ s))))
+    = first.1 in
     let behind : l.after ++ (l.quote ∷ (v ++ (l.quote ∷ r))) ≡ m.after ++ (m.quote ∷ (w ++ (m.quote ∷ s))) = cc in
     let second = cut is_white l.after m.after (l.quote ∷ (v ++ (l.quote ∷ r))) (m.quote ∷ (w ++ (m.quote ∷ s)))
     l.white_after m.white_after (quote_is_not_white l.quote l.is_quote) (quote_is_not_white m.quote m.is_quote) behind in
@@ -157,7 +161,7 @@ assigned_stops bytes (a ∷ as') white end f ends l =
 pub one_tag : (bytes : List ℕ) (a b : Tag) (end after : List ℕ) → EndsTag end → EndsTag after → TakesTag bytes a end
     → TakesTag bytes b after → (a ≡ b) × (end ≡ after)
 one_tag bytes a b end after ends also l m =
-    let e : 0x3C ∷ (name_bytes a.name ++ l.after) ≡ 0x3C ∷ (name_bytes b.name ++ m.after) = sym l.bytes_are ∙ m.bytes_are in
+    let e : less_than ∷ (name_bytes a.name ++ l.after) ≡ less_than ∷ (name_bytes b.name ++ m.after) = sym l.bytes_are ∙ m.bytes_are in
     let named : name_bytes a.name ++ l.after ≡ name_bytes b.name ++ m.after = cc in
     let first = name_cut a.name b.name l.after m.after l.is_name m.is_name
     (assigned_stops l.after a.assignments l.white end l.is_white ends l.assigned)
@@ -172,7 +176,7 @@ one_tag bytes a b end after ends also l m =
 -- the declaration has no `>` but its last byte
 
 abbrev pub no_end : ℕ → Bool
-no_end b = not (b == 0x3E)
+no_end b = not (b == greater_than)
 
 -- what was taken has no `>`
 abbrev pub TakesNoEnd : List ℕ → List ℕ → Type 0
@@ -180,20 +184,22 @@ TakesNoEnd bytes rest = (front : List ℕ) × (bytes ≡ front ++ rest) × AllAr
 
 white_no_end : (a : List ℕ) → IsWhite a → AllAre no_end a
 white_no_end [] f = tt
-white_no_end (b ∷ bs) f = (by_test (b == 0x3E) refl, white_no_end bs f.1)
+white_no_end (b ∷ bs) f = (by_test (b == greater_than) refl, white_no_end bs f.1)
   where
-    by_test : (t : Bool) → (b == 0x3E) ≡ t → not (b == 0x3E) ≡ true
+    by_test : (t : Bool) → (b == greater_than) ≡ t → not (b == greater_than) ≡ true
     by_test false e = ap not e
-    by_test true e = let wrong : true ≡ false = sym f.0 ∙ subst (λ (n : ℕ). is_white n ≡ false) (sym (is_number b 0x3E e)) refl in cc
+    by_test true e =
+        let wrong : true ≡ false = sym f.0 ∙ subst (λ (n : ℕ). is_white n ≡ false) (sym (equal_numbers b greater_than e)) refl in cc
 
-quote_no_end : (q : ℕ) → (q == 0x22 || q == 0x27) ≡ true → no_end q ≡ true
+quote_no_end : (q : ℕ) → (q == double_quote || q == single_quote) ≡ true → no_end q ≡ true
 quote_no_end q h =
-    elim (or_cases (q == 0x22) (q == 0x27) h) [
-      | inl e ↦ subst (λ (n : ℕ). no_end n ≡ true) (sym (is_number q 0x22 e)) refl
-      | inr e ↦ subst (λ (n : ℕ). no_end n ≡ true) (sym (is_number q 0x27 e)) refl
+    elim (or_cases (q == double_quote) (q == single_quote) h) [
+      | inl e ↦ subst (λ (n : ℕ). no_end n ≡ true) (sym (equal_numbers q double_quote e)) refl
+      | inr e ↦ subst (λ (n : ℕ). no_end n ≡ true) (sym (equal_numbers q single_quote e)) refl
     ]
 
-seam : (a b c d : List ℕ) (q : ℕ) → a ++ (0x3D ∷ (b ++ (q ∷ (c ++ (q ∷ d))))) ≡ (a ++ (0x3D ∷ (b ++ (q ∷ (c ++ (q ∷ [])))))) ++ d
+seam : (a b c d : List ℕ) (q : ℕ)
+    → a ++ (equals_sign ∷ (b ++ (q ∷ (c ++ (q ∷ d))))) ≡ (a ++ (equals_sign ∷ (b ++ (q ∷ (c ++ (q ∷ [])))))) ++ d
 seam a b c d q = simp append_assoc
 
 quoted_no_end : (bytes v rest : List ℕ) → AllAre no_end v → TakesQuoted bytes v rest → TakesNoEnd bytes rest
@@ -201,9 +207,10 @@ quoted_no_end bytes v rest f t =
     let q : AllAre no_end (t.quote ∷ []) = (quote_no_end t.quote t.is_quote, tt) in
     let value = all_append no_end v (t.quote ∷ []) f q in
     let behind = all_append no_end t.after (t.quote ∷ (v ++ (t.quote ∷ []))) (white_no_end t.after t.white_after) (q.0, value) in
-    let all = all_append no_end t.before (0x3D ∷ (t.after ++ (t.quote ∷ (v ++ (t.quote ∷ []))))) (white_no_end t.before t.white_before)
+    let all = all_append no_end t.before (equals_sign ∷ (t.after ++ (t.quote ∷ (v ++ (t.quote ∷ [])))))
+    (white_no_end t.before t.white_before)
     (refl, behind) in
-    (t.before ++ (0x3D ∷ (t.after ++ (t.quote ∷ (v ++ (t.quote ∷ []))))), t.bytes_are ∙ seam t.before t.after v rest t.quote, all)
+    (t.before ++ (equals_sign ∷ (t.after ++ (t.quote ∷ (v ++ (t.quote ∷ []))))), t.bytes_are ∙ seam t.before t.after v rest t.quote, all)
 
 module _ (name : List ℕ) (Allows : List ℕ → Type 0) (plain : AllAre no_end name) (values : (v : List ℕ) → Allows v → AllAre no_end v) where
   setting_no_end : (bytes rest : List ℕ) → TakesSetting name Allows bytes rest → TakesNoEnd bytes rest
@@ -228,19 +235,19 @@ raised_no_end (b ∷ bs) [] e f = cc
 raised_no_end (b ∷ bs) (c ∷ cs) e f =
     let head : to_ascii_uppercase b ≡ c = cc in
     let tail : map to_ascii_uppercase bs ≡ cs = cc in
-    (by_test head (b == 0x3E) refl, raised_no_end bs cs tail f.1)
+    (by_test head (b == greater_than) refl, raised_no_end bs cs tail f.1)
   where
-    by_test : to_ascii_uppercase b ≡ c → (t : Bool) → (b == 0x3E) ≡ t → not (b == 0x3E) ≡ true
+    by_test : to_ascii_uppercase b ≡ c → (t : Bool) → (b == greater_than) ≡ t → not (b == greater_than) ≡ true
     by_test head false e = ap not e
     by_test head true e =
-        let same : c ≡ 0x3E = sym head ∙ ap to_ascii_uppercase (is_number b 0x3E e) in
+        let same : c ≡ greater_than = sym head ∙ ap to_ascii_uppercase (equal_numbers b greater_than e) in
         let wrong : false ≡ true = subst (λ (n : ℕ). no_end n ≡ true) same f.0 in cc
 
 each : (xs : List ℕ) → list_all no_end xs ≡ true → AllAre no_end xs
 each [] h = tt
 each (x ∷ xs) h = let parts = and_parts (no_end x) (list_all no_end xs) h in (parts.0, each xs parts.1)
 
-pub declaration_no_end : (bytes rest : List ℕ) → TakesDeclaration bytes rest → TakesNoEnd bytes (0x3E ∷ rest)
+pub declaration_no_end : (bytes rest : List ℕ) → TakesDeclaration bytes rest → TakesNoEnd bytes (greater_than ∷ rest)
 declaration_no_end bytes rest t =
     let first : TakesNoEnd bytes t.first = (codes "<?xml", t.bytes_are, each (codes "<?xml") refl) in
     let second = setting_no_end (codes "version") (λ v. v ≡ codes "1.0") (each (codes "version") refl)
@@ -249,10 +256,10 @@ declaration_no_end bytes rest t =
     (λ v e. raised_no_end v (codes "UTF-8") e (each (codes "UTF-8") refl)) t.second t.third t.encoding in
     let fourth = optional_no_end (codes "standalone") (λ v. (v ≡ codes "yes") ⊎ (v ≡ codes "no"))
     (each (codes "standalone") refl) yes_or_no t.third (t.white ++ (codes "?>" ++ rest)) t.standalone in
-    let last : TakesNoEnd (t.white ++ (codes "?>" ++ rest)) (0x3E ∷ rest) = (
+    let last : TakesNoEnd (t.white ++ (codes "?>" ++ rest)) (greater_than ∷ rest) = (
       t.white ++ codes "?",
       sym
-          (append_assoc t.white (codes "?") (0x3E ∷ rest)),
+          (append_assoc t.white (codes "?") (greater_than ∷ rest)),
       all_append no_end t.white (codes "?") (white_no_end t.white t.is_white)
           (refl, tt),
     ) in
@@ -269,44 +276,24 @@ one_declaration : (bytes r s : List ℕ) → TakesDeclaration bytes r → TakesD
 one_declaration bytes r s l m =
     let i = declaration_no_end bytes r l in
     let j = declaration_no_end bytes s m in
-    let both = cut no_end i.0 j.0 (0x3E ∷ r) (0x3E ∷ s) i.2 j.2 refl refl (sym i.1 ∙ j.1) in
-    let behind : 0x3E ∷ r ≡ 0x3E ∷ s = both.1 in
+    let both = cut no_end i.0 j.0 (greater_than ∷ r) (greater_than ∷ s) i.2 j.2 refl refl (sym i.1 ∙ j.1) in
+    let behind : greater_than ∷ r ≡ greater_than ∷ s = both.1 in
     cc
 
 -- which kind of token the first bytes can begin
 
-abbrev pub third_kind : List ℕ → ℕ
-third_kind [] = 0
-third_kind (b ∷ bs) = if b == 0x2D then 5 else (if b == 0x5B then 6 else 0)
-
-abbrev pub second_kind : List ℕ → ℕ
-second_kind [] = 0
-second_kind (b ∷ bs) = if b == 0x3F then 2 else (if b == 0x2F then 3 else (if b == 0x21 then third_kind bs else 4))
-
-abbrev pub kind_at : List ℕ → ℕ
-kind_at [] = 0
-kind_at (b ∷ bs) = if b == 0x3C then second_kind bs else 1
-
-abbrev pub kind_of : Token → ℕ
-kind_of Declaration = 2
-kind_of Comment = 5
-kind_of (Start tag) = 4
-kind_of (Empty tag) = 4
-kind_of (End name) = 3
-kind_of (Section text) = 6
-kind_of (Characters blank text) = 1
-
-name_kind : (name r : List ℕ) → name ≢ [] → AllAre is_name_byte name → second_kind (name ++ r) ≡ 4
+name_kind : (name r : List ℕ) → name ≢ [] → AllAre is_name_byte name → kind_of_markup (name ++ r) ≡ kinds.Tag
 name_kind [] r some f = absurd (some refl)
-name_kind (b ∷ bs) r some f = rw (no_name_byte b 0x3F refl f.0, no_name_byte b 0x2F refl f.0, no_name_byte b 0x21 refl f.0) refl
+name_kind (b ∷ bs) r some f =
+    rw (no_name_byte b (byte "?") refl f.0, no_name_byte b (byte "/") refl f.0, no_name_byte b (byte "!") refl f.0) refl
 
-tag_kind : (bytes : List ℕ) (tag : Tag) (end : List ℕ) → TakesTag bytes tag end → kind_at bytes ≡ 4
+tag_kind : (bytes : List ℕ) (tag : Tag) (end : List ℕ) → TakesTag bytes tag end → kind_at bytes ≡ kinds.Tag
 tag_kind bytes tag end t =
     ap kind_at t.bytes_are ∙ name_kind (name_bytes tag.name) t.after (name_is_some tag.name t.is_name) (name_are_bytes tag.name t.is_name)
 
-text_kind : (own r : List ℕ) → own ≢ [] → AllAre (λ b. not (b == 0x3C)) own → kind_at (own ++ r) ≡ 1
+text_kind : (own r : List ℕ) → own ≢ [] → AllAre (λ b. not (b == less_than)) own → kind_at (own ++ r) ≡ kinds.Text
 text_kind [] r some f = absurd (some refl)
-text_kind (b ∷ bs) r some f = rw (not-true (b == 0x3C) f.0) refl
+text_kind (b ∷ bs) r some f = rw (not-true (b == less_than) f.0) refl
 
 pub kind_is : (bytes : List ℕ) (t : Token) (rest : List ℕ) → TakesToken bytes t rest → kind_at bytes ≡ kind_of t
 kind_is bytes Declaration rest t = ap kind_at t.bytes_are
@@ -345,14 +332,14 @@ one_end bytes q u r s l m =
     let end : codes ">" ++ r ≡ codes ">" ++ s = second.1 in
     (first.0, cc)
 
-pub text_stops : (rest : List ℕ) → EndsText rest → Stops (λ b. not (b == 0x3C)) rest
+pub text_stops : (rest : List ℕ) → EndsText rest → Stops (λ b. not (b == less_than)) rest
 text_stops [] e = tt
-text_stops (b ∷ bs) e = subst (λ (n : ℕ). not (n == 0x3C) ≡ false) (sym e) refl
+text_stops (b ∷ bs) e = subst (λ (n : ℕ). not (n == less_than) ≡ false) (sym e) refl
 
 one_text : (bytes : List ℕ) (a b : Bool) (t u r s : List ℕ) → TakesText bytes a t r → TakesText bytes b u s
     → (Characters a t ≡ Characters b u) × (r ≡ s)
 one_text bytes a b t u r s l m =
-    let both = cut (λ b. not (b == 0x3C)) l.own m.own r s l.no_tag m.no_tag (text_stops r l.ends) (text_stops s m.ends)
+    let both = cut (λ b. not (b == less_than)) l.own m.own r s l.no_tag m.no_tag (text_stops r l.ends) (text_stops s m.ends)
     (sym l.bytes_are ∙ m.bytes_are) in
     let blank : a ≡ b = l.blank_is ∙ ap (list_all is_white) both.0 ∙ sym m.blank_is in
     let text : t ≡ u = one_expansion text_part m.own t u (subst (λ (x : List ℕ). IsText x t) both.0 l.means) m.means in
@@ -378,25 +365,25 @@ one_token bytes (Empty a) (Empty b) r s l m =
     (ap Empty both.0, cc)
 one_token bytes (Start a) (Empty b) r s l m =
     let end : codes ">" ++ r ≡ codes "/>" ++ s = tag_ends bytes a b (codes ">" ++ r) (codes "/>" ++ s) (refl, refl) (refl, refl) l m in
-    let wrong : ◌≡◌ {A = ℕ} 0x3E 0x2F = cc in
+    let wrong : ◌≡◌ {A = ℕ} greater_than (byte "/") = cc in
     absurd (omega arith)
 one_token bytes (Empty a) (Start b) r s l m =
     let end : codes "/>" ++ r ≡ codes ">" ++ s = tag_ends bytes a b (codes "/>" ++ r) (codes ">" ++ s) (refl, refl) (refl, refl) l m in
-    let wrong : ◌≡◌ {A = ℕ} 0x2F 0x3E = cc in
+    let wrong : ◌≡◌ {A = ℕ} (byte "/") greater_than = cc in
     absurd (omega arith)
 one_token bytes (End q) (End u) r s l m = let both = one_end bytes q u r s l m in (ap End both.0, both.1)
 one_token bytes (Section t) (Section u) r s l m = let both = one_section bytes t u r s l m in (ap Section both.0, both.1)
 one_token bytes (Characters a t) (Characters b u) r s l m = one_text bytes a b t u r s l m
-one_token bytes t u r s l m = let wrong = other_kinds bytes t u r s l m in absurd (omega arith)
+one_token bytes t u r s l m = let wrong = other_kinds bytes t u r s l m in cc
 
 pub no_token : (end : List ℕ) (t : Token) (rest : List ℕ) → end ≡ [] → TakesToken end t rest → ⊥
 no_token end t rest none l = some_kind t (sym (ap kind_at none) ∙ kind_is end t rest l)
   where
-    some_kind : (t : Token) → 0 ≡ kind_of t → ⊥
-    some_kind Declaration e = omega arith
-    some_kind Comment e = omega arith
-    some_kind (Start tag) e = omega arith
-    some_kind (Empty tag) e = omega arith
-    some_kind (End name) e = omega arith
-    some_kind (Section text) e = omega arith
-    some_kind (Characters blank text) e = omega arith
+    some_kind : (t : Token) → kinds.Nothing ≡ kind_of t → ⊥
+    some_kind Declaration e = cc
+    some_kind Comment e = cc
+    some_kind (Start tag) e = cc
+    some_kind (Empty tag) e = cc
+    some_kind (End name) e = cc
+    some_kind (Section text) e = cc
+    some_kind (Characters blank text) e = cc

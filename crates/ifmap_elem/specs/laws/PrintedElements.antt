@@ -1,4 +1,9 @@
 -- Printed children and printed elements are tokens that mean them.
+-- 1. Pieces in a row have the tokens of both and mean the items of both.
+-- 2. Items that fit as children are joined and dropped nowhere: they are the children among themselves (`kept_all`).
+-- 3. Children that are taken one by one, each with a tag after a text, are taken in a row (`ChildTaken`).
+-- 4. An element over such children is taken as one piece that means it, with the declarations in its tag (`ElementTaken`).
+-- 5. By induction over elements, each child that fits is taken where all namespaces in it resolve (`child_taken`).
 use Rattle.std.proofs.Common.{◌≡◌, ◌≢◌, ℕ, ◌+◌, Bool, true, false, not, List, [], ◌∷◌, ◌++◌, map, length, refl, ap, sym, ◌∙◌, subst, arith, append_assoc}
 use Rattle.std.specs.Prelude.{◌==◌, codes, filter}
 use Rattle.std.specs.List.{AllByRecursion, flat_map, concat, list_all, list_any}
@@ -28,7 +33,8 @@ use Rattle.ifmap_elem.specs.Namespaces.{spaces_of, spaces_of_child, child_spaces
 use Rattle.ifmap_elem.specs.Canonical.{printed_name, declaration_bytes, attribute_bytes, after_attributes_bytes, element_of_parts, child_piece, element_piece, child_bytes, element_bytes}
 use Rattle.ifmap_lemmas.specs.Numbers.{is_other}
 use Rattle.ifmap_lemmas.specs.Members.{all_of_test, all_both}
-use Rattle.ifmap_elem.specs.laws.PrintedTags.{Rows, row_binding, tag_of, qualify_name, Resolves, FitsIn, FitRow, to_both, tag_taken, end_taken, text_taken, bindings_are, names_element}
+use Rattle.ifmap_elem.specs.laws.NamespaceLaws.{Rows}
+use Rattle.ifmap_elem.specs.laws.PrintedTags.{row_binding, tag_of, qualify_name, Resolves, FitsIn, FitRow, to_both, tag_taken, end_taken, text_taken, bindings_are, names_element}
 use Rattle.ifmap_elem.specs.laws.FitLaws.{out_text, elements_of_child, elements_in, fit_parts}
 use Rattle.ifmap_lemmas.specs.Lists.{concat_map}
 use Rattle.ifmap_elem.specs.laws.ArrangedLaws.{out_element}
@@ -105,9 +111,9 @@ Begins (Inner e declared) bytes = (rest : List ℕ) → EndsText (bytes ++ rest)
 Begins (Run text) bytes = Unit {0}
 
 -- behind a text stands a tag
-abbrev pub Follows : Item → List ℕ → Type 0
-Follows (Inner e declared) rest = Unit {0}
-Follows (Run text) rest = EndsText rest
+abbrev pub MayFollow : Item → List ℕ → Type 0
+MayFollow (Inner e declared) rest = Unit {0}
+MayFollow (Run text) rest = EndsText rest
 
 -- no declaration stands in an element
 abbrev pub IsBare : Item → Type 0
@@ -123,7 +129,7 @@ none_below index (Run text ∷ items) f = none_below (index + 1) items f.1
 pub record ChildTaken (prefixes : Rows) (scope : Scope) (c : Child) : Type 0 where
   pub pieces : Pieces
   pub item : Item
-  pub lexed : (rest : List ℕ) → Follows item rest → To TakesToken (child_bytes prefixes c ++ rest) (tokens_of pieces) rest
+  pub lexed : (rest : List ℕ) → MayFollow item rest → To TakesToken (child_bytes prefixes c ++ rest) (tokens_of pieces) rest
   pub means : AreItems scope pieces (item ∷ [])
   pub is_child : child_of item ≡ c
   pub opened : item_child item ≡ out-Child c
@@ -153,7 +159,7 @@ module _ (prefixes : Rows) (scope : Scope) where
 
   follows : (item : Item) (cs : List Child) (each : Each (ChildTaken prefixes scope) cs) (rest : List ℕ) → EndsText rest
       → AreApart (item_child item ∷ map item_child (items_of cs each))
-      → Follows item (flat_map (child_bytes prefixes) cs ++ rest)
+      → MayFollow item (flat_map (child_bytes prefixes) cs ++ rest)
   follows (Inner e d) cs each rest ends apart = tt
   follows (Run t) [] each rest ends apart = ends
   follows (Run t) (c ∷ cs) each rest ends apart =
@@ -336,13 +342,13 @@ module _ (prefixes declared : Rows) (outer : Scope) (e : Element) (fit : IsFitAl
 
 -- all in an element
 
-abbrev pub space_of : Attribute → List ℕ
-space_of a = a.name.space
+abbrev pub attribute_space : Attribute → List ℕ
+attribute_space a = a.name.space
 
-pub spaces_is : (e : Element) → spaces_of e ≡ e.name.space ∷ (map space_of e.attributes ++ flat_map spaces_of_child e.children)
+pub spaces_is : (e : Element) → spaces_of e ≡ e.name.space ∷ (map attribute_space e.attributes ++ flat_map spaces_of_child e.children)
 spaces_is e =
     at_element (List (List ℕ)) (List (List ℕ)) child_spaces element_spaces e
-    ∙ ap (λ l. e.name.space ∷ (map space_of e.attributes ++ l)) (flat_map-map (λ (s : List (List ℕ)). s) spaces_of_child e.children)
+    ∙ ap (λ l. e.name.space ∷ (map attribute_space e.attributes ++ l)) (flat_map-map (λ (s : List (List ℕ)). s) spaces_of_child e.children)
 
 module _ (prefixes : Rows) (scope : Scope) where
   abbrev TakesChild : Child → Type 0
@@ -402,7 +408,7 @@ module _ (prefixes : Rows) (scope : Scope) where
       (each.0 f.0 some.0 r.0, give_each cs each.1 f.1 some.1 r.1)
 
   pub fits_in : (attributes : List Attribute) → AllByRecursion IsFitAttribute attributes
-      → AllByRecursion (Resolves prefixes scope) (map space_of attributes) → AllByRecursion (FitsIn prefixes scope) attributes
+      → AllByRecursion (Resolves prefixes scope) (map attribute_space attributes) → AllByRecursion (FitsIn prefixes scope) attributes
   fits_in [] f r = tt
   fits_in (a ∷ attributes) f r = (record { fit = f.0; resolved = r.0 }, fits_in attributes f.1 r.1)
 
@@ -410,9 +416,9 @@ module _ (prefixes : Rows) (scope : Scope) where
   in_children e each fit resolved =
       let parts = fit_parts e fit in
       let r : AllByRecursion (Resolves prefixes scope) (e.name.space ∷
-      (map space_of e.attributes ++ flat_map spaces_of_child e.children)) = subst (AllByRecursion (Resolves prefixes scope))
+      (map attribute_space e.attributes ++ flat_map spaces_of_child e.children)) = subst (AllByRecursion (Resolves prefixes scope))
       (spaces_is e) resolved in
-      let s = all_both (Resolves prefixes scope) (map space_of e.attributes) (flat_map spaces_of_child e.children) r.1 in
+      let s = all_both (Resolves prefixes scope) (map attribute_space e.attributes) (flat_map spaces_of_child e.children) r.1 in
       subst (λ (b : List ℕ). ElementTaken scope b e []) (sym (at_element (List ℕ) (List ℕ) (child_piece prefixes)
       (element_piece prefixes) e))
       (tagged_taken prefixes [] scope e parts.0 tt tt tt r.0 (fits_in e.attributes parts.0.attributes s.0)

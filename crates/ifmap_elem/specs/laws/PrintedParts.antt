@@ -1,4 +1,10 @@
 -- Printed text and printed values mean what was printed.
+-- 1. A way to write bytes (`WritesMarked`): marked bytes as references, the others as they are.
+-- 2. What is written so is parts, runs of plain bytes and references, which add the bytes that were written (`expands`).
+-- 3. Its characters are those of the bytes or of references, so what a document can have stays so; what marked bytes alone have is
+--    nowhere in it (`never`).
+-- 4. Texts and values are written in two such ways, each by a few facts of its marked bytes (`text_writes`, `value_writes`).
+-- 5. So both mean what was printed, have no `<`, values no quote, and texts no `]]>`.
 use Rattle.std.proofs.Common.{◌≡◌, ◌≢◌, ℕ, ◌<◌, ◌≤◌, Bool, true, false, not, cond, ◌||◌, List, [], ◌∷◌, ◌++◌, map, length, get_or, refl, ap, sym, ◌∙◌, subst, arith, inl, inr, append_assoc}
 use Rattle.std.specs.Prelude.{◌==◌, ◌&&◌, codes, encode_utf8, encode_utf8_all, Some, nat_le}
 use Rattle.std.specs.List.{flat_map, list_all, starts_with}
@@ -8,34 +14,35 @@ use Rattle.std.proofs.lemmas.List.{append-nil}
 use Rattle.std.proofs.lemmas.List.Concat.{flat_map-append}
 use Rattle.std.proofs.lemmas.List.Elements.{recursion_from_All, All-from_get_or}
 use Rattle.std.proofs.lemmas.Str.{encode_ascii, encodes-append, inside_one}
+use Rattle.std.specs.Str.{byte}
 use Rattle.ifmap_lemmas.specs.Items.{To}
-use Rattle.ifmap_elem.specs.Chars.{AllAre, IsCharacters, is_character}
+use Rattle.ifmap_elem.specs.Chars.{AllAre, IsCharacters, is_character, ampersand, carriage_return, double_quote, greater_than, less_than, line_feed, semicolon, tab}
 use Rattle.ifmap_elem.specs.Escapes.{text_byte, value_byte, text_bytes, value_bytes}
 use Rattle.ifmap_elem.specs.Tokens.{Lacks}
-use Rattle.ifmap_elem.specs.Values.{Part, Plain, Reference, TakesPart, EndsRun, Expands, reference_value, IsText, IsValue, text_part, value_part, line_ends, as_space}
+use Rattle.ifmap_elem.specs.Values.{ValuePart, Plain, Reference, TakesPart, EndsRun, SpellsOut, reference_value, IsText, IsValue, text_part, value_part, line_ends, as_space}
 use Rattle.ifmap_lemmas.specs.Members.{all_append, all_of_test}
-use Rattle.ifmap_lemmas.specs.Numbers.{is_number, is_other}
+use Rattle.ifmap_lemmas.specs.Numbers.{equal_numbers, is_other}
 use Rattle.ifmap_lemmas.specs.Texts.{is_ascii, ascii_encoded}
 
 -- a way to write bytes: the marked ones by a name between `&` and `;`, and the others as they are
-pub record Writes (marked : ℕ → Bool) (name_of : ℕ → List ℕ) (write : ℕ → List ℕ) : Type 0 where
+pub record WritesMarked (marked : ℕ → Bool) (name_of : ℕ → List ℕ) (write : ℕ → List ℕ) : Type 0 where
   pub plain : (b : ℕ) → marked b ≡ false → write b ≡ b ∷ []
-  pub reference : (b : ℕ) → marked b ≡ true → write b ≡ 0x26 ∷ (name_of b ++ (0x3B ∷ []))
-  pub ampersand : marked 0x26 ≡ true
-  pub names : (b : ℕ) → marked b ≡ true → AllAre (λ n. not (n == 0x3B)) (name_of b)
+  pub reference : (b : ℕ) → marked b ≡ true → write b ≡ ampersand ∷ (name_of b ++ (semicolon ∷ []))
+  pub marks_ampersand : marked ampersand ≡ true
+  pub names : (b : ℕ) → marked b ≡ true → AllAre (λ n. not (n == semicolon)) (name_of b)
   pub refers : (b : ℕ) → marked b ≡ true → reference_value (name_of b) ≡ Some b
   pub ascii : (b : ℕ) → marked b ≡ true → b < 128
   pub ascii_written : (b : ℕ) → marked b ≡ true → encode_utf8_all (write b) ≡ write b
   pub characters_written : (b : ℕ) → marked b ≡ true → AllAre is_character (write b)
 
 -- a plain byte goes into the run that follows it, or begins one
-abbrev with_plain : ℕ → List Part → List Part
+abbrev with_plain : ℕ → List ValuePart → List ValuePart
 with_plain b [] = Plain (b ∷ []) ∷ []
 with_plain b (Plain run ∷ parts) = Plain (b ∷ run) ∷ parts
 with_plain b (Reference c ∷ parts) = Plain (b ∷ []) ∷ (Reference c ∷ parts)
 
-module _ (marked : ℕ → Bool) (name_of : ℕ → List ℕ) (write : ℕ → List ℕ) (w : Writes marked name_of write) where
-  abbrev parts_of : List ℕ → List Part
+module _ (marked : ℕ → Bool) (name_of : ℕ → List ℕ) (write : ℕ → List ℕ) (w : WritesMarked marked name_of write) where
+  abbrev parts_of : List ℕ → List ValuePart
   parts_of [] = []
   parts_of (b ∷ bs) = cond (marked b) (Reference b ∷ parts_of bs) (with_plain b (parts_of bs))
 
@@ -43,18 +50,18 @@ module _ (marked : ℕ → Bool) (name_of : ℕ → List ℕ) (write : ℕ → L
   abbrev takes_reference : (b : ℕ) (rest : List ℕ) → marked b ≡ true → TakesPart (write b ++ rest) (Reference b) rest
   takes_reference b rest m = (
     name_of b,
-    ap (λ l. l ++ rest) (w.reference b m) ∙ ap (λ l. 0x26 ∷ l)
-        (append_assoc (name_of b) (0x3B ∷ []) rest),
+    ap (λ l. l ++ rest) (w.reference b m) ∙ ap (λ l. ampersand ∷ l)
+        (append_assoc (name_of b) (semicolon ∷ []) rest),
     w.names b m,
     w.refers b m,
   )
 
-  no_ampersand : (b : ℕ) → marked b ≡ false → not (b == 0x26) ≡ true
+  no_ampersand : (b : ℕ) → marked b ≡ false → not (b == ampersand) ≡ true
   no_ampersand b m =
-      ap not (is_other b 0x26 (λ e. let wrong : true ≡ false = sym w.ampersand ∙ subst (λ (n : ℕ). marked n ≡ false) e m in cc))
+      ap not (is_other b ampersand (λ e. let wrong : true ≡ false = sym w.marks_ampersand ∙ subst (λ (n : ℕ). marked n ≡ false) e m in cc))
 
   -- a plain byte before parts
-  takes_plain : (b : ℕ) (bytes : List ℕ) (parts : List Part) → marked b ≡ false → To TakesPart bytes parts []
+  takes_plain : (b : ℕ) (bytes : List ℕ) (parts : List ValuePart) → marked b ≡ false → To TakesPart bytes parts []
       → To TakesPart (b ∷ bytes) (with_plain b parts) []
   takes_plain b bytes [] m l = ([], (ap (λ x. b ∷ x) l, λ e. cc, (no_ampersand b m, tt), tt), refl)
   takes_plain b bytes (Plain run ∷ parts) m l =
@@ -70,11 +77,11 @@ module _ (marked : ℕ → Bool) (name_of : ℕ → List ℕ) (write : ℕ → L
   ]
 
   -- what the parts add
-  module _ (adds : Part → List ℕ) (whole : (run : List ℕ) → List ℕ) (runs : (run : List ℕ) → adds (Plain run) ≡ whole run)
+  module _ (adds : ValuePart → List ℕ) (whole : (run : List ℕ) → List ℕ) (runs : (run : List ℕ) → adds (Plain run) ≡ whole run)
       (none : whole [] ≡ [])
       (next : (b : ℕ) (run : List ℕ) → marked b ≡ false → whole (b ∷ run) ≡ b ∷ whole run)
       (references : (c : ℕ) → adds (Reference c) ≡ encode_utf8 c) where
-    adds_plain : (b : ℕ) (parts : List Part) → marked b ≡ false → flat_map adds (with_plain b parts) ≡ b ∷ flat_map adds parts
+    adds_plain : (b : ℕ) (parts : List ValuePart) → marked b ≡ false → flat_map adds (with_plain b parts) ≡ b ∷ flat_map adds parts
     adds_plain b [] m = ap (λ x. x ++ []) (runs (b ∷ []) ∙ next b [] m ∙ ap (λ x. b ∷ x) none)
     adds_plain b (Plain run ∷ parts) m =
         ap (λ x. x ++ flat_map adds parts) (runs (b ∷ run) ∙ next b run m ∙ ap (λ x. b ∷ x) (sym (runs run)))
@@ -89,7 +96,7 @@ module _ (marked : ℕ → Bool) (name_of : ℕ → List ℕ) (write : ℕ → L
       | inr m ↦ rw m (ap (λ x. b ∷ x) (adds_all bs) ∙ sym (adds_plain b (parts_of bs) m))
     ]
 
-    pub expands : (bs : List ℕ) → Expands adds (flat_map write bs) bs
+    pub expands : (bs : List ℕ) → SpellsOut adds (flat_map write bs) bs
     expands bs = record { parts = parts_of bs; taken = takes_parts bs; text_is = adds_all bs }
 
   -- the characters of what is written
@@ -165,7 +172,7 @@ module _ (marked : ℕ → Bool) (name_of : ℕ → List ℕ) (write : ℕ → L
   pub some_written : (bs : List ℕ) → bs ≢ [] → flat_map write bs ≢ []
   some_written [] some e = some refl
   some_written (b ∷ bs) some e = elim (cases_Bool (marked b)) [
-    | inl m ↦ let wrong : 0x26 ∷ ((name_of b ++ (0x3B ∷ [])) ++ flat_map write bs) ≡ [] = ap (λ l. l ++ flat_map write bs)
+    | inl m ↦ let wrong : ampersand ∷ ((name_of b ++ (semicolon ∷ [])) ++ flat_map write bs) ≡ [] = ap (λ l. l ++ flat_map write bs)
         (sym (w.reference b m)) ∙ e in cc
     | inr m ↦ let wrong : b ∷ flat_map write bs ≡ [] = ap (λ l. l ++ flat_map write bs) (sym (w.plain b m)) ∙ e in cc
   ]
@@ -173,96 +180,108 @@ module _ (marked : ℕ → Bool) (name_of : ℕ → List ℕ) (write : ℕ → L
 -- text
 
 abbrev text_marked : ℕ → Bool
-text_marked b = b == 38 || (b == 60 || (b == 62 || b == 13))
+text_marked b = b == ampersand || (b == less_than || (b == greater_than || b == carriage_return))
 
 abbrev text_name : ℕ → List ℕ
-text_name b = cond (b == 38) (codes "amp") (cond (b == 60) (codes "lt") (cond (b == 62) (codes "gt") (codes "#13")))
+text_name b = cond (b == ampersand) (codes "amp") (cond (b == less_than) (codes "lt") (cond (b == greater_than) (codes "gt") (codes "#13")))
 
 abbrev value_marked : ℕ → Bool
-value_marked b = b == 38 || (b == 60 || (b == 34 || (b == 9 || (b == 10 || b == 13))))
+value_marked b = b == ampersand || (b == less_than || (b == double_quote || (b == tab || (b == line_feed || b == carriage_return))))
 
 abbrev value_name : ℕ → List ℕ
-value_name b = cond (b == 38) (codes "amp") (cond (b == 60) (codes "lt")
-    (cond (b == 34) (codes "quot") (cond (b == 9) (codes "#9") (cond (b == 10) (codes "#10") (codes "#13")))))
+value_name b = cond (b == ampersand) (codes "amp") (cond (b == less_than) (codes "lt")
+    (cond (b == double_quote) (codes "quot") (cond (b == tab) (codes "#9") (cond (b == line_feed) (codes "#10") (codes "#13")))))
 
 -- what holds of each marked byte
-text_cases : (P : ℕ → Type 0) → P 38 → P 60 → P 62 → P 13 → (b : ℕ) → text_marked b ≡ true → P b
-text_cases P amp lt gt cr b m = elim (or_cases (b == 38) (b == 60 || (b == 62 || b == 13)) m) [
-  | inl e ↦ subst P (sym (is_number b 38 e)) amp
-  | inr m ↦ elim (or_cases (b == 60) (b == 62 || b == 13) m) [
-    | inl e ↦ subst P (sym (is_number b 60 e)) lt
-    | inr m ↦ elim (or_cases (b == 62) (b == 13) m) [
-      | inl e ↦ subst P (sym (is_number b 62 e)) gt
-      | inr e ↦ subst P (sym (is_number b 13 e)) cr
+text_cases : (P : ℕ → Type 0) → P ampersand → P less_than → P greater_than → P carriage_return → (b : ℕ) → text_marked b ≡ true → P b
+text_cases P amp lt gt cr b m = elim (or_cases (b == ampersand) _ m) [
+  | inl e ↦ subst P (sym (equal_numbers b ampersand e)) amp
+  | inr m ↦ elim (or_cases (b == less_than) _ m) [
+    | inl e ↦ subst P (sym (equal_numbers b less_than e)) lt
+    | inr m ↦ elim (or_cases (b == greater_than) (b == carriage_return) m) [
+      | inl e ↦ subst P (sym (equal_numbers b greater_than e)) gt
+      | inr e ↦ subst P (sym (equal_numbers b carriage_return e)) cr
     ]
   ]
 ]
 
-value_cases : (P : ℕ → Type 0) → P 38 → P 60 → P 34 → P 9 → P 10 → P 13 → (b : ℕ) → value_marked b ≡ true → P b
-value_cases P amp lt quot tab lf cr b m = elim (or_cases (b == 38) (b == 60 || (b == 34 || (b == 9 || (b == 10 || b == 13)))) m) [
-  | inl e ↦ subst P (sym (is_number b 38 e)) amp
-  | inr m ↦ elim (or_cases (b == 60) (b == 34 || (b == 9 || (b == 10 || b == 13))) m) [
-    | inl e ↦ subst P (sym (is_number b 60 e)) lt
-    | inr m ↦ elim (or_cases (b == 34) (b == 9 || (b == 10 || b == 13)) m) [
-      | inl e ↦ subst P (sym (is_number b 34 e)) quot
-      | inr m ↦ elim (or_cases (b == 9) (b == 10 || b == 13) m) [
-        | inl e ↦ subst P (sym (is_number b 9 e)) tab
-        | inr m ↦ elim (or_cases (b == 10) (b == 13) m) [
-          | inl e ↦ subst P (sym (is_number b 10 e)) lf
-          | inr e ↦ subst P (sym (is_number b 13 e)) cr
+value_cases : (P : ℕ → Type 0) → P ampersand → P less_than → P double_quote → P tab → P line_feed → P carriage_return
+    → (b : ℕ) → value_marked b ≡ true → P b
+value_cases P amp lt quot ht lf cr b m = elim (or_cases (b == ampersand) _ m) [
+  | inl e ↦ subst P (sym (equal_numbers b ampersand e)) amp
+  | inr m ↦ elim (or_cases (b == less_than) _ m) [
+    | inl e ↦ subst P (sym (equal_numbers b less_than e)) lt
+    | inr m ↦ elim (or_cases (b == double_quote) _ m) [
+      | inl e ↦ subst P (sym (equal_numbers b double_quote e)) quot
+      | inr m ↦ elim (or_cases (b == tab) _ m) [
+        | inl e ↦ subst P (sym (equal_numbers b tab e)) ht
+        | inr m ↦ elim (or_cases (b == line_feed) (b == carriage_return) m) [
+          | inl e ↦ subst P (sym (equal_numbers b line_feed e)) lf
+          | inr e ↦ subst P (sym (equal_numbers b carriage_return e)) cr
         ]
       ]
     ]
   ]
 ]
 
+-- what is not marked is none of the bytes that are
+text_unmarked : (b : ℕ) → text_marked b ≡ false
+    → ((b == ampersand) ≡ false) × ((b == less_than) ≡ false) × ((b == greater_than) ≡ false) × ((b == carriage_return) ≡ false)
+text_unmarked b m =
+    let p = or_parts (b == ampersand) _ m in
+    let q = or_parts (b == less_than) _ p.1 in
+    let r = or_parts (b == greater_than) _ q.1 in
+    (p.0, q.0, r.0, r.1)
+
+value_unmarked : (b : ℕ) → value_marked b ≡ false
+    → ((b == ampersand) ≡ false) × ((b == less_than) ≡ false) × ((b == double_quote) ≡ false) × ((b == tab) ≡ false)
+    × ((b == line_feed) ≡ false) × ((b == carriage_return) ≡ false)
+value_unmarked b m =
+    let p = or_parts (b == ampersand) _ m in
+    let q = or_parts (b == less_than) _ p.1 in
+    let r = or_parts (b == double_quote) _ q.1 in
+    let s = or_parts (b == tab) _ r.1 in
+    let t = or_parts (b == line_feed) _ s.1 in
+    (p.0, q.0, r.0, s.0, t.0, t.1)
+
 text_plain : (b : ℕ) → text_marked b ≡ false → text_byte b ≡ b ∷ []
-text_plain b m =
-    let p = or_parts (b == 38) (b == 60 || (b == 62 || b == 13)) m in
-    let q = or_parts (b == 60) (b == 62 || b == 13) p.1 in
-    let r = or_parts (b == 62) (b == 13) q.1 in
-    rw (p.0, q.0, r.0, r.1) refl
+text_plain b m = let u = text_unmarked b m in rw (u.0, u.1, u.2, u.3) refl
 
 value_plain : (b : ℕ) → value_marked b ≡ false → value_byte b ≡ b ∷ []
-value_plain b m =
-    let p = or_parts (b == 38) (b == 60 || (b == 34 || (b == 9 || (b == 10 || b == 13)))) m in
-    let q = or_parts (b == 60) (b == 34 || (b == 9 || (b == 10 || b == 13))) p.1 in
-    let r = or_parts (b == 34) (b == 9 || (b == 10 || b == 13)) q.1 in
-    let s = or_parts (b == 9) (b == 10 || b == 13) r.1 in
-    let t = or_parts (b == 10) (b == 13) s.1 in
-    rw (p.0, q.0, r.0, s.0, t.0, t.1) refl
+value_plain b m = let u = value_unmarked b m in rw (u.0, u.1, u.2, u.3, u.4, u.5) refl
 
-text_written : (p : ℕ → Bool) → list_all p (text_byte 38) ≡ true → list_all p (text_byte 60) ≡ true → list_all p (text_byte 62) ≡ true
-    → list_all p (text_byte 13) ≡ true
+text_written : (p : ℕ → Bool) → list_all p (text_byte ampersand) ≡ true → list_all p (text_byte less_than) ≡ true
+    → list_all p (text_byte greater_than) ≡ true → list_all p (text_byte carriage_return) ≡ true
     → (b : ℕ) → text_marked b ≡ true → AllAre p (text_byte b)
 text_written p amp lt gt cr b m = all_of_test p (text_byte b) (text_cases (λ b. list_all p (text_byte b) ≡ true) amp lt gt cr b m)
 
-value_written : (p : ℕ → Bool) → list_all p (value_byte 38) ≡ true → list_all p (value_byte 60) ≡ true → list_all p (value_byte 34) ≡ true
-    → list_all p (value_byte 9) ≡ true
-    → list_all p (value_byte 10) ≡ true → list_all p (value_byte 13) ≡ true → (b : ℕ) → value_marked b ≡ true → AllAre p (value_byte b)
-value_written p amp lt quot tab lf cr b m =
-    all_of_test p (value_byte b) (value_cases (λ b. list_all p (value_byte b) ≡ true) amp lt quot tab lf cr b m)
+value_written : (p : ℕ → Bool) → list_all p (value_byte ampersand) ≡ true → list_all p (value_byte less_than) ≡ true
+    → list_all p (value_byte double_quote) ≡ true → list_all p (value_byte tab) ≡ true
+    → list_all p (value_byte line_feed) ≡ true → list_all p (value_byte carriage_return) ≡ true
+    → (b : ℕ) → value_marked b ≡ true → AllAre p (value_byte b)
+value_written p amp lt quot ht lf cr b m =
+    all_of_test p (value_byte b) (value_cases (λ b. list_all p (value_byte b) ≡ true) amp lt quot ht lf cr b m)
 
-text_writes : Writes text_marked text_name text_byte
+text_writes : WritesMarked text_marked text_name text_byte
 text_writes = record {
   plain = text_plain;
-  reference = text_cases (λ b. text_byte b ≡ 0x26 ∷ (text_name b ++ (0x3B ∷ []))) refl refl refl refl;
-  ampersand = refl;
-  names = text_cases (λ b. AllAre (λ n. not (n == 0x3B)) (text_name b)) (refl, (refl, (refl, tt))) (refl, (refl, tt)) (refl, (refl, tt))
-      (refl, (refl, (refl, tt)));
+  reference = text_cases (λ b. text_byte b ≡ ampersand ∷ (text_name b ++ (semicolon ∷ []))) refl refl refl refl;
+  marks_ampersand = refl;
+  names = text_cases (λ b. AllAre (λ n. not (n == semicolon)) (text_name b)) (refl, (refl, (refl, tt))) (refl, (refl, tt))
+      (refl, (refl, tt)) (refl, (refl, (refl, tt)));
   refers = text_cases (λ b. reference_value (text_name b) ≡ Some b) refl refl refl refl;
   ascii = text_cases (λ b. b < 128) (omega arith) (omega arith) (omega arith) (omega arith);
   ascii_written = λ b m. ascii_encoded (text_byte b) (text_written is_ascii refl refl refl refl b m);
   characters_written = λ b m. text_written is_character refl refl refl refl b m;
 }
 
-value_writes : Writes value_marked value_name value_byte
+value_writes : WritesMarked value_marked value_name value_byte
 value_writes = record {
   plain = value_plain;
-  reference = value_cases (λ b. value_byte b ≡ 0x26 ∷ (value_name b ++ (0x3B ∷ []))) refl refl refl refl refl refl;
-  ampersand = refl;
-  names = λ b m. all_of_test (λ n. not (n == 0x3B)) (value_name b)
-      (value_cases (λ b. list_all (λ n. not (n == 0x3B)) (value_name b) ≡ true) refl refl refl refl refl refl b m);
+  reference = value_cases (λ b. value_byte b ≡ ampersand ∷ (value_name b ++ (semicolon ∷ []))) refl refl refl refl refl refl;
+  marks_ampersand = refl;
+  names = λ b m. all_of_test (λ n. not (n == semicolon)) (value_name b)
+      (value_cases (λ b. list_all (λ n. not (n == semicolon)) (value_name b) ≡ true) refl refl refl refl refl refl b m);
   refers = value_cases (λ b. reference_value (value_name b) ≡ Some b) refl refl refl refl refl refl;
   ascii = value_cases (λ b. b < 128) (omega arith) (omega arith) (omega arith) (omega arith) (omega arith) (omega arith);
   ascii_written = λ b m. ascii_encoded (value_byte b) (value_written is_ascii refl refl refl refl refl refl b m);
@@ -273,24 +292,14 @@ pub text_means : (text : List ℕ) → IsText (text_bytes text) text
 text_means text = expands text_marked text_name text_byte text_writes text_part line_ends (λ run. refl) refl next (λ c. refl) text
   where
     next : (b : ℕ) (run : List ℕ) → text_marked b ≡ false → line_ends (b ∷ run) ≡ b ∷ line_ends run
-    next b run m =
-        let p = or_parts (b == 38) (b == 60 || (b == 62 || b == 13)) m in
-        let q = or_parts (b == 60) (b == 62 || b == 13) p.1 in
-        let r = or_parts (b == 62) (b == 13) q.1 in
-        rw r.1 refl
+    next b run m = let u = text_unmarked b m in rw u.3 refl
 
 pub value_means : (value : List ℕ) → IsValue (value_bytes value) value
 value_means value = expands value_marked value_name value_byte value_writes value_part (λ run. map as_space (line_ends run))
     (λ run. refl) refl next (λ c. refl) value
   where
     next : (b : ℕ) (run : List ℕ) → value_marked b ≡ false → map as_space (line_ends (b ∷ run)) ≡ b ∷ map as_space (line_ends run)
-    next b run m =
-        let p = or_parts (b == 38) (b == 60 || (b == 34 || (b == 9 || (b == 10 || b == 13)))) m in
-        let q = or_parts (b == 60) (b == 34 || (b == 9 || (b == 10 || b == 13))) p.1 in
-        let r = or_parts (b == 34) (b == 9 || (b == 10 || b == 13)) q.1 in
-        let s = or_parts (b == 9) (b == 10 || b == 13) r.1 in
-        let t = or_parts (b == 10) (b == 13) s.1 in
-        rw (t.1, s.0, t.0) refl
+    next b run m = let u = value_unmarked b m in rw (u.5, u.3, u.4) refl
 
 pub text_characters : (text : List ℕ) → IsCharacters text → IsCharacters (text_bytes text)
 text_characters = characters_of text_marked text_name text_byte text_writes
@@ -301,32 +310,37 @@ value_characters = characters_of value_marked value_name value_byte value_writes
 pub text_some : (text : List ℕ) → text ≢ [] → text_bytes text ≢ []
 text_some = some_written text_marked text_name text_byte text_writes
 
-pub text_no_tag : (text : List ℕ) → AllAre (λ b. not (b == 0x3C)) (text_bytes text)
-text_no_tag = never text_marked text_name text_byte text_writes 0x3C refl (text_written (λ n. not (n == 0x3C)) refl refl refl refl)
+pub text_no_tag : (text : List ℕ) → AllAre (λ b. not (b == less_than)) (text_bytes text)
+text_no_tag =
+    never text_marked text_name text_byte text_writes less_than refl (text_written (λ n. not (n == less_than)) refl refl refl refl)
 
-pub value_no_tag : (value : List ℕ) → AllAre (λ b. not (b == 0x3C)) (value_bytes value)
+pub value_no_tag : (value : List ℕ) → AllAre (λ b. not (b == less_than)) (value_bytes value)
 value_no_tag =
-    never value_marked value_name value_byte value_writes 0x3C refl (value_written (λ n. not (n == 0x3C)) refl refl refl refl refl refl)
+    never value_marked value_name value_byte value_writes less_than refl
+    (value_written (λ n. not (n == less_than)) refl refl refl refl refl refl)
 
-pub value_no_quote : (value : List ℕ) → AllAre (λ b. not (b == 0x22)) (value_bytes value)
+pub value_no_quote : (value : List ℕ) → AllAre (λ b. not (b == double_quote)) (value_bytes value)
 value_no_quote =
-    never value_marked value_name value_byte value_writes 0x22 refl (value_written (λ n. not (n == 0x22)) refl refl refl refl refl refl)
+    never value_marked value_name value_byte value_writes double_quote refl
+    (value_written (λ n. not (n == double_quote)) refl refl refl refl refl refl)
 
-text_no_end : (text : List ℕ) → AllAre (λ b. not (b == 0x3E)) (text_bytes text)
-text_no_end = never text_marked text_name text_byte text_writes 0x3E refl (text_written (λ n. not (n == 0x3E)) refl refl refl refl)
+text_no_end : (text : List ℕ) → AllAre (λ b. not (b == greater_than)) (text_bytes text)
+text_no_end =
+    never text_marked text_name text_byte text_writes greater_than refl (text_written (λ n. not (n == greater_than)) refl refl refl refl)
 
 -- `]]>` begins with no byte but `]`, and ends with `>`
-no_section_end : (b : ℕ) (bs : List ℕ) → AllAre (λ b. not (b == 0x3E)) (b ∷ bs) → starts_with ◌==◌ (b ∷ bs) (codes "]]>") ≡ false
-no_section_end b [] f = and_right (0x5D == b) false refl
-no_section_end b (c ∷ []) f = and_right (0x5D == b) (0x5D == c && false) (and_right (0x5D == c) false refl)
+no_section_end : (b : ℕ) (bs : List ℕ) → AllAre (λ b. not (b == greater_than)) (b ∷ bs) → starts_with ◌==◌ (b ∷ bs) (codes "]]>") ≡ false
+no_section_end b [] f = and_right (byte "]" == b) false refl
+no_section_end b (c ∷ []) f = and_right (byte "]" == b) (byte "]" == c && false) (and_right (byte "]" == c) false refl)
 no_section_end b (c ∷ (d ∷ ds)) f =
-    let third : (0x3E == d) ≡ false = other_way d (not-true (d == 0x3E) f.1.1.0) in
-    and_right (0x5D == b) (0x5D == c && (0x3E == d && true)) (and_right (0x5D == c) (0x3E == d && true) (ap (λ t. t && true) third))
+    let third : (greater_than == d) ≡ false = other_way d (not-true (d == greater_than) f.1.1.0) in
+    and_right (byte "]" == b) (byte "]" == c && (greater_than == d && true))
+    (and_right (byte "]" == c) (greater_than == d && true) (ap (λ t. t && true) third))
   where
-    other_way : (d : ℕ) → (d == 0x3E) ≡ false → (0x3E == d) ≡ false
+    other_way : (d : ℕ) → (d == greater_than) ≡ false → (greater_than == d) ≡ false
     other_way d h = grind (arith, nat_tests)
 
-lacks_end : (own : List ℕ) → AllAre (λ b. not (b == 0x3E)) own → Lacks (codes "]]>") own
+lacks_end : (own : List ℕ) → AllAre (λ b. not (b == greater_than)) own → Lacks (codes "]]>") own
 lacks_end [] f = tt
 lacks_end (b ∷ bs) f = (no_section_end b bs f, lacks_end bs f.1)
 

@@ -1,4 +1,9 @@
 -- The declarations of a root bind a prefix to each namespace in it, and each prefix to one namespace.
+-- 1. A label, a letter and a numeral, is a name part in ASCII that is not `xml` or `xmlns`; labels of different numbers differ.
+-- 2. The rows of prefixes bind the label of a number to the namespace that has this number, and leave other prefixes as they were.
+-- 3. A namespace has a row exactly where it is declared and among all; the lack of one and that of `xml` are bound from outside.
+-- 4. So each namespace in the element is written by a prefix that is bound to it (`all_resolved`).
+-- 5. The declarations of one letter, or of two, fit, are bindings and have different prefixes (`rows_fit`, `both_differ`).
 use Rattle.std.proofs.Common.{◌≡◌, ◌≢◌, ℕ, ◌+◌, ◌<◌, ◌≤◌, Bool, true, false, not, ◌||◌, List, [], ◌∷◌, ◌++◌, map, refl, ap, sym, ◌∙◌, subst, arith, inl, inr, Option, Some, None}
 use Rattle.std.specs.Prelude.{◌==◌, nat_le, codes, filter}
 use Rattle.std.specs.List.{AllByRecursion}
@@ -6,7 +11,7 @@ use Rattle.ifmap_lemmas.specs.Numerals.{numeral, numeral_digits, one_number}
 use Rattle.std.specs.Int.{is_in_range}
 use Rattle.std.specs.Map.{lookup}
 use Rattle.std.specs.Option.{is_some}
-use Rattle.std.specs.Str.{bytes_eq}
+use Rattle.std.specs.Str.{bytes_eq, byte}
 use Rattle.std.specs.Str.Parse.{AllDigits}
 use Rattle.std.proofs.lemmas.Bool.{cases_Bool, false_from_ne_true, or_right}
 use Rattle.std.proofs.lemmas.Bool.Decides.{nat_tests}
@@ -19,13 +24,10 @@ use Rattle.ifmap_elem.specs.Fit.{IsNamespace, IsDeclarable}
 use Rattle.ifmap_elem.specs.Canonical.{after_prefix}
 use Rattle.ifmap_elem.specs.Namespaces.{once_each, is_declared, declared_among, numbered_prefixes, name_prefixes}
 use Rattle.ifmap_elem.specs.laws.NameBytes.{part_is_some}
-use Rattle.ifmap_elem.specs.laws.NamespaceLaws.{among, among-others, is_some-prefix_rows}
+use Rattle.ifmap_elem.specs.laws.NamespaceLaws.{among, among-others, is_some-prefix_rows, Rows, Texts}
 use Rattle.ifmap_lemmas.specs.Texts.{eq_tells, eq_itself, is_ascii}
 use Rattle.ifmap_lemmas.specs.Members.{all_of_test}
-use Rattle.ifmap_elem.specs.laws.PrintedTags.{Rows, differ, prefix_or, row_binding, Resolves, FitRow, ascii_part}
-
-abbrev Texts : Type 0
-Texts = List (List ℕ)
+use Rattle.ifmap_elem.specs.laws.PrintedTags.{other_bytes_differ, prefix_or, row_binding, Resolves, FitRow, ascii_part}
 
 -- numbered prefixes
 
@@ -36,12 +38,12 @@ label letter n = letter ∷ numeral n
 pub record IsLetter (letter : ℕ) : Type 0 where
   pub start : is_name_start letter ≡ true
   pub low : is_ascii letter ≡ true
-  pub no_x : letter ≢ 0x78
+  pub no_x : letter ≢ byte "x"
 
-pub n_letter : IsLetter 0x6E
+pub n_letter : IsLetter (byte "n")
 n_letter = record { start = refl; low = refl; no_x = λ e. absurd (omega arith) }
 
-pub f_letter : IsLetter 0x66
+pub f_letter : IsLetter (byte "f")
 f_letter = record { start = refl; low = refl; no_x = λ e. absurd (omega arith) }
 
 pub among_tests : (a b c d e f : Bool) → (a || b || c || true || d || e || f) ≡ true
@@ -50,18 +52,19 @@ among_tests false true c d e f = refl
 among_tests false false true d e f = refl
 among_tests false false false d e f = refl
 
-pub digit_character : (c : ℕ) → 48 ≤ c → c ≤ 57 → is_name_character c ≡ true
+pub digit_character : (c : ℕ) → byte "0" ≤ c → c ≤ byte "9" → is_name_character c ≡ true
 digit_character c low high =
-    let test : nat_le 48 c ≡ true = grind (arith, nat_tests) in
-    let also : nat_le c 57 ≡ true = grind (arith, nat_tests) in
-    let both : is_in_range 0x30 0x39 c ≡ true = rw (test, also) refl in
-    rw both (among_tests (is_name_start c) (c == 0x2D) (c == 0x2E) (c == 0xB7) (is_in_range 0x300 0x36F c) (is_in_range 0x203F 0x2040 c))
+    let test : nat_le (byte "0") c ≡ true = grind (arith, nat_tests) in
+    let also : nat_le c (byte "9") ≡ true = grind (arith, nat_tests) in
+    let both : is_in_range (byte "0") (byte "9") c ≡ true = rw (test, also) refl in
+    rw both
+    (among_tests (is_name_start c) (c == byte "-") (c == byte ".") (c == 0xB7) (is_in_range 0x300 0x36F c) (is_in_range 0x203F 0x2040 c))
 
 pub digits_characters : (ds : List ℕ) → AllDigits 10 ds → AllAre is_name_character ds
 digits_characters [] f = tt
 digits_characters (d ∷ ds) f = let r = digit_from_value d f.0 in (digit_character d r.0 r.1, digits_characters ds f.1)
 
-pub digit_ascii : (c : ℕ) → c ≤ 57 → is_ascii c ≡ true
+pub digit_ascii : (c : ℕ) → c ≤ byte "9" → is_ascii c ≡ true
 digit_ascii c high = let test : nat_le 128 c ≡ false = grind (arith, nat_tests) in ap not test
 
 pub digits_ascii : (ds : List ℕ) → AllDigits 10 ds → AllAre is_ascii ds
@@ -73,18 +76,18 @@ label_some letter n e = cc
 
 -- what the rows bind
 
-abbrev pub rows_of : ℕ → ℕ → Texts → Rows
-rows_of letter n xs = numbered_prefixes (letter ∷ []) n xs
+abbrev pub numbered_prefix_rows : ℕ → ℕ → Texts → Rows
+numbered_prefix_rows letter n xs = numbered_prefixes (letter ∷ []) n xs
 
-abbrev pub scope_of : ℕ → ℕ → Texts → Scope → Scope
-scope_of letter n xs more = map row_binding (rows_of letter n xs) ++ more
+abbrev pub numbered_scope : ℕ → ℕ → Texts → Scope → Scope
+numbered_scope letter n xs more = map row_binding (numbered_prefix_rows letter n xs) ++ more
 
 -- a namespace, and the number of its prefix
 pub record HasNumber (letter n : ℕ) (xs : Texts) (more : Scope) (s p : List ℕ) : Type 0 where
   pub number : ℕ
   pub from : n ≤ number
   pub prefix_is : p ≡ label letter number
-  pub binds : bound (scope_of letter n xs more) p ≡ Some s
+  pub binds : bound (numbered_scope letter n xs more) p ≡ Some s
 
 module _ (letter : ℕ) (is : IsLetter letter) where
   label_part : (n : ℕ) → IsNamePart (label letter n)
@@ -92,13 +95,13 @@ module _ (letter : ℕ) (is : IsLetter letter) where
       let digits = numeral_digits n in
       ascii_part letter (numeral n) is.start (digits_characters (numeral n) digits) (is.low, digits_ascii (numeral n) digits)
 
-  label_no_x : (n : ℕ) (bs : List ℕ) → label letter n ≢ 0x78 ∷ bs
-  label_no_x n bs e = let h : letter ≡ 0x78 = cc in is.no_x h
+  label_no_x : (n : ℕ) (bs : List ℕ) → label letter n ≢ byte "x" ∷ bs
+  label_no_x n bs e = let h : letter ≡ byte "x" = cc in is.no_x h
 
   labels_differ : (m n : ℕ) → m ≢ n → label letter m ≢ label letter n
   labels_differ m n other e = let d : numeral m ≡ numeral n = cc in other (one_number m n d)
 
-  rows_bind : (n : ℕ) (xs : Texts) (more : Scope) (s p : List ℕ) → lookup (bytes_eq s) (rows_of letter n xs) ≡ Some p
+  rows_bind : (n : ℕ) (xs : Texts) (more : Scope) (s p : List ℕ) → lookup (bytes_eq s) (numbered_prefix_rows letter n xs) ≡ Some p
       → HasNumber letter n xs more s p
   rows_bind n [] more s p found = let wrong : None ≡ Some p = found in cc
   rows_bind n (x ∷ xs) more s p found = elim (cases_Bool (bytes_eq s x)) [
@@ -108,17 +111,17 @@ module _ (letter : ℕ) (is : IsLetter letter) where
         let t : bytes_eq (label letter n) p ≡ true = (bytes_eq-Decides (label letter n) p).1 q in
         record { number = n; from = omega arith; prefix_is = sym q; binds = rw t (ap (λ z. Some z) (sym (eq_tells s x e))) }
     | inr e ↦
-        let h : lookup (bytes_eq s) (rows_of letter (n + 1) xs) ≡ Some p = rw e at found in
+        let h : lookup (bytes_eq s) (numbered_prefix_rows letter (n + 1) xs) ≡ Some p = rw e at found in
         let r : HasNumber letter (n + 1) xs more s p = rows_bind (n + 1) xs more s p h in
         let t : bytes_eq (label letter n) p ≡ false =
-        differ (label letter n) p (λ q. labels_differ n r.number (λ same. absurd (omega arith)) (q ∙ r.prefix_is)) in
+        other_bytes_differ (label letter n) p (λ q. labels_differ n r.number (λ same. absurd (omega arith)) (q ∙ r.prefix_is)) in
         record { number = r.number; from = omega arith; prefix_is = r.prefix_is; binds = rw t r.binds }
   ]
 
 pub past_rows : (letter n : ℕ) (xs : Texts) (more : Scope) (p : List ℕ) → ((k : ℕ) → label letter k ≢ p)
-    → bound (scope_of letter n xs more) p ≡ bound more p
+    → bound (numbered_scope letter n xs more) p ≡ bound more p
 past_rows letter n [] more p other = refl
-past_rows letter n (x ∷ xs) more p other = rw (differ (label letter n) p (other n)) (past_rows letter (n + 1) xs more p other)
+past_rows letter n (x ∷ xs) more p other = rw (other_bytes_differ (label letter n) p (other n)) (past_rows letter (n + 1) xs more p other)
 
 resolves_none : (prefixes : Rows) (scope : Scope) (s : List ℕ) → lookup (bytes_eq s) prefixes ≡ None → s ≡ [] → bound scope [] ≡ Some []
     → Resolves prefixes scope s
@@ -183,7 +186,8 @@ has_none None h = refl
 has_none (Some p) h = let wrong : true ≡ false = h in cc
 
 xml_part : IsNamePart (codes "xml")
-xml_part = ascii_part 0x78 (codes "ml") refl (all_of_test is_name_character (codes "ml") refl) (all_of_test is_ascii (codes "xml") refl)
+xml_part =
+    ascii_part (byte "x") (codes "ml") refl (all_of_test is_name_character (codes "ml") refl) (all_of_test is_ascii (codes "xml") refl)
 
 -- the default and `xml` are bound as they are outside of a document
 pub record IsOutermost (scope : Scope) : Type 0 where
@@ -194,7 +198,7 @@ pub root_outermost : IsOutermost root_scope
 root_outermost = record { default = refl; xml = refl }
 
 pub rows_outermost : (letter n : ℕ) (xs : Texts) (more : Scope) → IsLetter letter → IsOutermost more
-    → IsOutermost (scope_of letter n xs more)
+    → IsOutermost (numbered_scope letter n xs more)
 rows_outermost letter n xs more is outer = record {
   default = past_rows letter n xs more [] (label_some letter) ∙ outer.default;
   xml = past_rows letter n xs more (codes "xml") (λ k. label_no_x letter is k (codes "ml")) ∙ outer.xml;
@@ -205,16 +209,16 @@ module _ (all : Texts) (more : Scope) (outer : IsOutermost more) where
   its_prefixes = name_prefixes (declared_among all)
 
   abbrev its_scope : Scope
-  its_scope = scope_of 0x6E 1 (declared_among all) more
+  its_scope = numbered_scope (byte "n") 1 (declared_among all) more
 
   outermost : IsOutermost its_scope
-  outermost = rows_outermost 0x6E 1 (declared_among all) more n_letter outer
+  outermost = rows_outermost (byte "n") 1 (declared_among all) more n_letter outer
 
   no_namespace : (s : List ℕ) → s ≡ [] → Resolves its_prefixes its_scope s
   no_namespace s is =
       let out : is_declared s ≡ false = ap is_declared is in
       let none : among s (declared_among all) ≡ false = among_once s (filter is_declared all) ∙ among_dropped is_declared s all out in
-      let rows : lookup (bytes_eq s) (rows_of 0x6E 1 (declared_among all)) ≡ None = has_none _
+      let rows : lookup (bytes_eq s) (numbered_prefix_rows (byte "n") 1 (declared_among all)) ≡ None = has_none _
       (is_some-prefix_rows (codes "n") 1 s (declared_among all) ∙ none) in
       let xml : bytes_eq s xml_space ≡ false = ap (λ z. bytes_eq z xml_space) is in
       resolves_none its_prefixes its_scope s (rw xml rows) is outermost.default
@@ -227,11 +231,13 @@ module _ (all : Texts) (more : Scope) (outer : IsOutermost more) where
   numbered : (s : List ℕ) → is_declared s ≡ true → bytes_eq s xml_space ≡ false → among s all ≡ true → Resolves its_prefixes its_scope s
   numbered s out other here =
       let found : among s (declared_among all) ≡ true = among_once s (filter is_declared all) ∙ among_kept is_declared s all out ∙ here in
-      let row = has_value (lookup (bytes_eq s) (rows_of 0x6E 1 (declared_among all)))
+      let row = has_value (lookup (bytes_eq s) (numbered_prefix_rows (byte "n") 1 (declared_among all)))
       (is_some-prefix_rows (codes "n") 1 s (declared_among all) ∙ found) in
-      let r : HasNumber 0x6E 1 (declared_among all) more s row.0 = rows_bind 0x6E n_letter 1 (declared_among all) more s row.0 row.1 in
-      resolves_some its_prefixes its_scope s row.0 (rw other row.1) (subst IsNamePart (sym r.prefix_is) (label_part 0x6E n_letter r.number))
-      (λ e. label_no_x 0x6E n_letter r.number (codes "mlns") (sym r.prefix_is ∙ e)) r.binds
+      let r : HasNumber (byte "n") 1 (declared_among all) more s row.0 =
+      rows_bind (byte "n") n_letter 1 (declared_among all) more s row.0 row.1 in
+      resolves_some its_prefixes its_scope s row.0 (rw other row.1)
+      (subst IsNamePart (sym r.prefix_is) (label_part (byte "n") n_letter r.number))
+      (λ e. label_no_x (byte "n") n_letter r.number (codes "mlns") (sym r.prefix_is ∙ e)) r.binds
 
   resolved : (s : List ℕ) → among s all ≡ true → Resolves its_prefixes its_scope s
   resolved s here = elim (cases_Bool (bytes_eq s [])) [
@@ -282,12 +288,12 @@ is_some_space : (s : List ℕ) → is_declared s ≡ true → s ≢ []
 is_some_space s out e = let wrong : false ≡ true = sym (ap is_declared e) ∙ out in cc
 
 module _ (letter : ℕ) (is : IsLetter letter) where
-  pub rows_fit : (n : ℕ) (xs : Texts) → AllByRecursion IsDeclarable xs → AllByRecursion FitRow (rows_of letter n xs)
+  pub rows_fit : (n : ℕ) (xs : Texts) → AllByRecursion IsDeclarable xs → AllByRecursion FitRow (numbered_prefix_rows letter n xs)
   rows_fit n [] f = tt
   rows_fit n (x ∷ xs) f = (record { prefix = label_part letter is n; space = f.0.fit.characters }, rows_fit (n + 1) xs f.1)
 
   pub rows_are_bindings : (n : ℕ) (xs : Texts) → AllByRecursion IsDeclarable xs
-      → AllByRecursion IsBinding (map row_binding (rows_of letter n xs))
+      → AllByRecursion IsBinding (map row_binding (numbered_prefix_rows letter n xs))
   rows_are_bindings n [] f = tt
   rows_are_bindings n (x ∷ xs) f = (
     record {
@@ -300,19 +306,19 @@ module _ (letter : ℕ) (is : IsLetter letter) where
   )
 
   later_differ : (m n : ℕ) (xs : Texts) → m < n → AllByRecursion (λ y. label letter m ≢ y)
-      (map (λ b. b.prefix) (map row_binding (rows_of letter n xs)))
+      (map (λ b. b.prefix) (map row_binding (numbered_prefix_rows letter n xs)))
   later_differ m n [] low = tt
   later_differ m n (x ∷ xs) low =
       (labels_differ letter is m n (λ e. absurd (omega arith)), later_differ m (n + 1) xs (omega arith))
 
-  pub prefixes_differ : (n : ℕ) (xs : Texts) → AllDiffer (map (λ b. b.prefix) (map row_binding (rows_of letter n xs)))
+  pub prefixes_differ : (n : ℕ) (xs : Texts) → AllDiffer (map (λ b. b.prefix) (map row_binding (numbered_prefix_rows letter n xs)))
   prefixes_differ n [] = tt
   prefixes_differ n (x ∷ xs) = (later_differ n (n + 1) xs (omega arith), prefixes_differ (n + 1) xs)
 
 -- prefixes of different letters differ
 
 others_differ : (letter other m n : ℕ) (ys : Texts) → letter ≢ other
-    → AllByRecursion (λ y. label letter m ≢ y) (map (λ b. b.prefix) (map row_binding (rows_of other n ys)))
+    → AllByRecursion (λ y. label letter m ≢ y) (map (λ b. b.prefix) (map row_binding (numbered_prefix_rows other n ys)))
 others_differ letter other m n [] apart = tt
 others_differ letter other m n (y ∷ ys) apart = (λ e. let h : letter ≡ other = cc in apart h, others_differ letter other m (n + 1) ys apart)
 
@@ -323,11 +329,12 @@ all_in_both P [] more f g = g
 all_in_both P (row ∷ rows) more f g = (f.0, all_in_both P rows more f.1 g)
 
 pub both_differ : (letter other n m : ℕ) (xs ys : Texts) → letter ≢ other
-    → AllDiffer (map (λ b. b.prefix) (map row_binding (rows_of letter n xs)))
-    → AllDiffer (map (λ b. b.prefix) (map row_binding (rows_of other m ys)))
-    → AllDiffer (map (λ b. b.prefix) (map row_binding (rows_of letter n xs ++ rows_of other m ys)))
+    → AllDiffer (map (λ b. b.prefix) (map row_binding (numbered_prefix_rows letter n xs)))
+    → AllDiffer (map (λ b. b.prefix) (map row_binding (numbered_prefix_rows other m ys)))
+    → AllDiffer (map (λ b. b.prefix) (map row_binding (numbered_prefix_rows letter n xs ++ numbered_prefix_rows other m ys)))
 both_differ letter other n m [] ys apart f g = g
 both_differ letter other n m (x ∷ xs) ys apart f g = (
-  all_in_both (λ y. label letter n ≢ y) (rows_of letter (n + 1) xs) (rows_of other m ys) f.0 (others_differ letter other n m ys apart),
+  all_in_both (λ y. label letter n ≢ y) (numbered_prefix_rows letter (n + 1) xs) (numbered_prefix_rows other m ys) f.0 (others_differ
+      letter other n m ys apart),
   both_differ letter other (n + 1) m xs ys apart f.1 g,
 )

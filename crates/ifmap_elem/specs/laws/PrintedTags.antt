@@ -1,20 +1,27 @@
 -- Printed names, attributes, declarations, tags and texts are taken as such, and printed tags are allowed.
+-- 1. The tag that an element is printed as: its name and attributes with prefixes, after its declarations (`tag_of`).
+-- 2. A namespace whose prefix is bound to it (`Resolves`) gives qualified names; so each attribute and each declaration is taken
+--    as its assignment, and all of them in turn (`all_taken`).
+-- 3. So start tags, end tags and texts are taken as what was printed (`tag_taken`, `end_taken`, `text_taken`).
+-- 4. Of the assignments the declarations alone bind (`bindings_are`) and the attributes alone are plain (`plain_are`).
+-- 5. So the tag names the element with its attributes, as `NamesElement` has it (`names_element`).
 use Rattle.std.proofs.Common.{◌≡◌, ◌≢◌, ℕ, true, false, ◌&&◌, List, [], ◌∷◌, ◌++◌, map, refl, ap, sym, ◌∙◌, subst, inr, ◌⊎◌, append_assoc, Option, Some, None}
 use Rattle.std.specs.Prelude.{codes, filter, is_none}
 use Rattle.std.specs.List.{AllByRecursion, flat_map, filter_map, list_all}
 use Rattle.std.specs.Map.{lookup}
-use Rattle.std.specs.Str.{bytes_eq}
+use Rattle.std.specs.Str.{bytes_eq, byte}
 use Rattle.std.proofs.lemmas.Bool.{false_from_ne_true}
 use Rattle.std.proofs.lemmas.List.{append-nil}
 use Rattle.std.proofs.lemmas.List.Elements.{filter-append, filter_map-append}
 use Rattle.std.proofs.lemmas.Slice.Eq.{bytes_eq-Decides}
 use Rattle.ifmap_lemmas.specs.Items.{To}
+use Rattle.ifmap_elem.specs.laws.NamespaceLaws.{Rows}
 use Rattle.ifmap_elem.specs.declared.elements.Name.{Name}
 use Rattle.ifmap_elem.specs.declared.elements.Attribute.{Attribute}
 use Rattle.ifmap_elem.specs.declared.tokens.Assignment.{Assignment}
 use Rattle.ifmap_elem.specs.declared.tokens.Qualified.{Qualified}
 use Rattle.ifmap_elem.specs.declared.tokens.Tag.{Tag}
-use Rattle.ifmap_elem.specs.Chars.{AllAre, IsCharacters, is_white}
+use Rattle.ifmap_elem.specs.Chars.{AllAre, IsCharacters, is_white, double_quote}
 use Rattle.ifmap_elem.specs.Names.{IsNamePart, IsQualified, is_name_start, is_name_character, name_bytes, with_prefix}
 use Rattle.ifmap_elem.specs.Scopes.{Binding, Scope, AllDiffer, bound, binding_of, bindings, plain_assignments, scope_within, attribute_space, IsBinding, AreAttributes, NamesElement}
 use Rattle.ifmap_elem.specs.Tokens.{TakesAssignment, TakesTag, TakesEnd, TakesText, EndsText}
@@ -24,9 +31,6 @@ use Rattle.ifmap_elem.specs.Canonical.{after_prefix, printed_name, declaration_b
 use Rattle.ifmap_lemmas.specs.Members.{all_of_test}
 use Rattle.ifmap_lemmas.specs.Texts.{is_ascii, ascii_encoded}
 use Rattle.ifmap_elem.specs.laws.PrintedParts.{text_means, value_means, text_characters, value_characters, text_some, text_no_tag, value_no_tag, value_no_quote, text_no_section_end}
-
-abbrev pub Rows : Type 0
-Rows = List (List ℕ × List ℕ)
 
 -- the prefix, or none
 abbrev pub prefix_or : Option (List ℕ) → List ℕ
@@ -83,7 +87,8 @@ ascii_part b bs start others low =
 
 xmlns_part : IsNamePart (codes "xmlns")
 xmlns_part =
-    ascii_part 0x78 (codes "mlns") refl (all_of_test is_name_character (codes "mlns") refl) (all_of_test is_ascii (codes "xmlns") refl)
+    ascii_part (byte "x") (codes "mlns") refl (all_of_test is_name_character (codes "mlns") refl)
+    (all_of_test is_ascii (codes "xmlns") refl)
 
 assignment_taken : (q : Qualified) (value rest : List ℕ) → IsQualified q → IsCharacters value
     → TakesAssignment ((codes " " ++ (name_bytes q ++ (codes "=\"" ++ (value_bytes value ++ codes "\"")))) ++ rest)
@@ -102,7 +107,7 @@ assignment_taken q value rest i f = record {
   given = record {
     before = [];
     after = [];
-    quote = 0x22;
+    quote = double_quote;
     bytes_are = refl;
     white_before = tt;
     white_after = tt;
@@ -196,20 +201,20 @@ text_taken text rest some f ends = record {
 
 -- what a printed tag binds
 
-pub differ : (a b : List ℕ) → a ≢ b → bytes_eq a b ≡ false
-differ a b other = false_from_ne_true (bytes_eq a b) (λ e. other ((bytes_eq-Decides a b).0 e))
+pub other_bytes_differ : (a b : List ℕ) → a ≢ b → bytes_eq a b ≡ false
+other_bytes_differ a b other = false_from_ne_true (bytes_eq a b) (λ e. other ((bytes_eq-Decides a b).0 e))
 
 binds_nothing : (prefixes : Rows) (scope : Scope) (a : Attribute) → FitsIn prefixes scope a
     → binding_of (attribute_assignment prefixes a) ≡ None
 binds_nothing prefixes scope a f =
-    let no_prefix : bytes_eq (prefix_of prefixes a.name.space) (codes "xmlns") ≡ false = differ _ _ f.resolved.no_xmlns in
+    let no_prefix : bytes_eq (prefix_of prefixes a.name.space) (codes "xmlns") ≡ false = other_bytes_differ _ _ f.resolved.no_xmlns in
     let no_default : (bytes_eq (prefix_of prefixes a.name.space) [] && bytes_eq a.name.local (codes "xmlns")) ≡ false = unprefixed
     (prefix_of prefixes a.name.space) f.resolved.none in
     rw (no_prefix, no_default) refl
   where
     unprefixed : (p : List ℕ) → (p ≡ [] → a.name.space ≡ []) → (bytes_eq p [] && bytes_eq a.name.local (codes "xmlns")) ≡ false
     unprefixed [] none =
-        differ a.name.local (codes "xmlns") (λ e. f.fit.no_declaration
+        other_bytes_differ a.name.local (codes "xmlns") (λ e. f.fit.no_declaration
         (let s : a.name.space ≡ [] = none refl in λ i. record { space = s i; local = e i }))
     unprefixed (b ∷ bs) none = refl
 
@@ -267,7 +272,7 @@ pub names_element : (prefixes declared : Rows) (outer : Scope) (name : Name) (at
     → AllDiffer (map (λ b. b.prefix) (map row_binding declared)) → Resolves prefixes (map row_binding declared ++ outer) name.space
     → AllByRecursion (FitsIn prefixes (map row_binding declared ++ outer)) attributes → AllDiffer (map (λ t. t.name) attributes)
     → NamesElement outer (tag_of prefixes declared name attributes) name attributes
-names_element prefixes declared outer name attributes binds once r f differ =
+names_element prefixes declared outer name attributes binds once r f other_bytes_differ =
     let scope : Scope = map row_binding declared ++ outer in
     let bs : bindings (tag_of prefixes declared name attributes) ≡ map row_binding declared = bindings_are prefixes declared scope name
     attributes f in
@@ -281,5 +286,5 @@ names_element prefixes declared outer name attributes binds once r f differ =
           subst (λ (s : Scope). AreAttributes s (plain_assignments (tag_of prefixes declared name attributes)) attributes) (sym within)
           (subst (λ (l : List Assignment). AreAttributes scope l attributes) (sym (plain_are prefixes declared scope name attributes f))
           (are_attributes prefixes scope attributes f));
-      names_differ = differ;
+      names_differ = other_bytes_differ;
     }

@@ -153,7 +153,7 @@ parted scope (piece.Start tag inside after) d items m =
     )
 
 -- the first item of an element's piece
-pub record IsFirst (scope : Scope) (tag : Tag) (inside : Pieces) (items : List Item) : Type 0 where
+pub record BeginsWithItem (scope : Scope) (tag : Tag) (inside : Pieces) (items : List Item) : Type 0 where
   pub inner : List Item
   pub element : Element
   pub declared : List Declared
@@ -163,16 +163,16 @@ pub record IsFirst (scope : Scope) (tag : Tag) (inside : Pieces) (items : List I
   pub is_element : IsElement scope tag inner element declared
 
 first_of : (scope : Scope) (pieces : Pieces) (tag : Tag) (inside after : Pieces) (items : List Item)
-    → IsElementPiece pieces tag inside after → AreItems scope pieces items → IsFirst scope tag inside items
+    → IsElementPiece pieces tag inside after → AreItems scope pieces items → BeginsWithItem scope tag inside items
 first_of scope pieces tag inside after items is m = elim is [
   | inl e ↦ started (subst (λ (p : Pieces). AreItems scope p items) e m)
   | inr e ↦ emptied e.1 (subst (λ (p : Pieces). AreItems scope p items) e.0 m)
 ]
   where
-    started : AreItems scope (piece.Start tag inside after) items → IsFirst scope tag inside items
+    started : AreItems scope (piece.Start tag inside after) items → BeginsWithItem scope tag inside items
     started h = record { inner = h.0; element = h.1; declared = h.2; others = h.3; items_are = h.4; inside_are = h.5; is_element = h.6 }
 
-    emptied : inside ≡ Nothing → AreItems scope (piece.Empty tag after) items → IsFirst scope tag inside items
+    emptied : inside ≡ Nothing → AreItems scope (piece.Empty tag after) items → BeginsWithItem scope tag inside items
     emptied none h = record {
       inner = [];
       element = h.0;

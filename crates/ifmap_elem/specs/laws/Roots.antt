@@ -1,6 +1,6 @@
 -- A root by the cases of its first piece, which is how a reader meets it; and that this is what `IsRoot` says.
 use Rattle.std.specs.Prelude.{◌≡◌, true, List, [], ◌∷◌, refl}
-use Rattle.std.proofs.Common.{ap, sym, subst}
+use Rattle.std.proofs.Common.{◌∙◌, ap, sym, subst}
 use Rattle.ifmap_elem.specs.declared.elements.Element.{Element}
 use Rattle.ifmap_elem.specs.declared.readings.Declared.{Declared}
 use Rattle.ifmap_elem.specs.declared.readings.Reading.{Reading}
@@ -79,30 +79,24 @@ root_begins c r h =
     (margin_begins h.before (chain_pieces h.element h.after) r h.margin_before
     (element_begins h.element h.after r.root r.declared h.means h.margin_after))
 
+-- after one more piece of the margin
+with_margin : (wrap : Pieces → Pieces) → ((c d : Pieces) → chain_pieces (wrap c) d ≡ wrap (chain_pieces c d))
+    → ((c : Pieces) → IsMargin c → IsMargin (wrap c)) → (after : Pieces) (r : Reading) → IsRoot after r → IsRoot (wrap after) r
+with_margin wrap chains stays after r i = record {
+  before = wrap i.before;
+  element = i.element;
+  after = i.after;
+  pieces_are = ap wrap i.pieces_are ∙ sym (chains i.before (chain_pieces i.element i.after));
+  margin_before = stays i.before i.margin_before;
+  means = i.means;
+  margin_after = i.margin_after;
+}
+
 pub begins_root : (c : Pieces) (r : Reading) → BeginsWithRoot c r → IsRoot c r
 begins_root Nothing r h = absurd h
-begins_root (piece.Comment after) r h =
-    let i = begins_root after r h in
-    record {
-      before = piece.Comment i.before;
-      element = i.element;
-      after = i.after;
-      pieces_are = ap piece.Comment i.pieces_are;
-      margin_before = i.margin_before;
-      means = i.means;
-      margin_after = i.margin_after;
-    }
+begins_root (piece.Comment after) r h = with_margin piece.Comment (λ c d. refl) (λ c m. m) after r (begins_root after r h)
 begins_root (piece.Characters blank text after) r h =
-    let i = begins_root after r h.1 in
-    record {
-      before = piece.Characters blank text i.before;
-      element = i.element;
-      after = i.after;
-      pieces_are = ap (piece.Characters blank text) i.pieces_are;
-      margin_before = (h.0, i.margin_before);
-      means = i.means;
-      margin_after = i.margin_after;
-    }
+    with_margin (piece.Characters blank text) (λ c d. refl) (λ c m. (h.0, m)) after r (begins_root after r h.1)
 begins_root (piece.Section text after) r h = absurd h
 begins_root (piece.Empty tag after) r h = record {
   before = Nothing;

@@ -28,17 +28,17 @@ pub bound_within : (inner one other : Scope) (p : List ℕ) → bound one p ≡ 
 bound_within [] one other p h = h
 bound_within (b ∷ bs) one other p h = ap (λ o. cond (bytes_eq b.prefix p) (Some b.space) o) (bound_within bs one other p h)
 
-abbrev prefix_of : Binding → List ℕ
-prefix_of b = b.prefix
+abbrev binding_prefix : Binding → List ℕ
+binding_prefix b = b.prefix
 
-not_bound : (bs : List Binding) (p : List ℕ) → AllByRecursion (λ q. p ≢ q) (map prefix_of bs) → bound bs p ≡ None
+not_bound : (bs : List Binding) (p : List ℕ) → AllByRecursion (λ q. p ≢ q) (map binding_prefix bs) → bound bs p ≡ None
 not_bound [] p f = refl
 not_bound (b ∷ bs) p f =
     let other : bytes_eq b.prefix p ≡ false = false_from_ne_true (bytes_eq b.prefix p) (λ t. f.0 (sym (eq_tells b.prefix p t))) in
     rw other (not_bound bs p f.1)
 
 -- a binding of another prefix than those of the others can stand before or after them
-moved_in : (b : Binding) (bs outer : Scope) (p : List ℕ) → AllByRecursion (λ q. b.prefix ≢ q) (map prefix_of bs)
+moved_in : (b : Binding) (bs outer : Scope) (p : List ℕ) → AllByRecursion (λ q. b.prefix ≢ q) (map binding_prefix bs)
     → bound (bs ++ (b ∷ outer)) p ≡ bound (b ∷ (bs ++ outer)) p
 moved_in b bs outer p f = elim (cases_Bool (bytes_eq b.prefix p)) [
   | inl e ↦
@@ -50,7 +50,8 @@ moved_in b bs outer p f = elim (cases_Bool (bytes_eq b.prefix p)) [
 ]
 
 -- the order of bindings does not matter where their prefixes differ
-pub bound_reversed : (bs outer : Scope) (p : List ℕ) → AllDiffer (map prefix_of bs) → bound (reverse bs ++ outer) p ≡ bound (bs ++ outer) p
+pub bound_reversed : (bs outer : Scope) (p : List ℕ) → AllDiffer (map binding_prefix bs)
+    → bound (reverse bs ++ outer) p ≡ bound (bs ++ outer) p
 bound_reversed [] outer p d = refl
 bound_reversed (b ∷ bs) outer p d =
     ap (λ l. bound (l ++ outer) p) (reverse-append (b ∷ []) bs) ∙ ap (λ l. bound l p) (append_assoc (reverse bs) (b ∷ []) outer)

@@ -6,13 +6,13 @@ use Rattle.std.specs.Cmp.Lexicographic.{pointwise, slice_cmp}
 use Rattle.std.specs.Hash.FoldHasher.{finish, initial, write}
 
 -- the word of a namespace
-unfoldable pub mix : List ℕ → ℕ
-mix bytes = finish (write initial bytes)
+unfoldable pub space_word : List ℕ → ℕ
+space_word bytes = finish (write initial bytes)
 
 -- by the words, and where these are one by the bytes
 abbrev pub key_order : List ℕ → List ℕ → Ordering
-key_order = then_cmp (on mix nat_cmp) (slice_cmp nat_cmp)
+key_order = then_cmp (on space_word nat_cmp) (slice_cmp nat_cmp)
 
 -- whether both the words and the bytes are one
 abbrev pub key_eq : List ℕ → List ℕ → Bool
-key_eq a b = (mix a == mix b) && pointwise ◌==◌ a b
+key_eq a b = (space_word a == space_word b) && pointwise ◌==◌ a b

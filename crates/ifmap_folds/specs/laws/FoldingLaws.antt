@@ -15,17 +15,17 @@ use Rattle.ifmap_ident.specs.Items.{item_order, items_tie}
 use Rattle.ifmap_lemmas.specs.Having.{Has, any_has, filter_has, has_any, has_filter, all_has}
 use Rattle.ifmap_lemmas.specs.Orderings.{eq_turned}
 use Rattle.ifmap_plans.specs.Placing.{put}
-use Rattle.ifmap_plans.specs.laws.KeyLaws.{items_total}
-use Rattle.ifmap_search.specs.declared.results.Entry.{Entry}
+use Rattle.ifmap_ident.specs.SameLaws.{items_total}
+use Rattle.ifmap_fresh.specs.ifmap_search.declared.results.Entry.{Entry}
 use Rattle.ifmap_folds.specs.Differences.{difference, entry_bytes, entry_order, has_entry, same_entry}
 use Rattle.ifmap_folds.specs.Folds.{with_entries}
 use Rattle.ifmap_folds.specs.laws.RisingLaws.{has_put, has_still, head_rises, put_has, put_rises, rising_same, tail_rises}
-use Rattle.ifmap_view.specs.declared.attachments.Attachment.{Attachment}
-use Rattle.ifmap_view.specs.Attachments.{attachment_order, stored_bytes, IsGraph}
+use Rattle.ifmap_fresh.specs.ifmap_view.declared.attachments.Attachment.{Attachment}
+use Rattle.ifmap_fresh.specs.ifmap_view.Attachments.{attachment_order, stored_bytes, IsGraph}
 use Rattle.ifmap_lemmas.specs.Filters.{all_weaker}
 use Rattle.ifmap_lemmas.specs.Members.{map_of_all}
 use Rattle.ifmap_fresh.specs.Fresh.{fresh, is_found}
-use Rattle.ifmap_search.specs.declared.searches.Search.{Search}
+use Rattle.ifmap_fresh.specs.ifmap_search.declared.searches.Search.{Search}
 use Rattle.ifmap_fresh.specs.laws.GatheringLaws.{entry_of}
 
 pub entries_total : IsTotalOrder entry_order
@@ -42,8 +42,8 @@ pub same_turned : (x y : Entry) → same_entry x y ≡ same_entry y x
 same_turned x y =
     entries_tie x y ∙ ap is_eq (entries_total.antisymm x y) ∙ eq_turned (entry_order y x) ∙ sym (entries_tie y x)
 
-same_itself : (x : Entry) → same_entry x x ≡ true
-same_itself x = entries_tie x x ∙ ap is_eq (tied_itself entries_total x)
+same_entry_itself : (x : Entry) → same_entry x x ≡ true
+same_entry_itself x = entries_tie x x ∙ ap is_eq (tied_itself entries_total x)
 
 not_of : (b : Bool) → not b ≡ true → b ≡ true → ⊥
 not_of true e f = let q : false ≡ true = e in cc
@@ -95,7 +95,7 @@ module _ (a b : List Entry) (apart : (x y : Entry) → Has a x → Has b y → s
         in elim (cases_Bool (has_entry b z)) [
           | inl t ↦ let y = any_has (same_entry z) b t in subst (λ x. Has b x) (sym (apart z y.0 f.0 y.1 y.2)) y.1
           | inr t ↦ absurd (not_of (has_entry gone z) f.1
-              (has_any (same_entry z) gone z (has_filter (λ e. not (has_entry b e)) a z f.0 (ap not t)) (same_itself z)))
+              (has_any (same_entry z) gone z (has_filter (λ e. not (has_entry b e)) a z f.0 (ap not t)) (same_entry_itself z)))
         ]
   ]
 

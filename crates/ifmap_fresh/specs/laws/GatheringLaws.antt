@@ -13,25 +13,24 @@ use Rattle.ifmap_view.specs.declared.attachments.Attachment.{Attachment}
 use Rattle.ifmap_view.specs.Attachments.{attachment_order}
 use Rattle.ifmap_view.specs.Rows.{stored_on}
 use Rattle.ifmap_fresh.specs.Gathered.{IsGrouped, gathered_rows, has_item, row_at}
-use Rattle.ifmap_fresh.specs.laws.OrderLaws.{items_total}
 use Rattle.ifmap_fresh.specs.laws.SameLaws.{AreCanon, same_item_is}
 use Rattle.std.proofs.lemmas.Option.{none-some}
 use Rattle.ifmap_lemmas.specs.Having.{Has}
 use Rattle.ifmap_region.specs.Marks.{row_of}
 use Rattle.ifmap_fresh.specs.Collected.{numbers_of}
-use Rattle.ifmap_ident.specs.SameLaws.{BytesTellIdentifiers}
+use Rattle.ifmap_ident.specs.SameLaws.{BytesTellIdentifiers, items_total}
 use Rattle.ifmap_search.specs.declared.results.Entry.{Entry}
 
 -- items that the order tells apart are not the same
-pub apart : (x y : Item) (o : Ordering) → item_order x y ≡ o → is_eq o ≡ false → same_item x y ≡ false
-apart x y o e d = items_tie x y ∙ ap is_eq e ∙ d
+pub apart_items_differ : (x y : Item) (o : Ordering) → item_order x y ≡ o → is_eq o ≡ false → same_item x y ≡ false
+apart_items_differ x y o e d = items_tie x y ∙ ap is_eq e ∙ d
 
 -- an item below another is not one at or above that one
-below : (i k s : Item) → item_order i k ≡ Less → is_gt (item_order k s) ≡ false → same_item s i ≡ false
-below i k s l g = by (item_order k s) refl g
+below_item_differs : (i k s : Item) → item_order i k ≡ Less → is_gt (item_order k s) ≡ false → same_item s i ≡ false
+below_item_differs i k s l g = by (item_order k s) refl g
   where
     later : item_order i s ≡ Less → same_item s i ≡ false
-    later e = apart s i Greater (items_total.antisymm s i ∙ ap ordering_reverse e) refl
+    later e = apart_items_differ s i Greater (items_total.antisymm s i ∙ ap ordering_reverse e) refl
 
     by : (o : Ordering) → item_order k s ≡ o → is_gt o ≡ false → same_item s i ≡ false
     by Less e h = later (items_total.trans i k s l e)
@@ -48,12 +47,12 @@ first_rises i is r = r
 nothing_below : (i k : Item) (rs : List Attachment) → item_order i k ≡ Less
     → AllByRecursion (λ s. is_gt (item_order k s.item) ≡ false) rs → stored_on i rs ≡ []
 nothing_below i k [] l a = refl
-nothing_below i k (s ∷ ss) l a = rw (below i k s.item l a.0) (nothing_below i k ss l a.1)
+nothing_below i k (s ∷ ss) l a = rw (below_item_differs i k s.item l a.0) (nothing_below i k ss l a.1)
 
 -- items that are all above another have it not
 not_among : (k : Item) (is : List Item) → AllByRecursion (λ y. item_order k y ≡ Less) is → has_item is k ≡ false
 not_among k [] a = refl
-not_among k (i ∷ is) a = rw (apart k i Less a.0 refl) (not_among k is a.1)
+not_among k (i ∷ is) a = rw (apart_items_differ k i Less a.0 refl) (not_among k is a.1)
 
 -- what is among items that are all above another is above it
 among_above : BytesTellIdentifiers → (i : Item) (is : List Item) → AllByRecursion AreCanon is → (k : Item) → AreCanon k
@@ -74,11 +73,12 @@ without r rs (i ∷ is) h =
     in rw p.0 (ap (λ l. map (row_at i) (stored_on i rs) ++ l) (without r rs is p.1))
 
 -- and stands in front of all, where it is among them and at or below all
-with_first : BytesTellIdentifiers → (r : Attachment) (rs : List Attachment) (is : List Item) → AreCanon r.item → AllByRecursion AreCanon is
+gathers_first : BytesTellIdentifiers → (r : Attachment) (rs : List Attachment) (is : List Item) → AreCanon r.item
+    → AllByRecursion AreCanon is
     → AllByRecursion (λ s. is_gt (item_order r.item s.item) ≡ false) rs → IsStrictlySortedBy item_order is
     → has_item is r.item ≡ true → gathered_rows (r ∷ rs) is ≡ r ∷ gathered_rows rs is
-with_first tells r rs [] cr c a s h = let q : false ≡ true = h in cc
-with_first tells r rs (i ∷ is) cr c a s h = elim (cases_Bool (same_item r.item i)) [
+gathers_first tells r rs [] cr c a s h = let q : false ≡ true = h in cc
+gathers_first tells r rs (i ∷ is) cr c a s h = elim (cases_Bool (same_item r.item i)) [
   | inl t ↦ let same : r.item ≡ i = same_item_is tells r.item i cr c.0 t
       in let rest : gathered_rows (r ∷ rs) is ≡ gathered_rows rs is = without r rs is
       (not_among r.item is (subst (λ k. AllByRecursion (λ y. item_order k y ≡ Less) is) (sym same) (first_rises i is s).0))
@@ -87,7 +87,7 @@ with_first tells r rs (i ∷ is) cr c a s h = elim (cases_Bool (same_item r.item
   | inr t ↦ let more : has_item is r.item ≡ true = rw t at h
       in let nothing : stored_on i rs ≡ [] = nothing_below i r.item rs (among_above tells i is c.1 r.item cr (first_rises i is s).0 more) a
       in rw t (ap (λ l. map (row_at i) l ++ gathered_rows (r ∷ rs) is) nothing
-      ∙ with_first tells r rs is cr c.1 a (first_rises i is s).1 more
+      ∙ gathers_first tells r rs is cr c.1 a (first_rises i is s).1 more
       ∙ ap (λ l. r ∷ (map (row_at i) l ++ gathered_rows rs is)) (sym nothing))
 ]
 
@@ -100,7 +100,8 @@ gathers tells [] items cr c g s = none items
     none [] = refl
     none (i ∷ is) = none is
 gathers tells (r ∷ rs) items cr c g s = elim (cases_Bool (has_item items r.item)) [
-  | inl t ↦ with_first tells r rs items cr.0.identifiers c g.0 s t ∙ ap (λ l. r ∷ l) (gathers tells rs items cr.1 c g.1 s) ∙ sym (rw t refl)
+  | inl t ↦ gathers_first tells r rs items cr.0.identifiers c g.0 s t ∙ ap (λ l. r ∷ l) (gathers tells rs items cr.1 c g.1 s)
+      ∙ sym (rw t refl)
   | inr t ↦ without r rs items t ∙ gathers tells rs items cr.1 c g.1 s ∙ sym (rw t refl)
 ]
 

@@ -9,7 +9,7 @@ use Rattle.std.specs.List.Sorted.{IsPermutation, IsSorted, IsStrictlySortedBy}
 use Rattle.ifmap_ident.specs.declared.items.Item.{Item}
 use Rattle.ifmap_ident.specs.Items.{item_order, items_tie, same_item}
 use Rattle.ifmap_lemmas.specs.Having.{Has, from_has, has_any, has_from}
-use Rattle.ifmap_fresh.specs.laws.OrderLaws.{items_alike, items_total}
+use Rattle.ifmap_ident.specs.SameLaws.{items_equiv, items_total}
 use Rattle.ifmap_fresh.specs.Gathered.{has_item}
 
 any_test : (p : Item → Bool) (xs : List Item) → Any (λ y. p y ≡ true) xs → list_any p xs ≡ true
@@ -31,5 +31,5 @@ module _ (old sorted new : List Item) (moved : IsPermutation old sorted) (in_ord
   pub stays : (x : Item) → Has old x → has_item new x ≡ true
   stays x h =
       subst (λ l. has_item l x ≡ true) (sym new_is)
-      (any_test (same_item x) (dedup same_item sorted) (Any-dedup items_alike sorted x
+      (any_test (same_item x) (dedup same_item sorted) (Any-dedup items_equiv sorted x
       (Contains-permutation old sorted x moved (from_has old x h))))

@@ -6,7 +6,7 @@ use Rattle.ifmap_lemmas.specs.Deciding.{Decided, begins_or_not, decided_either, 
 use Rattle.ifmap_elem.specs.Chars.{is_white}
 use Rattle.ifmap_elem.specs.Tokens.{TakesDeclaration, TakesSetting}
 use Rattle.ifmap_lexer.specs.Cutting.{Cuts}
-use Rattle.ifmap_lexer.specs.Settings.{IsEncoding, IsVersion, IsYesOrNo, SetsTo, StartsNotWhite, TakesWhereSet}
+use Rattle.ifmap_lexer.specs.Settings.{IsEncoding, IsXmlVersion, IsYesOrNo, SetsTo, StartsNotWhite, TakesWhereSet}
 use Rattle.ifmap_lexer.proofs.SettingLaws.{not_spaced, not_named, not_given, setting_found, taken_with, not_allowed, not_set, no_version}
 use Rattle.ifmap_lexer.proofs.SettingLaws.{no_end, declaration_found}
 use Rattle.ifmap_lexer.proofs.deciding.Runs.{cut_of}
@@ -48,7 +48,7 @@ module _ (name : List ℕ) (starts : StartsNotWhite name) (bytes : List ℕ) whe
       | inr none ↦ (bytes, inr (refl, λ r t. none (r, t)))
     ]
 
-version_or_not : (v : List ℕ) → Decided (IsVersion v)
+version_or_not : (v : List ℕ) → Decided (IsXmlVersion v)
 version_or_not v = same_or_not v (codes "1.0")
 
 encoding_or_not : (v : List ℕ) → Decided (IsEncoding v)
@@ -63,7 +63,7 @@ SomeDeclaration bytes = (rest : List ℕ) × TakesDeclaration bytes rest
 pub declaration_or_none : (bytes : List ℕ) → Decided (SomeDeclaration bytes)
 declaration_or_none bytes = elim (begins_or_not (codes "<?xml") bytes) [
   | inr none ↦ inr (λ d. none (d.1.first, d.1.bytes_are))
-  | inl b ↦ elim (allowed_or_none (codes "version") refl b.0 IsVersion version_or_not) [
+  | inl b ↦ elim (allowed_or_none (codes "version") refl b.0 IsXmlVersion version_or_not) [
     | inr none ↦ inr (λ d. no_version bytes b.0 b.1 (λ r t. none (r, t)) d.0 d.1)
     | inl v ↦
         let enc = where_set (codes "encoding") refl v.0 IsEncoding encoding_or_not in

@@ -4,10 +4,10 @@ use Rattle.std.specs.Prelude.{encode_utf8_all}
 use Rattle.std.specs.Str.{chars}
 use Rattle.std.proofs.lemmas.Str.{chars_from_encodes}
 use Rattle.ifmap_lemmas.specs.Deciding.{Decided, decided_both, decided_by, decided_test, same_or_not}
-use Rattle.ifmap_elem.specs.Chars.{AllAre}
+use Rattle.ifmap_elem.specs.Chars.{AllAre, colon}
 use Rattle.ifmap_elem.specs.declared.tokens.Qualified.{Qualified}
 use Rattle.ifmap_elem.specs.Names.{IsNamePart, is_name_start, is_name_character}
-use Rattle.ifmap_lexer.specs.Names.{is_name_byte}
+use Rattle.ifmap_elem.specs.laws.NameBytes.{is_name_byte}
 use Rattle.ifmap_lexer.specs.There.{SomeName, Written}
 use Rattle.ifmap_lexer.proofs.NameLaws.{part_is_utf8, prefixed_found, unprefixed_found, prefixed_parts, unprefixed_part, name_found}
 use Rattle.ifmap_lexer.proofs.NameLaws.{name_run}
@@ -40,7 +40,7 @@ pub part_or_not : (bytes : List ℕ) → Decided (IsNamePart bytes)
 part_or_not bytes = part_by bytes (chars bytes) refl
 
 written_or_not : (bytes : List ℕ) → Decided (Written bytes)
-written_or_not bytes = elim (cut_or_none 58 bytes) [
+written_or_not bytes = elim (cut_or_none colon bytes) [
   | inl c ↦ decided_by
       (λ (h : IsNamePart c.0 × IsNamePart c.1).
       let q : Qualified = record { prefix = c.0; local = c.1 } in

@@ -12,7 +12,7 @@ use Rattle.memchr.proofs.lemmas.MatchLemmas.{OccursAt-part, OccursAt-from_part}
 use Rattle.ifmap_lemmas.specs.Deciding.{Decided, decided_both, decided_each, decided_test, decided_untrue, first_or_none, same_or_not}
 use Rattle.ifmap_elem.specs.Chars.{AllAre, IsCharacters, is_character}
 use Rattle.ifmap_elem.specs.Tokens.{Lacks}
-use Rattle.ifmap_lemmas.specs.Numbers.{is_number}
+use Rattle.ifmap_lemmas.specs.Numbers.{equal_numbers}
 use Rattle.ifmap_lexer.specs.Cutting.{Cuts, CutsAt, CutsWord, is_but}
 use Rattle.ifmap_lexer.proofs.SplitLaws.{cuts_at_len}
 use Rattle.ifmap_lexer.proofs.WordLaws.{lacks_from, word_found}
@@ -37,7 +37,15 @@ cut_or_none byte bytes = let c = cut_of (is_but byte) bytes in by c.0 c.1 c.2
     by : (front rest : List ℕ) → Cuts (is_but byte) bytes front rest → SomeCut byte bytes ⊎ AllAre (is_but byte) bytes
     by front [] c = inr (subst (AllAre (is_but byte)) (sym (c.bytes_are ∙ append-nil front)) c.passes)
     by front (b ∷ bs) c = elim (cases_Bool (b == byte)) [
-      | inl e ↦ inl (front, bs, record { bytes_are = c.bytes_are ∙ ap (λ n. front ++ (n ∷ bs)) (is_number b byte e); passes = c.passes })
+      | inl e ↦ inl (
+        front,
+        bs,
+        record {
+          bytes_are = c.bytes_are
+              ∙ ap (λ n. front ++ (n ∷ bs)) (equal_numbers b byte e);
+          passes = c.passes;
+        },
+      )
       | inr e ↦ let wrong : true ≡ false = sym (ap not e) ∙ c.stops in cc
     ]
 

@@ -1,8 +1,9 @@
 -- Whether an assignment, assignments up to the end of a tag, and a tag stand at the front of bytes.
 use Rattle.std.proofs.Common.{◌≡◌, ℕ, ◌<◌, true, false, List, [], ◌∷◌, ◌++◌, length, refl, ap, arith, length-append, inl, inr}
 use Rattle.std.specs.Prelude.{◌==◌, ◌||◌}
+use Rattle.std.specs.Str.{byte}
 use Rattle.ifmap_lemmas.specs.Deciding.{Decided, begins_or_not, by_length, decided_both, decided_by, decided_test}
-use Rattle.ifmap_elem.specs.Chars.{AllAre, IsCharacters, is_white}
+use Rattle.ifmap_elem.specs.Chars.{AllAre, IsCharacters, is_white, equals_sign, greater_than, less_than}
 use Rattle.ifmap_elem.specs.Names.{name_bytes}
 use Rattle.ifmap_elem.specs.Tokens.{TakesAssignment}
 use Rattle.ifmap_elem.specs.Values.{IsValue}
@@ -20,9 +21,10 @@ use Rattle.ifmap_lexer.proofs.deciding.Values.{expansion_or_none, quoted_or_none
 given_or_none : (written : List ℕ) → Decided (SomeGiven written)
 given_or_none written =
     decided_by
-    (λ (h : IsCharacters written × (AllAre (is_but 0x3C) written × SomeValue written)). (h.1.1.0, h.0, h.1.0, h.1.1.1))
+    (λ (h : IsCharacters written × (AllAre (is_but less_than) written × SomeValue written)). (h.1.1.0, h.0, h.1.0, h.1.1.1))
     (λ s. (s.1, (s.2, (s.0, s.3))))
-    (decided_both (characters_or_not written) (decided_both (are_or_not (is_but 0x3C) written) (expansion_or_none AttributeValue written)))
+    (decided_both (characters_or_not written)
+    (decided_both (are_or_not (is_but less_than) written) (expansion_or_none AttributeValue written)))
 
 assignment_after : (bytes white inner : List ℕ) → Cuts is_white bytes white inner → Decided (SomeAssignment bytes)
 assignment_after bytes [] inner c = inr (no_white bytes [] inner c refl)
@@ -47,7 +49,7 @@ shorter bytes a rest t =
     let q = t.given in
     let end : List ℕ = q.quote ∷ rest in
     let value : List ℕ = q.quote ∷ (t.written ++ end) in
-    let sign : List ℕ = 0x3D ∷ (q.after ++ value) in
+    let sign : List ℕ = equals_sign ∷ (q.after ++ value) in
     omega (
       arith,
       ap length t.bytes_are,
@@ -63,7 +65,7 @@ shorter bytes a rest t =
 
 closes_or_not : (end : List ℕ) → Decided (ClosesTag end)
 closes_or_not [] = inr (λ h. h)
-closes_or_not (b ∷ bs) = decided_test (b == 0x3E || b == 0x2F)
+closes_or_not (b ∷ bs) = decided_test (b == greater_than || b == byte "/")
 
 at_end_or_not : (bytes : List ℕ) → Decided (IsAtEnd bytes)
 at_end_or_not bytes =
@@ -106,7 +108,7 @@ assignments_or_none bytes = by_length (λ rest. Decided (SomeAssignments rest)) 
 -- tags
 
 pub tag_or_none : (bytes : List ℕ) → Decided (SomeTag bytes)
-tag_or_none bytes = elim (begins_or_not (0x3C ∷ []) bytes) [
+tag_or_none bytes = elim (begins_or_not (less_than ∷ []) bytes) [
   | inr none ↦ inr (λ s. none (name_bytes s.0.name ++ s.2.after, s.2.bytes_are))
   | inl b ↦ elim (name_or_none b.0) [
     | inr none ↦ inr (λ s. none (tag_name bytes b.0 b.1 s))

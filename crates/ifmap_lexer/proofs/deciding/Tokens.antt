@@ -3,13 +3,13 @@ use Rattle.std.proofs.Common.{◌≡◌, ℕ, List, [], ◌∷◌, refl, arith, 
 use Rattle.std.specs.Prelude.{codes}
 use Rattle.std.specs.List.{list_all}
 use Rattle.ifmap_lemmas.specs.Deciding.{Decided, begins_or_not}
-use Rattle.ifmap_elem.specs.Chars.{is_white}
+use Rattle.ifmap_elem.specs.Chars.{is_white, less_than}
 use Rattle.ifmap_elem.specs.Values.{line_ends}
 use Rattle.ifmap_elem.specs.declared.tokens.Token.TheVariants.{Declaration, Comment, Start, Empty, End, Section, Characters}
 use Rattle.ifmap_lexer.specs.Cutting.{Cuts, is_but}
-use Rattle.ifmap_lexer.specs.Kinds.{Stands, kind_at}
-use Rattle.ifmap_lexer.specs.declared.kinds.Kind.{Kind}
-use Rattle.ifmap_lexer.specs.declared.kinds.Kind.TheVariants as kinds
+use Rattle.ifmap_elem.specs.Kinds.{Stands, kind_at}
+use Rattle.ifmap_elem.specs.declared.tokens.TokenKind.{TokenKind}
+use Rattle.ifmap_elem.specs.declared.tokens.TokenKind.TheVariants as kinds
 use Rattle.ifmap_lexer.specs.declared.values.Place.TheVariants.{CharacterData}
 use Rattle.ifmap_lexer.specs.There.{SomeToken}
 use Rattle.ifmap_lexer.proofs.TokenLaws.{of_kind, of_no_kind, no_declaration, no_opening_comment, no_dashes, no_comment_end}
@@ -23,7 +23,7 @@ use Rattle.ifmap_lexer.proofs.deciding.Tags.{tag_or_none}
 use Rattle.ifmap_lexer.proofs.deciding.Values.{expansion_or_none}
 
 -- a token stands there, or none of the kind
-abbrev StandsOrNone : Kind → List ℕ → Type 0
+abbrev StandsOrNone : TokenKind → List ℕ → Type 0
 StandsOrNone kind bytes = SomeToken bytes ⊎ (Stands kind bytes → ⊥)
 
 declaration_stands : (bytes : List ℕ) → StandsOrNone kinds.Declaration bytes
@@ -85,7 +85,7 @@ tag_stands bytes = elim (tag_or_none bytes) [
   ]
 ]
 
-text_before : (bytes own rest : List ℕ) → Cuts (is_but 0x3C) bytes own rest → StandsOrNone kinds.Text bytes
+text_before : (bytes own rest : List ℕ) → Cuts (is_but less_than) bytes own rest → StandsOrNone kinds.Text bytes
 text_before bytes [] rest c = inr (no_own bytes [] rest c refl)
 text_before bytes (b ∷ bs) rest c = elim (lacks_or_not (codes "]]>") (b ∷ bs)) [
   | inr fails ↦ inr (no_text_end bytes (b ∷ bs) rest c fails)
@@ -101,13 +101,13 @@ text_before bytes (b ∷ bs) rest c = elim (lacks_or_not (codes "]]>") (b ∷ bs
 ]
 
 text_stands : (bytes : List ℕ) → StandsOrNone kinds.Text bytes
-text_stands bytes = let c = cut_of (is_but 0x3C) bytes in text_before bytes c.0 c.1 c.2
+text_stands bytes = let c = cut_of (is_but less_than) bytes in text_before bytes c.0 c.1 c.2
 
-by_kind : (kind : Kind) (bytes : List ℕ) → kind ≡ kind_at bytes → StandsOrNone kind bytes → Decided (SomeToken bytes)
+by_kind : (kind : TokenKind) (bytes : List ℕ) → kind ≡ kind_at bytes → StandsOrNone kind bytes → Decided (SomeToken bytes)
 by_kind kind bytes e (inl t) = inl t
 by_kind kind bytes e (inr none) = inr (λ t. none (of_kind kind bytes e t))
 
-by_first : (kind : Kind) (bytes : List ℕ) → kind ≡ kind_at bytes → Decided (SomeToken bytes)
+by_first : (kind : TokenKind) (bytes : List ℕ) → kind ≡ kind_at bytes → Decided (SomeToken bytes)
 by_first kinds.Nothing bytes e = inr (of_no_kind bytes e)
 by_first kinds.Text bytes e = by_kind kinds.Text bytes e (text_stands bytes)
 by_first kinds.Declaration bytes e = by_kind kinds.Declaration bytes e (declaration_stands bytes)

@@ -1,9 +1,7 @@
 -- Arranging twice is arranging once, and content without stamps stays so.
-use Rattle.std.proofs.Common.{◌≡◌, List, [], ◌∷◌, not, map, refl, ap, sym, ◌∙◌}
+use Rattle.std.proofs.Common.{◌≡◌, not, map, ap, sym, ◌∙◌}
 use Rattle.ifmap_elem.specs.Arranged.{arrange, arrange_child, sort_attributes}
 use Rattle.ifmap_elem.specs.Canonical.{canonical_bytes}
-use Rattle.ifmap_elem.specs.Folds.{Each}
-use Rattle.ifmap_elem.specs.declared.elements.Child.{Child}
 use Rattle.ifmap_elem.specs.declared.elements.Child as the
 use Rattle.ifmap_elem.specs.declared.elements.Element.{Element}
 use Rattle.ifmap_elem.specs.laws.ArrangedLaws.{arranged_is}
@@ -11,11 +9,7 @@ use Rattle.ifmap_lemmas.specs.Filters.{filter_again}
 use Rattle.ifmap_meta.specs.Keys.{content_bytes}
 use Rattle.ifmap_meta.specs.Stamps.{content_of, is_stamp, without_stamps}
 use Rattle.ifmap_meta.specs.laws.Order.{filter_sorted}
-use Rattle.ifmap_elem.specs.laws.AgainLaws.{printed_again, with_parts, StaysArranged}
-
-children_again : (cs : List Child) → Each StaysArranged cs → map arrange_child (map arrange_child cs) ≡ map arrange_child cs
-children_again [] each = refl
-children_again (c ∷ cs) each = (λ i. each.0 i ∷ children_again cs each.1 i)
+use Rattle.ifmap_elem.specs.laws.AgainLaws.{printed_again, with_parts}
 
 pub content_printed : (e : Element) → canonical_bytes (arrange (content_of e)) ≡ content_bytes e
 unfolding content_bytes

@@ -10,7 +10,7 @@ use Rattle.ifmap_elem.specs.Arranged.{attribute_order, sort_attributes}
 use Rattle.ifmap_elem.specs.printer.Occurrences.{attribute_eq}
 use Rattle.ifmap_elem.specs.declared.elements.Attribute.{Attribute}
 use Rattle.ifmap_lemmas.specs.Filters.{count_filter}
-use Rattle.ifmap_elem.specs.laws.AttributeOrder.{attribute_ranks, attributes_total, eq_itself, eq_tells, rising_is_sorted, sorted_permutation, sorted_rises}
+use Rattle.ifmap_elem.specs.laws.AttributeOrder.{attribute_ranks, attributes_total, attribute_eq_itself, attribute_eq_tells, rising_is_sorted, sorted_permutation, sorted_rises}
 use Rattle.ifmap_lemmas.specs.Sorting.{in_order_same}
 
 -- a permutation of the attributes as a sort leaves it
@@ -24,7 +24,7 @@ sorted-by_sort xs ys p up =
 sorted_filter : (p : Attribute → Bool) (xs ys : List Attribute) → IsPermutation xs ys
     → sort_attributes (filter p xs) ≡ sort_attributes (filter p ys)
 sorted_filter p xs ys h =
-    in_order_same attribute_order attribute_ranks attribute_eq eq_itself eq_tells (filter p xs) (filter p ys)
+    in_order_same attribute_order attribute_ranks attribute_eq attribute_eq_itself attribute_eq_tells (filter p xs) (filter p ys)
     (omega (arith, length-filter p xs, length-filter p ys, sum_by-IsPermutation (λ x. cond (p x) 1 0) xs ys h))
     (λ z. omega (
       arith,

@@ -1,4 +1,9 @@
 -- What is made of an element that a client can send is metadata, and what is stamped of metadata is whole.
+-- 1. Attributes that are filtered still differ, so the content of an element that fits, fits.
+-- 2. So what is made of such an element is metadata that can be published (`made_is_metadata`).
+-- 3. The publisher and the moment are characters, and the stamps that are made of them are attributes that fit.
+-- 4. The names of stamps are no others of the content, so the element with its stamps fits, and so does it in order.
+-- 5. What is stamped is arranged, has the same content and is whole (`stamped_is_whole`).
 use Rattle.std.proofs.Common.{◌≡◌, ◌≢◌, ℕ, ◌≤◌, Bool, true, false, not, List, [], ◌∷◌, ◌++◌, map, length, codes, IsSome, refl, ap, sym, ◌∙◌, subst, arith, inl, inr}
 use Rattle.std.specs.List.{AllByRecursion, filter}
 use Rattle.std.proofs.Common.{◌||◌, rules}
@@ -18,7 +23,7 @@ use Rattle.ifmap_elem.specs.declared.elements.Element.{Element}
 use Rattle.ifmap_elem.specs.declared.elements.Name.{Name}
 use Rattle.ifmap_elem.specs.laws.ArrangedLaws.{arranged_is}
 use Rattle.ifmap_elem.specs.laws.FitLaws.{fit_arranged, fit_parts, fit_whole, nesting_arranged}
-use Rattle.ifmap_io.specs.Calendar.{Civil, civil_of, civil_text, digit, moment_text}
+use Rattle.ifmap_io.specs.Calendar.{Civil, civil_of, civil_text, last_digit, moment_text}
 use Rattle.ifmap_lemmas.specs.Filters.{all_filter, filter_passes}
 use Rattle.ifmap_lemmas.specs.Members.{all_of_map, all_of_test, all_weaker, both_all, map_of_all}
 use Rattle.ifmap_lemmas.specs.Texts.{ascii_encoded, is_ascii}
@@ -109,7 +114,7 @@ pub client_characters : (publisher : List ℕ) → IsClientName publisher → Is
 client_characters publisher name =
     both_are publisher (all_weaker is_client_byte is_plain client_is_both publisher (all_of_test is_client_byte publisher name.2))
 
-digit_is_both : (n : ℕ) → is_plain (digit n) ≡ true
+digit_is_both : (n : ℕ) → is_plain (last_digit n) ≡ true
 digit_is_both n = grind (arith, nat_tests)
 
 moment_characters : (moment : ℕ) → IsCharacters (moment_text moment)

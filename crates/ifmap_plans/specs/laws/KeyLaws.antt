@@ -1,40 +1,18 @@
 -- The order of attachments is total, and having one key is an equivalence.
-use Rattle.std.proofs.Common.{◌≡◌, refl, sym, Bool, true, false, ◌&&◌, ◌||◌, inl, inr}
+use Rattle.std.proofs.Common.{◌≡◌, refl, Bool, true, false, ◌&&◌, ◌||◌, inl, inr}
 use Rattle.std.proofs.lemmas.Bool.{and_parts, cases_Bool}
-use Rattle.std.proofs.lemmas.Cmp.{and_equiv, lists_equiv, lists_total, nat_list_cmp_total, nat_list_eq_equiv, on_equiv, on_total}
+use Rattle.std.proofs.lemmas.Cmp.{and_equiv, nat_list_cmp_total, nat_list_eq_equiv, on_equiv, on_total}
 use Rattle.std.proofs.lemmas.Cmp.{then_total}
-use Rattle.std.proofs.lemmas.Map.Text.{is_eq-slice_cmp}
 use Rattle.std.specs.Cmp.{IsEquivalence, IsTotalOrder, bool_eq_equiv}
-use Rattle.std.specs.Cmp.Lexicographic.{lists_ties}
-use Rattle.std.specs.Ordering.{is_eq}
 use Rattle.std.specs.Str.{bytes_eq}
 use Rattle.std.proofs.Math.Bool.{beq, or-true}
 use Rattle.ifmap_elem.specs.declared.elements.Element.{Element}
-use Rattle.ifmap_ident.specs.declared.identifiers.Identifier.{Identifier}
-use Rattle.ifmap_ident.specs.declared.items.Item.{Item}
-use Rattle.ifmap_ident.specs.Identifiers.{identifier_bytes, identifier_order, same_identifier}
-use Rattle.ifmap_ident.specs.Items.{identifiers_of, item_order, same_item}
+use Rattle.ifmap_ident.specs.SameLaws.{items_equiv, items_total}
 use Rattle.ifmap_meta.specs.declared.stored.Stored.{Stored}
 use Rattle.ifmap_meta.specs.Cardinality.{is_single}
 use Rattle.ifmap_meta.specs.Keys as stored
 use Rattle.ifmap_view.specs.declared.attachments.Attachment.{Attachment}
 use Rattle.ifmap_view.specs.Attachments.{attachment_order, of_one_key, stored_bytes, stored_order}
-
--- items
-identifiers_total : IsTotalOrder identifier_order
-identifiers_total = on_total identifier_bytes nat_list_cmp_total
-
-pub items_total : IsTotalOrder item_order
-items_total = on_total identifiers_of (lists_total identifiers_total)
-
-identifiers_tied : (a b : Identifier) → same_identifier a b ≡ is_eq (identifier_order a b)
-identifiers_tied a b = sym (is_eq-slice_cmp (identifier_bytes a) (identifier_bytes b))
-
-pub items_tied : (a b : Item) → same_item a b ≡ is_eq (item_order a b)
-items_tied a b = lists_ties identifier_order identifiers_tied (identifiers_of a) (identifiers_of b)
-
-pub items_equiv : IsEquivalence same_item
-items_equiv = on_equiv identifiers_of (lists_equiv (on_equiv identifier_bytes nat_list_eq_equiv))
 
 -- what is stored
 pub stored_total : IsTotalOrder stored_order

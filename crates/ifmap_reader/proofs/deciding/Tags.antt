@@ -11,7 +11,7 @@ use Rattle.ifmap_elem.specs.Scopes.{Scope, Binding, AllDiffer, AreAttributes, Is
 use Rattle.ifmap_elem.specs.laws.OneReading.{one_list_of_attributes}
 use Rattle.ifmap_reader.specs.declared.open_elements.OpenElement.{OpenElement}
 use Rattle.ifmap_reader.specs.AllowedTags.{OpensElement}
-use Rattle.ifmap_reader.specs.OpenElements.{Reaches, scope_of}
+use Rattle.ifmap_reader.specs.OpenElements.{CountsBindings, scope_of}
 use Rattle.ifmap_reader.proofs.Goings.{NoName}
 use Rattle.ifmap_elem.specs.laws.DecidedNames.{BothSame, both_or_not, name_or_not}
 
@@ -86,7 +86,7 @@ abbrev Allows : Scope → Tag → Type 0
 Allows outer tag = (name : Name) × (attributes : List Attribute) × NamesElement outer tag name attributes
 
 abbrev pub OpensSome : List OpenElement → Tag → Type 0
-OpensSome fs tag = (f : OpenElement) × OpensElement (scope_of fs) tag f × Reaches f.bindings f.declaring fs
+OpensSome fs tag = (f : OpenElement) × OpensElement (scope_of fs) tag f × CountsBindings f.bindings f.declaring fs
 
 element_by : (fs : List OpenElement) (tag : Tag) → Allows (scope_of fs) tag → OpensSome fs tag
 element_by fs tag a = (

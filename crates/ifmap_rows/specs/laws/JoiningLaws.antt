@@ -14,12 +14,12 @@ use Rattle.ifmap_plans.specs.Lists.{put_each, without}
 use Rattle.ifmap_plans.specs.Placing.{put}
 use Rattle.ifmap_plans.specs.laws.KeyLaws.{stored_total}
 use Rattle.ifmap_plans.specs.laws.PlacingLaws.{put_sorted}
-use Rattle.ifmap_view.specs.Attachments.{stored_order}
+use Rattle.ifmap_plans.specs.ifmap_view.Attachments.{stored_order}
 use Rattle.ifmap_rows.specs.laws.RisingLaws.{climbs, has_put, has_put_one, put_has}
 
 -- a test that fails at one that another test tells
-pub differs : (p q : Bool) → (p ≡ true → q ≡ true) → q ≡ false → p ≡ false
-differs p q f e = elim (cases_Bool p) [ inl t ↦ let u : q ≡ true = f t in cc | inr t ↦ t ]
+pub fails_too : (p q : Bool) → (p ≡ true → q ≡ true) → q ≡ false → p ≡ false
+fails_too p q f e = elim (cases_Bool p) [ inl t ↦ let u : q ≡ true = f t in cc | inr t ↦ t ]
 
 between : (p q : Ordering) → p ≡ ordering_reverse q → is_lt q ≡ false → is_eq p ≡ false → p ≡ Less
 between Less q e f g = refl

@@ -21,20 +21,21 @@ pub no_hyphen : (n : ℕ) → n < 2 ^ 64 → (i : ℕ) → i < length (decimal n
 no_hyphen n small = not_in_digits own (decimal n) hyphen (digits_decimal own n small) (λ r. absurd (omega (arith, r)))
 
 -- what stands before the first of a byte is told by the whole
-pub cut_same : (h : ℕ) (a b r s : List ℕ) → ((i : ℕ) → i < length a → get_or a i 0 ≢ h) → ((i : ℕ) → i < length b → get_or b i 0 ≢ h)
+pub same_before : (h : ℕ) (a b r s : List ℕ) → ((i : ℕ) → i < length a → get_or a i 0 ≢ h) → ((i : ℕ) → i < length b → get_or b i 0 ≢ h)
     → a ++ h ∷ r ≡ b ++ h ∷ s → a ≡ b
-cut_same h [] [] r s na nb e = refl
-cut_same h [] (y ∷ b) r s na nb e = let same : y ≡ h = cc e in absurd (nb 0 (omega arith) same)
-cut_same h (x ∷ a) [] r s na nb e = let same : x ≡ h = cc e in absurd (na 0 (omega arith) same)
-cut_same h (x ∷ a) (y ∷ b) r s na nb e =
+same_before h [] [] r s na nb e = refl
+same_before h [] (y ∷ b) r s na nb e = let same : y ≡ h = cc e in absurd (nb 0 (omega arith) same)
+same_before h (x ∷ a) [] r s na nb e = let same : x ≡ h = cc e in absurd (na 0 (omega arith) same)
+same_before h (x ∷ a) (y ∷ b) r s na nb e =
     let same : x ≡ y = cc e in
     let rest : a ++ h ∷ r ≡ b ++ h ∷ s = cc e in
-    let tail = cut_same h a b r s (λ i lt. na (suc i) (omega (arith, lt))) (λ i lt. nb (suc i) (omega (arith, lt))) rest in
+    let tail = same_before h a b r s (λ i lt. na (suc i) (omega (arith, lt))) (λ i lt. nb (suc i) (omega (arith, lt))) rest in
     cc (same, tail)
 
 pub ids_tell : (n m : ℕ) (id : List ℕ) → n < 2 ^ 64 → m < 2 ^ 64 → BeginsWithSerial n id → BeginsWithSerial m id → n ≡ m
 ids_tell n m id small few a b =
-    decimal_injective n m small few (cut_same hyphen (decimal n) (decimal m) a.0 b.0 (no_hyphen n small) (no_hyphen m few) (sym a.1 ∙ b.1))
+    decimal_injective n m small few (same_before hyphen (decimal n) (decimal m) a.0 b.0 (no_hyphen n small) (no_hyphen m few) (sym a.1 ∙
+    b.1))
 
 pub digit_plain : (d : ℕ) → d < 10 → is_plain (48 + d) ≡ true
 digit_plain d few = grind (arith, nat_tests)

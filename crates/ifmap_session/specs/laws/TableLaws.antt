@@ -15,7 +15,7 @@ use Rattle.ifmap_lemmas.specs.Filters.{all_filter, all_weaker, filter_shorter}
 use Rattle.ifmap_lemmas.specs.Members.{both_all, map_of_all}
 use Rattle.ifmap_session.specs.SessionIds.{BeginsWithSerial, session_id}
 use Rattle.ifmap_session.specs.Sessions.{IsTable, Session, SessionTable, change, is_same_text, most_sessions, session_of_client, session_order, session_with_serial, with_last, without_sessions, IsLive, expired_serials, is_expired}
-use Rattle.ifmap_session.specs.laws.TextLaws.{all_found, distinct_filter, distinct_push, find_kept, find_none, rest_differ}
+use Rattle.ifmap_session.specs.laws.TextLaws.{all_found, distinct_filter, distinct_keys_push, find_kept, find_none, rest_differ}
 use Rattle.uuid.specs.Text.{hyphenated_text, lower}
 
 -- a session that these numbers are not of
@@ -105,7 +105,7 @@ begun_table table s h next id small none room = record {
       (λ t le. omega (arith, le)) table.live h.counted) (omega (arith, next), tt);
   small = omega (arith, small);
   ids = both_all (λ (t : Session). BeginsWithSerial t.serial t.id) table.live (s ∷ []) h.ids (id, tt);
-  apart = distinct_push (λ (t : Session). t.client) table.live s h.apart none;
+  apart = distinct_keys_push (λ (t : Session). t.client) table.live s h.apart none;
   few = let long = length-append table.live (s ∷ []) in omega (arith, long, room);
 }
 

@@ -70,15 +70,15 @@ all_map_push : {X : Type 0} (key : X → List ℕ) (P : List ℕ → Type 0) (xs
 all_map_push key P [] y h k = (k, tt)
 all_map_push key P (x ∷ xs) y h k = (h.0, all_map_push key P xs y h.1 k)
 
-pub distinct_push : {X : Type 0} (key : X → List ℕ) (xs : List X) (y : X) → IsDistinct is_same_text (map key xs) → find
+pub distinct_keys_push : {X : Type 0} (key : X → List ℕ) (xs : List X) (y : X) → IsDistinct is_same_text (map key xs) → find
     (λ x. is_same_text (key x) (key y)) xs ≡ None → IsDistinct is_same_text (map key (xs ++ y ∷ []))
 unfolding IsDistinct
-distinct_push key [] y h e = (tt, tt)
-distinct_push key (x ∷ xs) y h e =
+distinct_keys_push key [] y h e = (tt, tt)
+distinct_keys_push key (x ∷ xs) y h e =
     let none : AllByRecursion (λ z. is_same_text (key z) (key y) ≡ false) (x ∷ xs) = none_passes (λ z. is_same_text (key z) (key y))
     (x ∷ xs) e in (
       all_map_push key (λ k. is_same_text (key x) k ≡ false) xs y h.0 none.0,
-      distinct_push key xs y h.1 (find_none (λ z. is_same_text (key z) (key y)) xs none.1),
+      distinct_keys_push key xs y h.1 (find_none (λ z. is_same_text (key z) (key y)) xs none.1),
     )
 
 -- none of those that follow has the text of the one before them

@@ -2,13 +2,15 @@ use Rattle.std.proofs.Common.{[], ◌∷◌, ◌++◌, ap, sym, ◌∙◌}
 use Rattle.std.specs.Cmp.Lexicographic.{slice_cmp}
 use Rattle.std.specs.Net.Text.{hex}
 use Rattle.std.specs.Ordering.{nat_cmp}
+use Rattle.std.specs.Str.{byte}
 use Rattle.ifmap_lemmas.specs.Texts.{slice_cmp-same}
 use Rattle.ifmap_addresses.proofs.Grouped.{closed_hex}
 use Rattle.ifmap_addresses.proofs.ip_v6.inner_order.Goals as goal
 
 pub returns-then-one-other : goal.returns-then-one-other
 returns-then-one-other c =
-    sym (slice_cmp-same (hex c.args.one ++ (58 ∷ [])) (hex c.args.other ++ (58 ∷ [])) (ap (λ n. hex n ++ (58 ∷ [])) c.if-one-other.true))
+    sym (slice_cmp-same (hex c.args.one ++ (byte ":" ∷ [])) (hex c.args.other ++ (byte ":" ∷ []))
+    (ap (λ n. hex n ++ (byte ":" ∷ [])) c.if-one-other.true))
 
 pub returns : goal.returns
 returns c = c.cmp.ensures ∙ (λ i. slice_cmp nat_cmp

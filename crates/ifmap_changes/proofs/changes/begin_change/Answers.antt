@@ -2,9 +2,9 @@ use Rattle.std.proofs.Common.{sym, subst}
 use Rattle.ifmap_ident.specs.Items.{IsCanonItem}
 use Rattle.ifmap_lemmas.specs.Filters.{all_weaker}
 use Rattle.ifmap_lemmas.specs.Results.{on_err}
-use Rattle.ifmap_plans.specs.Plans.{FitsItem, IsAfter}
-use Rattle.ifmap_pool.specs.Holdings.{key_at}
-use Rattle.ifmap_view.specs.Views.{IsView}
+use Rattle.ifmap_graph.specs.ifmap_plans.Plans.{FitsItem, IsAfter}
+use Rattle.ifmap_graph.specs.ifmap_pool.Holdings.{key_at}
+use Rattle.ifmap_graph.specs.ifmap_view.Views.{IsView}
 use Rattle.ifmap_graph.specs.Held.{Held}
 use Rattle.ifmap_graph.specs.Seen.{links_next, rows_next, rows_now}
 use Rattle.ifmap_changes.proofs.Begun.{kept_seen}

@@ -2,7 +2,7 @@ use Rattle.std.proofs.Common.{◌≡◌, List, ◌++◌, length, take, drop, sym
 use Rattle.std.proofs.Math.Seq.{take-append_seam}
 use Rattle.ifmap_changes.proofs.Settling.{AreSettled}
 use Rattle.ifmap_changes.proofs.changes.settle_all.Goals as goal
-use Rattle.ifmap_standing.specs.declared.standing.Standing.{Standing}
+use Rattle.ifmap_tellings.specs.ifmap_standing.declared.standing.Standing.{Standing}
 
 pub returns-clause-settled : goal.returns-clause-settled
 returns-clause-settled c =

@@ -5,7 +5,7 @@ use Rattle.ifmap_changes.proofs.Settling.{kept_settled, ready_after, same_left, 
 use Rattle.ifmap_changes.proofs.Steady.{HaveSameSearches, all_numbered, steady_beside}
 use Rattle.ifmap_changes.proofs.changes.settle_made.Goals as goal
 use Rattle.ifmap_lemmas.specs.Members.{all_both}
-use Rattle.ifmap_plans.specs.Plans.{AreWhole}
+use Rattle.ifmap_graph.specs.ifmap_plans.Plans.{AreWhole}
 
 pub returns-clause-steady : goal.returns-clause-steady
 returns-clause-steady c = λ more s.

@@ -1,6 +1,6 @@
 use Rattle.std.proofs.Common.{◌∙◌, ap, sym, subst, drop, length, slice_get}
 use Rattle.std.proofs.lemmas.Result.{on_ok_weaker}
-use Rattle.ifmap_delta.specs.Sights.{IsUpToDate}
+use Rattle.ifmap_tellings.specs.ifmap_delta.Sights.{IsUpToDate}
 use Rattle.ifmap_graph.specs.Held.{Held}
 use Rattle.ifmap_changes.specs.Changes.{sight_next}
 use Rattle.ifmap_changes.proofs.Flags.{front_taken}

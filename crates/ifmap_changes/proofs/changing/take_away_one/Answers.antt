@@ -3,18 +3,32 @@ use Rattle.std.proofs.lemmas.Result.{on_ok_weaker}
 use Rattle.ifmap_changes.specs.Between.{AreKept, so_far}
 use Rattle.ifmap_changes.proofs.Spending.{ended_none, ended_within}
 use Rattle.ifmap_changes.proofs.Taken.{marked_state, ready_marked}
+use Rattle.ifmap_changes.proofs.changing.take_away_one.Given as given
 use Rattle.ifmap_changes.proofs.changing.take_away_one.Goals as goal
+use Rattle.ifmap_changes.proofs.changing.take_away_one.Goals.{After-take_away}
 use Rattle.ifmap_graph.specs.Seen.{rows_now}
 use Rattle.ifmap_lemmas.specs.Results.{on_err}
-use Rattle.ifmap_machine.specs.Ending.{without_standing}
-use Rattle.ifmap_machine.specs.State.{State}
-use Rattle.ifmap_machine.specs.Telling.{overflow, tell}
-use Rattle.ifmap_publish.specs.declared.who.Who.TheVariants.{Sessions}
-use Rattle.ifmap_publish.specs.Retract.{retract}
-use Rattle.ifmap_standing.specs.declared.standing.Standing.{Standing}
-use Rattle.ifmap_standing.specs.Standing.{standing_of}
+use Rattle.ifmap_tellings.specs.ifmap_machine.Ending.{without_standing}
+use Rattle.ifmap_tellings.specs.ifmap_machine.State.{State}
+use Rattle.ifmap_tellings.specs.ifmap_machine.Telling.{overflow, tell}
+use Rattle.ifmap_tellings.specs.ifmap_publish.declared.who.Who.TheVariants.{Sessions}
+use Rattle.ifmap_tellings.specs.ifmap_publish.Retract.{retract}
+use Rattle.ifmap_tellings.specs.ifmap_standing.declared.standing.Standing.{Standing}
+use Rattle.ifmap_tellings.specs.ifmap_standing.Standing.{standing_of}
 use Rattle.ifmap_tellings.specs.Tellings.{AllKept, kept_of}
 use Rattle.ifmap_changes.specs.KeptLaws.{stays_kept}
+
+-- the subscriptions of the session are gone
+left : (g : given.Over) (c : After-take_away g)
+    → map standing_of (kept_of c.flag_session.new.pending.gone.items c.args.parts.now.standing.items)
+    ≡ without_standing (c.args.serial ∷ []) (map standing_of (kept_of c.args.pending.now.gone.items c.args.parts.now.standing.items))
+left g c =
+    subst (λ (l : List Standing). map standing_of (kept_of c.flag_session.new.pending.gone.items l)
+    ≡ without_standing (c.args.serial ∷ []) (map standing_of (kept_of c.args.pending.now.gone.items l)))
+    c.deref.ensures.value c.flag_session.ensures.left
+
+serials : (g : given.Over) (c : After-take_away g) → c.push.new.self.items ≡ c.args.serial ∷ []
+serials g c = c.in_ok-push.ensures.items ∙ ap (λ (l : List ℕ). l ++ c.args.serial ∷ []) c.in_ok-serials.ensures.items
 
 pub take_away-requires-clause-ready : goal.take_away-requires-clause-ready
 take_away-requires-clause-ready g c =
@@ -25,20 +39,14 @@ take_away-requires-clause-ready g c =
 
 pub returns-clause-told : goal.returns-clause-told
 returns-clause-told g c =
+    let place = (goal.at.returns-clause-told g c).After-take_away in
     let marked = c.flag_session.new.pending in
     let rows = retract (Sessions (c.args.serial ∷ [])) (rows_now c.args.parts.now.graph) in
-    let left : map standing_of (kept_of marked.gone.items c.args.parts.now.standing.items)
-    ≡ without_standing (c.args.serial ∷ []) (map standing_of (kept_of c.args.pending.now.gone.items c.args.parts.now.standing.items)) =
-    subst (λ (l : List Standing). map standing_of (kept_of marked.gone.items l)
-    ≡ without_standing (c.args.serial ∷ []) (map standing_of (kept_of c.args.pending.now.gone.items l)))
-    c.deref.ensures.value c.flag_session.ensures.left in
-    let items : c.push.new.self.items ≡ c.args.serial ∷ [] =
-    c.in_ok-push.ensures.items ∙ ap (λ (l : List ℕ). l ++ c.args.serial ∷ []) c.in_ok-serials.ensures.items in
     on_ok_weaker c.take_away.result (λ e. e
     ∙ ap (λ (l : List ℕ). overflow (tell (retract (Sessions l) (rows_now c.args.parts.now.graph)) []
-    (so_far c.args.asking.now c.args.parts.now marked))) items
+    (so_far c.args.asking.now c.args.parts.now marked))) (serials g place)
     ∙ ap (λ (s : State). overflow (tell rows [] s))
-    (marked_state (c.args.serial ∷ []) c.args.asking.now c.args.parts.now c.args.pending.now marked left
+    (marked_state (c.args.serial ∷ []) c.args.asking.now c.args.parts.now c.args.pending.now marked (left g place)
     c.flag_session.ensures.tellings)) c.take_away.ensures.told
 
 pub returns-clause-bare : goal.returns-clause-bare
@@ -57,15 +65,7 @@ returns-in_err-serials-clause-steps g c =
 
 pub returns-clause-steps : goal.returns-clause-steps
 returns-clause-steps g c =
+    let place = (goal.at.returns-clause-steps g c).After-take_away in
     let marked = c.flag_session.new.pending in
-    let a = c.args.asking.now in
-    let parts = c.args.parts.now in
-    let left : map standing_of (kept_of marked.gone.items parts.standing.items)
-    ≡ without_standing (c.args.serial ∷ []) (map standing_of (kept_of c.args.pending.now.gone.items parts.standing.items)) =
-    subst (λ (l : List Standing). map standing_of (kept_of marked.gone.items l)
-    ≡ without_standing (c.args.serial ∷ []) (map standing_of (kept_of c.args.pending.now.gone.items l)))
-    c.deref.ensures.value c.flag_session.ensures.left in
-    let items : c.push.new.self.items ≡ c.args.serial ∷ [] =
-    c.in_ok-push.ensures.items ∙ ap (λ (l : List ℕ). l ++ c.args.serial ∷ []) c.in_ok-serials.ensures.items in
-    ended_within a parts c.args.pending.now marked c.args.serial c.push.new.self.items c.args.steps.now c.take_away.new.steps items left
-    c.take_away.ensures.steps
+    ended_within c.args.asking.now c.args.parts.now c.args.pending.now marked c.args.serial c.push.new.self.items c.args.steps.now
+    c.take_away.new.steps (serials g place) (left g place) c.take_away.ensures.steps

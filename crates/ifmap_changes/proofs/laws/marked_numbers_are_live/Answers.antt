@@ -1,6 +1,6 @@
 use Rattle.ifmap_lemmas.specs.Filters.{all_weaker}
-use Rattle.ifmap_delta.specs.Sights.{IsUpToDate}
-use Rattle.ifmap_pool.specs.Holdings.{key_at}
+use Rattle.ifmap_tellings.specs.ifmap_delta.Sights.{IsUpToDate}
+use Rattle.ifmap_graph.specs.ifmap_pool.Holdings.{key_at}
 use Rattle.ifmap_changes.specs.Between.{HasLiveMarks, sight_now}
 use Rattle.ifmap_graph.specs.Seen.{links_now, rows_now}
 use Rattle.ifmap_changes.proofs.laws.marked_numbers_are_live.Goals as goal

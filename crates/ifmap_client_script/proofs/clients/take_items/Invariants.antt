@@ -1,6 +1,6 @@
 use Rattle.std.proofs.Common.{◌≡◌, drop}
 use Rattle.ifmap_client.specs.Keeping.{sets_of}
-use Rattle.ifmap_folds.specs.Folds.{fold_items}
+use Rattle.ifmap_client.specs.ifmap_folds.Folds.{fold_items}
 use Rattle.ifmap_client_script.proofs.clients.take_items.Given as goal
 
 -- the rest folded makes what all folded is to make

@@ -18,11 +18,3 @@ returns-in_default-copy g c =
     not_begun (record { client = c.args.client.now; host = c.args.host.now })
     (source_and_ports (g.S.Source.left c.args.source.now) (g.S.Source.faults c.args.source.now)
     (ports (g.K.Sink.held c.args.sink.now) (g.K.Sink.faults c.args.sink.now) f s)) c.requires.first c.requires.second
-
-pub returns-in_default-new : goal.returns-in_default-new
-returns-in_default-new g c =
-    let f = wiring g.A.Source.left g.A.Sink.held g.A.Source.faults g.A.Sink.faults c.args.first.now in
-    let s = wiring g.B.Source.left g.B.Sink.held g.B.Source.faults g.B.Sink.faults c.args.second.now in
-    not_begun (record { client = c.args.client.now; host = c.args.host.now })
-    (source_and_ports (g.S.Source.left c.args.source.now) (g.S.Source.faults c.args.source.now)
-    (ports (g.K.Sink.held c.args.sink.now) (g.K.Sink.faults c.args.sink.now) f s)) c.requires.first c.requires.second

@@ -1,7 +1,7 @@
 use Rattle.std.proofs.Common.{◌≡◌, ap}
 use Rattle.ifmap_core.proofs.answering.answer.Goals as goal
-use Rattle.ifmap_machine.specs.Events.{Event}
-use Rattle.ifmap_requests.specs.declared.requests.Request.TheVariants.{NewSession}
+use Rattle.ifmap_subscribes.specs.ifmap_machine.Events.{Event}
+use Rattle.ifmap_subscribes.specs.ifmap_requests.declared.requests.Request.TheVariants.{NewSession}
 
 pub returns-in-Request-NewSession-clause-leads : goal.returns-in-Request-NewSession-clause-leads
 returns-in-Request-NewSession-clause-leads g c =

@@ -1,8 +1,14 @@
 use Rattle.std.proofs.Common.{◌∙◌, ap}
-use Rattle.ifmap_changes.specs.Between.{Asking, so_far}
-use Rattle.ifmap_core.proofs.Begun.{begins}
+use Rattle.ifmap_subscribes.specs.ifmap_changes.Between.{Asking, so_far}
+use Rattle.ifmap_core.proofs.Begun.{begins, ready_with}
 use Rattle.ifmap_core.proofs.Spending.{former_none, former_within}
 use Rattle.ifmap_core.proofs.beginning.begin.Goals as goal
+
+pub take_away_former-requires : goal.take_away_former-requires
+take_away_former-requires g c = record {
+  steady = c.requires.can.steady;
+  ready = ready_with c.args.parts.now c.prepare.new.self c.prepare.ensures.same c.args.asking.now c.args.pending.now c.requires.can.ready;
+}
 
 pub returns-clause-leads : goal.returns-clause-leads
 returns-clause-leads g c =
@@ -12,9 +18,9 @@ returns-clause-leads g c =
     c.limit_of.ensures
     (c.in_ok-opening.ensures.client ∙ client) (c.in_ok-publisher.ensures ∙ c.text.ensures.text ∙ client) c.in_ok-opening.ensures.serial
     c.in_ok-opening.ensures.id c.requires.next c.former_of-former.ensures.serial c.requires.free c.prepare.new.self c.is_table.ensures
-    c.prepare.ensures.same c.in_ok-take_away_former.ensures.turned.sessions c.in_ok-opening.ensures.room c.former_of-former.ensures.live
-    c.in_ok-take_away_former.ensures.told c.in_ok-take_away_former.ensures.steady c.in_ok-take_away_former.ensures.ready
-    c.in_ok-take_away_former.ensures.bare
+    c.prepare.ensures.same c.in_ok-take_away_former.ensures.change.turned.sessions c.in_ok-opening.ensures.room
+    c.former_of-former.ensures.live c.in_ok-take_away_former.ensures.told c.in_ok-take_away_former.ensures.steady
+    c.in_ok-take_away_former.ensures.ready c.in_ok-take_away_former.ensures.bare
 
 pub returns-in_err-opening-clause-steps : goal.returns-in_err-opening-clause-steps
 returns-in_err-opening-clause-steps g c =

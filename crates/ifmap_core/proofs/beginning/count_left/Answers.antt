@@ -1,5 +1,5 @@
 use Rattle.std.proofs.Common.{ap, length, arith}
-use Rattle.ifmap_changes.specs.Between.{Asking}
+use Rattle.ifmap_subscribes.specs.ifmap_changes.Between.{Asking}
 use Rattle.ifmap_core.proofs.Ended.{left_length}
 use Rattle.ifmap_core.proofs.beginning.count_left.Goals as goal
 

@@ -1,4 +1,4 @@
-use Rattle.ifmap_changes.specs.Between.{sessions_left}
+use Rattle.ifmap_subscribes.specs.ifmap_changes.Between.{sessions_left}
 use Rattle.ifmap_core.proofs.Owned.{none_told}
 use Rattle.ifmap_core.proofs.beginning.has_none.Goals as goal
 use Rattle.ifmap_session.specs.Sessions.{session_of_client}

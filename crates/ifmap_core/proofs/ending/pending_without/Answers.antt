@@ -1,5 +1,5 @@
 use Rattle.std.proofs.Common.{ap, ◌∙◌, length}
-use Rattle.ifmap_changes.specs.Between.{Asking}
+use Rattle.ifmap_subscribes.specs.ifmap_changes.Between.{Asking}
 use Rattle.ifmap_core.proofs.Expiring.{begins_gone, begins_ready, begins_so_far, no_entry}
 use Rattle.ifmap_core.proofs.ending.pending_without.Goals as goal
 

@@ -1,7 +1,7 @@
 use Rattle.std.proofs.Common.{◌≡◌, sym, ◌∙◌, subst, ◌==◌, true, false, None, Some}
 use Rattle.std.specs.List.{list_any}
 use Rattle.std.specs.Option.{option_map}
-use Rattle.ifmap_changes.specs.Between.{Asking}
+use Rattle.ifmap_subscribes.specs.ifmap_changes.Between.{Asking}
 use Rattle.ifmap_core.proofs.Owned.{former_gone, former_left, former_none}
 use Rattle.ifmap_core.proofs.owning.former_of.Goals as goal
 use Rattle.ifmap_session.specs.Sessions.{Session, session_of_client}

@@ -1,6 +1,6 @@
 use Rattle.std.proofs.Common.{◌≡◌, sym, ◌∙◌, ap, subst, ◌==◌, true, false, not}
 use Rattle.std.specs.List.{list_any}
-use Rattle.ifmap_changes.specs.Between.{Asking}
+use Rattle.ifmap_subscribes.specs.ifmap_changes.Between.{Asking}
 use Rattle.ifmap_core.proofs.Ended.{id_lost, none_left}
 use Rattle.ifmap_core.proofs.Owned.{among, id_left, other_text, serial_left}
 use Rattle.ifmap_core.proofs.owning.owner_of.Goals as goal

@@ -3,9 +3,9 @@ use Rattle.ifmap_core.proofs.Places.{searched_itself}
 use Rattle.ifmap_core.proofs.Subscribed.{ready_there, same_so_far}
 use Rattle.ifmap_core.proofs.Turned.{keeps_there}
 use Rattle.ifmap_core.proofs.subscribing.let_go.Goals as goal
-use Rattle.ifmap_standing.specs.PlaceLaws.{kept_itself}
-use Rattle.ifmap_tellings.specs.ToldLaws.{same_itself}
-use Rattle.ifmap_changes.specs.StartLaws.{shares_fewer}
+use Rattle.ifmap_subscribes.specs.ifmap_standing.PlaceLaws.{kept_itself}
+use Rattle.ifmap_subscribes.specs.ifmap_tellings.ToldLaws.{same_sessions_itself}
+use Rattle.ifmap_subscribes.specs.ifmap_changes.StartLaws.{shares_fewer}
 
 pub returns-clause-steady : goal.returns-clause-steady
 returns-clause-steady c = c.release_all.ensures.steady c.args.parts.now.standing.items c.requires.steady
@@ -23,14 +23,14 @@ pub returns-clause-so_far : goal.returns-clause-so_far
 returns-clause-so_far c =
     let old = c.args.parts.now in
     same_so_far c.args.asking.now old (record { graph = c.release_all.new.graph; sessions = old.sessions; standing = old.standing })
-    c.args.pending.now c.release_all.ensures.rows (same_itself old.sessions) refl
+    c.args.pending.now c.release_all.ensures.rows (same_sessions_itself old.sessions) refl
 
 pub returns-clause-turned : goal.returns-clause-turned
 returns-clause-turned c = record {
   waits = c.release_all.ensures.waits;
   lean = c.release_all.ensures.lean;
   searches = searched_itself c.args.parts.now.standing.items;
-  sessions = same_itself c.args.parts.now.sessions;
+  sessions = same_sessions_itself c.args.parts.now.sessions;
 }
 
 pub returns-clause-kept : goal.returns-clause-kept
@@ -42,7 +42,7 @@ returns-clause-kept c = record {
     numbers = shares_fewer c.args.parts.now.graph c.release_all.new.graph c.release_all.ensures.numbers;
     lean = c.release_all.ensures.lean;
     standing = kept_itself c.args.parts.now.standing.items;
-    sessions = same_itself c.args.parts.now.sessions;
+    sessions = same_sessions_itself c.args.parts.now.sessions;
   };
   backs = c.release_all.ensures.backs;
 }

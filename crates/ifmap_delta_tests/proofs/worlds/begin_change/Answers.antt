@@ -6,7 +6,7 @@ use Rattle.ifmap_lemmas.specs.Filters.{all_weaker}
 use Rattle.ifmap_plans.specs.Plans.{FitsItem, IsAfter}
 use Rattle.ifmap_plans.specs.declared.plans.ItemChange.{ItemChange}
 use Rattle.ifmap_plans.specs.declared.plans.Plan.{Plan}
-use Rattle.ifmap_pool.specs.Holdings.{key_at}
+use Rattle.ifmap_graph.specs.ifmap_pool.Holdings.{key_at}
 use Rattle.ifmap_view.specs.Views.{IsView}
 use Rattle.ifmap_delta_tests.specs.Worlds.{AreShown, HaveFitNotes}
 use Rattle.ifmap_delta_tests.proofs.Lasting.{few_still}

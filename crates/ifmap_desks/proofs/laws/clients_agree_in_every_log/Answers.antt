@@ -1,5 +1,5 @@
 use Rattle.ifmap_desks.proofs.LogLaws.{agrees_calls, legal_calls, run_by_calls, since_calls}
-use Rattle.ifmap_machine.specs.State.{opening}
+use Rattle.ifmap_dialogue.specs.ifmap_machine.State.{opening}
 use Rattle.ifmap_desks.proofs.laws.clients_agree_in_every_log.Goals as goal
 
 pub returns-clause-legal : goal.returns-clause-legal

@@ -1,6 +1,6 @@
 use Rattle.std.proofs.Common.{◌≤◌, refl, subst, sym}
 use Rattle.ifmap_elem.specs.Chars.{IsCharacters}
-use Rattle.ifmap_heads.specs.Limits.{longest_post}
+use Rattle.ifmap_http.specs.ifmap_heads.Limits.{longest_post}
 use Rattle.ifmap_dialogue.specs.declared.polls.Poll.{Poll}
 use Rattle.ifmap_dialogue.proofs.Coming.{none_asked, poll_request}
 use Rattle.ifmap_dialogue.proofs.asking.ask_poll.Goals as goal

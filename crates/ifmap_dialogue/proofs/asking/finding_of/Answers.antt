@@ -1,5 +1,5 @@
 use Rattle.std.proofs.Common.{ap, sym}
-use Rattle.ifmap_replies.specs.declared.replies.Reply.{Reply}
+use Rattle.ifmap_machine.specs.ifmap_replies.declared.replies.Reply.{Reply}
 use Rattle.ifmap_dialogue.specs.Findings.{finding_of}
 use Rattle.ifmap_dialogue.proofs.Coming.{plain_finding}
 use Rattle.ifmap_dialogue.proofs.asking.finding_of.Goals as goal

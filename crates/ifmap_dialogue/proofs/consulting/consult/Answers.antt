@@ -1,6 +1,6 @@
 use Rattle.std.proofs.Common.{ℕ, List, Ok, Err, arith, refl, subst}
-use Rattle.ifmap_requests.specs.Means.{Means}
-use Rattle.ifmap_requests.specs.declared.errors.Refusal.TheVariants.{Named, Unreadable}
+use Rattle.ifmap_machine.specs.ifmap_requests.Means.{Means}
+use Rattle.ifmap_machine.specs.ifmap_requests.declared.errors.Refusal.TheVariants.{Named, Unreadable}
 use Rattle.ifmap_dialogue.proofs.Coming.{as_post, refused_post, unreadable_post, wanting_post}
 use Rattle.ifmap_dialogue.proofs.consulting.consult.Goals as goal
 

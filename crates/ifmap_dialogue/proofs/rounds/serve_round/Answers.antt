@@ -1,5 +1,5 @@
 use Rattle.std.proofs.Common.{◌≤◌, length, refl, sym, subst, ◌∙◌}
-use Rattle.ifmap_heads.specs.Limits.{longest_post}
+use Rattle.ifmap_http.specs.ifmap_heads.Limits.{longest_post}
 use Rattle.ifmap_http.specs.declared.wires.Post.{Post}
 use Rattle.ifmap_dialogue.proofs.Connecting.{goes_on_by, has_read, more_if_none, post_not, refusal_ends, round_ended, round_posted, round_refused, round_truncated, round_unread, round_wanting}
 use Rattle.ifmap_dialogue.proofs.rounds.serve_round.Goals as goal

@@ -1,5 +1,5 @@
 use Rattle.std.proofs.Common.{Bool, subst}
-use Rattle.ifmap_heads.specs.Messages.{answer_bytes}
+use Rattle.ifmap_http.specs.ifmap_heads.Messages.{answer_bytes}
 use Rattle.ifmap_http.specs.Outcomes.{Sends}
 use Rattle.ifmap_dialogue.specs.Answers.{closes}
 use Rattle.ifmap_dialogue.proofs.Writing.{rest_of, same_source, written}

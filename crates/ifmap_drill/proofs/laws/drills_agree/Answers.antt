@@ -1,4 +1,4 @@
-use Rattle.ifmap_machine.specs.State.{session_seconds}
+use Rattle.ifmap_core.specs.ifmap_machine.State.{session_seconds}
 use Rattle.ifmap_drill.specs.Drills.{drill_history}
 use Rattle.ifmap_drill.proofs.Marks.{mark_is_metadata}
 use Rattle.ifmap_drill.proofs.SoundDrills.{drill_sound}

@@ -9,15 +9,9 @@ loop-attribute-init c = adds_no_piece c.args.prefixes.now c.args.out.now.items
 
 pub loop-attribute-preserved : goal.loop-attribute-preserved
 loop-attribute-preserved c =
-    pieces_next (λ (a : Attribute). a.name.space ∷ []) attribute_bytes c.args.attributes.now c.loop-attribute.attribute-index
-    c.attribute-item.result
-    c.args.prefixes.now c.loop-attribute.prefixes c.write_outline_attribute.new.prefixes c.args.out.now.items c.loop-attribute.out.items
-    c.write_outline_attribute.new.out.items
+    pieces_next (λ (a : Attribute). a.name.space ∷ []) attribute_bytes _ _ _ _ _ _ _ _ _
     c.loop-attribute-test.true c.attribute-item.is c.loop-attribute.invariant c.in_ok-write_outline_attribute.ensures
 
 pub returns : goal.returns
 returns c =
-    pieces_all (λ (a : Attribute). a.name.space) attribute_bytes c.args.attributes.now c.args.attributes.now
-    c.loop-attribute.attribute-index
-    c.args.prefixes.now c.loop-attribute.prefixes c.args.out.now.items c.loop-attribute.out.items c.loop-attribute-test.false refl
-    c.loop-attribute.invariant
+    pieces_all (λ (a : Attribute). a.name.space) attribute_bytes _ _ _ _ _ _ _ c.loop-attribute-test.false refl c.loop-attribute.invariant

@@ -9,15 +9,10 @@ loop-attribute-init c = adds_no_piece c.args.prefixes.now c.args.out.now.items
 
 pub loop-attribute-preserved : goal.loop-attribute-preserved
 loop-attribute-preserved c =
-    pieces_next (λ (a : Bor Attribute). a.now.name.space ∷ [])
-    (λ rows (a : Bor Attribute). attribute_bytes rows a.now) c.deref-attribute-items.result.now c.loop-attribute.attribute-index
-    c.attribute-item.result
-    c.args.prefixes.now c.loop-attribute.prefixes c.write_outline_attribute.new.prefixes c.args.out.now.items c.loop-attribute.out.items
-    c.write_outline_attribute.new.out.items
+    pieces_next (λ (a : Bor Attribute). a.now.name.space ∷ []) (λ rows (a : Bor Attribute). attribute_bytes rows a.now) _ _ _ _ _ _ _ _ _
     c.loop-attribute-test.true c.attribute-item.is c.loop-attribute.invariant c.in_ok-write_outline_attribute.ensures
 
 pub returns : goal.returns
 returns c =
-    pieces_referred c.deref-attribute-items.result.now c.in_ok-order.order.items _ c.loop-attribute.attribute-index
-    c.args.prefixes.now c.loop-attribute.prefixes c.args.out.now.items c.loop-attribute.out.items c.loop-attribute-test.false
+    pieces_referred _ _ _ _ _ _ _ _ c.loop-attribute-test.false
     c.deref-attribute-items.ensures.value c.in_ok-order.ensures c.loop-attribute.invariant

@@ -1,6 +1,7 @@
 use Rattle.std.proofs.Common.{◌∙◌, ap, sym}
 use Rattle.ifmap_forms.specs.Tables.{parts_in}
-use Rattle.ifmap_envelopes.specs.Envelopes.{is_element, is_last_part}
+use Rattle.ifmap_elem.specs.Fit.{is_element}
+use Rattle.ifmap_envelopes.specs.Envelopes.{is_last_part}
 use Rattle.ifmap_envelopes.proofs.EnvelopeLaws.{alone_there, none_alone, parts_from}
 use Rattle.ifmap_envelopes.proofs.envelopes.alone_index.Goals as goal
 

@@ -1,7 +1,7 @@
 use Rattle.std.specs.Prelude.{◌==◌}
 use Rattle.ifmap_filter.proofs.CharLaws.{cuts_all, cuts_from, same_number, twice}
 use Rattle.ifmap_filter.proofs.lexing.split_literal.Goals as goal
-use Rattle.ifmap_lexer.specs.Cutting.{is_but}
+use Rattle.ifmap_prefixes.specs.ifmap_lexer.Cutting.{is_but}
 
 pub returns-in-Some : goal.returns-in-Some
 returns-in-Some c =

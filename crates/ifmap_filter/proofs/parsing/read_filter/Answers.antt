@@ -1,6 +1,6 @@
 use Rattle.std.proofs.Common.{◌∙◌, ◌-◌, refl, subst, sym, length}
 use Rattle.std.proofs.lemmas.Result.{err_from_is_err_and}
-use Rattle.ifmap_filter.specs.Progress.{where_is}
+use Rattle.ifmap_filter.specs.Progress.{filter_state}
 use Rattle.ifmap_filter.specs.Reaching.{IsRefused, ReachesWhite}
 use Rattle.ifmap_filter.specs.Texts.{IsParsed}
 use Rattle.ifmap_filter.proofs.ParseLaws.{begin, ended, go_on, none_left, refused, shorter, some_left}
@@ -18,30 +18,30 @@ pub loop-rest-preserved : goal.loop-rest-preserved
 loop-rest-preserved c =
     let steps = c.in_ok-left.ensures.next in (
       steps.is_text,
-      go_on c.args.text.now c.args.scope.now c.utf8.text (where_is c.loop-rest.standing) c.loop-rest.rest.now c.loop-rest.invariant.0
-          c.loop-rest.invariant.1 (where_is c.read_token.new.standing) c.in_ok-left.left.now steps,
+      go_on c.args.text.now c.args.scope.now c.utf8.text (filter_state c.loop-rest.standing) c.loop-rest.rest.now c.loop-rest.invariant.0
+          c.loop-rest.invariant.1 (filter_state c.read_token.new.standing) c.in_ok-left.left.now steps,
     )
 
 pub loop-rest-smaller : goal.loop-rest-smaller
 loop-rest-smaller c =
-    shorter c.args.scope.now (where_is c.loop-rest.standing) (where_is c.read_token.new.standing) c.loop-rest.rest.now
+    shorter c.args.scope.now (filter_state c.loop-rest.standing) (filter_state c.read_token.new.standing) c.loop-rest.rest.now
     c.in_ok-left.left.now c.loop-rest.invariant.0 c.in_ok-left.ensures.next
 
 pub returns : goal.returns
 returns c =
-    ended c.args.text.now c.args.scope.now c.utf8.text (where_is c.loop-rest.standing) c.loop-rest.rest.now c.loop-rest.invariant.0
+    ended c.args.text.now c.args.scope.now c.utf8.text (filter_state c.loop-rest.standing) c.loop-rest.rest.now c.loop-rest.invariant.0
     c.loop-rest.invariant.1 (none_left c.loop-rest.rest.now (sym c.is_empty.ensures ∙ c.loop-rest-test.false)) (length c.args.text.now) refl
     c.whole_filter.result c.whole_filter.ensures
 
 pub returns-in_err-left : goal.returns-in_err-left
 returns-in_err-left c =
     let p = err_from_is_err_and c.from_residual.result c.from_residual.ensures.1 in
-    let stuck : IsRefused c.args.scope.now (where_is c.loop-rest.standing) c.loop-rest.rest.now
+    let stuck : IsRefused c.args.scope.now (filter_state c.loop-rest.standing) c.loop-rest.rest.now
     (length c.args.text.now - length c.loop-rest.rest.now) c.in_err-left.field-0.0 =
     c.in_err-left.ensures.refused in
     subst (IsParsed c.args.text.now c.args.scope.now) (sym p.1)
-    (refused c.args.text.now c.args.scope.now c.utf8.text (where_is c.loop-rest.standing) c.loop-rest.rest.now c.loop-rest.invariant.0
+    (refused c.args.text.now c.args.scope.now c.utf8.text (filter_state c.loop-rest.standing) c.loop-rest.rest.now c.loop-rest.invariant.0
     c.loop-rest.invariant.1 (some_left c.loop-rest.rest.now (sym c.is_empty.ensures ∙ c.loop-rest-test.true))
     (length c.args.text.now - length c.loop-rest.rest.now) refl p.0
-    (subst (IsRefused c.args.scope.now (where_is c.loop-rest.standing) c.loop-rest.rest.now
+    (subst (IsRefused c.args.scope.now (filter_state c.loop-rest.standing) c.loop-rest.rest.now
     (length c.args.text.now - length c.loop-rest.rest.now)) (sym p.2) stuck))

@@ -1,6 +1,6 @@
 use Rattle.std.proofs.Common.{◌≡◌, ap, ◌∙◌, sym, Bool, true, Option, Some, None, List, [], option_map, unwrap_or, cond}
 use Rattle.ifmap_lemmas.specs.Texts.{eq_itself}
-use Rattle.ifmap_search.specs.declared.results.Entry.{Entry}
+use Rattle.ifmap_fresh.specs.ifmap_search.declared.results.Entry.{Entry}
 use Rattle.ifmap_folds.specs.Differences.{difference}
 use Rattle.ifmap_folds.specs.Folds.{with_entries}
 use Rattle.ifmap_folds.specs.laws.FoldingLaws.{next_made}

@@ -1,7 +1,7 @@
 use Rattle.std.proofs.Common.{◌∙◌, ap, subst, sym}
-use Rattle.ifmap_reader.specs.declared.scoping.Scope.{Scope}
+use Rattle.ifmap_ident.specs.ifmap_reader.declared.scoping.Scope.{Scope}
 use Rattle.ifmap_filter.specs.Texts.{Writes}
-use Rattle.ifmap_prefixes.specs.InScope.{scope_by}
+use Rattle.ifmap_filter.specs.ifmap_prefixes.InScope.{scope_by}
 use Rattle.ifmap_forms.proofs.values.filter_of.Goals as goal
 
 pub returns-in-Ok : goal.returns-in-Ok

@@ -1,6 +1,6 @@
 use Rattle.std.proofs.Common.{rules, ◌≡◌, ◌<◌, true, false, Some, length, slice_get, refl, ap, ◌∙◌, sym, below_more}
 use Rattle.std.proofs.lemmas.Option.{same_Some, slice_get_read, slice_get_within}
-use Rattle.ifmap_fresh_tests.specs.Lists.{differ}
+use Rattle.ifmap_fresh_tests.specs.Lists.{different_identifiers}
 use Rattle.ifmap_fresh_tests.proofs.Pairs.{pairs_of}
 use Rattle.ifmap_fresh_tests.proofs.Viewed.{one_place}
 use Rattle.ifmap_fresh_tests.proofs.looking.number_of.Goals as goal
@@ -12,7 +12,7 @@ returns-then-equals-clause-only c =
     in let lt : i < length names = search rules
     in let read : slice_get names i ≡ Some c.index-names-i.result = slice_get_read names
     (length names) i c.index-names-i.result refl lt c.index-names-i.is
-    in λ v e. ap Some (one_place names (pairs_of differ names c.requires) i v c.args.id.now
+    in λ v e. ap Some (one_place names (pairs_of different_identifiers names c.requires) i v c.args.id.now
     (read ∙ ap Some (c.equals.ensures.value.0 c.if-equals.true)) e)
 
 pub loop-i-preserved : goal.loop-i-preserved

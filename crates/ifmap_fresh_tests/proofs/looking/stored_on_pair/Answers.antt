@@ -4,7 +4,7 @@ use Rattle.std.specs.List.{list_all}
 use Rattle.ifmap_ident.specs.declared.items.Item.TheVariants.{Pair}
 use Rattle.ifmap_view.specs.Rows.{stored_on}
 use Rattle.ifmap_fresh_tests.specs.declared.shelves.Shelf.{Shelf}
-use Rattle.ifmap_fresh_tests.specs.Lists.{all_pairs, item_below, rows_of}
+use Rattle.ifmap_fresh_tests.specs.Lists.{all_pairs, item_below, rows_on_shelves}
 use Rattle.ifmap_fresh_tests.proofs.Finding.{found, past}
 use Rattle.ifmap_fresh_tests.proofs.looking.stored_on_pair.Goals as goal
 
@@ -15,7 +15,8 @@ returns-then-is_pair c =
     in c.deref.ensures.value
     ∙ found (Pair c.args.first.now c.args.second.now) c.in-Some.shelf.now c.in-Some.after.now rising
     (sym c.is_pair.ensures ∙ c.if-is_pair.true)
-    ∙ sym (ap (λ (l : List Shelf). stored_on (Pair c.args.first.now c.args.second.now) (rows_of l)) split) ∙ c.loop-shelf.invariant.0
+    ∙ sym (ap (λ (l : List Shelf). stored_on (Pair c.args.first.now c.args.second.now) (rows_on_shelves l)) split)
+    ∙ c.loop-shelf.invariant.0
 
 pub loop-shelf-preserved : goal.loop-shelf-preserved
 loop-shelf-preserved c =
@@ -24,6 +25,7 @@ loop-shelf-preserved c =
     in (
       sym (past (Pair c.args.first.now c.args.second.now) c.in-Some.shelf.now c.in-Some.after.now
           (sym c.is_pair.ensures ∙ c.if-is_pair.false))
-          ∙ sym (ap (λ (l : List Shelf). stored_on (Pair c.args.first.now c.args.second.now) (rows_of l)) split) ∙ c.loop-shelf.invariant.0,
+          ∙ sym (ap (λ (l : List Shelf). stored_on (Pair c.args.first.now c.args.second.now) (rows_on_shelves l)) split)
+          ∙ c.loop-shelf.invariant.0,
       (and_parts (list_all (item_below c.in-Some.shelf.now) c.in-Some.after.now) (all_pairs item_below c.in-Some.after.now) rising).1,
     )

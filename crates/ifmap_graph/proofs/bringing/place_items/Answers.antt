@@ -5,9 +5,9 @@ use Rattle.ifmap_plans.specs.declared.plans.ItemChange.{ItemChange}
 use Rattle.ifmap_graph.specs.Bringing.{BringsShelves, flagged_items, graph_parts}
 use Rattle.ifmap_graph.specs.Out.{items_changed}
 use Rattle.ifmap_graph.proofs.Grown.{few_kept, grown_on, placed_there, places_none, places_on, placing}
-use Rattle.ifmap_graph.proofs.Planned.{all_at_place}
 use Rattle.ifmap_graph.proofs.bringing.place_items.Goals as goal
 use Rattle.ifmap_lemmas.specs.Members.{all_of_map}
+use Rattle.ifmap_lemmas.specs.Filters.{all_at}
 
 pub loop-change-init : goal.loop-change-init
 loop-change-init c =
@@ -20,9 +20,8 @@ place_missing-requires-clause-inside c = c.loop-change.invariant.grown.inside
 pub place_missing-requires-clause-canon : goal.place_missing-requires-clause-canon
 place_missing-requires-clause-canon c =
     subst (λ (x : ItemChange). IsCanonItem x.item) (sym c.change-item.is)
-    (all_at_place (λ (x : ItemChange). IsCanonItem x.item) c.args.changes.now c.loop-change.change-index c.change-item.result
-    c.loop-change-test.true
-    (all_of_map IsCanonItem (λ (x : ItemChange). x.item) c.args.changes.now c.requires.canon))
+    (all_at (λ (x : ItemChange). IsCanonItem x.item) c.args.changes.now c.loop-change.change-index c.change-item.result
+    (all_of_map IsCanonItem (λ (x : ItemChange). x.item) c.args.changes.now c.requires.canon) c.loop-change-test.true)
 
 pub place_missing-requires-clause-few : goal.place_missing-requires-clause-few
 place_missing-requires-clause-few c =

@@ -5,14 +5,14 @@ use Rattle.std.specs.Map.{lookup}
 use Rattle.ifmap_ident.specs.Items.{item_order}
 use Rattle.ifmap_graph.specs.Out.{items_changed}
 use Rattle.ifmap_graph.specs.Shelved.{HasDraft}
-use Rattle.ifmap_graph.proofs.Accepting.{all_given}
 use Rattle.ifmap_graph.proofs.Lessening.{inside_written}
 use Rattle.ifmap_graph.proofs.drafting.draft_and_wait.Goals as goal
+use Rattle.ifmap_lemmas.specs.Filters.{all_weaker}
 
 pub wait_for-requires-clause-there : goal.wait_for-requires-clause-there
 wait_for-requires-clause-there c =
     subst (λ p. AllByRecursion (λ x. IsSome (lookup (is_at (item_order x)) p.entries)) (items_changed c.args.changes.now))
-    (sym c.draft_plan.ensures.places) c.requires.there
+    (sym c.draft_plan.ensures.stays.places) c.requires.there
 
 pub returns-clause-inside : goal.returns-clause-inside
 returns-clause-inside c = λ names is.
@@ -22,8 +22,8 @@ returns-clause-inside c = λ names is.
 
 pub returns-clause-out : goal.returns-clause-out
 returns-clause-out c = record {
-  drafted = all_given (HasDraft c.draft_plan.new.shelves) (HasDraft c.wait_for.new.shelves)
-      (items_changed c.args.changes.now) c.wait_for.ensures.kept
+  drafted = all_weaker (HasDraft c.draft_plan.new.shelves) (HasDraft c.wait_for.new.shelves) c.wait_for.ensures.kept
+      (items_changed c.args.changes.now)
       c.in_ok-draft_plan.ensures.out.drafted;
   within = λ x d. c.in_ok-draft_plan.ensures.out.within x (c.wait_for.ensures.drafts x d);
   apart = c.in_ok-draft_plan.ensures.out.apart;

@@ -1,4 +1,4 @@
-use Rattle.std.proofs.Common.{arith}
+use Rattle.std.proofs.Common.{arith, ◌∙◌}
 use Rattle.ifmap_graph.proofs.Planned.{drafted_after, drafted_out, drafting, drafts_on, there_at, within_on}
 use Rattle.ifmap_graph.proofs.drafting.draft_changes.Goals as goal
 
@@ -20,7 +20,8 @@ loop-change-preserved c =
     c.change-item.result c.change-item.is
     c.loop-change.invariant c.draft_one.new.shelves c.draft_one.ensures.shelved c.draft_one.ensures.now c.in_ok-draft_one.ensures.next
     c.draft_one.ensures.drafts
-    c.draft_one.ensures.kept c.in_ok-draft_one.ensures.drafted c.draft_one.ensures.ends c.draft_one.ensures.waits c.draft_one.ensures.places
+    c.draft_one.ensures.kept c.in_ok-draft_one.ensures.drafted c.draft_one.ensures.stays.ends c.draft_one.ensures.stays.waits
+    c.draft_one.ensures.stays.places
 
 pub returns-clause-next : goal.returns-clause-next
 returns-clause-next c =
@@ -39,3 +40,17 @@ returns-in_err-draft_one-clause-within c =
     within_on c.args.changes.now c.args.shelves.now c.loop-change.shelves c.loop-change.change-index c.loop-change-test.true
     c.change-item.result c.change-item.is
     c.loop-change.invariant c.draft_one.new.shelves c.draft_one.ensures.drafts
+
+pub returns-clause-stays : goal.returns-clause-stays
+returns-clause-stays c = record {
+  ends = c.loop-change.invariant.ends;
+  waits = c.loop-change.invariant.waits;
+  places = c.loop-change.invariant.places;
+}
+
+pub returns-in_err-draft_one-clause-stays : goal.returns-in_err-draft_one-clause-stays
+returns-in_err-draft_one-clause-stays c = record {
+  ends = λ at. c.draft_one.ensures.stays.ends at ∙ c.loop-change.invariant.ends at;
+  waits = λ x. c.draft_one.ensures.stays.waits x ∙ c.loop-change.invariant.waits x;
+  places = c.draft_one.ensures.stays.places ∙ c.loop-change.invariant.places;
+}

@@ -1,8 +1,8 @@
 use Rattle.std.proofs.Common.{ℕ, List, ap, ◌∙◌}
+use Rattle.std.proofs.lemmas.Result.{on_ok_weaker}
 use Rattle.ifmap_graph.specs.Touched.{draft_of}
 use Rattle.ifmap_graph.specs.Turning.{sides_at}
 use Rattle.ifmap_graph.proofs.Flipping.{flips_mapped, inside_drafted, pairs_after}
-use Rattle.ifmap_graph.proofs.Joining.{on_ok}
 use Rattle.ifmap_graph.proofs.drafting.draft_plan.Goals as goal
 
 pub draft_changes-requires-clause-shelved : goal.draft_changes-requires-clause-shelved
@@ -12,14 +12,14 @@ pub touch_slots-requires-clause-pairs : goal.touch_slots-requires-clause-pairs
 touch_slots-requires-clause-pairs c =
     pairs_after c.requires.inside.0 c.args.shelves.now c.draft_changes.new.shelves c.args.links.now.items c.requires.inside.1
     c.draft_changes.ensures.shelved
-    c.draft_changes.ensures.places c.draft_changes.ensures.ends
+    c.draft_changes.ensures.stays.places c.draft_changes.ensures.stays.ends
 
 pub returns-clause-inside : goal.returns-clause-inside
 returns-clause-inside c =
-    on_ok c.touch_slots.result
+    on_ok_weaker c.touch_slots.result
     (λ drafts names is. inside_drafted names c.args.shelves.now c.draft_changes.new.shelves c.args.links.now.items
     c.touch_slots.new.links.items is
-    c.draft_changes.ensures.shelved c.draft_changes.ensures.places c.draft_changes.ensures.ends c.draft_changes.ensures.now
+    c.draft_changes.ensures.shelved c.draft_changes.ensures.stays.places c.draft_changes.ensures.stays.ends c.draft_changes.ensures.now
     c.args.changes.now c.requires.fits
     c.in_ok-draft_changes.ensures.next c.in_ok-draft_changes.ensures.out c.touch_slots.ensures.kept
     (λ v. drafts v

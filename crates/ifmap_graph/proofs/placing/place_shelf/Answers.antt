@@ -17,11 +17,11 @@ use Rattle.ifmap_graph.specs.Waits.{waits_at}
 use Rattle.ifmap_graph.proofs.Arriving.{numbered_comes}
 use Rattle.ifmap_graph.proofs.Brought.{bare_comes, brings_both, brings_none, brings_one}
 use Rattle.ifmap_graph.proofs.Changed.{inside_comes}
-use Rattle.ifmap_graph.proofs.Joining.{any_err}
 use Rattle.ifmap_graph.proofs.Leaving.{comes}
 use Rattle.ifmap_graph.proofs.Shelving.{placed, same_rows, still_used}
 use Rattle.ifmap_graph.proofs.Staying.{ends_of}
 use Rattle.ifmap_graph.proofs.placing.place_shelf.Goals as goal
+use Rattle.ifmap_lemmas.specs.Results.{on_err}
 
 pub returns-in_err-reserve-clause-inside : goal.returns-in_err-reserve-clause-inside
 returns-in_err-reserve-clause-inside c = λ links room is. rw c.in_err-reserve.ensures.rest_kept is
@@ -93,7 +93,7 @@ returns-clause-held c = λ a count h.
 
 pub returns-in_err-reserve-clause-none : goal.returns-in_err-reserve-clause-none
 returns-in_err-reserve-clause-none c =
-    any_err c.from_residual.result
+    on_err c.from_residual.result _
     (brings_none c.args.shelves.now (record { places = c.args.shelves.now.places; slots = c.reserve.new.self }) refl
     (λ at. ap (λ (s : Slab Shelf). ends_of (get s at)) c.in_err-reserve.ensures.rest_kept)
     (λ x. ap (λ (s : Slab Shelf). waits_at (get s) c.args.shelves.now.places.entries x) c.in_err-reserve.ensures.rest_kept))
@@ -103,7 +103,7 @@ returns-in_err-insert-clause-own c = λ a own h. rw c.in_err-insert.ensures.err 
 
 pub returns-in_err-insert-clause-none : goal.returns-in_err-insert-clause-none
 returns-in_err-insert-clause-none c =
-    any_err c.from_residual-in_err-insert.result
+    on_err c.from_residual-in_err-insert.result _
     (brings_none c.args.shelves.now (record { places = c.insert.new.self; slots = c.reserve.new.self }) c.in_err-insert.ensures.err
     (λ at. ap (λ (s : Slab Shelf). ends_of (get s at)) c.in_ok-reserve.ensures.rest_kept)
     (λ x. rw c.in_err-insert.ensures.err (ap (λ (s : Slab Shelf). waits_at (get s) c.args.shelves.now.places.entries x)

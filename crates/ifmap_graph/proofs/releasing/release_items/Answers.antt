@@ -4,7 +4,7 @@ use Rattle.ifmap_ident.specs.declared.items.Item.{Item}
 use Rattle.ifmap_plans.specs.declared.plans.ItemChange.{ItemChange}
 use Rattle.ifmap_graph.specs.Out.{items_changed}
 use Rattle.ifmap_graph.specs.Waits.{times_in}
-use Rattle.ifmap_graph.proofs.Accepting.{here_mapped}
+use Rattle.ifmap_graph.proofs.Accepting.{here_changed}
 use Rattle.ifmap_graph.proofs.Lessening.{less_itself, less_on}
 use Rattle.ifmap_graph.proofs.Waited.{one_time, times_append}
 use Rattle.ifmap_graph.proofs.releasing.release_items.Goals as goal
@@ -19,7 +19,7 @@ release_item-requires c =
     in let x = c.change-item.result.item
     in let here : times_in (drop i items) x ≡ times_in (x ∷ drop (i + 1) items) x
     = ap (λ (l : List Item). times_in l x)
-    (here_mapped (λ (y : ItemChange). y.item) c.args.changes.now i c.change-item.result c.loop-change-test.true
+    (here_changed c.args.changes.now i c.change-item.result c.loop-change-test.true
     ∙ ap (λ (y : ItemChange). y.item ∷ drop (i + 1) items) (sym c.change-item.is))
     in record {
       inside = (c.requires.inside.0, c.loop-change.invariant.0.inside c.requires.inside.0 c.requires.inside.1);
@@ -32,7 +32,7 @@ loop-change-preserved c =
     let i = c.loop-change.change-index
     in let items = items_changed c.args.changes.now
     in let here : drop i items ≡ c.change-item.result.item ∷ drop (i + 1) items
-    = here_mapped (λ (x : ItemChange). x.item) c.args.changes.now i c.change-item.result c.loop-change-test.true
+    = here_changed c.args.changes.now i c.change-item.result c.loop-change-test.true
     ∙ ap (λ (x : ItemChange). x.item ∷ drop (i + 1) items) (sym c.change-item.is)
     in (
       less_on c.args.names.now c.loop-change.names c.release_item.new.names c.args.shelves.now c.loop-change.shelves

@@ -9,9 +9,20 @@ use Rattle.ifmap_graph.specs.Bringing.{flagged_items, graph_parts}
 use Rattle.ifmap_graph.specs.Named.{named_in}
 use Rattle.ifmap_graph.specs.Out.{items_changed}
 use Rattle.ifmap_graph.proofs.Brought.{brings_written, other_marked}
-use Rattle.ifmap_graph.proofs.Flipping.{inside_dropped, kept_both}
+use Rattle.ifmap_graph.proofs.Flipping.{inside_dropped}
 use Rattle.ifmap_graph.proofs.Made.{made_by, unmade_by}
 use Rattle.ifmap_graph.proofs.reserving.draft_or_take.Goals as goal
+use Rattle.ifmap_graph.proofs.Touching.{kept_both}
+
+pub draft_and_wait-requires : goal.draft_and_wait-requires
+draft_and_wait-requires c = record {
+  inside = (c.args.names.now, c.requires.inside);
+  bare = c.requires.bare;
+  none = c.requires.none;
+  ready = c.requires.ready;
+  there = c.requires.there;
+  fits = c.requires.fits;
+}
 
 pub drop_plan-requires-clause-there : goal.drop_plan-requires-clause-there
 drop_plan-requires-clause-there c =
@@ -25,8 +36,9 @@ take_shelves-requires c = record {
     c.drop_plan.new.links.items,
     inside_dropped c.args.names.now c.args.shelves.now c.drop_plan.new.shelves c.args.links.now.items c.drop_plan.new.links.items
         c.requires.inside
-        c.drop_plan.ensures.shelved (c.drop_plan.ensures.places ∙ c.draft_and_wait.ensures.places)
-        (λ at. c.drop_plan.ensures.ends at ∙ c.draft_and_wait.ensures.ends at) (c.drop_plan.ensures.now ∙ c.draft_and_wait.ensures.now)
+        c.drop_plan.ensures.shelved (c.drop_plan.ensures.stays.places ∙ c.draft_and_wait.ensures.places)
+        (λ at. c.drop_plan.ensures.stays.ends at ∙ c.draft_and_wait.ensures.ends at) (c.drop_plan.ensures.now
+        ∙ c.draft_and_wait.ensures.now)
         (c.drop_plan.ensures.next ∙ c.draft_and_wait.ensures.now)
         (kept_both c.args.links.now.items c.draft_and_wait.new.links.items c.drop_plan.new.links.items c.draft_and_wait.ensures.links
         c.drop_plan.ensures.links)
@@ -42,9 +54,9 @@ take_shelves-requires c = record {
         c.args.shelves.now
         c.drop_plan.new.shelves
         c.requires.brought.2
-        (c.drop_plan.ensures.places ∙ c.draft_and_wait.ensures.places)
-        (λ at. c.drop_plan.ensures.ends at ∙ c.draft_and_wait.ensures.ends at)
-        (λ x. c.drop_plan.ensures.waits x ∙ c.in-Err.ensures.waits x),
+        (c.drop_plan.ensures.stays.places ∙ c.draft_and_wait.ensures.places)
+        (λ at. c.drop_plan.ensures.stays.ends at ∙ c.draft_and_wait.ensures.ends at)
+        (λ x. c.drop_plan.ensures.stays.waits x ∙ c.in-Err.ensures.waits x),
   );
 }
 
@@ -65,8 +77,8 @@ returns-in-Err-clause-unmade c = λ first is grown brought.
     (c.take_shelves.ensures.less.inside c.drop_plan.new.links.items
     (inside_dropped c.args.names.now c.args.shelves.now c.drop_plan.new.shelves c.args.links.now.items c.drop_plan.new.links.items
     c.requires.inside
-    c.drop_plan.ensures.shelved (c.drop_plan.ensures.places ∙ c.draft_and_wait.ensures.places)
-    (λ at. c.drop_plan.ensures.ends at ∙ c.draft_and_wait.ensures.ends at) (c.drop_plan.ensures.now ∙ c.draft_and_wait.ensures.now)
+    c.drop_plan.ensures.shelved (c.drop_plan.ensures.stays.places ∙ c.draft_and_wait.ensures.places)
+    (λ at. c.drop_plan.ensures.stays.ends at ∙ c.draft_and_wait.ensures.ends at) (c.drop_plan.ensures.now ∙ c.draft_and_wait.ensures.now)
     (c.drop_plan.ensures.next ∙ c.draft_and_wait.ensures.now)
     (kept_both c.args.links.now.items c.draft_and_wait.new.links.items c.drop_plan.new.links.items c.draft_and_wait.ensures.links
     c.drop_plan.ensures.links)
@@ -77,12 +89,13 @@ returns-in-Err-clause-unmade c = λ first is grown brought.
     (omega (arith, grown.longer, c.drop_plan.ensures.links.long, c.draft_and_wait.ensures.links.long))
     (λ a own h. c.take_shelves.ensures.less.own a own
     (subst (λ p. IsHeld identifier_order c.args.names.now a (named_in p.entries a + own))
-    (sym (c.drop_plan.ensures.places ∙ c.draft_and_wait.ensures.places))
+    (sym (c.drop_plan.ensures.stays.places ∙ c.draft_and_wait.ensures.places))
     (grown.own a own h)))
     (c.take_shelves.ensures.taken first.shelves
     (brings_written (flagged_items (items_changed c.args.coming.now.changes.now) c.args.coming.now.fresh.now) first.shelves
     c.args.shelves.now
     c.drop_plan.new.shelves brought
-    (c.drop_plan.ensures.places ∙ c.draft_and_wait.ensures.places) (λ at. c.drop_plan.ensures.ends at ∙ c.draft_and_wait.ensures.ends at)
-    (λ x. c.drop_plan.ensures.waits x ∙ c.in-Err.ensures.waits x)))
+    (c.drop_plan.ensures.stays.places ∙ c.draft_and_wait.ensures.places) (λ at. c.drop_plan.ensures.stays.ends at
+    ∙ c.draft_and_wait.ensures.ends at)
+    (λ x. c.drop_plan.ensures.stays.waits x ∙ c.in-Err.ensures.waits x)))
     grown.kept c.take_shelves.ensures.less.named

@@ -1,9 +1,9 @@
 use Rattle.std.proofs.Common.{◌≤◌, Bool, List, length, ap, ◌∙◌, sym, subst}
+use Rattle.std.proofs.lemmas.Result.{on_err_weaker, on_ok_weaker}
 use Rattle.ifmap_graph.specs.Bringing.{BringsShelves, flagged_items, graph_parts}
 use Rattle.ifmap_graph.specs.Out.{items_changed}
 use Rattle.ifmap_graph.specs.Shelved.{rows_on_side}
 use Rattle.ifmap_graph.specs.Sides.{now}
-use Rattle.ifmap_graph.proofs.Joining.{on_err, on_ok}
 use Rattle.ifmap_graph.proofs.Made.{all_canon, unmade_by}
 use Rattle.ifmap_graph.proofs.reserving.make_ready.Goals as goal
 
@@ -28,7 +28,7 @@ take_shelves-requires c = record {
 
 pub returns-in-Ok-clause-made : goal.returns-in-Ok-clause-made
 returns-in-Ok-clause-made c =
-    on_ok c.draft_or_take.result
+    on_ok_weaker c.draft_or_take.result
     (λ made. made (graph_parts c.args.names.now c.args.shelves.now c.args.links.now.items) c.place_items.ensures.grown
     (subst (λ (l : List Bool). BringsShelves (flagged_items (items_changed c.args.changes.now) l) c.args.shelves.now
     c.place_items.new.shelves)
@@ -38,7 +38,7 @@ returns-in-Ok-clause-made c =
 
 pub returns-in-Ok-clause-unmade : goal.returns-in-Ok-clause-unmade
 returns-in-Ok-clause-unmade c =
-    on_err c.draft_or_take.result
+    on_err_weaker c.draft_or_take.result
     (λ unmade. unmade (graph_parts c.args.names.now c.args.shelves.now c.args.links.now.items) c.requires.inside c.place_items.ensures.grown
     (subst (λ (l : List Bool). BringsShelves (flagged_items (items_changed c.args.changes.now) l) c.args.shelves.now
     c.place_items.new.shelves)

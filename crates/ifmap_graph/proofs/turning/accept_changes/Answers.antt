@@ -1,58 +1,50 @@
-use Rattle.std.proofs.Common.{◌≡◌, ◌<◌, ◌≤◌, List, map, length, get_or, sym, ◌∙◌, arith}
-use Rattle.std.proofs.lemmas.List.{length-map}
-use Rattle.ifmap_ident.specs.declared.items.Item.{Item}
+use Rattle.std.proofs.Common.{◌<◌, ◌≤◌, length, get_or, sym, ◌∙◌, arith}
+use Rattle.std.proofs.lemmas.Simd.{map-map}
 use Rattle.ifmap_plans.specs.declared.plans.ItemChange.{ItemChange}
-use Rattle.ifmap_graph.proofs.Accepting.{accepted_bare, accepted_lists, accepted_now, accepting, accepts_on, drafted_at, here_mapped, maps_join, some_in, stored_at}
+use Rattle.ifmap_graph.proofs.Accepting.{accepted_bare, accepted_lists, accepted_now, accepting, accepts_on, drafted_at, here_changed, some_in, stored_at, as_many}
 use Rattle.ifmap_graph.proofs.turning.accept_changes.Goals as goal
-
-abbrev items : List ItemChange → List Item
-items changes = map (λ (x : ItemChange). x.item) changes
-
-same_length : (changes : List ItemChange) → length (items changes) ≡ length changes
-same_length changes = length-map changes (λ (x : ItemChange). x.item)
+use Rattle.ifmap_graph.specs.Out.{items_changed}
 
 pub loop-i-init : goal.loop-i-init
 loop-i-init c =
-    accepting (items c.args.changes.now) c.args.shelves.now c.args.lists.now.items c.requires.shelved c.requires.out.drafted
+    accepting (items_changed c.args.changes.now) c.args.shelves.now c.args.lists.now.items c.requires.shelved c.requires.out.drafted
     c.requires.out.within
-    c.requires.out.apart (c.requires.long ∙ sym (same_length c.args.changes.now))
+    c.requires.out.apart (c.requires.long ∙ sym (as_many c.args.changes.now))
 
 pub accept_at-requires-clause-room : goal.accept_at-requires-clause-room
-accept_at-requires-clause-room c = omega (arith, c.loop-i-test.true, c.loop-i.invariant.long, same_length c.args.changes.now)
+accept_at-requires-clause-room c = omega (arith, c.loop-i-test.true, c.loop-i.invariant.long, as_many c.args.changes.now)
 
 pub accept_at-requires-clause-drafted : goal.accept_at-requires-clause-drafted
 accept_at-requires-clause-drafted c = λ d.
-    drafted_at (items c.args.changes.now) c.args.shelves.now c.loop-i.lists.items c.loop-i.shelves c.loop-i.i
+    drafted_at (items_changed c.args.changes.now) c.args.shelves.now c.loop-i.lists.items c.loop-i.shelves c.loop-i.i
     (get_or c.args.changes.now c.loop-i.i d).item
-    (omega (arith, c.loop-i-test.true, same_length c.args.changes.now))
-    (here_mapped (λ (x : ItemChange). x.item) c.args.changes.now c.loop-i.i d (omega (arith, c.loop-i-test.true))) c.loop-i.invariant
+    (omega (arith, c.loop-i-test.true, as_many c.args.changes.now))
+    (here_changed c.args.changes.now c.loop-i.i d (omega (arith, c.loop-i-test.true))) c.loop-i.invariant
 
 pub loop-i-preserved : goal.loop-i-preserved
 loop-i-preserved c =
     let within : c.loop-i.i < length c.args.changes.now = omega (arith, c.loop-i-test.true)
     in let d = some_in c.args.changes.now c.loop-i.i within
-    in accepts_on (items c.args.changes.now) c.args.shelves.now c.loop-i.lists.items c.loop-i.shelves c.loop-i.i
+    in accepts_on (items_changed c.args.changes.now) c.args.shelves.now c.loop-i.lists.items c.loop-i.shelves c.loop-i.i
     (get_or c.args.changes.now c.loop-i.i d).item
-    (omega (arith, within, same_length c.args.changes.now)) (here_mapped (λ (x : ItemChange). x.item) c.args.changes.now c.loop-i.i d
+    (omega (arith, within, as_many c.args.changes.now)) (here_changed c.args.changes.now c.loop-i.i d
     within) c.loop-i.invariant
     c.accept_at.new.lists.items c.accept_at.new.shelves c.accept_at.ensures.shelved c.accept_at.ensures.next (c.accept_at.ensures.drafts d)
-    (c.accept_at.ensures.others d) c.accept_at.ensures.ends c.accept_at.ensures.waits c.accept_at.ensures.places
+    (c.accept_at.ensures.others d) c.accept_at.ensures.stays.ends c.accept_at.ensures.stays.waits c.accept_at.ensures.stays.places
     (c.accept_at.ensures.lists d)
 
 pub returns : goal.returns
 returns c =
-    let done : length (items c.args.changes.now) ≤ c.loop-i.i = omega (arith, c.loop-i-test.false, same_length c.args.changes.now)
+    let done : length (items_changed c.args.changes.now) ≤ c.loop-i.i = omega (arith, c.loop-i-test.false, as_many c.args.changes.now)
     in record {
       shelved = c.loop-i.invariant.shelved;
-      bare = accepted_bare (items c.args.changes.now) c.args.shelves.now c.loop-i.lists.items c.loop-i.shelves c.loop-i.i done
+      bare = accepted_bare (items_changed c.args.changes.now) c.args.shelves.now c.loop-i.lists.items c.loop-i.shelves c.loop-i.i done
           c.loop-i.invariant;
       next = c.loop-i.invariant.same;
-      now = accepted_now (items c.args.changes.now) c.args.shelves.now c.loop-i.lists.items c.loop-i.shelves c.loop-i.i done
+      now = accepted_now (items_changed c.args.changes.now) c.args.shelves.now c.loop-i.lists.items c.loop-i.shelves c.loop-i.i done
           c.loop-i.invariant;
-      lists = accepted_lists (items c.args.changes.now) c.args.shelves.now c.loop-i.lists.items c.loop-i.shelves c.loop-i.i done
+      lists = accepted_lists (items_changed c.args.changes.now) c.args.shelves.now c.loop-i.lists.items c.loop-i.shelves c.loop-i.i done
           c.loop-i.invariant
-          ∙ maps_join (stored_at c.args.shelves.now) (λ (x : ItemChange). x.item) c.args.changes.now;
-      ends = c.loop-i.invariant.ends;
-      waits = c.loop-i.invariant.waits;
-      places = c.loop-i.invariant.places;
+          ∙ map-map (stored_at c.args.shelves.now) (λ (x : ItemChange). x.item) c.args.changes.now;
+      stays = record { ends = c.loop-i.invariant.ends; waits = c.loop-i.invariant.waits; places = c.loop-i.invariant.places };
     }

@@ -21,3 +21,6 @@ returns-clause-others c = λ x f.
       c.accept.ensures.now x ∙ ap (λ b. stored_on x (cond b (rows_on_side next c.args.shelves.now) (rows_on_side now c.args.shelves.now)))
           g,
     )
+
+pub returns-clause-stays : goal.returns-clause-stays
+returns-clause-stays c = record { ends = c.accept.ensures.ends; waits = c.accept.ensures.waits; places = c.accept.ensures.places }

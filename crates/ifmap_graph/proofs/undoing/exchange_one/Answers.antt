@@ -6,3 +6,6 @@ exchange-requires-clause-drafted c = no_draft_on c.args.shelves.now c.args.item.
 
 pub returns-clause-bare : goal.returns-clause-bare
 returns-clause-bare c = c.exchange.ensures.bare c.requires.bare
+
+pub returns-clause-stays : goal.returns-clause-stays
+returns-clause-stays c = record { ends = c.exchange.ensures.ends; waits = c.exchange.ensures.waits; places = c.exchange.ensures.places }

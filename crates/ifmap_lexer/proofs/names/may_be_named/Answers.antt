@@ -1,5 +1,5 @@
 use Rattle.std.proofs.Common.{refl, arith}
-use Rattle.ifmap_lexer.specs.Names.{is_name_byte}
+use Rattle.ifmap_elem.specs.laws.NameBytes.{is_name_byte}
 use Rattle.ifmap_lexer.specs.declared.names.TheConstants.{NAME_BYTES}
 use Rattle.ifmap_lexer.proofs.Tables.{agree_below, from_table}
 use Rattle.ifmap_lexer.proofs.names.may_be_named.Goals as goal

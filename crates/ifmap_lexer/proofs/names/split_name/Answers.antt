@@ -1,6 +1,6 @@
 use Rattle.std.proofs.Common.{ℕ, ◌≤◌, length, sym, subst}
 use Rattle.std.proofs.lemmas.List.Sums.{prefix_len-le-length}
-use Rattle.ifmap_lexer.specs.Names.{is_name_byte}
+use Rattle.ifmap_elem.specs.laws.NameBytes.{is_name_byte}
 use Rattle.ifmap_lexer.proofs.SplitLaws.{cuts_at_len}
 use Rattle.ifmap_lexer.proofs.names.split_name.Goals as goal
 

@@ -1,6 +1,6 @@
 use Rattle.std.proofs.lemmas.Result.{err_from_is_err_and}
-use Rattle.ifmap_lexer.specs.Kinds.{Stands}
-use Rattle.ifmap_lexer.specs.declared.kinds.Kind.TheVariants as kinds
+use Rattle.ifmap_elem.specs.Kinds.{Stands}
+use Rattle.ifmap_elem.specs.declared.tokens.TokenKind.TheVariants as kinds
 use Rattle.ifmap_lexer.proofs.Basics.{refuses_by}
 use Rattle.ifmap_lexer.proofs.TokenLaws.{no_opening_end, end_name, no_end_end}
 use Rattle.ifmap_lexer.proofs.tokens.end_tag.Goals as goal

@@ -1,4 +1,4 @@
-use Rattle.ifmap_lexer.specs.declared.kinds.Kind.TheVariants as kinds
+use Rattle.ifmap_elem.specs.declared.tokens.TokenKind.TheVariants as kinds
 use Rattle.ifmap_lexer.proofs.TokenLaws.{kind_refused, of_no_kind}
 use Rattle.ifmap_lexer.proofs.tokens.first_token.Goals as goal
 

@@ -1,8 +1,8 @@
 use Rattle.std.proofs.Common.{sym, ◌∙◌, subst, List, ℕ}
 use Rattle.std.proofs.lemmas.Result.{err_from_is_err_and}
 use Rattle.ifmap_elem.specs.Values.{IsText}
-use Rattle.ifmap_lexer.specs.Kinds.{Stands}
-use Rattle.ifmap_lexer.specs.declared.kinds.Kind.TheVariants as kinds
+use Rattle.ifmap_elem.specs.Kinds.{Stands}
+use Rattle.ifmap_elem.specs.declared.tokens.TokenKind.TheVariants as kinds
 use Rattle.ifmap_lexer.proofs.Basics.{refuses_by, is_none, is_some_list}
 use Rattle.ifmap_lexer.proofs.TokenLaws.{SomeMeaning, no_own, no_text_end, no_text_characters, some_text_of, text_found}
 use Rattle.ifmap_lexer.proofs.tokens.text.Goals as goal

@@ -4,6 +4,7 @@ use Rattle.ifmap_elem.specs.Values.{reference_value}
 use Rattle.ifmap_lexer.proofs.ExpansionLaws.{along_unended, along_unknown, along_next, along_end}
 use Rattle.ifmap_lexer.proofs.SplitLaws.{after_is_utf8}
 use Rattle.ifmap_lexer.proofs.values.expand.Goals as goal
+use Rattle.ifmap_elem.specs.Chars.{ampersand, semicolon}
 
 pub returns-in_default-split_char-clause-refused : goal.returns-in_default-split_char-clause-refused
 returns-in_default-split_char-clause-refused c =
@@ -28,7 +29,8 @@ loop-run-preserved c =
     let name = c.in-Some-split_char.name.now in
     let next = c.in-Some-split_char.next.now in
     let character = c.in-Some-character_named.character in (
-      after_is_utf8 59 after name next (lit< tt) second.bytes_are (after_is_utf8 38 rest run after (lit< tt) first.bytes_are inv.0),
+      after_is_utf8 semicolon after name next (lit< tt) second.bytes_are
+          (after_is_utf8 ampersand rest run after (lit< tt) first.bytes_are inv.0),
       along_next c.args.place c.args.written.now (string_bytes c.loop-run.text) rest run after inv.1 first name next second
           (string_bytes c.push.new.self) character
           (ap reference_value (sym c.as_bytes.ensures.value) ∙ sym c.character_named.ensures ∙ c.in-Some-character_named.is)

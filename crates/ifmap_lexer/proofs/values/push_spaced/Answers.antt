@@ -3,6 +3,7 @@ use Rattle.ifmap_elem.specs.Values.{as_space}
 use Rattle.ifmap_lexer.proofs.RunLaws.{newline_step, two_more, last_line}
 use Rattle.ifmap_lexer.proofs.SplitLaws.{after_is_utf8}
 use Rattle.ifmap_lexer.proofs.values.push_spaced.Goals as goal
+use Rattle.ifmap_elem.specs.Chars.{line_feed, space_character}
 
 pub loop-front-preserved : goal.loop-front-preserved
 loop-front-preserved c =
@@ -11,9 +12,9 @@ loop-front-preserved c =
     let rest = c.loop-front.rest.now in
     let front = c.in-Some.front.now in
     let after = c.in-Some.after.now in (
-      after_is_utf8 10 rest front after (lit< tt) cut.bytes_are inv.0,
+      after_is_utf8 line_feed rest front after (lit< tt) cut.bytes_are inv.0,
       two_more _ (string_bytes c.loop-front.text) (string_bytes c.push_untabbed.new.text) (map as_space rest)
-          (string_bytes c.push.new.self) (map as_space front) (0x20 ∷ []) inv.1
+          (string_bytes c.push.new.self) (map as_space front) (space_character ∷ []) inv.1
           c.in_ok-push_untabbed.ensures
           (c.in_ok-push.ensures.bytes ∙ ap (λ x. string_bytes c.push_untabbed.new.text ++ x) (c.in_ok-push.ensures.ascii (lit< tt)))
           (map as_space after) (newline_step rest front after cut),

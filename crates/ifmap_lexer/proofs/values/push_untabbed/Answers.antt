@@ -3,6 +3,7 @@ use Rattle.ifmap_elem.specs.Values.{as_space}
 use Rattle.ifmap_lexer.proofs.RunLaws.{tab_step, tab_behind, untabbed, two_more, last_str}
 use Rattle.ifmap_lexer.proofs.SplitLaws.{after_is_utf8}
 use Rattle.ifmap_lexer.proofs.values.push_untabbed.Goals as goal
+use Rattle.ifmap_elem.specs.Chars.{space_character}
 
 pub loop-front-preserved : goal.loop-front-preserved
 loop-front-preserved c =
@@ -14,7 +15,7 @@ loop-front-preserved c =
       after_is_utf8 9 rest front after (lit< tt) cut.bytes_are inv.0,
       tab_behind rest front after cut inv.1,
       two_more _ (string_bytes c.loop-front.text) (string_bytes c.push_str.new.self) (map as_space rest) (string_bytes c.push.new.self)
-          front (0x20 ∷ []) inv.2
+          front (space_character ∷ []) inv.2
           c.in_ok-push_str.ensures.bytes
           (c.in_ok-push.ensures.bytes ∙ ap (λ x. string_bytes c.push_str.new.self ++ x) (c.in_ok-push.ensures.ascii (lit< tt)))
           (map as_space after) (tab_step rest front after cut inv.1),

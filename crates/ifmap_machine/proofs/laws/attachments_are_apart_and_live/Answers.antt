@@ -3,8 +3,8 @@ use Rattle.ifmap_machine.proofs.Goods.{graph_none}
 use Rattle.ifmap_machine.proofs.Graphs.{history_good}
 use Rattle.ifmap_machine.proofs.Lives.{lives_after}
 use Rattle.ifmap_machine.proofs.laws.attachments_are_apart_and_live.Goals as goal
-use Rattle.ifmap_plans.specs.Plans.{AreWhole}
-use Rattle.ifmap_view.specs.Attachments.{IsGraph}
+use Rattle.ifmap_folds.specs.ifmap_plans.Plans.{AreWhole}
+use Rattle.ifmap_publish.specs.ifmap_view.Attachments.{IsGraph}
 
 pub returns-clause-lives : goal.returns-clause-lives
 returns-clause-lives c = λ ttl history. lives_after ttl history

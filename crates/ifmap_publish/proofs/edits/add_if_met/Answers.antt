@@ -1,5 +1,5 @@
 use Rattle.std.proofs.Common.{◌≡◌, ◌∙◌, ◌∷◌, ◌++◌, [], ap, false, rules, true}
-use Rattle.ifmap_filter.specs.Meets.{meets_optional}
+use Rattle.ifmap_requests.specs.ifmap_filter.Meets.{meets_optional}
 use Rattle.ifmap_meta.specs.declared.stored.Stored.{Stored}
 use Rattle.ifmap_publish.proofs.Meeting.{met_not, met_too}
 use Rattle.ifmap_publish.proofs.edits.add_if_met.Goals as goal

@@ -1,4 +1,4 @@
-use Rattle.ifmap_filter.specs.Meets.{meets_optional}
+use Rattle.ifmap_requests.specs.ifmap_filter.Meets.{meets_optional}
 use Rattle.ifmap_publish.proofs.Meeting.{passes_by, passes_over}
 use Rattle.ifmap_publish.proofs.edits.pass_row.Goals as goal
 

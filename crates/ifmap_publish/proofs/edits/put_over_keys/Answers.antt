@@ -1,5 +1,5 @@
 use Rattle.std.proofs.Common.{◌≡◌, ◌∙◌, ap}
-use Rattle.ifmap_plans.specs.Lists.{next_on}
+use Rattle.ifmap_rows.specs.ifmap_plans.Lists.{next_on}
 use Rattle.ifmap_publish.specs.Working.{over_keys}
 use Rattle.ifmap_publish.proofs.Editing.{on_ok_gives}
 use Rattle.ifmap_publish.proofs.Gathering.{keyed_apart, keyed_over}

@@ -1,7 +1,6 @@
 use Rattle.std.proofs.Common.{◌∙◌, ap, cond, sym, None}
 use Rattle.std.specs.BTreeMap.{get, is_at}
-use Rattle.ifmap_ident.specs.Items.{item_order}
-use Rattle.ifmap_plans.specs.laws.KeyLaws.{items_tied}
+use Rattle.ifmap_ident.specs.Items.{item_order, items_tie}
 use Rattle.ifmap_publish.specs.Working.{edit_or}
 use Rattle.ifmap_publish.proofs.Entries.{edits_removed}
 use Rattle.ifmap_publish.proofs.working.take_edit.Goals as goal
@@ -16,7 +15,7 @@ returns-in-Some-clause-left c rows all =
 pub returns-in-Some-clause-others : goal.returns-in-Some-clause-others
 returns-in-Some-clause-others c x differ =
     c.remove.ensures.updates.0 x
-    ∙ ap (λ b. cond b None (get item_order c.args.edits.now x)) (sym (items_tied c.args.item.now x) ∙ differ)
+    ∙ ap (λ b. cond b None (get item_order c.args.edits.now x)) (sym (items_tie c.args.item.now x) ∙ differ)
 
 pub returns-in-None-clause-edit : goal.returns-in-None-clause-edit
 returns-in-None-clause-edit c =

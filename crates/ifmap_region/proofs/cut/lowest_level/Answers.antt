@@ -12,7 +12,7 @@ loop-i-preserved g c =
     c.args.basis.now.base.now.entries)) in
     elim c.match-at.branch [
       | in-Some w ↦ rw w.least-is record {
-        only = lesser_only _ _ _ _ w.lesser-least.ensures.one c.loop-i.invariant.only
+        only = lesser_only _ _ _ _ w.lesser_depth-least.ensures.one c.loop-i.invariant.only
             (IfSome_then w.next_of.result w.next_of.ensures.only (λ k n. (
               w.in-Some.neighbour,
               (
@@ -28,8 +28,8 @@ loop-i-preserved g c =
             )));
         least = least_more (g.G.LinkSource.link c.args.basis.now.graph.now c.args.number) c.loop-i.i given c.loop-i.least
             c.loop-i.invariant.least
-            w.next_of.result w.lesser-least.result w.in-Some.neighbour
-            (sym w.in-Some.ensures.link) w.next_of.ensures.each w.lesser-least.ensures.first w.lesser-least.ensures.second;
+            w.next_of.result w.lesser_depth-least.result w.in-Some.neighbour
+            (sym w.in-Some.ensures.link) w.next_of.ensures.each w.lesser_depth-least.ensures.first w.lesser_depth-least.ensures.second;
         steps = omega (arith, c.at.ensures.step, c.loop-i.invariant.steps);
       }
       | in_default w ↦ rw w.least-is record {

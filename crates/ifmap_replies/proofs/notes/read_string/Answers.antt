@@ -3,7 +3,7 @@ use Rattle.std.specs.List.{list_all}
 use Rattle.ifmap_elem.specs.Building.{is_bare}
 use Rattle.ifmap_elem.specs.declared.elements.Child.{Child}
 use Rattle.ifmap_elem.specs.declared.elements.Element.{Element}
-use Rattle.ifmap_filter.specs.Holding.{text_among}
+use Rattle.ifmap_forms.specs.ifmap_filter.Holding.{text_among}
 use Rattle.ifmap_ident.specs.Parts.{has_only}
 use Rattle.ifmap_ident.specs.declared.codes.Code.{Code}
 use Rattle.ifmap_ident.specs.declared.codes.Code.TheVariants.{Failure}

@@ -1,5 +1,5 @@
 use Rattle.std.proofs.Common.{◌≡◌, take}
-use Rattle.ifmap_filter.specs.Holding.{text_among}
+use Rattle.ifmap_forms.specs.ifmap_filter.Holding.{text_among}
 use Rattle.ifmap_replies.proofs.notes.text_among.Given as goal
 
 abbrev pub invariant-loop-child : goal.invariant-loop-child

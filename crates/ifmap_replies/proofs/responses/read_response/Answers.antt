@@ -1,5 +1,5 @@
 use Rattle.std.proofs.Common.{◌∙◌, sym}
-use Rattle.ifmap_filter.specs.Holding.{is_name}
+use Rattle.ifmap_forms.specs.ifmap_filter.Holding.{is_name}
 use Rattle.ifmap_ident.specs.declared.codes.Code.TheVariants.{Failure}
 use Rattle.ifmap_forms.specs.AnswerLaws.{refused_test}
 use Rattle.ifmap_forms.specs.Tables.{form_check}

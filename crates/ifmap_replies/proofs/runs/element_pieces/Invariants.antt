@@ -1,6 +1,6 @@
 use Rattle.std.proofs.Common.{◌≡◌, ◌∷◌, map, take}
 use Rattle.ifmap_elem.specs.Outlines.{outline_child}
-use Rattle.ifmap_replies.specs.Results.{as_children}
+use Rattle.ifmap_elem.specs.Building.{as_children}
 use Rattle.ifmap_replies.specs.Runs.{entry_elements}
 use Rattle.ifmap_replies.proofs.runs.element_pieces.Given as goal
 

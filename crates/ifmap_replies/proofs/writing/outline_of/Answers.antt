@@ -5,6 +5,6 @@ use Rattle.ifmap_replies.proofs.writing.outline_of.Goals as goal
 
 pub returns : goal.returns
 returns c =
-    IfOk-weaker c.around-3.result _ _
+    IfOk-weaker c.wrap_outline-3.result _ _
     (λ o h. h ∙ ap (around c.args.names.now.envelope) (c.in_ok-body.ensures ∙ ap (around c.args.names.now.body)
-    (c.in_ok-response.ensures ∙ ap (around c.args.names.now.response) c.in_ok-result.ensures))) c.around-3.ensures
+    (c.in_ok-response.ensures ∙ ap (around c.args.names.now.response) c.in_ok-result.ensures))) c.wrap_outline-3.ensures

@@ -2,7 +2,7 @@ use Rattle.std.proofs.Common.{[], ◌∙◌, List, Ok, codes, subst, sym}
 use Rattle.ifmap_elem.specs.declared.elements.Child.{Child}
 use Rattle.ifmap_ident.specs.Parts.{value_of}
 use Rattle.ifmap_ident.specs.declared.codes.Code.TheVariants.{Failure}
-use Rattle.ifmap_reader.specs.declared.scoping.Scope.{Scope}
+use Rattle.ifmap_ident.specs.ifmap_reader.declared.scoping.Scope.{Scope}
 use Rattle.ifmap_forms.specs.declared.errors.FormError.TheVariants.{Named}
 use Rattle.ifmap_forms.specs.AnswerLaws.{found_alone, refused_alone, refused_exit}
 use Rattle.ifmap_forms.specs.Answers.{IsCheckRefusal}

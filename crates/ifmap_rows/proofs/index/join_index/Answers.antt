@@ -4,7 +4,7 @@ use Rattle.std.specs.List.{list_any}
 use Rattle.std.specs.Ordering.{eq_by_cmp}
 use Rattle.ifmap_lemmas.specs.Filters.{filter_again}
 use Rattle.ifmap_meta.specs.declared.stored.Stored.{Stored}
-use Rattle.ifmap_view.specs.Attachments.{stored_order}
+use Rattle.ifmap_plans.specs.ifmap_view.Attachments.{stored_order}
 use Rattle.ifmap_rows.specs.Indexed.{IsJoined, word_order}
 use Rattle.ifmap_rows.proofs.Joining.{joined_again}
 use Rattle.ifmap_rows.proofs.index.join_index.Goals as goal

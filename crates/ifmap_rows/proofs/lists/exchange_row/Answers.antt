@@ -4,7 +4,7 @@ use Rattle.std.specs.Ordering.{eq_by_cmp}
 use Rattle.ifmap_lemmas.specs.Having.{has_from}
 use Rattle.ifmap_meta.specs.declared.stored.Stored.{Stored}
 use Rattle.ifmap_plans.specs.Placing.{IsEqualAt}
-use Rattle.ifmap_view.specs.Attachments.{stored_order}
+use Rattle.ifmap_plans.specs.ifmap_view.Attachments.{stored_order}
 use Rattle.ifmap_rows.proofs.lists.exchange_row.Goals as goal
 
 pub returns-in-Ok-clause-rows : goal.returns-in-Ok-clause-rows

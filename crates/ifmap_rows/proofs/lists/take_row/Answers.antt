@@ -5,7 +5,7 @@ use Rattle.ifmap_lemmas.specs.Having.{has_from}
 use Rattle.ifmap_meta.specs.declared.stored.Stored.{Stored}
 use Rattle.ifmap_plans.specs.Placing.{IsEqualAt}
 use Rattle.ifmap_plans.specs.laws.KeyLaws.{stored_total}
-use Rattle.ifmap_view.specs.Attachments.{stored_order}
+use Rattle.ifmap_plans.specs.ifmap_view.Attachments.{stored_order}
 use Rattle.ifmap_rows.specs.laws.RisingLaws.{none_out, remove_is}
 use Rattle.ifmap_rows.proofs.lists.take_row.Goals as goal
 

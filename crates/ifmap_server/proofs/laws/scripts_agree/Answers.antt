@@ -1,4 +1,4 @@
-use Rattle.ifmap_machine.specs.State.{opening, session_seconds}
+use Rattle.ifmap_core.specs.ifmap_machine.State.{opening, session_seconds}
 use Rattle.ifmap_server.specs.Histories.{history_of}
 use Rattle.ifmap_server.proofs.ScriptHistories.{history_fit, history_legal}
 use Rattle.ifmap_server.proofs.laws.scripts_agree.Goals as goal

@@ -3,7 +3,7 @@ use Rattle.std.proofs.Common.{arith, inl, inr}
 use Rattle.std.proofs.lemmas.Result.{err_from_is_err_and}
 use Rattle.ifmap_server.proofs.SameErrors.{err_again}
 use Rattle.ifmap_server.proofs.Framing.{cut_fault, header_fault, line_fault, long_fault, short_awaits, whole}
-use Rattle.ifmap_server.proofs.Taking.{takes_more}
+use Rattle.ifmap_input.specs.InputLaws.{takes_more}
 use Rattle.ifmap_server.proofs.replaying.next_frame.Goals as goal
 use Rattle.ifmap_server.proofs.replaying.next_frame.Goals.{then-end-offset-via-then-end-offset, then-end-offset-via-else-end-offset+in_ok-await_bytes+then-not-branch}
 
@@ -22,7 +22,7 @@ returns-in_default-2-clause-fault g c =
     λ e. (
       c.in_ok-line.ensures.taken,
       header_fault _ _ _ c.in-Some.line (rw c.in-Some.is at c.in_ok-line.ensures.line)
-          (rw (c.in_default-2.is, c.pending.ensures) at c.in_ok-header.ensures.none),
+          (rw (c.in_default-2.is, c.pending_bytes.ensures) at c.in_ok-header.ensures.none),
     )
 
 pub returns-in_err-await_bytes-clause-read : goal.returns-in_err-await_bytes-clause-read
@@ -35,7 +35,7 @@ returns-in_err-await_bytes-clause-read g c =
       (let offset = c.requires in
           let ends = c.if-end-offset.false in
           inr (short_awaits _ _ _ _ _ c.in-Some.line c.in-Some-2.header f.0 (rw c.in-Some.is at c.in_ok-line.ensures.line)
-          (rw c.pending.ensures at header) f.1 (omega arith))),
+          (rw c.pending_bytes.ensures at header) f.1 (omega arith))),
     ))
 
 pub returns-then-end-offset-clause-fault : goal.returns-then-end-offset-clause-fault
@@ -48,14 +48,14 @@ returns-then-end-offset-clause-fault g c =
           rw (w.input-is, w.source-is) (λ e. (
             c.in_ok-line.ensures.taken,
             long_fault _ _ _ c.in-Some.line c.in-Some-2.header (rw c.in-Some.is at c.in_ok-line.ensures.line)
-                (rw c.pending.ensures at header) (omega arith),
+                (rw c.pending_bytes.ensures at header) (omega arith),
           ))
       | then-end-offset-via-else-end-offset+in_ok-await_bytes+then-not-branch w ↦
           let end = rw w.if-not-branch.true at w.in_ok-await_bytes.ensures.end in
           rw (w.input-is, w.source-is) (λ e. (
             takes_more _ _ _ _ _ _ c.in_ok-line.ensures.taken w.in_ok-await_bytes.ensures.taken,
             cut_fault _ _ _ _ _ c.in-Some.line c.in-Some-2.header w.in_ok-await_bytes.ensures.taken
-                (rw c.in-Some.is at c.in_ok-line.ensures.line) (rw c.pending.ensures at header) _ end.0 end.1,
+                (rw c.in-Some.is at c.in_ok-line.ensures.line) (rw c.pending_bytes.ensures at header) _ end.0 end.1,
           ))
     ]
 
@@ -63,6 +63,6 @@ pub returns-clause-frame : goal.returns-clause-frame
 returns-clause-frame g c =
     let header = rw c.in-Some-2.is at c.in_ok-header.ensures.found in
     whole _ _ _ _ _ c.in-Some.line c.in-Some-2.header c.in_ok-await_bytes.ensures.taken (rw c.in-Some.is at c.in_ok-line.ensures.line)
-    (rw c.pending.ensures at header)
+    (rw c.pending_bytes.ensures at header)
     (rw c.if-not-branch.false at c.in_ok-await_bytes.ensures.enough) (let offset = c.requires in let ends = c.if-end-offset.false in
     omega arith)

@@ -8,8 +8,8 @@ use Rattle.ifmap_desks.specs.Machines.{core_holds, core_reply}
 use Rattle.ifmap_hall.proofs.hall.Hall.TheSendSync as Hall
 use Rattle.ifmap_hall.specs.contracts.hall.Hall as the_hall
 use Rattle.ifmap_hall.specs.declared.machine.Machine.{Ghosts}
-use Rattle.ifmap_machine.specs.contracts.events.Answer as the_answer
-use Rattle.ifmap_machine.specs.State.{opening}
+use Rattle.ifmap_desks.specs.ifmap_machine.contracts.events.Answer as the_answer
+use Rattle.ifmap_desks.specs.ifmap_machine.State.{opening}
 use Rattle.ifmap_serving.proofs.Sending.{fit_send, machine_send}
 
 -- a hall over a core can be shared, whatever the core does as its machine

@@ -1,4 +1,4 @@
-use Rattle.ifmap_dialogue.specs.Desks.{desk_seen}
+use Rattle.ifmap_desks.specs.ifmap_dialogue.Desks.{desk_seen}
 use Rattle.ifmap_serving.specs.Connections.{worker}
 use Rattle.ifmap_serving.specs.Works.{Works, door_seen}
 use Rattle.ifmap_serving.proofs.working.work.Given as goal

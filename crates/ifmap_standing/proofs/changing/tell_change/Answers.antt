@@ -5,7 +5,7 @@ use Rattle.ifmap_delta.specs.Ways.{HasSameSearch}
 use Rattle.std.specs.List.{AllByRecursion, zip}
 use Rattle.ifmap_ident.specs.Items.{IsCanonItem}
 use Rattle.ifmap_lemmas.specs.Results.{on_err}
-use Rattle.ifmap_plans.specs.declared.plans.Plan.{Plan}
+use Rattle.ifmap_delta.specs.ifmap_plans.declared.plans.Plan.{Plan}
 use Rattle.ifmap_standing.specs.Kept.{AtEach, KeepsSame, StaysRelated}
 use Rattle.ifmap_standing.specs.News.{news_of_each}
 use Rattle.ifmap_standing.specs.Standing.{standing_of}

@@ -1,9 +1,9 @@
 use Rattle.std.proofs.Common.{◌≡◌, ◌∙◌, ap, sym, false, filter}
 use Rattle.ifmap_changes.specs.Between.{IsWithinLimit, sessions_left}
 use Rattle.ifmap_lemmas.specs.Filters.{all_weaker}
-use Rattle.ifmap_machine.specs.Telling.{is_overfull}
+use Rattle.ifmap_changes.specs.ifmap_machine.Telling.{is_overfull}
 use Rattle.ifmap_search.specs.Sizes.{queue_size}
-use Rattle.ifmap_session.specs.Sessions.{Session, is_named}
+use Rattle.ifmap_changes.specs.ifmap_session.Sessions.{Session, is_named}
 use Rattle.ifmap_subscribes.proofs.ToldSizes.{found_before, found_left, live_before}
 use Rattle.ifmap_subscribes.proofs.names.name_before.Goals as goal
 

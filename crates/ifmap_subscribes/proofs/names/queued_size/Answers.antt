@@ -1,6 +1,6 @@
 use Rattle.std.proofs.Common.{◌∙◌, arith, ◌^◌, ◌-◌, ◌<◌, filter}
 use Rattle.ifmap_search.specs.Sizes.{queue_size}
-use Rattle.ifmap_session.specs.Sessions.{is_named}
+use Rattle.ifmap_changes.specs.ifmap_session.Sessions.{is_named}
 use Rattle.ifmap_subscribes.proofs.ToldSizes.{exact, part_within, queue_few}
 use Rattle.ifmap_subscribes.proofs.names.queued_size.Goals as goal
 

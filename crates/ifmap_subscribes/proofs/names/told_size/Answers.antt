@@ -1,7 +1,7 @@
 use Rattle.std.proofs.Common.{◌∙◌, ap, sym, Some, filter}
 use Rattle.ifmap_search.specs.Sizes.{queue_size}
-use Rattle.ifmap_session.specs.Sessions.{Session, is_named}
-use Rattle.ifmap_tellings.specs.declared.tellings.Telling.TheVariants.{After, Alone}
+use Rattle.ifmap_changes.specs.ifmap_session.Sessions.{Session, is_named}
+use Rattle.ifmap_changes.specs.ifmap_tellings.declared.tellings.Telling.TheVariants.{After, Alone}
 use Rattle.ifmap_subscribes.proofs.ToldSizes.{after_of_name, alone_of_name, none_told}
 use Rattle.ifmap_subscribes.proofs.names.told_size.Goals as goal
 

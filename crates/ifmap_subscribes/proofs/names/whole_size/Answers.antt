@@ -1,7 +1,7 @@
 use Rattle.std.proofs.Common.{◌∙◌, ap, sym, arith, ◌^◌, ◌-◌, ◌<◌, Some}
 use Rattle.ifmap_search.specs.Sizes.{queue_size}
-use Rattle.ifmap_session.specs.Sessions.{Session}
-use Rattle.ifmap_tellings.specs.declared.tellings.Telling.TheVariants.{After, Alone}
+use Rattle.ifmap_changes.specs.ifmap_session.Sessions.{Session}
+use Rattle.ifmap_changes.specs.ifmap_tellings.declared.tellings.Telling.TheVariants.{After, Alone}
 use Rattle.ifmap_subscribes.proofs.ToldSizes.{after_size, alone_size, exact, none_told, queue_few}
 use Rattle.ifmap_subscribes.proofs.names.whole_size.Goals as goal
 

@@ -5,8 +5,8 @@ use Rattle.std.specs.Map.{lookup}
 use Rattle.std.specs.Ordering.{nat_cmp}
 use Rattle.ifmap_changes.specs.Between.{IsWithinLimit}
 use Rattle.ifmap_lemmas.specs.Filters.{all_weaker}
-use Rattle.ifmap_machine.specs.Telling.{is_overfull}
-use Rattle.ifmap_session.specs.Sessions.{Session}
+use Rattle.ifmap_changes.specs.ifmap_machine.Telling.{is_overfull}
+use Rattle.ifmap_changes.specs.ifmap_session.Sessions.{Session}
 use Rattle.ifmap_subscribes.proofs.Nothing.{nothing_counted, nothing_stands}
 use Rattle.ifmap_subscribes.proofs.ToldSizes.{live_before}
 use Rattle.ifmap_subscribes.specs.declared.readying.Readying.{Readying}

@@ -1,6 +1,6 @@
 use Rattle.std.proofs.Common.{◌≡◌, ◌∙◌, ◌<◌, subst, drop, length, get_or}
-use Rattle.ifmap_graph.specs.Seen.{rows_now}
-use Rattle.ifmap_machine.specs.Subscribing.{subscribe_ops}
+use Rattle.ifmap_changes.specs.ifmap_graph.Seen.{rows_now}
+use Rattle.ifmap_changes.specs.ifmap_machine.Subscribing.{subscribe_ops}
 use Rattle.ifmap_subscribes.proofs.OfScene.{rest_made}
 use Rattle.ifmap_subscribes.proofs.Ready.{holds_on}
 use Rattle.ifmap_subscribes.proofs.Spending.{one_more, one_stops}

@@ -1,6 +1,6 @@
 use Rattle.std.proofs.Common.{◌≡◌, ℕ, drop}
-use Rattle.ifmap_graph.specs.Seen.{rows_now}
-use Rattle.ifmap_machine.specs.Subscribing.{subscribe_ops}
+use Rattle.ifmap_changes.specs.ifmap_graph.Seen.{rows_now}
+use Rattle.ifmap_changes.specs.ifmap_machine.Subscribing.{subscribe_ops}
 use Rattle.ifmap_subscribes.specs.Bounds.{AreOpsWithin}
 use Rattle.ifmap_subscribes.specs.Readying.{CanReady, OnlyHolds, told_then}
 use Rattle.ifmap_subscribes.proofs.readying.ready_all.Given as goal

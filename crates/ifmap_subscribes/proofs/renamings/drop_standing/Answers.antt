@@ -2,8 +2,8 @@ use Rattle.std.proofs.Common.{◌≡◌, ◌∙◌, ◌∷◌, ◌++◌, Some, s
 use Rattle.std.proofs.lemmas.Option.{get_or_from_slice_get}
 use Rattle.ifmap_changes.specs.Between.{IsSteady}
 use Rattle.ifmap_lemmas.specs.Filters.{none_dropped}
-use Rattle.ifmap_machine.specs.Subscribing.{is_of_name}
-use Rattle.ifmap_standing.specs.Standing.{standing_of}
+use Rattle.ifmap_changes.specs.ifmap_machine.Subscribing.{is_of_name}
+use Rattle.ifmap_changes.specs.ifmap_standing.Standing.{standing_of}
 use Rattle.ifmap_subscribes.proofs.RenamingPlaces.{cut_at, removed_named}
 use Rattle.ifmap_subscribes.proofs.RenamingStarts.{steady_without}
 use Rattle.ifmap_subscribes.proofs.renamings.drop_standing.Goals as goal

@@ -1,5 +1,5 @@
 use Rattle.std.proofs.Common.{refl}
-use Rattle.ifmap_standing.specs.Standing.{standing_of}
+use Rattle.ifmap_changes.specs.ifmap_standing.Standing.{standing_of}
 use Rattle.ifmap_subscribes.proofs.renamings.name_order.Goals as goal
 
 pub returns : goal.returns

@@ -1,6 +1,6 @@
 use Rattle.std.proofs.Common.{option_to_list, subst, sym}
-use Rattle.ifmap_machine.specs.Telling.{tell_session}
-use Rattle.ifmap_session.specs.Sessions.{Changes}
+use Rattle.ifmap_changes.specs.ifmap_machine.Telling.{tell_session}
+use Rattle.ifmap_changes.specs.ifmap_session.Sessions.{Changes}
 use Rattle.ifmap_subscribes.proofs.RenamingTold.{tells_nothing}
 use Rattle.ifmap_subscribes.proofs.renamings.push_where.Goals as goal
 

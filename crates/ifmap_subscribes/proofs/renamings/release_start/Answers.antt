@@ -1,7 +1,7 @@
 use Rattle.ifmap_changes.specs.Between.{sight_now}
 use Rattle.ifmap_subscribes.proofs.RenamingStarts.{can_release, links_same, released_steady, rows_same}
 use Rattle.ifmap_subscribes.proofs.renamings.release_start.Goals as goal
-use Rattle.ifmap_graph.specs.NumberLaws.{numbers_shared}
+use Rattle.ifmap_changes.specs.ifmap_graph.NumberLaws.{numbers_shared}
 
 pub release-requires : goal.release-requires
 release-requires c = can_release c.args.graph.now c.args.one.now c.requires.0 c.requires.1

@@ -1,8 +1,8 @@
 use Rattle.std.proofs.Common.{List, inl, arith}
 use Rattle.ifmap_changes.specs.Between.{IsSteady}
-use Rattle.ifmap_graph.specs.Seen.{rows_now}
+use Rattle.ifmap_changes.specs.ifmap_graph.Seen.{rows_now}
 use Rattle.ifmap_lemmas.specs.Results.{on_err}
-use Rattle.ifmap_standing.specs.declared.standing.Standing.{Standing}
+use Rattle.ifmap_changes.specs.ifmap_standing.declared.standing.Standing.{Standing}
 use Rattle.ifmap_subscribes.proofs.Spending.{spanned_as}
 use Rattle.ifmap_subscribes.proofs.Starts.{ends_steady, held_alone, held_and_let_go, held_steady, unheld_steady}
 use Rattle.ifmap_subscribes.proofs.starting.begin_name.Goals as goal

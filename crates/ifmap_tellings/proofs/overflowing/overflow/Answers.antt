@@ -1,5 +1,5 @@
 use Rattle.std.proofs.Common.{◌≡◌, Some, subst, sym}
-use Rattle.ifmap_machine.specs.Telling.{overflow_session}
+use Rattle.ifmap_standing.specs.ifmap_machine.Telling.{overflow_session}
 use Rattle.ifmap_tellings.specs.Tellings.{IsSized, told_where}
 use Rattle.ifmap_tellings.proofs.OverflowLaws.{alone_stays}
 use Rattle.ifmap_tellings.proofs.overflowing.overflow.Goals as goal

@@ -1,12 +1,12 @@
 use Rattle.std.proofs.Common.{◌≡◌, ◌∙◌, ◌≤◌, ◌==◌, ◌||◌, ap, subst, sym}
 use Rattle.std.specs.BTreeMap.{get}
 use Rattle.std.specs.Ordering.{nat_cmp}
-use Rattle.ifmap_machine.specs.Telling.{is_overfull, overflow_session}
-use Rattle.ifmap_session.specs.Sessions.{Session}
-use Rattle.ifmap_session.specs.laws.TextLaws.{all_found}
+use Rattle.ifmap_standing.specs.ifmap_machine.Telling.{is_overfull, overflow_session}
+use Rattle.ifmap_standing.specs.ifmap_session.Sessions.{Session}
+use Rattle.ifmap_standing.specs.ifmap_session.laws.TextLaws.{all_found}
 use Rattle.ifmap_tellings.specs.Tellings.{is_alone, told_where}
 use Rattle.ifmap_tellings.proofs.overflowing.overflow_one.Goals as goal
-use Rattle.ifmap_session.specs.laws.TableLaws.{found_serial}
+use Rattle.ifmap_standing.specs.ifmap_session.laws.TableLaws.{found_serial}
 
 pub returns-clause-told : goal.returns-clause-told
 returns-clause-told c = λ s found.

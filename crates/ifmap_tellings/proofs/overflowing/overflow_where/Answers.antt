@@ -2,7 +2,7 @@ use Rattle.std.proofs.Common.{◌≡◌, ◌∙◌, ◌||◌, Some, ap, sym}
 use Rattle.std.specs.BTreeMap.{get}
 use Rattle.std.specs.Option.{is_some}
 use Rattle.std.specs.Ordering.{nat_cmp}
-use Rattle.ifmap_machine.specs.Telling.{is_overfull, overflow_session}
+use Rattle.ifmap_standing.specs.ifmap_machine.Telling.{is_overfull, overflow_session}
 use Rattle.ifmap_tellings.specs.Tellings.{is_alone, told_where}
 use Rattle.ifmap_tellings.proofs.overflowing.overflow_where.Goals as goal
 

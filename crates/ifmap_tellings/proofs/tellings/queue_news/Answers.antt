@@ -1,7 +1,7 @@
 use Rattle.std.proofs.Common.{◌∙◌, ◌||◌, ap, sym, length}
 use Rattle.std.specs.BTreeMap.{get}
 use Rattle.std.specs.Ordering.{nat_cmp}
-use Rattle.ifmap_machine.specs.Telling.{is_overfull}
+use Rattle.ifmap_standing.specs.ifmap_machine.Telling.{is_overfull}
 use Rattle.ifmap_tellings.specs.Tellings.{gone_after, is_alone, told_by}
 use Rattle.ifmap_tellings.proofs.FlagLaws.{bare}
 use Rattle.ifmap_tellings.proofs.NewsLaws.{brought_all, gone_long, mid_can, mid_fits, mid_within, queues_within, told_all}

@@ -1,7 +1,7 @@
 use Rattle.std.proofs.Common.{◌≡◌, ◌≤◌, ap, refl, subst, arith}
 use Rattle.ifmap_lemmas.specs.Options.{some_is}
 use Rattle.ifmap_tellings.specs.Tellings.{CanTell, count_told}
-use Rattle.ifmap_session.specs.Sessions.{session_with_serial, spare_of}
+use Rattle.ifmap_standing.specs.ifmap_session.Sessions.{session_with_serial, spare_of}
 use Rattle.ifmap_tellings.proofs.Queuing.{room_for_one}
 use Rattle.ifmap_tellings.proofs.tellings.tell_one.Goals as goal
 

@@ -1,5 +1,5 @@
 use Rattle.std.proofs.Common.{◌≡◌, map, take}
-use Rattle.ifmap_writing.specs.RequestElements.{as_children}
+use Rattle.ifmap_elem.specs.Building.{as_children}
 use Rattle.ifmap_writing.proofs.children.metadata_children.Given as goal
 
 abbrev pub invariant-loop-metadata : goal.invariant-loop-metadata

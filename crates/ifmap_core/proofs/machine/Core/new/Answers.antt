@@ -1,8 +1,8 @@
 use Rattle.std.proofs.Common.{ap}
 use Rattle.ifmap_core.proofs.Turned.{first_parts}
 use Rattle.ifmap_core.proofs.machine.Core.new.Goals as goal
-use Rattle.ifmap_graph.specs.Shelved.{list_at, rows_by}
-use Rattle.ifmap_graph.specs.Sides.{now}
+use Rattle.ifmap_subscribes.specs.ifmap_graph.Shelved.{list_at, rows_by}
+use Rattle.ifmap_subscribes.specs.ifmap_graph.Sides.{now}
 
 pub invariant_of-result : goal.invariant_of-result
 invariant_of-result c = record {

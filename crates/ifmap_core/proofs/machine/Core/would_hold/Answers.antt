@@ -11,7 +11,7 @@ returns-clause-exact c =
         c.in-Some.id.now,
         c.in-Some.ensures.some,
         c.if-not-event.false,
-        subst (λ (m : ℕ). list_any (is_expired m c.self.inside.ttl) c.self.inside.parts.sessions.live ≡ false) c.later-moment.ensures
+        subst (λ (m : ℕ). list_any (is_expired m c.self.inside.ttl) c.self.inside.parts.sessions.live ≡ false) c.later_moment-moment.ensures
             (sym c.any_expired.ensures ∙ c.if-any_expired.false),
         c.has_nothing.ensures.0 yes,
       )),

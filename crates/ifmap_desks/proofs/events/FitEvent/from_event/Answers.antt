@@ -1,5 +1,5 @@
 use Rattle.std.proofs.Common.{subst}
-use Rattle.ifmap_machine.specs.Events.{IsFitEvent}
+use Rattle.ifmap_dialogue.specs.ifmap_machine.Events.{IsFitEvent}
 use Rattle.ifmap_desks.proofs.events.FitEvent.from_event.Goals as goal
 
 pub invariant_of-result : goal.invariant_of-result

@@ -10,11 +10,11 @@ use Rattle.ifmap_desks.proofs.TellingTurns.{tells_plain}
 use Rattle.ifmap_hall.specs.Passes.{number_of, view_of}
 use Rattle.ifmap_hall.specs.Sights.{run}
 use Rattle.ifmap_hall.specs.declared.book.Asked.{Asked}
-use Rattle.ifmap_machine.specs.Agreeing.{Agrees}
-use Rattle.ifmap_machine.specs.Since.{AgreesFrom}
-use Rattle.ifmap_machine.specs.declared.events.Answer.{Answer}
-use Rattle.ifmap_machine.specs.Events.{Event}
-use Rattle.ifmap_machine.specs.State.{State}
+use Rattle.ifmap_dialogue.specs.ifmap_machine.Agreeing.{Agrees}
+use Rattle.ifmap_dialogue.specs.ifmap_machine.Since.{AgreesFrom}
+use Rattle.ifmap_dialogue.specs.ifmap_machine.declared.events.Answer.{Answer}
+use Rattle.ifmap_dialogue.specs.ifmap_machine.Events.{Event}
+use Rattle.ifmap_dialogue.specs.ifmap_machine.State.{State}
 use Rattle.ifmap_desks.proofs.passes.PassDeskDesk.ask.Goals as goal
 
 pub returns : goal.returns
@@ -28,7 +28,7 @@ returns g c =
     record {
       tells = tells_plain (Some (map plain_call v.said)) (Some (map plain_call w.said)) (Some v.turns) (Some w.turns) desk.counts
           c.count.new.self desk.hall.now desk.hall.now desk.pass.ghost_name desk.pass.ghost_name c.args.event fit c.from_event.ensures given
-          c.plain-answer.result c.plain-answer.ensures (gains v w (number_of desk.pass.now) fit given e.answered)
+          c.plain_asked-answer.result c.plain_asked-answer.ensures (gains v w (number_of desk.pass.now) fit given e.answered)
           (v.turns, refl, e.took.turns) c.count.ensures refl refl
           (fits v w (number_of desk.pass.now) fit c.holding_is_exact.ensures c.answers_fit_events.ensures given e.answered);
       number = e.number;
@@ -39,7 +39,7 @@ returns g c =
         asked = fit;
         is_event = c.from_event.ensures;
         given = given;
-        is_plain = c.plain-answer.ensures;
+        is_plain = c.plain_asked-answer.ensures;
         answered = e.answered;
         from_base = e.from_base;
       };
@@ -67,5 +67,5 @@ invariant_of-self-clause-used_up g c =
     used_up (view_of c.args.self.now.pass.now) (view_of c.ask-asked.new.pass) e.took
     (number_of c.args.self.now.pass.now) c.from_event.result
     c.ask-asked.result c.args.self.now.counts c.count.new.self e.answered
-    (subst (λ (a : Asked Event Answer). Counted a c.args.self.now.counts c.count.new.self) c.plain-answer.ensures c.count.ensures)
+    (subst (λ (a : Asked Event Answer). Counted a c.args.self.now.counts c.count.new.self) c.plain_asked-answer.ensures c.count.ensures)
     c.args.self.now.used_up

@@ -1,6 +1,6 @@
 use Rattle.std.proofs.Common.{ap, ◌∙◌}
-use Rattle.ifmap_machine.specs.declared.events.Ask.{Ask}
-use Rattle.ifmap_machine.specs.Events.{Event}
+use Rattle.ifmap_core.specs.ifmap_machine.declared.events.Ask.{Ask}
+use Rattle.ifmap_core.specs.ifmap_machine.Events.{Event}
 use Rattle.ifmap_drill.specs.Counts.{counted_as, counts_sum}
 use Rattle.ifmap_drill.proofs.Counting.{answer_kept, on_ok}
 use Rattle.ifmap_drill.proofs.drills.Drill.answer_event.Goals as goal

@@ -14,8 +14,8 @@ use Rattle.ifmap_graph.proofs.Outs.{are_out}
 use Rattle.ifmap_graph.proofs.Settled.{bare_to}
 use Rattle.ifmap_graph.proofs.Taking.{can_go_back}
 use Rattle.ifmap_graph.proofs.Turns.{none_drafted}
-use Rattle.ifmap_graph.proofs.Undone.{own_stays, waits_stay_seen}
 use Rattle.ifmap_graph.proofs.graph.Graph.commit_kept.Goals as goal
+use Rattle.ifmap_graph.proofs.Written.{own_stays, waits_stay_seen}
 
 pub accept_changes-requires-clause-out : goal.accept_changes-requires-clause-out
 accept_changes-requires-clause-out c =
@@ -37,7 +37,7 @@ invariant_of-self c =
     let q = rw (← c.self.view_is) at c.requires
     in made_inside c.self.inside.names c.self.inside.shelves c.accept_changes.new.shelves c.self.inside.links.items
     c.accept_all.new.lists.items
-    c.self.invariant c.accept_changes.ensures.shelved c.accept_changes.ensures.places c.accept_changes.ensures.ends
+    c.self.invariant c.accept_changes.ensures.shelved c.accept_changes.ensures.stays.places c.accept_changes.ensures.stays.ends
     c.accept_changes.ensures.now
     c.accept_changes.ensures.next c.ways.inside.0.items (subst (λ w. AreDrafted w c.self.inside.links.items)
     (sym (c.ways.view_is ∙ ap (λ r. r.ways) c.ready.view_is)) q.links)
@@ -62,7 +62,7 @@ returns-clause-links c =
     in rw (← c.self.view_is)
     (made_links c.self.inside.names c.self.inside.shelves c.accept_changes.new.shelves c.self.inside.links.items
     c.accept_all.new.lists.items
-    c.self.invariant c.accept_changes.ensures.shelved c.accept_changes.ensures.places c.accept_changes.ensures.ends
+    c.self.invariant c.accept_changes.ensures.shelved c.accept_changes.ensures.stays.places c.accept_changes.ensures.stays.ends
     c.accept_changes.ensures.now
     c.accept_changes.ensures.next c.ways.inside.0.items (subst (λ w. AreDrafted w c.self.inside.links.items)
     (sym (c.ways.view_is ∙ ap (λ r. r.ways) c.ready.view_is)) q.links)
@@ -93,7 +93,7 @@ returns-clause-back c =
     in rw (← c.self.view_is)
     (can_go_back c.self.inside.names c.self.inside.shelves c.accept_changes.new.shelves c.self.inside.links.items
     c.accept_all.new.lists.items
-    c.self.invariant c.accept_changes.ensures.places c.accept_changes.ensures.ends c.accept_changes.ensures.waits
+    c.self.invariant c.accept_changes.ensures.stays.places c.accept_changes.ensures.stays.ends c.accept_changes.ensures.stays.waits
     c.accept_changes.ensures.now
     c.args.ready _ (are_out c.self.inside.shelves (items_changed c.args.ready.plan.changes) q.drafted q.within q.apart) q.links q.no_others
     (c.accept_all.ensures.lists ∙ ap (λ w. accept_each w c.self.inside.links.items) ways) (returns-clause-plan c)
@@ -110,13 +110,15 @@ returns-clause-still c =
 pub returns-clause-own : goal.returns-clause-own
 returns-clause-own c = λ a own h.
     own_stays c.self.inside.names c.self.inside.shelves c.accept_changes.new.shelves c.self.inside.links.items c.accept_all.new.lists.items
-    c.accept_changes.ensures.places c.accept_changes.ensures.ends c.accept_changes.ensures.waits a own (rw (← c.self.view_is) at h)
+    c.accept_changes.ensures.stays.places c.accept_changes.ensures.stays.ends c.accept_changes.ensures.stays.waits a own (rw (←
+    c.self.view_is) at h)
 
 pub returns-clause-waits : goal.returns-clause-waits
 returns-clause-waits c = λ rest a.
     waits_stay_seen c.self.inside.names c.self.inside.shelves c.accept_changes.new.shelves c.self.inside.links.items
     c.accept_all.new.lists.items
-    c.accept_changes.ensures.places c.accept_changes.ensures.ends c.accept_changes.ensures.waits rest (rw (← c.self.view_is) at a)
+    c.accept_changes.ensures.stays.places c.accept_changes.ensures.stays.ends c.accept_changes.ensures.stays.waits rest (rw (←
+    c.self.view_is) at a)
 
 pub returns-clause-lean : goal.returns-clause-lean
 returns-clause-lean c =
@@ -125,5 +127,6 @@ returns-clause-lean c =
     (λ awaits. turned_lean c.self.inside.names c.self.inside.names c.self.inside.shelves c.accept_changes.new.shelves
     c.self.inside.links.items
     c.accept_all.new.lists.items (items_changed c.args.ready.plan.changes) awaits c.self.invariant.placed
-    (are_out c.self.inside.shelves (items_changed c.args.ready.plan.changes) q.drafted q.within q.apart) c.accept_changes.ensures.waits
-    c.accept_changes.ensures.places c.accept_changes.ensures.now)
+    (are_out c.self.inside.shelves (items_changed c.args.ready.plan.changes) q.drafted q.within q.apart)
+    c.accept_changes.ensures.stays.waits
+    c.accept_changes.ensures.stays.places c.accept_changes.ensures.now)

@@ -16,7 +16,7 @@ use Rattle.ifmap_graph.proofs.Flipping.{inside_dropped}
 use Rattle.ifmap_graph.proofs.Lean.{same_lean}
 use Rattle.ifmap_graph.proofs.Outs.{are_out}
 use Rattle.ifmap_graph.proofs.Settled.{bare_to, held_of}
-use Rattle.ifmap_graph.proofs.Written.{first_backs, written_backs, written_now, written_own, written_waits}
+use Rattle.ifmap_graph.proofs.Written.{first_backs, written_backs, written_now, own_stays, waits_stay_seen}
 use Rattle.ifmap_graph.proofs.graph.Graph.forget.Goals as goal
 
 pub drop_plan-requires-clause-there : goal.drop_plan-requires-clause-there
@@ -44,7 +44,8 @@ pub invariant_of-self : goal.invariant_of-self
 invariant_of-self c =
     inside_dropped c.self.inside.names c.self.inside.shelves c.drop_plan.new.shelves c.self.inside.links.items c.drop_plan.new.links.items
     c.self.invariant
-    c.drop_plan.ensures.shelved c.drop_plan.ensures.places c.drop_plan.ensures.ends c.drop_plan.ensures.now c.drop_plan.ensures.next
+    c.drop_plan.ensures.shelved c.drop_plan.ensures.stays.places c.drop_plan.ensures.stays.ends c.drop_plan.ensures.now
+    c.drop_plan.ensures.next
     c.drop_plan.ensures.links
     c.drop_plan.ensures.none
 
@@ -56,9 +57,9 @@ release_waits-requires c =
           c.drop_plan.ensures.none;
       waits = subst (λ l. AreAwaited (items_changed l) (held_of c.self.inside.names c.drop_plan.new.shelves c.drop_plan.new.links.items))
           (sym (c.deref-3.ensures.value ∙ ap (λ r. r.plan.changes) c.ready.view_is))
-          (written_waits c.self.inside.names c.self.inside.shelves c.drop_plan.new.shelves c.self.inside.links.items
+          (waits_stay_seen c.self.inside.names c.self.inside.shelves c.drop_plan.new.shelves c.self.inside.links.items
           c.drop_plan.new.links.items
-          c.drop_plan.ensures.places c.drop_plan.ensures.ends c.drop_plan.ensures.waits c.drop_plan.ensures.now c.drop_plan.ensures.links
+          c.drop_plan.ensures.stays.places c.drop_plan.ensures.stays.ends c.drop_plan.ensures.stays.waits
           (items_changed c.args.ready.plan.changes) w);
     }
 
@@ -67,7 +68,8 @@ returns-clause-now c =
     rw (← c.self.view_is)
     (c.release_waits.ensures.now
     ∙ written_now c.self.inside.names c.self.inside.shelves c.drop_plan.new.shelves c.self.inside.links.items c.drop_plan.new.links.items
-    c.drop_plan.ensures.places c.drop_plan.ensures.ends c.drop_plan.ensures.waits c.drop_plan.ensures.now c.drop_plan.ensures.links)
+    c.drop_plan.ensures.stays.places c.drop_plan.ensures.stays.ends c.drop_plan.ensures.stays.waits c.drop_plan.ensures.now
+    c.drop_plan.ensures.links)
 
 pub returns-clause-links : goal.returns-clause-links
 returns-clause-links c =
@@ -81,8 +83,8 @@ pub returns-clause-own : goal.returns-clause-own
 returns-clause-own c =
     rw (← c.self.view_is)
     (λ a own h. c.release_waits.ensures.own a own
-    (written_own c.self.inside.names c.self.inside.shelves c.drop_plan.new.shelves c.self.inside.links.items c.drop_plan.new.links.items
-    c.drop_plan.ensures.places c.drop_plan.ensures.ends c.drop_plan.ensures.waits c.drop_plan.ensures.now c.drop_plan.ensures.links a own
+    (own_stays c.self.inside.names c.self.inside.shelves c.drop_plan.new.shelves c.self.inside.links.items c.drop_plan.new.links.items
+    c.drop_plan.ensures.stays.places c.drop_plan.ensures.stays.ends c.drop_plan.ensures.stays.waits a own
     h))
 
 pub returns-clause-waits : goal.returns-clause-waits
@@ -91,19 +93,20 @@ returns-clause-waits c =
     (λ rest a. c.release_waits.ensures.waits rest
     (subst (λ l. AreAwaited (items_changed l ++ rest) (held_of c.self.inside.names c.drop_plan.new.shelves c.drop_plan.new.links.items))
     (sym (c.deref-3.ensures.value ∙ ap (λ r. r.plan.changes) c.ready.view_is))
-    (written_waits c.self.inside.names c.self.inside.shelves c.drop_plan.new.shelves c.self.inside.links.items c.drop_plan.new.links.items
-    c.drop_plan.ensures.places c.drop_plan.ensures.ends c.drop_plan.ensures.waits c.drop_plan.ensures.now c.drop_plan.ensures.links _ a)))
+    (waits_stay_seen c.self.inside.names c.self.inside.shelves c.drop_plan.new.shelves c.self.inside.links.items c.drop_plan.new.links.items
+    c.drop_plan.ensures.stays.places c.drop_plan.ensures.stays.ends c.drop_plan.ensures.stays.waits _ a)))
 
 pub returns-clause-backs : goal.returns-clause-backs
 returns-clause-backs c =
     rw (← c.self.view_is)
     (first_backs (items_changed c.args.ready.plan.changes) (held_of c.self.inside.names c.self.inside.shelves c.self.inside.links.items)
     (held_of c.self.inside.names c.drop_plan.new.shelves c.drop_plan.new.links.items) c.release_waits.new.self
-    (λ rest a. written_waits c.self.inside.names c.self.inside.shelves c.drop_plan.new.shelves c.self.inside.links.items
+    (λ rest a. waits_stay_seen c.self.inside.names c.self.inside.shelves c.drop_plan.new.shelves c.self.inside.links.items
     c.drop_plan.new.links.items
-    c.drop_plan.ensures.places c.drop_plan.ensures.ends c.drop_plan.ensures.waits c.drop_plan.ensures.now c.drop_plan.ensures.links rest a)
+    c.drop_plan.ensures.stays.places c.drop_plan.ensures.stays.ends c.drop_plan.ensures.stays.waits rest a)
     (written_backs c.self.inside.names c.self.inside.shelves c.drop_plan.new.shelves c.self.inside.links.items c.drop_plan.new.links.items
-    c.drop_plan.ensures.places c.drop_plan.ensures.ends c.drop_plan.ensures.waits c.drop_plan.ensures.now c.drop_plan.ensures.links)
+    c.drop_plan.ensures.stays.places c.drop_plan.ensures.stays.ends c.drop_plan.ensures.stays.waits c.drop_plan.ensures.now
+    c.drop_plan.ensures.links)
     (subst (λ l. KeepsOtherBacks (items_changed l)
     (held_of c.self.inside.names c.drop_plan.new.shelves c.drop_plan.new.links.items) c.release_waits.new.self)
     (c.deref-3.ensures.value ∙ ap (λ r. r.plan.changes) c.ready.view_is) c.release_waits.ensures.backs))
@@ -115,6 +118,6 @@ returns-clause-lean c =
     (subst (λ l. IsLean (items_changed l ++ rest) (held_of c.self.inside.names c.drop_plan.new.shelves c.drop_plan.new.links.items))
     (sym (c.deref-3.ensures.value ∙ ap (λ r. r.plan.changes) c.ready.view_is))
     (same_lean c.self.inside.names c.self.inside.names c.self.inside.shelves c.drop_plan.new.shelves c.self.inside.links.items
-    c.drop_plan.new.links.items c.drop_plan.ensures.waits
-    (λ x none. ap (λ p. lookup (is_at (item_order x)) p.entries) c.drop_plan.ensures.places)
+    c.drop_plan.new.links.items c.drop_plan.ensures.stays.waits
+    (λ x none. ap (λ p. lookup (is_at (item_order x)) p.entries) c.drop_plan.ensures.stays.places)
     (λ x none. ap (stored_on x) c.drop_plan.ensures.now) _ lean)))

@@ -6,11 +6,11 @@ use Rattle.ifmap_graph.specs.Making.{IsMade}
 use Rattle.ifmap_graph.specs.Shelved.{rows_on_side}
 use Rattle.ifmap_graph.specs.Sides.{now}
 use Rattle.ifmap_graph.proofs.Insides.{rows_shown}
-use Rattle.ifmap_graph.proofs.Joining.{any_err}
 use Rattle.ifmap_graph.proofs.Lean.{made_lean}
 use Rattle.ifmap_graph.proofs.Reserved.{made_after, made_backs, made_now, made_numbers, made_out, made_own, made_waits, unmade_backs, unmade_now, unmade_numbers, unmade_own, unmade_same, unmade_still}
 use Rattle.ifmap_graph.proofs.Settled.{bare_from, few_from}
 use Rattle.ifmap_graph.proofs.graph.Graph.reserve.Goals as goal
+use Rattle.ifmap_lemmas.specs.Results.{on_err}
 
 pub make_ready-requires-clause-bare : goal.make_ready-requires-clause-bare
 make_ready-requires-clause-bare c =
@@ -58,7 +58,7 @@ returns-in_err-make_ready-clause-backs c =
 
 pub returns-in_err-make_ready-clause-still : goal.returns-in_err-make_ready-clause-still
 returns-in_err-make_ready-clause-still c =
-    any_err c.from_residual-in_err-make_ready.result
+    on_err c.from_residual-in_err-make_ready.result _
     (unmade_still c.self.inside.names c.make_ready.new.names c.self.inside.shelves c.make_ready.new.shelves c.self.inside.links.items
     c.make_ready.new.links.items
     c.in_err-make_ready.ensures.unmade)
@@ -66,7 +66,7 @@ returns-in_err-make_ready-clause-still c =
 pub returns-in_err-make_ready-clause-err : goal.returns-in_err-make_ready-clause-err
 returns-in_err-make_ready-clause-err c =
     rw (← c.self.view_is)
-    (any_err c.from_residual-in_err-make_ready.result
+    (on_err c.from_residual-in_err-make_ready.result _
     (unmade_same c.self.inside.names c.make_ready.new.names c.self.inside.shelves c.make_ready.new.shelves c.self.inside.links.items
     c.make_ready.new.links.items
     c.in_err-make_ready.ensures.unmade c.bytes_tell_identifiers_apart.ensures c.self.invariant.keys))

@@ -10,8 +10,9 @@ use Rattle.ifmap_graph.specs.Sides.{now}
 use Rattle.ifmap_graph.specs.Turning.{restore_each}
 use Rattle.ifmap_graph.proofs.Lean.{stood_lean}
 use Rattle.ifmap_graph.proofs.Settled.{bare_from, held_of}
-use Rattle.ifmap_graph.proofs.Undone.{all_there, own_stays, undone_inside, undone_links, undone_rows, undone_still, waits_stay_seen}
+use Rattle.ifmap_graph.proofs.Undone.{all_there, undone_inside, undone_links, undone_rows, undone_still}
 use Rattle.ifmap_graph.proofs.graph.Graph.undo.Goals as goal
+use Rattle.ifmap_graph.proofs.Written.{own_stays, waits_stay_seen}
 
 pub exchange_changes-requires-clause-bare : goal.exchange_changes-requires-clause-bare
 exchange_changes-requires-clause-bare c =
@@ -31,7 +32,7 @@ invariant_of-self c =
     in let still = rw (← c.self.view_is) at c.requires.still
     in undone_inside c.self.inside.names c.self.inside.shelves c.exchange_changes.new.shelves c.self.inside.links.items
     c.restore_all.new.lists.items
-    c.exchange_changes.ensures.places c.exchange_changes.ensures.ends c.exchange_changes.ensures.waits c.self.invariant
+    c.exchange_changes.ensures.stays.places c.exchange_changes.ensures.stays.ends c.exchange_changes.ensures.stays.waits c.self.invariant
     c.exchange_changes.ensures.bare still.links
     c.args.undo b.0 b.1 b.2
     (λ x. c.exchange_changes.ensures.now x
@@ -47,7 +48,7 @@ release_waits-requires-clause-still c =
     in let still = rw (← c.self.view_is) at c.requires.still
     in undone_still c.self.inside.names c.self.inside.shelves c.exchange_changes.new.shelves c.self.inside.links.items
     c.restore_all.new.lists.items
-    c.exchange_changes.ensures.places c.exchange_changes.ensures.ends c.exchange_changes.ensures.waits c.self.invariant
+    c.exchange_changes.ensures.stays.places c.exchange_changes.ensures.stays.ends c.exchange_changes.ensures.stays.waits c.self.invariant
     c.exchange_changes.ensures.bare still.links
     c.args.undo b.0 b.1 b.2
     (λ x. c.exchange_changes.ensures.now x
@@ -64,7 +65,7 @@ release_waits-requires-clause-waits c =
     (sym (c.deref-2.ensures.value ∙ ap (λ r. r.plan.changes) c.undo.view_is))
     (waits_stay_seen c.self.inside.names c.self.inside.shelves c.exchange_changes.new.shelves c.self.inside.links.items
     c.restore_all.new.lists.items
-    c.exchange_changes.ensures.places c.exchange_changes.ensures.ends c.exchange_changes.ensures.waits
+    c.exchange_changes.ensures.stays.places c.exchange_changes.ensures.stays.ends c.exchange_changes.ensures.stays.waits
     (items_changed c.args.undo.plan.changes) b.2.waits)
 
 pub returns-clause-back : goal.returns-clause-back
@@ -75,7 +76,8 @@ returns-clause-back c = λ rows links b.
       c.release_waits.ensures.now
           ∙ undone_rows c.self.inside.names c.self.inside.shelves c.exchange_changes.new.shelves c.self.inside.links.items
           c.restore_all.new.lists.items
-          c.exchange_changes.ensures.places c.exchange_changes.ensures.ends c.exchange_changes.ensures.waits c.self.invariant
+          c.exchange_changes.ensures.stays.places c.exchange_changes.ensures.stays.ends c.exchange_changes.ensures.stays.waits
+          c.self.invariant
           c.exchange_changes.ensures.bare still.links
           c.args.undo rows links back
           (λ x. c.exchange_changes.ensures.now x
@@ -88,7 +90,8 @@ returns-clause-back c = λ rows links b.
       λ v. ap (λ l. links_at now l v) c.release_waits.ensures.links
           ∙ undone_links c.self.inside.names c.self.inside.shelves c.exchange_changes.new.shelves c.self.inside.links.items
           c.restore_all.new.lists.items
-          c.exchange_changes.ensures.places c.exchange_changes.ensures.ends c.exchange_changes.ensures.waits c.self.invariant
+          c.exchange_changes.ensures.stays.places c.exchange_changes.ensures.stays.ends c.exchange_changes.ensures.stays.waits
+          c.self.invariant
           c.exchange_changes.ensures.bare still.links
           c.args.undo rows links back
           (λ x. c.exchange_changes.ensures.now x
@@ -104,7 +107,8 @@ returns-clause-own c = λ a own h.
     c.release_waits.ensures.own a own
     (own_stays c.self.inside.names c.self.inside.shelves c.exchange_changes.new.shelves c.self.inside.links.items
     c.restore_all.new.lists.items
-    c.exchange_changes.ensures.places c.exchange_changes.ensures.ends c.exchange_changes.ensures.waits a own (rw (← c.self.view_is) at h))
+    c.exchange_changes.ensures.stays.places c.exchange_changes.ensures.stays.ends c.exchange_changes.ensures.stays.waits a own (rw (←
+    c.self.view_is) at h))
 
 pub returns-clause-waits : goal.returns-clause-waits
 returns-clause-waits c = λ rest a.
@@ -114,7 +118,7 @@ returns-clause-waits c = λ rest a.
     (sym (c.deref-2.ensures.value ∙ ap (λ r. r.plan.changes) c.undo.view_is))
     (waits_stay_seen c.self.inside.names c.self.inside.shelves c.exchange_changes.new.shelves c.self.inside.links.items
     c.restore_all.new.lists.items
-    c.exchange_changes.ensures.places c.exchange_changes.ensures.ends c.exchange_changes.ensures.waits
+    c.exchange_changes.ensures.stays.places c.exchange_changes.ensures.stays.ends c.exchange_changes.ensures.stays.waits
     (items_changed c.args.undo.plan.changes ++ rest) (rw (← c.self.view_is) at a)))
 
 pub returns-clause-lean : goal.returns-clause-lean
@@ -126,8 +130,8 @@ returns-clause-lean c =
     (held_of c.self.inside.names c.exchange_changes.new.shelves c.restore_all.new.lists.items))
     (sym (c.deref-2.ensures.value ∙ ap (λ r. r.plan.changes) c.undo.view_is))
     (stood_lean c.self.inside.names c.self.inside.names c.self.inside.shelves c.exchange_changes.new.shelves c.self.inside.links.items
-    c.restore_all.new.lists.items (items_changed c.args.undo.plan.changes) b.2.waits c.exchange_changes.ensures.waits
-    c.exchange_changes.ensures.places c.lists.inside.0.items
+    c.restore_all.new.lists.items (items_changed c.args.undo.plan.changes) b.2.waits c.exchange_changes.ensures.stays.waits
+    c.exchange_changes.ensures.stays.places c.lists.inside.0.items
     (λ x. c.exchange_changes.ensures.now x
     ∙ ap (λ l. stand_each (items_changed l) c.lists.inside.0.items x (stored_on x (rows_on_side now c.self.inside.shelves)))
     (c.deref.ensures.value ∙ ap (λ r. r.plan.changes) c.undo.view_is))

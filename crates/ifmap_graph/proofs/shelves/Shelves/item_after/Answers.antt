@@ -1,5 +1,6 @@
-use Rattle.std.proofs.Common.{Option, Some, None, IfSome, IfNone}
+use Rattle.std.proofs.Common.{Option, Some, None, IfNone}
 use Rattle.std.specs.Option.{option_copied}
+use Rattle.std.proofs.lemmas.Option.{IfSome_then}
 use Rattle.slab.specs.Slab.{get}
 use Rattle.ifmap_graph.specs.Shelved.{list_at}
 use Rattle.ifmap_graph.specs.Sides.{now}
@@ -8,19 +9,15 @@ use Rattle.ifmap_graph.proofs.Following.{first_has, next_is, none_is}
 use Rattle.ifmap_graph.proofs.shelves.Shelves.item_after.Goals as goal
 use Rattle.ifmap_lemmas.specs.Having.{all_has}
 
-some_weaker : {X : Type 0} (o : Option X) (P Q : X → Type 0) → ((x : X) → P x → Q x) → IfSome o P → IfSome o Q
-some_weaker None P Q f h = h
-some_weaker (Some x) P Q f h = f x h
-
 none_weaker : {X : Type 0} (o : Option X) (P Q : Type 0) → (P → Q) → IfNone o P → IfNone o Q
 none_weaker None P Q f h = f h
 none_weaker (Some x) P Q f h = h
 
 pub returns-clause-found : goal.returns-clause-found
 returns-clause-found g c =
-    some_weaker c.first_after.result _ _
+    IfSome_then c.first_after.result c.first_after.ensures.found
     (λ item f. next_is (λ at. list_at now (get c.args.self.now.slots at)) c.args.self.now.places.entries c.requires.rising
-    (option_copied c.args.item) item.now f) c.first_after.ensures.found
+    (option_copied c.args.item) item.now f)
 
 pub returns-clause-none : goal.returns-clause-none
 returns-clause-none g c =
@@ -30,8 +27,8 @@ returns-clause-none g c =
 
 pub returns-clause-canon : goal.returns-clause-canon
 returns-clause-canon g c =
-    some_weaker c.first_after.result _ _
+    IfSome_then c.first_after.result c.first_after.ensures.found
     (λ item f.
     let h = first_has (λ at. list_at now (get c.args.self.now.slots at)) c.args.self.now.places.entries c.requires.rising
     (option_copied c.args.item) item.now f
-    in all_has (λ e. IsCanonItem e.0) c.args.self.now.places.entries c.requires.canon (item.now, h.0) h.1) c.first_after.ensures.found
+    in all_has (λ e. IsCanonItem e.0) c.args.self.now.places.entries c.requires.canon (item.now, h.0) h.1)

@@ -6,25 +6,25 @@ pub returns-in-Sized-clause-reads : goal.returns-in-Sized-clause-reads
 returns-in-Sized-clause-reads g c =
     rw (← c.self.view_is)
     (answers_taken c.take_answered.result (g.L.Source.left c.self.inside.link) (g.L.Source.left c.await_answer.new.source)
-    c.self.inside.buffer c.await_answer.new.buffer _ c.in-Sized.ensures.taken c.take_answered.ensures.reads)
+    c.self.inside.input c.await_answer.new.input _ c.in-Sized.ensures.taken c.take_answered.ensures.reads)
 
 pub returns-in-Refused-clause-reads : goal.returns-in-Refused-clause-reads
 returns-in-Refused-clause-reads g c =
     rw (c.advance.ensures, ← c.self.view_is)
     (answers_refused c.in-Refused.status c.in-Refused.size (g.L.Source.left c.self.inside.link) (g.L.Source.left c.await_answer.new.source)
-    c.self.inside.buffer c.await_answer.new.buffer c.in-Refused.ensures.taken c.in-Refused.ensures.is)
+    c.self.inside.input c.await_answer.new.input c.in-Refused.ensures.taken c.in-Refused.ensures.is)
 
 pub returns-in-NotHttp-clause-reads : goal.returns-in-NotHttp-clause-reads
 returns-in-NotHttp-clause-reads g c =
     rw (← c.self.view_is)
     (answers_unfit (g.L.Source.left c.self.inside.link) (g.L.Source.left c.await_answer.new.source)
-    c.self.inside.buffer c.await_answer.new.buffer c.in-NotHttp.ensures.taken c.in-NotHttp.ensures.is)
+    c.self.inside.input c.await_answer.new.input c.in-NotHttp.ensures.taken c.in-NotHttp.ensures.is)
 
 pub returns-in-Ended-clause-reads : goal.returns-in-Ended-clause-reads
 returns-in-Ended-clause-reads g c =
     rw (← c.self.view_is)
     (answers_ended (g.L.Source.left c.self.inside.link) (g.L.Source.left c.await_answer.new.source)
-    c.self.inside.buffer c.await_answer.new.buffer c.in-Ended.ensures.taken c.in-Ended.ensures.is)
+    c.self.inside.input c.await_answer.new.input c.in-Ended.ensures.taken c.in-Ended.ensures.is)
 
 pub returns-in-ReadFault-clause-reads : goal.returns-in-ReadFault-clause-reads
 returns-in-ReadFault-clause-reads g c = gets_nothing (prepend_known c.args.self.now.taken (g.L.Source.left c.args.self.now.link))

@@ -9,25 +9,25 @@ pub returns-in-Taken-clause-reads : goal.returns-in-Taken-clause-reads
 returns-in-Taken-clause-reads g c =
     rw (← c.self.view_is)
     (gets_taken c.take_posted.result (g.L.Source.left c.self.inside.link) (g.L.Source.left c.await_post.new.source)
-    c.self.inside.buffer c.await_post.new.buffer _ c.in-Taken.ensures.taken c.take_posted.ensures.reads)
+    c.self.inside.input c.await_post.new.input _ c.in-Taken.ensures.taken c.take_posted.ensures.reads)
 
 pub returns-in-Refused-clause-reads : goal.returns-in-Refused-clause-reads
 returns-in-Refused-clause-reads g c =
     rw (← c.self.view_is)
     (gets_refused c.in-Refused.status (g.L.Source.left c.self.inside.link) (g.L.Source.left c.await_post.new.source)
-    c.self.inside.buffer c.await_post.new.buffer c.in-Refused.ensures.taken c.in-Refused.ensures.is)
+    c.self.inside.input c.await_post.new.input c.in-Refused.ensures.taken c.in-Refused.ensures.is)
 
 pub returns-in-Ended-clause-reads : goal.returns-in-Ended-clause-reads
 returns-in-Ended-clause-reads g c =
     rw (← c.self.view_is)
     (gets_ended (g.L.Source.left c.self.inside.link) (g.L.Source.left c.await_post.new.source)
-    c.self.inside.buffer c.await_post.new.buffer c.in-Ended.ensures.taken c.in-Ended.ensures.is)
+    c.self.inside.input c.await_post.new.input c.in-Ended.ensures.taken c.in-Ended.ensures.is)
 
 pub returns-in-Truncated-clause-reads : goal.returns-in-Truncated-clause-reads
 returns-in-Truncated-clause-reads g c =
     rw (← c.self.view_is)
     (gets_truncated (g.L.Source.left c.self.inside.link) (g.L.Source.left c.await_post.new.source)
-    c.self.inside.buffer c.await_post.new.buffer c.in-Truncated.ensures.taken c.in-Truncated.ensures.is)
+    c.self.inside.input c.await_post.new.input c.in-Truncated.ensures.taken c.in-Truncated.ensures.is)
 
 pub returns-in-ReadFault-clause-reads : goal.returns-in-ReadFault-clause-reads
 returns-in-ReadFault-clause-reads g c = gets_nothing (prepend_known c.args.self.now.taken (g.L.Source.left c.args.self.now.link))
@@ -42,10 +42,10 @@ returns-in-Taken-clause-quiet g c =
     let (head, is, says) = post in
     let quiet = c.in-Taken.ensures.quiet head (body ++ rest) is in
     c.take_posted.ensures.quiet
-    (post_is_there c.self.inside.buffer c.await_post.new.buffer c.in-Taken.size c.in-Taken.terms head client body close rest
+    (post_is_there c.self.inside.input c.await_post.new.input c.in-Taken.size c.in-Taken.terms head client body close rest
     quiet.1 c.in-Taken.ensures.is is says)
     ∙ quiet.0)
 
 pub returns-in-Refused-clause-answerable : goal.returns-in-Refused-clause-answerable
 returns-in-Refused-clause-answerable g c =
-    status_fits c.in-Refused.status c.await_post.new.buffer (g.L.Source.left c.await_post.new.source) c.in-Refused.ensures.is
+    status_fits c.in-Refused.status c.await_post.new.input (g.L.Source.left c.await_post.new.source) c.in-Refused.ensures.is

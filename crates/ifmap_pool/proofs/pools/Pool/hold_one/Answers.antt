@@ -1,5 +1,4 @@
-use Rattle.std.proofs.Common.{◌≡◌, ℕ, ◌+◌, Some, get_or, inl, inr, refl, sym, subst, ◌∙◌, arith, vec_len}
-use Rattle.std.proofs.lemmas.List.{get_or_default}
+use Rattle.std.proofs.Common.{◌≡◌, ℕ, ◌+◌, Some, inl, inr, refl, sym, subst, arith, vec_len}
 use Rattle.std.specs.FinMap.{insert}
 use Rattle.ifmap_lemmas.specs.Options.{is_some_of}
 use Rattle.ifmap_pool.specs.Holdings.{HoldsOne, entry_at}
@@ -15,13 +14,10 @@ place_of-requires g c = rw (c.deref.ensures.value, c.deref-2.ensures.value) c.se
 
 pub held_at-requires : goal.held_at-requires
 held_at-requires g c =
-    let is = live_is g.met.K.Ord.total _ _ _ _ _ c.self.invariant.0 _ c.self.view_is in
     let found = rw (c.deref.ensures.value, c.deref-2.ensures.value) at c.in-Ok.ensures in
     let number = c.index-number.result.now in
-    let stands : get_or c.self.inside.order.items c.in-Ok.place 0 ≡ number =
-    get_or_default c.self.inside.order.items c.in-Ok.place 0 number found.0 ∙ sym c.index-number.ensures in
     let there = place_held g.met.K.Ord.total (slot_at c.self.inside.slots.items) c.self.inside.order.items c.self.invariant.0.indexed
-    c.args.key c.in-Ok.place found number stands in
+    c.args.key c.in-Ok.place found number c.index-number.ensures in
     rw c.deref-in-Ok.ensures.value (is_some_of _ there.0 there.1)
 
 pub overflow_add-holds : goal.overflow_add-holds
@@ -29,10 +25,8 @@ overflow_add-holds g c =
     let is = live_is g.met.K.Ord.total _ _ _ _ _ c.self.invariant.0 _ c.self.view_is in
     let found = rw (c.deref.ensures.value, c.deref-2.ensures.value) at c.in-Ok.ensures in
     let number = c.index-number.result.now in
-    let stands : get_or c.self.inside.order.items c.in-Ok.place 0 ≡ number =
-    get_or_default c.self.inside.order.items c.in-Ok.place 0 number found.0 ∙ sym c.index-number.ensures in
     let there = place_held g.met.K.Ord.total (slot_at c.self.inside.slots.items) c.self.inside.order.items c.self.invariant.0.indexed
-    c.args.key c.in-Ok.place found number stands in
+    c.args.key c.in-Ok.place found number c.index-number.ensures in
     let mine = names_from_slot c.self.inside.slots.items c.args.self.now is g.K.Ord.cmp number there.0 c.args.key there.1 there.2 in
     let at = rw c.deref-in-Ok.ensures.value at c.held_at.ensures in
     let few = c.requires.few number mine in
@@ -46,13 +40,7 @@ set_holds-requires g c =
 
 pub invariant_of-self : goal.invariant_of-self
 invariant_of-self g c =
-    let is = live_is g.met.K.Ord.total _ _ _ _ _ c.self.invariant.0 _ c.self.view_is in
-    let found = rw (c.deref.ensures.value, c.deref-2.ensures.value) at c.in-Ok.ensures in
     let number = c.index-number.result.now in
-    let stands : get_or c.self.inside.order.items c.in-Ok.place 0 ≡ number =
-    get_or_default c.self.inside.order.items c.in-Ok.place 0 number found.0 ∙ sym c.index-number.ensures in
-    let there = place_held g.met.K.Ord.total (slot_at c.self.inside.slots.items) c.self.inside.order.items c.self.invariant.0.indexed
-    c.args.key c.in-Ok.place found number stands in
     let held = c.held_at.result.now in
     let at = rw c.deref-in-Ok.ensures.value at c.held_at.ensures in
     let value : Held g.row.K.Denot = record held { holds = held.holds + 1 } in (
@@ -77,10 +65,8 @@ returns-in-Ok-clause-holds g c =
     let is = live_is g.met.K.Ord.total _ _ _ _ _ c.self.invariant.0 _ c.self.view_is in
     let found = rw (c.deref.ensures.value, c.deref-2.ensures.value) at c.in-Ok.ensures in
     let number = c.index-number.result.now in
-    let stands : get_or c.self.inside.order.items c.in-Ok.place 0 ≡ number =
-    get_or_default c.self.inside.order.items c.in-Ok.place 0 number found.0 ∙ sym c.index-number.ensures in
     let there = place_held g.met.K.Ord.total (slot_at c.self.inside.slots.items) c.self.inside.order.items c.self.invariant.0.indexed
-    c.args.key c.in-Ok.place found number stands in
+    c.args.key c.in-Ok.place found number c.index-number.ensures in
     let mine = names_from_slot c.self.inside.slots.items c.args.self.now is g.K.Ord.cmp number there.0 c.args.key there.1 there.2 in
     let held = c.held_at.result.now in
     let at = rw c.deref-in-Ok.ensures.value at c.held_at.ensures in

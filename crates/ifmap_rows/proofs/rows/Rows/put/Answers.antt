@@ -1,6 +1,6 @@
 use Rattle.std.proofs.Common.{ap}
 use Rattle.ifmap_plans.specs.Placing.{put}
-use Rattle.ifmap_view.specs.Attachments.{stored_order}
+use Rattle.ifmap_plans.specs.ifmap_view.Attachments.{stored_order}
 use Rattle.ifmap_rows.proofs.Keeping.{exchanged}
 use Rattle.ifmap_rows.proofs.rows.Rows.put.Goals as goal
 

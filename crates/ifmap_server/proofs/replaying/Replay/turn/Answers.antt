@@ -29,7 +29,7 @@ returns-in_err-send-clause-turn g c =
     let framed = c.in-Some.framed in
     let pending = c.next_frame.new.input in
     let is : IsFramed c.self.inside.offset pending framed = rw c.in-Some.is at c.in_ok-framed.ensures.frame in
-    let answered = rw c.pending.ensures at c.in_ok-text.ensures.answered in
+    let answered = rw c.pending_bytes.ensures at c.in_ok-text.ensures.answered in
     rw (p.1, p.2, fault, ← c.self.view_is) (record {
       frame = frame_within framed pending answered.meaning;
       taken = pending;
@@ -47,7 +47,7 @@ returns-clause-turn g c =
     let framed = c.in-Some.framed in
     let pending = c.next_frame.new.input in
     let is : IsFramed c.self.inside.offset pending framed = rw c.in-Some.is at c.in_ok-framed.ensures.frame in
-    let answered = rw c.pending.ensures at c.in_ok-text.ensures.answered in
+    let answered = rw c.pending_bytes.ensures at c.in_ok-text.ensures.answered in
     let frame = frame_within framed pending answered.meaning in
     rw (← c.self.view_is) (record {
       frame = frame;

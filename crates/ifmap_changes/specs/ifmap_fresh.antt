@@ -1,0 +1,3 @@
+-- What the crates above name of `ifmap_fresh`.
+pub use Rattle.ifmap_tellings.specs.ifmap_fresh.Fresh
+pub use Rattle.ifmap_tellings.specs.ifmap_fresh.Linking

@@ -1,0 +1,2 @@
+-- What the crates above name of `ifmap_changes`.
+pub use Rattle.ifmap_subscribes.specs.ifmap_changes.contracts

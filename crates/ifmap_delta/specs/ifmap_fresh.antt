@@ -1,0 +1,5 @@
+-- What the crates above name of `ifmap_fresh`.
+pub use Rattle.ifmap_fresh.specs.Fresh
+pub use Rattle.ifmap_fresh.specs.Linking
+pub use Rattle.ifmap_fresh.specs.Matching
+pub use Rattle.ifmap_fresh.specs.laws

@@ -1,0 +1,2 @@
+-- What the crates above name of `ifmap_replies`.
+pub use Rattle.ifmap_machine.specs.ifmap_replies.contracts

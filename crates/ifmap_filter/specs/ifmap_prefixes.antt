@@ -1,0 +1,2 @@
+-- What the crates above name of `ifmap_prefixes`.
+pub use Rattle.ifmap_prefixes.specs.InScope

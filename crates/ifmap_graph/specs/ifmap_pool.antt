@@ -1,0 +1,2 @@
+-- What the crates above name of `ifmap_pool`.
+pub use Rattle.ifmap_pool.specs.Holdings

@@ -1,0 +1,3 @@
+-- What is taken from a source piece by piece.
+pub mod Inputs
+pub mod InputLaws

@@ -1,0 +1,2 @@
+-- What the crates above name of `ifmap_region`.
+pub use Rattle.ifmap_folds.specs.ifmap_region.contracts

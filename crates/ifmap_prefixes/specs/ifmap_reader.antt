@@ -1,0 +1,2 @@
+-- What the crates above name of `ifmap_reader`.
+pub use Rattle.ifmap_reader.specs.declared

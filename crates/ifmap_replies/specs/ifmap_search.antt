@@ -1,0 +1,3 @@
+-- What the crates above name of `ifmap_search`.
+pub use Rattle.ifmap_search.specs.Sizes
+pub use Rattle.ifmap_search.specs.declared

@@ -1,0 +1,4 @@
+-- What the crates above name of `ifmap_search`.
+pub use Rattle.ifmap_search.specs.Sizes
+pub use Rattle.ifmap_search.specs.contracts
+pub use Rattle.ifmap_search.specs.declared

@@ -1,0 +1,3 @@
+-- What the crates above name of `ifmap_session`.
+pub use Rattle.ifmap_standing.specs.ifmap_session.Sessions
+pub use Rattle.ifmap_standing.specs.ifmap_session.laws
