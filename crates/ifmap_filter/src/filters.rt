@@ -56,7 +56,7 @@ fn copy_parts(alloc: Global, parts: &Many<Predicate>) -> Result<Many<Predicate>,
     ensures { IfOk result (λ made. made ≡ parts.now) }
 {
     let mut made = Vec::with_capacity(alloc, parts.len())?;
-    for part in &parts.0 {
+    for part in parts.as_slice() {
         made.push(copy_predicate(alloc, part)?)?;
     }
     Ok(Many(made))

@@ -19,7 +19,7 @@ pub(crate) fn has_attribute(element: &Element, local: &Text, value: &Text) -> bo
 fn is_attribute(attribute: &Attribute, local: &Text, value: &Text) -> bool
     ensures { result ≡ is_attribute local.now value.now attribute.now }
 {
-    attribute.name.space.0.is_empty() && attribute.name.local == *local && attribute.value == *value
+    attribute.name.space.is_empty() && attribute.name.local == *local && attribute.value == *value
 }
 
 // Whether some child element of this name has this text.
@@ -27,7 +27,7 @@ pub(crate) fn has_child(element: &Element, name: &Name, value: &Text) -> bool
     ensures { result ≡ has_child name.now value.now element.now }
 {
     let children = &element.children;
-    children.0.iter().any(|child| is_child(child, name, value))
+    children.iter().any(|child| is_child(child, name, value))
 }
 
 fn is_child(child: &Child, name: &Name, value: &Text) -> bool
@@ -43,7 +43,7 @@ fn is_text_element(element: &Element, name: &Name, value: &Text) -> bool
     ensures { result ≡ is_text_element name.now value.now element.now }
 {
     let children = &element.children;
-    element.name == *name && has_text(&children.0, value.0.as_bytes())
+    element.name == *name && has_text(children.as_slice(), value.as_bytes())
 }
 
 // Whether the text among these children is this one. The texts are not joined: each is taken off what
@@ -68,7 +68,7 @@ fn after_own_text<'a>(child: &Child, bytes: &'a [u8]) -> Option<&'a [u8]>
 {
     match child {
         Child::Element(_) => Some(bytes),
-        Child::Text(text) => after_word(text.0.as_bytes(), bytes),
+        Child::Text(text) => after_word(text.as_bytes(), bytes),
     }
 }
 

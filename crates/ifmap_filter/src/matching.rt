@@ -13,7 +13,7 @@ impl Filter {
     pub fn matches(&self, element: &Element) -> bool
         ensures { result ≡ meets self.now element.now }
     {
-        self.tests.0.iter().any(|test| meets_test(test, element))
+        self.tests.iter().any(|test| meets_test(test, element))
     }
 }
 
@@ -68,7 +68,7 @@ fn holds(predicate: &Predicate, element: &Element) -> bool
 fn all_hold(parts: &Many<Predicate>, element: &Element) -> bool
     ensures { result ≡ list_all (holds element.now) parts.now }
 {
-    for part in &parts.0 {
+    for part in parts.as_slice() {
         if !holds(part, element) {
             return false;
         }
@@ -80,7 +80,7 @@ fn all_hold(parts: &Many<Predicate>, element: &Element) -> bool
 fn one_holds(parts: &Many<Predicate>, element: &Element) -> bool
     ensures { result ≡ list_any (holds element.now) parts.now }
 {
-    for part in &parts.0 {
+    for part in parts.as_slice() {
         if holds(part, element) {
             return true;
         }

@@ -175,7 +175,7 @@ fn push_parts(
         ≡ string_bytes out.old ++ parts_text spaces.now around parts.now) }
 {
     let mut word = "";
-    for part in &parts.0 {
+    for part in parts.as_slice() {
         out.push_str(word)?;
         push_predicate(out, spaces, part, around)?;
         word = word_in(around);

@@ -89,7 +89,7 @@ fn has_predicate(spaces: &[Text], predicate: &Predicate) -> bool
 fn has_parts(spaces: &[Text], parts: &Many<Predicate>) -> bool
     ensures { result ≡ list_all (λ p. has_each spaces.now (predicate_spaces p)) parts.now }
 {
-    for part in &parts.0 {
+    for part in parts.as_slice() {
         if !has_predicate(spaces, part) {
             return false;
         }
@@ -187,7 +187,7 @@ fn add_parts(alloc: Global, spaces: &mut Vec<Text>, parts: &Many<Predicate>) -> 
     ensures { OnOk result (spaces.new.items
         ≡ with_each spaces.old.items (flat_map predicate_spaces parts.now)) }
 {
-    for part in &parts.0 {
+    for part in parts.as_slice() {
         add_predicate(alloc, spaces, part)?;
     }
     Ok(())

@@ -20,7 +20,7 @@ pub fn value_of<'a>(element: &'a Element, local: &str) -> Option<&'a Text>
     ensures { option_copied result ≡ value_of local.now element.now }
 {
     let attributes = &element.attributes;
-    match attribute_of(&attributes.0, local) {
+    match attribute_of(attributes.as_slice(), local) {
         Some(attribute) => Some(&attribute.value),
         None => None,
     }
@@ -88,7 +88,7 @@ pub(crate) fn is_blank_inside(element: &Element) -> bool
     ensures { result ≡ is_blank_inside element.now }
 {
     let children = &element.children;
-    children.0.iter().all(is_blank)
+    children.iter().all(is_blank)
 }
 
 // The child that is not white space, where there is one alone.

@@ -73,7 +73,7 @@ fn device_name(element: &Element) -> Option<&Text>
     ensures none { IsNone result → (name : List ℕ) → IsDevice element.now name → ⊥ }
 {
     let children = &element.children;
-    let child = only_solid_child(&children.0)?;
+    let child = only_solid_child(children.as_slice())?;
     match child {
         Child::Element(child) => text_of_name(child),
         Child::Text(_) => None,
@@ -89,7 +89,7 @@ fn text_of_name(child: &Element) -> Option<&Text>
         return None;
     }
     let children = &child.children;
-    let text = only_text(&children.0)?;
+    let text = only_text(children.as_slice())?;
     if text.is_empty() { None } else { Some(text) }
 }
 

@@ -35,7 +35,7 @@ impl ClientName {
         ensures some { IsSome result ↔ IsClientName text }
         ensures text { IfSome result (λ name. name ≡ text) }
     {
-        if is_client_name(text.0.as_str()) {
+        if is_client_name(text.as_str()) {
             Some(ClientName(text))
         } else {
             None

@@ -45,7 +45,7 @@ fn mix_content(word: u64, attributes: &Many<Attribute>) -> u64
         ≡ mix_all word (flat_map attribute_parts (without_stamps attributes.now)) }
 {
     let mut mixed = word;
-    for attribute in &attributes.0 {
+    for attribute in attributes.as_slice() {
         if !is_stamp(attribute) {
             mixed = mix_attribute(mixed, attribute);
         }
@@ -58,7 +58,7 @@ fn mix_attributes(word: u64, attributes: &Many<Attribute>) -> u64
     ensures { result ≡ mix_all word (flat_map attribute_parts attributes.now) }
 {
     let mut mixed = word;
-    for attribute in &attributes.0 {
+    for attribute in attributes.as_slice() {
         mixed = mix_attribute(mixed, attribute);
     }
     mixed
@@ -80,7 +80,7 @@ fn mix_children(word: u64, children: &Many<Child>) -> u64
     ensures { result ≡ mix_all word (flat_map parts_of_child children.now) }
 {
     let mut mixed = word;
-    for child in &children.0 {
+    for child in children.as_slice() {
         mixed = mix_child(mixed, child);
     }
     mixed

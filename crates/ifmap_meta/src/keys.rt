@@ -59,7 +59,7 @@ fn same_content(one: &Element, other: &Element) -> bool
     ensures { IsTrue result ↔ (content_of one.now ≡ content_of other.now) }
 {
     one.name.equals(&other.name)
-        && same_content_attributes(&one.attributes.0, &other.attributes.0)
+        && same_content_attributes(one.attributes.as_slice(), other.attributes.as_slice())
         && one.children.equals(&other.children)
 }
 

@@ -91,25 +91,25 @@ pub fn cardinality_of(element: &Element) -> Option<Cardinality>
 pub fn is_single(element: &Element) -> bool
     ensures { result ≡ is_single element.now }
 {
-    element.attributes.0.iter().any(is_single_value)
+    element.attributes.iter().any(is_single_value)
 }
 
 fn is_multi(element: &Element) -> bool
     ensures { result ≡ is_multi element.now }
 {
-    element.attributes.0.iter().any(is_multi_value)
+    element.attributes.iter().any(is_multi_value)
 }
 
 fn is_single_value(attribute: &Attribute) -> bool
     ensures { result ≡ is_single_value attribute.now }
 {
-    attribute.name.is_bare("ifmap-cardinality") && attribute.value.0.as_str() == "singleValue"
+    attribute.name.is_bare("ifmap-cardinality") && attribute.value.as_str() == "singleValue"
 }
 
 fn is_multi_value(attribute: &Attribute) -> bool
     ensures { result ≡ is_multi_value attribute.now }
 {
-    attribute.name.is_bare("ifmap-cardinality") && attribute.value.0.as_str() == "multiValue"
+    attribute.name.is_bare("ifmap-cardinality") && attribute.value.as_str() == "multiValue"
 }
 
 // Whether the element has more canonical bytes than content can have.

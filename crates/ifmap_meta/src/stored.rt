@@ -117,8 +117,8 @@ pub(crate) fn is_stamp(attribute: &Attribute) -> bool
 fn without_stamps(alloc: Global, attributes: &Many<Attribute>) -> Result<Many<Attribute>, NoMemory>
     ensures { IfOk result (λ made. made ≡ without_stamps attributes.now) }
 {
-    let mut made = Vec::with_capacity(alloc, attributes.0.len())?;
-    for attribute in &attributes.0 {
+    let mut made = Vec::with_capacity(alloc, attributes.len())?;
+    for attribute in attributes.as_slice() {
         if !is_stamp(attribute) {
             made.push(attribute.copy(alloc)?)?;
         }

@@ -11,7 +11,7 @@ use std::alloc::{AllocError as NoMemory, Global};
 pub fn declarations_of(alloc: Global, scope: &Scope) -> Result<Many<Declared>, NoMemory>
     ensures { IfOk result (λ rows. scope_by rows [] ≡ scope.now) }
 {
-    let mut declared = declare_rows(alloc, &scope.rows.0)?;
+    let mut declared = declare_rows(alloc, scope.rows.as_slice())?;
     declared.0.reverse();
     Ok(declared)
 }

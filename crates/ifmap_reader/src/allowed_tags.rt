@@ -24,12 +24,12 @@ pub(crate) fn open_element(
     ensures { TagAnswer (reverse open_elements.now) tag result }
 {
     let Tag { name, assignments } = tag;
-    let bindings = bindings_of(alloc, &assignments.0)?;
+    let bindings = bindings_of(alloc, assignments.as_slice())?;
     let Some(space) = space_of(alloc, &bindings, open_elements, &name.prefix)? else {
         return Err(TokenRefusal::NotAllowed);
     };
     let attributes = attributes_of(alloc, &bindings, open_elements, assignments)?;
-    if !have_other_names(alloc, &attributes.0)? {
+    if !have_other_names(alloc, attributes.as_slice())? {
         return Err(TokenRefusal::NotAllowed);
     }
     let declaring = innermost_declaring(&bindings, open_elements);
@@ -98,10 +98,10 @@ fn space_of(
 fn root_space_of(alloc: Global, prefix: &Text) -> Result<Option<Text>, NoMemory>
     ensures { IfOk result (λ space. space ≡ bound root_scope prefix.now) }
 {
-    if prefix.0.as_bytes() == XML.as_bytes() {
+    if prefix.as_bytes() == XML.as_bytes() {
         return Ok(Some(Text(String::from_str(alloc, XML_SPACE)?)));
     }
-    if prefix.0.as_bytes().is_empty() {
+    if prefix.is_empty() {
         return Ok(Some(Text(String::new(alloc))));
     }
     Ok(None)
@@ -143,7 +143,7 @@ fn attribute_of(
 {
     let Assignment { name, value } = assignment;
     let local = name.local;
-    if name.prefix.0.as_bytes().is_empty() {
+    if name.prefix.is_empty() {
         let space = Text(String::new(alloc));
         let name = Name { space, local };
         return Ok(Attribute { name, value });

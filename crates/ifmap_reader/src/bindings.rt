@@ -110,7 +110,7 @@ impl Bindings {
             return Ok(self);
         };
         let space = &assignment.value;
-        if !may_bind(prefix, space.0.as_str()) {
+        if !may_bind(prefix, space.as_str()) {
             return Err(TokenRefusal::NotAllowed);
         }
         let prefix = Text(String::from_str(alloc, prefix)?);
@@ -128,10 +128,10 @@ pub(crate) fn bound_prefix(assignment: &Assignment) -> Option<&str>
     ensures { binding_of assignment.now ≡ told_binding result assignment.now.value }
 {
     let name = &assignment.name;
-    if name.prefix.0.as_bytes() == XMLNS.as_bytes() {
-        return Some(name.local.0.as_str());
+    if name.prefix.as_bytes() == XMLNS.as_bytes() {
+        return Some(name.local.as_str());
     }
-    if name.prefix.0.as_bytes().is_empty() && name.local.0.as_bytes() == XMLNS.as_bytes() {
+    if name.prefix.is_empty() && name.local.as_bytes() == XMLNS.as_bytes() {
         return Some("");
     }
     None

@@ -49,7 +49,7 @@ fn take_next_inside(
     requires { AreLinked (reverse open_elements) }
     ensures { NextAnswer depth (Within (reverse open_elements)) bytes.now result }
 {
-    let Some(length) = innermost_end_length(&open_elements.0, bytes) else {
+    let Some(length) = innermost_end_length(open_elements.as_slice(), bytes) else {
         return take_made_token(alloc, depth, DocumentStanding::Open(open_elements), bytes);
     };
     let standing = end_innermost(alloc, open_elements)?;

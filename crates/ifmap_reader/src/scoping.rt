@@ -35,7 +35,7 @@ pub fn scope_at(alloc: Global, reading: &Reading, path: &[u32]) -> Result<Scope,
     ensures resolved { IfOk result (λ s. ListsScope s.rows reading.now path.now) }
 {
     declarations_tell_the_scopes();
-    let spaces = spaces_at(alloc, &reading.declared.0, path)?;
+    let spaces = spaces_at(alloc, reading.declared.as_slice(), path)?;
     let rows = rows_of(alloc, spaces)?;
     Ok(Scope { rows })
 }
@@ -64,13 +64,13 @@ fn spaces_at(
 fn is_listed_at(declaration: &Declared, path: &[u32]) -> bool
     ensures { result ≡ is_listed_at path.now declaration.now }
 {
-    path.starts_with(&declaration.path.0) && is_listed(&declaration.prefix)
+    path.starts_with(declaration.path.as_slice()) && is_listed(&declaration.prefix)
 }
 
 fn is_listed(prefix: &Text) -> bool
     ensures { result ≡ is_listed prefix.now }
 {
-    !(prefix.0.as_bytes().is_empty() || prefix.0.as_bytes() == XML.as_bytes())
+    !(prefix.is_empty() || prefix.as_bytes() == XML.as_bytes())
 }
 
 fn rows_of(alloc: Global, spaces: BTreeMap<Text, Text>) -> Result<Many<(Text, Text)>, NoMemory>

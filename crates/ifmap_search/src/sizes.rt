@@ -23,7 +23,7 @@ fn size_with(entries: &Many<Entry>) -> u64
     ensures { result ≡ min (100 + entries_size entries.now) (2 ^ 64 - 1) }
 {
     let mut size = 100u64;
-    for entry in &entries.0 {
+    for entry in entries.as_slice() {
         size = size.saturating_add(entry_size(entry));
     }
     size

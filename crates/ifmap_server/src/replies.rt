@@ -62,7 +62,7 @@ impl AnswerText {
         ensures { IfOk result (λ text. text ≡ answer_text (Answer.Reply reply.now)) }
     {
         let reply = write_reply(alloc, reply)?;
-        let length = reply.0.len();
+        let length = reply.len();
         let line = format!(in alloc; "={length}\n")?;
         Ok(AnswerText { line, reply })
     }
@@ -85,7 +85,7 @@ impl AnswerText {
         ensures fault { HasCause (K.faults sink.old) (K.faults sink.new) result }
     {
         write(sink, self.line.as_bytes())?;
-        write(sink, self.reply.0.as_slice())?;
+        write(sink, self.reply.as_slice())?;
         hand_on(sink)
     }
 }

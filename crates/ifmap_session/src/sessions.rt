@@ -101,7 +101,7 @@ impl Sessions {
         ensures none { IfNone result (session_with_id id.now self.now.live ≡ None) }
     {
         let rows = &self.rows;
-        let serial = serial_of(id.0.as_str())?;
+        let serial = serial_of(id.as_str())?;
         let kept = find_live(rows, serial)?;
         if kept.id().equals(id) {
             Some((serial, kept.client()))
