@@ -109,7 +109,7 @@ fn move_near<'a, G: View, D: View, L: Ledger>(
         marks: &patched,
     };
     let plan = located.plan;
-    let changes = plan.changes.as_slice();
+    let changes = &plan.changes.0;
     let items = touched_items(alloc, &before, &after, changes, &located.changes, steps)?;
     let told = differences_on(alloc, &before, &after, items, changes)?;
     let Some(new_size) = size_after(subscription.size, &told) else {
@@ -200,7 +200,7 @@ fn patch_for<'a, G: View, D: View, L: Ledger>(
         alloc,
         search,
         &subscription.region,
-        plan.changes.as_slice(),
+        &plan.changes.0,
         &located.changes,
     )?;
     let links = LinksOf {

@@ -54,11 +54,11 @@ pub fn locate_plan<'a, G: View, D: View>(
         (view_seen G.rows G.id_at G.links graph.now) (view_seen D.rows D.id_at D.links draft.now)) }
 {
     let mut changes = Vec::new(alloc);
-    for change in plan.changes.as_slice() {
+    for change in &plan.changes.0 {
         changes.push(locate_change(graph, draft, &change.item))?;
     }
     let mut notes = Vec::new(alloc);
-    for note in plan.notes.as_slice() {
+    for note in &plan.notes.0 {
         notes.push(locate_item(draft, note.item.item()))?;
     }
     Ok(LocatedPlan {

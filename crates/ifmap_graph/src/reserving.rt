@@ -149,14 +149,14 @@ impl Graph {
         ensures err { OnErr result (IsSeenSame self.old self.new) }
     {
         bytes_tell_identifiers_apart();
-        let lists = empty_lists(alloc, plan.changes.len())?;
+        let lists = empty_lists(alloc, plan.changes.0.len())?;
         let mut ways = Vec::new(alloc);
         make_ready(
             &mut self.names,
             &mut self.shelves,
             &mut self.links,
             alloc,
-            plan.changes.as_slice(),
+            &plan.changes.0,
             &mut ways,
         )?;
         Ok(Ready {
@@ -182,9 +182,9 @@ impl Graph {
         drop_plan(
             &mut self.shelves,
             &mut self.links,
-            ready.plan.changes.as_slice(),
-            ready.ways.as_slice(),
+            &ready.plan.changes.0,
+            &ready.ways.0,
         );
-        self.release_waits(ready.plan.changes.as_slice());
+        self.release_waits(&ready.plan.changes.0);
     }
 }

@@ -52,7 +52,7 @@ pub(crate) fn apply_op<V: Keyed>(
             elements,
             forever,
         } => {
-            let rows = rows_of(alloc, author, *forever, elements.as_slice())?;
+            let rows = rows_of(alloc, author, *forever, &elements.0)?;
             attach_each(alloc, view, item, &rows, edit)?;
             Ok(())
         }

@@ -153,7 +153,7 @@ fn ready_all<L: Ledger>(
     ensures holds { OnlyHolds parts.old parts.new }
     ensures steps { AreOpsWithin (rows_now parts.old.graph) ops.now steps.old steps.new }
 {
-    for op in ops.as_slice() {
+    for op in &ops.0 {
         ready_op(alloc, parts, scene, op, readying, steps)?;
     }
     Ok(())

@@ -39,7 +39,7 @@ push_predicate-returns-in-Or t c =
 
 pub push_parts-loop-part-preserved : goal.push_parts-loop-part-preserved
 push_parts-loop-part-preserved t c =
-    let list = c.deref-part-items.ensures.value ∙ c.parts.view_is in (
+    let list = c.as_slice-part-items.ensures in (
       c.word_in-word.utf8,
       joined_more (word_in c.args.around) (λ p. text_in c.args.around (predicate_text c.args.spaces.now p)) c.args.parts.now
           c.loop-part.part-index
@@ -59,4 +59,4 @@ push_parts-returns t c =
     ∙ ap (λ l. string_bytes c.args.out.now ++ joined_texts (word_in c.args.around)
     (λ p. text_in c.args.around (predicate_text c.args.spaces.now p)) l)
     (take_all c.loop-part.part-index c.args.parts.now
-    (omega (arith, c.loop-part-test.false, ap length (c.deref-part-items.ensures.value ∙ c.parts.view_is))))
+    (omega (arith, c.loop-part-test.false, ap length c.as_slice-part-items.ensures)))

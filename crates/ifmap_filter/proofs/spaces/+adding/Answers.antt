@@ -19,7 +19,7 @@ add_predicate-returns-in-Or t c =
 
 pub add_parts-loop-part-preserved : goal.add_parts-loop-part-preserved
 add_parts-loop-part-preserved t c =
-    let list = c.deref-part-items.ensures.value ∙ c.parts.view_is in
+    let list = c.as_slice-part-items.ensures in
     run_more predicate_spaces c.args.parts.now c.loop-part.part-index c.part-item.result c.args.spaces.now.items c.loop-part.spaces.items
     c.add_predicate.new.spaces.items (omega (arith, c.loop-part-test.true, ap length list))
     (c.part-item.is ∙ ap (λ (l : List Predicate). get_or l c.loop-part.part-index c.part-item.result) list)

@@ -8,7 +8,7 @@ pub loop-attribute-preserved : goal.loop-attribute-preserved
 loop-attribute-preserved c =
     let i = c.loop-attribute.attribute-index in
     let x : Attribute = c.attribute-item.result in
-    let all : c.deref-attribute-items.result.now ≡ c.args.attributes.now = c.deref-attribute-items.ensures.value ∙ c.attributes.view_is in
+    let all : c.as_slice-attribute-items.result.now ≡ c.args.attributes.now = c.as_slice-attribute-items.ensures in
     mixed_more attribute_parts c.args.word c.args.attributes.now i x c.loop-attribute.mixed c.mix_attribute-mixed.result
     (omega (arith, c.loop-attribute-test.true, c.loop-attribute.auto.attribute-index-end, ap length all))
     (subst (λ (ys : List Attribute). x ≡ get_or ys i x) all c.attribute-item.is) c.loop-attribute.invariant c.mix_attribute-mixed.ensures

@@ -8,7 +8,7 @@ pub loop-attribute-preserved : goal.loop-attribute-preserved
 loop-attribute-preserved c =
     let i = c.loop-attribute.attribute-index in
     let x : Attribute = c.attribute-item.result in
-    let all : c.deref-attribute-items.result.now ≡ c.args.attributes.now = c.deref-attribute-items.ensures.value ∙ c.attributes.view_is in
+    let all : c.as_slice-attribute-items.result.now ≡ c.args.attributes.now = c.as_slice-attribute-items.ensures in
     let low : i < length c.args.attributes.now =
     omega (arith, c.loop-attribute-test.true, c.loop-attribute.auto.attribute-index-end, ap length all) in
     let at : x ≡ get_or c.args.attributes.now i x = subst (λ (ys : List Attribute). x ≡ get_or ys i x) all c.attribute-item.is in
