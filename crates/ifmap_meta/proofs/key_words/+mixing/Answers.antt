@@ -1,4 +1,4 @@
-use Rattle.std.proofs.Common.{◌≡◌, List, ap, ◌∙◌, subst, arith, length, get_or}
+use Rattle.std.proofs.Common.{◌≡◌, List, ap, subst, arith, length, get_or}
 use Rattle.ifmap_elem.specs.declared.elements.Child.{Child}
 use Rattle.ifmap_meta.specs.KeyWords.{parts_of_child}
 use Rattle.ifmap_meta.proofs.Mixing.{mixed_more}

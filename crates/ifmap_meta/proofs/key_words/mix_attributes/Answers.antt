@@ -1,4 +1,4 @@
-use Rattle.std.proofs.Common.{◌≡◌, List, ap, ◌∙◌, subst, arith, length, get_or}
+use Rattle.std.proofs.Common.{◌≡◌, List, ap, subst, arith, length, get_or}
 use Rattle.ifmap_elem.specs.declared.elements.Attribute.{Attribute}
 use Rattle.ifmap_meta.specs.KeyWords.{attribute_parts}
 use Rattle.ifmap_meta.proofs.Mixing.{mixed_more}
