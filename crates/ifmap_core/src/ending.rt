@@ -175,7 +175,7 @@ fn end_and_answer<L: Ledger>(
         client: &event.client,
         moment: time.moment,
         ttl: time.ttl,
-        ended: serials.as_slice(),
+        ended: &serials.0,
     };
     let mut pending = pending_without(alloc, parts, &asking)?;
     let made = take_away_kept(alloc, parts, &mut pending, &asking, &who, steps)?;
