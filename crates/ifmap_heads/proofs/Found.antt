@@ -17,7 +17,8 @@ use Rattle.ifmap_heads.specs.Posts.{Judgement, judge_parts, judge_post}
 use Rattle.ifmap_heads.specs.Starts.{StartsPost}
 use Rattle.ifmap_heads.specs.declared.posts.PostStart.{PostStart}
 use Rattle.ifmap_heads.specs.declared.posts.PostStart.TheVariants as post
-use Rattle.ifmap_heads.proofs.PostHeads.{none_so_small, none_when_long, none_yet, refused_none}
+use Rattle.ifmap_heads.proofs.HeadFronts.{many_bytes, none_so_small, none_when_long, none_yet, posts}
+use Rattle.ifmap_heads.proofs.PostHeads.{refused_past_limits}
 
 pub is_too_many : (e : Error) → (e ≡ TooManyHeaders) ⊎ (e ≢ TooManyHeaders)
 is_too_many TooManyHeaders = inl refl
@@ -51,7 +52,7 @@ starts bytes r none_long none may long short = by_test (nat_lt longest_head (len
     by_test : (t : Bool) → nat_lt longest_head (length bytes) ≡ t → StartsPost bytes r
     by_test true is =
         let past = ltb-true longest_head (length bytes) is in
-        rw (long past) (λ more. refused_none bytes more past (none_long more past))
+        rw (long past) (λ more. refused_past_limits (bytes ++ more) (many_bytes posts bytes more past (none_long more past)))
     by_test false is =
         let within = ltb-false longest_head (length bytes) is in
         rw (short within) (record { none = none; short = within; unfinished = may })
@@ -59,13 +60,13 @@ starts bytes r none_long none may long short = by_test (nat_lt longest_head (len
 pub starts_partial : (bytes : List ℕ) (r : PostStart) → HasNoRequest bytes → MayBecomeRequest bytes
     → (longest_head < length bytes → r ≡ post.Refused 400) → (length bytes ≤ longest_head → r ≡ post.Unfinished) → StartsPost bytes r
 starts_partial bytes r absent may long short =
-    starts bytes r (λ more past. none_when_long bytes more absent past) (none_yet bytes absent) may long short
+    starts bytes r (λ more past. none_when_long posts bytes more absent past) (none_yet posts bytes absent) may long short
 
 pub starts_in_target : (bytes : List ℕ) (r : PostStart) → RequestOverflows most_fields bytes → EndsInTarget bytes
     → (longest_head < length bytes → r ≡ post.Refused 400) → (length bytes ≤ longest_head → r ≡ post.Unfinished) → StartsPost bytes r
 starts_in_target bytes r overflows target long short =
-    starts bytes r (λ more past. none_so_small bytes more overflows)
-    (subst HasNoPostHead (append-nil bytes) (none_so_small bytes [] overflows)) (inr target) long short
+    starts bytes r (λ more past. none_so_small posts bytes more overflows)
+    (subst HasNoPostHead (append-nil bytes) (none_so_small posts bytes [] overflows)) (inr target) long short
 
 pub head_within : (bytes : List ℕ) (h : RequestHead) (rest : List ℕ) (size : ℕ) → ReadsRequest bytes h rest
     → size ≡ length (print_request h) → size ≤ length bytes

@@ -3,6 +3,7 @@ pub mod AnswersOnce
 pub mod ClientTests
 pub mod Found
 pub mod General
+pub mod HeadFronts
 pub mod Lines
 pub mod PostHeads
 pub mod PostsOnce

@@ -6,7 +6,8 @@ use Rattle.httparse.specs.Grammar.{RequestHead}
 use Rattle.httparse.proofs.GrammarLemmas.{request_unique}
 use Rattle.ifmap_heads.specs.Heads.{BeginsNoPost, IsCutPostHead, IsPostHead}
 use Rattle.ifmap_heads.specs.Posts.{Incoming, Judgement, ReadsPost, ended, judge_post, posted, refused, status, taken, truncated}
-use Rattle.ifmap_heads.proofs.PostHeads.{head_is_some, nothing_never}
+use Rattle.ifmap_heads.proofs.HeadFronts.{head_is_some, posts}
+use Rattle.ifmap_heads.proofs.PostHeads.{nothing_never}
 
 -- what a head and the bytes after it are read as
 come_of : Judgement → List ℕ → Incoming
@@ -43,7 +44,7 @@ nothing_none left e is = by_cause (subst BeginsNoPost e is)
     ]
 
 nothing_whole : (left : List ℕ) → left ≡ [] → (h : RequestHead) (rest : List ℕ) → IsPostHead left h rest → ⊥
-nothing_whole left e h rest is = head_is_some h rest (is.reads.0, sym e ∙ is.reads.1)
+nothing_whole left e h rest is = head_is_some posts h rest (is.reads.0, sym e ∙ is.reads.1)
 
 cut_none : (left : List ℕ) → IsCutPostHead left → BeginsNoPost left → ⊥
 cut_none left is it = elim it.passed [

@@ -1,7 +1,8 @@
-use Rattle.std.proofs.Common.{Err, ◌≡◌, ℕ, length, drop, subst, ap, inl, inr, arith}
+use Rattle.std.proofs.Common.{Err, ◌≡◌, ℕ, ◌++◌, length, drop, subst, ap, inl, inr, arith}
 use Rattle.httparse.specs.Spans.{RequestExceeds, RequestOverflows}
-use Rattle.ifmap_heads.proofs.PostHeads.{refused_head_long, refused_head_wide, refused_many, refused_by_head, refused_never, head_stands}
+use Rattle.ifmap_heads.proofs.PostHeads.{refused_by_head, refused_never, refused_past_limits, head_stands}
 use Rattle.ifmap_heads.proofs.Found.{field_count, head_within, is_too_many, option_now, post_says, starts_in_target, starts_partial}
+use Rattle.ifmap_heads.proofs.HeadFronts.{head_too_long, head_too_wide, many_fields, posts}
 use Rattle.ifmap_heads.proofs.posts.read_post_head.Goals.{then-size-gt-LONGEST_HEAD-via-then-size-gt-LONGEST_HEAD, then-size-gt-LONGEST_HEAD-via-else-size-gt-LONGEST_HEAD+then-request-gt-MOST_FIELDS}
 use Rattle.ifmap_heads.proofs.posts.read_post_head.Goals as goal
 
@@ -10,14 +11,15 @@ returns-then-size-gt-LONGEST_HEAD c =
     rw c.refuse.ensures
     (λ more.
     let (h, holds) = rw c.in-Ok-Complete.field-0-is at c.in-Ok-Complete.ensures.complete in
-    elim c.then-size-gt-LONGEST_HEAD.branch [
+    refused_past_limits (c.args.bytes.now ++ more)
+    (elim c.then-size-gt-LONGEST_HEAD.branch [
       | then-size-gt-LONGEST_HEAD-via-then-size-gt-LONGEST_HEAD w ↦
-          refused_head_long c.args.bytes.now more h (drop c.in-Ok-Complete.size c.args.bytes.now) holds.reads
+          head_too_long posts c.args.bytes.now more h (drop c.in-Ok-Complete.size c.args.bytes.now) holds.reads
           (omega (arith, holds.len_is, w.if-size-gt-LONGEST_HEAD.true))
       | then-size-gt-LONGEST_HEAD-via-else-size-gt-LONGEST_HEAD+then-request-gt-MOST_FIELDS w ↦
-          refused_head_wide c.args.bytes.now more h (drop c.in-Ok-Complete.size c.args.bytes.now) holds.reads
+          head_too_wide posts c.args.bytes.now more h (drop c.in-Ok-Complete.size c.args.bytes.now) holds.reads
           (omega (arith, field_count c.parse.new.self.headers.now h.fields holds.fields, w.if-request-gt-MOST_FIELDS.true))
-    ])
+    ]))
 
 pub returns-in-Refused : goal.returns-in-Refused
 returns-in-Refused c =
@@ -73,8 +75,9 @@ returns-else-ends_in_target c =
     let overflows = subst (λ (n : ℕ). RequestOverflows n c.args.bytes.now) room c.in-Err.ensures.no_room in
     elim (is_too_many c.in-Err.field-0) [
       | inl same ↦
-          refused_many c.args.bytes.now more overflows
-          (subst (λ (n : ℕ). RequestExceeds n c.args.bytes.now) room (c.in-Err.ensures.too_many (ap Err same)))
+          refused_past_limits (c.args.bytes.now ++ more)
+          (many_fields posts c.args.bytes.now more overflows
+          (subst (λ (n : ℕ). RequestExceeds n c.args.bytes.now) room (c.in-Err.ensures.too_many (ap Err same))))
       | inr other ↦
           refused_never c.args.bytes.now more (c.in-Err.ensures.invalid other)
           (λ target. let yes_is = c.ends_in_target.ensures.1 target in let no_is = c.if-ends_in_target.false in cc)
