@@ -9,7 +9,7 @@ use Rattle.ifmap_session.proofs.sessions.Sessions.owner.Goals as goal
 
 pub returns-in_err-serial-clause-none : goal.returns-in_err-serial-clause-none
 returns-in_err-serial-clause-none c =
-    let id = c.as_str.ensures.value ∙ c.id.view_is in
+    let id = c.as_str.ensures in
     let k = c.self.invariant.sessions in
     let live = live_of c.self.inside.rows.items in
     let leads = id_leads c.self.inside.counter live c.args.id.now c.serial_of.result k.small
@@ -19,7 +19,7 @@ returns-in_err-serial-clause-none c =
 
 pub returns-in_err-kept-clause-none : goal.returns-in_err-kept-clause-none
 returns-in_err-kept-clause-none c =
-    let id = c.as_str.ensures.value ∙ c.id.view_is in
+    let id = c.as_str.ensures in
     let k = c.self.invariant.sessions in
     let live = live_of c.self.inside.rows.items in
     let leads = id_leads c.self.inside.counter live c.args.id.now c.serial_of.result k.small
@@ -31,7 +31,7 @@ returns-in_err-kept-clause-none c =
 
 pub returns-then-equals-clause-some : goal.returns-then-equals-clause-some
 returns-then-equals-clause-some c =
-    let id = c.as_str.ensures.value ∙ c.id.view_is in
+    let id = c.as_str.ensures in
     let k = c.self.invariant.sessions in
     let live = live_of c.self.inside.rows.items in
     let leads = id_leads c.self.inside.counter live c.args.id.now c.serial_of.result k.small
@@ -56,7 +56,7 @@ returns-then-equals-clause-some c =
 
 pub returns-else-equals-clause-none : goal.returns-else-equals-clause-none
 returns-else-equals-clause-none c =
-    let id = c.as_str.ensures.value ∙ c.id.view_is in
+    let id = c.as_str.ensures in
     let k = c.self.invariant.sessions in
     let live = live_of c.self.inside.rows.items in
     let leads = id_leads c.self.inside.counter live c.args.id.now c.serial_of.result k.small
