@@ -42,7 +42,7 @@ returns-then-equals-clause-some c =
     let at = id_at live c.in_ok-serial.serial c.args.id.now seat.session (live_up c.self.inside.rows.items k.own.rising k.own.own)
     (leads_to c.in_ok-serial.serial live c.args.id.now c.serial_of.result c.in_ok-serial.was leads)
     (found c.in_ok-serial.serial c.self.inside.rows.items got.0 seat k.own.rising k.own.own got.1) in
-    let same = sym c.id-2.ensures ∙ c.equals.ensures.0 c.if-equals.true in
+    let same = sym c.id.ensures ∙ c.equals.ensures.0 c.if-equals.true in
     let own = own_at c.in_ok-serial.serial c.self.inside.rows.items got.0 seat k.own.own got.1 in
     let there : session_with_serial seat.session.serial live ≡ Some seat.session =
     subst (λ n. session_with_serial n live ≡ Some seat.session) (sym own.numbered)
@@ -69,5 +69,5 @@ returns-else-equals-clause-none c =
     (found c.in_ok-serial.serial c.self.inside.rows.items got.0 seat k.own.rising k.own.own got.1) in
     let differ : is_same_text seat.session.id c.args.id.now ≡ false =
     false_from_ne_true (is_same_text seat.session.id c.args.id.now)
-    (λ e. both_ways c.equals.result c.if-equals.false (c.equals.ensures.1 (c.id-2.ensures ∙ text_is seat.session.id c.args.id.now e))) in
+    (λ e. both_ways c.equals.result c.if-equals.false (c.equals.ensures.1 (c.id.ensures ∙ text_is seat.session.id c.args.id.now e))) in
     rw (← c.self.view_is) (rw differ at at)
