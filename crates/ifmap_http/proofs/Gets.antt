@@ -1,9 +1,9 @@
 -- From what was awaited to what a wire answers.
-use Rattle.std.proofs.Common.{◌≡◌, ◌⊎◌, ℕ, List, [], ◌++◌, ap, drop}
+use Rattle.std.proofs.Common.{◌≡◌, ◌⊎◌, ℕ, List, ◌++◌, ap, drop}
 use Rattle.std.specs.Prelude.{IfSome, None, Option, Some}
 use Rattle.std.specs.Io.KnownBytes.{IsAtEnd, prepend_known}
-use Rattle.ifmap_heads.specs.Answers.{ReadsAnswer, not_http, other, ended as unanswered}
-use Rattle.ifmap_heads.specs.Posts.{ReadsPost, status, truncated}
+use Rattle.ifmap_heads.specs.Answers.{other}
+use Rattle.ifmap_heads.specs.Posts.{ReadsPost, status}
 use Rattle.ifmap_heads.specs.Starts.{HasAnswerHead}
 use Rattle.ifmap_input.specs.Inputs.{TakesFromSource}
 use Rattle.ifmap_http.specs.Outcomes.{GetsAnswer, GetsPost}
@@ -11,28 +11,27 @@ use Rattle.ifmap_http.specs.declared.wires.Answered.{Answered}
 use Rattle.ifmap_http.specs.declared.wires.Answered.TheVariants as answer
 use Rattle.ifmap_http.specs.declared.wires.Got.{Got}
 use Rattle.ifmap_http.specs.declared.wires.Got.TheVariants as got
-use Rattle.ifmap_http.proofs.Reading.{answer_refused, at_end_is, for_told, refused_whole, unfit_whole}
+use Rattle.ifmap_http.proofs.Reading.{answer_refused, at_end_is, for_told, whole_is}
+
+-- what is claimed of the bytes so far at the end is of all that the wire had left
+pub told_at_end : (P : List ℕ → Type 0) (left_old left_new : Option (List ℕ)) (old new : List ℕ)
+    → TakesFromSource left_old left_new old new → IsAtEnd left_new × P new → IfSome (prepend_known old left_old) P
+told_at_end P left_old left_new old new takes (end, holds) =
+    for_told P left_old left_new old new takes (λ rest is. at_end_is P new rest left_new is end holds)
+
+-- and so is what is claimed of them whatever comes after them, or at the end
+pub told_whole : (P : List ℕ → Type 0) (left_old left_new : Option (List ℕ)) (old new : List ℕ)
+    → TakesFromSource left_old left_new old new → ((more : List ℕ) → P (new ++ more)) ⊎ (IsAtEnd left_new × P new)
+    → IfSome (prepend_known old left_old) P
+told_whole P left_old left_new old new takes claim =
+    for_told P left_old left_new old new takes (λ rest is. whole_is P new rest left_new is claim)
 
 pub gets_refused : (number : ℕ) (left_old left_new : Option (List ℕ)) (old new : List ℕ) → TakesFromSource left_old left_new old new
     → ((more : List ℕ) → ReadsPost (new ++ more) (status number)) ⊎ (IsAtEnd left_new × ReadsPost new (status number))
     → IfSome (prepend_known old left_old) (λ left. GetsPost left (prepend_known new left_new) (got.Status number))
 gets_refused number left_old left_new old new takes refused =
     for_told (λ left. GetsPost left (prepend_known new left_new) (got.Status number)) left_old left_new old new takes
-    (λ rest is. (refused_whole number new rest left_new is refused, ap (prepend_known new) is))
-
-pub gets_ended : (left_old left_new : Option (List ℕ)) (old new : List ℕ) → TakesFromSource left_old left_new old new
-    → IsAtEnd left_new × (new ≡ [])
-    → IfSome (prepend_known old left_old) (λ left. GetsPost left (prepend_known new left_new) got.Ended)
-gets_ended left_old left_new old new takes (end, none) =
-    for_told (λ left. GetsPost left (prepend_known new left_new) got.Ended) left_old left_new old new takes
-    (λ rest is. at_end_is (λ (xs : List ℕ). xs ≡ []) new rest left_new is end none)
-
-pub gets_truncated : (left_old left_new : Option (List ℕ)) (old new : List ℕ) → TakesFromSource left_old left_new old new
-    → IsAtEnd left_new × ReadsPost new truncated
-    → IfSome (prepend_known old left_old) (λ left. GetsPost left (prepend_known new left_new) got.Truncated)
-gets_truncated left_old left_new old new takes (end, reads) =
-    for_told (λ left. GetsPost left (prepend_known new left_new) got.Truncated) left_old left_new old new takes
-    (λ rest is. at_end_is (λ xs. ReadsPost xs truncated) new rest left_new is end reads)
+    (λ rest is. (whole_is (λ xs. ReadsPost xs (status number)) new rest left_new is refused, ap (prepend_known new) is))
 
 pub gets_taken : (result : Got) (left_old left_mid : Option (List ℕ)) (old mid : List ℕ) (after : Option (List ℕ))
     → TakesFromSource left_old left_mid old mid
@@ -47,20 +46,6 @@ pub answers_refused : (number size : ℕ) (left_old left_new : Option (List ℕ)
 answers_refused number size left_old left_new old new takes has =
     for_told (λ left. GetsAnswer left (prepend_known (drop size new) left_new) (answer.Status number)) left_old left_new old new takes
     (λ rest is. answer_refused new size number left_new rest has is)
-
-pub answers_unfit : (left_old left_new : Option (List ℕ)) (old new : List ℕ) → TakesFromSource left_old left_new old new
-    → ((more : List ℕ) → ReadsAnswer (new ++ more) not_http) ⊎ (IsAtEnd left_new × ReadsAnswer new not_http)
-    → IfSome (prepend_known old left_old) (λ left. GetsAnswer left (prepend_known new left_new) answer.NotHttp)
-answers_unfit left_old left_new old new takes unfit =
-    for_told (λ left. GetsAnswer left (prepend_known new left_new) answer.NotHttp) left_old left_new old new takes
-    (λ rest is. unfit_whole new rest left_new is unfit)
-
-pub answers_ended : (left_old left_new : Option (List ℕ)) (old new : List ℕ) → TakesFromSource left_old left_new old new
-    → IsAtEnd left_new × ReadsAnswer new unanswered
-    → IfSome (prepend_known old left_old) (λ left. GetsAnswer left (prepend_known new left_new) answer.Ended)
-answers_ended left_old left_new old new takes (end, reads) =
-    for_told (λ left. GetsAnswer left (prepend_known new left_new) answer.Ended) left_old left_new old new takes
-    (λ rest is. at_end_is (λ xs. ReadsAnswer xs unanswered) new rest left_new is end reads)
 
 pub answers_taken : (result : Answered) (left_old left_mid : Option (List ℕ)) (old mid : List ℕ) (after : Option (List ℕ))
     → TakesFromSource left_old left_mid old mid

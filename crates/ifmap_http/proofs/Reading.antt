@@ -4,9 +4,9 @@ use Rattle.std.specs.Prelude.{IfSome, None, Option, Some}
 use Rattle.std.specs.Io.KnownBytes.{Consumes, IsAtEnd, prepend_known}
 use Rattle.httparse.specs.Grammar.{ReadsRequest, RequestHead, print_blank, print_end, print_request, print_section, print_version}
 use Rattle.httparse.proofs.GrammarLemmas.{print_request-append, request_unique}
-use Rattle.ifmap_heads.specs.Answers.{ReadsAnswer, answered, not_http, other, sized, status as other_status, ended as unanswered}
+use Rattle.ifmap_heads.specs.Answers.{ReadsAnswer, answered, other, sized, status as other_status, ended as unanswered}
 use Rattle.ifmap_heads.specs.Heads.{IsAnswerHead, IsPostHead}
-use Rattle.ifmap_heads.specs.Posts.{Judgement, ReadsPost, judge_post, posted, refused, status, taken, truncated}
+use Rattle.ifmap_heads.specs.Posts.{Judgement, ReadsPost, judge_post, posted, refused, taken, truncated}
 use Rattle.ifmap_heads.specs.Starts.{HasAnswerHead, HasPostHead}
 use Rattle.ifmap_heads.specs.declared.posts.PostTerms.{PostTerms}
 use Rattle.ifmap_input.specs.Inputs.{TakesFromSource}
@@ -29,19 +29,11 @@ at_end_is P bytes rest left is end holds =
     let none : rest ≡ [] = subst IsAtEnd is end in
     subst P (sym (ap (λ (xs : List ℕ). bytes ++ xs) none ∙ append-nil bytes)) holds
 
--- a post that is refused by the bytes so far, or by them and the end
-pub refused_whole : (number : ℕ) (bytes rest : List ℕ) (left : Option (List ℕ)) → left ≡ Some rest
-    → ((more : List ℕ) → ReadsPost (bytes ++ more) (status number)) ⊎ (IsAtEnd left × ReadsPost bytes (status number))
-    → ReadsPost (bytes ++ rest) (status number)
-refused_whole number bytes rest left is (inl always) = always rest
-refused_whole number bytes rest left is (inr (end, reads)) =
-    at_end_is (λ xs. ReadsPost xs (status number)) bytes rest left is end reads
-
-pub unfit_whole : (bytes rest : List ℕ) (left : Option (List ℕ)) → left ≡ Some rest
-    → ((more : List ℕ) → ReadsAnswer (bytes ++ more) not_http) ⊎ (IsAtEnd left × ReadsAnswer bytes not_http)
-    → ReadsAnswer (bytes ++ rest) not_http
-unfit_whole bytes rest left is (inl always) = always rest
-unfit_whole bytes rest left is (inr (end, reads)) = at_end_is (λ xs. ReadsAnswer xs not_http) bytes rest left is end reads
+-- what is claimed of the bytes so far whatever comes after them, or of them at the end
+pub whole_is : (P : List ℕ → Type 0) (bytes rest : List ℕ) (left : Option (List ℕ)) → left ≡ Some rest
+    → ((more : List ℕ) → P (bytes ++ more)) ⊎ (IsAtEnd left × P bytes) → P (bytes ++ rest)
+whole_is P bytes rest left is (inl always) = always rest
+whole_is P bytes rest left is (inr (end, holds)) = at_end_is P bytes rest left is end holds
 
 -- what is left after what was consumed
 pub record After (left_new : Option (List ℕ)) (all got : List ℕ) : Type 0 where
@@ -63,6 +55,15 @@ after_body : (start all got body new rest : List ℕ) → all ≡ got ++ rest �
 after_body start all got body new rest split cut =
     ap (λ (xs : List ℕ). start ++ xs) split ∙ sym (append_assoc start got rest)
     ∙ ap (λ (xs : List ℕ). xs ++ rest) cut ∙ append_assoc body new rest
+
+-- where the source ends inside a body, what stood after the head and all that the source had are shorter than it
+too_short : (start all : List ℕ) (size : ℕ) (left_old left_new : Option (List ℕ)) → left_old ≡ Some all
+    → LacksBody left_old left_new start size → length (start ++ all) < size
+too_short start all size left_old left_new told lacks =
+    let after = after_of left_old left_new all lacks.got told lacks.consumed in
+    let none : after.rest ≡ [] = subst IsAtEnd after.is lacks.at_end in
+    let same : all ≡ lacks.got = after.split ∙ ap (λ (xs : List ℕ). lacks.got ++ xs) none ∙ append-nil lacks.got in
+    subst (λ (xs : List ℕ). length (start ++ xs) < size) (sym same) lacks.short
 
 pub post_read : (bytes : List ℕ) (size : ℕ) (terms : PostTerms) (left_old left_new : Option (List ℕ)) (all new body : List ℕ)
     → HasPostHead bytes size terms → left_old ≡ Some all → TakesBody left_old left_new (drop size bytes) new body → length body ≡ terms.size
@@ -95,11 +96,7 @@ pub post_lacks : (bytes : List ℕ) (size : ℕ) (terms : PostTerms) (left_old l
     → HasPostHead bytes size terms → left_old ≡ Some all → LacksBody left_old left_new (drop size bytes) terms.size
     → ReadsPost (bytes ++ all) truncated
 post_lacks bytes size terms left_old left_new all has told lacks =
-    let after = after_of left_old left_new all lacks.got told lacks.consumed in
-    let none : after.rest ≡ [] = subst IsAtEnd after.is lacks.at_end in
-    let same : all ≡ lacks.got = after.split ∙ ap (λ (xs : List ℕ). lacks.got ++ xs) none ∙ append-nil lacks.got in
-    let short : length (drop size bytes ++ all) < terms.size = subst (λ (xs : List ℕ). length (drop size bytes ++ xs) < terms.size)
-    (sym same) lacks.short in (
+    let short = too_short (drop size bytes) all terms.size left_old left_new told lacks in (
       head_is_some (bytes ++ all) has.head (drop size bytes ++ all) (has.is all).reads.1,
       inr (has.head, drop size bytes ++ all, terms.client, terms.size, terms.close, has.is all, has.says, short),
     )
@@ -119,11 +116,7 @@ pub answer_lacks : (bytes : List ℕ) (size body : ℕ) (left_old left_new : Opt
     → HasAnswerHead bytes size (sized body) → left_old ≡ Some all → LacksBody left_old left_new (drop size bytes) body
     → ReadsAnswer (bytes ++ all) unanswered
 answer_lacks bytes size body left_old left_new all has told lacks =
-    let after = after_of left_old left_new all lacks.got told lacks.consumed in
-    let none : after.rest ≡ [] = subst IsAtEnd after.is lacks.at_end in
-    let same : all ≡ lacks.got = after.split ∙ ap (λ (xs : List ℕ). lacks.got ++ xs) none ∙ append-nil lacks.got in
-    let short : length (drop size bytes ++ all) < body = subst (λ (xs : List ℕ). length (drop size bytes ++ xs) < body)
-    (sym same) lacks.short in
+    let short = too_short (drop size bytes) all body left_old left_new told lacks in
     inr (has.head, drop size bytes ++ all, body, has.is all, has.says, short)
 
 pub answer_refused : (bytes : List ℕ) (size number : ℕ) (left : Option (List ℕ)) (all : List ℕ) → HasAnswerHead bytes size (other number)

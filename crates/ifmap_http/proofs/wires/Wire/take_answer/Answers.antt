@@ -1,5 +1,6 @@
 use Rattle.std.specs.Io.KnownBytes.{prepend_known}
-use Rattle.ifmap_http.proofs.Gets.{answers_ended, answers_refused, answers_taken, answers_unfit, gets_nothing}
+use Rattle.ifmap_heads.specs.Answers.{ReadsAnswer, ended, not_http}
+use Rattle.ifmap_http.proofs.Gets.{answers_refused, answers_taken, gets_nothing, told_at_end, told_whole}
 use Rattle.ifmap_http.proofs.wires.Wire.take_answer.Goals as goal
 
 pub returns-in-Sized-clause-reads : goal.returns-in-Sized-clause-reads
@@ -17,13 +18,13 @@ returns-in-Refused-clause-reads g c =
 pub returns-in-NotHttp-clause-reads : goal.returns-in-NotHttp-clause-reads
 returns-in-NotHttp-clause-reads g c =
     rw (← c.self.view_is)
-    (answers_unfit (g.L.Source.left c.self.inside.link) (g.L.Source.left c.await_answer.new.source)
+    (told_whole (λ xs. ReadsAnswer xs not_http) (g.L.Source.left c.self.inside.link) (g.L.Source.left c.await_answer.new.source)
     c.self.inside.input c.await_answer.new.input c.in-NotHttp.ensures.taken c.in-NotHttp.ensures.is)
 
 pub returns-in-Ended-clause-reads : goal.returns-in-Ended-clause-reads
 returns-in-Ended-clause-reads g c =
     rw (← c.self.view_is)
-    (answers_ended (g.L.Source.left c.self.inside.link) (g.L.Source.left c.await_answer.new.source)
+    (told_at_end (λ xs. ReadsAnswer xs ended) (g.L.Source.left c.self.inside.link) (g.L.Source.left c.await_answer.new.source)
     c.self.inside.input c.await_answer.new.input c.in-Ended.ensures.taken c.in-Ended.ensures.is)
 
 pub returns-in-ReadFault-clause-reads : goal.returns-in-ReadFault-clause-reads

@@ -1,7 +1,8 @@
 use Rattle.std.proofs.Common.{◌++◌, ◌∙◌}
 use Rattle.std.specs.Io.KnownBytes.{prepend_known}
+use Rattle.ifmap_heads.specs.Posts.{ReadsPost, ended, truncated}
 use Rattle.ifmap_http.proofs.Bounds.{status_fits}
-use Rattle.ifmap_http.proofs.Gets.{gets_ended, gets_nothing, gets_refused, gets_taken, gets_truncated}
+use Rattle.ifmap_http.proofs.Gets.{gets_nothing, gets_refused, gets_taken, told_at_end}
 use Rattle.ifmap_http.proofs.Reading.{post_is_there}
 use Rattle.ifmap_http.proofs.wires.Wire.take_post.Goals as goal
 
@@ -20,13 +21,13 @@ returns-in-Refused-clause-reads g c =
 pub returns-in-Ended-clause-reads : goal.returns-in-Ended-clause-reads
 returns-in-Ended-clause-reads g c =
     rw (← c.self.view_is)
-    (gets_ended (g.L.Source.left c.self.inside.link) (g.L.Source.left c.await_post.new.source)
+    (told_at_end (λ xs. ReadsPost xs ended) (g.L.Source.left c.self.inside.link) (g.L.Source.left c.await_post.new.source)
     c.self.inside.input c.await_post.new.input c.in-Ended.ensures.taken c.in-Ended.ensures.is)
 
 pub returns-in-Truncated-clause-reads : goal.returns-in-Truncated-clause-reads
 returns-in-Truncated-clause-reads g c =
     rw (← c.self.view_is)
-    (gets_truncated (g.L.Source.left c.self.inside.link) (g.L.Source.left c.await_post.new.source)
+    (told_at_end (λ xs. ReadsPost xs truncated) (g.L.Source.left c.self.inside.link) (g.L.Source.left c.await_post.new.source)
     c.self.inside.input c.await_post.new.input c.in-Truncated.ensures.taken c.in-Truncated.ensures.is)
 
 pub returns-in-ReadFault-clause-reads : goal.returns-in-ReadFault-clause-reads
