@@ -44,6 +44,15 @@ fn rank_of(kind: Kind) -> u8
     }
 }
 
+// The parts of an identity.
+#[derive(Clone, Copy)]
+struct IdentityParts<'a> {
+    name: &'a Text,
+    kind: IdentityType,
+    definition: &'a Text,
+    domain: &'a Text,
+}
+
 // How two identifiers of one kind compare.
 fn order_in_kind(one: &Identifier, other: &Identifier) -> Ordering
     ensures { identifier_kind one.now ≡ identifier_kind other.now
@@ -81,7 +90,7 @@ fn order_of_access_request(name: &Text, domain: &Text, other: &Identifier) -> Or
         Identifier::AccessRequest {
             name: other_name,
             domain: other_domain,
-        } => access_request_order(name, domain, other_name, other_domain),
+        } => optional_order(domain, other_domain).then(text_order(Place::Value, name, other_name)),
         _ => Ordering::Equal,
     }
 }
@@ -91,7 +100,7 @@ fn order_of_device(name: &Text, other: &Identifier) -> Ordering
         → result ≡ identifier_order (Device name.now) other.now }
 {
     match other {
-        Identifier::Device { name: other_name } => device_order(name, other_name),
+        Identifier::Device { name: other_name } => text_order(Place::Content, name, other_name),
         _ => Ordering::Equal,
     }
 }
@@ -107,15 +116,10 @@ fn order_of_identity(one: IdentityParts<'_>, other: &Identifier) -> Ordering
             kind,
             other: definition,
             domain,
-        } => identity_order(
-            one,
-            IdentityParts {
-                name,
-                kind: *kind,
-                definition,
-                domain,
-            },
-        ),
+        } => optional_order(one.domain, domain)
+            .then(text_order(Place::Value, one.name, name))
+            .then(optional_order(one.definition, definition))
+            .then(type_order(one.kind, *kind)),
         _ => Ordering::Equal,
     }
 }
@@ -130,9 +134,9 @@ fn order_of_v4(value: &[u8; 4], domain: &Text, other: &Identifier) -> Ordering
             domain: other_domain,
         } => v4_order(value, domain, other_value, other_domain),
         Identifier::IpV6 {
-            value: other_value,
+            value: _,
             domain: other_domain,
-        } => v4_v6_order(value, domain, other_value, other_domain),
+        } => optional_order(domain, other_domain).then(Ordering::Less),
         _ => Ordering::Equal,
     }
 }
@@ -143,9 +147,9 @@ fn order_of_v6(value: &[u16; 8], domain: &Text, other: &Identifier) -> Ordering
 {
     match other {
         Identifier::IpV4 {
-            value: other_value,
+            value: _,
             domain: other_domain,
-        } => v6_v4_order(value, domain, other_value, other_domain),
+        } => optional_order(domain, other_domain).then(Ordering::Greater),
         Identifier::IpV6 {
             value: other_value,
             domain: other_domain,
@@ -167,45 +171,6 @@ fn order_of_mac(value: &[u8; 6], domain: &Text, other: &Identifier) -> Ordering
     }
 }
 
-fn access_request_order(
-    name: &Text,
-    domain: &Text,
-    other_name: &Text,
-    other_domain: &Text,
-) -> Ordering
-    ensures { result ≡ identifier_order (AccessRequest name.now domain.now)
-        (AccessRequest other_name.now other_domain.now) }
-{
-    optional_order(domain, other_domain).then(text_order(Place::Value, name, other_name))
-}
-
-fn device_order(name: &Text, other_name: &Text) -> Ordering
-    ensures { result ≡ identifier_order (Device name.now) (Device other_name.now) }
-{
-    text_order(Place::Content, name, other_name)
-}
-
-// The parts of an identity.
-#[derive(Clone, Copy)]
-struct IdentityParts<'a> {
-    name: &'a Text,
-    kind: IdentityType,
-    definition: &'a Text,
-    domain: &'a Text,
-}
-
-fn identity_order(one: IdentityParts<'_>, other: IdentityParts<'_>) -> Ordering
-    ensures { result ≡ identifier_order
-        (Identity one.entry.name.now one.entry.kind one.entry.definition.now one.entry.domain.now)
-        (Identity other.entry.name.now other.entry.kind other.entry.definition.now
-        other.entry.domain.now) }
-{
-    optional_order(one.domain, other.domain)
-        .then(text_order(Place::Value, one.name, other.name))
-        .then(optional_order(one.definition, other.definition))
-        .then(type_order(one.kind, other.kind))
-}
-
 // How the types of two identities compare as they are written.
 fn type_order(one: IdentityType, other: IdentityType) -> Ordering
     ensures { FrontsCompare result (closed_text Value (identity_type_name one))
@@ -219,30 +184,6 @@ fn v4_order(value: &[u8; 4], domain: &Text, other_value: &[u8; 4], other_domain:
         (IpV4 other_value.now other_domain.now) }
 {
     optional_order(domain, other_domain).then(ip_v4_order(value, other_value))
-}
-
-fn v4_v6_order(
-    value: &[u8; 4],
-    domain: &Text,
-    other_value: &[u16; 8],
-    other_domain: &Text,
-) -> Ordering
-    ensures { result ≡ identifier_order (IpV4 value.now domain.now)
-        (IpV6 other_value.now other_domain.now) }
-{
-    optional_order(domain, other_domain).then(Ordering::Less)
-}
-
-fn v6_v4_order(
-    value: &[u16; 8],
-    domain: &Text,
-    other_value: &[u8; 4],
-    other_domain: &Text,
-) -> Ordering
-    ensures { result ≡ identifier_order (IpV6 value.now domain.now)
-        (IpV4 other_value.now other_domain.now) }
-{
-    optional_order(domain, other_domain).then(Ordering::Greater)
 }
 
 fn v6_order(
