@@ -72,7 +72,8 @@ fn read_token<'a>(
     at: u64,
 ) -> Result<&'a str, FilterError>
     ensures next { IfOk result (λ left.
-        StepsOn scope.now (filter_state standing.old) rest.now (filter_state standing.new) left.now) }
+        StepsOn scope.now (filter_state standing.old) rest.now
+        (filter_state standing.new) left.now) }
     ensures refused { IfErr result (λ e.
         IsRefused scope.now (filter_state standing.old) rest.now at e) }
 {
