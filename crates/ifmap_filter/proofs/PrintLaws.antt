@@ -147,3 +147,14 @@ pub prints_or : (spaces : List (List ℕ)) (parts : List Predicate)
 prints_or spaces parts =
     ap (predicate_text spaces) (sym (rolls-Or parts)) ∙ fold-roll-Predicate PredicateText (predicate_text_of spaces) (Predicate-F.Or parts)
     ∙ ap ors_text (joined_mapped (codes " or ") (λ p. p.in_or) (predicate_text spaces) parts)
+
+-- and of one that stands there
+pub and_there : (spaces : List (List ℕ)) (parts : List Predicate) {predicate : Predicate} {around here : Around} → predicate ≡ And parts
+    → around ≡ here → text_in here (ands_text (parts_text spaces Ands parts)) ≡ text_in around (predicate_text spaces predicate)
+and_there spaces parts {predicate} {around} {here} is at =
+    sym ((λ i. text_in (at i) (predicate_text spaces (is i))) ∙ ap (text_in here) (prints_and spaces parts))
+
+pub or_there : (spaces : List (List ℕ)) (parts : List Predicate) {predicate : Predicate} {around here : Around} → predicate ≡ Or parts
+    → around ≡ here → text_in here (ors_text (parts_text spaces Ors parts)) ≡ text_in around (predicate_text spaces predicate)
+or_there spaces parts {predicate} {around} {here} is at =
+    sym ((λ i. text_in (at i) (predicate_text spaces (is i))) ∙ ap (text_in here) (prints_or spaces parts))

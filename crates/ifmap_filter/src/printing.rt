@@ -1,8 +1,7 @@
 //! Prints filters.
 ghost use Rattle.std.specs.Prelude.{◌≡◌, ◌<◌, ◌≤◌, ◌+◌, ◌^◌, ◌++◌, ◌∷◌, [], IfOk, OnOk, codes, length, string_bytes};
 ghost use Rattle.ifmap_elem.specs.Chars.{colon};
-ghost use Rattle.ifmap_filter.specs.declared.printing.Around.TheVariants.{Ands, Ors};
-ghost use Rattle.ifmap_filter.specs.Printing.{NestsNoDeeper, WritesBack, ands_text, attribute_text, brackets_text, child_text, filter_text, group_text, has_single_quote, joined_texts, literal_text, name_text, numbered_prefix, ors_text, parts_text, space_place, predicate_text, quote_of, test_name_text, test_text, text_in, word_in};
+ghost use Rattle.ifmap_filter.specs.Printing.{NestsNoDeeper, WritesBack, attribute_text, brackets_text, child_text, filter_text, group_text, has_single_quote, joined_texts, literal_text, name_text, numbered_prefix, parts_text, space_place, predicate_text, quote_of, test_name_text, test_text, text_in, word_in};
 ghost use Rattle.ifmap_filter.specs.Spaces.{HasSpaces};
 
 use crate::filters::{Filter, Predicate, Test};
@@ -108,42 +107,16 @@ fn push_predicate(
     match predicate {
         Predicate::Attr { local, value } => push_attribute(out, local, value),
         Predicate::Child { name, value } => push_child(out, spaces, name, value),
-        Predicate::And(parts) => push_ands(out, spaces, parts, around),
-        Predicate::Or(parts) => push_ors(out, spaces, parts, around),
-    }
-}
-
-#[cycle(printing)]
-fn push_ands(
-    out: &mut String,
-    spaces: &[Text],
-    parts: &Many<Predicate>,
-    around: Around,
-) -> Result<(), NoMemory>
-    ensures { OnOk result (string_bytes out.new ≡ string_bytes out.old
-        ++ text_in around (ands_text (parts_text spaces.now Ands parts.now))) }
-{
-    match around {
-        Around::Brackets => push_parts(out, spaces, parts, Around::Ands),
-        Around::Ands => push_group(out, spaces, parts, Around::Ands),
-        Around::Ors => push_parts(out, spaces, parts, Around::Ands),
-    }
-}
-
-#[cycle(printing)]
-fn push_ors(
-    out: &mut String,
-    spaces: &[Text],
-    parts: &Many<Predicate>,
-    around: Around,
-) -> Result<(), NoMemory>
-    ensures { OnOk result (string_bytes out.new ≡ string_bytes out.old
-        ++ text_in around (ors_text (parts_text spaces.now Ors parts.now))) }
-{
-    match around {
-        Around::Brackets => push_parts(out, spaces, parts, Around::Ors),
-        Around::Ands => push_group(out, spaces, parts, Around::Ors),
-        Around::Ors => push_group(out, spaces, parts, Around::Ors),
+        Predicate::And(parts) => match around {
+            Around::Brackets => push_parts(out, spaces, parts, Around::Ands),
+            Around::Ands => push_group(out, spaces, parts, Around::Ands),
+            Around::Ors => push_parts(out, spaces, parts, Around::Ands),
+        },
+        Predicate::Or(parts) => match around {
+            Around::Brackets => push_parts(out, spaces, parts, Around::Ors),
+            Around::Ands => push_group(out, spaces, parts, Around::Ors),
+            Around::Ors => push_group(out, spaces, parts, Around::Ors),
+        },
     }
 }
 

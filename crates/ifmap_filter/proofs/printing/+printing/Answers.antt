@@ -3,8 +3,8 @@ use Rattle.std.proofs.lemmas.List.{append-nil, take_all}
 use Rattle.std.proofs.lemmas.Str.{IsUtf8-nil}
 use Rattle.std.specs.Prelude.{OnOk, string_bytes}
 use Rattle.ifmap_filter.specs.declared.filters.Predicate.{Predicate}
-use Rattle.ifmap_filter.specs.Printing.{PredicateText, attribute_text, child_text, joined_texts, predicate_text, text_in, word_in}
-use Rattle.ifmap_filter.proofs.PrintLaws.{alike_anywhere, joined_more, prints_and, prints_attr, prints_child, prints_or, word_later}
+use Rattle.ifmap_filter.specs.Printing.{attribute_text, child_text, joined_texts, predicate_text, text_in, word_in}
+use Rattle.ifmap_filter.proofs.PrintLaws.{alike_anywhere, and_there, joined_more, or_there, prints_attr, prints_child, word_later}
 use Rattle.ifmap_filter.proofs.printing.+printing.Goals as goal
 
 pub push_predicate-returns-in-Attr : goal.push_predicate-returns-in-Attr
@@ -23,19 +23,38 @@ push_predicate-returns-in-Child t c =
     ∙ alike_anywhere c.args.around (child_text c.args.spaces.now c.in-Child.name c.in-Child.value)))
     c.push_child.ensures
 
-pub push_predicate-returns-in-And : goal.push_predicate-returns-in-And
-push_predicate-returns-in-And t c =
-    subst (λ (w : PredicateText). OnOk c.push_ands.result
-    (string_bytes c.push_ands.new.out ≡ string_bytes c.args.out.now ++ text_in c.args.around w))
-    (sym (ap (predicate_text c.args.spaces.now) c.in-And.is ∙ prints_and c.args.spaces.now c.in-And.parts))
-    c.push_ands.ensures
+pub push_predicate-returns-in-Brackets : goal.push_predicate-returns-in-Brackets
+push_predicate-returns-in-Brackets t c =
+    subst (λ w. OnOk c.push_parts.result (string_bytes c.push_parts.new.out ≡ string_bytes c.args.out.now ++ w))
+    (and_there c.args.spaces.now c.in-And.parts c.in-And.is c.in-Brackets.is) c.push_parts.ensures
 
-pub push_predicate-returns-in-Or : goal.push_predicate-returns-in-Or
-push_predicate-returns-in-Or t c =
-    subst (λ (w : PredicateText). OnOk c.push_ors.result
-    (string_bytes c.push_ors.new.out ≡ string_bytes c.args.out.now ++ text_in c.args.around w))
-    (sym (ap (predicate_text c.args.spaces.now) c.in-Or.is ∙ prints_or c.args.spaces.now c.in-Or.parts))
-    c.push_ors.ensures
+pub push_predicate-returns-in-Ands : goal.push_predicate-returns-in-Ands
+push_predicate-returns-in-Ands t c =
+    subst (λ w. OnOk c.push_group.result (string_bytes c.push_group.new.out ≡ string_bytes c.args.out.now ++ w))
+    (and_there c.args.spaces.now c.in-And.parts c.in-And.is c.in-Ands.is) c.push_group.ensures
+
+pub push_predicate-returns-in-Ors : goal.push_predicate-returns-in-Ors
+push_predicate-returns-in-Ors t c =
+    subst (λ w. OnOk c.push_parts-in-Ors.result (string_bytes c.push_parts-in-Ors.new.out ≡ string_bytes c.args.out.now ++ w))
+    (and_there c.args.spaces.now c.in-And.parts c.in-And.is c.in-Ors.is) c.push_parts-in-Ors.ensures
+
+pub push_predicate-returns-in-Brackets-around : goal.push_predicate-returns-in-Brackets-around
+push_predicate-returns-in-Brackets-around t c =
+    subst (λ w. OnOk c.push_parts-in-Brackets-around.result
+    (string_bytes c.push_parts-in-Brackets-around.new.out ≡ string_bytes c.args.out.now ++ w))
+    (or_there c.args.spaces.now c.in-Or.parts c.in-Or.is c.in-Brackets-around.is) c.push_parts-in-Brackets-around.ensures
+
+pub push_predicate-returns-in-Ands-around : goal.push_predicate-returns-in-Ands-around
+push_predicate-returns-in-Ands-around t c =
+    subst (λ w. OnOk c.push_group-in-Ands-around.result
+    (string_bytes c.push_group-in-Ands-around.new.out ≡ string_bytes c.args.out.now ++ w))
+    (or_there c.args.spaces.now c.in-Or.parts c.in-Or.is c.in-Ands-around.is) c.push_group-in-Ands-around.ensures
+
+pub push_predicate-returns-in-Ors-around : goal.push_predicate-returns-in-Ors-around
+push_predicate-returns-in-Ors-around t c =
+    subst (λ w. OnOk c.push_group-in-Ors-around.result
+    (string_bytes c.push_group-in-Ors-around.new.out ≡ string_bytes c.args.out.now ++ w))
+    (or_there c.args.spaces.now c.in-Or.parts c.in-Or.is c.in-Ors-around.is) c.push_group-in-Ors-around.ensures
 
 pub push_parts-loop-part-preserved : goal.push_parts-loop-part-preserved
 push_parts-loop-part-preserved t c =
