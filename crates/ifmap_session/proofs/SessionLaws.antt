@@ -1,7 +1,7 @@
 -- The live sessions and the holders, as sessions change, end and begin.
 -- First: what a client is found to have after a session ended (`client_after`,
 -- `holder_after`, `client_gone`), began (`begun_indexed`) or changed (`client_changed`). Then: the session that an id names
--- (`id_at`, `id_nowhere`). Last: rows and holders as they are kept, where a session changed (`rows_changed`,
+-- (`none_unread`, `none_of_serial`, `one_in_row`). Last: rows and holders as they are kept, where a session changed (`rows_changed`,
 -- `holders_changed`), ended, began, or empty rows went.
 use Rattle.std.proofs.Common.{◌≡◌, refl, sym, ◌∙◌, ap, subst, ℕ, zero, suc, ◌+◌, ◌-◌, ◌<◌, ◌≤◌, ◌^◌, ◌==◌, Bool, true, false, not, cond, List, [], ◌∷◌, ◌++◌, length, map, set, Option, None, Some, Result, Ok, Err, inl, inr, arith}
 use Rattle.std.proofs.lemmas.Bool.{both_ways, cases_Bool, eqb-true, eqb-false, eq-eqb, false_from_ne_true, not-true}
@@ -209,12 +209,12 @@ with_serial_none [] n id leads none = refl
 with_serial_none (x ∷ xs) n id leads none =
     rw (false_from_ne_true (is_same_text x.id id) (λ e. eqb-false x.serial n none.0 (leads.0 e))) (with_serial_none xs n id leads.1 none.1)
 
-pub id_nowhere : (live : List Session) (n : ℕ) (id : List ℕ) → AllByRecursion (λ (s : Session). is_same_text s.id id ≡ true → s.serial ≡ n)
+id_nowhere : (live : List Session) (n : ℕ) (id : List ℕ) → AllByRecursion (λ (s : Session). is_same_text s.id id ≡ true → s.serial ≡ n)
     live
     → session_with_serial n live ≡ None → session_with_id id live ≡ None
 id_nowhere live n id leads e = with_serial_none live n id leads (none_passes (λ (s : Session). s.serial == n) live e)
 
-pub id_at : (live : List Session) (n : ℕ) (id : List ℕ) (s : Session) → IsStrictlySortedBy session_order live → AllByRecursion
+id_at : (live : List Session) (n : ℕ) (id : List ℕ) (s : Session) → IsStrictlySortedBy session_order live → AllByRecursion
     (λ (t : Session). is_same_text t.id id ≡ true → t.serial ≡ n) live → session_with_serial n live ≡ Some s
     → session_with_id id live ≡ cond (is_same_text s.id id) (Some s) None
 unfolding IsStrictlySortedBy
@@ -233,7 +233,7 @@ id_at (x ∷ xs) n id s up leads e =
     ]
 
 -- an id that a live session has leads to that session's serial
-pub id_leads : (counter : ℕ) (live : List Session) (id : List ℕ) (r : Option ℕ) → counter < 2 ^ 64 → AllByRecursion
+id_leads : (counter : ℕ) (live : List Session) (id : List ℕ) (r : Option ℕ) → counter < 2 ^ 64 → AllByRecursion
     (λ (s : Session). s.serial ≤ counter) live → AllByRecursion (λ (s : Session). BeginsWithSerial s.serial s.id) live
     → ((n : ℕ) (rest : List ℕ) → n < 2 ^ 64 → id ≡ decimal n ++ hyphen ∷ rest → r ≡ Some n) → AllByRecursion
     (λ (s : Session). is_same_text s.id id ≡ true → r ≡ Some s.serial) live
@@ -243,13 +243,13 @@ id_leads counter (x ∷ xs) id r small counted ids f = (
   id_leads counter xs id r small counted.1 ids.1 f,
 )
 
-pub id_of_none : (live : List Session) (id : List ℕ) (r : Option ℕ) → AllByRecursion
+id_of_none : (live : List Session) (id : List ℕ) (r : Option ℕ) → AllByRecursion
     (λ (s : Session). is_same_text s.id id ≡ true → r ≡ Some s.serial) live → r ≡ None → session_with_id id live ≡ None
 id_of_none [] id r leads e = refl
 id_of_none (x ∷ xs) id r leads e =
     rw (false_from_ne_true (is_same_text x.id id) (λ h. let t = leads.0 h in cc)) (id_of_none xs id r leads.1 e)
 
-pub leads_to : (n : ℕ) (live : List Session) (id : List ℕ) (r : Option ℕ) → r ≡ Some n → AllByRecursion
+leads_to : (n : ℕ) (live : List Session) (id : List ℕ) (r : Option ℕ) → r ≡ Some n → AllByRecursion
     (λ (s : Session). is_same_text s.id id ≡ true → r ≡ Some s.serial) live → AllByRecursion
     (λ (s : Session). is_same_text s.id id ≡ true → s.serial ≡ n) live
 leads_to n live id r e leads = all_weaker (λ (s : Session). is_same_text s.id id ≡ true → r ≡ Some s.serial)
@@ -391,6 +391,27 @@ own_at n [] i a own e = cc
 own_at n (r ∷ rows) zero a own e =
     let same : r ≡ row_of n a = cc in subst (λ (x : SessionRow). IfSome x.kept (HasOwnSerial x.serial)) same own.0
 own_at n (r ∷ rows) (suc i) a own e = own_at n rows i a own.1 e
+
+-- the session that an id names, by the serial that is read from the id
+module _ (counter : ℕ) (rows : List SessionRow) (id : List ℕ) (read : Option ℕ) (kept : AreRows counter rows)
+    (reads : (n : ℕ) (rest : List ℕ) → n < 2 ^ 64 → id ≡ decimal n ++ hyphen ∷ rest → read ≡ Some n) where
+  id_leads_in_rows : AllByRecursion (λ (s : Session). is_same_text s.id id ≡ true → read ≡ Some s.serial) (live_of rows)
+  id_leads_in_rows = id_leads counter (live_of rows) id read kept.small (live_counted counter rows kept.counted kept.own.own)
+      (live_ids rows kept.own.own) reads
+
+  -- none where no serial is read
+  pub none_unread : read ≡ None → session_with_id id (live_of rows) ≡ None
+  none_unread is = id_of_none (live_of rows) id read id_leads_in_rows is
+
+  -- none where no session has the serial
+  pub none_of_serial : (n : ℕ) → read ≡ Some n → session_with_serial n (live_of rows) ≡ None → session_with_id id (live_of rows) ≡ None
+  none_of_serial n is none = id_nowhere (live_of rows) n id (leads_to n (live_of rows) id read is id_leads_in_rows) none
+
+  -- that of the serial's row, if it has the id
+  pub one_in_row : (n i : ℕ) (seat : Seat) → read ≡ Some n → slice_get rows i ≡ Some (row_of n seat)
+      → session_with_id id (live_of rows) ≡ cond (is_same_text seat.session.id id) (Some seat.session) None
+  one_in_row n i seat is there = id_at (live_of rows) n id seat.session (live_up rows kept.own.rising kept.own.own)
+      (leads_to n (live_of rows) id read is id_leads_in_rows) (found n rows i seat kept.own.rising kept.own.own there)
 
 count_less : (n : ℕ) (live : List Session) (s : Session) → IsStrictlySortedBy session_order live → session_with_serial n live ≡ Some s
     → suc (length (filter (λ (t : Session). not (t.serial == n)) live)) ≡ length live

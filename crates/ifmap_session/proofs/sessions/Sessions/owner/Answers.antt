@@ -4,44 +4,30 @@ use Rattle.ifmap_session.specs.Rows.{live_of}
 use Rattle.ifmap_session.specs.Sessions.{is_same_text, session_with_serial}
 use Rattle.ifmap_session.proofs.RowLaws.{found}
 use Rattle.ifmap_session.specs.laws.TextLaws.{text_is, text_same}
-use Rattle.ifmap_session.proofs.SessionLaws.{id_at, id_leads, id_nowhere, id_of_none, leads_to, live_counted, live_ids, live_up, own_at}
+use Rattle.ifmap_session.proofs.SessionLaws.{none_of_serial, none_unread, one_in_row, own_at}
 use Rattle.ifmap_session.proofs.sessions.Sessions.owner.Goals as goal
 
 pub returns-in_err-serial-clause-none : goal.returns-in_err-serial-clause-none
 returns-in_err-serial-clause-none c =
-    let id = c.as_str.ensures in
-    let k = c.self.invariant.sessions in
-    let live = live_of c.self.inside.rows.items in
-    let leads = id_leads c.self.inside.counter live c.args.id.now c.serial_of.result k.small
-    (live_counted c.self.inside.counter c.self.inside.rows.items k.counted k.own.own) (live_ids c.self.inside.rows.items k.own.own)
-    (λ n rest small e. c.serial_of.ensures n rest small (id ∙ e)) in
-    rw (c.from_residual.ensures, ← c.self.view_is) (id_of_none live c.args.id.now c.serial_of.result leads c.in_err-serial.was)
+    rw (c.from_residual.ensures, ← c.self.view_is)
+    (none_unread _ _ c.args.id.now c.serial_of.result c.self.invariant.sessions
+    (λ n rest small e. c.serial_of.ensures n rest small (c.as_str.ensures ∙ e)) c.in_err-serial.was)
 
 pub returns-in_err-kept-clause-none : goal.returns-in_err-kept-clause-none
 returns-in_err-kept-clause-none c =
-    let id = c.as_str.ensures in
-    let k = c.self.invariant.sessions in
-    let live = live_of c.self.inside.rows.items in
-    let leads = id_leads c.self.inside.counter live c.args.id.now c.serial_of.result k.small
-    (live_counted c.self.inside.counter c.self.inside.rows.items k.counted k.own.own) (live_ids c.self.inside.rows.items k.own.own)
-    (λ n rest small e. c.serial_of.ensures n rest small (id ∙ e)) in
     let none = rw (c.in_err-kept.was, c.deref.ensures.value) at c.find_live.ensures in
-    rw (c.from_residual-in_err-kept.ensures, ← c.self.view_is) (id_nowhere live c.in_ok-serial.serial c.args.id.now
-    (leads_to c.in_ok-serial.serial live c.args.id.now c.serial_of.result c.in_ok-serial.was leads) none)
+    rw (c.from_residual-in_err-kept.ensures, ← c.self.view_is)
+    (none_of_serial _ _ c.args.id.now c.serial_of.result c.self.invariant.sessions
+    (λ n rest small e. c.serial_of.ensures n rest small (c.as_str.ensures ∙ e)) c.in_ok-serial.serial c.in_ok-serial.was none)
 
 pub returns-then-equals-clause-some : goal.returns-then-equals-clause-some
 returns-then-equals-clause-some c =
-    let id = c.as_str.ensures in
     let k = c.self.invariant.sessions in
     let live = live_of c.self.inside.rows.items in
-    let leads = id_leads c.self.inside.counter live c.args.id.now c.serial_of.result k.small
-    (live_counted c.self.inside.counter c.self.inside.rows.items k.counted k.own.own) (live_ids c.self.inside.rows.items k.own.own)
-    (λ n rest small e. c.serial_of.ensures n rest small (id ∙ e)) in
     let got = rw (c.in_ok-kept.was, c.deref.ensures.value) at c.find_live.ensures in
     let seat = c.in_ok-kept.kept.now in
-    let at = id_at live c.in_ok-serial.serial c.args.id.now seat.session (live_up c.self.inside.rows.items k.own.rising k.own.own)
-    (leads_to c.in_ok-serial.serial live c.args.id.now c.serial_of.result c.in_ok-serial.was leads)
-    (found c.in_ok-serial.serial c.self.inside.rows.items got.0 seat k.own.rising k.own.own got.1) in
+    let at = one_in_row _ _ c.args.id.now c.serial_of.result c.self.invariant.sessions
+    (λ n rest small e. c.serial_of.ensures n rest small (c.as_str.ensures ∙ e)) c.in_ok-serial.serial got.0 seat c.in_ok-serial.was got.1 in
     let same = sym c.id.ensures ∙ c.equals.ensures.0 c.if-equals.true in
     let own = own_at c.in_ok-serial.serial c.self.inside.rows.items got.0 seat k.own.own got.1 in
     let there : session_with_serial seat.session.serial live ≡ Some seat.session =
@@ -56,17 +42,10 @@ returns-then-equals-clause-some c =
 
 pub returns-else-equals-clause-none : goal.returns-else-equals-clause-none
 returns-else-equals-clause-none c =
-    let id = c.as_str.ensures in
-    let k = c.self.invariant.sessions in
-    let live = live_of c.self.inside.rows.items in
-    let leads = id_leads c.self.inside.counter live c.args.id.now c.serial_of.result k.small
-    (live_counted c.self.inside.counter c.self.inside.rows.items k.counted k.own.own) (live_ids c.self.inside.rows.items k.own.own)
-    (λ n rest small e. c.serial_of.ensures n rest small (id ∙ e)) in
     let got = rw (c.in_ok-kept.was, c.deref.ensures.value) at c.find_live.ensures in
     let seat = c.in_ok-kept.kept.now in
-    let at = id_at live c.in_ok-serial.serial c.args.id.now seat.session (live_up c.self.inside.rows.items k.own.rising k.own.own)
-    (leads_to c.in_ok-serial.serial live c.args.id.now c.serial_of.result c.in_ok-serial.was leads)
-    (found c.in_ok-serial.serial c.self.inside.rows.items got.0 seat k.own.rising k.own.own got.1) in
+    let at = one_in_row _ _ c.args.id.now c.serial_of.result c.self.invariant.sessions
+    (λ n rest small e. c.serial_of.ensures n rest small (c.as_str.ensures ∙ e)) c.in_ok-serial.serial got.0 seat c.in_ok-serial.was got.1 in
     let differ : is_same_text seat.session.id c.args.id.now ≡ false =
     false_from_ne_true (is_same_text seat.session.id c.args.id.now)
     (λ e. both_ways c.equals.result c.if-equals.false (c.equals.ensures.1 (c.id.ensures ∙ text_is seat.session.id c.args.id.now e))) in
