@@ -2,7 +2,8 @@
 -- The plan: on one item what goes is the difference and nothing comes (goes, comes); the items so far rise, carry something, and are
 -- all that are not above the last (IsSoFar), at the first step and from each to the next (so_far_none, so_far_next); at the end they are
 -- all that carry something, so what is to stand on each is what the retraction leaves (all_told), their lists are sound and their keys
--- rise (all_sound, all_up); the steps are their number (steps_are), and fewer are above each next one, so the walk ends (falls).
+-- rise (all_sound, all_up), so the changes lead from the rows to that (they_fit, they_lead, they_are_exact, they_are_changes); the steps
+-- are their number (steps_are), and fewer are above each next one, so the walk ends (falls).
 use Rattle.std.proofs.Common.{◌≡◌, ◌≢◌, ◌∙◌, ◌⊎◌, refl, sym, ap, subst, ℕ, ◌+◌, ◌≤◌, ◌<◌, Bool, true, false, cond, not, ◌||◌, List, [], ◌∷◌}
 use Rattle.std.proofs.Common.{◌++◌, map, length, Option, Some, None, inl, inr, arith}
 use Rattle.std.proofs.lemmas.Bool.{cases_Bool, or_right}
@@ -29,7 +30,7 @@ use Rattle.ifmap_meta.specs.declared.stored.Stored.{Stored}
 use Rattle.ifmap_rows.specs.ifmap_plans.declared.plans.ItemChange.{ItemChange}
 use Rattle.ifmap_rows.specs.ifmap_plans.After.{IsAbove, IsNextItem, NoItem, items_of}
 use Rattle.ifmap_rows.specs.ifmap_plans.Lists.{stored_difference, same_stored}
-use Rattle.ifmap_rows.specs.ifmap_plans.Plans.{AreWhole}
+use Rattle.ifmap_rows.specs.ifmap_plans.Plans.{AreExact, AreWhole, Fits, IsAfter, IsChange}
 use Rattle.ifmap_view.specs.declared.attachments.Attachment.{Attachment}
 use Rattle.ifmap_view.specs.Attachments.{IsGraph}
 use Rattle.ifmap_view.specs.Rows.{stored_on}
@@ -38,7 +39,7 @@ use Rattle.ifmap_publish.specs.declared.who.Who.TheVariants.{Sessions, Publisher
 use Rattle.ifmap_publish.specs.Retract.{ends_with, is_of, retract, retract_on}
 use Rattle.ifmap_publish.specs.Working.{change_to, changes_to, kept_change}
 use Rattle.ifmap_publish.proofs.Attaching.{sound_filter}
-use Rattle.ifmap_publish.proofs.Changing.{AreSound, list_or, standing}
+use Rattle.ifmap_publish.proofs.Changing.{AreSound, all_fit, are_changes, are_exact, is_after, list_or, standing}
 use Rattle.ifmap_publish.proofs.Entries.{stored_alike}
 use Rattle.ifmap_publish.proofs.Graphs.{sound_on}
 use Rattle.ifmap_publish.proofs.Items.{every, retract_told, told_as}
@@ -214,7 +215,7 @@ full_or_not (s ∷ list) = inr (λ e. cc)
 -- at the end
 module _ (who : Who) (rows : List Attachment) (changes : List ItemChange) (last : Option Item) (before steps : ℕ)
     (so : IsSoFar who rows changes last before steps) (end : NoItem rows last) where
-  pub all_told : (x : Item) → standing rows (λ q. lookup (is_at (item_order q)) (map (entry_of who rows) so.keys)) x
+  all_told : (x : Item) → standing rows (λ q. lookup (is_at (item_order q)) (map (entry_of who rows) so.keys)) x
       ≡ stored_on x (retract who rows)
   all_told x = found_or_not who rows x so.keys ∙ at ∙ sym (retract_told x who rows)
     where
@@ -232,7 +233,7 @@ module _ (who : Who) (rows : List Attachment) (changes : List ItemChange) (last 
           same true = refl
           same false = refl
 
-  pub all_sound : IsGraph rows → AreWhole rows → AreSound (map (entry_of who rows) so.keys)
+  all_sound : IsGraph rows → AreWhole rows → AreSound (map (entry_of who rows) so.keys)
   all_sound graph whole = walk so.keys so.canon
     where
       walk : (ks : List Item) → AllByRecursion IsCanonItem ks → AreSound (map (entry_of who rows) ks)
@@ -242,12 +243,30 @@ module _ (who : Who) (rows : List Attachment) (changes : List ItemChange) (last 
         walk ks c.1,
       )
 
-  pub all_up : IsStrictlySortedBy item_order (keys_of (map (entry_of who rows) so.keys))
+  all_up : IsStrictlySortedBy item_order (keys_of (map (entry_of who rows) so.keys))
   all_up = subst (IsStrictlySortedBy item_order) (sym (keys_are so.keys)) so.up
     where
       keys_are : (ks : List Item) → keys_of (map (entry_of who rows) ks) ≡ ks
       keys_are [] = refl
       keys_are (k ∷ ks) = ap (λ l. k ∷ l) (keys_are ks)
+
+  -- so the changes are those from the rows to what the retraction leaves
+  pub they_fit : IsGraph rows → AreWhole rows → Fits rows changes
+  they_fit graph whole =
+      subst (Fits rows) (sym so.made) (all_fit rows graph whole (map (entry_of who rows) so.keys) (all_sound graph whole) all_up)
+
+  pub they_lead : IsGraph rows → AreWhole rows → IsAfter changes rows (retract who rows)
+  they_lead graph whole =
+      subst (λ made. IsAfter made rows (retract who rows)) (sym so.made)
+      (is_after rows graph whole (retract who rows) (map (entry_of who rows) so.keys) (all_sound graph whole) all_up all_told)
+
+  pub they_are_exact : IsGraph rows → AreWhole rows → AreExact rows (retract who rows) changes
+  they_are_exact graph whole =
+      subst (AreExact rows (retract who rows)) (sym so.made)
+      (are_exact rows graph whole (retract who rows) (map (entry_of who rows) so.keys) (all_sound graph whole) all_up all_told)
+
+  pub they_are_changes : AllByRecursion IsChange changes
+  they_are_changes = subst (AllByRecursion IsChange) (sym so.made) (are_changes rows (map (entry_of who rows) so.keys))
 
 -- how many items carry something
 filter_le : {X : Type 0} (p q : X → Bool) (xs : List X) → ((x : X) → p x ≡ true → q x ≡ true)

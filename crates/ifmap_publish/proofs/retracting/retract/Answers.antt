@@ -1,7 +1,5 @@
-use Rattle.std.proofs.Common.{arith, map, option_copied}
-use Rattle.ifmap_publish.specs.Retract.{retract}
-use Rattle.ifmap_publish.proofs.Changing.{all_fit, are_changes, are_exact, is_after}
-use Rattle.ifmap_publish.proofs.Retracted.{all_sound, all_told, all_up, entry_of, falls, so_far_next, so_far_none, steps_are}
+use Rattle.std.proofs.Common.{arith, option_copied}
+use Rattle.ifmap_publish.proofs.Retracted.{falls, so_far_next, so_far_none, steps_are, they_are_changes, they_are_exact, they_fit, they_lead}
 use Rattle.ifmap_publish.proofs.retracting.retract.Goals as goal
 
 pub loop-item-init : goal.loop-item-init
@@ -21,64 +19,25 @@ loop-item-smaller g c =
 
 pub returns-clause-fits : goal.returns-clause-fits
 returns-clause-fits g c =
-    rw c.loop-item.invariant.made
-    (all_fit (g.G.View.rows c.args.graph.now) c.requires.graph c.requires.whole
-    (map (entry_of c.args.who.now (g.G.View.rows c.args.graph.now)) c.loop-item.invariant.keys)
-    (all_sound c.args.who.now (g.G.View.rows c.args.graph.now) c.loop-item.changes.items (option_copied c.loop-item.last) c.args.steps.now
-    c.loop-item.steps
-    c.loop-item.invariant c.in_default.ensures.none c.requires.graph c.requires.whole)
-    (all_up c.args.who.now (g.G.View.rows c.args.graph.now) c.loop-item.changes.items (option_copied c.loop-item.last) c.args.steps.now
-    c.loop-item.steps
-    c.loop-item.invariant c.in_default.ensures.none))
+    they_fit _ _ _ _ _ _ c.loop-item.invariant c.in_default.ensures.none c.requires.graph c.requires.whole
 
 pub returns-clause-applies : goal.returns-clause-applies
 returns-clause-applies g c =
-    rw c.loop-item.invariant.made
-    (is_after (g.G.View.rows c.args.graph.now) c.requires.graph c.requires.whole
-    (retract c.args.who.now (g.G.View.rows c.args.graph.now))
-    (map (entry_of c.args.who.now (g.G.View.rows c.args.graph.now)) c.loop-item.invariant.keys)
-    (all_sound c.args.who.now (g.G.View.rows c.args.graph.now) c.loop-item.changes.items (option_copied c.loop-item.last) c.args.steps.now
-    c.loop-item.steps
-    c.loop-item.invariant c.in_default.ensures.none c.requires.graph c.requires.whole)
-    (all_up c.args.who.now (g.G.View.rows c.args.graph.now) c.loop-item.changes.items (option_copied c.loop-item.last) c.args.steps.now
-    c.loop-item.steps
-    c.loop-item.invariant c.in_default.ensures.none)
-    (all_told c.args.who.now (g.G.View.rows c.args.graph.now) c.loop-item.changes.items (option_copied c.loop-item.last) c.args.steps.now
-    c.loop-item.steps
-    c.loop-item.invariant c.in_default.ensures.none))
+    they_lead _ _ _ _ _ _ c.loop-item.invariant c.in_default.ensures.none c.requires.graph c.requires.whole
 
 pub returns-clause-exact : goal.returns-clause-exact
 returns-clause-exact g c =
-    rw c.loop-item.invariant.made
-    (are_exact (g.G.View.rows c.args.graph.now) c.requires.graph c.requires.whole
-    (retract c.args.who.now (g.G.View.rows c.args.graph.now))
-    (map (entry_of c.args.who.now (g.G.View.rows c.args.graph.now)) c.loop-item.invariant.keys)
-    (all_sound c.args.who.now (g.G.View.rows c.args.graph.now) c.loop-item.changes.items (option_copied c.loop-item.last) c.args.steps.now
-    c.loop-item.steps
-    c.loop-item.invariant c.in_default.ensures.none c.requires.graph c.requires.whole)
-    (all_up c.args.who.now (g.G.View.rows c.args.graph.now) c.loop-item.changes.items (option_copied c.loop-item.last) c.args.steps.now
-    c.loop-item.steps
-    c.loop-item.invariant c.in_default.ensures.none)
-    (all_told c.args.who.now (g.G.View.rows c.args.graph.now) c.loop-item.changes.items (option_copied c.loop-item.last) c.args.steps.now
-    c.loop-item.steps
-    c.loop-item.invariant c.in_default.ensures.none))
+    they_are_exact _ _ _ _ _ _ c.loop-item.invariant c.in_default.ensures.none c.requires.graph c.requires.whole
 
 pub returns-clause-changes : goal.returns-clause-changes
-returns-clause-changes g c =
-    rw c.loop-item.invariant.made
-    (are_changes (g.G.View.rows c.args.graph.now)
-    (map (entry_of c.args.who.now (g.G.View.rows c.args.graph.now)) c.loop-item.invariant.keys))
+returns-clause-changes g c = they_are_changes _ _ _ _ _ _ c.loop-item.invariant c.in_default.ensures.none
 
 pub returns-clause-steps : goal.returns-clause-steps
 returns-clause-steps g c =
-    let n = steps_are c.args.who.now (g.G.View.rows c.args.graph.now) c.loop-item.changes.items (option_copied c.loop-item.last)
-    c.args.steps.now c.loop-item.steps
-    c.loop-item.invariant in
+    let n = steps_are _ _ _ _ _ _ c.loop-item.invariant in
     omega (arith, n, c.item_after.ensures.step)
 
 pub returns-in_err-add_retracted-clause-steps : goal.returns-in_err-add_retracted-clause-steps
 returns-in_err-add_retracted-clause-steps g c =
-    let n = steps_are c.args.who.now (g.G.View.rows c.args.graph.now) c.loop-item.changes.items (option_copied c.loop-item.last)
-    c.args.steps.now c.loop-item.steps
-    c.loop-item.invariant in
+    let n = steps_are _ _ _ _ _ _ c.loop-item.invariant in
     omega (arith, n, c.item_after.ensures.step)
