@@ -2,7 +2,7 @@
 -- The plan: of entries whose keys rise, each is found by its key; the difference that each tells makes its list of what stands there
 -- (made), so each change is one and the items are apart (are_changes, items_apart); what is to stand on an item after all is the list of
 -- its entry, or what stands there (changed, is_after); the code appends a change where something goes or comes (none_added, one_added,
--- and the three by which of both is empty); at last the same of edits, by the lists that they mean (listed_sound to listed_applied).
+-- and the three by which of both is empty); at last the same of edits, by the lists that they mean (listed_sound to edits_are_exact).
 use Rattle.std.proofs.Common.{◌≡◌, ◌≢◌, ◌∙◌, refl, sym, ap, subst, Bool, true, false, cond, not, List, [], ◌∷◌, ◌++◌, ◌==◌, arith, length}
 use Rattle.std.proofs.Common.{map, Option, Some, None, inl, inr}
 use Rattle.std.proofs.lemmas.Bool.{cases_Bool}
@@ -304,7 +304,7 @@ module _ (rows : List Attachment) where
   abbrev pub listed : List (Item × Edit) → List Entry
   listed es = map (λ e. (e.0, list_by e.1 (stored_on e.0 rows))) es
 
-  pub listed_sound : (es : List (Item × Edit)) → AreEdits rows es → AreSound (listed es)
+  listed_sound : (es : List (Item × Edit)) → AreEdits rows es → AreSound (listed es)
   listed_sound [] all = tt
   listed_sound (e ∷ es) all = (record { canon = all.0.canon; sound = all.0.edit.sound }, listed_sound es all.1)
 
@@ -312,7 +312,7 @@ module _ (rows : List Attachment) where
   keys [] = refl
   keys (e ∷ es) = ap (λ l. e.0 ∷ l) (keys es)
 
-  pub listed_up : (es : List (Item × Edit)) → IsStrictlySortedBy item_order (keys_of es)
+  listed_up : (es : List (Item × Edit)) → IsStrictlySortedBy item_order (keys_of es)
       → IsStrictlySortedBy item_order (keys_of (listed es))
   listed_up es up = subst (IsStrictlySortedBy item_order) (sym (keys es)) up
 
@@ -330,7 +330,7 @@ module _ (rows : List Attachment) where
           ap (list_by e.1) (sym (stored_alike e.0 x (items_equiv.symm e.0 x ∙ items_tie x e.0 ∙ is) rows))
       by false is rest = rest
 
-  pub listed_applied : (after : List Attachment) (es : List (Item × Edit))
+  listed_applied : (after : List Attachment) (es : List (Item × Edit))
       → ((x : Item) → working rows (λ q. lookup (is_at (item_order q)) es) x ≡ stored_on x after)
       → (x : Item) → standing rows (λ q. lookup (is_at (item_order q)) (listed es)) x ≡ stored_on x after
   listed_applied after es applied x = listed_found x es ∙ applied x
@@ -344,7 +344,7 @@ module _ (rows : List Attachment) where
         let come = added_is stored list e.1 is.edit in
         (λ i. record { item = e.0; removed = gone i; added = come i })
 
-    pub listed_changes : (es : List (Item × Edit)) → AreEdits rows es → changes_by es ≡ changes_to rows (listed es)
+    listed_changes : (es : List (Item × Edit)) → AreEdits rows es → changes_by es ≡ changes_to rows (listed es)
     listed_changes [] all = refl
     listed_changes (e ∷ es) all =
         let one = change_is e all.0 in
@@ -362,3 +362,27 @@ module _ (rows : List Attachment) where
           },
           all_rising es all.1,
         )
+
+    -- so their changes lead from the rows to what they make
+    module _ (es : List (Item × Edit)) (are : AreEdits rows es) (up : IsStrictlySortedBy item_order (keys_of es)) (changes : List ItemChange)
+        (made : changes ≡ changes_by es) where
+      changes_are : changes ≡ changes_to rows (listed es)
+      changes_are = made ∙ listed_changes es are
+
+      pub edits_fit : Fits rows changes
+      edits_fit = subst (Fits rows) (sym changes_are) (all_fit rows graph whole (listed es) (listed_sound es are) (listed_up es up))
+
+      pub edits_are_changes : AllByRecursion IsChange changes
+      edits_are_changes = subst (AllByRecursion IsChange) (sym changes_are) (are_changes rows (listed es))
+
+      module _ (after : List Attachment)
+          (applied : (x : Item) → working rows (λ q. lookup (is_at (item_order q)) es) x ≡ stored_on x after) where
+        pub edits_lead : IsAfter changes rows after
+        edits_lead =
+            subst (λ told. IsAfter told rows after) (sym changes_are)
+            (is_after rows graph whole after (listed es) (listed_sound es are) (listed_up es up) (listed_applied after es applied))
+
+        pub edits_are_exact : AreExact rows after changes
+        edits_are_exact =
+            subst (AreExact rows after) (sym changes_are)
+            (are_exact rows graph whole after (listed es) (listed_sound es are) (listed_up es up) (listed_applied after es applied))
