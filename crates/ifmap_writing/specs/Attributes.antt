@@ -1,5 +1,5 @@
 -- The attributes of requests as they are written.
-use Rattle.std.specs.Prelude.{ℕ, Bool, true, false, List, [], ◌∷◌, codes, Option, None, Some}
+use Rattle.std.specs.Prelude.{ℕ, Bool, true, false, List, [], ◌∷◌, ◌++◌, codes, Option, None, Some}
 use Rattle.std.specs.List.{flat_map}
 use Rattle.ifmap_lemmas.specs.Numerals.{numeral}
 use Rattle.ifmap_elem.specs.Building.{bare_attribute}
@@ -70,22 +70,25 @@ filter_rows spaces filter = row (codes "filter") (filter_value spaces filter) �
 abbrev pub name_rows : List ℕ → List AttributeRow
 name_rows name = row (codes "name") (Some name) ∷ []
 
--- of a search in a session; the bounds of the walk and of the result are always said
-abbrev pub search_rows : List (List ℕ) → List ℕ → Search → List AttributeRow
-search_rows spaces session search =
+-- the filter of links and the bounds of a search; those of the walk and of the result are always said
+abbrev pub bounds_rows : List (List ℕ) → Search → List AttributeRow
+bounds_rows spaces search =
     row (codes "match-links") (filter_value spaces search.match_links)
     ∷ (row (codes "max-depth") (number_value search.max_depth)
-    ∷ (row (codes "max-size") (number_value search.max_size)
-    ∷ (row (codes "result-filter") (filter_value spaces search.result_filter)
+    ∷ (row (codes "max-size") (number_value search.max_size) ∷ []))
+
+-- of a search in a session
+abbrev pub search_rows : List (List ℕ) → List ℕ → Search → List AttributeRow
+search_rows spaces session search =
+    bounds_rows spaces search
+    ++ (row (codes "result-filter") (filter_value spaces search.result_filter)
     ∷ (row (codes "session-id") (Some session)
-    ∷ (row (codes "terminal-identifier-type") (kinds_value search.terminal) ∷ [])))))
+    ∷ (row (codes "terminal-identifier-type") (kinds_value search.terminal) ∷ [])))
 
 -- of a search under the name of a subscription
 abbrev pub subscription_rows : List (List ℕ) → List ℕ → Search → List AttributeRow
 subscription_rows spaces name search =
-    row (codes "match-links") (filter_value spaces search.match_links)
-    ∷ (row (codes "max-depth") (number_value search.max_depth)
-    ∷ (row (codes "max-size") (number_value search.max_size)
-    ∷ (row (codes "name") (Some name)
+    bounds_rows spaces search
+    ++ (row (codes "name") (Some name)
     ∷ (row (codes "result-filter") (filter_value spaces search.result_filter)
-    ∷ (row (codes "terminal-identifier-type") (kinds_value search.terminal) ∷ [])))))
+    ∷ (row (codes "terminal-identifier-type") (kinds_value search.terminal) ∷ [])))

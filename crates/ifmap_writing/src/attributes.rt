@@ -3,7 +3,7 @@ ghost use Rattle.std.specs.Prelude.{◌≡◌, ◌++◌, ◌∷◌, Some, codes,
 ghost use Rattle.ifmap_lemmas.specs.Numerals.{numeral};
 ghost use Rattle.ifmap_filter.specs.Printing.{joined_texts};
 ghost use Rattle.ifmap_ident.specs.Kinds.{kind_name};
-ghost use Rattle.ifmap_writing.specs.Attributes.{attributes_of, filter_rows, filter_value, kinds_value, lifetime_rows, limit_rows, name_rows, number_value, purge_rows, search_rows, session_rows, subscription_rows, written_attribute};
+ghost use Rattle.ifmap_writing.specs.Attributes.{attributes_of, bounds_rows, filter_rows, filter_value, kinds_value, lifetime_rows, limit_rows, name_rows, number_value, purge_rows, search_rows, session_rows, subscription_rows, written_attribute};
 ghost use Rattle.ifmap_writing.specs.RequestSpaces.{ServeFilter, ServeSearch};
 
 use ifmap_elem::{Attribute, Copied, Many, Text};
@@ -95,15 +95,7 @@ pub(crate) fn search_attributes(
         ≡ attributes_of (search_rows spaces.now session.now search.now)) }
 {
     let mut attributes = Vec::new(alloc);
-    push_filter(
-        alloc,
-        "match-links",
-        spaces,
-        &search.match_links,
-        &mut attributes,
-    )?;
-    push_number(alloc, "max-depth", search.max_depth as u64, &mut attributes)?;
-    push_number(alloc, "max-size", search.max_size, &mut attributes)?;
+    push_bounds(alloc, spaces, search, &mut attributes)?;
     push_filter(
         alloc,
         "result-filter",
@@ -127,15 +119,7 @@ pub(crate) fn subscription_attributes(
         ≡ attributes_of (subscription_rows spaces.now name.now search.now)) }
 {
     let mut attributes = Vec::new(alloc);
-    push_filter(
-        alloc,
-        "match-links",
-        spaces,
-        &search.match_links,
-        &mut attributes,
-    )?;
-    push_number(alloc, "max-depth", search.max_depth as u64, &mut attributes)?;
-    push_number(alloc, "max-size", search.max_size, &mut attributes)?;
+    push_bounds(alloc, spaces, search, &mut attributes)?;
     push_text(alloc, "name", name, &mut attributes)?;
     push_filter(
         alloc,
@@ -146,6 +130,29 @@ pub(crate) fn subscription_attributes(
     )?;
     push_kinds(alloc, search.terminal.as_slice(), &mut attributes)?;
     Ok(attributes)
+}
+
+// The filter of links and the bounds of a search, whose attributes come first.
+fn push_bounds(
+    alloc: Global,
+    spaces: &Many<Text>,
+    search: &Search,
+    attributes: &mut Vec<Attribute>,
+) -> Result<(), NoMemory>
+    requires { ServeSearch spaces.now search.now }
+    ensures { OnOk result (attributes.new.items
+        ≡ attributes.old.items ++ attributes_of (bounds_rows spaces.now search.now)) }
+{
+    push_filter(
+        alloc,
+        "match-links",
+        spaces,
+        &search.match_links,
+        attributes,
+    )?;
+    push_number(alloc, "max-depth", search.max_depth as u64, attributes)?;
+    push_number(alloc, "max-size", search.max_size, attributes)?;
+    Ok(())
 }
 
 fn push_text(
