@@ -77,35 +77,11 @@ plain number body rest close is three ten seen short code other_than =
     status_is_read number (phrase number) (closing [])
     (answer_bytes number body close) rest is three ten seen refl short refl code other_than
 
-read_400 : (body rest : List ℕ) (close : Bool) → ReadsAnswer (answer_bytes 400 body close ++ rest) (status 400 rest)
-unfolding print_response is_token_byte digits
-read_400 body rest close = plain 400 body rest close refl refl refl refl refl refl refl
-
-read_403 : (body rest : List ℕ) (close : Bool) → ReadsAnswer (answer_bytes 403 body close ++ rest) (status 403 rest)
-unfolding print_response is_token_byte digits
-read_403 body rest close = plain 403 body rest close refl refl refl refl refl refl refl
-
 read_405 : (body rest : List ℕ) (close : Bool) → ReadsAnswer (answer_bytes 405 body close ++ rest) (status 405 rest)
 unfolding print_response is_token_byte digits
 read_405 body rest close =
     status_is_read 405 (phrase 405) (closing ((codes "allow", codes "POST") ∷ [])) (answer_bytes 405 body close) rest
     refl refl refl refl refl refl refl refl refl
-
-read_411 : (body rest : List ℕ) (close : Bool) → ReadsAnswer (answer_bytes 411 body close ++ rest) (status 411 rest)
-unfolding print_response is_token_byte digits
-read_411 body rest close = plain 411 body rest close refl refl refl refl refl refl refl
-
-read_413 : (body rest : List ℕ) (close : Bool) → ReadsAnswer (answer_bytes 413 body close ++ rest) (status 413 rest)
-unfolding print_response is_token_byte digits
-read_413 body rest close = plain 413 body rest close refl refl refl refl refl refl refl
-
-read_503 : (body rest : List ℕ) (close : Bool) → ReadsAnswer (answer_bytes 503 body close ++ rest) (status 503 rest)
-unfolding print_response is_token_byte digits
-read_503 body rest close = plain 503 body rest close refl refl refl refl refl refl refl
-
-read_507 : (body rest : List ℕ) (close : Bool) → ReadsAnswer (answer_bytes 507 body close ++ rest) (status 507 rest)
-unfolding print_response is_token_byte digits
-read_507 body rest close = plain 507 body rest close refl refl refl refl refl refl refl
 
 by_cases : {P : Type 0} (a b : Bool) → (a || b) ≡ true → (b ≡ true → P) → (a ≡ true → P) → P
 by_cases true b e last first = first refl
@@ -116,14 +92,15 @@ same n m e = grind (arith, nat_tests)
 
 pub status_is_read_back : (number : ℕ) (body rest : List ℕ) (close : Bool) → is_answer_status number ≡ true → number ≢ 200
     → ReadsAnswer (answer_bytes number body close ++ rest) (status number rest)
+unfolding print_response is_token_byte digits
 status_is_read_back number body rest close is other_than =
-    by_cases _ (number == 507) is (λ e. rw (same number 507 e) (read_507 body rest close)) (λ is.
-    by_cases _ (number == 503) is (λ e. rw (same number 503 e) (read_503 body rest close)) (λ is.
-    by_cases _ (number == 413) is (λ e. rw (same number 413 e) (read_413 body rest close)) (λ is.
-    by_cases _ (number == 411) is (λ e. rw (same number 411 e) (read_411 body rest close)) (λ is.
+    by_cases _ (number == 507) is (λ e. rw (same number 507 e) (plain 507 body rest close refl refl refl refl refl refl refl)) (λ is.
+    by_cases _ (number == 503) is (λ e. rw (same number 503 e) (plain 503 body rest close refl refl refl refl refl refl refl)) (λ is.
+    by_cases _ (number == 413) is (λ e. rw (same number 413 e) (plain 413 body rest close refl refl refl refl refl refl refl)) (λ is.
+    by_cases _ (number == 411) is (λ e. rw (same number 411 e) (plain 411 body rest close refl refl refl refl refl refl refl)) (λ is.
     by_cases _ (number == 405) is (λ e. rw (same number 405 e) (read_405 body rest close)) (λ is.
-    by_cases _ (number == 403) is (λ e. rw (same number 403 e) (read_403 body rest close)) (λ is.
-    by_cases _ (number == 400) is (λ e. rw (same number 400 e) (read_400 body rest close)) (λ is.
+    by_cases _ (number == 403) is (λ e. rw (same number 403 e) (plain 403 body rest close refl refl refl refl refl refl refl)) (λ is.
+    by_cases _ (number == 400) is (λ e. rw (same number 400 e) (plain 400 body rest close refl refl refl refl refl refl refl)) (λ is.
     absurd (other_than (same number 200 is)))))))))
 
 -- the fields of a success
