@@ -1,6 +1,7 @@
 use Rattle.std.proofs.Common.{◌≡◌, refl, ◌∙◌, sym, ap, arith}
 use Rattle.ifmap_session.specs.Sessions.{Session, without_items}
-use Rattle.ifmap_session.proofs.KeptLaws.{kept_queue, queue_emptied, rewritten}
+use Rattle.ifmap_session.proofs.KeptLaws.{Rewritten, kept_queue, queue_emptied, rewritten}
+use Rattle.ifmap_session.proofs.sessions.Sessions.take_all.Goals.{After-take_all_at}
 use Rattle.ifmap_session.proofs.sessions.Sessions.take_all.Goals as goal
 
 pub take_all_at-requires : goal.take_all_at-requires
@@ -14,12 +15,18 @@ invariant_of-self c =
     kept_queue c.self.invariant c.args.serial c.place_in-place.result got.0 got.1 c.take_all_at.new.rows.items (without_items)
     (λ a b. (b.spare ≡ 0) × (c.take_all_at.result ≡ a.session.queue)) queue_emptied c.take_all_at.ensures.rows
 
+-- the session before and after its items were taken
+taken : (c : After-take_all_at) → Rewritten c.self.inside.counter c.args.serial without_items
+    (λ a b. (b.spare ≡ 0) × (c.take_all_at.result ≡ a.session.queue)) c.self.inside.rows.items c.take_all_at.new.rows.items
+    c.self.inside.holders.items
+taken c =
+    let got = rw c.deref.ensures.value at c.place_in-place.ensures in
+    rewritten c.self.invariant c.args.serial c.place_in-place.result got.0 got.1 c.take_all_at.new.rows.items without_items
+    (λ a b. (b.spare ≡ 0) × (c.take_all_at.result ≡ a.session.queue)) queue_emptied.names c.take_all_at.ensures.rows
+
 pub returns-clause-changes : goal.returns-clause-changes
 returns-clause-changes c =
-    let got = rw c.deref.ensures.value at c.place_in-place.ensures in
-    let r = rewritten c.self.invariant c.args.serial c.place_in-place.result got.0 got.1 c.take_all_at.new.rows.items
-    (without_items) (λ a b. (b.spare ≡ 0) × (c.take_all_at.result ≡ a.session.queue))
-    queue_emptied.names c.take_all_at.ensures.rows in
+    let r = taken (goal.at.returns-clause-changes c).After-take_all_at in
     rw (← c.self.view_is) (record {
       live = r.live;
       counter = refl;
@@ -29,17 +36,11 @@ returns-clause-changes c =
 
 pub returns-clause-items : goal.returns-clause-items
 returns-clause-items c = λ s is.
-    let got = rw c.deref.ensures.value at c.place_in-place.ensures in
-    let r = rewritten c.self.invariant c.args.serial c.place_in-place.result got.0 got.1 c.take_all_at.new.rows.items
-    (without_items) (λ a b. (b.spare ≡ 0) × (c.take_all_at.result ≡ a.session.queue))
-    queue_emptied.names c.take_all_at.ensures.rows in
+    let r = taken (goal.at.returns-clause-items c).After-take_all_at in
     let same : r.before.session ≡ s = cc (sym r.there ∙ (rw (← c.self.view_is) at is)) in
     r.holds.1 ∙ ap (λ (t : Session). t.queue) same
 
 pub returns-clause-spare : goal.returns-clause-spare
 returns-clause-spare c =
-    let got = rw c.deref.ensures.value at c.place_in-place.ensures in
-    let r = rewritten c.self.invariant c.args.serial c.place_in-place.result got.0 got.1 c.take_all_at.new.rows.items
-    (without_items) (λ a b. (b.spare ≡ 0) × (c.take_all_at.result ≡ a.session.queue))
-    queue_emptied.names c.take_all_at.ensures.rows in
+    let r = taken (goal.at.returns-clause-spare c).After-take_all_at in
     r.is ∙ r.holds.0
