@@ -364,8 +364,8 @@ module _ (rows : List Attachment) where
         )
 
     -- so their changes lead from the rows to what they make
-    module _ (es : List (Item × Edit)) (are : AreEdits rows es) (up : IsStrictlySortedBy item_order (keys_of es)) (changes : List ItemChange)
-        (made : changes ≡ changes_by es) where
+    module _ (es : List (Item × Edit)) (are : AreEdits rows es) (up : IsStrictlySortedBy item_order (keys_of es))
+        (changes : List ItemChange) (made : changes ≡ changes_by es) where
       changes_are : changes ≡ changes_to rows (listed es)
       changes_are = made ∙ listed_changes es are
 
