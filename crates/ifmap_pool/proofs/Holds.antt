@@ -37,6 +37,12 @@ module _ {K : Type 0} where
       ap (λ l. get l other) is ∙ get-insert nat_cmp_total old.live number entry other
       ∙ ap (λ b. cond b (Some entry) (get old.live other)) (apart other number differs)
 
+-- a pool holds a key once more than another does, under this number
+pub record IsOneMore {K : Type 0} (cmp : K → K → Ordering) (old new : Holdings K) (number : ℕ) (key : K) : Type 0 where
+  pub holds : HoldsOne cmp old new number key
+  pub before : IsPool cmp old
+  pub whole : IsPool cmp new
+
 -- one and none by the order
 module _ {K : Type 0} {cmp : K → K → Ordering} (total : IsTotalOrder cmp) where
   pub once_tied : (key other : K) → cmp key other ≡ Equal → once cmp key other ≡ 1
@@ -65,15 +71,14 @@ module _ {K : Type 0} {cmp : K → K → Ordering} (total : IsTotalOrder cmp) wh
   pub tied_on : (first key other : K) → cmp first key ≡ Equal → cmp key other ≡ Equal → cmp first other ≡ Equal
   tied_on first key other e f = total.congr first key other e ∙ f
 
-  module _ (old new : Holdings K) (number : ℕ) (key : K) (holds : HoldsOne cmp old new number key) (before : IsPool cmp old) (whole :
-      IsPool cmp new) where
+  module _ {old new : Holdings K} {number : ℕ} {key : K} (more : IsOneMore cmp old new number key) where
     -- the entry of the number, before and afterwards
     change : ((entry : K × ℕ) × (entry_at old number ≡ Some entry) × (cmp entry.0 key ≡ Equal) × (entry_at new number ≡ Some (
       entry.0,
       entry.1 + 1,
     )))
         ⊎ ((entry_at old number ≡ None) × (entry_at new number ≡ Some (key, 1)))
-    change = elim holds [
+    change = elim more.holds [
       | inl h ↦ let n = h.0 in inl (
         n.0,
         n.1,
@@ -91,13 +96,13 @@ module _ {K : Type 0} {cmp : K → K → Ordering} (total : IsTotalOrder cmp) wh
     ]
 
     pub present : (given : ℕ) → Names cmp old given key → (number ≡ given) × HoldsAgain old new given
-    present given names = elim holds [
-      | inl h ↦ let same = before.one_to_one number given key h.0 names in (same, subst (λ (n : ℕ). HoldsAgain old new n) same h.1)
+    present given names = elim more.holds [
+      | inl h ↦ let same = more.before.one_to_one number given key h.0 names in (same, subst (λ (n : ℕ). HoldsAgain old new n) same h.1)
       | inr h ↦ absurd (h.0 given names)
     ]
 
     pub absent : IsAbsent cmp old key → Takes old new number key
-    absent none = elim holds [ inl h ↦ absurd (none number h.0) | inr h ↦ h.1 ]
+    absent none = elim more.holds [ inl h ↦ absurd (none number h.0) | inr h ↦ h.1 ]
 
     pub counted : holds_at new number ≡ holds_at old number + 1
     counted = elim change [
@@ -106,7 +111,7 @@ module _ {K : Type 0} {cmp : K → K → Ordering} (total : IsTotalOrder cmp) wh
     ]
 
     pub others : (other : ℕ) → other ≢ number → entry_at new other ≡ entry_at old other
-    others other differs = elim holds [
+    others other differs = elim more.holds [
       | inl h ↦ let n = h.0 in entry_other new old number other (n.0.0, n.0.1 + 1) (ap (λ (p : Holdings K). p.live) (h.1 n.0 n.1)) differs
       | inr h ↦ entry_other new old number other (key, 1) h.1.live differs
     ]
@@ -122,13 +127,13 @@ module _ {K : Type 0} {cmp : K → K → Ordering} (total : IsTotalOrder cmp) wh
     ]
 
     pub spare_left : old.spare ≤ new.spare + 1
-    spare_left = elim holds [
+    spare_left = elim more.holds [
       | inl h ↦ let same = ap (λ (p : Holdings K). p.spare) (h.1 h.0.0 h.0.1) in omega (arith, same)
       | inr h ↦ omega (arith, h.1.spare)
     ]
 
     pub limit_same : new.limit ≡ old.limit
-    limit_same = elim holds [ inl h ↦ ap (λ (p : Holdings K). p.limit) (h.1 h.0.0 h.0.1) | inr h ↦ h.1.limit ]
+    limit_same = elim more.holds [ inl h ↦ ap (λ (p : Holdings K). p.limit) (h.1 h.0.0 h.0.1) | inr h ↦ h.1.limit ]
 
     pub below : (v : ℕ) → holds_at new v ≤ holds_at old v + 1
     below v = elim (cases_eq v number) [
@@ -142,7 +147,7 @@ module _ {K : Type 0} {cmp : K → K → Ordering} (total : IsTotalOrder cmp) wh
     held other n (inl h) = elim (tied_or_not key other) [
       | inl tie ↦
           let one = once_tied key other tie in
-          let same : h.0 ≡ number = whole.one_to_one h.0 number other (kept h.0 other h.1) (
+          let same : h.0 ≡ number = more.whole.one_to_one h.0 number other (kept h.0 other h.1) (
             named.0,
             named.1,
             tied_on named.0.0 key other

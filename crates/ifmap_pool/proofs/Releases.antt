@@ -10,7 +10,7 @@ use Rattle.ifmap_pool.specs.Holdings.{Holdings, Names, IsPool, IsHeld, once, Let
 use Rattle.ifmap_pool.proofs.Live.{tied, apart}
 use Rattle.ifmap_pool.proofs.Holds.{holds_of, holds_none, holds_same, entry_put, entry_other, once_tied, once_apart, tied_or_not, tied_through, tied_on}
 
-module _ {K : Type 0} (old new : Holdings K) (number : ℕ) (goes : LetsOneGo old new number) where
+module _ {K : Type 0} {old new : Holdings K} {number : ℕ} (goes : LetsOneGo old new number) where
   entry : K × ℕ
   entry = goes.0
 

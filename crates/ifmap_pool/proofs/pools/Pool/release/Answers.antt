@@ -2,23 +2,23 @@ use Rattle.ifmap_pool.proofs.Releases as releases
 use Rattle.ifmap_pool.proofs.pools.Pool.release.Goals as goal
 
 pub returns-clause-kept : goal.returns-clause-kept
-returns-clause-kept g c = releases.kept _ _ c.args.number c.release_one.ensures.goes
+returns-clause-kept g c = releases.kept c.release_one.ensures.goes
 
 pub returns-clause-last : goal.returns-clause-last
-returns-clause-last g c = releases.last _ _ c.args.number c.release_one.ensures.goes
+returns-clause-last g c = releases.last c.release_one.ensures.goes
 
 pub returns-clause-counted : goal.returns-clause-counted
-returns-clause-counted g c = releases.counted _ _ c.args.number c.release_one.ensures.goes
+returns-clause-counted g c = releases.counted c.release_one.ensures.goes
 
 pub returns-clause-others : goal.returns-clause-others
-returns-clause-others g c = releases.others _ _ c.args.number c.release_one.ensures.goes
+returns-clause-others g c = releases.others c.release_one.ensures.goes
 
 pub returns-clause-spare : goal.returns-clause-spare
-returns-clause-spare g c = releases.spare_more _ _ c.args.number c.release_one.ensures.goes
+returns-clause-spare g c = releases.spare_more c.release_one.ensures.goes
 
 pub returns-clause-limit : goal.returns-clause-limit
-returns-clause-limit g c = releases.limit_same _ _ c.args.number c.release_one.ensures.goes
+returns-clause-limit g c = releases.limit_same c.release_one.ensures.goes
 
 pub returns-clause-held : goal.returns-clause-held
 returns-clause-held g c key other count mine =
-    releases.held _ _ c.args.number c.release_one.ensures.goes g.met.K.Ord.total c.release_one.ensures.before key mine other count
+    releases.held c.release_one.ensures.goes g.met.K.Ord.total c.release_one.ensures.before key mine other count
