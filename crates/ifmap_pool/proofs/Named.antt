@@ -14,6 +14,10 @@ use Rattle.ifmap_pool.proofs.Live.{get-live_of}
 use Rattle.ifmap_pool.proofs.Kept.{one_number, none_missed}
 use Rattle.ifmap_pool.proofs.Emptiness.{slot_within}
 
+-- contracts see the keys of these slots with their counts
+pub record Shows {K : Type 0} (slots : List (Option (Held K))) (pool : Holdings K) : Type 0 where
+  pub live : pool.live ≡ live_of slots
+
 module _ {K : Type 0} where
   pub same_holdings : (a b : Holdings K) → a.live ≡ b.live → a.spare ≡ b.spare → a.limit ≡ b.limit → a ≡ b
   same_holdings a b p q r = λ i. record { live = p i; spare = q i; limit = r i }
@@ -30,9 +34,9 @@ module _ {K : Type 0} where
       ap (λ m. get m number) now ∙ get-live_of new number ∙ ap (option_map entry_of) e ∙ sym (get-live_of old number) ∙ sym (ap (λ m. get
       m number) is)
 
-  module _ (slots : List (Option (Held K))) (pool : Holdings K) (is : pool.live ≡ live_of slots) where
+  module _ {slots : List (Option (Held K))} {pool : Holdings K} (shown : Shows slots pool) where
     pub entry_is : (number : ℕ) → entry_at pool number ≡ option_map entry_of (get_or slots number None)
-    entry_is number = ap (λ m. get m number) is ∙ get-live_of slots number
+    entry_is number = ap (λ m. get m number) shown.live ∙ get-live_of slots number
 
     pub key_is : (number : ℕ) → key_at pool number ≡ option_map (λ held. held.key) (get_or slots number None)
     key_is number = ap (option_map (λ entry. entry.0)) (entry_is number) ∙ by_cases (get_or slots number None)
@@ -78,8 +82,8 @@ module _ {K : Type 0} where
           let there = slot_from_entry number names.0 names.1 in
           (there.0, there.1, ap (λ (entry : K × ℕ). cmp entry.0 key) there.2 ∙ names.2)
 
-    module _ {cmp : K → K → Ordering} (total : IsTotalOrder cmp) (order : List ℕ) (indexed : IsIndexed cmp (λ n. get_or slots n None)
-        order) where
+    module _ {cmp : K → K → Ordering} (total : IsTotalOrder cmp) {order : List ℕ}
+        (indexed : IsIndexed cmp (λ n. get_or slots n None) order) where
       pub numbers_apart : OneToOne cmp pool
       numbers_apart first second key one other =
           let a = slot_from_names cmp first key one in

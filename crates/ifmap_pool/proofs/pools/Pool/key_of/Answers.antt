@@ -1,38 +1,38 @@
-use Rattle.std.proofs.Common.{refl, sym, ap, ◌∙◌, arith, vec_len}
+use Rattle.std.proofs.Common.{refl, sym, ap, ◌∙◌, arith}
 use Rattle.std.specs.Prelude.{option_map}
 use Rattle.ifmap_pool.specs.declared.slots.Held.{Held}
-use Rattle.ifmap_pool.proofs.Changes.{live_is, whole_now}
+use Rattle.ifmap_pool.proofs.Changes.{shown, whole_now}
 use Rattle.ifmap_pool.proofs.Named.{key_is, holds_from_slot, holds_from_none}
 use Rattle.ifmap_pool.proofs.pools.Pool.key_of.Goals as goal
 
 pub returns-in-Some-clause-key : goal.returns-in-Some-clause-key
 returns-in-Some-clause-key g c =
-    let is = live_is g.met.K.Ord.total _ _ _ _ _ c.self.invariant.0 _ c.self.view_is in
+    let shows = shown c.self.invariant.0 c.self.view_is in
     let at = rw c.deref.ensures.value at c.in-Some.ensures in
-    ap (option_map (λ (held : Held g.row.K.Denot). held.key)) at ∙ sym (key_is c.self.inside.slots.items c.args.self.now is c.args.number)
+    ap (option_map (λ (held : Held g.row.K.Denot). held.key)) at ∙ sym (key_is shows c.args.number)
 
 pub returns-in-Some-clause-held : goal.returns-in-Some-clause-held
 returns-in-Some-clause-held g c =
-    let is = live_is g.met.K.Ord.total _ _ _ _ _ c.self.invariant.0 _ c.self.view_is in
+    let shows = shown c.self.invariant.0 c.self.view_is in
     let at = sym (rw c.deref.ensures.value at c.in-Some.ensures) in
-    let holds = holds_from_slot c.self.inside.slots.items c.args.self.now is c.args.number c.in-Some.held.now at in
+    let holds = holds_from_slot shows c.args.number c.in-Some.held.now at in
     (λ _. omega (arith, holds, c.self.invariant.0.indexed.held c.args.number c.in-Some.held.now at), λ _. refl)
 
 pub returns-in-Some-clause-whole : goal.returns-in-Some-clause-whole
-returns-in-Some-clause-whole g c = whole_now g.met.K.Ord.total _ _ _ _ _ c.self.invariant.0 _ c.self.view_is
+returns-in-Some-clause-whole g c = whole_now c.self.invariant.0 c.self.view_is g.met.K.Ord.total
 
 pub returns-in-None-clause-key : goal.returns-in-None-clause-key
 returns-in-None-clause-key g c =
-    let is = live_is g.met.K.Ord.total _ _ _ _ _ c.self.invariant.0 _ c.self.view_is in
+    let shows = shown c.self.invariant.0 c.self.view_is in
     let at = rw c.deref.ensures.value at c.in-None.ensures in
-    ap (option_map (λ (held : Held g.row.K.Denot). held.key)) at ∙ sym (key_is c.self.inside.slots.items c.args.self.now is c.args.number)
+    ap (option_map (λ (held : Held g.row.K.Denot). held.key)) at ∙ sym (key_is shows c.args.number)
 
 pub returns-in-None-clause-held : goal.returns-in-None-clause-held
 returns-in-None-clause-held g c =
-    let is = live_is g.met.K.Ord.total _ _ _ _ _ c.self.invariant.0 _ c.self.view_is in
-    let none = holds_from_none c.self.inside.slots.items c.args.self.now is c.args.number (sym (rw c.deref.ensures.value at
+    let shows = shown c.self.invariant.0 c.self.view_is in
+    let none = holds_from_none shows c.args.number (sym (rw c.deref.ensures.value at
     c.in-None.ensures)) in
     (λ live. absurd (cc), λ some. absurd (omega arith))
 
 pub returns-in-None-clause-whole : goal.returns-in-None-clause-whole
-returns-in-None-clause-whole g c = whole_now g.met.K.Ord.total _ _ _ _ _ c.self.invariant.0 _ c.self.view_is
+returns-in-None-clause-whole g c = whole_now c.self.invariant.0 c.self.view_is g.met.K.Ord.total

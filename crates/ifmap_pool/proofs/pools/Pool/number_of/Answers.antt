@@ -1,7 +1,7 @@
-use Rattle.std.proofs.Common.{◌≡◌, ℕ, get_or, Some, sym, ap, subst, ◌∙◌, vec_len}
+use Rattle.std.proofs.Common.{◌≡◌, ℕ, get_or, Some, sym, ap, subst, ◌∙◌}
 use Rattle.std.proofs.lemmas.List.{get_or_default}
 use Rattle.ifmap_pool.specs.Holdings.{Names}
-use Rattle.ifmap_pool.proofs.Changes.{live_is, whole_now}
+use Rattle.ifmap_pool.proofs.Changes.{shown, whole_now}
 use Rattle.ifmap_pool.proofs.Named.{numbers_apart, named_at, absent_at}
 use Rattle.ifmap_pool.proofs.pools.Pool.number_of.Goals as goal
 
@@ -10,34 +10,33 @@ place_of-requires g c = rw (c.deref.ensures.value, c.deref-2.ensures.value) c.se
 
 pub returns-in-Ok-clause-found : goal.returns-in-Ok-clause-found
 returns-in-Ok-clause-found g c =
-    let is = live_is g.met.K.Ord.total _ _ _ _ _ c.self.invariant.0 _ c.self.view_is in
+    let shows = shown c.self.invariant.0 c.self.view_is in
     let found = rw (c.deref.ensures.value, c.deref-2.ensures.value) at c.in-Ok.ensures in
     let at : get_or c.self.inside.order.items c.in-Ok.place 0 ≡ c.index.result.now =
     get_or_default c.self.inside.order.items c.in-Ok.place 0 c.index.result.now found.0 ∙ sym c.index.ensures in
     let P : ℕ → Type 0 = λ n. Names g.K.Ord.cmp c.args.self.now n c.args.key.now in
     subst P (at ∙ sym c.from.ensures)
-    (named_at c.self.inside.slots.items c.args.self.now is g.met.K.Ord.total c.self.inside.order.items c.self.invariant.0.indexed
+    (named_at shows g.met.K.Ord.total c.self.invariant.0.indexed
     c.args.key.now c.in-Ok.place found)
 
 pub returns-in-Ok-clause-only : goal.returns-in-Ok-clause-only
 returns-in-Ok-clause-only g c number names =
-    let is = live_is g.met.K.Ord.total _ _ _ _ _ c.self.invariant.0 _ c.self.view_is in
-    ap Some (numbers_apart c.self.inside.slots.items c.args.self.now is g.met.K.Ord.total c.self.inside.order.items
-    c.self.invariant.0.indexed
+    let shows = shown c.self.invariant.0 c.self.view_is in
+    ap Some (numbers_apart shows g.met.K.Ord.total c.self.invariant.0.indexed
     _ _ c.args.key.now (returns-in-Ok-clause-found g c) names)
 
 pub returns-in-Ok-clause-whole : goal.returns-in-Ok-clause-whole
-returns-in-Ok-clause-whole g c = whole_now g.met.K.Ord.total _ _ _ _ _ c.self.invariant.0 _ c.self.view_is
+returns-in-Ok-clause-whole g c = whole_now c.self.invariant.0 c.self.view_is g.met.K.Ord.total
 
 pub returns-in-Err-clause-absent : goal.returns-in-Err-clause-absent
 returns-in-Err-clause-absent g c =
-    let is = live_is g.met.K.Ord.total _ _ _ _ _ c.self.invariant.0 _ c.self.view_is in
+    let shows = shown c.self.invariant.0 c.self.view_is in
     let missing = rw (c.deref.ensures.value, c.deref-2.ensures.value) at c.in-Err.ensures in
-    absent_at c.self.inside.slots.items c.args.self.now is g.met.K.Ord.total c.self.inside.order.items c.self.invariant.0.indexed
+    absent_at shows g.met.K.Ord.total c.self.invariant.0.indexed
     c.args.key.now _ missing
 
 pub returns-in-Err-clause-only : goal.returns-in-Err-clause-only
 returns-in-Err-clause-only g c number names = absurd (returns-in-Err-clause-absent g c number names)
 
 pub returns-in-Err-clause-whole : goal.returns-in-Err-clause-whole
-returns-in-Err-clause-whole g c = whole_now g.met.K.Ord.total _ _ _ _ _ c.self.invariant.0 _ c.self.view_is
+returns-in-Err-clause-whole g c = whole_now c.self.invariant.0 c.self.view_is g.met.K.Ord.total

@@ -1,21 +1,45 @@
-use Rattle.std.proofs.Common.{◌≡◌, ℕ, ◌-◌, refl, subst, inl, inr, arith, vec_len}
-use Rattle.std.specs.FinMap.{insert}
+use Rattle.std.proofs.Common.{◌-◌, inl, inr, refl, arith, vec_len}
 use Rattle.ifmap_lemmas.specs.Options.{is_some_of}
-use Rattle.ifmap_pool.specs.declared.slots.Held.{Held}
-use Rattle.ifmap_pool.proofs.Changes.{seen, live_is, limit_is, len_within, whole_now, kept_write, seen_write, kept_free, seen_free}
-use Rattle.ifmap_pool.proofs.Named.{slot_from_live, entry_known, entry_from_slot}
+use Rattle.ifmap_pool.specs.Holdings.{Frees, LetsGo}
+use Rattle.ifmap_pool.specs.Index.{IsKept}
+use Rattle.ifmap_pool.proofs.Changes.{seen, shown, limit_is, whole_now, write_count, free_number}
+use Rattle.ifmap_pool.proofs.Named.{slot_from_live, entry_from_slot}
+use Rattle.ifmap_pool.proofs.pools.Pool.release_one.Given as given
 use Rattle.ifmap_pool.proofs.pools.Pool.release_one.Goals as goal
+use Rattle.ifmap_pool.proofs.pools.Pool.release_one.Goals.{After-set_holds, After-empty_slot}
+
+-- the count of the number is one less, and nothing else changes
+counted : (g : given.Over) (c : After-set_holds g)
+    → IsKept g.K.Ord.cmp c.set_holds.new.slots.items c.self.inside.free.items c.self.inside.order.items (vec_len c.self.inside.order)
+    c.self.inside.limit
+    × LetsGo c.args.self.now (seen c.set_holds.new.slots.items (vec_len c.self.inside.order) c.self.inside.limit) c.args.number
+counted g c =
+    let at = rw c.deref.ensures.value at c.held_at.ensures in
+    let wrote = write_count c.self.invariant.0 c.self.view_is g.met.K.Ord.total c.args.number c.held_at.result.now at (λ n. n - 1)
+    (omega arith) (c.set_holds.ensures.items c.held_at.result.now at) in
+    (wrote.0, λ entry there more. wrote.1 entry there)
+
+-- the number is free
+freed : (g : given.Over) (c : After-empty_slot g)
+    → IsKept g.K.Ord.cmp c.empty_slot.new.slots.items c.empty_slot.new.free.items c.unlist_number.new.order.items
+    (vec_len c.unlist_number.new.order) c.self.inside.limit
+    × Frees c.args.self.now (seen c.empty_slot.new.slots.items (vec_len c.unlist_number.new.order) c.self.inside.limit) c.args.number
+freed g c =
+    let listed = c.unlist_number.ensures.items in
+    free_number c.self.invariant.0 c.self.view_is g.met.K.Ord.total c.args.number listed.0 listed.1 listed.2
+    (vec_len c.unlist_number.new.order)
+    c.empty_slot.ensures.writes c.empty_slot.ensures.free c.empty_slot.ensures.count c.empty_slot.ensures.len listed.3
+    c.unlist_number.ensures.len
 
 pub prove-unreachable-requires : goal.prove-unreachable-requires
 prove-unreachable-requires g c =
-    let inside = (whole_now g.met.K.Ord.total _ _ _ _ _ c.self.invariant.0 _ c.self.view_is).below c.args.number c.requires in
-    let same = limit_is g.met.K.Ord.total _ _ _ _ _ c.self.invariant.0 _ c.self.view_is in
+    let inside = (whole_now c.self.invariant.0 c.self.view_is g.met.K.Ord.total).below c.args.number c.requires in
+    let same = limit_is c.self.invariant.0 c.self.view_is in
     omega (arith, inside, same, c.if-prove.true)
 
 pub held_at-requires : goal.held_at-requires
 held_at-requires g c =
-    let is = live_is g.met.K.Ord.total _ _ _ _ _ c.self.invariant.0 _ c.self.view_is in
-    let there = slot_from_live c.self.inside.slots.items c.args.self.now is c.args.number c.requires in
+    let there = slot_from_live (shown c.self.invariant.0 c.self.view_is) c.args.number c.requires in
     rw c.deref.ensures.value (is_some_of _ there.0 there.1)
 
 pub set_holds-requires : goal.set_holds-requires
@@ -31,43 +55,28 @@ unlist_number-requires g c =
     }
 
 pub invariant_of-self : goal.invariant_of-self
-invariant_of-self g c =
-    let held = c.held_at.result.now in
-    let at = rw c.deref.ensures.value at c.held_at.ensures in
-    let value : Held g.row.K.Denot = record held { holds = held.holds - 1 } in (
-      kept_write g.met.K.Ord.total _ _ _ _ _ c.self.invariant.0 _ c.self.view_is
-          c.args.number held value at refl (omega arith) c.set_holds.new.slots.items (c.set_holds.ensures.items held at),
-      omega (arith, c.self.invariant, c.set_holds.ensures.capacity),
-      omega (arith, c.self.invariant),
-      omega (arith, c.self.invariant),
-      c.self.invariant.4,
-    )
+invariant_of-self g c = (
+  (counted g (goal.at.invariant_of-self g c).After-set_holds).0,
+  omega (arith, c.self.invariant, c.set_holds.ensures.capacity),
+  omega (arith, c.self.invariant),
+  omega (arith, c.self.invariant),
+  c.self.invariant.4,
+)
 
 pub returns-then-holds-gt1-clause-before : goal.returns-then-holds-gt1-clause-before
-returns-then-holds-gt1-clause-before g c = whole_now g.met.K.Ord.total _ _ _ _ _ c.self.invariant.0 _ c.self.view_is
+returns-then-holds-gt1-clause-before g c = whole_now c.self.invariant.0 c.self.view_is g.met.K.Ord.total
 
 pub returns-then-holds-gt1-clause-whole : goal.returns-then-holds-gt1-clause-whole
 returns-then-holds-gt1-clause-whole g c =
-    whole_now g.met.K.Ord.total c.set_holds.new.slots.items c.self.inside.free.items c.self.inside.order.items (vec_len
-    c.self.inside.order) c.self.inside.limit (invariant_of-self g c).0 _ refl
+    whole_now (counted g (goal.at.returns-then-holds-gt1-clause-whole g c).After-set_holds).0 refl g.met.K.Ord.total
 
 pub returns-then-holds-gt1-clause-goes : goal.returns-then-holds-gt1-clause-goes
 returns-then-holds-gt1-clause-goes g c =
-    let is = live_is g.met.K.Ord.total _ _ _ _ _ c.self.invariant.0 _ c.self.view_is in
     let held = c.held_at.result.now in
-    let at = rw c.deref.ensures.value at c.held_at.ensures in
-    let value : Held g.row.K.Denot = record held { holds = held.holds - 1 } in (
+    let at = rw c.deref.ensures.value at c.held_at.ensures in (
       (held.key, held.holds),
-      entry_from_slot c.self.inside.slots.items c.args.self.now is c.args.number held at,
-      inl (
-        c.if-holds-gt1.true,
-        λ entry there more.
-            subst (λ (x : g.row.K.Denot × ℕ). seen c.set_holds.new.slots.items (vec_len c.self.inside.order) c.self.inside.limit
-            ≡ record c.args.self.now { live = insert c.args.self.now.live c.args.number (x.0, x.1 - 1) })
-            (entry_known c.self.inside.slots.items c.args.self.now is c.args.number held entry at there)
-            (seen_write g.met.K.Ord.total _ _ _ _ _ c.self.invariant.0 _ c.self.view_is
-            c.args.number held value at refl (omega arith) c.set_holds.new.slots.items (c.set_holds.ensures.items held at)),
-      ),
+      entry_from_slot (shown c.self.invariant.0 c.self.view_is) c.args.number held at,
+      inl (c.if-holds-gt1.true, (counted g (goal.at.returns-then-holds-gt1-clause-goes g c).After-set_holds).1),
     )
 
 pub empty_slot-requires : goal.empty_slot-requires
@@ -81,43 +90,28 @@ empty_slot-requires g c =
     }
 
 pub invariant_of-self-2 : goal.invariant_of-self-2
-invariant_of-self-2 g c =
-    let listed = c.unlist_number.ensures.items in
-    let room = len_within g.met.K.Ord.total _ _ _ _ _ c.self.invariant.0 _ c.self.view_is in (
-      kept_free g.met.K.Ord.total _ _ _ _ _ c.self.invariant.0 _ c.self.view_is
-          c.args.number listed.0 listed.1 listed.2 c.empty_slot.new.slots.items c.empty_slot.new.free.items
-          c.unlist_number.new.order.items (vec_len c.unlist_number.new.order)
-          c.empty_slot.ensures.writes c.empty_slot.ensures.free c.empty_slot.ensures.count c.empty_slot.ensures.len listed.3
-          c.unlist_number.ensures.len room,
-      omega (arith, c.self.invariant.1, c.empty_slot.ensures.slots_room),
-      omega (arith, c.self.invariant.2, c.empty_slot.ensures.free_room),
-      omega (arith, c.self.invariant.3, c.unlist_number.ensures.capacity),
-      c.self.invariant.4,
-    )
+invariant_of-self-2 g c = (
+  (freed g (goal.at.invariant_of-self-2 g c).After-empty_slot).0,
+  omega (arith, c.self.invariant.1, c.empty_slot.ensures.slots_room),
+  omega (arith, c.self.invariant.2, c.empty_slot.ensures.free_room),
+  omega (arith, c.self.invariant.3, c.unlist_number.ensures.capacity),
+  c.self.invariant.4,
+)
 
 pub returns-clause-before : goal.returns-clause-before
-returns-clause-before g c = whole_now g.met.K.Ord.total _ _ _ _ _ c.self.invariant.0 _ c.self.view_is
+returns-clause-before g c = whole_now c.self.invariant.0 c.self.view_is g.met.K.Ord.total
 
 pub returns-clause-whole : goal.returns-clause-whole
-returns-clause-whole g c =
-    whole_now g.met.K.Ord.total c.empty_slot.new.slots.items c.empty_slot.new.free.items c.unlist_number.new.order.items (vec_len
-    c.unlist_number.new.order) c.self.inside.limit (invariant_of-self-2 g c).0 _ refl
+returns-clause-whole g c = whole_now (freed g (goal.at.returns-clause-whole g c).After-empty_slot).0 refl g.met.K.Ord.total
 
 pub returns-clause-goes : goal.returns-clause-goes
 returns-clause-goes g c =
-    let is = live_is g.met.K.Ord.total _ _ _ _ _ c.self.invariant.0 _ c.self.view_is in
     let held = c.held_at.result.now in
-    let at = rw c.deref.ensures.value at c.held_at.ensures in
-    let listed = c.unlist_number.ensures.items in
-    let room = len_within g.met.K.Ord.total _ _ _ _ _ c.self.invariant.0 _ c.self.view_is in (
+    let at = rw c.deref.ensures.value at c.held_at.ensures in (
       (held.key, held.holds),
-      entry_from_slot c.self.inside.slots.items c.args.self.now is c.args.number held at,
+      entry_from_slot (shown c.self.invariant.0 c.self.view_is) c.args.number held at,
       inr (
         omega (arith, c.if-holds-gt1.false, c.self.invariant.0.indexed.held c.args.number held at),
-        seen_free g.met.K.Ord.total _ _ _ _ _ c.self.invariant.0 _ c.self.view_is
-            c.args.number listed.0 listed.1 listed.2 c.empty_slot.new.slots.items c.empty_slot.new.free.items
-            c.unlist_number.new.order.items (vec_len c.unlist_number.new.order)
-            c.empty_slot.ensures.writes c.empty_slot.ensures.free c.empty_slot.ensures.count c.empty_slot.ensures.len listed.3
-            c.unlist_number.ensures.len room,
+        (freed g (goal.at.returns-clause-goes g c).After-empty_slot).1,
       ),
     )
