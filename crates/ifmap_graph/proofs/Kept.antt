@@ -1,19 +1,31 @@
 -- Shelves and links that are the same: what contracts see of them.
-use Rattle.std.proofs.Common.{◌≡◌, ℕ, ◌≤◌, [], IsSome, length, ap, ◌∙◌, sym, subst, arith}
+use Rattle.std.proofs.Common.{◌≡◌, ℕ, ◌≤◌, List, [], IsSome, length, refl, ap, ◌∙◌, sym, subst, arith}
 use Rattle.std.specs.BTreeMap.{is_at}
 use Rattle.std.specs.Map.{lookup}
+use Rattle.ifmap_ident.specs.declared.identifiers.Identifier.{Identifier}
 use Rattle.ifmap_ident.specs.declared.items.Item.{Item}
 use Rattle.ifmap_ident.specs.Items.{item_order}
+use Rattle.ifmap_pool.specs.Holdings.{Holdings}
+use Rattle.ifmap_view.specs.declared.views.LinkSeen.{LinkSeen}
 use Rattle.ifmap_view.specs.Rows.{stored_on}
+use Rattle.ifmap_graph.specs.declared.shelves.Shelves.{Shelves}
 use Rattle.ifmap_graph.specs.Back.{KeepsBacks}
 use Rattle.ifmap_graph.specs.Held.{Held}
 use Rattle.ifmap_graph.specs.Out.{IsDrafted}
 use Rattle.ifmap_graph.specs.Seen.{AwaitsMore, IsStill, StaysLean, waits_in, waits_there_in}
 use Rattle.ifmap_graph.specs.Shelved.{list_at, rows_by}
-use Rattle.ifmap_graph.specs.Sides.{now}
+use Rattle.ifmap_graph.specs.Sides.{Sides, now}
 use Rattle.ifmap_graph.specs.Stays.{HasSameShelf, StayPlaced, ends_there_in}
 use Rattle.ifmap_graph.specs.Turning.{sides_at}
 use Rattle.ifmap_graph.proofs.Backs.{keeps_backs}
+use Rattle.ifmap_graph.proofs.Settled.{held_of}
+
+-- what is so after a call of what contracts see of shelves, of links and of ways back
+pub record KeepsShelves (old new : Held) : Type 0 where
+  pub still : IsStill old → IsStill new
+  pub waits : AwaitsMore [] old new
+  pub backs : KeepsBacks old new
+  pub lean : StaysLean old new
 
 module _ (old new : Held) (shelves : new.shelves ≡ old.shelves) (places : new.places ≡ old.places)
     (links : (v : ℕ) → sides_at new.links v ≡ sides_at old.links v) (long : length old.links ≤ length new.links) where
@@ -23,10 +35,10 @@ module _ (old new : Held) (shelves : new.shelves ≡ old.shelves) (places : new.
     ap (λ l. ends_there_in (lookup (is_at (item_order x)) l)) shelves,
   )
 
-  pub kept_stay : StayPlaced old new
+  kept_stay : StayPlaced old new
   kept_stay = record { waited = λ x a b. there x; full = λ x a b. there x }
 
-  pub kept_still : IsStill old → IsStill new
+  kept_still : IsStill old → IsStill new
   kept_still still = record {
     shelves = λ x d. still.shelves x (subst (λ l. IsDrafted l x) shelves d);
     links = λ v. ap (λ s. s.draft) (links v) ∙ still.links v;
@@ -35,16 +47,27 @@ module _ (old new : Held) (shelves : new.shelves ≡ old.shelves) (places : new.
   waits_same : (x : Item) → waits_in new x ≡ waits_in old x
   waits_same x = ap (λ l. waits_there_in (lookup (is_at (item_order x)) l)) shelves
 
-  pub kept_waits : AwaitsMore [] old new
+  kept_waits : AwaitsMore [] old new
   kept_waits rest a x = omega (arith, a x, waits_same x)
 
-  pub kept_backs : KeepsBacks old new
+  kept_backs : KeepsBacks old new
   kept_backs = keeps_backs old new (ap (rows_by (list_at now)) shelves) (λ v. ap now (links v)) long kept_stay kept_waits
 
-  pub kept_lean : StaysLean old new
+  kept_lean : StaysLean old new
   kept_lean rest lean = record {
     waits = λ x. omega (arith, lean.waits x, waits_same x);
     full = λ x h w e.
         lean.full x (subst (λ l. IsSome (lookup (is_at (item_order x)) l)) shelves h) (sym (waits_same x) ∙ w)
         (sym (ap (λ l. stored_on x (rows_by (list_at now) l)) shelves) ∙ e);
   }
+
+  kept_shelves : KeepsShelves old new
+  kept_shelves = record { still = kept_still; waits = kept_waits; backs = kept_backs; lean = kept_lean }
+
+-- identifiers were held or let go, and links may have more room
+pub shelves_kept : (names later : Holdings Identifier) (s : Shelves) (links longer : List (Sides LinkSeen)) {old : Held}
+    → held_of names s links ≡ old → ((v : ℕ) → sides_at longer v ≡ sides_at links v) → length links ≤ length longer
+    → KeepsShelves old (held_of later s longer)
+shelves_kept names later s links longer is same long =
+    subst (λ (h : Held). KeepsShelves h (held_of later s longer)) is
+    (kept_shelves (held_of names s links) (held_of later s longer) refl refl same long)

@@ -4,22 +4,53 @@ use Rattle.ifmap_ident.specs.Canon.{IsIdentifier}
 use Rattle.ifmap_ident.specs.Identifiers.{identifier_order}
 use Rattle.ifmap_pool.specs.Holdings.{IsHeld, Names, once}
 use Rattle.ifmap_graph.specs.Held.{IsInside, shown_shelves}
-use Rattle.ifmap_graph.specs.Named.{named_in}
+use Rattle.ifmap_graph.specs.Named.{AreIdentifiers, named_in}
 use Rattle.ifmap_graph.specs.Bringing.{graph_parts}
 use Rattle.ifmap_graph.proofs.Grown.{few_holds}
 use Rattle.ifmap_graph.proofs.Changed.{held_alike, inside_held, keys_alike, names_alike, roomier}
 use Rattle.ifmap_graph.proofs.Holds.{add_two, still_identifiers}
-use Rattle.ifmap_graph.proofs.Kept.{kept_backs, kept_lean, kept_still, kept_waits}
+use Rattle.ifmap_graph.proofs.Kept.{KeepsShelves, shelves_kept}
 use Rattle.ifmap_graph.proofs.Settled.{few_from, held_of}
 use Rattle.ifmap_graph.proofs.Own.{held_again, holds_alike, key_kept, key_told}
 use Rattle.ifmap_graph.proofs.graph.Graph.hold.Goals as goal
+use Rattle.ifmap_graph.proofs.graph.Graph.hold.Goals.{After-reserve, After-lengthen, After-hold}
 
-pub invariant_of-self-in_err-lengthen : goal.invariant_of-self-in_err-lengthen
-invariant_of-self-in_err-lengthen c =
+-- all is in order once there is room
+roomy : (c : After-lengthen)
+    → IsInside c.reserve.new.self (get c.self.inside.shelves.slots) c.self.inside.shelves.places.entries c.lengthen.new.links.items
+roomy c =
     roomier c.self.inside.names c.reserve.new.self c.reserve.ensures.live (get c.self.inside.shelves.slots)
     c.self.inside.shelves.places.entries c.self.inside.links.items c.lengthen.new.links.items c.reserve.ensures.whole
-    c.lengthen.ensures.same
-    c.lengthen.ensures.longer c.self.invariant
+    c.lengthen.ensures.same c.lengthen.ensures.longer c.self.invariant
+
+-- what is held is identifiers, with the one that came
+identifiers : (c : After-hold) → AreIdentifiers c.hold.new.self
+identifiers c =
+    still_identifiers c.reserve.new.self c.hold.new.self c.hold.result c.in_ok-key.key c.hold.ensures.present c.hold.ensures.absent
+    c.hold.ensures.others (subst IsIdentifier (sym c.in_ok-key.ensures) c.requires.canon)
+    (keys_alike c.self.inside.names c.reserve.new.self c.reserve.ensures.live c.self.invariant.keys)
+
+-- the shelves stay, and the links but for room, wherever the call ends
+kept_by_room : (c : After-reserve)
+    → KeepsShelves c.args.self.now (held_of c.reserve.new.self c.self.inside.shelves c.self.inside.links.items)
+kept_by_room c =
+    shelves_kept c.self.inside.names c.reserve.new.self c.self.inside.shelves c.self.inside.links.items c.self.inside.links.items
+    c.self.view_is (λ v. refl) (omega arith)
+
+kept_by_links : (c : After-lengthen)
+    → KeepsShelves c.args.self.now (held_of c.reserve.new.self c.self.inside.shelves c.lengthen.new.links.items)
+kept_by_links c =
+    shelves_kept c.self.inside.names c.reserve.new.self c.self.inside.shelves c.self.inside.links.items c.lengthen.new.links.items
+    c.self.view_is c.lengthen.ensures.same c.lengthen.ensures.longer
+
+kept_by_hold : (c : After-hold)
+    → KeepsShelves c.args.self.now (held_of c.hold.new.self c.self.inside.shelves c.lengthen.new.links.items)
+kept_by_hold c =
+    shelves_kept c.self.inside.names c.hold.new.self c.self.inside.shelves c.self.inside.links.items c.lengthen.new.links.items
+    c.self.view_is c.lengthen.ensures.same c.lengthen.ensures.longer
+
+pub invariant_of-self-in_err-lengthen : goal.invariant_of-self-in_err-lengthen
+invariant_of-self-in_err-lengthen c = roomy (goal.at.invariant_of-self-in_err-lengthen c).After-lengthen
 
 pub hold-requires-clause-few : goal.hold-requires-clause-few
 hold-requires-clause-few c = λ number n.
@@ -37,25 +68,16 @@ invariant_of-self c =
 
 pub invariant_of-self-2 : goal.invariant_of-self-2
 invariant_of-self-2 c =
-    let room = roomier c.self.inside.names c.reserve.new.self c.reserve.ensures.live (get c.self.inside.shelves.slots)
-    c.self.inside.shelves.places.entries c.self.inside.links.items c.lengthen.new.links.items c.reserve.ensures.whole
-    c.lengthen.ensures.same
-    c.lengthen.ensures.longer c.self.invariant
+    let place = goal.at.invariant_of-self-2 c
     in inside_held c.reserve.new.self c.hold.new.self
     (get c.self.inside.shelves.slots) c.self.inside.shelves.places.entries c.lengthen.new.links.items
-    c.in_ok-key.key room c.hold.ensures.kept c.hold.ensures.whole
-    (still_identifiers c.reserve.new.self c.hold.new.self c.hold.result c.in_ok-key.key c.hold.ensures.present c.hold.ensures.absent
-    c.hold.ensures.others
-    (subst IsIdentifier (sym c.in_ok-key.ensures) c.requires.canon) room.keys)
+    c.in_ok-key.key (roomy place.After-lengthen) c.hold.ensures.kept c.hold.ensures.whole (identifiers place.After-hold)
     (omega (arith, c.in_ok-lengthen.ensures.ok, c.limit.ensures.limit, c.hold.ensures.limit)) c.hold.ensures.held
 
 pub returns-clause-named : goal.returns-clause-named
 returns-clause-named c =
     key_told c.hold.new.self c.hold.result c.args.id.now c.bytes_tell_identifiers_apart.ensures
-    (still_identifiers c.reserve.new.self c.hold.new.self c.hold.result c.in_ok-key.key c.hold.ensures.present c.hold.ensures.absent
-    c.hold.ensures.others
-    (subst IsIdentifier (sym c.in_ok-key.ensures) c.requires.canon)
-    (keys_alike c.self.inside.names c.reserve.new.self c.reserve.ensures.live c.self.invariant.keys))
+    (identifiers (goal.at.returns-clause-named c).After-hold)
     c.requires.canon (subst (Names identifier_order c.hold.new.self c.hold.result) c.in_ok-key.ensures c.hold.ensures.named)
 
 pub returns-clause-kept : goal.returns-clause-kept
@@ -63,11 +85,7 @@ returns-clause-kept c =
     rw (← c.self.view_is)
     (key_kept c.self.inside.names c.hold.new.self
     (λ v a n. c.hold.ensures.kept v a (names_alike c.self.inside.names c.reserve.new.self c.reserve.ensures.live v a n))
-    c.bytes_tell_identifiers_apart.ensures c.self.invariant.keys
-    (still_identifiers c.reserve.new.self c.hold.new.self c.hold.result c.in_ok-key.key c.hold.ensures.present c.hold.ensures.absent
-    c.hold.ensures.others
-    (subst IsIdentifier (sym c.in_ok-key.ensures) c.requires.canon)
-    (keys_alike c.self.inside.names c.reserve.new.self c.reserve.ensures.live c.self.invariant.keys)))
+    c.bytes_tell_identifiers_apart.ensures c.self.invariant.keys (identifiers (goal.at.returns-clause-kept c).After-hold))
 
 pub returns-clause-again : goal.returns-clause-again
 returns-clause-again c =
@@ -88,77 +106,37 @@ pub returns-clause-links : goal.returns-clause-links
 returns-clause-links c = rw (← c.self.view_is) c.lengthen.ensures.same
 
 pub returns-clause-still : goal.returns-clause-still
-returns-clause-still c =
-    rw (← c.self.view_is)
-    (kept_still (held_of c.self.inside.names c.self.inside.shelves c.self.inside.links.items)
-    (held_of c.hold.new.self c.self.inside.shelves c.lengthen.new.links.items) refl refl c.lengthen.ensures.same c.lengthen.ensures.longer)
+returns-clause-still c = (kept_by_hold (goal.at.returns-clause-still c).After-hold).still
 
 pub returns-in_err-lengthen-clause-still : goal.returns-in_err-lengthen-clause-still
-returns-in_err-lengthen-clause-still c =
-    rw (← c.self.view_is)
-    (kept_still (held_of c.self.inside.names c.self.inside.shelves c.self.inside.links.items)
-    (held_of c.reserve.new.self c.self.inside.shelves c.lengthen.new.links.items) refl refl c.lengthen.ensures.same
-    c.lengthen.ensures.longer)
+returns-in_err-lengthen-clause-still c = (kept_by_links (goal.at.returns-in_err-lengthen-clause-still c).After-lengthen).still
 
 pub returns-in_err-reserve-clause-still : goal.returns-in_err-reserve-clause-still
-returns-in_err-reserve-clause-still c =
-    rw (← c.self.view_is)
-    (kept_still (held_of c.self.inside.names c.self.inside.shelves c.self.inside.links.items)
-    (held_of c.reserve.new.self c.self.inside.shelves c.self.inside.links.items) refl refl (λ v. refl) (omega arith))
+returns-in_err-reserve-clause-still c = (kept_by_room (goal.at.returns-in_err-reserve-clause-still c).After-reserve).still
 
 pub returns-clause-waits : goal.returns-clause-waits
-returns-clause-waits c =
-    rw (← c.self.view_is)
-    (kept_waits (held_of c.self.inside.names c.self.inside.shelves c.self.inside.links.items)
-    (held_of c.hold.new.self c.self.inside.shelves c.lengthen.new.links.items) refl refl c.lengthen.ensures.same c.lengthen.ensures.longer)
+returns-clause-waits c = (kept_by_hold (goal.at.returns-clause-waits c).After-hold).waits
 
 pub returns-in_err-lengthen-clause-waits : goal.returns-in_err-lengthen-clause-waits
-returns-in_err-lengthen-clause-waits c =
-    rw (← c.self.view_is)
-    (kept_waits (held_of c.self.inside.names c.self.inside.shelves c.self.inside.links.items)
-    (held_of c.reserve.new.self c.self.inside.shelves c.lengthen.new.links.items) refl refl c.lengthen.ensures.same
-    c.lengthen.ensures.longer)
+returns-in_err-lengthen-clause-waits c = (kept_by_links (goal.at.returns-in_err-lengthen-clause-waits c).After-lengthen).waits
 
 pub returns-in_err-reserve-clause-waits : goal.returns-in_err-reserve-clause-waits
-returns-in_err-reserve-clause-waits c =
-    rw (← c.self.view_is)
-    (kept_waits (held_of c.self.inside.names c.self.inside.shelves c.self.inside.links.items)
-    (held_of c.reserve.new.self c.self.inside.shelves c.self.inside.links.items) refl refl (λ v. refl) (omega arith))
+returns-in_err-reserve-clause-waits c = (kept_by_room (goal.at.returns-in_err-reserve-clause-waits c).After-reserve).waits
 
 pub returns-clause-backs : goal.returns-clause-backs
-returns-clause-backs c =
-    rw (← c.self.view_is)
-    (kept_backs (held_of c.self.inside.names c.self.inside.shelves c.self.inside.links.items)
-    (held_of c.hold.new.self c.self.inside.shelves c.lengthen.new.links.items) refl refl c.lengthen.ensures.same c.lengthen.ensures.longer)
+returns-clause-backs c = (kept_by_hold (goal.at.returns-clause-backs c).After-hold).backs
 
 pub returns-in_err-lengthen-clause-backs : goal.returns-in_err-lengthen-clause-backs
-returns-in_err-lengthen-clause-backs c =
-    rw (← c.self.view_is)
-    (kept_backs (held_of c.self.inside.names c.self.inside.shelves c.self.inside.links.items)
-    (held_of c.reserve.new.self c.self.inside.shelves c.lengthen.new.links.items) refl refl c.lengthen.ensures.same
-    c.lengthen.ensures.longer)
+returns-in_err-lengthen-clause-backs c = (kept_by_links (goal.at.returns-in_err-lengthen-clause-backs c).After-lengthen).backs
 
 pub returns-in_err-reserve-clause-backs : goal.returns-in_err-reserve-clause-backs
-returns-in_err-reserve-clause-backs c =
-    rw (← c.self.view_is)
-    (kept_backs (held_of c.self.inside.names c.self.inside.shelves c.self.inside.links.items)
-    (held_of c.reserve.new.self c.self.inside.shelves c.self.inside.links.items) refl refl (λ v. refl) (omega arith))
+returns-in_err-reserve-clause-backs c = (kept_by_room (goal.at.returns-in_err-reserve-clause-backs c).After-reserve).backs
 
 pub returns-clause-lean : goal.returns-clause-lean
-returns-clause-lean c =
-    rw (← c.self.view_is)
-    (kept_lean (held_of c.self.inside.names c.self.inside.shelves c.self.inside.links.items)
-    (held_of c.hold.new.self c.self.inside.shelves c.lengthen.new.links.items) refl refl c.lengthen.ensures.same c.lengthen.ensures.longer)
+returns-clause-lean c = (kept_by_hold (goal.at.returns-clause-lean c).After-hold).lean
 
 pub returns-in_err-lengthen-clause-lean : goal.returns-in_err-lengthen-clause-lean
-returns-in_err-lengthen-clause-lean c =
-    rw (← c.self.view_is)
-    (kept_lean (held_of c.self.inside.names c.self.inside.shelves c.self.inside.links.items)
-    (held_of c.reserve.new.self c.self.inside.shelves c.lengthen.new.links.items) refl refl c.lengthen.ensures.same
-    c.lengthen.ensures.longer)
+returns-in_err-lengthen-clause-lean c = (kept_by_links (goal.at.returns-in_err-lengthen-clause-lean c).After-lengthen).lean
 
 pub returns-in_err-reserve-clause-lean : goal.returns-in_err-reserve-clause-lean
-returns-in_err-reserve-clause-lean c =
-    rw (← c.self.view_is)
-    (kept_lean (held_of c.self.inside.names c.self.inside.shelves c.self.inside.links.items)
-    (held_of c.reserve.new.self c.self.inside.shelves c.self.inside.links.items) refl refl (λ v. refl) (omega arith))
+returns-in_err-reserve-clause-lean c = (kept_by_room (goal.at.returns-in_err-reserve-clause-lean c).After-reserve).lean

@@ -1,10 +1,18 @@
 use Rattle.std.proofs.Common.{refl, arith}
 use Rattle.slab.specs.Slab.{get}
 use Rattle.ifmap_graph.proofs.Holds.{keys_before, keys_stay}
-use Rattle.ifmap_graph.proofs.Kept.{kept_backs, kept_lean, kept_still, kept_waits}
+use Rattle.ifmap_graph.proofs.Kept.{KeepsShelves, shelves_kept}
 use Rattle.ifmap_graph.proofs.Settled.{held_of}
 use Rattle.ifmap_graph.proofs.Own.{inside_released, live_key, own_released}
 use Rattle.ifmap_graph.proofs.graph.Graph.release.Goals as goal
+use Rattle.ifmap_graph.proofs.graph.Graph.release.Goals.{After-release}
+
+-- the shelves and the links stay
+kept : (c : After-release)
+    → KeepsShelves c.args.self.now (held_of c.release.new.self c.self.inside.shelves c.self.inside.links.items)
+kept c =
+    shelves_kept c.self.inside.names c.release.new.self c.self.inside.shelves c.self.inside.links.items c.self.inside.links.items
+    c.self.view_is (λ v. refl) (omega arith)
 
 pub release-requires : goal.release-requires
 release-requires c = let q = rw (← c.self.view_is) at c.requires in live_key c.self.inside.names c.args.number q.0 q.2
@@ -39,29 +47,13 @@ returns-clause-stays c =
     c.release.ensures.kept c.release.ensures.last c.release.ensures.counted c.release.ensures.others)
 
 pub returns-clause-still : goal.returns-clause-still
-returns-clause-still c =
-    rw (← c.self.view_is)
-    (kept_still (held_of c.self.inside.names c.self.inside.shelves c.self.inside.links.items)
-    (held_of c.release.new.self c.self.inside.shelves c.self.inside.links.items)
-    refl refl (λ v. refl) (omega arith))
+returns-clause-still c = (kept (goal.at.returns-clause-still c).After-release).still
 
 pub returns-clause-waits : goal.returns-clause-waits
-returns-clause-waits c =
-    rw (← c.self.view_is)
-    (kept_waits (held_of c.self.inside.names c.self.inside.shelves c.self.inside.links.items)
-    (held_of c.release.new.self c.self.inside.shelves c.self.inside.links.items)
-    refl refl (λ v. refl) (omega arith))
+returns-clause-waits c = (kept (goal.at.returns-clause-waits c).After-release).waits
 
 pub returns-clause-backs : goal.returns-clause-backs
-returns-clause-backs c =
-    rw (← c.self.view_is)
-    (kept_backs (held_of c.self.inside.names c.self.inside.shelves c.self.inside.links.items)
-    (held_of c.release.new.self c.self.inside.shelves c.self.inside.links.items)
-    refl refl (λ v. refl) (omega arith))
+returns-clause-backs c = (kept (goal.at.returns-clause-backs c).After-release).backs
 
 pub returns-clause-lean : goal.returns-clause-lean
-returns-clause-lean c =
-    rw (← c.self.view_is)
-    (kept_lean (held_of c.self.inside.names c.self.inside.shelves c.self.inside.links.items)
-    (held_of c.release.new.self c.self.inside.shelves c.self.inside.links.items)
-    refl refl (λ v. refl) (omega arith))
+returns-clause-lean c = (kept (goal.at.returns-clause-lean c).After-release).lean
