@@ -19,11 +19,11 @@ use Rattle.ifmap_graph.specs.declared.shelves.Shelves.{Shelves}
 use Rattle.ifmap_graph.specs.Back.{KeepsBacks}
 use Rattle.ifmap_graph.specs.Bringing.{graph_parts}
 use Rattle.ifmap_graph.specs.Drafted.{ends_at}
-use Rattle.ifmap_graph.specs.Held.{shown_shelves}
+use Rattle.ifmap_graph.specs.Held.{Held, shown_shelves}
 use Rattle.ifmap_graph.specs.Making.{IsMade, IsUnmade}
 use Rattle.ifmap_graph.specs.Named.{AreIdentifiers, named_in}
 use Rattle.ifmap_graph.specs.Out.{IsDrafted, IsOut, items_changed}
-use Rattle.ifmap_graph.specs.Seen.{AwaitsMore, IsSeenSame, IsStill, KeepsNumbers, KeepsOwn, rows_next, rows_now}
+use Rattle.ifmap_graph.specs.Seen.{AwaitsMore, IsSeenSame, IsStill, KeepsNumbers, KeepsOwn, StaysLeanWith, rows_next, rows_now}
 use Rattle.ifmap_graph.specs.Shelved.{HasDraft, list_at, slot_of_item, rows_on_side}
 use Rattle.ifmap_graph.specs.Sides.{Sides, next, now}
 use Rattle.ifmap_graph.specs.Stays.{HasSameShelf, StayPlaced}
@@ -32,7 +32,7 @@ use Rattle.ifmap_graph.specs.Waits.{waits_on}
 use Rattle.ifmap_graph.proofs.Backs.{keeps_backs}
 use Rattle.ifmap_graph.proofs.Finding.{absent}
 use Rattle.ifmap_graph.proofs.Insides.{named_shown, rows_shown}
-use Rattle.ifmap_graph.proofs.Lean.{unmade_lean}
+use Rattle.ifmap_graph.proofs.Lean.{made_lean, unmade_lean}
 use Rattle.ifmap_graph.proofs.Lessening.{waited_there}
 use Rattle.ifmap_graph.proofs.Outs.{from_shown, to_shown}
 use Rattle.ifmap_graph.proofs.Own.{key_kept}
@@ -54,6 +54,23 @@ same_keys one two f g v = by (key_at one v) refl (key_at two v) refl
     by (Some a) e p q = f v a e ∙ sym e
     by None e None q = q ∙ sym e
     by None e (Some a) q = absurd (none-some _ (sym e ∙ g v a q))
+
+-- what contracts see where a change came to be out
+pub record ComesOut (changes : List ItemChange) (old new : Held) : Type 0 where
+  pub after : IsAfter changes (rows_now old) (rows_next new)
+  pub now : rows_now new ≡ rows_now old
+  pub numbers : KeepsNumbers old new
+  pub own : KeepsOwn old new
+  pub waits : AwaitsMore (items_changed changes) old new
+  pub backs : KeepsBacks old new
+  pub lean : StaysLeanWith (items_changed changes) old new
+
+-- and where it did not
+pub record StaysAsItWas (old new : Held) : Type 0 where
+  pub same : IsSeenSame old new
+  pub numbers : KeepsNumbers old new
+  pub backs : KeepsBacks old new
+  pub still : IsStill new
 
 module _ (names later : Holdings Identifier) (s t : Shelves) (links moved : List (Sides LinkSeen)) where
   rows_same : rows_on_side now t ≡ rows_on_side now s → rows_now (held_of later t moved) ≡ rows_now (held_of names s links)
@@ -93,18 +110,18 @@ module _ (names later : Holdings Identifier) (s t : Shelves) (links moved : List
   -- the change is out
   module _ (changes : List ItemChange) (ways : List (ℕ × List LinkSeen))
       (made : IsMade changes ways (graph_parts names s links) (graph_parts later t moved)) where
-    pub made_now : rows_now (held_of later t moved) ≡ rows_now (held_of names s links)
+    made_now : rows_now (held_of later t moved) ≡ rows_now (held_of names s links)
     made_now = rows_same made.rows
 
-    pub made_after : IsAfter changes (rows_now (held_of names s links)) (rows_next (held_of later t moved))
+    made_after : IsAfter changes (rows_now (held_of names s links)) (rows_next (held_of later t moved))
     made_after =
         subst (λ r. IsAfter changes r (rows_next (held_of later t moved))) (sym (rows_shown now (get s.slots) s.places.entries))
         (subst (λ r. IsAfter changes (rows_on_side now s) r) (sym (rows_shown next (get t.slots) t.places.entries)) made.after)
 
-    pub made_own : KeepsOwn (held_of names s links) (held_of later t moved)
+    made_own : KeepsOwn (held_of names s links) (held_of later t moved)
     made_own = own_same made.own
 
-    pub made_waits : AwaitsMore (items_changed changes) (held_of names s links) (held_of later t moved)
+    made_waits : AwaitsMore (items_changed changes) (held_of names s links) (held_of later t moved)
     made_waits rest a x =
         omega (
           arith,
@@ -119,11 +136,26 @@ module _ (names later : Holdings Identifier) (s t : Shelves) (links moved : List
     more_waits : AwaitsMore [] (held_of names s links) (held_of later t moved)
     more_waits rest a x = let w = made_waits rest a x in omega (arith, w, times_append (items_changed changes) rest x)
 
-    pub made_backs : KeepsBacks (held_of names s links) (held_of later t moved)
+    made_backs : KeepsBacks (held_of names s links) (held_of later t moved)
     made_backs = keeps_backs (held_of names s links) (held_of later t moved) made_now made.links made.longer (stay made.places) more_waits
 
-    pub made_numbers : BytesTellIdentifiers → AreIdentifiers names → KeepsNumbers (held_of names s links) (held_of later t moved)
+    made_numbers : BytesTellIdentifiers → AreIdentifiers names → KeepsNumbers (held_of names s links) (held_of later t moved)
     made_numbers tells keys = key_kept names later made.kept tells keys made.inside.keys
+
+    comes_out : BytesTellIdentifiers → AreIdentifiers names → ComesOut changes (held_of names s links) (held_of later t moved)
+    comes_out tells keys = record {
+      after = made_after;
+      now = made_now;
+      numbers = made_numbers tells keys;
+      own = made_own;
+      waits = made_waits;
+      backs = made_backs;
+      lean = made_lean names later s t links moved changes ways made;
+    }
+
+    pub made_seen : {old : Held} → held_of names s links ≡ old → BytesTellIdentifiers → AreIdentifiers names
+        → ComesOut changes old (held_of later t moved)
+    made_seen is tells keys = subst (λ (h : Held). ComesOut changes h (held_of later t moved)) is (comes_out tells keys)
 
     pub made_out : (ready : Ready) → ready.plan.changes ≡ changes → length ready.lists ≡ length changes → ready.ways ≡ ways
         → IsOut ready (held_of later t moved)
@@ -141,27 +173,27 @@ module _ (names later : Holdings Identifier) (s t : Shelves) (links moved : List
 
   -- nothing is out, and all is as before
   module _ (un : IsUnmade (graph_parts names s links) (graph_parts later t moved)) where
-    pub unmade_now : rows_now (held_of later t moved) ≡ rows_now (held_of names s links)
+    unmade_now : rows_now (held_of later t moved) ≡ rows_now (held_of names s links)
     unmade_now = rows_same un.rows
 
-    pub unmade_own : KeepsOwn (held_of names s links) (held_of later t moved)
+    unmade_own : KeepsOwn (held_of names s links) (held_of later t moved)
     unmade_own = own_same un.own
 
-    pub unmade_still : IsStill (held_of later t moved)
+    unmade_still : IsStill (held_of later t moved)
     unmade_still = bare_to later t moved un.bare un.none
 
-    pub unmade_waits : AwaitsMore [] (held_of names s links) (held_of later t moved)
+    unmade_waits : AwaitsMore [] (held_of names s links) (held_of later t moved)
     unmade_waits rest a x = omega (arith, a x, waits_shown names s links x, waits_shown later t moved x, un.shelves.waits x)
 
-    pub unmade_backs : KeepsBacks (held_of names s links) (held_of later t moved)
+    unmade_backs : KeepsBacks (held_of names s links) (held_of later t moved)
     unmade_backs =
         keeps_backs (held_of names s links) (held_of later t moved) unmade_now un.links un.longer
         (stay (λ x at e. (un.shelves.places x tt ∙ e, un.shelves.ends x at e))) unmade_waits
 
-    pub unmade_numbers : BytesTellIdentifiers → AreIdentifiers names → KeepsNumbers (held_of names s links) (held_of later t moved)
+    unmade_numbers : BytesTellIdentifiers → AreIdentifiers names → KeepsNumbers (held_of names s links) (held_of later t moved)
     unmade_numbers tells keys = key_kept names later un.kept tells keys un.inside.keys
 
-    pub unmade_same : BytesTellIdentifiers → AreIdentifiers names → IsSeenSame (held_of names s links) (held_of later t moved)
+    unmade_same : BytesTellIdentifiers → AreIdentifiers names → IsSeenSame (held_of names s links) (held_of later t moved)
     unmade_same tells keys = record {
       rows = unmade_now;
       links = un.links;
@@ -171,3 +203,15 @@ module _ (names later : Holdings Identifier) (s t : Shelves) (links moved : List
       waits = unmade_waits;
       lean = unmade_lean names later s t links moved un;
     }
+
+    stays : BytesTellIdentifiers → AreIdentifiers names → StaysAsItWas (held_of names s links) (held_of later t moved)
+    stays tells keys = record {
+      same = unmade_same tells keys;
+      numbers = unmade_numbers tells keys;
+      backs = unmade_backs;
+      still = unmade_still;
+    }
+
+    pub unmade_seen : {old : Held} → held_of names s links ≡ old → BytesTellIdentifiers → AreIdentifiers names
+        → StaysAsItWas old (held_of later t moved)
+    unmade_seen is tells keys = subst (λ (h : Held). StaysAsItWas h (held_of later t moved)) is (stays tells keys)
