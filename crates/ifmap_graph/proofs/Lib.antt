@@ -45,7 +45,6 @@ pub mod Kept
 pub mod Taking
 pub mod Returning
 pub mod Restoring
-pub mod Undone
 pub mod Written
 pub mod Brought
 pub mod Marks
@@ -54,6 +53,7 @@ pub mod Waits
 pub mod Made
 pub mod Filling
 pub mod Lean
+pub mod Undone
 pub mod Reserved
 pub mod Used
 pub mod Counts

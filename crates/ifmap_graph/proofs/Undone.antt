@@ -15,11 +15,11 @@ use Rattle.ifmap_graph.specs.declared.changes.Undo.{Undo}
 use Rattle.ifmap_graph.specs.declared.shelves.Shelf.{Shelf}
 use Rattle.ifmap_graph.specs.declared.shelves.Shelves.{Shelves}
 use Rattle.ifmap_graph.specs.Back.{AreLinks, IsUndoTo, stand_each}
-use Rattle.ifmap_graph.specs.Drafted.{AreBare, NoDraft, ends_at}
+use Rattle.ifmap_graph.specs.Drafted.{AreBare, NoDraft, StayInPlace}
 use Rattle.ifmap_graph.specs.Held.{Held, IsInside, IsSide, links_at}
 use Rattle.ifmap_graph.specs.Linked.{ats}
 use Rattle.ifmap_graph.specs.Out.{items_changed}
-use Rattle.ifmap_graph.specs.Seen.{AreAwaited, IsStill, links_now, rows_now}
+use Rattle.ifmap_graph.specs.Seen.{AreAwaited, IsStill, KeepsOwn, StaysLean, links_now, rows_now}
 use Rattle.ifmap_graph.specs.Shelved.{IsPlaced, list_at, slot_of_item, rows_by, rows_on_side}
 use Rattle.ifmap_graph.specs.Sides.{Sides, next, now}
 use Rattle.ifmap_graph.specs.Turning.{restore_each, sides_at}
@@ -30,6 +30,7 @@ use Rattle.ifmap_graph.proofs.Finding.{found}
 use Rattle.ifmap_graph.proofs.Following.{entry_hits}
 use Rattle.ifmap_graph.proofs.Graphs.{graph_is}
 use Rattle.ifmap_graph.proofs.Insides.{rows_shown}
+use Rattle.ifmap_graph.proofs.Lean.{stood_lean}
 use Rattle.ifmap_graph.proofs.Lessening.{waited_there}
 use Rattle.ifmap_graph.proofs.Moved.{inside_anew, placed_still, side_moved, used_still}
 use Rattle.ifmap_graph.proofs.OnItems.{list_on, rows_same}
@@ -39,6 +40,7 @@ use Rattle.ifmap_graph.proofs.Shelving.{Entries}
 use Rattle.ifmap_graph.proofs.Staying.{ends_of}
 use Rattle.ifmap_graph.proofs.Taking.{has_times}
 use Rattle.ifmap_graph.proofs.Turns.{next_of_bare, restored_drafts, restored_length}
+use Rattle.ifmap_graph.proofs.Written.{own_stays, waits_stay_seen}
 use Rattle.ifmap_ident.specs.SameLaws.{items_total, BytesTellIdentifiers}
 
 -- links that are alike at each number
@@ -139,39 +141,57 @@ all_there names s links items a = by items (λ x h. h)
       by xs (λ y h. f y (inr h)),
     )
 
+-- a graph goes back: its shelves stay in their places, on the items of a way back stand the lists of before, and the links have taken
+-- the places of those that had taken theirs
+pub record GoesBack (names : Holdings Identifier) (s t : Shelves) (links moved : List (Sides LinkSeen)) (u : Undo) : Type 0 where
+  pub stay : StayInPlace s t
+  pub is : IsInside names (get s.slots) s.places.entries links
+  pub bare : AreBare t
+  pub none : (v : ℕ) → (sides_at links v).draft ≡ None
+  pub stands : (x : Item) → stored_on x (rows_on_side now t)
+      ≡ stand_each (items_changed u.plan.changes) u.lists x (stored_on x (rows_on_side now s))
+  pub turned : moved ≡ restore_each u.ways links
+
 -- the same of shelves that stay in their places
-module _ (names : Holdings Identifier) (s t : Shelves) (links moved : List (Sides LinkSeen)) (places : t.places ≡ s.places)
-    (ends : (at : ℕ) → ends_at t at ≡ ends_at s at) (waits : (x : Item) → waits_on t x ≡ waits_on s x) where
-  module _ (is : IsInside names (get s.slots) s.places.entries links) (bare : AreBare t) (none : (v : ℕ) → (sides_at links v).draft ≡ None)
-      (u : Undo) (rows : List Attachment) (seen : ℕ → List LinkSeen) (back : IsUndoTo u rows seen (held_of names s links))
-      (stands : (x : Item) → stored_on x (rows_on_side now t) ≡ stand_each (items_changed u.plan.changes) u.lists x
-      (stored_on x (rows_on_side now s)))
-      (turned : moved ≡ restore_each u.ways links) where
+module _ {names : Holdings Identifier} {s t : Shelves} {links moved : List (Sides LinkSeen)} {u : Undo}
+    (goes : GoesBack names s t links moved u) where
+  pub undone_own : KeepsOwn (held_of names s links) (held_of names t moved)
+  undone_own = own_stays names s t links moved goes.stay.places goes.stay.ends goes.stay.waits
+
+  pub undone_waits : (items : List Item) → AreAwaited items (held_of names s links) → AreAwaited items (held_of names t moved)
+  undone_waits = waits_stay_seen names s t links moved goes.stay.places goes.stay.ends goes.stay.waits
+
+  module _ (rows : List Attachment) (seen : ℕ → List LinkSeen) (back : IsUndoTo u rows seen (held_of names s links)) where
     still_bare : AllByRecursion (λ e. NoDraft (get t.slots e.1)) s.places.entries
-    still_bare = subst (λ p. AllByRecursion (λ e. NoDraft (get t.slots e.1)) p.entries) places bare
+    still_bare = subst (λ p. AllByRecursion (λ e. NoDraft (get t.slots e.1)) p.entries) goes.stay.places goes.bare
 
     still_stands : (x : Item) → stored_on x (rows_by (λ at. list_at now (get t.slots at)) s.places.entries)
         ≡ stand_each (items_changed u.plan.changes) u.lists x (stored_on x (rows_on_side now s))
-    still_stands x = ap (λ p. stored_on x (rows_by (λ at. list_at now (get t.slots at)) p.entries)) (sym places) ∙ stands x
+    still_stands x =
+        ap (λ p. stored_on x (rows_by (λ at. list_at now (get t.slots at)) p.entries)) (sym goes.stay.places) ∙ goes.stands x
 
     pub undone_inside : IsInside names (get t.slots) t.places.entries moved
     undone_inside =
-        subst (λ p. IsInside names (get t.slots) p.entries moved) (sym places)
-        (back_inside names (get s.slots)
-        (get t.slots) s.places.entries links moved is ends still_bare none u rows seen back still_stands turned)
+        subst (λ p. IsInside names (get t.slots) p.entries moved) (sym goes.stay.places)
+        (back_inside names (get s.slots) (get t.slots) s.places.entries links moved goes.is goes.stay.ends still_bare goes.none u rows seen
+        back still_stands goes.turned)
 
     pub undone_rows : BytesTellIdentifiers → rows_now (held_of names t moved) ≡ rows
     undone_rows tells =
-        ap (λ p. rows_now (seen_of (get t.slots) p.entries names moved)) places
-        ∙ back_rows names (get s.slots)
-        (get t.slots) s.places.entries links moved is ends still_bare none u rows seen back still_stands turned tells
+        ap (λ p. rows_now (seen_of (get t.slots) p.entries names moved)) goes.stay.places
+        ∙ back_rows names (get s.slots) (get t.slots) s.places.entries links moved goes.is goes.stay.ends still_bare goes.none u rows seen
+        back still_stands goes.turned tells
 
     pub undone_links : (v : ℕ) → links_now (held_of names t moved) v ≡ seen v
-    undone_links = back_links names (get s.slots)
-        (get t.slots) s.places.entries links moved is ends still_bare none u rows seen back still_stands turned
+    undone_links = back_links names (get s.slots) (get t.slots) s.places.entries links moved goes.is goes.stay.ends still_bare goes.none u
+        rows seen back still_stands goes.turned
 
     pub undone_still : IsStill (held_of names t moved)
     undone_still =
-        bare_to names t moved bare
-        (back_bare names (get s.slots)
-        (get t.slots) s.places.entries links moved is ends still_bare none u rows seen back still_stands turned)
+        bare_to names t moved goes.bare
+        (back_bare names (get s.slots) (get t.slots) s.places.entries links moved goes.is goes.stay.ends still_bare goes.none u rows seen
+        back still_stands goes.turned)
+
+    pub undone_lean : StaysLean (held_of names s links) (held_of names t moved)
+    undone_lean = stood_lean names names s t links moved (items_changed u.plan.changes) back.waits goes.stay.waits goes.stay.places u.lists
+        goes.stands

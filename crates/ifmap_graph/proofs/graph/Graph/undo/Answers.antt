@@ -1,4 +1,4 @@
-use Rattle.std.proofs.Common.{IsSome, ◌++◌, ap, ◌∙◌, sym, subst}
+use Rattle.std.proofs.Common.{◌≡◌, IsSome, ◌++◌, ap, ◌∙◌, sym, subst}
 use Rattle.std.specs.List.{AllByRecursion}
 use Rattle.ifmap_view.specs.Rows.{stored_on}
 use Rattle.ifmap_graph.specs.Back.{stand_each}
@@ -8,11 +8,33 @@ use Rattle.ifmap_graph.specs.Seen.{AreAwaited, IsLean}
 use Rattle.ifmap_graph.specs.Shelved.{slot_of_item, rows_on_side}
 use Rattle.ifmap_graph.specs.Sides.{now}
 use Rattle.ifmap_graph.specs.Turning.{restore_each}
-use Rattle.ifmap_graph.proofs.Lean.{stood_lean}
 use Rattle.ifmap_graph.proofs.Settled.{bare_from, held_of}
-use Rattle.ifmap_graph.proofs.Undone.{all_there, undone_inside, undone_links, undone_rows, undone_still}
+use Rattle.ifmap_graph.proofs.Undone.{GoesBack, all_there, undone_inside, undone_lean, undone_links, undone_own, undone_rows, undone_still, undone_waits}
 use Rattle.ifmap_graph.proofs.graph.Graph.undo.Goals as goal
-use Rattle.ifmap_graph.proofs.Written.{own_stays, waits_stay_seen}
+use Rattle.ifmap_graph.proofs.graph.Graph.undo.Goals.{After-restore_all, After-deref-2}
+
+-- what the two calls did
+goes : (c : After-restore_all) → GoesBack c.self.inside.names c.self.inside.shelves c.exchange_changes.new.shelves
+    c.self.inside.links.items c.restore_all.new.lists.items c.args.undo
+goes c =
+    let still = rw (← c.self.view_is) at c.requires.still
+    in record {
+      stay = c.exchange_changes.ensures.stays;
+      is = c.self.invariant;
+      bare = c.exchange_changes.ensures.bare;
+      none = still.links;
+      stands = λ x. c.exchange_changes.ensures.now x
+          ∙ ap (λ l. stand_each (items_changed l) c.lists.inside.0.items x (stored_on x (rows_on_side now c.self.inside.shelves)))
+          (c.deref.ensures.value ∙ ap (λ r. r.plan.changes) c.undo.view_is)
+          ∙ ap (λ l. stand_each (items_changed c.args.undo.plan.changes) l x (stored_on x (rows_on_side now c.self.inside.shelves)))
+          (c.lists.view_is ∙ ap (λ r. r.lists) c.undo.view_is);
+      turned = c.restore_all.ensures
+          ∙ ap (λ w. restore_each w c.self.inside.links.items) (c.ways.view_is ∙ ap (λ r. r.ways) c.undo.view_is);
+    }
+
+-- the changes as the last call reads them
+same_changes : (c : After-deref-2) → c.args.undo.plan.changes ≡ c.deref-2.result.now
+same_changes c = sym (c.deref-2.ensures.value ∙ ap (λ r. r.plan.changes) c.undo.view_is)
 
 pub exchange_changes-requires-clause-bare : goal.exchange_changes-requires-clause-bare
 exchange_changes-requires-clause-bare c =
@@ -29,110 +51,51 @@ exchange_changes-requires-clause-there c =
 pub invariant_of-self : goal.invariant_of-self
 invariant_of-self c =
     let b = rw (← c.self.view_is) at c.requires.back
-    in let still = rw (← c.self.view_is) at c.requires.still
-    in undone_inside c.self.inside.names c.self.inside.shelves c.exchange_changes.new.shelves c.self.inside.links.items
-    c.restore_all.new.lists.items
-    c.exchange_changes.ensures.stays.places c.exchange_changes.ensures.stays.ends c.exchange_changes.ensures.stays.waits c.self.invariant
-    c.exchange_changes.ensures.bare still.links
-    c.args.undo b.0 b.1 b.2
-    (λ x. c.exchange_changes.ensures.now x
-    ∙ ap (λ l. stand_each (items_changed l) c.lists.inside.0.items x (stored_on x (rows_on_side now c.self.inside.shelves)))
-    (c.deref.ensures.value ∙ ap (λ r. r.plan.changes) c.undo.view_is)
-    ∙ ap (λ l. stand_each (items_changed c.args.undo.plan.changes) l x (stored_on x (rows_on_side now c.self.inside.shelves)))
-    (c.lists.view_is ∙ ap (λ r. r.lists) c.undo.view_is))
-    (c.restore_all.ensures ∙ ap (λ w. restore_each w c.self.inside.links.items) (c.ways.view_is ∙ ap (λ r. r.ways) c.undo.view_is))
+    in undone_inside (goes (goal.at.invariant_of-self c).After-restore_all) b.0 b.1 b.2
 
 pub release_waits-requires-clause-still : goal.release_waits-requires-clause-still
 release_waits-requires-clause-still c =
     let b = rw (← c.self.view_is) at c.requires.back
-    in let still = rw (← c.self.view_is) at c.requires.still
-    in undone_still c.self.inside.names c.self.inside.shelves c.exchange_changes.new.shelves c.self.inside.links.items
-    c.restore_all.new.lists.items
-    c.exchange_changes.ensures.stays.places c.exchange_changes.ensures.stays.ends c.exchange_changes.ensures.stays.waits c.self.invariant
-    c.exchange_changes.ensures.bare still.links
-    c.args.undo b.0 b.1 b.2
-    (λ x. c.exchange_changes.ensures.now x
-    ∙ ap (λ l. stand_each (items_changed l) c.lists.inside.0.items x (stored_on x (rows_on_side now c.self.inside.shelves)))
-    (c.deref.ensures.value ∙ ap (λ r. r.plan.changes) c.undo.view_is)
-    ∙ ap (λ l. stand_each (items_changed c.args.undo.plan.changes) l x (stored_on x (rows_on_side now c.self.inside.shelves)))
-    (c.lists.view_is ∙ ap (λ r. r.lists) c.undo.view_is))
-    (c.restore_all.ensures ∙ ap (λ w. restore_each w c.self.inside.links.items) (c.ways.view_is ∙ ap (λ r. r.ways) c.undo.view_is))
+    in undone_still (goes (goal.at.release_waits-requires-clause-still c).After-restore_all) b.0 b.1 b.2
 
 pub release_waits-requires-clause-waits : goal.release_waits-requires-clause-waits
 release_waits-requires-clause-waits c =
-    let b = rw (← c.self.view_is) at c.requires.back
+    let place = goal.at.release_waits-requires-clause-waits c
+    in let b = rw (← c.self.view_is) at c.requires.back
     in subst (λ l. AreAwaited (items_changed l) (held_of c.self.inside.names c.exchange_changes.new.shelves c.restore_all.new.lists.items))
-    (sym (c.deref-2.ensures.value ∙ ap (λ r. r.plan.changes) c.undo.view_is))
-    (waits_stay_seen c.self.inside.names c.self.inside.shelves c.exchange_changes.new.shelves c.self.inside.links.items
-    c.restore_all.new.lists.items
-    c.exchange_changes.ensures.stays.places c.exchange_changes.ensures.stays.ends c.exchange_changes.ensures.stays.waits
-    (items_changed c.args.undo.plan.changes) b.2.waits)
+    (same_changes place.After-deref-2)
+    (undone_waits (goes place.After-restore_all) (items_changed c.args.undo.plan.changes) b.2.waits)
 
 pub returns-clause-back : goal.returns-clause-back
 returns-clause-back c = λ rows links b.
     let back = rw (← c.self.view_is) at b
-    in let still = rw (← c.self.view_is) at c.requires.still
+    in let went = goes (goal.at.returns-clause-back c).After-restore_all
     in (
-      c.release_waits.ensures.now
-          ∙ undone_rows c.self.inside.names c.self.inside.shelves c.exchange_changes.new.shelves c.self.inside.links.items
-          c.restore_all.new.lists.items
-          c.exchange_changes.ensures.stays.places c.exchange_changes.ensures.stays.ends c.exchange_changes.ensures.stays.waits
-          c.self.invariant
-          c.exchange_changes.ensures.bare still.links
-          c.args.undo rows links back
-          (λ x. c.exchange_changes.ensures.now x
-          ∙ ap (λ l. stand_each (items_changed l) c.lists.inside.0.items x (stored_on x (rows_on_side now c.self.inside.shelves)))
-          (c.deref.ensures.value ∙ ap (λ r. r.plan.changes) c.undo.view_is)
-          ∙ ap (λ l. stand_each (items_changed c.args.undo.plan.changes) l x (stored_on x (rows_on_side now c.self.inside.shelves)))
-          (c.lists.view_is ∙ ap (λ r. r.lists) c.undo.view_is))
-          (c.restore_all.ensures ∙ ap (λ w. restore_each w c.self.inside.links.items) (c.ways.view_is ∙ ap (λ r. r.ways) c.undo.view_is))
-          c.bytes_tell_identifiers_apart.ensures,
-      λ v. ap (λ l. links_at now l v) c.release_waits.ensures.links
-          ∙ undone_links c.self.inside.names c.self.inside.shelves c.exchange_changes.new.shelves c.self.inside.links.items
-          c.restore_all.new.lists.items
-          c.exchange_changes.ensures.stays.places c.exchange_changes.ensures.stays.ends c.exchange_changes.ensures.stays.waits
-          c.self.invariant
-          c.exchange_changes.ensures.bare still.links
-          c.args.undo rows links back
-          (λ x. c.exchange_changes.ensures.now x
-          ∙ ap (λ l. stand_each (items_changed l) c.lists.inside.0.items x (stored_on x (rows_on_side now c.self.inside.shelves)))
-          (c.deref.ensures.value ∙ ap (λ r. r.plan.changes) c.undo.view_is)
-          ∙ ap (λ l. stand_each (items_changed c.args.undo.plan.changes) l x (stored_on x (rows_on_side now c.self.inside.shelves)))
-          (c.lists.view_is ∙ ap (λ r. r.lists) c.undo.view_is))
-          (c.restore_all.ensures ∙ ap (λ w. restore_each w c.self.inside.links.items) (c.ways.view_is ∙ ap (λ r. r.ways) c.undo.view_is)) v,
+      c.release_waits.ensures.now ∙ undone_rows went rows links back c.bytes_tell_identifiers_apart.ensures,
+      λ v. ap (λ l. links_at now l v) c.release_waits.ensures.links ∙ undone_links went rows links back v,
     )
 
 pub returns-clause-own : goal.returns-clause-own
 returns-clause-own c = λ a own h.
-    c.release_waits.ensures.own a own
-    (own_stays c.self.inside.names c.self.inside.shelves c.exchange_changes.new.shelves c.self.inside.links.items
-    c.restore_all.new.lists.items
-    c.exchange_changes.ensures.stays.places c.exchange_changes.ensures.stays.ends c.exchange_changes.ensures.stays.waits a own (rw (←
-    c.self.view_is) at h))
+    let went = goes (goal.at.returns-clause-own c).After-restore_all
+    in c.release_waits.ensures.own a own (undone_own went a own (rw (← c.self.view_is) at h))
 
 pub returns-clause-waits : goal.returns-clause-waits
 returns-clause-waits c = λ rest a.
-    c.release_waits.ensures.waits rest
+    let place = goal.at.returns-clause-waits c
+    in c.release_waits.ensures.waits rest
     (subst (λ l. AreAwaited (items_changed l ++ rest)
     (held_of c.self.inside.names c.exchange_changes.new.shelves c.restore_all.new.lists.items))
-    (sym (c.deref-2.ensures.value ∙ ap (λ r. r.plan.changes) c.undo.view_is))
-    (waits_stay_seen c.self.inside.names c.self.inside.shelves c.exchange_changes.new.shelves c.self.inside.links.items
-    c.restore_all.new.lists.items
-    c.exchange_changes.ensures.stays.places c.exchange_changes.ensures.stays.ends c.exchange_changes.ensures.stays.waits
-    (items_changed c.args.undo.plan.changes ++ rest) (rw (← c.self.view_is) at a)))
+    (same_changes place.After-deref-2)
+    (undone_waits (goes place.After-restore_all) (items_changed c.args.undo.plan.changes ++ rest) (rw (← c.self.view_is) at a)))
 
 pub returns-clause-lean : goal.returns-clause-lean
 returns-clause-lean c =
-    let b = rw (← c.self.view_is) at c.requires.back
+    let place = goal.at.returns-clause-lean c
+    in let b = rw (← c.self.view_is) at c.requires.back
     in rw (← c.self.view_is)
     (λ rest lean. c.release_waits.ensures.lean rest
     (subst (λ l. IsLean (items_changed l ++ rest)
     (held_of c.self.inside.names c.exchange_changes.new.shelves c.restore_all.new.lists.items))
-    (sym (c.deref-2.ensures.value ∙ ap (λ r. r.plan.changes) c.undo.view_is))
-    (stood_lean c.self.inside.names c.self.inside.names c.self.inside.shelves c.exchange_changes.new.shelves c.self.inside.links.items
-    c.restore_all.new.lists.items (items_changed c.args.undo.plan.changes) b.2.waits c.exchange_changes.ensures.stays.waits
-    c.exchange_changes.ensures.stays.places c.lists.inside.0.items
-    (λ x. c.exchange_changes.ensures.now x
-    ∙ ap (λ l. stand_each (items_changed l) c.lists.inside.0.items x (stored_on x (rows_on_side now c.self.inside.shelves)))
-    (c.deref.ensures.value ∙ ap (λ r. r.plan.changes) c.undo.view_is))
-    _ lean)))
+    (same_changes place.After-deref-2)
+    (undone_lean (goes place.After-restore_all) b.0 b.1 b.2 (items_changed c.args.undo.plan.changes ++ rest) lean)))
