@@ -47,6 +47,7 @@ pub mod Returning
 pub mod Restoring
 pub mod Written
 pub mod Brought
+pub mod Removing
 pub mod Marks
 pub mod Grown
 pub mod Waits

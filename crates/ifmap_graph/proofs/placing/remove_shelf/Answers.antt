@@ -1,135 +1,63 @@
-use Rattle.std.proofs.Common.{◌≡◌, Option, Some, None, IsSome, [], refl, ap, sym, ◌∙◌, subst}
-use Rattle.std.proofs.lemmas.Option.{same_Some}
-use Rattle.std.specs.BTreeMap.{is_at}
-use Rattle.std.specs.Map.{lookup}
-use Rattle.slab.specs.Slab.{get}
-use Rattle.ifmap_ident.specs.Items.{item_order}
+use Rattle.std.proofs.Common.{Option, IsSome, refl, sym, subst}
 use Rattle.ifmap_graph.specs.declared.shelves.Shelf.{Shelf}
-use Rattle.ifmap_graph.specs.Shelved.{list_at}
 use Rattle.ifmap_graph.specs.Sides.{next, now}
-use Rattle.ifmap_graph.proofs.Brought.{brings_taken}
-use Rattle.ifmap_graph.proofs.Changed.{entry_there, inside_goes, its_ends, its_order, own_stays}
-use Rattle.ifmap_graph.proofs.Gone.{stays_there, was_there}
-use Rattle.ifmap_graph.proofs.Leaving.{same_rows}
+use Rattle.ifmap_graph.proofs.Removing.{LetsEndsGo, Removes, empty_shelf, empty_there, removed_before, removed_brings, removed_ends, removed_inside, removed_others, removed_own, removed_rows}
 use Rattle.ifmap_graph.proofs.placing.remove_shelf.Goals as goal
+use Rattle.ifmap_graph.proofs.placing.remove_shelf.Goals.{After-remove-shelf, After-release_ends}
+
+removes : (c : After-remove-shelf) → Removes c.args.shelves.now (record { places = c.remove.new.self; slots = c.remove-shelf.new.self })
+    c.args.item.now c.in-Some.at c.remove-shelf.result
+removes c = record {
+  here = sym c.in-Some.ensures.value;
+  there = c.remove-shelf.ensures.value;
+  empty = empty_shelf c.args.shelves.now c.args.item.now c.in-Some.at c.remove-shelf.result c.requires.empty
+      (sym c.in-Some.ensures.value) c.remove-shelf.ensures.value;
+  gone = c.remove-shelf.ensures.updates.changed;
+  others = c.remove-shelf.ensures.updates.others;
+  entries = c.remove.ensures.entries;
+  rises = c.remove.ensures.ordered;
+  updates = c.remove.ensures.updates.0;
+}
+
+lets_go : (c : After-release_ends) → LetsEndsGo c.args.names.now c.release_ends.new.names c.remove-shelf.result.ends
+lets_go c = record {
+  whole = c.release_ends.ensures.whole;
+  keys = c.release_ends.ensures.keys;
+  before = c.release_ends.ensures.before;
+  held = c.release_ends.ensures.held;
+}
 
 pub remove-shelf-requires : goal.remove-shelf-requires
 remove-shelf-requires c =
-    let here : lookup (is_at (item_order c.args.item.now)) c.args.shelves.now.places.entries ≡ Some c.in-Some.at = sym
-    c.in-Some.ensures.value
-    in let had : get c.args.shelves.now.slots c.in-Some.at ≡ Some c.requires.empty.1
-    = ap (get c.args.shelves.now.slots) (same_Some _ _ (sym here ∙ c.requires.empty.2)) ∙ c.requires.empty.3
-    in subst (λ (o : Option Shelf). IsSome o) (sym had) refl
+    let had = empty_there c.args.shelves.now c.args.item.now c.in-Some.at c.requires.empty (sym c.in-Some.ensures.value)
+    in subst (λ (o : Option Shelf). IsSome o) (sym had.1) refl
 
 pub release_ends-requires : goal.release_ends-requires
 release_ends-requires c =
-    let here : lookup (is_at (item_order c.args.item.now)) c.args.shelves.now.places.entries ≡ Some c.in-Some.at = sym
-    c.in-Some.ensures.value
-    in let had : get c.args.shelves.now.slots c.in-Some.at ≡ Some c.requires.empty.1
-    = ap (get c.args.shelves.now.slots) (same_Some _ _ (sym here ∙ c.requires.empty.2)) ∙ c.requires.empty.3
-    in let empty : c.remove-shelf.result.stored ≡ record { now = []; draft = None }
-    = ap (λ (s : Shelf). s.stored) (same_Some _ _ (sym c.remove-shelf.ensures.value ∙ had)) ∙ c.requires.empty.4
-    in (
-      (entry_there c.args.names.now c.args.names.now (get c.args.shelves.now.slots) (get c.args.shelves.now.slots)
-          c.args.shelves.now.places.entries c.args.shelves.now.places.entries
-          c.requires.inside.0 c.args.item.now c.in-Some.at c.remove-shelf.result c.requires.inside.1 here c.remove-shelf.ensures.value
-          empty).0,
-      its_order c.args.names.now c.args.names.now (get c.args.shelves.now.slots) (get c.args.shelves.now.slots)
-          c.args.shelves.now.places.entries c.args.shelves.now.places.entries
-          c.requires.inside.0 c.args.item.now c.in-Some.at c.remove-shelf.result c.requires.inside.1 here c.remove-shelf.ensures.value
-          empty,
-      its_ends c.args.names.now c.args.names.now (get c.args.shelves.now.slots) (get c.args.shelves.now.slots)
-          c.args.shelves.now.places.entries c.args.shelves.now.places.entries
-          c.requires.inside.0 c.args.item.now c.in-Some.at c.remove-shelf.result c.requires.inside.1 here c.remove-shelf.ensures.value
-          empty,
-    )
+    removed_ends (removes (goal.at.release_ends-requires c).After-remove-shelf) c.args.names.now c.requires.inside.0 c.requires.inside.1
 
 pub returns-clause-inside : goal.returns-clause-inside
 returns-clause-inside c = λ links is.
-    let here : lookup (is_at (item_order c.args.item.now)) c.args.shelves.now.places.entries ≡ Some c.in-Some.at = sym
-    c.in-Some.ensures.value
-    in let had : get c.args.shelves.now.slots c.in-Some.at ≡ Some c.requires.empty.1
-    = ap (get c.args.shelves.now.slots) (same_Some _ _ (sym here ∙ c.requires.empty.2)) ∙ c.requires.empty.3
-    in let empty : c.remove-shelf.result.stored ≡ record { now = []; draft = None }
-    = ap (λ (s : Shelf). s.stored) (same_Some _ _ (sym c.remove-shelf.ensures.value ∙ had)) ∙ c.requires.empty.4
-    in inside_goes c.args.names.now c.release_ends.new.names (get c.args.shelves.now.slots) (get c.remove-shelf.new.self)
-    c.args.shelves.now.places.entries
-    c.remove.new.self.entries links c.args.item.now c.in-Some.at c.remove-shelf.result is here c.remove-shelf.ensures.value empty
-    c.remove-shelf.ensures.updates.changed c.remove-shelf.ensures.updates.others c.remove.ensures.entries c.remove.ensures.ordered
-    c.release_ends.ensures.whole
-    (c.release_ends.ensures.keys is.keys) c.release_ends.ensures.before c.release_ends.ensures.held
+    let place = goal.at.returns-clause-inside c
+    in removed_inside (removes place.After-remove-shelf) c.args.names.now links is (lets_go place.After-release_ends)
 
 pub returns-clause-own : goal.returns-clause-own
 returns-clause-own c =
-    let here : lookup (is_at (item_order c.args.item.now)) c.args.shelves.now.places.entries ≡ Some c.in-Some.at = sym
-    c.in-Some.ensures.value
-    in let had : get c.args.shelves.now.slots c.in-Some.at ≡ Some c.requires.empty.1
-    = ap (get c.args.shelves.now.slots) (same_Some _ _ (sym here ∙ c.requires.empty.2)) ∙ c.requires.empty.3
-    in let empty : c.remove-shelf.result.stored ≡ record { now = []; draft = None }
-    = ap (λ (s : Shelf). s.stored) (same_Some _ _ (sym c.remove-shelf.ensures.value ∙ had)) ∙ c.requires.empty.4
-    in own_stays c.args.names.now c.release_ends.new.names (get c.args.shelves.now.slots) (get c.remove-shelf.new.self)
-    c.args.shelves.now.places.entries
-    c.remove.new.self.entries c.requires.inside.0 c.args.item.now c.in-Some.at c.remove-shelf.result c.requires.inside.1 here
-    c.remove-shelf.ensures.value empty
-    c.remove-shelf.ensures.updates.changed c.remove-shelf.ensures.updates.others c.remove.ensures.entries c.remove.ensures.ordered
-    c.release_ends.ensures.whole
-    (c.release_ends.ensures.keys c.requires.inside.1.keys) c.release_ends.ensures.before c.release_ends.ensures.held
+    let place = goal.at.returns-clause-own c
+    in removed_own (removes place.After-remove-shelf) c.args.names.now c.requires.inside.0 c.requires.inside.1
+    (lets_go place.After-release_ends)
 
 pub returns-clause-now : goal.returns-clause-now
-returns-clause-now c =
-    let here : lookup (is_at (item_order c.args.item.now)) c.args.shelves.now.places.entries ≡ Some c.in-Some.at = sym
-    c.in-Some.ensures.value
-    in let had : get c.args.shelves.now.slots c.in-Some.at ≡ Some c.requires.empty.1
-    = ap (get c.args.shelves.now.slots) (same_Some _ _ (sym here ∙ c.requires.empty.2)) ∙ c.requires.empty.3
-    in let empty : c.remove-shelf.result.stored ≡ record { now = []; draft = None }
-    = ap (λ (s : Shelf). s.stored) (same_Some _ _ (sym c.remove-shelf.ensures.value ∙ had)) ∙ c.requires.empty.4
-    in same_rows c.args.shelves.now.places.entries c.remove.new.self.entries (get c.args.shelves.now.slots) (get c.remove-shelf.new.self)
-    c.args.item.now c.in-Some.at
-    c.requires.inside.1.placed here c.remove-shelf.ensures.updates.changed c.remove-shelf.ensures.updates.others c.remove.ensures.entries
-    c.remove.ensures.ordered now
-    (ap (list_at now) had ∙ ap now c.requires.empty.4)
+returns-clause-now c = removed_rows (removes (goal.at.returns-clause-now c).After-remove-shelf) c.requires.inside.1.placed now refl
 
 pub returns-clause-next : goal.returns-clause-next
-returns-clause-next c =
-    let here : lookup (is_at (item_order c.args.item.now)) c.args.shelves.now.places.entries ≡ Some c.in-Some.at = sym
-    c.in-Some.ensures.value
-    in let had : get c.args.shelves.now.slots c.in-Some.at ≡ Some c.requires.empty.1
-    = ap (get c.args.shelves.now.slots) (same_Some _ _ (sym here ∙ c.requires.empty.2)) ∙ c.requires.empty.3
-    in let empty : c.remove-shelf.result.stored ≡ record { now = []; draft = None }
-    = ap (λ (s : Shelf). s.stored) (same_Some _ _ (sym c.remove-shelf.ensures.value ∙ had)) ∙ c.requires.empty.4
-    in same_rows c.args.shelves.now.places.entries c.remove.new.self.entries (get c.args.shelves.now.slots) (get c.remove-shelf.new.self)
-    c.args.item.now c.in-Some.at
-    c.requires.inside.1.placed here c.remove-shelf.ensures.updates.changed c.remove-shelf.ensures.updates.others c.remove.ensures.entries
-    c.remove.ensures.ordered next
-    (ap (list_at next) had ∙ ap next c.requires.empty.4)
+returns-clause-next c = removed_rows (removes (goal.at.returns-clause-next c).After-remove-shelf) c.requires.inside.1.placed next refl
 
 pub returns-clause-before : goal.returns-clause-before
-returns-clause-before c =
-    let here : lookup (is_at (item_order c.args.item.now)) c.args.shelves.now.places.entries ≡ Some c.in-Some.at = sym
-    c.in-Some.ensures.value
-    in was_there c.args.shelves.now.places.entries c.remove.new.self.entries (get c.args.shelves.now.slots) (get c.remove-shelf.new.self)
-    c.args.item.now c.in-Some.at
-    c.requires.inside.1.placed here c.remove-shelf.ensures.updates.changed c.remove-shelf.ensures.updates.others c.remove.ensures.entries
-    c.remove.ensures.ordered
+returns-clause-before c = removed_before (removes (goal.at.returns-clause-before c).After-remove-shelf) c.requires.inside.1.placed
 
 pub returns-clause-others : goal.returns-clause-others
-returns-clause-others c =
-    let here : lookup (is_at (item_order c.args.item.now)) c.args.shelves.now.places.entries ≡ Some c.in-Some.at = sym
-    c.in-Some.ensures.value
-    in stays_there c.args.shelves.now.places.entries c.remove.new.self.entries (get c.args.shelves.now.slots)
-    (get c.remove-shelf.new.self) c.args.item.now c.in-Some.at
-    c.requires.inside.1.placed here c.remove-shelf.ensures.updates.changed c.remove-shelf.ensures.updates.others c.remove.ensures.entries
-    c.remove.ensures.ordered
+returns-clause-others c = removed_others (removes (goal.at.returns-clause-others c).After-remove-shelf) c.requires.inside.1.placed
 
 pub returns-clause-taken : goal.returns-clause-taken
-returns-clause-taken c = λ zero.
-    let here : lookup (is_at (item_order c.args.item.now)) c.args.shelves.now.places.entries ≡ Some c.in-Some.at = sym
-    c.in-Some.ensures.value
-    in brings_taken c.args.shelves.now (record { places = c.remove.new.self; slots = c.remove-shelf.new.self }) c.args.item.now
-    c.in-Some.at here
-    c.remove.ensures.updates.0 c.remove.ensures.entries
-    (λ x n e. (was_there c.args.shelves.now.places.entries c.remove.new.self.entries (get c.args.shelves.now.slots)
-    (get c.remove-shelf.new.self) c.args.item.now
-    c.in-Some.at c.requires.inside.1.placed here c.remove-shelf.ensures.updates.changed c.remove-shelf.ensures.updates.others
-    c.remove.ensures.entries
-    c.remove.ensures.ordered x n e).1) zero
+returns-clause-taken c = removed_brings (removes (goal.at.returns-clause-taken c).After-remove-shelf) c.requires.inside.1.placed
