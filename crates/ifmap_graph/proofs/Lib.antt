@@ -54,6 +54,7 @@ pub mod Waits
 pub mod Made
 pub mod Filling
 pub mod Lean
+pub mod Released
 pub mod Undone
 pub mod Reserved
 pub mod Used

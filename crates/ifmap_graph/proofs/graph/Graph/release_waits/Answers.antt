@@ -1,10 +1,18 @@
-use Rattle.std.proofs.Common.{refl, arith}
 use Rattle.ifmap_graph.specs.Out.{items_changed}
 use Rattle.ifmap_graph.proofs.Own.{key_kept}
-use Rattle.ifmap_graph.proofs.Backs.{keeps_other_backs}
-use Rattle.ifmap_graph.proofs.Lean.{less_lean}
-use Rattle.ifmap_graph.proofs.Settled.{held_of, bare_from, bare_to, less_next, less_now, less_own, less_stay, less_waits, waited_from}
+use Rattle.ifmap_graph.proofs.Released.{AreReleased, are_released}
+use Rattle.ifmap_graph.proofs.Settled.{held_of, bare_from, waited_from}
 use Rattle.ifmap_graph.proofs.graph.Graph.release_waits.Goals as goal
+use Rattle.ifmap_graph.proofs.graph.Graph.release_waits.Goals.{After-release_items}
+
+-- what the call did
+released : (c : After-release_items) → AreReleased (items_changed c.args.changes.now) c.args.self.now
+    (held_of c.release_items.new.names c.release_items.new.shelves c.self.inside.links.items)
+released c =
+    let q = rw (← c.self.view_is) at c.requires
+    in are_released c.self.inside.names c.release_items.new.names c.self.inside.shelves c.release_items.new.shelves
+    c.self.inside.links.items (items_changed c.args.changes.now) c.release_items.ensures.less c.self.invariant.placed
+    c.release_items.ensures.waits c.release_items.ensures.filled c.self.view_is q.still
 
 pub release_items-requires-clause-inside : goal.release_items-requires-clause-inside
 release_items-requires-clause-inside c = (c.self.inside.links.items, c.self.invariant)
@@ -22,70 +30,32 @@ release_items-requires-clause-waits c =
 pub invariant_of-self : goal.invariant_of-self
 invariant_of-self c = c.release_items.ensures.less.inside c.self.inside.links.items c.self.invariant
 
-pub returns-clause-now : goal.returns-clause-now
-returns-clause-now c =
-    rw (← c.self.view_is)
-    (less_now c.self.inside.names c.release_items.new.names c.self.inside.shelves c.release_items.new.shelves c.self.inside.links.items
-    c.release_items.ensures.less)
-
-pub returns-clause-next : goal.returns-clause-next
-returns-clause-next c =
-    let q = rw (← c.self.view_is) at c.requires
-    in rw (← c.self.view_is)
-    (less_next c.self.inside.names c.release_items.new.names c.self.inside.shelves c.release_items.new.shelves c.self.inside.links.items
-    c.release_items.ensures.less
-    (bare_from c.self.inside.names c.self.inside.shelves c.self.inside.links.items c.self.invariant.placed q.still))
-
-pub returns-clause-still : goal.returns-clause-still
-returns-clause-still c =
-    let q = rw (← c.self.view_is) at c.requires
-    in bare_to c.release_items.new.names c.release_items.new.shelves c.self.inside.links.items
-    (c.release_items.ensures.less.bare
-    (bare_from c.self.inside.names c.self.inside.shelves c.self.inside.links.items c.self.invariant.placed q.still))
-    q.still.links
-
 pub returns-clause-numbers : goal.returns-clause-numbers
 returns-clause-numbers c =
     rw (← c.self.view_is)
     (key_kept c.release_items.new.names c.self.inside.names c.release_items.ensures.less.named c.bytes_tell_identifiers_apart.ensures
     (c.release_items.ensures.less.inside c.self.inside.links.items c.self.invariant).keys c.self.invariant.keys)
 
+pub returns-clause-now : goal.returns-clause-now
+returns-clause-now c = (released (goal.at.returns-clause-now c).After-release_items).now
+
+pub returns-clause-next : goal.returns-clause-next
+returns-clause-next c = (released (goal.at.returns-clause-next c).After-release_items).next
+
+pub returns-clause-still : goal.returns-clause-still
+returns-clause-still c = (released (goal.at.returns-clause-still c).After-release_items).still
+
 pub returns-clause-own : goal.returns-clause-own
-returns-clause-own c =
-    rw (← c.self.view_is)
-    (less_own c.self.inside.names c.release_items.new.names c.self.inside.shelves c.release_items.new.shelves c.self.inside.links.items
-    c.release_items.ensures.less)
+returns-clause-own c = (released (goal.at.returns-clause-own c).After-release_items).own
 
 pub returns-clause-waits : goal.returns-clause-waits
-returns-clause-waits c =
-    rw (← c.self.view_is)
-    (less_waits c.self.inside.names c.release_items.new.names c.self.inside.shelves c.release_items.new.shelves c.self.inside.links.items
-    c.release_items.ensures.less
-    (items_changed c.args.changes.now) c.release_items.ensures.waits)
+returns-clause-waits c = (released (goal.at.returns-clause-waits c).After-release_items).waits
 
 pub returns-clause-stay : goal.returns-clause-stay
-returns-clause-stay c =
-    rw (← c.self.view_is)
-    (less_stay c.self.inside.names c.release_items.new.names c.self.inside.shelves c.release_items.new.shelves c.self.inside.links.items
-    c.release_items.ensures.less)
+returns-clause-stay c = (released (goal.at.returns-clause-stay c).After-release_items).stay
 
 pub returns-clause-backs : goal.returns-clause-backs
-returns-clause-backs c =
-    rw (← c.self.view_is)
-    (keeps_other_backs (held_of c.self.inside.names c.self.inside.shelves c.self.inside.links.items)
-    (held_of c.release_items.new.names c.release_items.new.shelves c.self.inside.links.items)
-    (less_now c.self.inside.names c.release_items.new.names c.self.inside.shelves c.release_items.new.shelves c.self.inside.links.items
-    c.release_items.ensures.less)
-    (λ v. refl) (omega arith)
-    (less_stay c.self.inside.names c.release_items.new.names c.self.inside.shelves c.release_items.new.shelves c.self.inside.links.items
-    c.release_items.ensures.less)
-    (items_changed c.args.changes.now)
-    (less_waits c.self.inside.names c.release_items.new.names c.self.inside.shelves c.release_items.new.shelves c.self.inside.links.items
-    c.release_items.ensures.less
-    (items_changed c.args.changes.now) c.release_items.ensures.waits))
+returns-clause-backs c = (released (goal.at.returns-clause-backs c).After-release_items).backs
 
 pub returns-clause-lean : goal.returns-clause-lean
-returns-clause-lean c =
-    rw (← c.self.view_is)
-    (less_lean c.self.inside.names c.release_items.new.names c.self.inside.shelves c.release_items.new.shelves c.self.inside.links.items
-    c.self.inside.links.items (items_changed c.args.changes.now) c.release_items.ensures.waits c.release_items.ensures.filled)
+returns-clause-lean c = (released (goal.at.returns-clause-lean c).After-release_items).lean
