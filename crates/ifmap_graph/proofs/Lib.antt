@@ -31,7 +31,6 @@ pub mod Gone
 pub mod Lessening
 pub mod Settled
 pub mod Outs
-pub mod Committed
 pub mod Beginning
 pub mod Readying
 pub mod Touching
@@ -55,6 +54,7 @@ pub mod Made
 pub mod Filling
 pub mod Lean
 pub mod Released
+pub mod Committed
 pub mod Undone
 pub mod Reserved
 pub mod Used

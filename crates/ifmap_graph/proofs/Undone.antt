@@ -156,10 +156,10 @@ pub record GoesBack (names : Holdings Identifier) (s t : Shelves) (links moved :
 module _ {names : Holdings Identifier} {s t : Shelves} {links moved : List (Sides LinkSeen)} {u : Undo}
     (goes : GoesBack names s t links moved u) where
   pub undone_own : KeepsOwn (held_of names s links) (held_of names t moved)
-  undone_own = own_stays names s t links moved goes.stay.places goes.stay.ends goes.stay.waits
+  undone_own = own_stays names links moved goes.stay
 
   pub undone_waits : (items : List Item) → AreAwaited items (held_of names s links) → AreAwaited items (held_of names t moved)
-  undone_waits = waits_stay_seen names s t links moved goes.stay.places goes.stay.ends goes.stay.waits
+  undone_waits = waits_stay_seen names links moved goes.stay
 
   module _ (rows : List Attachment) (seen : ℕ → List LinkSeen) (back : IsUndoTo u rows seen (held_of names s links)) where
     still_bare : AllByRecursion (λ e. NoDraft (get t.slots e.1)) s.places.entries

@@ -8,7 +8,7 @@ use Rattle.ifmap_pool.specs.Holdings.{Holdings, IsHeld}
 use Rattle.ifmap_view.specs.declared.views.LinkSeen.{LinkSeen}
 use Rattle.ifmap_graph.specs.declared.shelves.Shelves.{Shelves}
 use Rattle.ifmap_graph.specs.Back.{KeepsBacks, KeepsOtherBacks}
-use Rattle.ifmap_graph.specs.Drafted.{ends_at}
+use Rattle.ifmap_graph.specs.Drafted.{StayInPlace}
 use Rattle.ifmap_graph.specs.Held.{Held}
 use Rattle.ifmap_graph.specs.Named.{named_in}
 use Rattle.ifmap_graph.specs.Out.{items_changed}
@@ -17,43 +17,39 @@ use Rattle.ifmap_graph.specs.Shelved.{rows_on_side}
 use Rattle.ifmap_graph.specs.Sides.{Sides, now}
 use Rattle.ifmap_graph.specs.Stays.{HasSameShelf, StayPlaced}
 use Rattle.ifmap_graph.specs.Touched.{KeepsLinks}
-use Rattle.ifmap_graph.specs.Waits.{waits_on}
 use Rattle.ifmap_graph.proofs.Backs.{keeps_backs}
 use Rattle.ifmap_graph.proofs.Insides.{named_shown, rows_shown}
 use Rattle.ifmap_graph.proofs.Seeing.{seen_of, stays_there}
 use Rattle.ifmap_graph.proofs.Settled.{held_of, waits_shown}
 
 -- shelves that stay in their places
-module _ (names : Holdings Identifier) (s t : Shelves) (links moved : List (Sides LinkSeen)) (places : t.places ≡ s.places)
-    (ends : (at : ℕ) → ends_at t at ≡ ends_at s at) (waits : (x : Item) → waits_on t x ≡ waits_on s x) where
+module _ (names : Holdings Identifier) {s t : Shelves} (links moved : List (Sides LinkSeen)) (stay : StayInPlace s t) where
   pub own_stays : KeepsOwn (held_of names s links) (held_of names t moved)
   own_stays a own h =
       subst (λ (n : ℕ). IsHeld identifier_order names a (n + own))
-      (named_shown (get s.slots) s.places.entries a ∙ sym (ap (λ p. named_in p.entries a) places)
+      (named_shown (get s.slots) s.places.entries a ∙ sym (ap (λ p. named_in p.entries a) stay.places)
       ∙ sym (named_shown (get t.slots) t.places.entries a)) h
 
   pub waits_stay_seen : (items : List Item) → AreAwaited items (held_of names s links) → AreAwaited items (held_of names t moved)
-  waits_stay_seen items a x = omega (arith, a x, waits_shown names s links x, waits_shown names t moved x, waits x)
+  waits_stay_seen items a x = omega (arith, a x, waits_shown names s links x, waits_shown names t moved x, stay.waits x)
 
-module _ (names : Holdings Identifier) (s t : Shelves) (links later : List (Sides LinkSeen)) (places : t.places ≡ s.places)
-    (ends : (at : ℕ) → ends_at t at ≡ ends_at s at) (waits : (x : Item) → waits_on t x ≡ waits_on s x)
-    (rows : rows_on_side now t ≡ rows_on_side now s)
-    (kept : KeepsLinks links later) where
+module _ (names : Holdings Identifier) {s t : Shelves} {links later : List (Sides LinkSeen)} (stay : StayInPlace s t)
+    (rows : rows_on_side now t ≡ rows_on_side now s) (kept : KeepsLinks links later) where
   pub written_now : rows_now (held_of names t later) ≡ rows_now (held_of names s links)
   written_now = rows_shown now (get t.slots) t.places.entries ∙ rows ∙ sym (rows_shown now (get s.slots) s.places.entries)
 
   there : (x : Item) → HasSameShelf (held_of names s links) (held_of names t later) x
   there x =
-      subst (λ p. HasSameShelf (held_of names s links) (seen_of (get t.slots) p.entries names later) x) (sym places)
-      (stays_there (get s.slots) (get t.slots) s.places.entries names names links later ends x)
+      subst (λ p. HasSameShelf (held_of names s links) (seen_of (get t.slots) p.entries names later) x) (sym stay.places)
+      (stays_there (get s.slots) (get t.slots) s.places.entries names names links later stay.ends x)
 
-  pub written_stay : StayPlaced (held_of names s links) (held_of names t later)
+  written_stay : StayPlaced (held_of names s links) (held_of names t later)
   written_stay = record { waited = λ x a b. there x; full = λ x a b. there x }
 
   pub written_backs : KeepsBacks (held_of names s links) (held_of names t later)
   written_backs =
       keeps_backs (held_of names s links) (held_of names t later) written_now kept.now (omega (arith, kept.long)) written_stay
-      (λ rest a. waits_stay_seen names s t links later places ends waits rest a)
+      (λ rest a. waits_stay_seen names links later stay rest a)
 
 -- ways back stay beside these items, where they stay at first, and beside them then
 pub first_backs : (items : List Item) (old mid new : Held) → ((rest : List Item) → AreAwaited rest old → AreAwaited rest mid) → KeepsBacks

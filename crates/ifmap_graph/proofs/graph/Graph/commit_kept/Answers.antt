@@ -6,16 +6,32 @@ use Rattle.ifmap_graph.specs.Drafted.{AreOut}
 use Rattle.ifmap_graph.specs.Out.{items_changed}
 use Rattle.ifmap_graph.specs.Shelved.{rows_on_side}
 use Rattle.ifmap_graph.specs.Sides.{next, now}
-use Rattle.ifmap_graph.specs.Turning.{AreDrafted, NoOthers, accept_each, backs, sides_at}
-use Rattle.ifmap_graph.proofs.Committed.{made_inside, made_links}
+use Rattle.ifmap_graph.specs.Turning.{AreDrafted, accept_each, backs}
+use Rattle.ifmap_graph.proofs.Committed.{IsMadeOf, made_inside, made_lean, made_links, made_own, made_still, made_waits}
 use Rattle.ifmap_graph.proofs.Insides.{rows_shown}
-use Rattle.ifmap_graph.proofs.Lean.{turned_lean}
 use Rattle.ifmap_graph.proofs.Outs.{are_out}
-use Rattle.ifmap_graph.proofs.Settled.{bare_to}
 use Rattle.ifmap_graph.proofs.Taking.{can_go_back}
-use Rattle.ifmap_graph.proofs.Turns.{none_drafted}
 use Rattle.ifmap_graph.proofs.graph.Graph.commit_kept.Goals as goal
-use Rattle.ifmap_graph.proofs.Written.{own_stays, waits_stay_seen}
+use Rattle.ifmap_graph.proofs.graph.Graph.commit_kept.Goals.{After-accept_all}
+
+-- what the two calls did
+made : (c : After-accept_all) → IsMadeOf c.self.inside.names c.self.inside.shelves c.accept_changes.new.shelves
+    c.self.inside.links.items c.accept_all.new.lists.items c.args.ready
+made c =
+    let q = rw (← c.self.view_is) at c.requires
+    in record {
+      is = c.self.invariant;
+      later = c.accept_changes.ensures.shelved;
+      bare = c.accept_changes.ensures.bare;
+      stay = c.accept_changes.ensures.stays;
+      rows = c.accept_changes.ensures.now;
+      same = c.accept_changes.ensures.next;
+      out = are_out c.self.inside.shelves (items_changed c.args.ready.plan.changes) q.drafted q.within q.apart;
+      drafted = q.links;
+      others = q.no_others;
+      turned = c.accept_all.ensures.lists
+          ∙ ap (λ w. accept_each w c.self.inside.links.items) (c.ways.view_is ∙ ap (λ r. r.ways) c.ready.view_is);
+    }
 
 pub accept_changes-requires-clause-out : goal.accept_changes-requires-clause-out
 accept_changes-requires-clause-out c =
@@ -33,16 +49,7 @@ accept_all-requires c =
     in subst (λ w. AreDrafted w c.self.inside.links.items) (sym (c.ways.view_is ∙ ap (λ r. r.ways) c.ready.view_is)) q.links
 
 pub invariant_of-self : goal.invariant_of-self
-invariant_of-self c =
-    let q = rw (← c.self.view_is) at c.requires
-    in made_inside c.self.inside.names c.self.inside.shelves c.accept_changes.new.shelves c.self.inside.links.items
-    c.accept_all.new.lists.items
-    c.self.invariant c.accept_changes.ensures.shelved c.accept_changes.ensures.stays.places c.accept_changes.ensures.stays.ends
-    c.accept_changes.ensures.now
-    c.accept_changes.ensures.next c.ways.inside.0.items (subst (λ w. AreDrafted w c.self.inside.links.items)
-    (sym (c.ways.view_is ∙ ap (λ r. r.ways) c.ready.view_is)) q.links)
-    (subst (λ w. NoOthers w c.self.inside.links.items) (sym (c.ways.view_is ∙ ap (λ r. r.ways) c.ready.view_is)) q.no_others)
-    c.accept_all.ensures.lists
+invariant_of-self c = made_inside (made (goal.at.invariant_of-self c).After-accept_all)
 
 pub returns-clause-now : goal.returns-clause-now
 returns-clause-now c =
@@ -57,17 +64,7 @@ returns-clause-next c =
     ∙ sym (rows_shown next (get c.self.inside.shelves.slots) c.self.inside.shelves.places.entries))
 
 pub returns-clause-links : goal.returns-clause-links
-returns-clause-links c =
-    let q = rw (← c.self.view_is) at c.requires
-    in rw (← c.self.view_is)
-    (made_links c.self.inside.names c.self.inside.shelves c.accept_changes.new.shelves c.self.inside.links.items
-    c.accept_all.new.lists.items
-    c.self.invariant c.accept_changes.ensures.shelved c.accept_changes.ensures.stays.places c.accept_changes.ensures.stays.ends
-    c.accept_changes.ensures.now
-    c.accept_changes.ensures.next c.ways.inside.0.items (subst (λ w. AreDrafted w c.self.inside.links.items)
-    (sym (c.ways.view_is ∙ ap (λ r. r.ways) c.ready.view_is)) q.links)
-    (subst (λ w. NoOthers w c.self.inside.links.items) (sym (c.ways.view_is ∙ ap (λ r. r.ways) c.ready.view_is)) q.no_others)
-    c.accept_all.ensures.lists)
+returns-clause-links c = rw (← c.self.view_is) (made_links (made (goal.at.returns-clause-links c).After-accept_all))
 
 pub returns-clause-lists : goal.returns-clause-lists
 returns-clause-lists c =
@@ -88,45 +85,20 @@ returns-clause-plan c = ap (λ r. r.plan) c.ready.view_is
 
 pub returns-clause-back : goal.returns-clause-back
 returns-clause-back c =
-    let q = rw (← c.self.view_is) at c.requires
-    in let ways = c.ways.view_is ∙ ap (λ r. r.ways) c.ready.view_is
+    let m = made (goal.at.returns-clause-back c).After-accept_all
     in rw (← c.self.view_is)
     (can_go_back c.self.inside.names c.self.inside.shelves c.accept_changes.new.shelves c.self.inside.links.items
-    c.accept_all.new.lists.items
-    c.self.invariant c.accept_changes.ensures.stays.places c.accept_changes.ensures.stays.ends c.accept_changes.ensures.stays.waits
-    c.accept_changes.ensures.now
-    c.args.ready _ (are_out c.self.inside.shelves (items_changed c.args.ready.plan.changes) q.drafted q.within q.apart) q.links q.no_others
-    (c.accept_all.ensures.lists ∙ ap (λ w. accept_each w c.self.inside.links.items) ways) (returns-clause-plan c)
-    (rw (← c.self.view_is) at (returns-clause-lists c)) (rw (← c.self.view_is) at (returns-clause-ways c)))
+    c.accept_all.new.lists.items m.is m.stay.places m.stay.ends m.stay.waits m.rows c.args.ready _ m.out m.drafted m.others m.turned
+    (returns-clause-plan c) (rw (← c.self.view_is) at (returns-clause-lists c)) (rw (← c.self.view_is) at (returns-clause-ways c)))
 
 pub returns-clause-still : goal.returns-clause-still
-returns-clause-still c =
-    let q = rw (← c.self.view_is) at c.requires
-    in bare_to c.self.inside.names c.accept_changes.new.shelves c.accept_all.new.lists.items c.accept_changes.ensures.bare
-    (λ v. ap (λ l. (sides_at l v).draft)
-    (c.accept_all.ensures.lists ∙ ap (λ w. accept_each w c.self.inside.links.items) (c.ways.view_is ∙ ap (λ r. r.ways) c.ready.view_is))
-    ∙ none_drafted c.args.ready.ways c.self.inside.links.items v q.links q.no_others)
+returns-clause-still c = made_still (made (goal.at.returns-clause-still c).After-accept_all)
 
 pub returns-clause-own : goal.returns-clause-own
-returns-clause-own c = λ a own h.
-    own_stays c.self.inside.names c.self.inside.shelves c.accept_changes.new.shelves c.self.inside.links.items c.accept_all.new.lists.items
-    c.accept_changes.ensures.stays.places c.accept_changes.ensures.stays.ends c.accept_changes.ensures.stays.waits a own (rw (←
-    c.self.view_is) at h)
+returns-clause-own c = rw (← c.self.view_is) (made_own (made (goal.at.returns-clause-own c).After-accept_all))
 
 pub returns-clause-waits : goal.returns-clause-waits
-returns-clause-waits c = λ rest a.
-    waits_stay_seen c.self.inside.names c.self.inside.shelves c.accept_changes.new.shelves c.self.inside.links.items
-    c.accept_all.new.lists.items
-    c.accept_changes.ensures.stays.places c.accept_changes.ensures.stays.ends c.accept_changes.ensures.stays.waits rest (rw (←
-    c.self.view_is) at a)
+returns-clause-waits c = rw (← c.self.view_is) (made_waits (made (goal.at.returns-clause-waits c).After-accept_all))
 
 pub returns-clause-lean : goal.returns-clause-lean
-returns-clause-lean c =
-    let q = rw (← c.self.view_is) at c.requires
-    in rw (← c.self.view_is)
-    (λ awaits. turned_lean c.self.inside.names c.self.inside.names c.self.inside.shelves c.accept_changes.new.shelves
-    c.self.inside.links.items
-    c.accept_all.new.lists.items (items_changed c.args.ready.plan.changes) awaits c.self.invariant.placed
-    (are_out c.self.inside.shelves (items_changed c.args.ready.plan.changes) q.drafted q.within q.apart)
-    c.accept_changes.ensures.stays.waits
-    c.accept_changes.ensures.stays.places c.accept_changes.ensures.now)
+returns-clause-lean c = rw (← c.self.view_is) (made_lean (made (goal.at.returns-clause-lean c).After-accept_all))

@@ -1,11 +1,11 @@
-use Rattle.std.proofs.Common.{◌++◌, IsSome, ap, ◌∙◌, sym, subst}
+use Rattle.std.proofs.Common.{◌≡◌, ◌++◌, IsSome, ap, ◌∙◌, sym, subst}
 use Rattle.std.specs.BTreeMap.{is_at}
 use Rattle.std.specs.List.{AllByRecursion}
 use Rattle.std.specs.Map.{lookup}
 use Rattle.ifmap_ident.specs.Items.{item_order}
 use Rattle.ifmap_view.specs.Rows.{stored_on}
 use Rattle.ifmap_graph.specs.Back.{KeepsOtherBacks}
-use Rattle.ifmap_graph.specs.Drafted.{DraftsWithin}
+use Rattle.ifmap_graph.specs.Drafted.{AreOut, DraftsWithin}
 use Rattle.ifmap_graph.specs.Out.{items_changed}
 use Rattle.ifmap_graph.specs.Seen.{AreAwaited, IsLean}
 use Rattle.ifmap_graph.specs.Shelved.{slot_of_item}
@@ -18,21 +18,30 @@ use Rattle.ifmap_graph.proofs.Outs.{are_out}
 use Rattle.ifmap_graph.proofs.Settled.{bare_to, held_of}
 use Rattle.ifmap_graph.proofs.Written.{first_backs, written_backs, written_now, own_stays, waits_stay_seen}
 use Rattle.ifmap_graph.proofs.graph.Graph.forget.Goals as goal
+use Rattle.ifmap_graph.proofs.graph.Graph.forget.Goals.{After-deref, After-deref-3}
+
+-- the drafts of the change are out
+out : (c : After-deref) → AreOut (items_changed c.args.ready.plan.changes) c.self.inside.shelves
+out c =
+    let q = rw (← c.self.view_is) at c.requires.out
+    in are_out c.self.inside.shelves (items_changed c.args.ready.plan.changes) q.drafted q.within q.apart
+
+-- the changes as the last call reads them
+same_changes : (c : After-deref-3) → c.deref-3.result.now ≡ c.args.ready.plan.changes
+same_changes c = c.deref-3.ensures.value ∙ ap (λ r. r.plan.changes) c.ready.view_is
 
 pub drop_plan-requires-clause-there : goal.drop_plan-requires-clause-there
 drop_plan-requires-clause-there c =
-    let q = rw (← c.self.view_is) at c.requires.out
-    in subst (λ l. AllByRecursion (λ x. IsSome (slot_of_item c.self.inside.shelves x)) (items_changed l))
+    subst (λ l. AllByRecursion (λ x. IsSome (slot_of_item c.self.inside.shelves x)) (items_changed l))
     (sym (c.deref.ensures.value ∙ ap (λ r. r.plan.changes) c.ready.view_is))
     (drafted_there (items_changed c.args.ready.plan.changes) c.self.inside.shelves
-    (are_out c.self.inside.shelves (items_changed c.args.ready.plan.changes) q.drafted q.within q.apart).drafted)
+    (out (goal.at.drop_plan-requires-clause-there c).After-deref).drafted)
 
 pub drop_plan-requires-clause-within : goal.drop_plan-requires-clause-within
 drop_plan-requires-clause-within c =
-    let q = rw (← c.self.view_is) at c.requires.out
-    in subst (λ l. DraftsWithin (items_changed l) c.self.inside.shelves)
+    subst (λ l. DraftsWithin (items_changed l) c.self.inside.shelves)
     (sym (c.deref.ensures.value ∙ ap (λ r. r.plan.changes) c.ready.view_is))
-    (are_out c.self.inside.shelves (items_changed c.args.ready.plan.changes) q.drafted q.within q.apart).within
+    (out (goal.at.drop_plan-requires-clause-within c).After-deref).within
 
 pub drop_plan-requires-clause-ready : goal.drop_plan-requires-clause-ready
 drop_plan-requires-clause-ready c =
@@ -56,10 +65,8 @@ release_waits-requires c =
       still = bare_to c.self.inside.names c.drop_plan.new.shelves c.drop_plan.new.links.items c.drop_plan.ensures.bare
           c.drop_plan.ensures.none;
       waits = subst (λ l. AreAwaited (items_changed l) (held_of c.self.inside.names c.drop_plan.new.shelves c.drop_plan.new.links.items))
-          (sym (c.deref-3.ensures.value ∙ ap (λ r. r.plan.changes) c.ready.view_is))
-          (waits_stay_seen c.self.inside.names c.self.inside.shelves c.drop_plan.new.shelves c.self.inside.links.items
-          c.drop_plan.new.links.items
-          c.drop_plan.ensures.stays.places c.drop_plan.ensures.stays.ends c.drop_plan.ensures.stays.waits
+          (sym (same_changes (goal.at.release_waits-requires c).After-deref-3))
+          (waits_stay_seen c.self.inside.names c.self.inside.links.items c.drop_plan.new.links.items c.drop_plan.ensures.stays
           (items_changed c.args.ready.plan.changes) w);
     }
 
@@ -67,9 +74,7 @@ pub returns-clause-now : goal.returns-clause-now
 returns-clause-now c =
     rw (← c.self.view_is)
     (c.release_waits.ensures.now
-    ∙ written_now c.self.inside.names c.self.inside.shelves c.drop_plan.new.shelves c.self.inside.links.items c.drop_plan.new.links.items
-    c.drop_plan.ensures.stays.places c.drop_plan.ensures.stays.ends c.drop_plan.ensures.stays.waits c.drop_plan.ensures.now
-    c.drop_plan.ensures.links)
+    ∙ written_now c.self.inside.names c.drop_plan.ensures.stays c.drop_plan.ensures.now c.drop_plan.ensures.links)
 
 pub returns-clause-links : goal.returns-clause-links
 returns-clause-links c =
@@ -83,8 +88,7 @@ pub returns-clause-own : goal.returns-clause-own
 returns-clause-own c =
     rw (← c.self.view_is)
     (λ a own h. c.release_waits.ensures.own a own
-    (own_stays c.self.inside.names c.self.inside.shelves c.drop_plan.new.shelves c.self.inside.links.items c.drop_plan.new.links.items
-    c.drop_plan.ensures.stays.places c.drop_plan.ensures.stays.ends c.drop_plan.ensures.stays.waits a own
+    (own_stays c.self.inside.names c.self.inside.links.items c.drop_plan.new.links.items c.drop_plan.ensures.stays a own
     h))
 
 pub returns-clause-waits : goal.returns-clause-waits
@@ -92,31 +96,26 @@ returns-clause-waits c =
     rw (← c.self.view_is)
     (λ rest a. c.release_waits.ensures.waits rest
     (subst (λ l. AreAwaited (items_changed l ++ rest) (held_of c.self.inside.names c.drop_plan.new.shelves c.drop_plan.new.links.items))
-    (sym (c.deref-3.ensures.value ∙ ap (λ r. r.plan.changes) c.ready.view_is))
-    (waits_stay_seen c.self.inside.names c.self.inside.shelves c.drop_plan.new.shelves c.self.inside.links.items c.drop_plan.new.links.items
-    c.drop_plan.ensures.stays.places c.drop_plan.ensures.stays.ends c.drop_plan.ensures.stays.waits _ a)))
+    (sym (same_changes (goal.at.returns-clause-waits c).After-deref-3))
+    (waits_stay_seen c.self.inside.names c.self.inside.links.items c.drop_plan.new.links.items c.drop_plan.ensures.stays _ a)))
 
 pub returns-clause-backs : goal.returns-clause-backs
 returns-clause-backs c =
     rw (← c.self.view_is)
     (first_backs (items_changed c.args.ready.plan.changes) (held_of c.self.inside.names c.self.inside.shelves c.self.inside.links.items)
     (held_of c.self.inside.names c.drop_plan.new.shelves c.drop_plan.new.links.items) c.release_waits.new.self
-    (λ rest a. waits_stay_seen c.self.inside.names c.self.inside.shelves c.drop_plan.new.shelves c.self.inside.links.items
-    c.drop_plan.new.links.items
-    c.drop_plan.ensures.stays.places c.drop_plan.ensures.stays.ends c.drop_plan.ensures.stays.waits rest a)
-    (written_backs c.self.inside.names c.self.inside.shelves c.drop_plan.new.shelves c.self.inside.links.items c.drop_plan.new.links.items
-    c.drop_plan.ensures.stays.places c.drop_plan.ensures.stays.ends c.drop_plan.ensures.stays.waits c.drop_plan.ensures.now
-    c.drop_plan.ensures.links)
+    (λ rest a. waits_stay_seen c.self.inside.names c.self.inside.links.items c.drop_plan.new.links.items c.drop_plan.ensures.stays rest a)
+    (written_backs c.self.inside.names c.drop_plan.ensures.stays c.drop_plan.ensures.now c.drop_plan.ensures.links)
     (subst (λ l. KeepsOtherBacks (items_changed l)
     (held_of c.self.inside.names c.drop_plan.new.shelves c.drop_plan.new.links.items) c.release_waits.new.self)
-    (c.deref-3.ensures.value ∙ ap (λ r. r.plan.changes) c.ready.view_is) c.release_waits.ensures.backs))
+    (same_changes (goal.at.returns-clause-backs c).After-deref-3) c.release_waits.ensures.backs))
 
 pub returns-clause-lean : goal.returns-clause-lean
 returns-clause-lean c =
     rw (← c.self.view_is)
     (λ rest lean. c.release_waits.ensures.lean rest
     (subst (λ l. IsLean (items_changed l ++ rest) (held_of c.self.inside.names c.drop_plan.new.shelves c.drop_plan.new.links.items))
-    (sym (c.deref-3.ensures.value ∙ ap (λ r. r.plan.changes) c.ready.view_is))
+    (sym (same_changes (goal.at.returns-clause-lean c).After-deref-3))
     (same_lean c.self.inside.names c.self.inside.names c.self.inside.shelves c.drop_plan.new.shelves c.self.inside.links.items
     c.drop_plan.new.links.items c.drop_plan.ensures.stays.waits
     (λ x none. ap (λ p. lookup (is_at (item_order x)) p.entries) c.drop_plan.ensures.stays.places)
