@@ -1,13 +1,13 @@
 -- Drafts of lists at places: one more, and one that grows.
 -- Plan: (1) the drafts at places, told by their ways back; (2) a draft comes at a place that had none (`ready_more`), or the one
 -- that is there changes (`ready_still`); (3) drafts go, one after another (`Dropping`), and at the end none is left
--- (`dropped`); (4) a list whose draft alone is set keeps what stands now (`set_keeps`, `set_ready`).
+-- (`dropped`); (4) a list whose draft alone is set keeps what stands now (`set_touches`, `set_ready`).
 use Rattle.std.proofs.Common.{◌≡◌, ◌≢◌, ◌⊎◌, ℕ, zero, suc, ◌+◌, ◌<◌, ◌≤◌, Option, None, IsSome, List, [], ◌∷◌, ◌++◌, length, get_or, set, drop, refl, ap, ◌∙◌, sym, subst, inl, inr, arith, add-one, drop-cons}
 use Rattle.std.proofs.lemmas.Bool.{cases_eq}
 use Rattle.std.proofs.lemmas.List.{drop_all, length-set}
 use Rattle.ifmap_view.specs.declared.views.LinkSeen.{LinkSeen}
 use Rattle.ifmap_graph.specs.Sides.{Sides}
-use Rattle.ifmap_graph.specs.Touched.{AreExactlyDrafted, KeepsLinks}
+use Rattle.ifmap_graph.specs.Touched.{AreExactlyDrafted, KeepsLinks, TouchesOne}
 use Rattle.ifmap_graph.specs.Turning.{AreDrafted, IsNamed, NoOthers, accepted_sides, sides_at}
 use Rattle.ifmap_graph.proofs.Turns.{at_set}
 use Rattle.ifmap_lemmas.specs.Options.{some_none}
@@ -95,26 +95,24 @@ module _ {T : Type 0} where
       (named_within ws (set ls w.0 (accepted_sides (sides_at ls w.0))) d.2 v n)
 
 -- a draft comes at a place that had none
-pub ready_more : (ways : List (ℕ × List LinkSeen)) (ls xs : List (Sides LinkSeen)) (place : ℕ) → AreExactlyDrafted ways ls → KeepsLinks ls
-    xs
-    → ((v : ℕ) → v ≢ place → sides_at xs v ≡ sides_at ls v) → (sides_at ls place).draft ≡ None → place < length ls
+pub ready_more : (ways : List (ℕ × List LinkSeen)) (ls xs : List (Sides LinkSeen)) (place : ℕ) → AreExactlyDrafted ways ls
+    → TouchesOne place ls xs → (sides_at ls place).draft ≡ None → place < length ls
     → IsSome (sides_at xs place).draft → AreExactlyDrafted (ways ++ (place, []) ∷ []) xs
-ready_more ways ls xs place r k f none within has = record {
-  drafted = drafted_more ways ls xs place [] k.long
-      (λ v n s. subst (λ (x : Sides LinkSeen). IsSome x.draft) (sym (f v n)) s) none
-      (subst (λ n. place < n) (sym k.long) within) has r.drafted;
-  no_others = others_more ways ls xs place [] f r.no_others;
+ready_more ways ls xs place r touched none within has = record {
+  drafted = drafted_more ways ls xs place [] touched.kept.long
+      (λ v n s. subst (λ (x : Sides LinkSeen). IsSome x.draft) (sym (touched.others v n)) s) none
+      (subst (λ n. place < n) (sym touched.kept.long) within) has r.drafted;
+  no_others = others_more ways ls xs place [] touched.others r.no_others;
 }
 
 -- the draft at a place that has one changes
-pub ready_still : (ways : List (ℕ × List LinkSeen)) (ls xs : List (Sides LinkSeen)) (place : ℕ) → AreExactlyDrafted ways ls → KeepsLinks ls
-    xs
-    → ((v : ℕ) → v ≢ place → sides_at xs v ≡ sides_at ls v) → IsSome (sides_at ls place).draft → IsSome (sides_at xs place).draft
+pub ready_still : (ways : List (ℕ × List LinkSeen)) (ls xs : List (Sides LinkSeen)) (place : ℕ) → AreExactlyDrafted ways ls
+    → TouchesOne place ls xs → IsSome (sides_at ls place).draft → IsSome (sides_at xs place).draft
     → AreExactlyDrafted ways xs
-ready_still ways ls xs place r k f had has = record {
-  drafted = drafted_still ways ls xs k.long (λ v s. elim (cases_eq v place) [
+ready_still ways ls xs place r touched had has = record {
+  drafted = drafted_still ways ls xs touched.kept.long (λ v s. elim (cases_eq v place) [
     | inl e ↦ subst (λ n. IsSome (sides_at xs n).draft) (sym e) has
-    | inr n ↦ subst (λ (x : Sides LinkSeen). IsSome x.draft) (sym (f v n)) s
+    | inr n ↦ subst (λ (x : Sides LinkSeen). IsSome x.draft) (sym (touched.others v n)) s
   ]) r.drafted;
   no_others = λ v. elim (cases_eq v place) [
     | inl e ↦ elim (r.no_others v) [
@@ -122,7 +120,7 @@ ready_still ways ls xs place r k f had has = record {
       | inr q ↦ inr q
     ]
     | inr n ↦ elim (r.no_others v) [
-      | inl q ↦ inl (ap (λ x. x.draft) (f v n) ∙ q)
+      | inl q ↦ inl (ap (λ x. x.draft) (touched.others v n) ∙ q)
       | inr q ↦ inr q
     ]
   ];
@@ -180,7 +178,7 @@ dropped first ways links i d h v = elim (d.left v) [
 ]
 
 -- a list at a place changes its draft alone
-pub set_keeps : (ls : List (Sides LinkSeen)) (place : ℕ) (s : Sides LinkSeen) → place < length ls → s.now ≡ (sides_at ls place).now
+set_keeps : (ls : List (Sides LinkSeen)) (place : ℕ) (s : Sides LinkSeen) → place < length ls → s.now ≡ (sides_at ls place).now
     → KeepsLinks ls (set ls place s)
 set_keeps ls place s h e = record {
   now = λ v. elim (at_set ls place v s h) [
@@ -203,9 +201,13 @@ set_there ls place s h = elim (at_set ls place place s h) [
   | inr p ↦ absurd (p.0 refl)
 ]
 
+pub set_touches : (ls : List (Sides LinkSeen)) (place : ℕ) (s : Sides LinkSeen) → place < length ls → s.now ≡ (sides_at ls place).now
+    → TouchesOne place ls (set ls place s)
+set_touches ls place s h e = record { kept = set_keeps ls place s h e; others = set_others ls place s h }
+
 pub set_ready : (ls : List (Sides LinkSeen)) (place : ℕ) (s : Sides LinkSeen) → place < length ls → s.now ≡ (sides_at ls place).now
     → IsSome (sides_at ls place).draft → IsSome s.draft → (ways : List (ℕ × List LinkSeen)) → AreExactlyDrafted ways ls
     → AreExactlyDrafted ways (set ls place s)
 set_ready ls place s h e had has ways r =
-    ready_still ways ls (set ls place s) place r (set_keeps ls place s h e) (set_others ls place s h) had
+    ready_still ways ls (set ls place s) place r (set_touches ls place s h e) had
     (subst (λ (x : Sides LinkSeen). IsSome x.draft) (sym (set_there ls place s h)) has)

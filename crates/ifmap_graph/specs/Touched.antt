@@ -72,3 +72,8 @@ pub record AreExactlyDrafted (ways : List (ℕ × List LinkSeen)) (links : List 
 pub record KeepsLinks (old new : List (Sides LinkSeen)) : Type 0 where
   pub now : (v : ℕ) → (sides_at new v).now ≡ (sides_at old v).now
   pub long : length new ≡ length old
+
+-- drafts come or go at one number alone
+pub record TouchesOne (place : ℕ) (old new : List (Sides LinkSeen)) : Type 0 where
+  pub kept : KeepsLinks old new
+  pub others : (v : ℕ) → v ≢ place → sides_at new v ≡ sides_at old v

@@ -1,12 +1,12 @@
 //! The links of numbers as they are to be, once the drafts of shelves are set: those that stay, and
 //! those that come. Each slot that comes to be full or empty is looked at once, for each number.
-ghost use Rattle.std.specs.Prelude.{◌≡◌, ◌≢◌, ◌<◌, ◌++◌, ℕ, List, [], ◌∷◌, Some, None, IfOk, IsSome, OnOk, length};
+ghost use Rattle.std.specs.Prelude.{◌≡◌, ◌<◌, ◌++◌, ℕ, List, [], ◌∷◌, Some, None, IfOk, IsSome, OnOk, length};
 ghost use Rattle.std.specs.List.{cons_option, filter_map};
 ghost use Rattle.slab.specs.Slab.{get};
 ghost use Rattle.ifmap_view.specs.declared.views.LinkSeen.{LinkSeen};
 ghost use Rattle.ifmap_graph.specs.Joined.{joined_pair, two_of};
 ghost use Rattle.ifmap_graph.specs.Linked.{far_of, seen_at};
-ghost use Rattle.ifmap_graph.specs.Touched.{AreExactlyDrafted, ArePairs, KeepsLinks, begun_draft, brought_link, exactly_one, draft_of, flip_in, flip_of, full_next, full_now, links_kept, touched_draft};
+ghost use Rattle.ifmap_graph.specs.Touched.{AreExactlyDrafted, ArePairs, KeepsLinks, TouchesOne, begun_draft, brought_link, exactly_one, draft_of, flip_in, flip_of, full_next, full_now, links_kept, touched_draft};
 ghost use Rattle.ifmap_graph.specs.Turning.{sides_at};
 
 use crate::ends::Ends;
@@ -186,9 +186,7 @@ fn begin_draft(
     requires place { place < length links.old.items }
     requires ready { AreExactlyDrafted ways.old.items links.old.items }
     ensures ready { AreExactlyDrafted ways.new.items links.new.items }
-    ensures kept { KeepsLinks links.old.items links.new.items }
-    ensures others { (v : ℕ) → v ≢ place
-        → sides_at links.new.items v ≡ sides_at links.old.items v }
+    ensures touched { TouchesOne place links.old.items links.new.items }
     ensures ok { OnOk result ((sides_at links.new.items place).draft ≡ Some (begun_draft slots.now
         (sides_at links.old.items place).draft (sides_at links.old.items place).now)) }
 {
@@ -204,9 +202,7 @@ fn begin_draft(
 // The draft of a number's links.
 fn set_draft(links: &mut Vec<Sided<LinkSeen>>, place: usize, draft: Vec<LinkSeen>)
     requires { place < length links.old.items }
-    ensures kept { KeepsLinks links.old.items links.new.items }
-    ensures others { (v : ℕ) → v ≢ place
-        → sides_at links.new.items v ≡ sides_at links.old.items v }
+    ensures touched { TouchesOne place links.old.items links.new.items }
     ensures draft { (sides_at links.new.items place).draft ≡ Some draft.items }
 {
     links[place].propose(draft);
@@ -216,9 +212,7 @@ fn set_draft(links: &mut Vec<Sided<LinkSeen>>, place: usize, draft: Vec<LinkSeen
 fn add_link(links: &mut Vec<Sided<LinkSeen>>, place: usize, seen: LinkSeen) -> Result<(), NoMemory>
     requires place { place < length links.old.items }
     requires drafted { IsSome (sides_at links.old.items place).draft }
-    ensures kept { KeepsLinks links.old.items links.new.items }
-    ensures others { (v : ℕ) → v ≢ place
-        → sides_at links.new.items v ≡ sides_at links.old.items v }
+    ensures touched { TouchesOne place links.old.items links.new.items }
     ensures ready { (ways : List (ℕ × List LinkSeen)) → AreExactlyDrafted ways links.old.items
         → AreExactlyDrafted ways links.new.items }
     ensures ok { OnOk result ((list : List LinkSeen)
@@ -241,9 +235,7 @@ fn touch_number(
     requires place { place < length links.old.items }
     requires ready { AreExactlyDrafted ways.old.items links.old.items }
     ensures ready { AreExactlyDrafted ways.new.items links.new.items }
-    ensures kept { KeepsLinks links.old.items links.new.items }
-    ensures others { (v : ℕ) → v ≢ place
-        → sides_at links.new.items v ≡ sides_at links.old.items v }
+    ensures touched { TouchesOne place links.old.items links.new.items }
     ensures ok { OnOk result ((sides_at links.new.items place).draft ≡ Some (begun_draft slots.now
         (sides_at links.old.items place).draft (sides_at links.old.items place).now
         ++ cons_option (brought_link slots.now place at) [])) }
@@ -303,9 +295,7 @@ pub(crate) fn touch_slots(
 // The draft at a place goes, where there is one.
 fn drop_draft(links: &mut Vec<Sided<LinkSeen>>, place: usize)
     requires { place < length links.old.items }
-    ensures kept { KeepsLinks links.old.items links.new.items }
-    ensures others { (v : ℕ) → v ≢ place
-        → sides_at links.new.items v ≡ sides_at links.old.items v }
+    ensures touched { TouchesOne place links.old.items links.new.items }
     ensures gone { (sides_at links.new.items place).draft ≡ None }
 {
     links[place].discard();

@@ -17,6 +17,5 @@ returns-clause-ready c =
     in subst (λ (w : List (ℕ × List LinkSeen)). AreExactlyDrafted w c.set_draft.new.links.items)
     (sym (c.in_ok-push.ensures.items ∙ ap (λ (y : ℕ × List LinkSeen). c.args.ways.now.items ++ y ∷ []) c.new.ensures))
     (ready_more c.args.ways.now.items c.args.links.now.items c.set_draft.new.links.items c.args.place c.requires.ready
-    c.set_draft.ensures.kept
-    c.set_draft.ensures.others none c.requires.place
+    c.set_draft.ensures.touched none c.requires.place
     (subst (λ (o : Option (List LinkSeen)). IsSome o) (sym c.set_draft.ensures.draft) refl))

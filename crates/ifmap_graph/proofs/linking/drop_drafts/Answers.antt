@@ -17,8 +17,8 @@ pub loop-way-preserved : goal.loop-way-preserved
 loop-way-preserved c =
     drops_on c.args.links.now.items c.args.ways.now c.loop-way.links.items c.drop_draft.new.links.items c.loop-way.way-index
     c.way-item.result
-    c.loop-way.invariant c.loop-way-test.true c.way-item.is c.drop_draft.ensures.kept
-    (λ v n. c.drop_draft.ensures.others v (λ e. n (e ∙ c.at.ensures)))
+    c.loop-way.invariant c.loop-way-test.true c.way-item.is c.drop_draft.ensures.touched.kept
+    (λ v n. c.drop_draft.ensures.touched.others v (λ e. n (e ∙ c.at.ensures)))
     (ap (λ (n : ℕ). (sides_at c.drop_draft.new.links.items n).draft) (sym c.at.ensures) ∙ c.drop_draft.ensures.gone)
 
 pub returns-clause-bare : goal.returns-clause-bare

@@ -12,4 +12,4 @@ returns-clause-ok c =
     (λ two. both_touched c.args.slots.now c.args.links.now.items c.touch_number.new.links.items c.touch_number-2.new.links.items c.args.at
     c.in-Some.numbers.0 c.in-Some.numbers.1 j
     (c.requires.pairs c.args.at c.in-Some.numbers.0 c.in-Some.numbers.1 j).2 c.in_ok-touch_number.ensures.ok
-    c.touch_number.ensures.others two c.touch_number-2.ensures.others) c.touch_number-2.ensures.ok
+    c.touch_number.ensures.touched.others two c.touch_number-2.ensures.touched.others) c.touch_number-2.ensures.ok
