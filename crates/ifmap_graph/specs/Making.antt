@@ -9,11 +9,11 @@ use Rattle.ifmap_plans.specs.Plans.{IsAfter, Fits}
 use Rattle.ifmap_pool.specs.Holdings.{Names, Holdings}
 use Rattle.ifmap_view.specs.declared.views.LinkSeen.{LinkSeen}
 use Rattle.ifmap_graph.specs.Bringing.{AreInside, BringsShelves, HasOwn, IsOther, Parts}
-use Rattle.ifmap_graph.specs.Drafted.{AreBare, AreOut, ends_at}
+use Rattle.ifmap_graph.specs.Drafted.{AreBare, AreOut, DraftsWithin, ends_at}
 use Rattle.ifmap_graph.specs.Out.{items_changed}
-use Rattle.ifmap_graph.specs.Shelved.{slot_of_item, rows_on_side}
+use Rattle.ifmap_graph.specs.Shelved.{AreShelved, slot_of_item, rows_on_side}
 use Rattle.ifmap_graph.specs.Sides.{next, now, Sides}
-use Rattle.ifmap_graph.specs.Touched.{AreExactlyDrafted}
+use Rattle.ifmap_graph.specs.Touched.{AreExactlyDrafted, KeepsLinks}
 use Rattle.ifmap_graph.specs.Turning.{sides_at}
 use Rattle.ifmap_graph.specs.Waits.{WaitsFor}
 use Rattle.slab.specs.Slab.{get}
@@ -29,6 +29,22 @@ pub record CanBeDrafted (shelves : Shelves) (links : List (Sides LinkSeen)) (way
   pub ready : AreExactlyDrafted ways links
   pub there : AllByRecursion (λ x. IsSome (slot_of_item shelves x)) (items_changed changes)
   pub fits : Fits (rows_on_side now shelves) changes
+
+-- drafts of a change stand, though not all may: what is there stays
+pub record HasDrafts (changes : List ItemChange) (ways : List (ℕ × List LinkSeen)) (old new : Shelves) (first later : List (Sides LinkSeen))
+    : Type 0 where
+  pub shelved : AreShelved new
+  pub now : rows_on_side now new ≡ rows_on_side now old
+  pub within : DraftsWithin (items_changed changes) new
+  pub links : KeepsLinks first later
+  pub ready : AreExactlyDrafted ways later
+
+-- all of them stand
+pub record HasAllDrafts (changes : List ItemChange) (old new : Shelves) (first later : List (Sides LinkSeen)) : Type 0 where
+  pub inside : (names : Holdings Identifier) → IsInside names (get old.slots) old.places.entries first
+      → IsInside names (get new.slots) new.places.entries later
+  pub next : IsAfter changes (rows_on_side now old) (rows_on_side next new)
+  pub out : AreOut (items_changed changes) new
 
 -- a change is out, with these ways: its drafts stand, its items are waited for once more, and what is there stays
 pub record IsMade (changes : List ItemChange) (ways : List (ℕ × List LinkSeen)) (old new : Parts) : Type 0 where

@@ -2,17 +2,13 @@
 ghost use Rattle.std.specs.Prelude.{◌≡◌, ◌⊎◌, ℕ, true, None, IsSome, OnErr, OnOk, if◌then◌else◌};
 ghost use Rattle.std.specs.BTreeMap.{is_at};
 ghost use Rattle.std.specs.List.{AllByRecursion};
-ghost use Rattle.slab.specs.Slab.{get};
-ghost use Rattle.ifmap_ident.specs.declared.identifiers.Identifier.{Identifier};
 ghost use Rattle.ifmap_ident.specs.declared.items.Item.{Item};
 ghost use Rattle.ifmap_ident.specs.Items.{item_order};
 ghost use Rattle.ifmap_plans.specs.Lists.{next_on};
 ghost use Rattle.ifmap_plans.specs.Plans.{Fits, IsAfter};
-ghost use Rattle.ifmap_pool.specs.Holdings.{Holdings};
 ghost use Rattle.ifmap_view.specs.Rows.{stored_on};
 ghost use Rattle.ifmap_graph.specs.Drafted.{AreBare, AreOut, DraftsWithin, StayInPlace, ends_at};
-ghost use Rattle.ifmap_graph.specs.Held.{IsInside};
-ghost use Rattle.ifmap_graph.specs.Making.{CanBeDrafted};
+ghost use Rattle.ifmap_graph.specs.Making.{CanBeDrafted, HasAllDrafts, HasDrafts};
 ghost use Rattle.ifmap_graph.specs.Out.{items_changed};
 ghost use Rattle.ifmap_graph.specs.Shelved.{AreShelved, HasDraft, slot_of_item, rows_on_side};
 ghost use Rattle.ifmap_graph.specs.Sides.{next, now};
@@ -88,17 +84,10 @@ pub(crate) fn draft_plan(
     ways: &mut Vec<Way<LinkSeen>>,
 ) -> Result<(), NoMemory>
     requires { CanBeDrafted shelves.old links.old.items ways.old.items changes.now }
-    ensures shelved { AreShelved shelves.new }
-    ensures inside { OnOk result ((names : Holdings Identifier)
-        → IsInside names (get shelves.old.slots) shelves.old.places.entries links.old.items
-        → IsInside names (get shelves.new.slots) shelves.new.places.entries links.new.items) }
-    ensures now { rows_on_side now shelves.new ≡ rows_on_side now shelves.old }
-    ensures next { OnOk result
-        (IsAfter changes.now (rows_on_side now shelves.old) (rows_on_side next shelves.new)) }
-    ensures within { DraftsWithin (items_changed changes.now) shelves.new }
-    ensures out { OnOk result (AreOut (items_changed changes.now) shelves.new) }
-    ensures links { KeepsLinks links.old.items links.new.items }
-    ensures ready { AreExactlyDrafted ways.new.items links.new.items }
+    ensures drafts { HasDrafts changes.now ways.new.items shelves.old shelves.new links.old.items
+        links.new.items }
+    ensures all { OnOk result (HasAllDrafts changes.now shelves.old shelves.new links.old.items
+        links.new.items) }
     ensures stays { StayInPlace shelves.old shelves.new }
 {
     draft_changes(shelves, alloc, changes)?;
@@ -115,19 +104,12 @@ pub(crate) fn draft_and_wait(
     ways: &mut Vec<Way<LinkSeen>>,
 ) -> Result<(), NoMemory>
     requires { CanBeDrafted shelves.old links.old.items ways.old.items changes.now }
-    ensures shelved { AreShelved shelves.new }
-    ensures inside { OnOk result ((names : Holdings Identifier)
-        → IsInside names (get shelves.old.slots) shelves.old.places.entries links.old.items
-        → IsInside names (get shelves.new.slots) shelves.new.places.entries links.new.items) }
-    ensures now { rows_on_side now shelves.new ≡ rows_on_side now shelves.old }
-    ensures next { OnOk result
-        (IsAfter changes.now (rows_on_side now shelves.old) (rows_on_side next shelves.new)) }
-    ensures within { DraftsWithin (items_changed changes.now) shelves.new }
-    ensures out { OnOk result (AreOut (items_changed changes.now) shelves.new) }
+    ensures drafts { HasDrafts changes.now ways.new.items shelves.old shelves.new links.old.items
+        links.new.items }
+    ensures all { OnOk result (HasAllDrafts changes.now shelves.old shelves.new links.old.items
+        links.new.items) }
     ensures waited { OnOk result (WaitsFor (items_changed changes.now) shelves.old shelves.new) }
     ensures waits { OnErr result ((x : Item) → waits_on shelves.new x ≡ waits_on shelves.old x) }
-    ensures links { KeepsLinks links.old.items links.new.items }
-    ensures ready { AreExactlyDrafted ways.new.items links.new.items }
     ensures ends { (at : ℕ) → ends_at shelves.new at ≡ ends_at shelves.old at }
     ensures places { shelves.new.places ≡ shelves.old.places }
 {

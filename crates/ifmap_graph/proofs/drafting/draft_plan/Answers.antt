@@ -14,15 +14,18 @@ touch_slots-requires-clause-pairs c =
     c.draft_changes.ensures.shelved
     c.draft_changes.ensures.stays.places c.draft_changes.ensures.stays.ends
 
-pub returns-clause-inside : goal.returns-clause-inside
-returns-clause-inside c =
+pub returns-clause-all : goal.returns-clause-all
+returns-clause-all c =
     on_ok_weaker c.touch_slots.result
-    (λ drafts names is. inside_drafted names c.args.shelves.now c.draft_changes.new.shelves c.args.links.now.items
-    c.touch_slots.new.links.items is
-    c.draft_changes.ensures.shelved c.draft_changes.ensures.stays.places c.draft_changes.ensures.stays.ends c.draft_changes.ensures.now
-    c.args.changes.now c.requires.fits
-    c.in_ok-draft_changes.ensures.next c.in_ok-draft_changes.ensures.out c.touch_slots.ensures.kept
-    (λ v. drafts v
-    ∙ ap (λ (l : List ℕ). draft_of c.draft_changes.new.shelves.slots l v (sides_at c.args.links.now.items v).now)
-    (c.deref.ensures.value ∙ c.in_ok-touched.ensures ∙ flips_mapped c.draft_changes.new.shelves c.args.changes.now)))
+    (λ drafts. record {
+      inside = λ names is. inside_drafted names c.args.shelves.now c.draft_changes.new.shelves c.args.links.now.items
+          c.touch_slots.new.links.items is c.draft_changes.ensures.shelved c.draft_changes.ensures.stays.places
+          c.draft_changes.ensures.stays.ends c.draft_changes.ensures.now c.args.changes.now c.requires.fits
+          c.in_ok-draft_changes.ensures.next c.in_ok-draft_changes.ensures.out c.touch_slots.ensures.kept
+          (λ v. drafts v
+          ∙ ap (λ (l : List ℕ). draft_of c.draft_changes.new.shelves.slots l v (sides_at c.args.links.now.items v).now)
+          (c.deref.ensures.value ∙ c.in_ok-touched.ensures ∙ flips_mapped c.draft_changes.new.shelves c.args.changes.now));
+      next = c.in_ok-draft_changes.ensures.next;
+      out = c.in_ok-draft_changes.ensures.out;
+    })
     c.touch_slots.ensures.ok

@@ -38,9 +38,9 @@ take_shelves-requires c = record {
         c.requires.inside
         c.drop_plan.ensures.shelved (c.drop_plan.ensures.stays.places ∙ c.draft_and_wait.ensures.places)
         (λ at. c.drop_plan.ensures.stays.ends at ∙ c.draft_and_wait.ensures.ends at) (c.drop_plan.ensures.now
-        ∙ c.draft_and_wait.ensures.now)
-        (c.drop_plan.ensures.next ∙ c.draft_and_wait.ensures.now)
-        (kept_both c.args.links.now.items c.draft_and_wait.new.links.items c.drop_plan.new.links.items c.draft_and_wait.ensures.links
+        ∙ c.draft_and_wait.ensures.drafts.now)
+        (c.drop_plan.ensures.next ∙ c.draft_and_wait.ensures.drafts.now)
+        (kept_both c.args.links.now.items c.draft_and_wait.new.links.items c.drop_plan.new.links.items c.draft_and_wait.ensures.drafts.links
         c.drop_plan.ensures.links)
         c.drop_plan.ensures.none,
   );
@@ -49,7 +49,7 @@ take_shelves-requires c = record {
   long = c.requires.long;
   brought = (
     c.requires.brought.0,
-    c.requires.brought.1 ∙ sym (c.drop_plan.ensures.now ∙ c.draft_and_wait.ensures.now),
+    c.requires.brought.1 ∙ sym (c.drop_plan.ensures.now ∙ c.draft_and_wait.ensures.drafts.now),
     brings_written (flagged_items (items_changed c.args.coming.now.changes.now) c.args.coming.now.fresh.now) c.requires.brought.0
         c.args.shelves.now
         c.drop_plan.new.shelves
@@ -66,8 +66,8 @@ returns-in-Ok-clause-made c = λ first grown brought.
     c.args.coming.now.fresh.now) first
     (graph_parts c.args.names.now c.args.shelves.now c.args.links.now.items) c.draft_and_wait.new.shelves c.draft_and_wait.new.links.items
     grown brought
-    (c.in-Ok.ensures.inside c.args.names.now c.requires.inside) c.draft_and_wait.ensures.now c.in-Ok.ensures.next c.in-Ok.ensures.out
-    c.draft_and_wait.ensures.ready c.draft_and_wait.ensures.links c.draft_and_wait.ensures.ends c.draft_and_wait.ensures.places
+    (c.in-Ok.ensures.all.inside c.args.names.now c.requires.inside) c.draft_and_wait.ensures.drafts.now c.in-Ok.ensures.all.next c.in-Ok.ensures.all.out
+    c.draft_and_wait.ensures.drafts.ready c.draft_and_wait.ensures.drafts.links c.draft_and_wait.ensures.ends c.draft_and_wait.ensures.places
     (other_marked (items_changed c.args.coming.now.changes.now) c.args.coming.now.fresh.now) c.in-Ok.ensures.waited
 
 pub returns-in-Err-clause-unmade : goal.returns-in-Err-clause-unmade
@@ -78,15 +78,15 @@ returns-in-Err-clause-unmade c = λ first is grown brought.
     (inside_dropped c.args.names.now c.args.shelves.now c.drop_plan.new.shelves c.args.links.now.items c.drop_plan.new.links.items
     c.requires.inside
     c.drop_plan.ensures.shelved (c.drop_plan.ensures.stays.places ∙ c.draft_and_wait.ensures.places)
-    (λ at. c.drop_plan.ensures.stays.ends at ∙ c.draft_and_wait.ensures.ends at) (c.drop_plan.ensures.now ∙ c.draft_and_wait.ensures.now)
-    (c.drop_plan.ensures.next ∙ c.draft_and_wait.ensures.now)
-    (kept_both c.args.links.now.items c.draft_and_wait.new.links.items c.drop_plan.new.links.items c.draft_and_wait.ensures.links
+    (λ at. c.drop_plan.ensures.stays.ends at ∙ c.draft_and_wait.ensures.ends at) (c.drop_plan.ensures.now ∙ c.draft_and_wait.ensures.drafts.now)
+    (c.drop_plan.ensures.next ∙ c.draft_and_wait.ensures.drafts.now)
+    (kept_both c.args.links.now.items c.draft_and_wait.new.links.items c.drop_plan.new.links.items c.draft_and_wait.ensures.drafts.links
     c.drop_plan.ensures.links)
     c.drop_plan.ensures.none))
     (c.take_shelves.ensures.less.bare c.drop_plan.ensures.bare) c.drop_plan.ensures.none
-    (c.take_shelves.ensures.less.rows ∙ c.drop_plan.ensures.now ∙ c.draft_and_wait.ensures.now ∙ grown.now)
-    (λ v. c.drop_plan.ensures.links.now v ∙ c.draft_and_wait.ensures.links.now v ∙ ap (λ s. s.now) (grown.links v))
-    (omega (arith, grown.longer, c.drop_plan.ensures.links.long, c.draft_and_wait.ensures.links.long))
+    (c.take_shelves.ensures.less.rows ∙ c.drop_plan.ensures.now ∙ c.draft_and_wait.ensures.drafts.now ∙ grown.now)
+    (λ v. c.drop_plan.ensures.links.now v ∙ c.draft_and_wait.ensures.drafts.links.now v ∙ ap (λ s. s.now) (grown.links v))
+    (omega (arith, grown.longer, c.drop_plan.ensures.links.long, c.draft_and_wait.ensures.drafts.links.long))
     (λ a own h. c.take_shelves.ensures.less.own a own
     (subst (λ p. IsHeld identifier_order c.args.names.now a (named_in p.entries a + own))
     (sym (c.drop_plan.ensures.stays.places ∙ c.draft_and_wait.ensures.places))
