@@ -46,6 +46,7 @@ pub mod Returning
 pub mod Restoring
 pub mod Written
 pub mod Brought
+pub mod Placed
 pub mod Removing
 pub mod Marks
 pub mod Grown
