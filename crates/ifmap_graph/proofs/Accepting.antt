@@ -43,6 +43,13 @@ here_mapped f xs i d h =
 pub as_many : (changes : List ItemChange) → length (items_changed changes) ≡ length changes
 as_many changes = length-map changes (λ (c : ItemChange). c.item)
 
+pub item_at : (changes : List ItemChange) (i : ℕ) (c : ItemChange) → i < length changes → c ≡ get_or changes i c
+    → (i < length (items_changed changes)) × (get_or (items_changed changes) i c.item ≡ c.item)
+item_at changes i c h is = (
+  omega (arith, h, as_many changes),
+  get_or-map (λ (x : ItemChange). x.item) changes i c c.item h ∙ ap (λ (x : ItemChange). x.item) (sym is),
+)
+
 pub here_changed : (changes : List ItemChange) (i : ℕ) (d : ItemChange) → i < length changes
     → drop i (items_changed changes) ≡ (get_or changes i d).item ∷ drop (i + 1) (items_changed changes)
 here_changed = here_mapped (λ (c : ItemChange). c.item)

@@ -1,9 +1,9 @@
 use Rattle.std.proofs.Common.{◌++◌, ◌∷◌, [], Bool, List, length, ap, ◌∙◌, sym, subst, arith}
-use Rattle.std.proofs.lemmas.List.{get_or-map, length-map}
 use Rattle.ifmap_ident.specs.Items.{IsCanonItem}
 use Rattle.ifmap_plans.specs.declared.plans.ItemChange.{ItemChange}
 use Rattle.ifmap_graph.specs.Bringing.{BringsShelves, flagged_items, graph_parts}
 use Rattle.ifmap_graph.specs.Out.{items_changed}
+use Rattle.ifmap_graph.proofs.Accepting.{as_many, item_at}
 use Rattle.ifmap_graph.proofs.Grown.{few_kept, grown_on, placed_there, places_none, places_on, placing}
 use Rattle.ifmap_graph.proofs.bringing.place_items.Goals as goal
 use Rattle.ifmap_lemmas.specs.Members.{all_of_map}
@@ -31,14 +31,12 @@ place_missing-requires-clause-few c =
 
 pub loop-change-preserved : goal.loop-change-preserved
 loop-change-preserved c =
-    places_on (items_changed c.args.changes.now) (graph_parts c.args.names.now c.args.shelves.now c.args.links.now.items)
+    let here = item_at c.args.changes.now c.loop-change.change-index c.change-item.result c.loop-change-test.true c.change-item.is
+    in places_on (items_changed c.args.changes.now) (graph_parts c.args.names.now c.args.shelves.now c.args.links.now.items)
     (graph_parts c.loop-change.names c.loop-change.shelves c.loop-change.links.items)
     (graph_parts c.place_missing.new.names c.place_missing.new.shelves c.place_missing.new.links.items) c.loop-change.fresh.items
     c.loop-change.change-index c.loop-change.invariant c.place_missing.ensures.grown c.change-item.result.item c.in_ok-comes.comes _
-    (omega (arith, c.loop-change-test.true, length-map c.args.changes.now (λ (x : ItemChange). x.item)))
-    (get_or-map (λ (x : ItemChange). x.item) c.args.changes.now c.loop-change.change-index c.change-item.result c.change-item.result.item
-    c.loop-change-test.true
-    ∙ ap (λ (x : ItemChange). x.item) (sym c.change-item.is))
+    here.0 here.1
     (c.push_reserved.ensures.items ∙ ap (λ (l : List Bool). l ++ c.in_ok-comes.comes ∷ []) c.reserve.ensures.items)
     c.in_ok-comes.ensures.brought c.in_ok-comes.ensures.there
 
@@ -48,7 +46,7 @@ returns c = record {
   brought = c.loop-change.invariant.brought;
   there = placed_there (items_changed c.args.changes.now) (graph_parts c.args.names.now c.args.shelves.now c.args.links.now.items)
       (graph_parts c.loop-change.names c.loop-change.shelves c.loop-change.links.items) c.loop-change.fresh.items c.loop-change.change-index
-      (omega (arith, c.loop-change-test.false, length-map c.args.changes.now (λ (x : ItemChange). x.item))) c.loop-change.invariant;
+      (omega (arith, c.loop-change-test.false, as_many c.args.changes.now)) c.loop-change.invariant;
   long = omega (arith, c.loop-change.invariant.long, c.loop-change.auto.change-index-end);
 }
 

@@ -1,10 +1,10 @@
 use Rattle.std.proofs.Common.{◌≡◌, ◌+◌, ◌≤◌, ◌∷◌, List, [], drop, length, ap, sym, ◌∙◌, arith}
-use Rattle.std.proofs.lemmas.List.{drop_all, length-map}
+use Rattle.std.proofs.lemmas.List.{drop_all}
 use Rattle.ifmap_ident.specs.declared.items.Item.{Item}
 use Rattle.ifmap_plans.specs.declared.plans.ItemChange.{ItemChange}
 use Rattle.ifmap_graph.specs.Out.{items_changed}
 use Rattle.ifmap_graph.specs.Waits.{times_in}
-use Rattle.ifmap_graph.proofs.Accepting.{here_changed}
+use Rattle.ifmap_graph.proofs.Accepting.{as_many, here_changed}
 use Rattle.ifmap_graph.proofs.Lessening.{less_itself, less_on}
 use Rattle.ifmap_graph.proofs.Waited.{one_time, times_append}
 use Rattle.ifmap_graph.proofs.releasing.release_items.Goals as goal
@@ -52,7 +52,7 @@ pub returns : goal.returns
 returns c =
     let items = items_changed c.args.changes.now
     in let all : length items ≤ c.loop-change.change-index
-    = omega (arith, c.loop-change-test.false, length-map c.args.changes.now (λ (x : ItemChange). x.item))
+    = omega (arith, c.loop-change-test.false, as_many c.args.changes.now)
     in record {
       less = c.loop-change.invariant.0;
       waits = λ x. omega (

@@ -1,7 +1,6 @@
-use Rattle.std.proofs.Common.{◌≡◌, ◌<◌, length, get_or, ap, ◌∙◌, sym, arith}
-use Rattle.std.proofs.lemmas.List.{get_or-map, length-map}
-use Rattle.ifmap_plans.specs.declared.plans.ItemChange.{ItemChange}
+use Rattle.std.proofs.Common.{arith}
 use Rattle.ifmap_graph.specs.Out.{items_changed}
+use Rattle.ifmap_graph.proofs.Accepting.{as_many, item_at}
 use Rattle.ifmap_graph.proofs.Waits.{has_place, is_few, waited_all, waiting, waits_on_more}
 use Rattle.ifmap_graph.proofs.waiting.wait_for.Goals as goal
 
@@ -11,33 +10,21 @@ loop-change-init c = waiting (items_changed c.args.changes.now) c.args.shelves.n
 
 pub wait-requires : goal.wait-requires
 wait-requires c =
-    let h : c.loop-change.change-index < length (items_changed c.args.changes.now)
-    = omega (arith, c.loop-change-test.true, length-map c.args.changes.now (λ (x : ItemChange). x.item))
-    in let is : get_or (items_changed c.args.changes.now) c.loop-change.change-index c.change-item.result.item ≡ c.change-item.result.item
-    = get_or-map (λ (x : ItemChange). x.item) c.args.changes.now c.loop-change.change-index c.change-item.result c.change-item.result.item
-    c.loop-change-test.true
-    ∙ ap (λ (x : ItemChange). x.item) (sym c.change-item.is)
+    let here = item_at c.args.changes.now c.loop-change.change-index c.change-item.result c.loop-change-test.true c.change-item.is
     in record {
       shelved = c.loop-change.invariant.shelved;
       there = has_place (items_changed c.args.changes.now) c.args.shelves.now c.loop-change.shelves c.loop-change.change-index
-          c.change-item.result.item h is
-          c.loop-change.invariant;
+          c.change-item.result.item here.0 here.1 c.loop-change.invariant;
       few = is_few (items_changed c.args.changes.now) c.args.shelves.now c.loop-change.shelves c.loop-change.change-index
-          c.change-item.result.item h is
-          c.loop-change.invariant;
+          c.change-item.result.item here.0 here.1 c.loop-change.invariant;
     }
 
 pub loop-change-preserved : goal.loop-change-preserved
 loop-change-preserved c =
-    let h : c.loop-change.change-index < length (items_changed c.args.changes.now)
-    = omega (arith, c.loop-change-test.true, length-map c.args.changes.now (λ (x : ItemChange). x.item))
-    in let is : get_or (items_changed c.args.changes.now) c.loop-change.change-index c.change-item.result.item ≡ c.change-item.result.item
-    = get_or-map (λ (x : ItemChange). x.item) c.args.changes.now c.loop-change.change-index c.change-item.result c.change-item.result.item
-    c.loop-change-test.true
-    ∙ ap (λ (x : ItemChange). x.item) (sym c.change-item.is)
+    let here = item_at c.args.changes.now c.loop-change.change-index c.change-item.result c.loop-change-test.true c.change-item.is
     in waits_on_more (items_changed c.args.changes.now) c.args.shelves.now c.loop-change.shelves c.loop-change.change-index
-    c.change-item.result.item h is
-    c.loop-change.invariant c.wait.new.self c.wait.ensures.shelved c.wait.ensures.now c.wait.ensures.next c.wait.ensures.waits
+    c.change-item.result.item here.0 here.1 c.loop-change.invariant c.wait.new.self
+    c.wait.ensures.shelved c.wait.ensures.now c.wait.ensures.next c.wait.ensures.waits
     c.wait.ensures.drafts c.wait.ensures.kept c.wait.ensures.ends c.wait.ensures.places
 
 pub returns : goal.returns
@@ -46,7 +33,7 @@ returns c = record {
   now = c.loop-change.invariant.same;
   next = c.loop-change.invariant.other;
   waits = waited_all (items_changed c.args.changes.now) c.args.shelves.now c.loop-change.shelves c.loop-change.change-index
-      (omega (arith, c.loop-change-test.false, length-map c.args.changes.now (λ (x : ItemChange). x.item))) c.loop-change.invariant;
+      (omega (arith, c.loop-change-test.false, as_many c.args.changes.now)) c.loop-change.invariant;
   drafts = c.loop-change.invariant.drafts;
   kept = c.loop-change.invariant.kept;
   ends = c.loop-change.invariant.ends;
