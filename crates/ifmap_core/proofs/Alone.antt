@@ -98,29 +98,35 @@ errors_fit n size (x ∷ live) h =
       | inr miss ↦ rw miss (h.0, errors_fit n size live h.1)
     ]
 
-module _ (a : Asking) (old new : Parts) (before after : Pending) (n size : ℕ) (up : IsStrictlySortedBy session_order old.sessions.live)
-    (live : IsLive n (sessions_left a old.sessions)) (rows : new.graph ≡ old.graph) (standing : new.standing.items ≡ old.standing.items)
-    (sessions : HasSameSessions old.sessions new.sessions)
-    (told : (s : Session) → session_with_serial n old.sessions.live ≡ Some s → get nat_cmp after.tellings n ≡ Some
-    (Alone (error_of size s.limit)))
-    (others : (m : ℕ) → m ≢ n → get nat_cmp after.tellings m ≡ get nat_cmp before.tellings m) where
+-- a session that is left was told one error in place of all, and what the others are told stays
+pub record IsToldAlone (a : Asking) (old new : Parts) (before after : Pending) (n size : ℕ) : Type 0 where
+  pub up : IsStrictlySortedBy session_order old.sessions.live
+  pub live : IsLive n (sessions_left a old.sessions)
+  pub rows : new.graph ≡ old.graph
+  pub standing : new.standing.items ≡ old.standing.items
+  pub sessions : HasSameSessions old.sessions new.sessions
+  pub told : (s : Session) → session_with_serial n old.sessions.live ≡ Some s
+      → get nat_cmp after.tellings n ≡ Some (Alone (error_of size s.limit))
+  pub others : (m : ℕ) → m ≢ n → get nat_cmp after.tellings m ≡ get nat_cmp before.tellings m
+
+module _ {a : Asking} {old new : Parts} {before after : Pending} {n size : ℕ} (h : IsToldAlone a old new before after n size) where
   there : (s : Session) × (session_with_serial n old.sessions.live ≡ Some s)
-  there = some_is (session_with_serial n old.sessions.live) (live_left a n old.sessions live)
+  there = some_is (session_with_serial n old.sessions.live) (live_left a n old.sessions h.live)
 
   told_now : map (told_by after.tellings) (sessions_left a new.sessions)
       ≡ change n (λ (x : Session). with_error (error_of size x.limit) x) (map (told_by before.tellings) (sessions_left a old.sessions))
   told_now =
-      ap (λ (l : List Session). map (told_by after.tellings) (without_sessions a.ended l)) sessions.live
-      ∙ told_each n size before.tellings after.tellings old.sessions.live told others there.0 there.1 (sessions_left a old.sessions)
+      ap (λ (l : List Session). map (told_by after.tellings) (without_sessions a.ended l)) h.sessions.live
+      ∙ told_each n size before.tellings after.tellings old.sessions.live h.told h.others there.0 there.1 (sessions_left a old.sessions)
       (all_filter (λ (x : Session). (x.serial == n) ≡ true → x ≡ there.0) (is_left a.ended) old.sessions.live
-      (one_numbered n old.sessions.live there.0 up there.1))
+      (one_numbered n old.sessions.live there.0 h.up there.1))
 
   pub alone_so_far : map standing_of (kept_of after.gone.items old.standing.items)
       ≡ without_standing (n ∷ []) (map standing_of (kept_of before.gone.items old.standing.items))
       → so_far a new after ≡ alone_told n size (so_far a old before)
   alone_so_far gone =
-      ap (λ (k : ℕ). record (so_far a new after) { counter = k }) sessions.counter
-      ∙ ap (λ h. record (so_far a new after) { counter = old.sessions.counter; graph = rows_now h }) rows
+      ap (λ (k : ℕ). record (so_far a new after) { counter = k }) h.sessions.counter
+      ∙ ap (λ g. record (so_far a new after) { counter = old.sessions.counter; graph = rows_now g }) h.rows
       ∙ ap (λ (l : List Session). record (so_far a old after) {
         sessions = l;
         standing = map standing_of
@@ -129,7 +135,7 @@ module _ (a : Asking) (old new : Parts) (before after : Pending) (n size : ℕ) 
       ∙ ap (λ (xs : List Standing). record (alone_told n size (so_far a old before)) {
         standing = map standing_of
             (kept_of after.gone.items xs);
-      }) standing
+      }) h.standing
       ∙ ap (λ (xs : List machine.Standing). record (alone_told n size (so_far a old before)) { standing = xs }) gone
 
   pub alone_ready : IsSoundSoFar a old before → length after.gone.items ≡ length old.standing.items → Rises before.gone.items
@@ -139,17 +145,17 @@ module _ (a : Asking) (old new : Parts) (before after : Pending) (n size : ℕ) 
   alone_ready r flags more bare room =
       let long : length after.gone.items ≡ length before.gone.items = flags ∙ sym r.flags in
       record {
-        ended = rw (sessions.live) r.ended;
-        ordered = rw (sessions.live, standing) r.ordered;
-        flags = rw standing flags;
-        kept = rw (rows, standing) (kept_fewer _ before.gone.items after.gone.items old.standing.items long more r.kept);
-        live = rw (sessions.live, standing) (kept_fewer _ before.gone.items after.gone.items old.standing.items long more r.live);
-        queues = rw (sessions.live) r.queues;
+        ended = rw (h.sessions.live) r.ended;
+        ordered = rw (h.sessions.live, h.standing) r.ordered;
+        flags = rw (h.standing) flags;
+        kept = rw (h.rows, h.standing) (kept_fewer _ before.gone.items after.gone.items old.standing.items long more r.kept);
+        live = rw (h.sessions.live, h.standing) (kept_fewer _ before.gone.items after.gone.items old.standing.items long more r.live);
+        queues = rw (h.sessions.live) r.queues;
         within = subst AreWithinLimits (sym told_now)
             (errors_fit n size (map (told_by before.tellings) (sessions_left a old.sessions)) r.within);
         can_tell = can_each r;
         sized = sized_each r;
-        alone = rw standing (alone_each r long more bare);
+        alone = rw (h.standing) (alone_each r long more bare);
       }
     where
       can_each : IsSoundSoFar a old before → EachTelling (CanTell (rest_of a new.sessions)) after.tellings
@@ -158,17 +164,17 @@ module _ (a : Asking) (old new : Parts) (before after : Pending) (n size : ℕ) 
             | inl hit ↦
                 let here : m ≡ n = eqb-true m n hit in
                 let is : Alone (error_of size there.0.limit) ≡ t =
-                same_Some _ t (sym (told there.0 there.1) ∙ ap (get nat_cmp after.tellings) (sym here) ∙ e) in
+                same_Some _ t (sym (h.told there.0 there.1) ∙ ap (get nat_cmp after.tellings) (sym here) ∙ e) in
                 subst (λ (k : ℕ). CanTell (rest_of a new.sessions) k t) (sym here)
                 (subst (λ (u : Telling). CanTell (rest_of a new.sessions) n u) is (record {
-                  live = subst (λ (l : List Session). IsLive n (without_sessions a.ended l)) (sym sessions.live) live;
+                  live = subst (λ (l : List Session). IsLive n (without_sessions a.ended l)) (sym h.sessions.live) h.live;
                   room = room;
                 }))
             | inr miss ↦
-                let was = r.can_tell m t (sym (others m (other_number m n miss)) ∙ e) in
+                let was = r.can_tell m t (sym (h.others m (other_number m n miss)) ∙ e) in
                 record {
-                  live = subst (λ (l : List Session). IsLive m (without_sessions a.ended l)) (sym sessions.live) was.live;
-                  room = omega (arith, was.room, sessions.spare m);
+                  live = subst (λ (l : List Session). IsLive m (without_sessions a.ended l)) (sym h.sessions.live) was.live;
+                  room = omega (arith, was.room, h.sessions.spare m);
                 }
           ]
 
@@ -178,9 +184,9 @@ module _ (a : Asking) (old new : Parts) (before after : Pending) (n size : ℕ) 
             | inl hit ↦
                 let here : m ≡ n = eqb-true m n hit in
                 let is : Alone (error_of size there.0.limit) ≡ t =
-                same_Some _ t (sym (told there.0 there.1) ∙ ap (get nat_cmp after.tellings) (sym here) ∙ e) in
+                same_Some _ t (sym (h.told there.0 there.1) ∙ ap (get nat_cmp after.tellings) (sym here) ∙ e) in
                 subst (λ (u : Telling). IsSized m u new.sessions.live) is (limit_note size there.0.limit, refl)
-            | inr miss ↦ rw (sessions.live) (r.sized m t (sym (others m (other_number m n miss)) ∙ e))
+            | inr miss ↦ rw (h.sessions.live) (r.sized m t (sym (h.others m (other_number m n miss)) ∙ e))
           ]
 
       alone_each : IsSoundSoFar a old before → length after.gone.items ≡ length before.gone.items → Rises before.gone.items after.gone.items
@@ -193,5 +199,5 @@ module _ (a : Asking) (old new : Parts) (before after : Pending) (n size : ℕ) 
                 (sym (eqb-true m n hit)) bare
             | inr miss ↦
                 kept_fewer (λ (x : Standing). x.serial ≢ m) before.gone.items after.gone.items old.standing.items long more
-                (r.alone m (ap is_alone (sym (others m (other_number m n miss))) ∙ e))
+                (r.alone m (ap is_alone (sym (h.others m (other_number m n miss))) ∙ e))
           ]
