@@ -2,3 +2,4 @@ pub mod PartLaws
 pub mod NumberLaws
 pub mod KindLaws
 pub mod ItemLaws
+pub mod ListedLaws

@@ -18,6 +18,7 @@ use Rattle.ifmap_ident.specs.Items.{pair_of}
 use Rattle.ifmap_ident.specs.Parts.{has_only}
 use Rattle.ifmap_forms.specs.declared.errors.FormError.{FormError}
 use Rattle.ifmap_forms.specs.declared.errors.FormError.TheVariants as form
+use Rattle.ifmap_forms.specs.declared.lists.Listed.{Listed}
 use Rattle.ifmap_forms.specs.Checks.{Check, check_then, fail, need, need_some, pass}
 use Rattle.ifmap_forms.specs.Tables.{ContentCheck, Part, each_element, is_white_part, element_parts}
 
@@ -100,6 +101,10 @@ abbrev pub from_list : List Part → List Part
 from_list [] = []
 from_list (part ∷ parts) = if is_list part then part ∷ parts else from_list parts
 
+-- an item of the identifiers, beside the list
+abbrev pub listed_from : {X : Type 0} → List Identifier → Option (List X) → Check (Listed X)
+listed_from identifiers list = need_some Failure (item_of identifiers) (λ item. pass (record { item = item; list = list }))
+
 module _ {X : Type 0} (one : Element → Check X) where
   -- the list: no attributes of its own, and elements alone
   abbrev pub list_check : Element → Check (List X)
@@ -111,3 +116,9 @@ module _ {X : Type 0} (one : Element → Check X) where
   list_if_there (Child-F.Element e ∷ after) =
       check_then (list_check e) (λ xs. need (list_all is_white_part after) Failure (pass (Some xs)))
   list_if_there (Child-F.Text text ∷ after) = fail Failure
+
+  -- the identifiers, then the list; that the identifiers are no item is found after all that is there was checked
+  abbrev pub listed_check : List Part → Check (Listed X)
+  listed_check parts =
+      check_then (identifiers_check 2 [] (before_list parts))
+      (λ identifiers. check_then (list_if_there (from_list parts)) (λ list. listed_from identifiers list))

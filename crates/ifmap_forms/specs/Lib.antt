@@ -8,6 +8,7 @@ pub mod Items
 pub mod Gathering
 pub mod SingleLaws
 pub mod CutLaws
+pub mod ListLaws
 pub mod AnswerLaws
 pub mod PositionLaws
 pub mod FormLaws

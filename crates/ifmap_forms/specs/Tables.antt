@@ -82,6 +82,10 @@ module _ {X : Type 0} where
   abbrev pub list_of : (Scopes → Element → Check X) → ContentCheck (List X)
   list_of one scopes parts = each_element (λ index e. one (scopes_below scopes index) e) 0 parts
 
+  -- the same, where it does not matter in which scopes they stand
+  abbrev pub members_check : (Element → Check X) → List Part → Check (List X)
+  members_check one parts = each_element (λ index e. one e) 0 parts
+
 -- ---- elements
 
 -- an element by its name, by attributes that are passed over, and by the tables of its attributes and of its children

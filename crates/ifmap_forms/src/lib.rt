@@ -1,5 +1,5 @@
 //! Forms of messages: what the values of attributes mean, and the readers of attributes, of
-//! prefixes in scope and of identifiers in an element of a message. Each reader answers a value, or
+//! prefixes in scope, and of identifiers and lists in an element of a message. Each reader answers a value, or
 //! the code of the first defect in the order in which the parts of an element are checked.
 #![tactic(auto)]
 
@@ -7,6 +7,8 @@ pub mod errors;
 pub mod gathering;
 pub mod identifiers;
 pub mod kinds;
+pub mod lists;
+pub mod members;
 pub mod numbers;
 pub mod parts;
 pub mod places;

@@ -42,7 +42,7 @@ use Rattle.ifmap_search.specs.declared.results.PollItem.TheVariants as poll
 use Rattle.ifmap_forms.specs.AnswerLaws.{found_after, found_form}
 use Rattle.ifmap_forms.specs.Checks.{Check, check_then, need, need_some, pass}
 use Rattle.ifmap_forms.specs.Items.{before_list, from_list, identifiers_check, is_list, item_of, list_if_there, may_follow}
-use Rattle.ifmap_forms.specs.Tables.{Part, both, each_element, form_check, parts_in, element_parts}
+use Rattle.ifmap_forms.specs.Tables.{Part, both, each_element, form_check, members_check, parts_in, element_parts}
 use Rattle.ifmap_replies.specs.declared.kinds.EntriesKind.{EntriesKind}
 use Rattle.ifmap_replies.specs.declared.kinds.EntriesKind.TheVariants as entries_kind
 use Rattle.ifmap_replies.specs.declared.kinds.ResultKind.{ResultKind}
@@ -55,7 +55,7 @@ use Rattle.ifmap_replies.specs.Fit.{AreFitEntries, IsFitEntry, IsFitPollItem, Is
 use Rattle.ifmap_replies.specs.Means.{IsReplyOf}
 use Rattle.ifmap_replies.specs.ResultForms as forms
 use Rattle.ifmap_replies.specs.ResultForms.{element_check, entries_check, entries_local, error_form, error_made, found_made, is_text}
-use Rattle.ifmap_replies.specs.ResultForms.{members_check, session_result_form, new_session_made, no_scopes, note_check, only_check, elements_or_none}
+use Rattle.ifmap_replies.specs.ResultForms.{session_result_form, new_session_made, no_scopes, note_check, only_check, elements_or_none}
 use Rattle.ifmap_replies.specs.ResultForms.{plain_check, plain_form, plain_made, poll_check, polled_form, polled_made, response_check}
 use Rattle.ifmap_replies.specs.ResultForms.{response_form, response_made, result_check, result_local, run_check, run_form, run_from}
 use Rattle.ifmap_replies.specs.ResultForms.{run_made, run_parts, told_error_form, told_error_made, told_form, told_made}

@@ -26,7 +26,7 @@ use Rattle.ifmap_forms.specs.Checks.{Check, IsConclusive, check_then, need, need
 use Rattle.ifmap_forms.specs.Items.{before_list, from_list, identifier_check, identifiers_check, item_of, list_if_there, list_check, may_follow}
 use Rattle.ifmap_forms.specs.Scopes.{Scopes}
 use Rattle.ifmap_forms.specs.Tables.{ContentCheck, Form, Part, AttributeTable, beside, both, each_element, form_check, is_white_part, no_attributes}
-use Rattle.ifmap_forms.specs.Tables.{no_children, element_parts, read_form}
+use Rattle.ifmap_forms.specs.Tables.{members_check, no_children, element_parts, read_form}
 use Rattle.ifmap_forms.specs.Values.{Field, field_check, number_of, read_text, text_field}
 use Rattle.ifmap_replies.specs.declared.kinds.PollKind.{PollKind}
 use Rattle.ifmap_replies.specs.declared.kinds.PollKind.TheVariants as told
@@ -38,7 +38,7 @@ use Rattle.ifmap_replies.specs.Fields.{code_field, code_of, optional_field, read
 use Rattle.ifmap_replies.specs.Laws.{NoReplyWithDefect, ReplyOrNone}
 use Rattle.ifmap_replies.specs.Means.{IsReplyOf}
 use Rattle.ifmap_replies.specs.ResultForms.{element_check, entries_check, error_form, error_made, found_form, found_made, is_text}
-use Rattle.ifmap_replies.specs.ResultForms.{members_check, session_result_form, new_session_made, no_scopes, note_check, only_check}
+use Rattle.ifmap_replies.specs.ResultForms.{session_result_form, new_session_made, no_scopes, note_check, only_check}
 use Rattle.ifmap_replies.specs.ResultForms.{only_member, elements_or_none, plain_check, plain_form, plain_made, poll_check, poll_kind_check}
 use Rattle.ifmap_replies.specs.ResultForms.{poll_kind_of, polled_form, polled_made, response_check, response_form, response_made}
 use Rattle.ifmap_replies.specs.ResultForms.{result_check, result_kind_check, result_kind_of, run_check, run_form, run_from, run_made}

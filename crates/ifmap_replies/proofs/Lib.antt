@@ -1,7 +1,6 @@
 pub mod PieceLaws
 pub mod RunLaws
 pub mod FormLaws
-pub mod FoundLaws
 pub mod ReadingLaws
 pub mod Single
 pub mod GoodLaws

@@ -21,7 +21,7 @@ use Rattle.ifmap_search.specs.declared.results.PollItem.TheVariants as poll
 use Rattle.ifmap_forms.specs.Checks.{Check, check_then, need, need_some, pass}
 use Rattle.ifmap_forms.specs.Items.{before_list, from_list, identifiers_check, item_of, list_if_there}
 use Rattle.ifmap_forms.specs.Scopes.{Scopes}
-use Rattle.ifmap_forms.specs.Tables.{Both, ContentCheck, Form, OneText, Part, bare_form, beside, each_element, form_check, no_attributes}
+use Rattle.ifmap_forms.specs.Tables.{Both, ContentCheck, Form, OneText, Part, bare_form, beside, form_check, members_check, no_attributes}
 use Rattle.ifmap_forms.specs.Tables.{no_children, element_parts}
 use Rattle.ifmap_forms.specs.Values.{text_field}
 use Rattle.ifmap_replies.specs.declared.kinds.EntriesKind.{EntriesKind}
@@ -42,10 +42,6 @@ abbrev pub no_scopes : Scopes
 no_scopes path = record { rows = [] }
 
 module _ {X : Type 0} where
-  -- any number of elements, each of which means one thing, and nothing between them but white space
-  abbrev pub members_check : (Element → Check X) → List Part → Check (List X)
-  members_check one parts = each_element (λ index e. one e) 0 parts
-
   abbrev pub only_member : List X → Option X
   only_member [] = None
   only_member (x ∷ []) = Some x

@@ -7,9 +7,10 @@ ghost use Rattle.ifmap_forms.specs.Answers.{IsChecked};
 ghost use Rattle.ifmap_forms.specs.Tables.{parts_in};
 ghost use Rattle.ifmap_replies.specs.ResultForms.{is_text, note_check, only_check};
 
-use crate::members::{Member, read_only_member};
+use crate::members::read_only_member;
 use ifmap_elem::{Child, Element, Text};
 use ifmap_forms::FormError;
+use ifmap_forms::members::MemberReader;
 use ifmap_forms::parts::has_only;
 use ifmap_ident::Code;
 use std::alloc::{AllocError as NoMemory, Global};
@@ -18,16 +19,20 @@ use std::alloc::{AllocError as NoMemory, Global};
 pub(crate) fn read_note(alloc: Global, children: Vec<Child>) -> Result<Text, FormError>
     ensures { IsChecked (only_check note_check (parts_in children.items)) result }
 {
-    read_only_member(alloc, children)
+    read_only_member::<NoteReader>(alloc, children)
 }
 
-/// The text of an `errorString`.
-impl Member for Text {
+// The text of an `errorString`.
+struct NoteReader;
+
+impl MemberReader for NoteReader {
     ghost use Rattle.ifmap_replies.specs.ResultForms.{note_check};
+
+    type Member = Text;
 
     ghost finds = { note_check };
 
-    fn from_element(alloc: Global, element: Element) -> Result<Self, FormError> {
+    fn read_member(alloc: Global, element: Element) -> Result<Text, FormError> {
         read_string(alloc, &element)
     }
 }

@@ -6,23 +6,28 @@ ghost use Rattle.ifmap_replies.specs.ResultForms.{no_scopes, poll_check, poll_ki
 
 use crate::entry_lists::read_entries;
 use crate::kinds::{EntriesKind, PollKind, poll_kind_of};
-use crate::members::Member;
 use crate::notes::read_note;
 use crate::values::{read_code, read_optional};
 use ifmap_elem::{Element, Many, Text};
 use ifmap_forms::FormError;
+use ifmap_forms::members::MemberReader;
 use ifmap_forms::parts::has_only;
 use ifmap_forms::values::read_text;
 use ifmap_ident::Code;
 use ifmap_search::{Entry, PollItem};
 use std::alloc::Global;
 
-impl Member for PollItem {
+/// A reader of what a poll is told.
+pub struct PollItemReader;
+
+impl MemberReader for PollItemReader {
     ghost use Rattle.ifmap_replies.specs.ResultForms.{poll_check};
+
+    type Member = PollItem;
 
     ghost finds = { poll_check };
 
-    fn from_element(alloc: Global, element: Element) -> Result<Self, FormError> {
+    fn read_member(alloc: Global, element: Element) -> Result<PollItem, FormError> {
         read_poll_item(alloc, element)
     }
 }

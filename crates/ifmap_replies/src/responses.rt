@@ -9,13 +9,15 @@ ghost use Rattle.ifmap_replies.specs.declared.kinds.ResultKind.{ResultKind};
 
 use crate::entry_lists::read_entries;
 use crate::kinds::{ResultKind, result_kind_of};
-use crate::members::{Member, read_members, read_only_member};
+use crate::members::read_only_member;
 use crate::notes::read_note;
+use crate::polls::PollItemReader;
 use crate::replies::Reply;
 use crate::values::{read_code, read_word};
 use ifmap_elem::{Element, Many, Name};
 use ifmap_envelopes::IFMAP_SPACE;
 use ifmap_forms::FormError;
+use ifmap_forms::members::{MemberReader, read_members};
 use ifmap_forms::parts::{are_blank, has_only};
 use ifmap_forms::values::read_text;
 use ifmap_ident::Code;
@@ -44,15 +46,19 @@ fn read_response_inside(alloc: Global, element: Element) -> Result<Reply, FormEr
         return Err(FormError::Named(Code::Failure));
     }
     let children = element.children;
-    read_only_member(alloc, children.0)
+    read_only_member::<ResultReader>(alloc, children.0)
 }
 
-impl Member for Reply {
+struct ResultReader;
+
+impl MemberReader for ResultReader {
     ghost use Rattle.ifmap_replies.specs.ResultForms.{result_check};
+
+    type Member = Reply;
 
     ghost finds = { result_check };
 
-    fn from_element(alloc: Global, element: Element) -> Result<Self, FormError> {
+    fn read_member(alloc: Global, element: Element) -> Result<Reply, FormError> {
         read_result(alloc, element)
     }
 }
@@ -136,7 +142,7 @@ fn read_polled(alloc: Global, element: Element) -> Result<Reply, FormError>
         return Err(FormError::Named(Code::Failure));
     }
     let children = element.children;
-    let items = read_members(alloc, children.0)?;
+    let items = read_members::<PollItemReader>(alloc, children.0)?;
     Ok(Reply::Polled(Many(items)))
 }
 

@@ -1,8 +1,8 @@
 use Rattle.std.proofs.Common.{Ok, ap}
 use Rattle.ifmap_forms.specs.AnswerLaws.{refused_exit, refused_first}
 use Rattle.ifmap_forms.specs.Checks.{pass}
-use Rattle.ifmap_forms.specs.Tables.{parts_in}
-use Rattle.ifmap_replies.specs.ResultForms.{entries_check, members_check, run_check}
+use Rattle.ifmap_forms.specs.Tables.{members_check, parts_in}
+use Rattle.ifmap_replies.specs.ResultForms.{entries_check, run_check}
 use Rattle.ifmap_replies.specs.Runs.{entries_in_runs}
 use Rattle.ifmap_replies.proofs.entry_lists.read_entries.Goals as goal
 

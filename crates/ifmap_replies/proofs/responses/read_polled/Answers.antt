@@ -2,8 +2,8 @@ use Rattle.std.proofs.Common.{◌∙◌, List, Ok, refl, subst, sym}
 use Rattle.ifmap_elem.specs.declared.elements.Child.{Child}
 use Rattle.ifmap_forms.specs.AnswerLaws as laws
 use Rattle.ifmap_forms.specs.Answers.{IsCheckRefusal}
-use Rattle.ifmap_forms.specs.Tables.{form_check, parts_in}
-use Rattle.ifmap_replies.specs.ResultForms.{members_check, no_scopes, poll_check, polled_form, polled_made}
+use Rattle.ifmap_forms.specs.Tables.{form_check, members_check, parts_in}
+use Rattle.ifmap_replies.specs.ResultForms.{no_scopes, poll_check, polled_form, polled_made}
 use Rattle.ifmap_replies.proofs.responses.read_polled.Goals as goal
 
 pub returns-then-not-has_only : goal.returns-then-not-has_only

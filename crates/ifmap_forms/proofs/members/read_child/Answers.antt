@@ -1,0 +1,15 @@
+use Rattle.ifmap_elem.specs.declared.elements.Child.{out-Child}
+use Rattle.ifmap_forms.specs.AnswerLaws.{refused_exit}
+use Rattle.ifmap_forms.specs.Gathering.{part_check, part_found, part_refused}
+use Rattle.ifmap_forms.proofs.members.read_child.Goals as goal
+
+pub returns-in_err-read_member-in-Element : goal.returns-in_err-read_member-in-Element
+returns-in_err-read_member-in-Element g c =
+    let error = c.in_err-read_member-in-Element.field-0.0 in
+    refused_exit (part_check g.R.MemberReader.finds (out-Child c.args.child)) c.from_residual.result error c.from_residual.ensures.1
+    (part_refused g.R.MemberReader.finds c.args.child c.in-Element.element c.in-Element.is error c.in_err-read_member-in-Element.ensures)
+
+pub returns-in-Element : goal.returns-in-Element
+returns-in-Element g c =
+    part_found g.R.MemberReader.finds c.args.child c.in-Element.element c.in-Element.is c.in_ok-read_member-in-Element.field-0
+    c.in_ok-read_member-in-Element.ensures
