@@ -14,6 +14,7 @@ use Rattle.ifmap_region.specs.Marks.{mark_of}
 use Rattle.ifmap_region.specs.Walks.{AreDepths, IsReached, Walk}
 use Rattle.ifmap_search.specs.declared.searches.Search.{Search}
 use Rattle.ifmap_view.specs.declared.attachments.Attachment.{Attachment}
+use Rattle.ifmap_view.specs.declared.views.LinkSeen.{LinkSeen}
 use Rattle.ifmap_view.specs.Attachments.{IsGraph}
 use Rattle.ifmap_view.specs.Views.{IsView}
 use Rattle.ifmap_fresh.specs.Collected.{is_below}
@@ -22,8 +23,10 @@ use Rattle.ifmap_fresh.specs.Matching.{LinksTo, is_terminal}
 use Rattle.ifmap_fresh.specs.Numbered.{KeepsWalks}
 use Rattle.ifmap_fresh.specs.Reached.{is_expanded, is_reached}
 use Rattle.ifmap_fresh.specs.Walked.{IsExpanded}
+use Rattle.ifmap_delta.specs.Located.{IsNumberOf}
 use Rattle.ifmap_delta.specs.Shown.{goes_on}
-use Rattle.ifmap_delta.specs.Sights.{AreMarks, Links, ViewSeen, is_terminal_in}
+use Rattle.ifmap_delta.specs.Sights.{AreMarks, HaveMarks, Links, ViewSeen, is_terminal_in}
+use Rattle.ifmap_delta.proofs.InStep.{number_found, number_none}
 
 -- the region of a search has its marks
 pub marks_are : (g : ViewSeen) (s : Search) (start : ℕ) → IsIdentifier s.start → g.id_at start ≡ Some s.start →
@@ -84,6 +87,10 @@ LevelsReach = (rows : List Attachment) (s : Search) (a : Identifier) → IsGraph
 abbrev pub LevelsExpand : Type 0
 LevelsExpand = (rows : List Attachment) (s : Search) (a : Identifier) → IsGraph rows → IsIdentifier s.start → IsIdentifier a
     → (is_expanded rows s a ≡ true) ↔ IsExpanded rows s a
+
+abbrev pub NumbersKeep : Type 0
+NumbersKeep = (rows : List Attachment) (id_at : ℕ → Option Identifier) (links : ℕ → List LinkSeen) (s : Search) (start : ℕ)
+    → IsView rows id_at links → id_at start ≡ Some s.start → KeepsWalks rows id_at links s start
 
 below_mark : (top : ℕ) (o : Option ℕ) → is_below top o ≡ true → (k : ℕ) × (o ≡ Some k) × (k < top)
 below_mark top None e = let q : false ≡ true = e in cc
@@ -165,3 +172,28 @@ module _ (reach : LevelsReach) (expand : LevelsExpand) (g : ViewSeen) (s : Searc
   pub not_expanded : (a : Identifier) → IsIdentifier a → ((v : ℕ) → g.id_at v ≡ Some a → ⊥) → is_expanded g.rows s a ≡ false
   not_expanded a i none = both_ways (is_expanded g.rows s a) false
       (λ e. let r = expanded_marked a i e in absurd (none r.0 r.1)) (λ e. let q : false ≡ true = e in cc)
+
+module _ (reach : LevelsReach) (expand : LevelsExpand) (keep : NumbersKeep) (g : ViewSeen) (s : Search)
+    (is : IsView g.rows g.id_at g.links) (mark : ℕ → Option ℕ) (have : HaveMarks g s mark) (a : Identifier) (i : IsIdentifier a)
+    (number : Option ℕ) (n : IsNumberOf g a number) where
+  keeps : KeepsWalks g.rows g.id_at g.links s have.0
+  keeps = keep g.rows g.id_at g.links s have.0 is have.2.here
+
+  -- the number of an identifier has a mark exactly where the identifier is reached
+  pub reached_at_number : (v : ℕ) → number ≡ Some v → is_some (mark v) ≡ is_reached g.rows s a
+  reached_at_number v e =
+      sym (reached_is reach expand g s is have.0 have.1 mark have.2 keeps v a (number_found g a number v n e))
+
+  -- walks go on from it exactly where the identifier is expanded
+  pub expanded_at_number : (v : ℕ) → number ≡ Some v → goes_on s (g.id_at v) (mark v) ≡ is_expanded g.rows s a
+  expanded_at_number v e =
+      sym (expanded_is reach expand g s is have.0 have.1 mark have.2 keeps v a (number_found g a number v n e))
+
+  -- an identifier that has no number is neither
+  pub unreached_without_number : number ≡ None → false ≡ is_reached g.rows s a
+  unreached_without_number e =
+      sym (not_reached reach expand g s is have.0 have.1 mark have.2 keeps a i (number_none g a number n e))
+
+  pub unexpanded_without_number : number ≡ None → false ≡ is_expanded g.rows s a
+  unexpanded_without_number e =
+      sym (not_expanded reach expand g s is have.0 have.1 mark have.2 keeps a i (number_none g a number n e))

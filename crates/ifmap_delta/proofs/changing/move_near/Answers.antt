@@ -4,6 +4,7 @@ use Rattle.ifmap_fresh.specs.Collected.{numbers_of}
 use Rattle.ifmap_fresh.specs.Fresh.{fresh}
 use Rattle.ifmap_plans.specs.Plans.{IsAfter}
 use Rattle.ifmap_region.specs.Marks.{mark_of, over}
+use Rattle.ifmap_delta.specs.Bounds.{IsWithinBound}
 use Rattle.ifmap_delta.specs.Changes.{ShowsAfter}
 use Rattle.ifmap_delta.specs.Located.{AreLocated}
 use Rattle.ifmap_folds.specs.Differences.{difference}
@@ -11,8 +12,25 @@ use Rattle.ifmap_delta.specs.Sights.{view_seen}
 use Rattle.ifmap_delta.proofs.Repairing.{change_steps, repair_steps}
 use Rattle.ifmap_delta.proofs.Sizing.{sizes_differ}
 use Rattle.ifmap_delta.proofs.Telling.{difference_is}
+use Rattle.ifmap_delta.proofs.changing.move_near.Given as given
 use Rattle.ifmap_delta.proofs.changing.move_near.Goals as goal
+use Rattle.ifmap_delta.proofs.changing.move_near.Goals.{After-touched_items}
 use Rattle.ifmap_folds.specs.laws.FoldingLaws.{fresh_rises}
+
+-- the steps of the repair and of looking for what may tell something, however the call ends
+looked : (g : given.Over) (c : After-touched_items g)
+    → IsWithinBound (view_seen g.G.View.rows g.G.View.id_at g.G.View.links c.args.graph.now)
+    (view_seen g.D.View.rows g.D.View.id_at g.D.View.links c.args.draft.now) c.args.subscription.now.search
+    c.args.subscription.now.region.start c.args.steps.now c.touched_items.new.steps
+looked g c =
+    let old = view_seen g.G.View.rows g.G.View.id_at g.G.View.links c.args.graph.now
+    in let new = view_seen g.D.View.rows g.D.View.id_at g.D.View.links c.args.draft.now
+    in let sub = c.args.subscription.now
+    in let mark = mark_of sub.region.marks.entries
+    in change_steps c.bytes_tell_identifiers_apart.ensures old new sub.search c.requires.graph c.requires.draft
+    c.args.located.now.plan.now.changes c.requires.change sub.region.start sub.region.max_depth mark c.requires.kept.marks
+    (over c.in_ok-patch.patch mark) c.in_ok-patch.ensures.marks c.args.steps.now c.patch_for.new.steps c.touched_items.new.steps
+    (numbers_of c.in_ok-patch.patch) c.touched_items.ensures.apart c.patch_for.ensures.steps c.touched_items.ensures.steps
 
 pub returns-in_err-patch-clause-steps : goal.returns-in_err-patch-clause-steps
 returns-in_err-patch-clause-steps g c =
@@ -66,48 +84,16 @@ differences_on-requires-clause-change g c =
     in subst (λ cs. IsAfter cs old.rows new.rows) (sym at) c.requires.change.after
 
 pub returns-in_err-items-clause-steps : goal.returns-in_err-items-clause-steps
-returns-in_err-items-clause-steps g c =
-    let old = view_seen g.G.View.rows g.G.View.id_at g.G.View.links c.args.graph.now
-    in let new = view_seen g.D.View.rows g.D.View.id_at g.D.View.links c.args.draft.now
-    in let sub = c.args.subscription.now
-    in let mark = mark_of sub.region.marks.entries
-    in change_steps c.bytes_tell_identifiers_apart.ensures old new sub.search c.requires.graph c.requires.draft
-    c.args.located.now.plan.now.changes c.requires.change sub.region.start sub.region.max_depth mark c.requires.kept.marks
-    (over c.in_ok-patch.patch mark) c.in_ok-patch.ensures.marks c.args.steps.now c.patch_for.new.steps c.touched_items.new.steps
-    (numbers_of c.in_ok-patch.patch) c.touched_items.ensures.apart c.patch_for.ensures.steps c.touched_items.ensures.steps
+returns-in_err-items-clause-steps g c = looked g (goal.at.returns-in_err-items-clause-steps g c).After-touched_items
 
 pub returns-in_err-told-clause-steps : goal.returns-in_err-told-clause-steps
-returns-in_err-told-clause-steps g c =
-    let old = view_seen g.G.View.rows g.G.View.id_at g.G.View.links c.args.graph.now
-    in let new = view_seen g.D.View.rows g.D.View.id_at g.D.View.links c.args.draft.now
-    in let sub = c.args.subscription.now
-    in let mark = mark_of sub.region.marks.entries
-    in change_steps c.bytes_tell_identifiers_apart.ensures old new sub.search c.requires.graph c.requires.draft
-    c.args.located.now.plan.now.changes c.requires.change sub.region.start sub.region.max_depth mark c.requires.kept.marks
-    (over c.in_ok-patch.patch mark) c.in_ok-patch.ensures.marks c.args.steps.now c.patch_for.new.steps c.touched_items.new.steps
-    (numbers_of c.in_ok-patch.patch) c.touched_items.ensures.apart c.patch_for.ensures.steps c.touched_items.ensures.steps
+returns-in_err-told-clause-steps g c = looked g (goal.at.returns-in_err-told-clause-steps g c).After-touched_items
 
 pub returns-in_default-clause-steps : goal.returns-in_default-clause-steps
-returns-in_default-clause-steps g c =
-    let old = view_seen g.G.View.rows g.G.View.id_at g.G.View.links c.args.graph.now
-    in let new = view_seen g.D.View.rows g.D.View.id_at g.D.View.links c.args.draft.now
-    in let sub = c.args.subscription.now
-    in let mark = mark_of sub.region.marks.entries
-    in change_steps c.bytes_tell_identifiers_apart.ensures old new sub.search c.requires.graph c.requires.draft
-    c.args.located.now.plan.now.changes c.requires.change sub.region.start sub.region.max_depth mark c.requires.kept.marks
-    (over c.in_ok-patch.patch mark) c.in_ok-patch.ensures.marks c.args.steps.now c.patch_for.new.steps c.touched_items.new.steps
-    (numbers_of c.in_ok-patch.patch) c.touched_items.ensures.apart c.patch_for.ensures.steps c.touched_items.ensures.steps
+returns-in_default-clause-steps g c = looked g (goal.at.returns-in_default-clause-steps g c).After-touched_items
 
 pub returns-clause-steps : goal.returns-clause-steps
-returns-clause-steps g c =
-    let old = view_seen g.G.View.rows g.G.View.id_at g.G.View.links c.args.graph.now
-    in let new = view_seen g.D.View.rows g.D.View.id_at g.D.View.links c.args.draft.now
-    in let sub = c.args.subscription.now
-    in let mark = mark_of sub.region.marks.entries
-    in change_steps c.bytes_tell_identifiers_apart.ensures old new sub.search c.requires.graph c.requires.draft
-    c.args.located.now.plan.now.changes c.requires.change sub.region.start sub.region.max_depth mark c.requires.kept.marks
-    (over c.in_ok-patch.patch mark) c.in_ok-patch.ensures.marks c.args.steps.now c.patch_for.new.steps c.touched_items.new.steps
-    (numbers_of c.in_ok-patch.patch) c.touched_items.ensures.apart c.patch_for.ensures.steps c.touched_items.ensures.steps
+returns-clause-steps g c = looked g (goal.at.returns-clause-steps g c).After-touched_items
 
 pub returns-clause-moved : goal.returns-clause-moved
 returns-clause-moved g c =

@@ -9,7 +9,9 @@ use Rattle.ifmap_delta.specs.Sights.{view_seen}
 use Rattle.ifmap_delta.proofs.Flipping.{added_linked}
 use Rattle.ifmap_delta.proofs.InStep.{each_long}
 use Rattle.ifmap_delta.proofs.Repairing.{repaired_marks, repaired_steps}
+use Rattle.ifmap_delta.proofs.changing.patch_for.Given as given
 use Rattle.ifmap_delta.proofs.changing.patch_for.Goals as goal
+use Rattle.ifmap_delta.proofs.changing.patch_for.Goals.{After-deref-3}
 
 pub returns-in_err-flips-clause-steps : goal.returns-in_err-flips-clause-steps
 returns-in_err-flips-clause-steps g c =
@@ -29,8 +31,12 @@ flips_of-requires g c =
     c.requires.located
     ∙ ap length (sym at)
 
-pub repair-requires-clause-added : goal.repair-requires-clause-added
-repair-requires-clause-added g c =
+-- what goes to the repair are the flips of the plan
+flips_are : (g : given.Over) (c : After-deref-3 g)
+    → AreFlipsOf (view_seen g.G.View.rows g.G.View.id_at g.G.View.links c.args.graph.now)
+    (view_seen g.D.View.rows g.D.View.id_at g.D.View.links c.args.draft.now) c.args.subscription.now.search
+    (mark_of c.args.subscription.now.region.marks.entries) c.args.located.now.plan.now.changes c.deref-3.result.now
+flips_are g c =
     let old = view_seen g.G.View.rows g.G.View.id_at g.G.View.links c.args.graph.now
     in let new = view_seen g.D.View.rows g.D.View.id_at g.D.View.links c.args.draft.now
     in let sub = c.args.subscription.now
@@ -40,8 +46,16 @@ repair-requires-clause-added g c =
     in let out : c.deref-3.result.now ≡ c.in_ok-flips.flips.items = search rules
     in let are = subst (λ cs. AreLocated old new cs c.deref-2.result.now) (sym at)
     (subst (λ ls. AreLocated old new c.args.located.now.plan.now.changes ls) (sym on) c.requires.located)
-    in let flips = subst (λ l. AreFlipsOf old new sub.search mark l c.deref-3.result.now) at
+    in subst (λ l. AreFlipsOf old new sub.search mark l c.deref-3.result.now) at
     (subst (λ l. AreFlipsOf old new sub.search mark c.deref.result.now l) (sym out) (c.in_ok-flips.ensures old new are))
+
+pub repair-requires-clause-added : goal.repair-requires-clause-added
+repair-requires-clause-added g c =
+    let old = view_seen g.G.View.rows g.G.View.id_at g.G.View.links c.args.graph.now
+    in let new = view_seen g.D.View.rows g.D.View.id_at g.D.View.links c.args.draft.now
+    in let sub = c.args.subscription.now
+    in let mark = mark_of sub.region.marks.entries
+    in let flips = flips_are g (goal.at.repair-requires-clause-added g c).After-deref-3
     in added_linked c.bytes_tell_identifiers_apart.ensures old new sub.search c.requires.graph
     c.requires.draft c.args.located.now.plan.now.changes c.requires.change mark c.deref-3.result.now flips
 
@@ -51,13 +65,7 @@ returns-clause-marks g c =
     in let new = view_seen g.D.View.rows g.D.View.id_at g.D.View.links c.args.draft.now
     in let sub = c.args.subscription.now
     in let mark = mark_of sub.region.marks.entries
-    in let at : c.deref.result.now ≡ c.args.located.now.plan.now.changes = search rules
-    in let on : c.deref-2.result.now ≡ c.args.located.now.changes.items = search rules
-    in let out : c.deref-3.result.now ≡ c.in_ok-flips.flips.items = search rules
-    in let are = subst (λ cs. AreLocated old new cs c.deref-2.result.now) (sym at)
-    (subst (λ ls. AreLocated old new c.args.located.now.plan.now.changes ls) (sym on) c.requires.located)
-    in let flips = subst (λ l. AreFlipsOf old new sub.search mark l c.deref-3.result.now) at
-    (subst (λ l. AreFlipsOf old new sub.search mark c.deref.result.now l) (sym out) (c.in_ok-flips.ensures old new are))
+    in let flips = flips_are g (goal.at.returns-clause-marks g c).After-deref-3
     in IfOk-weaker c.repair.result _ _
     (λ patch d. repaired_marks c.bytes_tell_identifiers_apart.ensures old new sub.search c.requires.graph c.requires.draft
     c.args.located.now.plan.now.changes c.requires.change sub.region.start sub.region.max_depth mark c.requires.marks
@@ -70,13 +78,7 @@ returns-clause-steps g c =
     in let new = view_seen g.D.View.rows g.D.View.id_at g.D.View.links c.args.draft.now
     in let sub = c.args.subscription.now
     in let mark = mark_of sub.region.marks.entries
-    in let at : c.deref.result.now ≡ c.args.located.now.plan.now.changes = search rules
-    in let on : c.deref-2.result.now ≡ c.args.located.now.changes.items = search rules
-    in let out : c.deref-3.result.now ≡ c.in_ok-flips.flips.items = search rules
-    in let are = subst (λ cs. AreLocated old new cs c.deref-2.result.now) (sym at)
-    (subst (λ ls. AreLocated old new c.args.located.now.plan.now.changes ls) (sym on) c.requires.located)
-    in let flips = subst (λ l. AreFlipsOf old new sub.search mark l c.deref-3.result.now) at
-    (subst (λ l. AreFlipsOf old new sub.search mark c.deref.result.now l) (sym out) (c.in_ok-flips.ensures old new are))
+    in let flips = flips_are g (goal.at.returns-clause-steps g c).After-deref-3
     in repaired_steps c.bytes_tell_identifiers_apart.ensures old new sub.search c.requires.graph c.requires.draft
     c.args.located.now.plan.now.changes c.requires.change sub.region.start sub.region.max_depth mark c.requires.marks
     c.deref-3.result.now flips c.args.steps.now c.repair.new.steps c.repair.ensures.steps

@@ -1,30 +1,18 @@
-use Rattle.std.proofs.Common.{◌∙◌, ap, sym, is_some}
+use Rattle.std.proofs.Common.{◌∙◌, ap, is_some}
 use Rattle.ifmap_delta.specs.Sights.{view_seen}
-use Rattle.ifmap_delta.proofs.InStep.{number_found, number_none}
-use Rattle.ifmap_delta.proofs.Marking.{not_reached, reached_is}
+use Rattle.ifmap_delta.proofs.Marking.{reached_at_number, unreached_without_number}
 use Rattle.ifmap_delta.proofs.sides.Side.is_reached.Goals as goal
 
 pub returns-in-Some : goal.returns-in-Some
 returns-in-Some g c = λ a i n.
     let view = c.args.self.now.view.now
-    in let sight = view_seen g.V.View.rows g.V.View.id_at g.V.View.links view
-    in let s = c.args.self.now.search.now
-    in let h = c.requires.marks
-    in let whole = c.requires.view
-    in let keeps = c.numbers_keep_walks.ensures (g.V.View.rows view) (g.V.View.id_at view) (g.V.View.links view) s h.0 whole h.2.here
     in c.is_some.ensures ∙ ap is_some c.mark_at.ensures
-    ∙ sym (reached_is c.levels_are_walks.ensures.reached c.levels_are_walks.ensures.expanded
-    sight s whole h.0 h.1 (g.M.Marks.mark c.args.self.now.marks.now) h.2 keeps
-    c.in-Some.number a (number_found sight a c.args.number c.in-Some.number n c.in-Some.is))
+    ∙ reached_at_number c.levels_are_walks.ensures.reached c.levels_are_walks.ensures.expanded c.numbers_keep_walks.ensures
+    (view_seen g.V.View.rows g.V.View.id_at g.V.View.links view) c.args.self.now.search.now c.requires.view (g.M.Marks.mark c.args.self.now.marks.now)
+    c.requires.marks a i c.args.number n c.in-Some.number c.in-Some.is
 
 pub returns-in-None : goal.returns-in-None
 returns-in-None g c = λ a i n.
-    let view = c.args.self.now.view.now
-    in let sight = view_seen g.V.View.rows g.V.View.id_at g.V.View.links view
-    in let s = c.args.self.now.search.now
-    in let h = c.requires.marks
-    in let whole = c.requires.view
-    in let keeps = c.numbers_keep_walks.ensures (g.V.View.rows view) (g.V.View.id_at view) (g.V.View.links view) s h.0 whole h.2.here
-    in sym (not_reached c.levels_are_walks.ensures.reached c.levels_are_walks.ensures.expanded
-    sight s whole h.0 h.1 (g.M.Marks.mark c.args.self.now.marks.now) h.2 keeps
-    a i (number_none sight a c.args.number n c.in-None.is))
+    unreached_without_number c.levels_are_walks.ensures.reached c.levels_are_walks.ensures.expanded c.numbers_keep_walks.ensures
+    (view_seen g.V.View.rows g.V.View.id_at g.V.View.links c.args.self.now.view.now) c.args.self.now.search.now c.requires.view
+    (g.M.Marks.mark c.args.self.now.marks.now) c.requires.marks a i c.args.number n c.in-None.is
