@@ -2,8 +2,7 @@
 ghost use Rattle.std.specs.Prelude.{◌≡◌, ◌≢◌, false, ◌+◌, ◌∷◌, ◌++◌, [], ◌-◌, ◌<◌, ◌^◌, List, OnOk, IfOk, IfSome, option_copied};
 ghost use Rattle.std.specs.List.{AllByRecursion};
 ghost use Rattle.std.specs.List.Sorted.{IsStrictlySortedBy};
-ghost use Rattle.ifmap_delta.specs.Sights.{HaveMarks, view_seen};
-ghost use Rattle.ifmap_delta.specs.Shown.{patched_mark, shown_on};
+ghost use Rattle.ifmap_delta.specs.Shown.{HasSideMarks, patched_mark, region_mark, shown_on};
 ghost use Rattle.ifmap_delta.specs.Touched.{IsChanged, change_at, has_met, items_touched, left_out, left_out_on, rows_touched_by};
 ghost use Rattle.ifmap_ident.specs.Items.{IsCanonItem, item_order};
 ghost use Rattle.ifmap_ident.specs.declared.items.Item.{Item};
@@ -11,7 +10,6 @@ ghost use Rattle.ifmap_lemmas.specs.Having.{Has};
 ghost use Rattle.ifmap_meta.specs.declared.stored.Stored.{Stored};
 ghost use Rattle.ifmap_plans.specs.Lists.{next_on};
 ghost use Rattle.ifmap_plans.specs.Plans.{IsAfter};
-ghost use Rattle.ifmap_region.specs.Marks.{mark_of};
 ghost use Rattle.ifmap_search.specs.Sizes.{entries_size, entry_size};
 ghost use Rattle.ifmap_view.specs.Attachments.{IsGraph, stored_order};
 
@@ -216,10 +214,8 @@ fn add_differences<G: View, D: View>(
 ) -> Result<(), NoMemory>
     requires graph { IsGraph (G.rows before.now.view.now) }
     requires draft { IsGraph (D.rows after.now.view.now) }
-    requires before { HaveMarks (view_seen G.rows G.id_at G.links before.now.view.now)
-        before.now.search.now (mark_of before.now.marks.now.marks.entries) }
-    requires after { HaveMarks (view_seen D.rows D.id_at D.links after.now.view.now)
-        after.now.search.now (patched_mark after.now.marks.now) }
+    requires before { HasSideMarks G.rows G.id_at G.links region_mark before.now }
+    requires after { HasSideMarks D.rows D.id_at D.links patched_mark after.now }
     requires canon { IsCanonItem one.item }
     requires change { IsChanged (G.rows before.now.view.now) (D.rows after.now.view.now)
         changes.now one }
@@ -261,10 +257,8 @@ fn differences_of<G: View, D: View>(
 ) -> Result<ToldEntries, NoMemory>
     requires graph { IsGraph (G.rows before.now.view.now) }
     requires draft { IsGraph (D.rows after.now.view.now) }
-    requires before { HaveMarks (view_seen G.rows G.id_at G.links before.now.view.now)
-        before.now.search.now (mark_of before.now.marks.now.marks.entries) }
-    requires after { HaveMarks (view_seen D.rows D.id_at D.links after.now.view.now)
-        after.now.search.now (patched_mark after.now.marks.now) }
+    requires before { HasSideMarks G.rows G.id_at G.links region_mark before.now }
+    requires after { HasSideMarks D.rows D.id_at D.links patched_mark after.now }
     requires canon { AllByRecursion (λ t. IsCanonItem t.item) touched.items }
     requires changes { AllByRecursion (IsChanged (G.rows before.now.view.now)
         (D.rows after.now.view.now) changes.now) touched.items }
@@ -298,10 +292,8 @@ pub(crate) fn differences_on<G: View, D: View>(
 ) -> Result<ToldEntries, NoMemory>
     requires graph { IsGraph (G.rows before.now.view.now) }
     requires draft { IsGraph (D.rows after.now.view.now) }
-    requires before { HaveMarks (view_seen G.rows G.id_at G.links before.now.view.now)
-        before.now.search.now (mark_of before.now.marks.now.marks.entries) }
-    requires after { HaveMarks (view_seen D.rows D.id_at D.links after.now.view.now)
-        after.now.search.now (patched_mark after.now.marks.now) }
+    requires before { HasSideMarks G.rows G.id_at G.links region_mark before.now }
+    requires after { HasSideMarks D.rows D.id_at D.links patched_mark after.now }
     requires rising { IsStrictlySortedBy item_order items.items }
     requires canon { (x : Item) → Has items.items x → IsCanonItem x }
     requires change { IsAfter changes.now (G.rows before.now.view.now)

@@ -3,9 +3,9 @@ ghost use Rattle.std.specs.Prelude.{◌≡◌, ◌&&◌, ◌++◌, ◌∷◌, []
 ghost use Rattle.std.specs.List.{AllByRecursion};
 ghost use Rattle.ifmap_folds.specs.Notes.{is_told, told_notes};
 ghost use Rattle.ifmap_delta.specs.Located.{AreNotesLocated, IsLocated};
-ghost use Rattle.ifmap_delta.specs.Sights.{HasMarks, HaveMarks, view_seen};
+ghost use Rattle.ifmap_delta.specs.Sights.{HasMarks, view_seen};
+ghost use Rattle.ifmap_delta.specs.Shown.{HasSideMarks, SeesView, region_mark};
 ghost use Rattle.ifmap_ident.specs.Items.{IsCanonItem};
-ghost use Rattle.ifmap_region.specs.Marks.{mark_of};
 ghost use Rattle.ifmap_view.specs.Views.{IsView};
 
 use crate::locating::{Located, LocatedPlan};
@@ -56,10 +56,8 @@ fn told_of<D: View>(
     notes: &[Note],
     located: &[Located<'_>],
 ) -> Result<Vec<Entry>, NoMemory>
-    requires view { IsView (D.rows after.now.view.now) (D.id_at after.now.view.now)
-        (D.links after.now.view.now) }
-    requires marks { HaveMarks (view_seen D.rows D.id_at D.links after.now.view.now)
-        after.now.search.now (mark_of after.now.marks.now.marks.entries) }
+    requires view { SeesView D.rows D.id_at D.links after.now }
+    requires marks { HasSideMarks D.rows D.id_at D.links region_mark after.now }
     requires canon { AllByRecursion (λ n. IsCanonItem n.item) notes.now }
     requires located { AreNotesLocated (view_seen D.rows D.id_at D.links after.now.view.now)
         notes.now located.now }
@@ -81,10 +79,8 @@ fn add_told<D: View>(
     located: &Located<'_>,
     told: &mut Vec<Entry>,
 ) -> Result<(), NoMemory>
-    requires view { IsView (D.rows after.now.view.now) (D.id_at after.now.view.now)
-        (D.links after.now.view.now) }
-    requires marks { HaveMarks (view_seen D.rows D.id_at D.links after.now.view.now)
-        after.now.search.now (mark_of after.now.marks.now.marks.entries) }
+    requires view { SeesView D.rows D.id_at D.links after.now }
+    requires marks { HasSideMarks D.rows D.id_at D.links region_mark after.now }
     requires canon { IsCanonItem note.now.item }
     requires located { IsLocated (view_seen D.rows D.id_at D.links after.now.view.now)
         note.now.item located.now }
@@ -102,10 +98,8 @@ fn add_told<D: View>(
 
 // Whether a note is told.
 fn is_told<D: View>(after: &Side<'_, D, Region>, note: &Note, located: &Located<'_>) -> bool
-    requires view { IsView (D.rows after.now.view.now) (D.id_at after.now.view.now)
-        (D.links after.now.view.now) }
-    requires marks { HaveMarks (view_seen D.rows D.id_at D.links after.now.view.now)
-        after.now.search.now (mark_of after.now.marks.now.marks.entries) }
+    requires view { SeesView D.rows D.id_at D.links after.now }
+    requires marks { HasSideMarks D.rows D.id_at D.links region_mark after.now }
     requires canon { IsCanonItem note.now.item }
     requires located { IsLocated (view_seen D.rows D.id_at D.links after.now.view.now)
         note.now.item located.now }

@@ -2,8 +2,8 @@
 ghost use Rattle.std.specs.Prelude.{◌≡◌, Some, IfSome, ◌&&◌, not, ◌≤◌};
 ghost use Rattle.ifmap_folds.specs.Notes.{counts_on};
 ghost use Rattle.ifmap_delta.specs.Located.{IsLocated, IsNumberOf};
-ghost use Rattle.ifmap_delta.specs.Sights.{HaveMarks, view_seen};
-ghost use Rattle.ifmap_delta.specs.Shown.{goes_on, shown_on};
+ghost use Rattle.ifmap_delta.specs.Sights.{view_seen};
+ghost use Rattle.ifmap_delta.specs.Shown.{HasSideMarks, SeesView, goes_on, shown_on};
 ghost use Rattle.ifmap_fresh.specs.Fresh.{is_looked_at};
 ghost use Rattle.ifmap_fresh.specs.Linking.{is_terminal_at};
 ghost use Rattle.ifmap_fresh.specs.Reached.{is_expanded, is_reached};
@@ -11,7 +11,6 @@ ghost use Rattle.ifmap_ident.specs.Canon.{IsIdentifier};
 ghost use Rattle.ifmap_ident.specs.Items.{IsCanonItem};
 ghost use Rattle.ifmap_ident.specs.declared.identifiers.Identifier.{Identifier};
 ghost use Rattle.ifmap_view.specs.Rows.{stored_on};
-ghost use Rattle.ifmap_view.specs.Views.{IsView};
 
 use crate::locating::{Located, locate_item};
 use crate::marks::Marks;
@@ -59,10 +58,8 @@ impl<'a, V: View, M: Marks> Side<'a, V, M> {
 
     // Whether a walk ends in the identifier of a number; none does where it has no number.
     fn is_reached(&self, number: Option<u64>) -> bool
-        requires view { IsView (V.rows self.now.view.now) (V.id_at self.now.view.now)
-            (V.links self.now.view.now) }
-        requires marks { HaveMarks (view_seen V.rows V.id_at V.links self.now.view.now)
-            self.now.search.now (M.mark self.now.marks.now) }
+        requires view { SeesView V.rows V.id_at V.links self.now }
+        requires marks { HasSideMarks V.rows V.id_at V.links M.mark self.now }
         ensures { (a : Identifier) → IsIdentifier a
             → IsNumberOf (view_seen V.rows V.id_at V.links self.now.view.now) a number
             → result ≡ is_reached (V.rows self.now.view.now) self.now.search.now a }
@@ -77,10 +74,8 @@ impl<'a, V: View, M: Marks> Side<'a, V, M> {
 
     // Whether walks go on from the identifier of a number; none do where it has no number.
     fn is_expanded(&self, number: Option<u64>) -> bool
-        requires view { IsView (V.rows self.now.view.now) (V.id_at self.now.view.now)
-            (V.links self.now.view.now) }
-        requires marks { HaveMarks (view_seen V.rows V.id_at V.links self.now.view.now)
-            self.now.search.now (M.mark self.now.marks.now) }
+        requires view { SeesView V.rows V.id_at V.links self.now }
+        requires marks { HasSideMarks V.rows V.id_at V.links M.mark self.now }
         ensures { (a : Identifier) → IsIdentifier a
             → IsNumberOf (view_seen V.rows V.id_at V.links self.now.view.now) a number
             → result ≡ is_expanded (V.rows self.now.view.now) self.now.search.now a }
@@ -96,10 +91,8 @@ impl<'a, V: View, M: Marks> Side<'a, V, M> {
     // Whether the search looks at the item: a reached identifier, or a matching link of which an end is
     // expanded. Elements are looked at last.
     pub(crate) fn looks_at(&self, item: &Item, located: &Located<'_>) -> bool
-        requires view { IsView (V.rows self.now.view.now) (V.id_at self.now.view.now)
-            (V.links self.now.view.now) }
-        requires marks { HaveMarks (view_seen V.rows V.id_at V.links self.now.view.now)
-            self.now.search.now (M.mark self.now.marks.now) }
+        requires view { SeesView V.rows V.id_at V.links self.now }
+        requires marks { HasSideMarks V.rows V.id_at V.links M.mark self.now }
         requires canon { IsCanonItem item.now }
         requires located { IsLocated (view_seen V.rows V.id_at V.links self.now.view.now) item.now
             located.now }
@@ -117,10 +110,8 @@ impl<'a, V: View, M: Marks> Side<'a, V, M> {
     // Whether an element that is notified on the item counts: the identifier is reached, or an end of the
     // link is expanded, and the link or the element meets what links have to meet.
     pub(crate) fn counts_on(&self, item: &Item, located: &Located<'_>, element: &Element) -> bool
-        requires view { IsView (V.rows self.now.view.now) (V.id_at self.now.view.now)
-            (V.links self.now.view.now) }
-        requires marks { HaveMarks (view_seen V.rows V.id_at V.links self.now.view.now)
-            self.now.search.now (M.mark self.now.marks.now) }
+        requires view { SeesView V.rows V.id_at V.links self.now }
+        requires marks { HasSideMarks V.rows V.id_at V.links M.mark self.now }
         requires canon { IsCanonItem item.now }
         requires located { IsLocated (view_seen V.rows V.id_at V.links self.now.view.now) item.now
             located.now }
@@ -139,8 +130,7 @@ impl<'a, V: View, M: Marks> Side<'a, V, M> {
 
     // What is stored on the item, where the search looks at it; nothing where it does not.
     pub(crate) fn rows_shown(&self, item: &Item) -> &[Row]
-        requires marks { HaveMarks (view_seen V.rows V.id_at V.links self.now.view.now)
-            self.now.search.now (M.mark self.now.marks.now) }
+        requires marks { HasSideMarks V.rows V.id_at V.links M.mark self.now }
         requires canon { IsCanonItem item.now }
         ensures { result.now ≡ shown_on (V.rows self.now.view.now) self.now.search.now item.now }
     {

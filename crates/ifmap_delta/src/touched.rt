@@ -3,14 +3,13 @@ ghost use Rattle.std.specs.Prelude.{◌≡◌, ◌≤◌, ◌<◌, ◌+◌, [], 
 ghost use Rattle.std.specs.List.{AllByRecursion, IsDistinct, cons_option};
 ghost use Rattle.ifmap_delta.specs.Changes.{ShowsAfter};
 ghost use Rattle.ifmap_delta.specs.Located.{AreLocated, IsLocatedTwice};
-ghost use Rattle.ifmap_delta.specs.Sights.{HaveMarks, view_seen};
-ghost use Rattle.ifmap_delta.specs.Shown.{patched_mark};
+ghost use Rattle.ifmap_delta.specs.Sights.{view_seen};
+ghost use Rattle.ifmap_delta.specs.Shown.{HasSideMarks, SeesView, patched_mark, region_mark};
 ghost use Rattle.ifmap_delta.specs.Touched.{AreTouched, brought_items, link_item, linked_items, looked_along, moved_items, planned_items};
 ghost use Rattle.ifmap_fresh.specs.Collected.{item_alone, numbers_of, pair_at};
 ghost use Rattle.ifmap_fresh.specs.Fresh.{is_looked_at};
 ghost use Rattle.ifmap_region.specs.Marks.{mark_of, over};
 ghost use Rattle.ifmap_ident.specs.Items.{IsCanonItem};
-ghost use Rattle.ifmap_view.specs.Views.{IsView};
 
 use crate::locating::LocatedChange;
 use crate::marks::{Marks, Patched, mark_after};
@@ -104,14 +103,10 @@ fn add_changed<G: View, D: View, M: Marks, N: Marks>(
     located: &LocatedChange<'_>,
     items: &mut Vec<Item>,
 ) -> Result<(), NoMemory>
-    requires graph { IsView (G.rows before.now.view.now) (G.id_at before.now.view.now)
-        (G.links before.now.view.now) }
-    requires draft { IsView (D.rows after.now.view.now) (D.id_at after.now.view.now)
-        (D.links after.now.view.now) }
-    requires before { HaveMarks (view_seen G.rows G.id_at G.links before.now.view.now)
-        before.now.search.now (M.mark before.now.marks.now) }
-    requires after { HaveMarks (view_seen D.rows D.id_at D.links after.now.view.now)
-        after.now.search.now (N.mark after.now.marks.now) }
+    requires graph { SeesView G.rows G.id_at G.links before.now }
+    requires draft { SeesView D.rows D.id_at D.links after.now }
+    requires before { HasSideMarks G.rows G.id_at G.links M.mark before.now }
+    requires after { HasSideMarks D.rows D.id_at D.links N.mark after.now }
     requires canon { IsCanonItem change.now.item }
     requires located { IsLocatedTwice (view_seen G.rows G.id_at G.links before.now.view.now)
         (view_seen D.rows D.id_at D.links after.now.view.now) change.now.item located.now }
@@ -135,14 +130,10 @@ fn add_planned<G: View, D: View, M: Marks, N: Marks>(
     located: &[LocatedChange<'_>],
     items: &mut Vec<Item>,
 ) -> Result<(), NoMemory>
-    requires graph { IsView (G.rows before.now.view.now) (G.id_at before.now.view.now)
-        (G.links before.now.view.now) }
-    requires draft { IsView (D.rows after.now.view.now) (D.id_at after.now.view.now)
-        (D.links after.now.view.now) }
-    requires before { HaveMarks (view_seen G.rows G.id_at G.links before.now.view.now)
-        before.now.search.now (M.mark before.now.marks.now) }
-    requires after { HaveMarks (view_seen D.rows D.id_at D.links after.now.view.now)
-        after.now.search.now (N.mark after.now.marks.now) }
+    requires graph { SeesView G.rows G.id_at G.links before.now }
+    requires draft { SeesView D.rows D.id_at D.links after.now }
+    requires before { HasSideMarks G.rows G.id_at G.links M.mark before.now }
+    requires after { HasSideMarks D.rows D.id_at D.links N.mark after.now }
     requires canon { AllByRecursion (λ c. IsCanonItem c.item) changes.now }
     requires located { AreLocated (view_seen G.rows G.id_at G.links before.now.view.now)
         (view_seen D.rows D.id_at D.links after.now.view.now) changes.now located.now }
@@ -233,14 +224,10 @@ pub(crate) fn touched_items<G: View, D: View, L: Ledger>(
 ) -> Result<Vec<Item>, NoMemory>
     requires search { before.now.search.now ≡ after.now.search.now }
     requires region { before.now.marks.now ≡ after.now.marks.now.region.now }
-    requires before { HaveMarks (view_seen G.rows G.id_at G.links before.now.view.now)
-        before.now.search.now (mark_of before.now.marks.now.marks.entries) }
-    requires after { HaveMarks (view_seen D.rows D.id_at D.links after.now.view.now)
-        after.now.search.now (patched_mark after.now.marks.now) }
-    requires graph { IsView (G.rows before.now.view.now) (G.id_at before.now.view.now)
-        (G.links before.now.view.now) }
-    requires draft { IsView (D.rows after.now.view.now) (D.id_at after.now.view.now)
-        (D.links after.now.view.now) }
+    requires before { HasSideMarks G.rows G.id_at G.links region_mark before.now }
+    requires after { HasSideMarks D.rows D.id_at D.links patched_mark after.now }
+    requires graph { SeesView G.rows G.id_at G.links before.now }
+    requires draft { SeesView D.rows D.id_at D.links after.now }
     requires change { ShowsAfter (view_seen G.rows G.id_at G.links before.now.view.now)
         (view_seen D.rows D.id_at D.links after.now.view.now) changes.now }
     requires located { AreLocated (view_seen G.rows G.id_at G.links before.now.view.now)
