@@ -61,36 +61,9 @@ pub fn change<'a, G: View, D: View, L: Ledger>(
         (view_seen D.rows D.id_at D.links draft.now) subscription.now.search
         subscription.now.region.start steps.old steps.new }
 {
-    if is_any_near(&subscription.region, &located.changes) {
-        move_near(alloc, subscription, graph, draft, located, steps)
-    } else {
-        move_nothing(alloc, subscription, graph, draft, located, steps)
+    if !is_any_near(&subscription.region, &located.changes) {
+        return move_nothing(alloc, subscription, graph, draft, located, steps);
     }
-}
-
-// What a change does to a subscription.
-fn move_near<'a, G: View, D: View, L: Ledger>(
-    alloc: Global,
-    subscription: &'a Subscription,
-    graph: &'a G,
-    draft: &'a D,
-    located: &LocatedPlan<'_>,
-    steps: &mut Steps<L>,
-) -> Result<Moved, NoMemory>
-    requires graph { IsView (G.rows graph.now) (G.id_at graph.now) (G.links graph.now) }
-    requires draft { IsView (D.rows draft.now) (D.id_at draft.now) (D.links draft.now) }
-    requires kept { IsUpToDate (view_seen G.rows G.id_at G.links graph.now) subscription.now }
-    requires change { ShowsAfter (view_seen G.rows G.id_at G.links graph.now)
-        (view_seen D.rows D.id_at D.links draft.now) located.now.plan.now.changes }
-    requires located { AreLocated (view_seen G.rows G.id_at G.links graph.now)
-        (view_seen D.rows D.id_at D.links draft.now) located.now.plan.now.changes
-        located.now.changes.items }
-    ensures moved { IfOk result (IsMovedBetween (view_seen G.rows G.id_at G.links graph.now)
-        (view_seen D.rows D.id_at D.links draft.now) subscription.now) }
-    ensures steps { IsWithinBound (view_seen G.rows G.id_at G.links graph.now)
-        (view_seen D.rows D.id_at D.links draft.now) subscription.now.search
-        subscription.now.region.start steps.old steps.new }
-{
     bytes_tell_identifiers_apart();
     let patch = patch_for(alloc, subscription, graph, draft, located, steps)?;
     let search = &subscription.search;

@@ -12,9 +12,9 @@ use Rattle.ifmap_delta.specs.Sights.{view_seen}
 use Rattle.ifmap_delta.proofs.Repairing.{change_steps, repair_steps}
 use Rattle.ifmap_delta.proofs.Sizing.{sizes_differ}
 use Rattle.ifmap_delta.proofs.Telling.{difference_is}
-use Rattle.ifmap_delta.proofs.changing.move_near.Given as given
-use Rattle.ifmap_delta.proofs.changing.move_near.Goals as goal
-use Rattle.ifmap_delta.proofs.changing.move_near.Goals.{After-touched_items}
+use Rattle.ifmap_delta.proofs.changing.change.Given as given
+use Rattle.ifmap_delta.proofs.changing.change.Goals as goal
+use Rattle.ifmap_delta.proofs.changing.change.Goals.{After-touched_items}
 use Rattle.ifmap_folds.specs.laws.FoldingLaws.{fresh_rises}
 
 -- the steps of the repair and of looking for what may tell something, however the call ends
@@ -53,16 +53,16 @@ pub touched_items-requires-clause-change : goal.touched_items-requires-clause-ch
 touched_items-requires-clause-change g c =
     let old = view_seen g.G.View.rows g.G.View.id_at g.G.View.links c.args.graph.now
     in let new = view_seen g.D.View.rows g.D.View.id_at g.D.View.links c.args.draft.now
-    in let at : c.deref.result.now ≡ c.args.located.now.plan.now.changes = search rules
+    in let at : c.deref-2.result.now ≡ c.args.located.now.plan.now.changes = search rules
     in subst (ShowsAfter old new) (sym at) c.requires.change
 
 pub touched_items-requires-clause-located : goal.touched_items-requires-clause-located
 touched_items-requires-clause-located g c =
     let old = view_seen g.G.View.rows g.G.View.id_at g.G.View.links c.args.graph.now
     in let new = view_seen g.D.View.rows g.D.View.id_at g.D.View.links c.args.draft.now
-    in let at : c.deref.result.now ≡ c.args.located.now.plan.now.changes = search rules
-    in let on : c.deref-2.result.now ≡ c.args.located.now.changes.items = search rules
-    in subst (λ cs. AreLocated old new cs c.deref-2.result.now) (sym at)
+    in let at : c.deref-2.result.now ≡ c.args.located.now.plan.now.changes = search rules
+    in let on : c.deref-3.result.now ≡ c.args.located.now.changes.items = search rules
+    in subst (λ cs. AreLocated old new cs c.deref-3.result.now) (sym at)
     (subst (λ ls. AreLocated old new c.args.located.now.plan.now.changes ls) (sym on) c.requires.located)
 
 pub differences_on-requires-clause-before : goal.differences_on-requires-clause-before
@@ -80,7 +80,7 @@ pub differences_on-requires-clause-change : goal.differences_on-requires-clause-
 differences_on-requires-clause-change g c =
     let old = view_seen g.G.View.rows g.G.View.id_at g.G.View.links c.args.graph.now
     in let new = view_seen g.D.View.rows g.D.View.id_at g.D.View.links c.args.draft.now
-    in let at : c.deref-3.result.now ≡ c.args.located.now.plan.now.changes = search rules
+    in let at : c.deref-4.result.now ≡ c.args.located.now.plan.now.changes = search rules
     in subst (λ cs. IsAfter cs old.rows new.rows) (sym at) c.requires.change.after
 
 pub returns-in_err-items-clause-steps : goal.returns-in_err-items-clause-steps
