@@ -6,7 +6,7 @@ use Rattle.std.proofs.Common.{◌≡◌, ◌⊎◌, inl, inr, ℕ, Bool, true, f
 use Rattle.std.proofs.Common.{sym, subst, is_some}
 use Rattle.std.proofs.lemmas.Bool.{cases_Bool, or_left, or_right}
 use Rattle.std.proofs.lemmas.Option.{none-some, same_Some}
-use Rattle.std.specs.List.{find}
+use Rattle.std.specs.List.{Contains, find}
 use Rattle.ifmap_ident.specs.declared.identifiers.Identifier.{Identifier}
 use Rattle.ifmap_ident.specs.declared.items.Item.{Item}
 use Rattle.ifmap_ident.specs.declared.items.Item.TheVariants.{One, Pair}
@@ -24,7 +24,7 @@ use Rattle.ifmap_view.specs.Views.{IsView}
 use Rattle.ifmap_fresh.specs.Matching.{is_match, one_meets}
 use Rattle.ifmap_delta.specs.Bounds.{IsFlip, Mid}
 use Rattle.ifmap_delta.specs.Changes.{ShowsAfter}
-use Rattle.ifmap_delta.specs.Flipped.{AreFlipsOf, IsFlipAt}
+use Rattle.ifmap_delta.specs.Flipped.{AreFlipsOf, IsFlipAt, is_one_marked}
 use Rattle.ifmap_delta.specs.Sights.{Links, ViewSeen}
 use Rattle.ifmap_fresh.specs.laws.JoiningLaws.{linked_matches, match_turned, matches_linked, some_there}
 use Rattle.ifmap_fresh.specs.laws.SameLaws.{pair_canon, pair_is, pair_parts, same_item_is}
@@ -105,30 +105,27 @@ module _ (tells : BytesTellIdentifiers) (old new : ViewSeen) (s : Search) (was :
         no_pair true e f = some_there s.match_links [] f refl
         no_pair false e f = some_there s.match_links [] e refl
 
+        -- the flip of the item of such a change is among them
+        is_there : (x : Item) → pair_of a b ≡ Some x → (c : ItemChange) → Has changes c → c.item ≡ x → (flip : Flip)
+            → ((one_meets s.match_links (stored_on x old.rows) ≡ not added) → (one_meets s.match_links (stored_on x new.rows) ≡ added)
+            → IsFlipAt old new s x flip)
+            → is_one_marked mark (Some flip.a) (Some flip.b) ≡ true → Contains flips flip
+        is_there x e c h at flip turned near =
+            let here = turned (sym (match_at old.rows a b x e) ∙ m) (sym (match_at new.rows a b x e) ∙ n)
+            in from_has flips flip (are.each c flip h (subst (λ y. IsFlipAt old new s y flip) (sym at) here) near)
+
         at_pair : (x : Item) → pair_of a b ≡ Some x → (c : ItemChange) → Has changes c → c.item ≡ x → (x ≡ Pair a b) ⊎ (x ≡ Pair b a)
             → IsFlipped flips added v w
         at_pair x e c h at (inl q) =
             let flip : Flip = record { a = v; b = w; added = added }
-            in let here : IsFlipAt old new s (Pair a b) flip =
-            (i, j, sym (match_at old.rows a b (Pair a b) (e ∙ ap Some q)) ∙ m, sym (match_at new.rows a b (Pair a b) (e ∙ ap Some q)) ∙ n)
-            in (
-              flip,
-              from_has flips flip (are.each c flip h (subst (λ y. IsFlipAt old new s y flip) (sym (at ∙ q)) here)
-                  (or_left (is_some (mark v)) (is_some (mark w)) marked)),
-              refl,
-              inl (refl, refl),
-            )
+            in let there = is_there (Pair a b) (e ∙ ap Some q) c h (at ∙ q) flip (λ k l. (i, j, k, l))
+            (or_left (is_some (mark v)) (is_some (mark w)) marked)
+            in (flip, there, refl, inl (refl, refl))
         at_pair x e c h at (inr q) =
             let flip : Flip = record { a = w; b = v; added = added }
-            in let here : IsFlipAt old new s (Pair b a) flip =
-            (j, i, sym (match_at old.rows a b (Pair b a) (e ∙ ap Some q)) ∙ m, sym (match_at new.rows a b (Pair b a) (e ∙ ap Some q)) ∙ n)
-            in (
-              flip,
-              from_has flips flip (are.each c flip h (subst (λ y. IsFlipAt old new s y flip) (sym (at ∙ q)) here)
-                  (or_right (is_some (mark w)) (is_some (mark v)) marked)),
-              refl,
-              inr (refl, refl),
-            )
+            in let there = is_there (Pair b a) (e ∙ ap Some q) c h (at ∙ q) flip (λ k l. (j, i, k, l))
+            (or_right (is_some (mark w)) (is_some (mark v)) marked)
+            in (flip, there, refl, inr (refl, refl))
 
         differs : (c : Bool) → c ≡ not c → ⊥
         differs true e = let q : true ≡ false = e in cc

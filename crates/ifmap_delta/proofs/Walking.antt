@@ -65,6 +65,19 @@ walk_near L M T U start top P p f (suc k) v h (goes_on {u = u} w t l) =
     in let o = f u v (p k u (omega (arith, h)) w n) t l
     in goes_on n o.0 o.1
 
+-- a depth stays where walks that are no longer than the most go along both
+depth_by : (L M : ℕ → ℕ → Type 0) (T U : ℕ → Bool) (start top : ℕ) → ((k v : ℕ) → k ≤ top → Walk L T start k v → Walk M U start k v)
+    → ((k v : ℕ) → k ≤ top → Walk M U start k v → Walk L T start k v) → (v k : ℕ) → HasDepth L T start top v k
+    → HasDepth M U start top v k
+depth_by L M T U start top to from v k d = record {
+  within = d.within;
+  walk = to k v d.within d.walk;
+  least = λ j w. elim (cases_lt j k) [
+    | inl h ↦ d.least j (from j v (omega (arith, h, d.within)) w)
+    | inr h ↦ h
+  ];
+}
+
 -- links that are the same from where walks along the first end
 module _ (L M : ℕ → ℕ → Type 0) (T U : ℕ → Bool) (start top : ℕ) (P : ℕ → Type 0)
     (p : (k u : ℕ) → k ≤ top → Walk L T start k u → P u) (f : (u v : ℕ) → P u → T u ≡ false → L u v → (U u ≡ false) × M u v)
@@ -76,24 +89,7 @@ module _ (L M : ℕ → ℕ → Type 0) (T U : ℕ → Bool) (start top : ℕ) (
   near_from = walk_near M L U T start top P (λ k u h w n. p k u h n) g
 
   depth_near : (v k : ℕ) → HasDepth L T start top v k ↔ HasDepth M U start top v k
-  depth_near v k = (
-    λ d. record {
-      within = d.within;
-      walk = near_to k v d.within d.walk;
-      least = λ j w. elim (cases_lt j k) [
-        | inl h ↦ d.least j (near_from j v (omega (arith, h, d.within)) w)
-        | inr h ↦ h
-      ];
-    },
-    λ d. record {
-      within = d.within;
-      walk = near_from k v d.within d.walk;
-      least = λ j w. elim (cases_lt j k) [
-        | inl h ↦ d.least j (near_to j v (omega (arith, h, d.within)) w)
-        | inr h ↦ h
-      ];
-    },
-  )
+  depth_near v k = (depth_by L M T U start top near_to near_from v k, depth_by M L U T start top near_from near_to v k)
 
   depths_near : (mark : ℕ → Option ℕ) → AreDepths L T start top mark → AreDepths M U start top mark
   depths_near mark d v k = (λ e. (depth_near v k).0 ((d v k).0 e), λ h. (d v k).1 ((depth_near v k).1 h))
