@@ -4,9 +4,9 @@ use Rattle.std.specs.Prelude.{ℕ, Bool, not, ◌&&◌, List, [], Option, if◌t
 use Rattle.ifmap_ident.specs.declared.identifiers.Identifier.{Identifier}
 use Rattle.ifmap_ident.specs.declared.items.Item.{Item}
 use Rattle.ifmap_meta.specs.declared.stored.Stored.{Stored}
+use Rattle.ifmap_region.specs.declared.region.Region.{Region}
 use Rattle.ifmap_region.specs.Marks.{mark_of, over}
 use Rattle.ifmap_search.specs.declared.searches.Search.{Search}
-use Rattle.ifmap_region.specs.declared.region.Region.{Region}
 use Rattle.ifmap_view.specs.declared.attachments.Attachment.{Attachment}
 use Rattle.ifmap_view.specs.declared.views.LinkSeen.{LinkSeen}
 use Rattle.ifmap_view.specs.Rows.{stored_on}

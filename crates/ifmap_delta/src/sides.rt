@@ -1,16 +1,14 @@
 //! What a subscription shows of a view, by its marks.
-ghost use Rattle.std.specs.Prelude.{◌≡◌, Some, IfSome, ◌&&◌, not, ◌≤◌};
+ghost use Rattle.std.specs.Prelude.{◌≡◌};
 ghost use Rattle.ifmap_folds.specs.Notes.{counts_on};
 ghost use Rattle.ifmap_delta.specs.Located.{IsLocated, IsNumberOf};
 ghost use Rattle.ifmap_delta.specs.Sights.{view_seen};
 ghost use Rattle.ifmap_delta.specs.Shown.{HasSideMarks, SeesView, goes_on, shown_on};
 ghost use Rattle.ifmap_fresh.specs.Fresh.{is_looked_at};
-ghost use Rattle.ifmap_fresh.specs.Linking.{is_terminal_at};
 ghost use Rattle.ifmap_fresh.specs.Reached.{is_expanded, is_reached};
 ghost use Rattle.ifmap_ident.specs.Canon.{IsIdentifier};
 ghost use Rattle.ifmap_ident.specs.Items.{IsCanonItem};
 ghost use Rattle.ifmap_ident.specs.declared.identifiers.Identifier.{Identifier};
-ghost use Rattle.ifmap_view.specs.Rows.{stored_on};
 
 use crate::locating::{Located, locate_item};
 use crate::marks::Marks;

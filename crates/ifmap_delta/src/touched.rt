@@ -1,5 +1,5 @@
 //! The items on which a change may tell something.
-ghost use Rattle.std.specs.Prelude.{◌≡◌, ◌≤◌, ◌<◌, ◌+◌, [], ◌∷◌, ◌++◌, ◌||◌, ℕ, Some, OnOk, IfOk, length, option_copied, slice_get, sum_by, nat_eq};
+ghost use Rattle.std.specs.Prelude.{◌≡◌, ◌≤◌, ◌<◌, ◌+◌, [], ◌∷◌, ◌++◌, ◌||◌, Some, OnOk, IfOk, length, option_copied, slice_get, sum_by, nat_eq};
 ghost use Rattle.std.specs.List.{AllByRecursion, IsDistinct, cons_option};
 ghost use Rattle.ifmap_delta.specs.Changes.{ShowsAfter};
 ghost use Rattle.ifmap_delta.specs.Located.{AreLocated, IsLocatedTwice};
