@@ -16,7 +16,6 @@ use Rattle.ifmap_machine.specs.Telling.{limit_note}
 use Rattle.ifmap_meta.specs.ClientNames.{is_client_byte}
 use Rattle.ifmap_replies.specs.Fit.{IsWord}
 use Rattle.ifmap_session.specs.Sessions.{limit_of}
-use Rattle.uuid.specs.Text as uuid
 use Rattle.ifmap_elem.specs.laws.CharacterLaws.{is_plain, plain_characters}
 use Rattle.ifmap_session.specs.laws.IdLaws.{decimal_plain}
 

@@ -24,13 +24,13 @@ use Rattle.ifmap_machine.specs.Events.{Event, IsFitAsk, IsFitEvent}
 use Rattle.ifmap_machine.specs.Legal.{AreFit, History, Legal, LegalFrom, state_after, state_from}
 use Rattle.ifmap_machine.specs.Since.{AgreesFrom, FoldsSince, IsToldPoll, KeepsSubscription, Updates}
 use Rattle.ifmap_machine.specs.State.{Standing, State, advance, opening}
-use Rattle.ifmap_machine.specs.Step.{answer_subscribed, author_in, end_session, in_session, is_full, lose, poll, poll_in}
-use Rattle.ifmap_machine.specs.Step.{poll_queue, publish, purge, renew, renew_first, renew_session, search, step, step_ask, subscribe}
-use Rattle.ifmap_machine.specs.Step.{with_told}
+use Rattle.ifmap_machine.specs.Step.{answer_subscribed, author_in, end_session, in_session, is_full, poll, poll_in, poll_queue, publish}
+use Rattle.ifmap_machine.specs.Step.{purge, renew, renew_first, renew_session, search, step, step_ask, subscribe, with_told}
 use Rattle.ifmap_machine.specs.Subscribing.{Told, subscribe_ops}
-use Rattle.ifmap_machine.specs.Telling.{is_too_big, overflow, tell}
+use Rattle.ifmap_machine.specs.Telling.{overflow, tell}
 use Rattle.ifmap_machine.proofs.Agreeing.{Follows, Tells, begun_follows, drop_follows, one_serial, ops_renew, ops_tell, overflow_follows}
 use Rattle.ifmap_machine.proofs.Agreeing.{poll_follows, renewed_follows, tell_follows, tells_fewer, told_follows}
+use Rattle.ifmap_machine.proofs.Cases.{former_keeps, in_session_keeps, lost_keeps, poll_keeps, purge_keeps, search_keeps}
 use Rattle.ifmap_machine.proofs.Folding.{Folds, fold_joined}
 use Rattle.ifmap_machine.proofs.Ids.{find_has, one_of_serial}
 use Rattle.ifmap_machine.proofs.Standing.{IsStood, ended_stood, event_stood, stood_filter, stood_none}
@@ -181,6 +181,9 @@ module _ (Good : List Attachment → Type 0) (good_none : Good []) (good_retract
     good : Good state.graph
     follows : Follows Live done state
 
+  abbrev BothHold : (Standing → Type 0) → (List ℕ → Sets) → State → Type 0
+  BothHold Live done state = Good state.graph × Follows Live done state
+
   -- the ends of sessions
   ended_follows : {Live : Standing → Type 0} (serials : List ℕ) (done : List ℕ → Sets) (state : State)
       → IsStood state → Good state.graph → Follows Live done state
@@ -199,8 +202,8 @@ module _ (Good : List Attachment → Type 0) (good_none : Good []) (good_retract
   former_follows : {Live : Standing → Type 0} (o : Option Session) (done : List ℕ → Sets) (state : State)
       → IsStood state → Good state.graph → Follows Live done state
       → Good (end_former o state).graph × Follows Live done (end_former o state)
-  former_follows None done state stood good w = (good, w)
-  former_follows (Some s) done state stood good w = ended_follows (s.serial ∷ []) done state stood good w
+  former_follows {Live} o done state stood good w =
+      former_keeps (BothHold Live done) state o (λ s. ended_follows (s.serial ∷ []) done state stood good w) (good, w)
 
   changed_follows : {Live : Standing → Type 0} (serial : ℕ) (after : List Attachment) (notes : List Note) (done : List ℕ → Sets)
       (state : State) → IsStood state
@@ -214,9 +217,8 @@ module _ (Good : List Attachment → Type 0) (good_none : Good []) (good_retract
       → ((s : Session) → o ≡ Some s → is_same_text s.client client ≡ true → Good (accept s).0.graph × Follows Live done (accept s).0)
       → Good state.graph → Follows Live done state
       → Good (in_session state client o accept).0.graph × Follows Live done (in_session state client o accept).0
-  in_session_follows done state client accept None f good w = (good, w)
-  in_session_follows done state client accept (Some s) f good w =
-      elim (cases_Bool (is_same_text s.client client)) [ inl hit ↦ rw hit (f s refl hit) | inr miss ↦ rw miss (good, w) ]
+  in_session_follows {Live} done state client accept o f good w =
+      in_session_keeps (BothHold Live done) state client accept o f (good, w)
 
   subscribed_follows : {Live : Standing → Type 0} (done : List ℕ → Sets) (state : State) (q : Session → Bool) (s : Session)
       (ops : List SubscribeOp)
@@ -254,14 +256,9 @@ module _ (Good : List Attachment → Type 0) (good_none : Good []) (good_retract
       → IsTabled state → IsStood state → Good state.graph → Follows Live done state
       → Good (step_ask state event ask).0.graph × Follows Live (done_after ask (step_ask state event ask).1 done)
       (step_ask state event ask).0
-  step_follows {Live} done state event (Lost id) name fit tabled stood good w = lost (session_with_id id state.sessions)
-    where
-      lost : (o : Option Session) → Good (lose state event.client o).0.graph × Follows Live done (lose state event.client o).0
-      lost None = (good, w)
-      lost (Some s) = elim (cases_Bool (is_same_text s.client event.client)) [
-        | inl hit ↦ rw hit (ended_follows (s.serial ∷ []) done state stood good w)
-        | inr miss ↦ rw miss (good, w)
-      ]
+  step_follows {Live} done state event (Lost id) name fit tabled stood good w =
+      lost_keeps (BothHold Live done) state event.client (session_with_id id state.sessions)
+      (λ s. ended_follows (s.serial ∷ []) done state stood good w) (good, w)
   step_follows done state event (Request (the_request.NewSession limit)) name fit tabled stood good w =
       elim (cases_Bool (is_full state event.client)) [
         | inl hit ↦ rw hit (good, w)
@@ -284,47 +281,25 @@ module _ (Good : List Attachment → Type 0) (good_none : Good []) (good_retract
         changed_follows s.serial (apply state.graph (author_in state s) ops) (notes_of (author_in state s) ops) done state stood
             good good_after w,
       )) good w
-  step_follows done state event (Request (the_request.Search id asked)) name fit tabled stood good w =
+  step_follows {Live} done state event (Request (the_request.Search id asked)) name fit tabled stood good w =
       in_session_follows done state event.client (search state asked) (session_with_id id state.sessions)
-      (λ s found own. elim (cases_Bool (is_too_big state.graph asked)) [
-        | inl hit ↦ rw hit (good, w)
-        | inr miss ↦ rw miss (good, renewed_follows s.serial done state w)
-      ]) good w
+      (λ s found own. search_keeps (BothHold Live done) state asked s (good, renewed_follows s.serial done state w) (good, w)) good w
   step_follows done state event (Request (the_request.Subscribe id ops)) name fit tabled stood good w =
       in_session_follows done state event.client (subscribe state ops) (session_with_id id state.sessions)
       (λ s found own. subscribed_follows done state (λ (y : Session). is_same_text y.id id) s ops tabled good w found) good w
   step_follows done state event (Request (the_request.Poll id)) name fit tabled stood good w = (
-    polled event.again (session_with_id id state.sessions),
+    poll_keeps (λ (one : State). Good one.graph) (λ serial one g. g) state event.client event.again (session_with_id id state.sessions)
+        (λ s. good) good,
     poll_follows done state event.client id event.again (session_with_id id state.sessions) tabled refl w,
   )
-    where
-      first : (again : Bool) (n : ℕ) (one : State) → Good one.graph → Good (renew_first again n one).graph
-      first true n one g = g
-      first false n one g = g
-
-      queued : (again : Bool) (s : Session) (queue : List PollItem) → Good (poll_queue state again s queue).0.graph
-      queued again s [] = first again s.serial state good
-      queued again s (item ∷ items) = first again s.serial _ good
-
-      in_one : (again : Bool) (o : Option Session) → Good (in_session state event.client o (poll_in state again)).0.graph
-      in_one again None = good
-      in_one again (Some s) = elim (cases_Bool (is_same_text s.client event.client)) [
-        | inl hit ↦ rw hit (queued again s s.queue)
-        | inr miss ↦ rw miss good
-      ]
-
-      polled : (again : Bool) (o : Option Session) → Good (poll state event.client again o).0.graph
-      polled true None = good
-      polled true (Some s) = in_one true (Some s)
-      polled false o = in_one false o
-  step_follows done state event (Request (the_request.PurgePublisher id publisher)) name fit tabled stood good w =
+  step_follows {Live} done state event (Request (the_request.PurgePublisher id publisher)) name fit tabled stood good w =
       in_session_follows done state event.client (purge state publisher) (session_with_id id state.sessions)
-      (λ s found own. elim (cases_Bool (is_same_text publisher s.client)) [
-        | inl hit ↦
-            let good_after = good_retracted (Publisher publisher) state.graph good in
-            rw hit (good_after, changed_follows s.serial (retract (Publisher publisher) state.graph) [] done state stood good good_after w)
-        | inr miss ↦ rw miss (good, w)
-      ]) good w
+      (λ s found own.
+      let good_after = good_retracted (Publisher publisher) state.graph good in
+      purge_keeps (BothHold Live done) state publisher s (
+        good_after,
+        changed_follows s.serial (retract (Publisher publisher) state.graph) [] done state stood good good_after w,
+      ) (good, w)) good w
 
   event_holds : {Live : Standing → Type 0} (done : List ℕ → Sets) (state : State) (event : Event) → IsFitEvent event → Holds Live done state
       → Holds Live (done_after event.ask (step state event).1 done) (step state event).0

@@ -9,19 +9,16 @@ use Rattle.std.specs.List.{AllByRecursion, filter, list_any}
 use Rattle.std.specs.Ordering.{is_gt, is_lt}
 use Rattle.ifmap_ident.specs.declared.items.Item.{Item}
 use Rattle.ifmap_lemmas.specs.Filters.{all_around, all_filter, all_weaker}
-use Rattle.ifmap_machine.specs.declared.events.Answer.{Answer}
 use Rattle.ifmap_machine.specs.declared.events.Ask.{Ask}
-use Rattle.ifmap_machine.specs.declared.events.Ask.TheVariants.{Request, Lost}
 use Rattle.ifmap_machine.specs.Ending.{drop_sessions, end_former, end_sessions, end_some, expire}
 use Rattle.ifmap_machine.specs.Events.{Event}
 use Rattle.ifmap_machine.specs.Legal.{History, state_from}
 use Rattle.ifmap_machine.specs.Lives.{AllLive, IsLifeFor}
 use Rattle.ifmap_machine.specs.State.{State, advance, opening}
-use Rattle.ifmap_machine.specs.Step.{answer_subscribed, author_in, begin_session, end_session, in_session, is_full, lose, next_session}
-use Rattle.ifmap_machine.specs.Step.{poll, poll_in, poll_queue, publish, purge, renew, renew_first, renew_session, search, step, step_ask}
-use Rattle.ifmap_machine.specs.Step.{subscribe, with_told}
+use Rattle.ifmap_machine.specs.Step.{answer_subscribed, author_in, begin_session, next_session, renew, step, step_ask, with_told}
 use Rattle.ifmap_machine.specs.Subscribing.{Told}
-use Rattle.ifmap_machine.specs.Telling.{is_too_big, overflow, overflow_session, tell}
+use Rattle.ifmap_machine.specs.Telling.{overflow, overflow_session, tell}
+use Rattle.ifmap_machine.proofs.Cases.{former_keeps, step_keeps}
 use Rattle.ifmap_machine.proofs.Tables.{IsTabled, event_table, expired_table, opening_table, overflow_keeps, told_keeps}
 use Rattle.ifmap_meta.specs.declared.metadata.Metadata.{Metadata}
 use Rattle.ifmap_meta.specs.declared.stored.Life.{Life}
@@ -33,9 +30,8 @@ use Rattle.ifmap_publish.specs.declared.who.Who.TheVariants.{Sessions, Publisher
 use Rattle.ifmap_publish.specs.Retract.{ends_with, retract}
 use Rattle.ifmap_publish.specs.ifmap_requests.declared.publishing.PublishOp.{PublishOp}
 use Rattle.ifmap_publish.specs.ifmap_requests.declared.publishing.PublishOp.TheVariants.{Update, Notify, Delete}
-use Rattle.ifmap_publish.specs.ifmap_requests.declared.requests.Request.TheVariants as the_request
 use Rattle.ifmap_replies.specs.ifmap_search.declared.results.PollItem.{PollItem}
-use Rattle.ifmap_session.specs.Sessions.{Session, change, is_same_text, session_of_client, session_with_id, with_last, without_items}
+use Rattle.ifmap_session.specs.Sessions.{Session, is_same_text, session_of_client, with_last}
 use Rattle.ifmap_session.specs.Sessions.{session_with_serial, without_sessions}
 use Rattle.ifmap_session.specs.laws.TableLaws.{KeepsIdAndClient, found_by_serial, found_beside_begun}
 use Rattle.ifmap_session.specs.laws.TextLaws.{find_kept}
@@ -169,10 +165,6 @@ kept_queued n queue = record {
 renewed_lives : (n : ℕ) (state : State) → AllLive state → AllLive (renew n state)
 renewed_lives n state w = lives_mapped _ (kept_renewed n state.moment) state.sessions state.graph w
 
-first_lives : (again : Bool) (n : ℕ) (state : State) → AllLive state → AllLive (renew_first again n state)
-first_lives true n state w = w
-first_lives false n state w = renewed_lives n state w
-
 overflow_lives : (state : State) → AllLive state → AllLive (overflow state)
 overflow_lives state w = lives_mapped overflow_session overflow_keeps state.sessions state.graph w
 
@@ -186,10 +178,6 @@ ended_lives (serial ∷ serials) state w =
     (tell_lives (retract (Sessions (serial ∷ serials)) state.graph) [] (drop_sessions (serial ∷ serials) state)
     (lives_left (serial ∷ serials) state.sessions state.graph w))
 
-former_lives : (o : Option Session) (state : State) → AllLive state → AllLive (end_former o state)
-former_lives None state w = w
-former_lives (Some s) state w = ended_lives (s.serial ∷ []) state w
-
 begun_lives : (client : List ℕ) (random : ℕ) (limit : Option ℕ) (state : State) → AllLive state
     → AllLive (begin_session client random limit state)
 begun_lives client random limit state w =
@@ -202,78 +190,30 @@ changed_lives : (n : ℕ) (after : List Attachment) (notes : List Note) (state :
 changed_lives n after notes state w =
     renewed_lives n (overflow (tell after notes state)) (overflow_lives (tell after notes state) (tell_lives after notes state w))
 
-in_session_lives : (state : State) (client : List ℕ) (accept : Session → State × Answer) (o : Option Session)
-    → ((s : Session) → o ≡ Some s → AllLive (accept s).0) → AllLive state → AllLive (in_session state client o accept).0
-in_session_lives state client accept None f w = w
-in_session_lives state client accept (Some s) f w =
-    elim (cases_Bool (is_same_text s.client client)) [ inl hit ↦ rw hit (f s refl) | inr miss ↦ rw miss w ]
-
 subscribed_lives : (state : State) (s : Session) (o : Option Told) → AllLive state → AllLive (answer_subscribed state s o).0
 subscribed_lives state s None w = w
 subscribed_lives state s (Some t) w =
     renewed_lives s.serial (overflow (with_told s.serial t state)) (overflow_lives (with_told s.serial t state)
     (lives_mapped _ (kept_queued s.serial t.queue) state.sessions state.graph w))
 
-queue_lives : (state : State) (again : Bool) (s : Session) (queue : List PollItem) → AllLive state
-    → AllLive (poll_queue state again s queue).0
-queue_lives state again s [] w = first_lives again s.serial state w
-queue_lives state again s (item ∷ items) w =
-    first_lives again s.serial (record state { sessions = change s.serial without_items state.sessions })
-    (lives_mapped _ (kept_queued s.serial []) state.sessions state.graph w)
-
-poll_lives : (state : State) (client : List ℕ) (again : Bool) (o : Option Session) → AllLive state
-    → AllLive (poll state client again o).0
-poll_lives state client true None w = w
-poll_lives state client true (Some s) w = in_session_lives state client (poll_in state true) (Some s)
-    (λ t e. queue_lives state true t t.queue w) w
-poll_lives state client false o w = in_session_lives state client (poll_in state false) o
-    (λ t e. queue_lives state false t t.queue w) w
-
-lost_lives : (state : State) (client : List ℕ) (o : Option Session) → AllLive state → AllLive (lose state client o).0
-lost_lives state client None w = w
-lost_lives state client (Some s) w =
-    elim (cases_Bool (is_same_text s.client client)) [
-      | inl hit ↦ rw hit (ended_lives (s.serial ∷ []) state w)
-      | inr miss ↦ rw miss w
-    ]
-
 step_lives : (state : State) (event : Event) (ask : Ask) → IsTabled state → AllLive state → AllLive (step_ask state event ask).0
-step_lives state event (Lost id) tabled w = lost_lives state event.client (session_with_id id state.sessions) w
-step_lives state event (Request (the_request.NewSession limit)) tabled w =
-    elim (cases_Bool (is_full state event.client)) [
-      | inl hit ↦ rw hit w
-      | inr miss ↦ rw miss (begun_lives event.client event.random limit (end_former (session_of_client event.client state.sessions) state)
-          (former_lives (session_of_client event.client state.sessions) state w))
-    ]
-step_lives state event (Request (the_request.RenewSession id)) tabled w =
-    in_session_lives state event.client (renew_session state) (session_with_id id state.sessions)
-    (λ s e. renewed_lives s.serial state w) w
-step_lives state event (Request (the_request.EndSession id)) tabled w =
-    in_session_lives state event.client (end_session state) (session_with_id id state.sessions)
-    (λ s e. ended_lives (s.serial ∷ []) state w) w
-step_lives state event (Request (the_request.Publish id ops)) tabled w =
-    in_session_lives state event.client (publish state ops) (session_with_id id state.sessions)
-    (λ s e. changed_lives s.serial (apply state.graph (author_in state s) ops) (notes_of (author_in state s) ops) state
-    (apply_lives state.sessions (author_in state s)
-    (s, found_by_serial (λ (t : Session). is_same_text t.id id) state.sessions s tabled.rising e, refl) ops state.graph w)) w
-step_lives state event (Request (the_request.Search id asked)) tabled w =
-    in_session_lives state event.client (search state asked) (session_with_id id state.sessions)
-    (λ s e. elim (cases_Bool (is_too_big state.graph asked)) [
-      | inl hit ↦ rw hit w
-      | inr miss ↦ rw miss (renewed_lives s.serial state w)
-    ]) w
-step_lives state event (Request (the_request.Subscribe id ops)) tabled w =
-    in_session_lives state event.client (subscribe state ops) (session_with_id id state.sessions)
-    (λ s e. subscribed_lives state s _ w) w
-step_lives state event (Request (the_request.Poll id)) tabled w =
-    poll_lives state event.client event.again (session_with_id id state.sessions) w
-step_lives state event (Request (the_request.PurgePublisher id publisher)) tabled w =
-    in_session_lives state event.client (purge state publisher) (session_with_id id state.sessions)
-    (λ s e. elim (cases_Bool (is_same_text publisher s.client)) [
-      | inl hit ↦ rw hit (changed_lives s.serial (retract (Publisher publisher) state.graph) [] state
-          (lives_filter _ state.sessions state.graph w))
-      | inr miss ↦ rw miss w
-    ]) w
+step_lives state event ask tabled w =
+    let ended : (s : Session) → AllLive (end_some (s.serial ∷ []) state) = λ s. ended_lives (s.serial ∷ []) state w in
+    step_keeps AllLive state event ask (record {
+      renewed = renewed_lives;
+      empty = λ s. lives_mapped _ (kept_queued s.serial []) state.sessions state.graph w;
+      ended = ended;
+      begun = λ limit free.
+          begun_lives event.client event.random limit (end_former (session_of_client event.client state.sessions) state)
+          (former_keeps AllLive state (session_of_client event.client state.sessions) ended w);
+      published = λ id ops is s found own.
+          changed_lives s.serial (apply state.graph (author_in state s) ops) (notes_of (author_in state s) ops) state
+          (apply_lives state.sessions (author_in state s)
+          (s, found_by_serial (λ (t : Session). is_same_text t.id id) state.sessions s tabled.rising found, refl) ops state.graph w);
+      subscribed = λ ops s. subscribed_lives state s _ w;
+      taken = λ publisher s. changed_lives s.serial (retract (Publisher publisher) state.graph) [] state
+          (lives_filter _ state.sessions state.graph w);
+    }) w
 
 event_lives : (state : State) (event : Event) → IsTabled state → AllLive state → AllLive (step state event).0
 event_lives state event tabled w =

@@ -14,25 +14,21 @@ use Rattle.std.specs.Ordering.{is_gt, is_lt}
 use Rattle.std.specs.declared.cmp.Ordering.{Ordering}
 use Rattle.std.specs.declared.cmp.Ordering.TheVariants.{Less, Equal, Greater}
 use Rattle.ifmap_lemmas.specs.Filters.{filter_fewer}
-use Rattle.ifmap_machine.specs.declared.events.Answer.{Answer}
 use Rattle.ifmap_machine.specs.declared.events.Ask.{Ask}
-use Rattle.ifmap_machine.specs.declared.events.Ask.TheVariants.{Request, Lost}
-use Rattle.ifmap_machine.specs.Ending.{end_former, end_some, expire}
+use Rattle.ifmap_machine.specs.Ending.{end_some, expire}
 use Rattle.ifmap_machine.specs.Events.{Event}
 use Rattle.ifmap_machine.specs.Legal.{History, state_from}
 use Rattle.ifmap_machine.specs.State.{Standing, State, advance, standing_in, standing_order}
-use Rattle.ifmap_machine.specs.Step.{answer_subscribed, end_session, in_session, is_full, lose, poll, poll_in, poll_queue, publish, purge}
-use Rattle.ifmap_machine.specs.Step.{renew_first, renew_session, search, step, step_ask, subscribe}
+use Rattle.ifmap_machine.specs.Step.{answer_subscribed, step, step_ask}
 use Rattle.ifmap_machine.specs.Subscribing.{Told, is_full_for, is_of_name, most_names, subscribe_op, subscribe_ops}
 use Rattle.ifmap_machine.specs.Telling.{is_too_big}
+use Rattle.ifmap_machine.proofs.Cases.{former_keeps, step_keeps}
 use Rattle.ifmap_folds.specs.ifmap_plans.Placing.{put}
 use Rattle.ifmap_folds.specs.ifmap_plans.laws.PlacingLaws.{put_sorted}
-use Rattle.ifmap_publish.specs.ifmap_requests.declared.requests.Request.TheVariants as the_request
 use Rattle.ifmap_publish.specs.ifmap_requests.declared.requests.SubscribeOp.{SubscribeOp}
 use Rattle.ifmap_publish.specs.ifmap_requests.declared.requests.SubscribeOp.TheVariants.{Update, Delete}
-use Rattle.ifmap_replies.specs.ifmap_search.declared.results.PollItem.{PollItem}
 use Rattle.ifmap_replies.specs.ifmap_search.declared.searches.Search.{Search}
-use Rattle.ifmap_session.specs.Sessions.{Session, is_same_text, session_of_client, session_with_id}
+use Rattle.ifmap_session.specs.Sessions.{Session, session_of_client}
 use Rattle.ifmap_publish.specs.ifmap_view.declared.attachments.Attachment.{Attachment}
 
 pub standing_total : IsTotalOrder standing_order
@@ -193,81 +189,24 @@ pub ended_stood : (serials : List ℕ) (state : State) → IsStood state → IsS
 ended_stood [] state w = w
 ended_stood (serial ∷ serials) state w = stood_filter _ _ (stood_filter _ _ (stood_filter _ state.standing w))
 
-former_stood : (o : Option Session) (state : State) → IsStood state → IsStood (end_former o state)
-former_stood None state w = w
-former_stood (Some s) state w = ended_stood (s.serial ∷ []) state w
-
-in_session_stood : (state : State) (client : List ℕ) (accept : Session → State × Answer) (o : Option Session)
-    → ((s : Session) → IsStood (accept s).0) → IsStood state → IsStood (in_session state client o accept).0
-in_session_stood state client accept None f w = w
-in_session_stood state client accept (Some s) f w =
-    elim (cases_Bool (is_same_text s.client client)) [ inl hit ↦ rw hit (f s) | inr miss ↦ rw miss w ]
-
-search_stood : (state : State) (asked : Search) (s : Session) → IsStood state → IsStood (search state asked s).0
-search_stood state asked s w =
-    elim (cases_Bool (is_too_big state.graph asked)) [ inl hit ↦ rw hit w | inr miss ↦ rw miss w ]
-
-purge_stood : (state : State) (publisher : List ℕ) (s : Session) → IsStood state → IsStood (purge state publisher s).0
-purge_stood state publisher s w =
-    elim (cases_Bool (is_same_text publisher s.client)) [
-      | inl hit ↦ rw hit (stood_filter _ _ (stood_filter _ state.standing w))
-      | inr miss ↦ rw miss w
-    ]
-
 subscribed_stood : (state : State) (s : Session) (o : Option Told) → Stood o → IsStood state → IsStood (answer_subscribed state s o).0
 subscribed_stood state s None h w = w
 subscribed_stood state s (Some t) h w = stood_filter _ t.standing h
 
-first_stood : (again : Bool) (serial : ℕ) (state : State) → IsStood state → IsStood (renew_first again serial state)
-first_stood true serial state w = w
-first_stood false serial state w = w
-
-queue_stood : (state : State) (again : Bool) (s : Session) (queue : List PollItem) → IsStood state
-    → IsStood (poll_queue state again s queue).0
-queue_stood state again s [] w = first_stood again s.serial state w
-queue_stood state again s (item ∷ items) w = first_stood again s.serial _ w
-
-poll_stood : (state : State) (client : List ℕ) (again : Bool) (o : Option Session) → IsStood state → IsStood (poll state client again o).0
-poll_stood state client true None w = w
-poll_stood state client true (Some s) w = in_session_stood state client (poll_in state true) (Some s)
-    (λ t. queue_stood state true t t.queue w) w
-poll_stood state client false o w = in_session_stood state client (poll_in state false) o
-    (λ t. queue_stood state false t t.queue w) w
-
-lost_stood : (state : State) (client : List ℕ) (o : Option Session) → IsStood state → IsStood (lose state client o).0
-lost_stood state client None w = w
-lost_stood state client (Some s) w =
-    elim (cases_Bool (is_same_text s.client client)) [
-      | inl hit ↦ rw hit (ended_stood (s.serial ∷ []) state w)
-      | inr miss ↦ rw miss w
-    ]
-
 pub step_stood : (state : State) (event : Event) (ask : Ask) → IsStood state → IsStood (step_ask state event ask).0
-step_stood state event (Lost id) w = lost_stood state event.client (session_with_id id state.sessions) w
-step_stood state event (Request (the_request.NewSession limit)) w =
-    elim (cases_Bool (is_full state event.client)) [
-      | inl hit ↦ rw hit w
-      | inr miss ↦ rw miss (former_stood (session_of_client event.client state.sessions) state w)
-    ]
-step_stood state event (Request (the_request.RenewSession id)) w =
-    in_session_stood state event.client (renew_session state) (session_with_id id state.sessions) (λ s. w) w
-step_stood state event (Request (the_request.EndSession id)) w =
-    in_session_stood state event.client (end_session state) (session_with_id id state.sessions)
-    (λ s. ended_stood (s.serial ∷ []) state w) w
-step_stood state event (Request (the_request.Publish id ops)) w =
-    in_session_stood state event.client (publish state ops) (session_with_id id state.sessions)
-    (λ s. stood_filter _ _ (stood_filter _ state.standing w)) w
-step_stood state event (Request (the_request.Search id asked)) w =
-    in_session_stood state event.client (search state asked) (session_with_id id state.sessions) (λ s. search_stood state asked s w) w
-step_stood state event (Request (the_request.Subscribe id ops)) w =
-    in_session_stood state event.client (subscribe state ops) (session_with_id id state.sessions)
-    (λ s. subscribed_stood state s (subscribe_ops state.graph s.serial ops (record { queue = s.queue; standing = state.standing }))
-    (stood_ops state.graph s.serial ops (record { queue = s.queue; standing = state.standing }) w) w) w
-step_stood state event (Request (the_request.Poll id)) w =
-    poll_stood state event.client event.again (session_with_id id state.sessions) w
-step_stood state event (Request (the_request.PurgePublisher id publisher)) w =
-    in_session_stood state event.client (purge state publisher) (session_with_id id state.sessions)
-    (λ s. purge_stood state publisher s w) w
+step_stood state event ask w =
+    let ended : (s : Session) → IsStood (end_some (s.serial ∷ []) state) = λ s. ended_stood (s.serial ∷ []) state w in
+    step_keeps IsStood state event ask (record {
+      renewed = λ serial one v. v;
+      empty = λ s. w;
+      ended = ended;
+      begun = λ limit free. former_keeps IsStood state (session_of_client event.client state.sessions) ended w;
+      published = λ id ops is s found own. stood_filter _ _ (stood_filter _ state.standing w);
+      subscribed = λ ops s.
+          subscribed_stood state s (subscribe_ops state.graph s.serial ops (record { queue = s.queue; standing = state.standing }))
+          (stood_ops state.graph s.serial ops (record { queue = s.queue; standing = state.standing }) w) w;
+      taken = λ publisher s. stood_filter _ _ (stood_filter _ state.standing w);
+    }) w
 
 pub event_stood : (state : State) (event : Event) → IsStood state → IsStood (step state event).0
 event_stood state event w = step_stood (expire (advance event.moment state)) event event.ask

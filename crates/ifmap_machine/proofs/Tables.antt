@@ -1,7 +1,7 @@
 -- What holds of the sessions in every state: `IsTable`, kept by each case of the step.
 -- First: a function of each session that keeps its serial, id and client keeps it (`mapped_table`); so telling and overflowing do.
 -- Then: some sessions end (`dropped_table`). Then the cases of the step (`step_table`), and histories (`table_after`).
-use Rattle.std.proofs.Common.{◌≡◌, refl, sym, ◌∙◌, ap, subst, ℕ, suc, ◌+◌, ◌-◌, ◌^◌, ◌<◌, ◌≤◌, ◌==◌, ◌&&◌, Bool, true, false}
+use Rattle.std.proofs.Common.{◌≡◌, refl, sym, ◌∙◌, ap, subst, ℕ, suc, ◌+◌, ◌-◌, ◌^◌, ◌<◌, ◌≤◌, ◌==◌, ◌&&◌, true, false}
 use Rattle.std.proofs.Common.{List, [], ◌∷◌, length, map, Option, None, Some, inl, inr, nat_le, is_none, arith}
 use Rattle.std.proofs.lemmas.Bool.{and_cases, both_ways, cases_Bool, or_parts}
 use Rattle.std.proofs.lemmas.Bool.Decides.{nat_tests}
@@ -11,25 +11,19 @@ use Rattle.std.specs.List.Sorted.{IsStrictlySortedBy}
 use Rattle.std.specs.declared.cmp.Ordering.TheVariants.{Less}
 use Rattle.ifmap_lemmas.specs.Filters.{all_filter, all_weaker, filter_shorter}
 use Rattle.ifmap_lemmas.specs.Members.{map_of_all}
-use Rattle.ifmap_machine.specs.declared.events.Answer.{Answer}
 use Rattle.ifmap_machine.specs.declared.events.Ask.{Ask}
-use Rattle.ifmap_machine.specs.declared.events.Ask.TheVariants.{Request, Lost}
 use Rattle.ifmap_machine.specs.Ending.{drop_sessions, end_former, end_sessions, end_some, expire}
 use Rattle.ifmap_machine.specs.Events.{Event}
 use Rattle.ifmap_machine.specs.Legal.{History, state_from}
 use Rattle.ifmap_machine.specs.State.{State, advance, opening}
-use Rattle.ifmap_machine.specs.Step.{answer_subscribed, begin_session, end_session, in_session, is_full, lose, next_session}
-use Rattle.ifmap_machine.specs.Step.{poll, poll_in, poll_queue, publish, purge, renew, renew_first, renew_session, search, step, step_ask}
-use Rattle.ifmap_machine.specs.Step.{subscribe, with_told}
+use Rattle.ifmap_machine.specs.Step.{answer_subscribed, begin_session, is_full, next_session, renew, step, step_ask, with_told}
 use Rattle.ifmap_machine.specs.Subscribing.{Told}
-use Rattle.ifmap_machine.specs.Telling.{is_overfull, is_too_big, overflow, overflow_session, tell, tell_session, told_in_session}
+use Rattle.ifmap_machine.specs.Telling.{is_overfull, overflow, overflow_session, tell, tell_session, told_in_session}
+use Rattle.ifmap_machine.proofs.Cases.{step_keeps}
 use Rattle.ifmap_folds.specs.ifmap_plans.declared.plans.Note.{Note}
-use Rattle.ifmap_publish.specs.ifmap_requests.declared.requests.Request.TheVariants as the_request
-use Rattle.ifmap_replies.specs.ifmap_search.declared.results.PollItem.{PollItem}
-use Rattle.ifmap_replies.specs.ifmap_search.declared.searches.Search.{Search}
 use Rattle.ifmap_session.specs.SessionIds.{BeginsWithSerial}
-use Rattle.ifmap_session.specs.Sessions.{IsTable, Session, SessionTable, change, is_same_text, most_sessions, session_of_client, session_order, without_items}
-use Rattle.ifmap_session.specs.Sessions.{session_with_id, without_sessions}
+use Rattle.ifmap_session.specs.Sessions.{IsTable, Session, SessionTable, is_same_text, most_sessions, session_of_client, session_order, without_items}
+use Rattle.ifmap_session.specs.Sessions.{without_sessions}
 use Rattle.ifmap_session.specs.laws.TableLaws.{KeepsIdAndClient, begun_table, changed_table, client_freed, id_begins, one_fewer, renewed_keeps, is_left}
 use Rattle.ifmap_session.specs.laws.TextLaws.{distinct_filter}
 use Rattle.ifmap_publish.specs.ifmap_view.declared.attachments.Attachment.{Attachment}
@@ -185,34 +179,10 @@ new_table state client random limit (Some s) w free e =
 pub renewed_table : (serial : ℕ) (state : State) → IsTabled state → IsTabled (renew serial state)
 renewed_table serial state w = changed_table serial _ (renewed_keeps state.moment) (table_of state) w
 
-first_table : (again : Bool) (serial : ℕ) (state : State) → IsTabled state → IsTabled (renew_first again serial state)
-first_table true serial state w = w
-first_table false serial state w = renewed_table serial state w
-
-in_session_table : (state : State) (client : List ℕ) (accept : Session → State × Answer) (o : Option Session)
-    → ((s : Session) → IsTabled (accept s).0) → IsTabled state → IsTabled (in_session state client o accept).0
-in_session_table state client accept None f w = w
-in_session_table state client accept (Some s) f w =
-    elim (cases_Bool (is_same_text s.client client)) [ inl hit ↦ rw hit (f s) | inr miss ↦ rw miss w ]
-
-search_table : (state : State) (asked : Search) (s : Session) → IsTabled state → IsTabled (search state asked s).0
-search_table state asked s w =
-    elim (cases_Bool (is_too_big state.graph asked)) [
-      | inl hit ↦ rw hit w
-      | inr miss ↦ rw miss (renewed_table s.serial state w)
-    ]
-
 changed_tell : (serial : ℕ) (after : List Attachment) (notes : List Note) (state : State) → IsTabled state
     → IsTabled (renew serial (overflow (tell after notes state)))
 changed_tell serial after notes state w =
     renewed_table serial (overflow (tell after notes state)) (overflow_table (tell after notes state) (tell_table after notes state w))
-
-purge_table : (state : State) (publisher : List ℕ) (s : Session) → IsTabled state → IsTabled (purge state publisher s).0
-purge_table state publisher s w =
-    elim (cases_Bool (is_same_text publisher s.client)) [
-      | inl hit ↦ rw hit (changed_tell s.serial _ [] state w)
-      | inr miss ↦ rw miss w
-    ]
 
 subscribed_table : (state : State) (s : Session) (o : Option Told) → IsTabled state → IsTabled (answer_subscribed state s o).0
 subscribed_table state s None w = w
@@ -221,54 +191,17 @@ subscribed_table state s (Some t) w =
     (record { serial = λ x. refl; id = λ x. refl; client = λ x. refl }) (table_of state) w in
     renewed_table s.serial (overflow (with_told s.serial t state)) (overflow_table (with_told s.serial t state) told)
 
-queue_table : (state : State) (again : Bool) (s : Session) (queue : List PollItem) → IsTabled state
-    → IsTabled (poll_queue state again s queue).0
-queue_table state again s [] w = first_table again s.serial state w
-queue_table state again s (item ∷ items) w =
-    first_table again s.serial (record state { sessions = change s.serial without_items state.sessions })
-    (changed_table s.serial without_items (record { serial = λ x. refl; id = λ x. refl; client = λ x. refl }) (table_of state) w)
-
-poll_table : (state : State) (client : List ℕ) (again : Bool) (o : Option Session) → IsTabled state
-    → IsTabled (poll state client again o).0
-poll_table state client true None w = w
-poll_table state client true (Some s) w = in_session_table state client (poll_in state true) (Some s)
-    (λ t. queue_table state true t t.queue w) w
-poll_table state client false o w = in_session_table state client (poll_in state false) o
-    (λ t. queue_table state false t t.queue w) w
-
-lost_table : (state : State) (client : List ℕ) (o : Option Session) → IsTabled state → IsTabled (lose state client o).0
-lost_table state client None w = w
-lost_table state client (Some s) w =
-    elim (cases_Bool (is_same_text s.client client)) [
-      | inl hit ↦ rw hit (ended_table (s.serial ∷ []) state w)
-      | inr miss ↦ rw miss w
-    ]
-
 pub step_table : (state : State) (event : Event) (ask : Ask) → IsTabled state → IsTabled (step_ask state event ask).0
-step_table state event (Lost id) w = lost_table state event.client (session_with_id id state.sessions) w
-step_table state event (Request (the_request.NewSession limit)) w =
-    elim (cases_Bool (is_full state event.client)) [
-      | inl hit ↦ rw hit w
-      | inr miss ↦ rw miss (new_table state event.client event.random limit (session_of_client event.client state.sessions) w miss refl)
-    ]
-step_table state event (Request (the_request.RenewSession id)) w =
-    in_session_table state event.client (renew_session state) (session_with_id id state.sessions) (λ s. renewed_table s.serial state w) w
-step_table state event (Request (the_request.EndSession id)) w =
-    in_session_table state event.client (end_session state) (session_with_id id state.sessions)
-    (λ s. ended_table (s.serial ∷ []) state w) w
-step_table state event (Request (the_request.Publish id ops)) w =
-    in_session_table state event.client (publish state ops) (session_with_id id state.sessions)
-    (λ s. changed_tell s.serial _ _ state w) w
-step_table state event (Request (the_request.Search id asked)) w =
-    in_session_table state event.client (search state asked) (session_with_id id state.sessions) (λ s. search_table state asked s w) w
-step_table state event (Request (the_request.Subscribe id ops)) w =
-    in_session_table state event.client (subscribe state ops) (session_with_id id state.sessions)
-    (λ s. subscribed_table state s _ w) w
-step_table state event (Request (the_request.Poll id)) w =
-    poll_table state event.client event.again (session_with_id id state.sessions) w
-step_table state event (Request (the_request.PurgePublisher id publisher)) w =
-    in_session_table state event.client (purge state publisher) (session_with_id id state.sessions)
-    (λ s. purge_table state publisher s w) w
+step_table state event ask w = step_keeps IsTabled state event ask (record {
+  renewed = renewed_table;
+  empty = λ s. changed_table s.serial without_items (record { serial = λ x. refl; id = λ x. refl; client = λ x. refl })
+      (table_of state) w;
+  ended = λ s. ended_table (s.serial ∷ []) state w;
+  begun = λ limit free. new_table state event.client event.random limit (session_of_client event.client state.sessions) w free refl;
+  published = λ id ops is s found own. changed_tell s.serial _ _ state w;
+  subscribed = λ ops s. subscribed_table state s _ w;
+  taken = λ publisher s. changed_tell s.serial _ [] state w;
+}) w
 
 pub event_table : (state : State) (event : Event) → IsTabled state → IsTabled (step state event).0
 event_table state event w = step_table (expire (advance event.moment state)) event event.ask
