@@ -3,7 +3,6 @@ pub mod Characters
 pub mod FilterLaws
 pub mod Single
 pub mod Done
-pub mod PublishedLaws
 pub mod FormLaws
 pub mod NameLaws
 pub mod ReadingLaws

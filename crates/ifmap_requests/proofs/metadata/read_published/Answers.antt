@@ -1,49 +1,33 @@
-use Rattle.std.proofs.Common.{◌≡◌, [], List, Ok, drop, subst}
-use Rattle.ifmap_elem.specs.declared.elements.Child.{Child}
+use Rattle.std.proofs.Common.{Err, List, Ok, Option, refl, subst, sym}
+use Rattle.ifmap_ident.specs.declared.codes.Code.TheVariants.{Failure}
+use Rattle.ifmap_ident.specs.declared.items.Item.{Item}
+use Rattle.ifmap_meta.specs.declared.metadata.Metadata.{Metadata}
 use Rattle.ifmap_forms.specs.AnswerLaws.{refused_exit_as}
-use Rattle.ifmap_forms.specs.Answers.{IsCheckRefusal}
-use Rattle.ifmap_forms.specs.Items.{before_list, from_list, identifiers_check, list_if_there}
-use Rattle.ifmap_forms.specs.Tables.{Part, parts_in}
+use Rattle.ifmap_forms.specs.Checks.{Check, need_some, pass}
+use Rattle.ifmap_forms.specs.ListLaws.{listed_makes, listed_refused}
+use Rattle.ifmap_forms.specs.Tables.{Both, both, parts_in}
 use Rattle.ifmap_requests.specs.Published.{metadata_check, published_check, published_parts}
-use Rattle.ifmap_requests.proofs.PublishedLaws.{published_whole, refused_identifiers, refused_list}
 use Rattle.ifmap_requests.proofs.metadata.read_published.Goals as goal
 
-pub returns-in_err-identifiers : goal.returns-in_err-identifiers
-returns-in_err-identifiers c =
-    let error = c.in_err-identifiers.field-0.0 in
-    refused_exit_as published_parts (published_check (parts_in c.args.children.items)) c.from_residual.result error
-    c.from_residual.ensures.1
-    (subst (λ (cs : List Child). IsCheckRefusal (published_check (parts_in cs)) error) c.as_slice-all.ensures.value
-    (refused_identifiers (parts_in c.as_slice-all.result.now) error c.in_err-identifiers.ensures))
+abbrev published_of : Item → Option (List Metadata) → Check (Both Item (List Metadata))
+published_of item list = need_some Failure list (λ elements. pass (both item elements))
 
-pub returns-in_err-list : goal.returns-in_err-list
-returns-in_err-list c =
-    let error = c.in_err-list.field-0.0 in
+pub returns-in_err-listed : goal.returns-in_err-listed
+returns-in_err-listed c =
     let parts = parts_in c.args.children.items in
-    let index = c.list_index-index.result in
-    let identifiers = c.in_ok-identifiers.identifiers.items in
-    let before : identifiers_check 2 [] (before_list parts) (Ok identifiers) =
-    subst (λ (cs : List Child). identifiers_check 2 [] (before_list (parts_in cs)) (Ok identifiers)) c.as_slice-all.ensures.value
-    c.in_ok-identifiers.ensures in
-    let after : drop index parts ≡ from_list parts =
-    subst (λ (cs : List Child). drop index (parts_in cs) ≡ from_list (parts_in cs)) c.as_slice-all.ensures.value
-    c.list_index-index.ensures.after in
-    refused_exit_as published_parts (published_check parts) c.from_residual-in_err-list.result error
-    c.from_residual-in_err-list.ensures.1
-    (refused_list parts identifiers before error
-    (subst (λ (ps : List Part). IsCheckRefusal (list_if_there metadata_check ps) error) after c.in_err-list.ensures))
+    let error = c.in_err-listed.field-0.0 in
+    refused_exit_as published_parts (published_check parts) c.from_residual.result error c.from_residual.ensures.1
+    (listed_refused metadata_check published_of parts error c.in_err-listed.ensures)
 
-pub returns : goal.returns
-returns c =
-    let parts = parts_in c.args.children.items in
-    let index = c.list_index-index.result in
-    let identifiers = c.in_ok-identifiers.identifiers.items in
-    let before : identifiers_check 2 [] (before_list parts) (Ok identifiers) =
-    subst (λ (cs : List Child). identifiers_check 2 [] (before_list (parts_in cs)) (Ok identifiers)) c.as_slice-all.ensures.value
-    c.in_ok-identifiers.ensures in
-    let after : drop index parts ≡ from_list parts =
-    subst (λ (cs : List Child). drop index (parts_in cs) ≡ from_list (parts_in cs)) c.as_slice-all.ensures.value
-    c.list_index-index.ensures.after in
-    published_whole parts identifiers before c.in_ok-list.list
-    (subst (λ (ps : List Part). list_if_there metadata_check ps (Ok c.in_ok-list.list)) after c.in_ok-list.ensures) c.published_of.result
-    c.published_of.ensures
+pub returns-in-Some : goal.returns-in-Some
+returns-in-Some c =
+    let listed = c.in_ok-listed.listed in
+    let elements = c.in-Some.elements in
+    listed_makes metadata_check published_of (parts_in c.args.children.items) listed c.in_ok-listed.ensures (Ok (both listed.item elements))
+    (subst (λ (o : Option (List Metadata)). published_of listed.item o (Ok (both listed.item elements))) (sym c.in-Some.is) refl)
+
+pub returns-in-None : goal.returns-in-None
+returns-in-None c =
+    let listed = c.in_ok-listed.listed in
+    listed_makes metadata_check published_of (parts_in c.args.children.items) listed c.in_ok-listed.ensures (Err Failure)
+    (subst (λ (o : Option (List Metadata)). published_of listed.item o (Err Failure)) (sym c.in-None.is) refl)

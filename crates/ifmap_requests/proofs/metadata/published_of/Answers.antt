@@ -1,6 +1,0 @@
-use Rattle.std.proofs.Common.{sym}
-use Rattle.ifmap_requests.proofs.PublishedLaws.{all_there}
-use Rattle.ifmap_requests.proofs.metadata.published_of.Goals as goal
-
-pub returns : goal.returns
-returns c = all_there c.args.identifiers.items c.in-Some.item c.args.list c.in-Some-list.elements (sym c.in-Some.ensures) c.in-Some-list.is
