@@ -85,7 +85,7 @@ impl AnswerText {
         ensures fault { HasCause (K.faults sink.old) (K.faults sink.new) result }
     {
         write(sink, self.line.as_bytes())?;
-        write(sink, self.reply.as_slice())?;
+        write(sink, self.reply.0.as_slice())?;
         hand_on(sink)
     }
 }
