@@ -1,7 +1,7 @@
 -- Which numbers have a link before a change and afterwards, by what is stored for their identifiers, and the flips between.
 -- In order: links by identifiers (`named`, `linked_by`); those before the change by the numbers afterwards; an item whose
 -- match changes, and of which an end has a mark, is a flip (`flipped`), and a flip is of such an item (`flip_of`); from a number
--- with a mark, the links of the region's words are those of the two views (`old_there`, `mid_there`), and flips are theirs.
+-- with a mark, the links of the region's words are those of the two views (`old_there`, `there_mid`), and flips are theirs.
 use Rattle.std.proofs.Common.{◌≡◌, ◌⊎◌, inl, inr, ℕ, Bool, true, false, not, Option, Some, None, List, [], ◌∷◌, refl, ap, ◌∙◌}
 use Rattle.std.proofs.Common.{sym, subst, is_some}
 use Rattle.std.proofs.lemmas.Bool.{cases_Bool, or_left, or_right}

@@ -3,3 +3,4 @@ pub mod NumberLaws
 pub mod KindLaws
 pub mod ItemLaws
 pub mod ListedLaws
+pub mod CutLaws

@@ -7,7 +7,6 @@ pub mod Tables
 pub mod Items
 pub mod Gathering
 pub mod SingleLaws
-pub mod CutLaws
 pub mod ListLaws
 pub mod AnswerLaws
 pub mod PositionLaws

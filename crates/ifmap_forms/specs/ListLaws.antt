@@ -1,4 +1,4 @@
--- What is made of an item and of the list after it: the reader of both answers the part of the whole that comes before.
+-- What is made of an item and of the list after it, by a check that begins with both: what is found of the two is found of the whole.
 use Rattle.std.specs.Prelude.{◌≡◌, List, [], Option, None, Some, Result, Ok, Err}
 use Rattle.std.proofs.Common.{ap, inl, inr, subst}
 use Rattle.ifmap_elem.specs.declared.elements.Element.{Element}

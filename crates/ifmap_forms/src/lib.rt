@@ -1,6 +1,7 @@
 //! Forms of messages: what the values of attributes mean, and the readers of attributes, of
-//! prefixes in scope, and of identifiers and lists in an element of a message. Each reader answers a value, or
-//! the code of the first defect in the order in which the parts of an element are checked.
+//! prefixes in scope, and of identifiers and lists in an element of a message. Each reader
+//! answers a value, or the code of the first defect in the order in which the parts of an element
+//! are checked.
 #![tactic(auto)]
 
 pub mod errors;

@@ -1,4 +1,7 @@
 -- A change came to be out, or did not: what contracts see.
+-- In order: keys that stay both ways are the same; what contracts see where a change came to be out (`ComesOut`) and where it did
+-- not (`StaysAsItWas`); shelves stay in their slots with their numbers; the change is out (`made_seen`, `made_out`); nothing is
+-- out, and all is as before (`unmade_seen`).
 use Rattle.std.proofs.Common.{◌≡◌, ◌≢◌, ℕ, ◌+◌, ◌<◌, Option, Some, None, List, [], ◌∷◌, length, refl, ap, ◌∙◌, sym, subst, arith}
 use Rattle.std.proofs.lemmas.Option.{none-some}
 use Rattle.std.specs.List.{AllByRecursion, IsDistinct}

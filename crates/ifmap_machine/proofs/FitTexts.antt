@@ -4,7 +4,6 @@ use Rattle.std.proofs.Common.{codes, refl, arith}
 use Rattle.std.specs.Prelude.{Option, None, Some}
 use Rattle.std.specs.Fmt.{decimal}
 use Rattle.std.specs.List.{list_all}
-use Rattle.std.proofs.lemmas.Bool.Decides.{nat_tests}
 use Rattle.ifmap_elem.specs.Chars.{IsCharacters}
 use Rattle.ifmap_ident.specs.Codes.{code_name}
 use Rattle.ifmap_ident.specs.declared.codes.Code.{Code}
@@ -13,7 +12,6 @@ use Rattle.ifmap_ident.specs.declared.codes.Code.TheVariants.{IdentifierTooLong,
 use Rattle.ifmap_ident.specs.declared.codes.Code.TheVariants.{MetadataTooLong, SearchResultsTooBig, PollResultsTooBig, SystemError}
 use Rattle.ifmap_lemmas.specs.Members.{all_append, all_of_test}
 use Rattle.ifmap_machine.specs.Telling.{limit_note}
-use Rattle.ifmap_meta.specs.ClientNames.{is_client_byte}
 use Rattle.ifmap_replies.specs.Fit.{IsWord}
 use Rattle.ifmap_session.specs.Sessions.{limit_of}
 use Rattle.ifmap_elem.specs.laws.CharacterLaws.{is_plain, plain_characters}
@@ -31,9 +29,6 @@ limit_characters size limit =
 -- ---- ids of sessions
 
 -- ---- names
-
-client_plain : (b : ℕ) → is_client_byte b ≡ true → is_plain b ≡ true
-client_plain b h = grind (arith, nat_tests)
 
 code_plain : (code : Code) → list_all is_plain (code_name code) ≡ true
 code_plain AccessDenied = refl

@@ -70,9 +70,6 @@ find_mapped id f k (x ∷ live) =
 changed_id : (n : ℕ) (f : Session → Session) → ((s : Session) → (f s).id ≡ s.id) → (s : Session) → (cond (s.serial == n) (f s) s).id ≡ s.id
 changed_id n f k s = elim (cases_Bool (s.serial == n)) [ inl h ↦ rw h (k s) | inr h ↦ rw h refl ]
 
-IsEmptied : List ℕ → State → Type 0
-IsEmptied id state = (s : Session) → session_with_id id state.sessions ≡ Some s → s.queue ≡ []
-
 renewed_empty : (id : List ℕ) (again : Bool) (n : ℕ) (state : State)
     → ((s : Session) → session_with_id id state.sessions ≡ Some s → s.queue ≡ [])
     → (s : Session) → session_with_id id (renew_first again n state).sessions ≡ Some s → s.queue ≡ []

@@ -27,13 +27,6 @@ module _ {K : Type 0} where
   entry_some None entry e = absurd (cc)
   entry_some (Some held) entry e = (held, refl, same_Some _ _ e)
 
-  -- a slot that stays keeps its entry
-  pub same_entry : (old new : List (Option (Held K))) (pool next : Holdings K) → pool.live ≡ live_of old → next.live ≡ live_of new
-      → (number : ℕ) → get_or new number None ≡ get_or old number None → entry_at next number ≡ entry_at pool number
-  same_entry old new pool next is now number e =
-      ap (λ m. get m number) now ∙ get-live_of new number ∙ ap (option_map entry_of) e ∙ sym (get-live_of old number) ∙ sym (ap (λ m. get
-      m number) is)
-
   module _ {slots : List (Option (Held K))} {pool : Holdings K} (shown : Shows slots pool) where
     pub entry_is : (number : ℕ) → entry_at pool number ≡ option_map entry_of (get_or slots number None)
     entry_is number = ap (λ m. get m number) shown.live ∙ get-live_of slots number

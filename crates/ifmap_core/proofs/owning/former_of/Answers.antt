@@ -9,7 +9,8 @@ use Rattle.ifmap_session.specs.Sessions.{IsLive, Session, session_of_client}
 
 -- the serial is that of the client's session
 held : (c : After-contains)
-    → option_map (λ (s : Session). s.serial) (session_of_client c.args.asking.now.client c.args.sessions.now.live) ≡ Some c.in_ok-serial.serial
+    → option_map (λ (s : Session). s.serial) (session_of_client c.args.asking.now.client c.args.sessions.now.live)
+    ≡ Some c.in_ok-serial.serial
 held c =
     sym (subst (λ (a : Asking). Some c.in_ok-serial.serial
     ≡ option_map (λ (s : Session). s.serial) (session_of_client a.client c.args.sessions.now.live)) c.asking.view_is

@@ -2,7 +2,7 @@ use Rattle.std.proofs.Common.{[], List, subst}
 use Rattle.ifmap_forms.specs.Answers.{IsCheckedAs}
 use Rattle.ifmap_forms.specs.Items.{identifiers_check}
 use Rattle.ifmap_forms.specs.Tables.{Part}
-use Rattle.ifmap_forms.specs.CutLaws.{front_parts}
+use Rattle.ifmap_forms.proofs.CutLaws.{front_parts}
 use Rattle.ifmap_forms.proofs.lists.read_front.Goals as goal
 
 pub returns : goal.returns

@@ -3,7 +3,7 @@ use Rattle.ifmap_elem.specs.declared.elements.Child.{Child, out-Child}
 use Rattle.ifmap_forms.specs.Answers.{IsChecked}
 use Rattle.ifmap_forms.specs.Items.{list_if_there}
 use Rattle.ifmap_forms.specs.Tables.{Part, parts_in}
-use Rattle.ifmap_forms.specs.CutLaws.{list_parts, no_parts, tail_whole}
+use Rattle.ifmap_forms.proofs.CutLaws.{list_parts, no_parts, tail_whole}
 use Rattle.ifmap_forms.proofs.lists.read_list.Goals as goal
 
 pub returns-then-index-len : goal.returns-then-index-len

@@ -11,7 +11,8 @@ pub loop-child-init : goal.loop-child-init
 loop-child-init g c =
     let whole = each_element (λ index e. g.R.MemberReader.finds e) 0 (parts_in c.args.children.items) in (
       0,
-      subst (λ (cs : List Child). IsRestAfter whole (each_element (λ index e. g.R.MemberReader.finds e) 0 (parts_in cs)) c.new-made.result.items)
+      subst (λ (cs : List Child). IsRestAfter whole (each_element (λ index e. g.R.MemberReader.finds e) 0 (parts_in cs))
+          c.new-made.result.items)
           (sym c.into_iter-child-iterator.ensures.into_iter_gives.0)
           (begins whole c.new-made.result.items c.new-made.ensures.items),
     )
@@ -35,7 +36,8 @@ loop-child-preserved g c =
 
 pub returns : goal.returns
 returns g c =
-    elements_end (each_element (λ index e. g.R.MemberReader.finds e) 0 (parts_in c.args.children.items)) (λ index e. g.R.MemberReader.finds e)
+    elements_end (each_element (λ index e. g.R.MemberReader.finds e) 0 (parts_in c.args.children.items))
+    (λ index e. g.R.MemberReader.finds e)
     c.loop-child.invariant.0 (into_iter_items c.loop-child.child-iterator) c.loop-child.made.items c.loop-child.invariant.1
     (nil_from_length (into_iter_items c.loop-child.child-iterator)
     (omega (arith, c.loop-child.child-iterator.rest.ok.0, c.in-None.ensures.steps.0)))
