@@ -1,7 +1,7 @@
 -- How a session begins, in place of the one that its client has.
 -- First: parts of which the sessions have more room (`ready_with`, `kept_after`). Then: whether the client can be
 -- given a session. Last: that it begins (`begins`).
-use Rattle.std.proofs.Common.{◌≡◌, refl, sym, ◌∙◌, ap, subst, ℕ, ◌+◌, ◌-◌, ◌^◌, ◌<◌, ◌≤◌, ◌==◌, ◌&&◌, ◌||◌, Bool, true, false, List, [], ◌∷◌, ◌++◌, length, map, Option, None, Some, is_none, nat_le, min, Result, Ok, Err, inl, inr, arith, append-nil}
+use Rattle.std.proofs.Common.{◌≡◌, refl, sym, ◌∙◌, ap, subst, ℕ, ◌+◌, ◌-◌, ◌^◌, ◌<◌, ◌≤◌, ◌==◌, ◌&&◌, ◌||◌, Bool, true, false, List, [], ◌∷◌, ◌++◌, length, map, Option, None, Some, is_none, nat_le, min, Result, inl, inr, arith, append-nil}
 use Rattle.std.proofs.lemmas.Bool.{cases_Bool, or_parts}
 use Rattle.std.proofs.lemmas.Bool.Decides.{nat_tests}
 use Rattle.std.proofs.lemmas.List.{length-map}
@@ -15,6 +15,7 @@ use Rattle.ifmap_core.specs.Answering.{CanAnswer, GivesCompletion}
 use Rattle.ifmap_core.specs.Completions.{CanOpen, LeadsToAnswer, after_former, after_completion, drop_former, open_session, taken_former}
 use Rattle.ifmap_core.specs.declared.completions.Completion.{Completion}
 use Rattle.ifmap_core.specs.declared.completions.Completion.TheVariants.{Say, Open}
+use Rattle.ifmap_core.proofs.Cases.{says}
 use Rattle.ifmap_core.proofs.Finishing.{client_told, serial_told}
 use Rattle.ifmap_core.proofs.Places.{searched_itself}
 use Rattle.ifmap_core.proofs.Taking.{taken_is}
@@ -164,14 +165,9 @@ module _ (a : Asking) (table : SessionTable) (parts : Parts) (pending : Pending)
 pub full_leads : {E : Type 0} (a : Asking) (parts : Parts) (pending : Pending) (random : ℕ) (limit : Option ℕ) (r : Result Completion E)
     → IfOk r (λ q. q ≡ Say (refusal SystemError)) → CanAnswer a parts pending → is_full (so_far a parts pending) a.client ≡ true
     → GivesCompletion r a parts pending (new_session (so_far a parts pending) a.client random limit)
-full_leads a parts pending random limit (Err e) is can full = tt
-full_leads a parts pending random limit (Ok completion) is can full =
-    subst (λ q. LeadsToAnswer q a parts pending (new_session (so_far a parts pending) a.client random limit)) (sym is) (record {
-      steady = subst (IsSteady parts.graph) (sym (append-nil parts.standing.items)) can.steady;
-      ready = can.ready;
-      can = tt;
-      leads = rw full refl;
-    })
+full_leads a parts pending random limit r is can full =
+    says a parts pending can.steady can.ready (refusal SystemError) (new_session (so_far a parts pending) a.client random limit)
+    (rw full refl) r is
 
 -- ---- a session begins
 
@@ -308,8 +304,10 @@ module _ (a : Asking) (old new : Parts) (pending after : Pending) (random : ℕ)
       → IsSoundSoFar a new after → IfSome former (λ n. HasNoSubscriptions n new after)
       → LeadsToAnswer (Open former opening count publisher) a new after (new_session (so_far a old pending) a.client random limit)
   begins same free table whole b h room live told steady ready bare = record {
-    steady = subst (IsSteady new.graph) (sym (append-nil new.standing.items)) steady;
-    ready = ready;
-    can = (can_open same free table whole b h room live, bare);
+    can = record {
+      steady = subst (IsSteady new.graph) (sym (append-nil new.standing.items)) steady;
+      ready = ready;
+      can = (can_open same free table whole b h room live, bare);
+    };
     leads = leads same free (told ∙ ap (taken_former former) (so_far_with old table b a pending));
   }

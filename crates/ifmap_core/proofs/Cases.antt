@@ -47,10 +47,12 @@ module _ (a : Asking) (parts : Parts) (pending : Pending) where
       → CanApply completion a parts pending → (wanted : State × Answer) → after_completion completion (so_far a parts pending) ≡ wanted
       → LeadsToAnswer completion a parts pending wanted
   leads_plain steady ready completion none can wanted e = record {
-    steady = subst (λ more. IsSteady parts.graph (parts.standing.items ++ more)) (sym none)
-        (subst (IsSteady parts.graph) (sym (append-nil parts.standing.items)) steady);
-    ready = ready;
-    can = can;
+    can = record {
+      steady = subst (λ more. IsSteady parts.graph (parts.standing.items ++ more)) (sym none)
+          (subst (IsSteady parts.graph) (sym (append-nil parts.standing.items)) steady);
+      ready = ready;
+      can = can;
+    };
     leads = e;
   }
 

@@ -265,9 +265,11 @@ module _ (a : Asking) (old : Parts) (pending : Pending) (serial : ℕ) (readying
       → (s : Session) → session_with_serial serial (so_far a old pending).sessions ≡ Some s
       → LeadsToAnswer (Rename serial readying.made.items) a new pending (answer_subscribed (so_far a old pending) s (Some after))
   leads_renamed new graph sessions standing ready live limit places room s e = record {
-    steady = rw (graph, standing) r.stand.steady;
-    ready = ready_room a old new pending graph sessions standing ready;
-    can = can_rename new graph sessions standing live limit places room;
+    can = record {
+      steady = rw (graph, standing) r.stand.steady;
+      ready = ready_room a old new pending graph sessions standing ready;
+      can = can_rename new graph sessions standing live limit places room;
+    };
     leads = ap (after_completion (Rename serial readying.made.items)) (same_so_far a old new pending (ap rows_now graph) sessions standing)
         ∙ renames serial readying.made.items (so_far a old pending) s (told_at serial a old pending) (so_far_rising a old pending up) e
         ready.within (told_is a old pending serial s e) (within_limit limit s e);

@@ -157,11 +157,16 @@ pub record WouldBeParts (more : List Standing) (parts : Parts) : Type 0 where
   pub kept : AllByRecursion (λ x. IsUpToDate (sight_now parts.graph) x.subscription) parts.standing.items
   pub within : AreWithinLimits parts.sessions.live
 
--- an completion can be applied to parts, and leads from the state that they are in to that state and answer
-pub record LeadsToAnswer (completion : Completion) (a : Asking) (parts : Parts) (pending : Pending) (wanted : State × Answer) : Type 0 where
+-- an event can be finished by a completion: the graph is steady once what the completion is to make stand does, what is so far is sound,
+-- and the completion can be applied
+pub record CanFinish (completion : Completion) (a : Asking) (parts : Parts) (pending : Pending) : Type 0 where
   pub steady : IsSteady parts.graph (parts.standing.items ++ held_by completion)
   pub ready : IsSoundSoFar a parts pending
   pub can : CanApply completion a parts pending
+
+-- an event can be finished by a completion, which leads from the state that the parts are in to that state and answer
+pub record LeadsToAnswer (completion : Completion) (a : Asking) (parts : Parts) (pending : Pending) (wanted : State × Answer) : Type 0 where
+  pub can : CanFinish completion a parts pending
   pub leads : after_completion completion (so_far a parts pending) ≡ wanted
 
 -- whose the session of an id is: the client's, with that serial; another's; or nobody's

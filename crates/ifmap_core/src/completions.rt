@@ -1,8 +1,8 @@
 //! What is left to do of an event when its change of the graph is made.
 ghost use Rattle.std.specs.Prelude.{◌≡◌, ◌≤◌, ◌++◌, ℕ, List, IfOk, IfSome, length, map, vec_capacity, vec_len};
 ghost use Rattle.ifmap_core.specs.declared.completions.Completion.TheVariants.{Say};
-ghost use Rattle.ifmap_subscribes.specs.ifmap_changes.Between.{AreParts, CanEnd, IsSoundSoFar, IsSteady, so_far, state_at};
-ghost use Rattle.ifmap_core.specs.Completions.{CanApply, CanApplyTo, WouldBeParts, after_former, after_completion, first_renewed, held_by, poll_answer, poll_found};
+ghost use Rattle.ifmap_subscribes.specs.ifmap_changes.Between.{AreParts, CanEnd, IsSteady, so_far, state_at};
+ghost use Rattle.ifmap_core.specs.Completions.{CanApplyTo, CanFinish, WouldBeParts, after_former, after_completion, first_renewed, held_by, poll_answer, poll_found};
 ghost use Rattle.ifmap_subscribes.specs.ifmap_tellings.Tellings.{kept_of};
 ghost use Rattle.ifmap_subscribes.specs.ifmap_machine.State.{State};
 ghost use Rattle.ifmap_subscribes.specs.ifmap_machine.Step.{refusal};
@@ -244,9 +244,7 @@ pub(crate) fn finish(
     asking: &Asking,
     completion: Completion,
 ) -> Answer
-    requires ready { IsSoundSoFar asking.now parts.old pending }
-    requires steady { IsSteady parts.old.graph (parts.old.standing.items ++ held_by completion) }
-    requires can { CanApply completion asking.now parts.old pending }
+    requires { CanFinish completion asking.now parts.old pending }
     ensures answer { after_completion completion (so_far asking.now parts.old pending)
         ≡ (state_at asking.now.ttl asking.now.moment parts.new, result) }
     ensures parts { AreParts parts.new }

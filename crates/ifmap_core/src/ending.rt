@@ -1,16 +1,16 @@
 //! An event is answered, after the sessions ended that are expired at its moment.
-ghost use Rattle.std.specs.Prelude.{◌≡◌, ◌++◌, true, false, IfOk, IsOk, OnErr, OnOk};
+ghost use Rattle.std.specs.Prelude.{◌≡◌, true, false, IfOk, IsOk, OnErr, OnOk};
 ghost use Rattle.std.specs.List.{list_any};
 ghost use Rattle.std.specs.List.Sorted.{IsStrictlySortedBy};
 ghost use Rattle.std.specs.Ordering.{nat_cmp};
-ghost use Rattle.ifmap_subscribes.specs.ifmap_changes.Between.{AreBack, AreParts, CanEnd, IsSoundSoFar, IsSteady, so_far, state_at};
+ghost use Rattle.ifmap_subscribes.specs.ifmap_changes.Between.{AreBack, AreParts, CanEnd, IsSoundSoFar, so_far, state_at};
 ghost use Rattle.ifmap_subscribes.specs.ifmap_changes.Changes.{CanSettle, CanTakeBack};
 ghost use Rattle.ifmap_subscribes.specs.ifmap_changes.declared.parts.Parts.{Parts};
 ghost use Rattle.ifmap_core.specs.Answering.{CanAnswer};
 ghost use Rattle.ifmap_core.specs.Bounds.{IsAskWithin, IsEventWithin};
 ghost use Rattle.ifmap_core.specs.Ending.{AnswersEvent, state_when};
 ghost use Rattle.ifmap_core.specs.Light.{IsLight};
-ghost use Rattle.ifmap_core.specs.Completions.{CanApply, held_by};
+ghost use Rattle.ifmap_core.specs.Completions.{CanFinish};
 ghost use Rattle.ifmap_subscribes.specs.ifmap_graph.Out.{items_changed};
 ghost use Rattle.ifmap_subscribes.specs.ifmap_graph.Seen.{KeepsNumbers, StaysLean, StaysLeanWithout};
 ghost use Rattle.ifmap_subscribes.specs.ifmap_machine.Ending.{drop_sessions, expire};
@@ -238,14 +238,9 @@ fn settle_ended(
     made: Made,
     completion: &Completion,
 )
-    requires steady { IsSteady parts.old.graph
-        (parts.old.standing.items ++ held_by completion.now) }
-    requires ready { IsSoundSoFar asking.now parts.old pending.now }
-    requires can { CanApply completion.now asking.now parts.old pending.now }
+    requires can { CanFinish completion.now asking.now parts.old pending.now }
     requires settle { CanSettle made parts.old }
-    ensures steady { IsSteady parts.new.graph (parts.new.standing.items ++ held_by completion.now) }
-    ensures ready { IsSoundSoFar asking.now parts.new pending.now }
-    ensures can { CanApply completion.now asking.now parts.new pending.now }
+    ensures can { CanFinish completion.now asking.now parts.new pending.now }
     ensures so_far { so_far asking.now parts.new pending.now
         ≡ so_far asking.now parts.old pending.now }
     ensures lean { StaysLeanWithout (items_changed made.undo.plan.changes) parts.old.graph
