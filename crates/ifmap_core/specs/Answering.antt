@@ -1,7 +1,8 @@
 -- What the functions that answer a request are given, and what they give.
 use Rattle.std.specs.Prelude.{ℕ, List, IfOk, OnErr, OnOk, Result}
-use Rattle.ifmap_subscribes.specs.ifmap_changes.Between.{AreKept, AreTurned, Asking, IsSoundSoFar, IsSteady}
+use Rattle.ifmap_subscribes.specs.ifmap_changes.Between.{AreKept, AreTurned, Asking, IsSoundSoFar, IsSteady, so_far}
 use Rattle.ifmap_subscribes.specs.ifmap_changes.declared.parts.Parts.{Parts}
+use Rattle.ifmap_core.specs.Bounds.{IsWithinOwn}
 use Rattle.ifmap_core.specs.declared.completions.Completion.{Completion}
 use Rattle.ifmap_core.specs.Completions.{LeadsToAnswer}
 use Rattle.ifmap_subscribes.specs.ifmap_machine.declared.events.Answer.{Answer}
@@ -27,3 +28,14 @@ GivesCompletion result a parts pending wanted = IfOk result (λ completion. Lead
 -- the case of a request in the session of an id, where that is the client's
 abbrev pub case_in : State → List ℕ → List ℕ → (Session → State × Answer) → State × Answer
 case_in state client id accept = in_session state client (session_with_id id state.sessions) accept
+
+-- a completion, if there is one, leads from the parts after to that case of what is so far of the parts before
+abbrev pub GivesCase : {E : Type 0} → Result Completion E → List ℕ → (State → Session → State × Answer)
+    → Asking → Parts → Pending → Parts → Pending → Type 0
+GivesCase result id accept a old before new after =
+    GivesCompletion result a new after (case_in (so_far a old before) a.client id (accept (so_far a old before)))
+
+-- the steps of that case are within that of what is so far, and there are none in another session
+abbrev pub IsCaseWithin : List ℕ → (State → Session → ℕ → ℕ → Type 0) → Asking → Parts → Pending → ℕ → ℕ → Type 0
+IsCaseWithin id Within a parts pending before after =
+    IsWithinOwn a.client (session_with_id id (so_far a parts pending).sessions) (Within (so_far a parts pending)) before after

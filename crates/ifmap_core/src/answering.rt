@@ -3,8 +3,8 @@ ghost use Rattle.std.specs.Prelude.{◌≡◌, ◌∷◌, [], IfOk};
 ghost use Rattle.std.specs.List.{AllByRecursion};
 ghost use Rattle.ifmap_subscribes.specs.ifmap_changes.Between.{so_far};
 ghost use Rattle.ifmap_subscribes.specs.ifmap_changes.Bounds.{IsEndedWithin, IsTakenWithin, IsToldWithin};
-ghost use Rattle.ifmap_core.specs.Answering.{CanAnswer, GivesCompletion, TurnsOrKeeps, case_in};
-ghost use Rattle.ifmap_core.specs.Bounds.{IsAskWithin, IsWithinIf, IsWithinOwn};
+ghost use Rattle.ifmap_core.specs.Answering.{CanAnswer, GivesCase, GivesCompletion, IsCaseWithin, TurnsOrKeeps};
+ghost use Rattle.ifmap_core.specs.Bounds.{IsAskWithin, IsWithinIf};
 ghost use Rattle.ifmap_core.specs.declared.completions.Completion.TheVariants.{Say};
 ghost use Rattle.ifmap_core.specs.Completions.{end_of_poll};
 ghost use Rattle.ifmap_ident.specs.declared.codes.Code.TheVariants.{SearchResultsTooBig};
@@ -105,9 +105,8 @@ fn renew_session(
     id: &Text,
 ) -> Result<Completion, NoMemory>
     requires { CanAnswer asking.now parts.now pending.now }
-    ensures { let before = so_far asking.now parts.now pending.now in
-        GivesCompletion result asking.now parts.now pending.now
-        (case_in before asking.now.client id.now (renew_session before)) }
+    ensures { GivesCase result id.now renew_session asking.now
+        parts.now pending.now parts.now pending.now }
 {
     match owner_of(&parts.sessions, asking, id) {
         Owner::Own(serial) => Ok(Completion::Accept {
@@ -133,9 +132,8 @@ fn lose<L: Ledger>(
         GivesCompletion result asking.now parts.new pending.new
         (lose before asking.now.client (session_with_id id.now before.sessions)) }
     ensures change { TurnsOrKeeps result parts.old parts.new }
-    ensures steps { let before = so_far asking.now parts.old pending.old in
-        IsWithinOwn asking.now.client (session_with_id id.now before.sessions)
-        (λ s. IsEndedWithin (s.serial ∷ []) before) steps.old steps.new }
+    ensures steps { IsCaseWithin id.now (λ before s. IsEndedWithin (s.serial ∷ []) before)
+        asking.now parts.old pending.old steps.old steps.new }
 {
     match owner_of(&parts.sessions, asking, id) {
         Owner::Own(serial) => {
@@ -157,13 +155,11 @@ fn end_session<L: Ledger>(
     steps: &mut Steps<L>,
 ) -> Result<Completion, NoMemory>
     requires { CanAnswer asking.now parts.old pending.old }
-    ensures leads { let before = so_far asking.now parts.old pending.old in
-        GivesCompletion result asking.now parts.new pending.new
-        (case_in before asking.now.client id.now (end_session before)) }
+    ensures leads { GivesCase result id.now end_session asking.now
+        parts.old pending.old parts.new pending.new }
     ensures change { TurnsOrKeeps result parts.old parts.new }
-    ensures steps { let before = so_far asking.now parts.old pending.old in
-        IsWithinOwn asking.now.client (session_with_id id.now before.sessions)
-        (λ s. IsEndedWithin (s.serial ∷ []) before) steps.old steps.new }
+    ensures steps { IsCaseWithin id.now (λ before s. IsEndedWithin (s.serial ∷ []) before)
+        asking.now parts.old pending.old steps.old steps.new }
 {
     match owner_of(&parts.sessions, asking, id) {
         Owner::Own(serial) => {
@@ -186,14 +182,13 @@ fn publish<L: Ledger>(
 ) -> Result<Completion, NoMemory>
     requires can { CanAnswer asking.now parts.old pending.old }
     requires fit { AllByRecursion IsFitOp wish.now.asked.now }
-    ensures leads { let before = so_far asking.now parts.old pending.old in
-        GivesCompletion result asking.now parts.new pending.new
-        (case_in before asking.now.client wish.now.id.now (publish before wish.now.asked.now)) }
+    ensures leads { GivesCase result wish.now.id.now
+        (λ before. publish before wish.now.asked.now) asking.now
+        parts.old pending.old parts.new pending.new }
     ensures change { TurnsOrKeeps result parts.old parts.new }
-    ensures steps { let before = so_far asking.now parts.old pending.old in
-        IsWithinOwn asking.now.client (session_with_id wish.now.id.now before.sessions)
-        (λ s. IsToldWithin (apply before.graph (author_in before s) wish.now.asked.now) before)
-        steps.old steps.new }
+    ensures steps { IsCaseWithin wish.now.id.now (λ before s.
+        IsToldWithin (apply before.graph (author_in before s) wish.now.asked.now) before)
+        asking.now parts.old pending.old steps.old steps.new }
 {
     match owner_of(&parts.sessions, asking, wish.id) {
         Owner::Own(serial) => {
@@ -219,14 +214,14 @@ fn purge<L: Ledger>(
     steps: &mut Steps<L>,
 ) -> Result<Completion, NoMemory>
     requires { CanAnswer asking.now parts.old pending.old }
-    ensures leads { let before = so_far asking.now parts.old pending.old in
-        GivesCompletion result asking.now parts.new pending.new
-        (case_in before asking.now.client wish.now.id.now (purge before wish.now.asked.now)) }
+    ensures leads { GivesCase result wish.now.id.now
+        (λ before. purge before wish.now.asked.now) asking.now
+        parts.old pending.old parts.new pending.new }
     ensures change { TurnsOrKeeps result parts.old parts.new }
-    ensures steps { let before = so_far asking.now parts.old pending.old in
-        IsWithinOwn asking.now.client (session_with_id wish.now.id.now before.sessions)
-        (λ s. IsWithinIf (is_same_text wish.now.asked.now s.client)
-        (IsTakenWithin (Publisher wish.now.asked.now) before)) steps.old steps.new }
+    ensures steps { IsCaseWithin wish.now.id.now (λ before s.
+        IsWithinIf (is_same_text wish.now.asked.now s.client)
+        (IsTakenWithin (Publisher wish.now.asked.now) before))
+        asking.now parts.old pending.old steps.old steps.new }
 {
     match owner_of(&parts.sessions, asking, wish.id) {
         Owner::Own(serial) => {
@@ -253,12 +248,12 @@ fn run_search<L: Ledger>(
 ) -> Result<Completion, NoMemory>
     requires can { CanAnswer asking.now parts.now pending.now }
     requires start { IsIdentifier wish.now.asked.now.start }
-    ensures leads { let before = so_far asking.now parts.now pending.now in
-        GivesCompletion result asking.now parts.now pending.now
-        (case_in before asking.now.client wish.now.id.now (search before wish.now.asked.now)) }
-    ensures steps { let before = so_far asking.now parts.now pending.now in
-        IsWithinOwn asking.now.client (session_with_id wish.now.id.now before.sessions)
-        (λ s. IsWithinSpan 3 before.graph wish.now.asked.now) steps.old steps.new }
+    ensures leads { GivesCase result wish.now.id.now
+        (λ before. search before wish.now.asked.now) asking.now
+        parts.now pending.now parts.now pending.now }
+    ensures steps { IsCaseWithin wish.now.id.now
+        (λ before s. IsWithinSpan 3 before.graph wish.now.asked.now)
+        asking.now parts.now pending.now steps.old steps.new }
 {
     parts.graph.is_view();
     match owner_of(&parts.sessions, asking, wish.id) {
@@ -285,13 +280,13 @@ fn subscribe<L: Ledger>(
 ) -> Result<Completion, NoMemory>
     requires can { CanAnswer asking.now parts.old pending.old }
     requires fit { AllByRecursion IsFitSubscribeOp wish.now.asked.now }
-    ensures leads { let before = so_far asking.now parts.old pending.old in
-        GivesCompletion result asking.now parts.new pending.new
-        (case_in before asking.now.client wish.now.id.now (subscribe before wish.now.asked.now)) }
+    ensures leads { GivesCase result wish.now.id.now
+        (λ before. subscribe before wish.now.asked.now) asking.now
+        parts.old pending.old parts.new pending.new }
     ensures change { TurnsOrKeeps result parts.old parts.new }
-    ensures steps { let before = so_far asking.now parts.old pending.old in
-        IsWithinOwn asking.now.client (session_with_id wish.now.id.now before.sessions)
-        (λ s. AreOpsWithin before.graph wish.now.asked.now) steps.old steps.new }
+    ensures steps { IsCaseWithin wish.now.id.now
+        (λ before s. AreOpsWithin before.graph wish.now.asked.now)
+        asking.now parts.old pending.old steps.old steps.new }
 {
     match owner_of(&parts.sessions, asking, wish.id) {
         Owner::Own(serial) => {
