@@ -12,12 +12,13 @@ use Rattle.ifmap_machine.specs.ifmap_requests.Means.{Means}
 use Rattle.ifmap_machine.specs.ifmap_requests.declared.errors.Refusal.TheVariants.{Named, Unreadable}
 use Rattle.ifmap_machine.specs.ifmap_requests.declared.requests.Request.{Request}
 use Rattle.ifmap_machine.specs.ifmap_requests.declared.requests.Request.TheVariants.{Poll as Polling}
+use Rattle.ifmap_dialogue.specs.declared.desks.AskOutcome.{AskOutcome}
 use Rattle.ifmap_dialogue.specs.declared.desks.AskOutcome.TheVariants as outcome
 use Rattle.ifmap_dialogue.specs.declared.findings.Finding.{Finding}
 use Rattle.ifmap_dialogue.specs.declared.findings.Finding.TheVariants as finding
 use Rattle.ifmap_dialogue.specs.declared.polls.Poll.{Poll}
 use Rattle.ifmap_dialogue.specs.Desks.{DeskSeen, DeskTakesTurns, Turn, heaviest, outcome_of, weight}
-use Rattle.ifmap_dialogue.specs.Findings.{OwnRequest, IsFindingOf, FindsPost, FindsQuestion, FindsRequest, Posting, finding_of, posting, refusal_reply}
+use Rattle.ifmap_dialogue.specs.Findings.{OwnRequest, IsFindingOf, FindsPost, FindsQuestion, FindsRequest, Posting, finding_of, own_request, posting, refusal_reply}
 use Rattle.ifmap_dialogue.specs.Scenes.{HasFitPoll}
 use Rattle.ifmap_dialogue.specs.Turns.{IsFirstPoll, Question, event_of_question, lost_event, question_of}
 use Rattle.ifmap_dialogue.specs.Words.{after_random, random_word}
@@ -26,15 +27,15 @@ use Rattle.ifmap_dialogue.proofs.Turning.{Waits, finds_replied, finds_spent, fin
 
 module _ {H : Type 0} (gives : ℕ → Type 0) (before after : DeskSeen H) where
   -- what comes of a question comes of the request that asks it
-  pub as_request : (a : OwnRequest) (found : Finding)
+  pub as_request : (a : OwnRequest) (random : ℕ) (found : Finding)
       → FindsQuestion gives before after
-      (record { client = a.client; request = a.request; bytes = a.bytes; random = random_word a.words }) found
-      → a.after ≡ after_random a.words → FindsRequest gives before after a found
-  as_request a found f drawn = record {
+      (record { client = a.client; request = a.request; bytes = a.bytes; random = random }) found
+      → random ≡ random_word a.words → a.after ≡ after_random a.words → FindsRequest gives before after a found
+  as_request a random found f word drawn = record {
     turns = f.turns;
     tells = f.tells;
     finds = λ body short means. f.finds (posting a body)
-        (record { client = refl; bytes = short; means = means; random = refl; drawn = drawn });
+        (record { client = refl; bytes = short; means = means; random = word; drawn = drawn });
   }
 
   -- of a request nothing comes where memory is wanting before it is asked
@@ -60,34 +61,43 @@ module _ {H : Type 0} (gives : ℕ → Type 0) (before after : DeskSeen H) where
 
 -- ---- a request that is asked once
 
-module _ {H : Type 0} (gives : ℕ → Type 0) (before after : DeskSeen H) (question : Question) (event : Event)
+module _ {H : Type 0} (gives : ℕ → Type 0) (before after : DeskSeen H) (question : Question) (event : Event) (answer : AskOutcome)
     (first : (moment : ℕ) × gives moment × (event ≡ event_of_question question false moment))
-    (other : (session : List ℕ) → question.request ≢ Polling session) (turn : Turn) (asks : turn.event ≡ event)
-    (tells : DeskTakesTurns before after (turn ∷ [])) where
+    (other : (session : List ℕ) → question.request ≢ Polling session)
+    (took : (turn : Turn) × (turn.event ≡ event) × (answer ≡ outcome_of turn.asked) × DeskTakesTurns before after (turn ∷ [])) where
   begun : Waits gives before before question 0 event
   begun = waits_first gives before question event first
 
-  is_ask : turn.event.ask ≡ (event_of_question question false 0).ask
-  is_ask = let (moment, given, is) = first in ap (λ (e : Event). e.ask) asks ∙ ap (λ (e : Event). e.ask) is
+  is_ask : (turn : Turn) → turn.event ≡ event → turn.event.ask ≡ (event_of_question question false 0).ask
+  is_ask turn asks = let (moment, given, is) = first in ap (λ (e : Event). e.ask) asks ∙ ap (λ (e : Event). e.ask) is
 
-  pub once_replied : (the_reply : Reply) → outcome_of turn.asked ≡ outcome.Replied the_reply
+  pub once_replied : (the_reply : Reply) → answer ≡ outcome.Replied the_reply
       → FindsQuestion gives before after question (finding.Replied the_reply)
   once_replied the_reply is =
-      finds_replied gives before before after question 0 event begun turn asks tells the_reply is
-      (not_told turn.event question.request turn.asked the_reply is_ask other (fits_one before after turn tells) is)
+      let (turn, asks, went, tells) = took in
+      finds_replied gives before before after question 0 event begun turn asks tells the_reply (sym went ∙ is)
+      (not_told turn.event question.request turn.asked the_reply (is_ask turn asks) other (fits_one before after turn tells)
+      (sym went ∙ is))
 
-  pub once_spent : (entries : ℕ) → outcome_of turn.asked ≡ outcome.Spent entries
-      → FindsQuestion gives before after question (finding.Spent entries)
-  once_spent entries is = finds_spent gives before before after question 0 event begun turn asks tells entries is
+  pub once_spent : (entries : ℕ) → answer ≡ outcome.Spent entries → FindsQuestion gives before after question (finding.Spent entries)
+  once_spent entries is =
+      let (turn, asks, went, tells) = took in
+      finds_spent gives before before after question 0 event begun turn asks tells entries (sym went ∙ is)
 
-  pub once_wanting : outcome_of turn.asked ≡ outcome.NoMemory → FindsQuestion gives before after question finding.NoMemory
-  once_wanting is = finds_wanting gives before before after question 0 event begun turn asks tells is
+  pub once_wanting : answer ≡ outcome.NoMemory → FindsQuestion gives before after question finding.NoMemory
+  once_wanting is =
+      let (turn, asks, went, tells) = took in
+      finds_wanting gives before before after question 0 event begun turn asks tells (sym went ∙ is)
 
-  pub once_not_held : outcome_of turn.asked ≢ outcome.Held
-  once_not_held = not_held turn.event question.request turn.asked is_ask other (fits_one before after turn tells)
+  pub once_not_held : answer ≢ outcome.Held
+  once_not_held is =
+      let (turn, asks, went, tells) = took in
+      not_held turn.event question.request turn.asked (is_ask turn asks) other (fits_one before after turn tells) (sym went ∙ is)
 
-  pub once_not_heard : outcome_of turn.asked ≢ outcome.Heard
-  once_not_heard = not_heard turn.event question.request turn.asked is_ask (fits_one before after turn tells)
+  pub once_not_heard : answer ≢ outcome.Heard
+  once_not_heard is =
+      let (turn, asks, went, tells) = took in
+      not_heard turn.event question.request turn.asked (is_ask turn asks) (fits_one before after turn tells) (sym went ∙ is)
 
 -- ---- the poll that was told something
 
@@ -119,27 +129,21 @@ light_lost poll moment event is =
 
 -- what comes of a request comes of the same request
 pub request_is : {H : Type 0} (gives : ℕ → Type 0) (before after : DeskSeen H) (client : List ℕ) (bytes : ℕ) (one other : Request)
-    (words now : ChaCha) (found : Finding)
-    → one ≡ other → FindsRequest gives before after
-    (record { client = client; bytes = bytes; request = other; words = words; after = now }) found
-    → FindsRequest gives before after (record { client = client; bytes = bytes; request = one; words = words; after = now }) found
+    (words now : ChaCha) (found : Finding) → one ≡ other
+    → FindsRequest gives before after (own_request client bytes other words now) found
+    → FindsRequest gives before after (own_request client bytes one words now) found
 request_is gives before after client bytes one other words now found is f =
-    subst
-    (λ (r : Request).
-    FindsRequest gives before after (record { client = client; bytes = bytes; request = r; words = words; after = now }) found)
-    (sym is) f
+    subst (λ (r : Request). FindsRequest gives before after (own_request client bytes r words now) found) (sym is) f
 
 -- what comes of a poll comes of the request
 pub poll_request : {H : Type 0} (gives : ℕ → Type 0) (before after : DeskSeen H) (client session : List ℕ) (bytes : ℕ)
     (words now : ChaCha) (poll : Poll) (found : Finding)
     → poll ≡ record { client = client; session = session; random = random_word words; bytes = bytes } → now ≡ after_random words
     → FindsQuestion gives before after (question_of poll) found
-    → FindsRequest gives before after
-    (record { client = client; bytes = bytes; request = Polling session; words = words; after = now }) found
+    → FindsRequest gives before after (own_request client bytes (Polling session) words now) found
 poll_request gives before after client session bytes words now poll found is drawn f =
-    as_request gives before after
-    (record { client = client; bytes = bytes; request = Polling session; words = words; after = now }) found
-    (subst (λ (p : Poll). FindsQuestion gives before after (question_of p) found) is f) drawn
+    as_request gives before after (own_request client bytes (Polling session) words now) (random_word words) found
+    (subst (λ (p : Poll). FindsQuestion gives before after (question_of p) found) is f) refl drawn
 
 -- the first event of a poll, by copies of its parts
 pub first_is : (gives : ℕ → Type 0) (client named session copied : List ℕ) (bytes random : ℕ) (event : Event) → named ≡ client

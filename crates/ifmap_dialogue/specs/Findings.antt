@@ -97,6 +97,10 @@ pub record OwnRequest : Type 0 where
   pub words : ChaCha
   pub after : ChaCha
 
+abbrev pub own_request : List ℕ → ℕ → Request → ChaCha → ChaCha → OwnRequest
+own_request client bytes request words after =
+    record { client = client; bytes = bytes; request = request; words = words; after = after }
+
 -- a body that means the request, as it is posted
 abbrev pub posting : OwnRequest → List ℕ → Posting
 posting a body = record { client = a.client; body = body; words = a.words; after = a.after }

@@ -6,7 +6,7 @@ ghost use Rattle.ifmap_machine.specs.ifmap_requests.Fit.{IsFitRequest};
 ghost use Rattle.ifmap_machine.specs.ifmap_requests.declared.requests.Request.TheVariants.{Poll as Polling};
 ghost use Rattle.ifmap_dialogue.specs.Answers.{ending_heard};
 ghost use Rattle.ifmap_dialogue.specs.Desks.{DeskTakesTurns, Turn, desk_seen, heaviest, outcome_of, weight};
-ghost use Rattle.ifmap_dialogue.specs.Findings.{FindsQuestion, FindsRequest, finding_of};
+ghost use Rattle.ifmap_dialogue.specs.Findings.{FindsQuestion, FindsRequest, finding_of, own_request};
 ghost use Rattle.ifmap_dialogue.specs.Turns.{AsksLost, IsFirstPoll, event_of_question, question_of};
 ghost use Rattle.ifmap_dialogue.specs.Words.{after_random, random_word};
 
@@ -75,13 +75,7 @@ pub(crate) fn ask_request<K: Desk, C: Clock, G: Gate>(
     ensures { FindsRequest (C.gives setting.now.clock.now)
         (desk_seen K.said K.turns K.held K.spent K.home K.loan desk.old)
         (desk_seen K.said K.turns K.held K.spent K.home K.loan desk.new)
-        (record {
-          client = asker.client;
-          bytes = asker.bytes;
-          request = request;
-          words = words.old;
-          after = words.new;
-        }) result }
+        (own_request asker.client asker.bytes request words.old words.new) result }
 {
     match request {
         Request::Poll { session } => ask_poll(setting, desk, words, gate, asker, session),
@@ -131,13 +125,7 @@ fn ask_once<K: Desk, C: Clock, G: Gate>(
     ensures { FindsRequest (C.gives setting.now.clock.now)
         (desk_seen K.said K.turns K.held K.spent K.home K.loan desk.old)
         (desk_seen K.said K.turns K.held K.spent K.home K.loan desk.new)
-        (record {
-          client = asker.client;
-          bytes = asker.bytes;
-          request = request;
-          words = words.old;
-          after = words.new;
-        }) result }
+        (own_request asker.client asker.bytes request words.old words.new) result }
 {
     let Asker { client, bytes } = asker;
     let random = draw_word(words);
@@ -165,13 +153,7 @@ fn ask_poll<K: Desk, C: Clock, G: Gate>(
     ensures { FindsRequest (C.gives setting.now.clock.now)
         (desk_seen K.said K.turns K.held K.spent K.home K.loan desk.old)
         (desk_seen K.said K.turns K.held K.spent K.home K.loan desk.new)
-        (record {
-          client = asker.client;
-          bytes = asker.bytes;
-          request = Polling session;
-          words = words.old;
-          after = words.new;
-        }) result }
+        (own_request asker.client asker.bytes (Polling session) words.old words.new) result }
 {
     match begin_poll(setting, words, asker, session) {
         Ok((poll, event)) => await_reply(setting, desk, gate, poll, event),

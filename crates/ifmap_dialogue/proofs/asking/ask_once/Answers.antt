@@ -1,4 +1,3 @@
-use Rattle.std.proofs.Common.{sym, ◌∙◌}
 use Rattle.ifmap_dialogue.proofs.Coming.{as_request, light_by, once_not_heard, once_not_held, once_replied, once_spent, once_wanting}
 use Rattle.ifmap_dialogue.proofs.asking.ask_once.Goals as goal
 
@@ -9,38 +8,26 @@ take_turn-requires g c =
 
 pub returns-in-Replied : goal.returns-in-Replied
 returns-in-Replied g c =
-    let (turn, asks, is, tells) = c.take_turn.ensures in
-    let first = rw c.draw_word-random.ensures.word at c.first_event-event.ensures in
-    as_request _ _ _ _ _
-    (once_replied _ _ _ _ c.first_event-event.result first c.requires.other turn asks tells c.in-Replied.reply
-    (sym is ∙ c.in-Replied.is))
-    c.draw_word-random.ensures.after
+    as_request _ _ _ _ _ _
+    (once_replied _ _ _ _ _ _ c.first_event-event.ensures c.requires.other c.take_turn.ensures c.in-Replied.reply c.in-Replied.is)
+    c.draw_word-random.ensures.word c.draw_word-random.ensures.after
 
 pub returns-in-Spent : goal.returns-in-Spent
 returns-in-Spent g c =
-    let (turn, asks, is, tells) = c.take_turn.ensures in
-    let first = rw c.draw_word-random.ensures.word at c.first_event-event.ensures in
-    as_request _ _ _ _ _
-    (once_spent _ _ _ _ c.first_event-event.result first c.requires.other turn asks tells c.in-Spent.entries
-    (sym is ∙ c.in-Spent.is))
-    c.draw_word-random.ensures.after
+    as_request _ _ _ _ _ _
+    (once_spent _ _ _ _ _ _ c.first_event-event.ensures c.requires.other c.take_turn.ensures c.in-Spent.entries c.in-Spent.is)
+    c.draw_word-random.ensures.word c.draw_word-random.ensures.after
 
 pub returns-in-NoMemory : goal.returns-in-NoMemory
 returns-in-NoMemory g c =
-    let (turn, asks, is, tells) = c.take_turn.ensures in
-    let first = rw c.draw_word-random.ensures.word at c.first_event-event.ensures in
-    as_request _ _ _ _ _
-    (once_wanting _ _ _ _ c.first_event-event.result first c.requires.other turn asks tells (sym is ∙ c.in-NoMemory.is))
-    c.draw_word-random.ensures.after
+    as_request _ _ _ _ _ _
+    (once_wanting _ _ _ _ _ _ c.first_event-event.ensures c.requires.other c.take_turn.ensures c.in-NoMemory.is)
+    c.draw_word-random.ensures.word c.draw_word-random.ensures.after
 
 pub unreachable-requires : goal.unreachable-requires
 unreachable-requires g c =
-    let (turn, asks, is, tells) = c.take_turn.ensures in
-    let first = rw c.draw_word-random.ensures.word at c.first_event-event.ensures in
-    once_not_held _ _ _ _ c.first_event-event.result first c.requires.other turn asks tells (sym is ∙ c.in-Held.is)
+    once_not_held _ _ _ _ _ _ c.first_event-event.ensures c.requires.other c.take_turn.ensures c.in-Held.is
 
 pub unreachable-requires-in-Heard : goal.unreachable-requires-in-Heard
 unreachable-requires-in-Heard g c =
-    let (turn, asks, is, tells) = c.take_turn.ensures in
-    let first = rw c.draw_word-random.ensures.word at c.first_event-event.ensures in
-    once_not_heard _ _ _ _ c.first_event-event.result first c.requires.other turn asks tells (sym is ∙ c.in-Heard.is)
+    once_not_heard _ _ _ _ _ _ c.first_event-event.ensures c.requires.other c.take_turn.ensures c.in-Heard.is
