@@ -1,5 +1,5 @@
 -- What holds when an event begins: nothing is pending but the subscriptions of sessions that have expired (`begins_ready`), and the state
--- is the one without them (`begins_so_far`). Then which those are (`expires_none`, `expires_by`). Then an completion that can be applied
+-- is the one without them (`begins_so_far`). Then which those are (`expires_none`, `expires_by`). Then a completion that can be applied
 -- can once a change stays as it is (`can_settled`), and a change can stay or be taken back after more (`can_settle_later`, `can_back`).
 -- Last, an event that is done at once (`done_leads`).
 use Rattle.std.proofs.Common.{◌≡◌, ◌≢◌, refl, sym, ◌∙◌, ap, subst, ℕ, ◌≤◌, ◌==◌, Bool, true, false, not, List, [], ◌∷◌, ◌++◌, length, map, append-nil, Option, Some, None, inl, inr, arith}

@@ -21,7 +21,7 @@ pub record TurnsOrKeeps {X E : Type 0} (result : Result X E) (old new : Parts) :
   pub turned : OnOk result (AreTurned old new)
   pub kept : OnErr result (AreKept old new)
 
--- an completion, if there is one, can be applied and leads to that state and answer
+-- a completion, if there is one, can be applied and leads to that state and answer
 abbrev pub GivesCompletion : {E : Type 0} → Result Completion E → Asking → Parts → Pending → State × Answer → Type 0
 GivesCompletion result a parts pending wanted = IfOk result (λ completion. LeadsToAnswer completion a parts pending wanted)
 

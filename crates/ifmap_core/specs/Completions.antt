@@ -70,7 +70,7 @@ abbrev pub first_renewed : Bool → ℕ → ℕ → List Session → List Sessio
 first_renewed true serial moment live = live
 first_renewed false serial moment live = change serial (with_last moment) live
 
--- the state after an completion, and the answer
+-- the state after a completion, and the answer
 abbrev pub after_completion : Completion → State → State × Answer
 after_completion (Say answer) state = (state, answer)
 after_completion (Accept serial answer) state = (renew serial state, answer)
@@ -111,7 +111,7 @@ FitsAfter serial renamings parts =
     → (queue_size (rename_all serial renamings (told_in_parts parts s)).queue ≤ s.limit)
     × (length (standing_in serial (rename_all serial renamings (told_in_parts parts s)).standing) ≤ most_names)
 
--- an completion can be applied
+-- a completion can be applied
 abbrev pub CanApply : Completion → Asking → Parts → Pending → Type 0
 CanApply (Say answer) a parts pending = Unit {0}
 CanApply (Accept serial answer) a parts pending = IsLive serial (sessions_left a parts.sessions)
@@ -141,7 +141,7 @@ alone_told serial size state = record state {
   standing = without_standing (serial ∷ []) state.standing;
 }
 
--- the subscriptions that an completion is to make stand
+-- the subscriptions that a completion is to make stand
 abbrev pub held_by : Completion → List Standing
 held_by (Say answer) = []
 held_by (Accept serial answer) = []
@@ -187,7 +187,7 @@ abbrev pub end_of_poll : Bool → Completion
 end_of_poll true = Say (the_answer.Reply the_reply.Ended)
 end_of_poll false = Say (refusal InvalidSessionID)
 
--- an completion leads from a state with these sessions to what the step makes of it, and is one of a live session that holds nothing
+-- a completion leads from a state with these sessions to what the step makes of it, and is one of a live session that holds nothing
 pub record IsStepCompletion (live : List Session) (event : Event) (ask : Ask) (completion : Completion) : Type 0 where
   pub plain : held_by completion ≡ []
   pub can : (parts : Parts) → parts.sessions.live ≡ live → CanApplyTo completion parts

@@ -16,7 +16,7 @@ pub record AreReadyIn (serial : ℕ) (readying : Readying) (a : Asking) (parts :
   pub live : IsLive serial (sessions_left a parts.sessions)
   pub readied : AreReadied serial (told_at serial a parts pending) parts readying
 
--- an completion, if there is one, leads to what is answered where those of a session are accepted, from the parts before to those after
+-- a completion, if there is one, leads to what is answered where those of a session are accepted, from the parts before to those after
 abbrev pub AcceptsReady : {E : Type 0} → Result Completion E → ℕ → Readying → Asking → Parts → Pending → Parts → Pending → Type 0
 AcceptsReady result serial readying a old before new after =
     (s : Session) → session_with_serial serial (so_far a old before).sessions ≡ Some s → GivesCompletion result a new after
