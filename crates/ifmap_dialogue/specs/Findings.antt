@@ -97,6 +97,7 @@ pub record OwnRequest : Type 0 where
   pub words : ChaCha
   pub after : ChaCha
 
+-- such a request, of these parts
 abbrev pub own_request : List ℕ → ℕ → Request → ChaCha → ChaCha → OwnRequest
 own_request client bytes request words after =
     record { client = client; bytes = bytes; request = request; words = words; after = after }
