@@ -18,7 +18,7 @@ use Rattle.ifmap_words.specs.Options.{is_option}
 use Rattle.ifmap_words.specs.PairLaws.{no_option_among, pair_built, pair_only, pair_passes, pair_rows, walk_fails, some_kind, first_none}
 use Rattle.ifmap_words.specs.Pairs.{pair_shape}
 use Rattle.std.specs.Fmt.{decimal}
-use Rattle.ifmap_command.specs.Commands.{Finds, FindsPair, IsCall, command_app}
+use Rattle.ifmap_command.specs.Commands.{FindsCommand, FindsPair, IsCall, command_app}
 use Rattle.ifmap_command.specs.Words.{IsWrong}
 use Rattle.ifmap_command.proofs.Asking.{decimal_plain}
 
@@ -188,7 +188,7 @@ named word = named_at word (bytes_eq replay word) (bytes_eq drill word) (bytes_e
 abbrev Passes : List Text → Type 0
 Passes words = (list_any is_option words ≡ false) × (fault_of command_app words ≡ [])
 
-found_replay : (rest : List Text) → Passes (replay ∷ rest) → Finds (replay ∷ rest) (subcommand_of command_app (replay ∷ rest))
+found_replay : (rest : List Text) → Passes (replay ∷ rest) → FindsCommand (replay ∷ rest) (subcommand_of command_app (replay ∷ rest))
 found_replay rest p =
     let fails = replay_faults rest in
     let none : rest ≡ [] = bare_only fails.0 rest p.0 (sym fails.1 ∙ p.1) in
@@ -212,26 +212,27 @@ found_two name x y rest plain two found =
       },
     )
 
-found_drill : (rest : List Text) → Passes (drill ∷ rest) → Finds (drill ∷ rest) (subcommand_of command_app (drill ∷ rest))
+found_drill : (rest : List Text) → Passes (drill ∷ rest) → FindsCommand (drill ∷ rest) (subcommand_of command_app (drill ∷ rest))
 found_drill rest p =
     let fails = drill_faults rest in
     let two = pair_only fails.0 rest p.0 (sym fails.1 ∙ p.1) in
     let got = found_two drill two.0 two.1 rest p.0 two.2 (drill_found rest) in
     inr (inl (two.0, two.1, got.0, got.1))
 
-found_serve : (rest : List Text) → Passes (serve ∷ rest) → Finds (serve ∷ rest) (subcommand_of command_app (serve ∷ rest))
+found_serve : (rest : List Text) → Passes (serve ∷ rest) → FindsCommand (serve ∷ rest) (subcommand_of command_app (serve ∷ rest))
 found_serve rest p =
     let fails = serve_faults rest in
     let two = pair_only fails.0 rest p.0 (sym fails.1 ∙ p.1) in
     let got = found_two serve two.0 two.1 rest p.0 two.2 (serve_found rest) in
     inr (inr (two.0, two.1, got.0, got.1))
 
-pub found_words : (words : List Text) → Passes words → Finds words (subcommand_of command_app words)
+pub found_words : (words : List Text) → Passes words → FindsCommand words (subcommand_of command_app words)
 found_words [] p = absurd (none_fails p.1)
 found_words (word ∷ rest) p = elim (named word) [
-  | inl e ↦ subst (λ w. Passes (w ∷ rest) → Finds (w ∷ rest) (subcommand_of command_app (w ∷ rest))) e (found_replay rest) p
-  | inr (inl e) ↦ subst (λ w. Passes (w ∷ rest) → Finds (w ∷ rest) (subcommand_of command_app (w ∷ rest))) e (found_drill rest) p
-  | inr (inr (inl e)) ↦ subst (λ w. Passes (w ∷ rest) → Finds (w ∷ rest) (subcommand_of command_app (w ∷ rest))) e (found_serve rest) p
+  | inl e ↦ subst (λ w. Passes (w ∷ rest) → FindsCommand (w ∷ rest) (subcommand_of command_app (w ∷ rest))) e (found_replay rest) p
+  | inr (inl e) ↦ subst (λ w. Passes (w ∷ rest) → FindsCommand (w ∷ rest) (subcommand_of command_app (w ∷ rest))) e (found_drill rest) p
+  | inr (inr (inl e)) ↦
+      subst (λ w. Passes (w ∷ rest) → FindsCommand (w ∷ rest) (subcommand_of command_app (w ∷ rest))) e (found_serve rest) p
   | inr (inr (inr none)) ↦ absurd (unnamed word rest (no_option_among word rest p.0).0 none p.1)
 ]
 
@@ -255,11 +256,11 @@ command_is_simple = refl
 
 pub parsed_words : (it : App) (words : List Text) (found : Option (Text × List Row)) (Q : Type 0) → it ≡ command_app
     → list_any is_option words ≡ false → (is_simple_and_free it ≡ true → fault_of it words ≡ [])
-    → (is_simple it ≡ true → Q × (found ≡ subcommand_of it words)) → Finds words found
+    → (is_simple it ≡ true → Q × (found ≡ subcommand_of it words)) → FindsCommand words found
 parsed_words it words found Q is plain kinds matches =
     let passes = sym (ap (λ a. fault_of a words) is) ∙ kinds (ap is_simple_and_free is ∙ command_is_simple) in
     let same = (matches (ap is_simple is)).1 ∙ ap (λ a. subcommand_of a words) is in
-    subst (Finds words) (sym same) (found_words words (plain, passes))
+    subst (FindsCommand words) (sym same) (found_words words (plain, passes))
 
 -- words that fail, but not for want of memory, do not pass
 failed : (it : App) (words : List Text) (error : Error) → it ≡ command_app

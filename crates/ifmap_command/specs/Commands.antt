@@ -36,19 +36,19 @@ pub record FindsPair (found : Option (Text × List Row)) (name x y : Text) : Typ
   pub second : first_of second_id rows ≡ Some y
 
 -- the words name that subcommand, which has the rest of them
-abbrev pub Finds : List Text → Option (Text × List Row) → Type 0
-Finds words found =
+abbrev pub FindsCommand : List Text → Option (Text × List Row) → Type 0
+FindsCommand words found =
     ((words ≡ codes "replay" ∷ []) × ((rows : List Row) × (found ≡ Some (codes "replay", rows))))
     ⊎ (((x : Text) × (y : Text) × IsCall words (codes "drill") x y × FindsPair found (codes "drill") x y)
     ⊎ ((x : Text) × (y : Text) × IsCall words (codes "serve") x y × FindsPair found (codes "serve") x y))
 
 -- the pair is these two words
-abbrev pub IsOf : Option Pair → Text → Text → Type 0
-IsOf pair x y = IsSomeAnd pair (λ two. (two.first.now ≡ x) × (two.second.now ≡ y))
+abbrev pub AreTheWords : Option Pair → Text → Text → Type 0
+AreTheWords pair x y = IsSomeAnd pair (λ two. (two.first.now ≡ x) × (two.second.now ≡ y))
 
 -- the words are that name and those two words
-abbrev pub Names : List Text → Text → Option Pair → Type 0
-Names words name pair =
+abbrev pub NamesCommand : List Text → Text → Option Pair → Type 0
+NamesCommand words name pair =
     ((words ≡ codes "replay" ∷ []) × (name ≡ codes "replay"))
-    ⊎ (((x : Text) × (y : Text) × IsCall words (codes "drill") x y × (name ≡ codes "drill") × IsOf pair x y)
-    ⊎ ((x : Text) × (y : Text) × IsCall words (codes "serve") x y × (name ≡ codes "serve") × IsOf pair x y))
+    ⊎ (((x : Text) × (y : Text) × IsCall words (codes "drill") x y × (name ≡ codes "drill") × AreTheWords pair x y)
+    ⊎ ((x : Text) × (y : Text) × IsCall words (codes "serve") x y × (name ≡ codes "serve") × AreTheWords pair x y))

@@ -1,7 +1,7 @@
 //! The words as `clap` reads them.
 ghost use Rattle.std.specs.Prelude.{◌≡◌, ℕ, IfOk, List, map, string_bytes};
 ghost use Rattle.clap.specs.Words.{app_of, subcommand_rows_of};
-ghost use Rattle.ifmap_command.specs.Commands.{Finds, Names, command_app};
+ghost use Rattle.ifmap_command.specs.Commands.{FindsCommand, NamesCommand, command_app};
 ghost use Rattle.ifmap_command.specs.Words.{Asks};
 
 use crate::forms::{Form, drill_of, serve_of};
@@ -47,7 +47,7 @@ fn mapd_command<'a>(alloc: Global) -> Result<Command<'a>, NoMemory>
 // What the subcommand that was met asks for.
 fn form_in(alloc: Global, matches: &ArgMatches<'_>) -> Result<Form, NoMemory>
     ensures { IfOk result (λ form. (words : List (List ℕ))
-        → Finds words (subcommand_rows_of matches.now) → Asks words form) }
+        → FindsCommand words (subcommand_rows_of matches.now) → Asks words form) }
 {
     let Some((name, given)) = matches.subcommand() else {
         return Ok(Form::Wrong);
@@ -58,7 +58,7 @@ fn form_in(alloc: Global, matches: &ArgMatches<'_>) -> Result<Form, NoMemory>
 // What a name and the two words after it, where there are two, ask for.
 fn form_named(alloc: Global, name: &str, pair: Option<Pair<'_>>) -> Result<Form, NoMemory>
     ensures { IfOk result (λ form. (words : List (List ℕ))
-        → Names words name.now pair.entry → Asks words form) }
+        → NamesCommand words name.now pair.entry → Asks words form) }
 {
     if name == REPLAY {
         return Ok(Form::Replay);

@@ -18,7 +18,7 @@ use Rattle.ifmap_ident.specs.declared.items.Item.TheVariants.{One, Pair}
 use Rattle.ifmap_ident.specs.Canon.{IsIdentifier}
 use Rattle.ifmap_ident.specs.Identifiers.{identifier_bytes, identifier_order}
 use Rattle.ifmap_ident.specs.Items.{IsItem}
-use Rattle.ifmap_pool.specs.Holdings.{Frees, Holdings, HoldsAgain, IsAbsent, IsHeld, LetsGo, Names, Takes, entry_at, holds_at, key_at, once}
+use Rattle.ifmap_pool.specs.Holdings.{Frees, Holdings, HoldsAgain, IsAbsent, IsHeld, LetsGo, Names, TakesNumber, entry_at, holds_at, key_at, once}
 use Rattle.ifmap_graph.specs.declared.ends.Ends as the_ends
 use Rattle.ifmap_graph.specs.declared.ends.Ends.TheVariants as ends
 use Rattle.ifmap_graph.specs.declared.shelves.Shelf.{Shelf}
@@ -69,7 +69,7 @@ module _ (old new : Holdings Identifier) (kept : (v : ℕ) (a : Identifier) → 
 -- the keys of a pool in which one more is held: those that were, and this one
 module _ (old new : Holdings Identifier) (r : ℕ) (id : Identifier)
     (present : (v : ℕ) → Names identifier_order old v id → (r ≡ v) × HoldsAgain old new v)
-    (absent : IsAbsent identifier_order old id → Takes old new r id)
+    (absent : IsAbsent identifier_order old id → TakesNumber old new r id)
     (others : (o : ℕ) → o ≢ r → entry_at new o ≡ entry_at old o) where
   itself : (k : ℕ) (x : Identifier × ℕ) → get (insert old.live k x) k ≡ Some x
   itself k x = get-insert nat_cmp_total old.live k x k ∙ ap (λ b. cond b (Some x) (get old.live k))

@@ -5,7 +5,7 @@ use mathlib.Core.Option.{}
 use Rattle.atomic_table.proofs.Lists.{at_set}
 use Rattle.ifmap_hall.specs.Histories.{Extends, Ordered}
 use Rattle.ifmap_hall.specs.Places.{times, once_below}
-use Rattle.ifmap_hall.specs.Rule.{Homes, Sits, Fits, AtHome, IsOut, IsInTurn}
+use Rattle.ifmap_hall.specs.Rule.{Homes, Sits, SeatFits, AtHome, IsOut, IsInTurn}
 use Rattle.ifmap_hall.specs.SeatViews.{tickets_of, ticket_of, holds_book}
 use Rattle.ifmap_hall.specs.declared.view.History.{History}
 use Rattle.ifmap_hall.specs.declared.view.SeatView.{SeatView}
@@ -40,7 +40,7 @@ module _ {M E R : Type 0} (next : M → E → M) (weight : E → ℕ) where
     pub queued : (j : ℕ) (x : SeatView M E R) → j ≢ id → Sits seats j x → tickets_of x.stage ≡ 1 → served ≤ ticket_of x.stage
     pub held : (j : ℕ) (x : SeatView M E R) → j ≢ id → Sits seats j x → holds_book x.stage ≡ true
         → (history ≡ k.history) × (served ≡ k.served)
-    pub fits : Fits terms history served drawn u
+    pub fits : SeatFits terms history served drawn u
     pub tickets : tickets_of u.stage + k.drawn + served ≡ tickets_of s.stage + drawn + k.served
     pub places : (x : ℕ) → times x u.view.mine + once_below x (length k.history.log) ≡ times x s.view.mine + once_below x
         (length history.log)
@@ -57,8 +57,8 @@ module _ {M E R : Type 0} (next : M → E → M) (weight : E → ℕ) where
     no_other_lone j x n e l =
         let one = k.alone j x e l in let a = at_within seats j x e in let b = at_within seats id s g.sits in n (omega arith)
 
-    still : (j : ℕ) (x : SeatView M E R) → j ≢ id → Sits seats j x → Fits terms k.history k.served k.drawn x
-        → Fits terms history served drawn x
+    still : (j : ℕ) (x : SeatView M E R) → j ≢ id → Sits seats j x → SeatFits terms k.history k.served k.drawn x
+        → SeatFits terms history served drawn x
     still j x n e f =
         let d = g.further in
         record {
@@ -108,7 +108,7 @@ module _ {M E R : Type 0} (next : M → E → M) (weight : E → ℕ) where
       places = λ x. let t = sum_set (λ (y : SeatView M E R). times x y.view.mine) seats id s u g.sits in let a = k.places
           x in let b = g.places x in omega arith;
       fit = λ i x e h. elim (at_set seats id i u x e) [
-        | inl p ↦ subst (λ (y : SeatView M E R). Fits terms history served drawn y) p.1 g.fits
+        | inl p ↦ subst (λ (y : SeatView M E R). SeatFits terms history served drawn y) p.1 g.fits
         | inr p ↦ still i x p.0 p.1 (k.fit i x p.1 h)
       ];
       ordered = λ i j x y e f hx hy. elim (at_set seats id i u x e) [

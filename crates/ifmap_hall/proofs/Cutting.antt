@@ -10,7 +10,7 @@ use Rattle.atomic_table.specs.Table.{Splits}
 use Rattle.atomic_table.proofs.Lists.{at_set, set_else, at_snoc, at_longer}
 use Rattle.ifmap_hall.specs.Histories.{Ordered}
 use Rattle.ifmap_hall.specs.Places.{times}
-use Rattle.ifmap_hall.specs.Rule.{Homes, Sits, Fits, AtHome, IsOut, IsInTurn, Keeps}
+use Rattle.ifmap_hall.specs.Rule.{Homes, Sits, SeatFits, AtHome, IsOut, IsInTurn, Keeps}
 use Rattle.ifmap_hall.specs.SeatViews.{share, tickets_of, holds_book, kept_seat, given_seat}
 use Rattle.ifmap_hall.specs.declared.view.History.{History}
 use Rattle.ifmap_hall.specs.declared.view.SeatView.{SeatView}
@@ -94,10 +94,10 @@ module _ {M E R : Type 0} (next : M → E → M) (weight : E → ℕ) where
     cut_waits i x (is_old n e) h = e
 
     cut_fits : (i : ℕ) (x : SeatView M E R) → Place seats id (kept_seat s) (given_seat s) i x → 0 < x.parts
-        → Fits terms k.history k.served k.drawn x
+        → SeatFits terms k.history k.served k.drawn x
     cut_fits i x (is_kept p e) h =
         let f = k.fit id s sits (omega arith) in
-        subst (λ (y : SeatView M E R). Fits terms k.history k.served k.drawn y) e (record {
+        subst (λ (y : SeatView M E R). SeatFits terms k.history k.served k.drawn y) e (record {
           terms_are = f.terms_are;
           sound = record { inside = f.sound.inside; mine = f.sound.mine };
           extends = f.extends;
@@ -108,7 +108,7 @@ module _ {M E R : Type 0} (next : M → E → M) (weight : E → ℕ) where
         })
     cut_fits i x (is_given e) h =
         let f = k.fit id s sits (omega arith) in
-        subst (λ (y : SeatView M E R). Fits terms k.history k.served k.drawn y) e (record {
+        subst (λ (y : SeatView M E R). SeatFits terms k.history k.served k.drawn y) e (record {
           terms_are = f.terms_are;
           sound = record { inside = f.sound.inside; mine = omega arith };
           extends = f.extends;

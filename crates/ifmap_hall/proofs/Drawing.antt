@@ -10,7 +10,7 @@ use lib.ListN.{get_elem?}
 use Rattle.std.specs.Prelude.{Option, Some}
 use Rattle.atomic_table.specs.Table.{Step, Act, keeps, takes, Valid, homes_after, carried_after, Allows}
 use Rattle.atomic_table.proofs.Lists.{at_set, set_here, set_else, set_again, one_turn}
-use Rattle.ifmap_hall.specs.Histories.{StandsFor}
+use Rattle.ifmap_hall.specs.Histories.{BookStandsFor}
 use Rattle.ifmap_hall.specs.Plays.{Draws, Looks, Checks}
 use Rattle.ifmap_hall.specs.Rule.{Homes, Sits, AtHome, IsOut, IsInTurn, Keeps}
 use Rattle.ifmap_hall.specs.SeatViews.{tickets_of, ticket_of, holds_book, with_ticket, with_book}
@@ -202,7 +202,7 @@ module _ {M E R : Type 0} (next : M → E → M) (weight : E → ℕ) where
             k.history,
             a.book,
             record {
-              book = subst (λ q. StandsFor next weight q k.history a.book) (sym f.terms_are) a.stands;
+              book = subst (λ q. BookStandsFor next weight q k.history a.book) (sym f.terms_are) a.stands;
               sound = f.sound;
               extends = f.extends;
               lone = f.lone;

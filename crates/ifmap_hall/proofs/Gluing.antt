@@ -9,7 +9,7 @@ use Rattle.atomic_table.specs.Table.{Joins}
 use Rattle.atomic_table.proofs.Lists.{at_set, set_else}
 use Rattle.ifmap_hall.specs.Histories.{Extends, Ordered}
 use Rattle.ifmap_hall.specs.Places.{times}
-use Rattle.ifmap_hall.specs.Rule.{Homes, Sits, Fits, AtHome, IsOut, IsInTurn, Keeps}
+use Rattle.ifmap_hall.specs.Rule.{Homes, Sits, SeatFits, AtHome, IsOut, IsInTurn, Keeps}
 use Rattle.ifmap_hall.specs.SeatViews.{tickets_of, holds_book, joint_seat, spent_seat}
 use Rattle.ifmap_hall.specs.Views.{is_later}
 use Rattle.ifmap_hall.specs.declared.view.History.{History}
@@ -108,7 +108,7 @@ module _ {M E R : Type 0} (next : M → E → M) (weight : E → ℕ) where
         (f.extends, f.sound.inside)
 
     glue_fits : (i : ℕ) (x : SeatView M E R) → Place seats id other (joint_seat s u) (spent_seat m) i x → 0 < x.parts
-        → Fits terms k.history k.served k.drawn x
+        → SeatFits terms k.history k.served k.drawn x
     glue_fits i x (is_both p e) h =
         let f = k.fit id s sits part_s in
         let g = k.fit other u there part_u in
@@ -116,7 +116,7 @@ module _ {M E R : Type 0} (next : M → E → M) (weight : E → ℕ) where
         let fits = late_fits late joint.one in
         let long_s = longer s.view.history late joint.this in
         let long_u = longer u.view.history late joint.that in
-        subst (λ (y : SeatView M E R). Fits terms k.history k.served k.drawn y) e (record {
+        subst (λ (y : SeatView M E R). SeatFits terms k.history k.served k.drawn y) e (record {
           terms_are = f.terms_are;
           sound = record {
             inside = fits.1;

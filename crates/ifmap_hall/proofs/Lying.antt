@@ -4,7 +4,7 @@ use Rattle.std.specs.Prelude.{Option, Some}
 use Rattle.atomic_table.specs.Table.{State}
 use mathlib.Core.Option.{some}
 use Rattle.ifmap_hall.specs.Books.{IsBook, sight_of, end_of_book}
-use Rattle.ifmap_hall.specs.Histories.{StandsFor}
+use Rattle.ifmap_hall.specs.Histories.{BookStandsFor}
 use Rattle.ifmap_hall.specs.Places.{once_below}
 use Rattle.ifmap_hall.specs.Rule.{AreSharedOut, AtHome, Homes, IsOut, Keeping, Sits}
 use Rattle.ifmap_hall.specs.Sights.{CarriesOn}
@@ -18,13 +18,13 @@ use Rattle.ifmap_hall.proofs.Sighting.{found_carries}
 module _ {M E R : Type 0} (next : M → E → M) (weight : E → ℕ) where
   stands_there : (terms : Terms M) (h : History E) (homes : Homes M E R) (seats : List (SeatView M E R)) (b : Book M E R)
       → homes ≡ some (Some b) ∷ [] → AtHome next weight terms h homes seats ⊎ IsOut next weight homes seats
-      → StandsFor next weight terms h b
+      → BookStandsFor next weight terms h b
   stands_there terms h homes seats b lies (inl home) =
-      let same : home.book ≡ b = cc (home.there, lies) in subst (λ (x : Book M E R). StandsFor next weight terms h x) same home.stands
+      let same : home.book ≡ b = cc (home.there, lies) in subst (λ (x : Book M E R). BookStandsFor next weight terms h x) same home.stands
   stands_there terms h homes seats b lies (inr out) = cc (out.gone, lies)
 
   module _ (terms : Terms M) (t : State (Option (Book M E R)) (SeatView M E R)) (b : Book M E R) (k : Keeping next weight terms t b) where
-    stands : StandsFor next weight terms k.0.history b
+    stands : BookStandsFor next weight terms k.0.history b
     stands = stands_there terms k.0.history t.homes t.views b k.1 k.0.slot
 
     pub in_order : IsBook next weight b
@@ -35,7 +35,7 @@ module _ {M E R : Type 0} (next : M → E → M) (weight : E → ℕ) where
         let fit = k.0.fit i s sits part in
         found_carries next weight s.view k.0.history b fit.sound.inside
         (record {
-          book = subst (λ (q : Terms M). StandsFor next weight q k.0.history b) (sym fit.terms_are) stands;
+          book = subst (λ (q : Terms M). BookStandsFor next weight q k.0.history b) (sym fit.terms_are) stands;
           sound = fit.sound;
           extends = fit.extends;
           lone = fit.lone;

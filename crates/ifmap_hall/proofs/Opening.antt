@@ -5,9 +5,9 @@ use Rattle.std.proofs.lemmas.Bool.Decides.{nat_tests}
 use mathlib.Core.Option.{some}
 use Rattle.std.specs.Prelude.{Option, Some}
 use Rattle.std.specs.List.{sum_by}
-use Rattle.ifmap_hall.specs.Histories.{Ordered, StandsFor, no_history}
+use Rattle.ifmap_hall.specs.Histories.{Ordered, BookStandsFor, no_history}
 use Rattle.ifmap_hall.specs.Places.{times}
-use Rattle.ifmap_hall.specs.Rule.{Sits, Fits, IsInTurn}
+use Rattle.ifmap_hall.specs.Rule.{Sits, SeatFits, IsInTurn}
 use Rattle.ifmap_hall.specs.SeatViews.{tickets_of, holds_book, first_seat}
 use Rattle.ifmap_hall.specs.Sights.{run}
 use Rattle.ifmap_hall.specs.declared.book.Book.{Book}
@@ -20,7 +20,8 @@ module _ {M E R : Type 0} (next : M → E → M) (weight : E → ℕ) where
   -- a book with nothing in it
   pub stands_for_none : (terms : Terms M) (b : Book M E R) → b.machine ≡ b.base → b.base ≡ terms.opening.value → b.from ≡ 0
       → b.journal.items ≡ [] → b.bytes ≡ 0
-      → b.limit ≡ terms.limit → b.heaviest ≡ terms.heaviest → 2 * terms.heaviest ≤ terms.limit → StandsFor next weight terms no_history b
+      → b.limit ≡ terms.limit → b.heaviest ≡ terms.heaviest → 2 * terms.heaviest ≤ terms.limit
+      → BookStandsFor next weight terms no_history b
   stands_for_none terms b same opened start none_yet light limit heaviest room = record {
     book = record {
       state = same ∙ sym (ap (run next b.base) none_yet);
@@ -38,7 +39,7 @@ module _ {M E R : Type 0} (next : M → E → M) (weight : E → ℕ) where
   }
 
   pub opens : (terms : Terms M) (b : Book M E R) (slots : List (Option (Book M E R))) → slots ≡ Some b ∷ []
-      → StandsFor next weight terms no_history b
+      → BookStandsFor next weight terms no_history b
       → IsInTurn next weight terms (0 ∷ 0 ∷ []) (map some slots) (first_seat terms ∷ [])
   opens terms b slots e stands =
       let s : SeatView M E R = first_seat terms in
@@ -65,7 +66,7 @@ module _ {M E R : Type 0} (next : M → E → M) (weight : E → ℕ) where
         apart = λ i j x y h k _ _ _. (is i x h).0 ∙ sym (is j y k).0;
         places = λ x. let e : nat_lt x 0 ≡ false = grind (arith, nat_tests) in sum_one (λ (y : SeatView M E R). times x y.view.mine) s
             ∙ sym (ap (λ b. cond b 1 0) e);
-        fit = λ i x h _. subst (λ (y : SeatView M E R). Fits terms no_history 0 0 y) (is i x h).1 (record {
+        fit = λ i x h _. subst (λ (y : SeatView M E R). SeatFits terms no_history 0 0 y) (is i x h).1 (record {
           terms_are = refl;
           sound = record { inside = omega arith; mine = omega arith };
           extends = extends-itself no_history;

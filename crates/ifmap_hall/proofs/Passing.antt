@@ -5,9 +5,9 @@ use Rattle.std.proofs.lemmas.Bool.{false_from_ne_true}
 use Rattle.std.specs.Prelude.{Option, Some}
 use Rattle.atomic_table.specs.Table.{Step, Act, gives, Valid, homes_after, carried_after, Allows}
 use Rattle.atomic_table.proofs.Lists.{at_set}
-use Rattle.ifmap_hall.specs.Histories.{Extends, StandsFor, no_history, history_in}
+use Rattle.ifmap_hall.specs.Histories.{Extends, BookStandsFor, no_history, history_in}
 use Rattle.ifmap_hall.specs.Places.{times, once_below}
-use Rattle.ifmap_hall.specs.Plays.{Gives, Passes}
+use Rattle.ifmap_hall.specs.Plays.{Gives, PassesOn}
 use Rattle.ifmap_hall.specs.Rule.{Homes, Sits, AtHome, IsOut, IsInTurn, Keeps}
 use Rattle.ifmap_hall.specs.SeatViews.{tickets_of, ticket_of, holds_book, taken_of, after_turn}
 use Rattle.ifmap_hall.specs.declared.book.Book.{Book}
@@ -99,12 +99,12 @@ module _ {M E R : Type 0} (next : M → E → M) (weight : E → ℕ) (reply : M
       → holds_book s.stage ≡ true
       → Gives next weight s.view.terms (taken_of s.stage) b
       → Allows (Keeps next weight terms) slots id (s, (0, Some b) ∷ []) 0 (λ n. (n + 1) % 2 ^ 64)
-      (Passes next reply st (s, (0, Some b) ∷ []))
+      (PassesOn next reply st (s, (0, Some b) ∷ []))
   passes terms slots id s b st part holds g t k _ sits _ =
       let P : List ℕ → Type 0 = λ ws. (u : SeatView M E R) × (a : Act (Option (Book M E R))) × Valid t.homes ((0, Some b) ∷ []) a
       × IsInTurn next weight terms (set ws 0 ((slice_index ws 0 + 1) % 2 ^ 64)) (homes_after t.homes ((0, Some b) ∷ []) a)
       (set t.views id u)
-      × Passes next reply st (s, (0, Some b) ∷ []) (slice_index ws 0) (u, carried_after ((0, Some b) ∷ []) a) in
+      × PassesOn next reply st (s, (0, Some b) ∷ []) (slice_index ws 0) (u, carried_after ((0, Some b) ∷ []) a) in
       let u : SeatView M E R = after_turn next reply s b in
       subst P (sym k.words_are) (
         u,
@@ -118,7 +118,7 @@ module _ {M E R : Type 0} (next : M → E → M) (weight : E → ℕ) (reply : M
               book = b;
               there =
                   ap (λ (hs : Homes M E R). set hs 0 (some (Some b))) (empty terms t.words t.homes t.views k id s sits part holds k.slot);
-              stands = subst (λ q. StandsFor next weight q (history_in (taken_of s.stage) b) b) (k.fit id s sits part).terms_are g.book;
+              stands = subst (λ q. BookStandsFor next weight q (history_in (taken_of s.stage) b) b) (k.fit id s sits part).terms_are g.book;
               free = λ i x e. elim (at_set t.views id i u x e) [
                 | inl p ↦ sym (ap (λ (y : SeatView M E R). holds_book y.stage) p.1)
                 | inr p ↦ no_other terms t.words t.homes t.views k id s sits part holds i x p.0 p.1

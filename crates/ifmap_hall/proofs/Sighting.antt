@@ -6,7 +6,7 @@ use Rattle.ifmap_hall.specs.Asking.{TookATurn, Answered, AnsweredFromBase}
 use Rattle.ifmap_hall.specs.Books.{sight_of}
 use Rattle.ifmap_hall.specs.Histories.{Extends, sight_in}
 use Rattle.ifmap_hall.specs.Places.{times, merge}
-use Rattle.ifmap_hall.specs.Plays.{Finds}
+use Rattle.ifmap_hall.specs.Plays.{FindsBook}
 use Rattle.ifmap_hall.specs.SeatViews.{joint_seat, IsSoundSeat}
 use Rattle.ifmap_hall.specs.Sights.{CarriesOn, run}
 use Rattle.ifmap_hall.specs.Views.{is_later, joint_view, sight_by}
@@ -64,7 +64,7 @@ module _ {M E R : Type 0} (next : M → E → M) where
 
   -- the book that is found carries on
   pub found_carries : (weight : E → ℕ) (v : HallView M E R) (h : History E) (b : Book M E R) → v.history.from ≤ length v.history.log
-      → Finds next weight v h b → CarriesOn next (sight_by next v) (sight_of b)
+      → FindsBook next weight v h b → CarriesOn next (sight_by next v) (sight_of b)
   found_carries weight v h b inside f =
       subst (λ s. CarriesOn next (sight_by next v) s) (sym f.book.sight)
       (extends_carries next v.terms.opening.value v.history h f.extends inside f.book.inside)

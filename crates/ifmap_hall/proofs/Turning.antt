@@ -8,7 +8,7 @@ use Rattle.ifmap_hall.specs.Answers.{IfDone, IfHeld, IfSpent, IfNoMemory}
 use Rattle.ifmap_hall.specs.Asking.{TookATurn, SaidNothing, Said, Answered, Turned}
 use Rattle.ifmap_hall.specs.Books.{IsBook, sight_of, end_of_book}
 use Rattle.ifmap_hall.specs.Histories.{Extends, GainsAtMostOne, history_in}
-use Rattle.ifmap_hall.specs.Plays.{Finds, Gives}
+use Rattle.ifmap_hall.specs.Plays.{FindsBook, Gives}
 use Rattle.ifmap_hall.specs.SeatViews.{view_after}
 use Rattle.ifmap_hall.specs.Sights.{CarriesOn, run}
 use Rattle.ifmap_hall.specs.Turns.{Settles, SameLimits, EndsWith, Enters}
@@ -37,7 +37,7 @@ module _ {M E R : Type 0} (next : M → E → M) (weight : E → ℕ) (holds_on 
         IfNoMemory answer (λ back. (back ≡ event) × (end_of_book b < 2 ^ 64 - 1) × (holds_on b.machine event ≡ false)
         × Settles next weight b b')
 
-  module _ (v : HallView M E R) (h : History E) (b : Book M E R) (found : Finds next weight v h b) where
+  module _ (v : HallView M E R) (h : History E) (b : Book M E R) (found : FindsBook next weight v h b) where
     from_is : b.from ≡ h.from
     from_is = ap (λ s. s.from) found.book.sight
 

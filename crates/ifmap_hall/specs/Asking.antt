@@ -4,7 +4,7 @@ use Rattle.ifmap_hall.specs.Histories.{Extends}
 use Rattle.ifmap_hall.specs.Plays.{Gives}
 use Rattle.ifmap_hall.specs.SeatViews.{view_after}
 use Rattle.ifmap_hall.specs.Sights.{Sight, end_of, run}
-use Rattle.ifmap_hall.specs.Views.{IsSound}
+use Rattle.ifmap_hall.specs.Views.{IsSoundView}
 use Rattle.ifmap_hall.specs.declared.book.Asked.{Asked}
 use Rattle.ifmap_hall.specs.declared.book.Asked.TheVariants.{Done, Held, Spent, NoMemory}
 use Rattle.ifmap_hall.specs.declared.book.Book.{Book}
@@ -18,7 +18,7 @@ module _ {M E R : Type 0} where
     pub lone : w.lone ≡ v.lone
     pub turns : w.turns ≡ v.turns + 1
     pub history : Extends v.history w.history
-    pub sound : IsSound w
+    pub sound : IsSoundView w
     -- if it was never split from, it had seen all entries that are in the base now
     pub near : v.lone ≡ true → w.history.from ≤ length v.history.log
 

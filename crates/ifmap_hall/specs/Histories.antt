@@ -36,7 +36,7 @@ module _ {M E R : Type 0} where
   history_in h b = record { log = take b.from h.log ++ b.journal.items; from = b.from }
 
   -- the book is in order, and what is seen in it is what is seen of this history
-  pub record StandsFor (next : M → E → M) (weight : E → ℕ) (terms : Terms M) (h : History E) (b : Book M E R) : Type 0 where
+  pub record BookStandsFor (next : M → E → M) (weight : E → ℕ) (terms : Terms M) (h : History E) (b : Book M E R) : Type 0 where
     pub book : IsBook next weight b
     pub limit : b.limit ≡ terms.limit
     pub heaviest : b.heaviest ≡ terms.heaviest

@@ -1,9 +1,9 @@
 -- What each step tells its seat.
 use Rattle.std.specs.Prelude.{◌≡◌, ◌≢◌, ℕ, ◌%◌, ◌^◌, ◌≤◌, [], ◌∷◌, length, true, Option, Some}
 use Rattle.atomic_table.specs.Table.{Step, Me}
-use Rattle.ifmap_hall.specs.Histories.{Extends, GainsAtMostOne, StandsFor, history_in}
+use Rattle.ifmap_hall.specs.Histories.{Extends, GainsAtMostOne, BookStandsFor, history_in}
 use Rattle.ifmap_hall.specs.SeatViews.{ticket_of, taken_of, with_ticket, with_book, after_turn, IsSoundSeat}
-use Rattle.ifmap_hall.specs.Views.{IsSound}
+use Rattle.ifmap_hall.specs.Views.{IsSoundView}
 use Rattle.ifmap_hall.specs.declared.book.Book.{Book}
 use Rattle.ifmap_hall.specs.declared.view.History.{History}
 use Rattle.ifmap_hall.specs.declared.view.SeatView.{SeatView}
@@ -25,15 +25,15 @@ module _ {M E R : Type 0} where
 
   module _ (next : M → E → M) (weight : E → ℕ) where
     -- the book that a pass finds stands for a history that extends what it has seen, and is what it has seen if it is alone
-    pub record Finds (v : HallView M E R) (h : History E) (b : Book M E R) : Type 0 where
-      pub book : StandsFor next weight v.terms h b
-      pub sound : IsSound v
+    pub record FindsBook (v : HallView M E R) (h : History E) (b : Book M E R) : Type 0 where
+      pub book : BookStandsFor next weight v.terms h b
+      pub sound : IsSoundView v
       pub extends : Extends v.history h
       pub lone : v.lone ≡ true → v.history ≡ h
 
     -- the seat took the book
     abbrev pub Served : SeatView M E R → Seated M E R → Type 0
-    Served s after = (h : History E) × (b : Book M E R) × Finds s.view h b × (after ≡ (with_book s h, (0, Some b) ∷ []))
+    Served s after = (h : History E) × (b : Book M E R) × FindsBook s.view h b × (after ≡ (with_book s h, (0, Some b) ∷ []))
 
     -- look: where its ticket is served the seat took the book, and elsewhere nothing changed
     abbrev pub Looks : Step (Option (Book M E R)) → Seated M E R → ℕ → Seated M E R → Type 0
@@ -44,7 +44,7 @@ module _ {M E R : Type 0} where
     -- the book that a seat gives back stands for the history that was taken, with one entry more or none, of which as many
     -- or more are in the base, and only such as were taken
     pub record Gives (terms : Terms M) (taken : History E) (b : Book M E R) : Type 0 where
-      pub book : StandsFor next weight terms (history_in taken b) b
+      pub book : BookStandsFor next weight terms (history_in taken b) b
       pub settled : taken.from ≤ b.from
       pub near : b.from ≤ length taken.log
       pub gains : GainsAtMostOne taken.log (history_in taken b).log
@@ -59,5 +59,5 @@ module _ {M E R : Type 0} where
     WentOn me after = (b : Book M E R) × (me.1 ≡ (0, Some b) ∷ []) × (after ≡ (after_turn next reply me.0 b, []))
 
     -- pass the turn on: the book went back to its slot, and the turn to the next ticket
-    abbrev pub Passes : Step (Option (Book M E R)) → Seated M E R → ℕ → Seated M E R → Type 0
-    Passes s me n after = WentOn me after
+    abbrev pub PassesOn : Step (Option (Book M E R)) → Seated M E R → ℕ → Seated M E R → Type 0
+    PassesOn s me n after = WentOn me after

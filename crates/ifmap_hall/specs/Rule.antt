@@ -3,10 +3,10 @@ use Rattle.std.specs.Prelude.{◌≡◌, ◌⊎◌, ℕ, ◌+◌, ◌-◌, ◌%�
 use mathlib.Core.Option.{Option as Maybe, some, none}
 use lib.ListN.{get_elem?}
 use Rattle.atomic_table.specs.Table.{State}
-use Rattle.ifmap_hall.specs.Histories.{Extends, Ordered, StandsFor}
+use Rattle.ifmap_hall.specs.Histories.{Extends, Ordered, BookStandsFor}
 use Rattle.ifmap_hall.specs.Places.{times, once_below}
 use Rattle.ifmap_hall.specs.SeatViews.{tickets_of, ticket_of, taken_of, holds_book}
-use Rattle.ifmap_hall.specs.Views.{IsSound}
+use Rattle.ifmap_hall.specs.Views.{IsSoundView}
 use Rattle.ifmap_hall.specs.declared.book.Book.{Book}
 use Rattle.ifmap_hall.specs.declared.view.History.{History}
 use Rattle.ifmap_hall.specs.declared.view.SeatView.{SeatView}
@@ -22,9 +22,9 @@ module _ {M E R : Type 0} where
   Sits seats i s = get_elem? seats i ≡ some s
 
   -- what a seat knows fits the history, the number served and the next ticket
-  pub record Fits (terms : Terms M) (h : History E) (served drawn : ℕ) (s : SeatView M E R) : Type 0 where
+  pub record SeatFits (terms : Terms M) (h : History E) (served drawn : ℕ) (s : SeatView M E R) : Type 0 where
     pub terms_are : s.view.terms ≡ terms
-    pub sound : IsSound s.view
+    pub sound : IsSoundView s.view
     pub extends : Extends s.view.history h
     pub joined : Extends s.joined s.view.history
     pub queued : tickets_of s.stage ≡ 1 → (served ≤ ticket_of s.stage) × (ticket_of s.stage < drawn)
@@ -36,7 +36,7 @@ module _ {M E R : Type 0} where
     pub record AtHome (terms : Terms M) (h : History E) (homes : Homes M E R) (seats : List (SeatView M E R)) : Type 0 where
       pub book : Book M E R
       pub there : homes ≡ some (Some book) ∷ []
-      pub stands : StandsFor next weight terms h book
+      pub stands : BookStandsFor next weight terms h book
       pub free : (i : ℕ) (s : SeatView M E R) → Sits seats i s → holds_book s.stage ≡ false
 
     -- the slot is empty, and a seat has the book
@@ -65,7 +65,7 @@ module _ {M E R : Type 0} where
           → ticket_of s.stage ≡ ticket_of u.stage → i ≡ j
       -- each place of the history is in the list of one seat
       pub places : (x : ℕ) → sum_by (λ (s : SeatView M E R). times x s.view.mine) seats ≡ once_below x (length history.log)
-      pub fit : (i : ℕ) (s : SeatView M E R) → Sits seats i s → 0 < s.parts → Fits terms history served drawn s
+      pub fit : (i : ℕ) (s : SeatView M E R) → Sits seats i s → 0 < s.parts → SeatFits terms history served drawn s
       -- of each two seats that are not spent one has seen what the other has seen
       pub ordered : (i j : ℕ) (s u : SeatView M E R) → Sits seats i s → Sits seats j u → 0 < s.parts → 0 < u.parts
           → Ordered s.view.history u.view.history

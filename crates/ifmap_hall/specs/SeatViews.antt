@@ -3,7 +3,7 @@ use Rattle.std.specs.Prelude.{◌≡◌, ℕ, Bool, ◌+◌, ◌-◌, ◌/◌, �
 use Rattle.atomic_table.specs.Table.{Me}
 use Rattle.ifmap_hall.specs.Histories.{no_history, history_in, Extends}
 use Rattle.ifmap_hall.specs.Sights.{run}
-use Rattle.ifmap_hall.specs.Views.{is_later, IsSound, first_view, kept_view, given_view, joint_view}
+use Rattle.ifmap_hall.specs.Views.{is_later, IsSoundView, first_view, kept_view, given_view, joint_view}
 use Rattle.ifmap_hall.specs.declared.book.Book.{Book}
 use Rattle.ifmap_hall.specs.declared.view.History.{History}
 use Rattle.ifmap_hall.specs.declared.view.SeatView.{SeatView}
@@ -96,7 +96,7 @@ module _ {M E R : Type 0} where
 
   -- what holds of each seat that is not spent
   pub record IsSoundSeat (s : SeatView M E R) : Type 0 where
-    pub view : IsSound s.view
+    pub view : IsSoundView s.view
     pub joined : Extends s.joined s.view.history
     pub parts : s.parts < 18446744073709551616
 

@@ -18,13 +18,13 @@ module _ {M E R : Type 0} where
   sight_by next v = sight_in next v.terms.opening.value v.history
 
   -- the base has no entry that was not seen, and the places of the pass's own entries rise
-  pub record IsSound (v : HallView M E R) : Type 0 where
+  pub record IsSoundView (v : HallView M E R) : Type 0 where
     pub inside : v.history.from ≤ length v.history.log
     pub mine : Rises 0 v.mine (length v.history.log)
 
   -- there is one proof at most of that
-  pub IsSound-prop : (v : HallView M E R) → IsProp (IsSound v)
-  IsSound-prop v a b = λ i. record {
+  pub IsSoundView-prop : (v : HallView M E R) → IsProp (IsSoundView v)
+  IsSoundView-prop v a b = λ i. record {
     inside = le_prop a.inside b.inside i;
     mine = Rises-prop 0 v.mine (length v.history.log) a.mine b.mine i;
   }

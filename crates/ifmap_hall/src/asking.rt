@@ -2,7 +2,7 @@
 ghost use Rattle.std.specs.Prelude.{◌≡◌, ◌≢◌, ℕ, ◌+◌, ◌%◌, ◌^◌, ◌<◌, ◌≤◌, [], ◌∷◌, ◌++◌, length};
 ghost use Rattle.ifmap_hall.specs.Books.{IsBook};
 ghost use Rattle.ifmap_hall.specs.SeatViews.{ticket_of, IsAtRest, IsWaiting};
-ghost use Rattle.ifmap_hall.specs.Plays.{Finds, Served};
+ghost use Rattle.ifmap_hall.specs.Plays.{FindsBook, Served};
 ghost use Rattle.ifmap_hall.specs.Asking.{TookATurn, Answered, Turned};
 
 use crate::book::{Asked, Book};
@@ -66,7 +66,7 @@ where
     requires book { IsBook M.next M.weight_of book.old }
     requires light { M.weight_of event ≤ book.old.heaviest }
     ensures { (v : HallView M M.Event M.Reply) (h : History M.Event)
-        → Finds M.next M.weight_of v h book.old
+        → FindsBook M.next M.weight_of v h book.old
         → Turned M.next M.weight_of M.holds_on M.reply v h book.new number event result }
 {
     book.turn(alloc, number, event)

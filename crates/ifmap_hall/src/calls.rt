@@ -3,10 +3,10 @@ ghost use Rattle.std.specs.Prelude.{◌≡◌, ℕ, ◌+◌, ◌-◌, ◌*◌, �
 ghost use Rattle.ifmap_hall.specs.Books.{sight_of, IsBook};
 ghost use Rattle.ifmap_hall.specs.Sights.{CarriesOn};
 ghost use Rattle.ifmap_hall.specs.Places.{times};
-ghost use Rattle.ifmap_hall.specs.Plays.{Finds};
+ghost use Rattle.ifmap_hall.specs.Plays.{FindsBook};
 ghost use Rattle.ifmap_hall.specs.SeatViews.{share};
 ghost use Rattle.ifmap_hall.specs.Views.{first_view, kept_view, given_view, joint_view};
-ghost use Rattle.ifmap_hall.specs.Views.{sight_by, IsSound};
+ghost use Rattle.ifmap_hall.specs.Views.{sight_by, IsSoundView};
 ghost use Rattle.ifmap_hall.specs.Asking.{TookATurn, Answered, AnsweredFromBase};
 ghost use Rattle.ifmap_hall.specs.Passes.{IsOf, view_of, number_of, parts_of};
 
@@ -47,7 +47,7 @@ where
         requires room { 2 * heaviest ≤ limit }
         ensures hall { IfOk result (λ r. IsOf r.0 r.1) }
         ensures view { IfOk result (λ r. view_of r.1 ≡ first_view (view_of r.1).terms) }
-        ensures sound { IfOk result (λ r. IsSound (view_of r.1)) }
+        ensures sound { IfOk result (λ r. IsSoundView (view_of r.1)) }
         ensures parts { IfOk result (λ r. parts_of r.1 ≡ 2 ^ 64 - 1) }
         ensures opening { IfOk result (λ r. (view_of r.1).terms.opening.value ≡ base) }
         ensures limit { IfOk result (λ r. (view_of r.1).terms.limit ≡ limit) }
@@ -94,8 +94,8 @@ where
         ensures kept { IfOk result (λ _. view_of pass.new ≡ kept_view (view_of pass.old)) }
         ensures given { IfOk result (λ p. view_of p ≡ given_view (view_of pass.old)) }
         ensures given_hall { IfOk result (λ p. IsOf self.now p) }
-        ensures sound { IsSound (view_of pass.new) }
-        ensures given_sound { IfOk result (λ p. IsSound (view_of p)) }
+        ensures sound { IsSoundView (view_of pass.new) }
+        ensures given_sound { IfOk result (λ p. IsSoundView (view_of p)) }
         ensures parts { IfOk result (λ p. (parts_of p ≡ share (parts_of pass.old))
             × (parts_of pass.new + parts_of p ≡ parts_of pass.old)) }
         ensures err { OnErr result ((view_of pass.new ≡ view_of pass.old)
@@ -131,7 +131,7 @@ where
             (sight_by M.next (view_of from)) (sight_by M.next (view_of into.new)) }
         ensures apart { (x : ℕ)
             → times x (view_of into.old).mine + times x (view_of from).mine ≤ 1 }
-        ensures sound { IsSound (view_of into.new) }
+        ensures sound { IsSoundView (view_of into.new) }
         ensures parts { parts_of into.new ≡ parts_of into.old + parts_of from }
     {
         let Pass {
@@ -180,7 +180,7 @@ where
         ensures limit { result.limit ≡ (view_of pass).terms.limit }
         ensures heaviest { result.heaviest ≡ (view_of pass).terms.heaviest }
         ensures whole { (h : History M.Event)
-            × Finds M.next M.weight_of (view_of pass) h result }
+            × FindsBook M.next M.weight_of (view_of pass) h result }
     {
         let Hall { table } = self;
         let Pass {

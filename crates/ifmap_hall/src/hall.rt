@@ -2,7 +2,7 @@
 //! `calls`.
 ghost use Rattle.std.specs.Prelude.{◌≡◌, ◌<◌, ◌≤◌};
 ghost use Rattle.ifmap_hall.specs.SeatViews.{IsAtRest};
-ghost use Rattle.ifmap_hall.specs.Views.{IsSound, IsSound-prop};
+ghost use Rattle.ifmap_hall.specs.Views.{IsSoundView, IsSoundView-prop};
 
 use crate::book::Book;
 use crate::machine::Machine;
@@ -33,5 +33,5 @@ pub struct Pass<M: Machine> {
     ghost rests: { IsAtRest seat.me },
     ghost some_part: { 0 < parts },
     ghost parts_there: { parts ≤ seat.me.0.parts },
-    ghost sound: { IsSound seat.me.0.view } by { IsSound-prop seat.me.0.view },
+    ghost sound: { IsSoundView seat.me.0.view } by { IsSoundView-prop seat.me.0.view },
 }

@@ -2,7 +2,7 @@
 ghost use Rattle.ifmap_hall.specs.Rule.{Keeps};
 ghost use Rattle.ifmap_hall.specs.SeatViews.{first_seat, kept_seat, given_seat};
 ghost use Rattle.ifmap_hall.specs.SeatViews.{joint_seat, spent_seat};
-ghost use Rattle.ifmap_hall.specs.Plays.{Checks, Draws, Looks, Passes};
+ghost use Rattle.ifmap_hall.specs.Plays.{Checks, Draws, Looks, PassesOn};
 
 use crate::book::Book;
 use crate::machine::Machine;
@@ -39,7 +39,7 @@ impl<M: Machine> Play<Option<Book<M>>, SeatView<M>> for Look {
 pub struct PassOn;
 
 impl<M: Machine> Play<Option<Book<M>>, SeatView<M>> for PassOn {
-    ghost then = { Passes M.next M.reply };
+    ghost then = { PassesOn M.next M.reply };
 }
 
 /// A seat is split.

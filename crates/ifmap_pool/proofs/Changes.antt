@@ -8,11 +8,11 @@ use Rattle.std.specs.List as lists
 use Rattle.std.specs.Cmp.{IsTotalOrder}
 use Rattle.std.specs.FinMap as map
 use Rattle.ifmap_lemmas.specs.Options.{is_some_of}
-use Rattle.ifmap_pool.specs.Holdings.{Holdings, IsPresent, IsPool, Takes, Frees, entry_at}
-use Rattle.ifmap_pool.specs.Index.{slot_at, slot_count, Writes, AreFree, IsPlace, IsKept, entry_of, live_of}
+use Rattle.ifmap_pool.specs.Holdings.{Holdings, IsPresent, IsPool, TakesNumber, Frees, entry_at}
+use Rattle.ifmap_pool.specs.Index.{slot_at, slot_count, Writes, AreFree, IsKeyPlace, IsKept, entry_of, live_of}
 use Rattle.ifmap_pool.specs.declared.slots.Held.{Held}
 use Rattle.ifmap_pool.proofs.Live.{live_of-set, live_of-removed}
-use Rattle.ifmap_pool.proofs.Kept.{IsIndexed-written, IsIndexed-inserted, IsIndexed-removed}
+use Rattle.ifmap_pool.proofs.Kept.{IsKeyIndex-written, IsKeyIndex-inserted, IsKeyIndex-removed}
 use Rattle.ifmap_pool.proofs.Named.{Shows, same_holdings, entry_is, entry_known, is_pool, pool_kept, absent_at}
 use Rattle.ifmap_pool.proofs.Emptiness.{one_of, slot_within, written, count_written}
 
@@ -61,7 +61,7 @@ module _ {K : Type 0} where
       whole_after new same le = pool_kept cmp pool new (same ∙ sym shown.live) (omega (arith, le, limit_is)) whole_now
 
       -- where a key is missed there is room for it
-      pub room_for_new : (key : K) (place : ℕ) → IsPlace cmp (slot_at slots) order key (Err place)
+      pub room_for_new : (key : K) (place : ℕ) → IsKeyPlace cmp (slot_at slots) order key (Err place)
           → (0 < pool.spare) ⊎ IsPresent cmp pool key → slot_count slots < limit
       room_for_new key place missing (inl some) = omega (arith, some, spare_is, kept.counted)
       room_for_new key place missing (inr present) =
@@ -79,7 +79,7 @@ module _ {K : Type 0} where
 
         kept_write : IsKept cmp after free order len limit
         kept_write = record {
-          indexed = IsIndexed-written total (slot_at slots) (slot_at after) order kept.indexed number old recounted was
+          indexed = IsKeyIndex-written total (slot_at slots) (slot_at after) order kept.indexed number old recounted was
               is_written.changed refl some is_written.others;
           free_slots = subst (λ (s : List (Option (Held K))). AreFree s free) (sym wrote) (free_written slots free number old recounted was
               kept.free_slots);
@@ -106,7 +106,7 @@ module _ {K : Type 0} where
 
       -- a free number is taken for a key that was missed
       module _ (number place : ℕ) (key : K) (vacant : slot_at slots number ≡ None) (room : slot_count slots < limit)
-          (missing : IsPlace cmp (slot_at slots) order key (Err place))
+          (missing : IsKeyPlace cmp (slot_at slots) order key (Err place))
           {after : List (Option (Held K))} {rest items : List ℕ} {longer : ℕ}
           (writes : Writes slots after number (Some (record { key = key; holds = 1 }))) (are_free : AreFree after rest)
           (counted : slot_count after ≡ slot_count slots + 1)
@@ -117,14 +117,14 @@ module _ {K : Type 0} where
         kept_take : IsKept cmp after rest items longer limit
         kept_take = record {
           indexed = rw listed
-              (IsIndexed-inserted total (slot_at slots) (slot_at after) order kept.indexed number place once_held vacant writes.changed
+              (IsKeyIndex-inserted total (slot_at slots) (slot_at after) order kept.indexed number place once_held vacant writes.changed
               (omega arith) writes.others missing.0 missing.1 missing.2);
           free_slots = are_free;
           counted = omega (arith, kept.counted, counted, long);
           within = inside;
         }
 
-        seen_take : Takes pool (seen after longer limit) number key
+        seen_take : TakesNumber pool (seen after longer limit) number key
         seen_take = record {
           free = entry_is shown number ∙ ap (option_map entry_of) vacant;
           live = live_of-set slots after number once_held writes.changed writes.others
@@ -133,7 +133,7 @@ module _ {K : Type 0} where
           limit = limit_is;
         }
 
-        pub take_number : IsKept cmp after rest items longer limit × Takes pool (seen after longer limit) number key
+        pub take_number : IsKept cmp after rest items longer limit × TakesNumber pool (seen after longer limit) number key
         take_number = (kept_take, seen_take)
 
       -- a number is freed
@@ -143,7 +143,7 @@ module _ {K : Type 0} where
           (same : length after ≡ length slots) (listed : items ≡ lists.remove order place) (short : shorter + 1 ≡ len) where
         kept_free : IsKept cmp after rest items shorter limit
         kept_free = record {
-          indexed = rw listed (IsIndexed-removed total (slot_at slots) (slot_at after) order kept.indexed number place here stood
+          indexed = rw listed (IsKeyIndex-removed total (slot_at slots) (slot_at after) order kept.indexed number place here stood
               writes.changed writes.others);
           free_slots = are_free;
           counted = omega (arith, kept.counted, counted, short);

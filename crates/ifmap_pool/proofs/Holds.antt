@@ -8,7 +8,7 @@ use Rattle.std.specs.Cmp.{IsTotalOrder}
 use Rattle.std.specs.FinMap.{get, insert, get-insert}
 use Rattle.std.specs.Ordering.{is_eq}
 use Rattle.std.specs.declared.cmp.Ordering.TheVariants.{Less, Equal, Greater}
-use Rattle.ifmap_pool.specs.Holdings.{Holdings, Names, IsAbsent, IsPool, IsHeld, once, Takes, HoldsAgain, HoldsOne, entry_at, holds_at}
+use Rattle.ifmap_pool.specs.Holdings.{Holdings, Names, IsAbsent, IsPool, IsHeld, once, TakesNumber, HoldsAgain, HoldsOne, entry_at, holds_at}
 use Rattle.ifmap_pool.proofs.Live.{tied, apart}
 
 module _ {K : Type 0} where
@@ -101,7 +101,7 @@ module _ {K : Type 0} {cmp : K → K → Ordering} (total : IsTotalOrder cmp) wh
       | inr h ↦ absurd (h.0 given names)
     ]
 
-    pub absent : IsAbsent cmp old key → Takes old new number key
+    pub absent : IsAbsent cmp old key → TakesNumber old new number key
     absent none = elim more.holds [ inl h ↦ absurd (none number h.0) | inr h ↦ h.1 ]
 
     pub counted : holds_at new number ≡ holds_at old number + 1

@@ -1,7 +1,7 @@
 -- What stays of the list of numbers through a hold and a release.
 -- Plan: where what stands at a place of the list stood before an insert or a removal (`Moved`, `Closed`); what the order
 -- tells of places, numbers and searches (`one_place`, `one_number`, `none_missed`, `number_found`); that the list stays
--- in order as a value is written, put in or taken out (`IsIndexed-written`, `IsIndexed-inserted`, `IsIndexed-removed`).
+-- in order as a value is written, put in or taken out (`IsKeyIndex-written`, `IsKeyIndex-inserted`, `IsKeyIndex-removed`).
 use Rattle.std.proofs.Common.{◌≡◌, ◌≢◌, ◌⊎◌, ℕ, suc, ◌+◌, ◌-◌, ◌<◌, ◌≤◌, List, length, get_or, Option, Some, None, Ok, Err, Ordering, refl, sym, ap, subst, ◌∙◌, inl, inr, arith}
 use Rattle.std.proofs.lemmas.Bool.{cases_eq, cases_lt}
 use Rattle.std.proofs.lemmas.Cmp.{tied_itself, tied_back}
@@ -14,7 +14,7 @@ use Rattle.std.specs.Cmp.{IsTotalOrder}
 use Rattle.std.specs.declared.cmp.Ordering.TheVariants.{Equal}
 use Rattle.ifmap_lemmas.specs.Options.{is_some_of, some_is}
 use Rattle.ifmap_lemmas.specs.Orderings.{greater_turned}
-use Rattle.ifmap_pool.specs.Index.{AllBelow, AllAbove, IsPlace, IsIndexed}
+use Rattle.ifmap_pool.specs.Index.{AllBelow, AllAbove, IsKeyPlace, IsKeyIndex}
 use Rattle.ifmap_pool.specs.declared.slots.Held.{Held}
 
 -- what stands at a place after an insert stood in the list before
@@ -82,7 +82,7 @@ closed order place k within k_in =
     ]
 
 module _ {K : Type 0} {cmp : K → K → Ordering} (total : IsTotalOrder cmp) where
-  module _ (slot : ℕ → Option (Held K)) (order : List ℕ) (indexed : IsIndexed cmp slot order) where
+  module _ (slot : ℕ → Option (Held K)) (order : List ℕ) (indexed : IsKeyIndex cmp slot order) where
     -- two places whose keys are equal are one
     pub one_place : (i j : ℕ) (a b : Held K) → i < length order → j < length order
         → slot (get_or order i 0) ≡ Some a → slot (get_or order j 0) ≡ Some b → cmp a.key b.key ≡ Equal → i ≡ j
@@ -108,7 +108,7 @@ module _ {K : Type 0} {cmp : K → K → Ordering} (total : IsTotalOrder cmp) wh
         sym first.2 ∙ ap (λ i. get_or order i 0) same ∙ second.2
 
     -- no value has a key that the search misses
-    pub none_missed : (key : K) (place : ℕ) → IsPlace cmp slot order key (Err place) → (number : ℕ) (held : Held K)
+    pub none_missed : (key : K) (place : ℕ) → IsKeyPlace cmp slot order key (Err place) → (number : ℕ) (held : Held K)
         → slot number ≡ Some held → cmp held.key key ≢ Equal
     none_missed key place missing number held is tie =
         let listed = indexed.listed number (is_some_of _ held is) in
@@ -119,7 +119,7 @@ module _ {K : Type 0} {cmp : K → K → Ordering} (total : IsTotalOrder cmp) wh
         ]
 
     -- the value at the place that the search finds
-    pub place_held : (key : K) (place : ℕ) → IsPlace cmp slot order key (Ok place) → (number : ℕ) → number ≡ get_or order place number
+    pub place_held : (key : K) (place : ℕ) → IsKeyPlace cmp slot order key (Ok place) → (number : ℕ) → number ≡ get_or order place number
         → (held : Held K) × (slot number ≡ Some held) × (cmp held.key key ≡ Equal)
     place_held key place found number stands =
         let there = some_is _ (indexed.live place found.0) in
@@ -127,17 +127,17 @@ module _ {K : Type 0} {cmp : K → K → Ordering} (total : IsTotalOrder cmp) wh
         (there.0, sym (ap slot same) ∙ there.1, found.1 there.0 there.1)
 
     -- the search finds a value's key at its number
-    pub number_found : (key : K) (place : ℕ) → IsPlace cmp slot order key (Ok place) → (number : ℕ) (held : Held K)
+    pub number_found : (key : K) (place : ℕ) → IsKeyPlace cmp slot order key (Ok place) → (number : ℕ) (held : Held K)
         → slot number ≡ Some held → cmp held.key key ≡ Equal → get_or order place 0 ≡ number
     number_found key place found number held is tie =
         let there = some_is _ (indexed.live place found.0) in
         one_number _ number there.0 held there.1 is (total.congr _ _ held.key (found.1 there.0 there.1) ∙ tied_back total _ _ tie)
 
   -- a value is written over one with its key
-  pub IsIndexed-written : (slot new : ℕ → Option (Held K)) (order : List ℕ) → IsIndexed cmp slot order
+  pub IsKeyIndex-written : (slot new : ℕ → Option (Held K)) (order : List ℕ) → IsKeyIndex cmp slot order
       → (number : ℕ) (old value : Held K) → slot number ≡ Some old → new number ≡ Some value → value.key ≡ old.key → 0 < value.holds
-      → ((other : ℕ) → other ≢ number → new other ≡ slot other) → IsIndexed cmp new order
-  IsIndexed-written slot new order indexed number old value was is same held others =
+      → ((other : ℕ) → other ≢ number → new other ≡ slot other) → IsKeyIndex cmp new order
+  IsKeyIndex-written slot new order indexed number old value was is same held others =
       record {
         rising = λ i j a b before within at_i at_j.
             let first = earlier _ a at_i in
@@ -169,12 +169,12 @@ module _ {K : Type 0} {cmp : K → K → Ordering} (total : IsTotalOrder cmp) wh
           ]
 
   -- a value gets a number that was free
-  pub IsIndexed-inserted : (slot new : ℕ → Option (Held K)) (order : List ℕ) → IsIndexed cmp slot order
+  pub IsKeyIndex-inserted : (slot new : ℕ → Option (Held K)) (order : List ℕ) → IsKeyIndex cmp slot order
       → (number place : ℕ) (value : Held K) → slot number ≡ None → new number ≡ Some value → 0 < value.holds
       → ((other : ℕ) → other ≢ number → new other ≡ slot other)
       → place ≤ length order → AllBelow cmp slot order value.key place → AllAbove cmp slot order value.key place
-      → IsIndexed cmp new (insert order place number)
-  IsIndexed-inserted slot new order indexed number place value was is held others within below above =
+      → IsKeyIndex cmp new (insert order place number)
+  IsKeyIndex-inserted slot new order indexed number place value was is held others within below above =
       record {
         rising = λ i j a b before j_in at_i at_j.
             elim (source i (omega (arith, length-insert order place number within))) [
@@ -251,11 +251,11 @@ module _ {K : Type 0} {cmp : K → K → Ordering} (total : IsTotalOrder cmp) wh
       was_at k a s at_k = sym (kept s.from s.within) ∙ sym (ap new s.is) ∙ at_k
 
   -- a number is freed
-  pub IsIndexed-removed : (slot new : ℕ → Option (Held K)) (order : List ℕ) → IsIndexed cmp slot order
+  pub IsKeyIndex-removed : (slot new : ℕ → Option (Held K)) (order : List ℕ) → IsKeyIndex cmp slot order
       → (number place : ℕ) → place < length order → get_or order place 0 ≡ number → new number ≡ None
       → ((other : ℕ) → other ≢ number → new other ≡ slot other)
-      → IsIndexed cmp new (remove order place)
-  IsIndexed-removed slot new order indexed number place within stood none others =
+      → IsKeyIndex cmp new (remove order place)
+  IsKeyIndex-removed slot new order indexed number place within stood none others =
       record {
         rising = λ i j a b before j_in at_i at_j.
             let first = closed order place i within (omega (arith, length-remove order place within)) in

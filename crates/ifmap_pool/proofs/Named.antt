@@ -8,7 +8,7 @@ use Rattle.std.specs.FinMap.{get}
 use Rattle.std.specs.declared.cmp.Ordering.TheVariants.{Equal}
 use Rattle.ifmap_lemmas.specs.Options.{is_some_of, some_is}
 use Rattle.ifmap_pool.specs.Holdings.{Holdings, entry_at, key_at, holds_at, Names, IsAbsent, OneToOne, IsPool}
-use Rattle.ifmap_pool.specs.Index.{IsPlace, IsIndexed, entry_of, live_of}
+use Rattle.ifmap_pool.specs.Index.{IsKeyPlace, IsKeyIndex, entry_of, live_of}
 use Rattle.ifmap_pool.specs.declared.slots.Held.{Held}
 use Rattle.ifmap_pool.proofs.Live.{get-live_of}
 use Rattle.ifmap_pool.proofs.Kept.{one_number, none_missed}
@@ -76,7 +76,7 @@ module _ {K : Type 0} where
           (there.0, there.1, ap (λ (entry : K × ℕ). cmp entry.0 key) there.2 ∙ names.2)
 
     module _ {cmp : K → K → Ordering} (total : IsTotalOrder cmp) {order : List ℕ}
-        (indexed : IsIndexed cmp (λ n. get_or slots n None) order) where
+        (indexed : IsKeyIndex cmp (λ n. get_or slots n None) order) where
       pub numbers_apart : OneToOne cmp pool
       numbers_apart first second key one other =
           let a = slot_from_names cmp first key one in
@@ -100,13 +100,13 @@ module _ {K : Type 0} where
       }
 
       -- what a search tells
-      pub named_at : (key : K) (place : ℕ) → IsPlace cmp (λ n. get_or slots n None) order key (Ok place)
+      pub named_at : (key : K) (place : ℕ) → IsKeyPlace cmp (λ n. get_or slots n None) order key (Ok place)
           → Names cmp pool (get_or order place 0) key
       named_at key place found =
           let there = some_is _ (indexed.live place found.0) in
           names_from_slot cmp _ there.0 key there.1 (found.1 there.0 there.1)
 
-      pub absent_at : (key : K) (place : ℕ) → IsPlace cmp (λ n. get_or slots n None) order key (Err place) → IsAbsent cmp pool key
+      pub absent_at : (key : K) (place : ℕ) → IsKeyPlace cmp (λ n. get_or slots n None) order key (Err place) → IsAbsent cmp pool key
       absent_at key place missing number names =
           let there = slot_from_names cmp number key names in
           none_missed total (λ n. get_or slots n None) order indexed key place missing number there.0 there.1 there.2

@@ -37,7 +37,7 @@ module _ {K : Type 0} where
   holds_at pool number = unwrap_or (option_map (λ entry. entry.1) (entry_at pool number)) 0
 
   -- the number was free, and is the key's, held once; one new key less fits
-  pub record Takes (old new : Holdings K) (number : ℕ) (key : K) : Type 0 where
+  pub record TakesNumber (old new : Holdings K) (number : ℕ) (key : K) : Type 0 where
     pub free : entry_at old number ≡ None
     pub live : new.live ≡ insert old.live number (key, 1)
     pub spare : new.spare + 1 ≡ old.spare
@@ -102,4 +102,4 @@ module _ {K : Type 0} (cmp : K → K → Ordering) where
   -- the key had a number, which is held once more, or gets one that was free
   abbrev pub HoldsOne : Holdings K → Holdings K → ℕ → K → Type 0
   HoldsOne old new number key =
-      (Names old number key × HoldsAgain old new number) ⊎ (IsAbsent old key × Takes old new number key)
+      (Names old number key × HoldsAgain old new number) ⊎ (IsAbsent old key × TakesNumber old new number key)

@@ -31,8 +31,8 @@ module _ {K : Type 0} where
   live_of slots = from_entries (map (λ e. (e.0, entry_of e.1)) (entries_from 0 slots))
 
   -- the count of a live number is written, and nothing else
-  abbrev pub Counts : List (Option (Held K)) → List (Option (Held K)) → ℕ → ℕ → Type 0
-  Counts old new number holds =
+  abbrev pub WritesCount : List (Option (Held K)) → List (Option (Held K)) → ℕ → ℕ → Type 0
+  WritesCount old new number holds =
       (held : Held K) → slot_at old number ≡ Some held → new ≡ slice_set old number (Some (record held { holds = holds }))
 
   -- one slot is written, and no other
@@ -59,13 +59,13 @@ module _ {K : Type 0} (cmp : K → K → Ordering) (slot : ℕ → Option (Held 
       → slot (slice_index_or order k 0) ≡ Some held → cmp held.key key ≡ Greater
 
   -- the key is found at this place, or would stand in front of it
-  abbrev pub IsPlace : K → Result ℕ ℕ → Type 0
-  IsPlace key (Ok place) = (place < length order) × ((held : Held K)
+  abbrev pub IsKeyPlace : K → Result ℕ ℕ → Type 0
+  IsKeyPlace key (Ok place) = (place < length order) × ((held : Held K)
       → slot (slice_index_or order place 0) ≡ Some held → cmp held.key key ≡ Equal)
-  IsPlace key (Err place) = (place ≤ length order) × AllBelow key place × AllAbove key place
+  IsKeyPlace key (Err place) = (place ≤ length order) × AllBelow key place × AllAbove key place
 
   -- the list has each number with a value, and no other, by rising keys; each value is held
-  pub record IsIndexed : Type 0 where
+  pub record IsKeyIndex : Type 0 where
     pub rising : (i j : ℕ) (a b : Held K) → i < j → j < length order
         → slot (slice_index_or order i 0) ≡ Some a → slot (slice_index_or order j 0) ≡ Some b → cmp a.key b.key ≡ Less
     pub live : (i : ℕ) → i < length order → IsSome (slot (slice_index_or order i 0))
@@ -76,7 +76,7 @@ module _ {K : Type 0} (cmp : K → K → Ordering) (slot : ℕ → Option (Held 
 -- what holds of a pool's lists, of the length of its order, and of how many keys there is room for
 pub record IsKept {K : Type 0} (cmp : K → K → Ordering) (slots : List (Option (Held K))) (free order : List ℕ) (len
     limit : ℕ) : Type 0 where
-  pub indexed : IsIndexed cmp (slot_at slots) order
+  pub indexed : IsKeyIndex cmp (slot_at slots) order
   pub free_slots : AreFree slots free
   pub counted : slot_count slots ≡ len
   pub within : length slots ≤ limit

@@ -1,15 +1,15 @@
 //! The live numbers in the order of their keys, and the search among them.
 ghost use Rattle.std.specs.Prelude.{◌≡◌, ℕ, ◌+◌, ◌-◌, ◌<◌, ◌≤◌, IsSome, length, slice_index_or, vec_len, vec_capacity};
 ghost use Rattle.std.specs.List.{insert, remove};
-ghost use Rattle.ifmap_pool.specs.Index.{slot_at, IsIndexed, IsPlace};
+ghost use Rattle.ifmap_pool.specs.Index.{slot_at, IsKeyIndex, IsKeyPlace};
 
 use crate::slots::{Held, held_at};
 use std::cmp::Ordering;
 
 // The place of `key` in `order`, or the place where it would stand.
 pub fn place_of<K: Ord>(slots: &[Option<Held<K>>], order: &[u32], key: &K) -> Result<usize, usize>
-    requires { IsIndexed K.cmp (slot_at slots.now) order.now }
-    ensures { IsPlace K.cmp (slot_at slots.now) order.now key.now result }
+    requires { IsKeyIndex K.cmp (slot_at slots.now) order.now }
+    ensures { IsKeyPlace K.cmp (slot_at slots.now) order.now key.now result }
 {
     let mut low = 0;
     let mut high = order.len();
@@ -38,7 +38,7 @@ pub fn list_number(order: &mut Vec<u32>, place: usize, number: u32)
 
 // Takes a live number out of the list.
 pub fn unlist_number<K: Ord>(slots: &[Option<Held<K>>], order: &mut Vec<u32>, number: u32)
-    requires indexed { IsIndexed K.cmp (slot_at slots.now) order.old.items }
+    requires indexed { IsKeyIndex K.cmp (slot_at slots.now) order.old.items }
     requires live { IsSome (slot_at slots.now number) }
     ensures items { (place : ℕ) × (place < length order.old.items)
         × (slice_index_or order.old.items place 0 ≡ number)

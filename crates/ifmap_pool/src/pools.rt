@@ -1,7 +1,7 @@
 //! The pool: numbers that stand for keys.
 ghost use Rattle.std.specs.Prelude.{◌≡◌, ◌≢◌, ◌↔◌, ◌⊎◌, ℕ, ◌+◌, ◌-◌, ◌<◌, ◌≤◌, ◌^◌, IsSome, IsOk, IfSome, IfNone, OnOk, OnErr, max, option_copied};
 ghost use Rattle.std.specs.FinMap.{empty, len};
-ghost use Rattle.ifmap_pool.specs.Holdings.{entry_at, key_at, holds_at, Takes, HoldsAgain, LetsGo, Frees, Names, IsPresent, IsAbsent, IsPool, IsHeld, once, HoldsOne, LetsOneGo};
+ghost use Rattle.ifmap_pool.specs.Holdings.{entry_at, key_at, holds_at, TakesNumber, HoldsAgain, LetsGo, Frees, Names, IsPresent, IsAbsent, IsPool, IsHeld, once, HoldsOne, LetsOneGo};
 
 use crate::places::{list_number, place_of, unlist_number};
 use crate::slots::{Held, empty_slot, fill_slot, find_held, held_at, set_holds};
@@ -148,7 +148,7 @@ impl<K: Ord> Pool<K> {
         ensures named { Names K.cmp self.new result key }
         ensures present { (number : ℕ) → Names K.cmp self.old number key
             → (result ≡ number) × HoldsAgain self.old self.new number }
-        ensures absent { IsAbsent K.cmp self.old key → Takes self.old self.new result key }
+        ensures absent { IsAbsent K.cmp self.old key → TakesNumber self.old self.new result key }
         ensures counted { holds_at self.new result ≡ holds_at self.old result + 1 }
         ensures others { (other : ℕ) → other ≢ result
             → entry_at self.new other ≡ entry_at self.old other }

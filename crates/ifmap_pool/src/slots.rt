@@ -1,6 +1,6 @@
 //! Slots for keys, by number. The number of a key that went is given again before a new one is.
 ghost use Rattle.std.specs.Prelude.{◌≡◌, ℕ, ◌+◌, ◌-◌, ◌<◌, ◌≤◌, ◌^◌, Some, None, IsSome, length, option_copied, vec_len, vec_capacity};
-ghost use Rattle.ifmap_pool.specs.Index.{slot_at, slot_count, Counts, Writes, AreFree};
+ghost use Rattle.ifmap_pool.specs.Index.{slot_at, slot_count, WritesCount, Writes, AreFree};
 
 /// A key and how often it is held.
 #[derive(Drop)]
@@ -33,7 +33,7 @@ pub fn held_at<K>(slots: &[Option<Held<K>>], number: u32) -> &Held<K>
 // Writes the count of a live number.
 pub fn set_holds<K>(slots: &mut Vec<Option<Held<K>>>, number: u32, holds: u64)
     requires { IsSome (slot_at slots.old.items number) }
-    ensures items { Counts slots.old.items slots.new.items number holds }
+    ensures items { WritesCount slots.old.items slots.new.items number holds }
     ensures len { vec_len slots.new ≡ vec_len slots.old }
     ensures capacity { vec_capacity slots.new ≡ vec_capacity slots.old }
 {

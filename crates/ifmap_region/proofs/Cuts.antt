@@ -19,7 +19,7 @@ use Rattle.ifmap_region.specs.Seeds.{MayHold, SeedsAlong}
 use Rattle.ifmap_region.proofs.Depths.{sound_from}
 use Rattle.ifmap_region.proofs.FlipLists.{flipped_back}
 use Rattle.ifmap_region.specs.Spreading.{queue_at}
-use Rattle.ifmap_region.specs.Losing.{Awaits, IsHeld, AreGone, IsLookedAt, IsBeforeCut, IsCutting}
+use Rattle.ifmap_region.specs.Losing.{Awaits, HasNearerMark, AreGone, IsLookedAt, IsBeforeCut, IsCutting}
 use Rattle.ifmap_region.proofs.Lost.{losing_passed, losing_entered, losing_held, losing_gone, moved_here}
 use Rattle.ifmap_region.proofs.Falling.{queue_out, queue_in, queue_first, now_in, now_new, now_out, next_in, next_new, next_out}
 use Rattle.ifmap_region.specs.Distinct.{contains_one, no_member, distinct_cons, distinct_push, distinct_head, distinct_tail, sum_within}
@@ -277,7 +277,7 @@ module _ (count : ℕ → ℕ) (link : ℕ → ℕ → Option ℕ) (terminal : �
 
     -- the first number of the queue is held, and keeps its mark
     pub cutting_held : (rows : List (ℕ × Option ℕ)) (next : List ℕ) (steps after : ℕ)
-        → IsHeld (λ u x. Linked count link x u) terminal (over rows first) v level → after ≤ steps + count v
+        → HasNearerMark (λ u x. Linked count link x u) terminal (over rows first) v level → after ≤ steps + count v
         → Cutting rows gone seeds (v ∷ rest) next steps → Cutting rows gone seeds rest next after
     cutting_held rows next steps after h le c = record {
       losing = losing_held (WithRemoved (Linked count link) flips) (Linked count link) terminal start top first b.depths (λ u x l. inl l)

@@ -11,7 +11,7 @@ use Rattle.ifmap_region.specs.Links.{IsSymmetric}
 use Rattle.ifmap_region.specs.Marks.{row_of, over}
 use Rattle.ifmap_region.specs.Walks.{Walk, begins, goes_on, AreDepths, Expands}
 use Rattle.ifmap_region.specs.Near.{IsMoved}
-use Rattle.ifmap_region.specs.Losing.{Enters, IsHeld, IsLosing, AreGone, Reseeds}
+use Rattle.ifmap_region.specs.Losing.{Enters, HasNearerMark, IsLosing, AreGone, Reseeds}
 use Rattle.ifmap_region.specs.Spreading.{IsBound, IsReady}
 use Rattle.ifmap_region.proofs.Depths.{marked, marked_start, closed_from, supported, sound_from, walk_along}
 
@@ -102,7 +102,8 @@ module _ (old mid : ℕ → ℕ → Type 0) (terminal : ℕ → Bool) (start top
             | inr apart ↦ l.rowed x r (sym (e.others x apart) ∙ row)
           ]
 
-          held : (x k : ℕ) → row_of rows' x ≡ Some (Some k) → queued' k x ⊎ ((k ≤ level) × IsHeld mid terminal (over rows' first) x k)
+          held : (x k : ℕ) → row_of rows' x ≡ Some (Some k)
+              → queued' k x ⊎ ((k ≤ level) × HasNearerMark mid terminal (over rows' first) x k)
           held x k row = elim (cases_eq x v) [
             | inl at ↦
                 let k_is : k ≡ j = same_Some k j (row_entered x (Some k) row at) in
@@ -133,7 +134,7 @@ module _ (old mid : ℕ → ℕ → Type 0) (terminal : ℕ → Bool) (start top
       (l : IsLosing old mid terminal start IsNear first rows seeds queued level) where
     -- it is held, keeps its mark, and leaves the queue
     pub losing_held : (queued' : ℕ → ℕ → Type 0) → ((k x : ℕ) → queued k x → ((k ≡ level) × (x ≡ v)) ⊎ queued' k x)
-        → ((k x : ℕ) → queued' k x → queued k x) → IsHeld mid terminal (over rows first) v level
+        → ((k x : ℕ) → queued' k x → queued k x) → HasNearerMark mid terminal (over rows first) v level
         → IsLosing old mid terminal start IsNear first rows seeds queued' level
     losing_held queued' there back by_one = record {
       entered = l.entered;
@@ -143,8 +144,8 @@ module _ (old mid : ℕ → ℕ → Type 0) (terminal : ℕ → Bool) (start top
         | inl q ↦ elim (there k x q) [
           | inl at ↦ inr (
             omega (arith, at.0),
-            subst (λ (n : ℕ). IsHeld mid terminal (over rows first) x n) (sym at.0)
-                (subst (λ (y : ℕ). IsHeld mid terminal (over rows first) y level) (sym at.1) by_one),
+            subst (λ (n : ℕ). HasNearerMark mid terminal (over rows first) x n) (sym at.0)
+                (subst (λ (y : ℕ). HasNearerMark mid terminal (over rows first) y level) (sym at.1) by_one),
           )
           | inr later ↦ inl later
         ]
@@ -221,7 +222,8 @@ module _ (old mid : ℕ → ℕ → Type 0) (terminal : ℕ → Bool) (start top
             | inr apart ↦ l.rowed x r (sym (others x apart) ∙ row)
           ]
 
-          held : (x k : ℕ) → row_of rows' x ≡ Some (Some k) → queued' k x ⊎ ((k ≤ level) × IsHeld mid terminal (over rows' first) x k)
+          held : (x k : ℕ) → row_of rows' x ≡ Some (Some k)
+              → queued' k x ⊎ ((k ≤ level) × HasNearerMark mid terminal (over rows' first) x k)
           held x k row = elim (cases_eq x v) [
             | inl at ↦ absurd (none-some k (same_Some None (Some k) (sym here ∙ ap (row_of rows') (sym at) ∙ row)))
             | inr apart ↦ elim (l.held x k (sym (others x apart) ∙ row)) [
@@ -301,7 +303,7 @@ module _ (old mid : ℕ → ℕ → Type 0) (terminal : ℕ → Bool) (start top
             ]
         go shorter (Some r) u =
             let r_is : r ≡ Some (suc d) = sym (over_rowed rows first v r u) ∙ e in
-            let h : IsHeld mid terminal (over rows first) v (suc d) = elim (l.held v (suc d) (u ∙ ap Some r_is)) [
+            let h : HasNearerMark mid terminal (over rows first) v (suc d) = elim (l.held v (suc d) (u ∙ ap Some r_is)) [
               | inl q ↦ absurd (none_queued (suc d) v q)
               | inr p ↦ p.1
             ] in

@@ -5,7 +5,7 @@ use Rattle.ifmap_region.specs.declared.bases.Basis.{Basis}
 use Rattle.ifmap_region.specs.Bounds.{IsWithin}
 use Rattle.ifmap_region.specs.Flips.{WithRemoved, Mid}
 use Rattle.ifmap_region.specs.Links.{Linked}
-use Rattle.ifmap_region.specs.Losing.{IsHeld, IsBeforeCut, IsCutting}
+use Rattle.ifmap_region.specs.Losing.{HasNearerMark, IsBeforeCut, IsCutting}
 use Rattle.ifmap_region.specs.Marks.{mark_of, row_of, over}
 use Rattle.ifmap_region.specs.Near.{NearOneWay}
 use Rattle.ifmap_region.specs.Seeds.{IsNext, MayHold, Lowers}
@@ -116,7 +116,7 @@ IsBeingCut layer flips start = IsCutting (links layer) layer.terminal layer.coun
 
 -- a neighbour by a link that stays holds the number at a level
 abbrev pub HasHolder : Layer → ℕ → ℕ → Type 0
-HasHolder layer = IsHeld (λ u v. links layer v u) layer.terminal (marks layer)
+HasHolder layer = HasNearerMark (λ u v. links layer v u) layer.terminal (marks layer)
 
 -- no neighbour by a link that stays holds the number at a level
 abbrev pub IsUnheld : Layer → ℕ → ℕ → Type 0

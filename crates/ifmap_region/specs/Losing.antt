@@ -22,8 +22,8 @@ Awaits level v rows rows' queue queue' =
     ⊎ (Enters level v rows rows' × (queue' ≡ queue ++ v ∷ []))
 
 -- a neighbour that is nearer by one, and not terminal, has its mark
-abbrev pub IsHeld : (ℕ → ℕ → Type 0) → (ℕ → Bool) → (ℕ → Option ℕ) → ℕ → ℕ → Type 0
-IsHeld links terminal mark v k = (u : ℕ) × (d : ℕ) × (k ≡ suc d) × links u v × (terminal u ≡ false) × (mark u ≡ Some
+abbrev pub HasNearerMark : (ℕ → ℕ → Type 0) → (ℕ → Bool) → (ℕ → Option ℕ) → ℕ → ℕ → Type 0
+HasNearerMark links terminal mark v k = (u : ℕ) × (d : ℕ) × (k ≡ suc d) × links u v × (terminal u ≡ false) × (mark u ≡ Some
     d)
 
 -- what the rows say while marks are taken away: a number with a row waits in the queue of its level, or was looked at;
@@ -34,7 +34,7 @@ pub record IsLosing (old mid : ℕ → ℕ → Type 0) (terminal : ℕ → Bool)
   pub in_queue : (k v : ℕ) → queued k v → row_of rows v ≡ Some (Some k)
   pub rowed : (v : ℕ) (r : Option ℕ) → row_of rows v ≡ Some r → (k : ℕ) × (first v ≡ Some k) × (0 < k) × IsNear v × ((r
       ≡ None) ⊎ (r ≡ Some k))
-  pub held : (v k : ℕ) → row_of rows v ≡ Some (Some k) → queued k v ⊎ ((k ≤ level) × IsHeld mid terminal (over rows
+  pub held : (v k : ℕ) → row_of rows v ≡ Some (Some k) → queued k v ⊎ ((k ≤ level) × HasNearerMark mid terminal (over rows
       first) v k)
   pub lost : (v k : ℕ) → row_of rows v ≡ Some None → first v ≡ Some k → ¬ Walk mid terminal start k v
   pub firm : (v u d : ℕ) → first v ≡ Some (suc d) → row_of rows v ≡ None → old u v → terminal u ≡ false

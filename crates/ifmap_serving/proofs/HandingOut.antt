@@ -7,14 +7,14 @@ use Rattle.ifmap_desks.specs.declared.events.FitEvent.{FitEvent}
 use Rattle.ifmap_desks.specs.declared.machine.CoreMachine.{CoreMachine}
 use Rattle.ifmap_hall.specs.declared.view.HallView.{HallView}
 use Rattle.ifmap_hall.specs.Passes.{IsOf, view_of}
-use Rattle.ifmap_hall.specs.Views.{IsSound, given_view, kept_view}
+use Rattle.ifmap_hall.specs.Views.{IsSoundView, given_view, kept_view}
 use Rattle.ifmap_desks.specs.ifmap_machine.declared.events.Answer.{Answer}
 use Rattle.ifmap_serving.specs.declared.stands.Stand.{Stand}
 use Rattle.ifmap_serving.specs.Stands.{IsReadied, IsServerView, IsStandServed, OpensServer, ServerHall, WorksBy, words_at}
 use Rattle.ifmap_serving.specs.Works.{DoorSeen}
 
 -- a pass that was split from, and one that was split off
-pub opens_kept : (v w : HallView CoreMachine FitEvent Answer) → OpensServer v → w ≡ kept_view v → IsSound w → OpensServer w
+pub opens_kept : (v w : HallView CoreMachine FitEvent Answer) → OpensServer v → w ≡ kept_view v → IsSoundView w → OpensServer w
 opens_kept v w o is sound = record {
   view = record {
     opening = ap (λ (x : HallView CoreMachine FitEvent Answer). x.terms.opening.value) is ∙ o.view.opening;
@@ -27,7 +27,7 @@ opens_kept v w o is sound = record {
   silent = ap (λ (x : HallView CoreMachine FitEvent Answer). x.said) is ∙ o.silent;
 }
 
-pub opens_given : (v w : HallView CoreMachine FitEvent Answer) → OpensServer v → w ≡ given_view v → IsSound w → OpensServer w
+pub opens_given : (v w : HallView CoreMachine FitEvent Answer) → OpensServer v → w ≡ given_view v → IsSoundView w → OpensServer w
 opens_given v w o is sound = record {
   view = record {
     opening = ap (λ (x : HallView CoreMachine FitEvent Answer). x.terms.opening.value) is ∙ o.view.opening;

@@ -10,7 +10,7 @@ use Rattle.ifmap_desks.specs.declared.machine.CoreMachine.{CoreMachine}
 use Rattle.ifmap_hall.specs.declared.hall.Hall.{Hall}
 use Rattle.ifmap_hall.specs.declared.view.HallView.{HallView}
 use Rattle.ifmap_hall.specs.Passes.{IsOf, view_of}
-use Rattle.ifmap_hall.specs.Views.{IsSound}
+use Rattle.ifmap_hall.specs.Views.{IsSoundView}
 use Rattle.ifmap_desks.specs.ifmap_machine.declared.events.Answer.{Answer}
 use Rattle.ifmap_desks.specs.ifmap_machine.State.{opening, session_seconds}
 use Rattle.ifmap_serving.specs.declared.stands.Stand.{Stand}
@@ -27,7 +27,7 @@ pub record IsServerView (v : HallView CoreMachine FitEvent Answer) : Type 0 wher
   pub opening : v.terms.opening.value ≡ record { core = opening session_seconds }
   pub limit : v.terms.limit ≡ 500_000_000
   pub heaviest : v.terms.heaviest ≡ 80_001_000
-  pub sound : IsSound v
+  pub sound : IsSoundView v
 
 -- the same of a pass that has asked nothing
 pub record OpensServer (v : HallView CoreMachine FitEvent Answer) : Type 0 where

@@ -1,7 +1,7 @@
 use Rattle.std.proofs.Common.{◌+◌, ◌<◌, ◌∙◌, sym, subst, arith}
 use Rattle.ifmap_hall.specs.SeatViews.{IsSoundSeat}
 use Rattle.ifmap_hall.specs.Sights.{CarriesOn}
-use Rattle.ifmap_hall.specs.Views.{IsSound, sight_by}
+use Rattle.ifmap_hall.specs.Views.{IsSoundView, sight_by}
 use Rattle.ifmap_hall.proofs.Sighting.{joint_carries, joint_apart}
 use Rattle.ifmap_hall.proofs.hall.Hall.join.Goals as goal
 
@@ -31,7 +31,7 @@ returns-clause-apart g c =
     (subst (λ m. IsSoundSeat m.0) c.glue.ensures.both c.check.ensures.sound)
 
 pub returns-clause-sound : goal.returns-clause-sound
-returns-clause-sound g c = subst (λ m. IsSound m.0.view) (sym c.check.ensures.same) c.check.ensures.sound.view
+returns-clause-sound g c = subst (λ m. IsSoundView m.0.view) (sym c.check.ensures.same) c.check.ensures.sound.view
 
 pub returns-clause-parts : goal.returns-clause-parts
 returns-clause-parts g c =

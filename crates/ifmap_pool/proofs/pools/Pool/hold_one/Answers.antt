@@ -1,8 +1,8 @@
 use Rattle.std.proofs.Common.{◌≡◌, ℕ, ◌+◌, ◌<◌, Some, Err, inl, inr, refl, sym, subst, arith, vec_len}
 use Rattle.std.specs.declared.cmp.Ordering.TheVariants.{Equal}
 use Rattle.ifmap_lemmas.specs.Options.{is_some_of}
-use Rattle.ifmap_pool.specs.Holdings.{HoldsAgain, HoldsOne, Takes}
-use Rattle.ifmap_pool.specs.Index.{IsKept, IsPlace, slot_at, slot_count}
+use Rattle.ifmap_pool.specs.Holdings.{HoldsAgain, HoldsOne, TakesNumber}
+use Rattle.ifmap_pool.specs.Index.{IsKept, IsKeyPlace, slot_at, slot_count}
 use Rattle.ifmap_pool.specs.declared.slots.Held.{Held}
 use Rattle.ifmap_pool.proofs.Changes.{seen, shown, whole_now, room_for_new, write_count, take_number}
 use Rattle.ifmap_pool.proofs.Kept.{place_held}
@@ -31,7 +31,7 @@ counted g c =
     (omega arith) (c.set_holds.ensures.items c.held_at.result.now at)
 
 missing : (g : given.Over) (c : In-Err g)
-    → IsPlace g.K.Ord.cmp (slot_at c.self.inside.slots.items) c.self.inside.order.items c.args.key (Err c.in-Err.place)
+    → IsKeyPlace g.K.Ord.cmp (slot_at c.self.inside.slots.items) c.self.inside.order.items c.args.key (Err c.in-Err.place)
 missing g c = rw (c.deref.ensures.value, c.deref-2.ensures.value) at c.in-Err.ensures
 
 room : (g : given.Over) (c : In-Err g) → slot_count c.self.inside.slots.items < c.self.inside.limit
@@ -41,7 +41,7 @@ room g c = room_for_new c.self.invariant.0 c.self.view_is g.met.K.Ord.total c.ar
 taken : (g : given.Over) (c : After-list_number g) → slot_count c.self.inside.slots.items < c.self.inside.limit
     → IsKept g.K.Ord.cmp c.fill_slot-number.new.slots.items c.fill_slot-number.new.free.items c.list_number.new.order.items
     (vec_len c.list_number.new.order) c.self.inside.limit
-    × Takes c.args.self.now (seen c.fill_slot-number.new.slots.items (vec_len c.list_number.new.order) c.self.inside.limit)
+    × TakesNumber c.args.self.now (seen c.fill_slot-number.new.slots.items (vec_len c.list_number.new.order) c.self.inside.limit)
     c.fill_slot-number.result c.args.key
 taken g c small =
     take_number c.self.invariant.0 c.self.view_is g.met.K.Ord.total c.fill_slot-number.result c.in-Err.place c.args.key
