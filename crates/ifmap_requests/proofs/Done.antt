@@ -49,6 +49,7 @@ use Rattle.ifmap_requests.specs.declared.requests.Request.{Request}
 use Rattle.ifmap_requests.specs.Published.{metadata_check, published_content, published_from}
 use Rattle.ifmap_envelopes.specs.Spaces.{ifmap_space}
 use Rattle.ifmap_requests.specs.RequestForms.{delete_form, delete_from_form, end_form, end_from_form, end_session_form, end_session_of}
+use Rattle.ifmap_requests.specs.RequestForms.{from_end_session, from_poll, from_purge, from_renewal, from_search, from_subscribe}
 use Rattle.ifmap_requests.specs.RequestForms.{named_request_check, new_session_form, new_session_of, notify_form, notify_of}
 use Rattle.ifmap_requests.specs.RequestForms.{other_request_check, poll_form, poll_of, publish_form, publish_of, publish_op_check}
 use Rattle.ifmap_requests.specs.RequestForms.{publisher_field, purge_form, purge_of, renew_form, renewal_of, request_check}
@@ -319,50 +320,31 @@ module _ (identifier : (e : Element) → IsConclusive (identifier_check e)) (dec
         (λ index e s. subscribe_op_done (scopes_below scopes index) e s) 0 parts sound
 
     module _ (scopes : Scopes) (e : Element) (sound : IsSound most e) where
-      -- the chain from each of its forms on
-      abbrev from_purge : Check Request
-      from_purge = form_or purge_form purge_of scopes e (fail Failure)
-
-      abbrev from_subscribe : Check Request
-      from_subscribe = form_or subscribe_form subscribe_of scopes e from_purge
-
-      abbrev from_search : Check Request
-      from_search = form_or search_form search_of scopes e from_subscribe
-
-      abbrev from_poll : Check Request
-      from_poll = form_or poll_form poll_of scopes e from_search
-
-      abbrev from_end : Check Request
-      from_end = form_or end_session_form end_session_of scopes e from_poll
-
-      abbrev from_renew : Check Request
-      from_renew = form_or renew_form renewal_of scopes e from_end
-
-      purges : IsConclusive from_purge
+      purges : IsConclusive (from_purge scopes e)
       purges = or_done most purge_form purge_of purge_done (no_children_done most) scopes e sound (fail Failure) (fail_done Failure)
 
-      subscribes : IsConclusive from_subscribe
-      subscribes = or_done most subscribe_form subscribe_of session_done subscribe_ops_done scopes e sound from_purge purges
+      subscribes : IsConclusive (from_subscribe scopes e)
+      subscribes = or_done most subscribe_form subscribe_of session_done subscribe_ops_done scopes e sound (from_purge scopes e) purges
 
-      searches : IsConclusive from_search
+      searches : IsConclusive (from_search scopes e)
       searches =
           or_done most search_form search_of
           (beside_done session_field search_attributes (text_done session_field.local) search_attributes_done)
-          (start_done most identifier) scopes e sound from_subscribe subscribes
+          (start_done most identifier) scopes e sound (from_subscribe scopes e) subscribes
 
-      polls : IsConclusive from_poll
-      polls = or_done most poll_form poll_of session_done (no_children_done most) scopes e sound from_search searches
+      polls : IsConclusive (from_poll scopes e)
+      polls = or_done most poll_form poll_of session_done (no_children_done most) scopes e sound (from_search scopes e) searches
 
-      ends : IsConclusive from_end
-      ends = or_done most end_session_form end_session_of session_done (no_children_done most) scopes e sound from_poll polls
+      ends : IsConclusive (from_end_session scopes e)
+      ends = or_done most end_session_form end_session_of session_done (no_children_done most) scopes e sound (from_poll scopes e) polls
 
-      renews : IsConclusive from_renew
-      renews = or_done most renew_form renewal_of session_done (no_children_done most) scopes e sound from_end ends
+      renews : IsConclusive (from_renewal scopes e)
+      renews = or_done most renew_form renewal_of session_done (no_children_done most) scopes e sound (from_end_session scopes e) ends
 
       others : IsConclusive (other_request_check scopes e)
       others =
           or_done most new_session_form new_session_of (beside_done limit_field no_attributes limit_done no_attributes_done)
-          (no_children_done most) scopes e sound from_renew renews
+          (no_children_done most) scopes e sound (from_renewal scopes e) renews
 
       named_done : IsConclusive (named_request_check scopes e)
       named_done =

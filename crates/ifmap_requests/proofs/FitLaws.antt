@@ -46,6 +46,7 @@ use Rattle.ifmap_requests.specs.Means.{Means, scopes_from}
 use Rattle.ifmap_requests.specs.Published.{metadata_check, published_content, published_from}
 use Rattle.ifmap_requests.specs.RequestForms.{SearchValues, search_from, delete_form, delete_from_form, end_form, end_from_form}
 use Rattle.ifmap_envelopes.specs.Spaces.{ifmap_space}
+use Rattle.ifmap_requests.specs.RequestForms.{from_end_session, from_poll, from_purge, from_renewal, from_search, from_subscribe}
 use Rattle.ifmap_requests.specs.RequestForms.{end_session_form, end_session_of, named_request_check, new_session_form}
 use Rattle.ifmap_requests.specs.RequestForms.{new_session_of, notify_form, notify_of, other_request_check, poll_form, poll_of, publish_form}
 use Rattle.ifmap_requests.specs.RequestForms.{publish_of, publish_op_check, publisher_field, purge_form, purge_of, renew_form, renewal_of}
@@ -399,58 +400,40 @@ module _ (made : MakesMetadata) where
       (beside_gives IsCharacters Any publisher_field no_attributes (text_gives publisher_field.local) (any_table no_attributes))
 
   module _ (scopes : Scopes) (e : Element) (f : AreFitScopes scopes) (s : IsSound level_limit e) where
-    purge_gives : Gives (form_or purge_form purge_of scopes e (fail Failure)) IsFitRequest
+    purge_gives : Gives (from_purge scopes e) IsFitRequest
     purge_gives =
         or_gives HasTexts Any IsFitRequest purge_form purge_of purge_table_gives (any_content no_children) (λ a c p q. (p.0, p.1.0))
         scopes e f s (fail Failure) (fail_gives IsFitRequest Failure)
 
-    abbrev from_purge : Check Request
-    from_purge = form_or purge_form purge_of scopes e (fail Failure)
-
-    abbrev from_subscribe : Check Request
-    from_subscribe = form_or subscribe_form subscribe_of scopes e from_purge
-
-    abbrev from_search : Check Request
-    from_search = form_or search_form search_of scopes e from_subscribe
-
-    abbrev from_poll : Check Request
-    from_poll = form_or poll_form poll_of scopes e from_search
-
-    abbrev from_end : Check Request
-    from_end = form_or end_session_form end_session_of scopes e from_poll
-
-    abbrev from_renewal : Check Request
-    from_renewal = form_or renew_form renewal_of scopes e from_end
-
-    subscribe_gives : Gives from_subscribe IsFitRequest
+    subscribe_gives : Gives (from_subscribe scopes e) IsFitRequest
     subscribe_gives =
         or_gives HasName (AllByRecursion IsFitSubscribeOp) IsFitRequest subscribe_form subscribe_of session_gives subscribe_ops_give
-        (λ a c p q. (p.0, q)) scopes e f s from_purge purge_gives
+        (λ a c p q. (p.0, q)) scopes e f s (from_purge scopes e) purge_gives
 
-    search_gives : Gives from_search IsFitRequest
+    search_gives : Gives (from_search scopes e) IsFitRequest
     search_gives =
         or_gives HasSearch IsIdentifier IsFitRequest search_form search_of search_table_gives start_gives
-        (λ a c p q. (p.0, search_fit c a.others q p.1)) scopes e f s from_subscribe subscribe_gives
+        (λ a c p q. (p.0, search_fit c a.others q p.1)) scopes e f s (from_subscribe scopes e) subscribe_gives
 
-    poll_gives : Gives from_poll IsFitRequest
+    poll_gives : Gives (from_poll scopes e) IsFitRequest
     poll_gives =
         or_gives HasName Any IsFitRequest poll_form poll_of session_gives (any_content no_children) (λ a c p q. p.0) scopes e f s
-        from_search search_gives
+        (from_search scopes e) search_gives
 
-    end_gives : Gives from_end IsFitRequest
+    end_gives : Gives (from_end_session scopes e) IsFitRequest
     end_gives =
         or_gives HasName Any IsFitRequest end_session_form end_session_of session_gives (any_content no_children) (λ a c p q. p.0)
-        scopes e f s from_poll poll_gives
+        scopes e f s (from_poll scopes e) poll_gives
 
-    renewal_gives : Gives from_renewal IsFitRequest
+    renewal_gives : Gives (from_renewal scopes e) IsFitRequest
     renewal_gives =
         or_gives HasName Any IsFitRequest renew_form renewal_of session_gives (any_content no_children) (λ a c p q. p.0) scopes e f s
-        from_end end_gives
+        (from_end_session scopes e) end_gives
 
     other_gives : Gives (other_request_check scopes e) IsFitRequest
     other_gives =
         or_gives HasLimit Any IsFitRequest new_session_form new_session_of limit_table_gives (any_content no_children) (λ a c p q. p.0)
-        scopes e f s from_renewal renewal_gives
+        scopes e f s (from_renewal scopes e) renewal_gives
 
     named_gives : Gives (named_request_check scopes e) IsFitRequest
     named_gives =

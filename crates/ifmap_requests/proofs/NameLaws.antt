@@ -28,6 +28,7 @@ use Rattle.ifmap_requests.specs.declared.requests.Request.{Request}
 use Rattle.ifmap_requests.specs.declared.requests.SubscribeOp.{SubscribeOp}
 use Rattle.ifmap_envelopes.specs.Spaces.{ifmap_space}
 use Rattle.ifmap_requests.specs.RequestForms.{asking_name, delete_form, delete_from_form, end_form, end_from_form, end_session_form}
+use Rattle.ifmap_requests.specs.RequestForms.{from_end_session, from_poll, from_purge, from_renewal, from_search, from_subscribe}
 use Rattle.ifmap_requests.specs.RequestForms.{end_session_of, named_request_check, new_session_form, new_session_of, notify_form, notify_of}
 use Rattle.ifmap_requests.specs.RequestForms.{operation_of, other_request_check, poll_form, poll_of, publish_form, publish_of}
 use Rattle.ifmap_requests.specs.RequestForms.{publish_op_check, purge_form, purge_of, renew_form, renewal_of, request_check, search_form}
@@ -132,91 +133,81 @@ module _ (scopes : Scopes) (e : Element) (space : bytes_eq e.name.space ifmap_sp
     tested : (other : List ℕ) → is_name e.name (record { space = ifmap_space; local = other }) ≡ bytes_eq local other
     tested other i = space i && bytes_eq (same i) other
 
-  abbrev from_purge : Check Request
-  from_purge = form_or purge_form purge_of scopes e (fail Failure)
-
-  abbrev from_subscribe : Check Request
-  from_subscribe = form_or subscribe_form subscribe_of scopes e from_purge
-
-  abbrev from_search : Check Request
-  from_search = form_or search_form search_of scopes e from_subscribe
-
-  abbrev from_poll : Check Request
-  from_poll = form_or poll_form poll_of scopes e from_search
-
-  abbrev from_end : Check Request
-  from_end = form_or end_session_form end_session_of scopes e from_poll
-
-  abbrev from_renewal : Check Request
-  from_renewal = form_or renew_form renewal_of scopes e from_end
-
   module _ (a : RequestName) (same : e.name.local ≡ asking_name a) where
     abbrev beside : RequestName → Bool
     beside b = bytes_eq (asking_name a) (asking_name b)
 
-    past_new_session : beside asking.NewSession ≡ false → (r : Result Request FormError) → IsChecked from_renewal r
+    past_new_session : beside asking.NewSession ≡ false → (r : Result Request FormError) → IsChecked (from_renewal scopes e) r
         → IsChecked (other_request_check scopes e) r
-    past_new_session apart = past_form new_session_form new_session_of scopes e from_renewal
+    past_new_session apart = past_form new_session_form new_session_of scopes e (from_renewal scopes e)
         (tested (asking_name a) same (asking_name asking.NewSession) ∙ apart)
 
-    past_renewal : beside asking.RenewSession ≡ false → (r : Result Request FormError) → IsChecked from_end r → IsChecked from_renewal r
-    past_renewal apart = past_form renew_form renewal_of scopes e from_end
+    past_renewal : beside asking.RenewSession ≡ false → (r : Result Request FormError) → IsChecked (from_end_session scopes e) r
+        → IsChecked (from_renewal scopes e) r
+    past_renewal apart = past_form renew_form renewal_of scopes e (from_end_session scopes e)
         (tested (asking_name a) same (asking_name asking.RenewSession) ∙ apart)
 
-    past_end : beside asking.EndSession ≡ false → (r : Result Request FormError) → IsChecked from_poll r → IsChecked from_end r
-    past_end apart = past_form end_session_form end_session_of scopes e from_poll
+    past_end : beside asking.EndSession ≡ false → (r : Result Request FormError) → IsChecked (from_poll scopes e) r
+        → IsChecked (from_end_session scopes e) r
+    past_end apart = past_form end_session_form end_session_of scopes e (from_poll scopes e)
         (tested (asking_name a) same (asking_name asking.EndSession) ∙ apart)
 
-    past_poll : beside asking.Poll ≡ false → (r : Result Request FormError) → IsChecked from_search r → IsChecked from_poll r
-    past_poll apart = past_form poll_form poll_of scopes e from_search (tested (asking_name a) same (asking_name asking.Poll) ∙ apart)
+    past_poll : beside asking.Poll ≡ false → (r : Result Request FormError) → IsChecked (from_search scopes e) r
+        → IsChecked (from_poll scopes e) r
+    past_poll apart = past_form poll_form poll_of scopes e (from_search scopes e)
+        (tested (asking_name a) same (asking_name asking.Poll) ∙ apart)
 
-    past_search : beside asking.Search ≡ false → (r : Result Request FormError) → IsChecked from_subscribe r → IsChecked from_search r
-    past_search apart = past_form search_form search_of scopes e from_subscribe
+    past_search : beside asking.Search ≡ false → (r : Result Request FormError) → IsChecked (from_subscribe scopes e) r
+        → IsChecked (from_search scopes e) r
+    past_search apart = past_form search_form search_of scopes e (from_subscribe scopes e)
         (tested (asking_name a) same (asking_name asking.Search) ∙ apart)
 
-    past_subscribe : beside asking.Subscribe ≡ false → (r : Result Request FormError) → IsChecked from_purge r → IsChecked from_subscribe r
+    past_subscribe : beside asking.Subscribe ≡ false → (r : Result Request FormError) → IsChecked (from_purge scopes e) r
+        → IsChecked (from_subscribe scopes e) r
     past_subscribe apart =
-        past_form subscribe_form subscribe_of scopes e from_purge (tested (asking_name a) same (asking_name asking.Subscribe) ∙ apart)
+        past_form subscribe_form subscribe_of scopes e (from_purge scopes e)
+        (tested (asking_name a) same (asking_name asking.Subscribe) ∙ apart)
 
   pub at_new_session : e.name.local ≡ asking_name asking.NewSession → (r : Result Request FormError)
       → IsChecked (form_check new_session_form new_session_of scopes e) r → IsChecked (other_request_check scopes e) r
   at_new_session same r f =
-      by_form new_session_form new_session_of scopes e from_renewal
+      by_form new_session_form new_session_of scopes e (from_renewal scopes e)
       (tested (asking_name asking.NewSession) same (asking_name asking.NewSession)) r f
 
   pub at_renewal : e.name.local ≡ asking_name asking.RenewSession → (r : Result Request FormError)
       → IsChecked (form_check renew_form renewal_of scopes e) r → IsChecked (other_request_check scopes e) r
   at_renewal same r f =
       past_new_session asking.RenewSession same refl r
-      (by_form renew_form renewal_of scopes e from_end
+      (by_form renew_form renewal_of scopes e (from_end_session scopes e)
       (tested (asking_name asking.RenewSession) same (asking_name asking.RenewSession)) r f)
 
   pub at_end_session : e.name.local ≡ asking_name asking.EndSession → (r : Result Request FormError)
       → IsChecked (form_check end_session_form end_session_of scopes e) r → IsChecked (other_request_check scopes e) r
   at_end_session same r f =
       past_new_session asking.EndSession same refl r (past_renewal asking.EndSession same refl r
-      (by_form end_session_form end_session_of scopes e from_poll
+      (by_form end_session_form end_session_of scopes e (from_poll scopes e)
       (tested (asking_name asking.EndSession) same (asking_name asking.EndSession)) r f))
 
   pub at_poll : e.name.local ≡ asking_name asking.Poll → (r : Result Request FormError)
       → IsChecked (form_check poll_form poll_of scopes e) r → IsChecked (other_request_check scopes e) r
   at_poll same r f =
       past_new_session asking.Poll same refl r (past_renewal asking.Poll same refl r (past_end asking.Poll same refl r
-      (by_form poll_form poll_of scopes e from_search (tested (asking_name asking.Poll) same (asking_name asking.Poll)) r f)))
+      (by_form poll_form poll_of scopes e (from_search scopes e) (tested (asking_name asking.Poll) same (asking_name asking.Poll)) r f)))
 
   pub at_search : e.name.local ≡ asking_name asking.Search → (r : Result Request FormError)
       → IsChecked (form_check search_form search_of scopes e) r → IsChecked (other_request_check scopes e) r
   at_search same r f =
       past_new_session asking.Search same refl r (past_renewal asking.Search same refl r (past_end asking.Search same refl r
       (past_poll asking.Search same refl r
-      (by_form search_form search_of scopes e from_subscribe (tested (asking_name asking.Search) same (asking_name asking.Search)) r f))))
+      (by_form search_form search_of scopes e (from_subscribe scopes e)
+      (tested (asking_name asking.Search) same (asking_name asking.Search)) r f))))
 
   pub at_subscribe : e.name.local ≡ asking_name asking.Subscribe → (r : Result Request FormError)
       → IsChecked (form_check subscribe_form subscribe_of scopes e) r → IsChecked (other_request_check scopes e) r
   at_subscribe same r f =
       past_new_session asking.Subscribe same refl r (past_renewal asking.Subscribe same refl r (past_end asking.Subscribe same refl r
       (past_poll asking.Subscribe same refl r (past_search asking.Subscribe same refl r
-      (by_form subscribe_form subscribe_of scopes e from_purge
+      (by_form subscribe_form subscribe_of scopes e (from_purge scopes e)
       (tested (asking_name asking.Subscribe) same (asking_name asking.Subscribe)) r f)))))
 
   pub at_purge : e.name.local ≡ asking_name asking.PurgePublisher → (r : Result Request FormError)
@@ -239,12 +230,12 @@ module _ (scopes : Scopes) (e : Element) (space : bytes_eq e.name.space ifmap_sp
     pub at_no_request : other_request_check scopes e (Err Failure)
     at_no_request =
         let r : Result Request FormError = Err (Named Failure) in
-        past_form new_session_form new_session_of scopes e from_renewal (unnamed asking.NewSession) r
-        (past_form renew_form renewal_of scopes e from_end (unnamed asking.RenewSession) r
-        (past_form end_session_form end_session_of scopes e from_poll (unnamed asking.EndSession) r
-        (past_form poll_form poll_of scopes e from_search (unnamed asking.Poll) r
-        (past_form search_form search_of scopes e from_subscribe (unnamed asking.Search) r
-        (past_form subscribe_form subscribe_of scopes e from_purge (unnamed asking.Subscribe) r
+        past_form new_session_form new_session_of scopes e (from_renewal scopes e) (unnamed asking.NewSession) r
+        (past_form renew_form renewal_of scopes e (from_end_session scopes e) (unnamed asking.RenewSession) r
+        (past_form end_session_form end_session_of scopes e (from_poll scopes e) (unnamed asking.EndSession) r
+        (past_form poll_form poll_of scopes e (from_search scopes e) (unnamed asking.Poll) r
+        (past_form search_form search_of scopes e (from_subscribe scopes e) (unnamed asking.Search) r
+        (past_form subscribe_form subscribe_of scopes e (from_purge scopes e) (unnamed asking.Subscribe) r
         (past_form purge_form purge_of scopes e (fail Failure) (unnamed asking.PurgePublisher) r refl))))))
 
 -- in the namespace of requests, the name decides

@@ -36,6 +36,7 @@ use Rattle.ifmap_requests.specs.declared.requests.Request.{Request}
 use Rattle.ifmap_requests.specs.Published.{MetadataDefect, metadata_check, published_content, published_from}
 use Rattle.ifmap_envelopes.specs.Spaces.{ifmap_space}
 use Rattle.ifmap_requests.specs.RequestForms.{delete_form, delete_from_form, end_form, end_from_form, end_session_form, end_session_of}
+use Rattle.ifmap_requests.specs.RequestForms.{from_end_session, from_poll, from_purge, from_renewal, from_search, from_subscribe}
 use Rattle.ifmap_requests.specs.RequestForms.{named_request_check, new_session_form, new_session_of, notify_form, notify_of}
 use Rattle.ifmap_requests.specs.RequestForms.{other_request_check, poll_form, poll_of, publish_form, publish_of, publish_op_check}
 use Rattle.ifmap_requests.specs.RequestForms.{publisher_field, purge_form, purge_of, renew_form, renewal_of, request_check}
@@ -264,47 +265,28 @@ module _ (identifier_one : (e : Element) → IsSingle (identifier_check e)) (one
       (beside_single publisher_field no_attributes read_text_single no_attributes_single)
 
   module _ (scopes : Scopes) (e : Element) where
-    -- the chain from each of its forms on
-    abbrev from_purge : Check Request
-    from_purge = form_or purge_form purge_of scopes e (fail Failure)
-
-    abbrev from_subscribe : Check Request
-    from_subscribe = form_or subscribe_form subscribe_of scopes e from_purge
-
-    abbrev from_search : Check Request
-    from_search = form_or search_form search_of scopes e from_subscribe
-
-    abbrev from_poll : Check Request
-    from_poll = form_or poll_form poll_of scopes e from_search
-
-    abbrev from_end : Check Request
-    from_end = form_or end_session_form end_session_of scopes e from_poll
-
-    abbrev from_renew : Check Request
-    from_renew = form_or renew_form renewal_of scopes e from_end
-
-    purges : IsSingle from_purge
+    purges : IsSingle (from_purge scopes e)
     purges = or_single purge_form purge_of purge_single no_children_single scopes e (fail Failure) (fail_single Failure)
 
-    subscribes : IsSingle from_subscribe
-    subscribes = or_single subscribe_form subscribe_of session_single subscriptions_single scopes e from_purge purges
+    subscribes : IsSingle (from_subscribe scopes e)
+    subscribes = or_single subscribe_form subscribe_of session_single subscriptions_single scopes e (from_purge scopes e) purges
 
-    searches : IsSingle from_search
+    searches : IsSingle (from_search scopes e)
     searches =
         or_single search_form search_of (beside_single session_field search_attributes read_text_single search_attributes_single)
-        (start_single identifier_one) scopes e from_subscribe subscribes
+        (start_single identifier_one) scopes e (from_subscribe scopes e) subscribes
 
-    polls : IsSingle from_poll
-    polls = or_single poll_form poll_of session_single no_children_single scopes e from_search searches
+    polls : IsSingle (from_poll scopes e)
+    polls = or_single poll_form poll_of session_single no_children_single scopes e (from_search scopes e) searches
 
-    ends : IsSingle from_end
-    ends = or_single end_session_form end_session_of session_single no_children_single scopes e from_poll polls
+    ends : IsSingle (from_end_session scopes e)
+    ends = or_single end_session_form end_session_of session_single no_children_single scopes e (from_poll scopes e) polls
 
-    renews : IsSingle from_renew
-    renews = or_single renew_form renewal_of session_single no_children_single scopes e from_end ends
+    renews : IsSingle (from_renewal scopes e)
+    renews = or_single renew_form renewal_of session_single no_children_single scopes e (from_end_session scopes e) ends
 
     others : IsSingle (other_request_check scopes e)
-    others = or_single new_session_form new_session_of limit_single no_children_single scopes e from_renew renews
+    others = or_single new_session_form new_session_of limit_single no_children_single scopes e (from_renewal scopes e) renews
 
     named_single : IsSingle (named_request_check scopes e)
     named_single = or_single publish_form publish_of session_single ops_single scopes e (other_request_check scopes e) others

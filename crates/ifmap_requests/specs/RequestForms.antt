@@ -206,13 +206,28 @@ poll_of a none = request.Poll a.first
 abbrev pub purge_of : Both (List ℕ) OneText → Unit {0} → Request
 purge_of a none = request.PurgePublisher a.first a.others.first
 
+-- the chain of forms by which a request that is no publish is told, from each form on
+abbrev pub from_purge : Scopes → Element → Check Request
+from_purge scopes e = form_or purge_form purge_of scopes e (fail Failure)
+
+abbrev pub from_subscribe : Scopes → Element → Check Request
+from_subscribe scopes e = form_or subscribe_form subscribe_of scopes e (from_purge scopes e)
+
+abbrev pub from_search : Scopes → Element → Check Request
+from_search scopes e = form_or search_form search_of scopes e (from_subscribe scopes e)
+
+abbrev pub from_poll : Scopes → Element → Check Request
+from_poll scopes e = form_or poll_form poll_of scopes e (from_search scopes e)
+
+abbrev pub from_end_session : Scopes → Element → Check Request
+from_end_session scopes e = form_or end_session_form end_session_of scopes e (from_poll scopes e)
+
+abbrev pub from_renewal : Scopes → Element → Check Request
+from_renewal scopes e = form_or renew_form renewal_of scopes e (from_end_session scopes e)
+
 -- the request of an element by its name, where it is no publish
 abbrev pub other_request_check : Scopes → Element → Check Request
-other_request_check scopes e =
-    form_or new_session_form new_session_of scopes e (form_or renew_form renewal_of scopes e
-    (form_or end_session_form end_session_of scopes e (form_or poll_form poll_of scopes e
-    (form_or search_form search_of scopes e (form_or subscribe_form subscribe_of scopes e
-    (form_or purge_form purge_of scopes e (fail Failure)))))))
+other_request_check scopes e = form_or new_session_form new_session_of scopes e (from_renewal scopes e)
 
 -- the request of an element in the namespace of requests, by its name
 abbrev pub named_request_check : Scopes → Element → Check Request

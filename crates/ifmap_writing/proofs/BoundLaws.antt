@@ -46,6 +46,7 @@ use Rattle.ifmap_requests.specs.Means.{Means, scopes_from}
 use Rattle.ifmap_requests.specs.Published.{metadata_check, published_check}
 use Rattle.ifmap_requests.specs.RequestForms.{SearchValues, delete_form, delete_from_form, end_form, end_from_form, end_session_form, end_session_of}
 use Rattle.ifmap_requests.specs.ifmap_envelopes.Spaces.{ifmap_space}
+use Rattle.ifmap_requests.specs.RequestForms.{from_end_session, from_poll, from_purge, from_renewal, from_search, from_subscribe}
 use Rattle.ifmap_requests.specs.RequestForms.{named_request_check, new_session_form, new_session_of, notify_form, notify_of}
 use Rattle.ifmap_requests.specs.RequestForms.{other_request_check, poll_form, poll_of, publish_form, publish_of, publish_op_check}
 use Rattle.ifmap_requests.specs.RequestForms.{purge_form, purge_of, renew_form, renewal_of, request_check, search_attributes, search_form}
@@ -313,30 +314,12 @@ module _ (scopes : Scopes) (e : Element) (r : Request) where
   none_bounded : fail Failure (good r) → IsBounded r
   none_bounded h = let wrong : good r ≡ bad Failure = h in cc
 
-  abbrev from_purge : Check Request
-  from_purge = form_or purge_form purge_of scopes e (fail Failure)
-
-  abbrev from_subscribe : Check Request
-  from_subscribe = form_or subscribe_form subscribe_of scopes e from_purge
-
-  abbrev from_search : Check Request
-  from_search = form_or search_form search_of scopes e from_subscribe
-
-  abbrev from_poll : Check Request
-  from_poll = form_or poll_form poll_of scopes e from_search
-
-  abbrev from_end : Check Request
-  from_end = form_or end_session_form end_session_of scopes e from_poll
-
-  abbrev from_renewal : Check Request
-  from_renewal = form_or renew_form renewal_of scopes e from_end
-
-  purge_bounded : from_purge (good r) → IsBounded r
+  purge_bounded : from_purge scopes e (good r) → IsBounded r
   purge_bounded = free purge_form purge_of (fail Failure) (λ a c. tt) none_bounded
 
-  subscribes_bounded : from_subscribe (good r) → IsBounded r
+  subscribes_bounded : from_subscribe scopes e (good r) → IsBounded r
   subscribes_bounded h = elim (either_found (is_name e.name subscribe_form.name) (form_check subscribe_form subscribe_of scopes e)
-      from_purge r h) [
+      (from_purge scopes e) r h) [
         | inl found ↦
             let p = form_parts subscribe_form subscribe_of scopes e r found in
             subst IsBounded (sym p.made)
@@ -346,9 +329,9 @@ module _ (scopes : Scopes) (e : Element) (r : Request) where
         | inr rest ↦ purge_bounded rest
       ]
 
-  searches_bounded : from_search (good r) → IsBounded r
+  searches_bounded : from_search scopes e (good r) → IsBounded r
   searches_bounded h = elim (either_found (is_name e.name search_form.name) (form_check search_form search_of scopes e)
-      from_subscribe r h) [
+      (from_subscribe scopes e) r h) [
         | inl found ↦
             let p = form_parts search_form search_of scopes e r found in
             let a = beside_parts session_field search_attributes (scopes []) e p.first p.attributes in
@@ -358,10 +341,10 @@ module _ (scopes : Scopes) (e : Element) (r : Request) where
 
   other_bounded : other_request_check scopes e (good r) → IsBounded r
   other_bounded =
-      free new_session_form new_session_of from_renewal (λ a c. tt)
-      (free renew_form renewal_of from_end (λ a c. tt)
-      (free end_session_form end_session_of from_poll (λ a c. tt)
-      (free poll_form poll_of from_search (λ a c. tt) searches_bounded)))
+      free new_session_form new_session_of (from_renewal scopes e) (λ a c. tt)
+      (free renew_form renewal_of (from_end_session scopes e) (λ a c. tt)
+      (free end_session_form end_session_of (from_poll scopes e) (λ a c. tt)
+      (free poll_form poll_of (from_search scopes e) (λ a c. tt) searches_bounded)))
 
   request_bounded : nesting e ≤ 62 → request_check scopes e (good r) → IsBounded r
   request_bounded low h =
