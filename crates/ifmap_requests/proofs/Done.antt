@@ -48,6 +48,7 @@ use Rattle.ifmap_forms.specs.Values.{trim_white, within_range}
 use Rattle.ifmap_requests.specs.declared.requests.Request.{Request}
 use Rattle.ifmap_requests.specs.Published.{metadata_check, published_content, published_from}
 use Rattle.ifmap_envelopes.specs.Spaces.{ifmap_space}
+use Rattle.ifmap_requests.specs.RequestForms.{after_depth, after_links, after_size, links_field, result_field}
 use Rattle.ifmap_requests.specs.RequestForms.{delete_form, delete_from_form, end_form, end_from_form, end_session_form, end_session_of}
 use Rattle.ifmap_requests.specs.RequestForms.{from_end_session, from_poll, from_purge, from_renewal, from_search, from_subscribe}
 use Rattle.ifmap_requests.specs.RequestForms.{named_request_check, new_session_form, new_session_of, notify_form, notify_of}
@@ -271,14 +272,10 @@ module _ (most : ℕ) where
 module _ (identifier : (e : Element) → IsConclusive (identifier_check e)) (decided : FilterOrStop) (apart : StopsWhereNone) where
   search_attributes_done : TableDone search_attributes
   search_attributes_done =
-      beside_done (filter_field (codes "match-links")) (beside depth_field (beside size_field
-      (beside (filter_field (codes "result-filter")) (beside kinds_field no_attributes))))
-      (filter_done decided apart (codes "match-links"))
-      (beside_done depth_field (beside size_field (beside (filter_field (codes "result-filter")) (beside kinds_field no_attributes)))
-      depth_done
-      (beside_done size_field (beside (filter_field (codes "result-filter")) (beside kinds_field no_attributes)) size_done
-      (beside_done (filter_field (codes "result-filter")) (beside kinds_field no_attributes)
-      (filter_done decided apart (codes "result-filter"))
+      beside_done links_field after_links (filter_done decided apart links_field.local)
+      (beside_done depth_field after_depth depth_done
+      (beside_done size_field after_size size_done
+      (beside_done result_field (beside kinds_field no_attributes) (filter_done decided apart result_field.local)
       (beside_done kinds_field no_attributes kinds_done no_attributes_done))))
 
   session_done : TableDone session_attribute

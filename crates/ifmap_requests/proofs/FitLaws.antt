@@ -44,6 +44,7 @@ use Rattle.ifmap_requests.specs.Fit.{IsFitLimit, IsFitOp, IsFitRequest, IsFitSea
 use Rattle.ifmap_requests.specs.FitFilters.{IsFitFilter}
 use Rattle.ifmap_requests.specs.Means.{Means, scopes_from}
 use Rattle.ifmap_requests.specs.Published.{metadata_check, published_content, published_from}
+use Rattle.ifmap_requests.specs.RequestForms.{after_depth, after_links, after_size, links_field, result_field}
 use Rattle.ifmap_requests.specs.RequestForms.{SearchValues, search_from, delete_form, delete_from_form, end_form, end_from_form}
 use Rattle.ifmap_envelopes.specs.Spaces.{ifmap_space}
 use Rattle.ifmap_requests.specs.RequestForms.{from_end_session, from_poll, from_purge, from_renewal, from_search, from_subscribe}
@@ -340,15 +341,11 @@ module _ (made : MakesMetadata) where
 
   search_attributes_give : TableGives search_attributes HasFilters
   search_attributes_give =
-      beside_gives MayBeFitFilter AfterLinks (filter_field (codes "match-links"))
-      (beside depth_field (beside size_field (beside (filter_field (codes "result-filter")) (beside kinds_field no_attributes))))
-      (filter_gives (codes "match-links"))
-      (beside_gives Any (AreBoth Any (AreBoth MayBeFitFilter Any)) depth_field
-      (beside size_field (beside (filter_field (codes "result-filter")) (beside kinds_field no_attributes))) (any_field depth_field)
-      (beside_gives Any (AreBoth MayBeFitFilter Any) size_field
-      (beside (filter_field (codes "result-filter")) (beside kinds_field no_attributes)) (any_field size_field)
-      (beside_gives MayBeFitFilter Any (filter_field (codes "result-filter")) (beside kinds_field no_attributes)
-      (filter_gives (codes "result-filter")) (any_table (beside kinds_field no_attributes)))))
+      beside_gives MayBeFitFilter AfterLinks links_field after_links (filter_gives links_field.local)
+      (beside_gives Any (AreBoth Any (AreBoth MayBeFitFilter Any)) depth_field after_depth (any_field depth_field)
+      (beside_gives Any (AreBoth MayBeFitFilter Any) size_field after_size (any_field size_field)
+      (beside_gives MayBeFitFilter Any result_field (beside kinds_field no_attributes) (filter_gives result_field.local)
+      (any_table (beside kinds_field no_attributes)))))
 
   search_fit : (start : Identifier) (values : SearchValues) → IsIdentifier start → HasFilters values
       → IsFitSearch (search_from start values)

@@ -2,7 +2,7 @@
 -- 1. A form by the name of its element.
 -- 2. Searches with a text before their attributes.
 -- 3. The attributes of a search.
-use Rattle.std.proofs.Common.{◌≡◌, ℕ, ◌++◌, Bool, true, false, List, [], ◌∷◌, Option, Result, Ok, Err, codes, inl, inr, refl, ap, subst}
+use Rattle.std.proofs.Common.{◌≡◌, ℕ, ◌++◌, Bool, true, false, List, [], ◌∷◌, Option, Result, Ok, Err, inl, inr, refl, ap, subst}
 use Rattle.std.proofs.Common.{sym}
 use Rattle.ifmap_elem.specs.declared.elements.Element.{Element}
 use Rattle.ifmap_elem.specs.declared.elements.Name.{Name}
@@ -23,11 +23,12 @@ use Rattle.ifmap_forms.specs.Answers.{IsChecked, IsCheckRefusal}
 use Rattle.ifmap_forms.specs.Checks.{Check, check_if, check_then, need, pass}
 use Rattle.ifmap_forms.specs.Items.{start_check, start_content}
 use Rattle.ifmap_forms.specs.Scopes.{Scopes}
-use Rattle.ifmap_forms.specs.Tables.{Both, Form, AttributeTable, beside, both, form_check, form_or, no_attributes}
+use Rattle.ifmap_forms.specs.Tables.{Both, Form, beside, both, form_check, form_or, no_attributes}
 use Rattle.ifmap_forms.specs.Tables.{element_parts, read_form}
-use Rattle.ifmap_forms.specs.Values.{Field, depth_field, field_check, filter_field, kinds_field, size_field}
+use Rattle.ifmap_forms.specs.Values.{Field, depth_field, field_check, kinds_field, size_field}
 use Rattle.ifmap_requests.specs.declared.searching.Bounds.{Bounds}
-use Rattle.ifmap_requests.specs.RequestForms.{SearchValues, search_attributes, search_check, search_from, values_of}
+use Rattle.ifmap_requests.specs.RequestForms.{SearchValues, after_depth, after_links, after_size, links_field, result_field}
+use Rattle.ifmap_requests.specs.RequestForms.{search_attributes, search_check, search_from, values_of}
 
 -- ---- 1. names
 
@@ -120,21 +121,6 @@ module _ {X : Type 0} (field : Field (List ℕ)) (name : Name) (passed : List (L
 -- ---- 3. the attributes
 
 module _ (scope : Scope) (e : Element) where
-  abbrev after_size : AttributeTable (Both (Option Filter) (Both (List Kind) (Unit {0})))
-  after_size = beside (filter_field (codes "result-filter")) (beside kinds_field no_attributes)
-
-  abbrev after_depth : AttributeTable (Both ℕ (Both (Option Filter) (Both (List Kind) (Unit {0}))))
-  after_depth = beside size_field after_size
-
-  abbrev after_links : AttributeTable (Both ℕ (Both ℕ (Both (Option Filter) (Both (List Kind) (Unit {0})))))
-  after_links = beside depth_field after_depth
-
-  abbrev links_field : Field (Option Filter)
-  links_field = filter_field (codes "match-links")
-
-  abbrev result_field : Field (Option Filter)
-  result_field = filter_field (codes "result-filter")
-
   pub refused_links : (error : FormError) → IsCheckRefusal (field_check links_field scope e) error
       → IsCheckRefusal (search_attributes.reads scope e) error
   refused_links error f = refused_at_field links_field after_links scope e error f

@@ -35,6 +35,7 @@ use Rattle.ifmap_forms.specs.Values.{read_filter, read_kinds, read_lifetime, rea
 use Rattle.ifmap_requests.specs.declared.requests.Request.{Request}
 use Rattle.ifmap_requests.specs.Published.{MetadataDefect, metadata_check, published_content, published_from}
 use Rattle.ifmap_envelopes.specs.Spaces.{ifmap_space}
+use Rattle.ifmap_requests.specs.RequestForms.{after_depth, after_links, after_size, links_field, result_field}
 use Rattle.ifmap_requests.specs.RequestForms.{delete_form, delete_from_form, end_form, end_from_form, end_session_form, end_session_of}
 use Rattle.ifmap_requests.specs.RequestForms.{from_end_session, from_poll, from_purge, from_renewal, from_search, from_subscribe}
 use Rattle.ifmap_requests.specs.RequestForms.{named_request_check, new_session_form, new_session_of, notify_form, notify_of}
@@ -215,13 +216,10 @@ module _ (identifier_one : (e : Element) → IsSingle (identifier_check e)) wher
 module _ (identifier_one : (e : Element) → IsSingle (identifier_check e)) (one_filter : OneFilter) where
   search_attributes_single : OneOfTable search_attributes
   search_attributes_single =
-      beside_single (filter_field (codes "match-links")) (beside depth_field (beside size_field
-      (beside (filter_field (codes "result-filter")) (beside kinds_field no_attributes))))
-      (read_filter_single one_filter)
-      (beside_single depth_field (beside size_field (beside (filter_field (codes "result-filter")) (beside kinds_field no_attributes)))
-      read_depth_single
-      (beside_single size_field (beside (filter_field (codes "result-filter")) (beside kinds_field no_attributes)) read_size_single
-      (beside_single (filter_field (codes "result-filter")) (beside kinds_field no_attributes) (read_filter_single one_filter)
+      beside_single links_field after_links (read_filter_single one_filter)
+      (beside_single depth_field after_depth read_depth_single
+      (beside_single size_field after_size read_size_single
+      (beside_single result_field (beside kinds_field no_attributes) (read_filter_single one_filter)
       (beside_single kinds_field no_attributes read_kinds_single no_attributes_single))))
 
   publish_op_single : (scopes : Scopes) (e : Element) → IsSingle (publish_op_check scopes e)

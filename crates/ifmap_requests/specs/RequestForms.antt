@@ -76,10 +76,24 @@ publish_op_check scopes e =
 abbrev pub SearchValues : Type 0
 SearchValues = Both (Option Filter) (Both ℕ (Both ℕ (Both (Option Filter) (Both (List Kind) (Unit {0})))))
 
+abbrev pub links_field : Field (Option Filter)
+links_field = filter_field (codes "match-links")
+
+abbrev pub result_field : Field (Option Filter)
+result_field = filter_field (codes "result-filter")
+
+-- the attributes of a search, and of these those that come after its size, its depth and the filter of its links
+abbrev pub after_size : AttributeTable (Both (Option Filter) (Both (List Kind) (Unit {0})))
+after_size = beside result_field (beside kinds_field no_attributes)
+
+abbrev pub after_depth : AttributeTable (Both ℕ (Both (Option Filter) (Both (List Kind) (Unit {0}))))
+after_depth = beside size_field after_size
+
+abbrev pub after_links : AttributeTable (Both ℕ (Both ℕ (Both (Option Filter) (Both (List Kind) (Unit {0})))))
+after_links = beside depth_field after_depth
+
 abbrev pub search_attributes : AttributeTable SearchValues
-search_attributes =
-    beside (filter_field (codes "match-links")) (beside depth_field (beside size_field
-    (beside (filter_field (codes "result-filter")) (beside kinds_field no_attributes))))
+search_attributes = beside links_field after_links
 
 abbrev pub search_from : Identifier → SearchValues → Search
 search_from start values =

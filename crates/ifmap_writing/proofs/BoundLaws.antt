@@ -6,7 +6,7 @@
 -- 5. Operations and requests.
 -- 6. Bodies.
 use Rattle.std.proofs.Common.{◌≡◌, ◌⊎◌, ◌∙◌, ◌++◌, ◌+◌, ◌<◌, ◌≤◌, ◌^◌, ◌&&◌, ℕ, suc, min, Bool, true, false, List, [], ◌∷◌, Option, None}
-use Rattle.std.proofs.Common.{Some, IfSome, Result, Ok, Err, codes, length, map, refl, ap, sym, subst, inl, inr, arith}
+use Rattle.std.proofs.Common.{Some, IfSome, Result, Ok, Err, length, map, refl, ap, sym, subst, inl, inr, arith}
 use Rattle.std.specs.Prelude.{if◌then◌else◌, nat_le, nat_lt}
 use Rattle.std.specs.List.{AllByRecursion, list_all}
 use Rattle.std.specs.Str.{bytes_eq}
@@ -21,14 +21,12 @@ use Rattle.ifmap_elem.specs.declared.elements.Child.TheOpen.{Child-F}
 use Rattle.ifmap_elem.specs.declared.elements.Element.{Element}
 use Rattle.ifmap_elem.specs.laws.FitLaws.{nesting_arranged, out_text}
 use Rattle.ifmap_requests.specs.ifmap_envelopes.Envelopes.{IsEnvelope}
-use Rattle.ifmap_filter.specs.declared.filters.Filter.{Filter}
 use Rattle.ifmap_filter.specs.Holding.{is_name}
 use Rattle.ifmap_ident.specs.ifmap_reader.declared.scoping.Scope.{Scope}
 use Rattle.ifmap_ident.specs.declared.codes.Code.{Code}
 use Rattle.ifmap_ident.specs.declared.codes.Code.TheVariants.{Failure, InvalidSchemaVersion}
 use Rattle.ifmap_ident.specs.declared.identifiers.Identifier.{Identifier}
 use Rattle.ifmap_ident.specs.declared.items.Item.{Item}
-use Rattle.ifmap_ident.specs.declared.kinds.Kind.{Kind}
 use Rattle.ifmap_ident.specs.Parts.{has_only, value_of}
 use Rattle.ifmap_meta.specs.declared.metadata.Metadata.{Metadata}
 use Rattle.ifmap_meta.specs.Stamps.{content_of}
@@ -37,13 +35,14 @@ use Rattle.ifmap_requests.specs.ifmap_forms.Items.{from_list, is_list, item_of, 
 use Rattle.ifmap_requests.specs.ifmap_forms.Scopes.{Scopes, scopes_below}
 use Rattle.ifmap_requests.specs.ifmap_forms.Tables.{Both, Form, Part, AttributeTable, beside, both, each_element, form_check, form_or, no_attributes, parts_in}
 use Rattle.ifmap_requests.specs.ifmap_forms.Tables.{element_parts}
-use Rattle.ifmap_requests.specs.ifmap_forms.Values.{Field, depth_field, field_check, filter_field, kinds_field, name_field, number_of, read_depth}
+use Rattle.ifmap_requests.specs.ifmap_forms.Values.{Field, depth_field, field_check, name_field, number_of, read_depth}
 use Rattle.ifmap_requests.specs.ifmap_forms.Values.{read_name, read_size, size_field}
 use Rattle.ifmap_requests.specs.declared.publishing.PublishOp.{PublishOp}
 use Rattle.ifmap_requests.specs.declared.requests.Request.{Request}
 use Rattle.ifmap_requests.specs.declared.requests.SubscribeOp.{SubscribeOp}
 use Rattle.ifmap_requests.specs.Means.{Means, scopes_from}
 use Rattle.ifmap_requests.specs.Published.{metadata_check, published_check}
+use Rattle.ifmap_requests.specs.RequestForms.{after_depth, after_links, after_size, links_field}
 use Rattle.ifmap_requests.specs.RequestForms.{SearchValues, delete_form, delete_from_form, end_form, end_from_form, end_session_form, end_session_of}
 use Rattle.ifmap_requests.specs.ifmap_envelopes.Spaces.{ifmap_space}
 use Rattle.ifmap_requests.specs.RequestForms.{from_end_session, from_poll, from_purge, from_renewal, from_search, from_subscribe}
@@ -143,20 +142,10 @@ size_bounded (Some text) n h =
     let is : n ≡ min found.0 50_000_000 = passed n (min found.0 50_000_000) found.2 in
     omega (arith, is)
 
--- the attributes of a search, one after another
-abbrev after_size : AttributeTable (Both (Option Filter) (Both (List Kind) (Unit {0})))
-after_size = beside (filter_field (codes "result-filter")) (beside kinds_field no_attributes)
-
-abbrev after_depth : AttributeTable (Both ℕ (Both (Option Filter) (Both (List Kind) (Unit {0}))))
-after_depth = beside size_field after_size
-
-abbrev after_links : AttributeTable (Both ℕ (Both ℕ (Both (Option Filter) (Both (List Kind) (Unit {0})))))
-after_links = beside depth_field after_depth
-
 search_bounded : (scope : Scope) (e : Element) (v : SearchValues) → search_attributes.reads scope e (good v)
     → (v.others.first < 2 ^ 32) × (v.others.others.first ≤ 50_000_000)
 search_bounded scope e v h =
-    let first = beside_parts (filter_field (codes "match-links")) after_links scope e v h in
+    let first = beside_parts links_field after_links scope e v h in
     let second = beside_parts depth_field after_depth scope e v.others first.1 in
     let third = beside_parts size_field after_size scope e v.others.others second.1 in (
       depth_bounded (value_of depth_field.local e) v.others.first second.0,

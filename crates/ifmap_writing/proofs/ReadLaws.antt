@@ -51,6 +51,7 @@ use Rattle.ifmap_requests.specs.declared.requests.Request.TheVariants.{Poll, Pur
 use Rattle.ifmap_requests.specs.declared.requests.SubscribeOp.{SubscribeOp}
 use Rattle.ifmap_requests.specs.declared.requests.SubscribeOp.TheVariants as subscribe
 use Rattle.ifmap_requests.specs.Published.{metadata_check, published_check}
+use Rattle.ifmap_requests.specs.RequestForms.{links_field, result_field}
 use Rattle.ifmap_requests.specs.RequestForms.{SearchValues, delete_form, delete_from_form, end_form, end_from_form, end_session_form, end_session_of}
 use Rattle.ifmap_requests.specs.RequestForms.{new_session_form, new_session_of, notify_form, notify_of, poll_form, poll_of, publish_form}
 use Rattle.ifmap_requests.specs.RequestForms.{publish_of, publish_op_check, publisher_field, purge_form, purge_of, renew_form, renewal_of}
@@ -254,7 +255,7 @@ module _ (canon : (i : Identifier) → IsIdentifier i → IsCanon (identifier_el
       → search_attributes.reads scope (with_rows name rows children) (good (search_values s))
   search_back spaces scope name rows children s w bounds links depth size result terminal = (
     s.match_links,
-    field_back (filter_field (codes "match-links")) scope name rows children (filter_value spaces s.match_links) s.match_links links
+    field_back links_field scope name rows children (filter_value spaces s.match_links) s.match_links links
         (filter_back spaces scope s.match_links w.match_links),
     (
       both s.max_depth (both s.max_size (both s.result_filter (both s.terminal tt))),
@@ -270,7 +271,7 @@ module _ (canon : (i : Identifier) → IsIdentifier i → IsCanon (identifier_el
               both s.result_filter (both s.terminal tt),
               (
                 s.result_filter,
-                field_back (filter_field (codes "result-filter")) scope name rows children (filter_value spaces s.result_filter)
+                field_back result_field scope name rows children (filter_value spaces s.result_filter)
                     s.result_filter result (filter_back spaces scope s.result_filter w.result_filter),
                 (
                   both s.terminal tt,
