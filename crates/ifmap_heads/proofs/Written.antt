@@ -1,7 +1,7 @@
 -- What written heads are made of: fields, visible texts and numbers, each read back as it was written.
 use Rattle.std.proofs.Common.{◌≡◌, ℕ, ◌+◌, ◌%◌, ◌^◌, ◌<◌, ◌≤◌, Bool, true, false, List, [], ◌∷◌, length, map, reverse, refl, Some, arith}
 use Rattle.std.specs.Prelude.{◌&&◌, ◌==◌, nat_le, nat_lt, All}
-use Rattle.std.specs.Char.{is_ascii_digit}
+use Rattle.std.specs.Char.{is_ascii_digit, is_ascii_graphic}
 use Rattle.std.specs.Fmt.{decimal}
 use Rattle.std.specs.List.{list_all}
 use Rattle.std.specs.Str.Parse.{digits_value}
@@ -17,10 +17,6 @@ use Rattle.httparse.specs.Spans.{name_and_value}
 use Rattle.httparse.proofs.TrimLemmas.{AllPass-reverse, trim_ows_space}
 use Rattle.ifmap_heads.specs.Fields.{Fields, common_length, is_length}
 
--- a visible ASCII character
-abbrev pub is_visible_byte : ℕ → Bool
-is_visible_byte b = nat_lt 32 b && nat_lt b 127
-
 -- a field as it is written
 abbrev written_field : List ℕ → List ℕ → Field
 written_field name value = record { name = name; raw = space ∷ value; end = crlf }
@@ -30,25 +26,25 @@ weaker p q implies xs is =
     let all = AllPass-from_list_all p xs is in
     list_all-from_AllPass q xs (λ k d within. implies _ (all k d within))
 
-pub digit_is_visible : (b : ℕ) → is_ascii_digit b ≡ true → is_visible_byte b ≡ true
+pub digit_is_visible : (b : ℕ) → is_ascii_digit b ≡ true → is_ascii_graphic b ≡ true
 digit_is_visible b is = grind (arith, nat_tests)
 
-value_byte : (b : ℕ) → is_visible_byte b ≡ true → is_value_byte b ≡ true
+value_byte : (b : ℕ) → is_ascii_graphic b ≡ true → is_value_byte b ≡ true
 value_byte b is = grind (arith, nat_tests)
 
-no_space : (b : ℕ) → is_visible_byte b ≡ true → is_ows b ≡ false
+no_space : (b : ℕ) → is_ascii_graphic b ≡ true → is_ows b ≡ false
 no_space b is = grind (arith, nat_tests)
 
-skips_none : (v : List ℕ) → list_all is_visible_byte v ≡ true → skip_ows v ≡ v
+skips_none : (v : List ℕ) → list_all is_ascii_graphic v ≡ true → skip_ows v ≡ v
 skips_none [] is = refl
-skips_none (b ∷ v) is = rw (no_space b (and_parts (is_visible_byte b) (list_all is_visible_byte v) is).0) refl
+skips_none (b ∷ v) is = rw (no_space b (and_parts (is_ascii_graphic b) (list_all is_ascii_graphic v) is).0) refl
 
-turned : (v : List ℕ) → list_all is_visible_byte v ≡ true → list_all is_visible_byte (reverse v) ≡ true
-turned v is = list_all-from_AllPass is_visible_byte (reverse v)
-    (AllPass-reverse is_visible_byte v (AllPass-from_list_all is_visible_byte v is))
+turned : (v : List ℕ) → list_all is_ascii_graphic v ≡ true → list_all is_ascii_graphic (reverse v) ≡ true
+turned v is = list_all-from_AllPass is_ascii_graphic (reverse v)
+    (AllPass-reverse is_ascii_graphic v (AllPass-from_list_all is_ascii_graphic v is))
 
 -- a visible value is read as it was written
-value_stays : (name v : List ℕ) → list_all is_visible_byte v ≡ true → field_value (written_field name v) ≡ v
+value_stays : (name v : List ℕ) → list_all is_ascii_graphic v ≡ true → field_value (written_field name v) ≡ v
 value_stays name v is = trim_ows_space v (skips_none v is) (skips_none (reverse v) (turned v is))
 
 -- a name that is a token, by its test
@@ -58,10 +54,10 @@ token_is name is =
     (grind (arith, nat_tests, parts.0), AllPass-from_list_all is_token_byte name parts.1)
 
 -- a written field is one of the grammar
-field_is : (name v : List ℕ) → is_token name ≡ true → list_all is_visible_byte v ≡ true → IsField (written_field name v)
+field_is : (name v : List ℕ) → is_token name ≡ true → list_all is_ascii_graphic v ≡ true → IsField (written_field name v)
 field_is name v token is = record {
   name = token_is name token;
-  raw = AllPass-from_list_all is_value_byte (space ∷ v) (weaker is_visible_byte is_value_byte value_byte v is);
+  raw = AllPass-from_list_all is_value_byte (space ∷ v) (weaker is_ascii_graphic is_value_byte value_byte v is);
 }
 
 fields_none : All IsField []
@@ -69,7 +65,7 @@ fields_none k d within = absurd (omega arith)
 
 -- a name and a visible value make a field
 abbrev pub is_fit : List ℕ × List ℕ → Bool
-is_fit pair = is_token pair.0 && list_all is_visible_byte pair.1
+is_fit pair = is_token pair.0 && list_all is_ascii_graphic pair.1
 
 -- fields by their names and values
 abbrev pub fields_of : Fields → List Field
@@ -79,14 +75,14 @@ pub fields_are : (pairs : Fields) → list_all is_fit pairs ≡ true → All IsF
 fields_are [] is = fields_none
 fields_are ((name, value) ∷ pairs) is =
     let parts = and_parts (is_fit (name, value)) (list_all is_fit pairs) is in
-    let both = and_parts (is_token name) (list_all is_visible_byte value) parts.0 in
+    let both = and_parts (is_token name) (list_all is_ascii_graphic value) parts.0 in
     All-cons IsField _ _ (field_is name value both.0 both.1) (fields_are pairs parts.1)
 
 pub values_stay : (pairs : Fields) → list_all is_fit pairs ≡ true → map name_and_value (fields_of pairs) ≡ pairs
 values_stay [] is = refl
 values_stay ((name, value) ∷ pairs) is =
     let parts = and_parts (is_fit (name, value)) (list_all is_fit pairs) is in
-    let both = and_parts (is_token name) (list_all is_visible_byte value) parts.0 in
+    let both = and_parts (is_token name) (list_all is_ascii_graphic value) parts.0 in
     rw (value_stays name value both.1, values_stay pairs parts.1) refl
 
 digit_of_number : (n : ℕ) → n < 10 → is_ascii_digit (48 + n) ≡ true

@@ -6,7 +6,7 @@
 -- 4. What its fields say is the size of the body, so the body is read back (`body_is_read_back`).
 use Rattle.std.proofs.Common.{◌≡◌, ◌≢◌, ℕ, ◌+◌, ◌≤◌, Bool, true, false, List, [], ◌∷◌, ◌++◌, length, refl, ap, ◌∙◌, Some, arith, append_assoc, length-append}
 use Rattle.std.specs.Prelude.{◌||◌, ◌==◌, nat_le, nat_lt, codes, if◌then◌else◌}
-use Rattle.std.specs.Char.{is_ascii_digit}
+use Rattle.std.specs.Char.{is_ascii_digit, is_ascii_graphic}
 use Rattle.std.specs.Fmt.{decimal, digits}
 use Rattle.std.specs.List.{list_all}
 use Rattle.std.proofs.lemmas.Bool.{cond-false, le-ltb}
@@ -18,7 +18,7 @@ use Rattle.ifmap_heads.specs.Answers.{ReadsAnswer, answered, judge_size, judge_s
 use Rattle.ifmap_heads.specs.Fields.{Fields, common_length}
 use Rattle.ifmap_heads.specs.Limits.{longest_answer, longest_head, most_fields}
 use Rattle.ifmap_heads.specs.Messages.{answer_bytes, is_answer_status, phrase}
-use Rattle.ifmap_heads.proofs.Written.{digit_is_visible, digits_are, fields_are, fields_of, is_fit, is_visible_byte, length_told, values_stay, weaker}
+use Rattle.ifmap_heads.proofs.Written.{digit_is_visible, digits_are, fields_are, fields_of, is_fit, length_told, values_stay, weaker}
 
 -- the head of an answer with a phrase and fields
 abbrev head_of : ℕ → List ℕ → List Field → ResponseHead
@@ -148,7 +148,7 @@ head_is_short count false few =
           (codes "\r\n") [],
     )
 
-are_fit : (count : List ℕ) (close : Bool) → list_all is_visible_byte count ≡ true → list_all is_fit
+are_fit : (count : List ℕ) (close : Bool) → list_all is_ascii_graphic count ≡ true → list_all is_fit
     (success count (last_pairs close)) ≡ true
 unfolding is_token_byte
 are_fit count true seen = rw seen refl
@@ -168,7 +168,7 @@ unfolding digits
 body_is_read_back body rest close small =
     let count = decimal (length body) in
     let pairs = success count (last_pairs close) in
-    let seen = weaker is_ascii_digit is_visible_byte digit_is_visible count (digits_are (length body) (omega arith)) in
+    let seen = weaker is_ascii_digit is_ascii_graphic digit_is_visible count (digits_are (length body) (omega arith)) in
     let fit = are_fit count close seen in
     let digits_short : length count ≤ 9 = length-decimal-le 9 (length body) (omega arith) (omega arith) (omega arith) in
     let enough : nat_lt longest_answer (length body) ≡ false = le-ltb longest_answer (length body) small in (

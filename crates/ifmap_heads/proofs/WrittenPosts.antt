@@ -2,7 +2,7 @@
 -- comes after it, its length within the limit, and what the head says.
 use Rattle.std.proofs.Common.{◌≡◌, ℕ, ◌+◌, ◌≤◌, true, false, List, [], ◌∷◌, ◌++◌, length, refl, ap, ◌∙◌, Some, None, arith, append_assoc, append-nil, length-append}
 use Rattle.std.specs.Prelude.{◌&&◌, nat_le, nat_lt, IsUtf8, codes}
-use Rattle.std.specs.Char.{is_ascii_digit}
+use Rattle.std.specs.Char.{is_ascii_digit, is_ascii_graphic}
 use Rattle.std.specs.Fmt.{decimal}
 use Rattle.std.specs.List.{list_all}
 use Rattle.std.proofs.lemmas.Bool.{and_parts, cond-false, cond-true, le-ltb, ltb-true}
@@ -17,7 +17,7 @@ use Rattle.ifmap_heads.specs.Fields.{Fields}
 use Rattle.ifmap_heads.specs.Limits.{longest_head, longest_host, longest_post}
 use Rattle.ifmap_heads.specs.Messages.{post_bytes}
 use Rattle.ifmap_heads.specs.Posts.{ReadsPost, is_client_name, judge_client, judge_length, judge_parts, judge_post, posted, taken}
-use Rattle.ifmap_heads.proofs.Written.{digit_is_visible, digits_are, fields_are, fields_of, is_fit, is_visible_byte, length_told, token_is, values_stay, weaker}
+use Rattle.ifmap_heads.proofs.Written.{digit_is_visible, digits_are, fields_are, fields_of, is_fit, length_told, token_is, values_stay, weaker}
 
 -- the values of the head, by the names of its fields
 abbrev pairs_of : List ℕ → List ℕ → List ℕ → Fields
@@ -69,7 +69,7 @@ head_is_short host client digits a b c =
           (codes "content-type: application/soap+xml\r\n") (codes "content-length: ") digits,
     )
 
-client_byte_is_visible : (b : ℕ) → is_client_byte b ≡ true → is_visible_byte b ≡ true
+client_byte_is_visible : (b : ℕ) → is_client_byte b ≡ true → is_ascii_graphic b ≡ true
 client_byte_is_visible b is = grind (arith, nat_tests)
 
 target_is_text : IsUtf8 (codes "/ifmap")
@@ -77,19 +77,19 @@ target_is_text =
     let all = AllPass-from_list_all (λ b. nat_lt b 128) (codes "/ifmap") refl in
     IsUtf8-from_ascii (codes "/ifmap") (IsAscii-from_all (codes "/ifmap") (λ k d within. ltb-true _ 128 (all k d within)))
 
-module _ (host client body : List ℕ) (seen : list_all is_visible_byte host ≡ true) (name : is_client_name client ≡ true)
+module _ (host client body : List ℕ) (seen : list_all is_ascii_graphic host ≡ true) (name : is_client_name client ≡ true)
     (small : length body ≤ longest_post) where
   abbrev size : List ℕ
   size = decimal (length body)
 
-  digits_seen : list_all is_visible_byte size ≡ true
-  digits_seen = weaker is_ascii_digit is_visible_byte digit_is_visible size (digits_are (length body) (omega arith))
+  digits_seen : list_all is_ascii_graphic size ≡ true
+  digits_seen = weaker is_ascii_digit is_ascii_graphic digit_is_visible size (digits_are (length body) (omega arith))
 
   named : ((nat_le 1 (length client) && nat_le (length client) 40) ≡ true) × (list_all is_client_byte client ≡ true)
   named = and_parts (nat_le 1 (length client) && nat_le (length client) 40) (list_all is_client_byte client) name
 
-  client_seen : list_all is_visible_byte client ≡ true
-  client_seen = weaker is_client_byte is_visible_byte client_byte_is_visible client named.1
+  client_seen : list_all is_ascii_graphic client ≡ true
+  client_seen = weaker is_client_byte is_ascii_graphic client_byte_is_visible client named.1
 
   fit : list_all is_fit (pairs_of host client size) ≡ true
   unfolding is_token_byte

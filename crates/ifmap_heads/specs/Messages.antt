@@ -1,5 +1,6 @@
 -- The answers and posts that are written: RFC 9112, sections 3, 4 and 6.
-use Rattle.std.specs.Prelude.{ℕ, ◌==◌, ◌||◌, nat_lt, ◌&&◌, Bool, not, List, [], ◌++◌, length, codes, if◌then◌else◌}
+use Rattle.std.specs.Prelude.{ℕ, ◌==◌, ◌||◌, Bool, not, List, [], ◌++◌, length, codes, if◌then◌else◌}
+use Rattle.std.specs.Char.{is_ascii_graphic}
 use Rattle.std.specs.Fmt.{decimal}
 use Rattle.std.specs.List.{list_all}
 
@@ -54,7 +55,7 @@ answer_bytes status body close =
 
 -- visible ASCII characters
 abbrev pub is_visible : List ℕ → Bool
-is_visible text = list_all (λ b. nat_lt 32 b && nat_lt b 127) text
+is_visible text = list_all is_ascii_graphic text
 
 -- a post: its head and its body
 abbrev pub post_bytes : List ℕ → List ℕ → List ℕ → List ℕ

@@ -1,5 +1,5 @@
 //! What the words of the program ask for.
-ghost use Rattle.std.specs.Prelude.{◌≡◌, ◌&&◌, ℕ, List, true, IfNone, IfOk, IfSome, map, nat_lt, string_bytes};
+ghost use Rattle.std.specs.Prelude.{◌≡◌, ℕ, List, true, IfNone, IfOk, IfSome, map, string_bytes};
 ghost use Rattle.ifmap_http.specs.ifmap_heads.Messages.{is_visible};
 ghost use Rattle.mapc.specs.Calls.{AreHostAndClient, IsAskable, AreAddressAndName};
 
@@ -50,11 +50,5 @@ fn call_in(alloc: Global, address: &str, name: &str) -> Result<Option<Call>, NoM
 fn is_visible(text: &str) -> bool
     ensures { result ≡ is_visible text.now }
 {
-    text.as_bytes().iter().all(|b| is_visible_byte(*b))
-}
-
-fn is_visible_byte(byte: u8) -> bool
-    ensures { result ≡ (nat_lt 32 byte && nat_lt byte 127) }
-{
-    32 < byte && byte < 127
+    text.as_bytes().iter().all(|b| b.is_ascii_graphic())
 }
