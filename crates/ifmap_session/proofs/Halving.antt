@@ -7,11 +7,12 @@ use Rattle.std.proofs.lemmas.List.Sorted.{searchable_from_sorted}
 use Rattle.std.specs.Cmp.{IsTotalOrder}
 use Rattle.std.specs.List.{All, AllByRecursion, filter, find, insert, remove}
 use Rattle.std.specs.List.Sorted.{IsStrictlySortedBy, IsSortedBy, IsPartitionPoint, IsBinarySearchResult, IsSearchInRange}
-use Rattle.std.specs.Ordering.{is_eq, is_lt, on, ordering_reverse}
+use Rattle.std.specs.Ordering.{is_eq, is_lt, on}
 use Rattle.std.specs.declared.cmp.Ordering.TheVariants.{Less, Equal, Greater}
 use Rattle.ifmap_session.specs.Places.{IsPlaceOf}
 use Rattle.ifmap_session.specs.laws.TextLaws.{find_none}
 use Rattle.ifmap_lemmas.specs.Filters.{all_at, all_weaker, filter_all}
+use Rattle.ifmap_lemmas.specs.Orderings.{greater_turned, less_turned}
 
 pub all_insert : {X : Type 0} (P : X → Type 0) (xs : List X) (i : ℕ) (y : X) → AllByRecursion P xs → P y → AllByRecursion P (insert xs i y)
 all_insert P [] zero y h k = (k, tt)
@@ -36,12 +37,6 @@ find_insert q (x ∷ xs) (suc i) y h =
 
 module _ (X K : Type 0) (key : X → K) (C : K → K → Ordering) (o : IsTotalOrder C) (E : K → K → Bool) (same : (x y : K)
     → E x y ≡ is_eq (C x y)) where
-  flipped : (a b : K) → C a b ≡ Less → C b a ≡ Greater
-  flipped a b e = o.antisymm b a ∙ ap ordering_reverse e
-
-  flipped_back : (a b : K) → C a b ≡ Greater → C b a ≡ Less
-  flipped_back a b e = o.antisymm b a ∙ ap ordering_reverse e
-
   differs : (a b : K) → C a b ≡ Less → E a b ≡ false
   differs a b e = same a b ∙ ap is_eq e
 
@@ -53,7 +48,7 @@ module _ (X K : Type 0) (key : X → K) (C : K → K → Ordering) (o : IsTotalO
       (λ z. E (key z) k ≡ false) xs
   later_differ x xs k e =
       all_weaker (λ z. on key C x z ≡ Less) (λ z. E (key z) k ≡ false)
-      (λ z l. differs_back (key z) k (flipped k (key z) (sym (o.congr (key x) k (key z) e) ∙ l))) xs
+      (λ z l. differs_back (key z) k (less_turned o k (key z) (sym (o.congr (key x) k (key z) e) ∙ l))) xs
 
   -- one before it is not
   earlier_differs : (x z : X) (k : K) → C (key z) k ≡ Equal → C (key x) (key z) ≡ Less → E (key x) k ≡ false
@@ -96,7 +91,7 @@ module _ (X K : Type 0) (key : X → K) (C : K → K → Ordering) (o : IsTotalO
       → is_lt (C (key (get_or xs (suc j) d)) (key (get_or xs j d))) ≡ false
   unfolding IsStrictlySortedBy
   rises_next [] up j d lt = absurd (omega arith)
-  rises_next (x ∷ xs) up zero d lt = ap is_lt (flipped (key x) (key (get_or xs 0 d)) (all_at
+  rises_next (x ∷ xs) up zero d lt = ap is_lt (less_turned o (key x) (key (get_or xs 0 d)) (all_at
       (λ z. on key C x z ≡ Less) xs 0 d up.0 (omega arith)))
   rises_next (x ∷ xs) up (suc j) d lt = rises_next xs up.1 j d (omega arith)
 
@@ -117,7 +112,7 @@ module _ (X K : Type 0) (key : X → K) (C : K → K → Ordering) (o : IsTotalO
   inserted [] (suc i) y up le p = (tt, tt)
   inserted (x ∷ xs) zero y up le p = (
     recursion_from_All (λ z. on key C y z ≡ Less) (x ∷ xs) (λ j d h.
-        flipped_back (key (get_or (x ∷ xs) j d)) (key y) (p.1 j d (omega arith) h)),
+        greater_turned o (key (get_or (x ∷ xs) j d)) (key y) (p.1 j d (omega arith) h)),
     up,
   )
   inserted (x ∷ xs) (suc i) y up le p = (
