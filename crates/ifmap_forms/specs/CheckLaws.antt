@@ -1,9 +1,11 @@
 -- Checks find one thing: what is composed of checks that find one thing at most does so too, and what is composed of checks that find
 -- something finds something. So it is enough to know it of the smallest ones.
-use Rattle.std.specs.Prelude.{◌≡◌, Bool, true, false, Option, None, Some, Result, Ok, Err, refl}
+use Rattle.std.specs.Prelude.{◌≡◌, ℕ, ◌^◌, nat_lt, Bool, true, false, List, Option, None, Some, Result, Ok, Err, refl}
 use Rattle.std.proofs.Common.{◌∙◌, inl, inr, subst, sym}
 use Rattle.ifmap_ident.specs.declared.codes.Code.{Code}
+use Rattle.ifmap_ident.specs.declared.codes.Code.TheVariants.{Failure}
 use Rattle.ifmap_forms.specs.Checks.{Check, IsConclusive, IsSingle, check_if, check_then, fail, need, need_some, pass}
+use Rattle.ifmap_forms.specs.Values.{number_of, word_check}
 
 module _ {X : Type 0} where
   abbrev ok_value : X → Result X Code
@@ -92,3 +94,15 @@ module _ {X Y : Type 0} (first : Check X) (second : X → Check Y) where
     -- it is enough that the second finds something of each value that the first finds
     pub then_done : IsConclusive first → IsConclusive (check_then first second)
     then_done s = after_first s.0 s.1
+
+-- ---- numbers below 2^32
+
+pub word_check_single : (text : List ℕ) → IsSingle (word_check text)
+word_check_single text =
+    some_single Failure (number_of text) (λ n. need (nat_lt n (2 ^ 32)) Failure (pass n))
+    (λ n. need_single (nat_lt n (2 ^ 32)) Failure (pass n) (pass_single n))
+
+pub word_check_done : (text : List ℕ) → IsConclusive (word_check text)
+word_check_done text =
+    some_done Failure (number_of text) (λ n. need (nat_lt n (2 ^ 32)) Failure (pass n))
+    (λ n. need_done (nat_lt n (2 ^ 32)) Failure (pass n) (pass_done n))

@@ -65,10 +65,14 @@ read_limit (Some text) = need_some Failure (number_of text) (λ n. pass (Some (w
 abbrev pub limit_field : Field (Option ℕ)
 limit_field = record { local = codes "max-poll-result-size"; reads = λ scope. read_limit }
 
+-- a number below 2^32
+abbrev pub word_check : List ℕ → Check ℕ
+word_check text = need_some Failure (number_of text) (λ n. need (nat_lt n (2 ^ 32)) Failure (pass n))
+
 -- the most links of a walk: below 2^32, and 0 where it is not said
 abbrev pub read_depth : Option (List ℕ) → Check ℕ
 read_depth None = pass 0
-read_depth (Some text) = need_some Failure (number_of text) (λ n. need (nat_lt n (2 ^ 32)) Failure (pass n))
+read_depth (Some text) = word_check text
 
 abbrev pub depth_field : Field ℕ
 depth_field = record { local = codes "max-depth"; reads = λ scope. read_depth }

@@ -7,7 +7,7 @@ ghost use Rattle.ifmap_ident.specs.declared.codes.Code.TheVariants.{Failure};
 ghost use Rattle.ifmap_forms.specs.Answers.{IsChecked};
 ghost use Rattle.ifmap_forms.specs.Checks.{need, pass};
 ghost use Rattle.ifmap_forms.specs.Scopes.{place_scope};
-ghost use Rattle.ifmap_forms.specs.Values.{depth_field, filter_check, kinds_field, lifetime_field, limit_field, name_field, read_depth, read_filter, read_kinds, read_lifetime, read_limit, read_name, read_size, read_text, size_field};
+ghost use Rattle.ifmap_forms.specs.Values.{depth_field, filter_check, kinds_field, lifetime_field, limit_field, name_field, read_depth, read_filter, read_kinds, read_lifetime, read_limit, read_name, read_size, read_text, size_field, word_check};
 
 use crate::errors::FormError;
 use crate::kinds::kinds_in;
@@ -71,21 +71,30 @@ pub fn read_depth(element: &Element) -> Result<u32, FormError>
     ensures answer { IsChecked (read_depth (value_of depth_field.local element.now)) result }
     ensures definite { IfErr result (λ error. error ≢ FormError.NoMemory) }
 {
-    let Some(text) = value_of(element, "max-depth") else {
-        return Ok(0);
-    };
-    match number_of(text.as_str()) {
-        Some(number) => depth_of(number),
+    match value_of(element, "max-depth") {
+        Some(text) => word_of(text.as_str()),
+        None => Ok(0),
+    }
+}
+
+/// The number below 2^32 that a text writes. A text that is not one ASCII digit or more is Failure,
+/// and so is a number of 2^32 or more.
+pub fn word_of(text: &str) -> Result<u32, FormError>
+    ensures answer { IsChecked (word_check text.now) result }
+    ensures definite { IfErr result (λ error. error ≢ FormError.NoMemory) }
+{
+    match number_of(text) {
+        Some(number) => narrow_number(number),
         None => Err(FormError::Named(Code::Failure)),
     }
 }
 
-fn depth_of(number: u64) -> Result<u32, FormError>
+fn narrow_number(number: u64) -> Result<u32, FormError>
     ensures answer { IsChecked (need (nat_lt number (2 ^ 32)) Failure (pass number)) result }
     ensures definite { IfErr result (λ error. error ≢ FormError.NoMemory) }
 {
     match u32::try_from(number) {
-        Ok(depth) => Ok(depth),
+        Ok(word) => Ok(word),
         Err(_) => Err(FormError::Named(Code::Failure)),
     }
 }

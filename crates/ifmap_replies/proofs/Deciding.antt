@@ -2,8 +2,7 @@
 -- Plan: (1) identifiers; (2) tables of attributes, children and forms: where each of their parts finds a value or a defect, so
 -- does the whole; (3) values of attributes; (4) results and responses, part by part; (5) envelopes, and so bodies
 -- (`reply_or_none`).
-use Rattle.std.proofs.Common.{◌≢◌, ◌⊎◌, ◌+◌, ◌^◌, ◌++◌, ℕ, List, [], ◌∷◌, Option, None, Some, Result, Ok, Err, codes, inl, inr, refl}
-use Rattle.std.specs.Prelude.{nat_lt}
+use Rattle.std.proofs.Common.{◌≢◌, ◌⊎◌, ◌+◌, ◌++◌, ℕ, List, [], ◌∷◌, Option, None, Some, Result, Ok, Err, codes, inl, inr, refl}
 use Rattle.std.specs.List.{list_all}
 use Rattle.ifmap_elem.specs.Arranged.{arrange}
 use Rattle.ifmap_elem.specs.Building.{is_bare}
@@ -21,13 +20,13 @@ use Rattle.ifmap_ident.specs.Canon.{IsAnswer}
 use Rattle.ifmap_ident.specs.Laws.{HasAnswer}
 use Rattle.ifmap_ident.specs.Parts.{has_only, value_of}
 use Rattle.ifmap_ident.specs.ifmap_reader.declared.scoping.Scope.{Scope}
-use Rattle.ifmap_forms.specs.CheckLaws.{fail_done, need_done, pass_done, some_done, then_done}
+use Rattle.ifmap_forms.specs.CheckLaws.{fail_done, need_done, pass_done, some_done, then_done, word_check_done}
 use Rattle.ifmap_forms.specs.Checks.{Check, IsConclusive, check_then, need, need_some, pass}
 use Rattle.ifmap_forms.specs.Items.{before_list, from_list, identifier_check, identifiers_check, item_of, list_if_there, list_check, may_follow}
 use Rattle.ifmap_forms.specs.Scopes.{Scopes}
 use Rattle.ifmap_forms.specs.Tables.{ContentCheck, Form, Part, AttributeTable, beside, both, each_element, form_check, is_white_part, no_attributes}
 use Rattle.ifmap_forms.specs.Tables.{members_check, no_children, element_parts, read_form}
-use Rattle.ifmap_forms.specs.Values.{Field, field_check, number_of, read_text, text_field}
+use Rattle.ifmap_forms.specs.Values.{Field, field_check, read_text, text_field}
 use Rattle.ifmap_replies.specs.declared.kinds.PollKind.{PollKind}
 use Rattle.ifmap_replies.specs.declared.kinds.PollKind.TheVariants as told
 use Rattle.ifmap_replies.specs.declared.kinds.ResultKind.{ResultKind}
@@ -149,9 +148,7 @@ text_done scope (Some text) = pass_done text
 
 word_done : (scope : Scope) (text : Option (List ℕ)) → IsConclusive (read_word text)
 word_done scope None = fail_done Failure
-word_done scope (Some text) =
-    some_done Failure (number_of text) (λ n. need (nat_lt n (2 ^ 32)) Failure (pass n))
-    (λ n. need_done (nat_lt n (2 ^ 32)) Failure (pass n) (pass_done n))
+word_done scope (Some text) = word_check_done text
 
 code_done : (scope : Scope) (text : Option (List ℕ)) → IsConclusive (read_code text)
 code_done scope None = fail_done Failure

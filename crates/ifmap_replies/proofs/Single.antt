@@ -2,8 +2,7 @@
 -- 1. Each attribute.
 -- 2. Results and responses, over what they are made of.
 -- 3. Elements and bodies.
-use Rattle.std.proofs.Common.{◌≡◌, ◌^◌, ℕ, List, [], Option, None, Some, Result, Ok, Err, codes, subst, sym}
-use Rattle.std.specs.Prelude.{nat_lt}
+use Rattle.std.proofs.Common.{◌≡◌, ℕ, List, [], Option, None, Some, Result, Ok, Err, codes, subst, sym}
 use Rattle.std.specs.List.{list_all}
 use Rattle.ifmap_elem.specs.Arranged.{arrange}
 use Rattle.ifmap_elem.specs.Building.{is_bare}
@@ -16,13 +15,13 @@ use Rattle.ifmap_ident.specs.declared.codes.Code.{Code}
 use Rattle.ifmap_ident.specs.declared.codes.Code.TheVariants.{Failure}
 use Rattle.ifmap_ident.specs.Parts.{has_only}
 use Rattle.ifmap_ident.specs.ifmap_reader.declared.scoping.Scope.{Scope}
-use Rattle.ifmap_forms.specs.CheckLaws.{fail_single, need_single, pass_single, some_single, then_single}
+use Rattle.ifmap_forms.specs.CheckLaws.{fail_single, need_single, pass_single, some_single, then_single, word_check_single}
 use Rattle.ifmap_forms.specs.Checks.{Check, IsSingle, check_then, need, need_some, pass}
 use Rattle.ifmap_forms.specs.Items.{before_list, from_list, identifier_check, identifiers_check, item_of, list_if_there}
 use Rattle.ifmap_forms.specs.SingleLaws.{beside_single, made_single, each_single, read_text_single, list_at_single, no_attributes_single}
 use Rattle.ifmap_forms.specs.SingleLaws.{no_children_single, identifiers_single}
 use Rattle.ifmap_forms.specs.Tables.{Part, beside, form_check, members_check, no_attributes, element_parts}
-use Rattle.ifmap_forms.specs.Values.{number_of, text_field}
+use Rattle.ifmap_forms.specs.Values.{text_field}
 use Rattle.ifmap_replies.specs.declared.kinds.PollKind.{PollKind}
 use Rattle.ifmap_replies.specs.declared.kinds.PollKind.TheVariants as told
 use Rattle.ifmap_replies.specs.declared.kinds.ResultKind.{ResultKind}
@@ -45,9 +44,7 @@ use Rattle.ifmap_replies.specs.Runs.{entries_in_runs, run_on}
 
 read_word_single : (scope : Scope) (text : Option (List ℕ)) → IsSingle (read_word text)
 read_word_single scope None = fail_single Failure
-read_word_single scope (Some text) =
-    some_single Failure (number_of text) (λ n. need (nat_lt n (2 ^ 32)) Failure (pass n))
-    (λ n. need_single (nat_lt n (2 ^ 32)) Failure (pass n) (pass_single n))
+read_word_single scope (Some text) = word_check_single text
 
 read_code_single : (scope : Scope) (text : Option (List ℕ)) → IsSingle (read_code text)
 read_code_single scope None = fail_single Failure

@@ -1,5 +1,5 @@
 -- What the values of attributes of results mean: IF-MAP binding for SOAP, version 2.2, section 3.
-use Rattle.std.specs.Prelude.{ℕ, ◌^◌, nat_lt, List, [], ◌∷◌, codes, Option, None, Some}
+use Rattle.std.specs.Prelude.{ℕ, List, [], ◌∷◌, codes, Option, None, Some}
 use Rattle.std.specs.List.{find}
 use Rattle.std.specs.Str.{bytes_eq}
 use Rattle.ifmap_ident.specs.declared.codes.Code.{Code}
@@ -7,13 +7,13 @@ use Rattle.ifmap_ident.specs.declared.codes.Code.TheVariants.{AccessDenied, Fail
 use Rattle.ifmap_ident.specs.declared.codes.Code.TheVariants.{IdentifierTooLong, InvalidMetadata, InvalidSchemaVersion, InvalidSessionID}
 use Rattle.ifmap_ident.specs.declared.codes.Code.TheVariants.{MetadataTooLong, SearchResultsTooBig, PollResultsTooBig, SystemError}
 use Rattle.ifmap_ident.specs.Codes.{code_name}
-use Rattle.ifmap_forms.specs.Checks.{Check, fail, need, need_some, pass}
-use Rattle.ifmap_forms.specs.Values.{Field, number_of}
+use Rattle.ifmap_forms.specs.Checks.{Check, fail, need_some, pass}
+use Rattle.ifmap_forms.specs.Values.{Field, word_check}
 
 -- a number below 2^32, which must be there
 abbrev pub read_word : Option (List ℕ) → Check ℕ
 read_word None = fail Failure
-read_word (Some text) = need_some Failure (number_of text) (λ n. need (nat_lt n (2 ^ 32)) Failure (pass n))
+read_word (Some text) = word_check text
 
 abbrev pub word_field : List ℕ → Field ℕ
 word_field local = record { local = local; reads = λ scope. read_word }

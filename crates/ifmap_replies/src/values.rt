@@ -1,14 +1,13 @@
 //! Readers of attributes of results. Attributes are in no namespace.
-ghost use Rattle.std.specs.Prelude.{◌≡◌, ◌^◌, nat_lt};
+ghost use Rattle.std.specs.Prelude.{◌≡◌};
 ghost use Rattle.ifmap_ident.specs.Parts.{value_of};
 ghost use Rattle.ifmap_ident.specs.declared.codes.Code.TheVariants.{Failure};
 ghost use Rattle.ifmap_forms.specs.Answers.{IsChecked};
-ghost use Rattle.ifmap_forms.specs.Checks.{need, pass};
 ghost use Rattle.ifmap_replies.specs.Fields.{code_field, code_of, read_code, read_optional, read_word};
 
 use ifmap_elem::{Copied, Element, Text};
 use ifmap_forms::FormError;
-use ifmap_forms::numbers::number_of;
+use ifmap_forms::values::word_of;
 use ifmap_ident::{Code, value_of};
 use std::alloc::Global;
 
@@ -16,21 +15,9 @@ use std::alloc::Global;
 pub(crate) fn read_word(element: &Element, local: &str) -> Result<u32, FormError>
     ensures { IsChecked (read_word (value_of local.now element.now)) result }
 {
-    let Some(text) = value_of(element, local) else {
-        return Err(FormError::Named(Code::Failure));
-    };
-    match number_of(text.as_str()) {
-        Some(number) => word_of(number),
+    match value_of(element, local) {
+        Some(text) => word_of(text.as_str()),
         None => Err(FormError::Named(Code::Failure)),
-    }
-}
-
-fn word_of(number: u64) -> Result<u32, FormError>
-    ensures { IsChecked (need (nat_lt number (2 ^ 32)) Failure (pass number)) result }
-{
-    match u32::try_from(number) {
-        Ok(word) => Ok(word),
-        Err(_) => Err(FormError::Named(Code::Failure)),
     }
 }
 

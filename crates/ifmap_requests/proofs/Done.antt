@@ -5,9 +5,9 @@
 -- 4. Metadata: the cardinality and the size are computed.
 -- 5. Identifiers and lists as children.
 -- 6. Operations and requests: each is one more form in a chain.
-use Rattle.std.proofs.Common.{◌≡◌, ◌⊎◌, ◌<◌, ◌≤◌, ◌+◌, ◌^◌, ◌++◌, ℕ, true, false, List, [], ◌∷◌, Option, None, Some, IfSome, Result, Ok}
+use Rattle.std.proofs.Common.{◌≡◌, ◌⊎◌, ◌<◌, ◌≤◌, ◌+◌, ◌++◌, ℕ, true, false, List, [], ◌∷◌, Option, None, Some, IfSome, Result, Ok}
 use Rattle.std.proofs.Common.{Err, codes, length, min, inl, inr, refl, arith}
-use Rattle.std.specs.Prelude.{◌&&◌, nat_le, nat_lt}
+use Rattle.std.specs.Prelude.{◌&&◌, nat_le}
 use Rattle.std.specs.List.{list_all}
 use Rattle.std.specs.Str.{bytes_eq}
 use Rattle.std.proofs.lemmas.Bool.{cases_lt}
@@ -35,7 +35,7 @@ use Rattle.ifmap_meta.specs.Cardinality.{cardinality_of}
 use Rattle.ifmap_meta.specs.Keys.{content_bytes}
 use Rattle.ifmap_meta.specs.Stamps.{content_of}
 use Rattle.ifmap_meta.specs.Whole.{content_limit}
-use Rattle.ifmap_forms.specs.CheckLaws.{fail_done, if_done, need_done, pass_done, some_done, then_done}
+use Rattle.ifmap_forms.specs.CheckLaws.{fail_done, if_done, need_done, pass_done, some_done, then_done, word_check_done}
 use Rattle.ifmap_forms.specs.Checks.{Check, IsConclusive, check_if, check_then, fail, need, need_some, pass}
 use Rattle.ifmap_forms.specs.Items.{before_list, from_list, identifier_check, identifiers_check, item_content, item_of, list_if_there, list_check}
 use Rattle.ifmap_forms.specs.Items.{may_follow, only_identifier, start_content}
@@ -45,7 +45,6 @@ use Rattle.ifmap_forms.specs.Tables.{no_children, element_parts, read_form}
 use Rattle.ifmap_forms.specs.Values.{Field, depth_field, field_check, filter_check, filter_field, kind_named, kinds_check, kinds_field}
 use Rattle.ifmap_forms.specs.Values.{lifetime_field, limit_field, name_field, number_of, piece_check, pieces_of, size_field, text_field}
 use Rattle.ifmap_forms.specs.Values.{trim_white, within_range}
-use Rattle.ifmap_requests.specs.declared.requests.Request.{Request}
 use Rattle.ifmap_requests.specs.Published.{metadata_check, published_content, published_from}
 use Rattle.ifmap_envelopes.specs.Spaces.{ifmap_space}
 use Rattle.ifmap_requests.specs.RequestForms.{after_depth, after_links, after_size, links_field, result_field}
@@ -151,9 +150,7 @@ limit_done scope (Some text) is =
 
 depth_done : FieldDone depth_field
 depth_done scope None is = pass_done 0
-depth_done scope (Some text) is =
-    some_done Failure (number_of text) (λ n. need (nat_lt n (2 ^ 32)) Failure (pass n))
-    (λ n. need_done (nat_lt n (2 ^ 32)) Failure (pass n) (pass_done n))
+depth_done scope (Some text) is = word_check_done text
 
 size_done : FieldDone size_field
 size_done scope None is = pass_done 100_000

@@ -3,9 +3,9 @@
 -- 2. Metadata, by their definition.
 -- 3. What is published, over what it is made of.
 -- 4. Operations and requests: each is one more form in a chain.
-use Rattle.std.proofs.Common.{◌≡◌, ◌⊎◌, ◌∙◌, ◌^◌, ℕ, true, false, List, [], ◌∷◌, Option, None, Some, Result, Ok, Err, codes, length, min}
+use Rattle.std.proofs.Common.{◌≡◌, ◌⊎◌, ◌∙◌, ℕ, true, false, List, [], ◌∷◌, Option, None, Some, Result, Ok, Err, codes, length, min}
 use Rattle.std.proofs.Common.{inl, inr, refl, ap, arith, subst, sym}
-use Rattle.std.specs.Prelude.{IsSome, ◌&&◌, nat_le, nat_lt}
+use Rattle.std.specs.Prelude.{IsSome, ◌&&◌, nat_le}
 use Rattle.std.specs.List.{list_all}
 use Rattle.std.specs.Str.{bytes_eq}
 use Rattle.ifmap_elem.specs.Chars.{is_white}
@@ -22,8 +22,8 @@ use Rattle.ifmap_meta.specs.declared.metadata.Cardinality.{Cardinality}
 use Rattle.ifmap_meta.specs.declared.metadata.Metadata.{Metadata}
 use Rattle.ifmap_meta.specs.Cardinality.{cardinality_of}
 use Rattle.ifmap_meta.specs.Whole.{IsMadeOf}
-use Rattle.ifmap_forms.specs.CheckLaws.{fail_single, if_single, need_single, pass_single, some_single, then_single}
-use Rattle.ifmap_forms.specs.Checks.{Check, IsSingle, check_if, check_then, fail, need, need_some, pass}
+use Rattle.ifmap_forms.specs.CheckLaws.{fail_single, if_single, need_single, pass_single, some_single, then_single, word_check_single}
+use Rattle.ifmap_forms.specs.Checks.{IsSingle, check_if, check_then, fail, need_some, pass}
 use Rattle.ifmap_forms.specs.Items.{before_list, from_list, identifier_check, identifiers_check, item_of, list_if_there}
 use Rattle.ifmap_forms.specs.Scopes.{Scopes, scopes_below}
 use Rattle.ifmap_forms.specs.SingleLaws.{OneOfTable, OneOfContent, beside_single, or_single, each_single, read_text_single, list_at_single}
@@ -32,7 +32,6 @@ use Rattle.ifmap_forms.specs.Tables.{beside, both, form_or, list_of, no_attribut
 use Rattle.ifmap_forms.specs.Values.{FilterDefect, depth_field, filter_check, filter_field, kinds_field, lifetime_field, limit_field}
 use Rattle.ifmap_forms.specs.Values.{name_field, size_field, kind_named, kinds_check, number_of, piece_check, pieces_of, read_depth}
 use Rattle.ifmap_forms.specs.Values.{read_filter, read_kinds, read_lifetime, read_limit, read_name, read_size, trim_white, within_range}
-use Rattle.ifmap_requests.specs.declared.requests.Request.{Request}
 use Rattle.ifmap_requests.specs.Published.{MetadataDefect, metadata_check, published_content, published_from}
 use Rattle.ifmap_envelopes.specs.Spaces.{ifmap_space}
 use Rattle.ifmap_requests.specs.RequestForms.{after_depth, after_links, after_size, links_field, result_field}
@@ -65,9 +64,7 @@ read_limit_single scope (Some text) =
 
 read_depth_single : (scope : Scope) (text : Option (List ℕ)) → IsSingle (read_depth text)
 read_depth_single scope None = pass_single 0
-read_depth_single scope (Some text) =
-    some_single Failure (number_of text) (λ n. need (nat_lt n (2 ^ 32)) Failure (pass n))
-    (λ n. need_single (nat_lt n (2 ^ 32)) Failure (pass n) (pass_single n))
+read_depth_single scope (Some text) = word_check_single text
 
 read_size_single : (scope : Scope) (text : Option (List ℕ)) → IsSingle (read_size text)
 read_size_single scope None = pass_single 100_000
