@@ -36,10 +36,14 @@ read_text (Some text) = pass text
 abbrev pub text_field : List ℕ → Field (List ℕ)
 text_field local = record { local = local; reads = λ scope. read_text }
 
--- a text of 1 to 1,000 bytes, which must be there
+-- the most bytes of the name of a subscription
+abbrev pub longest_name : ℕ
+longest_name = 1_000
+
+-- a text of one byte to so many, which must be there
 abbrev pub read_name : Option (List ℕ) → Check (List ℕ)
 read_name None = fail Failure
-read_name (Some text) = need (nat_le 1 (length text) && nat_le (length text) 1000) Failure (pass text)
+read_name (Some text) = need (nat_le 1 (length text) && nat_le (length text) longest_name) Failure (pass text)
 
 abbrev pub name_field : Field (List ℕ)
 name_field = record { local = codes "name"; reads = λ scope. read_name }
@@ -57,10 +61,17 @@ number_of text = if is_number text then Some (digits_value 10 text) else None
 abbrev pub within_range : ℕ → ℕ → ℕ → ℕ
 within_range low high n = max low (min n high)
 
--- how large a poll's result may be: from 10,000 to 5,000,000, where it is said
+-- the range of how large a poll's result may be
+abbrev pub least_limit : ℕ
+least_limit = 10_000
+
+abbrev pub greatest_limit : ℕ
+greatest_limit = 5_000_000
+
+-- how large a poll's result may be, put into this range, where it is said
 abbrev pub read_limit : Option (List ℕ) → Check (Option ℕ)
 read_limit None = pass None
-read_limit (Some text) = need_some Failure (number_of text) (λ n. pass (Some (within_range 10_000 5_000_000 n)))
+read_limit (Some text) = need_some Failure (number_of text) (λ n. pass (Some (within_range least_limit greatest_limit n)))
 
 abbrev pub limit_field : Field (Option ℕ)
 limit_field = record { local = codes "max-poll-result-size"; reads = λ scope. read_limit }
@@ -77,10 +88,17 @@ read_depth (Some text) = word_check text
 abbrev pub depth_field : Field ℕ
 depth_field = record { local = codes "max-depth"; reads = λ scope. read_depth }
 
--- the greatest size of a result: at most 50,000,000, and 100,000 where it is not said
+-- how large the result of a search may be where it is not said, and at most
+abbrev pub usual_size : ℕ
+usual_size = 100_000
+
+abbrev pub greatest_size : ℕ
+greatest_size = 50_000_000
+
+-- how large the result of a search may be
 abbrev pub read_size : Option (List ℕ) → Check ℕ
-read_size None = pass 100_000
-read_size (Some text) = need_some Failure (number_of text) (λ n. pass (min n 50_000_000))
+read_size None = pass usual_size
+read_size (Some text) = need_some Failure (number_of text) (λ n. pass (min n greatest_size))
 
 abbrev pub size_field : Field ℕ
 size_field = record { local = codes "max-size"; reads = λ scope. read_size }

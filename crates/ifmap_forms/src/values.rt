@@ -7,7 +7,7 @@ ghost use Rattle.ifmap_ident.specs.declared.codes.Code.TheVariants.{Failure};
 ghost use Rattle.ifmap_forms.specs.Answers.{IsChecked};
 ghost use Rattle.ifmap_forms.specs.Checks.{need, pass};
 ghost use Rattle.ifmap_forms.specs.Scopes.{place_scope};
-ghost use Rattle.ifmap_forms.specs.Values.{depth_field, filter_check, kinds_field, lifetime_field, limit_field, name_field, read_depth, read_filter, read_kinds, read_lifetime, read_limit, read_name, read_size, read_text, size_field, word_check};
+ghost use Rattle.ifmap_forms.specs.Values.{depth_field, filter_check, kinds_field, lifetime_field, limit_field, longest_name, name_field, read_depth, read_filter, read_kinds, read_lifetime, read_limit, read_name, read_size, read_text, size_field, word_check};
 
 use crate::errors::FormError;
 use crate::kinds::kinds_in;
@@ -18,6 +18,19 @@ use ifmap_filter::laws::text_is_filter_or_stops;
 use ifmap_filter::{Filter, FilterError, Prefixes};
 use ifmap_ident::{Code, Kind, value_of};
 use std::alloc::Global;
+
+// The most bytes of the name of a subscription.
+const LONGEST_NAME: usize = 1_000;
+
+// The range of how many bytes a poll's result may have.
+const LEAST_LIMIT: u64 = 10_000;
+
+const GREATEST_LIMIT: u64 = 5_000_000;
+
+// How many bytes the result of a search may have where it is not said, and at most.
+const USUAL_SIZE: u64 = 100_000;
+
+const GREATEST_SIZE: u64 = 50_000_000;
 
 /// The text of the attribute of this name, whatever it is; Failure where there is none.
 pub fn read_text(alloc: Global, element: &Element, local: &str) -> Result<Text, FormError>
@@ -44,9 +57,9 @@ pub fn read_name(alloc: Global, element: &Element) -> Result<Text, FormError>
 }
 
 fn is_name_length(length: usize) -> bool
-    ensures { result ≡ (nat_le 1 length && nat_le length 1000) }
+    ensures { result ≡ (nat_le 1 length && nat_le length longest_name) }
 {
-    1 <= length && length <= 1000
+    1 <= length && length <= LONGEST_NAME
 }
 
 /// How many bytes a poll's result may have: the attribute `max-poll-result-size`, put into the
@@ -60,7 +73,7 @@ pub fn read_limit(element: &Element) -> Result<Option<u32>, FormError>
         return Ok(None);
     };
     match number_of(text.as_str()) {
-        Some(number) => Ok(Some(number.clamp(10_000, 5_000_000) as u32)),
+        Some(number) => Ok(Some(number.clamp(LEAST_LIMIT, GREATEST_LIMIT) as u32)),
         None => Err(FormError::Named(Code::Failure)),
     }
 }
@@ -107,10 +120,10 @@ pub fn read_size(element: &Element) -> Result<u64, FormError>
     ensures definite { IfErr result (λ error. error ≢ FormError.NoMemory) }
 {
     let Some(text) = value_of(element, "max-size") else {
-        return Ok(100_000);
+        return Ok(USUAL_SIZE);
     };
     match number_of(text.as_str()) {
-        Some(number) => Ok(number.min(50_000_000)),
+        Some(number) => Ok(number.min(GREATEST_SIZE)),
         None => Err(FormError::Named(Code::Failure)),
     }
 }

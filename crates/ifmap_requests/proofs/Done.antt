@@ -42,6 +42,7 @@ use Rattle.ifmap_forms.specs.Items.{may_follow, only_identifier, start_content}
 use Rattle.ifmap_forms.specs.Scopes.{Scopes, scopes_below}
 use Rattle.ifmap_forms.specs.Tables.{ContentCheck, Form, Part, AttributeTable, beside, both, each_element, form_or, is_white_part, list_of, no_attributes}
 use Rattle.ifmap_forms.specs.Tables.{no_children, element_parts, read_form}
+use Rattle.ifmap_forms.specs.Values.{greatest_limit, greatest_size, least_limit, longest_name, usual_size}
 use Rattle.ifmap_forms.specs.Values.{Field, depth_field, field_check, filter_check, filter_field, kind_named, kinds_check, kinds_field}
 use Rattle.ifmap_forms.specs.Values.{lifetime_field, limit_field, name_field, number_of, piece_check, pieces_of, size_field, text_field}
 use Rattle.ifmap_forms.specs.Values.{trim_white, within_range}
@@ -140,22 +141,22 @@ text_done local scope (Some text) is = pass_done text
 name_done : FieldDone name_field
 name_done scope None is = fail_done Failure
 name_done scope (Some text) is =
-    need_done (nat_le 1 (length text) && nat_le (length text) 1000) Failure (pass text) (pass_done text)
+    need_done (nat_le 1 (length text) && nat_le (length text) longest_name) Failure (pass text) (pass_done text)
 
 limit_done : FieldDone limit_field
 limit_done scope None is = pass_done None
 limit_done scope (Some text) is =
-    some_done Failure (number_of text) (λ n. pass (Some (within_range 10_000 5_000_000 n)))
-    (λ n. pass_done (Some (within_range 10_000 5_000_000 n)))
+    some_done Failure (number_of text) (λ n. pass (Some (within_range least_limit greatest_limit n)))
+    (λ n. pass_done (Some (within_range least_limit greatest_limit n)))
 
 depth_done : FieldDone depth_field
 depth_done scope None is = pass_done 0
 depth_done scope (Some text) is = word_check_done text
 
 size_done : FieldDone size_field
-size_done scope None is = pass_done 100_000
+size_done scope None is = pass_done usual_size
 size_done scope (Some text) is =
-    some_done Failure (number_of text) (λ n. pass (min n 50_000_000)) (λ n. pass_done (min n 50_000_000))
+    some_done Failure (number_of text) (λ n. pass (min n greatest_size)) (λ n. pass_done (min n greatest_size))
 
 lifetime_done : FieldDone lifetime_field
 lifetime_done scope None is = pass_done false

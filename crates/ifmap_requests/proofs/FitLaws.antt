@@ -37,6 +37,7 @@ use Rattle.ifmap_forms.specs.Tables.{Both, ContentCheck, Form, OneText, Part, At
 use Rattle.ifmap_forms.specs.Tables.{is_white_part, list_of, no_attributes, no_children, element_parts, read_form}
 use Rattle.ifmap_forms.specs.ifmap_filter.declared.filters.Filter.{Filter}
 use Rattle.ifmap_ident.specs.declared.kinds.Kind.{Kind}
+use Rattle.ifmap_forms.specs.Values.{greatest_limit, least_limit, longest_name}
 use Rattle.ifmap_forms.specs.Values.{depth_field, filter_check, filter_field, kinds_field, size_field, Field, field_check, limit_field}
 use Rattle.ifmap_forms.specs.Values.{name_field, number_of, text_field, within_range}
 use Rattle.ifmap_requests.specs.declared.requests.Request.{Request}
@@ -144,9 +145,10 @@ text_gives local scope (Some text) fit is = pass_gives IsCharacters text is
 name_gives : FieldGives name_field IsCharacters
 name_gives scope None fit is = fail_gives IsCharacters Failure
 name_gives scope (Some text) fit is =
-    need_gives IsCharacters (nat_le 1 (length text) && nat_le (length text) 1000) Failure (pass text) (pass_gives IsCharacters text is)
+    need_gives IsCharacters (nat_le 1 (length text) && nat_le (length text) longest_name) Failure (pass text)
+    (pass_gives IsCharacters text is)
 
-limit_within : (n : ℕ) → IsFitLimit (Some (within_range 10_000 5_000_000 n))
+limit_within : (n : ℕ) → IsFitLimit (Some (within_range least_limit greatest_limit n))
 limit_within n = (omega arith, omega arith)
 
 any_number : (o : Option ℕ) → IfSome o Any
@@ -156,8 +158,9 @@ any_number (Some n) = tt
 limit_gives : FieldGives limit_field IsFitLimit
 limit_gives scope None fit is = pass_gives IsFitLimit None tt
 limit_gives scope (Some text) fit is =
-    some_gives Any IsFitLimit Failure (number_of text) (λ n. pass (Some (within_range 10_000 5_000_000 n))) (any_number (number_of text))
-    (λ n any. pass_gives IsFitLimit (Some (within_range 10_000 5_000_000 n)) (limit_within n))
+    some_gives Any IsFitLimit Failure (number_of text) (λ n. pass (Some (within_range least_limit greatest_limit n)))
+    (any_number (number_of text))
+    (λ n any. pass_gives IsFitLimit (Some (within_range least_limit greatest_limit n)) (limit_within n))
 
 filter_gives : (local : List ℕ) → FieldGives (filter_field local) MayBeFitFilter
 filter_gives local scope None fit is = pass_gives MayBeFitFilter None tt

@@ -29,6 +29,7 @@ use Rattle.ifmap_forms.specs.Scopes.{Scopes, scopes_below}
 use Rattle.ifmap_forms.specs.SingleLaws.{OneOfTable, OneOfContent, beside_single, or_single, each_single, read_text_single, list_at_single}
 use Rattle.ifmap_forms.specs.SingleLaws.{no_attributes_single, no_children_single, identifiers_single, start_single, item_single}
 use Rattle.ifmap_forms.specs.Tables.{beside, both, form_or, list_of, no_attributes}
+use Rattle.ifmap_forms.specs.Values.{greatest_limit, greatest_size, least_limit, longest_name, usual_size}
 use Rattle.ifmap_forms.specs.Values.{FilterDefect, depth_field, filter_check, filter_field, kinds_field, lifetime_field, limit_field}
 use Rattle.ifmap_forms.specs.Values.{name_field, size_field, kind_named, kinds_check, number_of, piece_check, pieces_of, read_depth}
 use Rattle.ifmap_forms.specs.Values.{read_filter, read_kinds, read_lifetime, read_limit, read_name, read_size, trim_white, within_range}
@@ -54,22 +55,22 @@ filter_refused code = Err code
 read_name_single : (scope : Scope) (text : Option (List ℕ)) → IsSingle (read_name text)
 read_name_single scope None = fail_single Failure
 read_name_single scope (Some text) =
-    need_single (nat_le 1 (length text) && nat_le (length text) 1000) Failure (pass text) (pass_single text)
+    need_single (nat_le 1 (length text) && nat_le (length text) longest_name) Failure (pass text) (pass_single text)
 
 read_limit_single : (scope : Scope) (text : Option (List ℕ)) → IsSingle (read_limit text)
 read_limit_single scope None = pass_single None
 read_limit_single scope (Some text) =
-    some_single Failure (number_of text) (λ n. pass (Some (within_range 10_000 5_000_000 n)))
-    (λ n. pass_single (Some (within_range 10_000 5_000_000 n)))
+    some_single Failure (number_of text) (λ n. pass (Some (within_range least_limit greatest_limit n)))
+    (λ n. pass_single (Some (within_range least_limit greatest_limit n)))
 
 read_depth_single : (scope : Scope) (text : Option (List ℕ)) → IsSingle (read_depth text)
 read_depth_single scope None = pass_single 0
 read_depth_single scope (Some text) = word_check_single text
 
 read_size_single : (scope : Scope) (text : Option (List ℕ)) → IsSingle (read_size text)
-read_size_single scope None = pass_single 100_000
+read_size_single scope None = pass_single usual_size
 read_size_single scope (Some text) =
-    some_single Failure (number_of text) (λ n. pass (min n 50_000_000)) (λ n. pass_single (min n 50_000_000))
+    some_single Failure (number_of text) (λ n. pass (min n greatest_size)) (λ n. pass_single (min n greatest_size))
 
 read_lifetime_single : (scope : Scope) (text : Option (List ℕ)) → IsSingle (read_lifetime text)
 read_lifetime_single scope None = pass_single false

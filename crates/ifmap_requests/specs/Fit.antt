@@ -4,6 +4,7 @@ use Rattle.std.specs.Prelude.{ℕ, ◌≤◌, Option, IfSome}
 use Rattle.std.specs.List.{AllByRecursion}
 use Rattle.ifmap_elem.specs.Chars.{IsCharacters}
 use Rattle.ifmap_forms.specs.ifmap_filter.declared.filters.Filter.{Filter}
+use Rattle.ifmap_forms.specs.Values.{greatest_limit, least_limit}
 use Rattle.ifmap_ident.specs.Canon.{IsIdentifier}
 use Rattle.ifmap_ident.specs.Items.{IsCanonItem}
 use Rattle.ifmap_meta.specs.Whole.{IsMetadata}
@@ -19,7 +20,7 @@ use Rattle.ifmap_requests.specs.declared.requests.SubscribeOp.TheVariants as sub
 
 -- how large a poll's result may be, where it is said
 abbrev pub IsFitLimit : Option ℕ → Type 0
-IsFitLimit limit = IfSome limit (λ n. (10_000 ≤ n) × (n ≤ 5_000_000))
+IsFitLimit limit = IfSome limit (λ n. (least_limit ≤ n) × (n ≤ greatest_limit))
 
 -- a filter, where there is one
 abbrev pub MayBeFitFilter : Option Filter → Type 0

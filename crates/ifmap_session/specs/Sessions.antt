@@ -159,8 +159,15 @@ is_expired moment ttl s = nat_le (s.last + ttl) moment
 abbrev pub expired_serials : ℕ → ℕ → List Session → List ℕ
 expired_serials moment ttl sessions = map (λ s. s.serial) (filter (is_expired moment ttl) sessions)
 
--- the limit of a queue in bytes (max-poll-result-size of newSession): what is asked for, put into the range from 10,000 to
--- 5,000,000; 5,000,000 where nothing is asked for
+-- the range of the limit of a queue in bytes
+abbrev pub least_limit : ℕ
+least_limit = 10_000
+
+abbrev pub greatest_limit : ℕ
+greatest_limit = 5_000_000
+
+-- the limit of a queue in bytes (max-poll-result-size of newSession): what is asked for, put into this range; the greatest where
+-- nothing is asked for
 abbrev pub limit_of : Option ℕ → ℕ
-limit_of None = 5000000
-limit_of (Some asked) = max 10000 (min asked 5000000)
+limit_of None = greatest_limit
+limit_of (Some asked) = max least_limit (min asked greatest_limit)

@@ -35,6 +35,7 @@ use Rattle.ifmap_requests.specs.ifmap_forms.Items.{from_list, is_list, item_of, 
 use Rattle.ifmap_requests.specs.ifmap_forms.Scopes.{Scopes, scopes_below}
 use Rattle.ifmap_requests.specs.ifmap_forms.Tables.{Both, Form, Part, AttributeTable, beside, both, each_element, form_check, form_or, no_attributes, parts_in}
 use Rattle.ifmap_requests.specs.ifmap_forms.Tables.{element_parts}
+use Rattle.ifmap_requests.specs.ifmap_forms.Values.{greatest_size, longest_name, usual_size}
 use Rattle.ifmap_requests.specs.ifmap_forms.Values.{Field, depth_field, field_check, name_field, number_of, read_depth}
 use Rattle.ifmap_requests.specs.ifmap_forms.Values.{read_name, read_size, size_field}
 use Rattle.ifmap_requests.specs.declared.publishing.PublishOp.{PublishOp}
@@ -117,12 +118,12 @@ module _ {X Y : Type 0} (field : Field X) (table : AttributeTable Y) (scope : Sc
 name_bounded : (o : Option (List ℕ)) (name : List ℕ) → read_name o (good name) → IsBoundedName name
 name_bounded None name h = let wrong : good name ≡ bad Failure = h in cc
 name_bounded (Some text) name h =
-    let found = needed (nat_le 1 (length text) && nat_le (length text) 1000) Failure (pass text) name h in
-    let tests = and_parts (nat_le 1 (length text)) (nat_le (length text) 1000) found.0 in
+    let found = needed (nat_le 1 (length text) && nat_le (length text) longest_name) Failure (pass text) name h in
+    let tests = and_parts (nat_le 1 (length text)) (nat_le (length text) longest_name) found.0 in
     let low = tests.0 in
     let high = tests.1 in
     let some : 1 ≤ length text = grind (arith, nat_tests) in
-    let few : length text ≤ 1000 = grind (arith, nat_tests) in
+    let few : length text ≤ longest_name = grind (arith, nat_tests) in
     subst IsBoundedName (sym (passed name text found.1)) (record { some = some; few = few })
 
 depth_bounded : (o : Option (List ℕ)) (n : ℕ) → read_depth o (good n) → n < 2 ^ 32
@@ -135,15 +136,15 @@ depth_bounded (Some text) n h =
     let low : found.0 < 2 ^ 32 = grind (arith, nat_tests) in
     subst (λ (m : ℕ). m < 2 ^ 32) (sym is) low
 
-size_bounded : (o : Option (List ℕ)) (n : ℕ) → read_size o (good n) → n ≤ 50_000_000
-size_bounded None n h = let is : n ≡ 100_000 = passed n 100_000 h in omega (arith, is)
+size_bounded : (o : Option (List ℕ)) (n : ℕ) → read_size o (good n) → n ≤ greatest_size
+size_bounded None n h = let is : n ≡ usual_size = passed n usual_size h in omega (arith, is)
 size_bounded (Some text) n h =
-    let found = some_found Failure (number_of text) (λ m. pass (min m 50_000_000)) n h in
-    let is : n ≡ min found.0 50_000_000 = passed n (min found.0 50_000_000) found.2 in
+    let found = some_found Failure (number_of text) (λ m. pass (min m greatest_size)) n h in
+    let is : n ≡ min found.0 greatest_size = passed n (min found.0 greatest_size) found.2 in
     omega (arith, is)
 
 search_bounded : (scope : Scope) (e : Element) (v : SearchValues) → search_attributes.reads scope e (good v)
-    → (v.others.first < 2 ^ 32) × (v.others.others.first ≤ 50_000_000)
+    → (v.others.first < 2 ^ 32) × (v.others.others.first ≤ greatest_size)
 search_bounded scope e v h =
     let first = beside_parts links_field after_links scope e v h in
     let second = beside_parts depth_field after_depth scope e v.others first.1 in
@@ -267,7 +268,7 @@ publish_bounded scopes e op low h = elim
       ]
     ]
 
-bounded_of : (start : Identifier) (v : SearchValues) → (v.others.first < 2 ^ 32) × (v.others.others.first ≤ 50_000_000)
+bounded_of : (start : Identifier) (v : SearchValues) → (v.others.first < 2 ^ 32) × (v.others.others.first ≤ greatest_size)
     → IsBoundedSearch (search_from start v)
 bounded_of start v b = record { depth = b.0; size = b.1 }
 

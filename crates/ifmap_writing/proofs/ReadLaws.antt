@@ -41,6 +41,7 @@ use Rattle.ifmap_requests.specs.ifmap_forms.Items.{before_list, from_list, ident
 use Rattle.ifmap_requests.specs.ifmap_forms.Items.{start_check}
 use Rattle.ifmap_requests.specs.ifmap_forms.Scopes.{Scopes, scopes_below}
 use Rattle.ifmap_requests.specs.ifmap_forms.Tables.{Part, both, each_element, list_of, parts_in}
+use Rattle.ifmap_requests.specs.ifmap_forms.Values.{greatest_limit, least_limit}
 use Rattle.ifmap_requests.specs.ifmap_forms.Values.{Field, depth_field, field_check, filter_field, kinds_field, lifetime_field, limit_field, name_field}
 use Rattle.ifmap_requests.specs.ifmap_forms.Values.{read_filter, size_field}
 use Rattle.ifmap_requests.specs.declared.publishing.PublishOp.{PublishOp}
@@ -388,9 +389,9 @@ module _ (canon : (i : Identifier) → IsIdentifier i → IsCanon (identifier_el
         each index (op ∷ ops) f within w =
             (subscribe_back (scopes_below scopes index) op f.0 within.0 w.0, each index ops f.1 within.1 w.1)
 
-    limit_bounds : (limit : Option ℕ) → IsFitLimit limit → (n : ℕ) → limit ≡ Some n → (10_000 ≤ n) × (n ≤ 5_000_000)
+    limit_bounds : (limit : Option ℕ) → IsFitLimit limit → (n : ℕ) → limit ≡ Some n → (least_limit ≤ n) × (n ≤ greatest_limit)
     limit_bounds None f n is = let wrong : None ≡ Some n = is in cc
-    limit_bounds (Some m) f n is = let same : m ≡ n = cc in subst (λ (k : ℕ). (10_000 ≤ k) × (k ≤ 5_000_000)) same f
+    limit_bounds (Some m) f n is = let same : m ≡ n = cc in subst (λ (k : ℕ). (least_limit ≤ k) × (k ≤ greatest_limit)) same f
 
     -- the element of a request means it, in scopes in which its filters are read back
     pub request_back : (scopes : Scopes) (r : Request) → IsFitRequest r → IsBounded r → IsReadRequest spaces r scopes

@@ -19,6 +19,7 @@ use Rattle.ifmap_ident.specs.declared.kinds.Kind.{Kind}
 use Rattle.ifmap_ident.specs.declared.kinds.Kind.TheVariants.{AccessRequest, Device, Identity, IpAddress, MacAddress}
 use Rattle.ifmap_ident.specs.Kinds.{kind_name}
 use Rattle.ifmap_requests.specs.ifmap_forms.Checks.{Check, check_if, need_some, pass}
+use Rattle.ifmap_requests.specs.ifmap_forms.Values.{greatest_limit, greatest_size, least_limit, longest_name}
 use Rattle.ifmap_requests.specs.ifmap_forms.Values.{kind_named, kinds_check, number_of, piece_check, pieces_of, read_depth, read_kinds}
 use Rattle.ifmap_requests.specs.ifmap_forms.Values.{read_lifetime, read_limit, read_name, read_size, trim_white, within_range}
 use Rattle.ifmap_writing.specs.Attributes.{kinds_value, lifetime_value, limit_value, number_value}
@@ -71,30 +72,30 @@ number_passes : {X : Type 0} (n : ℕ) (code : Code) (check : ℕ → Check X) (
     → need_some code (number_of (numeral n)) check (good x)
 number_passes n code check x f = subst (λ (o : Option ℕ). need_some code o check (good x)) (sym (number_back n)) f
 
-pub limit_back : (limit : Option ℕ) → ((n : ℕ) → limit ≡ Some n → (10_000 ≤ n) × (n ≤ 5_000_000))
+pub limit_back : (limit : Option ℕ) → ((n : ℕ) → limit ≡ Some n → (least_limit ≤ n) × (n ≤ greatest_limit))
     → read_limit (limit_value limit) (good limit)
 limit_back None f = refl
 limit_back (Some n) f =
     let bounds = f n refl in
     let low = bounds.0 in
     let high = bounds.1 in
-    let same : n ≡ within_range 10_000 5_000_000 n = omega (arith, low, high) in
-    number_passes n _ (λ m. pass (Some (within_range 10_000 5_000_000 m))) (Some n) (ap (λ (m : ℕ). good (Some m)) same)
+    let same : n ≡ within_range least_limit greatest_limit n = omega (arith, low, high) in
+    number_passes n _ (λ m. pass (Some (within_range least_limit greatest_limit m))) (Some n) (ap (λ (m : ℕ). good (Some m)) same)
 
 pub depth_back : (n : ℕ) → n < 2 ^ 32 → read_depth (number_value n) (good n)
 depth_back n low =
     let test : nat_lt n (2 ^ 32) ≡ true = grind (arith, nat_tests) in
     number_passes n _ _ n (rw test refl)
 
-pub size_back : (n : ℕ) → n ≤ 50_000_000 → read_size (number_value n) (good n)
+pub size_back : (n : ℕ) → n ≤ greatest_size → read_size (number_value n) (good n)
 size_back n low =
-    let same : n ≡ min n 50_000_000 = omega (arith, low) in
-    number_passes n _ (λ m. pass (min m 50_000_000)) n (ap (λ (m : ℕ). good m) same)
+    let same : n ≡ min n greatest_size = omega (arith, low) in
+    number_passes n _ (λ m. pass (min m greatest_size)) n (ap (λ (m : ℕ). good m) same)
 
-pub name_back : (name : List ℕ) → 1 ≤ length name → length name ≤ 1000 → read_name (Some name) (good name)
+pub name_back : (name : List ℕ) → 1 ≤ length name → length name ≤ longest_name → read_name (Some name) (good name)
 name_back name some few =
     let low : nat_le 1 (length name) ≡ true = grind (arith, nat_tests) in
-    let high : nat_le (length name) 1000 ≡ true = grind (arith, nat_tests) in
+    let high : nat_le (length name) longest_name ≡ true = grind (arith, nat_tests) in
     rw (low, high) refl
 
 pub lifetime_back : (forever : Bool) → read_lifetime (lifetime_value forever) (good forever)

@@ -5,6 +5,7 @@ use Rattle.std.specs.List.{AllByRecursion}
 use Rattle.ifmap_elem.specs.Nesting.{nesting}
 use Rattle.ifmap_meta.specs.declared.metadata.Metadata.{Metadata}
 use Rattle.ifmap_search.specs.declared.searches.Search as the
+use Rattle.ifmap_requests.specs.ifmap_forms.Values.{greatest_size, longest_name}
 use Rattle.ifmap_requests.specs.declared.publishing.PublishOp.{PublishOp}
 use Rattle.ifmap_requests.specs.declared.publishing.PublishOp.TheVariants as publish
 use Rattle.ifmap_requests.specs.declared.requests.Request.{Request}
@@ -16,11 +17,11 @@ use Rattle.ifmap_requests.specs.declared.requests.SubscribeOp.TheVariants as sub
 -- the name of a subscription
 pub record IsBoundedName (name : List ℕ) : Type 0 where
   pub some : 1 ≤ length name
-  pub few : length name ≤ 1000
+  pub few : length name ≤ longest_name
 
 pub record IsBoundedSearch (search : the.Search) : Type 0 where
   pub depth : search.max_depth < 2 ^ 32
-  pub size : search.max_size ≤ 50_000_000
+  pub size : search.max_size ≤ greatest_size
 
 -- five levels stand round it: the envelope, its body, the request, the operation and the list
 abbrev pub IsBoundedMetadata : Metadata → Type 0
