@@ -1,12 +1,12 @@
 //! The items on which a change may tell something.
-ghost use Rattle.std.specs.Prelude.{◌≡◌, ◌≤◌, ◌<◌, ◌+◌, [], ◌∷◌, ◌++◌, ◌||◌, Some, OnOk, IfOk, length, option_copied, slice_get, sum_by, nat_eq};
+ghost use Rattle.std.specs.Prelude.{◌≡◌, ◌≤◌, ◌<◌, ◌+◌, [], ◌∷◌, ◌++◌, ◌||◌, Some, OnOk, IfOk, length, slice_get, sum_by, nat_eq};
 ghost use Rattle.std.specs.List.{AllByRecursion, IsDistinct, cons_option};
 ghost use Rattle.ifmap_delta.specs.Changes.{ShowsAfter};
 ghost use Rattle.ifmap_delta.specs.Located.{AreLocated, IsLocatedTwice};
 ghost use Rattle.ifmap_delta.specs.Sights.{view_seen};
 ghost use Rattle.ifmap_delta.specs.Shown.{HasSideMarks, SeesView, patched_mark, region_mark};
 ghost use Rattle.ifmap_delta.specs.Touched.{AreTouched, brought_items, link_item, linked_items, looked_along, moved_items, planned_items};
-ghost use Rattle.ifmap_fresh.specs.Collected.{item_alone, numbers_of, pair_at};
+ghost use Rattle.ifmap_fresh.specs.Collected.{numbers_of};
 ghost use Rattle.ifmap_fresh.specs.Fresh.{is_looked_at};
 ghost use Rattle.ifmap_region.specs.Marks.{mark_of, over};
 ghost use Rattle.ifmap_ident.specs.Items.{IsCanonItem};
@@ -15,41 +15,16 @@ use crate::locating::LocatedChange;
 use crate::marks::{Marks, Patched, mark_after};
 use crate::sides::Side;
 use ifmap_elem::Copied;
-use ifmap_fresh::LinksOf;
 use ifmap_fresh::laws::{levels_are_walks, numbers_keep_walks};
+use ifmap_fresh::{LinksOf, add_alone, pair_at};
+use ifmap_ident::Item;
 use ifmap_ident::laws::bytes_tell_identifiers_apart;
-use ifmap_ident::{Identifier, Item};
 use ifmap_plans::ItemChange;
 use ifmap_region::{LinkSource, Patch, Region};
 use ifmap_steps::Steps;
 use ifmap_view::View;
 use std::alloc::{AllocError as NoMemory, Global};
 use std::sync::ledger::Ledger;
-
-// Appends the item of an identifier alone, where there is one.
-fn add_alone(alloc: Global, id: Option<&Identifier>, items: &mut Vec<Item>) -> Result<(), NoMemory>
-    ensures { OnOk result
-        (items.new.items ≡ items.old.items ++ item_alone (option_copied id.entry)) }
-{
-    if let Some(id) = id {
-        items.push(Item::One(id.copy(alloc)?))?;
-    }
-    Ok(())
-}
-
-// The item of two identifiers, where there are both and they differ.
-fn pair_at(
-    alloc: Global,
-    a: Option<&Identifier>,
-    b: Option<&Identifier>,
-) -> Result<Option<Item>, NoMemory>
-    ensures { IfOk result (λ item. item ≡ pair_at (option_copied a.entry) (option_copied b.entry)) }
-{
-    match (a, b) {
-        (Some(a), Some(b)) => Ok(Item::pair(a.copy(alloc)?, b.copy(alloc)?)),
-        _ => Ok(None),
-    }
-}
 
 // Appends the item of the link of a number at a place, where it matches.
 fn add_along<V: View, L: Ledger>(

@@ -1,12 +1,12 @@
 //! The items that a search looks at.
-ghost use Rattle.std.specs.Prelude.{◌≡◌, ◌<◌, ◌≤◌, ◌+◌, ◌++◌, Some, OnOk, IfOk, length, nat_eq, option_copied, slice_get, sum_by};
+ghost use Rattle.std.specs.Prelude.{◌≡◌, ◌<◌, ◌≤◌, ◌+◌, ◌++◌, Some, OnOk, IfOk, length, nat_eq, slice_get, sum_by};
 ghost use Rattle.std.specs.List.{IsDistinct, filter_map};
 ghost use Rattle.ifmap_region.specs.Marks.{mark_of};
-ghost use Rattle.ifmap_fresh.specs.Collected.{item_alone, is_passed, item_along, item_at, item_list, item_to, items_of_number, items_of_numbers, numbers_of, pair_at};
+ghost use Rattle.ifmap_fresh.specs.Collected.{is_passed, item_along, item_at, item_list, item_to, items_of_number, items_of_numbers, numbers_of};
 
+use crate::items::{add_alone, pair_at};
 use crate::links::LinksOf;
-use ifmap_elem::Copied;
-use ifmap_ident::{Identifier, Item};
+use ifmap_ident::Item;
 use ifmap_region::{LinkSource, Region};
 use ifmap_steps::Steps;
 use ifmap_view::View;
@@ -145,30 +145,5 @@ impl<'a, V: View> Looking<'a, V> {
             self.add_brought(alloc, self.number_at(i), &mut items, steps)?;
         }
         Ok(items)
-    }
-}
-
-// Appends the item of an identifier alone, where there is one.
-fn add_alone(alloc: Global, id: Option<&Identifier>, items: &mut Vec<Item>) -> Result<(), NoMemory>
-    ensures { OnOk result
-        (items.new.items ≡ items.old.items ++ item_alone (option_copied id.entry)) }
-{
-    if let Some(id) = id {
-        items.push(Item::One(id.copy(alloc)?))?;
-    }
-    Ok(())
-}
-
-// The item of two identifiers, where there are both and they differ.
-fn pair_at(
-    alloc: Global,
-    a: Option<&Identifier>,
-    b: Option<&Identifier>,
-) -> Result<Option<Item>, NoMemory>
-    ensures { IfOk result (λ item. item ≡ pair_at (option_copied a.entry) (option_copied b.entry)) }
-{
-    match (a, b) {
-        (Some(a), Some(b)) => Ok(Item::pair(a.copy(alloc)?, b.copy(alloc)?)),
-        _ => Ok(None),
     }
 }
