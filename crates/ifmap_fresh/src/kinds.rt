@@ -10,7 +10,7 @@ pub(crate) fn is_terminal(kinds: &Many<Kind>, id: &Identifier) -> bool
     ensures { result ≡ is_terminal kinds.now id.now }
 {
     let own = id.kind();
-    kinds.0.iter().any(|kind| is_same(*kind, own))
+    kinds.iter().any(|kind| is_same(*kind, own))
 }
 
 fn is_same(one: Kind, other: Kind) -> bool
