@@ -8,7 +8,7 @@ use Rattle.ifmap_search.specs.declared.searches.Search.{Search}
 use Rattle.ifmap_view.specs.declared.attachments.Attachment.{Attachment}
 use Rattle.ifmap_view.specs.declared.views.LinkSeen.{LinkSeen}
 use Rattle.ifmap_fresh.specs.Fresh.{fresh_size}
-use Rattle.ifmap_fresh.specs.Numbered.{AreLinked, is_terminal_number}
+use Rattle.ifmap_fresh.specs.Numbered.{HaveMatchingLink, is_terminal_number}
 use Rattle.ifmap_delta.specs.declared.subscriptions.Subscription.{Subscription}
 use Rattle.ifmap_view.specs.Views.{IsView}
 
@@ -25,7 +25,7 @@ view_seen rows id_at links view = record { rows = rows view; id_at = id_at view;
 
 -- a number has a link with another that the search goes along
 abbrev pub Links : ViewSeen → Search → ℕ → ℕ → Type 0
-Links g s = AreLinked g.rows g.id_at g.links s
+Links g s = HaveMatchingLink g.rows g.id_at g.links s
 
 -- no walk of the search goes on from the number
 abbrev pub is_terminal_in : ViewSeen → Search → ℕ → Bool

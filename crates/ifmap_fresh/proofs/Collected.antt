@@ -33,11 +33,12 @@ use Rattle.ifmap_fresh.specs.Fresh.{fresh, is_found, is_looked_at}
 use Rattle.ifmap_fresh.specs.Gathered.{entries_of, entries_on, entry_at, gathered_rows, has_item, row_at}
 use Rattle.ifmap_fresh.specs.Linking.{end_where, is_terminal_at}
 use Rattle.ifmap_fresh.specs.Matching.{is_match, is_terminal, one_meets}
+use Rattle.ifmap_fresh.specs.Numbered.{HaveMatchingLink, is_terminal_number}
 use Rattle.ifmap_fresh.specs.Reached.{is_expanded, is_reached}
 use Rattle.ifmap_fresh.specs.laws.GatheringLaws.{gathers, grouped, all_items, entry_of}
 use Rattle.ifmap_fresh.specs.laws.JoiningLaws.{match_turned, some_there}
 use Rattle.ifmap_fresh.proofs.Levels.{expanded_walk, reached_by_walks, walk_expanded}
-use Rattle.ifmap_fresh.proofs.Meaning.{L, T, mark_walk, to_identifier, to_number, walk_mark}
+use Rattle.ifmap_fresh.proofs.Meaning.{mark_walk, to_identifier, to_number, walk_mark}
 use Rattle.ifmap_fresh.specs.laws.SameLaws.{member, pair_canon, pair_is, pair_parts, pair_turned}
 use Rattle.ifmap_fresh.specs.laws.SameLaws.{same_item_is}
 use Rattle.ifmap_ident.specs.SameLaws.{item_itself, BytesTellIdentifiers}
@@ -48,7 +49,7 @@ lt_turned a b e = grind (arith, nat_tests)
 module _ (tells : BytesTellIdentifiers) (rows : List Attachment) (id_at : ℕ → Option Identifier) (links : ℕ → List LinkSeen) (s : Search)
     (is : IsView rows id_at links)
     (first : IsIdentifier s.start) (start : ℕ) (here : id_at start ≡ Some s.start) (mark : ℕ → Option ℕ)
-    (depths : AreDepths (L rows id_at links s is start here) (T rows id_at links s is start here) start s.max_depth mark)
+    (depths : AreDepths (HaveMatchingLink rows id_at links s) (is_terminal_number rows id_at links s) start s.max_depth mark)
     (keys : List ℕ) (keyed : (v k : ℕ) → mark v ≡ Some k → Has keys v) (marked : (v : ℕ) → Has keys v → (k : ℕ) × (mark v ≡ Some k)) where
   abbrev passed : ℕ → Bool
   passed v = is_passed rows id_at links s mark v

@@ -16,8 +16,9 @@ use Rattle.ifmap_view.specs.Views.{IsView}
 use Rattle.ifmap_fresh.specs.Fresh.{is_looked_at}
 use Rattle.ifmap_fresh.specs.Matching.{IsMatch, is_match}
 use Rattle.ifmap_fresh.specs.Reached.{is_expanded}
+use Rattle.ifmap_fresh.specs.Walked.{SearchWalk}
 use Rattle.ifmap_fresh.specs.laws.JoiningLaws.{match_turned, some_there}
-use Rattle.ifmap_fresh.proofs.Levels.{On, expanded_walk, reached_by_walks}
+use Rattle.ifmap_fresh.proofs.Levels.{expanded_walk, reached_by_walks}
 use Rattle.ifmap_ident.specs.SameLaws.{BytesTellIdentifiers}
 
 module _ (tells : BytesTellIdentifiers) (rows : List Attachment) (id_at : ℕ → Option Identifier) (links : ℕ → List LinkSeen) (s : Search)
@@ -29,15 +30,15 @@ module _ (tells : BytesTellIdentifiers) (rows : List Attachment) (id_at : ℕ �
       (match_turned rows s.match_links b s.start ∙ m))
       in unnumbered w.0 w.1
 
-  no_walk : (k : ℕ) (a : Identifier) → On rows s (suc k) a → ⊥
+  no_walk : (k : ℕ) (a : Identifier) → SearchWalk rows s (suc k) a → ⊥
   no_walk zero a (goes_on {u = u} (begins e) t m) = no_match a (subst (λ x. IsMatch rows s.match_links x a) e m.1)
   no_walk (suc k) a (goes_on {u = u} w t m) = no_walk k u w
 
-  from_match : (a b : Identifier) (k : ℕ) → On rows s k a → IsMatch rows s.match_links a b → ⊥
+  from_match : (a b : Identifier) (k : ℕ) → SearchWalk rows s k a → IsMatch rows s.match_links a b → ⊥
   from_match a b zero (begins e) m = no_match b (subst (λ x. IsMatch rows s.match_links x b) e m)
   from_match a b (suc k) w m = no_walk k a w
 
-  on_one : (a : Identifier) (k : ℕ) → On rows s k a → stored_on (One a) rows ≢ [] → ⊥
+  on_one : (a : Identifier) (k : ℕ) → SearchWalk rows s k a → stored_on (One a) rows ≢ [] → ⊥
   on_one a zero (begins e) n = let w = is.alone a (subst IsIdentifier (sym e) start) n in unnumbered w.0 (w.1 ∙ ap Some e)
   on_one a (suc k) w n = no_walk k a w
 

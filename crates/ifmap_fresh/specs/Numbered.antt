@@ -12,8 +12,8 @@ use Rattle.ifmap_fresh.specs.Walked.{SearchWalk}
 
 module _ (rows : List Attachment) (id_at : ℕ → Option Identifier) (links : ℕ → List LinkSeen) (s : Search) where
   -- a number has a link with another that matches
-  abbrev pub AreLinked : ℕ → ℕ → Type 0
-  AreLinked = Linked (λ v. length (links v)) (λ v i. end_where rows id_at s.match_links v (slice_get (links v) i))
+  abbrev pub HaveMatchingLink : ℕ → ℕ → Type 0
+  HaveMatchingLink = Linked (λ v. length (links v)) (λ v i. end_where rows id_at s.match_links v (slice_get (links v) i))
 
   -- no walk goes on from the number
   abbrev pub is_terminal_number : ℕ → Bool
@@ -21,7 +21,7 @@ module _ (rows : List Attachment) (id_at : ℕ → Option Identifier) (links : �
 
   -- a walk of so many links from a number ends in another
   abbrev pub NumberWalk : ℕ → ℕ → ℕ → Type 0
-  NumberWalk start k v = Walk AreLinked is_terminal_number start k v
+  NumberWalk start k v = Walk HaveMatchingLink is_terminal_number start k v
 
   -- walks over numbers are walks over their identifiers, of as many links: each number in which one ends has an
   -- identifier, and each identifier in which one ends has a number; so both have one depth
@@ -30,5 +30,5 @@ module _ (rows : List Attachment) (id_at : ℕ → Option Identifier) (links : �
     pub numbered : (k : ℕ) (a : Identifier) → SearchWalk rows s k a → (v : ℕ) × (id_at v ≡ Some a)
     pub walks : (k v : ℕ) (a : Identifier) → id_at v ≡ Some a → NumberWalk start k v ↔ SearchWalk rows s k a
     pub depths : (top k v : ℕ) (a : Identifier) → id_at v ≡ Some a
-        → HasDepth AreLinked is_terminal_number start top v k ↔ HasDepth (LinksTo rows s.match_links)
-        (is_terminal s.terminal) s.start top a k
+        → HasDepth HaveMatchingLink is_terminal_number start top v k
+        ↔ HasDepth (LinksTo rows s.match_links) (is_terminal s.terminal) s.start top a k

@@ -10,7 +10,7 @@ ghost use Rattle.ifmap_view.specs.declared.views.LinkSeen.{LinkSeen};
 ghost use Rattle.ifmap_view.specs.Attachments.{IsGraph};
 ghost use Rattle.ifmap_view.specs.Views.{IsView};
 ghost use Rattle.ifmap_fresh.specs.Matching.{LinksTo, is_terminal};
-ghost use Rattle.ifmap_fresh.specs.Numbered.{AreLinked, KeepsWalks};
+ghost use Rattle.ifmap_fresh.specs.Numbered.{HaveMatchingLink, KeepsWalks};
 ghost use Rattle.ifmap_fresh.specs.Reached.{is_expanded, is_reached};
 ghost use Rattle.ifmap_fresh.specs.Walked.{IsExpanded};
 
@@ -43,8 +43,8 @@ pub fn numbers_keep_walks()
 pub fn links_go_both_ways()
     ensures symmetric { (rows : List Attachment) (id_at : ℕ → Option Identifier)
         (links : ℕ → List LinkSeen) (s : Search) → IsView rows id_at links
-        → IsSymmetric (AreLinked rows id_at links s) }
+        → IsSymmetric (HaveMatchingLink rows id_at links s) }
     ensures apart { (rows : List Attachment) (id_at : ℕ → Option Identifier)
         (links : ℕ → List LinkSeen) (s : Search) (v : ℕ) → IsView rows id_at links
-        → AreLinked rows id_at links s v v → ⊥ }
+        → HaveMatchingLink rows id_at links s v v → ⊥ }
 {}
