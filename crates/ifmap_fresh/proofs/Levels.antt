@@ -20,7 +20,8 @@ use Rattle.ifmap_fresh.specs.laws.JoiningLaws.{some_there, stands_in}
 use Rattle.ifmap_fresh.specs.laws.SameLaws.{member, same_is}
 use Rattle.ifmap_ident.specs.SameLaws.{identifier_itself, BytesTellIdentifiers}
 
-pub on_canon : (rows : List Attachment) (s : Search) → IsIdentifier s.start → (k : ℕ) (a : Identifier) → SearchWalk rows s k a → IsIdentifier a
+pub on_canon : (rows : List Attachment) (s : Search) → IsIdentifier s.start → (k : ℕ) (a : Identifier) → SearchWalk rows s k a
+    → IsIdentifier a
 on_canon rows s i zero a (begins e) = subst IsIdentifier (sym e) i
 on_canon rows s i (suc k) a (goes_on w t l) = l.0
 

@@ -33,7 +33,7 @@ module _ (rows : List Attachment) (s : Search) where
   fresh_size = entries_size fresh
 
   -- what a search is answered: the result with its size, or the size where it is greater than the search allows
-  abbrev pub IsAnswer : Result Found SearchError → Type 0
-  IsAnswer (Ok found) = (found.entries ≡ fresh) × (found.size ≡ fresh_size) × (fresh_size ≤ s.max_size)
-  IsAnswer (Err (TooBig size)) = (size ≡ fresh_size) × (s.max_size < fresh_size)
-  IsAnswer (Err NoMemory) = Unit {0}
+  abbrev pub IsSearchAnswer : Result Found SearchError → Type 0
+  IsSearchAnswer (Ok found) = (found.entries ≡ fresh) × (found.size ≡ fresh_size) × (fresh_size ≤ s.max_size)
+  IsSearchAnswer (Err (TooBig size)) = (size ≡ fresh_size) × (s.max_size < fresh_size)
+  IsSearchAnswer (Err NoMemory) = Unit {0}

@@ -9,7 +9,7 @@ ghost use Rattle.ifmap_search.specs.Sizes.{entries_size};
 ghost use Rattle.ifmap_view.specs.Attachments.{IsGraph};
 ghost use Rattle.ifmap_view.specs.Views.{IsView};
 ghost use Rattle.ifmap_fresh.specs.Collected.{AreLookedAt};
-ghost use Rattle.ifmap_fresh.specs.Fresh.{IsAnswer, is_looked_at};
+ghost use Rattle.ifmap_fresh.specs.Fresh.{IsSearchAnswer, is_looked_at};
 ghost use Rattle.ifmap_fresh.specs.Gathered.{entries_of, entries_on, row_size};
 ghost use Rattle.ifmap_fresh.specs.Linking.{IsReachedAt};
 
@@ -37,7 +37,7 @@ pub fn fresh<V: View, L: Ledger>(
     steps: &mut Steps<L>,
 ) -> Result<Found, SearchError>
     requires start { IsIdentifier search.now.start }
-    ensures answer { IsAnswer (V.rows view.now) search.now result }
+    ensures answer { IsSearchAnswer (V.rows view.now) search.now result }
     ensures steps { IsWithin (λ v. length (V.links view.now v))
         (IsReachedAt (V.rows view.now) (V.id_at view.now) search.now) 3 steps.old steps.new }
 {
