@@ -1,12 +1,12 @@
 -- The size of the next result: that of the one before, without what went and with what came. The two results share what
 -- neither loses nor gains, and that has one size in both.
-use Rattle.std.proofs.Common.{◌≡◌, inl, inr, ℕ, ◌+◌, Bool, true, false, not, ◌&&◌, List, [], ◌∷◌, map, length, sum_by, refl, ap, ◌∙◌}
+use Rattle.std.proofs.Common.{◌≡◌, inl, inr, ℕ, ◌+◌, Bool, true, false, not, ◌&&◌, List, [], ◌∷◌, length, sum_by, refl, ap, ◌∙◌}
 use Rattle.std.proofs.Common.{sym, subst, arith}
 use Rattle.std.proofs.lemmas.Bool.{and_parts, cases_Bool}
 use Rattle.std.proofs.lemmas.List.Kept.{IsStrictlySortedBy-filter}
 use Rattle.std.proofs.lemmas.List.Sums.{sum_by-cons}
 use Rattle.std.specs.Cmp.{Equal-is, IsTotalOrder, tied_back}
-use Rattle.std.specs.List.{AllByRecursion, filter, sum}
+use Rattle.std.specs.List.{filter, sum}
 use Rattle.std.specs.List.Sorted.{IsStrictlySortedBy}
 use Rattle.std.specs.Ordering.{is_eq, ordering_reverse}
 use Rattle.std.specs.Str.{bytes_eq}
@@ -22,12 +22,9 @@ use Rattle.ifmap_lemmas.specs.Texts.{eq_tells}
 use Rattle.ifmap_lemmas.specs.Orderings.{not_both, not_equal}
 use Rattle.ifmap_search.specs.declared.results.Entry.{Entry}
 use Rattle.ifmap_search.specs.Sizes.{entries_size, entry_size}
-use Rattle.ifmap_view.specs.declared.attachments.Attachment.{Attachment}
-use Rattle.ifmap_view.specs.Attachments.{attachment_order, stored_bytes}
 use Rattle.ifmap_folds.specs.Differences.{difference, entry_bytes, entry_order, has_entry, same_entry}
 use Rattle.ifmap_folds.specs.laws.FoldingLaws.{entries_tie, entries_total, same_turned}
 use Rattle.ifmap_folds.specs.laws.RisingLaws.{head_rises, tail_rises}
-use Rattle.ifmap_fresh.specs.laws.GatheringLaws.{entry_of}
 
 -- a sum over a list, in two parts
 parts : {X : Type 0} (f : X → ℕ) (p : X → Bool) (xs : List X)
@@ -117,21 +114,6 @@ same_size x y e =
     in let i = same_sizes x.item y.item p.0
     in let l = same_lengths (canonical_bytes x.element) (canonical_bytes y.element) p.1
     in ap (λ n. n + length (canonical_bytes x.element)) i ∙ ap (λ n. item_size y.item + n) l
-
--- results are in the order of entries
-order_is : (x y : Attachment) → attachment_order x y ≡ Less → entry_order (entry_of x) (entry_of y) ≡ Less
-unfolding stored_bytes entry_bytes
-order_is x y e = e
-
-all_rise : (x : Attachment) (ys : List Attachment) → AllByRecursion (λ y. attachment_order x y ≡ Less) ys
-    → AllByRecursion (λ y. entry_order (entry_of x) y ≡ Less) (map entry_of ys)
-all_rise x [] a = tt
-all_rise x (y ∷ ys) a = (order_is x y a.0, all_rise x ys a.1)
-
-map_rises : (xs : List Attachment) → IsStrictlySortedBy attachment_order xs → IsStrictlySortedBy entry_order (map entry_of xs)
-unfolding IsStrictlySortedBy
-map_rises [] r = tt
-map_rises (x ∷ xs) r = (all_rise x xs r.0, map_rises xs r.1)
 
 tied_size : (x y : Entry) → entry_order x y ≡ Equal → entry_size x ≡ entry_size y
 tied_size x y e = same_size x y (entries_tie x y ∙ ap is_eq e)
