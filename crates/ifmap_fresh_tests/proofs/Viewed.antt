@@ -16,12 +16,13 @@ use Rattle.ifmap_ident.specs.Identifiers.{identifier_bytes, identifier_order, sa
 use Rattle.ifmap_ident.specs.Items.{IsCanonItem, identifiers_of, ordered_pair, same_item}
 use Rattle.ifmap_lemmas.specs.Having.{Has, any_has, filter_has, from_has, has_filter, has_from, joined_has, map_has, all_has, first_of}
 use Rattle.ifmap_lemmas.specs.Members.{all_of_test}
-use Rattle.ifmap_lemmas.specs.Texts.{eq_itself, eq_tells}
+use Rattle.ifmap_lemmas.specs.Texts.{eq_itself}
 use Rattle.ifmap_meta.specs.declared.stored.Stored.{Stored}
 use Rattle.ifmap_view.specs.declared.attachments.Attachment.{Attachment}
 use Rattle.ifmap_view.specs.declared.views.LinkSeen.{LinkSeen}
 use Rattle.ifmap_view.specs.Rows.{stored_between, stored_linked, stored_on, stored_where}
 use Rattle.ifmap_view.specs.Views.{IsLink, IsView, others}
+use Rattle.ifmap_fresh.specs.laws.SameLaws.{same_is}
 use Rattle.ifmap_fresh_tests.specs.declared.shelves.Shelf.{Shelf}
 use Rattle.ifmap_fresh_tests.specs.Lists.{all_pairs, are_lists, are_sound, numbers_below, different_identifiers, has_rows, is_item_known, is_linked, item_below, link_to, links_of, attachment_on, rows_on_shelves}
 use Rattle.ifmap_fresh_tests.proofs.Graphs.{graph_is}
@@ -141,9 +142,6 @@ module _ (tells : BytesTellIdentifiers) (names : List Identifier) (ss : List She
   abbrev linked_to : ℕ → ℕ → Bool
   linked_to v = is_linked names ss v
 
-  same_is : (a b : Identifier) → IsIdentifier a → IsIdentifier b → same_identifier a b ≡ true → a ≡ b
-  same_is a b p q e = tells a b p q (eq_tells (identifier_bytes a) (identifier_bytes b) e)
-
   -- an identifier of an item that carries something has a number
   numbered : (x : Item) (b : Identifier) → IsIdentifier b → Has (identifiers_of x) b → stored_on x rows ≢ [] → (w : ℕ) × (id_at w ≡ Some b)
   numbered x b i h n =
@@ -153,7 +151,7 @@ module _ (tells : BytesTellIdentifiers) (names : List Identifier) (ss : List She
       in let k = known_end names s.0.item (all_has (λ s. is_item_known names s.item ≡ true) ss
       (all_of_test (λ s. is_item_known names s.item) ss sound.known) s.0 s.1) c.0 c.1
       in let ki = all_has IsIdentifier names named k.0 k.1
-      in let same : k.0 ≡ b = sym (same_is c.0 k.0 ci ki k.2) ∙ same_is c.0 b ci i c.2
+      in let same : k.0 ≡ b = sym (same_is tells c.0 k.0 ci ki k.2) ∙ same_is tells c.0 b ci i c.2
       in got_has names b (subst (λ z. Has names z) same k.1)
 
   linked : (a b : Identifier) → IsIdentifier b → stored_between a b rows ≢ [] → (w : ℕ) × (id_at w ≡ Some b)

@@ -1,7 +1,7 @@
 -- Graphs whose attachments are whole, and the results of searches in them.
 -- Entries of such graphs are told apart by bytes (`entries_told`), results rise (`fresh_rises`), and so one result and what went and
 -- came make the next (`results_fold`, `results_begin`). What the crates below state of bytes and differences comes in as premises.
-use Rattle.std.proofs.Common.{◌≡◌, refl, sym, ◌∙◌, ap, subst, ℕ, true, false, List, [], ◌∷◌, Some, ◌↔◌}
+use Rattle.std.proofs.Common.{◌≡◌, refl, sym, ◌∙◌, ap, subst, ℕ, true, List, [], ◌∷◌, Some, ◌↔◌}
 use Rattle.std.proofs.lemmas.Bool.{and_parts}
 use Rattle.std.specs.List.{IsDistinct, filter}
 use Rattle.std.specs.List.Sorted.{IsStrictlySortedBy}
@@ -12,12 +12,8 @@ use Rattle.ifmap_elem.specs.Canonical.{canonical_bytes}
 use Rattle.ifmap_elem.specs.declared.elements.Element.{Element}
 use Rattle.ifmap_elem.specs.Fit.{IsFit}
 use Rattle.ifmap_folds.specs.ifmap_fresh.Fresh.{fresh, is_found}
-use Rattle.ifmap_ident.specs.Canon.{IsIdentifier}
-use Rattle.ifmap_ident.specs.declared.identifiers.Identifier.{Identifier}
-use Rattle.ifmap_ident.specs.declared.items.Item.{Item}
-use Rattle.ifmap_ident.specs.declared.items.Item.TheVariants.{One, Pair}
-use Rattle.ifmap_ident.specs.Identifiers.{identifier_bytes, same_identifier}
-use Rattle.ifmap_ident.specs.Items.{IsCanonItem, same_item}
+use Rattle.ifmap_ident.specs.Items.{IsCanonItem}
+use Rattle.ifmap_ident.specs.SameLaws.{BytesTellIdentifiers}
 use Rattle.ifmap_lemmas.specs.Having.{Has, filter_has, map_has, all_has}
 use Rattle.ifmap_machine.proofs.Folding.{Folds}
 use Rattle.ifmap_meta.specs.Whole.{IsWhole}
@@ -30,6 +26,7 @@ use Rattle.ifmap_publish.specs.ifmap_view.declared.attachments.Attachment.{Attac
 use Rattle.ifmap_publish.specs.ifmap_view.Attachments.{IsGraph}
 use Rattle.ifmap_folds.specs.laws.FoldingLaws.{difference_none, fresh_rises}
 use Rattle.ifmap_folds.specs.ifmap_fresh.laws.GatheringLaws.{entry_of}
+use Rattle.ifmap_folds.specs.ifmap_fresh.laws.SameLaws.{same_item_is}
 
 -- a graph whose attachments are whole
 pub record IsWholeGraph (rows : List Attachment) : Type 0 where
@@ -48,23 +45,8 @@ empty_rises = tt
 
 -- ---- entries are told apart by bytes
 
-module _ (tell_ids : (one other : Identifier) → IsIdentifier one → IsIdentifier other → identifier_bytes one ≡ identifier_bytes other
-    → one ≡ other) (tell_elements : (one other : Element) → IsFit one → IsFit other
+module _ (tells : BytesTellIdentifiers) (tell_elements : (one other : Element) → IsFit one → IsFit other
     → ((canonical_bytes one ≡ canonical_bytes other) ↔ IsSame one other)) where
-  ids_told : (a b : Identifier) → IsIdentifier a → IsIdentifier b → same_identifier a b ≡ true → a ≡ b
-  ids_told a b ca cb same = tell_ids a b ca cb (text_is (identifier_bytes a) (identifier_bytes b) same)
-
-  items_told : (x y : Item) → IsCanonItem x → IsCanonItem y → same_item x y ≡ true → x ≡ y
-  items_told (One a) (One b) cx cy same =
-      ap (λ i. One i) (ids_told a b cx.identifiers.0 cy.identifiers.0 (and_parts _ _ same).0)
-  items_told (Pair a b) (Pair c d) cx cy same =
-      let parts = and_parts _ _ same in
-      let first = ids_told a c cx.identifiers.0 cy.identifiers.0 parts.0 in
-      let second = ids_told b d cx.identifiers.1.0 cy.identifiers.1.0 (and_parts _ _ parts.1).0 in
-      ap (λ i. Pair i b) first ∙ ap (λ i. Pair c i) second
-  items_told (One a) (Pair c d) cx cy same = let bad : false ≡ true = (and_parts (same_identifier a c) false same).1 in cc
-  items_told (Pair a b) (One c) cx cy same = let bad : false ≡ true = (and_parts (same_identifier a c) false same).1 in cc
-
   elements_told : (one other : Element) → IsFit one → IsFit other → canonical_bytes one ≡ canonical_bytes other → IsSame one other
   elements_told one other f g same = (tell_elements one other f g).0 same
 
@@ -73,7 +55,7 @@ module _ (tell_ids : (one other : Identifier) → IsIdentifier one → IsIdentif
   unfolding entry_bytes
   attachments_told a b ca cb wa wb same =
       let parts = and_parts _ _ same in
-      let items = items_told a.item b.item ca cb parts.0 in
+      let items = same_item_is tells a.item b.item ca.identifiers cb.identifiers parts.0 in
       let bytes : canonical_bytes a.stored.element ≡ canonical_bytes b.stored.element =
       text_is (canonical_bytes a.stored.element) (canonical_bytes b.stored.element) parts.1 in
       let arranged = elements_told a.stored.element b.stored.element wa.sent.fit wb.sent.fit bytes in
