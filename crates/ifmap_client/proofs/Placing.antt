@@ -12,8 +12,9 @@ use Rattle.std.specs.declared.cmp.Ordering.TheVariants.{Less, Equal}
 use Rattle.ifmap_client.specs.EntrySets.{IsEntryPlace, without_entry}
 use Rattle.ifmap_folds.specs.Differences.{difference, entry_order, has_entry, same_entry}
 use Rattle.ifmap_lemmas.specs.Filters.{all_at, all_weaker, filter_all, none_dropped}
+use Rattle.ifmap_lemmas.specs.Orderings.{less_turned}
 use Rattle.ifmap_folds.specs.ifmap_plans.Placing.{put}
-use Rattle.ifmap_folds.specs.ifmap_plans.laws.PlacingLaws.{found_is_put, gap_is_put, gap_none, greater_of_less, put_sorted}
+use Rattle.ifmap_folds.specs.ifmap_plans.laws.PlacingLaws.{found_is_put, gap_is_put, gap_none, put_sorted}
 use Rattle.ifmap_search.specs.declared.results.Entry.{Entry}
 use Rattle.ifmap_folds.specs.laws.FoldingLaws.{entries_tie, difference_none}
 
@@ -26,7 +27,7 @@ module _ (X : Type 0) (C : X → X → Ordering) (o : IsTotalOrder C) where
   later_stay : (e x : X) (xs : List X) → C x e ≡ Equal → AllByRecursion (λ y. C x y ≡ Less) xs
       → AllByRecursion (λ y. not (is_eq (C y e)) ≡ true) xs
   later_stay e x xs is up = all_weaker (λ y. C x y ≡ Less) (λ y. not (is_eq (C y e)) ≡ true)
-      (λ y l. ap (λ r. not (is_eq r)) (greater_of_less X C o e y (sym (o.congr x e y is) ∙ l))) xs up
+      (λ y l. ap (λ r. not (is_eq r)) (less_turned o e y (sym (o.congr x e y is) ∙ l))) xs up
 
   -- where a search ends at one that is equal, it alone is equal
   remove_equal : (e : X) (xs : List X) (i : ℕ) → IsStrictlySortedBy C xs → i < length xs

@@ -9,11 +9,11 @@ use Rattle.std.proofs.lemmas.List.Sorted.{searchable_from_sorted}
 use Rattle.std.specs.Cmp.{IsEquivalence, IsTotalOrder}
 use Rattle.std.specs.List.{AllByRecursion, IsDistinct, filter, insert, list_any, remove}
 use Rattle.std.specs.List.Sorted.{IsBinarySearchResult, IsPartitionPoint, IsSearchInRange, IsSortedBy, IsStrictlySortedBy}
-use Rattle.std.specs.Ordering.{eq_by_cmp, is_eq, is_gt, is_lt, ordering_reverse}
+use Rattle.std.specs.Ordering.{eq_by_cmp, is_eq, is_gt, is_lt}
 use Rattle.std.specs.Result.{is_ok}
 use Rattle.std.specs.declared.cmp.Ordering.TheVariants.{Less, Equal, Greater}
 use Rattle.ifmap_lemmas.specs.Filters.{all_around, all_at, all_filter, all_weaker, filter_all, filter_none, filter_passes}
-use Rattle.ifmap_lemmas.specs.Orderings.{is_greater, is_less}
+use Rattle.ifmap_lemmas.specs.Orderings.{greater_turned, is_greater, is_less, less_turned}
 use Rattle.ifmap_plans.specs.Placing.{IsSpot, put}
 
 module _ (X : Type 0) (E : X → X → Bool) (e : IsEquivalence E) where
@@ -34,21 +34,15 @@ module _ (X : Type 0) (E : X → X → Bool) (e : IsEquivalence E) where
       rw other (ap (λ t. x ∷ t) (remove_one a xs i apart.1 (omega arith) is))
 
 module _ (X : Type 0) (C : X → X → Ordering) (o : IsTotalOrder C) where
-  pub greater_of_less : (a b : X) → C a b ≡ Less → C b a ≡ Greater
-  greater_of_less a b e = o.antisymm b a ∙ ap ordering_reverse e
-
-  pub less_of_greater : (a b : X) → C a b ≡ Greater → C b a ≡ Less
-  less_of_greater a b e = o.antisymm b a ∙ ap ordering_reverse e
-
   -- all that follow one that is not less are greater
   greater_next : (a x : X) (xs : List X) → C x a ≡ Greater → AllByRecursion (λ y. C x y ≡ Less) xs
       → AllByRecursion (λ y. C y a ≡ Greater) xs
   greater_next a x xs h up = all_weaker (λ y. C x y ≡ Less) (λ y. C y a ≡ Greater)
-      (λ y l. greater_of_less a y (o.trans a x y (less_of_greater x a h) l)) xs up
+      (λ y l. less_turned o a y (o.trans a x y (greater_turned o x a h) l)) xs up
 
   greater_after : (a x : X) (xs : List X) → C x a ≡ Equal → AllByRecursion (λ y. C x y ≡ Less) xs → AllByRecursion (λ y. C y a ≡ Greater) xs
   greater_after a x xs h up = all_weaker (λ y. C x y ≡ Less) (λ y. C y a ≡ Greater)
-      (λ y l. greater_of_less a y (sym (o.congr x a y h) ∙ l)) xs up
+      (λ y l. less_turned o a y (sym (o.congr x a y h) ∙ l)) xs up
 
   -- where all are greater, it goes in front
   pub put_front : (a : X) (xs : List X) → AllByRecursion (λ y. C y a ≡ Greater) xs → put C a xs ≡ a ∷ xs
@@ -92,7 +86,7 @@ module _ (X : Type 0) (C : X → X → Ordering) (o : IsTotalOrder C) where
       → is_lt (C (get_or xs (suc j) d) (get_or xs j d)) ≡ false
   unfolding IsStrictlySortedBy
   rises_next [] up j d lt = absurd (omega arith)
-  rises_next (x ∷ xs) up zero d lt = ap is_lt (greater_of_less x (get_or xs 0 d) (all_at (λ z. C x z ≡ Less) xs 0 d up.0 (omega arith)))
+  rises_next (x ∷ xs) up zero d lt = ap is_lt (less_turned o x (get_or xs 0 d) (all_at (λ z. C x z ≡ Less) xs 0 d up.0 (omega arith)))
   rises_next (x ∷ xs) up (suc j) d lt = rises_next xs up.1 j d (omega arith)
 
   rises : (xs : List X) → IsStrictlySortedBy C xs → IsSortedBy (λ a b. is_lt (C a b)) xs
@@ -159,7 +153,7 @@ module _ (X : Type 0) (C : X → X → Ordering) (o : IsTotalOrder C) where
       (IsStrictlySortedBy-filter C (λ y. is_lt (C y a)) xs up) (IsStrictlySortedBy-filter C (λ y. is_gt (C y a)) xs up)
       (all_weaker (λ y. is_lt (C y a) ≡ true) (λ y. C y a ≡ Less) (λ y h. is_less (C y a) h) _ (filter_passes (λ y. is_lt (C y a)) xs))
       (all_weaker (λ y. is_gt (C y a) ≡ true) (λ y. C a y ≡ Less)
-      (λ y h. less_of_greater y a (is_greater (C y a) h)) _ (filter_passes (λ y. is_gt (C y a)) xs))
+      (λ y h. greater_turned o y a (is_greater (C y a) h)) _ (filter_passes (λ y. is_gt (C y a)) xs))
 
   module _ (E : X → X → Bool) (e : IsEquivalence E) (a : X) where
     -- with the first member less than, equal to or greater than the one that is put in
