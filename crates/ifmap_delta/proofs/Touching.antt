@@ -21,13 +21,14 @@ use Rattle.ifmap_plans.specs.Lists.{next_on, put_each, without}
 use Rattle.ifmap_plans.specs.Placing.{put}
 use Rattle.ifmap_plans.specs.Plans.{changed_by}
 use Rattle.ifmap_plans.specs.laws.KeyLaws.{stored_total}
+use Rattle.ifmap_plans.specs.laws.PlacingLaws.{has_put_one, put_sorted}
 use Rattle.ifmap_search.specs.declared.searches.Search.{Search}
 use Rattle.ifmap_view.specs.declared.attachments.Attachment.{Attachment}
 use Rattle.ifmap_view.specs.Attachments.{stored_order}
 use Rattle.ifmap_view.specs.Rows.{stored_on}
 use Rattle.ifmap_fresh.specs.Fresh.{is_looked_at}
 use Rattle.ifmap_fresh.specs.Gathered.{entry_at}
-use Rattle.ifmap_folds.specs.laws.RisingLaws.{has_put, has_still, put_has, put_rises, rising_same}
+use Rattle.ifmap_folds.specs.laws.RisingLaws.{has_still, put_has, rising_same}
 use Rattle.ifmap_delta.specs.Shown.{shown_on}
 use Rattle.ifmap_delta.specs.Touched.{has_met, left_out, rows_touched_by}
 use Rattle.ifmap_delta.proofs.Ties.{tied_same}
@@ -93,7 +94,7 @@ module _ (rows these found : List Stored) (row : Stored) (up : IsStrictlySortedB
     ]
 
     is_put : (z : Stored) → x ≡ z → Has (put stored_order x found) z
-    is_put z e = subst (λ y. Has (put stored_order x found) y) e (has_put stored_order stored_total x found)
+    is_put z e = subst (λ y. Has (put stored_order x found) y) e (has_put_one Stored stored_order stored_total x found)
 
     to_put : (z : Stored) → Has (rows_touched_by (these ++ row ∷ []) rows) z → Has (put stored_order x found) z
     to_put z h =
@@ -108,7 +109,7 @@ module _ (rows these found : List Stored) (row : Stored) (up : IsStrictlySortedB
 
     pub one_more : put stored_order x found ≡ rows_touched_by (these ++ row ∷ []) rows
     one_more = rising_same stored_order stored_total (put stored_order x found) (rows_touched_by (these ++ row ∷ []) rows)
-        (put_rises stored_order stored_total x found rises)
+        (put_sorted Stored stored_order stored_total x found rises)
         (IsStrictlySortedBy-filter stored_order (ties (these ++ row ∷ [])) rows up) of_put to_put
 
   pub none_more : list_any (λ o. tie o row) rows ≡ false → found ≡ rows_touched_by (these ++ row ∷ []) rows

@@ -13,12 +13,12 @@ use Rattle.ifmap_lemmas.specs.Orderings.{both_equal}
 use Rattle.ifmap_meta.specs.declared.stored.Stored.{Stored}
 use Rattle.ifmap_plans.specs.Placing.{put}
 use Rattle.ifmap_plans.specs.laws.KeyLaws.{stored_total}
-use Rattle.ifmap_plans.specs.laws.PlacingLaws.{put_sorted}
+use Rattle.ifmap_plans.specs.laws.PlacingLaws.{has_put_one, put_sorted}
 use Rattle.ifmap_plans.specs.ifmap_view.Attachments.{stored_order}
 use Rattle.ifmap_rows.specs.Indexed.{IsIndexed, without_one, word_order}
 use Rattle.ifmap_meta.specs.Keys.{word_of}
 use Rattle.ifmap_rows.specs.laws.JoiningLaws.{fails_too}
-use Rattle.ifmap_rows.specs.laws.RisingLaws.{has_put, has_put_one, none_equal, only_one, put_again, put_has}
+use Rattle.ifmap_rows.specs.laws.RisingLaws.{has_put, none_equal, only_one, put_again, put_has}
 
 pub empty : IsIndexed [] []
 unfolding IsStrictlySortedBy

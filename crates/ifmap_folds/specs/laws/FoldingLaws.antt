@@ -15,11 +15,12 @@ use Rattle.ifmap_ident.specs.Items.{item_order, items_tie}
 use Rattle.ifmap_lemmas.specs.Having.{Has, any_has, filter_has, has_any, has_filter, all_has}
 use Rattle.ifmap_lemmas.specs.Orderings.{eq_turned}
 use Rattle.ifmap_plans.specs.Placing.{put}
+use Rattle.ifmap_plans.specs.laws.PlacingLaws.{has_put_one, put_sorted}
 use Rattle.ifmap_ident.specs.SameLaws.{items_total}
 use Rattle.ifmap_fresh.specs.ifmap_search.declared.results.Entry.{Entry}
 use Rattle.ifmap_folds.specs.Differences.{difference, entry_bytes, entry_order, has_entry, same_entry}
 use Rattle.ifmap_folds.specs.Folds.{with_entries}
-use Rattle.ifmap_folds.specs.laws.RisingLaws.{has_put, has_still, head_rises, put_has, put_rises, rising_same, tail_rises}
+use Rattle.ifmap_folds.specs.laws.RisingLaws.{has_still, head_rises, put_has, rising_same, tail_rises}
 use Rattle.ifmap_fresh.specs.ifmap_view.declared.attachments.Attachment.{Attachment}
 use Rattle.ifmap_fresh.specs.ifmap_view.Attachments.{attachment_order, stored_bytes, IsGraph}
 use Rattle.ifmap_lemmas.specs.Filters.{all_weaker}
@@ -51,7 +52,7 @@ not_of false e f = let q : false ≡ true = f in cc
 
 with_rises : (es set : List Entry) → IsStrictlySortedBy entry_order set → IsStrictlySortedBy entry_order (with_entries es set)
 with_rises [] set r = r
-with_rises (e ∷ es) set r = with_rises es (put entry_order e set) (put_rises entry_order entries_total e set r)
+with_rises (e ∷ es) set r = with_rises es (put entry_order e set) (put_sorted Entry entry_order entries_total e set r)
 
 with_has : (es set : List Entry) (z : Entry) → Has (with_entries es set) z → Has es z ⊎ Has set z
 with_has [] set z h = inr h
@@ -73,7 +74,7 @@ has_with : (es set : List Entry) (z : Entry) → IsStrictlySortedBy entry_order 
 has_with [] set z r h = absurd h
 has_with (e ∷ es) set z r (inl q) =
     subst (λ x. Has (with_entries es (put entry_order e set)) x) q
-    (has_kept es (put entry_order e set) e (has_put entry_order entries_total e set)
+    (has_kept es (put entry_order e set) e (has_put_one Entry entry_order entries_total e set)
     (λ x k. ap is_eq (all_has (λ y. entry_order e y ≡ Less) es (head_rises entry_order entries_total e es r) x k)))
 has_with (e ∷ es) set z r (inr k) = has_with es (put entry_order e set) z (tail_rises entry_order entries_total e es r) k
 

@@ -1,16 +1,13 @@
--- Lists that rise strictly: two with the same members are one, and how a member is put in its place.
-use Rattle.std.proofs.Common.{◌≡◌, ◌⊎◌, inl, inr, Bool, true, false, not, List, [], ◌∷◌, ◌++◌, refl, ap, ◌∙◌, sym, subst}
-use Rattle.std.proofs.lemmas.Bool.{cases_Bool}
-use Rattle.std.proofs.lemmas.List.Kept.{IsStrictlySortedBy-filter}
+-- Lists that rise strictly: two with the same members are one, and which members one has where another was put in.
+use Rattle.std.proofs.Common.{◌≡◌, ◌⊎◌, inl, inr, true, false, List, [], ◌∷◌, refl, ap, ◌∙◌, sym, subst}
 use Rattle.std.specs.Cmp.{IsTotalOrder, tied_itself}
 use Rattle.std.specs.List.{AllByRecursion, filter}
 use Rattle.std.specs.List.Sorted.{IsStrictlySortedBy}
 use Rattle.std.specs.Ordering.{is_eq, is_gt, is_lt}
 use Rattle.std.specs.declared.cmp.Ordering.{Ordering}
 use Rattle.std.specs.declared.cmp.Ordering.TheVariants.{Less, Equal, Greater}
-use Rattle.ifmap_lemmas.specs.Having.{Has, filter_has, has_either, has_filter, has_left, has_right, all_has, has_all}
-use Rattle.ifmap_lemmas.specs.Members.{both_all}
-use Rattle.ifmap_lemmas.specs.Orderings.{is_greater, is_less, greater_turned, not_both}
+use Rattle.ifmap_lemmas.specs.Having.{Has, filter_has, has_either, has_filter, has_left, has_right, all_has}
+use Rattle.ifmap_lemmas.specs.Orderings.{not_both}
 use Rattle.ifmap_plans.specs.Placing.{put}
 
 module _ {X : Type 0} (order : X → X → Ordering) (total : IsTotalOrder order) where
@@ -21,15 +18,6 @@ module _ {X : Type 0} (order : X → X → Ordering) (total : IsTotalOrder order
   pub tail_rises : (x : X) (xs : List X) → IsStrictlySortedBy order (x ∷ xs) → IsStrictlySortedBy order xs
   unfolding IsStrictlySortedBy
   tail_rises x xs r = r.1
-
-  pub rises_from : (x : X) (xs : List X) → AllByRecursion (λ y. order x y ≡ Less) xs → IsStrictlySortedBy order xs
-      → IsStrictlySortedBy order (x ∷ xs)
-  unfolding IsStrictlySortedBy
-  rises_from x xs a r = (a, r)
-
-  nothing_rises : IsStrictlySortedBy order []
-  unfolding IsStrictlySortedBy
-  nothing_rises = tt
 
   not_itself : (x : X) → order x x ≡ Less → ⊥
   not_itself x e = let q : Equal ≡ Less = sym (tied_itself total x) ∙ e in cc
@@ -60,28 +48,6 @@ module _ {X : Type 0} (order : X → X → Ordering) (total : IsTotalOrder order
       ])
       in ap (λ w. w ∷ xs) (sym one) ∙ ap (λ l. y ∷ l) rest
 
-  joined_rises : (xs ys : List X) → IsStrictlySortedBy order xs → IsStrictlySortedBy order ys
-      → ((x y : X) → Has xs x → Has ys y → order x y ≡ Less) → IsStrictlySortedBy order (xs ++ ys)
-  joined_rises [] ys r q f = q
-  joined_rises (x ∷ xs) ys r q f =
-      rises_from x (xs ++ ys)
-      (both_all (λ z. order x z ≡ Less) xs ys (head_rises x xs r) (has_all (λ z. order x z ≡ Less) ys (λ y h. f x y (inl refl) h)))
-      (joined_rises xs ys (tail_rises x xs r) q (λ z y h k. f z y (inr h) k))
-
-  pub put_rises : (x : X) (xs : List X) → IsStrictlySortedBy order xs → IsStrictlySortedBy order (put order x xs)
-  put_rises x xs r =
-      let low = filter (λ y. is_lt (order y x)) xs
-      in let high = filter (λ y. is_gt (order y x)) xs
-      in let after : (z : X) → Has high z → order x z ≡ Less
-      = λ z h. greater_turned total z x (is_greater (order z x) (filter_has (λ y. is_gt (order y x)) xs z h).1)
-      in let before : (z : X) → Has low z → order z x ≡ Less = λ z h. is_less (order z x) (filter_has (λ y. is_lt (order y x)) xs z h).1
-      in joined_rises low (x ∷ high) (IsStrictlySortedBy-filter order (λ y. is_lt (order y x)) xs r)
-      (rises_from x high (has_all (λ z. order x z ≡ Less) high after) (IsStrictlySortedBy-filter order (λ y. is_gt (order y x)) xs r))
-      (λ y z h k. elim k [
-        | inl e ↦ subst (λ w. order y w ≡ Less) e (before y h)
-        | inr m ↦ total.trans y x z (before y h) (after z m)
-      ])
-
   pub put_has : (x : X) (xs : List X) (z : X) → Has (put order x xs) z → (x ≡ z) ⊎ Has xs z
   put_has x xs z h = elim (has_either (filter (λ y. is_lt (order y x)) xs) (x ∷ filter (λ y. is_gt (order y x)) xs) z h) [
     | inl k ↦ inr (filter_has (λ y. is_lt (order y x)) xs z k).0
@@ -90,9 +56,6 @@ module _ {X : Type 0} (order : X → X → Ordering) (total : IsTotalOrder order
       | inr m ↦ inr (filter_has (λ y. is_gt (order y x)) xs z m).0
     ]
   ]
-
-  pub has_put : (x : X) (xs : List X) → Has (put order x xs) x
-  has_put x xs = has_right (filter (λ y. is_lt (order y x)) xs) (x ∷ filter (λ y. is_gt (order y x)) xs) x (inl refl)
 
   -- what is not the same stays
   pub has_still : (x : X) (xs : List X) (z : X) → Has xs z → is_eq (order z x) ≡ false → Has (put order x xs) z

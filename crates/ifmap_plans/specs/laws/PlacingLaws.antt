@@ -1,6 +1,6 @@
 -- Putting in, taking out and finding, in lists that rise strictly.
 use Rattle.std.proofs.Common.{◌≡◌, refl, sym, ◌∙◌, ap, subst, ℕ, suc, zero, ◌<◌, ◌≤◌, Bool, true, false, not, List, [], ◌∷◌, ◌++◌, length}
-use Rattle.std.proofs.Common.{get_or, Ordering, arith, Result, Ok, Err, add-one, set}
+use Rattle.std.proofs.Common.{get_or, Ordering, arith, Result, Ok, Err, add-one, inl, set}
 use Rattle.std.proofs.lemmas.Cmp.{alike_right}
 use Rattle.std.proofs.lemmas.List.Elements.{recursion_from_All}
 use Rattle.std.proofs.lemmas.List.Folds.{list_any_at}
@@ -13,6 +13,7 @@ use Rattle.std.specs.Ordering.{eq_by_cmp, is_eq, is_gt, is_lt}
 use Rattle.std.specs.Result.{is_ok}
 use Rattle.std.specs.declared.cmp.Ordering.TheVariants.{Less, Equal, Greater}
 use Rattle.ifmap_lemmas.specs.Filters.{all_around, all_at, all_filter, all_weaker, filter_all, filter_none, filter_passes}
+use Rattle.ifmap_lemmas.specs.Having.{Has, has_right}
 use Rattle.ifmap_lemmas.specs.Orderings.{greater_turned, is_greater, is_less, less_turned}
 use Rattle.ifmap_plans.specs.Placing.{IsSpot, put}
 
@@ -154,6 +155,10 @@ module _ (X : Type 0) (C : X → X → Ordering) (o : IsTotalOrder C) where
       (all_weaker (λ y. is_lt (C y a) ≡ true) (λ y. C y a ≡ Less) (λ y h. is_less (C y a) h) _ (filter_passes (λ y. is_lt (C y a)) xs))
       (all_weaker (λ y. is_gt (C y a) ≡ true) (λ y. C a y ≡ Less)
       (λ y h. greater_turned o y a (is_greater (C y a) h)) _ (filter_passes (λ y. is_gt (C y a)) xs))
+
+  -- and has the one that was put in
+  pub has_put_one : (a : X) (xs : List X) → Has (put C a xs) a
+  has_put_one a xs = has_right (filter (λ y. is_lt (C y a)) xs) (a ∷ filter (λ y. is_gt (C y a)) xs) a (inl refl)
 
   module _ (E : X → X → Bool) (e : IsEquivalence E) (a : X) where
     -- with the first member less than, equal to or greater than the one that is put in

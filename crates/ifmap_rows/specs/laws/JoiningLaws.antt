@@ -13,9 +13,9 @@ use Rattle.ifmap_meta.specs.declared.stored.Stored.{Stored}
 use Rattle.ifmap_plans.specs.Lists.{put_each, without}
 use Rattle.ifmap_plans.specs.Placing.{put}
 use Rattle.ifmap_plans.specs.laws.KeyLaws.{stored_total}
-use Rattle.ifmap_plans.specs.laws.PlacingLaws.{put_sorted}
+use Rattle.ifmap_plans.specs.laws.PlacingLaws.{has_put_one, put_sorted}
 use Rattle.ifmap_plans.specs.ifmap_view.Attachments.{stored_order}
-use Rattle.ifmap_rows.specs.laws.RisingLaws.{climbs, has_put, has_put_one, put_has}
+use Rattle.ifmap_rows.specs.laws.RisingLaws.{climbs, has_put, put_has}
 
 -- a test that fails at one that another test tells
 pub fails_too : (p q : Bool) → (p ≡ true → q ≡ true) → q ≡ false → p ≡ false

@@ -115,9 +115,6 @@ module _ (X : Type 0) (C : X → X → Ordering) (o : IsTotalOrder C) where
   pub has_put : (a : X) (xs : List X) (x : X) → Has xs x → is_eq (C a x) ≡ false → Has (put C a xs) x
   has_put a xs x h e = has_by a xs x (C x a) refl h e
 
-  pub has_put_one : (a : X) (xs : List X) → Has (put C a xs) a
-  has_put_one a xs = has_right (filter (λ y. is_lt (C y a)) xs) (a ∷ filter (λ y. is_gt (C y a)) xs) a (inl refl)
-
   less_other : (a y : X) → is_lt (C y a) ≡ true → not (eq_by_cmp C a y) ≡ true
   less_other a y h = ap not (flip_eq a y ∙ less_differs (C y a) h)
 
