@@ -2,13 +2,14 @@
 -- `Follows` holds in every state: what is queued for a session, folded onto what its polls were told, is the fresh result of each of
 -- its subscriptions. First: telling, overflowing, and the ends and beginnings of sessions keep it. Then: the fold of a subscribe
 -- (`ops_tell`, `told_follows`), polls (`polled_follows`), each case of the step, and histories.
-use Rattle.std.proofs.Common.{◌≡◌, refl, sym, ◌∙◌, ap, subst, ℕ, ◌+◌, ◌^◌, ◌<◌, ◌≤◌, ◌==◌, ◌&&◌, ◌⊎◌, Bool, true, false, not, cond, List}
+use Rattle.std.proofs.Common.{◌≡◌, refl, sym, ◌∙◌, ap, subst, ℕ, ◌+◌, ◌^◌, ◌<◌, ◌≤◌, ◌==◌, ◌&&◌, Bool, true, false, not, cond, List}
 use Rattle.std.proofs.Common.{[], ◌∷◌, ◌++◌, map, Option, None, Some, option_and_then, inl, inr, arith}
 use Rattle.std.proofs.lemmas.Bool.{and_cases, both_ways, cases_Bool, eq-eqb, eqb-true, not-true}
 use Rattle.std.proofs.lemmas.List.Kept.{IsStrictlySortedBy-filter}
 use Rattle.std.specs.List.{find}
 use Rattle.std.specs.List.Sorted.{IsStrictlySortedBy}
 use Rattle.ifmap_folds.specs.Folds.{Sets, fold_items, with_entries}
+use Rattle.ifmap_folds.specs.laws.RisingLaws.{put_has}
 use Rattle.ifmap_folds.specs.ifmap_fresh.Fresh.{fresh}
 use Rattle.ifmap_lemmas.specs.Filters.{all_weaker, filter_passes}
 use Rattle.ifmap_lemmas.specs.Having.{Has, filter_has, has_any, has_either, has_filter, map_has, all_has}
@@ -23,10 +24,9 @@ use Rattle.ifmap_machine.specs.Telling.{is_overfull, is_overrun, is_too_big, ove
 use Rattle.ifmap_machine.specs.Telling.{too_big_item}
 use Rattle.ifmap_machine.proofs.Folding.{AreOf, Folds, dropped_stay, fold_joined, other_stays, told_all}
 use Rattle.ifmap_machine.proofs.Ids.{find_has, one_of_serial}
-use Rattle.ifmap_machine.proofs.Standing.{IsStood}
+use Rattle.ifmap_machine.proofs.Standing.{IsStood, standing_total}
 use Rattle.ifmap_machine.proofs.Tables.{IsTabled, overflow_keeps}
 use Rattle.ifmap_folds.specs.ifmap_plans.declared.plans.Note.{Note}
-use Rattle.ifmap_folds.specs.ifmap_plans.Placing.{put}
 use Rattle.ifmap_publish.specs.ifmap_requests.declared.requests.SubscribeOp.{SubscribeOp}
 use Rattle.ifmap_publish.specs.ifmap_requests.declared.requests.SubscribeOp.TheVariants.{Update, Delete}
 use Rattle.ifmap_replies.specs.ifmap_search.declared.results.PollItem.{PollItem}
@@ -154,14 +154,6 @@ begun_follows client random limit done state w = record {
 
 -- ---- a subscribe
 
--- what stands under a name that is put in
-put_has : (a : Standing) (xs : List Standing) (x : Standing) → Has (put standing_order a xs) x → (a ≡ x) ⊎ Has xs x
-put_has a xs x h =
-    elim (has_either _ (a ∷ _) x h) [
-      | inl below ↦ inr (filter_has _ xs x below).0
-      | inr rest ↦ elim rest [ inl e ↦ inl e | inr above ↦ inr (filter_has _ xs x above).0 ]
-    ]
-
 -- along the fold: the session's queue makes the fresh results of its subscriptions, and those of others stay
 pub record Tells (Live : Standing → Type 0) (rows : List Attachment) (serial counter : ℕ) (sets : Sets) (standing : List Standing)
     (t : Told)
@@ -225,18 +217,18 @@ module _ (rows : List Attachment) (serial counter : ℕ) (sets : Sets) (standing
           below = λ x hx. (dropped_tells name t w).below x hx;
         })
         | inr fits ↦ rw fits (record {
-          mine = λ x hx own live. elim (put_has _ left.standing x hx) [
+          mine = λ x hx own live. elim (put_has standing_order standing_total _ left.standing x hx) [
             | inl e ↦ subst (λ (y : Standing). fold_items (left.queue ++ the_item.Search name (fresh rows asked) ∷ []) sets y.name
                 ≡ Some (fresh rows y.search)) e
                 (ap (λ g. g name) (fold_joined left.queue (the_item.Search name (fresh rows asked) ∷ []) sets)
                 ∙ rw own_name (ap Some (begins asked)))
             | inr h ↦ more_tells {Live = Live} {Now = Now} name (the_item.Search name (fresh rows asked)) t own_name counted w x h own live
           ];
-          others = λ x hx other. elim (put_has _ left.standing x hx) [
+          others = λ x hx other. elim (put_has standing_order standing_total _ left.standing x hx) [
             | inl e ↦ absurd (both_ways (x.serial == serial) other (eq-eqb x.serial serial (ap (λ (y : Standing). y.serial) (sym e))))
             | inr h ↦ (dropped_tells name t w).others x h other
           ];
-          below = λ x hx. elim (put_has _ left.standing x hx) [
+          below = λ x hx. elim (put_has standing_order standing_total _ left.standing x hx) [
             | inl e ↦ subst (λ n. n ≤ counter) (ap (λ (y : Standing). y.serial) e) in_range
             | inr h ↦ (dropped_tells name t w).below x h
           ];
