@@ -21,7 +21,7 @@ use Rattle.ifmap_view.specs.Attachments.{stored_order}
 use Rattle.ifmap_view.specs.Rows.{stored_on}
 use Rattle.std.specs.Ordering.{eq_by_cmp}
 use Rattle.std.specs.List.{list_any}
-use Rattle.ifmap_fresh.specs.Collected.{item_alone, pair_at}
+use Rattle.ifmap_fresh.specs.Items.{item_alone, pair_at}
 use Rattle.ifmap_fresh.specs.Fresh.{is_looked_at}
 use Rattle.ifmap_fresh.specs.Gathered.{entry_at, has_item}
 use Rattle.ifmap_fresh.specs.Linking.{end_where}

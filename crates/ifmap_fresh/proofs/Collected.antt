@@ -27,10 +27,10 @@ use Rattle.ifmap_view.specs.declared.views.LinkSeen.{LinkSeen}
 use Rattle.ifmap_view.specs.Attachments.{IsGraph}
 use Rattle.ifmap_view.specs.Rows.{stored_between, stored_linked, stored_on}
 use Rattle.ifmap_view.specs.Views.{IsView}
-use Rattle.ifmap_fresh.specs.Collected.{AreLookedAt, item_alone, is_below, is_passed, item_along, item_to, item_where, items_of_number, items_of_numbers}
-use Rattle.ifmap_fresh.specs.Collected.{pair_at}
+use Rattle.ifmap_fresh.specs.Collected.{AreLookedAt, is_below, is_passed, item_along, item_to, item_where, items_of_number, items_of_numbers}
 use Rattle.ifmap_fresh.specs.Fresh.{fresh, is_found, is_looked_at}
 use Rattle.ifmap_fresh.specs.Gathered.{entries_of, entries_on, entry_at, gathered_rows, has_item, row_at}
+use Rattle.ifmap_fresh.specs.Items.{item_alone, pair_at}
 use Rattle.ifmap_fresh.specs.Linking.{end_where, is_terminal_at}
 use Rattle.ifmap_fresh.specs.Matching.{is_match, is_terminal, one_meets}
 use Rattle.ifmap_fresh.specs.Numbered.{HaveMatchingLink, is_terminal_number}

@@ -1,12 +1,11 @@
 -- The items that a search looks at, number by number. No public clause cites this module.
-use Rattle.std.specs.Prelude.{◌≡◌, ◌≢◌, true, ℕ, Bool, false, not, ◌&&◌, List, [], ◌∷◌, ◌++◌, Option, None, Some, map, nat_lt}
+use Rattle.std.specs.Prelude.{◌≡◌, ◌≢◌, true, ℕ, Bool, false, not, ◌&&◌, List, [], ◌++◌, Option, None, Some, map, nat_lt}
 use Rattle.std.specs.Prelude.{if◌then◌else◌}
 use Rattle.std.specs.List.{cons_option, filter_map, flat_map}
 use Rattle.std.specs.List.Sorted.{IsStrictlySortedBy}
 use Rattle.ifmap_ident.specs.declared.identifiers.Identifier.{Identifier}
 use Rattle.ifmap_ident.specs.declared.items.Item.{Item}
-use Rattle.ifmap_ident.specs.declared.items.Item.TheVariants.{One}
-use Rattle.ifmap_ident.specs.Items.{item_order, pair_of}
+use Rattle.ifmap_ident.specs.Items.{item_order}
 use Rattle.ifmap_lemmas.specs.Having.{Has}
 use Rattle.ifmap_search.specs.declared.searches.Search.{Search}
 use Rattle.ifmap_view.specs.declared.attachments.Attachment.{Attachment}
@@ -15,6 +14,7 @@ use Rattle.ifmap_ident.specs.Items.{IsCanonItem}
 use Rattle.ifmap_view.specs.Rows.{stored_on}
 use Rattle.ifmap_fresh.specs.Fresh.{is_looked_at}
 use Rattle.ifmap_fresh.specs.Gathered.{has_item}
+use Rattle.ifmap_fresh.specs.Items.{item_alone, pair_at}
 use Rattle.ifmap_fresh.specs.Linking.{end_where, is_terminal_at}
 
 -- the mark is of a walk that has room for one link more
@@ -29,17 +29,6 @@ numbers_of marks = map (λ e. e.0) marks
 -- a list of what there is
 abbrev pub item_list : Option Item → List Item
 item_list item = cons_option item []
-
--- the item of an identifier, where there is one
-abbrev pub item_alone : Option Identifier → List Item
-item_alone None = []
-item_alone (Some a) = One a ∷ []
-
--- the item of two identifiers, where there are both and they differ
-abbrev pub pair_at : Option Identifier → Option Identifier → Option Item
-pair_at None b = None
-pair_at (Some a) None = None
-pair_at (Some a) (Some b) = pair_of a b
 
 module _ (rows : List Attachment) (id_at : ℕ → Option Identifier) (links : ℕ → List LinkSeen) (s : Search) (mark : ℕ → Option ℕ) where
   -- walks go on from the number

@@ -5,6 +5,7 @@ pub mod Walked
 pub mod Fresh
 pub mod Linking
 pub mod Numbered
+pub mod Items
 pub mod Gathered
 pub mod Collected
 pub mod laws

@@ -1,6 +1,6 @@
 //! The items of identifiers that a view may lack.
 ghost use Rattle.std.specs.Prelude.{◌≡◌, ◌++◌, OnErr, OnOk, IfOk, option_copied};
-ghost use Rattle.ifmap_fresh.specs.Collected.{item_alone, pair_at};
+ghost use Rattle.ifmap_fresh.specs.Items.{item_alone, pair_at};
 
 use ifmap_elem::Copied;
 use ifmap_ident::{Identifier, Item};
