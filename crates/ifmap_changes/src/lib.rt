@@ -17,7 +17,6 @@ pub use ifmap_tellings::tellings::{
 pub use ifmap_tellings::{
     Answer, Ask, Event, PublishOp, Reply, Request, SESSION_SECONDS, Sessions, Standing,
     SubscribeOp, Subscribed, Subscription, Who, clients_fold_fresh_results, fresh, named_size,
-    same_links_keep_subscriptions, same_marks_keep_subscriptions, subscribe, too_big_item,
-    ways_stay, write_reply,
+    same_links_keep_subscriptions, subscribe, too_big_item, ways_stay, write_reply,
 };
 pub use parts::Parts;

@@ -1,7 +1,6 @@
 -- Subscriptions place by place: those that are not gone, and what stays from one list of them to another.
 -- First what is not gone (`all_of_kept`, `kept_of_all`), once more is gone (`kept_fewer`), and where nothing is (`none_gone`). Then
--- relations at each place: joined, of a list with itself, and what they carry over (`all_moved`, `same_kept`, `same_map`). Last, those of
--- searches and of what subscriptions keep.
+-- relations at each place, and what they carry over (`same_map`). Last, those of searches and of what subscriptions keep.
 use Rattle.std.proofs.Common.{◌≡◌, refl, sym, ◌∙◌, ap, subst, ℕ, zero, suc, Bool, true, false, List, [], ◌∷◌, length, map, Some, slice_get, arith}
 use Rattle.std.proofs.lemmas.Option.{same_Some, none-some}
 use Rattle.std.specs.List.{AllByRecursion}
@@ -76,25 +75,9 @@ all_left P (false ∷ gone) (x ∷ xs) h = (h.0, all_left P gone xs h.1)
 
 -- ---- relations at each place
 
--- a list as long as another has something at each place of that one
-present : {X : Type 0} (xs ys : List X) (i : ℕ) (x : X) → length ys ≡ length xs → slice_get xs i ≡ Some x
-    → (y : X) × (slice_get ys i ≡ Some y)
-present [] ys i x long e = absurd (none-some x e)
-present (a ∷ xs) [] i x long e = absurd (omega (arith, long))
-present (a ∷ xs) (b ∷ ys) zero x long e = (b, refl)
-present (a ∷ xs) (b ∷ ys) (suc i) x long e = present xs ys i x (omega (arith, long)) e
-
 at_tail : {X : Type 0} (R : ℕ → X → X → Type 0) (x y : X) (xs ys : List X) → AtEach R (x ∷ xs) (y ∷ ys)
     → AtEach (λ i. R (suc i)) xs ys
 at_tail R x y xs ys r = record { long = omega (arith, r.long); at = λ i a b p q. r.at (suc i) a b p q }
-
-pub all_moved : {X : Type 0} (P Q : X → Type 0) (R : ℕ → X → X → Type 0) → ((i : ℕ) (x y : X) → R i x y → P x → Q y) → (a b : List X)
-    → AtEach R a b → AllByRecursion P a → AllByRecursion Q b
-all_moved P Q R f [] [] r h = tt
-all_moved P Q R f [] (y ∷ b) r h = absurd (omega (arith, r.long))
-all_moved P Q R f (x ∷ a) [] r h = absurd (omega (arith, r.long))
-all_moved P Q R f (x ∷ a) (y ∷ b) r h =
-    (f zero x y (r.at zero x y refl refl) h.0, all_moved P Q (λ i. R (suc i)) (λ i. f (suc i)) a b (at_tail R x y a b r) h.1)
 
 pub same_map : {X Y : Type 0} (f : X → Y) (R : ℕ → X → X → Type 0) → ((i : ℕ) (x y : X) → R i x y → f y ≡ f x) → (a b : List X)
     → AtEach R a b → map f b ≡ map f a

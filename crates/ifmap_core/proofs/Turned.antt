@@ -1,27 +1,25 @@
 -- Parts that stay, parts that were turned, and parts that are back: of themselves, and one after the other.
 -- Plan: (1) of themselves: the same sessions, shared numbers, kept and turned parts; (2) one after the other; (3) what is back
--- is what it was, and subscriptions keep what they kept where numbers are shared (`keeps_there`, `all_there`, `back_parts`);
--- (4) parts of which only room changed, before or after a change (`kept_room`, `turned_room`, `room_kept`); (5) parts at
--- the start.
-use Rattle.std.proofs.Common.{◌≡◌, refl, sym, ◌∙◌, ap, subst, ℕ, ◌≤◌, List, [], ◌∷◌, length, map, Some, arith}
+-- is what it was, and subscriptions keep what they kept where numbers are shared (`keeps_there`, `all_there`);
+-- (4) parts of which only room changed, before or after a change (`kept_room`, `turned_room`, `room_kept`); (5) parts at the
+-- start.
+use Rattle.std.proofs.Common.{◌≡◌, refl, sym, ◌∙◌, ap, subst, ℕ, List, [], ◌∷◌, Some, arith}
 use Rattle.std.proofs.lemmas.Option.{same_Some}
 use Rattle.std.specs.List.{AllByRecursion}
 use Rattle.std.specs.List.Sorted.{IsStrictlySortedBy}
 use Rattle.ifmap_subscribes.specs.ifmap_changes.Between.{AreBack, AreKept, AreOrdered, AreParts, AreTurned, IsSteady, SharesNumbers, sight_now, state_at, IsSeen}
 use Rattle.ifmap_subscribes.specs.ifmap_changes.declared.parts.Parts.{Parts}
-use Rattle.ifmap_core.proofs.Places.{all_moved, same_map, searched_itself, shown_kept}
+use Rattle.ifmap_core.proofs.Places.{same_map, searched_itself, shown_kept}
 use Rattle.ifmap_subscribes.specs.ifmap_delta.Sights.{IsUpToDate, SameLinks}
 use Rattle.ifmap_subscribes.specs.ifmap_graph.Back.{KeepsBacks}
 use Rattle.ifmap_subscribes.specs.ifmap_graph.Held.{Held, IsOwn}
 use Rattle.ifmap_subscribes.specs.ifmap_graph.Seen.{IsStill, KeepsNumbers, StaysLean, links_now, rows_now}
 use Rattle.ifmap_ident.specs.declared.identifiers.Identifier.{Identifier}
 use Rattle.ifmap_subscribes.specs.ifmap_machine.State as machine
-use Rattle.ifmap_subscribes.specs.ifmap_machine.State.{standing_in}
-use Rattle.ifmap_subscribes.specs.ifmap_machine.Subscribing.{most_names}
 use Rattle.ifmap_subscribes.specs.ifmap_pool.Holdings.{key_at}
-use Rattle.ifmap_session.specs.Sessions.{IsLive, Session}
+use Rattle.ifmap_session.specs.Sessions.{Session}
 use Rattle.ifmap_subscribes.specs.ifmap_standing.declared.standing.Standing.{Standing}
-use Rattle.ifmap_subscribes.specs.ifmap_standing.Kept.{AtEach, KeepsSame, StaysRelated, StaysSame}
+use Rattle.ifmap_subscribes.specs.ifmap_standing.Kept.{AtEach, KeepsSame, StaysRelated}
 use Rattle.ifmap_subscribes.specs.ifmap_standing.Standing.{standing_of}
 use Rattle.ifmap_subscribes.specs.ifmap_tellings.Tellings.{HasSameSessions}
 use Rattle.ifmap_subscribes.specs.ifmap_standing.PlaceLaws.{kept_itself, searched_twice}
@@ -89,36 +87,6 @@ pub all_there : (old new : Held) → KeepsNumbered old new → (xs : List Standi
     xs
 all_there old new k [] n h = tt
 all_there old new k (x ∷ xs) n h = (k x.subscription n.0 h.0, all_there old new k xs n.1 h.1)
-
-ordered_back : (old new : Parts) → AreBack old new → AreOrdered old.sessions.live old.standing.items
-    → AreOrdered new.sessions.live new.standing.items
-ordered_back old new b o =
-    let same : map standing_of new.standing.items ≡ map standing_of old.standing.items =
-    same_map standing_of (λ _. StaysRelated KeepsSame) shown_kept old.standing.items new.standing.items b.standing in
-    record {
-      rising = rw same o.rising;
-      live = all_moved (λ (x : Standing). IsLive x.serial old.sessions.live) (λ (x : Standing). IsLive x.serial new.sessions.live)
-          (λ _. StaysRelated KeepsSame)
-          (λ i x y s l. subst (λ (live : List Session). IsLive y.serial live) (sym b.sessions.live)
-          (subst (λ (n : ℕ). IsLive n old.sessions.live) (sym s.serial) l)) old.standing.items new.standing.items b.standing o.live;
-      few = λ n. subst (λ (xs : List machine.Standing). length (standing_in n xs) ≤ most_names) (sym same) (o.few n);
-    }
-
-pub back_parts : SameLinks → StaysSame → (old new : Parts) → IsSeen old.graph → IsSeen new.graph → AreParts old → AreBack old new
-    → AreParts new
-back_parts law marks old new was is p b =
-    let there = keeps_there law old.graph new.graph was is b.rows b.links b.numbers in
-    let moved : AllByRecursion (λ (x : Standing). IsUpToDate (sight_now old.graph) x.subscription) new.standing.items =
-    all_moved (λ (x : Standing). IsUpToDate (sight_now old.graph) x.subscription) (λ (x : Standing). IsUpToDate
-    (sight_now old.graph) x.subscription)
-    (λ _. StaysRelated KeepsSame) (λ i x y s k. marks (sight_now old.graph) x.subscription y.subscription s.subscription k)
-    old.standing.items new.standing.items b.standing p.kept in
-    record {
-      steady = b.steady;
-      ordered = ordered_back old new b p.ordered;
-      kept = all_there old.graph new.graph there new.standing.items b.steady.numbered moved;
-      within = rw (b.sessions.live) (p.within);
-    }
 
 -- kept, and then only room changed
 pub kept_room : (a b c : Parts) → AreKept a b → c.graph ≡ b.graph → c.standing.items ≡ b.standing.items

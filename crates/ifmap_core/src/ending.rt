@@ -25,8 +25,8 @@ use ifmap_io::Moment;
 use ifmap_steps::Steps;
 use ifmap_subscribes::{
     Answer, Asking, Event, Made, Parts, Pending, Who, flag_sessions, nothing_pending,
-    same_links_keep_subscriptions, same_marks_keep_subscriptions, settle_made, take_away_kept,
-    undo_made, ways_stay,
+    same_links_keep_subscriptions, settle_made, take_away_kept, undo_made, ways_stay,
+    what_is_back_is_sound,
 };
 use std::alloc::{AllocError as NoMemory, Global};
 use std::sync::ledger::Ledger;
@@ -59,8 +59,7 @@ pub(crate) fn answer_at<L: Ledger>(
     ensures steps { IsEventWithin (state_at time.now.ttl time.now.moment parts.old) event.now
         steps.old steps.new }
 {
-    same_links_keep_subscriptions();
-    same_marks_keep_subscriptions();
+    what_is_back_is_sound();
     parts.graph.is_view();
     match answer_once(alloc, parts, time, event, steps) {
         Ok(answer) => Ok(answer),
