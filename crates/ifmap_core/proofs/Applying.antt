@@ -8,7 +8,6 @@ use Rattle.std.proofs.lemmas.List.{drop_all, drop_more}
 use Rattle.std.specs.List.{AllByRecursion}
 use Rattle.std.specs.List.Sorted.{IsStrictlySortedBy}
 use Rattle.std.specs.Option.{IfSome}
-use Rattle.std.specs.declared.cmp.Ordering.TheVariants.{Less}
 use Rattle.ifmap_subscribes.specs.ifmap_changes.Between.{AreOrdered, AreWithinLimits, CanEnd, IsWithinLimit}
 use Rattle.ifmap_core.specs.Completions.{after_former, first_renewed, poll_answer, poll_found}
 use Rattle.ifmap_core.proofs.Ended.{live_beside, without_each, without_none}
@@ -28,6 +27,7 @@ use Rattle.ifmap_session.specs.Sessions.{IsLive, Opening, Session, change, sessi
 use Rattle.ifmap_session.specs.laws.TableLaws.{KeepsIdAndClient, changed_one, found_beside_begun, found_changed, renewed_keeps, found_serial, is_left}
 use Rattle.ifmap_subscribes.specs.ifmap_standing.declared.standing.Standing.{Standing}
 use Rattle.ifmap_subscribes.specs.ifmap_standing.Standing.{standing_of}
+use Rattle.ifmap_subscribes.specs.ifmap_tellings.ChangeLaws.{others_same}
 
 -- ---- queues stay within their limits
 
@@ -74,13 +74,6 @@ not_full : (s : Session) (queue : List PollItem) → queue_size queue ≤ s.limi
 not_full s queue le = grind (arith, nat_tests, le)
 
 -- ---- what a poll tells
-
-others_same : (n : ℕ) (x : Session) (f : Session → Session) (live : List Session) → (x.serial == n) ≡ true
-    → AllByRecursion (λ y. session_order x y ≡ Less) live → change n f live ≡ live
-others_same n x f [] is up = refl
-others_same n x f (y ∷ live) is up =
-    let other : (y.serial == n) ≡ false = let less = up.0 in grind (arith, nat_tests, is, less) in
-    rw other (ap (λ t. y ∷ t) (others_same n x f live is up.1))
 
 -- a session has another queue, which is within its limit
 pub fits_within : (n : ℕ) (queue : List PollItem) (live : List Session) → IsStrictlySortedBy session_order live → AreWithinLimits live

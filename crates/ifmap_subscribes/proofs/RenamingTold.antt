@@ -1,10 +1,9 @@
 -- What renamings make of parts.
--- First: one session changes twice (`changes_both`), or in nothing (`tells_nothing`), and is the only one of its serial (`only_one`). Then:
+-- First: one session is told nothing (`tells_nothing`), is the only one of its serial (`only_one`), and is found still (`found_then`). Then:
 -- renamings are made one after the other (`renamed_none`, `renamed_more`), of which one is made by a drop and a put (`renamed_one`). Last:
 -- the rest can be made then (`can_rest`).
-use Rattle.std.proofs.Common.{◌≡◌, refl, sym, ◌∙◌, ap, subst, ℕ, ◌+◌, ◌≤◌, ◌==◌, Bool, true, false, not, cond, List, [], ◌∷◌, ◌++◌, append-nil, length, map, Option, None, Some, IfSome, option_to_list, inl, inr, arith, Less, vec_len, vec_capacity, rules}
+use Rattle.std.proofs.Common.{◌≡◌, refl, sym, ◌∙◌, ap, subst, ℕ, ◌+◌, ◌≤◌, ◌==◌, Bool, true, false, not, cond, List, [], ◌∷◌, ◌++◌, append-nil, length, map, Option, None, Some, IfSome, option_to_list, inl, inr, arith, vec_len, vec_capacity, rules}
 use Rattle.std.proofs.lemmas.Bool.{cases_Bool}
-use Rattle.std.proofs.lemmas.Bool.Decides.{nat_tests}
 use Rattle.std.proofs.lemmas.List.Kept.{IsStrictlySortedBy-filter}
 use Rattle.std.proofs.lemmas.List.Sums.{sum_by-cons}
 use Rattle.std.specs.Cmp.{IsTotalOrder}
@@ -28,6 +27,7 @@ use Rattle.ifmap_changes.specs.ifmap_session.Sessions.{Changes, IsLive, Session,
 use Rattle.ifmap_changes.specs.ifmap_session.laws.TableLaws.{KeepsIdAndClient, found_changed}
 use Rattle.ifmap_changes.specs.ifmap_standing.declared.standing.Standing.{Standing}
 use Rattle.ifmap_changes.specs.ifmap_standing.Standing.{standing_of}
+use Rattle.ifmap_changes.specs.ifmap_tellings.ChangeLaws.{change_both, change_none, changes_both, changes_none, others_same}
 use Rattle.ifmap_subscribes.specs.declared.renamings.Renaming.{Renaming}
 use Rattle.ifmap_subscribes.specs.Renamings.{AreRenamed, CanRenameEach, IsOfSession, KeepsNumbered, StandsAmong, begun_by, item_count, rename, rename_all, stand_where, told_in_parts}
 use Rattle.ifmap_subscribes.proofs.RenamingPlaces.{all_stands, none_left}
@@ -36,51 +36,8 @@ use Rattle.ifmap_subscribes.proofs.RenamingStarts.{kept_still, steady_among}
 -- ---- one session changes
 
 module _ (n : ℕ) where
-  change_none : (f : Session → Session) → ((s : Session) → f s ≡ s) → (live : List Session) → change n f live ≡ live
-  change_none f same [] = refl
-  change_none f same (s ∷ live) =
-      elim (cases_Bool (s.serial == n)) [
-        | inl hit ↦ rw (hit, same s, change_none f same live) refl
-        | inr miss ↦ rw (miss, change_none f same live) refl
-      ]
-
-  pub change_both : (f g h : Session → Session) → ((s : Session) → (f s).serial ≡ s.serial) → ((s : Session) → g (f s) ≡ h s)
-      → (live : List Session) → change n g (change n f live) ≡ change n h live
-  change_both f g h keeps same [] = refl
-  change_both f g h keeps same (s ∷ live) =
-      elim (cases_Bool (s.serial == n)) [
-        | inl hit ↦
-            let again : ((f s).serial == n) ≡ true = ap (λ m. m == n) (keeps s) ∙ hit in
-            rw (hit, again, same s, change_both f g h keeps same live) refl
-        | inr miss ↦ rw (miss, miss, change_both f g h keeps same live) refl
-      ]
-
-  changes_none : (f : Session → Session) → ((s : Session) → f s ≡ s) → (table : SessionTable) → Changes n f table table
-  changes_none f same table = record {
-    live = sym (change_none f same table.live);
-    counter = refl;
-    others = λ other apart. refl;
-    room = omega arith;
-  }
-
   pub tells_nothing : (table : SessionTable) → Changes n (tell_session []) table table
-  tells_nothing table = changes_none (tell_session []) (λ s. ap (λ q. record s { queue = q }) (append-nil s.queue)) table
-
-  pub changes_both : (f g h : Session → Session) → ((s : Session) → (f s).serial ≡ s.serial) → ((s : Session) → g (f s) ≡ h s)
-      → (old mid new : SessionTable) → Changes n f old mid → Changes n g mid new → Changes n h old new
-  changes_both f g h keeps same old mid new a b = record {
-    live = b.live ∙ ap (change n g) a.live ∙ change_both f g h keeps same old.live;
-    counter = b.counter ∙ a.counter;
-    others = λ other apart. b.others other apart ∙ a.others other apart;
-    room = omega (arith, a.room, b.room);
-  }
-
-  others_same : (x : Session) (f : Session → Session) (live : List Session) → (x.serial == n) ≡ true
-      → AllByRecursion (λ y. session_order x y ≡ Less) live → change n f live ≡ live
-  others_same x f [] is up = refl
-  others_same x f (y ∷ live) is up =
-      let other : (y.serial == n) ≡ false = let less = up.0 in grind (arith, nat_tests, is, less) in
-      rw other (ap (λ t. y ∷ t) (others_same x f live is up.1))
+  tells_nothing table = changes_none n (tell_session []) (λ s. ap (λ q. record s { queue = q }) (append-nil s.queue)) table
 
   -- where serials rise, what changes is the session that is found
   pub only_one : (f g : Session → Session) (live : List Session) (s : Session) → IsStrictlySortedBy session_order live
@@ -92,7 +49,7 @@ module _ (n : ℕ) where
         | inl hit ↦
             let it : x ≡ s = cc (rw hit at e) in
             let both : f x ≡ g x = ap f it ∙ same ∙ ap g (sym it) in
-            rw (hit, others_same x f live hit up.0, others_same x g live hit up.0, both) refl
+            rw (hit, others_same n x f live hit up.0, others_same n x g live hit up.0, both) refl
         | inr miss ↦ rw miss (ap (λ t. x ∷ t) (only_one f g live s up.1 (rw miss at e) same))
       ]
 

@@ -1,6 +1,6 @@
 -- What is pending, queued in sessions.
--- First: one session changes twice (`changes_both`), or in nothing (`changes_none`). Then: items are queued one after the other
--- (`PushesOn`). Last: one session is told (`room_for_one`), and sessions one after the other (`TellsOn`).
+-- First: who lives goes on to live (`live_changed`), and items are queued one after the other (`PushesOn`). Last: one session is told
+-- (`room_for_one`), and sessions one after the other (`TellsOn`).
 use Rattle.std.proofs.Common.{◌≡◌, ◌≢◌, refl, sym, ◌∙◌, ap, subst, ℕ, zero, suc, ◌+◌, ◌<◌, ◌≤◌, ◌==◌, true, false, List, [], ◌∷◌, append_assoc, length, map, Option, None, Some, IsSome, inl, inr, arith, nat_cmp, is_eq}
 use Rattle.std.proofs.lemmas.Bool.{cases_Bool, eq-eqb, eqb-true}
 use Rattle.std.proofs.lemmas.Bool.Decides.{nat_tests}
@@ -8,51 +8,13 @@ use Rattle.std.specs.BTreeMap.{Updates, get}
 use Rattle.ifmap_lemmas.specs.Options.{is_some_of, some_is}
 use Rattle.ifmap_tellings.specs.declared.tellings.Telling.{Telling}
 use Rattle.ifmap_tellings.specs.declared.tellings.Telling.TheVariants.{After, Alone}
+use Rattle.ifmap_tellings.specs.ChangeLaws.{changes_both, changes_none}
 use Rattle.ifmap_tellings.specs.Tellings.{CanTell, EachTelling, Tellings, count_told, count_where, told_by, told_where}
 use Rattle.ifmap_standing.specs.ifmap_machine.Telling.{tell_session}
 use Rattle.ifmap_search.specs.declared.results.PollItem.{PollItem}
 use Rattle.ifmap_standing.specs.ifmap_session.Sessions.{Changes, IsLive, Session, SessionTable, change, session_with_serial, spare_of, with_item}
 use Rattle.ifmap_standing.specs.ifmap_session.laws.TableLaws.{KeepsIdAndClient, changed_one, found_changed}
 use Rattle.ifmap_standing.specs.ifmap_machine.OrderLaws.{tell_nothing}
-
--- ---- one session changes
-
-module _ (n : ℕ) where
-  change_none : (f : Session → Session) → ((s : Session) → f s ≡ s) → (live : List Session) → change n f live ≡ live
-  change_none f same [] = refl
-  change_none f same (s ∷ live) =
-      elim (cases_Bool (s.serial == n)) [
-        | inl hit ↦ rw (hit, same s, change_none f same live) refl
-        | inr miss ↦ rw (miss, change_none f same live) refl
-      ]
-
-  change_both : (f g h : Session → Session) → ((s : Session) → (f s).serial ≡ s.serial) → ((s : Session) → g (f s) ≡ h s)
-      → (live : List Session) → change n g (change n f live) ≡ change n h live
-  change_both f g h keeps same [] = refl
-  change_both f g h keeps same (s ∷ live) =
-      elim (cases_Bool (s.serial == n)) [
-        | inl hit ↦
-            let again : ((f s).serial == n) ≡ true = ap (λ m. m == n) (keeps s) ∙ hit in
-            rw (hit, again, same s, change_both f g h keeps same live) refl
-        | inr miss ↦ rw (miss, miss, change_both f g h keeps same live) refl
-      ]
-
-  pub changes_none : (f : Session → Session) → ((s : Session) → f s ≡ s) → (table : SessionTable) → Changes n f table table
-  changes_none f same table = record {
-    live = sym (change_none f same table.live);
-    counter = refl;
-    others = λ other apart. refl;
-    room = omega arith;
-  }
-
-  pub changes_both : (f g h : Session → Session) → ((s : Session) → (f s).serial ≡ s.serial) → ((s : Session) → g (f s) ≡ h s)
-      → (old mid new : SessionTable) → Changes n f old mid → Changes n g mid new → Changes n h old new
-  changes_both f g h keeps same old mid new a b = record {
-    live = b.live ∙ ap (change n g) a.live ∙ change_both f g h keeps same old.live;
-    counter = b.counter ∙ a.counter;
-    others = λ other apart. b.others other apart ∙ a.others other apart;
-    room = omega (arith, a.room, b.room);
-  }
 
 -- who lives goes on to live
 pub live_changed : (n : ℕ) (f : Session → Session) → KeepsIdAndClient f → (old new : SessionTable) → Changes n f old new → (m : ℕ) → IsLive

@@ -1,6 +1,7 @@
 -- What is pending of an event, in reading order.
 pub mod Tellings
 pub mod ToldLaws
+pub mod ChangeLaws
 -- What is passed on to the crates above.
 pub mod ifmap_delta
 pub mod ifmap_fresh
