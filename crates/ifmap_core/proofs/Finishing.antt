@@ -16,7 +16,7 @@ use Rattle.ifmap_core.specs.declared.completions.Completion.{Completion}
 use Rattle.ifmap_core.specs.declared.completions.Completion.TheVariants.{Say, Accept, End, Open, Rename, Poll}
 use Rattle.ifmap_core.proofs.Keeping.{all_kept, kept_fewer, kept_rising}
 use Rattle.ifmap_core.proofs.Taking.{map_after}
-use Rattle.ifmap_core.proofs.Told.{after_told, none_mapped, told_by_leaves}
+use Rattle.ifmap_core.proofs.Told.{none_mapped, told_by_leaves}
 use Rattle.ifmap_subscribes.specs.ifmap_delta.Sights.{IsUpToDate}
 use Rattle.ifmap_subscribes.specs.ifmap_graph.Seen.{rows_now}
 use Rattle.ifmap_lemmas.specs.Members.{all_both, both_all, all_two}
@@ -34,7 +34,7 @@ use Rattle.ifmap_subscribes.specs.Renamings.{KeepsNumbered, begun_by, rename_all
 use Rattle.ifmap_subscribes.specs.ifmap_tellings.declared.tellings.Pending.{Pending}
 use Rattle.ifmap_subscribes.specs.ifmap_view.declared.attachments.Attachment.{Attachment}
 use Rattle.ifmap_subscribes.specs.ifmap_tellings.Tellings.{CanTell, EachTelling, Tellings, count_told, count_where, kept_of, told_by}
-use Rattle.ifmap_subscribes.specs.ifmap_tellings.ToldLaws.{map_kept}
+use Rattle.ifmap_subscribes.specs.ifmap_tellings.ToldLaws.{found_told, map_kept}
 
 -- ---- sessions that are told something
 
@@ -49,7 +49,7 @@ module _ (tellings : Tellings) where
   live_told n live l =
       let there = some_is (session_with_serial n live) l in
       is_some_of (session_with_serial n (map (told_by tellings) live)) (told_by tellings there.0)
-      (after_told tellings n live there.0 there.1)
+      (found_told tellings n live there.0 there.1)
 
   former_told : (former : Option ℕ) (live : List Session)
       → after_former former (map (told_by tellings) live) ≡ map (told_by tellings) (after_former former live)

@@ -100,10 +100,6 @@ module _ (tellings : Tellings) where
       → (s : Session) × (session_with_serial n live ≡ Some s) × (told_by tellings s ≡ t)
   before_told n live t e = mapped_found (told_by tellings) (λ (s : Session). s.serial == n) (told_number n) live t e
 
-  pub after_told : (n : ℕ) (live : List Session) (s : Session) → session_with_serial n live ≡ Some s
-      → session_with_serial n (map (told_by tellings) live) ≡ Some (told_by tellings s)
-  after_told n live s e = found_mapped (told_by tellings) (λ (t : Session). t.serial == n) (told_number n) live s e
-
 -- ---- sessions with serials that rise
 
 above_differ : (n : ℕ) (x : Session) (live : List Session) → (x.serial == n) ≡ true → AllByRecursion (λ y. session_order x y ≡ Less) live

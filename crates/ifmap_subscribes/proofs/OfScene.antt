@@ -1,10 +1,8 @@
 -- The session of a scene: it is found among those that are told, and what is so of a name before its operations is so of it.
-use Rattle.std.proofs.Common.{◌≡◌, refl, sym, ◌∙◌, ap, subst, ℕ, suc, ◌+◌, ◌<◌, ◌==◌, add-one, List, [], ◌∷◌, drop, drop-cons, get_or, length, map, Option, None, Some, inl, inr}
+use Rattle.std.proofs.Common.{◌≡◌, refl, sym, ◌∙◌, ap, subst, ℕ, suc, ◌+◌, ◌<◌, add-one, List, ◌∷◌, drop, drop-cons, get_or, length, Option, None, Some}
 use Rattle.std.specs.Prelude.{option_and_then}
 use Rattle.std.specs.Prelude.{IsSome}
-use Rattle.std.proofs.lemmas.Bool.{cases_Bool, false≢true}
-use Rattle.std.specs.BTreeMap.{get}
-use Rattle.std.specs.Ordering.{nat_cmp}
+use Rattle.std.proofs.lemmas.Bool.{false≢true}
 use Rattle.ifmap_changes.specs.Between.{sessions_left, so_far}
 use Rattle.ifmap_changes.specs.declared.parts.Parts.{Parts}
 use Rattle.ifmap_changes.specs.ifmap_graph.Seen.{rows_now}
@@ -19,24 +17,9 @@ use Rattle.ifmap_subscribes.specs.declared.readying.Readying.{Readying}
 use Rattle.ifmap_subscribes.specs.Renamings.{IsNameNow, told_so_far}
 use Rattle.ifmap_subscribes.specs.declared.names.NameNow.{NameNow}
 use Rattle.ifmap_subscribes.specs.declared.readying.Scene.{Scene}
-use Rattle.ifmap_changes.specs.ifmap_tellings.Tellings.{Tellings, told_by}
+use Rattle.ifmap_changes.specs.ifmap_tellings.Tellings.{told_by}
 use Rattle.ifmap_changes.specs.ifmap_view.declared.attachments.Attachment.{Attachment}
-use Rattle.ifmap_changes.specs.ifmap_tellings.ToldLaws.{told_serial}
-
--- a session that is live is found once all are told
-found_told : (tellings : Tellings) (n : ℕ) (ss : List Session) (s : Session) → session_with_serial n ss ≡ Some s
-    → session_with_serial n (map (told_by tellings) ss) ≡ Some (told_by tellings s)
-found_told tellings n [] s e = cc
-found_told tellings n (x ∷ ss) s e =
-    let same : ((told_by tellings x).serial == n) ≡ (x.serial == n)
-    = ap (λ k. k == n) (told_serial (get nat_cmp tellings x.serial) x) in
-    elim (cases_Bool (x.serial == n)) [
-      | inl hit ↦
-          let it : Some x ≡ Some s = rw hit at e in
-          let is : x ≡ s = cc in
-          rw (same, hit) (ap (λ y. Some (told_by tellings y)) is)
-      | inr miss ↦ rw (same, miss) (found_told tellings n ss s (rw miss at e))
-    ]
+use Rattle.ifmap_changes.specs.ifmap_tellings.ToldLaws.{found_told}
 
 pub live_session : (n : ℕ) (ss : List Session) → IsLive n ss → (s : Session) × (session_with_serial n ss ≡ Some s)
 live_session n ss live = from (session_with_serial n ss) live

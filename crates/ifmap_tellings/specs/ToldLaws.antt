@@ -1,7 +1,10 @@
 -- What is told a session, and whose sessions stay.
-use Rattle.std.proofs.Common.{refl, arith, ℕ, ◌≤◌, ◌∙◌, ◌≡◌, Option, Some, None, Bool, List, sym, true, false, [], ◌∷◌, map, ap}
-use Rattle.ifmap_standing.specs.ifmap_session.Sessions.{SessionTable, spare_of, Session}
-use Rattle.ifmap_tellings.specs.Tellings.{HasSameSessions, told_where, AllKept, kept_of}
+use Rattle.std.proofs.Common.{refl, arith, ℕ, ◌≤◌, ◌==◌, ◌∙◌, ◌≡◌, Option, Some, None, Bool, List, sym, true, false, inl, inr, [], ◌∷◌, map, ap}
+use Rattle.std.proofs.lemmas.Bool.{cases_Bool}
+use Rattle.std.specs.BTreeMap.{get}
+use Rattle.std.specs.Ordering.{nat_cmp}
+use Rattle.ifmap_standing.specs.ifmap_session.Sessions.{SessionTable, session_with_serial, spare_of, Session}
+use Rattle.ifmap_tellings.specs.Tellings.{HasSameSessions, Tellings, told_by, told_where, AllKept, kept_of}
 use Rattle.ifmap_tellings.specs.declared.tellings.Telling.{Telling}
 use Rattle.ifmap_tellings.specs.declared.tellings.Telling.TheVariants.{After, Alone}
 use Rattle.ifmap_lemmas.specs.Places.{present}
@@ -31,6 +34,21 @@ pub told_limit : (o : Option Telling) (s : Session) → (told_where o s).limit �
 told_limit None s = refl
 told_limit (Some (After items size)) s = refl
 told_limit (Some (Alone error)) s = refl
+
+-- a session is found by its serial still once all are told
+pub found_told : (tellings : Tellings) (n : ℕ) (live : List Session) (s : Session) → session_with_serial n live ≡ Some s
+    → session_with_serial n (map (told_by tellings) live) ≡ Some (told_by tellings s)
+found_told tellings n [] s e = cc
+found_told tellings n (x ∷ live) s e =
+    let same : ((told_by tellings x).serial == n) ≡ (x.serial == n)
+    = ap (λ k. k == n) (told_serial (get nat_cmp tellings x.serial) x) in
+    elim (cases_Bool (x.serial == n)) [
+      | inl hit ↦
+          let it : Some x ≡ Some s = rw hit at e in
+          let is : x ≡ s = cc in
+          rw (same, hit) (ap (λ y. Some (told_by tellings y)) is)
+      | inr miss ↦ rw (same, miss) (found_told tellings n live s (rw miss at e))
+    ]
 
 -- what holds of each that is not gone holds of what stands in its place
 pub same_kept : (P Q : Standing → Type 0) (R : ℕ → Standing → Standing → Type 0) → ((i : ℕ) (x y : Standing) → R i x y → P x → Q y)
