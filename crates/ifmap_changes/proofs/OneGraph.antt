@@ -1,40 +1,22 @@
 -- A graph is told by what is stored on each item: two graphs that have the same on each are one.
-use Rattle.std.proofs.Common.{◌≡◌, refl, sym, ◌∙◌, ap, subst, true, false, ◌&&◌, List, [], ◌∷◌, map, inl, inr}
-use Rattle.std.proofs.lemmas.Bool.{and_parts, cases_Bool}
+use Rattle.std.proofs.Common.{◌≡◌, refl, sym, ◌∙◌, ap, subst, false, List, [], ◌∷◌, map, inl, inr}
+use Rattle.std.proofs.lemmas.Bool.{cases_Bool}
 use Rattle.std.proofs.lemmas.Cmp.{alike_right}
 use Rattle.std.specs.List.{AllByRecursion}
 use Rattle.std.specs.List.Sorted.{IsStrictlySortedBy}
 use Rattle.std.specs.Ordering.{is_eq}
 use Rattle.std.specs.declared.cmp.Ordering.{Ordering}
 use Rattle.std.specs.declared.cmp.Ordering.TheVariants.{Less, Equal, Greater}
-use Rattle.ifmap_ident.specs.Canon.{IsIdentifier}
-use Rattle.ifmap_ident.specs.declared.identifiers.Identifier.{Identifier}
 use Rattle.ifmap_ident.specs.declared.items.Item.{Item}
-use Rattle.ifmap_ident.specs.declared.items.Item.TheVariants.{One, Pair}
-use Rattle.ifmap_ident.specs.Identifiers.{identifier_bytes, same_identifier}
 use Rattle.ifmap_ident.specs.Items.{IsCanonItem, item_order, same_item, items_tie}
 use Rattle.ifmap_lemmas.specs.Filters.{all_weaker, filter_none}
 use Rattle.ifmap_lemmas.specs.Orderings.{first_of_less, greater_turned}
-use Rattle.ifmap_lemmas.specs.Texts.{eq_tells}
 use Rattle.ifmap_meta.specs.declared.stored.Stored.{Stored}
 use Rattle.ifmap_graph.specs.ifmap_view.declared.attachments.Attachment.{Attachment}
 use Rattle.ifmap_graph.specs.ifmap_view.Attachments.{IsGraph, attachment_order, stored_order}
 use Rattle.ifmap_graph.specs.ifmap_view.Rows.{stored_on}
 use Rattle.ifmap_ident.specs.SameLaws.{item_itself, greater_item_differs, BytesTellIdentifiers, items_total}
-use Rattle.ifmap_tellings.specs.ifmap_fresh.laws.SameLaws.{AreCanon}
-
-module _ (tells : BytesTellIdentifiers) where
-  one_identifier : (a b : Identifier) → IsIdentifier a → IsIdentifier b → same_identifier a b ≡ true → a ≡ b
-  one_identifier a b p q e = tells a b p q (eq_tells (identifier_bytes a) (identifier_bytes b) e)
-
-  one_item : (x y : Item) → AreCanon x → AreCanon y → same_item x y ≡ true → x ≡ y
-  one_item (One a) (One b) p q e = ap One (one_identifier a b p.0 q.0 (and_parts (same_identifier a b) true e).0)
-  one_item (One a) (Pair b c) p q e = let r : false ≡ true = (and_parts (same_identifier a b) false e).1 in cc
-  one_item (Pair a b) (One c) p q e = let r : false ≡ true = (and_parts (same_identifier a c) false e).1 in cc
-  one_item (Pair a b) (Pair c d) p q e =
-      let f = and_parts (same_identifier a c) (same_identifier b d && true) e in
-      let g = and_parts (same_identifier b d) true f.1 in
-      ap (λ x. Pair x b) (one_identifier a c p.0 q.0 f.0) ∙ ap (λ x. Pair c x) (one_identifier b d p.1.0 q.1.0 g.0)
+use Rattle.ifmap_tellings.specs.ifmap_fresh.laws.SameLaws.{same_item_is}
 
 -- what is stored on the item of the first
 first_stored : (a : Attachment) (rows : List Attachment) → stored_on a.item (a ∷ rows) ≡ a.stored ∷ stored_on a.item rows
@@ -99,7 +81,7 @@ module _ (tells : BytesTellIdentifiers) where
   alike_same (a ∷ xs) [] p q up vp same = some_none a.stored (stored_on a.item xs) (sym (first_stored a xs) ∙ same a.item) _
   alike_same (a ∷ xs) (b ∷ ys) p q up vp same =
       let equal = firsts a b xs ys up.0 vp.0 same in
-      let item : a.item ≡ b.item = one_item tells a.item b.item p.0.identifiers q.0.identifiers
+      let item : a.item ≡ b.item = same_item_is tells a.item b.item p.0.identifiers q.0.identifiers
       (items_tie a.item b.item ∙ ap is_eq equal) in
       let one : a ≡ b = first_same a b xs ys item same in
       let tails : Alike (a ∷ xs) (a ∷ ys) = subst (λ c. Alike (a ∷ xs) (c ∷ ys)) (sym one) same in

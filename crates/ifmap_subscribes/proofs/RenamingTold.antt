@@ -1,7 +1,7 @@
 -- What renamings make of parts.
--- First: one session is told nothing (`tells_nothing`), is the only one of its serial (`only_one`), and is found still (`found_then`). Then:
--- renamings are made one after the other (`renamed_none`, `renamed_more`), of which one is made by a drop and a put (`renamed_one`). Last:
--- the rest can be made then (`can_rest`).
+-- First: one session is told nothing (`tells_nothing`), is the only one of its serial (`only_one`), and is found still (`found_then`).
+-- Then: renamings are made one after the other (`renamed_none`, `renamed_more`), of which one is made by a drop and a put
+-- (`renamed_one`). Last: the rest can be made then (`can_rest`).
 use Rattle.std.proofs.Common.{◌≡◌, refl, sym, ◌∙◌, ap, subst, ℕ, ◌+◌, ◌≤◌, ◌==◌, Bool, true, false, not, cond, List, [], ◌∷◌, ◌++◌, append-nil, length, map, Option, None, Some, IfSome, option_to_list, inl, inr, arith, vec_len, vec_capacity, rules}
 use Rattle.std.proofs.lemmas.Bool.{cases_Bool}
 use Rattle.std.proofs.lemmas.List.Kept.{IsStrictlySortedBy-filter}
