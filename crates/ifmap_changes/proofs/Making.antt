@@ -3,9 +3,8 @@
 -- is seen once it is made (`Commits`), and each clause of a change that was made: what stays whole and steady (`steady_made`), what was
 -- turned (`turned_made`), the way back (`back_made`), what is told (`told_made`) and what is ready (`ready_made`, `bare_made`). Last,
 -- what stands once it is given up (`Forgets`, `given_up`).
-use Rattle.std.proofs.Common.{◌≡◌, ◌≢◌, ℕ, ◌≤◌, Option, List, [], ◌++◌, map, ap, ◌∙◌, sym, subst}
+use Rattle.std.proofs.Common.{◌≡◌, ◌≢◌, ℕ, Option, List, [], ◌++◌, map, ap, ◌∙◌, sym, subst}
 use Rattle.std.proofs.lemmas.Option.{same_Some}
-use Rattle.std.specs.List.{AllByRecursion}
 use Rattle.ifmap_lemmas.specs.Filters.{all_weaker}
 use Rattle.ifmap_lemmas.specs.Members.{map_of_all}
 use Rattle.ifmap_tellings.specs.ifmap_delta.Sights.{IsUpToDate, SameLinks}
@@ -29,7 +28,7 @@ use Rattle.ifmap_graph.specs.Held.{Held, IsOwn}
 use Rattle.ifmap_graph.specs.Out.{items_changed}
 use Rattle.ifmap_graph.specs.Seen.{AreAwaited, AwaitsMore, BringsNoNumbers, IsLean, IsStill, KeepsNumbers, KeepsOwn, StaysLean, StaysLeanWith, StaysLeanWithout, links_next, links_now, rows_next, rows_now}
 use Rattle.ifmap_tellings.specs.declared.tellings.Pending.{Pending}
-use Rattle.ifmap_tellings.specs.Tellings.{HasSameSessions, kept_of, told_by}
+use Rattle.ifmap_tellings.specs.Tellings.{AreWide, HasSameSessions, IsWide, kept_of, told_by}
 use Rattle.ifmap_changes.specs.declared.parts.Parts.{Parts}
 use Rattle.ifmap_changes.specs.Between.{AreKept, AreOrdered, AreTurnedWith, AreWithinLimits, Asking, CanEnd, HasNoSubscriptions, IsSoundSoFar, IsSteady, IsWithinLimit, sessions_left, sight_now, so_far, starts_of}
 use Rattle.ifmap_changes.specs.Changes.{CanTakeBack, IsTold, sight_next, with_next}
@@ -181,12 +180,12 @@ module _ {ready : Ready} {wanted : Plan} {old mid to : Parts} (out : IsOutAndTol
         in let those = map standing_of (kept_of before.gone.items old.standing.items)
         in let tells_it : Session → Session = λ s. tell_session
         (told_in_session (rows_now mid.graph) (rows_next mid.graph) wanted.notes those s.serial) s
-        in let wide : AllByRecursion (λ (s : Session). 100 ≤ s.limit) (map tells_it some)
-        = map_of_all (λ (s : Session). 100 ≤ s.limit) tells_it some
-        (all_weaker IsWithinLimit (λ s. 100 ≤ s.limit) (λ s w. w.wide) some r.within)
+        in let wide : AreWide (map tells_it some)
+        = map_of_all (λ (s : Session). IsWide s.limit) tells_it some
+        (all_weaker IsWithinLimit (λ s. IsWide s.limit) (λ s w. w.wide) some r.within)
         in subst AreWithinLimits (sym (ap (λ s. s.sessions) told.state))
         (map_of_all IsWithinLimit overflow_session (map tells_it some)
-        (all_weaker (λ (s : Session). 100 ≤ s.limit) (λ s. IsWithinLimit (overflow_session s)) overflow_within (map tells_it some) wide))
+        (all_weaker (λ (s : Session). IsWide s.limit) (λ s. IsWithinLimit (overflow_session s)) overflow_within (map tells_it some) wide))
 
     pub ready_made : IsSoundSoFar a new after
     ready_made = record {

@@ -29,7 +29,7 @@ use Rattle.ifmap_graph.specs.ifmap_view.declared.attachments.Attachment.{Attachm
 use Rattle.ifmap_graph.specs.Seen.{rows_next, rows_now}
 use Rattle.ifmap_tellings.specs.declared.tellings.Pending.{Pending}
 use Rattle.ifmap_tellings.specs.declared.tellings.Telling.{Telling}
-use Rattle.ifmap_tellings.specs.Tellings.{AllKept, AloneAreBare, CanTell, EachTelling, HasSameSessions, IsSized, SkipsGone, count_told, gone_after, gone_alone, is_alone, kept_of, queued_for, told_by, told_where}
+use Rattle.ifmap_tellings.specs.Tellings.{AllKept, AloneAreBare, AreWide, CanTell, EachTelling, HasSameSessions, IsSized, IsWide, SkipsGone, count_told, gone_after, gone_alone, is_alone, kept_of, queued_for, told_by, told_where}
 use Rattle.ifmap_changes.specs.declared.parts.Parts.{Parts}
 use Rattle.ifmap_changes.specs.Between.{Asking, IsSoundSoFar, IsWithinLimit, sessions_left}
 use Rattle.ifmap_changes.specs.Changes.{IsTold, sight_next}
@@ -40,8 +40,8 @@ use Rattle.ifmap_tellings.specs.ToldLaws.{told_serial, map_kept}
 
 -- ---- a telling and a session
 
--- one error is within a limit of 100
-pub overflow_within : (s : Session) → 100 ≤ s.limit → IsWithinLimit (overflow_session s)
+-- what overflows is within a limit that one error is within
+pub overflow_within : (s : Session) → IsWide s.limit → IsWithinLimit (overflow_session s)
 overflow_within s wide = elim (cases_Bool (is_overfull s)) [
   | inl over ↦
       let one : nat_lt s.limit 100 ≡ false = grind (arith, nat_tests, wide)
@@ -104,8 +104,9 @@ module _ {a : Asking} {old : Parts} {before : Pending} (ready : IsSoundSoFar a o
       let can = ready.can_tell n t is
       in record { live = left_live (λ (s : Session). stays_in a s.serial) n old.sessions.live can.live; room = can.room }
 
-  pub wide_all : AllByRecursion (λ s. 100 ≤ s.limit) old.sessions.live
-  wide_all = has_all (λ s. 100 ≤ s.limit) old.sessions.live (λ s there. (all_has IsWithinLimit old.sessions.live ready.queues s there).wide)
+  pub wide_all : AreWide old.sessions.live
+  wide_all = has_all (λ s. IsWide s.limit) old.sessions.live
+      (λ s there. (all_has IsWithinLimit old.sessions.live ready.queues s there).wide)
 
 -- what holds of each that is shown
 pub all_shown : (P : machine.Standing → Type 0) (xs : List Standing) → AllByRecursion (λ x. P (standing_of x)) xs

@@ -4,7 +4,7 @@ use Rattle.std.specs.List.{AllByRecursion}
 use Rattle.std.specs.List.Sorted.{IsStrictlySortedBy}
 use Rattle.ifmap_changes.specs.declared.parts.Parts.{Parts}
 use Rattle.ifmap_tellings.specs.declared.tellings.Pending.{Pending}
-use Rattle.ifmap_tellings.specs.Tellings.{AllKept, AloneAreBare, CanTell, EachTelling, HasSameSessions, IsSized, kept_of, told_by}
+use Rattle.ifmap_tellings.specs.Tellings.{AllKept, AloneAreBare, CanTell, EachTelling, HasSameSessions, IsSized, IsWide, kept_of, told_by}
 use Rattle.ifmap_tellings.specs.ifmap_delta.declared.subscriptions.Subscription.{Subscription}
 use Rattle.ifmap_tellings.specs.ifmap_delta.Sights.{IsUpToDate, ViewSeen}
 use Rattle.ifmap_tellings.specs.ifmap_delta.Ways.{HasSameSearch}
@@ -57,7 +57,7 @@ HasLiveMarks h sub = (v d : ℕ) → mark_of sub.region.marks.entries v ≡ Some
 -- no queue is greater than its limit, which one error is within
 pub record IsWithinLimit (s : Session) : Type 0 where
   pub full : is_overfull s ≡ false
-  pub wide : 100 ≤ s.limit
+  pub wide : IsWide s.limit
 
 abbrev pub AreWithinLimits : List Session → Type 0
 AreWithinLimits live = AllByRecursion IsWithinLimit live

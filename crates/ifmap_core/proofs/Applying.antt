@@ -28,6 +28,7 @@ use Rattle.ifmap_session.specs.laws.TableLaws.{KeepsIdAndClient, changed_one, fo
 use Rattle.ifmap_subscribes.specs.ifmap_standing.declared.standing.Standing.{Standing}
 use Rattle.ifmap_subscribes.specs.ifmap_standing.Standing.{standing_of}
 use Rattle.ifmap_subscribes.specs.ifmap_tellings.ChangeLaws.{others_same}
+use Rattle.ifmap_subscribes.specs.ifmap_tellings.Tellings.{IsWide}
 
 -- ---- queues stay within their limits
 
@@ -64,7 +65,7 @@ within_former (Some n) live h = within_left (n ∷ []) live h
 begun_full : (opening : Opening) (limit moment : ℕ) → is_overfull (session_from opening limit moment) ≡ false
 begun_full opening limit moment = grind (arith, nat_tests)
 
-pub within_begun : (opening : Opening) (limit moment : ℕ) (live : List Session) → 100 ≤ limit → AreWithinLimits live
+pub within_begun : (opening : Opening) (limit moment : ℕ) (live : List Session) → IsWide limit → AreWithinLimits live
     → AreWithinLimits (live ++ session_from opening limit moment ∷ [])
 within_begun opening limit moment live wide h =
     both_all IsWithinLimit live (session_from opening limit moment ∷ []) h

@@ -30,7 +30,7 @@ use Rattle.ifmap_session.specs.Sessions.{IsAsBefore, IsLive, IsTable, Opening, S
 use Rattle.ifmap_session.specs.laws.TableLaws.{client_freed, one_fewer, is_left}
 use Rattle.ifmap_session.specs.laws.TextLaws.{distinct_filter}
 use Rattle.ifmap_subscribes.specs.ifmap_tellings.declared.tellings.Pending.{Pending}
-use Rattle.ifmap_subscribes.specs.ifmap_tellings.Tellings.{HasSameSessions, IsSized, count_told, told_by}
+use Rattle.ifmap_subscribes.specs.ifmap_tellings.Tellings.{HasSameSessions, IsSized, IsWide, count_told, told_by}
 use Rattle.ifmap_lemmas.specs.Filters.{filter_shorter}
 use Rattle.ifmap_subscribes.specs.ifmap_standing.PlaceLaws.{kept_itself}
 use Rattle.ifmap_subscribes.specs.ifmap_tellings.ToldLaws.{same_twice}
@@ -187,7 +187,7 @@ module _ (table : SessionTable) (client : List ℕ) where
 least : (n : ℕ) → n < 2 ^ 64 - 1 → min (n + 1) (2 ^ 64 - 1) ≡ n + 1
 least n lt = omega (arith, lt)
 
-wide_limit : (limit : Option ℕ) → 100 ≤ limit_of limit
+wide_limit : (limit : Option ℕ) → IsWide (limit_of limit)
 wide_limit None = omega arith
 wide_limit (Some asked) = omega arith
 
@@ -294,7 +294,7 @@ module _ (a : Asking) (old new : Parts) (pending after : Pending) (random : ℕ)
             (rw same_now (fewer table a.client (sessions_left a table) o refl few test));
         counter = subst (λ n. n < 2 ^ 64 - 1) (sym counter_is) next;
         next = number ∙ ap (λ n. n + 1) (sym counter_is);
-        wide = subst (λ n. 100 ≤ n) (sym counted) (wide_limit limit);
+        wide = subst IsWide (sym counted) (wide_limit limit);
       }
 
   pub begins : former ≡ option_map (λ (s : Session). s.serial) (session_of_client a.client (sessions_left a old.sessions))

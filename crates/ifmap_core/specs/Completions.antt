@@ -13,7 +13,7 @@ use Rattle.ifmap_subscribes.specs.ifmap_changes.declared.parts.Parts.{Parts}
 use Rattle.ifmap_subscribes.specs.declared.renamings.Renaming.{Renaming}
 use Rattle.ifmap_subscribes.specs.ifmap_tellings.declared.tellings.Pending.{Pending}
 use Rattle.ifmap_subscribes.specs.Renamings.{CanRenameEach, IsOfSession, begun_by, item_count, rename_all, told_in_parts, told_so_far}
-use Rattle.ifmap_subscribes.specs.ifmap_tellings.Tellings.{count_where}
+use Rattle.ifmap_subscribes.specs.ifmap_tellings.Tellings.{IsWide, count_where}
 use Rattle.ifmap_subscribes.specs.ifmap_delta.Sights.{IsUpToDate}
 use Rattle.ifmap_ident.specs.declared.codes.Code.TheVariants.{InvalidSessionID, PollResultsTooBig}
 use Rattle.ifmap_subscribes.specs.ifmap_machine.declared.events.Answer.{Answer}
@@ -89,7 +89,7 @@ pub record CanOpen (former : Option ℕ) (opening : Opening) (limit : ℕ) (tabl
   pub few : length (after_former former table.live) < most_sessions
   pub counter : table.counter < 2 ^ 64 - 1
   pub next : opening.serial ≡ table.counter + 1
-  pub wide : 100 ≤ limit
+  pub wide : IsWide limit
 
 -- the names of a session can be renamed: what is to stand keeps what the graph has, there is room, and neither is the queue greater
 -- than its limit afterwards nor are there more subscriptions than may be

@@ -9,17 +9,17 @@ use Rattle.ifmap_search.specs.declared.results.PollItem.TheVariants as the_item
 use Rattle.ifmap_search.specs.Sizes.{queue_size}
 use Rattle.ifmap_standing.specs.ifmap_session.Sessions.{Session, session_with_serial, with_error}
 use Rattle.ifmap_tellings.specs.declared.tellings.Telling.TheVariants.{After, Alone}
-use Rattle.ifmap_tellings.specs.Tellings.{IsSized, told_where}
+use Rattle.ifmap_tellings.specs.Tellings.{IsSized, IsWide, told_where}
 
 -- a queue within its limit stays
 pub within_stays : (s : Session) → is_overfull s ≡ false → overflow_session s ≡ s
 within_stays s e = rw e refl
 
-error_within : (note : List ℕ) (s : Session) → 100 ≤ s.limit
+error_within : (note : List ℕ) (s : Session) → IsWide s.limit
     → is_overfull (with_error (the_item.Error None PollResultsTooBig note) s) ≡ false
 error_within note s wide = le-ltb s.limit 100 wide
 
-pub overflowed_within : (s : Session) → 100 ≤ s.limit → is_overfull (overflow_session s) ≡ false
+pub overflowed_within : (s : Session) → IsWide s.limit → is_overfull (overflow_session s) ≡ false
 overflowed_within s wide = elim (cases_Bool (is_overfull s)) [
   | inl full ↦ rw full (error_within (limit_note (queue_size s.queue) s.limit) s wide)
   | inr not_full ↦ subst (λ t. is_overfull t ≡ false) (sym (within_stays s not_full)) not_full
@@ -50,10 +50,10 @@ module _ (n limit : ℕ) (live : List Session) (s : Session) (found : session_wi
       sym (within_stays t (le-ltb s.limit (queue_size t.queue) (subst (λ m. queue_size t.queue ≤ m) (sym own)
       (subst (λ m. m ≤ limit) exact le))))
 
-  pub alone_stays : (error : PollItem) → IsSized n (Alone error) live → 100 ≤ limit
+  pub alone_stays : (error : PollItem) → IsSized n (Alone error) live → IsWide limit
       → told_where (Some (Alone error)) s ≡ overflow_session (told_where (Some (Alone error)) s)
   alone_stays error sized wide =
       let is : error ≡ the_item.Error None PollResultsTooBig sized.0 = sized.1 in
       let few : is_overfull (with_error error s) ≡ false =
-      subst (λ e. is_overfull (with_error e s) ≡ false) (sym is) (error_within sized.0 s (subst (λ m. 100 ≤ m) (sym own) wide)) in
+      subst (λ e. is_overfull (with_error e s) ≡ false) (sym is) (error_within sized.0 s (subst IsWide (sym own) wide)) in
       sym (within_stays (with_error error s) few)

@@ -5,7 +5,7 @@ use Rattle.std.proofs.lemmas.Bool.{cases_eq, false≢true}
 use Rattle.std.proofs.lemmas.List.{drop_all}
 use Rattle.std.proofs.lemmas.Option.{get_or_from_slice_get, slice_get_within}
 use Rattle.std.specs.BTreeMap.{get}
-use Rattle.std.specs.List.{AllByRecursion, slice_get}
+use Rattle.std.specs.List.{slice_get}
 use Rattle.std.specs.List.Sorted.{IsStrictlySortedBy}
 use Rattle.std.specs.Option.{is_some}
 use Rattle.std.specs.Ordering.{nat_cmp}
@@ -14,7 +14,7 @@ use Rattle.ifmap_standing.specs.ifmap_machine.Telling.{is_overfull, overflow_ses
 use Rattle.ifmap_standing.specs.ifmap_session.Sessions.{Session, SessionTable, session_order, session_with_serial}
 use Rattle.ifmap_standing.specs.declared.standing.Standing.{Standing}
 use Rattle.ifmap_tellings.specs.declared.tellings.Telling.{Telling}
-use Rattle.ifmap_tellings.specs.Tellings.{AreUntoldWithinLimits, CanTell, EachTelling, HasSameSessions, IsSized, Tellings, is_alone, told_by, told_where}
+use Rattle.ifmap_tellings.specs.Tellings.{AreUntoldWithinLimits, AreWide, CanTell, EachTelling, HasSameSessions, IsSized, IsWide, Tellings, is_alone, told_by, told_where}
 use Rattle.ifmap_tellings.proofs.OverflowLaws.{overflowed_within, within_stays}
 use Rattle.ifmap_tellings.proofs.RoomLaws.{found_here, tells_still}
 use Rattle.ifmap_tellings.specs.ToldLaws.{same_sessions_itself, same_twice, told_limit}
@@ -86,7 +86,7 @@ module _ (standing : List Standing) (begun now : SessionTable) (old tellings : T
     passed_can = λ n t e. o.rest n t e (all_free n)
 
   module _ (x : Standing) (here : slice_get standing at ≡ Some x) (up : IsStrictlySortedBy session_order begun.live)
-      (wide : AllByRecursion (λ s. 100 ≤ s.limit) begun.live) (later : SessionTable) (after : Tellings)
+      (wide : AreWide begun.live) (later : SessionTable) (after : Tellings)
       (told : (s : Session) → session_with_serial x.serial now.live ≡ Some s → told_by after s ≡ overflow_session (told_by tellings s))
       (alone : (s : Session) → session_with_serial x.serial now.live ≡ Some s
       → is_alone (get nat_cmp after s.serial) ≡ (is_alone (get nat_cmp tellings s.serial) || is_overfull (told_by tellings s)))
@@ -119,8 +119,8 @@ module _ (standing : List Standing) (begun now : SessionTable) (old tellings : T
     told_there s apart = ap (λ t. told_where t s) (others s.serial apart)
 
     fits : (s : Session) → Has begun.live s → is_overfull (overflow_session (told_by tellings s)) ≡ false
-    fits s h = overflowed_within (told_by tellings s) (subst (λ m. 100 ≤ m) (sym (told_limit (get nat_cmp tellings s.serial) s))
-        (all_has (λ (t : Session). 100 ≤ t.limit) begun.live wide s h))
+    fits s h = overflowed_within (told_by tellings s) (subst IsWide (sym (told_limit (get nat_cmp tellings s.serial) s))
+        (all_has (λ (t : Session). IsWide t.limit) begun.live wide s h))
 
     pub passed_next : Overflowing standing begun later old after (at + 1)
     passed_next = record {

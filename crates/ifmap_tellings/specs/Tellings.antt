@@ -1,7 +1,7 @@
 -- What an event has changed and not yet told: which subscriptions stand no longer, and what sessions are to be told.
 use Rattle.std.specs.Prelude.{◌≡◌, ◌≢◌, ◌<◌, ◌≤◌, ◌^◌, ◌-◌, ◌||◌, ◌==◌, ℕ, Bool, true, false, List, [], ◌++◌, filter, flat_map, length, map, not, Option, None, Some, IsSome, slice_get}
 use Rattle.std.specs.BTreeMap.{BTreeMap, get}
-use Rattle.std.specs.List.{zip}
+use Rattle.std.specs.List.{AllByRecursion, zip}
 use Rattle.std.specs.Ordering.{nat_cmp}
 use Rattle.ifmap_tellings.specs.declared.tellings.Telling.{Telling}
 use Rattle.ifmap_tellings.specs.declared.tellings.Telling.TheVariants.{After, Alone}
@@ -80,6 +80,14 @@ EachTelling P tellings = (n : ℕ) (t : Telling) → get nat_cmp tellings n ≡ 
 abbrev pub AreUntoldWithinLimits : Tellings → List Session → Type 0
 AreUntoldWithinLimits tellings live =
     (n : ℕ) (s : Session) → session_with_serial n live ≡ Some s → get nat_cmp tellings n ≡ None → is_overfull s ≡ false
+
+-- one error in place of all, whose size is 100, is within a limit
+abbrev pub IsWide : ℕ → Type 0
+IsWide limit = 100 ≤ limit
+
+-- it is within that of each session
+abbrev pub AreWide : List Session → Type 0
+AreWide live = AllByRecursion (λ (s : Session). IsWide s.limit) live
 
 -- what there is to queue for a session of the news of each subscription
 abbrev pub queued_for : ℕ → List Standing → List News → List PollItem

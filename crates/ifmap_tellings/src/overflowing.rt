@@ -1,11 +1,11 @@
 //! Where what a session is to be told makes its queue greater than its limit, one error takes the
 //! place of all.
-ghost use Rattle.std.specs.Prelude.{◌≡◌, ◌≢◌, ◌≤◌, ◌||◌, ℕ, List, None, Some, false, IfOk, OnOk, is_some, map};
+ghost use Rattle.std.specs.Prelude.{◌≡◌, ◌≢◌, ◌||◌, ℕ, List, None, Some, false, IfOk, OnOk, is_some, map};
 ghost use Rattle.std.specs.BTreeMap.{get};
 ghost use Rattle.std.specs.List.{AllByRecursion};
 ghost use Rattle.std.specs.Ordering.{nat_cmp};
 ghost use Rattle.ifmap_tellings.specs.declared.tellings.Telling.{Telling};
-ghost use Rattle.ifmap_tellings.specs.Tellings.{AreUntoldWithinLimits, CanTell, EachTelling, HasSameSessions, IsSized, count_where, is_alone, told_by, told_where};
+ghost use Rattle.ifmap_tellings.specs.Tellings.{AreUntoldWithinLimits, AreWide, CanTell, EachTelling, HasSameSessions, IsSized, IsWide, count_where, is_alone, told_by, told_where};
 ghost use Rattle.ifmap_ident.specs.declared.codes.Code.TheVariants.{PollResultsTooBig};
 ghost use Rattle.ifmap_lemmas.specs.Having.{Has};
 ghost use Rattle.ifmap_standing.specs.ifmap_machine.Telling.{is_overfull, limit_note, overflow_session};
@@ -31,7 +31,7 @@ pub(crate) fn overflow_all(
 ) -> Result<(), NoMemory>
     requires live { AllByRecursion (λ x. IsLive x.serial sessions.old.live) standing.now }
     requires sized { EachTelling (λ n t. IsSized n t sessions.old.live) tellings.old }
-    requires wide { AllByRecursion (λ s. 100 ≤ s.limit) sessions.old.live }
+    requires wide { AreWide sessions.old.live }
     requires within { AreUntoldWithinLimits tellings.old sessions.old.live }
     // What no subscription is of has room, and is within its limit.
     requires rest { EachTelling (λ n t. ((x : Standing) → Has standing.now x → x.serial ≢ n)
@@ -67,7 +67,7 @@ fn overflow_one(
 ) -> Result<(), NoMemory>
     requires live { IsLive serial sessions.old.live }
     requires sized { EachTelling (λ n t. IsSized n t sessions.old.live) tellings.old }
-    requires wide { AllByRecursion (λ s. 100 ≤ s.limit) sessions.old.live }
+    requires wide { AreWide sessions.old.live }
     requires within { AreUntoldWithinLimits tellings.old sessions.old.live }
     ensures told { OnOk result ((s : Session)
         → session_with_serial serial sessions.old.live ≡ Some s
@@ -103,7 +103,7 @@ fn overflow_where(
     ensures told { OnOk result ((live : List Session) (s : Session)
         → EachTelling (λ n t. IsSized n t live) tellings.old
         → AreUntoldWithinLimits tellings.old live
-        → session_with_serial serial live ≡ Some s → s.limit ≡ limit → 100 ≤ limit
+        → session_with_serial serial live ≡ Some s → s.limit ≡ limit → IsWide limit
         → told_where (get nat_cmp tellings.new serial) s
         ≡ overflow_session (told_where (get nat_cmp tellings.old serial) s)) }
     ensures alone { OnOk result ((live : List Session) (s : Session)
@@ -135,7 +135,7 @@ fn overflow_where(
 fn overflow(alloc: Global, limit: u32, telling: &mut Telling) -> Result<(), NoMemory>
     ensures told { OnOk result ((n : ℕ) (live : List Session) (s : Session)
         → IsSized n telling.old live → session_with_serial n live ≡ Some s → s.limit ≡ limit
-        → 100 ≤ limit → told_where (Some telling.new) s
+        → IsWide limit → told_where (Some telling.new) s
         ≡ overflow_session (told_where (Some telling.old) s)) }
     ensures alone { OnOk result ((n : ℕ) (live : List Session) (s : Session)
         → IsSized n telling.old live → session_with_serial n live ≡ Some s → s.limit ≡ limit

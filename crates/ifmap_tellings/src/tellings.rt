@@ -7,7 +7,7 @@ ghost use Rattle.std.specs.List.{AllByRecursion};
 ghost use Rattle.std.specs.Ordering.{nat_cmp};
 ghost use Rattle.ifmap_tellings.specs.declared.tellings.Telling.{Telling};
 ghost use Rattle.ifmap_tellings.specs.declared.tellings.Telling.TheVariants as the_telling;
-ghost use Rattle.ifmap_tellings.specs.Tellings.{AloneAreBare, CanTell, EachTelling, HasSameSessions, IsSized, SkipsGone, count_told, count_where, gone_after, gone_alone, is_alone, queued_for, told_by, told_where};
+ghost use Rattle.ifmap_tellings.specs.Tellings.{AloneAreBare, AreWide, CanTell, EachTelling, HasSameSessions, IsSized, SkipsGone, count_told, count_where, gone_after, gone_alone, is_alone, queued_for, told_by, told_where};
 ghost use Rattle.ifmap_ident.specs.declared.codes.Code.TheVariants.{PollResultsTooBig};
 ghost use Rattle.ifmap_lemmas.specs.Having.{Has};
 ghost use Rattle.ifmap_standing.specs.ifmap_machine.Telling.{is_overfull, limit_note, overflow_session, tell_session};
@@ -72,7 +72,7 @@ pub fn queue_news(
     requires long { length news ≡ length standing.now }
     requires flags { length pending.old.gone.items ≡ length standing.now }
     requires live { AllByRecursion (λ x. IsLive x.serial sessions.old.live) standing.now }
-    requires wide { AllByRecursion (λ s. 100 ≤ s.limit) sessions.old.live }
+    requires wide { AreWide sessions.old.live }
     requires within { AllByRecursion (λ s. is_overfull s ≡ false)
         (map (told_by pending.old.tellings) sessions.old.live) }
     requires can_tell { EachTelling (CanTell sessions.old) pending.old.tellings }
