@@ -33,7 +33,7 @@ use std::sync::ledger::Ledger;
 
 // What the time is, and after how many seconds sessions are expired.
 #[derive(Drop)]
-pub struct Time {
+pub(crate) struct Time {
     pub ttl: u32,
     pub moment: Moment,
 }

@@ -8,7 +8,7 @@ use ifmap_hall::Asked;
 
 // How many answers were `Held`, and how many `Spent`. A count that is at its last value stays there.
 #[derive(Drop)]
-pub struct AnswerCounts {
+pub(crate) struct AnswerCounts {
     pub held: u64,
     pub spent: u64,
 }

@@ -8,7 +8,7 @@ use crate::tellings::Telling;
 use ifmap_standing::{News, Standing};
 use std::collections::BTreeMap;
 
-/// Subscriptions whose results are too big now are gone.
+// Subscriptions whose results are too big now are gone.
 pub(crate) fn mark_too_big(news: &[News], gone: &mut Vec<bool>)
     requires { length gone.old.items ≡ length news.now }
     ensures { gone.new.items ≡ gone_after gone.old.items news.now }
@@ -20,7 +20,7 @@ pub(crate) fn mark_too_big(news: &[News], gone: &mut Vec<bool>)
     }
 }
 
-/// The subscriptions of a session that is told one error in place of all are gone.
+// The subscriptions of a session that is told one error in place of all are gone.
 pub(crate) fn mark_alone(
     standing: &[Standing],
     tellings: &BTreeMap<u64, Telling>,

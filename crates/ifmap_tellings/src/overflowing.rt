@@ -21,8 +21,8 @@ use ifmap_standing::{Sessions, Standing};
 use std::alloc::{AllocError as NoMemory, Global};
 use std::collections::BTreeMap;
 
-/// Where what a session is to be told makes its queue greater than its limit, one error takes the
-/// place of all; and there is room for what it is to be told. Where memory runs out, some may be done.
+// Where what a session is to be told makes its queue greater than its limit, one error takes the
+// place of all; and there is room for what it is to be told. Where memory runs out, some may be done.
 pub(crate) fn overflow_all(
     alloc: Global,
     sessions: &mut Sessions,
@@ -156,8 +156,8 @@ fn overflow(alloc: Global, limit: u32, telling: &mut Telling) -> Result<(), NoMe
     }
 }
 
-/// The error in place of a queue that has a size greater than its limit. The one error is want of
-/// memory.
+// The error in place of a queue that has a size greater than its limit. The one error is want of
+// memory.
 pub(crate) fn overflow_item(alloc: Global, size: u64, limit: u32) -> Result<PollItem, NoMemory>
     ensures { IfOk result (λ item. item
         ≡ the_item.Error None PollResultsTooBig (limit_note size limit)) }

@@ -18,8 +18,8 @@ use ifmap_standing::{News, Sessions, Standing};
 use std::alloc::{AllocError as NoMemory, Global};
 use std::collections::BTreeMap;
 
-/// The items of each subscription's news are queued for its session, after what is pending. Where
-/// memory runs out, some may be.
+// The items of each subscription's news are queued for its session, after what is pending. Where
+// memory runs out, some may be.
 pub(crate) fn queue_all(
     alloc: Global,
     sessions: &Sessions,
