@@ -51,7 +51,7 @@ module _ {X : Type 0} where
 pub record KeptInPlace {X : Type 0} (gone : List Bool) (xs ys : List X) (k i : ℕ) : Type 0 where
   pub front : take k ys ≡ kept_of (take i gone) (take i xs)
   pub rest : drop i ys ≡ drop i xs
-  pub behind : k ≤ i
+  pub few : k ≤ i
   pub within : i ≤ length gone
   pub flags : length gone ≡ length xs
   pub long : length ys ≡ length xs
@@ -79,10 +79,10 @@ module _ {X : Type 0} (gone : List Bool) (xs ys : List X) (k i : ℕ) (h : KeptI
 
   passed : (d : X) → i < length gone → get_or gone i false ≡ true → KeptInPlace gone xs ys k (i + 1)
   passed d lt e =
-      let behind = h.behind in record {
+      let few = h.few in record {
         front = sym (next true d lt e ∙ append-nil (take k ys));
         rest = ap (drop 1) (both d lt);
-        behind = omega (arith, behind);
+        few = omega (arith, few);
         within = omega (arith, lt);
         flags = h.flags;
         long = h.long;
@@ -93,20 +93,20 @@ module _ {X : Type 0} (gone : List Bool) (xs ys : List X) (k i : ℕ) (h : KeptI
   moved zs d lt e s =
       let flags = h.flags in
       let long = h.long in
-      let behind = h.behind in
+      let few = h.few in
       let u : X = get_or ys i d in
       let v : X = get_or ys k d in
       let is : zs ≡ set (set ys k u) i v = s.3 d in
       let same_length : length zs ≡ length ys = ap length is ∙ length-set (set ys k u) i v ∙ length-set ys k u in
       let front : take k zs ≡ take k ys =
-      ap (take k) is ∙ take-set-le k (set ys k u) i v behind ∙ take-set-le k ys k u (omega arith) in
+      ap (take k) is ∙ take-set-le k (set ys k u) i v few ∙ take-set-le k ys k u (omega arith) in
       let tail : drop (i + 1) zs ≡ drop (i + 1) ys =
-      ap (drop (i + 1)) is ∙ drop-set-lt (i + 1) (set ys k u) i v (omega arith) ∙ drop-set-lt (i + 1) ys k u (omega (arith, behind)) in
+      ap (drop (i + 1)) is ∙ drop-set-lt (i + 1) (set ys k u) i v (omega arith) ∙ drop-set-lt (i + 1) ys k u (omega (arith, few)) in
       record {
-        front = take_more zs k d (omega (arith, same_length, long, flags, behind, lt)) ∙ ap (λ t. t ++ get_or zs k d ∷ []) front
+        front = take_more zs k d (omega (arith, same_length, long, flags, few, lt)) ∙ ap (λ t. t ++ get_or zs k d ∷ []) front
             ∙ ap (λ x. take k ys ++ x ∷ []) (s.0 d) ∙ sym (next false d lt e);
         rest = tail ∙ ap (drop 1) (both d lt);
-        behind = omega (arith, behind);
+        few = omega (arith, few);
         within = omega (arith, lt);
         flags = flags;
         long = same_length ∙ long;

@@ -41,11 +41,11 @@ glyph_plain n =
     let small : nat_lt (n % 10) 10 ≡ true = grind (arith, nat_tests) in
     rw small (plain_between (48 + n % 10) (omega arith) (omega arith))
 
-digits_plain : (k n : ℕ) (behind : List ℕ) → IsPlain behind → IsPlain (digits_onto k 10 false n behind)
-digits_plain zero n behind h = h
-digits_plain (suc k) n behind h = elim (cases_Bool (n / 10 == 0)) [
+digits_plain : (k n : ℕ) (rest : List ℕ) → IsPlain rest → IsPlain (digits_onto k 10 false n rest)
+digits_plain zero n rest h = h
+digits_plain (suc k) n rest h = elim (cases_Bool (n / 10 == 0)) [
   | inl e ↦ rw e (glyph_plain n, h)
-  | inr e ↦ rw e (digits_plain k (n / 10) (digit_glyph false (n % 10) ∷ behind) (glyph_plain n, h))
+  | inr e ↦ rw e (digits_plain k (n / 10) (digit_glyph false (n % 10) ∷ rest) (glyph_plain n, h))
 ]
 
 -- ---- ids of sessions
