@@ -22,7 +22,7 @@ use Rattle.ifmap_subscribes.proofs.OfNames.{one_fewer}
 use Rattle.ifmap_subscribes.proofs.Parting.{sum_parted}
 use Rattle.ifmap_subscribes.proofs.Renamed.{IsTold, added, begun_more, noted, rename_more}
 use Rattle.ifmap_subscribes.proofs.RenamingTold.{one_at_most}
-use Rattle.ifmap_subscribes.specs.Readying.{AreCounted, AreReadied, CanStand, IsAdded, IsNoted, IsSmall, told_after}
+use Rattle.ifmap_subscribes.specs.Readying.{AreCounted, AreReadied, CanStand, IsAdded, IsNoted, IsSmall, most_ops, told_after}
 use Rattle.ifmap_subscribes.specs.Renamings.{IsNameNow, IsOfSession, begun_by, rename, rename_all}
 use Rattle.ifmap_subscribes.specs.declared.names.NameNow.{NameNow}
 use Rattle.ifmap_subscribes.specs.declared.readying.Readying.{Readying}
@@ -82,13 +82,13 @@ module _ {serial : ℕ} {t : Told} {old mid : Readying} {name : List ℕ} {now :
     made_more : new.made.items ≡ old.made.items ++ r ∷ []
     made_more = a.made ∙ ap (λ rs. rs ++ r ∷ []) h.noted.made
 
-    counted_more : r.name ≡ name → IsOfSession serial r → IsTold r → IsSmall r → length mid.made.items < 2 ^ 30
+    counted_more : r.name ≡ name → IsOfSession serial r → IsTold r → IsSmall r → length mid.made.items < most_ops
         → (now.stands ≡ false → old.count + length (option_to_list r.standing) ≤ 1000) → AreCounted serial t new
     counted_more same s told small few room =
         added serial t mid new mid_counted now r s told a (subst (λ x. IsNameNow serial x (told_after serial mid t) now) (sym same) mid_now)
         small few (λ free. omega (arith, room free, h.noted.count))
 
-    pub readied_more : (p : Parts) → r.name ≡ name → IsOfSession serial r → IsTold r → IsSmall r → length mid.made.items < 2 ^ 30
+    pub readied_more : (p : Parts) → r.name ≡ name → IsOfSession serial r → IsTold r → IsSmall r → length mid.made.items < most_ops
         → (now.stands ≡ false → old.count + length (option_to_list r.standing) ≤ 1000)
         → CanStand serial p (old.made.items ++ r ∷ []) → AreReadied serial t p new
     readied_more p same s told small few room stand = record {

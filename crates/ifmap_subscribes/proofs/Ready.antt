@@ -1,7 +1,7 @@
 -- What stays ready where identifiers are only held.
 -- First: `OnlyHolds` of one state after another, and what is to be told then. Then: subscriptions keep what the graph has, by the law
 -- that views with the same links are kept alike (`SameLinks`). Then: parts stay ready. Last: few hold one identifier.
-use Rattle.std.proofs.Common.{◌≡◌, sym, ◌∙◌, ap, subst, ℕ, ◌*◌, ◌^◌, ◌≤◌, Bool, List, [], ◌∷◌, ◌++◌, length, map, Result, Ok, Err, arith, append_assoc, length-append, option_to_list}
+use Rattle.std.proofs.Common.{◌≡◌, sym, ◌∙◌, ap, subst, ℕ, ◌*◌, ◌≤◌, Bool, List, [], ◌∷◌, ◌++◌, length, map, Result, Ok, Err, arith, append_assoc, length-append, option_to_list}
 use Rattle.std.specs.Prelude.{IfOk}
 use Rattle.std.proofs.lemmas.List.{length-map}
 use Rattle.std.specs.List.{AllByRecursion}
@@ -19,7 +19,7 @@ use Rattle.ifmap_changes.specs.ifmap_standing.Standing.{standing_of}
 use Rattle.ifmap_changes.specs.ifmap_standing.declared.standing.Standing.{Standing}
 use Rattle.ifmap_subscribes.proofs.Counting.{fewer_joined, thousand_each}
 use Rattle.ifmap_subscribes.proofs.Renamed.{begun_more}
-use Rattle.ifmap_subscribes.specs.Readying.{AreReadied, CanReady, CanStand, GraphHolds, IsGivenUp, OnlyHolds, queue_where, told_in_scene}
+use Rattle.ifmap_subscribes.specs.Readying.{AreReadied, CanReady, CanStand, GraphHolds, IsGivenUp, OnlyHolds, most_ops, queue_where, told_in_scene}
 use Rattle.ifmap_subscribes.specs.Renamings.{IsOfSession, KeepsNumbered, begun_by}
 use Rattle.ifmap_subscribes.specs.declared.readying.Readying.{Readying}
 use Rattle.ifmap_subscribes.specs.declared.readying.Scene.{Scene}
@@ -148,7 +148,7 @@ if_ok P Q R S (Ok a) p q r f = f a p q r
 if_ok P Q R S (Err e) p q r f = tt
 
 pub few_own : (h : Held) (live : List Session) (standing : List Standing) (made : List Renaming) → AreOrdered live standing
-    → length live ≤ 10000 → length made ≤ 2 ^ 30 → IsSteady h (standing ++ begun_by made) → HasFewOwn h
+    → length live ≤ 10000 → length made ≤ most_ops → IsSteady h (standing ++ begun_by made) → HasFewOwn h
 few_own h live standing made ordered few most steady = λ a.
     let owned = map_of_all (λ (x : machine.Standing). IsLive x.serial live) standing_of standing ordered.live in
     let stand : length (map standing_of standing) ≤ length live * 1000

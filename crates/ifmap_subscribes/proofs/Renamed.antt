@@ -28,7 +28,7 @@ use Rattle.ifmap_subscribes.proofs.OfNames.{named_once, not_named_other, one_few
 use Rattle.ifmap_subscribes.proofs.Parting.{filter_within, none_within, sum_parted}
 use Rattle.ifmap_subscribes.proofs.RenamingPlaces.{none_left}
 use Rattle.ifmap_subscribes.proofs.RenamingTold.{one_at_most}
-use Rattle.ifmap_subscribes.specs.Readying.{AreCounted, IsAdded, IsNameBefore, IsNoted, IsSmall, now_of, told_after}
+use Rattle.ifmap_subscribes.specs.Readying.{AreCounted, IsAdded, IsNameBefore, IsNoted, IsSmall, most_ops, now_of, told_after}
 use Rattle.ifmap_subscribes.specs.Renamings.{IsNameNow, IsOfSession, begun_by, rename, rename_all, stand_where}
 use Rattle.ifmap_subscribes.specs.declared.names.NameNow.{NameNow}
 use Rattle.ifmap_subscribes.specs.declared.readying.Readying.{Readying}
@@ -195,7 +195,7 @@ module _ (serial : ℕ) (t : Told) (old new : Readying) (c : AreCounted serial t
               omega (arith, none, a.count, room new_one)
         ]
 
-    pub added : IsSmall r → length old.made.items < 2 ^ 30 → (now.stands ≡ false → old.count + length (option_to_list r.standing) ≤ 1000)
+    pub added : IsSmall r → length old.made.items < most_ops → (now.stands ≡ false → old.count + length (option_to_list r.standing) ≤ 1000)
         → AreCounted serial t new
     added small most room =
         let long : length new.made.items ≡ length old.made.items + 1 = ap length a.made ∙ length-append old.made.items (r ∷ []) in

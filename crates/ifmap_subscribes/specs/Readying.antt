@@ -56,6 +56,10 @@ pub record IsNameBefore (serial : ℕ) (name : List ℕ) (before after : Told) :
   pub stands : list_any (is_of_name serial name) after.standing ≡ list_any (is_of_name serial name) before.standing
   pub queue : filter (is_named name) after.queue ≡ filter (is_named name) before.queue
 
+-- how many operations are made ready at most: more than memory holds
+abbrev pub most_ops : ℕ
+most_ops = 2 ^ 30
+
 -- what is kept of renamings is so: of each name, how many subscriptions the session has, and the size of what it is to be told, which
 -- each adds less than 2^64 to; and the subscriptions stand in order
 pub record AreCounted (serial : ℕ) (t : Told) (readying : Readying) : Type 0 where
@@ -68,7 +72,7 @@ pub record AreCounted (serial : ℕ) (t : Told) (readying : Readying) : Type 0 w
   pub few : readying.count ≤ most_names
   pub size : readying.size ≡ queue_size (told_after serial readying t).queue
   pub narrow : readying.size < 2 ^ 64 + length readying.made.items * 2 ^ 64
-  pub most : length readying.made.items ≤ 2 ^ 30
+  pub most : length readying.made.items ≤ most_ops
 
 -- what is to stand can: it is of the session, keeps what the graph has, and holds its start beside what stands
 pub record CanStand (serial : ℕ) (parts : Parts) (renamings : List Renaming) : Type 0 where

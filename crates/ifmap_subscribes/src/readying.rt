@@ -12,7 +12,7 @@ ghost use Rattle.ifmap_changes.specs.ifmap_requests.Fit.{IsFitSearch, IsFitSubsc
 ghost use Rattle.ifmap_changes.specs.ifmap_requests.declared.requests.SubscribeOp.TheVariants as the_op;
 ghost use Rattle.ifmap_changes.specs.ifmap_session.Sessions.{IsLive};
 ghost use Rattle.ifmap_subscribes.specs.Bounds.{AreOpsWithin, IsOpWithin, IsWithinSpan};
-ghost use Rattle.ifmap_subscribes.specs.Readying.{CanReady, CanStand, IsAdded, IsGivenUp, IsNoted, IsSmall, OnlyHolds, now_of, told_in_scene, told_then};
+ghost use Rattle.ifmap_subscribes.specs.Readying.{CanReady, CanStand, IsAdded, IsGivenUp, IsNoted, IsSmall, OnlyHolds, most_ops, now_of, told_in_scene, told_then};
 ghost use Rattle.ifmap_subscribes.specs.Renamings.{IsNameNow, rename};
 ghost use Rattle.ifmap_subscribes.specs.declared.readying.SubscribeError.TheVariants as the_error;
 
@@ -317,7 +317,7 @@ fn begin_beside<L: Ledger>(
 ) -> Result<Renaming, NoMemory>
     requires ready { IsSoundSoFar scene.now.asking.now parts.old scene.now.pending.now }
     requires stand { CanStand scene.now.serial parts.old made.now }
-    requires most { length made.now ≤ 2 ^ 30 }
+    requires most { length made.now ≤ most_ops }
     requires fit { IsFitSearch wish.now.search.now }
     ensures begun { IfOk result (λ renaming. (t : Told) → rename scene.now.serial renaming t
         ≡ machine.begin_name (rows_now parts.old.graph) scene.now.serial wish.now.name.now
@@ -350,7 +350,7 @@ fn make_room(readying: &mut Readying, name: Text, now: NameNow) -> Result<(), No
     ensures noted { IsNoted name now readying.old readying.new }
     ensures name { OnOk result (get (slice_cmp nat_cmp) readying.new.names name ≡ Some now) }
     ensures room { OnOk result (vec_len readying.new.made + 1 ≤ vec_capacity readying.new.made) }
-    ensures few { OnOk result (length readying.new.made.items < 2 ^ 30) }
+    ensures few { OnOk result (length readying.new.made.items < most_ops) }
 {
     if MOST_OPS <= readying.made.len() {
         return Err(NoMemory);
