@@ -3,13 +3,6 @@ use Rattle.std.proofs.Common.{Result, Ok, Err}
 use Rattle.std.specs.Result.{IfOk, OnOk}
 
 module _ {X E : Type 0} (r : Result X E) where
-  pub where_both : (P Q R : Type 0) → (P → Q → R) → OnOk r P → OnOk r Q → OnOk r R
-  where_both P Q R f p q = by r p q
-    where
-      by : (s : Result X E) → OnOk s P → OnOk s Q → OnOk s R
-      by (Ok x) p q = f p q
-      by (Err e) p q = tt
-
   -- what is told of the value and of the answer, together
   pub where_value : (P : X → Type 0) (Q : Type 0) (R : X → Type 0) → ((x : X) → P x → Q → R x) → IfOk r P → OnOk r Q → IfOk r R
   where_value P Q R f p q = by r p q

@@ -1,15 +1,14 @@
 -- How a session begins, in place of the one that its client has.
--- First: parts of which the sessions have more room (`ready_with`, `kept_after`). Then: whether the client can be
--- given a session. Last: that it begins (`begins`).
+-- First: parts of which the sessions have more room (`ready_with`). Then: whether the client can be given a session. Last: that it
+-- begins (`begins`).
 use Rattle.std.proofs.Common.{◌≡◌, refl, sym, ◌∙◌, ap, subst, ℕ, ◌+◌, ◌-◌, ◌^◌, ◌<◌, ◌≤◌, ◌==◌, ◌&&◌, ◌||◌, Bool, true, false, List, [], ◌∷◌, ◌++◌, length, map, Option, None, Some, is_none, nat_le, min, Result, inl, inr, arith, append-nil}
 use Rattle.std.proofs.lemmas.Bool.{cases_Bool, or_parts}
 use Rattle.std.proofs.lemmas.Bool.Decides.{nat_tests}
 use Rattle.std.proofs.lemmas.List.{length-map}
-use Rattle.std.proofs.lemmas.Option.{same_Some}
 use Rattle.std.specs.List.{IsDistinct}
 use Rattle.std.specs.Option.{IfSome, option_map}
 use Rattle.std.specs.Result.{IfOk}
-use Rattle.ifmap_subscribes.specs.ifmap_changes.Between.{AreKept, AreOrdered, AreTurned, AreWithinLimits, Asking, CanEnd, HasNoSubscriptions, IsSoundSoFar, IsSteady, rest_of, sessions_left, so_far}
+use Rattle.ifmap_subscribes.specs.ifmap_changes.Between.{AreOrdered, AreWithinLimits, Asking, CanEnd, HasNoSubscriptions, IsSoundSoFar, IsSteady, rest_of, sessions_left, so_far}
 use Rattle.ifmap_subscribes.specs.ifmap_changes.declared.parts.Parts.{Parts}
 use Rattle.ifmap_core.specs.Answering.{CanAnswer, GivesCompletion}
 use Rattle.ifmap_core.specs.Completions.{CanOpen, LeadsToAnswer, after_former, after_completion, drop_former, open_session, taken_former}
@@ -17,7 +16,6 @@ use Rattle.ifmap_core.specs.declared.completions.Completion.{Completion}
 use Rattle.ifmap_core.specs.declared.completions.Completion.TheVariants.{Say, Open}
 use Rattle.ifmap_core.proofs.Cases.{says}
 use Rattle.ifmap_core.proofs.Finishing.{client_told, serial_told}
-use Rattle.ifmap_core.proofs.Places.{searched_itself}
 use Rattle.ifmap_core.proofs.Taking.{taken_is}
 use Rattle.ifmap_ident.specs.declared.codes.Code.TheVariants.{SystemError}
 use Rattle.ifmap_subscribes.specs.ifmap_machine.declared.events.Answer.TheVariants as the_answer
@@ -32,66 +30,12 @@ use Rattle.ifmap_session.specs.laws.TextLaws.{distinct_filter}
 use Rattle.ifmap_subscribes.specs.ifmap_tellings.declared.tellings.Pending.{Pending}
 use Rattle.ifmap_subscribes.specs.ifmap_tellings.Tellings.{HasSameSessions, IsSized, IsWide, count_told, told_by}
 use Rattle.ifmap_lemmas.specs.Filters.{filter_shorter}
-use Rattle.ifmap_subscribes.specs.ifmap_standing.PlaceLaws.{kept_itself}
-use Rattle.ifmap_subscribes.specs.ifmap_tellings.ToldLaws.{same_twice}
 
 -- ---- parts of which the sessions have more room
 
 module _ (parts : Parts) (table : SessionTable) (b : IsAsBefore parts.sessions table) where
   abbrev pub with_table : Parts
   with_table = record parts { sessions = table }
-
-  same_sessions : HasSameSessions parts.sessions table
-  same_sessions = record {
-    live = b.live;
-    counter = b.counter;
-    spare = λ n. subst (λ s. spare_of n parts.sessions.spare ≤ spare_of n s) (sym b.spare) (omega arith);
-    room = b.room;
-  }
-
-  pub turned_with : AreTurned parts with_table
-  turned_with = record {
-    waits = λ rest w. w;
-    lean = λ rest l. l;
-    searches = searched_itself parts.standing.items;
-    sessions = same_sessions;
-  }
-
-  pub kept_with : IsSteady parts.graph parts.standing.items → AreKept parts with_table
-  kept_with s = record {
-    back = record {
-      steady = s;
-      rows = refl;
-      links = λ v. refl;
-      numbers = λ v one other e f. same_Some other one (sym f ∙ e);
-      lean = λ rest l. l;
-      standing = kept_itself parts.standing.items;
-      sessions = same_sessions;
-    };
-    backs = λ u rows links w. w;
-  }
-
-  pub turned_after : (new : Parts) → AreTurned with_table new → AreTurned parts new
-  turned_after new t = record {
-    waits = t.waits;
-    lean = t.lean;
-    searches = t.searches;
-    sessions = same_twice parts.sessions table new.sessions same_sessions t.sessions;
-  }
-
-  pub kept_after : (new : Parts) → AreKept with_table new → AreKept parts new
-  kept_after new k = record {
-    back = record {
-      steady = k.back.steady;
-      rows = k.back.rows;
-      links = k.back.links;
-      numbers = k.back.numbers;
-      lean = k.back.lean;
-      standing = k.back.standing;
-      sessions = same_twice parts.sessions table new.sessions same_sessions k.back.sessions;
-    };
-    backs = k.backs;
-  }
 
   pub so_far_with : (a : Asking) (pending : Pending) → so_far a with_table pending ≡ so_far a parts pending
   so_far_with a pending = λ i. record (so_far a parts pending) {

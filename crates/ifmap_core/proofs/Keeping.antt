@@ -1,7 +1,7 @@
 -- What flags leave of a list: what holds of all that is left, one step of a walk along both lists, and a list that is kept in place.
 use Rattle.std.proofs.Common.{◌≡◌, refl, sym, ◌∙◌, ap, ℕ, zero, suc, ◌+◌, ◌<◌, ◌≤◌, Bool, true, false, cond, List, [], ◌∷◌, ◌++◌, drop, get_or, length, set, take, Some, slice_get, append-nil, add-one, arith, inl, inr}
 use Rattle.std.proofs.lemmas.Bool.{cases_Bool}
-use Rattle.std.proofs.lemmas.List.{drop_more, drop-set-lt, length-set, take-set-le, take_all, take_more}
+use Rattle.std.proofs.lemmas.List.{drop_more, drop-set-lt, length-set, take-set-le, take_more}
 use Rattle.std.specs.List.{AllByRecursion, SwappedAt, filter}
 use Rattle.std.specs.List.Sorted.{IsStrictlySortedBy}
 use Rattle.std.specs.declared.cmp.Ordering.{Ordering}
@@ -57,12 +57,6 @@ pub record KeptInPlace {X : Type 0} (gone : List Bool) (xs ys : List X) (k i : �
   pub long : length ys ≡ length xs
 
 module _ {X : Type 0} (gone : List Bool) (xs ys : List X) (k i : ℕ) (h : KeptInPlace gone xs ys k i) where
-  pub kept_here : length gone ≤ i → take k ys ≡ kept_of gone xs
-  kept_here le =
-      let flags = h.flags in
-      h.front ∙ ap (λ (t : List Bool). kept_of t (take i xs)) (take_all i gone le)
-      ∙ ap (kept_of gone) (take_all i xs (omega (arith, flags, le)))
-
   both : (d : X) → i < length gone → get_or ys i d ∷ drop (i + 1) ys ≡ get_or xs i d ∷ drop (i + 1) xs
   both d lt =
       let flags = h.flags in

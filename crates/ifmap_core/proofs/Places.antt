@@ -9,7 +9,7 @@ use Rattle.ifmap_subscribes.specs.ifmap_standing.declared.standing.Standing.{Sta
 use Rattle.ifmap_subscribes.specs.ifmap_standing.Kept.{AtEach, KeepsSame, StaysRelated}
 use Rattle.ifmap_subscribes.specs.ifmap_standing.Standing.{standing_of}
 use Rattle.ifmap_subscribes.specs.ifmap_tellings.Tellings.{AllKept, kept_of}
-use Rattle.ifmap_subscribes.specs.ifmap_standing.PlaceLaws.{at_each_joined, at_each_same, search_itself, keeps_twice, stands_itself, stands_twice}
+use Rattle.ifmap_subscribes.specs.ifmap_standing.PlaceLaws.{at_each_same, search_itself, stands_itself}
 
 -- ---- what is not gone
 
@@ -98,12 +98,6 @@ same_shown x y serial name search =
 
 pub shown_kept : (i : ℕ) (x y : Standing) → StaysRelated KeepsSame x y → standing_of y ≡ standing_of x
 shown_kept i x y s = same_shown x y s.serial s.name s.subscription.search.search
-
-pub kept_twice : (a b c : List Standing) → AtEach (λ _. StaysRelated KeepsSame) a b → AtEach (λ _. StaysRelated KeepsSame) b c
-    → AtEach (λ _. StaysRelated KeepsSame) a c
-kept_twice a b c r s =
-    at_each_joined (λ _. StaysRelated KeepsSame) (λ _. StaysRelated KeepsSame) (λ _. StaysRelated KeepsSame)
-    (λ i x y z. stands_twice KeepsSame keeps_twice x y z) a b c r s
 
 pub searched_itself : (a : List Standing) → AtEach (λ _. StaysRelated HasSameSearch) a a
 searched_itself a = at_each_same (λ _. StaysRelated HasSameSearch) (λ i. stands_itself HasSameSearch search_itself) a

@@ -1,11 +1,11 @@
 -- What is kept of subscriptions whose flags say which are gone. First of any list: whether some member passes a test that one passes at
 -- most (`one_kept`, `none_kept`), and how many pass a test (`counted_more`). Then of names (`stands_at`, `stands_nowhere`) and of sessions
--- (`counted_kept`, `passed_gone`, `passed_other`, `counted_all`).
-use Rattle.std.proofs.Common.{◌≡◌, ◌≢◌, ℕ, zero, suc, ◌+◌, ◌==◌, Bool, true, false, cond, not, ◌||◌, ◌&&◌, Some, List, [], ◌∷◌, map, length, drop, get_or, ◌<◌, ◌≤◌, refl, ap, ◌∙◌, sym, arith, inl, inr}
+-- (`counted_kept`, `passed_gone`, `passed_other`).
+use Rattle.std.proofs.Common.{◌≡◌, ◌≢◌, ℕ, zero, suc, ◌+◌, ◌==◌, Bool, true, false, cond, not, ◌||◌, ◌&&◌, Some, List, [], ◌∷◌, map, length, drop, get_or, ◌<◌, refl, ap, ◌∙◌, sym, arith, inl, inr}
 use Rattle.std.proofs.lemmas.Bool.{and_parts, cases_Bool, eq-eqb, ne_eqb}
 use Rattle.std.proofs.lemmas.Bool.Decides.{nat_tests}
 use Rattle.std.proofs.lemmas.Cmp.{nat_cmp_total, nat_list_cmp_total}
-use Rattle.std.proofs.lemmas.List.{drop_all, drop_more}
+use Rattle.std.proofs.lemmas.List.{drop_more}
 use Rattle.std.proofs.lemmas.Option.{same_Some, none-some, slice_get-get_or}
 use Rattle.std.specs.Cmp.{tied_itself}
 use Rattle.std.specs.Cmp.Lexicographic.{slice_cmp}
@@ -184,14 +184,3 @@ module _ (serial : ℕ) (gone : List Bool) (standing : List Standing) (i count n
   passed_other other e =
       let mine : (x.serial == serial) ≡ false = ne_eqb x.serial serial (λ same. other (ap (λ (y : Standing). y.serial) (sym is) ∙ same)) in
       counted_next (rw mine (omega (arith, e)))
-
-pub counted_all : (serial : ℕ) (gone : List Bool) (standing : List Standing) (i count total : ℕ) → length standing ≤ i
-    → count + kept_count serial (drop i gone) (drop i standing) ≡ total → count ≡ total
-counted_all serial gone standing i count total past all =
-    let none : kept_count serial (drop i gone) (drop i standing) ≡ 0 =
-    ap (λ xs. kept_count serial (drop i gone) xs) (drop_all i standing past) ∙ nothing (drop i gone) in
-    omega (arith, none, all)
-  where
-    nothing : (gs : List Bool) → kept_count serial gs [] ≡ 0
-    nothing [] = refl
-    nothing (g ∷ gs) = refl

@@ -1,7 +1,7 @@
 -- Where the subscription of a name stands among those that stand in order.
 -- First: the order, by serial and name (`name_order`). Then: where a search for them ends (`place_found`, `place_none`, `place_gap`).
 -- Last: one that stands is taken out (`removed_named`, `cut_at`), or one more is put in (`put_at`, `all_stands`).
-use Rattle.std.proofs.Common.{rules, ◌≡◌, refl, sym, ◌∙◌, ap, subst, ℕ, zero, suc, ◌<◌, ◌≤◌, ◌==◌, ◌&&◌, Bool, true, false, not, cond, List, [], ◌∷◌, ◌++◌, length, map, Some, Option, option_to_list, IsErr, take, drop, take-append-drop, Result, Ok, Err, IfOk, IfErr, OnErr, Ordering, inl, inr, arith, nat_cmp, is_eq}
+use Rattle.std.proofs.Common.{rules, ◌≡◌, refl, sym, ◌∙◌, ap, subst, ℕ, zero, suc, ◌<◌, ◌==◌, ◌&&◌, Bool, true, false, not, cond, List, [], ◌∷◌, ◌++◌, length, map, Some, Option, option_to_list, IsErr, take, drop, take-append-drop, Result, Ok, Err, IfOk, IfErr, OnErr, Ordering, inl, inr, arith, nat_cmp, is_eq}
 use Rattle.std.proofs.lemmas.Bool.{and_parts, cases_Bool, eqb-true, or_left, or_right}
 use Rattle.std.proofs.lemmas.Cmp.{tied_itself}
 use Rattle.std.proofs.lemmas.List.{map-append}
@@ -97,10 +97,6 @@ module _ (serial : ℕ) (name : List ℕ) (xs : List Standing) where
       subst (λ m. IsBinarySearchResult (order_to_name m x.name) xs (Err i)) (sym s)
       (subst (λ m. IsBinarySearchResult (order_to_name serial m) xs (Err i)) (sym n) is) in
       ap (map standing_of) (gap_is_put Standing kept_order kept_total x xs i (kept_rising xs up) within of_x).1 ∙ shown_put x xs
-
-  pub place_within : (r : Result ℕ ℕ) → IsSearchInRange r (length xs) → IfErr r (λ at. at ≤ length xs)
-  place_within (Ok i) within = tt
-  place_within (Err i) within = within
 
 -- ---- one that stands is taken out, or one more is put in
 

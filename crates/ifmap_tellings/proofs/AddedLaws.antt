@@ -1,5 +1,5 @@
 -- What is added to what a session is to be told: nothing (`adds_nothing`), one after another (`adds_both`), to items with their size
--- (`adds_after`, `sized_after`), and to nothing yet (`begun`, `begun_size`). Then what is at one key of a map that changed there.
+-- (`sized_after`), and to nothing yet (`begun`, `begun_size`). Then what is at one key of a map that changed there.
 use Rattle.std.proofs.Common.{◌≡◌, ◌≢◌, refl, sym, ◌∙◌, ap, subst, ℕ, ◌+◌, ◌-◌, ◌^◌, ◌<◌, ◌≤◌, min, false, List, [], ◌∷◌, ◌++◌, Option, None, Some, append_assoc, inl, inr, arith}
 use Rattle.std.proofs.lemmas.Bool.{cases_eq, ltb-false}
 use Rattle.std.proofs.lemmas.Bool.Decides.{nat_tests}
@@ -44,14 +44,6 @@ adds_both a b x y z first next = record {
     at : (o : Option Telling) → y ≡ o → IsSome z → x ≡ None → (a ≡ []) × (b ≡ []) → ⊥
     at None is h e q = next.brought h is q.1
     at (Some t) is h e q = first.brought (ap is_some is) e q.0
-
-pub adds_after : (all items : List PollItem) (size more : ℕ) → AddsTo items (Some (After all size)) (Some (After (all ++ items) more))
-adds_after all items size more = record {
-  told = λ s. sym (tell_twice all items s);
-  alone = refl;
-  brought = λ h e. absurd (some_none (Some (After all size)) refl e);
-  kept = λ e. absurd (some_none (Some (After (all ++ items) more)) refl e);
-}
 
 pub sized_after : (n : ℕ) (live : List Session) (all items : List PollItem) (size more : ℕ) → more ≡ size + queue_size items
     → (size < 2 ^ 64 - 1 → more < 2 ^ 64 - 1) → IsSized n (After all size) live → IsSized n (After (all ++ items) more) live

@@ -1,7 +1,7 @@
 -- How far the overflowing of sessions has come, along the subscriptions (`Overflowing`): as it begins, one further, and at its end.
-use Rattle.std.proofs.Common.{◌≡◌, ◌≢◌, refl, sym, ◌∙◌, ap, subst, ℕ, suc, ◌+◌, ◌≤◌, ◌||◌, true, false, List, [], ◌∷◌, length, map, drop, drop-cons, Option, None, Some, inl, inr, arith}
+use Rattle.std.proofs.Common.{◌≡◌, ◌≢◌, refl, sym, ◌∙◌, ap, subst, ℕ, suc, ◌+◌, ◌≤◌, ◌||◌, false, List, [], ◌∷◌, length, map, drop, drop-cons, Some, inl, inr, arith}
 use Rattle.std.proofs.Math.Bool.{or-false}
-use Rattle.std.proofs.lemmas.Bool.{cases_eq, false≢true}
+use Rattle.std.proofs.lemmas.Bool.{cases_eq}
 use Rattle.std.proofs.lemmas.List.{drop_all}
 use Rattle.std.proofs.lemmas.Option.{get_or_from_slice_get, slice_get_within}
 use Rattle.std.specs.BTreeMap.{get}
@@ -14,7 +14,7 @@ use Rattle.ifmap_standing.specs.ifmap_machine.Telling.{is_overfull, overflow_ses
 use Rattle.ifmap_standing.specs.ifmap_session.Sessions.{Session, SessionTable, session_order, session_with_serial}
 use Rattle.ifmap_standing.specs.declared.standing.Standing.{Standing}
 use Rattle.ifmap_tellings.specs.declared.tellings.Telling.{Telling}
-use Rattle.ifmap_tellings.specs.Tellings.{AreUntoldWithinLimits, AreWide, CanTell, EachTelling, HasSameSessions, IsSized, IsWide, Tellings, is_alone, told_by, told_where}
+use Rattle.ifmap_tellings.specs.Tellings.{AreWide, CanTell, EachTelling, HasSameSessions, IsSized, IsWide, Tellings, is_alone, told_by, told_where}
 use Rattle.ifmap_tellings.proofs.OverflowLaws.{overflowed_within, within_stays}
 use Rattle.ifmap_tellings.proofs.RoomLaws.{found_here, tells_still}
 use Rattle.ifmap_tellings.specs.ToldLaws.{same_sessions_itself, same_twice, told_limit}
@@ -22,10 +22,6 @@ use Rattle.ifmap_tellings.specs.ToldLaws.{same_sessions_itself, same_twice, told
 -- none of these subscriptions is of a session
 abbrev pub IsFree : List Standing → ℕ → Type 0
 IsFree standing n = (x : Standing) → Has standing x → x.serial ≢ n
-
-some_alike : {X Y : Type 0} (a : Option X) (b : Option Y) → is_some a ≡ is_some b → a ≡ None → b ≡ None
-some_alike a None same none = refl
-some_alike a (Some y) same none = absurd (false≢true (sym (ap is_some none) ∙ same))
 
 pub map_alike : {X Y : Type 0} (f g : X → Y) (xs : List X) → ((x : X) → Has xs x → f x ≡ g x) → map f xs ≡ map g xs
 map_alike f g [] h = refl
@@ -59,14 +55,6 @@ passed_first standing begun old within rest sized = record {
 
 module _ (standing : List Standing) (begun now : SessionTable) (old tellings : Tellings) (at : ℕ)
     (o : Overflowing standing begun now old tellings at) where
-  pub passed_within : AreUntoldWithinLimits old begun.live → AreUntoldWithinLimits tellings now.live
-  passed_within within = λ n s found none.
-      within n s (subst (λ live. session_with_serial n live ≡ Some s) o.same.live found)
-      (some_alike (get nat_cmp tellings n) (get nat_cmp old n) (o.keys n) none)
-
-  pub passed_sized : EachTelling (λ n t. IsSized n t now.live) tellings
-  passed_sized = subst (λ live. EachTelling (λ n t. IsSized n t live) tellings) (sym o.same.live) o.sized
-
   -- where nothing is left
   module _ (end : length standing ≤ at) where
     all_free : (n : ℕ) → IsFree (drop at standing) n

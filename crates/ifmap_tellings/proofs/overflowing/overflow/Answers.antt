@@ -7,4 +7,4 @@ use Rattle.ifmap_tellings.proofs.overflowing.overflow.Goals as goal
 pub returns-in-Alone-clause-told : goal.returns-in-Alone-clause-told
 returns-in-Alone-clause-told c = λ n live s sized found own wide.
     subst (λ t. told_where (Some t) s ≡ overflow_session (told_where (Some t) s)) (sym c.in-Alone.is)
-    (alone_stays n c.args.limit live s found own c.in-Alone.field-0 (subst (λ t. IsSized n t live) c.in-Alone.is sized) wide)
+    (alone_stays n c.args.limit live s own c.in-Alone.field-0 (subst (λ t. IsSized n t live) c.in-Alone.is sized) wide)
