@@ -86,8 +86,7 @@ impl Input {
             (IsAtEnd (S.left source.new) × (self.new ≡ self.old))) }
         ensures unchanged { OnErr result (self.new ≡ self.old) }
         ensures kept { result ≡ Err InputError.ReadFault
-            → TakesFromSource (S.left source.old) (S.left source.new) self.old self.new
-            × (self.new ≡ self.old) }
+            → TakesFromSource (S.left source.old) (S.left source.new) self.old self.new }
         ensures lost { result ≡ Err InputError.NoMemory
             → (got : List ℕ) × Consumes (S.left source.old) (S.left source.new) got }
         ensures fault { result ≡ Err InputError.ReadFault
