@@ -7,6 +7,7 @@
 use Rattle.std.proofs.Common.{◌≡◌, ◌⊎◌, inl, inr, refl, ap, ◌∙◌, sym, subst, ℕ, ◌+◌, ◌-◌, ◌<◌, true, false, List, [], ◌∷◌, ◌++◌, length, length-append, arith}
 use Rattle.std.specs.Prelude.{Option, Some, Err}
 use Rattle.std.proofs.KnownBytes.{Appends-nil, Consumes-nil, Consumes-trans}
+use Rattle.ifmap_input.specs.Scripts.{longest_script}
 use Rattle.ifmap_client.specs.Lines.{IsLine}
 use Rattle.ifmap_client.specs.declared.lines.Line.{Line}
 use Rattle.ifmap_client_script.specs.declared.exchanges.Caller.{Caller}
@@ -20,7 +21,7 @@ use Rattle.ifmap_client_script.specs.Exchanges.{HasAny, HasNoReply, HasPart, IsF
 use Rattle.ifmap_client_script.specs.Holding.{known_of}
 use Rattle.ifmap_client_script.specs.Pending.{Fetches, Pending, nothing_taken}
 use Rattle.ifmap_client_script.specs.Promises.{Cutting, Did, IsCarriedOut, IsFaulty, IsLost, IsUnanswered, IsUnread, IsUnwritten, IsWholePost, Posted, ScriptPromises, Takes, Wrote, known_after}
-use Rattle.ifmap_client_script.specs.Scripts.{IsBadLine, longest_client_script}
+use Rattle.ifmap_client_script.specs.Scripts.{IsBadLine}
 use Rattle.ifmap_client_script.specs.Stops.{script_outcome}
 use Rattle.ifmap_client_script.specs.Turns.{IsAtFault, IsBeginning, IsCutShort, IsDue, IsIdle, IsLeft, IsOver, Scripting, TakesLine, IsScriptTurn, TurnsOn}
 use Rattle.ifmap_client_script.proofs.Carrying.{exchanges_none}
@@ -280,7 +281,7 @@ module _ (caller : Caller) (before now after : SourceAndPorts) (old : Scripting)
 
 -- the next line begins later
 pub nearer : (caller : Caller) (now after : SourceAndPorts) (old new : Scripting) → TurnsOn caller now after old new
-    → longest_client_script + 1 - new.offset < longest_client_script + 1 - old.offset
+    → longest_script + 1 - new.offset < longest_script + 1 - old.offset
 nearer caller now after old new t =
     let a = t.takes.begins.ends in
     let b = t.offset in

@@ -1,14 +1,11 @@
 -- What the bytes of a script are as lines, and how far they are carried out.
-use Rattle.std.specs.Prelude.{◌≡◌, ◌≢◌, ◌⊎◌, ℕ, ◌+◌, ◌≤◌, ◌<◌, ◌^◌, List, [], ◌∷◌, ◌++◌, length, slice_index, Option}
+use Rattle.std.specs.Prelude.{◌≡◌, ◌≢◌, ◌⊎◌, ℕ, ◌+◌, ◌≤◌, ◌<◌, List, [], ◌∷◌, ◌++◌, length, slice_index, Option}
 use Rattle.std.specs.Io.KnownBytes.{IsAtEnd}
 use Rattle.ifmap_elem.specs.Chars.{line_feed}
+use Rattle.ifmap_input.specs.Scripts.{longest_script}
 use Rattle.ifmap_client.specs.Lines.{IsLine, line_limit}
 use Rattle.ifmap_client.specs.declared.lines.Line.{Line}
 use Rattle.ifmap_client_script.specs.Deeds.{CanDo, Deed, Does, Known, after_deed}
-
--- how many bytes of a script may be lines
-abbrev pub longest_client_script : ℕ
-longest_client_script = 2 ^ 32
 
 -- no newline is among the bytes
 abbrev pub HasNoNewline : List ℕ → Type 0
@@ -17,13 +14,13 @@ HasNoNewline text = (k : ℕ) → k < length text → slice_index text k ≢ lin
 -- a line of that many bytes, of which the first stands at an offset, is within its limits
 pub record IsWithinLineLimits (offset size : ℕ) : Type 0 where
   pub short : size ≤ line_limit
-  pub ends : offset + size ≤ longest_client_script
+  pub ends : offset + size ≤ longest_script
 
 -- these bytes, of which the first stands at an offset, begin with a line of this text and go on with a rest
 pub record BeginsLine (offset : ℕ) (bytes text rest : List ℕ) : Type 0 where
   pub bytes_are : bytes ≡ text ++ line_feed ∷ rest
   pub plain : HasNoNewline text
-  pub ends : offset + length text ≤ longest_client_script
+  pub ends : offset + length text ≤ longest_script
 
 -- the lines of these bytes, from what a client knows on, are carried out by these deeds, up to a rest
 abbrev pub Carries : ℕ → Known → List ℕ → List Deed → List ℕ → Type 0

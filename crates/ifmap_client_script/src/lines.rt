@@ -2,18 +2,16 @@
 ghost use Rattle.std.specs.Prelude.{◌≡◌, ◌≤◌, ◌<◌, ◌+◌, drop, false, true, length, IfNone, IfSome, OnOk, Err};
 ghost use Rattle.std.specs.Bool.{OnFalse, OnTrue};
 ghost use Rattle.ifmap_io.specs.Causes.{Rose};
+ghost use Rattle.ifmap_input.specs.Scripts.{longest_script};
 ghost use Rattle.ifmap_client_script.specs.Pending.{WaitsForLine, Fills, Gathers, IsClosed, IsLineEnd, IsGathered, IsWaiting, Looks, nothing_taken, with_last_newline};
-ghost use Rattle.ifmap_client_script.specs.Scripts.{AwaitsLine, HasNoNewline, IsWithinLineLimits, longest_client_script};
+ghost use Rattle.ifmap_client_script.specs.Scripts.{AwaitsLine, HasNoNewline, IsWithinLineLimits};
 
 use crate::outcomes::Stop;
 use ifmap_client::LINE_LIMIT;
-use ifmap_input::{Input, InputError};
+use ifmap_input::{Input, InputError, LONGEST_SCRIPT};
 use ifmap_io::Source;
 use std::alloc::{AllocError as NoMemory, Global};
 use std::marker::Model;
-
-/// How many bytes of a script may be lines.
-pub const LONGEST_SCRIPT: u64 = 1 << 32;
 
 /// What was taken from a source and not used yet. Where the source is at its end, a last line that
 /// lacks its newline has it.
@@ -68,7 +66,7 @@ impl Lines {
         source: &mut S,
         offset: u64,
     ) -> Result<Option<usize>, Stop>
-        requires { offset ≤ longest_client_script + 1 }
+        requires { offset ≤ longest_script + 1 }
         ensures awaits { WaitsForLine (S.left source.old) (S.left source.new) offset
             self.old self.new
             result }
@@ -85,7 +83,7 @@ impl Lines {
     // Takes from the source until a line is pending that begins at that offset, or none can come.
     #[tactic(auto, using(crate::proofs::Waiting::fetches_nothing, crate::proofs::Waiting::room_shrinks, ifmap_io::specs::Rises::rose_since))]
     fn gather<S: Source>(&mut self, source: &mut S, offset: u64) -> Result<(), Stop>
-        requires { offset ≤ longest_client_script + 1 }
+        requires { offset ≤ longest_script + 1 }
         ensures gathers { Gathers (S.left source.old) (S.left source.new) offset self.old self.new
             result }
         ensures fault { result ≡ Err Stop.ReadFault
@@ -104,7 +102,7 @@ impl Lines {
     // More is to be taken for the line that begins at that offset, and the source has not told its
     // end.
     fn is_waiting(&self, offset: u64) -> bool
-        requires { offset ≤ longest_client_script + 1 }
+        requires { offset ≤ longest_script + 1 }
         ensures yes { OnTrue result (IsWaiting offset self.now) }
         ensures no { OnFalse result (IsGathered offset self.now) }
     {
@@ -118,7 +116,7 @@ impl Lines {
     // taken.
     #[tactic(auto, using(crate::proofs::Waiting::too_long))]
     fn line_at(&self, offset: u64) -> Result<Option<usize>, Stop>
-        requires offset { offset ≤ longest_client_script + 1 }
+        requires offset { offset ≤ longest_script + 1 }
         requires ready { IsGathered offset self.now }
         ensures { Looks offset self.now result }
     {
@@ -194,7 +192,7 @@ fn line_end(pending: &[u8]) -> Option<usize>
 
 // A line of that many bytes that begins at that offset is within its limits.
 fn is_within(length: usize, offset: u64) -> bool
-    requires { offset ≤ longest_client_script + 1 }
+    requires { offset ≤ longest_script + 1 }
     ensures yes { OnTrue result (IsWithinLineLimits offset length) }
     ensures no { OnFalse result (IsWithinLineLimits offset length → ⊥) }
 {
@@ -204,7 +202,7 @@ fn is_within(length: usize, offset: u64) -> bool
 // More bytes are to be taken for the line that begins there: there is none, or no newline is among
 // them and that of a line still can come.
 fn is_due(pending: &[u8], offset: u64) -> bool
-    requires { offset ≤ longest_client_script + 1 }
+    requires { offset ≤ longest_script + 1 }
     ensures yes { OnTrue result (AwaitsLine offset pending.now) }
     ensures no { OnFalse result (AwaitsLine offset pending.now → ⊥) }
 {

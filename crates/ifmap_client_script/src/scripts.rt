@@ -2,7 +2,7 @@
 ghost use Rattle.std.specs.Prelude.{◌≡◌, ◌≤◌, ◌<◌, ◌+◌, length, Err, OnErr, IsFalse, IsTrue};
 ghost use Rattle.ifmap_http.specs.ifmap_heads.Messages.{is_visible};
 ghost use Rattle.ifmap_io.specs.Causes.{Rose};
-ghost use Rattle.ifmap_client_script.specs.Scripts.{longest_client_script};
+ghost use Rattle.ifmap_input.specs.Scripts.{longest_script};
 ghost use Rattle.ifmap_client_script.specs.Ends.{ArePortsLater, IsLaterInRun, source_and_ports, ports};
 ghost use Rattle.ifmap_client_script.specs.Exchanges.{wiring};
 ghost use Rattle.ifmap_client_script.specs.Outlets.{AreSame, AreUnspent};
@@ -87,7 +87,7 @@ impl Model for Script {
     ghost use Rattle.std.specs.Prelude.{◌≤◌, ◌+◌};
     ghost use Rattle.std.specs.Coded.{codes};
     ghost use Rattle.ifmap_search.specs.contracts.results.Entry as the_entry;
-    ghost use Rattle.ifmap_client_script.specs.Scripts.{longest_client_script};
+    ghost use Rattle.ifmap_input.specs.Scripts.{longest_script};
     ghost use Rattle.ifmap_client_script.specs.Turns.{Scripting};
 
     ghost Value = { Scripting };
@@ -101,7 +101,7 @@ impl Model for Script {
       line = script.line;
     } };
 
-    ghost invariant = { λ script. (script.offset ≤ longest_client_script + 1)
+    ghost invariant = { λ script. (script.offset ≤ longest_script + 1)
         × (script.line ≤ script.offset + 1) };
 }
 
@@ -216,7 +216,7 @@ fn next_line<S: Source>(
     source: &mut S,
     offset: u64,
 ) -> Result<Option<NextLine>, Stop>
-    requires { offset ≤ longest_client_script + 1 }
+    requires { offset ≤ longest_script + 1 }
     ensures reads { ReadsNext (S.left source.old) (S.left source.new) offset lines.old lines.new
         result }
     ensures fault { result ≡ Err Stop.ReadFault → Rose (S.faults source.old) (S.faults source.new) }

@@ -1,3 +1,4 @@
 -- What is taken from a source piece by piece.
 pub mod Inputs
 pub mod InputLaws
+pub mod Scripts

@@ -3,5 +3,7 @@
 #![tactic(auto)]
 
 mod inputs;
+mod scripts;
 
 pub use inputs::{CHUNK, Input, InputError};
+pub use scripts::LONGEST_SCRIPT;

@@ -10,12 +10,13 @@ use Rattle.std.proofs.Math.Seq.{drop-cons, drop-drop, get_or-append_seam, take-a
 use Rattle.std.specs.Io.KnownBytes.{IsAtEnd}
 use Rattle.std.specs.Prelude.{slice_range}
 use Rattle.ifmap_input.specs.Inputs.{TakesFromSource}
+use Rattle.ifmap_input.specs.Scripts.{longest_script}
 use Rattle.ifmap_requests.specs.declared.errors.Refusal.TheVariants.{Unreadable}
 use Rattle.ifmap_server.specs.declared.headers.Header.{Header}
 use Rattle.ifmap_server.specs.declared.replaying.TakenFrame.{TakenFrame}
 use Rattle.ifmap_server.specs.Frames.{Frame, IsHeader, Meaning, frame_text}
 use Rattle.ifmap_server.specs.Awaited.{AwaitsBody, HasNoLine, IsAwaited, IsHeaderLineEnd}
-use Rattle.ifmap_server.specs.Script.{BeginsFrame, longest_script}
+use Rattle.ifmap_server.specs.Script.{BeginsFrame}
 use Rattle.ifmap_server.specs.Turns.{BeginsNone, IsFramed, frame_within}
 use Rattle.ifmap_server.proofs.HeaderLines.{header_of_line_one, line_of, line_text}
 use Rattle.ifmap_server.proofs.Scripts.{BeginsWith, begins_alike, begins_line, frame_length, header_of_frame, line_begins}

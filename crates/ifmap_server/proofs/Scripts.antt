@@ -4,11 +4,12 @@
 -- a frame begins, each script begins with it (`script_begins`).
 use Rattle.std.proofs.Common.{◌≡◌, ◌≢◌, ℕ, ◌+◌, ◌<◌, ◌≤◌, List, [], ◌∷◌, ◌++◌, length, length-append, get_or, take, drop, Option, Some, None, arith, refl, sym, ap, subst, ◌∙◌}
 use Rattle.std.proofs.lemmas.List.{append_assoc, take_at, drop_at}
+use Rattle.ifmap_input.specs.Scripts.{longest_script}
 use Rattle.ifmap_requests.specs.Laws.{OneMeaning}
 use Rattle.ifmap_requests.specs.Means.{Means}
 use Rattle.ifmap_server.specs.declared.headers.Header.{Header}
 use Rattle.ifmap_server.specs.Frames.{Frame, IsFrame, IsHeader, Meaning, frame_text}
-use Rattle.ifmap_server.specs.Script.{BeginsFrame, IsScriptFrom, longest_script}
+use Rattle.ifmap_server.specs.Script.{BeginsFrame, IsScriptFrom}
 use Rattle.ifmap_server.specs.Turns.{frame_of}
 use Rattle.ifmap_server.proofs.Splits.{without_at, before, after, before_at, after_at}
 use Rattle.ifmap_server.proofs.HeaderLines.{IsWithin, line_text, line_of, line_length, line_without, is_header, header_of_line_one, read_line}

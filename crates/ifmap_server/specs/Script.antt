@@ -1,11 +1,8 @@
 -- What the bytes of a script are as frames.
-use Rattle.std.specs.Prelude.{◌≡◌, ◌≢◌, ℕ, ◌+◌, ◌≤◌, ◌^◌, List, [], ◌∷◌, ◌++◌, length, Option, None, Some}
+use Rattle.std.specs.Prelude.{◌≡◌, ◌≢◌, ℕ, ◌+◌, ◌≤◌, List, [], ◌∷◌, ◌++◌, length, Option, None, Some}
+use Rattle.ifmap_input.specs.Scripts.{longest_script}
 use Rattle.ifmap_requests.specs.Means.{Means}
 use Rattle.ifmap_server.specs.Frames.{Frame, IsFrame, frame_text}
-
--- how many bytes of a script may be frames
-abbrev pub longest_script : ℕ
-longest_script = 2 ^ 32
 
 -- these bytes, of which the first stands at an offset, begin with this frame and go on with a rest, whatever the frame's meaning
 pub record BeginsFrame (offset : ℕ) (bytes : List ℕ) (f : Frame) (rest : List ℕ) : Type 0 where

@@ -2,6 +2,7 @@
 use Rattle.std.specs.Prelude.{◌≡◌, ◌≢◌, ℕ, ◌+◌, ◌≤◌, List, [], ◌++◌, drop, length, slice_range, IfSome, Result, Ok, Err, false}
 use Rattle.std.specs.Io.KnownBytes.{Appends, IsAtEnd, Keeps}
 use Rattle.ifmap_input.specs.Inputs.{TakesFromSource}
+use Rattle.ifmap_input.specs.Scripts.{longest_script}
 use Rattle.ifmap_core.specs.ifmap_machine.declared.events.Ask.TheVariants as ask
 use Rattle.ifmap_core.specs.ifmap_machine.State.{State, opening, session_seconds}
 use Rattle.ifmap_server.specs.declared.errors.ReplayError.{ReplayError}
@@ -14,7 +15,7 @@ use Rattle.ifmap_requests.specs.Means.{Means}
 use Rattle.ifmap_server.specs.Awaited.{IsAwaited}
 use Rattle.ifmap_server.specs.Frames.{Frame, Meaning, frame_text}
 use Rattle.ifmap_server.specs.Output.{AppendsPrefix, EventByRequest, step_frame}
-use Rattle.ifmap_server.specs.Script.{BeginsFrame, longest_script}
+use Rattle.ifmap_server.specs.Script.{BeginsFrame}
 use Rattle.ifmap_server.specs.Ends.{ReadFailed, SourceAndSink, WriteFailed}
 
 -- a replay: the state of the machine, what is pending, and the offset of the next frame

@@ -3,12 +3,12 @@ ghost use Rattle.std.specs.Prelude.{◌≡◌, ◌≢◌, ◌≤◌, [], ◌++�
 ghost use Rattle.std.specs.Io.KnownBytes.{Appends, IsAtEnd, Keeps};
 ghost use Rattle.ifmap_io.specs.Causes.{Rose};
 ghost use Rattle.ifmap_input.specs.Inputs.{TakesFromSource};
+ghost use Rattle.ifmap_input.specs.Scripts.{longest_script};
 ghost use Rattle.ifmap_server.specs.declared.headers.Header.{Header};
 ghost use Rattle.ifmap_server.specs.Awaited.{IsAwaited};
 ghost use Rattle.ifmap_requests.specs.Fit.{IsFitRequest};
 ghost use Rattle.ifmap_server.specs.Output.{AppendsPrefix, fault_line, step_request};
 ghost use Rattle.ifmap_server.specs.Replayed.{ReplayPromises};
-ghost use Rattle.ifmap_server.specs.Script.{longest_script};
 ghost use Rattle.ifmap_server.specs.Ends.{IsLaterMoment, source_and_sink};
 ghost use Rattle.ifmap_server.specs.Turns.{BeginsNone, IsAnswered, IsFramed, IsReplayTurn, asking_of, replay_beginning};
 
@@ -18,7 +18,7 @@ use crate::replies::AnswerText;
 use crate::sending::send;
 use crate::waiting::{await_bytes, await_line};
 use ifmap_core::{Ask, Core, Event, SESSION_SECONDS};
-use ifmap_input::Input;
+use ifmap_input::{Input, LONGEST_SCRIPT};
 use ifmap_io::{Sink, Source};
 use ifmap_requests::laws::{bodies_have_one_meaning, bodies_mean_fit_requests};
 use ifmap_requests::{Refusal, Request, read_request};
@@ -26,9 +26,6 @@ use ifmap_steps::Steps;
 use std::alloc::Global;
 use std::marker::Model;
 use std::sync::ledger::Ledger;
-
-/// How many bytes of a script may be frames.
-pub const LONGEST_SCRIPT: u64 = 1 << 32;
 
 /// A frame whose bytes have all been taken: its header, and where its body stands in what is pending.
 #[derive(Drop)]
@@ -157,7 +154,7 @@ impl Model for Replay {
     ghost use Rattle.std.specs.Prelude.{◌≤◌};
     ghost use Rattle.std.specs.Coded.{codes};
     ghost use Rattle.ifmap_core.specs.contracts.machine.Core as the_core;
-    ghost use Rattle.ifmap_server.specs.Script.{longest_script};
+    ghost use Rattle.ifmap_input.specs.Scripts.{longest_script};
     ghost use Rattle.ifmap_server.specs.Turns.{Replaying};
 
     ghost Value = { Replaying };

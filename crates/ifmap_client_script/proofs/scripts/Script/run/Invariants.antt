@@ -1,7 +1,7 @@
 use Rattle.std.proofs.Common.{◌+◌, ◌-◌}
 use Rattle.ifmap_client_script.specs.Ends.{source_and_ports}
 use Rattle.ifmap_client_script.specs.Outlets.{AreSame}
-use Rattle.ifmap_client_script.specs.Scripts.{longest_client_script}
+use Rattle.ifmap_input.specs.Scripts.{longest_script}
 use Rattle.ifmap_client_script.proofs.Endings.{Reached}
 use Rattle.ifmap_client_script.proofs.scripts.Script.run.Given as goal
 
@@ -13,4 +13,4 @@ invariant-lines g l =
     × AreSame (g.O.Outlets.loans l.initial.outlets) (g.O.Outlets.loans l.outlets)
 
 abbrev pub decreases-lines : goal.decreases-lines
-decreases-lines g l = longest_client_script + 1 - l.self.offset
+decreases-lines g l = longest_script + 1 - l.self.offset

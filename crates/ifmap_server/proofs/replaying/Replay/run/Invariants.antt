@@ -1,5 +1,5 @@
 use Rattle.std.proofs.Common.{◌-◌}
-use Rattle.ifmap_server.specs.Script.{longest_script}
+use Rattle.ifmap_input.specs.Scripts.{longest_script}
 use Rattle.ifmap_server.specs.Ends.{source_and_sink}
 use Rattle.ifmap_server.proofs.Progress.{Progress}
 use Rattle.ifmap_server.proofs.replaying.Replay.run.Given as goal
