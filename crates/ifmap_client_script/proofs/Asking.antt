@@ -4,6 +4,7 @@ use Rattle.std.specs.Prelude.{IfSome, Option, Some, None, Result, Ok, Err}
 use Rattle.std.specs.Io.KnownBytes.{Appends}
 use Rattle.std.proofs.Math.Seq.{take-length}
 use Rattle.ifmap_http.specs.ifmap_heads.Answers.{ReadsAnswer, answered}
+use Rattle.ifmap_http.specs.Wires.{WireSeen}
 use Rattle.ifmap_io.specs.Causes.{Rose}
 use Rattle.ifmap_replies.specs.Means.{MeansReply}
 use Rattle.ifmap_replies.specs.declared.replies.Reply.{Reply}
@@ -12,7 +13,7 @@ use Rattle.ifmap_client_script.specs.declared.exchanges.Caller.{Caller}
 use Rattle.ifmap_client_script.specs.declared.exchanges.ReadReply.{ReadReply}
 use Rattle.ifmap_client_script.specs.declared.outcomes.Stop.{Stop}
 use Rattle.ifmap_client_script.specs.declared.outcomes.Stop.TheVariants as stop
-use Rattle.ifmap_client_script.specs.Exchanges.{AnswersTo, AsksOnWire, Breaks, HasAny, HasNoReply, HasPart, Hears, Posts, Reads, Receives, BodyTellsReply, Unread, Unwritten, Wiring, asked_of, request_post}
+use Rattle.ifmap_client_script.specs.Exchanges.{AnswersTo, AsksOnWire, Breaks, HasAny, HasNoReply, HasPart, Hears, Posts, Reads, Receives, BodyTellsReply, Unread, Unwritten, asked_of, request_post}
 use Rattle.ifmap_io.specs.Rises.{keeps_appends}
 
 -- a body that came means no reply
@@ -22,7 +23,7 @@ no_reply : (left after : Option (List ℕ)) (body : List ℕ)
 no_reply None after body came none = tt
 no_reply (Some l) after body came none = inr (inr (body, came.0, came.2, none))
 
-unmeant : (before after : Wiring) (body : List ℕ) (e : Stop) → Receives before after (Ok body) → Reads body (Err e)
+unmeant : (before after : WireSeen) (body : List ℕ) (e : Stop) → Receives before after (Ok body) → Reads body (Err e)
     → Receives before after (Err e)
 unmeant before after body stop.BadReply came reads = no_reply before.left after.left body came.0 reads
 unmeant before after body stop.NoMemory came reads = tt
@@ -32,7 +33,7 @@ unmeant before after body stop.WriteFault came reads = absurd reads
 unmeant before after body stop.LinkFault came reads = absurd reads
 unmeant before after body stop.LinkEnded came reads = absurd reads
 
-pub hears : (before after : Wiring) (body : List ℕ) (r : Result ReadReply Stop) → Receives before after (Ok body) → BodyTellsReply body r
+pub hears : (before after : WireSeen) (body : List ℕ) (r : Result ReadReply Stop) → Receives before after (Ok body) → BodyTellsReply body r
     → Hears before after r
 hears before after body (Ok told) came tells =
     (subst (λ (b : List ℕ). Receives before after (Ok b)) (sym tells.0) came, tells.1)
@@ -45,7 +46,7 @@ any_left (Some l) = (l, refl, tt)
 
 -- ---- what was left is what it was before the post
 
-module _ (caller : Caller) (request : Request) (before mid after : Wiring) (unread : Unread before mid)
+module _ (caller : Caller) (request : Request) (before mid after : WireSeen) (unread : Unread before mid)
     (unwritten : Unwritten mid after) where
   abbrev post : List ℕ
   post = request_post caller request
@@ -96,7 +97,7 @@ module _ (caller : Caller) (request : Request) (before mid after : Wiring) (unre
   asks (Err stop.WriteFault) a h = absurd h
 
 -- a post that was cut
-pub asks_part : (caller : Caller) (request : Request) (before after : Wiring) (e : Stop)
+pub asks_part : (caller : Caller) (request : Request) (before after : WireSeen) (e : Stop)
     → Posts (request_post caller request) before after (Err e) → AsksOnWire caller request before after (Err e)
 asks_part caller request before after stop.LinkFault p =
     ((take p.0.0 (request_post caller request), (p.0.0, refl), record { posted = p.0.1; answered = any_left before.left }), inr p.1)

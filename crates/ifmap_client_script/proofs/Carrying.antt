@@ -11,6 +11,7 @@ use Rattle.ifmap_client.specs.declared.lines.Line.{Line}
 use Rattle.ifmap_client.specs.declared.lines.Line.TheVariants as the_line
 use Rattle.ifmap_replies.specs.Means.{MeansReply}
 use Rattle.ifmap_requests.specs.declared.requests.Request.{Request}
+use Rattle.ifmap_http.specs.Wires.{WireSeen}
 use Rattle.ifmap_client_script.specs.declared.exchanges.Caller.{Caller}
 use Rattle.ifmap_client_script.specs.declared.exchanges.ReadReply.{ReadReply}
 use Rattle.ifmap_client_script.specs.declared.outcomes.Stop.{Stop}
@@ -18,7 +19,7 @@ use Rattle.ifmap_client_script.specs.declared.outcomes.Stop.TheVariants as stop
 use Rattle.ifmap_client_script.specs.Deeds.{Known, after_reply, is_poll, request_in}
 use Rattle.ifmap_client_script.specs.Deeds as deed
 use Rattle.ifmap_client_script.specs.Ends.{LinkFailed, Ports}
-use Rattle.ifmap_client_script.specs.Exchanges.{AnswersTo, AsksOnWire, HasPostedAndHeard, HasAny, HasNoReply, HasPart, IsFrontOfPost, Wiring, asked_of, request_post}
+use Rattle.ifmap_client_script.specs.Exchanges.{AnswersTo, AsksOnWire, HasPostedAndHeard, HasAny, HasNoReply, HasPart, IsFrontOfPost, asked_of, request_post}
 use Rattle.ifmap_client_script.specs.Outlets.{AreUnspent, AsksBy, AsksOver, IsAsked, Prints}
 use Rattle.ifmap_client_script.specs.Printing.{body_text, set_text}
 use Rattle.ifmap_client_script.specs.Promises.{Broken, Cutting, Exchanged, IsWholePost}
@@ -27,10 +28,10 @@ use Rattle.ifmap_client_script.specs.Turns.{CarriesOut, Cut, Unanswered}
 use Rattle.ifmap_io.specs.Rises.{keeps_appends}
 
 -- a wire that is as it was, was asked nothing
-pub exchanges_none : (caller : Caller) (before after : Wiring) → before.spent ≡ false → after ≡ before
+pub exchanges_none : (caller : Caller) (before after : WireSeen) → before.spent ≡ false → after ≡ before
     → HasPostedAndHeard caller [] before after
 exchanges_none caller before after unspent same =
-    subst (λ (w : Wiring). HasPostedAndHeard caller [] before w) (sym same) (record {
+    subst (λ (w : WireSeen). HasPostedAndHeard caller [] before w) (sym same) (record {
       posted = Appends-nil before.held;
       answered = at before.left;
       unspent = unspent;
@@ -62,8 +63,8 @@ same_ports : (a b : Ports) → b.held ≡ a.held → b.write_faults ≡ a.write_
 same_ports a b held faults first second =
     ap (λ (h : Option (List ℕ)). record { held = h; write_faults = b.write_faults; first = b.first; second = b.second }) held
     ∙ ap (λ (n : ℕ). record { held = a.held; write_faults = n; first = b.first; second = b.second }) faults
-    ∙ ap (λ (w : Wiring). record { held = a.held; write_faults = a.write_faults; first = w; second = b.second }) first
-    ∙ ap (λ (w : Wiring). record { held = a.held; write_faults = a.write_faults; first = a.first; second = w }) second
+    ∙ ap (λ (w : WireSeen). record { held = a.held; write_faults = a.write_faults; first = w; second = b.second }) first
+    ∙ ap (λ (w : WireSeen). record { held = a.held; write_faults = a.write_faults; first = a.first; second = w }) second
 
 -- ---- a request
 

@@ -10,6 +10,7 @@ use Rattle.std.proofs.KnownBytes.{Appends-nil, Consumes-nil, Consumes-trans}
 use Rattle.ifmap_input.specs.Scripts.{longest_script}
 use Rattle.ifmap_client.specs.Lines.{IsLine}
 use Rattle.ifmap_client.specs.declared.lines.Line.{Line}
+use Rattle.ifmap_http.specs.Wires.{WireSeen}
 use Rattle.ifmap_client_script.specs.declared.exchanges.Caller.{Caller}
 use Rattle.ifmap_client_script.specs.declared.outcomes.Outcome.{Outcome}
 use Rattle.ifmap_client_script.specs.declared.outcomes.Outcome.TheVariants as outcome
@@ -17,7 +18,7 @@ use Rattle.ifmap_client_script.specs.declared.outcomes.Stop.{Stop}
 use Rattle.ifmap_client_script.specs.declared.outcomes.Stop.TheVariants as stop
 use Rattle.ifmap_client_script.specs.Deeds.{Deed, Does, Known, after_deed, nothing_known, request_in}
 use Rattle.ifmap_client_script.specs.Ends.{ArePortsLater, SourceAndPorts, IsLaterInRun, IsLaterWire, LinkFailed, Ports}
-use Rattle.ifmap_client_script.specs.Exchanges.{HasAny, HasNoReply, HasPart, IsFrontOfPost, WireFailed, Wiring}
+use Rattle.ifmap_client_script.specs.Exchanges.{HasAny, HasNoReply, HasPart, IsFrontOfPost, WireFailed}
 use Rattle.ifmap_client_script.specs.Holding.{known_of}
 use Rattle.ifmap_client_script.specs.Pending.{Fetches, Pending, nothing_taken}
 use Rattle.ifmap_client_script.specs.Promises.{Cutting, Did, IsCarriedOut, IsFaulty, IsLost, IsUnanswered, IsUnread, IsUnwritten, IsWholePost, Posted, ScriptPromises, Takes, Wrote, known_after}
@@ -31,7 +32,7 @@ use Rattle.ifmap_io.specs.Rises.{rose_since}
 
 -- ---- counts that never fall
 
-later_wire : (a b c : Wiring) → IsLaterWire a b → IsLaterWire b c → IsLaterWire a c
+later_wire : (a b c : WireSeen) → IsLaterWire a b → IsLaterWire b c → IsLaterWire a c
 later_wire a b c one other =
     let p = one.read in
     let q = one.write in
@@ -55,7 +56,7 @@ later_ends a b c one other =
     let q = other.read in
     record { read = omega arith; ports = later_ports a.ports b.ports c.ports one.ports other.ports }
 
-same_wire : (a : Wiring) → IsLaterWire a a
+same_wire : (a : WireSeen) → IsLaterWire a a
 same_wire a = record { read = omega arith; write = omega arith }
 
 pub same_ends : (a : SourceAndPorts) → IsLaterInRun a a
@@ -64,7 +65,7 @@ same_ends a = record {
   ports = record { write = omega arith; first = same_wire a.ports.first; second = same_wire a.ports.second };
 }
 
-wire_failed : (a b c : Wiring) → IsLaterWire a b → WireFailed b c → WireFailed a c
+wire_failed : (a b c : WireSeen) → IsLaterWire a b → WireFailed b c → WireFailed a c
 wire_failed a b c later (inl rose) = inl (rose_since a.read_faults b.read_faults c.read_faults later.read rose)
 wire_failed a b c later (inr rose) = inr (rose_since a.write_faults b.write_faults c.write_faults later.write rose)
 

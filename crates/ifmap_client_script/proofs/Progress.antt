@@ -6,10 +6,11 @@ use Rattle.std.specs.Io.KnownBytes.{Appends}
 use Rattle.std.proofs.KnownBytes.{Appends-trans}
 use Rattle.std.proofs.lemmas.List.Concat.{flat_map-append}
 use Rattle.ifmap_elem.specs.Chars.{line_feed}
+use Rattle.ifmap_http.specs.Wires.{WireSeen}
 use Rattle.ifmap_client_script.specs.declared.exchanges.Caller.{Caller}
 use Rattle.ifmap_client_script.specs.Deeds.{Asked, Deed, Known, after_deed, after_deeds, is_poll}
 use Rattle.ifmap_client_script.specs.Deeds as deed
-use Rattle.ifmap_client_script.specs.Exchanges.{AnswersTo, Breaks, HasPostedAndHeard, Wiring, over_first, over_second, posts, request_post}
+use Rattle.ifmap_client_script.specs.Exchanges.{AnswersTo, Breaks, HasPostedAndHeard, over_first, over_second, posts, request_post}
 use Rattle.ifmap_client_script.specs.Printing.{deed_text, deeds_text}
 use Rattle.ifmap_client_script.specs.Scripts.{Carries}
 
@@ -63,7 +64,7 @@ answers_then [] more left mid rest first second = subst (λ (l : List ℕ). Answ
 answers_then (a ∷ asked) more left mid rest first second =
     (first.0, first.1, answers_then asked more first.0 mid rest first.2 second)
 
-module _ (caller : Caller) (asked : List Asked) (before mid after : Wiring) (first : HasPostedAndHeard caller asked before mid) where
+module _ (caller : Caller) (asked : List Asked) (before mid after : WireSeen) (first : HasPostedAndHeard caller asked before mid) where
   pub exchanges_then : (more : List Asked) → HasPostedAndHeard caller more mid after → HasPostedAndHeard caller (asked ++ more) before after
   exchanges_then more second = record {
     posted = subst (λ (t : List ℕ). Appends before.held after.held t) (sym (posts-append caller asked more))

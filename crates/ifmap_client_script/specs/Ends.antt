@@ -1,16 +1,17 @@
 -- What contracts see of a source, a sink and two wires at one moment.
 use Rattle.std.specs.Prelude.{◌≤◌, ◌⊎◌, ℕ, List, Option}
 use Rattle.ifmap_io.specs.Causes.{Rose}
-use Rattle.ifmap_client_script.specs.Exchanges.{WireFailed, Wiring}
+use Rattle.ifmap_http.specs.Wires.{WireSeen}
+use Rattle.ifmap_client_script.specs.Exchanges.{WireFailed}
 
 -- what the sink holds, where it is told, how often it has failed, and the two wires
 pub record Ports : Type 0 where
   pub held : Option (List ℕ)
   pub write_faults : ℕ
-  pub first : Wiring
-  pub second : Wiring
+  pub first : WireSeen
+  pub second : WireSeen
 
-abbrev pub ports : Option (List ℕ) → ℕ → Wiring → Wiring → Ports
+abbrev pub ports : Option (List ℕ) → ℕ → WireSeen → WireSeen → Ports
 ports held write_faults first second = record { held = held; write_faults = write_faults; first = first; second = second }
 
 -- what the source has left, where it is told, how often it has failed, and what is written to
@@ -23,7 +24,7 @@ abbrev pub source_and_ports : Option (List ℕ) → ℕ → Ports → SourceAndP
 source_and_ports left read_faults ports = record { left = left; read_faults = read_faults; ports = ports }
 
 -- no count of a wire's link has fallen
-pub record IsLaterWire (before after : Wiring) : Type 0 where
+pub record IsLaterWire (before after : WireSeen) : Type 0 where
   pub read : before.read_faults ≤ after.read_faults
   pub write : before.write_faults ≤ after.write_faults
 

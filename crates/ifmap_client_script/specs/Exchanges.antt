@@ -1,10 +1,10 @@
 -- What a wire does for requests that go over it, each answered before the next is sent.
-use Rattle.std.specs.Prelude.{◌≡◌, ◌⊎◌, ◌≤◌, ℕ, Bool, false, List, [], ◌∷◌, ◌++◌, take, Option, Some, IfSome, Result, Ok, Err, if◌then◌else◌}
-use Rattle.std.specs.Io.KnownBytes.{Appends, Keeps, prepend_known}
+use Rattle.std.specs.Prelude.{◌≡◌, ◌⊎◌, ◌≤◌, ℕ, false, List, [], ◌∷◌, ◌++◌, take, Some, IfSome, Result, Ok, Err, if◌then◌else◌}
+use Rattle.std.specs.Io.KnownBytes.{Appends, Keeps}
 use Rattle.std.specs.List.{flat_map}
 use Rattle.ifmap_http.specs.ifmap_heads.Answers.{ReadsAnswer, answered, ended, not_http, status}
 use Rattle.ifmap_http.specs.ifmap_heads.Messages.{post_bytes}
-use Rattle.ifmap_http.specs.Wires.{Wired}
+use Rattle.ifmap_http.specs.Wires.{WireSeen}
 use Rattle.ifmap_io.specs.Causes.{Rose}
 use Rattle.ifmap_replies.specs.declared.replies.Reply.{Reply}
 use Rattle.ifmap_replies.specs.Means.{MeansReply}
@@ -43,27 +43,8 @@ abbrev pub AnswersTo : List Asked → List ℕ → List ℕ → Type 0
 AnswersTo [] left rest = left ≡ rest
 AnswersTo (a ∷ asked) left rest = (next : List ℕ) × ReadsAnswer left (answered a.body next) × AnswersTo asked next rest
 
--- a wire at one moment: what it has left and what its link holds, each where it is told, how often its link has failed to read
--- and to write, and whether it is spent
-pub record Wiring : Type 0 where
-  pub left : Option (List ℕ)
-  pub held : Option (List ℕ)
-  pub read_faults : ℕ
-  pub write_faults : ℕ
-  pub spent : Bool
-
--- a wire by the four meanings of its link
-abbrev pub wiring : {L : Type 0} → (L → Option (List ℕ)) → (L → Option (List ℕ)) → (L → ℕ) → (L → ℕ) → Wired L → Wiring
-wiring left held reading writing wire = record {
-  left = prepend_known wire.taken (left wire.link);
-  held = held wire.link;
-  read_faults = reading wire.link;
-  write_faults = writing wire.link;
-  spent = wire.spent;
-}
-
 -- the wire gained the posts of what was asked, and the answers to it are no longer left
-pub record HasPostedAndHeard (caller : Caller) (asked : List Asked) (before after : Wiring) : Type 0 where
+pub record HasPostedAndHeard (caller : Caller) (asked : List Asked) (before after : WireSeen) : Type 0 where
   pub posted : Appends before.held after.held (posts caller asked)
   pub answered : IfSome before.left (λ left. (rest : List ℕ) × (after.left ≡ Some rest) × AnswersTo asked left rest)
   pub unspent : after.spent ≡ false
@@ -86,12 +67,12 @@ HasAny left = Unit {0}
 
 -- the wire gained the posts of what was asked, and then so much of a request's; the answers to what was asked were left, and then
 -- that
-pub record Breaks (caller : Caller) (asked : List Asked) (post : List ℕ) (Has : List ℕ → Type 0) (before after : Wiring) : Type 0 where
+pub record Breaks (caller : Caller) (asked : List Asked) (post : List ℕ) (Has : List ℕ → Type 0) (before after : WireSeen) : Type 0 where
   pub posted : Appends before.held after.held (posts caller asked ++ post)
   pub answered : IfSome before.left (λ left. (rest : List ℕ) × AnswersTo asked left rest × Has rest)
 
 -- a read or a write of a wire's link has failed
-abbrev pub WireFailed : Wiring → Wiring → Type 0
+abbrev pub WireFailed : WireSeen → WireSeen → Type 0
 WireFailed before after = Rose before.read_faults after.read_faults ⊎ Rose before.write_faults after.write_faults
 
 -- a front of a post
@@ -103,7 +84,7 @@ abbrev pub asked_of : Request → ReadReply → Asked
 asked_of request told = record { request = request; body = told.body; answer = told.reply }
 
 -- what a wire does for one request
-abbrev pub AsksOnWire : Caller → Request → Wiring → Wiring → Result ReadReply Stop → Type 0
+abbrev pub AsksOnWire : Caller → Request → WireSeen → WireSeen → Result ReadReply Stop → Type 0
 AsksOnWire caller request before after (Ok told) = HasPostedAndHeard caller (asked_of request told ∷ []) before after × MeansReply
     told.body told.reply
 AsksOnWire caller request before after (Err stop.LinkFault) =
@@ -120,20 +101,20 @@ AsksOnWire caller request before after (Err stop.WriteFault) = ⊥
 -- ---- the two halves of it
 
 -- reading is as it was
-pub record Unread (before after : Wiring) : Type 0 where
+pub record Unread (before after : WireSeen) : Type 0 where
   pub left : after.left ≡ before.left
   pub read_faults : after.read_faults ≡ before.read_faults
   pub write_faults : before.write_faults ≤ after.write_faults
   pub spent : after.spent ≡ before.spent
 
 -- writing is as it was
-pub record Unwritten (before after : Wiring) : Type 0 where
+pub record Unwritten (before after : WireSeen) : Type 0 where
   pub held : after.held ≡ before.held
   pub read_faults : before.read_faults ≤ after.read_faults
   pub write_faults : after.write_faults ≡ before.write_faults
 
 -- a post was written
-abbrev pub Posts : List ℕ → Wiring → Wiring → Result (Unit {0}) Stop → Type 0
+abbrev pub Posts : List ℕ → WireSeen → WireSeen → Result (Unit {0}) Stop → Type 0
 Posts post before after (Ok _) = Appends before.held after.held post
 Posts post before after (Err stop.LinkFault) =
     ((n : ℕ) × Appends before.held after.held (take n post)) × Rose before.write_faults after.write_faults
@@ -145,7 +126,7 @@ Posts post before after (Err stop.LinkEnded) = ⊥
 Posts post before after (Err stop.BadReply) = ⊥
 
 -- the body of an answer was taken
-abbrev pub Receives : Wiring → Wiring → Result (List ℕ) Stop → Type 0
+abbrev pub Receives : WireSeen → WireSeen → Result (List ℕ) Stop → Type 0
 Receives before after (Ok body) =
     IfSome before.left (λ left. (rest : List ℕ) × (after.left ≡ Some rest) × ReadsAnswer left (answered body rest))
     × (after.spent ≡ false)
@@ -174,6 +155,6 @@ BodyTellsReply body (Ok told) = (told.body ≡ body) × MeansReply told.body tol
 BodyTellsReply body (Err e) = Reads body (Err e)
 
 -- an answer was taken
-abbrev pub Hears : Wiring → Wiring → Result ReadReply Stop → Type 0
+abbrev pub Hears : WireSeen → WireSeen → Result ReadReply Stop → Type 0
 Hears before after (Ok told) = Receives before after (Ok told.body) × MeansReply told.body told.reply
 Hears before after (Err e) = Receives before after (Err e)

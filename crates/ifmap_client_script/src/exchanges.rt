@@ -1,8 +1,9 @@
 //! Requests over a wire, each answered before the next is sent.
 ghost use Rattle.std.specs.Prelude.{IsFalse, IsTrue};
 ghost use Rattle.ifmap_http.specs.ifmap_heads.Messages.{is_visible};
+ghost use Rattle.ifmap_http.specs.Wires.{wire_seen};
 ghost use Rattle.ifmap_client_script.specs.Ends.{IsLaterWire};
-ghost use Rattle.ifmap_client_script.specs.Exchanges.{AsksOnWire, Hears, Posts, Reads, Receives, BodyTellsReply, Unread, Unwritten, request_post, wiring};
+ghost use Rattle.ifmap_client_script.specs.Exchanges.{AsksOnWire, Hears, Posts, Reads, Receives, BodyTellsReply, Unread, Unwritten, request_post};
 
 use crate::outcomes::Stop;
 use ifmap_elem::{Many, Text};
@@ -38,11 +39,11 @@ pub fn ask<L: Link>(
     requires unspent { IsFalse wire.old.spent }
     requires visible { IsTrue (is_visible caller.now.host) }
     ensures asks { AsksOnWire caller.now request.now
-        (wiring L.left L.held L.Source.faults L.Sink.faults wire.old)
-        (wiring L.left L.held L.Source.faults L.Sink.faults wire.new) result }
+        (wire_seen L.left L.held L.Source.faults L.Sink.faults wire.old)
+        (wire_seen L.left L.held L.Source.faults L.Sink.faults wire.new) result }
     ensures later { IsLaterWire
-        (wiring L.left L.held L.Source.faults L.Sink.faults wire.old)
-        (wiring L.left L.held L.Source.faults L.Sink.faults wire.new) }
+        (wire_seen L.left L.held L.Source.faults L.Sink.faults wire.old)
+        (wire_seen L.left L.held L.Source.faults L.Sink.faults wire.new) }
 {
     match post(alloc, caller, request, wire) {
         Ok(()) => receive(alloc, wire),
@@ -54,11 +55,11 @@ pub fn ask<L: Link>(
 fn receive<L: Link>(alloc: Global, wire: &mut Wire<L>) -> Result<ReadReply, Stop>
     requires { IsFalse wire.old.spent }
     ensures hears { Hears
-        (wiring L.left L.held L.Source.faults L.Sink.faults wire.old)
-        (wiring L.left L.held L.Source.faults L.Sink.faults wire.new) result }
+        (wire_seen L.left L.held L.Source.faults L.Sink.faults wire.old)
+        (wire_seen L.left L.held L.Source.faults L.Sink.faults wire.new) result }
     ensures unwritten { Unwritten
-        (wiring L.left L.held L.Source.faults L.Sink.faults wire.old)
-        (wiring L.left L.held L.Source.faults L.Sink.faults wire.new) }
+        (wire_seen L.left L.held L.Source.faults L.Sink.faults wire.old)
+        (wire_seen L.left L.held L.Source.faults L.Sink.faults wire.new) }
 {
     match read_body(alloc, wire) {
         Ok(body) => told_by(alloc, body),
@@ -85,11 +86,11 @@ fn post<L: Link>(
 ) -> Result<(), Stop>
     requires { IsTrue (is_visible caller.now.host) }
     ensures posts { Posts (request_post caller.now request.now)
-        (wiring L.left L.held L.Source.faults L.Sink.faults wire.old)
-        (wiring L.left L.held L.Source.faults L.Sink.faults wire.new) result }
+        (wire_seen L.left L.held L.Source.faults L.Sink.faults wire.old)
+        (wire_seen L.left L.held L.Source.faults L.Sink.faults wire.new) result }
     ensures unread { Unread
-        (wiring L.left L.held L.Source.faults L.Sink.faults wire.old)
-        (wiring L.left L.held L.Source.faults L.Sink.faults wire.new) }
+        (wire_seen L.left L.held L.Source.faults L.Sink.faults wire.old)
+        (wire_seen L.left L.held L.Source.faults L.Sink.faults wire.new) }
 {
     let body = write_request(alloc, request)?;
     match wire.send_post(alloc, &caller.host, &caller.client, body.as_slice()) {
@@ -103,11 +104,11 @@ fn post<L: Link>(
 fn read_body<L: Link>(alloc: Global, wire: &mut Wire<L>) -> Result<Many<u8>, Stop>
     requires { IsFalse wire.old.spent }
     ensures receives { Receives
-        (wiring L.left L.held L.Source.faults L.Sink.faults wire.old)
-        (wiring L.left L.held L.Source.faults L.Sink.faults wire.new) result }
+        (wire_seen L.left L.held L.Source.faults L.Sink.faults wire.old)
+        (wire_seen L.left L.held L.Source.faults L.Sink.faults wire.new) result }
     ensures unwritten { Unwritten
-        (wiring L.left L.held L.Source.faults L.Sink.faults wire.old)
-        (wiring L.left L.held L.Source.faults L.Sink.faults wire.new) }
+        (wire_seen L.left L.held L.Source.faults L.Sink.faults wire.old)
+        (wire_seen L.left L.held L.Source.faults L.Sink.faults wire.new) }
 {
     match wire.read_answer(alloc) {
         Answered::Body(body) => Ok(body),

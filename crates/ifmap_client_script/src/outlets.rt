@@ -1,8 +1,8 @@
 //! Where a script prints, and over which wires it asks.
 ghost use Rattle.std.specs.Prelude.{IsTrue};
 ghost use Rattle.ifmap_http.specs.ifmap_heads.Messages.{is_visible};
+ghost use Rattle.ifmap_http.specs.Wires.{wire_seen};
 ghost use Rattle.ifmap_client_script.specs.Ends.{ArePortsLater, Ports, ports};
-ghost use Rattle.ifmap_client_script.specs.Exchanges.{wiring};
 ghost use Rattle.ifmap_client_script.specs.Outlets.{AreSame, AreUnspent, IsAsked, Loans, Prints};
 ghost use Rattle.ifmap_client_script.specs.Printing.{body_text};
 
@@ -55,8 +55,8 @@ pub struct SinkAndWires<'a, 'b, 'c, K, A: Drop, B: Drop> {
 
 impl<'a, 'b, 'c, K: Sink, A: Link, B: Link> Outlets for SinkAndWires<'a, 'b, 'c, K, A, B> {
     ghost seen = { λ o. ports (K.held o.sink.now) (K.faults o.sink.now)
-        (wiring A.left A.held A.Source.faults A.Sink.faults o.first.now)
-        (wiring B.left B.held B.Source.faults B.Sink.faults o.second.now) };
+        (wire_seen A.left A.held A.Source.faults A.Sink.faults o.first.now)
+        (wire_seen B.left B.held B.Source.faults B.Sink.faults o.second.now) };
 
     ghost loans = { λ o. record {
       sink = o.sink.ghost_name;

@@ -1,10 +1,10 @@
 //! Scripts of a client, line by line.
 ghost use Rattle.std.specs.Prelude.{◌≡◌, ◌≤◌, ◌<◌, ◌+◌, length, Err, OnErr, IsFalse, IsTrue};
 ghost use Rattle.ifmap_http.specs.ifmap_heads.Messages.{is_visible};
+ghost use Rattle.ifmap_http.specs.Wires.{wire_seen};
 ghost use Rattle.ifmap_io.specs.Causes.{Rose};
 ghost use Rattle.ifmap_input.specs.Scripts.{longest_script};
 ghost use Rattle.ifmap_client_script.specs.Ends.{ArePortsLater, IsLaterInRun, source_and_ports, ports};
-ghost use Rattle.ifmap_client_script.specs.Exchanges.{wiring};
 ghost use Rattle.ifmap_client_script.specs.Outlets.{AreSame, AreUnspent};
 ghost use Rattle.ifmap_client_script.specs.Promises.{IsCarriedOut};
 ghost use Rattle.ifmap_client_script.specs.Turns.{DoesNext, IsBeginning, IsNextLine, ReadsAt, ReadsNext, IsScriptTurn};
@@ -60,12 +60,12 @@ pub fn run_script<S: Source, K: Sink, A: Link, B: Link>(
     ensures { IsCarriedOut (record { client = client.now; host = host.now })
         (source_and_ports (S.left source.old) (S.faults source.old)
         (ports (K.held sink.old) (K.faults sink.old)
-        (wiring A.left A.held A.Source.faults A.Sink.faults first.old)
-        (wiring B.left B.held B.Source.faults B.Sink.faults second.old)))
+        (wire_seen A.left A.held A.Source.faults A.Sink.faults first.old)
+        (wire_seen B.left B.held B.Source.faults B.Sink.faults second.old)))
         (source_and_ports (S.left source.new) (S.faults source.new)
         (ports (K.held sink.new) (K.faults sink.new)
-        (wiring A.left A.held A.Source.faults A.Sink.faults first.new)
-        (wiring B.left B.held B.Source.faults B.Sink.faults second.new))) result }
+        (wire_seen A.left A.held A.Source.faults A.Sink.faults first.new)
+        (wire_seen B.left B.held B.Source.faults B.Sink.faults second.new))) result }
 {
     let Ok(client) = client.copy(alloc) else {
         return Outcome::NoMemory;

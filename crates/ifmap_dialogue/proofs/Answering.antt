@@ -9,6 +9,7 @@ use Rattle.rand_chacha.specs.ChaCha.{ChaCha}
 use Rattle.ifmap_http.specs.declared.wires.Post.{Post}
 use Rattle.ifmap_http.specs.declared.wires.Sent.{Sent}
 use Rattle.ifmap_http.specs.declared.wires.Sent.TheVariants as sent
+use Rattle.ifmap_http.specs.Wires.{WireSeen}
 use Rattle.ifmap_io.specs.Causes.{Rose}
 use Rattle.ifmap_dialogue.specs.declared.desks.AskOutcome.{AskOutcome}
 use Rattle.ifmap_dialogue.specs.declared.desks.AskOutcome.TheVariants as outcome
@@ -23,7 +24,7 @@ use Rattle.ifmap_dialogue.specs.Desks.{DeskSeen, DeskTakesTurns, Turn, outcome_o
 use Rattle.ifmap_dialogue.specs.Findings.{FindsPost}
 use Rattle.ifmap_dialogue.specs.Scenes.{HasCauses, ServesAnswer, ServesPost, scene}
 use Rattle.ifmap_dialogue.specs.Turns.{AsksLost}
-use Rattle.ifmap_dialogue.specs.Wires.{GainsBytes, IsNoMemoryOutput, WireSeen, WritesAnswer, bare_answer}
+use Rattle.ifmap_dialogue.specs.Wires.{GainsBytes, IsNoMemoryOutput, WritesAnswer, bare_answer}
 use Rattle.ifmap_dialogue.specs.Telling.{tells_more, tells_none}
 
 -- an ending that tells of no fault

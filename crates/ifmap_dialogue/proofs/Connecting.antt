@@ -18,7 +18,7 @@ use Rattle.ifmap_http.specs.declared.wires.Sent.TheVariants as sent
 use Rattle.ifmap_http.specs.Outcomes.{GetsPost}
 use Rattle.ifmap_io.specs.Causes.{Rose}
 use Rattle.ifmap_io.specs.Links.{Side}
-use Rattle.ifmap_http.specs.Wires.{Wired}
+use Rattle.ifmap_http.specs.Wires.{WireSeen, Wired, wire_seen}
 use Rattle.ifmap_dialogue.specs.declared.endings.Ending.{Ending}
 use Rattle.ifmap_dialogue.specs.declared.endings.Ending.TheVariants as ending
 use Rattle.ifmap_dialogue.specs.declared.findings.Finding.{Finding}
@@ -31,7 +31,7 @@ use Rattle.ifmap_dialogue.specs.Desks.{DeskSeen, DeskTakesTurns, Turn, outcome_o
 use Rattle.ifmap_dialogue.specs.Dialogue.{AreRoundsInOrder, Serves}
 use Rattle.ifmap_dialogue.specs.Rounds.{AnswersGot, IsRound, Round, WireAndWords, is_last_post, most_posts}
 use Rattle.ifmap_dialogue.specs.Scenes.{HasCauses, Scene, ServesPost, ServesRound, scene, wire_standing}
-use Rattle.ifmap_dialogue.specs.Wires.{GainsBytes, IsNoMemoryOutput, WireSeen, WritesAnswer, bare_answer, wire_seen}
+use Rattle.ifmap_dialogue.specs.Wires.{GainsBytes, IsNoMemoryOutput, WritesAnswer, bare_answer}
 use Rattle.ifmap_dialogue.proofs.Answering.{Counts, IsQuiet, causes_after, causes_quiet, quiet_closing, quiet_refused, quiet_spent, quiet_wanting}
 use Rattle.ifmap_dialogue.specs.Telling.{tells_more, tells_none}
 

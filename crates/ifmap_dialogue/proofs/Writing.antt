@@ -8,12 +8,12 @@ use Rattle.ifmap_http.specs.ifmap_heads.Messages.{answer_bytes}
 use Rattle.ifmap_http.specs.declared.wires.Sent.{Sent}
 use Rattle.ifmap_http.specs.declared.wires.Sent.TheVariants as sent
 use Rattle.ifmap_http.specs.Outcomes.{Sends}
-use Rattle.ifmap_http.specs.Wires.{Wired}
+use Rattle.ifmap_http.specs.Wires.{WireSeen, Wired, wire_seen}
 use Rattle.ifmap_io.specs.Links.{Side}
 use Rattle.ifmap_machine.specs.ifmap_replies.Results.{reply_bytes}
 use Rattle.ifmap_machine.specs.ifmap_replies.declared.replies.Reply.{Reply}
 use Rattle.ifmap_dialogue.specs.Answers.{reply_answer}
-use Rattle.ifmap_dialogue.specs.Wires.{GainsBytes, IsNoMemoryOutput, WireSeen, WritesAnswer, WritesOnce, bare_answer, wire_seen}
+use Rattle.ifmap_dialogue.specs.Wires.{GainsBytes, IsNoMemoryOutput, WritesAnswer, WritesOnce, bare_answer}
 use Rattle.ifmap_io.specs.Rises.{keeps_appends}
 
 -- what was written of a message

@@ -5,6 +5,7 @@ use Rattle.rand_chacha.specs.ChaCha.{ChaCha}
 use Rattle.ifmap_elem.specs.Chars.{IsCharacters}
 use Rattle.ifmap_io.specs.Causes.{Rose}
 use Rattle.ifmap_http.specs.declared.wires.Post.{Post}
+use Rattle.ifmap_http.specs.Wires.{WireSeen}
 use Rattle.ifmap_dialogue.specs.declared.endings.Ending.{Ending}
 use Rattle.ifmap_dialogue.specs.declared.endings.Ending.TheVariants as ending
 use Rattle.ifmap_dialogue.specs.declared.findings.Finding.{Finding}
@@ -12,7 +13,7 @@ use Rattle.ifmap_dialogue.specs.declared.findings.Finding.TheVariants as finding
 use Rattle.ifmap_dialogue.specs.Answers.{Answers}
 use Rattle.ifmap_dialogue.specs.Desks.{DeskSeen, DeskTakesTurns, Turn}
 use Rattle.ifmap_dialogue.specs.Rounds.{AnswersPost, IsRound, WireAndWords}
-use Rattle.ifmap_dialogue.specs.Wires.{GainsBytes, WireSeen}
+use Rattle.ifmap_dialogue.specs.Wires.{GainsBytes}
 
 -- where a dialogue over a wire stands
 abbrev pub wire_standing : WireSeen → ChaCha → WireAndWords

@@ -1,28 +1,10 @@
 -- What writing an answer does to a wire.
-use Rattle.std.specs.Prelude.{◌≡◌, ℕ, ◌≤◌, Bool, true, List, [], take, Option}
-use Rattle.std.specs.Io.KnownBytes.{Appends, prepend_known}
+use Rattle.std.specs.Prelude.{◌≡◌, ℕ, ◌≤◌, true, List, [], take}
+use Rattle.std.specs.Io.KnownBytes.{Appends}
 use Rattle.ifmap_http.specs.ifmap_heads.Messages.{answer_bytes}
 use Rattle.ifmap_http.specs.declared.wires.Sent.{Sent}
 use Rattle.ifmap_http.specs.declared.wires.Sent.TheVariants as sent
-use Rattle.ifmap_http.specs.Wires.{Wired}
-
--- a wire over a link: what it has left and what its link holds, where these are told, the counts of faults, and whether it is spent
-pub record WireSeen : Type 0 where
-  pub left : Option (List ℕ)
-  pub held : Option (List ℕ)
-  pub read_faults : ℕ
-  pub write_faults : ℕ
-  pub spent : Bool
-
--- a wire by the meanings of its link
-abbrev pub wire_seen : {L : Type 0} → (L → Option (List ℕ)) → (L → Option (List ℕ)) → (L → ℕ) → (L → ℕ) → Wired L → WireSeen
-wire_seen left held reading writing wire = record {
-  left = prepend_known wire.taken (left wire.link);
-  held = held wire.link;
-  read_faults = reading wire.link;
-  write_faults = writing wire.link;
-  spent = wire.spent;
-}
+use Rattle.ifmap_http.specs.Wires.{WireSeen}
 
 -- a whole answer that has no body
 abbrev pub bare_answer : ℕ → List ℕ

@@ -3,11 +3,11 @@ ghost use Rattle.std.specs.Prelude.{◌≡◌, ◌≢◌, ◌≤◌, ℕ, IsFals
 ghost use Rattle.rand_chacha.specs.ChaCha.{ChaCha};
 ghost use Rattle.ifmap_elem.specs.Chars.{IsCharacters};
 ghost use Rattle.ifmap_http.specs.ifmap_heads.Limits.{longest_post};
+ghost use Rattle.ifmap_http.specs.Wires.{wire_seen};
 ghost use Rattle.ifmap_dialogue.specs.Answers.{LosesUnlessDone, closes};
 ghost use Rattle.ifmap_dialogue.specs.Desks.{DeskTakesTurns, Turn, desk_seen};
 ghost use Rattle.ifmap_dialogue.specs.Rounds.{is_last_post, most_posts};
 ghost use Rattle.ifmap_dialogue.specs.Scenes.{HasFitPoll, ServesAnswer, ServesPost, ServesRound, scene};
-ghost use Rattle.ifmap_dialogue.specs.Wires.{wire_seen};
 
 use crate::asking::tell_lost;
 use crate::consulting::consult;

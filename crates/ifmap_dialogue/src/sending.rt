@@ -2,8 +2,9 @@
 ghost use Rattle.std.specs.Prelude.{◌≡◌, ℕ, List, IsTrue};
 ghost use Rattle.ifmap_io.specs.Causes.{Rose};
 ghost use Rattle.ifmap_http.specs.ifmap_heads.Messages.{answer_bytes, is_answer_status};
+ghost use Rattle.ifmap_http.specs.Wires.{wire_seen};
 ghost use Rattle.ifmap_dialogue.specs.Answers.{closes, end_after, next_after, reply_answer};
-ghost use Rattle.ifmap_dialogue.specs.Wires.{GainsBytes, IsNoMemoryOutput, WritesAnswer, WritesOnce, bare_answer, wire_seen};
+ghost use Rattle.ifmap_dialogue.specs.Wires.{GainsBytes, IsNoMemoryOutput, WritesAnswer, WritesOnce, bare_answer};
 
 use crate::desks::{AFTER_ANSWER, Gate};
 use crate::endings::Ending;

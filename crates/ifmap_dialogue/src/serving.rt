@@ -1,9 +1,9 @@
 //! Connections, served to their end.
 ghost use Rattle.std.specs.Prelude.{IsFalse};
+ghost use Rattle.ifmap_http.specs.Wires.{wire_seen};
 ghost use Rattle.ifmap_dialogue.specs.Desks.{desk_seen};
 ghost use Rattle.ifmap_dialogue.specs.Dialogue.{Serves};
 ghost use Rattle.ifmap_dialogue.specs.Scenes.{scene};
-ghost use Rattle.ifmap_dialogue.specs.Wires.{wire_seen};
 
 use crate::desks::{Desk, Gate};
 use crate::endings::Ending;

@@ -5,12 +5,11 @@ use Rattle.std.proofs.lemmas.Grind.{flat_map-append}
 use Rattle.ifmap_io.specs.Causes.{Rose}
 use Rattle.ifmap_io.specs.Doors.{Doorway, Hands, StaysOpen, TakesBack}
 use Rattle.ifmap_io.specs.Links.{Seen, wire_link_seen}
-use Rattle.ifmap_http.specs.Wires.{Wired}
+use Rattle.ifmap_http.specs.Wires.{Wired, wire_seen}
 use Rattle.ifmap_desks.specs.ifmap_dialogue.declared.endings.Ending.{Ending}
 use Rattle.ifmap_desks.specs.ifmap_dialogue.Desks.{DeskTakesTurns}
 use Rattle.ifmap_desks.specs.ifmap_dialogue.Dialogue.{Serves}
 use Rattle.ifmap_desks.specs.ifmap_dialogue.Scenes.{scene}
-use Rattle.ifmap_desks.specs.ifmap_dialogue.Wires.{wire_seen}
 use Rattle.ifmap_serving.specs.Connections.{Connection, FollowOn, IsServed, ServesLink, Worker}
 use Rattle.ifmap_serving.specs.Works.{DoorSeen, IsWorkStatus, Works}
 use Rattle.ifmap_serving.proofs.Leading.{leads_more, leads_none, leads_on, none_left}

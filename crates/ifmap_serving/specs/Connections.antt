@@ -7,7 +7,7 @@ use Rattle.ifmap_desks.specs.ifmap_dialogue.declared.endings.Ending.{Ending}
 use Rattle.ifmap_desks.specs.ifmap_dialogue.Desks.{DeskSeen, Turn}
 use Rattle.ifmap_desks.specs.ifmap_dialogue.Dialogue.{Serves}
 use Rattle.ifmap_desks.specs.ifmap_dialogue.Scenes.{scene}
-use Rattle.ifmap_desks.specs.ifmap_dialogue.Wires.{WireSeen}
+use Rattle.ifmap_http.specs.Wires.{WireSeen}
 
 -- a worker between two connections: its desk, and its stream of words
 pub record Worker (H : Type 0) : Type 0 where

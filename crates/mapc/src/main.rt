@@ -7,8 +7,8 @@ mod endings;
 ghost use Rattle.std.specs.Prelude.{◌≡◌, IsFalse};
 ghost use Rattle.std.specs.Process.{exit_status};
 ghost use Rattle.ifmap_client_script.specs.Ends.{source_and_ports, ports};
-ghost use Rattle.ifmap_client_script.specs.Exchanges.{wiring};
 ghost use Rattle.ifmap_client_script.specs.Promises.{IsCarriedOut};
+ghost use Rattle.ifmap_http.specs.Wires.{wire_seen};
 ghost use Rattle.mapc.specs.Statuses.{end_status};
 
 use crate::calls::{Call, call_of};
@@ -90,12 +90,12 @@ fn carry_out<S: Source, K: Sink, A: Link, B: Link>(
     ensures { IsCarriedOut (record { client = call.now.client; host = call.now.host })
         (source_and_ports (S.left source.old) (S.faults source.old)
         (ports (K.held sink.old) (K.faults sink.old)
-        (wiring A.left A.held A.Source.faults A.Sink.faults first.old)
-        (wiring B.left B.held B.Source.faults B.Sink.faults second.old)))
+        (wire_seen A.left A.held A.Source.faults A.Sink.faults first.old)
+        (wire_seen B.left B.held B.Source.faults B.Sink.faults second.old)))
         (source_and_ports (S.left source.new) (S.faults source.new)
         (ports (K.held sink.new) (K.faults sink.new)
-        (wiring A.left A.held A.Source.faults A.Sink.faults first.new)
-        (wiring B.left B.held B.Source.faults B.Sink.faults second.new))) result }
+        (wire_seen A.left A.held A.Source.faults A.Sink.faults first.new)
+        (wire_seen B.left B.held B.Source.faults B.Sink.faults second.new))) result }
 {
     run_script(alloc, &call.client, &call.host, source, sink, first, second)
 }

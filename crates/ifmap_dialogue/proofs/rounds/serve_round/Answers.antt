@@ -1,7 +1,7 @@
 use Rattle.std.proofs.Common.{◌≤◌, length, refl, sym, subst, ◌∙◌}
 use Rattle.ifmap_http.specs.ifmap_heads.Limits.{longest_post}
 use Rattle.ifmap_http.specs.declared.wires.Post.{Post}
-use Rattle.ifmap_dialogue.specs.Wires.{wire_seen}
+use Rattle.ifmap_http.specs.Wires.{wire_seen}
 use Rattle.ifmap_dialogue.proofs.Connecting.{HasRead, goes_on_by, has_read, more_if_none, post_not, refusal_ends, round_ended, round_posted, round_refused, round_truncated, round_unread, round_wanting}
 use Rattle.ifmap_dialogue.proofs.rounds.serve_round.Given as given
 use Rattle.ifmap_dialogue.proofs.rounds.serve_round.Goals as goal

@@ -1,8 +1,9 @@
 use Rattle.std.proofs.Common.{ℕ, Bool, List, subst}
 use Rattle.ifmap_http.specs.ifmap_heads.Messages.{answer_bytes}
 use Rattle.ifmap_http.specs.Outcomes.{Sends}
+use Rattle.ifmap_http.specs.Wires.{wire_seen}
 use Rattle.ifmap_dialogue.specs.Answers.{closes}
-use Rattle.ifmap_dialogue.specs.Wires.{GainsBytes, WritesOnce, wire_seen}
+use Rattle.ifmap_dialogue.specs.Wires.{GainsBytes, WritesOnce}
 use Rattle.ifmap_dialogue.proofs.Writing.{rest_of, same_source, written}
 use Rattle.ifmap_dialogue.proofs.sending.write.Given as given
 use Rattle.ifmap_dialogue.proofs.sending.write.Goals as goal

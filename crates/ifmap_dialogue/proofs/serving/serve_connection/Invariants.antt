@@ -1,8 +1,8 @@
 use Rattle.std.proofs.Common.{◌-◌}
+use Rattle.ifmap_http.specs.Wires.{wire_seen}
 use Rattle.ifmap_dialogue.specs.Desks.{desk_seen}
 use Rattle.ifmap_dialogue.specs.Rounds.{most_posts}
 use Rattle.ifmap_dialogue.specs.Scenes.{scene}
-use Rattle.ifmap_dialogue.specs.Wires.{wire_seen}
 use Rattle.ifmap_dialogue.proofs.Connecting.{Connects}
 use Rattle.ifmap_dialogue.proofs.serving.serve_connection.Given as goal
 
