@@ -10,7 +10,7 @@ ghost use Rattle.ifmap_server.specs.Lines.{AreWords, HasNoSpace};
 use ifmap_elem::Text;
 use ifmap_io::Moment;
 use ifmap_meta::ClientName;
-use itoa::Buffer;
+use ifmap_words::number_of;
 use std::alloc::{AllocError, Global};
 use uuid::Uuid;
 
@@ -129,22 +129,6 @@ fn size_of(text: &str) -> Option<u32>
     let size = number_of(text)?;
     if size <= LONGEST_BODY {
         Some(size as u32)
-    } else {
-        None
-    }
-}
-
-// The number that a text writes in decimal, without a sign or a leading zero.
-fn number_of(text: &str) -> Option<u64>
-    ensures { MatchOption result
-        ((n : ℕ) → n < 2 ^ 64 → text.now ≢ decimal n)
-        (λ n. (n < 2 ^ 64) × (text.now ≡ decimal n)) }
-{
-    let Ok(number) = text.parse::<u64>() else {
-        return None;
-    };
-    if Buffer::new().format(number) == text {
-        Some(number)
     } else {
         None
     }
