@@ -16,15 +16,15 @@ use Rattle.uuid.proofs.RoundTrips.{parses_simple}
 use Rattle.uuid.proofs.OrderLemmas.{from_be_bytes-to_be_bytes_16}
 use Rattle.ifmap_meta.specs.ClientNames.{IsClientName, is_client_byte}
 use Rattle.ifmap_server.specs.declared.headers.Header.{Header}
-use Rattle.ifmap_server.specs.Frames.{IsHeader, header_text, word_text}
+use Rattle.ifmap_server.specs.Frames.{IsHeader, header_text, last_moment, longest_body, word_text}
 use Rattle.ifmap_server.proofs.Splits.{Without, without_from, without_at, without_append, before, after, before_at, after_at}
 
 -- a header within its limits
 pub record IsWithin (h : Header) : Type 0 where
-  pub moment : h.moment ≤ 253402300799
+  pub moment : h.moment ≤ last_moment
   pub client : IsClientName h.client
   pub random : h.random < 2 ^ 128
-  pub size : h.size ≤ 10000000
+  pub size : h.size ≤ longest_body
 
 pub within_from_line : (line : List ℕ) (h : Header) → IsHeader line h → IsWithin h
 within_from_line line h is = record { moment = is.moment; client = is.client; random = is.random; size = is.size }

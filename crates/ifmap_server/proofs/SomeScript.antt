@@ -10,7 +10,7 @@ use Rattle.ifmap_meta.specs.ClientNames.{IsClientName, is_client_byte}
 use Rattle.ifmap_requests.specs.declared.errors.Refusal.TheVariants.{Unreadable}
 use Rattle.ifmap_requests.specs.Laws.{SomeMeaning}
 use Rattle.ifmap_server.specs.declared.headers.Header.{Header}
-use Rattle.ifmap_server.specs.Frames.{Frame, IsFrame, Meaning, frame_text}
+use Rattle.ifmap_server.specs.Frames.{Frame, IsFrame, Meaning, frame_text, last_moment, longest_body}
 use Rattle.ifmap_server.specs.Output.{IsOutput, answers, fault_line}
 use Rattle.ifmap_server.specs.Script.{BeginsFrame, IsScript, IsScriptFrom}
 use Rattle.ifmap_server.specs.Turns.{frame_of}
@@ -32,9 +32,9 @@ frame_or_not : (f : Frame) → Decided (IsFrame f)
 frame_or_not f =
     decided_by (λ p. record { moment = p.0; client = p.1.0; random = p.1.1.0; body = p.1.1.1 })
     (λ is. (is.moment, (is.client, (is.random, is.body))))
-    (decided_both (within_or_not f.moment 253402300799)
+    (decided_both (within_or_not f.moment last_moment)
     (decided_both (client_or_not f.client)
-    (decided_both (below_or_not f.random (2 ^ 128)) (within_or_not (length f.body) 10000000))))
+    (decided_both (below_or_not f.random (2 ^ 128)) (within_or_not (length f.body) longest_body))))
 
 module _ (offset : ℕ) (bytes : List ℕ) where
   this_or_not : (f : Frame) (rest : List ℕ) → Decided (BeginsFrame offset bytes f rest)

@@ -22,16 +22,24 @@ pub record Frame : Type 0 where
   pub body : List ℕ
   pub meaning : Meaning
 
--- a frame keeps to these limits, whatever its meaning
-pub record IsFrame (f : Frame) : Type 0 where
-  pub moment : f.moment ≤ 253402300799
-  pub client : IsClientName f.client
-  pub random : f.random < 2 ^ 128
-  pub body : length f.body ≤ 10000000
+-- the last moment that a frame can have, in seconds, which is the last second of the year 9999
+abbrev pub last_moment : ℕ
+last_moment = 253_402_300_799
+
+-- how many bytes a body has at most
+abbrev pub longest_body : ℕ
+longest_body = 10_000_000
 
 -- how many bytes a header has at most, with its newline
 abbrev pub longest_header : ℕ
 longest_header = 97
+
+-- a frame keeps to these limits, whatever its meaning
+pub record IsFrame (f : Frame) : Type 0 where
+  pub moment : f.moment ≤ last_moment
+  pub client : IsClientName f.client
+  pub random : f.random < 2 ^ 128
+  pub body : length f.body ≤ longest_body
 
 -- a word of 128 bits as 32 hexadecimal digits in lower case
 abbrev pub word_text : ℕ → List ℕ
@@ -50,7 +58,7 @@ frame_text f = header_text f.moment f.client f.random (length f.body) ++ f.body
 -- a line without its newline is this header, of a frame that keeps to the limits
 pub record IsHeader (line : List ℕ) (h : Header) : Type 0 where
   pub text : line ++ line_feed ∷ [] ≡ header_text h.moment h.client h.random h.size
-  pub moment : h.moment ≤ 253402300799
+  pub moment : h.moment ≤ last_moment
   pub client : IsClientName h.client
   pub random : h.random < 2 ^ 128
-  pub size : h.size ≤ 10000000
+  pub size : h.size ≤ longest_body

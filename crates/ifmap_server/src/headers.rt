@@ -4,7 +4,7 @@ ghost use Rattle.std.specs.Fmt.{decimal};
 ghost use Rattle.std.specs.Option.{MatchOption};
 ghost use Rattle.std.specs.Str.{IsUtf8};
 ghost use Rattle.ifmap_server.specs.declared.headers.Header.{Header};
-ghost use Rattle.ifmap_server.specs.Frames.{IsHeader, word_text};
+ghost use Rattle.ifmap_server.specs.Frames.{IsHeader, last_moment, longest_body, word_text};
 ghost use Rattle.ifmap_server.specs.Lines.{AreWords, HasNoSpace};
 
 use ifmap_elem::Text;
@@ -115,16 +115,16 @@ fn first_word(text: &str) -> Option<(&str, &str)>
 
 fn moment_of(text: &str) -> Option<Moment>
     ensures { MatchOption result
-        ((n : ℕ) → n ≤ 253402300799 → text.now ≢ decimal n)
-        (λ n. (n ≤ 253402300799) × (text.now ≡ decimal n)) }
+        ((n : ℕ) → n ≤ last_moment → text.now ≢ decimal n)
+        (λ n. (n ≤ last_moment) × (text.now ≡ decimal n)) }
 {
     Moment::new(number_of(text)?)
 }
 
 fn size_of(text: &str) -> Option<u32>
     ensures { MatchOption result
-        ((n : ℕ) → n ≤ 10000000 → text.now ≢ decimal n)
-        (λ n. (n ≤ 10000000) × (text.now ≡ decimal n)) }
+        ((n : ℕ) → n ≤ longest_body → text.now ≢ decimal n)
+        (λ n. (n ≤ longest_body) × (text.now ≡ decimal n)) }
 {
     let size = number_of(text)?;
     if size <= LONGEST_BODY {
