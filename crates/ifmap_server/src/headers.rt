@@ -3,7 +3,9 @@ ghost use Rattle.std.specs.Prelude.{◌≡◌, ◌≢◌, ◌<◌, ◌≤◌, �
 ghost use Rattle.std.specs.Fmt.{decimal};
 ghost use Rattle.std.specs.Option.{MatchOption};
 ghost use Rattle.std.specs.Str.{IsUtf8};
+ghost use Rattle.ifmap_elem.specs.Chars.{space_character};
 ghost use Rattle.ifmap_server.specs.declared.headers.Header.{Header};
+ghost use Rattle.ifmap_server.specs.Characters.{at_sign};
 ghost use Rattle.ifmap_server.specs.Frames.{IsHeader, last_moment, longest_body, word_text};
 ghost use Rattle.ifmap_server.specs.Lines.{AreWords, HasNoSpace};
 
@@ -98,8 +100,8 @@ fn words_in(text: &str) -> Option<Words<'_>>
 // What follows the sign with which a header begins.
 #[tactic(auto, using(std::proofs::lemmas::Str::Pattern::strip_prefix_char))]
 fn after_sign(text: &str) -> Option<&str>
-    ensures { MatchOption result ((rest : List ℕ) → text.now ≢ 64 ∷ rest)
-        (λ rest. text.now ≡ 64 ∷ rest.now) }
+    ensures { MatchOption result ((rest : List ℕ) → text.now ≢ at_sign ∷ rest)
+        (λ rest. text.now ≡ at_sign ∷ rest.now) }
 {
     text.strip_prefix('@')
 }
@@ -108,7 +110,8 @@ fn after_sign(text: &str) -> Option<&str>
 #[tactic(auto, using(std::proofs::lemmas::Str::Pattern::split_parts))]
 fn first_word(text: &str) -> Option<(&str, &str)>
     ensures { MatchOption result (HasNoSpace text.now)
-        (λ parts. (text.now ≡ parts.0.now ++ 32 ∷ parts.1.now) × HasNoSpace parts.0.now) }
+        (λ parts. (text.now ≡ parts.0.now ++ space_character ∷ parts.1.now)
+        × HasNoSpace parts.0.now) }
 {
     text.split_once(' ')
 }
