@@ -93,7 +93,7 @@ pub fn answer_frame<L: Ledger>(
     match read_request(alloc, body) {
         Ok(request) => answer_request(alloc, core, header, request, steps),
         Err(Refusal::Named(code)) => Ok(AnswerText::refusal(alloc, code)?),
-        Err(Refusal::Unreadable) => Ok(AnswerText::unreadable(alloc)?),
+        Err(Refusal::Unreadable) => Ok(AnswerText::unreadable_answer(alloc)?),
         Err(Refusal::NoMemory) => Err(ReplayError::NoMemory),
     }
 }

@@ -32,7 +32,7 @@ impl Model for AnswerText {
 
 impl AnswerText {
     /// What is written for a body that is no envelope.
-    pub fn unreadable(alloc: Global) -> Result<AnswerText, NoMemory>
+    pub fn unreadable_answer(alloc: Global) -> Result<AnswerText, NoMemory>
         ensures { IfOk result (λ text. text ≡ unreadable_text) }
     {
         AnswerText::of_line(alloc, "unreadable\n")

@@ -16,5 +16,5 @@ returns-in-Err-Named-clause-answered g c =
 
 pub returns-in-Err-Unreadable-clause-answered : goal.returns-in-Err-Unreadable-clause-answered
 returns-in-Err-Unreadable-clause-answered g c =
-    none_answered c.args.core.now c.args.header c.args.body.now c.in_ok-unreadable-in-Err-Unreadable.field-0
-    (rw c.in-Err-Unreadable.field-0-is at c.in-Err-Unreadable.ensures) c.in_ok-unreadable-in-Err-Unreadable.ensures
+    none_answered c.args.core.now c.args.header c.args.body.now c.in_ok-unreadable_answer-in-Err-Unreadable.field-0
+    (rw c.in-Err-Unreadable.field-0-is at c.in-Err-Unreadable.ensures) c.in_ok-unreadable_answer-in-Err-Unreadable.ensures
