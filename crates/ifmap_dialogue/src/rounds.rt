@@ -15,7 +15,9 @@ use crate::desks::{Desk, Gate};
 use crate::endings::Ending;
 use crate::findings::Finding;
 use crate::polls::Poll;
-use crate::sending::{Then, end_after, give_up, next_after, send_bare, send_reply};
+use crate::sending::{
+    BAD_REQUEST, INSUFFICIENT_STORAGE, Then, end_after, give_up, next_after, send_bare, send_reply,
+};
 use crate::settings::Setting;
 use ifmap_http::{Got, Post, Sent, Wire};
 use ifmap_io::{Clock, Link};
@@ -139,12 +141,12 @@ fn answer<K: Desk, L: Link, C: Clock, G: Gate>(
             conclude(setting, desk, gate, poll, sent, then)
         }
         Finding::Unreadable => {
-            let sent = send_bare(setting.alloc, wire, gate, 400);
-            next_after(sent, Some(Ending::Refused(400)))
+            let sent = send_bare(setting.alloc, wire, gate, BAD_REQUEST);
+            next_after(sent, Some(Ending::Refused(BAD_REQUEST)))
         }
         Finding::HeldOut { turns } => Some(Ending::HeldOut { turns }),
         Finding::Spent { entries } => {
-            let sent = send_bare(setting.alloc, wire, gate, 507);
+            let sent = send_bare(setting.alloc, wire, gate, INSUFFICIENT_STORAGE);
             next_after(sent, Some(Ending::Spent { entries }))
         }
         Finding::NoMemory => {

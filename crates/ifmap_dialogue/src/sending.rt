@@ -13,6 +13,15 @@ use ifmap_io::Link;
 use ifmap_machine::{Reply, write_reply};
 use std::alloc::Global;
 
+// The statuses of the answers that are written.
+const OK: u16 = 200;
+
+const SERVICE_UNAVAILABLE: u16 = 503;
+
+pub(crate) const BAD_REQUEST: u16 = 400;
+
+pub(crate) const INSUFFICIENT_STORAGE: u16 = 507;
+
 /// What is done with a connection after an answer.
 #[derive(Clone, Copy, Debug, PartialEq, Eq)]
 pub enum Then {
@@ -38,7 +47,7 @@ pub(crate) fn send_reply<L: Link, G: Gate>(
         → Rose (L.Sink.faults wire.old.link) (L.Sink.faults wire.new.link) }
 {
     match write_reply(alloc, reply) {
-        Ok(body) => send(alloc, wire, gate, 200, body.as_slice(), then),
+        Ok(body) => send(alloc, wire, gate, OK, body.as_slice(), then),
         Err(_) => {
             give_up(alloc, wire, gate);
             Sent::NoMemory
@@ -96,7 +105,7 @@ pub(crate) fn give_up<L: Link, G: Gate>(alloc: Global, wire: &mut Wire<L>, gate:
         × GainsBytes (wire_seen L.left L.held L.Source.faults L.Sink.faults wire.old)
         (wire_seen L.left L.held L.Source.faults L.Sink.faults wire.new) output }
 {
-    let _sent = write(alloc, wire, gate, 503, b"", Then::Close);
+    let _sent = write(alloc, wire, gate, SERVICE_UNAVAILABLE, b"", Then::Close);
 }
 
 // Writes an answer once, and passes the gate after it where all of it was written.
