@@ -16,12 +16,12 @@ use Rattle.ifmap_client_script.specs.declared.outcomes.Outcome.{Outcome}
 use Rattle.ifmap_client_script.specs.declared.outcomes.Outcome.TheVariants as outcome
 use Rattle.ifmap_client_script.specs.declared.outcomes.Stop.{Stop}
 use Rattle.ifmap_client_script.specs.declared.outcomes.Stop.TheVariants as stop
-use Rattle.ifmap_client_script.specs.Deeds.{Deed, Does, Known, after_deed, nothing_known, request_in}
+use Rattle.ifmap_client_script.specs.Deeds.{Deed, IsDeedFor, Known, after_deed, nothing_known, request_in}
 use Rattle.ifmap_client_script.specs.Ends.{ArePortsLater, SourceAndPorts, IsLaterInRun, IsLaterWire, LinkFailed, Ports}
 use Rattle.ifmap_client_script.specs.Exchanges.{HasAny, HasNoReply, HasPart, IsFrontOfPost, WireFailed}
 use Rattle.ifmap_client_script.specs.Holding.{known_of}
 use Rattle.ifmap_client_script.specs.Pending.{Fetches, Pending, nothing_taken}
-use Rattle.ifmap_client_script.specs.Promises.{Cutting, Did, IsCarriedOut, IsFaulty, IsLost, IsUnanswered, IsUnread, IsUnwritten, IsWholePost, Posted, ScriptPromises, Takes, Wrote, known_after}
+use Rattle.ifmap_client_script.specs.Promises.{Cutting, Did, IsCarriedOut, IsFaulty, IsPartlyDone, IsUnanswered, IsUnread, IsUnwritten, IsWholePost, Posted, ScriptPromises, CarriesTaken, Wrote, known_after}
 use Rattle.ifmap_client_script.specs.Scripts.{IsBadLine}
 use Rattle.ifmap_client_script.specs.Stops.{script_outcome}
 use Rattle.ifmap_client_script.specs.Turns.{IsAtFault, IsBeginning, IsCutShort, IsDue, IsIdle, IsLeft, IsOver, Scripting, TakesLine, IsScriptTurn, TurnsOn}
@@ -133,15 +133,15 @@ module _ (caller : Caller) (before now after : SourceAndPorts) (old : Scripting)
       → Fetched before.left after.left old.offset r.deeds pending
   fetched_more pending more = fetch before.left now.left after.left old.offset r.deeds old.pending pending r.fetched more
 
-  passed : (line : Line) (t : TakesLine now after old line) (d : Deed) → Does (known_of old.client) line d
+  passed : (line : Line) (t : TakesLine now after old line) (d : Deed) → IsDeedFor (known_of old.client) line d
       → Fetched before.left after.left (old.offset + length t.text + 1) (r.deeds ++ d ∷ [])
       (record { bytes = t.rest; ended = t.pending.ended })
   passed line t d does =
       pass before.left after.left old.offset r.deeds t.pending t.text t.rest line d (fetched_more t.pending t.fetched) t.begins t.means
-      (subst (λ (k : Known). Does k line d) r.known does)
+      (subst (λ (k : Known). IsDeedFor k line d) r.known does)
 
   taken : (offset : ℕ) (deeds : List Deed) (pending : Pending) → Fetched before.left after.left offset deeds pending
-      → Takes before after deeds pending.bytes offset
+      → CarriesTaken before after deeds pending.bytes offset
   taken offset deeds pending f = record {
     taken = f.taken;
     script = f.script;
@@ -242,7 +242,7 @@ module _ (caller : Caller) (before now after : SourceAndPorts) (old : Scripting)
             (subst (λ (k : Known). Posted caller now.ports after.ports IsCut Has k [] u.sent) r.known u.posted);
       }
 
-  lost : IsIdle caller now after old → IsLost caller before after
+  lost : IsIdle caller now after old → IsPartlyDone caller before after
   lost t = record {
     deeds = r.deeds;
     rest = old.pending.bytes;

@@ -10,7 +10,7 @@ use Rattle.ifmap_client.specs.Lines.{IsLine}
 use Rattle.ifmap_client.specs.declared.lines.Line.{Line}
 use Rattle.ifmap_requests.specs.declared.requests.Request.{Request}
 use Rattle.ifmap_client_script.specs.declared.exchanges.Caller.{Caller}
-use Rattle.ifmap_client_script.specs.Deeds.{Asked, Deed, Does, Known, after_deed, after_deeds, is_poll, nothing_known}
+use Rattle.ifmap_client_script.specs.Deeds.{Asked, Deed, IsDeedFor, Known, after_deed, after_deeds, is_poll, nothing_known}
 use Rattle.ifmap_client_script.specs.Ends.{Ports}
 use Rattle.ifmap_client_script.specs.Exchanges.{HasPostedAndHeard, over_first, over_second}
 use Rattle.ifmap_client_script.specs.Pending.{Fetches, Pending, with_bytes, with_last_newline}
@@ -148,7 +148,7 @@ fetch start left new offset deeds old pending f more = at more.grown
 
 pub pass : (start left : Option (List ℕ)) (offset : ℕ) (deeds : List Deed) (pending : Pending) (text rest : List ℕ) (line : Line) (d : Deed)
     → Fetched start left offset deeds pending → BeginsLine offset pending.bytes text rest → IsLine text line
-    → Does (after_deeds deeds nothing_known) line d
+    → IsDeedFor (after_deeds deeds nothing_known) line d
     → Fetched start left (offset + length text + 1) (deeds ++ d ∷ []) (record { bytes = rest; ended = pending.ended })
 pass start left offset deeds pending text rest line d f begins means does = record {
   taken = f.taken;

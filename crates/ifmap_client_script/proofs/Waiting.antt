@@ -12,7 +12,7 @@ use Rattle.ifmap_input.specs.Inputs.{TakesFromSource}
 use Rattle.ifmap_client.specs.Lines.{line_limit}
 use Rattle.ifmap_client_script.specs.declared.outcomes.Stop.{Stop}
 use Rattle.ifmap_client_script.specs.declared.outcomes.Stop.TheVariants as stop
-use Rattle.ifmap_client_script.specs.Pending.{WaitsForLine, Fetches, Fills, Gathers, IsClosed, IsGathered, IsLineTooLong, IsWaiting, Looks, Pending, with_bytes, with_last_newline}
+use Rattle.ifmap_client_script.specs.Pending.{WaitsForLine, Fetches, Fills, Gathers, IsClosed, IsGathered, IsLineTooLong, IsWaiting, LooksForLine, Pending, with_bytes, with_last_newline}
 use Rattle.ifmap_client_script.specs.Scripts.{AwaitsLine, HasNoNewline}
 
 -- ---- looking
@@ -204,7 +204,7 @@ awaits_err left_old left_new offset old new stop.LinkEnded g = absurd g
 awaits_err left_old left_new offset old new stop.BadReply g = absurd g
 
 pub looked : (left_old left_new : Option (List ℕ)) (offset : ℕ) (old new : Pending) (r : Result (Option ℕ) Stop)
-    → Fetches left_old left_new old new → Looks offset new r → WaitsForLine left_old left_new offset old new r
+    → Fetches left_old left_new old new → LooksForLine offset new r → WaitsForLine left_old left_new offset old new r
 looked left_old left_new offset old new (Ok (Some place)) f l = (f, l.0, l.1)
 looked left_old left_new offset old new (Ok None) f l = (f, l)
 looked left_old left_new offset old new (Err stop.BadLine) f l = (f, l)
@@ -218,7 +218,8 @@ looked left_old left_new offset old new (Err stop.BadReply) f l = absurd l
 abbrev IsFault : Result (Option ℕ) Stop → Type 0
 IsFault r = r ≡ Err stop.ReadFault
 
-pub looks_no_fault : {P : Type 0} (offset : ℕ) (pending : Pending) (r : Result (Option ℕ) Stop) → Looks offset pending r → IsFault r → P
+pub looks_no_fault : {P : Type 0} (offset : ℕ) (pending : Pending) (r : Result (Option ℕ) Stop) → LooksForLine offset pending r
+    → IsFault r → P
 looks_no_fault offset pending (Ok found) l e = cc
 looks_no_fault offset pending (Err stop.ReadFault) l e = absurd l
 looks_no_fault offset pending (Err stop.BadLine) l e = cc

@@ -72,16 +72,16 @@ CanDo known (the_line.Request r) = IsTrue (is_some (request_in known.session r))
 CanDo known (the_line.Set name) = Unit {0}
 
 -- this is done for the line
-abbrev pub Does : Known → Line → Deed → Type 0
-Does known the_line.Blank passed = Unit {0}
-Does known the_line.Blank (asked a) = ⊥
-Does known the_line.Blank (printed name) = ⊥
-Does known (the_line.Request r) passed = ⊥
-Does known (the_line.Request r) (asked a) = (request_in known.session r ≡ Some a.request) × MeansReply a.body a.answer
-Does known (the_line.Request r) (printed name) = ⊥
-Does known (the_line.Set wanted) passed = ⊥
-Does known (the_line.Set wanted) (asked a) = ⊥
-Does known (the_line.Set wanted) (printed name) = name ≡ wanted
+abbrev pub IsDeedFor : Known → Line → Deed → Type 0
+IsDeedFor known the_line.Blank passed = Unit {0}
+IsDeedFor known the_line.Blank (asked a) = ⊥
+IsDeedFor known the_line.Blank (printed name) = ⊥
+IsDeedFor known (the_line.Request r) passed = ⊥
+IsDeedFor known (the_line.Request r) (asked a) = (request_in known.session r ≡ Some a.request) × MeansReply a.body a.answer
+IsDeedFor known (the_line.Request r) (printed name) = ⊥
+IsDeedFor known (the_line.Set wanted) passed = ⊥
+IsDeedFor known (the_line.Set wanted) (asked a) = ⊥
+IsDeedFor known (the_line.Set wanted) (printed name) = name ≡ wanted
 
 -- ---- what is known
 

@@ -81,16 +81,16 @@ Gathers left_old left_new offset old new (Err stop.LinkEnded) = ⊥
 Gathers left_old left_new offset old new (Err stop.BadReply) = ⊥
 
 -- what looking for a line gives, for which no more is to be taken
-abbrev pub Looks : ℕ → Pending → Result (Option ℕ) Stop → Type 0
-Looks offset pending (Ok (Some place)) = IsLineEnd pending.bytes place × IsWithinLineLimits offset place
-Looks offset pending (Ok None) = pending ≡ record { bytes = []; ended = true }
-Looks offset pending (Err stop.BadLine) = IsLineTooLong offset pending.bytes
-Looks offset pending (Err stop.ReadFault) = ⊥
-Looks offset pending (Err stop.NoMemory) = ⊥
-Looks offset pending (Err stop.WriteFault) = ⊥
-Looks offset pending (Err stop.LinkFault) = ⊥
-Looks offset pending (Err stop.LinkEnded) = ⊥
-Looks offset pending (Err stop.BadReply) = ⊥
+abbrev pub LooksForLine : ℕ → Pending → Result (Option ℕ) Stop → Type 0
+LooksForLine offset pending (Ok (Some place)) = IsLineEnd pending.bytes place × IsWithinLineLimits offset place
+LooksForLine offset pending (Ok None) = pending ≡ record { bytes = []; ended = true }
+LooksForLine offset pending (Err stop.BadLine) = IsLineTooLong offset pending.bytes
+LooksForLine offset pending (Err stop.ReadFault) = ⊥
+LooksForLine offset pending (Err stop.NoMemory) = ⊥
+LooksForLine offset pending (Err stop.WriteFault) = ⊥
+LooksForLine offset pending (Err stop.LinkFault) = ⊥
+LooksForLine offset pending (Err stop.LinkEnded) = ⊥
+LooksForLine offset pending (Err stop.BadReply) = ⊥
 
 -- what waiting for a line gives
 abbrev pub WaitsForLine : (left_old left_new : Option (List ℕ)) (offset : ℕ) (old new : Pending) → Result (Option ℕ) Stop → Type 0

@@ -36,7 +36,7 @@ IsWholePost post front = front ≡ post
 module _ (before after : SourceAndPorts) where
   -- the lines of what was taken from the source were carried out by these deeds, up to a rest, of which the first byte stands at an
   -- offset of the script
-  pub record Takes (deeds : List Deed) (rest : List ℕ) (offset : ℕ) : Type 0 where
+  pub record CarriesTaken (deeds : List Deed) (rest : List ℕ) (offset : ℕ) : Type 0 where
     pub taken : List ℕ
     pub script : List ℕ
     pub consumed : Consumes before.left after.left taken
@@ -83,7 +83,7 @@ module _ (caller : Caller) (before after : SourceAndPorts) where
   pub record IsDone : Type 0 where
     pub deeds : List Deed
     pub offset : ℕ
-    pub takes : Takes before after deeds [] offset
+    pub takes : CarriesTaken before after deeds [] offset
     pub end : IsAtEnd after.left
     pub did : Did caller before.ports after.ports nothing_known deeds
 
@@ -92,7 +92,7 @@ module _ (caller : Caller) (before after : SourceAndPorts) where
     pub deeds : List Deed
     pub rest : List ℕ
     pub offset : ℕ
-    pub takes : Takes before after deeds rest offset
+    pub takes : CarriesTaken before after deeds rest offset
     pub fault : IsBadLine offset (known_after deeds) rest
     pub line_is : line ≡ length deeds + 1
     pub did : Did caller before.ports after.ports nothing_known deeds
@@ -102,7 +102,7 @@ module _ (caller : Caller) (before after : SourceAndPorts) where
     pub deeds : List Deed
     pub rest : List ℕ
     pub offset : ℕ
-    pub takes : Takes before after deeds rest offset
+    pub takes : CarriesTaken before after deeds rest offset
     pub awaited : AwaitsLine offset rest
     pub did : Did caller before.ports after.ports nothing_known deeds
 
@@ -112,7 +112,7 @@ module _ (caller : Caller) (before after : SourceAndPorts) where
     pub deed : Deed
     pub rest : List ℕ
     pub offset : ℕ
-    pub takes : Takes before after (deeds ++ deed ∷ []) rest offset
+    pub takes : CarriesTaken before after (deeds ++ deed ∷ []) rest offset
     pub wrote : Wrote caller before.ports after.ports nothing_known deeds deed
 
   -- the lines before that one were carried out, and its request was posted, but no reply came
@@ -121,7 +121,7 @@ module _ (caller : Caller) (before after : SourceAndPorts) where
     pub rest : List ℕ
     pub offset : ℕ
     pub sent : Request
-    pub takes : Takes before after deeds rest offset
+    pub takes : CarriesTaken before after deeds rest offset
     pub next : AsksNext offset (known_after deeds) rest sent
     pub line_is : line ≡ length deeds + 1
     pub posted : Posted caller before.ports after.ports IsCut Has nothing_known deeds sent
@@ -131,7 +131,7 @@ module _ (caller : Caller) (before after : SourceAndPorts) where
   IsUnasked = (line : ℕ) × IsUnanswered IsFrontOfPost HasAny line
 
   -- the lines of a front of what was taken were carried out
-  pub record IsLost : Type 0 where
+  pub record IsPartlyDone : Type 0 where
     pub deeds : List Deed
     pub rest : List ℕ
     pub taken : List ℕ
@@ -152,7 +152,7 @@ ScriptPromises caller before after outcome.LinkFault = IsUnasked caller before a
 ScriptPromises caller before after (outcome.LinkEnded line) = IsUnanswered caller before after IsWholePost HasPart line
 ScriptPromises caller before after (outcome.BadReply line) = IsUnanswered caller before after IsWholePost HasNoReply line
 ScriptPromises caller before after outcome.NoMemory =
-    IsLost caller before after ⊎ (IsUnasked caller before after ⊎ IsUnwritten caller before after)
+    IsPartlyDone caller before after ⊎ (IsUnasked caller before after ⊎ IsUnwritten caller before after)
 
 -- a script was carried out as far as its outcome promises, and no count of faults has fallen
 pub record IsCarriedOut (caller : Caller) (before after : SourceAndPorts) (ended : Outcome) : Type 0 where

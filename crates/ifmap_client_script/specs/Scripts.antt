@@ -5,7 +5,7 @@ use Rattle.ifmap_elem.specs.Chars.{line_feed}
 use Rattle.ifmap_input.specs.Scripts.{longest_script}
 use Rattle.ifmap_client.specs.Lines.{IsLine, line_limit}
 use Rattle.ifmap_client.specs.declared.lines.Line.{Line}
-use Rattle.ifmap_client_script.specs.Deeds.{CanDo, Deed, Does, Known, after_deed}
+use Rattle.ifmap_client_script.specs.Deeds.{CanDo, Deed, IsDeedFor, Known, after_deed}
 
 -- no newline is among the bytes
 abbrev pub HasNoNewline : List ℕ → Type 0
@@ -26,7 +26,7 @@ pub record BeginsLine (offset : ℕ) (bytes text rest : List ℕ) : Type 0 where
 abbrev pub Carries : ℕ → Known → List ℕ → List Deed → List ℕ → Type 0
 Carries offset known bytes [] rest = bytes ≡ rest
 Carries offset known bytes (deed ∷ deeds) rest =
-    (text : List ℕ) × (after : List ℕ) × (line : Line) × BeginsLine offset bytes text after × IsLine text line × Does known line deed
+    (text : List ℕ) × (after : List ℕ) × (line : Line) × BeginsLine offset bytes text after × IsLine text line × IsDeedFor known line deed
     × Carries (offset + length text + 1) (after_deed deed known) after deeds rest
 
 -- no line that can be carried out begins here, whatever comes after

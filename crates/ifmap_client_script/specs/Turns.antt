@@ -10,7 +10,7 @@ use Rattle.ifmap_client_script.specs.declared.outcomes.Stop.TheVariants as stop
 use Rattle.ifmap_client_script.specs.declared.scripts.NextLine.{NextLine}
 use Rattle.ifmap_client_script.specs.declared.scripts.ScriptTurn.{ScriptTurn}
 use Rattle.ifmap_client_script.specs.declared.scripts.ScriptTurn.TheVariants as turn
-use Rattle.ifmap_client_script.specs.Deeds.{CanDo, Deed, Does, Known, after_deed, nothing_known, request_in}
+use Rattle.ifmap_client_script.specs.Deeds.{CanDo, Deed, IsDeedFor, Known, after_deed, nothing_known, request_in}
 use Rattle.ifmap_client_script.specs.Ends.{SourceAndPorts, LinkFailed, Ports, ScriptReadFailed, PrintFailed}
 use Rattle.ifmap_client_script.specs.Exchanges.{HasAny, HasNoReply, HasPart, IsFrontOfPost}
 use Rattle.ifmap_client_script.specs.Holding.{Holding, known_of}
@@ -24,14 +24,14 @@ module _ (caller : Caller) (line : Line) (before after : Ports) (old : Known) wh
   -- it was carried out
   pub record Carried (new : Known) : Type 0 where
     pub deed : Deed
-    pub does : Does old line deed
+    pub does : IsDeedFor old line deed
     pub known : new ≡ after_deed deed old
     pub did : Did caller before after old (deed ∷ [])
 
   -- it was carried out, but what is written for it was cut
   pub record Cut : Type 0 where
     pub deed : Deed
-    pub does : Does old line deed
+    pub does : IsDeedFor old line deed
     pub wrote : Wrote caller before after old [] deed
 
   -- its request was posted, but no reply came

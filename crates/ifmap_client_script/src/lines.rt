@@ -3,7 +3,7 @@ ghost use Rattle.std.specs.Prelude.{◌≡◌, ◌≤◌, ◌<◌, ◌+◌, drop
 ghost use Rattle.std.specs.Bool.{OnFalse, OnTrue};
 ghost use Rattle.ifmap_io.specs.Causes.{Rose};
 ghost use Rattle.ifmap_input.specs.Scripts.{longest_script};
-ghost use Rattle.ifmap_client_script.specs.Pending.{WaitsForLine, Fills, Gathers, IsClosed, IsLineEnd, IsGathered, IsWaiting, Looks, nothing_taken, with_last_newline};
+ghost use Rattle.ifmap_client_script.specs.Pending.{WaitsForLine, Fills, Gathers, IsClosed, IsLineEnd, IsGathered, IsWaiting, LooksForLine, nothing_taken, with_last_newline};
 ghost use Rattle.ifmap_client_script.specs.Scripts.{AwaitsLine, HasNoNewline, IsWithinLineLimits};
 
 use crate::outcomes::Stop;
@@ -118,7 +118,7 @@ impl Lines {
     fn line_at(&self, offset: u64) -> Result<Option<usize>, Stop>
         requires offset { offset ≤ longest_script + 1 }
         requires ready { IsGathered offset self.now }
-        ensures { Looks offset self.now result }
+        ensures { LooksForLine offset self.now result }
     {
         self.closes();
         match line_end(self.pending_bytes()) {

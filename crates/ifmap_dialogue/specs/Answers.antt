@@ -63,14 +63,14 @@ LosesUnlessDone gives poll close sent.NoMemory turns next = IsLostWith gives pol
 
 -- an answer to a post: whether it is to close the connection, the turns by which the desk is told that it was lost, the bytes gained,
 -- and the ending, where it is the last
-pub record Answering : Type 0 where
+pub record PostAnswer : Type 0 where
   pub close : Bool
   pub turns : List Turn
   pub output : List ℕ
   pub next : Option Ending
 
 -- how each finding is answered
-abbrev pub Answers : (ℕ → Type 0) → Finding → Answering → Type 0
+abbrev pub Answers : (ℕ → Type 0) → Finding → PostAnswer → Type 0
 Answers gives (finding.Replied reply) a = (a.turns ≡ []) × Delivers (reply_answer reply a.close) (end_after a.close) a.output a.next
 Answers gives (finding.Told reply poll) a =
     (sent : Sent) × WritesAnswer (reply_answer reply a.close) sent a.output × LosesUnlessDone gives poll a.close sent a.turns a.next

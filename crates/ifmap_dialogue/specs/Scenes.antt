@@ -41,13 +41,13 @@ HasFitPoll (finding.Told reply poll) = IsCharacters poll.session
 HasFitPoll other = Unit {0}
 
 -- what a post came to, whether its answer is to close the connection, and the ending, where it is the last
-pub record Answered : Type 0 where
+pub record FindingAndEnding : Type 0 where
   pub finding : Finding
   pub close : Bool
   pub next : Option Ending
 
 -- what is done over a wire at a desk answers what a post came to
-pub record ServesAnswer {H : Type 0} (gives : ℕ → Type 0) (before after : Scene H) (a : Answered) : Type 0 where
+pub record ServesAnswer {H : Type 0} (gives : ℕ → Type 0) (before after : Scene H) (a : FindingAndEnding) : Type 0 where
   pub turns : List Turn
   pub output : List ℕ
   pub tells : DeskTakesTurns before.desk after.desk turns

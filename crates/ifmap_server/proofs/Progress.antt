@@ -18,7 +18,7 @@ use Rattle.ifmap_server.specs.Output.{AppendsPrefix, IsOutput, step_frame, answe
 use Rattle.ifmap_server.specs.Replayed.{AnswersAll, AnswersPart, AnswersTaken, AnswersUpToFault}
 use Rattle.ifmap_server.specs.Script.{BeginsFrame, IsScript, IsScriptFrom}
 use Rattle.ifmap_server.specs.Ends.{IsLaterMoment, SourceAndSink}
-use Rattle.ifmap_server.specs.Turns.{Answers, BeginsNone, IsFaulty, IsOver, IsUnread, IsUnwritten, Replaying, replay_beginning}
+use Rattle.ifmap_server.specs.Turns.{AnswersFrame, BeginsNone, IsFaulty, IsOver, IsUnread, IsUnwritten, Replaying, replay_beginning}
 use Rattle.ifmap_server.proofs.Framing.{awaited_none}
 use Rattle.ifmap_server.proofs.Scripts.{script_begins, script_one}
 use Rattle.ifmap_server.proofs.Pieces.{appends_prefix, keeps_prefix}
@@ -109,7 +109,7 @@ module _ (before mid after : SourceAndSink) (now : Replaying) (p : Progress befo
   told_one : (f : Frame) → answers (p.done ++ f ∷ []) ≡ answers p.done ++ ((step_frame now.state f).1 ++ [])
   told_one f = p.told (f ∷ [])
 
-  placed_on : (new : Replaying) (a : Answers mid after now new) (more : List ℕ)
+  placed_on : (new : Replaying) (a : AnswersFrame mid after now new) (more : List ℕ)
       → drop new.offset (p.taken ++ a.takes.got ++ more) ≡ new.pending ++ more
   placed_on new a more =
       let text = frame_text a.frame in
@@ -121,7 +121,7 @@ module _ (before mid after : SourceAndSink) (now : Replaying) (p : Progress befo
       a.begins.text)
       ∙ drop_at text (new.pending ++ more) (length text) refl
 
-  pub next : (new : Replaying) → Answers mid after now new → IsLaterMoment mid after → Progress before after new
+  pub next : (new : Replaying) → AnswersFrame mid after now new → IsLaterMoment mid after → Progress before after new
   next new a later =
       let f = a.frame in
       let got = a.takes.got in

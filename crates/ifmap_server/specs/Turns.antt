@@ -69,7 +69,7 @@ BeginsNone offset bytes = (f : Frame) (rest : List ℕ) → BeginsFrame offset b
 
 module _ (before after : SourceAndSink) (old : Replaying) where
   -- a frame was taken and answered
-  pub record Answers (new : Replaying) : Type 0 where
+  pub record AnswersFrame (new : Replaying) : Type 0 where
     pub frame : Frame
     pub taken : List ℕ
     pub takes : TakesFromSource before.left after.left old.pending taken
@@ -113,7 +113,7 @@ module _ (before after : SourceAndSink) (old : Replaying) where
 
 -- what a turn did; a fault leaves the offset of the frame
 abbrev pub IsReplayTurn : Result Turn ReplayError → (before after : SourceAndSink) → (old new : Replaying) → Type 0
-IsReplayTurn (Ok Answered) before after old new = Answers before after old new
+IsReplayTurn (Ok Answered) before after old new = AnswersFrame before after old new
 IsReplayTurn (Ok Ended) before after old new = IsOver before after old
 IsReplayTurn (Err FrameFault) before after old new = IsFaulty before after old × (new.offset ≡ old.offset)
 IsReplayTurn (Err ReadFault) before after old new = IsUnread before after old
