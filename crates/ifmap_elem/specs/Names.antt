@@ -23,11 +23,15 @@ is_name_start c =
     is_in_range 0x2C00 0x2FEF c
     || is_in_range 0x3001 0xD7FF c || is_in_range 0xF900 0xFDCF c || is_in_range 0xFDF0 0xFFFD c || is_in_range 0x1_0000 0xE_FFFF c
 
+-- the middle dot, U+00B7
+abbrev pub middle_dot : ℕ
+middle_dot = 0xB7
+
 -- a character that may stand in a name part: one that may begin it, `-`, `.`, a digit, or one of the further characters
 abbrev pub is_name_character : ℕ → Bool
 is_name_character c =
-    is_name_start c || c == byte "-" || c == byte "." || is_decimal c || c == 0xB7 || is_in_range 0x300 0x36F c || is_in_range 0x203F
-    0x2040 c
+    is_name_start c || c == byte "-" || c == byte "." || is_decimal c || c == middle_dot || is_in_range 0x300 0x36F c
+    || is_in_range 0x203F 0x2040 c
 
 -- the bytes are a name part: a name without a colon
 pub record IsNamePart (bytes : List ℕ) : Type 0 where

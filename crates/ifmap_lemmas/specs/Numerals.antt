@@ -3,6 +3,7 @@ use Rattle.std.proofs.Common.{◌≡◌, ℕ, ◌+◌, ◌*◌, ◌/◌, ◌%◌
 use Rattle.std.specs.Prelude.{if◌then◌else◌, nat_lt}
 use Rattle.std.specs.Char.{digit_value}
 use Rattle.std.specs.Fmt.{decimal}
+use Rattle.std.specs.Str.{byte}
 use Rattle.std.specs.Str.Parse.{AllDigits, digits_value, digits_value_after}
 use Rattle.std.proofs.lemmas.Bool.{cases_Bool}
 use Rattle.std.proofs.lemmas.Bool.Decides.{nat_tests}
@@ -11,7 +12,7 @@ use Rattle.std.proofs.lemmas.Str.{digit_value_digit}
 
 -- the character of a digit, by its place after `0`
 abbrev pub digit : ℕ → ℕ
-digit d = 0x30 + d
+digit d = byte "0" + d
 
 -- the digits of a number, or as many of the last ones
 abbrev pub digits_within : ℕ → ℕ → List ℕ

@@ -54,11 +54,12 @@ fn are_allowed(text: &str) -> bool
 pub(crate) fn is_allowed(character: char) -> bool
     ensures { result ≡ is_character character }
 {
-    let c = character as u32;
-    c == 0x9
-        || c == 0xA
-        || c == 0xD
-        || (0x20 <= c && c <= 0xD7FF)
-        || (0xE000 <= c && c <= 0xFFFD)
-        || (0x1_0000 <= c && c <= 0x10_FFFF)
+    matches!(
+        character,
+        '\t' | '\n'
+            | '\r'
+            | ' '..='\u{D7FF}'
+            | '\u{E000}'..='\u{FFFD}'
+            | '\u{1_0000}'..='\u{10_FFFF}'
+    )
 }

@@ -187,22 +187,22 @@ pub fn is_name_start(character: char) -> bool
     ensures { result ≡ is_name_start character }
 {
     matches!(
-        character as u32,
-        0x41..=0x5A
-            | 0x5F
-            | 0x61..=0x7A
-            | 0xC0..=0xD6
-            | 0xD8..=0xF6
-            | 0xF8..=0x2FF
-            | 0x370..=0x37D
-            | 0x37F..=0x1FFF
-            | 0x200C..=0x200D
-            | 0x2070..=0x218F
-            | 0x2C00..=0x2FEF
-            | 0x3001..=0xD7FF
-            | 0xF900..=0xFDCF
-            | 0xFDF0..=0xFFFD
-            | 0x1_0000..=0xE_FFFF
+        character,
+        'A'..='Z'
+            | '_'
+            | 'a'..='z'
+            | '\u{C0}'..='\u{D6}'
+            | '\u{D8}'..='\u{F6}'
+            | '\u{F8}'..='\u{2FF}'
+            | '\u{370}'..='\u{37D}'
+            | '\u{37F}'..='\u{1FFF}'
+            | '\u{200C}'..='\u{200D}'
+            | '\u{2070}'..='\u{218F}'
+            | '\u{2C00}'..='\u{2FEF}'
+            | '\u{3001}'..='\u{D7FF}'
+            | '\u{F900}'..='\u{FDCF}'
+            | '\u{FDF0}'..='\u{FFFD}'
+            | '\u{1_0000}'..='\u{E_FFFF}'
     )
 }
 
@@ -212,7 +212,7 @@ pub fn is_name_start(character: char) -> bool
 pub fn is_name_character(character: char) -> bool
     ensures { result ≡ is_name_character character }
 {
-    matches!(character as u32, 0x61..=0x7A) || is_any_inner(character)
+    matches!(character, 'a'..='z') || is_any_inner(character)
 }
 
 #[inline(never)]
@@ -221,7 +221,11 @@ fn is_any_inner(character: char) -> bool
 {
     is_name_start(character)
         || matches!(
-            character as u32,
-            0x2D | 0x2E | 0x30..=0x39 | 0xB7 | 0x300..=0x36F | 0x203F..=0x2040
+            character,
+            '-' | '.'
+                | '0'..='9'
+                | '\u{B7}'
+                | '\u{300}'..='\u{36F}'
+                | '\u{203F}'..='\u{2040}'
         )
 }

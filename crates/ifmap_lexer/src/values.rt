@@ -1,6 +1,6 @@
 //! Written text and written values as what they mean.
 ghost use Rattle.std.specs.Prelude.{◌≡◌, ◌<◌, ◌++◌, [], ◌∷◌, ◌≤◌, ℕ, List, IfErr, IfOk, OnOk, length, map, string_bytes};
-ghost use Rattle.ifmap_elem.specs.Chars.{AllAre};
+ghost use Rattle.ifmap_elem.specs.Chars.{AllAre, carriage_return, line_feed};
 ghost use Rattle.ifmap_elem.specs.Values.{SpellsOut, Plain, as_space, line_ends};
 ghost use Rattle.ifmap_lexer.specs.There.{SomeExpansion};
 ghost use Rattle.ifmap_lexer.specs.Common.{is_verbatim};
@@ -96,7 +96,7 @@ fn push_run(place: Place, run: &str, text: &mut String) -> Result<(), NoMemory>
 
 // What is after a carriage return and the line feed that belongs to it.
 fn after_newline(text: &str) -> &str
-    ensures line { line_ends (0xD ∷ text.now) ≡ 0xA ∷ line_ends result.now }
+    ensures line { line_ends (carriage_return ∷ text.now) ≡ line_feed ∷ line_ends result.now }
     ensures shorter { length result.now ≤ length text.now }
 {
     match text.strip_prefix('\n') {
@@ -138,7 +138,7 @@ fn push_spaced(line: &str, text: &mut String) -> Result<(), NoMemory>
 
 // Appends characters without line feeds, with their tabs as spaces.
 fn push_untabbed(line: &str, text: &mut String) -> Result<(), NoMemory>
-    requires { AllAre (is_but 0xA) line.now }
+    requires { AllAre (is_but line_feed) line.now }
     ensures { OnOk result (string_bytes text.new ≡ string_bytes text.old ++ map as_space line.now) }
 {
     let mut rest = line;

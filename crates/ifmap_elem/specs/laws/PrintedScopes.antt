@@ -18,7 +18,7 @@ use Rattle.std.proofs.lemmas.Bool.Decides.{nat_tests}
 use Rattle.std.proofs.lemmas.Slice.Eq.{bytes_eq-Decides}
 use Rattle.std.proofs.lemmas.Str.Parse.{digit_from_value}
 use Rattle.ifmap_elem.specs.Chars.{AllAre}
-use Rattle.ifmap_elem.specs.Names.{IsNamePart, is_name_start, is_name_character, with_prefix}
+use Rattle.ifmap_elem.specs.Names.{IsNamePart, is_name_start, is_name_character, middle_dot, with_prefix}
 use Rattle.ifmap_elem.specs.Scopes.{Scope, AllDiffer, IsBinding, bound, root_scope, xml_space}
 use Rattle.ifmap_elem.specs.Fit.{IsNamespace, IsDeclarable}
 use Rattle.ifmap_elem.specs.Canonical.{after_prefix}
@@ -58,7 +58,8 @@ digit_character c low high =
     let also : nat_le c (byte "9") ≡ true = grind (arith, nat_tests) in
     let both : is_in_range (byte "0") (byte "9") c ≡ true = rw (test, also) refl in
     rw both
-    (among_tests (is_name_start c) (c == byte "-") (c == byte ".") (c == 0xB7) (is_in_range 0x300 0x36F c) (is_in_range 0x203F 0x2040 c))
+    (among_tests (is_name_start c) (c == byte "-") (c == byte ".") (c == middle_dot) (is_in_range 0x300 0x36F c)
+    (is_in_range 0x203F 0x2040 c))
 
 pub digits_characters : (ds : List ℕ) → AllDigits 10 ds → AllAre is_name_character ds
 digits_characters [] f = tt
