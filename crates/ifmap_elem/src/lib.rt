@@ -22,6 +22,7 @@ pub mod readings;
 mod sorting;
 pub mod texts;
 pub mod tokens;
+pub mod white_space;
 
 pub use comparing::same;
 pub use copying::Copied;

@@ -10,7 +10,8 @@ use Rattle.ifmap_elem.specs.declared.elements.Child.TheOpen.{Child-F}
 use Rattle.ifmap_elem.specs.declared.elements.Element.{Element}
 use Rattle.ifmap_elem.specs.declared.elements.Name.{Name}
 use Rattle.ifmap_envelopes.specs.Envelopes.{IsOnlyElement, IsBodyAt, IsEnvelope, MayHoldHeader, envelope_name}
-use Rattle.ifmap_forms.specs.Tables.{Part, is_white_part, element_parts}
+use Rattle.ifmap_elem.specs.WhiteSpace.{is_blank_part}
+use Rattle.ifmap_forms.specs.Tables.{Part, element_parts}
 
 abbrev pub part_of : Element → Part
 part_of e = Child-F.Element e
@@ -19,7 +20,7 @@ abbrev pub text_of : List ℕ → Part
 text_of text = Child-F.Text text
 
 abbrev pub AreBlank : List Part → Type 0
-AreBlank parts = list_all is_white_part parts ≡ true
+AreBlank parts = list_all is_blank_part parts ≡ true
 
 -- the splits are one
 pub record AreOne (before other after rest : List Part) (e f : Element) : Type 0 where
@@ -31,7 +32,7 @@ pub no_element : (g : Element) (more : List Part) → AreBlank (part_of g ∷ mo
 no_element g more blank = let wrong : false ≡ true = blank in cc
 
 pub after_text : (t : List ℕ) (more : List Part) → AreBlank (text_of t ∷ more) → AreBlank more
-after_text t more blank = (and_parts (list_all is_white t) (list_all is_white_part more) blank).1
+after_text t more blank = (and_parts (list_all is_white t) (list_all is_blank_part more) blank).1
 
 pub one_split : (before after other rest : List Part) (e f : Element)
     → before ++ (part_of e ∷ after) ≡ other ++ (part_of f ∷ rest) → AreBlank before → AreBlank other → AreOne before other after rest e f

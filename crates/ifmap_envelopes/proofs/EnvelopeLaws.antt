@@ -20,7 +20,8 @@ use Rattle.ifmap_elem.specs.declared.elements.Element.{Element}
 use Rattle.ifmap_elem.specs.declared.elements.Name.{Name}
 use Rattle.ifmap_forms.specs.ifmap_filter.Holding.{is_name}
 use Rattle.ifmap_forms.specs.PositionLaws.{at_place, no_place, place_is}
-use Rattle.ifmap_forms.specs.Tables.{Part, is_white_part, parts_in}
+use Rattle.ifmap_elem.specs.WhiteSpace.{is_blank_part}
+use Rattle.ifmap_forms.specs.Tables.{Part, parts_in}
 use Rattle.ifmap_lemmas.specs.Texts.{eq_itself, eq_tells}
 use Rattle.ifmap_elem.specs.Fit.{is_element}
 use Rattle.ifmap_envelopes.specs.Envelopes.{IsOnlyElement, IsBodyAt, IsPartAt, blank_front, envelope_name, is_first, is_last_part, is_part_named, is_solid_part}
@@ -44,18 +45,18 @@ names_itself n m e =
 
 -- ---- 1. white space at the front
 
-blank_step : (t : Bool) (part : Part) (parts : List Part) (n : ℕ) → is_white_part part ≡ t → AreBlank (take n parts)
+blank_step : (t : Bool) (part : Part) (parts : List Part) (n : ℕ) → is_blank_part part ≡ t → AreBlank (take n parts)
     → AreBlank (take (cond t (1 + n) 0) (part ∷ parts))
 blank_step true part parts n white blank =
     let one : 1 + n ≡ suc n = omega arith in
-    let whole : list_all is_white_part (take (1 + n) (part ∷ parts)) ≡ (is_white_part part && list_all is_white_part (take n parts)) =
-    ap (λ k. list_all is_white_part (take k (part ∷ parts))) one in
+    let whole : list_all is_blank_part (take (1 + n) (part ∷ parts)) ≡ (is_blank_part part && list_all is_blank_part (take n parts)) =
+    ap (λ k. list_all is_blank_part (take k (part ∷ parts))) one in
     whole ∙ (λ i. white i && blank i)
 blank_step false part parts n white blank = refl
 
 front_is_blank : (parts : List Part) → AreBlank (take (blank_front parts) parts)
 front_is_blank [] = refl
-front_is_blank (part ∷ parts) = blank_step (is_white_part part) part parts (blank_front parts) refl (front_is_blank parts)
+front_is_blank (part ∷ parts) = blank_step (is_blank_part part) part parts (blank_front parts) refl (front_is_blank parts)
 
 -- blank parts before an element are the whole front
 pub front_of : (before after : List Part) (e : Element) → AreBlank before
@@ -63,7 +64,7 @@ pub front_of : (before after : List Part) (e : Element) → AreBlank before
 front_of [] after e blank = refl
 front_of (Child-F.Element g ∷ before) after e blank = absurd (no_element g before blank)
 front_of (Child-F.Text t ∷ before) after e blank =
-    let white = (and_parts (list_all is_white t) (list_all is_white_part before) blank).0 in
+    let white = (and_parts (list_all is_white t) (list_all is_blank_part before) blank).0 in
     let next = front_of before after e (after_text t before blank) in
     (λ i. cond (white i) (1 + next i) 0) ∙ (let one : 1 + length before ≡ length (text_of t ∷ before) = omega arith in one)
 
@@ -75,7 +76,7 @@ module _ (p : Part → Bool) where
       → (part : Part) × (after : List Part) × (rest ≡ part ∷ after) × (p part ≡ true) × AreBlank after
   open_last [] h = let wrong : false ≡ true = h in cc
   open_last (part ∷ after) h =
-      let parts = and_parts (p part) (list_all is_white_part after) h in
+      let parts = and_parts (p part) (list_all is_blank_part after) h in
       (part, after, refl, parts.0, parts.1)
 
   pub close_last : (part : Part) (after : List Part) → p part ≡ true → AreBlank after → is_last_part p (part ∷ after) ≡ true
@@ -92,7 +93,7 @@ element_named local (Child-F.Text t) h = let wrong : false ≡ true = h in cc
 
 module _ (parts : List Part) (index : ℕ) (is : index ≡ blank_front parts) where
   within : index ≤ length parts
-  within = let low : blank_front parts ≤ length parts = prefix_len-le-length is_white_part parts in omega (arith, is, low)
+  within = let low : blank_front parts ≤ length parts = prefix_len-le-length is_blank_part parts in omega (arith, is, low)
 
   front_blank : AreBlank (take index parts)
   front_blank = subst (λ (n : ℕ). AreBlank (take n parts)) (sym is) (front_is_blank parts)
@@ -194,7 +195,7 @@ module _ (parts : List Part) (first : ℕ) (is : first ≡ blank_front parts) wh
         let left : drop index parts ≡ drop k rest = ap (λ n. drop n parts) at ∙ after_blank k in
         let o = open_last is_body (drop k rest) (sym (ap (is_last_part is_body) left) ∙ h) in
         let e = element_named (codes "Body") o.0 o.3 in
-        let low : k ≤ length rest = prefix_len-le-length is_white_part rest in
+        let low : k ≤ length rest = prefix_len-le-length is_blank_part rest in
         let before : List Part = take first parts ++ (part_of header ∷ take k rest) in
         let split : rest ≡ take k rest ++ (part_of e.0 ∷ o.1) =
         sym (take-append-drop k rest) ∙ ap (λ (ps : List Part). take k rest ++ ps)
@@ -357,7 +358,7 @@ is_solid_child c = is_solid_part (out-Child c)
 solid_places : (cs : List Child) → position_or_len is_solid_child cs ≡ blank_front (parts_in cs)
 solid_places [] = refl
 solid_places (c ∷ cs) =
-    front_step (is_white_part (out-Child c)) (position_or_len is_solid_child cs) (blank_front (parts_in cs)) (solid_places cs)
+    front_step (is_blank_part (out-Child c)) (position_or_len is_solid_child cs) (blank_front (parts_in cs)) (solid_places cs)
 
 module _ (cs : List Child) where
   pub solid_found : (index : ℕ) → at_place index ≡ position (λ (c : Child). is_solid_part (out-Child c)) cs
@@ -369,7 +370,7 @@ module _ (cs : List Child) where
 
   pub front_within : (index : ℕ) → index ≡ blank_front (parts_in cs) → index ≤ length cs
   front_within index is =
-      let low = prefix_len-le-length is_white_part (parts_in cs) in
+      let low = prefix_len-le-length is_blank_part (parts_in cs) in
       let same = length-map cs out-Child in
       omega (arith, is, low, same)
 

@@ -10,7 +10,8 @@ use Rattle.ifmap_elem.specs.declared.elements.Element.{Element}
 use Rattle.ifmap_elem.specs.declared.elements.Name.{Name}
 use Rattle.ifmap_elem.specs.declared.readings.Reading.{Reading}
 use Rattle.ifmap_forms.specs.ifmap_filter.Holding.{is_name}
-use Rattle.ifmap_forms.specs.Tables.{Part, is_white_part, element_parts}
+use Rattle.ifmap_elem.specs.WhiteSpace.{is_blank_part}
+use Rattle.ifmap_forms.specs.Tables.{Part, element_parts}
 use Rattle.ifmap_envelopes.specs.Spaces.{envelope_space}
 
 abbrev pub envelope_name : List ℕ → Name
@@ -21,14 +22,14 @@ pub record IsOnlyElement (parts : List Part) (index : ℕ) (e : Element) : Type 
   pub before : List Part
   pub after : List Part
   pub parts_are : parts ≡ before ++ (Child-F.Element e ∷ after)
-  pub blank_before : IsTrue (list_all is_white_part before)
-  pub blank_after : IsTrue (list_all is_white_part after)
+  pub blank_before : IsTrue (list_all is_blank_part before)
+  pub blank_after : IsTrue (list_all is_blank_part after)
   pub index_is : index ≡ length before
 
 -- white space, or a header in it, whatever it holds
 abbrev pub MayHoldHeader : List Part → Type 0
 MayHoldHeader parts =
-    IsTrue (list_all is_white_part parts)
+    IsTrue (list_all is_blank_part parts)
     ⊎ ((index : ℕ) × (header : Element) × (header.name ≡ envelope_name (codes "Header")) × IsOnlyElement parts index header)
 
 -- the part with that index is this body, with a header or none before it and white space after it
@@ -37,7 +38,7 @@ pub record IsBodyAt (parts : List Part) (index : ℕ) (body : Element) : Type 0 
   pub after : List Part
   pub parts_are : parts ≡ before ++ (Child-F.Element body ∷ after)
   pub header : MayHoldHeader before
-  pub blank : IsTrue (list_all is_white_part after)
+  pub blank : IsTrue (list_all is_blank_part after)
   pub named : body.name ≡ envelope_name (codes "Body")
   pub index_is : index ≡ length before
 
@@ -74,7 +75,7 @@ abbrev pub IsPartAt : List Part → ℕ → Element → Type 0
 IsPartAt parts index e = slice_get parts index ≡ Some (Child-F.Element e)
 
 abbrev pub is_solid_part : Part → Bool
-is_solid_part part = not (is_white_part part)
+is_solid_part part = not (is_blank_part part)
 
 -- the part is an element of that name of envelopes
 abbrev pub is_part_named : List ℕ → Part → Bool
@@ -84,7 +85,7 @@ is_part_named local (Child-F.Text text) = false
 -- the first part passes, and the others are white space
 abbrev pub is_last_part : (Part → Bool) → List Part → Bool
 is_last_part p [] = false
-is_last_part p (part ∷ parts) = p part && list_all is_white_part parts
+is_last_part p (part ∷ parts) = p part && list_all is_blank_part parts
 
 -- the first part passes
 abbrev pub is_first : (Part → Bool) → List Part → Bool
@@ -93,7 +94,7 @@ is_first p (part ∷ parts) = p part
 
 -- how many parts of white space stand before the others
 abbrev pub blank_front : List Part → ℕ
-blank_front parts = prefix_len is_white_part parts
+blank_front parts = prefix_len is_blank_part parts
 
 -- they spell none
 abbrev pub SpellsNone : ℕ → List ℕ → Type 0

@@ -10,8 +10,9 @@ ghost use Rattle.ifmap_elem.specs.Fit.{is_element};
 ghost use Rattle.ifmap_envelopes.specs.Envelopes.{IsOnlyElement, IsBodyAt, IsEnvelope, IsPartAt, blank_front, envelope_name, is_first, is_last_part, is_part_named, is_solid_part};
 
 use crate::spaces::ENVELOPE_SPACE;
+use ifmap_elem::white_space::is_blank;
 use ifmap_elem::{Child, Element, Name};
-use ifmap_forms::parts::{are_blank, is_blank};
+use ifmap_forms::parts::are_blank;
 
 /// The element in an envelope, and the way to it.
 #[derive(Drop)]

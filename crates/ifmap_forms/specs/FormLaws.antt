@@ -15,7 +15,8 @@ use Rattle.ifmap_ident.specs.declared.codes.Code.TheVariants.{Failure}
 use Rattle.ifmap_forms.specs.AnswerLaws.{found_after, refused_test}
 use Rattle.ifmap_forms.specs.Checks.{pass}
 use Rattle.ifmap_forms.specs.Scopes.{Scopes}
-use Rattle.ifmap_forms.specs.Tables.{is_white_part, no_children, element_parts}
+use Rattle.ifmap_elem.specs.WhiteSpace.{is_blank_part}
+use Rattle.ifmap_forms.specs.Tables.{no_children, element_parts}
 
 pub all_tested : {X : Type 0} (p : X → Bool) (xs : List X) → AllByRecursion (λ x. p x ≡ true) xs → list_all p xs ≡ true
 all_tested p [] f = refl
@@ -52,10 +53,10 @@ number_back n =
     (λ i. if numeral_is_number n i then Some (digits_value 10 (numeral n)) else None) ∙ ap (λ m. Some m) (numeral_value n)
 
 -- no children but white space
-pub blank_children : (scopes : Scopes) (e : Element) → list_all is_white_part (element_parts e) ≡ true → no_children scopes
+pub blank_children : (scopes : Scopes) (e : Element) → list_all is_blank_part (element_parts e) ≡ true → no_children scopes
     (element_parts e) (Ok tt)
-blank_children scopes e is = found_after (pass tt) (list_all is_white_part (element_parts e)) Failure (Ok tt) is refl
+blank_children scopes e is = found_after (pass tt) (list_all is_blank_part (element_parts e)) Failure (Ok tt) is refl
 
-pub other_children : (scopes : Scopes) (e : Element) → list_all is_white_part (element_parts e) ≡ false
+pub other_children : (scopes : Scopes) (e : Element) → list_all is_blank_part (element_parts e) ≡ false
     → no_children scopes (element_parts e) (Err Failure)
-other_children scopes e is = refused_test (pass tt) (list_all is_white_part (element_parts e)) Failure is
+other_children scopes e is = refused_test (pass tt) (list_all is_blank_part (element_parts e)) Failure is

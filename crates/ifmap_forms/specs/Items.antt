@@ -20,7 +20,8 @@ use Rattle.ifmap_forms.specs.declared.errors.FormError.{FormError}
 use Rattle.ifmap_forms.specs.declared.errors.FormError.TheVariants as form
 use Rattle.ifmap_forms.specs.declared.lists.Listed.{Listed}
 use Rattle.ifmap_forms.specs.Checks.{Check, check_then, fail, need, need_some, pass}
-use Rattle.ifmap_forms.specs.Tables.{ContentCheck, Part, each_element, is_white_part, element_parts}
+use Rattle.ifmap_elem.specs.WhiteSpace.{is_blank_part}
+use Rattle.ifmap_forms.specs.Tables.{ContentCheck, Part, each_element, element_parts}
 
 -- ---- one identifier
 
@@ -114,7 +115,7 @@ module _ {X : Type 0} (one : Element → Check X) where
   abbrev pub list_if_there : List Part → Check (Option (List X))
   list_if_there [] = pass None
   list_if_there (Child-F.Element e ∷ after) =
-      check_then (list_check e) (λ xs. need (list_all is_white_part after) Failure (pass (Some xs)))
+      check_then (list_check e) (λ xs. need (list_all is_blank_part after) Failure (pass (Some xs)))
   list_if_there (Child-F.Text text ∷ after) = fail Failure
 
   -- the identifiers, then the list; that the identifiers are no item is found after all that is there was checked

@@ -22,7 +22,8 @@ use Rattle.ifmap_forms.specs.Checks.{Check, IsSingle, check_then, need, need_som
 use Rattle.ifmap_forms.specs.Items.{identifier_check, identifier_code, identifiers_check, item_content, item_of, list_if_there, list_check}
 use Rattle.ifmap_forms.specs.Items.{may_follow, only_identifier, start_content}
 use Rattle.ifmap_forms.specs.Scopes.{Scopes}
-use Rattle.ifmap_forms.specs.Tables.{ContentCheck, Form, Part, AttributeTable, beside, both, each_element, form_or, is_white_part, no_attributes}
+use Rattle.ifmap_elem.specs.WhiteSpace.{is_blank_part}
+use Rattle.ifmap_forms.specs.Tables.{ContentCheck, Form, Part, AttributeTable, beside, both, each_element, form_or, no_attributes}
 use Rattle.ifmap_forms.specs.Tables.{no_children, element_parts, read_form, form_check}
 use Rattle.ifmap_forms.specs.Values.{Field, field_check, read_text}
 
@@ -157,15 +158,15 @@ module _ {X : Type 0} (one : Element → Check X) (s : (e : Element) → IsSingl
   pub list_at_single : (parts : List Part) → IsSingle (list_if_there one parts)
   list_at_single [] = pass_single None
   list_at_single (Child-F.Element e ∷ after) =
-      then_single (list_check one e) (λ xs. need (list_all is_white_part after) Failure (pass (Some xs))) (list_check_single e)
-      (λ xs. need_single (list_all is_white_part after) Failure (pass (Some xs)) (pass_single (Some xs)))
+      then_single (list_check one e) (λ xs. need (list_all is_blank_part after) Failure (pass (Some xs))) (list_check_single e)
+      (λ xs. need_single (list_all is_blank_part after) Failure (pass (Some xs)) (pass_single (Some xs)))
   list_at_single (Child-F.Text text ∷ after) = fail_single Failure
 
 pub no_attributes_single : OneOfTable no_attributes
 no_attributes_single scope e = pass_single tt
 
 pub no_children_single : OneOfContent no_children
-no_children_single scopes parts = need_single (list_all is_white_part parts) Failure (pass tt) (pass_single tt)
+no_children_single scopes parts = need_single (list_all is_blank_part parts) Failure (pass tt) (pass_single tt)
 
 module _ (identifier_one : (e : Element) → IsSingle (identifier_check e)) where
   pub identifiers_single : (most : ℕ) (before : List Identifier) (parts : List Part) → IsSingle (identifiers_check most before parts)

@@ -9,7 +9,8 @@ use Rattle.ifmap_elem.specs.declared.elements.Element.{Element}
 use Rattle.ifmap_elem.specs.declared.elements.Name.{Name}
 use Rattle.ifmap_filter.specs.Holding.{is_name}
 use Rattle.ifmap_ident.specs.ifmap_reader.declared.scoping.Scope.{Scope}
-use Rattle.ifmap_ident.specs.Parts.{has_only, is_blank_part}
+use Rattle.ifmap_elem.specs.WhiteSpace.{is_blank_part}
+use Rattle.ifmap_ident.specs.Parts.{has_only}
 use Rattle.ifmap_ident.specs.declared.codes.Code.TheVariants.{Failure}
 use Rattle.ifmap_forms.specs.Checks.{Check, check_if, check_then, need, pass}
 use Rattle.ifmap_forms.specs.Scopes.{Scopes, scopes_below}
@@ -58,17 +59,13 @@ parts_in children = map out-Child children
 abbrev pub element_parts : Element → List Part
 element_parts e = parts_in e.children
 
--- the part is a text of white space alone
-abbrev pub is_white_part : Part → Bool
-is_white_part part = is_blank_part part
-
 -- what children mean
 abbrev pub ContentCheck : Type 0 → Type 1
 ContentCheck X = Scopes → List Part → Check X
 
 -- no children but white space
 abbrev pub no_children : ContentCheck (Unit {0})
-no_children scopes parts = need (list_all is_white_part parts) Failure (pass tt)
+no_children scopes parts = need (list_all is_blank_part parts) Failure (pass tt)
 
 module _ {X : Type 0} where
   -- elements from left to right, each checked whole, and nothing between them but white space

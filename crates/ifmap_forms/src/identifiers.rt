@@ -10,7 +10,7 @@ ghost use Rattle.ifmap_forms.specs.Tables.{parts_in};
 
 use crate::errors::FormError;
 use crate::gathering::keep_found;
-use crate::parts::is_white_alone;
+use ifmap_elem::white_space::is_white_alone;
 use ifmap_elem::{Child, Element};
 use ifmap_ident::{Code, IdentError, Identifier, Item};
 use std::alloc::Global;

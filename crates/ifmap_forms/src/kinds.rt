@@ -8,8 +8,8 @@ ghost use Rattle.ifmap_forms.specs.Answers.{IsChecked};
 ghost use Rattle.ifmap_forms.specs.Values.{begins_white, kind_named, kinds_check, piece_check, pieces_of, read_kinds, trim_white};
 
 use crate::errors::FormError;
-use crate::parts::{is_white, is_white_alone};
 use ifmap_elem::Many;
+use ifmap_elem::white_space::{is_white, is_white_alone};
 use ifmap_ident::kinds::KINDS;
 use ifmap_ident::{Code, Kind};
 use std::alloc::Global;

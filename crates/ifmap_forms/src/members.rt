@@ -9,7 +9,7 @@ ghost use Rattle.ifmap_forms.specs.Tables.{members_check, parts_in};
 
 use crate::errors::FormError;
 use crate::gathering::keep_found;
-use crate::parts::is_white_alone;
+use ifmap_elem::white_space::is_white_alone;
 use ifmap_elem::{Child, Element};
 use ifmap_ident::Code;
 use std::alloc::Global;

@@ -2,11 +2,11 @@
 ghost use Rattle.std.specs.Prelude.{◌≡◌, ℕ, List, map};
 ghost use Rattle.std.specs.List.{list_all, list_any};
 ghost use Rattle.std.specs.Str.{bytes_eq};
-ghost use Rattle.ifmap_elem.specs.Chars.{is_white};
-ghost use Rattle.ifmap_elem.specs.declared.elements.Child.{out-Child};
 ghost use Rattle.ifmap_ident.specs.Parts.{has_only, is_known};
-ghost use Rattle.ifmap_forms.specs.Tables.{is_white_part, parts_in};
+ghost use Rattle.ifmap_elem.specs.WhiteSpace.{is_blank, is_blank_part};
+ghost use Rattle.ifmap_forms.specs.Tables.{parts_in};
 
+use ifmap_elem::white_space::is_blank;
 use ifmap_elem::{Attribute, Child, Element};
 
 /// Whether each attribute of the element has one of these local names or is in a namespace.
@@ -40,37 +40,13 @@ fn is_among(locals: &[&str], local: &str) -> bool
 
 /// Whether all these children are texts of white space alone, or there is none.
 pub fn are_blank(children: &[Child]) -> bool
-    ensures { result ≡ list_all is_white_part (parts_in children.now) }
+    ensures { result ≡ list_all is_blank_part (parts_in children.now) }
 {
     all_blank(children)
 }
 
 fn all_blank(children: &[Child]) -> bool
-    ensures { result ≡ list_all (λ child. is_white_part (out-Child child)) children.now }
+    ensures { result ≡ list_all is_blank children.now }
 {
     children.iter().all(is_blank)
-}
-
-/// Whether the child is a text of white space alone.
-pub fn is_blank(child: &Child) -> bool
-    ensures { result ≡ is_white_part (out-Child child.now) }
-{
-    match child {
-        Child::Element(_) => false,
-        Child::Text(text) => is_white_alone(text.as_bytes()),
-    }
-}
-
-/// Whether all these bytes are white space, or there is none.
-pub fn is_white_alone(bytes: &[u8]) -> bool
-    ensures { result ≡ list_all is_white bytes.now }
-{
-    bytes.iter().all(|byte| is_white(*byte))
-}
-
-/// Whether the byte is white space (XML 1.0, section 2.3).
-pub fn is_white(byte: u8) -> bool
-    ensures { result ≡ is_white byte }
-{
-    matches!(byte, b' ' | b'\t' | b'\r' | b'\n')
 }

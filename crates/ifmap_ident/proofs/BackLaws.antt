@@ -18,6 +18,7 @@ use Rattle.ifmap_elem.specs.Spells.{Spells}
 use Rattle.ifmap_elem.specs.declared.elements.Child as the
 use Rattle.ifmap_elem.specs.declared.elements.Element.{Element}
 use Rattle.ifmap_elem.specs.declared.readings.Reading.{Reading}
+use Rattle.ifmap_elem.specs.WhiteSpace.{is_blank_part}
 use Rattle.ifmap_ident.specs.declared.identifiers.Identifier.{Identifier}
 use Rattle.ifmap_ident.specs.declared.identifiers.Identifier.TheVariants.{AccessRequest, Device, Identity, IpV4, IpV6, MacAddress}
 use Rattle.ifmap_ident.specs.declared.kinds.IdentityType.{IdentityType}
@@ -28,7 +29,7 @@ use Rattle.ifmap_ident.specs.Canon.{HasParts, IsAccessRequest, IsCanon, IsDefini
 use Rattle.ifmap_ident.specs.Identifiers.{identifier_element, identifier_kind}
 use Rattle.ifmap_ident.specs.IdentityNames.{IsKeptName, domain_name, name_form}
 use Rattle.ifmap_ident.specs.Kinds.{allowed_attributes, identity_type_name, kind_name}
-use Rattle.ifmap_ident.specs.Parts.{has_only, is_blank_inside, is_blank_part, is_solid, value_of}
+use Rattle.ifmap_ident.specs.Parts.{has_only, is_blank_inside, is_solid, value_of}
 use Rattle.ifmap_ident.proofs.DotLaws.{domain_again}
 use Rattle.ifmap_ident.proofs.SpelledLaws.{spelled_again}
 use Rattle.ifmap_elem.specs.laws.ArrangedLaws.{out_element}

@@ -1,13 +1,12 @@
 -- What the element of an identifier can have in it.
-use Rattle.std.specs.Prelude.{ℕ, List, [], Bool, false, not, ◌||◌, Option, option_map}
+use Rattle.std.specs.Prelude.{ℕ, List, [], Bool, not, ◌||◌, Option, option_map}
 use Rattle.std.specs.List.{filter, find, list_all, list_any}
 use Rattle.std.specs.Str.{bytes_eq}
 use Rattle.ifmap_elem.specs.Building.{is_bare}
-use Rattle.ifmap_elem.specs.Chars.{is_white}
+use Rattle.ifmap_elem.specs.WhiteSpace.{is_blank}
 use Rattle.ifmap_elem.specs.declared.elements.Attribute.{Attribute}
-use Rattle.ifmap_elem.specs.declared.elements.Child.{Child, out-Child}
+use Rattle.ifmap_elem.specs.declared.elements.Child.{Child}
 use Rattle.ifmap_elem.specs.declared.elements.Element.{Element}
-use Rattle.ifmap_elem.specs.declared.elements.Child.TheOpen.{Child-F}
 
 -- the value of the attribute of this local name in no namespace, if there is one
 abbrev pub value_of : List ℕ → Element → Option (List ℕ)
@@ -16,14 +15,6 @@ value_of local e = option_map (λ a. a.value) (find (λ a. is_bare local a.name)
 -- the attribute has a namespace, or one of these names
 abbrev pub is_known : List (List ℕ) → Attribute → Bool
 is_known locals a = not (bytes_eq a.name.space []) || list_any (bytes_eq a.name.local) locals
-
-abbrev pub is_blank_part : Child-F Child Element → Bool
-is_blank_part (Child-F.Element e) = false
-is_blank_part (Child-F.Text text) = list_all is_white text
-
--- the child is a text of white space alone
-abbrev pub is_blank : Child → Bool
-is_blank child = is_blank_part (out-Child child)
 
 -- no attribute but these and those of a namespace
 abbrev pub has_only : List (List ℕ) → Element → Bool

@@ -1,16 +1,16 @@
 //! What the element of an identifier has in it.
 ghost use Rattle.std.specs.Prelude.{◌≡◌, [], ◌∷◌, ℕ, List, IfSome, IsNone, IfOk, option_copied};
-ghost use Rattle.std.specs.List.{filter, find, list_all, list_any};
+ghost use Rattle.std.specs.List.{filter, find, list_any};
 ghost use Rattle.std.specs.Str.{bytes_eq};
 ghost use Rattle.ifmap_elem.specs.Building.{is_bare};
-ghost use Rattle.ifmap_elem.specs.Chars.{is_white};
 ghost use Rattle.ifmap_elem.specs.declared.elements.Child;
 ghost use Rattle.ifmap_elem.specs.declared.elements.Child.{Child};
 ghost use Rattle.ifmap_ident.specs.Canon.{domain_of};
 ghost use Rattle.ifmap_ident.specs.Kinds.{allowed_attributes};
-ghost use Rattle.ifmap_ident.specs.Parts.{has_only, is_blank, is_blank_inside, is_known, is_solid, value_of};
+ghost use Rattle.ifmap_ident.specs.Parts.{has_only, is_blank_inside, is_known, is_solid, value_of};
 
 use crate::kinds::Kind;
+use ifmap_elem::white_space::is_blank;
 use ifmap_elem::{Attribute, Child, Copied, Element, Text};
 use std::alloc::{AllocError as NoMemory, Global};
 
@@ -122,26 +122,4 @@ pub(crate) fn only_text(children: &[Child]) -> Option<&Text>
         Child::Element(_) => None,
         Child::Text(text) => Some(text),
     }
-}
-
-// Whether it is a text of white space alone.
-fn is_blank(child: &Child) -> bool
-    ensures { result ≡ is_blank child.now }
-{
-    match child {
-        Child::Element(_) => false,
-        Child::Text(text) => is_white_alone(text.as_bytes()),
-    }
-}
-
-fn is_white_alone(bytes: &[u8]) -> bool
-    ensures { result ≡ list_all is_white bytes.now }
-{
-    bytes.iter().all(|byte| is_white(*byte))
-}
-
-fn is_white(byte: u8) -> bool
-    ensures { result ≡ is_white byte }
-{
-    matches!(byte, b' ' | b'\t' | b'\r' | b'\n')
 }

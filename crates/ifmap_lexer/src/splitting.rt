@@ -6,6 +6,7 @@ ghost use Rattle.ifmap_elem.specs.Chars.{AllAre, is_white};
 ghost use Rattle.ifmap_elem.specs.Tokens.{Lacks};
 ghost use Rattle.ifmap_lexer.specs.Cutting.{Cuts, CutsAt, CutsWord, is_but};
 
+use ifmap_elem::white_space::is_white;
 use memchr::{memchr, memmem};
 
 // The white space at the front, and what is left.
@@ -19,12 +20,6 @@ fn white_len(bytes: &[u8]) -> usize
     ensures { result ≡ prefix_len is_white bytes.now }
 {
     bytes.iter().take_while(|byte| is_white(**byte)).count()
-}
-
-pub(crate) fn is_white(byte: u8) -> bool
-    ensures { result ≡ is_white byte }
-{
-    byte == b' ' || byte == b'\t' || byte == b'\r' || byte == b'\n'
 }
 
 // The bytes before the first such byte, and what is left.

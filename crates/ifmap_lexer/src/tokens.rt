@@ -1,7 +1,5 @@
 //! Each kind of token by itself.
 ghost use Rattle.std.specs.Prelude.{◌≡◌, List, ℕ, IfErr, IfOk, IfSome};
-ghost use Rattle.std.specs.List.{list_all};
-ghost use Rattle.ifmap_elem.specs.Chars.{is_white};
 ghost use Rattle.ifmap_elem.specs.Tokens.{TakesToken};
 ghost use Rattle.ifmap_elem.specs.declared.tokens.Token.{Token};
 ghost use Rattle.ifmap_lexer.specs.There.{SomeToken, end_of};
@@ -14,11 +12,12 @@ use crate::errors::LexError;
 use crate::kinds::kind_at;
 use crate::names::{after_ascii_name, name_of};
 use crate::splitting::{
-    after_word, has_section_end, is_white, split_byte, split_white, split_word,
+    after_word, has_section_end, split_byte, split_white, split_word,
 };
 use crate::tags::tag_of;
 use crate::values::{Place, meaning, plain_meaning};
 use ifmap_elem::tokens::{Token, TokenKind};
+use ifmap_elem::white_space::is_white_alone;
 use std::alloc::Global;
 
 // The token at the front, and what is left.
@@ -139,15 +138,9 @@ fn text(alloc: Global, bytes: &[u8]) -> Result<(Token, &[u8]), LexError>
     let meant = meaning(alloc, Place::CharacterData, written)?;
     Ok((
         Token::Characters {
-            blank: is_blank(own),
+            blank: is_white_alone(own),
             text: meant,
         },
         rest,
     ))
-}
-
-fn is_blank(bytes: &[u8]) -> bool
-    ensures { result ≡ list_all is_white bytes.now }
-{
-    bytes.iter().all(|byte| is_white(*byte))
 }

@@ -1,13 +1,12 @@
 //! The elements that are open.
 ghost use Rattle.std.specs.Prelude.{◌≡◌, ◌↔◌, ◌∷◌, [], ◌++◌, map, length, IfOk, IsTrue, OnOk};
-ghost use Rattle.std.specs.List.{list_all};
-ghost use Rattle.ifmap_elem.specs.Chars.{is_white};
 ghost use Rattle.ifmap_elem.specs.Document.{from_above};
 ghost use Rattle.ifmap_reader.specs.OpenElements.{Closes, is_child_text, text_child, with_inner, with_characters, written_name};
 
 use crate::bindings::Bindings;
 use crate::declarations::TurnedDeclarations;
 use ifmap_elem::tokens::Qualified;
+use ifmap_elem::white_space::is_white_alone;
 use ifmap_elem::{Attribute, Child, Element, Equals, Many, Name, Text};
 use std::alloc::{AllocError as NoMemory, Global};
 use std::mem;
@@ -116,17 +115,10 @@ fn is_kept_text(beside: bool, text: &[u8]) -> bool
     ensures { result ≡ is_child_text beside text.now }
 {
     if beside {
-        !is_blank(text)
+        !is_white_alone(text)
     } else {
         !text.is_empty()
     }
-}
-
-// Whether a text is white space alone.
-fn is_blank(text: &[u8]) -> bool
-    ensures { result ≡ list_all is_white text.now }
-{
-    text.iter().all(|b| *b == b' ' || *b == b'\t' || *b == b'\r' || *b == b'\n')
 }
 
 // Puts a child after the others. The first takes room for itself alone, since most elements hold

@@ -24,7 +24,8 @@ use Rattle.ifmap_forms.specs.CheckLaws.{fail_done, need_done, pass_done, some_do
 use Rattle.ifmap_forms.specs.Checks.{Check, IsConclusive, check_then, need, need_some, pass}
 use Rattle.ifmap_forms.specs.Items.{before_list, from_list, identifier_check, identifiers_check, item_of, list_if_there, list_check, may_follow}
 use Rattle.ifmap_forms.specs.Scopes.{Scopes}
-use Rattle.ifmap_forms.specs.Tables.{ContentCheck, Form, Part, AttributeTable, beside, both, each_element, form_check, is_white_part, no_attributes}
+use Rattle.ifmap_elem.specs.WhiteSpace.{is_blank_part}
+use Rattle.ifmap_forms.specs.Tables.{ContentCheck, Form, Part, AttributeTable, beside, both, each_element, form_check, no_attributes}
 use Rattle.ifmap_forms.specs.Tables.{members_check, no_children, element_parts, read_form}
 use Rattle.ifmap_forms.specs.Values.{Field, field_check, read_text, text_field}
 use Rattle.ifmap_replies.specs.declared.kinds.PollKind.{PollKind}
@@ -130,15 +131,15 @@ module _ {X : Type 0} (one : Element → Check X) (s : (e : Element) → IsConcl
   list_at_done : (parts : List Part) → IsConclusive (list_if_there one parts)
   list_at_done [] = pass_done None
   list_at_done (Child-F.Element e ∷ after) =
-      then_done (list_check one e) (λ xs. need (list_all is_white_part after) Failure (pass (Some xs)))
-      (λ xs is. need_done (list_all is_white_part after) Failure (pass (Some xs)) (pass_done (Some xs))) (list_done e)
+      then_done (list_check one e) (λ xs. need (list_all is_blank_part after) Failure (pass (Some xs)))
+      (λ xs is. need_done (list_all is_blank_part after) Failure (pass (Some xs)) (pass_done (Some xs))) (list_done e)
   list_at_done (Child-F.Text text ∷ after) = fail_done Failure
 
 no_attributes_done : SomeOfTable no_attributes
 no_attributes_done scope e = pass_done tt
 
 no_children_done : SomeOfContent no_children
-no_children_done scopes parts = need_done (list_all is_white_part parts) Failure (pass tt) (pass_done tt)
+no_children_done scopes parts = need_done (list_all is_blank_part parts) Failure (pass tt) (pass_done tt)
 
 -- ---- values
 

@@ -40,7 +40,8 @@ use Rattle.ifmap_forms.specs.Checks.{Check, IsConclusive, check_if, check_then, 
 use Rattle.ifmap_forms.specs.Items.{before_list, from_list, identifier_check, identifiers_check, item_content, item_of, list_if_there, list_check}
 use Rattle.ifmap_forms.specs.Items.{may_follow, only_identifier, start_content}
 use Rattle.ifmap_forms.specs.Scopes.{Scopes, scopes_below}
-use Rattle.ifmap_forms.specs.Tables.{ContentCheck, Form, Part, AttributeTable, beside, both, each_element, form_or, is_white_part, list_of, no_attributes}
+use Rattle.ifmap_elem.specs.WhiteSpace.{is_blank_part}
+use Rattle.ifmap_forms.specs.Tables.{ContentCheck, Form, Part, AttributeTable, beside, both, each_element, form_or, list_of, no_attributes}
 use Rattle.ifmap_forms.specs.Tables.{no_children, element_parts, read_form}
 use Rattle.ifmap_forms.specs.Values.{greatest_limit, greatest_size, least_limit, longest_name, usual_size}
 use Rattle.ifmap_forms.specs.Values.{Field, depth_field, field_check, filter_check, filter_field, kind_named, kinds_check, kinds_field}
@@ -130,7 +131,7 @@ module _ (most : ℕ) where
         need_done (list_all is_white text) Failure (each_element one (index + 1) parts) (each_done (index + 1) parts sound.1)
 
   no_children_done : ContentDone no_children
-  no_children_done scopes parts sound = need_done (list_all is_white_part parts) Failure (pass tt) (pass_done tt)
+  no_children_done scopes parts sound = need_done (list_all is_blank_part parts) Failure (pass tt) (pass_done tt)
 
 -- ---- 3. values
 
@@ -222,8 +223,8 @@ module _ (most : ℕ) where
   list_at_done : (parts : List Part) → AreSound most parts → IsConclusive (list_if_there metadata_check parts)
   list_at_done [] sound = pass_done None
   list_at_done (Child-F.Element e ∷ after) sound =
-      then_done (list_check metadata_check e) (λ xs. need (list_all is_white_part after) Failure (pass (Some xs)))
-      (λ xs found. need_done (list_all is_white_part after) Failure (pass (Some xs)) (pass_done (Some xs)))
+      then_done (list_check metadata_check e) (λ xs. need (list_all is_blank_part after) Failure (pass (Some xs)))
+      (λ xs found. need_done (list_all is_blank_part after) Failure (pass (Some xs)) (pass_done (Some xs)))
       (list_done e sound.0)
   list_at_done (Child-F.Text text ∷ after) sound = fail_done Failure
 

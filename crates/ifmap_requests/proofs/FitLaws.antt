@@ -34,7 +34,8 @@ use Rattle.ifmap_forms.specs.Items.{before_list, from_list, identifier_check, id
 use Rattle.ifmap_forms.specs.Items.{may_follow, only_identifier, start_content}
 use Rattle.ifmap_forms.specs.Scopes.{Scopes, scopes_below}
 use Rattle.ifmap_forms.specs.Tables.{Both, ContentCheck, Form, OneText, Part, AttributeTable, beside, both, each_element, form_check, form_or}
-use Rattle.ifmap_forms.specs.Tables.{is_white_part, list_of, no_attributes, no_children, element_parts, read_form}
+use Rattle.ifmap_elem.specs.WhiteSpace.{is_blank_part}
+use Rattle.ifmap_forms.specs.Tables.{list_of, no_attributes, no_children, element_parts, read_form}
 use Rattle.ifmap_forms.specs.ifmap_filter.declared.filters.Filter.{Filter}
 use Rattle.ifmap_ident.specs.declared.kinds.Kind.{Kind}
 use Rattle.ifmap_forms.specs.Values.{greatest_limit, least_limit, longest_name}
@@ -290,8 +291,8 @@ module _ (made : MakesMetadata) where
   list_at_gives [] s = pass_gives MayBeMetadata None tt
   list_at_gives (Child-F.Element e ∷ after) s =
       then_gives AreMetadata MayBeMetadata (list_check metadata_check e)
-      (λ xs. need (list_all is_white_part after) Failure (pass (Some xs))) (list_gives e s.0)
-      (λ xs p. need_gives MayBeMetadata (list_all is_white_part after) Failure (pass (Some xs)) (pass_gives MayBeMetadata (Some xs) p))
+      (λ xs. need (list_all is_blank_part after) Failure (pass (Some xs))) (list_gives e s.0)
+      (λ xs p. need_gives MayBeMetadata (list_all is_blank_part after) Failure (pass (Some xs)) (pass_gives MayBeMetadata (Some xs) p))
   list_at_gives (Child-F.Text text ∷ after) s = fail_gives MayBeMetadata Failure
 
   from_gives : (identifiers : List Identifier) (list : Option (List Metadata)) → AreIdentifiers identifiers → MayBeMetadata list

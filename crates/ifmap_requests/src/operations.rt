@@ -9,10 +9,11 @@ ghost use Rattle.ifmap_requests.specs.RequestForms.{delete_form, delete_from_for
 
 use crate::metadata::read_published;
 use crate::publishing::PublishOp;
+use ifmap_elem::white_space::is_white_alone;
 use ifmap_elem::{Child, Element, Many, Name};
 use ifmap_forms::gathering::keep_found;
 use ifmap_forms::identifiers::read_item;
-use ifmap_forms::parts::{has_only, is_white_alone};
+use ifmap_forms::parts::has_only;
 use ifmap_forms::values::{read_filter, read_lifetime};
 use ifmap_forms::{FormError, MessagePlace};
 use ifmap_ident::Code;

@@ -9,9 +9,10 @@ ghost use Rattle.ifmap_requests.specs.RequestForms.{end_form, end_from_form, sub
 
 use crate::requests::SubscribeOp;
 use crate::searching::read_search;
+use ifmap_elem::white_space::is_white_alone;
 use ifmap_elem::{Child, Element, Many};
 use ifmap_forms::gathering::keep_found;
-use ifmap_forms::parts::{are_blank, has_only, is_white_alone};
+use ifmap_forms::parts::{are_blank, has_only};
 use ifmap_forms::values::read_name;
 use ifmap_forms::{FormError, MessagePlace};
 use ifmap_ident::Code;

@@ -6,7 +6,8 @@ use Rattle.ifmap_ident.specs.declared.codes.Code.TheVariants.{Failure}
 use Rattle.ifmap_forms.specs.declared.errors.FormError.TheVariants.{Named}
 use Rattle.ifmap_forms.specs.AnswerLaws.{found_alone, found_beside, found_form, refused_alone, refused_at_attributes, refused_at_content}
 use Rattle.ifmap_forms.specs.AnswerLaws.{refused_at_field, refused_at_others, refused_beside, refused_exit}
-use Rattle.ifmap_forms.specs.Tables.{beside, both, form_check, is_white_part, no_attributes, parts_in}
+use Rattle.ifmap_elem.specs.WhiteSpace.{is_blank_part}
+use Rattle.ifmap_forms.specs.Tables.{beside, both, form_check, no_attributes, parts_in}
 use Rattle.ifmap_forms.specs.Values.{Field, field_check, text_field}
 use Rattle.ifmap_replies.specs.Fields.{word_field}
 use Rattle.ifmap_replies.specs.ResultForms.{session_result_form, new_session_made, no_scopes}
@@ -79,7 +80,7 @@ returns-then-not-are_blank c =
     (both c.in_ok-publisher.publisher (both c.in_ok-limit.limit (both c.in_ok-session.session tt)))
     (attributes_found e c.in_ok-publisher.publisher c.in_ok-limit.limit c.in_ok-session.session c.in_ok-publisher.ensures
     c.in_ok-limit.ensures c.in_ok-session.ensures) (Named Failure) (sym c.has_only.ensures ∙ c.if-not-has_only.false)
-    (other_children no_scopes e (ap (λ (cs : List Child). list_all is_white_part (parts_in cs)) (sym c.as_slice.ensures)
+    (other_children no_scopes e (ap (λ (cs : List Child). list_all is_blank_part (parts_in cs)) (sym c.as_slice.ensures)
     ∙ (sym c.are_blank.ensures ∙ c.if-not-are_blank.true)))
 
 pub returns : goal.returns
@@ -89,5 +90,5 @@ returns c =
     (both c.in_ok-publisher.publisher (both c.in_ok-limit.limit (both c.in_ok-session.session tt)))
     (attributes_found e c.in_ok-publisher.publisher c.in_ok-limit.limit c.in_ok-session.session c.in_ok-publisher.ensures
     c.in_ok-limit.ensures c.in_ok-session.ensures) tt (sym c.has_only.ensures ∙ c.if-not-has_only.false)
-    (blank_children no_scopes e (ap (λ (cs : List Child). list_all is_white_part (parts_in cs)) (sym c.as_slice.ensures)
+    (blank_children no_scopes e (ap (λ (cs : List Child). list_all is_blank_part (parts_in cs)) (sym c.as_slice.ensures)
     ∙ (sym c.are_blank.ensures ∙ c.if-not-are_blank.false)))

@@ -4,7 +4,8 @@ use Rattle.ifmap_elem.specs.declared.elements.Child.{Child}
 use Rattle.ifmap_ident.specs.declared.codes.Code.TheVariants.{Failure}
 use Rattle.ifmap_forms.specs.declared.errors.FormError.TheVariants.{Named}
 use Rattle.ifmap_forms.specs.AnswerLaws.{found_alone, refused_alone, refused_exit}
-use Rattle.ifmap_forms.specs.Tables.{both, form_check, is_white_part, parts_in}
+use Rattle.ifmap_elem.specs.WhiteSpace.{is_blank_part}
+use Rattle.ifmap_forms.specs.Tables.{both, form_check, parts_in}
 use Rattle.ifmap_forms.specs.Values.{limit_field}
 use Rattle.ifmap_requests.specs.RequestForms.{new_session_form, new_session_of}
 use Rattle.ifmap_requests.proofs.FormLaws.{made_of_form, read_no_attributes, read_no_content, read_others}
@@ -35,7 +36,7 @@ returns-then-not-are_blank c = λ scopes.
     (read_no_content new_session_form scopes e (both c.in_ok-limit.limit tt)
     (found_alone limit_field (scopes []) e c.in_ok-limit.limit c.in_ok-limit.ensures.answer) (Named Failure)
     (sym c.has_only.ensures ∙ c.if-not-has_only.false)
-    (other_children scopes e (ap (λ (cs : List Child). list_all is_white_part (parts_in cs)) (sym c.as_slice.ensures)
+    (other_children scopes e (ap (λ (cs : List Child). list_all is_blank_part (parts_in cs)) (sym c.as_slice.ensures)
     ∙ (sym c.are_blank.ensures ∙ c.if-not-are_blank.true)))))
 
 pub returns : goal.returns
@@ -45,5 +46,5 @@ returns c = λ scopes.
     (read_whole new_session_form scopes e (both c.in_ok-limit.limit tt)
     (found_alone limit_field (scopes []) e c.in_ok-limit.limit c.in_ok-limit.ensures.answer) tt
     (sym c.has_only.ensures ∙ c.if-not-has_only.false)
-    (blank_children scopes e (ap (λ (cs : List Child). list_all is_white_part (parts_in cs)) (sym c.as_slice.ensures)
+    (blank_children scopes e (ap (λ (cs : List Child). list_all is_blank_part (parts_in cs)) (sym c.as_slice.ensures)
     ∙ (sym c.are_blank.ensures ∙ c.if-not-are_blank.false))))

@@ -4,7 +4,8 @@ use Rattle.ifmap_elem.specs.declared.elements.Child.{Child}
 use Rattle.ifmap_ident.specs.declared.codes.Code.TheVariants.{Failure}
 use Rattle.ifmap_forms.specs.declared.errors.FormError.TheVariants.{Named}
 use Rattle.ifmap_forms.specs.AnswerLaws.{found_alone, found_beside, refused_alone, refused_at_field, refused_beside, refused_exit}
-use Rattle.ifmap_forms.specs.Tables.{beside, both, form_check, is_white_part, no_attributes, parts_in}
+use Rattle.ifmap_elem.specs.WhiteSpace.{is_blank_part}
+use Rattle.ifmap_forms.specs.Tables.{beside, both, form_check, no_attributes, parts_in}
 use Rattle.ifmap_requests.specs.RequestForms.{publisher_field, purge_form, purge_of, session_field}
 use Rattle.ifmap_requests.proofs.FormLaws.{made_of_form, read_no_attributes, read_no_content, read_others}
 use Rattle.ifmap_requests.proofs.FormLaws.{read_whole, refused_form}
@@ -48,7 +49,7 @@ returns-then-not-are_blank c = λ scopes.
     (both c.in_ok-publisher.publisher tt) c.in_ok-session.ensures
     (found_alone publisher_field (scopes []) e c.in_ok-publisher.publisher c.in_ok-publisher.ensures)) (Named Failure)
     (sym c.has_only.ensures ∙ c.if-not-has_only.false)
-    (other_children scopes e (ap (λ (cs : List Child). list_all is_white_part (parts_in cs)) (sym c.as_slice.ensures)
+    (other_children scopes e (ap (λ (cs : List Child). list_all is_blank_part (parts_in cs)) (sym c.as_slice.ensures)
     ∙ (sym c.are_blank.ensures ∙ c.if-not-are_blank.true))))
 
 pub returns : goal.returns
@@ -60,5 +61,5 @@ returns c = λ scopes.
     (both c.in_ok-publisher.publisher tt) c.in_ok-session.ensures
     (found_alone publisher_field (scopes []) e c.in_ok-publisher.publisher c.in_ok-publisher.ensures)) tt
     (sym c.has_only.ensures ∙ c.if-not-has_only.false)
-    (blank_children scopes e (ap (λ (cs : List Child). list_all is_white_part (parts_in cs)) (sym c.as_slice.ensures)
+    (blank_children scopes e (ap (λ (cs : List Child). list_all is_blank_part (parts_in cs)) (sym c.as_slice.ensures)
     ∙ (sym c.are_blank.ensures ∙ c.if-not-are_blank.false))))

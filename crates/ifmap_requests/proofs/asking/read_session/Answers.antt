@@ -4,7 +4,8 @@ use Rattle.ifmap_elem.specs.declared.elements.Child.{Child}
 use Rattle.ifmap_ident.specs.declared.codes.Code.TheVariants.{Failure}
 use Rattle.ifmap_forms.specs.declared.errors.FormError.TheVariants.{Named}
 use Rattle.ifmap_forms.specs.AnswerLaws.{found_alone, refused_alone, refused_exit_as}
-use Rattle.ifmap_forms.specs.Tables.{both, is_white_part, parts_in, read_form}
+use Rattle.ifmap_elem.specs.WhiteSpace.{is_blank_part}
+use Rattle.ifmap_forms.specs.Tables.{both, parts_in, read_form}
 use Rattle.ifmap_requests.specs.RequestForms.{renew_form, session_alone, session_field}
 use Rattle.ifmap_requests.proofs.FormLaws.{read_no_attributes, read_no_content, read_others, read_whole}
 use Rattle.ifmap_requests.proofs.asking.read_session.Goals as goal
@@ -30,7 +31,7 @@ returns-then-not-are_blank c = λ scopes.
     (read_no_content renew_form scopes e (both c.in_ok-session.session tt)
     (found_alone session_field (scopes []) e c.in_ok-session.session c.in_ok-session.ensures) (Named Failure)
     (sym c.has_only.ensures ∙ c.if-not-has_only.false)
-    (other_children scopes e (ap (λ (cs : List Child). list_all is_white_part (parts_in cs)) (sym c.as_slice.ensures)
+    (other_children scopes e (ap (λ (cs : List Child). list_all is_blank_part (parts_in cs)) (sym c.as_slice.ensures)
     ∙ (sym c.are_blank.ensures ∙ c.if-not-are_blank.true))))
 
 pub returns : goal.returns
@@ -39,5 +40,5 @@ returns c = λ scopes.
     (read_whole renew_form scopes e (both c.in_ok-session.session tt)
     (found_alone session_field (scopes []) e c.in_ok-session.session c.in_ok-session.ensures) tt
     (sym c.has_only.ensures ∙ c.if-not-has_only.false)
-    (blank_children scopes e (ap (λ (cs : List Child). list_all is_white_part (parts_in cs)) (sym c.as_slice.ensures)
+    (blank_children scopes e (ap (λ (cs : List Child). list_all is_blank_part (parts_in cs)) (sym c.as_slice.ensures)
     ∙ (sym c.are_blank.ensures ∙ c.if-not-are_blank.false))))
