@@ -40,7 +40,7 @@ impl Moment {
     }
 
     // The moment of that many seconds, or the greatest.
-    pub(crate) fn nearest(seconds: u64) -> Moment
+    pub(crate) fn clamp_seconds(seconds: u64) -> Moment
         ensures { result ≡ min seconds last_moment }
     {
         Moment(seconds.min(Moment::LAST))
