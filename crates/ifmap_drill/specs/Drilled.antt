@@ -2,6 +2,7 @@
 use Rattle.std.specs.Prelude.{◌≡◌, ◌⊎◌, ℕ, List, Option, take}
 use Rattle.std.specs.Io.KnownBytes.{Appends, Keeps}
 use Rattle.ifmap_io.specs.Causes.{Rose}
+use Rattle.ifmap_io.specs.Statuses.{done_status, no_memory_status, write_fault_status}
 use Rattle.ifmap_core.specs.ifmap_machine.Agreeing.{Agrees}
 use Rattle.ifmap_core.specs.ifmap_machine.State.{session_seconds}
 use Rattle.ifmap_drill.specs.Drills.{drill_history}
@@ -18,15 +19,17 @@ side held faults = record { held = held; faults = faults }
 module _ (text : List ℕ) (before after : SinkSeen) where
   -- all of the text was written
   abbrev pub IsWritten : ℕ → Type 0
-  IsWritten status = (status ≡ 0) × Appends before.held after.held text
+  IsWritten status = (status ≡ done_status) × Appends before.held after.held text
 
   -- a write failed, and has written a prefix of the text
   abbrev pub IsCut : ℕ → Type 0
-  IsCut status = (status ≡ 5) × ((n : ℕ) × Appends before.held after.held (take n text)) × Rose before.faults after.faults
+  IsCut status =
+      (status ≡ write_fault_status) × ((n : ℕ) × Appends before.held after.held (take n text))
+      × Rose before.faults after.faults
 
   -- there was no memory, and nothing was written
   abbrev pub IsNothingWritten : ℕ → Type 0
-  IsNothingWritten status = (status ≡ 6) × Keeps before.held after.held
+  IsNothingWritten status = (status ≡ no_memory_status) × Keeps before.held after.held
 
   abbrev pub IsEnded : ℕ → Type 0
   IsEnded status = IsWritten status ⊎ (IsCut status ⊎ IsNothingWritten status)

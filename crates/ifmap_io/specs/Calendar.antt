@@ -3,6 +3,10 @@
 use Rattle.std.specs.Str.{byte}
 use Rattle.std.specs.Prelude.{ℕ, zero, suc, ◌+◌, ◌-◌, ◌*◌, ◌/◌, ◌%◌, ◌<◌, ◌≤◌, nat_le, Bool, not, ◌&&◌, ◌||◌, ◌==◌, if◌then◌else◌, List, [], ◌∷◌, ◌++◌, sum, take, slice_index, codes}
 
+-- the last second of the year 9999, which is the greatest moment
+abbrev pub last_moment : ℕ
+last_moment = 253_402_300_799
+
 -- each fourth year is a leap year, but of those that end a century only each fourth
 abbrev pub is_leap : ℕ → Bool
 is_leap year = (year % 4 == 0) && (not (year % 100 == 0) || (year % 400 == 0))

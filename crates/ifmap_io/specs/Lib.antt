@@ -4,6 +4,7 @@ pub mod Causes
 pub mod Doors
 pub mod Links
 pub mod Memory
+pub mod Statuses
 pub mod Tcp
 pub mod Written
 pub mod Rises

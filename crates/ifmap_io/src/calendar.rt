@@ -1,14 +1,14 @@
 //! The date and the time of day of a second, and their text.
 ghost use Rattle.std.specs.Prelude.{◌≡◌, ◌+◌, ◌*◌, ◌≤◌, ◌%◌, pos, unsigned_abs};
 ghost use Rattle.jiff.specs.Words.{civil_nanos};
-ghost use Rattle.ifmap_io.specs.Calendar.{civil_text, last_digit, two_digits};
+ghost use Rattle.ifmap_io.specs.Calendar.{civil_text, last_digit, last_moment, two_digits};
 
 use jiff::civil::{DateTime, datetime};
 use std::time::Duration;
 
 // The date and the time of the second, counted from 1970-01-01T00:00:00Z.
 pub(crate) fn civil_at(seconds: u64) -> DateTime
-    requires { seconds ≤ 253402300799 }
+    requires { seconds ≤ last_moment }
     ensures { civil_nanos result ≡ pos (seconds * 1000000000) }
 {
     datetime(1970, 1, 1, 0, 0, 0, 0) + Duration::from_secs(seconds)

@@ -69,7 +69,7 @@ impl Clock for MemoryClock {
         let pauses = self.pauses.load(Ordering::SeqCst);
         let passed = pauses.saturating_mul(self.step);
         let reached = self.first.seconds().saturating_add(passed);
-        Moment::nearest(reached.min(self.last.seconds()))
+        Moment::clamp_seconds(reached.min(self.last.seconds()))
     }
 
     fn pause(&self) {
@@ -98,7 +98,7 @@ impl<R: time::Clock> Clock for SystemClock<R> {
     ghost gives = { λ _ _. ⊤ };
 
     fn now(&self) -> Moment {
-        Moment::nearest(seconds_since_1970(&self.rt))
+        Moment::clamp_seconds(seconds_since_1970(&self.rt))
     }
 
     fn pause(&self) {

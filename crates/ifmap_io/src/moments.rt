@@ -1,7 +1,7 @@
 //! Moments, in seconds from 1970-01-01T00:00:00Z, without leap seconds.
 ghost use Rattle.std.specs.Prelude.{◌≡◌, ◌≤◌, min};
 ghost use Rattle.std.specs.Option.{SomeIff};
-ghost use Rattle.ifmap_io.specs.Calendar.{Civil, IsCivil, civil_text, moment_text, second_number};
+ghost use Rattle.ifmap_io.specs.Calendar.{Civil, IsCivil, civil_text, last_moment, moment_text, second_number};
 
 use crate::calendar::{civil_at, text_of};
 use std::marker::Model;
@@ -13,12 +13,13 @@ pub struct Moment(u64);
 
 impl Model for Moment {
     ghost use Rattle.std.specs.Prelude.{ℕ, ◌≤◌};
+    ghost use Rattle.ifmap_io.specs.Calendar.{last_moment};
 
     ghost Value = { ℕ };
 
     ghost view = { λ moment. moment.0 };
 
-    ghost invariant = { λ moment. moment.0 ≤ 253402300799 };
+    ghost invariant = { λ moment. moment.0 ≤ last_moment };
 
     ghost inverse = { λ seconds. record { 0 = seconds } };
 }
@@ -29,7 +30,7 @@ impl Moment {
 
     /// The moment of that many seconds; None exactly above 253402300799.
     pub fn new(seconds: u64) -> Option<Moment>
-        ensures { SomeIff result (seconds ≤ 253402300799) seconds }
+        ensures { SomeIff result (seconds ≤ last_moment) seconds }
     {
         if seconds <= Moment::LAST {
             Some(Moment(seconds))
@@ -39,8 +40,8 @@ impl Moment {
     }
 
     // The moment of that many seconds, or the greatest.
-    pub(crate) fn nearest(seconds: u64) -> Moment
-        ensures { result ≡ min seconds 253402300799 }
+    pub(crate) fn clamp_seconds(seconds: u64) -> Moment
+        ensures { result ≡ min seconds last_moment }
     {
         Moment(seconds.min(Moment::LAST))
     }
@@ -48,7 +49,7 @@ impl Moment {
     /// Its seconds, at most 253402300799.
     pub fn seconds(&self) -> u64
         ensures value { result ≡ self.now }
-        ensures bound { result ≤ 253402300799 }
+        ensures bound { result ≤ last_moment }
     {
         self.0
     }

@@ -5,6 +5,7 @@ use Rattle.ifmap_command.specs.declared.forms.Form.{Form}
 use Rattle.ifmap_command.specs.declared.forms.Form.TheVariants as form
 use Rattle.ifmap_command.specs.Words.{Asks}
 use Rattle.ifmap_drill.specs.Drilled.{Drills, side}
+use Rattle.ifmap_io.specs.Statuses.{no_memory_status}
 use Rattle.ifmap_program.specs.Usage.{TellsUsage}
 use Rattle.ifmap_server.specs.Ends.{SourceAndSink}
 use Rattle.ifmap_server.specs.Replayed.{Replays}
@@ -16,9 +17,9 @@ use Rattle.ifmap_serving.specs.Works.{DoorSeen}
 pub record ServesStands {D G : Type 0} (gives : ℕ → Type 0) (see : D → DoorSeen) (key : List ℕ) (before after : List (Stand D G))
     (status : ℕ)
     : Type 0 where
-  pub unserved : status ≡ 6 → AreUnserved before after
-  pub served : status ≢ 6 → AreServed gives see key before after
-  pub told : status ≢ 6 → status ≡ status_of after
+  pub unserved : status ≡ no_memory_status → AreUnserved before after
+  pub served : status ≢ no_memory_status → AreServed gives see key before after
+  pub told : status ≢ no_memory_status → status ≡ status_of after
 
 -- what contracts see of the outside at one moment: a source and a sink, and the stands
 pub record Outside (D G : Type 0) : Type 0 where
@@ -64,7 +65,8 @@ module _ {D G : Type 0} where
     Does (form.Serve address workers) status before after = ServesAs workers status before after
     Does form.Wrong status before after = TellsOnlyUsage status before after
     Does form.NoMemory status before after =
-        (status ≡ 6) × ServesNothing before after × ReadsNothing before after × WritesNothing before after
+        (status ≡ no_memory_status) × ServesNothing before after × ReadsNothing before after
+        × WritesNothing before after
 
     -- the words ask for that, and it was done
     abbrev pub Runs : List (List ℕ) → ℕ → Outside D G → Outside D G → Type 0

@@ -14,9 +14,10 @@ use Rattle.uuid.specs.Text.{lower, parsed, hex_digit, nibble}
 use Rattle.uuid.proofs.TextLemmas.{by_index_length, by_index_at, nibble_small}
 use Rattle.uuid.proofs.RoundTrips.{parses_simple}
 use Rattle.uuid.proofs.OrderLemmas.{from_be_bytes-to_be_bytes_16}
+use Rattle.ifmap_io.specs.Calendar.{last_moment}
 use Rattle.ifmap_meta.specs.ClientNames.{IsClientName, is_client_byte}
 use Rattle.ifmap_server.specs.declared.headers.Header.{Header}
-use Rattle.ifmap_server.specs.Frames.{IsHeader, header_text, last_moment, longest_body, word_text}
+use Rattle.ifmap_server.specs.Frames.{IsHeader, header_text, longest_body, word_text}
 use Rattle.ifmap_server.proofs.Splits.{Without, without_from, without_at, without_append, before, after, before_at, after_at}
 
 -- a header within its limits

@@ -6,11 +6,12 @@ use Rattle.std.specs.List.{list_all}
 use Rattle.std.proofs.lemmas.Bool.{cases_lt}
 use Rattle.ifmap_lemmas.specs.Deciding.{Decided, by_length, decided_both, decided_by, decided_test, same_or_not, within_or_not}
 use Rattle.ifmap_input.specs.Scripts.{longest_script}
+use Rattle.ifmap_io.specs.Calendar.{last_moment}
 use Rattle.ifmap_meta.specs.ClientNames.{IsClientName, is_client_byte}
 use Rattle.ifmap_requests.specs.declared.errors.Refusal.TheVariants.{Unreadable}
 use Rattle.ifmap_requests.specs.Laws.{SomeMeaning}
 use Rattle.ifmap_server.specs.declared.headers.Header.{Header}
-use Rattle.ifmap_server.specs.Frames.{Frame, IsFrame, Meaning, frame_text, last_moment, longest_body}
+use Rattle.ifmap_server.specs.Frames.{Frame, IsFrame, Meaning, frame_text, longest_body}
 use Rattle.ifmap_server.specs.Output.{IsOutput, answers, fault_line}
 use Rattle.ifmap_server.specs.Script.{BeginsFrame, IsScript, IsScriptFrom}
 use Rattle.ifmap_server.specs.Turns.{frame_of}

@@ -4,6 +4,7 @@ use Rattle.std.specs.Fmt.{decimal}
 use Rattle.std.specs.Int.{to_be_bytes, w128}
 use Rattle.uuid.specs.Text.{lower, simple_text}
 use Rattle.ifmap_elem.specs.Chars.{line_feed, space_character}
+use Rattle.ifmap_io.specs.Calendar.{last_moment}
 use Rattle.ifmap_meta.specs.ClientNames.{IsClientName}
 use Rattle.ifmap_requests.specs.declared.errors.Refusal.{Refusal}
 use Rattle.ifmap_requests.specs.declared.requests.Request.{Request}
@@ -21,10 +22,6 @@ pub record Frame : Type 0 where
   pub random : ℕ
   pub body : List ℕ
   pub meaning : Meaning
-
--- the last moment that a frame can have, in seconds, which is the last second of the year 9999
-abbrev pub last_moment : ℕ
-last_moment = 253_402_300_799
 
 -- how many bytes a body has at most
 abbrev pub longest_body : ℕ

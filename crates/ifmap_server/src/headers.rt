@@ -4,9 +4,10 @@ ghost use Rattle.std.specs.Fmt.{decimal};
 ghost use Rattle.std.specs.Option.{MatchOption};
 ghost use Rattle.std.specs.Str.{IsUtf8};
 ghost use Rattle.ifmap_elem.specs.Chars.{space_character};
+ghost use Rattle.ifmap_io.specs.Calendar.{last_moment};
 ghost use Rattle.ifmap_server.specs.declared.headers.Header.{Header};
 ghost use Rattle.ifmap_server.specs.Characters.{at_sign};
-ghost use Rattle.ifmap_server.specs.Frames.{IsHeader, last_moment, longest_body, word_text};
+ghost use Rattle.ifmap_server.specs.Frames.{IsHeader, longest_body, word_text};
 ghost use Rattle.ifmap_server.specs.Lines.{AreWords, HasNoSpace};
 
 use ifmap_elem::Text;

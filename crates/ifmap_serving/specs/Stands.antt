@@ -11,6 +11,7 @@ use Rattle.ifmap_hall.specs.declared.hall.Hall.{Hall}
 use Rattle.ifmap_hall.specs.declared.view.HallView.{HallView}
 use Rattle.ifmap_hall.specs.Passes.{IsOf, view_of}
 use Rattle.ifmap_hall.specs.Views.{IsSoundView}
+use Rattle.ifmap_io.specs.Statuses.{done_status, link_fault_status}
 use Rattle.ifmap_desks.specs.ifmap_machine.declared.events.Answer.{Answer}
 use Rattle.ifmap_desks.specs.ifmap_machine.State.{opening, session_seconds}
 use Rattle.ifmap_serving.specs.declared.stands.Stand.{Stand}
@@ -100,6 +101,7 @@ module _ {D G : Type 0} where
     pub stands : (i : ℕ) (d : Stand D G) → i < length before
         → IsStandServed gives see key hall i (slice_index_or before i d) (slice_index_or after i d)
 
-  -- 7 where a stand has that status, and else 0
+  -- that of a fault of a link where a stand has that status, and else that of a run that is done
   abbrev pub status_of : List (Stand D G) → ℕ
-  status_of stands = if list_any (λ (s : Stand D G). s.status == 7) stands then 7 else 0
+  status_of stands =
+      if list_any (λ (s : Stand D G). s.status == link_fault_status) stands then link_fault_status else done_status

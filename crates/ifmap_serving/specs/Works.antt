@@ -2,6 +2,7 @@
 use Rattle.std.specs.Prelude.{◌≡◌, ℕ, ◌-◌, ◌≤◌, ◌⊎◌, List, [], ◌++◌, Option, None, Some, IfSome, IsNone, flat_map, length, map, take}
 use Rattle.ifmap_io.specs.Causes.{Rose}
 use Rattle.ifmap_io.specs.Doors.{Doorway}
+use Rattle.ifmap_io.specs.Statuses.{done_status, link_fault_status}
 use Rattle.ifmap_desks.specs.ifmap_dialogue.Desks.{DeskTakesTurns}
 use Rattle.ifmap_serving.specs.Connections.{Connection, FollowOn, Worker}
 
@@ -34,7 +35,8 @@ pub record Works {H : Type 0} (gives : ℕ → Type 0) (before after : Worker H)
   pub led : DoorPassesThrough connections door.links left.links
   pub later : door.faults ≤ left.faults
 
--- work ended with status 0 where no link was left, and with 7 where `accept` failed
+-- work ended as done where no link was left, and with a fault of a link where `accept` failed
 abbrev pub IsWorkStatus : DoorSeen → DoorSeen → ℕ → Type 0
 IsWorkStatus door left status =
-    ((status ≡ 0) × IfSome left.links (λ doorway. doorway.left ≡ [])) ⊎ ((status ≡ 7) × Rose door.faults left.faults)
+    ((status ≡ done_status) × IfSome left.links (λ doorway. doorway.left ≡ []))
+    ⊎ ((status ≡ link_fault_status) × Rose door.faults left.faults)

@@ -2,6 +2,7 @@
 ghost use Rattle.std.specs.Prelude.{◌≡◌, ◌≢◌, ◌≤◌, ◌<◌, ◌==◌, ℕ, IfOk, OnOk, OnErr, length, slice_index_or};
 ghost use Rattle.std.specs.List.{list_any};
 ghost use Rattle.ifmap_hall.specs.Passes.{IsOf, view_of};
+ghost use Rattle.ifmap_io.specs.Statuses.{link_fault_status, no_memory_status};
 ghost use Rattle.ifmap_serving.specs.declared.stands.Stand.{Stand};
 ghost use Rattle.ifmap_serving.specs.Stands.{AreReady, AreServed, AreUnserved, HasUnusedPass, OpensServer};
 ghost use Rattle.ifmap_serving.specs.Stands.{IsStandServed, ServerHall, WorksBy, status_of, words_at};
@@ -50,10 +51,10 @@ pub fn serve<R: Threads + Wait + Sync, D: Door + Send, C: Clock + Sync, G: Gate 
 ) -> u8
     requires some { 1 ≤ length stands.old }
     requires few { length stands.old ≤ 256 }
-    ensures unserved { result ≡ 6 → AreUnserved stands.old stands.new }
-    ensures served { result ≢ 6
+    ensures unserved { result ≡ no_memory_status → AreUnserved stands.old stands.new }
+    ensures served { result ≢ no_memory_status
         → AreServed (C.gives clock.now) (door_seen D.links D.faults) key stands.old stands.new }
-    ensures status { result ≢ 6 → result ≡ status_of stands.new }
+    ensures status { result ≢ no_memory_status → result ≡ status_of stands.new }
 {
     let Ok((hall, mut pass)) = begin_hall(alloc) else {
         return NO_MEMORY;
@@ -230,7 +231,7 @@ fn status_of<D, G>(stands: &[Stand<D, G>]) -> u8
 
 // The door of a stand failed.
 fn has_failed<D, G>(stands: &[Stand<D, G>]) -> bool
-    ensures { result ≡ list_any (λ (s : Stand D G). s.status == 7) stands.now }
+    ensures { result ≡ list_any (λ (s : Stand D G). s.status == link_fault_status) stands.now }
 {
     stands.iter().any(|stand| stand.status == LINK_FAULT)
 }

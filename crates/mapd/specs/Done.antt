@@ -1,6 +1,7 @@
 -- What the program did, as its status tells.
 use Rattle.std.specs.Prelude.{◌≡◌, ℕ, ◌⊎◌, List, [], None, length}
 use Rattle.ifmap_command.specs.Words.{IsServe}
+use Rattle.ifmap_io.specs.Statuses.{link_fault_status, no_memory_status}
 use Rattle.ifmap_program.specs.Runs.{Runs, outside}
 use Rattle.ifmap_program.specs.ifmap_server.Ends.{SourceAndSink}
 use Rattle.ifmap_serving.specs.declared.stands.Stand.{Stand}
@@ -21,10 +22,9 @@ RunsOver stands words status before after =
     (key : List ℕ) × (left : List (Stand ℕ OpenGate))
     × Runs any_moment listener_seen key words status (outside before stands) (outside after left)
 
--- no server began, with the status for that it cannot listen or has no random key (7) or no memory (6), and nothing was read or
--- written
+-- no server began, with the status for that it cannot listen or has no random key, or no memory, and nothing was read or written
 abbrev pub BeginsNothing : ℕ → SourceAndSink → SourceAndSink → Type 0
-BeginsNothing status before after = ((status ≡ 7) ⊎ (status ≡ 6)) × (after ≡ before)
+BeginsNothing status before after = ((status ≡ link_fault_status) ⊎ (status ≡ no_memory_status)) × (after ≡ before)
 
 -- the words were carried out over a stand for each worker, or no server began
 abbrev pub ServesOrBeginsNone : ℕ → List (List ℕ) → ℕ → SourceAndSink → SourceAndSink → Type 0

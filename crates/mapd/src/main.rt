@@ -5,6 +5,7 @@ mod outside;
 
 ghost use Rattle.std.specs.Prelude.{◌≡◌, IfErr, IfOk, List, [], map, string_bytes};
 ghost use Rattle.std.specs.Process.{exit_status};
+ghost use Rattle.ifmap_io.specs.Statuses.{link_fault_status, no_memory_status};
 ghost use Rattle.ifmap_program.specs.Runs.{Runs, outside};
 ghost use Rattle.ifmap_program.specs.ifmap_server.Ends.{source_and_sink};
 ghost use Rattle.ifmap_serving.specs.declared.stands.Stand.{Stand};
@@ -59,7 +60,7 @@ where
         (K.faults sink.old))
         (source_and_sink (S.left source.new) (S.faults source.new) (K.held sink.new)
         (K.faults sink.new))) }
-    ensures no_memory { IfErr words (λ _. exit_status result ≡ 6) }
+    ensures no_memory { IfErr words (λ _. exit_status result ≡ no_memory_status) }
 {
     let Ok(words) = words else {
         return exit_code_of(NO_MEMORY);
@@ -202,7 +203,7 @@ where
 
 // Tells that nothing listens, and answers the status for that.
 fn tell_cannot_listen<R: Eprint>(rt: &R) -> u8
-    ensures { result ≡ 7 }
+    ensures { result ≡ link_fault_status }
 {
     let _told = eprintln!(rt; "mapd: cannot listen");
     LINK_FAULT

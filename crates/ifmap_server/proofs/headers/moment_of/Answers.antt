@@ -1,5 +1,5 @@
 use Rattle.std.proofs.Common.{arith}
-use Rattle.ifmap_server.specs.Frames.{last_moment}
+use Rattle.ifmap_io.specs.Calendar.{last_moment}
 use Rattle.ifmap_server.proofs.Cuts.{number_told}
 use Rattle.ifmap_server.proofs.headers.moment_of.Goals as goal
 
