@@ -27,7 +27,7 @@ pub enum Outcome {
     NoMemory,
 }
 
-// Why no further line is carried out.
+/// Why no further line is carried out.
 #[derive(Clone, Copy, Debug, PartialEq, Eq)]
 pub enum Stop {
     BadLine,

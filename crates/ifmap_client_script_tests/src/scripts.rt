@@ -36,7 +36,7 @@ pub const ENDED: &str = "<endSessionResult/>";
 pub const TOLD: &str =
     "<pollResult><searchResult name=\"s\"><resultItem><mac-address value=\"00:00:5e:00:53:01\"/><metadata><a x=\"1\"/><b/></metadata></resultItem></searchResult></pollResult>";
 
-// The set `s` after that poll, and one that is not there.
+/// The set `s` after that poll, and one that is not there.
 pub const LISTED: &str =
     "#2\n<resultItem><mac-address value=\"00:00:5e:00:53:01\"/><metadata><a x=\"1\"/></metadata></resultItem>\n<resultItem><mac-address value=\"00:00:5e:00:53:01\"/><metadata><b/></metadata></resultItem>\nnone\n";
 

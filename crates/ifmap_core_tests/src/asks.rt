@@ -78,7 +78,7 @@ fn step_with<L: Ledger>(
     core.step(alloc, event, &mut steps)
 }
 
-/// What there is after an answer: the identifiers in use, the links, and the entries that were found.
+// What there is after an answer: the identifiers in use, the links, and the entries that were found.
 #[derive(Clone, Copy, Debug, PartialEq)]
 pub(crate) struct Counts {
     pub(crate) identifiers: u64,
@@ -86,7 +86,7 @@ pub(crate) struct Counts {
     pub(crate) found: usize,
 }
 
-/// A client asks what stands in a body.
+// A client asks what stands in a body.
 pub(crate) fn ask(
     alloc: Global,
     core: &mut Core,

@@ -33,7 +33,7 @@ pub(crate) const FIRST_PUBLISH: &str =
 pub(crate) const SECOND_SEARCH: &str =
     "<i:search session-id='2-00000000-0000-0000-0000-000000000002'><mac-address value='00:00:5e:00:53:01'/></i:search>";
 
-/// A machine that begins with no session.
+// A machine that begins with no session.
 pub(crate) fn machine(alloc: Global) -> CoreMachine
     ensures { result ≡ record { core = opening 180 } }
 {
@@ -68,8 +68,8 @@ fn client_of(alloc: Global, name: &str) -> Result<ClientName, NoMemory> {
     }
 }
 
-/// What a client asks: its name, the random word, whether it is asked again, and what stands in the
-/// body.
+// What a client asks: its name, the random word, whether it is asked again, and what stands in the
+// body.
 #[derive(Clone, Copy)]
 pub(crate) struct Asking<'a> {
     pub(crate) name: &'a str,
@@ -78,7 +78,7 @@ pub(crate) struct Asking<'a> {
     pub(crate) inner: &'a str,
 }
 
-/// What is asked for the first time.
+// What is asked for the first time.
 pub(crate) fn first<'a>(name: &'a str, random: u128, inner: &'a str) -> Asking<'a> {
     Asking {
         name,
@@ -88,7 +88,7 @@ pub(crate) fn first<'a>(name: &'a str, random: u128, inner: &'a str) -> Asking<'
     }
 }
 
-/// What is asked again.
+// What is asked again.
 pub(crate) fn again<'a>(name: &'a str, random: u128, inner: &'a str) -> Asking<'a> {
     Asking {
         name,
@@ -98,7 +98,7 @@ pub(crate) fn again<'a>(name: &'a str, random: u128, inner: &'a str) -> Asking<'
     }
 }
 
-/// The event of it; the body counts as 228 bytes.
+// The event of it; the body counts as 228 bytes.
 pub(crate) fn event_of(alloc: Global, asking: Asking<'_>) -> Result<Event, NoMemory>
     ensures { IfOk result (λ event. event.bytes ≡ 228) }
 {
@@ -126,7 +126,7 @@ fn loss_of(alloc: Global, inner: &str) -> Result<Ask, NoMemory>
     }
 }
 
-/// The event that tells that the answer to this poll of a client was lost.
+// The event that tells that the answer to this poll of a client was lost.
 pub(crate) fn loss_event(alloc: Global, name: &str, inner: &str) -> Result<Event, NoMemory>
     ensures { IfOk result (λ event. event.bytes ≡ 0) }
 {
@@ -143,14 +143,14 @@ pub(crate) fn loss_event(alloc: Global, name: &str, inner: &str) -> Result<Event
     })
 }
 
-/// What a machine answers.
+// What a machine answers.
 #[derive(Clone, Copy, Debug, PartialEq)]
 pub(crate) enum Kind {
     Began,
     Renewed,
     Ended,
     Published,
-    /// So many entries were found.
+    // So many entries were found.
     Found(usize),
     Refused,
     Other,
@@ -158,7 +158,7 @@ pub(crate) enum Kind {
     Heard,
 }
 
-/// What is answered at a desk.
+// What is answered at a desk.
 #[derive(Clone, Copy, Debug, PartialEq)]
 pub(crate) enum Told {
     Done(u64, Kind),

@@ -26,7 +26,7 @@ use std::alloc::AllocError as NoMemory;
 
 // Who asks, and in how many bytes.
 #[derive(Drop)]
-pub struct Asker {
+pub(crate) struct Asker {
     pub client: ClientName,
     pub bytes: u32,
 }

@@ -45,14 +45,14 @@ const ONE_EVENT: Counts = Counts {
 };
 
 impl Counts {
-    /// Nothing yet.
+    // Nothing yet.
     pub(crate) fn new() -> Counts
         ensures { result ≡ nothing }
     {
         NOTHING
     }
 
-    /// Counts an event with its answer.
+    // Counts an event with its answer.
     pub(crate) fn count(&mut self, ask: &Ask, answer: &Answer)
         ensures { self.new ≡ counts_sum self.old (counted_as ask.now answer.now) }
     {

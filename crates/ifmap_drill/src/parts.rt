@@ -13,7 +13,7 @@ use std::alloc::{AllocError as NoMemory, Global};
 
 const MARK_SPACE: &str = "urn:mapd:drill";
 
-/// The MAC address of a number. It takes no memory.
+// The MAC address of a number. It takes no memory.
 pub(crate) fn address(alloc: Global, number: u64) -> Identifier
     requires { number < 1000 }
     ensures { result ≡ address number }
@@ -47,7 +47,7 @@ fn draw_ends(draws: &mut Lcg128Xsl64) -> AddressPair
     }
 }
 
-/// The link between two addresses, by two draws. It takes no memory.
+// The link between two addresses, by two draws. It takes no memory.
 pub(crate) fn draw_link(alloc: Global, draws: &mut Lcg128Xsl64) -> Item
     ensures link { result ≡ link_of (draw_ends draws.old).0 }
     ensures rest { draws.new ≡ (draw_ends draws.old).1 }
@@ -68,7 +68,7 @@ fn link_of(alloc: Global, ends: AddressPair) -> Item
     Item::pair(address(alloc, ends.first), address(alloc, ends.second)).unwrap()
 }
 
-/// The element that links carry, of which each link has one at most.
+// The element that links carry, of which each link has one at most.
 pub(crate) fn link_metadata(alloc: Global) -> Result<Metadata, NoMemory>
     ensures { IfOk result (λ made. made ≡ link_metadata) }
 {

@@ -21,7 +21,7 @@ pub enum Task {
     Renew,
 }
 
-/// What event `i` asks.
+// What event `i` asks.
 pub(crate) fn task_at(i: u32) -> Task
     ensures { result ≡ task_at i }
 {

@@ -1,4 +1,4 @@
--- Pieces of outlines, printed one behind another.
+-- Pieces of outlines, printed one after another.
 use Rattle.std.proofs.Common.{◌≡◌, ◌≢◌, ℕ, ◌≤◌, List, map, take, length, ap, sym, ◌∙◌, subst}
 use Rattle.std.proofs.lemmas.List.{take_all, length-map}
 use Rattle.std.proofs.lemmas.List.Folds.{flat_map-map}

@@ -1,4 +1,4 @@
--- Pieces that are printed one behind another, while namespaces are numbered.
+-- Pieces that are printed one after another, while namespaces are numbered.
 -- Plan: (1) lists of namespaces that begin with one another; (2) a namespace that has its number keeps it, whatever is numbered
 -- later (`numbered_stays`, `prefix_final`); (3) pieces: none, one and then another, bytes and then a piece, the same piece
 -- otherwise said; (4) many pieces, one after another; (5) the pieces of an element: its name, an attribute, its content.
@@ -108,15 +108,15 @@ numbered_new xs ys s is = inr (subst (λ l. is_some (lookup (bytes_eq s) (name_p
 
 -- nothing
 pub adds_no_piece : (a : Spaces) (s : List ℕ) → Adds a [] a (λ rows. []) s s
-adds_no_piece a s = record { added = adds_none a; behind = front_same a; written = λ final f. sym (append-nil s) }
+adds_no_piece a s = record { added = adds_none a; extends = front_same a; written = λ final f. sym (append-nil s) }
 
 -- one piece and then another
 pub adds_two : (a b c xs ys : Spaces) (p q : Rows → List ℕ) (s t u : List ℕ) → Adds a xs b p s t → Adds b ys c q t u
     → Adds a (xs ++ ys) c (λ rows. p rows ++ q rows) s u
 adds_two a b c xs ys p q s t u h k = record {
   added = adds_both a b c xs ys h.added k.added;
-  behind = front_both a b c h.behind k.behind;
-  written = λ final f. k.written final f ∙ ap (λ l. l ++ q (name_prefixes final)) (h.written final (final_before b c final k.behind f))
+  extends = front_both a b c h.extends k.extends;
+  written = λ final f. k.written final f ∙ ap (λ l. l ++ q (name_prefixes final)) (h.written final (final_before b c final k.extends f))
       ∙ append_assoc s (p (name_prefixes final)) (q (name_prefixes final));
 }
 
@@ -125,7 +125,7 @@ adds_before : (a b xs : Spaces) (x : List ℕ) (p : Rows → List ℕ) (s t u : 
     → Adds a xs b (λ rows. x ++ p rows) s u
 adds_before a b xs x p s t u is h = record {
   added = h.added;
-  behind = h.behind;
+  extends = h.extends;
   written = λ final f. h.written final f ∙ ap (λ l. l ++ p (name_prefixes final)) is ∙ append_assoc s x (p (name_prefixes final));
 }
 
@@ -134,7 +134,7 @@ pub adds_as : (a b xs ys : Spaces) (p q : Rows → List ℕ) (s t : List ℕ) �
     → Adds a ys b q s t
 adds_as a b xs ys p q s t e f h = record {
   added = subst (λ l. AddsSpaces a l b) e h.added;
-  behind = h.behind;
+  extends = h.extends;
   written = λ final g. h.written final g ∙ ap (λ l. s ++ l) (f (name_prefixes final));
 }
 
@@ -182,7 +182,7 @@ pub piece_name : (a b : Spaces) (name : Name) (prefix : Option (List ℕ)) (s t 
     → Adds a (name.space ∷ []) b (λ rows. printed_name rows name) s t
 piece_name a b name prefix s t h k n p is = record {
   added = h;
-  behind = k;
+  extends = k;
   written = λ final f. is ∙ ap (λ x. s ++ after_prefix x name.local) (p ∙ sym (numbered_stays b final name.space n f));
 }
 
@@ -192,7 +192,7 @@ pub piece_attribute : (attribute : Attribute) (a b : Spaces) (s t u v w x : List
     → Adds a (attribute.name.space ∷ []) b (λ rows. attribute_bytes rows attribute) s x
 piece_attribute attribute a b s t u v w x p h q r z = record {
   added = h.added;
-  behind = h.behind;
+  extends = h.extends;
   written = λ final f.
       two_written s t x (codes " ") _ p
       (two_written t u x (printed_name (name_prefixes final) attribute.name) _ (h.written final f)
@@ -207,11 +207,11 @@ pub piece_content : (f : Child → Spaces) (g : Rows → Child → List ℕ) (ch
     → Adds a (flat_map f children) b (λ rows. after_attributes_bytes (printed_name rows name) (map (g rows) children)) s x
 piece_content f g children name prefix a b s t u v w x some p h q e r z = record {
   added = h.added;
-  behind = h.behind;
+  extends = h.extends;
   written = λ final fin.
       content_written (g (name_prefixes final)) children (printed_name (name_prefixes final) name) s t u v w x some p
       (h.written final fin) q
-      (r ∙ ap (λ o. v ++ after_prefix o name.local) (e final (final_before a b final h.behind fin))) z;
+      (r ∙ ap (λ o. v ++ after_prefix o name.local) (e final (final_before a b final h.extends fin))) z;
 }
 
 pub piece_no_content : (f : Child → Spaces) (g : Rows → Child → List ℕ) (children : List Child) (name : Name) (a : Spaces) (s t : List ℕ)
@@ -220,7 +220,7 @@ pub piece_no_content : (f : Child → Spaces) (g : Rows → Child → List ℕ) 
 piece_no_content f g children name a s t none is =
     subst (λ (cs : List Child). Adds a (flat_map f cs) a (λ rows. after_attributes_bytes (printed_name rows name) (map (g rows) cs)) s t)
     (sym none)
-    (record { added = adds_none a; behind = front_same a; written = λ final fin. is })
+    (record { added = adds_none a; extends = front_same a; written = λ final fin. is })
 
 pub piece_element : (e : Element) (a b c d : Spaces) (s t u v w : List ℕ) → t ≡ s ++ codes "<"
     → Adds a (e.name.space ∷ []) b (λ rows. printed_name rows e.name) t u
@@ -257,9 +257,9 @@ piece_text text child a s t is e =
     ∙ at_child_text Spaces Spaces child_spaces element_spaces text))
     (λ rows. sym (ap (λ x. child_bytes rows (arrange_child x)) is ∙ ap (child_bytes rows) (arranged_text text)
     ∙ at_child_text (List ℕ) (List ℕ) (child_piece rows) (element_piece rows) text))
-    (record { added = adds_none a; behind = front_same a; written = λ final f. e })
+    (record { added = adds_none a; extends = front_same a; written = λ final f. e })
 
--- the root, whose attributes and content are printed first and stand behind its declarations
+-- the root, whose attributes and content are printed first and stand after its declarations
 pub piece_root : (element : Element) (given first a b all listed : Spaces) (prefix : Option (List ℕ)) (i j k inside s t u v w x : List ℕ)
     → first ≡ [] → AddsSpaces first (element.name.space ∷ []) a → i ≡ []
     → Adds a (map attribute_space (sort_attributes element.attributes)) b
@@ -273,15 +273,15 @@ pub piece_root : (element : Element) (given first a b all listed : Spaces) (pref
     → v ≡ u ++ flat_map declaration_bytes (numbered_prefixes (codes "n") 1 listed)
     → w ≡ v ++ flat_map declaration_bytes (numbered_prefixes (codes "f") 1 given) → x ≡ w ++ inside → x ≡ written_bytes element given
 piece_root element given first a b all listed prefix i j k inside s t u v w x none name empty attributes content bare named are is new p q
-    r z behind =
+    r z after =
     let final : AreFinal all all = record { begins = front_same all; none_bare = bare } in
     let tag = flat_map (attribute_bytes (name_prefixes all)) (sort_attributes element.attributes) in
     let rest = after_attributes_bytes (printed_name (name_prefixes all) element.name)
     (map (λ c. child_bytes (name_prefixes all) (arrange_child c)) element.children) in
     let printed : k ≡ tag ++ rest =
-    two_written i j k tag rest (attributes.written all (final_before b all all content.behind final)) (content.written all final)
+    two_written i j k tag rest (attributes.written all (final_before b all all content.extends final)) (content.written all final)
     ∙ ap (λ l. l ++ (tag ++ rest)) empty in
     root_printed element given all t u v w (w ++ tag) x (adds_element element first a b all name attributes.added content.added [] none)
     (p ∙ ap (λ l. l ++ codes "<") new) (q ∙ ap (λ o. t ++ after_prefix o element.name.local) named)
     (r ∙ ap (λ (l : Spaces). u ++ flat_map declaration_bytes (numbered_prefixes (codes "n") 1 l)) are) z refl
-    (behind ∙ ap (λ l. w ++ l) (is ∙ printed) ∙ sym (append_assoc w tag rest))
+    (after ∙ ap (λ l. w ++ l) (is ∙ printed) ∙ sym (append_assoc w tag rest))

@@ -14,7 +14,7 @@ use Rattle.ifmap_elem.specs.Arranged.{arrange}
 use Rattle.ifmap_elem.specs.Escapes.{text_bytes, value_bytes}
 use Rattle.ifmap_elem.specs.Namespaces.{namespaces, numbered_prefixes, name_prefixes}
 
--- a local name behind the prefix, if there is one
+-- a local name after the prefix, if there is one
 abbrev pub after_prefix : Option (List ℕ) → List ℕ → List ℕ
 after_prefix None local = local
 after_prefix (Some prefix) local = prefix ++ (codes ":" ++ local)
@@ -64,7 +64,7 @@ root_bytes given e =
     element_of_parts (name_prefixes spaces) (numbered_prefixes (codes "n") 1 spaces ++ given) e.name e.attributes
     (map (child_bytes (name_prefixes spaces)) e.children)
 
--- the canonical bytes, with ` xmlns:f1=".."`, ` xmlns:f2=".."` and so on for the given namespaces behind the declarations
+-- the canonical bytes, with ` xmlns:f1=".."`, ` xmlns:f2=".."` and so on for the given namespaces after the declarations
 abbrev pub written_bytes : Element → List (List ℕ) → List ℕ
 written_bytes e spaces = root_bytes (numbered_prefixes (codes "f") 1 spaces) (arrange e)
 

@@ -36,7 +36,7 @@ abbrev pub bound : Scope → List ℕ → Option (List ℕ)
 bound [] prefix = None
 bound (b ∷ bs) prefix = if bytes_eq b.prefix prefix then Some b.space else bound bs prefix
 
--- the binding that an assignment makes: of the default by `xmlns`, of a prefix by that prefix behind `xmlns:`
+-- the binding that an assignment makes: of the default by `xmlns`, of a prefix by that prefix after `xmlns:`
 abbrev pub binding_of : Assignment → Option Binding
 binding_of a =
     if bytes_eq a.name.prefix (codes "xmlns") then Some (record { prefix = a.name.local; space = a.value })

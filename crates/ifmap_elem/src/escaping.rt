@@ -36,9 +36,9 @@ fn write_runs(place: Place, bytes: &[u8], out: &mut Vec<u8>) -> Result<(), NoMem
 {
     let mut rest = bytes;
     while !rest.is_empty() {
-        let (run, behind) = rest.split_at(rest.len().min(RUN));
+        let (run, after) = rest.split_at(rest.len().min(RUN));
         write_run(place, run, out)?;
-        rest = behind;
+        rest = after;
     }
     Ok(())
 }

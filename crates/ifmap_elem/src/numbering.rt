@@ -156,7 +156,7 @@ impl<'a> NumberedPrefixes<'a> {
     // The prefix of a namespace, which is numbered unless it has a prefix or is the lack of one.
     pub(crate) fn number(&mut self, space: &'a Text) -> Result<Option<Prefix>, NoMemory>
         ensures added { OnOk result (AddsSpaces self.old (space.now ∷ []) self.new) }
-        ensures behind { OnOk result (IsFront self.old self.new) }
+        ensures extends { OnOk result (IsFront self.old self.new) }
         ensures numbered { OnOk result (IsNumbered self.new space.now) }
         ensures prefix { IfOk result (λ prefix.
             prefix ≡ lookup (bytes_eq space.now) (name_prefixes self.new)) }
@@ -177,7 +177,7 @@ impl<'a> NumberedPrefixes<'a> {
     pub(crate) fn number_label(&mut self, label: Label<'a>) -> Result<Option<Prefix>, NoMemory>
         ensures added { OnOk result (
             AddsSpaces self.old ((label_name label.entry).space ∷ []) self.new) }
-        ensures behind { OnOk result (IsFront self.old self.new) }
+        ensures extends { OnOk result (IsFront self.old self.new) }
         ensures numbered { OnOk result (IsNumbered self.new (label_name label.entry).space) }
         ensures prefix { IfOk result (λ prefix.
             prefix ≡ lookup (bytes_eq (label_name label.entry).space) (name_prefixes self.new)) }
@@ -191,7 +191,7 @@ impl<'a> NumberedPrefixes<'a> {
     fn number_named(&mut self, space: &'a Text) -> Result<Prefix, NoMemory>
         requires some { space.now ≢ [] }
         ensures added { OnOk result (AddsSpaces self.old (space.now ∷ []) self.new) }
-        ensures behind { OnOk result (IsFront self.old self.new) }
+        ensures extends { OnOk result (IsFront self.old self.new) }
         ensures numbered { OnOk result (IsNumbered self.new space.now) }
         ensures prefix { IfOk result (λ prefix.
             Some prefix ≡ lookup (bytes_eq space.now) (name_prefixes self.new)) }

@@ -37,7 +37,7 @@ pub fn canonical(alloc: Global, element: &Element) -> Result<Many<u8>, NoMemory>
 }
 
 /// The canonical bytes with declarations of the prefixes `f1`, `f2` and so on for these namespaces
-/// at the root, behind the element's own. The one error is want of memory.
+/// at the root, after the element's own. The one error is want of memory.
 pub fn written(alloc: Global, element: &Element, spaces: &Many<Text>) -> Result<Many<u8>, NoMemory>
     ensures bytes { IfOk result (λ bytes. bytes ≡ written_bytes element.now spaces.now) }
     ensures spelled { IsFit element.now → AllByRecursion IsDeclarable spaces.now →

@@ -189,7 +189,7 @@ fn prints_with_spaces(alloc: Global, words: &[&str], bytes: &str) -> bool {
 }
 
 #[test]
-fn given_namespaces_are_declared_behind_the_own_ones(rt: HostRuntime) {
+fn given_namespaces_are_declared_after_the_own_ones(rt: HostRuntime) {
     assert!(rt; prints_with_spaces(rt.alloc(), &["m", "u"], WITH_SPACES));
 }
 

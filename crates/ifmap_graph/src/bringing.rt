@@ -98,8 +98,8 @@ fn place_missing(
     Ok(true)
 }
 
-/// Shelves for the items of a change that have none, and marks at those. Where memory runs out,
-/// some have come.
+// Shelves for the items of a change that have none, and marks at those. Where memory runs out,
+// some have come.
 pub(crate) fn place_items(
     names: &mut Pool<Identifier>,
     shelves: &mut Shelves,
@@ -143,7 +143,7 @@ fn take_shelf(names: &mut Pool<Identifier>, shelves: &mut Shelves, item: &Item, 
     }
 }
 
-/// The shelves of a change's items that came go again. It takes no memory.
+// The shelves of a change's items that came go again. It takes no memory.
 pub(crate) fn take_shelves(
     names: &mut Pool<Identifier>,
     shelves: &mut Shelves,

@@ -48,8 +48,8 @@ fn draft_one(shelves: &mut Shelves, alloc: Global, change: &ItemChange) -> Resul
     Ok(())
 }
 
-/// What is to be stored after a change, on items that have shelves, none of which has a draft.
-/// Where memory runs out, some have one.
+// What is to be stored after a change, on items that have shelves, none of which has a draft.
+// Where memory runs out, some have one.
 pub(crate) fn draft_changes(
     shelves: &mut Shelves,
     alloc: Global,
@@ -74,8 +74,8 @@ pub(crate) fn draft_changes(
     Ok(())
 }
 
-/// The drafts of a change, whose items have shelves: what is to be stored on them, and the links
-/// that are to be. Nothing has a draft before. Where memory runs out, some stand.
+// The drafts of a change, whose items have shelves: what is to be stored on them, and the links
+// that are to be. Nothing has a draft before. Where memory runs out, some stand.
 pub(crate) fn draft_plan(
     shelves: &mut Shelves,
     links: &mut Vec<Sided<LinkSeen>>,
@@ -95,7 +95,7 @@ pub(crate) fn draft_plan(
     touch_slots(links, &shelves.slots, alloc, &touched, ways)
 }
 
-/// The same, and the items are waited for once more. Where memory runs out, some drafts stand.
+// The same, and the items are waited for once more. Where memory runs out, some drafts stand.
 pub(crate) fn draft_and_wait(
     shelves: &mut Shelves,
     links: &mut Vec<Sided<LinkSeen>>,
@@ -121,7 +121,7 @@ pub(crate) fn draft_and_wait(
     Ok(())
 }
 
-/// Nothing has a draft any more. It takes no memory.
+// Nothing has a draft any more. It takes no memory.
 pub(crate) fn drop_plan(
     shelves: &mut Shelves,
     links: &mut Vec<Sided<LinkSeen>>,

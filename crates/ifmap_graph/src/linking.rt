@@ -98,7 +98,7 @@ fn add_slot(list: &mut Vec<usize>, found: Option<usize>) -> Result<(), NoMemory>
     Ok(())
 }
 
-/// The slots of a change's items that come to be full or empty.
+// The slots of a change's items that come to be full or empty.
 pub(crate) fn flipped_slots(
     alloc: Global,
     shelves: &Shelves,
@@ -269,8 +269,8 @@ fn touch_slot(
     touch_number(links, slots, alloc, at, numbers.1 as usize, ways)
 }
 
-/// The drafts of links, where these slots come to be full or empty. Where memory runs out, some
-/// stand.
+// The drafts of links, where these slots come to be full or empty. Where memory runs out, some
+// stand.
 pub(crate) fn touch_slots(
     links: &mut Vec<Sided<LinkSeen>>,
     slots: &Slab<Shelf>,
@@ -301,7 +301,7 @@ fn drop_draft(links: &mut Vec<Sided<LinkSeen>>, place: usize)
     links[place].discard();
 }
 
-/// The drafts of links go.
+// The drafts of links go.
 pub(crate) fn drop_drafts(links: &mut Vec<Sided<LinkSeen>>, ways: &[Way<LinkSeen>])
     requires { AreExactlyDrafted ways.now links.old.items }
     ensures kept { KeepsLinks links.old.items links.new.items }

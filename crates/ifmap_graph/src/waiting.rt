@@ -35,7 +35,7 @@ fn waits_for(shelves: &Shelves, item: &Item) -> u64
     }
 }
 
-/// Whether each item of a change can be waited for once more and still be counted.
+// Whether each item of a change can be waited for once more and still be counted.
 pub(crate) fn can_wait(shelves: &Shelves, changes: &[ItemChange]) -> bool
     ensures { result ≡ true
         → AllByRecursion (λ x. waits_on shelves.now x < 2 ^ 64 - 1) (items_changed changes.now) }
@@ -48,7 +48,7 @@ pub(crate) fn can_wait(shelves: &Shelves, changes: &[ItemChange]) -> bool
     true
 }
 
-/// The items of a change, which have shelves, are waited for once more.
+// The items of a change, which have shelves, are waited for once more.
 pub(crate) fn wait_for(shelves: &mut Shelves, changes: &[ItemChange])
     requires shelved { AreShelved shelves.old }
     requires there { AllByRecursion (λ x. IsSome (slot_of_item shelves.old x))

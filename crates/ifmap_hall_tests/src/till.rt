@@ -7,8 +7,8 @@ use std::alloc::{AllocError as NoMemory, Global};
 use std::hint;
 use std::sync::Wait;
 
-/// An amount that is paid in as soon as the till has a sum of at least `level`. Paying it in takes so
-/// many pauses of the processor.
+// An amount that is paid in as soon as the till has a sum of at least `level`. Paying it in takes so
+// many pauses of the processor.
 #[derive(Drop)]
 pub(crate) struct Payment {
     pub(crate) amount: u64,
@@ -18,7 +18,7 @@ pub(crate) struct Payment {
     ghost light: { weight ≤ 600 },
 }
 
-/// The sum of all that was paid in. It replies with the sum before.
+// The sum of all that was paid in. It replies with the sum before.
 #[derive(Drop)]
 pub(crate) struct Till {
     pub(crate) sum: u64,
@@ -57,7 +57,7 @@ impl Machine for Till {
     }
 }
 
-/// Pays in by a pass.
+// Pays in by a pass.
 pub(crate) fn pay<R: Wait>(
     rt: &R,
     alloc: Global,
@@ -75,14 +75,14 @@ pub(crate) fn pay<R: Wait>(
     hall.ask(rt, alloc, pass, payment)
 }
 
-/// What was answered.
+// What was answered.
 #[derive(Clone, Copy, Debug, PartialEq)]
 pub(crate) enum Told {
-    /// The place and the reply.
+    // The place and the reply.
     Done(u64, u64),
-    /// The place, and the amount of the event that came back.
+    // The place, and the amount of the event that came back.
     Held(u64, u64),
-    /// The number of entries.
+    // The number of entries.
     Spent(u64),
     NoMemory,
 }
@@ -96,7 +96,7 @@ pub(crate) fn tell(answer: Asked<Payment, u64>) -> Told {
     }
 }
 
-/// An amount of the heaviest weight, paid in at once.
+// An amount of the heaviest weight, paid in at once.
 pub(crate) fn heavy(amount: u64) -> Payment {
     Payment {
         amount,
@@ -106,7 +106,7 @@ pub(crate) fn heavy(amount: u64) -> Payment {
     }
 }
 
-/// An amount of half that weight, paid in at once.
+// An amount of half that weight, paid in at once.
 pub(crate) fn light(amount: u64) -> Payment {
     Payment {
         amount,

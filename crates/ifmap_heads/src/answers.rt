@@ -28,7 +28,7 @@ pub enum AnswerStart {
 
 // What a head says.
 #[derive(Clone, Copy, Debug)]
-pub enum Verdict {
+pub(crate) enum Verdict {
     Other(u16),
     Sized(usize),
     Unfit,

@@ -49,7 +49,7 @@ pub enum PostStart {
 
 // What a head says.
 #[derive(Debug, Drop)]
-pub enum Judged {
+pub(crate) enum Judged {
     Refused(StatusCode),
     Taken(PostTerms),
 }

@@ -10,7 +10,7 @@ use std::alloc::{AllocError as NoMemory, Global};
 
 // Why bytes were not read.
 #[derive(Clone, Copy, Debug, PartialEq, Eq)]
-pub enum Unread {
+pub(crate) enum Unread {
     Truncated,
     ReadFault,
     NoMemory,

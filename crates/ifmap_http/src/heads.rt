@@ -19,7 +19,7 @@ use std::alloc::Global;
 
 // What came of waiting for the head of a post.
 #[derive(Drop)]
-pub enum AwaitedPost {
+pub(crate) enum AwaitedPost {
     Taken(usize, PostTerms),
     Refused(u16),
     Ended,
@@ -30,7 +30,7 @@ pub enum AwaitedPost {
 
 // What came of waiting for the head of an answer.
 #[derive(Clone, Copy)]
-pub enum AwaitedAnswer {
+pub(crate) enum AwaitedAnswer {
     Sized(usize, usize),
     Refused(usize, u16),
     NotHttp,

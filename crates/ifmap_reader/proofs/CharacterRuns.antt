@@ -29,8 +29,8 @@ character_first c bytes h i = (c ∷ i.0, ap (λ x. encode_utf8 c ++ x) i.1, (h,
 low_first : (c : ℕ) (bytes : List ℕ) → c < 128 → is_character c ≡ true → IsCharacters bytes → IsCharacters (c ∷ bytes)
 low_first c bytes low h i = subst (λ (x : List ℕ). IsCharacters (x ++ bytes)) (encode_ascii c low) (character_first c bytes h i)
 
-behind_low : (c : ℕ) (bytes : List ℕ) → c < 128 → IsCharacters (c ∷ bytes) → IsCharacters bytes
-behind_low c bytes low i = first i.0 i.1 i.2
+after_low : (c : ℕ) (bytes : List ℕ) → c < 128 → IsCharacters (c ∷ bytes) → IsCharacters bytes
+after_low c bytes low i = first i.0 i.1 i.2
   where
     first : (cs : List ℕ) → encode_utf8_all cs ≡ c ∷ bytes → AllAre is_character cs → IsCharacters bytes
     first [] e f = cc
@@ -108,11 +108,11 @@ record Parted (p : ℕ → Bool) (bytes : List ℕ) : Type 0 where
   passes : AllAre p front
   stops : Stops p rest
   before : IsCharacters front
-  behind : IsCharacters rest
+  after : IsCharacters rest
 
 module _ (p : ℕ → Bool) (high : (b : ℕ) → 128 ≤ b → p b ≡ true) where
   parted : (cs : List ℕ) → AllAre is_character cs → Parted p (encode_utf8_all cs)
-  parted [] f = record { front = []; rest = []; bytes_are = refl; passes = tt; stops = tt; before = no_characters; behind = no_characters }
+  parted [] f = record { front = []; rest = []; bytes_are = refl; passes = tt; stops = tt; before = no_characters; after = no_characters }
   parted (c ∷ cs) f = elim (cases_Bool (p c)) [
     | inl e ↦
         let r = parted cs f.1 in
@@ -123,7 +123,7 @@ module _ (p : ℕ → Bool) (high : (b : ℕ) → 128 ≤ b → p b ≡ true) wh
           passes = all_append p (encode_utf8 c) r.front (character_passes p high c e) r.passes;
           stops = r.stops;
           before = character_first c r.front f.0 r.before;
-          behind = r.behind;
+          after = r.after;
         }
     | inr e ↦ record {
       front = [];
@@ -135,7 +135,7 @@ module _ (p : ℕ → Bool) (high : (b : ℕ) → 128 ≤ b → p b ≡ true) wh
         | inr g ↦ let wrong : true ≡ false = sym (high c g) ∙ e in cc
       ];
       before = no_characters;
-      behind = (c ∷ cs, refl, f);
+      after = (c ∷ cs, refl, f);
     }
   ]
 
@@ -143,7 +143,7 @@ module _ (p : ℕ → Bool) (high : (b : ℕ) → 128 ≤ b → p b ≡ true) wh
   cut_characters bytes a b i e f stop =
       let r = parted i.0 i.2 in
       let both = cut p r.front a r.rest b r.passes f r.stops stop (sym r.bytes_are ∙ i.1 ∙ e) in
-      (subst IsCharacters both.0 r.before, subst IsCharacters both.1 r.behind)
+      (subst IsCharacters both.0 r.before, subst IsCharacters both.1 r.after)
 
 -- references
 
@@ -195,7 +195,7 @@ module _ (adds : ValuePart → List ℕ) (runs : (run : List ℕ) → IsCharacte
       (refl, l.1.2) refl in
       characters_both (adds (Reference c)) (flat_map adds parts)
       (subst IsCharacters (sym (references c)) (one_character c (referred_fits l.1.0 c l.1.3)))
-      (parts_fit parts l.0 l.2 (behind_low semicolon l.0 (omega arith) both.1))
+      (parts_fit parts l.0 l.2 (after_low semicolon l.0 (omega arith) both.1))
 
   means_characters : (written text : List ℕ) → IsCharacters written → SpellsOut adds written text → IsCharacters text
   means_characters written text i x = subst IsCharacters (sym x.text_is) (parts_fit x.parts written x.taken i)

@@ -69,8 +69,8 @@ pub onwards_all : (ts : List Attribute) (i : ℕ) → length ts ≤ i → Onward
 onwards_all ts i l at = at.1 (onwards_end ts i l)
 
 -- the slice after an index
-pub behind_is : (ts : List Attribute) (n : ℕ) → take (length ts - n) (drop n ts) ≡ drop n ts
-behind_is ts n = take_all (length ts - n) (drop n ts) (omega (arith, length-drop n ts))
+pub after_is : (ts : List Attribute) (n : ℕ) → take (length ts - n) (drop n ts) ≡ drop n ts
+after_is ts n = take_all (length ts - n) (drop n ts) (omega (arith, length-drop n ts))
 
 -- where some names are one, the tag is not allowed
 pub no_names : (outer : Scope) (tag : Tag) (bs : List Binding) (given : List Assignment) (made shown : List Attribute) (differ : Bool)

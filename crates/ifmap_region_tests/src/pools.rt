@@ -94,7 +94,7 @@ fn texts_are_found_whatever_their_order(rt: HostRuntime) -> Result<(), Fail> {
     Ok(())
 }
 
-/// Holds or releases a key, and counts the same: whether the answers are those of the counts.
+// Holds or releases a key, and counts the same: whether the answers are those of the counts.
 fn hold_or_release(
     counted: &mut Counted<u64>,
     counts: &mut [u64],
@@ -115,7 +115,7 @@ fn hold_or_release(
     }
 }
 
-/// Whether just the keys with a count have a number.
+// Whether just the keys with a count have a number.
 fn agrees_with_counts(counted: &Counted<u64>, counts: &[u64]) -> bool {
     for key in 0..counts.len() {
         if counted.pool.number_of(&(key as u64)).is_some() != (counts[key] > 0) {
@@ -125,7 +125,7 @@ fn agrees_with_counts(counted: &Counted<u64>, counts: &[u64]) -> bool {
     true
 }
 
-/// Releases each key as often as it was counted, and once more.
+// Releases each key as often as it was counted, and once more.
 fn release_all(counted: &mut Counted<u64>, counts: &[u64]) -> bool {
     for key in 0..counts.len() {
         for _ in 0..counts[key] {

@@ -15,11 +15,11 @@ use std::marker::Brand;
 use std::sync::ledger::{Blank, Ledger};
 use std::test::Fail;
 
-/// From this number on, no walk goes on.
+// From this number on, no walk goes on.
 const FIRST_TERMINAL: u64 = 90;
 
-/// Links by the pairs of their ends. Each number has a place for each link, and those of others
-/// do not match.
+// Links by the pairs of their ends. Each number has a place for each link, and those of others
+// do not match.
 #[derive(Drop)]
 struct Pairs<'a> {
     links: &'a [(u64, u64)],
@@ -71,7 +71,7 @@ fn has_link(links: &[(u64, u64)], a: u64, b: u64) -> bool
     false
 }
 
-/// Whether each added flip is a link.
+// Whether each added flip is a link.
 fn added_are_links(links: &[(u64, u64)], flips: &[Flip]) -> bool
     ensures { result ≡ true → (v w : ℕ) → IsFlipped flips.now true v w
         → Linked (λ _. length links.now) (far_end_at links.now) v w }
@@ -95,7 +95,7 @@ fn is_known(found: &[(u64, u32)], number: u64) -> bool {
     false
 }
 
-/// Each number that is reached from 0, with its depth, by a plain breadth-first search.
+// Each number that is reached from 0, with its depth, by a plain breadth-first search.
 fn depths_of(alloc: Global, links: &[(u64, u64)], top: u32) -> Result<Vec<(u64, u32)>, NoMemory> {
     let mut found = Vec::new(alloc);
     found.push((0, 0))?;
@@ -129,7 +129,7 @@ fn search_from(
     Ok(())
 }
 
-/// How many numbers have a mark.
+// How many numbers have a mark.
 fn count_marked(region: &Region) -> usize {
     let mut marked = 0usize;
     for mark in region.marks.values() {
@@ -140,7 +140,7 @@ fn count_marked(region: &Region) -> usize {
     marked
 }
 
-/// Whether the region has exactly these marks.
+// Whether the region has exactly these marks.
 fn has_marks(region: &Region, marks: &[(u64, u32)]) -> bool {
     for m in marks {
         if region.mark(m.0) != Some(m.1) {
@@ -150,12 +150,12 @@ fn has_marks(region: &Region, marks: &[(u64, u32)]) -> bool {
     count_marked(region) == marks.len()
 }
 
-/// The same, and no row without a mark.
+// The same, and no row without a mark.
 fn has_rows(region: &Region, marks: &[(u64, u32)]) -> bool {
     has_marks(region, marks) && region.marks.len() == marks.len()
 }
 
-/// The patch of the change to a graph, where the added flips are its links.
+// The patch of the change to a graph, where the added flips are its links.
 fn patch_to<L: Ledger>(
     alloc: Global,
     region: &Region,
@@ -169,7 +169,7 @@ fn patch_to<L: Ledger>(
     Ok(Some(repair(alloc, region, &Pairs { links }, flips, steps)?))
 }
 
-/// Gives a patch its rows; those that were there stay.
+// Gives a patch its rows; those that were there stay.
 fn make_room(region: &mut Region, patch: &Patch) -> Result<(), NoMemory>
     ensures room { OnOk result (HasRoom patch.now region.new.marks.entries) }
     ensures kept { KeepsEachRow region.old.marks.entries region.new.marks.entries }
@@ -178,7 +178,7 @@ fn make_room(region: &mut Region, patch: &Patch) -> Result<(), NoMemory>
     Ok(())
 }
 
-/// Makes a patch, and gives the way back.
+// Makes a patch, and gives the way back.
 fn make_change(region: &mut Region, patch: Patch) -> RegionUndo
     requires { HasRoom patch region.old.marks.entries }
     ensures room { HasRoom result region.new.marks.entries }
@@ -187,7 +187,7 @@ fn make_change(region: &mut Region, patch: Patch) -> RegionUndo
     region.commit_kept(patch)
 }
 
-/// Takes a change back, and gives its patch.
+// Takes a change back, and gives its patch.
 fn take_back(region: &mut Region, undo: RegionUndo) -> Patch
     requires { HasRoom undo region.old.marks.entries }
     ensures kept { KeepsEachRow region.old.marks.entries region.new.marks.entries }
@@ -195,7 +195,7 @@ fn take_back(region: &mut Region, undo: RegionUndo) -> Patch
     region.undo(undo)
 }
 
-/// Two graphs with the flips between them, and the depths over each.
+// Two graphs with the flips between them, and the depths over each.
 #[derive(Drop)]
 struct Case<'a> {
     old: &'a [(u64, u64)],
@@ -206,7 +206,7 @@ struct Case<'a> {
     after: &'a [(u64, u32)],
 }
 
-/// Makes a patch and takes it back: whether the marks are right at each moment.
+// Makes a patch and takes it back: whether the marks are right at each moment.
 fn go_and_return(
     region: &mut Region,
     patch: Patch,
@@ -223,14 +223,14 @@ fn go_and_return(
     Ok(reserved && made && returned && has_rows(region, before))
 }
 
-/// Makes a patch for good: whether the marks are right then.
+// Makes a patch for good: whether the marks are right then.
 fn go(region: &mut Region, patch: Patch, after: &[(u64, u32)]) -> Result<bool, NoMemory> {
     region.reserve(&patch)?;
     region.commit(patch);
     Ok(has_rows(region, after))
 }
 
-/// Makes the change of a case and takes it back: whether the marks are right at each moment.
+// Makes the change of a case and takes it back: whether the marks are right at each moment.
 fn change_and_return<L: Ledger>(
     alloc: Global,
     region: &mut Region,
@@ -243,7 +243,7 @@ fn change_and_return<L: Ledger>(
     }
 }
 
-/// Makes the change of a case for good: whether the marks are right then.
+// Makes the change of a case for good: whether the marks are right then.
 fn change_for_good<L: Ledger>(
     alloc: Global,
     region: &mut Region,
@@ -256,7 +256,7 @@ fn change_for_good<L: Ledger>(
     }
 }
 
-/// Builds the region of a case, and changes it twice.
+// Builds the region of a case, and changes it twice.
 fn change_twice<L: Ledger>(
     alloc: Global,
     case: &Case<'_>,
@@ -282,14 +282,14 @@ fn try_case(alloc: Global, case: &Case<'_>) -> Result<bool, NoMemory> {
     run::<Brand>(alloc, case, Blank::new(1))
 }
 
-/// The flip of a link that goes.
+// The flip of a link that goes.
 fn flip_out(a: u64, b: u64) -> Flip
     ensures { result.added ≡ false }
 {
     Flip { a, b, added: false }
 }
 
-/// The flip of a link that comes.
+// The flip of a link that comes.
 fn flip_in(a: u64, b: u64) -> Flip {
     Flip { a, b, added: true }
 }
@@ -322,8 +322,8 @@ fn marks_follow_links_that_go_and_come(rt: HostRuntime) -> Result<(), Fail> {
     Ok(())
 }
 
-/// Two changes that are made while a third has its rows, and then taken back, latest first: whether
-/// the marks are at each moment those of the changes that stand.
+// Two changes that are made while a third has its rows, and then taken back, latest first: whether
+// the marks are at each moment those of the changes that stand.
 fn return_in_turn(
     region: &mut Region,
     first: RegionUndo,
@@ -344,7 +344,7 @@ fn return_in_turn(
     Ok(reserved && between && has_rows(region, &[(0, 0), (1, 1), (2, 2)]))
 }
 
-/// Makes a third patch of a region that was changed twice, and takes both changes back.
+// Makes a third patch of a region that was changed twice, and takes both changes back.
 fn plan_and_return<L: Ledger>(
     alloc: Global,
     region: &mut Region,
@@ -362,7 +362,7 @@ fn plan_and_return<L: Ledger>(
     }
 }
 
-/// Changes a region again, and goes on to the third patch.
+// Changes a region again, and goes on to the third patch.
 fn change_again<L: Ledger>(
     alloc: Global,
     region: &mut Region,
@@ -380,7 +380,7 @@ fn change_again<L: Ledger>(
     plan_and_return(alloc, region, steps, first, second)
 }
 
-/// Changes a region twice, and goes on to a third patch and the ways back.
+// Changes a region twice, and goes on to a third patch and the ways back.
 fn change_on<L: Ledger>(
     alloc: Global,
     region: &mut Region,
@@ -418,7 +418,7 @@ fn two_changes_are_taken_back_while_a_third_has_its_rows(rt: HostRuntime) -> Res
     Ok(())
 }
 
-/// Links before and after a change, and the change.
+// Links before and after a change, and the change.
 #[derive(Drop)]
 struct Drawing {
     old: Vec<(u64, u64)>,
@@ -426,7 +426,7 @@ struct Drawing {
     flips: Vec<Flip>,
 }
 
-/// What the dice say of a link: it is there before, after, both or never.
+// What the dice say of a link: it is there before, after, both or never.
 fn draw_link(drawing: &mut Drawing, a: u64, b: u64, dice: u64) -> Result<(), NoMemory> {
     match dice {
         0 | 1 => {
@@ -446,7 +446,7 @@ fn draw_link(drawing: &mut Drawing, a: u64, b: u64, dice: u64) -> Result<(), NoM
     Ok(())
 }
 
-/// A graph of seven numbers, the last of which is terminal, and a change of its links.
+// A graph of seven numbers, the last of which is terminal, and a change of its links.
 fn draw(alloc: Global, seed: u64) -> Result<Drawing, NoMemory> {
     let mut drawing = Drawing {
         old: Vec::new(alloc),
@@ -491,8 +491,8 @@ fn two_hundred_small_graphs_agree_with_a_plain_search(rt: HostRuntime) -> Result
     Ok(())
 }
 
-/// A grid of a hundred by a hundred numbers, 128 times the row and the column, which counts its
-/// answers. Where `cut` holds, the first link of the corner is not there.
+// A grid of a hundred by a hundred numbers, 128 times the row and the column, which counts its
+// answers. Where `cut` holds, the first link of the corner is not there.
 #[derive(Drop)]
 struct Grid {
     cut: bool,
@@ -571,8 +571,8 @@ impl LinkSource for Grid {
     }
 }
 
-/// How many marks of the grid are not the row and the column together, the first row excepted,
-/// where it is two more from the column 1 on.
+// How many marks of the grid are not the row and the column together, the first row excepted,
+// where it is two more from the column 1 on.
 fn wrong_marks(region: &Region) -> u64 {
     let mut wrong = 0u64;
     for y in 0u32..100 {
@@ -586,7 +586,7 @@ fn wrong_marks(region: &Region) -> u64 {
     wrong
 }
 
-/// The answers that building took, those that the repair took, and the marks that are wrong then.
+// The answers that building took, those that the repair took, and the marks that are wrong then.
 fn cut_corner<L: Ledger>(alloc: Global, blank: Blank) -> Result<(u64, u64, u64), NoMemory>
     requires name { blank.name ≡ L.name }
     requires parts { blank.parts ≡ L.parts }

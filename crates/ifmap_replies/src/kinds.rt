@@ -31,7 +31,7 @@ const RESULT_KINDS: [ResultKind; 9] = [
 ];
 
 impl ResultKind {
-    /// The local name of its element.
+    // The local name of its element.
     fn local(self) -> &'static str
         ensures { result.now ≡ result_local self }
     {
@@ -84,7 +84,7 @@ const POLL_KINDS: [PollKind; 5] = [
 ];
 
 impl PollKind {
-    /// The local name of its element.
+    // The local name of its element.
     fn local(self) -> &'static str
         ensures { result.now ≡ poll_local self }
     {

@@ -18,7 +18,7 @@ use ifmap_forms::{Declarations, FormError, MessagePlace};
 use ifmap_ident::{ReadError, read};
 use std::alloc::Global;
 
-/// How many levels a request can have.
+// How many levels a request can have.
 const LEVELS: u32 = 64;
 
 /// The request that the element with this path means, or the code of its first defect in the order of

@@ -46,7 +46,7 @@ pub struct News {
     pub is_too_big: bool,
 }
 
-/// What went from a result, and what came into it.
+// What went from a result, and what came into it.
 #[derive(Drop)]
 pub(crate) struct Differences {
     pub deleted: Many<Entry>,
@@ -64,7 +64,7 @@ enum Cause {
     Notified,
 }
 
-/// What a subscription is told of a change that it took over.
+// What a subscription is told of a change that it took over.
 pub(crate) fn news_of<G: View, D: View>(
     alloc: Global,
     standing: &Standing,

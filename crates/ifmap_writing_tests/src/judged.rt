@@ -13,7 +13,7 @@ pub static SCRIPTED: [(&str, usize); 2] = [
     ),
 ];
 
-/// Elements, the declarations behind those of envelopes and requests where they are written, and what is
+/// Elements, the declarations after those of envelopes and requests where they are written, and what is
 /// written of them.
 pub static WRITTEN: [(&str, &str, &str); 12] = [
     // A limit is put into its range, and is not said where it was not.

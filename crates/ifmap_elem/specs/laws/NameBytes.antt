@@ -129,7 +129,7 @@ white_is_no_name b h = by_test (is_name_byte b) refl
     by_test false e = e
     by_test true e = let wrong : true ≡ false = sym h ∙ name_is_not_white b e in cc
 
--- white space stands before no name, and a name behind none
+-- white space stands before no name, and a name after none
 pub white_stops_at_name : (q : Qualified) (r : List ℕ) → IsQualified q → Stops is_white (name_bytes q ++ r)
 white_stops_at_name q r i = front_stops is_name_byte is_white name_is_not_white (name_bytes q) r (name_is_some q i) (name_are_bytes q i)
 

@@ -100,7 +100,7 @@ one_quoted bytes v w r s l m =
     let rest : l.quote ∷ r ≡ m.quote ∷ s = third.1 in
     (third.0, cc)
 
--- what stands behind a name in a tag
+-- what stands after a name in a tag
 pub quoted_stops : (bytes v r : List ℕ) → TakesQuoted bytes v r → Stops is_name_byte bytes
 quoted_stops bytes v r t = subst (Stops is_name_byte) (sym t.bytes_are) (name_stops_at_white t.before _ t.white_before refl)
 
@@ -147,7 +147,7 @@ no_assignment bytes a rest i t =
     (white_stops_at_name a.name t.after t.is_name) (sym i.2 ∙ t.bytes_are) in
     no_name_ends i.1 a.name t.after t.is_name i.4 both.1
 
--- what stands behind a tag's name is no byte of a name
+-- what stands after a tag's name is no byte of a name
 pub assigned_stops : (bytes : List ℕ) (as' : List Assignment) (white end : List ℕ) → IsWhite white → EndsTag end
     → To TakesAssignment bytes as' (white ++ end) → Stops is_name_byte bytes
 assigned_stops bytes [] white end f ends l = subst (Stops is_name_byte) (sym l) (name_stops_at_white white end f (stops_name end ends))

@@ -110,7 +110,7 @@ abbrev pub Begins : Item → List ℕ → Type 0
 Begins (Inner e declared) bytes = (rest : List ℕ) → EndsText (bytes ++ rest)
 Begins (Run text) bytes = Unit {0}
 
--- behind a text stands a tag
+-- after a text stands a tag
 abbrev pub MayFollow : Item → List ℕ → Type 0
 MayFollow (Inner e declared) rest = Unit {0}
 MayFollow (Run text) rest = EndsText rest

@@ -25,7 +25,7 @@ IsNumbered spaces space = (space ≡ []) ⊎ (is_some (lookup (bytes_eq space) (
 -- end, stand after the bytes before
 pub record Adds (old spaces new : List (List ℕ)) (piece : List (List ℕ × List ℕ) → List ℕ) (before after : List ℕ) : Type 0 where
   pub added : AddsSpaces old spaces new
-  pub behind : IsFront old new
+  pub extends : IsFront old new
   pub written : (final : List (List ℕ)) → AreFinal new final → after ≡ before ++ piece (name_prefixes final)
 
 -- a name

@@ -67,10 +67,10 @@ module _ (X : Type 0) (C : X → X → Ordering) (o : IsTotalOrder C) where
   rises_apart xs up apart =
       climbs X C o xs (λ k d l.
       let next : k + 1 ≡ suc k = omega arith in
-      let behind : is_lt (C (get_or xs (suc k) d) (get_or xs k d)) ≡ false =
+      let after : is_lt (C (get_or xs (suc k) d) (get_or xs k d)) ≡ false =
       subst (λ n. is_lt (C (get_or xs n d) (get_or xs k d)) ≡ false) next (up k d (omega arith) (omega (arith, l))) in
       between (C (get_or xs k d) (get_or xs (suc k) d)) (C (get_or xs (suc k) d) (get_or xs k d))
-      (o.antisymm (get_or xs k d) (get_or xs (suc k) d)) behind
+      (o.antisymm (get_or xs k d) (get_or xs (suc k) d)) after
       (apart_from_distinct (eq_by_cmp C) xs k (suc k) d apart (omega arith) l))
 
 -- ---- what a list has after rows came to it one after the other

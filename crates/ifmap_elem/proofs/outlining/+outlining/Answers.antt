@@ -55,7 +55,7 @@ write_outline-returns t c =
     c.in_ok-extend_from_slice.ensures.items c.in_ok-prefix.ensures.added c.in_ok-write_outline_attributes.ensures
     (c.in_ok-write_pieces.ensures
     (λ final f. c.in_ok-prefix.ensures.prefix final
-    (final_before c.write_label.new.prefixes c.write_outline_attributes.new.prefixes final c.in_ok-write_outline_attributes.ensures.behind
+    (final_before c.write_label.new.prefixes c.write_outline_attributes.new.prefixes final c.in_ok-write_outline_attributes.ensures.extends
     f))))
 
 pub write_piece-returns-in_ok-write_escaped-in-Text : goal.write_piece-returns-in_ok-write_escaped-in-Text

@@ -46,4 +46,4 @@ write_element-returns t c =
     c.in_ok-extend_from_slice.ensures.items c.in_ok-prefix.ensures.added c.in_ok-write_attributes.ensures
     (c.in_ok-write_content.ensures
     (λ final f. c.in_ok-prefix.ensures.prefix final
-    (final_before c.write_label.new.prefixes c.write_attributes.new.prefixes final c.in_ok-write_attributes.ensures.behind f)))
+    (final_before c.write_label.new.prefixes c.write_attributes.new.prefixes final c.in_ok-write_attributes.ensures.extends f)))

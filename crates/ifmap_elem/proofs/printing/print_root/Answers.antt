@@ -21,11 +21,11 @@ returns c =
     c.in_ok-prefix.ensures.prefix in
     let content =
     c.in_ok-write_inside.ensures (λ final f. named final (final_before c.number_label.new.self c.write_root_attributes.new.prefixes final
-    c.in_ok-write_root_attributes.ensures.behind f)) in
+    c.in_ok-write_root_attributes.ensures.extends f)) in
     let whole : AreFinal c.number_label.new.self c.write_inside.new.prefixes =
     record {
       begins = front_both c.number_label.new.self c.write_root_attributes.new.prefixes c.write_inside.new.prefixes
-          c.in_ok-write_root_attributes.ensures.behind content.behind;
+          c.in_ok-write_root_attributes.ensures.extends content.extends;
       none_bare = c.spaces.ensures.none_bare;
     } in
     piece_root (root_of (label_name c.args.label) c.args.content) c.args.spaces.now c.in_ok-prefixes.prefixes c.number_label.new.self

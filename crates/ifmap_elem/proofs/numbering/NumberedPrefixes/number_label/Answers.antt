@@ -14,8 +14,8 @@ pub returns-in-Bare-clause-added : goal.returns-in-Bare-clause-added
 returns-in-Bare-clause-added c =
     adds_no_space c.args.self.now (label_name c.args.label).space (ap (λ (l : Label). (label_name l).space) c.in-Bare.is)
 
-pub returns-in-Bare-clause-behind : goal.returns-in-Bare-clause-behind
-returns-in-Bare-clause-behind c = front_same c.args.self.now
+pub returns-in-Bare-clause-extends : goal.returns-in-Bare-clause-extends
+returns-in-Bare-clause-extends c = front_same c.args.self.now
 
 pub returns-in-Bare-clause-numbered : goal.returns-in-Bare-clause-numbered
 returns-in-Bare-clause-numbered c = inl (ap (λ (l : Label). (label_name l).space) c.in-Bare.is)

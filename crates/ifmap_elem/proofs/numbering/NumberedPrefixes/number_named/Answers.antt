@@ -45,8 +45,8 @@ returns-clause-added c =
     let p = put_in c in
     adds_unprefixed c.args.self.now (bytes_of c.push_reserved.new.self.items) c.args.space.now c.requires.some p.unknown p.more
 
-pub returns-clause-behind : goal.returns-clause-behind
-returns-clause-behind c = (c.args.space.now ∷ [], (put_in c).more)
+pub returns-clause-extends : goal.returns-clause-extends
+returns-clause-extends c = (c.args.space.now ∷ [], (put_in c).more)
 
 pub returns-clause-numbered : goal.returns-clause-numbered
 returns-clause-numbered c = inr (ap is_some (sym (put_in c).own))
