@@ -9,7 +9,7 @@ use Rattle.ifmap_elem.specs.declared.readings.Reading.{Reading}
 use Rattle.ifmap_elem.specs.declared.tokens.Token.{Token}
 use Rattle.ifmap_elem.specs.Document.{Item, Run, is_child, child_of}
 use Rattle.ifmap_elem.specs.Folds.{at_element, at_child_element, at_child_text}
-use Rattle.ifmap_elem.specs.Nesting.{greatest, nesting, child_nesting, child_levels, element_levels}
+use Rattle.ifmap_elem.specs.Nesting.{greatest_of, nesting, child_nesting, child_levels, element_levels}
 use Rattle.ifmap_reader.specs.declared.open_elements.OpenElement.{OpenElement}
 use Rattle.ifmap_reader.specs.Depths.{levels}
 use Rattle.ifmap_reader.specs.OpenElements.{Closes, has_children, children_to_come, is_child_text, text_child, with_inner}
@@ -17,14 +17,14 @@ use Rattle.ifmap_reader.specs.Progress.{Where, AtStart, Within, AfterRoot, Closi
 
 -- the greatest nesting of some children
 abbrev pub deepest : List Child → ℕ
-deepest cs = greatest (map child_nesting cs)
+deepest cs = greatest_of (map child_nesting cs)
 
-greatest_append : (ms ns : List ℕ) → greatest (ms ++ ns) ≡ max (greatest ms) (greatest ns)
+greatest_append : (ms ns : List ℕ) → greatest_of (ms ++ ns) ≡ max (greatest_of ms) (greatest_of ns)
 greatest_append [] ns = omega arith
 greatest_append (m ∷ ms) ns = let h = greatest_append ms ns in omega (arith, h)
 
 deepest_append : (cs ds : List Child) → deepest (cs ++ ds) ≡ max (deepest cs) (deepest ds)
-deepest_append cs ds = ap greatest (map-append child_nesting cs ds) ∙ greatest_append (map child_nesting cs) (map child_nesting ds)
+deepest_append cs ds = ap greatest_of (map-append child_nesting cs ds) ∙ greatest_append (map child_nesting cs) (map child_nesting ds)
 
 nesting_is : (e : Element) → nesting e ≡ suc (deepest e.children)
 nesting_is e = at_element ℕ ℕ child_levels element_levels e
