@@ -73,8 +73,8 @@ abbrev pub scope_inside : List Binding → List OpenElement → Scope
 scope_inside bindings open_elements = bindings ++ scope_of (reverse open_elements)
 
 -- the assignments that bind no prefix
-abbrev pub plain : List Assignment → List Assignment
-plain assignments = filter (λ a. is_none (binding_of a)) assignments
+abbrev pub plain_part : List Assignment → List Assignment
+plain_part assignments = filter (λ a. is_none (binding_of a)) assignments
 
 -- no attribute has the name
 abbrev pub LacksName : Name → List Attribute → Type 0

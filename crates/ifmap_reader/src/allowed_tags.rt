@@ -2,7 +2,7 @@
 ghost use Rattle.std.specs.Prelude.{◌≡◌, reverse, IfOk};
 ghost use Rattle.ifmap_elem.specs.Scopes.{prefix_space, root_scope};
 ghost use Rattle.ifmap_reader.specs.OpenElements.{AreLinked, CountsBindings};
-ghost use Rattle.ifmap_reader.specs.AllowedTags.{AnswersAttributes, AnswersAttribute, TagAnswer, plain, scope_inside};
+ghost use Rattle.ifmap_reader.specs.AllowedTags.{AnswersAttributes, AnswersAttribute, TagAnswer, plain_part, scope_inside};
 
 use crate::bindings::{Bindings, XML, bindings_of, bound_prefix};
 use crate::declarations::TurnedDeclarations;
@@ -116,8 +116,8 @@ fn attributes_of(
     assignments: Many<Assignment>,
 ) -> Result<Many<Attribute>, TokenRefusal>
     requires { AreLinked (reverse open_elements.now) }
-    ensures { AnswersAttributes (scope_inside bindings.now open_elements.now) (plain assignments)
-        result }
+    ensures { AnswersAttributes (scope_inside bindings.now open_elements.now)
+        (plain_part assignments) result }
 {
     let Many(mut left) = assignments;
     let mut made = Vec::with_capacity(alloc, left.len())?;
