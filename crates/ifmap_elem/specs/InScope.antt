@@ -12,7 +12,7 @@ use Rattle.ifmap_elem.specs.declared.tokens.Tag.{Tag}
 use Rattle.ifmap_elem.specs.declared.tokens.Token.{Token}
 use Rattle.ifmap_elem.specs.Document as piece
 use Rattle.ifmap_elem.specs.Document.{Pieces, Nothing, chain_pieces, tokens_of, heading, Item, join_runs, is_child, AreItems, IsMargin}
-use Rattle.ifmap_elem.specs.Scopes.{Binding, Scope, NamesElement, bound, root_scope, scope_within}
+use Rattle.ifmap_elem.specs.Scopes.{Binding, Scope, NamesElement, prefix_space, root_scope, scope_within}
 use Rattle.ifmap_elem.specs.Spells.{without_byte_order_mark}
 use Rattle.ifmap_elem.specs.Tokens.{TakesToken}
 
@@ -30,7 +30,7 @@ is_listed prefix = not (length prefix == 0 || bytes_eq prefix (codes "xml"))
 
 -- what a prefix is listed with: what the innermost of the bindings binds it to
 abbrev pub listed_space : Scope → List ℕ → Option (List ℕ)
-listed_space scope prefix = if is_listed prefix then bound scope prefix else None
+listed_space scope prefix = if is_listed prefix then prefix_space scope prefix else None
 
 -- the first piece is an element with this tag and with these pieces in it
 abbrev pub IsElementPiece : Pieces → Tag → Pieces → Pieces → Type 0

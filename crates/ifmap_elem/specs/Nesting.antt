@@ -5,16 +5,16 @@ use Rattle.ifmap_elem.specs.declared.elements.Element.{Element, fold-Element}
 use Rattle.ifmap_elem.specs.declared.elements.Child.TheOpen.{Child-F, Element-F}
 
 -- the greatest of some numbers, or 0
-abbrev pub greatest : List ℕ → ℕ
-greatest [] = 0
-greatest (n ∷ ns) = max n (greatest ns)
+abbrev pub greatest_of : List ℕ → ℕ
+greatest_of [] = 0
+greatest_of (n ∷ ns) = max n (greatest_of ns)
 
 abbrev pub child_levels : Child-F ℕ ℕ → ℕ
 child_levels (Child-F.Element levels) = levels
 child_levels (Child-F.Text text) = 0
 
 abbrev pub element_levels : Element-F ℕ ℕ → ℕ
-element_levels e = suc (greatest e.children)
+element_levels e = suc (greatest_of e.children)
 
 -- the levels of an element: 1, and those of the child with the most
 abbrev pub nesting : Element → ℕ

@@ -32,9 +32,9 @@ abbrev pub root_scope : Scope
 root_scope = record { prefix = codes "xml"; space = xml_space } ∷ (record { prefix = []; space = [] } ∷ [])
 
 -- what a prefix is bound to, by the innermost binding
-abbrev pub bound : Scope → List ℕ → Option (List ℕ)
-bound [] prefix = None
-bound (b ∷ bs) prefix = if bytes_eq b.prefix prefix then Some b.space else bound bs prefix
+abbrev pub prefix_space : Scope → List ℕ → Option (List ℕ)
+prefix_space [] prefix = None
+prefix_space (b ∷ bs) prefix = if bytes_eq b.prefix prefix then Some b.space else prefix_space bs prefix
 
 -- the binding that an assignment makes: of the default by `xmlns`, of a prefix by that prefix after `xmlns:`
 abbrev pub binding_of : Assignment → Option Binding
@@ -66,7 +66,7 @@ pub record IsBinding (b : Binding) : Type 0 where
 -- an attribute without a prefix is in no namespace
 abbrev pub attribute_space : Scope → List ℕ → Option (List ℕ)
 attribute_space scope [] = Some []
-attribute_space scope (b ∷ bs) = bound scope (b ∷ bs)
+attribute_space scope (b ∷ bs) = prefix_space scope (b ∷ bs)
 
 -- the attribute that an assignment gives
 pub record IsAttribute (scope : Scope) (a : Assignment) (attribute : Attribute) : Type 0 where
@@ -85,7 +85,7 @@ AreAttributes scope (a ∷ as') (t ∷ ts) = IsAttribute scope a t × AreAttribu
 pub record NamesElement (outer : Scope) (tag : Tag) (name : Name) (attributes : List Attribute) : Type 0 where
   pub binds : AllByRecursion IsBinding (bindings tag)
   pub binds_once : AllDiffer (map (λ b. b.prefix) (bindings tag))
-  pub space_is : bound (scope_within outer tag) tag.name.prefix ≡ Some name.space
+  pub space_is : prefix_space (scope_within outer tag) tag.name.prefix ≡ Some name.space
   pub local_is : name.local ≡ tag.name.local
   pub attributes_are : AreAttributes (scope_within outer tag) (plain_assignments tag) attributes
   pub names_differ : AllDiffer (map (λ t. t.name) attributes)

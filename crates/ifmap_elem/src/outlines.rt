@@ -114,7 +114,7 @@ impl<'a> Outline<'a> {
     }
 
     /// The outline as a piece of another.
-    pub fn inside(self) -> Piece<'a>
+    pub fn into_piece(self) -> Piece<'a>
         ensures { outline_child result ≡ the.Element (outline_element self.entry) }
     {
         Piece::Outline(self)

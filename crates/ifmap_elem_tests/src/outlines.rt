@@ -43,9 +43,9 @@ fn outline_of<'a>(alloc: Global, parts: &'a Parts) -> Result<Outline<'a>, NoMemo
         OutlineAttribute::from_str("kind", "&"),
     ]?;
     let pieces = vec![in alloc;
-        Outline::with_local("a", mixed, words).inside(),
+        Outline::with_local("a", mixed, words).into_piece(),
         Piece::of_element(&parts.element),
-        Outline::with_local("c", Vec::new(alloc), Vec::new(alloc)).inside(),
+        Outline::with_local("c", Vec::new(alloc), Vec::new(alloc)).into_piece(),
     ]?;
     Ok(Outline::with_name(&parts.name, rising, pieces))
 }

@@ -17,7 +17,7 @@ use Rattle.ifmap_filter.specs.declared.filters.Test.{Test}
 use Rattle.ifmap_filter.specs.declared.filters.Filter.{Filter}
 use Rattle.ifmap_filter.specs.declared.tokens.FilterToken.{FilterToken}
 use Rattle.ifmap_filter.specs.declared.tokens.FilterToken.TheVariants.{Any, OpenBracket, Name}
-use Rattle.ifmap_filter.specs.Grammar.{AreTests, AsksFor, IsFilter, TakesAnds, TakesFactor, TakesMore, TakesOrs, TakesPredicate, TakesTest, and_word, unprefixed_name, deepest, join_of, or_word, space_of}
+use Rattle.ifmap_filter.specs.Grammar.{AreTests, AsksFor, IsFilter, TakesAnds, TakesFactor, TakesMore, TakesOrs, TakesPredicate, TakesTest, and_word, unprefixed_name, depth_limit, join_of, or_word, space_of}
 use Rattle.ifmap_filter.specs.Progress.{MoreFactors, MoreTests, PredicateFirst, TestFirst, done_part, join_parts, is_word, test_of}
 
 -- (1) words
@@ -82,7 +82,7 @@ module _ (scope : Scope) where
           let is = only test.name (subst (λ (h : FilterToken). AsksFor scope h test.name) (sym same.0) takes.asks) in (
             test.predicate,
             mid,
-            subst (λ (ts : List FilterToken). TakesPredicate scope deepest ts test.predicate mid) (sym same.1) takes.holds,
+            subst (λ (ts : List FilterToken). TakesPredicate scope depth_limit ts test.predicate mid) (sym same.1) takes.holds,
             subst (λ (n : Option element.Name). MoreTests scope filter (done ++ test_of n test.predicate ∷ []) mid) is rest,
           )),
       (λ (p, mid, takes, rest).
@@ -99,10 +99,11 @@ module _ (scope : Scope) where
     pub started : (t : FilterToken) (more : List FilterToken) → IsFilter scope (t ∷ more) filter ↔ TestFirst scope filter [] (t ∷ more)
     started t more = (
       (λ is. from filter.tests is refl),
-      (λ (test, mid, takes, (tests, others, is)). subst (AreTests scope deepest (t ∷ more)) (sym is) (mid, takes, others)),
+      (λ (test, mid, takes, (tests, others, is)). subst (AreTests scope depth_limit (t ∷ more)) (sym is) (mid, takes, others)),
     )
       where
-        from : (tests : List Test) → AreTests scope deepest (t ∷ more) tests → filter.tests ≡ tests → TestFirst scope filter [] (t ∷ more)
+        from : (tests : List Test) → AreTests scope depth_limit (t ∷ more) tests → filter.tests ≡ tests
+            → TestFirst scope filter [] (t ∷ more)
         from [] e is = cc
         from (test ∷ tests) (mid, takes, others) is = (test, mid, takes, (tests, others, is))
 
@@ -113,14 +114,14 @@ module _ (scope : Scope) where
       (λ (test, mid, takes, (tests, others, is)). (test ∷ tests, (more, mid, refl, takes, others), is ∙ joins done test tests)),
     )
       where
-        from : (tests : List Test) → TakesMore or_word (TakesTest scope deepest) (or_word ∷ more) tests [] → filter.tests ≡ done ++ tests
-            → TestFirst scope filter done more
+        from : (tests : List Test) → TakesMore or_word (TakesTest scope depth_limit) (or_word ∷ more) tests []
+            → filter.tests ≡ done ++ tests → TestFirst scope filter done more
         from [] e is = cc
         from (test ∷ tests) (after, mid, e, takes, others) is =
             let tail : after ≡ more = cc in (
               test,
               mid,
-              subst (λ (ts : List FilterToken). TakesTest scope deepest ts test mid) tail takes,
+              subst (λ (ts : List FilterToken). TakesTest scope depth_limit ts test mid) tail takes,
               (tests, others, is ∙ sym (joins done test tests)),
             )
 
@@ -128,7 +129,7 @@ module _ (scope : Scope) where
         → MoreTests scope filter done (t ∷ more) → ⊥
     tested_other done t other more (tests, takes, is) = from tests takes
       where
-        from : (tests : List Test) → TakesMore or_word (TakesTest scope deepest) (t ∷ more) tests [] → ⊥
+        from : (tests : List Test) → TakesMore or_word (TakesTest scope depth_limit) (t ∷ more) tests [] → ⊥
         from [] e = cc
         from (test ∷ tests) (after, mid, e, takes, others) = let h : t ≡ or_word = cc in other h
 
@@ -136,7 +137,7 @@ module _ (scope : Scope) where
         → PredicateFirst scope filter done name (t ∷ more) ↔ MoreTests scope filter (done ++ test_of name None ∷ []) (t ∷ more)
     bare_named done name t other more = ((λ (p, mid, takes, rest). from p mid takes rest), (λ rest. (None, t ∷ more, refl, rest)))
       where
-        from : (p : Option Predicate) (mid : List FilterToken) → TakesPredicate scope deepest (t ∷ more) p mid
+        from : (p : Option Predicate) (mid : List FilterToken) → TakesPredicate scope depth_limit (t ∷ more) p mid
             → MoreTests scope filter (done ++ test_of name p ∷ []) mid
             → MoreTests scope filter (done ++ test_of name None ∷ []) (t ∷ more)
         from None mid e rest = subst (MoreTests scope filter (done ++ test_of name None ∷ [])) (sym e) rest

@@ -8,7 +8,7 @@ use Rattle.ifmap_lemmas.specs.Items.{To}
 use Rattle.ifmap_prefixes.specs.ifmap_reader.declared.scoping.Scope.{Scope}
 use Rattle.ifmap_filter.specs.declared.filters.Filter.{Filter}
 use Rattle.ifmap_filter.specs.declared.tokens.FilterToken.{FilterToken}
-use Rattle.ifmap_filter.specs.Grammar.{IsFilter, deepest}
+use Rattle.ifmap_filter.specs.Grammar.{IsFilter, depth_limit}
 use Rattle.ifmap_filter.specs.Laws.{FilterOrStop, OneFilter, OnePlace, StopsWhereNone}
 use Rattle.ifmap_filter.specs.Progress.{GoesOn, FilterState, Start, open_parts, step_token, filter_at}
 use Rattle.ifmap_filter.specs.Reaching.{ReadsTo}
@@ -65,16 +65,16 @@ module _ (scope : Scope) where
   one_at_end n w (Some h) is f g a b = (is f).0 a ∙ sym ((is g).0 b)
 
   one_after : (n : ℕ) (w : FilterState) (t : FilterToken) (ts : List FilterToken) (o : Option FilterState)
-      → ((m : ℕ) (next : FilterState) → m + open_parts next ≡ deepest → IsOne m next ts) → IsRight scope n w t o → IsOne n w (t ∷ ts)
+      → ((m : ℕ) (next : FilterState) → m + open_parts next ≡ depth_limit → IsOne m next ts) → IsRight scope n w t o → IsOne n w (t ∷ ts)
   one_after n w t ts None others none f g a b = absurd (none f ts a)
   one_after n w t ts (Some next) others (m, e, is) f g a b = others m next e f g ((is f ts).0 a) ((is g ts).0 b)
 
-  one : (ts : List FilterToken) (n : ℕ) (w : FilterState) → n + open_parts w ≡ deepest → IsOne n w ts
+  one : (ts : List FilterToken) (n : ℕ) (w : FilterState) → n + open_parts w ≡ depth_limit → IsOne n w ts
   one [] n w e = one_at_end n w (filter_at w) (ends scope n w)
   one (t ∷ ts) n w e = one_after n w t ts (step_token scope w t) (λ m next f. one ts m next f) (right scope n w e t)
 
   pub tokens_are_one : (ts : List FilterToken) (f g : Filter) → IsFilter scope ts f → IsFilter scope ts g → f ≡ g
-  tokens_are_one ts = one ts deepest Start (omega arith)
+  tokens_are_one ts = one ts depth_limit Start (omega arith)
 
 -- (3) two readings of one text
 

@@ -12,7 +12,7 @@ use Rattle.ifmap_filter.specs.declared.standing.Operand.{Operand}
 use Rattle.ifmap_filter.specs.declared.standing.Operand.TheVariants as operand
 use Rattle.ifmap_filter.specs.declared.tokens.FilterToken.{FilterToken}
 use Rattle.ifmap_filter.specs.declared.tokens.FilterToken.TheVariants.{Any, CloseBracket, CloseParenthesis, EqualsSign, At, Name, Literal}
-use Rattle.ifmap_filter.specs.Grammar.{AreTests, IsFilter, TakesAnds, TakesFactor, TakesMore, TakesPredicate, TakesTest, and_word, unprefixed_name, deepest, or_word}
+use Rattle.ifmap_filter.specs.Grammar.{AreTests, IsFilter, TakesAnds, TakesFactor, TakesMore, TakesPredicate, TakesTest, and_word, unprefixed_name, depth_limit, or_word}
 use Rattle.ifmap_filter.specs.Progress.{Closes, Context, FilterState, Start, TestDue, Named, Tested, FactorDue, LocalDue, EqualsDue, LiteralDue, FactorDone, AfterFactor, GoesOn, MoreTests, PredicateFirst, TestFirst, comparison_of, done_part, join_parts, test_of, filter_at, with_factor}
 use Rattle.ifmap_filter.proofs.Continuing.{no_more}
 
@@ -30,7 +30,7 @@ module _ (scope : Scope) where
     (λ e. ([], refl, ap (λ (f : Filter). f.tests) e ∙ sym (append-nil done))),
   )
     where
-      from : (tests : List Test) → TakesMore or_word (TakesTest scope deepest) [] tests [] → filter.tests ≡ done ++ tests
+      from : (tests : List Test) → TakesMore or_word (TakesTest scope depth_limit) [] tests [] → filter.tests ≡ done ++ tests
           → filter ≡ record { tests = done }
       from [] e is = let same : filter.tests ≡ done = is ∙ append-nil done in (λ i. record { tests = same i })
       from (test ∷ tests) (after, mid, e, takes, others) is = cc
@@ -45,7 +45,7 @@ module _ (scope : Scope) where
     (λ e. (None, [], refl, (nothing_more filter (done ++ test_of name None ∷ [])).1 e)),
   )
     where
-      from : (p : Option Predicate) (mid : List FilterToken) → TakesPredicate scope deepest [] p mid
+      from : (p : Option Predicate) (mid : List FilterToken) → TakesPredicate scope depth_limit [] p mid
           → MoreTests scope filter (done ++ test_of name p ∷ []) mid
           → filter ≡ record { tests = done ++ test_of name None ∷ [] }
       from None mid e rest =
@@ -56,10 +56,10 @@ module _ (scope : Scope) where
   nothing_started : (filter : Filter) → IsFilter scope [] filter ↔ (filter ≡ record { tests = [] })
   nothing_started filter = (
     (λ is. from filter.tests is refl),
-    (λ e. subst (AreTests scope deepest []) (sym (ap (λ (f : Filter). f.tests) e)) refl),
+    (λ e. subst (AreTests scope depth_limit []) (sym (ap (λ (f : Filter). f.tests) e)) refl),
   )
     where
-      from : (tests : List Test) → AreTests scope deepest [] tests → filter.tests ≡ tests → filter ≡ record { tests = [] }
+      from : (tests : List Test) → AreTests scope depth_limit [] tests → filter.tests ≡ tests → filter ≡ record { tests = [] }
       from [] e is = (λ i. record { tests = is i })
       from (test ∷ tests) (mid, takes, others) is = let e : [] ≡ takes.head ∷ takes.after = takes.tokens_are in cc
 

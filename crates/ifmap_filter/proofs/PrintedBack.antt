@@ -32,7 +32,7 @@ use Rattle.ifmap_filter.specs.declared.filters.Filter.{Filter}
 use Rattle.ifmap_filter.specs.declared.tokens.FilterToken.{FilterToken}
 use Rattle.ifmap_filter.specs.declared.tokens.FilterToken.TheVariants.{Any, OpenBracket, CloseBracket, OpenParenthesis, CloseParenthesis, EqualsSign, At, Name, Literal}
 use Rattle.ifmap_filter.specs.declared.printing.Around.TheVariants.{Ands, Ors}
-use Rattle.ifmap_filter.specs.Grammar.{AreTests, AsksFor, Rule, StandsFor, TakesAnds, TakesComparison, TakesFactor, TakesJoined, TakesMore, TakesOrPart, TakesOrs, TakesPredicate, TakesTest, and_word, unprefixed_name, deepest, join_of, or_word}
+use Rattle.ifmap_filter.specs.Grammar.{AreTests, AsksFor, Rule, StandsFor, TakesAnds, TakesComparison, TakesFactor, TakesJoined, TakesMore, TakesOrPart, TakesOrs, TakesPredicate, TakesTest, and_word, unprefixed_name, depth_limit, join_of, or_word}
 use Rattle.ifmap_filter.specs.Printing.{CanBeParsed, IsAnsweredBack, NestsNoDeeper, PredicateText, WritesBack, ands_text, attribute_text, brackets_text, child_text, comparison_text, filter_text, group_text, joined_texts, literal_text, name_text, numbered_prefix, numbered_rows, numbered_scope, ors_text, parts_text, space_place, predicate_text, test_name_text, test_text}
 use Rattle.ifmap_filter.specs.Spaces.{HasSpaces, brackets_spaces, has_each, has_space, name_spaces, predicate_spaces, test_spaces}
 use Rattle.ifmap_filter.specs.Texts.{WritesWithin}
@@ -678,7 +678,7 @@ nests_no_deeper spaces filter has depth can =
 
 pub printed_back : (spaces : List (List ℕ)) (filter : Filter) → HasSpaces spaces filter
     → WritesBack (filter_text spaces filter) spaces filter
-printed_back spaces filter has = nests_no_deeper spaces filter has deepest
+printed_back spaces filter has = nests_no_deeper spaces filter has depth_limit
 
 pub answered_back : (spaces : List (List ℕ)) (filter : Filter) → HasSpaces spaces filter → CanBeParsed filter
     → IsAnsweredBack (filter_text spaces filter) spaces filter

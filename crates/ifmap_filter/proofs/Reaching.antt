@@ -13,7 +13,7 @@ use Rattle.ifmap_elem.specs.Names.{is_name_character, is_name_start}
 use Rattle.ifmap_prefixes.specs.ifmap_reader.declared.scoping.Scope.{Scope}
 use Rattle.ifmap_filter.specs.declared.filters.Filter.{Filter}
 use Rattle.ifmap_filter.specs.declared.tokens.FilterToken.{FilterToken}
-use Rattle.ifmap_filter.specs.Grammar.{IsFilter, deepest}
+use Rattle.ifmap_filter.specs.Grammar.{IsFilter, depth_limit}
 use Rattle.ifmap_filter.specs.Progress.{GoesOn, FilterState, Start, step_token, filter_at}
 use Rattle.ifmap_filter.specs.Reaching.{ReadsTo}
 use Rattle.ifmap_filter.specs.Texts.{BeginsFilter, StopsAt, Writes, token_offset}
@@ -151,7 +151,7 @@ module _ (text : List ℕ) (scope : Scope) where
   pub at_start : ReadsTo text scope Start (chars text)
   at_start = record {
     tokens = [];
-    room = deepest;
+    room = depth_limit;
     room_is = omega arith;
     lexed = refl;
     goes = (λ filter more. ((λ is. is), (λ is. is)));

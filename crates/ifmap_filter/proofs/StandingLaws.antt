@@ -12,24 +12,24 @@ use Rattle.ifmap_filter.specs.declared.standing.OpenPart.{OpenPart}
 use Rattle.ifmap_filter.specs.declared.standing.Operand.{Operand}
 use Rattle.ifmap_filter.specs.declared.marks.Mark.{Mark}
 use Rattle.ifmap_filter.specs.declared.marks.Mark.TheVariants as mark
-use Rattle.ifmap_filter.specs.Grammar.{deepest}
+use Rattle.ifmap_filter.specs.Grammar.{depth_limit}
 use Rattle.ifmap_filter.specs.Marks.{token_of}
 use Rattle.ifmap_filter.specs.Progress.{Context, FactorDue, context, join_parts, inner_context, inner_place, IsNotSingle, step_done, step_equals, step_factor, step_literal, step_local, step_named, step_test, step_tested, test_of}
 
-pub deepest_is : deepest ≡ 64
-unfolding deepest
-deepest_is = refl
+pub depth_limit_is : depth_limit ≡ 64
+unfolding depth_limit
+depth_limit_is = refl
 
 pub too_deep : (i : OpenPart) → 64 ≤ length i.outer → inner_place (context i) ≡ None
 too_deep i far =
-    let e : nat_lt (length (reverse i.outer)) deepest ≡ false =
-    (let l = length-reverse i.outer in let d = deepest_is in grind (arith, nat_tests, l, d, far)) in
+    let e : nat_lt (length (reverse i.outer)) depth_limit ≡ false =
+    (let l = length-reverse i.outer in let d = depth_limit_is in grind (arith, nat_tests, l, d, far)) in
     rw e refl
 
 pub goes_deeper : (i : OpenPart) → length i.outer < 64 → inner_place (context i) ≡ Some (FactorDue (inner_context (context i)))
 goes_deeper i near =
-    let e : nat_lt (length (reverse i.outer)) deepest ≡ true =
-    (let l = length-reverse i.outer in let d = deepest_is in grind (arith, nat_tests, l, d, near)) in
+    let e : nat_lt (length (reverse i.outer)) depth_limit ≡ true =
+    (let l = length-reverse i.outer in let d = depth_limit_is in grind (arith, nat_tests, l, d, near)) in
     rw e refl
 
 pub pushed : (outer : List OuterPart) (outer_part : OuterPart) → reverse (outer ++ outer_part ∷ []) ≡ outer_part ∷ reverse outer

@@ -19,7 +19,7 @@ use Rattle.ifmap_filter.specs.declared.tokens.FilterToken.TheVariants.{Any, Open
 use Rattle.ifmap_filter.specs.declared.standing.OuterPart.{OuterPart}
 use Rattle.ifmap_filter.specs.declared.standing.Operand.{Operand}
 use Rattle.ifmap_filter.specs.declared.standing.Operand.TheVariants as operand
-use Rattle.ifmap_filter.specs.Grammar.{AsksFor, StandsFor, TakesComparison, TakesFactor, TakesOrPart, TakesOrs, and_word, unprefixed_name, deepest, or_word, space_of}
+use Rattle.ifmap_filter.specs.Grammar.{AsksFor, StandsFor, TakesComparison, TakesFactor, TakesOrPart, TakesOrs, and_word, unprefixed_name, depth_limit, or_word, space_of}
 use Rattle.ifmap_filter.specs.Progress.{Closes, Context, FilterState, Start, TestDue, Named, Tested, FactorDue, LocalDue, EqualsDue, LiteralDue, FactorDone, AfterFactor, EqualsFirst, FactorFirst, GoesOn, LiteralFirst, LocalFirst, MoreFactors, MoreTests, PredicateFirst, TestFirst, asks_named, child_named, close_group, close_test, comparison_of, done_part, inner_context, is_word, name_in, open_parts, next_part, step_token, step_done, step_equals, step_factor, step_literal, step_local, step_named, step_test, step_tested, test_of, with_factor}
 use Rattle.ifmap_filter.proofs.Continuing.{Refuses, and_more, any_asks, bare_named, head_of, name_asks, named, none_asks, not_that_word, or_more, or_part, other_more, started, tested_or, tested_other, unnamed, word_is}
 
@@ -28,7 +28,7 @@ module _ (scope : Scope) where
   abbrev pub IsRight : ℕ → FilterState → FilterToken → Option FilterState → Type 0
   IsRight n w t None = (filter : Filter) (more : List FilterToken) → GoesOn scope filter n w (t ∷ more) → ⊥
   IsRight n w t (Some next) =
-      (m : ℕ) × (m + open_parts next ≡ deepest)
+      (m : ℕ) × (m + open_parts next ≡ depth_limit)
       × ((filter : Filter) (more : List FilterToken) → GoesOn scope filter n w (t ∷ more) ↔ GoesOn scope filter m next more)
 
   -- what goes on from one place as from another
@@ -51,7 +51,7 @@ module _ (scope : Scope) where
   no_asks t no_any no_name None e = no_any e
   no_asks t no_any no_name (Some name) (q, e, s) = no_name q e
 
-  test_named : (n : ℕ) (done : List Test) (q : Qualified) → n + 0 ≡ deepest → (o : Option (List ℕ)) → space_of scope q.prefix ≡ o
+  test_named : (n : ℕ) (done : List Test) (q : Qualified) → n + 0 ≡ depth_limit → (o : Option (List ℕ)) → space_of scope q.prefix ≡ o
       → IsRight n (TestDue done) (Name q) (asks_named done (name_in o q.local))
   test_named n done q e None is = λ filter more. unnamed scope filter done (Name q) (none_asks scope filter q is) more
   test_named n done q e (Some space) is = (
@@ -65,7 +65,7 @@ module _ (scope : Scope) where
   no_test : (n : ℕ) (done : List Test) (t : FilterToken) → t ≢ Any → ((q : Qualified) → t ≢ Name q) → IsRight n (TestDue done) t None
   no_test n done t no_any no_name = λ filter more. unnamed scope filter done t (no_asks t no_any no_name) more
 
-  right_test : (n : ℕ) (done : List Test) → n + 0 ≡ deepest → (t : FilterToken) → IsRight n (TestDue done) t (step_test scope done t)
+  right_test : (n : ℕ) (done : List Test) → n + 0 ≡ depth_limit → (t : FilterToken) → IsRight n (TestDue done) t (step_test scope done t)
   right_test n done e Any = (n, e, (λ filter more. named scope filter done Any None refl (any_asks scope filter) more))
   right_test n done e (Name q) = test_named n done q e (space_of scope q.prefix) refl
   right_test n done e OpenBracket = no_test n done OpenBracket (λ e. cc) (λ q e. cc)
@@ -76,7 +76,7 @@ module _ (scope : Scope) where
   right_test n done e At = no_test n done At (λ e. cc) (λ q e. cc)
   right_test n done e (Literal v) = no_test n done (Literal v) (λ e. cc) (λ q e. cc)
 
-  tested_name : (n : ℕ) (done : List Test) (q : Qualified) → n + 0 ≡ deepest → (b : Bool) → is_word (codes "or") q ≡ b
+  tested_name : (n : ℕ) (done : List Test) (q : Qualified) → n + 0 ≡ depth_limit → (b : Bool) → is_word (codes "or") q ≡ b
       → IsRight n (Tested done) (Name q) (if b then Some (TestDue done) else None)
   tested_name n done q e true is = (
     n,
@@ -87,7 +87,7 @@ module _ (scope : Scope) where
   )
   tested_name n done q e false is = λ filter more. tested_other scope filter done (Name q) (not_that_word (codes "or") q is) more
 
-  right_tested : (n : ℕ) (done : List Test) → n + 0 ≡ deepest → (t : FilterToken) → IsRight n (Tested done) t (step_tested done t)
+  right_tested : (n : ℕ) (done : List Test) → n + 0 ≡ depth_limit → (t : FilterToken) → IsRight n (Tested done) t (step_tested done t)
   right_tested n done e (Name q) = tested_name n done q e (is_word (codes "or") q) refl
   right_tested n done e Any = λ filter more. tested_other scope filter done Any (λ e. cc) more
   right_tested n done e OpenBracket = λ filter more. tested_other scope filter done OpenBracket (λ e. cc) more
@@ -100,41 +100,41 @@ module _ (scope : Scope) where
 
   module _ (filter : Filter) (done : List Test) (name : Option element.Name) (more : List FilterToken) where
     opens : PredicateFirst scope filter done name (OpenBracket ∷ more)
-        → FactorFirst scope filter deepest (record { tests = done; name = name; outer = []; ors = []; ands = [] }) more
+        → FactorFirst scope filter depth_limit (record { tests = done; name = name; outer = []; ors = []; ands = [] }) more
     opens (None, mid, e, rest) =
         absurd (tested_other scope filter (done ++ test_of name None ∷ []) OpenBracket (λ e. cc) more
         (subst (MoreTests scope filter (done ++ test_of name None ∷ [])) (sym e) rest))
     opens (Some p, mid, (inner, e, takes), rest) =
         let tail : inner ≡ more = cc in
-        (or_part scope deepest (Closes scope filter done name deepest []) more).0 (
+        (or_part scope depth_limit (Closes scope filter done name depth_limit []) more).0 (
           p,
           CloseBracket ∷ mid,
-          subst (λ (ts : List FilterToken). TakesOrPart scope deepest ts p (CloseBracket ∷ mid)) tail takes,
+          subst (λ (ts : List FilterToken). TakesOrPart scope depth_limit ts p (CloseBracket ∷ mid)) tail takes,
           (mid, refl, rest),
         )
 
-    opened : FactorFirst scope filter deepest (record { tests = done; name = name; outer = []; ors = []; ands = [] }) more
+    opened : FactorFirst scope filter depth_limit (record { tests = done; name = name; outer = []; ors = []; ands = [] }) more
         → PredicateFirst scope filter done name (OpenBracket ∷ more)
     opened first =
-        let part = (or_part scope deepest (Closes scope filter done name deepest []) more).1 first in
+        let part = (or_part scope depth_limit (Closes scope filter done name depth_limit []) more).1 first in
         let e = part.3.1 in (
           Some part.0,
           part.3.0,
-          (more, refl, subst (λ (ts : List FilterToken). TakesOrPart scope deepest more part.0 ts) e part.2),
+          (more, refl, subst (λ (ts : List FilterToken). TakesOrPart scope depth_limit more part.0 ts) e part.2),
           part.3.2,
         )
 
-  named_without : (n : ℕ) (done : List Test) (name : Option element.Name) → n + 0 ≡ deepest → (t : FilterToken) → t ≢ OpenBracket
+  named_without : (n : ℕ) (done : List Test) (name : Option element.Name) → n + 0 ≡ depth_limit → (t : FilterToken) → t ≢ OpenBracket
       → IsRight n (Named done name) t (step_tested (done ++ test_of name None ∷ []) t)
   named_without n done name e t other =
       through n (Named done name) (Tested (done ++ test_of name None ∷ [])) t
       (λ filter more. bare_named scope filter done name t other more)
       (step_tested (done ++ test_of name None ∷ []) t) (right_tested n (done ++ test_of name None ∷ []) e t)
 
-  right_named : (n : ℕ) (done : List Test) (name : Option element.Name) → n + 0 ≡ deepest → (t : FilterToken)
+  right_named : (n : ℕ) (done : List Test) (name : Option element.Name) → n + 0 ≡ depth_limit → (t : FilterToken)
       → IsRight n (Named done name) t (step_named done name t)
   right_named n done name e OpenBracket =
-      (deepest, add-zero deepest, (λ filter more. (opens filter done name more, opened filter done name more)))
+      (depth_limit, add-zero depth_limit, (λ filter more. (opens filter done name more, opened filter done name more)))
   right_named n done name e Any = named_without n done name e Any (λ e. cc)
   right_named n done name e CloseBracket = named_without n done name e CloseBracket (λ e. cc)
   right_named n done name e OpenParenthesis = named_without n done name e OpenParenthesis (λ e. cc)
@@ -227,7 +227,7 @@ module _ (scope : Scope) where
         | inr ch ↦ no_name ch.written (head_of t (Name ch.written) more _ ch.tokens_are).0
       ]
 
-    factor_name : (q : Qualified) → n + length c.outer ≡ deepest → (o : Option (List ℕ)) → space_of scope q.prefix ≡ o
+    factor_name : (q : Qualified) → n + length c.outer ≡ depth_limit → (o : Option (List ℕ)) → space_of scope q.prefix ≡ o
         → IsRight n (FactorDue c) (Name q) (child_named c (name_in o q.local))
     factor_name q e None is =
         λ filter more. no_child filter more q (λ name stands. let wrong : None ≡ Some name.space = sym is ∙ stands.space_is in cc)
@@ -273,13 +273,13 @@ module _ (scope : Scope) where
         )),
   )
 
-  room : (n k : ℕ) → suc n + k ≡ deepest → nat_lt k deepest ≡ true
+  room : (n k : ℕ) → suc n + k ≡ depth_limit → nat_lt k depth_limit ≡ true
   room n k e = grind (arith, nat_tests)
 
-  no_room : (k : ℕ) → 0 + k ≡ deepest → nat_lt k deepest ≡ false
+  no_room : (k : ℕ) → 0 + k ≡ depth_limit → nat_lt k depth_limit ≡ false
   no_room k e = grind (arith, nat_tests)
 
-  right_open : (n : ℕ) (c : Context) → n + length c.outer ≡ deepest
+  right_open : (n : ℕ) (c : Context) → n + length c.outer ≡ depth_limit
       → IsRight n (FactorDue c) OpenParenthesis (step_factor scope c OpenParenthesis)
   right_open zero c e =
       subst (λ b. IsRight zero (FactorDue c) OpenParenthesis (if b then Some (FactorDue (inner_context c)) else None))
@@ -295,7 +295,7 @@ module _ (scope : Scope) where
       (sym (room m (length c.outer) e))
       (m, omega (arith, e), (λ filter more. open_inner m c filter more))
 
-  right_factor : (n : ℕ) (c : Context) → n + length c.outer ≡ deepest → (t : FilterToken)
+  right_factor : (n : ℕ) (c : Context) → n + length c.outer ≡ depth_limit → (t : FilterToken)
       → IsRight n (FactorDue c) t (step_factor scope c t)
   right_factor n c e OpenParenthesis = right_open n c e
   right_factor n c e At = (n, e, (λ filter more. (at_local n c filter more, local_at n c filter more)))
@@ -309,7 +309,7 @@ module _ (scope : Scope) where
 
   -- (3) within a comparison
 
-  local_name : (n : ℕ) (c : Context) (q : Qualified) → n + length c.outer ≡ deepest → (b : Bool) → bytes_eq q.prefix [] ≡ b
+  local_name : (n : ℕ) (c : Context) (q : Qualified) → n + length c.outer ≡ depth_limit → (b : Bool) → bytes_eq q.prefix [] ≡ b
       → IsRight n (LocalDue c) (Name q) (if b then Some (EqualsDue c (operand.Attribute q.local)) else None)
   local_name n c q e true is = (n, e, (λ filter more. (to filter more, back filter more)))
     where
@@ -343,7 +343,7 @@ module _ (scope : Scope) where
   no_local n c t other filter more (local, rest, e, equals) = other (unprefixed_name local) (head_of t (Name (unprefixed_name local))
       more rest e).0
 
-  right_local : (n : ℕ) (c : Context) → n + length c.outer ≡ deepest → (t : FilterToken) → IsRight n (LocalDue c) t (step_local c t)
+  right_local : (n : ℕ) (c : Context) → n + length c.outer ≡ depth_limit → (t : FilterToken) → IsRight n (LocalDue c) t (step_local c t)
   right_local n c e (Name q) = local_name n c q e (bytes_eq q.prefix []) refl
   right_local n c e Any = no_local n c Any (λ q e. cc)
   right_local n c e OpenBracket = no_local n c OpenBracket (λ q e. cc)
@@ -365,7 +365,7 @@ module _ (scope : Scope) where
     (λ literal. (more, refl, literal)),
   )
 
-  right_equals : (n : ℕ) (c : Context) (a : Operand) → n + length c.outer ≡ deepest → (t : FilterToken)
+  right_equals : (n : ℕ) (c : Context) (a : Operand) → n + length c.outer ≡ depth_limit → (t : FilterToken)
       → IsRight n (EqualsDue c a) t (step_equals c a t)
   right_equals n c a e EqualsSign = (n, e, equals n c a)
   right_equals n c a e Any = no_equals n c a Any (λ e. cc)
@@ -394,7 +394,7 @@ module _ (scope : Scope) where
     (λ after. (v, more, refl, after)),
   )
 
-  right_literal : (n : ℕ) (c : Context) (a : Operand) → n + length c.outer ≡ deepest → (t : FilterToken)
+  right_literal : (n : ℕ) (c : Context) (a : Operand) → n + length c.outer ≡ depth_limit → (t : FilterToken)
       → IsRight n (LiteralDue c a) t (step_literal c a t)
   right_literal n c a e (Literal v) = (n, e, literal n c a v)
   right_literal n c a e Any = no_literal n c a Any (λ v e. cc)
@@ -415,7 +415,7 @@ module _ (scope : Scope) where
   no_close filter tests name n (outer_part ∷ outer) t no_bracket no_parenthesis p more (after, e, rest) =
       no_parenthesis (head_of t CloseParenthesis more after e).0
 
-  after_or : (n : ℕ) (c : Context) (q : Qualified) → n + length c.outer ≡ deepest → is_word (codes "and") q ≡ false → (b : Bool)
+  after_or : (n : ℕ) (c : Context) (q : Qualified) → n + length c.outer ≡ depth_limit → is_word (codes "and") q ≡ false → (b : Bool)
       → is_word (codes "or") q ≡ b → IsRight n (FactorDone c) (Name q) (if b then Some (FactorDue (next_part c)) else None)
   after_or n c q e no_and true is = (
     n,
@@ -431,7 +431,7 @@ module _ (scope : Scope) where
       ((other_more scope n (Closes scope filter c.tests c.name n c.outer) c.ors c.ands (Name q) more (not_that_word (codes "and") q no_and)
       (not_that_word (codes "or") q is)).0 after)
 
-  after_name : (n : ℕ) (c : Context) (q : Qualified) → n + length c.outer ≡ deepest → (b : Bool) → is_word (codes "and") q ≡ b
+  after_name : (n : ℕ) (c : Context) (q : Qualified) → n + length c.outer ≡ depth_limit → (b : Bool) → is_word (codes "and") q ≡ b
       → IsRight n (FactorDone c) (Name q)
       (if b then Some (FactorDue c) else (if is_word (codes "or") q then Some (FactorDue (next_part c)) else None))
   after_name n c q e true is = (
@@ -455,7 +455,7 @@ module _ (scope : Scope) where
     abbrev within : List OuterPart → Context
     within outer = record { tests = tests; name = name; outer = outer; ors = ors; ands = ands }
 
-    closes_group : (outer : List OuterPart) → n + length outer ≡ deepest
+    closes_group : (outer : List OuterPart) → n + length outer ≡ depth_limit
         → IsRight n (FactorDone (within outer)) CloseParenthesis (close_group (within outer) outer)
     closes_group [] e = λ filter more after. none filter more ((closing n (within []) CloseParenthesis (λ q e. cc) filter more).0 after)
       where
@@ -482,7 +482,7 @@ module _ (scope : Scope) where
             (outer_part.ands ++ done_part ors ands ∷ []))
             (sym (head_of CloseParenthesis CloseParenthesis more after f).1) rest
 
-    closes_test : (outer : List OuterPart) → n + length outer ≡ deepest
+    closes_test : (outer : List OuterPart) → n + length outer ≡ depth_limit
         → IsRight n (FactorDone (within outer)) CloseBracket (close_test (within outer) outer)
     closes_test [] e = (
       n,
@@ -512,7 +512,7 @@ module _ (scope : Scope) where
       no_close filter c.tests c.name n c.outer t no_bracket no_parenthesis (done_part c.ors c.ands) more
       ((closing n c t other filter more).0 after)
 
-  right_done : (n : ℕ) (c : Context) → n + length c.outer ≡ deepest → (t : FilterToken) → IsRight n (FactorDone c) t (step_done c t)
+  right_done : (n : ℕ) (c : Context) → n + length c.outer ≡ depth_limit → (t : FilterToken) → IsRight n (FactorDone c) t (step_done c t)
   right_done n c e (Name q) = after_name n c q e (is_word (codes "and") q) refl
   right_done n c e CloseParenthesis = closes_group n c.tests c.name c.ors c.ands c.outer e
   right_done n c e CloseBracket = closes_test n c.tests c.name c.ors c.ands c.outer e
@@ -525,7 +525,7 @@ module _ (scope : Scope) where
 
   -- (5) all together
 
-  pub right : (n : ℕ) (w : FilterState) → n + open_parts w ≡ deepest → (t : FilterToken) → IsRight n w t (step_token scope w t)
+  pub right : (n : ℕ) (w : FilterState) → n + open_parts w ≡ depth_limit → (t : FilterToken) → IsRight n w t (step_token scope w t)
   right n Start e t =
       through n Start (TestDue []) t (λ filter more. started scope filter t more) (step_test scope [] t) (right_test n [] e t)
   right n (TestDue done) e t = right_test n done e t

@@ -95,8 +95,8 @@ TakesFactor scope zero ts p rest = TakesComparison scope ts p rest
 TakesFactor scope (suc n) ts p rest = TakesComparison scope ts p rest ⊎ TakesGroup (TakesOrs (TakesFactor scope n)) ts p rest
 
 -- how deep parentheses may nest in a filter
-unfoldable pub deepest : ℕ
-deepest = 64
+unfoldable pub depth_limit : ℕ
+depth_limit = 64
 
 -- what stands in brackets, where parentheses nest at most so deep
 abbrev pub TakesOrPart : Scope → ℕ → Rule Predicate
@@ -132,4 +132,4 @@ IsFilterWithin depth scope ts filter = AreTests scope depth ts filter.tests
 
 -- the tokens are this filter
 abbrev pub IsFilter : Scope → List FilterToken → Filter → Type 0
-IsFilter = IsFilterWithin deepest
+IsFilter = IsFilterWithin depth_limit

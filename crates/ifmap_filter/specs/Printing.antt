@@ -15,7 +15,7 @@ use Rattle.ifmap_filter.specs.declared.filters.Test.{Test}
 use Rattle.ifmap_filter.specs.declared.filters.Filter.{Filter}
 use Rattle.ifmap_filter.specs.declared.printing.Around.{Around}
 use Rattle.ifmap_filter.specs.declared.printing.Around.TheVariants.{Brackets, Ands, Ors}
-use Rattle.ifmap_filter.specs.Grammar.{deepest}
+use Rattle.ifmap_filter.specs.Grammar.{depth_limit}
 use Rattle.ifmap_filter.specs.Texts.{IsParsed, Writes, WritesWithin}
 
 -- the prefix with that number: `f1`, `f2` and so on
@@ -111,7 +111,7 @@ pub record CanBeParsedWithin (depth : ℕ) (filter : Filter) : Type 0 where
   pub writes : WritesWithin depth text scope filter
 
 abbrev pub CanBeParsed : Filter → Type 0
-CanBeParsed = CanBeParsedWithin deepest
+CanBeParsed = CanBeParsedWithin depth_limit
 
 -- the text writes the filter where the namespaces have the prefixes `f1`, `f2` and so on, if some text in some scope does
 abbrev pub WritesBack : List ℕ → List (List ℕ) → Filter → Type 0

@@ -21,7 +21,7 @@ use Rattle.ifmap_filter.specs.declared.standing.Operand.TheVariants as operand
 use Rattle.ifmap_filter.specs.declared.standing.FilterPlace.{FilterPlace}
 use Rattle.ifmap_filter.specs.declared.standing.FilterPlace.TheVariants as place
 use Rattle.ifmap_filter.specs.declared.standing.FilterStanding.{FilterStanding}
-use Rattle.ifmap_filter.specs.Grammar.{IsFilter, TakesAnds, TakesFactor, TakesMore, TakesPredicate, TakesTest, and_word, unprefixed_name, deepest, join_of, or_word, space_of}
+use Rattle.ifmap_filter.specs.Grammar.{IsFilter, TakesAnds, TakesFactor, TakesMore, TakesPredicate, TakesTest, and_word, unprefixed_name, depth_limit, join_of, or_word, space_of}
 
 -- the open or-part in a test's brackets, or in parentheses there: the tests before it, the name of its own, the or-parts round it, the
 -- innermost first, its and-parts that are done, and the factors that are done of the one that is not
@@ -104,14 +104,14 @@ pub record MoreFactors (scope : Scope) (n : ℕ) (Then : Predicate → List Filt
 module _ (scope : Scope) (filter : Filter) where
   -- after these tests
   abbrev pub MoreTests : List Test → List FilterToken → Type 0
-  MoreTests done ts = (tests : List Test) × TakesMore or_word (TakesTest scope deepest) ts tests [] × (filter.tests ≡ done ++ tests)
+  MoreTests done ts = (tests : List Test) × TakesMore or_word (TakesTest scope depth_limit) ts tests [] × (filter.tests ≡ done ++ tests)
 
   abbrev pub TestFirst : List Test → List FilterToken → Type 0
-  TestFirst done ts = (test : Test) × (mid : List FilterToken) × TakesTest scope deepest ts test mid × MoreTests (done ++ test ∷ []) mid
+  TestFirst done ts = (test : Test) × (mid : List FilterToken) × TakesTest scope depth_limit ts test mid × MoreTests (done ++ test ∷ []) mid
 
   abbrev pub PredicateFirst : List Test → Option element.Name → List FilterToken → Type 0
   PredicateFirst done name ts =
-      (p : Option Predicate) × (mid : List FilterToken) × TakesPredicate scope deepest ts p mid
+      (p : Option Predicate) × (mid : List FilterToken) × TakesPredicate scope depth_limit ts p mid
       × MoreTests (done ++ test_of name p ∷ []) mid
 
   -- after an or-part, whose own parentheses may nest so deep
@@ -200,7 +200,7 @@ abbrev pub inner_context : Context → Context
 inner_context c = record c { outer = record { ors = c.ors; ands = c.ands } ∷ c.outer; ors = []; ands = [] }
 
 abbrev pub inner_place : Context → Option FilterState
-inner_place c = if nat_lt (length c.outer) deepest then Some (FactorDue (inner_context c)) else None
+inner_place c = if nat_lt (length c.outer) depth_limit then Some (FactorDue (inner_context c)) else None
 
 abbrev pub child_named : Context → Option element.Name → Option FilterState
 child_named c None = None

@@ -6,7 +6,7 @@ use Rattle.ifmap_filter.specs.declared.errors.FilterError.{FilterError}
 use Rattle.ifmap_filter.specs.declared.errors.FilterError.TheVariants.{NotAFilter, NoMemory}
 use Rattle.ifmap_filter.specs.declared.filters.Filter.{Filter}
 use Rattle.ifmap_filter.specs.declared.tokens.FilterToken.{FilterToken}
-use Rattle.ifmap_filter.specs.Grammar.{IsFilter, deepest}
+use Rattle.ifmap_filter.specs.Grammar.{IsFilter, depth_limit}
 use Rattle.ifmap_filter.specs.Progress.{GoesOn, FilterState, open_parts, step_token, filter_at}
 use Rattle.ifmap_filter.specs.Tokens.{Takes, front_token, token_at, without_white}
 
@@ -14,7 +14,7 @@ use Rattle.ifmap_filter.specs.Tokens.{Takes, front_token, token_at, without_whit
 pub record ReadsTo (text : List ℕ) (scope : Scope) (w : FilterState) (cs : List ℕ) : Type 0 where
   pub tokens : List FilterToken
   pub room : ℕ
-  pub room_is : room + open_parts w ≡ deepest
+  pub room_is : room + open_parts w ≡ depth_limit
   pub lexed : To Takes (chars text) tokens cs
   pub goes : (filter : Filter) (more : List FilterToken) → IsFilter scope (tokens ++ more) filter ↔ GoesOn scope filter room w more
 

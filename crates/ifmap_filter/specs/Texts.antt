@@ -6,7 +6,7 @@ use Rattle.ifmap_filter.specs.declared.errors.FilterError.{FilterError}
 use Rattle.ifmap_filter.specs.declared.errors.FilterError.TheVariants.{NotAFilter, NoMemory}
 use Rattle.ifmap_filter.specs.declared.filters.Filter.{Filter}
 use Rattle.ifmap_filter.specs.declared.tokens.FilterToken.{FilterToken}
-use Rattle.ifmap_filter.specs.Grammar.{IsFilter, IsFilterWithin, deepest}
+use Rattle.ifmap_filter.specs.Grammar.{IsFilter, IsFilterWithin, depth_limit}
 use Rattle.ifmap_filter.specs.Tokens.{HasNoToken, Takes, without_white}
 
 -- the text is tokens, and the tokens are this filter, with parentheses that nest at most so deep
@@ -19,7 +19,7 @@ pub record WritesWithin (depth : ℕ) (text : List ℕ) (scope : Scope) (filter 
 
 -- the text writes this filter
 abbrev pub Writes : List ℕ → Scope → Filter → Type 0
-Writes = WritesWithin deepest
+Writes = WritesWithin depth_limit
 
 -- some filter begins with these tokens
 pub record BeginsFilter (scope : Scope) (ts : List FilterToken) : Type 0 where

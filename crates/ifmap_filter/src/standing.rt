@@ -15,7 +15,7 @@ use std::alloc::{AllocError as NoMemory, Global};
 use std::mem;
 
 // How deep parentheses may nest.
-const DEEPEST: usize = 64;
+const DEPTH_LIMIT: usize = 64;
 
 // An or-part that is open round another: its and-parts that are done, and the factors that are done
 // of the one that is not.
@@ -219,7 +219,7 @@ fn open_group(alloc: Global, standing: &mut FilterStanding) -> Result<bool, NoMe
     ensures { IfOk result (λ allowed. StandsAt allowed standing.new
         (inner_place (context standing.old.open_part))) }
 {
-    if standing.open_part.outer.len() >= DEEPEST {
+    if standing.open_part.outer.len() >= DEPTH_LIMIT {
         return Ok(false);
     }
     let ors = take_all(alloc, &mut standing.open_part.ors);

@@ -21,7 +21,7 @@ use Rattle.ifmap_elem.specs.Chars.{IsCharacters}
 use Rattle.ifmap_elem.specs.Fit.{AreFitChildren, HasCharacters, IsFit, IsFitAlone, IsFitAttribute, IsFitName, IsNamespace}
 use Rattle.ifmap_elem.specs.Folds.{at_child_element, at_child_text, at_element}
 use Rattle.ifmap_elem.specs.Names.{is_name_character, is_name_start}
-use Rattle.ifmap_elem.specs.Nesting.{child_levels, child_nesting, element_levels, greatest, nesting}
+use Rattle.ifmap_elem.specs.Nesting.{child_levels, child_nesting, element_levels, greatest_of, nesting}
 use Rattle.ifmap_elem.specs.Scopes.{AllDiffer, xmlns_space}
 use Rattle.ifmap_elem.specs.Spells.{Spells}
 use Rattle.ifmap_elem.specs.declared.elements.Attribute.{Attribute}
@@ -70,20 +70,20 @@ element_arranged (IpV6 value (b ∷ d)) = in_order (identifier_element (IpV6 val
 element_arranged (MacAddress value []) = in_order (identifier_element (MacAddress value [])) refl refl
 element_arranged (MacAddress value (b ∷ d)) = in_order (identifier_element (MacAddress value (b ∷ d))) refl refl
 
-levels_are : (e : Element) (many : ℕ) → greatest (map child_nesting e.children) ≡ many → nesting e ≡ suc many
+levels_are : (e : Element) (many : ℕ) → greatest_of (map child_nesting e.children) ≡ many → nesting e ≡ suc many
 levels_are e many is = at_element ℕ ℕ child_levels element_levels e ∙ ap suc is
 
 one_level : (e : Element) → e.children ≡ [] → nesting e ≤ 2
 one_level e none =
-    let is : nesting e ≡ 1 = levels_are e 0 (ap (λ cs. greatest (map child_nesting cs)) none) in omega (arith, is)
+    let is : nesting e ≡ 1 = levels_are e 0 (ap (λ cs. greatest_of (map child_nesting cs)) none) in omega (arith, is)
 
 inner_levels : (name : List ℕ) → nesting (inner name) ≡ 1
-inner_levels name = levels_are (inner name) 0 (ap (λ n. greatest (n ∷ [])) (at_child_text ℕ ℕ child_levels element_levels name))
+inner_levels name = levels_are (inner name) 0 (ap (λ n. greatest_of (n ∷ [])) (at_child_text ℕ ℕ child_levels element_levels name))
 
 outer_levels : (name : List ℕ) → nesting (outer name) ≤ 2
 outer_levels name =
     let is : nesting (outer name) ≡ 2 = levels_are (outer name) 1
-    (ap (λ n. greatest (n ∷ [])) (at_child_element ℕ ℕ child_levels element_levels (inner name) ∙ inner_levels name)) in
+    (ap (λ n. greatest_of (n ∷ [])) (at_child_element ℕ ℕ child_levels element_levels (inner name) ∙ inner_levels name)) in
     omega (arith, is)
 
 pub element_levels_within : (i : Identifier) → nesting (identifier_element i) ≤ 2

@@ -61,7 +61,7 @@ fn outline_device<'a>(alloc: Global, name: &'a Text) -> Result<Outline<'a>, NoMe
 {
     let inside = vec![in alloc; Piece::text(name)]?;
     let named = Outline::with_local("name", Vec::new(alloc), inside);
-    let pieces = vec![in alloc; named.inside()]?;
+    let pieces = vec![in alloc; named.into_piece()]?;
     Ok(Outline::with_local("device", Vec::new(alloc), pieces))
 }
 

@@ -9,7 +9,7 @@ use Rattle.ifmap_elem.specs.laws.OneReading.{one_attribute}
 use Rattle.ifmap_reader.proofs.Lasts.{last_first}
 use Rattle.ifmap_reader.specs.declared.errors.TokenRefusal.{TokenRefusal}
 use Rattle.ifmap_reader.specs.declared.errors.TokenRefusal.TheVariants.{NotAllowed, TooDeep, NoMemory}
-use Rattle.ifmap_reader.specs.AllowedTags.{AnswersAttribute, AnswersAttributes, plain, told_binding}
+use Rattle.ifmap_reader.specs.AllowedTags.{AnswersAttribute, AnswersAttributes, plain_part, told_binding}
 
 -- what the attributes so far and those of the assignments that are left are for all of them
 pub record Attributing (scope : Scope) (all : List Assignment) (made : List Attribute) (left : List Assignment) : Type 0 where
@@ -43,19 +43,19 @@ module _ (scope : Scope) (all : List Assignment) (made : List Attribute) (a : As
   attributing_not : ((t : Attribute) → IsAttribute scope a t → ⊥) → (ts : List Attribute) → AreAttributes scope all ts → ⊥
   attributing_not none ts h = let k = at.only ts h in none_first none k.0 k.2
 
-kept_one : (a : Assignment) (as' : List Assignment) → is_none (binding_of a) ≡ true → plain (a ∷ as') ≡ a ∷ plain as'
+kept_one : (a : Assignment) (as' : List Assignment) → is_none (binding_of a) ≡ true → plain_part (a ∷ as') ≡ a ∷ plain_part as'
 kept_one a as' e = rw e refl
 
-left_one : (a : Assignment) (as' : List Assignment) → is_none (binding_of a) ≡ false → plain (a ∷ as') ≡ plain as'
+left_one : (a : Assignment) (as' : List Assignment) → is_none (binding_of a) ≡ false → plain_part (a ∷ as') ≡ plain_part as'
 left_one a as' e = rw e refl
 
 -- of the code's list, whose last assignment is the next
 pub attributing_first : (scope : Scope) (assignments old turned : List Assignment) (made : List Attribute) → old ≡ assignments
-    → turned ≡ reverse old → made ≡ [] → Attributing scope (plain assignments) made (plain (reverse turned))
+    → turned ≡ reverse old → made ≡ [] → Attributing scope (plain_part assignments) made (plain_part (reverse turned))
 attributing_first scope assignments old turned made is rev none =
-    subst (λ (ts : List Attribute). Attributing scope (plain assignments) ts (plain (reverse turned))) (sym none)
-    (subst (λ (as' : List Assignment). Attributing scope (plain assignments) [] (plain as'))
-    (sym (ap reverse rev ∙ reverse-reverse old ∙ is)) (at_first scope (plain assignments)))
+    subst (λ (ts : List Attribute). Attributing scope (plain_part assignments) ts (plain_part (reverse turned))) (sym none)
+    (subst (λ (as' : List Assignment). Attributing scope (plain_part assignments) [] (plain_part as'))
+    (sym (ap reverse rev ∙ reverse-reverse old ∙ is)) (at_first scope (plain_part assignments)))
 
 -- whether the code finds a binding
 pub told_some : (o : Option (Bor (List ℕ))) (space : List ℕ) (b : Option Binding) (found : Bool) → b ≡ told_binding o space
@@ -71,29 +71,31 @@ told_none None space b found e f t = ap is_none e
 told_none (Some p) space b found e f t = let k : true ≡ false = sym f ∙ t in cc
 
 module _ (scope : Scope) (all : List Assignment) (made : List Attribute) (old new : List Assignment) (a : Assignment)
-    (is : old ≡ new ++ a ∷ []) (at : Attributing scope all made (plain (reverse old))) where
-  at_one : is_none (binding_of a) ≡ true → Attributing scope all made (a ∷ plain (reverse new))
+    (is : old ≡ new ++ a ∷ []) (at : Attributing scope all made (plain_part (reverse old))) where
+  at_one : is_none (binding_of a) ≡ true → Attributing scope all made (a ∷ plain_part (reverse new))
   at_one e =
-      subst (λ (as' : List Assignment). Attributing scope all made as') (ap plain (last_first old new a is) ∙ kept_one a (reverse new) e) at
+      subst (λ (as' : List Assignment). Attributing scope all made as')
+      (ap plain_part (last_first old new a is) ∙ kept_one a (reverse new) e) at
 
   pub attribute_added : is_none (binding_of a) ≡ true → (t : Attribute) (after : List Attribute) → IsAttribute scope a t
-      → after ≡ made ++ t ∷ [] → Attributing scope all after (plain (reverse new))
+      → after ≡ made ++ t ∷ [] → Attributing scope all after (plain_part (reverse new))
   attribute_added e t after h added =
-      subst (λ (ts : List Attribute). Attributing scope all ts (plain (reverse new))) (sym added)
-      (attributing_next scope all made a (plain (reverse new)) (at_one e) t h)
+      subst (λ (ts : List Attribute). Attributing scope all ts (plain_part (reverse new))) (sym added)
+      (attributing_next scope all made a (plain_part (reverse new)) (at_one e) t h)
 
-  pub binding_left : is_none (binding_of a) ≡ false → Attributing scope all made (plain (reverse new))
+  pub binding_left : is_none (binding_of a) ≡ false → Attributing scope all made (plain_part (reverse new))
   binding_left e =
-      subst (λ (as' : List Assignment). Attributing scope all made as') (ap plain (last_first old new a is) ∙ left_one a (reverse new) e) at
+      subst (λ (as' : List Assignment). Attributing scope all made as')
+      (ap plain_part (last_first old new a is) ∙ left_one a (reverse new) e) at
 
   pub attribute_refused : is_none (binding_of a) ≡ true → (error : TokenRefusal) → AnswersAttribute scope a (Err error)
       → AnswersAttributes scope all (Err error)
-  attribute_refused e NotAllowed h = attributing_not scope all made a (plain (reverse new)) (at_one e) h
+  attribute_refused e NotAllowed h = attributing_not scope all made a (plain_part (reverse new)) (at_one e) h
   attribute_refused e TooDeep h = absurd h
   attribute_refused e NoMemory h = tt
 
 pub all_given : (scope : Scope) (all : List Assignment) (made : List Attribute) (old : List Assignment) → old ≡ []
-    → Attributing scope all made (plain (reverse old)) → AreAttributes scope all made
+    → Attributing scope all made (plain_part (reverse old)) → AreAttributes scope all made
 all_given scope all made old none at =
-    let end = subst (λ (os : List Assignment). Attributing scope all made (plain (reverse os))) none at in
+    let end = subst (λ (os : List Assignment). Attributing scope all made (plain_part (reverse os))) none at in
     subst (λ (ts : List Attribute). AreAttributes scope all ts) (append-nil made) (end.whole [] tt)

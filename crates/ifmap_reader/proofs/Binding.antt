@@ -14,7 +14,7 @@ use Rattle.std.proofs.lemmas.List.{append-nil, map-append}
 use Rattle.ifmap_elem.specs.declared.readings.Declared.{Declared}
 use Rattle.ifmap_elem.specs.declared.tokens.Assignment.{Assignment}
 use Rattle.ifmap_elem.specs.Document.{declared_here}
-use Rattle.ifmap_elem.specs.Scopes.{Binding, IsBinding, AllDiffer, binding_of, bound, xml_space, xmlns_space}
+use Rattle.ifmap_elem.specs.Scopes.{Binding, IsBinding, AllDiffer, binding_of, prefix_space, xml_space, xmlns_space}
 use Rattle.ifmap_lemmas.specs.Texts.{eq_tells, eq_itself}
 use Rattle.ifmap_reader.specs.declared.errors.TokenRefusal.{TokenRefusal}
 use Rattle.ifmap_reader.specs.declared.errors.TokenRefusal.TheVariants.{NotAllowed, TooDeep, NoMemory}
@@ -23,30 +23,31 @@ use Rattle.ifmap_elem.specs.InScope.{binding_told}
 use Rattle.ifmap_elem.specs.laws.ScopeLaws.{bound_outer}
 use Rattle.ifmap_lemmas.specs.Members.{all_last}
 
-bound_other : (bs : List Binding) (b : Binding) (q : List ℕ) → bytes_eq b.prefix q ≡ false → bound (bs ++ b ∷ []) q ≡ bound bs q
+bound_other : (bs : List Binding) (b : Binding) (q : List ℕ) → bytes_eq b.prefix q ≡ false
+    → prefix_space (bs ++ b ∷ []) q ≡ prefix_space bs q
 bound_other [] b q e = rw e refl
 bound_other (x ∷ xs) b q e = ap (λ o. cond (bytes_eq x.prefix q) (Some x.space) o) (bound_other xs b q e)
 
-bound_last : (bs : List Binding) (b : Binding) (q : List ℕ) → bound bs b.prefix ≡ None
-    → bound (bs ++ b ∷ []) q ≡ cond (bytes_eq b.prefix q) (Some b.space) (bound bs q)
+bound_last : (bs : List Binding) (b : Binding) (q : List ℕ) → prefix_space bs b.prefix ≡ None
+    → prefix_space (bs ++ b ∷ []) q ≡ cond (bytes_eq b.prefix q) (Some b.space) (prefix_space bs q)
 bound_last bs b q none = elim (cases_Bool (bytes_eq b.prefix q)) [
   | inl e ↦
       let same : b.prefix ≡ q = eq_tells b.prefix q e in
-      bound_outer bs (b ∷ []) q (subst (λ p. bound bs p ≡ None) same none) ∙ (rw e refl)
+      bound_outer bs (b ∷ []) q (subst (λ p. prefix_space bs p ≡ None) same none) ∙ (rw e refl)
   | inr e ↦ bound_other bs b q e ∙ (rw e refl)
 ]
 
 -- the table of prefixes, and the rows, with one more
 pub spaces_more : (old new : List ℕ → Option (List ℕ)) (rows after : List Declared) (row : Declared) (key space : List ℕ)
-    → ((q : List ℕ) → old q ≡ bound (map binding_told rows) q)
+    → ((q : List ℕ) → old q ≡ prefix_space (map binding_told rows) q)
     → ((q : List ℕ) → new q ≡ cond (is_eq (slice_cmp nat_cmp key q)) (Some space) (old q)) → key ≡ row.prefix → space ≡ row.space
-    → after ≡ rows ++ row ∷ [] → bound (map binding_told rows) row.prefix ≡ None
-    → (q : List ℕ) → new q ≡ bound (map binding_told after) q
+    → after ≡ rows ++ row ∷ [] → prefix_space (map binding_told rows) row.prefix ≡ None
+    → (q : List ℕ) → new q ≡ prefix_space (map binding_told after) q
 spaces_more old new rows after row key space was now k s more none q =
     now q ∙ (λ i. cond (is_eq (slice_cmp nat_cmp (k i) q)) (Some (s i)) (was q i))
-    ∙ ap (λ b. cond b (Some row.space) (bound (map binding_told rows) q)) (sym (texts_ties row.prefix q))
+    ∙ ap (λ b. cond b (Some row.space) (prefix_space (map binding_told rows) q)) (sym (texts_ties row.prefix q))
     ∙ sym (bound_last (map binding_told rows) (binding_told row) q none)
-    ∙ ap (λ bs. bound bs q) (sym (ap (map binding_told) more ∙ map-append binding_told rows (row ∷ [])))
+    ∙ ap (λ bs. prefix_space bs q) (sym (ap (map binding_told) more ∙ map-append binding_told rows (row ∷ [])))
 
 pub rows_more : (rows after : List Declared) (path prefix space : List ℕ) → rows ≡ declared_here (map binding_told rows)
     → after ≡ rows ++ record { path = path; prefix = prefix; space = space } ∷ [] → path ≡ []
@@ -77,7 +78,7 @@ mapped_middle : (x : Binding) (xs : List Binding) (b : Binding) (ys : List Bindi
 mapped_middle x [] b ys h = h.0
 mapped_middle x (z ∷ zs) b ys h = mapped_middle x zs b ys h.1
 
-none_parts : (x : Binding) (xs : List Binding) (p : List ℕ) → bound (x ∷ xs) p ≡ None → (x.prefix ≢ p) × (bound xs p ≡ None)
+none_parts : (x : Binding) (xs : List Binding) (p : List ℕ) → prefix_space (x ∷ xs) p ≡ None → (x.prefix ≢ p) × (prefix_space xs p ≡ None)
 none_parts x xs p none = elim (cases_Bool (bytes_eq x.prefix p)) [
   | inl e ↦ let k : Some x.space ≡ None = rw e at none in cc
   | inr e ↦ (
@@ -87,12 +88,13 @@ none_parts x xs p none = elim (cases_Bool (bytes_eq x.prefix p)) [
   )
 ]
 
-differ_last : (xs : List Binding) (b : Binding) → AllDiffer (map prefix_of xs) → bound xs b.prefix ≡ None
+differ_last : (xs : List Binding) (b : Binding) → AllDiffer (map prefix_of xs) → prefix_space xs b.prefix ≡ None
     → AllDiffer (map prefix_of (xs ++ b ∷ []))
 differ_last [] b d none = (tt, tt)
 differ_last (x ∷ xs) b d none = let h = none_parts x xs b.prefix none in (all_mapped x xs b d.0 h.0, differ_last xs b d.1 h.1)
 
-differ_none : (xs : List Binding) (b : Binding) (ys : List Binding) → AllDiffer (map prefix_of (xs ++ b ∷ ys)) → bound xs b.prefix ≡ None
+differ_none : (xs : List Binding) (b : Binding) (ys : List Binding) → AllDiffer (map prefix_of (xs ++ b ∷ ys))
+    → prefix_space xs b.prefix ≡ None
 differ_none [] b ys d = refl
 differ_none (x ∷ xs) b ys d =
     let other = mapped_middle x xs b ys d.0 in

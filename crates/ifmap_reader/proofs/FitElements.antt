@@ -12,7 +12,7 @@ use Rattle.ifmap_elem.specs.Document.{Pieces, Nothing, tokens_of, Item, Inner, R
 use Rattle.ifmap_elem.specs.laws.Roots.{BeginsWithRoot, root_begins}
 use Rattle.ifmap_elem.specs.Fit.{IsNamespace, IsFitAttribute, HasCharacters, IsNotBlank, AreApart, is_element, AreFitChildren, IsFitAlone, IsFit}
 use Rattle.ifmap_elem.specs.Names.{IsNamePart}
-use Rattle.ifmap_elem.specs.Scopes.{Scope, Binding, IsBinding, IsAttribute, AreAttributes, attribute_space, binding_of, bindings, bound, root_scope, scope_within, xml_space, xmlns_space}
+use Rattle.ifmap_elem.specs.Scopes.{Scope, Binding, IsBinding, IsAttribute, AreAttributes, attribute_space, binding_of, bindings, prefix_space, root_scope, scope_within, xml_space, xmlns_space}
 use Rattle.ifmap_elem.specs.Spells.{Spells, without_byte_order_mark}
 use Rattle.ifmap_elem.specs.declared.elements.Attribute.{Attribute}
 use Rattle.ifmap_elem.specs.declared.elements.Child.{Child, out-Child}
@@ -91,7 +91,7 @@ within_fits : (outer : Scope) (tag : Tag) → IsFitScope outer → IsFitTag tag 
     → IsFitScope (scope_within outer tag)
 within_fits outer tag f t binds = both_all IsFitBinding (bindings tag) outer (bindings_fit tag.assignments t.assignments binds) f
 
-bound_fits : (scope : Scope) → IsFitScope scope → (prefix space : List ℕ) → bound scope prefix ≡ Some space
+bound_fits : (scope : Scope) → IsFitScope scope → (prefix space : List ℕ) → prefix_space scope prefix ≡ Some space
     → IsNamespace space × (prefix ≢ [] → space ≢ [])
 bound_fits [] f prefix space e = cc
 bound_fits (b ∷ bs) f prefix space e = elim (cases_Bool (bytes_eq b.prefix prefix)) [

@@ -9,24 +9,24 @@ use Rattle.ifmap_elem.specs.declared.readings.Reading.{Reading}
 use Rattle.ifmap_elem.specs.declared.tokens.Token.{Token}
 use Rattle.ifmap_elem.specs.Document.{Item, Run, is_child, child_of}
 use Rattle.ifmap_elem.specs.Folds.{at_element, at_child_element, at_child_text}
-use Rattle.ifmap_elem.specs.Nesting.{greatest, nesting, child_nesting, child_levels, element_levels}
+use Rattle.ifmap_elem.specs.Nesting.{greatest_of, nesting, child_nesting, child_levels, element_levels}
 use Rattle.ifmap_reader.specs.declared.open_elements.OpenElement.{OpenElement}
 use Rattle.ifmap_reader.specs.Depths.{levels}
 use Rattle.ifmap_reader.specs.OpenElements.{Closes, has_children, children_to_come, is_child_text, text_child, with_inner}
 use Rattle.ifmap_reader.specs.Progress.{Where, AtStart, Within, AfterRoot, Closing, GoesOn, after_element, so_deep}
 
 -- the greatest nesting of some children
-abbrev pub deepest : List Child → ℕ
-deepest cs = greatest (map child_nesting cs)
+abbrev pub children_nesting : List Child → ℕ
+children_nesting cs = greatest_of (map child_nesting cs)
 
-greatest_append : (ms ns : List ℕ) → greatest (ms ++ ns) ≡ max (greatest ms) (greatest ns)
+greatest_append : (ms ns : List ℕ) → greatest_of (ms ++ ns) ≡ max (greatest_of ms) (greatest_of ns)
 greatest_append [] ns = omega arith
 greatest_append (m ∷ ms) ns = let h = greatest_append ms ns in omega (arith, h)
 
-deepest_append : (cs ds : List Child) → deepest (cs ++ ds) ≡ max (deepest cs) (deepest ds)
-deepest_append cs ds = ap greatest (map-append child_nesting cs ds) ∙ greatest_append (map child_nesting cs) (map child_nesting ds)
+children_nesting_append : (cs ds : List Child) → children_nesting (cs ++ ds) ≡ max (children_nesting cs) (children_nesting ds)
+children_nesting_append cs ds = ap greatest_of (map-append child_nesting cs ds) ∙ greatest_append (map child_nesting cs) (map child_nesting ds)
 
-nesting_is : (e : Element) → nesting e ≡ suc (deepest e.children)
+nesting_is : (e : Element) → nesting e ≡ suc (children_nesting e.children)
 nesting_is e = at_element ℕ ℕ child_levels element_levels e
 
 element_nests : (e : Element) → child_nesting (the.Element e) ≡ nesting e
@@ -35,33 +35,34 @@ element_nests e = at_child_element ℕ ℕ child_levels element_levels e
 text_nests : (t : List ℕ) → child_nesting (the.Text t) ≡ 0
 text_nests t = at_child_text ℕ ℕ child_levels element_levels t
 
-one_text : (b : Bool) (t : List ℕ) → deepest (map child_of (cond b (Run t ∷ []) [])) ≡ 0
+one_text : (b : Bool) (t : List ℕ) → children_nesting (map child_of (cond b (Run t ∷ []) [])) ≡ 0
 one_text true t = let h = text_nests t in omega (arith, h)
 one_text false t = refl
 
 children_deep : (f : OpenElement) (items : List Item) (e : Element) (d : List Declared) → Closes f items e d
-    → nesting e ≡ suc (max (deepest f.children) (deepest (map child_of (children_to_come f items))))
+    → nesting e ≡ suc (max (children_nesting f.children) (children_nesting (map child_of (children_to_come f items))))
 children_deep f items e d c =
-    nesting_is e ∙ ap (λ (y : Element). suc (deepest y.children)) c.element_is
-    ∙ ap suc (deepest_append f.children (map child_of (children_to_come f items)))
+    nesting_is e ∙ ap (λ (y : Element). suc (children_nesting y.children)) c.element_is
+    ∙ ap suc (children_nesting_append f.children (map child_of (children_to_come f items)))
 
 -- an element that ends
-pub closed_nests : (f : OpenElement) (e : Element) (d : List Declared) → Closes f [] e d → nesting e ≡ suc (deepest f.children)
+pub closed_nests : (f : OpenElement) (e : Element) (d : List Declared) → Closes f [] e d → nesting e ≡ suc (children_nesting f.children)
 closed_nests f e d c =
     let h = children_deep f [] e d c in
-    let t : deepest (map child_of (children_to_come f [])) ≡ 0 = one_text (is_child (has_children f || false) (Run f.text)) f.text in
+    let t : children_nesting (map child_of (children_to_come f [])) ≡ 0 =
+      one_text (is_child (has_children f || false) (Run f.text)) f.text in
     omega (arith, h, t)
 
-one_child : (b : Bool) (t : List ℕ) → deepest (cond b (the.Text t ∷ []) []) ≡ 0
+one_child : (b : Bool) (t : List ℕ) → children_nesting (cond b (the.Text t ∷ []) []) ≡ 0
 one_child true t = let h = text_nests t in omega (arith, h)
 one_child false t = refl
 
 inner_deep : (g : OpenElement) (e : Element) (d : List Declared)
-    → deepest (with_inner g e d).children ≡ max (deepest g.children) (nesting e)
+    → children_nesting (with_inner g e d).children ≡ max (children_nesting g.children) (nesting e)
 inner_deep g e d =
-    let h = deepest_append (g.children ++ text_child true g.text) (the.Element e ∷ []) in
-    let k = deepest_append g.children (text_child true g.text) in
-    let t : deepest (text_child true g.text) ≡ 0 = one_child (is_child_text true g.text) g.text in
+    let h = children_nesting_append (g.children ++ text_child true g.text) (the.Element e ∷ []) in
+    let k = children_nesting_append g.children (text_child true g.text) in
+    let t : children_nesting (text_child true g.text) ≡ 0 = one_child (is_child_text true g.text) g.text in
     let l = element_nests e in
     omega (arith, h, k, t, l)
 

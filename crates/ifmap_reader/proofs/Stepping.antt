@@ -23,7 +23,7 @@ use Rattle.ifmap_reader.specs.AllowedTags.{OpensElement, TagAnswer}
 use Rattle.ifmap_reader.specs.Progress.{Where, AtStart, Within, AfterRoot, GoesOn, Follows, IsCharacterData, IsLinked, is_margin, Leads, Passes, TokenAnswer, after_element, open_in, so_deep, one_if, where_is}
 use Rattle.ifmap_reader.proofs.Goings.{inner_comment, inner_words, inner_start, inner_empty, inner_end, inner_declaration, inner_other_end, root_comment, root_blank, IsInner, no_root, root_start, root_empty, no_start, no_empty, after_root_comment, after_root_blank, nothing_after_root, no_second_root, start_declaration, IsOther, start_other}
 use Rattle.ifmap_reader.proofs.Lasts.{last_first}
-use Rattle.ifmap_reader.proofs.Levels.{deepest, after_element_fits, after_element_deep}
+use Rattle.ifmap_reader.proofs.Levels.{children_nesting, after_element_fits, after_element_deep}
 
 -- a token that opens and ends nothing
 still : (depth : ℕ) (old : Where) (t : Token) (new : Where) → Follows old t new → so_deep old ≡ so_deep new → open_in old ≡ open_in new
@@ -94,8 +94,8 @@ pub empty_follows : (fs : List OpenElement) (tag : Tag) (new : OpenElement) → 
 empty_follows [] tag new o e d k = root_empty tag new o e d k
 empty_follows (f ∷ fs) tag new o e d k = inner_empty f fs tag new o e d k
 
-none_deep : (cs : List _) → cs ≡ [] → deepest cs ≡ 0
-none_deep cs e = ap deepest e
+none_deep : (cs : List _) → cs ≡ [] → children_nesting cs ≡ 0
+none_deep cs e = ap children_nesting e
 
 new_levels : (scope : _) (tag : Tag) (new : OpenElement) (fs : List OpenElement) → OpensElement scope tag new
     → levels (new ∷ fs) ≡ max (length fs + 1) (levels fs)

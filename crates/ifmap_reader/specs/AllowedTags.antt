@@ -2,7 +2,7 @@
 use Rattle.std.specs.Prelude.{◌≡◌, ◌≢◌, ℕ, List, [], ◌∷◌, ◌++◌, filter, is_none, map, reverse, Option, Some, None, Result, Ok, Err}
 use Rattle.std.proofs.Common.{Bor}
 use Rattle.std.specs.List.{AllByRecursion, filter_map}
-use Rattle.ifmap_elem.specs.Scopes.{Scope, Binding, IsBinding, AllDiffer, IsAttribute, AreAttributes, NamesElement, binding_of, bindings, bound}
+use Rattle.ifmap_elem.specs.Scopes.{Scope, Binding, IsBinding, AllDiffer, IsAttribute, AreAttributes, NamesElement, binding_of, bindings, prefix_space}
 use Rattle.ifmap_elem.specs.declared.elements.Attribute.{Attribute}
 use Rattle.ifmap_elem.specs.declared.elements.Name.{Name}
 use Rattle.ifmap_elem.specs.declared.tokens.Assignment.{Assignment}
@@ -20,9 +20,9 @@ told_binding (Some prefix) space = Some (record { prefix = prefix.now; space = s
 -- the answer to one binding more: these bindings and that one, where it may be made and its prefix has none
 abbrev pub Binds : List Binding → Option Binding → Result (List Binding) TokenRefusal → Type 0
 Binds old None (Ok new) = new ≡ old
-Binds old (Some b) (Ok new) = IsBinding b × (bound old b.prefix ≡ None) × (new ≡ old ++ b ∷ [])
+Binds old (Some b) (Ok new) = IsBinding b × (prefix_space old b.prefix ≡ None) × (new ≡ old ++ b ∷ [])
 Binds old None (Err NotAllowed) = ⊥
-Binds old (Some b) (Err NotAllowed) = IsBinding b → bound old b.prefix ≡ None → ⊥
+Binds old (Some b) (Err NotAllowed) = IsBinding b → prefix_space old b.prefix ≡ None → ⊥
 Binds old b (Err TooDeep) = ⊥
 Binds old b (Err NoMemory) = Unit {0}
 
@@ -73,8 +73,8 @@ abbrev pub scope_inside : List Binding → List OpenElement → Scope
 scope_inside bindings open_elements = bindings ++ scope_of (reverse open_elements)
 
 -- the assignments that bind no prefix
-abbrev pub plain : List Assignment → List Assignment
-plain assignments = filter (λ a. is_none (binding_of a)) assignments
+abbrev pub plain_part : List Assignment → List Assignment
+plain_part assignments = filter (λ a. is_none (binding_of a)) assignments
 
 -- no attribute has the name
 abbrev pub LacksName : Name → List Attribute → Type 0

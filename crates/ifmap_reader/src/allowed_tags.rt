@@ -1,8 +1,8 @@
 //! Whether a tag is allowed, and the element that it opens.
 ghost use Rattle.std.specs.Prelude.{◌≡◌, reverse, IfOk};
-ghost use Rattle.ifmap_elem.specs.Scopes.{bound, root_scope};
+ghost use Rattle.ifmap_elem.specs.Scopes.{prefix_space, root_scope};
 ghost use Rattle.ifmap_reader.specs.OpenElements.{AreLinked, CountsBindings};
-ghost use Rattle.ifmap_reader.specs.AllowedTags.{AnswersAttributes, AnswersAttribute, TagAnswer, plain, scope_inside};
+ghost use Rattle.ifmap_reader.specs.AllowedTags.{AnswersAttributes, AnswersAttribute, TagAnswer, plain_part, scope_inside};
 
 use crate::bindings::{Bindings, XML, bindings_of, bound_prefix};
 use crate::declarations::TurnedDeclarations;
@@ -74,7 +74,7 @@ fn space_of(
 ) -> Result<Option<Text>, NoMemory>
     requires { AreLinked (reverse open_elements.now) }
     ensures { IfOk result (λ space.
-        space ≡ bound (scope_inside bindings.now open_elements.now) prefix.now) }
+        space ≡ prefix_space (scope_inside bindings.now open_elements.now) prefix.now) }
 {
     if let Some(space) = bindings.space_of(prefix) {
         return Ok(Some(space.copy(alloc)?));
@@ -96,7 +96,7 @@ fn space_of(
 
 // What a prefix is bound to where no tag binds it.
 fn root_space_of(alloc: Global, prefix: &Text) -> Result<Option<Text>, NoMemory>
-    ensures { IfOk result (λ space. space ≡ bound root_scope prefix.now) }
+    ensures { IfOk result (λ space. space ≡ prefix_space root_scope prefix.now) }
 {
     if prefix.as_bytes() == XML.as_bytes() {
         return Ok(Some(Text(String::from_str(alloc, XML_SPACE)?)));
@@ -116,8 +116,8 @@ fn attributes_of(
     assignments: Many<Assignment>,
 ) -> Result<Many<Attribute>, TokenRefusal>
     requires { AreLinked (reverse open_elements.now) }
-    ensures { AnswersAttributes (scope_inside bindings.now open_elements.now) (plain assignments)
-        result }
+    ensures { AnswersAttributes (scope_inside bindings.now open_elements.now)
+        (plain_part assignments) result }
 {
     let Many(mut left) = assignments;
     let mut made = Vec::with_capacity(alloc, left.len())?;

@@ -2,7 +2,7 @@
 ghost use Rattle.std.specs.Prelude.{◌≡◌, ◌↔◌, ◌∷◌, [], ◌++◌, IfOk, IsTrue, None};
 ghost use Rattle.std.specs.Bool.{OnTrue};
 ghost use Rattle.std.specs.Option.{option_copied};
-ghost use Rattle.ifmap_elem.specs.Scopes.{Binding, IsBinding, binding_of, bound};
+ghost use Rattle.ifmap_elem.specs.Scopes.{Binding, IsBinding, binding_of, prefix_space};
 ghost use Rattle.ifmap_elem.specs.Document.{declared_here};
 ghost use Rattle.ifmap_reader.specs.AllowedTags.{Binds, AnswersBindings, told_binding};
 
@@ -63,7 +63,7 @@ impl Bindings {
     // What the tag binds a prefix to. Most tags bind none.
     #[inline(always)]
     pub(crate) fn space_of(&self, prefix: &Text) -> Option<&Text>
-        ensures { option_copied result ≡ bound self.now prefix.now }
+        ensures { option_copied result ≡ prefix_space self.now prefix.now }
     {
         if self.is_empty() {
             return None;
@@ -73,7 +73,7 @@ impl Bindings {
 
     // With one binding more, of a prefix that has none.
     fn with(self, alloc: Global, prefix: Text, space: Text) -> Result<Bindings, NoMemory>
-        requires { bound self prefix ≡ None }
+        requires { prefix_space self prefix ≡ None }
         ensures { IfOk result (λ b. b ≡ self ++ record { prefix = prefix; space = space } ∷ []) }
     {
         let Bindings {

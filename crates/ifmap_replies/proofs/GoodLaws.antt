@@ -16,7 +16,7 @@ use Rattle.ifmap_elem.specs.Fit.{AreApart, AreFitChildren, HasCharacters, IsFit,
 use Rattle.ifmap_elem.specs.Fit.{IsNotBlank, is_element}
 use Rattle.ifmap_elem.specs.Folds.{at_child_element, at_child_text, at_element}
 use Rattle.ifmap_elem.specs.Names.{is_name_character, is_name_start}
-use Rattle.ifmap_elem.specs.Nesting.{child_levels, child_nesting, element_levels, greatest, nesting}
+use Rattle.ifmap_elem.specs.Nesting.{child_levels, child_nesting, element_levels, greatest_of, nesting}
 use Rattle.ifmap_elem.specs.Scopes.{AllDiffer, xmlns_space}
 use Rattle.ifmap_elem.specs.declared.elements.Attribute.{Attribute}
 use Rattle.ifmap_elem.specs.declared.elements.Child.{Child, out-Child}
@@ -149,7 +149,7 @@ arranged_children levels (e ∷ es) f =
     λ i. (arranged_in e ∙ ap (λ (x : Element). the.Element x) f.0.arranged) i ∷ arranged_children levels es f.1 i
 
 levels_within : (levels : ℕ) (es : List Element) → AllByRecursion (IsGood levels) es
-    → greatest (map child_nesting (as_children es)) ≤ levels
+    → greatest_of (map child_nesting (as_children es)) ≤ levels
 levels_within levels [] f = omega arith
 levels_within levels (e ∷ es) f =
     let here : child_nesting (the.Element e) ≡ nesting e = at_child_element ℕ ℕ child_levels element_levels e in
@@ -172,7 +172,7 @@ module _ (name : Name) (attributes : List Attribute) (fits : IsFitName name) (al
             (inside_fit levels es f);
         arranged = arranged_is e ∙ (λ i. record { name = name; attributes = sorted i; children = arranged_children levels es f i });
         within =
-            let is : nesting e ≡ suc (greatest (map child_nesting (as_children es))) = at_element ℕ ℕ child_levels element_levels e in
+            let is : nesting e ≡ suc (greatest_of (map child_nesting (as_children es))) = at_element ℕ ℕ child_levels element_levels e in
             let most = levels_within levels es f in
             omega (arith, is, most);
       }
@@ -195,7 +195,7 @@ good_text name fits (b ∷ bs) h =
           (subst (AllByRecursion IsFitAlone) (sym (nothing_inside text)) tt);
       arranged = arranged_is e ∙ (λ i. record { name = name; attributes = []; children = arranged_text text i ∷ [] });
       within =
-          let is : nesting e ≡ suc (greatest (child_nesting (the.Text text) ∷ [])) = at_element ℕ ℕ child_levels element_levels e in
+          let is : nesting e ≡ suc (greatest_of (child_nesting (the.Text text) ∷ [])) = at_element ℕ ℕ child_levels element_levels e in
           let none : child_nesting (the.Text text) ≡ 0 = at_child_text ℕ ℕ child_levels element_levels text in
           omega (arith, is, none);
     }

@@ -88,7 +88,7 @@ fn poll_pieces<'a>(alloc: Global, items: &'a [PollItem]) -> Result<Vec<Piece<'a>
     let mut pieces = Vec::with_capacity(alloc, items.len())?;
     for item in items {
         let told = poll_result(alloc, item)?;
-        pieces.push(told.inside())?;
+        pieces.push(told.into_piece())?;
     }
     Ok(pieces)
 }
@@ -146,7 +146,7 @@ fn error_result<'a>(
 {
     let attributes = error_attributes(alloc, code, name)?;
     let string = Outline::with_local("errorString", Vec::new(alloc), text_pieces(alloc, note)?);
-    let pieces = vec![in alloc; string.inside()]?;
+    let pieces = vec![in alloc; string.into_piece()]?;
     Ok(Outline::with_local("errorResult", attributes, pieces))
 }
 

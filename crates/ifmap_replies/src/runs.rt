@@ -34,7 +34,7 @@ pub(crate) fn entry_pieces<'a>(
     while let Some((first, others)) = rest.split_first() {
         let length = run_length(first, others);
         let run = run_outline(alloc, first, &others[..length])?;
-        pieces.push(run.inside())?;
+        pieces.push(run.into_piece())?;
         rest = &others[length..];
     }
     Ok(pieces)
@@ -117,12 +117,12 @@ fn item_pieces<'a>(
     match item {
         Item::One(identifier) => {
             let identifier = identifier.outline(alloc)?;
-            Ok(vec![in alloc; identifier.inside(), metadata.inside()]?)
+            Ok(vec![in alloc; identifier.into_piece(), metadata.into_piece()]?)
         }
         Item::Pair(first, second) => {
             let first = first.outline(alloc)?;
             let second = second.outline(alloc)?;
-            Ok(vec![in alloc; first.inside(), second.inside(), metadata.inside()]?)
+            Ok(vec![in alloc; first.into_piece(), second.into_piece(), metadata.into_piece()]?)
         }
     }
 }

@@ -74,6 +74,6 @@ fn wrap_outline<'a>(
     ensures { IfOk result (λ outline.
         outline_element outline ≡ around name.now (outline_element inner.entry)) }
 {
-    let pieces = vec![in alloc; inner.inside()]?;
+    let pieces = vec![in alloc; inner.into_piece()]?;
     Ok(Outline::with_name(name, Vec::new(alloc), pieces))
 }

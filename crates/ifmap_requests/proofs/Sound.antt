@@ -8,7 +8,7 @@ use Rattle.ifmap_elem.specs.Building.{is_bare}
 use Rattle.ifmap_elem.specs.Chars.{IsCharacters}
 use Rattle.ifmap_elem.specs.Fit.{IsFit, IsFitAlone, IsFitAttribute}
 use Rattle.ifmap_elem.specs.Folds.{at_child_element, at_element, each_child}
-use Rattle.ifmap_elem.specs.Nesting.{child_levels, child_nesting, element_levels, greatest, nesting}
+use Rattle.ifmap_elem.specs.Nesting.{child_levels, child_nesting, element_levels, greatest_of, nesting}
 use Rattle.ifmap_elem.specs.declared.elements.Attribute.{Attribute}
 use Rattle.ifmap_elem.specs.declared.elements.Child.{Child, out-Child}
 use Rattle.ifmap_elem.specs.declared.elements.Child.TheOpen.{Child-F}
@@ -48,7 +48,7 @@ module _ (most : ℕ) where
       (λ e each. tt)
 
   children_sound : (cs : List Child) → AllByRecursion IsFitAlone (flat_map elements_of_child cs)
-      → greatest (map child_nesting cs) ≤ most → AreSound (parts_in cs)
+      → greatest_of (map child_nesting cs) ≤ most → AreSound (parts_in cs)
   children_sound [] fit levels = tt
   children_sound (c ∷ cs) fit levels =
       let fits = all_both IsFitAlone (elements_of_child c) (flat_map elements_of_child cs) fit in (
@@ -58,7 +58,7 @@ module _ (most : ℕ) where
 
   pub parts_sound : (e : Element) → IsSound e → AreSound (element_parts e)
   parts_sound e s =
-      let deep : nesting e ≡ suc (greatest (map child_nesting e.children)) = at_element ℕ ℕ child_levels element_levels e in
+      let deep : nesting e ≡ suc (greatest_of (map child_nesting e.children)) = at_element ℕ ℕ child_levels element_levels e in
       let levels = s.levels in
       children_sound e.children (fit_parts e s.fit).1 (omega arith)
 

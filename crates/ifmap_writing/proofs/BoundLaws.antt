@@ -14,7 +14,7 @@ use Rattle.std.proofs.lemmas.Bool.{and_parts}
 use Rattle.std.proofs.lemmas.Bool.Decides.{nat_tests}
 use Rattle.ifmap_elem.specs.Chars.{is_white}
 use Rattle.ifmap_elem.specs.Folds.{at_child_element, at_element, each_child}
-use Rattle.ifmap_elem.specs.Nesting.{child_levels, child_nesting, element_levels, greatest, nesting}
+use Rattle.ifmap_elem.specs.Nesting.{child_levels, child_nesting, element_levels, greatest_of, nesting}
 use Rattle.ifmap_elem.specs.declared.elements.Child as the
 use Rattle.ifmap_elem.specs.declared.elements.Child.{Child, out-Child}
 use Rattle.ifmap_elem.specs.declared.elements.Child.TheOpen.{Child-F}
@@ -173,14 +173,14 @@ module _ (n : ℕ) where
       in_text : (t : List ℕ) → child_nesting (the.Text t) ≤ n → IsLow n (out-Child (the.Text t))
       in_text t low = subst (IsLow n) (sym (out_text t)) tt
 
-  children_low : (cs : List Child) → greatest (map child_nesting cs) ≤ n → AreLow n (parts_in cs)
+  children_low : (cs : List Child) → greatest_of (map child_nesting cs) ≤ n → AreLow n (parts_in cs)
   children_low [] low = tt
   children_low (c ∷ cs) low =
       (child_low c (omega (arith, low)), children_low cs (omega (arith, low)))
 
   pub parts_low : (e : Element) → nesting e ≤ suc n → AreLow n (element_parts e)
   parts_low e low =
-      let is : nesting e ≡ suc (greatest (map child_nesting e.children)) = at_element ℕ ℕ child_levels element_levels e in
+      let is : nesting e ≡ suc (greatest_of (map child_nesting e.children)) = at_element ℕ ℕ child_levels element_levels e in
       children_low e.children (omega (arith, is, low))
 
   middle_low : (before : List Part) (e : Element) (after : List Part) → AreLow n (before ++ (Child-F.Element e ∷ after)) → nesting e ≤ n

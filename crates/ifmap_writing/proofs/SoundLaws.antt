@@ -6,7 +6,7 @@ use Rattle.ifmap_lemmas.specs.Members.{both_all}
 use Rattle.ifmap_elem.specs.Arranged.{arrange, arrange_child}
 use Rattle.ifmap_elem.specs.Fit.{AreApart, AreFitChildren, HasCharacters, IsFit, IsFitAlone, IsFitName, IsNotBlank}
 use Rattle.ifmap_elem.specs.Folds.{at_child_element, at_element}
-use Rattle.ifmap_elem.specs.Nesting.{child_levels, child_nesting, element_levels, greatest, nesting}
+use Rattle.ifmap_elem.specs.Nesting.{child_levels, child_nesting, element_levels, greatest_of, nesting}
 use Rattle.ifmap_elem.specs.declared.elements.Child as the
 use Rattle.ifmap_elem.specs.declared.elements.Child.{Child, out-Child}
 use Rattle.ifmap_elem.specs.declared.elements.Child.TheOpen.{Child-F}
@@ -75,7 +75,7 @@ module _ (levels : ℕ) where
   inside_arranged (e ∷ es) s =
       (λ i. (arranged_in e ∙ ap (λ (x : Element). the.Element x) s.0.arranged) i ∷ inside_arranged es s.1 i)
 
-  inside_within : (es : List Element) → AllByRecursion (IsSound levels) es → greatest (map child_nesting (as_children es)) ≤ levels
+  inside_within : (es : List Element) → AllByRecursion (IsSound levels) es → greatest_of (map child_nesting (as_children es)) ≤ levels
   inside_within [] s = omega arith
   inside_within (e ∷ es) s =
       let here : child_nesting (the.Element e) ≡ nesting e = at_child_element ℕ ℕ child_levels element_levels e in
@@ -99,7 +99,7 @@ module _ (levels : ℕ) where
       arranged = arranged_is whole
           ∙ (λ i. record { name = name; attributes = rows_sorted rows f.rise i; children = inside_arranged es s i });
       within = (
-          let are : nesting whole ≡ suc (greatest (map child_nesting (as_children es))) =
+          let are : nesting whole ≡ suc (greatest_of (map child_nesting (as_children es))) =
           at_element ℕ ℕ child_levels element_levels whole in
           let low = inside_within es s in
           omega (arith, are, low));

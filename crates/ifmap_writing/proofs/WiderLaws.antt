@@ -9,7 +9,7 @@ use Rattle.ifmap_filter.specs.declared.filters.Filter.{Filter}
 use Rattle.ifmap_filter.specs.declared.tokens.FilterToken.{FilterToken}
 use Rattle.ifmap_filter.specs.declared.tokens.FilterToken.TheVariants.{CloseBracket, CloseParenthesis}
 use Rattle.ifmap_filter.specs.Grammar.{AreTests, AsksFor, Rule, StandsFor, TakesAnds, TakesComparison, TakesFactor, TakesJoined, TakesMore}
-use Rattle.ifmap_filter.specs.Grammar.{TakesOrs, TakesPredicate, TakesTest, and_word, deepest, or_word}
+use Rattle.ifmap_filter.specs.Grammar.{TakesOrs, TakesPredicate, TakesTest, and_word, depth_limit, or_word}
 use Rattle.ifmap_filter.specs.Texts.{Writes}
 
 more_in : {X : Type 0} (word : FilterToken) (Part Other : Rule X) → ((ts : List FilterToken) (x : X) (rest : List FilterToken)
@@ -93,5 +93,5 @@ module _ (one other : Scope) (wider : (q : Qualified) (name : element.Name) → 
     rest = w.rest;
     lexed = w.lexed;
     is_end = w.is_end;
-    filter_is = tests_in deepest w.tokens filter.tests w.filter_is;
+    filter_is = tests_in depth_limit w.tokens filter.tests w.filter_is;
   }

@@ -11,7 +11,7 @@ use Rattle.std.proofs.lemmas.Bool.{cases_Bool}
 use Rattle.std.proofs.lemmas.List.Folds.{flat_map-map}
 use Rattle.ifmap_elem.specs.Folds.{at_element, at_child_element, at_child_text, Each, by_children, each_child}
 use Rattle.ifmap_elem.specs.Arranged.{arrange, arrange_child, attribute_order, sort_attributes}
-use Rattle.ifmap_elem.specs.Nesting.{nesting, child_nesting, greatest, child_levels, element_levels}
+use Rattle.ifmap_elem.specs.Nesting.{nesting, child_nesting, greatest_of, child_levels, element_levels}
 use Rattle.ifmap_lemmas.specs.Sorting.{insert}
 use Rattle.ifmap_elem.specs.Scopes.{AllDiffer}
 use Rattle.ifmap_elem.specs.Fit.{IsFit, IsFitAlone, IsFitAttribute, AreFitChildren, HasCharacters, IsNotBlank, AreApart, is_element, elements_of, child_with_elements, element_with_elements}
@@ -223,5 +223,5 @@ nesting_arranged = by_children NestsAlike (λ e. nesting (arrange e) ≡ nesting
     ∙ sym (at_child_element ℕ ℕ child_levels element_levels e))
     (λ t. ap child_nesting (arranged_text t))
     (λ e each. ap nesting (arranged_is e) ∙ at_element ℕ ℕ child_levels element_levels (arranged_here e)
-    ∙ ap (λ l. suc (greatest l)) (nest_alike e.children each)
+    ∙ ap (λ l. suc (greatest_of l)) (nest_alike e.children each)
     ∙ sym (at_element ℕ ℕ child_levels element_levels e))

@@ -19,7 +19,7 @@ use Rattle.std.proofs.lemmas.Slice.Eq.{bytes_eq-Decides}
 use Rattle.std.proofs.lemmas.Str.Parse.{digit_from_value}
 use Rattle.ifmap_elem.specs.Chars.{AllAre}
 use Rattle.ifmap_elem.specs.Names.{IsNamePart, is_name_start, is_name_character, middle_dot, with_prefix}
-use Rattle.ifmap_elem.specs.Scopes.{Scope, AllDiffer, IsBinding, bound, root_scope, xml_space}
+use Rattle.ifmap_elem.specs.Scopes.{Scope, AllDiffer, IsBinding, prefix_space, root_scope, xml_space}
 use Rattle.ifmap_elem.specs.Fit.{IsNamespace, IsDeclarable}
 use Rattle.ifmap_elem.specs.Canonical.{after_prefix}
 use Rattle.ifmap_elem.specs.Namespaces.{once_each, is_declared, declared_among, numbered_prefixes, name_prefixes}
@@ -88,7 +88,7 @@ pub record HasNumber (letter n : ℕ) (xs : Texts) (more : Scope) (s p : List �
   pub number : ℕ
   pub from : n ≤ number
   pub prefix_is : p ≡ label letter number
-  pub binds : bound (numbered_scope letter n xs more) p ≡ Some s
+  pub binds : prefix_space (numbered_scope letter n xs more) p ≡ Some s
 
 module _ (letter : ℕ) (is : IsLetter letter) where
   label_part : (n : ℕ) → IsNamePart (label letter n)
@@ -120,28 +120,29 @@ module _ (letter : ℕ) (is : IsLetter letter) where
   ]
 
 pub past_rows : (letter n : ℕ) (xs : Texts) (more : Scope) (p : List ℕ) → ((k : ℕ) → label letter k ≢ p)
-    → bound (numbered_scope letter n xs more) p ≡ bound more p
+    → prefix_space (numbered_scope letter n xs more) p ≡ prefix_space more p
 past_rows letter n [] more p other = refl
 past_rows letter n (x ∷ xs) more p other = rw (other_bytes_differ (label letter n) p (other n)) (past_rows letter (n + 1) xs more p other)
 
-resolves_none : (prefixes : Rows) (scope : Scope) (s : List ℕ) → lookup (bytes_eq s) prefixes ≡ None → s ≡ [] → bound scope [] ≡ Some []
+resolves_none : (prefixes : Rows) (scope : Scope) (s : List ℕ) → lookup (bytes_eq s) prefixes ≡ None → s ≡ []
+    → prefix_space scope [] ≡ Some []
     → Resolves prefixes scope s
 resolves_none prefixes scope s found is default = record {
   printed = λ local. ap (λ o. after_prefix o local) found ∙ sym (ap (λ o. with_prefix (prefix_or o) local) found);
   is_prefix = inl (ap prefix_or found);
   no_xmlns = λ e. let wrong : [] ≡ codes "xmlns" = sym (ap prefix_or found) ∙ e in cc;
-  bound_to = ap (bound scope) (ap prefix_or found) ∙ default ∙ ap (λ z. Some z) (sym is);
+  bound_to = ap (prefix_space scope) (ap prefix_or found) ∙ default ∙ ap (λ z. Some z) (sym is);
   none = λ e. is;
 }
 
 resolves_some : (prefixes : Rows) (scope : Scope) (s p : List ℕ) → lookup (bytes_eq s) prefixes ≡ Some p → IsNamePart p
-    → p ≢ codes "xmlns" → bound scope p ≡ Some s → Resolves prefixes scope s
+    → p ≢ codes "xmlns" → prefix_space scope p ≡ Some s → Resolves prefixes scope s
 resolves_some prefixes scope s p found part other binds = record {
   printed = λ local. ap (λ o. after_prefix o local) found ∙ colon p local (part_is_some p part)
       ∙ sym (ap (λ o. with_prefix (prefix_or o) local) found);
   is_prefix = inr (subst IsNamePart (sym (ap prefix_or found)) part);
   no_xmlns = λ e. other (sym (ap prefix_or found) ∙ e);
-  bound_to = ap (bound scope) (ap prefix_or found) ∙ binds;
+  bound_to = ap (prefix_space scope) (ap prefix_or found) ∙ binds;
   none = λ e. absurd (part_is_some p part (sym (ap prefix_or found) ∙ e));
 }
   where
@@ -192,8 +193,8 @@ xml_part =
 
 -- the default and `xml` are bound as they are outside of a document
 pub record IsOutermost (scope : Scope) : Type 0 where
-  pub default : bound scope [] ≡ Some []
-  pub xml : bound scope (codes "xml") ≡ Some xml_space
+  pub default : prefix_space scope [] ≡ Some []
+  pub xml : prefix_space scope (codes "xml") ≡ Some xml_space
 
 pub root_outermost : IsOutermost root_scope
 root_outermost = record { default = refl; xml = refl }

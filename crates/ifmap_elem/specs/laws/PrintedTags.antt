@@ -23,7 +23,7 @@ use Rattle.ifmap_elem.specs.declared.tokens.Qualified.{Qualified}
 use Rattle.ifmap_elem.specs.declared.tokens.Tag.{Tag}
 use Rattle.ifmap_elem.specs.Chars.{AllAre, IsCharacters, is_white, double_quote}
 use Rattle.ifmap_elem.specs.Names.{IsNamePart, IsQualified, is_name_start, is_name_character, name_bytes, with_prefix}
-use Rattle.ifmap_elem.specs.Scopes.{Binding, Scope, AllDiffer, bound, binding_of, bindings, plain_assignments, scope_within, attribute_space, IsBinding, AreAttributes, NamesElement}
+use Rattle.ifmap_elem.specs.Scopes.{Binding, Scope, AllDiffer, prefix_space, binding_of, bindings, plain_assignments, scope_within, attribute_space, IsBinding, AreAttributes, NamesElement}
 use Rattle.ifmap_elem.specs.Tokens.{TakesAssignment, TakesTag, TakesEnd, TakesText, EndsText}
 use Rattle.ifmap_elem.specs.Escapes.{text_bytes, value_bytes}
 use Rattle.ifmap_elem.specs.Fit.{IsFitName, IsFitAttribute}
@@ -66,7 +66,7 @@ pub record Resolves (prefixes : Rows) (scope : Scope) (space : List ℕ) : Type 
   pub printed : (local : List ℕ) → after_prefix (lookup (bytes_eq space) prefixes) local ≡ with_prefix (prefix_of prefixes space) local
   pub is_prefix : (prefix_of prefixes space ≡ []) ⊎ IsNamePart (prefix_of prefixes space)
   pub no_xmlns : prefix_of prefixes space ≢ codes "xmlns"
-  pub bound_to : bound scope (prefix_of prefixes space) ≡ Some space
+  pub bound_to : prefix_space scope (prefix_of prefixes space) ≡ Some space
   pub none : prefix_of prefixes space ≡ [] → space ≡ []
 
 -- an attribute of a document, whose namespace is written by a prefix
@@ -251,7 +251,7 @@ plain_are prefixes declared scope name attributes f =
     filter-append (λ a. is_none (binding_of a)) (map declaration_assignment declared) (map (attribute_assignment prefixes) attributes)
     ∙ (λ i. declared_plain declared i ++ all_plain prefixes scope attributes f i)
 
-space_of_prefix : (scope : Scope) (p s : List ℕ) → bound scope p ≡ Some s → (p ≡ [] → s ≡ []) → attribute_space scope p ≡ Some s
+space_of_prefix : (scope : Scope) (p s : List ℕ) → prefix_space scope p ≡ Some s → (p ≡ [] → s ≡ []) → attribute_space scope p ≡ Some s
 space_of_prefix scope [] s e none = ap Some (sym (none refl))
 space_of_prefix scope (b ∷ bs) s e none = e
 
@@ -280,7 +280,7 @@ names_element prefixes declared outer name attributes binds once r f other_bytes
     record {
       binds = subst (AllByRecursion IsBinding) (sym bs) binds;
       binds_once = subst (λ (l : List Binding). AllDiffer (map (λ b. b.prefix) l)) (sym bs) once;
-      space_is = ap (λ (s : Scope). bound s (prefix_of prefixes name.space)) within ∙ r.bound_to;
+      space_is = ap (λ (s : Scope). prefix_space s (prefix_of prefixes name.space)) within ∙ r.bound_to;
       local_is = refl;
       attributes_are =
           subst (λ (s : Scope). AreAttributes s (plain_assignments (tag_of prefixes declared name attributes)) attributes) (sym within)

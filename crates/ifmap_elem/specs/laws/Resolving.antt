@@ -20,7 +20,7 @@ use Rattle.ifmap_elem.specs.declared.tokens.Token.{Token}
 use Rattle.ifmap_elem.specs.Document as piece
 use Rattle.ifmap_elem.specs.Document.{Pieces, Nothing, chain_pieces, tokens_of, heading, Item, Inner, Run, is_inner, put_before, join_runs, is_child, children_among, declared_here, declared_below, from_above, IsElement, AreItems, IsMargin}
 use Rattle.ifmap_elem.specs.InScope.{binding_told, declared_at, is_listed, listed_space, IsElementPiece, children_before, IsChildAt, LeadsTo, ResolvesAsDeclared}
-use Rattle.ifmap_elem.specs.Scopes.{Binding, Scope, bindings, bound, root_scope, scope_within}
+use Rattle.ifmap_elem.specs.Scopes.{Binding, Scope, bindings, prefix_space, root_scope, scope_within}
 use Rattle.ifmap_elem.specs.Spells.{Spells}
 use Rattle.ifmap_elem.specs.laws.OneReading.{one_lexing, one_heading, one_content, one_meaning}
 use Rattle.ifmap_elem.specs.laws.Roots.{BeginsWithRoot, root_begins}
@@ -241,30 +241,30 @@ module _ (outer : Scope) (tag : Tag) (items : List Item) (e : Element) (declared
           ap (λ is. at (index ∷ path) (declared_below 0 is)) t.children_are
           ∙ below_at 0 path t.before t.element t.declared t.after index (let i = t.index_is in omega (arith, i))
 
-  own_bound : (p : List ℕ) → bound (reverse (bindings tag) ++ outer) p ≡ bound (scope_within outer tag) p
+  own_bound : (p : List ℕ) → prefix_space (reverse (bindings tag) ++ outer) p ≡ prefix_space (scope_within outer tag) p
   own_bound p = bound_reversed (bindings tag) outer p h.named.binds_once
 
 resolves : (path : List ℕ) (outer : Scope) (tag : Tag) (inside : Pieces) (items : List Item) (e : Element) (declared : List Declared)
     (scope : Scope) → IsElement outer tag items e declared
     → AreItems (scope_within outer tag) inside items → LeadsTo outer tag inside path scope → (p : List ℕ)
-    → bound (declared_at path declared ++ outer) p ≡ bound scope p
+    → prefix_space (declared_at path declared ++ outer) p ≡ prefix_space scope p
 resolves [] outer tag inside items e declared scope h m l p =
-    ap (λ s. bound (s ++ outer) p) (declared_there outer tag items e declared h) ∙ own_bound outer tag items e declared h p
-    ∙ ap (λ (s : Scope). bound s p) (sym l)
+    ap (λ s. prefix_space (s ++ outer) p) (declared_there outer tag items e declared h) ∙ own_bound outer tag items e declared h p
+    ∙ ap (λ (s : Scope). prefix_space s p) (sym l)
 resolves (index ∷ path) outer tag inside items e declared scope h m l p =
     let t = child_there (scope_within outer tag) inside items index l.0 l.1 m l.2 in
-    ap (λ s. bound (s ++ outer) p) (declared_in outer tag items e declared h index path (scope_within outer tag) l.0 l.1 t)
-    ∙ ap (λ s. bound s p) (append_assoc (declared_at path t.declared) (reverse (bindings tag)) outer)
+    ap (λ s. prefix_space (s ++ outer) p) (declared_in outer tag items e declared h index path (scope_within outer tag) l.0 l.1 t)
+    ∙ ap (λ s. prefix_space s p) (append_assoc (declared_at path t.declared) (reverse (bindings tag)) outer)
     ∙ bound_within (declared_at path t.declared) (reverse (bindings tag) ++ outer) (scope_within outer tag) p
     (own_bound outer tag items e declared h p)
     ∙ resolves path (scope_within outer tag) l.0 l.1 t.inner t.element t.declared scope t.is_element t.inside_are l.3 p
 
 -- what is bound at the root is not listed
-root_unlisted : (s : Scope) (p : List ℕ) → is_listed p ≡ true → bound (s ++ root_scope) p ≡ bound s p
+root_unlisted : (s : Scope) (p : List ℕ) → is_listed p ≡ true → prefix_space (s ++ root_scope) p ≡ prefix_space s p
 root_unlisted (b ∷ bs) p e = ap (λ o. cond (bytes_eq b.prefix p) (Some b.space) o) (root_unlisted bs p e)
 root_unlisted [] p e = at_root p e
   where
-    at_root : (p : List ℕ) → is_listed p ≡ true → bound root_scope p ≡ None
+    at_root : (p : List ℕ) → is_listed p ≡ true → prefix_space root_scope p ≡ None
     at_root p e = elim (cases_Bool (bytes_eq (codes "xml") p)) [
       | inl f ↦ let wrong : false ≡ true = subst (λ q. is_listed q ≡ true) (sym (eq_tells (codes "xml") p f)) e in cc
       | inr f ↦ elim (cases_Bool (bytes_eq [] p)) [
@@ -273,7 +273,7 @@ root_unlisted [] p e = at_root p e
       ]
     ]
 
-listed_alike : (s t : Scope) (p : List ℕ) → bound (s ++ root_scope) p ≡ bound t p → listed_space s p ≡ listed_space t p
+listed_alike : (s t : Scope) (p : List ℕ) → prefix_space (s ++ root_scope) p ≡ prefix_space t p → listed_space s p ≡ listed_space t p
 listed_alike s t p e = elim (cases_Bool (is_listed p)) [
   | inl is ↦ rw is (sym (root_unlisted s p is) ∙ e)
   | inr is ↦ rw is refl

@@ -7,7 +7,7 @@ use Rattle.ifmap_elem.specs.declared.elements.Name.{Name}
 use Rattle.ifmap_elem.specs.declared.tokens.Assignment.{Assignment}
 use Rattle.ifmap_elem.specs.declared.tokens.Qualified.{Qualified}
 use Rattle.ifmap_elem.specs.declared.tokens.Tag.{Tag}
-use Rattle.ifmap_elem.specs.Scopes.{Scope, Binding, AllDiffer, AreAttributes, IsAttribute, IsBinding, NamesElement, attribute_space, bindings, bound, plain_assignments, scope_within, xml_space, xmlns_space}
+use Rattle.ifmap_elem.specs.Scopes.{Scope, Binding, AllDiffer, AreAttributes, IsAttribute, IsBinding, NamesElement, attribute_space, bindings, prefix_space, plain_assignments, scope_within, xml_space, xmlns_space}
 use Rattle.ifmap_elem.specs.laws.OneReading.{one_list_of_attributes}
 use Rattle.ifmap_reader.specs.declared.open_elements.OpenElement.{OpenElement}
 use Rattle.ifmap_reader.specs.AllowedTags.{OpensElement}
@@ -116,7 +116,7 @@ allowed_or_none outer tag = elim (decided_each IsBinding binding_or_not (binding
   | inr fails ↦ inr (λ name attributes n. fails n.binds)
   | inl binds ↦ elim (differ_or_not same_or_not (map (λ b. b.prefix) (bindings tag))) [
     | inr fails ↦ inr (λ name attributes n. fails n.binds_once)
-    | inl once ↦ elim (value_or_none (bound (scope_within outer tag) tag.name.prefix)) [
+    | inl once ↦ elim (value_or_none (prefix_space (scope_within outer tag) tag.name.prefix)) [
       | inr none ↦ inr (λ name attributes n. let wrong : None ≡ Some name.space = sym none ∙ n.space_is in cc)
       | inl s ↦ elim (attributes_or_none (scope_within outer tag) (plain_assignments tag)) [
         | inr none ↦ inr (λ name attributes n. none (attributes, n.attributes_are))

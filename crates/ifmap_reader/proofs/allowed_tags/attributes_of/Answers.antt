@@ -2,7 +2,7 @@ use Rattle.std.proofs.Common.{◌++◌, reverse}
 use Rattle.std.proofs.lemmas.Result.{err_from_is_err_and}
 use Rattle.ifmap_reader.specs.OpenElements.{scope_of}
 use Rattle.ifmap_reader.proofs.Attributing.{attributing_first, attribute_added, binding_left, attribute_refused, all_given, told_some, told_none}
-use Rattle.ifmap_reader.specs.AllowedTags.{plain}
+use Rattle.ifmap_reader.specs.AllowedTags.{plain_part}
 use Rattle.ifmap_reader.proofs.Lasts.{none_was}
 use Rattle.ifmap_reader.proofs.allowed_tags.attributes_of.Goals as goal
 
@@ -21,7 +21,7 @@ pub returns-in_err-attribute_of : goal.returns-in_err-attribute_of
 returns-in_err-attribute_of c =
     let p = err_from_is_err_and c.from_residual-in_err-attribute_of.result c.from_residual-in_err-attribute_of.ensures.1 in
     rw (p.1, p.2) (attribute_refused (c.args.bindings.now ++ scope_of (reverse c.args.open_elements.now))
-    (plain c.args.assignments) c.loop-assignment.made.items c.loop-assignment.left.items c.pop.new.self.items c.in-Some.assignment
+    (plain_part c.args.assignments) c.loop-assignment.made.items c.loop-assignment.left.items c.pop.new.self.items c.in-Some.assignment
     c.in-Some.ensures.items c.loop-assignment.invariant
     (told_none c.bound_prefix.result c.in-Some.assignment.value _ c.is_some.result c.bound_prefix.ensures c.is_some.ensures
     c.if-is_some.false)

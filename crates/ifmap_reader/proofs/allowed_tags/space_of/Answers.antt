@@ -1,7 +1,7 @@
 use Rattle.std.proofs.Common.{ap, refl, sym, ◌∙◌, arith, reverse, take}
 use Rattle.std.specs.Prelude.{Some}
 use Rattle.std.proofs.lemmas.List.{take_all}
-use Rattle.ifmap_elem.specs.Scopes.{bound}
+use Rattle.ifmap_elem.specs.Scopes.{prefix_space}
 use Rattle.ifmap_elem.specs.laws.ScopeLaws.{bound_inner, bound_outer}
 use Rattle.ifmap_reader.specs.OpenElements.{scope_of}
 use Rattle.ifmap_reader.proofs.Linking.{reaches_back}
@@ -16,7 +16,7 @@ returns-in-Some c =
 pub loop-outer-init : goal.loop-outer-init
 loop-outer-init c = record {
   within = omega arith;
-  same = ap (λ fs. bound (scope_of (reverse fs)) c.args.prefix.now) (take_all _ c.args.open_elements.now (omega arith))
+  same = ap (λ fs. prefix_space (scope_of (reverse fs)) c.args.prefix.now) (take_all _ c.args.open_elements.now (omega arith))
       ∙ sym (bound_outer c.args.bindings.now (scope_of (reverse c.args.open_elements.now)) c.args.prefix.now (sym c.in_default.ensures));
 }
 
@@ -25,7 +25,7 @@ loop-outer-preserved-then-element-outer c =
     let less = c.if-element-outer.true in
     record {
       within = omega (arith, c.loop-outer.invariant.within, less);
-      same = ap (λ s. bound s c.args.prefix.now) (reaches_back c.args.open_elements.now c.index-open_elements-outer.result.declaring
+      same = ap (λ s. prefix_space s c.args.prefix.now) (reaches_back c.args.open_elements.now c.index-open_elements-outer.result.declaring
           c.loop-outer.outer c.index-open_elements-outer.result
           c.loop-outer-test.true c.loop-outer.invariant.within less
           (element_before c.args.open_elements.now c.loop-outer.outer c.index-open_elements-outer.result c.loop-outer-test.true
@@ -39,7 +39,7 @@ returns-in-Some-space_of c =
     ∙ sym (bound_inner c.index-open_elements-outer.result.bindings
     (scope_of (reverse (take _ c.args.open_elements.now))) c.args.prefix.now c.in-Some-space_of.space.now
     (sym c.in-Some-space_of.ensures))
-    ∙ ap (λ fs. bound (scope_of fs) c.args.prefix.now) (sym (element_before c.args.open_elements.now c.loop-outer.outer
+    ∙ ap (λ fs. prefix_space (scope_of fs) c.args.prefix.now) (sym (element_before c.args.open_elements.now c.loop-outer.outer
     c.index-open_elements-outer.result c.loop-outer-test.true c.loop-outer.invariant.within c.index-open_elements-outer.is))
     ∙ c.loop-outer.invariant.same
 
@@ -48,7 +48,7 @@ loop-outer-preserved c = record {
   within = omega (arith, c.loop-outer.invariant.within);
   same = sym (bound_outer c.index-open_elements-outer.result.bindings
       (scope_of (reverse (take _ c.args.open_elements.now))) c.args.prefix.now (sym c.in_default-space_of.ensures))
-      ∙ ap (λ fs. bound (scope_of fs) c.args.prefix.now) (sym
+      ∙ ap (λ fs. prefix_space (scope_of fs) c.args.prefix.now) (sym
       (element_before c.args.open_elements.now c.loop-outer.outer c.index-open_elements-outer.result c.loop-outer-test.true
       c.loop-outer.invariant.within c.index-open_elements-outer.is))
       ∙ c.loop-outer.invariant.same;

@@ -10,5 +10,5 @@ loop-first-preserved c =
     one_run _ (map outline_child c.loop-first.pieces.items) (map outline_child c.push.new.self.items) c.loop-first.rest.now
     c.in-Some.others.now c.in-Some.first.now
     (outline_element c.in_ok-run.run') c.run_length-length.result (search rules) c.run_length-length.ensures.value c.in_ok-run.ensures
-    (put c.loop-first.pieces.items c.push.new.self.items c.inside.result (the.Element (outline_element c.in_ok-run.run'))
-    c.inside.ensures c.in_ok-push.ensures.items) c.loop-first.invariant
+    (put c.loop-first.pieces.items c.push.new.self.items c.into_piece.result (the.Element (outline_element c.in_ok-run.run'))
+    c.into_piece.ensures c.in_ok-push.ensures.items) c.loop-first.invariant
