@@ -13,4 +13,4 @@ name_of_test name is =
     (leb-true 1 (length name) bounds.0, leb-true (length name) longest_client_name bounds.1, parts.1)
 
 pub test_of_name : (name : List ℕ) → IsClientName name → is_client_name name ≡ true
-test_of_name name is = rw (le-leb 1 (length name) is.0, le-leb (length name) 40 is.1, is.2) refl
+test_of_name name is = rw (le-leb 1 (length name) is.0, le-leb (length name) longest_client_name is.1, is.2) refl
