@@ -4,7 +4,7 @@ use Rattle.std.specs.List.{list_all, list_any}
 use Rattle.std.specs.Str.{bytes_eq}
 use Rattle.httparse.specs.Grammar.{RequestHead}
 use Rattle.httparse.specs.Spans.{name_and_value}
-use Rattle.ifmap_meta.specs.ClientNames.{is_client_byte}
+use Rattle.ifmap_meta.specs.ClientNames.{is_client_byte, longest_client_name}
 use Rattle.ifmap_heads.specs.Fields.{Fields, common_length, has_field, lists_word, values}
 use Rattle.ifmap_heads.specs.Heads.{BeginsNoPost, IsCutPostHead, IsPostHead}
 use Rattle.ifmap_heads.specs.Limits.{longest_post}
@@ -23,7 +23,8 @@ lacks_length fields =
 
 -- the test of `IsClientName`, for what computes: that it is this test is a law
 abbrev pub is_client_name : List ℕ → Bool
-is_client_name name = nat_le 1 (length name) && nat_le (length name) 40 && list_all is_client_byte name
+is_client_name name =
+    nat_le 1 (length name) && nat_le (length name) longest_client_name && list_all is_client_byte name
 
 -- the client, where it is named once and by a name
 abbrev pub only_client : List (List ℕ) → Option (List ℕ)

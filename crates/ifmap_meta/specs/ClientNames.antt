@@ -8,6 +8,11 @@ use Rattle.std.specs.Str.{byte}
 abbrev pub is_client_byte : ℕ → Bool
 is_client_byte b = is_ascii_alphanumeric b || b == byte "." || b == byte "_" || b == byte "-"
 
+-- the most bytes of a client's name
+abbrev pub longest_client_name : ℕ
+longest_client_name = 40
+
 -- 1 to 40 such bytes
 abbrev pub IsClientName : List ℕ → Type 0
-IsClientName name = (1 ≤ length name) × (length name ≤ 40) × IsTrue (list_all is_client_byte name)
+IsClientName name =
+    (1 ≤ length name) × (length name ≤ longest_client_name) × IsTrue (list_all is_client_byte name)

@@ -103,10 +103,13 @@ impl PartialOrd for ClientName {
     }
 }
 
+// The most bytes of a client's name.
+const LONGEST_CLIENT_NAME: usize = 40;
+
 fn is_client_name(text: &str) -> bool
     ensures { IsTrue result ↔ IsClientName text.now }
 {
-    1 <= text.len() && text.len() <= 40 && are_client_bytes(text.as_bytes())
+    1 <= text.len() && text.len() <= LONGEST_CLIENT_NAME && are_client_bytes(text.as_bytes())
 }
 
 fn are_client_bytes(bytes: &[u8]) -> bool

@@ -15,13 +15,17 @@ entry_size e = item_size e.item + length (canonical_bytes e.element)
 abbrev pub entries_size : List Entry → ℕ
 entries_size entries = sum_by entry_size entries
 
--- the size of an item that is to be told: 100, and that of its entries
+-- what an item that is to be told counts beside its entries
+abbrev pub size_beside_entries : ℕ
+size_beside_entries = 100
+
+-- the size of an item that is to be told: this, and that of its entries
 abbrev pub poll_size : PollItem → ℕ
-poll_size (the_item.Search name entries) = 100 + entries_size entries
-poll_size (the_item.Update name entries) = 100 + entries_size entries
-poll_size (the_item.Delete name entries) = 100 + entries_size entries
-poll_size (the_item.Notify name entries) = 100 + entries_size entries
-poll_size (the_item.Error name code note) = 100
+poll_size (the_item.Search name entries) = size_beside_entries + entries_size entries
+poll_size (the_item.Update name entries) = size_beside_entries + entries_size entries
+poll_size (the_item.Delete name entries) = size_beside_entries + entries_size entries
+poll_size (the_item.Notify name entries) = size_beside_entries + entries_size entries
+poll_size (the_item.Error name code note) = size_beside_entries
 
 -- the size of a queue
 abbrev pub queue_size : List PollItem → ℕ

@@ -8,4 +8,4 @@ pub mod sizes;
 pub use ifmap_filter::{Filter, meets_optional};
 pub use results::{Entry, Found, PollItem, SearchError};
 pub use searches::Search;
-pub use sizes::poll_size;
+pub use sizes::{SIZE_BESIDE_ENTRIES, poll_size};

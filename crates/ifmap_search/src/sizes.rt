@@ -1,9 +1,12 @@
 //! Sizes.
 ghost use Rattle.std.specs.Prelude.{◌≡◌, ◌+◌, ◌-◌, ◌^◌, min};
-ghost use Rattle.ifmap_search.specs.Sizes.{entries_size, entry_size, poll_size};
+ghost use Rattle.ifmap_search.specs.Sizes.{entries_size, entry_size, poll_size, size_beside_entries};
 
 use crate::results::{Entry, PollItem};
 use ifmap_elem::Many;
+
+/// What an item that a poll is told counts beside its entries.
+pub const SIZE_BESIDE_ENTRIES: u64 = 100;
 
 /// The size of an item that a poll is told: 100, and the canonical bytes of the identifiers and
 /// elements of its entries; at most 2^64 - 1. It takes no memory.
@@ -15,14 +18,14 @@ pub fn poll_size(item: &PollItem) -> u64
         PollItem::Update { entries, .. } => size_with(entries),
         PollItem::Delete { entries, .. } => size_with(entries),
         PollItem::Notify { entries, .. } => size_with(entries),
-        PollItem::Error { .. } => 100,
+        PollItem::Error { .. } => SIZE_BESIDE_ENTRIES,
     }
 }
 
 fn size_with(entries: &Many<Entry>) -> u64
-    ensures { result ≡ min (100 + entries_size entries.now) (2 ^ 64 - 1) }
+    ensures { result ≡ min (size_beside_entries + entries_size entries.now) (2 ^ 64 - 1) }
 {
-    let mut size = 100u64;
+    let mut size = SIZE_BESIDE_ENTRIES;
     for entry in entries.as_slice() {
         size = size.saturating_add(entry_size(entry));
     }

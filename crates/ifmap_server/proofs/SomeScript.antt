@@ -7,7 +7,7 @@ use Rattle.std.proofs.lemmas.Bool.{cases_lt}
 use Rattle.ifmap_lemmas.specs.Deciding.{Decided, by_length, decided_both, decided_by, decided_test, same_or_not, within_or_not}
 use Rattle.ifmap_input.specs.Scripts.{longest_script}
 use Rattle.ifmap_io.specs.Calendar.{last_moment}
-use Rattle.ifmap_meta.specs.ClientNames.{IsClientName, is_client_byte}
+use Rattle.ifmap_meta.specs.ClientNames.{IsClientName, is_client_byte, longest_client_name}
 use Rattle.ifmap_requests.specs.declared.errors.Refusal.TheVariants.{Unreadable}
 use Rattle.ifmap_requests.specs.Laws.{SomeMeaning}
 use Rattle.ifmap_server.specs.declared.headers.Header.{Header}
@@ -27,7 +27,7 @@ client_or_not : (name : List ℕ) → Decided (IsClientName name)
 client_or_not name =
     decided_by (λ p. (p.0, p.1.0, p.1.1)) (λ is. (is.0, (is.1, is.2)))
     (decided_both (within_or_not 1 (length name))
-    (decided_both (within_or_not (length name) 40) (decided_test (list_all is_client_byte name))))
+    (decided_both (within_or_not (length name) longest_client_name) (decided_test (list_all is_client_byte name))))
 
 frame_or_not : (f : Frame) → Decided (IsFrame f)
 frame_or_not f =

@@ -12,7 +12,7 @@ use Rattle.ifmap_ident.specs.declared.codes.Code.TheVariants.{PollResultsTooBig}
 use Rattle.ifmap_changes.specs.ifmap_machine.Telling.{is_overfull}
 use Rattle.ifmap_search.specs.declared.results.PollItem.{PollItem}
 use Rattle.ifmap_search.specs.declared.results.PollItem.TheVariants as the_item
-use Rattle.ifmap_search.specs.Sizes.{poll_size, queue_size}
+use Rattle.ifmap_search.specs.Sizes.{poll_size, queue_size, size_beside_entries}
 use Rattle.ifmap_changes.specs.ifmap_session.Sessions.{IsLive, Session, is_named, session_with_serial, without_sessions}
 use Rattle.ifmap_changes.specs.ifmap_session.laws.TextLaws.{all_found}
 use Rattle.ifmap_changes.specs.ifmap_tellings.declared.tellings.Telling.{Telling}
@@ -148,7 +148,7 @@ module _ (tellings : Tellings) (serial : ℕ) (live : List Session) (s : Session
         ap (λ (t : Session). t.queue) (told_as tellings serial live s (Some (the_telling.Alone error)) is there)
         ∙ ap (λ (item : PollItem). item ∷ []) sized.1
 
-    pub alone_size : 100 ≡ queue_size (told_by tellings s).queue
+    pub alone_size : size_beside_entries ≡ queue_size (told_by tellings s).queue
     alone_size = sym (ap queue_size alone_queue)
 
     pub alone_of_name : (name : List ℕ) → 0 ≡ queue_size (filter (is_named name) (told_by tellings s).queue)

@@ -17,6 +17,7 @@ use ifmap_changes::asking::Asking;
 use ifmap_changes::parts::Parts;
 use ifmap_changes::{Pending, Sessions, Standing, Telling, named_size};
 use ifmap_elem::Text;
+use ifmap_search::SIZE_BESIDE_ENTRIES;
 use std::collections::BTreeMap;
 
 /// What is so of a name: whether its subscription stands, and the size of what there is to tell of it.
@@ -107,7 +108,7 @@ pub(crate) fn whole_size(sessions: &Sessions, tellings: &BTreeMap<u64, Telling>,
     match tellings.get(&serial) {
         None => sessions.queue_size(serial).0,
         Some(Telling::After { size, .. }) => *size,
-        Some(Telling::Alone(_)) => 100,
+        Some(Telling::Alone(_)) => SIZE_BESIDE_ENTRIES,
     }
 }
 

@@ -22,7 +22,7 @@ use ifmap_changes::{Graph, Standing, Subscribed, Subscription, View, subscribe, 
 use ifmap_elem::{Copied, Text};
 use ifmap_ident::Identifier;
 use ifmap_ident::laws::bytes_tell_identifiers_apart;
-use ifmap_search::{Found, PollItem, Search};
+use ifmap_search::{Found, PollItem, SIZE_BESIDE_ENTRIES, Search};
 use ifmap_steps::Steps;
 use std::alloc::{AllocError as NoMemory, Global};
 use std::sync::ledger::Ledger;
@@ -164,7 +164,7 @@ fn keep_name(
     }) }
     ensures small { IfOk result IsSmall }
 {
-    if u64::MAX - 101 <= found.size {
+    if u64::MAX - SIZE_BESIDE_ENTRIES <= found.size {
         return Err(NoMemory);
     }
     Ok(Renaming {

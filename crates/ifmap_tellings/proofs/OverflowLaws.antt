@@ -6,7 +6,7 @@ use Rattle.ifmap_ident.specs.declared.codes.Code.TheVariants.{PollResultsTooBig}
 use Rattle.ifmap_standing.specs.ifmap_machine.Telling.{is_overfull, limit_note, overflow_session}
 use Rattle.ifmap_search.specs.declared.results.PollItem.{PollItem}
 use Rattle.ifmap_search.specs.declared.results.PollItem.TheVariants as the_item
-use Rattle.ifmap_search.specs.Sizes.{queue_size}
+use Rattle.ifmap_search.specs.Sizes.{queue_size, size_beside_entries}
 use Rattle.ifmap_standing.specs.ifmap_session.Sessions.{Session, with_error}
 use Rattle.ifmap_tellings.specs.declared.tellings.Telling.TheVariants.{Alone}
 use Rattle.ifmap_tellings.specs.Tellings.{IsSized, IsWide, told_where}
@@ -17,7 +17,7 @@ within_stays s e = rw e refl
 
 error_within : (note : List ℕ) (s : Session) → IsWide s.limit
     → is_overfull (with_error (the_item.Error None PollResultsTooBig note) s) ≡ false
-error_within note s wide = le-ltb s.limit 100 wide
+error_within note s wide = le-ltb s.limit size_beside_entries wide
 
 pub overflowed_within : (s : Session) → IsWide s.limit → is_overfull (overflow_session s) ≡ false
 overflowed_within s wide = elim (cases_Bool (is_overfull s)) [

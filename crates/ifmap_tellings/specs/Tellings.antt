@@ -9,7 +9,7 @@ use Rattle.ifmap_ident.specs.declared.codes.Code.TheVariants.{PollResultsTooBig}
 use Rattle.ifmap_standing.specs.ifmap_machine.Telling.{is_overfull, tell_session}
 use Rattle.ifmap_search.specs.declared.results.PollItem.{PollItem}
 use Rattle.ifmap_search.specs.declared.results.PollItem.TheVariants as the_item
-use Rattle.ifmap_search.specs.Sizes.{queue_size}
+use Rattle.ifmap_search.specs.Sizes.{queue_size, size_beside_entries}
 use Rattle.ifmap_standing.specs.ifmap_session.Sessions.{IsLive, Session, SessionTable, session_with_serial, spare_of, with_error}
 use Rattle.ifmap_standing.specs.declared.standing.Standing.{Standing}
 use Rattle.ifmap_standing.specs.declared.telling.News.{News}
@@ -81,9 +81,9 @@ abbrev pub AreUntoldWithinLimits : Tellings → List Session → Type 0
 AreUntoldWithinLimits tellings live =
     (n : ℕ) (s : Session) → session_with_serial n live ≡ Some s → get nat_cmp tellings n ≡ None → is_overfull s ≡ false
 
--- one error in place of all, whose size is 100, is within a limit
+-- one error in place of all, which has no entries, is within a limit
 abbrev pub IsWide : ℕ → Type 0
-IsWide limit = 100 ≤ limit
+IsWide limit = size_beside_entries ≤ limit
 
 -- it is within that of each session
 abbrev pub AreWide : List Session → Type 0

@@ -6,6 +6,7 @@
 -- 5. What is stamped is arranged, has the same content and is whole (`stamped_is_whole`).
 use Rattle.std.proofs.Common.{◌≡◌, ◌≢◌, ℕ, ◌≤◌, Bool, true, false, not, List, [], ◌∷◌, ◌++◌, map, length, codes, IsSome, refl, ap, sym, ◌∙◌, subst, arith, inl, inr}
 use Rattle.std.specs.List.{AllByRecursion, filter}
+use Rattle.std.specs.Str.{byte}
 use Rattle.std.proofs.Common.{◌||◌, rules}
 use Rattle.std.proofs.lemmas.Bool.{and_parts, cases_Bool, not-true}
 use Rattle.std.proofs.lemmas.Bool.Decides.{nat_tests}
@@ -129,7 +130,7 @@ no_namespace = record { characters = ([], refl, tt); not_reserved = λ e. cc }
 
 publisher_part : IsNamePart (codes "ifmap-publisher-id")
 publisher_part = record {
-  first = 0x69;
+  first = byte "i";
   others = codes "fmap-publisher-id";
   bytes_are = ascii_encoded (codes "ifmap-publisher-id") (all_of_test is_ascii (codes "ifmap-publisher-id") refl);
   begins = refl;
@@ -138,7 +139,7 @@ publisher_part = record {
 
 timestamp_part : IsNamePart (codes "ifmap-timestamp")
 timestamp_part = record {
-  first = 0x69;
+  first = byte "i";
   others = codes "fmap-timestamp";
   bytes_are = ascii_encoded (codes "ifmap-timestamp") (all_of_test is_ascii (codes "ifmap-timestamp") refl);
   begins = refl;

@@ -1,5 +1,6 @@
 -- Ids of sessions.
 use Rattle.std.proofs.lemmas.Str.Parse.{IsNumeralModel, numerals_by_value, tells_digits, not_in_digits}
+use Rattle.std.specs.Str.{byte}
 use Rattle.std.specs.Str.Parse.{AllDigits, digits_value}
 use Rattle.std.proofs.Common.{◌≢◌, ℕ, ◌^◌, ◌<◌, length, get_or, arith, ◌≡◌, refl, suc, List, [], ◌∷◌, ◌++◌, sym, ◌∙◌, ◌+◌, true, false, inl, inr, zero, ◌/◌, ◌%◌, ◌==◌, Bool, cond}
 use Rattle.std.proofs.lemmas.Fmt.{digits_decimal, decimal_injective}
@@ -37,7 +38,7 @@ ids_tell n m id small few a b =
     decimal_injective n m small few (same_before hyphen (decimal n) (decimal m) a.0 b.0 (no_hyphen n small) (no_hyphen m few) (sym a.1 ∙
     b.1))
 
-pub digit_plain : (d : ℕ) → d < 10 → is_plain (48 + d) ≡ true
+pub digit_plain : (d : ℕ) → d < 10 → is_plain (byte "0" + d) ≡ true
 digit_plain d few = grind (arith, nat_tests)
 
 pub glyph_plain : (d : ℕ) → d < 10 → is_plain (digit_glyph false d) ≡ true

@@ -1,6 +1,6 @@
 use Rattle.std.proofs.Common.{◌≡◌, ◌+◌, ◌-◌, ◌^◌, min, take}
-use Rattle.ifmap_search.specs.Sizes.{entries_size}
+use Rattle.ifmap_search.specs.Sizes.{entries_size, size_beside_entries}
 use Rattle.ifmap_search.proofs.sizes.size_with.Given as goal
 
 abbrev pub invariant-loop-entry : goal.invariant-loop-entry
-invariant-loop-entry l = l.size ≡ min (100 + entries_size (take l.entry-index l.entries)) (2 ^ 64 - 1)
+invariant-loop-entry l = l.size ≡ min (size_beside_entries + entries_size (take l.entry-index l.entries)) (2 ^ 64 - 1)
