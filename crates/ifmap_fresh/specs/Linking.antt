@@ -1,5 +1,5 @@
 -- The links of a view that a search goes along, by numbers.
-use Rattle.std.specs.Prelude.{◌≡◌, ◌≤◌, ℕ, Bool, false, List, Option, Some, None, if◌then◌else◌}
+use Rattle.std.specs.Prelude.{◌≡◌, ℕ, Bool, false, List, Option, Some, None, if◌then◌else◌}
 use Rattle.ifmap_search.specs.ifmap_filter.declared.filters.Filter.{Filter}
 use Rattle.ifmap_ident.specs.declared.identifiers.Identifier.{Identifier}
 use Rattle.ifmap_ident.specs.declared.kinds.Kind.{Kind}

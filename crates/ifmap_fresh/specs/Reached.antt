@@ -1,5 +1,5 @@
 -- Which identifiers a search reaches and which it expands, level by level.
-use Rattle.std.specs.Prelude.{ℕ, Bool, false, not, ◌&&◌, List, [], ◌∷◌, ◌++◌, Option, if◌then◌else◌}
+use Rattle.std.specs.Prelude.{ℕ, Bool, false, not, ◌&&◌, List, [], ◌∷◌, ◌++◌, if◌then◌else◌}
 use Rattle.std.proofs.Common.{zero, suc}
 use Rattle.std.specs.List.{filter, flat_map, list_any}
 use Rattle.ifmap_ident.specs.declared.identifiers.Identifier.{Identifier}

@@ -1,4 +1,4 @@
-use Rattle.std.proofs.Common.{rules, ◌≡◌, ap, ◌∙◌, sym, subst, arith}
+use Rattle.std.proofs.Common.{◌≡◌, ap, ◌∙◌, arith}
 use Rattle.ifmap_search.specs.Sizes.{entries_size}
 use Rattle.ifmap_fresh.specs.Fresh.{fresh_size}
 use Rattle.ifmap_fresh.specs.Gathered.{entries_on}
