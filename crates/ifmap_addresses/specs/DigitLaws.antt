@@ -4,7 +4,7 @@ use Rattle.std.proofs.lemmas.Bool.Decides.{nat_tests}
 use Rattle.std.proofs.lemmas.Fmt.{decimal_is_IsNumeral}
 use Rattle.std.proofs.lemmas.List.Elements.{All-from_get_or, recursion_from_All}
 use Rattle.std.proofs.lemmas.Str.Parse.{digit_at}
-use Rattle.std.specs.Char.{digit_char, digit_value, to_ascii_lowercase}
+use Rattle.std.specs.Char.{digit_char, digit_value}
 use Rattle.std.specs.Int.{IsInRange}
 use Rattle.std.specs.List.{AllByRecursion, join_with_byte}
 use Rattle.std.specs.Net.Text.{hex, leading_zero_digits}
@@ -17,9 +17,6 @@ use Rattle.ifmap_lemmas.specs.Members.{both_all}
 
 pub digit_value-digit_char : (d : ℕ) → d < 16 → digit_value (digit_char d) ≡ d
 digit_value-digit_char d h = grind (arith, nat_tests)
-
-pub digit_char-lower : (d : ℕ) → d < 16 → to_ascii_lowercase (digit_char d) ≡ digit_char d
-digit_char-lower d h = grind (arith, nat_tests)
 
 pub is_digit : (d : ℕ) → d < 16 → IsDigit (digit_char d)
 is_digit d h = grind (arith, nat_tests)

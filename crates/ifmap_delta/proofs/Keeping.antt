@@ -1,6 +1,6 @@
 -- A subscription that took over a patch and a size keeps what it would keep.
 use Rattle.std.proofs.Common.{◌≡◌, ◌∙◌, sym, ap, subst, ℕ, Option, List}
-use Rattle.ifmap_region.specs.Marks.{mark_of, over}
+use Rattle.ifmap_region.specs.Marks.{mark_of, mark_over}
 use Rattle.ifmap_search.specs.declared.searches.Search.{Search}
 use Rattle.ifmap_fresh.specs.Fresh.{fresh_size}
 use Rattle.ifmap_delta.specs.declared.subscriptions.Subscription.{Subscription}
@@ -19,12 +19,13 @@ same_marks g s start top mark mark' m are = record {
 }
 
 pub takes_over : (sub sub' : Subscription) (patch : List (ℕ × Option ℕ)) (n : ℕ) → HasSameSearch sub sub' → sub'.size ≡ n
-    → ((v : ℕ) → mark_of sub'.region.marks.entries v ≡ over patch (mark_of sub.region.marks.entries) v)
+    → ((v : ℕ) → mark_of sub'.region.marks.entries v ≡ mark_over patch (mark_of sub.region.marks.entries) v)
     → (g : ViewSeen) → WouldKeep g sub patch n → IsUpToDate g sub'
 takes_over sub sub' patch n same size marks g would =
     let mark : ℕ → Option ℕ = mark_of sub'.region.marks.entries
     in let are : AreMarks g sub.search sub.region.start sub.region.max_depth mark
-    = same_marks g sub.search sub.region.start sub.region.max_depth (over patch (mark_of sub.region.marks.entries)) mark marks would.marks
+    = same_marks g sub.search sub.region.start sub.region.max_depth (mark_over patch (mark_of sub.region.marks.entries)) mark
+        marks would.marks
     in record {
       marks = subst (λ s. AreMarks g s sub'.region.start sub'.region.max_depth mark) (sym same.search)
           (subst (λ n. AreMarks g sub.search n sub'.region.max_depth mark) (sym same.start)

@@ -19,7 +19,7 @@ use Rattle.ifmap_lemmas.specs.Having.{Has, filter_has, has_either, has_filter, h
 use Rattle.ifmap_lemmas.specs.Options.{some_is}
 use Rattle.ifmap_plans.specs.declared.plans.ItemChange.{ItemChange}
 use Rattle.ifmap_plans.specs.Plans.{change_of}
-use Rattle.ifmap_region.specs.Marks.{over, row_of}
+use Rattle.ifmap_region.specs.Marks.{mark_over, row_of}
 use Rattle.ifmap_search.specs.declared.searches.Search.{Search}
 use Rattle.ifmap_view.specs.declared.views.LinkSeen.{LinkSeen}
 use Rattle.ifmap_view.specs.Rows.{stored_between, stored_linked, stored_on, stored_where}
@@ -62,7 +62,7 @@ or_false false true f = absurd (f refl)
 or_false false false f = (refl, refl)
 
 -- a number whose marks differ is in the patch
-pub in_patch : (patch : List (ℕ × Option ℕ)) (below : ℕ → Option ℕ) (v : ℕ) → below v ≢ over patch below v → Has (numbers_of patch) v
+pub in_patch : (patch : List (ℕ × Option ℕ)) (below : ℕ → Option ℕ) (v : ℕ) → below v ≢ mark_over patch below v → Has (numbers_of patch) v
 in_patch patch below v differ = by (row_of patch v) refl
   where
     by : (o : Option (Option ℕ)) → row_of patch v ≡ o → Has (numbers_of patch) v

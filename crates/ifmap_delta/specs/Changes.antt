@@ -5,7 +5,7 @@ use Rattle.ifmap_ident.specs.declared.identifiers.Identifier.{Identifier}
 use Rattle.ifmap_ident.specs.Items.{IsCanonItem}
 use Rattle.ifmap_plans.specs.declared.plans.ItemChange.{ItemChange}
 use Rattle.ifmap_plans.specs.Plans.{IsAfter}
-use Rattle.ifmap_region.specs.Marks.{mark_of, over, AllMarked}
+use Rattle.ifmap_region.specs.Marks.{mark_of, mark_over, AllMarked}
 use Rattle.ifmap_search.specs.declared.searches.Search.{Search}
 use Rattle.ifmap_fresh.specs.Fresh.{fresh, fresh_size}
 use Rattle.ifmap_delta.specs.declared.subscriptions.Moved.{Moved}
@@ -35,7 +35,7 @@ pub record ShowsAfter (old new : ViewSeen) (changes : List ItemChange) : Type 0 
 pub record WouldKeep (g : ViewSeen) (sub : Subscription) (patch : List (ℕ × Option ℕ))
     (new_size : ℕ) : Type 0 where
   pub marks : AreMarks g sub.search sub.region.start sub.region.max_depth
-      (over patch (mark_of sub.region.marks.entries))
+      (mark_over patch (mark_of sub.region.marks.entries))
   pub size : new_size ≡ fresh_size g.rows sub.search
 
 -- what a change does to a subscription: what its result loses and gains, and what it keeps

@@ -5,7 +5,7 @@ use Rattle.ifmap_ident.specs.declared.identifiers.Identifier.{Identifier}
 use Rattle.ifmap_ident.specs.declared.items.Item.{Item}
 use Rattle.ifmap_meta.specs.declared.stored.Stored.{Stored}
 use Rattle.ifmap_region.specs.declared.region.Region.{Region}
-use Rattle.ifmap_region.specs.Marks.{mark_of, over}
+use Rattle.ifmap_region.specs.Marks.{mark_of, mark_over}
 use Rattle.ifmap_search.specs.declared.searches.Search.{Search}
 use Rattle.ifmap_view.specs.declared.attachments.Attachment.{Attachment}
 use Rattle.ifmap_view.specs.declared.views.LinkSeen.{LinkSeen}
@@ -32,7 +32,7 @@ region_mark r = mark_of r.marks.entries
 
 -- the marks of a region with a patch over them
 abbrev pub patched_mark : Patched → ℕ → Option ℕ
-patched_mark p = over p.patch.now (mark_of p.region.now.marks.entries)
+patched_mark p = mark_over p.patch.now (mark_of p.region.now.marks.entries)
 
 -- what a side sees, where the members of its view are these, is a whole view
 abbrev pub SeesView : {V M : Type 0} → (V → List Attachment) → (V → ℕ → Option Identifier)

@@ -7,7 +7,7 @@ ghost use Rattle.ifmap_delta.specs.Flipped.{is_near};
 ghost use Rattle.ifmap_delta.specs.Located.{AreLocated};
 ghost use Rattle.ifmap_delta.specs.Sights.{AreMarks, HasMarks, IsUpToDate, view_seen};
 ghost use Rattle.ifmap_region.specs.Bounds.{IsWithin};
-ghost use Rattle.ifmap_region.specs.Marks.{mark_of, over};
+ghost use Rattle.ifmap_region.specs.Marks.{mark_of, mark_over};
 ghost use Rattle.ifmap_view.specs.Views.{IsView};
 
 use crate::differing::{differences_on, size_after};
@@ -158,7 +158,7 @@ fn patch_for<'a, G: View, D: View, L: Ledger>(
         located.now.changes.items }
     ensures marks { IfOk result (λ patch. AreMarks (view_seen D.rows D.id_at D.links draft.now)
         subscription.now.search subscription.now.region.start subscription.now.region.max_depth
-        (over patch (mark_of subscription.now.region.marks.entries))) }
+        (mark_over patch (mark_of subscription.now.region.marks.entries))) }
     ensures steps { let old = view_seen G.rows G.id_at G.links graph.now in
         let new = view_seen D.rows D.id_at D.links draft.now in
         IsWithin (one_and_links old new subscription.now.search)

@@ -1,6 +1,6 @@
 //! The depths of numbers, as a region has them and as they are after a patch.
 ghost use Rattle.std.specs.Prelude.{◌≡◌, ℕ, Option};
-ghost use Rattle.ifmap_region.specs.Marks.{mark_of, over};
+ghost use Rattle.ifmap_region.specs.Marks.{mark_of, mark_over};
 
 use ifmap_region::{Patch, Region};
 
@@ -31,9 +31,9 @@ pub(crate) struct Patched<'a> {
 }
 
 impl<'a> Marks for Patched<'a> {
-    ghost use Rattle.ifmap_region.specs.Marks.{mark_of, over};
+    ghost use Rattle.ifmap_region.specs.Marks.{mark_of, mark_over};
 
-    ghost mark = { λ p. over p.patch.now (mark_of p.region.now.marks.entries) };
+    ghost mark = { λ p. mark_over p.patch.now (mark_of p.region.now.marks.entries) };
 
     fn mark_at(&self, number: u64) -> Option<u32> {
         mark_after(self.region, self.patch, number)
@@ -42,7 +42,7 @@ impl<'a> Marks for Patched<'a> {
 
 // The depth of a number after a patch of a region, where it has one.
 pub(crate) fn mark_after(region: &Region, patch: &Patch, number: u64) -> Option<u32>
-    ensures { result ≡ over patch.now (mark_of region.now.marks.entries) number }
+    ensures { result ≡ mark_over patch.now (mark_of region.now.marks.entries) number }
 {
     match patch.row(number) {
         Some(mark) => mark,

@@ -3,7 +3,7 @@ ghost use Rattle.std.specs.Prelude.{◌≡◌, ℕ, Option, List, None, Some, Is
 ghost use Rattle.ifmap_delta.specs.Changes.{WouldKeep};
 ghost use Rattle.ifmap_delta.specs.Sights.{IsUpToDate, ViewSeen};
 ghost use Rattle.ifmap_delta.specs.Ways.{HasSameSearch};
-ghost use Rattle.ifmap_region.specs.Marks.{mark_of, over, row_of};
+ghost use Rattle.ifmap_region.specs.Marks.{mark_of, mark_over, row_of};
 ghost use Rattle.ifmap_region.specs.Ways.{HasRoom, IsWayBack, Makes, OnlyRoom, Sweeps, taken_from};
 
 use ifmap_elem::Many;
@@ -92,7 +92,7 @@ impl Subscription {
         ensures search { HasSameSearch self.old self.new }
         ensures size { self.new.size ≡ new_size }
         ensures marks { (v : ℕ) → mark_of self.new.region.marks.entries v
-            ≡ over patch (mark_of self.old.region.marks.entries) v }
+            ≡ mark_over patch (mark_of self.old.region.marks.entries) v }
         ensures swept { (v : ℕ) → IsSome (row_of patch v)
             → row_of self.new.region.marks.entries v ≡ Some None → ⊥ }
         ensures others { (v : ℕ) → row_of patch v ≡ None

@@ -8,7 +8,7 @@ ghost use Rattle.ifmap_delta.specs.Shown.{HasSideMarks, SeesView, patched_mark, 
 ghost use Rattle.ifmap_delta.specs.Touched.{AreTouched, brought_items, link_item, linked_items, looked_along, moved_items, planned_items};
 ghost use Rattle.ifmap_fresh.specs.Collected.{numbers_of};
 ghost use Rattle.ifmap_fresh.specs.Fresh.{is_looked_at};
-ghost use Rattle.ifmap_region.specs.Marks.{mark_of, over};
+ghost use Rattle.ifmap_region.specs.Marks.{mark_of, mark_over};
 ghost use Rattle.ifmap_ident.specs.Items.{IsCanonItem};
 
 use crate::locating::LocatedChange;
@@ -136,11 +136,11 @@ fn add_brought<D: View, L: Ledger>(
     ensures items { let sight = view_seen D.rows D.id_at D.links side.now.view.now in
         let mark = mark_of side.now.marks.now.marks.entries in
         OnOk result (items.new.items ≡ items.old.items ++ brought_items sight side.now.search.now
-        number (mark number) (over patch.now mark number)) }
+        number (mark number) (mark_over patch.now mark number)) }
     ensures steps { let sight = view_seen D.rows D.id_at D.links side.now.view.now in
         let mark = mark_of side.now.marks.now.marks.entries in
         steps.new ≤ steps.old + looked_along sight side.now.search.now number (mark number)
-        (over patch.now mark number) }
+        (mark_over patch.now mark number) }
 {
     let was = side.marks.mark(number);
     let now = mark_after(side.marks, patch, number);
@@ -164,11 +164,11 @@ fn add_moved<D: View, L: Ledger>(
     ensures items { let sight = view_seen D.rows D.id_at D.links side.now.view.now in
         let mark = mark_of side.now.marks.now.marks.entries in
         OnOk result (items.new.items ≡ items.old.items ++ moved_items sight side.now.search.now mark
-        (over patch.now mark) (numbers_of patch.now)) }
+        (mark_over patch.now mark) (numbers_of patch.now)) }
     ensures steps { let sight = view_seen D.rows D.id_at D.links side.now.view.now in
         let mark = mark_of side.now.marks.now.marks.entries in
         steps.new ≤ steps.old + sum_by (λ v. looked_along sight side.now.search.now v (mark v)
-        (over patch.now mark v)) (numbers_of patch.now) }
+        (mark_over patch.now mark v)) (numbers_of patch.now) }
     ensures apart { IsDistinct nat_eq (numbers_of patch.now) }
 {
     for i in 0..patch.len() {

@@ -29,7 +29,7 @@ use Rattle.ifmap_plans.specs.Plans.{AreWhole}
 use Rattle.ifmap_graph.specs.ifmap_pool.Holdings.{key_at, once}
 use Rattle.ifmap_publish.specs.Apply.{Authorship}
 use Rattle.ifmap_publish.specs.Notes.{note_of, notes_of_op}
-use Rattle.ifmap_region.specs.Marks.{mark_of, over}
+use Rattle.ifmap_region.specs.Marks.{mark_of, mark_over}
 use Rattle.ifmap_requests.specs.Fit.{IsFitOp}
 use Rattle.ifmap_requests.specs.declared.publishing.PublishOp.{PublishOp}
 use Rattle.ifmap_requests.specs.declared.publishing.PublishOp.TheVariants.{Delete, Notify, Update}
@@ -121,11 +121,11 @@ pub would_still : (g : ViewSeen) (one other : Subscription) (patch : List (ℕ �
     → ((v : ℕ) → mark_of other.region.marks.entries v ≡ mark_of one.region.marks.entries v) → WouldKeep g one patch size
     → WouldKeep g other patch size
 would_still g one other patch size same marks would = record {
-  marks = subst (λ s. AreMarks g s other.region.start other.region.max_depth (over patch (mark_of other.region.marks.entries)))
+  marks = subst (λ s. AreMarks g s other.region.start other.region.max_depth (mark_over patch (mark_of other.region.marks.entries)))
       (sym same.search)
-      (subst (λ n. AreMarks g one.search n other.region.max_depth (over patch (mark_of other.region.marks.entries))) (sym same.start)
-      (subst (λ n. AreMarks g one.search one.region.start n (over patch (mark_of other.region.marks.entries))) (sym same.max_depth)
-      (subst (λ (m : ℕ → Option ℕ). AreMarks g one.search one.region.start one.region.max_depth (over patch m))
+      (subst (λ n. AreMarks g one.search n other.region.max_depth (mark_over patch (mark_of other.region.marks.entries))) (sym same.start)
+      (subst (λ n. AreMarks g one.search one.region.start n (mark_over patch (mark_of other.region.marks.entries))) (sym same.max_depth)
+      (subst (λ (m : ℕ → Option ℕ). AreMarks g one.search one.region.start one.region.max_depth (mark_over patch m))
       (λ i v. sym (marks v) i) would.marks)));
   size = subst (λ s. size ≡ fresh_size g.rows s) (sym same.search) would.size;
 }

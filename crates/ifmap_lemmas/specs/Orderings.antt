@@ -28,16 +28,6 @@ greater_differs Less e = refl
 greater_differs Equal e = cc
 greater_differs Greater e = refl
 
-pub equal_between : (r : Ordering) → is_lt r ≡ false → is_le r ≡ true → is_eq r ≡ true
-equal_between Less e f = cc
-equal_between Equal e f = refl
-equal_between Greater e f = cc
-
-pub less_is_within : (r : Ordering) → is_lt r ≡ true → is_le r ≡ false → ⊥
-less_is_within Less e f = cc
-less_is_within Equal e f = cc
-less_is_within Greater e f = cc
-
 -- ---- one comparison after another
 
 pub then_equal : (r : Ordering) → ordering_then r Equal ≡ r

@@ -13,7 +13,7 @@ use Rattle.ifmap_region.specs.declared.flips.Flip.{Flip}
 use Rattle.ifmap_region.specs.Bounds.{IsWithin}
 use Rattle.ifmap_region.specs.Flips.{WithRemoved}
 use Rattle.ifmap_region.specs.Links.{Linked}
-use Rattle.ifmap_region.specs.Marks.{row_of, over}
+use Rattle.ifmap_region.specs.Marks.{row_of, mark_over}
 use Rattle.ifmap_region.specs.Near.{NearOneWay, at_flip, beside}
 use Rattle.ifmap_region.specs.Seeds.{MayHold, SeedsAlong}
 use Rattle.ifmap_region.proofs.Depths.{sound_from}
@@ -211,8 +211,8 @@ module _ (count : ℕ → ℕ) (link : ℕ → ℕ → Option ℕ) (terminal : �
 
   module _ (v : ℕ) (rest : List ℕ) (seeds : List (ℕ × ℕ)) where
     module _ (rows : List (ℕ × Option ℕ)) (next : List ℕ)
-        (not_held : (u d : ℕ) → level ≡ suc d → Linked count link v u → terminal u ≡ false → over rows first u ≡ Some d → ⊥) where
-      unheld : (u d : ℕ) → level ≡ suc d → Linked count link u v → terminal u ≡ false → over rows first u ≡ Some d → ⊥
+        (not_held : (u d : ℕ) → level ≡ suc d → Linked count link v u → terminal u ≡ false → mark_over rows first u ≡ Some d → ⊥) where
+      unheld : (u d : ℕ) → level ≡ suc d → Linked count link u v → terminal u ≡ false → mark_over rows first u ≡ Some d → ⊥
       unheld u d is l t m = not_held u d is (b.symmetric u v l) t m
 
       -- a neighbour of the first number of the queue, which is not held, comes into the queue of the next level
@@ -277,7 +277,7 @@ module _ (count : ℕ → ℕ) (link : ℕ → ℕ → Option ℕ) (terminal : �
 
     -- the first number of the queue is held, and keeps its mark
     pub cutting_held : (rows : List (ℕ × Option ℕ)) (next : List ℕ) (steps after : ℕ)
-        → HasNearerMark (λ u x. Linked count link x u) terminal (over rows first) v level → after ≤ steps + count v
+        → HasNearerMark (λ u x. Linked count link x u) terminal (mark_over rows first) v level → after ≤ steps + count v
         → Cutting rows gone seeds (v ∷ rest) next steps → Cutting rows gone seeds rest next after
     cutting_held rows next steps after h le c = record {
       losing = losing_held (WithRemoved (Linked count link) flips) (Linked count link) terminal start top first b.depths (λ u x l. inl l)

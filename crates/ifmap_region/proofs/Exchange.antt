@@ -12,7 +12,7 @@ use Rattle.std.proofs.lemmas.Option.{same_Some, none-some}
 use Rattle.std.proofs.lemmas.Bool.{cases_eq, cases_lt, eqb-true, eq-eqb, ne_eqb}
 use Rattle.std.proofs.lemmas.List.{take_more, drop_more, take_all, drop_all, take-append-drop, append-nil, length-map, map_push}
 use Rattle.std.proofs.lemmas.List.Elements.{Contains-append_right}
-use Rattle.ifmap_region.specs.Marks.{row_of, mark_of, over}
+use Rattle.ifmap_region.specs.Marks.{row_of, mark_of, mark_over}
 use Rattle.ifmap_region.specs.Ways.{HasRoom, OnlyRoom, Makes, Sweeps, Exchanges, IsWayBack, taken_from}
 use Rattle.std.specs.Option.{option_map}
 use Rattle.ifmap_region.proofs.Overs.{row_here, row_apart}
@@ -182,7 +182,7 @@ module _ (rows es now patch : List (ℕ × Option ℕ)) (i : ℕ) (distinct : Is
       row : (v : ℕ) → row_of now v ≡ first_row (row_of es v) (row_of rows v)
       row v = inv_rows v ∙ ap (λ (l : List (ℕ × Option ℕ)). first_row (row_of l v) (row_of rows v)) (take_all i es le)
 
-      marked : (v : ℕ) (o : Option (Option ℕ)) → row_of es v ≡ o → mark_of now v ≡ over es (mark_of rows) v
+      marked : (v : ℕ) (o : Option (Option ℕ)) → row_of es v ≡ o → mark_of now v ≡ mark_over es (mark_of rows) v
       marked v None f = ap (λ (o : Option (Option ℕ)). unwrap_or o None) (row v ∙ ap (λ (o : Option (Option ℕ)). first_row o (row_of rows
           v)) f) ∙ sym (ap (λ (o : Option (Option ℕ)). unwrap_or o (mark_of rows v)) f)
       marked v (Some r) f = ap (λ (o : Option (Option ℕ)). unwrap_or o None) (row v ∙ ap (λ (o : Option (Option ℕ)). first_row o (row_of
@@ -332,10 +332,10 @@ module _ (undo patch : List (ℕ × Option ℕ)) (before after : ℕ → Option 
   undo_row : row_of undo v ≡ option_map (λ _. before v) (row_of patch v)
   undo_row = ap (λ (l : List (ℕ × Option ℕ)). row_of l v) way.taken ∙ row_taken before patch v
 
-  pub marks_back : over undo after v ≡ before v
+  pub marks_back : mark_over undo after v ≡ before v
   marks_back = by (row_of patch v) refl
     where
-      by : (o : Option (Option ℕ)) → row_of patch v ≡ o → over undo after v ≡ before v
+      by : (o : Option (Option ℕ)) → row_of patch v ≡ o → mark_over undo after v ≡ before v
       by None e =
           ap (λ (o : Option (Option ℕ)). unwrap_or o (after v)) (undo_row ∙ ap (option_map (λ _. before v)) e)
           ∙ way.made v ∙ ap (λ (o : Option (Option ℕ)). unwrap_or o (before v)) e

@@ -9,7 +9,7 @@ use Rattle.std.proofs.lemmas.Bool.{cases_eq, cases_lt}
 use Rattle.std.proofs.lemmas.List.Elements.{Contains-append_left, Contains-append_right, Contains-append_cases, Contains-push, Contains-push_cases, All-weaker, All-cons}
 use Rattle.std.proofs.lemmas.List.Sums.{sum_by-cons, sum_by_push}
 use Rattle.ifmap_region.specs.Links.{Linked}
-use Rattle.ifmap_region.specs.Marks.{over}
+use Rattle.ifmap_region.specs.Marks.{mark_over}
 use Rattle.ifmap_region.specs.Walks.{Walk, goes_on, AreDepths, Expands}
 use Rattle.ifmap_region.specs.Spreading.{queue_at, IsBound, IsReady, IsReadyBut, IsFalling, IsLowered, Enqueues, Improves, IsSet, IsCharged}
 use Rattle.ifmap_region.specs.Distinct.{contains_one, no_member, distinct_cons}
@@ -346,43 +346,43 @@ module _ (links : ℕ → ℕ → Type 0) (terminal : ℕ → Bool) (start top :
     -- a number that comes into the queue is charged with its scan
     pub charged_more : (level v : ℕ) (queue queue' : List ℕ) (first : ℕ → Option ℕ) (before owed : ℕ)
         → (level ≤ top) × Walk links terminal start level v → Enqueues level v below rows rows' queue queue'
-        → IsCharged links terminal start top count first (over rows below) level before (owed + sum_by count queue)
-        → IsCharged links terminal start top count first (over rows' below) level before (owed + sum_by count queue')
+        → IsCharged links terminal start top count first (mark_over rows below) level before (owed + sum_by count queue)
+        → IsCharged links terminal start top count first (mark_over rows' below) level before (owed + sum_by count queue')
     charged_more level v queue queue' first before owed walk put c = elim put [
-      | inl p ↦ subst (λ (l : List ℕ). IsCharged links terminal start top count first (over rows' below) level before
+      | inl p ↦ subst (λ (l : List ℕ). IsCharged links terminal start top count first (mark_over rows' below) level before
           (owed + sum_by count l)) (sym p.2)
-          (subst (λ (r : List (ℕ × Option ℕ)). IsCharged links terminal start top count first (over r below) level before
+          (subst (λ (r : List (ℕ × Option ℕ)). IsCharged links terminal start top count first (mark_over r below) level before
           (owed + sum_by count queue)) (sym p.1) c)
-      | inr p ↦ charged_set (over rows below) (over rows' below) level v p.0 walk count first before (owed + sum_by count queue)
+      | inr p ↦ charged_set (mark_over rows below) (mark_over rows' below) level v p.0 walk count first before (owed + sum_by count queue)
           (owed + sum_by count queue') (omega (arith, ap (sum_by count) p.1, sum_by_push count queue v)) c
     ]
 
     -- where memory runs out
     pub charged_part : (level v : ℕ) (queue : List ℕ) (first : ℕ → Option ℕ) (before owed : ℕ)
         → (level ≤ top) × Walk links terminal start level v
-        → (rows' ≡ rows) ⊎ IsLowered level v (over rows below) (over rows' below)
-        → IsCharged links terminal start top count first (over rows below) level before (owed + sum_by count queue)
-        → IsCharged links terminal start top count first (over rows' below) level before (owed + sum_by count queue)
+        → (rows' ≡ rows) ⊎ IsLowered level v (mark_over rows below) (mark_over rows' below)
+        → IsCharged links terminal start top count first (mark_over rows below) level before (owed + sum_by count queue)
+        → IsCharged links terminal start top count first (mark_over rows' below) level before (owed + sum_by count queue)
     charged_part level v queue first before owed walk put c = elim put [
-      | inl e ↦ subst (λ (r : List (ℕ × Option ℕ)). IsCharged links terminal start top count first (over r below) level before
+      | inl e ↦ subst (λ (r : List (ℕ × Option ℕ)). IsCharged links terminal start top count first (mark_over r below) level before
           (owed + sum_by count queue)) (sym e) c
-      | inr p ↦ charged_set (over rows below) (over rows' below) level v p walk count first before (owed + sum_by count queue)
+      | inr p ↦ charged_set (mark_over rows below) (mark_over rows' below) level v p walk count first before (owed + sum_by count queue)
           (owed + sum_by count queue) (omega arith) c
     ]
 
     -- a seed comes into the queue, or is passed over
     pub seed_admitted : (level v : ℕ) (seeds rest : List (ℕ × ℕ)) (queue queue' : List ℕ) → seeds ≡ (level, v) ∷ rest
         → Enqueues level v below rows rows' queue queue'
-        → IsFalling links terminal start top (over rows below) seeds level queue []
-        → IsFalling links terminal start top (over rows' below) rest level queue' []
+        → IsFalling links terminal start top (mark_over rows below) seeds level queue []
+        → IsFalling links terminal start top (mark_over rows' below) rest level queue' []
     seed_admitted level v seeds rest queue queue' is put r = elim put [
-      | inl p ↦ subst (λ (l : List ℕ). IsFalling links terminal start top (over rows' below) rest level l []) (sym p.2)
-          (subst (λ (o : List (ℕ × Option ℕ)). IsFalling links terminal start top (over o below) rest level queue []) (sym p.1)
-          (ready_passed (over rows below) (λ k x. Contains seeds (k, x)) (λ k x. Contains rest (k, x)) (queue_at level queue []) level v
-          p.0.0
+      | inl p ↦ subst (λ (l : List ℕ). IsFalling links terminal start top (mark_over rows' below) rest level l []) (sym p.2)
+          (subst (λ (o : List (ℕ × Option ℕ)). IsFalling links terminal start top (mark_over o below) rest level queue []) (sym p.1)
+          (ready_passed (mark_over rows below) (λ k x. Contains seeds (k, x)) (λ k x. Contains rest (k, x)) (queue_at level queue []) level
+          v p.0.0
           p.0.2 p.0.1 there back r))
-      | inr p ↦ subst (λ (l : List ℕ). IsFalling links terminal start top (over rows' below) rest level l []) (sym p.1)
-          (ready_set (over rows below) (over rows' below) level v p.0 (r.walks v level first_seed) (λ k x. Contains seeds (k, x))
+      | inr p ↦ subst (λ (l : List ℕ). IsFalling links terminal start top (mark_over rows' below) rest level l []) (sym p.1)
+          (ready_set (mark_over rows below) (mark_over rows' below) level v p.0 (r.walks v level first_seed) (λ k x. Contains seeds (k, x))
           (λ k x. Contains rest (k, x)) (queue_at level queue []) (queue_at level (queue ++ v ∷ []) []) (queue_low level queue) there back
           (now_in level v queue []) (now_new level v queue []) (now_out level v queue []) r)
     ]
@@ -420,15 +420,18 @@ module _ (count : ℕ → ℕ) (link : ℕ → ℕ → Option ℕ) (terminal : �
 
   pub neighbour_offered : (first : ℕ → Option ℕ) (rows rows' : List (ℕ × Option ℕ)) (next next' : List ℕ) (w : ℕ) → Linked count link v w
       → Enqueues (level + 1) w first rows rows' next next'
-      → IsFalling (Linked count link) terminal start top (over rows first) seeds level (v ∷ rest) next
-      → IsFalling (Linked count link) terminal start top (over rows' first) seeds level (v ∷ rest) next'
+      → IsFalling (Linked count link) terminal start top (mark_over rows first) seeds level (v ∷ rest) next
+      → IsFalling (Linked count link) terminal start top (mark_over rows' first) seeds level (v ∷ rest) next'
   neighbour_offered first rows rows' next next' w l put r = elim put [
-    | inl p ↦ subst (λ (q : List ℕ). IsFalling (Linked count link) terminal start top (over rows' first) seeds level (v ∷ rest) q) (sym p.2)
-        (subst (λ (o : List (ℕ × Option ℕ)). IsFalling (Linked count link) terminal start top (over o first) seeds level (v ∷ rest) next)
+    | inl p ↦ subst (λ (q : List ℕ). IsFalling (Linked count link) terminal start top (mark_over rows' first) seeds level (v ∷ rest) q)
+        (sym p.2)
+        (subst (λ (o : List (ℕ × Option ℕ)). IsFalling (Linked count link) terminal start top (mark_over o first) seeds level (v ∷ rest)
+        next)
         (sym p.1) r)
-    | inr p ↦ subst (λ (q : List ℕ). IsFalling (Linked count link) terminal start top (over rows' first) seeds level (v ∷ rest) q) (sym p.1)
-        (ready_set (Linked count link) terminal start top (over rows first) (over rows' first) (level + 1) w p.0
-        (neighbour_walk (over rows first) next w l r) (λ k x. Contains seeds (k, x)) (λ k x. Contains seeds (k, x))
+    | inr p ↦ subst (λ (q : List ℕ). IsFalling (Linked count link) terminal start top (mark_over rows' first) seeds level (v ∷ rest) q)
+        (sym p.1)
+        (ready_set (Linked count link) terminal start top (mark_over rows first) (mark_over rows' first) (level + 1) w p.0
+        (neighbour_walk (mark_over rows first) next w l r) (λ k x. Contains seeds (k, x)) (λ k x. Contains seeds (k, x))
         (queue_at level (v ∷ rest) next) (queue_at level (v ∷ rest) (next ++ w ∷ [])) (queue_lower level (v ∷ rest) next)
         (λ k x h. inr h) (λ k x h. h) (next_in level w (v ∷ rest) next) (next_new level w (v ∷ rest) next)
         (next_out level w (v ∷ rest) next) r)
@@ -437,31 +440,32 @@ module _ (count : ℕ → ℕ) (link : ℕ → ℕ → Option ℕ) (terminal : �
 -- marks that are at most the level stay, and the number has one afterwards
 module _ (level v : ℕ) (below : ℕ → Option ℕ) (rows rows' : List (ℕ × Option ℕ)) (queue queue' : List ℕ)
     (put : Enqueues level v below rows rows' queue queue') where
-  pub low_kept : (q : ℕ) → (k : ℕ) × (k ≤ level) × (over rows below q ≡ Some k) → (k : ℕ) × (k ≤ level) × (over rows' below q ≡ Some k)
+  pub low_kept : (q : ℕ) → (k : ℕ) × (k ≤ level) × (mark_over rows below q ≡ Some k)
+      → (k : ℕ) × (k ≤ level) × (mark_over rows' below q ≡ Some k)
   low_kept q h = elim put [
-    | inl p ↦ (h.0, h.1, ap (λ (o : List (ℕ × Option ℕ)). over o below q) p.1 ∙ h.2)
+    | inl p ↦ (h.0, h.1, ap (λ (o : List (ℕ × Option ℕ)). mark_over o below q) p.1 ∙ h.2)
     | inr p ↦ elim (cases_eq q v) [
-      | inl at ↦ (level, omega arith, ap (over rows' below) at ∙ p.0.here)
+      | inl at ↦ (level, omega arith, ap (mark_over rows' below) at ∙ p.0.here)
       | inr apart ↦ (h.0, h.1, p.0.others q apart ∙ h.2)
     ]
   ]
 
-  pub low_now : (k : ℕ) × (k ≤ level) × (over rows' below v ≡ Some k)
+  pub low_now : (k : ℕ) × (k ≤ level) × (mark_over rows' below v ≡ Some k)
   low_now = elim put [
-    | inl p ↦ (p.0.0, p.0.1, ap (λ (o : List (ℕ × Option ℕ)). over o below v) p.1 ∙ p.0.2)
+    | inl p ↦ (p.0.0, p.0.1, ap (λ (o : List (ℕ × Option ℕ)). mark_over o below v) p.1 ∙ p.0.2)
     | inr p ↦ (level, omega arith, p.0.here)
   ]
 
   -- one link more, whose end came into the queue or had a mark that is low enough
   pub low_more : (link : ℕ → Option ℕ) (i : ℕ) → link i ≡ Some v
-      → ((j w : ℕ) → j < i → link j ≡ Some w → (k : ℕ) × (k ≤ level) × (over rows below w ≡ Some k))
-      → (j w : ℕ) → j < i + 1 → link j ≡ Some w → (k : ℕ) × (k ≤ level) × (over rows' below w ≡ Some k)
+      → ((j w : ℕ) → j < i → link j ≡ Some w → (k : ℕ) × (k ≤ level) × (mark_over rows below w ≡ Some k))
+      → (j w : ℕ) → j < i + 1 → link j ≡ Some w → (k : ℕ) × (k ≤ level) × (mark_over rows' below w ≡ Some k)
   low_more link i here low j w lt e = elim (cases_lt j i) [
     | inl l ↦ low_kept w (low j w l e)
     | inr ge ↦
         let at : j ≡ i = omega (arith, lt, ge) in
         let same : v ≡ w = same_Some v w (sym here ∙ ap link (sym at) ∙ e) in
-        subst (λ (x : ℕ). (k : ℕ) × (k ≤ level) × (over rows' below x ≡ Some k)) same low_now
+        subst (λ (x : ℕ). (k : ℕ) × (k ≤ level) × (mark_over rows' below x ≡ Some k)) same low_now
   ]
 
 -- one place more whose link does not match

@@ -3,7 +3,7 @@ use Rattle.std.proofs.Common.{◌≡◌, ℕ, ◌+◌, ◌<◌, Option, Some, Li
 use Rattle.std.specs.Prelude.{IsSome}
 use Rattle.std.proofs.lemmas.Option.{same_Some}
 use Rattle.std.proofs.lemmas.Bool.{cases_eq, cases_lt}
-use Rattle.ifmap_region.specs.Marks.{row_of, over}
+use Rattle.ifmap_region.specs.Marks.{row_of, mark_over}
 use Rattle.ifmap_region.specs.Losing.{Awaits}
 use Rattle.ifmap_region.proofs.Lost.{over_unrowed, over_rowed}
 use Rattle.ifmap_region.proofs.Cuts.{is_some_row}
@@ -27,12 +27,12 @@ module _ (level v : ℕ) (rows rows' : List (ℕ × Option ℕ)) (queue queue' :
 
   module _ (first : ℕ → Option ℕ) where
     -- the row has the mark that is below it
-    pub marks_kept : first v ≡ Some level → (x : ℕ) → over rows' first x ≡ over rows first x
+    pub marks_kept : first v ≡ Some level → (x : ℕ) → mark_over rows' first x ≡ mark_over rows first x
     marks_kept marked x = elim put [
-      | inl p ↦ ap (λ (r : List (ℕ × Option ℕ)). over r first x) p.1
+      | inl p ↦ ap (λ (r : List (ℕ × Option ℕ)). mark_over r first x) p.1
       | inr p ↦ elim (cases_eq x v) [
-        | inl at ↦ ap (over rows' first) at ∙ over_rowed rows' first v (Some level) p.0.here ∙ sym marked ∙ sym (over_unrowed rows first v
-            p.0.bare) ∙ ap (over rows first) (sym at)
+        | inl at ↦ ap (mark_over rows' first) at ∙ over_rowed rows' first v (Some level) p.0.here ∙ sym marked
+            ∙ sym (over_unrowed rows first v p.0.bare) ∙ ap (mark_over rows first) (sym at)
         | inr apart ↦ ap (λ (o : Option (Option ℕ)). unwrap_or o (first x)) (p.0.others x apart)
       ]
     ]

@@ -8,7 +8,7 @@ use Rattle.std.specs.Prelude.{IsSome}
 use Rattle.std.proofs.lemmas.Option.{same_Some, none-some}
 use Rattle.std.proofs.lemmas.Bool.{cases_eq}
 use Rattle.ifmap_region.specs.Links.{IsSymmetric}
-use Rattle.ifmap_region.specs.Marks.{row_of, over}
+use Rattle.ifmap_region.specs.Marks.{row_of, mark_over}
 use Rattle.ifmap_region.specs.Walks.{Walk, begins, goes_on, AreDepths, Expands}
 use Rattle.ifmap_region.specs.Near.{IsMoved}
 use Rattle.ifmap_region.specs.Losing.{Enters, HasNearerMark, IsLosing, AreGone, Reseeds}
@@ -16,10 +16,10 @@ use Rattle.ifmap_region.specs.Spreading.{IsBound, IsReady}
 use Rattle.ifmap_region.proofs.Depths.{marked, marked_start, closed_from, supported, sound_from, walk_along}
 
 module _ (rows : List (ℕ × Option ℕ)) (below : ℕ → Option ℕ) (v : ℕ) where
-  pub over_unrowed : row_of rows v ≡ None → over rows below v ≡ below v
+  pub over_unrowed : row_of rows v ≡ None → mark_over rows below v ≡ below v
   over_unrowed e = ap (λ (o : Option (Option ℕ)). unwrap_or o (below v)) e
 
-  pub over_rowed : (r : Option ℕ) → row_of rows v ≡ Some r → over rows below v ≡ r
+  pub over_rowed : (r : Option ℕ) → row_of rows v ≡ Some r → mark_over rows below v ≡ r
   over_rowed r e = ap (λ (o : Option (Option ℕ)). unwrap_or o (below v)) e
 
 above_zero : (n : ℕ) → 0 < n → (d : ℕ) × (n ≡ suc d)
@@ -31,10 +31,10 @@ module _ (old mid : ℕ → ℕ → Type 0) (terminal : ℕ → Bool) (start top
   -- a number whose walk of that many links stays has its mark
   pub still_marked : (rows : List (ℕ × Option ℕ)) (seeds queued : ℕ → ℕ → Type 0) (level : ℕ)
       → IsLosing old mid terminal start IsNear first rows seeds queued level
-      → (u d : ℕ) → first u ≡ Some d → Walk mid terminal start d u → over rows first u ≡ Some d
+      → (u d : ℕ) → first u ≡ Some d → Walk mid terminal start d u → mark_over rows first u ≡ Some d
   still_marked rows seeds queued level l u d f w = by (row_of rows u) refl
     where
-      by : (o : Option (Option ℕ)) → row_of rows u ≡ o → over rows first u ≡ Some d
+      by : (o : Option (Option ℕ)) → row_of rows u ≡ o → mark_over rows first u ≡ Some d
       by None e = over_unrowed rows first u e ∙ f
       by (Some r) e =
           let k = l.rowed u r e in
@@ -67,11 +67,11 @@ module _ (old mid : ℕ → ℕ → Type 0) (terminal : ℕ → Bool) (start top
       (there : (k x : ℕ) → seeds k x → ((k ≡ j) × (x ≡ v)) ⊎ seeds' k x) (back : (k x : ℕ) → seeds' k x → seeds k x)
       (kept : (k x : ℕ) → queued k x → queued' k x) (new : queued' j v) (out : (k x : ℕ) → queued' k x → ((k ≡ j) × (x ≡ v)) ⊎ queued k x)
     where
-      marks_entered : (q : ℕ) → over rows' first q ≡ over rows first q
+      marks_entered : (q : ℕ) → mark_over rows' first q ≡ mark_over rows first q
       marks_entered q = elim (cases_eq q v) [
-        | inl at ↦ ap (over rows' first) at ∙ over_rowed rows' first v (Some j) e.here ∙ sym first_here ∙ sym
+        | inl at ↦ ap (mark_over rows' first) at ∙ over_rowed rows' first v (Some j) e.here ∙ sym first_here ∙ sym
             (over_unrowed rows first v e.bare)
-            ∙ ap (over rows first) (sym at)
+            ∙ ap (mark_over rows first) (sym at)
         | inr apart ↦ ap (λ (o : Option (Option ℕ)). unwrap_or o (first q)) (e.others q apart)
       ]
 
@@ -103,7 +103,7 @@ module _ (old mid : ℕ → ℕ → Type 0) (terminal : ℕ → Bool) (start top
           ]
 
           held : (x k : ℕ) → row_of rows' x ≡ Some (Some k)
-              → queued' k x ⊎ ((k ≤ level) × HasNearerMark mid terminal (over rows' first) x k)
+              → queued' k x ⊎ ((k ≤ level) × HasNearerMark mid terminal (mark_over rows' first) x k)
           held x k row = elim (cases_eq x v) [
             | inl at ↦
                 let k_is : k ≡ j = same_Some k j (row_entered x (Some k) row at) in
@@ -121,7 +121,7 @@ module _ (old mid : ℕ → ℕ → Type 0) (terminal : ℕ → Bool) (start top
           ]
 
           firm : (x u d : ℕ) → first x ≡ Some (suc d) → row_of rows' x ≡ None → old u x → terminal u ≡ false → first u ≡ Some d
-              → seeds' (suc d) x ⊎ (mid u x × (over rows' first u ≡ Some d))
+              → seeds' (suc d) x ⊎ (mid u x × (mark_over rows' first u ≡ Some d))
           firm x u d f none o t g = elim (cases_eq x v) [
             | inl at ↦ absurd (none-some (Some j) (sym none ∙ ap (row_of rows') at ∙ e.here))
             | inr apart ↦ elim (l.firm x u d f (sym (e.others x apart) ∙ none) o t g) [
@@ -134,7 +134,7 @@ module _ (old mid : ℕ → ℕ → Type 0) (terminal : ℕ → Bool) (start top
       (l : IsLosing old mid terminal start IsNear first rows seeds queued level) where
     -- it is held, keeps its mark, and leaves the queue
     pub losing_held : (queued' : ℕ → ℕ → Type 0) → ((k x : ℕ) → queued k x → ((k ≡ level) × (x ≡ v)) ⊎ queued' k x)
-        → ((k x : ℕ) → queued' k x → queued k x) → HasNearerMark mid terminal (over rows first) v level
+        → ((k x : ℕ) → queued' k x → queued k x) → HasNearerMark mid terminal (mark_over rows first) v level
         → IsLosing old mid terminal start IsNear first rows seeds queued' level
     losing_held queued' there back by_one = record {
       entered = l.entered;
@@ -144,8 +144,8 @@ module _ (old mid : ℕ → ℕ → Type 0) (terminal : ℕ → Bool) (start top
         | inl q ↦ elim (there k x q) [
           | inl at ↦ inr (
             omega (arith, at.0),
-            subst (λ (n : ℕ). HasNearerMark mid terminal (over rows first) x n) (sym at.0)
-                (subst (λ (y : ℕ). HasNearerMark mid terminal (over rows first) y level) (sym at.1) by_one),
+            subst (λ (n : ℕ). HasNearerMark mid terminal (mark_over rows first) x n) (sym at.0)
+                (subst (λ (y : ℕ). HasNearerMark mid terminal (mark_over rows first) y level) (sym at.1) by_one),
           )
           | inr later ↦ inl later
         ]
@@ -164,7 +164,7 @@ module _ (old mid : ℕ → ℕ → Type 0) (terminal : ℕ → Bool) (start top
         let same : level ≡ s.0 = elim s.4 [ inl none ↦ absurd (none-some level (sym none)) | inr some ↦ same_Some level s.0 some ] in
         (s.1 ∙ ap Some (sym same), omega (arith, s.2, same), s.3)
 
-    module _ (not_held : (u d : ℕ) → level ≡ suc d → mid u v → terminal u ≡ false → over rows first u ≡ Some d → ⊥) where
+    module _ (not_held : (u d : ℕ) → level ≡ suc d → mid u v → terminal u ≡ false → mark_over rows first u ≡ Some d → ⊥) where
       -- no walk of that many links ends in it any more
       pub lost_here : ¬ Walk mid terminal start level v
       lost_here w =
@@ -203,7 +203,7 @@ module _ (old mid : ℕ → ℕ → Type 0) (terminal : ℕ → Bool) (start top
       losing_gone rows' queued' here others there back out followed =
           record { entered = l.entered; in_queue = in_queue; rowed = rowed; held = held; lost = lost; firm = firm }
         where
-          over_other : (q : ℕ) → q ≢ v → over rows' first q ≡ over rows first q
+          over_other : (q : ℕ) → q ≢ v → mark_over rows' first q ≡ mark_over rows first q
           over_other q apart = ap (λ (o : Option (Option ℕ)). unwrap_or o (first q)) (others q apart)
 
           in_queue : (k x : ℕ) → queued' k x → row_of rows' x ≡ Some (Some k)
@@ -223,7 +223,7 @@ module _ (old mid : ℕ → ℕ → Type 0) (terminal : ℕ → Bool) (start top
           ]
 
           held : (x k : ℕ) → row_of rows' x ≡ Some (Some k)
-              → queued' k x ⊎ ((k ≤ level) × HasNearerMark mid terminal (over rows' first) x k)
+              → queued' k x ⊎ ((k ≤ level) × HasNearerMark mid terminal (mark_over rows' first) x k)
           held x k row = elim (cases_eq x v) [
             | inl at ↦ absurd (none-some k (same_Some None (Some k) (sym here ∙ ap (row_of rows') (sym at) ∙ row)))
             | inr apart ↦ elim (l.held x k (sym (others x apart) ∙ row)) [
@@ -238,7 +238,7 @@ module _ (old mid : ℕ → ℕ → Type 0) (terminal : ℕ → Bool) (start top
                   h.4,
                   over_other h.0 (λ at.
                       let level_is : level ≡ h.1 = same_Some level h.1 (sym (over_rowed rows first v (Some level) row_waited) ∙ ap
-                      (over rows
+                      (mark_over rows
                       first) (sym at) ∙ h.5) in
                       absurd (omega (arith, level_is, p.0, h.2))) ∙ h.5,
                 ),
@@ -255,7 +255,7 @@ module _ (old mid : ℕ → ℕ → Type 0) (terminal : ℕ → Bool) (start top
           ]
 
           firm : (x u d : ℕ) → first x ≡ Some (suc d) → row_of rows' x ≡ None → old u x → terminal u ≡ false → first u ≡ Some d
-              → seeds (suc d) x ⊎ (mid u x × (over rows' first u ≡ Some d))
+              → seeds (suc d) x ⊎ (mid u x × (mark_over rows' first u ≡ Some d))
           firm x u d f none o t g = elim (cases_eq x v) [
             | inl at ↦ absurd (none-some None (sym none ∙ ap (row_of rows') at ∙ here))
             | inr apart ↦ elim (l.firm x u d f (sym (others x apart) ∙ none) o t g) [
@@ -276,7 +276,7 @@ module _ (old mid : ℕ → ℕ → Type 0) (terminal : ℕ → Bool) (start top
   -- nothing waits any more: the marks that are left are depths over the links that stay
   module _ (rows : List (ℕ × Option ℕ)) (seeds queued : ℕ → ℕ → Type 0) (level : ℕ) (no_seed : (k x : ℕ) → seeds k x → ⊥)
       (none_queued : (k x : ℕ) → queued k x → ⊥) (l : IsLosing old mid terminal start IsNear first rows seeds queued level) where
-    first_of_over : (v k : ℕ) → over rows first v ≡ Some k → first v ≡ Some k
+    first_of_over : (v k : ℕ) → mark_over rows first v ≡ Some k → first v ≡ Some k
     first_of_over v k e = by (row_of rows v) refl
       where
         by : (o : Option (Option ℕ)) → row_of rows v ≡ o → first v ≡ Some k
@@ -286,14 +286,14 @@ module _ (old mid : ℕ → ℕ → Type 0) (terminal : ℕ → Bool) (start top
             let r_is : r ≡ Some k = sym (over_rowed rows first v r u) ∙ e in
             elim s.4 [ inl none ↦ absurd (none-some k (sym none ∙ r_is)) | inr some ↦ s.1 ∙ sym some ∙ r_is ]
 
-    pub sound_left : (k v : ℕ) → over rows first v ≡ Some k → Walk mid terminal start k v
+    pub sound_left : (k v : ℕ) → mark_over rows first v ≡ Some k → Walk mid terminal start k v
     sound_left zero v e = by ((depths v 0).0 (first_of_over v 0 e)).walk
       where
         by : Walk old terminal start zero v → Walk mid terminal start zero v
         by (begins at) = begins at
     sound_left (suc d) v e = go (sound_left d) (row_of rows v) refl
       where
-        go : ((u : ℕ) → over rows first u ≡ Some d → Walk mid terminal start d u) → (o : Option (Option ℕ)) → row_of rows v ≡ o
+        go : ((u : ℕ) → mark_over rows first u ≡ Some d → Walk mid terminal start d u) → (o : Option (Option ℕ)) → row_of rows v ≡ o
             → Walk mid terminal start (suc d) v
         go shorter None u =
             let s = supported old terminal start top first depths v d (first_of_over v (suc d) e) in
@@ -303,7 +303,7 @@ module _ (old mid : ℕ → ℕ → Type 0) (terminal : ℕ → Bool) (start top
             ]
         go shorter (Some r) u =
             let r_is : r ≡ Some (suc d) = sym (over_rowed rows first v r u) ∙ e in
-            let h : HasNearerMark mid terminal (over rows first) v (suc d) = elim (l.held v (suc d) (u ∙ ap Some r_is)) [
+            let h : HasNearerMark mid terminal (mark_over rows first) v (suc d) = elim (l.held v (suc d) (u ∙ ap Some r_is)) [
               | inl q ↦ absurd (none_queued (suc d) v q)
               | inr p ↦ p.1
             ] in
@@ -311,11 +311,11 @@ module _ (old mid : ℕ → ℕ → Type 0) (terminal : ℕ → Bool) (start top
             goes_on (shorter h.0 (h.5 ∙ ap Some same)) h.4 h.3
 
     pub ready_left : (gone : List ℕ) (found : List (ℕ × ℕ)) → AreGone rows gone → IsSymmetric mid
-        → Reseeds mid terminal top (over rows first) gone found
-        → IsReady mid terminal start top (over rows first) (λ k v. Contains found (k, v))
+        → Reseeds mid terminal top (mark_over rows first) gone found
+        → IsReady mid terminal start top (mark_over rows first) (λ k v. Contains found (k, v))
     ready_left gone found g sym_mid r = record { sound = sound; walks = walks; begun = begun; along = along }
       where
-        sound : (v k : ℕ) → over rows first v ≡ Some k → (k ≤ top) × Walk mid terminal start k v
+        sound : (v k : ℕ) → mark_over rows first v ≡ Some k → (k ≤ top) × Walk mid terminal start k v
         sound v k e = ((sound_from old terminal start top first depths v k (first_of_over v k e)).0, sound_left k v e)
 
         walks : (v k : ℕ) → Contains found (k, v) → (k ≤ top) × Walk mid terminal start k v
@@ -326,18 +326,18 @@ module _ (old mid : ℕ → ℕ → Type 0) (terminal : ℕ → Bool) (start top
                   p.3.marked) p.3.passable (sym_mid v p.0 p.2)),
             )
 
-        start_row : (o : Option (Option ℕ)) → row_of rows start ≡ o → over rows first start ≡ Some 0
+        start_row : (o : Option (Option ℕ)) → row_of rows start ≡ o → mark_over rows first start ≡ Some 0
         start_row None u = over_unrowed rows first start u ∙ marked_start old terminal start top first depths
         start_row (Some x) u =
             let s = l.rowed start x u in
             let zero_is : s.0 ≡ 0 = same_Some s.0 0 (sym s.1 ∙ marked_start old terminal start top first depths) in
             absurd (omega (arith, s.2, zero_is))
 
-        begun : IsBound (over rows first) (λ k v. Contains found (k, v)) start 0
+        begun : IsBound (mark_over rows first) (λ k v. Contains found (k, v)) start 0
         begun = (0, omega arith, inl (start_row (row_of rows start) refl))
 
-        along : (x y d : ℕ) → Expands terminal top (over rows first) x d → mid x y
-            → IsBound (over rows first) (λ k v. Contains found (k, v)) y (suc d)
+        along : (x y d : ℕ) → Expands terminal top (mark_over rows first) x d → mid x y
+            → IsBound (mark_over rows first) (λ k v. Contains found (k, v)) y (suc d)
         along x y d e link = by (row_of rows y) refl
           where
             s : (j : ℕ) × (first y ≡ Some j) × (j ≤ suc d)
@@ -347,7 +347,7 @@ module _ (old mid : ℕ → ℕ → Type 0) (terminal : ℕ → Bool) (start top
               passable = e.passable;
             }) (within x y link)
 
-            by : (o : Option (Option ℕ)) → row_of rows y ≡ o → IsBound (over rows first) (λ k v. Contains found (k, v)) y (suc d)
+            by : (o : Option (Option ℕ)) → row_of rows y ≡ o → IsBound (mark_over rows first) (λ k v. Contains found (k, v)) y (suc d)
             by None u = (s.0, s.2, inl (over_unrowed rows first y u ∙ s.1))
             by (Some None) u = let q = r.each y x d (g.all y u) (sym_mid x y link) e in (q.0, q.1, inr q.2)
             by (Some (Some j)) u =

@@ -4,7 +4,7 @@ use Rattle.std.specs.Prelude.{slice_get, IfSome}
 use Rattle.std.specs.Map.{update}
 use Rattle.std.proofs.lemmas.Option.{same_Some, none-some, slice_get_within}
 use Rattle.std.proofs.lemmas.Bool.{cases_eq, cases_lt, eqb-true}
-use Rattle.ifmap_region.specs.Marks.{row_of, mark_of, over}
+use Rattle.ifmap_region.specs.Marks.{row_of, mark_of, mark_over}
 use Rattle.ifmap_region.proofs.Overs.{row_here, row_apart}
 
 -- a row stands at some place
@@ -83,13 +83,14 @@ same_or_not (Some x) (Some y) = elim (cases_eq x y) [ inl e ↦ inl (ap Some e) 
 pub over_differing : (rows base changed : List (ℕ × Option ℕ))
     → ((v : ℕ) (r : Option ℕ) → row_of changed v ≡ Some r → (row_of rows v ≡ Some r) × (r ≢ mark_of base v))
     → ((v : ℕ) (r : Option ℕ) → row_of rows v ≡ Some r → r ≢ mark_of base v → row_of changed v ≡ Some r)
-    → (v : ℕ) → over changed (mark_of base) v ≡ over rows (mark_of base) v
+    → (v : ℕ) → mark_over changed (mark_of base) v ≡ mark_over rows (mark_of base) v
 over_differing rows base changed only each v = by (row_of rows v) (row_of changed v) refl refl
   where
-    at : (m : List (ℕ × Option ℕ)) (o : Option (Option ℕ)) → row_of m v ≡ o → over m (mark_of base) v ≡ unwrap_or o (mark_of base v)
+    at : (m : List (ℕ × Option ℕ)) (o : Option (Option ℕ)) → row_of m v ≡ o → mark_over m (mark_of base) v ≡ unwrap_or o (mark_of base v)
     at m o e = ap (λ (x : Option (Option ℕ)). unwrap_or x (mark_of base v)) e
 
-    by : (o p : Option (Option ℕ)) → row_of rows v ≡ o → row_of changed v ≡ p → over changed (mark_of base) v ≡ over rows (mark_of base) v
+    by : (o p : Option (Option ℕ)) → row_of rows v ≡ o → row_of changed v ≡ p
+        → mark_over changed (mark_of base) v ≡ mark_over rows (mark_of base) v
     by None None e f = at changed None f ∙ sym (at rows None e)
     by None (Some r) e f = absurd (none-some r (sym e ∙ (only v r f).0))
     by (Some r) (Some s) e f = at changed (Some s) f ∙ same_Some s r (sym (only v s f).0 ∙ e) ∙ sym (at rows (Some r) e)

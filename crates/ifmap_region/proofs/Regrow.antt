@@ -10,7 +10,7 @@ use Rattle.std.proofs.lemmas.List.Elements.{Contains-append_left, Contains-appen
 use Rattle.ifmap_region.specs.declared.flips.Flip.{Flip}
 use Rattle.ifmap_region.specs.Bounds.{IsWithin}
 use Rattle.ifmap_region.specs.Flips.{Joins, IsFlipped, WithRemoved, Mid}
-use Rattle.ifmap_region.specs.Marks.{row_of, over}
+use Rattle.ifmap_region.specs.Marks.{row_of, mark_over}
 use Rattle.ifmap_region.specs.Near.{NearOneWay, IsMoved, touched}
 use Rattle.ifmap_region.specs.Seeds.{IsNext, Lowers, SeedsAlong}
 use Rattle.ifmap_region.specs.Spreading.{queue_at, IsBound, IsReady, Improves}
@@ -75,8 +75,8 @@ module _ (links : ℕ → ℕ → Type 0) (terminal : ℕ → Bool) (count : ℕ
     (b : IsBeforeCut links terminal flips start top first)
     (rows : List (ℕ × Option ℕ)) (gone : List ℕ) (level before lost_at : ℕ)
     (c : IsCutting links terminal count flips start top first rows gone [] level [] [] before lost_at) where
-  pub ready_again : (seeds : List (ℕ × ℕ)) → Reseeds links terminal top (over rows first) gone seeds
-      → IsReady links terminal start top (over rows first) (λ k v. Contains seeds (k, v))
+  pub ready_again : (seeds : List (ℕ × ℕ)) → Reseeds links terminal top (mark_over rows first) gone seeds
+      → IsReady links terminal start top (mark_over rows first) (λ k v. Contains seeds (k, v))
   ready_again seeds r =
       ready_left (WithRemoved links flips) links terminal start top first b.depths (λ u v l. inl l)
       (NearOneWay flips false (WithRemoved links flips) links terminal start top) rows (λ k v. Contains [] (k, v)) (queue_at level [] [])
@@ -84,7 +84,7 @@ module _ (links : ℕ → ℕ → Type 0) (terminal : ℕ → Bool) (count : ℕ
       c.losing gone seeds
       c.are_gone b.symmetric r
 
-  improved_gone : (v : ℕ) → Improves links terminal start top (over rows first) v → Contains gone v
+  improved_gone : (v : ℕ) → Improves links terminal start top (mark_over rows first) v → Contains gone v
   improved_gone v i = by (row_of rows v) refl
     where
       old : (j : ℕ) × (first v ≡ Some j) × (j ≤ i.links_of_it)
@@ -101,11 +101,11 @@ module _ (links : ℕ → ℕ → Type 0) (terminal : ℕ → Bool) (count : ℕ
           absurd (omega (arith, f, old.2))
 
   pub spent_cut : (reseeded after : ℕ) → reseeded ≤ lost_at + sum_by count gone
-      → IsWithin count (Improves links terminal start top (over rows first)) 1 reseeded after
+      → IsWithin count (Improves links terminal start top (mark_over rows first)) 1 reseeded after
       → IsWithin count (NearOneWay flips false (WithRemoved links flips) links terminal start top) 4 before after
   spent_cut reseeded after le s =
       let found = sum_within count s.numbers gone s.distinct (λ x h. improved_gone x (All-contains (Improves links terminal start top
-      (over rows first)) s.numbers x s.among h)) in
+      (mark_over rows first)) s.numbers x s.among h)) in
       let lost = sum_within count gone c.charged.numbers c.are_gone.distinct (λ x h. c.charged.all x (ap is_some (c.are_gone.only x h)))
       in
       record {

@@ -1,6 +1,6 @@
 -- How many steps a call takes, and the laws of such bounds.
-use Rattle.std.specs.Prelude.{ℕ, ◌+◌, ◌*◌, ◌≤◌, List, [], All, Contains, sum_by, nat_eq, ◌⊎◌}
-use Rattle.std.proofs.Common.{inl, inr, arith}
+use Rattle.std.specs.Prelude.{ℕ, ◌+◌, ◌*◌, ◌≤◌, List, [], All, Contains, sum_by, nat_eq}
+use Rattle.std.proofs.Common.{arith}
 use Rattle.std.proofs.Math.Nat.{mul-le-mul_left, mul-le-mul_right}
 use Rattle.std.specs.List.{IsDistinct}
 use Rattle.std.proofs.lemmas.List.Elements.{All-weaker, All-contains, All-nil}
@@ -23,16 +23,6 @@ within_nothing weight Among times before = record {
   among = All-nil Among;
   bound = omega
       arith;
-}
-
--- fewer steps
-pub within_fewer : (weight : ℕ → ℕ) (Among : ℕ → Type 0) (times before mid after : ℕ) → mid ≤ after
-    → IsWithin weight Among times before after → IsWithin weight Among times before mid
-within_fewer weight Among times before mid after le s = record {
-  numbers = s.numbers;
-  distinct = s.distinct;
-  among = s.among;
-  bound = omega (arith, le, s.bound);
 }
 
 -- a set that has all that the other has
@@ -74,15 +64,6 @@ within_both weight Among first second before mid after a b =
     let t : second * sum_by weight b.numbers ≤ second * sum_by weight u.0 = mul-le-mul_left second (sum_within weight
     b.numbers u.0 b.distinct u.4) in
     record { numbers = u.0; distinct = u.1; among = u.2; bound = omega (arith, a.bound, b.bound, s, t) }
-
--- the union of two sets, one after the other
-pub within_union : (weight : ℕ → ℕ) (First Second : ℕ → Type 0) (first second before mid after : ℕ)
-    → IsWithin weight First first before mid → IsWithin weight Second second mid after
-    → IsWithin weight (λ v. First v ⊎ Second v) (first + second) before after
-within_union weight First Second first second before mid after a b =
-    within_both weight (λ v. First v ⊎ Second v) first second before mid after
-    (within_wider weight First (λ v. First v ⊎ Second v) first before mid (λ v. inl) a)
-    (within_wider weight Second (λ v. First v ⊎ Second v) second mid after (λ v. inr) b)
 
 -- at most so many times the sum over any list that has the whole set
 pub within_sum : (weight : ℕ → ℕ) (Among : ℕ → Type 0) (times before after : ℕ)

@@ -6,7 +6,7 @@ use Rattle.ifmap_region.specs.Bounds.{IsWithin}
 use Rattle.ifmap_region.specs.Flips.{WithRemoved, Mid}
 use Rattle.ifmap_region.specs.Links.{Linked}
 use Rattle.ifmap_region.specs.Losing.{HasNearerMark, IsBeforeCut, IsCutting}
-use Rattle.ifmap_region.specs.Marks.{mark_of, row_of, over}
+use Rattle.ifmap_region.specs.Marks.{mark_of, row_of, mark_over}
 use Rattle.ifmap_region.specs.Near.{NearOneWay}
 use Rattle.ifmap_region.specs.Seeds.{IsNext, MayHold, Lowers}
 use Rattle.ifmap_region.specs.Spreading.{IsReady, IsFalling, IsCharged, Improves}
@@ -50,7 +50,7 @@ links layer = Linked layer.count layer.link
 
 -- the marks of a layer
 abbrev pub marks : Layer → ℕ → Option ℕ
-marks layer = over layer.rows layer.first
+marks layer = mark_over layer.rows layer.first
 
 -- the number has a mark that is at most so much
 abbrev pub HasMarkWithin : Layer → ℕ → ℕ → Type 0

@@ -5,7 +5,7 @@ use Rattle.ifmap_region.specs.declared.flips.Flip.{Flip}
 use Rattle.ifmap_region.specs.Flips.{WithRemoved}
 use Rattle.ifmap_region.specs.Links.{IsSymmetric}
 use Rattle.ifmap_region.specs.Near.{NearOneWay}
-use Rattle.ifmap_region.specs.Marks.{row_of, over}
+use Rattle.ifmap_region.specs.Marks.{row_of, mark_over}
 use Rattle.ifmap_region.specs.Spreading.{queue_at}
 use Rattle.ifmap_region.specs.Walks.{Walk, AreDepths, Expands}
 
@@ -34,12 +34,12 @@ pub record IsLosing (old mid : ℕ → ℕ → Type 0) (terminal : ℕ → Bool)
   pub in_queue : (k v : ℕ) → queued k v → row_of rows v ≡ Some (Some k)
   pub rowed : (v : ℕ) (r : Option ℕ) → row_of rows v ≡ Some r → (k : ℕ) × (first v ≡ Some k) × (0 < k) × IsNear v × ((r
       ≡ None) ⊎ (r ≡ Some k))
-  pub held : (v k : ℕ) → row_of rows v ≡ Some (Some k) → queued k v ⊎ ((k ≤ level) × HasNearerMark mid terminal (over rows
-      first) v k)
+  pub held : (v k : ℕ) → row_of rows v ≡ Some (Some k)
+      → queued k v ⊎ ((k ≤ level) × HasNearerMark mid terminal (mark_over rows first) v k)
   pub lost : (v k : ℕ) → row_of rows v ≡ Some None → first v ≡ Some k → ¬ Walk mid terminal start k v
   pub firm : (v u d : ℕ) → first v ≡ Some (suc d) → row_of rows v ≡ None → old u v → terminal u ≡ false
       → first u ≡ Some d
-      → seeds (suc d) v ⊎ (mid u v × (over rows first u ≡ Some d))
+      → seeds (suc d) v ⊎ (mid u v × (mark_over rows first u ≡ Some d))
 
 -- these numbers lost their marks
 pub record AreGone (rows : List (ℕ × Option ℕ)) (gone : List ℕ) : Type 0 where

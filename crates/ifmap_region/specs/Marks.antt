@@ -15,8 +15,8 @@ abbrev pub HasMarkedEnd : List (ℕ × Option ℕ) → ℕ → ℕ → Type 0
 HasMarkedEnd rows v w = IsSome (mark_of rows v) ⊎ IsSome (mark_of rows w)
 
 -- the marks of `rows` where they have a row, and those below elsewhere
-abbrev pub over : List (ℕ × Option ℕ) → (ℕ → Option ℕ) → ℕ → Option ℕ
-over rows below v = unwrap_or (row_of rows v) (below v)
+abbrev pub mark_over : List (ℕ × Option ℕ) → (ℕ → Option ℕ) → ℕ → Option ℕ
+mark_over rows below v = unwrap_or (row_of rows v) (below v)
 
 -- no row stands without a mark
 abbrev pub AllMarked : List (ℕ × Option ℕ) → Type 0

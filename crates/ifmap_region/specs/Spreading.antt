@@ -2,7 +2,7 @@
 use Rattle.std.specs.Prelude.{◌≡◌, ◌≢◌, ℕ, suc, ◌+◌, ◌<◌, ◌≤◌, ◌++◌, ◌∷◌, [], Bool, Option, Some, List, Contains, ◌⊎◌}
 use Rattle.ifmap_region.specs.Walks.{Walk, Expands}
 use Rattle.ifmap_region.specs.Bounds.{IsWithin}
-use Rattle.ifmap_region.specs.Marks.{over}
+use Rattle.ifmap_region.specs.Marks.{mark_over}
 
 -- a number has a mark that is at most d, or waits at a level that is
 abbrev pub IsBound : (ℕ → Option ℕ) → (ℕ → ℕ → Type 0) → ℕ → ℕ → Type 0
@@ -21,8 +21,10 @@ pub record IsLowered (level v : ℕ) (mark mark' : ℕ → Option ℕ) : Type 0 
 -- a number that has no mark at most the level gets that of the level, and comes into the queue
 abbrev pub Enqueues : ℕ → ℕ → (ℕ → Option ℕ) → List (ℕ × Option ℕ) → List (ℕ × Option ℕ) → List ℕ → List ℕ → Type 0
 Enqueues level v below rows rows' queue queue' =
-    (((k : ℕ) × (k ≤ level) × (over rows below v ≡ Some k)) × (rows' ≡ rows) × (queue' ≡ queue))
-    ⊎ (IsLowered level v (over rows below) (over rows' below) × (queue' ≡ queue ++ v ∷ []))
+    (((k : ℕ) × (k ≤ level) × (mark_over rows below v ≡ Some k)) × (rows' ≡ rows)
+    × (queue' ≡ queue))
+    ⊎ (IsLowered level v (mark_over rows below) (mark_over rows' below)
+    × (queue' ≡ queue ++ v ∷ []))
 
 module _ (links : ℕ → ℕ → Type 0) (terminal : ℕ → Bool) (start top : ℕ) where
   -- marks and what waits stand for walks, and where a walk goes on there is a mark that is low enough, or a number

@@ -2,7 +2,7 @@
 use Rattle.std.specs.Prelude.{◌≡◌, ℕ, ◌≤◌, Option, Some, None, List, map, is_some, is_none, IsSome, count_by, nat_eq, slice_get, ◌⊎◌}
 use Rattle.std.specs.Map.{update}
 use Rattle.indexmap.specs.IndexMap.{IndexMap, insert_entry, spare}
-use Rattle.ifmap_region.specs.Marks.{row_of, mark_of, over}
+use Rattle.ifmap_region.specs.Marks.{row_of, mark_of, mark_over}
 
 -- each number of the patch has a row
 abbrev pub HasRoom : List (ℕ × Option ℕ) → List (ℕ × Option ℕ) → Type 0
@@ -23,7 +23,7 @@ OnlyRoom patch old new = (v : ℕ) → (row_of new v ≡ row_of old v) ⊎ ((row
 
 -- the marks of the patch are made, where it has a number, and all rows stay rows
 pub record Makes (patch old new : List (ℕ × Option ℕ)) : Type 0 where
-  pub marks : (v : ℕ) → mark_of new v ≡ over patch (mark_of old) v
+  pub marks : (v : ℕ) → mark_of new v ≡ mark_over patch (mark_of old) v
   pub rows : (v : ℕ) → is_some (row_of new v) ≡ is_some (row_of old v)
 
 -- the numbers of the patch, with the marks that they had
@@ -47,4 +47,4 @@ pub record Exchanges (i : ℕ) (old patch new back : List (ℕ × Option ℕ)) :
 -- with the patch made. Which rows stand without a mark does not matter
 pub record IsWayBack (undo patch : List (ℕ × Option ℕ)) (before after : ℕ → Option ℕ) : Type 0 where
   pub taken : undo ≡ taken_from before patch
-  pub made : (v : ℕ) → after v ≡ over patch before v
+  pub made : (v : ℕ) → after v ≡ mark_over patch before v

@@ -33,8 +33,8 @@ impl Seeds {
         Seeds { items, taken: 0 }
     }
 
-    // The least level of a seed.
-    pub(crate) fn least(&self) -> Option<u32>
+    // The level of the first seed, which is the least of a seed.
+    pub(crate) fn first_level(&self) -> Option<u32>
         ensures none { IfNone result (self.now ≡ []) }
         ensures least { IfSome result (λ level. All (λ s. level ≤ s.0) self.now) }
         ensures greatest { IfSome result (λ level. (floor : ℕ) → All (λ s. floor ≤ s.0) self.now
@@ -74,7 +74,7 @@ pub(crate) fn least_level(floor: u64, next: &Vec<u64>, seeds: &Seeds) -> Option<
     ensures least { IfSome result (λ level. All (λ s. level ≤ s.0) seeds.now) }
 {
     if next.is_empty() {
-        seeds.least()
+        seeds.first_level()
     } else {
         Some(floor as u32)
     }

@@ -2,7 +2,7 @@
 ghost use Rattle.std.specs.Prelude.{◌≡◌, ℕ, Option, Some, None, List, IfOk, IsOk, OnOk, OnErr, IsSome, is_some};
 ghost use Rattle.ifmap_region.specs.Bounds.{IsWithin};
 ghost use Rattle.ifmap_region.specs.Links.{Linked};
-ghost use Rattle.ifmap_region.specs.Marks.{mark_of, row_of, over, AllMarked};
+ghost use Rattle.ifmap_region.specs.Marks.{mark_of, row_of, mark_over, AllMarked};
 ghost use Rattle.ifmap_region.specs.Walks.{AreDepths, IsReached};
 ghost use Rattle.ifmap_region.specs.Ways.{HasRoom, HasSpare, OnlyRoom, Makes, Sweeps, IsWayBack, taken_from};
 
@@ -105,7 +105,8 @@ impl Region {
         ensures start { self.new.start ≡ self.old.start }
         ensures max_depth { self.new.max_depth ≡ self.old.max_depth }
         ensures marks { (v : ℕ)
-            → mark_of self.new.marks.entries v ≡ over patch (mark_of self.old.marks.entries) v }
+            → mark_of self.new.marks.entries v
+            ≡ mark_over patch (mark_of self.old.marks.entries) v }
         ensures swept { (v : ℕ) → IsSome (row_of patch v)
             → row_of self.new.marks.entries v ≡ Some None → ⊥ }
         ensures others { (v : ℕ) → row_of patch v ≡ None

@@ -3,7 +3,7 @@ ghost use Rattle.std.specs.Prelude.{◌≡◌, ◌≢◌, ℕ, ◌+◌, Option, 
 ghost use Rattle.ifmap_region.specs.Bounds.{IsWithin};
 ghost use Rattle.ifmap_region.specs.Flips.{IsFlipped, Old};
 ghost use Rattle.ifmap_region.specs.Links.{Linked, IsSymmetric};
-ghost use Rattle.ifmap_region.specs.Marks.{mark_of, row_of, over};
+ghost use Rattle.ifmap_region.specs.Marks.{mark_of, row_of, mark_over};
 ghost use Rattle.ifmap_region.specs.Near.{NearFlips};
 ghost use Rattle.ifmap_region.specs.Walks.{AreDepths};
 
@@ -42,7 +42,8 @@ pub fn repair<G: LinkSource, L: Ledger>(
         (G.terminal graph.now) region.now.start region.now.max_depth
         (mark_of region.now.marks.entries)
         → AreDepths (Linked (G.count graph.now) (G.link graph.now)) (G.terminal graph.now)
-        region.now.start region.now.max_depth (over patch (mark_of region.now.marks.entries))) }
+        region.now.start region.now.max_depth
+        (mark_over patch (mark_of region.now.marks.entries))) }
 
     // The patch has only marks that come, go or change.
     ensures changes { IfOk result (λ patch. (v : ℕ) (r : Option ℕ) → row_of patch v ≡ Some r

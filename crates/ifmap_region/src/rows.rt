@@ -1,6 +1,6 @@
 //! Rows of marks.
 ghost use Rattle.std.specs.Prelude.{◌≡◌, ℕ, ◌<◌, ◌≤◌, true, false, is_some, OnOk, OnErr, Some};
-ghost use Rattle.ifmap_region.specs.Marks.{row_of, mark_of, over, HasPut};
+ghost use Rattle.ifmap_region.specs.Marks.{row_of, mark_of, mark_over, HasPut};
 
 use indexmap::IndexMap;
 use std::alloc::AllocError as NoMemory;
@@ -10,7 +10,7 @@ pub(crate) type MarkRows = IndexMap<u64, Option<u32>>;
 
 // The marks of `rows` where they have a row, else those of `base`.
 pub(crate) fn mark(base: &MarkRows, rows: &MarkRows, number: u64) -> Option<u32>
-    ensures { result ≡ over rows.now.entries (mark_of base.now.entries) number }
+    ensures { result ≡ mark_over rows.now.entries (mark_of base.now.entries) number }
 {
     match rows.get(&number) {
         Some(row) => *row,

@@ -2,7 +2,7 @@
 ghost use Rattle.std.specs.Prelude.{◌≡◌, ℕ, ◌+◌, ◌<◌, ◌≤◌, ◌^◌, ◌⊎◌, ◌∷◌, [], All, Option, Some, true, false, List, Contains, OnOk, OnErr, sum_by};
 ghost use Rattle.ifmap_region.specs.Bounds.{IsWithin};
 ghost use Rattle.ifmap_region.specs.Layers.{layer_of, links, marks, HasMarkWithin, HasDepths, MayFall, Falls, IsShortened, Charges};
-ghost use Rattle.ifmap_region.specs.Marks.{mark_of, over, AddsMarks};
+ghost use Rattle.ifmap_region.specs.Marks.{mark_of, mark_over, AddsMarks};
 ghost use Rattle.ifmap_region.specs.Spreading.{IsLowered, Enqueues};
 
 use crate::bases::Basis;
@@ -27,8 +27,8 @@ fn enqueue(
     ensures ok { OnOk result (Enqueues level number (mark_of base.now.entries) rows.old.entries
         rows.new.entries queue.old.items queue.new.items) }
     ensures part { (rows.new.entries ≡ rows.old.entries)
-        ⊎ IsLowered level number (over rows.old.entries (mark_of base.now.entries))
-        (over rows.new.entries (mark_of base.now.entries)) }
+        ⊎ IsLowered level number (mark_over rows.old.entries (mark_of base.now.entries))
+        (mark_over rows.new.entries (mark_of base.now.entries)) }
     ensures queue { OnErr result (queue.new.items ≡ queue.old.items) }
 {
     if is_within(mark(base, rows, number), level) {

@@ -8,7 +8,7 @@ use Rattle.ifmap_delta.specs.declared.subscriptions.Subscription.{Subscription}
 use Rattle.ifmap_delta.specs.Sights.{AreMarks, Links, ViewSeen, is_terminal_in}
 use Rattle.ifmap_delta.specs.Ways.{HasSameSearch}
 use Rattle.ifmap_delta.specs.ifmap_fresh.Fresh.{fresh_size}
-use Rattle.ifmap_delta.specs.ifmap_region.Marks.{mark_of, over, row_of}
+use Rattle.ifmap_delta.specs.ifmap_region.Marks.{mark_of, mark_over, row_of}
 use Rattle.ifmap_delta.specs.ifmap_region.Ways.{HasRoom, Makes, OnlyRoom, taken_from}
 use Rattle.ifmap_standing.specs.Kept.{KeepsSame}
 use Rattle.ifmap_standing.specs.Ways.{LeadsBack, Way}
@@ -32,8 +32,8 @@ room_keeps old new patch search size marks only = record {
 pub would_keep : (g : ViewSeen) (old new : Subscription) (patch : List (ℕ × Option ℕ)) (size : ℕ) → KeepsSame old new
     → WouldKeep g old patch size → WouldKeep g new patch size
 would_keep g old new patch size k w =
-    let old_mark = over patch (mark_of old.region.marks.entries)
-    in let new_mark = over patch (mark_of new.region.marks.entries)
+    let old_mark = mark_over patch (mark_of old.region.marks.entries)
+    in let new_mark = mark_over patch (mark_of new.region.marks.entries)
     in let at : AreMarks g old.search old.region.start old.region.max_depth new_mark = record {
       identifier = w.marks.identifier;
       here = w.marks.here;

@@ -3,7 +3,7 @@ use Rattle.ifmap_search.specs.Sizes.{entries_size}
 use Rattle.ifmap_fresh.specs.Collected.{numbers_of}
 use Rattle.ifmap_fresh.specs.Fresh.{fresh}
 use Rattle.ifmap_plans.specs.Plans.{IsAfter}
-use Rattle.ifmap_region.specs.Marks.{mark_of, over}
+use Rattle.ifmap_region.specs.Marks.{mark_of, mark_over}
 use Rattle.ifmap_delta.specs.Bounds.{IsWithinBound}
 use Rattle.ifmap_delta.specs.Changes.{ShowsAfter}
 use Rattle.ifmap_delta.specs.Located.{AreLocated}
@@ -29,7 +29,7 @@ looked g c =
     in let mark = mark_of sub.region.marks.entries
     in change_steps c.bytes_tell_identifiers_apart.ensures old new sub.search c.requires.graph c.requires.draft
     c.args.located.now.plan.now.changes c.requires.change sub.region.start sub.region.max_depth mark c.requires.kept.marks
-    (over c.in_ok-patch.patch mark) c.in_ok-patch.ensures.marks c.args.steps.now c.patch_for.new.steps c.touched_items.new.steps
+    (mark_over c.in_ok-patch.patch mark) c.in_ok-patch.ensures.marks c.args.steps.now c.patch_for.new.steps c.touched_items.new.steps
     (numbers_of c.in_ok-patch.patch) c.touched_items.ensures.apart c.patch_for.ensures.steps c.touched_items.ensures.steps
 
 pub returns-in_err-patch-clause-steps : goal.returns-in_err-patch-clause-steps

@@ -1,7 +1,7 @@
 use Rattle.std.proofs.Common.{◌≡◌, ◌∙◌, ap, sym, ◌+◌, []}
 use Rattle.ifmap_search.specs.Sizes.{entries_size}
 use Rattle.ifmap_fresh.specs.Fresh.{fresh}
-use Rattle.ifmap_region.specs.Marks.{mark_of, over}
+use Rattle.ifmap_region.specs.Marks.{mark_of, mark_over}
 use Rattle.ifmap_folds.specs.Differences.{difference}
 use Rattle.ifmap_delta.specs.Bounds.{IsWithinBound}
 use Rattle.ifmap_delta.specs.Flipped.{AreFlipsOf}
@@ -80,7 +80,7 @@ returns-clause-moved g c =
       updated = c.new-2.ensures ∙ updated;
       keeps = record {
         marks = repaired_marks tells old new s graph draft changes c.requires.change sub.region.start sub.region.max_depth mark marks
-            [] (none g (goal.at.returns-clause-moved g c).After-repair) (over c.in_ok-patch.patch mark) c.in_ok-patch.ensures.depths;
+            [] (none g (goal.at.returns-clause-moved g c).After-repair) (mark_over c.in_ok-patch.patch mark) c.in_ok-patch.ensures.depths;
         size = sizes_differ a b (fresh_rises old.rows s graph.graph) (fresh_rises new.rows s draft.graph) sub.size sub.size
             c.requires.kept.size
             (ap (λ l. sub.size + entries_size l) (sym deleted) ∙ ap (λ l. sub.size + entries_size l) updated);

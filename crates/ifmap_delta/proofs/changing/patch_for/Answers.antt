@@ -1,7 +1,7 @@
 use Rattle.std.proofs.Common.{rules, ◌≡◌, ◌∙◌, ap, length, subst, sym}
 use Rattle.std.proofs.lemmas.Result.{IfOk-weaker}
 use Rattle.ifmap_region.specs.Bounds.{within_nothing}
-use Rattle.ifmap_region.specs.Marks.{mark_of, over}
+use Rattle.ifmap_region.specs.Marks.{mark_of, mark_over}
 use Rattle.ifmap_delta.specs.Bounds.{IsNear, one_and_links}
 use Rattle.ifmap_delta.specs.Flipped.{AreFlipsOf}
 use Rattle.ifmap_delta.specs.Located.{AreLocated, IsLocatedTwice}
@@ -69,7 +69,7 @@ returns-clause-marks g c =
     in IfOk-weaker c.repair.result _ _
     (λ patch d. repaired_marks c.bytes_tell_identifiers_apart.ensures old new sub.search c.requires.graph c.requires.draft
     c.args.located.now.plan.now.changes c.requires.change sub.region.start sub.region.max_depth mark c.requires.marks
-    c.deref-3.result.now flips (over patch mark) d)
+    c.deref-3.result.now flips (mark_over patch mark) d)
     c.repair.ensures.depths
 
 pub returns-clause-steps : goal.returns-clause-steps

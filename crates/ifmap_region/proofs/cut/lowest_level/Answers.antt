@@ -1,6 +1,6 @@
 use Rattle.std.proofs.Common.{sym, arith}
 use Rattle.std.proofs.lemmas.Option.{IfSome_then}
-use Rattle.ifmap_region.specs.Marks.{mark_of, over}
+use Rattle.ifmap_region.specs.Marks.{mark_of, mark_over}
 use Rattle.ifmap_region.specs.Seeds.{IsNext}
 use Rattle.ifmap_region.proofs.Regrow.{least_unmatched, least_more, lesser_only}
 use Rattle.ifmap_region.proofs.cut.lowest_level.Goals as goal
@@ -8,7 +8,7 @@ use Rattle.ifmap_region.proofs.cut.lowest_level.Goals.{in-Some, in_default}
 
 pub loop-i-preserved : goal.loop-i-preserved
 loop-i-preserved g c =
-    let given = IsNext (g.G.LinkSource.terminal c.args.basis.now.graph.now) c.args.basis.now.top (over c.args.rows.now.entries (mark_of
+    let given = IsNext (g.G.LinkSource.terminal c.args.basis.now.graph.now) c.args.basis.now.top (mark_over c.args.rows.now.entries (mark_of
     c.args.basis.now.base.now.entries)) in
     elim c.match-at.branch [
       | in-Some w ↦ rw w.least-is record {

@@ -1,5 +1,5 @@
 use Rattle.ifmap_region.specs.Bounds.{within_nothing}
-use Rattle.ifmap_region.specs.Marks.{mark_of, over}
+use Rattle.ifmap_region.specs.Marks.{mark_of, mark_over}
 use Rattle.ifmap_region.proofs.Patches.{over_differing}
 use Rattle.ifmap_region.proofs.Repairs.{spent_cutting, spent_repairing, cut_left}
 use Rattle.ifmap_region.proofs.repairing.repair.Goals as goal
@@ -40,7 +40,7 @@ returns-clause-depths g c d =
     let h = c.in_ok-hidden.ensures in
     let from = c.args.region.now.start in
     let below = mark_of c.args.region.now.marks.entries in
-    depths_same _ _ from _ (over c.grow.new.rows.entries below) _
+    depths_same _ _ from _ (mark_over c.grow.new.rows.entries below) _
     (over_differing c.grow.new.rows.entries c.args.region.now.marks.entries _ c.in_ok-rows-2.ensures.only c.in_ok-rows-2.ensures.each)
     (c.in_ok-grow.ensures.depths from
     (cut_left _ _ c.in_ok-hidden.hidden _ _ from _ _ h.only h.each h.turned d c.requires.symmetric _ (c.in_ok-rows.ensures.depths from)))

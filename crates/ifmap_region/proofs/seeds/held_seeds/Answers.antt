@@ -1,7 +1,7 @@
 use Rattle.std.proofs.Common.{◌≡◌, ◌+◌, false, [], ◌∷◌, ◌++◌, sym, ◌∙◌, take, get_or, true≢false}
 use Rattle.std.proofs.lemmas.List.{take_more}
 use Rattle.ifmap_region.specs.declared.flips.Flip.{Flip}
-use Rattle.ifmap_region.specs.Marks.{mark_of, over}
+use Rattle.ifmap_region.specs.Marks.{mark_of, mark_over}
 use Rattle.ifmap_region.specs.Seeds.{MayHold}
 use Rattle.ifmap_region.proofs.FlipLists.{seeds_other, seeds_more}
 use Rattle.ifmap_region.proofs.seeds.held_seeds.Goals as goal
@@ -13,8 +13,8 @@ loop-flip-preserved g c =
     let f : Flip = get_or c.args.flips.now c.loop-flip.flip-index (record { a = 0; b = 0; added = false }) in
     let more : take (c.loop-flip.flip-index + 1) c.args.flips.now ≡ before ++ f ∷ [] =
     take_more c.args.flips.now c.loop-flip.flip-index (record { a = 0; b = 0; added = false }) c.loop-flip-test.true in
-    let gives = MayHold (g.G.LinkSource.terminal c.args.basis.now.graph.now) c.args.basis.now.top (over c.args.rows.now.entries (mark_of
-    c.args.basis.now.base.now.entries)) in
+    let gives = MayHold (g.G.LinkSource.terminal c.args.basis.now.graph.now) c.args.basis.now.top
+        (mark_over c.args.rows.now.entries (mark_of c.args.basis.now.base.now.entries)) in
     elim c.if-not-flip.branch [
       | then-not-flip+in_ok-offer+in_ok-offer-2 w ↦ rw w.seeds-is (rw more (seeds_more before f false gives w.held_at-at_b.result
           w.held_at-at_a.result

@@ -1,6 +1,6 @@
 use Rattle.std.proofs.Common.{◌≡◌, ℕ, Some, ◌≤◌, sym, arith}
 use Rattle.ifmap_region.specs.Links.{Linked}
-use Rattle.ifmap_region.specs.Marks.{mark_of, over}
+use Rattle.ifmap_region.specs.Marks.{mark_of, mark_over}
 use Rattle.ifmap_region.proofs.Falling.{neighbour_offered, neighbour_walk, charged_more, charged_part, low_more, low_unmatched}
 use Rattle.ifmap_region.proofs.spread.offer_neighbours.Goals as goal
 use Rattle.ifmap_region.proofs.spread.offer_neighbours.Goals.{in-Some+in_ok-enqueue, in_default}
@@ -32,7 +32,7 @@ loop-i-preserved g c = elim c.match-at.branch [
   | in_default w ↦ rw (w.rows-is, w.queue-is) record {
     rows = c.loop-i.invariant.rows;
     offered = low_unmatched (g.G.LinkSource.link c.args.basis.now.graph.now c.args.number) c.loop-i.i
-        (λ (x : ℕ). (k : ℕ) × (k ≤ c.args.next) × (over c.loop-i.rows.entries (mark_of c.args.basis.now.base.now.entries) x ≡ Some k))
+        (λ (x : ℕ). (k : ℕ) × (k ≤ c.args.next) × (mark_over c.loop-i.rows.entries (mark_of c.args.basis.now.base.now.entries) x ≡ Some k))
         (sym w.in_default.ensures.link) c.loop-i.invariant.offered;
     falls = c.loop-i.invariant.falls;
     charged = c.loop-i.invariant.charged;

@@ -1,6 +1,6 @@
 use Rattle.std.proofs.Common.{arith}
 use Rattle.ifmap_region.proofs.Waits.{first_least, below_first}
-use Rattle.ifmap_region.proofs.levels.Seeds.least.Goals as goal
+use Rattle.ifmap_region.proofs.levels.Seeds.first_level.Goals as goal
 
 pub returns-then-self-len-clause-least : goal.returns-then-self-len-clause-least
 returns-then-self-len-clause-least c =
