@@ -288,11 +288,11 @@ module _ (parts : List Part) (first : ℕ) (is : first ≡ blank_front parts) wh
       → IsBodyAt parts j body → ⊥
   no_body_after f index at g j body b = elim b.header [
     | inl blank ↦ contrary (is_last_part is_body (drop first parts)) f (body_is_first j body b blank)
-    | inr h ↦ behind (has_header j body b h.0 h.1 h.2 h.3)
+    | inr h ↦ no_later (has_header j body b h.0 h.1 h.2 h.3)
   ]
     where
-      behind : HasHeader b.after body → ⊥
-      behind h =
+      no_later : HasHeader b.after body → ⊥
+      no_later h =
           let rest : List Part = h.between ++ (part_of body ∷ b.after) in
           let head : IsHeaded h.header rest = record { parts_are = h.parts_are; named = h.named } in
           let k : blank_front (drop (first + 1) parts) ≡ length h.between =

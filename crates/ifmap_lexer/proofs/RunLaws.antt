@@ -27,8 +27,8 @@ module _ (rest front after : List ℕ) where
       ∙ ap (λ x. x ++ (space_character ∷ map as_space after))
       (untabbed front c.passes (all_front (is_but line_feed) front (tab ∷ after) (subst (AllAre (is_but line_feed)) c.bytes_are g)))
 
-  pub tab_behind : CutsAt tab rest front after → AllAre (is_but line_feed) rest → AllAre (is_but line_feed) after
-  tab_behind c g = (all_back (is_but line_feed) front (tab ∷ after) (subst (AllAre (is_but line_feed)) c.bytes_are g)).1
+  pub after_tab : CutsAt tab rest front after → AllAre (is_but line_feed) rest → AllAre (is_but line_feed) after
+  after_tab c g = (all_back (is_but line_feed) front (tab ∷ after) (subst (AllAre (is_but line_feed)) c.bytes_are g)).1
 
   pub newline_step : CutsAt line_feed rest front after → map as_space rest ≡ map as_space front ++ (space_character ∷ map as_space after)
   newline_step c = ap (map as_space) c.bytes_are ∙ map-append as_space front (line_feed ∷ after)

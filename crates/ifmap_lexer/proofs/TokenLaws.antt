@@ -345,8 +345,8 @@ pub token_length : (bytes : List ℕ) (t : Token) (rest : List ℕ) → TakesTok
     → (1 ≤ length bytes - length rest) × (length bytes - length rest ≤ length bytes) × (drop (length bytes - length rest) bytes ≡ rest)
 token_length bytes t rest l = let f = token_front bytes t rest l in shorter f.0 rest bytes f.1 f.2
 
-pub is_behind : (bytes : List ℕ) (t : Token) (rest : List ℕ) → TakesToken bytes t rest → length rest ≤ length bytes
-is_behind bytes t rest l = let f = token_front bytes t rest l in omega (arith, ap length f.1, length-append f.0 rest)
+pub rest_is_shorter : (bytes : List ℕ) (t : Token) (rest : List ℕ) → TakesToken bytes t rest → length rest ≤ length bytes
+rest_is_shorter bytes t rest l = let f = token_front bytes t rest l in omega (arith, ap length f.1, length-append f.0 rest)
 
 pub malformed_of : (bytes : List ℕ) (e : LexError) → Refuses e (SomeToken bytes) → e ≡ Malformed → (t : Token) (rest : List ℕ)
     → TakesToken bytes t rest → ⊥

@@ -80,9 +80,9 @@ module _ (bytes : List ℕ) (depth : ℕ) (w : Where) (rest : List ℕ) (at : At
       omega (arith, a, b, none)
 
   -- one token more
-  module _ (t : Token) (behind : List ℕ) (some : rest ≢ []) (takes : TakesToken rest t behind)
-      (only : (u : Token) (after : List ℕ) → TakesToken rest u after → (u ≡ t) × (after ≡ behind)) where
-    is_only : IsOnly TakesToken rest t behind
+  module _ (t : Token) (left : List ℕ) (some : rest ≢ []) (takes : TakesToken rest t left)
+      (only : (u : Token) (after : List ℕ) → TakesToken rest u after → (u ≡ t) × (after ≡ left)) where
+    is_only : IsOnly TakesToken rest t left
     is_only u after h = let k = only u after h in (sym k.0, sym k.1)
 
     goes_next : (ts : List Token) (r : Reading) → IsDocument ((at.so_far ++ t ∷ []) ++ ts) r ↔ GoesOn w (t ∷ ts) r
@@ -91,12 +91,12 @@ module _ (bytes : List ℕ) (depth : ℕ) (w : Where) (rest : List ℕ) (at : At
         let e = append_assoc at.so_far (t ∷ []) ts in
         (λ x. g.0 (subst (λ (us : List Token). IsDocument us r) e x), λ x. subst (λ (us : List Token). IsDocument us r) (sym e) (g.1 x))
 
-    pub at_next : (new : Where) → Leads depth w t new → At bytes depth new behind
+    pub at_next : (new : Where) → Leads depth w t new → At bytes depth new left
     at_next new l = record {
       so_far = at.so_far ++ t ∷ [];
-      lexed = to_last TakesToken (without_byte_order_mark bytes) at.so_far rest t behind at.lexed takes;
+      lexed = to_last TakesToken (without_byte_order_mark bytes) at.so_far rest t left at.lexed takes;
       goes = λ ts r. let g = goes_next ts r in let f = l.follows ts r in (λ x. f.0 (g.0 x), λ x. g.1 (f.1 x));
-      ahead = ahead_next TakesToken (without_byte_order_mark bytes) at.so_far rest t behind [] some is_only at.ahead;
+      ahead = ahead_next TakesToken (without_byte_order_mark bytes) at.so_far rest t left [] some is_only at.ahead;
       fits = l.fits at.fits;
       linked = l.linked at.linked;
       level = let a = counted is_start t in let b = counted is_end t in let c = l.counts in let d = at.level in omega (arith, a, b, c, d);
@@ -157,7 +157,7 @@ module _ (bytes : List ℕ) (depth : ℕ) (w : Where) (rest : List ℕ) (at : At
             tokens = at.so_far;
             tag = t;
             rest = rest;
-            after = behind;
+            after = left;
             lexed = at.lexed;
             taken = takes;
             allowed = record { more = s.0; reading = s.1.0; document = (goes_next s.0 s.1.0).1 ((p.follows s.0 s.1.0).1 s.1.1) };

@@ -1,4 +1,4 @@
--- Pieces that are put behind others.
+-- Pieces that are put after others.
 use Rattle.std.proofs.Common.{◌≡◌, ◌∙◌, ℕ, ◌+◌, ◌<◌, List, [], ◌∷◌, ◌++◌, map, length, get_or, take, ap, sym}
 use Rattle.std.proofs.lemmas.List.{map-append, take_more}
 use Rattle.ifmap_elem.specs.Outlines.{outline_child}
@@ -8,7 +8,7 @@ use Rattle.ifmap_elem.specs.declared.elements.Element.{Element}
 use Rattle.ifmap_elem.specs.declared.outlines.Piece.{Piece}
 use Rattle.ifmap_elem.specs.Building.{as_children}
 
--- what pieces stand for, where one is put behind them
+-- what pieces stand for, where one is put after them
 pub put : (pieces more : List Piece) (piece : Piece) (made : Child) → outline_child piece ≡ made → more ≡ pieces ++ piece ∷ []
     → map outline_child more ≡ map outline_child pieces ++ made ∷ []
 put pieces more piece made is pushed =

@@ -1,5 +1,5 @@
 -- In the scope of each element of what is written, the prefixes `f1`, `f2` and so on stand for the namespaces of the filters.
--- Plan: (1) rows of which no two have one prefix, turned round, or behind others; (2) the rows that a root declares; (3) the scope.
+-- Plan: (1) rows of which no two have one prefix, turned round, or after others; (2) the rows that a root declares; (3) the scope.
 use Rattle.std.proofs.Common.{◌≡◌, ◌≢◌, ◌∙◌, ◌++◌, ℕ, ◌+◌, true, false, cond, List, [], ◌∷◌, None, Some, codes, map, reverse, inl, inr}
 use Rattle.std.proofs.Common.{refl, ap, sym, subst, arith}
 use Rattle.std.specs.Prelude.{◌==◌}
@@ -67,12 +67,12 @@ module _ (p : List ℕ) where
         | inr e ↦ last_other (reverse rows) r.0 r.1 e ∙ found_turned rows d.1 ∙ rw e refl
       ]
 
-  -- behind others
-  found_behind : (rows more : Rows) (s : List ℕ) → AllDiffer (keys (rows ++ more)) → lookup (bytes_eq p) more ≡ Some s
+  -- after others
+  found_later : (rows more : Rows) (s : List ℕ) → AllDiffer (keys (rows ++ more)) → lookup (bytes_eq p) more ≡ Some s
       → lookup (bytes_eq p) (rows ++ more) ≡ Some s
-  found_behind [] more s d found = found
-  found_behind (r ∷ rows) more s d found =
-      let others = found_behind rows more s d.1 found in
+  found_later [] more s d found = found
+  found_later (r ∷ rows) more s d found =
+      let others = found_later rows more s d.1 found in
       elim (cases_Bool (bytes_eq p r.0)) [
         | inl e ↦ let wrong : None ≡ Some s = sym (none_of_key r.0 (rows ++ more) e d.0) ∙ others in cc
         | inr e ↦ rw e others
@@ -109,7 +109,7 @@ module _ (own spaces : List (List ℕ)) where
       ∙ ap (λ (l : Rows). map turn (numbered_prefix_rows 0x6E 1 own) ++ l) (numbered_are 1 spaces) in
       found_turned p (map turn its_rows) its_differ
       ∙ ap (lookup (bytes_eq p)) parts
-      ∙ found_behind p (map turn (numbered_prefix_rows 0x6E 1 own)) (numbered_rows 1 spaces) s
+      ∙ found_later p (map turn (numbered_prefix_rows 0x6E 1 own)) (numbered_rows 1 spaces) s
       (subst (λ (rows : Rows). AllDiffer (keys rows)) parts its_differ) found
 
   -- ---- (3) the scope

@@ -97,7 +97,7 @@ same_parts (b ∷ bs) l [] m fp fl fq fm e =
     let wrong : [] ≡ colon ∷ l = both.1 in cc
 same_parts (b ∷ bs) l (c ∷ cs) m fp fl fq fm e =
     let both = cut is_part_byte (b ∷ bs) (c ∷ cs) (colon ∷ l) (colon ∷ m) fp fq refl refl e in
-    let behind : colon ∷ l ≡ colon ∷ m = both.1 in
+    let after : colon ∷ l ≡ colon ∷ m = both.1 in
     (both.0, cc)
 
 pub same_name : (q u : Qualified) → IsQualified q → IsQualified u → name_bytes q ≡ name_bytes u → q ≡ u

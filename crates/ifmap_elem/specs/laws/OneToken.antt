@@ -53,7 +53,7 @@ one_part bytes (Reference c) (Reference d) r s l m =
     let both = cut (λ b. not (b == semicolon)) l.0 m.0 (semicolon ∷ r) (semicolon ∷ s) l.2 m.2 refl refl tail in
     let found : Some c ≡ Some d = sym l.3 ∙ ap reference_value both.0 ∙ m.3 in
     let same : c ≡ d = cc in
-    let behind : semicolon ∷ r ≡ semicolon ∷ s = both.1 in
+    let remaining : semicolon ∷ r ≡ semicolon ∷ s = both.1 in
     (ap Reference same, cc)
 
 no_run_of_none : (run rest : List ℕ) → run ≢ [] → [] ≡ run ++ rest → ⊥
@@ -88,9 +88,9 @@ one_quoted bytes v w r s l m =
     l.white_before m.white_before refl refl (sym l.bytes_are ∙ m.bytes_are) in
     let equals : equals_sign ∷ (l.after ++ (l.quote ∷ (v ++ (l.quote ∷ r)))) ≡ equals_sign ∷ (m.after ++ (m.quote ∷ (w ++ (m.quote ∷ s))))
     = first.1 in
-    let behind : l.after ++ (l.quote ∷ (v ++ (l.quote ∷ r))) ≡ m.after ++ (m.quote ∷ (w ++ (m.quote ∷ s))) = cc in
+    let remaining : l.after ++ (l.quote ∷ (v ++ (l.quote ∷ r))) ≡ m.after ++ (m.quote ∷ (w ++ (m.quote ∷ s))) = cc in
     let second = cut is_white l.after m.after (l.quote ∷ (v ++ (l.quote ∷ r))) (m.quote ∷ (w ++ (m.quote ∷ s)))
-    l.white_after m.white_after (quote_is_not_white l.quote l.is_quote) (quote_is_not_white m.quote m.is_quote) behind in
+    l.white_after m.white_after (quote_is_not_white l.quote l.is_quote) (quote_is_not_white m.quote m.is_quote) remaining in
     let quoted : l.quote ∷ (v ++ (l.quote ∷ r)) ≡ m.quote ∷ (w ++ (m.quote ∷ s)) = second.1 in
     let quote : l.quote ≡ m.quote = cc in
     let inside : v ++ (l.quote ∷ r) ≡ w ++ (m.quote ∷ s) = cc in
@@ -206,10 +206,10 @@ quoted_no_end : (bytes v rest : List ℕ) → AllAre no_end v → TakesQuoted by
 quoted_no_end bytes v rest f t =
     let q : AllAre no_end (t.quote ∷ []) = (quote_no_end t.quote t.is_quote, tt) in
     let value = all_append no_end v (t.quote ∷ []) f q in
-    let behind = all_append no_end t.after (t.quote ∷ (v ++ (t.quote ∷ []))) (white_no_end t.after t.white_after) (q.0, value) in
+    let remaining = all_append no_end t.after (t.quote ∷ (v ++ (t.quote ∷ []))) (white_no_end t.after t.white_after) (q.0, value) in
     let all = all_append no_end t.before (equals_sign ∷ (t.after ++ (t.quote ∷ (v ++ (t.quote ∷ [])))))
     (white_no_end t.before t.white_before)
-    (refl, behind) in
+    (refl, remaining) in
     (t.before ++ (equals_sign ∷ (t.after ++ (t.quote ∷ (v ++ (t.quote ∷ []))))), t.bytes_are ∙ seam t.before t.after v rest t.quote, all)
 
 module _ (name : List ℕ) (Allows : List ℕ → Type 0) (plain : AllAre no_end name) (values : (v : List ℕ) → Allows v → AllAre no_end v) where
@@ -277,7 +277,7 @@ one_declaration bytes r s l m =
     let i = declaration_no_end bytes r l in
     let j = declaration_no_end bytes s m in
     let both = cut no_end i.0 j.0 (greater_than ∷ r) (greater_than ∷ s) i.2 j.2 refl refl (sym i.1 ∙ j.1) in
-    let behind : greater_than ∷ r ≡ greater_than ∷ s = both.1 in
+    let remaining : greater_than ∷ r ≡ greater_than ∷ s = both.1 in
     cc
 
 -- which kind of token the first bytes can begin
@@ -310,7 +310,7 @@ one_comment : (bytes r s : List ℕ) → TakesToken bytes Comment r → TakesTok
 one_comment bytes r s l m =
     let e : codes "<!--" ++ (l.0 ++ (codes "-->" ++ r)) ≡ codes "<!--" ++ (m.0 ++ (codes "-->" ++ s)) = sym l.1.bytes_are ∙ m.1.bytes_are in
     let inside : l.0 ++ (codes "-->" ++ r) ≡ m.0 ++ (codes "-->" ++ s) = cc in
-    let behind : codes ">" ++ r ≡ codes ">" ++ s = (dash_cut l.0 m.0 (codes ">" ++ r) (codes ">" ++ s) l.2 m.2 inside).1 in
+    let remaining : codes ">" ++ r ≡ codes ">" ++ s = (dash_cut l.0 m.0 (codes ">" ++ r) (codes ">" ++ s) l.2 m.2 inside).1 in
     cc
 
 one_section : (bytes t u r s : List ℕ) → TakesToken bytes (Section t) r → TakesToken bytes (Section u) s → (t ≡ u) × (r ≡ s)

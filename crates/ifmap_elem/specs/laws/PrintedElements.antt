@@ -172,13 +172,13 @@ module _ (prefixes : Rows) (scope : Scope) where
       → To TakesToken (flat_map (child_bytes prefixes) cs ++ rest) (tokens_of (contents_of cs each)) rest
   children_lexed [] each rest ends apart = refl
   children_lexed (c ∷ cs) each rest ends apart =
-      let behind : List ℕ = flat_map (child_bytes prefixes) cs ++ rest in
+      let remaining : List ℕ = flat_map (child_bytes prefixes) cs ++ rest in
       subst (λ (ts : List Token). To TakesToken ((child_bytes prefixes c ++ flat_map (child_bytes prefixes) cs) ++ rest) ts rest)
       (sym (tokens_chained each.0.pieces (contents_of cs each.1)))
       (subst (λ (b : List ℕ). To TakesToken b (tokens_of each.0.pieces ++ tokens_of (contents_of cs each.1)) rest)
       (sym (append_assoc (child_bytes prefixes c) (flat_map (child_bytes prefixes) cs) rest))
-      (to_both TakesToken (child_bytes prefixes c ++ behind) (tokens_of each.0.pieces) behind (tokens_of (contents_of cs each.1)) rest
-      (each.0.lexed behind (follows each.0.item cs each.1 rest ends apart))
+      (to_both TakesToken (child_bytes prefixes c ++ remaining) (tokens_of each.0.pieces) remaining (tokens_of (contents_of cs each.1)) rest
+      (each.0.lexed remaining (follows each.0.item cs each.1 rest ends apart))
       (children_lexed cs each.1 rest ends (apart_tail (item_child each.0.item) (map item_child (items_of cs each.1)) apart))))
 
   children_mean : (cs : List Child) (each : Each (ChildTaken prefixes scope) cs) → AreItems scope (contents_of cs each) (items_of cs each)

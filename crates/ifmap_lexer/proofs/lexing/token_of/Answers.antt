@@ -2,11 +2,11 @@ use Rattle.std.proofs.Common.{subst, sym, ◌∙◌}
 use Rattle.ifmap_elem.specs.Tokens.{TakesToken}
 use Rattle.ifmap_elem.specs.laws.OneToken.{one_token}
 use Rattle.std.proofs.lemmas.Result.{err_from_is_err_and}
-use Rattle.ifmap_lexer.proofs.TokenLaws.{token_length, is_behind, malformed_of}
+use Rattle.ifmap_lexer.proofs.TokenLaws.{token_length, rest_is_shorter, malformed_of}
 use Rattle.ifmap_lexer.proofs.lexing.token_of.Goals as goal
 
 pub overflow_sub-length : goal.overflow_sub-length
-overflow_sub-length c = is_behind c.args.bytes.now c.in_ok-token.token c.in_ok-token.rest.now c.in_ok-token.ensures.found
+overflow_sub-length c = rest_is_shorter c.args.bytes.now c.in_ok-token.token c.in_ok-token.rest.now c.in_ok-token.ensures.found
 
 pub returns-clause-taken : goal.returns-clause-taken
 returns-clause-taken c =

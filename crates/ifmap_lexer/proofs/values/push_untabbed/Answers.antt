@@ -1,6 +1,6 @@
 use Rattle.std.proofs.Common.{[], ◌∷◌, ◌++◌, map, ap, ◌∙◌, string_bytes, lit<}
 use Rattle.ifmap_elem.specs.Values.{as_space}
-use Rattle.ifmap_lexer.proofs.RunLaws.{tab_step, tab_behind, untabbed, two_more, last_str}
+use Rattle.ifmap_lexer.proofs.RunLaws.{tab_step, after_tab, untabbed, two_more, last_str}
 use Rattle.ifmap_lexer.proofs.SplitLaws.{after_is_utf8}
 use Rattle.ifmap_lexer.proofs.values.push_untabbed.Goals as goal
 use Rattle.ifmap_elem.specs.Chars.{space_character}
@@ -13,7 +13,7 @@ loop-front-preserved c =
     let front = c.in-Some.front.now in
     let after = c.in-Some.after.now in (
       after_is_utf8 9 rest front after (lit< tt) cut.bytes_are inv.0,
-      tab_behind rest front after cut inv.1,
+      after_tab rest front after cut inv.1,
       two_more _ (string_bytes c.loop-front.text) (string_bytes c.push_str.new.self) (map as_space rest) (string_bytes c.push.new.self)
           front (space_character ∷ []) inv.2
           c.in_ok-push_str.ensures.bytes
