@@ -8,7 +8,7 @@ use Rattle.std.specs.Fmt.{decimal}
 use Rattle.ifmap_words.specs.Options.{is_option}
 use Rattle.ifmap_command.specs.declared.forms.Form.TheVariants as form
 use Rattle.ifmap_command.specs.Laws.{OneForm}
-use Rattle.ifmap_command.specs.Words.{IsDrill, IsReplay, IsServe, IsWrong}
+use Rattle.ifmap_command.specs.Words.{IsDrill, IsReplay, IsServe, IsWrong, most_events, most_workers}
 
 -- the first letter, the second word and the third
 abbrev letter : List (List ℕ) → ℕ
@@ -86,11 +86,11 @@ no_drill x y none = record {
 pub no_key : (x y : List ℕ) → ((n : ℕ) → n < 2 ^ 64 → x ≢ decimal n) → IsWrong (drilled x y)
 no_key x y none = no_drill x y (λ key count is. none key is.key_fits (ap second is.words_are))
 
-pub no_count : (x y : List ℕ) → ((n : ℕ) → 1 ≤ n → n ≤ 100000 → y ≢ decimal n) → IsWrong (drilled x y)
+pub no_count : (x y : List ℕ) → ((n : ℕ) → 1 ≤ n → n ≤ most_events → y ≢ decimal n) → IsWrong (drilled x y)
 no_count x y none = no_drill x y (λ key count is. none count is.some is.few (ap third is.words_are))
 
-pub is_drill : (x y : List ℕ) (key count : ℕ) → (key < 2 ^ 64) × (x ≡ decimal key) → (1 ≤ count) × (count ≤ 100000) × (y ≡ decimal count)
-    → IsDrill (drilled x y) key count
+pub is_drill : (x y : List ℕ) (key count : ℕ) → (key < 2 ^ 64) × (x ≡ decimal key)
+    → (1 ≤ count) × (count ≤ most_events) × (y ≡ decimal count) → IsDrill (drilled x y) key count
 is_drill x y key count k c = record {
   words_are = ap₂ drilled k.1 c.2;
   key_fits = k.0;
@@ -110,14 +110,14 @@ no_address x y none = no_serve x y (λ a w is. let same : length x ≡ length a 
     let some = is.nonempty in
     absurd (omega arith))
 
-pub no_workers : (x y : List ℕ) → ((n : ℕ) → 1 ≤ n → n ≤ 256 → y ≢ decimal n) → IsWrong (served x y)
+pub no_workers : (x y : List ℕ) → ((n : ℕ) → 1 ≤ n → n ≤ most_workers → y ≢ decimal n) → IsWrong (served x y)
 no_workers x y none = no_serve x y (λ a w is. none w is.some is.few (ap third is.words_are))
 
 at_least : (n : ℕ) → (n ≡ 0 → ⊥) → 1 ≤ n
 at_least zero some = absurd (some refl)
 at_least (suc n) some = omega arith
 
-pub is_serve : (x y a : List ℕ) (w : ℕ) → is_option x ≡ false → (length x ≡ 0 → ⊥) → a ≡ x → (1 ≤ w) × (w ≤ 256) × (y ≡ decimal w)
+pub is_serve : (x y a : List ℕ) (w : ℕ) → is_option x ≡ false → (length x ≡ 0 → ⊥) → a ≡ x → (1 ≤ w) × (w ≤ most_workers) × (y ≡ decimal w)
     → IsServe (served x y) a w
 is_serve x y a w plain some same c = record {
   words_are = ap₂ served (sym same) c.2;

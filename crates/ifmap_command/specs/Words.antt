@@ -5,6 +5,14 @@ use Rattle.ifmap_words.specs.Options.{is_option}
 use Rattle.ifmap_command.specs.declared.forms.Form.{Form}
 use Rattle.ifmap_command.specs.declared.forms.Form.TheVariants as form
 
+-- the most events of a drill
+abbrev pub most_events : ℕ
+most_events = 100_000
+
+-- the most workers of a server
+abbrev pub most_workers : ℕ
+most_workers = 256
+
 -- `replay`
 abbrev pub IsReplay : List (List ℕ) → Type 0
 IsReplay words = words ≡ codes "replay" ∷ []
@@ -14,7 +22,7 @@ pub record IsDrill (words : List (List ℕ)) (key count : ℕ) : Type 0 where
   pub words_are : words ≡ codes "drill" ∷ decimal key ∷ decimal count ∷ []
   pub key_fits : key < 2 ^ 64
   pub some : 1 ≤ count
-  pub few : count ≤ 100000
+  pub few : count ≤ most_events
 
 -- `serve ADDRESS WORKERS`
 pub record IsServe (words : List (List ℕ)) (address : List ℕ) (workers : ℕ) : Type 0 where
@@ -22,7 +30,7 @@ pub record IsServe (words : List (List ℕ)) (address : List ℕ) (workers : ℕ
   pub plain : is_option address ≡ false
   pub nonempty : 1 ≤ length address
   pub some : 1 ≤ workers
-  pub few : workers ≤ 256
+  pub few : workers ≤ most_workers
 
 -- none of the three
 pub record IsWrong (words : List (List ℕ)) : Type 0 where

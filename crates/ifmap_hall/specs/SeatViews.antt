@@ -37,14 +37,22 @@ module _ {E : Type 0} where
   taken_of (Waits t) = no_history
   taken_of (Holds t h) = h
 
+-- a new seat gets one in so many of the parts
+abbrev pub share_divisor : ℕ
+share_divisor = 65536
+
 -- how many parts a new seat gets
 abbrev pub share : ℕ → ℕ
-share parts = if nat_lt parts 65536 then 1 else parts / 65536
+share parts = if nat_lt parts share_divisor then 1 else parts / share_divisor
+
+-- how many parts the first seat has, which are all that there are
+abbrev pub all_parts : ℕ
+all_parts = 18446744073709551615
 
 module _ {M E R : Type 0} where
   -- the first seat, which has all parts
   abbrev pub first_seat : Terms M → SeatView M E R
-  first_seat terms = record { view = first_view terms; parts = 18446744073709551615; stage = Idle; joined = no_history }
+  first_seat terms = record { view = first_view terms; parts = all_parts; stage = Idle; joined = no_history }
 
   -- after a ticket was drawn
   abbrev pub with_ticket : SeatView M E R → ℕ → SeatView M E R
@@ -98,7 +106,7 @@ module _ {M E R : Type 0} where
   pub record IsSoundSeat (s : SeatView M E R) : Type 0 where
     pub view : IsSoundView s.view
     pub joined : Extends s.joined s.view.history
-    pub parts : s.parts < 18446744073709551616
+    pub parts : s.parts < all_parts + 1
 
   -- the seat has a part, no ticket and no slot
   pub record IsAtRest (me : Me (Option (Book M E R)) (SeatView M E R)) : Type 0 where

@@ -22,11 +22,18 @@ use std::collections::VecDeque;
 use std::snapshot::Snapshot;
 use std::sync::Wait;
 
+// A pass that is split off gets one in so many of the parts.
+const SHARE_DIVISOR: u64 = 65_536;
+
 // How many of its parts a pass gives to one that is split from it.
 fn share_of(parts: u64) -> u64
     ensures { result ≡ share parts }
 {
-    if parts < 65536 { 1 } else { parts / 65536 }
+    if parts < SHARE_DIVISOR {
+        1
+    } else {
+        parts / SHARE_DIVISOR
+    }
 }
 
 impl<M: Machine + Drop> Hall<M>

@@ -7,7 +7,11 @@ use crate::slots::{Held, held_at};
 use std::cmp::Ordering;
 
 // The place of `key` in `order`, or the place where it would stand.
-pub fn place_of<K: Ord>(slots: &[Option<Held<K>>], order: &[u32], key: &K) -> Result<usize, usize>
+pub(crate) fn place_of<K: Ord>(
+    slots: &[Option<Held<K>>],
+    order: &[u32],
+    key: &K,
+) -> Result<usize, usize>
     requires { IsKeyIndex K.cmp (slot_at slots.now) order.now }
     ensures { IsKeyPlace K.cmp (slot_at slots.now) order.now key.now result }
 {
@@ -25,7 +29,7 @@ pub fn place_of<K: Ord>(slots: &[Option<Held<K>>], order: &[u32], key: &K) -> Re
 }
 
 // Puts `number` at `place`. There is room for it.
-pub fn list_number(order: &mut Vec<u32>, place: usize, number: u32)
+pub(crate) fn list_number(order: &mut Vec<u32>, place: usize, number: u32)
     requires place { place ≤ vec_len order.old }
     requires room { vec_len order.old < vec_capacity order.old }
     ensures items { order.new.items ≡ insert order.old.items place number }
@@ -37,7 +41,11 @@ pub fn list_number(order: &mut Vec<u32>, place: usize, number: u32)
 }
 
 // Takes a live number out of the list.
-pub fn unlist_number<K: Ord>(slots: &[Option<Held<K>>], order: &mut Vec<u32>, number: u32)
+pub(crate) fn unlist_number<K: Ord>(
+    slots: &[Option<Held<K>>],
+    order: &mut Vec<u32>,
+    number: u32,
+)
     requires indexed { IsKeyIndex K.cmp (slot_at slots.now) order.old.items }
     requires live { IsSome (slot_at slots.now number) }
     ensures items { (place : ℕ) × (place < length order.old.items)

@@ -2,15 +2,15 @@
 ghost use Rattle.std.specs.Prelude.{◌≡◌, ℕ, ◌+◌, ◌-◌, ◌<◌, ◌≤◌, ◌^◌, Some, None, IsSome, length, option_copied, vec_len, vec_capacity};
 ghost use Rattle.ifmap_pool.specs.Index.{slot_at, slot_count, WritesCount, Writes, AreFree};
 
-/// A key and how often it is held.
+// A key and how often it is held.
 #[derive(Drop)]
-pub struct Held<K> {
-    pub key: K,
-    pub holds: u64,
+pub(crate) struct Held<K> {
+    pub(crate) key: K,
+    pub(crate) holds: u64,
 }
 
 // The key of a number, with its count; none where the number is free.
-pub fn find_held<K>(slots: &[Option<Held<K>>], number: u64) -> Option<&Held<K>>
+pub(crate) fn find_held<K>(slots: &[Option<Held<K>>], number: u64) -> Option<&Held<K>>
     ensures { option_copied result ≡ slot_at slots.now number }
 {
     match slots.get(number as usize) {
@@ -20,7 +20,7 @@ pub fn find_held<K>(slots: &[Option<Held<K>>], number: u64) -> Option<&Held<K>>
 }
 
 // The key of a live number, with its count.
-pub fn held_at<K>(slots: &[Option<Held<K>>], number: u32) -> &Held<K>
+pub(crate) fn held_at<K>(slots: &[Option<Held<K>>], number: u32) -> &Held<K>
     requires { IsSome (slot_at slots.now number) }
     ensures { slot_at slots.now number ≡ Some result.now }
 {
@@ -31,7 +31,7 @@ pub fn held_at<K>(slots: &[Option<Held<K>>], number: u32) -> &Held<K>
 }
 
 // Writes the count of a live number.
-pub fn set_holds<K>(slots: &mut Vec<Option<Held<K>>>, number: u32, holds: u64)
+pub(crate) fn set_holds<K>(slots: &mut Vec<Option<Held<K>>>, number: u32, holds: u64)
     requires { IsSome (slot_at slots.old.items number) }
     ensures items { WritesCount slots.old.items slots.new.items number holds }
     ensures len { vec_len slots.new ≡ vec_len slots.old }
@@ -43,7 +43,7 @@ pub fn set_holds<K>(slots: &mut Vec<Option<Held<K>>>, number: u32, holds: u64)
 }
 
 // Puts a key into an empty slot, and gives its number. There is room for it.
-pub fn fill_slot<K: Drop>(
+pub(crate) fn fill_slot<K: Drop>(
     slots: &mut Vec<Option<Held<K>>>,
     free: &mut Vec<u32>,
     held: Held<K>,
@@ -74,7 +74,11 @@ pub fn fill_slot<K: Drop>(
 }
 
 // Empties the slot of a live number, which is free then. There is room to note it.
-pub fn empty_slot<K: Drop>(slots: &mut Vec<Option<Held<K>>>, free: &mut Vec<u32>, number: u32)
+pub(crate) fn empty_slot<K: Drop>(
+    slots: &mut Vec<Option<Held<K>>>,
+    free: &mut Vec<u32>,
+    number: u32,
+)
     requires free { AreFree slots.old.items free.old.items }
     requires live { IsSome (slot_at slots.old.items number) }
     requires room { length slots.old.items ≤ vec_capacity free.old }

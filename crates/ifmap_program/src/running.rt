@@ -1,5 +1,6 @@
 //! The call that the program makes.
 ghost use Rattle.std.specs.Prelude.{◌≡◌, ◌≤◌, ℕ, List, Option, length, map, string_bytes};
+ghost use Rattle.ifmap_command.specs.Words.{most_workers};
 ghost use Rattle.ifmap_program.specs.Runs.{Runs, ServesAs, outside};
 ghost use Rattle.ifmap_server.specs.Ends.{source_and_sink};
 ghost use Rattle.ifmap_serving.specs.Works.{door_seen};
@@ -80,7 +81,7 @@ fn serve_as<R: Threads + Wait + Sync, K: Sink, D: Door + Send, G: Gate + Send, C
     stands: &mut [Stand<D, G>],
 ) -> u8
     requires some { 1 ≤ workers }
-    requires few { workers ≤ 256 }
+    requires few { workers ≤ most_workers }
     ensures { (left : Option (List ℕ)) (faults : ℕ)
         → ServesAs (C.gives setting.now.clock.now) (door_seen D.links D.faults)
         setting.now.key workers result

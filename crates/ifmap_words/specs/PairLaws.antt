@@ -1,5 +1,5 @@
 -- What becomes of words of which none is an option.
-use Rattle.std.proofs.Common.{is_some, ◌≡◌, ℕ, true, false, List, [], ◌∷◌, Option, Some, None, refl, ap, ap₂, sym, ◌∙◌}
+use Rattle.std.proofs.Common.{is_some, ◌≡◌, ℕ, true, false, List, [], ◌∷◌, codes, Option, Some, None, refl, ap, ap₂, sym, ◌∙◌}
 use Rattle.std.proofs.lemmas.Bool.{or_parts}
 use Rattle.std.specs.List.{list_any}
 use Rattle.std.specs.Str.{bytes_eq}
@@ -17,7 +17,7 @@ abbrev pub ready_walk : Held → ℕ → Walk
 ready_walk held position =
     record { held = held; waiting = idle; position = position; is_trailing = false; stopped = None }
 
-no_dashes : (word : Text) → is_option word ≡ false → bytes_eq word (45 ∷ 45 ∷ []) ≡ false
+no_dashes : (word : Text) → is_option word ≡ false → bytes_eq word (codes "--") ≡ false
 no_dashes [] plain = refl
 no_dashes (c ∷ cs) plain = rw plain refl
 
