@@ -25,7 +25,7 @@ takes_over sub sub' patch n same size marks g would =
     let mark : ℕ → Option ℕ = mark_of sub'.region.marks.entries
     in let are : AreMarks g sub.search sub.region.start sub.region.max_depth mark
     = same_marks g sub.search sub.region.start sub.region.max_depth (mark_over patch (mark_of sub.region.marks.entries)) mark
-        marks would.marks
+    marks would.marks
     in record {
       marks = subst (λ s. AreMarks g s sub'.region.start sub'.region.max_depth mark) (sym same.search)
           (subst (λ n. AreMarks g sub.search n sub'.region.max_depth mark) (sym same.start)

@@ -15,7 +15,6 @@ pub fn has_only(element: &Element, locals: &[&str]) -> bool
 {
     let attributes = &element.attributes;
     attributes
-        .0
         .iter()
         .all(|attribute| is_known(attribute, locals))
 }

@@ -49,10 +49,7 @@ pub(crate) fn has_only(kind: Kind, element: &Element) -> bool
     ensures { result ≡ has_only (allowed_attributes kind) element.now }
 {
     let attributes = &element.attributes;
-    attributes
-        .0
-        .iter()
-        .all(|attribute| is_known(kind, attribute))
+    attributes.iter().all(|attribute| is_known(kind, attribute))
 }
 
 fn is_known(kind: Kind, attribute: &Attribute) -> bool

@@ -11,9 +11,7 @@ use crate::declaration::after_declaration;
 use crate::errors::LexError;
 use crate::kinds::kind_at;
 use crate::names::{after_ascii_name, name_of};
-use crate::splitting::{
-    after_word, has_section_end, split_byte, split_white, split_word,
-};
+use crate::splitting::{after_word, has_section_end, split_byte, split_white, split_word};
 use crate::tags::tag_of;
 use crate::values::{Place, meaning, plain_meaning};
 use ifmap_elem::tokens::{Token, TokenKind};

@@ -41,11 +41,7 @@ pub(crate) fn list_number(order: &mut Vec<u32>, place: usize, number: u32)
 }
 
 // Takes a live number out of the list.
-pub(crate) fn unlist_number<K: Ord>(
-    slots: &[Option<Held<K>>],
-    order: &mut Vec<u32>,
-    number: u32,
-)
+pub(crate) fn unlist_number<K: Ord>(slots: &[Option<Held<K>>], order: &mut Vec<u32>, number: u32)
     requires indexed { IsKeyIndex K.cmp (slot_at slots.now) order.old.items }
     requires live { IsSome (slot_at slots.now number) }
     ensures items { (place : ℕ) × (place < length order.old.items)

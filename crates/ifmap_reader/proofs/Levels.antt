@@ -50,7 +50,7 @@ pub closed_nests : (f : OpenElement) (e : Element) (d : List Declared) → Close
 closed_nests f e d c =
     let h = children_deep f [] e d c in
     let t : children_nesting (map child_of (children_to_come f [])) ≡ 0 =
-      one_text (is_child (has_children f || false) (Run f.text)) f.text in
+    one_text (is_child (has_children f || false) (Run f.text)) f.text in
     omega (arith, h, t)
 
 one_child : (b : Bool) (t : List ℕ) → children_nesting (cond b (the.Text t ∷ []) []) ≡ 0

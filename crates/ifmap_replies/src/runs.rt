@@ -122,7 +122,11 @@ fn item_pieces<'a>(
         Item::Pair(first, second) => {
             let first = first.outline(alloc)?;
             let second = second.outline(alloc)?;
-            Ok(vec![in alloc; first.into_piece(), second.into_piece(), metadata.into_piece()]?)
+            Ok(vec![in alloc;
+                first.into_piece(),
+                second.into_piece(),
+                metadata.into_piece(),
+            ]?)
         }
     }
 }
