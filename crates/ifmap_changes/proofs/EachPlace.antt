@@ -3,7 +3,7 @@ use Rattle.std.proofs.Common.{◌≡◌, ℕ, suc, ◌≤◌, Bool, true, false,
 use Rattle.std.proofs.lemmas.List.Sums.{sum_by-cons}
 use Rattle.std.proofs.lemmas.Option.{same_Some}
 use Rattle.std.specs.List.{AllByRecursion, sum_by}
-use Rattle.ifmap_lemmas.specs.Places.{present}
+use Rattle.ifmap_lemmas.specs.Places.{something_at}
 use Rattle.ifmap_tellings.specs.ifmap_standing.declared.standing.Standing.{Standing}
 use Rattle.ifmap_tellings.specs.ifmap_standing.Kept.{AtEach}
 use Rattle.ifmap_tellings.specs.Tellings.{AllKept}
@@ -66,7 +66,7 @@ module _ {X : Type 0} where
 pub less_kept : (P : Standing → Type 0) (gone more : List Bool) (standing : List Standing) → length gone ≡ length standing
     → ((i : ℕ) → slice_get gone i ≡ Some true → slice_get more i ≡ Some true) → AllKept P gone standing → AllKept P more standing
 less_kept P gone more standing long stay k = λ i x at flag.
-    let b = present standing gone i x long at in k i x at (by i b.0 b.1 flag)
+    let b = something_at standing gone i x long at in k i x at (by i b.0 b.1 flag)
   where
     by : (i : ℕ) (b : Bool) → slice_get gone i ≡ Some b → slice_get more i ≡ Some false → slice_get gone i ≡ Some false
     by i true is flag = let e : Some true ≡ Some false = sym (stay i is) ∙ flag in absurd (true≢false (same_Some true false e))

@@ -8,7 +8,7 @@ use Rattle.std.proofs.lemmas.Bool.{cases_Bool}
 use Rattle.std.proofs.lemmas.Option.{same_Some, none-some}
 use Rattle.std.specs.List.{AllByRecursion, filter, list_any, zip}
 use Rattle.ifmap_lemmas.specs.Having.{Has}
-use Rattle.ifmap_lemmas.specs.Places.{present}
+use Rattle.ifmap_lemmas.specs.Places.{something_at}
 use Rattle.ifmap_tellings.specs.Tellings.{kept_of}
 
 -- ---- what stands where no flag is
@@ -36,8 +36,8 @@ pub kept_later : {X : Type 0} (P Q : X → Type 0) (gone after : List Bool) (old
     → ((i : ℕ) (x : X) → slice_get old i ≡ Some x → slice_get gone i ≡ Some false → P x)
     → (i : ℕ) (y : X) → slice_get new i ≡ Some y → slice_get after i ≡ Some false → Q y
 kept_later {X} P Q gone after old new flags long goes stays h i y here none =
-    let x = present new old i y (sym long) here
-    in let g = present old gone i x.0 flags x.1
+    let x = something_at new old i y (sym long) here
+    in let g = something_at old gone i x.0 flags x.1
     in at g.0 g.1 x.0 x.1
   where
     at : (b : Bool) → slice_get gone i ≡ Some b → (x : X) → slice_get old i ≡ Some x → Q y

@@ -16,7 +16,7 @@ use Rattle.ifmap_tellings.specs.ifmap_delta.declared.subscriptions.Subscription.
 use Rattle.ifmap_graph.specs.Held.{Held}
 use Rattle.ifmap_graph.specs.Out.{items_changed}
 use Rattle.ifmap_graph.specs.Seen.{BringsNoNumbers, IsStill, KeepsOwn, StaysLeanWithout, links_now, rows_now}
-use Rattle.ifmap_lemmas.specs.Places.{all_got, present}
+use Rattle.ifmap_lemmas.specs.Places.{all_got, something_at}
 use Rattle.ifmap_tellings.specs.ifmap_machine.State as machine
 use Rattle.ifmap_tellings.specs.ifmap_machine.State.{standing_in, standing_order}
 use Rattle.ifmap_tellings.specs.ifmap_machine.Subscribing.{most_names}
@@ -70,7 +70,7 @@ same_searches : (before old new : List Standing) → HaveSameSearches before old
 same_searches before old new p q = record {
   long = q.long ∙ sym p.long;
   at = λ i x y at now.
-      let z = present old before i x (sym p.long) at in
+      let z = something_at old before i x (sym p.long) at in
       let one = p.at i z.0 x z.1 at in
       let two = q.at i z.0 y z.1 now in
       record {
@@ -91,7 +91,7 @@ pub kept_settled : SameLinks → StaysSettled → (old new : Held) → IsSeen ol
     → (gone : List Bool) (xs ys : List Standing) → AllByRecursion (HasStartNumber new) xs → AreSettled ways xs ys
     → AllKept (λ x. IsUpToDate (sight_now old) x.subscription) gone xs → AllKept (λ x. IsUpToDate (sight_now new) x.subscription) gone ys
 kept_settled links settled old new was is rows same fewer ways gone xs ys numbered s kept = λ i y at flag.
-    let x = present ys xs i y (sym s.long) at in
+    let x = something_at ys xs i y (sym s.long) at in
     let t = s.at i x.0 y x.1 at in
     settled (sight_now new) (slice_get ways i) x.0.subscription y.subscription t.subscription
     (links (sight_now old) (sight_now new) x.0.subscription was is rows same (numbers_shared old new fewer)

@@ -10,7 +10,7 @@ ghost use Rattle.ifmap_subscribes.specs.ifmap_graph.Counted.{AreSoMany};
 ghost use Rattle.ifmap_ident.specs.declared.codes.Code.{Code};
 ghost use Rattle.ifmap_ident.specs.declared.codes.Code.TheVariants as the_code;
 ghost use Rattle.ifmap_subscribes.specs.ifmap_machine.declared.events.Answer.TheVariants as the_answer;
-ghost use Rattle.ifmap_subscribes.specs.ifmap_machine.State.{advance, opening};
+ghost use Rattle.ifmap_subscribes.specs.ifmap_machine.State.{advance, opening_state};
 ghost use Rattle.ifmap_subscribes.specs.ifmap_machine.Step.{step};
 ghost use Rattle.ifmap_subscribes.specs.ifmap_replies.declared.replies.Reply.TheVariants as the_reply;
 
@@ -67,7 +67,7 @@ impl Core {
     /// session is expired. It takes no memory.
     pub fn new(alloc: Global, ttl: u32) -> Core
         requires { 1 ≤ ttl }
-        ensures { result ≡ opening ttl }
+        ensures { result ≡ opening_state ttl }
     {
         Core {
             ttl,

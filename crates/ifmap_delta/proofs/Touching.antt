@@ -17,7 +17,7 @@ use Rattle.ifmap_ident.specs.declared.items.Item.{Item}
 use Rattle.ifmap_lemmas.specs.Having.{Has, any_has, filter_has, has_any, has_either, has_filter, has_left, has_right}
 use Rattle.ifmap_meta.specs.declared.stored.Stored.{Stored}
 use Rattle.ifmap_plans.specs.declared.plans.ItemChange.{ItemChange}
-use Rattle.ifmap_plans.specs.Lists.{next_on, put_each, without}
+use Rattle.ifmap_plans.specs.Lists.{list_without, next_on, put_each}
 use Rattle.ifmap_plans.specs.Placing.{put}
 use Rattle.ifmap_plans.specs.Plans.{changed_by}
 use Rattle.ifmap_plans.specs.laws.KeyLaws.{stored_total}
@@ -153,13 +153,14 @@ was_each (a ∷ added) xs t n h =
 
 stays_on : (removed added xs : List Stored) (t : Stored) → Aside (removed ++ added) t → Has xs t → Has (next_on removed added xs) t
 stays_on removed added xs t n h =
-    stays_each added (without removed xs) t (λ r k. n r (has_right removed added r k))
+    stays_each added (list_without removed xs) t (λ r k. n r (has_right removed added r k))
     (has_filter (λ s. not (ties removed s)) xs t h
     (ap not (any_not (λ r. tie r t) removed (λ r k. n r (has_left removed added r k)))))
 
 was_on : (removed added xs : List Stored) (t : Stored) → Aside (removed ++ added) t → Has (next_on removed added xs) t → Has xs t
 was_on removed added xs t n h =
-    (filter_has (λ s. not (ties removed s)) xs t (was_each added (without removed xs) t (λ r k. n r (has_right removed added r k)) h)).0
+    (filter_has (λ s. not (ties removed s)) xs t
+    (was_each added (list_without removed xs) t (λ r k. n r (has_right removed added r k)) h)).0
 
 narrowed : {X : Type 0} (p q : X → Bool) (xs : List X) → ((x : X) → Has xs x → p x ≡ false → q x ≡ false)
     → filter q (filter p xs) ≡ filter q xs

@@ -9,7 +9,7 @@ use Rattle.ifmap_hall.specs.Sights.{run}
 use Rattle.ifmap_dialogue.specs.ifmap_machine.Agreeing.{Agrees}
 use Rattle.ifmap_dialogue.specs.ifmap_machine.Legal.{AreFit, History, Legal, LegalFrom, state_after, state_from}
 use Rattle.ifmap_dialogue.specs.ifmap_machine.Since.{AgreesFrom}
-use Rattle.ifmap_dialogue.specs.ifmap_machine.State.{State, opening}
+use Rattle.ifmap_dialogue.specs.ifmap_machine.State.{State, opening_state}
 use Rattle.ifmap_dialogue.specs.ifmap_machine.Step.{step}
 use Rattle.ifmap_core.specs.ifmap_search.contracts.results.Entry as the_entry
 
@@ -29,10 +29,11 @@ fit_calls state (e ∷ log) =
 
 -- the law of fit histories, of histories that are known to be fit: what it says of sets is one fact
 pub agrees_calls : ((ttl : ℕ) (history : History) → Legal ttl history → AreFit history → Agrees ttl history)
-    → (ttl : ℕ) (log : Log) → Agrees ttl (calls_from (opening ttl) log)
+    → (ttl : ℕ) (log : Log) → Agrees ttl (calls_from (opening_state ttl) log)
 agrees_calls law ttl log before rest event answer id parts polls told s x found stands own =
-    ∥∥₁_elim (fit_calls (opening ttl) log) (Coded-set (coded_option (coded_list the_entry.the_row.coded)) _ _)
-    (λ fit. law ttl (calls_from (opening ttl) log) (legal_calls (opening ttl) log) fit before rest event answer id parts polls told s x
+    ∥∥₁_elim (fit_calls (opening_state ttl) log) (Coded-set (coded_option (coded_list the_entry.the_row.coded)) _ _)
+    (λ fit. law ttl (calls_from (opening_state ttl) log) (legal_calls (opening_state ttl) log) fit
+    before rest event answer id parts polls told s x
     found stands own)
 
 pub calls_append : (machine : CoreMachine) (xs ys : Log)
@@ -48,19 +49,19 @@ run_append machine (x ∷ xs) ys = run_append (core_next machine x.1) xs ys
 -- the same law from an entry on
 pub since_calls : ((ttl : ℕ) (past entries : History) → Legal ttl (past ++ entries) → AreFit (past ++ entries)
     → AgreesFrom (state_after ttl past) entries)
-    → (ttl : ℕ) (past log : Log) → AgreesFrom (run core_next (record { core = opening ttl }) past).core
-    (calls_from (run core_next (record { core = opening ttl }) past).core log)
+    → (ttl : ℕ) (past log : Log) → AgreesFrom (run core_next (record { core = opening_state ttl }) past).core
+    (calls_from (run core_next (record { core = opening_state ttl }) past).core log)
 since_calls law ttl past log first later rest e poll id x is told keeps =
-    let machine : CoreMachine = record { core = opening ttl } in
+    let machine : CoreMachine = record { core = opening_state ttl } in
     let start : State = (run core_next machine past).core in
-    let all : calls_from (opening ttl) (past ++ log) ≡ calls_from (opening ttl) past ++ calls_from start log =
+    let all : calls_from (opening_state ttl) (past ++ log) ≡ calls_from (opening_state ttl) past ++ calls_from start log =
     calls_append machine past log in
-    let legal : Legal ttl (calls_from (opening ttl) past ++ calls_from start log) =
-    subst (Legal ttl) all (legal_calls (opening ttl) (past ++ log)) in
-    let fit = subst (λ (h : History). ∥ AreFit h ∥₁) all (fit_calls (opening ttl) (past ++ log)) in
-    let agrees : AreFit (calls_from (opening ttl) past ++ calls_from start log) → AgreesFrom start (calls_from start log) =
+    let legal : Legal ttl (calls_from (opening_state ttl) past ++ calls_from start log) =
+    subst (Legal ttl) all (legal_calls (opening_state ttl) (past ++ log)) in
+    let fit = subst (λ (h : History). ∥ AreFit h ∥₁) all (fit_calls (opening_state ttl) (past ++ log)) in
+    let agrees : AreFit (calls_from (opening_state ttl) past ++ calls_from start log) → AgreesFrom start (calls_from start log) =
     λ f. subst (λ (s : State). AgreesFrom s (calls_from start log)) (sym (run_by_calls machine past))
-    (law ttl (calls_from (opening ttl) past) (calls_from start log) legal f) in
+    (law ttl (calls_from (opening_state ttl) past) (calls_from start log) legal f) in
     record {
       updated = λ u. ∥∥₁_elim fit (Coded-set (coded_option (coded_list the_entry.the_row.coded)) _ _)
           (λ f. (agrees f first later rest e poll id x is told keeps).updated u);

@@ -12,7 +12,7 @@ ghost use Rattle.ifmap_dialogue.specs.ifmap_machine.Agreeing.{Agrees};
 ghost use Rattle.ifmap_dialogue.specs.ifmap_machine.Events.{Event};
 ghost use Rattle.ifmap_dialogue.specs.ifmap_machine.Legal.{Legal, state_from};
 ghost use Rattle.ifmap_dialogue.specs.ifmap_machine.Since.{AgreesFrom};
-ghost use Rattle.ifmap_dialogue.specs.ifmap_machine.State.{State, opening};
+ghost use Rattle.ifmap_dialogue.specs.ifmap_machine.State.{State, opening_state};
 ghost use Rattle.ifmap_dialogue.specs.ifmap_machine.Step.{step};
 
 use ifmap_dialogue::{clients_fold_fresh_results, clients_fold_fresh_results_from_any_entry};
@@ -39,13 +39,13 @@ pub fn answers_fit_events()
 /// client folds of all that it was told since the opening state is, for each subscription that the
 /// session keeps, the fresh result of its search. The same can be seen from any entry of the log on.
 pub fn clients_agree_in_every_log()
-    ensures legal { (ttl : ℕ) (log : Log) → Legal ttl (calls_from (opening ttl) log) }
+    ensures legal { (ttl : ℕ) (log : Log) → Legal ttl (calls_from (opening_state ttl) log) }
     ensures state { (machine : CoreMachine) (log : Log)
         → (run core_next machine log).core ≡ state_from machine.core (calls_from machine.core log) }
-    ensures agrees { (ttl : ℕ) (log : Log) → Agrees ttl (calls_from (opening ttl) log) }
+    ensures agrees { (ttl : ℕ) (log : Log) → Agrees ttl (calls_from (opening_state ttl) log) }
     ensures since { (ttl : ℕ) (past log : Log)
-        → AgreesFrom (run core_next (record { core = opening ttl }) past).core
-        (calls_from (run core_next (record { core = opening ttl }) past).core log) }
+        → AgreesFrom (run core_next (record { core = opening_state ttl }) past).core
+        (calls_from (run core_next (record { core = opening_state ttl }) past).core log) }
 {
     clients_fold_fresh_results();
     clients_fold_fresh_results_from_any_entry();

@@ -2,7 +2,7 @@
 ghost use Rattle.std.specs.Prelude.{◌≡◌, ◌<◌, MatchResult};
 ghost use Rattle.ifmap_dialogue.specs.Desks.{weight};
 ghost use Rattle.ifmap_desks.specs.Holding.{would_hold};
-ghost use Rattle.ifmap_dialogue.specs.ifmap_machine.State.{State, opening};
+ghost use Rattle.ifmap_dialogue.specs.ifmap_machine.State.{State, opening_state};
 ghost use Rattle.ifmap_dialogue.specs.ifmap_machine.Step.{step};
 
 use crate::events::FitEvent;
@@ -35,7 +35,7 @@ impl Machine for CoreMachine {
 
     ghost reply = { λ machine event. (step machine.core event.event).1 };
 
-    ghost some_state = { record { core = opening 1 } };
+    ghost some_state = { record { core = opening_state 1 } };
 
     fn weight(&self, event: &FitEvent) -> u64 {
         1000 + 8 * u64::from(event.event.bytes)

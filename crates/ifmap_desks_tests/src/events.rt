@@ -2,7 +2,7 @@
 ghost use Rattle.std.specs.Prelude.{◌≡◌, IfOk};
 ghost use Rattle.ifmap_dialogue.specs.ifmap_machine.Events.{IsFitAsk};
 ghost use Rattle.ifmap_requests.specs.Fit.{IsFitRequest};
-ghost use Rattle.ifmap_dialogue.specs.ifmap_machine.State.{opening};
+ghost use Rattle.ifmap_dialogue.specs.ifmap_machine.State.{opening_state};
 
 use ifmap_desks::{Core, CoreMachine};
 use ifmap_dialogue::{Answer, Ask, Event};
@@ -35,7 +35,7 @@ pub(crate) const SECOND_SEARCH: &str =
 
 // A machine that begins with no session.
 pub(crate) fn machine(alloc: Global) -> CoreMachine
-    ensures { result ≡ record { core = opening 180 } }
+    ensures { result ≡ record { core = opening_state 180 } }
 {
     CoreMachine {
         core: Core::new(alloc, 180),

@@ -18,7 +18,7 @@ use Rattle.ifmap_dialogue.specs.declared.findings.Finding.{Finding}
 use Rattle.ifmap_dialogue.specs.declared.findings.Finding.TheVariants as finding
 use Rattle.ifmap_dialogue.specs.declared.polls.Poll.{Poll}
 use Rattle.ifmap_dialogue.specs.Desks.{DeskSeen, DeskTakesTurns, Turn, heaviest, outcome_of, weight}
-use Rattle.ifmap_dialogue.specs.Findings.{OwnRequest, IsFindingOf, FindsPost, FindsQuestion, FindsRequest, Posting, finding_of, own_request, posting, refusal_reply}
+use Rattle.ifmap_dialogue.specs.Findings.{OwnRequest, IsFindingOf, FindsPost, FindsQuestion, FindsRequest, Posting, finding_of, own_request, posting_of, refusal_reply}
 use Rattle.ifmap_dialogue.specs.Scenes.{HasFitPoll}
 use Rattle.ifmap_dialogue.specs.Turns.{IsFirstPoll, Question, event_of_question, lost_event, question_of}
 use Rattle.ifmap_dialogue.specs.Words.{after_random, random_word}
@@ -34,7 +34,7 @@ module _ {H : Type 0} (gives : ℕ → Type 0) (before after : DeskSeen H) where
   as_request a random found f word drawn = record {
     turns = f.turns;
     tells = f.tells;
-    finds = λ body short means. f.finds (posting a body)
+    finds = λ body short means. f.finds (posting_of a body)
         (record { client = refl; bytes = short; means = means; random = word; drawn = drawn });
   }
 
@@ -48,7 +48,7 @@ module _ {H : Type 0} (gives : ℕ → Type 0) (before after : DeskSeen H) where
 
   -- what comes of a request comes of a post that means it
   pub as_post : (a : OwnRequest) (body : List ℕ) (found : Finding) → FindsRequest gives before after a found → a.bytes ≡ length body
-      → Means body (Ok a.request) → FindsPost gives before after (posting a body) found
+      → Means body (Ok a.request) → FindsPost gives before after (posting_of a body) found
   as_post a body found f short means = record { turns = f.turns; tells = f.tells; finds = f.finds body short means }
 
   -- a post for which nothing is asked

@@ -103,14 +103,14 @@ own_request client bytes request words after =
     record { client = client; bytes = bytes; request = request; words = words; after = after }
 
 -- a body that means the request, as it is posted
-abbrev pub posting : OwnRequest → List ℕ → Posting
-posting a body = record { client = a.client; body = body; words = a.words; after = a.after }
+abbrev pub posting_of : OwnRequest → List ℕ → Posting
+posting_of a body = record { client = a.client; body = body; words = a.words; after = a.after }
 
 -- what comes of a request by turns at a desk, whatever body means it
 pub record FindsRequest {H : Type 0} (gives : ℕ → Type 0) (before after : DeskSeen H) (a : OwnRequest) (found : Finding) : Type 0 where
   pub turns : List Turn
   pub tells : DeskTakesTurns before after turns
-  pub finds : (body : List ℕ) → a.bytes ≡ length body → Means body (Ok a.request) → IsFindingOf gives (posting a body) turns found
+  pub finds : (body : List ℕ) → a.bytes ≡ length body → Means body (Ok a.request) → IsFindingOf gives (posting_of a body) turns found
 
 -- what comes of a post by turns at a desk
 pub record FindsPost {H : Type 0} (gives : ℕ → Type 0) (before after : DeskSeen H) (p : Posting) (found : Finding) : Type 0 where

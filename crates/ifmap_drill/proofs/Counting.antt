@@ -10,14 +10,14 @@ use Rattle.ifmap_core.specs.ifmap_machine.State.{State}
 use Rattle.ifmap_core.specs.ifmap_machine.Step.{step}
 use Rattle.ifmap_drill.specs.declared.counts.Counts.{Counts}
 use Rattle.ifmap_drill.specs.declared.drills.Drill.{Drill}
-use Rattle.ifmap_drill.specs.Counts.{capped_sum, counted_as, counts_of, counts_sum, total}
+use Rattle.ifmap_drill.specs.Counts.{capped_sum, counted_as, counts_of, counts_sum, total_of}
 use Rattle.ifmap_drill.specs.Drills.{Drilling, after_answer, after_event, asked_at, ids_after}
 use Rattle.ifmap_drill.specs.Events.{event_at}
 use Rattle.ifmap_drill.specs.Requests.{request_at}
 use Rattle.ifmap_drill.specs.Following.{drill_of}
 
 total_more : (number : Counts → ℕ) (history : History) (event : Event) (answer : Answer)
-    → total number (history ++ (event, answer) ∷ []) ≡ capped_sum (total number history) (number (counted_as event.ask answer))
+    → total_of number (history ++ (event, answer) ∷ []) ≡ capped_sum (total_of number history) (number (counted_as event.ask answer))
 total_more number history event answer =
     let more = sum_by_push (λ (e : Event × Answer). number (counted_as e.0.ask e.1)) history (event, answer) in omega arith
 

@@ -11,7 +11,7 @@ use Rattle.ifmap_core.specs.ifmap_machine.declared.events.Ask.TheVariants.{Reque
 use Rattle.ifmap_core.specs.ifmap_machine.Ending.{expire}
 use Rattle.ifmap_core.specs.ifmap_machine.Events.{Event, IsFitEvent}
 use Rattle.ifmap_core.specs.ifmap_machine.Legal.{AreFit, History, Legal, LegalFrom, state_after, state_from}
-use Rattle.ifmap_core.specs.ifmap_machine.State.{State, advance, opening, session_seconds}
+use Rattle.ifmap_core.specs.ifmap_machine.State.{State, advance, opening_state, session_seconds}
 use Rattle.ifmap_core.specs.ifmap_machine.Step.{is_full, new_session, step, step_ask}
 use Rattle.ifmap_meta.specs.Whole.{IsMetadata}
 use Rattle.ifmap_requests.specs.declared.requests.Request.TheVariants.{NewSession}
@@ -105,7 +105,7 @@ module _ (macs : AddressesAreIdentifiers) (metadata : IsMetadata link_metadata) 
   next_sound : (i : ℕ) (d : Drilling) → AllByRecursion IsCharacters d.ids → IsSound d → IsSound (after_event i d)
   next_sound i d ids sound =
       let event = event_at i (asked_at i d).0 in
-      let start = opening session_seconds in record {
+      let start = opening_state session_seconds in record {
         legal = subst (λ (s : State). LegalFrom start (d.history ++ (event, (step s event).1) ∷ [])) (sym sound.state)
             (legal_more start d.history event sound.legal);
         state = ap (λ (s : State). (step s event).0) sound.state

@@ -63,21 +63,21 @@ counted_as ask Held = record (asked_by ask) { held = 1 }
 counted_as ask Heard = asked_by ask
 
 -- a number of all events of a history together; a count stands still at the greatest of its type
-abbrev pub total : (Counts → ℕ) → History → ℕ
-total number history = min (sum_by (λ (e : Event × Answer). number (counted_as e.0.ask e.1)) history) (2 ^ 64 - 1)
+abbrev pub total_of : (Counts → ℕ) → History → ℕ
+total_of number history = min (sum_by (λ (e : Event × Answer). number (counted_as e.0.ask e.1)) history) (2 ^ 64 - 1)
 
 -- what the events of a history count as together, with so many links
 abbrev pub counts_of : History → ℕ → Counts
 counts_of history links = record {
-  events = total (λ c. c.events) history;
-  sessions = total (λ c. c.sessions) history;
-  subscribes = total (λ c. c.subscribes) history;
-  publishes = total (λ c. c.publishes) history;
-  searches = total (λ c. c.searches) history;
-  polls = total (λ c. c.polls) history;
-  renewals = total (λ c. c.renewals) history;
-  held = total (λ c. c.held) history;
-  told = total (λ c. c.told) history;
+  events = total_of (λ c. c.events) history;
+  sessions = total_of (λ c. c.sessions) history;
+  subscribes = total_of (λ c. c.subscribes) history;
+  publishes = total_of (λ c. c.publishes) history;
+  searches = total_of (λ c. c.searches) history;
+  polls = total_of (λ c. c.polls) history;
+  renewals = total_of (λ c. c.renewals) history;
+  held = total_of (λ c. c.held) history;
+  told = total_of (λ c. c.told) history;
   links = links;
 }
 

@@ -7,7 +7,7 @@ use Rattle.ifmap_core.specs.ifmap_machine.declared.events.Answer.{Answer}
 use Rattle.ifmap_core.specs.ifmap_machine.declared.events.Answer.TheVariants.{Reply, Held, Heard}
 use Rattle.ifmap_core.specs.ifmap_machine.Events.{Event}
 use Rattle.ifmap_core.specs.ifmap_machine.Legal.{History}
-use Rattle.ifmap_core.specs.ifmap_machine.State.{State, opening, session_seconds}
+use Rattle.ifmap_core.specs.ifmap_machine.State.{State, opening_state, session_seconds}
 use Rattle.ifmap_core.specs.ifmap_machine.Step.{step}
 use Rattle.ifmap_core.specs.ifmap_replies.declared.replies.Reply.TheVariants as the_reply
 use Rattle.ifmap_requests.specs.declared.requests.Request.{Request}
@@ -25,7 +25,7 @@ pub record Drilling : Type 0 where
 abbrev pub drill_beginning : ℕ → Drilling
 drill_beginning key = record {
   history = [];
-  state = opening session_seconds;
+  state = opening_state session_seconds;
   ids = [];
   draws = pcg64_of_seed (pcg32_seed 32 key);
 }

@@ -61,12 +61,12 @@ pub record SpellsEnvelope (levels : ℕ) (bytes : List ℕ) (reading : Reading) 
 -- ---- how an envelope is made
 
 -- an element of this name that holds one other and nothing else
-abbrev pub around : Name → Element → Element
-around name inner = record { name = name; attributes = []; children = the.Element inner ∷ [] }
+abbrev pub element_around : Name → Element → Element
+element_around name inner = record { name = name; attributes = []; children = the.Element inner ∷ [] }
 
 -- the envelope of an element
 abbrev pub in_envelope : Element → Element
-in_envelope inner = around (envelope_name (codes "Envelope")) (around (envelope_name (codes "Body")) inner)
+in_envelope inner = element_around (envelope_name (codes "Envelope")) (element_around (envelope_name (codes "Body")) inner)
 
 -- ---- how an envelope is found
 

@@ -65,7 +65,7 @@ impl RowList {
         ensures { result ≡ [] }
     {
         RowList {
-            rows: SharedRows::none(),
+            rows: SharedRows::no_rows(),
             spare: None,
         }
     }

@@ -32,7 +32,7 @@ impl Model for SharedRows {
 
 impl SharedRows {
     /// No rows. It takes no memory.
-    pub fn none() -> SharedRows
+    pub fn no_rows() -> SharedRows
         ensures { result ≡ [] }
     {
         SharedRows(None)

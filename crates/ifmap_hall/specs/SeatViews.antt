@@ -1,5 +1,5 @@
 -- What a seat knows, and how each step changes it.
-use Rattle.std.specs.Prelude.{◌≡◌, ℕ, Bool, ◌+◌, ◌-◌, ◌/◌, ◌<◌, [], ◌++◌, length, drop, map, true, false, Option, nat_lt, if◌then◌else◌}
+use Rattle.std.specs.Prelude.{◌≡◌, ℕ, Bool, ◌+◌, ◌-◌, ◌/◌, ◌<◌, ◌≤◌, [], ◌++◌, length, drop, map, true, false, Option, nat_lt, if◌then◌else◌}
 use Rattle.atomic_table.specs.Table.{Me}
 use Rattle.ifmap_hall.specs.Histories.{no_history, history_in, Extends}
 use Rattle.ifmap_hall.specs.Sights.{run}
@@ -106,7 +106,7 @@ module _ {M E R : Type 0} where
   pub record IsSoundSeat (s : SeatView M E R) : Type 0 where
     pub view : IsSoundView s.view
     pub joined : Extends s.joined s.view.history
-    pub parts : s.parts < all_parts + 1
+    pub parts : s.parts ≤ all_parts
 
   -- the seat has a part, no ticket and no slot
   pub record IsAtRest (me : Me (Option (Book M E R)) (SeatView M E R)) : Type 0 where

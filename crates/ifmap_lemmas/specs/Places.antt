@@ -22,12 +22,12 @@ last_there [] x = refl
 last_there (y ∷ xs) x = last_there xs x
 
 -- a list as long as another has something at each place of that one
-pub present : {X Y : Type 0} (xs : List X) (ys : List Y) (i : ℕ) (x : X) → length ys ≡ length xs → slice_get xs i ≡ Some x
+pub something_at : {X Y : Type 0} (xs : List X) (ys : List Y) (i : ℕ) (x : X) → length ys ≡ length xs → slice_get xs i ≡ Some x
     → (y : Y) × (slice_get ys i ≡ Some y)
-present [] ys i x long e = absurd (none-some x e)
-present (a ∷ xs) [] i x long e = absurd (omega (arith, long))
-present (a ∷ xs) (b ∷ ys) zero x long e = (b, refl)
-present (a ∷ xs) (b ∷ ys) (suc i) x long e = present xs ys i x (omega (arith, long)) e
+something_at [] ys i x long e = absurd (none-some x e)
+something_at (a ∷ xs) [] i x long e = absurd (omega (arith, long))
+something_at (a ∷ xs) (b ∷ ys) zero x long e = (b, refl)
+something_at (a ∷ xs) (b ∷ ys) (suc i) x long e = something_at xs ys i x (omega (arith, long)) e
 
 -- what holds of each member holds of the one at a place
 pub all_got : {X : Type 0} (P : X → Type 0) (xs : List X) (i : ℕ) (x : X) → AllByRecursion P xs → slice_get xs i ≡ Some x → P x

@@ -23,7 +23,7 @@ use Rattle.ifmap_machine.specs.Ending.{drop_sessions, end_former, end_some, expi
 use Rattle.ifmap_machine.specs.Events.{Event, IsFitAsk, IsFitEvent}
 use Rattle.ifmap_machine.specs.Legal.{AreFit, History, Legal, LegalFrom, state_after, state_from}
 use Rattle.ifmap_machine.specs.Since.{AgreesFrom, FoldsSince, IsToldPoll, KeepsSubscription, Updates}
-use Rattle.ifmap_machine.specs.State.{Standing, State, advance, opening}
+use Rattle.ifmap_machine.specs.State.{Standing, State, advance, opening_state}
 use Rattle.ifmap_machine.specs.Step.{answer_subscribed, author_in, end_session, in_session, is_full, poll, poll_in, poll_queue, publish}
 use Rattle.ifmap_machine.specs.Step.{purge, renew, renew_first, renew_session, search, step, step_ask, subscribe, with_told}
 use Rattle.ifmap_machine.specs.Subscribing.{Told, subscribe_ops}
@@ -339,7 +339,7 @@ module _ (Good : List Attachment → Type 0) (good_none : Good []) (good_retract
         };
       }
 
-  opening_holds : {Live : Standing → Type 0} (ttl : ℕ) (done : List ℕ → Sets) → Holds Live done (opening ttl)
+  opening_holds : {Live : Standing → Type 0} (ttl : ℕ) (done : List ℕ → Sets) → Holds Live done (opening_state ttl)
   opening_holds ttl done = record {
     tabled = opening_table ttl;
     stood = stood_none;
@@ -401,16 +401,16 @@ module _ (Good : List Attachment → Type 0) (good_none : Good []) (good_retract
       → AreFit (before ++ ((event, answer) ∷ [])) → event.ask ≡ Request (the_request.Poll id) → IsToldOrHeld answer
       → AgreesAfter ttl (before ++ ((event, answer) ∷ [])) id
   after_one ttl before event answer id legal fit asked told s x found hx same =
-      polled_folds {Live = λ (y : Standing). Unit {0}} (λ _. no_sets) (opening ttl) before (event, answer) id
+      polled_folds {Live = λ (y : Standing). Unit {0}} (λ _. no_sets) (opening_state ttl) before (event, answer) id
       (opening_holds ttl (λ _. no_sets)) legal fit (asked, told) s x found hx same tt
 
   pub histories_agree : (ttl : ℕ) (history : History) → Legal ttl history → AreFit history → Agrees ttl history
   histories_agree ttl history legal fit before rest event answer id is asked told =
-      let all_legal : LegalFrom (opening ttl) (before ++ ((event, answer) ∷ rest)) = subst (λ h. Legal ttl h) is legal in
+      let all_legal : LegalFrom (opening_state ttl) (before ++ ((event, answer) ∷ rest)) = subst (λ h. Legal ttl h) is legal in
       let all_fit : AreFit (before ++ ((event, answer) ∷ rest)) = subst AreFit is fit in
-      let parts = legal_before (opening ttl) before ((event, answer) ∷ rest) all_legal in
+      let parts = legal_before (opening_state ttl) before ((event, answer) ∷ rest) all_legal in
       let fits = fit_before before ((event, answer) ∷ rest) all_fit in
-      after_one ttl before event answer id (legal_joined (opening ttl) before ((event, answer) ∷ []) parts.0 (parts.1.0, tt))
+      after_one ttl before event answer id (legal_joined (opening_state ttl) before ((event, answer) ∷ []) parts.0 (parts.1.0, tt))
       (fit_joined before ((event, answer) ∷ []) fits.0 (fits.1.0, tt)) asked told
 
   -- ---- from some entry on
@@ -583,9 +583,9 @@ module _ (Good : List Attachment → Type 0) (good_none : Good []) (good_retract
       → AgreesFrom (state_after ttl past) entries
   entries_agree ttl past entries legal fit first later rest e poll id x is told keeps =
       let start : State = state_after ttl past in
-      let parts = legal_before (opening ttl) past entries legal in
+      let parts = legal_before (opening_state ttl) past entries legal in
       let fits = fit_before past entries fit in
-      let holds = history_holds past (λ _. no_sets) (opening ttl) parts.0 fits.0
+      let holds = history_holds past (λ _. no_sets) (opening_state ttl) parts.0 fits.0
       (opening_holds {Live = λ (y : Standing). ⊥} ttl (λ _. no_sets)) in
       let legal_all : LegalFrom start (first ++ e ∷ (later ++ poll ∷ rest)) = subst (LegalFrom start) is parts.1 in
       let fit_all : AreFit (first ++ e ∷ (later ++ poll ∷ rest)) = subst AreFit is fits.1 in

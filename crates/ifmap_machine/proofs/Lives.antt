@@ -14,7 +14,7 @@ use Rattle.ifmap_machine.specs.Ending.{drop_sessions, end_former, end_sessions, 
 use Rattle.ifmap_machine.specs.Events.{Event}
 use Rattle.ifmap_machine.specs.Legal.{History, state_from}
 use Rattle.ifmap_machine.specs.Lives.{AllLive, IsLifeFor}
-use Rattle.ifmap_machine.specs.State.{State, advance, opening}
+use Rattle.ifmap_machine.specs.State.{State, advance, opening_state}
 use Rattle.ifmap_machine.specs.Step.{answer_subscribed, author_in, begin_session, next_session, renew, step, step_ask, with_told}
 use Rattle.ifmap_machine.specs.Subscribing.{Told}
 use Rattle.ifmap_machine.specs.Telling.{overflow, overflow_session, tell}
@@ -225,5 +225,5 @@ from_lives state [] tabled w = w
 from_lives state (e ∷ history) tabled w =
     from_lives (step state e.0).0 history (event_table state e.0 tabled) (event_lives state e.0 tabled w)
 
-pub lives_after : (ttl : ℕ) (history : History) → AllLive (state_from (opening ttl) history)
-lives_after ttl history = from_lives (opening ttl) history (opening_table ttl) tt
+pub lives_after : (ttl : ℕ) (history : History) → AllLive (state_from (opening_state ttl) history)
+lives_after ttl history = from_lives (opening_state ttl) history (opening_table ttl) tt

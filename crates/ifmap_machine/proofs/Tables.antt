@@ -15,7 +15,7 @@ use Rattle.ifmap_machine.specs.declared.events.Ask.{Ask}
 use Rattle.ifmap_machine.specs.Ending.{drop_sessions, end_former, end_sessions, end_some, expire}
 use Rattle.ifmap_machine.specs.Events.{Event}
 use Rattle.ifmap_machine.specs.Legal.{History, state_from}
-use Rattle.ifmap_machine.specs.State.{State, advance, opening}
+use Rattle.ifmap_machine.specs.State.{State, advance, opening_state}
 use Rattle.ifmap_machine.specs.Step.{answer_subscribed, begin_session, is_full, next_session, renew, step, step_ask, with_told}
 use Rattle.ifmap_machine.specs.Subscribing.{Told}
 use Rattle.ifmap_machine.specs.Telling.{is_overfull, overflow, overflow_session, tell, tell_session, told_in_session}
@@ -207,7 +207,7 @@ pub event_table : (state : State) (event : Event) → IsTabled state → IsTable
 event_table state event w = step_table (expire (advance event.moment state)) event event.ask
     (expired_table (advance event.moment state) w)
 
-pub opening_table : (ttl : ℕ) → IsTabled (opening ttl)
+pub opening_table : (ttl : ℕ) → IsTabled (opening_state ttl)
 unfolding IsStrictlySortedBy IsDistinct
 opening_table ttl = record { rising = tt; counted = tt; small = omega arith; ids = tt; apart = tt; few = omega arith }
 

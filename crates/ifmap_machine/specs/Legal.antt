@@ -3,7 +3,7 @@ use Rattle.std.specs.Prelude.{◌≡◌, ℕ, List, [], ◌∷◌, map}
 use Rattle.std.specs.List.{AllByRecursion}
 use Rattle.ifmap_machine.specs.declared.events.Answer.{Answer}
 use Rattle.ifmap_machine.specs.Events.{Event, IsFitEvent}
-use Rattle.ifmap_machine.specs.State.{State, opening}
+use Rattle.ifmap_machine.specs.State.{State, opening_state}
 use Rattle.ifmap_machine.specs.Step.{step}
 use Rattle.ifmap_session.specs.Sessions.{Session}
 
@@ -18,7 +18,7 @@ LegalFrom state (e ∷ history) = (e.1 ≡ (step state e.0).1) × LegalFrom (ste
 
 -- the same, from the opening state
 abbrev pub Legal : ℕ → History → Type 0
-Legal ttl history = LegalFrom (opening ttl) history
+Legal ttl history = LegalFrom (opening_state ttl) history
 
 -- each event is fit
 abbrev pub AreFit : History → Type 0
@@ -30,7 +30,7 @@ state_from state [] = state
 state_from state (e ∷ history) = state_from (step state e.0).0 history
 
 abbrev pub state_after : ℕ → History → State
-state_after ttl history = state_from (opening ttl) history
+state_after ttl history = state_from (opening_state ttl) history
 
 -- the clients of the live sessions, in the order of the sessions
 abbrev pub live_clients : State → List (List ℕ)

@@ -32,8 +32,8 @@ abbrev pub session_seconds : ℕ
 session_seconds = 180
 
 -- the state at the start
-abbrev pub opening : ℕ → State
-opening ttl = record { moment = 0; ttl = ttl; counter = 0; graph = []; sessions = []; standing = [] }
+abbrev pub opening_state : ℕ → State
+opening_state ttl = record { moment = 0; ttl = ttl; counter = 0; graph = []; sessions = []; standing = [] }
 
 -- the state at that moment, or at its own where that is later
 abbrev pub advance : ℕ → State → State

@@ -7,7 +7,7 @@ ghost use Rattle.ifmap_machine.specs.FitAnswers.{AreFitAnswers, AreReadBack, IsF
 ghost use Rattle.ifmap_machine.specs.Legal.{AreFit, History, Legal, live_clients, state_after};
 ghost use Rattle.ifmap_machine.specs.Lives.{AllLive};
 ghost use Rattle.ifmap_machine.specs.Since.{AgreesFrom};
-ghost use Rattle.ifmap_machine.specs.State.{State, opening, standing_in, standing_order};
+ghost use Rattle.ifmap_machine.specs.State.{State, opening_state, standing_in, standing_order};
 ghost use Rattle.ifmap_machine.specs.Step.{step};
 ghost use Rattle.ifmap_machine.specs.Subscribing.{most_names};
 ghost use Rattle.ifmap_folds.specs.ifmap_plans.Plans.{AreWhole};
@@ -93,7 +93,7 @@ pub fn replies_are_fit()
         AreReadBack history }
     ensures step { (state : State) (event : Event) → IsFitEvent event → IsFitState state →
         IsFitStep (step state event) }
-    ensures opening { (ttl : ℕ) → IsFitState (opening ttl) }
+    ensures opening { (ttl : ℕ) → IsFitState (opening_state ttl) }
 {
     publishing_keeps_graphs();
     retracting_keeps_graphs();

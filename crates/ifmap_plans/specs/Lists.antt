@@ -17,8 +17,8 @@ pub record IsList (list : List Stored) : Type 0 where
   pub keys : IsDistinct same_key list
 
 -- without what has the canonical bytes of one of these
-abbrev pub without : List Stored → List Stored → List Stored
-without removed list = filter (λ s. not (list_any (λ r. eq_by_cmp stored_order r s) removed)) list
+abbrev pub list_without : List Stored → List Stored → List Stored
+list_without removed list = filter (λ s. not (list_any (λ r. eq_by_cmp stored_order r s) removed)) list
 
 -- with each of these in its place, one after the other
 abbrev pub put_each : List Stored → List Stored → List Stored
@@ -27,7 +27,7 @@ put_each (a ∷ added) list = put_each added (put stored_order a list)
 
 -- what is stored on an item after a change of it
 abbrev pub next_on : List Stored → List Stored → List Stored → List Stored
-next_on removed added list = put_each added (without removed list)
+next_on removed added list = put_each added (list_without removed list)
 
 -- one lifetime
 abbrev pub same_life : Life → Life → Bool

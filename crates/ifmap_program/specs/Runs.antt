@@ -26,8 +26,8 @@ pub record Outside (D G : Type 0) : Type 0 where
   pub ends : SourceAndSink
   pub stands : List (Stand D G)
 
-abbrev pub outside : {D G : Type 0} → SourceAndSink → List (Stand D G) → Outside D G
-outside ends stands = record { ends = ends; stands = stands }
+abbrev pub outside_seen : {D G : Type 0} → SourceAndSink → List (Stand D G) → Outside D G
+outside_seen ends stands = record { ends = ends; stands = stands }
 
 module _ {D G : Type 0} where
   -- the stands were left alone

@@ -1,7 +1,7 @@
 //! The call that the program makes.
 ghost use Rattle.std.specs.Prelude.{◌≡◌, ◌≤◌, ℕ, List, Option, length, map, string_bytes};
 ghost use Rattle.ifmap_command.specs.Words.{most_workers};
-ghost use Rattle.ifmap_program.specs.Runs.{Runs, ServesAs, outside};
+ghost use Rattle.ifmap_program.specs.Runs.{Runs, ServesAs, outside_seen};
 ghost use Rattle.ifmap_server.specs.Ends.{source_and_sink};
 ghost use Rattle.ifmap_serving.specs.Works.{door_seen};
 
@@ -56,9 +56,9 @@ pub fn run<
 ) -> u8
     ensures { Runs (C.gives setting.now.clock.now) (door_seen D.links D.faults) setting.now.key
         (map string_bytes words.now) result
-        (outside (source_and_sink (S.left source.old) (S.faults source.old) (K.held sink.old)
+        (outside_seen (source_and_sink (S.left source.old) (S.faults source.old) (K.held sink.old)
         (K.faults sink.old)) stands.old)
-        (outside (source_and_sink (S.left source.new) (S.faults source.new) (K.held sink.new)
+        (outside_seen (source_and_sink (S.left source.new) (S.faults source.new) (K.held sink.new)
         (K.faults sink.new)) stands.new) }
 {
     match form_of(setting.alloc, words) {
@@ -85,8 +85,10 @@ fn serve_as<R: Threads + Wait + Sync, K: Sink, D: Door + Send, G: Gate + Send, C
     ensures { (left : Option (List ℕ)) (faults : ℕ)
         → ServesAs (C.gives setting.now.clock.now) (door_seen D.links D.faults)
         setting.now.key workers result
-        (outside (source_and_sink left faults (K.held sink.old) (K.faults sink.old)) stands.old)
-        (outside (source_and_sink left faults (K.held sink.new) (K.faults sink.new)) stands.new) }
+        (outside_seen (source_and_sink left faults (K.held sink.old) (K.faults sink.old))
+        stands.old)
+        (outside_seen (source_and_sink left faults (K.held sink.new) (K.faults sink.new))
+        stands.new) }
 {
     if stands.len() != workers as usize {
         return tell_usage(sink);

@@ -30,7 +30,7 @@ use Rattle.ifmap_view.specs.declared.attachments.Attachment.{Attachment}
 use Rattle.ifmap_view.specs.Attachments.{IsGraph, stored_order}
 use Rattle.ifmap_view.specs.Rows.{stored_on}
 use Rattle.ifmap_publish.specs.declared.edits.Edit.{Edit}
-use Rattle.ifmap_publish.specs.Working.{AreEdits, IsEntry, IsRising, IsSound, change_by, change_to, changes_by, changes_to, edit_or, kept_change, list_by, working}
+use Rattle.ifmap_publish.specs.Working.{AreEdits, IsEntry, IsRising, IsSound, change_by, change_to, changes_by, changes_to, edit_or, kept_change, list_by, working_rows}
 use Rattle.ifmap_publish.proofs.Differing.{differences_make}
 use Rattle.ifmap_publish.proofs.Editing.{added_is, nothing_moved, put_sound, removed_is, taken_rises}
 use Rattle.ifmap_publish.proofs.Entries.{stored_alike}
@@ -318,12 +318,12 @@ module _ (rows : List Attachment) where
 
   -- each item is found with its list
   listed_found : (x : Item) (es : List (Item × Edit))
-      → standing rows (λ q. lookup (is_at (item_order q)) (listed es)) x ≡ working rows (λ q. lookup (is_at (item_order q)) es) x
+      → standing rows (λ q. lookup (is_at (item_order q)) (listed es)) x ≡ working_rows rows (λ q. lookup (is_at (item_order q)) es) x
   listed_found x [] = sym (nothing_moved (stored_on x rows))
   listed_found x (e ∷ es) = by (is_at (item_order x) e.0) refl (listed_found x es)
     where
       by : (b : Bool) → is_at (item_order x) e.0 ≡ b
-          → standing rows (λ q. lookup (is_at (item_order q)) (listed es)) x ≡ working rows (λ q. lookup (is_at (item_order q)) es) x
+          → standing rows (λ q. lookup (is_at (item_order q)) (listed es)) x ≡ working_rows rows (λ q. lookup (is_at (item_order q)) es) x
           → list_or (cond b (Some (list_by e.1 (stored_on e.0 rows))) (lookup (is_at (item_order x)) (listed es))) (stored_on x rows)
           ≡ list_by (edit_or (cond b (Some e.1) (lookup (is_at (item_order x)) es))) (stored_on x rows)
       by true is rest =
@@ -331,7 +331,7 @@ module _ (rows : List Attachment) where
       by false is rest = rest
 
   listed_applied : (after : List Attachment) (es : List (Item × Edit))
-      → ((x : Item) → working rows (λ q. lookup (is_at (item_order q)) es) x ≡ stored_on x after)
+      → ((x : Item) → working_rows rows (λ q. lookup (is_at (item_order q)) es) x ≡ stored_on x after)
       → (x : Item) → standing rows (λ q. lookup (is_at (item_order q)) (listed es)) x ≡ stored_on x after
   listed_applied after es applied x = listed_found x es ∙ applied x
 
@@ -376,7 +376,7 @@ module _ (rows : List Attachment) where
       edits_are_changes = subst (AllByRecursion IsChange) (sym changes_are) (are_changes rows (listed es))
 
       module _ (after : List Attachment)
-          (applied : (x : Item) → working rows (λ q. lookup (is_at (item_order q)) es) x ≡ stored_on x after) where
+          (applied : (x : Item) → working_rows rows (λ q. lookup (is_at (item_order q)) es) x ≡ stored_on x after) where
         pub edits_lead : IsAfter changes rows after
         edits_lead =
             subst (λ told. IsAfter told rows after) (sym changes_are)

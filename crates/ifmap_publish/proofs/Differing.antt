@@ -10,7 +10,7 @@ use Rattle.ifmap_lemmas.specs.Filters.{all_filter, all_weaker, filter_alike, fil
 use Rattle.ifmap_lemmas.specs.Orderings.{less_turned}
 use Rattle.ifmap_meta.specs.declared.stored.Stored.{Stored}
 use Rattle.ifmap_meta.specs.Whole.{IsWhole}
-use Rattle.ifmap_rows.specs.ifmap_plans.Lists.{stored_difference, next_on, put_each, same_stored, without}
+use Rattle.ifmap_rows.specs.ifmap_plans.Lists.{stored_difference, next_on, put_each, same_stored, list_without}
 use Rattle.ifmap_rows.specs.ifmap_plans.Placing.{put}
 use Rattle.ifmap_rows.specs.ifmap_plans.laws.KeyLaws.{stored_total}
 use Rattle.ifmap_rows.specs.ifmap_plans.laws.PlacingLaws.{put_front, put_less}
@@ -67,9 +67,10 @@ pub itself : (s : Stored) → stored_order s s ≡ Equal
 itself s = tied_itself stored_total s
 
 -- the first goes, with those that go after it
-first_gone : (o : Stored) (gone os : List Stored) → AllAbove o os → without (o ∷ gone) (o ∷ os) ≡ without gone os
+first_gone : (o : Stored) (gone os : List Stored) → AllAbove o os → list_without (o ∷ gone) (o ∷ os) ≡ list_without gone os
 first_gone o gone os all =
-    ap (λ c. cond (not (is_eq c || list_any (λ r. eq_by_cmp stored_order r o) gone)) (o ∷ without (o ∷ gone) os) (without (o ∷ gone) os))
+    ap (λ c. cond (not (is_eq c || list_any (λ r. eq_by_cmp stored_order r o) gone)) (o ∷ list_without (o ∷ gone) os)
+    (list_without (o ∷ gone) os))
     (itself o)
     ∙ filter_alike (λ s. not (list_any (λ r. eq_by_cmp stored_order r s) (o ∷ gone)))
     (λ s. not (list_any (λ r. eq_by_cmp stored_order r s) gone)) os
@@ -83,8 +84,8 @@ none_tied o (g ∷ gone) all =
     ap (λ c. is_eq c || list_any (λ r. eq_by_cmp stored_order r o) gone) (turned o g all.0) ∙ none_tied o gone all.1
 
 -- the first stays where all that go are above it
-first_stays : (o : Stored) (gone os : List Stored) → AllAbove o gone → without gone (o ∷ os) ≡ o ∷ without gone os
-first_stays o gone os all = ap (λ b. cond (not b) (o ∷ without gone os) (without gone os)) (none_tied o gone all)
+first_stays : (o : Stored) (gone os : List Stored) → AllAbove o gone → list_without gone (o ∷ os) ≡ o ∷ list_without gone os
+first_stays o gone os all = ap (λ b. cond (not b) (o ∷ list_without gone os) (list_without gone os)) (none_tied o gone all)
 
 -- what is put in above the first
 pub put_past : (x : Stored) (added list : List Stored) → AllAbove x added → put_each added (x ∷ list) ≡ x ∷ put_each added list
@@ -126,7 +127,7 @@ module _ (o n : Stored) (os ns : List Stored) (over : AllAbove o os) (up : AllAb
   above e rest =
       let all : AllAbove n (o ∷ os) = (e, above_above n o os e over) in
       let gone = stored_difference (o ∷ os) ns in
-      let base = without gone (o ∷ os) in
+      let base = list_without gone (o ∷ os) in
       ap (λ d. next_on d (stored_difference (n ∷ ns) (o ∷ os)) (o ∷ os)) (other_passed n ns (o ∷ os) all)
       ∙ ap (λ a. next_on gone a (o ∷ os)) (first_kept n ns (o ∷ os) all)
       ∙ ap (put_each (stored_difference ns (o ∷ os))) (put_below n base (all_filter (λ y. stored_order n y ≡ Less)
@@ -154,16 +155,16 @@ module _ (o n : Stored) (os ns : List Stored) (over : AllAbove o os) (up : AllAb
       by true is ns_over os_over =
           ap (put_each (stored_difference ns os)) (first_stays o (stored_difference os ns) os (all_filter (λ y. stored_order o y ≡ Less)
           (λ s. not (list_any (same_stored s) ns)) os over))
-          ∙ put_past o (stored_difference ns os) (without (stored_difference os ns) os) (all_filter (λ y. stored_order o y ≡ Less)
+          ∙ put_past o (stored_difference ns os) (list_without (stored_difference os ns) os) (all_filter (λ y. stored_order o y ≡ Less)
           (λ s. not (list_any (same_stored s) os)) ns ns_over)
-          ∙ ap (λ x. x ∷ put_each (stored_difference ns os) (without (stored_difference os ns) os)) (same_is o n v w is)
+          ∙ ap (λ x. x ∷ put_each (stored_difference ns os) (list_without (stored_difference os ns) os)) (same_is o n v w is)
           ∙ ap (λ xs. n ∷ xs) rest
       by false is ns_over os_over =
           ap (λ l. put_each (stored_difference ns os) (put stored_order n l)) (first_gone o (stored_difference os ns) os over)
-          ∙ ap (put_each (stored_difference ns os)) (put_below n (without (stored_difference os ns) os) (all_filter (λ y. stored_order n
-          y ≡ Less)
+          ∙ ap (put_each (stored_difference ns os)) (put_below n (list_without (stored_difference os ns) os)
+          (all_filter (λ y. stored_order n y ≡ Less)
           (λ s. not (list_any (λ r. eq_by_cmp stored_order r s) (stored_difference os ns))) os os_over))
-          ∙ put_past n (stored_difference ns os) (without (stored_difference os ns) os) (all_filter (λ y. stored_order n y ≡ Less)
+          ∙ put_past n (stored_difference ns os) (list_without (stored_difference os ns) os) (all_filter (λ y. stored_order n y ≡ Less)
           (λ s. not (list_any (same_stored s) os)) ns up)
           ∙ ap (λ xs. n ∷ xs) rest
 
@@ -180,7 +181,7 @@ differences_make (o ∷ os) new over up v w = walk new up w (λ ns s t. differen
         none_left : (xs : List Stored) → IsStrictlySortedBy stored_order xs → AreSame xs []
         none_left [] s = refl
         none_left (x ∷ xs) s =
-            ap (λ d. without d (x ∷ xs)) (first_kept x xs [] tt)
+            ap (λ d. list_without d (x ∷ xs)) (first_kept x xs [] tt)
             ∙ first_gone x (stored_difference xs []) xs (sorted_first x xs s).0
             ∙ none_left xs (sorted_first x xs s).1
     walk (n ∷ ns) up w later =

@@ -19,7 +19,7 @@ use Rattle.ifmap_meta.specs.Keys.{HaveOneKey, same_key}
 use Rattle.ifmap_meta.specs.Stamps.{is_stamp, stamps_of}
 use Rattle.ifmap_meta.specs.Whole.{IsWhole}
 use Rattle.ifmap_meta.specs.laws.KeyLaws.{keys_told}
-use Rattle.ifmap_rows.specs.ifmap_plans.Lists.{stored_difference, next_on, put_each, without}
+use Rattle.ifmap_rows.specs.ifmap_plans.Lists.{stored_difference, next_on, put_each, list_without}
 use Rattle.ifmap_rows.specs.ifmap_plans.Placing.{put}
 use Rattle.ifmap_rows.specs.ifmap_plans.laws.KeyLaws.{stored_equiv}
 use Rattle.ifmap_view.specs.Attachments.{stored_bytes, stored_order}
@@ -52,7 +52,7 @@ makes_by t q stored list e up s taken came stays =
 pub makes_it : (stored list : List Stored) (e : Edit) → EditMakes stored e list → list_by e stored ≡ list
 makes_it stored list e m =
     ap (put_each e.put) m.stays
-    ∙ ap (λ l. put_each l (without e.put list)) m.put
+    ∙ ap (λ l. put_each l (list_without e.put list)) m.put
     ∙ put_back (is_among e.put) list m.sound.keyed.rising
 
 pub is_edit : (stored list : List Stored) (e : Edit) → EditMakes stored e list → IsEdit stored e

@@ -19,7 +19,7 @@ use Rattle.ifmap_view.specs.declared.attachments.Attachment.{Attachment}
 use Rattle.ifmap_view.specs.Rows.{stored_on}
 use Rattle.ifmap_publish.specs.Apply.{Authorship, apply, apply_op, stored_of}
 use Rattle.ifmap_publish.specs.OnItems.{apply_op_on, attach_all, op_item, op_on}
-use Rattle.ifmap_publish.specs.Working.{AreEdits, EditMakes, IsEdit, IsSound, edit_or, list_by, working}
+use Rattle.ifmap_publish.specs.Working.{AreEdits, EditMakes, IsEdit, IsSound, edit_or, list_by, working_rows}
 use Rattle.ifmap_publish.specs.declared.edits.Edit.{Edit}
 use Rattle.ifmap_publish.proofs.Attaching.{attached_as_stored}
 use Rattle.ifmap_publish.proofs.Editing.{is_edit, makes_it, nothing_made, nothing_moved}
@@ -47,7 +47,7 @@ module _ (item x : Item) (same : same_item item x ≡ true) where
       ]
 
   pub working_alike : (rows : List Attachment) (es : List Entry)
-      → working rows (λ q. lookup (is_at (item_order q)) es) x ≡ working rows (λ q. lookup (is_at (item_order q)) es) item
+      → working_rows rows (λ q. lookup (is_at (item_order q)) es) x ≡ working_rows rows (λ q. lookup (is_at (item_order q)) es) item
   working_alike rows es = λ i. list_by (edit_or (found_alike es i)) (stored_alike rows i)
 
 -- entries stay edits of what is stored on their items
@@ -108,7 +108,7 @@ module _ (rows : List Attachment) (by : Authorship) (op : PublishOp) (es : List 
     (put : (q : Item) → new q ≡ cond (is_eq (item_order key q)) (Some after) (mid q))
     (made : EditMakes (stored_on (op_item op) rows) after (op_on by op (list_by edit (stored_on (op_item op) rows)))) where
   pub op_applied : (x : Item)
-      → working rows new x ≡ apply_op_on x by op (working rows (λ q. lookup (is_at (item_order q)) es) x)
+      → working_rows rows new x ≡ apply_op_on x by op (working_rows rows (λ q. lookup (is_at (item_order q)) es) x)
   op_applied x =
       let hit : new x ≡ cond (same_item (op_item op) x) (Some after) (mid x) =
       put x ∙ ap (λ k. cond (is_eq (item_order k x)) (Some after) (mid x)) is_key
@@ -120,12 +120,12 @@ module _ (rows : List Attachment) (by : Authorship) (op : PublishOp) (es : List 
             ∙ makes_it (stored_on (op_item op) rows) (op_on by op (list_by edit (stored_on (op_item op) rows))) after made
             ∙ ap (λ e. op_on by op (list_by e (stored_on (op_item op) rows))) taken
             ∙ ap (op_on by op) (sym (working_alike (op_item op) x is rows es))
-            ∙ ap (λ b. cond b (op_on by op (working rows (λ q. lookup (is_at (item_order q)) es) x))
-            (working rows (λ q. lookup (is_at (item_order q)) es) x)) (sym is)
+            ∙ ap (λ b. cond b (op_on by op (working_rows rows (λ q. lookup (is_at (item_order q)) es) x))
+            (working_rows rows (λ q. lookup (is_at (item_order q)) es) x)) (sym is)
         | inr is ↦
             ap (λ o. list_by (edit_or o) (stored_on x rows)) (hit ∙ ap (λ b. cond b (Some after) (mid x)) is ∙ others x is)
-            ∙ ap (λ b. cond b (op_on by op (working rows (λ q. lookup (is_at (item_order q)) es) x))
-            (working rows (λ q. lookup (is_at (item_order q)) es) x)) (sym is)
+            ∙ ap (λ b. cond b (op_on by op (working_rows rows (λ q. lookup (is_at (item_order q)) es) x))
+            (working_rows rows (λ q. lookup (is_at (item_order q)) es) x)) (sym is)
       ]
 
 -- one more operation
@@ -156,7 +156,7 @@ unchanged by op x list stays = elim (cases_Bool (same_item (op_item op) x)) [
 pub none_applied : (rows : List Attachment) (by : Authorship) (ops : List PublishOp) (es : List Entry) → es ≡ []
     → record {
       edits : AreEdits rows es;
-      applied : (x : Item) → working rows (λ q. lookup (is_at (item_order q)) es) x ≡ stored_on x (apply rows by (take 0 ops));
+      applied : (x : Item) → working_rows rows (λ q. lookup (is_at (item_order q)) es) x ≡ stored_on x (apply rows by (take 0 ops));
     }
 none_applied rows by ops [] is = record { edits = tt; applied = λ x. nothing_moved (stored_on x rows) }
 none_applied rows by ops (e ∷ es) is = cc

@@ -17,7 +17,7 @@ use Rattle.ifmap_lemmas.specs.Having.{Has, all_has, any_has, filter_has, from_ha
 use Rattle.ifmap_meta.specs.declared.stored.Stored.{Stored}
 use Rattle.ifmap_meta.specs.Keys.{HaveOneKey, same_key}
 use Rattle.ifmap_meta.specs.Whole.{IsWhole}
-use Rattle.ifmap_rows.specs.ifmap_plans.Lists.{next_on, put_each, without}
+use Rattle.ifmap_rows.specs.ifmap_plans.Lists.{next_on, put_each, list_without}
 use Rattle.ifmap_rows.specs.ifmap_plans.Placing.{put}
 use Rattle.ifmap_rows.specs.ifmap_plans.laws.KeyLaws.{stored_equiv, stored_total}
 use Rattle.ifmap_rows.specs.laws.JoiningLaws.{fails_too, each_in, in_each, one_list, rising_each}
@@ -127,10 +127,10 @@ tied_keyed x keys w all e =
 
 -- what has none of the keys has none of the bytes
 pub keyed_apart : (rows keys found : List Stored) → AllByRecursion IsWhole rows → AllByRecursion IsWhole keys → AreKeyed rows keys found
-    → without keys (without found rows) ≡ without found rows
+    → list_without keys (list_without found rows) ≡ list_without found rows
 keyed_apart rows keys found wr wk so =
-    filter_all (λ s. not (is_among keys s)) (without found rows)
-    (has_all (λ s. not (is_among keys s) ≡ true) (without found rows) (λ x h.
+    filter_all (λ s. not (is_among keys s)) (list_without found rows)
+    (has_all (λ s. not (is_among keys s) ≡ true) (list_without found rows) (λ x h.
     let p = filter_has (λ s. not (is_among found s)) rows x h in
     ap not (fails_too (is_among keys x) (is_keyed keys x) (tied_keyed x keys (all_has IsWhole rows wr x p.0) wk)
     (sym (so.among x p.0) ∙ not-true (is_among found x) p.1))))

@@ -20,7 +20,7 @@ use Rattle.ifmap_lemmas.specs.Having.{Has, all_has, any_has, filter_has, has_all
 use Rattle.ifmap_lemmas.specs.Orderings.{greater_turned}
 use Rattle.ifmap_meta.specs.declared.stored.Stored.{Stored}
 use Rattle.ifmap_meta.specs.Keys.{same_key}
-use Rattle.ifmap_rows.specs.ifmap_plans.Lists.{stored_difference, put_each, same_life, same_stored, without}
+use Rattle.ifmap_rows.specs.ifmap_plans.Lists.{stored_difference, put_each, same_life, same_stored, list_without}
 use Rattle.ifmap_rows.specs.ifmap_plans.Placing.{put}
 use Rattle.ifmap_rows.specs.ifmap_plans.laws.KeyLaws.{stored_equiv, stored_total}
 use Rattle.ifmap_rows.specs.ifmap_plans.laws.PlacingLaws.{put_less}
@@ -293,7 +293,7 @@ same_ties a b e =
     (Equal-is (stored_order a b)).0 (is_eq-slice_cmp (stored_bytes a) (stored_bytes b) ∙ texts.0)
 
 module _ (xs ys xt yt : List Stored) (up : IsStrictlySortedBy stored_order xs) (left : xt ≡ filter (is_among xt) xs)
-    (right : yt ≡ filter (is_among yt) ys) (stays : without xt xs ≡ without yt ys) where
+    (right : yt ≡ filter (is_among yt) ys) (stays : list_without xt xs ≡ list_without yt ys) where
   -- one that stays is in both
   stayed : (s : Stored) → Has xs s → is_among xt s ≡ false → Has ys s
   stayed s h e =

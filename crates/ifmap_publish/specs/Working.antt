@@ -10,7 +10,7 @@ use Rattle.ifmap_meta.specs.declared.stored.Stored.{Stored}
 use Rattle.ifmap_meta.specs.Keys.{same_key}
 use Rattle.ifmap_meta.specs.Whole.{IsWhole}
 use Rattle.ifmap_rows.specs.ifmap_plans.declared.plans.ItemChange.{ItemChange}
-use Rattle.ifmap_rows.specs.ifmap_plans.Lists.{IsList, stored_difference, next_on, put_each, without}
+use Rattle.ifmap_rows.specs.ifmap_plans.Lists.{IsList, stored_difference, next_on, put_each, list_without}
 use Rattle.ifmap_view.specs.declared.attachments.Attachment.{Attachment}
 use Rattle.ifmap_view.specs.Attachments.{stored_order}
 use Rattle.ifmap_view.specs.Rows.{stored_on}
@@ -52,7 +52,7 @@ PassesOneStored test s taken rest met next =
 pub record EditMakes (stored : List Stored) (e : Edit) (list : List Stored) : Type 0 where
   pub taken : e.taken ≡ filter (is_among e.taken) stored
   pub put : e.put ≡ filter (is_among e.put) list
-  pub stays : without e.taken stored ≡ without e.put list
+  pub stays : list_without e.taken stored ≡ list_without e.put list
   pub sound : IsSound list
 
 -- the list that is meant by an edit
@@ -69,8 +69,8 @@ edit_or None = record { taken = []; put = [] }
 edit_or (Some e) = e
 
 -- what is to stand on an item, by the edits made so far
-abbrev pub working : List Attachment → (Item → Option Edit) → Item → List Stored
-working rows made x = list_by (edit_or (made x)) (stored_on x rows)
+abbrev pub working_rows : List Attachment → (Item → Option Edit) → Item → List Stored
+working_rows rows made x = list_by (edit_or (made x)) (stored_on x rows)
 
 -- the item is one that elements are, and its edit is one of what is stored there
 pub record IsEntry (rows : List Attachment) (e : Item × Edit) : Type 0 where

@@ -11,7 +11,7 @@ ghost use Rattle.ifmap_view.specs.Attachments.{IsGraph};
 ghost use Rattle.ifmap_view.specs.Rows.{stored_on};
 ghost use Rattle.ifmap_publish.specs.Apply.{apply};
 ghost use Rattle.ifmap_publish.specs.OnItems.{apply_op_on};
-ghost use Rattle.ifmap_publish.specs.Working.{AreEdits, edit_or, working};
+ghost use Rattle.ifmap_publish.specs.Working.{AreEdits, edit_or, working_rows};
 
 use crate::applying::{apply_op, item_of};
 use crate::authors::Author;
@@ -35,7 +35,7 @@ pub(crate) fn apply_all<V: Keyed>(
     requires ops { AllByRecursion IsFitOp ops.now }
     ensures edits { IfOk result (λ edits. AreEdits (V.rows view.now) edits.entries) }
     ensures applied { IfOk result (λ edits. (x : Item)
-        → working (V.rows view.now) (get item_order edits) x
+        → working_rows (V.rows view.now) (get item_order edits) x
         ≡ stored_on x (apply (V.rows view.now) author.now ops.now)) }
 {
     let mut edits = BTreeMap::new(alloc);
@@ -59,9 +59,9 @@ fn apply_one<V: Keyed>(
     requires edits { AreEdits (V.rows view.now) edits.old.entries }
     ensures edits { OnOk result (AreEdits (V.rows view.now) edits.new.entries) }
     ensures applied { OnOk result ((x : Item)
-        → working (V.rows view.now) (get item_order edits.new) x
+        → working_rows (V.rows view.now) (get item_order edits.new) x
         ≡ apply_op_on x author.now op.now
-        (working (V.rows view.now) (get item_order edits.old) x)) }
+        (working_rows (V.rows view.now) (get item_order edits.old) x)) }
 {
     if let PublishOp::Notify { .. } = op {
         return Ok(());

@@ -20,7 +20,7 @@ use Rattle.ifmap_elem.specs.declared.elements.Child as the
 use Rattle.ifmap_elem.specs.declared.elements.Child.TheOpen.{Child-F}
 use Rattle.ifmap_elem.specs.declared.elements.Element.{Element}
 use Rattle.ifmap_elem.specs.laws.FitLaws.{out_text}
-use Rattle.ifmap_envelopes.specs.Envelopes.{around}
+use Rattle.ifmap_envelopes.specs.Envelopes.{element_around}
 use Rattle.ifmap_envelopes.specs.MakingLaws.{made_envelope}
 use Rattle.ifmap_forms.specs.ifmap_filter.Holding.{own_text_of, text_among}
 use Rattle.ifmap_ident.specs.declared.codes.Code.{Code}
@@ -61,7 +61,7 @@ use Rattle.ifmap_replies.specs.ResultForms.{response_form, response_made, result
 use Rattle.ifmap_replies.specs.ResultForms.{run_made, run_parts, told_error_form, told_error_made, told_form, told_made}
 use Rattle.ifmap_replies.specs.Results.{entry_children, error_element, new_session_element, poll_element}
 use Rattle.ifmap_replies.specs.Results.{reply_element, response_name, result_element, run_element, text_children, told_element}
-use Rattle.ifmap_replies.specs.Runs.{before, entries_in_runs, entry_on, run_on, runs_of}
+use Rattle.ifmap_replies.specs.Runs.{joined_runs, entries_in_runs, entry_on, run_on, runs_of}
 use Rattle.ifmap_replies.proofs.GoodLaws.{element_part, parts_are}
 use Rattle.ifmap_replies.proofs.WholeLaws.{IsFitRun, fit_runs}
 use Rattle.ifmap_forms.specs.FormLaws.{number_back}
@@ -234,7 +234,7 @@ module _ (again : (i : Identifier) → IsIdentifier i → IsCanon (identifier_el
 
     -- an entry before runs is told first
     first_back : (entry : Entry) (runs : List Run) → IsFitEntry entry → AllByRecursion IsFitRun runs
-        → entries_in_runs (before entry runs) ≡ entry ∷ entries_in_runs runs
+        → entries_in_runs (joined_runs entry runs) ≡ entry ∷ entries_in_runs runs
     first_back entry [] e f = refl
     first_back entry (run ∷ runs) e f = joined (same_item entry.item run.item) refl
       where
@@ -330,14 +330,14 @@ module _ (again : (i : Identifier) → IsIdentifier i → IsCanon (identifier_el
 
     -- ---- 5. responses and envelopes
 
-    response_back : (answer : Reply) → IsFitReply answer → response_check (around response_name (result_element answer)) (Ok answer)
+    response_back : (answer : Reply) → IsFitReply answer → response_check (element_around response_name (result_element answer)) (Ok answer)
     response_back answer f =
-        found_form response_form response_made no_scopes (around response_name (result_element answer)) tt refl answer refl
+        found_form response_form response_made no_scopes (element_around response_name (result_element answer)) tt refl answer refl
         (only_back result_check (result_element answer) answer (result_back answer f))
 
     pub element_back : (answer : Reply) → IsFitReply answer → IsReplyOf (reply_element answer) answer
     element_back answer f =
-        let response = around response_name (result_element answer) in
+        let response = element_around response_name (result_element answer) in
         record {
           path = 0 ∷ (0 ∷ []);
           response = response;

@@ -11,7 +11,7 @@ use Rattle.ifmap_search.specs.declared.results.Entry.{Entry}
 use Rattle.ifmap_replies.specs.declared.runs.Run.{Run}
 use Rattle.ifmap_elem.specs.Building.{as_children}
 use Rattle.ifmap_replies.specs.Results.{entry_children, run_element}
-use Rattle.ifmap_replies.specs.Runs.{before, entry_elements, run_length, run_on, runs_of}
+use Rattle.ifmap_replies.specs.Runs.{joined_runs, entry_elements, run_length, run_on, runs_of}
 
 -- ---- how long a run is
 
@@ -53,7 +53,7 @@ front_is first [] = refl
 front_is first (entry ∷ entries) =
     let n = run_length entry entries in
     let all = front_is entry entries in
-    ap (before first) all
+    ap (joined_runs first) all
     ∙ joined first entry entries (front_run entry entries n) (runs_of (drop n entries)) n (same_item first.item entry.item) refl refl
     refl all
 

@@ -16,7 +16,7 @@ use Rattle.ifmap_elem.specs.Nesting.{nesting}
 use Rattle.ifmap_elem.specs.declared.elements.Attribute.{Attribute}
 use Rattle.ifmap_elem.specs.declared.elements.Element.{Element}
 use Rattle.ifmap_elem.specs.declared.elements.Name.{Name}
-use Rattle.ifmap_envelopes.specs.Envelopes.{around, envelope_name}
+use Rattle.ifmap_envelopes.specs.Envelopes.{element_around, envelope_name}
 use Rattle.ifmap_envelopes.specs.Spaces.{envelope_space, ifmap_space}
 use Rattle.ifmap_ident.specs.declared.codes.Code.{Code}
 use Rattle.ifmap_ident.specs.declared.codes.Code.TheVariants.{AccessDenied, Failure, InvalidIdentifier, InvalidIdentifierType}
@@ -38,7 +38,7 @@ use Rattle.ifmap_replies.specs.Fit.{AreFitEntries, IsFitEntry, IsFitPollItem, Is
 use Rattle.ifmap_replies.specs.Results.{error_element, name_attribute, new_session_element, plain_element}
 use Rattle.ifmap_replies.specs.Results.{poll_element, reply_element, response_name, result_element, run_element, text_children}
 use Rattle.ifmap_replies.specs.Results.{told_element}
-use Rattle.ifmap_replies.specs.Runs.{before, run_on, runs_of}
+use Rattle.ifmap_replies.specs.Runs.{joined_runs, run_on, runs_of}
 use Rattle.ifmap_replies.proofs.GoodLaws.{IsGood, IsPlainPart, all_within, attribute_fits, bare_fits, good_elements, good_text, good_within}
 use Rattle.ifmap_replies.proofs.GoodLaws.{is_plain_part, plain_name, plain_space, three_differ, two_differ}
 use Rattle.ifmap_elem.specs.laws.CharacterLaws.{is_plain, plain_characters}
@@ -84,7 +84,7 @@ pub record IsFitRun (run : Run) : Type 0 where
   pub elements : AllByRecursion IsSent run.elements
 
 fit_before : (entry : Entry) (runs : List Run) → IsFitEntry entry → AllByRecursion IsFitRun runs
-    → AllByRecursion IsFitRun (before entry runs)
+    → AllByRecursion IsFitRun (joined_runs entry runs)
 fit_before entry [] e f = (record { item = e.item; elements = (e.element, tt) }, tt)
 fit_before entry (run ∷ runs) e f = joined (same_item entry.item run.item)
   where
@@ -218,7 +218,7 @@ module _ (fits : (i : Identifier) → IsIdentifier i → IsFit (identifier_eleme
       (map poll_element items) (polls_good items f)
   result_good (reply.Error code note) f = good_within 2 68 (error_element code None note) (omega arith) (error_good code note f)
 
-  around_good : (n : ℕ) (name : Name) (inner : Element) → IsFitName name → IsGood n inner → IsGood (n + 1) (around name inner)
+  around_good : (n : ℕ) (name : Name) (inner : Element) → IsFitName name → IsGood n inner → IsGood (n + 1) (element_around name inner)
   around_good n name inner fit g = good_elements name [] fit tt tt refl n (inner ∷ []) (g, tt)
 
   envelope_fits : (local : List ℕ) → IsPlainPart local → IsFitName (envelope_name local)
@@ -229,8 +229,8 @@ module _ (fits : (i : Identifier) → IsIdentifier i → IsFit (identifier_eleme
   reply_good answer f =
       let response = around_good 68 response_name (result_element answer)
       (plain_name ifmap_space (codes "response") (plain_space ifmap_space refl refl) refl) (result_good answer f) in
-      let body = around_good 69 (envelope_name (codes "Body")) (around response_name (result_element answer))
+      let body = around_good 69 (envelope_name (codes "Body")) (element_around response_name (result_element answer))
       (envelope_fits (codes "Body") refl) response in
       around_good 70 (envelope_name (codes "Envelope"))
-      (around (envelope_name (codes "Body")) (around response_name (result_element answer)))
+      (element_around (envelope_name (codes "Body")) (element_around response_name (result_element answer)))
       (envelope_fits (codes "Envelope") refl) body

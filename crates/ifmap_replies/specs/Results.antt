@@ -16,7 +16,7 @@ use Rattle.ifmap_ident.specs.declared.codes.Code.{Code}
 use Rattle.ifmap_search.specs.declared.results.Entry.{Entry}
 use Rattle.ifmap_search.specs.declared.results.PollItem.{PollItem}
 use Rattle.ifmap_search.specs.declared.results.PollItem.TheVariants as poll
-use Rattle.ifmap_envelopes.specs.Envelopes.{around, in_envelope}
+use Rattle.ifmap_envelopes.specs.Envelopes.{element_around, in_envelope}
 use Rattle.ifmap_envelopes.specs.Spaces.{ifmap_space}
 use Rattle.ifmap_replies.specs.declared.replies.Reply.{Reply}
 use Rattle.ifmap_replies.specs.declared.replies.Reply.TheVariants as reply
@@ -100,7 +100,7 @@ result_element (reply.Error code note) = error_element code None note
 
 -- the whole envelope of a reply
 abbrev pub reply_element : Reply → Element
-reply_element r = in_envelope (around response_name (result_element r))
+reply_element r = in_envelope (element_around response_name (result_element r))
 
 -- a reply as it is sent: the canonical bytes of its envelope
 unfoldable pub reply_bytes : Reply → List ℕ

@@ -11,9 +11,9 @@ abbrev pub run_on : Item → List Element → Run
 run_on item elements = record { item = item; elements = elements }
 
 -- an entry joins the run after it where both are on one item, and is a run of its own where they are not
-abbrev pub before : Entry → List Run → List Run
-before entry [] = run_on entry.item (entry.element ∷ []) ∷ []
-before entry (run ∷ runs) =
+abbrev pub joined_runs : Entry → List Run → List Run
+joined_runs entry [] = run_on entry.item (entry.element ∷ []) ∷ []
+joined_runs entry (run ∷ runs) =
     if same_item entry.item run.item
     then run_on entry.item (entry.element ∷ run.elements) ∷ runs
     else run_on entry.item (entry.element ∷ []) ∷ (run ∷ runs)
@@ -21,7 +21,7 @@ before entry (run ∷ runs) =
 -- the runs of consecutive entries on one item
 abbrev pub runs_of : List Entry → List Run
 runs_of [] = []
-runs_of (entry ∷ entries) = before entry (runs_of entries)
+runs_of (entry ∷ entries) = joined_runs entry (runs_of entries)
 
 abbrev pub entry_on : Item → Element → Entry
 entry_on item element = record { item = item; element = element }

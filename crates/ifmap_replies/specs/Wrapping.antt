@@ -1,7 +1,7 @@
 -- What stands around a result, by the names of it.
 use Rattle.std.specs.Prelude.{codes}
 use Rattle.ifmap_elem.specs.declared.elements.Element.{Element}
-use Rattle.ifmap_envelopes.specs.Envelopes.{around, envelope_name}
+use Rattle.ifmap_envelopes.specs.Envelopes.{element_around, envelope_name}
 use Rattle.ifmap_replies.specs.declared.writing.Names.{Names}
 use Rattle.ifmap_replies.specs.Results.{response_name}
 
@@ -11,4 +11,5 @@ reply_names = record { envelope = envelope_name (codes "Envelope"); body = envel
 
 -- a result in a response in a body in an envelope of these names
 abbrev pub wrap_element : Names → Element → Element
-wrap_element names result = around names.envelope (around names.body (around names.response result))
+wrap_element names result =
+    element_around names.envelope (element_around names.body (element_around names.response result))

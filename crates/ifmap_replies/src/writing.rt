@@ -1,7 +1,7 @@
 //! Replies as elements and as bytes.
 ghost use Rattle.std.specs.Prelude.{◌≡◌, IfOk};
 ghost use Rattle.ifmap_elem.specs.Outlines.{outline_element};
-ghost use Rattle.ifmap_envelopes.specs.Envelopes.{around};
+ghost use Rattle.ifmap_envelopes.specs.Envelopes.{element_around};
 ghost use Rattle.ifmap_replies.specs.Wrapping.{reply_names, wrap_element};
 ghost use Rattle.ifmap_replies.specs.Results.{reply_bytes, reply_element, result_element};
 
@@ -72,7 +72,7 @@ fn wrap_outline<'a>(
     inner: Outline<'a>,
 ) -> Result<Outline<'a>, NoMemory>
     ensures { IfOk result (λ outline.
-        outline_element outline ≡ around name.now (outline_element inner.entry)) }
+        outline_element outline ≡ element_around name.now (outline_element inner.entry)) }
 {
     let pieces = vec![in alloc; inner.into_piece()]?;
     Ok(Outline::with_name(name, Vec::new(alloc), pieces))

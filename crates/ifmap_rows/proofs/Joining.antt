@@ -17,7 +17,7 @@ use Rattle.ifmap_lemmas.specs.Filters.{all_weaker, filter_again, filter_all}
 use Rattle.ifmap_lemmas.specs.Having.{Has, filter_has, from_has, has_either, has_filter, has_from, has_left, has_right}
 use Rattle.ifmap_lemmas.specs.Members.{both_all}
 use Rattle.ifmap_meta.specs.declared.stored.Stored.{Stored}
-use Rattle.ifmap_plans.specs.Lists.{put_each, without}
+use Rattle.ifmap_plans.specs.Lists.{list_without, put_each}
 use Rattle.ifmap_plans.specs.laws.KeyLaws.{stored_total}
 use Rattle.ifmap_plans.specs.ifmap_view.Attachments.{stored_order}
 use Rattle.ifmap_rows.specs.Indexed.{IsIndexed, IsJoined, word_order}
@@ -59,28 +59,28 @@ either_way (inl p) = inr p
 either_way (inr q) = inl q
 
 module _ (list added next : List Stored) (up : IsStrictlySortedBy stored_order added)
-    (made : IsPermutation (without added list ++ added) next) where
-  into : (s : Stored) → Has next s → Has added s ⊎ Has (without added list) s
+    (made : IsPermutation (list_without added list ++ added) next) where
+  into : (s : Stored) → Has next s → Has added s ⊎ Has (list_without added list) s
   into s h =
-      either_way (has_either (without added list) added s (has_from (without added list ++ added) s
-      (Contains-permutation next (without added list ++ added) s (IsPermutation-sym (without added list ++ added) next made)
+      either_way (has_either (list_without added list) added s (has_from (list_without added list ++ added) s
+      (Contains-permutation next (list_without added list ++ added) s (IsPermutation-sym (list_without added list ++ added) next made)
       (from_has next s h))))
 
-  joined : (s : Stored) → Has added s ⊎ Has (without added list) s → Has (without added list ++ added) s
-  joined s (inl h) = has_right (without added list) added s h
-  joined s (inr h) = has_left (without added list) added s h
+  joined : (s : Stored) → Has added s ⊎ Has (list_without added list) s → Has (list_without added list ++ added) s
+  joined s (inl h) = has_right (list_without added list) added s h
+  joined s (inr h) = has_left (list_without added list) added s h
 
-  back : (s : Stored) → Has added s ⊎ Has (without added list) s → Has next s
+  back : (s : Stored) → Has added s ⊎ Has (list_without added list) s → Has next s
   back s h =
       has_from next s
-      (Contains-permutation (without added list ++ added) next s made (from_has (without added list ++ added) s (joined s h)))
+      (Contains-permutation (list_without added list ++ added) next s made (from_has (list_without added list ++ added) s (joined s h)))
 
   kept_apart : (D : Stored → Stored → Ordering) (o : IsTotalOrder D)
       → ((a s : Stored) → is_eq (D a s) ≡ true → is_eq (stored_order a s) ≡ true)
-      → IsDistinct (eq_by_cmp D) (without added list) → IsDistinct (eq_by_cmp D) next
+      → IsDistinct (eq_by_cmp D) (list_without added list) → IsDistinct (eq_by_cmp D) next
   kept_apart D o finer w =
-      IsDistinct-IsPermutation (eq_by_cmp D) (flip_eq Stored D o) (without added list ++ added) next made
-      (joined_apart (eq_by_cmp D) (without added list) added w (apart Stored stored_order D finer added up)
+      IsDistinct-IsPermutation (eq_by_cmp D) (flip_eq Stored D o) (list_without added list ++ added) next made
+      (joined_apart (eq_by_cmp D) (list_without added list) added w (apart Stored stored_order D finer added up)
       (λ s h. stays_apart Stored stored_order D finer stored_total s added
       (not-true (list_any (λ r. eq_by_cmp stored_order r s) added) (filter_has (stays added) list s h).1)))
 
@@ -88,7 +88,7 @@ module _ (list added next : List Stored) (up : IsStrictlySortedBy stored_order a
   rows_joined rows sorted =
       let same : (a s : Stored) → is_eq (stored_order a s) ≡ true → is_eq (stored_order a s) ≡ true = λ a s e. e in
       let rises = rises_apart Stored stored_order stored_total next sorted (kept_apart stored_order stored_total same
-      (apart Stored stored_order stored_order same (without added list)
+      (apart Stored stored_order stored_order same (list_without added list)
       (IsStrictlySortedBy-filter stored_order (stays added) list rows))) in
       one_list Stored stored_order stored_total next (put_each added list) rises (rising_each added list rows)
       (λ s h. in_each added list s up (into s h)) (λ s h. back s (each_in added list s h))
@@ -99,15 +99,15 @@ module _ (list added next : List Stored) (up : IsStrictlySortedBy stored_order a
       record {
         worded = rises_apart Stored word_order words_total next sorted (kept_apart word_order words_total
             (λ a s e. ap is_eq (worded_equal a s e))
-            (apart Stored word_order word_order same (without added list)
+            (apart Stored word_order word_order same (list_without added list)
             (IsStrictlySortedBy-filter word_order (stays added) list worded)));
         made = made;
       }
 
 -- and where none that is there has the bytes of one that comes
-module _ (list added next : List Stored) (up : IsStrictlySortedBy stored_order added) (apart : without added list ≡ list)
+module _ (list added next : List Stored) (up : IsStrictlySortedBy stored_order added) (apart : list_without added list ≡ list)
     (made : IsPermutation (list ++ added) next) where
-  abbrev all : IsPermutation (without added list ++ added) next
+  abbrev all : IsPermutation (list_without added list ++ added) next
   all = subst (λ l. IsPermutation (l ++ added) next) (sym apart) made
 
   pub rows_merged : IsStrictlySortedBy stored_order list → IsSortedBy (λ x y. is_lt (stored_order x y)) next → next ≡ put_each added list
@@ -118,28 +118,29 @@ module _ (list added next : List Stored) (up : IsStrictlySortedBy stored_order a
 
 -- what comes may take the place of its like first
 pub put_again : (added rows : List Stored) → IsStrictlySortedBy stored_order added → IsStrictlySortedBy stored_order rows
-    → put_each added (without added rows) ≡ put_each added rows
+    → put_each added (list_without added rows) ≡ put_each added rows
 put_again added rows up rising =
-    one_list Stored stored_order stored_total (put_each added (without added rows)) (put_each added rows)
-    (rising_each added (without added rows) (IsStrictlySortedBy-filter stored_order (stays added) rows rising))
+    one_list Stored stored_order stored_total (put_each added (list_without added rows)) (put_each added rows)
+    (rising_each added (list_without added rows) (IsStrictlySortedBy-filter stored_order (stays added) rows rising))
     (rising_each added rows rising)
-    (λ s h. in_each added rows s up (elim (each_in added (without added rows) s h) [
+    (λ s h. in_each added rows s up (elim (each_in added (list_without added rows) s h) [
       | inl k ↦ inl k
       | inr k ↦ inr (subst (λ l. Has l s) (filter_again (stays added) rows) k)
     ]))
-    (λ s h. in_each added (without added rows) s up (elim (each_in added rows s h) [
+    (λ s h. in_each added (list_without added rows) s up (elim (each_in added rows s h) [
       | inl k ↦ inl k
       | inr k ↦ inr (subst (λ l. Has l s) (sym (filter_again (stays added) rows)) k)
     ]))
 
-pub joined_again : (index added next : List Stored) → IsJoined (without added index) added next → IsJoined index added next
+pub joined_again : (index added next : List Stored) → IsJoined (list_without added index) added next → IsJoined index added next
 joined_again index added next j = record {
   worded = j.worded;
   made = subst (λ l. IsPermutation (l ++ added) next) (filter_again (stays added) index) j.made;
 }
 
 -- the index has none of the same bytes either
-pub index_apart : (rows index added : List Stored) → IsIndexed rows index → without added rows ≡ rows → without added index ≡ index
+pub index_apart : (rows index added : List Stored) → IsIndexed rows index → list_without added rows ≡ rows
+    → list_without added index ≡ index
 index_apart rows index added is apart = filter_all (stays added) index (each index (λ s h. h))
   where
     each : (xs : List Stored) → ((s : Stored) → Has xs s → Has index s) → AllByRecursion (λ s. stays added s ≡ true) xs

@@ -6,7 +6,7 @@ use Rattle.std.specs.Ordering.{eq_by_cmp, nat_cmp, on, then_cmp}
 use Rattle.std.specs.declared.cmp.Ordering.{Ordering}
 use Rattle.ifmap_lemmas.specs.Having.{Has}
 use Rattle.ifmap_meta.specs.declared.stored.Stored.{Stored}
-use Rattle.ifmap_plans.specs.Lists.{without}
+use Rattle.ifmap_plans.specs.Lists.{list_without}
 use Rattle.ifmap_plans.specs.ifmap_view.Attachments.{stored_order}
 use Rattle.ifmap_meta.specs.Keys.{word_of}
 
@@ -28,4 +28,4 @@ pub record IsIndexed (rows index : List Stored) : Type 0 where
 -- an index after rows came, in place of those of the same canonical bytes
 pub record IsJoined (index added next : List Stored) : Type 0 where
   pub worded : IsStrictlySortedBy word_order next
-  pub made : IsPermutation (without added index ++ added) next
+  pub made : IsPermutation (list_without added index ++ added) next

@@ -3,7 +3,7 @@ ghost use Rattle.std.specs.Prelude.{◌≡◌, ◌<◌, ◌≤◌, Contains, IfN
 ghost use Rattle.std.specs.List.{AllByRecursion};
 ghost use Rattle.std.specs.List.Sorted.{IsStrictlySortedBy};
 ghost use Rattle.ifmap_meta.specs.Keys.{HaveOneKey, word_of};
-ghost use Rattle.ifmap_plans.specs.Lists.{without};
+ghost use Rattle.ifmap_plans.specs.Lists.{list_without};
 ghost use Rattle.ifmap_plans.specs.Placing.{IsSpot, put};
 ghost use Rattle.ifmap_plans.specs.ifmap_view.Attachments.{stored_order};
 ghost use Rattle.ifmap_rows.specs.Indexed.{IsJoined, without_one, word_order};
@@ -141,7 +141,7 @@ pub(crate) fn exchange_word_row(index: &mut Vec<WordRow>, replaced: Option<Row>,
 // is gone over once.
 pub(crate) fn take_word_rows(index: &mut Vec<WordRow>, removed: &[Row])
     requires { IsStrictlySortedBy stored_order removed.now }
-    ensures { index.new.items ≡ without removed.now index.old.items }
+    ensures { index.new.items ≡ list_without removed.now index.old.items }
 {
     index.retain(|worded| !is_among(removed, worded.row()));
 }
@@ -164,7 +164,7 @@ pub(crate) fn join_index(index: Vec<WordRow>, added: &[Row]) -> Result<Vec<WordR
 pub(crate) fn merge_index(index: Vec<WordRow>, added: &[Row]) -> Result<Vec<WordRow>, NoMemory>
     requires rising { IsStrictlySortedBy word_order index.items }
     requires added { IsStrictlySortedBy stored_order added.now }
-    requires apart { without added.now index.items ≡ index.items }
+    requires apart { list_without added.now index.items ≡ index.items }
     ensures { IfOk result (λ merged. IsJoined index.items added.now merged.items) }
 {
     let mut merged = index;
@@ -194,7 +194,7 @@ pub(crate) fn share_others_in_index(
     more: usize,
 ) -> Result<Vec<WordRow>, NoMemory>
     requires { IsStrictlySortedBy stored_order removed.now }
-    ensures { IfOk result (λ others. others.items ≡ without removed.now index.now) }
+    ensures { IfOk result (λ others. others.items ≡ list_without removed.now index.now) }
 {
     let room = room_for(index.len(), removed.len(), more);
     let mut others = Vec::with_capacity(alloc, room)?;

@@ -5,7 +5,7 @@ ghost use Rattle.std.specs.List.Sorted.{IsStrictlySortedBy};
 ghost use Rattle.std.specs.Ordering.{eq_by_cmp, is_lt};
 ghost use Rattle.std.specs.declared.cmp.Ordering.TheVariants.{Equal};
 ghost use Rattle.ifmap_lemmas.specs.Having.{Has};
-ghost use Rattle.ifmap_plans.specs.Lists.{put_each, without};
+ghost use Rattle.ifmap_plans.specs.Lists.{list_without, put_each};
 ghost use Rattle.ifmap_plans.specs.Placing.{put};
 ghost use Rattle.ifmap_plans.specs.ifmap_view.Attachments.{stored_order};
 ghost use Rattle.ifmap_rows.specs.Indexed.{without_one};
@@ -52,7 +52,7 @@ pub(crate) fn exchange_row(rows: &mut Vec<Row>, row: Row) -> Option<Row>
 // once.
 pub(crate) fn take_rows(rows: &mut Vec<Row>, removed: &[Row])
     requires { IsStrictlySortedBy stored_order removed.now }
-    ensures { rows.new.items ≡ without removed.now rows.old.items }
+    ensures { rows.new.items ≡ list_without removed.now rows.old.items }
 {
     rows.retain(|row| !is_among(removed, row));
 }
@@ -99,7 +99,7 @@ pub(crate) fn join_rows(rows: &mut Vec<Row>, added: &[Row]) -> Result<(), NoMemo
 pub(crate) fn merge_rows(rows: &mut Vec<Row>, added: &[Row]) -> Result<(), NoMemory>
     requires rising { IsStrictlySortedBy stored_order rows.old.items }
     requires added { IsStrictlySortedBy stored_order added.now }
-    requires apart { without added.now rows.old.items ≡ rows.old.items }
+    requires apart { list_without added.now rows.old.items ≡ rows.old.items }
     ensures { OnOk result (rows.new.items ≡ put_each added.now rows.old.items) }
 {
     let mut more = share_rows(*rows.allocator(), added)?;
@@ -117,7 +117,7 @@ pub(crate) fn share_others(
     more: usize,
 ) -> Result<Vec<Row>, NoMemory>
     requires { IsStrictlySortedBy stored_order removed.now }
-    ensures { IfOk result (λ others. others.items ≡ without removed.now rows.now) }
+    ensures { IfOk result (λ others. others.items ≡ list_without removed.now rows.now) }
 {
     let room = room_for(rows.len(), removed.len(), more);
     let mut others = Vec::with_capacity(alloc, room)?;

@@ -3,7 +3,7 @@ ghost use Rattle.std.specs.Prelude.{◌≡◌, ◌≤◌, [], Contains, IfNone, 
 ghost use Rattle.std.specs.List.{AllByRecursion};
 ghost use Rattle.std.specs.List.Sorted.{IsStrictlySortedBy};
 ghost use Rattle.ifmap_meta.specs.Keys.{HaveOneKey};
-ghost use Rattle.ifmap_plans.specs.Lists.{next_on, put_each, without};
+ghost use Rattle.ifmap_plans.specs.Lists.{list_without, next_on, put_each};
 ghost use Rattle.ifmap_plans.specs.Placing.{put};
 ghost use Rattle.ifmap_plans.specs.ifmap_view.Attachments.{stored_order};
 ghost use Rattle.ifmap_rows.specs.Indexed.{without_one};
@@ -99,7 +99,7 @@ impl Rows {
 
     // The rows that have not the canonical bytes of one of these, with room for others.
     fn make_left(&self, alloc: Global, removed: &[Row], more: usize) -> Result<Rows, NoMemory>
-        ensures { IfOk result (λ rows. rows ≡ without removed.now self.now) }
+        ensures { IfOk result (λ rows. rows ≡ list_without removed.now self.now) }
     {
         if are_many_in_order(removed) {
             return self.share_others(alloc, removed, more);
@@ -120,7 +120,7 @@ impl Rows {
     // The rows that have not the canonical bytes of one of some that rise, with room for others.
     fn share_others(&self, alloc: Global, removed: &[Row], more: usize) -> Result<Rows, NoMemory>
         requires { IsStrictlySortedBy stored_order removed.now }
-        ensures { IfOk result (λ rows. rows ≡ without removed.now self.now) }
+        ensures { IfOk result (λ rows. rows ≡ list_without removed.now self.now) }
     {
         let others = Rows {
             by_bytes: share_others(alloc, &self.by_bytes, removed, more)?,
@@ -143,8 +143,8 @@ impl Rows {
     /// The same, where no row that comes has the canonical bytes of one that stays: of many none is
     /// looked for among the others.
     pub fn exchange(&mut self, removed: &[Row], added: &[Row]) -> Result<(), NoMemory>
-        requires { without added.now (without removed.now self.old)
-            ≡ without removed.now self.old }
+        requires { list_without added.now (list_without removed.now self.old)
+            ≡ list_without removed.now self.old }
         ensures { OnOk result (self.new ≡ next_on removed.now added.now self.old) }
     {
         self.take_all(removed);
@@ -153,7 +153,7 @@ impl Rows {
 
     // Each row comes to its place, where none that is there has its canonical bytes.
     fn put_apart(&mut self, added: &[Row]) -> Result<(), NoMemory>
-        requires { without added.now self.old ≡ self.old }
+        requires { list_without added.now self.old ≡ self.old }
         ensures { OnOk result (self.new ≡ put_each added.now self.old) }
     {
         if are_many_in_order(added) {
@@ -166,7 +166,7 @@ impl Rows {
     // The same, of rows that rise. After want of memory there are no rows.
     fn merge(&mut self, added: &[Row]) -> Result<(), NoMemory>
         requires added { IsStrictlySortedBy stored_order added.now }
-        requires apart { without added.now self.old ≡ self.old }
+        requires apart { list_without added.now self.old ≡ self.old }
         ensures { OnOk result (self.new ≡ put_each added.now self.old) }
     {
         let none = Rows::new(*self.by_bytes.allocator());
@@ -180,7 +180,7 @@ impl Rows {
 
     // Those of the canonical bytes of one of these go.
     fn take_all(&mut self, removed: &[Row])
-        ensures { self.new ≡ without removed.now self.old }
+        ensures { self.new ≡ list_without removed.now self.old }
     {
         if are_many_in_order(removed) {
             self.take_at_once(removed);
@@ -192,7 +192,7 @@ impl Rows {
     // The same, of rows that rise.
     fn take_at_once(&mut self, removed: &[Row])
         requires { IsStrictlySortedBy stored_order removed.now }
-        ensures { self.new ≡ without removed.now self.old }
+        ensures { self.new ≡ list_without removed.now self.old }
     {
         take_rows(&mut self.by_bytes, removed);
         take_word_rows(&mut self.by_word, removed);
@@ -200,7 +200,7 @@ impl Rows {
 
     // The same, one after the other.
     fn take_each(&mut self, removed: &[Row])
-        ensures { self.new ≡ without removed.now self.old }
+        ensures { self.new ≡ list_without removed.now self.old }
     {
         for row in removed {
             self.take(row);

@@ -1,7 +1,7 @@
 -- The history of the machine that a script makes.
 use Rattle.std.specs.Prelude.{List, [], ◌∷◌, ◌++◌, Ok, Err}
 use Rattle.ifmap_core.specs.ifmap_machine.Legal.{History}
-use Rattle.ifmap_core.specs.ifmap_machine.State.{State, opening, session_seconds}
+use Rattle.ifmap_core.specs.ifmap_machine.State.{State, opening_state, session_seconds}
 use Rattle.ifmap_core.specs.ifmap_machine.Step.{step}
 use Rattle.ifmap_server.specs.Frames.{Frame, Meaning}
 use Rattle.ifmap_server.specs.Output.{EventByRequest, event_of_frame, step_frame}
@@ -17,4 +17,4 @@ history_from state [] = []
 history_from state (f ∷ frames) = asked_history state (event_of_frame f) f.meaning ++ history_from (step_frame state f).0 frames
 
 abbrev pub history_of : List Frame → History
-history_of frames = history_from (opening session_seconds) frames
+history_of frames = history_from (opening_state session_seconds) frames

@@ -6,7 +6,7 @@ use Rattle.ifmap_core.specs.ifmap_machine.declared.events.Answer.{Answer}
 use Rattle.ifmap_core.specs.ifmap_machine.declared.events.Answer.TheVariants.{Reply, Held, Heard}
 use Rattle.ifmap_core.specs.ifmap_machine.declared.events.Ask.TheVariants as ask
 use Rattle.ifmap_core.specs.ifmap_machine.Events.{Event}
-use Rattle.ifmap_core.specs.ifmap_machine.State.{State, opening, session_seconds}
+use Rattle.ifmap_core.specs.ifmap_machine.State.{State, opening_state, session_seconds}
 use Rattle.ifmap_core.specs.ifmap_machine.Step.{refusal, step}
 use Rattle.ifmap_core.specs.ifmap_replies.Results.{reply_bytes}
 use Rattle.ifmap_requests.specs.declared.errors.Refusal.TheVariants.{Named, Unreadable, NoMemory}
@@ -55,7 +55,7 @@ answers_from state [] = []
 answers_from state (f ∷ frames) = (step_frame state f).1 ++ answers_from (step_frame state f).0 frames
 
 abbrev pub answers : List Frame → List ℕ
-answers frames = answers_from (opening session_seconds) frames
+answers frames = answers_from (opening_state session_seconds) frames
 
 -- `!`, the offset of the first fault and a newline, where there is a fault
 abbrev pub fault_line : Option ℕ → List ℕ

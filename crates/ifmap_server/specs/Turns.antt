@@ -4,7 +4,7 @@ use Rattle.std.specs.Io.KnownBytes.{Appends, IsAtEnd, Keeps}
 use Rattle.ifmap_input.specs.Inputs.{TakesFromSource}
 use Rattle.ifmap_input.specs.Scripts.{longest_script}
 use Rattle.ifmap_core.specs.ifmap_machine.declared.events.Ask.TheVariants as ask
-use Rattle.ifmap_core.specs.ifmap_machine.State.{State, opening, session_seconds}
+use Rattle.ifmap_core.specs.ifmap_machine.State.{State, opening_state, session_seconds}
 use Rattle.ifmap_server.specs.declared.errors.ReplayError.{ReplayError}
 use Rattle.ifmap_server.specs.declared.errors.ReplayError.TheVariants.{FrameFault, NoMemory, ReadFault, WriteFault}
 use Rattle.ifmap_server.specs.declared.headers.Header.{Header}
@@ -25,7 +25,7 @@ pub record Replaying : Type 0 where
   pub offset : ℕ
 
 abbrev pub replay_beginning : Replaying
-replay_beginning = record { state = opening session_seconds; pending = []; offset = 0 }
+replay_beginning = record { state = opening_state session_seconds; pending = []; offset = 0 }
 
 -- what is asked of the machine by a request that came with a header
 abbrev pub asking_of : Header → EventByRequest

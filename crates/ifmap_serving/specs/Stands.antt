@@ -13,7 +13,7 @@ use Rattle.ifmap_hall.specs.Passes.{IsOf, view_of}
 use Rattle.ifmap_hall.specs.Views.{IsSoundView}
 use Rattle.ifmap_io.specs.Statuses.{done_status, link_fault_status}
 use Rattle.ifmap_desks.specs.ifmap_machine.declared.events.Answer.{Answer}
-use Rattle.ifmap_desks.specs.ifmap_machine.State.{opening, session_seconds}
+use Rattle.ifmap_desks.specs.ifmap_machine.State.{opening_state, session_seconds}
 use Rattle.ifmap_serving.specs.declared.stands.Stand.{Stand}
 use Rattle.ifmap_serving.specs.Connections.{Connection, Worker}
 use Rattle.ifmap_serving.specs.Works.{DoorSeen, IsWorkStatus, Works}
@@ -25,7 +25,7 @@ ServerHall = Hall CoreMachine FitEvent Answer
 -- a pass of a hall of these limits that began with an empty core. Its base is the run of some entries from there, since the entries that
 -- it has seen are all since the opening state, and as many of them are in the base
 pub record IsServerView (v : HallView CoreMachine FitEvent Answer) : Type 0 where
-  pub opening : v.terms.opening.value ≡ record { core = opening session_seconds }
+  pub opening : v.terms.opening.value ≡ record { core = opening_state session_seconds }
   pub limit : v.terms.limit ≡ 500_000_000
   pub heaviest : v.terms.heaviest ≡ 80_001_000
   pub sound : IsSoundView v

@@ -10,7 +10,7 @@ use Rattle.std.proofs.lemmas.Nat.{div-add-mod'}
 use Rattle.std.proofs.lemmas.List.Elements.{All-from_recursion}
 use Rattle.std.specs.List.{All, AllByRecursion}
 use Rattle.ifmap_lemmas.specs.Filters.{all_filter}
-use Rattle.ifmap_session.specs.Stamps.{IsPower, IsTree, Restamps, node_value, children_of, doubling, due_nodes, is_due, numbers_from}
+use Rattle.ifmap_session.specs.Stamps.{IsPower, IsTree, Restamps, node_value, children_of, doubled_number, due_nodes, is_due, numbers_from}
 
 -- a number halved so often
 abbrev pub half : ℕ → ℕ → ℕ
@@ -211,11 +211,11 @@ pub root_there : (width : ℕ) (tree : List ℕ) → IsTree width tree → 1 ≤
 root_there width tree t some = place_by (2 * width) width tree t 1 (omega arith) (omega arith) (omega arith)
 
 -- levels
-double_again : (times n : ℕ) → doubling times (2 * n) ≡ 2 * doubling times n
+double_again : (times n : ℕ) → doubled_number times (2 * n) ≡ 2 * doubled_number times n
 double_again zero n = refl
 double_again (suc times) n = double_again times (2 * n)
 
-no_less : (times n : ℕ) → n ≤ doubling times n
+no_less : (times n : ℕ) → n ≤ doubled_number times n
 no_less zero n = omega arith
 no_less (suc times) n = let h = no_less times (2 * n) in omega arith
 
@@ -225,7 +225,7 @@ power_again width p = (suc p.0, ap (λ n. 2 * n) p.1 ∙ sym (double_again p.0 1
 -- where a walk down stands: at a level that is full
 pub record Level (width : ℕ) (tree : List ℕ) (limit : ℕ) (nodes : List ℕ) (first : ℕ) : Type 0 where
   pub low : 1 ≤ first
-  pub up : (times : ℕ) × (width ≡ doubling times first)
+  pub up : (times : ℕ) × (width ≡ doubled_number times first)
   pub due : nodes ≡ filter (is_due tree limit) (numbers_from first first)
 
 pub root_within : (width : ℕ) (tree : List ℕ) → IsTree width tree → IsPower width → 1 < length tree
@@ -234,7 +234,7 @@ root_within width tree t p = let n = no_less p.0 1 in let e = p.1 in let long = 
 pub level_begins : (width : ℕ) (tree : List ℕ) (limit : ℕ) → IsPower width → Level width tree limit (filter (is_due tree limit) (1 ∷ [])) 1
 level_begins width tree limit p = record { low = omega arith; up = p; due = refl }
 
-twice_fits : (width first times : ℕ) → width ≡ doubling times first → first < width → (n : ℕ) × (width ≡ doubling n (2 * first))
+twice_fits : (width first times : ℕ) → width ≡ doubled_number times first → first < width → (n : ℕ) × (width ≡ doubled_number n (2 * first))
 twice_fits width first zero e less = absurd (omega arith)
 twice_fits width first (suc times) e less = (times, e)
 
@@ -303,7 +303,7 @@ level_next width tree limit first nodes next t l less e =
           ∙ ap (filter (is_due tree limit)) (children_twice first first);
     })
 
-last_level : (width first times : ℕ) → width ≡ doubling times first → width ≤ first → 1 ≤ first → first ≡ width
+last_level : (width first times : ℕ) → width ≡ doubled_number times first → width ≤ first → 1 ≤ first → first ≡ width
 last_level width first zero e less low = sym e
 last_level width first (suc times) e less low = let n = no_less times (2 * first) in absurd (omega arith)
 

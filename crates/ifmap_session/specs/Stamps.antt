@@ -40,13 +40,13 @@ abbrev pub due_nodes : ℕ → List ℕ → ℕ → List ℕ
 due_nodes width tree limit = filter (is_due tree limit) (numbers_from width width)
 
 -- what a number is once it was doubled so often
-abbrev pub doubling : ℕ → ℕ → ℕ
-doubling zero n = n
-doubling (suc times) n = doubling times (2 * n)
+abbrev pub doubled_number : ℕ → ℕ → ℕ
+doubled_number zero n = n
+doubled_number (suc times) n = doubled_number times (2 * n)
 
 -- a power of two
 abbrev pub IsPower : ℕ → Type 0
-IsPower width = (times : ℕ) × (width ≡ doubling times 1)
+IsPower width = (times : ℕ) × (width ≡ doubled_number times 1)
 
 -- what no width comes up to: four times as many places as sessions may live
 abbrev pub width_bound : ℕ

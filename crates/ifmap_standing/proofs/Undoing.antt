@@ -1,7 +1,7 @@
 -- Taking back, as a walk down of ways.
 use Rattle.std.proofs.Common.{◌≡◌, ℕ, Option, Some, List, [], ◌∷◌, ◌++◌, length, get_or, slice_get, sym, subst}
 use Rattle.ifmap_delta.specs.declared.subscriptions.Subscription.{Subscription}
-use Rattle.ifmap_lemmas.specs.Places.{present}
+use Rattle.ifmap_lemmas.specs.Places.{something_at}
 use Rattle.ifmap_standing.specs.declared.standing.Standing.{Standing}
 use Rattle.ifmap_standing.specs.Kept.{AtEach, KeepsSame, StaysRelated}
 use Rattle.ifmap_standing.specs.Ways.{LeadBack, LeadsBackWhere, Way}
@@ -28,7 +28,7 @@ pub lead_at : (ways : List (Option Way)) (old : List Standing) (left less : List
 lead_at ways old left less now way at x d cut place is b =
     let here = there_old IsUndone (λ x before k. k) ways old left less now way at x d cut place is
     in let by = way_there IsUndone (λ x before k. k) ways old left less now way at x d cut place is
-    in let was = present old b.0 at x (sym b.1.each.long) here
+    in let was = something_at old b.0 at x (sym b.1.each.long) here
     in let leads = (b.1.each.at at was.0 x was.1 here).subscription
     in (
       was.0.subscription,

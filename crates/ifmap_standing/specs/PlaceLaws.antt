@@ -1,6 +1,6 @@
 -- Subscriptions place by place.
 use Rattle.std.proofs.Common.{ℕ, List, ◌∙◌, refl, sym, subst, Option, None, Some}
-use Rattle.ifmap_lemmas.specs.Places.{present}
+use Rattle.ifmap_lemmas.specs.Places.{something_at}
 use Rattle.ifmap_standing.specs.Kept.{AtEach, KeepsSame, StaysRelated}
 use Rattle.std.proofs.lemmas.Option.{same_Some}
 use Rattle.ifmap_delta.specs.declared.subscriptions.Subscription.{Subscription}
@@ -13,7 +13,7 @@ pub at_each_joined : {X : Type 0} (R S T : ℕ → X → X → Type 0) → ((i :
     → AtEach R a b → AtEach S b c → AtEach T a c
 at_each_joined R S T f a b c r s = record {
   long = s.long ∙ r.long;
-  at = λ i x z p q. let y = present a b i x r.long p in f i x y.0 z (r.at i x y.0 p y.1) (s.at i y.0 z y.1 q);
+  at = λ i x z p q. let y = something_at a b i x r.long p in f i x y.0 z (r.at i x y.0 p y.1) (s.at i y.0 z y.1 q);
 }
 
 -- a relation that holds of each with itself

@@ -7,7 +7,7 @@ use Rattle.ifmap_standing.specs.ifmap_session.Sessions.{SessionTable, session_wi
 use Rattle.ifmap_tellings.specs.Tellings.{HasSameSessions, Tellings, told_by, told_where, AllKept, kept_of}
 use Rattle.ifmap_tellings.specs.declared.tellings.Telling.{Telling}
 use Rattle.ifmap_tellings.specs.declared.tellings.Telling.TheVariants.{After, Alone}
-use Rattle.ifmap_lemmas.specs.Places.{present}
+use Rattle.ifmap_lemmas.specs.Places.{something_at}
 use Rattle.ifmap_standing.specs.declared.standing.Standing.{Standing}
 use Rattle.ifmap_standing.specs.Kept.{AtEach}
 
@@ -54,7 +54,7 @@ found_told tellings n (x ∷ live) s e =
 pub same_kept : (P Q : Standing → Type 0) (R : ℕ → Standing → Standing → Type 0) → ((i : ℕ) (x y : Standing) → R i x y → P x → Q y)
     → (gone : List Bool) (old new : List Standing) → AtEach R old new → AllKept P gone old → AllKept Q gone new
 same_kept P Q R f gone old new r k = λ i y at flag.
-    let x = present new old i y (sym r.long) at in f i x.0 y (r.at i x.0 y x.1 at) (k i x.0 x.1 flag)
+    let x = something_at new old i y (sym r.long) at in f i x.0 y (r.at i x.0 y x.1 at) (k i x.0 x.1 flag)
 
 pub map_kept : {X Y : Type 0} (f : X → Y) (gone : List Bool) (xs : List X) → map f (kept_of gone xs) ≡ kept_of gone (map f xs)
 map_kept f [] xs = refl

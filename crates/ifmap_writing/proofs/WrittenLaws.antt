@@ -20,7 +20,7 @@ use Rattle.ifmap_elem.specs.Scopes.{xmlns_space}
 use Rattle.ifmap_elem.specs.declared.elements.Child.{Child}
 use Rattle.ifmap_elem.specs.declared.elements.Element.{Element}
 use Rattle.ifmap_elem.specs.laws.PrintedScopes.{are_declared}
-use Rattle.ifmap_requests.specs.ifmap_envelopes.Envelopes.{around, envelope_name, in_envelope}
+use Rattle.ifmap_requests.specs.ifmap_envelopes.Envelopes.{element_around, envelope_name, in_envelope}
 use Rattle.ifmap_filter.specs.declared.filters.Filter.{Filter}
 use Rattle.ifmap_filter.specs.Spaces.{filter_spaces}
 use Rattle.ifmap_ident.specs.declared.identifiers.Identifier.{Identifier}
@@ -266,7 +266,7 @@ module _ (fits : (i : Identifier) → IsIdentifier i → IsFit (identifier_eleme
   pub envelope_sound : (r : Request) → IsFitRequest r → IsBounded r → IsSound 64 (in_envelope (request_element r))
   envelope_sound r f within =
       let inner = element_sound (request_spaces r) r f within in
-      let body : Element = around (envelope_name (codes "Body")) (request_element r) in
+      let body : Element = element_around (envelope_name (codes "Body")) (request_element r) in
       let b = sound_whole 62 (envelope_name (codes "Body")) [] (request_element r ∷ []) (envelope_fits (codes "Body") refl) no_rows
       (inner, tt) in
       sound_whole 63 (envelope_name (codes "Envelope")) [] (body ∷ []) (envelope_fits (codes "Envelope") refl) no_rows (b, tt)

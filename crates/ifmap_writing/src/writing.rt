@@ -1,6 +1,6 @@
 //! Requests as elements and as bytes.
 ghost use Rattle.std.specs.Prelude.{◌≡◌, [], IfOk};
-ghost use Rattle.ifmap_requests.specs.ifmap_envelopes.Envelopes.{around, in_envelope};
+ghost use Rattle.ifmap_requests.specs.ifmap_envelopes.Envelopes.{element_around, in_envelope};
 ghost use Rattle.ifmap_requests.specs.ifmap_envelopes.Spaces.{ifmap_space};
 ghost use Rattle.ifmap_writing.specs.RequestElements.{asking_element, element_in, request_bytes, request_element};
 ghost use Rattle.ifmap_writing.specs.Attributes.{session_rows};
@@ -128,7 +128,7 @@ fn wrap_element(
     inner: Element,
 ) -> Result<Element, NoMemory>
     ensures { IfOk result (λ element.
-        element ≡ around (record { space = space.now; local = local.now }) inner) }
+        element ≡ element_around (record { space = space.now; local = local.now }) inner) }
 {
     let mut children = Vec::new(alloc);
     children.push(Child::Element(inner))?;

@@ -2,7 +2,7 @@
 use Rattle.std.specs.Prelude.{◌≡◌, ℕ, ◌⊎◌, List, [], None, length}
 use Rattle.ifmap_command.specs.Words.{IsServe}
 use Rattle.ifmap_io.specs.Statuses.{link_fault_status, no_memory_status}
-use Rattle.ifmap_program.specs.Runs.{Runs, outside}
+use Rattle.ifmap_program.specs.Runs.{Runs, outside_seen}
 use Rattle.ifmap_program.specs.ifmap_server.Ends.{SourceAndSink}
 use Rattle.ifmap_serving.specs.declared.stands.Stand.{Stand}
 use Rattle.ifmap_serving.specs.Works.{DoorSeen}
@@ -20,7 +20,8 @@ listener_seen faults = record { links = None; faults = faults }
 abbrev pub RunsOver : List (Stand ℕ OpenGate) → List (List ℕ) → ℕ → SourceAndSink → SourceAndSink → Type 0
 RunsOver stands words status before after =
     (key : List ℕ) × (left : List (Stand ℕ OpenGate))
-    × Runs any_moment listener_seen key words status (outside before stands) (outside after left)
+    × Runs any_moment listener_seen key words status (outside_seen before stands)
+    (outside_seen after left)
 
 -- no server began, with the status for that it cannot listen or has no random key, or no memory, and nothing was read or written
 abbrev pub BeginsNothing : ℕ → SourceAndSink → SourceAndSink → Type 0

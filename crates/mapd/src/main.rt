@@ -6,7 +6,7 @@ mod outside;
 ghost use Rattle.std.specs.Prelude.{◌≡◌, IfErr, IfOk, List, [], map, string_bytes};
 ghost use Rattle.std.specs.Process.{exit_status};
 ghost use Rattle.ifmap_io.specs.Statuses.{link_fault_status, no_memory_status};
-ghost use Rattle.ifmap_program.specs.Runs.{Runs, outside};
+ghost use Rattle.ifmap_program.specs.Runs.{Runs, outside_seen};
 ghost use Rattle.ifmap_program.specs.ifmap_server.Ends.{source_and_sink};
 ghost use Rattle.ifmap_serving.specs.declared.stands.Stand.{Stand};
 ghost use Rattle.ifmap_serving.specs.Works.{door_seen};
@@ -143,9 +143,9 @@ fn run_alone<R: Threads + Wait + Sync, C: Clock + Sync, S: Source, K: Sink, P: P
         (door_seen ⟦<TcpDoor<'static> as Door>⟧.links ⟦<TcpDoor<'static> as Door>⟧.faults)
         setting.now.key
         (map string_bytes words.now) result
-        (outside (source_and_sink (S.left source.old) (S.faults source.old) (K.held sink.old)
+        (outside_seen (source_and_sink (S.left source.old) (S.faults source.old) (K.held sink.old)
         (K.faults sink.old)) [])
-        (outside (source_and_sink (S.left source.new) (S.faults source.new) (K.held sink.new)
+        (outside_seen (source_and_sink (S.left source.new) (S.faults source.new) (K.held sink.new)
         (K.faults sink.new)) left) }
 {
     let mut stands: [Stand<TcpDoor<'_>, OpenGate>; 0] = [];

@@ -5,7 +5,7 @@ use Rattle.std.specs.Ordering.{is_gt, is_lt, is_eq}
 use Rattle.ifmap_lemmas.specs.Filters.{all_around, all_filter, found_all}
 use Rattle.ifmap_meta.specs.declared.stored.Stored.{Stored}
 use Rattle.ifmap_meta.specs.Whole.{IsWhole}
-use Rattle.ifmap_plans.specs.Lists.{put_each, without}
+use Rattle.ifmap_plans.specs.Lists.{list_without, put_each}
 use Rattle.ifmap_plans.specs.Placing.{put}
 use Rattle.ifmap_view.specs.Attachments.{stored_order}
 use Rattle.ifmap_lemmas.specs.Members.{map_of_all}
@@ -46,7 +46,7 @@ whole_after before after changes fits is w =
     on x None e = whole_on before w x
     on x (Some c) e =
         let f : FitsItem before c = found_all (FitsItem before) (λ (d : ItemChange). same_item d.item x) changes fits.each c e
-        in all_put c.added (without c.removed (stored_on x before)) f.whole
+        in all_put c.added (list_without c.removed (stored_on x before)) f.whole
         (all_filter IsWhole _ (stored_on x before) (whole_on before w x))
 
 -- the tests of two items that tie

@@ -10,7 +10,7 @@ use Rattle.std.specs.Ordering.{eq_by_cmp, is_eq, is_lt, ordering_reverse}
 use Rattle.std.specs.declared.cmp.Ordering.TheVariants.{Less, Equal, Greater}
 use Rattle.ifmap_lemmas.specs.Having.{Has, all_has, filter_has, has_filter}
 use Rattle.ifmap_meta.specs.declared.stored.Stored.{Stored}
-use Rattle.ifmap_plans.specs.Lists.{put_each, without}
+use Rattle.ifmap_plans.specs.Lists.{list_without, put_each}
 use Rattle.ifmap_plans.specs.Placing.{put}
 use Rattle.ifmap_plans.specs.laws.KeyLaws.{stored_total}
 use Rattle.ifmap_plans.specs.laws.PlacingLaws.{has_put_one, put_sorted}
@@ -85,15 +85,16 @@ none_among a (b ∷ bs) h =
     ap not (or_from (eq_by_cmp stored_order b a) (list_any (λ r. eq_by_cmp stored_order r a) bs) more
     (not-true (list_any (λ r. eq_by_cmp stored_order r a) bs) (none_among a bs h.1)))
 
-pub in_each : (added rows : List Stored) (s : Stored) → IsStrictlySortedBy stored_order added → Has added s ⊎ Has (without added rows) s
+pub in_each : (added rows : List Stored) (s : Stored) → IsStrictlySortedBy stored_order added
+    → Has added s ⊎ Has (list_without added rows) s
     → Has (put_each added rows) s
 unfolding IsStrictlySortedBy
 in_each [] rows s up (inl h) = absurd h
 in_each [] rows s up (inr h) = (filter_has (stays []) rows s h).0
 in_each (a ∷ adds) rows s up (inl (inl e)) =
-    let there : Has (without adds (put stored_order a rows)) a = has_filter (stays adds) (put stored_order a rows) a
+    let there : Has (list_without adds (put stored_order a rows)) a = has_filter (stays adds) (put stored_order a rows) a
     (has_put_one Stored stored_order stored_total a rows) (none_among a adds up.0) in
-    in_each adds (put stored_order a rows) s up.1 (inr (subst (Has (without adds (put stored_order a rows))) e there))
+    in_each adds (put stored_order a rows) s up.1 (inr (subst (Has (list_without adds (put stored_order a rows))) e there))
 in_each (a ∷ adds) rows s up (inl (inr h)) = in_each adds (put stored_order a rows) s up.1 (inl h)
 in_each (a ∷ adds) rows s up (inr h) =
     let p = filter_has (stays (a ∷ adds)) rows s h in
@@ -102,7 +103,7 @@ in_each (a ∷ adds) rows s up (inr h) =
     in_each adds (put stored_order a rows) s up.1 (inr (has_filter (stays adds) (put stored_order a rows) s
     (has_put Stored stored_order stored_total a rows s p.0 both.0) (ap not both.1)))
 
-pub each_in : (added rows : List Stored) (s : Stored) → Has (put_each added rows) s → Has added s ⊎ Has (without added rows) s
+pub each_in : (added rows : List Stored) (s : Stored) → Has (put_each added rows) s → Has added s ⊎ Has (list_without added rows) s
 each_in [] rows s h = inr (has_filter (stays []) rows s h refl)
 each_in (a ∷ adds) rows s h = elim (each_in adds (put stored_order a rows) s h) [
   | inl k ↦ inl (inr k)

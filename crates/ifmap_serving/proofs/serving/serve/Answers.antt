@@ -9,7 +9,7 @@ use Rattle.ifmap_hall.proofs.hall.Hall.TheSendSync as Hall
 use Rattle.ifmap_hall.specs.contracts.hall.Hall as the_hall
 use Rattle.ifmap_hall.specs.declared.machine.Machine.{Ghosts}
 use Rattle.ifmap_desks.specs.ifmap_machine.contracts.events.Answer as the_answer
-use Rattle.ifmap_desks.specs.ifmap_machine.State.{opening}
+use Rattle.ifmap_desks.specs.ifmap_machine.State.{opening_state}
 use Rattle.ifmap_serving.proofs.Sending.{fit_send, machine_send}
 
 -- a hall over a core can be shared, whatever the core does as its machine
@@ -24,7 +24,7 @@ run_workers-requires-sync-X g c κs within = record {
     holds_on = core_holds;
     next = _;
     reply = core_reply;
-    some_state = record { core = opening 1 };
+    some_state = record { core = opening_state 1 };
   }).shared;
 }
 

@@ -1,5 +1,5 @@
-use Rattle.std.proofs.Common.{◌+◌, ◌<◌, ◌∙◌, sym, subst, arith}
-use Rattle.ifmap_hall.specs.SeatViews.{IsSoundSeat}
+use Rattle.std.proofs.Common.{◌+◌, ◌≤◌, ◌∙◌, sym, subst, arith}
+use Rattle.ifmap_hall.specs.SeatViews.{IsSoundSeat, all_parts}
 use Rattle.ifmap_hall.specs.Sights.{CarriesOn}
 use Rattle.ifmap_hall.specs.Views.{IsSoundView, sight_by}
 use Rattle.ifmap_hall.proofs.Sighting.{joint_carries, joint_apart}
@@ -38,7 +38,7 @@ returns-clause-parts g c =
     let s = c.args.into.now.seat.me.0 in
     let u = c.args.from.seat.me.0 in
     let sound = subst (λ m. IsSoundSeat m.0) c.glue.ensures.both c.check.ensures.sound in
-    let fits : s.parts + u.parts < 18446744073709551616 = sound.parts in
+    let fits : s.parts + u.parts ≤ all_parts = sound.parts in
     let there = c.args.into.now.parts_there in
     let other = c.args.from.parts_there in
     omega arith
