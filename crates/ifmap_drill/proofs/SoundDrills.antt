@@ -18,6 +18,7 @@ use Rattle.ifmap_requests.specs.declared.requests.Request.TheVariants.{NewSessio
 use Rattle.ifmap_drill.specs.declared.tasks.Task.TheVariants.{Begin}
 use Rattle.ifmap_drill.specs.Drills.{Drilling, after_event, asked_at, drilling_after, id_given}
 use Rattle.ifmap_drill.specs.Events.{event_at}
+use Rattle.ifmap_drill.specs.Extent.{client_count}
 use Rattle.ifmap_drill.specs.Parts.{link_metadata}
 use Rattle.ifmap_drill.specs.Requests.{request_by, session_of}
 use Rattle.ifmap_drill.specs.Tasks.{task_at}
@@ -64,15 +65,15 @@ given_characters state event limit is =
     subst (λ (ask : Ask). IsCharacters (id_given (step_ask (expire (advance event.moment state)) event ask).1)) (sym is)
     (begun_characters (expire (advance event.moment state)) event.client event.random limit)
 
-early_task : (i : ℕ) → nat_lt i 10 ≡ true → task_at i ≡ Begin
+early_task : (i : ℕ) → nat_lt i client_count ≡ true → task_at i ≡ Begin
 early_task i early = rw early refl
 
-early_ask : (i : ℕ) (d : Drilling) → nat_lt i 10 ≡ true → (event_at i (asked_at i d).0).ask ≡ Request (NewSession None)
+early_ask : (i : ℕ) (d : Drilling) → nat_lt i client_count ≡ true → (event_at i (asked_at i d).0).ask ≡ Request (NewSession None)
 early_ask i d early =
     ap (λ task. Request (request_by task (i % 10) (session_of (i % 10) d.ids) d.draws).0) (early_task i early)
 
 next_ids : (i : ℕ) (d : Drilling) → AllByRecursion IsCharacters d.ids → AllByRecursion IsCharacters (after_event i d).ids
-next_ids i d fit = elim (cases_Bool (nat_lt i 10)) [
+next_ids i d fit = elim (cases_Bool (nat_lt i client_count)) [
   | inl e ↦
       let given = given_characters d.state (event_at i (asked_at i d).0) None (early_ask i d e) in
       subst (λ early. AllByRecursion IsCharacters

@@ -12,6 +12,7 @@ use Rattle.ifmap_core.specs.ifmap_machine.Step.{step}
 use Rattle.ifmap_core.specs.ifmap_replies.declared.replies.Reply.TheVariants as the_reply
 use Rattle.ifmap_requests.specs.declared.requests.Request.{Request}
 use Rattle.ifmap_drill.specs.Events.{event_at}
+use Rattle.ifmap_drill.specs.Extent.{client_count}
 use Rattle.ifmap_drill.specs.Requests.{request_at}
 
 -- a drill between two events: the events so far with their answers, the state after them, the ids of the sessions that the first ten
@@ -50,7 +51,7 @@ id_given Heard = []
 
 -- the ids after event i, by its answer
 abbrev pub ids_after : ℕ → Answer → List (List ℕ) → List (List ℕ)
-ids_after i answer ids = if nat_lt i 10 then ids ++ id_given answer ∷ [] else ids
+ids_after i answer ids = if nat_lt i client_count then ids ++ id_given answer ∷ [] else ids
 
 -- the drill after the answer to event i, which asks a request
 abbrev pub after_answer : ℕ → Event → Lcg → Drilling → Drilling

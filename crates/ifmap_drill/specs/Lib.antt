@@ -2,6 +2,7 @@ pub mod Counts
 pub mod Drilled
 pub mod Drills
 pub mod Events
+pub mod Extent
 pub mod Following
 pub mod Parts
 pub mod Requests

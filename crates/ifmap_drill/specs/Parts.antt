@@ -12,6 +12,7 @@ use Rattle.ifmap_ident.specs.declared.items.Item.TheVariants.{One}
 use Rattle.ifmap_meta.specs.declared.metadata.Cardinality.TheVariants.{Single}
 use Rattle.ifmap_meta.specs.declared.metadata.Metadata.{Metadata}
 use Rattle.ifmap_drill.specs.declared.parts.AddressPair.{AddressPair}
+use Rattle.ifmap_drill.specs.Extent.{address_count, most_apart}
 
 -- the MAC address of a number below 1,000: 00:00:5e:00, and the number in two bytes
 abbrev pub address : ℕ → Identifier
@@ -21,8 +22,13 @@ address number = MacAddress (0 ∷ (0 ∷ (0x5e ∷ (0 ∷ (number / 256 ∷ (nu
 abbrev pub draw_ends : Lcg → AddressPair × Lcg
 draw_ends draws =
     let one = pcg64 draws in
-    let other = pcg64 one.1 in
-    (record { first = one.0 % 1000; second = (one.0 % 1000 + 1 + other.0 % 3) % 1000 }, other.1)
+    let other = pcg64 one.1 in (
+      record {
+        first = one.0 % address_count;
+        second = (one.0 % address_count + 1 + other.0 % most_apart) % address_count;
+      },
+      other.1,
+    )
 
 -- the link between two addresses; the ends that are drawn differ, so that they have one
 abbrev pub link_of : AddressPair → Item

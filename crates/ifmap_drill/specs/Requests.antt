@@ -11,16 +11,17 @@ use Rattle.ifmap_requests.specs.declared.requests.SubscribeOp.TheVariants as sub
 use Rattle.ifmap_search.specs.declared.searches.Search.{Search as AnySearch}
 use Rattle.ifmap_drill.specs.declared.tasks.Task.{Task}
 use Rattle.ifmap_drill.specs.declared.tasks.Task.TheVariants.{Begin, Subscribe, Update, Delete, Search, Poll, Renew}
+use Rattle.ifmap_drill.specs.Extent.{address_distance, client_count, largest_result, subscription_depth}
 use Rattle.ifmap_drill.specs.Parts.{address, draw_ends, link_metadata, link_of}
 use Rattle.ifmap_drill.specs.Tasks.{task_at}
 
 -- a search for what is within so many links of the client's own address, with no filter, that no kind of identifier ends
 abbrev pub drill_search : ℕ → ℕ → AnySearch
 drill_search client depth = record {
-  start = address (client * 100);
+  start = address (client * address_distance);
   match_links = None;
   max_depth = depth;
-  max_size = 1_000_000;
+  max_size = largest_result;
   result_filter = None;
   terminal = [];
 }
@@ -32,9 +33,9 @@ update_of link = publish.Update link (link_metadata ∷ []) false
 abbrev pub delete_of : Item → PublishOp
 delete_of link = publish.Delete link None
 
--- a subscription to what is within twenty links
+-- a subscription to what is within so many links
 abbrev pub subscription_of : ℕ → SubscribeOp
-subscription_of client = subscribe.Update (codes "s") (drill_search client 20)
+subscription_of client = subscribe.Update (codes "s") (drill_search client subscription_depth)
 
 -- what a client with this number asks in its session, and the generator after the draws that it takes
 abbrev pub request_by : Task → ℕ → List ℕ → Lcg → Request × Lcg
@@ -54,4 +55,5 @@ session_of client ids = unwrap_or (slice_get ids client) []
 
 -- what event i asks, for the client whose number is the last digit of i, and the generator after its draws
 abbrev pub request_at : ℕ → List (List ℕ) → Lcg → Request × Lcg
-request_at i ids draws = request_by (task_at i) (i % 10) (session_of (i % 10) ids) draws
+request_at i ids draws =
+    request_by (task_at i) (i % client_count) (session_of (i % client_count) ids) draws

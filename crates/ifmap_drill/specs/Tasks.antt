@@ -1,5 +1,6 @@
 -- What each event of a drill asks.
 use Rattle.std.specs.Prelude.{ℕ, ◌/◌, ◌%◌, ◌==◌, nat_lt, if◌then◌else◌}
+use Rattle.ifmap_drill.specs.Extent.{client_count, opening_events}
 use Rattle.ifmap_drill.specs.declared.tasks.Task.{Task}
 use Rattle.ifmap_drill.specs.declared.tasks.Task.TheVariants.{Begin, Subscribe, Update, Delete, Search, Poll, Renew}
 
@@ -14,4 +15,7 @@ block_task digit =
 
 -- what event i asks: the first ten events a session each, the next ten a subscription each, and then block by block
 abbrev pub task_at : ℕ → Task
-task_at i = if nat_lt i 10 then Begin else if nat_lt i 20 then Subscribe else block_task (i / 10 % 10)
+task_at i =
+    if nat_lt i client_count then Begin
+    else if nat_lt i opening_events then Subscribe
+    else block_task (i / client_count % 10)

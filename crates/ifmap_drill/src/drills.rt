@@ -3,11 +3,13 @@ ghost use Rattle.std.specs.Prelude.{◌≡◌, ◌<◌, OnOk};
 ghost use Rattle.std.specs.List.{AllByRecursion};
 ghost use Rattle.ifmap_elem.specs.Chars.{IsCharacters};
 ghost use Rattle.ifmap_drill.specs.Drills.{Drilling, after_answer, after_event, drill_beginning, id_given, ids_after};
+ghost use Rattle.ifmap_drill.specs.Extent.{most_events};
 ghost use Rattle.ifmap_drill.specs.Following.{drill_of};
 ghost use Rattle.ifmap_drill.specs.Summaries.{summary_of};
 
 use crate::counts::Counts;
 use crate::events::make_event;
+use crate::tasks::CLIENT_COUNT;
 use ifmap_core::{Answer, Core, Event, Reply, SESSION_SECONDS};
 use ifmap_elem::{Many, Text};
 use ifmap_steps::Steps;
@@ -49,7 +51,7 @@ impl Drill {
         i: u32,
         steps: &mut Steps<L>,
     ) -> Result<(), NoMemory>
-        requires few { i < 100_000 }
+        requires few { i < most_events }
         requires fit { AllByRecursion IsCharacters self.old.ids }
         ensures { OnOk result ((d : Drilling) → self.old ≡ drill_of d
             → self.new ≡ drill_of (after_event i d)) }
@@ -89,7 +91,7 @@ impl Drill {
 fn keep_id(alloc: Global, i: u32, answer: Answer, ids: &mut Many<Text>) -> Result<(), NoMemory>
     ensures { OnOk result (ids.new ≡ ids_after i answer ids.old) }
 {
-    if i < 10 {
+    if i < CLIENT_COUNT {
         ids.push(id_given(alloc, answer))?;
     }
     Ok(())

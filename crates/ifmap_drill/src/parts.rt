@@ -1,6 +1,7 @@
 //! What the requests of a drill are made of: identifiers by numbers, links by draws, and the element
 //! that links carry.
 ghost use Rattle.std.specs.Prelude.{◌≡◌, ◌≢◌, ◌<◌, IfOk};
+ghost use Rattle.ifmap_drill.specs.Extent.{address_count};
 ghost use Rattle.ifmap_drill.specs.Parts.{address, draw_ends, link_metadata, link_of};
 
 use ifmap_elem::{Attribute, Element, Many, Name, Text};
@@ -13,9 +14,15 @@ use std::alloc::{AllocError as NoMemory, Global};
 
 const MARK_SPACE: &str = "urn:mapd:drill";
 
+// How many addresses there are.
+const ADDRESS_COUNT: u64 = 1000;
+
+// How far the ends of a link are apart at most.
+const MOST_APART: u64 = 3;
+
 // The MAC address of a number. It takes no memory.
 pub(crate) fn address(alloc: Global, number: u64) -> Identifier
-    requires { number < 1000 }
+    requires { number < address_count }
     ensures { result ≡ address number }
 {
     Identifier::MacAddress {
@@ -34,16 +41,16 @@ pub struct AddressPair {
 // The ends of a link by two draws.
 fn draw_ends(draws: &mut Lcg128Xsl64) -> AddressPair
     ensures drawn { (result, draws.new) ≡ draw_ends draws.old }
-    ensures first { result.first < 1000 }
-    ensures second { result.second < 1000 }
+    ensures first { result.first < address_count }
+    ensures second { result.second < address_count }
     ensures apart { result.first ≢ result.second }
 {
     let one = draws.next_word();
     let other = draws.next_word();
-    let first = one % 1000;
+    let first = one % ADDRESS_COUNT;
     AddressPair {
         first,
-        second: (first + 1 + other % 3) % 1000,
+        second: (first + 1 + other % MOST_APART) % ADDRESS_COUNT,
     }
 }
 
@@ -58,8 +65,8 @@ pub(crate) fn draw_link(alloc: Global, draws: &mut Lcg128Xsl64) -> Item
 
 // The link of two different numbers.
 fn link_of(alloc: Global, ends: AddressPair) -> Item
-    requires first { ends.first < 1000 }
-    requires second { ends.second < 1000 }
+    requires first { ends.first < address_count }
+    requires second { ends.second < address_count }
     requires apart { ends.first ≢ ends.second }
     ensures { result ≡ link_of ends }
 {

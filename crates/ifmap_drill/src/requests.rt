@@ -1,6 +1,7 @@
 //! The requests of a drill.
 ghost use Rattle.std.specs.Prelude.{◌≡◌, ◌<◌, ◌∷◌, [], IfOk};
 ghost use Rattle.ifmap_requests.specs.declared.requests.Request.TheVariants as the_request;
+ghost use Rattle.ifmap_drill.specs.Extent.{client_count};
 ghost use Rattle.ifmap_drill.specs.Requests.{delete_of, request_by, drill_search, subscription_of, update_of};
 
 use crate::parts::{address, draw_link, link_metadata};
@@ -12,7 +13,14 @@ use ifmap_search::Search;
 use rand_pcg::Lcg128Xsl64;
 use std::alloc::{AllocError as NoMemory, Global};
 
+// The most bytes of the result of a search.
 const LARGEST_RESULT: u64 = 1_000_000;
+
+// How far the own addresses of clients are apart.
+const ADDRESS_DISTANCE: u64 = 100;
+
+// Within how many links of the client's own address a subscription is.
+const SUBSCRIPTION_DEPTH: u32 = 20;
 
 /// The request of a task, for a client with this number and session.
 pub fn request_by(
@@ -22,7 +30,7 @@ pub fn request_by(
     session: Text,
     draws: &mut Lcg128Xsl64,
 ) -> Result<Request, NoMemory>
-    requires { client < 10 }
+    requires { client < client_count }
     ensures { IfOk result (λ request.
         (request, draws.new) ≡ request_by task client session draws.old) }
 {
@@ -75,9 +83,9 @@ fn publish_request(alloc: Global, session: Text, op: PublishOp) -> Result<Reques
     Ok(Request::Publish { session, ops })
 }
 
-// A subscription to what is within twenty links.
+// A subscription to what is within so many links.
 fn subscribe_request(alloc: Global, client: u32, session: Text) -> Result<Request, NoMemory>
-    requires { client < 10 }
+    requires { client < client_count }
     ensures { IfOk result (λ request.
         request ≡ the_request.Subscribe session (subscription_of client ∷ [])) }
 {
@@ -85,18 +93,18 @@ fn subscribe_request(alloc: Global, client: u32, session: Text) -> Result<Reques
     let mut ops = Many::new(alloc);
     ops.push(SubscribeOp::Update {
         name,
-        search: search_from(alloc, client, 20),
+        search: search_from(alloc, client, SUBSCRIPTION_DEPTH),
     })?;
     Ok(Request::Subscribe { session, ops })
 }
 
 // What is within so many links of a client's own address.
 fn search_from(alloc: Global, client: u32, depth: u32) -> Search
-    requires { client < 10 }
+    requires { client < client_count }
     ensures { result ≡ drill_search client depth }
 {
     Search {
-        start: address(alloc, u64::from(client) * 100),
+        start: address(alloc, u64::from(client) * ADDRESS_DISTANCE),
         match_links: None,
         max_depth: depth,
         max_size: LARGEST_RESULT,

@@ -2,6 +2,7 @@
 ghost use Rattle.std.specs.Prelude.{◌≡◌, ◌<◌, ◌≤◌, IfOk};
 ghost use Rattle.ifmap_drill.specs.Drilled.{Drills, IsEnded, side};
 ghost use Rattle.ifmap_drill.specs.Drills.{drilling_after};
+ghost use Rattle.ifmap_drill.specs.Extent.{most_events};
 ghost use Rattle.ifmap_drill.specs.Summaries.{summary_of};
 
 use crate::counts::Counts;
@@ -32,7 +33,7 @@ pub fn drill<K: Sink, P: Progress>(
     progress: &mut P,
 ) -> u8
     requires some { 1 ≤ count }
-    requires few { count ≤ 100_000 }
+    requires few { count ≤ most_events }
     ensures { Drills key count result
         (side (K.held sink.old) (K.faults sink.old)) (side (K.held sink.new) (K.faults sink.new)) }
 {
@@ -73,7 +74,7 @@ fn count_from<P: Progress, L: Ledger>(
     requires name { blank.name ≡ L.name }
     requires parts { blank.parts ≡ L.parts }
     requires some { 0 < blank.parts }
-    requires few { count ≤ 100_000 }
+    requires few { count ≤ most_events }
     ensures { IfOk result (λ counts. counts ≡ summary_of (drilling_after key count)) }
 {
     ids_are_characters();

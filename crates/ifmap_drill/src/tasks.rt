@@ -2,6 +2,12 @@
 ghost use Rattle.std.specs.Prelude.{◌≡◌};
 ghost use Rattle.ifmap_drill.specs.Tasks.{block_task, task_at};
 
+/// How many clients there are, each of which has one event in a block.
+pub(crate) const CLIENT_COUNT: u32 = 10;
+
+// The first events: a session and a subscription of each client.
+const OPENING_EVENTS: u32 = 20;
+
 /// What an event asks.
 #[derive(Clone, Copy, Debug, PartialEq, Eq)]
 pub enum Task {
@@ -25,12 +31,12 @@ pub enum Task {
 pub(crate) fn task_at(i: u32) -> Task
     ensures { result ≡ task_at i }
 {
-    if i < 10 {
+    if i < CLIENT_COUNT {
         Task::Begin
-    } else if i < 20 {
+    } else if i < OPENING_EVENTS {
         Task::Subscribe
     } else {
-        block_task(i / 10 % 10)
+        block_task(i / CLIENT_COUNT % 10)
     }
 }
 

@@ -20,6 +20,7 @@ use Rattle.ifmap_lemmas.specs.Numerals.{numeral, numeral_digits, one_number}
 use Rattle.ifmap_lemmas.specs.Members.{all_of_test}
 use Rattle.ifmap_lemmas.specs.Texts.{ascii_encoded, eq_itself, eq_tells, is_ascii, bytes_apart}
 use Rattle.ifmap_elem.specs.Chars.{colon, equals_sign}
+use Rattle.ifmap_elem.specs.Folds.{Each}
 use Rattle.ifmap_elem.specs.Names.{is_name_character}
 use Rattle.ifmap_elem.specs.Scopes.{xml_space}
 use Rattle.ifmap_elem.specs.declared.elements.Name as element
@@ -52,10 +53,6 @@ pub record Forms (X : Type 0) (R : Rule X) (text : List ℕ) (x : X) : Type 0 wh
   pub others : List FilterToken
   pub lexed : Lexes text (head ∷ others)
   pub takes : (rest : List FilterToken) → R (head ∷ (others ++ rest)) x rest
-
-abbrev Each : {X : Type 0} → (X → Type 0) → List X → Type 0
-Each P [] = Unit {0}
-Each P (x ∷ xs) = P x × Each P xs
 
 each_from : {X : Type 0} (P Q : X → Type 0) → ((x : X) → P x → Q x) → (xs : List X) → Each P xs → Each Q xs
 each_from P Q leads [] h = tt

@@ -28,7 +28,7 @@ use ifmap_view::LinkSeen;
 use std::alloc::{AllocError as NoMemory, Global};
 
 // So many items can have a shelf: more, and the holds of their identifiers could not be counted.
-pub(crate) const MOST_ITEMS: usize = 4_611_686_018_427_387_904;
+pub(crate) const MOST_ITEMS: usize = 1 << 62;
 
 // Room for two numbers more, with their links. Where memory runs out, there may be more room.
 fn make_room(

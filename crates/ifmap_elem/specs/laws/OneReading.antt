@@ -10,8 +10,9 @@ use Rattle.ifmap_elem.specs.declared.readings.Reading.{Reading}
 use Rattle.ifmap_elem.specs.declared.tokens.Assignment.{Assignment}
 use Rattle.ifmap_elem.specs.declared.tokens.Tag.{Tag}
 use Rattle.ifmap_elem.specs.declared.tokens.Token.{Token}
-use Rattle.ifmap_elem.specs.declared.tokens.Token.TheVariants.{Declaration, Comment, Start, Empty, End, Section, Characters}
+use Rattle.ifmap_elem.specs.declared.tokens.Token.TheVariants.{Declaration, Start, End}
 use Rattle.ifmap_elem.specs.Tokens.{TakesToken}
+use Rattle.ifmap_elem.specs.Places.{is_end}
 use Rattle.ifmap_elem.specs.Scopes.{Scope, root_scope, scope_within, plain_assignments, IsAttribute, AreAttributes, NamesElement}
 use Rattle.ifmap_elem.specs.Document as piece
 use Rattle.ifmap_elem.specs.Document.{Pieces, Nothing, tokens_of, Item, Inner, Run, IsElement, AreItems, heading, IsDocument}
@@ -19,19 +20,10 @@ use Rattle.ifmap_elem.specs.laws.Roots.{BeginsWithRoot, root_begins}
 use Rattle.ifmap_elem.specs.Spells.{Spells, without_byte_order_mark}
 use Rattle.ifmap_elem.specs.laws.OneToken.{one_token, no_token}
 
-abbrev pub is_end_tag : Token → Bool
-is_end_tag Declaration = false
-is_end_tag Comment = false
-is_end_tag (Start tag) = false
-is_end_tag (Empty tag) = false
-is_end_tag (End name) = true
-is_end_tag (Section text) = false
-is_end_tag (Characters blank text) = false
-
 -- pieces has ended here: an end tag stands here, or nothing
 abbrev pub EndsPieces : List Token → Type 0
 EndsPieces [] = Unit {0}
-EndsPieces (t ∷ ts) = is_end_tag t ≡ true
+EndsPieces (t ∷ ts) = is_end t ≡ true
 
 nothing_is : (d : Pieces) (r s : List Token) → EndsPieces r → r ≡ tokens_of d ++ s → (Nothing ≡ d) × (r ≡ s)
 nothing_is Nothing r s h e = (refl, e)
