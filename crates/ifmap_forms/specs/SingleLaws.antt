@@ -22,7 +22,7 @@ use Rattle.ifmap_forms.specs.Checks.{Check, IsSingle, check_then, need, need_som
 use Rattle.ifmap_forms.specs.Items.{identifier_check, identifier_code, identifiers_check, item_content, item_of, list_if_there, list_check}
 use Rattle.ifmap_forms.specs.Items.{may_follow, only_identifier, start_content}
 use Rattle.ifmap_forms.specs.Scopes.{Scopes}
-use Rattle.ifmap_forms.specs.Tables.{ContentCheck, Form, Part, AttributeTable, beside, both, each_element, form_or, is_white_part, no_attributes}
+use Rattle.ifmap_forms.specs.Tables.{ContentCheck, Form, Part, AttributeTable, table_with, both, each_element, form_or, is_white_part, no_attributes}
 use Rattle.ifmap_forms.specs.Tables.{no_children, element_parts, read_form, form_check}
 use Rattle.ifmap_forms.specs.Values.{Field, field_check, read_text}
 
@@ -98,7 +98,7 @@ abbrev pub OneOfContent : {X : Type 0} → ContentCheck X → Type 0
 OneOfContent content = (scopes : Scopes) (parts : List Part) → IsSingle (content scopes parts)
 
 module _ {X Y : Type 0} (field : Field X) (table : AttributeTable Y) where
-  pub beside_single : OneOfField field → OneOfTable table → OneOfTable (beside field table)
+  pub beside_single : OneOfField field → OneOfTable table → OneOfTable (table_with field table)
   beside_single f t scope e =
       then_single (field_check field scope e) (λ x. check_then (table.reads scope e) (λ y. pass (both x y)))
       (f scope (value_of field.local e))
