@@ -25,7 +25,7 @@ fn first_of<'a>(entries: Range<'a, Item, usize>, slots: &Slab<Shelf>) -> Option<
         (AreEmpty (λ at. list_at list_now (get slots.now at)) entries.entry) }
 {
     for (item, at) in entries {
-        if !slots[*at].stored.now().is_empty() {
+        if !slots[*at].stored.list_now().is_empty() {
             return Some(item);
         }
     }

@@ -30,7 +30,7 @@ fn count_entries(entries: Range<'_, Item, usize>, slots: &Slab<Shelf>) -> u64
 {
     let mut count = 0;
     for (item, at) in entries {
-        count += count_link(item, slots[*at].stored.now());
+        count += count_link(item, slots[*at].stored.list_now());
     }
     count
 }

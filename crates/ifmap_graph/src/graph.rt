@@ -97,7 +97,7 @@ fn links_now(links: &[Sided<LinkSeen>], number: u64) -> &[LinkSeen]
     ensures { result.now ≡ links_at list_now links.now number }
 {
     match links.get(number as usize) {
-        Some(sides) => sides.now(),
+        Some(sides) => sides.list_now(),
         None => &[],
     }
 }
@@ -107,7 +107,7 @@ fn links_next(links: &[Sided<LinkSeen>], number: u64) -> &[LinkSeen]
     ensures { result.now ≡ links_at list_next links.now number }
 {
     match links.get(number as usize) {
-        Some(sides) => sides.next(),
+        Some(sides) => sides.list_next(),
         None => &[],
     }
 }
@@ -213,7 +213,7 @@ impl Graph {
             → result.now ≡ stored_linked (key_at self.now.names v)
             (key_at self.now.names seen.other) (rows_by (list_at list_next) self.now.shelves) }
     {
-        self.shelves.slots[seen.at as usize].stored.next()
+        self.shelves.slots[seen.at as usize].stored.list_next()
     }
 }
 
@@ -247,7 +247,7 @@ impl View for Graph {
     }
 
     fn link_stored(&self, seen: LinkSeen) -> &[Row] {
-        self.shelves.slots[seen.at as usize].stored.now()
+        self.shelves.slots[seen.at as usize].stored.list_now()
     }
 }
 

@@ -50,7 +50,7 @@ impl Shelves {
         ensures { result.now ≡ stored_on item.now (rows_on_side list_now self.now) }
     {
         match self.places.get(item) {
-            Some(at) => self.slots[*at].stored.now(),
+            Some(at) => self.slots[*at].stored.list_now(),
             None => &[],
         }
     }
@@ -76,7 +76,7 @@ impl Shelves {
         ensures { result.now ≡ stored_on item.now (rows_on_side list_next self.now) }
     {
         match self.places.get(item) {
-            Some(at) => self.slots[*at].stored.next(),
+            Some(at) => self.slots[*at].stored.list_next(),
             None => &[],
         }
     }

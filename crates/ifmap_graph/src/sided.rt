@@ -35,14 +35,14 @@ impl<T> Sided<T> {
         }
     }
 
-    pub fn now(&self) -> &[T]
+    pub fn list_now(&self) -> &[T]
         ensures { result.now ≡ self.now.now }
     {
         &self.list
     }
 
     /// The draft, or the list where there is none.
-    pub fn next(&self) -> &[T]
+    pub fn list_next(&self) -> &[T]
         ensures { result.now ≡ list_next self.now }
     {
         match &self.draft {

@@ -44,14 +44,14 @@ impl Stock {
         }
     }
 
-    pub fn now(&self) -> &[Row]
+    pub fn list_now(&self) -> &[Row]
         ensures { result.now ≡ self.now.now }
     {
         self.list.as_slice()
     }
 
     /// The draft, or the list where there is none.
-    pub fn next(&self) -> &[Row]
+    pub fn list_next(&self) -> &[Row]
         ensures { result.now ≡ list_next self.now }
     {
         match &self.draft {

@@ -14,5 +14,5 @@ loop-item-preserved c = (
       (λ e. IsSome (get c.args.slots.now e.1)) c.loop-item.invariant.2,
   passing (λ (at : ℕ). list_at list_now (get c.args.slots.now at)) _ c.loop-item.item-iterator c.next.new.self _ c.in-Some.ensures.steps
       c.loop-item.invariant.3
-      (ap (list_at list_now) c.index.ensures ∙ sym c.now.ensures ∙ nothing_in _ (sym c.is_empty.ensures ∙ c.if-not-is_empty.false)),
+      (ap (list_at list_now) c.index.ensures ∙ sym c.list_now.ensures ∙ nothing_in _ (sym c.is_empty.ensures ∙ c.if-not-is_empty.false)),
 )

@@ -15,7 +15,7 @@ index-requires c =
 pub returns : goal.returns
 returns c =
     rw (← c.self.view_is)
-    (λ v h. c.now.ensures ∙ ap (list_at list_now) (sym c.index.ensures)
+    (λ v h. c.list_now.ensures ∙ ap (list_at list_now) (sym c.index.ensures)
     ∙ handle_of c.self.inside.names (get c.self.inside.shelves.slots) c.self.inside.shelves.places.entries
     (links_at list_now c.self.inside.links.items) list_now c.self.invariant.placed c.self.invariant.used c.self.invariant.numbered
     c.self.invariant.pool

@@ -11,7 +11,7 @@ index-requires c = live_at (λ n. IsSome (get c.args.self.now.slots n)) _ c.args
 
 pub returns-in-Some : goal.returns-in-Some
 returns-in-Some c =
-    c.next.ensures ∙ ap (list_at list_next) (sym c.index.ensures)
+    c.list_next.ensures ∙ ap (list_at list_next) (sym c.index.ensures)
     ∙ found (λ at. list_at list_next (get c.args.self.now.slots at)) c.args.item.now c.args.self.now.places.entries c.in-Some.at.now
     c.requires.rising
     (sym c.in-Some.ensures.value)
