@@ -15,7 +15,7 @@ use Rattle.ifmap_graph.specs.declared.changes.Ready.{Ready}
 use Rattle.ifmap_graph.specs.Held.{Held, IsOwn}
 use Rattle.ifmap_graph.specs.Seen.{HasFewOwn, IsStill, KeepsOwn, links_next, links_now, rows_next, rows_now}
 use Rattle.ifmap_graph.specs.Shelved.{list_at, rows_by}
-use Rattle.ifmap_graph.specs.Sides.{now}
+use Rattle.ifmap_graph.specs.Sides.{list_now}
 use Rattle.ifmap_ident.specs.declared.identifiers.Identifier.{Identifier}
 use Rattle.ifmap_ident.specs.declared.items.Item.{Item}
 use Rattle.ifmap_ident.specs.Identifiers.{identifier_order}
@@ -60,7 +60,7 @@ pub new_quiet : (old new : Held) (id : Identifier) → old.shelves ≡ [] → ne
     → ((a : Identifier) (own : ℕ) → IsOwn old a own → IsOwn new a (own + once identifier_order id a)) → IsQuiet new
 new_quiet old new id empty same still none own = record {
   still = still;
-  whole = subst (λ s. AreWhole (rows_by (list_at now) s)) (sym (same ∙ empty)) tt;
+  whole = subst (λ s. AreWhole (rows_by (list_at list_now) s)) (sym (same ∙ empty)) tt;
   few = λ a. (0 + once identifier_order id a, own a 0 (none a), omega (arith, once_few id a));
 }
 

@@ -2,7 +2,7 @@
 //! stand in `books`.
 ghost use Rattle.std.specs.Prelude.{◌≤◌};
 ghost use Rattle.ifmap_desks.specs.Machines.{IsCoreBook};
-ghost use Rattle.ifmap_dialogue.specs.Desks.{heaviest};
+ghost use Rattle.ifmap_dialogue.specs.Desks.{greatest_weight};
 ghost use Rattle.ifmap_hall.specs.Books.{end_of_book};
 
 use crate::answers::AnswerCounts;
@@ -20,6 +20,6 @@ pub struct BookDesk {
     pub(crate) since: u64,
     pub(crate) counts: AnswerCounts,
     pub ghost in_order: { IsCoreBook book },
-    pub ghost bears: { heaviest ≤ book.heaviest },
+    pub ghost bears: { greatest_weight ≤ book.heaviest },
     pub ghost since_then: { since ≤ end_of_book book },
 }

@@ -2,7 +2,7 @@
 ghost use Rattle.std.specs.Prelude.{◌≡◌, ◌≤◌, ◌∷◌, [], Some};
 ghost use Rattle.ifmap_desks.specs.Asking.{AnsweredByBook, book_at, book_seen, pass_at};
 ghost use Rattle.ifmap_desks.specs.Machines.{IsCoreBook};
-ghost use Rattle.ifmap_dialogue.specs.Desks.{DeskTakesTurns, heaviest, weight};
+ghost use Rattle.ifmap_dialogue.specs.Desks.{DeskTakesTurns, greatest_weight, weight};
 
 use crate::answers::{AnswerCounts, plain_asked};
 use crate::book_desk::BookDesk;
@@ -17,7 +17,7 @@ impl BookDesk {
     /// A desk that asks this book under this number of a pass. It takes no memory.
     pub fn new(alloc: Global, book: Book<CoreMachine>, pass: u64) -> BookDesk
         requires book { IsCoreBook book }
-        requires bears { heaviest ≤ book.heaviest }
+        requires bears { greatest_weight ≤ book.heaviest }
         ensures book { book_at result ≡ book }
         ensures number { pass_at result ≡ pass }
         ensures said { (book_seen result).said ≡ Some [] }
@@ -38,7 +38,7 @@ impl BookDesk {
     pub fn into_book(self) -> Book<CoreMachine>
         ensures same { result ≡ book_at self }
         ensures book { IsCoreBook result }
-        ensures bears { heaviest ≤ result.heaviest }
+        ensures bears { greatest_weight ≤ result.heaviest }
     {
         self.book
     }
@@ -66,7 +66,7 @@ impl Desk for BookDesk {
     /// Asks the book, whose turn says what it answers. The calls are told while no entry since the
     /// desk's making has gone to the base.
     fn ask(&mut self, event: Event) -> Asked<Event, Answer>
-        requires light { weight event ≤ heaviest }
+        requires light { weight event ≤ greatest_weight }
         ensures tells { DeskTakesTurns (book_seen self.old) (book_seen self.new)
             (record { event = event; asked = result } ∷ []) }
         ensures number { pass_at self.new ≡ pass_at self.old }

@@ -2,7 +2,7 @@
 //! stand in `passes`.
 ghost use Rattle.std.specs.Prelude.{◌≡◌, ◌-◌, ◌^◌, ◌<◌, ◌≤◌, length};
 ghost use Rattle.ifmap_desks.specs.Recalls.{Recalls};
-ghost use Rattle.ifmap_dialogue.specs.Desks.{heaviest};
+ghost use Rattle.ifmap_dialogue.specs.Desks.{greatest_weight};
 ghost use Rattle.ifmap_hall.specs.Passes.{IsOf, view_of};
 
 use crate::answers::AnswerCounts;
@@ -20,7 +20,7 @@ pub struct PassDesk<'a, R: Wait> {
     pub(crate) pass: &'a mut Pass<CoreMachine>,
     pub(crate) counts: AnswerCounts,
     pub ghost of: { IsOf hall.now pass.now },
-    pub ghost bears: { heaviest ≤ (view_of pass.now).terms.heaviest },
+    pub ghost bears: { greatest_weight ≤ (view_of pass.now).terms.heaviest },
     pub ghost recalls: { ∥ Recalls (view_of pass.now) ∥₁ },
     pub ghost used_up: { 0 < counts.spent → length (view_of pass.now).history.log ≡ 2 ^ 64 - 1 },
 }

@@ -4,7 +4,7 @@ ghost use Rattle.ifmap_desks.specs.Agreement.{ClientsAgree, EntriesAgree};
 ghost use Rattle.ifmap_desks.specs.Asking.{AnsweredByHall, number_at, parts_at, pass_seen, view_at};
 ghost use Rattle.ifmap_desks.specs.Machines.{core_next};
 ghost use Rattle.ifmap_desks.specs.Recalls.{Recalls};
-ghost use Rattle.ifmap_dialogue.specs.Desks.{DeskTakesTurns, heaviest, weight};
+ghost use Rattle.ifmap_dialogue.specs.Desks.{DeskTakesTurns, greatest_weight, weight};
 ghost use Rattle.ifmap_hall.specs.Asking.{TookATurn};
 ghost use Rattle.ifmap_hall.specs.Passes.{IsOf, view_of};
 ghost use Rattle.ifmap_hall.specs.Sights.{CarriesOn};
@@ -29,7 +29,7 @@ impl<'a, R: Wait> PassDesk<'a, R> {
         pass: &'a mut Pass<CoreMachine>,
     ) -> PassDesk<'a, R>
         requires own { IsOf hall.now pass.old }
-        requires bears { heaviest ≤ (view_of pass.old).terms.heaviest }
+        requires bears { greatest_weight ≤ (view_of pass.old).terms.heaviest }
         requires recalls { ∥ Recalls (view_of pass.old) ∥₁ }
         ensures same_reference { result.pass.ghost_name ≡ pass.entry.ghost_name }
         ensures home { (pass_seen result).home ≡ hall.now }
@@ -68,7 +68,7 @@ impl<'a, R: Wait> Desk for PassDesk<'a, R> {
     /// Asks the hall in turn, and may wait for it. What the pass has seen is afterwards all that the
     /// hall has seen from its opening state on, and the answer is that of the machine after it.
     fn ask(&mut self, event: Event) -> Asked<Event, Answer>
-        requires light { weight event ≤ heaviest }
+        requires light { weight event ≤ greatest_weight }
         ensures tells { DeskTakesTurns (pass_seen self.old) (pass_seen self.new)
             (record { event = event; asked = result } ∷ []) }
         ensures number { number_at self.new ≡ number_at self.old }

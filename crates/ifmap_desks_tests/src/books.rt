@@ -1,7 +1,7 @@
 //! A desk over a book.
 ghost use Rattle.std.specs.Prelude.{◌≡◌, ◌≤◌, IfOk};
 ghost use Rattle.ifmap_desks.specs.Machines.{IsCoreBook};
-ghost use Rattle.ifmap_dialogue.specs.Desks.{heaviest};
+ghost use Rattle.ifmap_dialogue.specs.Desks.{greatest_weight};
 
 use crate::events::{
     Asking, BEGIN, FIRST_POLL, Kind, Told, again, event_of, first, loss_event, machine, tell,
@@ -15,7 +15,7 @@ use std::test::Fail;
 
 fn empty_book(alloc: Global) -> Book<CoreMachine>
     ensures book { IsCoreBook result }
-    ensures bears { heaviest ≤ result.heaviest }
+    ensures bears { greatest_weight ≤ result.heaviest }
 {
     Book {
         base: machine(alloc),
@@ -31,7 +31,7 @@ fn empty_book(alloc: Global) -> Book<CoreMachine>
 // A book with one entry, whose end is the last number.
 fn last_book(alloc: Global) -> Result<Book<CoreMachine>, NoMemory>
     ensures book { IfOk result IsCoreBook }
-    ensures bears { IfOk result (λ book. heaviest ≤ book.heaviest) }
+    ensures bears { IfOk result (λ book. greatest_weight ≤ book.heaviest) }
 {
     let entry = FitEvent::from_event(event_of(alloc, first("c1", 1, BEGIN))?);
     let mut after = machine(alloc);

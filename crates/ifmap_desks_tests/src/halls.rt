@@ -1,7 +1,7 @@
 //! One hall over the core, asked by passes and by desks over them.
 ghost use Rattle.std.specs.Prelude.{◌≡◌, ◌≤◌};
 ghost use Rattle.ifmap_desks.specs.Recalls.{Recalls};
-ghost use Rattle.ifmap_dialogue.specs.Desks.{heaviest};
+ghost use Rattle.ifmap_dialogue.specs.Desks.{greatest_weight};
 ghost use Rattle.ifmap_hall.specs.Passes.{IsOf, view_of};
 
 use crate::events::{
@@ -94,7 +94,7 @@ fn ask_desk<R: Wait>(
     asking: Asking<'_>,
 ) -> Told
     requires hall { IsOf hall.now pass.old }
-    requires bears { heaviest ≤ (view_of pass.old).terms.heaviest }
+    requires bears { greatest_weight ≤ (view_of pass.old).terms.heaviest }
     requires recalls { ∥ Recalls (view_of pass.old) ∥₁ }
     ensures hall { IsOf hall.now pass.new }
     ensures terms { (view_of pass.new).terms ≡ (view_of pass.old).terms }

@@ -17,7 +17,7 @@ use Rattle.ifmap_dialogue.specs.declared.desks.AskOutcome.TheVariants as outcome
 use Rattle.ifmap_dialogue.specs.declared.findings.Finding.{Finding}
 use Rattle.ifmap_dialogue.specs.declared.findings.Finding.TheVariants as finding
 use Rattle.ifmap_dialogue.specs.declared.polls.Poll.{Poll}
-use Rattle.ifmap_dialogue.specs.Desks.{DeskSeen, DeskTakesTurns, Turn, heaviest, outcome_of, weight}
+use Rattle.ifmap_dialogue.specs.Desks.{DeskSeen, DeskTakesTurns, Turn, greatest_weight, outcome_of, weight}
 use Rattle.ifmap_dialogue.specs.Findings.{OwnRequest, IsFindingOf, FindsPost, FindsQuestion, FindsRequest, Posting, finding_of, own_request, posting_of, refusal_reply}
 use Rattle.ifmap_dialogue.specs.Scenes.{HasFitPoll}
 use Rattle.ifmap_dialogue.specs.Turns.{IsFirstPoll, Question, event_of_question, lost_event, question_of}
@@ -115,14 +115,14 @@ told_fits fit gives p turns finding.NoMemory f = tt
 
 -- an event of a post weighs at most as much as can be asked
 pub light_by : (question : Question) (again : Bool) (moment : ℕ) (event : Event) → event ≡ event_of_question question again moment
-    → question.bytes ≤ longest_post → weight event ≤ heaviest
+    → question.bytes ≤ longest_post → weight event ≤ greatest_weight
 light_by question again moment event is short =
-    subst (λ (e : Event). weight e ≤ heaviest) (sym is)
+    subst (λ (e : Event). weight e ≤ greatest_weight) (sym is)
     (let short_weight : 1000 + 8 * question.bytes ≤ 80_001_000 = omega (arith, short) in short_weight)
 
-pub light_lost : (poll : Poll) (moment : ℕ) (event : Event) → event ≡ lost_event poll moment → weight event ≤ heaviest
+pub light_lost : (poll : Poll) (moment : ℕ) (event : Event) → event ≡ lost_event poll moment → weight event ≤ greatest_weight
 light_lost poll moment event is =
-    subst (λ (e : Event). weight e ≤ heaviest) (sym is)
+    subst (λ (e : Event). weight e ≤ greatest_weight) (sym is)
     (let light : 1000 + 8 * 0 ≤ 80_001_000 = omega arith in light)
 
 -- ---- requests as they are matched

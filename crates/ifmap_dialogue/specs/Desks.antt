@@ -18,8 +18,8 @@ abbrev pub weight : Event → ℕ
 weight event = 1000 + 8 * event.bytes
 
 -- the most that an event weighs: its body has at most 10,000,000 bytes
-abbrev pub heaviest : ℕ
-heaviest = 80_001_000
+abbrev pub greatest_weight : ℕ
+greatest_weight = 80_001_000
 
 -- a call that was done: an event, and its answer
 abbrev pub Call : Type 0

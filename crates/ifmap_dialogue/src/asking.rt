@@ -5,7 +5,7 @@ ghost use Rattle.ifmap_http.specs.ifmap_heads.Limits.{longest_post};
 ghost use Rattle.ifmap_machine.specs.ifmap_requests.Fit.{IsFitRequest};
 ghost use Rattle.ifmap_machine.specs.ifmap_requests.declared.requests.Request.TheVariants.{Poll as Polling};
 ghost use Rattle.ifmap_dialogue.specs.Answers.{ending_heard};
-ghost use Rattle.ifmap_dialogue.specs.Desks.{DeskTakesTurns, Turn, desk_seen, heaviest, outcome_of, weight};
+ghost use Rattle.ifmap_dialogue.specs.Desks.{DeskTakesTurns, Turn, desk_seen, greatest_weight, outcome_of, weight};
 ghost use Rattle.ifmap_dialogue.specs.Findings.{FindsQuestion, FindsRequest, finding_of, own_request};
 ghost use Rattle.ifmap_dialogue.specs.Turns.{AsksLost, IsFirstPoll, event_of_question, question_of};
 ghost use Rattle.ifmap_dialogue.specs.Words.{after_random, random_word};
@@ -36,7 +36,7 @@ pub const MOST_TURNS: u32 = 36_000;
 
 // Asks one event at the desk.
 pub(crate) fn take_turn<K: Desk, G: Gate>(desk: &mut K, gate: &mut G, event: Event) -> AskOutcome
-    requires light { weight event ≤ heaviest }
+    requires light { weight event ≤ greatest_weight }
     ensures { (turn : Turn) × (turn.event ≡ event) × (result ≡ outcome_of turn.asked)
         × DeskTakesTurns (desk_seen K.said K.turns K.held K.spent K.home K.loan desk.old)
         (desk_seen K.said K.turns K.held K.spent K.home K.loan desk.new) (turn ∷ []) }

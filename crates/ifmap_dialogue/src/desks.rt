@@ -1,6 +1,6 @@
 //! Desks, at which events are asked, and gates, which are passed on the way.
 ghost use Rattle.std.specs.Prelude.{◌≡◌, ◌≤◌, ◌∷◌, ℕ, List, [], Option};
-ghost use Rattle.ifmap_dialogue.specs.Desks.{Call, DeskTakesTurns, desk_seen, heaviest, weight};
+ghost use Rattle.ifmap_dialogue.specs.Desks.{Call, DeskTakesTurns, desk_seen, greatest_weight, weight};
 
 use ifmap_hall::Asked;
 use ifmap_machine::{Answer, Event, Reply};
@@ -32,7 +32,7 @@ pub trait Desk {
     /// back. What is held is a poll, and what a poll is told is told to a poll alone; `Heard` answers
     /// the event that tells of a lost answer, and nothing else.
     fn ask(&mut self, event: Event) -> Asked<Event, Answer>
-        requires light { weight event ≤ heaviest }
+        requires light { weight event ≤ greatest_weight }
         ensures tells { DeskTakesTurns
             (desk_seen said turns held spent home loan self.old)
             (desk_seen said turns held spent home loan self.new)

@@ -12,8 +12,8 @@ use Rattle.ifmap_requests.specs.declared.requests.Request.{Request as Asked}
 use Rattle.ifmap_requests.specs.declared.requests.Request.TheVariants as the_request
 use Rattle.ifmap_drill.specs.declared.counts.Counts.{Counts}
 
-abbrev pub nothing : Counts
-nothing = record {
+abbrev pub no_counts : Counts
+no_counts = record {
   events = 0;
   sessions = 0;
   subscribes = 0;
@@ -27,7 +27,7 @@ nothing = record {
 }
 
 abbrev pub one_event : Counts
-one_event = record nothing { events = 1 }
+one_event = record no_counts { events = 1 }
 
 -- what a request counts as, where its result is no error
 abbrev pub requested_by : Asked → Counts
@@ -46,7 +46,7 @@ asked_by (Lost session) = one_event
 
 -- what that is by the reply: nothing where it is an error, and for a poll also the items that it is told
 abbrev pub replied_as : Counts → AnyReply → Counts
-replied_as asked (the_reply.Error code note) = nothing
+replied_as asked (the_reply.Error code note) = no_counts
 replied_as asked (the_reply.Polled items) = record asked { told = length items }
 replied_as asked (the_reply.NewSession session publisher limit) = asked
 replied_as asked the_reply.Renewed = asked

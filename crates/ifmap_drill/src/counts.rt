@@ -1,6 +1,6 @@
 //! What a drill counts.
 ghost use Rattle.std.specs.Prelude.{◌≡◌};
-ghost use Rattle.ifmap_drill.specs.Counts.{asked_by, counted_as, counts_sum, nothing, replied_as, requested_by};
+ghost use Rattle.ifmap_drill.specs.Counts.{asked_by, counted_as, counts_sum, no_counts, replied_as, requested_by};
 
 use ifmap_core::{Answer, Ask, Reply};
 use ifmap_requests::Request;
@@ -47,7 +47,7 @@ const ONE_EVENT: Counts = Counts {
 impl Counts {
     // Nothing yet.
     pub(crate) fn new() -> Counts
-        ensures { result ≡ nothing }
+        ensures { result ≡ no_counts }
     {
         NOTHING
     }

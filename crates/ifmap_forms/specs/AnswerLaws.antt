@@ -12,7 +12,7 @@ use Rattle.ifmap_forms.specs.declared.errors.FormError.TheVariants.{Named, NoMem
 use Rattle.ifmap_forms.specs.Answers.{IsChecked, IsCheckedAs, IsCheckRefusal}
 use Rattle.ifmap_forms.specs.Checks.{Check, check_then, need, pass}
 use Rattle.ifmap_forms.specs.Scopes.{Scopes}
-use Rattle.ifmap_forms.specs.Tables.{Both, Form, AttributeTable, beside, both, form_check, no_attributes, element_parts}
+use Rattle.ifmap_forms.specs.Tables.{Both, Form, AttributeTable, table_with, both, form_check, no_attributes, element_parts}
 use Rattle.ifmap_forms.specs.Values.{Field, field_check}
 
 module _ {X Y : Type 0} (first : Check X) (second : X → Check Y) where
@@ -65,11 +65,11 @@ module _ {X : Type 0} where
 -- ---- one attribute alone
 
 module _ {X : Type 0} (field : Field X) (scope : Scope) (e : Element) where
-  pub found_alone : (x : X) → field_check field scope e (Ok x) → (beside field no_attributes).reads scope e (Ok (both x tt))
+  pub found_alone : (x : X) → field_check field scope e (Ok x) → (table_with field no_attributes).reads scope e (Ok (both x tt))
   found_alone x f = (x, f, (tt, refl, refl))
 
   pub refused_alone : (error : FormError) → IsCheckRefusal (field_check field scope e) error
-      → IsCheckRefusal ((beside field no_attributes).reads scope e) error
+      → IsCheckRefusal ((table_with field no_attributes).reads scope e) error
   refused_alone (Named code) f = inl f
   refused_alone NoMemory f = tt
 
@@ -77,16 +77,16 @@ module _ {X : Type 0} (field : Field X) (scope : Scope) (e : Element) where
 
 module _ {X Y : Type 0} (field : Field X) (table : AttributeTable Y) (scope : Scope) (e : Element) where
   pub found_beside : (x : X) (y : Y) → field_check field scope e (Ok x) → table.reads scope e (Ok y)
-      → (beside field table).reads scope e (Ok (both x y))
+      → (table_with field table).reads scope e (Ok (both x y))
   found_beside x y f g = (x, f, (y, g, refl))
 
   pub refused_at_field : (error : FormError) → IsCheckRefusal (field_check field scope e) error
-      → IsCheckRefusal ((beside field table).reads scope e) error
+      → IsCheckRefusal ((table_with field table).reads scope e) error
   refused_at_field (Named code) f = inl f
   refused_at_field NoMemory f = tt
 
   pub refused_beside : (x : X) (error : FormError) → field_check field scope e (Ok x) → IsCheckRefusal (table.reads scope e) error
-      → IsCheckRefusal ((beside field table).reads scope e) error
+      → IsCheckRefusal ((table_with field table).reads scope e) error
   refused_beside x (Named code) f g = inr (x, f, inl g)
   refused_beside x NoMemory f g = tt
 

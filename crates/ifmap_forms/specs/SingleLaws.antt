@@ -23,7 +23,7 @@ use Rattle.ifmap_forms.specs.Items.{identifier_check, identifier_code, identifie
 use Rattle.ifmap_forms.specs.Items.{may_follow, only_identifier, start_content}
 use Rattle.ifmap_forms.specs.Scopes.{Scopes}
 use Rattle.ifmap_elem.specs.WhiteSpace.{is_blank_part}
-use Rattle.ifmap_forms.specs.Tables.{ContentCheck, Form, Part, AttributeTable, beside, both, each_element, form_or, no_attributes}
+use Rattle.ifmap_forms.specs.Tables.{ContentCheck, Form, Part, AttributeTable, table_with, both, each_element, form_or, no_attributes}
 use Rattle.ifmap_forms.specs.Tables.{no_children, element_parts, read_form, form_check}
 use Rattle.ifmap_forms.specs.Values.{Field, field_check, read_text}
 
@@ -99,7 +99,7 @@ abbrev pub OneOfContent : {X : Type 0} → ContentCheck X → Type 0
 OneOfContent content = (scopes : Scopes) (parts : List Part) → IsSingle (content scopes parts)
 
 module _ {X Y : Type 0} (field : Field X) (table : AttributeTable Y) where
-  pub beside_single : OneOfField field → OneOfTable table → OneOfTable (beside field table)
+  pub beside_single : OneOfField field → OneOfTable table → OneOfTable (table_with field table)
   beside_single f t scope e =
       then_single (field_check field scope e) (λ x. check_then (table.reads scope e) (λ y. pass (both x y)))
       (f scope (value_of field.local e))

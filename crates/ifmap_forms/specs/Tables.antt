@@ -40,8 +40,8 @@ module _ {X Y : Type 0} where
       check_then (field_check field scope e) (λ x. check_then (table.reads scope e) (λ y. pass (both x y)))
 
   -- an attribute, and then others
-  abbrev pub beside : Field X → AttributeTable Y → AttributeTable (Both X Y)
-  beside field table = record { locals = field.local ∷ table.locals; reads = read_both field table }
+  abbrev pub table_with : Field X → AttributeTable Y → AttributeTable (Both X Y)
+  table_with field table = record { locals = field.local ∷ table.locals; reads = read_both field table }
 
 -- what an element means by an attribute that is a text, and by no other
 abbrev pub OneText : Type 0

@@ -13,7 +13,7 @@ use Rattle.ifmap_view.specs.Rows.{stored_on}
 use Rattle.ifmap_graph.specs.declared.shelves.Shelves.{Shelves}
 use Rattle.ifmap_graph.specs.Drafted.{AreBare, DraftsWithin, ends_at}
 use Rattle.ifmap_graph.specs.Shelved.{AreShelved, HasDraft, slot_of_item, rows_on_side}
-use Rattle.ifmap_graph.specs.Sides.{next, now}
+use Rattle.ifmap_graph.specs.Sides.{list_next, list_now}
 use Rattle.ifmap_graph.specs.Waits.{waits_on}
 use Rattle.ifmap_graph.proofs.Bare.{none_left, one_gone, sides_same}
 use Rattle.ifmap_ident.specs.SameLaws.{ties, items_equiv}
@@ -63,13 +63,13 @@ apart_after items i x here apart =
 
 -- what is stored on an item
 abbrev pub stored_at : Shelves → Item → List Stored
-stored_at s x = stored_on x (rows_on_side now s)
+stored_at s x = stored_on x (rows_on_side list_now s)
 
 module _ (items : List Item) (first : Shelves) where
   -- so many drafts are accepted, and the lists that were there stand in the places of those that were given
   pub record Accepting (lists : List (List Stored)) (shelves : Shelves) (i : ℕ) : Type 0 where
     pub shelved : AreShelved shelves
-    pub same : rows_on_side next shelves ≡ rows_on_side next first
+    pub same : rows_on_side list_next shelves ≡ rows_on_side list_next first
     pub drafted : AllByRecursion (HasDraft shelves) (drop i items)
     pub within : DraftsWithin (drop i items) shelves
     pub apart : IsDistinct same_item (drop i items)
@@ -103,10 +103,11 @@ module _ (items : List Item) (first : Shelves) where
     drafted_at = now_drafted.0
 
     module _ (lists' : List (List Stored)) (shelves' : Shelves) (shelved : AreShelved shelves')
-        (same : rows_on_side next shelves' ≡ rows_on_side next shelves)
+        (same : rows_on_side list_next shelves' ≡ rows_on_side list_next shelves)
         (drafts : (x : Item) → HasDraft shelves' x → HasDraft shelves x × (same_item x item ≡ false))
         (others : (x : Item) → same_item x item ≡ false
-        → (HasDraft shelves x → HasDraft shelves' x) × (stored_on x (rows_on_side now shelves') ≡ stored_on x (rows_on_side now shelves)))
+        → (HasDraft shelves x → HasDraft shelves' x)
+        × (stored_on x (rows_on_side list_now shelves') ≡ stored_on x (rows_on_side list_now shelves)))
         (ends : (at : ℕ) → ends_at shelves' at ≡ ends_at shelves at) (waits : (x : Item) → waits_on shelves' x ≡ waits_on shelves x)
         (places : shelves'.places ≡ shelves.places) (wrote : lists' ≡ set lists i (stored_at shelves item)) where
       within : i < length lists
@@ -148,7 +149,7 @@ module _ (items : List Item) (first : Shelves) where
     pub accepted_bare : AreBare shelves
     accepted_bare = none_left shelves g.shelved (subst (λ l. DraftsWithin l shelves) none g.within)
 
-    pub accepted_now : rows_on_side now shelves ≡ rows_on_side next first
+    pub accepted_now : rows_on_side list_now shelves ≡ rows_on_side list_next first
     accepted_now = sym (sides_same shelves accepted_bare) ∙ g.same
 
     pub accepted_lists : lists ≡ map (stored_at first) items
@@ -164,7 +165,7 @@ module _ (items : List Item) (first : Shelves) where
   -- so many drafts are taken back
   pub record Discarding (shelves : Shelves) (i : ℕ) : Type 0 where
     pub shelved : AreShelved shelves
-    pub same : rows_on_side now shelves ≡ rows_on_side now first
+    pub same : rows_on_side list_now shelves ≡ rows_on_side list_now first
     pub there : AllByRecursion (λ x. IsSome (slot_of_item first x)) (drop i items)
     pub within : DraftsWithin (drop i items) shelves
     pub ends : (at : ℕ) → ends_at shelves at ≡ ends_at first at
@@ -191,7 +192,7 @@ module _ (items : List Item) (first : Shelves) where
     pub there_at : IsSome (slot_of_item shelves item)
     there_at = subst (λ p. IsSome (slot_of_item (record { places = p; slots = shelves.slots }) item)) (sym g.places) now_there.0
 
-    pub discards_on : (shelves' : Shelves) → AreShelved shelves' → rows_on_side now shelves' ≡ rows_on_side now shelves
+    pub discards_on : (shelves' : Shelves) → AreShelved shelves' → rows_on_side list_now shelves' ≡ rows_on_side list_now shelves
         → ((x : Item) → HasDraft shelves' x → HasDraft shelves x × (same_item x item ≡ false))
         → ((at : ℕ) → ends_at shelves' at ≡ ends_at shelves at) → ((x : Item) → waits_on shelves' x ≡ waits_on shelves x)
         → shelves'.places ≡ shelves.places
@@ -211,5 +212,5 @@ module _ (items : List Item) (first : Shelves) where
     pub discarded_bare : AreBare shelves
     discarded_bare = none_left shelves g.shelved (subst (λ l. DraftsWithin l shelves) (drop_all i items e) g.within)
 
-    pub discarded_next : rows_on_side next shelves ≡ rows_on_side now first
+    pub discarded_next : rows_on_side list_next shelves ≡ rows_on_side list_now first
     discarded_next = sides_same shelves discarded_bare ∙ g.same

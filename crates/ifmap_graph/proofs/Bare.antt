@@ -13,23 +13,23 @@ use Rattle.ifmap_graph.specs.declared.shelves.Shelf.{Shelf}
 use Rattle.ifmap_graph.specs.declared.shelves.Shelves.{Shelves}
 use Rattle.ifmap_graph.specs.Drafted.{AreBare, DraftsWithin, NoDraft}
 use Rattle.ifmap_graph.specs.Shelved.{AreShelved, HasDraft, list_at, row_on, rows_by, rows_on_side}
-use Rattle.ifmap_graph.specs.Sides.{next, now}
+use Rattle.ifmap_graph.specs.Sides.{list_next, list_now}
 use Rattle.ifmap_graph.proofs.Following.{entry_hits}
 use Rattle.ifmap_graph.proofs.Shelving.{Entries}
 
-pub list_bare : (o : Option Shelf) → NoDraft o → list_at next o ≡ list_at now o
+pub list_bare : (o : Option Shelf) → NoDraft o → list_at list_next o ≡ list_at list_now o
 list_bare None n = refl
 list_bare (Some shelf) n = ap (λ d. unwrap_or d shelf.stored.now) n
 
 rows_bare : (look : ℕ → Option Shelf) (es : Entries) → AllByRecursion (λ e. NoDraft (look e.1)) es
-    → rows_by (λ at. list_at next (look at)) es ≡ rows_by (λ at. list_at now (look at)) es
+    → rows_by (λ at. list_at list_next (look at)) es ≡ rows_by (λ at. list_at list_now (look at)) es
 rows_bare look [] a = refl
 rows_bare look (e ∷ es) a =
-    ap (λ l. map (row_on e.0) l ++ rows_by (λ at. list_at next (look at)) es) (list_bare (look e.1) a.0)
-    ∙ ap (λ l. map (row_on e.0) (list_at now (look e.1)) ++ l) (rows_bare look es a.1)
+    ap (λ l. map (row_on e.0) l ++ rows_by (λ at. list_at list_next (look at)) es) (list_bare (look e.1) a.0)
+    ∙ ap (λ l. map (row_on e.0) (list_at list_now (look e.1)) ++ l) (rows_bare look es a.1)
 
 -- where no shelf has a draft, what is stored is what is to be
-pub sides_same : (s : Shelves) → AreBare s → rows_on_side next s ≡ rows_on_side now s
+pub sides_same : (s : Shelves) → AreBare s → rows_on_side list_next s ≡ rows_on_side list_now s
 sides_same s a = rows_bare (get s.slots) s.places.entries a
 
 pub no_draft : (o : Option Shelf) → ((shelf : Shelf) → o ≡ Some shelf → IsSome shelf.stored.draft → ⊥) → NoDraft o

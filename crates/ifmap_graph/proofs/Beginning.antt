@@ -13,7 +13,7 @@ use Rattle.ifmap_graph.specs.Joined.{joined_pair}
 use Rattle.ifmap_graph.specs.Linked.{ats}
 use Rattle.ifmap_graph.specs.Seen.{IsStill}
 use Rattle.ifmap_graph.specs.Shelved.{StoredSide}
-use Rattle.ifmap_graph.specs.Sides.{next, now}
+use Rattle.ifmap_graph.specs.Sides.{list_next, list_now}
 use Rattle.ifmap_graph.proofs.Shelving.{nothing_placed}
 use Rattle.ifmap_graph.proofs.Rising.{to_distinct}
 
@@ -66,6 +66,6 @@ module _ (names : Holdings Identifier) (none : (v : ℕ) → entry_at names v �
       keys = λ v a e. absurd (unkeyed v a e);
       held = λ a. (0, inr (λ v n. unnamed v a n, refl));
       table = λ v s. absurd (unlived v s);
-      side = no_side now (links_at now []) (λ v. refl);
-      next_side = no_side next (links_at next []) (λ v. refl);
+      side = no_side list_now (links_at list_now []) (λ v. refl);
+      next_side = no_side list_next (links_at list_next []) (λ v. refl);
     }

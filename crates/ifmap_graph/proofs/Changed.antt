@@ -16,7 +16,7 @@ use Rattle.ifmap_graph.specs.declared.shelves.Shelf.{Shelf}
 use Rattle.ifmap_graph.specs.Held.{IsInside, links_at}
 use Rattle.ifmap_graph.specs.Named.{AreEnds, AreIdentifiers, AreNumbered, HasEnds, named_by, named_in}
 use Rattle.ifmap_graph.specs.Shelved.{IsPlaced, ItemsRise, list_at}
-use Rattle.ifmap_graph.specs.Sides.{Sides, next, now}
+use Rattle.ifmap_graph.specs.Sides.{Sides, list_next, list_now}
 use Rattle.ifmap_graph.specs.Turning.{sides_at}
 use Rattle.ifmap_graph.proofs.Alike.{alike_equal}
 use Rattle.ifmap_graph.proofs.Departing.{numbered_stay}
@@ -58,8 +58,9 @@ module _ (old new : Holdings Identifier) (live : new.live ≡ old.live) where
     held = λ a. let h = is.held a in (h.0, held_alike a _ h.1);
     table = λ v s. let k = is.table v (subst (λ (o : Option (Identifier × ℕ)). IsSome o) (ap (λ l. get l v) live) s) in omega
         (arith, k, more);
-    side = side_same now look es (links_at now links) (links_at now longer) (λ v. ap now (same v)) is.side;
-    next_side = side_same next look es (links_at next links) (links_at next longer) (λ v. ap next (same v)) is.next_side;
+    side = side_same list_now look es (links_at list_now links) (links_at list_now longer) (λ v. ap list_now (same v)) is.side;
+    next_side = side_same list_next look es (links_at list_next links) (links_at list_next longer)
+        (λ v. ap list_next (same v)) is.next_side;
   }
 
 counts_add : (n own k : ℕ) → (n + own) + k ≡ (k + n) + own
@@ -90,11 +91,13 @@ inside_comes old new look later es entries links item at shelf is placed used nu
                 (held a (named_in es a + h.0) h.1),
           );
       table = λ v s. let k = pool.below v s in omega (arith, k, table);
-      side = side_comes now look later at (ap (list_at now) vacant) (ap (list_at now) there ∙ ap now empty) others es entries item
-          (links_at now links) none inserts is.side;
+      side = side_comes list_now look later at (ap (list_at list_now) vacant)
+          (ap (list_at list_now) there ∙ ap list_now empty) others es entries item
+          (links_at list_now links) none inserts is.side;
       next_side =
-          side_comes next look later at (ap (list_at next) vacant) (ap (list_at next) there ∙ ap next empty) others es entries item
-          (links_at next links) none inserts
+          side_comes list_next look later at (ap (list_at list_next) vacant)
+          (ap (list_at list_next) there ∙ ap list_next empty) others es entries item
+          (links_at list_next links) none inserts
           is.next_side;
     }
 
@@ -163,11 +166,13 @@ module _ (old new : Holdings Identifier) (look later : ℕ → Option Shelf) (es
       keys = keys;
       held = still_held;
       table = λ v s. is.table v (was_live old new before v (entry_at new v) refl s);
-      side = side_goes now look later at (ap (list_at now) there ∙ ap now empty) (ap (list_at now) gone) others es entries item
-          (links_at now links) removes is.side;
+      side = side_goes list_now look later at (ap (list_at list_now) there ∙ ap list_now empty)
+          (ap (list_at list_now) gone) others es entries item
+          (links_at list_now links) removes is.side;
       next_side =
-          side_goes next look later at (ap (list_at next) there ∙ ap next empty) (ap (list_at next) gone) others es entries item
-          (links_at next links) removes is.next_side;
+          side_goes list_next look later at (ap (list_at list_next) there ∙ ap list_next empty)
+          (ap (list_at list_next) gone) others es entries item
+          (links_at list_next links) removes is.next_side;
     }
 
 -- an identifier is held once more

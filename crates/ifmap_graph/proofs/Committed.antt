@@ -12,7 +12,7 @@ use Rattle.ifmap_graph.specs.Held.{IsInside, links_at}
 use Rattle.ifmap_graph.specs.Out.{items_changed}
 use Rattle.ifmap_graph.specs.Seen.{AreAwaited, IsStill, KeepsOwn, StaysLean}
 use Rattle.ifmap_graph.specs.Shelved.{AreShelved, rows_on_side}
-use Rattle.ifmap_graph.specs.Sides.{Sides, next, now}
+use Rattle.ifmap_graph.specs.Sides.{Sides, list_next, list_now}
 use Rattle.ifmap_graph.specs.Turning.{AreDrafted, NoOthers, accept_each, sides_at}
 use Rattle.ifmap_graph.proofs.Lean.{turned_lean}
 use Rattle.ifmap_graph.proofs.Moved.{inside_moved, lists_stay}
@@ -26,8 +26,8 @@ pub record IsMadeOf (names : Holdings Identifier) (s t : Shelves) (links moved :
   pub later : AreShelved t
   pub bare : AreBare t
   pub stay : StayInPlace s t
-  pub rows : rows_on_side now t ≡ rows_on_side next s
-  pub same : rows_on_side next t ≡ rows_on_side next s
+  pub rows : rows_on_side list_now t ≡ rows_on_side list_next s
+  pub same : rows_on_side list_next t ≡ rows_on_side list_next s
   pub out : AreOut (items_changed ready.plan.changes) s
   pub drafted : AreDrafted ready.ways links
   pub others : NoOthers ready.ways links
@@ -35,11 +35,11 @@ pub record IsMadeOf (names : Holdings Identifier) (s t : Shelves) (links moved :
 
 module _ {names : Holdings Identifier} {s t : Shelves} {links moved : List (Sides LinkSeen)} {ready : Ready}
     (made : IsMadeOf names s t links moved ready) where
-  pub made_links : (v : ℕ) → links_at now moved v ≡ links_at next links v
-  made_links v = ap (λ l. links_at now l v) made.turned ∙ accepted_all ready.ways links v made.drafted made.others
+  pub made_links : (v : ℕ) → links_at list_now moved v ≡ links_at list_next links v
+  made_links v = ap (λ l. links_at list_now l v) made.turned ∙ accepted_all ready.ways links v made.drafted made.others
 
-  kept_links : (v : ℕ) → links_at next moved v ≡ links_at next links v
-  kept_links v = ap (λ l. links_at next l v) made.turned ∙ next_same ready.ways links v made.drafted
+  kept_links : (v : ℕ) → links_at list_next moved v ≡ links_at list_next links v
+  kept_links v = ap (λ l. links_at list_next l v) made.turned ∙ next_same ready.ways links v made.drafted
 
   pub made_inside : IsInside names (get t.slots) t.places.entries moved
   made_inside =
@@ -47,9 +47,9 @@ module _ {names : Holdings Identifier} {s t : Shelves} {links moved : List (Side
       in let places = made.stay.places
       in let ends = made.stay.ends
       in subst (λ p. IsInside names (get t.slots) p.entries moved) (sym places)
-      (inside_moved (get s.slots) (get t.slots) ends names s.places.entries links moved next next next next
-      (lists_stay s t is.placed made.later places is.used ends next now made.rows)
-      (lists_stay s t is.placed made.later places is.used ends next next made.same)
+      (inside_moved (get s.slots) (get t.slots) ends names s.places.entries links moved list_next list_next list_next list_next
+      (lists_stay s t is.placed made.later places is.used ends list_next list_now made.rows)
+      (lists_stay s t is.placed made.later places is.used ends list_next list_next made.same)
       made_links kept_links (ap length made.turned ∙ same_length ready.ways links) is.next_side is.next_side is)
 
   pub made_still : IsStill (held_of names t moved)

@@ -38,7 +38,7 @@ use Rattle.ifmap_graph.specs.Linked.{changed_links}
 use Rattle.ifmap_graph.specs.Named.{AreEnds, AreNumbered, HasEnds}
 use Rattle.ifmap_graph.specs.Out.{items_changed}
 use Rattle.ifmap_graph.specs.Shelved.{AreShelved, IsPlaced, StoredSide, list_at, slot_of_item, rows_on_side}
-use Rattle.ifmap_graph.specs.Sides.{Sides, next, now}
+use Rattle.ifmap_graph.specs.Sides.{Sides, list_next, list_now}
 use Rattle.ifmap_graph.specs.Touched.{ArePairs, KeepsLinks, exactly_one, draft_of, flip_in, flip_of, full_next, full_now}
 use Rattle.ifmap_graph.specs.Turning.{sides_at}
 use Rattle.ifmap_graph.proofs.Apart.{changed_apart}
@@ -79,16 +79,16 @@ module _ (s : Shelves) where
 
   -- a shelf whose lists differ has a draft
   has_draft : (o : Option Shelf) (shelf : Shelf) → o ≡ Some shelf
-      → exactly_one (is_not_empty (list_at now o)) (is_not_empty (list_at next o)) ≡
+      → exactly_one (is_not_empty (list_at list_now o)) (is_not_empty (list_at list_next o)) ≡
       true
       → IsSome shelf.stored.draft
   has_draft o shelf e d = by shelf.stored.draft refl
     where
       by : (draft : Option (List Stored)) → shelf.stored.draft ≡ draft → IsSome shelf.stored.draft
       by (Some l) q = subst (λ (o : Option (List Stored)). IsSome o) (sym q) refl
-      by None q = absurd (differ_not (is_not_empty (list_at now o)) (is_not_empty (list_at next o)) d
-          (ap (λ o. is_not_empty (list_at now o)) e ∙ ap (λ d. is_not_empty (unwrap_or d shelf.stored.now)) (sym q)
-          ∙ sym (ap (λ o. is_not_empty (list_at next o)) e)))
+      by None q = absurd (differ_not (is_not_empty (list_at list_now o)) (is_not_empty (list_at list_next o)) d
+          (ap (λ o. is_not_empty (list_at list_now o)) e ∙ ap (λ d. is_not_empty (unwrap_or d shelf.stored.now)) (sym q)
+          ∙ sym (ap (λ o. is_not_empty (list_at list_next o)) e)))
 
   module _ (is : AreShelved s) (used : (at : ℕ) → IsSome (get s.slots at) → (item : Item) × Has s.places.entries (item, at))
       (items : List Item)
@@ -107,7 +107,7 @@ module _ (s : Shelves) where
 
     by_slot : (at : ℕ) (o : Option Shelf) → get s.slots at ≡ o
         → (full_now s.slots at ≡ full_next s.slots at) ⊎ Contains (filter_map (flip_of s) items) at
-    by_slot at None e = inl (ap (λ o. is_not_empty (list_at now o)) e ∙ sym (ap (λ o. is_not_empty (list_at next o)) e))
+    by_slot at None e = inl (ap (λ o. is_not_empty (list_at list_now o)) e ∙ sym (ap (λ o. is_not_empty (list_at list_next o)) e))
     by_slot at (Some shelf) e = elim (cases_Bool (exactly_one (full_now s.slots at) (full_next s.slots at))) [
       | inl d ↦ let t = touched_item at shelf e d
           in inr (from_has (filter_map (flip_of s) items) at (has_mapped (flip_of s) items t.0 at t.1 t.2))
@@ -232,9 +232,9 @@ after_list rows (c ∷ cs) x f l = elim (cases_Bool (same_item c.item x)) [
 module _ (names : Holdings Identifier) (s t : Shelves) (links later : List (Sides LinkSeen))
     (old : IsInside names (get s.slots) s.places.entries links)
     (shelved : AreShelved t) (places : t.places ≡ s.places) (ends : (at : ℕ) → ends_at t at ≡ ends_at s at)
-    (rows : rows_on_side now t ≡ rows_on_side now s)
-    (changes : List ItemChange) (fits : Fits (rows_on_side now s) changes)
-    (after : IsAfter changes (rows_on_side now s) (rows_on_side next t))
+    (rows : rows_on_side list_now t ≡ rows_on_side list_now s)
+    (changes : List ItemChange) (fits : Fits (rows_on_side list_now s) changes)
+    (after : IsAfter changes (rows_on_side list_now s) (rows_on_side list_next t))
     (out : AreOut (items_changed changes) t) (kept : KeepsLinks links later)
     (drafts : (v : ℕ) → (sides_at later v).draft ≡ draft_of t.slots (filter_map (flip_of t) (items_changed changes)) v
     (sides_at links v).now)
@@ -245,34 +245,34 @@ module _ (names : Holdings Identifier) (s t : Shelves) (links later : List (Side
     used : (at : ℕ) → IsSome (get t.slots at) → (item : Item) × Has t.places.entries (item, at)
     used at x = is.used at (live_by (get s.slots at) (get t.slots at) (sym (ends at)) x)
 
-    lists : (at : ℕ) → list_at now (get t.slots at) ≡ list_at now (get s.slots at)
-    lists = lists_stay s t old.placed shelved places old.used ends now now rows
+    lists : (at : ℕ) → list_at list_now (get t.slots at) ≡ list_at list_now (get s.slots at)
+    lists = lists_stay s t old.placed shelved places old.used ends list_now list_now rows
 
     -- the links that are there, of the shelves that are there now
-    now_side : IsSide now (get t.slots) t.places.entries (links_at now links)
-    now_side = side_moved (get s.slots) (get t.slots) ends now now lists (links_at now links) (links_at now links)
+    now_side : IsSide list_now (get t.slots) t.places.entries (links_at list_now links)
+    now_side = side_moved (get s.slots) (get t.slots) ends list_now list_now lists (links_at list_now links) (links_at list_now links)
         (λ v. refl) t.places.entries is.side
 
     all_lists : (es : Entries) → ((e : Item × ℕ) → Has es e → Has t.places.entries e)
-        → AllByRecursion (λ e. IsList (list_at next (get t.slots e.1))) es
+        → AllByRecursion (λ e. IsList (list_at list_next (get t.slots e.1))) es
     all_lists [] f = tt
     all_lists (e ∷ es) f = (
       subst IsList
-          (sym (found (λ n. list_at next (get t.slots n)) e.0 t.places.entries e.1 shelved.rising
+          (sym (found (λ n. list_at list_next (get t.slots n)) e.0 t.places.entries e.1 shelved.rising
           (entry_hits t.places.entries e.0 e.1 shelved.rising (f e (inl refl)))
           ∙ after e.0))
-          (after_list (rows_on_side now s) changes e.0 fits.each (stored_list now s old.placed old.side.lists e.0)),
+          (after_list (rows_on_side list_now s) changes e.0 fits.each (stored_list list_now s old.placed old.side.lists e.0)),
       all_lists es (λ x h. f x (inr h)),
     )
 
-    next_links : (v : ℕ) → links_at next later v
+    next_links : (v : ℕ) → links_at list_next later v
         ≡ changed_links (λ at. joined_pair (get t.slots at)) (full_now t.slots) (full_next t.slots)
         (filter_map (flip_of t) (items_changed changes))
-        (links_at now links) v
+        (links_at list_now links) v
     next_links v =
         ap (λ d. unwrap_or d (sides_at later v).now) (drafts v)
         ∙ ap (unwrap_or (draft_of t.slots (filter_map (flip_of t) (items_changed changes)) v (sides_at links v).now)) (kept.now v)
-        ∙ drafted_links t.slots (filter_map (flip_of t) (items_changed changes)) (links_at now links) now_side.listed
+        ∙ drafted_links t.slots (filter_map (flip_of t) (items_changed changes)) (links_at list_now links) now_side.listed
         (all_touched t shelved used (items_changed changes) out.within) v
 
     pub inside_drafted : IsInside names (get t.slots) t.places.entries later
@@ -284,20 +284,20 @@ module _ (names : Holdings Identifier) (s t : Shelves) (links later : List (Side
       keys = is.keys;
       held = is.held;
       table = λ v x. subst (λ (n : ℕ). v < n) (sym kept.long) (is.table v x);
-      side = side_same now (get t.slots) t.places.entries (links_at now links) (links_at now later) kept.now now_side;
+      side = side_same list_now (get t.slots) t.places.entries (links_at list_now links) (links_at list_now later) kept.now now_side;
       next_side =
-          side_same next (get t.slots) t.places.entries
+          side_same list_next (get t.slots) t.places.entries
           (changed_links (λ at. joined_pair (get t.slots at)) (full_now t.slots) (full_next t.slots)
           (filter_map (flip_of t) (items_changed changes))
-          (links_at now links))
-          (links_at next later) next_links
+          (links_at list_now links))
+          (links_at list_next later) next_links
           (record {
             lists = all_lists t.places.entries (λ e h. h);
             listed = changed_listed (λ at. joined_pair (get t.slots at)) (full_now t.slots) (full_next t.slots)
-                (filter_map (flip_of t) (items_changed changes)) (links_at now links)
+                (filter_map (flip_of t) (items_changed changes)) (links_at list_now links)
                 now_side.listed (all_touched t shelved used (items_changed changes) out.within);
             once = λ v. changed_apart (λ at. joined_pair (get t.slots at)) (full_now t.slots) (full_next t.slots) v
-                (filter_map (flip_of t) (items_changed changes)) (links_at now links)
+                (filter_map (flip_of t) (items_changed changes)) (links_at list_now links)
                 now_side.listed (touched_apart t shelved (items_changed changes) out.apart) (now_side.once v);
           });
     }
@@ -305,11 +305,12 @@ module _ (names : Holdings Identifier) (s t : Shelves) (links later : List (Side
 -- once nothing has a draft any more, both sides are what is there
 pub inside_dropped : (names : Holdings Identifier) (s t : Shelves) (links later : List (Sides LinkSeen))
     → IsInside names (get s.slots) s.places.entries links
-    → AreShelved t → t.places ≡ s.places → ((at : ℕ) → ends_at t at ≡ ends_at s at) → rows_on_side now t ≡ rows_on_side now s
-    → rows_on_side next t ≡ rows_on_side now s
+    → AreShelved t → t.places ≡ s.places → ((at : ℕ) → ends_at t at ≡ ends_at s at) → rows_on_side list_now t ≡ rows_on_side list_now s
+    → rows_on_side list_next t ≡ rows_on_side list_now s
     → KeepsLinks links later → ((v : ℕ) → (sides_at later v).draft ≡ None) → IsInside names (get t.slots) t.places.entries later
 inside_dropped names s t links later is shelved places ends rows same kept none =
     subst (λ p. IsInside names (get t.slots) p.entries later) (sym places)
-    (inside_moved (get s.slots) (get t.slots) ends names s.places.entries links later now now now now
-    (lists_stay s t is.placed shelved places is.used ends now now rows) (lists_stay s t is.placed shelved places is.used ends now next same)
+    (inside_moved (get s.slots) (get t.slots) ends names s.places.entries links later list_now list_now list_now list_now
+    (lists_stay s t is.placed shelved places is.used ends list_now list_now rows)
+    (lists_stay s t is.placed shelved places is.used ends list_now list_next same)
     kept.now (λ v. ap (λ d. unwrap_or d (sides_at later v).now) (none v) ∙ kept.now v) kept.long is.side is.side is)

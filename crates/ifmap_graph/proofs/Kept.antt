@@ -14,7 +14,7 @@ use Rattle.ifmap_graph.specs.Held.{Held}
 use Rattle.ifmap_graph.specs.Out.{IsDrafted}
 use Rattle.ifmap_graph.specs.Seen.{AwaitsMore, IsStill, StaysLean, waits_in, waits_there_in}
 use Rattle.ifmap_graph.specs.Shelved.{list_at, rows_by}
-use Rattle.ifmap_graph.specs.Sides.{Sides, now}
+use Rattle.ifmap_graph.specs.Sides.{Sides, list_now}
 use Rattle.ifmap_graph.specs.Stays.{HasSameShelf, StayPlaced, ends_there_in}
 use Rattle.ifmap_graph.specs.Turning.{sides_at}
 use Rattle.ifmap_graph.proofs.Backs.{keeps_backs}
@@ -51,14 +51,14 @@ module _ (old new : Held) (shelves : new.shelves ≡ old.shelves) (places : new.
   kept_waits rest a x = omega (arith, a x, waits_same x)
 
   kept_backs : KeepsBacks old new
-  kept_backs = keeps_backs old new (ap (rows_by (list_at now)) shelves) (λ v. ap now (links v)) long kept_stay kept_waits
+  kept_backs = keeps_backs old new (ap (rows_by (list_at list_now)) shelves) (λ v. ap list_now (links v)) long kept_stay kept_waits
 
   kept_lean : StaysLean old new
   kept_lean rest lean = record {
     waits = λ x. omega (arith, lean.waits x, waits_same x);
     full = λ x h w e.
         lean.full x (subst (λ l. IsSome (lookup (is_at (item_order x)) l)) shelves h) (sym (waits_same x) ∙ w)
-        (sym (ap (λ l. stored_on x (rows_by (list_at now) l)) shelves) ∙ e);
+        (sym (ap (λ l. stored_on x (rows_by (list_at list_now) l)) shelves) ∙ e);
   }
 
   kept_shelves : KeepsShelves old new

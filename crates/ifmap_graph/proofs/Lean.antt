@@ -21,7 +21,7 @@ use Rattle.ifmap_graph.specs.Out.{items_changed}
 use Rattle.ifmap_graph.specs.Releasing.{AreFilled}
 use Rattle.ifmap_graph.specs.Seen.{AreAwaited, HasShelf, IsLean, StaysLean, StaysLeanWith, StaysLeanWithout}
 use Rattle.ifmap_graph.specs.Shelved.{AreShelved, slot_of_item, rows_on_side}
-use Rattle.ifmap_graph.specs.Sides.{Sides, next, now}
+use Rattle.ifmap_graph.specs.Sides.{Sides, list_next, list_now}
 use Rattle.ifmap_graph.specs.Waits.{WaitsFor, times_in, waits_on}
 use Rattle.ifmap_graph.proofs.Insides.{lookup_shown, rows_shown}
 use Rattle.ifmap_graph.proofs.Settled.{held_of, waits_shown}
@@ -55,14 +55,14 @@ module _ (names : Holdings Identifier) (s : Shelves) (links : List (Sides LinkSe
   pub lean_from : (items : List Item) → IsLean items (held_of names s links) → AreFilled s
   lean_from items lean x place none e =
       lean.full x (place_shelf x place) (waits_shown names s links x ∙ none)
-      (ap (stored_on x) (rows_shown now (get s.slots) s.places.entries) ∙ e)
+      (ap (stored_on x) (rows_shown list_now (get s.slots) s.places.entries) ∙ e)
 
   pub lean_to : (items : List Item) → ((x : Item) → waits_on s x ≤ times_in items x) → AreFilled s → IsLean items (held_of names s links)
   lean_to items waits filled = record {
     waits = λ x. omega (arith, waits x, waits_shown names s links x);
     full = λ x h w e.
         filled x (shelf_place x h) (sym (waits_shown names s links x) ∙ w)
-        (sym (ap (stored_on x) (rows_shown now (get s.slots) s.places.entries)) ∙ e);
+        (sym (ap (stored_on x) (rows_shown list_now (get s.slots) s.places.entries)) ∙ e);
   }
 
 module _ (names later : Holdings Identifier) (s t : Shelves) (links moved : List (Sides LinkSeen)) where
@@ -77,7 +77,7 @@ module _ (names later : Holdings Identifier) (s t : Shelves) (links moved : List
   -- shelves stay, and so does what is stored on items that nobody waits for
   pub same_lean : ((x : Item) → waits_on t x ≡ waits_on s x)
       → ((x : Item) → waits_on s x ≡ 0 → slot_of_item t x ≡ slot_of_item s x)
-      → ((x : Item) → waits_on s x ≡ 0 → stored_on x (rows_on_side now t) ≡ stored_on x (rows_on_side now s))
+      → ((x : Item) → waits_on s x ≡ 0 → stored_on x (rows_on_side list_now t) ≡ stored_on x (rows_on_side list_now s))
       → StaysLean (held_of names s links) (held_of later t moved)
   same_lean waits places rows rest lean =
       lean_to later t moved rest (λ x. omega (arith, lean.waits x, waits x, waits_shown names s links x))
@@ -105,7 +105,7 @@ module _ (names later : Holdings Identifier) (s t : Shelves) (links moved : List
 
   -- the drafts of these items, which are waited for, came to be the lists
   pub turned_lean : (items : List Item) → AreAwaited items (held_of names s links) → AreShelved s → AreOut items s
-      → ((x : Item) → waits_on t x ≡ waits_on s x) → t.places ≡ s.places → rows_on_side now t ≡ rows_on_side next s
+      → ((x : Item) → waits_on t x ≡ waits_on s x) → t.places ≡ s.places → rows_on_side list_now t ≡ rows_on_side list_next s
       → StaysLean (held_of names s links) (held_of later t moved)
   turned_lean items awaits is out waits places rows =
       same_lean waits (λ x none. ap (λ p. lookup (is_at (item_order x)) p.entries) places)
@@ -116,12 +116,12 @@ module _ (names later : Holdings Identifier) (s t : Shelves) (links moved : List
   -- lists came to stand on these items, which are waited for
   pub stood_lean : (items : List Item) → AreAwaited items (held_of names s links) → ((x : Item) → waits_on t x ≡ waits_on s x)
       → t.places ≡ s.places → (lists : List (List Stored))
-      → ((x : Item) → stored_on x (rows_on_side now t) ≡ stand_each items lists x (stored_on x (rows_on_side now s)))
+      → ((x : Item) → stored_on x (rows_on_side list_now t) ≡ stand_each items lists x (stored_on x (rows_on_side list_now s)))
       → StaysLean (held_of names s links) (held_of later t moved)
   stood_lean items awaits waits places lists stands =
       same_lean waits (λ x none. ap (λ p. lookup (is_at (item_order x)) p.entries) places)
       (λ x none. stands x
-      ∙ stand_others items lists x (stored_on x (rows_on_side now s)) (omega (arith, awaits x, none, waits_shown names s links x)))
+      ∙ stand_others items lists x (stored_on x (rows_on_side list_now s)) (omega (arith, awaits x, none, waits_shown names s links x)))
 
 -- nothing at all is left behind of nothing
 pub none_lean : (names : Holdings Identifier) → IsLean [] (record { shelves = []; names = names; links = []; places = [] })

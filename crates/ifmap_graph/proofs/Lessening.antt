@@ -21,7 +21,7 @@ use Rattle.ifmap_graph.specs.Held.{IsInside}
 use Rattle.ifmap_graph.specs.Named.{named_in}
 use Rattle.ifmap_graph.specs.Releasing.{IsLess}
 use Rattle.ifmap_graph.specs.Shelved.{AreShelved, HasEmptyShelf, ItemsRise, list_at, slot_of_item, rows_by, rows_on_side}
-use Rattle.ifmap_graph.specs.Sides.{Sides, next, now}
+use Rattle.ifmap_graph.specs.Sides.{Sides, list_next, list_now}
 use Rattle.ifmap_graph.specs.Waits.{waits_on, waits_there}
 use Rattle.ifmap_graph.proofs.Finding.{absent, found}
 use Rattle.ifmap_graph.proofs.Following.{lookup_tied, looked_up}
@@ -59,13 +59,14 @@ less_on one two three s t u p q = record {
 -- shelves are written that show the same, on both sides
 module _ (names : Holdings Identifier) (s t : Shelves) (later : AreShelved t) (places : t.places ≡ s.places)
     (ends : (at : ℕ) → ends_at t at ≡ ends_at s at)
-    (rows : rows_on_side now t ≡ rows_on_side now s) (same : rows_on_side next t ≡ rows_on_side next s) where
+    (rows : rows_on_side list_now t ≡ rows_on_side list_now s) (same : rows_on_side list_next t ≡ rows_on_side list_next s) where
   pub inside_written : (links : List (Sides LinkSeen)) → IsInside names (get s.slots) s.places.entries links
       → IsInside names (get t.slots) t.places.entries links
   inside_written links is =
       subst (λ p. IsInside names (get t.slots) p.entries links) (sym places)
-      (inside_moved (get s.slots) (get t.slots) ends names s.places.entries links links now next now next
-      (lists_stay s t is.placed later places is.used ends now now rows) (lists_stay s t is.placed later places is.used ends next next same)
+      (inside_moved (get s.slots) (get t.slots) ends names s.places.entries links links list_now list_next list_now list_next
+      (lists_stay s t is.placed later places is.used ends list_now list_now rows)
+      (lists_stay s t is.placed later places is.used ends list_next list_next same)
       (λ v. refl) (λ v. refl) refl is.side is.next_side is)
 
   pub less_written : (AreBare s → AreBare t) → IsLess names names s t
@@ -90,10 +91,10 @@ stored_tied list_of es rising x y t = by (lookup (is_at (item_order y)) es) refl
 
 -- the shelf of an item goes, on which nothing is stored
 pub less_removed : (names left : Holdings Identifier) (s t : Shelves) (item : Item) → AreShelved s → AreShelved t
-    → stored_on item (rows_on_side now s) ≡ []
+    → stored_on item (rows_on_side list_now s) ≡ []
     → ((links : List (Sides LinkSeen)) → IsInside names (get s.slots) s.places.entries links
     → IsInside left (get t.slots) t.places.entries links)
-    → rows_on_side now t ≡ rows_on_side now s
+    → rows_on_side list_now t ≡ rows_on_side list_now s
     → ((x : Item) (at : ℕ) → slot_of_item t x ≡ Some at → (slot_of_item s x ≡ Some at) × (get t.slots at ≡ get s.slots at))
     → ((x : Item) → is_at (item_order item) x ≡ false → slot_of_item t x ≡ slot_of_item s x)
     → ((v : ℕ) (a : Identifier) → Names identifier_order left v a → Names identifier_order names v a)
@@ -107,7 +108,7 @@ less_removed names left s t item is later empty inside rows before others named 
   before = λ x at e. let p = before x at e in (p.0, ap (option_map (λ (shelf : Shelf). shelf.ends)) p.1);
   full = λ x n. elim (cases_Bool (is_at (item_order item) x)) [
     | inl y ↦ let tie = (Equal-is (item_order item x)).0 y
-        in absurd (n (sym (stored_tied (λ at. list_at now (get s.slots at)) s.places.entries is.rising item x tie) ∙ empty))
+        in absurd (n (sym (stored_tied (λ at. list_at list_now (get s.slots at)) s.places.entries is.rising item x tie) ∙ empty))
     | inr f ↦ others x f
   ];
   named = named;
@@ -131,7 +132,7 @@ both x e f = ap (λ n. record { now = n; draft = x.draft }) e ∙ ap (λ d. reco
 
 -- where no shelf has a draft, a shelf on whose item nothing is stored is empty
 pub is_bare : (s : Shelves) (item : Item) (at : ℕ) → AreShelved s → AreBare s → slot_of_item s item ≡ Some at
-    → stored_on item (rows_on_side now s) ≡ [] → HasEmptyShelf s item
+    → stored_on item (rows_on_side list_now s) ≡ [] → HasEmptyShelf s item
 is_bare s item at is bare here empty =
     let l = some_is (get s.slots at) (slot_live (get s.slots) s.places.entries item at is here)
     in let q = looked_up s.places.entries item at here
@@ -142,5 +143,6 @@ is_bare s item at is bare here empty =
       here,
       l.1,
       both l.0.stored
-          (sym (ap (list_at now) l.1) ∙ found (λ n. list_at now (get s.slots n)) item s.places.entries at is.rising here ∙ empty) none,
+          (sym (ap (list_at list_now) l.1) ∙ found (λ n. list_at list_now (get s.slots n)) item s.places.entries at is.rising here ∙ empty)
+          none,
     )

@@ -19,7 +19,7 @@ use Rattle.ifmap_graph.specs.Making.{IsMade, IsUnmade}
 use Rattle.ifmap_graph.specs.Named.{named_in}
 use Rattle.ifmap_graph.specs.Out.{items_changed}
 use Rattle.ifmap_graph.specs.Shelved.{slot_of_item, rows_on_side}
-use Rattle.ifmap_graph.specs.Sides.{Sides, next, now}
+use Rattle.ifmap_graph.specs.Sides.{Sides, list_next, list_now}
 use Rattle.ifmap_graph.specs.Touched.{AreExactlyDrafted, KeepsLinks}
 use Rattle.ifmap_graph.specs.Turning.{sides_at}
 use Rattle.ifmap_graph.specs.Waits.{WaitsFor}
@@ -40,8 +40,9 @@ none_ready ways links e none = subst (λ w. AreExactlyDrafted w links) (sym e) (
 pub made_by : (changes : List ItemChange) (ways : List (ℕ × List LinkSeen)) (items : List Item) (first old : Parts) (t : Shelves)
     (links : List (Sides LinkSeen))
     → AreGrown first old → BringsShelves items first.shelves old.shelves → AreInside (graph_parts old.names t links)
-    → rows_on_side now t ≡ rows_on_side now old.shelves
-    → IsAfter changes (rows_on_side now old.shelves) (rows_on_side next t) → AreOut (items_changed changes) t → AreExactlyDrafted ways links
+    → rows_on_side list_now t ≡ rows_on_side list_now old.shelves
+    → IsAfter changes (rows_on_side list_now old.shelves) (rows_on_side list_next t) → AreOut (items_changed changes) t
+    → AreExactlyDrafted ways links
     → KeepsLinks old.links links
     → ((at : ℕ) → ends_at t at ≡ ends_at old.shelves at) → t.places ≡ old.shelves.places
     → ((x : Item) → IsOther (items_changed changes) x → IsOther items x) → WaitsFor (items_changed changes) old.shelves t
@@ -49,7 +50,7 @@ pub made_by : (changes : List ItemChange) (ways : List (ℕ × List LinkSeen)) (
 made_by changes ways items first old t links grown brought inside rows after out ready kept ends places within waits = record {
   inside = inside;
   rows = rows ∙ grown.now;
-  after = subst (λ r. IsAfter changes r (rows_on_side next t)) grown.now after;
+  after = subst (λ r. IsAfter changes r (rows_on_side list_next t)) grown.now after;
   out = out;
   ready = ready;
   links = λ v. kept.now v ∙ ap (λ s. s.now) (grown.links v);
@@ -86,7 +87,7 @@ module _ (one two mid : Holdings Identifier) (first : IsPool identifier_order on
 pub unmade_by : (first : Parts) (mid left : Holdings Identifier) (t : Shelves) (links : List (Sides LinkSeen)) → AreInside first
     → IsPool identifier_order mid
     → AreInside (graph_parts left t links) → AreBare t → ((v : ℕ) → (sides_at links v).draft ≡ None)
-    → rows_on_side now t ≡ rows_on_side now first.shelves
+    → rows_on_side list_now t ≡ rows_on_side list_now first.shelves
     → ((v : ℕ) → (sides_at links v).now ≡ (sides_at first.links v).now) → length first.links ≤ length links
     → ((a : Identifier) (own : ℕ) → HasOwn first a own → HasOwn (graph_parts left t links) a own) → BringsShelves [] first.shelves t
     → ((v : ℕ) (a : Identifier) → Names identifier_order first.names v a → Names identifier_order mid v a)

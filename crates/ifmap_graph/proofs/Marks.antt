@@ -15,7 +15,7 @@ use Rattle.ifmap_graph.specs.Drafted.{AreBare}
 use Rattle.ifmap_graph.specs.Held.{IsInside}
 use Rattle.ifmap_graph.specs.Releasing.{IsLess}
 use Rattle.ifmap_graph.specs.Shelved.{HasEmptyShelf, list_at, slot_of_item, rows_on_side}
-use Rattle.ifmap_graph.specs.Sides.{Sides, now}
+use Rattle.ifmap_graph.specs.Sides.{Sides, list_now}
 use Rattle.ifmap_graph.specs.Waits.{waits_on}
 use Rattle.ifmap_graph.proofs.Brought.{brings_less, brings_unless, never_waited}
 use Rattle.ifmap_graph.proofs.Finding.{absent}
@@ -72,7 +72,8 @@ module _ (items : List Item) (marks : List Bool) (names : Holdings Identifier) (
 
     -- the shelf that goes is empty, and nobody waits for it
     pub takes_empty : (links : List (Sides LinkSeen)) → IsInside names (get first.slots) first.places.entries links → AreBare first
-        → (origin : Shelves) → rows_on_side now origin ≡ rows_on_side now first → BringsShelves (flagged_items items marks) origin first →
+        → (origin : Shelves) → rows_on_side list_now origin ≡ rows_on_side list_now first
+        → BringsShelves (flagged_items items marks) origin first →
         came ≡ true
         → HasEmptyShelf s x
     takes_empty links is bare origin rows b t =
@@ -80,7 +81,7 @@ module _ (items : List Item) (marks : List Bool) (names : Holdings Identifier) (
         in let at = some_is (slot_of_item s x) p.there.0
         in is_bare s x at.0 (g.less.inside links is).placed (g.less.bare bare) at.1
         (ap (stored_on x) (g.less.rows ∙ sym rows)
-        ∙ sym (absent (λ n. list_at now (get origin.slots n)) x origin.places.entries p.absent.0))
+        ∙ sym (absent (λ n. list_at list_now (get origin.slots n)) x origin.places.entries p.absent.0))
 
     pub takes_idle : (origin : Shelves) → BringsShelves (flagged_items items marks) origin first → came ≡ true → waits_on s x ≡ 0
     takes_idle origin b t = let p = came_here origin b t in p.waits x ∙ never_waited origin x p.absent.0

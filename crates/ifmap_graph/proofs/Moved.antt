@@ -18,7 +18,7 @@ use Rattle.ifmap_graph.specs.Joined.{is_not_empty, joined_pair, two_of}
 use Rattle.ifmap_graph.specs.Linked.{ats}
 use Rattle.ifmap_graph.specs.Named.{AreEnds, AreNumbered, HasEnds}
 use Rattle.ifmap_graph.specs.Shelved.{AreShelved, IsPlaced, StoredSide, list_at, rows_on_side}
-use Rattle.ifmap_graph.specs.Sides.{Sides, next, now}
+use Rattle.ifmap_graph.specs.Sides.{Sides, list_next, list_now}
 use Rattle.ifmap_graph.proofs.Finding.{found}
 use Rattle.ifmap_graph.proofs.Following.{entry_hits}
 use Rattle.ifmap_graph.proofs.Shelving.{Entries}
@@ -89,7 +89,8 @@ module _ (look later : ℕ → Option Shelf) (ends : (at : ℕ) → ends_of (lat
 
   -- all parts together, where both sides are in order
   pub inside_anew : (names : Holdings Identifier) (es : Entries) (links moved : List (Sides LinkSeen)) → length moved ≡ length links
-      → IsSide now later es (links_at now moved) → IsSide next later es (links_at next moved) → IsInside names look es links
+      → IsSide list_now later es (links_at list_now moved) → IsSide list_next later es (links_at list_next moved)
+      → IsInside names look es links
       → IsInside names later es moved
   inside_anew names es links moved long first second is = record {
     placed = placed_still es is.placed;
@@ -106,14 +107,14 @@ module _ (look later : ℕ → Option Shelf) (ends : (at : ℕ) → ends_of (lat
   -- all parts together, where both sides come to be what one was
   pub inside_moved : (names : Holdings Identifier) (es : Entries) (links moved : List (Sides LinkSeen)) (one two : StoredSide)
       (from : (Sides LinkSeen → List LinkSeen)) (then : (Sides LinkSeen → List LinkSeen))
-      → ((at : ℕ) → list_at now (later at) ≡ list_at one (look at)) → ((at : ℕ) → list_at next (later at) ≡ list_at two (look at))
-      → ((v : ℕ) → links_at now moved v ≡ links_at from links v) → ((v : ℕ) → links_at next moved v ≡ links_at then links v)
+      → ((at : ℕ) → list_at list_now (later at) ≡ list_at one (look at)) → ((at : ℕ) → list_at list_next (later at) ≡ list_at two (look at))
+      → ((v : ℕ) → links_at list_now moved v ≡ links_at from links v) → ((v : ℕ) → links_at list_next moved v ≡ links_at then links v)
       → length moved ≡ length links
       → IsSide one look es (links_at from links) → IsSide two look es (links_at then links) → IsInside names look es links
       → IsInside names later es moved
   inside_moved names es links moved one two from then f g ln lx long first second is =
-      inside_anew names es links moved long (side_moved one now f (links_at from links) (links_at now moved) ln es first)
-      (side_moved two next g (links_at then links) (links_at next moved) lx es second) is
+      inside_anew names es links moved long (side_moved one list_now f (links_at from links) (links_at list_now moved) ln es first)
+      (side_moved two list_next g (links_at then links) (links_at list_next moved) lx es second) is
 
 -- lists are the same at each slot where the same is stored on each item
 module _ (s t : Shelves) (is : AreShelved s) (later : AreShelved t) (places : t.places ≡ s.places)

@@ -25,7 +25,7 @@ use Rattle.ifmap_graph.specs.declared.shelves.Shelves.{Shelves}
 use Rattle.ifmap_graph.specs.Drafted.{AreBare, AreOut, DraftsWithin, NoDraft, ends_at}
 use Rattle.ifmap_graph.specs.Out.{items_changed}
 use Rattle.ifmap_graph.specs.Shelved.{AreShelved, HasDraft, slot_of_item, rows_on_side}
-use Rattle.ifmap_graph.specs.Sides.{next, now}
+use Rattle.ifmap_graph.specs.Sides.{list_next, list_now}
 use Rattle.ifmap_graph.specs.Waits.{waits_on}
 use Rattle.ifmap_graph.proofs.Bare.{sides_same}
 use Rattle.ifmap_graph.proofs.Finding.{live_at}
@@ -83,24 +83,24 @@ module _ (changes : List ItemChange) (first : Shelves) where
   -- so many items have their drafts
   pub record Drafting (s : Shelves) (i : ℕ) : Type 0 where
     pub shelved : AreShelved s
-    pub same : rows_on_side now s ≡ rows_on_side now first
+    pub same : rows_on_side list_now s ≡ rows_on_side list_now first
     pub drafted : AllByRecursion (HasDraft s) (items_changed (take i changes))
     pub within : DraftsWithin (items_changed changes) s
     pub apart : IsDistinct same_item (items_changed (drop i changes))
-    pub fresh : AllByRecursion (λ x. stored_on x (rows_on_side next s) ≡ stored_on x (rows_on_side now first))
+    pub fresh : AllByRecursion (λ x. stored_on x (rows_on_side list_next s) ≡ stored_on x (rows_on_side list_now first))
         (items_changed (drop i changes))
-    pub left : (x : Item) → after_on (drop i changes) x (stored_on x (rows_on_side next s)) ≡ after_on changes x
-        (stored_on x (rows_on_side now first))
+    pub left : (x : Item) → after_on (drop i changes) x (stored_on x (rows_on_side list_next s)) ≡ after_on changes x
+        (stored_on x (rows_on_side list_now first))
     pub ends : (at : ℕ) → ends_at s at ≡ ends_at first at
     pub waits : (x : Item) → waits_on s x ≡ waits_on first x
     pub places : s.places ≡ first.places
 
-  all_same : (xs : List Item) → ((x : Item) → stored_on x (rows_on_side next first) ≡ stored_on x (rows_on_side now first))
-      → AllByRecursion (λ x. stored_on x (rows_on_side next first) ≡ stored_on x (rows_on_side now first)) xs
+  all_same : (xs : List Item) → ((x : Item) → stored_on x (rows_on_side list_next first) ≡ stored_on x (rows_on_side list_now first))
+      → AllByRecursion (λ x. stored_on x (rows_on_side list_next first) ≡ stored_on x (rows_on_side list_now first)) xs
   all_same [] f = tt
   all_same (x ∷ xs) f = (f x, all_same xs f)
 
-  pub drafting : AreShelved first → AreBare first → Fits (rows_on_side now first) changes → Drafting first 0
+  pub drafting : AreShelved first → AreBare first → Fits (rows_on_side list_now first) changes → Drafting first 0
   drafting shelved bare fits = record {
     shelved = shelved;
     same = refl;
@@ -144,26 +144,28 @@ module _ (changes : List ItemChange) (first : Shelves) where
         in let d : IsDistinct same_item (c.item ∷ rest) = subst (λ l. IsDistinct same_item (items_changed l)) here g.apart
         in (IsDistinct-head same_item c.item rest d, IsDistinct-tail same_item c.item rest d)
 
-    fresh_here : AllByRecursion (λ x. stored_on x (rows_on_side next s) ≡ stored_on x (rows_on_side now first))
+    fresh_here : AllByRecursion (λ x. stored_on x (rows_on_side list_next s) ≡ stored_on x (rows_on_side list_now first))
         (items_changed (c ∷ drop (i + 1) changes))
     fresh_here = subst
-        (λ l. AllByRecursion (λ x. stored_on x (rows_on_side next s) ≡ stored_on x (rows_on_side now first)) (items_changed l)) here g.fresh
+        (λ l. AllByRecursion (λ x. stored_on x (rows_on_side list_next s) ≡ stored_on x (rows_on_side list_now first)) (items_changed l))
+        here g.fresh
 
-    module _ (t : Shelves) (shelved : AreShelved t) (same : rows_on_side now t ≡ rows_on_side now s)
-        (shows : (x : Item) → stored_on x (rows_on_side next t)
-        ≡ cond (is_at (item_order c.item) x) (next_on c.removed c.added (stored_on c.item (rows_on_side now s)))
-        (stored_on x (rows_on_side next s)))
+    module _ (t : Shelves) (shelved : AreShelved t) (same : rows_on_side list_now t ≡ rows_on_side list_now s)
+        (shows : (x : Item) → stored_on x (rows_on_side list_next t)
+        ≡ cond (is_at (item_order c.item) x) (next_on c.removed c.added (stored_on c.item (rows_on_side list_now s)))
+        (stored_on x (rows_on_side list_next s)))
         (drafts : (x : Item) → HasDraft t x → HasDraft s x ⊎ (is_at (item_order c.item) x ≡ true))
         (kept : (x : Item) → HasDraft s x → HasDraft t x)
         (there : HasDraft t c.item) (ends : (at : ℕ) → ends_at t at ≡ ends_at s at) (waits : (x : Item) → waits_on t x ≡ waits_on s x)
         (places : t.places ≡ s.places) where
       still_fresh : (xs : List Item) → AllByRecursion (λ y. same_item c.item y ≡ false) xs
-          → AllByRecursion (λ x. stored_on x (rows_on_side next s) ≡ stored_on x (rows_on_side now first)) xs
-          → AllByRecursion (λ x. stored_on x (rows_on_side next t) ≡ stored_on x (rows_on_side now first)) xs
+          → AllByRecursion (λ x. stored_on x (rows_on_side list_next s) ≡ stored_on x (rows_on_side list_now first)) xs
+          → AllByRecursion (λ x. stored_on x (rows_on_side list_next t) ≡ stored_on x (rows_on_side list_now first)) xs
       still_fresh [] a b = tt
       still_fresh (x ∷ xs) a b = (
         shows x
-            ∙ ap (λ b. cond b (next_on c.removed c.added (stored_on c.item (rows_on_side now s))) (stored_on x (rows_on_side next s)))
+            ∙ ap (λ b. cond b (next_on c.removed c.added (stored_on c.item (rows_on_side list_now s)))
+            (stored_on x (rows_on_side list_next s)))
             (sym (items_tie c.item x) ∙ a.0) ∙ b.0,
         still_fresh xs a.1 b.1,
       )
@@ -181,22 +183,22 @@ module _ (changes : List ItemChange) (first : Shelves) where
         apart = apart_here.1;
         fresh = still_fresh (items_changed (drop (i + 1) changes)) apart_here.0 fresh_here.1;
         left = λ x.
-            step_of c (drop (i + 1) changes) x (stored_on x (rows_on_side next s)) (stored_on c.item (rows_on_side now s))
-            (stored_on x (rows_on_side next t)) apart_here.0
+            step_of c (drop (i + 1) changes) x (stored_on x (rows_on_side list_next s)) (stored_on c.item (rows_on_side list_now s))
+            (stored_on x (rows_on_side list_next t)) apart_here.0
             (shows x)
-            (λ t. sym (stored_tied c.item x (rows_on_side next s) ((Equal-is (item_order c.item x)).0 t)) ∙ fresh_here.0
+            (λ t. sym (stored_tied c.item x (rows_on_side list_next s) ((Equal-is (item_order c.item x)).0 t)) ∙ fresh_here.0
             ∙ sym (ap (stored_on c.item) g.same))
-            ∙ sym (ap (λ l. after_on l x (stored_on x (rows_on_side next s))) here) ∙ g.left x;
+            ∙ sym (ap (λ l. after_on l x (stored_on x (rows_on_side list_next s))) here) ∙ g.left x;
         ends = λ at. ends at ∙ g.ends at;
         waits = λ x. waits x ∙ g.waits x;
         places = places ∙ g.places;
       }
 
   module _ (s : Shelves) (i : ℕ) (e : length changes ≤ i) (g : Drafting s i) where
-    pub drafted_after : IsAfter changes (rows_on_side now first) (rows_on_side next s)
-    drafted_after x = sym (ap (λ l. after_on l x (stored_on x (rows_on_side next s))) (drop_all i changes e)) ∙ g.left x
+    pub drafted_after : IsAfter changes (rows_on_side list_now first) (rows_on_side list_next s)
+    drafted_after x = sym (ap (λ l. after_on l x (stored_on x (rows_on_side list_next s))) (drop_all i changes e)) ∙ g.left x
 
-    pub drafted_out : Fits (rows_on_side now first) changes → AreOut (items_changed changes) s
+    pub drafted_out : Fits (rows_on_side list_now first) changes → AreOut (items_changed changes) s
     drafted_out fits = record {
       drafted = subst (λ l. AllByRecursion (HasDraft s) (items_changed l)) (take_all i changes e) g.drafted;
       within = g.within;

@@ -28,7 +28,7 @@ use Rattle.ifmap_graph.specs.Named.{AreIdentifiers, named_in}
 use Rattle.ifmap_graph.specs.Out.{IsDrafted, IsOut, items_changed}
 use Rattle.ifmap_graph.specs.Seen.{AwaitsMore, IsSeenSame, IsStill, KeepsNumbers, KeepsOwn, StaysLeanWith, rows_next, rows_now}
 use Rattle.ifmap_graph.specs.Shelved.{HasDraft, list_at, slot_of_item, rows_on_side}
-use Rattle.ifmap_graph.specs.Sides.{Sides, next, now}
+use Rattle.ifmap_graph.specs.Sides.{Sides, list_next, list_now}
 use Rattle.ifmap_graph.specs.Stays.{HasSameShelf, StayPlaced}
 use Rattle.ifmap_graph.specs.Turning.{AreDrafted, NoOthers}
 use Rattle.ifmap_graph.specs.Waits.{waits_on}
@@ -76,8 +76,8 @@ pub record StaysAsItWas (old new : Held) : Type 0 where
   pub still : IsStill new
 
 module _ (names later : Holdings Identifier) (s t : Shelves) (links moved : List (Sides LinkSeen)) where
-  rows_same : rows_on_side now t ≡ rows_on_side now s → rows_now (held_of later t moved) ≡ rows_now (held_of names s links)
-  rows_same rows = rows_shown now (get t.slots) t.places.entries ∙ rows ∙ sym (rows_shown now (get s.slots) s.places.entries)
+  rows_same : rows_on_side list_now t ≡ rows_on_side list_now s → rows_now (held_of later t moved) ≡ rows_now (held_of names s links)
+  rows_same rows = rows_shown list_now (get t.slots) t.places.entries ∙ rows ∙ sym (rows_shown list_now (get s.slots) s.places.entries)
 
   own_same : ((a : Identifier) (own : ℕ) → IsHeld identifier_order names a (named_in s.places.entries a + own)
       → IsHeld identifier_order later a (named_in t.places.entries a + own)) → KeepsOwn (held_of names s links) (held_of later t moved)
@@ -98,8 +98,8 @@ module _ (names later : Holdings Identifier) (s t : Shelves) (links moved : List
     full_there : (x : Item) (o : Option ℕ) → slot_of_item s x ≡ o → stored_on x (rows_now (held_of names s links)) ≢ []
         → HasSameShelf (held_of names s links) (held_of later t moved) x
     full_there x None e n =
-        absurd (n (ap (stored_on x) (rows_shown now (get s.slots) s.places.entries)
-        ∙ sym (absent (λ at. list_at now (get s.slots at)) x s.places.entries e)))
+        absurd (n (ap (stored_on x) (rows_shown list_now (get s.slots) s.places.entries)
+        ∙ sym (absent (λ at. list_at list_now (get s.slots at)) x s.places.entries e)))
     full_there x (Some at) e n = there x at e
 
     stay : StayPlaced (held_of names s links) (held_of later t moved)
@@ -118,8 +118,8 @@ module _ (names later : Holdings Identifier) (s t : Shelves) (links moved : List
 
     made_after : IsAfter changes (rows_now (held_of names s links)) (rows_next (held_of later t moved))
     made_after =
-        subst (λ r. IsAfter changes r (rows_next (held_of later t moved))) (sym (rows_shown now (get s.slots) s.places.entries))
-        (subst (λ r. IsAfter changes (rows_on_side now s) r) (sym (rows_shown next (get t.slots) t.places.entries)) made.after)
+        subst (λ r. IsAfter changes r (rows_next (held_of later t moved))) (sym (rows_shown list_now (get s.slots) s.places.entries))
+        (subst (λ r. IsAfter changes (rows_on_side list_now s) r) (sym (rows_shown list_next (get t.slots) t.places.entries)) made.after)
 
     made_own : KeepsOwn (held_of names s links) (held_of later t moved)
     made_own = own_same made.own

@@ -18,7 +18,7 @@ use Rattle.ifmap_graph.specs.Held.{Held, shown_shelves}
 use Rattle.ifmap_graph.specs.Joined.{is_not_empty, joined_pair, full_some, some_full}
 use Rattle.ifmap_graph.specs.Linked.{AreListed, ats}
 use Rattle.ifmap_graph.specs.Shelved.{IsPlaced, list_at, rows_by}
-use Rattle.ifmap_graph.specs.Sides.{Sides, now}
+use Rattle.ifmap_graph.specs.Sides.{Sides, list_now}
 use Rattle.ifmap_graph.specs.Stays.{HasSameShelf, ends_in, ends_there_in}
 use Rattle.ifmap_graph.proofs.Finding.{found}
 use Rattle.ifmap_graph.proofs.Following.{entry_hits}
@@ -61,11 +61,11 @@ by_two (Some shelf) v w e = e
 -- the links of the slots that are full, by the items that have something stored on them; and the other way round
 module _ (look : ℕ → Option Shelf) (es : Entries) (names : Holdings Identifier) (sides : List (Sides LinkSeen)) (rows : List Attachment)
     (links : ℕ → List LinkSeen) (placed : IsPlaced look es) (used : (at : ℕ) → IsSome (look at) → (item : Item) × Has es (item, at))
-    (same : (x : Item) → stored_on x (rows_by (λ at. list_at now (look at)) es) ≡ stored_on x rows) where
-  on_slot : (x : Item) (at : ℕ) → lookup (is_at (item_order x)) es ≡ Some at → list_at now (look at) ≡ stored_on x rows
-  on_slot x at e = found (λ n. list_at now (look n)) x es at placed.rising e ∙ same x
+    (same : (x : Item) → stored_on x (rows_by (λ at. list_at list_now (look at)) es) ≡ stored_on x rows) where
+  on_slot : (x : Item) (at : ℕ) → lookup (is_at (item_order x)) es ≡ Some at → list_at list_now (look at) ≡ stored_on x rows
+  on_slot x at e = found (λ n. list_at list_now (look n)) x es at placed.rising e ∙ same x
 
-  pub links_by_items : AreListed (λ at. joined_pair (look at)) (λ at. is_not_empty (list_at now (look at))) links
+  pub links_by_items : AreListed (λ at. joined_pair (look at)) (λ at. is_not_empty (list_at list_now (look at))) links
       → ((v : ℕ) → IsDistinct nat_eq (ats (links v))) → AreLinks rows links (seen_of look es names sides)
   links_by_items is once = record {
     only = λ v seen c.
@@ -77,26 +77,26 @@ module _ (look : ℕ → Option Shelf) (es : Entries) (names : Holdings Identifi
           e,
           subst (λ o. AreBothEnds o v seen.other) (sym (seen_ends look es names sides u.0 seen.at e))
               (two_by (look seen.at) v seen.other p.0),
-          (λ n. full_some (list_at now (look seen.at)) p.1 (on_slot u.0 seen.at e ∙ n)),
+          (λ n. full_some (list_at list_now (look seen.at)) p.1 (on_slot u.0 seen.at e ∙ n)),
         );
     each = λ x v w at e two full.
         is.each v w at (by_two (look at) v w (subst (λ o. AreBothEnds o v w) (seen_ends look es names sides x at e) two))
-        (some_full (list_at now (look at)) (λ n. full (sym (on_slot x at e) ∙ n)));
+        (some_full (list_at list_now (look at)) (λ n. full (sym (on_slot x at e) ∙ n)));
     once = once;
   }
 
   pub links_by_slots : AreLinks rows links (seen_of look es names sides)
-      → AreListed (λ at. joined_pair (look at)) (λ at. is_not_empty (list_at now (look at))) links
+      → AreListed (λ at. joined_pair (look at)) (λ at. is_not_empty (list_at list_now (look at))) links
   links_by_slots is = record {
     only = λ v seen c.
         let p = is.only v seen c
         in (
           by_two (look seen.at) v seen.other (subst (λ o. AreBothEnds o v seen.other) (seen_ends look es names sides p.0 seen.at p.1) p.2),
-          some_full (list_at now (look seen.at)) (λ n. p.3 (sym (on_slot p.0 seen.at p.1) ∙ n)),
+          some_full (list_at list_now (look seen.at)) (λ n. p.3 (sym (on_slot p.0 seen.at p.1) ∙ n)),
         );
     each = λ v w at e full.
         let u = used at (live_by look at v w e)
         in let h : lookup (is_at (item_order u.0)) es ≡ Some at = entry_hits es u.0 at placed.rising u.1
         in is.each u.0 v w at h (subst (λ o. AreBothEnds o v w) (sym (seen_ends look es names sides u.0 at h)) (two_by (look at) v w e))
-        (λ n. full_some (list_at now (look at)) full (on_slot u.0 at h ∙ n));
+        (λ n. full_some (list_at list_now (look at)) full (on_slot u.0 at h ∙ n));
   }

@@ -19,7 +19,7 @@ use Rattle.ifmap_graph.specs.Out.{IsDrafted}
 use Rattle.ifmap_graph.specs.Releasing.{IsLess}
 use Rattle.ifmap_graph.specs.Seen.{AreAwaited, AwaitsLess, HasFewOwn, IsStill, KeepsOwn, rows_next, rows_now, waits_in, waits_there_in}
 use Rattle.ifmap_graph.specs.Shelved.{AreShelved, slot_of_item}
-use Rattle.ifmap_graph.specs.Sides.{Sides, next, now}
+use Rattle.ifmap_graph.specs.Sides.{Sides, list_next, list_now}
 use Rattle.ifmap_graph.specs.Stays.{HasSameShelf, StayPlaced, ends_in, ends_there_in}
 use Rattle.ifmap_graph.specs.Turning.{sides_at}
 use Rattle.ifmap_graph.specs.Waits.{AreWaited, WaitsFor, waits_on, waits_there}
@@ -93,12 +93,12 @@ module _ (names : Holdings Identifier) (s : Shelves) (links : List (Sides LinkSe
 -- some shelves went
 module _ (names left : Holdings Identifier) (s t : Shelves) (links : List (Sides LinkSeen)) (less : IsLess names left s t) where
   pub less_now : rows_now (held_of left t links) ≡ rows_now (held_of names s links)
-  less_now = rows_shown now (get t.slots) t.places.entries ∙ less.rows ∙ sym (rows_shown now (get s.slots) s.places.entries)
+  less_now = rows_shown list_now (get t.slots) t.places.entries ∙ less.rows ∙ sym (rows_shown list_now (get s.slots) s.places.entries)
 
   pub less_next : AreBare s → rows_next (held_of left t links) ≡ rows_next (held_of names s links)
   less_next bare =
-      rows_shown next (get t.slots) t.places.entries ∙ sides_same t (less.bare bare) ∙ less.rows ∙ sym (sides_same s bare)
-      ∙ sym (rows_shown next (get s.slots) s.places.entries)
+      rows_shown list_next (get t.slots) t.places.entries ∙ sides_same t (less.bare bare) ∙ less.rows ∙ sym (sides_same s bare)
+      ∙ sym (rows_shown list_next (get s.slots) s.places.entries)
 
   pub less_own : KeepsOwn (held_of names s links) (held_of left t links)
   less_own a own h =
@@ -123,5 +123,5 @@ module _ (names left : Holdings Identifier) (s t : Shelves) (links : List (Sides
         let w : 0 < waits_on t x = omega (arith, b, waits_shown left t links x)
         in let q = waited_there t x w
         in there_by x (q.1 ∙ sym (less.before x q.0 q.1).0);
-    full = λ x a b. there_by x (less.full x (λ m. a (ap (stored_on x) (rows_shown now (get s.slots) s.places.entries) ∙ m)));
+    full = λ x a b. there_by x (less.full x (λ m. a (ap (stored_on x) (rows_shown list_now (get s.slots) s.places.entries) ∙ m)));
   }

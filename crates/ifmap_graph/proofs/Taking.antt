@@ -28,7 +28,7 @@ use Rattle.ifmap_graph.specs.Held.{IsInside, links_at, shown_shelves}
 use Rattle.ifmap_graph.specs.Out.{items_changed}
 use Rattle.ifmap_graph.specs.Seen.{AreAwaited, links_now, rows_now}
 use Rattle.ifmap_graph.specs.Shelved.{AreShelved, HasDraft, list_at, slot_of_item, rows_by, rows_on_side}
-use Rattle.ifmap_graph.specs.Sides.{Sides, next, now}
+use Rattle.ifmap_graph.specs.Sides.{Sides, list_next, list_now}
 use Rattle.ifmap_graph.specs.Stays.{HasSameShelf}
 use Rattle.ifmap_graph.specs.Turning.{AreDrafted, AreWithin, NoOthers, accept_each, backs, restore_each}
 use Rattle.ifmap_graph.specs.Waits.{times_in, waits_on}
@@ -61,30 +61,30 @@ has_times (k ∷ ks) x i (inl p) e t =
 has_times (k ∷ ks) x i (inr h) e t = has_times ks x i h e (omega (arith, t))
 
 -- on an item without a draft both sides are the same
-pub else_same : (s : Shelves) (x : Item) → AreShelved s → (HasDraft s x → ⊥) → stored_on x (rows_on_side next s) ≡ stored_on x
-    (rows_on_side now s)
+pub else_same : (s : Shelves) (x : Item) → AreShelved s → (HasDraft s x → ⊥) → stored_on x (rows_on_side list_next s) ≡ stored_on x
+    (rows_on_side list_now s)
 else_same s x is f = by (slot_of_item s x) refl
   where
-    by : (o : Option ℕ) → slot_of_item s x ≡ o → stored_on x (rows_on_side next s) ≡ stored_on x (rows_on_side now s)
-    by None e = sym (absent (λ n. list_at next (get s.slots n)) x s.places.entries e)
-        ∙ absent (λ n. list_at now (get s.slots n)) x s.places.entries e
+    by : (o : Option ℕ) → slot_of_item s x ≡ o → stored_on x (rows_on_side list_next s) ≡ stored_on x (rows_on_side list_now s)
+    by None e = sym (absent (λ n. list_at list_next (get s.slots n)) x s.places.entries e)
+        ∙ absent (λ n. list_at list_now (get s.slots n)) x s.places.entries e
     by (Some at) e =
-        sym (found (λ n. list_at next (get s.slots n)) x s.places.entries at is.rising e)
+        sym (found (λ n. list_at list_next (get s.slots n)) x s.places.entries at is.rising e)
         ∙ list_bare (get s.slots at) (no_draft (get s.slots at) (λ shelf here has. f (at, shelf, e, here, has)))
-        ∙ found (λ n. list_at now (get s.slots n)) x s.places.entries at is.rising e
+        ∙ found (λ n. list_at list_now (get s.slots n)) x s.places.entries at is.rising e
 
 module _ (names : Holdings Identifier) (s t : Shelves) (links moved : List (Sides LinkSeen))
     (is : IsInside names (get s.slots) s.places.entries links)
     (places : t.places ≡ s.places) (ends : (at : ℕ) → ends_at t at ≡ ends_at s at) (waits : (x : Item) → waits_on t x ≡ waits_on s x)
-    (rows : rows_on_side now t ≡ rows_on_side next s)
+    (rows : rows_on_side list_now t ≡ rows_on_side list_next s)
     (ready : Ready) (result : Undo) (out : AreOut (items_changed ready.plan.changes) s)
     (drafted : AreDrafted ready.ways links) (others : NoOthers ready.ways links) (turned : moved ≡ accept_each ready.ways links)
     (plan : result.plan ≡ ready.plan)
     (lists : result.lists ≡ map
-    (λ c. stored_on c.item (rows_by (list_at now) (shown_shelves (get s.slots) s.places.entries))) ready.plan.changes)
+    (λ c. stored_on c.item (rows_by (list_at list_now) (shown_shelves (get s.slots) s.places.entries))) ready.plan.changes)
     (ways : result.ways ≡ backs ready.ways links) where
   abbrev before : List Attachment
-  before = rows_by (list_at now) (shown_shelves (get s.slots) s.places.entries)
+  before = rows_by (list_at list_now) (shown_shelves (get s.slots) s.places.entries)
 
   abbrev items : List Item
   items = items_changed ready.plan.changes
@@ -97,37 +97,37 @@ module _ (names : Holdings Identifier) (s t : Shelves) (links moved : List (Side
 
   -- what is stored now on an item of none of these
   kept : (x : Item) → times_in items x ≡ 0
-      → stored_on x (rows_by (list_at now) (shown_shelves (get t.slots) t.places.entries)) ≡ stored_on x before
+      → stored_on x (rows_by (list_at list_now) (shown_shelves (get t.slots) t.places.entries)) ≡ stored_on x before
   kept x e =
-      ap (stored_on x) (rows_shown now (get t.slots) t.places.entries ∙ rows)
+      ap (stored_on x) (rows_shown list_now (get t.slots) t.places.entries ∙ rows)
       ∙ else_same s x is.placed (λ d. let w = out.within x d in has_times items x w.0 w.1 w.2 e)
-      ∙ sym (ap (stored_on x) (rows_shown now (get s.slots) s.places.entries))
+      ∙ sym (ap (stored_on x) (rows_shown list_now (get s.slots) s.places.entries))
 
   pub can_go_back : AreAwaited items (seen_of (get s.slots) s.places.entries names links)
       → IsUndoTo result (rows_now (seen_of (get s.slots) s.places.entries names links))
       (links_now (seen_of (get s.slots) s.places.entries names links))
       (seen_of (get t.slots) t.places.entries names moved)
   can_go_back awaited = record {
-    graph = subst IsGraph (sym (rows_shown now (get s.slots) s.places.entries))
-        (graph_is (λ at. list_at now (get s.slots at)) s.places.entries is.placed.rising is.placed.canon is.side.lists);
+    graph = subst IsGraph (sym (rows_shown list_now (get s.slots) s.places.entries))
+        (graph_is (λ at. list_at list_now (get s.slots at)) s.places.entries is.placed.rising is.placed.canon is.side.lists);
     stored = λ x.
-        sym (stands_again before items x (stored_on x (rows_by (list_at now) (shown_shelves (get t.slots) t.places.entries))) (kept x))
-        ∙ sym (ap (λ l. stand_each items l x (stored_on x (rows_by (list_at now) (shown_shelves (get t.slots) t.places.entries))))
+        sym (stands_again before items x (stored_on x (rows_by (list_at list_now) (shown_shelves (get t.slots) t.places.entries))) (kept x))
+        ∙ sym (ap (λ l. stand_each items l x (stored_on x (rows_by (list_at list_now) (shown_shelves (get t.slots) t.places.entries))))
         lists_are)
         ∙ sym (ap (λ l. stand_each l result.lists x
-        (stored_on x (rows_by (list_at now) (shown_shelves (get t.slots) t.places.entries)))) same_items);
+        (stored_on x (rows_by (list_at list_now) (shown_shelves (get t.slots) t.places.entries)))) same_items);
     linked = λ v.
         sym (gone_again ready.ways links v drafted others)
-        ∙ sym (ap (λ l. links_at now (restore_each l (accept_each ready.ways links)) v) ways)
-        ∙ sym (ap (λ l. links_at now (restore_each result.ways l) v) turned);
-    slots = links_stay before (links_at now links) (seen_of (get s.slots) s.places.entries names links)
+        ∙ sym (ap (λ l. links_at list_now (restore_each l (accept_each ready.ways links)) v) ways)
+        ∙ sym (ap (λ l. links_at list_now (restore_each result.ways l) v) turned);
+    slots = links_stay before (links_at list_now links) (seen_of (get s.slots) s.places.entries names links)
         (seen_of (get t.slots) t.places.entries names moved)
         (λ x n. subst
         (λ p. HasSameShelf (seen_of (get s.slots) s.places.entries names links) (seen_of (get t.slots) p.entries names moved) x)
         (sym places)
         (stays_there (get s.slots) (get t.slots) s.places.entries names names links moved ends x))
-        (links_by_items (get s.slots) s.places.entries names links before (links_at now links) is.placed is.used
-        (λ x. sym (ap (stored_on x) (rows_shown now (get s.slots) s.places.entries))) is.side.listed is.side.once);
+        (links_by_items (get s.slots) s.places.entries names links before (links_at list_now links) is.placed is.used
+        (λ x. sym (ap (stored_on x) (rows_shown list_now (get s.slots) s.places.entries))) is.side.listed is.side.once);
     lists = ap length lists ∙ length-map ready.plan.changes (λ c. stored_on c.item before) ∙ sym (ap (λ p. length p.changes) plan);
     within = subst (λ w. AreWithin w (length moved)) (sym ways)
         (subst (λ n. AreWithin (backs ready.ways links) n) (sym (ap length turned ∙ same_length ready.ways links))

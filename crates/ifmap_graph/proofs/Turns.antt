@@ -2,7 +2,7 @@
 use Rattle.std.proofs.Common.{◌≡◌, ◌⊎◌, ℕ, ◌<◌, ◌≤◌, None, List, [], ◌∷◌, IsSome, length, set, refl, ap, ◌∙◌, sym, subst, inl, inr, unwrap_or, arith}
 use Rattle.std.proofs.lemmas.Bool.{cases_eq}
 use Rattle.std.proofs.lemmas.List.{get_or-set_same, get_or-set_other, length-set}
-use Rattle.ifmap_graph.specs.Sides.{Sides, next}
+use Rattle.ifmap_graph.specs.Sides.{Sides, list_next}
 use Rattle.ifmap_graph.specs.Turning.{sides_at, no_list, accepted_sides, restored_sides, accept_each, restore_each, backs, AreDrafted, AreWithin, IsNamed, NoOthers}
 
 module _ {T : Type 0} where
@@ -14,13 +14,14 @@ module _ {T : Type 0} where
     | inr n ↦ inr (n, get_or-set_other ls i v s no_list (λ e. n (sym e)))
   ]
 
-  pub next_same : (ws : List (ℕ × List T)) (ls : List (Sides T)) (v : ℕ) → AreDrafted ws ls → next (sides_at (accept_each ws ls) v) ≡ next
+  pub next_same : (ws : List (ℕ × List T)) (ls : List (Sides T)) (v : ℕ) → AreDrafted ws ls
+      → list_next (sides_at (accept_each ws ls) v) ≡ list_next
       (sides_at ls v)
   next_same [] ls v d = refl
   next_same (w ∷ ws) ls v d = next_same ws (set ls w.0 (accepted_sides (sides_at ls w.0))) v d.2
       ∙ elim (at_set ls w.0 v (accepted_sides (sides_at ls w.0)) d.0) [
-        | inl e ↦ ap next e.1 ∙ ap (λ n. next (sides_at ls n)) e.0
-        | inr n ↦ ap next n.1
+        | inl e ↦ ap list_next e.1 ∙ ap (λ n. list_next (sides_at ls n)) e.0
+        | inr n ↦ ap list_next n.1
       ]
 
   -- a place with no draft has none afterwards, and so has each that is named
@@ -48,12 +49,12 @@ module _ {T : Type 0} where
       → (sides_at (accept_each ws ls) v).draft ≡ None
   none_drafted ws ls v d n = elim (n v) [ inl e ↦ stays_bare ws ls v d e | inr i ↦ named_bare ws ls v d i ]
 
-  pub next_of_bare : (s : Sides T) → s.draft ≡ None → s.now ≡ next s
+  pub next_of_bare : (s : Sides T) → s.draft ≡ None → s.now ≡ list_next s
   next_of_bare s e = sym (ap (λ o. unwrap_or o s.now) e)
 
   -- where drafts stand at these places alone, each list is afterwards what was to come
   pub accepted_all : (ws : List (ℕ × List T)) (ls : List (Sides T)) (v : ℕ) → AreDrafted ws ls → NoOthers ws ls
-      → (sides_at (accept_each ws ls) v).now ≡ next (sides_at ls v)
+      → (sides_at (accept_each ws ls) v).now ≡ list_next (sides_at ls v)
   accepted_all ws ls v d n =
       next_of_bare (sides_at (accept_each ws ls) v) (none_drafted ws ls v d n)
       ∙ next_same ws ls v d

@@ -21,7 +21,7 @@ use Rattle.ifmap_graph.specs.Linked.{ats}
 use Rattle.ifmap_graph.specs.Out.{items_changed}
 use Rattle.ifmap_graph.specs.Seen.{AreAwaited, IsStill, KeepsOwn, StaysLean, links_now, rows_now}
 use Rattle.ifmap_graph.specs.Shelved.{IsPlaced, list_at, slot_of_item, rows_by, rows_on_side}
-use Rattle.ifmap_graph.specs.Sides.{Sides, next, now}
+use Rattle.ifmap_graph.specs.Sides.{Sides, list_next, list_now}
 use Rattle.ifmap_graph.specs.Turning.{restore_each, sides_at}
 use Rattle.ifmap_graph.specs.Waits.{times_in, waits_on}
 use Rattle.ifmap_graph.proofs.Backs.{links_stay}
@@ -57,8 +57,8 @@ module _ (names : Holdings Identifier) (look later : ℕ → Option Shelf) (es :
     (ends : (at : ℕ) → ends_of (later at) ≡ ends_of (look at)) (bare : AllByRecursion (λ e. NoDraft (later e.1)) es)
     (none : (v : ℕ) → (sides_at links v).draft ≡ None)
     (u : Undo) (rows : List Attachment) (seen : ℕ → List LinkSeen) (back : IsUndoTo u rows seen (seen_of look es names links))
-    (stands : (x : Item) → stored_on x (rows_by (λ at. list_at now (later at)) es)
-    ≡ stand_each (items_changed u.plan.changes) u.lists x (stored_on x (rows_by (λ at. list_at now (look at)) es)))
+    (stands : (x : Item) → stored_on x (rows_by (λ at. list_at list_now (later at)) es)
+    ≡ stand_each (items_changed u.plan.changes) u.lists x (stored_on x (rows_by (λ at. list_at list_now (look at)) es)))
     (turned : moved ≡ restore_each u.ways links) where
   placed : IsPlaced later es
   placed = placed_still look later ends es is.placed
@@ -67,36 +67,36 @@ module _ (names : Holdings Identifier) (look later : ℕ → Option Shelf) (es :
   used = used_still look later ends es is.used
 
   -- on each item stands what is to stand there again
-  stored : (x : Item) → stored_on x (rows_by (λ at. list_at now (later at)) es) ≡ stored_on x rows
+  stored : (x : Item) → stored_on x (rows_by (λ at. list_at list_now (later at)) es) ≡ stored_on x rows
   stored x =
-      stands x ∙ sym (ap (λ r. stand_each (items_changed u.plan.changes) u.lists x (stored_on x r)) (rows_shown now look es))
+      stands x ∙ sym (ap (λ r. stand_each (items_changed u.plan.changes) u.lists x (stored_on x r)) (rows_shown list_now look es))
       ∙ sym (back.stored x)
 
-  pub back_links : (v : ℕ) → links_at now moved v ≡ seen v
-  back_links v = ap (λ l. links_at now l v) turned ∙ sym (back.linked v)
+  pub back_links : (v : ℕ) → links_at list_now moved v ≡ seen v
+  back_links v = ap (λ l. links_at list_now l v) turned ∙ sym (back.linked v)
 
   pub back_bare : (v : ℕ) → (sides_at moved v).draft ≡ None
   back_bare v = ap (λ l. (sides_at l v).draft) turned ∙ restored_drafts u.ways links v back.within ∙ none v
 
-  lists : (xs : Entries) → ((e : Item × ℕ) → Has xs e → Has es e) → AllByRecursion (λ e. IsList (list_at now (later e.1))) xs
+  lists : (xs : Entries) → ((e : Item × ℕ) → Has xs e → Has es e) → AllByRecursion (λ e. IsList (list_at list_now (later e.1))) xs
   lists [] f = tt
   lists (e ∷ xs) f = (
-    subst IsList (sym (found (λ at. list_at now (later at)) e.0 es e.1 placed.rising
+    subst IsList (sym (found (λ at. list_at list_now (later at)) e.0 es e.1 placed.rising
         (entry_hits es e.0 e.1 placed.rising (f e (inl refl))) ∙ stored e.0))
         (list_on e.0 rows back.graph),
     lists xs (λ x h. f x (inr h)),
   )
 
-  slots : AreLinks rows (links_at now moved) (seen_of later es names moved)
+  slots : AreLinks rows (links_at list_now moved) (seen_of later es names moved)
   slots =
-      links_alike rows seen (links_at now moved) (seen_of later es names moved) back_links
+      links_alike rows seen (links_at list_now moved) (seen_of later es names moved) back_links
       (links_stay rows seen (seen_of look es names links) (seen_of later es names moved)
       (λ x n. stays_there look later es names names links moved ends x) back.slots)
 
-  side : IsSide now later es (links_at now moved)
+  side : IsSide list_now later es (links_at list_now moved)
   side = record {
     lists = lists es (λ e h. h);
-    listed = links_by_slots later es names moved rows (links_at now moved) placed used stored slots;
+    listed = links_by_slots later es names moved rows (links_at list_now moved) placed used stored slots;
     once = slots.once;
   }
 
@@ -109,9 +109,10 @@ module _ (names : Holdings Identifier) (look later : ℕ → Option Shelf) (es :
           let h = used at (subst (λ (o : Option Shelf). IsSome o) (sym e) refl)
           in all_has (λ (e : Item × ℕ). NoDraft (later e.1)) es bare (h.0, at) h.1
 
-  next_side : IsSide next later es (links_at next moved)
+  next_side : IsSide list_next later es (links_at list_next moved)
   next_side =
-      side_moved later later (λ at. refl) now next (λ at. list_bare (later at) (bare_at at)) (links_at now moved) (links_at next moved)
+      side_moved later later (λ at. refl) list_now list_next (λ at. list_bare (later at) (bare_at at)) (links_at list_now moved)
+      (links_at list_next moved)
       (λ v. sym (next_of_bare (sides_at moved v) (back_bare v))) es side
 
   pub back_inside : IsInside names later es moved
@@ -119,9 +120,9 @@ module _ (names : Holdings Identifier) (look later : ℕ → Option Shelf) (es :
 
   pub back_rows : BytesTellIdentifiers → rows_now (seen_of later es names moved) ≡ rows
   back_rows tells =
-      rows_shown now later es
-      ∙ rows_same tells (rows_by (λ at. list_at now (later at)) es) rows
-      (graph_is (λ at. list_at now (later at)) es placed.rising placed.canon side.lists)
+      rows_shown list_now later es
+      ∙ rows_same tells (rows_by (λ at. list_at list_now (later at)) es) rows
+      (graph_is (λ at. list_at list_now (later at)) es placed.rising placed.canon side.lists)
       back.graph stored
 
 -- items that are waited for have shelves
@@ -148,8 +149,8 @@ pub record GoesBack (names : Holdings Identifier) (s t : Shelves) (links moved :
   pub is : IsInside names (get s.slots) s.places.entries links
   pub bare : AreBare t
   pub none : (v : ℕ) → (sides_at links v).draft ≡ None
-  pub stands : (x : Item) → stored_on x (rows_on_side now t)
-      ≡ stand_each (items_changed u.plan.changes) u.lists x (stored_on x (rows_on_side now s))
+  pub stands : (x : Item) → stored_on x (rows_on_side list_now t)
+      ≡ stand_each (items_changed u.plan.changes) u.lists x (stored_on x (rows_on_side list_now s))
   pub turned : moved ≡ restore_each u.ways links
 
 -- the same of shelves that stay in their places
@@ -165,10 +166,10 @@ module _ {names : Holdings Identifier} {s t : Shelves} {links moved : List (Side
     still_bare : AllByRecursion (λ e. NoDraft (get t.slots e.1)) s.places.entries
     still_bare = subst (λ p. AllByRecursion (λ e. NoDraft (get t.slots e.1)) p.entries) goes.stay.places goes.bare
 
-    still_stands : (x : Item) → stored_on x (rows_by (λ at. list_at now (get t.slots at)) s.places.entries)
-        ≡ stand_each (items_changed u.plan.changes) u.lists x (stored_on x (rows_on_side now s))
+    still_stands : (x : Item) → stored_on x (rows_by (λ at. list_at list_now (get t.slots at)) s.places.entries)
+        ≡ stand_each (items_changed u.plan.changes) u.lists x (stored_on x (rows_on_side list_now s))
     still_stands x =
-        ap (λ p. stored_on x (rows_by (λ at. list_at now (get t.slots at)) p.entries)) (sym goes.stay.places) ∙ goes.stands x
+        ap (λ p. stored_on x (rows_by (λ at. list_at list_now (get t.slots at)) p.entries)) (sym goes.stay.places) ∙ goes.stands x
 
     pub undone_inside : IsInside names (get t.slots) t.places.entries moved
     undone_inside =

@@ -25,7 +25,7 @@ use Rattle.ifmap_graph.specs.Named.{AreEnds, HasEnds, named_by, named_in}
 use Rattle.ifmap_graph.specs.Releasing.{AreFilled}
 use Rattle.ifmap_graph.specs.Seen.{AreUsed, IsAttached, IsHeldBeside, IsLean, rows_now}
 use Rattle.ifmap_graph.specs.Shelved.{list_at, row_on, rows_on_side}
-use Rattle.ifmap_graph.specs.Sides.{Sides, now}
+use Rattle.ifmap_graph.specs.Sides.{Sides, list_now}
 use Rattle.ifmap_graph.specs.Waits.{waits_on}
 use Rattle.ifmap_graph.proofs.Alike.{equal_alike}
 use Rattle.ifmap_graph.proofs.Finding.{found}
@@ -90,11 +90,11 @@ shelf_named names i (Some shelf) a n h = ends_named names i shelf.ends a n h
 module _ (names : Holdings Identifier) (s : Shelves) (links : List (Sides LinkSeen)) (tells : BytesTellIdentifiers)
     (is : IsInside names (get s.slots) s.places.entries links) where
   abbrev list_of : ℕ → List Stored
-  list_of at = list_at now (get s.slots at)
+  list_of at = list_at list_now (get s.slots at)
 
   -- an identifier of an entry's item stands in an item with an attachment, where the shelf has something on it
   entry_attached : AreFilled s → ((x : Item) → waits_on s x ≡ 0) → (e : Item × ℕ) → Has s.places.entries e → (a : Identifier)
-      → Has (identifiers_of e.0) a → IsAttached (rows_on_side now s) a
+      → Has (identifiers_of e.0) a → IsAttached (rows_on_side list_now s) a
   entry_attached filled idle e h a named =
       let place = entry_hits s.places.entries e.0 e.1 is.placed.rising h
       in let on = found list_of e.0 s.places.entries e.1 is.placed.rising place
@@ -106,7 +106,7 @@ module _ (names : Holdings Identifier) (s : Shelves) (links : List (Sides LinkSe
         named,
       )
 
-  attached_named : (a : Identifier) → IsAttached (rows_on_side now s) a → (v : ℕ) × Names identifier_order names v a
+  attached_named : (a : Identifier) → IsAttached (rows_on_side list_now s) a → (v : ℕ) × Names identifier_order names v a
   attached_named a q =
       let j = joined_has (λ x. map (row_on x.0) (list_of x.1)) s.places.entries q.0 q.1
       in let m = map_has (row_on j.0.0) (list_of j.0.1) q.0 j.2
@@ -128,10 +128,10 @@ module _ (names : Holdings Identifier) (s : Shelves) (links : List (Sides LinkSe
   own_was a own h = subst (λ (n : ℕ). IsHeld identifier_order names a (n + own)) (named_shown (get s.slots) s.places.entries a) h
 
   used_by : AreFilled s → ((x : Item) → waits_on s x ≡ 0) → (v : ℕ) (a : Identifier) → key_at names v ≡ Some a
-      → IsAttached (rows_on_side now s) a ⊎ IsHeldBeside (held_of names s links) a
+      → IsAttached (rows_on_side list_now s) a ⊎ IsHeldBeside (held_of names s links) a
   used_by filled idle v a e = by (named_in s.places.entries a) refl
     where
-      by : (n : ℕ) → named_in s.places.entries a ≡ n → IsAttached (rows_on_side now s) a ⊎ IsHeldBeside (held_of names s links) a
+      by : (n : ℕ) → named_in s.places.entries a ≡ n → IsAttached (rows_on_side list_now s) a ⊎ IsHeldBeside (held_of names s links) a
       by (suc n) q =
           let x = named_entry s.places.entries a (omega (arith, q))
           in inl (entry_attached filled idle x.0 x.1 a
@@ -144,7 +144,7 @@ module _ (names : Holdings Identifier) (s : Shelves) (links : List (Sides LinkSe
   pub are_used : IsLean [] (held_of names s links) → AreUsed (held_of names s links)
   are_used lean = record {
     only = λ a h.
-        subst (λ r. IsAttached r a ⊎ IsHeldBeside (held_of names s links) a) (sym (rows_shown now (get s.slots) s.places.entries))
+        subst (λ r. IsAttached r a ⊎ IsHeldBeside (held_of names s links) a) (sym (rows_shown list_now (get s.slots) s.places.entries))
         (used_by (lean_from names s links [] lean) (λ x. omega (arith, lean.waits x, waits_shown names s links x)) h.0 a h.1);
     each = λ a canon why.
         let n = named a why
@@ -153,7 +153,7 @@ module _ (names : Holdings Identifier) (s : Shelves) (links : List (Sides LinkSe
     where
       named : (a : Identifier) → IsAttached (rows_now (held_of names s links)) a ⊎ IsHeldBeside (held_of names s links) a
           → (v : ℕ) × Names identifier_order names v a
-      named a (inl q) = attached_named a (subst (λ r. IsAttached r a) (rows_shown now (get s.slots) s.places.entries) q)
+      named a (inl q) = attached_named a (subst (λ r. IsAttached r a) (rows_shown list_now (get s.slots) s.places.entries) q)
       named a (inr q) =
           let h = is.held a
           in held_named a (named_in s.places.entries a + h.0) h.1 (omega (arith, q h.0 (own_is a h.0 h.1)))

@@ -10,7 +10,7 @@ use Rattle.ifmap_ident.specs.Items.{item_order, items_tie, same_item}
 use Rattle.ifmap_graph.specs.declared.shelves.Shelves.{Shelves}
 use Rattle.ifmap_graph.specs.Drafted.{ends_at}
 use Rattle.ifmap_graph.specs.Shelved.{AreShelved, HasDraft, slot_of_item, rows_on_side}
-use Rattle.ifmap_graph.specs.Sides.{next, now}
+use Rattle.ifmap_graph.specs.Sides.{list_next, list_now}
 use Rattle.ifmap_graph.specs.Waits.{WaitsFor, waits_on}
 use Rattle.ifmap_graph.proofs.Waited.{times_append}
 use Rattle.ifmap_lemmas.specs.Members.{all_last}
@@ -23,8 +23,8 @@ Few s x = waits_on s x < 2 ^ 64 - 1
 module _ (items : List Item) (first : Shelves) where
   pub record Waiting (s : Shelves) (i : ℕ) : Type 0 where
     pub shelved : AreShelved s
-    pub same : rows_on_side now s ≡ rows_on_side now first
-    pub other : rows_on_side next s ≡ rows_on_side next first
+    pub same : rows_on_side list_now s ≡ rows_on_side list_now first
+    pub other : rows_on_side list_next s ≡ rows_on_side list_next first
     pub waits : WaitsFor (take i items) first s
     pub there : AllByRecursion (λ x. IsSome (slot_of_item first x)) (drop i items)
     pub few : AllByRecursion (Few s) (drop i items)
@@ -63,8 +63,8 @@ module _ (items : List Item) (first : Shelves) where
     pub is_few : Few s x
     is_few = (subst (AllByRecursion (Few s)) here g.few).0
 
-    module _ (t : Shelves) (shelved : AreShelved t) (same : rows_on_side now t ≡ rows_on_side now s)
-        (other : rows_on_side next t ≡ rows_on_side next s)
+    module _ (t : Shelves) (shelved : AreShelved t) (same : rows_on_side list_now t ≡ rows_on_side list_now s)
+        (other : rows_on_side list_next t ≡ rows_on_side list_next s)
         (waits : WaitsFor (x ∷ []) s t)
         (drafts : (y : Item) → HasDraft t y → HasDraft s y) (kept : (y : Item) → HasDraft s y → HasDraft t y)
         (ends : (at : ℕ) → ends_at t at ≡ ends_at s at) (places : t.places ≡ s.places) where

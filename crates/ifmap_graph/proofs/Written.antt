@@ -14,7 +14,7 @@ use Rattle.ifmap_graph.specs.Named.{named_in}
 use Rattle.ifmap_graph.specs.Out.{items_changed}
 use Rattle.ifmap_graph.specs.Seen.{AreAwaited, KeepsOwn, rows_now}
 use Rattle.ifmap_graph.specs.Shelved.{rows_on_side}
-use Rattle.ifmap_graph.specs.Sides.{Sides, now}
+use Rattle.ifmap_graph.specs.Sides.{Sides, list_now}
 use Rattle.ifmap_graph.specs.Stays.{HasSameShelf, StayPlaced}
 use Rattle.ifmap_graph.specs.Touched.{KeepsLinks}
 use Rattle.ifmap_graph.proofs.Backs.{keeps_backs}
@@ -34,9 +34,9 @@ module _ (names : Holdings Identifier) {s t : Shelves} (links moved : List (Side
   waits_stay_seen items a x = omega (arith, a x, waits_shown names s links x, waits_shown names t moved x, stay.waits x)
 
 module _ (names : Holdings Identifier) {s t : Shelves} {links later : List (Sides LinkSeen)} (stay : StayInPlace s t)
-    (rows : rows_on_side now t ≡ rows_on_side now s) (kept : KeepsLinks links later) where
+    (rows : rows_on_side list_now t ≡ rows_on_side list_now s) (kept : KeepsLinks links later) where
   pub written_now : rows_now (held_of names t later) ≡ rows_now (held_of names s links)
-  written_now = rows_shown now (get t.slots) t.places.entries ∙ rows ∙ sym (rows_shown now (get s.slots) s.places.entries)
+  written_now = rows_shown list_now (get t.slots) t.places.entries ∙ rows ∙ sym (rows_shown list_now (get s.slots) s.places.entries)
 
   there : (x : Item) → HasSameShelf (held_of names s links) (held_of names t later) x
   there x =

@@ -16,7 +16,7 @@ use Rattle.ifmap_graph.specs.Joined.{two_of}
 use Rattle.ifmap_graph.specs.Linked.{ats}
 use Rattle.ifmap_graph.specs.Out.{items_changed}
 use Rattle.ifmap_graph.specs.Seen.{AreAwaited, rows_now}
-use Rattle.ifmap_graph.specs.Sides.{now}
+use Rattle.ifmap_graph.specs.Sides.{list_now}
 use Rattle.ifmap_graph.specs.Stays.{ends_in, place_in}
 use Rattle.ifmap_graph.specs.Turning.{AreWithin, restore_each}
 
@@ -44,7 +44,7 @@ pub record AreLinks (rows : List Attachment) (links : ℕ → List LinkSeen) (h 
 pub record IsUndoTo (u : Undo) (rows : List Attachment) (links : ℕ → List LinkSeen) (h : Held) : Type 0 where
   pub graph : IsGraph rows
   pub stored : (x : Item) → stored_on x rows ≡ stand_each (items_changed u.plan.changes) u.lists x (stored_on x (rows_now h))
-  pub linked : (v : ℕ) → links v ≡ links_at now (restore_each u.ways h.links) v
+  pub linked : (v : ℕ) → links v ≡ links_at list_now (restore_each u.ways h.links) v
   pub slots : AreLinks rows links h
   pub lists : length u.lists ≡ length u.plan.changes
   pub within : AreWithin u.ways (length h.links)

@@ -14,7 +14,7 @@ use Rattle.ifmap_graph.specs.Drafted.{AreBare, ends_at}
 use Rattle.ifmap_graph.specs.Held.{IsInside}
 use Rattle.ifmap_graph.specs.Named.{named_by, named_in}
 use Rattle.ifmap_graph.specs.Shelved.{slot_of_item, rows_on_side}
-use Rattle.ifmap_graph.specs.Sides.{Sides, next, now}
+use Rattle.ifmap_graph.specs.Sides.{Sides, list_next, list_now}
 use Rattle.ifmap_graph.specs.Turning.{sides_at}
 use Rattle.ifmap_graph.specs.Waits.{waits_on}
 
@@ -65,8 +65,8 @@ HaveFewOwn p = (a : Identifier) → (own : ℕ) × HasOwn p a own × (own < 2 ^ 
 -- there are numbers and room for more, and what is stored and drafted is as before
 pub record AreGrown (old new : Parts) : Type 0 where
   pub inside : AreInside new
-  pub now : rows_on_side now new.shelves ≡ rows_on_side now old.shelves
-  pub next : rows_on_side next new.shelves ≡ rows_on_side next old.shelves
+  pub now : rows_on_side list_now new.shelves ≡ rows_on_side list_now old.shelves
+  pub next : rows_on_side list_next new.shelves ≡ rows_on_side list_next old.shelves
   pub bare : AreBare old.shelves → AreBare new.shelves
   pub links : (v : ℕ) → sides_at new.links v ≡ sides_at old.links v
   pub longer : length old.links ≤ length new.links

@@ -14,7 +14,7 @@ use Rattle.ifmap_graph.specs.Joined.{is_not_empty, joined_pair}
 use Rattle.ifmap_graph.specs.Linked.{AreListed, ats}
 use Rattle.ifmap_graph.specs.Named.{AreHeld, AreIdentifiers, AreNumbered, named_in}
 use Rattle.ifmap_graph.specs.Shelved.{IsPlaced, StoredSide, list_at}
-use Rattle.ifmap_graph.specs.Sides.{Sides, next, now, sides_code}
+use Rattle.ifmap_graph.specs.Sides.{Sides, list_next, list_now, sides_code}
 
 -- the shelves in the order of their items, the empty ones among them; the identifiers with their numbers; the links of each number on
 -- both sides; and the slot of each item's shelf, in the same order
@@ -60,8 +60,8 @@ pub record IsInside (names : Holdings Identifier) (look : ℕ → Option Shelf) 
   pub keys : AreIdentifiers names
   pub held : AreHeld names entries
   pub table : (v : ℕ) → IsSome (entry_at names v) → v < length links
-  pub side : IsSide now look entries (links_at now links)
-  pub next_side : IsSide next look entries (links_at next links)
+  pub side : IsSide list_now look entries (links_at list_now links)
+  pub next_side : IsSide list_next look entries (links_at list_next links)
 
 -- an identifier is held so often by others than the shelves of the items that name it
 abbrev pub IsOwn : Held → Identifier → ℕ → Type 0

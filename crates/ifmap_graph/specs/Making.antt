@@ -12,7 +12,7 @@ use Rattle.ifmap_graph.specs.Bringing.{AreInside, BringsShelves, HasOwn, IsOther
 use Rattle.ifmap_graph.specs.Drafted.{AreBare, AreOut, DraftsWithin, ends_at}
 use Rattle.ifmap_graph.specs.Out.{items_changed}
 use Rattle.ifmap_graph.specs.Shelved.{AreShelved, slot_of_item, rows_on_side}
-use Rattle.ifmap_graph.specs.Sides.{next, now, Sides}
+use Rattle.ifmap_graph.specs.Sides.{list_next, list_now, Sides}
 use Rattle.ifmap_graph.specs.Touched.{AreExactlyDrafted, KeepsLinks}
 use Rattle.ifmap_graph.specs.Turning.{sides_at}
 use Rattle.ifmap_graph.specs.Waits.{WaitsFor}
@@ -28,13 +28,13 @@ pub record CanBeDrafted (shelves : Shelves) (links : List (Sides LinkSeen)) (way
   pub none : (v : ℕ) → (sides_at links v).draft ≡ None
   pub ready : AreExactlyDrafted ways links
   pub there : AllByRecursion (λ x. IsSome (slot_of_item shelves x)) (items_changed changes)
-  pub fits : Fits (rows_on_side now shelves) changes
+  pub fits : Fits (rows_on_side list_now shelves) changes
 
 -- drafts of a change stand, though not all may: what is there stays
 pub record HasDrafts (changes : List ItemChange) (ways : List (ℕ × List LinkSeen)) (old new : Shelves) (first later : List (Sides LinkSeen))
     : Type 0 where
   pub shelved : AreShelved new
-  pub now : rows_on_side now new ≡ rows_on_side now old
+  pub now : rows_on_side list_now new ≡ rows_on_side list_now old
   pub within : DraftsWithin (items_changed changes) new
   pub links : KeepsLinks first later
   pub ready : AreExactlyDrafted ways later
@@ -43,14 +43,14 @@ pub record HasDrafts (changes : List ItemChange) (ways : List (ℕ × List LinkS
 pub record HasAllDrafts (changes : List ItemChange) (old new : Shelves) (first later : List (Sides LinkSeen)) : Type 0 where
   pub inside : (names : Holdings Identifier) → IsInside names (get old.slots) old.places.entries first
       → IsInside names (get new.slots) new.places.entries later
-  pub next : IsAfter changes (rows_on_side now old) (rows_on_side next new)
+  pub next : IsAfter changes (rows_on_side list_now old) (rows_on_side list_next new)
   pub out : AreOut (items_changed changes) new
 
 -- a change is out, with these ways: its drafts stand, its items are waited for once more, and what is there stays
 pub record IsMade (changes : List ItemChange) (ways : List (ℕ × List LinkSeen)) (old new : Parts) : Type 0 where
   pub inside : AreInside new
-  pub rows : rows_on_side now new.shelves ≡ rows_on_side now old.shelves
-  pub after : IsAfter changes (rows_on_side now old.shelves) (rows_on_side next new.shelves)
+  pub rows : rows_on_side list_now new.shelves ≡ rows_on_side list_now old.shelves
+  pub after : IsAfter changes (rows_on_side list_now old.shelves) (rows_on_side list_next new.shelves)
   pub out : AreOut (items_changed changes) new.shelves
   pub ready : AreExactlyDrafted ways new.links
   pub links : (v : ℕ) → (sides_at new.links v).now ≡ (sides_at old.links v).now
@@ -67,7 +67,7 @@ pub record IsUnmade (old new : Parts) : Type 0 where
   pub inside : AreInside new
   pub bare : AreBare new.shelves
   pub none : (v : ℕ) → (sides_at new.links v).draft ≡ None
-  pub rows : rows_on_side now new.shelves ≡ rows_on_side now old.shelves
+  pub rows : rows_on_side list_now new.shelves ≡ rows_on_side list_now old.shelves
   pub links : (v : ℕ) → (sides_at new.links v).now ≡ (sides_at old.links v).now
   pub longer : length old.links ≤ length new.links
   pub kept : (v : ℕ) (a : Identifier) → Names identifier_order old.names v a → Names identifier_order new.names v a

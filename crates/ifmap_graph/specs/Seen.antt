@@ -15,23 +15,23 @@ use Rattle.ifmap_graph.specs.declared.shelves.Shelf.{Shelf}
 use Rattle.ifmap_graph.specs.Held.{Held, IsOwn, links_at}
 use Rattle.ifmap_graph.specs.Out.{IsDrafted}
 use Rattle.ifmap_graph.specs.Shelved.{list_at, rows_by}
-use Rattle.ifmap_graph.specs.Sides.{next, now}
+use Rattle.ifmap_graph.specs.Sides.{list_next, list_now}
 use Rattle.ifmap_graph.specs.Turning.{sides_at}
 use Rattle.ifmap_graph.specs.Waits.{times_in, waits_of}
 
 -- what is stored, and what is to be
 abbrev pub rows_now : Held → List Attachment
-rows_now h = rows_by (list_at now) h.shelves
+rows_now h = rows_by (list_at list_now) h.shelves
 
 abbrev pub rows_next : Held → List Attachment
-rows_next h = rows_by (list_at next) h.shelves
+rows_next h = rows_by (list_at list_next) h.shelves
 
 -- the links of a number, and those that are to be
 abbrev pub links_now : Held → ℕ → List LinkSeen
-links_now h = links_at now h.links
+links_now h = links_at list_now h.links
 
 abbrev pub links_next : Held → ℕ → List LinkSeen
-links_next h = links_at next h.links
+links_next h = links_at list_next h.links
 
 -- no change is out: nothing has a draft
 pub record IsStill (h : Held) : Type 0 where

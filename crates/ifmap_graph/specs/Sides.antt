@@ -12,9 +12,9 @@ sides_code {T} t =
     (λ p. record { now = p.0; draft = p.1 }) (λ _. refl)
 
 -- the list, as it is
-abbrev pub now : {T : Type 0} → Sides T → List T
-now s = s.now
+abbrev pub list_now : {T : Type 0} → Sides T → List T
+list_now s = s.now
 
 -- the list that is to come: the draft, where there is one
-abbrev pub next : {T : Type 0} → Sides T → List T
-next s = unwrap_or s.draft s.now
+abbrev pub list_next : {T : Type 0} → Sides T → List T
+list_next s = unwrap_or s.draft s.now

@@ -9,16 +9,16 @@ use Rattle.ifmap_graph.specs.declared.shelves.Shelves.{Shelves}
 use Rattle.ifmap_graph.specs.Joined.{is_not_empty, joined_pair}
 use Rattle.ifmap_graph.specs.Linked.{far_of, seen_at}
 use Rattle.ifmap_graph.specs.Shelved.{list_at, slot_of_item}
-use Rattle.ifmap_graph.specs.Sides.{Sides, next, now}
+use Rattle.ifmap_graph.specs.Sides.{Sides, list_next, list_now}
 use Rattle.ifmap_graph.specs.Turning.{AreDrafted, NoOthers, sides_at}
 
 module _ (slots : Slab Shelf) where
   -- whether a slot has something, and whether it is to have something
   abbrev pub full_now : ℕ → Bool
-  full_now at = is_not_empty (list_at now (get slots at))
+  full_now at = is_not_empty (list_at list_now (get slots at))
 
   abbrev pub full_next : ℕ → Bool
-  full_next at = is_not_empty (list_at next (get slots at))
+  full_next at = is_not_empty (list_at list_next (get slots at))
 
   -- whether a slot joins the number with another
   abbrev pub joins : ℕ → ℕ → Bool

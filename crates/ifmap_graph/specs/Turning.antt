@@ -1,6 +1,6 @@
 -- Drafts that take the place of lists, and the lists that were.
 use Rattle.std.specs.Prelude.{◌≡◌, ◌⊎◌, ℕ, ◌<◌, List, [], ◌∷◌, set, length, None, IsSome, slice_index_or}
-use Rattle.ifmap_graph.specs.Sides.{Sides, next}
+use Rattle.ifmap_graph.specs.Sides.{Sides, list_next}
 
 module _ {T : Type 0} where
   abbrev pub no_list : Sides T
@@ -12,7 +12,7 @@ module _ {T : Type 0} where
 
   -- the draft is the list
   abbrev pub accepted_sides : Sides T → Sides T
-  accepted_sides s = record { now = next s; draft = None }
+  accepted_sides s = record { now = list_next s; draft = None }
 
   -- a list in place of the one there
   abbrev pub restored_sides : Sides T → List T → Sides T

@@ -6,7 +6,7 @@ ghost use Rattle.ifmap_ident.specs.Items.{IsCanonItem};
 ghost use Rattle.ifmap_plans.specs.After.{IsNextItem, NoItem};
 ghost use Rattle.ifmap_graph.specs.After.{AreEmpty, IsFirstFull, entries_after};
 ghost use Rattle.ifmap_graph.specs.Shelved.{AreShelved, list_at, rows_on_side};
-ghost use Rattle.ifmap_graph.specs.Sides.{now};
+ghost use Rattle.ifmap_graph.specs.Sides.{list_now};
 
 use crate::shelves::{Shelf, Shelves};
 use ifmap_ident::Item;
@@ -20,11 +20,12 @@ use std::sync::ledger::Ledger;
 fn first_of<'a>(entries: Range<'a, Item, usize>, slots: &Slab<Shelf>) -> Option<&'a Item>
     requires { AllByRecursion (λ e. IsSome (get slots.now e.1)) entries }
     ensures found { IfSome result (λ item.
-        IsFirstFull (λ at. list_at now (get slots.now at)) entries.entry item.now) }
-    ensures none { IfNone result (AreEmpty (λ at. list_at now (get slots.now at)) entries.entry) }
+        IsFirstFull (λ at. list_at list_now (get slots.now at)) entries.entry item.now) }
+    ensures none { IfNone result
+        (AreEmpty (λ at. list_at list_now (get slots.now at)) entries.entry) }
 {
     for (item, at) in entries {
-        if !slots[*at].stored.now().is_empty() {
+        if !slots[*at].stored.list_now().is_empty() {
             return Some(item);
         }
     }
@@ -35,9 +36,9 @@ fn first_of<'a>(entries: Range<'a, Item, usize>, slots: &Slab<Shelf>) -> Option<
 fn first_after<'a>(shelves: &'a Shelves, after: Option<&Item>) -> Option<&'a Item>
     requires { AreShelved shelves.now }
     ensures found { IfSome result
-        (λ item. IsFirstFull (λ at. list_at now (get shelves.now.slots at))
+        (λ item. IsFirstFull (λ at. list_at list_now (get shelves.now.slots at))
         (entries_after (option_copied after.entry) shelves.now.places.entries) item.now) }
-    ensures none { IfNone result (AreEmpty (λ at. list_at now (get shelves.now.slots at))
+    ensures none { IfNone result (AreEmpty (λ at. list_at list_now (get shelves.now.slots at))
         (entries_after (option_copied after.entry) shelves.now.places.entries)) }
 {
     let slots = &shelves.slots;
@@ -57,10 +58,10 @@ impl Shelves {
     pub fn item_after<L: Ledger>(&self, item: Option<&Item>, steps: &mut Steps<L>) -> Option<&Item>
         requires { AreShelved self.now }
         ensures found { IfSome result (λ found.
-            IsNextItem (rows_on_side now self.now) (option_copied item.entry) found.now) }
+            IsNextItem (rows_on_side list_now self.now) (option_copied item.entry) found.now) }
         ensures canon { IfSome result (λ found. IsCanonItem found.now) }
         ensures none { IfNone result
-            (NoItem (rows_on_side now self.now) (option_copied item.entry)) }
+            (NoItem (rows_on_side list_now self.now) (option_copied item.entry)) }
         ensures step { steps.new ≡ steps.old + 1 }
     {
         steps.tick();

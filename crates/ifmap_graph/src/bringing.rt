@@ -13,7 +13,7 @@ ghost use Rattle.ifmap_graph.specs.Held.{IsInside};
 ghost use Rattle.ifmap_graph.specs.Out.{items_changed};
 ghost use Rattle.ifmap_graph.specs.Releasing.{IsLess};
 ghost use Rattle.ifmap_graph.specs.Shelved.{AreShelved, HasEmptyShelf, slot_of_item, rows_on_side};
-ghost use Rattle.ifmap_graph.specs.Sides.{Sides, now};
+ghost use Rattle.ifmap_graph.specs.Sides.{Sides, list_now};
 ghost use Rattle.ifmap_graph.specs.Turning.{sides_at};
 ghost use Rattle.ifmap_graph.specs.Waits.{waits_on};
 
@@ -155,7 +155,8 @@ pub(crate) fn take_shelves(
     requires bare { AreBare shelves.old }
     requires apart { IsDistinct same_item (items_changed changes.now) }
     requires long { length fresh.now ≤ length changes.now }
-    requires brought { (first : Shelves) × (rows_on_side now first ≡ rows_on_side now shelves.old)
+    requires brought { (first : Shelves)
+        × (rows_on_side list_now first ≡ rows_on_side list_now shelves.old)
         × BringsShelves (flagged_items (items_changed changes.now) fresh.now) first shelves.old }
     ensures less { IsLess names.old names.new shelves.old shelves.new }
     ensures taken { (first : Shelves)

@@ -11,7 +11,7 @@ ghost use Rattle.ifmap_view.specs.Rows.{stored_on};
 ghost use Rattle.ifmap_graph.specs.declared.shelves.Shelf.{Shelf};
 ghost use Rattle.ifmap_graph.specs.Drafted.{AreBare, ends_at};
 ghost use Rattle.ifmap_graph.specs.Shelved.{AreShelved, HasDraft, HasNoDraft, slot_of_item, rows_on_side};
-ghost use Rattle.ifmap_graph.specs.Sides.{next, now};
+ghost use Rattle.ifmap_graph.specs.Sides.{list_next, list_now};
 ghost use Rattle.ifmap_graph.specs.Waits.{WaitsFor, waits_on};
 
 use crate::row_lists::RowList;
@@ -52,7 +52,7 @@ fn propose_at(slots: &mut Slab<Shelf>, at: usize, list: Box<RowList>)
 fn accept_at(slots: &mut Slab<Shelf>, at: usize) -> RowList
     requires { (s : Shelf) × (get slots.old at ≡ Some s) × IsSome s.stored.draft }
     ensures slots { (s : Shelf) → get slots.old at ≡ Some s → slots.new ≡ with_value slots.old at
-        (record s { stored = record { now = next s.stored; draft = None } }) }
+        (record s { stored = record { now = list_next s.stored; draft = None } }) }
     ensures old { (s : Shelf) → get slots.old at ≡ Some s → result ≡ s.stored.now }
 {
     let shelf = &mut slots[at];
@@ -113,7 +113,7 @@ impl Shelves {
         requires there { IsSome (slot_of_item self.old change.now.item) }
         ensures next { IfOk result (λ list. list.value
             ≡ next_on change.now.removed change.now.added
-            (stored_on change.now.item (rows_on_side now self.old))) }
+            (stored_on change.now.item (rows_on_side list_now self.old))) }
         ensures same { self.new ≡ self.old }
     {
         let at = self.places[&change.item];
@@ -125,10 +125,10 @@ impl Shelves {
         requires shelved { AreShelved self.old }
         requires there { IsSome (slot_of_item self.old item.now) }
         ensures shelved { AreShelved self.new }
-        ensures now { rows_on_side now self.new ≡ rows_on_side now self.old }
-        ensures next { (x : Item) → stored_on x (rows_on_side next self.new)
+        ensures now { rows_on_side list_now self.new ≡ rows_on_side list_now self.old }
+        ensures next { (x : Item) → stored_on x (rows_on_side list_next self.new)
             ≡ (if is_at (item_order item.now) x then list.value
-            else stored_on x (rows_on_side next self.old)) }
+            else stored_on x (rows_on_side list_next self.old)) }
         ensures drafts { (x : Item) → HasDraft self.new x
             → HasDraft self.old x ⊎ (is_at (item_order item.now) x ≡ true) }
         ensures kept { (x : Item) → HasDraft self.old x → HasDraft self.new x }
@@ -146,11 +146,11 @@ impl Shelves {
         requires shelved { AreShelved self.old }
         requires drafted { HasDraft self.old item.now }
         ensures shelved { AreShelved self.new }
-        ensures next { rows_on_side next self.new ≡ rows_on_side next self.old }
-        ensures now { (x : Item) → stored_on x (rows_on_side now self.new)
-            ≡ stored_on x (if is_at (item_order item.now) x then rows_on_side next self.old
-            else rows_on_side now self.old) }
-        ensures old { result ≡ stored_on item.now (rows_on_side now self.old) }
+        ensures next { rows_on_side list_next self.new ≡ rows_on_side list_next self.old }
+        ensures now { (x : Item) → stored_on x (rows_on_side list_now self.new)
+            ≡ stored_on x (if is_at (item_order item.now) x then rows_on_side list_next self.old
+            else rows_on_side list_now self.old) }
+        ensures old { result ≡ stored_on item.now (rows_on_side list_now self.old) }
         ensures drafts { (x : Item) → HasDraft self.new x
             → HasDraft self.old x × (is_at (item_order item.now) x ≡ false) }
         ensures kept { (x : Item) → is_at (item_order item.now) x ≡ false → HasDraft self.old x
@@ -168,10 +168,10 @@ impl Shelves {
         requires shelved { AreShelved self.old }
         requires there { IsSome (slot_of_item self.old item.now) }
         ensures shelved { AreShelved self.new }
-        ensures now { rows_on_side now self.new ≡ rows_on_side now self.old }
-        ensures next { (x : Item) → stored_on x (rows_on_side next self.new)
-            ≡ stored_on x (if is_at (item_order item.now) x then rows_on_side now self.old
-            else rows_on_side next self.old) }
+        ensures now { rows_on_side list_now self.new ≡ rows_on_side list_now self.old }
+        ensures next { (x : Item) → stored_on x (rows_on_side list_next self.new)
+            ≡ stored_on x (if is_at (item_order item.now) x then rows_on_side list_now self.old
+            else rows_on_side list_next self.old) }
         ensures drafts { (x : Item) → HasDraft self.new x
             → HasDraft self.old x × (is_at (item_order item.now) x ≡ false) }
         ensures ends { (at : ℕ) → ends_at self.new at ≡ ends_at self.old at }
@@ -191,8 +191,8 @@ impl Shelves {
         ensures waits { WaitsFor (item.now ∷ []) self.old self.new }
         ensures drafts { (x : Item) → HasDraft self.new x → HasDraft self.old x }
         ensures kept { (x : Item) → HasDraft self.old x → HasDraft self.new x }
-        ensures now { rows_on_side now self.new ≡ rows_on_side now self.old }
-        ensures next { rows_on_side next self.new ≡ rows_on_side next self.old }
+        ensures now { rows_on_side list_now self.new ≡ rows_on_side list_now self.old }
+        ensures next { rows_on_side list_next self.new ≡ rows_on_side list_next self.old }
         ensures ends { (at : ℕ) → ends_at self.new at ≡ ends_at self.old at }
         ensures places { self.new.places ≡ self.old.places }
     {
@@ -209,8 +209,8 @@ impl Shelves {
         ensures left { result ≡ waits_on self.new item.now }
         ensures waits { WaitsFor (item.now ∷ []) self.new self.old }
         ensures bare { AreBare self.old → AreBare self.new }
-        ensures now { rows_on_side now self.new ≡ rows_on_side now self.old }
-        ensures next { rows_on_side next self.new ≡ rows_on_side next self.old }
+        ensures now { rows_on_side list_now self.new ≡ rows_on_side list_now self.old }
+        ensures next { rows_on_side list_next self.new ≡ rows_on_side list_next self.old }
         ensures ends { (at : ℕ) → ends_at self.new at ≡ ends_at self.old at }
         ensures places { self.new.places ≡ self.old.places }
     {
@@ -223,13 +223,13 @@ impl Shelves {
         requires shelved { AreShelved self.old }
         requires drafted { HasNoDraft self.old item.now }
         ensures shelved { AreShelved self.new }
-        ensures now { (x : Item) → stored_on x (rows_on_side now self.new)
+        ensures now { (x : Item) → stored_on x (rows_on_side list_now self.new)
             ≡ (if is_at (item_order item.now) x then list.old
-            else stored_on x (rows_on_side now self.old)) }
-        ensures next { (x : Item) → stored_on x (rows_on_side next self.new)
+            else stored_on x (rows_on_side list_now self.old)) }
+        ensures next { (x : Item) → stored_on x (rows_on_side list_next self.new)
             ≡ (if is_at (item_order item.now) x then list.old
-            else stored_on x (rows_on_side next self.old)) }
-        ensures old { list.new ≡ stored_on item.now (rows_on_side now self.old) }
+            else stored_on x (rows_on_side list_next self.old)) }
+        ensures old { list.new ≡ stored_on item.now (rows_on_side list_now self.old) }
         ensures bare { AreBare self.old → AreBare self.new }
         ensures ends { (at : ℕ) → ends_at self.new at ≡ ends_at self.old at }
         ensures waits { (x : Item) → waits_on self.new x ≡ waits_on self.old x }

@@ -6,7 +6,7 @@ ghost use Rattle.ifmap_graph.specs.Back.{IsUndoTo};
 ghost use Rattle.ifmap_graph.specs.Out.{IsOut, items_changed};
 ghost use Rattle.ifmap_graph.specs.Seen.{AreAwaited, AwaitsMore, IsStill, KeepsOwn, StaysLean, links_now, rows_now};
 ghost use Rattle.ifmap_graph.specs.Shelved.{list_at, rows_by};
-ghost use Rattle.ifmap_graph.specs.Sides.{next, now};
+ghost use Rattle.ifmap_graph.specs.Sides.{list_next, list_now};
 ghost use Rattle.ifmap_graph.specs.Turning.{backs};
 
 use crate::changes::{Ready, Undo};
@@ -18,11 +18,12 @@ impl Graph {
     /// What was to be is, on both sides, and what was there can come again. It takes no memory.
     pub fn commit_kept(&mut self, ready: Ready) -> Undo
         requires { IsOut ready self.old }
-        ensures now { rows_by (list_at now) self.new.shelves
-            ≡ rows_by (list_at next) self.old.shelves }
-        ensures next { rows_by (list_at next) self.new.shelves
-            ≡ rows_by (list_at next) self.old.shelves }
-        ensures links { (v : ℕ) → links_at now self.new.links v ≡ links_at next self.old.links v }
+        ensures now { rows_by (list_at list_now) self.new.shelves
+            ≡ rows_by (list_at list_next) self.old.shelves }
+        ensures next { rows_by (list_at list_next) self.new.shelves
+            ≡ rows_by (list_at list_next) self.old.shelves }
+        ensures links { (v : ℕ)
+            → links_at list_now self.new.links v ≡ links_at list_next self.old.links v }
         ensures names { self.new.names ≡ self.old.names }
         ensures places { self.new.places ≡ self.old.places }
         ensures still { IsStill self.new }
@@ -32,7 +33,8 @@ impl Graph {
             → StaysLean self.old self.new }
         ensures plan { result.plan ≡ ready.plan }
         ensures lists { result.lists ≡ map
-            (λ c. stored_on c.item (rows_by (list_at now) self.old.shelves)) ready.plan.changes }
+            (λ c. stored_on c.item (rows_by (list_at list_now) self.old.shelves))
+            ready.plan.changes }
         ensures ways { result.ways ≡ backs ready.ways self.old.links }
         ensures back { AreAwaited (items_changed ready.plan.changes) self.old → IsUndoTo result
             (rows_now self.old) (links_now self.old) self.new }

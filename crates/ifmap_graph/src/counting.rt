@@ -4,7 +4,7 @@ ghost use Rattle.std.specs.List.{AllByRecursion};
 ghost use Rattle.slab.specs.Slab.{get};
 ghost use Rattle.ifmap_graph.specs.Counted.{count_links, link_once, links_among};
 ghost use Rattle.ifmap_graph.specs.Shelved.{AreShelved, list_at, rows_on_side};
-ghost use Rattle.ifmap_graph.specs.Sides.{now};
+ghost use Rattle.ifmap_graph.specs.Sides.{list_now};
 
 use crate::shelves::{Shelf, Shelves};
 use ifmap_ident::Item;
@@ -26,11 +26,11 @@ fn count_link(item: &Item, list: &[Row]) -> u64
 fn count_entries(entries: Range<'_, Item, usize>, slots: &Slab<Shelf>) -> u64
     requires live { AllByRecursion (λ e. IsSome (get slots.now e.1)) entries }
     requires few { length entries < 2 ^ 64 }
-    ensures { result ≡ links_among (λ at. list_at now (get slots.now at)) entries.entry }
+    ensures { result ≡ links_among (λ at. list_at list_now (get slots.now at)) entries.entry }
 {
     let mut count = 0;
     for (item, at) in entries {
-        count += count_link(item, slots[*at].stored.now());
+        count += count_link(item, slots[*at].stored.list_now());
     }
     count
 }
@@ -39,7 +39,7 @@ impl Shelves {
     /// How many links have something on them. It walks all shelves.
     pub fn links(&self) -> u64
         requires { AreShelved self.now }
-        ensures { result ≡ count_links (rows_on_side now self.now) }
+        ensures { result ≡ count_links (rows_on_side list_now self.now) }
     {
         count_entries(self.places.range(..), &self.slots)
     }

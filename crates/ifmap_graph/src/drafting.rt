@@ -11,7 +11,7 @@ ghost use Rattle.ifmap_graph.specs.Drafted.{AreBare, AreOut, DraftsWithin, StayI
 ghost use Rattle.ifmap_graph.specs.Making.{CanBeDrafted, HasAllDrafts, HasDrafts};
 ghost use Rattle.ifmap_graph.specs.Out.{items_changed};
 ghost use Rattle.ifmap_graph.specs.Shelved.{AreShelved, HasDraft, slot_of_item, rows_on_side};
-ghost use Rattle.ifmap_graph.specs.Sides.{next, now};
+ghost use Rattle.ifmap_graph.specs.Sides.{list_next, list_now};
 ghost use Rattle.ifmap_graph.specs.Touched.{AreExactlyDrafted, KeepsLinks};
 ghost use Rattle.ifmap_graph.specs.Turning.{sides_at};
 ghost use Rattle.ifmap_graph.specs.Waits.{WaitsFor, waits_on};
@@ -31,12 +31,12 @@ fn draft_one(shelves: &mut Shelves, alloc: Global, change: &ItemChange) -> Resul
     requires shelved { AreShelved shelves.old }
     requires there { IsSome (slot_of_item shelves.old change.now.item) }
     ensures shelved { AreShelved shelves.new }
-    ensures now { rows_on_side now shelves.new ≡ rows_on_side now shelves.old }
-    ensures next { OnOk result ((x : Item) → stored_on x (rows_on_side next shelves.new)
+    ensures now { rows_on_side list_now shelves.new ≡ rows_on_side list_now shelves.old }
+    ensures next { OnOk result ((x : Item) → stored_on x (rows_on_side list_next shelves.new)
         ≡ (if is_at (item_order change.now.item) x
         then next_on change.now.removed change.now.added
-        (stored_on change.now.item (rows_on_side now shelves.old))
-        else stored_on x (rows_on_side next shelves.old))) }
+        (stored_on change.now.item (rows_on_side list_now shelves.old))
+        else stored_on x (rows_on_side list_next shelves.old))) }
     ensures drafts { (x : Item) → HasDraft shelves.new x
         → HasDraft shelves.old x ⊎ (is_at (item_order change.now.item) x ≡ true) }
     ensures kept { (x : Item) → HasDraft shelves.old x → HasDraft shelves.new x }
@@ -59,11 +59,12 @@ pub(crate) fn draft_changes(
     requires bare { AreBare shelves.old }
     requires there { AllByRecursion (λ x. IsSome (slot_of_item shelves.old x))
         (items_changed changes.now) }
-    requires fits { Fits (rows_on_side now shelves.old) changes.now }
+    requires fits { Fits (rows_on_side list_now shelves.old) changes.now }
     ensures shelved { AreShelved shelves.new }
-    ensures now { rows_on_side now shelves.new ≡ rows_on_side now shelves.old }
+    ensures now { rows_on_side list_now shelves.new ≡ rows_on_side list_now shelves.old }
     ensures next { OnOk result
-        (IsAfter changes.now (rows_on_side now shelves.old) (rows_on_side next shelves.new)) }
+        (IsAfter changes.now (rows_on_side list_now shelves.old)
+        (rows_on_side list_next shelves.new)) }
     ensures within { DraftsWithin (items_changed changes.now) shelves.new }
     ensures out { OnOk result (AreOut (items_changed changes.now) shelves.new) }
     ensures stays { StayInPlace shelves.old shelves.new }
@@ -135,8 +136,8 @@ pub(crate) fn drop_plan(
     requires ready { AreExactlyDrafted ways.now links.old.items }
     ensures shelved { AreShelved shelves.new }
     ensures bare { AreBare shelves.new }
-    ensures now { rows_on_side now shelves.new ≡ rows_on_side now shelves.old }
-    ensures next { rows_on_side next shelves.new ≡ rows_on_side now shelves.old }
+    ensures now { rows_on_side list_now shelves.new ≡ rows_on_side list_now shelves.old }
+    ensures next { rows_on_side list_next shelves.new ≡ rows_on_side list_now shelves.old }
     ensures links { KeepsLinks links.old.items links.new.items }
     ensures none { (v : ℕ) → (sides_at links.new.items v).draft ≡ None }
     ensures stays { StayInPlace shelves.old shelves.new }

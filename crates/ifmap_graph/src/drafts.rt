@@ -4,7 +4,7 @@ ghost use Rattle.ifmap_pool.specs.Holdings.{key_at};
 ghost use Rattle.ifmap_graph.specs.Held.{links_at};
 ghost use Rattle.ifmap_graph.specs.Seen.{links_next, rows_next};
 ghost use Rattle.ifmap_graph.specs.Shelved.{list_at, rows_by};
-ghost use Rattle.ifmap_graph.specs.Sides.{next};
+ghost use Rattle.ifmap_graph.specs.Sides.{list_next};
 ghost use Rattle.ifmap_view.specs.Views.{IsView};
 
 use crate::graph::Graph;
@@ -52,11 +52,11 @@ impl<'a> Draft<'a> {
 }
 
 impl<'a> View for Draft<'a> {
-    ghost rows = { λ d. rows_by (list_at next) d.shelves };
+    ghost rows = { λ d. rows_by (list_at list_next) d.shelves };
 
     ghost id_at = { λ d. key_at d.names };
 
-    ghost links = { λ d. links_at next d.links };
+    ghost links = { λ d. links_at list_next d.links };
 
     fn number(&self, id: &Identifier) -> Option<u64> {
         self.graph.next_number(id)

@@ -7,7 +7,7 @@ ghost use Rattle.ifmap_graph.specs.Counted.{AreSoMany, count_links};
 ghost use Rattle.ifmap_graph.specs.Held.{IsOwn, links_at};
 ghost use Rattle.ifmap_graph.specs.Seen.{AreUsed, HasPoolNumber, IsLean, IsStill, links_next, links_now, rows_next, rows_now};
 ghost use Rattle.ifmap_graph.specs.Shelved.{list_at, rows_by};
-ghost use Rattle.ifmap_graph.specs.Sides.{next, now};
+ghost use Rattle.ifmap_graph.specs.Sides.{list_next, list_now};
 ghost use Rattle.ifmap_view.specs.Rows.{stored_linked, stored_on};
 ghost use Rattle.ifmap_view.specs.Views.{IsView};
 
@@ -94,20 +94,20 @@ fn number_in(names: &Pool<Identifier>, id: &Identifier) -> Option<u64>
 
 // The links of a number.
 fn links_now(links: &[Sided<LinkSeen>], number: u64) -> &[LinkSeen]
-    ensures { result.now ≡ links_at now links.now number }
+    ensures { result.now ≡ links_at list_now links.now number }
 {
     match links.get(number as usize) {
-        Some(sides) => sides.now(),
+        Some(sides) => sides.list_now(),
         None => &[],
     }
 }
 
 // The same, as they are to be.
 fn links_next(links: &[Sided<LinkSeen>], number: u64) -> &[LinkSeen]
-    ensures { result.now ≡ links_at next links.now number }
+    ensures { result.now ≡ links_at list_next links.now number }
 {
     match links.get(number as usize) {
-        Some(sides) => sides.next(),
+        Some(sides) => sides.list_next(),
         None => &[],
     }
 }
@@ -175,8 +175,8 @@ impl Graph {
     pub(crate) fn next_number(&self, id: &Identifier) -> Option<u64>
         ensures found { IfSome result (λ v. key_at self.now.names v ≡ Some id.now) }
         ensures only { (v : ℕ) → key_at self.now.names v ≡ Some id.now → result ≡ Some v }
-        ensures whole { IsView (rows_by (list_at next) self.now.shelves) (key_at self.now.names)
-            (links_at next self.now.links) }
+        ensures whole { IsView (rows_by (list_at list_next) self.now.shelves)
+            (key_at self.now.names) (links_at list_next self.now.links) }
     {
         bytes_tell_identifiers_apart();
         number_in(&self.names, id)
@@ -189,40 +189,40 @@ impl Graph {
     }
 
     pub(crate) fn next_at(&self, item: &Item) -> &[Row]
-        ensures { result.now ≡ stored_on item.now (rows_by (list_at next) self.now.shelves) }
+        ensures { result.now ≡ stored_on item.now (rows_by (list_at list_next) self.now.shelves) }
     {
         self.shelves.next_at(item)
     }
 
     pub(crate) fn next_count(&self, number: u64) -> u64
-        ensures { result ≡ length (links_at next self.now.links number) }
+        ensures { result ≡ length (links_at list_next self.now.links number) }
     {
         links_next(&self.links, number).len() as u64
     }
 
     pub(crate) fn next_link(&self, number: u64, i: u64) -> LinkSeen
-        requires { i < length (links_at next self.now.links number) }
-        ensures { slice_get (links_at next self.now.links number) i ≡ Some result }
+        requires { i < length (links_at list_next self.now.links number) }
+        ensures { slice_get (links_at list_next self.now.links number) i ≡ Some result }
     {
         link_in(links_next(&self.links, number), i)
     }
 
     pub(crate) fn next_stored(&self, seen: LinkSeen) -> &[Row]
-        requires { (v : ℕ) × Contains (links_at next self.now.links v) seen }
-        ensures { (v : ℕ) → Contains (links_at next self.now.links v) seen
+        requires { (v : ℕ) × Contains (links_at list_next self.now.links v) seen }
+        ensures { (v : ℕ) → Contains (links_at list_next self.now.links v) seen
             → result.now ≡ stored_linked (key_at self.now.names v)
-            (key_at self.now.names seen.other) (rows_by (list_at next) self.now.shelves) }
+            (key_at self.now.names seen.other) (rows_by (list_at list_next) self.now.shelves) }
     {
-        self.shelves.slots[seen.at as usize].stored.next()
+        self.shelves.slots[seen.at as usize].stored.list_next()
     }
 }
 
 impl View for Graph {
-    ghost rows = { λ g. rows_by (list_at now) g.shelves };
+    ghost rows = { λ g. rows_by (list_at list_now) g.shelves };
 
     ghost id_at = { λ g. key_at g.names };
 
-    ghost links = { λ g. links_at now g.links };
+    ghost links = { λ g. links_at list_now g.links };
 
     fn number(&self, id: &Identifier) -> Option<u64> {
         bytes_tell_identifiers_apart();
@@ -247,7 +247,7 @@ impl View for Graph {
     }
 
     fn link_stored(&self, seen: LinkSeen) -> &[Row] {
-        self.shelves.slots[seen.at as usize].stored.now()
+        self.shelves.slots[seen.at as usize].stored.list_now()
     }
 }
 

@@ -46,7 +46,7 @@ fn is_to_be_full(slots: &Slab<Shelf>, at: usize) -> bool
     ensures { result ≡ full_next slots.now at }
 {
     match slots.get(at) {
-        Some(shelf) => !shelf.stored.next().is_empty(),
+        Some(shelf) => !shelf.stored.list_next().is_empty(),
         None => false,
     }
 }
@@ -56,7 +56,7 @@ fn is_now_full(slots: &Slab<Shelf>, at: usize) -> bool
     ensures { result ≡ full_now slots.now at }
 {
     match slots.get(at) {
-        Some(shelf) => !shelf.stored.now().is_empty(),
+        Some(shelf) => !shelf.stored.list_now().is_empty(),
         None => false,
     }
 }
@@ -193,7 +193,7 @@ fn begin_draft(
     if links[place].has_draft() {
         return Ok(());
     }
-    let draft = staying_links(alloc, slots, links[place].now())?;
+    let draft = staying_links(alloc, slots, links[place].list_now())?;
     ways.push(Way::new(alloc, place))?;
     set_draft(links, place, draft);
     Ok(())

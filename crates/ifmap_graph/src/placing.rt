@@ -13,7 +13,7 @@ ghost use Rattle.ifmap_graph.specs.Drafted.{AreBare};
 ghost use Rattle.ifmap_graph.specs.Held.{IsInside};
 ghost use Rattle.ifmap_graph.specs.Named.{named_by, named_in};
 ghost use Rattle.ifmap_graph.specs.Shelved.{HasEmptyShelf, StoredSide, slot_of_item, rows_on_side};
-ghost use Rattle.ifmap_graph.specs.Sides.{Sides, next, now};
+ghost use Rattle.ifmap_graph.specs.Sides.{Sides, list_next, list_now};
 ghost use Rattle.ifmap_graph.specs.Turning.{sides_at};
 ghost use Rattle.ifmap_graph.specs.Waits.{waits_on};
 
@@ -102,8 +102,8 @@ pub(crate) fn remove_shelf(names: &mut Pool<Identifier>, shelves: &mut Shelves, 
         → IsHeld identifier_order names.new a (named_in shelves.new.places.entries a + own) }
     ensures named { (v : ℕ) (a : Identifier) → Names identifier_order names.new v a
         → Names identifier_order names.old v a }
-    ensures now { rows_on_side now shelves.new ≡ rows_on_side now shelves.old }
-    ensures next { rows_on_side next shelves.new ≡ rows_on_side next shelves.old }
+    ensures now { rows_on_side list_now shelves.new ≡ rows_on_side list_now shelves.old }
+    ensures next { rows_on_side list_next shelves.new ≡ rows_on_side list_next shelves.old }
     ensures before { (x : Item) (at : ℕ) → slot_of_item shelves.new x ≡ Some at
         → (slot_of_item shelves.old x ≡ Some at)
         × (get shelves.new.slots at ≡ get shelves.old.slots at) }

@@ -10,7 +10,7 @@ ghost use Rattle.ifmap_graph.specs.Making.{IsMade, IsUnmade};
 ghost use Rattle.ifmap_graph.specs.Out.{IsOut, items_changed};
 ghost use Rattle.ifmap_graph.specs.Seen.{AreAwaited, AwaitsLess, AwaitsMore, BringsNoNumbers, HasFewOwn, IsSeenSame, IsStill, KeepsNumbers, KeepsOwn, StaysLeanWith, StaysLeanWithout, links_now, rows_next, rows_now};
 ghost use Rattle.ifmap_graph.specs.Shelved.{slot_of_item, rows_on_side};
-ghost use Rattle.ifmap_graph.specs.Sides.{now};
+ghost use Rattle.ifmap_graph.specs.Sides.{list_now};
 ghost use Rattle.ifmap_graph.specs.Touched.{AreExactlyDrafted};
 ghost use Rattle.ifmap_graph.specs.Turning.{sides_at};
 
@@ -64,9 +64,10 @@ fn draft_or_take(
     requires ready { AreExactlyDrafted ways.old.items links.old.items }
     requires there { AllByRecursion (λ x. IsSome (slot_of_item shelves.old x))
         (items_changed coming.now.changes.now) }
-    requires fits { Fits (rows_on_side now shelves.old) coming.now.changes.now }
+    requires fits { Fits (rows_on_side list_now shelves.old) coming.now.changes.now }
     requires long { length coming.now.fresh.now ≤ length coming.now.changes.now }
-    requires brought { (first : Shelves) × (rows_on_side now first ≡ rows_on_side now shelves.old)
+    requires brought { (first : Shelves)
+        × (rows_on_side list_now first ≡ rows_on_side list_now shelves.old)
         × BringsShelves (flagged_items (items_changed coming.now.changes.now) coming.now.fresh.now)
         first shelves.old }
     ensures made { OnOk result ((first : Parts)
@@ -104,7 +105,7 @@ fn make_ready(
     requires bare { AreBare shelves.old }
     requires none { (v : ℕ) → (sides_at links.old.items v).draft ≡ None }
     requires few { HaveFewOwn (graph_parts names.old shelves.old links.old.items) }
-    requires fits { Fits (rows_on_side now shelves.old) changes.now }
+    requires fits { Fits (rows_on_side list_now shelves.old) changes.now }
     requires empty { ways.old.items ≡ [] }
     ensures made { OnOk result (IsMade changes.now ways.new.items
         (graph_parts names.old shelves.old links.old.items)

@@ -4,7 +4,7 @@ ghost use Rattle.std.specs.List.{AllByRecursion};
 ghost use Rattle.slab.specs.Slab.{get};
 ghost use Rattle.ifmap_meta.specs.Keys.{HaveOneKey};
 ghost use Rattle.ifmap_graph.specs.Shelved.{AreShelved, rows_on_side};
-ghost use Rattle.ifmap_graph.specs.Sides.{next, now};
+ghost use Rattle.ifmap_graph.specs.Sides.{list_next, list_now};
 ghost use Rattle.ifmap_view.specs.Rows.{stored_on};
 
 use crate::ends::Ends;
@@ -47,10 +47,10 @@ impl Shelves {
     /// What is stored on an item, in order.
     pub fn stored_at(&self, item: &Item) -> &[Row]
         requires { AreShelved self.now }
-        ensures { result.now ≡ stored_on item.now (rows_on_side now self.now) }
+        ensures { result.now ≡ stored_on item.now (rows_on_side list_now self.now) }
     {
         match self.places.get(item) {
-            Some(at) => self.slots[*at].stored.now(),
+            Some(at) => self.slots[*at].stored.list_now(),
             None => &[],
         }
     }
@@ -59,10 +59,10 @@ impl Shelves {
     pub fn row_with_key(&self, item: &Item, row: &Row) -> Option<&Row>
         requires { AreShelved self.now }
         ensures found { IfSome result (λ found.
-            Contains (stored_on item.now (rows_on_side now self.now)) found.now
+            Contains (stored_on item.now (rows_on_side list_now self.now)) found.now
             × HaveOneKey row.now found.now) }
         ensures none { IfNone result (AllByRecursion (λ s. HaveOneKey row.now s → ⊥)
-            (stored_on item.now (rows_on_side now self.now))) }
+            (stored_on item.now (rows_on_side list_now self.now))) }
     {
         match self.places.get(item) {
             Some(at) => self.slots[*at].stored.row_with_key(row),
@@ -73,10 +73,10 @@ impl Shelves {
     /// The same as what is stored, as it is to be.
     pub fn next_at(&self, item: &Item) -> &[Row]
         requires { AreShelved self.now }
-        ensures { result.now ≡ stored_on item.now (rows_on_side next self.now) }
+        ensures { result.now ≡ stored_on item.now (rows_on_side list_next self.now) }
     {
         match self.places.get(item) {
-            Some(at) => self.slots[*at].stored.next(),
+            Some(at) => self.slots[*at].stored.list_next(),
             None => &[],
         }
     }

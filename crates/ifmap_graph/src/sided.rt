@@ -1,6 +1,6 @@
 //! A list with one that may take its place, without memory.
 ghost use Rattle.std.specs.Prelude.{◌≡◌, ◌++◌, List, [], ◌∷◌, Some, None, IsSome, OnOk, OnErr, is_some};
-ghost use Rattle.ifmap_graph.specs.Sides.{next};
+ghost use Rattle.ifmap_graph.specs.Sides.{list_next};
 
 use std::alloc::{AllocError as NoMemory, Global};
 use std::marker::Model;
@@ -35,15 +35,15 @@ impl<T> Sided<T> {
         }
     }
 
-    pub fn now(&self) -> &[T]
+    pub fn list_now(&self) -> &[T]
         ensures { result.now ≡ self.now.now }
     {
         &self.list
     }
 
     /// The draft, or the list where there is none.
-    pub fn next(&self) -> &[T]
-        ensures { result.now ≡ next self.now }
+    pub fn list_next(&self) -> &[T]
+        ensures { result.now ≡ list_next self.now }
     {
         match &self.draft {
             Some(list) => list,

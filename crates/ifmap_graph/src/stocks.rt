@@ -4,7 +4,7 @@ ghost use Rattle.std.specs.List.{AllByRecursion};
 ghost use Rattle.ifmap_meta.specs.declared.stored.Stored.{Stored};
 ghost use Rattle.ifmap_meta.specs.Keys.{HaveOneKey};
 ghost use Rattle.ifmap_plans.specs.Lists.{next_on};
-ghost use Rattle.ifmap_graph.specs.Sides.{next};
+ghost use Rattle.ifmap_graph.specs.Sides.{list_next};
 
 use crate::row_lists::RowList;
 use ifmap_plans::ItemChange;
@@ -44,15 +44,15 @@ impl Stock {
         }
     }
 
-    pub fn now(&self) -> &[Row]
+    pub fn list_now(&self) -> &[Row]
         ensures { result.now ≡ self.now.now }
     {
         self.list.as_slice()
     }
 
     /// The draft, or the list where there is none.
-    pub fn next(&self) -> &[Row]
-        ensures { result.now ≡ next self.now }
+    pub fn list_next(&self) -> &[Row]
+        ensures { result.now ≡ list_next self.now }
     {
         match &self.draft {
             Some(list) => list.as_slice(),
@@ -94,7 +94,7 @@ impl Stock {
     /// The draft takes the list's place. Gives the list that was.
     pub fn accept(&mut self) -> RowList
         requires { IsSome self.old.draft }
-        ensures list { self.new ≡ record { now = next self.old; draft = None } }
+        ensures list { self.new ≡ record { now = list_next self.old; draft = None } }
         ensures old { result ≡ self.old.now }
     {
         match self.draft.take() {

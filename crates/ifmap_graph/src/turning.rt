@@ -8,7 +8,7 @@ ghost use Rattle.ifmap_plans.specs.declared.plans.ItemChange.{ItemChange};
 ghost use Rattle.ifmap_view.specs.Rows.{stored_on};
 ghost use Rattle.ifmap_graph.specs.Drafted.{AreBare, AreOut, DraftsWithin, StayInPlace};
 ghost use Rattle.ifmap_graph.specs.Shelved.{AreShelved, HasDraft, slot_of_item, rows_on_side};
-ghost use Rattle.ifmap_graph.specs.Sides.{next, now};
+ghost use Rattle.ifmap_graph.specs.Sides.{list_next, list_now};
 
 use crate::row_lists::RowList;
 use crate::shelves::Shelves;
@@ -20,14 +20,14 @@ fn accept_one(shelves: &mut Shelves, item: &Item, list: &mut RowList)
     requires shelved { AreShelved shelves.old }
     requires drafted { HasDraft shelves.old item.now }
     ensures shelved { AreShelved shelves.new }
-    ensures next { rows_on_side next shelves.new ≡ rows_on_side next shelves.old }
-    ensures list { list.new ≡ stored_on item.now (rows_on_side now shelves.old) }
+    ensures next { rows_on_side list_next shelves.new ≡ rows_on_side list_next shelves.old }
+    ensures list { list.new ≡ stored_on item.now (rows_on_side list_now shelves.old) }
     ensures drafts { (x : Item) → HasDraft shelves.new x
         → HasDraft shelves.old x × (same_item x item.now ≡ false) }
     ensures others { (x : Item) → same_item x item.now ≡ false
         → (HasDraft shelves.old x → HasDraft shelves.new x)
-        × (stored_on x (rows_on_side now shelves.new)
-        ≡ stored_on x (rows_on_side now shelves.old)) }
+        × (stored_on x (rows_on_side list_now shelves.new)
+        ≡ stored_on x (rows_on_side list_now shelves.old)) }
     ensures stays { StayInPlace shelves.old shelves.new }
 {
     *list = shelves.accept(item);
@@ -41,16 +41,16 @@ fn accept_at(shelves: &mut Shelves, changes: &[ItemChange], lists: &mut Vec<RowL
     requires drafted { (c : ItemChange)
         → HasDraft shelves.old (slice_index_or changes.now i c).item }
     ensures shelved { AreShelved shelves.new }
-    ensures next { rows_on_side next shelves.new ≡ rows_on_side next shelves.old }
+    ensures next { rows_on_side list_next shelves.new ≡ rows_on_side list_next shelves.old }
     ensures lists { (c : ItemChange) → lists.new.items ≡ set lists.old.items i
-        (stored_on (slice_index_or changes.now i c).item (rows_on_side now shelves.old)) }
+        (stored_on (slice_index_or changes.now i c).item (rows_on_side list_now shelves.old)) }
     ensures drafts { (c : ItemChange) (x : Item) → HasDraft shelves.new x
         → HasDraft shelves.old x × (same_item x (slice_index_or changes.now i c).item ≡ false) }
     ensures others { (c : ItemChange) (x : Item)
         → same_item x (slice_index_or changes.now i c).item ≡ false
         → (HasDraft shelves.old x → HasDraft shelves.new x)
-        × (stored_on x (rows_on_side now shelves.new)
-        ≡ stored_on x (rows_on_side now shelves.old)) }
+        × (stored_on x (rows_on_side list_now shelves.new)
+        ≡ stored_on x (rows_on_side list_now shelves.old)) }
     ensures stays { StayInPlace shelves.old shelves.new }
 {
     accept_one(shelves, &changes[i].item, &mut lists[i]);
@@ -67,10 +67,10 @@ pub(crate) fn accept_changes(
     requires long { length lists.old.items ≡ length changes.now }
     ensures shelved { AreShelved shelves.new }
     ensures bare { AreBare shelves.new }
-    ensures next { rows_on_side next shelves.new ≡ rows_on_side next shelves.old }
-    ensures now { rows_on_side now shelves.new ≡ rows_on_side next shelves.old }
+    ensures next { rows_on_side list_next shelves.new ≡ rows_on_side list_next shelves.old }
+    ensures now { rows_on_side list_now shelves.new ≡ rows_on_side list_next shelves.old }
     ensures lists { lists.new.items
-        ≡ map (λ c. stored_on c.item (rows_on_side now shelves.old)) changes.now }
+        ≡ map (λ c. stored_on c.item (rows_on_side list_now shelves.old)) changes.now }
     ensures stays { StayInPlace shelves.old shelves.new }
 {
     for i in 0..changes.len() {
@@ -85,7 +85,7 @@ fn discard_at(shelves: &mut Shelves, changes: &[ItemChange], i: usize)
     requires there { (c : ItemChange)
         → IsSome (slot_of_item shelves.old (slice_index_or changes.now i c).item) }
     ensures shelved { AreShelved shelves.new }
-    ensures now { rows_on_side now shelves.new ≡ rows_on_side now shelves.old }
+    ensures now { rows_on_side list_now shelves.new ≡ rows_on_side list_now shelves.old }
     ensures drafts { (c : ItemChange) (x : Item) → HasDraft shelves.new x
         → HasDraft shelves.old x × (same_item x (slice_index_or changes.now i c).item ≡ false) }
     ensures stays { StayInPlace shelves.old shelves.new }
@@ -101,8 +101,8 @@ pub(crate) fn discard_changes(shelves: &mut Shelves, changes: &[ItemChange])
     requires within { DraftsWithin (map (λ c. c.item) changes.now) shelves.old }
     ensures shelved { AreShelved shelves.new }
     ensures bare { AreBare shelves.new }
-    ensures now { rows_on_side now shelves.new ≡ rows_on_side now shelves.old }
-    ensures next { rows_on_side next shelves.new ≡ rows_on_side now shelves.old }
+    ensures now { rows_on_side list_now shelves.new ≡ rows_on_side list_now shelves.old }
+    ensures next { rows_on_side list_next shelves.new ≡ rows_on_side list_now shelves.old }
     ensures stays { StayInPlace shelves.old shelves.new }
 {
     for i in 0..changes.len() {

@@ -14,7 +14,7 @@ ghost use Rattle.ifmap_graph.specs.Drafted.{AreBare, StayInPlace};
 ghost use Rattle.ifmap_graph.specs.Out.{items_changed};
 ghost use Rattle.ifmap_graph.specs.Seen.{AwaitsLess, BringsNoNumbers, IsStill, KeepsOwn, StaysLeanWithout, links_now, rows_now};
 ghost use Rattle.ifmap_graph.specs.Shelved.{AreShelved, slot_of_item, rows_on_side};
-ghost use Rattle.ifmap_graph.specs.Sides.{now};
+ghost use Rattle.ifmap_graph.specs.Sides.{list_now};
 
 use crate::changes::Undo;
 use crate::graph::Graph;
@@ -32,10 +32,10 @@ fn exchange_one(shelves: &mut Shelves, item: &Item, list: &mut RowList)
     requires there { IsSome (slot_of_item shelves.old item.now) }
     ensures shelved { AreShelved shelves.new }
     ensures bare { AreBare shelves.new }
-    ensures now { (x : Item) → stored_on x (rows_on_side now shelves.new)
+    ensures now { (x : Item) → stored_on x (rows_on_side list_now shelves.new)
         ≡ (if is_at (item_order item.now) x then list.old
-        else stored_on x (rows_on_side now shelves.old)) }
-    ensures list { list.new ≡ stored_on item.now (rows_on_side now shelves.old) }
+        else stored_on x (rows_on_side list_now shelves.old)) }
+    ensures list { list.new ≡ stored_on item.now (rows_on_side list_now shelves.old) }
     ensures stays { StayInPlace shelves.old shelves.new }
 {
     shelves.exchange(item, list);
@@ -52,12 +52,12 @@ fn exchange_at(shelves: &mut Shelves, changes: &[ItemChange], lists: &mut Vec<Ro
     ensures shelved { AreShelved shelves.new }
     ensures bare { AreBare shelves.new }
     ensures now { (c : ItemChange) (list : List Stored) (x : Item)
-        → stored_on x (rows_on_side now shelves.new)
+        → stored_on x (rows_on_side list_now shelves.new)
         ≡ (if is_at (item_order (slice_index_or changes.now i c).item) x
         then slice_index_or lists.old.items i list
-        else stored_on x (rows_on_side now shelves.old)) }
+        else stored_on x (rows_on_side list_now shelves.old)) }
     ensures lists { (c : ItemChange) → lists.new.items ≡ set lists.old.items i
-        (stored_on (slice_index_or changes.now i c).item (rows_on_side now shelves.old)) }
+        (stored_on (slice_index_or changes.now i c).item (rows_on_side list_now shelves.old)) }
     ensures stays { StayInPlace shelves.old shelves.new }
 {
     exchange_one(shelves, &changes[i].item, &mut lists[i]);
@@ -72,9 +72,9 @@ fn exchange_changes(shelves: &mut Shelves, changes: &[ItemChange], lists: &mut V
     requires long { length lists.old.items ≡ length changes.now }
     ensures shelved { AreShelved shelves.new }
     ensures bare { AreBare shelves.new }
-    ensures now { (x : Item) → stored_on x (rows_on_side now shelves.new)
+    ensures now { (x : Item) → stored_on x (rows_on_side list_now shelves.new)
         ≡ stand_each (map (λ c. c.item) changes.now) lists.old.items x
-        (stored_on x (rows_on_side now shelves.old)) }
+        (stored_on x (rows_on_side list_now shelves.old)) }
     ensures stays { StayInPlace shelves.old shelves.new }
 {
     for i in 0..changes.len() {

@@ -7,7 +7,7 @@ ghost use Rattle.ifmap_ident.specs.Items.{same_item};
 ghost use Rattle.ifmap_graph.specs.Drafted.{ends_at};
 ghost use Rattle.ifmap_graph.specs.Out.{items_changed};
 ghost use Rattle.ifmap_graph.specs.Shelved.{AreShelved, HasDraft, slot_of_item, rows_on_side};
-ghost use Rattle.ifmap_graph.specs.Sides.{next, now};
+ghost use Rattle.ifmap_graph.specs.Sides.{list_next, list_now};
 ghost use Rattle.ifmap_graph.specs.Waits.{WaitsFor, waits_of, waits_on};
 
 use crate::shelves::{Shelf, Shelves};
@@ -57,8 +57,8 @@ pub(crate) fn wait_for(shelves: &mut Shelves, changes: &[ItemChange])
         (items_changed changes.now) }
     requires apart { IsDistinct same_item (items_changed changes.now) }
     ensures shelved { AreShelved shelves.new }
-    ensures now { rows_on_side now shelves.new ≡ rows_on_side now shelves.old }
-    ensures next { rows_on_side next shelves.new ≡ rows_on_side next shelves.old }
+    ensures now { rows_on_side list_now shelves.new ≡ rows_on_side list_now shelves.old }
+    ensures next { rows_on_side list_next shelves.new ≡ rows_on_side list_next shelves.old }
     ensures waits { WaitsFor (items_changed changes.now) shelves.old shelves.new }
     ensures drafts { (x : Item) → HasDraft shelves.new x → HasDraft shelves.old x }
     ensures kept { (x : Item) → HasDraft shelves.old x → HasDraft shelves.new x }

@@ -1,6 +1,6 @@
 //! The places at which lists change.
 ghost use Rattle.std.specs.Prelude.{◌≡◌, ℕ, ◌<◌, List, [], IsSome, length};
-ghost use Rattle.ifmap_graph.specs.Sides.{Sides, next};
+ghost use Rattle.ifmap_graph.specs.Sides.{Sides, list_next};
 ghost use Rattle.ifmap_graph.specs.Turning.{accepted_sides, restored_sides, accept_each, restore_each, backs, AcceptsAt, AreDrafted, AreWithin, IsDraftedAt, IsWithinAt, KeepsListAt, RestoresAt};
 
 use crate::sided::Sided;

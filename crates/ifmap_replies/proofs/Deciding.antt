@@ -25,7 +25,7 @@ use Rattle.ifmap_forms.specs.Checks.{Check, IsConclusive, check_then, need, need
 use Rattle.ifmap_forms.specs.Items.{before_list, from_list, identifier_check, identifiers_check, item_of, list_if_there, list_check, may_follow}
 use Rattle.ifmap_forms.specs.Scopes.{Scopes}
 use Rattle.ifmap_elem.specs.WhiteSpace.{is_blank_part}
-use Rattle.ifmap_forms.specs.Tables.{ContentCheck, Form, Part, AttributeTable, beside, both, each_element, form_check, no_attributes}
+use Rattle.ifmap_forms.specs.Tables.{ContentCheck, Form, Part, AttributeTable, table_with, both, each_element, form_check, no_attributes}
 use Rattle.ifmap_forms.specs.Tables.{members_check, no_children, element_parts, read_form}
 use Rattle.ifmap_forms.specs.Values.{Field, field_check, read_text, text_field}
 use Rattle.ifmap_replies.specs.declared.kinds.PollKind.{PollKind}
@@ -80,7 +80,7 @@ abbrev SomeOfContent : {X : Type 0} → ContentCheck X → Type 0
 SomeOfContent content = (scopes : Scopes) (parts : List Part) → IsConclusive (content scopes parts)
 
 module _ {X Y : Type 0} (field : Field X) (table : AttributeTable Y) where
-  beside_done : SomeOfField field → SomeOfTable table → SomeOfTable (beside field table)
+  beside_done : SomeOfField field → SomeOfTable table → SomeOfTable (table_with field table)
   beside_done f t scope e =
       then_done (field_check field scope e) (λ x. check_then (table.reads scope e) (λ y. pass (both x y)))
       (λ x is. then_done (table.reads scope e) (λ y. pass (both x y)) (λ y there. pass_done (both x y)) (t scope e))
@@ -208,7 +208,7 @@ module _ (identifier_some : (e : Element) → IsConclusive (identifier_check e))
       (λ scopes. entries_done) no_scopes e
   poll_kind_done told.Error e =
       made_done told_error_form told_error_made
-      (beside_done code_field (beside (optional_field (codes "name")) no_attributes) code_done
+      (beside_done code_field (table_with (optional_field (codes "name")) no_attributes) code_done
       (beside_done (optional_field (codes "name")) no_attributes optional_done no_attributes_done))
       (λ scopes. only_done note_check note_done) no_scopes e
 
@@ -222,8 +222,8 @@ module _ (identifier_some : (e : Element) → IsConclusive (identifier_check e))
   result_kind_done result.NewSession e =
       made_done session_result_form new_session_made
       (beside_done (text_field (codes "ifmap-publisher-id"))
-      (beside (word_field (codes "max-poll-result-size")) (beside (text_field (codes "session-id")) no_attributes)) text_done
-      (beside_done (word_field (codes "max-poll-result-size")) (beside (text_field (codes "session-id")) no_attributes) word_done
+      (table_with (word_field (codes "max-poll-result-size")) (table_with (text_field (codes "session-id")) no_attributes)) text_done
+      (beside_done (word_field (codes "max-poll-result-size")) (table_with (text_field (codes "session-id")) no_attributes) word_done
       (beside_done (text_field (codes "session-id")) no_attributes text_done no_attributes_done)))
       no_children_done no_scopes e
   result_kind_done result.Renewed e = plain_done result.Renewed reply.Renewed e

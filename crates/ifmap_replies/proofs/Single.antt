@@ -20,7 +20,7 @@ use Rattle.ifmap_forms.specs.Checks.{Check, IsSingle, check_then, need, need_som
 use Rattle.ifmap_forms.specs.Items.{before_list, from_list, identifier_check, identifiers_check, item_of, list_if_there}
 use Rattle.ifmap_forms.specs.SingleLaws.{beside_single, made_single, each_single, read_text_single, list_at_single, no_attributes_single}
 use Rattle.ifmap_forms.specs.SingleLaws.{no_children_single, identifiers_single}
-use Rattle.ifmap_forms.specs.Tables.{Part, beside, form_check, members_check, no_attributes, element_parts}
+use Rattle.ifmap_forms.specs.Tables.{Part, table_with, form_check, members_check, no_attributes, element_parts}
 use Rattle.ifmap_forms.specs.Values.{text_field}
 use Rattle.ifmap_replies.specs.declared.kinds.PollKind.{PollKind}
 use Rattle.ifmap_replies.specs.declared.kinds.PollKind.TheVariants as told
@@ -99,7 +99,7 @@ module _ (identifier_one : (e : Element) → IsSingle (identifier_check e)) wher
       no_scopes e
   poll_kind_single told.Error e =
       made_single told_error_form told_error_made
-      (beside_single code_field (beside (optional_field (codes "name")) no_attributes) read_code_single
+      (beside_single code_field (table_with (optional_field (codes "name")) no_attributes) read_code_single
       (beside_single (optional_field (codes "name")) no_attributes read_optional_single no_attributes_single))
       (λ scopes. only_single note_check note_single) no_scopes e
 
@@ -115,8 +115,9 @@ module _ (identifier_one : (e : Element) → IsSingle (identifier_check e)) wher
   result_kind_single result.NewSession e =
       made_single session_result_form new_session_made
       (beside_single (text_field (codes "ifmap-publisher-id"))
-      (beside (word_field (codes "max-poll-result-size")) (beside (text_field (codes "session-id")) no_attributes)) read_text_single
-      (beside_single (word_field (codes "max-poll-result-size")) (beside (text_field (codes "session-id")) no_attributes) read_word_single
+      (table_with (word_field (codes "max-poll-result-size")) (table_with (text_field (codes "session-id")) no_attributes)) read_text_single
+      (beside_single (word_field (codes "max-poll-result-size")) (table_with (text_field (codes "session-id")) no_attributes)
+      read_word_single
       (beside_single (text_field (codes "session-id")) no_attributes read_text_single no_attributes_single)))
       no_children_single no_scopes e
   result_kind_single result.Renewed e = plain_single result.Renewed reply.Renewed e

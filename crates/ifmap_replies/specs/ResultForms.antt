@@ -21,7 +21,7 @@ use Rattle.ifmap_search.specs.declared.results.PollItem.TheVariants as poll
 use Rattle.ifmap_forms.specs.Checks.{Check, check_then, need, need_some, pass}
 use Rattle.ifmap_forms.specs.Items.{before_list, from_list, identifiers_check, item_of, list_if_there}
 use Rattle.ifmap_forms.specs.Scopes.{Scopes}
-use Rattle.ifmap_forms.specs.Tables.{Both, ContentCheck, Form, OneText, Part, bare_form, beside, form_check, members_check, no_attributes}
+use Rattle.ifmap_forms.specs.Tables.{Both, ContentCheck, Form, OneText, Part, bare_form, table_with, form_check, members_check, no_attributes}
 use Rattle.ifmap_forms.specs.Tables.{no_children, element_parts}
 use Rattle.ifmap_forms.specs.Values.{text_field}
 use Rattle.ifmap_replies.specs.declared.kinds.EntriesKind.{EntriesKind}
@@ -125,7 +125,7 @@ abbrev pub poll_kind_of : Name → Option PollKind
 poll_kind_of name = find (λ kind. is_bare (poll_local kind) name) poll_kinds
 
 abbrev pub told_form : EntriesKind → Form OneText (List Entry)
-told_form kind = bare_form (entries_local kind) (beside (text_field (codes "name")) no_attributes) entries_content
+told_form kind = bare_form (entries_local kind) (table_with (text_field (codes "name")) no_attributes) entries_content
 
 -- entries of this kind under a name
 abbrev pub told_item : EntriesKind → List ℕ → List Entry → PollItem
@@ -143,7 +143,7 @@ NamedCode = Both Code (Both (Option (List ℕ)) (Unit {0}))
 
 abbrev pub told_error_form : Form NamedCode (List ℕ)
 told_error_form =
-    bare_form (codes "errorResult") (beside code_field (beside (optional_field (codes "name")) no_attributes)) note_content
+    bare_form (codes "errorResult") (table_with code_field (table_with (optional_field (codes "name")) no_attributes)) note_content
 
 abbrev pub told_error_made : NamedCode → List ℕ → PollItem
 told_error_made a note = poll.Error a.others.first a.first note
@@ -185,8 +185,8 @@ SessionValues = Both (List ℕ) (Both ℕ (Both (List ℕ) (Unit {0})))
 abbrev pub session_result_form : Form SessionValues (Unit {0})
 session_result_form =
     bare_form (result_local result.NewSession)
-    (beside (text_field (codes "ifmap-publisher-id")) (beside (word_field (codes "max-poll-result-size"))
-    (beside (text_field (codes "session-id")) no_attributes)))
+    (table_with (text_field (codes "ifmap-publisher-id")) (table_with (word_field (codes "max-poll-result-size"))
+    (table_with (text_field (codes "session-id")) no_attributes)))
     no_children
 
 abbrev pub new_session_made : SessionValues → Unit {0} → Reply
@@ -215,7 +215,7 @@ abbrev pub polled_made : Unit {0} → List PollItem → Reply
 polled_made a items = reply.Polled items
 
 abbrev pub error_form : Form (Both Code (Unit {0})) (List ℕ)
-error_form = bare_form (result_local result.Error) (beside code_field no_attributes) note_content
+error_form = bare_form (result_local result.Error) (table_with code_field no_attributes) note_content
 
 abbrev pub error_made : Both Code (Unit {0}) → List ℕ → Reply
 error_made a note = reply.Error a.first note

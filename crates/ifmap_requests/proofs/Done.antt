@@ -41,7 +41,7 @@ use Rattle.ifmap_forms.specs.Items.{before_list, from_list, identifier_check, id
 use Rattle.ifmap_forms.specs.Items.{may_follow, only_identifier, start_content}
 use Rattle.ifmap_forms.specs.Scopes.{Scopes, scopes_below}
 use Rattle.ifmap_elem.specs.WhiteSpace.{is_blank_part}
-use Rattle.ifmap_forms.specs.Tables.{ContentCheck, Form, Part, AttributeTable, beside, both, each_element, form_or, list_of, no_attributes}
+use Rattle.ifmap_forms.specs.Tables.{ContentCheck, Form, Part, AttributeTable, table_with, both, each_element, form_or, list_of, no_attributes}
 use Rattle.ifmap_forms.specs.Tables.{no_children, element_parts, read_form}
 use Rattle.ifmap_forms.specs.Values.{greatest_limit, greatest_size, least_limit, longest_name, usual_size}
 use Rattle.ifmap_forms.specs.Values.{Field, depth_field, field_check, filter_check, filter_field, kind_named, kinds_check, kinds_field}
@@ -82,7 +82,7 @@ abbrev TableDone : {X : Type 0} → AttributeTable X → Type 0
 TableDone table = (scope : Scope) (e : Element) → IsFit e → IsConclusive (table.reads scope e)
 
 module _ {X Y : Type 0} (field : Field X) (table : AttributeTable Y) where
-  beside_done : FieldDone field → TableDone table → TableDone (beside field table)
+  beside_done : FieldDone field → TableDone table → TableDone (table_with field table)
   beside_done f t scope e fit =
       then_done (field_check field scope e) (λ x. check_then (table.reads scope e) (λ y. pass (both x y)))
       (λ x found. then_done (table.reads scope e) (λ y. pass (both x y)) (λ y got. pass_done (both x y)) (t scope e fit))
@@ -274,7 +274,7 @@ module _ (identifier : (e : Element) → IsConclusive (identifier_check e)) (dec
       beside_done links_field after_links (filter_done decided apart links_field.local)
       (beside_done depth_field after_depth depth_done
       (beside_done size_field after_size size_done
-      (beside_done result_field (beside kinds_field no_attributes) (filter_done decided apart result_field.local)
+      (beside_done result_field (table_with kinds_field no_attributes) (filter_done decided apart result_field.local)
       (beside_done kinds_field no_attributes kinds_done no_attributes_done))))
 
   session_done : TableDone session_attribute
@@ -282,7 +282,7 @@ module _ (identifier : (e : Element) → IsConclusive (identifier_check e)) (dec
 
   purge_done : TableDone purge_form.attributes
   purge_done =
-      beside_done session_field (beside publisher_field no_attributes) (text_done session_field.local)
+      beside_done session_field (table_with publisher_field no_attributes) (text_done session_field.local)
       (beside_done publisher_field no_attributes (text_done publisher_field.local) no_attributes_done)
 
   module _ (most : ℕ) where

@@ -33,7 +33,7 @@ use Rattle.ifmap_forms.specs.Checks.{Check, check_if, check_then, fail, need, ne
 use Rattle.ifmap_forms.specs.Items.{before_list, from_list, identifier_check, identifiers_check, item_content, item_of, list_if_there, list_check}
 use Rattle.ifmap_forms.specs.Items.{may_follow, only_identifier, start_content}
 use Rattle.ifmap_forms.specs.Scopes.{Scopes, scopes_below}
-use Rattle.ifmap_forms.specs.Tables.{Both, ContentCheck, Form, OneText, Part, AttributeTable, beside, both, each_element, form_check, form_or}
+use Rattle.ifmap_forms.specs.Tables.{Both, ContentCheck, Form, OneText, Part, AttributeTable, table_with, both, each_element, form_check, form_or}
 use Rattle.ifmap_elem.specs.WhiteSpace.{is_blank_part}
 use Rattle.ifmap_forms.specs.Tables.{list_of, no_attributes, no_children, element_parts, read_form}
 use Rattle.ifmap_forms.specs.ifmap_filter.declared.filters.Filter.{Filter}
@@ -122,7 +122,7 @@ abbrev AreBoth : {X Y : Type 0} → (X → Type 0) → (Y → Type 0) → Both X
 AreBoth P Q b = P b.first × Q b.others
 
 module _ {X Y : Type 0} (P : X → Type 0) (Q : Y → Type 0) (field : Field X) (table : AttributeTable Y) where
-  beside_gives : FieldGives field P → TableGives table Q → TableGives (beside field table) (AreBoth P Q)
+  beside_gives : FieldGives field P → TableGives table Q → TableGives (table_with field table) (AreBoth P Q)
   beside_gives f t scope e fit s =
       then_gives P (AreBoth P Q) (field_check field scope e) (λ x. check_then (table.reads scope e) (λ y. pass (both x y)))
       (f scope (value_of field.local e) fit (value_fit field.local e s.fit))
@@ -348,8 +348,8 @@ module _ (made : MakesMetadata) where
       beside_gives MayBeFitFilter AfterLinks links_field after_links (filter_gives links_field.local)
       (beside_gives Any (AreBoth Any (AreBoth MayBeFitFilter Any)) depth_field after_depth (any_field depth_field)
       (beside_gives Any (AreBoth MayBeFitFilter Any) size_field after_size (any_field size_field)
-      (beside_gives MayBeFitFilter Any result_field (beside kinds_field no_attributes) (filter_gives result_field.local)
-      (any_table (beside kinds_field no_attributes)))))
+      (beside_gives MayBeFitFilter Any result_field (table_with kinds_field no_attributes) (filter_gives result_field.local)
+      (any_table (table_with kinds_field no_attributes)))))
 
   search_fit : (start : Identifier) (values : SearchValues) → IsIdentifier start → HasFilters values
       → IsFitSearch (search_from start values)
@@ -397,7 +397,7 @@ module _ (made : MakesMetadata) where
 
   purge_table_gives : TableGives purge_form.attributes HasTexts
   purge_table_gives =
-      beside_gives IsCharacters HasName session_field (beside publisher_field no_attributes) (text_gives session_field.local)
+      beside_gives IsCharacters HasName session_field (table_with publisher_field no_attributes) (text_gives session_field.local)
       (beside_gives IsCharacters Any publisher_field no_attributes (text_gives publisher_field.local) (any_table no_attributes))
 
   module _ (scopes : Scopes) (e : Element) (f : AreFitScopes scopes) (s : IsSound level_limit e) where

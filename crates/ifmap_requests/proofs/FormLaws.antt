@@ -23,7 +23,7 @@ use Rattle.ifmap_forms.specs.Answers.{IsChecked, IsCheckRefusal}
 use Rattle.ifmap_forms.specs.Checks.{Check, check_if, check_then, need, pass}
 use Rattle.ifmap_forms.specs.Items.{start_check, start_content}
 use Rattle.ifmap_forms.specs.Scopes.{Scopes}
-use Rattle.ifmap_forms.specs.Tables.{Both, Form, beside, both, form_check, form_or, no_attributes}
+use Rattle.ifmap_forms.specs.Tables.{Both, Form, table_with, both, form_check, form_or, no_attributes}
 use Rattle.ifmap_forms.specs.Tables.{element_parts, read_form}
 use Rattle.ifmap_forms.specs.Values.{Field, depth_field, field_check, kinds_field, size_field}
 use Rattle.ifmap_requests.specs.declared.searching.Bounds.{Bounds}
@@ -51,7 +51,7 @@ no_search code = Err code
 
 module _ {X : Type 0} (field : Field (List ℕ)) (name : Name) (passed : List (List ℕ)) (make : List ℕ → Search → X) where
   abbrev searching : Form (Both (List ℕ) SearchValues) Identifier
-  searching = record { name = name; passed_over = passed; attributes = beside field search_attributes; content = start_content }
+  searching = record { name = name; passed_over = passed; attributes = table_with field search_attributes; content = start_content }
 
   abbrev make_from : Both (List ℕ) SearchValues → Identifier → X
   make_from a start = make a.first (search_from start a.others)
@@ -145,7 +145,7 @@ module _ (scope : Scope) (e : Element) where
             refused_beside links_field after_links scope e links error a
             (refused_beside depth_field after_depth scope e depth error b
             (refused_beside size_field after_size scope e size error c
-            (refused_at_field result_field (beside kinds_field no_attributes) scope e error f)))
+            (refused_at_field result_field (table_with kinds_field no_attributes) scope e error f)))
 
         module _ (results : Option Filter) (d : field_check result_field scope e (Ok results)) where
           pub refused_kinds : (error : FormError) → IsCheckRefusal (field_check kinds_field scope e) error
@@ -154,7 +154,7 @@ module _ (scope : Scope) (e : Element) where
               refused_beside links_field after_links scope e links error a
               (refused_beside depth_field after_depth scope e depth error b
               (refused_beside size_field after_size scope e size error c
-              (refused_beside result_field (beside kinds_field no_attributes) scope e results error d
+              (refused_beside result_field (table_with kinds_field no_attributes) scope e results error d
               (refused_alone kinds_field scope e error f))))
 
           pub all_bounds : (kinds : List Kind) → field_check kinds_field scope e (Ok kinds)
@@ -163,7 +163,7 @@ module _ (scope : Scope) (e : Element) where
               found_beside links_field after_links scope e links (both depth (both size (both results (both kinds tt)))) a
               (found_beside depth_field after_depth scope e depth (both size (both results (both kinds tt))) b
               (found_beside size_field after_size scope e size (both results (both kinds tt)) c
-              (found_beside result_field (beside kinds_field no_attributes) scope e results (both kinds tt) d
+              (found_beside result_field (table_with kinds_field no_attributes) scope e results (both kinds tt) d
               (found_alone kinds_field scope e kinds f))))
 
 -- ---- 4. a search, after its attributes

@@ -28,7 +28,7 @@ use Rattle.ifmap_forms.specs.Items.{before_list, from_list, identifier_check, id
 use Rattle.ifmap_forms.specs.Scopes.{Scopes, scopes_below}
 use Rattle.ifmap_forms.specs.SingleLaws.{OneOfTable, OneOfContent, beside_single, or_single, each_single, read_text_single, list_at_single}
 use Rattle.ifmap_forms.specs.SingleLaws.{no_attributes_single, no_children_single, identifiers_single, start_single, item_single}
-use Rattle.ifmap_forms.specs.Tables.{beside, both, form_or, list_of, no_attributes}
+use Rattle.ifmap_forms.specs.Tables.{table_with, both, form_or, list_of, no_attributes}
 use Rattle.ifmap_forms.specs.Values.{greatest_limit, greatest_size, least_limit, longest_name, usual_size}
 use Rattle.ifmap_forms.specs.Values.{FilterDefect, depth_field, filter_check, filter_field, kinds_field, lifetime_field, limit_field}
 use Rattle.ifmap_forms.specs.Values.{name_field, size_field, kind_named, kinds_check, number_of, piece_check, pieces_of, read_depth}
@@ -217,7 +217,7 @@ module _ (identifier_one : (e : Element) → IsSingle (identifier_check e)) (one
       beside_single links_field after_links (read_filter_single one_filter)
       (beside_single depth_field after_depth read_depth_single
       (beside_single size_field after_size read_size_single
-      (beside_single result_field (beside kinds_field no_attributes) (read_filter_single one_filter)
+      (beside_single result_field (table_with kinds_field no_attributes) (read_filter_single one_filter)
       (beside_single kinds_field no_attributes read_kinds_single no_attributes_single))))
 
   publish_op_single : (scopes : Scopes) (e : Element) → IsSingle (publish_op_check scopes e)
@@ -249,15 +249,15 @@ module _ (identifier_one : (e : Element) → IsSingle (identifier_check e)) (one
       each_single (λ index e. subscribe_op_check (scopes_below scopes index) e)
       (λ index e. subscribe_op_single (scopes_below scopes index) e) 0 parts
 
-  limit_single : OneOfTable (beside limit_field no_attributes)
+  limit_single : OneOfTable (table_with limit_field no_attributes)
   limit_single = beside_single limit_field no_attributes read_limit_single no_attributes_single
 
   session_single : OneOfTable session_attribute
   session_single = beside_single session_field no_attributes read_text_single no_attributes_single
 
-  purge_single : OneOfTable (beside session_field (beside publisher_field no_attributes))
+  purge_single : OneOfTable (table_with session_field (table_with publisher_field no_attributes))
   purge_single =
-      beside_single session_field (beside publisher_field no_attributes) read_text_single
+      beside_single session_field (table_with publisher_field no_attributes) read_text_single
       (beside_single publisher_field no_attributes read_text_single no_attributes_single)
 
   module _ (scopes : Scopes) (e : Element) where

@@ -23,7 +23,7 @@ use Rattle.ifmap_envelopes.specs.Spaces.{ifmap_space}
 use Rattle.ifmap_forms.specs.Checks.{Check, check_then, fail, need, pass}
 use Rattle.ifmap_forms.specs.Items.{item_content, start_check, start_content}
 use Rattle.ifmap_forms.specs.Scopes.{Scopes}
-use Rattle.ifmap_forms.specs.Tables.{Both, ContentCheck, Form, OneText, AttributeTable, bare_form, beside, both, form_or, list_of, no_attributes}
+use Rattle.ifmap_forms.specs.Tables.{Both, ContentCheck, Form, OneText, AttributeTable, bare_form, table_with, both, form_or, list_of, no_attributes}
 use Rattle.ifmap_forms.specs.Tables.{no_children, element_parts}
 use Rattle.ifmap_forms.specs.Values.{Field, depth_field, filter_field, kinds_field, lifetime_field, limit_field, name_field, size_field}
 use Rattle.ifmap_forms.specs.Values.{text_field}
@@ -42,13 +42,13 @@ use Rattle.ifmap_requests.specs.Published.{published_content}
 -- ---- the operations of a publish
 
 abbrev pub update_form : Form (Both Bool (Unit {0})) (Both Item (List Metadata))
-update_form = bare_form (codes "update") (beside lifetime_field no_attributes) published_content
+update_form = bare_form (codes "update") (table_with lifetime_field no_attributes) published_content
 
 abbrev pub notify_form : Form (Unit {0}) (Both Item (List Metadata))
 notify_form = bare_form (codes "notify") no_attributes published_content
 
 abbrev pub delete_form : Form (Both (Option Filter) (Unit {0})) Item
-delete_form = bare_form (codes "delete") (beside (filter_field (codes "filter")) no_attributes) item_content
+delete_form = bare_form (codes "delete") (table_with (filter_field (codes "filter")) no_attributes) item_content
 
 abbrev pub update_from_form : Both Bool (Unit {0}) → Both Item (List Metadata) → PublishOp
 update_from_form a published = publish.Update published.first published.others a.first
@@ -84,16 +84,16 @@ result_field = filter_field (codes "result-filter")
 
 -- the attributes of a search, and of these those that come after its size, its depth and the filter of its links
 abbrev pub after_size : AttributeTable (Both (Option Filter) (Both (List Kind) (Unit {0})))
-after_size = beside result_field (beside kinds_field no_attributes)
+after_size = table_with result_field (table_with kinds_field no_attributes)
 
 abbrev pub after_depth : AttributeTable (Both ℕ (Both (Option Filter) (Both (List Kind) (Unit {0}))))
-after_depth = beside size_field after_size
+after_depth = table_with size_field after_size
 
 abbrev pub after_links : AttributeTable (Both ℕ (Both ℕ (Both (Option Filter) (Both (List Kind) (Unit {0})))))
-after_links = beside depth_field after_depth
+after_links = table_with depth_field after_depth
 
 abbrev pub search_attributes : AttributeTable SearchValues
-search_attributes = beside links_field after_links
+search_attributes = table_with links_field after_links
 
 abbrev pub search_from : Identifier → SearchValues → Search
 search_from start values =
@@ -121,10 +121,10 @@ values_of bounds =
 -- ---- the operations of a subscribe
 
 abbrev pub subscription_form : Form (Both (List ℕ) SearchValues) Identifier
-subscription_form = bare_form (codes "update") (beside name_field search_attributes) start_content
+subscription_form = bare_form (codes "update") (table_with name_field search_attributes) start_content
 
 abbrev pub end_form : Form (Both (List ℕ) (Unit {0})) (Unit {0})
-end_form = bare_form (codes "delete") (beside name_field no_attributes) no_children
+end_form = bare_form (codes "delete") (table_with name_field no_attributes) no_children
 
 abbrev pub subscription_from_form : Both (List ℕ) SearchValues → Identifier → SubscribeOp
 subscription_from_form a start = subscribe.Update a.first (search_from start a.others)
@@ -163,10 +163,10 @@ abbrev pub session_field : Field (List ℕ)
 session_field = text_field (codes "session-id")
 
 abbrev pub session_attribute : AttributeTable OneText
-session_attribute = beside session_field no_attributes
+session_attribute = table_with session_field no_attributes
 
 abbrev pub new_session_form : Form (Both (Option ℕ) (Unit {0})) (Unit {0})
-new_session_form = asking_form (asking_name asking.NewSession) (beside limit_field no_attributes) no_children
+new_session_form = asking_form (asking_name asking.NewSession) (table_with limit_field no_attributes) no_children
 
 abbrev pub renew_form : Form OneText (Unit {0})
 renew_form = asking_form (asking_name asking.RenewSession) session_attribute no_children
@@ -181,7 +181,7 @@ abbrev pub publish_form : Form OneText (List PublishOp)
 publish_form = asking_form (codes "publish") session_attribute (list_of publish_op_check)
 
 abbrev pub search_form : Form (Both (List ℕ) SearchValues) Identifier
-search_form = asking_form (asking_name asking.Search) (beside session_field search_attributes) start_content
+search_form = asking_form (asking_name asking.Search) (table_with session_field search_attributes) start_content
 
 abbrev pub subscribe_form : Form OneText (List SubscribeOp)
 subscribe_form = asking_form (asking_name asking.Subscribe) session_attribute (list_of subscribe_op_check)
@@ -190,7 +190,8 @@ abbrev pub publisher_field : Field (List ℕ)
 publisher_field = text_field (codes "ifmap-publisher-id")
 
 abbrev pub purge_form : Form (Both (List ℕ) OneText) (Unit {0})
-purge_form = asking_form (asking_name asking.PurgePublisher) (beside session_field (beside publisher_field no_attributes)) no_children
+purge_form =
+    asking_form (asking_name asking.PurgePublisher) (table_with session_field (table_with publisher_field no_attributes)) no_children
 
 -- what the request of that session carries
 abbrev pub session_alone : List ℕ → Both OneText (Unit {0})

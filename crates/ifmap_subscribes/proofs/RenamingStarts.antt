@@ -12,7 +12,7 @@ use Rattle.ifmap_changes.specs.ifmap_graph.Named.{named_in}
 use Rattle.ifmap_changes.specs.ifmap_delta.Sights.{IsUpToDate}
 use Rattle.ifmap_changes.specs.ifmap_graph.Seen.{IsStill, links_now, rows_now}
 use Rattle.ifmap_changes.specs.ifmap_graph.Shelved.{list_at, rows_by}
-use Rattle.ifmap_changes.specs.ifmap_graph.Sides.{now}
+use Rattle.ifmap_changes.specs.ifmap_graph.Sides.{list_now}
 use Rattle.ifmap_ident.specs.Canon.{IsIdentifier}
 use Rattle.ifmap_ident.specs.Identifiers.{identifier_bytes, identifier_order}
 use Rattle.ifmap_ident.specs.declared.identifiers.Identifier.{Identifier}
@@ -145,10 +145,10 @@ can_release h x more s =
 -- ---- a graph of which only a number went
 
 pub rows_same : (old new : Held) → new.shelves ≡ old.shelves → rows_now new ≡ rows_now old
-rows_same old new e = ap (λ s. rows_by (list_at now) s) e
+rows_same old new e = ap (λ s. rows_by (list_at list_now) s) e
 
 pub links_same : (old new : Held) → new.links ≡ old.links → (v : ℕ) → links_now new v ≡ links_now old v
-links_same old new e v = ap (λ l. links_at now l v) e
+links_same old new e v = ap (λ l. links_at list_now l v) e
 
 -- ---- several numbers went, one after the other
 

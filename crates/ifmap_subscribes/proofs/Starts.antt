@@ -11,7 +11,7 @@ use Rattle.ifmap_changes.specs.ifmap_graph.Held.{Held, IsOwn}
 use Rattle.ifmap_changes.specs.ifmap_graph.Named.{named_in}
 use Rattle.ifmap_changes.specs.ifmap_graph.Seen.{AwaitsMore, IsStill, KeepsNumbers, StaysLean, links_now, rows_now}
 use Rattle.ifmap_changes.specs.ifmap_graph.Shelved.{list_at, rows_by}
-use Rattle.ifmap_changes.specs.ifmap_graph.Sides.{now}
+use Rattle.ifmap_changes.specs.ifmap_graph.Sides.{list_now}
 use Rattle.ifmap_changes.specs.ifmap_graph.Turning.{sides_at}
 use Rattle.ifmap_ident.specs.declared.identifiers.Identifier.{Identifier}
 use Rattle.ifmap_ident.specs.Identifiers.{identifier_bytes, identifier_order}
@@ -52,7 +52,7 @@ pub held_steady : (old new : Held) (standing : List Standing) (v : ℕ) (start :
     → key_at new.names v ≡ Some start → IsHolding new standing v start
 held_steady old new standing v start was shelves still kept own named = record {
   still = still was.still;
-  whole = subst (λ s. AreWhole (rows_by (list_at now) s)) (sym shelves) was.whole;
+  whole = subst (λ s. AreWhole (rows_by (list_at list_now) s)) (sym shelves) was.whole;
   own = λ a. own a (starts_of a standing) (was.own a);
   numbered = all_weaker (HasStartNumber old) (HasStartNumber new) (λ x e. kept x.subscription.region.start x.subscription.search.start e)
       standing
@@ -71,7 +71,7 @@ pub unheld_steady : (old new : Held) (standing : List Standing) → IsSteady old
     → (IsStill old → IsStill new) → KeepsNumbers old new → new.names.live ≡ old.names.live → IsSteady new standing
 unheld_steady old new standing was shelves still kept live = record {
   still = still was.still;
-  whole = subst (λ s. AreWhole (rows_by (list_at now) s)) (sym shelves) was.whole;
+  whole = subst (λ s. AreWhole (rows_by (list_at list_now) s)) (sym shelves) was.whole;
   own = λ a. own_alike old new a (starts_of a standing) shelves live (was.own a);
   numbered = all_weaker (HasStartNumber old) (HasStartNumber new) (λ x e. kept x.subscription.region.start x.subscription.search.start e)
       standing
@@ -137,7 +137,7 @@ module _ (h : Held) (standing : List Standing) (v : ℕ) (start : Identifier) (w
       → ((w : ℕ) → (w ≡ v → 1 < holds_at h.names w) → key_at new.names w ≡ key_at h.names w) → IsSteady new standing
   let_go_steady new shelves still own stays = record {
     still = still was.still;
-    whole = subst (λ s. AreWhole (rows_by (list_at now) s)) (sym shelves) was.whole;
+    whole = subst (λ s. AreWhole (rows_by (list_at list_now) s)) (sym shelves) was.whole;
     own = λ a. subst (λ n. IsOwn new a n) (omega arith)
         (own start a (starts_of a standing + once identifier_order start a) was.start (was.own a));
     numbered = all_members (HasStartNumber h) (HasStartNumber new) standing
@@ -161,7 +161,7 @@ ends_steady mid new standing v search (Some x) held unused used begun =
 pub held_alone : (old new : Held) → new.shelves ≡ old.shelves → ((v : ℕ) → sides_at new.links v ≡ sides_at old.links v)
     → KeepsNumbers old new → KeepsBacks old new → AwaitsMore [] old new → StaysLean old new → GraphHolds old new
 held_alone old new shelves links numbers backs waits lean = record {
-  rows = ap (rows_by (list_at now)) shelves;
+  rows = ap (rows_by (list_at list_now)) shelves;
   links = λ v. ap (λ s. s.now) (links v);
   numbers = numbers;
   backs = backs;

@@ -33,7 +33,7 @@ use Rattle.ifmap_meta.specs.Stamps.{content_of}
 use Rattle.ifmap_requests.specs.ifmap_forms.Checks.{Check, check_if, check_then, fail, need, need_some, pass}
 use Rattle.ifmap_requests.specs.ifmap_forms.Items.{from_list, is_list, item_of, list_if_there, list_check}
 use Rattle.ifmap_requests.specs.ifmap_forms.Scopes.{Scopes, scopes_below}
-use Rattle.ifmap_requests.specs.ifmap_forms.Tables.{Both, Form, Part, AttributeTable, beside, both, each_element, form_check, form_or, no_attributes, parts_in}
+use Rattle.ifmap_requests.specs.ifmap_forms.Tables.{Both, Form, Part, AttributeTable, table_with, both, each_element, form_check, form_or, no_attributes, parts_in}
 use Rattle.ifmap_requests.specs.ifmap_forms.Tables.{element_parts}
 use Rattle.ifmap_requests.specs.ifmap_forms.Values.{greatest_size, longest_name, usual_size}
 use Rattle.ifmap_requests.specs.ifmap_forms.Values.{Field, depth_field, field_check, name_field, number_of, read_depth}
@@ -105,7 +105,7 @@ module _ {X A C : Type 0} (form : Form A C) (make : A → C → X) (scopes : Sco
       }
 
 module _ {X Y : Type 0} (field : Field X) (table : AttributeTable Y) (scope : Scope) (e : Element) (b : Both X Y) where
-  beside_parts : (beside field table).reads scope e (good b)
+  beside_parts : (table_with field table).reads scope e (good b)
       → field_check field scope e (good b.first) × table.reads scope e (good b.others)
   beside_parts h =
       let is : both h.0 h.2.0 ≡ b = sym (passed b (both h.0 h.2.0) h.2.2) in (

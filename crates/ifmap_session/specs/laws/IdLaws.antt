@@ -15,11 +15,11 @@ use Rattle.ifmap_lemmas.specs.Members.{all_append}
 use Rattle.uuid.specs.Text as uuid
 use Rattle.std.specs.Int.{to_be_bytes, w128}
 
-pub own : IsNumeralModel (AllDigits 10) (digits_value 10)
-own = numerals_by_value (AllDigits 10) tells_digits
+pub decimal_model : IsNumeralModel (AllDigits 10) (digits_value 10)
+decimal_model = numerals_by_value (AllDigits 10) tells_digits
 
 pub no_hyphen : (n : ℕ) → n < 2 ^ 64 → (i : ℕ) → i < length (decimal n) → get_or (decimal n) i 0 ≢ hyphen
-no_hyphen n small = not_in_digits own (decimal n) hyphen (digits_decimal own n small) (λ r. absurd (omega (arith, r)))
+no_hyphen n small = not_in_digits decimal_model (decimal n) hyphen (digits_decimal decimal_model n small) (λ r. absurd (omega (arith, r)))
 
 -- what stands before the first of a byte is told by the whole
 pub same_before : (h : ℕ) (a b r s : List ℕ) → ((i : ℕ) → i < length a → get_or a i 0 ≢ h) → ((i : ℕ) → i < length b → get_or b i 0 ≢ h)

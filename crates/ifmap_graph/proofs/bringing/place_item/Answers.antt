@@ -6,7 +6,7 @@ use Rattle.ifmap_ident.specs.Items.{IsCanonItem}
 use Rattle.ifmap_graph.specs.Bringing.{BringsShelves, graph_parts}
 use Rattle.ifmap_graph.specs.Held.{IsInside}
 use Rattle.ifmap_graph.specs.Shelved.{slot_of_item}
-use Rattle.ifmap_graph.specs.Sides.{next, now}
+use Rattle.ifmap_graph.specs.Sides.{list_next, list_now}
 use Rattle.ifmap_graph.proofs.Changed.{names_alike, held_alike, roomier}
 use Rattle.ifmap_graph.proofs.Grown.{few_holds, grown_room}
 use Rattle.ifmap_graph.proofs.Own.{holds_alike}
@@ -50,8 +50,8 @@ returns-clause-grown c =
     c.make_room.new.links.items c.make_room.ensures.whole c.make_room.ensures.same c.make_room.ensures.longer c.requires.inside
     in record {
       inside = c.place_shelf.ensures.inside c.make_room.new.links.items c.in_ok-make_room.ensures.limit room;
-      now = c.place_shelf.ensures.rows now refl;
-      next = c.place_shelf.ensures.rows next refl;
+      now = c.place_shelf.ensures.rows list_now refl;
+      next = c.place_shelf.ensures.rows list_next refl;
       bare = c.place_shelf.ensures.bare;
       links = c.make_room.ensures.same;
       longer = c.make_room.ensures.longer;

@@ -1,7 +1,7 @@
 use Rattle.std.proofs.Common.{ap, ◌∙◌, sym}
 use Rattle.slab.specs.Slab.{get}
 use Rattle.ifmap_graph.specs.Shelved.{list_at}
-use Rattle.ifmap_graph.specs.Sides.{now}
+use Rattle.ifmap_graph.specs.Sides.{list_now}
 use Rattle.ifmap_graph.proofs.Finding.{found}
 use Rattle.ifmap_graph.proofs.Lessening.{less_removed}
 use Rattle.ifmap_graph.proofs.bringing.take_shelf.Goals as goal
@@ -12,9 +12,9 @@ returns-then-came-clause-less c =
     in less_removed c.args.names.now c.remove_shelf.new.names c.args.shelves.now c.remove_shelf.new.shelves c.args.item.now
     c.requires.inside.1.placed
     (c.remove_shelf.ensures.inside c.requires.inside.0 c.requires.inside.1).placed
-    (sym (found (λ n. list_at now (get c.args.shelves.now.slots n)) c.args.item.now c.args.shelves.now.places.entries e.0
+    (sym (found (λ n. list_at list_now (get c.args.shelves.now.slots n)) c.args.item.now c.args.shelves.now.places.entries e.0
     c.requires.inside.1.placed.rising e.2)
-    ∙ ap (list_at now) e.3 ∙ ap now e.4)
+    ∙ ap (list_at list_now) e.3 ∙ ap list_now e.4)
     c.remove_shelf.ensures.inside c.remove_shelf.ensures.now c.remove_shelf.ensures.before c.remove_shelf.ensures.others
     c.remove_shelf.ensures.named
     c.remove_shelf.ensures.own

@@ -3,7 +3,7 @@ use Rattle.std.specs.List.{AllByRecursion}
 use Rattle.slab.specs.Slab.{get}
 use Rattle.ifmap_graph.specs.Counted.{links_among}
 use Rattle.ifmap_graph.specs.Shelved.{list_at}
-use Rattle.ifmap_graph.specs.Sides.{now}
+use Rattle.ifmap_graph.specs.Sides.{list_now}
 use Rattle.ifmap_graph.proofs.counting.count_entries.Given as goal
 
 abbrev pub invariant-loop-item : goal.invariant-loop-item
@@ -11,6 +11,6 @@ invariant-loop-item l =
     (goal.iterator-loop-item).can_next l.item-iterator
     × (goal.iterator-loop-item).is_finite l.item-iterator
     × AllByRecursion (λ e. IsSome (get l.slots e.1)) l.item-iterator
-    × (l.count + links_among (λ at. list_at now (get l.slots at)) l.item-iterator
-    ≡ links_among (λ at. list_at now (get l.slots at)) l.initial.item-iterator)
+    × (l.count + links_among (λ at. list_at list_now (get l.slots at)) l.item-iterator
+    ≡ links_among (λ at. list_at list_now (get l.slots at)) l.initial.item-iterator)
     × (l.count + length l.item-iterator < 2 ^ 64)

@@ -6,7 +6,7 @@ use Rattle.ifmap_ident.specs.Items.{item_order}
 use Rattle.ifmap_plans.specs.Plans.{IsAfter}
 use Rattle.ifmap_graph.specs.Out.{items_changed}
 use Rattle.ifmap_graph.specs.Shelved.{HasDraft, rows_on_side}
-use Rattle.ifmap_graph.specs.Sides.{now}
+use Rattle.ifmap_graph.specs.Sides.{list_now}
 use Rattle.ifmap_graph.proofs.Lessening.{inside_written}
 use Rattle.ifmap_graph.proofs.drafting.draft_and_wait.Goals as goal
 use Rattle.ifmap_lemmas.specs.Filters.{all_weaker}
@@ -23,7 +23,7 @@ returns-clause-all c =
       inside = λ names is. inside_written names c.draft_plan.new.shelves c.wait_for.new.shelves c.wait_for.ensures.shelved
           c.wait_for.ensures.places c.wait_for.ensures.ends c.wait_for.ensures.now c.wait_for.ensures.next c.draft_plan.new.links.items
           (all.inside names is);
-      next = subst (IsAfter c.args.changes.now (rows_on_side now c.args.shelves.now)) (sym c.wait_for.ensures.next) all.next;
+      next = subst (IsAfter c.args.changes.now (rows_on_side list_now c.args.shelves.now)) (sym c.wait_for.ensures.next) all.next;
       out = record {
         drafted = all_weaker (HasDraft c.draft_plan.new.shelves) (HasDraft c.wait_for.new.shelves) c.wait_for.ensures.kept
             (items_changed c.args.changes.now) all.out.drafted;

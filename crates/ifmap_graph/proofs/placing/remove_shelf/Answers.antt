@@ -1,6 +1,6 @@
 use Rattle.std.proofs.Common.{Option, IsSome, refl, sym, subst}
 use Rattle.ifmap_graph.specs.declared.shelves.Shelf.{Shelf}
-use Rattle.ifmap_graph.specs.Sides.{next, now}
+use Rattle.ifmap_graph.specs.Sides.{list_next, list_now}
 use Rattle.ifmap_graph.proofs.Removing.{LetsEndsGo, Removes, empty_shelf, empty_there, removed_before, removed_brings, removed_ends, removed_inside, removed_others, removed_own, removed_rows}
 use Rattle.ifmap_graph.proofs.placing.remove_shelf.Goals as goal
 use Rattle.ifmap_graph.proofs.placing.remove_shelf.Goals.{After-remove-shelf, After-release_ends}
@@ -48,10 +48,10 @@ returns-clause-own c =
     (lets_go place.After-release_ends)
 
 pub returns-clause-now : goal.returns-clause-now
-returns-clause-now c = removed_rows (removes (goal.at.returns-clause-now c).After-remove-shelf) c.requires.inside.1.placed now refl
+returns-clause-now c = removed_rows (removes (goal.at.returns-clause-now c).After-remove-shelf) c.requires.inside.1.placed list_now refl
 
 pub returns-clause-next : goal.returns-clause-next
-returns-clause-next c = removed_rows (removes (goal.at.returns-clause-next c).After-remove-shelf) c.requires.inside.1.placed next refl
+returns-clause-next c = removed_rows (removes (goal.at.returns-clause-next c).After-remove-shelf) c.requires.inside.1.placed list_next refl
 
 pub returns-clause-before : goal.returns-clause-before
 returns-clause-before c = removed_before (removes (goal.at.returns-clause-before c).After-remove-shelf) c.requires.inside.1.placed

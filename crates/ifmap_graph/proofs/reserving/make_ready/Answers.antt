@@ -3,12 +3,12 @@ use Rattle.std.proofs.lemmas.Result.{on_err_weaker, on_ok_weaker}
 use Rattle.ifmap_graph.specs.Bringing.{BringsShelves, flagged_items, graph_parts}
 use Rattle.ifmap_graph.specs.Out.{items_changed}
 use Rattle.ifmap_graph.specs.Shelved.{rows_on_side}
-use Rattle.ifmap_graph.specs.Sides.{now}
+use Rattle.ifmap_graph.specs.Sides.{list_now}
 use Rattle.ifmap_graph.proofs.Made.{all_canon, unmade_by}
 use Rattle.ifmap_graph.proofs.reserving.make_ready.Goals as goal
 
 pub place_items-requires-clause-canon : goal.place_items-requires-clause-canon
-place_items-requires-clause-canon c = all_canon (rows_on_side now c.args.shelves.now) c.args.changes.now c.requires.fits.each
+place_items-requires-clause-canon c = all_canon (rows_on_side list_now c.args.shelves.now) c.args.changes.now c.requires.fits.each
 
 pub take_shelves-requires : goal.take_shelves-requires
 take_shelves-requires c = record {

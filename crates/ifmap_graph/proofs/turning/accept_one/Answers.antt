@@ -3,7 +3,7 @@ use Rattle.std.specs.BTreeMap.{is_at}
 use Rattle.ifmap_ident.specs.Items.{item_order}
 use Rattle.ifmap_view.specs.Rows.{stored_on}
 use Rattle.ifmap_graph.specs.Shelved.{rows_on_side}
-use Rattle.ifmap_graph.specs.Sides.{next, now}
+use Rattle.ifmap_graph.specs.Sides.{list_next, list_now}
 use Rattle.ifmap_graph.proofs.turning.accept_one.Goals as goal
 use Rattle.ifmap_ident.specs.SameLaws.{ties}
 
@@ -18,7 +18,8 @@ returns-clause-others c = λ x f.
     let g : is_at (item_order c.args.item.now) x ≡ false = ties c.args.item.now x ∙ f
     in (
       c.accept.ensures.kept x g,
-      c.accept.ensures.now x ∙ ap (λ b. stored_on x (cond b (rows_on_side next c.args.shelves.now) (rows_on_side now c.args.shelves.now)))
+      c.accept.ensures.now x
+      ∙ ap (λ b. stored_on x (cond b (rows_on_side list_next c.args.shelves.now) (rows_on_side list_now c.args.shelves.now)))
           g,
     )
 

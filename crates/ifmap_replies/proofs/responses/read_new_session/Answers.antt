@@ -7,7 +7,7 @@ use Rattle.ifmap_forms.specs.declared.errors.FormError.TheVariants.{Named}
 use Rattle.ifmap_forms.specs.AnswerLaws.{found_alone, found_beside, found_form, refused_alone, refused_at_attributes, refused_at_content}
 use Rattle.ifmap_forms.specs.AnswerLaws.{refused_at_field, refused_at_others, refused_beside, refused_exit}
 use Rattle.ifmap_elem.specs.WhiteSpace.{is_blank_part}
-use Rattle.ifmap_forms.specs.Tables.{beside, both, form_check, no_attributes, parts_in}
+use Rattle.ifmap_forms.specs.Tables.{table_with, both, form_check, no_attributes, parts_in}
 use Rattle.ifmap_forms.specs.Values.{Field, field_check, text_field}
 use Rattle.ifmap_replies.specs.Fields.{word_field}
 use Rattle.ifmap_replies.specs.ResultForms.{session_result_form, new_session_made, no_scopes}
@@ -27,9 +27,9 @@ module _ (e : Element) (publisher : List ℕ) (limit : ℕ) (session : List ℕ)
     (l : field_check limit_field (no_scopes []) e (Ok limit)) (s : field_check session_field (no_scopes []) e (Ok session)) where
   attributes_found : session_result_form.attributes.reads (no_scopes []) e (Ok (both publisher (both limit (both session tt))))
   attributes_found =
-      found_beside publisher_field (beside limit_field (beside session_field no_attributes)) (no_scopes []) e publisher
+      found_beside publisher_field (table_with limit_field (table_with session_field no_attributes)) (no_scopes []) e publisher
       (both limit (both session tt)) p
-      (found_beside limit_field (beside session_field no_attributes) (no_scopes []) e limit (both session tt) l
+      (found_beside limit_field (table_with session_field no_attributes) (no_scopes []) e limit (both session tt) l
       (found_alone session_field (no_scopes []) e session s))
 
 pub returns-in_err-publisher : goal.returns-in_err-publisher
@@ -38,7 +38,7 @@ returns-in_err-publisher c =
     let error = c.in_err-publisher.field-0.0 in
     refused_exit (form_check session_result_form new_session_made no_scopes e) c.from_residual.result error c.from_residual.ensures.1
     (refused_at_attributes session_result_form new_session_made no_scopes e error
-    (refused_at_field publisher_field (beside limit_field (beside session_field no_attributes)) (no_scopes []) e error
+    (refused_at_field publisher_field (table_with limit_field (table_with session_field no_attributes)) (no_scopes []) e error
     c.in_err-publisher.ensures))
 
 pub returns-in_err-limit : goal.returns-in_err-limit
@@ -48,9 +48,9 @@ returns-in_err-limit c =
     refused_exit (form_check session_result_form new_session_made no_scopes e) c.from_residual-in_err-limit.result error
     c.from_residual-in_err-limit.ensures.1
     (refused_at_attributes session_result_form new_session_made no_scopes e error
-    (refused_beside publisher_field (beside limit_field (beside session_field no_attributes)) (no_scopes []) e
+    (refused_beside publisher_field (table_with limit_field (table_with session_field no_attributes)) (no_scopes []) e
     c.in_ok-publisher.publisher error c.in_ok-publisher.ensures
-    (refused_at_field limit_field (beside session_field no_attributes) (no_scopes []) e error c.in_err-limit.ensures)))
+    (refused_at_field limit_field (table_with session_field no_attributes) (no_scopes []) e error c.in_err-limit.ensures)))
 
 pub returns-in_err-session : goal.returns-in_err-session
 returns-in_err-session c =
@@ -59,9 +59,9 @@ returns-in_err-session c =
     refused_exit (form_check session_result_form new_session_made no_scopes e) c.from_residual-in_err-session.result error
     c.from_residual-in_err-session.ensures.1
     (refused_at_attributes session_result_form new_session_made no_scopes e error
-    (refused_beside publisher_field (beside limit_field (beside session_field no_attributes)) (no_scopes []) e
+    (refused_beside publisher_field (table_with limit_field (table_with session_field no_attributes)) (no_scopes []) e
     c.in_ok-publisher.publisher error c.in_ok-publisher.ensures
-    (refused_beside limit_field (beside session_field no_attributes) (no_scopes []) e c.in_ok-limit.limit error c.in_ok-limit.ensures
+    (refused_beside limit_field (table_with session_field no_attributes) (no_scopes []) e c.in_ok-limit.limit error c.in_ok-limit.ensures
     (refused_alone session_field (no_scopes []) e error c.in_err-session.ensures))))
 
 pub returns-then-not-has_only : goal.returns-then-not-has_only

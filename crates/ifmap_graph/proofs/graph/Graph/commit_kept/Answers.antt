@@ -5,7 +5,7 @@ use Rattle.ifmap_view.specs.Rows.{stored_on}
 use Rattle.ifmap_graph.specs.Drafted.{AreOut}
 use Rattle.ifmap_graph.specs.Out.{items_changed}
 use Rattle.ifmap_graph.specs.Shelved.{rows_on_side}
-use Rattle.ifmap_graph.specs.Sides.{next, now}
+use Rattle.ifmap_graph.specs.Sides.{list_next, list_now}
 use Rattle.ifmap_graph.specs.Turning.{AreDrafted, accept_each, backs}
 use Rattle.ifmap_graph.proofs.Committed.{IsMadeOf, made_inside, made_lean, made_links, made_own, made_still, made_waits}
 use Rattle.ifmap_graph.proofs.Insides.{rows_shown}
@@ -54,14 +54,15 @@ invariant_of-self c = made_inside (made (goal.at.invariant_of-self c).After-acce
 pub returns-clause-now : goal.returns-clause-now
 returns-clause-now c =
     rw (← c.self.view_is)
-    (rows_shown now (get c.accept_changes.new.shelves.slots) c.accept_changes.new.shelves.places.entries ∙ c.accept_changes.ensures.now
-    ∙ sym (rows_shown next (get c.self.inside.shelves.slots) c.self.inside.shelves.places.entries))
+    (rows_shown list_now (get c.accept_changes.new.shelves.slots) c.accept_changes.new.shelves.places.entries ∙ c.accept_changes.ensures.now
+    ∙ sym (rows_shown list_next (get c.self.inside.shelves.slots) c.self.inside.shelves.places.entries))
 
 pub returns-clause-next : goal.returns-clause-next
 returns-clause-next c =
     rw (← c.self.view_is)
-    (rows_shown next (get c.accept_changes.new.shelves.slots) c.accept_changes.new.shelves.places.entries ∙ c.accept_changes.ensures.next
-    ∙ sym (rows_shown next (get c.self.inside.shelves.slots) c.self.inside.shelves.places.entries))
+    (rows_shown list_next (get c.accept_changes.new.shelves.slots) c.accept_changes.new.shelves.places.entries
+    ∙ c.accept_changes.ensures.next
+    ∙ sym (rows_shown list_next (get c.self.inside.shelves.slots) c.self.inside.shelves.places.entries))
 
 pub returns-clause-links : goal.returns-clause-links
 returns-clause-links c = rw (← c.self.view_is) (made_links (made (goal.at.returns-clause-links c).After-accept_all))
@@ -70,10 +71,10 @@ pub returns-clause-lists : goal.returns-clause-lists
 returns-clause-lists c =
     rw (← c.self.view_is)
     (c.accept_changes.ensures.lists
-    ∙ ap (λ l. map (λ (x : ItemChange). stored_on x.item (rows_on_side now c.self.inside.shelves)) l) (c.deref.ensures.value
+    ∙ ap (λ l. map (λ (x : ItemChange). stored_on x.item (rows_on_side list_now c.self.inside.shelves)) l) (c.deref.ensures.value
     ∙ ap (λ r. r.plan.changes) c.ready.view_is)
     ∙ ap (λ rows. map (λ (x : ItemChange). stored_on x.item rows) c.args.ready.plan.changes)
-    (sym (rows_shown now (get c.self.inside.shelves.slots) c.self.inside.shelves.places.entries)))
+    (sym (rows_shown list_now (get c.self.inside.shelves.slots) c.self.inside.shelves.places.entries)))
 
 pub returns-clause-ways : goal.returns-clause-ways
 returns-clause-ways c =

@@ -5,7 +5,7 @@ use Rattle.ifmap_plans.specs.Plans.{Fits}
 use Rattle.ifmap_graph.specs.Bringing.{graph_parts}
 use Rattle.ifmap_graph.specs.Making.{IsMade}
 use Rattle.ifmap_graph.specs.Shelved.{rows_on_side}
-use Rattle.ifmap_graph.specs.Sides.{now}
+use Rattle.ifmap_graph.specs.Sides.{list_now}
 use Rattle.ifmap_graph.proofs.Insides.{rows_shown}
 use Rattle.ifmap_graph.proofs.Reserved.{ComesOut, StaysAsItWas, made_out, made_seen, unmade_seen}
 use Rattle.ifmap_graph.proofs.Settled.{bare_from, few_from, held_of}
@@ -44,8 +44,8 @@ make_ready-requires-clause-few c =
 pub make_ready-requires-clause-fits : goal.make_ready-requires-clause-fits
 make_ready-requires-clause-fits c =
     let q = rw (← c.self.view_is) at c.requires.fits
-    in subst (λ l. Fits (rows_on_side now c.self.inside.shelves) l) (sym (c.deref.ensures.value ∙ ap (λ p. p.changes) c.plan.view_is))
-    (subst (λ r. Fits r c.args.plan.changes) (rows_shown now (get c.self.inside.shelves.slots) c.self.inside.shelves.places.entries) q)
+    in subst (λ l. Fits (rows_on_side list_now c.self.inside.shelves) l) (sym (c.deref.ensures.value ∙ ap (λ p. p.changes) c.plan.view_is))
+    (subst (λ r. Fits r c.args.plan.changes) (rows_shown list_now (get c.self.inside.shelves.slots) c.self.inside.shelves.places.entries) q)
 
 pub returns-in_err-make_ready-clause-now : goal.returns-in_err-make_ready-clause-now
 returns-in_err-make_ready-clause-now c = (unmade (goal.at.returns-in_err-make_ready-clause-now c).In_err-make_ready).same.rows

@@ -6,7 +6,7 @@ use Rattle.ifmap_graph.specs.Held.{links_at}
 use Rattle.ifmap_graph.specs.Out.{items_changed}
 use Rattle.ifmap_graph.specs.Seen.{AreAwaited, IsLean}
 use Rattle.ifmap_graph.specs.Shelved.{slot_of_item, rows_on_side}
-use Rattle.ifmap_graph.specs.Sides.{now}
+use Rattle.ifmap_graph.specs.Sides.{list_now}
 use Rattle.ifmap_graph.specs.Turning.{restore_each}
 use Rattle.ifmap_graph.proofs.Settled.{bare_from, held_of}
 use Rattle.ifmap_graph.proofs.Undone.{GoesBack, all_there, undone_inside, undone_lean, undone_links, undone_own, undone_rows, undone_still, undone_waits}
@@ -24,9 +24,9 @@ goes c =
       bare = c.exchange_changes.ensures.bare;
       none = still.links;
       stands = λ x. c.exchange_changes.ensures.now x
-          ∙ ap (λ l. stand_each (items_changed l) c.lists.inside.0.items x (stored_on x (rows_on_side now c.self.inside.shelves)))
+          ∙ ap (λ l. stand_each (items_changed l) c.lists.inside.0.items x (stored_on x (rows_on_side list_now c.self.inside.shelves)))
           (c.deref.ensures.value ∙ ap (λ r. r.plan.changes) c.undo.view_is)
-          ∙ ap (λ l. stand_each (items_changed c.args.undo.plan.changes) l x (stored_on x (rows_on_side now c.self.inside.shelves)))
+          ∙ ap (λ l. stand_each (items_changed c.args.undo.plan.changes) l x (stored_on x (rows_on_side list_now c.self.inside.shelves)))
           (c.lists.view_is ∙ ap (λ r. r.lists) c.undo.view_is);
       turned = c.restore_all.ensures
           ∙ ap (λ w. restore_each w c.self.inside.links.items) (c.ways.view_is ∙ ap (λ r. r.ways) c.undo.view_is);
@@ -72,7 +72,7 @@ returns-clause-back c = λ rows links b.
     in let went = goes (goal.at.returns-clause-back c).After-restore_all
     in (
       c.release_waits.ensures.now ∙ undone_rows went rows links back c.bytes_tell_identifiers_apart.ensures,
-      λ v. ap (λ l. links_at now l v) c.release_waits.ensures.links ∙ undone_links went rows links back v,
+      λ v. ap (λ l. links_at list_now l v) c.release_waits.ensures.links ∙ undone_links went rows links back v,
     )
 
 pub returns-clause-own : goal.returns-clause-own

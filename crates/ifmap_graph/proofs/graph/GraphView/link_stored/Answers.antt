@@ -2,7 +2,7 @@ use Rattle.std.proofs.Common.{ap, sym, ◌∙◌}
 use Rattle.slab.specs.Slab.{get}
 use Rattle.ifmap_graph.specs.Held.{links_at}
 use Rattle.ifmap_graph.specs.Shelved.{list_at}
-use Rattle.ifmap_graph.specs.Sides.{now}
+use Rattle.ifmap_graph.specs.Sides.{list_now}
 use Rattle.ifmap_graph.proofs.Insides.{handle_of, live_by}
 use Rattle.ifmap_graph.proofs.graph.GraphView.link_stored.Goals as goal
 
@@ -15,8 +15,8 @@ index-requires c =
 pub returns : goal.returns
 returns c =
     rw (← c.self.view_is)
-    (λ v h. c.now.ensures ∙ ap (list_at now) (sym c.index.ensures)
+    (λ v h. c.list_now.ensures ∙ ap (list_at list_now) (sym c.index.ensures)
     ∙ handle_of c.self.inside.names (get c.self.inside.shelves.slots) c.self.inside.shelves.places.entries
-    (links_at now c.self.inside.links.items) now c.self.invariant.placed c.self.invariant.used c.self.invariant.numbered
+    (links_at list_now c.self.inside.links.items) list_now c.self.invariant.placed c.self.invariant.used c.self.invariant.numbered
     c.self.invariant.pool
     c.self.invariant.keys c.self.invariant.side v c.args.seen h)

@@ -1,6 +1,6 @@
 use Rattle.std.proofs.Common.{ap, sym, ◌∙◌}
 use Rattle.slab.specs.Slab.{get}
-use Rattle.ifmap_graph.specs.Sides.{now}
+use Rattle.ifmap_graph.specs.Sides.{list_now}
 use Rattle.ifmap_graph.proofs.Insides.{rows_shown}
 use Rattle.ifmap_view.specs.Rows.{stored_on}
 use Rattle.ifmap_graph.proofs.graph.GraphView.stored_at.Goals as goal
@@ -12,4 +12,4 @@ pub returns : goal.returns
 returns c =
     rw (← c.self.view_is)
     (c.stored_at.ensures ∙ ap (stored_on c.args.item.now)
-    (sym (rows_shown now (get c.self.inside.shelves.slots) c.self.inside.shelves.places.entries)))
+    (sym (rows_shown list_now (get c.self.inside.shelves.slots) c.self.inside.shelves.places.entries)))

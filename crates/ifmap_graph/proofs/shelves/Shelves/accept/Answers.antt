@@ -4,7 +4,7 @@ use Rattle.std.proofs.lemmas.Cmp.{tied_itself}
 use Rattle.std.specs.Ordering.{is_eq}
 use Rattle.slab.specs.Slab.{get}
 use Rattle.ifmap_ident.specs.SameLaws.{items_total}
-use Rattle.ifmap_graph.specs.Sides.{next, now}
+use Rattle.ifmap_graph.specs.Sides.{list_next, list_now}
 use Rattle.ifmap_graph.proofs.Staying.{ends_stay, waits_stay}
 use Rattle.ifmap_graph.proofs.Writes.{Write, comes, drafts_kept, drafts_left, shelved, side_stays, stood, writing}
 use Rattle.ifmap_graph.proofs.shelves.Shelves.accept.Goals as goal
@@ -20,13 +20,13 @@ accept_at-requires c =
 pub returns : goal.returns
 returns c =
     let w : Write = writing c.args.self.now.slots c.accept_at.new.slots c.args.self.now.places.entries c.requires.shelved c.args.item.now
-    c.index-at.result.now c.index-at.ensures (λ s. record s { stored = record { now = next s.stored; draft = None } })
+    c.index-at.result.now c.index-at.ensures (λ s. record s { stored = record { now = list_next s.stored; draft = None } })
     c.accept_at.ensures.slots
     in record {
       shelved = shelved w;
-      next = side_stays w next refl;
-      now = comes w now next refl;
-      old = c.accept_at.ensures.old w.was w.had ∙ stood w now c.args.item.now (ap is_eq (tied_itself items_total c.args.item.now));
+      next = side_stays w list_next refl;
+      now = comes w list_now list_next refl;
+      old = c.accept_at.ensures.old w.was w.had ∙ stood w list_now c.args.item.now (ap is_eq (tied_itself items_total c.args.item.now));
       drafts = drafts_left w refl;
       kept = drafts_kept w;
       ends = ends_stay w refl;

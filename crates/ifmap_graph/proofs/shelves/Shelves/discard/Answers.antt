@@ -1,6 +1,6 @@
 use Rattle.std.proofs.Common.{None, refl}
 use Rattle.slab.specs.Slab.{get}
-use Rattle.ifmap_graph.specs.Sides.{next, now}
+use Rattle.ifmap_graph.specs.Sides.{list_next, list_now}
 use Rattle.ifmap_graph.proofs.Staying.{ends_stay, waits_stay}
 use Rattle.ifmap_graph.proofs.Writes.{Write, comes, drafts_left, shelved, side_stays, slot_live, writing}
 use Rattle.ifmap_graph.proofs.shelves.Shelves.discard.Goals as goal
@@ -16,8 +16,8 @@ returns c =
     c.index-at.result.now c.index-at.ensures (λ s. record s { stored = record s.stored { draft = None } }) c.discard_at.ensures
     in record {
       shelved = shelved w;
-      now = side_stays w now refl;
-      next = comes w next now refl;
+      now = side_stays w list_now refl;
+      next = comes w list_next list_now refl;
       drafts = drafts_left w refl;
       ends = ends_stay w refl;
       waits = waits_stay w refl;

@@ -5,7 +5,7 @@ use Rattle.std.specs.Ordering.{is_eq}
 use Rattle.slab.specs.Slab.{get}
 use Rattle.ifmap_ident.specs.SameLaws.{items_total}
 use Rattle.ifmap_graph.specs.declared.shelves.Shelf.{Shelf}
-use Rattle.ifmap_graph.specs.Sides.{next, now}
+use Rattle.ifmap_graph.specs.Sides.{list_next, list_now}
 use Rattle.ifmap_graph.proofs.Staying.{bare_stays, ends_stay, waits_stay}
 use Rattle.ifmap_graph.proofs.Writes.{Write, shelved, shows, stood, writing}
 use Rattle.ifmap_graph.proofs.shelves.Shelves.exchange.Goals as goal
@@ -27,10 +27,10 @@ returns c =
     in let shelf : w.was ≡ c.requires.drafted.1 = same_Some _ _ (sym w.had ∙ ap (get w.slots) same ∙ c.requires.drafted.3)
     in record {
       shelved = shelved w;
-      now = shows w now c.args.list.now refl;
-      next = shows w next c.args.list.now
+      now = shows w list_now c.args.list.now refl;
+      next = shows w list_next c.args.list.now
           (ap (λ o. unwrap_or o c.args.list.now) (ap (λ (s : Shelf). s.stored.draft) shelf ∙ c.requires.drafted.4));
-      old = c.exchange_at.ensures.old w.was w.had ∙ stood w now c.args.item.now (ap is_eq (tied_itself items_total c.args.item.now));
+      old = c.exchange_at.ensures.old w.was w.had ∙ stood w list_now c.args.item.now (ap is_eq (tied_itself items_total c.args.item.now));
       bare = bare_stays w refl;
       ends = ends_stay w refl;
       waits = waits_stay w refl;

@@ -2,7 +2,7 @@ use Rattle.std.proofs.Common.{◌≡◌, IfOk, ap, sym, ◌∙◌, subst}
 use Rattle.slab.specs.Slab.{get}
 use Rattle.ifmap_plans.specs.Lists.{next_on}
 use Rattle.ifmap_graph.specs.Shelved.{list_at}
-use Rattle.ifmap_graph.specs.Sides.{now}
+use Rattle.ifmap_graph.specs.Sides.{list_now}
 use Rattle.ifmap_graph.proofs.Finding.{found}
 use Rattle.ifmap_graph.proofs.Again.{written_again}
 use Rattle.ifmap_graph.proofs.Writes.{slot_live}
@@ -21,8 +21,8 @@ returns-clause-next c =
     c.index-at.ensures)
     in subst (λ rows. IfOk c.make_next_at.result
     (λ list. list.value ≡ next_on c.args.change.now.removed c.args.change.now.added rows))
-    (sym (ap (list_at now) s.1)
-    ∙ found (λ at. list_at now (get c.args.self.now.slots at)) c.args.change.now.item c.args.self.now.places.entries
+    (sym (ap (list_at list_now) s.1)
+    ∙ found (λ at. list_at list_now (get c.args.self.now.slots at)) c.args.change.now.item c.args.self.now.places.entries
     c.index-at.result.now c.requires.shelved.rising c.index-at.ensures)
     (c.make_next_at.ensures.next s.0 s.1)
 

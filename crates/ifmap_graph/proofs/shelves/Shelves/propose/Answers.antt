@@ -1,6 +1,6 @@
 use Rattle.std.proofs.Common.{Some, refl}
 use Rattle.slab.specs.Slab.{get}
-use Rattle.ifmap_graph.specs.Sides.{next, now}
+use Rattle.ifmap_graph.specs.Sides.{list_next, list_now}
 use Rattle.ifmap_graph.proofs.Proposing.{draft_there, drafts_come, drafts_there}
 use Rattle.ifmap_graph.proofs.Staying.{ends_stay, waits_stay}
 use Rattle.ifmap_graph.proofs.Writes.{Write, shelved, shows, side_stays, slot_live, writing}
@@ -18,8 +18,8 @@ returns c =
     c.propose_at.ensures
     in record {
       shelved = shelved w;
-      now = side_stays w now refl;
-      next = shows w next c.args.list.value refl;
+      now = side_stays w list_now refl;
+      next = shows w list_next c.args.list.value refl;
       drafts = drafts_come w;
       kept = drafts_there w refl;
       drafted = draft_there w refl;

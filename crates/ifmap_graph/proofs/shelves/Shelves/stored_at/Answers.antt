@@ -1,7 +1,7 @@
 use Rattle.std.proofs.Common.{IsSome, ap, sym, ◌∙◌}
 use Rattle.slab.specs.Slab.{get}
 use Rattle.ifmap_graph.specs.Shelved.{list_at}
-use Rattle.ifmap_graph.specs.Sides.{now}
+use Rattle.ifmap_graph.specs.Sides.{list_now}
 use Rattle.ifmap_graph.proofs.Finding.{found, absent, live_at}
 use Rattle.ifmap_graph.proofs.shelves.Shelves.stored_at.Goals as goal
 
@@ -11,11 +11,11 @@ index-requires c = live_at (λ n. IsSome (get c.args.self.now.slots n)) _ c.args
 
 pub returns-in-Some : goal.returns-in-Some
 returns-in-Some c =
-    c.now.ensures ∙ ap (list_at now) (sym c.index.ensures)
-    ∙ found (λ at. list_at now (get c.args.self.now.slots at)) c.args.item.now c.args.self.now.places.entries c.in-Some.at.now
+    c.list_now.ensures ∙ ap (list_at list_now) (sym c.index.ensures)
+    ∙ found (λ at. list_at list_now (get c.args.self.now.slots at)) c.args.item.now c.args.self.now.places.entries c.in-Some.at.now
     c.requires.rising
     (sym c.in-Some.ensures.value)
 
 pub returns-in-None : goal.returns-in-None
-returns-in-None c = absent (λ at. list_at now (get c.args.self.now.slots at)) c.args.item.now c.args.self.now.places.entries
+returns-in-None c = absent (λ at. list_at list_now (get c.args.self.now.slots at)) c.args.item.now c.args.self.now.places.entries
     (sym c.in-None.ensures.value)

@@ -2,7 +2,7 @@ use Rattle.std.proofs.Common.{◌≡◌, ℕ, ◌-◌, ◌<◌, refl, ap, sym, �
 use Rattle.std.proofs.lemmas.Cmp.{tied_itself}
 use Rattle.std.specs.Ordering.{is_eq}
 use Rattle.slab.specs.Slab.{get}
-use Rattle.ifmap_graph.specs.Sides.{next, now}
+use Rattle.ifmap_graph.specs.Sides.{list_next, list_now}
 use Rattle.ifmap_graph.specs.Waits.{waits_at, waits_of, waits_there}
 use Rattle.ifmap_graph.proofs.Staying.{bare_stays, ends_stay}
 use Rattle.ifmap_graph.proofs.Writes.{Write, shelved, side_stays, slot_live, waits_had, waits_has, waits_others, writing}
@@ -31,8 +31,8 @@ returns c =
       waits = lowered (waits_at (get w.slots) w.es) (waits_at (get w.new) w.es) w.item w.was.waits w.later.waits (waits_had w) (waits_has w)
           (waits_others w) (subst (λ (n : ℕ). 0 < n) (waits_had w c.args.item.now tie) c.requires.waited) refl;
       bare = bare_stays w refl;
-      now = side_stays w now refl;
-      next = side_stays w next refl;
+      now = side_stays w list_now refl;
+      next = side_stays w list_next refl;
       ends = ends_stay w refl;
       places = refl;
     }

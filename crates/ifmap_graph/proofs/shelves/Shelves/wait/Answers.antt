@@ -1,7 +1,7 @@
 use Rattle.std.proofs.Common.{◌≡◌, ℕ, ◌+◌, ◌-◌, ◌<◌, refl, ap, ◌∙◌, subst}
 use Rattle.std.specs.Prelude.{◌^◌}
 use Rattle.slab.specs.Slab.{get}
-use Rattle.ifmap_graph.specs.Sides.{next, now}
+use Rattle.ifmap_graph.specs.Sides.{list_next, list_now}
 use Rattle.ifmap_graph.specs.Waits.{waits_at, waits_of, waits_there}
 use Rattle.ifmap_graph.proofs.Proposing.{drafts_from, drafts_to}
 use Rattle.ifmap_graph.proofs.Staying.{ends_stay}
@@ -29,8 +29,8 @@ returns c =
           (waits_others w) refl;
       drafts = drafts_from w refl;
       kept = drafts_to w refl;
-      now = side_stays w now refl;
-      next = side_stays w next refl;
+      now = side_stays w list_now refl;
+      next = side_stays w list_next refl;
       ends = ends_stay w refl;
       places = refl;
     }
