@@ -19,7 +19,7 @@ returns-clause-others c = λ x f.
     in (
       c.accept.ensures.kept x g,
       c.accept.ensures.now x
-      ∙ ap (λ b. stored_on x (cond b (rows_on_side list_next c.args.shelves.now) (rows_on_side list_now c.args.shelves.now)))
+          ∙ ap (λ b. stored_on x (cond b (rows_on_side list_next c.args.shelves.now) (rows_on_side list_now c.args.shelves.now)))
           g,
     )
 
