@@ -4,7 +4,7 @@ use Rattle.std.proofs.lemmas.Bool.{cases_Bool}
 use Rattle.std.specs.List.{AllByRecursion, IsDistinct, filter, cons_option}
 use Rattle.std.proofs.lemmas.Map.Keys.{IsDistinct-cons, IsDistinct-head, IsDistinct-tail}
 use Rattle.ifmap_view.specs.declared.views.LinkSeen.{LinkSeen}
-use Rattle.ifmap_graph.specs.Linked.{AreListed, ats, changed_links, coming_links, far_of, seen_at}
+use Rattle.ifmap_graph.specs.Linked.{AreListed, link_places, changed_links, coming_links, far_of, seen_at}
 use Rattle.ifmap_lemmas.specs.Having.{from_has, has_all}
 use Rattle.ifmap_lemmas.specs.Numbers.{equal_numbers}
 use Rattle.ifmap_graph.proofs.Rising.{to_distinct}
@@ -14,10 +14,10 @@ use Rattle.ifmap_graph.proofs.Links.{both_true}
 
 -- the place is not among those of the links
 abbrev Out : ℕ → List LinkSeen → Type 0
-Out k ls = AllByRecursion (λ y. nat_eq k y ≡ false) (ats ls)
+Out k ls = AllByRecursion (λ y. nat_eq k y ≡ false) (link_places ls)
 
 abbrev Once : List LinkSeen → Type 0
-Once ls = IsDistinct nat_eq (ats ls)
+Once ls = IsDistinct nat_eq (link_places ls)
 
 out_filter : (k : ℕ) (p : LinkSeen → Bool) (ls : List LinkSeen) → Out k ls → Out k (filter p ls)
 out_filter k p [] o = tt
@@ -29,10 +29,11 @@ out_filter k p (l ∷ ls) o = at (p l) (out_filter k p ls o.1)
 
 once_filter : (p : LinkSeen → Bool) (ls : List LinkSeen) → Once ls → Once (filter p ls)
 once_filter p [] d = to_distinct nat_eq [] tt
-once_filter p (l ∷ ls) d = at (p l) (once_filter p ls (IsDistinct-tail nat_eq l.at (ats ls) d))
+once_filter p (l ∷ ls) d = at (p l) (once_filter p ls (IsDistinct-tail nat_eq l.at (link_places ls) d))
   where
     at : (b : Bool) → Once (filter p ls) → Once (cond b (l ∷ filter p ls) (filter p ls))
-    at true rest = IsDistinct-cons nat_eq l.at (ats (filter p ls)) (out_filter l.at p ls (IsDistinct-head nat_eq l.at (ats ls) d)) rest
+    at true rest = IsDistinct-cons nat_eq l.at (link_places (filter p ls))
+        (out_filter l.at p ls (IsDistinct-head nat_eq l.at (link_places ls) d)) rest
     at false rest = rest
 
 out_append : (k : ℕ) (xs ys : List LinkSeen) → Out k xs → Out k ys → Out k (xs ++ ys)
@@ -42,8 +43,8 @@ out_append k (x ∷ xs) ys a b = (a.0, out_append k xs ys a.1 b)
 once_append : (xs ys : List LinkSeen) → Once xs → Once ys → AllByRecursion (λ l. Out l.at ys) xs → Once (xs ++ ys)
 once_append [] ys a b c = b
 once_append (x ∷ xs) ys a b c =
-    IsDistinct-cons nat_eq x.at (ats (xs ++ ys)) (out_append x.at xs ys (IsDistinct-head nat_eq x.at (ats xs) a) c.0)
-    (once_append xs ys (IsDistinct-tail nat_eq x.at (ats xs) a) b c.1)
+    IsDistinct-cons nat_eq x.at (link_places (xs ++ ys)) (out_append x.at xs ys (IsDistinct-head nat_eq x.at (link_places xs) a) c.0)
+    (once_append xs ys (IsDistinct-tail nat_eq x.at (link_places xs) a) b c.1)
 
 module _ (joins : ℕ → Option (ℕ × ℕ)) (before after : ℕ → Bool) (v : ℕ) where
   abbrev pick : ℕ → Option LinkSeen
@@ -77,7 +78,7 @@ module _ (joins : ℕ → Option (ℕ × ℕ)) (before after : ℕ → Bool) (v 
           (coming_links joins before after rest v))
       put false o a = a
       put true None a = a
-      put true (Some w) a = IsDistinct-cons nat_eq at (ats (coming_links joins before after rest v))
+      put true (Some w) a = IsDistinct-cons nat_eq at (link_places (coming_links joins before after rest v))
           (map_of_all (λ y. nat_eq at y ≡ false) (λ (l : LinkSeen). l.at) (coming_links joins before after rest v)
           (comers_out at rest (IsDistinct-head nat_eq at rest d))) a
 

@@ -10,7 +10,7 @@ use Rattle.ifmap_view.specs.declared.views.LinkSeen.{LinkSeen}
 use Rattle.ifmap_graph.specs.declared.shelves.Shelf.{Shelf}
 use Rattle.ifmap_graph.specs.Held.{IsInside, IsSide, links_at}
 use Rattle.ifmap_graph.specs.Joined.{joined_pair}
-use Rattle.ifmap_graph.specs.Linked.{ats}
+use Rattle.ifmap_graph.specs.Linked.{link_places}
 use Rattle.ifmap_graph.specs.Seen.{IsStill}
 use Rattle.ifmap_graph.specs.Shelved.{StoredSide}
 use Rattle.ifmap_graph.specs.Sides.{list_next, list_now}
@@ -54,7 +54,7 @@ module _ (names : Holdings Identifier) (none : (v : ℕ) → entry_at names v �
         only = λ v seen c. absurd (has_from [] seen (subst (λ l. Contains l seen) (empty v) c));
         each = λ v w at e f. absurd (elim e [ inl j ↦ unjoined at v w j | inr j ↦ unjoined at w v j ]);
       };
-      once = λ v. subst (λ l. IsDistinct nat_eq (ats l)) (sym (empty v)) (to_distinct nat_eq [] tt);
+      once = λ v. subst (λ l. IsDistinct nat_eq (link_places l)) (sym (empty v)) (to_distinct nat_eq [] tt);
     }
 
     pub no_inside : IsInside names look [] []

@@ -13,7 +13,7 @@ use Rattle.ifmap_view.specs.Attachments.{stored_order}
 use Rattle.ifmap_graph.specs.declared.shelves.Shelf.{Shelf}
 use Rattle.ifmap_graph.specs.Held.{IsSide}
 use Rattle.ifmap_graph.specs.Joined.{is_not_empty, joined_pair}
-use Rattle.ifmap_graph.specs.Linked.{AreListed, ats}
+use Rattle.ifmap_graph.specs.Linked.{AreListed, link_places}
 use Rattle.ifmap_graph.specs.Shelved.{StoredSide, list_at}
 use Rattle.ifmap_graph.proofs.Finding.{all_inserted, all_left}
 use Rattle.ifmap_graph.proofs.Rising.{to_distinct, to_sorted}
@@ -94,5 +94,5 @@ side_same side look es links others same is = record {
     only = λ v seen c. is.listed.only v seen (subst (λ l. Contains l seen) (same v) c);
     each = λ v w at e f. subst (λ l. Contains l (record { other = w; at = at })) (sym (same v)) (is.listed.each v w at e f);
   };
-  once = λ v. subst (λ l. IsDistinct nat_eq (ats l)) (sym (same v)) (is.once v);
+  once = λ v. subst (λ l. IsDistinct nat_eq (link_places l)) (sym (same v)) (is.once v);
 }

@@ -15,7 +15,7 @@ use Rattle.ifmap_graph.specs.declared.shelves.Shelves.{Shelves}
 use Rattle.ifmap_graph.specs.Drafted.{ends_at}
 use Rattle.ifmap_graph.specs.Held.{IsInside, IsSide, links_at}
 use Rattle.ifmap_graph.specs.Joined.{is_not_empty, joined_pair, two_of}
-use Rattle.ifmap_graph.specs.Linked.{ats}
+use Rattle.ifmap_graph.specs.Linked.{link_places}
 use Rattle.ifmap_graph.specs.Named.{AreEnds, AreNumbered, HasEnds}
 use Rattle.ifmap_graph.specs.Shelved.{AreShelved, IsPlaced, StoredSide, list_at, rows_on_side}
 use Rattle.ifmap_graph.specs.Sides.{Sides, list_next, list_now}
@@ -77,7 +77,7 @@ module _ (look later : ℕ → Option Shelf) (ends : (at : ℕ) → ends_of (lat
             (is.listed.each v w at (joins_alike (λ n. joined_pair (later n)) (λ n. joined_pair (look n)) at v w
             (sym (joined_by (later at) (look at) (ends at))) e) (sym (ap is_not_empty (lists at)) ∙ f));
       };
-      once = λ v. subst (λ l. IsDistinct nat_eq (ats l)) (sym (same v)) (is.once v);
+      once = λ v. subst (λ l. IsDistinct nat_eq (link_places l)) (sym (same v)) (is.once v);
     }
 
   pub placed_still : (es : Entries) → IsPlaced look es → IsPlaced later es

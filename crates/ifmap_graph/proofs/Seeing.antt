@@ -16,7 +16,7 @@ use Rattle.ifmap_graph.specs.declared.shelves.Shelf.{Shelf}
 use Rattle.ifmap_graph.specs.Back.{AreLinks, AreBothEnds}
 use Rattle.ifmap_graph.specs.Held.{Held, shown_shelves}
 use Rattle.ifmap_graph.specs.Joined.{is_not_empty, joined_pair, full_some, some_full}
-use Rattle.ifmap_graph.specs.Linked.{AreListed, ats}
+use Rattle.ifmap_graph.specs.Linked.{AreListed, link_places}
 use Rattle.ifmap_graph.specs.Shelved.{IsPlaced, list_at, rows_by}
 use Rattle.ifmap_graph.specs.Sides.{Sides, list_now}
 use Rattle.ifmap_graph.specs.Stays.{HasSameShelf, ends_in, ends_there_in}
@@ -66,7 +66,7 @@ module _ (look : ℕ → Option Shelf) (es : Entries) (names : Holdings Identifi
   on_slot x at e = found (λ n. list_at list_now (look n)) x es at placed.rising e ∙ same x
 
   pub links_by_items : AreListed (λ at. joined_pair (look at)) (λ at. is_not_empty (list_at list_now (look at))) links
-      → ((v : ℕ) → IsDistinct nat_eq (ats (links v))) → AreLinks rows links (seen_of look es names sides)
+      → ((v : ℕ) → IsDistinct nat_eq (link_places (links v))) → AreLinks rows links (seen_of look es names sides)
   links_by_items is once = record {
     only = λ v seen c.
         let p = is.only v seen c

@@ -17,7 +17,7 @@ use Rattle.ifmap_graph.specs.declared.shelves.Shelves.{Shelves}
 use Rattle.ifmap_graph.specs.Back.{AreLinks, IsUndoTo, stand_each}
 use Rattle.ifmap_graph.specs.Drafted.{AreBare, NoDraft, StayInPlace}
 use Rattle.ifmap_graph.specs.Held.{Held, IsInside, IsSide, links_at}
-use Rattle.ifmap_graph.specs.Linked.{ats}
+use Rattle.ifmap_graph.specs.Linked.{link_places}
 use Rattle.ifmap_graph.specs.Out.{items_changed}
 use Rattle.ifmap_graph.specs.Seen.{AreAwaited, IsStill, KeepsOwn, StaysLean, links_now, rows_now}
 use Rattle.ifmap_graph.specs.Shelved.{IsPlaced, list_at, slot_of_item, rows_by, rows_on_side}
@@ -49,7 +49,7 @@ links_alike : (rows : List Attachment) (links moved : ℕ → List LinkSeen) (h 
 links_alike rows links moved h f is = record {
   only = λ v seen c. is.only v seen (subst (λ l. Contains l seen) (f v) c);
   each = λ x v w at e two full. subst (λ l. Contains l (record { other = w; at = at })) (sym (f v)) (is.each x v w at e two full);
-  once = λ v. subst (λ l. IsDistinct nat_eq (ats l)) (sym (f v)) (is.once v);
+  once = λ v. subst (λ l. IsDistinct nat_eq (link_places l)) (sym (f v)) (is.once v);
 }
 
 module _ (names : Holdings Identifier) (look later : ℕ → Option Shelf) (es : Entries) (links moved : List (Sides LinkSeen))

@@ -27,7 +27,7 @@ use Rattle.ifmap_view.specs.declared.views.LinkSeen.{LinkSeen}
 use Rattle.ifmap_view.specs.Rows.{stored_on, stored_where, stored_between, stored_linked}
 use Rattle.ifmap_view.specs.Views.{IsLink, others}
 use Rattle.ifmap_graph.specs.Joined.{AreJoined, AreSingle, IsNumber, is_not_empty, full_some, some_full}
-use Rattle.ifmap_graph.specs.Linked.{AreListed, JoinsNumbers, ats}
+use Rattle.ifmap_graph.specs.Linked.{AreListed, JoinsNumbers, link_places}
 use Rattle.ifmap_graph.specs.Shelved.{ItemsRise, rows_by}
 use Rattle.ifmap_graph.proofs.Alike.{Alike, one_tied, order_alike, pair_less, pair_more, pair_tied, pairs_tie, same_pair, stored_alike}
 use Rattle.ifmap_graph.proofs.Following.{entry_hits, lookup_tied, looked_up, stands}
@@ -35,7 +35,7 @@ use Rattle.ifmap_graph.proofs.Finding.{absent, found}
 use Rattle.ifmap_ident.specs.SameLaws.{turned_order, BytesTellIdentifiers}
 use Rattle.ifmap_graph.proofs.Rising.{to_distinct}
 
-others_differ : (l : LinkSeen) (ls : List LinkSeen) → AllByRecursion (λ y. nat_eq l.at y ≡ false) (ats ls)
+others_differ : (l : LinkSeen) (ls : List LinkSeen) → AllByRecursion (λ y. nat_eq l.at y ≡ false) (link_places ls)
     → ((m : LinkSeen) → Has ls m → l.other ≡ m.other → l.at ≡ m.at) → AllByRecursion (λ y. nat_eq l.other y ≡ false) (others ls)
 others_differ l [] a f = tt
 others_differ l (m ∷ ms) a f = (
@@ -48,13 +48,14 @@ others_differ l (m ∷ ms) a f = (
   others_differ l ms a.1 (λ x h. f x (inr h)),
 )
 
-distinct_by : (ls : List LinkSeen) → IsDistinct nat_eq (ats ls) → ((l m : LinkSeen) → Has ls l → Has ls m → l.other ≡ m.other → l.at ≡ m.at)
+distinct_by : (ls : List LinkSeen) → IsDistinct nat_eq (link_places ls)
+    → ((l m : LinkSeen) → Has ls l → Has ls m → l.other ≡ m.other → l.at ≡ m.at)
     → IsDistinct nat_eq (others ls)
 distinct_by [] d f = to_distinct nat_eq [] tt
 distinct_by (l ∷ ls) d f =
     IsDistinct-cons nat_eq l.other (others ls)
-    (others_differ l ls (IsDistinct-head nat_eq l.at (ats ls) d) (λ m h. f l m (inl refl) (inr h)))
-    (distinct_by ls (IsDistinct-tail nat_eq l.at (ats ls) d) (λ x y h k. f x y (inr h) (inr k)))
+    (others_differ l ls (IsDistinct-head nat_eq l.at (link_places ls) d) (λ m h. f l m (inl refl) (inr h)))
+    (distinct_by ls (IsDistinct-tail nat_eq l.at (link_places ls) d) (λ x y h k. f x y (inr h) (inr k)))
 
 module _ (list_of : ℕ → List Stored) (entries : List (Item × ℕ)) (id_at : ℕ → Option Identifier) (joins : ℕ → Option (ℕ × ℕ))
     (links : ℕ → List LinkSeen)
@@ -207,6 +208,6 @@ module _ (list_of : ℕ → List Stored) (entries : List (Item × ℕ)) (id_at :
   one_slot at bt v w (inr j) (inr k) = straight at bt w v j k
 
   -- so no other end is named twice, where no slot is
-  pub apart : (v : ℕ) → IsDistinct nat_eq (ats (links v)) → IsDistinct nat_eq (others (links v))
+  pub apart : (v : ℕ) → IsDistinct nat_eq (link_places (links v)) → IsDistinct nat_eq (others (links v))
   apart v d = distinct_by (links v) d (λ l m h k e. one_slot l.at m.at v m.other
       (subst (λ w. JoinsNumbers joins l.at v w) e (listed.only v l (from_has _ _ h)).0) (listed.only v m (from_has _ _ k)).0)

@@ -13,7 +13,7 @@ use Rattle.ifmap_graph.specs.declared.changes.Undo.{Undo}
 use Rattle.ifmap_graph.specs.declared.ends.Ends.{Ends}
 use Rattle.ifmap_graph.specs.Held.{Held, links_at}
 use Rattle.ifmap_graph.specs.Joined.{two_of}
-use Rattle.ifmap_graph.specs.Linked.{ats}
+use Rattle.ifmap_graph.specs.Linked.{link_places}
 use Rattle.ifmap_graph.specs.Out.{items_changed}
 use Rattle.ifmap_graph.specs.Seen.{AreAwaited, rows_now}
 use Rattle.ifmap_graph.specs.Sides.{list_now}
@@ -37,7 +37,7 @@ pub record AreLinks (rows : List Attachment) (links : ℕ → List LinkSeen) (h 
       → (x : Item) × (place_in h x ≡ Some seen.at) × AreBothEnds (ends_in h x) v seen.other × (stored_on x rows ≢ [])
   pub each : (x : Item) (v w at : ℕ) → place_in h x ≡ Some at → AreBothEnds (ends_in h x) v w → stored_on x rows ≢ []
       → Contains (links v) (record { other = w; at = at })
-  pub once : (v : ℕ) → IsDistinct nat_eq (ats (links v))
+  pub once : (v : ℕ) → IsDistinct nat_eq (link_places (links v))
 
 -- taken back, the change leaves these attachments and links: its lists stand on its items and at its numbers, and all else is what is
 -- there; its items are waited for

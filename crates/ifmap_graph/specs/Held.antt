@@ -11,7 +11,7 @@ use Rattle.ifmap_plans.specs.Lists.{IsList}
 use Rattle.ifmap_view.specs.declared.views.LinkSeen.{LinkSeen}
 use Rattle.ifmap_graph.specs.declared.shelves.Shelf.{Shelf}
 use Rattle.ifmap_graph.specs.Joined.{is_not_empty, joined_pair}
-use Rattle.ifmap_graph.specs.Linked.{AreListed, ats}
+use Rattle.ifmap_graph.specs.Linked.{AreListed, link_places}
 use Rattle.ifmap_graph.specs.Named.{AreHeld, AreIdentifiers, AreNumbered, named_in}
 use Rattle.ifmap_graph.specs.Shelved.{IsPlaced, StoredSide, list_at}
 use Rattle.ifmap_graph.specs.Sides.{Sides, list_next, list_now, sides_code}
@@ -46,7 +46,7 @@ links_at side links v = side (slice_index_or links v (record { now = []; draft =
 pub record IsSide (side : StoredSide) (look : ℕ → Option Shelf) (entries : List (Item × ℕ)) (links : ℕ → List LinkSeen) : Type 0 where
   pub lists : AllByRecursion (λ e. IsList (list_at side (look e.1))) entries
   pub listed : AreListed (λ at. joined_pair (look at)) (λ at. is_not_empty (list_at side (look at))) links
-  pub once : (v : ℕ) → IsDistinct nat_eq (ats (links v))
+  pub once : (v : ℕ) → IsDistinct nat_eq (link_places (links v))
 
 -- what holds of a graph's parts: each item has a shelf of its own with the numbers of its identifiers, and each shelf is an item's; the
 -- numbers are a pool's, of identifiers that elements are, each held as often as entries name it, and as somebody holds it beside that; each

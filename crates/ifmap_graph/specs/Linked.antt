@@ -32,5 +32,5 @@ module _ (joins : ℕ → Option (ℕ × ℕ)) where
   changed_links before after touched links v = filter (λ l. after l.at) (links v) ++ coming_links before after touched v
 
 -- the places of links
-abbrev pub ats : List LinkSeen → List ℕ
-ats links = map (λ l. l.at) links
+abbrev pub link_places : List LinkSeen → List ℕ
+link_places links = map (λ l. l.at) links

@@ -308,6 +308,6 @@ pub(crate) fn drop_drafts(links: &mut Vec<Sided<LinkSeen>>, ways: &[Way<LinkSeen
     ensures bare { (v : ℕ) → (sides_at links.new.items v).draft ≡ None }
 {
     for way in ways {
-        drop_draft(links, way.at());
+        drop_draft(links, way.place());
     }
 }

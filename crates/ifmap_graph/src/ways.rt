@@ -36,7 +36,7 @@ impl<T> Way<T> {
         }
     }
 
-    pub fn at(&self) -> usize
+    pub fn place(&self) -> usize
         ensures { result ≡ self.now.0 }
     {
         self.at
@@ -67,7 +67,7 @@ fn accept_at<T: Drop>(lists: &mut Vec<Sided<T>>, ways: &mut Vec<Way<T>>, i: usiz
     ensures lists { AcceptsAt ways.old.items i lists.old.items lists.new.items }
     ensures ways { KeepsListAt lists.old.items i ways.old.items ways.new.items }
 {
-    let at = ways[i].at();
+    let at = ways[i].place();
     ways[i].accept(&mut lists[at]);
 }
 
@@ -88,7 +88,7 @@ fn restore_at<T>(lists: &mut Vec<Sided<T>>, ways: &mut Vec<Way<T>>, i: usize)
     ensures lists { RestoresAt ways.old.items i lists.old.items lists.new.items }
     ensures ways { KeepsListAt lists.old.items i ways.old.items ways.new.items }
 {
-    let at = ways[i].at();
+    let at = ways[i].place();
     ways[i].restore(&mut lists[at]);
 }
 

@@ -24,7 +24,8 @@ greatest_append [] ns = omega arith
 greatest_append (m ∷ ms) ns = let h = greatest_append ms ns in omega (arith, h)
 
 children_nesting_append : (cs ds : List Child) → children_nesting (cs ++ ds) ≡ max (children_nesting cs) (children_nesting ds)
-children_nesting_append cs ds = ap greatest_of (map-append child_nesting cs ds) ∙ greatest_append (map child_nesting cs) (map child_nesting ds)
+children_nesting_append cs ds =
+    ap greatest_of (map-append child_nesting cs ds) ∙ greatest_append (map child_nesting cs) (map child_nesting ds)
 
 nesting_is : (e : Element) → nesting e ≡ suc (children_nesting e.children)
 nesting_is e = at_element ℕ ℕ child_levels element_levels e

@@ -32,7 +32,7 @@ const RESULT_KINDS: [ResultKind; 9] = [
 
 impl ResultKind {
     // The local name of its element.
-    fn local(self) -> &'static str
+    fn local_name(self) -> &'static str
         ensures { result.now ≡ result_local self }
     {
         match self {
@@ -56,7 +56,7 @@ pub(crate) fn result_kind_of(name: &Name) -> Option<ResultKind>
     RESULT_KINDS
         .iter()
         .copied()
-        .find(|kind| name.is_bare(kind.local()))
+        .find(|kind| name.is_bare(kind.local_name()))
 }
 
 /// Which entries a poll is told.
@@ -85,7 +85,7 @@ const POLL_KINDS: [PollKind; 5] = [
 
 impl PollKind {
     // The local name of its element.
-    fn local(self) -> &'static str
+    fn local_name(self) -> &'static str
         ensures { result.now ≡ poll_local self }
     {
         match self {
@@ -113,5 +113,5 @@ pub(crate) fn poll_kind_of(name: &Name) -> Option<PollKind>
     POLL_KINDS
         .iter()
         .copied()
-        .find(|kind| name.is_bare(kind.local()))
+        .find(|kind| name.is_bare(kind.local_name()))
 }

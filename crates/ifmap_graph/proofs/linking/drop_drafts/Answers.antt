@@ -8,7 +8,7 @@ loop-way-init c = dropping c.args.links.now.items c.args.ways.now c.requires
 
 pub drop_draft-requires : goal.drop_draft-requires
 drop_draft-requires c =
-    subst (λ (n : ℕ). n < length c.loop-way.links.items) (sym c.at.ensures)
+    subst (λ (n : ℕ). n < length c.loop-way.links.items) (sym c.place.ensures)
     (drops_within c.args.links.now.items c.args.ways.now c.loop-way.links.items c.loop-way.way-index c.way-item.result c.requires
     c.loop-way.invariant
     c.loop-way-test.true c.way-item.is)
@@ -18,8 +18,8 @@ loop-way-preserved c =
     drops_on c.args.links.now.items c.args.ways.now c.loop-way.links.items c.drop_draft.new.links.items c.loop-way.way-index
     c.way-item.result
     c.loop-way.invariant c.loop-way-test.true c.way-item.is c.drop_draft.ensures.touched.kept
-    (λ v n. c.drop_draft.ensures.touched.others v (λ e. n (e ∙ c.at.ensures)))
-    (ap (λ (n : ℕ). (sides_at c.drop_draft.new.links.items n).draft) (sym c.at.ensures) ∙ c.drop_draft.ensures.gone)
+    (λ v n. c.drop_draft.ensures.touched.others v (λ e. n (e ∙ c.place.ensures)))
+    (ap (λ (n : ℕ). (sides_at c.drop_draft.new.links.items n).draft) (sym c.place.ensures) ∙ c.drop_draft.ensures.gone)
 
 pub returns-clause-bare : goal.returns-clause-bare
 returns-clause-bare c =
