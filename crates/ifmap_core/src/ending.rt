@@ -168,9 +168,7 @@ fn end_and_answer<L: Ledger>(
     ensures steps { IsEventWithin (state_when time.now parts.old) event.now steps.old steps.new }
 {
     parts.sessions.is_table();
-    let serials = parts
-        .sessions
-        .expired_sessions(alloc, time.moment, time.ttl)?;
+    let serials = parts.sessions.expired(alloc, time.moment, time.ttl)?;
     let who = Who::Sessions(serials.copy(alloc)?);
     let asking = Asking {
         client: &event.client,

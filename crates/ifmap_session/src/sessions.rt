@@ -274,12 +274,7 @@ impl Sessions {
 
     /// The serials of the sessions that are expired at that moment, in their order: whose last
     /// request lies at least `ttl` seconds before it. The one error is want of memory.
-    pub fn expired_sessions(
-        &self,
-        alloc: Global,
-        moment: Moment,
-        ttl: u32,
-    ) -> Result<Many<u64>, NoMemory>
+    pub fn expired(&self, alloc: Global, moment: Moment, ttl: u32) -> Result<Many<u64>, NoMemory>
         ensures { IfOk result (λ serials. serials ≡ expired_serials moment ttl self.now.live) }
     {
         match moment.seconds().checked_sub(ttl as u64) {

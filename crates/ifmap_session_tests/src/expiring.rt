@@ -28,7 +28,7 @@ fn renews(alloc: Global, sessions: &mut Sessions, name: &str, after: u32) -> boo
 }
 
 fn are_expired(alloc: Global, sessions: &Sessions, moment: Moment, serials: &[u64]) -> bool {
-    match sessions.expired_sessions(alloc, moment, TTL) {
+    match sessions.expired(alloc, moment, TTL) {
         Ok(expired) => expired.as_slice() == serials,
         Err(_) => false,
     }

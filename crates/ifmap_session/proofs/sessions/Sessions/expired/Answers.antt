@@ -4,7 +4,7 @@ use Rattle.std.proofs.lemmas.Result.{IfOk-weaker}
 use Rattle.ifmap_session.specs.Rows.{due_rows, live_of}
 use Rattle.ifmap_session.specs.Sessions.{expired_serials}
 use Rattle.ifmap_session.proofs.StampLaws.{due_is, none_due_yet}
-use Rattle.ifmap_session.proofs.sessions.Sessions.expired_sessions.Goals as goal
+use Rattle.ifmap_session.proofs.sessions.Sessions.expired.Goals as goal
 
 pub returns-in-Some : goal.returns-in-Some
 returns-in-Some c =
