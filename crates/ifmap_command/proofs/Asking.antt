@@ -5,10 +5,11 @@ use Rattle.std.proofs.lemmas.Bool.{true≢false}
 use Rattle.std.proofs.lemmas.Bool.Decides.{nat_tests}
 use Rattle.std.specs.List.{list_any}
 use Rattle.std.specs.Fmt.{decimal}
+use Rattle.ifmap_io.specs.Limits.{most_events, most_workers}
 use Rattle.ifmap_words.specs.Options.{is_option}
 use Rattle.ifmap_command.specs.declared.forms.Form.TheVariants as form
 use Rattle.ifmap_command.specs.Laws.{OneForm}
-use Rattle.ifmap_command.specs.Words.{IsDrill, IsReplay, IsServe, IsWrong, most_events, most_workers}
+use Rattle.ifmap_command.specs.Words.{IsDrill, IsReplay, IsServe, IsWrong}
 
 -- the first letter, the second word and the third
 abbrev letter : List (List ℕ) → ℕ

@@ -1,17 +1,10 @@
 -- The words of the program.
 use Rattle.std.specs.Prelude.{◌≡◌, ◌<◌, ◌≤◌, ◌^◌, ℕ, false, List, [], ◌∷◌, codes, length}
 use Rattle.std.specs.Fmt.{decimal}
+use Rattle.ifmap_io.specs.Limits.{most_events, most_workers}
 use Rattle.ifmap_words.specs.Options.{is_option}
 use Rattle.ifmap_command.specs.declared.forms.Form.{Form}
 use Rattle.ifmap_command.specs.declared.forms.Form.TheVariants as form
-
--- the most events of a drill
-abbrev pub most_events : ℕ
-most_events = 100_000
-
--- the most workers of a server
-abbrev pub most_workers : ℕ
-most_workers = 256
 
 -- `replay`
 abbrev pub IsReplay : List (List ℕ) → Type 0

@@ -1,6 +1,8 @@
 -- What each case of the step is, by whose session a request names.
--- First the parts of `LeadsToAnswer` that are the same for all that holds no subscription (`leads_plain`). Then a request in the client's own
--- session, request by request (`module _ .. (o : IsOwner .. (Own serial))`). Then in another's and in nobody's. Last, what is accepted.
+-- 1. The parts of `LeadsToAnswer` that are the same for all that holds no subscription (`leads_plain`).
+-- 2. A request in the client's own session, request by request (`module _ .. (o : IsOwner .. (Own serial))`).
+-- 3. A request in another's session, and in nobody's.
+-- 4. What is accepted.
 use Rattle.std.proofs.Common.{◌≡◌, refl, sym, ◌∙◌, ap, subst, ℕ, ◌<◌, ◌≤◌, Bool, true, false, List, [], ◌∷◌, ◌++◌, Option, Result, Ok, Err, append-nil, inl, inr, arith}
 use Rattle.std.proofs.lemmas.Bool.{cases_Bool}
 use Rattle.std.proofs.lemmas.Bool.Decides.{nat_tests}

@@ -1,10 +1,6 @@
 -- How much a drill makes.
 use Rattle.std.specs.Prelude.{ℕ}
 
--- the most events of a drill
-abbrev pub most_events : ℕ
-most_events = 100_000
-
 -- how many clients there are; each has one event in a block
 abbrev pub client_count : ℕ
 client_count = 10

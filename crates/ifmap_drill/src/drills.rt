@@ -3,7 +3,7 @@ ghost use Rattle.std.specs.Prelude.{◌≡◌, ◌<◌, OnOk};
 ghost use Rattle.std.specs.List.{AllByRecursion};
 ghost use Rattle.ifmap_elem.specs.Chars.{IsCharacters};
 ghost use Rattle.ifmap_drill.specs.Drills.{Drilling, after_answer, after_event, drill_beginning, id_given, ids_after};
-ghost use Rattle.ifmap_drill.specs.Extent.{most_events};
+ghost use Rattle.ifmap_io.specs.Limits.{most_events};
 ghost use Rattle.ifmap_drill.specs.Following.{drill_of};
 ghost use Rattle.ifmap_drill.specs.Summaries.{summary_of};
 

@@ -6,7 +6,8 @@ ghost use Rattle.ifmap_requests.specs.Fit.{IsFitRequest};
 ghost use Rattle.ifmap_writing.specs.Bounds.{IsBounded};
 ghost use Rattle.ifmap_writing.specs.RequestElements.{request_bytes};
 ghost use Rattle.ifmap_drill.specs.Events.{client_name, event_at};
-ghost use Rattle.ifmap_drill.specs.Extent.{client_count, most_events};
+ghost use Rattle.ifmap_drill.specs.Extent.{client_count};
+ghost use Rattle.ifmap_io.specs.Limits.{most_events};
 ghost use Rattle.ifmap_drill.specs.Requests.{request_at, session_of};
 
 use crate::bodies::{Received, send_through};

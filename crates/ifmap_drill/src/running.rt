@@ -2,7 +2,7 @@
 ghost use Rattle.std.specs.Prelude.{◌≡◌, ◌<◌, ◌≤◌, IfOk};
 ghost use Rattle.ifmap_drill.specs.Drilled.{Drills, IsEnded, side};
 ghost use Rattle.ifmap_drill.specs.Drills.{drilling_after};
-ghost use Rattle.ifmap_drill.specs.Extent.{most_events};
+ghost use Rattle.ifmap_io.specs.Limits.{most_events};
 ghost use Rattle.ifmap_drill.specs.Summaries.{summary_of};
 
 use crate::counts::Counts;

@@ -1,6 +1,6 @@
 -- Readers that go from child to child and gather what each of them is.
--- 1. What is found of the rest of a list is, after what was made, what is found of the whole (`IsRestAfter`): how this starts, goes further,
---    stops and ends.
+-- 1. What is found of the rest of a list is, after what was made, what is found of the whole (`IsRestAfter`): how this starts, goes
+--    further, stops and ends.
 -- 2. One child among elements, and one among identifiers: where it is found to be this, what is found of the others comes after it; where
 --    it has a defect, that is the defect of all.
 -- 3. The same of a child as the code has it, and the turns of a loop along children.

@@ -2,6 +2,7 @@ pub mod Adapters
 pub mod Calendar
 pub mod Causes
 pub mod Doors
+pub mod Limits
 pub mod Links
 pub mod Memory
 pub mod Statuses

@@ -1,6 +1,6 @@
 //! The call that the program makes.
 ghost use Rattle.std.specs.Prelude.{◌≡◌, ◌≤◌, ℕ, List, Option, length, map, string_bytes};
-ghost use Rattle.ifmap_command.specs.Words.{most_workers};
+ghost use Rattle.ifmap_io.specs.Limits.{most_workers};
 ghost use Rattle.ifmap_program.specs.Runs.{Runs, ServesAs, outside_seen};
 ghost use Rattle.ifmap_server.specs.Ends.{source_and_sink};
 ghost use Rattle.ifmap_serving.specs.Works.{door_seen};

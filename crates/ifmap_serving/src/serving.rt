@@ -2,6 +2,7 @@
 ghost use Rattle.std.specs.Prelude.{◌≡◌, ◌≢◌, ◌≤◌, ◌<◌, ◌==◌, ℕ, IfOk, OnOk, OnErr, length, slice_index_or};
 ghost use Rattle.std.specs.List.{list_any};
 ghost use Rattle.ifmap_hall.specs.Passes.{IsOf, view_of};
+ghost use Rattle.ifmap_io.specs.Limits.{most_workers};
 ghost use Rattle.ifmap_io.specs.Statuses.{link_fault_status, no_memory_status};
 ghost use Rattle.ifmap_serving.specs.declared.stands.Stand.{Stand};
 ghost use Rattle.ifmap_serving.specs.Stands.{AreReady, AreServed, AreUnserved, HasUnusedPass, OpensServer};
@@ -50,7 +51,7 @@ pub fn serve<R: Threads + Wait + Sync, D: Door + Send, C: Clock + Sync, G: Gate 
     clock: &C,
 ) -> u8
     requires some { 1 ≤ length stands.old }
-    requires few { length stands.old ≤ 256 }
+    requires few { length stands.old ≤ most_workers }
     ensures unserved { result ≡ no_memory_status → AreUnserved stands.old stands.new }
     ensures served { result ≢ no_memory_status
         → AreServed (C.gives clock.now) (door_seen D.links D.faults) key stands.old stands.new }
@@ -88,7 +89,7 @@ fn hand_out<D, G>(
 ) -> Result<(), NoMemory>
     requires hall { IsOf hall.now pass.old }
     requires view { OpensServer (view_of pass.old) }
-    requires few { length stands.old ≤ 256 }
+    requires few { length stands.old ≤ most_workers }
     ensures ok { OnOk result (AreReady hall.now stands.old stands.new) }
     ensures err { OnErr result (AreUnserved stands.old stands.new) }
 {
