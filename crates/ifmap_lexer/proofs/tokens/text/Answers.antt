@@ -31,5 +31,5 @@ pub returns-clause-found : goal.returns-clause-found
 returns-clause-found c =
     text_found c.args.bytes.now c.split_byte.result.0.now c.split_byte.result.1.now c.split_byte.ensures
     (is_some_list c.split_byte.result.0.now (sym c.is_empty.ensures ∙ c.if-is_empty.false))
-    c.if-has_section_end.ensures.no c.in-Some.ensures.found.1 c.is_blank.result c.is_blank.ensures c.in_ok-meant.meant
+    c.if-has_section_end.ensures.no c.in-Some.ensures.found.1 c.is_white_alone.result c.is_white_alone.ensures c.in_ok-meant.meant
     (subst (λ (x : List ℕ). IsText x c.in_ok-meant.meant) c.in-Some.ensures.found.0 c.in_ok-meant.ensures.found)
