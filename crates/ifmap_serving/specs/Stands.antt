@@ -2,7 +2,7 @@
 use Rattle.std.specs.Prelude.{◌≡◌, ℕ, ◌-◌, ◌^◌, ◌<◌, ◌==◌, List, [], Some, IfSome, IsSome, count_by, flat_map, length, map, slice_index_or, if◌then◌else◌}
 use Rattle.std.specs.List.{list_any}
 use Rattle.rand_chacha.specs.ChaCha.{ChaCha, of_seed}
-use Rattle.ifmap_desks.specs.ifmap_dialogue.Desks.{is_spent}
+use Rattle.ifmap_desks.specs.ifmap_dialogue.Desks.{greatest_weight, is_spent}
 use Rattle.ifmap_desks.specs.Calls.{plain_call}
 use Rattle.ifmap_desks.specs.Recalls.{Recalls}
 use Rattle.ifmap_desks.specs.declared.events.FitEvent.{FitEvent}
@@ -22,12 +22,16 @@ use Rattle.ifmap_serving.specs.Works.{DoorSeen, IsWorkStatus, Works}
 abbrev pub ServerHall : Type 0
 ServerHall = Hall CoreMachine FitEvent Answer
 
+-- what the entries that the server keeps beside its base may weigh at most, in bytes
+abbrev pub most_kept : ℕ
+most_kept = 500_000_000
+
 -- a pass of a hall of these limits that began with an empty core. Its base is the run of some entries from there, since the entries that
 -- it has seen are all since the opening state, and as many of them are in the base
 pub record IsServerView (v : HallView CoreMachine FitEvent Answer) : Type 0 where
   pub opening : v.terms.opening.value ≡ record { core = opening_state session_seconds }
-  pub limit : v.terms.limit ≡ 500_000_000
-  pub heaviest : v.terms.heaviest ≡ 80_001_000
+  pub limit : v.terms.limit ≡ most_kept
+  pub heaviest : v.terms.heaviest ≡ greatest_weight
   pub sound : IsSoundView v
 
 -- the same of a pass that has asked nothing

@@ -26,7 +26,7 @@ use std::thread::Threads;
 pub const MOST_KEPT: u64 = 500_000_000;
 
 /// What one event may weigh at most, in bytes.
-pub const HEAVIEST: u64 = 80_001_000;
+pub const GREATEST_WEIGHT: u64 = 80_001_000;
 
 // What all workers have in common.
 #[derive(Drop)]
@@ -78,7 +78,7 @@ fn begin_hall(alloc: Global) -> Result<(Hall<CoreMachine>, Pass<CoreMachine>), N
     let base = CoreMachine {
         core: Core::new(alloc, SESSION_SECONDS),
     };
-    Hall::begin(alloc, machine, base, MOST_KEPT, HEAVIEST)
+    Hall::begin(alloc, machine, base, MOST_KEPT, GREATEST_WEIGHT)
 }
 
 // Gives each stand its place and a pass.
