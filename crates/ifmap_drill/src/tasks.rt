@@ -2,7 +2,7 @@
 ghost use Rattle.std.specs.Prelude.{◌≡◌};
 ghost use Rattle.ifmap_drill.specs.Tasks.{block_task, task_at};
 
-/// How many clients there are, each of which has one event in a block.
+// How many clients there are, each of which has one event in a block.
 pub(crate) const CLIENT_COUNT: u32 = 10;
 
 // The first events: a session and a subscription of each client.

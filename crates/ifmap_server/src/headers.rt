@@ -14,7 +14,7 @@ use ifmap_elem::Text;
 use ifmap_io::Moment;
 use ifmap_meta::ClientName;
 use ifmap_words::number_of;
-use std::alloc::{AllocError, Global};
+use std::alloc::{AllocError as NoMemory, Global};
 use uuid::Uuid;
 
 /// The most bytes that the body of a frame has.
@@ -33,7 +33,7 @@ pub struct Header {
 }
 
 /// The header that a line without its newline is; `None` where it is none.
-pub fn header_of(alloc: Global, line: &[u8]) -> Result<Option<Header>, AllocError>
+pub fn header_of(alloc: Global, line: &[u8]) -> Result<Option<Header>, NoMemory>
     ensures found { IfOk result (λ found. IfSome found (λ header. IsHeader line.now header)) }
     ensures none { IfOk result (λ found. IfNone found ((header : Header) → IsHeader line.now header
         → ⊥)) }
