@@ -1,10 +1,12 @@
 //! Texts, names, attributes and elements made from words.
 ghost use Rattle.std.specs.Prelude.{◌≡◌, IfOk};
+ghost use Rattle.ifmap_lemmas.specs.Numerals.{numeral};
 ghost use Rattle.ifmap_elem.specs.Building.{bare_attribute, bare_element, bare_name, is_bare};
 
 use crate::elements::{Attribute, Child, Element, Name};
 use crate::lists::Many;
 use crate::texts::Text;
+use itoa::Buffer;
 use std::alloc::{AllocError as NoMemory, Global};
 
 impl Text {
@@ -13,6 +15,14 @@ impl Text {
         ensures { IfOk result (λ text. text ≡ words.now) }
     {
         Ok(Text(String::from_str(alloc, words)?))
+    }
+
+    /// The number in decimal digits. The one error is want of memory.
+    pub fn from_number(alloc: Global, number: u64) -> Result<Text, NoMemory>
+        ensures { IfOk result (λ text. text ≡ numeral number) }
+    {
+        let mut digits = Buffer::new();
+        Text::from_str(alloc, digits.format(number))
     }
 }
 

@@ -1,7 +1,6 @@
 //! Results, as outlines of their elements.
 ghost use Rattle.std.specs.Prelude.{◌≡◌, ◌∷◌, [], codes, map, IfOk};
 ghost use Rattle.std.specs.Option.{option_copied};
-ghost use Rattle.ifmap_lemmas.specs.Numerals.{numeral};
 ghost use Rattle.ifmap_replies.specs.Results.{error_element, name_attribute, name_attributes, new_session_element, plain_element, poll_element, result_element, text_children, told_element};
 ghost use Rattle.ifmap_elem.specs.Building.{bare_attribute, as_children};
 ghost use Rattle.ifmap_elem.specs.Outlines.{outline_child, outline_element};
@@ -12,7 +11,6 @@ use crate::runs::entry_pieces;
 use ifmap_elem::{Outline, OutlineAttribute, Piece, Text};
 use ifmap_ident::Code;
 use ifmap_search::{Entry, PollItem};
-use itoa::Buffer;
 use std::alloc::{AllocError as NoMemory, Global};
 
 // The result that a reply is.
@@ -67,17 +65,10 @@ fn new_session_result<'a>(
 {
     let attributes = vec![in alloc;
         OutlineAttribute::from_str("ifmap-publisher-id", publisher.as_str()),
-        OutlineAttribute::from_text("max-poll-result-size", decimal_text(alloc, limit)?),
+        OutlineAttribute::from_text("max-poll-result-size", Text::from_number(alloc, u64::from(limit))?),
         OutlineAttribute::from_str("session-id", session.as_str()),
     ]?;
     Ok(Outline::with_local("newSessionResult", attributes, Vec::new(alloc)))
-}
-
-fn decimal_text(alloc: Global, number: u32) -> Result<Text, NoMemory>
-    ensures { IfOk result (λ text. text ≡ numeral number) }
-{
-    let mut digits = Buffer::new();
-    Text::from_str(alloc, digits.format(number))
 }
 
 // What a poll is told, as pieces.

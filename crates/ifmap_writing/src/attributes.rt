@@ -1,6 +1,5 @@
 //! The attributes of requests, each put after the others.
 ghost use Rattle.std.specs.Prelude.{◌≡◌, ◌++◌, ◌∷◌, Some, codes, IfOk, OnOk};
-ghost use Rattle.ifmap_lemmas.specs.Numerals.{numeral};
 ghost use Rattle.ifmap_filter.specs.Printing.{joined_texts};
 ghost use Rattle.ifmap_ident.specs.Kinds.{kind_name};
 ghost use Rattle.ifmap_writing.specs.Attributes.{attributes_of, bounds_rows, filter_rows, filter_value, kinds_value, lifetime_rows, limit_rows, name_rows, number_value, purge_rows, search_rows, session_rows, subscription_rows, written_attribute};
@@ -10,7 +9,6 @@ use ifmap_elem::{Attribute, Copied, Many, Text};
 use ifmap_filter::Filter;
 use ifmap_ident::Kind;
 use ifmap_search::Search;
-use itoa::Buffer;
 use std::alloc::{AllocError as NoMemory, Global};
 
 // The attribute of a session's id, alone.
@@ -176,14 +174,7 @@ fn push_number(
     ensures { OnOk result (attributes.new.items
         ≡ attributes.old.items ++ written_attribute local.now (number_value number)) }
 {
-    push_attribute(alloc, local, decimal_text(alloc, number)?, attributes)
-}
-
-fn decimal_text(alloc: Global, number: u64) -> Result<Text, NoMemory>
-    ensures { IfOk result (λ text. text ≡ numeral number) }
-{
-    let mut digits = Buffer::new();
-    Text::from_str(alloc, digits.format(number))
+    push_attribute(alloc, local, Text::from_number(alloc, number)?, attributes)
 }
 
 // Nothing where there is no filter.

@@ -1,7 +1,7 @@
 use Rattle.std.proofs.Common.{◌∙◌, sym}
 use Rattle.std.proofs.lemmas.Result.{IfOk-weaker}
 use Rattle.ifmap_lemmas.specs.Numerals.{numeral_is_decimal}
-use Rattle.ifmap_writing.proofs.attributes.decimal_text.Goals as goal
+use Rattle.ifmap_elem.proofs.texts.Text.from_number.Goals as goal
 
 pub returns : goal.returns
 returns c =
