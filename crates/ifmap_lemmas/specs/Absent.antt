@@ -14,7 +14,11 @@ pub none_where_no_value : {X : Type 0} (o : Option X) → ((x : X) → o ≡ Som
 none_where_no_value None h = refl
 none_where_no_value (Some x) h = absurd (h x refl)
 
--- what follows from a clause on none
+-- what follows from a clause on a value, and on none
+pub if_some_weaker : {X : Type 0} (o : Option X) (P Q : X → Type 0) → ((x : X) → P x → Q x) → IfSome o P → IfSome o Q
+if_some_weaker None P Q f h = tt
+if_some_weaker (Some x) P Q f h = f x h
+
 pub if_none_weaker : {X : Type 0} (o : Option X) (P Q : Type 0) → (P → Q) → IfNone o P → IfNone o Q
 if_none_weaker None P Q f h = f h
 if_none_weaker (Some x) P Q f h = tt

@@ -3,6 +3,7 @@ use Rattle.std.proofs.Common.{◌≡◌, ◌≢◌, ℕ, zero, suc, ◌+◌, ◌
 use Rattle.std.proofs.Common.{refl, ap, sym, ◌∙◌, subst, arith, append_assoc, length-append, length-drop}
 use Rattle.std.proofs.lemmas.List.{append-nil, drop_at, drop_more, map-append, reverse-append, take-append-drop, take-append-le, take_all, take_at, take-take}
 use Rattle.std.specs.List.{AllByRecursion, slice_get}
+use Rattle.std.specs.Prelude.{Result, Ok, Err, OnOk, is_ok, if◌then◌else◌}
 use Rattle.ifmap_lemmas.specs.Members.{both_all}
 
 -- ---- joined
@@ -111,3 +112,22 @@ slice_get_take (suc k) (suc n) (x ∷ xs) h = slice_get_take k n xs (omega (arit
 -- after a pop that finds nothing there was nothing
 pub none_to_pop : {X : Type 0} (old new : List X) (n : ℕ) → old ≡ new ++ [] → new ≡ take (n - 1) old → n ≡ 0 → old ≡ []
 none_to_pop old new n is rest empty = is ∙ append-nil new ∙ rest ∙ ap (λ (m : ℕ). take (m - 1) old) empty
+
+-- ---- a list that grows until it is whole
+
+pub joined_more : {X : Type 0} (start old first rest later a d : List X) → old ++ rest ≡ start → first ≡ old ++ a → later ≡ first ++ d
+    → (beyond : List X) → rest ≡ a ++ (d ++ beyond) → later ++ beyond ≡ start
+joined_more start old first rest later a d inv p q beyond r =
+    ap (λ x. x ++ beyond) (q ∙ ap (λ x. x ++ d) p) ∙ append_assoc (old ++ a) d beyond ∙ append_assoc old a (d ++ beyond)
+    ∙ ap (λ x. old ++ x) (sym r) ∙ inv
+
+-- what a call wrote where it succeeded is the rest
+pub whole_if_ok : {T E X : Type 0} (r : Result T E) (start old rest later a : List X) → old ++ rest ≡ start
+    → later ≡ (if is_ok r then old ++ a else old) → rest ≡ a → OnOk r (later ≡ start)
+whole_if_ok (Ok x) start old rest later a inv p e = p ∙ ap (λ x. old ++ x) (sym e) ∙ inv
+whole_if_ok (Err x) start old rest later a inv p e = tt
+
+pub whole_on_ok : {T E X : Type 0} (r : Result T E) (start old rest later a : List X) → old ++ rest ≡ start → OnOk r (later ≡ old ++ a)
+    → rest ≡ a → OnOk r (later ≡ start)
+whole_on_ok (Ok x) start old rest later a inv p e = p ∙ ap (λ x. old ++ x) (sym e) ∙ inv
+whole_on_ok (Err x) start old rest later a inv p e = tt
