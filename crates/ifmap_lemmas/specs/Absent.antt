@@ -3,7 +3,7 @@ use Rattle.std.specs.Prelude.{◌≡◌, Bool, true, false, Option, Some, None, 
 use Rattle.std.proofs.Common.{Bor, sym, ◌∙◌, subst}
 use Rattle.std.specs.Bool.{OnFalse, OnTrue}
 use Rattle.std.specs.Option.{option_copied}
-use Rattle.std.proofs.lemmas.Option.{same_Some}
+use Rattle.std.proofs.lemmas.Option.{none-some, same_Some}
 
 -- one that has no value is none
 pub none_where_not_some : {X : Type 0} (o : Option X) → is_some o ≡ false → o ≡ None
@@ -27,6 +27,10 @@ if_none_weaker (Some x) P Q f h = tt
 pub if_some_any : {X : Type 0} (o : Option X) (P : X → Type 0) → ((x : X) → P x) → IfSome o P
 if_some_any None P f = tt
 if_some_any (Some x) P f = f x
+
+-- an option is not both none and a value
+pub none_and_some : {X : Type 0} (o : Option X) (x : X) → o ≡ None → o ≡ Some x → ⊥
+none_and_some o x none some = none-some x (sym none ∙ some)
 
 -- two values of one option are one
 pub one_of : {X : Type 0} (o : Option X) (x y : X) → o ≡ Some x → o ≡ Some y → x ≡ y

@@ -1,10 +1,11 @@
 -- Lists that are joined, turned round or cut in two, and their first and last members.
-use Rattle.std.proofs.Common.{◌≡◌, ◌≢◌, ℕ, zero, suc, ◌+◌, ◌-◌, ◌<◌, ◌≤◌, List, [], ◌∷◌, ◌++◌, length, map, reverse, take, drop, take-add, get_or, min}
+use Rattle.std.proofs.Common.{◌≡◌, ◌≢◌, ℕ, zero, suc, ◌+◌, ◌-◌, ◌<◌, ◌≤◌, true, false, List, [], ◌∷◌, ◌++◌, length, map, reverse, take, drop, take-add, get_or}
 use Rattle.std.proofs.Common.{refl, ap, sym, ◌∙◌, subst, arith, append_assoc, length-append, length-drop}
-use Rattle.std.proofs.lemmas.List.{append-nil, drop_at, drop_more, map-append, reverse-append, take-append-drop, take-append-le, take_all, take_at, take-take}
+use Rattle.std.proofs.lemmas.List.{append-nil, drop_at, drop_more, map-append, reverse-append, take-append-drop, take_all, take_at, take_more, take-take}
 use Rattle.std.specs.List.{AllByRecursion, slice_get}
-use Rattle.std.specs.Prelude.{Result, Ok, Err, OnOk, is_ok, if◌then◌else◌}
+use Rattle.std.specs.Prelude.{Result, Ok, Err, OnOk, is_ok, if◌then◌else◌, nat_eq}
 use Rattle.ifmap_lemmas.specs.Members.{both_all}
+use Rattle.ifmap_lemmas.specs.Numbers.{equal_numbers}
 
 -- ---- joined
 
@@ -31,6 +32,15 @@ pub none_at_end : {X : Type 0} (xs ys : List X) → xs ++ ys ≡ [] → ys ≡ [
 none_at_end [] ys e = e
 none_at_end (x ∷ xs) ys e = cc
 
+-- a test of the length tells whether there are members
+pub none_by_length : {X : Type 0} (xs : List X) → nat_eq (length xs) 0 ≡ true → xs ≡ []
+none_by_length [] h = refl
+none_by_length (x ∷ xs) h = absurd (omega (arith, equal_numbers (length (x ∷ xs)) 0 h))
+
+pub some_by_length : {X : Type 0} (xs : List X) → nat_eq (length xs) 0 ≡ false → xs ≢ []
+some_by_length [] h e = let wrong : true ≡ false = h in cc
+some_by_length (x ∷ xs) h e = cc
+
 pub all_middle : {X : Type 0} (P : X → Type 0) (xs : List X) (x : X) (ys : List X) → AllByRecursion P (xs ++ x ∷ ys) → P x
 all_middle P [] x ys h = h.0
 all_middle P (z ∷ zs) x ys h = all_middle P zs x ys h.1
@@ -50,6 +60,14 @@ pub all_reversed : {X : Type 0} (P : X → Type 0) (xs : List X) → AllByRecurs
 all_reversed P [] f = tt
 all_reversed P (x ∷ xs) f =
     subst (AllByRecursion P) (sym (reverse-append (x ∷ []) xs)) (both_all P (reverse xs) (x ∷ []) (all_reversed P xs f.1) (f.0, tt))
+
+pub reversed_at_last : {X : Type 0} (xs : List X) (d : X) → 0 < length xs
+    → reverse xs ≡ get_or xs (length xs - 1) d ∷ reverse (take (length xs - 1) xs)
+reversed_at_last xs d some =
+    let n = length xs - 1 in
+    let below : n < length xs = omega arith in
+    let whole : take (n + 1) xs ≡ xs = take_all (n + 1) xs (omega arith) in
+    ap reverse (sym whole ∙ take_more xs n d below) ∙ reverse-append (take n xs) (get_or xs n d ∷ [])
 
 -- ---- cut
 
