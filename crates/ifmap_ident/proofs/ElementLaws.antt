@@ -45,6 +45,7 @@ use Rattle.ifmap_ident.proofs.PrintedLaws.{arranged_outer, inner, outer}
 use Rattle.ifmap_ident.proofs.ValueLaws.{address_characters, definition_characters, domain_characters, kept_characters, value_characters}
 use Rattle.ifmap_lemmas.specs.Members.{all_both, all_of_test, both_all}
 use Rattle.ifmap_lemmas.specs.Texts.{ascii_encoded, eq_itself, is_ascii}
+use Rattle.ifmap_lemmas.specs.Apart.{told_apart}
 use Rattle.ifmap_elem.specs.laws.CharacterLaws.{is_plain, plain_characters}
 use Rattle.ifmap_elem.specs.laws.BareNames.{another_bare}
 
@@ -96,11 +97,8 @@ element_levels_within (MacAddress value domain) = one_level (identifier_element 
 
 -- ---- elements of attributes alone
 
-another_text : (one other : List ℕ) → bytes_eq one one ≡ true → bytes_eq one other ≡ false → one ≢ other
-another_text one other here there e = let q : bytes_eq one one ≡ bytes_eq one other = ap (bytes_eq one) e in cc
-
 no_namespace : IsNamespace []
-no_namespace = record { characters = ([], refl, tt); not_reserved = another_text [] xmlns_space refl refl }
+no_namespace = record { characters = ([], refl, tt); not_reserved = told_apart [] xmlns_space refl }
 
 closed_name : (first : ℕ) (others : List ℕ) → list_all is_ascii (first ∷ others) ≡ true → is_name_start first ≡ true
     → list_all is_name_character others ≡ true → IsFitName (bare_name (first ∷ others))
