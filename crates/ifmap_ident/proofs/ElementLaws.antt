@@ -18,11 +18,11 @@ use Rattle.ifmap_addresses.specs.Values.{AreBelow}
 use Rattle.ifmap_elem.specs.Arranged.{arrange, arrange_child, sort_attributes}
 use Rattle.ifmap_elem.specs.Building.{bare_attribute, bare_element, bare_name, is_bare}
 use Rattle.ifmap_elem.specs.Chars.{IsCharacters}
-use Rattle.ifmap_elem.specs.Fit.{AreFitChildren, HasCharacters, IsFit, IsFitAlone, IsFitAttribute, IsFitName, IsNamespace}
+use Rattle.ifmap_elem.specs.Fit.{AreFitChildren, HasCharacters, IsFit, IsFitAlone, IsFitAttribute, IsFitName}
 use Rattle.ifmap_elem.specs.Folds.{at_child_element, at_child_text, at_element}
 use Rattle.ifmap_elem.specs.Names.{is_name_character, is_name_start}
 use Rattle.ifmap_elem.specs.Nesting.{child_levels, child_nesting, element_levels, greatest_of, nesting}
-use Rattle.ifmap_elem.specs.Scopes.{AllDiffer, xmlns_space}
+use Rattle.ifmap_elem.specs.Scopes.{AllDiffer}
 use Rattle.ifmap_elem.specs.Spells.{Spells}
 use Rattle.ifmap_elem.specs.declared.elements.Attribute.{Attribute}
 use Rattle.ifmap_elem.specs.declared.elements.Child.{Child, out-Child}
@@ -31,7 +31,7 @@ use Rattle.ifmap_elem.specs.declared.elements.Element.{Element}
 use Rattle.ifmap_elem.specs.declared.elements.Name.{Name}
 use Rattle.ifmap_elem.specs.declared.readings.Reading.{Reading}
 use Rattle.ifmap_elem.specs.laws.ArrangedLaws.{arranged_is, out_element}
-use Rattle.ifmap_elem.specs.laws.FitLaws.{elements_in, elements_of_child, elements_text, fit_parts, fit_whole, out_text}
+use Rattle.ifmap_elem.specs.laws.FitLaws.{elements_in, elements_of_child, elements_text, fit_parts, fit_whole, out_text, no_namespace}
 use Rattle.ifmap_ident.specs.declared.identifiers.Identifier.{Identifier}
 use Rattle.ifmap_ident.specs.declared.identifiers.Identifier.TheVariants.{AccessRequest, Device, Identity, IpV4, IpV6, MacAddress}
 use Rattle.ifmap_ident.specs.declared.kinds.IdentityType.{IdentityType}
@@ -98,9 +98,6 @@ element_levels_within (MacAddress value domain) = one_level (identifier_element 
 
 another_text : (one other : List ℕ) → bytes_eq one one ≡ true → bytes_eq one other ≡ false → one ≢ other
 another_text one other here there e = let q : bytes_eq one one ≡ bytes_eq one other = ap (bytes_eq one) e in cc
-
-no_namespace : IsNamespace []
-no_namespace = record { characters = ([], refl, tt); not_reserved = another_text [] xmlns_space refl refl }
 
 closed_name : (first : ℕ) (others : List ℕ) → list_all is_ascii (first ∷ others) ≡ true → is_name_start first ≡ true
     → list_all is_name_character others ≡ true → IsFitName (bare_name (first ∷ others))

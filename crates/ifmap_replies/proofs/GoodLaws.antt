@@ -25,7 +25,7 @@ use Rattle.ifmap_elem.specs.declared.elements.Child.TheOpen.{Child-F}
 use Rattle.ifmap_elem.specs.declared.elements.Element.{Element}
 use Rattle.ifmap_elem.specs.declared.elements.Name.{Name}
 use Rattle.ifmap_elem.specs.laws.ArrangedLaws.{arranged_in, arranged_is, arranged_text, out_element}
-use Rattle.ifmap_elem.specs.laws.FitLaws.{elements_in, elements_of_child, elements_text, fit_whole, out_text}
+use Rattle.ifmap_elem.specs.laws.FitLaws.{elements_in, elements_of_child, elements_text, fit_whole, out_text, no_namespace}
 use Rattle.ifmap_lemmas.specs.Members.{all_of_test, both_all}
 use Rattle.ifmap_lemmas.specs.Texts.{ascii_encoded, is_ascii}
 use Rattle.ifmap_replies.specs.Results.{text_children}
@@ -68,9 +68,6 @@ IsPlainPart local = is_plain_part local ≡ true
 
 pub plain_name : (space local : List ℕ) → IsNamespace space → IsPlainPart local → IsFitName (record { space = space; local = local })
 plain_name space local s h = plain_name_of space local s h
-
-no_namespace : IsNamespace []
-no_namespace = plain_space [] refl refl
 
 pub bare_fits : (local : List ℕ) → IsPlainPart local → IsFitName (bare_name local)
 bare_fits local h = plain_name [] local no_namespace h

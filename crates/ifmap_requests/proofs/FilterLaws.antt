@@ -46,6 +46,7 @@ use Rattle.ifmap_requests.specs.FitFilters.{comparisons_of}
 use Rattle.ifmap_requests.proofs.Characters.{are_characters}
 use Rattle.ifmap_elem.specs.laws.CharacterLaws.{characters_are_utf8}
 use Rattle.ifmap_elem.specs.laws.NameBytes.{starts_are_characters}
+use Rattle.ifmap_elem.specs.laws.FitLaws.{no_namespace}
 use Rattle.ifmap_ident.specs.ifmap_lexer.Cutting.{is_but}
 use Rattle.ifmap_ident.specs.ifmap_lexer.There.{is_quote}
 
@@ -193,9 +194,6 @@ scopes_fit declared f path inner =
     let left = all_filter (λ (d : Declared). IsNamespace d.space) (λ d. starts_with ◌==◌ (path ++ inner) d.path) declared f in
     map_of_all IsFitRow row_of (reverse (map binding_told here))
     (all_reversed IsFitBinding (map binding_told here) (map_of_all IsFitBinding binding_told here left))
-
-no_namespace : IsNamespace []
-no_namespace = record { characters = ([], refl, tt); not_reserved = not_from_Decides _ (bytes_eq-Decides [] xmlns_space) refl }
 
 xml_namespace : IsNamespace xml_space
 xml_namespace = record {

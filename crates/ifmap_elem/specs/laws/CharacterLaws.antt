@@ -16,6 +16,10 @@ use Rattle.std.proofs.lemmas.List.Elements.{recursion_from_All, All-from_get_or}
 abbrev pub is_plain : ℕ → Bool
 is_plain b = is_ascii b && is_character b
 
+-- no bytes are such
+pub no_characters : IsCharacters []
+no_characters = ([], refl, tt)
+
 pub plain_characters : (bs : List ℕ) → AllAre is_plain bs → IsCharacters bs
 plain_characters bs f = (
   bs,

@@ -13,7 +13,7 @@ use Rattle.std.proofs.lemmas.Bool.Decides.{nat_tests}
 use Rattle.ifmap_elem.specs.Arranged.{arrange, arrange_child, sort_attributes}
 use Rattle.ifmap_elem.specs.Canonical.{canonical_bytes}
 use Rattle.ifmap_elem.specs.Chars.{AllAre, IsCharacters, is_character}
-use Rattle.ifmap_elem.specs.Fit.{IsFit, IsFitAlone, IsFitAttribute, IsNamespace}
+use Rattle.ifmap_elem.specs.Fit.{IsFit, IsFitAlone, IsFitAttribute}
 use Rattle.ifmap_elem.specs.Folds.{at_element}
 use Rattle.ifmap_elem.specs.Building.{bare_name, is_bare}
 use Rattle.ifmap_elem.specs.Names.{IsNamePart, is_name_character}
@@ -23,7 +23,7 @@ use Rattle.ifmap_elem.specs.declared.elements.Attribute.{Attribute}
 use Rattle.ifmap_elem.specs.declared.elements.Element.{Element}
 use Rattle.ifmap_elem.specs.declared.elements.Name.{Name}
 use Rattle.ifmap_elem.specs.laws.ArrangedLaws.{arranged_is}
-use Rattle.ifmap_elem.specs.laws.FitLaws.{fit_arranged, fit_parts, fit_whole, nesting_arranged}
+use Rattle.ifmap_elem.specs.laws.FitLaws.{fit_arranged, fit_parts, fit_whole, nesting_arranged, no_namespace}
 use Rattle.ifmap_io.specs.Calendar.{Civil, civil_of, civil_text, last_digit, moment_text}
 use Rattle.ifmap_lemmas.specs.Filters.{all_filter, filter_passes}
 use Rattle.ifmap_lemmas.specs.Members.{all_of_map, all_of_test, all_weaker, both_all, map_of_all}
@@ -124,9 +124,6 @@ moment_characters moment = both_are (civil_text (civil_of moment)) (all_digits (
   where
     all_digits : (c : Civil) → AllAre is_plain (civil_text c)
     all_digits c = search (digit_is_both, rules)
-
-no_namespace : IsNamespace []
-no_namespace = record { characters = ([], refl, tt); not_reserved = λ e. cc }
 
 publisher_part : IsNamePart (codes "ifmap-publisher-id")
 publisher_part = record {
