@@ -96,9 +96,6 @@ element_levels_within (MacAddress value domain) = one_level (identifier_element 
 
 -- ---- elements of attributes alone
 
-another_text : (one other : List ℕ) → bytes_eq one one ≡ true → bytes_eq one other ≡ false → one ≢ other
-another_text one other here there e = let q : bytes_eq one one ≡ bytes_eq one other = ap (bytes_eq one) e in cc
-
 closed_name : (first : ℕ) (others : List ℕ) → list_all is_ascii (first ∷ others) ≡ true → is_name_start first ≡ true
     → list_all is_name_character others ≡ true → IsFitName (bare_name (first ∷ others))
 closed_name first others ascii begins goes_on = record {

@@ -38,6 +38,10 @@ items_total = search (comparing, rules)
 pub items_equiv : IsEquivalence same_item
 items_equiv = search (comparing, rules)
 
+-- one that stands on x is told from another as x is
+pub told_as : (x a b : Item) → same_item b x ≡ true → same_item a b ≡ same_item a x
+told_as x a b e = items_equiv.symm a b ∙ items_equiv.congr b x a e ∙ items_equiv.symm x a
+
 -- the test of a look-up is that of what is stored on an item
 pub ties : (item other : Item) → is_at (item_order item) other ≡ same_item other item
 ties item other = sym (items_tie other item ∙ ap is_eq (items_total.antisymm other item) ∙ eq_turned (item_order item other))
