@@ -1,6 +1,6 @@
 -- Items and identifiers are the same or differ.
-use Rattle.std.proofs.Common.{◌≡◌, true, refl, ◌∙◌, sym, false, ap, rules}
-use Rattle.ifmap_lemmas.specs.Texts.{eq_itself}
+use Rattle.std.proofs.Common.{◌≡◌, true, refl, ◌∙◌, sym, false, ap, rules, Bool}
+use Rattle.ifmap_lemmas.specs.Texts.{eq_itself, eq_tells, slice_cmp-less}
 use Rattle.ifmap_ident.specs.declared.identifiers.Identifier.{Identifier}
 use Rattle.ifmap_ident.specs.Identifiers.{identifier_bytes, same_identifier, identifier_order}
 use Rattle.ifmap_ident.specs.declared.items.Item.{Item}
@@ -49,6 +49,17 @@ ties item other = sym (items_tie other item ∙ ap is_eq (items_total.antisymm o
 -- an item below another is not the same
 pub greater_item_differs : (i y : Item) → item_order i y ≡ Less → same_item y i ≡ false
 greater_item_differs i y e = sym (ties i y) ∙ ap is_eq e
+
+-- an identifier above another is not the same
+pub greater_identifier_differs : (a b : Identifier) → identifier_order a b ≡ Less → same_identifier b a ≡ false
+greater_identifier_differs a b less = told (same_identifier b a) refl
+  where
+    told : (t : Bool) → same_identifier b a ≡ t → t ≡ false
+    told true is =
+        let same : identifier_bytes b ≡ identifier_bytes a = eq_tells (identifier_bytes b) (identifier_bytes a) is in
+        let wrong : true ≡ false = slice_cmp-less (identifier_bytes a) (identifier_bytes b) (sym less) (sym same) in
+        wrong
+    told false is = refl
 
 -- identifiers of one list of canonical bytes are one
 abbrev pub BytesTellIdentifiers : Type 0
