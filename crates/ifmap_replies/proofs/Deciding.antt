@@ -1,7 +1,7 @@
 -- Each check of a reply finds something: a value or a defect. So a response has a reply or none.
--- Plan: (1) identifiers by the law of their crate; (2) tables of attributes, children and forms: where each of their parts finds a value or a defect, so
--- does the whole; (3) values of attributes; (4) results and responses, part by part; (5) envelopes, and so bodies
--- (`reply_or_none`).
+-- Plan: (1) identifiers by the laws of their crates; (2) tables of attributes, children and forms: where each of their parts finds
+-- a value or a defect, so does the whole; (3) values of attributes; (4) results and responses, part by part; (5) envelopes, and so
+-- bodies (`reply_or_none`).
 use Rattle.std.proofs.Common.{◌⊎◌, ◌+◌, ◌++◌, ℕ, List, [], ◌∷◌, Option, None, Some, Result, Ok, Err, codes, inl, inr}
 use Rattle.std.specs.List.{list_all}
 use Rattle.ifmap_elem.specs.Arranged.{arrange}
