@@ -127,10 +127,10 @@ module _ (parts : List Part) (index : ℕ) (is : index ≡ blank_front parts) wh
 
 -- ---- 3. the body
 
-abbrev is_body : Part → Bool
+abbrev pub is_body : Part → Bool
 is_body = is_part_named (codes "Body")
 
-abbrev is_header : Part → Bool
+abbrev pub is_header : Part → Bool
 is_header = is_part_named (codes "Header")
 
 module _ (parts : List Part) (first : ℕ) (is : first ≡ blank_front parts) where

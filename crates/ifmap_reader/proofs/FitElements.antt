@@ -16,7 +16,6 @@ use Rattle.ifmap_elem.specs.Scopes.{Scope, Binding, IsBinding, IsAttribute, AreA
 use Rattle.ifmap_elem.specs.Spells.{Spells, without_byte_order_mark}
 use Rattle.ifmap_elem.specs.declared.elements.Attribute.{Attribute}
 use Rattle.ifmap_elem.specs.declared.elements.Child.{Child, out-Child}
-use Rattle.ifmap_elem.specs.declared.elements.Child.TheOpen.{Child-F}
 use Rattle.ifmap_elem.specs.declared.elements.Element.{Element}
 use Rattle.ifmap_elem.specs.declared.elements.Name.{Name}
 use Rattle.ifmap_elem.specs.declared.readings.Declared.{Declared}
@@ -30,6 +29,7 @@ use Rattle.ifmap_lemmas.specs.Texts.{eq_tells, eq_itself, ascii_encoded, is_asci
 use Rattle.ifmap_reader.proofs.FitTokens.{IsFitAssignment, IsFitTag, IsFitToken, tokens_fit}
 use Rattle.ifmap_elem.specs.laws.CharacterLaws.{characters_both}
 use Rattle.ifmap_elem.specs.laws.ArrangedLaws.{out_element}
+use Rattle.ifmap_elem.specs.laws.PrintedElements.{item_child}
 
 -- scopes
 
@@ -157,10 +157,6 @@ AreFitDeclared declared = AllByRecursion IsFitDeclared declared
 abbrev IsFitItem : Item → Type 0
 IsFitItem (Inner e declared) = IsFit e × AreFitDeclared declared
 IsFitItem (Run text) = IsCharacters text
-
-abbrev item_child : Item → Child-F Child Element
-item_child (Inner e declared) = Child-F.Element e
-item_child (Run text) = Child-F.Text text
 
 opened : (items : List Item) → map out-Child (map child_of items) ≡ map item_child items
 opened [] = refl

@@ -10,6 +10,7 @@ use Rattle.std.proofs.lemmas.Bool.{and_from}
 use Rattle.std.proofs.lemmas.Bool.Decides.{nat_tests}
 use Rattle.std.proofs.lemmas.Str.Parse.{digit_from_value}
 use Rattle.ifmap_lemmas.specs.Numerals.{digit, numeral, numeral_by_digits}
+use Rattle.ifmap_lemmas.specs.Decimals.{between_is_digit}
 use Rattle.ifmap_elem.specs.Chars.{is_white}
 use Rattle.ifmap_filter.specs.Printing.{joined_texts}
 use Rattle.ifmap_ident.specs.declared.codes.Code.{Code}
@@ -26,14 +27,11 @@ use Rattle.ifmap_requests.specs.ifmap_forms.FormLaws.{number_back}
 
 -- ---- (1) numbers
 
-digit_is : (c : ℕ) → 48 ≤ c → c ≤ 57 → is_ascii_digit c ≡ true
-digit_is c low high = grind (arith, nat_tests)
-
 digits_are : (ds : List ℕ) → AllDigits 10 ds → list_all is_ascii_digit ds ≡ true
 digits_are [] f = refl
 digits_are (d ∷ ds) f =
     let r = digit_from_value d f.0 in
-    and_from (is_ascii_digit d) (list_all is_ascii_digit ds) (digit_is d r.0 r.1) (digits_are ds f.1)
+    and_from (is_ascii_digit d) (list_all is_ascii_digit ds) (between_is_digit d r.0 r.1) (digits_are ds f.1)
 
 -- digits that mean a number but 0 are some
 some_digits : (ds : List ℕ) → ds ≢ [] → bytes_eq ds [] ≡ false

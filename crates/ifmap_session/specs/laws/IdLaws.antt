@@ -1,6 +1,5 @@
 -- Ids of sessions.
-use Rattle.std.proofs.lemmas.Str.Parse.{IsNumeralModel, numerals_by_value, tells_digits, not_in_digits}
-use Rattle.std.specs.Str.Parse.{AllDigits, digits_value}
+use Rattle.std.proofs.lemmas.Str.Parse.{not_in_digits}
 use Rattle.std.proofs.Common.{◌≢◌, ℕ, ◌^◌, ◌<◌, length, get_or, arith, ◌≡◌, refl, suc, List, [], ◌∷◌, ◌++◌, sym, ◌∙◌, ◌+◌, true, false, inl, inr, zero, ◌/◌, ◌%◌, ◌==◌, Bool, cond}
 use Rattle.std.proofs.lemmas.Fmt.{digits_decimal, decimal_injective}
 use Rattle.std.specs.Fmt.{decimal, digit_glyph, digits_onto, digits}
@@ -11,11 +10,9 @@ use Rattle.std.specs.Prelude.{nat_lt}
 use Rattle.std.proofs.lemmas.Bool.{cases_Bool}
 use Rattle.ifmap_elem.specs.Chars.{AllAre, IsCharacters}
 use Rattle.ifmap_lemmas.specs.Members.{all_append}
+use Rattle.ifmap_lemmas.specs.Decimals.{decimal_model}
 use Rattle.uuid.specs.Text as uuid
 use Rattle.std.specs.Int.{to_be_bytes, w128}
-
-pub decimal_model : IsNumeralModel (AllDigits 10) (digits_value 10)
-decimal_model = numerals_by_value (AllDigits 10) tells_digits
 
 pub no_hyphen : (n : ℕ) → n < 2 ^ 64 → (i : ℕ) → i < length (decimal n) → get_or (decimal n) i 0 ≢ hyphen
 no_hyphen n small = not_in_digits decimal_model (decimal n) hyphen (digits_decimal decimal_model n small) (λ r. absurd (omega (arith, r)))
