@@ -19,7 +19,6 @@ use Rattle.ifmap_elem.specs.declared.elements.Child.TheOpen.{Child-F}
 use Rattle.ifmap_elem.specs.declared.elements.Element.{Element}
 use Rattle.ifmap_ident.specs.ifmap_reader.declared.scoping.Scope.{Scope}
 use Rattle.ifmap_forms.specs.ifmap_filter.declared.filters.Filter.{Filter}
-use Rattle.ifmap_forms.specs.ifmap_filter.Holding.{is_name}
 use Rattle.ifmap_forms.specs.ifmap_filter.Laws.{FilterOrStop, StopsWhereNone}
 use Rattle.ifmap_forms.specs.ifmap_filter.Texts.{StopsAt, Writes}
 use Rattle.ifmap_ident.specs.declared.codes.Code.TheVariants.{Failure, InvalidIdentifierType}
@@ -55,6 +54,7 @@ use Rattle.ifmap_requests.specs.RequestForms.{search_attributes, search_form, se
 use Rattle.ifmap_requests.specs.RequestForms.{subscribe_of, subscribe_op_check, subscription_form, subscription_from_form, update_form, update_from_form}
 use Rattle.ifmap_requests.proofs.Sound.{AreSound, IsSound, from_sound, parts_sound, value_fit}
 use Rattle.ifmap_elem.specs.laws.CharacterLaws.{characters_are_utf8}
+use Rattle.ifmap_elem.specs.Building.{is_name}
 
 -- ---- 2. tables, children, forms
 
