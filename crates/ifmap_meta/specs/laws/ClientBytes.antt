@@ -1,5 +1,5 @@
 -- The names of clients are ASCII.
-use Rattle.std.proofs.Common.{◌≡◌, ℕ, ◌<◌, Bool, true, arith}
+use Rattle.std.proofs.Common.{◌≡◌, ℕ, ◌<◌, true, arith}
 use Rattle.std.proofs.lemmas.Bool.Decides.{nat_tests}
 use Rattle.ifmap_meta.specs.ClientNames.{is_client_byte}
 
