@@ -18,7 +18,6 @@ use Rattle.ifmap_elem.specs.declared.elements.Child.{Child, out-Child}
 use Rattle.ifmap_elem.specs.declared.elements.Child.TheOpen.{Child-F}
 use Rattle.ifmap_elem.specs.declared.elements.Element.{Element}
 use Rattle.ifmap_elem.specs.declared.elements.Name.{Name}
-use Rattle.ifmap_forms.specs.ifmap_filter.Holding.{is_name}
 use Rattle.ifmap_forms.specs.PositionLaws.{at_place, no_place, place_is}
 use Rattle.ifmap_elem.specs.WhiteSpace.{is_blank_part}
 use Rattle.ifmap_forms.specs.Tables.{Part, parts_in}
@@ -28,6 +27,7 @@ use Rattle.ifmap_envelopes.specs.Envelopes.{IsOnlyElement, IsBodyAt, IsPartAt, b
 use Rattle.ifmap_elem.specs.Chars.{is_white}
 use Rattle.ifmap_envelopes.proofs.Alone.{at_header, AreBlank, part_of, text_of, no_element, after_text}
 use Rattle.ifmap_elem.specs.laws.ArrangedLaws.{out_element}
+use Rattle.ifmap_elem.specs.Building.{is_name}
 
 -- ---- names
 
@@ -127,10 +127,10 @@ module _ (parts : List Part) (index : ℕ) (is : index ≡ blank_front parts) wh
 
 -- ---- 3. the body
 
-abbrev is_body : Part → Bool
+abbrev pub is_body : Part → Bool
 is_body = is_part_named (codes "Body")
 
-abbrev is_header : Part → Bool
+abbrev pub is_header : Part → Bool
 is_header = is_part_named (codes "Header")
 
 module _ (parts : List Part) (first : ℕ) (is : first ≡ blank_front parts) where

@@ -27,13 +27,13 @@ use Rattle.ifmap_ident.specs.Canon.{IsDefinition, domain_of}
 use Rattle.ifmap_ident.specs.IdentityNames.{IsKeptName, domain_name, without_last_dots}
 use Rattle.ifmap_ident.specs.Parts.{value_of}
 use Rattle.ifmap_ident.proofs.DotLaws.{dot_encoded, is_dot}
-use Rattle.ifmap_ident.proofs.Utf8Laws.{canonical_characters, no_characters}
+use Rattle.ifmap_ident.proofs.Utf8Laws.{canonical_characters}
 use Rattle.ifmap_lemmas.specs.Numbers.{equal_numbers}
 use Rattle.ifmap_addresses.specs.Values.{IsAddressByte}
 use Rattle.ifmap_lemmas.specs.Filters as filters
 use Rattle.ifmap_lemmas.specs.Texts.{ascii_encoded, is_ascii}
 use Rattle.std.proofs.lemmas.Option.{same_Some}
-use Rattle.ifmap_elem.specs.laws.CharacterLaws.{is_plain, plain_characters, characters_both, character_passes, one_character}
+use Rattle.ifmap_elem.specs.laws.CharacterLaws.{is_plain, plain_characters, characters_both, character_passes, one_character, no_characters}
 
 -- ---- addresses
 

@@ -4,16 +4,11 @@ use Rattle.std.proofs.Common.{◌≡◌, sym, ◌∙◌, ap, Bool, true, List, [
 use Rattle.std.proofs.Common.{None, Some, inl, inr, arith}
 use Rattle.std.proofs.lemmas.Bool.{cases_Bool}
 use Rattle.std.proofs.lemmas.Bool.Decides.{nat_tests}
-use Rattle.std.proofs.lemmas.Str.Parse.{IsNumeralModel, numerals_by_value, tells_digits}
 use Rattle.std.specs.List.{find}
 use Rattle.std.specs.List.Sorted.{IsStrictlySortedBy}
-use Rattle.std.specs.Str.Parse.{AllDigits, digits_value}
 use Rattle.std.specs.declared.cmp.Ordering.TheVariants.{Less}
 use Rattle.ifmap_lemmas.specs.Having.{Has, all_has}
 use Rattle.ifmap_session.specs.Sessions.{Session, session_order}
-
-own : IsNumeralModel (AllDigits 10) (digits_value 10)
-own = numerals_by_value (AllDigits 10) tells_digits
 
 pub find_has : {X : Type 0} (q : X → Bool) (xs : List X) (x : X) → find q xs ≡ Some x → Has xs x × (q x ≡ true)
 find_has q [] x e = let bad : None ≡ Some x = e in cc

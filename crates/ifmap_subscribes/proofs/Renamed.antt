@@ -24,7 +24,8 @@ use Rattle.ifmap_search.specs.Sizes.{poll_size, queue_size}
 use Rattle.ifmap_changes.specs.ifmap_session.Sessions.{is_named}
 use Rattle.ifmap_changes.specs.ifmap_standing.Standing.{standing_of}
 use Rattle.ifmap_changes.specs.ifmap_standing.declared.standing.Standing.{Standing}
-use Rattle.ifmap_subscribes.proofs.OfNames.{named_once, not_named_other, one_fewer, one_more, others_beside, others_stand, put_stands, standing_total}
+use Rattle.ifmap_changes.specs.ifmap_machine.OrderLaws.{standing_total}
+use Rattle.ifmap_subscribes.proofs.OfNames.{named_once, not_named_other, one_fewer, one_more, others_beside, others_stand, put_stands}
 use Rattle.ifmap_subscribes.proofs.Parting.{filter_within, none_within, sum_parted}
 use Rattle.ifmap_subscribes.proofs.RenamingPlaces.{none_left}
 use Rattle.ifmap_subscribes.proofs.RenamingTold.{one_at_most}
