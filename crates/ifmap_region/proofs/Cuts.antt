@@ -22,7 +22,7 @@ use Rattle.ifmap_region.specs.Spreading.{queue_at}
 use Rattle.ifmap_region.specs.Losing.{Awaits, HasNearerMark, AreGone, IsLookedAt, IsBeforeCut, IsCutting}
 use Rattle.ifmap_region.proofs.Lost.{losing_passed, losing_entered, losing_held, losing_gone, moved_here}
 use Rattle.ifmap_region.proofs.Falling.{queue_out, queue_in, queue_first, now_in, now_new, now_out, next_in, next_new, next_out}
-use Rattle.ifmap_region.specs.Distinct.{contains_one, no_member, distinct_cons, distinct_push, distinct_head, distinct_tail, sum_within}
+use Rattle.ifmap_lemmas.specs.Distinct.{contains_one, no_member, distinct_cons, distinct_push, distinct_head, distinct_tail, sum_within}
 
 pub some_row : (o : Option (Option ℕ)) → IsSome o → (r : Option ℕ) × (o ≡ Some r)
 some_row None h = absurd (true≢false (sym h))

@@ -12,7 +12,7 @@ use Rattle.ifmap_region.specs.Links.{Linked}
 use Rattle.ifmap_region.specs.Marks.{mark_over}
 use Rattle.ifmap_region.specs.Walks.{Walk, goes_on, AreDepths, Expands}
 use Rattle.ifmap_region.specs.Spreading.{queue_at, IsBound, IsReady, IsReadyBut, IsFalling, IsLowered, Enqueues, Improves, IsSet, IsCharged}
-use Rattle.ifmap_region.specs.Distinct.{contains_one, no_member, distinct_cons}
+use Rattle.ifmap_lemmas.specs.Distinct.{contains_one, no_member, distinct_cons}
 use Rattle.ifmap_region.proofs.Ready.{depths_ready, charged_start, charged_later}
 
 module _ (level v : ℕ) where

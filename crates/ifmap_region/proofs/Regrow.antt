@@ -19,7 +19,7 @@ use Rattle.ifmap_region.specs.Walks.{Walk, goes_on, AreDepths, Expands}
 use Rattle.ifmap_region.proofs.Depths.{marked, marked_start, closed_from, sound_from, walk_along, no_walk}
 use Rattle.ifmap_region.proofs.Lost.{ready_left, over_unrowed, over_rowed}
 use Rattle.ifmap_region.proofs.Cuts.{some_row}
-use Rattle.ifmap_region.specs.Distinct.{contains_one, no_member, sum_within}
+use Rattle.ifmap_lemmas.specs.Distinct.{contains_one, no_member, sum_within}
 
 -- seeds of one number more that is gone
 module _ (links : ℕ → ℕ → Type 0) (terminal : ℕ → Bool) (top : ℕ) (mark : ℕ → Option ℕ) (gone : List ℕ) (v : ℕ) (seeds after : List (ℕ ×
