@@ -77,11 +77,7 @@ fn lowered_to<G: LinkSource>(
 }
 
 // Puts a seed in, where there is a level.
-pub(crate) fn offer(
-    seeds: &mut Vec<Seed>,
-    level: Option<u32>,
-    number: u64,
-) -> Result<(), NoMemory>
+pub(crate) fn offer(seeds: &mut Vec<Seed>, level: Option<u32>, number: u64) -> Result<(), NoMemory>
     ensures { OnOk result (MatchOption level (seeds.new.items ≡ seeds.old.items)
         (λ k. seeds.new.items ≡ seeds.old.items ++ (k, number) ∷ [])) }
 {

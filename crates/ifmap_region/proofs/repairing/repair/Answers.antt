@@ -1,16 +1,16 @@
+use Rattle.std.proofs.Common.{◌+◌}
 use Rattle.ifmap_region.specs.Bounds.{IsWithin, within_nothing}
+use Rattle.ifmap_region.specs.DepthLaws.{depths_same}
 use Rattle.ifmap_region.specs.Flips.{Old}
 use Rattle.ifmap_region.specs.Links.{Linked}
 use Rattle.ifmap_region.specs.Marks.{mark_of, mark_over}
 use Rattle.ifmap_region.specs.Near.{NearFlips}
 use Rattle.ifmap_region.specs.Walks.{AreDepths}
-use Rattle.std.proofs.Common.{◌+◌}
 use Rattle.ifmap_region.proofs.Patches.{over_differing}
 use Rattle.ifmap_region.proofs.Repairs.{spent_cutting, spent_repairing, cut_left}
 use Rattle.ifmap_region.proofs.repairing.repair.Given as given
 use Rattle.ifmap_region.proofs.repairing.repair.Goals as goal
 use Rattle.ifmap_region.proofs.repairing.repair.Goals.{After-grow}
-use Rattle.ifmap_region.specs.DepthLaws.{depths_same}
 
 -- the steps of the cut and of the growth, whatever comes after it
 spent : (g : given.Over) (c : After-grow g)

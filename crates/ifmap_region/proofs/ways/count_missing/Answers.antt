@@ -1,10 +1,10 @@
 use Rattle.std.proofs.Common.{sym, ap, ◌∙◌, arith, true≢false}
 use Rattle.std.proofs.lemmas.List.{take_all}
+use Rattle.ifmap_lemmas.specs.Absent.{none_where_not_some}
 use Rattle.ifmap_region.specs.Ways.{missing_count}
 use Rattle.ifmap_region.proofs.Missing.{missing_yes, missing_no}
 use Rattle.ifmap_region.proofs.ways.count_missing.Goals as goal
 use Rattle.ifmap_region.proofs.ways.count_missing.Goals.{in-Some+then-not-has_row, in-Some+else-not-has_row, in_default}
-use Rattle.ifmap_lemmas.specs.Absent.{none_where_not_some}
 
 pub loop-i-preserved : goal.loop-i-preserved
 loop-i-preserved c = elim c.match-get_index.branch [
