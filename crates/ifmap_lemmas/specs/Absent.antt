@@ -1,5 +1,5 @@
 -- Options that hold nothing.
-use Rattle.std.proofs.Common.{◌≡◌, true, false, Option, Some, None, is_some, refl, true≢false}
+use Rattle.std.proofs.Common.{◌≡◌, false, Option, Some, None, is_some, refl, true≢false}
 
 -- an option that is not some is none
 pub none_where_not_some : {A : Type 0} (o : Option A) → is_some o ≡ false → o ≡ None

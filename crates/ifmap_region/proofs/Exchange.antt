@@ -160,8 +160,8 @@ module _ (rows es now patch : List (ℕ × Option ℕ)) (i : ℕ) (distinct : Is
         )).0)) patch_is
         ∙ insert_at (taken_from (mark_of rows) (take i es)) (drop (i + 1) es) (get_or es i (0, None)).0 (get_or es i (0, None)).1
         (mark_of now (get_or es i (0, None)).0)
-        (none_where_not_some (row_of (taken_from (mark_of rows) (take i es)) (get_or es i (0, None)).0) (rowed_taken rows (take i es) (get_or es i
-        (0, None)).0 ∙ ap is_some fresh))
+        (none_where_not_some (row_of (taken_from (mark_of rows) (take i es)) (get_or es i (0, None)).0)
+        (rowed_taken rows (take i es) (get_or es i (0, None)).0 ∙ ap is_some fresh))
         ∙ ap (λ (m : Option ℕ). taken_from (mark_of rows) (take i es) ++ ((get_or es i (0, None)).0, m) ∷ drop (i + 1) es) mark_is
         ∙ sym (ap (λ (l : List (ℕ × Option ℕ)). taken_from (mark_of rows) l ++ drop (i + 1) es) (take_more es i (0, None) lt)
         ∙ ap (λ (l : List (ℕ × Option ℕ)). l ++ drop (i + 1) es) (map_push (λ (x : ℕ × Option ℕ). (x.0, mark_of rows x.0)) (take i es)
