@@ -1,7 +1,7 @@
 use Rattle.std.proofs.Common.{◌≡◌, ℕ, ◌+◌, ◌<◌, Some, Err, inl, inr, refl, sym, subst, arith, vec_len}
 use Rattle.std.specs.declared.cmp.Ordering.TheVariants.{Equal}
 use Rattle.ifmap_lemmas.specs.Options.{is_some_of}
-use Rattle.ifmap_pool.specs.Holdings.{HoldsAgain, HoldsOne, TakesNumber}
+use Rattle.ifmap_pool.specs.Holdings.{Holdings, HoldsAgain, HoldsOne, TakesNumber}
 use Rattle.ifmap_pool.specs.Index.{IsKept, IsKeyPlace, slot_at, slot_count}
 use Rattle.ifmap_pool.specs.declared.slots.Held.{Held}
 use Rattle.ifmap_pool.proofs.Changes.{seen, shown, whole_now, room_for_new, write_count, take_number}
@@ -55,6 +55,11 @@ taken g c small =
     (c.fill_slot-number.ensures.within c.self.inside.limit c.self.invariant.0.within small) c.list_number.ensures.items
     c.list_number.ensures.len
 
+-- the answer is the number in more bytes
+widened : (g : given.Over) (old new : Holdings g.row.K.Denot) (key : g.row.K.Denot) (wide number : ℕ) → wide ≡ number
+    → HoldsOne g.K.Ord.cmp old new number key → HoldsOne g.K.Ord.cmp old new wide key
+widened g old new key wide number same holds = subst (λ (n : ℕ). HoldsOne g.K.Ord.cmp old new n key) (sym same) holds
+
 pub place_of-requires : goal.place_of-requires
 place_of-requires g c = rw (c.deref.ensures.value, c.deref-2.ensures.value) c.self.invariant.0.indexed
 
@@ -98,9 +103,7 @@ returns-in-Ok-clause-holds g c =
     let entry = stands g place.After-index-number in
     let shows = shown c.self.invariant.0 c.self.view_is in
     let mine = names_from_slot shows g.K.Ord.cmp c.index-number.result.now entry.0 c.args.key entry.1 entry.2 in
-    subst (λ (n : ℕ). HoldsOne g.K.Ord.cmp c.args.self.now (seen c.set_holds.new.slots.items (vec_len c.self.inside.order)
-    c.self.inside.limit) n c.args.key)
-    (sym c.from.ensures) (inl (mine, (counted g place.After-set_holds).1))
+    widened g c.args.self.now _ c.args.key _ _ c.from.ensures (inl (mine, (counted g place.After-set_holds).1))
 
 pub fill_slot-number-requires : goal.fill_slot-number-requires
 fill_slot-number-requires g c =
@@ -131,9 +134,7 @@ returns-in-Err-clause-holds g c =
     let place = goal.at.returns-in-Err-clause-holds g c in
     let none = absent_at (shown c.self.invariant.0 c.self.view_is) g.met.K.Ord.total c.self.invariant.0.indexed c.args.key c.in-Err.place
     (missing g place.In-Err) in
-    subst (λ (n : ℕ). HoldsOne g.K.Ord.cmp c.args.self.now (seen c.fill_slot-number.new.slots.items (vec_len c.list_number.new.order)
-    c.self.inside.limit) n c.args.key)
-    (sym c.from-in-Err.ensures) (inr (none, (taken g place.After-list_number (room g place.In-Err)).1))
+    widened g c.args.self.now _ c.args.key _ _ c.from-in-Err.ensures (inr (none, (taken g place.After-list_number (room g place.In-Err)).1))
 
 pub returns-in-Err-clause-before : goal.returns-in-Err-clause-before
 returns-in-Err-clause-before g c = whole_now c.self.invariant.0 c.self.view_is g.met.K.Ord.total
