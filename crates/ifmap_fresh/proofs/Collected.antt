@@ -1,6 +1,11 @@
--- The items that are collected number by number are those that the search looks at, and what is found on them is the
--- result. In order: which numbers are passed; from an item that is collected to one that is looked at (`looked_at`);
--- the other way (`collects`); then lists: entries item by item are the filtered list (`entries_are`).
+-- The items collected number by number are those that the search looks at, and give the result.
+-- 1. Which numbers are passed: those of the identifiers that are expanded (`passed_expanded`,
+--    `expanded_passed`).
+-- 2. An item that is collected is looked at (`looked_at`), and is one that elements mean
+--    (`canon_of`).
+-- 3. An item that is looked at is brought by one of its ends, so it is collected (`collects`).
+-- 4. Entries item by item are a filtered list of attachments (`entries_gathered`).
+-- 5. So what stands on the items and meets the filter is the result (`entries_are`).
 use Rattle.std.proofs.Common.{◌≡◌, ◌≢◌, ℕ, ◌<◌, Bool, true, false, cond, not, ◌&&◌, ◌||◌, Option, Some, None, List, [], ◌∷◌}
 use Rattle.std.proofs.Common.{◌++◌, map, nat_lt, refl, ap, ◌∙◌, sym, subst, inl, inr, arith}
 use Rattle.std.proofs.lemmas.Bool.{and_parts, cases_Bool, lt-ltb, ltb-true, not-true, or_cases, or_right}
