@@ -3,6 +3,7 @@
 -- 2. Searches with a text before their attributes.
 -- 3. The attributes of a search, each with those before it (`refused_links` to `all_bounds`).
 -- 4. A search, after its attributes.
+-- 5. A form that is read, before something is made of it.
 use Rattle.std.proofs.Common.{◌≡◌, ℕ, ◌++◌, Bool, true, false, List, [], ◌∷◌, Option, Result, Ok, Err, inl, inr, refl, ap, subst}
 use Rattle.std.proofs.Common.{sym}
 use Rattle.std.specs.Result.{IsErrAnd}
