@@ -1,6 +1,11 @@
--- A change that stays, and one that is taken back: what subscriptions keep (`kept_settled`), their lists as the machine has them
--- (`same_shown`, `same_ordered`), the state so far (`same_state`), that all is ready still (`ready_after`), and that all is back
--- (`are_back`).
+-- A change that stays, and one that is taken back.
+-- 1. Subscriptions keep their searches, whichever way each was given up (`settled_searches`).
+-- 2. So what each keeps is up to date still, where rows and links are the same (`kept_settled`).
+-- 3. Their lists are, as the machine has them, the same and in the same order (`same_shown`,
+--    `same_ordered`); so is the state so far (`same_state`).
+-- 4. So what was ready is ready still (`ready_after`).
+-- 5. A change that is taken back leaves all as it was (`are_back`), and what is back is sound
+--    (`sound_back`).
 use Rattle.std.proofs.Common.{◌≡◌, ◌≢◌, ℕ, ◌≤◌, Bool, true, false, Option, None, Some, List, [], ◌∷◌, length, map, slice_get, refl, ap, ◌∙◌, sym, subst}
 use Rattle.std.specs.List.{AllByRecursion}
 use Rattle.std.specs.List.Sorted.{IsStrictlySortedBy}

@@ -1,6 +1,10 @@
 -- What was taken of a script, and what was done for it, from the beginning on.
--- `Fetched` says of what is pending that it is what the deeds left of a script that was taken; taking more keeps it (`fetch`), and so
--- does a line that is carried out (`pass`). `did_then`, `cut_then` and `posted_then` put what was done for one line after it.
+-- 1. `Fetched`: what is pending is what the deeds left of a script that was taken.
+-- 2. More is taken (`fetch_more`), the last line with its newline (`fetch_last`): `fetch` is both.
+-- 3. A line that is carried out is one deed more (`pass`).
+-- 4. What was done for one line after the others: exchanges (`exchanged_then`), whole lines
+--    (`did_then`), and a line that is cut off or breaks (`cut_then`).
+-- 5. So is a request that was posted last (`posted_then`).
 use Rattle.std.proofs.Common.{◌≡◌, ◌⊎◌, inl, inr, refl, ap, ◌∙◌, sym, subst, ℕ, ◌+◌, Bool, true, false, List, [], ◌∷◌, ◌++◌, length, take, append_assoc, append-nil, length-append, arith}
 use Rattle.std.specs.Prelude.{Option}
 use Rattle.std.specs.Io.KnownBytes.{Appends, Consumes, IsAtEnd}

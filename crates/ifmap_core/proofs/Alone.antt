@@ -1,5 +1,10 @@
--- A session that is told one error in place of all, and has no subscription left: what it is then (`alone_so_far`), and that all is
--- ready still (`alone_ready`).
+-- A session that is told one error in place of all, and then has no subscription left.
+-- 1. What it was told before does not matter to what it is then (`alone_where`).
+-- 2. Of all sessions it alone changes, to one that has the error (`told_each`).
+-- 3. One error is within each limit, so all queues are (`errors_fit`).
+-- 4. What is known where a session is told alone is `IsToldAlone`; the state so far is then that of
+--    the definition (`alone_so_far`).
+-- 5. And all that was ready is ready still (`alone_ready`).
 use Rattle.std.proofs.Common.{◌≡◌, ◌≢◌, refl, sym, ◌∙◌, ap, subst, ℕ, ◌≤◌, ◌==◌, true, false, cond, List, [], ◌∷◌, length, map, Option, Some, None, inl, inr, arith}
 use Rattle.std.proofs.lemmas.Bool.{cases_Bool, eq-eqb, eqb-true}
 use Rattle.std.proofs.lemmas.Bool.Decides.{nat_tests}

@@ -1,6 +1,11 @@
 -- What is left to do of an event, done to the sessions and subscriptions.
--- First: queues stay within their limits. Then: what a poll tells. Then: sessions end one after the other. Last: subscriptions stay in
--- order beside sessions that change, begin or end.
+-- 1. Queues stay within their limits as sessions change, end or begin (`within_changed`,
+--    `within_left`, `within_begun`).
+-- 2. What a poll tells is the queue that stood, which is then empty (`poll_told`).
+-- 3. Sessions end one after the other: how far that has come (`EndsSoFar`), one on (`one_ended`),
+--    and all of them (`ended_all`).
+-- 4. Sessions live on beside those that change or begin (`live_changed`, `live_begun`).
+-- 5. So subscriptions stay in order beside them (`ordered_by`, `ordered_beside`, `former_ordered`).
 use Rattle.std.proofs.Common.{◌≡◌, ◌≢◌, refl, sym, ◌∙◌, ap, subst, ℕ, ◌+◌, ◌<◌, ◌≤◌, ◌==◌, Bool, true, false, List, [], ◌∷◌, ◌++◌, drop, get_or, length, map, Option, None, Some, inl, inr, arith}
 use Rattle.std.proofs.lemmas.Bool.{cases_Bool, eq-eqb}
 use Rattle.std.proofs.lemmas.Bool.Decides.{nat_tests}

@@ -1,6 +1,11 @@
 -- How a session begins, in place of the one that its client has.
--- First: parts of which the sessions have more room (`ready_with`). Then: whether the client can be given a session. Last: that it
--- begins (`begins`).
+-- 1. Parts of which the sessions have more room are as ready as before (`ready_with`).
+-- 2. Whether the client can be given a session is what the code has tested (`full_is`,
+--    `full_where_counted`); where not, that is the answer (`full_leads`).
+-- 3. Once the former session is gone there is room, and the client has none (`fewer`, `freed`).
+-- 4. The session that is begun is the next one (`begun_is`), and so is the state it leads to
+--    (`leads`).
+-- 5. That it can be opened (`can_open`), and so all together: it begins (`begins`).
 use Rattle.std.proofs.Common.{◌≡◌, refl, sym, ◌∙◌, ap, subst, ℕ, ◌+◌, ◌-◌, ◌^◌, ◌<◌, ◌≤◌, ◌==◌, ◌&&◌, ◌||◌, Bool, true, false, List, [], ◌∷◌, ◌++◌, length, map, Option, None, Some, is_none, nat_le, min, Result, inl, inr, arith, append-nil}
 use Rattle.std.proofs.lemmas.Bool.{cases_Bool, or_parts}
 use Rattle.std.proofs.lemmas.Bool.Decides.{nat_tests}

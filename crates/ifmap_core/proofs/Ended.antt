@@ -1,6 +1,11 @@
--- Sessions of which some have expired: what is found among those that are left, and how they end one after the other.
--- First: what a search finds among those that a filter leaves (`found_left`, `id_lost`, `client_lost`). Then: sessions end one after the
--- other (`can_end`, `without_each`), and how many are left (`left_length`). Last: so do those that are expired (`expired_end`).
+-- Sessions of which some have expired: what is found among those left, and how they end in turn.
+-- 1. What a search finds among those that a filter leaves (`found_left`, `none_left`).
+-- 2. Where the session of an id, or of a client, goes, there is no other (`id_lost`,
+--    `client_lost`).
+-- 3. Sessions end one after the other: each is live when its turn comes (`can_end`), and together
+--    they leave what all of them leave at once (`without_each`).
+-- 4. How many sessions are left (`left_length`).
+-- 5. So those can end that are expired (`expired_end`).
 use Rattle.std.proofs.Common.{◌≡◌, refl, sym, ◌∙◌, ap, subst, ℕ, ◌+◌, ◌≤◌, ◌==◌, Bool, true, false, not, List, [], ◌∷◌, length, map, nat_eq, None, Some, inl, inr, arith}
 use Rattle.std.proofs.lemmas.Bool.{cases_Bool, eq-eqb}
 use Rattle.std.proofs.lemmas.Bool.Decides.{nat_tests}

@@ -1,6 +1,10 @@
 -- What holds of parts once what was pending of an event is queued and let go of.
--- First: sessions that are told something are the same sessions. Then: what was pending can be told. Then, over parts of which all is told
--- and let go of: they are sound but for what is left to do (`would_be`), and that can be done (`can_apply`).
+-- 1. Sessions that are told something keep serials and clients (`serial_told`, `live_told`).
+-- 2. What was pending can be told, once the expired sessions have ended (`can_tell_rest`).
+-- 3. Then the parts are sound but for what is left to do (`would_be`).
+-- 4. What is left to do can be done on them (`can_apply`), a session begun and names changed
+--    included.
+-- 5. The state they are in and the answer are those of the definition (`finished`).
 use Rattle.std.proofs.Common.{◌≡◌, ◌≢◌, refl, sym, ◌∙◌, ap, subst, ℕ, ◌+◌, ◌<◌, ◌≤◌, ◌==◌, List, [], ◌∷◌, ◌++◌, length, map, Option, None, Some, arith}
 use Rattle.std.proofs.lemmas.List.{length-map}
 use Rattle.std.specs.BTreeMap.{get}

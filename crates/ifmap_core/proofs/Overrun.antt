@@ -1,6 +1,10 @@
--- Queues that are greater than their limit, or not. First, where none is, nothing overflows (`no_overflow`). Then one session's queue is
--- another, which is within its limit (`changed_within`), or is not, so that it alone overflows (`over_is`). Last, renamings in a session
--- leave the subscriptions of the others (`others_renamed`).
+-- Queues that are greater than their limit, or not.
+-- 1. Where none is, nothing overflows (`no_overflow`).
+-- 2. One session has another queue, which is within its limit, so that all are (`changed_within`).
+-- 3. Where it is not, its session and its subscriptions alone overflow (`over_sessions`,
+--    `over_standing`), so the session is told one error in place of all (`over_is`).
+-- 4. Subscriptions whose serials do not fall stay so as one is put in or dropped (`grows_put`).
+-- 5. So renamings in a session leave the subscriptions of the others (`others_renamed`).
 use Rattle.std.proofs.Common.{◌≡◌, refl, sym, ◌∙◌, ap, ℕ, ◌<◌, ◌≤◌, ◌==◌, ◌&&◌, Bool, true, false, not, List, [], ◌∷◌, ◌++◌, map, Option, Some, None, inl, inr, arith}
 use Rattle.std.proofs.Math.Bool.{or-false}
 use Rattle.std.proofs.lemmas.Bool.{and_right, cases_Bool, cases_order, eq-eqb, eqb-true}

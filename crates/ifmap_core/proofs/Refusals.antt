@@ -1,6 +1,13 @@
--- When the cases of the step refuse, and with which code.
--- For each code, when each case refuses with it: by `missing`, `denied`, `other` for requests in a session, and by the tests of a new
--- session, a search, a purge and a poll for themselves. Each cause and its refusal are then tied both ways, and a refusal leaves the state.
+-- When the step of the machine refuses, and with which code.
+-- 1. What is done within a session refuses for its own cause alone, if at all: a search, a purge, a
+--    poll, a subscribe (`search_refuses` to `subscribe_leaves`).
+-- 2. A request in a session refuses for want of it (`missing`), as another's (`denied`), or as what
+--    is accepted does (`other`), and leaves the state (`leaves`); a poll likewise (`poll_missing`).
+-- 3. The causes of a search (`too_much`), of a subscribe (`no_room`) and of a new session
+--    (`none_left`).
+-- 4. Code by code, over all asks, the refusal is tied both ways to its cause: `invalid_session`,
+--    `access_denied`, `system_error`, `too_big`.
+-- 5. A refusal changes nothing (`refusal_leaves`).
 use Rattle.std.proofs.Common.{◌≡◌, ◌≢◌, ◌↔◌, refl, sym, ◌∙◌, ap, subst, ℕ, ◌-◌, ◌^◌, ◌<◌, ◌≤◌, ◌==◌, ◌&&◌, Bool, true, false, List, [], ◌∷◌, length, Option, None, Some, inl, inr, ◌⊎◌, nat_le, is_none, arith}
 use Rattle.std.proofs.lemmas.Bool.{and_from, and_parts, both_ways, cases_Bool, eq-eqb, eqb-true, or_cases, or_left, or_right}
 use Rattle.std.proofs.lemmas.Bool.Decides.{nat_tests}

@@ -1,6 +1,10 @@
--- What is told item by item is the difference of the results. In order: entries of items, one after the other, are a filtered
--- list of attachments (`joined`); whether a result has the entry of an attachment (`in_other`); the two filters agree
--- (`pointwise`); `difference_is`.
+-- What is told item by item is the difference of the results.
+-- 1. Rows tie in their order exactly where their entries have the same bytes (`tie_bytes`).
+-- 2. What is left out on one item is a filter of what is stored there (`one_item`).
+-- 3. So entries of items, one after the other, are a filtered list of attachments (`joined`).
+-- 4. Whether the other result has the entry of an attachment (`in_other`), and so that the two
+--    filters agree on each (`pointwise`).
+-- 5. So what is left out item by item is the difference of the results (`difference_is`).
 use Rattle.std.proofs.Common.{◌≡◌, inl, inr, Bool, true, false, cond, not, ◌&&◌, List, [], ◌∷◌, ◌++◌, map, refl, ap, ◌∙◌}
 use Rattle.std.proofs.Common.{sym, subst}
 use Rattle.std.proofs.lemmas.Bool.{and_from, and_parts, cases_Bool}

@@ -1,4 +1,12 @@
 -- What comes of questions, of requests and of posts.
+-- 1. Each comes of the next within it: a request of its question (`as_request`), a post of a
+--    request that it means (`as_post`), and a post for which nothing is asked of nothing
+--    (`unasked`).
+-- 2. A request that is asked once: what it comes to, by its answer (`once_replied`, `once_spent`).
+-- 3. What is told to a poll fits (`told_fits`), and events weigh no more than allowed (`light_by`).
+-- 4. Requests as the code matches them, by copies of their parts (`request_is`, `first_is`).
+-- 5. Posts that are refused unasked (`refused_post`), and a reply that is no poll's
+--    (`plain_finding`).
 use Rattle.std.proofs.Common.{◌≡◌, ◌≢◌, ◌⊎◌, ℕ, ◌+◌, ◌*◌, ◌≤◌, Bool, false, arith, List, [], ◌∷◌, length, Ok, Err, inl, inr, refl, sym, ap, subst, ◌∙◌}
 use Rattle.ifmap_http.specs.ifmap_heads.Limits.{longest_post}
 use Rattle.rand_chacha.specs.ChaCha.{ChaCha}

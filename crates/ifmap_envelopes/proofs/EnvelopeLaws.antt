@@ -323,15 +323,33 @@ one_part parts index e f a b =
     let parts_same : part_of e ≡ part_of f = cc in
     cc
 
-pub body_taken : (parts : List Part) (index : ℕ) (e : Element) → ((body : Element) × IsBodyAt parts index body) → IsPartAt parts index e
-    → IsBodyAt parts index e
-body_taken parts index e b there =
-    subst (λ (body : Element). IsBodyAt parts index body) (one_part parts index b.0 e (body_stands parts index b.0 b.1) there) b.1
+-- an element of which a property tells by the parts beside it, and which is taken where it stands
+module _ (IsThere : List Part → ℕ → Element → Type 0)
+    (place : (parts : List Part) (index : ℕ) (e : Element) → IsThere parts index e → IsPartAt parts index e) where
+  taken_there : (parts : List Part) (index : ℕ) (e : Element) → ((f : Element) × IsThere parts index f) → IsPartAt parts index e
+      → IsThere parts index e
+  taken_there parts index e b there =
+      subst (λ (f : Element). IsThere parts index f) (one_part parts index b.0 e (place parts index b.0 b.1) there) b.1
 
-pub alone_taken : (parts : List Part) (index : ℕ) (e : Element) → ((f : Element) × IsOnlyElement parts index f) → IsPartAt parts index e
-    → IsOnlyElement parts index e
-alone_taken parts index e a there =
-    subst (λ (f : Element). IsOnlyElement parts index f) (one_part parts index a.0 e (alone_stands parts index a.0 a.1) there) a.1
+  -- the children as a slice, and as they are held
+  module _ {sliced children : List Child} (slice_is : sliced ≡ children) where
+    pub none_sliced : ((index : ℕ) (e : Element) → IsThere (parts_in sliced) index e → ⊥) → (index : ℕ) (e : Element)
+        → IsThere (parts_in children) index e → ⊥
+    none_sliced none index e a = none index e (subst (λ (cs : List Child). IsThere (parts_in cs) index e) (sym slice_is) a)
+
+    module _ {held : List Child} (held_are : held ≡ children) (index : ℕ) (there : (f : Element) × IsThere (parts_in sliced) index f) where
+      pub none_held : ((e : Element) → IsPartAt (parts_in held) index e → ⊥) → (i : ℕ) (e : Element)
+          → IsThere (parts_in children) i e → ⊥
+      none_held none i e a =
+          none there.0
+          (subst (λ (cs : List Child). IsPartAt (parts_in cs) index there.0) (slice_is ∙ sym held_are)
+          (place (parts_in sliced) index there.0 there.1))
+
+      pub found_held : (e : Element) → IsPartAt (parts_in held) index e → IsThere (parts_in children) index e
+      found_held e at =
+          subst (λ (cs : List Child). IsThere (parts_in cs) index e) slice_is
+          (taken_there (parts_in sliced) index e there
+          (subst (λ (cs : List Child). IsPartAt (parts_in cs) index e) (sym (slice_is ∙ sym held_are)) at))
 
 -- a child that is taken out
 

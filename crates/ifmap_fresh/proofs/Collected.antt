@@ -1,6 +1,12 @@
--- The items that are collected number by number are those that the search looks at, and what is found on them is the
--- result. In order: which numbers are passed; from an item that is collected to one that is looked at (`looked_at`);
--- the other way (`collects`); then lists: entries item by item are the filtered list (`entries_are`).
+-- The items collected number by number are those that the search looks at, and give the result.
+-- 1. Which numbers are passed: those of the identifiers that are expanded (`passed_expanded`,
+--    `expanded_passed`).
+-- 2. An item that is collected is looked at (`looked_at`), and is one that elements mean
+--    (`canon_of`).
+-- 3. An item that is looked at is brought by one of its ends, so it is collected (`collects`); all
+--    together is `all_collected`.
+-- 4. Entries item by item are a filtered list of attachments (`entries_gathered`).
+-- 5. So what stands on the items and meets the filter is the result (`entries_are`).
 use Rattle.std.proofs.Common.{◌≡◌, ◌≢◌, ℕ, ◌<◌, Bool, true, false, cond, not, ◌&&◌, ◌||◌, Option, Some, None, List, [], ◌∷◌}
 use Rattle.std.proofs.Common.{◌++◌, map, nat_lt, refl, ap, ◌∙◌, sym, subst, inl, inr, arith}
 use Rattle.std.proofs.lemmas.Bool.{and_parts, cases_Bool, lt-ltb, ltb-true, not-true, or_cases, or_right}
@@ -42,6 +48,12 @@ use Rattle.ifmap_fresh.proofs.Meaning.{mark_walk, to_identifier, to_number, walk
 use Rattle.ifmap_fresh.specs.laws.SameLaws.{member, pair_canon, pair_is, pair_parts, pair_turned}
 use Rattle.ifmap_fresh.specs.laws.SameLaws.{same_item_is}
 use Rattle.ifmap_ident.specs.SameLaws.{item_itself, BytesTellIdentifiers}
+
+-- items that a search looks at, each of them at least once
+pub record AreCollected (rows : List Attachment) (s : Search) (items : List Item) : Type 0 where
+  pub there : (x : Item) → Has items x → is_looked_at rows s x ≡ true
+  pub back : (x : Item) → IsCanonItem x → is_looked_at rows s x ≡ true → Has items x
+  pub canon : (x : Item) → Has items x → IsCanonItem x
 
 lt_turned : (a b : ℕ) → nat_lt a b ≡ true → nat_lt b a ≡ false
 lt_turned a b e = grind (arith, nat_tests)
@@ -112,7 +124,7 @@ module _ (tells : BytesTellIdentifiers) (rows : List Attachment) (id_at : ℕ �
       by_match true m q = by_lesser (nat_lt seen.other v && passed seen.other) m q
       by_match false m q = absurd (none-some item q)
 
-  pub looked_at : (item : Item) → Has (items_of_numbers rows id_at links s mark keys) item → is_looked_at rows s item ≡ true
+  looked_at : (item : Item) → Has (items_of_numbers rows id_at links s mark keys) item → is_looked_at rows s item ≡ true
   looked_at item h =
       let j = joined_has (items_of_number rows id_at links s mark) keys item h
       in elim (has_either (item_alone (id_at j.0)) (cond (passed j.0)
@@ -139,7 +151,7 @@ module _ (tells : BytesTellIdentifiers) (rows : List Attachment) (id_at : ℕ �
       others v false p h = absurd h
 
   -- and it is an item that elements mean
-  pub canon_of : (item : Item) → Has (items_of_numbers rows id_at links s mark keys) item → IsCanonItem item
+  canon_of : (item : Item) → Has (items_of_numbers rows id_at links s mark keys) item → IsCanonItem item
   canon_of item h =
       let j = joined_has (items_of_number rows id_at links s mark) keys item h
       in elim (has_either (item_alone (id_at j.0)) (cond (passed j.0)
@@ -212,7 +224,7 @@ module _ (tells : BytesTellIdentifiers) (rows : List Attachment) (id_at : ℕ �
           let q = and_parts (is_below s.max_depth (mark v)) (not (is_terminal_at s.terminal (id_at v))) p
           in let m = below_mark (mark v) q.0 in keyed v m.0 m.1
 
-  pub collects : (item : Item) → IsCanonItem item → is_looked_at rows s item ≡ true
+  collects : (item : Item) → IsCanonItem item → is_looked_at rows s item ≡ true
       → Has (items_of_numbers rows id_at links s mark keys) item
   collects (One a) i e =
       let r = (reached_by_walks tells rows is.graph.items s first a i.identifiers.0).0 e
@@ -228,6 +240,14 @@ module _ (tells : BytesTellIdentifiers) (rows : List Attachment) (id_at : ℕ �
         | inr x ↦ from_end b a (Pair a b) i.identifiers.1.0 i.identifiers.0 (match_turned rows s.match_links b a ∙ p.0)
             (pair_turned b a ∙ pair_is a b i.ordered) x
       ]
+
+  -- so the items that are collected are what the search looks at
+  pub all_collected : (items : List Item) → items ≡ items_of_numbers rows id_at links s mark keys → AreCollected rows s items
+  all_collected items e = record {
+    there = λ x h. looked_at x (subst (λ (l : List Item). Has l x) e h);
+    back = λ x i l. subst (λ (xs : List Item). Has xs x) (sym e) (collects x i l);
+    canon = λ x h. canon_of x (subst (λ (l : List Item). Has l x) e h);
+  }
 
 module _ (by : Option Filter) where
   abbrev meeting : Attachment → Bool

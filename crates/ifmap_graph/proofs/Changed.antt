@@ -1,4 +1,10 @@
--- What holds of a graph's parts as room is made, and as an item's shelf comes.
+-- What holds of a graph's parts (`IsInside`) as its names get room, and as an item's shelf comes.
+-- 1. Where the same identifiers live, more room changes nothing that holds (`roomier`).
+-- 2. An item's shelf comes, empty on both sides: its ends are held once more (`inside_comes`).
+-- 3. A number that is live was live where it is named as before (`was_live`).
+-- 4. An empty shelf goes: the entry that has it is found (`entry_there`), its ends are held once
+--    less (`own_stays`), and all else stays (`inside_goes`).
+-- 5. An identifier is held once more for itself (`inside_held`).
 use Rattle.std.proofs.Common.{◌≡◌, ◌≢◌, ℕ, ◌+◌, ◌-◌, ◌≤◌, Option, Some, None, IsSome, List, [], ◌∷◌, length, option_map, refl, ap, ◌∙◌, sym, subst, arith}
 use Rattle.std.specs.BTreeMap.{is_at, insert_entry}
 use Rattle.std.specs.FinMap.{get}

@@ -1,6 +1,11 @@
--- Drawing a ticket, and looking whether it is served. Each is a `Goes`, a slot, and then what the table asks of a step
--- (`draws`, `looks`, `checks`), over the words that the rule names. Who has the ticket that is served finds the book in its slot
--- (`finds`), and equal remainders are equal tickets since no more tickets are out than there are parts (`is_served`).
+-- Drawing a ticket, and looking whether it is served.
+-- 1. The slot stays where a seat that has no book changes into one that has none (`same_slot`).
+-- 2. A seat that has a ticket or the book has a part (`has_part`, `holder_served`).
+-- 3. Each step is a `Goes`: the next ticket is drawn (`draw_goes`), or the book is taken
+--    (`look_goes`).
+-- 4. Who has the ticket that is served finds the book in its slot (`finds`); equal remainders are
+--    equal tickets, since no more tickets are out than there are parts (`is_served`).
+-- 5. So the table allows each step, over the words that the rule names: `draws`, `looks`, `checks`.
 use Rattle.std.proofs.Common.{◌≡◌, ◌⊎◌, ℕ, ◌+◌, ◌%◌, ◌^◌, ◌<◌, List, [], ◌∷◌, set, slice_index, true, false, refl, sym, ap, subst, ◌∙◌, inl, inr, arith}
 use mathlib.Core.Option.{none, some-injective}
 use native.Mathlib.Nat.{mod-add-mod}

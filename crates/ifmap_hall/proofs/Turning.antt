@@ -1,6 +1,13 @@
--- What a turn of the book that a pass found makes of what the pass is seen as. `Grew` says by which entries the book grew: it is
--- found from what carries on (`grew`), by none where the end is the same and by the one that was entered (`grew_as_told`). From it
--- come what the book may be given back as, what the turn tells, and what each answer says.
+-- What a turn of the book that a pass found makes of what the pass is seen as.
+-- 1. `Grew` says by which entries the book grew: found from what carries on (`grew`), it is by none
+--    where the end is the same (`grew_by_none`), and by the one that was entered (`grew_by_one`).
+-- 2. So the history gains one entry at most (`gains_by`), and the book may be given back
+--    (`gives_by`).
+-- 3. What the turn tells, by those entries (`took_by`), is nothing (`silent_by`) or its reply
+--    (`said_by`).
+-- 4. The entries are those of which the answer tells (`grew_as_told`), so each answer is one that a
+--    pass may give (`answers_by`).
+-- 5. All of it together is `turned`.
 use Rattle.std.proofs.Common.{◌≡◌, ℕ, ◌+◌, ◌-◌, ◌^◌, ◌<◌, ◌≤◌, List, [], ◌∷◌, ◌++◌, length, take, drop, map, Bool, true, false, refl, sym, ap, subst, ◌∙◌, inl, inr, arith, append-nil, length-append, length-drop, take-add}
 use Rattle.std.proofs.lemmas.List.{nil_from_length, take-append-drop}
 use Rattle.std.proofs.Math.Seq.{drop-append_seam, drop-length}

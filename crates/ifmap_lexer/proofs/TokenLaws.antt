@@ -1,6 +1,11 @@
 -- Tokens that are read are those that stand there.
--- A module for each kind of token, with the steps of its function as parameters: what is found is a token, and a refusal of a step is one
--- of the whole (`no_..`). At the end, what every token takes is not empty, so that a reader goes on.
+-- 1. The kind at the front decides which token can stand there (`of_kind`, `kind_refused`).
+-- 2. Then kind by kind, with the steps of its function as parameters: what is found is a token
+--    (`comment_found`, `section_found`, `end_found`), and a refusal of a step is one of the whole
+--    (`no_..`).
+-- 3. So for start tags and empty ones (`start_found`, `empty_found`), and for text (`text_found`).
+-- 4. What each token takes is not empty (`token_front`), so a reader goes on (`token_length`).
+-- 5. A refusal as malformed says that no token stands there (`malformed_of`).
 use Rattle.std.proofs.Common.{◌≡◌, ◌≢◌, ℕ, ◌+◌, ◌-◌, ◌≤◌, Bool, true, false, not, List, [], ◌∷◌, ◌++◌, length, drop, refl, ap, sym, ◌∙◌}
 use Rattle.std.proofs.Common.{subst, arith, append_assoc, length-append}
 use Rattle.std.specs.Prelude.{◌==◌, codes, Result, Ok, Err, IfErr}

@@ -1,6 +1,12 @@
--- That what is to stay as long as a session belongs to a live session of the client that published it.
--- First: a life outlasts what is done to other sessions (`life_mapped`, `life_dropped`, `life_begun`). Then each case of the step keeps
--- it (`step_lives`), and so does each history.
+-- What is to stay as long as a session belongs to a live session of the client that published it.
+-- 1. One life outlasts what is done to other sessions (`life_mapped`, `life_dropped`,
+--    `life_begun`).
+-- 2. So all do: where sessions change (`lives_mapped`), where rows go (`lives_filter`), where
+--    sessions end with what they published (`lives_left`), and where a row comes
+--    (`lives_attached`).
+-- 3. A publish gives what it attaches the life of its own session (`apply_lives`).
+-- 4. Each case of the step keeps it (`step_lives`), and each event does (`event_lives`).
+-- 5. So it holds after each history (`lives_after`).
 use Rattle.std.proofs.Common.{◌≡◌, refl, sym, ◌∙◌, ap, subst, ℕ, ◌==◌, Bool, true, false, not, List, [], ◌∷◌, ◌++◌, map, Option, None, Some}
 use Rattle.std.proofs.Common.{inl, inr, arith, if◌then◌else◌}
 use Rattle.std.proofs.lemmas.Bool.{cases_Bool}

@@ -1,6 +1,11 @@
--- What holds of the subscriptions that stand in every state: they rise by session and name, and a session has 1,000 at most.
--- First: how many of a filtered list, and of a list with one put in (`put_counted`, `one_gone`). Then what filters and
--- a new subscription keep (`stood_filter`, `stood_begun`), the fold of a subscribe (`stood_ops`), and each case of the step.
+-- What holds of the subscriptions in every state (`AreStood`): they rise by session and name, and a
+-- session has 1,000 at most.
+-- 1. How many of a list pass a test, where one goes (`one_gone`) or is put in (`put_counted`).
+-- 2. What a filter keeps (`stood_filter`), and a subscription that begins where there is room
+--    (`stood_begun`).
+-- 3. So each operation of a subscribe keeps it, and the fold of them does (`stood_ops`).
+-- 4. So does each case of the step (`step_stood`), and each event (`event_stood`).
+-- 5. So it holds after each history (`stood_after`).
 use Rattle.std.proofs.Common.{◌≡◌, refl, ◌∙◌, ap, subst, ℕ, ◌+◌, ◌<◌, ◌≤◌, ◌==◌, Bool, true, false, not, List, [], ◌∷◌}
 use Rattle.std.proofs.Common.{◌++◌, length, Option, None, Some, option_and_then, inl, inr, nat_le, arith, length-append}
 use Rattle.std.proofs.lemmas.Bool.{and_cases, and_parts, cases_Bool}

@@ -1,6 +1,10 @@
--- What holds of the sessions in every state: `IsTable`, kept by each case of the step.
--- First: a function of each session that keeps its serial, id and client keeps it (`mapped_table`); so telling and overflowing do.
--- Then: some sessions end (`dropped_table`). Then the cases of the step (`step_table`), and histories (`table_after`).
+-- What holds of the sessions in every state (`IsTable`), kept by each case of the step.
+-- 1. A function of each session that keeps its serial, id and client keeps it (`mapped_table`);
+--    telling and overflowing are such (`tell_table`, `overflow_table`).
+-- 2. Some sessions end (`dropped_table`), so expired ones and those named do (`expired_table`).
+-- 3. One begins, where the client has none and there is room (`begun_tabled`, `new_table`).
+-- 4. So the step keeps it, case by case (`step_table`), and each event does (`event_table`).
+-- 5. It holds in the opening state (`opening_table`), so after each history (`table_after`).
 use Rattle.std.proofs.Common.{◌≡◌, refl, sym, ◌∙◌, ap, subst, ℕ, suc, ◌+◌, ◌-◌, ◌^◌, ◌<◌, ◌≤◌, ◌==◌, ◌&&◌, true, false}
 use Rattle.std.proofs.Common.{List, [], ◌∷◌, length, map, Option, None, Some, inl, inr, nat_le, is_none, arith}
 use Rattle.std.proofs.lemmas.Bool.{and_cases, both_ways, cases_Bool, or_parts}

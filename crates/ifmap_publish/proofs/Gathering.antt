@@ -1,6 +1,12 @@
--- What many rows make of a list, each instead of the one with its key: those that go are found by key, and what comes is put at once.
--- The plan: what a search by keys finds (AreKeyed); what is taken and put then; that rows over rows over a list are rows over a list,
--- by what such lists have; so rows one after the other are the last of each key, over the list; and what edit makes it.
+-- What many rows make of a list, each instead of the one with its key.
+-- 1. What a search by keys finds, key by key (`keyed_more`, `keyed_none`), is all that has one of
+--    them.
+-- 2. What is taken then is all that has one of the keys (`keys_taken`), and what is put is the new
+--    rows over the others (`keyed_over`).
+-- 3. Rows over the keys of a list: over rows that are over a list, they are those of both
+--    (`over_over`).
+-- 4. So rows one after the other are the last of each key, over the list (`attached_over`).
+-- 5. So the edit that takes what is found and puts the last rows makes that list (`makes_all`).
 use Rattle.std.proofs.Common.{◌≡◌, ◌⊎◌, ◌∙◌, refl, sym, ap, subst, inl, inr, ℕ, ◌+◌, ◌<◌, Bool, true, false, not, ◌||◌, List, [], ◌∷◌, ◌++◌}
 use Rattle.std.proofs.Common.{get_or, length, take}
 use Rattle.std.proofs.Math.Bool.{or-false}

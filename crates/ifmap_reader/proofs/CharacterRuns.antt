@@ -1,6 +1,11 @@
--- Characters that a document can have: beside each other, cut before an ASCII byte, and as line ends, white space and references mean them.
--- Over characters and not over bytes: line ends and white space of a character's bytes, a cut before an ASCII byte, and then runs and
--- references, so that what written characters mean is characters again.
+-- Characters that a document can have stay such where written text is read for what it means.
+-- 1. One character before others, and what is left after an ASCII one (`after_low`).
+-- 2. Line ends are made newlines (`lines_characters`), and white space spaces
+--    (`spaced_characters`).
+-- 3. A cut before an ASCII byte leaves characters on both sides (`cut_characters`).
+-- 4. What a reference means is a character (`referred_fits`).
+-- 5. Written text is runs and references (`parts_fit`), so what texts and values mean is characters
+--    (`text_characters`, `value_characters`).
 use Rattle.std.proofs.Common.{◌≡◌, ℕ, ◌<◌, ◌≤◌, Bool, true, false, not, ◌||◌, List, [], ◌∷◌, ◌++◌, map, length, refl, ap, sym, ◌∙◌, subst, arith, append_assoc, drop, inl, inr}
 use Rattle.std.specs.Prelude.{◌==◌, ◌&&◌, if◌then◌else◌, codes, encode_utf8, encode_utf8_all, Option, Some, None, nat_le}
 use Rattle.std.specs.Char.{is_digit}

@@ -1,6 +1,11 @@
 -- The element that fit tokens mean is fit, and so is what it declares.
--- First what scopes bind (`bound_fits`), then the attributes that a tag gives, then the children among items and the declarations, and last
--- an induction over pieces: what the tokens of a document give (`FitTokens`) makes each element in it one that fits.
+-- 1. The scope within a fit tag binds to namespaces that fit (`within_fits`, `bound_fits`).
+-- 2. So the attributes that a tag gives fit (`attributes_fit`).
+-- 3. The children among fit items are texts apart, none of them blank beside elements
+--    (`children_fit`); the elements in them fit alone (`inner_fit`).
+-- 4. So do declarations (`declared_fit`), and with all of these the element (`element_fits`).
+-- 5. By induction over pieces each item fits (`means_fit`), so what bytes spell does
+--    (`spelled_fits`).
 use Rattle.std.proofs.Common.{◌≡◌, ◌≢◌, ℕ, ◌+◌, Bool, true, false, List, [], ◌∷◌, map, refl, ap, sym, ◌∙◌, subst, inl, inr}
 use Rattle.std.specs.Prelude.{◌&&◌, if◌then◌else◌, codes, filter, Option, Some, None, IfSome, is_none}
 use Rattle.std.specs.List.{AllByRecursion, cons_option, filter_map, flat_map, list_all, list_any}

@@ -1,6 +1,10 @@
--- Elements that a document can have, arranged, of so many levels at most.
--- 1. Names and attributes that are spelled out.
--- 2. An element of elements, and one of a text.
+-- Elements that a document can have, arranged, of so many levels at most (`IsGood`).
+-- 1. Namespaces, name parts and attributes that are spelled out fit (`plain_name`,
+--    `attribute_fits`), and names whose local parts differ, differ (`two_differ`, `three_differ`).
+-- 2. What is good is good within more levels (`good_within`).
+-- 3. Elements as children are apart and none is blank (`children_fit`), and are arranged already.
+-- 4. So an element of good elements is good, of one level more (`good_elements`).
+-- 5. An element of a text is good, of one level (`good_text`).
 use Rattle.std.proofs.Common.{◌≡◌, ◌≢◌, ◌∙◌, ◌&&◌, ℕ, ◌+◌, ◌≤◌, suc, Bool, true, false, List, [], ◌∷◌, ◌++◌, map, codes, refl, ap, arith}
 use Rattle.std.proofs.Common.{subst, sym}
 use Rattle.std.proofs.lemmas.Bool.Decides.{not_from_Decides}

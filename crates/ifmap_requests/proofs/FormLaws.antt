@@ -1,9 +1,12 @@
 -- Requests and operations by their forms.
 -- 1. A form by the name of its element.
 -- 2. Searches with a text before their attributes.
--- 3. The attributes of a search.
+-- 3. The attributes of a search, each with those before it (`refused_links` to `all_bounds`).
+-- 4. A search, after its attributes.
+-- 5. A form that is read, before something is made of it.
 use Rattle.std.proofs.Common.{◌≡◌, ℕ, ◌++◌, Bool, true, false, List, [], ◌∷◌, Option, Result, Ok, Err, inl, inr, refl, ap, subst}
 use Rattle.std.proofs.Common.{sym}
+use Rattle.std.specs.Result.{IsErrAnd}
 use Rattle.ifmap_elem.specs.declared.elements.Element.{Element}
 use Rattle.ifmap_elem.specs.declared.elements.Name.{Name}
 use Rattle.ifmap_elem.specs.Building.{is_name}
@@ -18,8 +21,8 @@ use Rattle.ifmap_search.specs.declared.searches.Search.{Search}
 use Rattle.ifmap_forms.specs.declared.errors.FormError.{FormError}
 use Rattle.ifmap_forms.specs.declared.errors.FormError.TheVariants.{Named, NoMemory}
 use Rattle.ifmap_forms.specs.AnswerLaws.{found_after, found_alone, found_beside, refused_alone, refused_at_field, refused_beside}
-use Rattle.ifmap_forms.specs.AnswerLaws.{refused_test}
-use Rattle.ifmap_forms.specs.Answers.{IsChecked, IsCheckRefusal}
+use Rattle.ifmap_forms.specs.AnswerLaws.{refused_exit_as, refused_test}
+use Rattle.ifmap_forms.specs.Answers.{IsChecked, IsCheckedAs, IsCheckRefusal}
 use Rattle.ifmap_forms.specs.Checks.{Check, check_if, check_then, need, pass}
 use Rattle.ifmap_forms.specs.Items.{start_check, start_content}
 use Rattle.ifmap_forms.specs.Scopes.{Scopes}
@@ -120,42 +123,49 @@ module _ {X : Type 0} (field : Field (List ℕ)) (name : Name) (passed : List (L
 
 -- ---- 3. the attributes
 
+-- where an attribute is refused, its error is the answer
 module _ (scope : Scope) (e : Element) where
-  pub refused_links : (error : FormError) → IsCheckRefusal (field_check links_field scope e) error
-      → IsCheckRefusal (search_attributes.reads scope e) error
-  refused_links error f = refused_at_field links_field after_links scope e error f
+  pub refused_links : (r : Result Bounds FormError) (error : FormError) → IsErrAnd r (λ x. x ≡ error)
+      → IsCheckRefusal (field_check links_field scope e) error → IsCheckedAs values_of (search_attributes.reads scope e) r
+  refused_links r error exits f =
+      refused_exit_as values_of (search_attributes.reads scope e) r error exits
+      (refused_at_field links_field after_links scope e error f)
 
   module _ (links : Option Filter) (a : field_check links_field scope e (Ok links)) where
-    pub refused_depth : (error : FormError) → IsCheckRefusal (field_check depth_field scope e) error
-        → IsCheckRefusal (search_attributes.reads scope e) error
-    refused_depth error f =
-        refused_beside links_field after_links scope e links error a (refused_at_field depth_field after_depth scope e error f)
+    pub refused_depth : (r : Result Bounds FormError) (error : FormError) → IsErrAnd r (λ x. x ≡ error)
+        → IsCheckRefusal (field_check depth_field scope e) error → IsCheckedAs values_of (search_attributes.reads scope e) r
+    refused_depth r error exits f =
+        refused_exit_as values_of (search_attributes.reads scope e) r error exits
+        (refused_beside links_field after_links scope e links error a (refused_at_field depth_field after_depth scope e error f))
 
     module _ (depth : ℕ) (b : field_check depth_field scope e (Ok depth)) where
-      pub refused_size : (error : FormError) → IsCheckRefusal (field_check size_field scope e) error
-          → IsCheckRefusal (search_attributes.reads scope e) error
-      refused_size error f =
-          refused_beside links_field after_links scope e links error a
-          (refused_beside depth_field after_depth scope e depth error b (refused_at_field size_field after_size scope e error f))
+      pub refused_size : (r : Result Bounds FormError) (error : FormError) → IsErrAnd r (λ x. x ≡ error)
+          → IsCheckRefusal (field_check size_field scope e) error → IsCheckedAs values_of (search_attributes.reads scope e) r
+      refused_size r error exits f =
+          refused_exit_as values_of (search_attributes.reads scope e) r error exits
+          (refused_beside links_field after_links scope e links error a
+          (refused_beside depth_field after_depth scope e depth error b (refused_at_field size_field after_size scope e error f)))
 
       module _ (size : ℕ) (c : field_check size_field scope e (Ok size)) where
-        pub refused_results : (error : FormError) → IsCheckRefusal (field_check result_field scope e) error
-            → IsCheckRefusal (search_attributes.reads scope e) error
-        refused_results error f =
-            refused_beside links_field after_links scope e links error a
+        pub refused_results : (r : Result Bounds FormError) (error : FormError) → IsErrAnd r (λ x. x ≡ error)
+            → IsCheckRefusal (field_check result_field scope e) error → IsCheckedAs values_of (search_attributes.reads scope e) r
+        refused_results r error exits f =
+            refused_exit_as values_of (search_attributes.reads scope e) r error exits
+            (refused_beside links_field after_links scope e links error a
             (refused_beside depth_field after_depth scope e depth error b
             (refused_beside size_field after_size scope e size error c
-            (refused_at_field result_field (table_with kinds_field no_attributes) scope e error f)))
+            (refused_at_field result_field (table_with kinds_field no_attributes) scope e error f))))
 
         module _ (results : Option Filter) (d : field_check result_field scope e (Ok results)) where
-          pub refused_kinds : (error : FormError) → IsCheckRefusal (field_check kinds_field scope e) error
-              → IsCheckRefusal (search_attributes.reads scope e) error
-          refused_kinds error f =
-              refused_beside links_field after_links scope e links error a
+          pub refused_kinds : (r : Result Bounds FormError) (error : FormError) → IsErrAnd r (λ x. x ≡ error)
+              → IsCheckRefusal (field_check kinds_field scope e) error → IsCheckedAs values_of (search_attributes.reads scope e) r
+          refused_kinds r error exits f =
+              refused_exit_as values_of (search_attributes.reads scope e) r error exits
+              (refused_beside links_field after_links scope e links error a
               (refused_beside depth_field after_depth scope e depth error b
               (refused_beside size_field after_size scope e size error c
               (refused_beside result_field (table_with kinds_field no_attributes) scope e results error d
-              (refused_alone kinds_field scope e error f))))
+              (refused_alone kinds_field scope e error f)))))
 
           pub all_bounds : (kinds : List Kind) → field_check kinds_field scope e (Ok kinds)
               → search_attributes.reads scope e (Ok (both links (both depth (both size (both results (both kinds tt))))))

@@ -1,6 +1,12 @@
--- Telling a list of subscriptions, from the first on. First the steps of one more (`within_more`), and of none (`within_none`). Then
--- a relation at each place, of which one is written (`at_set`). Then what holds as far as the loop has come (`Stage`): as it begins,
--- one on, where one fails, and at its end.
+-- Telling a list of subscriptions, from the first on.
+-- 1. The steps of none (`within_none`), and of one more after those before it (`within_more`).
+-- 2. A relation holds at each place where it does before one is written, and at that one
+--    (`at_set`).
+-- 3. `Stage` is what holds once so many are told; it does of none (`stage_first`).
+-- 4. One more is told: the stage is one on (`stage_next`), or it fails and keeps what it kept
+--    (`ways_failed`, `steps_end`).
+-- 5. At the end all are told: their news (`news_end`), what they keep (`kept_end`), steps
+--    (`steps_all`).
 use Rattle.std.proofs.Common.{◌≡◌, ◌≢◌, inl, inr, ℕ, zero, suc, ◌+◌, ◌<◌, ◌≤◌, Bool, true, false, Option, Some, List, [], ◌∷◌, ◌++◌, length, map, get_or, set, slice_get, take, drop, refl, ap, ◌∙◌, sym, subst, arith}
 use Rattle.std.specs.List.{zip}
 use Rattle.std.proofs.lemmas.Bool.{cases_order}

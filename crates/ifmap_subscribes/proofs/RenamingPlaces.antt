@@ -1,6 +1,11 @@
 -- Where the subscription of a name stands among those that stand in order.
--- First: the order, by serial and name (`name_order`). Then: where a search for them ends (`place_found`, `place_none`, `place_gap`).
--- Last: one that stands is taken out (`removed_named`, `cut_at`), or one more is put in (`put_at`, `all_stands`).
+-- 1. The order of what is kept is that of what it stands for, by serial and name (`kept_rising`),
+--    and the code's comparison tells the name (`named_is`).
+-- 2. Where a search ends: at one of the name (`place_found`), or where none stands (`place_none`)
+--    and one may be put (`place_gap`).
+-- 3. One of the name is taken out, and no other (`removed_named`); none is left (`none_left`).
+-- 4. A list around one of its members (`cut_at`); what is found nowhere (`not_found`).
+-- 5. One more is put in, beside the others that stand (`put_at`, `all_stands`).
 use Rattle.std.proofs.Common.{rules, ◌≡◌, refl, sym, ◌∙◌, ap, subst, ℕ, zero, suc, ◌<◌, ◌==◌, ◌&&◌, Bool, true, false, not, cond, List, [], ◌∷◌, ◌++◌, length, map, Some, Option, option_to_list, IsErr, take, drop, take-append-drop, Result, Ok, Err, IfOk, IfErr, OnErr, Ordering, inl, inr, arith, nat_cmp, is_eq}
 use Rattle.std.proofs.lemmas.Bool.{and_parts, cases_Bool, eqb-true, or_left, or_right}
 use Rattle.std.proofs.lemmas.Cmp.{tied_itself}

@@ -1,8 +1,28 @@
 use Rattle.std.proofs.Common.{◌≡◌, ◌∙◌, ap, sym, true, false}
+use Rattle.ifmap_session.specs.Sessions.{Session, is_same_text}
 use Rattle.ifmap_subscribes.specs.ifmap_changes.Between.{Asking}
+use Rattle.ifmap_subscribes.specs.ifmap_changes.Bounds.{IsTakenWithin}
+use Rattle.ifmap_core.specs.Answering.{IsCaseWithin}
+use Rattle.ifmap_core.specs.Bounds.{IsWithinIf}
 use Rattle.ifmap_core.proofs.InSession.{another, no_purges, nobody, purges_not_own, purges_own, purges_own_within}
+use Rattle.ifmap_core.proofs.answering.purge.Given as given
 use Rattle.ifmap_core.proofs.answering.purge.Goals as goal
+use Rattle.ifmap_core.proofs.answering.purge.Goals.{After-take_away}
+use Rattle.ifmap_subscribes.specs.ifmap_machine.State.{State}
 use Rattle.ifmap_subscribes.specs.ifmap_machine.Step.{purge}
+use Rattle.ifmap_subscribes.specs.ifmap_publish.declared.who.Who.TheVariants.{Publisher}
+
+-- the steps of the change, whether there is memory or not
+spent : (g : given.Over) (c : After-take_away g)
+    → IsCaseWithin c.args.wish.now.id.now
+    (λ (before : State) (s : Session). IsWithinIf (is_same_text c.args.wish.now.asked.now s.client)
+    (IsTakenWithin (Publisher c.args.wish.now.asked.now) before))
+    c.args.asking.now c.args.parts.now c.args.pending.now c.args.steps.now c.take_away.new.steps
+spent g c =
+    let client = ap (λ (x : Asking). x.client) c.asking.view_is in
+    purges_own_within c.requires c.args.wish.now.id.now c.in-Own.serial c.in-Own.ensures c.args.steps.now c.take_away.new.steps
+    c.args.wish.now.asked.now _ (c.equals.ensures.0 c.if-not-equals.false ∙ c.text.ensures.text ∙ client)
+    (c.in_ok-copy-in-Own.ensures ∙ client) c.take_away.ensures.steps
 
 pub returns-in_ok-take_away-in-Own-clause-leads : goal.returns-in_ok-take_away-in-Own-clause-leads
 returns-in_ok-take_away-in-Own-clause-leads g c =
@@ -30,18 +50,10 @@ returns-in-Nobody-clause-leads g c =
     c.refuse-in-Nobody.result c.refuse-in-Nobody.ensures
 
 pub returns-in_ok-take_away-in-Own-clause-steps : goal.returns-in_ok-take_away-in-Own-clause-steps
-returns-in_ok-take_away-in-Own-clause-steps g c =
-    let client = ap (λ (x : Asking). x.client) c.asking.view_is in
-    purges_own_within c.requires c.args.wish.now.id.now c.in-Own.serial c.in-Own.ensures c.args.steps.now c.take_away.new.steps
-    c.args.wish.now.asked.now _ (c.equals.ensures.0 c.if-not-equals.false ∙ c.text.ensures.text ∙ client)
-    (c.in_ok-copy-in-Own.ensures ∙ client) c.take_away.ensures.steps
+returns-in_ok-take_away-in-Own-clause-steps g c = spent g (goal.at.returns-in_ok-take_away-in-Own-clause-steps g c).After-take_away
 
 pub returns-in_err-take_away-in-Own-clause-steps : goal.returns-in_err-take_away-in-Own-clause-steps
-returns-in_err-take_away-in-Own-clause-steps g c =
-    let client = ap (λ (x : Asking). x.client) c.asking.view_is in
-    purges_own_within c.requires c.args.wish.now.id.now c.in-Own.serial c.in-Own.ensures c.args.steps.now c.take_away.new.steps
-    c.args.wish.now.asked.now _ (c.equals.ensures.0 c.if-not-equals.false ∙ c.text.ensures.text ∙ client)
-    (c.in_ok-copy-in-Own.ensures ∙ client) c.take_away.ensures.steps
+returns-in_err-take_away-in-Own-clause-steps g c = spent g (goal.at.returns-in_err-take_away-in-Own-clause-steps g c).After-take_away
 
 pub returns-in_err-copy-in-Own-clause-steps : goal.returns-in_err-copy-in-Own-clause-steps
 returns-in_err-copy-in-Own-clause-steps g c = no_purges c.requires c.args.wish.now.id.now c.args.steps.now c.args.wish.now.asked.now

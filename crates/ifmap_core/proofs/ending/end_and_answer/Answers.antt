@@ -9,13 +9,26 @@ use Rattle.ifmap_core.proofs.Exits.{gives_up}
 use Rattle.ifmap_core.proofs.Expiring.{expired_rise, expires_by}
 use Rattle.ifmap_core.proofs.Spending.{ask_none, event_expired, event_none}
 use Rattle.ifmap_core.proofs.Turned.{back_itself}
+use Rattle.ifmap_core.proofs.ending.end_and_answer.Given as given
 use Rattle.ifmap_core.proofs.ending.end_and_answer.Goals as goal
-use Rattle.ifmap_core.specs.Bounds.{IsAskWithin}
+use Rattle.ifmap_core.proofs.ending.end_and_answer.Goals.{After-take_away_kept}
+use Rattle.ifmap_core.specs.Bounds.{IsAskWithin, IsEventWithin}
 use Rattle.ifmap_core.specs.Ending.{state_when}
 use Rattle.ifmap_subscribes.specs.ifmap_machine.Ending.{expire}
 use Rattle.ifmap_subscribes.specs.ifmap_machine.declared.events.Answer.{Answer}
 use Rattle.ifmap_subscribes.specs.ifmap_machine.State.{State}
 use Rattle.ifmap_subscribes.specs.ifmap_machine.Step.{step_ask}
+
+-- the steps of the event, by those of what is asked once the sessions have ended
+spent : (g : given.Over) (c : After-take_away_kept g) (after : ℕ)
+    → IsAskWithin (expire (state_when c.args.time.now c.args.parts.now)) c.args.event.now c.args.event.now.ask
+    c.take_away_kept.new.steps after
+    → IsEventWithin (state_when c.args.time.now c.args.parts.now) c.args.event.now c.args.steps.now after
+spent g c after asked =
+    let listed = c.deref.ensures.value ∙ c.serials.view_is in
+    event_expired (state_when c.args.time.now c.args.parts.now) c.args.event.now c.deref.result.now c.in_ok-copy.field-0 c.requires.some
+    (listed ∙ c.in_ok-serials.ensures) (c.in_ok-copy.ensures ∙ sym listed) _ c.in_ok-pending.ensures.so_far c.args.steps.now
+    c.take_away_kept.new.steps after c.take_away_kept.ensures.steps asked
 
 pub pending_without-requires-clause-ended : goal.pending_without-requires-clause-ended
 pending_without-requires-clause-ended g c =
@@ -75,20 +88,14 @@ returns-in_err-pending-clause-steps g c =
 
 pub returns-in_err-made-clause-steps : goal.returns-in_err-made-clause-steps
 returns-in_err-made-clause-steps g c =
-    let before = state_when c.args.time.now c.args.parts.now in
-    let listed = c.deref.ensures.value ∙ c.serials.view_is in
-    event_expired before c.args.event.now c.deref.result.now c.in_ok-copy.field-0 c.requires.some (listed ∙ c.in_ok-serials.ensures)
-    (c.in_ok-copy.ensures ∙ sym listed) _ c.in_ok-pending.ensures.so_far c.args.steps.now c.take_away_kept.new.steps
-    c.take_away_kept.new.steps c.take_away_kept.ensures.steps
-    (ask_none (expire before) c.args.event.now c.args.event.now.ask c.take_away_kept.new.steps)
+    spent g (goal.at.returns-in_err-made-clause-steps g c).After-take_away_kept c.take_away_kept.new.steps
+    (ask_none (expire (state_when c.args.time.now c.args.parts.now)) c.args.event.now c.args.event.now.ask c.take_away_kept.new.steps)
 
 pub returns-clause-steps : goal.returns-clause-steps
 returns-clause-steps g c =
     let before = state_when c.args.time.now c.args.parts.now in
     let listed = c.deref.ensures.value ∙ c.serials.view_is in
-    event_expired before c.args.event.now c.deref.result.now c.in_ok-copy.field-0 c.requires.some (listed ∙ c.in_ok-serials.ensures)
-    (c.in_ok-copy.ensures ∙ sym listed) _ c.in_ok-pending.ensures.so_far c.args.steps.now c.take_away_kept.new.steps
-    c.answer_ended.new.steps c.take_away_kept.ensures.steps
+    spent g (goal.at.returns-clause-steps g c).After-take_away_kept c.answer_ended.new.steps
     (subst (λ (s : State). IsAskWithin s c.args.event.now c.args.event.now.ask c.take_away_kept.new.steps c.answer_ended.new.steps)
     (expires_by before c.deref.result.now c.in_ok-copy.field-0 c.requires.some (listed ∙ c.in_ok-serials.ensures)
     (c.in_ok-copy.ensures ∙ sym listed) _ _ c.in_ok-pending.ensures.so_far c.in_ok-made.ensures.told) c.answer_ended.ensures.steps)

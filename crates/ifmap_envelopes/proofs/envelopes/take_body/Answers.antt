@@ -1,26 +1,17 @@
-use Rattle.std.proofs.Common.{◌∙◌, List, refl, subst, sym}
-use Rattle.ifmap_elem.specs.declared.elements.Child.{Child}
-use Rattle.ifmap_forms.specs.Tables.{parts_in}
-use Rattle.ifmap_envelopes.specs.Envelopes.{IsBodyAt, IsPartAt}
-use Rattle.ifmap_envelopes.proofs.EnvelopeLaws.{body_stands, body_taken}
+use Rattle.std.proofs.Common.{refl}
+use Rattle.ifmap_envelopes.specs.Envelopes.{IsBodyAt}
+use Rattle.ifmap_envelopes.proofs.EnvelopeLaws.{body_stands, found_held, none_held, none_sliced}
 use Rattle.ifmap_envelopes.proofs.envelopes.take_body.Goals as goal
 
 pub returns-in_err-index-clause-none : goal.returns-in_err-index-clause-none
-returns-in_err-index-clause-none c = λ none index e a.
-    c.in_err-index.ensures.none refl index e (subst (λ (cs : List Child). IsBodyAt (parts_in cs) index e) (sym c.as_slice.ensures) a)
+returns-in_err-index-clause-none c = λ none. none_sliced IsBodyAt body_stands c.as_slice.ensures (c.in_err-index.ensures.none refl)
 
 pub returns-in_err-body-clause-none : goal.returns-in_err-body-clause-none
-returns-in_err-body-clause-none c = λ none index e a.
-    let there = c.in_ok-index.ensures.found in
-    c.in_err-body.ensures.none refl there.0
-    (subst (λ (cs : List Child). IsPartAt (parts_in cs) c.in_ok-index.index there.0) (c.as_slice.ensures ∙ sym c.children.view_is)
-    (body_stands (parts_in c.as_slice.result.now) c.in_ok-index.index there.0 there.1))
+returns-in_err-body-clause-none c = λ none.
+    none_held IsBodyAt body_stands c.as_slice.ensures c.children.view_is c.in_ok-index.index c.in_ok-index.ensures.found
+    (c.in_err-body.ensures.none refl)
 
 pub returns-clause-found : goal.returns-clause-found
 returns-clause-found c =
-    let taken = c.in_ok-body.body in
-    let index = c.in_ok-index.index in
-    subst (λ (cs : List Child). IsBodyAt (parts_in cs) index taken) c.as_slice.ensures
-    (body_taken (parts_in c.as_slice.result.now) index taken c.in_ok-index.ensures.found
-    (subst (λ (cs : List Child). IsPartAt (parts_in cs) index taken) (sym (c.as_slice.ensures ∙ sym c.children.view_is))
-    c.in_ok-body.ensures.found))
+    found_held IsBodyAt body_stands c.as_slice.ensures c.children.view_is c.in_ok-index.index c.in_ok-index.ensures.found
+    c.in_ok-body.body c.in_ok-body.ensures.found

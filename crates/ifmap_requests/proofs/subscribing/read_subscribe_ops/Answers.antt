@@ -10,9 +10,18 @@ use Rattle.ifmap_forms.specs.Tables.{each_element, parts_in}
 use Rattle.ifmap_requests.specs.declared.requests.SubscribeOp.{SubscribeOp}
 use Rattle.ifmap_requests.specs.RequestForms.{subscribe_op_check}
 use Rattle.ifmap_requests.proofs.subscribing.read_subscribe_ops.Goals as goal
+use Rattle.ifmap_requests.proofs.subscribing.read_subscribe_ops.Goals.{After-next_op}
 
 abbrev one : Scopes → ℕ → Element → Check SubscribeOp
 one scopes index e = subscribe_op_check (scopes_below scopes index) e
+
+-- the child of this turn, and those after it, are what is left
+left : (c : After-next_op)
+    → drop c.loop-index.index c.args.children.now
+    ≡ c.index-children-index.result ∷ drop (c.loop-index.index + 1) c.args.children.now
+left c =
+    drop_more c.args.children.now c.loop-index.index c.index-children-index.result c.loop-index-test.true
+    ∙ ap (λ (x : Child). x ∷ drop (c.loop-index.index + 1) c.args.children.now) (sym c.index-children-index.is)
 
 pub returns-in_err-found : goal.returns-in_err-found
 returns-in_err-found c =
@@ -21,11 +30,9 @@ returns-in_err-found c =
     let whole = each_element (one scopes) 0 (parts_in children) in
     let i = c.loop-index.index in
     let child = c.index-children-index.result in
-    let left : drop i children ≡ child ∷ drop (i + 1) children =
-    drop_more children i child c.loop-index-test.true ∙ ap (λ (x : Child). x ∷ drop (i + 1) children) (sym c.index-children-index.is) in
     refused_exit whole c.from_residual.result c.in_err-found.field-0.0 c.from_residual.ensures.1
-    (elements_stop whole (one scopes) i (drop i children) c.loop-index.ops.items c.loop-index.invariant child (drop (i + 1) children) left
-    c.in_err-found.field-0.0 c.in_err-found.ensures)
+    (elements_stop whole (one scopes) i (drop i children) c.loop-index.ops.items c.loop-index.invariant child (drop (i + 1) children)
+    (left (goal.at.returns-in_err-found c).After-next_op) c.in_err-found.field-0.0 c.in_err-found.ensures)
 
 pub loop-index-preserved : goal.loop-index-preserved
 loop-index-preserved c =
@@ -34,10 +41,9 @@ loop-index-preserved c =
     let whole = each_element (one scopes) 0 (parts_in children) in
     let i = c.loop-index.index in
     let child = c.index-children-index.result in
-    let left : drop i children ≡ child ∷ drop (i + 1) children =
-    drop_more children i child c.loop-index-test.true ∙ ap (λ (x : Child). x ∷ drop (i + 1) children) (sym c.index-children-index.is) in
-    elements_further whole (one scopes) i (drop i children) c.loop-index.ops.items c.loop-index.invariant child (drop (i + 1) children) left
-    c.in_ok-found.found c.keep_found.new.members.items c.in_ok-found.ensures c.in_ok-keep_found.ensures
+    elements_further whole (one scopes) i (drop i children) c.loop-index.ops.items c.loop-index.invariant child (drop (i + 1) children)
+    (left (goal.at.loop-index-preserved c).After-next_op) c.in_ok-found.found c.keep_found.new.members.items c.in_ok-found.ensures
+    c.in_ok-keep_found.ensures
 
 pub returns : goal.returns
 returns c =

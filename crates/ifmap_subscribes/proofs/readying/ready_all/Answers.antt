@@ -6,7 +6,19 @@ use Rattle.ifmap_subscribes.proofs.Ready.{holds_on}
 use Rattle.ifmap_subscribes.proofs.Spending.{one_more, one_stops}
 use Rattle.ifmap_subscribes.specs.Bounds.{no_ops}
 use Rattle.ifmap_subscribes.specs.Readying.{told_then}
+use Rattle.ifmap_subscribes.proofs.readying.ready_all.Given as given
 use Rattle.ifmap_subscribes.proofs.readying.ready_all.Goals as goal
+use Rattle.ifmap_subscribes.proofs.readying.ready_all.Goals.{After-ready_op}
+
+-- the operation of this turn is the one with this index
+low : (g : given.Over) (c : After-ready_op g) → c.loop-op.op-index < length c.args.ops.now
+low g c =
+    subst (λ xs. c.loop-op.op-index < length xs) (c.deref-op-items.ensures.value ∙ c.ops.view_is) c.loop-op-test.true
+
+here : (g : given.Over) (c : After-ready_op g) → c.op-item.result ≡ get_or c.args.ops.now c.loop-op.op-index c.op-item.result
+here g c =
+    subst (λ xs. c.op-item.result ≡ get_or xs c.loop-op.op-index c.op-item.result) (c.deref-op-items.ensures.value ∙ c.ops.view_is)
+    c.op-item.is
 
 pub returns-in_err-ready_op-clause-holds : goal.returns-in_err-ready_op-clause-holds
 returns-in_err-ready_op-clause-holds g c =
@@ -19,17 +31,15 @@ loop-op-preserved g c =
     let ops = c.args.ops.now in
     let l = c.loop-op in
     let op = c.op-item.result in
-    let items = c.deref-op-items.ensures.value ∙ c.ops.view_is in
-    let low = subst (λ xs. l.op-index < length xs) items c.loop-op-test.true in
-    let at = subst (λ xs. op ≡ get_or xs l.op-index op) items c.op-item.is in
+    let place = (goal.at.loop-op-preserved g c).After-ready_op in
     record {
       can = c.ready_op.ensures.can;
       holds = holds_on p l.parts c.ready_op.new.parts l.invariant.holds c.ready_op.ensures.holds;
-      ops = rest_made s p l.parts l.invariant.holds ops l.op-index op low at l.readying
+      ops = rest_made s p l.parts l.invariant.holds ops l.op-index op (low g place) (here g place) l.readying
           (subscribe_ops (rows_now p.graph) s.serial ops (told_then s p c.args.readying.now)) c.ready_op.new.readying
           c.in_ok-ready_op.ensures.op l.invariant.ops;
-      steps = one_more (rows_now l.parts.graph) (rows_now p.graph) l.invariant.holds.rows ops l.op-index op low at c.args.steps.now l.steps
-          c.ready_op.new.steps l.invariant.steps c.ready_op.ensures.steps;
+      steps = one_more (rows_now l.parts.graph) (rows_now p.graph) l.invariant.holds.rows ops l.op-index op (low g place) (here g place)
+          c.args.steps.now l.steps c.ready_op.new.steps l.invariant.steps c.ready_op.ensures.steps;
     }
 
 pub returns-in_err-ready_op-clause-steps : goal.returns-in_err-ready_op-clause-steps
@@ -38,11 +48,9 @@ returns-in_err-ready_op-clause-steps g c =
     let ops = c.args.ops.now in
     let l = c.loop-op in
     let op = c.op-item.result in
-    let items = c.deref-op-items.ensures.value ∙ c.ops.view_is in
-    let low = subst (λ xs. l.op-index < length xs) items c.loop-op-test.true in
-    let at = subst (λ xs. op ≡ get_or xs l.op-index op) items c.op-item.is in
-    one_stops (rows_now l.parts.graph) (rows_now p.graph) l.invariant.holds.rows ops l.op-index op low at c.args.steps.now l.steps
-    c.ready_op.new.steps l.invariant.steps c.ready_op.ensures.steps
+    let place = (goal.at.returns-in_err-ready_op-clause-steps g c).After-ready_op in
+    one_stops (rows_now l.parts.graph) (rows_now p.graph) l.invariant.holds.rows ops l.op-index op (low g place) (here g place)
+    c.args.steps.now l.steps c.ready_op.new.steps l.invariant.steps c.ready_op.ensures.steps
 
 pub returns-clause-steps : goal.returns-clause-steps
 returns-clause-steps g c =
