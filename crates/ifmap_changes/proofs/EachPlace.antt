@@ -1,5 +1,5 @@
 -- Lists that are related at each place: what a map, a sum and a property of all make of them. Last, properties of what is not gone.
-use Rattle.std.proofs.Common.{◌≡◌, ℕ, suc, ◌≤◌, Bool, true, false, true≢false, Some, List, [], ◌∷◌, length, map, slice_get, refl, ap, ◌∙◌, sym, arith}
+use Rattle.std.proofs.Common.{◌≡◌, ℕ, suc, Bool, true, false, true≢false, Some, List, [], ◌∷◌, length, map, slice_get, refl, ap, ◌∙◌, sym, arith}
 use Rattle.std.proofs.lemmas.List.Sums.{sum_by-cons}
 use Rattle.std.proofs.lemmas.Option.{same_Some}
 use Rattle.std.specs.List.{AllByRecursion, sum_by}
@@ -49,18 +49,6 @@ module _ {X : Type 0} where
     f 0 x y (r.at 0 x y refl refl) h.0,
     same_all P Q (λ i. R (suc i)) (λ i. f (suc i)) old new (after_first R x y old new r) h.1,
   )
-
-  -- the part of a sum that each makes
-  pub within_sum : (f : X → ℕ) (xs : List X) → AllByRecursion (λ x. f x ≤ sum_by f xs) xs
-  within_sum f [] = tt
-  within_sum f (x ∷ xs) = (
-    omega (arith, sum_by-cons f x xs),
-    up f (sum_by f xs) (sum_by f (x ∷ xs)) (omega (arith, sum_by-cons f x xs)) xs (within_sum f xs),
-  )
-    where
-      up : (f : X → ℕ) (n m : ℕ) → n ≤ m → (ys : List X) → AllByRecursion (λ y. f y ≤ n) ys → AllByRecursion (λ y. f y ≤ m) ys
-      up f n m le [] h = tt
-      up f n m le (y ∷ ys) h = (omega (arith, h.0, le), up f n m le ys h.1)
 
 -- and of each that is not gone later
 pub less_kept : (P : Standing → Type 0) (gone more : List Bool) (standing : List Standing) → length gone ≡ length standing

@@ -1,8 +1,9 @@
 -- Where subscriptions start: they are few enough for the graph to hold each start (`few_starts`); starts have their numbers still where
 -- numbers only come (`numbered_more`), and are held for subscriptions that keep their searches (`numbered_beside`, `own_beside`).
-use Rattle.std.proofs.Common.{◌≡◌, inl, inr, ℕ, ◌*◌, ◌≤◌, ◌==◌, Bool, true, false, not, Some, List, [], ◌∷◌, length, map, ap, ◌∙◌, sym, subst, arith}
+use Rattle.std.proofs.Common.{◌≡◌, inl, inr, ℕ, ◌*◌, ◌≤◌, ◌==◌, Bool, true, false, not, Some, List, [], ◌∷◌, length, map, refl, ap, ◌∙◌, sym, subst, arith}
 use Rattle.std.proofs.lemmas.Bool.{cases_Bool}
 use Rattle.std.proofs.lemmas.Bool.Decides.{nat_tests}
+use Rattle.std.proofs.lemmas.List.Filters.{length-filter_both}
 use Rattle.std.proofs.lemmas.List.{length-map}
 use Rattle.std.specs.List.{AllByRecursion, filter}
 use Rattle.ifmap_lemmas.specs.Filters.{all_weaker, filter_fewer}
@@ -19,7 +20,6 @@ use Rattle.ifmap_tellings.specs.ifmap_standing.Standing.{standing_of}
 use Rattle.ifmap_graph.specs.Held.{Held, IsOwn}
 use Rattle.ifmap_graph.specs.Seen.{HasFewOwn, KeepsNumbers}
 use Rattle.ifmap_changes.specs.Between.{AreOrdered, HasStartNumber, IsSteady, starts_of}
-use Rattle.ifmap_changes.proofs.Flags.{split_long}
 use Rattle.ifmap_changes.proofs.EachPlace.{same_all}
 use Rattle.ifmap_changes.proofs.Steady.{same_starts}
 use Rattle.ifmap_changes.proofs.Told.{all_shown}
@@ -41,7 +41,7 @@ most_standing k (s ∷ live) ys h few =
     in let fewer : (n : ℕ) → length (standing_in n others) ≤ k
     = λ n. let shorter = filter_fewer (λ (y : machine.Standing). y.serial == n) (λ y. not (mine y)) ys in omega (arith, shorter, few n)
     in let rest = most_standing k live others left fewer
-    in omega (arith, rest, few s.serial, split_long mine ys)
+    in omega (arith, rest, few s.serial, length-filter_both mine (λ y. not (mine y)) (λ y. refl) ys)
   where
     live_others : (zs : List machine.Standing) → AllByRecursion (λ (y : machine.Standing). IsLive y.serial (s ∷ live)) zs
         → AllByRecursion (λ (y : machine.Standing). IsLive y.serial live) (filter (λ y. not (y.serial == s.serial)) zs)

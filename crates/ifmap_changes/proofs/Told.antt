@@ -11,8 +11,10 @@ use Rattle.std.specs.BTreeMap.{get}
 use Rattle.std.specs.List.{AllByRecursion, filter, list_any, zip}
 use Rattle.std.specs.Option.{IsSome}
 use Rattle.std.specs.Ordering.{nat_cmp}
+use Rattle.ifmap_lemmas.specs.AnyOf.{any_alike, any_both, any_mapped}
 use Rattle.ifmap_lemmas.specs.Filters.{all_filter, all_weaker, filter_alike, map_filter}
 use Rattle.ifmap_lemmas.specs.Having.{Has, filter_has, has_filter, has_map, all_has, has_all}
+use Rattle.ifmap_lemmas.specs.Mapped.{alike_maps, map_twice, mapped_long, maps_alike, some_joined, zip_mapped}
 use Rattle.ifmap_lemmas.specs.Members.{map_of_all}
 use Rattle.ifmap_tellings.specs.ifmap_delta.Sights.{IsUpToDate}
 use Rattle.ifmap_tellings.specs.ifmap_delta.Ways.{HasSameSearch}
@@ -34,7 +36,7 @@ use Rattle.ifmap_changes.specs.declared.parts.Parts.{Parts}
 use Rattle.ifmap_changes.specs.Between.{Asking, IsSoundSoFar, IsWithinLimit, sessions_left}
 use Rattle.ifmap_changes.specs.Changes.{IsTold, sight_next}
 use Rattle.ifmap_changes.proofs.Settling.{same_ordered, same_shown}
-use Rattle.ifmap_changes.proofs.Flags.{alike_maps, any_alike, any_both, any_mapped, kept_all, kept_later, kept_made, kept_marked, map_twice, mapped_long, maps_alike, marks_stay, queued_made, skip_made, some_of, zip_mapped}
+use Rattle.ifmap_changes.proofs.Flags.{kept_all, kept_later, kept_made, kept_marked, marks_stay, queued_made, skip_made}
 use Rattle.ifmap_tellings.specs.ifmap_session.laws.TableLaws.{left_live}
 use Rattle.ifmap_tellings.specs.ToldLaws.{told_serial, map_kept}
 
@@ -302,7 +304,7 @@ module _ {a : Asking} {old : Parts} {before : Pending} {notes : List Note} {stan
         by (Some u) was = (known.ready.can_tell n u was).live
         by None was =
             let some = brought n (subst IsSome (sym is) refl) was
-            in let one = some_of (told_to rows next notes) (λ (y : machine.Standing). y.serial == n) those (λ e. some (queued n ∙ e))
+            in let one = some_joined (told_to rows next notes) (λ (y : machine.Standing). y.serial == n) those (λ e. some (queued n ∙ e))
             in subst (λ m. IsLive m lives) (eqb-true one.0.serial n one.2)
             (all_has (λ (z : machine.Standing). IsLive z.serial lives) those live_those one.0 one.1)
 
