@@ -4,6 +4,7 @@ use Rattle.std.proofs.lemmas.Bool.{both_ways, cases_Bool, false_from_ne_true, or
 use Rattle.std.proofs.lemmas.Option.{none-some, same_Some}
 use Rattle.std.specs.List.{AllByRecursion, filter, list_any}
 use Rattle.ifmap_lemmas.specs.Having.{Has, all_has, has_all}
+use Rattle.ifmap_lemmas.specs.Members.{all_any}
 
 pub any_mapped : {X Y : Type 0} (f : X → Y) (p : Y → Bool) (xs : List X) → list_any p (map f xs) ≡ list_any (λ x. p (f x)) xs
 any_mapped f p [] = refl
@@ -13,6 +14,9 @@ any_mapped f p (x ∷ xs) = ap (λ b. p (f x) || b) (any_mapped f p xs)
 pub any_alike : {X : Type 0} (p q : X → Bool) (xs : List X) → AllByRecursion (λ x. p x ≡ q x) xs → list_any p xs ≡ list_any q xs
 any_alike p q [] h = refl
 any_alike p q (x ∷ xs) h = ap (λ b. b || list_any p xs) h.0 ∙ ap (λ b. q x || b) (any_alike p q xs h.1)
+
+pub any_same : {X : Type 0} (p q : X → Bool) → ((x : X) → p x ≡ q x) → (xs : List X) → list_any p xs ≡ list_any q xs
+any_same p q same xs = any_alike p q xs (all_any (λ x. p x ≡ q x) xs same)
 
 -- where a second test has one answer for all that pass the first, and some do
 pub any_both : {X : Type 0} (p q : X → Bool) (b : Bool) (xs : List X) → AllByRecursion (λ x. p x ≡ true → q x ≡ b) xs
@@ -35,7 +39,8 @@ any_both {X} p q b (x ∷ xs) h some = elim (cases_Bool (p x)) [
         ]
 
 -- a filter leaves all that pass a test that passes it too
-pub any_within : {X : Type 0} (p q : X → Bool) → ((x : X) → p x ≡ true → q x ≡ true) → (xs : List X) → list_any p (filter q xs) ≡ list_any p xs
+pub any_within : {X : Type 0} (p q : X → Bool) → ((x : X) → p x ≡ true → q x ≡ true) → (xs : List X)
+    → list_any p (filter q xs) ≡ list_any p xs
 any_within p q f [] = refl
 any_within p q f (x ∷ xs) =
     elim (cases_Bool (q x)) [

@@ -28,12 +28,14 @@ module _ {V : Type 0} where
       let h : f x ≡ f v = ap f (some-injective x v a) in omega (arith, one_within_sum f xs j w b, sum_by-cons f x xs)
   two_within_sum f (x ∷ xs) (suc i) zero v w n a b =
       let h : f x ≡ f w = ap f (some-injective x w b) in omega (arith, one_within_sum f xs i v a, sum_by-cons f x xs)
-  two_within_sum f (x ∷ xs) (suc i) (suc j) v w n a b = omega (arith, two_within_sum f xs i j v w (λ e. n (ap suc e)) a b, sum_by-cons f x xs)
+  two_within_sum f (x ∷ xs) (suc i) (suc j) v w n a b =
+      omega (arith, two_within_sum f xs i j v w (λ e. n (ap suc e)) a b, sum_by-cons f x xs)
 
   -- what makes no more at each place makes no more of all
   pub sum_at_most : (f g : V → ℕ) (vs : List V) → ((i : ℕ) (v : V) → get_elem? vs i ≡ some v → f v ≤ g v) → sum_by f vs ≤ sum_by g vs
   sum_at_most f g [] h = omega arith
-  sum_at_most f g (x ∷ xs) h = omega (arith, h 0 x refl, sum_at_most f g xs (λ i v e. h (suc i) v e), sum_by-cons f x xs, sum_by-cons g x xs)
+  sum_at_most f g (x ∷ xs) h =
+      omega (arith, h 0 x refl, sum_at_most f g xs (λ i v e. h (suc i) v e), sum_by-cons f x xs, sum_by-cons g x xs)
 
   pub sum_one : (f : V → ℕ) (w : V) → sum_by f (w ∷ []) ≡ f w
   sum_one f w = sum_by-cons f w [] ∙ omega arith

@@ -1,17 +1,11 @@
 -- How many members a list has, by the owners of each.
-use Rattle.std.proofs.Common.{◌≡◌, sym, ◌∙◌, ℕ, ◌*◌, ◌≤◌, ◌==◌, true, false, not, List, [], ◌∷◌, length, flat_map, None, Some, inl, inr, arith, length-append, option_to_list}
-use Rattle.std.specs.Prelude.{Option, IsSome}
-use Rattle.std.proofs.lemmas.Bool.{cases_eq, eq-eqb, false≢true, ne_eqb, not-true}
+use Rattle.std.proofs.Common.{◌≡◌, ◌∙◌, ℕ, ◌*◌, ◌≤◌, ◌==◌, true, false, not, List, [], ◌∷◌, length, refl, arith}
+use Rattle.std.specs.Prelude.{IsSome}
+use Rattle.std.proofs.lemmas.Bool.{false≢true, not-true}
+use Rattle.std.proofs.lemmas.List.Filters.{length-filter_both}
 use Rattle.std.specs.List.{AllByRecursion, filter, find}
 use Rattle.ifmap_lemmas.specs.Filters.{all_filter, filter_passes, filter_fewer}
-use Rattle.ifmap_subscribes.proofs.Parting.{length_parted}
-
--- whether two numbers are one does not depend on which comes first
-pub flip : (a b : ℕ) → (a == b) ≡ (b == a)
-flip a b = elim (cases_eq a b) [
-  | inl same ↦ eq-eqb a b same ∙ sym (eq-eqb b a (sym same))
-  | inr other ↦ ne_eqb a b other ∙ sym (ne_eqb b a (λ e. other (sym e)))
-]
+use Rattle.ifmap_lemmas.specs.Tests.{equal_turned}
 
 -- where each member has an owner, and each owner has a thousand at most
 module _ {X S : Type 0} (key : X → ℕ) (id : S → ℕ) where
@@ -23,7 +17,7 @@ module _ {X S : Type 0} (key : X → ℕ) (id : S → ℕ) where
       → AllByRecursion (Owned owners) xs
   owned_rest s owners [] others h = tt
   owned_rest s owners (x ∷ xs) others h =
-      let apart : (id s == key x) ≡ false = flip (id s) (key x) ∙ not-true (key x == id s) others.0 in
+      let apart : (id s == key x) ≡ false = equal_turned (id s) (key x) ∙ not-true (key x == id s) others.0 in
       (rw apart at h.0, owned_rest s owners xs others.1 h.1)
 
   pub thousand_each : (owners : List S) (xs : List X) → AllByRecursion (Owned owners) xs
@@ -36,15 +30,4 @@ module _ {X S : Type 0} (key : X → ℕ) (id : S → ℕ) where
       (owned_rest s owners others (filter_passes (λ x. not (key x == id s)) xs)
       (all_filter (Owned (s ∷ owners)) (λ x. not (key x == id s)) xs h))
       (λ n. let less = filter_fewer (λ x. key x == n) (λ x. not (key x == id s)) xs in omega (arith, less, few n)) in
-      omega (arith, rest, few (id s), length_parted (λ x. key x == id s) xs)
-
-pub fewer_joined : {X Y : Type 0} (f : X → Option Y) (xs : List X) → length (flat_map (λ x. option_to_list (f x)) xs) ≤ length xs
-fewer_joined f [] = omega arith
-fewer_joined f (x ∷ xs) =
-    let rest = fewer_joined f xs in
-    let both = length-append (option_to_list (f x)) (flat_map (λ y. option_to_list (f y)) xs) in
-    omega (arith, rest, both, one (f x))
-  where
-    one : {Y : Type 0} (o : Option Y) → length (option_to_list o) ≤ 1
-    one None = omega arith
-    one (Some y) = omega arith
+      omega (arith, rest, few (id s), length-filter_both (λ x. key x == id s) (λ x. not (key x == id s)) (λ x. refl) xs)
