@@ -20,7 +20,6 @@ use Rattle.ifmap_subscribes.specs.ifmap_changes.declared.parts.Parts.{Parts}
 use Rattle.ifmap_core.specs.Completions.{CanApply, CanRename, IsStepCompletion, WouldBeParts, after_completion, held_by}
 use Rattle.ifmap_core.specs.declared.completions.Completion.{Completion}
 use Rattle.ifmap_core.specs.declared.completions.Completion.TheVariants.{Say, Accept, End, Open, Rename, Poll}
-use Rattle.ifmap_core.proofs.Ended.{found_left}
 use Rattle.ifmap_core.proofs.Places.{all_are_kept, kept_both, kept_of_all, none_gone}
 use Rattle.ifmap_core.proofs.Told.{none_told}
 use Rattle.ifmap_core.proofs.Turned.{all_there, shares_later}
@@ -31,6 +30,7 @@ use Rattle.ifmap_subscribes.specs.ifmap_graph.Seen.{KeepsNumbers, links_now, row
 use Rattle.ifmap_lemmas.specs.Filters.{all_filter}
 use Rattle.ifmap_lemmas.specs.Members.{all_both, all_of_map, map_of_all}
 use Rattle.ifmap_lemmas.specs.Options.{is_some_of, some_is}
+use Rattle.ifmap_lemmas.specs.Parted.{found_in_rest}
 use Rattle.ifmap_subscribes.specs.ifmap_machine.Ending.{drop_sessions, end_sessions, end_some, expire, without_standing}
 use Rattle.ifmap_subscribes.specs.ifmap_machine.declared.events.Answer.{Answer}
 use Rattle.ifmap_subscribes.specs.ifmap_machine.declared.events.Ask.{Ask}
@@ -84,7 +84,7 @@ module _ (a : Asking) (parts : Parts) (pending : Pending) (sound : AreParts part
       let s = some_is (session_with_serial x.serial parts.sessions.live) l in
       let same : s.0.serial ≡ x.serial = found_serial x.serial parts.sessions.live s.0 s.1 in
       is_some_of (session_with_serial x.serial (sessions_left a parts.sessions)) s.0
-      (found_left (λ (t : Session). t.serial == x.serial) (is_left a.ended) parts.sessions.live s.0 s.1
+      (found_in_rest (λ (t : Session). t.serial == x.serial) (is_left a.ended) parts.sessions.live s.0 s.1
       (subst (λ (n : ℕ). not (list_any (λ m. m == n) a.ended) ≡ true) (sym same) (ap not stays)))
 
   pub begins_ready : length pending.gone.items ≡ length parts.standing.items → IsSoundSoFar a parts pending

@@ -27,13 +27,13 @@ use Rattle.ifmap_subscribes.specs.ifmap_delta.Sights.{IsUpToDate}
 use Rattle.ifmap_subscribes.specs.ifmap_delta.Ways.{HasSameSearch}
 use Rattle.ifmap_subscribes.specs.ifmap_graph.Seen.{rows_now}
 use Rattle.ifmap_lemmas.specs.Filters.{all_weaker}
+use Rattle.ifmap_lemmas.specs.Mapped.{one_at_most}
 use Rattle.ifmap_subscribes.specs.ifmap_machine.State as machine
 use Rattle.ifmap_subscribes.specs.ifmap_machine.State.{State, standing_in}
 use Rattle.ifmap_subscribes.specs.ifmap_machine.Step.{answer_subscribed, renew, with_told}
 use Rattle.ifmap_subscribes.specs.ifmap_machine.declared.events.Answer.{Answer}
 use Rattle.ifmap_subscribes.specs.ifmap_machine.declared.events.Answer.TheVariants as the_answer
 use Rattle.ifmap_subscribes.specs.ifmap_replies.declared.replies.Reply.TheVariants as the_reply
-use Rattle.ifmap_session.specs.ifmap_search.declared.results.PollItem.{PollItem}
 use Rattle.ifmap_subscribes.specs.ifmap_machine.Subscribing.{Told, most_names}
 use Rattle.ifmap_subscribes.specs.ifmap_machine.Telling.{overflow}
 use Rattle.ifmap_subscribes.specs.ifmap_pool.Holdings.{key_at}
@@ -169,10 +169,6 @@ pub live_left : (a : Asking) (n : ℕ) (table : SessionTable) → IsLive n (sess
 live_left a n table l = left_live (λ (x : Session). not (list_any (λ m. m == x.serial) a.ended)) n table.live l
 
 -- ---- names are to be renamed
-
-one_at_most : (o : Option PollItem) → length (option_to_list o) ≤ 1
-one_at_most None = omega arith
-one_at_most (Some item) = omega arith
 
 items_few : (rs : List Renaming) → item_count rs ≤ length rs
 items_few [] = omega arith

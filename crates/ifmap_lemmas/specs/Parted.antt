@@ -8,7 +8,7 @@ use Rattle.std.specs.List.Sorted.{IsStrictlySortedBy}
 use Rattle.std.specs.Ordering.{is_gt, is_lt}
 use Rattle.std.specs.declared.cmp.Ordering.{Ordering}
 use Rattle.std.specs.declared.cmp.Ordering.TheVariants.{Less, Equal, Greater}
-use Rattle.ifmap_lemmas.specs.Filters.{all_weaker, filter_all, filter_fewer}
+use Rattle.ifmap_lemmas.specs.Filters.{all_weaker, filter_alike, filter_all, filter_fewer}
 use Rattle.ifmap_lemmas.specs.Having.{Has}
 use Rattle.ifmap_lemmas.specs.Tests.{less_not_greater}
 
@@ -36,6 +36,11 @@ module _ {X : Type 0} where
         | inl hit ↦ rw hit (none_within p xs)
         | inr miss ↦ rw (miss, miss) (none_within p xs)
       ]
+
+  -- tests that agree where something holds leave the same of members of which it does
+  pub filter_where : (P : X → Type 0) (p q : X → Bool) → ((x : X) → P x → p x ≡ q x) → (xs : List X) → AllByRecursion P xs
+      → filter p xs ≡ filter q xs
+  filter_where P p q same xs h = filter_alike p q xs (all_weaker P (λ x. p x ≡ q x) same xs h)
 
   -- what passes one of two tests that exclude each other, and then a third, is no more than what passes the third
   pub two_filters : (p q r : X → Bool) → ((x : X) → q x ≡ true → r x ≡ false) → (xs : List X)
