@@ -3,6 +3,7 @@
 -- nothing (`within_all`). Then, of subscriptions that were told (`HasNews`): what is queued for a session (`queued`), which stand
 -- (`stand`), what the sessions have to tell (`tell_each`), whose queue is overrun (`overrun_one`), and all of it together (`is_told`).
 use Rattle.std.proofs.Common.{◌≡◌, ◌≢◌, inl, inr, ℕ, ◌≤◌, ◌==◌, nat_lt, Bool, true, false, not, ◌||◌, ◌&&◌, Option, Some, None, List, [], ◌∷◌, length, map, flat_map, slice_get, refl, ap, ◌∙◌, sym, subst, arith}
+use Rattle.ifmap_tellings.specs.KeptPlaces.{kept_all}
 use Rattle.std.proofs.lemmas.Bool.{cases_Bool, eqb-true}
 use Rattle.std.proofs.lemmas.Bool.Decides.{nat_tests}
 use Rattle.std.proofs.lemmas.List.{length-map}
@@ -13,6 +14,7 @@ use Rattle.std.specs.Option.{IsSome}
 use Rattle.std.specs.Ordering.{nat_cmp}
 use Rattle.ifmap_lemmas.specs.AnyOf.{any_alike, any_both, any_mapped}
 use Rattle.ifmap_lemmas.specs.Filters.{all_filter, all_weaker, filter_alike, map_filter}
+use Rattle.ifmap_lemmas.specs.Flags.{kept_later, marks_stay}
 use Rattle.ifmap_lemmas.specs.Having.{Has, filter_has, has_filter, has_map, all_has, has_all}
 use Rattle.ifmap_lemmas.specs.Mapped.{alike_maps, map_twice, mapped_long, maps_alike, some_joined, zip_mapped}
 use Rattle.ifmap_lemmas.specs.Members.{map_of_all}
@@ -36,7 +38,7 @@ use Rattle.ifmap_changes.specs.declared.parts.Parts.{Parts}
 use Rattle.ifmap_changes.specs.Between.{Asking, IsSoundSoFar, IsWithinLimit, sessions_left}
 use Rattle.ifmap_changes.specs.Changes.{IsTold, sight_next}
 use Rattle.ifmap_changes.proofs.Settling.{same_ordered, same_shown}
-use Rattle.ifmap_changes.proofs.Flags.{kept_all, kept_later, kept_made, kept_marked, marks_stay, queued_made, skip_made}
+use Rattle.ifmap_changes.proofs.Flags.{kept_made, kept_marked, queued_made, skip_made}
 use Rattle.ifmap_tellings.specs.ifmap_session.laws.TableLaws.{left_live}
 use Rattle.ifmap_tellings.specs.ToldLaws.{told_serial, map_kept}
 

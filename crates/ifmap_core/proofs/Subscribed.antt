@@ -3,6 +3,7 @@
 -- completion that renames (`leads_renamed`): no queue is greater than its limit, so that nothing overflows. Then one error in place of all
 -- (`overruns`). Last, what holds once operations were made ready, and what they lead to (`holds_turns`, `holds_leads`).
 use Rattle.std.proofs.Common.{◌≡◌, sym, ◌∙◌, ap, subst, ℕ, ◌+◌, ◌<◌, ◌≤◌, ◌==◌, Bool, true, false, not, List, [], ◌∷◌, length, map, Option, Some, None, Result, Ok, Err, inl, inr, arith}
+use Rattle.ifmap_subscribes.specs.ifmap_tellings.KeptPlaces.{all_left}
 use Rattle.std.proofs.lemmas.Bool.{cases_Bool}
 use Rattle.std.proofs.lemmas.Bool.Decides.{nat_tests}
 use Rattle.std.proofs.lemmas.List.Sums.{sum_by-cons}
@@ -20,7 +21,7 @@ use Rattle.ifmap_core.specs.Completions.{CanRename, LeadsToAnswer, after_complet
 use Rattle.ifmap_core.specs.declared.completions.Completion.TheVariants.{Rename}
 use Rattle.ifmap_core.proofs.Ended.{rising_left}
 use Rattle.ifmap_core.proofs.Overrun.{Grows, IsFit, changed_within, grows_rising, no_overflow, others_renamed, over_is}
-use Rattle.ifmap_core.proofs.Places.{all_are_kept, all_left, kept_both, searched_itself}
+use Rattle.ifmap_core.proofs.Places.{all_are_kept, kept_both, searched_itself}
 use Rattle.ifmap_core.proofs.Told.{before_told, one_numbered, told_by_leaves, told_rising}
 use Rattle.ifmap_core.proofs.Turned.{shares_later, turned_twice}
 use Rattle.ifmap_subscribes.specs.ifmap_delta.Sights.{IsUpToDate}

@@ -1,6 +1,5 @@
--- Lists of subscriptions, place by place. First that a relation at each place follows from another (`weaker`). Then a walk from the
--- last place down that changes each by a way (`Down`): as it begins, at one place, and at its end. Last, that ways lead back still
--- after what keeps the same (`stay`).
+-- Lists of subscriptions, place by place. First a walk from the last place down that changes each by a way (`Down`): as it begins, at
+-- one place, and at its end. Last, that ways lead back still after what keeps the same (`stay`).
 use Rattle.std.proofs.Common.{◌≡◌, inl, inr, ℕ, ◌+◌, ◌<◌, ◌≤◌, Option, Some, None, List, [], ◌∷◌, ◌++◌, length, get_or, set, slice_get, refl, ap, ◌∙◌, sym, subst, arith}
 use Rattle.std.proofs.lemmas.Bool.{cases_order}
 use Rattle.std.proofs.lemmas.List.{length-append, length-set}
@@ -12,10 +11,6 @@ use Rattle.ifmap_standing.specs.declared.standing.Standing.{Standing}
 use Rattle.ifmap_standing.specs.Kept.{AtEach, KeepsSame, StaysRelated}
 use Rattle.ifmap_standing.specs.Ways.{LeadBack, LeadsBackWhere, Way}
 use Rattle.ifmap_standing.specs.PlaceLaws.{at_each_joined, searches_twice, keeps_twice}
-
-pub weaker : {X : Type 0} (R S : ℕ → X → X → Type 0) → ((i : ℕ) (x y : X) → R i x y → S i x y) → (a b : List X)
-    → AtEach R a b → AtEach S a b
-weaker R S f a b r = record { long = r.long; at = λ i x y p q. f i x y (r.at i x y p q) }
 
 -- ways lead back still after what keeps the same
 stays : (way : Option (Option Way)) (a b c : Subscription) → LeadsBackWhere way a b → KeepsSame b c → LeadsBackWhere way a c

@@ -25,8 +25,7 @@ use Rattle.ifmap_standing.specs.Kept.{AtEach, KeepsSame, StaysRelated}
 use Rattle.ifmap_standing.specs.News.{news_of_each, news_where}
 use Rattle.ifmap_standing.specs.Standing.{standing_of}
 use Rattle.ifmap_standing.specs.Ways.{LeadBack, LeadsBackWhere, Way}
-use Rattle.ifmap_standing.proofs.Places.{weaker}
-use Rattle.ifmap_standing.specs.PlaceLaws.{at_each_same, keeps_itself, leads_search}
+use Rattle.ifmap_standing.specs.PlaceLaws.{at_each_same, at_each_weaker, keeps_itself, leads_search}
 
 -- steps
 module _ (old new : ViewSeen) where
@@ -252,7 +251,7 @@ module _ {old new : ViewSeen} {notes : List Note} {skipped : List Bool} {xs : Li
 pub lead_searches : (xs : List Standing) (ways : List (Option Way)) (now : List Standing) → LeadBack xs ways now
     → AtEach (λ _. StaysRelated HasSameSearch) xs now
 lead_searches xs ways now l =
-    weaker (λ i. StaysRelated (LeadsBackWhere (slice_get ways i))) (λ _. StaysRelated HasSameSearch)
+    at_each_weaker (λ i. StaysRelated (LeadsBackWhere (slice_get ways i))) (λ _. StaysRelated HasSameSearch)
     (λ i x y s. record {
       serial = s.serial;
       name = s.name;
