@@ -3,6 +3,8 @@ use Rattle.std.proofs.Common.{◌≡◌, ℕ, zero, suc, Bool, true, false, not,
 use Rattle.std.proofs.lemmas.Bool.{both_ways, cases_Bool, false_from_ne_true, or_left, or_right}
 use Rattle.std.proofs.lemmas.Option.{none-some, same_Some}
 use Rattle.std.specs.List.{AllByRecursion, filter, list_any}
+use Rattle.std.specs.declared.cmp.Ordering.{Ordering}
+use Rattle.std.specs.declared.cmp.Ordering.TheVariants.{Less}
 use Rattle.ifmap_lemmas.specs.Having.{Has, all_has, has_all}
 use Rattle.ifmap_lemmas.specs.Members.{all_any}
 
@@ -75,6 +77,26 @@ pub not_found : {X : Type 0} (p : X → Bool) (xs : List X) (r : Result ℕ ℕ)
     → IfOk r (λ at. (x : X) × (slice_get xs at ≡ Some x) × (p x ≡ true)) → list_any p xs ≡ false → IsErr r
 not_found p xs (Ok i) found none = let bad : true ≡ false = sym (any_there p xs i found.0 found.1 found.2) ∙ none in cc
 not_found p xs (Err i) found none = refl
+
+-- of members in a strict order no two of which pass, where one passes, none after it does, and none before it
+module _ {X K : Type 0} (p : X → Bool) (order : K → K → Ordering) (key : X → K)
+    (apart : (x y : X) → p x ≡ true → p y ≡ true → order (key x) (key y) ≡ Less → ⊥) where
+  pub none_above : (x : X) (xs : List X) → p x ≡ true → AllByRecursion (λ k. order (key x) k ≡ Less) (map key xs)
+      → list_any p xs ≡ false
+  none_above x [] e above = refl
+  none_above x (y ∷ ys) e above = elim (cases_Bool (p y)) [
+    | inl hit ↦ absurd (apart x y e hit above.0)
+    | inr miss ↦ rw miss (none_above x ys e above.1)
+  ]
+
+  pub fails_below : (z : X) (xs : List X) (at : ℕ) (x : X) → AllByRecursion (λ k. order (key z) k ≡ Less) (map key xs)
+      → slice_get xs at ≡ Some x → p x ≡ true → p z ≡ false
+  fails_below z [] at x above is e = absurd (none-some x is)
+  fails_below z (y ∷ ys) zero x above is e = elim (cases_Bool (p z)) [
+    | inl hit ↦ absurd (apart z y hit (ap p (same_Some y x is) ∙ e) above.0)
+    | inr miss ↦ miss
+  ]
+  fails_below z (y ∷ ys) (suc at) x above is e = fails_below z ys at x above.1 is e
 
 -- what holds of each member, by what it is a member of
 pub all_members : {X : Type 0} (P Q : X → Type 0) (xs : List X) → ((x : X) → Has xs x → P x → Q x) → AllByRecursion P xs

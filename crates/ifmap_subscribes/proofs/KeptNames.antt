@@ -9,13 +9,13 @@ use Rattle.std.proofs.lemmas.List.{drop_more}
 use Rattle.std.proofs.lemmas.Option.{same_Some, none-some, slice_get-get_or, slice_get_within}
 use Rattle.std.specs.Cmp.{tied_itself}
 use Rattle.std.specs.Cmp.Lexicographic.{slice_cmp}
-use Rattle.std.specs.List.{AllByRecursion, filter, list_any}
+use Rattle.std.specs.List.{filter, list_any}
 use Rattle.std.specs.List.Sorted.{IsStrictlySortedBy}
 use Rattle.std.specs.Ordering.{nat_cmp, ordering_then}
 use Rattle.std.specs.Prelude.{slice_get}
 use Rattle.std.specs.declared.cmp.Ordering.{Ordering}
 use Rattle.std.specs.declared.cmp.Ordering.TheVariants.{Equal, Less}
-use Rattle.ifmap_lemmas.specs.AnyOf.{none_after}
+use Rattle.ifmap_lemmas.specs.AnyOf.{fails_below, none_above, none_after}
 use Rattle.ifmap_changes.specs.ifmap_machine.State.{standing_in, standing_order}
 use Rattle.ifmap_changes.specs.ifmap_machine.Subscribing.{is_of_name}
 use Rattle.ifmap_changes.specs.ifmap_session.Sessions.{is_same_text}
@@ -37,35 +37,18 @@ module _ {X : Type 0} (p : X → Bool) where
   -- of members in a strict order no two of which pass, one passes
   module _ {K : Type 0} (order : K → K → Ordering) (key : X → K)
       (apart : (x y : X) → p x ≡ true → p y ≡ true → order (key x) (key y) ≡ Less → ⊥) where
-    none_above : (x : X) (xs : List X) → p x ≡ true → AllByRecursion (λ k. order (key x) k ≡ Less) (map key xs)
-        → list_any p xs ≡ false
-    none_above x [] e above = refl
-    none_above x (y ∷ ys) e above = elim (cases_Bool (p y)) [
-      | inl hit ↦ absurd (apart x y e hit above.0)
-      | inr miss ↦ rw miss (none_above x ys e above.1)
-    ]
-
-    fails_below : (z : X) (xs : List X) (at : ℕ) (x : X) → AllByRecursion (λ k. order (key z) k ≡ Less) (map key xs)
-        → slice_get xs at ≡ Some x → p x ≡ true → p z ≡ false
-    fails_below z [] at x above is e = absurd (none-some x is)
-    fails_below z (y ∷ ys) zero x above is e = elim (cases_Bool (p z)) [
-      | inl hit ↦ absurd (apart z y hit (ap p (same_Some y x is) ∙ e) above.0)
-      | inr miss ↦ miss
-    ]
-    fails_below z (y ∷ ys) (suc at) x above is e = fails_below z ys at x above.1 is e
-
     pub one_kept : (gone : List Bool) (xs : List X) (at : ℕ) (x : X) (g : Bool) → IsStrictlySortedBy order (map key xs)
         → slice_get xs at ≡ Some x → p x ≡ true → slice_get gone at ≡ Some g → list_any p (kept_of gone xs) ≡ not g
     unfolding IsStrictlySortedBy
     one_kept gone [] at x g rising is e flag = absurd (none-some x is)
     one_kept [] (y ∷ ys) at x g rising is e flag = absurd (none-some g flag)
     one_kept (true ∷ gone) (y ∷ ys) zero x g rising is e flag =
-        none_kept gone ys (none_above y ys (ap p (same_Some y x is) ∙ e) rising.0) ∙ ap not (same_Some true g flag)
+        none_kept gone ys (none_above p order key apart y ys (ap p (same_Some y x is) ∙ e) rising.0) ∙ ap not (same_Some true g flag)
     one_kept (false ∷ gone) (y ∷ ys) zero x g rising is e flag =
         let hit : p y ≡ true = ap p (same_Some y x is) ∙ e in rw hit (ap not (same_Some false g flag))
     one_kept (true ∷ gone) (y ∷ ys) (suc at) x g rising is e flag = one_kept gone ys at x g rising.1 is e flag
     one_kept (false ∷ gone) (y ∷ ys) (suc at) x g rising is e flag =
-        let miss = fails_below y ys at x rising.0 is e in rw miss (one_kept gone ys at x g rising.1 is e flag)
+        let miss = fails_below p order key apart y ys at x rising.0 is e in rw miss (one_kept gone ys at x g rising.1 is e flag)
 
   -- one member more, which counts where it passes and is not gone
   pub counted_more : (g : Bool) (gone : List Bool) (x : X) (xs : List X)
