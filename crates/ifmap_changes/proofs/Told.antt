@@ -12,7 +12,7 @@ use Rattle.std.specs.BTreeMap.{get}
 use Rattle.std.specs.List.{AllByRecursion, filter, list_any, zip}
 use Rattle.std.specs.Option.{IsSome}
 use Rattle.std.specs.Ordering.{nat_cmp}
-use Rattle.ifmap_lemmas.specs.AnyOf.{any_alike, any_both, any_mapped}
+use Rattle.ifmap_lemmas.specs.AnyOf.{any_alike, any_of_both, any_of_map}
 use Rattle.ifmap_lemmas.specs.Filters.{all_filter, all_weaker, filter_alike, map_filter}
 use Rattle.ifmap_lemmas.specs.Flags.{kept_later, marks_stay}
 use Rattle.ifmap_lemmas.specs.Having.{Has, filter_has, has_filter, has_map, all_has, has_all}
@@ -275,8 +275,8 @@ module _ {a : Asking} {old : Parts} {before : Pending} {notes : List Note} {stan
         in let each : AllByRecursion (λ (s : Session). ((told_one s).serial == n) ≡ true → is_overfull (told_one s) ≡ alone n) lives
         = has_all _ lives (λ s here hit. overfull_is n (not_alone y there) s here
         (ap (λ m. m == n) (sym (told_serial (get nat_cmp before.tellings s.serial) s)) ∙ hit))
-        in sym (any_mapped told_one (λ (t : Session). t.serial == n && is_overfull t) lives
-        ∙ any_both (λ s. (told_one s).serial == n) (λ s. is_overfull (told_one s)) (alone n) lives each some)
+        in sym (any_of_map told_one (λ (t : Session). t.serial == n && is_overfull t) lives
+        ∙ any_of_both (λ s. (told_one s).serial == n) (λ s. is_overfull (told_one s)) (alone n) lives each some)
 
     which_stand : map standing_of (kept_of after.gone.items stand_now)
         ≡ filter (λ y. not (is_overrun (map told_one lives) y)) (filter (λ y. not (is_too_big next y.search)) those)

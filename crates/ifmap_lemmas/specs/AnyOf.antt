@@ -8,9 +8,9 @@ use Rattle.std.specs.declared.cmp.Ordering.TheVariants.{Less}
 use Rattle.ifmap_lemmas.specs.Having.{Has, all_has, has_all}
 use Rattle.ifmap_lemmas.specs.Members.{all_any}
 
-pub any_mapped : {X Y : Type 0} (f : X → Y) (p : Y → Bool) (xs : List X) → list_any p (map f xs) ≡ list_any (λ x. p (f x)) xs
-any_mapped f p [] = refl
-any_mapped f p (x ∷ xs) = ap (λ b. p (f x) || b) (any_mapped f p xs)
+pub any_of_map : {X Y : Type 0} (f : X → Y) (p : Y → Bool) (xs : List X) → list_any p (map f xs) ≡ list_any (λ x. p (f x)) xs
+any_of_map f p [] = refl
+any_of_map f p (x ∷ xs) = ap (λ b. p (f x) || b) (any_of_map f p xs)
 
 -- tests that agree at each member
 pub any_alike : {X : Type 0} (p q : X → Bool) (xs : List X) → AllByRecursion (λ x. p x ≡ q x) xs → list_any p xs ≡ list_any q xs
@@ -21,12 +21,12 @@ pub any_same : {X : Type 0} (p q : X → Bool) → ((x : X) → p x ≡ q x) →
 any_same p q same xs = any_alike p q xs (all_any (λ x. p x ≡ q x) xs same)
 
 -- where a second test has one answer for all that pass the first, and some do
-pub any_both : {X : Type 0} (p q : X → Bool) (b : Bool) (xs : List X) → AllByRecursion (λ x. p x ≡ true → q x ≡ b) xs
+pub any_of_both : {X : Type 0} (p q : X → Bool) (b : Bool) (xs : List X) → AllByRecursion (λ x. p x ≡ true → q x ≡ b) xs
     → list_any p xs ≡ true → list_any (λ x. p x && q x) xs ≡ b
-any_both {X} p q b [] h some = let wrong : false ≡ true = some in cc
-any_both {X} p q b (x ∷ xs) h some = elim (cases_Bool (p x)) [
+any_of_both {X} p q b [] h some = let wrong : false ≡ true = some in cc
+any_of_both {X} p q b (x ∷ xs) h some = elim (cases_Bool (p x)) [
   | inl t ↦ let is : q x ≡ b = h.0 t in rw (t, is) (by b xs h.1)
-  | inr t ↦ rw t (any_both p q b xs h.1 (rw t at some))
+  | inr t ↦ rw t (any_of_both p q b xs h.1 (rw t at some))
 ]
   where
     by : (c : Bool) (ys : List X) → AllByRecursion (λ x. p x ≡ true → q x ≡ c) ys → c || list_any (λ x. p x && q x) ys ≡ c

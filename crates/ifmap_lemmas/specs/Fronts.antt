@@ -42,13 +42,6 @@ before_last [] x i less = absurd (omega (arith, less))
 before_last (y ∷ xs) x zero less = refl
 before_last (y ∷ xs) x (suc i) less = before_last xs x i (omega (arith, less))
 
--- each place of the front
-pub front_there : {X : Type 0} (n : ℕ) (xs : List X) (i : ℕ) → i < n → slice_get (take n xs) i ≡ slice_get xs i
-front_there zero xs i less = absurd (omega (arith, less))
-front_there (suc n) [] i less = refl
-front_there (suc n) (x ∷ xs) zero less = refl
-front_there (suc n) (x ∷ xs) (suc i) less = front_there n xs i (omega (arith, less))
-
 -- each place has something
 pub there_is : {X : Type 0} (xs : List X) (i : ℕ) → i < length xs → (x : X) × (slice_get xs i ≡ Some x)
 there_is [] i lt = absurd (omega (arith, lt))

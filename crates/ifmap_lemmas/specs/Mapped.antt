@@ -65,10 +65,10 @@ some_joined told q (y ∷ ys) some = elim (cases_Bool (q y)) [
 ]
 
 -- what holds of all that is made of each holds of all that is joined
-pub all_joined : {X Y : Type 0} (P : X → Type 0) (Q : Y → Type 0) (f : X → List Y) → ((x : X) → P x → AllByRecursion Q (f x))
+pub all_of_joined : {X Y : Type 0} (P : X → Type 0) (Q : Y → Type 0) (f : X → List Y) → ((x : X) → P x → AllByRecursion Q (f x))
     → (xs : List X) → AllByRecursion P xs → AllByRecursion Q (flat_map f xs)
-all_joined P Q f h [] all = tt
-all_joined P Q f h (x ∷ xs) all = both_all Q (f x) (flat_map f xs) (h x all.0) (all_joined P Q f h xs all.1)
+all_of_joined P Q f h [] all = tt
+all_of_joined P Q f h (x ∷ xs) all = both_all Q (f x) (flat_map f xs) (h x all.0) (all_of_joined P Q f h xs all.1)
 
 -- an option makes one at most, and as many options no more than there are
 pub one_at_most : {X : Type 0} (o : Option X) → length (option_to_list o) ≤ 1

@@ -17,7 +17,7 @@ use Rattle.ifmap_ident.specs.Items.{IsCanonItem}
 use Rattle.ifmap_ident.specs.declared.codes.Code.TheVariants.{AccessDenied, InvalidSessionID, SystemError}
 use Rattle.ifmap_ident.specs.declared.items.Item.{Item}
 use Rattle.ifmap_lemmas.specs.Filters.{all_around, all_filter, all_weaker}
-use Rattle.ifmap_lemmas.specs.Mapped.{all_joined}
+use Rattle.ifmap_lemmas.specs.Mapped.{all_of_joined}
 use Rattle.ifmap_lemmas.specs.Members.{both_all, map_of_all}
 use Rattle.ifmap_machine.specs.declared.events.Answer.{Answer}
 use Rattle.ifmap_machine.specs.declared.events.Ask.{Ask}
@@ -132,7 +132,7 @@ module _ (before after : List Attachment) (notes : List Note) (graph : IsGraph b
   fit_told_in : (standing : List Standing) (serial : ℕ) → AllByRecursion HasFitName standing
       → IsFitQueue (told_in_session before after notes standing serial)
   fit_told_in standing serial names =
-      all_joined HasFitName IsFitPollItem (told_to before after notes) fit_told_to (standing_in serial standing)
+      all_of_joined HasFitName IsFitPollItem (told_to before after notes) fit_told_to (standing_in serial standing)
       (all_filter HasFitName (λ x. x.serial == serial) standing names)
 
 -- ---- 2. what keeps states fit
@@ -219,7 +219,7 @@ module _ (by : Authorship) (name : IsClientName by.client) where
   fit_op_notes (publishing.Delete item filter) f = tt
 
   fit_notes : (ops : List PublishOp) → AllByRecursion IsFitOp ops → AreFitNotes (notes_of by ops)
-  fit_notes ops f = all_joined IsFitOp (λ n. IsFitEntry (entry_noted n)) (notes_of_op by) fit_op_notes ops f
+  fit_notes ops f = all_of_joined IsFitOp (λ n. IsFitEntry (entry_noted n)) (notes_of_op by) fit_op_notes ops f
 
 record IsFitTold (t : Told) : Type 0 where
   pub queue : IsFitQueue t.queue

@@ -5,6 +5,7 @@ use Rattle.std.proofs.Common.{◌≡◌, sym, ◌∙◌, ap, subst, ℕ, ◌*◌
 use Rattle.std.proofs.lemmas.List.{length-map}
 use Rattle.std.specs.List.{AllByRecursion}
 use Rattle.ifmap_lemmas.specs.Mapped.{fewer_joined}
+use Rattle.ifmap_lemmas.specs.Owners.{few_each}
 use Rattle.ifmap_lemmas.specs.Places.{all_got}
 use Rattle.ifmap_changes.specs.ifmap_machine.State as machine
 use Rattle.ifmap_changes.specs.Between.{AreOrdered, Asking, IsSoundSoFar, IsSteady, SharesNumbers, sessions_left, sight_now, starts_of, HasStartNumber, IsSeen}
@@ -17,7 +18,6 @@ use Rattle.ifmap_changes.specs.ifmap_machine.Subscribing.{Told}
 use Rattle.ifmap_changes.specs.ifmap_session.Sessions.{IsLive, Session, SessionTable, session_with_serial}
 use Rattle.ifmap_changes.specs.ifmap_standing.Standing.{standing_of}
 use Rattle.ifmap_changes.specs.ifmap_standing.declared.standing.Standing.{Standing}
-use Rattle.ifmap_subscribes.proofs.Counting.{thousand_each}
 use Rattle.ifmap_subscribes.proofs.Renamed.{begun_more}
 use Rattle.ifmap_subscribes.specs.Readying.{AreReadied, CanReady, CanStand, GraphHolds, IsGivenUp, OnlyHolds, most_ops, queue_where, told_in_scene}
 use Rattle.ifmap_subscribes.specs.Renamings.{IsOfSession, KeepsNumbered, begun_by}
@@ -146,7 +146,8 @@ pub few_own : (h : Held) (live : List Session) (standing : List Standing) (made 
 few_own h live standing made ordered few most steady = λ a.
     let owned = map_of_all (λ (x : machine.Standing). IsLive x.serial live) standing_of standing ordered.live in
     let stand : length (map standing_of standing) ≤ length live * 1000
-    = thousand_each (λ (x : machine.Standing). x.serial) (λ (s : Session). s.serial) live (map standing_of standing) owned ordered.few in
+    = few_each (λ (x : machine.Standing). x.serial) (λ (s : Session). s.serial) 1000 live (map standing_of standing) owned
+    ordered.few in
     let shown_length = length-map standing standing_of in
     let begun = fewer_joined (λ (r : Renaming). r.standing) made in
     let both = length-append standing (begun_by made) in
