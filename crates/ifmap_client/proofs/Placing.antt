@@ -1,10 +1,9 @@
 -- Where entries go and are taken out, in sets that rise.
-use Rattle.std.proofs.Common.{rules, ◌≡◌, refl, ap, ◌∙◌, sym, subst, ℕ, zero, suc, ◌+◌, ◌<◌, ◌≤◌, Bool, true, false, not, ◌&&◌, ◌||◌, cond, List, [], ◌∷◌, length, get_or, drop, Result, Ok, Err, Ordering, arith}
+use Rattle.std.proofs.Common.{◌≡◌, refl, ap, ◌∙◌, sym, subst, ℕ, zero, suc, ◌+◌, ◌<◌, ◌≤◌, Bool, true, false, not, ◌&&◌, ◌||◌, cond, List, [], ◌∷◌, length, get_or, drop, Result, Ok, Err, Ordering, arith}
 use Rattle.std.proofs.lemmas.Cmp.{alike_right}
 use Rattle.std.proofs.lemmas.List.{drop_all, drop_more}
 use Rattle.std.proofs.lemmas.List.Kept.{IsStrictlySortedBy-filter}
 use Rattle.std.specs.Cmp.{IsTotalOrder}
-use Rattle.std.specs.Cmp.Rules.{comparing}
 use Rattle.std.specs.List.{AllByRecursion, filter, remove}
 use Rattle.std.specs.List.Sorted.{IsBinarySearchResult, IsSearchInRange, IsStrictlySortedBy}
 use Rattle.std.specs.Ordering.{eq_by_cmp, is_eq}
@@ -16,10 +15,7 @@ use Rattle.ifmap_lemmas.specs.Orderings.{less_turned}
 use Rattle.ifmap_folds.specs.ifmap_plans.Placing.{put}
 use Rattle.ifmap_folds.specs.ifmap_plans.laws.PlacingLaws.{found_is_put, gap_is_put, gap_none, put_sorted}
 use Rattle.ifmap_search.specs.declared.results.Entry.{Entry}
-use Rattle.ifmap_folds.specs.laws.FoldingLaws.{entries_tie, difference_none}
-
-pub entries_total : IsTotalOrder entry_order
-entries_total = search (comparing, rules)
+use Rattle.ifmap_folds.specs.laws.FoldingLaws.{entries_tie, difference_none, entries_total}
 
 -- ---- taking out by place
 

@@ -4,6 +4,7 @@ use Rattle.std.specs.Prelude.{Option, None, slice_get, unwrap_or, nat_lt, if◌t
 use Rattle.std.specs.List.{AllByRecursion}
 use Rattle.std.proofs.lemmas.Bool.{cases_Bool}
 use Rattle.ifmap_elem.specs.Chars.{IsCharacters}
+use Rattle.ifmap_elem.specs.laws.CharacterLaws.{no_characters}
 use Rattle.ifmap_lemmas.specs.Members.{both_all}
 use Rattle.ifmap_core.specs.ifmap_machine.declared.events.Answer.{Answer}
 use Rattle.ifmap_core.specs.ifmap_machine.declared.events.Ask.{Ask}
@@ -24,7 +25,6 @@ use Rattle.ifmap_drill.specs.Requests.{request_by, session_of}
 use Rattle.ifmap_drill.specs.Tasks.{task_at}
 use Rattle.ifmap_drill.proofs.ClientNames.{name_is}
 use Rattle.ifmap_drill.proofs.FitRequests.{AddressesAreIdentifiers, request_fit}
-use Rattle.ifmap_drill.proofs.Plain.{plain_characters}
 use Rattle.ifmap_core.specs.ifmap_session.laws.IdLaws.{id_characters}
 
 -- ---- a history with one event more
@@ -40,9 +40,6 @@ state_more state [] event answer = refl
 state_more state (e ∷ history) event answer = state_more (step state e.0).0 history event answer
 
 -- ---- ids
-
-no_characters : IsCharacters []
-no_characters = plain_characters [] tt
 
 member_characters : (ids : List (List ℕ)) (n : ℕ) → AllByRecursion IsCharacters ids → IsCharacters (unwrap_or (slice_get ids n) [])
 member_characters [] n fit = no_characters

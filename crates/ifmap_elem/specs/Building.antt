@@ -7,6 +7,10 @@ use Rattle.ifmap_elem.specs.declared.elements.Child as the
 use Rattle.ifmap_elem.specs.declared.elements.Element.{Element}
 use Rattle.ifmap_elem.specs.declared.elements.Name.{Name}
 
+-- the two are one name
+abbrev pub is_name : Name → Name → Bool
+is_name m n = bytes_eq m.space n.space && bytes_eq m.local n.local
+
 -- a name in no namespace
 abbrev pub bare_name : List ℕ → Name
 bare_name local = record { space = []; local = local }

@@ -28,6 +28,10 @@ pub record Binding : Type 0 where
 abbrev pub Scope : Type 0
 Scope = List Binding
 
+-- a binding as a row: its prefix, then its namespace
+abbrev pub row_of_binding : Binding → List ℕ × List ℕ
+row_of_binding b = (b.prefix, b.space)
+
 abbrev pub root_scope : Scope
 root_scope = record { prefix = codes "xml"; space = xml_space } ∷ (record { prefix = []; space = [] } ∷ [])
 

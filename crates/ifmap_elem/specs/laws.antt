@@ -17,6 +17,7 @@ pub mod Resolving
 pub mod Roots
 pub mod ScopeLaws
 pub mod CharacterLaws
+pub mod ChildElements
 pub mod DecidedNames
 pub mod AgainLaws
 pub mod BareNames

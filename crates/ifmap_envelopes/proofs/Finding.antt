@@ -5,9 +5,9 @@ use Rattle.ifmap_lemmas.specs.Deciding.{Decided}
 use Rattle.ifmap_elem.specs.declared.elements.Element.{Element}
 use Rattle.ifmap_forms.specs.Tables.{Part, element_parts}
 use Rattle.ifmap_elem.specs.Fit.{is_element}
-use Rattle.ifmap_envelopes.specs.Envelopes.{IsOnlyElement, IsBodyAt, IsEnvelope, blank_front, envelope_name, is_first, is_last_part, is_part_named}
+use Rattle.ifmap_envelopes.specs.Envelopes.{IsOnlyElement, IsBodyAt, IsEnvelope, blank_front, envelope_name, is_first, is_last_part}
 use Rattle.ifmap_envelopes.proofs.Alone.{one_body_at}
-use Rattle.ifmap_envelopes.proofs.EnvelopeLaws.{after_header, alone_there, body_after, body_first, headed, named, no_body_after, no_body_first, none_alone}
+use Rattle.ifmap_envelopes.proofs.EnvelopeLaws.{after_header, alone_there, body_after, body_first, headed, named, no_body_after, no_body_first, none_alone, is_body, is_header}
 use Rattle.ifmap_elem.specs.laws.DecidedNames.{name_or_not}
 
 -- a test's two answers
@@ -30,12 +30,6 @@ module _ (parts : List Part) where
 
   abbrev HasBody : Type 0
   HasBody = (index : ℕ) × (body : Element) × IsBodyAt parts index body
-
-  abbrev is_body : Part → Bool
-  is_body = is_part_named (codes "Body")
-
-  abbrev is_header : Part → Bool
-  is_header = is_part_named (codes "Header")
 
   -- after a header and white space
   abbrev later : ℕ

@@ -4,7 +4,7 @@ ghost use Rattle.std.specs.Bool.{OnTrue};
 ghost use Rattle.std.specs.List.{position};
 ghost use Rattle.ifmap_elem.specs.declared.elements.Child.{out-Child};
 ghost use Rattle.ifmap_elem.specs.declared.elements.Element.{Element};
-ghost use Rattle.ifmap_forms.specs.ifmap_filter.Holding.{is_name};
+ghost use Rattle.ifmap_elem.specs.Building.{is_name};
 ghost use Rattle.ifmap_forms.specs.Tables.{parts_in, element_parts};
 ghost use Rattle.ifmap_elem.specs.Fit.{is_element};
 ghost use Rattle.ifmap_envelopes.specs.Envelopes.{IsOnlyElement, IsBodyAt, IsEnvelope, IsPartAt, blank_front, envelope_name, is_first, is_last_part, is_part_named, is_solid_part};

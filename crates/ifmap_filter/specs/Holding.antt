@@ -7,10 +7,7 @@ use Rattle.ifmap_elem.specs.declared.elements.Attribute.{Attribute}
 use Rattle.ifmap_elem.specs.declared.elements.Child.{Child, out-Child}
 use Rattle.ifmap_elem.specs.declared.elements.Element.{Element}
 use Rattle.ifmap_elem.specs.declared.elements.Child.TheOpen.{Child-F}
-
--- the two are one name
-abbrev pub is_name : Name → Name → Bool
-is_name m n = bytes_eq m.space n.space && bytes_eq m.local n.local
+use Rattle.ifmap_elem.specs.Building.{is_name}
 
 -- the attribute of this local name in no namespace has this value
 abbrev pub is_attribute : List ℕ → List ℕ → Attribute → Bool

@@ -3,11 +3,12 @@ use Rattle.std.specs.Prelude.{Bool, true, ◌&&◌, Option, Some, None}
 use Rattle.std.specs.List.{list_all, list_any}
 use Rattle.ifmap_elem.specs.declared.elements.Name.{Name}
 use Rattle.ifmap_elem.specs.declared.elements.Element.{Element}
+use Rattle.ifmap_elem.specs.Building.{is_name}
 use Rattle.ifmap_filter.specs.declared.filters.Predicate.{Predicate, fold-Predicate}
 use Rattle.ifmap_filter.specs.declared.filters.Predicate.TheOpen.{Predicate-F}
 use Rattle.ifmap_filter.specs.declared.filters.Test.{Test}
 use Rattle.ifmap_filter.specs.declared.filters.Filter.{Filter}
-use Rattle.ifmap_filter.specs.Holding.{has_attribute, has_child, is_name}
+use Rattle.ifmap_filter.specs.Holding.{has_attribute, has_child}
 
 -- the predicate holds of the element, where it is known of its parts whether they hold
 abbrev pub holds_of : Element → Predicate-F Bool → Bool

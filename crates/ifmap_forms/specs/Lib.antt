@@ -11,5 +11,6 @@ pub mod ListLaws
 pub mod AnswerLaws
 pub mod PositionLaws
 pub mod FormLaws
+pub mod IdentifierLaws
 -- What is passed on to the crates above.
 pub mod ifmap_filter

@@ -4,7 +4,6 @@
 -- 3. Texts, lists of elements, and identifiers as children.
 use Rattle.std.proofs.Common.{◌≡◌, ◌∙◌, ◌+◌, ◌++◌, ℕ, List, [], ◌∷◌, Option, None, Some, Result, Ok, Err, inl, inr, ap, subst, sym}
 use Rattle.std.specs.List.{list_all}
-use Rattle.ifmap_filter.specs.Holding.{is_name}
 use Rattle.ifmap_elem.specs.Chars.{is_white}
 use Rattle.ifmap_elem.specs.declared.elements.Child.TheOpen.{Child-F}
 use Rattle.ifmap_elem.specs.declared.elements.Element.{Element}
@@ -23,6 +22,7 @@ use Rattle.ifmap_forms.specs.Items.{identifier_check, identifier_code, identifie
 use Rattle.ifmap_forms.specs.Items.{may_follow, only_identifier, start_content}
 use Rattle.ifmap_forms.specs.Scopes.{Scopes}
 use Rattle.ifmap_elem.specs.WhiteSpace.{is_blank_part}
+use Rattle.ifmap_elem.specs.Building.{is_name}
 use Rattle.ifmap_forms.specs.Tables.{ContentCheck, Form, Part, AttributeTable, table_with, both, each_element, form_or, no_attributes}
 use Rattle.ifmap_forms.specs.Tables.{no_children, element_parts, read_form, form_check}
 use Rattle.ifmap_forms.specs.Values.{Field, field_check, read_text}

@@ -7,6 +7,7 @@ use Rattle.ifmap_lemmas.specs.Having.{Has, all_has}
 use Rattle.ifmap_ident.specs.declared.identifiers.Identifier.{Identifier}
 use Rattle.ifmap_ident.specs.declared.items.Item.{Item}
 use Rattle.ifmap_plans.specs.Lists.{IsList}
+use Rattle.ifmap_plans.specs.laws.GraphLists.{list_on}
 use Rattle.ifmap_pool.specs.Holdings.{Holdings}
 use Rattle.ifmap_view.specs.declared.attachments.Attachment.{Attachment}
 use Rattle.ifmap_view.specs.declared.views.LinkSeen.{LinkSeen}
@@ -33,7 +34,7 @@ use Rattle.ifmap_graph.proofs.Insides.{rows_shown}
 use Rattle.ifmap_graph.proofs.Lean.{stood_lean}
 use Rattle.ifmap_graph.proofs.Lessening.{waited_there}
 use Rattle.ifmap_graph.proofs.Moved.{inside_anew, placed_still, side_moved, used_still}
-use Rattle.ifmap_graph.proofs.OnItems.{list_on, rows_same}
+use Rattle.ifmap_graph.proofs.OnItems.{rows_same}
 use Rattle.ifmap_graph.proofs.Seeing.{links_by_slots, seen_of, stays_there}
 use Rattle.ifmap_graph.proofs.Settled.{bare_to, held_of, waits_shown}
 use Rattle.ifmap_graph.proofs.Shelving.{Entries}

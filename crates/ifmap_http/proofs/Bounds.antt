@@ -16,7 +16,7 @@ abbrev status_of : Judgement → ℕ
 status_of (refused number) = number
 status_of (taken client size close) = 200
 
-abbrev size_of : Judgement → ℕ
+abbrev pub size_of : Judgement → ℕ
 size_of (refused number) = 0
 size_of (taken client size close) = size
 

@@ -6,11 +6,12 @@ use Rattle.httparse.specs.Grammar.{ReadsRequest, RequestHead, print_blank, print
 use Rattle.httparse.proofs.GrammarLemmas.{print_request-append, request_unique}
 use Rattle.ifmap_heads.specs.Answers.{ReadsAnswer, answered, other, sized, status as other_status, ended as unanswered}
 use Rattle.ifmap_heads.specs.Heads.{IsAnswerHead, IsPostHead}
-use Rattle.ifmap_heads.specs.Posts.{Judgement, ReadsPost, judge_post, posted, refused, taken, truncated}
+use Rattle.ifmap_heads.specs.Posts.{ReadsPost, judge_post, posted, taken, truncated}
 use Rattle.ifmap_heads.specs.Starts.{HasAnswerHead, HasPostHead}
 use Rattle.ifmap_heads.specs.declared.posts.PostTerms.{PostTerms}
 use Rattle.ifmap_input.specs.Inputs.{TakesFromSource}
 use Rattle.ifmap_http.specs.Bodies.{LacksBody, TakesBody}
+use Rattle.ifmap_http.proofs.Bounds.{size_of}
 
 -- what is claimed of all that a wire had left, where it is told, by what it has taken and what is left then
 pub for_told : (P : List ℕ → Type 0) (left_old left_new : Option (List ℕ)) (old new : List ℕ) → TakesFromSource left_old left_new old new
@@ -125,16 +126,11 @@ pub answer_refused : (bytes : List ℕ) (size number : ℕ) (left : Option (List
 answer_refused bytes size number left all has told =
     (drop size bytes ++ all, ap (prepend_known (drop size bytes)) told, (has.head, has.is all, has.says))
 
-size_of : Judgement → ℕ
-size_of (refused number) = 0
-size_of (taken client size close) = size
-
 -- where a post stands whole, its body does after the head that was found
 pub post_is_there : (old new : List ℕ) (size : ℕ) (terms : PostTerms) (head : RequestHead) (client body : List ℕ) (close : Bool)
     (rest : List ℕ)
     → new ≡ old → HasPostHead new size terms → IsPostHead old head (body ++ rest) → judge_post head ≡ taken client (length body) close
     → terms.size ≤ length (drop size new)
-unfolding size_of
 post_is_there old new size terms head client body close rest same has is says =
     let at : ReadsRequest new has.head (drop size new) =
     subst (λ (xs : List ℕ). ReadsRequest xs has.head (drop size new)) (append-nil new)

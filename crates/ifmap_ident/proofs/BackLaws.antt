@@ -3,7 +3,7 @@
 -- 2. What an element gives where an attribute is left out or not.
 -- 3. The parts of each variant's element, with and without a domain.
 -- 4. The attributes and the kind, and the length, which is the same.
-use Rattle.std.proofs.Common.{◌≡◌, ◌≢◌, ℕ, List, [], ◌∷◌, Option, None, Some, IsTrue, true, not, codes, unwrap_or, refl, sym, ◌∙◌, ap, subst}
+use Rattle.std.proofs.Common.{◌≡◌, ◌≢◌, ℕ, List, [], ◌∷◌, Option, Some, IsTrue, true, not, codes, unwrap_or, refl, sym, ◌∙◌, ap, subst}
 use Rattle.std.specs.List.{filter}
 use Rattle.ifmap_addresses.specs.IpV4.{IsIpV4, ip_v4_text}
 use Rattle.ifmap_addresses.specs.IpV6.{IsIpV6, ip_v6_text}
@@ -32,6 +32,7 @@ use Rattle.ifmap_ident.specs.Kinds.{allowed_attributes, identity_type_name, kind
 use Rattle.ifmap_ident.specs.Parts.{has_only, is_blank_inside, is_solid, value_of}
 use Rattle.ifmap_ident.proofs.DotLaws.{domain_again}
 use Rattle.ifmap_ident.proofs.SpelledLaws.{spelled_again}
+use Rattle.ifmap_ident.specs.Meaning.{unless_empty}
 use Rattle.ifmap_elem.specs.laws.ArrangedLaws.{out_element}
 
 -- ---- what is kept again
@@ -44,17 +45,12 @@ module _ (fits : (bytes : List ℕ) (r : Reading) → Spells bytes r → IsFit r
   kept_again Spelled text name kept = spelled_again fits text name kept
 
   -- the definition in the element that is made: none of an empty one
-  given_again : List ℕ → Option (List ℕ)
-  given_again [] = None
-  given_again (b ∷ bs) = Some (b ∷ bs)
-
-  some_again : (other : List ℕ) → other ≢ [] → given_again other ≡ Some other
-  unfolding given_again
+  some_again : (other : List ℕ) → other ≢ [] → unless_empty other ≡ Some other
   some_again [] some = absurd (some refl)
   some_again (b ∷ bs) some = refl
 
   definition_again : (kind : IdentityType) (given : Option (List ℕ)) (other : List ℕ) → IsDefinition kind given other
-      → IsDefinition kind (given_again other) other
+      → IsDefinition kind (unless_empty other) other
   definition_again types.Other given other d = (some_again other d.1, d.1)
   definition_again types.AikName given other d = d
   definition_again types.DistinguishedName given other d = d
@@ -92,7 +88,7 @@ module _ (fits : (bytes : List ℕ) (r : Reading) → Spells bytes r → IsFit r
   module _ (made : Element) (blank : IsTrue (is_blank_inside made)) where
     identity_in : (e : Element) (name : List ℕ) (kind : IdentityType) (other domain : List ℕ) → IsIdentity e name kind other domain
         → value_of (codes "type") made ≡ Some (identity_type_name kind)
-        → value_of (codes "other-type-definition") made ≡ given_again other → value_of (codes "name") made ≡ Some name
+        → value_of (codes "other-type-definition") made ≡ unless_empty other → value_of (codes "name") made ≡ Some name
         → domain ≡ domain_of made → IsIdentity made name kind other domain
     identity_in e name kind other domain p kind_is given name_is domain_is = record {
       children = blank;
@@ -145,7 +141,6 @@ module _ (fits : (bytes : List ℕ) (r : Reading) → Spells bytes r → IsFit r
 
   identity_again : (e : Element) (name : List ℕ) (kind : IdentityType) (other domain : List ℕ) → IsIdentity e name kind other domain
       → IsIdentity (identifier_element (Identity name kind other domain)) name kind other domain
-  unfolding given_again
   identity_again e name kind [] [] p =
       identity_in (identifier_element (Identity name kind [] [])) refl e name kind [] [] p refl refl refl refl
   identity_again e name kind [] (b ∷ bs) p =

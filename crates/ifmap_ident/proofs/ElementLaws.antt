@@ -16,13 +16,13 @@ use Rattle.ifmap_addresses.specs.MacAddresses.{mac_address_text}
 use Rattle.ifmap_addresses.specs.MacAddressLaws.{mac_address_plain}
 use Rattle.ifmap_addresses.specs.Values.{AreBelow}
 use Rattle.ifmap_elem.specs.Arranged.{arrange, arrange_child, sort_attributes}
-use Rattle.ifmap_elem.specs.Building.{bare_attribute, bare_element, bare_name, is_bare}
+use Rattle.ifmap_elem.specs.Building.{bare_attribute, bare_element, bare_name, is_bare, is_name}
 use Rattle.ifmap_elem.specs.Chars.{IsCharacters}
-use Rattle.ifmap_elem.specs.Fit.{AreFitChildren, HasCharacters, IsFit, IsFitAlone, IsFitAttribute, IsFitName, IsNamespace}
+use Rattle.ifmap_elem.specs.Fit.{AreFitChildren, HasCharacters, IsFit, IsFitAlone, IsFitAttribute, IsFitName}
 use Rattle.ifmap_elem.specs.Folds.{at_child_element, at_child_text, at_element}
 use Rattle.ifmap_elem.specs.Names.{is_name_character, is_name_start}
 use Rattle.ifmap_elem.specs.Nesting.{child_levels, child_nesting, element_levels, greatest_of, nesting}
-use Rattle.ifmap_elem.specs.Scopes.{AllDiffer, xmlns_space}
+use Rattle.ifmap_elem.specs.Scopes.{AllDiffer}
 use Rattle.ifmap_elem.specs.Spells.{Spells}
 use Rattle.ifmap_elem.specs.declared.elements.Attribute.{Attribute}
 use Rattle.ifmap_elem.specs.declared.elements.Child.{Child, out-Child}
@@ -31,7 +31,7 @@ use Rattle.ifmap_elem.specs.declared.elements.Element.{Element}
 use Rattle.ifmap_elem.specs.declared.elements.Name.{Name}
 use Rattle.ifmap_elem.specs.declared.readings.Reading.{Reading}
 use Rattle.ifmap_elem.specs.laws.ArrangedLaws.{arranged_is, out_element}
-use Rattle.ifmap_elem.specs.laws.FitLaws.{elements_in, elements_of_child, elements_text, fit_parts, fit_whole, out_text}
+use Rattle.ifmap_elem.specs.laws.FitLaws.{elements_in, elements_of_child, elements_text, fit_parts, fit_whole, out_text, no_namespace}
 use Rattle.ifmap_ident.specs.declared.identifiers.Identifier.{Identifier}
 use Rattle.ifmap_ident.specs.declared.identifiers.Identifier.TheVariants.{AccessRequest, Device, Identity, IpV4, IpV6, MacAddress}
 use Rattle.ifmap_ident.specs.declared.kinds.IdentityType.{IdentityType}
@@ -45,6 +45,7 @@ use Rattle.ifmap_ident.proofs.PrintedLaws.{arranged_outer, inner, outer}
 use Rattle.ifmap_ident.proofs.ValueLaws.{address_characters, definition_characters, domain_characters, kept_characters, value_characters}
 use Rattle.ifmap_lemmas.specs.Members.{all_both, all_of_test, both_all}
 use Rattle.ifmap_lemmas.specs.Texts.{ascii_encoded, eq_itself, is_ascii}
+use Rattle.ifmap_lemmas.specs.Apart.{told_apart}
 use Rattle.ifmap_elem.specs.laws.CharacterLaws.{is_plain, plain_characters}
 use Rattle.ifmap_elem.specs.laws.BareNames.{another_bare}
 
@@ -96,12 +97,6 @@ element_levels_within (MacAddress value domain) = one_level (identifier_element 
 
 -- ---- elements of attributes alone
 
-another_text : (one other : List ℕ) → bytes_eq one one ≡ true → bytes_eq one other ≡ false → one ≢ other
-another_text one other here there e = let q : bytes_eq one one ≡ bytes_eq one other = ap (bytes_eq one) e in cc
-
-no_namespace : IsNamespace []
-no_namespace = record { characters = ([], refl, tt); not_reserved = another_text [] xmlns_space refl refl }
-
 closed_name : (first : ℕ) (others : List ℕ) → list_all is_ascii (first ∷ others) ≡ true → is_name_start first ≡ true
     → list_all is_name_character others ≡ true → IsFitName (bare_name (first ∷ others))
 closed_name first others ascii begins goes_on = record {
@@ -135,23 +130,19 @@ plain_attribute local plain other value h = record {
   value = h;
 }
 
-same_name : Name → Name → Bool
-same_name x y = bytes_eq x.space y.space && bytes_eq x.local y.local
-
 names_apart : List Name → Bool
 names_apart [] = true
-names_apart (x ∷ xs) = list_all (λ y. not (same_name x y)) xs && names_apart xs
+names_apart (x ∷ xs) = list_all (λ y. not (is_name x y)) xs && names_apart xs
 
-other_names : (x y : Name) → not (same_name x y) ≡ true → x ≢ y
-unfolding same_name
+other_names : (x y : Name) → not (is_name x y) ≡ true → x ≢ y
 other_names x y h e =
-    let here : same_name x x ≡ true = and_from (bytes_eq x.space x.space) (bytes_eq x.local x.local)
+    let here : is_name x x ≡ true = and_from (bytes_eq x.space x.space) (bytes_eq x.local x.local)
     (eq_itself x.space) (eq_itself x.local) in
-    let there : same_name x x ≡ same_name x y = ap (same_name x) e in
-    let differ : same_name x y ≡ false = not-true (same_name x y) h in
+    let there : is_name x x ≡ is_name x y = ap (is_name x) e in
+    let differ : is_name x y ≡ false = not-true (is_name x y) h in
     cc
 
-others_differ : (x : Name) (xs : List Name) → AllByRecursion (λ y. not (same_name x y) ≡ true) xs → AllByRecursion (λ y. x ≢ y) xs
+others_differ : (x : Name) (xs : List Name) → AllByRecursion (λ y. not (is_name x y) ≡ true) xs → AllByRecursion (λ y. x ≢ y) xs
 others_differ x [] f = tt
 others_differ x (y ∷ ys) f = (other_names x y f.0, others_differ x ys f.1)
 
@@ -159,8 +150,8 @@ all_differ : (xs : List Name) → names_apart xs ≡ true → AllDiffer xs
 unfolding names_apart
 all_differ [] h = tt
 all_differ (x ∷ xs) h =
-    let parts = and_parts (list_all (λ y. not (same_name x y)) xs) (names_apart xs) h in
-    (others_differ x xs (all_of_test (λ y. not (same_name x y)) xs parts.0), all_differ xs parts.1)
+    let parts = and_parts (list_all (λ y. not (is_name x y)) xs) (names_apart xs) h in
+    (others_differ x xs (all_of_test (λ y. not (is_name x y)) xs parts.0), all_differ xs parts.1)
 
 attributes_fit : (local : List ℕ) (attributes : List Attribute) → is_plain_name local ≡ true
     → names_apart (map (λ a. a.name) attributes) ≡ true → AllByRecursion IsFitAttribute attributes
@@ -198,7 +189,7 @@ other_fits = plain_attribute (codes "other-type-definition") refl refl
 
 access_request_fits : (name domain : List ℕ) → IsCharacters name → IsCharacters domain
     → IsFit (identifier_element (AccessRequest name domain))
-unfolding is_plain_name same_name names_apart
+unfolding is_plain_name names_apart
 access_request_fits name [] n d = attributes_fit (codes "access-request") _ refl refl (name_fits name n, tt)
 access_request_fits name (b ∷ bs) n d =
     attributes_fit (codes "access-request") _ refl refl (domain_fits (b ∷ bs) d, (name_fits name n, tt))
@@ -206,7 +197,7 @@ access_request_fits name (b ∷ bs) n d =
 identity_fits : (name : List ℕ) (kind : IdentityType) (other domain : List ℕ) → IsCharacters name
     → IsCharacters (identity_type_name kind) → IsCharacters other → IsCharacters domain
     → IsFit (identifier_element (Identity name kind other domain))
-unfolding is_plain_name same_name names_apart
+unfolding is_plain_name names_apart
 identity_fits name kind [] [] n k o d =
     attributes_fit (codes "identity") _ refl refl (name_fits name n, (type_fits (identity_type_name kind) k, tt))
 identity_fits name kind [] (b ∷ bs) n k o d =
@@ -222,7 +213,7 @@ identity_fits name kind (c ∷ cs) (b ∷ bs) n k o d =
 address_fits : (type value domain : List ℕ) → IsCharacters type → IsCharacters value → IsCharacters domain → IsFit (bare_element
     (codes "ip-address")
     (domain_attributes domain ++ (bare_attribute (codes "type") type ∷ (bare_attribute (codes "value") value ∷ []))) [])
-unfolding is_plain_name same_name names_apart
+unfolding is_plain_name names_apart
 address_fits type value [] t v d =
     attributes_fit (codes "ip-address") _ refl refl (type_fits type t, (value_fits value v, tt))
 address_fits type value (b ∷ bs) t v d =
@@ -230,7 +221,7 @@ address_fits type value (b ∷ bs) t v d =
 
 pub mac_fits : (value domain : List ℕ) → IsCharacters (mac_address_text value) → IsCharacters domain
     → IsFit (identifier_element (MacAddress value domain))
-unfolding is_plain_name same_name names_apart
+unfolding is_plain_name names_apart
 mac_fits value [] v d = attributes_fit (codes "mac-address") _ refl refl (value_fits (mac_address_text value) v, tt)
 mac_fits value (b ∷ bs) v d =
     attributes_fit (codes "mac-address") _ refl refl (domain_fits (b ∷ bs) d, (value_fits (mac_address_text value) v, tt))

@@ -8,8 +8,8 @@ use Rattle.ifmap_ident.specs.Canon.{IsIdentifier, most_bytes}
 use Rattle.ifmap_ident.specs.Identifiers.{identifier_bytes, identifier_element}
 use Rattle.ifmap_ident.proofs.ElementLaws.{mac_fits}
 use Rattle.ifmap_ident.proofs.SizeLaws.{mac_size}
-use Rattle.ifmap_ident.proofs.Utf8Laws.{no_characters}
 use Rattle.ifmap_ident.proofs.ValueLaws.{address_characters}
+use Rattle.ifmap_elem.specs.laws.CharacterLaws.{no_characters}
 
 mac_within : (value : List ℕ) → AreBelow 256 6 value → length (identifier_bytes (MacAddress value [])) ≤ most_bytes
 mac_within [] h = absurd (let q = h.number in omega arith)

@@ -23,12 +23,9 @@ use Rattle.ifmap_elem.specs.Spells.{Spells}
 use Rattle.ifmap_elem.specs.Tokens.{TakesAssignment, TakesBetween, TakesDeclaration, TakesEnd, TakesOptional, TakesQuoted, TakesSetting, TakesTag, TakesToken}
 use Rattle.ifmap_lemmas.specs.Items.{To}
 use Rattle.ifmap_lemmas.specs.Members.{all_of_test}
-use Rattle.ifmap_elem.specs.laws.CharacterLaws.{is_plain, plain_characters, characters_both, characters_are_utf8, part_characters}
+use Rattle.ifmap_elem.specs.laws.CharacterLaws.{is_plain, plain_characters, characters_both, characters_are_utf8, part_characters, no_characters}
 
 -- ---- characters
-
-pub no_characters : IsCharacters []
-no_characters = ([], refl, tt)
 
 -- ---- what stands before characters
 

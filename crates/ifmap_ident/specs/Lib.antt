@@ -10,6 +10,7 @@ pub mod Meaning
 pub mod Parts
 pub mod Written
 pub mod SameLaws
+pub mod CodeLaws
 -- What is passed on to the crates above.
 pub mod ifmap_addresses
 pub mod ifmap_lexer

@@ -1,6 +1,6 @@
 -- Items and identifiers are the same or differ.
-use Rattle.std.proofs.Common.{◌≡◌, true, refl, ◌∙◌, sym, false, ap, rules}
-use Rattle.ifmap_lemmas.specs.Texts.{eq_itself}
+use Rattle.std.proofs.Common.{◌≡◌, true, refl, ◌∙◌, sym, false, ap, rules, Bool}
+use Rattle.ifmap_lemmas.specs.Texts.{eq_itself, eq_tells, slice_cmp-less}
 use Rattle.ifmap_ident.specs.declared.identifiers.Identifier.{Identifier}
 use Rattle.ifmap_ident.specs.Identifiers.{identifier_bytes, same_identifier, identifier_order}
 use Rattle.ifmap_ident.specs.declared.items.Item.{Item}
@@ -38,6 +38,10 @@ items_total = search (comparing, rules)
 pub items_equiv : IsEquivalence same_item
 items_equiv = search (comparing, rules)
 
+-- one that stands on x is told from another as x is
+pub told_as : (x a b : Item) → same_item b x ≡ true → same_item a b ≡ same_item a x
+told_as x a b e = items_equiv.symm a b ∙ items_equiv.congr b x a e ∙ items_equiv.symm x a
+
 -- the test of a look-up is that of what is stored on an item
 pub ties : (item other : Item) → is_at (item_order item) other ≡ same_item other item
 ties item other = sym (items_tie other item ∙ ap is_eq (items_total.antisymm other item) ∙ eq_turned (item_order item other))
@@ -45,6 +49,17 @@ ties item other = sym (items_tie other item ∙ ap is_eq (items_total.antisymm o
 -- an item below another is not the same
 pub greater_item_differs : (i y : Item) → item_order i y ≡ Less → same_item y i ≡ false
 greater_item_differs i y e = sym (ties i y) ∙ ap is_eq e
+
+-- an identifier above another is not the same
+pub greater_identifier_differs : (a b : Identifier) → identifier_order a b ≡ Less → same_identifier b a ≡ false
+greater_identifier_differs a b less = told (same_identifier b a) refl
+  where
+    told : (t : Bool) → same_identifier b a ≡ t → t ≡ false
+    told true is =
+        let same : identifier_bytes b ≡ identifier_bytes a = eq_tells (identifier_bytes b) (identifier_bytes a) is in
+        let wrong : true ≡ false = slice_cmp-less (identifier_bytes a) (identifier_bytes b) (sym less) (sym same) in
+        wrong
+    told false is = refl
 
 -- identifiers of one list of canonical bytes are one
 abbrev pub BytesTellIdentifiers : Type 0

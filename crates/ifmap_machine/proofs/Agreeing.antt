@@ -25,8 +25,9 @@ use Rattle.ifmap_machine.specs.Telling.{is_overfull, is_overrun, is_too_big, ove
 use Rattle.ifmap_machine.specs.Telling.{too_big_item}
 use Rattle.ifmap_machine.proofs.Folding.{AreOf, Folds, dropped_stay, fold_joined, other_stays, told_all}
 use Rattle.ifmap_machine.proofs.Ids.{one_of_serial}
-use Rattle.ifmap_machine.proofs.Standing.{IsStood, standing_total}
+use Rattle.ifmap_machine.proofs.Standing.{IsStood}
 use Rattle.ifmap_machine.proofs.Tables.{IsTabled, overflow_keeps}
+use Rattle.ifmap_machine.specs.OrderLaws.{standing_total}
 use Rattle.ifmap_folds.specs.ifmap_plans.declared.plans.Note.{Note}
 use Rattle.ifmap_publish.specs.ifmap_requests.declared.requests.SubscribeOp.{SubscribeOp}
 use Rattle.ifmap_publish.specs.ifmap_requests.declared.requests.SubscribeOp.TheVariants.{Update, Delete}

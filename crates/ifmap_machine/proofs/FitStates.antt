@@ -16,6 +16,7 @@ use Rattle.ifmap_folds.specs.ifmap_fresh.Fresh.{fresh, fresh_size, is_found}
 use Rattle.ifmap_ident.specs.Items.{IsCanonItem}
 use Rattle.ifmap_ident.specs.declared.codes.Code.TheVariants.{AccessDenied, InvalidSessionID, SystemError}
 use Rattle.ifmap_ident.specs.declared.items.Item.{Item}
+use Rattle.ifmap_ident.specs.CodeLaws.{code_characters}
 use Rattle.ifmap_lemmas.specs.Filters.{all_around, all_filter, all_weaker}
 use Rattle.ifmap_lemmas.specs.Mapped.{all_of_joined}
 use Rattle.ifmap_lemmas.specs.Members.{both_all, map_of_all}
@@ -33,7 +34,7 @@ use Rattle.ifmap_machine.specs.Step.{search, step, step_ask, subscribe}
 use Rattle.ifmap_machine.specs.Subscribing.{Told, begin_name, drop_name, is_full_for, is_of_name, subscribe_op, subscribe_ops}
 use Rattle.ifmap_machine.specs.Telling.{differences, is_overfull, is_overrun, is_too_big, item_if_any, overflow, overflow_session, tell}
 use Rattle.ifmap_machine.specs.Telling.{tell_session, told_in_session, told_to, too_big_item}
-use Rattle.ifmap_machine.proofs.FitTexts.{code_characters, limit_characters, limit_word}
+use Rattle.ifmap_machine.proofs.FitTexts.{limit_characters, limit_word}
 use Rattle.ifmap_meta.specs.ClientNames.{IsClientName}
 use Rattle.ifmap_meta.specs.Whole.{IsMetadata}
 use Rattle.ifmap_meta.specs.declared.metadata.Metadata.{Metadata}

@@ -1,17 +1,11 @@
--- Sessions by their ids and serials.
--- Ids tell serials (`ids_tell`), and sessions of one serial are one (`one_of_serial`).
+-- Sessions by their serials: those of one serial are one (`one_of_serial`).
 use Rattle.std.proofs.Common.{◌≡◌, sym, ◌∙◌, ap, List, [], ◌∷◌}
 use Rattle.std.proofs.Common.{inl, inr, arith}
 use Rattle.std.proofs.lemmas.Bool.Decides.{nat_tests}
-use Rattle.std.proofs.lemmas.Str.Parse.{IsNumeralModel, numerals_by_value, tells_digits}
 use Rattle.std.specs.List.Sorted.{IsStrictlySortedBy}
-use Rattle.std.specs.Str.Parse.{AllDigits, digits_value}
 use Rattle.std.specs.declared.cmp.Ordering.TheVariants.{Less}
 use Rattle.ifmap_lemmas.specs.Having.{Has, all_has}
 use Rattle.ifmap_session.specs.Sessions.{Session, session_order}
-
-own : IsNumeralModel (AllDigits 10) (digits_value 10)
-own = numerals_by_value (AllDigits 10) tells_digits
 
 pub one_of_serial : (live : List Session) (one other : Session) → IsStrictlySortedBy session_order live → Has live one → Has live other
     → one.serial ≡ other.serial → one ≡ other

@@ -5,10 +5,8 @@ use Rattle.std.proofs.Common.{◌≡◌, refl, ◌∙◌, ap, subst, ℕ, ◌+�
 use Rattle.std.proofs.Common.{◌++◌, length, Option, None, Some, option_and_then, inl, inr, nat_le, arith, length-append}
 use Rattle.std.proofs.lemmas.Bool.{and_cases, and_parts, cases_Bool}
 use Rattle.std.proofs.lemmas.Bool.Decides.{nat_tests}
-use Rattle.std.proofs.lemmas.Cmp.{nat_cmp_total, nat_list_cmp_total, on_total, then_total}
 use Rattle.std.proofs.lemmas.List.Elements.{filter-append}
 use Rattle.std.proofs.lemmas.List.Kept.{IsStrictlySortedBy-filter}
-use Rattle.std.specs.Cmp.{IsTotalOrder}
 use Rattle.std.specs.List.{filter, list_any}
 use Rattle.std.specs.List.Sorted.{IsStrictlySortedBy}
 use Rattle.std.specs.Ordering.{is_gt, is_lt}
@@ -24,6 +22,7 @@ use Rattle.ifmap_machine.specs.Step.{answer_subscribed, step, step_ask}
 use Rattle.ifmap_machine.specs.Subscribing.{Told, is_full_for, is_of_name, most_names, subscribe_op, subscribe_ops}
 use Rattle.ifmap_machine.specs.Telling.{is_too_big}
 use Rattle.ifmap_machine.proofs.Cases.{former_keeps, step_keeps}
+use Rattle.ifmap_machine.specs.OrderLaws.{standing_total}
 use Rattle.ifmap_folds.specs.ifmap_plans.Placing.{put}
 use Rattle.ifmap_folds.specs.ifmap_plans.laws.PlacingLaws.{put_sorted}
 use Rattle.ifmap_publish.specs.ifmap_requests.declared.requests.SubscribeOp.{SubscribeOp}
@@ -31,10 +30,6 @@ use Rattle.ifmap_publish.specs.ifmap_requests.declared.requests.SubscribeOp.TheV
 use Rattle.ifmap_replies.specs.ifmap_search.declared.searches.Search.{Search}
 use Rattle.ifmap_session.specs.Sessions.{Session, session_of_client}
 use Rattle.ifmap_publish.specs.ifmap_view.declared.attachments.Attachment.{Attachment}
-
-pub standing_total : IsTotalOrder standing_order
-standing_total =
-    then_total (on_total (λ (x : Standing). x.serial) nat_cmp_total) (on_total (λ (x : Standing). x.name) nat_list_cmp_total)
 
 -- ---- how many
 

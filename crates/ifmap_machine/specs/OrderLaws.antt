@@ -1,7 +1,7 @@
 -- Subscriptions in their order.
 use Rattle.std.proofs.Common.{◌≡◌, sym, ◌∙◌, ap, []}
-use Rattle.std.proofs.lemmas.Cmp.{nat_cmp_total, nat_list_cmp_total}
-use Rattle.std.specs.Cmp.{tied_itself}
+use Rattle.std.proofs.lemmas.Cmp.{nat_cmp_total, nat_list_cmp_total, on_total, then_total}
+use Rattle.std.specs.Cmp.{tied_itself, IsTotalOrder}
 use Rattle.std.specs.Cmp.Lexicographic.{slice_cmp}
 use Rattle.std.specs.Ordering.{nat_cmp, ordering_then}
 use Rattle.std.specs.declared.cmp.Ordering.TheVariants.{Equal}
@@ -9,6 +9,11 @@ use Rattle.ifmap_machine.specs.State.{Standing, standing_order}
 use Rattle.std.proofs.lemmas.List.{append-nil}
 use Rattle.ifmap_machine.specs.Telling.{tell_session}
 use Rattle.ifmap_session.specs.Sessions.{Session}
+
+-- the order of subscriptions is total
+pub standing_total : IsTotalOrder standing_order
+standing_total =
+    then_total (on_total (λ (x : Standing). x.serial) nat_cmp_total) (on_total (λ (x : Standing). x.name) nat_list_cmp_total)
 
 -- in the order of subscriptions those of one serial and name are equal, and no others are
 pub order_same : (x y : Standing) → x.serial ≡ y.serial → x.name ≡ y.name → standing_order x y ≡ Equal

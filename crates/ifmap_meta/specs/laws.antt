@@ -1,3 +1,4 @@
+pub mod ClientBytes
 pub mod ContentLaws
 pub mod KeyLaws
 pub mod KeyWordLaws

@@ -4,3 +4,4 @@ pub mod KeyLaws
 pub mod ListLaws
 pub mod PlacingLaws
 pub mod OnItemLaws
+pub mod GraphLists

@@ -8,7 +8,7 @@ use Rattle.std.specs.Str.{bytes_eq}
 use Rattle.std.proofs.lemmas.Bool.{cases_Bool}
 use Rattle.std.proofs.lemmas.List.{map-append, reverse-append}
 use Rattle.ifmap_elem.specs.InScope.{binding_told}
-use Rattle.ifmap_elem.specs.Scopes.{Binding}
+use Rattle.ifmap_elem.specs.Scopes.{Binding, row_of_binding}
 use Rattle.ifmap_elem.specs.declared.readings.Declared.{Declared}
 use Rattle.ifmap_lemmas.specs.Options.{or_none}
 use Rattle.ifmap_prefixes.specs.InScope.{scope_by}
@@ -16,9 +16,6 @@ use Rattle.ifmap_prefixes.specs.Rows.{IsLastOf, is_at_or_round}
 
 abbrev Row : Type 0
 Row = List ℕ × List ℕ
-
-abbrev row_of : Binding → Row
-row_of b = (b.prefix, b.space)
 
 lookup_more : (test : List ℕ → Bool) (xs ys : List Row) → lookup test (xs ++ ys) ≡ option_or (lookup test xs) (lookup test ys)
 lookup_more test [] ys = refl
@@ -42,14 +39,16 @@ module _ (prefix path : List ℕ) where
   more : (ds : List Declared) (d : Declared) → stands d ≡ true
       → space_in (d ∷ ds) ≡ option_or (space_in ds) (cond (bytes_eq prefix d.prefix) (Some d.space) None)
   more ds d e =
-      ap (λ b. lookup (bytes_eq prefix) (map row_of (reverse (map binding_told (cond b (d ∷ filter stands ds) (filter stands ds)))))) e
-      ∙ ap (λ bs. lookup (bytes_eq prefix) (map row_of bs)) (reverse-append (binding_told d ∷ []) (bindings_in ds))
-      ∙ ap (lookup (bytes_eq prefix)) (map-append row_of (reverse (bindings_in ds)) (binding_told d ∷ []))
-      ∙ lookup_more (bytes_eq prefix) (map row_of (reverse (bindings_in ds))) ((d.prefix, d.space) ∷ [])
+      ap (λ b. lookup (bytes_eq prefix)
+      (map row_of_binding (reverse (map binding_told (cond b (d ∷ filter stands ds) (filter stands ds)))))) e
+      ∙ ap (λ bs. lookup (bytes_eq prefix) (map row_of_binding bs)) (reverse-append (binding_told d ∷ []) (bindings_in ds))
+      ∙ ap (lookup (bytes_eq prefix)) (map-append row_of_binding (reverse (bindings_in ds)) (binding_told d ∷ []))
+      ∙ lookup_more (bytes_eq prefix) (map row_of_binding (reverse (bindings_in ds))) ((d.prefix, d.space) ∷ [])
 
   same : (ds : List Declared) (d : Declared) → stands d ≡ false → space_in (d ∷ ds) ≡ space_in ds
   same ds d e =
-      ap (λ b. lookup (bytes_eq prefix) (map row_of (reverse (map binding_told (cond b (d ∷ filter stands ds) (filter stands ds)))))) e
+      ap (λ b. lookup (bytes_eq prefix)
+      (map row_of_binding (reverse (map binding_told (cond b (d ∷ filter stands ds) (filter stands ds)))))) e
 
   space_is_last : (ds : List Declared) → space_in ds ≡ last_space ds
   unfolding last_space

@@ -23,8 +23,8 @@ use Rattle.ifmap_publish.specs.Working.{AreEdits, EditMakes, IsEdit, IsSound, ed
 use Rattle.ifmap_publish.specs.declared.edits.Edit.{Edit}
 use Rattle.ifmap_publish.proofs.Attaching.{attached_as_stored}
 use Rattle.ifmap_publish.proofs.Editing.{is_edit, makes_it, nothing_made, nothing_moved}
-use Rattle.ifmap_publish.proofs.Items.{op_told, told_as}
-use Rattle.ifmap_ident.specs.SameLaws.{same_equal, items_equiv, items_total}
+use Rattle.ifmap_publish.proofs.Items.{op_told}
+use Rattle.ifmap_ident.specs.SameLaws.{same_equal, items_equiv, items_total, told_as}
 
 abbrev Entry : Type 0
 Entry = Item × Edit

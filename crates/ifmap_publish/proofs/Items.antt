@@ -28,11 +28,7 @@ use Rattle.ifmap_publish.specs.Apply.{Authorship, apply, apply_op, attach, attac
 use Rattle.ifmap_publish.specs.declared.who.Who.{Who}
 use Rattle.ifmap_publish.specs.Retract.{is_of, retract, retract_on}
 use Rattle.ifmap_publish.specs.OnItems.{apply_on, apply_op_on, attach_on, delete_on, update_on}
-use Rattle.ifmap_ident.specs.SameLaws.{same_equal, items_equiv, items_total}
-
--- one that stands on x is told from another as x is
-pub told_as : (x a b : Item) → same_item b x ≡ true → same_item a b ≡ same_item a x
-told_as x a b e = items_equiv.symm a b ∙ items_equiv.congr b x a e ∙ items_equiv.symm x a
+use Rattle.ifmap_ident.specs.SameLaws.{same_equal, items_equiv, items_total, told_as}
 
 pub ordered_as : (x a b : Item) → same_item b x ≡ true → item_order b a ≡ item_order x a
 ordered_as x a b e = items_total.congr b x a (same_equal b x e)

@@ -42,9 +42,9 @@ use Rattle.ifmap_publish.proofs.Attaching.{sound_filter}
 use Rattle.ifmap_publish.proofs.Changing.{AreSound, all_fit, are_changes, are_exact, is_after, list_or, standing}
 use Rattle.ifmap_publish.proofs.Entries.{stored_alike}
 use Rattle.ifmap_publish.proofs.Graphs.{sound_on}
-use Rattle.ifmap_publish.proofs.Items.{every, retract_told, told_as}
+use Rattle.ifmap_publish.proofs.Items.{every, retract_told}
 use Rattle.ifmap_publish.proofs.Same.{life_same, publisher_same, same_itself}
-use Rattle.ifmap_ident.specs.SameLaws.{same_equal, items_equiv, items_total}
+use Rattle.ifmap_ident.specs.SameLaws.{same_equal, items_equiv, items_total, told_as}
 
 -- one stored element is of these where the other is
 respects : (who : Who) (a b : Stored) → same_stored a b ≡ true → is_of who a ≡ is_of who b

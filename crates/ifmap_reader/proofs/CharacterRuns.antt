@@ -17,11 +17,8 @@ use Rattle.ifmap_elem.specs.Values.{ValuePart, Plain, Reference, TakesPart, Spel
 use Rattle.ifmap_lemmas.specs.Cuts.{Stops, cut}
 use Rattle.ifmap_lemmas.specs.Members.{all_append}
 use Rattle.ifmap_lemmas.specs.Numbers.{equal_numbers, is_other}
-use Rattle.ifmap_elem.specs.laws.CharacterLaws.{characters_both, character_passes, one_character}
+use Rattle.ifmap_elem.specs.laws.CharacterLaws.{characters_both, character_passes, one_character, no_characters}
 use Rattle.ifmap_elem.specs.laws.OneToken.{run_stops}
-
-pub no_characters : IsCharacters []
-no_characters = ([], refl, tt)
 
 character_first : (c : ℕ) (bytes : List ℕ) → is_character c ≡ true → IsCharacters bytes → IsCharacters (encode_utf8 c ++ bytes)
 character_first c bytes h i = (c ∷ i.0, ap (λ x. encode_utf8 c ++ x) i.1, (h, i.2))

@@ -16,7 +16,6 @@ use Rattle.ifmap_elem.specs.Scopes.{Scope, Binding, IsBinding, IsAttribute, AreA
 use Rattle.ifmap_elem.specs.Spells.{Spells, without_byte_order_mark}
 use Rattle.ifmap_elem.specs.declared.elements.Attribute.{Attribute}
 use Rattle.ifmap_elem.specs.declared.elements.Child.{Child, out-Child}
-use Rattle.ifmap_elem.specs.declared.elements.Child.TheOpen.{Child-F}
 use Rattle.ifmap_elem.specs.declared.elements.Element.{Element}
 use Rattle.ifmap_elem.specs.declared.elements.Name.{Name}
 use Rattle.ifmap_elem.specs.declared.readings.Declared.{Declared}
@@ -25,12 +24,13 @@ use Rattle.ifmap_elem.specs.declared.tokens.Assignment.{Assignment}
 use Rattle.ifmap_elem.specs.declared.tokens.Tag.{Tag}
 use Rattle.ifmap_elem.specs.declared.tokens.Token.TheVariants.{End}
 use Rattle.ifmap_lemmas.specs.Members.{all_both, both_all, all_of_test}
-use Rattle.ifmap_elem.specs.laws.FitLaws.{elements_in, elements_of_child, elements_text, fit_whole, out_text}
-use Rattle.ifmap_lemmas.specs.Texts.{eq_tells, eq_itself, ascii_encoded, is_ascii}
-use Rattle.ifmap_reader.proofs.CharacterRuns.{no_characters}
+use Rattle.ifmap_elem.specs.laws.FitLaws.{elements_in, elements_of_child, elements_text, fit_whole, out_text, no_namespace}
+use Rattle.ifmap_lemmas.specs.Texts.{eq_tells, ascii_encoded, is_ascii}
+use Rattle.ifmap_lemmas.specs.Apart.{told_apart}
 use Rattle.ifmap_reader.proofs.FitTokens.{IsFitAssignment, IsFitTag, IsFitToken, tokens_fit}
 use Rattle.ifmap_elem.specs.laws.CharacterLaws.{characters_both}
 use Rattle.ifmap_elem.specs.laws.ArrangedLaws.{out_element}
+use Rattle.ifmap_elem.specs.laws.PrintedElements.{item_child}
 
 -- scopes
 
@@ -41,12 +41,6 @@ record IsFitBinding (b : Binding) : Type 0 where
 abbrev IsFitScope : Scope → Type 0
 IsFitScope scope = AllByRecursion IsFitBinding scope
 
--- a test that tells two texts apart
-told_apart : (x y : List ℕ) → bytes_eq x y ≡ false → x ≢ y
-told_apart x y h e = let wrong : bytes_eq x y ≡ true = subst (λ (z : List ℕ). bytes_eq x z ≡ true) e (eq_itself x) in cc
-
-no_namespace : IsNamespace []
-no_namespace = record { characters = no_characters; not_reserved = told_apart [] xmlns_space refl }
 
 root_fits : IsFitScope root_scope
 root_fits = (
@@ -161,10 +155,6 @@ AreFitDeclared declared = AllByRecursion IsFitDeclared declared
 abbrev IsFitItem : Item → Type 0
 IsFitItem (Inner e declared) = IsFit e × AreFitDeclared declared
 IsFitItem (Run text) = IsCharacters text
-
-abbrev item_child : Item → Child-F Child Element
-item_child (Inner e declared) = Child-F.Element e
-item_child (Run text) = Child-F.Text text
 
 opened : (items : List Item) → map out-Child (map child_of items) ≡ map item_child items
 opened [] = refl

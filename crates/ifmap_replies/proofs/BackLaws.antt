@@ -4,16 +4,14 @@
 -- 3. Entries: runs, identifiers, items.
 -- 4. Results.
 -- 5. Responses and envelopes.
-use Rattle.std.proofs.Common.{◌≡◌, ◌∙◌, ℕ, ◌+◌, ◌<◌, ◌^◌, ◌&&◌, Bool, true, false, not, List, [], ◌∷◌, ◌++◌, Option, None, Some}
+use Rattle.std.proofs.Common.{◌≡◌, ◌∙◌, ℕ, ◌+◌, ◌<◌, ◌^◌, ◌&&◌, Bool, true, false, List, [], ◌∷◌, ◌++◌, Option, None, Some}
 use Rattle.std.proofs.Common.{Ok, map, codes, refl, ap, arith, subst, sym, append-nil}
-use Rattle.std.specs.Prelude.{◌||◌, if◌then◌else◌, nat_lt}
+use Rattle.std.specs.Prelude.{if◌then◌else◌, nat_lt}
 use Rattle.std.specs.List.{AllByRecursion, list_all}
-use Rattle.std.specs.declared.cmp.Ordering.{Ordering}
-use Rattle.std.specs.declared.cmp.Ordering.TheVariants.{Less}
 use Rattle.std.proofs.lemmas.Bool.{and_parts}
 use Rattle.std.proofs.lemmas.Bool.Decides.{nat_tests}
 use Rattle.ifmap_lemmas.specs.Numerals.{numeral}
-use Rattle.ifmap_lemmas.specs.Texts.{eq_tells, slice_cmp-less}
+use Rattle.ifmap_lemmas.specs.Texts.{eq_tells}
 use Rattle.ifmap_elem.specs.Building.{bare_element, as_children}
 use Rattle.ifmap_elem.specs.declared.elements.Child.{Child}
 use Rattle.ifmap_elem.specs.declared.elements.Child as the
@@ -33,15 +31,15 @@ use Rattle.ifmap_ident.specs.declared.items.Item.{Item}
 use Rattle.ifmap_ident.specs.declared.items.Item.TheVariants.{One, Pair}
 use Rattle.ifmap_ident.specs.Canon.{IsCanon, IsIdentifier}
 use Rattle.ifmap_ident.specs.Codes.{code_name}
-use Rattle.ifmap_ident.specs.Identifiers.{identifier_bytes, identifier_element, identifier_order, same_identifier}
-use Rattle.ifmap_ident.specs.Items.{IsCanonItem, identifiers_of, ordered_pair, same_item}
+use Rattle.ifmap_ident.specs.Identifiers.{identifier_bytes, identifier_element, same_identifier}
+use Rattle.ifmap_ident.specs.Items.{IsCanonItem, identifiers_of, same_item}
 use Rattle.ifmap_meta.specs.Whole.{IsSent}
 use Rattle.ifmap_search.specs.declared.results.Entry.{Entry}
 use Rattle.ifmap_search.specs.declared.results.PollItem.{PollItem}
 use Rattle.ifmap_search.specs.declared.results.PollItem.TheVariants as poll
 use Rattle.ifmap_forms.specs.AnswerLaws.{found_after, found_form}
-use Rattle.ifmap_forms.specs.Checks.{Check, check_then, need, need_some, pass}
-use Rattle.ifmap_forms.specs.Items.{before_list, from_list, identifiers_check, is_list, item_of, list_if_there, may_follow}
+use Rattle.ifmap_forms.specs.Checks.{Check, need, need_some, pass}
+use Rattle.ifmap_forms.specs.Items.{before_list, from_list, identifiers_check, is_list, list_if_there}
 use Rattle.ifmap_forms.specs.Tables.{Part, both, each_element, form_check, members_check, parts_in, element_parts}
 use Rattle.ifmap_replies.specs.declared.kinds.EntriesKind.{EntriesKind}
 use Rattle.ifmap_replies.specs.declared.kinds.EntriesKind.TheVariants as entries_kind
@@ -62,10 +60,11 @@ use Rattle.ifmap_replies.specs.ResultForms.{run_made, run_parts, told_error_form
 use Rattle.ifmap_replies.specs.Results.{entry_children, error_element, new_session_element, poll_element}
 use Rattle.ifmap_replies.specs.Results.{reply_element, response_name, result_element, run_element, text_children, told_element}
 use Rattle.ifmap_replies.specs.Runs.{joined_runs, entries_in_runs, entry_on, run_on, runs_of}
-use Rattle.ifmap_replies.proofs.GoodLaws.{element_part, parts_are}
 use Rattle.ifmap_replies.proofs.WholeLaws.{IsFitRun, fit_runs}
 use Rattle.ifmap_forms.specs.FormLaws.{number_back}
+use Rattle.ifmap_forms.specs.IdentifierLaws.{identifiers_back, item_of_identifiers}
 use Rattle.ifmap_elem.specs.laws.ArrangedLaws.{out_element}
+use Rattle.ifmap_elem.specs.laws.ChildElements.{element_part, parts_are}
 
 -- ---- 1. lists of elements
 
@@ -154,17 +153,6 @@ list_back : (es : List Element) → AllByRecursion IsSent es
     → list_if_there element_check (Child-F.Element (list_element es) ∷ []) (Ok (Some es))
 list_back es f = (es, arranged_back es f, refl)
 
--- the smaller of two identifiers is not the other
-differ_back : (a b : Identifier) → identifier_order a b ≡ Less → same_identifier b a ≡ false
-differ_back a b less = told (same_identifier b a) refl
-  where
-    told : (t : Bool) → same_identifier b a ≡ t → t ≡ false
-    told true is =
-        let same : identifier_bytes b ≡ identifier_bytes a = eq_tells (identifier_bytes b) (identifier_bytes a) is in
-        let wrong : true ≡ false = slice_cmp-less (identifier_bytes a) (identifier_bytes b) (sym less) (sym same) in
-        wrong
-    told false is = refl
-
 -- ---- notes and envelopes
 
 abbrev note_element : List ℕ → Element
@@ -187,26 +175,6 @@ plain_back kind answer =
 module _ (again : (i : Identifier) → IsIdentifier i → IsCanon (identifier_element i) i)
     (apart : (one other : Identifier) → IsIdentifier one → IsIdentifier other → identifier_bytes one ≡ identifier_bytes other → one ≡ other)
   where
-    identifiers_back : (item : Item) → IsCanonItem item
-        → identifiers_check 2 [] (map element_part (map identifier_element (identifiers_of item))) (Ok (identifiers_of item))
-    identifiers_back (One a) f = (a, again a f.identifiers.0, ([], refl, refl))
-    identifiers_back (Pair a b) f =
-        let may : may_follow 2 (a ∷ []) b ≡ true = ap (λ (t : Bool). not (t || false)) (differ_back a b f.ordered) in
-        let others : Check (List Identifier) =
-        check_then (identifiers_check 2 (a ∷ (b ∷ [])) []) (λ more. pass (b ∷ more)) in (
-          a,
-          again a f.identifiers.0,
-          (
-            b ∷ [],
-            (b, again b f.identifiers.1.0, found_after others (may_follow 2 (a ∷ []) b) Failure (Ok (b ∷ [])) may ([], refl, refl)),
-            refl,
-          ),
-        )
-
-    item_back : (item : Item) → IsCanonItem item → item_of (identifiers_of item) ≡ Some item
-    item_back (One a) f = refl
-    item_back (Pair a b) f = ap (λ (o : Ordering). ordered_pair o a b) f.ordered
-
     same_back : (a b : Identifier) → IsIdentifier a → IsIdentifier b → same_identifier a b ≡ true → a ≡ b
     same_back a b f g same = apart a b f g (eq_tells (identifier_bytes a) (identifier_bytes b) same)
 
@@ -259,13 +227,13 @@ module _ (again : (i : Identifier) → IsIdentifier i → IsCanon (identifier_el
         let list = list_element run.elements in
         let front : identifiers_check 2 [] (before_list (parts_with list refl ids)) (Ok ids) =
         subst (λ (ps : List Part). identifiers_check 2 [] ps (Ok ids)) (sym (before_back list refl ids))
-        (identifiers_back run.item f.item) in
+        (identifiers_back again run.item f.item) in
         let rest : list_if_there element_check (from_list (parts_with list refl ids)) (Ok (Some run.elements)) =
         subst (λ (ps : List Part). list_if_there element_check ps (Ok (Some run.elements))) (sym (from_back list refl ids))
         (list_back run.elements f.elements) in
         let made : run_from ids (Some run.elements) (Ok run) =
         subst (λ (o : Option Item). need_some Failure o (λ item. pass (run_on item (elements_or_none (Some run.elements)))) (Ok run))
-        (sym (item_back run.item f.item)) refl in
+        (sym (item_of_identifiers run.item f.item)) refl in
         let parts : run_parts (element_parts (run_element run)) (Ok run) =
         subst (λ (ps : List Part). run_parts ps (Ok run)) (sym (parts_are (map identifier_element ids ++ list ∷ [])))
         (ids, front, (Some run.elements, rest, made)) in

@@ -1,33 +1,30 @@
 -- Each check of a reply finds something: a value or a defect. So a response has a reply or none.
--- Plan: (1) identifiers; (2) tables of attributes, children and forms: where each of their parts finds a value or a defect, so
--- does the whole; (3) values of attributes; (4) results and responses, part by part; (5) envelopes, and so bodies
--- (`reply_or_none`).
-use Rattle.std.proofs.Common.{◌≢◌, ◌⊎◌, ◌+◌, ◌++◌, ℕ, List, [], ◌∷◌, Option, None, Some, Result, Ok, Err, codes, inl, inr, refl}
+-- Plan: (1) identifiers by the laws of their crates; (2) tables of attributes, children and forms: where each of their parts finds
+-- a value or a defect, so does the whole; (3) values of attributes; (4) results and responses, part by part; (5) envelopes, and so
+-- bodies (`reply_or_none`).
+use Rattle.std.proofs.Common.{◌⊎◌, ◌+◌, ◌++◌, ℕ, List, [], ◌∷◌, Option, None, Some, Result, Ok, Err, codes, inl, inr}
 use Rattle.std.specs.List.{list_all}
 use Rattle.ifmap_elem.specs.Arranged.{arrange}
-use Rattle.ifmap_elem.specs.Building.{is_bare}
+use Rattle.ifmap_elem.specs.Building.{is_bare, is_name}
 use Rattle.ifmap_elem.specs.Chars.{is_white}
 use Rattle.ifmap_elem.specs.declared.elements.Child.TheOpen.{Child-F}
 use Rattle.ifmap_elem.specs.declared.elements.Element.{Element}
 use Rattle.ifmap_envelopes.specs.Envelopes.{IsEnvelope}
-use Rattle.ifmap_forms.specs.ifmap_filter.Holding.{is_name, text_among}
+use Rattle.ifmap_forms.specs.ifmap_filter.Holding.{text_among}
 use Rattle.ifmap_ident.specs.declared.codes.Code.{Code}
-use Rattle.ifmap_ident.specs.declared.codes.Code.TheVariants.{Failure, InvalidIdentifier, InvalidIdentifierType, IdentifierTooLong}
-use Rattle.ifmap_ident.specs.declared.errors.IdentError.{IdentError}
-use Rattle.ifmap_ident.specs.declared.errors.IdentError.TheVariants.{WrongKind, Invalid, TooLong, NoMemory}
-use Rattle.ifmap_ident.specs.declared.identifiers.Identifier.{Identifier}
-use Rattle.ifmap_ident.specs.Canon.{IsAnswer}
+use Rattle.ifmap_ident.specs.declared.codes.Code.TheVariants.{Failure}
 use Rattle.ifmap_ident.specs.Laws.{HasAnswer}
 use Rattle.ifmap_ident.specs.Parts.{has_only, value_of}
 use Rattle.ifmap_ident.specs.ifmap_reader.declared.scoping.Scope.{Scope}
 use Rattle.ifmap_forms.specs.CheckLaws.{fail_done, need_done, pass_done, some_done, then_done, word_check_done}
 use Rattle.ifmap_forms.specs.Checks.{Check, IsConclusive, check_then, need, need_some, pass}
-use Rattle.ifmap_forms.specs.Items.{before_list, from_list, identifier_check, identifiers_check, item_of, list_if_there, list_check, may_follow}
+use Rattle.ifmap_forms.specs.Items.{before_list, from_list, identifier_check, identifiers_check, item_of, list_if_there, list_check}
 use Rattle.ifmap_forms.specs.Scopes.{Scopes}
 use Rattle.ifmap_elem.specs.WhiteSpace.{is_blank_part}
 use Rattle.ifmap_forms.specs.Tables.{ContentCheck, Form, Part, AttributeTable, table_with, both, each_element, form_check, no_attributes}
 use Rattle.ifmap_forms.specs.Tables.{members_check, no_children, element_parts, read_form}
 use Rattle.ifmap_forms.specs.Values.{Field, field_check, read_text, text_field}
+use Rattle.ifmap_forms.specs.IdentifierLaws.{identifier_done, identifiers_done}
 use Rattle.ifmap_replies.specs.declared.kinds.PollKind.{PollKind}
 use Rattle.ifmap_replies.specs.declared.kinds.PollKind.TheVariants as told
 use Rattle.ifmap_replies.specs.declared.kinds.ResultKind.{ResultKind}
@@ -45,28 +42,6 @@ use Rattle.ifmap_replies.specs.ResultForms.{result_check, result_kind_check, res
 use Rattle.ifmap_replies.specs.ResultForms.{run_parts, told_error_form, told_error_made, told_form, told_made}
 use Rattle.ifmap_replies.specs.Results.{response_name}
 use Rattle.ifmap_replies.specs.Runs.{entries_in_runs, run_on}
-
--- ---- identifiers
-
-abbrev refused : IdentError → Result Identifier IdentError
-refused error = Err error
-
-abbrev bad_identifier : Code → Result Identifier Code
-bad_identifier code = Err code
-
-abbrev good_identifier : Identifier → Result Identifier Code
-good_identifier i = Ok i
-
-checked : (e : Element) (found : Result Identifier IdentError) → IsAnswer e found → found ≢ refused NoMemory → IsConclusive
-    (identifier_check e)
-checked e (Ok i) f some = (good_identifier i, f)
-checked e (Err WrongKind) f some = (bad_identifier InvalidIdentifierType, (WrongKind, refl, f))
-checked e (Err Invalid) f some = (bad_identifier InvalidIdentifier, (Invalid, refl, f))
-checked e (Err TooLong) f some = (bad_identifier IdentifierTooLong, (TooLong, refl, f))
-checked e (Err NoMemory) f some = absurd (some refl)
-
-pub identifier_done : ((e : Element) → HasAnswer e) → (e : Element) → IsConclusive (identifier_check e)
-identifier_done answers e = let a = answers e in checked e a.0 a.1 a.2
 
 -- ---- tables, children, forms
 
@@ -168,20 +143,6 @@ note_done e =
     (need_done (list_all is_text (element_parts e)) Failure (pass (text_among e.children)) (pass_done (text_among e.children))))
 
 module _ (identifier_some : (e : Element) → IsConclusive (identifier_check e)) where
-  identifiers_done : (most : ℕ) (before : List Identifier) (parts : List Part) → IsConclusive (identifiers_check most before parts)
-  identifiers_done most before [] = pass_done []
-  identifiers_done most before (Child-F.Element e ∷ parts) =
-      then_done (identifier_check e)
-      (λ i. need (may_follow most before i) Failure
-      (check_then (identifiers_check most (before ++ i ∷ []) parts) (λ others. pass (i ∷ others))))
-      (λ i is. need_done (may_follow most before i) Failure
-      (check_then (identifiers_check most (before ++ i ∷ []) parts) (λ others. pass (i ∷ others)))
-      (then_done (identifiers_check most (before ++ i ∷ []) parts) (λ others. pass (i ∷ others)) (λ others there. pass_done (i ∷ others))
-      (identifiers_done most (before ++ i ∷ []) parts)))
-      (identifier_some e)
-  identifiers_done most before (Child-F.Text text ∷ parts) =
-      need_done (list_all is_white text) Failure (identifiers_check most before parts) (identifiers_done most before parts)
-
   run_parts_done : (parts : List Part) → IsConclusive (run_parts parts)
   run_parts_done parts =
       then_done (identifiers_check 2 [] (before_list parts))
@@ -190,7 +151,7 @@ module _ (identifier_some : (e : Element) → IsConclusive (identifier_check e))
       (λ list there. some_done Failure (item_of identifiers) (λ item. pass (run_on item (elements_or_none list)))
       (λ item. pass_done (run_on item (elements_or_none list))))
       (list_at_done element_check (λ e. pass_done (arrange e)) (from_list parts)))
-      (identifiers_done 2 [] (before_list parts))
+      (identifiers_done identifier_some 2 [] (before_list parts))
 
   run_done : (e : Element) → IsConclusive (run_check e)
   run_done e =

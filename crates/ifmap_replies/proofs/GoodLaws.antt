@@ -12,7 +12,7 @@ use Rattle.std.proofs.lemmas.Bool.{and_parts}
 use Rattle.ifmap_elem.specs.Arranged.{arrange, arrange_child, sort_attributes}
 use Rattle.ifmap_elem.specs.Building.{bare_attribute, bare_name, as_children}
 use Rattle.ifmap_elem.specs.Chars.{IsCharacters}
-use Rattle.ifmap_elem.specs.Fit.{AreApart, AreFitChildren, HasCharacters, IsFit, IsFitAlone, IsFitAttribute, IsFitName, IsNamespace}
+use Rattle.ifmap_elem.specs.Fit.{AreFitChildren, IsFit, IsFitAlone, IsFitAttribute, IsFitName, IsNamespace}
 use Rattle.ifmap_elem.specs.Fit.{IsNotBlank, is_element}
 use Rattle.ifmap_elem.specs.Folds.{at_child_element, at_child_text, at_element}
 use Rattle.ifmap_elem.specs.Names.{is_name_character, is_name_start}
@@ -24,12 +24,13 @@ use Rattle.ifmap_elem.specs.declared.elements.Child as the
 use Rattle.ifmap_elem.specs.declared.elements.Child.TheOpen.{Child-F}
 use Rattle.ifmap_elem.specs.declared.elements.Element.{Element}
 use Rattle.ifmap_elem.specs.declared.elements.Name.{Name}
-use Rattle.ifmap_elem.specs.laws.ArrangedLaws.{arranged_in, arranged_is, arranged_text, out_element}
-use Rattle.ifmap_elem.specs.laws.FitLaws.{elements_in, elements_of_child, elements_text, fit_whole, out_text}
+use Rattle.ifmap_elem.specs.laws.ArrangedLaws.{arranged_in, arranged_is, arranged_text}
+use Rattle.ifmap_elem.specs.laws.FitLaws.{elements_in, elements_of_child, elements_text, fit_whole, out_text, no_namespace}
 use Rattle.ifmap_lemmas.specs.Members.{all_of_test, both_all}
 use Rattle.ifmap_lemmas.specs.Texts.{ascii_encoded, is_ascii}
 use Rattle.ifmap_replies.specs.Results.{text_children}
 use Rattle.ifmap_elem.specs.laws.CharacterLaws.{is_plain, plain_characters}
+use Rattle.ifmap_elem.specs.laws.ChildElements.{children_fit}
 
 -- ---- 1. names and attributes
 
@@ -68,9 +69,6 @@ IsPlainPart local = is_plain_part local ≡ true
 
 pub plain_name : (space local : List ℕ) → IsNamespace space → IsPlainPart local → IsFitName (record { space = space; local = local })
 plain_name space local s h = plain_name_of space local s h
-
-no_namespace : IsNamespace []
-no_namespace = plain_space [] refl refl
 
 pub bare_fits : (local : List ℕ) → IsPlainPart local → IsFitName (bare_name local)
 bare_fits local h = plain_name [] local no_namespace h
@@ -111,29 +109,6 @@ good_within one more e le g = record {
 pub all_within : (one more : ℕ) (es : List Element) → one ≤ more → AllByRecursion (IsGood one) es → AllByRecursion (IsGood more) es
 all_within one more [] le f = tt
 all_within one more (e ∷ es) le f = (good_within one more e le f.0, all_within one more es le f.1)
-
-abbrev pub element_part : Element → Child-F Child Element
-element_part e = Child-F.Element e
-
-pub parts_are : (es : List Element) → map out-Child (as_children es) ≡ map element_part es
-parts_are [] = refl
-parts_are (e ∷ es) = λ i. out_element e i ∷ parts_are es i
-
-texts_of : (es : List Element) → AllByRecursion HasCharacters (map element_part es)
-texts_of [] = tt
-texts_of (e ∷ es) = (tt, texts_of es)
-
-apart_of : (es : List Element) → AreApart (map element_part es)
-apart_of [] = tt
-apart_of (e ∷ es) = apart_of es
-
-beside_of : (es : List Element) → AllByRecursion IsNotBlank (map element_part es)
-beside_of [] = tt
-beside_of (e ∷ es) = (tt, beside_of es)
-
-children_fit : (es : List Element) → AreFitChildren (map out-Child (as_children es))
-children_fit es =
-    subst AreFitChildren (sym (parts_are es)) (record { texts = texts_of es; apart = apart_of es; beside = λ any. beside_of es })
 
 inside_fit : (levels : ℕ) (es : List Element) → AllByRecursion (IsGood levels) es
     → AllByRecursion IsFitAlone (flat_map elements_of_child (as_children es))

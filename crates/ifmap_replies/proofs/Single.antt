@@ -5,12 +5,12 @@
 use Rattle.std.proofs.Common.{◌≡◌, ℕ, List, [], Option, None, Some, Result, Ok, Err, codes, subst, sym}
 use Rattle.std.specs.List.{list_all}
 use Rattle.ifmap_elem.specs.Arranged.{arrange}
-use Rattle.ifmap_elem.specs.Building.{is_bare}
+use Rattle.ifmap_elem.specs.Building.{is_bare, is_name}
 use Rattle.ifmap_elem.specs.Spells.{Spells}
 use Rattle.ifmap_elem.specs.declared.elements.Element.{Element}
 use Rattle.ifmap_elem.specs.declared.readings.Reading.{Reading}
 use Rattle.ifmap_envelopes.specs.Envelopes.{IsEnvelope, OneEnvelope}
-use Rattle.ifmap_forms.specs.ifmap_filter.Holding.{is_name, text_among}
+use Rattle.ifmap_forms.specs.ifmap_filter.Holding.{text_among}
 use Rattle.ifmap_ident.specs.declared.codes.Code.{Code}
 use Rattle.ifmap_ident.specs.declared.codes.Code.TheVariants.{Failure}
 use Rattle.ifmap_ident.specs.Parts.{has_only}

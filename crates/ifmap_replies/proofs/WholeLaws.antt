@@ -2,15 +2,14 @@
 -- 1. Texts: codes and numerals.
 -- 2. Entries, by runs.
 -- 3. Results, and the envelope.
-use Rattle.std.proofs.Common.{◌≡◌, ℕ, ◌+◌, ◌<◌, ◌≤◌, ◌%◌, Bool, true, false, List, [], ◌∷◌, ◌++◌, None, Some, map, codes, refl, arith}
+use Rattle.std.proofs.Common.{◌≡◌, ℕ, ◌+◌, ◌≤◌, Bool, true, false, List, [], ◌∷◌, ◌++◌, None, Some, map, codes, refl, arith}
 use Rattle.std.specs.Prelude.{if◌then◌else◌}
 use Rattle.std.specs.List.{AllByRecursion}
-use Rattle.std.proofs.lemmas.Bool.Decides.{nat_tests}
-use Rattle.ifmap_lemmas.specs.Members.{all_append, all_of_test, both_all}
-use Rattle.ifmap_lemmas.specs.Numerals.{digit, numeral, numeral_by_digits}
+use Rattle.ifmap_lemmas.specs.Members.{both_all}
+use Rattle.ifmap_lemmas.specs.Numerals.{numeral}
 use Rattle.ifmap_elem.specs.Arranged.{arrange}
 use Rattle.ifmap_elem.specs.Building.{bare_attribute, bare_element, bare_name, as_children}
-use Rattle.ifmap_elem.specs.Chars.{AllAre, IsCharacters}
+use Rattle.ifmap_elem.specs.Chars.{IsCharacters}
 use Rattle.ifmap_elem.specs.Fit.{IsFit, IsFitName}
 use Rattle.ifmap_elem.specs.Nesting.{nesting}
 use Rattle.ifmap_elem.specs.declared.elements.Attribute.{Attribute}
@@ -19,14 +18,12 @@ use Rattle.ifmap_elem.specs.declared.elements.Name.{Name}
 use Rattle.ifmap_envelopes.specs.Envelopes.{element_around, envelope_name}
 use Rattle.ifmap_envelopes.specs.Spaces.{envelope_space, ifmap_space}
 use Rattle.ifmap_ident.specs.declared.codes.Code.{Code}
-use Rattle.ifmap_ident.specs.declared.codes.Code.TheVariants.{AccessDenied, Failure, InvalidIdentifier, InvalidIdentifierType}
-use Rattle.ifmap_ident.specs.declared.codes.Code.TheVariants.{IdentifierTooLong, InvalidMetadata, InvalidSchemaVersion, InvalidSessionID}
-use Rattle.ifmap_ident.specs.declared.codes.Code.TheVariants.{MetadataTooLong, SearchResultsTooBig, PollResultsTooBig, SystemError}
 use Rattle.ifmap_ident.specs.declared.identifiers.Identifier.{Identifier}
 use Rattle.ifmap_ident.specs.Canon.{IsIdentifier}
 use Rattle.ifmap_ident.specs.Codes.{code_name}
 use Rattle.ifmap_ident.specs.Identifiers.{identifier_element}
 use Rattle.ifmap_ident.specs.Items.{IsCanonItem, identifiers_of, same_item}
+use Rattle.ifmap_ident.specs.CodeLaws.{code_characters}
 use Rattle.ifmap_meta.specs.Whole.{IsSent}
 use Rattle.ifmap_search.specs.declared.results.Entry.{Entry}
 use Rattle.ifmap_search.specs.declared.results.PollItem.{PollItem}
@@ -41,41 +38,9 @@ use Rattle.ifmap_replies.specs.Results.{told_element}
 use Rattle.ifmap_replies.specs.Runs.{joined_runs, run_on, runs_of}
 use Rattle.ifmap_replies.proofs.GoodLaws.{IsGood, IsPlainPart, all_within, attribute_fits, bare_fits, good_elements, good_text, good_within}
 use Rattle.ifmap_replies.proofs.GoodLaws.{is_plain_part, plain_name, plain_space, three_differ, two_differ}
-use Rattle.ifmap_elem.specs.laws.CharacterLaws.{is_plain, plain_characters}
+use Rattle.ifmap_elem.specs.laws.CharacterLaws.{numeral_characters}
 
 -- ---- 1. texts
-
-pub code_characters : (code : Code) → IsCharacters (code_name code)
-code_characters AccessDenied = plain_characters (codes "AccessDenied") (all_of_test is_plain (codes "AccessDenied") refl)
-code_characters Failure = plain_characters (codes "Failure") (all_of_test is_plain (codes "Failure") refl)
-code_characters InvalidIdentifier =
-    plain_characters (codes "InvalidIdentifier") (all_of_test is_plain (codes "InvalidIdentifier") refl)
-code_characters InvalidIdentifierType =
-    plain_characters (codes "InvalidIdentifierType") (all_of_test is_plain (codes "InvalidIdentifierType") refl)
-code_characters IdentifierTooLong =
-    plain_characters (codes "IdentifierTooLong") (all_of_test is_plain (codes "IdentifierTooLong") refl)
-code_characters InvalidMetadata = plain_characters (codes "InvalidMetadata") (all_of_test is_plain (codes "InvalidMetadata") refl)
-code_characters InvalidSchemaVersion =
-    plain_characters (codes "InvalidSchemaVersion") (all_of_test is_plain (codes "InvalidSchemaVersion") refl)
-code_characters InvalidSessionID = plain_characters (codes "InvalidSessionID") (all_of_test is_plain (codes "InvalidSessionID") refl)
-code_characters MetadataTooLong = plain_characters (codes "MetadataTooLong") (all_of_test is_plain (codes "MetadataTooLong") refl)
-code_characters SearchResultsTooBig =
-    plain_characters (codes "SearchResultsTooBig") (all_of_test is_plain (codes "SearchResultsTooBig") refl)
-code_characters PollResultsTooBig =
-    plain_characters (codes "PollResultsTooBig") (all_of_test is_plain (codes "PollResultsTooBig") refl)
-code_characters SystemError = plain_characters (codes "SystemError") (all_of_test is_plain (codes "SystemError") refl)
-
-digit_plain : (d : ℕ) → d < 10 → is_plain (digit d) ≡ true
-digit_plain d few = grind (arith, nat_tests)
-
-numeral_plain : (n : ℕ) → AllAre is_plain (numeral n)
-numeral_plain = numeral_by_digits (λ n ds. AllAre is_plain ds) (λ n few. (digit_plain n few, tt)) more
-  where
-    more : (n : ℕ) (ds : List ℕ) → 10 ≤ n → AllAre is_plain ds → AllAre is_plain (ds ++ digit (n % 10) ∷ [])
-    more n ds many f = all_append is_plain ds (digit (n % 10) ∷ []) f (digit_plain (n % 10) (omega arith), tt)
-
-pub numeral_characters : (n : ℕ) → IsCharacters (numeral n)
-numeral_characters n = plain_characters (numeral n) (numeral_plain n)
 
 -- ---- 2. entries
 

@@ -6,11 +6,11 @@
 use Rattle.std.specs.Prelude.{ℕ, Bool, true, false, List, [], ◌∷◌, codes, Option, None, Some}
 use Rattle.std.specs.List.{find, list_all}
 use Rattle.ifmap_elem.specs.Arranged.{arrange}
-use Rattle.ifmap_elem.specs.Building.{is_bare}
+use Rattle.ifmap_elem.specs.Building.{is_bare, is_name}
 use Rattle.ifmap_elem.specs.declared.elements.Child.TheOpen.{Child-F}
 use Rattle.ifmap_elem.specs.declared.elements.Element.{Element}
 use Rattle.ifmap_elem.specs.declared.elements.Name.{Name}
-use Rattle.ifmap_forms.specs.ifmap_filter.Holding.{is_name, text_among}
+use Rattle.ifmap_forms.specs.ifmap_filter.Holding.{text_among}
 use Rattle.ifmap_ident.specs.declared.codes.Code.{Code}
 use Rattle.ifmap_ident.specs.declared.codes.Code.TheVariants.{Failure}
 use Rattle.ifmap_ident.specs.declared.identifiers.Identifier.{Identifier}

@@ -1,6 +1,6 @@
 //! Replies, read from responses.
 ghost use Rattle.std.specs.Prelude.{◌≡◌, ◌++◌, ◌∷◌, [], IfOk};
-ghost use Rattle.ifmap_forms.specs.ifmap_filter.Holding.{is_name};
+ghost use Rattle.ifmap_elem.specs.Building.{is_name};
 ghost use Rattle.ifmap_forms.specs.Answers.{IsChecked};
 ghost use Rattle.ifmap_forms.specs.Tables.{form_check};
 ghost use Rattle.ifmap_replies.specs.Results.{response_name};

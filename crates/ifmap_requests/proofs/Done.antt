@@ -1,11 +1,11 @@
 -- Each check of a request finds something, in elements that a document can have.
--- 1. Identifiers by the law of their crate.
+-- 1. Identifiers by the laws of their crates.
 -- 2. Tables, lists of children and forms, over what they are made of.
 -- 3. Each attribute; filters by the law of their crate.
 -- 4. Metadata: the cardinality and the size are computed.
 -- 5. Identifiers and lists as children.
 -- 6. Operations and requests: each is one more form in a chain.
-use Rattle.std.proofs.Common.{◌≡◌, ◌⊎◌, ◌<◌, ◌≤◌, ◌+◌, ◌++◌, ℕ, true, false, List, [], ◌∷◌, Option, None, Some, IfSome, Result, Ok}
+use Rattle.std.proofs.Common.{◌≡◌, ◌⊎◌, ◌<◌, ◌≤◌, ◌+◌, ◌++◌, ℕ, true, false, List, [], ◌∷◌, Option, None, Some, IfSome, Ok}
 use Rattle.std.proofs.Common.{Err, codes, length, min, inl, inr, refl, arith}
 use Rattle.std.specs.Prelude.{◌&&◌, nat_le}
 use Rattle.std.specs.List.{list_all}
@@ -19,16 +19,10 @@ use Rattle.ifmap_elem.specs.declared.elements.Child.TheOpen.{Child-F}
 use Rattle.ifmap_elem.specs.declared.elements.Element.{Element}
 use Rattle.ifmap_ident.specs.ifmap_reader.declared.scoping.Scope.{Scope}
 use Rattle.ifmap_forms.specs.ifmap_filter.declared.filters.Filter.{Filter}
-use Rattle.ifmap_forms.specs.ifmap_filter.Holding.{is_name}
 use Rattle.ifmap_forms.specs.ifmap_filter.Laws.{FilterOrStop, StopsWhereNone}
 use Rattle.ifmap_forms.specs.ifmap_filter.Texts.{StopsAt, Writes}
-use Rattle.ifmap_ident.specs.declared.codes.Code.TheVariants.{Failure, IdentifierTooLong, InvalidIdentifier, InvalidIdentifierType}
+use Rattle.ifmap_ident.specs.declared.codes.Code.TheVariants.{Failure, InvalidIdentifierType}
 use Rattle.ifmap_ident.specs.declared.codes.Code.TheVariants.{InvalidMetadata, InvalidSchemaVersion, MetadataTooLong}
-use Rattle.ifmap_ident.specs.declared.errors.IdentError.{IdentError}
-use Rattle.ifmap_ident.specs.declared.errors.IdentError.TheVariants.{WrongKind, Invalid, TooLong, NoMemory}
-use Rattle.ifmap_ident.specs.declared.identifiers.Identifier.{Identifier}
-use Rattle.ifmap_ident.specs.Canon.{IsAnswer}
-use Rattle.ifmap_ident.specs.Laws.{HasAnswer}
 use Rattle.ifmap_ident.specs.Parts.{has_only, value_of}
 use Rattle.ifmap_meta.specs.declared.metadata.Cardinality.{Cardinality}
 use Rattle.ifmap_meta.specs.Cardinality.{cardinality_of}
@@ -47,6 +41,7 @@ use Rattle.ifmap_forms.specs.Values.{greatest_limit, greatest_size, least_limit,
 use Rattle.ifmap_forms.specs.Values.{Field, depth_field, field_check, filter_check, filter_field, kind_named, kinds_check, kinds_field}
 use Rattle.ifmap_forms.specs.Values.{lifetime_field, limit_field, name_field, number_of, piece_check, pieces_of, size_field, text_field}
 use Rattle.ifmap_forms.specs.Values.{trim_white, within_range}
+use Rattle.ifmap_forms.specs.IdentifierLaws.{identifiers_done}
 use Rattle.ifmap_requests.specs.Published.{metadata_check, published_content, published_from}
 use Rattle.ifmap_envelopes.specs.Spaces.{ifmap_space}
 use Rattle.ifmap_requests.specs.RequestForms.{after_depth, after_links, after_size, links_field, result_field}
@@ -59,19 +54,7 @@ use Rattle.ifmap_requests.specs.RequestForms.{search_attributes, search_form, se
 use Rattle.ifmap_requests.specs.RequestForms.{subscribe_of, subscribe_op_check, subscription_form, subscription_from_form, update_form, update_from_form}
 use Rattle.ifmap_requests.proofs.Sound.{AreSound, IsSound, from_sound, parts_sound, value_fit}
 use Rattle.ifmap_elem.specs.laws.CharacterLaws.{characters_are_utf8}
-
--- ---- 1. identifiers
-
-identifier_found : (e : Element) (result : Result Identifier IdentError) → IsAnswer e result → (result ≡ Err NoMemory → ⊥)
-    → IsConclusive (identifier_check e)
-identifier_found e (Ok i) a memory = (Ok i, a)
-identifier_found e (Err WrongKind) a memory = (Err InvalidIdentifierType, (WrongKind, refl, a))
-identifier_found e (Err Invalid) a memory = (Err InvalidIdentifier, (Invalid, refl, a))
-identifier_found e (Err TooLong) a memory = (Err IdentifierTooLong, (TooLong, refl, a))
-identifier_found e (Err NoMemory) a memory = absurd (memory refl)
-
-pub identifier_done : ((e : Element) → HasAnswer e) → (e : Element) → IsConclusive (identifier_check e)
-identifier_done some e = let a = some e in identifier_found e a.0 a.1 a.2
+use Rattle.ifmap_elem.specs.Building.{is_name}
 
 -- ---- 2. tables, children, forms
 
@@ -229,31 +212,17 @@ module _ (most : ℕ) where
   list_at_done (Child-F.Text text ∷ after) sound = fail_done Failure
 
   module _ (identifier : (e : Element) → IsConclusive (identifier_check e)) where
-    identifiers_done : (number : ℕ) (before : List Identifier) (parts : List Part) → IsConclusive (identifiers_check number before parts)
-    identifiers_done number before [] = pass_done []
-    identifiers_done number before (Child-F.Element e ∷ parts) =
-        then_done (identifier_check e)
-        (λ i. need (may_follow number before i) Failure
-        (check_then (identifiers_check number (before ++ i ∷ []) parts) (λ others. pass (i ∷ others))))
-        (λ i found. need_done (may_follow number before i) Failure
-        (check_then (identifiers_check number (before ++ i ∷ []) parts) (λ others. pass (i ∷ others)))
-        (then_done (identifiers_check number (before ++ i ∷ []) parts) (λ others. pass (i ∷ others))
-        (λ others got. pass_done (i ∷ others)) (identifiers_done number (before ++ i ∷ []) parts)))
-        (identifier e)
-    identifiers_done number before (Child-F.Text text ∷ parts) =
-        need_done (list_all is_white text) Failure (identifiers_check number before parts) (identifiers_done number before parts)
-
     start_done : ContentDone most start_content
     start_done scopes parts sound =
         then_done (identifiers_check 1 [] parts) (λ identifiers. need_some Failure (only_identifier identifiers) (λ i. pass i))
         (λ identifiers found. some_done Failure (only_identifier identifiers) (λ i. pass i) (λ i. pass_done i))
-        (identifiers_done 1 [] parts)
+        (identifiers_done identifier 1 [] parts)
 
     item_done : ContentDone most item_content
     item_done scopes parts sound =
         then_done (identifiers_check 2 [] parts) (λ identifiers. need_some Failure (item_of identifiers) (λ item. pass item))
         (λ identifiers found. some_done Failure (item_of identifiers) (λ item. pass item) (λ item. pass_done item))
-        (identifiers_done 2 [] parts)
+        (identifiers_done identifier 2 [] parts)
 
     published_done : ContentDone most published_content
     published_done scopes parts sound =
@@ -264,7 +233,7 @@ module _ (most : ℕ) where
         (λ item. need_some Failure list (λ elements. pass (both item elements)))
         (λ item. some_done Failure list (λ elements. pass (both item elements)) (λ elements. pass_done (both item elements))))
         (list_at_done (from_list parts) (from_sound most parts sound)))
-        (identifiers_done 2 [] (before_list parts))
+        (identifiers_done identifier 2 [] (before_list parts))
 
 -- ---- 6. operations and requests
 

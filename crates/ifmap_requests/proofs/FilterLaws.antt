@@ -21,7 +21,7 @@ use Rattle.ifmap_elem.specs.Chars.{AllAre, IsCharacters, colon, equals_sign, is_
 use Rattle.ifmap_elem.specs.Fit.{IsFitName, IsNamespace}
 use Rattle.ifmap_elem.specs.Names.{IsNamePart, is_name_character, is_name_start}
 use Rattle.ifmap_elem.specs.InScope.{binding_told}
-use Rattle.ifmap_elem.specs.Scopes.{Binding, xml_space, xmlns_space}
+use Rattle.ifmap_elem.specs.Scopes.{Binding, xml_space, xmlns_space, row_of_binding}
 use Rattle.ifmap_elem.specs.declared.elements.Name as element
 use Rattle.ifmap_elem.specs.declared.readings.Declared.{Declared}
 use Rattle.ifmap_elem.specs.declared.tokens.Qualified.{Qualified}
@@ -46,6 +46,7 @@ use Rattle.ifmap_requests.specs.FitFilters.{comparisons_of}
 use Rattle.ifmap_requests.proofs.Characters.{are_characters}
 use Rattle.ifmap_elem.specs.laws.CharacterLaws.{characters_are_utf8}
 use Rattle.ifmap_elem.specs.laws.NameBytes.{starts_are_characters}
+use Rattle.ifmap_elem.specs.laws.FitLaws.{no_namespace}
 use Rattle.ifmap_ident.specs.ifmap_lexer.Cutting.{is_but}
 use Rattle.ifmap_ident.specs.ifmap_lexer.There.{is_quote}
 
@@ -183,19 +184,13 @@ all_reversed P (x ∷ xs) f =
 abbrev IsFitBinding : Binding → Type 0
 IsFitBinding b = IsNamespace b.space
 
-abbrev row_of : Binding → List ℕ × List ℕ
-row_of b = (b.prefix, b.space)
-
 pub scopes_fit : (declared : List Declared) → AreFitDeclared declared → (path inner : List ℕ)
     → IsFitScope (scopes_by declared path inner)
 scopes_fit declared f path inner =
     let here = filter (λ (d : Declared). starts_with ◌==◌ (path ++ inner) d.path) declared in
     let left = all_filter (λ (d : Declared). IsNamespace d.space) (λ d. starts_with ◌==◌ (path ++ inner) d.path) declared f in
-    map_of_all IsFitRow row_of (reverse (map binding_told here))
+    map_of_all IsFitRow row_of_binding (reverse (map binding_told here))
     (all_reversed IsFitBinding (map binding_told here) (map_of_all IsFitBinding binding_told here left))
-
-no_namespace : IsNamespace []
-no_namespace = record { characters = ([], refl, tt); not_reserved = not_from_Decides _ (bytes_eq-Decides [] xmlns_space) refl }
 
 xml_namespace : IsNamespace xml_space
 xml_namespace = record {

@@ -7,9 +7,8 @@ use Rattle.std.proofs.Common.{subst}
 use Rattle.std.specs.Prelude.{◌&&◌}
 use Rattle.std.specs.Str.{bytes_eq}
 use Rattle.std.proofs.lemmas.Bool.{cases_Bool}
-use Rattle.ifmap_elem.specs.Building.{is_bare}
+use Rattle.ifmap_elem.specs.Building.{is_bare, is_name}
 use Rattle.ifmap_elem.specs.declared.elements.Element.{Element}
-use Rattle.ifmap_forms.specs.ifmap_filter.Holding.{is_name}
 use Rattle.ifmap_ident.specs.declared.codes.Code.TheVariants.{Failure, InvalidSchemaVersion}
 use Rattle.ifmap_lemmas.specs.Texts.{eq_tells}
 use Rattle.ifmap_forms.specs.declared.errors.FormError.{FormError}

@@ -2,7 +2,7 @@
 ghost use Rattle.std.specs.Prelude.{◌≡◌, true, IfSome, IsNone, None};
 ghost use Rattle.std.specs.Str.{bytes_eq};
 ghost use Rattle.ifmap_envelopes.specs.Spaces.{ifmap_space};
-ghost use Rattle.ifmap_forms.specs.ifmap_filter.Holding.{is_name};
+ghost use Rattle.ifmap_elem.specs.Building.{is_name};
 ghost use Rattle.ifmap_requests.specs.declared.asking.RequestName.{RequestName};
 ghost use Rattle.ifmap_forms.specs.Answers.{IsChecked, IsCheckedAs};
 ghost use Rattle.ifmap_forms.specs.Scopes.{Scopes, scopes_by};

@@ -1,7 +1,6 @@
 -- A header's line as words, and the words as numbers.
-use Rattle.std.proofs.Common.{◌≡◌, ◌≢◌, ℕ, ◌^◌, ◌<◌, ◌≤◌, List, [], ◌∷◌, ◌++◌, length, length-append, get_or, drop, true, Option, Some, None, Result, Ok, IsOk, IfOk, ◌↔◌, SomeIff, arith, refl, sym, ap, subst, ◌∙◌}
+use Rattle.std.proofs.Common.{◌≡◌, ◌≢◌, ℕ, ◌^◌, ◌<◌, ◌≤◌, List, [], ◌∷◌, ◌++◌, length, length-append, get_or, drop, Option, Some, None, Result, Ok, IsOk, IfOk, ◌↔◌, SomeIff, arith, refl, sym, ap, subst, ◌∙◌}
 use Rattle.std.proofs.lemmas.Bool.{and_parts}
-use Rattle.std.proofs.lemmas.Bool.Decides.{nat_tests}
 use Rattle.std.proofs.lemmas.Fmt.{decimal_injective, IsAscii-decimal}
 use Rattle.std.proofs.lemmas.List.{get_or-append-add}
 use Rattle.std.proofs.lemmas.Str.{IsUtf8-from_ascii, IsAscii-append}
@@ -18,10 +17,11 @@ use Rattle.uuid.proofs.OrderLemmas.{from_be_bytes-to_be_bytes_16}
 use Rattle.uuid.proofs.TextLemmas.{by_index_ascii, nibble_small, hex_digit_ascii}
 use Rattle.std.proofs.Common.{inl}
 use Rattle.ifmap_meta.specs.ClientNames.{is_client_byte}
+use Rattle.ifmap_meta.specs.laws.ClientBytes.{client_is_ascii}
 use Rattle.ifmap_server.specs.declared.headers.Header.{Header}
 use Rattle.ifmap_server.specs.Frames.{IsHeader, word_text}
 use Rattle.ifmap_server.specs.Lines.{AreWords, HasNoSpace, words_line}
-use Rattle.ifmap_server.proofs.Splits.{without_from, without_at, before, after, before_at, after_at}
+use Rattle.ifmap_lemmas.specs.Splits.{without_from, without_at, before, after, before_at, after_at}
 use Rattle.ifmap_server.proofs.HeaderLines.{line_text, line_of, joined_right, decimal_without, word_without, word_parses, client_without}
 
 -- ---- a line as words
@@ -99,13 +99,10 @@ word_ascii : (n : ℕ) → IsAscii (word_text n)
 word_ascii n = by_index_ascii 32 (λ j. hex_digit lower (nibble (to_be_bytes w128 n) j))
     (λ k within. hex_digit_ascii lower (nibble (to_be_bytes w128 n) k) (inl refl) (nibble_small (to_be_bytes w128 n) k))
 
-byte_ascii : (b : ℕ) → is_client_byte b ≡ true → b < 128
-byte_ascii b is = grind (arith, nat_tests)
-
 client_ascii : (xs : List ℕ) → IsTrue (list_all is_client_byte xs) → IsAscii xs
 client_ascii [] all = IsAscii-nil
 client_ascii (b ∷ bs) all = let p = and_parts (is_client_byte b) (list_all is_client_byte bs) all in
-    IsAscii-cons b bs (byte_ascii b p.0) (client_ascii bs p.1)
+    IsAscii-cons b bs (client_is_ascii b p.0) (client_ascii bs p.1)
 
 joined_ascii : (m c r s : List ℕ) → IsAscii m → IsAscii c → IsAscii r → IsAscii s → IsAscii (words_line m c r s)
 joined_ascii m c r s am ac ar as_ =

@@ -4,12 +4,12 @@ use Rattle.std.proofs.lemmas.Bool.{and_parts, true≢false}
 use Rattle.std.proofs.lemmas.Bool.Decides.{nat_tests}
 use Rattle.std.proofs.lemmas.Fmt.{decimal_is_IsNumeral, digits_decimal, length-decimal-le}
 use Rattle.std.proofs.lemmas.List.{append_assoc, append_cancel_right}
-use Rattle.std.proofs.lemmas.Str.Parse.{IsNumeralModel, numerals_by_value, tells_digits, not_in_digits}
+use Rattle.std.proofs.lemmas.Str.Parse.{not_in_digits}
 use Rattle.std.specs.Fmt.{decimal}
 use Rattle.std.specs.Int.{to_be_bytes, from_be_bytes, w128, bytes_high_first, IsInRange}
 use Rattle.std.specs.List.{list_all}
 use Rattle.std.specs.Bool.{IsTrue}
-use Rattle.std.specs.Str.Parse.{AllDigits, digits_value}
+use Rattle.std.specs.Str.Parse.{digits_value}
 use Rattle.uuid.specs.Text.{lower, parsed, hex_digit, nibble}
 use Rattle.uuid.proofs.TextLemmas.{by_index_length, by_index_at, nibble_small}
 use Rattle.uuid.proofs.RoundTrips.{parses_simple}
@@ -18,7 +18,8 @@ use Rattle.ifmap_io.specs.Calendar.{last_moment}
 use Rattle.ifmap_meta.specs.ClientNames.{IsClientName, is_client_byte}
 use Rattle.ifmap_server.specs.declared.headers.Header.{Header}
 use Rattle.ifmap_server.specs.Frames.{IsHeader, header_text, longest_body, word_text}
-use Rattle.ifmap_server.proofs.Splits.{Without, without_from, without_at, without_append, before, after, before_at, after_at}
+use Rattle.ifmap_lemmas.specs.Splits.{Without, without_from, without_at, without_append, before, after, before_at, after_at}
+use Rattle.ifmap_lemmas.specs.Decimals.{decimal_model}
 
 -- a header within its limits
 pub record IsWithin (h : Header) : Type 0 where
@@ -32,14 +33,12 @@ within_from_line line h is = record { moment = is.moment; client = is.client; ra
 
 -- ---- decimals
 
-own : IsNumeralModel (AllDigits 10) (digits_value 10)
-own = numerals_by_value _ tells_digits
-
 pub decimal_value : (n : ℕ) → n < 2 ^ 64 → digits_value 10 (decimal n) ≡ n
 decimal_value n small = (decimal_is_IsNumeral n small).1
 
 pub decimal_without : (c n : ℕ) → ¬ (IsInRange 48 57 c) → n < 2 ^ 64 → Without c (decimal n)
-decimal_without c n out small = without_from c (decimal n) (not_in_digits own (decimal n) c (digits_decimal own n small) out)
+decimal_without c n out small =
+    without_from c (decimal n) (not_in_digits decimal_model (decimal n) c (digits_decimal decimal_model n small) out)
 
 -- ---- random words
 

@@ -1,11 +1,9 @@
 -- Subscriptions and items of one name, beside those of another.
 use Rattle.std.proofs.Common.{◌≡◌, ◌≢◌, sym, ◌∙◌, ap, ℕ, ◌+◌, ◌==◌, true, false, not, cond, List, length, None, Some}
 use Rattle.std.proofs.lemmas.Bool.{and_from, and_parts, both_ways, eq-eqb, false_from_ne_true}
-use Rattle.std.proofs.lemmas.Cmp.{nat_cmp_total, nat_list_cmp_total, on_total, then_total}
 use Rattle.std.proofs.lemmas.Map.Lookups.{exact_unsigned}
 use Rattle.std.proofs.lemmas.Map.Text.{is_eq-slice_cmp}
 use Rattle.std.specs.BTreeMap.{is_at}
-use Rattle.std.specs.Cmp.{IsTotalOrder}
 use Rattle.std.specs.Cmp.Lexicographic.{slice_cmp}
 use Rattle.std.specs.List.{filter, list_any}
 use Rattle.std.specs.List.Sorted.{IsStrictlySortedBy}
@@ -45,9 +43,6 @@ pub same_order : (x y : Standing) → standing_order x y ≡ Equal → (x.serial
 same_order x y e =
     let both = both_equal (nat_cmp x.serial y.serial) (slice_cmp nat_cmp x.name y.name) e in
     (exact_unsigned x.serial y.serial both.0, same_texts x.name y.name both.1)
-
-pub standing_total : IsTotalOrder standing_order
-standing_total = then_total (on_total (λ (x : Standing). x.serial) nat_cmp_total) (on_total (λ (x : Standing). x.name) nat_list_cmp_total)
 
 module _ (serial : ℕ) (name : List ℕ) where
   abbrev dropped : List Standing → List Standing

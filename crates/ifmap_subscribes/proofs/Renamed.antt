@@ -28,7 +28,8 @@ use Rattle.ifmap_search.specs.Sizes.{poll_size, queue_size}
 use Rattle.ifmap_changes.specs.ifmap_session.Sessions.{is_named}
 use Rattle.ifmap_changes.specs.ifmap_standing.Standing.{standing_of}
 use Rattle.ifmap_changes.specs.ifmap_standing.declared.standing.Standing.{Standing}
-use Rattle.ifmap_subscribes.proofs.OfNames.{named_once, not_named_other, one_fewer, one_more, others_beside, others_stand, put_stands, standing_total}
+use Rattle.ifmap_changes.specs.ifmap_machine.OrderLaws.{standing_total}
+use Rattle.ifmap_subscribes.proofs.OfNames.{named_once, not_named_other, one_fewer, one_more, others_beside, others_stand, put_stands}
 use Rattle.ifmap_subscribes.specs.Readying.{AreCounted, IsAdded, IsNameBefore, IsNoted, IsSmall, most_ops, now_of, told_after}
 use Rattle.ifmap_subscribes.specs.Renamings.{IsNameNow, IsOfSession, begun_by, rename, rename_all, stand_where}
 use Rattle.ifmap_subscribes.specs.declared.names.NameNow.{NameNow}

@@ -2,12 +2,10 @@
 -- First: one session is told nothing (`tells_nothing`), is the only one of its serial (`only_one`), and is found still (`found_then`).
 -- Then: renamings are made one after the other (`renamed_none`, `renamed_more`), of which one is made by a drop and a put
 -- (`renamed_one`). Last: the rest can be made then (`can_rest`).
-use Rattle.std.proofs.Common.{◌≡◌, refl, sym, ◌∙◌, ap, subst, ℕ, ◌+◌, ◌≤◌, ◌==◌, Bool, true, false, not, cond, List, [], ◌∷◌, ◌++◌, append-nil, length, map, Option, None, Some, IfSome, option_to_list, inl, inr, arith, vec_len, vec_capacity, rules}
+use Rattle.std.proofs.Common.{◌≡◌, refl, sym, ◌∙◌, ap, subst, ℕ, ◌+◌, ◌≤◌, ◌==◌, Bool, true, false, not, cond, List, [], ◌∷◌, ◌++◌, append-nil, length, map, Option, None, Some, IfSome, option_to_list, inl, inr, arith, vec_len, vec_capacity}
 use Rattle.std.proofs.lemmas.Bool.{cases_Bool}
 use Rattle.std.proofs.lemmas.List.Kept.{IsStrictlySortedBy-filter}
 use Rattle.std.proofs.lemmas.List.Sums.{sum_by-cons}
-use Rattle.std.specs.Cmp.{IsTotalOrder}
-use Rattle.std.specs.Cmp.Rules.{comparing}
 use Rattle.std.specs.List.{AllByRecursion, filter, list_any}
 use Rattle.std.specs.List.Sorted.{IsStrictlySortedBy}
 use Rattle.ifmap_changes.specs.Between.{IsSteady, sight_now}
@@ -30,6 +28,7 @@ use Rattle.ifmap_changes.specs.ifmap_session.laws.TableLaws.{KeepsIdAndClient, f
 use Rattle.ifmap_changes.specs.ifmap_standing.declared.standing.Standing.{Standing}
 use Rattle.ifmap_changes.specs.ifmap_standing.Standing.{standing_of}
 use Rattle.ifmap_changes.specs.ifmap_tellings.ChangeLaws.{change_both, change_none, changes_both, changes_none, others_same}
+use Rattle.ifmap_changes.specs.ifmap_machine.OrderLaws.{standing_total}
 use Rattle.ifmap_subscribes.specs.declared.renamings.Renaming.{Renaming}
 use Rattle.ifmap_subscribes.specs.Renamings.{AreRenamed, CanRenameEach, IsOfSession, KeepsNumbered, StandsAmong, begun_by, item_count, rename, rename_all, stand_where, told_in_parts}
 use Rattle.ifmap_subscribes.proofs.RenamingPlaces.{all_stands}
@@ -174,13 +173,10 @@ renames_can serial all old now rest so none = subst (λ rs. CanRenameEach serial
 
 -- ---- one renaming
 
-shown_total : IsTotalOrder standing_order
-shown_total = search (comparing, rules)
-
 stand_rising : (begun : Option Standing) (xs : List machine.Standing) → IsStrictlySortedBy standing_order xs
     → IsStrictlySortedBy standing_order (stand_where begun xs)
 stand_rising None xs up = up
-stand_rising (Some x) xs up = put_sorted machine.Standing standing_order shown_total (standing_of x) xs up
+stand_rising (Some x) xs up = put_sorted machine.Standing standing_order standing_total (standing_of x) xs up
 
 -- of a name, whether one is its subscription
 abbrev pub stays : ℕ → List ℕ → Standing → Bool

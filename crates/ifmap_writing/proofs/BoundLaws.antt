@@ -21,7 +21,6 @@ use Rattle.ifmap_elem.specs.declared.elements.Child.TheOpen.{Child-F}
 use Rattle.ifmap_elem.specs.declared.elements.Element.{Element}
 use Rattle.ifmap_elem.specs.laws.FitLaws.{nesting_arranged, out_text}
 use Rattle.ifmap_requests.specs.ifmap_envelopes.Envelopes.{IsEnvelope}
-use Rattle.ifmap_filter.specs.Holding.{is_name}
 use Rattle.ifmap_ident.specs.ifmap_reader.declared.scoping.Scope.{Scope}
 use Rattle.ifmap_ident.specs.declared.codes.Code.{Code}
 use Rattle.ifmap_ident.specs.declared.codes.Code.TheVariants.{Failure, InvalidSchemaVersion}
@@ -54,6 +53,7 @@ use Rattle.ifmap_requests.specs.RequestForms.{search_from, search_of, session_fi
 use Rattle.ifmap_requests.specs.RequestForms.{subscription_form, subscription_from_form, update_form, update_from_form}
 use Rattle.ifmap_writing.specs.Bounds.{IsBounded, IsBoundedMetadata, IsBoundedName, IsBoundedPublish, IsBoundedSearch, IsBoundedSubscribe}
 use Rattle.ifmap_elem.specs.laws.ArrangedLaws.{out_element}
+use Rattle.ifmap_elem.specs.Building.{is_name}
 
 -- ---- (1) checks taken apart
 

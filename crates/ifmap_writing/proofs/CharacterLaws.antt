@@ -1,14 +1,11 @@
 -- Characters that a document can have, joined; and those of names.
-use Rattle.std.proofs.Common.{◌≡◌, ◌++◌, ℕ, true, List, [], ◌∷◌, refl}
+use Rattle.std.proofs.Common.{◌≡◌, ◌++◌, ℕ, true, List, [], ◌∷◌}
 use Rattle.std.specs.List.{AllByRecursion, flat_map, list_all}
 use Rattle.ifmap_lemmas.specs.Members.{all_of_test}
 use Rattle.ifmap_lemmas.specs.Texts.{ascii_encoded, is_ascii}
 use Rattle.ifmap_elem.specs.Chars.{IsCharacters, is_character}
 use Rattle.ifmap_filter.specs.Printing.{joined_texts}
-use Rattle.ifmap_elem.specs.laws.CharacterLaws.{characters_both}
-
-pub no_characters : IsCharacters []
-no_characters = ([], refl, tt)
+use Rattle.ifmap_elem.specs.laws.CharacterLaws.{characters_both, no_characters}
 
 pub plain_characters : (text : List ℕ) → list_all is_ascii text ≡ true → list_all is_character text ≡ true → IsCharacters text
 plain_characters text low fit = (text, ascii_encoded text (all_of_test is_ascii text low), all_of_test is_character text fit)

@@ -28,8 +28,7 @@ use Rattle.ifmap_filter.specs.Spaces.{brackets_spaces, filter_spaces, name_space
 use Rattle.ifmap_requests.specs.FitFilters.{Comparison, IsFitComparison, IsFitFilter, IsFitPredicate, IsFitTest, comparison, comparisons}
 use Rattle.ifmap_requests.specs.FitFilters.{comparisons_of}
 use Rattle.ifmap_writing.proofs.CharacterLaws.{joined_characters, plain_characters}
-use Rattle.ifmap_writing.proofs.ValueLaws.{numeral_characters}
-use Rattle.ifmap_elem.specs.laws.CharacterLaws.{characters_both, part_characters}
+use Rattle.ifmap_elem.specs.laws.CharacterLaws.{characters_both, part_characters, numeral_characters}
 
 -- ---- (1) induction
 

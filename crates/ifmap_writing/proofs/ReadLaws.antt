@@ -5,19 +5,15 @@
 -- 4. Searches.
 -- 5. Operations.
 -- 6. Requests.
-use Rattle.std.proofs.Common.{◌≡◌, ◌∙◌, ◌&&◌, ◌||◌, ◌+◌, ◌≤◌, ℕ, Bool, true, false, not, List, [], ◌∷◌, Option, None, Some, IfSome, Result}
+use Rattle.std.proofs.Common.{◌≡◌, ◌∙◌, ◌+◌, ◌≤◌, ℕ, true, false, List, [], ◌∷◌, Option, None, Some, IfSome, Result}
 use Rattle.std.proofs.Common.{Ok, codes, map, refl, ap, sym, subst}
-use Rattle.std.specs.Prelude.{nat_lt}
 use Rattle.std.specs.List.{AllByRecursion}
-use Rattle.std.specs.declared.cmp.Ordering.{Ordering}
-use Rattle.std.specs.declared.cmp.Ordering.TheVariants.{Less, Equal}
-use Rattle.std.proofs.lemmas.Bool.{false_from_ne_true}
-use Rattle.ifmap_lemmas.specs.Texts.{eq_tells, slice_cmp-same}
 use Rattle.ifmap_elem.specs.Building.{bare_name, is_bare, as_children}
 use Rattle.ifmap_elem.specs.declared.elements.Child.{Child}
 use Rattle.ifmap_elem.specs.declared.elements.Child.TheOpen.{Child-F}
 use Rattle.ifmap_elem.specs.declared.elements.Element.{Element}
 use Rattle.ifmap_elem.specs.declared.elements.Name.{Name}
+use Rattle.ifmap_elem.specs.laws.ChildElements.{as_parts, parts_are}
 use Rattle.ifmap_ident.specs.ifmap_reader.declared.scoping.Scope.{Scope}
 use Rattle.ifmap_filter.specs.declared.filters.Filter.{Filter}
 use Rattle.ifmap_filter.specs.Printing.{filter_text}
@@ -29,15 +25,15 @@ use Rattle.ifmap_ident.specs.declared.identifiers.Identifier.TheVariants.{Access
 use Rattle.ifmap_ident.specs.declared.items.Item.{Item}
 use Rattle.ifmap_ident.specs.declared.items.Item.TheVariants.{One, Pair}
 use Rattle.ifmap_ident.specs.Canon.{IsCanon, IsIdentifier}
-use Rattle.ifmap_ident.specs.Identifiers.{identifier_bytes, identifier_element, identifier_order, same_identifier}
-use Rattle.ifmap_ident.specs.Items.{IsCanonItem, identifiers_of, ordered_pair}
+use Rattle.ifmap_ident.specs.Identifiers.{identifier_element}
+use Rattle.ifmap_ident.specs.Items.{IsCanonItem, identifiers_of}
 use Rattle.ifmap_ident.specs.Parts.{has_only}
 use Rattle.ifmap_meta.specs.declared.metadata.Metadata.{Metadata}
 use Rattle.ifmap_meta.specs.Whole.{IsMadeOf, IsMetadata}
 use Rattle.ifmap_search.specs.declared.searches.Search as search
-use Rattle.ifmap_requests.specs.ifmap_forms.AnswerLaws.{found_after, found_alone, found_beside, found_form}
-use Rattle.ifmap_requests.specs.ifmap_forms.Checks.{Check, check_then, need_some, pass}
-use Rattle.ifmap_requests.specs.ifmap_forms.Items.{before_list, from_list, identifiers_check, item_check, item_of, list_if_there, list_check, may_follow}
+use Rattle.ifmap_requests.specs.ifmap_forms.AnswerLaws.{found_alone, found_beside, found_form}
+use Rattle.ifmap_requests.specs.ifmap_forms.Checks.{Check, need_some, pass}
+use Rattle.ifmap_requests.specs.ifmap_forms.Items.{before_list, from_list, identifiers_check, item_check, list_if_there, list_check}
 use Rattle.ifmap_requests.specs.ifmap_forms.Items.{start_check}
 use Rattle.ifmap_requests.specs.ifmap_forms.Scopes.{Scopes, scopes_below}
 use Rattle.ifmap_requests.specs.ifmap_forms.Tables.{Part, both, each_element, list_of, parts_in}
@@ -59,6 +55,7 @@ use Rattle.ifmap_requests.specs.RequestForms.{publish_of, publish_op_check, publ
 use Rattle.ifmap_requests.specs.RequestForms.{request_check, search_attributes, search_form, search_of, session_field, subscribe_form}
 use Rattle.ifmap_requests.specs.RequestForms.{subscribe_of, subscribe_op_check, subscription_form, subscription_from_form, update_form, update_from_form}
 use Rattle.ifmap_requests.specs.Fit.{IsFitLimit, IsFitOp, IsFitRequest, IsFitSubscribeOp}
+use Rattle.ifmap_requests.specs.ifmap_forms.IdentifierLaws.{identifiers_back, item_of_identifiers}
 use Rattle.ifmap_writing.specs.Attributes.{AttributeRow, attributes_of, filter_rows, filter_value, kinds_value, lifetime_rows, lifetime_value}
 use Rattle.ifmap_writing.specs.Attributes.{limit_rows, limit_value, name_rows, number_value, purge_rows, search_rows, session_rows}
 use Rattle.ifmap_writing.specs.Attributes.{subscription_rows}
@@ -66,7 +63,6 @@ use Rattle.ifmap_writing.specs.Bounds.{IsBounded, IsBoundedSearch, IsBoundedSubs
 use Rattle.ifmap_writing.specs.RequestElements.{element_in, identifier_children, item_children, list_element, publish_element}
 use Rattle.ifmap_writing.specs.RequestElements.{published_children, subscribe_element}
 use Rattle.ifmap_writing.proofs.RowLaws.{only_rows, or_none, row_value, value_found}
-use Rattle.ifmap_writing.proofs.SoundLaws.{as_parts, parts_are}
 use Rattle.ifmap_writing.proofs.ValueLaws.{depth_back, kinds_back, lifetime_back, limit_back, name_back, size_back}
 use Rattle.ifmap_writing.proofs.WrittenLaws.{published_are, published_elements}
 
@@ -149,38 +145,12 @@ module _ (canon : (i : Identifier) → IsIdentifier i → IsCanon (identifier_el
       subst (λ (parts : List Part). start_check parts (good i)) (sym (parts_are (identifier_element i ∷ [])))
       (i ∷ [], (i, canon i f, ([], refl, refl)), refl)
 
-  apart : (a b : Identifier) → identifier_order a b ≡ Less → same_identifier b a ≡ false
-  apart a b less =
-      false_from_ne_true (same_identifier b a)
-      (λ e. let equal : identifier_order a b ≡ Equal = slice_cmp-same (identifier_bytes a) (identifier_bytes b)
-      (sym (eq_tells (identifier_bytes b) (identifier_bytes a) e)) in
-      let wrong : Less ≡ Equal = sym less ∙ equal in cc)
-
-  may_second : (a b : Identifier) → same_identifier b a ≡ false → may_follow 2 (a ∷ []) b ≡ true
-  may_second a b other = ap (λ (t : Bool). nat_lt 1 2 && not (t || false)) other
-
-  identifiers_back : (item : Item) → IsCanonItem item
-      → identifiers_check 2 [] (identifier_parts (identifiers_of item)) (good (identifiers_of item))
-  identifiers_back (One a) f = (a, canon a f.identifiers.0, ([], refl, refl))
-  identifiers_back (Pair a b) f =
-      let second : identifiers_check 2 (a ∷ []) (identifier_parts (b ∷ [])) (good (b ∷ [])) = (
-        b,
-        canon b f.identifiers.1.0,
-        found_after (check_then (identifiers_check 2 (a ∷ (b ∷ [])) []) (λ others. pass (b ∷ others))) (may_follow 2 (a ∷ []) b) Failure
-            (good (b ∷ [])) (may_second a b (apart a b f.ordered)) ([], refl, refl),
-      ) in
-      (a, canon a f.identifiers.0, (b ∷ [], second, refl))
-
-  item_is : (item : Item) → IsCanonItem item → item_of (identifiers_of item) ≡ Some item
-  item_is (One a) f = refl
-  item_is (Pair a b) f = ap (λ (o : Ordering). ordered_pair o a b) f.ordered
-
   item_back : (item : Item) → IsCanonItem item → item_check (parts_in (item_children item)) (good item)
   item_back item f =
       subst (λ (parts : List Part). item_check parts (good item)) (sym (parts_are (map identifier_element (identifiers_of item)))) (
         identifiers_of item,
-        identifiers_back item f,
-        subst (λ (o : Option Item). need_some Failure o (λ (x : Item). pass x) (good item)) (sym (item_is item f)) refl,
+        identifiers_back canon item f,
+        subst (λ (o : Option Item). need_some Failure o (λ (x : Item). pass x) (good item)) (sym (item_of_identifiers item f)) refl,
       )
 
 -- ---- (3) what is published
@@ -231,7 +201,7 @@ module _ (canon : (i : Identifier) → IsIdentifier i → IsCanon (identifier_el
       subst (λ (parts : List Part). list_if_there metadata_check parts (good (Some elements))) (sym (from_back item elements))
           (elements, metadata_back elements f, refl),
       subst (λ (o : Option Item). need_some Failure o (λ (x : Item). need_some Failure (Some elements) (λ es. pass (both x es)))
-          (good (both item elements))) (sym (item_is canon item i)) refl,
+          (good (both item elements))) (sym (item_of_identifiers item i)) refl,
     ),
   )
 

@@ -17,12 +17,13 @@ use Rattle.ifmap_lemmas.specs.Texts.{is_ascii, slice_cmp-less}
 use Rattle.ifmap_elem.specs.Arranged.{attribute_order, sort_attributes}
 use Rattle.ifmap_elem.specs.Building.{bare_attribute, bare_name, is_bare}
 use Rattle.ifmap_elem.specs.Chars.{IsCharacters}
-use Rattle.ifmap_elem.specs.Fit.{IsFitAttribute, IsNamespace}
+use Rattle.ifmap_elem.specs.Fit.{IsFitAttribute}
 use Rattle.ifmap_elem.specs.Names.{IsNamePart, is_name_character, is_name_start}
-use Rattle.ifmap_elem.specs.Scopes.{AllDiffer, xmlns_space}
+use Rattle.ifmap_elem.specs.Scopes.{AllDiffer}
 use Rattle.ifmap_elem.specs.declared.elements.Attribute.{Attribute}
 use Rattle.ifmap_elem.specs.declared.elements.Name.{Name}
 use Rattle.ifmap_elem.specs.laws.PrintedTags.{ascii_part}
+use Rattle.ifmap_elem.specs.laws.FitLaws.{no_namespace}
 use Rattle.ifmap_ident.specs.Parts.{is_known}
 use Rattle.ifmap_writing.specs.Attributes.{AttributeRow, attributes_of, written_attribute}
 
@@ -150,9 +151,6 @@ rows_differ (r ∷ rows) h =
     differ_one r.local r.value (attributes_of rows) (apart_rows r.local rows parts.0) (rows_differ rows parts.1)
 
 -- ---- (4) they fit
-
-pub no_namespace : IsNamespace []
-no_namespace = record { characters = ([], refl, tt); not_reserved = not_from_Decides _ (bytes_eq-Decides [] xmlns_space) refl }
 
 -- a name of ASCII but `xmlns`
 abbrev pub is_plain_local : List ℕ → Bool

@@ -12,7 +12,7 @@ use Rattle.ifmap_lemmas.specs.Filters.{filter_all}
 use Rattle.ifmap_lemmas.specs.Texts.{eq_tells}
 use Rattle.ifmap_elem.specs.Canonical.{root_declarations}
 use Rattle.ifmap_elem.specs.InScope.{binding_told}
-use Rattle.ifmap_elem.specs.Scopes.{AllDiffer, Binding, xml_space}
+use Rattle.ifmap_elem.specs.Scopes.{AllDiffer, Binding, xml_space, row_of_binding}
 use Rattle.ifmap_elem.specs.declared.elements.Name as element
 use Rattle.ifmap_elem.specs.declared.readings.Declared.{Declared}
 use Rattle.ifmap_elem.specs.declared.tokens.Qualified.{Qualified}
@@ -123,26 +123,20 @@ module _ (own spaces : List (List ℕ)) where
   all_start path [] = tt
   all_start path (r ∷ rows) = (root_starts path, all_start path rows)
 
-  abbrev row_told : Binding → List ℕ × List ℕ
-  row_told b = (b.prefix, b.space)
+  told_last : (bs : List Binding) (b : Binding) → map row_of_binding (bs ++ b ∷ []) ≡ map row_of_binding bs ++ row_of_binding b ∷ []
+  told_last bs b = map-append row_of_binding bs (b ∷ [])
 
-  told_last : (bs : List Binding) (b : Binding) → map row_told (bs ++ b ∷ []) ≡ map row_told bs ++ row_told b ∷ []
-  told_last bs b = map-append row_told bs (b ∷ [])
-
-  abbrev binding_of : List ℕ × List ℕ → Binding
-  binding_of row = record { prefix = row.1; space = row.0 }
-
-  told_turned : (rows : Rows) → map row_told (reverse (map binding_told (root_declarations rows))) ≡ reverse (map turn rows)
+  told_turned : (rows : Rows) → map row_of_binding (reverse (map binding_told (root_declarations rows))) ≡ reverse (map turn rows)
   told_turned [] = refl
   told_turned (r ∷ rows) =
-      ap (map row_told) (reverse-append (binding_of r ∷ []) (map binding_told (root_declarations rows)))
-      ∙ told_last (reverse (map binding_told (root_declarations rows))) (binding_of r)
+      ap (map row_of_binding) (reverse-append (row_binding r ∷ []) (map binding_told (root_declarations rows)))
+      ∙ told_last (reverse (map binding_told (root_declarations rows))) (row_binding r)
       ∙ ap (λ (l : Rows). l ++ turn r ∷ []) (told_turned rows)
       ∙ sym (reverse-append (turn r ∷ []) (map turn rows))
 
   rows_there : (path inner : List ℕ) → (scopes_by (root_declarations its_rows) path inner).rows ≡ reverse (map turn its_rows)
   rows_there path inner =
-      ap (λ (ds : List Declared). map row_told (reverse (map binding_told ds)))
+      ap (λ (ds : List Declared). map row_of_binding (reverse (map binding_told ds)))
       (filter_all (λ (d : Declared). starts_with ◌==◌ (path ++ inner) d.path) (root_declarations its_rows)
       (all_start (path ++ inner) its_rows))
       ∙ told_turned its_rows

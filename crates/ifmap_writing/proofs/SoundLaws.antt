@@ -4,18 +4,17 @@ use Rattle.std.proofs.Common.{◌≡◌, ◌≤◌, ◌∙◌, ℕ, suc, true, L
 use Rattle.std.specs.List.{AllByRecursion, flat_map}
 use Rattle.ifmap_lemmas.specs.Members.{both_all}
 use Rattle.ifmap_elem.specs.Arranged.{arrange, arrange_child}
-use Rattle.ifmap_elem.specs.Fit.{AreApart, AreFitChildren, HasCharacters, IsFit, IsFitAlone, IsFitName, IsNotBlank}
+use Rattle.ifmap_elem.specs.Fit.{IsFit, IsFitAlone, IsFitName}
 use Rattle.ifmap_elem.specs.Folds.{at_child_element, at_element}
 use Rattle.ifmap_elem.specs.Nesting.{child_levels, child_nesting, element_levels, greatest_of, nesting}
 use Rattle.ifmap_elem.specs.declared.elements.Child as the
-use Rattle.ifmap_elem.specs.declared.elements.Child.{Child, out-Child}
-use Rattle.ifmap_elem.specs.declared.elements.Child.TheOpen.{Child-F}
 use Rattle.ifmap_elem.specs.declared.elements.Element.{Element}
 use Rattle.ifmap_elem.specs.declared.elements.Name.{Name}
-use Rattle.ifmap_elem.specs.laws.ArrangedLaws.{arranged_in, arranged_is, out_element}
+use Rattle.ifmap_elem.specs.laws.ArrangedLaws.{arranged_in, arranged_is}
 use Rattle.ifmap_elem.specs.laws.FitLaws.{elements_in, elements_of_child, fit_whole}
 use Rattle.ifmap_writing.specs.Attributes.{AttributeRow, attributes_of}
 use Rattle.ifmap_elem.specs.Building.{as_children}
+use Rattle.ifmap_elem.specs.laws.ChildElements.{children_fit}
 use Rattle.ifmap_writing.proofs.RowLaws.{HasFitValue, rises, rows_differ, rows_fit, rows_plain, rows_sorted}
 
 -- a document can have the element, it is arranged, and it nests at most so deep
@@ -37,30 +36,6 @@ pub record AreFitRows (rows : List AttributeRow) : Type 0 where
   pub rise : rises rows ≡ true
   pub plain : rows_plain rows ≡ true
   pub values : AllByRecursion HasFitValue rows
-
-abbrev pub as_parts : List Element → List (Child-F Child Element)
-as_parts es = map (λ e. Child-F.Element e) es
-
-pub parts_are : (es : List Element) → map out-Child (as_children es) ≡ as_parts es
-parts_are [] = refl
-parts_are (e ∷ es) = (λ i. out_element e i ∷ parts_are es i)
-
-have_characters : (es : List Element) → AllByRecursion HasCharacters (as_parts es)
-have_characters [] = tt
-have_characters (e ∷ es) = (tt, have_characters es)
-
-are_apart : (es : List Element) → AreApart (as_parts es)
-are_apart [] = tt
-are_apart (e ∷ es) = are_apart es
-
-not_blank : (es : List Element) → AllByRecursion IsNotBlank (as_parts es)
-not_blank [] = tt
-not_blank (e ∷ es) = (tt, not_blank es)
-
-children_fit : (es : List Element) → AreFitChildren (map out-Child (as_children es))
-children_fit es =
-    subst AreFitChildren (sym (parts_are es))
-    (record { texts = have_characters es; apart = are_apart es; beside = λ any. not_blank es })
 
 module _ (levels : ℕ) where
   inside_fits : (es : List Element) → AllByRecursion (IsSound levels) es

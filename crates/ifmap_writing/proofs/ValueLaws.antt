@@ -9,9 +9,9 @@ use Rattle.std.specs.Str.Parse.{AllDigits}
 use Rattle.std.proofs.lemmas.Bool.{and_from}
 use Rattle.std.proofs.lemmas.Bool.Decides.{nat_tests}
 use Rattle.std.proofs.lemmas.Str.Parse.{digit_from_value}
-use Rattle.ifmap_lemmas.specs.Numerals.{digit, numeral, numeral_by_digits, numeral_digits}
-use Rattle.ifmap_lemmas.specs.Texts.{ascii_encoded}
-use Rattle.ifmap_elem.specs.Chars.{AllAre, IsCharacters, is_character, is_white}
+use Rattle.ifmap_lemmas.specs.Numerals.{digit, numeral, numeral_by_digits}
+use Rattle.ifmap_lemmas.specs.Decimals.{between_is_digit}
+use Rattle.ifmap_elem.specs.Chars.{is_white}
 use Rattle.ifmap_filter.specs.Printing.{joined_texts}
 use Rattle.ifmap_ident.specs.declared.codes.Code.{Code}
 use Rattle.ifmap_ident.specs.declared.codes.Code.TheVariants.{InvalidIdentifierType}
@@ -23,31 +23,15 @@ use Rattle.ifmap_requests.specs.ifmap_forms.Values.{greatest_limit, greatest_siz
 use Rattle.ifmap_requests.specs.ifmap_forms.Values.{kind_named, kinds_check, number_of, piece_check, pieces_of, read_depth, read_kinds}
 use Rattle.ifmap_requests.specs.ifmap_forms.Values.{read_lifetime, read_limit, read_name, read_size, trim_white, within_range}
 use Rattle.ifmap_writing.specs.Attributes.{kinds_value, lifetime_value, limit_value, number_value}
-use Rattle.ifmap_elem.specs.laws.PrintedScopes.{digits_ascii}
 use Rattle.ifmap_requests.specs.ifmap_forms.FormLaws.{number_back}
 
 -- ---- (1) numbers
-
-digit_is : (c : ℕ) → 48 ≤ c → c ≤ 57 → is_ascii_digit c ≡ true
-digit_is c low high = grind (arith, nat_tests)
 
 digits_are : (ds : List ℕ) → AllDigits 10 ds → list_all is_ascii_digit ds ≡ true
 digits_are [] f = refl
 digits_are (d ∷ ds) f =
     let r = digit_from_value d f.0 in
-    and_from (is_ascii_digit d) (list_all is_ascii_digit ds) (digit_is d r.0 r.1) (digits_are ds f.1)
-
-digit_character : (c : ℕ) → 48 ≤ c → c ≤ 57 → is_character c ≡ true
-digit_character c low high = grind (arith, nat_tests)
-
-digits_characters : (ds : List ℕ) → AllDigits 10 ds → AllAre is_character ds
-digits_characters [] f = tt
-digits_characters (d ∷ ds) f = let r = digit_from_value d f.0 in (digit_character d r.0 r.1, digits_characters ds f.1)
-
-pub numeral_characters : (n : ℕ) → IsCharacters (numeral n)
-numeral_characters n =
-    let digits = numeral_digits n in
-    (numeral n, ascii_encoded (numeral n) (digits_ascii (numeral n) digits), digits_characters (numeral n) digits)
+    and_from (is_ascii_digit d) (list_all is_ascii_digit ds) (between_is_digit d r.0 r.1) (digits_are ds f.1)
 
 -- digits that mean a number but 0 are some
 some_digits : (ds : List ℕ) → ds ≢ [] → bytes_eq ds [] ≡ false

@@ -20,6 +20,8 @@ use Rattle.ifmap_elem.specs.Scopes.{xmlns_space}
 use Rattle.ifmap_elem.specs.declared.elements.Child.{Child}
 use Rattle.ifmap_elem.specs.declared.elements.Element.{Element}
 use Rattle.ifmap_elem.specs.laws.PrintedScopes.{are_declared}
+use Rattle.ifmap_elem.specs.laws.FitLaws.{no_namespace}
+use Rattle.ifmap_elem.specs.laws.CharacterLaws.{numeral_characters}
 use Rattle.ifmap_requests.specs.ifmap_envelopes.Envelopes.{element_around, envelope_name, in_envelope}
 use Rattle.ifmap_filter.specs.declared.filters.Filter.{Filter}
 use Rattle.ifmap_filter.specs.Spaces.{filter_spaces}
@@ -54,9 +56,8 @@ use Rattle.ifmap_writing.specs.RequestSpaces.{optional_filter, publish_filters, 
 use Rattle.ifmap_writing.specs.RequestSpaces.{subscribe_filters}
 use Rattle.ifmap_writing.proofs.CharacterLaws.{joined_characters, plain_characters}
 use Rattle.ifmap_writing.proofs.FilterLaws.{filter_characters, filter_namespaces}
-use Rattle.ifmap_writing.proofs.RowLaws.{is_plain_local, no_namespace, plain_fits}
+use Rattle.ifmap_writing.proofs.RowLaws.{is_plain_local, plain_fits}
 use Rattle.ifmap_writing.proofs.SoundLaws.{AreFitRows, IsSound, higher, sound_whole}
-use Rattle.ifmap_writing.proofs.ValueLaws.{numeral_characters}
 
 -- ---- (1) names
 

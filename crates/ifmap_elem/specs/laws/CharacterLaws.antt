@@ -1,9 +1,10 @@
 -- What is made of characters.
-use Rattle.std.proofs.Common.{ℕ, ◌&&◌, Bool, List, ◌++◌, ◌∙◌, ◌≡◌, ◌≤◌, true, arith, inl, inr, [], ◌∷◌, refl, ◌<◌, length, get_or, sym, subst, append-nil}
+use Rattle.std.proofs.Common.{ℕ, ◌&&◌, Bool, List, ◌++◌, ◌∙◌, ◌≡◌, ◌≤◌, true, arith, inl, inr, [], ◌∷◌, refl, ◌<◌, length, get_or, sym, subst, append-nil, ◌%◌}
 use Rattle.ifmap_elem.specs.Chars.{is_character, AllAre, IsCharacters}
 use Rattle.ifmap_lemmas.specs.Texts.{is_ascii, ascii_encoded}
 use Rattle.std.proofs.lemmas.Bool.{and_parts, cases_lt, and_from}
 use Rattle.ifmap_lemmas.specs.Members.{all_weaker, all_append}
+use Rattle.ifmap_lemmas.specs.Numerals.{digit, numeral, numeral_by_digits}
 use Rattle.std.proofs.lemmas.Str.{encodes-append, inside_one}
 use Rattle.std.proofs.Math.Utf8.{scalar, low_scalar}
 use Rattle.std.proofs.lemmas.Bool.Decides.{nat_tests}
@@ -16,12 +17,29 @@ use Rattle.std.proofs.lemmas.List.Elements.{recursion_from_All, All-from_get_or}
 abbrev pub is_plain : ℕ → Bool
 is_plain b = is_ascii b && is_character b
 
+-- no bytes are such
+pub no_characters : IsCharacters []
+no_characters = ([], refl, tt)
+
 pub plain_characters : (bs : List ℕ) → AllAre is_plain bs → IsCharacters bs
 plain_characters bs f = (
   bs,
   ascii_encoded bs (all_weaker is_plain is_ascii (λ b h. (and_parts (is_ascii b) (is_character b) h).0) bs f),
   all_weaker is_plain is_character (λ b h. (and_parts (is_ascii b) (is_character b) h).1) bs f,
 )
+
+pub digit_plain : (d : ℕ) → d < 10 → is_plain (digit d) ≡ true
+digit_plain d few = grind (arith, nat_tests)
+
+numeral_plain : (n : ℕ) → AllAre is_plain (numeral n)
+numeral_plain = numeral_by_digits (λ n ds. AllAre is_plain ds) (λ n few. (digit_plain n few, tt)) more
+  where
+    more : (n : ℕ) (ds : List ℕ) → 10 ≤ n → AllAre is_plain ds → AllAre is_plain (ds ++ digit (n % 10) ∷ [])
+    more n ds many f = all_append is_plain ds (digit (n % 10) ∷ []) f (digit_plain (n % 10) (omega arith), tt)
+
+-- numerals are characters that a document can have
+pub numeral_characters : (n : ℕ) → IsCharacters (numeral n)
+numeral_characters n = plain_characters (numeral n) (numeral_plain n)
 
 pub characters_both : (a b : List ℕ) → IsCharacters a → IsCharacters b → IsCharacters (a ++ b)
 characters_both a b i j = (i.0 ++ j.0, encodes-append i.0 j.0 ∙ (λ k. i.1 k ++ j.1 k), all_append is_character i.0 j.0 i.2 j.2)

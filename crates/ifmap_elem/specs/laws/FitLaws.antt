@@ -14,7 +14,7 @@ use Rattle.ifmap_elem.specs.Arranged.{arrange, arrange_child, attribute_order, s
 use Rattle.ifmap_elem.specs.Nesting.{nesting, child_nesting, greatest_of, child_levels, element_levels}
 use Rattle.ifmap_lemmas.specs.Sorting.{insert}
 use Rattle.ifmap_elem.specs.Scopes.{AllDiffer}
-use Rattle.ifmap_elem.specs.Fit.{IsFit, IsFitAlone, IsFitAttribute, AreFitChildren, HasCharacters, IsNotBlank, AreApart, is_element, elements_of, child_with_elements, element_with_elements}
+use Rattle.ifmap_elem.specs.Fit.{IsFit, IsFitAlone, IsFitAttribute, AreFitChildren, HasCharacters, IsNotBlank, AreApart, is_element, elements_of, child_with_elements, element_with_elements, IsNamespace}
 use Rattle.ifmap_elem.specs.declared.elements.Attribute.{Attribute}
 use Rattle.ifmap_elem.specs.declared.elements.Child.{Child, fold-Child, out-Child, out-roll-Child}
 use Rattle.ifmap_elem.specs.declared.elements.Child as the
@@ -22,10 +22,15 @@ use Rattle.ifmap_elem.specs.declared.elements.Child.TheVariants.{rolls-Text}
 use Rattle.ifmap_elem.specs.declared.elements.Child.TheOpen.{Child-F}
 use Rattle.ifmap_elem.specs.declared.elements.Element.{Element, fold-Element}
 use Rattle.ifmap_elem.specs.laws.ArrangedLaws.{arranged_is, arranged_in, arranged_text, out_element}
+use Rattle.ifmap_elem.specs.laws.CharacterLaws.{no_characters}
 use Rattle.ifmap_lemmas.specs.Members.{all_both, both_all, all_of_map, map_of_all}
 
 pub out_text : (t : List ℕ) → out-Child (the.Text t) ≡ Child-F.Text t
 out_text t = ap out-Child (sym (rolls-Text t)) ∙ out-roll-Child (Child-F.Text t)
+
+-- no namespace is one that a document can have
+pub no_namespace : IsNamespace []
+no_namespace = record { characters = no_characters; not_reserved = λ e. cc }
 
 -- elements in elements
 

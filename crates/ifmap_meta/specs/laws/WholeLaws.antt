@@ -8,12 +8,12 @@ use Rattle.std.proofs.Common.{◌≡◌, ◌≢◌, ℕ, ◌≤◌, Bool, true, 
 use Rattle.std.specs.List.{AllByRecursion, filter}
 use Rattle.std.specs.Str.{byte}
 use Rattle.std.proofs.Common.{◌||◌, rules}
-use Rattle.std.proofs.lemmas.Bool.{and_parts, cases_Bool, not-true}
+use Rattle.std.proofs.lemmas.Bool.{cases_Bool, not-true}
 use Rattle.std.proofs.lemmas.Bool.Decides.{nat_tests}
 use Rattle.ifmap_elem.specs.Arranged.{arrange, arrange_child, sort_attributes}
 use Rattle.ifmap_elem.specs.Canonical.{canonical_bytes}
-use Rattle.ifmap_elem.specs.Chars.{AllAre, IsCharacters, is_character}
-use Rattle.ifmap_elem.specs.Fit.{IsFit, IsFitAlone, IsFitAttribute, IsNamespace}
+use Rattle.ifmap_elem.specs.Chars.{AllAre, IsCharacters}
+use Rattle.ifmap_elem.specs.Fit.{IsFit, IsFitAlone, IsFitAttribute}
 use Rattle.ifmap_elem.specs.Folds.{at_element}
 use Rattle.ifmap_elem.specs.Building.{bare_name, is_bare}
 use Rattle.ifmap_elem.specs.Names.{IsNamePart, is_name_character}
@@ -23,7 +23,7 @@ use Rattle.ifmap_elem.specs.declared.elements.Attribute.{Attribute}
 use Rattle.ifmap_elem.specs.declared.elements.Element.{Element}
 use Rattle.ifmap_elem.specs.declared.elements.Name.{Name}
 use Rattle.ifmap_elem.specs.laws.ArrangedLaws.{arranged_is}
-use Rattle.ifmap_elem.specs.laws.FitLaws.{fit_arranged, fit_parts, fit_whole, nesting_arranged}
+use Rattle.ifmap_elem.specs.laws.FitLaws.{fit_arranged, fit_parts, fit_whole, nesting_arranged, no_namespace}
 use Rattle.ifmap_io.specs.Calendar.{Civil, civil_of, civil_text, last_digit, moment_text}
 use Rattle.ifmap_lemmas.specs.Filters.{all_filter, filter_passes}
 use Rattle.ifmap_lemmas.specs.Members.{all_of_map, all_of_test, all_weaker, both_all, map_of_all}
@@ -40,7 +40,7 @@ use Rattle.ifmap_meta.specs.laws.ContentLaws.{content_bare, content_printed}
 use Rattle.ifmap_meta.specs.laws.StampLaws.{cardinality_stays, content_says, content_stays, stamps_stay}
 use Rattle.ifmap_elem.specs.laws.AgainLaws.{arranged_again}
 use Rattle.ifmap_elem.specs.laws.BareNames.{another_bare}
-use Rattle.ifmap_elem.specs.laws.CharacterLaws.{is_plain}
+use Rattle.ifmap_elem.specs.laws.CharacterLaws.{is_plain, plain_characters}
 
 -- an element of these attributes, and otherwise as it is
 abbrev with_attributes : Element → List Attribute → Element
@@ -100,33 +100,22 @@ made_is_metadata e m fit levels made =
 
 -- stamps fit
 
-ascii_characters : (bytes : List ℕ) → AllAre is_ascii bytes → AllAre is_character bytes → IsCharacters bytes
-ascii_characters bytes ascii characters = (bytes, ascii_encoded bytes ascii, characters)
-
 client_is_both : (b : ℕ) → is_client_byte b ≡ true → is_plain b ≡ true
 client_is_both b h = grind (arith, nat_tests)
 
-both_are : (bytes : List ℕ) → AllAre is_plain bytes → IsCharacters bytes
-both_are bytes h =
-    ascii_characters bytes (all_weaker is_plain is_ascii (λ b q. (and_parts (is_ascii b) (is_character b) q).0) bytes h)
-    (all_weaker is_plain is_character (λ b q. (and_parts (is_ascii b) (is_character b) q).1) bytes h)
-
 pub client_characters : (publisher : List ℕ) → IsClientName publisher → IsCharacters publisher
 client_characters publisher name =
-    both_are publisher (all_weaker is_client_byte is_plain client_is_both publisher (all_of_test is_client_byte publisher name.2))
+    plain_characters publisher (all_weaker is_client_byte is_plain client_is_both publisher (all_of_test is_client_byte publisher name.2))
 
 digit_is_both : (n : ℕ) → is_plain (last_digit n) ≡ true
 digit_is_both n = grind (arith, nat_tests)
 
 moment_characters : (moment : ℕ) → IsCharacters (moment_text moment)
 unfolding moment_text
-moment_characters moment = both_are (civil_text (civil_of moment)) (all_digits (civil_of moment))
+moment_characters moment = plain_characters (civil_text (civil_of moment)) (all_digits (civil_of moment))
   where
     all_digits : (c : Civil) → AllAre is_plain (civil_text c)
     all_digits c = search (digit_is_both, rules)
-
-no_namespace : IsNamespace []
-no_namespace = record { characters = ([], refl, tt); not_reserved = λ e. cc }
 
 publisher_part : IsNamePart (codes "ifmap-publisher-id")
 publisher_part = record {

@@ -1,22 +1,18 @@
 -- Ids of sessions.
-use Rattle.std.proofs.lemmas.Str.Parse.{IsNumeralModel, numerals_by_value, tells_digits, not_in_digits}
-use Rattle.std.specs.Str.{byte}
-use Rattle.std.specs.Str.Parse.{AllDigits, digits_value}
+use Rattle.std.proofs.lemmas.Str.Parse.{not_in_digits}
 use Rattle.std.proofs.Common.{◌≢◌, ℕ, ◌^◌, ◌<◌, length, get_or, arith, ◌≡◌, refl, suc, List, [], ◌∷◌, ◌++◌, sym, ◌∙◌, ◌+◌, true, false, inl, inr, zero, ◌/◌, ◌%◌, ◌==◌, Bool, cond}
 use Rattle.std.proofs.lemmas.Fmt.{digits_decimal, decimal_injective}
 use Rattle.std.specs.Fmt.{decimal, digit_glyph, digits_onto, digits}
 use Rattle.ifmap_session.specs.SessionIds.{hyphen, BeginsWithSerial, session_id}
 use Rattle.std.proofs.lemmas.Bool.Decides.{nat_tests}
-use Rattle.ifmap_elem.specs.laws.CharacterLaws.{is_plain, plain_characters}
+use Rattle.ifmap_elem.specs.laws.CharacterLaws.{is_plain, plain_characters, digit_plain}
 use Rattle.std.specs.Prelude.{nat_lt}
 use Rattle.std.proofs.lemmas.Bool.{cases_Bool}
 use Rattle.ifmap_elem.specs.Chars.{AllAre, IsCharacters}
 use Rattle.ifmap_lemmas.specs.Members.{all_append}
+use Rattle.ifmap_lemmas.specs.Decimals.{decimal_model}
 use Rattle.uuid.specs.Text as uuid
 use Rattle.std.specs.Int.{to_be_bytes, w128}
-
-pub decimal_model : IsNumeralModel (AllDigits 10) (digits_value 10)
-decimal_model = numerals_by_value (AllDigits 10) tells_digits
 
 pub no_hyphen : (n : ℕ) → n < 2 ^ 64 → (i : ℕ) → i < length (decimal n) → get_or (decimal n) i 0 ≢ hyphen
 no_hyphen n small = not_in_digits decimal_model (decimal n) hyphen (digits_decimal decimal_model n small) (λ r. absurd (omega (arith, r)))
@@ -37,9 +33,6 @@ pub ids_tell : (n m : ℕ) (id : List ℕ) → n < 2 ^ 64 → m < 2 ^ 64 → Beg
 ids_tell n m id small few a b =
     decimal_injective n m small few (same_before hyphen (decimal n) (decimal m) a.0 b.0 (no_hyphen n small) (no_hyphen m few) (sym a.1 ∙
     b.1))
-
-pub digit_plain : (d : ℕ) → d < 10 → is_plain (byte "0" + d) ≡ true
-digit_plain d few = grind (arith, nat_tests)
 
 pub glyph_plain : (d : ℕ) → d < 10 → is_plain (digit_glyph false d) ≡ true
 glyph_plain d few = elim (cases_Bool (nat_lt d 10)) [

@@ -1,17 +1,14 @@
-use Rattle.std.proofs.Common.{◌≡◌, ℕ, ◌<◌, Bool, true, false, List, length, refl, arith}
+use Rattle.std.proofs.Common.{◌≡◌, ℕ, Bool, true, false, List, length, refl}
 use Rattle.std.specs.Prelude.{◌&&◌, nat_le}
 use Rattle.std.specs.List.{list_all}
 use Rattle.std.specs.Str.{IsUtf8}
-use Rattle.std.proofs.lemmas.Bool.Decides.{nat_tests}
 use Rattle.std.proofs.lemmas.List.Sums.{AllPass-from_list_all}
 use Rattle.std.proofs.lemmas.Str.{IsUtf8-from_ascii}
 use Rattle.std.proofs.lemmas.Str.Ascii.{IsAscii-from_all}
 use Rattle.ifmap_meta.specs.ClientNames.{is_client_byte}
+use Rattle.ifmap_meta.specs.laws.ClientBytes.{client_is_ascii}
 use Rattle.ifmap_heads.specs.Posts.{is_client_name}
 use Rattle.ifmap_heads.proofs.posts.client_of.Goals as goal
-
-client_is_ascii : (b : ℕ) → is_client_byte b ≡ true → b < 128
-client_is_ascii b is = grind (arith, nat_tests)
 
 last_of_three : (a b c : Bool) → (a && b && c) ≡ true → c ≡ true
 last_of_three true true c e = e

@@ -1,5 +1,4 @@
 use Rattle.std.proofs.Common.{◌∙◌, sym}
-use Rattle.ifmap_forms.specs.ifmap_filter.Holding.{is_name}
 use Rattle.ifmap_ident.specs.declared.codes.Code.TheVariants.{Failure}
 use Rattle.ifmap_forms.specs.AnswerLaws.{refused_test}
 use Rattle.ifmap_forms.specs.Tables.{form_check}
@@ -7,6 +6,7 @@ use Rattle.ifmap_replies.specs.Results.{response_name}
 use Rattle.ifmap_replies.specs.ResultForms.{no_scopes, response_form, response_made}
 use Rattle.ifmap_replies.proofs.FormLaws.{checked_after}
 use Rattle.ifmap_replies.proofs.responses.read_response.Goals as goal
+use Rattle.ifmap_elem.specs.Building.{is_name}
 
 pub returns-then-not-is_response : goal.returns-then-not-is_response
 returns-then-not-is_response c =

@@ -1,5 +1,6 @@
-use Rattle.ifmap_requests.proofs.Done.{identifier_done, request_done}
+use Rattle.ifmap_requests.proofs.Done.{request_done}
 use Rattle.ifmap_forms.specs.SingleLaws.{identifier_single}
+use Rattle.ifmap_forms.specs.IdentifierLaws.{identifier_done}
 use Rattle.ifmap_requests.proofs.Single.{request_single}
 use Rattle.ifmap_requests.proofs.laws.elements_have_one_request_or_code.Goals as goal
 
