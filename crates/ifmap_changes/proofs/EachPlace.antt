@@ -1,31 +1,15 @@
--- Lists that are related at each place: what a map, a sum and a property of all make of them. Last, properties of what is not gone.
-use Rattle.std.proofs.Common.{◌≡◌, ℕ, suc, ◌≤◌, Bool, true, false, true≢false, Some, List, [], ◌∷◌, length, map, slice_get, refl, ap, ◌∙◌, sym, arith}
+-- Lists that are related at each place: what a sum and a property of all make of them. Last, properties of what is not gone.
+use Rattle.std.proofs.Common.{◌≡◌, ℕ, suc, Bool, true, false, true≢false, Some, List, [], ◌∷◌, length, slice_get, refl, ◌∙◌, sym, arith}
 use Rattle.std.proofs.lemmas.List.Sums.{sum_by-cons}
 use Rattle.std.proofs.lemmas.Option.{same_Some}
 use Rattle.std.specs.List.{AllByRecursion, sum_by}
 use Rattle.ifmap_lemmas.specs.Places.{something_at}
 use Rattle.ifmap_tellings.specs.ifmap_standing.declared.standing.Standing.{Standing}
 use Rattle.ifmap_tellings.specs.ifmap_standing.Kept.{AtEach}
+use Rattle.ifmap_tellings.specs.ifmap_standing.PlaceLaws.{at_each_rest}
 use Rattle.ifmap_tellings.specs.Tellings.{AllKept}
 
 module _ {X : Type 0} where
-  after_first : (R : ℕ → X → X → Type 0) (x y : X) (old new : List X) → AtEach R (x ∷ old) (y ∷ new)
-      → AtEach (λ i. R (suc i)) old new
-  after_first R x y old new r = record { long = omega (arith, r.long); at = λ i a b p q. r.at (suc i) a b p q }
-
-  pub weaker : (R S : ℕ → X → X → Type 0) → ((i : ℕ) (x y : X) → R i x y → S i x y) → (old new : List X) → AtEach R old new
-      → AtEach S old new
-  weaker R S f old new r = record { long = r.long; at = λ i x y p q. f i x y (r.at i x y p q) }
-
-  pub same_map : {Y : Type 0} (f : X → Y) (R : ℕ → X → X → Type 0) → ((i : ℕ) (x y : X) → R i x y → f y ≡ f x)
-      → (old new : List X) → AtEach R old new → map f new ≡ map f old
-  same_map f R s [] [] r = refl
-  same_map f R s [] (y ∷ new) r = absurd (omega (arith, r.long))
-  same_map f R s (x ∷ old) [] r = absurd (omega (arith, r.long))
-  same_map f R s (x ∷ old) (y ∷ new) r =
-      ap (λ z. z ∷ map f new) (s 0 x y (r.at 0 x y refl refl))
-      ∙ ap (λ zs. f x ∷ zs) (same_map f (λ i. R (suc i)) (λ i. s (suc i)) old new (after_first R x y old new r))
-
   pub same_sum : (f : X → ℕ) (R : ℕ → X → X → Type 0) → ((i : ℕ) (x y : X) → R i x y → f y ≡ f x) → (old new : List X)
       → AtEach R old new → sum_by f new ≡ sum_by f old
   same_sum f R s [] [] r = refl
@@ -37,7 +21,7 @@ module _ {X : Type 0} where
         sum_by-cons f x old,
         sum_by-cons f y new,
         s 0 x y (r.at 0 x y refl refl),
-        same_sum f (λ i. R (suc i)) (λ i. s (suc i)) old new (after_first R x y old new r),
+        same_sum f (λ i. R (suc i)) (λ i. s (suc i)) old new (at_each_rest R x y old new r),
       )
 
   pub same_all : (P Q : X → Type 0) (R : ℕ → X → X → Type 0) → ((i : ℕ) (x y : X) → R i x y → P x → Q y) → (old new : List X)
@@ -47,20 +31,8 @@ module _ {X : Type 0} where
   same_all P Q R f (x ∷ old) [] r h = absurd (omega (arith, r.long))
   same_all P Q R f (x ∷ old) (y ∷ new) r h = (
     f 0 x y (r.at 0 x y refl refl) h.0,
-    same_all P Q (λ i. R (suc i)) (λ i. f (suc i)) old new (after_first R x y old new r) h.1,
+    same_all P Q (λ i. R (suc i)) (λ i. f (suc i)) old new (at_each_rest R x y old new r) h.1,
   )
-
-  -- the part of a sum that each makes
-  pub within_sum : (f : X → ℕ) (xs : List X) → AllByRecursion (λ x. f x ≤ sum_by f xs) xs
-  within_sum f [] = tt
-  within_sum f (x ∷ xs) = (
-    omega (arith, sum_by-cons f x xs),
-    up f (sum_by f xs) (sum_by f (x ∷ xs)) (omega (arith, sum_by-cons f x xs)) xs (within_sum f xs),
-  )
-    where
-      up : (f : X → ℕ) (n m : ℕ) → n ≤ m → (ys : List X) → AllByRecursion (λ y. f y ≤ n) ys → AllByRecursion (λ y. f y ≤ m) ys
-      up f n m le [] h = tt
-      up f n m le (y ∷ ys) h = (omega (arith, h.0, le), up f n m le ys h.1)
 
 -- and of each that is not gone later
 pub less_kept : (P : Standing → Type 0) (gone more : List Bool) (standing : List Standing) → length gone ≡ length standing

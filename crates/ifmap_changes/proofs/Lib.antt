@@ -1,7 +1,6 @@
--- Lemmas, in reading order: clauses on results; lists place by place, and beside flags; numbers that are held, and steady graphs; what is
+-- Lemmas, in reading order: lists place by place, and beside flags; numbers that are held, and steady graphs; what is
 -- marked, settled and taken back; what is told of a change; one graph of what is stored, and what stays whole; where subscriptions start;
 -- a change that comes to be out, and is made or given up, and its steps; what is published and taken away.
-pub mod Results
 pub mod EachPlace
 pub mod Flags
 pub mod Numbers

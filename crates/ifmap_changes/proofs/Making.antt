@@ -6,6 +6,7 @@
 use Rattle.std.proofs.Common.{◌≡◌, ◌≢◌, ℕ, Option, List, [], ◌++◌, map, ap, ◌∙◌, sym, subst}
 use Rattle.std.proofs.lemmas.Option.{same_Some}
 use Rattle.ifmap_lemmas.specs.Filters.{all_weaker}
+use Rattle.ifmap_lemmas.specs.Flags.{kept_later}
 use Rattle.ifmap_lemmas.specs.Members.{map_of_all}
 use Rattle.ifmap_tellings.specs.ifmap_delta.Sights.{IsUpToDate, SameLinks}
 use Rattle.ifmap_tellings.specs.ifmap_delta.Ways.{HasSameSearch}
@@ -33,7 +34,6 @@ use Rattle.ifmap_changes.specs.declared.parts.Parts.{Parts}
 use Rattle.ifmap_changes.specs.Between.{AreKept, AreOrdered, AreTurnedWith, AreWithinLimits, Asking, CanEnd, HasNoSubscriptions, IsSoundSoFar, IsSteady, IsWithinLimit, sessions_left, sight_now, so_far, starts_of}
 use Rattle.ifmap_changes.specs.Changes.{CanTakeBack, IsTold, sight_next, with_next}
 use Rattle.ifmap_changes.proofs.Begun.{IsOutAndTold, ready_begun, same_so_far, shared}
-use Rattle.ifmap_changes.proofs.Flags.{kept_later}
 use Rattle.ifmap_changes.proofs.Starts.{numbered_beside, numbered_more, own_beside}
 use Rattle.ifmap_changes.proofs.OneGraph.{one_graph}
 use Rattle.ifmap_changes.proofs.Settling.{same_ordered}

@@ -13,7 +13,7 @@ use Rattle.ifmap_changes.specs.Between.{AreBack, AreOrdered, AreParts, AreWithin
 use Rattle.ifmap_changes.specs.Changes.{CanTakeBack}
 use Rattle.ifmap_changes.specs.declared.changes.Made.{Made}
 use Rattle.ifmap_changes.specs.declared.parts.Parts.{Parts}
-use Rattle.ifmap_changes.proofs.EachPlace.{same_all, same_map, weaker}
+use Rattle.ifmap_changes.proofs.EachPlace.{same_all}
 use Rattle.ifmap_changes.proofs.Steady.{HaveSameSearches, steady_after}
 use Rattle.ifmap_tellings.specs.ifmap_delta.Sights.{IsUpToDate, ViewSeen, SameLinks}
 use Rattle.ifmap_tellings.specs.ifmap_delta.Ways.{HasSameSearch}
@@ -35,7 +35,7 @@ use Rattle.ifmap_tellings.specs.ifmap_standing.Ways.{IsWayGivenUp, LeadsBackWher
 use Rattle.ifmap_tellings.specs.declared.tellings.Pending.{Pending}
 use Rattle.ifmap_tellings.specs.Tellings.{AllKept, CanTell, EachTelling, HasSameSessions, IsSized, kept_of, told_by}
 use Rattle.ifmap_graph.specs.ifmap_view.declared.attachments.Attachment.{Attachment}
-use Rattle.ifmap_tellings.specs.ifmap_standing.PlaceLaws.{leads_search}
+use Rattle.ifmap_tellings.specs.ifmap_standing.PlaceLaws.{at_each_map, at_each_weaker, leads_search}
 use Rattle.ifmap_tellings.specs.ToldLaws.{same_kept}
 use Rattle.ifmap_graph.specs.NumberLaws.{numbers_shared}
 use Rattle.ifmap_ident.specs.SameLaws.{BytesTellIdentifiers}
@@ -68,7 +68,7 @@ stand_weaker R S f x y s =
 
 pub settled_searches : (ways : List (Option Way)) (old new : List Standing) → AreSettled ways old new → HaveSameSearches old new
 settled_searches ways old new s =
-    weaker (λ i. StaysRelated (IsWayGivenUp (slice_get ways i))) (λ _. StaysRelated HasSameSearch)
+    at_each_weaker (λ i. StaysRelated (IsWayGivenUp (slice_get ways i))) (λ _. StaysRelated HasSameSearch)
     (λ i x y t. stand_weaker (IsWayGivenUp (slice_get ways i)) HasSameSearch (settled_search (slice_get ways i)) x y t) old new s
 
 same_searches : (before old new : List Standing) → HaveSameSearches before old → HaveSameSearches before new → HaveSameSearches old new
@@ -106,7 +106,7 @@ kept_settled links settled old new was is rows same fewer ways gone xs ys number
 
 pub same_shown : (old new : List Standing) → HaveSameSearches old new → map standing_of new ≡ map standing_of old
 same_shown old new s =
-    same_map standing_of (λ _. StaysRelated HasSameSearch)
+    at_each_map standing_of (λ _. StaysRelated HasSameSearch)
     (λ i x y t k. record { serial = t.serial k; name = t.name k; search = t.subscription.search k }) old new s
 
 pub same_ordered : (live : List Session) (old new : List Standing) → HaveSameSearches old new → AreOrdered live old → AreOrdered live new
@@ -171,11 +171,11 @@ are_back tells made before old new seen s parts can still rows links fewer own l
     let ways = made.ways in
     let xs = before.standing.items in
     let led : HaveSameSearches xs old.standing.items =
-    weaker (λ i. StaysRelated (LeadsBackWhere (slice_get ways i))) (λ _. StaysRelated HasSameSearch)
+    at_each_weaker (λ i. StaysRelated (LeadsBackWhere (slice_get ways i))) (λ _. StaysRelated HasSameSearch)
     (λ i x y t. stand_weaker (LeadsBackWhere (slice_get ways i)) HasSameSearch (leads_search (slice_get ways i)) x y t)
     xs old.standing.items can.standing.each in
     let back : HaveSameSearches xs new.standing.items =
-    weaker (λ _. StaysRelated KeepsSame) (λ _. StaysRelated HasSameSearch)
+    at_each_weaker (λ _. StaysRelated KeepsSame) (λ _. StaysRelated HasSameSearch)
     (λ i x y t. stand_weaker KeepsSame HasSameSearch (λ a b k. k.search) x y t) xs new.standing.items standing in
     record {
       steady = steady_after tells old.graph new.graph seen still (subst AreWhole (sym rows) parts.steady.whole) fewer own
@@ -196,7 +196,7 @@ sound_back links same old new was is sound back =
     let xs = old.standing.items in
     let ys = new.standing.items in
     let searches : HaveSameSearches xs ys =
-    weaker (λ _. StaysRelated KeepsSame) (λ _. StaysRelated HasSameSearch)
+    at_each_weaker (λ _. StaysRelated KeepsSame) (λ _. StaysRelated HasSameSearch)
     (λ i x y t. stand_weaker KeepsSame HasSameSearch (λ a b k. k.search) x y t) xs ys back.standing in
     record {
       steady = back.steady;

@@ -2,7 +2,7 @@
 use Rattle.std.proofs.Common.{◌≡◌, ◌+◌, ◌≤◌, Some, List, [], ◌∷◌, ◌++◌, append-nil, ap, ◌∙◌, sym, subst, arith}
 use Rattle.std.specs.List.{AllByRecursion}
 use Rattle.ifmap_changes.specs.Between.{HasStartNumber, IsSeen, IsSteady, starts_of}
-use Rattle.ifmap_changes.proofs.EachPlace.{same_all, same_sum, within_sum}
+use Rattle.ifmap_changes.proofs.EachPlace.{same_all, same_sum}
 use Rattle.ifmap_changes.proofs.Numbers.{number_stays}
 use Rattle.ifmap_tellings.specs.ifmap_delta.Ways.{HasSameSearch}
 use Rattle.ifmap_graph.specs.Held.{Held, IsOwn}
@@ -10,6 +10,7 @@ use Rattle.ifmap_graph.specs.Seen.{BringsNoNumbers, IsStill, KeepsOwn, rows_now}
 use Rattle.ifmap_ident.specs.declared.identifiers.Identifier.{Identifier}
 use Rattle.ifmap_ident.specs.Identifiers.{identifier_order}
 use Rattle.ifmap_lemmas.specs.Members.{all_both, both_all}
+use Rattle.ifmap_lemmas.specs.Sums.{each_within_sum}
 use Rattle.ifmap_graph.specs.ifmap_plans.Plans.{AreWhole}
 use Rattle.ifmap_graph.specs.ifmap_pool.Holdings.{key_at, once}
 use Rattle.ifmap_tellings.specs.ifmap_standing.declared.standing.Standing.{Standing}
@@ -30,7 +31,7 @@ same_starts a old new s =
 -- each that has the number of its start has it still
 pub numbered_still : BytesTellIdentifiers → (old new : Held) → IsSeen old → BringsNoNumbers old new → (all : List Standing)
     → AllByRecursion (HasStartNumber old) all → ((a : Identifier) → IsOwn new a (starts_of a all)) → AllByRecursion (HasStartNumber new) all
-numbered_still tells old new seen fewer all numbered own = each all numbered (λ a. within_sum (starts_at a) all)
+numbered_still tells old new seen fewer all numbered own = each all numbered (λ a. each_within_sum (starts_at a) all)
   where
     each : (xs : List Standing) → AllByRecursion (HasStartNumber old) xs
         → ((a : Identifier) → AllByRecursion (λ x. starts_at a x ≤ starts_of a all) xs) → AllByRecursion (HasStartNumber new) xs

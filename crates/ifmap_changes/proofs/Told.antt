@@ -3,6 +3,7 @@
 -- nothing (`within_all`). Then, of subscriptions that were told (`HasNews`): what is queued for a session (`queued`), which stand
 -- (`stand`), what the sessions have to tell (`tell_each`), whose queue is overrun (`overrun_one`), and all of it together (`is_told`).
 use Rattle.std.proofs.Common.{◌≡◌, ◌≢◌, inl, inr, ℕ, ◌≤◌, ◌==◌, nat_lt, Bool, true, false, not, ◌||◌, ◌&&◌, Option, Some, None, List, [], ◌∷◌, length, map, flat_map, slice_get, refl, ap, ◌∙◌, sym, subst, arith}
+use Rattle.ifmap_tellings.specs.KeptPlaces.{kept_all}
 use Rattle.std.proofs.lemmas.Bool.{cases_Bool, eqb-true}
 use Rattle.std.proofs.lemmas.Bool.Decides.{nat_tests}
 use Rattle.std.proofs.lemmas.List.{length-map}
@@ -11,8 +12,11 @@ use Rattle.std.specs.BTreeMap.{get}
 use Rattle.std.specs.List.{AllByRecursion, filter, list_any, zip}
 use Rattle.std.specs.Option.{IsSome}
 use Rattle.std.specs.Ordering.{nat_cmp}
+use Rattle.ifmap_lemmas.specs.AnyOf.{any_alike, any_of_both, any_of_map}
 use Rattle.ifmap_lemmas.specs.Filters.{all_filter, all_weaker, filter_alike, map_filter}
+use Rattle.ifmap_lemmas.specs.Flags.{kept_later, marks_stay}
 use Rattle.ifmap_lemmas.specs.Having.{Has, filter_has, has_filter, has_map, all_has, has_all}
+use Rattle.ifmap_lemmas.specs.Mapped.{alike_maps, map_twice, mapped_long, maps_alike, some_joined, zip_mapped}
 use Rattle.ifmap_lemmas.specs.Members.{map_of_all}
 use Rattle.ifmap_tellings.specs.ifmap_delta.Sights.{IsUpToDate}
 use Rattle.ifmap_tellings.specs.ifmap_delta.Ways.{HasSameSearch}
@@ -34,7 +38,7 @@ use Rattle.ifmap_changes.specs.declared.parts.Parts.{Parts}
 use Rattle.ifmap_changes.specs.Between.{Asking, IsSoundSoFar, IsWithinLimit, sessions_left}
 use Rattle.ifmap_changes.specs.Changes.{IsTold, sight_next}
 use Rattle.ifmap_changes.proofs.Settling.{same_ordered, same_shown}
-use Rattle.ifmap_changes.proofs.Flags.{alike_maps, any_alike, any_both, any_mapped, kept_all, kept_later, kept_made, kept_marked, map_twice, mapped_long, maps_alike, marks_stay, queued_made, skip_made, some_of, zip_mapped}
+use Rattle.ifmap_changes.proofs.Flags.{kept_made, kept_marked, queued_made, skip_made}
 use Rattle.ifmap_tellings.specs.ifmap_session.laws.TableLaws.{left_live}
 use Rattle.ifmap_tellings.specs.ToldLaws.{told_serial, map_kept}
 
@@ -271,8 +275,8 @@ module _ {a : Asking} {old : Parts} {before : Pending} {notes : List Note} {stan
         in let each : AllByRecursion (λ (s : Session). ((told_one s).serial == n) ≡ true → is_overfull (told_one s) ≡ alone n) lives
         = has_all _ lives (λ s here hit. overfull_is n (not_alone y there) s here
         (ap (λ m. m == n) (sym (told_serial (get nat_cmp before.tellings s.serial) s)) ∙ hit))
-        in sym (any_mapped told_one (λ (t : Session). t.serial == n && is_overfull t) lives
-        ∙ any_both (λ s. (told_one s).serial == n) (λ s. is_overfull (told_one s)) (alone n) lives each some)
+        in sym (any_of_map told_one (λ (t : Session). t.serial == n && is_overfull t) lives
+        ∙ any_of_both (λ s. (told_one s).serial == n) (λ s. is_overfull (told_one s)) (alone n) lives each some)
 
     which_stand : map standing_of (kept_of after.gone.items stand_now)
         ≡ filter (λ y. not (is_overrun (map told_one lives) y)) (filter (λ y. not (is_too_big next y.search)) those)
@@ -302,7 +306,7 @@ module _ {a : Asking} {old : Parts} {before : Pending} {notes : List Note} {stan
         by (Some u) was = (known.ready.can_tell n u was).live
         by None was =
             let some = brought n (subst IsSome (sym is) refl) was
-            in let one = some_of (told_to rows next notes) (λ (y : machine.Standing). y.serial == n) those (λ e. some (queued n ∙ e))
+            in let one = some_joined (told_to rows next notes) (λ (y : machine.Standing). y.serial == n) those (λ e. some (queued n ∙ e))
             in subst (λ m. IsLive m lives) (eqb-true one.0.serial n one.2)
             (all_has (λ (z : machine.Standing). IsLive z.serial lives) those live_those one.0 one.1)
 

@@ -5,8 +5,8 @@
 -- 4. What is known where a session is told alone is `IsToldAlone`; the state so far is then that of
 --    the definition (`alone_so_far`).
 -- 5. And all that was ready is ready still (`alone_ready`).
-use Rattle.std.proofs.Common.{◌≡◌, ◌≢◌, refl, sym, ◌∙◌, ap, subst, ℕ, ◌≤◌, ◌==◌, true, false, cond, List, [], ◌∷◌, length, map, Option, Some, None, inl, inr, arith}
-use Rattle.std.proofs.lemmas.Bool.{cases_Bool, eq-eqb, eqb-true}
+use Rattle.std.proofs.Common.{◌≡◌, ◌≢◌, refl, sym, ◌∙◌, ap, subst, ℕ, ◌≤◌, ◌==◌, true, cond, List, [], ◌∷◌, length, map, Option, Some, None, inl, inr, arith}
+use Rattle.std.proofs.lemmas.Bool.{cases_Bool, eqb-false, eqb-true}
 use Rattle.std.proofs.lemmas.Bool.Decides.{nat_tests}
 use Rattle.std.proofs.lemmas.List.Sums.{sum_by-cons}
 use Rattle.std.proofs.lemmas.Option.{same_Some}
@@ -49,9 +49,6 @@ alone_where size None s = refl
 alone_where size (Some (After items n)) s = refl
 alone_where size (Some (Alone error)) s = refl
 
-other_number : (m n : ℕ) → (m == n) ≡ false → m ≢ n
-other_number m n miss e = let hit : (m == n) ≡ true = eq-eqb m n e in let bad : true ≡ false = sym hit ∙ miss in cc
-
 module _ (n size : ℕ) (before after : Tellings) (live : List Session)
     (told : (s : Session) → session_with_serial n live ≡ Some s → get nat_cmp after n ≡ Some (Alone (error_of size s.limit)))
     (others : (m : ℕ) → m ≢ n → get nat_cmp after m ≡ get nat_cmp before m) where
@@ -77,7 +74,7 @@ module _ (n size : ℕ) (before after : Tellings) (live : List Session)
             (told_by before x) ∷ ts) (told_each s found xs one.1)
         | inr miss ↦
             let there : told_by after x ≡ told_by before x =
-            ap (λ (o : Option Telling). told_where o x) (others x.serial (other_number x.serial n miss)) in
+            ap (λ (o : Option Telling). told_where o x) (others x.serial (eqb-false x.serial n miss)) in
             let here : cond ((told_by before x).serial == n) (with_error (error_of size (told_by before x).limit) (told_by before x))
             (told_by before x)
             ≡ told_by before x =
@@ -176,7 +173,7 @@ module _ {a : Asking} {old new : Parts} {before after : Pending} {n size : ℕ} 
                   room = room;
                 }))
             | inr miss ↦
-                let was = r.can_tell m t (sym (h.others m (other_number m n miss)) ∙ e) in
+                let was = r.can_tell m t (sym (h.others m (eqb-false m n miss)) ∙ e) in
                 record {
                   live = subst (λ (l : List Session). IsLive m (without_sessions a.ended l)) (sym h.sessions.live) was.live;
                   room = omega (arith, was.room, h.sessions.spare m);
@@ -191,7 +188,7 @@ module _ {a : Asking} {old new : Parts} {before after : Pending} {n size : ℕ} 
                 let is : Alone (error_of size there.0.limit) ≡ t =
                 same_Some _ t (sym (h.told there.0 there.1) ∙ ap (get nat_cmp after.tellings) (sym here) ∙ e) in
                 subst (λ (u : Telling). IsSized m u new.sessions.live) is (limit_note size there.0.limit, refl)
-            | inr miss ↦ rw (h.sessions.live) (r.sized m t (sym (h.others m (other_number m n miss)) ∙ e))
+            | inr miss ↦ rw (h.sessions.live) (r.sized m t (sym (h.others m (eqb-false m n miss)) ∙ e))
           ]
 
       alone_each : IsSoundSoFar a old before → length after.gone.items ≡ length before.gone.items → Rises before.gone.items after.gone.items
@@ -204,5 +201,5 @@ module _ {a : Asking} {old new : Parts} {before after : Pending} {n size : ℕ} 
                 (sym (eqb-true m n hit)) bare
             | inr miss ↦
                 kept_fewer (λ (x : Standing). x.serial ≢ m) before.gone.items after.gone.items old.standing.items long more
-                (r.alone m (ap is_alone (sym (h.others m (other_number m n miss))) ∙ e))
+                (r.alone m (ap is_alone (sym (h.others m (eqb-false m n miss))) ∙ e))
           ]

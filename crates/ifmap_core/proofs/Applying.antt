@@ -148,9 +148,6 @@ poll_told state again n s up found items is =
 
 -- ---- sessions end one after the other
 
-drop_next : (xs : List ℕ) (i : ℕ) → i < length xs → drop i xs ≡ get_or xs i 0 ∷ drop (i + 1) xs
-drop_next xs i lt = drop_more xs i 0 lt
-
 pub record EndsSoFar (ended : List ℕ) (old new : List Session) (i : ℕ) : Type 0 where
   pub can : CanEnd (drop i ended) new
   pub rest : without_sessions (drop i ended) new ≡ without_sessions ended old
@@ -159,7 +156,7 @@ pub one_ended : (ended : List ℕ) (old mid new : List Session) (i : ℕ) → i 
     → new ≡ without_sessions (get_or ended i 0 ∷ []) mid → EndsSoFar ended old new (i + 1)
 one_ended ended old mid new i lt so e =
     let x : ℕ = get_or ended i 0 in
-    let next = drop_next ended i lt in
+    let next = drop_more ended i 0 lt in
     let can : CanEnd (x ∷ drop (i + 1) ended) mid = subst (λ ns. CanEnd ns mid) next so.can in
     let rest : without_sessions (x ∷ drop (i + 1) ended) mid ≡ without_sessions ended old =
     subst (λ ns. without_sessions ns mid ≡ without_sessions ended old) next so.rest in
@@ -168,7 +165,7 @@ one_ended ended old mid new i lt so e =
 pub one_can_end : (ended : List ℕ) (old mid : List Session) (i : ℕ) → i < length ended → EndsSoFar ended old mid i
     → IsLive (get_or ended i 0) mid
 one_can_end ended old mid i lt so =
-    let can : CanEnd (get_or ended i 0 ∷ drop (i + 1) ended) mid = subst (λ ns. CanEnd ns mid) (drop_next ended i lt) so.can in can.0
+    let can : CanEnd (get_or ended i 0 ∷ drop (i + 1) ended) mid = subst (λ ns. CanEnd ns mid) (drop_more ended i 0 lt) so.can in can.0
 
 pub ended_all : (ended : List ℕ) (old new : List Session) (i : ℕ) → length ended ≤ i → EndsSoFar ended old new i
     → new ≡ without_sessions ended old
@@ -219,9 +216,6 @@ live_begun m live s l =
     let there = some_is (session_with_serial m live) l in
     is_some_of (session_with_serial m (live ++ s ∷ [])) there.0 (found_beside_begun m live s there.0 there.1)
 
-other_serial : (m n : ℕ) → m ≢ n → (m == n) ≡ false
-other_serial m n e = is_other m n e
-
 -- with sessions of which none is missing that subscriptions are of
 pub ordered_by : (old new : List Session) (standing : List Standing) → AreOrdered old standing
     → AllByRecursion (λ (x : Standing). IsLive x.serial new) standing → AreOrdered new standing
@@ -239,7 +233,7 @@ pub ordered_beside : (n : ℕ) (live : List Session) (standing : List Standing) 
 ordered_beside n live standing bare o =
     ordered_by live (without_sessions (n ∷ []) live) standing o (all_two (λ (x : Standing). x.serial ≢ n)
     (λ (x : Standing). IsLive x.serial live) (λ (x : Standing). IsLive x.serial (without_sessions (n ∷ []) live))
-    (λ x other l. live_beside n x.serial live (other_serial x.serial n other) l) standing bare o.live)
+    (λ x other l. live_beside n x.serial live (is_other x.serial n other) l) standing bare o.live)
 
 -- whose subscriptions are those that stand
 pub bare_stays : (n : ℕ) (standing : List Standing) → AllByRecursion (λ (x : Standing). x.serial ≢ n) standing

@@ -1,22 +1,23 @@
 -- Sessions of which some have expired: what is found among those left, and how they end in turn.
--- 1. What a search finds among those that a filter leaves (`found_left`, `none_left`).
--- 2. Where the session of an id, or of a client, goes, there is no other (`id_lost`,
+-- 1. Where the session of an id, or of a client, goes, there is no other (`id_lost`,
 --    `client_lost`).
--- 3. Sessions end one after the other: each is live when its turn comes (`can_end`), and together
+-- 2. Sessions end one after the other: each is live when its turn comes (`can_end`), and together
 --    they leave what all of them leave at once (`without_each`).
--- 4. How many sessions are left (`left_length`).
--- 5. So those can end that are expired (`expired_end`).
-use Rattle.std.proofs.Common.{◌≡◌, refl, sym, ◌∙◌, ap, subst, ℕ, ◌+◌, ◌≤◌, ◌==◌, Bool, true, false, not, List, [], ◌∷◌, length, map, nat_eq, None, Some, inl, inr, arith}
+-- 3. How many sessions are left (`left_length`).
+-- 4. So those can end that are expired (`expired_end`).
+use Rattle.std.proofs.Common.{◌≡◌, refl, sym, ap, subst, ℕ, ◌+◌, ◌≤◌, ◌==◌, Bool, true, false, not, List, [], ◌∷◌, length, map, nat_eq, None, Some, inl, inr, arith}
 use Rattle.std.proofs.lemmas.Bool.{cases_Bool, eq-eqb}
 use Rattle.std.proofs.lemmas.Bool.Decides.{nat_tests}
 use Rattle.std.proofs.lemmas.List.Kept.{IsStrictlySortedBy-filter}
-use Rattle.std.specs.List.{AllByRecursion, IsDistinct, filter, find, list_any}
+use Rattle.std.specs.List.{AllByRecursion, IsDistinct, filter, list_any}
 use Rattle.std.specs.List.Sorted.{IsStrictlySortedBy}
 use Rattle.std.specs.declared.cmp.Ordering.TheVariants.{Less}
 use Rattle.ifmap_subscribes.specs.ifmap_changes.Between.{CanEnd}
 use Rattle.ifmap_lemmas.specs.Filters.{all_filter, all_weaker}
+use Rattle.ifmap_lemmas.specs.Finding.{found_passes}
 use Rattle.ifmap_lemmas.specs.Members.{map_of_all, all_two}
 use Rattle.ifmap_lemmas.specs.Options.{is_some_of, some_is}
+use Rattle.ifmap_lemmas.specs.Parted.{lost_in_rest}
 use Rattle.ifmap_session.specs.SessionIds.{BeginsWithSerial}
 use Rattle.ifmap_session.specs.Sessions.{IsLive, IsTable, Session, SessionTable, expired_serials, is_expired, is_same_text, session_of_client, session_order, session_with_id, session_with_serial, without_sessions}
 use Rattle.ifmap_session.specs.laws.TableLaws.{found_beside_ended, is_left}
@@ -24,43 +25,6 @@ use Rattle.ifmap_session.specs.laws.TextLaws.{all_found, find_none, rest_differ,
 use Rattle.ifmap_session.specs.laws.IdLaws.{ids_tell}
 
 -- ---- what a search finds among those that a filter leaves
-
-module _ {X : Type 0} (q p : X → Bool) where
-  pub found_left : (xs : List X) (x : X) → find q xs ≡ Some x → p x ≡ true → find q (filter p xs) ≡ Some x
-  found_left [] x e stays = cc
-  found_left (y ∷ ys) x e stays =
-      elim (cases_Bool (q y)) [
-        | inl hit ↦
-            let same : y ≡ x = cc (rw hit at e) in
-            let keeps : p y ≡ true = subst (λ z. p z ≡ true) (sym same) stays in
-            rw (keeps, hit) (ap Some same)
-        | inr miss ↦
-            let rest = found_left ys x (rw miss at e) stays in
-            elim (cases_Bool (p y)) [ inl keeps ↦ rw (keeps, miss) rest | inr goes ↦ rw goes rest ]
-      ]
-
-  pub none_left : (xs : List X) → find q xs ≡ None → find q (filter p xs) ≡ None
-  none_left [] e = refl
-  none_left (y ∷ ys) e =
-      elim (cases_Bool (q y)) [
-        | inl hit ↦ let bad : Some y ≡ None = rw hit at e in cc
-        | inr miss ↦
-            let rest = none_left ys (rw miss at e) in
-            elim (cases_Bool (p y)) [ inl keeps ↦ rw (keeps, miss) rest | inr goes ↦ rw goes rest ]
-      ]
-
-  lost_left : (xs : List X) → AllByRecursion (λ y. q y ≡ true → p y ≡ false) xs → find q (filter p xs) ≡ None
-  lost_left [] h = refl
-  lost_left (y ∷ ys) h =
-      let rest = lost_left ys h.1 in
-      elim (cases_Bool (p y)) [
-        | inl keeps ↦
-            elim (cases_Bool (q y)) [
-              | inl hit ↦ let bad : p y ≡ false = h.0 hit in let worse : true ≡ false = sym keeps ∙ bad in cc
-              | inr miss ↦ rw (keeps, miss) rest
-            ]
-        | inr goes ↦ rw goes rest
-      ]
 
 -- no other session has the id of one that goes
 pub id_lost : (table : SessionTable) (serials : List ℕ) (id : List ℕ) (s : Session) → IsTable table → session_with_id id table.live ≡ Some s
@@ -76,18 +40,10 @@ id_lost table serials id s h e goes =
     ids_tell t.serial s.serial id (omega (arith, below, h.small)) (omega (arith, low, h.small))
     (subst (BeginsWithSerial t.serial) (text_is t.id id is) begins) (subst (BeginsWithSerial s.serial) (text_is s.id id own) mine) in
     subst (λ n. not (list_any (λ m. m == n) serials) ≡ false) (sym same) goes in
-    lost_left q (is_left serials) table.live (all_two (λ (t : Session). BeginsWithSerial t.serial t.id)
+    lost_in_rest q (is_left serials) table.live (all_two (λ (t : Session). BeginsWithSerial t.serial t.id)
     (λ (t : Session). t.serial ≤ table.counter) (λ (t : Session). is_same_text t.id id ≡ true → is_left serials t ≡ false) one table.live
     h.ids
     h.counted)
-  where
-    found_passes : (q : Session → Bool) (xs : List Session) (x : Session) → find q xs ≡ Some x → q x ≡ true
-    found_passes q [] x e = cc
-    found_passes q (y ∷ ys) x e =
-        elim (cases_Bool (q y)) [
-          | inl hit ↦ let same : y ≡ x = cc (rw hit at e) in subst (λ z. q z ≡ true) same hit
-          | inr miss ↦ found_passes q ys x (rw miss at e)
-        ]
 
 -- no other session is of the client of one that goes
 pub client_lost : (p : Session → Bool) (live : List Session) (client : List ℕ) (s : Session)

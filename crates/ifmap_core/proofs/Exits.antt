@@ -1,7 +1,7 @@
 -- Clauses on results, at the exits of functions.
 use Rattle.std.proofs.Common.{Result, Ok, Err}
 use Rattle.std.proofs.lemmas.Bool.{false≢true}
-use Rattle.std.specs.Result.{IsErr, OnOk}
+use Rattle.std.specs.Result.{IsErr}
 use Rattle.ifmap_subscribes.specs.ifmap_changes.Between.{AreBack, AreKept, AreTurned, IsSteady}
 use Rattle.ifmap_subscribes.specs.ifmap_changes.declared.parts.Parts.{Parts}
 use Rattle.ifmap_subscribes.specs.ifmap_changes.KeptLaws.{stays_kept}
@@ -9,20 +9,17 @@ use Rattle.ifmap_core.proofs.Turned.{stays_turned}
 use Rattle.ifmap_core.specs.Answering.{TurnsOrKeeps}
 use Rattle.ifmap_core.specs.declared.ending.Time.{Time}
 use Rattle.ifmap_core.specs.Ending.{AnswersEvent}
+use Rattle.ifmap_lemmas.specs.Outcomes.{on_ok}
 use Rattle.ifmap_lemmas.specs.Results.{on_err}
 use Rattle.ifmap_subscribes.specs.ifmap_machine.declared.events.Answer.{Answer}
 use Rattle.ifmap_subscribes.specs.ifmap_machine.Events.{Event}
 use Rattle.ifmap_subscribes.specs.ifmap_machine.State.{State}
 
 module _ {X E : Type 0} where
-  always_ok : (r : Result X E) (P : Type 0) → P → OnOk r P
-  always_ok (Ok x) P p = p
-  always_ok (Err e) P p = tt
-
   -- parts that stay, whatever the result
   pub stays_turns : (r : Result X E) (parts : Parts) → IsSteady parts.graph parts.standing.items → TurnsOrKeeps r parts parts
   stays_turns r parts steady = record {
-    turned = always_ok r (AreTurned parts parts) (stays_turned parts);
+    turned = on_ok r (AreTurned parts parts) (stays_turned parts);
     kept = on_err r (AreKept parts parts) (stays_kept parts steady);
   }
 

@@ -3,6 +3,7 @@
 -- can once a change stays as it is (`can_settled`), and a change can stay or be taken back after more (`can_settle_later`, `can_back`).
 -- Last, an event that is done at once (`done_leads`).
 use Rattle.std.proofs.Common.{◌≡◌, ◌≢◌, refl, sym, ◌∙◌, ap, subst, ℕ, ◌≤◌, ◌==◌, Bool, true, false, not, List, [], ◌∷◌, ◌++◌, length, map, append-nil, Option, Some, None, inl, inr, arith}
+use Rattle.ifmap_subscribes.specs.ifmap_tellings.KeptPlaces.{all_kept, none_gone}
 use Rattle.std.proofs.lemmas.Bool.{cases_Bool}
 use Rattle.std.proofs.lemmas.List.Kept.{IsStrictlySortedBy-filter}
 use Rattle.std.proofs.lemmas.Option.{none-some}
@@ -20,8 +21,7 @@ use Rattle.ifmap_subscribes.specs.ifmap_changes.declared.parts.Parts.{Parts}
 use Rattle.ifmap_core.specs.Completions.{CanApply, CanRename, IsStepCompletion, WouldBeParts, after_completion, held_by}
 use Rattle.ifmap_core.specs.declared.completions.Completion.{Completion}
 use Rattle.ifmap_core.specs.declared.completions.Completion.TheVariants.{Say, Accept, End, Open, Rename, Poll}
-use Rattle.ifmap_core.proofs.Ended.{found_left}
-use Rattle.ifmap_core.proofs.Places.{all_are_kept, kept_both, kept_of_all, none_gone}
+use Rattle.ifmap_core.proofs.Places.{all_are_kept, kept_both}
 use Rattle.ifmap_core.proofs.Told.{none_told}
 use Rattle.ifmap_core.proofs.Turned.{all_there, shares_later}
 use Rattle.ifmap_subscribes.specs.ifmap_delta.Sights.{IsUpToDate}
@@ -31,6 +31,7 @@ use Rattle.ifmap_subscribes.specs.ifmap_graph.Seen.{KeepsNumbers, links_now, row
 use Rattle.ifmap_lemmas.specs.Filters.{all_filter}
 use Rattle.ifmap_lemmas.specs.Members.{all_both, all_of_map, map_of_all}
 use Rattle.ifmap_lemmas.specs.Options.{is_some_of, some_is}
+use Rattle.ifmap_lemmas.specs.Parted.{found_in_rest}
 use Rattle.ifmap_subscribes.specs.ifmap_machine.Ending.{drop_sessions, end_sessions, end_some, expire, without_standing}
 use Rattle.ifmap_subscribes.specs.ifmap_machine.declared.events.Answer.{Answer}
 use Rattle.ifmap_subscribes.specs.ifmap_machine.declared.events.Ask.{Ask}
@@ -64,7 +65,7 @@ module _ (a : Asking) (parts : Parts) (pending : Pending) (sound : AreParts part
   -- what is not gone is of a session that stays
   stay : AllKept (λ (x : Standing). list_any (λ n. n == x.serial) a.ended ≡ false) pending.gone.items parts.standing.items
   stay =
-      kept_of_all (λ (x : Standing). list_any (λ n. n == x.serial) a.ended ≡ false) pending.gone.items parts.standing.items
+      all_kept (λ (x : Standing). list_any (λ n. n == x.serial) a.ended ≡ false) pending.gone.items parts.standing.items
       (all_of_map (λ (m : machine.Standing). list_any (λ n. n == m.serial) a.ended ≡ false) standing_of
       (kept_of pending.gone.items parts.standing.items)
       (subst (AllByRecursion (λ (m : machine.Standing). list_any (λ n. n == m.serial) a.ended ≡ false)) (sym gone)
@@ -84,7 +85,7 @@ module _ (a : Asking) (parts : Parts) (pending : Pending) (sound : AreParts part
       let s = some_is (session_with_serial x.serial parts.sessions.live) l in
       let same : s.0.serial ≡ x.serial = found_serial x.serial parts.sessions.live s.0 s.1 in
       is_some_of (session_with_serial x.serial (sessions_left a parts.sessions)) s.0
-      (found_left (λ (t : Session). t.serial == x.serial) (is_left a.ended) parts.sessions.live s.0 s.1
+      (found_in_rest (λ (t : Session). t.serial == x.serial) (is_left a.ended) parts.sessions.live s.0 s.1
       (subst (λ (n : ℕ). not (list_any (λ m. m == n) a.ended) ≡ true) (sym same) (ap not stays)))
 
   pub begins_ready : length pending.gone.items ≡ length parts.standing.items → IsSoundSoFar a parts pending

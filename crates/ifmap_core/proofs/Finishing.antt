@@ -6,6 +6,7 @@
 --    included.
 -- 5. The state they are in and the answer are those of the definition (`finished`).
 use Rattle.std.proofs.Common.{◌≡◌, ◌≢◌, refl, sym, ◌∙◌, ap, subst, ℕ, ◌+◌, ◌<◌, ◌≤◌, ◌==◌, List, [], ◌∷◌, ◌++◌, length, map, Option, None, Some, arith}
+use Rattle.ifmap_subscribes.specs.ifmap_tellings.KeptPlaces.{fewer_kept, kept_all, rising_kept}
 use Rattle.std.proofs.lemmas.List.{length-map}
 use Rattle.std.specs.BTreeMap.{get}
 use Rattle.std.specs.List.{AllByRecursion}
@@ -18,7 +19,6 @@ use Rattle.ifmap_subscribes.specs.ifmap_changes.declared.parts.Parts.{Parts}
 use Rattle.ifmap_core.specs.Completions.{CanApply, CanApplyTo, CanOpen, CanRename, FitsAfter, WouldBeParts, after_former, after_completion, held_by}
 use Rattle.ifmap_core.specs.declared.completions.Completion.{Completion}
 use Rattle.ifmap_core.specs.declared.completions.Completion.TheVariants.{Say, Accept, End, Open, Rename, Poll}
-use Rattle.ifmap_core.proofs.Keeping.{all_kept, kept_fewer, kept_rising}
 use Rattle.ifmap_core.proofs.Taking.{map_after}
 use Rattle.ifmap_core.proofs.Told.{none_mapped, told_by_leaves}
 use Rattle.ifmap_subscribes.specs.ifmap_delta.Sights.{IsUpToDate}
@@ -87,17 +87,17 @@ module _ (a : Asking) (old new : Parts) (pending : Pending) (ready : IsSoundSoFa
   rising_now : IsStrictlySortedBy standing_order (map standing_of new.standing.items)
   rising_now =
       subst (IsStrictlySortedBy standing_order) (sym shown_now)
-      (kept_rising standing_order pending.gone.items (map standing_of old.standing.items) ready.ordered.rising)
+      (rising_kept standing_order pending.gone.items (map standing_of old.standing.items) ready.ordered.rising)
 
   few_now : (n : ℕ) → length (standing_in n (map standing_of new.standing.items)) ≤ most_names
   few_now n =
-      let less = kept_fewer (λ (x : machine.Standing). x.serial == n) pending.gone.items (map standing_of old.standing.items) in
+      let less = fewer_kept (λ (x : machine.Standing). x.serial == n) pending.gone.items (map standing_of old.standing.items) in
       let before = ready.ordered.few n in
       subst (λ t. length (standing_in n t) ≤ most_names) (sym shown_now) (omega (arith, less, before))
 
   bare_now : (n : ℕ) → HasNoSubscriptions n old pending → AllByRecursion (λ (x : Standing). x.serial ≢ n) new.standing.items
   bare_now n bare =
-      all_now (λ (x : Standing). x.serial ≢ n) (all_kept (λ (x : Standing). x.serial ≢ n) pending.gone.items old.standing.items bare)
+      all_now (λ (x : Standing). x.serial ≢ n) (kept_all (λ (x : Standing). x.serial ≢ n) pending.gone.items old.standing.items bare)
 
   module _ (more : List Standing) (steady : IsSteady new.graph (new.standing.items ++ more)) where
     numbered_now : AllByRecursion (HasStartNumber new.graph) new.standing.items × AllByRecursion (HasStartNumber new.graph) more
@@ -108,7 +108,7 @@ module _ (a : Asking) (old new : Parts) (pending : Pending) (ready : IsSoundSoFa
         all_two (HasStartNumber new.graph) (λ (x : Standing). IsUpToDate (sight_now old.graph) x.subscription)
         (λ (x : Standing). IsUpToDate (sight_now new.graph) x.subscription) (λ x key was. kept x.subscription key was) new.standing.items
         numbered_now.0 (all_now (λ (x : Standing). IsUpToDate (sight_now old.graph) x.subscription)
-        (all_kept (λ (x : Standing). IsUpToDate (sight_now old.graph) x.subscription) pending.gone.items old.standing.items ready.kept))
+        (kept_all (λ (x : Standing). IsUpToDate (sight_now old.graph) x.subscription) pending.gone.items old.standing.items ready.kept))
 
     more_now : AllByRecursion (λ (x : Standing). IsUpToDate (sight_now old.graph) x.subscription) more
         → AllByRecursion (λ (x : Standing). IsUpToDate (sight_now new.graph) x.subscription) more
@@ -122,7 +122,7 @@ module _ (a : Asking) (old new : Parts) (pending : Pending) (ready : IsSoundSoFa
       steady = steady;
       ordered = record {
         rising = rising_now;
-        live = all_now (λ (x : Standing). IsLive x.serial new.sessions.live) (all_kept (λ (x : Standing). IsLive x.serial new.sessions.live)
+        live = all_now (λ (x : Standing). IsLive x.serial new.sessions.live) (kept_all (λ (x : Standing). IsLive x.serial new.sessions.live)
             pending.gone.items old.standing.items (λ i x e stays. live_now x.serial (ready.live i x e stays)));
         few = few_now;
       };

@@ -1,41 +1,10 @@
--- What flags leave of a list: what holds of all that is left, one step of a walk along both lists, and a list that is kept in place.
-use Rattle.std.proofs.Common.{◌≡◌, refl, sym, ◌∙◌, ap, ℕ, zero, suc, ◌+◌, ◌<◌, ◌≤◌, Bool, true, false, cond, List, [], ◌∷◌, ◌++◌, drop, get_or, length, set, take, Some, slice_get, append-nil, add-one, arith, inl, inr}
-use Rattle.std.proofs.lemmas.Bool.{cases_Bool}
+-- What flags leave of a list: one step of a walk along both lists, and a list that is kept in place.
+use Rattle.std.proofs.Common.{◌≡◌, sym, ◌∙◌, ap, ℕ, zero, suc, ◌+◌, ◌<◌, ◌≤◌, Bool, true, false, cond, List, [], ◌∷◌, ◌++◌, drop, get_or, length, set, take, append-nil, add-one, arith}
 use Rattle.std.proofs.lemmas.List.{drop_more, drop-set-lt, length-set, take-set-le, take_more}
-use Rattle.std.specs.List.{AllByRecursion, SwappedAt, filter}
-use Rattle.std.specs.List.Sorted.{IsStrictlySortedBy}
-use Rattle.std.specs.declared.cmp.Ordering.{Ordering}
-use Rattle.std.specs.declared.cmp.Ordering.TheVariants.{Less}
-use Rattle.ifmap_core.proofs.Places.{all_left}
+use Rattle.std.specs.List.{SwappedAt}
 use Rattle.ifmap_subscribes.specs.ifmap_tellings.Tellings.{kept_of}
 
 module _ {X : Type 0} where
-  -- what holds of each that has no flag holds of all that is left
-  pub all_kept : (P : X → Type 0) (gone : List Bool) (xs : List X)
-      → ((i : ℕ) (x : X) → slice_get xs i ≡ Some x → slice_get gone i ≡ Some false → P x) → AllByRecursion P (kept_of gone xs)
-  all_kept P [] xs h = tt
-  all_kept P (g ∷ gone) [] h = tt
-  all_kept P (true ∷ gone) (x ∷ xs) h = all_kept P gone xs (λ i y a b. h (suc i) y a b)
-  all_kept P (false ∷ gone) (x ∷ xs) h = (h 0 x refl refl, all_kept P gone xs (λ i y a b. h (suc i) y a b))
-
-  pub kept_fewer : (p : X → Bool) (gone : List Bool) (xs : List X) → length (filter p (kept_of gone xs)) ≤ length (filter p xs)
-  kept_fewer p [] xs = omega arith
-  kept_fewer p (g ∷ gone) [] = omega arith
-  kept_fewer p (true ∷ gone) (x ∷ xs) =
-      let rest = kept_fewer p gone xs in
-      elim (cases_Bool (p x)) [ inl hit ↦ rw hit (omega (arith, rest)) | inr miss ↦ rw miss rest ]
-  kept_fewer p (false ∷ gone) (x ∷ xs) =
-      let rest = kept_fewer p gone xs in
-      elim (cases_Bool (p x)) [ inl hit ↦ rw hit (omega (arith, rest)) | inr miss ↦ rw miss rest ]
-
-  pub kept_rising : (cmp : X → X → Ordering) (gone : List Bool) (xs : List X) → IsStrictlySortedBy cmp xs
-      → IsStrictlySortedBy cmp (kept_of gone xs)
-  unfolding IsStrictlySortedBy
-  kept_rising cmp [] xs up = tt
-  kept_rising cmp (g ∷ gone) [] up = tt
-  kept_rising cmp (true ∷ gone) (x ∷ xs) up = kept_rising cmp gone xs up.1
-  kept_rising cmp (false ∷ gone) (x ∷ xs) up = (all_left (λ y. cmp x y ≡ Less) gone xs up.0, kept_rising cmp gone xs up.1)
-
   -- one step further along both lists
   pub kept_next : (gone : List Bool) (xs : List X) (i : ℕ) (g : Bool) (d : X) → i < length gone → i < length xs → get_or gone i false ≡ g
       → kept_of (take (suc i) gone) (take (suc i) xs) ≡ kept_of (take i gone) (take i xs) ++ cond g [] (get_or xs i d ∷ [])

@@ -14,13 +14,13 @@ use Rattle.std.specs.Cmp.Lexicographic.{slice_cmp}
 use Rattle.std.specs.List.{AllByRecursion, filter, list_any}
 use Rattle.std.specs.List.Sorted.{IsStrictlySortedBy}
 use Rattle.std.specs.Option.{option_to_list}
-use Rattle.std.specs.Ordering.{is_gt, is_lt, nat_cmp, ordering_then}
-use Rattle.std.specs.declared.cmp.Ordering.{Ordering}
+use Rattle.std.specs.Ordering.{is_gt, is_lt, nat_cmp}
 use Rattle.std.specs.declared.cmp.Ordering.TheVariants.{Less, Greater}
 use Rattle.ifmap_core.specs.Completions.{alone_told}
 use Rattle.ifmap_core.proofs.Told.{one_numbered}
 use Rattle.ifmap_ident.specs.declared.codes.Code.TheVariants.{PollResultsTooBig}
 use Rattle.ifmap_lemmas.specs.Filters.{all_around, all_filter, all_weaker, filter_none, filter_passes}
+use Rattle.ifmap_lemmas.specs.Tests.{not_above_before, not_below_after}
 use Rattle.ifmap_subscribes.specs.ifmap_machine.Ending.{without_standing}
 use Rattle.ifmap_subscribes.specs.ifmap_machine.State as machine
 use Rattle.ifmap_subscribes.specs.ifmap_machine.State.{State, standing_order}
@@ -168,39 +168,16 @@ grows_around (x ∷ xs) m ys g low h high = (
   grows_around xs m ys g.1 low.1 h high,
 )
 
--- the order of two subscriptions is that of their serials, where they differ
-not_above : (a b : ℕ) (o : Ordering) → is_lt (ordering_then (nat_cmp a b) o) ≡ true → a ≤ b
-not_above a b o e = elim (cases_order a b) [
-  | inl same ↦ omega (arith, same)
-  | inr apart ↦ elim apart [
-    | inl less ↦ omega (arith, less)
-    | inr more ↦
-        let greater : nat_cmp a b ≡ Greater = grind (arith, nat_tests, more) in
-        let bad : false ≡ true = rw greater at e in cc
-  ]
-]
-
-not_below : (a b : ℕ) (o : Ordering) → is_gt (ordering_then (nat_cmp a b) o) ≡ true → b ≤ a
-not_below a b o e = elim (cases_order a b) [
-  | inl same ↦ omega (arith, same)
-  | inr apart ↦ elim apart [
-    | inl less ↦
-        let lower : nat_cmp a b ≡ Less = grind (arith, nat_tests, less) in
-        let bad : false ≡ true = rw lower at e in cc
-    | inr more ↦ omega (arith, more)
-  ]
-]
-
 grows_put : (m : machine.Standing) (xs : List machine.Standing) → Grows xs → Grows (put standing_order m xs)
 grows_put m xs g =
     grows_around (filter (λ y. is_lt (standing_order y m)) xs) m (filter (λ y. is_gt (standing_order y m)) xs)
     (grows_filter (λ y. is_lt (standing_order y m)) xs g)
     (all_weaker (λ y. is_lt (standing_order y m) ≡ true) (λ (x : machine.Standing). x.serial ≤ m.serial)
-    (λ y e. not_above y.serial m.serial (slice_cmp nat_cmp y.name m.name) e) (filter (λ y. is_lt (standing_order y m)) xs)
+    (λ y e. not_above_before y.serial m.serial (slice_cmp nat_cmp y.name m.name) e) (filter (λ y. is_lt (standing_order y m)) xs)
     (filter_passes (λ y. is_lt (standing_order y m)) xs))
     (grows_filter (λ y. is_gt (standing_order y m)) xs g)
     (all_weaker (λ y. is_gt (standing_order y m) ≡ true) (λ (y : machine.Standing). m.serial ≤ y.serial)
-    (λ y e. not_below y.serial m.serial (slice_cmp nat_cmp y.name m.name) e) (filter (λ y. is_gt (standing_order y m)) xs)
+    (λ y e. not_below_after y.serial m.serial (slice_cmp nat_cmp y.name m.name) e) (filter (λ y. is_gt (standing_order y m)) xs)
     (filter_passes (λ y. is_gt (standing_order y m)) xs))
 
 module _ (n : ℕ) where
@@ -291,6 +268,6 @@ unfolding IsStrictlySortedBy
 grows_rising [] up = tt
 grows_rising (x ∷ xs) up = (
   all_weaker (λ y. standing_order x y ≡ Less) (λ (y : machine.Standing). x.serial ≤ y.serial)
-      (λ y e. not_above x.serial y.serial (slice_cmp nat_cmp x.name y.name) (ap is_lt e)) xs up.0,
+      (λ y e. not_above_before x.serial y.serial (slice_cmp nat_cmp x.name y.name) (ap is_lt e)) xs up.0,
   grows_rising xs up.1,
 )

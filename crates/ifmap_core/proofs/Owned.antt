@@ -3,7 +3,8 @@ use Rattle.std.proofs.Common.{◌≡◌, refl, sym, ◌∙◌, ap, subst, ℕ, �
 use Rattle.std.proofs.lemmas.Bool.{cases_Bool}
 use Rattle.std.specs.List.{list_any}
 use Rattle.std.specs.Option.{is_some, option_map}
-use Rattle.ifmap_core.proofs.Ended.{client_lost, found_left, none_left, rising_left}
+use Rattle.ifmap_lemmas.specs.Parted.{found_in_rest, none_in_rest}
+use Rattle.ifmap_core.proofs.Ended.{client_lost, rising_left}
 use Rattle.ifmap_session.specs.Sessions.{IsLive, IsTable, Session, SessionTable, is_same_text, session_of_client, session_with_id, session_with_serial, without_sessions}
 use Rattle.ifmap_session.specs.laws.TableLaws.{found_by_serial, is_left}
 use Rattle.ifmap_session.specs.laws.TextLaws.{text_is}
@@ -18,13 +19,13 @@ other_text a b r f no_text =
 -- it is left, and found by its id and its serial
 pub id_left : (serials : List ℕ) (live : List Session) (id : List ℕ) (s : Session) → session_with_id id live ≡ Some s
     → list_any (λ n. n == s.serial) serials ≡ false → session_with_id id (without_sessions serials live) ≡ Some s
-id_left serials live id s e stays = found_left (λ (t : Session). is_same_text t.id id) (is_left serials) live s e (ap not stays)
+id_left serials live id s e stays = found_in_rest (λ (t : Session). is_same_text t.id id) (is_left serials) live s e (ap not stays)
 
 pub serial_left : (serials : List ℕ) (live : List Session) (n : ℕ) (s : Session) → session_with_serial s.serial live ≡ Some s → n ≡ s.serial
     → list_any (λ m. m == s.serial) serials ≡ false → session_with_serial n (without_sessions serials live) ≡ Some s
 serial_left serials live n s e is stays =
     subst (λ m. session_with_serial m (without_sessions serials live) ≡ Some s) (sym is)
-    (found_left (λ (t : Session). t.serial == s.serial) (is_left serials) live s e (ap not stays))
+    (found_in_rest (λ (t : Session). t.serial == s.serial) (is_left serials) live s e (ap not stays))
 
 -- whether a serial is among some, for a session that has it
 pub among : (serials : List ℕ) (n : ℕ) (s : Session) (b : Bool) → n ≡ s.serial → list_any (λ m. m == n) serials ≡ b
@@ -36,7 +37,7 @@ module _ (table : SessionTable) (serials client : List ℕ) (h : IsTable table) 
   pub former_none : option_map (λ (s : Session). s.serial) (session_of_client client table.live) ≡ None
       → option_map (λ (s : Session). s.serial) (session_of_client client (without_sessions serials table.live)) ≡ None
   former_none e =
-      ap (option_map (λ (s : Session). s.serial)) (none_left (λ (s : Session). is_same_text s.client client) (is_left serials) table.live
+      ap (option_map (λ (s : Session). s.serial)) (none_in_rest (λ (s : Session). is_same_text s.client client) (is_left serials) table.live
       (was_none (session_of_client client table.live) e))
     where
       was_none : (o : Option Session) → option_map (λ (s : Session). s.serial) o ≡ None → o ≡ None
@@ -62,7 +63,7 @@ module _ (table : SessionTable) (serials client : List ℕ) (h : IsTable table) 
   former_left n e stays =
       let o = some_of (session_of_client client table.live) n e in
       let keeps : is_left serials o.0 ≡ true = ap not (among serials n o.0 false o.2 stays) in
-      let found = found_left (λ (s : Session). is_same_text s.client client) (is_left serials) table.live o.0 o.1 keeps in
+      let found = found_in_rest (λ (s : Session). is_same_text s.client client) (is_left serials) table.live o.0 o.1 keeps in
       let numbered = found_by_serial (λ (s : Session). is_same_text s.client client) (without_sessions serials table.live) o.0
       (rising_left serials table.live h.rising) found in (
         ap (option_map (λ (s : Session). s.serial)) found ∙ ap Some (sym o.2),

@@ -1,16 +1,15 @@
 -- What renamings leave: the subscriptions that stand are those that stood, or of the session that is renamed; of the other sessions no more
 -- stand than before.
-use Rattle.std.proofs.Common.{◌≡◌, ◌≢◌, refl, sym, ◌∙◌, ap, ℕ, ◌+◌, ◌≤◌, ◌==◌, Bool, true, false, not, List, [], ◌∷◌, length, Option, None, Some, inl, inr, arith, length-append}
-use Rattle.std.proofs.lemmas.Bool.{cases_Bool}
+use Rattle.std.proofs.Common.{◌≡◌, ◌≢◌, refl, sym, ◌∙◌, ap, ℕ, ◌≤◌, ◌==◌, Bool, false, not, List, [], ◌∷◌, length, Option, None, Some, arith, length-append}
 use Rattle.std.proofs.lemmas.List.Elements.{filter-append}
 use Rattle.std.specs.List.{AllByRecursion, filter}
 use Rattle.std.specs.Option.{option_to_list}
 use Rattle.std.specs.Ordering.{is_gt, is_lt}
 use Rattle.std.specs.declared.cmp.Ordering.{Ordering}
-use Rattle.std.specs.declared.cmp.Ordering.TheVariants.{Less, Equal, Greater}
 use Rattle.ifmap_lemmas.specs.Filters.{all_filter, filter_fewer}
 use Rattle.ifmap_lemmas.specs.Members.{both_all}
 use Rattle.ifmap_lemmas.specs.Numbers.{is_other}
+use Rattle.ifmap_lemmas.specs.Parted.{two_sides}
 use Rattle.ifmap_subscribes.specs.ifmap_machine.State.{standing_in, standing_order}
 use Rattle.ifmap_subscribes.specs.ifmap_machine.State as machine
 use Rattle.ifmap_subscribes.specs.ifmap_machine.Subscribing.{Told, drop_name, is_of_name}
@@ -22,40 +21,7 @@ use Rattle.ifmap_subscribes.specs.Renamings.{IsOfSession, rename, rename_all, st
 
 -- ---- lists
 
-less_apart : (o : Ordering) → is_lt o ≡ true → is_gt o ≡ false
-less_apart Less e = refl
-less_apart Equal e = refl
-less_apart Greater e = cc
-
 module _ {X : Type 0} where
-  -- what passes one of two tests that exclude each other, and then a third, is no more than what passes the third
-  two_filters : (p q r : X → Bool) → ((x : X) → q x ≡ true → r x ≡ false) → (xs : List X)
-      → length (filter p (filter q xs)) + length (filter p (filter r xs)) ≤ length (filter p xs)
-  two_filters p q r apart [] = omega arith
-  two_filters p q r apart (x ∷ xs) =
-      let rest = two_filters p q r apart xs in
-      elim (cases_Bool (q x)) [
-        | inl first ↦
-            let other : r x ≡ false = apart x first in
-            elim (cases_Bool (p x)) [
-              | inl hit ↦ rw (first, other, hit) (omega (arith, rest))
-              | inr miss ↦ rw (first, other, miss) rest
-            ]
-        | inr not_first ↦
-            elim (cases_Bool (r x)) [
-              | inl second ↦
-                  elim (cases_Bool (p x)) [
-                    | inl hit ↦ rw (not_first, second, hit) (omega (arith, rest))
-                    | inr miss ↦ rw (not_first, second, miss) rest
-                  ]
-              | inr none ↦
-                  elim (cases_Bool (p x)) [
-                    | inl hit ↦ rw (not_first, none, hit) (omega (arith, rest))
-                    | inr miss ↦ rw (not_first, none, miss) rest
-                  ]
-            ]
-      ]
-
   all_put : (P : X → Type 0) (order : X → X → Ordering) (x : X) (xs : List X) → P x → AllByRecursion P xs
       → AllByRecursion P (put order x xs)
   all_put P order x xs one all =
@@ -67,7 +33,7 @@ module _ {X : Type 0} where
   put_fewer p order x xs other =
       let below : List X = filter (λ y. is_lt (order y x)) xs in
       let above : List X = filter (λ y. is_gt (order y x)) xs in
-      let two = two_filters p (λ y. is_lt (order y x)) (λ y. is_gt (order y x)) (λ y e. less_apart (order y x) e) xs in
+      let two = two_sides p order x xs in
       let joined = ap length (filter-append p below (x ∷ above)) in
       let sum = length-append (filter p below) (filter p (x ∷ above)) in
       let tail : length (filter p (x ∷ above)) ≡ length (filter p above) = rw other refl in

@@ -3,6 +3,7 @@
 -- completion that renames (`leads_renamed`): no queue is greater than its limit, so that nothing overflows. Then one error in place of all
 -- (`overruns`). Last, what holds once operations were made ready, and what they lead to (`holds_turns`, `holds_leads`).
 use Rattle.std.proofs.Common.{◌≡◌, sym, ◌∙◌, ap, subst, ℕ, ◌+◌, ◌<◌, ◌≤◌, ◌==◌, Bool, true, false, not, List, [], ◌∷◌, length, map, Option, Some, None, Result, Ok, Err, inl, inr, arith}
+use Rattle.ifmap_subscribes.specs.ifmap_tellings.KeptPlaces.{all_left}
 use Rattle.std.proofs.lemmas.Bool.{cases_Bool}
 use Rattle.std.proofs.lemmas.Bool.Decides.{nat_tests}
 use Rattle.std.proofs.lemmas.List.Sums.{sum_by-cons}
@@ -20,20 +21,20 @@ use Rattle.ifmap_core.specs.Completions.{CanRename, LeadsToAnswer, after_complet
 use Rattle.ifmap_core.specs.declared.completions.Completion.TheVariants.{Rename}
 use Rattle.ifmap_core.proofs.Ended.{rising_left}
 use Rattle.ifmap_core.proofs.Overrun.{Grows, IsFit, changed_within, grows_rising, no_overflow, others_renamed, over_is}
-use Rattle.ifmap_core.proofs.Places.{all_are_kept, all_left, kept_both, searched_itself}
+use Rattle.ifmap_core.proofs.Places.{all_are_kept, kept_both, searched_itself}
 use Rattle.ifmap_core.proofs.Told.{before_told, one_numbered, told_by_leaves, told_rising}
 use Rattle.ifmap_core.proofs.Turned.{shares_later, turned_twice}
 use Rattle.ifmap_subscribes.specs.ifmap_delta.Sights.{IsUpToDate}
 use Rattle.ifmap_subscribes.specs.ifmap_delta.Ways.{HasSameSearch}
 use Rattle.ifmap_subscribes.specs.ifmap_graph.Seen.{rows_now}
 use Rattle.ifmap_lemmas.specs.Filters.{all_weaker}
+use Rattle.ifmap_lemmas.specs.Mapped.{one_at_most}
 use Rattle.ifmap_subscribes.specs.ifmap_machine.State as machine
 use Rattle.ifmap_subscribes.specs.ifmap_machine.State.{State, standing_in}
 use Rattle.ifmap_subscribes.specs.ifmap_machine.Step.{answer_subscribed, renew, with_told}
 use Rattle.ifmap_subscribes.specs.ifmap_machine.declared.events.Answer.{Answer}
 use Rattle.ifmap_subscribes.specs.ifmap_machine.declared.events.Answer.TheVariants as the_answer
 use Rattle.ifmap_subscribes.specs.ifmap_replies.declared.replies.Reply.TheVariants as the_reply
-use Rattle.ifmap_session.specs.ifmap_search.declared.results.PollItem.{PollItem}
 use Rattle.ifmap_subscribes.specs.ifmap_machine.Subscribing.{Told, most_names}
 use Rattle.ifmap_subscribes.specs.ifmap_machine.Telling.{overflow}
 use Rattle.ifmap_subscribes.specs.ifmap_pool.Holdings.{key_at}
@@ -169,10 +170,6 @@ pub live_left : (a : Asking) (n : ℕ) (table : SessionTable) → IsLive n (sess
 live_left a n table l = left_live (λ (x : Session). not (list_any (λ m. m == x.serial) a.ended)) n table.live l
 
 -- ---- names are to be renamed
-
-one_at_most : (o : Option PollItem) → length (option_to_list o) ≤ 1
-one_at_most None = omega arith
-one_at_most (Some item) = omega arith
 
 items_few : (rs : List Renaming) → item_count rs ≤ length rs
 items_few [] = omega arith

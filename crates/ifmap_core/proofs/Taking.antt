@@ -1,10 +1,11 @@
 -- The end of a session: its subscriptions go before the others are told, and it goes itself after that, as if it had gone first.
-use Rattle.std.proofs.Common.{◌≡◌, refl, sym, ◌∙◌, ap, ℕ, ◌==◌, ◌||◌, ◌&&◌, Bool, false, cond, not, List, [], ◌∷◌, map, inl, inr, arith}
+use Rattle.std.proofs.Common.{◌≡◌, refl, sym, ◌∙◌, ap, ℕ, ◌==◌, ◌||◌, ◌&&◌, false, not, List, [], ◌∷◌, map, inl, inr, arith}
 use Rattle.std.proofs.lemmas.Bool.{cases_Bool}
 use Rattle.std.proofs.lemmas.Bool.Decides.{nat_tests}
 use Rattle.std.specs.List.{AllByRecursion, filter, list_any}
 use Rattle.ifmap_subscribes.specs.ifmap_changes.Changes.{taken_one}
 use Rattle.ifmap_lemmas.specs.Filters.{all_filter}
+use Rattle.ifmap_lemmas.specs.Parted.{filter_where}
 use Rattle.ifmap_subscribes.specs.ifmap_machine.Ending.{drop_sessions, end_some, without_standing}
 use Rattle.ifmap_subscribes.specs.ifmap_machine.State.{Standing, State}
 use Rattle.ifmap_subscribes.specs.ifmap_machine.Telling.{is_overfull, is_overrun, is_too_big, overflow_session, tell_session, told_in_session}
@@ -39,13 +40,6 @@ overrun_after n (s ∷ live) x other =
       | inr stays ↦ rw stays (ap (λ b. (s.serial == x.serial && is_overfull s) || b) (overrun_after n live x other))
     ]
 
-filter_by : {X : Type 0} (P : X → Type 0) (p q : X → Bool) → ((x : X) → P x → p x ≡ q x) → (xs : List X) → AllByRecursion P xs
-    → filter p xs ≡ filter q xs
-filter_by P p q same [] h = refl
-filter_by P p q same (x ∷ xs) h =
-    ap (λ b. cond b (x ∷ filter p xs) (filter p xs)) (same x h.0)
-    ∙ ap (λ t. cond (q x) (x ∷ t) t) (filter_by P p q same xs h.1)
-
 -- the others of a list of others are all
 others_stay : (n : ℕ) (xs : List Standing) → AllByRecursion (λ (x : Standing). (n == x.serial) ≡ false) xs
     → without_standing (n ∷ []) xs ≡ xs
@@ -75,7 +69,7 @@ taken_is n state =
     ≡ filter (λ (x : Standing). not (is_overrun left x)) fit =
     others_stay n (filter (λ (x : Standing). not (is_overrun full x)) fit)
     (all_filter (λ (x : Standing). (n == x.serial) ≡ false) (λ (x : Standing). not (is_overrun full x)) fit each)
-    ∙ filter_by (λ (x : Standing). (n == x.serial) ≡ false) (λ (x : Standing). not (is_overrun full x))
+    ∙ filter_where (λ (x : Standing). (n == x.serial) ≡ false) (λ (x : Standing). not (is_overrun full x))
     (λ (x : Standing). not (is_overrun left x))
     (λ x other. ap not (sym (overrun_after n full x other) ∙ ap (λ (ss : List Session). is_overrun ss x) kept)) fit each in
     ap (λ (ss : List Session). record state {

@@ -9,7 +9,7 @@ use Rattle.std.specs.List.{AllByRecursion}
 use Rattle.std.specs.List.Sorted.{IsStrictlySortedBy}
 use Rattle.ifmap_subscribes.specs.ifmap_changes.Between.{AreBack, AreKept, AreOrdered, AreParts, AreTurned, IsSteady, SharesNumbers, sight_now, state_at, IsSeen}
 use Rattle.ifmap_subscribes.specs.ifmap_changes.declared.parts.Parts.{Parts}
-use Rattle.ifmap_core.proofs.Places.{same_map, searched_itself, shown_kept}
+use Rattle.ifmap_core.proofs.Places.{searched_itself, shown_kept}
 use Rattle.ifmap_subscribes.specs.ifmap_delta.Sights.{IsUpToDate, SameLinks}
 use Rattle.ifmap_subscribes.specs.ifmap_graph.Back.{KeepsBacks}
 use Rattle.ifmap_subscribes.specs.ifmap_graph.Held.{Held, IsOwn}
@@ -22,7 +22,7 @@ use Rattle.ifmap_subscribes.specs.ifmap_standing.declared.standing.Standing.{Sta
 use Rattle.ifmap_subscribes.specs.ifmap_standing.Kept.{AtEach, KeepsSame, StaysRelated}
 use Rattle.ifmap_subscribes.specs.ifmap_standing.Standing.{standing_of}
 use Rattle.ifmap_subscribes.specs.ifmap_tellings.Tellings.{HasSameSessions}
-use Rattle.ifmap_subscribes.specs.ifmap_standing.PlaceLaws.{kept_itself, searched_twice}
+use Rattle.ifmap_subscribes.specs.ifmap_standing.PlaceLaws.{at_each_map, kept_itself, searched_twice}
 use Rattle.ifmap_subscribes.specs.ifmap_tellings.ToldLaws.{same_sessions_itself, same_twice}
 use Rattle.ifmap_subscribes.specs.Renamings.{KeepsNumbered}
 
@@ -73,7 +73,7 @@ back_state ttl moment old new b =
     ∙ ap (λ (live : List Session). record
     (state_at ttl moment new) { counter = old.sessions.counter; graph = rows_now old.graph; sessions = live }) b.sessions.live
     ∙ ap (λ (xs : List machine.Standing). record (state_at ttl moment old) { standing = xs })
-    (same_map standing_of (λ _. StaysRelated KeepsSame) shown_kept old.standing.items new.standing.items b.standing)
+    (at_each_map standing_of (λ _. StaysRelated KeepsSame) shown_kept old.standing.items new.standing.items b.standing)
 
 pub keeps_there : SameLinks → (old new : Held) → IsSeen old → IsSeen new → rows_now new ≡ rows_now old
     → ((v : ℕ) → links_now new v ≡ links_now old v) → SharesNumbers old new → KeepsNumbered old new

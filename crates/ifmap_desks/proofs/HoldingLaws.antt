@@ -1,5 +1,5 @@
 -- The test whether an event would be held, beside what it tests.
-use Rattle.std.proofs.Common.{◌≡◌, ◌↔◌, refl, ℕ, Bool, true, false, List, [], ◌∷◌, not, Option, None, Some}
+use Rattle.std.proofs.Common.{◌≡◌, ◌↔◌, refl, ℕ, true, List, [], ◌∷◌, not, Option, None, Some}
 use Rattle.std.proofs.lemmas.Bool.{and_parts, not-true}
 use Rattle.ifmap_core.specs.Holding.{WouldHold}
 use Rattle.ifmap_desks.specs.Holding.{has_nothing, holds_ask, is_any_expired, is_nothing, would_hold}
@@ -45,9 +45,3 @@ passes_where state event h =
 
 pub holding : (state : State) (event : Event) → would_hold state event ≡ true ↔ WouldHold state event
 holding state event = (holds_where state event event.ask refl, passes_where state event)
-
-pub same_test : (b c : Bool) (P : Type 0) → (b ≡ true ↔ P) → (c ≡ true ↔ P) → b ≡ c
-same_test true true P f g = refl
-same_test true false P f g = let e : false ≡ true = g.1 (f.0 refl) in cc
-same_test false true P f g = let e : false ≡ true = f.1 (g.0 refl) in cc
-same_test false false P f g = refl

@@ -3,11 +3,11 @@
 -- a post answered, a fault of reading, a refusal; (3) whether the connection goes on: only after an answer that does not
 -- close it, and never after the last post; (4) round after round: `Connects` holds at first and after each round, and
 -- at the end gives what the connection promises; (5) one round as the code reads it.
-use Rattle.std.proofs.Common.{◌≡◌, ◌≢◌, ℕ, ◌+◌, ◌≤◌, ◌==◌, Bool, true, false, List, [], ◌∷◌, ◌++◌, length, None, Some, IfSome, refl, sym, ap, subst, ◌∙◌, append-nil, length-append, arith}
-use Rattle.std.proofs.lemmas.Bool.Decides.{nat_tests}
+use Rattle.std.proofs.Common.{◌≡◌, ◌≢◌, ℕ, ◌+◌, ◌≤◌, Bool, true, false, List, [], ◌∷◌, ◌++◌, length, None, Some, IfSome, refl, sym, ap, subst, ◌∙◌, append-nil, length-append, arith}
 use Rattle.std.specs.Prelude.{Option, flat_map, IfNone, IsFalse}
 use Rattle.std.specs.Io.KnownBytes.{Appends}
 use Rattle.std.proofs.KnownBytes.{Appends-nil, Appends-trans}
+use Rattle.std.proofs.lemmas.Bool.{eq-eqb}
 use Rattle.std.proofs.lemmas.Grind.{flat_map-append}
 use Rattle.rand_chacha.specs.ChaCha.{ChaCha}
 use Rattle.ifmap_http.specs.declared.wires.Got.{Got}
@@ -213,11 +213,8 @@ stays_open gives (finding.Spent entries) close turns output (none, (the_sent, wr
     absurd (never_on the_sent (ending.Spent entries) is)
 stays_open gives finding.NoMemory close turns output (none, given, is) = cc
 
-are_same : (one other : ℕ) → one ≡ other → (one == other) ≡ true
-are_same one other same = grind (arith, nat_tests)
-
 number_not : (number : ℕ) (close : Bool) → is_last_post number close ≡ false → number ≢ most_posts
-number_not number false e = λ same. let last = are_same number most_posts same in let two = sym e ∙ last in cc
+number_not number false e = λ same. let last = eq-eqb number most_posts same in let two = sym e ∙ last in cc
 number_not number true e = λ same. cc
 
 -- a post that was answered and after which the connection goes on is not the last one

@@ -13,7 +13,9 @@ use Rattle.ifmap_hall.specs.declared.view.Stage.{Stage}
 use Rattle.ifmap_hall.specs.declared.view.Stage.TheVariants.{Idle, Waits, Holds}
 use Rattle.ifmap_hall.specs.declared.view.Terms.{Terms}
 use Rattle.ifmap_hall.proofs.Extending.{extends-itself, extends-through, ordered_again}
-use Rattle.ifmap_hall.proofs.General.{at_within, falsehood, sum_set}
+use Rattle.std.proofs.lemmas.Bool.{true≢false}
+use Rattle.ifmap_lemmas.specs.Elements.{place_within}
+use Rattle.ifmap_lemmas.specs.Sums.{sum_set}
 
 module _ {E : Type 0} where
   pub one_ticket : (a : Stage E) → tickets_of a ≤ 1
@@ -22,8 +24,8 @@ module _ {E : Type 0} where
   one_ticket (Holds t h) = omega arith
 
   pub holder_has_ticket : (a : Stage E) → holds_book a ≡ true → tickets_of a ≡ 1
-  holder_has_ticket Idle h = absurd (falsehood (sym h))
-  holder_has_ticket (Waits t) h = absurd (falsehood (sym h))
+  holder_has_ticket Idle h = absurd (true≢false (sym h))
+  holder_has_ticket (Waits t) h = absurd (true≢false (sym h))
   holder_has_ticket (Holds t x) h = omega arith
 
 module _ {M E R : Type 0} (next : M → E → M) (weight : E → ℕ) where
@@ -55,7 +57,7 @@ module _ {M E R : Type 0} (next : M → E → M) (weight : E → ℕ) where
       (g : Goes terms words homes seats k id s u history served drawn) where
     no_other_lone : (j : ℕ) (x : SeatView M E R) → j ≢ id → Sits seats j x → x.view.lone ≡ true → ⊥
     no_other_lone j x n e l =
-        let one = k.alone j x e l in let a = at_within seats j x e in let b = at_within seats id s g.sits in n (omega arith)
+        let one = k.alone j x e l in let a = place_within seats j x e in let b = place_within seats id s g.sits in n (omega arith)
 
     still : (j : ℕ) (x : SeatView M E R) → j ≢ id → Sits seats j x → SeatFits terms k.history k.served k.drawn x
         → SeatFits terms history served drawn x

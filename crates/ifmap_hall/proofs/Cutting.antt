@@ -5,7 +5,7 @@ use mathlib.Core.Option.{some-injective}
 use lib.ListN.{get_elem?}
 use Rattle.std.proofs.Math.Nat.{mod-lt}
 use Rattle.std.proofs.lemmas.Bool.Decides.{nat_tests}
-use Rattle.std.proofs.lemmas.Bool.{cases_lt}
+use Rattle.std.proofs.lemmas.Bool.{cases_lt, true≢false}
 use Rattle.atomic_table.specs.Table.{Splits}
 use Rattle.atomic_table.proofs.Lists.{at_set, set_else, at_snoc, at_longer}
 use Rattle.ifmap_hall.specs.Histories.{Ordered}
@@ -16,7 +16,9 @@ use Rattle.ifmap_hall.specs.declared.view.History.{History}
 use Rattle.ifmap_hall.specs.declared.view.SeatView.{SeatView}
 use Rattle.ifmap_hall.specs.declared.view.Stage.TheVariants.{Idle}
 use Rattle.ifmap_hall.specs.declared.view.Terms.{Terms}
-use Rattle.ifmap_hall.proofs.General.{at_within, falsehood, sum_set, sum_snoc}
+use Rattle.std.proofs.lemmas.List.Sums.{sum_by_push}
+use Rattle.ifmap_lemmas.specs.Elements.{place_within}
+use Rattle.ifmap_lemmas.specs.Sums.{sum_set}
 use Rattle.ifmap_hall.proofs.Passing.{extends-none}
 
 pub share_within : (p : ℕ) → 1 < p → (0 < share p) × (share p < p)
@@ -104,7 +106,7 @@ module _ {M E R : Type 0} (next : M → E → M) (weight : E → ℕ) where
           joined = f.joined;
           queued = f.queued;
           held = f.held;
-          lone = λ l. absurd (falsehood (sym l));
+          lone = λ l. absurd (true≢false (sym l));
         })
     cut_fits i x (is_given e) h =
         let f = k.fit id s sits (omega arith) in
@@ -114,8 +116,8 @@ module _ {M E R : Type 0} (next : M → E → M) (weight : E → ℕ) where
           extends = f.extends;
           joined = extends-none s.view.history;
           queued = λ w. absurd (omega arith);
-          held = λ w. absurd (falsehood (sym w));
-          lone = λ l. absurd (falsehood (sym l));
+          held = λ w. absurd (true≢false (sym w));
+          lone = λ l. absurd (true≢false (sym l));
         })
     cut_fits i x (is_old n e) h = k.fit i x e h
 
@@ -127,10 +129,10 @@ module _ {M E R : Type 0} (next : M → E → M) (weight : E → ℕ) where
     cut_stems i x (is_old n e) h = record { index = i; old = x; sits = e; part = h; seen = refl }
 
     cut_alone : (i : ℕ) (x : SeatView M E R) → Place seats id (kept_seat s) (given_seat s) i x → x.view.lone ≡ true → ⊥
-    cut_alone i x (is_kept p e) l = falsehood (sym l ∙ ap (λ (y : SeatView M E R). y.view.lone) (sym e))
-    cut_alone i x (is_given e) l = falsehood (sym l ∙ ap (λ (y : SeatView M E R). y.view.lone) (sym e))
+    cut_alone i x (is_kept p e) l = true≢false (sym l ∙ ap (λ (y : SeatView M E R). y.view.lone) (sym e))
+    cut_alone i x (is_given e) l = true≢false (sym l ∙ ap (λ (y : SeatView M E R). y.view.lone) (sym e))
     cut_alone i x (is_old n e) l =
-        let one = k.alone i x e l in let a = at_within seats i x e in let b = at_within seats id s sits in n (omega arith)
+        let one = k.alone i x e l in let a = place_within seats i x e in let b = place_within seats id s sits in n (omega arith)
 
     cut_free : ((j : ℕ) (y : SeatView M E R) → Sits seats j y → holds_book y.stage ≡ false) → (i : ℕ) (x : SeatView M E R)
         → Place seats id (kept_seat s) (given_seat s) i x → holds_book x.stage ≡ false
@@ -153,7 +155,7 @@ module _ {M E R : Type 0} (next : M → E → M) (weight : E → ℕ) where
       holder = o.holder;
       sits = at_longer (set seats id (kept_seat s)) (given_seat s ∷ []) o.seat o.holder
           (set_else seats id o.seat (kept_seat s)
-          (λ e. falsehood (sym o.holds ∙ ap (λ (y : SeatView M E R). holds_book y.stage)
+          (λ e. true≢false (sym o.holds ∙ ap (λ (y : SeatView M E R). holds_book y.stage)
           (some-injective o.holder s (sym o.sits ∙ ap (get_elem? seats) e ∙ sits)) ∙ no_book)) ∙ o.sits);
       holds = o.holds;
     })
@@ -170,18 +172,18 @@ module _ {M E R : Type 0} (next : M → E → M) (weight : E → ℕ) where
           slot = cut_slot k.slot;
           parts =
               let t = sum_set (λ (x : SeatView M E R). x.parts) seats id s (kept_seat s) sits in
-              let z = sum_snoc (λ (x : SeatView M E R). x.parts) (set seats id (kept_seat s)) (given_seat s) in
+              let z = sum_by_push (λ (x : SeatView M E R). x.parts) (set seats id (kept_seat s)) (given_seat s) in
               let a = (share_within s.parts parts).1 in let p = k.parts in omega arith;
           enough = λ i x e. cut_enough i x (at i x e);
           spent = λ i x e. cut_spent i x (at i x e);
           tickets =
               let t = sum_set (λ (x : SeatView M E R). tickets_of x.stage) seats id s (kept_seat s) sits in
-              let z = sum_snoc (λ (x : SeatView M E R). tickets_of x.stage) (set seats id (kept_seat s)) (given_seat s) in
+              let z = sum_by_push (λ (x : SeatView M E R). tickets_of x.stage) (set seats id (kept_seat s)) (given_seat s) in
               let p = k.tickets in omega arith;
           apart = λ i j x y e f hx hy. k.apart i j x y (cut_waits i x (at i x e) hx) (cut_waits j y (at j y f) hy) hx hy;
           places = λ x.
               let t = sum_set (λ (y : SeatView M E R). times x y.view.mine) seats id s (kept_seat s) sits in
-              let z = sum_snoc (λ (y : SeatView M E R). times x y.view.mine) (set seats id (kept_seat s)) (given_seat s) in
+              let z = sum_by_push (λ (y : SeatView M E R). times x y.view.mine) (set seats id (kept_seat s)) (given_seat s) in
               let p = k.places x in omega arith;
           fit = λ i x e. cut_fits i x (at i x e);
           ordered =

@@ -26,7 +26,9 @@ use Rattle.ifmap_hall.specs.declared.view.Stage.TheVariants.{Idle, Waits}
 use Rattle.ifmap_hall.specs.declared.view.Terms.{Terms}
 use Rattle.ifmap_hall.proofs.Changes.{Goes, seat_goes, holder_has_ticket}
 use Rattle.ifmap_hall.proofs.Extending.{extends-itself}
-use Rattle.ifmap_hall.proofs.General.{at_most, at_within, falsehood, sum_le}
+use Rattle.std.proofs.lemmas.Bool.{true≢false}
+use Rattle.ifmap_lemmas.specs.Elements.{place_within}
+use Rattle.ifmap_lemmas.specs.Sums.{one_within_sum, sum_at_most}
 
 pub ticket_after : (n : ℕ) → (n % 2 ^ 64 + 1) % 2 ^ 64 ≡ (n + 1) % 2 ^ 64
 ticket_after n = mod-add-mod n (2 ^ 64) 1
@@ -50,7 +52,7 @@ module _ {M E R : Type 0} (next : M → E → M) (weight : E → ℕ) where
     gone = o.gone;
     seat = o.seat;
     holder = o.holder;
-    sits = set_else seats id o.seat u (λ e. falsehood (sym o.holds
+    sits = set_else seats id o.seat u (λ e. true≢false (sym o.holds
         ∙ ap (λ (y : SeatView M E R). holds_book y.stage) (some-injective o.holder s (sym o.sits ∙ ap (get_elem? seats) e ∙ sits)) ∙ hs))
         ∙ o.sits;
     holds = o.holds;
@@ -92,7 +94,7 @@ module _ {M E R : Type 0} (next : M → E → M) (weight : E → ℕ) where
               extends = f.extends;
               joined = f.joined;
               queued = λ h. (omega arith, omega arith);
-              held = λ h. absurd (falsehood (sym h));
+              held = λ h. absurd (true≢false (sym h));
               lone = f.lone;
             };
             tickets = omega arith;
@@ -140,7 +142,7 @@ module _ {M E R : Type 0} (next : M → E → M) (weight : E → ℕ) where
           let x = holder_served o.seat o.holder o.sits o.holds in
           let same : o.seat ≡ id = k.apart o.seat id o.holder s o.sits sits x.1 waits (x.2 ∙ here) in
           let it = some-injective o.holder s (sym o.sits ∙ ap (get_elem? seats) same ∙ sits) in
-          absurd (falsehood (sym o.holds ∙ ap (λ (y : SeatView M E R). holds_book y.stage) it ∙ free))
+          absurd (true≢false (sym o.holds ∙ ap (λ (y : SeatView M E R). holds_book y.stage) it ∙ free))
 
       -- a ticket that is out is served where its number is
       is_served : tickets_of s.stage ≡ 1 → k.served % 2 ^ 64 ≡ ticket_of s.stage % 2 ^ 64 → k.served ≡ ticket_of s.stage
@@ -148,7 +150,7 @@ module _ {M E R : Type 0} (next : M → E → M) (weight : E → ℕ) where
           let q = (k.fit id s sits part).queued waits in
           let low = q.0 in let high = q.1 in
           let all = k.tickets in let parts = k.parts in
-          let few = sum_le (λ (x : SeatView M E R). tickets_of x.stage) (λ (x : SeatView M E R). x.parts) seats k.enough in
+          let few = sum_at_most (λ (x : SeatView M E R). tickets_of x.stage) (λ (x : SeatView M E R). x.parts) seats k.enough in
           one_turn k.served (ticket_of s.stage) (2 ^ 64) low (omega arith) same
 
       -- a look that changes nothing
@@ -199,7 +201,7 @@ module _ {M E R : Type 0} (next : M → E → M) (weight : E → ℕ) where
               gone = ap (λ (hs : Homes M E R). set hs 0 none) a.there;
               seat = id;
               holder = u;
-              sits = set_here t.views id u (at_within t.views id s sits);
+              sits = set_here t.views id u (place_within t.views id s sits);
               holds = refl;
             })),
         (
@@ -245,7 +247,7 @@ module _ {M E R : Type 0} (next : M → E → M) (weight : E → ℕ) where
           record {
             view = f.sound;
             joined = f.joined;
-            parts = let m = at_most (λ (x : SeatView M E R). x.parts) t.views id s sits in let p = k.parts in omega arith;
+            parts = let m = one_within_sum (λ (x : SeatView M E R). x.parts) t.views id s sits in let p = k.parts in omega arith;
           },
         ),
       )

@@ -18,7 +18,9 @@ use Rattle.ifmap_hall.specs.declared.view.Stage.TheVariants.{Idle}
 use Rattle.ifmap_hall.specs.declared.view.Terms.{Terms}
 use Rattle.ifmap_hall.proofs.Cutting.{Stems, stems_ordered}
 use Rattle.ifmap_hall.proofs.Extending.{extends-itself, longer, later_extends, earlier_extends}
-use Rattle.ifmap_hall.proofs.General.{at_within, falsehood, sum_set, two_at_most}
+use Rattle.std.proofs.lemmas.Bool.{true≢false}
+use Rattle.ifmap_lemmas.specs.Elements.{place_within}
+use Rattle.ifmap_lemmas.specs.Sums.{sum_set, two_within_sum}
 use Rattle.ifmap_hall.proofs.Places.{rises_le, rises_merge, times-merge, once_most}
 
 -- of two histories the later one, and the earlier one
@@ -95,7 +97,7 @@ module _ {M E R : Type 0} (next : M → E → M) (weight : E → ℕ) where
 
     disjoint : (x : ℕ) → times x s.view.mine + times x u.view.mine ≤ 1
     disjoint x =
-        let t = two_at_most (λ (y : SeatView M E R). times x y.view.mine) seats id other s u (λ e. ne (sym e)) sits there in
+        let t = two_within_sum (λ (y : SeatView M E R). times x y.view.mine) seats id other s u (λ e. ne (sym e)) sits there in
         let p = k.places x in let o = once_most x (length k.history.log) in omega arith
 
     late_fits : (late : History E) → (late ≡ s.view.history) ⊎ (late ≡ u.view.history)
@@ -127,8 +129,8 @@ module _ {M E R : Type 0} (next : M → E → M) (weight : E → ℕ) where
           extends = fits.0;
           joined = joint.rest;
           queued = λ w. absurd (omega (arith, no_ticket));
-          held = λ w. absurd (falsehood (sym w ∙ no_book));
-          lone = λ l. absurd (falsehood (sym l));
+          held = λ w. absurd (true≢false (sym w ∙ no_book));
+          lone = λ l. absurd (true≢false (sym l));
         })
     glue_fits i x (is_spent p e) h = let q : 0 ≡ x.parts = ap (λ (y : SeatView M E R). y.parts) e in absurd (omega arith)
     glue_fits i x (is_old n o e) h = k.fit i x e h
@@ -145,10 +147,10 @@ module _ {M E R : Type 0} (next : M → E → M) (weight : E → ℕ) where
     glue_stems i x (is_old n o e) h = record { index = i; old = x; sits = e; part = h; seen = refl }
 
     glue_alone : (i : ℕ) (x : SeatView M E R) → Place seats id other (joint_seat s u) (spent_seat m) i x → x.view.lone ≡ true → ⊥
-    glue_alone i x (is_both p e) l = falsehood (sym l ∙ ap (λ (y : SeatView M E R). y.view.lone) (sym e))
-    glue_alone i x (is_spent p e) l = falsehood (sym l ∙ ap (λ (y : SeatView M E R). y.view.lone) (sym e))
+    glue_alone i x (is_both p e) l = true≢false (sym l ∙ ap (λ (y : SeatView M E R). y.view.lone) (sym e))
+    glue_alone i x (is_spent p e) l = true≢false (sym l ∙ ap (λ (y : SeatView M E R). y.view.lone) (sym e))
     glue_alone i x (is_old n o e) l =
-        let one = k.alone i x e l in let a = at_within seats i x e in let c = at_within seats id s sits in n (omega arith)
+        let one = k.alone i x e l in let a = place_within seats i x e in let c = place_within seats id s sits in n (omega arith)
 
     glue_free : ((j : ℕ) (y : SeatView M E R) → Sits seats j y → holds_book y.stage ≡ false) → (i : ℕ) (x : SeatView M E R)
         → Place seats id other (joint_seat s u) (spent_seat m) i x
@@ -171,10 +173,10 @@ module _ {M E R : Type 0} (next : M → E → M) (weight : E → ℕ) where
       seat = o.seat;
       holder = o.holder;
       sits = set_else (set seats id (joint_seat s u)) other o.seat (spent_seat m)
-          (λ e. falsehood (sym o.holds ∙ ap (λ (y : SeatView M E R). holds_book y.stage)
+          (λ e. true≢false (sym o.holds ∙ ap (λ (y : SeatView M E R). holds_book y.stage)
           (some-injective o.holder u (sym o.sits ∙ ap (get_elem? seats) e ∙ there)) ∙ no_book_other))
           ∙ set_else seats id o.seat (joint_seat s u)
-          (λ e. falsehood (sym o.holds ∙ ap (λ (y : SeatView M E R). holds_book y.stage)
+          (λ e. true≢false (sym o.holds ∙ ap (λ (y : SeatView M E R). holds_book y.stage)
           (some-injective o.holder s (sym o.sits ∙ ap (get_elem? seats) e ∙ sits)) ∙ no_book))
           ∙ o.sits;
       holds = o.holds;

@@ -1,6 +1,5 @@
 pub mod CarryingOn
 pub mod Extending
-pub mod General
 pub mod Places
 pub mod Settling
 pub mod Changes

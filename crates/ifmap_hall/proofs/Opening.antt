@@ -14,7 +14,9 @@ use Rattle.ifmap_hall.specs.declared.book.Book.{Book}
 use Rattle.ifmap_hall.specs.declared.view.SeatView.{SeatView}
 use Rattle.ifmap_hall.specs.declared.view.Terms.{Terms}
 use Rattle.ifmap_hall.proofs.Extending.{extends-itself}
-use Rattle.ifmap_hall.proofs.General.{falsehood, only_one, sum_one}
+use Rattle.std.proofs.lemmas.Bool.{true≢false}
+use Rattle.ifmap_lemmas.specs.Elements.{only_place}
+use Rattle.ifmap_lemmas.specs.Sums.{sum_one}
 
 module _ {M E R : Type 0} (next : M → E → M) (weight : E → ℕ) where
   -- a book with nothing in it
@@ -43,7 +45,7 @@ module _ {M E R : Type 0} (next : M → E → M) (weight : E → ℕ) where
       → IsInTurn next weight terms (0 ∷ 0 ∷ []) (map some slots) (first_seat terms ∷ [])
   opens terms b slots e stands =
       let s : SeatView M E R = first_seat terms in
-      let is = λ (i : ℕ) (x : SeatView M E R) (h : Sits (s ∷ []) i x). only_one s i x h in
+      let is = λ (i : ℕ) (x : SeatView M E R) (h : Sits (s ∷ []) i x). only_place s i x h in
       record {
         history = no_history;
         served = 0;
@@ -72,7 +74,7 @@ module _ {M E R : Type 0} (next : M → E → M) (weight : E → ℕ) where
           extends = extends-itself no_history;
           joined = extends-itself no_history;
           queued = λ q. absurd (omega arith);
-          held = λ q. absurd (falsehood (sym q));
+          held = λ q. absurd (true≢false (sym q));
           lone = λ _. refl;
         });
         ordered = λ i j x y h k _ _. subst (λ (z : SeatView M E R). Ordered x.view.history z.view.history)

@@ -1,7 +1,7 @@
 -- Giving the book back and passing the turn on.
 use Rattle.std.proofs.Common.{◌≡◌, ◌≢◌, ◌⊎◌, ℕ, ◌+◌, ◌%◌, ◌^◌, ◌<◌, List, [], ◌∷◌, length, set, slice_index, true, false, refl, sym, ap, subst, ◌∙◌, inl, inr, arith}
 use mathlib.Core.Option.{some, none}
-use Rattle.std.proofs.lemmas.Bool.{false_from_ne_true}
+use Rattle.std.proofs.lemmas.Bool.{false_from_ne_true, true≢false}
 use Rattle.std.specs.Prelude.{Option, Some}
 use Rattle.atomic_table.specs.Table.{Step, Act, gives, Valid, homes_after, carried_after, Allows}
 use Rattle.atomic_table.proofs.Lists.{at_set}
@@ -17,7 +17,6 @@ use Rattle.ifmap_hall.specs.declared.view.Terms.{Terms}
 use Rattle.ifmap_hall.proofs.Changes.{Goes, seat_goes, holder_has_ticket}
 use Rattle.ifmap_hall.proofs.Drawing.{ticket_after, has_part, holder_served}
 use Rattle.ifmap_hall.proofs.Extending.{extends-itself, extends-through, gains_rest, longer}
-use Rattle.ifmap_hall.proofs.General.{falsehood}
 use Rattle.ifmap_hall.proofs.Places.{gains_places, gains_rise, rises_le}
 
 module _ {E : Type 0} where
@@ -67,7 +66,7 @@ module _ {M E R : Type 0} (next : M → E → M) (weight : E → ℕ) (reply : M
               let q = ((k.fit j x e (has_part next weight terms words homes seats k j x e one)).queued one).0 in
               let ne : ticket_of x.stage ≢ k.served = λ e'. n (k.apart j id x s e sits one waits (e' ∙ sym ticket)) in
               omega arith;
-          held = λ j x n e h. absurd (falsehood (sym h ∙ no_other j x n e));
+          held = λ j x n e h. absurd (true≢false (sym h ∙ no_other j x n e));
           fits = record {
             terms_are = f.terms_are;
             sound = record {
@@ -78,7 +77,7 @@ module _ {M E R : Type 0} (next : M → E → M) (weight : E → ℕ) (reply : M
             extends = extends-itself after;
             joined = extends-none after;
             queued = λ h. absurd (omega arith);
-            held = λ h. absurd (falsehood (sym h));
+            held = λ h. absurd (true≢false (sym h));
             lone = λ _. refl;
           };
           tickets = omega arith;
@@ -92,7 +91,7 @@ module _ {M E R : Type 0} (next : M → E → M) (weight : E → ℕ) (reply : M
 
     -- the slot is empty while a seat has the book
     empty : AtHome next weight terms k.history homes seats ⊎ IsOut next weight homes seats → homes ≡ none ∷ []
-    empty (inl a) = absurd (falsehood (sym holds ∙ a.free id s sits))
+    empty (inl a) = absurd (true≢false (sym holds ∙ a.free id s sits))
     empty (inr o) = o.gone
 
   pub passes : (terms : Terms M) (slots id : ℕ) (s : SeatView M E R) (b : Book M E R) (st : Step (Option (Book M E R))) → 0 < s.parts

@@ -26,7 +26,7 @@ use Rattle.ifmap_hall.specs.declared.view.History.{History}
 use Rattle.ifmap_hall.specs.declared.view.HallView.{HallView}
 use Rattle.ifmap_hall.proofs.CarryingOn.{run-append}
 use Rattle.ifmap_hall.proofs.Extending.{extends-through, longer}
-use Rattle.ifmap_hall.proofs.General.{joined_up, front_of, rest_of}
+use Rattle.ifmap_lemmas.specs.Fronts.{front_again, joined_up, rest_again}
 use Rattle.ifmap_hall.proofs.Places.{gains_rise, rises_le}
 use Rattle.ifmap_lemmas.specs.Lists.{cut_same}
 
@@ -135,8 +135,8 @@ module _ {M E R : Type 0} (next : M → E → M) (weight : E → ℕ) (holds_on 
       gives_by more book limits g few =
           let near = g.near in
           let long = longer h (history_in h b') (extends_by more g) in
-          let front : take b'.from (history_in h b').log ≡ take b'.from h.log = front_of b'.from h.log b'.journal.items near in
-          let rest : drop b'.from (history_in h b').log ≡ b'.journal.items = rest_of b'.from h.log b'.journal.items near in
+          let front : take b'.from (history_in h b').log ≡ take b'.from h.log = front_again b'.from h.log b'.journal.items near in
+          let rest : drop b'.from (history_in h b').log ≡ b'.journal.items = rest_again b'.from h.log b'.journal.items near in
           record {
             book = record {
               book = book;

@@ -13,6 +13,7 @@ use Rattle.ifmap_folds.specs.laws.RisingLaws.{put_has}
 use Rattle.ifmap_folds.specs.ifmap_fresh.Fresh.{fresh}
 use Rattle.ifmap_lemmas.specs.Filters.{all_weaker, filter_passes}
 use Rattle.ifmap_lemmas.specs.Having.{Has, filter_has, has_any, has_either, has_filter, map_has, all_has}
+use Rattle.ifmap_lemmas.specs.Parted.{find_has}
 use Rattle.ifmap_machine.specs.Agreeing.{items_polled}
 use Rattle.ifmap_machine.specs.Ending.{drop_sessions}
 use Rattle.ifmap_machine.specs.State.{Standing, State, standing_in, standing_order}
@@ -23,7 +24,7 @@ use Rattle.ifmap_machine.specs.Subscribing.{Told, begin_name, drop_name, is_full
 use Rattle.ifmap_machine.specs.Telling.{is_overfull, is_overrun, is_too_big, overflow, overflow_session, tell, tell_session, told_in_session}
 use Rattle.ifmap_machine.specs.Telling.{too_big_item}
 use Rattle.ifmap_machine.proofs.Folding.{AreOf, Folds, dropped_stay, fold_joined, other_stays, told_all}
-use Rattle.ifmap_machine.proofs.Ids.{find_has, one_of_serial}
+use Rattle.ifmap_machine.proofs.Ids.{one_of_serial}
 use Rattle.ifmap_machine.proofs.Standing.{IsStood}
 use Rattle.ifmap_machine.proofs.Tables.{IsTabled, overflow_keeps}
 use Rattle.ifmap_machine.specs.OrderLaws.{standing_total}

@@ -7,7 +7,7 @@
 use Rattle.std.proofs.Common.{◌≡◌, sym, subst, ℕ, Bool, true, false, not, List, [], ◌∷◌, ◌++◌, map, inl, inr}
 use Rattle.std.specs.Prelude.{Option, None, Some, IfSome, option_and_then, ◌==◌}
 use Rattle.std.proofs.lemmas.Bool.{cases_Bool}
-use Rattle.std.specs.List.{AllByRecursion, filter, find, flat_map, list_any}
+use Rattle.std.specs.List.{AllByRecursion, filter, find, list_any}
 use Rattle.std.specs.Ordering.{is_gt, is_lt}
 use Rattle.ifmap_elem.specs.Chars.{IsCharacters}
 use Rattle.ifmap_folds.specs.Differences.{difference, has_entry}
@@ -18,6 +18,7 @@ use Rattle.ifmap_ident.specs.declared.codes.Code.TheVariants.{AccessDenied, Inva
 use Rattle.ifmap_ident.specs.declared.items.Item.{Item}
 use Rattle.ifmap_ident.specs.CodeLaws.{code_characters}
 use Rattle.ifmap_lemmas.specs.Filters.{all_around, all_filter, all_weaker}
+use Rattle.ifmap_lemmas.specs.Mapped.{all_of_joined}
 use Rattle.ifmap_lemmas.specs.Members.{both_all, map_of_all}
 use Rattle.ifmap_machine.specs.declared.events.Answer.{Answer}
 use Rattle.ifmap_machine.specs.declared.events.Ask.{Ask}
@@ -104,11 +105,6 @@ fit_where : (item : List Entry → PollItem) → ((entries : List Entry) → Are
 fit_where item f [] e = tt
 fit_where item f (x ∷ entries) e = (f (x ∷ entries) e, tt)
 
-fit_flat : {X Y : Type 0} (P : X → Type 0) (Q : Y → Type 0) (f : X → List Y) → ((x : X) → P x → AllByRecursion Q (f x)) → (xs : List X)
-    → AllByRecursion P xs → AllByRecursion Q (flat_map f xs)
-fit_flat P Q f h [] all = tt
-fit_flat P Q f h (x ∷ xs) all = both_all Q (f x) (flat_map f xs) (h x all.0) (fit_flat P Q f h xs all.1)
-
 module _ (before after : List Attachment) (notes : List Note) (graph : IsGraph before) (whole : AreWhole before)
     (graph_after : IsGraph after) (whole_after : AreWhole after) (fit : AreFitNotes notes) where
   fit_differences : (x : Standing) → IsCharacters x.name
@@ -137,7 +133,7 @@ module _ (before after : List Attachment) (notes : List Note) (graph : IsGraph b
   fit_told_in : (standing : List Standing) (serial : ℕ) → AllByRecursion HasFitName standing
       → IsFitQueue (told_in_session before after notes standing serial)
   fit_told_in standing serial names =
-      fit_flat HasFitName IsFitPollItem (told_to before after notes) fit_told_to (standing_in serial standing)
+      all_of_joined HasFitName IsFitPollItem (told_to before after notes) fit_told_to (standing_in serial standing)
       (all_filter HasFitName (λ x. x.serial == serial) standing names)
 
 -- ---- 2. what keeps states fit
@@ -224,7 +220,7 @@ module _ (by : Authorship) (name : IsClientName by.client) where
   fit_op_notes (publishing.Delete item filter) f = tt
 
   fit_notes : (ops : List PublishOp) → AllByRecursion IsFitOp ops → AreFitNotes (notes_of by ops)
-  fit_notes ops f = fit_flat IsFitOp (λ n. IsFitEntry (entry_noted n)) (notes_of_op by) fit_op_notes ops f
+  fit_notes ops f = all_of_joined IsFitOp (λ n. IsFitEntry (entry_noted n)) (notes_of_op by) fit_op_notes ops f
 
 record IsFitTold (t : Told) : Type 0 where
   pub queue : IsFitQueue t.queue

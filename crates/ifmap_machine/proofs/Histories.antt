@@ -14,6 +14,7 @@ use Rattle.std.specs.Option.{option_map}
 use Rattle.ifmap_folds.specs.Folds.{Sets, fold_items, no_sets, with_entries}
 use Rattle.ifmap_folds.specs.ifmap_fresh.Fresh.{fresh}
 use Rattle.ifmap_lemmas.specs.Having.{Has, all_has}
+use Rattle.ifmap_lemmas.specs.Parted.{find_has}
 use Rattle.ifmap_machine.specs.declared.events.Answer.{Answer}
 use Rattle.ifmap_machine.specs.declared.events.Answer.TheVariants as the_answer
 use Rattle.ifmap_machine.specs.declared.events.Ask.{Ask}
@@ -32,7 +33,7 @@ use Rattle.ifmap_machine.proofs.Agreeing.{Follows, Tells, begun_follows, drop_fo
 use Rattle.ifmap_machine.proofs.Agreeing.{poll_follows, renewed_follows, tell_follows, tells_fewer, told_follows}
 use Rattle.ifmap_machine.proofs.Cases.{former_keeps, in_session_keeps, lost_keeps, poll_keeps, purge_keeps, search_keeps}
 use Rattle.ifmap_machine.proofs.Folding.{Folds, fold_joined}
-use Rattle.ifmap_machine.proofs.Ids.{find_has, one_of_serial}
+use Rattle.ifmap_machine.proofs.Ids.{one_of_serial}
 use Rattle.ifmap_machine.proofs.Standing.{IsStood, ended_stood, event_stood, stood_filter, stood_none}
 use Rattle.ifmap_machine.proofs.Tables.{IsTabled, event_table, expired_table, opening_table}
 use Rattle.ifmap_meta.specs.ClientNames.{IsClientName}

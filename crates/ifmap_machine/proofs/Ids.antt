@@ -1,22 +1,11 @@
--- Sessions by their ids and serials.
--- Ids tell serials (`ids_tell`), sessions of one serial are one (`one_of_serial`), and what is found is there (`find_has`).
-use Rattle.std.proofs.Common.{◌≡◌, sym, ◌∙◌, ap, Bool, true, List, [], ◌∷◌}
-use Rattle.std.proofs.Common.{None, Some, inl, inr, arith}
-use Rattle.std.proofs.lemmas.Bool.{cases_Bool}
+-- Sessions by their serials: those of one serial are one (`one_of_serial`).
+use Rattle.std.proofs.Common.{◌≡◌, sym, ◌∙◌, ap, List, [], ◌∷◌}
+use Rattle.std.proofs.Common.{inl, inr, arith}
 use Rattle.std.proofs.lemmas.Bool.Decides.{nat_tests}
-use Rattle.std.specs.List.{find}
 use Rattle.std.specs.List.Sorted.{IsStrictlySortedBy}
 use Rattle.std.specs.declared.cmp.Ordering.TheVariants.{Less}
 use Rattle.ifmap_lemmas.specs.Having.{Has, all_has}
 use Rattle.ifmap_session.specs.Sessions.{Session, session_order}
-
-pub find_has : {X : Type 0} (q : X → Bool) (xs : List X) (x : X) → find q xs ≡ Some x → Has xs x × (q x ≡ true)
-find_has q [] x e = let bad : None ≡ Some x = e in cc
-find_has q (y ∷ ys) x e =
-    elim (cases_Bool (q y)) [
-      | inl hit ↦ let same : y ≡ x = cc (rw hit at e) in (inl same, ap q (sym same) ∙ hit)
-      | inr miss ↦ let rest = find_has q ys x (rw miss at e) in (inr rest.0, rest.1)
-    ]
 
 pub one_of_serial : (live : List Session) (one other : Session) → IsStrictlySortedBy session_order live → Has live one → Has live other
     → one.serial ≡ other.serial → one ≡ other

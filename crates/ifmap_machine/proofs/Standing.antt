@@ -1,6 +1,6 @@
 -- What holds of the subscriptions in every state (`AreStood`): they rise by session and name, and a
 -- session has 1,000 at most.
--- 1. How many of a list pass a test, where one goes (`one_gone`) or is put in (`put_counted`).
+-- 1. How many of a list pass a test, where one is put in (`put_counted`).
 -- 2. What a filter keeps (`stood_filter`), and a subscription that begins where there is room
 --    (`stood_begun`).
 -- 3. So each operation of a subscribe keeps it, and the fold of them does (`stood_ops`).
@@ -10,13 +10,14 @@ use Rattle.std.proofs.Common.{◌≡◌, refl, ◌∙◌, ap, subst, ℕ, ◌+�
 use Rattle.std.proofs.Common.{◌++◌, length, Option, None, Some, option_and_then, inl, inr, nat_le, arith, length-append}
 use Rattle.std.proofs.lemmas.Bool.{and_cases, and_parts, cases_Bool}
 use Rattle.std.proofs.lemmas.Bool.Decides.{nat_tests}
+use Rattle.std.proofs.lemmas.List.Elements.{filter-append}
 use Rattle.std.proofs.lemmas.List.Kept.{IsStrictlySortedBy-filter}
 use Rattle.std.specs.List.{filter, list_any}
 use Rattle.std.specs.List.Sorted.{IsStrictlySortedBy}
 use Rattle.std.specs.Ordering.{is_gt, is_lt}
 use Rattle.std.specs.declared.cmp.Ordering.{Ordering}
-use Rattle.std.specs.declared.cmp.Ordering.TheVariants.{Less, Equal, Greater}
 use Rattle.ifmap_lemmas.specs.Filters.{filter_fewer}
+use Rattle.ifmap_lemmas.specs.Parted.{one_gone, two_sides}
 use Rattle.ifmap_machine.specs.declared.events.Ask.{Ask}
 use Rattle.ifmap_machine.specs.Ending.{end_some, expire}
 use Rattle.ifmap_machine.specs.Events.{Event}
@@ -38,41 +39,6 @@ use Rattle.ifmap_publish.specs.ifmap_view.declared.attachments.Attachment.{Attac
 -- ---- how many
 
 module _ {X : Type 0} (q : X → Bool) where
-  -- one less at least, where one that counts goes
-  pub one_gone : (r : X → Bool) → ((x : X) → r x ≡ true → q x ≡ true) → (xs : List X) → list_any r xs ≡ true
-      → length (filter q (filter (λ x. not (r x)) xs)) < length (filter q xs)
-  one_gone r counts [] some = let bad : false ≡ true = some in cc
-  one_gone r counts (x ∷ xs) some =
-      elim (cases_Bool (r x)) [
-        | inl goes ↦
-            let rest = filter_fewer q (λ y. not (r y)) xs in
-            rw (goes, counts x goes) (omega (arith, rest))
-        | inr stays ↦
-            let rest = one_gone r counts xs (rw stays at some) in
-            elim (cases_Bool (q x)) [ inl is ↦ rw (stays, is) (omega (arith, rest)) | inr other ↦ rw (stays, other) rest ]
-      ]
-
-  pub filter_joined : (xs ys : List X) → filter q (xs ++ ys) ≡ filter q xs ++ filter q ys
-  filter_joined [] ys = refl
-  filter_joined (x ∷ xs) ys = elim (cases_Bool (q x)) [
-    | inl hit ↦ rw hit (ap (λ zs. x ∷ zs) (filter_joined xs ys))
-    | inr miss ↦ rw miss (filter_joined xs ys)
-  ]
-
-  -- those below and those above one are no more than all
-  two_sides : (C : X → X → Ordering) (a : X) (xs : List X)
-      → length (filter q (filter (λ y. is_lt (C y a)) xs)) + length (filter q (filter (λ y. is_gt (C y a)) xs)) ≤ length (filter q xs)
-  two_sides C a [] = omega arith
-  two_sides C a (x ∷ xs) = at (C x a) refl (two_sides C a xs)
-    where
-      at : (o : Ordering) → C x a ≡ o
-          → length (filter q (filter (λ y. is_lt (C y a)) xs)) + length (filter q (filter (λ y. is_gt (C y a)) xs)) ≤ length (filter q xs)
-          → length (filter q (filter (λ y. is_lt (C y a)) (x ∷ xs))) + length (filter q (filter (λ y. is_gt (C y a)) (x ∷ xs)))
-          ≤ length (filter q (x ∷ xs))
-      at Less e rest = rw e (elim (cases_Bool (q x)) [ inl h ↦ rw h (omega (arith, rest)) | inr h ↦ rw h rest ])
-      at Equal e rest = rw e (elim (cases_Bool (q x)) [ inl h ↦ rw h (omega (arith, rest)) | inr h ↦ rw h rest ])
-      at Greater e rest = rw e (elim (cases_Bool (q x)) [ inl h ↦ rw h (omega (arith, rest)) | inr h ↦ rw h rest ])
-
   one_more : (a : X) (xs : List X) → length (filter q (a ∷ xs)) ≤ length (filter q xs) + 1
   one_more a xs = elim (cases_Bool (q a)) [ inl h ↦ rw h (omega arith) | inr h ↦ rw h (omega arith) ]
 
@@ -81,20 +47,20 @@ module _ {X : Type 0} (q : X → Bool) where
   put_counted C a xs =
       let below : List X = filter (λ y. is_lt (C y a)) xs in
       let above : List X = filter (λ y. is_gt (C y a)) xs in
-      let sides = two_sides C a xs in
+      let sides = two_sides q C a xs in
       let more = one_more a above in
       let joined : length (filter q (below ++ a ∷ above)) ≡ length (filter q below) + length (filter q (a ∷ above)) =
-      ap length (filter_joined below (a ∷ above)) ∙ length-append (filter q below) (filter q (a ∷ above)) in
+      ap length (filter-append q below (a ∷ above)) ∙ length-append (filter q below) (filter q (a ∷ above)) in
       omega (arith, sides, more, joined)
 
   pub put_passed : (C : X → X → Ordering) (a : X) (xs : List X) → q a ≡ false → length (filter q (put C a xs)) ≤ length (filter q xs)
   put_passed C a xs other =
       let below : List X = filter (λ y. is_lt (C y a)) xs in
       let above : List X = filter (λ y. is_gt (C y a)) xs in
-      let sides = two_sides C a xs in
+      let sides = two_sides q C a xs in
       let same : length (filter q (a ∷ above)) ≡ length (filter q above) = rw other refl in
       let joined : length (filter q (below ++ a ∷ above)) ≡ length (filter q below) + length (filter q (a ∷ above)) =
-      ap length (filter_joined below (a ∷ above)) ∙ length-append (filter q below) (filter q (a ∷ above)) in
+      ap length (filter-append q below (a ∷ above)) ∙ length-append (filter q below) (filter q (a ∷ above)) in
       omega (arith, sides, same, joined)
 
 -- ---- subscriptions

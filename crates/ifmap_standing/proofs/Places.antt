@@ -1,31 +1,16 @@
--- Lists of subscriptions, place by place. First that a relation at each place follows from another (`weaker`). Then a walk from the
--- last place down that changes each by a way (`Down`): as it begins, at one place, and at its end. Last, that ways lead back still
--- after what keeps the same (`stay`).
-use Rattle.std.proofs.Common.{◌≡◌, inl, inr, ℕ, zero, suc, ◌+◌, ◌<◌, ◌≤◌, Option, Some, None, List, [], ◌∷◌, ◌++◌, length, get_or, set, slice_get, take, refl, ap, ◌∙◌, sym, subst, arith}
+-- Lists of subscriptions, place by place. First a walk from the last place down that changes each by a way (`Down`): as it begins, at
+-- one place, and at its end. Last, that ways lead back still after what keeps the same (`stay`).
+use Rattle.std.proofs.Common.{◌≡◌, inl, inr, ℕ, ◌+◌, ◌<◌, ◌≤◌, Option, Some, None, List, [], ◌∷◌, ◌++◌, length, get_or, set, slice_get, refl, ap, ◌∙◌, sym, subst, arith}
 use Rattle.std.proofs.lemmas.Bool.{cases_order}
 use Rattle.std.proofs.lemmas.List.{length-append, length-set}
 use Rattle.std.proofs.lemmas.Option.{slice_get_past, slice_get_read, slice_get_within, same_Some}
 use Rattle.ifmap_delta.specs.declared.subscriptions.Subscription.{Subscription}
+use Rattle.ifmap_lemmas.specs.Fronts.{before_last}
 use Rattle.ifmap_lemmas.specs.Places.{last_there, written_elsewhere, written_there}
 use Rattle.ifmap_standing.specs.declared.standing.Standing.{Standing}
 use Rattle.ifmap_standing.specs.Kept.{AtEach, KeepsSame, StaysRelated}
 use Rattle.ifmap_standing.specs.Ways.{LeadBack, LeadsBackWhere, Way}
 use Rattle.ifmap_standing.specs.PlaceLaws.{at_each_joined, searches_twice, keeps_twice}
-
-pub before_last : {X : Type 0} (xs : List X) (x : X) (i : ℕ) → i < length xs → slice_get (xs ++ x ∷ []) i ≡ slice_get xs i
-before_last [] x i less = absurd (omega (arith, less))
-before_last (y ∷ xs) x zero less = refl
-before_last (y ∷ xs) x (suc i) less = before_last xs x i (omega (arith, less))
-
-pub front_there : {X : Type 0} (n : ℕ) (xs : List X) (i : ℕ) → i < n → slice_get (take n xs) i ≡ slice_get xs i
-front_there zero xs i less = absurd (omega (arith, less))
-front_there (suc n) [] i less = refl
-front_there (suc n) (x ∷ xs) zero less = refl
-front_there (suc n) (x ∷ xs) (suc i) less = front_there n xs i (omega (arith, less))
-
-pub weaker : {X : Type 0} (R S : ℕ → X → X → Type 0) → ((i : ℕ) (x y : X) → R i x y → S i x y) → (a b : List X)
-    → AtEach R a b → AtEach S a b
-weaker R S f a b r = record { long = r.long; at = λ i x y p q. f i x y (r.at i x y p q) }
 
 -- ways lead back still after what keeps the same
 stays : (way : Option (Option Way)) (a b c : Subscription) → LeadsBackWhere way a b → KeepsSame b c → LeadsBackWhere way a c

@@ -7,17 +7,19 @@
 --    (`ways_failed`, `steps_end`).
 -- 5. At the end all are told: their news (`news_end`), what they keep (`kept_end`), steps
 --    (`steps_all`).
-use Rattle.std.proofs.Common.{◌≡◌, ◌≢◌, inl, inr, ℕ, zero, suc, ◌+◌, ◌<◌, ◌≤◌, Bool, true, false, Option, Some, List, [], ◌∷◌, ◌++◌, length, map, get_or, set, slice_get, take, drop, refl, ap, ◌∙◌, sym, subst, arith}
+use Rattle.std.proofs.Common.{◌≡◌, ◌≢◌, inl, inr, ℕ, ◌+◌, ◌<◌, ◌≤◌, Bool, true, false, Option, Some, List, [], ◌∷◌, ◌++◌, length, map, get_or, set, slice_get, take, drop, refl, ap, ◌∙◌, sym, subst, arith}
 use Rattle.std.specs.List.{zip}
 use Rattle.std.proofs.lemmas.Bool.{cases_order}
 use Rattle.std.proofs.lemmas.List.{length-append, length-set, map-append, take-append-drop, take_all}
 use Rattle.std.proofs.Math.Numerals.{add-one}
-use Rattle.std.proofs.lemmas.Option.{slice_get_past, slice_get_within, slice_get-get_or, same_Some, none-some}
+use Rattle.std.proofs.lemmas.Option.{slice_get_past, slice_get_within, slice_get-get_or, same_Some}
 use Rattle.std.proofs.lemmas.Slice.Zip.{length-zip}
 use Rattle.ifmap_delta.specs.declared.subscriptions.Subscription.{Subscription}
 use Rattle.ifmap_delta.specs.Bounds.{IsNear, one_and_links}
 use Rattle.ifmap_delta.specs.Sights.{IsUpToDate, ViewSeen}
 use Rattle.ifmap_delta.specs.Ways.{HasSameSearch}
+use Rattle.ifmap_lemmas.specs.Fronts.{before_last}
+use Rattle.ifmap_lemmas.specs.Mapped.{mapped_there, zip_more}
 use Rattle.ifmap_lemmas.specs.Places.{last_there, written_elsewhere, written_there}
 use Rattle.ifmap_machine.specs.State as machine
 use Rattle.ifmap_delta.specs.ifmap_plans.declared.plans.Note.{Note}
@@ -29,21 +31,7 @@ use Rattle.ifmap_standing.specs.Kept.{AtEach, KeepsSame, StaysRelated}
 use Rattle.ifmap_standing.specs.News.{news_of_each, news_where}
 use Rattle.ifmap_standing.specs.Standing.{standing_of}
 use Rattle.ifmap_standing.specs.Ways.{LeadBack, LeadsBackWhere, Way}
-use Rattle.ifmap_standing.proofs.Places.{before_last, weaker}
-use Rattle.ifmap_standing.specs.PlaceLaws.{at_each_same, keeps_itself, leads_search}
-
--- two lists side by side, one place on
-zip_more : {A B : Type 0} (us : List A) (vs : List B) (n : ℕ) (a : A) (b : B) → slice_get us n ≡ Some a → slice_get vs n ≡ Some b
-    → take (suc n) (zip us vs) ≡ take n (zip us vs) ++ (a, b) ∷ []
-zip_more [] vs n a b p q = absurd (none-some a p)
-zip_more (x ∷ us) [] n a b p q = absurd (none-some b q)
-zip_more (x ∷ us) (y ∷ vs) zero a b p q = ap (λ u. (u, y) ∷ []) (same_Some x a p) ∙ ap (λ u. (a, u) ∷ []) (same_Some y b q)
-zip_more (x ∷ us) (y ∷ vs) (suc n) a b p q = ap (λ l. (x, y) ∷ l) (zip_more us vs n a b p q)
-
-mapped_there : {X Y : Type 0} (f : X → Y) (xs : List X) (n : ℕ) (x : X) → slice_get xs n ≡ Some x → slice_get (map f xs) n ≡ Some (f x)
-mapped_there f [] n x p = absurd (none-some x p)
-mapped_there f (y ∷ xs) zero x p = ap (λ z. Some (f z)) (same_Some y x p)
-mapped_there f (y ∷ xs) (suc n) x p = mapped_there f xs n x p
+use Rattle.ifmap_standing.specs.PlaceLaws.{at_each_same, at_each_weaker, keeps_itself, leads_search}
 
 -- steps
 module _ (old new : ViewSeen) where
@@ -269,7 +257,7 @@ module _ {old new : ViewSeen} {notes : List Note} {skipped : List Bool} {xs : Li
 pub lead_searches : (xs : List Standing) (ways : List (Option Way)) (now : List Standing) → LeadBack xs ways now
     → AtEach (λ _. StaysRelated HasSameSearch) xs now
 lead_searches xs ways now l =
-    weaker (λ i. StaysRelated (LeadsBackWhere (slice_get ways i))) (λ _. StaysRelated HasSameSearch)
+    at_each_weaker (λ i. StaysRelated (LeadsBackWhere (slice_get ways i))) (λ _. StaysRelated HasSameSearch)
     (λ i x y s. record {
       serial = s.serial;
       name = s.name;

@@ -1,5 +1,5 @@
 -- Subscriptions place by place.
-use Rattle.std.proofs.Common.{ℕ, List, ◌∙◌, refl, sym, subst, Option, None, Some}
+use Rattle.std.proofs.Common.{◌≡◌, ℕ, zero, suc, List, [], ◌∷◌, map, ◌∙◌, refl, ap, sym, subst, Option, None, Some, arith}
 use Rattle.ifmap_lemmas.specs.Places.{something_at}
 use Rattle.ifmap_standing.specs.Kept.{AtEach, KeepsSame, StaysRelated}
 use Rattle.std.proofs.lemmas.Option.{same_Some}
@@ -22,6 +22,26 @@ at_each_same R f xs = record {
   long = refl;
   at = λ i x y p q. subst (λ z. R i x z) (same_Some x y (sym p ∙ q)) (f i x);
 }
+
+-- where one relation gives another
+pub at_each_weaker : {X : Type 0} (R S : ℕ → X → X → Type 0) → ((i : ℕ) (x y : X) → R i x y → S i x y) → (a b : List X)
+    → AtEach R a b → AtEach S a b
+at_each_weaker R S f a b r = record { long = r.long; at = λ i x y p q. f i x y (r.at i x y p q) }
+
+-- of the rest of both lists
+pub at_each_rest : {X : Type 0} (R : ℕ → X → X → Type 0) (x y : X) (xs ys : List X) → AtEach R (x ∷ xs) (y ∷ ys)
+    → AtEach (λ i. R (suc i)) xs ys
+at_each_rest R x y xs ys r = record { long = omega (arith, r.long); at = λ i a b p q. r.at (suc i) a b p q }
+
+-- what a map makes the same of each, it makes the same of both
+pub at_each_map : {X Y : Type 0} (f : X → Y) (R : ℕ → X → X → Type 0) → ((i : ℕ) (x y : X) → R i x y → f y ≡ f x) → (a b : List X)
+    → AtEach R a b → map f b ≡ map f a
+at_each_map f R e [] [] r = refl
+at_each_map f R e [] (y ∷ b) r = absurd (omega (arith, r.long))
+at_each_map f R e (x ∷ a) [] r = absurd (omega (arith, r.long))
+at_each_map f R e (x ∷ a) (y ∷ b) r =
+    ap (λ z. z ∷ map f b) (e zero x y (r.at zero x y refl refl))
+    ∙ ap (λ t. f x ∷ t) (at_each_map f (λ i. R (suc i)) (λ i. e (suc i)) a b (at_each_rest R x y a b r))
 
 pub search_itself : (a : Subscription) → HasSameSearch a a
 search_itself a = record { search = refl; start = refl; max_depth = refl }

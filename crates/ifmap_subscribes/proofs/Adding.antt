@@ -1,11 +1,13 @@
 -- One operation more: its name is noted, and its renaming is added.
-use Rattle.std.proofs.Common.{◌≡◌, sym, ◌∙◌, ap, subst, ℕ, ◌+◌, ◌^◌, ◌<◌, ◌≤◌, true, false, not, cond, List, [], ◌∷◌, ◌++◌, length, Option, None, inl, inr, arith, append-nil, option_to_list}
+use Rattle.std.proofs.Common.{◌≡◌, sym, ◌∙◌, ap, subst, ℕ, ◌+◌, ◌^◌, ◌<◌, ◌≤◌, true, false, not, cond, List, [], ◌∷◌, ◌++◌, length, Option, None, inl, inr, arith, append-nil, option_to_list, refl}
 use Rattle.std.specs.Prelude.{nat_le}
 use Rattle.std.proofs.lemmas.Bool.{and_cases, both_ways, cases_Bool, leb-false}
+use Rattle.std.proofs.lemmas.List.Filters.{sum_by-filter_both}
 use Rattle.std.specs.List.{AllByRecursion, list_any}
 use Rattle.ifmap_changes.specs.Between.{IsSteady, sight_now}
 use Rattle.ifmap_changes.specs.declared.parts.Parts.{Parts}
 use Rattle.ifmap_changes.specs.ifmap_delta.Sights.{IsUpToDate}
+use Rattle.ifmap_lemmas.specs.Mapped.{one_at_most}
 use Rattle.ifmap_lemmas.specs.Members.{both_all}
 use Rattle.ifmap_changes.specs.ifmap_fresh.Fresh.{fresh}
 use Rattle.ifmap_changes.specs.ifmap_machine.State.{standing_in}
@@ -19,9 +21,7 @@ use Rattle.ifmap_changes.specs.ifmap_session.Sessions.{is_named}
 use Rattle.ifmap_changes.specs.ifmap_session.laws.TextLaws.{text_itself}
 use Rattle.ifmap_changes.specs.ifmap_standing.declared.standing.Standing.{Standing}
 use Rattle.ifmap_subscribes.proofs.OfNames.{one_fewer}
-use Rattle.ifmap_subscribes.proofs.Parting.{sum_parted}
 use Rattle.ifmap_subscribes.proofs.Renamed.{IsTold, added, begun_more, noted, rename_more}
-use Rattle.ifmap_subscribes.proofs.RenamingTold.{one_at_most}
 use Rattle.ifmap_subscribes.specs.Readying.{AreCounted, AreReadied, CanStand, IsAdded, IsNoted, IsSmall, most_ops, told_after}
 use Rattle.ifmap_subscribes.specs.Renamings.{IsNameNow, IsOfSession, begun_by, rename, rename_all}
 use Rattle.ifmap_subscribes.specs.declared.names.NameNow.{NameNow}
@@ -61,7 +61,9 @@ module _ {serial : ℕ} {t : Told} {old mid : Readying} {name : List ℕ} {now :
       record {
         count = omega (arith, one, k.count, one_fewer serial name u.standing k.rising);
         few = k.few;
-        size = omega (arith, mid_now.size, k.size, sum_parted poll_size (is_named name) u.queue);
+        size =
+            let parts = sum_by-filter_both (is_named name) (λ item. not (is_named name item)) (λ item. refl) poll_size u.queue in
+            omega (arith, mid_now.size, k.size, parts);
         narrow = omega (arith, k.narrow, k.most);
       }
 

@@ -6,15 +6,16 @@ use Rattle.std.proofs.lemmas.Bool.{and_parts, cases_Bool, eq-eqb, ne_eqb}
 use Rattle.std.proofs.lemmas.Bool.Decides.{nat_tests}
 use Rattle.std.proofs.lemmas.Cmp.{nat_cmp_total, nat_list_cmp_total}
 use Rattle.std.proofs.lemmas.List.{drop_more}
-use Rattle.std.proofs.lemmas.Option.{same_Some, none-some, slice_get-get_or}
+use Rattle.std.proofs.lemmas.Option.{same_Some, none-some, slice_get-get_or, slice_get_within}
 use Rattle.std.specs.Cmp.{tied_itself}
 use Rattle.std.specs.Cmp.Lexicographic.{slice_cmp}
-use Rattle.std.specs.List.{AllByRecursion, filter, list_any}
+use Rattle.std.specs.List.{filter, list_any}
 use Rattle.std.specs.List.Sorted.{IsStrictlySortedBy}
 use Rattle.std.specs.Ordering.{nat_cmp, ordering_then}
 use Rattle.std.specs.Prelude.{slice_get}
 use Rattle.std.specs.declared.cmp.Ordering.{Ordering}
 use Rattle.std.specs.declared.cmp.Ordering.TheVariants.{Equal, Less}
+use Rattle.ifmap_lemmas.specs.AnyOf.{fails_below, none_above, none_after}
 use Rattle.ifmap_changes.specs.ifmap_machine.State.{standing_in, standing_order}
 use Rattle.ifmap_changes.specs.ifmap_machine.Subscribing.{is_of_name}
 use Rattle.ifmap_changes.specs.ifmap_session.Sessions.{is_same_text}
@@ -24,53 +25,30 @@ use Rattle.ifmap_changes.specs.ifmap_standing.declared.standing.Standing.{Standi
 use Rattle.ifmap_changes.specs.ifmap_tellings.Tellings.{kept_of}
 
 module _ {X : Type 0} (p : X → Bool) where
-  none_after : (x : X) (xs : List X) → list_any p (x ∷ xs) ≡ false → list_any p xs ≡ false
-  none_after x xs e = elim (cases_Bool (p x)) [
-    | inl hit ↦ let q : true ≡ false = sym (rw hit refl) ∙ e in cc
-    | inr miss ↦ rw miss at e
-  ]
-
   pub none_kept : (gone : List Bool) (xs : List X) → list_any p xs ≡ false → list_any p (kept_of gone xs) ≡ false
   none_kept [] xs e = refl
   none_kept (g ∷ gone) [] e = refl
-  none_kept (true ∷ gone) (x ∷ xs) e = none_kept gone xs (none_after x xs e)
+  none_kept (true ∷ gone) (x ∷ xs) e = none_kept gone xs (none_after p x xs e)
   none_kept (false ∷ gone) (x ∷ xs) e = elim (cases_Bool (p x)) [
     | inl hit ↦ let q : true ≡ false = sym (rw hit refl) ∙ e in cc
-    | inr miss ↦ rw miss (none_kept gone xs (none_after x xs e))
+    | inr miss ↦ rw miss (none_kept gone xs (none_after p x xs e))
   ]
 
   -- of members in a strict order no two of which pass, one passes
   module _ {K : Type 0} (order : K → K → Ordering) (key : X → K)
       (apart : (x y : X) → p x ≡ true → p y ≡ true → order (key x) (key y) ≡ Less → ⊥) where
-    none_above : (x : X) (xs : List X) → p x ≡ true → AllByRecursion (λ k. order (key x) k ≡ Less) (map key xs)
-        → list_any p xs ≡ false
-    none_above x [] e above = refl
-    none_above x (y ∷ ys) e above = elim (cases_Bool (p y)) [
-      | inl hit ↦ absurd (apart x y e hit above.0)
-      | inr miss ↦ rw miss (none_above x ys e above.1)
-    ]
-
-    fails_below : (z : X) (xs : List X) (at : ℕ) (x : X) → AllByRecursion (λ k. order (key z) k ≡ Less) (map key xs)
-        → slice_get xs at ≡ Some x → p x ≡ true → p z ≡ false
-    fails_below z [] at x above is e = absurd (none-some x is)
-    fails_below z (y ∷ ys) zero x above is e = elim (cases_Bool (p z)) [
-      | inl hit ↦ absurd (apart z y hit (ap p (same_Some y x is) ∙ e) above.0)
-      | inr miss ↦ miss
-    ]
-    fails_below z (y ∷ ys) (suc at) x above is e = fails_below z ys at x above.1 is e
-
     pub one_kept : (gone : List Bool) (xs : List X) (at : ℕ) (x : X) (g : Bool) → IsStrictlySortedBy order (map key xs)
         → slice_get xs at ≡ Some x → p x ≡ true → slice_get gone at ≡ Some g → list_any p (kept_of gone xs) ≡ not g
     unfolding IsStrictlySortedBy
     one_kept gone [] at x g rising is e flag = absurd (none-some x is)
     one_kept [] (y ∷ ys) at x g rising is e flag = absurd (none-some g flag)
     one_kept (true ∷ gone) (y ∷ ys) zero x g rising is e flag =
-        none_kept gone ys (none_above y ys (ap p (same_Some y x is) ∙ e) rising.0) ∙ ap not (same_Some true g flag)
+        none_kept gone ys (none_above p order key apart y ys (ap p (same_Some y x is) ∙ e) rising.0) ∙ ap not (same_Some true g flag)
     one_kept (false ∷ gone) (y ∷ ys) zero x g rising is e flag =
         let hit : p y ≡ true = ap p (same_Some y x is) ∙ e in rw hit (ap not (same_Some false g flag))
     one_kept (true ∷ gone) (y ∷ ys) (suc at) x g rising is e flag = one_kept gone ys at x g rising.1 is e flag
     one_kept (false ∷ gone) (y ∷ ys) (suc at) x g rising is e flag =
-        let miss = fails_below y ys at x rising.0 is e in rw miss (one_kept gone ys at x g rising.1 is e flag)
+        let miss = fails_below p order key apart y ys at x rising.0 is e in rw miss (one_kept gone ys at x g rising.1 is e flag)
 
   -- one member more, which counts where it passes and is not gone
   pub counted_more : (g : Bool) (gone : List Bool) (x : X) (xs : List X)
@@ -107,18 +85,13 @@ not_below serial name x y mine its less =
     ∙ tied_itself nat_list_cmp_total x.name in
     let bad : Less ≡ Equal = sym order ∙ tied in cc
 
-within_some : {X : Type 0} (xs : List X) (i : ℕ) (x : X) → slice_get xs i ≡ Some x → i < length xs
-within_some [] i x e = absurd (none-some x e)
-within_some (y ∷ ys) zero x e = omega arith
-within_some (y ∷ ys) (suc i) x e = let rest = within_some ys i x e in omega (arith, rest)
-
 -- where a subscription of the name stands, one does among those that are kept unless it is gone
 pub stands_at : (serial : ℕ) (name : List ℕ) (gone : List Bool) (standing : List Standing) (at : ℕ) (x : Standing)
     → IsStrictlySortedBy standing_order (map standing_of standing) → length gone ≡ length standing → slice_get standing at ≡ Some x
     → is_of_name serial name (standing_of x) ≡ true
     → not (get_or gone at false) ≡ list_any (is_of_name serial name) (map standing_of (kept_of gone standing))
 stands_at serial name gone standing at x rising flags is named =
-    let within : at < length gone = let there = within_some standing at x is in omega (arith, there, flags) in
+    let within : at < length gone = let there = slice_get_within standing at x is in omega (arith, there, flags) in
     sym (any_shown serial name (kept_of gone standing)
     ∙ one_kept (λ y. is_of_name serial name (standing_of y)) standing_order standing_of (not_below serial name) gone standing at x
     (get_or gone at false) rising is named (slice_get-get_or gone at false within))

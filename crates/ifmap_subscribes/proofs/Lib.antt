@@ -9,7 +9,6 @@ pub mod ToldSizes
 pub mod Starts
 -- How operations are made ready: lists, names, what a renaming makes, and what stays ready.
 pub mod Parting
-pub mod Counting
 pub mod OfNames
 pub mod Renamed
 pub mod Ready

@@ -1,13 +1,11 @@
 -- No operation is made ready yet: what is kept is so of what was before.
-use Rattle.std.proofs.Common.{◌≡◌, sym, ◌∙◌, ap, subst, ℕ, ◌^◌, ◌<◌, ◌≤◌, ◌==◌, Bool, true, false, List, [], ◌∷◌, length, map, None, Some, inl, inr, append-nil, arith}
-use Rattle.std.proofs.lemmas.Bool.{cases_Bool}
+use Rattle.std.proofs.Common.{◌≡◌, sym, ◌∙◌, ap, subst, ℕ, ◌^◌, ◌<◌, ◌≤◌, ◌==◌, Bool, List, [], length, map, None, Some, append-nil, arith}
 use Rattle.std.specs.BTreeMap.{get}
 use Rattle.std.specs.Cmp.Lexicographic.{slice_cmp}
-use Rattle.std.specs.List.{AllByRecursion, filter, list_any}
+use Rattle.std.specs.List.{filter, list_any}
 use Rattle.std.specs.List.Sorted.{IsStrictlySortedBy}
 use Rattle.std.specs.Ordering.{nat_cmp}
 use Rattle.std.specs.declared.cmp.Ordering.{Ordering}
-use Rattle.std.specs.declared.cmp.Ordering.TheVariants.{Less}
 use Rattle.ifmap_changes.specs.Between.{IsSoundSoFar, IsSteady, sessions_left}
 use Rattle.ifmap_changes.specs.declared.parts.Parts.{Parts}
 use Rattle.ifmap_changes.specs.ifmap_machine.State.{standing_in, standing_order}
@@ -21,34 +19,21 @@ use Rattle.ifmap_subscribes.specs.Readying.{AreCounted, CanStand, told_after, to
 use Rattle.ifmap_subscribes.specs.Renamings.{rename_all}
 use Rattle.ifmap_subscribes.specs.declared.readying.Readying.{Readying}
 use Rattle.ifmap_subscribes.specs.declared.readying.Scene.{Scene}
+use Rattle.ifmap_changes.specs.ifmap_tellings.KeptPlaces.{fewer_kept, rising_kept}
 use Rattle.ifmap_changes.specs.ifmap_tellings.Tellings.{kept_of, told_by}
+use Rattle.ifmap_changes.specs.ifmap_tellings.ToldLaws.{map_kept}
 
 -- what is not gone stands in order still, and is no more than all
 module _ {X Y : Type 0} (f : X → Y) where
-  all_kept : (P : Y → Type 0) (gone : List Bool) (xs : List X) → AllByRecursion P (map f xs) → AllByRecursion P (map f (kept_of gone xs))
-  all_kept P [] xs h = tt
-  all_kept P (g ∷ gone) [] h = tt
-  all_kept P (true ∷ gone) (x ∷ xs) h = all_kept P gone xs h.1
-  all_kept P (false ∷ gone) (x ∷ xs) h = (h.0, all_kept P gone xs h.1)
-
-  rising_kept : (order : Y → Y → Ordering) (gone : List Bool) (xs : List X) → IsStrictlySortedBy order (map f xs)
+  rising_shown : (order : Y → Y → Ordering) (gone : List Bool) (xs : List X) → IsStrictlySortedBy order (map f xs)
       → IsStrictlySortedBy order (map f (kept_of gone xs))
-  unfolding IsStrictlySortedBy
-  rising_kept order [] xs up = tt
-  rising_kept order (g ∷ gone) [] up = tt
-  rising_kept order (true ∷ gone) (x ∷ xs) up = rising_kept order gone xs up.1
-  rising_kept order (false ∷ gone) (x ∷ xs) up = (all_kept (λ y. order (f x) y ≡ Less) gone xs up.0, rising_kept order gone xs up.1)
+  rising_shown order gone xs up =
+      subst (λ l. IsStrictlySortedBy order l) (sym (map_kept f gone xs)) (rising_kept order gone (map f xs) up)
 
-  fewer_kept : (p : Y → Bool) (gone : List Bool) (xs : List X)
+  fewer_shown : (p : Y → Bool) (gone : List Bool) (xs : List X)
       → length (filter p (map f (kept_of gone xs))) ≤ length (filter p (map f xs))
-  fewer_kept p [] xs = omega arith
-  fewer_kept p (g ∷ gone) [] = omega arith
-  fewer_kept p (true ∷ gone) (x ∷ xs) =
-      let rest = fewer_kept p gone xs in
-      elim (cases_Bool (p (f x))) [ inl hit ↦ rw hit (omega (arith, rest)) | inr miss ↦ rw miss rest ]
-  fewer_kept p (false ∷ gone) (x ∷ xs) =
-      let rest = fewer_kept p gone xs in
-      elim (cases_Bool (p (f x))) [ inl hit ↦ rw hit (omega (arith, rest)) | inr miss ↦ rw miss rest ]
+  fewer_shown p gone xs =
+      subst (λ l. length (filter p l) ≤ length (filter p (map f xs))) (sym (map_kept f gone xs)) (fewer_kept p gone (map f xs))
 
 module _ (scene : Scene) (p : Parts) (r : Readying) (ready : IsSoundSoFar scene.asking.now p scene.pending.now)
     (live : IsLive scene.serial (sessions_left scene.asking.now p.sessions)) (made : r.made.items ≡ []) where
@@ -72,7 +57,7 @@ module _ (scene : Scene) (p : Parts) (r : Readying) (ready : IsSoundSoFar scene.
       let long = ap length made in
       record {
         rising = subst (λ u. IsStrictlySortedBy standing_order u.standing) (sym same_told)
-            (rising_kept standing_of standing_order scene.pending.now.gone.items p.standing.items ready.ordered.rising);
+            (rising_shown standing_of standing_order scene.pending.now.gone.items p.standing.items ready.ordered.rising);
         names = λ name now e. let bad : None ≡ Some now = sym (none name) ∙ e in cc;
         others = λ name e. record {
           stands = ap (λ (u : Told). list_any (is_of_name scene.serial name) u.standing) same_told;
@@ -83,7 +68,7 @@ module _ (scene : Scene) (p : Parts) (r : Readying) (ready : IsSoundSoFar scene.
           arith,
           count,
           ready.ordered.few scene.serial,
-          fewer_kept standing_of (λ x. x.serial == scene.serial) scene.pending.now.gone.items p.standing.items,
+          fewer_shown standing_of (λ x. x.serial == scene.serial) scene.pending.now.gone.items p.standing.items,
         );
         size = whole ∙ ap (λ (u : Told). queue_size u.queue) (sym same_told);
         narrow = omega (arith, small, long);

@@ -9,9 +9,11 @@ use Rattle.std.specs.List.{filter, list_any}
 use Rattle.std.specs.List.Sorted.{IsStrictlySortedBy}
 use Rattle.std.specs.Ordering.{nat_cmp}
 use Rattle.std.specs.declared.cmp.Ordering.TheVariants.{Equal}
+use Rattle.ifmap_lemmas.specs.AnyOf.{any_within}
 use Rattle.ifmap_lemmas.specs.Filters.{all_weaker, filter_passes}
 use Rattle.ifmap_lemmas.specs.Numbers.{equal_numbers}
 use Rattle.ifmap_lemmas.specs.Orderings.{both_equal}
+use Rattle.ifmap_lemmas.specs.Parted.{length_without}
 use Rattle.ifmap_lemmas.specs.Texts.{eq_tells, same_texts}
 use Rattle.ifmap_changes.specs.ifmap_machine.State.{Standing, standing_in, standing_order}
 use Rattle.ifmap_changes.specs.ifmap_machine.Subscribing.{is_of_name}
@@ -20,7 +22,7 @@ use Rattle.ifmap_search.specs.declared.results.PollItem.{PollItem}
 use Rattle.ifmap_search.specs.declared.results.PollItem.TheVariants as the_item
 use Rattle.ifmap_changes.specs.ifmap_session.Sessions.{is_named, is_same_text}
 use Rattle.ifmap_changes.specs.ifmap_session.laws.TextLaws.{text_is, text_same}
-use Rattle.ifmap_subscribes.proofs.Parting.{any_put, any_put_other, any_within, length_put, length_without}
+use Rattle.ifmap_subscribes.proofs.Parting.{any_put, any_put_other, length_put}
 use Rattle.ifmap_changes.specs.ifmap_machine.OrderLaws.{order_same}
 
 -- a subscription of a session's name has that serial and that name, and no other has both

@@ -1,10 +1,11 @@
 -- What stays ready where identifiers are only held.
 -- First: `OnlyHolds` of one state after another, and what is to be told then. Then: subscriptions keep what the graph has, by the law
 -- that views with the same links are kept alike (`SameLinks`). Then: parts stay ready. Last: few hold one identifier.
-use Rattle.std.proofs.Common.{◌≡◌, sym, ◌∙◌, ap, subst, ℕ, ◌*◌, ◌≤◌, Bool, List, [], ◌∷◌, ◌++◌, length, map, Result, Ok, Err, arith, append_assoc, length-append, option_to_list}
-use Rattle.std.specs.Prelude.{IfOk}
+use Rattle.std.proofs.Common.{◌≡◌, sym, ◌∙◌, ap, subst, ℕ, ◌*◌, ◌≤◌, Bool, List, [], ◌∷◌, ◌++◌, length, map, arith, append_assoc, length-append, option_to_list}
 use Rattle.std.proofs.lemmas.List.{length-map}
 use Rattle.std.specs.List.{AllByRecursion}
+use Rattle.ifmap_lemmas.specs.Mapped.{fewer_joined}
+use Rattle.ifmap_lemmas.specs.Owners.{few_each}
 use Rattle.ifmap_lemmas.specs.Places.{all_got}
 use Rattle.ifmap_changes.specs.ifmap_machine.State as machine
 use Rattle.ifmap_changes.specs.Between.{AreOrdered, Asking, IsSoundSoFar, IsSteady, SharesNumbers, sessions_left, sight_now, starts_of, HasStartNumber, IsSeen}
@@ -17,7 +18,6 @@ use Rattle.ifmap_changes.specs.ifmap_machine.Subscribing.{Told}
 use Rattle.ifmap_changes.specs.ifmap_session.Sessions.{IsLive, Session, SessionTable, session_with_serial}
 use Rattle.ifmap_changes.specs.ifmap_standing.Standing.{standing_of}
 use Rattle.ifmap_changes.specs.ifmap_standing.declared.standing.Standing.{Standing}
-use Rattle.ifmap_subscribes.proofs.Counting.{fewer_joined, thousand_each}
 use Rattle.ifmap_subscribes.proofs.Renamed.{begun_more}
 use Rattle.ifmap_subscribes.specs.Readying.{AreReadied, CanReady, CanStand, GraphHolds, IsGivenUp, OnlyHolds, most_ops, queue_where, told_in_scene}
 use Rattle.ifmap_subscribes.specs.Renamings.{IsOfSession, KeepsNumbered, begun_by}
@@ -141,18 +141,13 @@ ready_after a old pending g r k n =
     ready_of a old pending g r (λ i x at here. k x.subscription (all_got (HasStartNumber g) old.standing.items i x n at)
     (r.kept i x at here))
 
--- results
-pub if_ok : {A E : Type 0} (P Q R S : A → Type 0) (r : Result A E) → IfOk r P → IfOk r Q → IfOk r R
-    → ((a : A) → P a → Q a → R a → S a) → IfOk r S
-if_ok P Q R S (Ok a) p q r f = f a p q r
-if_ok P Q R S (Err e) p q r f = tt
-
 pub few_own : (h : Held) (live : List Session) (standing : List Standing) (made : List Renaming) → AreOrdered live standing
     → length live ≤ 10000 → length made ≤ most_ops → IsSteady h (standing ++ begun_by made) → HasFewOwn h
 few_own h live standing made ordered few most steady = λ a.
     let owned = map_of_all (λ (x : machine.Standing). IsLive x.serial live) standing_of standing ordered.live in
     let stand : length (map standing_of standing) ≤ length live * 1000
-    = thousand_each (λ (x : machine.Standing). x.serial) (λ (s : Session). s.serial) live (map standing_of standing) owned ordered.few in
+    = few_each (λ (x : machine.Standing). x.serial) (λ (s : Session). s.serial) 1000 live (map standing_of standing) owned
+    ordered.few in
     let shown_length = length-map standing standing_of in
     let begun = fewer_joined (λ (r : Renaming). r.standing) made in
     let both = length-append standing (begun_by made) in

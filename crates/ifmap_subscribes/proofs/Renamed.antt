@@ -6,6 +6,7 @@ use Rattle.std.proofs.Common.{◌≡◌, ◌≢◌, refl, sym, ◌∙◌, ap, su
 use Rattle.std.proofs.lemmas.Bool.{cases_Bool, false_from_ne_true}
 use Rattle.std.proofs.lemmas.List.Concat.{flat_map-append}
 use Rattle.std.proofs.lemmas.List.Elements.{filter-append}
+use Rattle.std.proofs.lemmas.List.Filters.{sum_by-filter_both}
 use Rattle.std.proofs.lemmas.List.Kept.{IsStrictlySortedBy-filter}
 use Rattle.std.proofs.lemmas.List.Sums.{sum_by-append}
 use Rattle.std.specs.BTreeMap.{get}
@@ -13,8 +14,11 @@ use Rattle.std.specs.Cmp.Lexicographic.{slice_cmp}
 use Rattle.std.specs.List.{AllByRecursion, filter, list_any}
 use Rattle.std.specs.List.Sorted.{IsStrictlySortedBy}
 use Rattle.std.specs.Ordering.{nat_cmp}
+use Rattle.ifmap_lemmas.specs.AnyOf.{none_of_others}
 use Rattle.ifmap_lemmas.specs.Deciding.{same_or_not}
 use Rattle.ifmap_lemmas.specs.Filters.{all_weaker, filter_all, filter_none}
+use Rattle.ifmap_lemmas.specs.Mapped.{one_at_most}
+use Rattle.ifmap_lemmas.specs.Parted.{filter_within, none_within}
 use Rattle.ifmap_changes.specs.ifmap_machine.State as machine
 use Rattle.ifmap_changes.specs.ifmap_machine.State.{standing_in, standing_order}
 use Rattle.ifmap_changes.specs.ifmap_machine.Subscribing.{Told, is_of_name}
@@ -26,9 +30,6 @@ use Rattle.ifmap_changes.specs.ifmap_standing.Standing.{standing_of}
 use Rattle.ifmap_changes.specs.ifmap_standing.declared.standing.Standing.{Standing}
 use Rattle.ifmap_changes.specs.ifmap_machine.OrderLaws.{standing_total}
 use Rattle.ifmap_subscribes.proofs.OfNames.{named_once, not_named_other, one_fewer, one_more, others_beside, others_stand, put_stands}
-use Rattle.ifmap_subscribes.proofs.Parting.{filter_within, none_within, sum_parted}
-use Rattle.ifmap_subscribes.proofs.RenamingPlaces.{none_left}
-use Rattle.ifmap_subscribes.proofs.RenamingTold.{one_at_most}
 use Rattle.ifmap_subscribes.specs.Readying.{AreCounted, IsAdded, IsNameBefore, IsNoted, IsSmall, most_ops, now_of, told_after}
 use Rattle.ifmap_subscribes.specs.Renamings.{IsNameNow, IsOfSession, begun_by, rename, rename_all, stand_where}
 use Rattle.ifmap_subscribes.specs.declared.names.NameNow.{NameNow}
@@ -56,7 +57,7 @@ module _ (serial : ℕ) (name : List ℕ) where
 
   stands_after : (o : Option Standing) → IsOwned o → (xs : List machine.Standing)
       → is_some o ≡ list_any (is_of_name serial name) (stand_where o (dropped xs))
-  stands_after None h xs = sym (none_left (is_of_name serial name) xs)
+  stands_after None h xs = sym (none_of_others (is_of_name serial name) xs)
   stands_after (Some x) h xs = sym (put_stands serial name (standing_of x) h.0.0 h.0.1 (dropped xs))
 
   others_after : (o : Option Standing) → IsOwned o → (other : List ℕ) (xs : List machine.Standing) → other ≢ name
@@ -110,7 +111,7 @@ module _ (name : List ℕ) (items : List PollItem) where
       → queue_size (after queue) + queue_size (filter (is_named name) queue) ≡ queue_size queue + queue_size items
   size_after queue =
       let both = sum_by-append poll_size (filter (λ item. not (is_named name item)) queue) items in
-      omega (arith, both, sum_parted poll_size (is_named name) queue)
+      omega (arith, both, sum_by-filter_both (is_named name) (λ item. not (is_named name item)) (λ item. refl) poll_size queue)
 
 -- a renaming is told of by an item of its name
 abbrev pub IsTold : Renaming → Type 0

@@ -3,11 +3,10 @@
 --    and the code's comparison tells the name (`named_is`).
 -- 2. Where a search ends: at one of the name (`place_found`), or where none stands (`place_none`)
 --    and one may be put (`place_gap`).
--- 3. One of the name is taken out, and no other (`removed_named`); none is left (`none_left`).
--- 4. A list around one of its members (`cut_at`); what is found nowhere (`not_found`).
--- 5. One more is put in, beside the others that stand (`put_at`, `all_stands`).
-use Rattle.std.proofs.Common.{rules, ◌≡◌, refl, sym, ◌∙◌, ap, subst, ℕ, zero, suc, ◌<◌, ◌==◌, ◌&&◌, Bool, true, false, not, cond, List, [], ◌∷◌, ◌++◌, length, map, Some, Option, option_to_list, IsErr, take, drop, take-append-drop, Result, Ok, Err, IfOk, IfErr, OnErr, Ordering, inl, inr, arith, nat_cmp, is_eq}
-use Rattle.std.proofs.lemmas.Bool.{and_parts, cases_Bool, eqb-true, or_left, or_right}
+-- 3. One of the name is taken out, and no other (`removed_named`).
+-- 4. One more is put in, beside the others that stand (`put_at`, `all_stands`).
+use Rattle.std.proofs.Common.{rules, ◌≡◌, refl, sym, ◌∙◌, ap, subst, ℕ, zero, suc, ◌<◌, ◌==◌, ◌&&◌, true, false, not, cond, List, [], ◌∷◌, ◌++◌, length, map, Some, Option, option_to_list, take, drop, take-append-drop, Result, Ok, Err, IfOk, IfErr, OnErr, Ordering, inl, inr, nat_cmp, is_eq}
+use Rattle.std.proofs.lemmas.Bool.{and_parts, cases_Bool, eqb-true}
 use Rattle.std.proofs.lemmas.Cmp.{tied_itself}
 use Rattle.std.proofs.lemmas.List.{map-append}
 use Rattle.std.proofs.lemmas.Option.{get_or_from_slice_get, none-some, same_Some, slice_get_within}
@@ -18,7 +17,9 @@ use Rattle.std.specs.List.{AllByRecursion, filter, insert, list_any, remove, sli
 use Rattle.std.specs.List.Sorted.{IsBinarySearchResult, IsSearchInRange, IsStrictlySortedBy}
 use Rattle.std.specs.Ordering.{is_gt, is_lt, on, ordering_then, then_cmp}
 use Rattle.std.specs.declared.cmp.Ordering.TheVariants.{Less, Equal}
+use Rattle.ifmap_lemmas.specs.AnyOf.{any_same}
 use Rattle.ifmap_lemmas.specs.Filters.{all_at, all_weaker, filter_all, map_filter}
+use Rattle.ifmap_lemmas.specs.Fronts.{there_is}
 use Rattle.ifmap_lemmas.specs.Members.{all_both, all_of_map, both_all}
 use Rattle.ifmap_lemmas.specs.Numbers.{equal_by_order}
 use Rattle.ifmap_changes.specs.ifmap_machine.State.{standing_order}
@@ -59,16 +60,7 @@ named_is serial name x =
     ∙ ap (λ b. is_eq (nat_cmp x.serial serial) && b) (texts_ties x.name name)
     ∙ tied_then (nat_cmp x.serial serial) (slice_cmp nat_cmp x.name name)
 
-any_same : {X : Type 0} (p q : X → Bool) → ((x : X) → p x ≡ q x) → (xs : List X) → list_any p xs ≡ list_any q xs
-any_same p q same [] = refl
-any_same p q same (x ∷ xs) = rw (same x, any_same p q same xs) refl
-
 -- ---- where a search ends
-
-there_is : {X : Type 0} (xs : List X) (i : ℕ) → i < length xs → (x : X) × (slice_get xs i ≡ Some x)
-there_is [] i lt = absurd (omega (arith, lt))
-there_is (x ∷ xs) zero lt = (x, refl)
-there_is (x ∷ xs) (suc i) lt = there_is xs i (omega (arith, lt))
 
 module _ (serial : ℕ) (name : List ℕ) (xs : List Standing) where
   pub place_found : (r : Result ℕ ℕ) → IsSearchInRange r (length xs) → IsBinarySearchResult (order_to_name serial name) xs r
@@ -167,31 +159,6 @@ module _ (serial : ℕ) (name : List ℕ) where
       → (x : Standing) × (slice_get xs i ≡ Some x) × (is_of_name serial name (standing_of x) ≡ true)
       → remove xs i ≡ filter (λ y. not (is_of_name serial name (standing_of y))) xs
   removed_named xs i up there = kept_named xs i there.0 (kept_rising xs up) there.1 there.2
-
--- and none passes of those that are left
-pub none_left : {X : Type 0} (p : X → Bool) (xs : List X) → list_any p (filter (λ y. not (p y)) xs) ≡ false
-none_left p [] = refl
-none_left p (x ∷ xs) = elim (cases_Bool (p x)) [
-  | inl hit ↦ rw hit (none_left p xs)
-  | inr miss ↦ rw (miss, miss) (none_left p xs)
-]
-
--- a list around one of its members
-pub cut_at : {X : Type 0} (xs : List X) (i : ℕ) (x : X) → slice_get xs i ≡ Some x → xs ≡ take i xs ++ x ∷ drop (suc i) xs
-cut_at [] i x e = absurd (none-some x e)
-cut_at (y ∷ ys) zero x e = ap (λ z. z ∷ ys) (same_Some y x e)
-cut_at (y ∷ ys) (suc i) x e = ap (λ t. y ∷ t) (cut_at ys i x e)
-
--- one is found at most where some stands
-any_there : {X : Type 0} (p : X → Bool) (xs : List X) (i : ℕ) (x : X) → slice_get xs i ≡ Some x → p x ≡ true → list_any p xs ≡ true
-any_there p [] i x e t = absurd (none-some x e)
-any_there p (y ∷ ys) zero x e t = or_left (p y) (list_any p ys) (ap p (same_Some y x e) ∙ t)
-any_there p (y ∷ ys) (suc i) x e t = or_right (p y) (list_any p ys) (any_there p ys i x e t)
-
-pub not_found : {X : Type 0} (p : X → Bool) (xs : List X) (r : Result ℕ ℕ)
-    → IfOk r (λ at. (x : X) × (slice_get xs at ≡ Some x) × (p x ≡ true)) → list_any p xs ≡ false → IsErr r
-not_found p xs (Ok i) found none = let bad : true ≡ false = sym (any_there p xs i found.0 found.1 found.2) ∙ none in cc
-not_found p xs (Err i) found none = refl
 
 -- where one more stands
 pub put_at : (xs ys : List Standing) (i : ℕ) (x : Standing) → ys ≡ insert xs i x → StandsAmong (Some x) xs ys

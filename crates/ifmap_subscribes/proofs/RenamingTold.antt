@@ -12,7 +12,9 @@ use Rattle.ifmap_changes.specs.Between.{IsSteady, sight_now}
 use Rattle.ifmap_changes.specs.declared.parts.Parts.{Parts}
 use Rattle.ifmap_changes.specs.ifmap_delta.Sights.{IsUpToDate}
 use Rattle.ifmap_changes.specs.ifmap_graph.Seen.{StaysLean, rows_now}
+use Rattle.ifmap_lemmas.specs.AnyOf.{none_of_others}
 use Rattle.ifmap_lemmas.specs.Filters.{all_filter, map_filter}
+use Rattle.ifmap_lemmas.specs.Mapped.{one_at_most}
 use Rattle.ifmap_lemmas.specs.Members.{all_both, both_all}
 use Rattle.ifmap_lemmas.specs.Options.{is_some_of, some_is}
 use Rattle.ifmap_changes.specs.ifmap_machine.State as machine
@@ -29,7 +31,7 @@ use Rattle.ifmap_changes.specs.ifmap_tellings.ChangeLaws.{change_both, change_no
 use Rattle.ifmap_changes.specs.ifmap_machine.OrderLaws.{standing_total}
 use Rattle.ifmap_subscribes.specs.declared.renamings.Renaming.{Renaming}
 use Rattle.ifmap_subscribes.specs.Renamings.{AreRenamed, CanRenameEach, IsOfSession, KeepsNumbered, StandsAmong, begun_by, item_count, rename, rename_all, stand_where, told_in_parts}
-use Rattle.ifmap_subscribes.proofs.RenamingPlaces.{all_stands, none_left}
+use Rattle.ifmap_subscribes.proofs.RenamingPlaces.{all_stands}
 use Rattle.ifmap_subscribes.proofs.RenamingStarts.{kept_still, steady_among}
 
 -- ---- one session changes
@@ -171,10 +173,6 @@ renames_can serial all old now rest so none = subst (λ rs. CanRenameEach serial
 
 -- ---- one renaming
 
-pub one_at_most : {X : Type 0} (o : Option X) → length (option_to_list o) ≤ 1
-one_at_most None = omega arith
-one_at_most (Some x) = omega arith
-
 stand_rising : (begun : Option Standing) (xs : List machine.Standing) → IsStrictlySortedBy standing_order xs
     → IsStrictlySortedBy standing_order (stand_where begun xs)
 stand_rising None xs up = up
@@ -206,7 +204,7 @@ left_free serial r xs ys is own = by r.standing own
         ap (λ n. list_any (λ other. is_of_name n x.name (standing_of other)) ys) h.0.0
         ∙ ap (λ m. list_any (λ other. is_of_name serial m (standing_of other)) ys) h.0.1
         ∙ ap (list_any (λ other. is_of_name serial r.name (standing_of other))) is
-        ∙ none_left (λ other. is_of_name serial r.name (standing_of other)) xs
+        ∙ none_of_others (λ other. is_of_name serial r.name (standing_of other)) xs
 
 module _ (serial : ℕ) (r : Renaming) (old : Parts) (rest : List Renaming) (can : CanRenameEach serial (r ∷ rest) old) where
   items_cons : item_count (r ∷ rest) ≡ length (option_to_list r.item) + item_count rest

@@ -1,9 +1,9 @@
 -- How a subscription starts in a graph: its number is held (`held_steady`), it stands with that number (`stands_steady`), or the number is
 -- let go of (`let_go_steady`), and nothing else that is seen changes (`held_alone`, `held_and_let_go`).
 use Rattle.std.proofs.Common.{◌≡◌, ℕ, ◌+◌, ◌-◌, ◌<◌, ◌≤◌, Option, Some, None, IsSome, IfSome, option_to_list, List, [], ◌∷◌, ◌++◌, option_map, refl, ap, ◌∙◌, sym, subst, arith, inl, inr, append-nil}
-use Rattle.std.proofs.lemmas.List.Sums.{sum_by-cons, sum_by_push}
+use Rattle.std.proofs.lemmas.List.Sums.{sum_by_push}
 use Rattle.std.proofs.lemmas.Option.{same_Some}
-use Rattle.std.specs.List.{AllByRecursion, sum_by}
+use Rattle.std.specs.List.{AllByRecursion}
 use Rattle.ifmap_changes.specs.Between.{IsSteady, sight_now, starts_of, HasStartNumber}
 use Rattle.ifmap_changes.specs.ifmap_delta.Sights.{IsUpToDate}
 use Rattle.ifmap_changes.specs.ifmap_graph.Back.{KeepsBacks}
@@ -15,9 +15,11 @@ use Rattle.ifmap_changes.specs.ifmap_graph.Sides.{list_now}
 use Rattle.ifmap_changes.specs.ifmap_graph.Turning.{sides_at}
 use Rattle.ifmap_ident.specs.declared.identifiers.Identifier.{Identifier}
 use Rattle.ifmap_ident.specs.Identifiers.{identifier_bytes, identifier_order}
+use Rattle.ifmap_lemmas.specs.AnyOf.{all_members}
 use Rattle.ifmap_lemmas.specs.Filters.{all_weaker}
 use Rattle.ifmap_lemmas.specs.Having.{Has}
 use Rattle.ifmap_lemmas.specs.Members.{both_all}
+use Rattle.ifmap_lemmas.specs.Sums.{member_within_sum}
 use Rattle.ifmap_lemmas.specs.Texts.{same_texts}
 use Rattle.ifmap_changes.specs.ifmap_plans.Plans.{AreWhole}
 use Rattle.ifmap_changes.specs.ifmap_pool.Holdings.{IsHeld, holds_at, key_at, once}
@@ -29,16 +31,6 @@ use Rattle.ifmap_changes.specs.ifmap_graph.NumberLaws.{once_itself}
 use Rattle.ifmap_ident.specs.SameLaws.{BytesTellIdentifiers}
 
 -- ---- lists
-
--- what holds of each member, by what it is a member of
-all_members : {X : Type 0} (P Q : X → Type 0) (xs : List X) → ((x : X) → Has xs x → P x → Q x) → AllByRecursion P xs → AllByRecursion Q xs
-all_members P Q [] f h = tt
-all_members P Q (x ∷ xs) f h = (f x (inl refl) h.0, all_members P Q xs (λ y m. f y (inr m)) h.1)
-
-member_counts : {X : Type 0} (f : X → ℕ) (xs : List X) (x : X) → Has xs x → f x ≤ sum_by f xs
-member_counts f [] x h = absurd h
-member_counts f (y ∷ ys) x (inl e) = let n : f y ≡ f x = ap f e in omega (arith, sum_by-cons f y ys, n)
-member_counts f (y ∷ ys) x (inr h) = let n = member_counts f ys x h in omega (arith, sum_by-cons f y ys, n)
 
 starts_more : (a : Identifier) (standing : List Standing) (x : Standing)
     → starts_of a (standing ++ x ∷ []) ≡ starts_of a standing + once identifier_order x.subscription.search.start a
@@ -113,7 +105,7 @@ module _ (h : Held) (standing : List Standing) (v : ℕ) (start : Identifier) (w
       let one : once identifier_order x.subscription.search.start start ≡ 1 =
       ap (λ i. once identifier_order i start) same ∙ once_itself start in
       let some : once identifier_order x.subscription.search.start start ≤ starts_of start standing =
-      member_counts (λ y. once identifier_order y.subscription.search.start start) standing x there in
+      member_within_sum (λ y. once identifier_order y.subscription.search.start start) standing x there in
       let me : once identifier_order start start ≡ 1 = once_itself start in
       elim (was.own start) [
         | inl held ↦

@@ -1,6 +1,6 @@
 -- What is added to what a session is to be told: nothing (`adds_nothing`), one after another (`adds_both`), to items with their size
 -- (`sized_after`), and to nothing yet (`begun`, `begun_size`). Then what is at one key of a map that changed there.
-use Rattle.std.proofs.Common.{◌≡◌, ◌≢◌, refl, sym, ◌∙◌, ap, subst, ℕ, ◌+◌, ◌-◌, ◌^◌, ◌<◌, ◌≤◌, min, false, List, [], ◌∷◌, ◌++◌, Option, None, Some, append_assoc, inl, inr, arith}
+use Rattle.std.proofs.Common.{◌≡◌, ◌≢◌, refl, sym, ◌∙◌, ap, subst, ℕ, ◌+◌, ◌-◌, ◌^◌, ◌<◌, ◌≤◌, min, false, List, [], ◌++◌, Option, None, Some, append_assoc, inl, inr, arith}
 use Rattle.std.proofs.lemmas.Bool.{cases_eq, ltb-false}
 use Rattle.std.proofs.lemmas.Bool.Decides.{nat_tests}
 use Rattle.std.proofs.lemmas.List.{append-nil}
@@ -8,6 +8,7 @@ use Rattle.std.proofs.lemmas.List.Sums.{sum_by-append}
 use Rattle.std.specs.BTreeMap.{is_at}
 use Rattle.std.specs.Option.{IsSome, is_some}
 use Rattle.std.specs.Ordering.{nat_cmp}
+use Rattle.ifmap_lemmas.specs.Fronts.{both_empty}
 use Rattle.ifmap_lemmas.specs.Options.{some_none}
 use Rattle.ifmap_standing.specs.ifmap_machine.Telling.{is_overfull, tell_session}
 use Rattle.ifmap_search.specs.declared.results.PollItem.{PollItem}
@@ -20,10 +21,6 @@ use Rattle.ifmap_standing.specs.ifmap_machine.OrderLaws.{tell_nothing}
 
 pub tell_twice : (a b : List PollItem) (s : Session) → tell_session b (tell_session a s) ≡ tell_session (a ++ b) s
 tell_twice a b s = ap (λ queue. record s { queue = queue }) (append_assoc s.queue a b)
-
-pub both_empty : {X : Type 0} (a b : List X) → a ++ b ≡ [] → (a ≡ []) × (b ≡ [])
-both_empty [] b e = (refl, e)
-both_empty (x ∷ a) b e = cc
 
 pub adds_nothing : (x : Option Telling) → AddsTo [] x x
 adds_nothing x = record {

@@ -5,7 +5,9 @@ use Rattle.std.specs.BTreeMap.{get}
 use Rattle.std.specs.List.{AllByRecursion}
 use Rattle.std.specs.Option.{IsSome, is_some}
 use Rattle.std.specs.Ordering.{nat_cmp}
+use Rattle.ifmap_lemmas.specs.Flags.{flags_all, flags_long}
 use Rattle.ifmap_lemmas.specs.Having.{Has, all_has}
+use Rattle.ifmap_lemmas.specs.Mapped.{map_alike}
 use Rattle.ifmap_lemmas.specs.Members.{all_of_map}
 use Rattle.ifmap_standing.specs.ifmap_machine.Telling.{is_overfull, overflow_session, tell_session}
 use Rattle.ifmap_standing.specs.ifmap_session.Sessions.{Session, SessionTable}
@@ -13,8 +15,7 @@ use Rattle.ifmap_standing.specs.ifmap_session.laws.TextLaws.{all_found}
 use Rattle.ifmap_standing.specs.declared.standing.Standing.{Standing}
 use Rattle.ifmap_standing.specs.declared.telling.News.{News}
 use Rattle.ifmap_tellings.specs.Tellings.{AddsTo, AreUntoldWithinLimits, CanTell, EachTelling, Tellings, gone_after, queued_for, told_by, told_where}
-use Rattle.ifmap_tellings.proofs.FlagLaws.{flags_all, flags_long}
-use Rattle.ifmap_tellings.proofs.PassedLaws.{IsFree, map_alike}
+use Rattle.ifmap_tellings.proofs.PassedLaws.{IsFree}
 use Rattle.ifmap_standing.specs.ifmap_session.laws.TableLaws.{found_serial}
 
 pub queues_within : (tellings : Tellings) (live : List Session)

@@ -1,5 +1,5 @@
 -- How far the overflowing of sessions has come, along the subscriptions (`Overflowing`): as it begins, one further, and at its end.
-use Rattle.std.proofs.Common.{◌≡◌, ◌≢◌, refl, sym, ◌∙◌, ap, subst, ℕ, suc, ◌+◌, ◌≤◌, ◌||◌, false, List, [], ◌∷◌, length, map, drop, drop-cons, Some, inl, inr, arith}
+use Rattle.std.proofs.Common.{◌≡◌, ◌≢◌, refl, sym, ◌∙◌, ap, subst, ℕ, suc, ◌+◌, ◌≤◌, ◌||◌, false, List, ◌∷◌, length, map, drop, drop-cons, Some, inl, inr, arith}
 use Rattle.std.proofs.Math.Bool.{or-false}
 use Rattle.std.proofs.lemmas.Bool.{cases_eq}
 use Rattle.std.proofs.lemmas.List.{drop_all}
@@ -10,6 +10,7 @@ use Rattle.std.specs.List.Sorted.{IsStrictlySortedBy}
 use Rattle.std.specs.Option.{is_some}
 use Rattle.std.specs.Ordering.{nat_cmp}
 use Rattle.ifmap_lemmas.specs.Having.{Has, all_has}
+use Rattle.ifmap_lemmas.specs.Mapped.{map_alike}
 use Rattle.ifmap_standing.specs.ifmap_machine.Telling.{is_overfull, overflow_session}
 use Rattle.ifmap_standing.specs.ifmap_session.Sessions.{Session, SessionTable, session_order, session_with_serial}
 use Rattle.ifmap_standing.specs.declared.standing.Standing.{Standing}
@@ -22,10 +23,6 @@ use Rattle.ifmap_tellings.specs.ToldLaws.{same_sessions_itself, same_twice, told
 -- none of these subscriptions is of a session
 abbrev pub IsFree : List Standing → ℕ → Type 0
 IsFree standing n = (x : Standing) → Has standing x → x.serial ≢ n
-
-pub map_alike : {X Y : Type 0} (f g : X → Y) (xs : List X) → ((x : X) → Has xs x → f x ≡ g x) → map f xs ≡ map g xs
-map_alike f g [] h = refl
-map_alike f g (x ∷ xs) h = ap (λ y. y ∷ map f xs) (h x (inl refl)) ∙ ap (λ ys. g x ∷ ys) (map_alike f g xs (λ y e. h y (inr e)))
 
 -- the subscriptions from this place on are left
 pub record Overflowing (standing : List Standing) (begun now : SessionTable) (old tellings : Tellings) (at : ℕ) : Type 0 where

@@ -7,13 +7,14 @@ use Rattle.std.proofs.lemmas.Option.{get_or_from_slice_get}
 use Rattle.std.specs.BTreeMap.{get}
 use Rattle.std.specs.List.{slice_get}
 use Rattle.std.specs.Ordering.{nat_cmp}
+use Rattle.ifmap_lemmas.specs.Fronts.{both_empty}
 use Rattle.ifmap_lemmas.specs.Having.{Has, has_from}
 use Rattle.ifmap_search.specs.declared.results.PollItem.{PollItem}
 use Rattle.ifmap_standing.specs.ifmap_session.Sessions.{Session}
 use Rattle.ifmap_standing.specs.declared.standing.Standing.{Standing}
 use Rattle.ifmap_standing.specs.declared.telling.News.{News}
 use Rattle.ifmap_tellings.specs.Tellings.{AddsTo, AllKept, AreUntoldWithinLimits, EachTelling, IsSized, LeaveAlone, SkipsGone, Tellings, is_alone, queued_for}
-use Rattle.ifmap_tellings.proofs.AddedLaws.{adds_both, adds_nothing, both_empty}
+use Rattle.ifmap_tellings.proofs.AddedLaws.{adds_both, adds_nothing}
 
 -- what there is of one subscription for a session
 abbrev pub of_one : ℕ → Standing → News → List PollItem

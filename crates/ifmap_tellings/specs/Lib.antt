@@ -1,5 +1,6 @@
 -- What is pending of an event, in reading order.
 pub mod Tellings
+pub mod KeptPlaces
 pub mod ToldLaws
 pub mod ChangeLaws
 -- What is passed on to the crates above.

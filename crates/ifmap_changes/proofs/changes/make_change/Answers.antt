@@ -1,8 +1,8 @@
 use Rattle.std.proofs.Common.{◌≢◌, ◌∙◌, [], append-nil, subst, sym}
+use Rattle.ifmap_lemmas.specs.Flags.{kept_later}
 use Rattle.ifmap_tellings.specs.ifmap_session.Sessions.{SessionTable}
 use Rattle.ifmap_tellings.specs.Tellings.{HasSameSessions}
 use Rattle.ifmap_changes.specs.Between.{IsSteady}
-use Rattle.ifmap_changes.proofs.Flags.{kept_later}
 use Rattle.ifmap_changes.proofs.changes.make_change.Goals as goal
 use Rattle.ifmap_tellings.specs.ifmap_standing.PlaceLaws.{searched_twice}
 

@@ -1,9 +1,9 @@
 use Rattle.std.proofs.Common.{◌∙◌, ap, sym, subst, drop, length, slice_get}
 use Rattle.std.proofs.lemmas.Result.{on_ok_weaker}
+use Rattle.ifmap_lemmas.specs.Fronts.{front_taken}
 use Rattle.ifmap_tellings.specs.ifmap_delta.Sights.{IsUpToDate}
 use Rattle.ifmap_graph.specs.Held.{Held}
 use Rattle.ifmap_changes.specs.Changes.{sight_next}
-use Rattle.ifmap_changes.proofs.Flags.{front_taken}
 use Rattle.ifmap_changes.proofs.changes.tell_standing.Goals as goal
 
 pub tell_change-requires-clause-kept : goal.tell_change-requires-clause-kept

@@ -1,11 +1,11 @@
 use Rattle.std.proofs.Common.{inl, arith}
 use Rattle.std.proofs.lemmas.Result.{on_ok_weaker}
 use Rattle.ifmap_graph.specs.Seen.{rows_now}
+use Rattle.ifmap_lemmas.specs.Outcomes.{where_value}
 use Rattle.ifmap_lemmas.specs.Results.{on_err}
 use Rattle.ifmap_tellings.specs.ifmap_publish.Retract.{retract}
 use Rattle.ifmap_changes.specs.Between.{AreKept, so_far}
 use Rattle.ifmap_changes.specs.KeptLaws.{stays_kept}
-use Rattle.ifmap_changes.proofs.Results.{where_value}
 use Rattle.ifmap_changes.proofs.Taken.{can_settle, taken_canon, taken_told}
 use Rattle.ifmap_changes.proofs.changing.take_away_kept.Goals as goal
 

@@ -1,7 +1,8 @@
 use Rattle.std.proofs.Common.{◌≡◌, sym, ◌∙◌, ap, subst, ◌==◌, true, false, not}
 use Rattle.std.specs.List.{list_any}
+use Rattle.ifmap_lemmas.specs.Parted.{none_in_rest}
 use Rattle.ifmap_subscribes.specs.ifmap_changes.Between.{Asking}
-use Rattle.ifmap_core.proofs.Ended.{id_lost, none_left}
+use Rattle.ifmap_core.proofs.Ended.{id_lost}
 use Rattle.ifmap_core.proofs.Owned.{among, id_left, other_text, serial_left}
 use Rattle.ifmap_core.proofs.owning.owner_of.Goals as goal
 use Rattle.ifmap_session.specs.Sessions.{Session, is_same_text}
@@ -10,7 +11,7 @@ use Rattle.ifmap_session.specs.laws.TableLaws.{is_left}
 
 pub returns-in_default : goal.returns-in_default
 returns-in_default c =
-    none_left (λ (t : Session). is_same_text t.id c.args.id.now) (is_left c.args.asking.now.ended) c.args.sessions.now.live
+    none_in_rest (λ (t : Session). is_same_text t.id c.args.id.now) (is_left c.args.asking.now.ended) c.args.sessions.now.live
     c.in_default.ensures.none
 
 pub returns-then-contains : goal.returns-then-contains

@@ -1,10 +1,11 @@
 use Rattle.std.proofs.Common.{◌++◌, ◌∷◌, [], List, option_to_list}
 use Rattle.std.proofs.lemmas.Result.{on_err_weaker}
 use Rattle.std.specs.List.{AllByRecursion}
+use Rattle.ifmap_lemmas.specs.Outcomes.{of_three}
 use Rattle.ifmap_changes.specs.Between.{IsSteady, sight_now}
 use Rattle.ifmap_changes.specs.ifmap_delta.Sights.{IsUpToDate}
 use Rattle.ifmap_changes.specs.ifmap_standing.declared.standing.Standing.{Standing}
-use Rattle.ifmap_subscribes.proofs.Ready.{few_own, if_ok, stand_more, stand_still, stays_ready}
+use Rattle.ifmap_subscribes.proofs.Ready.{few_own, stand_more, stand_still, stays_ready}
 use Rattle.ifmap_subscribes.specs.Readying.{CanStand}
 use Rattle.ifmap_subscribes.specs.Renamings.{IsOfSession, begun_by}
 use Rattle.ifmap_subscribes.proofs.readying.begin_beside.Goals as goal
@@ -22,7 +23,7 @@ returns-clause-stand g c =
     let n = c.args.scene.now.serial in
     let h = c.begin_name-begun.new.graph in
     let e = c.begin_name-begun.ensures in
-    if_ok (λ r. IsOfSession n r) (λ r. AllByRecursion (λ x. IsUpToDate (sight_now h) x.subscription) (option_to_list r.standing))
+    of_three (λ r. IsOfSession n r) (λ r. AllByRecursion (λ x. IsUpToDate (sight_now h) x.subscription) (option_to_list r.standing))
     (λ r. (standing : List Standing) → IsSteady p.graph standing → IsSteady h (standing ++ option_to_list r.standing))
     (λ r. CanStand n (record p { graph = h }) (made ++ r ∷ [])) c.begin_name-begun.result e.session e.kept e.steady
     (λ r s k steady. stand_more c.same_links_keep_subscriptions.ensures n p h made c.is_view.ensures c.is_view-2.ensures e.holds

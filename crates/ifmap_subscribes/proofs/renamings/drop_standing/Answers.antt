@@ -2,9 +2,10 @@ use Rattle.std.proofs.Common.{◌≡◌, ◌∙◌, ◌∷◌, ◌++◌, Some, s
 use Rattle.std.proofs.lemmas.Option.{get_or_from_slice_get}
 use Rattle.ifmap_changes.specs.Between.{IsSteady}
 use Rattle.ifmap_lemmas.specs.Filters.{none_dropped}
+use Rattle.ifmap_lemmas.specs.Fronts.{cut_around}
 use Rattle.ifmap_changes.specs.ifmap_machine.Subscribing.{is_of_name}
 use Rattle.ifmap_changes.specs.ifmap_standing.Standing.{standing_of}
-use Rattle.ifmap_subscribes.proofs.RenamingPlaces.{cut_at, removed_named}
+use Rattle.ifmap_subscribes.proofs.RenamingPlaces.{removed_named}
 use Rattle.ifmap_subscribes.proofs.RenamingStarts.{steady_without}
 use Rattle.ifmap_subscribes.proofs.renamings.drop_standing.Goals as goal
 
@@ -18,8 +19,8 @@ release_start-requires c =
     let some = c.requires.steady in (
       c.remove-former.new.self.items ++ some.0,
       subst (λ ys. IsSteady c.args.graph.now (c.remove-former.result ∷ (ys ++ some.0))) (sym c.remove-former.ensures.items)
-          (steady_without c.args.graph.now xs c.in-Ok.at c.remove-former.result some.0 (cut_at xs c.in-Ok.at c.remove-former.result there)
-          some.1),
+          (steady_without c.args.graph.now xs c.in-Ok.at c.remove-former.result some.0
+          (cut_around xs c.in-Ok.at c.remove-former.result there) some.1),
     )
 
 pub returns-in-Ok-clause-standing : goal.returns-in-Ok-clause-standing
@@ -37,7 +38,8 @@ returns-in-Ok-clause-steady c = λ more steady.
     let there : slice_get xs c.in-Ok.at ≡ Some c.remove-former.result = found.1 ∙ ap Some (sym same) in
     c.release_start.ensures.steady (c.remove-former.new.self.items ++ more)
     (subst (λ ys. IsSteady c.args.graph.now (c.remove-former.result ∷ (ys ++ more))) (sym c.remove-former.ensures.items)
-    (steady_without c.args.graph.now xs c.in-Ok.at c.remove-former.result more (cut_at xs c.in-Ok.at c.remove-former.result there) steady))
+    (steady_without c.args.graph.now xs c.in-Ok.at c.remove-former.result more
+    (cut_around xs c.in-Ok.at c.remove-former.result there) steady))
 
 pub returns-in_default-clause-standing : goal.returns-in_default-clause-standing
 returns-in_default-clause-standing c =

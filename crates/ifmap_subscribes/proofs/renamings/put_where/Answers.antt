@@ -1,9 +1,10 @@
 use Rattle.std.proofs.Common.{◌≡◌, false, subst, sym, rules, IfSome}
 use Rattle.std.specs.List.{insert, list_any}
+use Rattle.ifmap_lemmas.specs.AnyOf.{not_found}
 use Rattle.ifmap_changes.specs.ifmap_machine.Subscribing.{is_of_name}
 use Rattle.ifmap_changes.specs.ifmap_standing.Standing.{standing_of}
 use Rattle.ifmap_subscribes.specs.Renamings.{StandsAmong}
-use Rattle.ifmap_subscribes.proofs.RenamingPlaces.{not_found, put_at}
+use Rattle.ifmap_subscribes.proofs.RenamingPlaces.{put_at}
 use Rattle.ifmap_subscribes.proofs.renamings.put_where.Goals as goal
 
 pub unwrap_err-place-requires : goal.unwrap_err-place-requires

@@ -1,7 +1,8 @@
 use Rattle.std.proofs.Common.{◌++◌, option_to_list, refl, arith}
+use Rattle.ifmap_lemmas.specs.Mapped.{one_at_most}
 use Rattle.ifmap_changes.specs.declared.parts.Parts.{Parts}
 use Rattle.ifmap_subscribes.specs.Renamings.{begun_by}
-use Rattle.ifmap_subscribes.proofs.RenamingTold.{can_rest, item_room, left_free, left_rising, live_then, name_keeps, one_at_most, renamed_one}
+use Rattle.ifmap_subscribes.proofs.RenamingTold.{can_rest, item_room, left_free, left_rising, live_then, name_keeps, renamed_one}
 use Rattle.ifmap_subscribes.proofs.renamings.rename_one.Goals as goal
 
 pub push_where-requires-clause-live : goal.push_where-requires-clause-live

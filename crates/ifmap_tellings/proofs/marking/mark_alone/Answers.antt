@@ -2,8 +2,8 @@ use Rattle.std.proofs.Common.{◌∙◌, ap, sym, set, true, arith}
 use Rattle.std.proofs.lemmas.Option.{slice_get-get_or}
 use Rattle.std.specs.BTreeMap.{get}
 use Rattle.std.specs.Ordering.{nat_cmp}
+use Rattle.ifmap_lemmas.specs.Flags.{flag_stays, flag_turns, flags_all}
 use Rattle.ifmap_tellings.specs.Tellings.{is_alone}
-use Rattle.ifmap_tellings.proofs.FlagLaws.{flag_stays, flag_turns, flags_all}
 use Rattle.ifmap_tellings.proofs.marking.mark_alone.Goals as goal
 use Rattle.ifmap_tellings.proofs.marking.mark_alone.Goals.{then-is_alone, else-is_alone}
 

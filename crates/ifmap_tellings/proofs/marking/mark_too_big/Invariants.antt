@@ -1,5 +1,5 @@
 use Rattle.std.proofs.Common.{◌≡◌}
-use Rattle.ifmap_tellings.proofs.FlagLaws.{flags_to}
+use Rattle.ifmap_lemmas.specs.Flags.{flags_to}
 use Rattle.ifmap_tellings.proofs.marking.mark_too_big.Given as goal
 
 abbrev pub invariant-loop-at : goal.invariant-loop-at
