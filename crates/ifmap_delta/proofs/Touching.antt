@@ -15,6 +15,7 @@ use Rattle.ifmap_filter.specs.declared.filters.Filter.{Filter}
 use Rattle.ifmap_filter.specs.Meets.{meets_optional}
 use Rattle.ifmap_ident.specs.declared.items.Item.{Item}
 use Rattle.ifmap_lemmas.specs.Having.{Has, any_has, filter_has, has_any, has_either, has_filter, has_left, has_right}
+use Rattle.ifmap_lemmas.specs.Rising.{rising_same, tied_same}
 use Rattle.ifmap_meta.specs.declared.stored.Stored.{Stored}
 use Rattle.ifmap_plans.specs.declared.plans.ItemChange.{ItemChange}
 use Rattle.ifmap_plans.specs.Lists.{list_without, next_on, put_each}
@@ -28,10 +29,9 @@ use Rattle.ifmap_view.specs.Attachments.{stored_order}
 use Rattle.ifmap_view.specs.Rows.{stored_on}
 use Rattle.ifmap_fresh.specs.Fresh.{is_looked_at}
 use Rattle.ifmap_fresh.specs.Gathered.{entry_at}
-use Rattle.ifmap_folds.specs.laws.RisingLaws.{has_still, put_has, rising_same}
+use Rattle.ifmap_folds.specs.laws.RisingLaws.{has_still, put_has}
 use Rattle.ifmap_delta.specs.Shown.{shown_on}
 use Rattle.ifmap_delta.specs.Touched.{has_met, left_out, rows_touched_by}
-use Rattle.ifmap_delta.proofs.Ties.{tied_same}
 
 abbrev tie : Stored → Stored → Bool
 tie = eq_by_cmp stored_order
@@ -46,7 +46,7 @@ tie_itself : (a : Stored) → tie a a ≡ true
 tie_itself a = (eq_by_cmp_equiv stored_total).refl a
 
 one_of_two : (rows : List Stored) → IsStrictlySortedBy stored_order rows → (x z : Stored) → Has rows x → Has rows z → tie x z ≡ true → x ≡ z
-one_of_two rows up x z h k e = tied_same stored_order stored_total rows up x z h k ((Equal-is (stored_order x z)).0 e)
+one_of_two rows up x z h k e = tied_same stored_order stored_total rows x z up h k ((Equal-is (stored_order x z)).0 e)
 
 wider : (these : List Stored) (row z : Stored) → ties these z ≡ true → ties (these ++ row ∷ []) z ≡ true
 wider these row z e =
@@ -59,10 +59,6 @@ last_ties these row z e = has_any (λ r. tie r z) (these ++ row ∷ []) row (has
 pub none_touched : (rows : List Stored) → rows_touched_by [] rows ≡ []
 none_touched [] = refl
 none_touched (row ∷ rows) = none_touched rows
-
-pub nothing_rises : IsStrictlySortedBy stored_order []
-unfolding IsStrictlySortedBy
-nothing_rises = tt
 
 which_ties : (these : List Stored) (row z : Stored) → ties (these ++ row ∷ []) z ≡ true → (ties these z ≡ true) ⊎ (tie row z ≡ true)
 which_ties these row z e =

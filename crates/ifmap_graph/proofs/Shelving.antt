@@ -1,5 +1,5 @@
 -- Entries, slots and the rows that they show, as one shelf comes, changes or goes.
-use Rattle.std.proofs.Common.{◌≡◌, ◌≢◌, ◌⊎◌, ℕ, true, false, Option, Some, None, IsSome, is_some, List, [], ◌∷◌, ◌++◌, map, nat_eq, refl, ap, ◌∙◌, sym, subst, inl, inr, arith}
+use Rattle.std.proofs.Common.{◌≡◌, ◌≢◌, ◌⊎◌, ℕ, true, false, Option, Some, None, IsSome, List, [], ◌∷◌, ◌++◌, map, nat_eq, refl, ap, ◌∙◌, sym, subst, inl, inr, arith}
 use Rattle.std.proofs.lemmas.Bool.{cases_Bool, cases_eq}
 use Rattle.std.proofs.lemmas.Bool.Decides.{nat_tests}
 use Rattle.std.proofs.lemmas.Option.{none-some}
@@ -68,10 +68,6 @@ vacant_out look at (e ∷ es) v a = (
   ],
   vacant_out look at es v a.1,
 )
-
-pub none_is : {X : Type 0} (o : Option X) → is_some o ≡ false → o ≡ None
-none_is None e = refl
-none_is (Some x) e = let r : true ≡ false = e in cc
 
 module _ (look later : ℕ → Option Shelf) (at : ℕ) (vacant : look at ≡ None) (others : (o : ℕ) → o ≢ at → later o ≡ look o) where
   stays : (n : ℕ) → IsSome (look n) → later n ≡ look n

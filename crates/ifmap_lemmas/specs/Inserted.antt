@@ -108,7 +108,7 @@ module _ (X : Type 0) (C : X → X → Ordering) (o : IsTotalOrder C) where
       none_at a xs i within (is (searchable_from_sorted o (λ y. y) xs a (rises_in_order C o xs up)))
 
 -- and in those that rise by a key
-module _ {X K : Type 0} (key : X → K) (C : K → K → Ordering) (o : IsTotalOrder C) (E : K → K → Bool)
+module _ (X K : Type 0) (key : X → K) (C : K → K → Ordering) (o : IsTotalOrder C) (E : K → K → Bool)
     (same : (x y : K) → E x y ≡ is_eq (C x y)) where
   differs : (a b : K) → C a b ≡ Less → E a b ≡ false
   differs a b e = same a b ∙ ap is_eq e

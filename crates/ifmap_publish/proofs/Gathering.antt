@@ -12,22 +12,24 @@ use Rattle.std.proofs.lemmas.List.Sorted.{Contains-permutation, IsPermutation-sy
 use Rattle.std.specs.List.{AllByRecursion, Contains, IsDistinct, filter}
 use Rattle.std.specs.List.Sorted.{IsPermutation, IsStrictlySortedBy}
 use Rattle.std.specs.Ordering.{eq_by_cmp, is_gt, is_lt}
+use Rattle.ifmap_lemmas.specs.Filtered.{filter_agrees}
 use Rattle.ifmap_lemmas.specs.Filters.{all_around, all_filter, all_weaker, filter_all, filter_passes}
 use Rattle.ifmap_lemmas.specs.Having.{Has, all_has, any_has, filter_has, from_has, has_all, has_any, has_either, has_filter, has_from}
+use Rattle.ifmap_lemmas.specs.Rising.{nothing_rises, rising_same}
 use Rattle.ifmap_meta.specs.declared.stored.Stored.{Stored}
 use Rattle.ifmap_meta.specs.Keys.{HaveOneKey, same_key}
 use Rattle.ifmap_meta.specs.Whole.{IsWhole}
 use Rattle.ifmap_rows.specs.ifmap_plans.Lists.{next_on, put_each, list_without}
 use Rattle.ifmap_rows.specs.ifmap_plans.Placing.{put}
 use Rattle.ifmap_rows.specs.ifmap_plans.laws.KeyLaws.{stored_equiv, stored_total}
-use Rattle.ifmap_rows.specs.laws.JoiningLaws.{fails_too, each_in, in_each, one_list, rising_each}
+use Rattle.ifmap_rows.specs.laws.JoiningLaws.{fails_too, each_in, in_each, rising_each}
 use Rattle.ifmap_view.specs.Attachments.{stored_order}
 use Rattle.ifmap_publish.specs.OnItems.{attach_all, attach_on}
 use Rattle.ifmap_publish.specs.Working.{AreKeyed, EditMakes, IsSound, is_among, is_keyed, over_keys}
 use Rattle.ifmap_publish.specs.declared.edits.Edit.{Edit}
 use Rattle.ifmap_publish.proofs.Attaching.{one_of, sound_attached}
 use Rattle.ifmap_publish.proofs.Editing.{apart_of_keys, key_not_told, key_told, makes_less, makes_more, tied_key}
-use Rattle.ifmap_publish.proofs.Rising.{filter_agrees, keyed_ties, put_filtered, put_itself}
+use Rattle.ifmap_publish.proofs.Rising.{keyed_ties, put_filtered, put_itself}
 
 -- ---- what is found by keys
 
@@ -229,7 +231,7 @@ module _ (l a b : List Stored) (ul : IsStrictlySortedBy stored_order l) (ua : Is
 
   pub over_over : over_keys (over_keys l a) b ≡ over_keys l ab
   over_over =
-      one_list Stored stored_order stored_total (over_keys (over_keys l a) b) (over_keys l ab)
+      rising_same stored_order stored_total (over_keys (over_keys l a) b) (over_keys l ab)
       (over_rises (over_keys l a) b (over_whole l a wl wa) wb (over_rises l a wl wa ul))
       (over_rises l ab wl (over_whole a b wa wb) ul) to back
 
@@ -240,10 +242,6 @@ one_over list s =
     ap (put stored_order s) (filter_agrees (λ t. not (same_key s t)) (λ t. not (same_key s t || false)) list
     (λ t h. ap not (sym (or-false (same_key s t)))))
 
-none_rises : IsStrictlySortedBy stored_order []
-unfolding IsStrictlySortedBy
-none_rises = tt
-
 none_distinct : IsDistinct same_key []
 unfolding IsDistinct
 none_distinct = tt
@@ -253,7 +251,7 @@ unfolding IsStrictlySortedBy
 one_rises s = (tt, tt)
 
 pub none_sound : IsSound []
-none_sound = record { keyed = record { rising = none_rises; keys = none_distinct }; whole = tt }
+none_sound = record { keyed = record { rising = nothing_rises stored_order; keys = none_distinct }; whole = tt }
 
 pub all_sound : (rows list : List Stored) → AllByRecursion IsWhole rows → IsSound list → IsSound (attach_all list rows)
 all_sound [] list w s = s

@@ -1,7 +1,7 @@
 -- Where a search along the words of an index ends.
 use Rattle.std.proofs.Common.{◌≡◌, ◌⊎◌, refl, ◌∙◌, ap, inl, inr, Bool, true, false, [], List, ◌∷◌}
 use Rattle.std.proofs.Common.{ℕ, ◌<◌, ◌≤◌, suc, zero, length, get_or, arith, Ordering, ltb, subst}
-use Rattle.std.proofs.Common.{Option, Some, None, IfNone, Contains}
+use Rattle.std.proofs.Common.{Contains}
 use Rattle.std.proofs.lemmas.Bool.{cases_lt}
 use Rattle.std.proofs.lemmas.Bool.Decides.{nat_tests}
 use Rattle.std.proofs.lemmas.Cmp.{nat_cmp_total}
@@ -104,7 +104,3 @@ module _ (row : Stored) (rows index : List Stored) (is : IsIndexed rows index) w
 
   pub none_in : AllByRecursion (HasNot row) index → AllByRecursion (HasNot row) rows
   none_in a = all_of rows (λ s h. member index a s (is.back s h))
-
-pub none_then : {X : Type 0} (r : Option X) {P Q : Type 0} → IfNone r P → (P → Q) → IfNone r Q
-none_then None h f = f h
-none_then (Some x) h f = tt

@@ -12,6 +12,7 @@ use Rattle.std.specs.List.Sorted.{IsStrictlySortedBy}
 use Rattle.std.specs.Option.{IfSome, is_some, option_map, option_to_list, unwrap_or}
 use Rattle.std.specs.declared.cmp.Ordering.TheVariants.{Less}
 use Rattle.ifmap_lemmas.specs.Filters.{all_filter, all_weaker}
+use Rattle.ifmap_lemmas.specs.Inserted.{all_set}
 use Rattle.ifmap_lemmas.specs.Places.{all_got}
 use Rattle.ifmap_session.specs.declared.rows.SessionRow.{SessionRow}
 use Rattle.ifmap_session.specs.Rows.{AreOwn, HasOwnSerial, live_of, row_order, seats_of, spare_in}
@@ -254,11 +255,6 @@ module _ (n : ℕ) where
       map_alike the_spare r.kept (seats_of (set rows i (row_of n b))) (seats_of rows) (spare_same rows i a b e same)
 
 -- order
-all_set : {X : Type 0} (P : X → Type 0) (xs : List X) (i : ℕ) (y : X) → AllByRecursion P xs → P y → AllByRecursion P (set xs i y)
-all_set P [] i y all new = tt
-all_set P (x ∷ xs) zero y all new = (new, all.1)
-all_set P (x ∷ xs) (suc i) y all new = (all.0, all_set P xs i y all.1 new)
-
 same_order : (x r q : SessionRow) → q.serial ≡ r.serial → row_order x r ≡ Less → row_order x q ≡ Less
 same_order x r q e less = rw e less
 
