@@ -71,7 +71,8 @@ module _ (slots : Slab Shelf) where
       (filter_map (brought_link slots v) (take i touched) ++ cons_option (brought_link slots v (get_or touched i 0)) []))) None)
       (sym (list_any_more (joins slots v) touched i 0 h))
       ∙ ap (λ l. cond (list_any (joins slots v) (take (i + 1) touched)) (Some (links_kept slots links ++ l)) None)
-      (sym (picked_more (brought_link slots v) 0 touched i h) ∙ ap (λ n. filter_map (brought_link slots v) (take n touched)) (sym (add-one i)))
+      (sym (picked_more (brought_link slots v) 0 touched i h)
+      ∙ ap (λ n. filter_map (brought_link slots v) (take n touched)) (sym (add-one i)))
 
   -- a slot that joins two numbers is looked at for both
   far_none : (v w u : ℕ) → u ≢ v → u ≢ w → far_of (Some (v, w)) u ≡ None

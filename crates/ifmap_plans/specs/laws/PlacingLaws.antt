@@ -74,7 +74,8 @@ module _ (X : Type 0) (C : X → X → Ordering) (o : IsTotalOrder C) where
 
   pub gap_is_put : (a : X) (xs : List X) (i : ℕ) → IsStrictlySortedBy C xs → IsSearchInRange (Err i) (length xs)
       → IsBinarySearchResult (λ y. C y a) xs (Err i) → (i ≤ length xs) × (insert xs i a ≡ put C a xs)
-  gap_is_put a xs i up within is = (within, insert_is_put a xs i within (is (searchable_from_sorted o (λ y. y) xs a (rises_in_order C o xs up))))
+  gap_is_put a xs i up within is =
+      (within, insert_is_put a xs i within (is (searchable_from_sorted o (λ y. y) xs a (rises_in_order C o xs up))))
 
   -- where a search by halving ends
   pub spot : (a : X) (xs : List X) (r : Result ℕ ℕ) → IsStrictlySortedBy C xs → IsSearchInRange r (length xs)

@@ -63,7 +63,8 @@ module _ (X : Type 0) (C : X → X → Ordering) (o : IsTotalOrder C) where
     | inl l ↦ let p = filter_has (λ y. is_lt (C y a)) xs x l in inr (p.0, (eq_by_cmp_equiv o).symm a x ∙ less_differs (C x a) p.1)
     | inr r ↦ elim r [
       | inl e ↦ inl e
-      | inr g ↦ let p = filter_has (λ y. is_gt (C y a)) xs x g in inr (p.0, (eq_by_cmp_equiv o).symm a x ∙ ap is_eq (is_greater (C x a) p.1))
+      | inr g ↦ let p = filter_has (λ y. is_gt (C y a)) xs x g in
+          inr (p.0, (eq_by_cmp_equiv o).symm a x ∙ ap is_eq (is_greater (C x a) p.1))
     ]
   ]
 

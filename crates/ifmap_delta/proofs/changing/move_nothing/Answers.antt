@@ -73,9 +73,11 @@ returns-clause-moved g c =
     c.levels_are_walks.ensures.expanded keeps keeps'
     in let a = fresh old.rows s
     in let b = fresh new.rows s
-    in let deleted : [] ≡ difference a b = difference_is tells old new s graph.graph draft.graph [] (nothing_rises item_order) (λ x h. absurd h)
+    in let deleted : [] ≡ difference a b = difference_is tells old new s graph.graph draft.graph []
+    (nothing_rises item_order) (λ x h. absurd h)
     (λ x i f. let q = settled x i in (q.looked, q.stored))
-    in let updated : [] ≡ difference b a = difference_is tells new old s draft.graph graph.graph [] (nothing_rises item_order) (λ x h. absurd h)
+    in let updated : [] ≡ difference b a = difference_is tells new old s draft.graph graph.graph []
+    (nothing_rises item_order) (λ x h. absurd h)
     (λ x i f. let q = settled x i in (sym q.looked, λ h. sym (q.stored (q.looked ∙ h))))
     in record {
       deleted = c.new.ensures ∙ deleted;

@@ -13,7 +13,8 @@ returns-clause-ready c =
     let here : c.index.result.now ≡ sides_at c.args.links.now.items c.args.place
     = c.index.ensures ∙ get_or_default c.args.links.now.items c.args.place c.index.result.now no_list c.requires.place
     in let none : (sides_at c.args.links.now.items c.args.place).draft ≡ None
-    = ap (λ (s : Sides LinkSeen). s.draft) (sym here) ∙ none_where_not_some c.index.result.now.draft (sym c.has_draft.ensures ∙ c.if-has_draft.false)
+    = ap (λ (s : Sides LinkSeen). s.draft) (sym here)
+    ∙ none_where_not_some c.index.result.now.draft (sym c.has_draft.ensures ∙ c.if-has_draft.false)
     in subst (λ (w : List (ℕ × List LinkSeen)). AreExactlyDrafted w c.set_draft.new.links.items)
     (sym (c.in_ok-push.ensures.items ∙ ap (λ (y : ℕ × List LinkSeen). c.args.ways.now.items ++ y ∷ []) c.new.ensures))
     (ready_more c.args.ways.now.items c.args.links.now.items c.set_draft.new.links.items c.args.place c.requires.ready
