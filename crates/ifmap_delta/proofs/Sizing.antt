@@ -2,7 +2,8 @@
 -- neither loses nor gains, and that has one size in both.
 use Rattle.std.proofs.Common.{◌≡◌, inl, inr, ℕ, ◌+◌, Bool, true, false, not, ◌&&◌, List, [], ◌∷◌, length, sum_by, refl, ap, ◌∙◌}
 use Rattle.std.proofs.Common.{sym, subst, arith}
-use Rattle.std.proofs.lemmas.Bool.{and_parts, cases_Bool}
+use Rattle.std.proofs.lemmas.Bool.{and_parts}
+use Rattle.std.proofs.lemmas.List.Filters.{sum_by-filter_both}
 use Rattle.std.proofs.lemmas.List.Kept.{IsStrictlySortedBy-filter}
 use Rattle.std.proofs.lemmas.List.Sums.{sum_by-cons}
 use Rattle.std.specs.Cmp.{Equal-is, IsTotalOrder, tied_back}
@@ -29,21 +30,7 @@ use Rattle.ifmap_folds.specs.laws.FoldingLaws.{entries_tie, entries_total, same_
 -- a sum over a list, in two parts
 parts : {X : Type 0} (f : X → ℕ) (p : X → Bool) (xs : List X)
     → sum_by f xs ≡ sum_by f (filter p xs) + sum_by f (filter (λ x. not (p x)) xs)
-parts f p [] = refl
-parts f p (x ∷ xs) = elim (cases_Bool (p x)) [
-  | inl t ↦ rw t (omega (
-    arith,
-    parts f p xs,
-    sum_by-cons f x xs,
-    sum_by-cons f x (filter p xs),
-  ))
-  | inr t ↦ rw t (omega (
-    arith,
-    parts f p xs,
-    sum_by-cons f x xs,
-    sum_by-cons f x (filter (λ y. not (p y)) xs),
-  ))
-]
+parts f p xs = sym (sum_by-filter_both p (λ x. not (p x)) (λ x. refl) f xs)
 
 -- two rising lists, of which each has what ties with a member of the other, have one sum of what ties give alike
 module _ {X : Type 0} (order : X → X → Ordering) (total : IsTotalOrder order) (f : X → ℕ)

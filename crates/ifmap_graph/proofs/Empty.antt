@@ -6,6 +6,7 @@ use Rattle.std.specs.List.{AllByRecursion, Contains, IsDistinct}
 use Rattle.std.specs.Map.{lookup, remove_entry}
 use Rattle.ifmap_ident.specs.declared.items.Item.{Item}
 use Rattle.ifmap_ident.specs.Items.{item_order}
+use Rattle.ifmap_lemmas.specs.Rising.{to_distinct, to_sorted}
 use Rattle.ifmap_meta.specs.Keys.{same_key}
 use Rattle.ifmap_plans.specs.Lists.{IsList}
 use Rattle.ifmap_view.specs.declared.views.LinkSeen.{LinkSeen}
@@ -16,7 +17,6 @@ use Rattle.ifmap_graph.specs.Joined.{is_not_empty, joined_pair}
 use Rattle.ifmap_graph.specs.Linked.{AreListed, link_places}
 use Rattle.ifmap_graph.specs.Shelved.{StoredSide, list_at}
 use Rattle.ifmap_graph.proofs.Finding.{all_inserted, all_left}
-use Rattle.ifmap_graph.proofs.Rising.{to_distinct, to_sorted}
 use Rattle.ifmap_graph.proofs.Links.{joins_alike}
 
 pub nothing_is_list : IsList []

@@ -19,9 +19,8 @@ use Rattle.ifmap_view.specs.Attachments.{IsGraph, attachment_order, of_one_key, 
 use Rattle.ifmap_view.specs.Rows.{stored_on}
 use Rattle.ifmap_graph.proofs.Alike.{one_tied, pair_tied}
 use Rattle.ifmap_ident.specs.SameLaws.{items_total, ties, BytesTellIdentifiers}
-use Rattle.ifmap_graph.proofs.Rising.{from_distinct, from_sorted, to_distinct, to_sorted}
 use Rattle.ifmap_lemmas.specs.Pairwise.{Pairwise}
-use Rattle.ifmap_lemmas.specs.Rising.{rising_same}
+use Rattle.ifmap_lemmas.specs.Rising.{rising_same, from_distinct, from_sorted, to_distinct, to_sorted}
 
 tied_with : (x k : Item) → same_item k x ≡ true → item_order x k ≡ Equal
 tied_with x k e = (Equal-is (item_order x k)).0 (ties x k ∙ e)

@@ -1,5 +1,6 @@
 -- What filters make of a list: tests that agree, one after another, both, neither, and none.
-use Rattle.std.proofs.Common.{◌≡◌, ◌∙◌, refl, sym, ap, ◌≤◌, Bool, true, false, cond, not, ◌||◌, List, [], ◌∷◌, arith, length}
+use Rattle.std.proofs.Common.{◌≡◌, ◌∙◌, refl, sym, ap, ◌≤◌, Bool, true, false, cond, not, ◌||◌, List, [], ◌∷◌, arith, inl, inr, length}
+use Rattle.std.proofs.lemmas.Bool.{cases_Bool}
 use Rattle.std.specs.List.{filter}
 use Rattle.ifmap_lemmas.specs.Filters.{filter_alike, filter_none}
 use Rattle.ifmap_lemmas.specs.Having.{Has, has_all}
@@ -61,3 +62,19 @@ filter_le p q (x ∷ xs) h = by (p x) (q x) refl refl (filter_le p q xs h)
     by true false e f l = let bad : false ≡ true = sym f ∙ h x e in cc
     by false true e f l = omega (arith, l)
     by false false e f l = l
+
+-- what a test drops, a stricter one drops anyway
+pub filter_through : {X : Type 0} (p q : X → Bool) (xs : List X) → ((x : X) → Has xs x → p x ≡ false → q x ≡ false)
+    → filter q (filter p xs) ≡ filter q xs
+filter_through p q [] f = refl
+filter_through p q (x ∷ xs) f = elim (cases_Bool (p x)) [
+  | inl t ↦ elim (cases_Bool (q x)) [
+    | inl u ↦ rw (t, u) (ap (λ l. x ∷ l) (filter_through p q xs (λ y h. f y (inr h))))
+    | inr u ↦ rw (t, u) (filter_through p q xs (λ y h. f y (inr h)))
+  ]
+  | inr t ↦ rw (t, f x (inl refl) t) (filter_through p q xs (λ y h. f y (inr h)))
+]
+
+-- where no member passes, none is left
+pub none_left : {X : Type 0} (q : X → Bool) (xs : List X) → ((x : X) → Has xs x → q x ≡ false) → filter q xs ≡ []
+none_left q xs f = filter_none q xs (has_all (λ x. q x ≡ false) xs f)

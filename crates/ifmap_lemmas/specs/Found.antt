@@ -1,8 +1,9 @@
 -- What the first that passes a test tells of filters, of other tests, and of what else is there.
-use Rattle.std.proofs.Common.{◌≡◌, ◌<◌, Bool, true, false, List, [], ◌∷◌, None, Some, IsSome, inl, inr, refl, sym, subst, map, length, arith}
+use Rattle.std.proofs.Common.{◌≡◌, ◌∙◌, ◌<◌, Bool, true, false, cond, List, [], ◌∷◌, ◌++◌, ap, None, Some, IsSome, inl, inr, refl, sym, subst, map, length, arith}
 use Rattle.std.proofs.lemmas.Bool.{both_ways, cases_Bool}
-use Rattle.std.specs.List.{AllByRecursion, filter, find}
+use Rattle.std.specs.List.{AllByRecursion, filter, find, list_any}
 use Rattle.ifmap_lemmas.specs.Filters.{filter_shorter, found_all}
+use Rattle.ifmap_lemmas.specs.Having.{Has, any_has, has_any}
 use Rattle.ifmap_lemmas.specs.Members.{all_of_map}
 
 -- where none passes, none is found
@@ -36,6 +37,24 @@ one_less q p (y ∷ ys) x e out =
           let rest = one_less q p ys x (rw miss at e) out in
           elim (cases_Bool (p y)) [ inl stays ↦ rw stays (omega (arith, rest)) | inr goes ↦ rw goes (omega (arith, rest)) ]
     ]
+
+-- a test that nothing passes fails at each member, and the other way round
+pub fails_at : {X : Type 0} (p : X → Bool) (xs : List X) (x : X) → list_any p xs ≡ false → Has xs x → p x ≡ false
+fails_at p xs x none h = elim (cases_Bool (p x)) [
+  | inl e ↦ let q : false ≡ true = sym none ∙ has_any p xs x h e in cc
+  | inr e ↦ e
+]
+
+pub none_where_fails : {X : Type 0} (p : X → Bool) (xs : List X) → ((x : X) → Has xs x → p x ≡ false) → list_any p xs ≡ false
+none_where_fails p xs f = elim (cases_Bool (list_any p xs)) [
+  | inl e ↦ let a = any_has p xs e in let q : false ≡ true = sym (f a.0 a.1) ∙ a.2 in cc
+  | inr e ↦ e
+]
+
+-- one more that does not pass changes nothing
+pub find_push : {X : Type 0} (p : X → Bool) (xs : List X) (y : X) → p y ≡ false → find p (xs ++ y ∷ []) ≡ find p xs
+find_push p [] y e = rw e refl
+find_push p (x ∷ xs) y e = ap (λ o. cond (p x) (Some x) o) (find_push p xs y e)
 
 -- what holds of each member's key holds of the key of what is found
 pub key_found : {X K : Type 0} (key : X → K) (P : K → Type 0) (p : X → Bool) (xs : List X) (x : X)

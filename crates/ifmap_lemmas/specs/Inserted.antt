@@ -1,12 +1,12 @@
 -- Lists with one put in or out at a place, as a search by halving ends there.
-use Rattle.std.proofs.Common.{◌≡◌, refl, sym, ◌∙◌, ap, ℕ, suc, zero, ◌<◌, ◌≤◌, Bool, true, false, not, cond, List, [], ◌∷◌, ◌++◌, length, get_or, set, None, Some, Err, Ok, Ordering, inl, inr, arith}
+use Rattle.std.proofs.Common.{◌≡◌, ◌≢◌, refl, sym, ◌∙◌, ap, ℕ, suc, zero, ◌<◌, ◌≤◌, Bool, true, false, not, cond, List, [], ◌∷◌, ◌++◌, length, get_or, set, None, Some, Err, Ok, Ordering, inl, inr, arith}
 use Rattle.std.proofs.lemmas.Bool.{cases_Bool, cases_lt}
 use Rattle.std.proofs.lemmas.Cmp.{alike_right, on_total}
 use Rattle.std.proofs.lemmas.List.Elements.{recursion_from_All}
 use Rattle.std.proofs.lemmas.List.Folds.{list_any_at}
 use Rattle.std.proofs.lemmas.List.Sorted.{searchable_from_sorted}
 use Rattle.std.specs.Cmp.{IsEquivalence, IsTotalOrder}
-use Rattle.std.specs.List.{All, AllByRecursion, IsDistinct, filter, find, insert, list_any, remove}
+use Rattle.std.specs.List.{All, AllByRecursion, IsDistinct, filter, find, insert, list_any, remove, slice_get}
 use Rattle.std.specs.List.Sorted.{IsBinarySearchResult, IsPartitionPoint, IsSearchInRange, IsStrictlySortedBy}
 use Rattle.std.specs.Ordering.{eq_by_cmp, is_eq, on}
 use Rattle.std.specs.declared.cmp.Ordering.TheVariants.{Less, Equal, Greater}
@@ -35,6 +35,13 @@ one_pushed [] zero d = refl
 one_pushed [] (suc v) d = refl
 one_pushed (x ∷ xs) zero d = refl
 one_pushed (x ∷ xs) (suc v) d = one_pushed xs v d
+
+-- and what stands at each other place
+pub push_elsewhere : {X : Type 0} (xs : List X) (y : X) (j : ℕ) → j ≢ length xs → slice_get (xs ++ y ∷ []) j ≡ slice_get xs j
+push_elsewhere [] y zero apart = absurd (apart refl)
+push_elsewhere [] y (suc j) apart = refl
+push_elsewhere (x ∷ xs) y zero apart = refl
+push_elsewhere (x ∷ xs) y (suc j) apart = push_elsewhere xs y j (λ e. apart (ap (λ n. suc n) e))
 
 -- what is found after one that is found by nothing before was put in
 pub find_insert : {X : Type 0} (q : X → Bool) (xs : List X) (i : ℕ) (y : X) → (q y ≡ true → find q xs ≡ None)

@@ -11,8 +11,9 @@ use Rattle.std.specs.Ordering.{eq_by_cmp, is_eq, is_lt, ordering_reverse}
 use Rattle.std.specs.declared.cmp.Ordering.TheVariants.{Less, Equal, Greater}
 use Rattle.ifmap_lemmas.specs.Filters.{all_around, all_at, all_weaker, filter_all}
 use Rattle.ifmap_lemmas.specs.Having.{Has, all_has, any_has, has_any}
-use Rattle.ifmap_lemmas.specs.Members.{all_last}
+use Rattle.ifmap_lemmas.specs.Members.{all_last, both_all}
 use Rattle.ifmap_lemmas.specs.Orderings.{less_turned, not_both, not_equal}
+use Rattle.ifmap_lemmas.specs.Pairwise.{Pairwise}
 
 module _ {X : Type 0} (C : X → X → Ordering) where
   pub nothing_rises : IsStrictlySortedBy C []
@@ -177,3 +178,37 @@ module _ {X : Type 0} (C : X → X → Ordering) (o : IsTotalOrder C) where
         | inr k ↦ k
       ])
       in ap (λ w. w ∷ xs) (sym one) ∙ ap (λ l. y ∷ l) rest
+
+-- ---- of each member and those after it
+
+module _ {X : Type 0} (R : X → X → Ordering) where
+  -- a list rises where each member is below those after it, and no other does
+  pub to_sorted : (xs : List X) → Pairwise (λ x y. R x y ≡ Less) xs → IsStrictlySortedBy R xs
+  unfolding IsStrictlySortedBy
+  to_sorted [] p = tt
+  to_sorted (x ∷ xs) p = (p.0, to_sorted xs p.1)
+
+  pub from_sorted : (xs : List X) → IsStrictlySortedBy R xs → Pairwise (λ x y. R x y ≡ Less) xs
+  unfolding IsStrictlySortedBy
+  from_sorted [] r = tt
+  from_sorted (x ∷ xs) r = (r.0, from_sorted xs r.1)
+
+module _ {X : Type 0} (same : X → X → Bool) where
+  -- members are distinct where each differs from those after it, and not otherwise
+  pub to_distinct : (xs : List X) → Pairwise (λ x y. same x y ≡ false) xs → IsDistinct same xs
+  unfolding IsDistinct
+  to_distinct [] p = tt
+  to_distinct (x ∷ xs) p = (p.0, to_distinct xs p.1)
+
+  pub from_distinct : (xs : List X) → IsDistinct same xs → Pairwise (λ x y. same x y ≡ false) xs
+  unfolding IsDistinct
+  from_distinct [] r = tt
+  from_distinct (x ∷ xs) r = (r.0, from_distinct xs r.1)
+
+  -- two lists of distinct members, where those of the one differ from those of the other
+  pub distinct_joined : (xs ys : List X) → IsDistinct same xs → IsDistinct same ys
+      → ((x : X) → Has xs x → AllByRecursion (λ y. same x y ≡ false) ys) → IsDistinct same (xs ++ ys)
+  unfolding IsDistinct
+  distinct_joined [] ys u v f = v
+  distinct_joined (x ∷ xs) ys u v f =
+      (both_all (λ y. same x y ≡ false) xs ys u.0 (f x (inl refl)), distinct_joined xs ys u.1 v (λ z h. f z (inr h)))

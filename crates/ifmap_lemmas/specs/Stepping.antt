@@ -4,12 +4,18 @@ use Rattle.std.proofs.Common.{take, drop, drop-cons, append_assoc, add-one, arit
 use Rattle.std.proofs.Math.Seq.{take-suc}
 use Rattle.std.proofs.lemmas.List.{append-nil, get_or-map, length-map}
 use Rattle.std.proofs.lemmas.List.Elements.{filter_more, filter_map-append}
-use Rattle.std.specs.List.{cons_option, filter, filter_map}
+use Rattle.std.specs.List.{AllByRecursion, cons_option, filter, filter_map}
+use Rattle.ifmap_lemmas.specs.Filters.{all_at}
 
 -- some member of a list that has a place
 pub some_in : {X : Type 0} (xs : List X) (i : ℕ) → i < length xs → X
 some_in [] i h = absurd (omega (arith, h))
 some_in (x ∷ xs) i h = x
+
+-- what holds of each member holds of the one that is read
+pub member_holds : {X : Type 0} (P : X → Type 0) (xs : List X) (i : ℕ) (x : X) → i < length xs → x ≡ get_or xs i x → AllByRecursion P xs
+    → P x
+member_holds P xs i x low at all = subst P (sym at) (all_at P xs i x all low)
 
 -- what is mapped at a place, and the rest
 pub here_mapped : {X Y : Type 0} (f : X → Y) (xs : List X) (i : ℕ) (d : X) → i < length xs

@@ -16,6 +16,7 @@ use Rattle.ifmap_lemmas.specs.Filtered.{filter_agrees}
 use Rattle.ifmap_lemmas.specs.Filters.{all_around, all_filter, all_weaker, filter_all, filter_passes}
 use Rattle.ifmap_lemmas.specs.Having.{Has, all_has, any_has, filter_has, from_has, has_all, has_any, has_either, has_filter, has_from}
 use Rattle.ifmap_lemmas.specs.Rising.{nothing_rises, rising_same}
+use Rattle.ifmap_lemmas.specs.Stepping.{member_holds}
 use Rattle.ifmap_meta.specs.declared.stored.Stored.{Stored}
 use Rattle.ifmap_meta.specs.Keys.{HaveOneKey, same_key}
 use Rattle.ifmap_meta.specs.Whole.{IsWhole}
@@ -27,7 +28,7 @@ use Rattle.ifmap_view.specs.Attachments.{stored_order}
 use Rattle.ifmap_publish.specs.OnItems.{attach_all, attach_on}
 use Rattle.ifmap_publish.specs.Working.{AreKeyed, EditMakes, IsSound, is_among, is_keyed, over_keys}
 use Rattle.ifmap_publish.specs.declared.edits.Edit.{Edit}
-use Rattle.ifmap_publish.proofs.Attaching.{one_of, sound_attached}
+use Rattle.ifmap_publish.proofs.Attaching.{sound_attached}
 use Rattle.ifmap_publish.proofs.Editing.{apart_of_keys, key_not_told, key_told, makes_less, makes_more, tied_key}
 use Rattle.ifmap_publish.proofs.Rising.{keyed_ties, put_filtered, put_itself}
 
@@ -40,7 +41,7 @@ module _ (list : List Stored) (s : IsSound list) where
   module _ (keys : List Stored) (i : ℕ) (row : Stored) (low : i < length keys) (at : row ≡ get_or keys i row)
       (whole : AllByRecursion IsWhole keys) (found : List Stored) (so : AreKeyed list (take i keys) found) where
     w : IsWhole row
-    w = one_of IsWhole keys i row low at whole
+    w = member_holds IsWhole keys i row low at whole
 
     next_keys : take (i + 1) keys ≡ take i keys ++ row ∷ []
     next_keys = take_more keys i row low ∙ ap (λ (r : Stored). take i keys ++ r ∷ []) (sym at)

@@ -3,7 +3,7 @@
 -- a list that rises is told by what it has, which is that of the list into which they came (rows_joined, index_joined);
 -- where none that is there has the bytes of one that comes, all of them stay (rows_merged, index_merged);
 -- what was taken out first makes no difference (put_again, joined_again), and both lists stay in step (joined_keeps).
-use Rattle.std.proofs.Common.{◌≡◌, ◌⊎◌, ◌∙◌, refl, sym, ap, subst, inl, inr, Bool, true, false, List, [], ◌∷◌, ◌++◌, Ordering}
+use Rattle.std.proofs.Common.{◌≡◌, ◌⊎◌, ◌∙◌, refl, sym, ap, subst, inl, inr, true, false, List, [], ◌∷◌, ◌++◌, Ordering}
 use Rattle.std.proofs.lemmas.Bool.{not-true, or_parts}
 use Rattle.std.proofs.lemmas.Cmp.{eq_by_cmp_equiv}
 use Rattle.std.proofs.lemmas.List.Sorted.{Contains-permutation, IsPermutation-sym}
@@ -16,8 +16,7 @@ use Rattle.std.specs.Ordering.{eq_by_cmp, is_eq, is_lt}
 use Rattle.std.specs.declared.cmp.Ordering.TheVariants.{Less}
 use Rattle.ifmap_lemmas.specs.Filters.{all_weaker, filter_again, filter_all}
 use Rattle.ifmap_lemmas.specs.Having.{Has, filter_has, from_has, has_either, has_filter, has_from, has_left, has_right}
-use Rattle.ifmap_lemmas.specs.Members.{both_all}
-use Rattle.ifmap_lemmas.specs.Rising.{rises_apart, rising_same}
+use Rattle.ifmap_lemmas.specs.Rising.{distinct_joined, rises_apart, rising_same}
 use Rattle.ifmap_meta.specs.declared.stored.Stored.{Stored}
 use Rattle.ifmap_plans.specs.Lists.{list_without, put_each}
 use Rattle.ifmap_plans.specs.laws.KeyLaws.{stored_total}
@@ -45,13 +44,6 @@ module _ (X : Type 0) (C D : X → X → Ordering) (finer : (a s : X) → is_eq 
   stays_apart o w (a ∷ adds) e =
       let p = or_parts (eq_by_cmp C a w) (list_any (λ r. eq_by_cmp C r w) adds) e in
       (fails_too (is_eq (D w a)) (is_eq (C w a)) (finer w a) ((eq_by_cmp_equiv o).symm w a ∙ p.0), stays_apart o w adds p.1)
-
-joined_apart : {X : Type 0} (e : X → X → Bool) (ws adds : List X) → IsDistinct e ws → IsDistinct e adds
-    → ((w : X) → Has ws w → AllByRecursion (λ a. e w a ≡ false) adds) → IsDistinct e (ws ++ adds)
-unfolding IsDistinct
-joined_apart e [] adds u v f = v
-joined_apart e (w ∷ ws) adds u v f =
-    (both_all (λ y. e w y ≡ false) ws adds u.0 (f w (inl refl)), joined_apart e ws adds u.1 v (λ x h. f x (inr h)))
 
 -- ---- a sort of what stays and what comes
 
@@ -81,7 +73,7 @@ module _ (list added next : List Stored) (up : IsStrictlySortedBy stored_order a
       → IsDistinct (eq_by_cmp D) (list_without added list) → IsDistinct (eq_by_cmp D) next
   kept_apart D o finer w =
       IsDistinct-IsPermutation (eq_by_cmp D) ((eq_by_cmp_equiv o).symm) (list_without added list ++ added) next made
-      (joined_apart (eq_by_cmp D) (list_without added list) added w (apart Stored stored_order D finer added up)
+      (distinct_joined (eq_by_cmp D) (list_without added list) added w (apart Stored stored_order D finer added up)
       (λ s h. stays_apart Stored stored_order D finer stored_total s added
       (not-true (list_any (λ r. eq_by_cmp stored_order r s) added) (filter_has (stays added) list s h).1)))
 
