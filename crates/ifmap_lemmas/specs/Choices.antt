@@ -1,5 +1,6 @@
--- Choices by tests, one in another, and options that are chosen or mapped.
-use Rattle.std.proofs.Common.{◌≡◌, refl, Bool, true, false, cond, Option, None, Some, IsSome}
+-- Choices by tests, one in another, and options that are chosen, mapped or told by their values.
+use Rattle.std.proofs.Common.{◌≡◌, ◌↔◌, inl, inr, refl, sym, Bool, true, false, cond, Option, None, Some, IsSome}
+use Rattle.std.proofs.lemmas.Bool.{cases_Bool}
 use Rattle.std.specs.Option.{option_map}
 
 -- two choices in a row change places where they are not both made
@@ -35,3 +36,13 @@ pub some_alike : {X Y Z : Type 0} (f : X → Z) (g : Y → Z) (o : Option X) (q 
 some_alike f g (Some x) q e h = refl
 some_alike f g None (Some y) e h = cc
 some_alike f g None None e h = h
+
+-- options with the same values are one
+pub same_option : {X : Type 0} (a b : Option X) → ((x : X) → (a ≡ Some x) ↔ (b ≡ Some x)) → a ≡ b
+same_option None None f = refl
+same_option None (Some x) f = (f x).1 refl
+same_option (Some x) b f = sym ((f x).0 refl)
+
+-- a test that fails where a wider one does
+pub fails_too : (p q : Bool) → (p ≡ true → q ≡ true) → q ≡ false → p ≡ false
+fails_too p q f e = elim (cases_Bool p) [ inl t ↦ let u : q ≡ true = f t in cc | inr t ↦ t ]

@@ -12,6 +12,7 @@ use Rattle.std.proofs.lemmas.List.Sorted.{Contains-permutation, IsPermutation-sy
 use Rattle.std.specs.List.{AllByRecursion, Contains, IsDistinct, filter}
 use Rattle.std.specs.List.Sorted.{IsPermutation, IsStrictlySortedBy}
 use Rattle.std.specs.Ordering.{eq_by_cmp, is_gt, is_lt}
+use Rattle.ifmap_lemmas.specs.Choices.{fails_too}
 use Rattle.ifmap_lemmas.specs.Filtered.{filter_agrees}
 use Rattle.ifmap_lemmas.specs.Filters.{all_around, all_filter, all_weaker, filter_all, filter_passes}
 use Rattle.ifmap_lemmas.specs.Having.{Has, all_has, any_has, filter_has, from_has, has_all, has_any, has_either, has_filter, has_from}
@@ -23,7 +24,7 @@ use Rattle.ifmap_meta.specs.Whole.{IsWhole}
 use Rattle.ifmap_rows.specs.ifmap_plans.Lists.{next_on, put_each, list_without}
 use Rattle.ifmap_rows.specs.ifmap_plans.Placing.{put}
 use Rattle.ifmap_rows.specs.ifmap_plans.laws.KeyLaws.{stored_equiv, stored_total}
-use Rattle.ifmap_rows.specs.laws.JoiningLaws.{fails_too, each_in, in_each, rising_each}
+use Rattle.ifmap_rows.specs.laws.JoiningLaws.{each_in, in_each, rising_each}
 use Rattle.ifmap_view.specs.Attachments.{stored_order}
 use Rattle.ifmap_publish.specs.OnItems.{attach_all, attach_on}
 use Rattle.ifmap_publish.specs.Working.{AreKeyed, EditMakes, IsSound, is_among, is_keyed, over_keys}

@@ -14,6 +14,7 @@ use Rattle.std.specs.List.{AllByRecursion, IsDistinct, list_any}
 use Rattle.std.specs.List.Sorted.{IsPermutation, IsSortedBy, IsStrictlySortedBy}
 use Rattle.std.specs.Ordering.{eq_by_cmp, is_eq, is_lt}
 use Rattle.std.specs.declared.cmp.Ordering.TheVariants.{Less}
+use Rattle.ifmap_lemmas.specs.Choices.{fails_too}
 use Rattle.ifmap_lemmas.specs.Filters.{all_weaker, filter_again, filter_all}
 use Rattle.ifmap_lemmas.specs.Having.{Has, filter_has, from_has, has_either, has_filter, has_from, has_left, has_right}
 use Rattle.ifmap_lemmas.specs.Rising.{distinct_joined, rises_apart, rising_same}
@@ -22,7 +23,7 @@ use Rattle.ifmap_plans.specs.Lists.{list_without, put_each}
 use Rattle.ifmap_plans.specs.laws.KeyLaws.{stored_total}
 use Rattle.ifmap_plans.specs.ifmap_view.Attachments.{stored_order}
 use Rattle.ifmap_rows.specs.Indexed.{IsIndexed, IsJoined, word_order}
-use Rattle.ifmap_rows.specs.laws.JoiningLaws.{fails_too, each_in, in_each, rising_each, stays}
+use Rattle.ifmap_rows.specs.laws.JoiningLaws.{each_in, in_each, rising_each, stays}
 use Rattle.ifmap_rows.proofs.Keeping.{words_total, worded_equal}
 
 module _ (X : Type 0) (C D : X → X → Ordering) (finer : (a s : X) → is_eq (D a s) ≡ true → is_eq (C a s) ≡ true) where

@@ -8,6 +8,7 @@ use Rattle.std.specs.List.{filter, list_any}
 use Rattle.std.specs.List.Sorted.{IsStrictlySortedBy}
 use Rattle.std.specs.Ordering.{eq_by_cmp, is_eq, nat_cmp}
 use Rattle.std.specs.declared.cmp.Ordering.TheVariants.{Equal}
+use Rattle.ifmap_lemmas.specs.Choices.{fails_too}
 use Rattle.ifmap_lemmas.specs.Having.{Has, filter_has, has_filter}
 use Rattle.ifmap_lemmas.specs.Orderings.{both_equal}
 use Rattle.ifmap_lemmas.specs.Rising.{tied_same}
@@ -18,7 +19,6 @@ use Rattle.ifmap_plans.specs.laws.PlacingLaws.{has_put_one, put_sorted}
 use Rattle.ifmap_plans.specs.ifmap_view.Attachments.{stored_order}
 use Rattle.ifmap_rows.specs.Indexed.{IsIndexed, without_one, word_order}
 use Rattle.ifmap_meta.specs.Keys.{word_of}
-use Rattle.ifmap_rows.specs.laws.JoiningLaws.{fails_too}
 use Rattle.ifmap_rows.specs.laws.RisingLaws.{has_put, none_equal, put_again, put_has}
 
 pub empty : IsIndexed [] []

@@ -326,7 +326,8 @@ pub spare_begun : (rows : List SessionRow) (n : ℕ) (a : Seat) → a.session.se
     → spare_of other (spare_in (rows ++ row_of n a ∷ [])) ≡ spare_of other (spare_in rows)
 spare_begun rows n a mine other apart =
     ap (spare_of other) (ap (map the_spare) (seats_push rows n a) ∙ map-append the_spare (seats_of rows) (a ∷ []))
-    ∙ ap (λ (o : Option (ℕ × ℕ)). unwrap_or (option_map (λ p. p.1) o) 0) (find_push (λ p. p.0 == other) (spare_in rows) (the_spare a)
+    ∙ ap (λ (o : Option (ℕ × ℕ)). unwrap_or (option_map (λ p. p.1) o) 0)
+    (find_push (λ (p : ℕ × ℕ). p.0 == other) (spare_in rows) (the_spare a)
     (false_from_ne_true (a.session.serial == other) (λ h. apart (sym (eqb-true a.session.serial other h) ∙ mine))))
 
 -- without the empty rows

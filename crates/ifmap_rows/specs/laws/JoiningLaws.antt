@@ -1,7 +1,6 @@
--- What a list has after rows came to it one after the other, and lists that rise told by what they have.
+-- What a list has after rows came to it one after the other.
 use Rattle.std.proofs.Common.{◌≡◌, ◌⊎◌, ◌∙◌, refl, ap, subst, inl, inr, Bool, true, false, not, List, [], ◌∷◌}
-use Rattle.std.proofs.Common.{arith}
-use Rattle.std.proofs.lemmas.Bool.{cases_Bool, not-true, or_from, or_parts}
+use Rattle.std.proofs.lemmas.Bool.{not-true, or_from, or_parts}
 use Rattle.std.specs.List.{AllByRecursion, list_any}
 use Rattle.std.specs.List.Sorted.{IsStrictlySortedBy}
 use Rattle.std.specs.Ordering.{eq_by_cmp, is_eq, ordering_reverse}
@@ -14,10 +13,6 @@ use Rattle.ifmap_plans.specs.laws.KeyLaws.{stored_total}
 use Rattle.ifmap_plans.specs.laws.PlacingLaws.{has_put_one, put_sorted}
 use Rattle.ifmap_plans.specs.ifmap_view.Attachments.{stored_order}
 use Rattle.ifmap_rows.specs.laws.RisingLaws.{has_put, put_has}
-
--- a test that fails at one that another test tells
-pub fails_too : (p q : Bool) → (p ≡ true → q ≡ true) → q ≡ false → p ≡ false
-fails_too p q f e = elim (cases_Bool p) [ inl t ↦ let u : q ≡ true = f t in cc | inr t ↦ t ]
 
 -- ---- what a list has after rows came to it one after the other
 

@@ -1,4 +1,4 @@
--- Texts, what a search in a list finds, and lists whose elements have different texts.
+-- Texts, and lists whose elements have different texts.
 use Rattle.std.proofs.Common.{◌≡◌, sym, ◌∙◌, subst, ℕ, Bool, true, false, cond, List, [], ◌∷◌, ◌++◌, map, None, Some}
 use Rattle.std.proofs.lemmas.Cmp.{nat_list_eq_equiv}
 use Rattle.std.specs.Cmp.Lexicographic.{same_text}
