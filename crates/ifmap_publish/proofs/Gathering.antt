@@ -3,7 +3,7 @@
 -- by what such lists have; so rows one after the other are the last of each key, over the list; and what edit makes it.
 use Rattle.std.proofs.Common.{◌≡◌, ◌⊎◌, ◌∙◌, refl, sym, ap, subst, inl, inr, ℕ, ◌+◌, ◌<◌, Bool, true, false, not, ◌||◌, List, [], ◌∷◌, ◌++◌}
 use Rattle.std.proofs.Common.{get_or, length, take}
-use Rattle.std.proofs.Math.Bool.{or-false}
+use Rattle.std.proofs.Math.Bool.{or-false, or_assoc}
 use Rattle.std.proofs.lemmas.Bool.{cases_Bool, not-true, or_parts}
 use Rattle.std.proofs.lemmas.List.{take_more}
 use Rattle.std.proofs.lemmas.List.Folds.{list_any-append}
@@ -94,10 +94,6 @@ keyed_sorted list keys all found next p e so = subst (λ l. AreKeyed list l next
 
 -- ---- what is taken and put then
 
-or_or : (a b c : Bool) → ((a || b) || c) ≡ (a || (b || c))
-or_or true b c = refl
-or_or false b c = refl
-
 -- members of a list that come to what a filter leaves of it
 pub put_found : (list : List Stored) → IsStrictlySortedBy stored_order list → (t : Stored → Bool) (found : List Stored)
     → ((s : Stored) → Has found s → Has list s)
@@ -108,7 +104,7 @@ put_found list up t (f ∷ fs) there =
     ap (put_each fs) (sym (put_filtered t f list) ∙ ap (filter t2) (put_itself f list up (there f (inl refl))))
     ∙ put_found list up t2 fs (λ s h. there s (inr h))
     ∙ filter_agrees (λ s. t2 s || is_among fs s) (λ s. t s || is_among (f ∷ fs) s) list
-    (λ s h. or_or (t s) (eq_by_cmp stored_order f s) (is_among fs s))
+    (λ s h. or_assoc (t s) (eq_by_cmp stored_order f s) (is_among fs s))
 
 pub keys_taken : (stored taken keys found : List Stored) → IsSound stored → taken ≡ filter (is_among taken) stored
     → AreKeyed stored keys found → put_each found taken ≡ filter (λ s. is_among taken s || is_keyed keys s) stored
