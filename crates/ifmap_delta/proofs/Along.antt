@@ -3,8 +3,7 @@ use Rattle.std.proofs.Common.{◌≡◌, ℕ, Bool, true, ◌+◌, ◌<◌, Opti
 use Rattle.std.proofs.Common.{refl, ap, ◌∙◌, sym, subst, inl, inr}
 use Rattle.std.proofs.lemmas.List.{map-append, take_more}
 use Rattle.std.proofs.lemmas.List.Elements.{filter-append}
-use Rattle.std.specs.List.{AllByRecursion, cons_option, filter}
-use Rattle.ifmap_lemmas.specs.Filters.{all_at}
+use Rattle.std.specs.List.{cons_option, filter}
 use Rattle.ifmap_lemmas.specs.Having.{Has, has_either, has_left, has_right}
 use Rattle.ifmap_plans.specs.declared.plans.ItemChange.{ItemChange}
 use Rattle.ifmap_plans.specs.declared.plans.Note.{Note}
@@ -46,10 +45,6 @@ flips_more old new s mark cs fs i c r h e are some each =
     one None f p k = absurd k
     one (Some g) f p (inl q) = subst (λ y. IsFlipAt old new s c.item y) q p
     one (Some g) f p (inr k) = absurd k
-
--- what holds of all, at a place
-pub item_holds : {X : Type 0} (P : X → Type 0) (xs : List X) (i : ℕ) (x : X) → AllByRecursion P xs → i < length xs → x ≡ get_or xs i x → P x
-item_holds P xs i x a h e = subst P (sym e) (all_at P xs i x a h)
 
 -- what is told of one note more
 pub notes_more : (rows : List Attachment) (s : Search) (ns : List Note) (i : ℕ) (n : Note) → i < length ns → n ≡ get_or ns i n

@@ -17,9 +17,9 @@ use Rattle.std.specs.declared.cmp.Ordering.TheVariants.{Less, Equal}
 use Rattle.ifmap_ident.specs.declared.items.Item.{Item}
 use Rattle.ifmap_ident.specs.Items.{item_order, items_tie, same_item}
 use Rattle.ifmap_lemmas.specs.Having.{all_has, Has, any_has, has_any, has_map}
+use Rattle.ifmap_lemmas.specs.Rising.{head_rises, tail_rises}
 use Rattle.ifmap_plans.specs.declared.plans.ItemChange.{ItemChange}
 use Rattle.ifmap_plans.specs.Plans.{change_of}
-use Rattle.ifmap_folds.specs.laws.RisingLaws.{head_rises, tail_rises}
 use Rattle.ifmap_delta.specs.declared.pairing.TouchedItem.{TouchedItem}
 use Rattle.ifmap_delta.specs.Touched.{IsPaired, change_at, items_touched, with_no_place}
 use Rattle.ifmap_ident.specs.SameLaws.{same_equal, less_item_differs, items_total}
@@ -99,7 +99,7 @@ module _ (changes : List ItemChange) (place : ℕ) (c : ItemChange) (low : place
   below : (t : TouchedItem) (ts : List TouchedItem) → IsStrictlySortedBy item_order (items_touched (t ∷ ts)) → (u : TouchedItem) → Has ts u
       → item_order t.item u.item ≡ Less
   below t ts up u h = all_has (λ y. item_order t.item y ≡ Less) (items_touched ts)
-      (head_rises item_order items_total t.item (items_touched ts) up) u.item (has_map (λ (t : TouchedItem). t.item) ts u h)
+      (head_rises item_order t.item (items_touched ts) up) u.item (has_map (λ (t : TouchedItem). t.item) ts u h)
 
   has_at : (ts : List TouchedItem) (i : ℕ) (d : TouchedItem) → i < length ts → Has ts (get_or ts i d)
   has_at [] i d lt = absurd (omega (arith, lt))
@@ -123,7 +123,7 @@ module _ (changes : List ItemChange) (place : ℕ) (c : ItemChange) (low : place
       = items_total.antisymm v.item c.item ∙ ap ordering_reverse (same_equal c.item v.item e)
       in (
         other_change t (greater_differs c.item t.item (sym (alike_right items_total v.item c.item t.item equal) ∙ less)) a.0,
-        set_paired ts i u (tail_rises item_order items_total t.item (items_touched ts) up) under e same is a.1,
+        set_paired ts i u (tail_rises item_order t.item (items_touched ts) up) under e same is a.1,
       )
 
 pub same_items : (ts : List TouchedItem) (i : ℕ) (u : TouchedItem) → u.item ≡ (get_or ts i u).item

@@ -7,7 +7,6 @@ pub mod Settling
 pub mod Along
 pub mod InStep
 pub mod Keeping
-pub mod Ties
 pub mod Touching
 pub mod Beside
 pub mod Repairing

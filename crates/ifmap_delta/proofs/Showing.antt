@@ -8,6 +8,7 @@ use Rattle.std.specs.declared.cmp.Ordering.TheVariants.{Less, Equal}
 use Rattle.ifmap_ident.specs.declared.items.Item.{Item}
 use Rattle.ifmap_ident.specs.Items.{item_order, same_item}
 use Rattle.ifmap_lemmas.specs.Having.{filter_has, has_all}
+use Rattle.ifmap_lemmas.specs.Rising.{nothing_rises}
 use Rattle.ifmap_search.specs.declared.searches.Search.{Search}
 use Rattle.ifmap_view.specs.declared.attachments.Attachment.{Attachment}
 use Rattle.ifmap_view.specs.Attachments.{IsGraph, attachment_order, stored_order}
@@ -37,10 +38,6 @@ unfolding IsStrictlySortedBy
 map_rises x [] q r = tt
 map_rises x (a ∷ bs) q r = (all_less x a bs q.0 q.1 r.0, map_rises x bs q.1 r.1)
 
-nothing_rises : IsStrictlySortedBy stored_order []
-unfolding IsStrictlySortedBy
-nothing_rises = tt
-
 pub stored_rises : (rows : List Attachment) (x : Item) → IsGraph rows → IsStrictlySortedBy stored_order (stored_on x rows)
 stored_rises rows x graph =
     let on : Attachment → Bool = λ r. same_item r.item x
@@ -52,4 +49,4 @@ shown_rises rows s x graph = by (is_looked_at rows s x)
   where
     by : (b : Bool) → IsStrictlySortedBy stored_order (cond b (stored_on x rows) [])
     by true = stored_rises rows x graph
-    by false = nothing_rises
+    by false = nothing_rises stored_order

@@ -2,7 +2,8 @@
 -- neither loses nor gains, and that has one size in both.
 use Rattle.std.proofs.Common.{◌≡◌, inl, inr, ℕ, ◌+◌, Bool, true, false, not, ◌&&◌, List, [], ◌∷◌, length, sum_by, refl, ap, ◌∙◌}
 use Rattle.std.proofs.Common.{sym, subst, arith}
-use Rattle.std.proofs.lemmas.Bool.{and_parts, cases_Bool}
+use Rattle.std.proofs.lemmas.Bool.{and_parts}
+use Rattle.std.proofs.lemmas.List.Filters.{sum_by-filter_both}
 use Rattle.std.proofs.lemmas.List.Kept.{IsStrictlySortedBy-filter}
 use Rattle.std.proofs.lemmas.List.Sums.{sum_by-cons}
 use Rattle.std.specs.Cmp.{Equal-is, IsTotalOrder, tied_back}
@@ -18,32 +19,18 @@ use Rattle.ifmap_ident.specs.declared.items.Item.TheVariants.{One, Pair}
 use Rattle.ifmap_ident.specs.Identifiers.{identifier_bytes, same_identifier}
 use Rattle.ifmap_ident.specs.Items.{item_size, same_item}
 use Rattle.ifmap_lemmas.specs.Having.{Has, any_has, filter_has, has_any, has_filter, all_has}
+use Rattle.ifmap_lemmas.specs.Rising.{head_rises, tail_rises}
 use Rattle.ifmap_lemmas.specs.Texts.{eq_tells}
 use Rattle.ifmap_lemmas.specs.Orderings.{not_both, not_equal}
 use Rattle.ifmap_search.specs.declared.results.Entry.{Entry}
 use Rattle.ifmap_search.specs.Sizes.{entries_size, entry_size}
 use Rattle.ifmap_folds.specs.Differences.{difference, entry_bytes, entry_order, has_entry, same_entry}
 use Rattle.ifmap_folds.specs.laws.FoldingLaws.{entries_tie, entries_total, same_turned}
-use Rattle.ifmap_folds.specs.laws.RisingLaws.{head_rises, tail_rises}
 
 -- a sum over a list, in two parts
 parts : {X : Type 0} (f : X → ℕ) (p : X → Bool) (xs : List X)
     → sum_by f xs ≡ sum_by f (filter p xs) + sum_by f (filter (λ x. not (p x)) xs)
-parts f p [] = refl
-parts f p (x ∷ xs) = elim (cases_Bool (p x)) [
-  | inl t ↦ rw t (omega (
-    arith,
-    parts f p xs,
-    sum_by-cons f x xs,
-    sum_by-cons f x (filter p xs),
-  ))
-  | inr t ↦ rw t (omega (
-    arith,
-    parts f p xs,
-    sum_by-cons f x xs,
-    sum_by-cons f x (filter (λ y. not (p y)) xs),
-  ))
-]
+parts f p xs = sym (sum_by-filter_both p (λ x. not (p x)) (λ x. refl) f xs)
 
 -- two rising lists, of which each has what ties with a member of the other, have one sum of what ties give alike
 module _ {X : Type 0} (order : X → X → Ordering) (total : IsTotalOrder order) (f : X → ℕ)
@@ -64,10 +51,10 @@ module _ {X : Type 0} (order : X → X → Ordering) (total : IsTotalOrder order
   one_sum [] (y ∷ ys) r q a b = absurd (b y (inl refl)).1
   one_sum (x ∷ xs) [] r q a b = absurd (a x (inl refl)).1
   one_sum (x ∷ xs) (y ∷ ys) r q a b =
-      let below : (z : X) → Has xs z → order x z ≡ Less = λ z h. all_has (λ w. order x w ≡ Less) xs (head_rises order total x xs r) z h
-      in let above : (z : X) → Has ys z → order y z ≡ Less = λ z h. all_has (λ w. order y w ≡ Less) ys (head_rises order total y ys q) z h
+      let below : (z : X) → Has xs z → order x z ≡ Less = λ z h. all_has (λ w. order x w ≡ Less) xs (head_rises order x xs r) z h
+      in let above : (z : X) → Has ys z → order y z ≡ Less = λ z h. all_has (λ w. order y w ≡ Less) ys (head_rises order y ys q) z h
       in let heads : order x y ≡ Equal = first x y below above (a x (inl refl)) (b y (inl refl))
-      in let rest : sum_by f xs ≡ sum_by f ys = one_sum xs ys (tail_rises order total x xs r) (tail_rises order total y ys q)
+      in let rest : sum_by f xs ≡ sum_by f ys = one_sum xs ys (tail_rises order x xs r) (tail_rises order y ys q)
       (λ z h. later ys x y heads z (below z h) (a z (inr h)))
       (λ z h. later xs y x (tied_back total x y heads) z (above z h) (b z (inr h)))
       in omega (arith, alike x y heads, rest, sum_by-cons f x xs, sum_by-cons f y ys)

@@ -2,15 +2,15 @@
 -- the marks are those afterwards (`marks_stay`); the search looks at none of the items, before or afterwards (`far_looked`);
 -- so nothing is gathered, and each item tells nothing (`all_settled`).
 use Rattle.std.proofs.Common.{◌≡◌, ◌∙◌, inl, inr, ℕ, Bool, true, false, ◌||◌, Option, Some, None, List, [], ◌∷◌, ◌++◌}
-use Rattle.std.proofs.Common.{is_some, refl, ap, sym, subst}
-use Rattle.std.proofs.lemmas.Bool.{and_right, or_parts}
+use Rattle.std.proofs.Common.{refl, ap, subst}
+use Rattle.std.proofs.lemmas.Bool.{and_right, both_ways, or_parts}
 use Rattle.std.specs.List.{list_any, filter}
-use Rattle.std.specs.List.Sorted.{IsStrictlySortedBy}
 use Rattle.ifmap_ident.specs.declared.identifiers.Identifier.{Identifier}
 use Rattle.ifmap_ident.specs.declared.items.Item.{Item}
 use Rattle.ifmap_ident.specs.declared.items.Item.TheVariants.{One, Pair}
 use Rattle.ifmap_ident.specs.Canon.{IsIdentifier}
-use Rattle.ifmap_ident.specs.Items.{IsCanonItem, item_order}
+use Rattle.ifmap_ident.specs.Items.{IsCanonItem}
+use Rattle.ifmap_lemmas.specs.Absent.{none_where_not_some}
 use Rattle.ifmap_lemmas.specs.Having.{Has, filter_has, has_either, has_from, map_has, all_has}
 use Rattle.ifmap_plans.specs.declared.plans.ItemChange.{ItemChange}
 use Rattle.ifmap_region.specs.declared.flips.Flip.{Flip}
@@ -34,17 +34,6 @@ use Rattle.ifmap_delta.proofs.Repairing.{repaired_marks}
 use Rattle.ifmap_delta.proofs.Settling.{expanded_before, reached_before, settled}
 use Rattle.ifmap_delta.proofs.Walking.{depths_over}
 use Rattle.ifmap_ident.specs.SameLaws.{BytesTellIdentifiers}
-
-never_both : (b : Bool) → b ≡ true → b ≡ false → ⊥
-never_both b t f = let c : true ≡ false = sym t ∙ f in cc
-
-no_mark : (o : Option ℕ) → is_some o ≡ false → o ≡ None
-no_mark None e = refl
-no_mark (Some k) e = let c : true ≡ false = e in cc
-
-pub none_rises : IsStrictlySortedBy item_order []
-unfolding IsStrictlySortedBy
-none_rises = tt
 
 -- of lists in step, no member of the second of which meets a test, each of the first has one that does not
 each_far : {X Y : Type 0} (R : X → Y → Type 0) (p : Y → Bool) (xs : List X) (ys : List Y) → AreEach R xs ys
@@ -74,7 +63,7 @@ module _ (tells : BytesTellIdentifiers) (old new : ViewSeen) (s : Search) (was :
   no_flips = record {
     only = λ flip h. absurd h;
     each = λ c flip h at m. absurd (let f = far_change c h
-        in never_both (is_near mark f.0) (near_flip old new s mark c.item f.0 f.1 flip at m) f.2);
+        in both_ways (is_near mark f.0) f.2 (near_flip old new s mark c.item f.0 f.1 flip at m));
   }
 
   -- the marks are those afterwards
@@ -116,7 +105,7 @@ module _ (tells : BytesTellIdentifiers) (old new : ViewSeen) (s : Search) (was :
       not_expanded reach expand new s is start top mark marks_stay keeps' a i (number_none new a None n refl),
     )
     far_expanded a i (Some v) n m =
-        let none : goes_on s (new.id_at v) (mark v) ≡ false = ap (goes_on s (new.id_at v)) (no_mark (mark v) m)
+        let none : goes_on s (new.id_at v) (mark v) ≡ false = ap (goes_on s (new.id_at v)) (none_where_not_some (mark v) m)
         in (
           expanded_before tells reach expand old new s was is changes change start top start top mark mark before marks_stay keeps keeps'
               v a (number_found new a (Some v) v n refl) ∙ none,
@@ -149,7 +138,7 @@ module _ (tells : BytesTellIdentifiers) (old new : ViewSeen) (s : Search) (was :
       | inl k ↦ let looks : ItemChange → Bool = λ d. is_looked_at_either old new s d.item
           in let m = map_has (λ (d : ItemChange). d.item) (filter looks changes) x k
           in let p = filter_has looks changes m.0 m.1
-          in never_both (looks m.0) p.1 (far_looked m.0 p.0)
+          in both_ways (looks m.0) (far_looked m.0 p.0) p.1
       | inr k ↦ k
     ]
 

@@ -21,7 +21,7 @@ use Rattle.ifmap_ident.specs.declared.items.Item.{Item}
 use Rattle.ifmap_ident.specs.Items.{IsCanonItem, item_order, same_item}
 use Rattle.ifmap_lemmas.specs.Having.{Has, any_has, filter_has, has_any, has_filter, has_map, map_has, has_all}
 use Rattle.ifmap_lemmas.specs.Texts.{eq_itself, eq_tells, same_texts, slice_cmp-same}
-use Rattle.ifmap_lemmas.specs.Filters.{filter_alike, filter_twice}
+use Rattle.ifmap_lemmas.specs.Filters.{filter_alike, filter_twice, map_filter}
 use Rattle.ifmap_meta.specs.declared.stored.Stored.{Stored}
 use Rattle.ifmap_search.specs.declared.results.Entry.{Entry}
 use Rattle.ifmap_search.specs.declared.searches.Search.{Search}
@@ -55,13 +55,6 @@ tie_bytes a b e =
 
 tied_itself : (t : Stored) → eq_by_cmp stored_order t t ≡ true
 tied_itself t = ap is_eq (slice_cmp-same (stored_bytes t) (stored_bytes t) refl)
-
-filter_of_map : {X Y : Type 0} (f : X → Y) (q : Y → Bool) (xs : List X) → filter q (map f xs) ≡ map f (filter (λ x. q (f x)) xs)
-filter_of_map f q [] = refl
-filter_of_map f q (x ∷ xs) = elim (cases_Bool (q (f x))) [
-  | inl t ↦ rw t (ap (λ l. f x ∷ l) (filter_of_map f q xs))
-  | inr t ↦ rw t (filter_of_map f q xs)
-]
 
 -- what is left out on one item, as a filter of what is stored there
 none_left : (x : Item) (q : Stored → Bool) (p : Attachment → Bool) → ((t : Stored) → p (row_at x t) ≡ false) → (xs : List Stored)
@@ -207,4 +200,4 @@ module _ (tells : BytesTellIdentifiers) (one other : ViewSeen) (s : Search) (gra
         ∙ filter_alike (λ (r : Attachment). has_item items r.item && told r) (λ r. is_found one.rows s r && kept r) one.rows
         (has_all (λ (r : Attachment). (has_item items r.item && told r) ≡ (is_found one.rows s r && kept r)) one.rows pointwise)
         ∙ sym (filter_twice (is_found one.rows s) kept one.rows))
-        ∙ sym (filter_of_map entry_of (λ e. not (has_entry (fresh other.rows s) e)) (filter (is_found one.rows s) one.rows))
+        ∙ map_filter entry_of (λ e. not (has_entry (fresh other.rows s) e)) (filter (is_found one.rows s) one.rows))

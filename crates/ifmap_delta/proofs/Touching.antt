@@ -8,13 +8,16 @@ use Rattle.std.proofs.lemmas.Bool.{and_from, cases_Bool}
 use Rattle.std.proofs.lemmas.Cmp.{eq_by_cmp_equiv}
 use Rattle.std.proofs.lemmas.List.Kept.{IsStrictlySortedBy-filter}
 use Rattle.std.specs.Cmp.{Equal-is}
-use Rattle.std.specs.List.{filter, list_any}
+use Rattle.std.specs.List.{list_any}
 use Rattle.std.specs.List.Sorted.{IsStrictlySortedBy}
 use Rattle.std.specs.Ordering.{eq_by_cmp}
 use Rattle.ifmap_filter.specs.declared.filters.Filter.{Filter}
 use Rattle.ifmap_filter.specs.Meets.{meets_optional}
 use Rattle.ifmap_ident.specs.declared.items.Item.{Item}
+use Rattle.ifmap_lemmas.specs.Filtered.{filter_through, none_left}
+use Rattle.ifmap_lemmas.specs.Found.{fails_at, none_where_fails}
 use Rattle.ifmap_lemmas.specs.Having.{Has, any_has, filter_has, has_any, has_either, has_filter, has_left, has_right}
+use Rattle.ifmap_lemmas.specs.Rising.{rising_same, tied_same}
 use Rattle.ifmap_meta.specs.declared.stored.Stored.{Stored}
 use Rattle.ifmap_plans.specs.declared.plans.ItemChange.{ItemChange}
 use Rattle.ifmap_plans.specs.Lists.{list_without, next_on, put_each}
@@ -28,10 +31,9 @@ use Rattle.ifmap_view.specs.Attachments.{stored_order}
 use Rattle.ifmap_view.specs.Rows.{stored_on}
 use Rattle.ifmap_fresh.specs.Fresh.{is_looked_at}
 use Rattle.ifmap_fresh.specs.Gathered.{entry_at}
-use Rattle.ifmap_folds.specs.laws.RisingLaws.{has_still, put_has, rising_same}
+use Rattle.ifmap_folds.specs.laws.RisingLaws.{has_still, put_has}
 use Rattle.ifmap_delta.specs.Shown.{shown_on}
 use Rattle.ifmap_delta.specs.Touched.{has_met, left_out, rows_touched_by}
-use Rattle.ifmap_delta.proofs.Ties.{tied_same}
 
 abbrev tie : Stored → Stored → Bool
 tie = eq_by_cmp stored_order
@@ -46,7 +48,7 @@ tie_itself : (a : Stored) → tie a a ≡ true
 tie_itself a = (eq_by_cmp_equiv stored_total).refl a
 
 one_of_two : (rows : List Stored) → IsStrictlySortedBy stored_order rows → (x z : Stored) → Has rows x → Has rows z → tie x z ≡ true → x ≡ z
-one_of_two rows up x z h k e = tied_same stored_order stored_total rows up x z h k ((Equal-is (stored_order x z)).0 e)
+one_of_two rows up x z h k e = tied_same stored_order stored_total rows x z up h k ((Equal-is (stored_order x z)).0 e)
 
 wider : (these : List Stored) (row z : Stored) → ties these z ≡ true → ties (these ++ row ∷ []) z ≡ true
 wider these row z e =
@@ -59,10 +61,6 @@ last_ties these row z e = has_any (λ r. tie r z) (these ++ row ∷ []) row (has
 pub none_touched : (rows : List Stored) → rows_touched_by [] rows ≡ []
 none_touched [] = refl
 none_touched (row ∷ rows) = none_touched rows
-
-pub nothing_rises : IsStrictlySortedBy stored_order []
-unfolding IsStrictlySortedBy
-nothing_rises = tt
 
 which_ties : (these : List Stored) (row z : Stored) → ties (these ++ row ∷ []) z ≡ true → (ties these z ≡ true) ⊎ (tie row z ≡ true)
 which_ties these row z e =
@@ -125,18 +123,6 @@ module _ (rows these found : List Stored) (row : Stored) (up : IsStrictlySortedB
 abbrev Aside : List Stored → Stored → Type 0
 Aside these t = (r : Stored) → Has these r → tie r t ≡ false
 
-not_any : {X : Type 0} (p : X → Bool) (xs : List X) (x : X) → list_any p xs ≡ false → Has xs x → p x ≡ false
-not_any p xs x none h = elim (cases_Bool (p x)) [
-  | inl e ↦ let q : false ≡ true = sym none ∙ has_any p xs x h e in cc
-  | inr e ↦ e
-]
-
-any_not : {X : Type 0} (p : X → Bool) (xs : List X) → ((x : X) → Has xs x → p x ≡ false) → list_any p xs ≡ false
-any_not p xs f = elim (cases_Bool (list_any p xs)) [
-  | inl e ↦ let a = any_has p xs e in let q : false ≡ true = sym (f a.0 a.1) ∙ a.2 in cc
-  | inr e ↦ e
-]
-
 stays_each : (added xs : List Stored) (t : Stored) → Aside added t → Has xs t → Has (put_each added xs) t
 stays_each [] xs t n h = h
 stays_each (a ∷ added) xs t n h =
@@ -155,27 +141,12 @@ stays_on : (removed added xs : List Stored) (t : Stored) → Aside (removed ++ a
 stays_on removed added xs t n h =
     stays_each added (list_without removed xs) t (λ r k. n r (has_right removed added r k))
     (has_filter (λ s. not (ties removed s)) xs t h
-    (ap not (any_not (λ r. tie r t) removed (λ r k. n r (has_left removed added r k)))))
+    (ap not (none_where_fails (λ r. tie r t) removed (λ r k. n r (has_left removed added r k)))))
 
 was_on : (removed added xs : List Stored) (t : Stored) → Aside (removed ++ added) t → Has (next_on removed added xs) t → Has xs t
 was_on removed added xs t n h =
     (filter_has (λ s. not (ties removed s)) xs t
     (was_each added (list_without removed xs) t (λ r k. n r (has_right removed added r k)) h)).0
-
-narrowed : {X : Type 0} (p q : X → Bool) (xs : List X) → ((x : X) → Has xs x → p x ≡ false → q x ≡ false)
-    → filter q (filter p xs) ≡ filter q xs
-narrowed p q [] f = refl
-narrowed p q (x ∷ xs) f = elim (cases_Bool (p x)) [
-  | inl t ↦ elim (cases_Bool (q x)) [
-    | inl u ↦ rw (t, u) (ap (λ l. x ∷ l) (narrowed p q xs (λ y h. f y (inr h))))
-    | inr u ↦ rw (t, u) (narrowed p q xs (λ y h. f y (inr h)))
-  ]
-  | inr t ↦ rw (t, f x (inl refl) t) (narrowed p q xs (λ y h. f y (inr h)))
-]
-
-none_kept : {X : Type 0} (q : X → Bool) (xs : List X) → ((x : X) → Has xs x → q x ≡ false) → filter q xs ≡ []
-none_kept q [] f = refl
-none_kept q (x ∷ xs) f = rw (f x (inl refl)) (none_kept q xs (λ y h. f y (inr h)))
 
 passed_over : (m a : Bool) → (m ≡ true → a ≡ true) → (m && not a) ≡ false
 passed_over false a f = refl
@@ -192,8 +163,8 @@ module _ (filter_by : Option Filter) (x : Item) where
 
   all_told : (named these others : List Stored) → ((t : Stored) → Has these t → Aside named t → Has others t)
       → left_out filter_by x (rows_touched_by named these) others ≡ left_out filter_by x these others
-  all_told named these others stays = ap (map (entry_at x)) (narrowed (ties named) (left others) these
-      (λ t h n. not_left others t (stays t h (λ r k. not_any (λ r. tie r t) named r n k))))
+  all_told named these others stays = ap (map (entry_at x)) (filter_through (ties named) (left others) these
+      (λ t h n. not_left others t (stays t h (λ r k. fails_at (λ r. tie r t) named r n k))))
 
   module _ (c : ItemChange) (was now : List Stored) (is : now ≡ next_on c.removed c.added was) where
     pub goes_told : left_out filter_by x (rows_touched_by (c.removed ++ c.added) was) now ≡ left_out filter_by x was now
@@ -205,7 +176,7 @@ module _ (filter_by : Option Filter) (x : Item) where
         (λ t h n. was_on c.removed c.added was t n (subst (λ l. Has l t) is h))
 
   pub nothing_told : (these others : List Stored) → these ≡ others → [] ≡ left_out filter_by x these others
-  nothing_told these others e = sym (ap (map (entry_at x)) (none_kept (left others) these
+  nothing_told these others e = sym (ap (map (entry_at x)) (none_left (left others) these
       (λ t h. not_left others t (subst (λ l. Has l t) e h))))
 
 shown_whole : (b : Bool) (xs : List Stored) → cond b xs [] ≢ [] → cond b xs [] ≡ xs

@@ -10,6 +10,7 @@ use Rattle.std.proofs.lemmas.List.Elements.{All-contains_itself, All-weaker}
 use Rattle.std.proofs.lemmas.List.Sums.{sum_by-cons}
 use Rattle.std.specs.List.{Contains, IsDistinct, filter}
 use Rattle.ifmap_ident.specs.declared.identifiers.Identifier.{Identifier}
+use Rattle.ifmap_lemmas.specs.Choices.{same_option}
 use Rattle.ifmap_lemmas.specs.Filters.{distinct_filter}
 use Rattle.ifmap_lemmas.specs.Having.{filter_has, has_from}
 use Rattle.ifmap_plans.specs.declared.plans.ItemChange.{ItemChange}
@@ -93,12 +94,6 @@ module _ (L M : ℕ → ℕ → Type 0) (T U : ℕ → Bool) (start top : ℕ) (
 
   depths_near : (mark : ℕ → Option ℕ) → AreDepths L T start top mark → AreDepths M U start top mark
   depths_near mark d v k = (λ e. (depth_near v k).0 ((d v k).0 e), λ h. (d v k).1 ((depth_near v k).1 h))
-
--- options that hold the same are the same
-same_option : (a b : Option ℕ) → ((k : ℕ) → (a ≡ Some k) ↔ (b ≡ Some k)) → a ≡ b
-same_option None None f = refl
-same_option None (Some k) f = (f k).1 refl
-same_option (Some k) b f = sym ((f k).0 refl)
 
 -- the sum of what a list weighs at the members that a test passes
 sum_passed : (p : ℕ → Bool) (f g : ℕ → ℕ) → ((v : ℕ) → f v ≤ g v) → (ns : List ℕ)

@@ -2,7 +2,7 @@
 -- Plan: (1) what is said of each item of a list, by places and by members; (2) an item is another than those after it; (3) the
 -- draft of one item is accepted, and what is stored on the others stays (`stored_at`); (4) item after item; (5) the same
 -- where drafts are taken back.
-use Rattle.std.proofs.Common.{◌≡◌, ℕ, suc, ◌+◌, ◌<◌, ◌≤◌, false, IsSome, List, [], ◌∷◌, ◌++◌, map, length, get_or, set, take, drop, refl, ap, ◌∙◌, sym, subst, arith, add-one, append_assoc, drop-cons}
+use Rattle.std.proofs.Common.{◌≡◌, ℕ, ◌+◌, ◌<◌, ◌≤◌, false, IsSome, List, [], ◌∷◌, ◌++◌, map, length, get_or, set, take, drop, refl, ap, ◌∙◌, sym, subst, arith, append_assoc}
 use Rattle.std.proofs.lemmas.List.{append-nil, drop_all, get_or-map, length-map, length-set, take_all, take_more_set}
 use Rattle.std.specs.List.{AllByRecursion, IsDistinct}
 use Rattle.std.proofs.lemmas.Map.Keys.{IsDistinct-head, IsDistinct-tail}
@@ -20,24 +20,13 @@ use Rattle.ifmap_ident.specs.SameLaws.{ties, items_equiv}
 use Rattle.ifmap_lemmas.specs.Filters.{all_weaker}
 use Rattle.ifmap_lemmas.specs.Members.{all_two}
 use Rattle.ifmap_lemmas.specs.Options.{is_some_of}
+use Rattle.ifmap_lemmas.specs.Stepping.{here_mapped}
 use Rattle.ifmap_plans.specs.declared.plans.ItemChange.{ItemChange}
 use Rattle.ifmap_graph.specs.Out.{items_changed}
 
 map_same : {Y : Type 0} (f g : Item → Y) (xs : List Item) → AllByRecursion (λ x. f x ≡ g x) xs → map f xs ≡ map g xs
 map_same f g [] a = refl
 map_same f g (x ∷ xs) a = ap (λ y. y ∷ map f xs) a.0 ∙ ap (λ l. g x ∷ l) (map_same f g xs a.1)
-
--- something of a list that has a place
-pub some_in : {X : Type 0} (xs : List X) (i : ℕ) → i < length xs → X
-some_in [] i h = absurd (omega (arith, h))
-some_in (x ∷ xs) i h = x
-
--- what stands at a place, and the rest
-here_mapped : {X Y : Type 0} (f : X → Y) (xs : List X) (i : ℕ) (d : X) → i < length xs
-    → drop i (map f xs) ≡ f (get_or xs i d) ∷ drop (i + 1) (map f xs)
-here_mapped f xs i d h =
-    drop-cons (map f xs) i (f d) (omega (arith, h, length-map xs f)) ∙ ap (λ y. y ∷ drop (suc i) (map f xs)) (get_or-map f xs i d (f d) h)
-    ∙ ap (λ n. f (get_or xs i d) ∷ drop n (map f xs)) (sym (add-one i))
 
 -- as many items as changes, and the item of the change at a place
 pub as_many : (changes : List ItemChange) → length (items_changed changes) ≡ length changes

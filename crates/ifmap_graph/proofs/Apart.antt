@@ -7,9 +7,9 @@ use Rattle.ifmap_view.specs.declared.views.LinkSeen.{LinkSeen}
 use Rattle.ifmap_graph.specs.Linked.{AreListed, link_places, changed_links, coming_links, far_of, seen_at}
 use Rattle.ifmap_lemmas.specs.Having.{from_has, has_all}
 use Rattle.ifmap_lemmas.specs.Numbers.{equal_numbers}
-use Rattle.ifmap_graph.proofs.Rising.{to_distinct}
 use Rattle.ifmap_lemmas.specs.Filters.{all_filter}
 use Rattle.ifmap_lemmas.specs.Members.{map_of_all}
+use Rattle.ifmap_lemmas.specs.Rising.{to_distinct}
 use Rattle.ifmap_graph.proofs.Links.{both_true}
 
 -- the place is not among those of the links

@@ -3,6 +3,7 @@ use Rattle.std.proofs.Common.{◌≡◌, ℕ, Option, Some, None, IsSome, List, 
 use Rattle.std.proofs.lemmas.Option.{none-some}
 use Rattle.std.specs.List.{Contains, IsDistinct}
 use Rattle.ifmap_lemmas.specs.Having.{has_from}
+use Rattle.ifmap_lemmas.specs.Rising.{to_distinct}
 use Rattle.ifmap_ident.specs.declared.identifiers.Identifier.{Identifier}
 use Rattle.ifmap_ident.specs.Identifiers.{identifier_order}
 use Rattle.ifmap_pool.specs.Holdings.{Holdings, IsHeld, IsPool, Names, entry_at, key_at}
@@ -15,7 +16,6 @@ use Rattle.ifmap_graph.specs.Seen.{IsStill}
 use Rattle.ifmap_graph.specs.Shelved.{StoredSide}
 use Rattle.ifmap_graph.specs.Sides.{list_next, list_now}
 use Rattle.ifmap_graph.proofs.Shelving.{nothing_placed}
-use Rattle.ifmap_graph.proofs.Rising.{to_distinct}
 
 -- no number has an entry
 module _ (names : Holdings Identifier) (none : (v : ℕ) → entry_at names v ≡ None) where

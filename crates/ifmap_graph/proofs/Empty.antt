@@ -1,11 +1,12 @@
 -- A shelf that is empty comes or goes: both sides stay in order, and no link is listed otherwise.
-use Rattle.std.proofs.Common.{◌≡◌, ◌≢◌, ℕ, zero, suc, true, false, Option, None, List, [], ◌∷◌, ◌++◌, get_or, nat_eq, refl, ap, ◌∙◌, sym, subst, inl, inr}
+use Rattle.std.proofs.Common.{◌≡◌, ◌≢◌, ℕ, true, false, Option, None, List, [], ◌∷◌, nat_eq, ap, ◌∙◌, sym, subst, inl, inr}
 use Rattle.std.proofs.lemmas.Bool.{cases_eq}
 use Rattle.std.specs.BTreeMap.{is_at, insert_entry}
 use Rattle.std.specs.List.{AllByRecursion, Contains, IsDistinct}
 use Rattle.std.specs.Map.{lookup, remove_entry}
 use Rattle.ifmap_ident.specs.declared.items.Item.{Item}
 use Rattle.ifmap_ident.specs.Items.{item_order}
+use Rattle.ifmap_lemmas.specs.Rising.{to_distinct, to_sorted}
 use Rattle.ifmap_meta.specs.Keys.{same_key}
 use Rattle.ifmap_plans.specs.Lists.{IsList}
 use Rattle.ifmap_view.specs.declared.views.LinkSeen.{LinkSeen}
@@ -16,18 +17,10 @@ use Rattle.ifmap_graph.specs.Joined.{is_not_empty, joined_pair}
 use Rattle.ifmap_graph.specs.Linked.{AreListed, link_places}
 use Rattle.ifmap_graph.specs.Shelved.{StoredSide, list_at}
 use Rattle.ifmap_graph.proofs.Finding.{all_inserted, all_left}
-use Rattle.ifmap_graph.proofs.Rising.{to_distinct, to_sorted}
 use Rattle.ifmap_graph.proofs.Links.{joins_alike}
 
 pub nothing_is_list : IsList []
 nothing_is_list = record { rising = to_sorted stored_order [] tt; keys = to_distinct same_key [] tt }
-
--- one list more at the end, which is empty, is none
-pub one_pushed : {X : Type 0} (xs : List X) (v : ℕ) (d : X) → get_or (xs ++ d ∷ []) v d ≡ get_or xs v d
-one_pushed [] zero d = refl
-one_pushed [] (suc v) d = refl
-one_pushed (x ∷ xs) zero d = refl
-one_pushed (x ∷ xs) (suc v) d = one_pushed xs v d
 
 module _ (side : StoredSide) (look later : ℕ → Option Shelf) (at : ℕ) (before : list_at side (look at) ≡ [])
     (after : list_at side (later at) ≡ [])

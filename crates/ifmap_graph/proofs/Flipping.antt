@@ -54,7 +54,7 @@ use Rattle.ifmap_graph.proofs.Writes.{one_item}
 use Rattle.ifmap_ident.specs.SameLaws.{items_total}
 use Rattle.ifmap_plans.specs.laws.OnItemLaws.{stored_tied}
 use Rattle.ifmap_lemmas.specs.Numbers.{is_other}
-use Rattle.ifmap_graph.proofs.Rising.{to_distinct}
+use Rattle.ifmap_lemmas.specs.Rising.{to_distinct}
 
 same_or_not : (a b : Bool) → exactly_one a b ≡ false → a ≡ b
 same_or_not true true e = refl

@@ -17,8 +17,8 @@ use Rattle.ifmap_graph.specs.Shelved.{ItemsRise, row_on, rows_by}
 use Rattle.ifmap_graph.proofs.Finding.{first_rises}
 use Rattle.ifmap_lemmas.specs.Pairwise.{Pairwise, pairwise_onto, pairwise_both}
 use Rattle.ifmap_ident.specs.SameLaws.{items_total}
-use Rattle.ifmap_graph.proofs.Rising.{from_distinct, from_sorted, to_distinct, to_sorted}
 use Rattle.ifmap_lemmas.specs.Filters.{all_weaker}
+use Rattle.ifmap_lemmas.specs.Rising.{from_distinct, from_sorted, to_distinct, to_sorted}
 
 module _ {X : Type 0} (list_of : X → List Stored) where
   -- what holds of all that could stand on the entries' items holds of all rows

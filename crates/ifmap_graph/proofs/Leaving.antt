@@ -11,6 +11,7 @@ use Rattle.std.specs.declared.cmp.Ordering.TheVariants.{Less, Equal, Greater}
 use Rattle.std.specs.Cmp.{Equal-is}
 use Rattle.std.proofs.lemmas.Map.Keys.{IsDistinct-cons, IsDistinct-head, IsDistinct-tail}
 use Rattle.ifmap_lemmas.specs.Having.{Has}
+use Rattle.ifmap_lemmas.specs.Rising.{to_distinct}
 use Rattle.ifmap_ident.specs.declared.identifiers.Identifier.{Identifier}
 use Rattle.ifmap_ident.specs.declared.items.Item.{Item}
 use Rattle.ifmap_ident.specs.declared.items.Item.TheVariants.{One, Pair}
@@ -23,7 +24,6 @@ use Rattle.ifmap_graph.specs.Shelved.{IsPlaced, ItemsRise, StoredSide, list_at, 
 use Rattle.ifmap_graph.proofs.Alike.{Alike, one_tied, order_alike, pair_tied}
 use Rattle.ifmap_graph.proofs.Finding.{all_left, leaves}
 use Rattle.ifmap_graph.proofs.Shelving.{Entries, slots_of}
-use Rattle.ifmap_graph.proofs.Rising.{to_distinct}
 
 swapped : (x y z : ℕ) → x + (y + z) ≡ y + (x + z)
 swapped x y z = omega arith

@@ -1,4 +1,3 @@
-pub mod Rising
 pub mod Ordered
 pub mod Finding
 pub mod Shelving

@@ -15,7 +15,7 @@ use Rattle.ifmap_view.specs.Attachments.{IsGraph, attachment_order}
 use Rattle.ifmap_view.specs.Rows.{stored_on}
 use Rattle.ifmap_graph.proofs.Alike.{one_tied, pair_tied}
 use Rattle.ifmap_ident.specs.SameLaws.{items_total, ties, BytesTellIdentifiers}
-use Rattle.ifmap_rows.specs.laws.JoiningLaws.{one_list}
+use Rattle.ifmap_lemmas.specs.Rising.{rising_same}
 
 tied_with : (x k : Item) → same_item k x ≡ true → item_order x k ≡ Equal
 tied_with x k e = (Equal-is (item_order x k)).0 (ties x k ∙ e)
@@ -52,7 +52,7 @@ on_has tells r rows canon g h =
 pub rows_same : BytesTellIdentifiers → (a b : List Attachment) → IsGraph a → IsGraph b → ((x : Item) → stored_on x a ≡ stored_on x b) → a ≡
     b
 rows_same tells a b p q f =
-    one_list Attachment attachment_order attachments_total a b p.rising q.rising
+    rising_same attachment_order attachments_total a b p.rising q.rising
     (λ r h. on_has tells r b (all_has (λ (k : Attachment). IsCanonItem k.item) a p.items r h) q
     (subst (λ l. Has l r.stored) (f r.item) (has_on r a h)))
     (λ r h. on_has tells r a (all_has (λ (k : Attachment). IsCanonItem k.item) b q.items r h) p

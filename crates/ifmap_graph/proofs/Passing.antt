@@ -1,19 +1,9 @@
 -- Empty shelves are passed over.
-use Rattle.std.proofs.Common.{◌≡◌, ◌≢◌, ◌==◌, true, false, List, [], ◌∷◌, ◌++◌, length, refl, ap, ◌∙◌, sym, subst, append_assoc, arith}
-use Rattle.std.proofs.lemmas.Bool.Decides.{nat_tests}
+use Rattle.std.proofs.Common.{◌≡◌, List, [], ◌∷◌, ◌++◌, ap, ◌∙◌, sym, subst, append_assoc}
 use Rattle.std.specs.List.{AllByRecursion}
 use Rattle.ifmap_ident.specs.declared.items.Item.{Item}
 use Rattle.ifmap_meta.specs.declared.stored.Stored.{Stored}
 use Rattle.ifmap_graph.specs.After.{AreEmpty, IsPassing}
-use Rattle.ifmap_graph.specs.Joined.{is_not_empty}
-
-pub nothing_in : {X : Type 0} (l : List X) → (length l == 0) ≡ true → l ≡ []
-nothing_in [] e = refl
-nothing_in (x ∷ xs) e = absurd (grind (arith, nat_tests))
-
-pub some_there : {X : Type 0} (l : List X) → (length l == 0) ≡ false → l ≢ []
-some_there [] e n = absurd (grind (arith, nat_tests))
-some_there (x ∷ xs) e n = let q : true ≡ false = ap is_not_empty n in cc
 
 module _ {X : Type 0} (list_of : X → List Stored) where
   empty_push : (before : List (Item × X)) (e : Item × X) → AreEmpty list_of before → list_of e.1 ≡ [] → AreEmpty list_of (before ++ e ∷ [])

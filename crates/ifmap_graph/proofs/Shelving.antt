@@ -1,5 +1,5 @@
 -- Entries, slots and the rows that they show, as one shelf comes, changes or goes.
-use Rattle.std.proofs.Common.{◌≡◌, ◌≢◌, ◌⊎◌, ℕ, true, false, Option, Some, None, IsSome, is_some, List, [], ◌∷◌, ◌++◌, map, nat_eq, refl, ap, ◌∙◌, sym, subst, inl, inr, arith}
+use Rattle.std.proofs.Common.{◌≡◌, ◌≢◌, ◌⊎◌, ℕ, true, false, Option, Some, None, IsSome, List, [], ◌∷◌, ◌++◌, map, nat_eq, refl, ap, ◌∙◌, sym, subst, inl, inr, arith}
 use Rattle.std.proofs.lemmas.Bool.{cases_Bool, cases_eq}
 use Rattle.std.proofs.lemmas.Bool.Decides.{nat_tests}
 use Rattle.std.proofs.lemmas.Option.{none-some}
@@ -17,7 +17,7 @@ use Rattle.ifmap_graph.specs.declared.shelves.Shelf.{Shelf}
 use Rattle.ifmap_graph.specs.Shelved.{IsPlaced, ItemsRise, StoredSide, list_at, row_on, rows_by}
 use Rattle.ifmap_graph.proofs.Finding.{all_inserted, inserted, nothing_rises}
 use Rattle.ifmap_lemmas.specs.Numbers.{equal_numbers}
-use Rattle.ifmap_graph.proofs.Rising.{to_distinct}
+use Rattle.ifmap_lemmas.specs.Rising.{to_distinct}
 
 abbrev pub Entries : Type 0
 Entries = List (Item × ℕ)
@@ -68,10 +68,6 @@ vacant_out look at (e ∷ es) v a = (
   ],
   vacant_out look at es v a.1,
 )
-
-pub none_is : {X : Type 0} (o : Option X) → is_some o ≡ false → o ≡ None
-none_is None e = refl
-none_is (Some x) e = let r : true ≡ false = e in cc
 
 module _ (look later : ℕ → Option Shelf) (at : ℕ) (vacant : look at ≡ None) (others : (o : ℕ) → o ≢ at → later o ≡ look o) where
   stays : (n : ℕ) → IsSome (look n) → later n ≡ look n

@@ -6,6 +6,7 @@ use Rattle.std.proofs.lemmas.List.{append-nil, take_all}
 use Rattle.std.proofs.lemmas.List.Folds.{list_any_more}
 use Rattle.std.specs.List.{Contains, cons_option, filter_map, list_any}
 use Rattle.slab.specs.Slab.{Slab, get}
+use Rattle.ifmap_lemmas.specs.Absent.{none_where_not_some}
 use Rattle.ifmap_lemmas.specs.Having.{Has, from_has, has_any, has_from, has_all}
 use Rattle.ifmap_view.specs.declared.views.LinkSeen.{LinkSeen}
 use Rattle.ifmap_graph.specs.declared.shelves.Shelf.{Shelf}
@@ -14,11 +15,10 @@ use Rattle.ifmap_graph.specs.Linked.{AreListed, changed_links, far_of, seen_at}
 use Rattle.ifmap_graph.specs.Sides.{Sides}
 use Rattle.ifmap_graph.specs.Touched.{AreExactlyDrafted, KeepsLinks, begun_draft, brought_link, draft_of, full_next, full_now, joins, links_kept, touched_draft}
 use Rattle.ifmap_graph.specs.Turning.{sides_at}
-use Rattle.ifmap_graph.proofs.Joining.{one_more}
 use Rattle.ifmap_graph.proofs.Links.{far_first, far_second, is_far}
-use Rattle.ifmap_graph.proofs.Shelving.{none_is}
 use Rattle.ifmap_lemmas.specs.Deciding.{or_parts}
 use Rattle.ifmap_lemmas.specs.Filters.{filter_all}
+use Rattle.ifmap_lemmas.specs.Stepping.{picked_more}
 
 nothing_seen : (b : Bool) (at : ℕ) (o : Option ℕ) → o ≡ None → cond b (seen_at at o) None ≡ None
 nothing_seen false at o e = refl
@@ -31,7 +31,7 @@ kept_both first mid later a b = record { now = λ v. b.now v ∙ a.now v; long =
 module _ (slots : Slab Shelf) where
   pub none_brought : (v at : ℕ) → joins slots v at ≡ false → brought_link slots v at ≡ None
   none_brought v at e = nothing_seen (full_next slots at && not (full_now slots at)) at (far_of (joined_pair (get slots at)) v)
-      (none_is (far_of (joined_pair (get slots at)) v) e)
+      (none_where_not_some (far_of (joined_pair (get slots at)) v) e)
 
   nothing_brought : (v : ℕ) (touched : List ℕ) → list_any (joins slots v) touched ≡ false → filter_map (brought_link slots v) touched ≡ []
   nothing_brought v [] e = refl
@@ -71,7 +71,8 @@ module _ (slots : Slab Shelf) where
       (filter_map (brought_link slots v) (take i touched) ++ cons_option (brought_link slots v (get_or touched i 0)) []))) None)
       (sym (list_any_more (joins slots v) touched i 0 h))
       ∙ ap (λ l. cond (list_any (joins slots v) (take (i + 1) touched)) (Some (links_kept slots links ++ l)) None)
-      (sym (one_more (brought_link slots v) 0 touched i h) ∙ ap (λ n. filter_map (brought_link slots v) (take n touched)) (sym (add-one i)))
+      (sym (picked_more (brought_link slots v) 0 touched i h)
+      ∙ ap (λ n. filter_map (brought_link slots v) (take n touched)) (sym (add-one i)))
 
   -- a slot that joins two numbers is looked at for both
   far_none : (v w u : ℕ) → u ≢ v → u ≢ w → far_of (Some (v, w)) u ≡ None

@@ -15,6 +15,7 @@ use Rattle.std.specs.declared.cmp.Ordering.TheVariants.{Less, Equal, Greater}
 use Rattle.std.proofs.lemmas.Map.Keys.{IsDistinct-cons, IsDistinct-head, IsDistinct-tail}
 use Rattle.ifmap_lemmas.specs.Having.{Has, from_has, has_from, has_map, map_has, all_has}
 use Rattle.ifmap_lemmas.specs.Numbers.{equal_numbers}
+use Rattle.ifmap_lemmas.specs.Rising.{to_distinct}
 use Rattle.ifmap_ident.specs.declared.identifiers.Identifier.{Identifier}
 use Rattle.ifmap_ident.specs.declared.items.Item.{Item}
 use Rattle.ifmap_ident.specs.declared.items.Item.TheVariants.{One, Pair}
@@ -33,7 +34,6 @@ use Rattle.ifmap_graph.proofs.Alike.{Alike, one_tied, order_alike, pair_less, pa
 use Rattle.ifmap_graph.proofs.Following.{entry_hits, lookup_tied, looked_up, stands}
 use Rattle.ifmap_graph.proofs.Finding.{absent, found}
 use Rattle.ifmap_ident.specs.SameLaws.{turned_order, BytesTellIdentifiers}
-use Rattle.ifmap_graph.proofs.Rising.{to_distinct}
 
 others_differ : (l : LinkSeen) (ls : List LinkSeen) → AllByRecursion (λ y. nat_eq l.at y ≡ false) (link_places ls)
     → ((m : LinkSeen) → Has ls m → l.other ≡ m.other → l.at ≡ m.at) → AllByRecursion (λ y. nat_eq l.other y ≡ false) (others ls)

@@ -1,5 +1,4 @@
 -- Laws on the definitions, which crates above cite.
-pub mod KeepingLaws
 pub mod KeyLaws
 pub mod ListLaws
 pub mod PlacingLaws

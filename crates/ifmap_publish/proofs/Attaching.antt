@@ -3,9 +3,9 @@ use Rattle.std.proofs.Common.{◌≡◌, ◌∙◌, refl, sym, ap, subst, ℕ, z
 use Rattle.std.proofs.Common.{drop, take, length, get_or, map, arith}
 use Rattle.std.proofs.lemmas.Bool.{not-true}
 use Rattle.std.proofs.lemmas.List.{drop_more, map_more}
-use Rattle.std.specs.List.{AllByRecursion, filter}
+use Rattle.std.specs.List.{filter}
 use Rattle.std.specs.Ordering.{is_gt, is_lt}
-use Rattle.ifmap_lemmas.specs.Filters.{all_around, all_at, all_filter, all_weaker, filter_passes}
+use Rattle.ifmap_lemmas.specs.Filters.{all_around, all_filter, all_weaker, filter_passes}
 use Rattle.ifmap_meta.specs.declared.metadata.Metadata.{Metadata}
 use Rattle.ifmap_meta.specs.declared.stored.Stored.{Stored}
 use Rattle.ifmap_meta.specs.Keys.{same_key}
@@ -48,9 +48,6 @@ attach_end [] zero list all l e = e
 attach_end [] (suc i) list all l e = e
 attach_end (row ∷ rows) zero list all l e = absurd (omega (arith, l))
 attach_end (row ∷ rows) (suc i) list all l e = attach_end rows i list all (omega (arith, l)) e
-
-pub one_of : {X : Type 0} (P : X → Type 0) (xs : List X) (i : ℕ) (x : X) → i < length xs → x ≡ get_or xs i x → AllByRecursion P xs → P x
-one_of P xs i x low at all = subst P (sym at) (all_at P xs i x all low)
 
 -- the elements of an update are attached as they are stored
 pub attached_as_stored : (by : Authorship) (forever : Bool) (ms : List Metadata) (list : List Stored)

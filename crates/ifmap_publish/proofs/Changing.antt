@@ -9,7 +9,6 @@ use Rattle.std.proofs.lemmas.Bool.{cases_Bool}
 use Rattle.std.proofs.lemmas.List.{append-nil}
 use Rattle.std.proofs.lemmas.List.Kept.{IsStrictlySortedBy-filter}
 use Rattle.std.specs.BTreeMap.{is_at}
-use Rattle.std.specs.Bool.{OnFalse, OnTrue}
 use Rattle.std.specs.List.{AllByRecursion, IsDistinct, filter, list_any}
 use Rattle.std.specs.List.Sorted.{IsStrictlySortedBy}
 use Rattle.std.specs.Map.{keys_of, lookup}
@@ -287,15 +286,6 @@ pub filled_not : (c : ItemChange) (xs ys : List Stored) → (length xs == 0) ≡
 filled_not c [] [] e f = refl
 filled_not c [] (y ∷ ys) e f = absurd (not_none y ys f)
 filled_not c (x ∷ xs) ys e f = absurd (not_none x xs e)
-
--- what holds where a test is turned round
-pub on_true_not : (r : Bool) (P : Type 0) → (r ≡ false → P) → OnTrue (not r) P
-on_true_not true P f = tt
-on_true_not false P f = f refl
-
-pub on_false_not : (r : Bool) (P : Type 0) → (r ≡ true → P) → OnFalse (not r) P
-on_false_not true P f = f refl
-on_false_not false P f = tt
 
 -- ---- edits tell what their lists do
 

@@ -2,7 +2,7 @@
 -- Plan: (1) what makes an edit make a list (`makes_by`), and that it is the one that it means (`makes_it`); (2) where nothing is
 -- taken or put, all stays; (3) as more is taken and put; (4) keys: whole elements of the same bytes are of one key
 -- (`tied_key`), told by their words; (5) one more is attached, or what is stored under a key is taken.
-use Rattle.std.proofs.Common.{◌≡◌, ◌∙◌, refl, sym, ap, subst, ℕ, Bool, true, false, not, ◌||◌, List, [], ◌∷◌, Result, Ok, Err, OnOk}
+use Rattle.std.proofs.Common.{◌≡◌, ◌∙◌, refl, sym, ap, subst, ℕ, Bool, true, false, not, ◌||◌, List, [], ◌∷◌}
 use Rattle.std.proofs.lemmas.List.Kept.{IsStrictlySortedBy-filter}
 use Rattle.std.proofs.lemmas.Map.Text.{is_eq-slice_cmp}
 use Rattle.std.specs.List.{AllByRecursion, filter}
@@ -11,6 +11,7 @@ use Rattle.std.specs.Ordering.{eq_by_cmp, is_eq}
 use Rattle.std.specs.declared.cmp.Ordering.{Ordering}
 use Rattle.ifmap_elem.specs.declared.elements.Attribute.{Attribute}
 use Rattle.ifmap_elem.specs.declared.elements.Element.{Element}
+use Rattle.ifmap_lemmas.specs.Filtered.{filter_agrees, filter_neither, filter_turned}
 use Rattle.ifmap_lemmas.specs.Filters.{filter_none}
 use Rattle.ifmap_lemmas.specs.Having.{Has}
 use Rattle.ifmap_lemmas.specs.Texts.{eq_tells}
@@ -26,7 +27,7 @@ use Rattle.ifmap_view.specs.Attachments.{stored_bytes, stored_order}
 use Rattle.ifmap_publish.specs.Working.{EditMakes, IsEdit, IsSound, is_among, list_by}
 use Rattle.ifmap_publish.specs.declared.edits.Edit.{Edit}
 use Rattle.ifmap_publish.proofs.Attaching.{sound_filter}
-use Rattle.ifmap_publish.proofs.Rising.{among_filter, filter_agrees, filter_neither, filter_turned, moved, parted, put_back, put_filtered, put_unfiltered}
+use Rattle.ifmap_publish.proofs.Rising.{among_filter, moved, parted, put_back, put_filtered, put_unfiltered}
 use Rattle.ifmap_publish.proofs.Same.{elements_one}
 
 -- ---- what makes an edit make a list
@@ -165,8 +166,3 @@ removed_is stored list e up m = moved stored list e.taken e.put up m.taken m.put
 pub added_is : (stored list : List Stored) (e : Edit) → EditMakes stored e list
     → stored_difference e.put e.taken ≡ stored_difference list stored
 added_is stored list e m = moved list stored e.put e.taken m.sound.keyed.rising m.put m.taken (sym m.stays)
-
--- what is ensured after all memory was there
-pub on_ok_gives : {X E : Type 0} (r : Result X E) (P Q : Type 0) → (P → Q) → OnOk r P → OnOk r Q
-on_ok_gives (Ok x) P Q f h = f h
-on_ok_gives (Err e) P Q f h = tt

@@ -9,7 +9,7 @@
 -- 5. So the edit that takes what is found and puts the last rows makes that list (`makes_all`).
 use Rattle.std.proofs.Common.{◌≡◌, ◌⊎◌, ◌∙◌, refl, sym, ap, subst, inl, inr, ℕ, ◌+◌, ◌<◌, Bool, true, false, not, ◌||◌, List, [], ◌∷◌, ◌++◌}
 use Rattle.std.proofs.Common.{get_or, length, take}
-use Rattle.std.proofs.Math.Bool.{or-false}
+use Rattle.std.proofs.Math.Bool.{or-false, or_assoc}
 use Rattle.std.proofs.lemmas.Bool.{cases_Bool, not-true, or_parts}
 use Rattle.std.proofs.lemmas.List.{take_more}
 use Rattle.std.proofs.lemmas.List.Folds.{list_any-append}
@@ -18,22 +18,26 @@ use Rattle.std.proofs.lemmas.List.Sorted.{Contains-permutation, IsPermutation-sy
 use Rattle.std.specs.List.{AllByRecursion, Contains, IsDistinct, filter}
 use Rattle.std.specs.List.Sorted.{IsPermutation, IsStrictlySortedBy}
 use Rattle.std.specs.Ordering.{eq_by_cmp, is_gt, is_lt}
+use Rattle.ifmap_lemmas.specs.Choices.{fails_too}
+use Rattle.ifmap_lemmas.specs.Filtered.{filter_agrees}
 use Rattle.ifmap_lemmas.specs.Filters.{all_around, all_filter, all_weaker, filter_all, filter_passes}
 use Rattle.ifmap_lemmas.specs.Having.{Has, all_has, any_has, filter_has, from_has, has_all, has_any, has_either, has_filter, has_from}
+use Rattle.ifmap_lemmas.specs.Rising.{nothing_rises, rising_same}
+use Rattle.ifmap_lemmas.specs.Stepping.{member_holds}
 use Rattle.ifmap_meta.specs.declared.stored.Stored.{Stored}
 use Rattle.ifmap_meta.specs.Keys.{HaveOneKey, same_key}
 use Rattle.ifmap_meta.specs.Whole.{IsWhole}
 use Rattle.ifmap_rows.specs.ifmap_plans.Lists.{next_on, put_each, list_without}
 use Rattle.ifmap_rows.specs.ifmap_plans.Placing.{put}
 use Rattle.ifmap_rows.specs.ifmap_plans.laws.KeyLaws.{stored_equiv, stored_total}
-use Rattle.ifmap_rows.specs.laws.JoiningLaws.{fails_too, each_in, in_each, one_list, rising_each}
+use Rattle.ifmap_rows.specs.laws.JoiningLaws.{each_in, in_each, rising_each}
 use Rattle.ifmap_view.specs.Attachments.{stored_order}
 use Rattle.ifmap_publish.specs.OnItems.{attach_all, attach_on}
 use Rattle.ifmap_publish.specs.Working.{AreKeyed, EditMakes, IsSound, is_among, is_keyed, over_keys}
 use Rattle.ifmap_publish.specs.declared.edits.Edit.{Edit}
-use Rattle.ifmap_publish.proofs.Attaching.{one_of, sound_attached}
+use Rattle.ifmap_publish.proofs.Attaching.{sound_attached}
 use Rattle.ifmap_publish.proofs.Editing.{apart_of_keys, key_not_told, key_told, makes_less, makes_more, tied_key}
-use Rattle.ifmap_publish.proofs.Rising.{filter_agrees, keyed_ties, put_filtered, put_itself}
+use Rattle.ifmap_publish.proofs.Rising.{keyed_ties, put_filtered, put_itself}
 
 -- ---- what is found by keys
 
@@ -44,7 +48,7 @@ module _ (list : List Stored) (s : IsSound list) where
   module _ (keys : List Stored) (i : ℕ) (row : Stored) (low : i < length keys) (at : row ≡ get_or keys i row)
       (whole : AllByRecursion IsWhole keys) (found : List Stored) (so : AreKeyed list (take i keys) found) where
     w : IsWhole row
-    w = one_of IsWhole keys i row low at whole
+    w = member_holds IsWhole keys i row low at whole
 
     next_keys : take (i + 1) keys ≡ take i keys ++ row ∷ []
     next_keys = take_more keys i row low ∙ ap (λ (r : Stored). take i keys ++ r ∷ []) (sym at)
@@ -96,10 +100,6 @@ keyed_sorted list keys all found next p e so = subst (λ l. AreKeyed list l next
 
 -- ---- what is taken and put then
 
-or_or : (a b c : Bool) → ((a || b) || c) ≡ (a || (b || c))
-or_or true b c = refl
-or_or false b c = refl
-
 -- members of a list that come to what a filter leaves of it
 pub put_found : (list : List Stored) → IsStrictlySortedBy stored_order list → (t : Stored → Bool) (found : List Stored)
     → ((s : Stored) → Has found s → Has list s)
@@ -110,7 +110,7 @@ put_found list up t (f ∷ fs) there =
     ap (put_each fs) (sym (put_filtered t f list) ∙ ap (filter t2) (put_itself f list up (there f (inl refl))))
     ∙ put_found list up t2 fs (λ s h. there s (inr h))
     ∙ filter_agrees (λ s. t2 s || is_among fs s) (λ s. t s || is_among (f ∷ fs) s) list
-    (λ s h. or_or (t s) (eq_by_cmp stored_order f s) (is_among fs s))
+    (λ s h. or_assoc (t s) (eq_by_cmp stored_order f s) (is_among fs s))
 
 pub keys_taken : (stored taken keys found : List Stored) → IsSound stored → taken ≡ filter (is_among taken) stored
     → AreKeyed stored keys found → put_each found taken ≡ filter (λ s. is_among taken s || is_keyed keys s) stored
@@ -235,7 +235,7 @@ module _ (l a b : List Stored) (ul : IsStrictlySortedBy stored_order l) (ua : Is
 
   pub over_over : over_keys (over_keys l a) b ≡ over_keys l ab
   over_over =
-      one_list Stored stored_order stored_total (over_keys (over_keys l a) b) (over_keys l ab)
+      rising_same stored_order stored_total (over_keys (over_keys l a) b) (over_keys l ab)
       (over_rises (over_keys l a) b (over_whole l a wl wa) wb (over_rises l a wl wa ul))
       (over_rises l ab wl (over_whole a b wa wb) ul) to back
 
@@ -246,10 +246,6 @@ one_over list s =
     ap (put stored_order s) (filter_agrees (λ t. not (same_key s t)) (λ t. not (same_key s t || false)) list
     (λ t h. ap not (sym (or-false (same_key s t)))))
 
-none_rises : IsStrictlySortedBy stored_order []
-unfolding IsStrictlySortedBy
-none_rises = tt
-
 none_distinct : IsDistinct same_key []
 unfolding IsDistinct
 none_distinct = tt
@@ -259,7 +255,7 @@ unfolding IsStrictlySortedBy
 one_rises s = (tt, tt)
 
 pub none_sound : IsSound []
-none_sound = record { keyed = record { rising = none_rises; keys = none_distinct }; whole = tt }
+none_sound = record { keyed = record { rising = nothing_rises stored_order; keys = none_distinct }; whole = tt }
 
 pub all_sound : (rows list : List Stored) → AllByRecursion IsWhole rows → IsSound list → IsSound (attach_all list rows)
 all_sound [] list w s = s

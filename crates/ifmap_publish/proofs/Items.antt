@@ -6,7 +6,7 @@
 use Rattle.std.proofs.Common.{◌≡◌, ◌∙◌, refl, sym, ap, Bool, true, false, not, ◌&&◌, List, [], ◌∷◌, ◌++◌, Option, inl, inr}
 use Rattle.std.proofs.lemmas.Bool.{cases_Bool}
 use Rattle.std.proofs.lemmas.List.{append-nil}
-use Rattle.std.specs.List.{AllByRecursion, filter}
+use Rattle.std.specs.List.{filter}
 use Rattle.std.specs.Ordering.{is_eq, is_gt, is_lt, ordering_then}
 use Rattle.std.specs.declared.cmp.Ordering.{Ordering}
 use Rattle.std.specs.declared.cmp.Ordering.TheVariants.{Less, Equal, Greater}
@@ -14,7 +14,8 @@ use Rattle.ifmap_requests.specs.ifmap_filter.declared.filters.Filter.{Filter}
 use Rattle.ifmap_requests.specs.ifmap_filter.Meets.{meets_optional}
 use Rattle.ifmap_ident.specs.declared.items.Item.{Item}
 use Rattle.ifmap_ident.specs.Items.{item_order, same_item, items_tie}
-use Rattle.ifmap_lemmas.specs.Filters.{filter_none, all_pass}
+use Rattle.ifmap_lemmas.specs.Filtered.{none_pass}
+use Rattle.ifmap_lemmas.specs.Filters.{all_pass}
 use Rattle.ifmap_meta.specs.declared.metadata.Metadata.{Metadata}
 use Rattle.ifmap_meta.specs.declared.stored.Stored.{Stored}
 use Rattle.ifmap_meta.specs.Keys.{same_key}
@@ -32,17 +33,6 @@ use Rattle.ifmap_ident.specs.SameLaws.{same_equal, items_equiv, items_total, tol
 
 pub ordered_as : (x a b : Item) → same_item b x ≡ true → item_order b a ≡ item_order x a
 ordered_as x a b e = items_total.congr b x a (same_equal b x e)
-
-pub every : {X : Type 0} (xs : List X) → AllByRecursion (λ x. true ≡ true) xs
-every [] = tt
-every (x ∷ xs) = (refl, every xs)
-
-never : {X : Type 0} (xs : List X) → AllByRecursion (λ x. false ≡ false) xs
-never [] = tt
-never (x ∷ xs) = (refl, never xs)
-
-none_pass : {X : Type 0} (xs : List X) → filter (λ x. false) xs ≡ []
-none_pass xs = filter_none (λ x. false) xs (never xs)
 
 module _ (x : Item) where
   abbrev here : Attachment → Bool

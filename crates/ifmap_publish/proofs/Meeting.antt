@@ -7,17 +7,18 @@ use Rattle.std.specs.List.{filter}
 use Rattle.std.specs.List.Sorted.{IsStrictlySortedBy}
 use Rattle.std.specs.Ordering.{is_eq}
 use Rattle.std.specs.declared.cmp.Ordering.TheVariants.{Less, Equal}
+use Rattle.ifmap_lemmas.specs.Filtered.{filter_agrees}
 use Rattle.ifmap_lemmas.specs.Filters.{all_filter, filter_shorter}
 use Rattle.ifmap_lemmas.specs.Having.{filter_has}
+use Rattle.ifmap_lemmas.specs.Stepping.{kept_more, passed_more}
 use Rattle.ifmap_meta.specs.declared.stored.Stored.{Stored}
 use Rattle.ifmap_rows.specs.ifmap_plans.Lists.{put_each}
-use Rattle.ifmap_rows.specs.ifmap_plans.laws.KeepingLaws.{kept_more, passed_more}
 use Rattle.ifmap_view.specs.Attachments.{stored_order}
 use Rattle.ifmap_publish.specs.Working.{PassesOneStored, after_like, is_among}
 use Rattle.ifmap_publish.proofs.Differing.{AllAbove, itself, sorted_first, turned}
 use Rattle.ifmap_publish.proofs.Gathering.{put_found}
 use Rattle.ifmap_publish.proofs.Passing.{sorted_drop}
-use Rattle.ifmap_publish.proofs.Rising.{among_filter, filter_agrees}
+use Rattle.ifmap_publish.proofs.Rising.{among_filter}
 
 none_like : (s : Stored) (xs : List Stored) → AllAbove s xs → after_like s xs ≡ None
 none_like s [] all = refl

@@ -1,6 +1,7 @@
 -- One pass over two lists that rise.
-use Rattle.std.proofs.Common.{◌≡◌, ◌∙◌, refl, sym, ap, subst, ℕ, ◌+◌, ◌<◌, zero, suc, Bool, true, false, ◌||◌, List, [], ◌∷◌, drop, length}
+use Rattle.std.proofs.Common.{◌≡◌, ◌∙◌, refl, sym, ap, subst, ℕ, ◌+◌, ◌<◌, zero, suc, true, false, ◌||◌, List, [], ◌∷◌, drop, length}
 use Rattle.std.proofs.Common.{get_or}
+use Rattle.std.proofs.Math.Bool.{or-false}
 use Rattle.std.proofs.lemmas.Cmp.{alike_right}
 use Rattle.std.proofs.lemmas.List.{drop_more}
 use Rattle.std.specs.Cmp.{tied_itself}
@@ -45,10 +46,6 @@ passed row rest after rows up (first, is, e) same = (
       ∙ sym (ap (list_any (same_stored s)) is) ∙ same s from,
 )
 
-or_false : (b : Bool) → (b || false) ≡ b
-or_false true = refl
-or_false false = refl
-
 -- the first tells for all
 pub first_tells : (row first : Stored) (after rows : List Stored) → rows ≡ first ∷ after → IsStrictlySortedBy stored_order rows
     → AllByRecursion (IsFrom row) rows → list_any (same_stored row) rows ≡ same_stored row first
@@ -57,7 +54,7 @@ first_tells row first after rows is up from =
     let start : IsFrom row first = (subst (AllByRecursion (IsFrom row)) is from).0 in
     ap (list_any (same_stored row)) is
     ∙ ap (λ b. same_stored row first || b) (none_same row after (by (stored_order first row) refl start parts.0))
-    ∙ or_false (same_stored row first)
+    ∙ or-false (same_stored row first)
   where
     by : (o : Ordering) → stored_order first row ≡ o → is_lt o ≡ false → AllAbove first after → AllAbove row after
     by Less e f all = let q : true ≡ false = f in cc

@@ -6,6 +6,7 @@
 -- are their number (steps_are), and fewer are above each next one, so the walk ends (falls).
 use Rattle.std.proofs.Common.{◌≡◌, ◌≢◌, ◌∙◌, ◌⊎◌, refl, sym, ap, subst, ℕ, ◌+◌, ◌≤◌, ◌<◌, Bool, true, false, cond, not, ◌||◌, List, [], ◌∷◌}
 use Rattle.std.proofs.Common.{◌++◌, map, length, Option, Some, None, inl, inr, arith}
+use Rattle.std.proofs.Math.Bool.{not-not}
 use Rattle.std.proofs.lemmas.Bool.{cases_Bool, or_right}
 use Rattle.std.proofs.lemmas.List.{append_assoc, length-append, map-append}
 use Rattle.std.proofs.lemmas.List.Folds.{list_any-append}
@@ -17,15 +18,17 @@ use Rattle.std.specs.Map.{keys_of, lookup}
 use Rattle.std.specs.Ordering.{is_eq, is_lt}
 use Rattle.std.proofs.lemmas.Cmp.{alike_right}
 use Rattle.std.proofs.lemmas.Map.Views.{any-filter_same}
+use Rattle.ifmap_lemmas.specs.Filtered.{filter_le}
 use Rattle.ifmap_lemmas.specs.Orderings.{greater_turned, is_less, not_both}
 use Rattle.std.specs.Str.{bytes_eq}
 use Rattle.std.specs.declared.cmp.Ordering.{Ordering}
 use Rattle.std.specs.declared.cmp.Ordering.TheVariants.{Less, Equal, Greater}
 use Rattle.ifmap_ident.specs.declared.items.Item.{Item}
 use Rattle.ifmap_ident.specs.Items.{IsCanonItem, item_order, same_item, items_tie}
-use Rattle.ifmap_lemmas.specs.Filters.{all_weaker, filter_alike, filter_all, filter_none}
-use Rattle.ifmap_lemmas.specs.Having.{Has, any_has, filter_has, has_any, has_filter}
+use Rattle.ifmap_lemmas.specs.Filters.{all_pass, all_weaker, filter_alike, filter_none}
+use Rattle.ifmap_lemmas.specs.Having.{Has, any_has, filter_has, has_all, has_any, has_filter}
 use Rattle.ifmap_lemmas.specs.Members.{both_all}
+use Rattle.ifmap_lemmas.specs.Rising.{nothing_rises, rises_last}
 use Rattle.ifmap_meta.specs.declared.stored.Stored.{Stored}
 use Rattle.ifmap_rows.specs.ifmap_plans.declared.plans.ItemChange.{ItemChange}
 use Rattle.ifmap_rows.specs.ifmap_plans.After.{IsAbove, IsNextItem, NoItem, items_of}
@@ -42,7 +45,7 @@ use Rattle.ifmap_publish.proofs.Attaching.{sound_filter}
 use Rattle.ifmap_publish.proofs.Changing.{AreSound, all_fit, are_changes, are_exact, is_after, list_or, standing}
 use Rattle.ifmap_publish.proofs.Entries.{stored_alike}
 use Rattle.ifmap_publish.proofs.Graphs.{sound_on}
-use Rattle.ifmap_publish.proofs.Items.{every, retract_told}
+use Rattle.ifmap_publish.proofs.Items.{retract_told}
 use Rattle.ifmap_publish.proofs.Same.{life_same, publisher_same, same_itself}
 use Rattle.ifmap_ident.specs.SameLaws.{same_equal, items_equiv, items_total, told_as}
 
@@ -50,14 +53,6 @@ use Rattle.ifmap_ident.specs.SameLaws.{same_equal, items_equiv, items_total, tol
 respects : (who : Who) (a b : Stored) → same_stored a b ≡ true → is_of who a ≡ is_of who b
 respects (Sessions serials) a b e = ap (ends_with serials) (life_same a b e)
 respects (Publisher name) a b e = ap (λ p. bytes_eq p name) (publisher_same a b e)
-
-not_not : (b : Bool) → not (not b) ≡ b
-not_not true = refl
-not_not false = refl
-
-each : (P : Stored → Type 0) (xs : List Stored) → ((s : Stored) → Has xs s → P s) → AllByRecursion P xs
-each P [] h = tt
-each P (x ∷ xs) h = (h x (inl refl), each P xs (λ s q. h s (inr q)))
 
 module _ (who : Who) (list : List Stored) where
   abbrev stays : Stored → Bool
@@ -79,12 +74,12 @@ module _ (who : Who) (list : List Stored) where
   -- what goes, and that nothing comes
   pub goes : filter (is_of who) list ≡ stored_difference list (retract_on who list)
   goes = filter_alike (is_of who) (λ s. not (list_any (same_stored s) (filter stays list))) list
-      (each (λ s. is_of who s ≡ not (list_any (same_stored s) (filter stays list))) list
-      (λ s h. sym (ap not (tells s h) ∙ not_not (is_of who s))))
+      (has_all (λ s. is_of who s ≡ not (list_any (same_stored s) (filter stays list))) list
+      (λ s h. sym (ap not (tells s h) ∙ not-not (is_of who s))))
 
   pub comes : [] ≡ stored_difference (retract_on who list) list
   comes = sym (filter_none (λ s. not (list_any (same_stored s) list)) (filter stays list)
-      (each (λ s. not (list_any (same_stored s) list) ≡ false) (filter stays list)
+      (has_all (λ s. not (list_any (same_stored s) list) ≡ false) (filter stays list)
       (λ s h. ap not (has_any (same_stored s) list s (filter_has stays list s h).0 (same_itself s)))))
 
 -- what is to stand on an item
@@ -128,26 +123,13 @@ pub record IsSoFar (who : Who) (rows : List Attachment) (changes : List ItemChan
   pub told : (x : Item) → stored_on x rows ≢ [] → (IsAbove last x → ⊥) → list_any (same_item x) keys ≡ true
   pub count : steps ≡ before + length keys
 
-sorted_push : (xs : List Item) (k : Item) → IsStrictlySortedBy item_order xs → AllByRecursion (λ j. item_order j k ≡ Less) xs
-    → IsStrictlySortedBy item_order (xs ++ k ∷ [])
-unfolding IsStrictlySortedBy
-sorted_push [] k up below = (tt, tt)
-sorted_push (x ∷ xs) k up below = (
-  both_all (λ y. item_order x y ≡ Less) xs (k ∷ []) up.0 (below.0, tt),
-  sorted_push xs k up.1 below.1,
-)
-
-none_sorted : IsStrictlySortedBy item_order []
-unfolding IsStrictlySortedBy
-none_sorted = tt
-
 pub so_far_none : (who : Who) (rows : List Attachment) (changes : List ItemChange) (before : ℕ) → changes ≡ []
     → IsSoFar who rows changes None before before
 so_far_none who rows changes before is = record {
   keys = [];
   made = is;
   canon = tt;
-  up = none_sorted;
+  up = nothing_rises item_order;
   carry = tt;
   within = tt;
   told = λ x full under. absurd (under tt);
@@ -167,7 +149,7 @@ so_far_next who rows changes more last before steps after k so next canon one is
           ∙ sym (ap (changes_to rows) (map-append (entry_of who rows) so.keys (k ∷ []))
           ∙ changes_append rows (map (entry_of who rows) so.keys) (entry_of who rows k ∷ []));
       canon = both_all IsCanonItem so.keys (k ∷ []) so.canon (canon, tt);
-      up = sorted_push so.keys k so.up below;
+      up = rises_last item_order so.keys k so.up below;
       carry = both_all (λ j. stored_on j rows ≢ []) so.keys (k ∷ []) so.carry (next.carries, tt);
       within = both_all (λ j. item_order k j ≡ Less → ⊥) so.keys (k ∷ [])
           (all_weaker (λ j. item_order j k ≡ Less) (λ j. item_order k j ≡ Less → ⊥) (λ j l m. not_both items_total j k l m) so.keys below)
@@ -269,18 +251,6 @@ module _ (who : Who) (rows : List Attachment) (changes : List ItemChange) (last 
   they_are_changes = subst (AllByRecursion IsChange) (sym so.made) (are_changes rows (map (entry_of who rows) so.keys))
 
 -- how many items carry something
-filter_le : {X : Type 0} (p q : X → Bool) (xs : List X) → ((x : X) → p x ≡ true → q x ≡ true)
-    → length (filter p xs) ≤ length (filter q xs)
-filter_le p q [] h = omega arith
-filter_le p q (x ∷ xs) h = by (p x) (q x) refl refl (filter_le p q xs h)
-  where
-    by : (a b : Bool) → p x ≡ a → q x ≡ b → length (filter p xs) ≤ length (filter q xs)
-        → length (cond a (x ∷ filter p xs) (filter p xs)) ≤ length (cond b (x ∷ filter q xs) (filter q xs))
-    by true true e f l = omega (arith, l)
-    by true false e f l = let bad : false ≡ true = sym f ∙ h x e in cc
-    by false true e f l = omega (arith, l)
-    by false false e f l = l
-
 remain : (x z : Item) (ys : List Item) → same_item x z ≡ false → list_any (same_item z) ys ≡ true
     → list_any (same_item z) (filter (λ y. not (same_item x y)) ys) ≡ true
 remain x z ys differ e =
@@ -295,7 +265,7 @@ fewer x (y ∷ ys) e = by (same_item x y) refl e (fewer x ys)
         → (list_any (same_item x) ys ≡ true → length (filter (λ y. not (same_item x y)) ys) + 1 ≤ length ys)
         → length (cond (not b) (y ∷ filter (λ y. not (same_item x y)) ys) (filter (λ y. not (same_item x y)) ys)) + 1 ≤ length (y ∷ ys)
     by true is e rest = let l = filter_le (λ y. not (same_item x y)) (λ y. true) ys (λ y t. refl) in
-        let n = ap length (filter_all (λ (y : Item). true) ys (every ys)) in omega (arith, l, n)
+        let n = ap length (all_pass ys) in omega (arith, l, n)
     by false is e rest = let l = rest e in omega (arith, l)
 
 counted : (xs ys : List Item) → IsStrictlySortedBy item_order xs → AllByRecursion (λ x. list_any (same_item x) ys ≡ true) xs

@@ -1,6 +1,6 @@
 -- Members of lists that rise, found again in what a filter leaves of them.
--- The plan: filters change places, and go together (filter_turned, filter_neither, filter_both); in a list that rises those of one place
--- are one, and where keys are distinct those of one key (one_place, one_key), so a member is among what a filter leaves where it passes
+-- The plan: those of one place are one, and where keys are distinct those of one key, so one of a key stands where that of its place
+-- does (keyed_ties), and a member is among what a filter leaves where it passes
 -- (among_filter); one that is put passes or not with the rest, which stands below and above it (put_filtered, put_unfiltered, parted);
 -- so what passes, put on what does not, is all (put_back), and lists that share what stays differ in what was taken and put (moved).
 use Rattle.std.proofs.Common.{◌≡◌, ◌∙◌, refl, sym, ap, subst, Bool, true, false, cond, not, ◌||◌, ◌&&◌, List, [], ◌∷◌, ◌++◌, inl, inr}
@@ -15,9 +15,12 @@ use Rattle.std.specs.Ordering.{eq_by_cmp, is_eq, is_gt, is_lt, ordering_reverse}
 use Rattle.std.specs.Str.{bytes_eq}
 use Rattle.std.specs.declared.cmp.Ordering.{Ordering}
 use Rattle.std.specs.declared.cmp.Ordering.TheVariants.{Less, Equal, Greater}
-use Rattle.ifmap_lemmas.specs.Filters.{all_filter, all_weaker, filter_alike, filter_all, filter_none}
-use Rattle.ifmap_lemmas.specs.Having.{Has, all_has, any_has, filter_has, has_all, has_any, has_filter}
-use Rattle.ifmap_lemmas.specs.Orderings.{greater_turned}
+use Rattle.ifmap_lemmas.specs.Filtered.{filter_agrees, filter_turned}
+use Rattle.ifmap_lemmas.specs.Filters.{all_filter, all_weaker, filter_all, filter_none, filter_twice}
+use Rattle.ifmap_lemmas.specs.Having.{Has, all_has, any_has, filter_has, has_any, has_filter}
+use Rattle.ifmap_lemmas.specs.Inserted.{one_of_key}
+use Rattle.ifmap_lemmas.specs.Orderings.{greater_turned, is_greater, less_differs}
+use Rattle.ifmap_lemmas.specs.Rising.{tied_same}
 use Rattle.ifmap_meta.specs.declared.stored.Stored.{Stored}
 use Rattle.ifmap_meta.specs.Keys.{same_key}
 use Rattle.ifmap_rows.specs.ifmap_plans.Lists.{stored_difference, put_each, same_life, same_stored, list_without}
@@ -29,86 +32,7 @@ use Rattle.ifmap_publish.specs.Working.{is_among}
 use Rattle.ifmap_publish.proofs.Differing.{AllAbove, itself, none_tied, put_below, put_past, sorted_first, turned}
 use Rattle.ifmap_publish.proofs.Same.{same_itself}
 
--- ---- what a filter keeps
-
-pub filter_agrees : {X : Type 0} (p q : X → Bool) (xs : List X) → ((x : X) → Has xs x → p x ≡ q x) → filter p xs ≡ filter q xs
-filter_agrees p q xs h = filter_alike p q xs (has_all (λ x. p x ≡ q x) xs h)
-
--- a member that is kept or not is filtered
-filter_cond : {X : Type 0} (p : X → Bool) (b : Bool) (x : X) (ys : List X)
-    → filter p (cond b (x ∷ ys) ys) ≡ cond b (cond (p x) (x ∷ filter p ys) (filter p ys)) (filter p ys)
-filter_cond p true x ys = refl
-filter_cond p false x ys = refl
-
-both_turned : {X : Type 0} (a b : Bool) (x : X) (xs ys : List X) → xs ≡ ys
-    → cond b (cond a (x ∷ xs) xs) xs ≡ cond a (cond b (x ∷ ys) ys) ys
-both_turned true true x xs ys e = ap (λ l. x ∷ l) e
-both_turned true false x xs ys e = e
-both_turned false true x xs ys e = e
-both_turned false false x xs ys e = e
-
-pub filter_turned : {X : Type 0} (p q : X → Bool) (xs : List X) → filter p (filter q xs) ≡ filter q (filter p xs)
-filter_turned p q [] = refl
-filter_turned p q (x ∷ xs) =
-    filter_cond p (q x) x (filter q xs)
-    ∙ both_turned (p x) (q x) x (filter p (filter q xs)) (filter q (filter p xs)) (filter_turned p q xs)
-    ∙ sym (filter_cond q (p x) x (filter p xs))
-
-kept_by_neither : {X : Type 0} (a b : Bool) (x : X) (xs ys : List X) → xs ≡ ys
-    → cond (not (a || b)) (x ∷ xs) xs ≡ cond (not a) (cond (not b) (x ∷ ys) ys) ys
-kept_by_neither true b x xs ys e = e
-kept_by_neither false true x xs ys e = e
-kept_by_neither false false x xs ys e = ap (λ l. x ∷ l) e
-
--- what neither test passes
-pub filter_neither : {X : Type 0} (p q : X → Bool) (xs : List X)
-    → filter (λ x. not (p x || q x)) xs ≡ filter (λ x. not (q x)) (filter (λ x. not (p x)) xs)
-filter_neither p q [] = refl
-filter_neither p q (x ∷ xs) =
-    kept_by_neither (p x) (q x) x (filter (λ y. not (p y || q y)) xs) (filter (λ y. not (q y)) (filter (λ y. not (p y)) xs))
-    (filter_neither p q xs)
-    ∙ sym (filter_cond (λ y. not (q y)) (not (p x)) x (filter (λ y. not (p y)) xs))
-
-kept_by_both : {X : Type 0} (a b : Bool) (x : X) (xs ys : List X) → xs ≡ ys
-    → cond b (cond a (x ∷ xs) xs) xs ≡ cond (b && a) (x ∷ ys) ys
-kept_by_both true true x xs ys e = ap (λ l. x ∷ l) e
-kept_by_both false true x xs ys e = e
-kept_by_both a false x xs ys e = e
-
--- what both pass
-pub filter_both : {X : Type 0} (p q : X → Bool) (xs : List X) → filter p (filter q xs) ≡ filter (λ x. q x && p x) xs
-filter_both p q [] = refl
-filter_both p q (x ∷ xs) =
-    filter_cond p (q x) x (filter q xs)
-    ∙ kept_by_both (p x) (q x) x (filter p (filter q xs)) (filter (λ y. q y && p y) xs) (filter_both p q xs)
-
 -- ---- members that tie
-
--- those of one place are one
-pub one_place : (xs : List Stored) (a b : Stored) → IsStrictlySortedBy stored_order xs → Has xs a → Has xs b
-    → stored_order a b ≡ Equal → a ≡ b
-one_place [] a b up h k e = absurd h
-one_place (x ∷ xs) a b up (inl p) (inl q) e = sym p ∙ q
-one_place (x ∷ xs) a b up (inl p) (inr k) e =
-    let less : stored_order x b ≡ Less = all_has (λ y. stored_order x y ≡ Less) xs (sorted_first x xs up).0 b k in
-    let bad : Less ≡ Equal = sym less ∙ ap (λ y. stored_order y b) p ∙ e in cc
-one_place (x ∷ xs) a b up (inr h) (inl q) e =
-    let less : stored_order x a ≡ Less = all_has (λ y. stored_order x y ≡ Less) xs (sorted_first x xs up).0 a h in
-    let bad : Greater ≡ Equal = sym (turned x a less) ∙ ap (stored_order a) q ∙ e in cc
-one_place (x ∷ xs) a b up (inr h) (inr k) e = one_place xs a b (sorted_first x xs up).1 h k e
-
--- and those of one key
-pub one_key : (xs : List Stored) (a b : Stored) → IsDistinct same_key xs → Has xs a → Has xs b → same_key a b ≡ true → a ≡ b
-unfolding IsDistinct
-one_key [] a b d h k e = absurd h
-one_key (x ∷ xs) a b d (inl p) (inl q) e = sym p ∙ q
-one_key (x ∷ xs) a b d (inl p) (inr k) e =
-    let differ : same_key x b ≡ false = all_has (λ y. same_key x y ≡ false) xs d.0 b k in
-    let bad : false ≡ true = sym differ ∙ ap (λ y. same_key y b) p ∙ e in cc
-one_key (x ∷ xs) a b d (inr h) (inl q) e =
-    let differ : same_key x a ≡ false = all_has (λ y. same_key x y ≡ false) xs d.0 a h in
-    let bad : false ≡ true = sym differ ∙ stored_equiv.symm x a ∙ ap (same_key a) q ∙ e in cc
-one_key (x ∷ xs) a b d (inr h) (inr k) e = one_key xs a b d.1 h k e
 
 -- where one of a list has a key, that of the key is that of its place
 pub keyed_ties : (row r : Stored) (xs : List Stored) → IsStrictlySortedBy stored_order xs → IsDistinct same_key xs → Has xs r
@@ -117,14 +41,14 @@ keyed_ties row r xs up d h is s k = by (same_key row s) refl
   where
     by : (b : Bool) → same_key row s ≡ b → eq_by_cmp stored_order r s ≡ same_key row s
     by true e =
-        let one : r ≡ s = one_key xs r s d h k (sym (stored_equiv.congr row r s is) ∙ e) in
+        let one : r ≡ s = one_of_key same_key stored_equiv xs r s d h k (sym (stored_equiv.congr row r s is) ∙ e) in
         ap is_eq (ap (stored_order r) (sym one) ∙ itself r) ∙ sym e
     by false e = at (stored_order r s) refl ∙ sym e
       where
         at : (o : Ordering) → stored_order r s ≡ o → is_eq (stored_order r s) ≡ false
         at Less t = ap is_eq t
         at Equal t =
-            let one : r ≡ s = one_place xs r s up h k t in
+            let one : r ≡ s = tied_same stored_order stored_total xs r s up h k t in
             let bad : true ≡ false = sym is ∙ ap (same_key row) one ∙ e in cc
         at Greater t = ap is_eq t
 
@@ -176,22 +100,6 @@ not_tied q row s o is apart = by (stored_order row s) refl
         let bad : true ≡ false = sym (ap is_eq (stored_total.antisymm s row ∙ ap ordering_reverse e)) ∙ ap is_eq is ∙ apart in cc
     by Greater e = ap (λ c. q s || is_eq c) e ∙ or-false (q s)
 
-below_tests : (row s : Stored) → is_lt (stored_order s row) ≡ true → is_eq (stored_order s row) ≡ false
-below_tests row s e = at (stored_order s row) e
-  where
-    at : (o : Ordering) → is_lt o ≡ true → is_eq o ≡ false
-    at Less t = refl
-    at Equal t = cc
-    at Greater t = refl
-
-above_tests : (row s : Stored) → is_gt (stored_order s row) ≡ true → is_eq (stored_order s row) ≡ false
-above_tests row s e = at (stored_order s row) e
-  where
-    at : (o : Ordering) → is_gt o ≡ true → is_eq o ≡ false
-    at Less t = refl
-    at Equal t = cc
-    at Greater t = refl
-
 module _ (q : Stored → Bool) (row : Stored) (xs : List Stored) where
   abbrev lower : List Stored
   lower = filter (λ y. is_lt (stored_order y row)) xs
@@ -204,11 +112,11 @@ module _ (q : Stored → Bool) (row : Stored) (xs : List Stored) where
 
   lower_alike : (s : Stored) → Has lower s → q2 s ≡ q s
   lower_alike s h = not_tied q row s (stored_order s row) refl
-      (below_tests row s (filter_has (λ y. is_lt (stored_order y row)) xs s h).1)
+      (less_differs (stored_order s row) (filter_has (λ y. is_lt (stored_order y row)) xs s h).1)
 
   upper_alike : (s : Stored) → Has upper s → q2 s ≡ q s
   upper_alike s h = not_tied q row s (stored_order s row) refl
-      (above_tests row s (filter_has (λ y. is_gt (stored_order y row)) xs s h).1)
+      (ap is_eq (is_greater (stored_order s row) (filter_has (λ y. is_gt (stored_order y row)) xs s h).1))
 
   own : q2 row ≡ true
   own = ap (λ o. q row || is_eq o) (itself row) ∙ or-true (q row)
@@ -308,7 +216,7 @@ module _ (xs ys xt yt : List Stored) (up : IsStrictlySortedBy stored_order xs) (
       by false a =
           let back = filter_has (λ u. not (is_among xt u)) xs t
           (subst (λ l. Has l t) (sym stays) (has_filter (λ u. not (is_among yt u)) ys t k (ap not a))) in
-          let one : s ≡ t = one_place xs s t up h back.0 (same_ties s t same) in
+          let one : s ≡ t = tied_same stored_order stored_total xs s t up h back.0 (same_ties s t same) in
           let bad : not true ≡ true = ap not (sym e ∙ ap (is_among xt) one) ∙ back.1 in cc
 
   found_either : (s : Stored) → Has xs s → is_among xt s ≡ true → list_any (same_stored s) ys ≡ list_any (same_stored s) yt
@@ -336,5 +244,5 @@ module _ (xs ys xt yt : List Stored) (up : IsStrictlySortedBy stored_order xs) (
   pub moved : stored_difference xt yt ≡ stored_difference xs ys
   moved =
       ap (λ l. stored_difference l yt) left
-      ∙ filter_both (λ s. not (list_any (same_stored s) yt)) (is_among xt) xs
+      ∙ filter_twice (is_among xt) (λ s. not (list_any (same_stored s) yt)) xs
       ∙ filter_agrees (λ s. is_among xt s && not (list_any (same_stored s) yt)) (λ s. not (list_any (same_stored s) ys)) xs told_alike

@@ -1,7 +1,7 @@
 -- Where a search along the words of an index ends.
-use Rattle.std.proofs.Common.{◌≡◌, ◌⊎◌, refl, ◌∙◌, ap, inl, inr, Bool, true, false, [], List, ◌∷◌}
-use Rattle.std.proofs.Common.{ℕ, ◌<◌, ◌≤◌, suc, zero, length, get_or, arith, Ordering, ltb, subst}
-use Rattle.std.proofs.Common.{Option, Some, None, IfNone, Contains}
+use Rattle.std.proofs.Common.{◌≡◌, ◌⊎◌, ◌∙◌, ap, inl, inr, Bool, true, false, [], List, ◌∷◌}
+use Rattle.std.proofs.Common.{ℕ, ◌<◌, ◌≤◌, suc, zero, length, get_or, arith, Ordering, ltb}
+use Rattle.std.proofs.Common.{Contains}
 use Rattle.std.proofs.lemmas.Bool.{cases_lt}
 use Rattle.std.proofs.lemmas.Bool.Decides.{nat_tests}
 use Rattle.std.proofs.lemmas.Cmp.{nat_cmp_total}
@@ -14,7 +14,7 @@ use Rattle.std.specs.List.Sorted.{IsNonDecreasingBy, IsPartitionPoint, IsPartiti
 use Rattle.std.specs.Ordering.{is_lt, nat_cmp, ordering_reverse}
 use Rattle.std.specs.declared.cmp.Ordering.TheVariants.{Less, Equal}
 use Rattle.ifmap_lemmas.specs.Filters.{all_at}
-use Rattle.ifmap_lemmas.specs.Having.{Has, from_has, has_from}
+use Rattle.ifmap_lemmas.specs.Having.{from_has, has_from, all_has, has_all}
 use Rattle.ifmap_lemmas.specs.Orderings.{first_of_less}
 use Rattle.ifmap_meta.specs.declared.stored.Stored.{Stored}
 use Rattle.ifmap_meta.specs.Keys.{HaveOneKey, word_of}
@@ -93,18 +93,5 @@ module _ (row : Stored) (rows index : List Stored) (is : IsIndexed rows index) w
   pub found_in : (found : Stored) → IsFound row index found → IsFound row rows found
   found_in found f = (from_has rows found (is.there found (has_from index found f.0)), f.1)
 
-  member : (xs : List Stored) → AllByRecursion (HasNot row) xs → (s : Stored) → Has xs s → HasNot row s
-  member [] a s h = absurd h
-  member (x ∷ xs) a s (inl e) = subst (HasNot row) e a.0
-  member (x ∷ xs) a s (inr h) = member xs a.1 s h
-
-  all_of : (xs : List Stored) → ((s : Stored) → Has xs s → HasNot row s) → AllByRecursion (HasNot row) xs
-  all_of [] f = tt
-  all_of (x ∷ xs) f = (f x (inl refl), all_of xs (λ s h. f s (inr h)))
-
   pub none_in : AllByRecursion (HasNot row) index → AllByRecursion (HasNot row) rows
-  none_in a = all_of rows (λ s h. member index a s (is.back s h))
-
-pub none_then : {X : Type 0} (r : Option X) {P Q : Type 0} → IfNone r P → (P → Q) → IfNone r Q
-none_then None h f = f h
-none_then (Some x) h f = tt
+  none_in a = has_all (HasNot row) rows (λ s h. all_has (HasNot row) index a s (is.back s h))

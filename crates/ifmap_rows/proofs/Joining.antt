@@ -3,8 +3,9 @@
 -- a list that rises is told by what it has, which is that of the list into which they came (rows_joined, index_joined);
 -- where none that is there has the bytes of one that comes, all of them stay (rows_merged, index_merged);
 -- what was taken out first makes no difference (put_again, joined_again), and both lists stay in step (joined_keeps).
-use Rattle.std.proofs.Common.{◌≡◌, ◌⊎◌, ◌∙◌, refl, sym, ap, subst, inl, inr, Bool, true, false, List, [], ◌∷◌, ◌++◌, Ordering}
+use Rattle.std.proofs.Common.{◌≡◌, ◌⊎◌, ◌∙◌, refl, sym, ap, subst, inl, inr, true, false, List, [], ◌∷◌, ◌++◌, Ordering}
 use Rattle.std.proofs.lemmas.Bool.{not-true, or_parts}
+use Rattle.std.proofs.lemmas.Cmp.{eq_by_cmp_equiv}
 use Rattle.std.proofs.lemmas.List.Sorted.{Contains-permutation, IsPermutation-sym}
 use Rattle.std.proofs.lemmas.Map.Keys.{IsDistinct-IsPermutation}
 use Rattle.std.proofs.lemmas.List.Kept.{IsStrictlySortedBy-filter}
@@ -13,16 +14,16 @@ use Rattle.std.specs.List.{AllByRecursion, IsDistinct, list_any}
 use Rattle.std.specs.List.Sorted.{IsPermutation, IsSortedBy, IsStrictlySortedBy}
 use Rattle.std.specs.Ordering.{eq_by_cmp, is_eq, is_lt}
 use Rattle.std.specs.declared.cmp.Ordering.TheVariants.{Less}
+use Rattle.ifmap_lemmas.specs.Choices.{fails_too}
 use Rattle.ifmap_lemmas.specs.Filters.{all_weaker, filter_again, filter_all}
 use Rattle.ifmap_lemmas.specs.Having.{Has, filter_has, from_has, has_either, has_filter, has_from, has_left, has_right}
-use Rattle.ifmap_lemmas.specs.Members.{both_all}
+use Rattle.ifmap_lemmas.specs.Rising.{distinct_joined, rises_apart, rising_same}
 use Rattle.ifmap_meta.specs.declared.stored.Stored.{Stored}
 use Rattle.ifmap_plans.specs.Lists.{list_without, put_each}
 use Rattle.ifmap_plans.specs.laws.KeyLaws.{stored_total}
 use Rattle.ifmap_plans.specs.ifmap_view.Attachments.{stored_order}
 use Rattle.ifmap_rows.specs.Indexed.{IsIndexed, IsJoined, word_order}
-use Rattle.ifmap_rows.specs.laws.JoiningLaws.{fails_too, each_in, in_each, one_list, rises_apart, rising_each, stays}
-use Rattle.ifmap_rows.specs.laws.RisingLaws.{flip_eq}
+use Rattle.ifmap_rows.specs.laws.JoiningLaws.{each_in, in_each, rising_each, stays}
 use Rattle.ifmap_rows.proofs.Keeping.{words_total, worded_equal}
 
 module _ (X : Type 0) (C D : X → X → Ordering) (finer : (a s : X) → is_eq (D a s) ≡ true → is_eq (C a s) ≡ true) where
@@ -43,14 +44,7 @@ module _ (X : Type 0) (C D : X → X → Ordering) (finer : (a s : X) → is_eq 
   stays_apart o w [] e = tt
   stays_apart o w (a ∷ adds) e =
       let p = or_parts (eq_by_cmp C a w) (list_any (λ r. eq_by_cmp C r w) adds) e in
-      (fails_too (is_eq (D w a)) (is_eq (C w a)) (finer w a) (flip_eq X C o w a ∙ p.0), stays_apart o w adds p.1)
-
-joined_apart : {X : Type 0} (e : X → X → Bool) (ws adds : List X) → IsDistinct e ws → IsDistinct e adds
-    → ((w : X) → Has ws w → AllByRecursion (λ a. e w a ≡ false) adds) → IsDistinct e (ws ++ adds)
-unfolding IsDistinct
-joined_apart e [] adds u v f = v
-joined_apart e (w ∷ ws) adds u v f =
-    (both_all (λ y. e w y ≡ false) ws adds u.0 (f w (inl refl)), joined_apart e ws adds u.1 v (λ x h. f x (inr h)))
+      (fails_too (is_eq (D w a)) (is_eq (C w a)) (finer w a) ((eq_by_cmp_equiv o).symm w a ∙ p.0), stays_apart o w adds p.1)
 
 -- ---- a sort of what stays and what comes
 
@@ -79,25 +73,25 @@ module _ (list added next : List Stored) (up : IsStrictlySortedBy stored_order a
       → ((a s : Stored) → is_eq (D a s) ≡ true → is_eq (stored_order a s) ≡ true)
       → IsDistinct (eq_by_cmp D) (list_without added list) → IsDistinct (eq_by_cmp D) next
   kept_apart D o finer w =
-      IsDistinct-IsPermutation (eq_by_cmp D) (flip_eq Stored D o) (list_without added list ++ added) next made
-      (joined_apart (eq_by_cmp D) (list_without added list) added w (apart Stored stored_order D finer added up)
+      IsDistinct-IsPermutation (eq_by_cmp D) ((eq_by_cmp_equiv o).symm) (list_without added list ++ added) next made
+      (distinct_joined (eq_by_cmp D) (list_without added list) added w (apart Stored stored_order D finer added up)
       (λ s h. stays_apart Stored stored_order D finer stored_total s added
       (not-true (list_any (λ r. eq_by_cmp stored_order r s) added) (filter_has (stays added) list s h).1)))
 
   pub rows_joined : IsStrictlySortedBy stored_order list → IsSortedBy (λ x y. is_lt (stored_order x y)) next → next ≡ put_each added list
   rows_joined rows sorted =
       let same : (a s : Stored) → is_eq (stored_order a s) ≡ true → is_eq (stored_order a s) ≡ true = λ a s e. e in
-      let rises = rises_apart Stored stored_order stored_total next sorted (kept_apart stored_order stored_total same
+      let rises = rises_apart stored_order stored_total next sorted (kept_apart stored_order stored_total same
       (apart Stored stored_order stored_order same (list_without added list)
       (IsStrictlySortedBy-filter stored_order (stays added) list rows))) in
-      one_list Stored stored_order stored_total next (put_each added list) rises (rising_each added list rows)
+      rising_same stored_order stored_total next (put_each added list) rises (rising_each added list rows)
       (λ s h. in_each added list s up (into s h)) (λ s h. back s (each_in added list s h))
 
   pub index_joined : IsStrictlySortedBy word_order list → IsSortedBy (λ x y. is_lt (word_order x y)) next → IsJoined list added next
   index_joined worded sorted =
       let same : (a s : Stored) → is_eq (word_order a s) ≡ true → is_eq (word_order a s) ≡ true = λ a s e. e in
       record {
-        worded = rises_apart Stored word_order words_total next sorted (kept_apart word_order words_total
+        worded = rises_apart word_order words_total next sorted (kept_apart word_order words_total
             (λ a s e. ap is_eq (worded_equal a s e))
             (apart Stored word_order word_order same (list_without added list)
             (IsStrictlySortedBy-filter word_order (stays added) list worded)));
@@ -120,7 +114,7 @@ module _ (list added next : List Stored) (up : IsStrictlySortedBy stored_order a
 pub put_again : (added rows : List Stored) → IsStrictlySortedBy stored_order added → IsStrictlySortedBy stored_order rows
     → put_each added (list_without added rows) ≡ put_each added rows
 put_again added rows up rising =
-    one_list Stored stored_order stored_total (put_each added (list_without added rows)) (put_each added rows)
+    rising_same stored_order stored_total (put_each added (list_without added rows)) (put_each added rows)
     (rising_each added (list_without added rows) (IsStrictlySortedBy-filter stored_order (stays added) rows rising))
     (rising_each added rows rising)
     (λ s h. in_each added rows s up (elim (each_in added (list_without added rows) s h) [

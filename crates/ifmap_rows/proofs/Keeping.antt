@@ -8,8 +8,10 @@ use Rattle.std.specs.List.{filter, list_any}
 use Rattle.std.specs.List.Sorted.{IsStrictlySortedBy}
 use Rattle.std.specs.Ordering.{eq_by_cmp, is_eq, nat_cmp}
 use Rattle.std.specs.declared.cmp.Ordering.TheVariants.{Equal}
+use Rattle.ifmap_lemmas.specs.Choices.{fails_too}
 use Rattle.ifmap_lemmas.specs.Having.{Has, filter_has, has_filter}
 use Rattle.ifmap_lemmas.specs.Orderings.{both_equal}
+use Rattle.ifmap_lemmas.specs.Rising.{tied_same}
 use Rattle.ifmap_meta.specs.declared.stored.Stored.{Stored}
 use Rattle.ifmap_plans.specs.Placing.{put}
 use Rattle.ifmap_plans.specs.laws.KeyLaws.{stored_total}
@@ -17,8 +19,7 @@ use Rattle.ifmap_plans.specs.laws.PlacingLaws.{has_put_one, put_sorted}
 use Rattle.ifmap_plans.specs.ifmap_view.Attachments.{stored_order}
 use Rattle.ifmap_rows.specs.Indexed.{IsIndexed, without_one, word_order}
 use Rattle.ifmap_meta.specs.Keys.{word_of}
-use Rattle.ifmap_rows.specs.laws.JoiningLaws.{fails_too}
-use Rattle.ifmap_rows.specs.laws.RisingLaws.{has_put, none_equal, only_one, put_again, put_has}
+use Rattle.ifmap_rows.specs.laws.RisingLaws.{has_put, none_equal, put_again, put_has}
 
 pub empty : IsIndexed [] []
 unfolding IsStrictlySortedBy
@@ -53,7 +54,7 @@ module _ (rows index : List Stored) (is : IsIndexed rows index) where
     told : (s : Stored) → Has rows s → is_eq (stored_order r s) ≡ true → is_eq (word_order taken s) ≡ true
     told s h e =
         let equal : stored_order taken s ≡ Equal = stored_total.congr taken r s same ∙ (Equal-is (stored_order r s)).0 e in
-        let one : taken ≡ s = only_one Stored stored_order stored_total rows taken s is.rising had h equal in
+        let one : taken ≡ s = tied_same stored_order stored_total rows taken s is.rising had h equal in
         subst (λ (x : Stored). is_eq (word_order taken x) ≡ true) one (ap is_eq (tied_itself words_total taken))
 
     back_told : (s : Stored) → is_eq (word_order taken s) ≡ true → is_eq (stored_order r s) ≡ true

@@ -1,11 +1,13 @@
 -- All that is kept, as calls change it.
 -- First: the session of one row changes (`rewritten`), in its queue alone (`kept_queue`) or in its last moment, which sets
 -- its stamp (`kept_renewed`). Then: what holds of the stamps as a session ends (`moments_ended`) or begins (`moments_begun`).
-use Rattle.std.proofs.Common.{◌≡◌, ◌≢◌, refl, sym, ◌∙◌, ap, ℕ, zero, suc, ◌<◌, ◌≤◌, ◌==◌, Bool, true, false, cond, List, [], ◌∷◌, ◌++◌, length, set, Some, inl, arith}
+use Rattle.std.proofs.Common.{◌≡◌, ◌≢◌, refl, sym, ◌∙◌, ap, ℕ, suc, ◌<◌, ◌≤◌, ◌==◌, List, [], ◌∷◌, ◌++◌, length, set, Some, inl, arith}
 use Rattle.std.proofs.lemmas.List.{length-set}
 use Rattle.std.proofs.lemmas.Option.{slice_get_within}
 use Rattle.std.specs.List.{IsDistinct, slice_get}
 use Rattle.std.specs.List.Sorted.{IsStrictlySortedBy}
+use Rattle.ifmap_lemmas.specs.Choices.{same_either_way}
+use Rattle.ifmap_lemmas.specs.Places.{written_there}
 use Rattle.ifmap_search.specs.declared.results.PollItem.{PollItem}
 use Rattle.ifmap_session.specs.declared.holders.Holder.{Holder}
 use Rattle.ifmap_session.specs.declared.rows.SessionRow.{SessionRow}
@@ -68,18 +70,9 @@ pub queue_emptied : ChangesQueue without_items
 queue_emptied = record { names = record { serial = λ s. refl; id = λ s. refl; client = λ s. refl }; last = λ s. refl }
 
 -- a list in which nothing is changed
-either_way : (b : Bool) (s : Session) → cond b s s ≡ s
-either_way true s = refl
-either_way false s = refl
-
 pub change_none : (n : ℕ) (live : List Session) → change n (λ s. s) live ≡ live
 change_none n [] = refl
-change_none n (s ∷ live) = rw (either_way (s.serial == n) s, change_none n live) refl
-
-set_got : {X : Type 0} (xs : List X) (i : ℕ) (x y : X) → slice_get xs i ≡ Some x → slice_get (set xs i y) i ≡ Some y
-set_got [] i x y e = cc
-set_got (z ∷ xs) zero x y e = refl
-set_got (z ∷ xs) (suc i) x y e = set_got xs i x y e
+change_none n (s ∷ live) = rw (same_either_way (s.serial == n) s, change_none n live) refl
 
 module _ {counter : ℕ} {rows : List SessionRow} {holders : List Holder} {width : ℕ} {tree : List ℕ}
     (k : AreTied counter rows holders width tree) (n place : ℕ) (a : Seat) (e : slice_get rows place ≡ Some (row_of n a)) where
@@ -104,7 +97,7 @@ module _ {counter : ℕ} {rows : List SessionRow} {holders : List Holder} {width
         others = λ other apart. rw r.2 (spare_other n rows place a (Some b) k.sessions.own.own e own_b other apart);
         was = spare_found n rows place a k.sessions.own.rising k.sessions.own.own e;
         is = rw r.2 (spare_found n (set rows place (row_of n b)) place b kept.own.rising kept.own.own
-            (set_got rows place (row_of n a) (row_of n b) e));
+            (written_there rows place (row_of n b) (slice_get_within rows place (row_of n a) e)));
       }
 
   -- its stamp stays

@@ -7,11 +7,14 @@ use Rattle.std.proofs.Common.{◌≡◌, ◌≢◌, refl, sym, ◌∙◌, ap, su
 use Rattle.std.proofs.lemmas.Bool.{eqb-true, eq-eqb, false_from_ne_true}
 use Rattle.std.proofs.lemmas.Bool.Decides.{nat_tests}
 use Rattle.std.proofs.lemmas.List.Kept.{IsStrictlySortedBy-filter}
+use Rattle.std.proofs.lemmas.List.{map-append}
 use Rattle.std.specs.List.{AllByRecursion, filter, find, list_any, slice_get}
 use Rattle.std.specs.List.Sorted.{IsStrictlySortedBy}
 use Rattle.std.specs.Option.{IfSome, is_some, option_map, option_to_list, unwrap_or}
 use Rattle.std.specs.declared.cmp.Ordering.TheVariants.{Less}
 use Rattle.ifmap_lemmas.specs.Filters.{all_filter, all_weaker}
+use Rattle.ifmap_lemmas.specs.Found.{find_push}
+use Rattle.ifmap_lemmas.specs.Inserted.{all_set}
 use Rattle.ifmap_lemmas.specs.Places.{all_got}
 use Rattle.ifmap_session.specs.declared.rows.SessionRow.{SessionRow}
 use Rattle.ifmap_session.specs.Rows.{AreOwn, HasOwnSerial, live_of, row_order, seats_of, spare_in}
@@ -254,11 +257,6 @@ module _ (n : ℕ) where
       map_alike the_spare r.kept (seats_of (set rows i (row_of n b))) (seats_of rows) (spare_same rows i a b e same)
 
 -- order
-all_set : {X : Type 0} (P : X → Type 0) (xs : List X) (i : ℕ) (y : X) → AllByRecursion P xs → P y → AllByRecursion P (set xs i y)
-all_set P [] i y all new = tt
-all_set P (x ∷ xs) zero y all new = (new, all.1)
-all_set P (x ∷ xs) (suc i) y all new = (all.0, all_set P xs i y all.1 new)
-
 same_order : (x r q : SessionRow) → q.serial ≡ r.serial → row_order x r ≡ Less → row_order x q ≡ Less
 same_order x r q e less = rw e less
 
@@ -321,22 +319,15 @@ seats_push (r ∷ rows) n a =
       | Some s ↦ ap (λ xs. s ∷ xs) (seats_push rows n a)
     ]
 
-map_push : {X : Type 0} (g : Seat → X) (seats : List Seat) (a : Seat) → map g (seats ++ a ∷ []) ≡ map g seats ++ g a ∷ []
-map_push g [] a = refl
-map_push g (s ∷ seats) a = ap (λ xs. g s ∷ xs) (map_push g seats a)
-
 pub begun_last : (rows : List SessionRow) (n : ℕ) (a : Seat) → live_of (rows ++ row_of n a ∷ []) ≡ live_of rows ++ a.session ∷ []
-begun_last rows n a = ap (map the_session) (seats_push rows n a) ∙ map_push the_session (seats_of rows) a
-
-find_push : (p : (ℕ × ℕ) → Bool) (xs : List (ℕ × ℕ)) (y : ℕ × ℕ) → p y ≡ false → find p (xs ++ y ∷ []) ≡ find p xs
-find_push p [] y e = rw e refl
-find_push p (x ∷ xs) y e = ap (λ o. cond (p x) (Some x) o) (find_push p xs y e)
+begun_last rows n a = ap (map the_session) (seats_push rows n a) ∙ map-append the_session (seats_of rows) (a ∷ [])
 
 pub spare_begun : (rows : List SessionRow) (n : ℕ) (a : Seat) → a.session.serial ≡ n → (other : ℕ) → other ≢ n
     → spare_of other (spare_in (rows ++ row_of n a ∷ [])) ≡ spare_of other (spare_in rows)
 spare_begun rows n a mine other apart =
-    ap (spare_of other) (ap (map the_spare) (seats_push rows n a) ∙ map_push the_spare (seats_of rows) a)
-    ∙ ap (λ (o : Option (ℕ × ℕ)). unwrap_or (option_map (λ p. p.1) o) 0) (find_push (λ p. p.0 == other) (spare_in rows) (the_spare a)
+    ap (spare_of other) (ap (map the_spare) (seats_push rows n a) ∙ map-append the_spare (seats_of rows) (a ∷ []))
+    ∙ ap (λ (o : Option (ℕ × ℕ)). unwrap_or (option_map (λ p. p.1) o) 0)
+    (find_push (λ (p : ℕ × ℕ). p.0 == other) (spare_in rows) (the_spare a)
     (false_from_ne_true (a.session.serial == other) (λ h. apart (sym (eqb-true a.session.serial other h) ∙ mine))))
 
 -- without the empty rows

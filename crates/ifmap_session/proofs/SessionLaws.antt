@@ -18,6 +18,10 @@ use Rattle.std.specs.Option.{IfSome, IsSome, is_some, option_map, option_to_list
 use Rattle.std.specs.Result.{IfErr, IsErr, IsOk}
 use Rattle.std.specs.Ordering.{nat_cmp}
 use Rattle.std.specs.declared.cmp.Ordering.TheVariants.{Less}
+use Rattle.ifmap_lemmas.specs.Choices.{map_choice, map_none, same_choice, some_alike, swap_choices}
+use Rattle.ifmap_lemmas.specs.Filtered.{filter_agrees}
+use Rattle.ifmap_lemmas.specs.Found.{find_none, found_again, key_found}
+use Rattle.ifmap_lemmas.specs.Inserted.{find_insert, place_for}
 use Rattle.ifmap_lemmas.specs.Options.{or_none, some_none}
 use Rattle.ifmap_session.specs.declared.holders.Holder.{Holder}
 use Rattle.ifmap_session.specs.declared.rows.SessionRow.{SessionRow}
@@ -27,10 +31,10 @@ use Rattle.ifmap_session.specs.Seats.{Seat}
 use Rattle.ifmap_session.specs.SessionIds.{BeginsWithSerial, hyphen}
 use Rattle.ifmap_session.specs.Sessions.{IsLive, Session, change, is_same_text, most_sessions, session_of_client, session_order, session_with_id, session_with_serial, without_sessions}
 use Rattle.ifmap_session.specs.laws.TableLaws.{KeepsIdAndClient, clients_same, length_same, one_changed, one_numbered}
-use Rattle.ifmap_session.specs.laws.TextLaws.{all_found, distinct_filter, distinct_keys_push, find_none, rest_differ, text_is, text_itself}
-use Rattle.ifmap_session.proofs.Halving.{filter_same, find_insert, place_for, placed}
+use Rattle.ifmap_session.specs.laws.TextLaws.{distinct_filter, distinct_keys_push, rest_differ, text_is, text_itself}
+use Rattle.ifmap_session.proofs.Halving.{placed}
 use Rattle.ifmap_session.proofs.RowLaws.{Own, Up, begun_last, changed, counted_filter, counted_push, counted_set, empty_row, ended, found, own_filter, own_push, own_set, row_of, seats_filter}
-use Rattle.ifmap_lemmas.specs.Filters.{all_weaker, filter_all, filter_passes, filter_shorter}
+use Rattle.ifmap_lemmas.specs.Filters.{all_weaker, filter_all, filter_passes, filter_shorter, found_all}
 use Rattle.ifmap_lemmas.specs.Finding.{none_passes}
 
 pub holder_placed : (holders : List Holder) (client : List ℕ) (r : Result ℕ ℕ) → IsStrictlySortedBy client_order holders
@@ -50,35 +54,14 @@ holder_gap holders client i up within is =
 pub without_one : (serial : ℕ) (live : List Session) → filter (λ (s : Session). not (s.serial == serial)) live
     ≡ without_sessions (serial ∷ []) live
 without_one serial live =
-    filter_same (λ (s : Session). not (s.serial == serial)) (λ (s : Session). not (list_any (λ n. n == s.serial) (serial ∷ [])))
-    (λ s. grind (arith, nat_tests)) live
-
-pub all_map_found : {X : Type 0} (key : X → List ℕ) (P : List ℕ → Type 0) (p : X → Bool) (xs : List X) (x : X)
-    → AllByRecursion P (map key xs) → find p xs ≡ Some x → P (key x)
-all_map_found key P p [] x h e = cc
-all_map_found key P p (y ∷ ys) x h e =
-    elim (cases_Bool (p y)) [
-      | inl hit ↦ let same : y ≡ x = cc (rw hit at e) in subst (λ z. P (key z)) same h.0
-      | inr miss ↦ all_map_found key P p ys x h.1 (rw miss at e)
-    ]
-
--- two choices in a row change places where they are not both made
-swap_choices : {A : Type 0} (a b : Bool) (u v w : A) → (a ≡ true → b ≡ true → ⊥) → cond a u (cond b v w) ≡ cond b v (cond a u w)
-swap_choices true true u v w h = absurd (h refl refl)
-swap_choices true false u v w h = refl
-swap_choices false true u v w h = refl
-swap_choices false false u v w h = refl
+    filter_agrees (λ (s : Session). not (s.serial == serial)) (λ (s : Session). not (list_any (λ n. n == s.serial) (serial ∷ []))) live
+    (λ s h. alike s)
+  where
+    alike : (s : Session) → not (s.serial == serial) ≡ not (list_any (λ n. n == s.serial) (serial ∷ []))
+    alike s = grind (arith, nat_tests)
 
 not_both : (a b c : List ℕ) → is_same_text a b ≡ false → is_same_text a c ≡ true → is_same_text b c ≡ true → ⊥
 not_both a b c differ one other = both_ways (is_same_text a b) differ (subst (λ t. is_same_text a t ≡ true) (sym (text_is b c other)) one)
-
-map_choice : {A B : Type 0} (f : A → B) (a : Bool) (o : Option A) → option_map f (cond a None o) ≡ cond a None (option_map f o)
-map_choice f true o = refl
-map_choice f false o = refl
-
-map_none : {A B : Type 0} (f : A → B) (o : Option A) → option_map f o ≡ None → o ≡ None
-map_none f None e = refl
-map_none f (Some x) e = cc
 
 -- a client's session after the one of a serial ended
 later_stays : (serial : ℕ) (x t : Session) → x.serial ≡ serial → session_order x t ≡ Less → not (t.serial == serial) ≡ true
@@ -111,7 +94,7 @@ client_after (x ∷ xs) serial s c up apart e =
           (at_first x xs c apart.0))
       | inr miss ↦
           let there : session_with_serial serial xs ≡ Some s = rw miss at e in
-          let differ : is_same_text x.client s.client ≡ false = all_map_found (λ (t : Session). t.client)
+          let differ : is_same_text x.client s.client ≡ false = key_found (λ (t : Session). t.client)
           (λ k. is_same_text x.client k ≡ false)
           (λ (t : Session). t.serial == serial) xs s apart.0 there in
           rw (miss, client_after xs serial s c up.1 apart.1 there)
@@ -123,10 +106,6 @@ no_choice : (a : Bool) → ◌≡◌ {A = Option Holder} None (cond a None None)
 no_choice true = refl
 no_choice false = refl
 
-once : {A : Type 0} (a : Bool) (u w : Option A) → cond a None w ≡ cond a None (cond a u w)
-once true u w = refl
-once false u w = refl
-
 -- a client's holder after the one of a client went
 pub holder_after : (holders : List Holder) (k c : List ℕ) → holder_of c (filter (λ (h : Holder). not (is_same_text h.client k)) holders)
     ≡ cond (is_same_text k c) None (holder_of c holders)
@@ -135,7 +114,7 @@ holder_after (x ∷ xs) k c =
     elim (cases_Bool (is_same_text x.client k)) [
       | inl hit ↦ rw (hit, holder_after xs k c) (subst (λ t. cond (is_same_text k c) None (holder_of c xs)
           ≡ cond (is_same_text k c) None (cond (is_same_text t c) (Some x) (holder_of c xs))) (sym (text_is x.client k hit))
-          (once (is_same_text k c) (Some x) (holder_of c xs)))
+          (same_choice {A = Option Holder} (is_same_text k c) None (Some x) (holder_of c xs)))
       | inr miss ↦ rw (miss, holder_after xs k c) (swap_choices (is_same_text x.client c) (is_same_text k c) (Some x) None (holder_of c xs)
           (not_both x.client k c miss))
     ]
@@ -146,8 +125,8 @@ still_there : (serial : ℕ) (c : List ℕ) (o : Option Session) (rest : List Se
 still_there serial c None rest h e held = cc
 still_there serial c (Some t) rest h e held =
     let same : t.serial ≡ serial = cc in
-    let other : not (t.serial == serial) ≡ true = all_found (λ (t : Session). not (t.serial == serial) ≡ true)
-    (λ (t : Session). is_same_text t.client c) rest t h e in
+    let other : not (t.serial == serial) ≡ true = found_all (λ (t : Session). not (t.serial == serial) ≡ true)
+    (λ (t : Session). is_same_text t.client c) rest h t e in
     both_ways (t.serial == serial) (not-true (t.serial == serial) other) (eq-eqb t.serial serial same)
 
 -- the client whose session ended has none
@@ -265,19 +244,6 @@ place_is_err test [] (Ok i) place none = absurd (omega (arith, place.0))
 place_is_err test (x ∷ xs) (Ok i) place none = let found = place.1 x in cc
 place_is_err test xs (Err i) place none = refl
 
--- a session that passes one test is found by each test that it passes
-pub found_again : {X : Type 0} (p q : X → Bool) (xs : List X) (x : X) → find p xs ≡ Some x → q x ≡ true → IsSome (find q xs)
-found_again p q [] x e h = cc
-found_again p q (y ∷ ys) x e h =
-    elim (cases_Bool (q y)) [
-      | inl hit ↦ rw hit refl
-      | inr miss ↦
-          elim (cases_Bool (p y)) [
-            | inl here ↦ let same : y ≡ x = cc (rw here at e) in absurd (both_ways (q x) (subst (λ z. q z ≡ false) same miss) h)
-            | inr past ↦ rw miss (found_again p q ys x (rw past at e) h)
-          ]
-    ]
-
 -- a client's session is live by its serial
 pub client_live : (live : List Session) (c : List ℕ) (serial : ℕ)
     → option_map (λ (s : Session). s.serial) (session_of_client c live) ≡ Some serial → IsLive serial live
@@ -287,11 +253,6 @@ client_live live c serial e = go (session_of_client c live) refl e where
   go (Some s) same e =
       let is : s.serial ≡ serial = cc in
       found_again (λ (t : Session). is_same_text t.client c) (λ (t : Session). t.serial == serial) live s same (eq-eqb s.serial serial is)
-
-some_alike : {X Y : Type 0} (f : X → ℕ) (g : Y → ℕ) (o : Option X) (q : Option Y) → option_map f o ≡ option_map g q → IsSome q → IsSome o
-some_alike f g (Some x) q e h = refl
-some_alike f g None (Some y) e h = cc
-some_alike f g None None e h = h
 
 -- what holds of the sessions of rows
 pub all_live : (P : Session → Type 0) (rows : List SessionRow)

@@ -12,6 +12,7 @@ use Rattle.std.proofs.lemmas.List.Elements.{All-from_recursion}
 use Rattle.std.proofs.lemmas.Option.{slice_get_past}
 use Rattle.std.specs.List.{All, AllByRecursion, filter, list_any, slice_get}
 use Rattle.std.specs.Option.{IfSome, option_map, option_to_list, unwrap_or}
+use Rattle.ifmap_lemmas.specs.Inserted.{push_elsewhere}
 use Rattle.ifmap_lemmas.specs.Places.{last_there, written_elsewhere, written_there}
 use Rattle.ifmap_session.specs.declared.rows.SessionRow.{SessionRow}
 use Rattle.ifmap_session.specs.Rows.{AreStamps, HasOwnSerial, IsStamped, due_rows, live_of, seats_of, serial_at, stamp_of}
@@ -20,12 +21,6 @@ use Rattle.ifmap_session.specs.Sessions.{Session, expired_serials, is_expired}
 use Rattle.ifmap_session.specs.Stamps.{IsPower, IsTree, Restamps, node_value, due_nodes, is_any_due, is_due, no_stamp, numbers_from}
 use Rattle.ifmap_session.proofs.RowLaws.{Own}
 use Rattle.ifmap_session.proofs.Trees.{root_least, root_there}
-
-get_push_other : {X : Type 0} (xs : List X) (y : X) (j : ℕ) → j ≢ length xs → slice_get (xs ++ y ∷ []) j ≡ slice_get xs j
-get_push_other [] y zero apart = absurd (apart refl)
-get_push_other [] y (suc j) apart = refl
-get_push_other (x ∷ xs) y zero apart = refl
-get_push_other (x ∷ xs) y (suc j) apart = get_push_other xs y j (λ e. apart (ap (λ n. suc n) e))
 
 -- the stamp of what may be a row
 abbrev pub stamp_in : Option SessionRow → ℕ
@@ -97,7 +92,7 @@ stamped_push rows width stamp q old new s r is = λ p high. elim (cases_lt p (le
 ] where
   other : (p : ℕ) → p < width → p ≢ length rows → node_value new (width + p) ≡ stamp_in (slice_get (rows ++ q ∷ []) p)
   other p high apart = kept_stamp width (length rows) stamp p old new r high apart ∙ s p high
-      ∙ ap stamp_in (sym (get_push_other rows q p apart))
+      ∙ ap stamp_in (sym (push_elsewhere rows q p apart))
 
 -- a row that changes and keeps its stamp
 pub stamped_alike : (rows : List SessionRow) (width i : ℕ) (r q : SessionRow) (tree : List ℕ) → IsStamped rows width tree

@@ -20,11 +20,12 @@ use Rattle.ifmap_ident.specs.SameLaws.{items_total}
 use Rattle.ifmap_fresh.specs.ifmap_search.declared.results.Entry.{Entry}
 use Rattle.ifmap_folds.specs.Differences.{difference, entry_bytes, entry_order, has_entry, same_entry}
 use Rattle.ifmap_folds.specs.Folds.{with_entries}
-use Rattle.ifmap_folds.specs.laws.RisingLaws.{has_still, head_rises, put_has, rising_same, tail_rises}
+use Rattle.ifmap_folds.specs.laws.RisingLaws.{has_still, put_has}
 use Rattle.ifmap_fresh.specs.ifmap_view.declared.attachments.Attachment.{Attachment}
 use Rattle.ifmap_fresh.specs.ifmap_view.Attachments.{attachment_order, stored_bytes, IsGraph}
 use Rattle.ifmap_lemmas.specs.Filters.{all_weaker}
 use Rattle.ifmap_lemmas.specs.Members.{map_of_all}
+use Rattle.ifmap_lemmas.specs.Rising.{head_rises, rising_same, tail_rises}
 use Rattle.ifmap_fresh.specs.Fresh.{fresh, is_found}
 use Rattle.ifmap_fresh.specs.ifmap_search.declared.searches.Search.{Search}
 use Rattle.ifmap_fresh.specs.laws.GatheringLaws.{entry_of}
@@ -75,8 +76,8 @@ has_with [] set z r h = absurd h
 has_with (e ∷ es) set z r (inl q) =
     subst (λ x. Has (with_entries es (put entry_order e set)) x) q
     (has_kept es (put entry_order e set) e (has_put_one Entry entry_order entries_total e set)
-    (λ x k. ap is_eq (all_has (λ y. entry_order e y ≡ Less) es (head_rises entry_order entries_total e es r) x k)))
-has_with (e ∷ es) set z r (inr k) = has_with es (put entry_order e set) z (tail_rises entry_order entries_total e es r) k
+    (λ x k. ap is_eq (all_has (λ y. entry_order e y ≡ Less) es (head_rises entry_order e es r) x k)))
+has_with (e ∷ es) set z r (inr k) = has_with es (put entry_order e set) z (tail_rises entry_order e es r) k
 
 module _ (a b : List Entry) (apart : (x y : Entry) → Has a x → Has b y → same_entry x y ≡ true → x ≡ y)
     (rises : IsStrictlySortedBy entry_order a) (next : IsStrictlySortedBy entry_order b) where

@@ -1,38 +1,23 @@
 -- Putting in, taking out and finding, in lists that rise strictly.
-use Rattle.std.proofs.Common.{◌≡◌, refl, sym, ◌∙◌, ap, subst, ℕ, suc, zero, ◌<◌, ◌≤◌, Bool, true, false, not, List, [], ◌∷◌, ◌++◌, length}
-use Rattle.std.proofs.Common.{get_or, Ordering, arith, Result, Ok, Err, add-one, inl, set}
+use Rattle.std.proofs.Common.{◌≡◌, refl, sym, ◌∙◌, ap, subst, ℕ, suc, zero, ◌<◌, ◌≤◌, Bool, true, false, List, [], ◌∷◌, length}
+use Rattle.std.proofs.Common.{get_or, Ordering, arith, Result, Ok, Err, inl, set}
 use Rattle.std.proofs.lemmas.Cmp.{alike_right}
 use Rattle.std.proofs.lemmas.List.Elements.{recursion_from_All}
 use Rattle.std.proofs.lemmas.List.Folds.{list_any_at}
 use Rattle.std.proofs.lemmas.List.Kept.{IsStrictlySortedBy-filter}
 use Rattle.std.proofs.lemmas.List.Sorted.{searchable_from_sorted}
 use Rattle.std.specs.Cmp.{IsEquivalence, IsTotalOrder}
-use Rattle.std.specs.List.{AllByRecursion, IsDistinct, filter, insert, list_any, remove}
-use Rattle.std.specs.List.Sorted.{IsBinarySearchResult, IsPartitionPoint, IsSearchInRange, IsSortedBy, IsStrictlySortedBy}
+use Rattle.std.specs.List.{AllByRecursion, IsDistinct, filter, insert, list_any}
+use Rattle.std.specs.List.Sorted.{IsBinarySearchResult, IsPartitionPoint, IsSearchInRange, IsStrictlySortedBy}
 use Rattle.std.specs.Ordering.{eq_by_cmp, is_eq, is_gt, is_lt}
 use Rattle.std.specs.Result.{is_ok}
 use Rattle.std.specs.declared.cmp.Ordering.TheVariants.{Less, Equal, Greater}
 use Rattle.ifmap_lemmas.specs.Filters.{all_around, all_at, all_filter, all_weaker, filter_all, filter_none, filter_passes}
 use Rattle.ifmap_lemmas.specs.Having.{Has, has_right}
 use Rattle.ifmap_lemmas.specs.Orderings.{greater_turned, is_greater, is_less, less_turned}
+use Rattle.ifmap_lemmas.specs.Rising.{rises_around, rises_in_order}
 use Rattle.ifmap_plans.specs.Placing.{IsSpot, put}
-
-module _ (X : Type 0) (E : X → X → Bool) (e : IsEquivalence E) where
-  -- those that follow one of a key have other keys
-  later_differ : (a x : X) (xs : List X) → E a x ≡ true → AllByRecursion (λ y. E x y ≡ false) xs
-      → AllByRecursion (λ y. not (E a y) ≡ true) xs
-  later_differ a x xs is h = all_weaker (λ y. E x y ≡ false) (λ y. not (E a y) ≡ true) (λ y n. ap not (e.congr a x y is ∙ n)) xs h
-
-  -- where keys are distinct, taking out one of a key leaves those of other keys
-  pub remove_one : (a : X) (xs : List X) (i : ℕ) → IsDistinct E xs → i < length xs → ((d : X) → E a (get_or xs i d) ≡ true)
-      → remove xs i ≡ filter (λ y. not (E a y)) xs
-  unfolding IsDistinct
-  remove_one a [] i apart lt is = absurd (omega arith)
-  remove_one a (x ∷ xs) zero apart lt is = rw (is x) (sym (filter_all (λ y. not (E a y)) xs (later_differ a x xs (is x) apart.0)))
-  remove_one a (x ∷ xs) (suc i) apart lt is =
-      let there : E x (get_or xs i x) ≡ false = all_at (λ y. E x y ≡ false) xs i x apart.0 (omega arith) in
-      let other : E a x ≡ false = e.congr a (get_or xs i x) x (is x) ∙ e.symm (get_or xs i x) x ∙ there in
-      rw other (ap (λ t. x ∷ t) (remove_one a xs i apart.1 (omega arith) is))
+pub use Rattle.ifmap_lemmas.specs.Inserted.{found_any, gap_none}
 
 module _ (X : Type 0) (C : X → X → Ordering) (o : IsTotalOrder C) where
   -- all that follow one that is not less are greater
@@ -83,46 +68,14 @@ module _ (X : Type 0) (C : X → X → Ordering) (o : IsTotalOrder C) where
       ))
       ∙ sym (put_less a x xs (p.0 0 x (omega arith) (omega arith)))
 
-  rises_next : (xs : List X) → IsStrictlySortedBy C xs → (j : ℕ) (d : X) → suc j < length xs
-      → is_lt (C (get_or xs (suc j) d) (get_or xs j d)) ≡ false
-  unfolding IsStrictlySortedBy
-  rises_next [] up j d lt = absurd (omega arith)
-  rises_next (x ∷ xs) up zero d lt = ap is_lt (less_turned o x (get_or xs 0 d) (all_at (λ z. C x z ≡ Less) xs 0 d up.0 (omega arith)))
-  rises_next (x ∷ xs) up (suc j) d lt = rises_next xs up.1 j d (omega arith)
-
-  rises : (xs : List X) → IsStrictlySortedBy C xs → IsSortedBy (λ a b. is_lt (C a b)) xs
-  rises xs up j d low lt = rw (add-one j) (rises_next xs up j d (omega arith))
-
   pub found_is_put : (a : X) (xs : List X) (i : ℕ) → IsStrictlySortedBy C xs → IsSearchInRange (Ok i) (length xs)
       → IsBinarySearchResult (λ y. C y a) xs (Ok i) → (i < length xs) × (set xs i a ≡ put C a xs)
   found_is_put a xs i up within is = (within, set_is_put a xs i up within is)
 
   pub gap_is_put : (a : X) (xs : List X) (i : ℕ) → IsStrictlySortedBy C xs → IsSearchInRange (Err i) (length xs)
       → IsBinarySearchResult (λ y. C y a) xs (Err i) → (i ≤ length xs) × (insert xs i a ≡ put C a xs)
-  gap_is_put a xs i up within is = (within, insert_is_put a xs i within (is (searchable_from_sorted o (λ y. y) xs a (rises xs up))))
-
-  -- a search that ends at one that is equal has found one, and one that ends between two has not
-  pub found_any : (a : X) (xs : List X) (i : ℕ) → IsSearchInRange (Ok i) (length xs) → IsBinarySearchResult (λ y. C y a) xs (Ok i)
-      → list_any (λ y. eq_by_cmp C y a) xs ≡ true
-  found_any a xs i within is = list_any_at (λ y. eq_by_cmp C y a) xs i a within (ap is_eq (is a))
-
-  none_at : (a : X) (xs : List X) (i : ℕ) → i ≤ length xs → IsPartitionPoint (λ y. C y a ≡ Less) (λ y. C y a ≡ Greater) xs i
-      → list_any (λ y. eq_by_cmp C y a) xs ≡ false
-  none_at a [] i le p = refl
-  none_at a (x ∷ xs) zero le p =
-      rw (p.1 0 x (omega arith) (omega arith)) (none_at a xs zero (omega arith) (
-        (λ j d low h. absurd (omega (arith, h))),
-        (λ j d low h. p.1 (suc j) d (omega arith) (omega (arith, h))),
-      ))
-  none_at a (x ∷ xs) (suc i) le p =
-      rw (p.0 0 x (omega arith) (omega arith)) (none_at a xs i (omega arith) (
-        (λ j d low h. p.0 (suc j) d (omega arith) (omega (arith, h))),
-        (λ j d low h. p.1 (suc j) d (omega (arith, low)) (omega (arith, h))),
-      ))
-
-  pub gap_none : (a : X) (xs : List X) (i : ℕ) → IsStrictlySortedBy C xs → IsSearchInRange (Err i) (length xs)
-      → IsBinarySearchResult (λ y. C y a) xs (Err i) → list_any (λ y. eq_by_cmp C y a) xs ≡ false
-  gap_none a xs i up within is = none_at a xs i within (is (searchable_from_sorted o (λ y. y) xs a (rises xs up)))
+  gap_is_put a xs i up within is =
+      (within, insert_is_put a xs i within (is (searchable_from_sorted o (λ y. y) xs a (rises_in_order C o xs up))))
 
   -- where a search by halving ends
   pub spot : (a : X) (xs : List X) (r : Result ℕ ℕ) → IsStrictlySortedBy C xs → IsSearchInRange r (length xs)
@@ -130,7 +83,7 @@ module _ (X : Type 0) (C : X → X → Ordering) (o : IsTotalOrder C) where
   spot a xs (Ok i) up within is = (within, is, set_is_put a xs i up within is)
   spot a xs (Err i) up within is =
       let placed = gap_is_put a xs i up within is in
-      (placed.0, placed.1, gap_none a xs i up within is)
+      (placed.0, placed.1, gap_none X C o a xs i up within is)
 
   -- and whether one is equal there
   pub spot_found : (a : X) (xs : List X) (r : Result ℕ ℕ) → IsSpot C a xs r → is_ok r ≡ list_any (λ y. eq_by_cmp C y a) xs
@@ -138,19 +91,9 @@ module _ (X : Type 0) (C : X → X → Ordering) (o : IsTotalOrder C) where
   spot_found a xs (Err i) at = sym at.2
 
   -- a list stays in strict order
-  sorted_around : (xs : List X) (a : X) (zs : List X) → IsStrictlySortedBy C xs → IsStrictlySortedBy C zs
-      → AllByRecursion (λ y. C y a ≡ Less) xs → AllByRecursion (λ y. C a y ≡ Less) zs → IsStrictlySortedBy C (xs ++ a ∷ zs)
-  unfolding IsStrictlySortedBy
-  sorted_around [] a zs up over below above = (above, over)
-  sorted_around (x ∷ xs) a zs up over below above = (
-    all_around (λ y. C x y ≡ Less) xs a zs up.0 below.0 (all_weaker (λ y. C a y ≡ Less) (λ y. C x y ≡ Less)
-        (λ y l. o.trans x a y below.0 l) zs above),
-    sorted_around xs a zs up.1 over below.1 above,
-  )
-
   pub put_sorted : (a : X) (xs : List X) → IsStrictlySortedBy C xs → IsStrictlySortedBy C (put C a xs)
   put_sorted a xs up =
-      sorted_around (filter (λ y. is_lt (C y a)) xs) a (filter (λ y. is_gt (C y a)) xs)
+      rises_around C o (filter (λ y. is_lt (C y a)) xs) a (filter (λ y. is_gt (C y a)) xs)
       (IsStrictlySortedBy-filter C (λ y. is_lt (C y a)) xs up) (IsStrictlySortedBy-filter C (λ y. is_gt (C y a)) xs up)
       (all_weaker (λ y. is_lt (C y a) ≡ true) (λ y. C y a ≡ Less) (λ y h. is_less (C y a) h) _ (filter_passes (λ y. is_lt (C y a)) xs))
       (all_weaker (λ y. is_gt (C y a) ≡ true) (λ y. C a y ≡ Less)

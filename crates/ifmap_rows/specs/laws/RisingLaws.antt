@@ -1,16 +1,17 @@
 -- Lists in a strict order: the one member that is equal to another, without it, and with one more.
-use Rattle.std.proofs.Common.{◌≡◌, ◌⊎◌, refl, sym, ◌∙◌, ap, subst, inl, inr, ℕ, suc, zero, ◌<◌, Bool, true, false, not, List, [], ◌∷◌, ◌++◌, length}
-use Rattle.std.proofs.Common.{get_or, Ordering, arith}
+use Rattle.std.proofs.Common.{◌≡◌, ◌⊎◌, refl, sym, ◌∙◌, ap, inl, inr, ℕ, ◌<◌, Bool, true, false, not, List, [], ◌∷◌, ◌++◌, length}
+use Rattle.std.proofs.Common.{get_or, Ordering}
 use Rattle.std.proofs.lemmas.Bool.{cases_Bool}
-use Rattle.std.proofs.lemmas.Cmp.{alike_right}
+use Rattle.std.proofs.lemmas.Cmp.{eq_by_cmp_equiv}
 use Rattle.std.specs.Cmp.{IsTotalOrder}
-use Rattle.std.specs.List.{AllByRecursion, filter, list_any, remove}
+use Rattle.std.specs.List.{filter, list_any, remove}
 use Rattle.std.specs.List.Sorted.{IsStrictlySortedBy}
-use Rattle.std.specs.Ordering.{eq_by_cmp, is_eq, is_gt, is_lt, ordering_reverse}
+use Rattle.std.specs.Ordering.{eq_by_cmp, is_eq, is_gt, is_lt}
 use Rattle.std.specs.declared.cmp.Ordering.TheVariants.{Less, Equal, Greater}
-use Rattle.ifmap_lemmas.specs.Filters.{all_at, all_weaker, filter_all}
-use Rattle.ifmap_lemmas.specs.Having.{Has, all_has, filter_has, has_any, has_either, has_filter, has_left, has_right}
-use Rattle.ifmap_lemmas.specs.Orderings.{eq_turned, is_greater, less_differs}
+use Rattle.ifmap_lemmas.specs.Filtered.{filter_agrees}
+use Rattle.ifmap_lemmas.specs.Having.{Has, filter_has, has_any, has_either, has_filter, has_left, has_right}
+use Rattle.ifmap_lemmas.specs.Orderings.{is_greater, less_differs}
+use Rattle.ifmap_lemmas.specs.Rising.{remove_tied}
 use Rattle.ifmap_plans.specs.Placing.{put}
 use Rattle.ifmap_rows.specs.Indexed.{without_one}
 
@@ -29,51 +30,12 @@ filter_within p q f (x ∷ xs) = elim (cases_Bool (q x)) [
 ]
 
 module _ (X : Type 0) (C : X → X → Ordering) (o : IsTotalOrder C) where
-  pub flip_eq : (a x : X) → is_eq (C a x) ≡ is_eq (C x a)
-  flip_eq a x = ap is_eq (o.antisymm a x) ∙ eq_turned (C x a)
-
-  below_all : (x y : X) (ys : List X) → C x y ≡ Less → AllByRecursion (λ z. C y z ≡ Less) ys → AllByRecursion (λ z. C x z ≡ Less) ys
-  below_all x y [] e a = tt
-  below_all x y (z ∷ zs) e a = (o.trans x y z e a.0, below_all x y zs e a.1)
-
-  -- a list in which each member is less than the next rises
-  pub climbs : (xs : List X) → ((k : ℕ) (d : X) → suc k < length xs → C (get_or xs k d) (get_or xs (suc k) d) ≡ Less)
-      → IsStrictlySortedBy C xs
-  unfolding IsStrictlySortedBy
-  climbs [] up = tt
-  climbs (x ∷ []) up = (tt, tt)
-  climbs (x ∷ (y ∷ ys)) up =
-      let rest : IsStrictlySortedBy C (y ∷ ys) = climbs (y ∷ ys) (λ k d l. up (suc k) d (omega arith)) in
-      let first : C x y ≡ Less = up 0 x (omega arith) in
-      ((first, below_all x y ys first rest.0), rest)
-
-  -- no two members are equal in the order
-  pub only_one : (xs : List X) (x y : X) → IsStrictlySortedBy C xs → Has xs x → Has xs y → C x y ≡ Equal → x ≡ y
-  unfolding IsStrictlySortedBy
-  only_one [] x y up h i e = absurd h
-  only_one (z ∷ zs) x y up (inl p) (inl q) e = sym p ∙ q
-  only_one (z ∷ zs) x y up (inl p) (inr q) e =
-      let less : C x y ≡ Less = subst (λ w. C w y ≡ Less) p (all_has (λ w. C z w ≡ Less) zs up.0 y q) in
-      cc
-  only_one (z ∷ zs) x y up (inr p) (inl q) e =
-      let less : C y x ≡ Less = subst (λ w. C w x ≡ Less) q (all_has (λ w. C z w ≡ Less) zs up.0 x p) in
-      let equal : C y x ≡ Equal = o.antisymm y x ∙ ap ordering_reverse e in
-      cc
-  only_one (z ∷ zs) x y up (inr p) (inr q) e = only_one zs x y up.1 p q e
-
   -- where a member is equal to one, the list without it is that without the one
   pub remove_is : (a : X) (xs : List X) (i : ℕ) → IsStrictlySortedBy C xs → i < length xs → ((d : X) → C (get_or xs i d) a ≡ Equal)
       → remove xs i ≡ without_one C a xs
-  unfolding IsStrictlySortedBy
-  remove_is a [] i up lt is = absurd (omega arith)
-  remove_is a (x ∷ xs) zero up lt is =
-      let here : C a x ≡ Equal = o.antisymm a x ∙ ap ordering_reverse (is x) in
-      rw here (sym (filter_all (λ y. not (eq_by_cmp C a y)) xs (all_weaker (λ y. C x y ≡ Less) (λ y. not (eq_by_cmp C a y) ≡ true)
-      (λ y l. ap (λ r. not (is_eq r)) (sym (o.congr x a y (is x)) ∙ l)) xs up.0)))
-  remove_is a (x ∷ xs) (suc i) up lt is =
-      let less : C x a ≡ Less = sym (alike_right o (get_or xs i x) a x (is x)) ∙ all_at (λ y. C x y ≡ Less) xs i x up.0 (omega arith) in
-      let more : C a x ≡ Greater = o.antisymm a x ∙ ap ordering_reverse less in
-      rw more (ap (λ t. x ∷ t) (remove_is a xs i up.1 (omega arith) is))
+  remove_is a xs i up lt is =
+      remove_tied C o a xs i up lt is
+      ∙ filter_agrees (λ y. not (is_eq (C y a))) (λ y. not (eq_by_cmp C a y)) xs (λ y h. ap not ((eq_by_cmp_equiv o).symm y a))
 
   -- and where none is, nothing goes
   pub none_out : (a : X) (xs : List X) → list_any (λ y. eq_by_cmp C y a) xs ≡ false → xs ≡ without_one C a xs
@@ -82,7 +44,7 @@ module _ (X : Type 0) (C : X → X → Ordering) (o : IsTotalOrder C) where
     | inl t ↦ let bad : true ≡ false = rw t at e in cc
     | inr t ↦
         let rest : list_any (λ y. eq_by_cmp C y a) xs ≡ false = rw t at e in
-        let other : is_eq (C a x) ≡ false = flip_eq a x ∙ t in
+        let other : is_eq (C a x) ≡ false = (eq_by_cmp_equiv o).symm a x ∙ t in
         rw other (ap (λ ys. x ∷ ys) (none_out a xs rest))
   ]
 
@@ -90,7 +52,7 @@ module _ (X : Type 0) (C : X → X → Ordering) (o : IsTotalOrder C) where
   pub none_equal : (a : X) (xs : List X) → list_any (λ y. eq_by_cmp C y a) xs ≡ false → (x : X) → Has xs x → is_eq (C a x) ≡ false
   none_equal a xs e x h = elim (cases_Bool (is_eq (C a x))) [
     | inl t ↦
-        let there : list_any (λ y. eq_by_cmp C y a) xs ≡ true = has_any (λ y. eq_by_cmp C y a) xs x h (sym (flip_eq a x) ∙ t) in
+        let there : list_any (λ y. eq_by_cmp C y a) xs ≡ true = has_any (λ y. eq_by_cmp C y a) xs x h ((eq_by_cmp_equiv o).symm x a ∙ t) in
         cc
     | inr f ↦ f
   ]
@@ -98,17 +60,18 @@ module _ (X : Type 0) (C : X → X → Ordering) (o : IsTotalOrder C) where
   -- what a list has after one is put in
   pub put_has : (a : X) (xs : List X) (x : X) → Has (put C a xs) x → (a ≡ x) ⊎ (Has xs x × (is_eq (C a x) ≡ false))
   put_has a xs x h = elim (has_either (filter (λ y. is_lt (C y a)) xs) (a ∷ filter (λ y. is_gt (C y a)) xs) x h) [
-    | inl l ↦ let p = filter_has (λ y. is_lt (C y a)) xs x l in inr (p.0, flip_eq a x ∙ less_differs (C x a) p.1)
+    | inl l ↦ let p = filter_has (λ y. is_lt (C y a)) xs x l in inr (p.0, (eq_by_cmp_equiv o).symm a x ∙ less_differs (C x a) p.1)
     | inr r ↦ elim r [
       | inl e ↦ inl e
-      | inr g ↦ let p = filter_has (λ y. is_gt (C y a)) xs x g in inr (p.0, flip_eq a x ∙ ap is_eq (is_greater (C x a) p.1))
+      | inr g ↦ let p = filter_has (λ y. is_gt (C y a)) xs x g in
+          inr (p.0, (eq_by_cmp_equiv o).symm a x ∙ ap is_eq (is_greater (C x a) p.1))
     ]
   ]
 
   has_by : (a : X) (xs : List X) (x : X) (r : Ordering) → C x a ≡ r → Has xs x → is_eq (C a x) ≡ false → Has (put C a xs) x
   has_by a xs x Less is h e = has_left (filter (λ y. is_lt (C y a)) xs) (a ∷ filter (λ y. is_gt (C y a)) xs) x
       (has_filter (λ y. is_lt (C y a)) xs x h (ap is_lt is))
-  has_by a xs x Equal is h e = let bad : true ≡ false = sym (ap is_eq is) ∙ sym (flip_eq a x) ∙ e in cc
+  has_by a xs x Equal is h e = let bad : true ≡ false = sym (ap is_eq is) ∙ (eq_by_cmp_equiv o).symm x a ∙ e in cc
   has_by a xs x Greater is h e = has_right (filter (λ y. is_lt (C y a)) xs) (a ∷ filter (λ y. is_gt (C y a)) xs) x
       (inr (has_filter (λ y. is_gt (C y a)) xs x h (ap is_gt is)))
 
@@ -116,10 +79,10 @@ module _ (X : Type 0) (C : X → X → Ordering) (o : IsTotalOrder C) where
   has_put a xs x h e = has_by a xs x (C x a) refl h e
 
   less_other : (a y : X) → is_lt (C y a) ≡ true → not (eq_by_cmp C a y) ≡ true
-  less_other a y h = ap not (flip_eq a y ∙ less_differs (C y a) h)
+  less_other a y h = ap not ((eq_by_cmp_equiv o).symm a y ∙ less_differs (C y a) h)
 
   greater_other : (a y : X) → is_gt (C y a) ≡ true → not (eq_by_cmp C a y) ≡ true
-  greater_other a y h = ap not (flip_eq a y ∙ ap is_eq (is_greater (C y a) h))
+  greater_other a y h = ap not ((eq_by_cmp_equiv o).symm a y ∙ ap is_eq (is_greater (C y a) h))
 
   -- what is equal may go before one is put in
   pub put_again : (a : X) (xs : List X) → put C a (without_one C a xs) ≡ put C a xs

@@ -11,11 +11,12 @@ use Rattle.std.specs.Int.{to_be_bytes, w128}
 use Rattle.std.specs.List.{AllByRecursion, IsDistinct, filter, find, list_any}
 use Rattle.std.specs.List.Sorted.{IsStrictlySortedBy}
 use Rattle.std.specs.declared.cmp.Ordering.TheVariants.{Less}
-use Rattle.ifmap_lemmas.specs.Filters.{all_filter, all_weaker, filter_shorter}
+use Rattle.ifmap_lemmas.specs.Filters.{all_filter, all_weaker, filter_shorter, found_all}
+use Rattle.ifmap_lemmas.specs.Found.{find_in_filter, find_none, one_less}
 use Rattle.ifmap_lemmas.specs.Members.{both_all, map_of_all}
 use Rattle.ifmap_session.specs.SessionIds.{BeginsWithSerial, session_id}
 use Rattle.ifmap_session.specs.Sessions.{IsTable, Session, SessionTable, change, is_same_text, most_sessions, session_of_client, session_order, session_with_serial, with_last, without_sessions, IsLive, expired_serials, is_expired}
-use Rattle.ifmap_session.specs.laws.TextLaws.{all_found, distinct_filter, distinct_keys_push, find_kept, find_none, rest_differ}
+use Rattle.ifmap_session.specs.laws.TextLaws.{distinct_filter, distinct_keys_push, rest_differ}
 use Rattle.uuid.specs.Text.{hyphenated_text, lower}
 
 -- a session that these numbers are not of
@@ -29,21 +30,6 @@ remains serial s = not (list_any (λ n. n == s.serial) (serial ∷ []))
 goes_itself : (s : Session) → remains s.serial s ≡ false
 goes_itself s = not_from_true (list_any (λ n. n == s.serial) (s.serial ∷ []))
     (or_left (s.serial == s.serial) false (eq-eqb s.serial s.serial refl))
-
--- one at least goes, where what a search finds does not pass
-one_less : {X : Type 0} (q p : X → Bool) (xs : List X) (x : X) → find q xs ≡ Some x → p x ≡ false → length (filter p xs) < length xs
-one_less q p [] x e out = cc
-one_less q p (y ∷ ys) x e out =
-    elim (cases_Bool (q y)) [
-      | inl hit ↦
-          let same : y ≡ x = cc (rw hit at e) in
-          let gone : p y ≡ false = subst (λ z. p z ≡ false) (sym same) out in
-          let rest = filter_shorter p ys in
-          rw gone (omega (arith, rest))
-      | inr miss ↦
-          let rest = one_less q p ys x (rw miss at e) out in
-          elim (cases_Bool (p y)) [ inl stays ↦ rw stays (omega (arith, rest)) | inr goes ↦ rw goes (omega (arith, rest)) ]
-    ]
 
 -- one ends
 pub ended_table : (serial : ℕ) (table : SessionTable) → IsTable table → IsTable
@@ -190,7 +176,7 @@ found_by_serial q (x ∷ live) s up e =
           rw (eq-eqb x.serial s.serial (ap (λ (t : Session). t.serial) same)) (ap Some same)
       | inr miss ↦
           let there : find q live ≡ Some s = rw miss at e in
-          let less : session_order x s ≡ Less = all_found (λ z. session_order x z ≡ Less) q live s up.0 there in
+          let less : session_order x s ≡ Less = found_all (λ z. session_order x z ≡ Less) q live up.0 s there in
           let other : (x.serial == s.serial) ≡ false = grind (arith, nat_tests, less) in
           rw other (found_by_serial q live s up.1 there)
     ]
@@ -202,7 +188,7 @@ other_remains serial n s other is = grind (arith, nat_tests, other, is)
 pub found_beside_ended : (serial n : ℕ) (live : List Session) (s : Session) → (n == serial) ≡ false → session_with_serial n live ≡ Some s
     → session_with_serial n (without_sessions (serial ∷ []) live) ≡ Some s
 found_beside_ended serial n live s other e =
-    find_kept (λ (t : Session). t.serial == n) (remains serial) (λ t. other_remains serial n t other) live s e
+    find_in_filter (λ (t : Session). t.serial == n) (remains serial) (λ t. other_remains serial n t other) live s e
 
 pub found_beside_begun : (n : ℕ) (live : List Session) (y s : Session) → session_with_serial n live ≡ Some s
     → session_with_serial n (live ++ y ∷ []) ≡ Some s

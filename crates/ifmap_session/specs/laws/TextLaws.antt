@@ -1,11 +1,13 @@
--- Texts, what a search in a list finds, and lists whose elements have different texts.
-use Rattle.std.proofs.Common.{◌≡◌, refl, sym, ◌∙◌, subst, ℕ, Bool, true, false, cond, List, [], ◌∷◌, ◌++◌, map, None, Some, inl, inr}
-use Rattle.std.proofs.lemmas.Bool.{cases_Bool}
+-- Texts, and lists whose elements have different texts.
+use Rattle.std.proofs.Common.{◌≡◌, sym, ◌∙◌, subst, ℕ, Bool, true, false, cond, List, [], ◌∷◌, ◌++◌, map, None, Some}
 use Rattle.std.proofs.lemmas.Cmp.{nat_list_eq_equiv}
 use Rattle.std.specs.Cmp.Lexicographic.{same_text}
 use Rattle.std.specs.List.{AllByRecursion, IsDistinct, filter, find}
 use Rattle.ifmap_session.specs.Sessions.{is_same_text}
+use Rattle.ifmap_lemmas.specs.Filters.{all_filter, found_all}
 use Rattle.ifmap_lemmas.specs.Finding.{none_passes}
+use Rattle.ifmap_lemmas.specs.Members.{all_last, all_of_map, map_of_all}
+pub use Rattle.ifmap_lemmas.specs.Found.{find_none, find_in_filter as find_kept}
 
 -- texts
 pub text_is : (a b : List ℕ) → is_same_text a b ≡ true → a ≡ b
@@ -22,38 +24,12 @@ text_flip a b = nat_list_eq_equiv.symm a b
 
 -- what a search finds is among the elements
 pub all_found : {X : Type 0} (P : X → Type 0) (p : X → Bool) (xs : List X) (x : X) → AllByRecursion P xs → find p xs ≡ Some x → P x
-all_found P p [] x h e = cc
-all_found P p (y ∷ ys) x h e =
-    elim (cases_Bool (p y)) [
-      | inl hit ↦ let same : y ≡ x = cc (rw hit at e) in subst P same h.0
-      | inr miss ↦ all_found P p ys x h.1 (rw miss at e)
-    ]
-
-pub find_none : {X : Type 0} (p : X → Bool) (xs : List X) → AllByRecursion (λ x. p x ≡ false) xs → find p xs ≡ None
-find_none p [] h = refl
-find_none p (x ∷ xs) h = rw h.0 (find_none p xs h.1)
-
--- what a search finds is found among those that a filter leaves, where whatever it looks for stays
-pub find_kept : {X : Type 0} (q p : X → Bool) → ((x : X) → q x ≡ true → p x ≡ true) → (xs : List X) (x : X) → find q xs ≡ Some x
-    → find q (filter p xs) ≡ Some x
-find_kept q p f [] x e = cc
-find_kept q p f (y ∷ ys) x e =
-    elim (cases_Bool (q y)) [
-      | inl hit ↦ rw (f y hit, hit) (rw hit at e)
-      | inr miss ↦
-          let rest = find_kept q p f ys x (rw miss at e) in
-          elim (cases_Bool (p y)) [ inl stays ↦ rw (stays, miss) rest | inr goes ↦ rw goes rest ]
-    ]
+all_found P p xs x h e = found_all P p xs h x e
 
 -- distinct texts
 all_map_filter : {X : Type 0} (key : X → List ℕ) (p : X → Bool) (P : List ℕ → Type 0) (xs : List X) → AllByRecursion P (map key xs)
     → AllByRecursion P (map key (filter p xs))
-all_map_filter key p P [] h = tt
-all_map_filter key p P (x ∷ xs) h =
-    elim (p x) as (λ b. AllByRecursion P (map key (cond b (x ∷ filter p xs) (filter p xs)))) [
-      | true ↦ (h.0, all_map_filter key p P xs h.1)
-      | false ↦ all_map_filter key p P xs h.1
-    ]
+all_map_filter key p P xs h = map_of_all P key (filter p xs) (all_filter (λ x. P (key x)) p xs (all_of_map P key xs h))
 
 pub distinct_filter : {X : Type 0} (key : X → List ℕ) (p : X → Bool) (xs : List X) → IsDistinct is_same_text (map key xs)
     → IsDistinct is_same_text (map key (filter p xs))
@@ -67,8 +43,7 @@ distinct_filter key p (x ∷ xs) h =
 
 all_map_push : {X : Type 0} (key : X → List ℕ) (P : List ℕ → Type 0) (xs : List X) (y : X) → AllByRecursion P (map key xs) → P (key y)
     → AllByRecursion P (map key (xs ++ y ∷ []))
-all_map_push key P [] y h k = (k, tt)
-all_map_push key P (x ∷ xs) y h k = (h.0, all_map_push key P xs y h.1 k)
+all_map_push key P xs y h k = map_of_all P key (xs ++ y ∷ []) (all_last (λ x. P (key x)) xs y (all_of_map P key xs h) k)
 
 pub distinct_keys_push : {X : Type 0} (key : X → List ℕ) (xs : List X) (y : X) → IsDistinct is_same_text (map key xs) → find
     (λ x. is_same_text (key x) (key y)) xs ≡ None → IsDistinct is_same_text (map key (xs ++ y ∷ []))

@@ -1,4 +1,6 @@
 use Rattle.std.proofs.Common.{◌≡◌, ◌∙◌, ap, sym, ◌+◌, []}
+use Rattle.ifmap_ident.specs.Items.{item_order}
+use Rattle.ifmap_lemmas.specs.Rising.{nothing_rises}
 use Rattle.ifmap_search.specs.Sizes.{entries_size}
 use Rattle.ifmap_fresh.specs.Fresh.{fresh}
 use Rattle.ifmap_region.specs.Marks.{mark_of, mark_over}
@@ -8,7 +10,7 @@ use Rattle.ifmap_delta.specs.Flipped.{AreFlipsOf}
 use Rattle.ifmap_delta.specs.Sights.{view_seen}
 use Rattle.ifmap_delta.proofs.Repairing.{repair_steps, repaired_marks, repaired_steps}
 use Rattle.ifmap_delta.proofs.Sizing.{sizes_differ}
-use Rattle.ifmap_delta.proofs.Staying.{all_settled, no_flips, none_rises}
+use Rattle.ifmap_delta.proofs.Staying.{all_settled, no_flips}
 use Rattle.ifmap_delta.proofs.Telling.{difference_is}
 use Rattle.ifmap_delta.proofs.changing.move_nothing.Given as given
 use Rattle.ifmap_delta.proofs.changing.move_nothing.Goals as goal
@@ -71,9 +73,11 @@ returns-clause-moved g c =
     c.levels_are_walks.ensures.expanded keeps keeps'
     in let a = fresh old.rows s
     in let b = fresh new.rows s
-    in let deleted : [] ≡ difference a b = difference_is tells old new s graph.graph draft.graph [] none_rises (λ x h. absurd h)
+    in let deleted : [] ≡ difference a b = difference_is tells old new s graph.graph draft.graph []
+    (nothing_rises item_order) (λ x h. absurd h)
     (λ x i f. let q = settled x i in (q.looked, q.stored))
-    in let updated : [] ≡ difference b a = difference_is tells new old s draft.graph graph.graph [] none_rises (λ x h. absurd h)
+    in let updated : [] ≡ difference b a = difference_is tells new old s draft.graph graph.graph []
+    (nothing_rises item_order) (λ x h. absurd h)
     (λ x i f. let q = settled x i in (sym q.looked, λ h. sym (q.stored (q.looked ∙ h))))
     in record {
       deleted = c.new.ensures ∙ deleted;

@@ -4,11 +4,11 @@ use Rattle.std.specs.List.Sorted.{IsStrictlySortedBy}
 use Rattle.std.specs.Ordering.{is_eq}
 use Rattle.std.specs.declared.cmp.Ordering.TheVariants.{Equal}
 use Rattle.ifmap_lemmas.specs.Having.{has_from}
+use Rattle.ifmap_lemmas.specs.Inserted.{gap_none}
 use Rattle.ifmap_meta.specs.declared.stored.Stored.{Stored}
 use Rattle.ifmap_plans.specs.Placing.{put}
 use Rattle.ifmap_plans.specs.laws.KeyLaws.{stored_total}
 use Rattle.ifmap_plans.specs.laws.ListLaws.{rising_put}
-use Rattle.ifmap_plans.specs.laws.PlacingLaws.{gap_none}
 use Rattle.ifmap_view.specs.Attachments.{stored_order}
 use Rattle.ifmap_delta.proofs.Touching.{none_more, one_more}
 use Rattle.ifmap_delta.proofs.differing.put_like.Goals as goal

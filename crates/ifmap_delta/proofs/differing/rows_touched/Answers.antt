@@ -1,12 +1,13 @@
 use Rattle.std.proofs.Common.{rules, ◌≡◌, ◌∙◌, ap, sym, subst, ◌++◌, []}
 use Rattle.std.specs.List.Sorted.{IsStrictlySortedBy}
+use Rattle.ifmap_lemmas.specs.Rising.{nothing_rises}
 use Rattle.ifmap_view.specs.Attachments.{stored_order}
 use Rattle.ifmap_delta.specs.Touched.{rows_touched_by}
-use Rattle.ifmap_delta.proofs.Touching.{none_touched, nothing_rises}
+use Rattle.ifmap_delta.proofs.Touching.{none_touched}
 use Rattle.ifmap_delta.proofs.differing.rows_touched.Goals as goal
 
 pub put_touched-requires-clause-found : goal.put_touched-requires-clause-found
-put_touched-requires-clause-found c = subst (IsStrictlySortedBy stored_order) (sym c.new-found.ensures.items) nothing_rises
+put_touched-requires-clause-found c = subst (IsStrictlySortedBy stored_order) (sym c.new-found.ensures.items) (nothing_rises stored_order)
 
 pub returns : goal.returns
 returns c =

@@ -3,14 +3,15 @@ use Rattle.ifmap_ident.specs.Items.{IsCanonItem}
 use Rattle.ifmap_folds.specs.Notes.{told_notes}
 use Rattle.ifmap_delta.specs.Located.{IsLocated}
 use Rattle.ifmap_delta.specs.Sights.{view_seen}
-use Rattle.ifmap_delta.proofs.Along.{item_holds, notes_more}
+use Rattle.ifmap_delta.proofs.Along.{notes_more}
 use Rattle.ifmap_delta.proofs.InStep.{each_at}
 use Rattle.ifmap_delta.proofs.noting.told_of.Goals as goal
+use Rattle.ifmap_lemmas.specs.Stepping.{member_holds}
 
 pub add_told-requires-clause-canon : goal.add_told-requires-clause-canon
 add_told-requires-clause-canon g c =
-    item_holds (λ n. IsCanonItem n.item) c.args.notes.now c.loop-i.i c.index-notes-i.result c.requires.canon c.loop-i-test.true
-    c.index-notes-i.is
+    member_holds (λ n. IsCanonItem n.item) c.args.notes.now c.loop-i.i c.index-notes-i.result c.loop-i-test.true
+    c.index-notes-i.is c.requires.canon
 
 pub add_told-requires-clause-located : goal.add_told-requires-clause-located
 add_told-requires-clause-located g c =

@@ -1,10 +1,10 @@
 use Rattle.std.proofs.Common.{rules, ◌≡◌, None}
 use Rattle.std.proofs.lemmas.Fn.{always_returns_same}
 use Rattle.ifmap_ident.specs.Items.{item_order}
-use Rattle.ifmap_plans.specs.laws.PlacingLaws.{gap_none}
 use Rattle.ifmap_delta.specs.declared.pairing.TouchedItem.{TouchedItem}
 use Rattle.ifmap_delta.proofs.Beside.{none_same, rises_on, same_turned, touched_order, touched_total}
 use Rattle.ifmap_delta.proofs.pairing.find_item.Goals as goal
+use Rattle.ifmap_lemmas.specs.Inserted.{gap_none}
 
 pub returns-in-Ok-clause-same : goal.returns-in-Ok-clause-same
 returns-in-Ok-clause-same c d =

@@ -5,14 +5,15 @@ use Rattle.ifmap_ident.specs.declared.items.Item.{Item}
 use Rattle.ifmap_delta.specs.Located.{IsLocatedTwice}
 use Rattle.ifmap_delta.specs.Sights.{view_seen}
 use Rattle.ifmap_delta.specs.Touched.{planned_items}
-use Rattle.ifmap_delta.proofs.Along.{item_holds, planned_more}
+use Rattle.ifmap_delta.proofs.Along.{planned_more}
 use Rattle.ifmap_delta.proofs.InStep.{each_at}
 use Rattle.ifmap_delta.proofs.touched.add_planned.Goals as goal
+use Rattle.ifmap_lemmas.specs.Stepping.{member_holds}
 
 pub add_changed-requires-clause-canon : goal.add_changed-requires-clause-canon
 add_changed-requires-clause-canon g c =
-    item_holds (λ d. IsCanonItem d.item) c.args.changes.now c.loop-i.i c.index-changes-i.result c.requires.canon c.loop-i-test.true
-    c.index-changes-i.is
+    member_holds (λ d. IsCanonItem d.item) c.args.changes.now c.loop-i.i c.index-changes-i.result c.loop-i-test.true
+    c.index-changes-i.is c.requires.canon
 
 pub add_changed-requires-clause-located : goal.add_changed-requires-clause-located
 add_changed-requires-clause-located g c =

@@ -1,8 +1,9 @@
 use Rattle.std.proofs.Common.{ℕ, IsSome, ap, sym, ◌∙◌}
+use Rattle.ifmap_lemmas.specs.Emptiness.{nothing_in}
 use Rattle.slab.specs.Slab.{get}
 use Rattle.ifmap_graph.specs.Shelved.{list_at}
 use Rattle.ifmap_graph.specs.Sides.{list_now}
-use Rattle.ifmap_graph.proofs.Passing.{rest_has, passing, nothing_in}
+use Rattle.ifmap_graph.proofs.Passing.{rest_has, passing}
 use Rattle.ifmap_graph.proofs.after.first_of.Goals as goal
 
 pub loop-item-preserved : goal.loop-item-preserved

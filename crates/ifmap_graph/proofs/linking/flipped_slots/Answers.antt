@@ -1,8 +1,8 @@
 use Rattle.std.proofs.Common.{◌++◌, [], ap, ◌∙◌}
 use Rattle.std.specs.List.{cons_option}
+use Rattle.ifmap_lemmas.specs.Stepping.{found_more}
 use Rattle.ifmap_plans.specs.declared.plans.ItemChange.{ItemChange}
 use Rattle.ifmap_graph.specs.Touched.{flip_of}
-use Rattle.ifmap_graph.proofs.Joining.{found_more}
 use Rattle.ifmap_graph.proofs.linking.flipped_slots.Goals as goal
 
 pub loop-change-preserved : goal.loop-change-preserved

@@ -1,8 +1,8 @@
 use Rattle.std.proofs.Common.{refl, ap, sym, ◌∙◌, subst, inl, inr, IsSome, arith}
+use Rattle.ifmap_lemmas.specs.Emptiness.{nothing_in, some_there}
 use Rattle.ifmap_view.specs.Rows.{stored_on}
 use Rattle.ifmap_graph.proofs.Filling.{filled_less, filled_still}
 use Rattle.ifmap_graph.proofs.Lessening.{inside_written, is_bare, is_there_still, less_on, less_removed, less_written, waited_there}
-use Rattle.ifmap_graph.proofs.Passing.{nothing_in, some_there}
 use Rattle.ifmap_graph.proofs.releasing.release_item.Goals as goal
 
 pub unwait-requires : goal.unwait-requires

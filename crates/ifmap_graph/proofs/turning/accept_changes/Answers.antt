@@ -1,7 +1,8 @@
 use Rattle.std.proofs.Common.{◌<◌, ◌≤◌, length, get_or, sym, ◌∙◌, arith}
 use Rattle.std.proofs.lemmas.Simd.{map-map}
+use Rattle.ifmap_lemmas.specs.Stepping.{some_in}
 use Rattle.ifmap_plans.specs.declared.plans.ItemChange.{ItemChange}
-use Rattle.ifmap_graph.proofs.Accepting.{accepted_bare, accepted_lists, accepted_now, accepting, accepts_on, drafted_at, here_changed, some_in, stored_at, as_many}
+use Rattle.ifmap_graph.proofs.Accepting.{accepted_bare, accepted_lists, accepted_now, accepting, accepts_on, drafted_at, here_changed, stored_at, as_many}
 use Rattle.ifmap_graph.proofs.turning.accept_changes.Goals as goal
 use Rattle.ifmap_graph.specs.Out.{items_changed}
 

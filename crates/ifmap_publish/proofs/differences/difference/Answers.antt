@@ -1,8 +1,8 @@
 use Rattle.std.proofs.Common.{◌≡◌, ◌∙◌, refl, ap, sym, not, Bool, List, [], ◌∷◌, ◌++◌}
 use Rattle.std.specs.List.{AllByRecursion, list_any}
+use Rattle.ifmap_lemmas.specs.Stepping.{kept_more, passed_more}
 use Rattle.ifmap_meta.specs.declared.stored.Stored.{Stored}
 use Rattle.ifmap_rows.specs.ifmap_plans.Lists.{same_stored}
-use Rattle.ifmap_rows.specs.ifmap_plans.laws.KeepingLaws.{kept_more, passed_more}
 use Rattle.ifmap_publish.proofs.Passing.{tells_later, tells_now}
 use Rattle.ifmap_publish.proofs.differences.difference.Goals as goal
 use Rattle.ifmap_publish.proofs.differences.difference.Goals.{then-not-begins_with+in_ok-share+in_ok-push, else-not-begins_with}

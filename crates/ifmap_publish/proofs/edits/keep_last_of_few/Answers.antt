@@ -1,10 +1,11 @@
 use Rattle.std.proofs.Common.{◌∙◌, ◌+◌, ap, arith, drop, subst, sym}
 use Rattle.std.specs.List.{AllByRecursion}
+use Rattle.ifmap_lemmas.specs.Stepping.{member_holds}
 use Rattle.ifmap_meta.specs.Whole.{IsWhole}
 use Rattle.ifmap_meta.specs.declared.stored.Stored.{Stored}
 use Rattle.ifmap_publish.specs.OnItems.{attach_all}
 use Rattle.ifmap_publish.specs.Working.{IsSound, over_keys}
-use Rattle.ifmap_publish.proofs.Attaching.{attach_end, attach_next, one_of, sound_attached}
+use Rattle.ifmap_publish.proofs.Attaching.{attach_end, attach_next, sound_attached}
 use Rattle.ifmap_publish.proofs.Gathering.{none_sound, one_attached}
 use Rattle.ifmap_publish.proofs.edits.keep_last_of_few.Goals as goal
 
@@ -17,12 +18,12 @@ loop-row-init c = record {
 pub put_over_keys-requires-clause-more : goal.put_over_keys-requires-clause-more
 put_over_keys-requires-clause-more c =
     subst (AllByRecursion IsWhole) (sym c.from_ref.ensures.value)
-    (one_of IsWhole c.args.rows.now c.loop-row.row-index c.row-item.result c.loop-row-test.true c.row-item.is c.requires, tt)
+    (member_holds IsWhole c.args.rows.now c.loop-row.row-index c.row-item.result c.loop-row-test.true c.row-item.is c.requires, tt)
 
 pub loop-row-preserved : goal.loop-row-preserved
 loop-row-preserved c =
     let row : Stored = c.row-item.result in
-    let w : IsWhole row = one_of IsWhole c.args.rows.now c.loop-row.row-index row c.loop-row-test.true c.row-item.is c.requires in
+    let w : IsWhole row = member_holds IsWhole c.args.rows.now c.loop-row.row-index row c.loop-row-test.true c.row-item.is c.requires in
     let is = c.in_ok-put_over_keys.ensures ∙ ap (over_keys c.loop-row.last) c.from_ref.ensures.value
     ∙ one_attached c.loop-row.last row row (λ i. row) in
     record {

@@ -1,6 +1,6 @@
 use Rattle.std.proofs.Common.{◌≡◌, ◌∙◌, ap, sym, Bool, [], ◌∷◌, ◌++◌}
+use Rattle.ifmap_lemmas.specs.Stepping.{kept_more, passed_more}
 use Rattle.ifmap_meta.specs.declared.stored.Stored.{Stored}
-use Rattle.ifmap_rows.specs.ifmap_plans.laws.KeepingLaws.{kept_more, passed_more}
 use Rattle.ifmap_publish.specs.Retract.{is_of}
 use Rattle.ifmap_publish.proofs.retracting.rows_of.Goals as goal
 use Rattle.ifmap_publish.proofs.retracting.rows_of.Goals.{then-is_of+in_ok-share+in_ok-push, else-is_of}

@@ -1,8 +1,8 @@
 use Rattle.std.specs.BTreeMap.{get}
 use Rattle.ifmap_ident.specs.Items.{item_order}
+use Rattle.ifmap_lemmas.specs.Stepping.{member_holds}
 use Rattle.ifmap_requests.specs.Fit.{IsFitOp}
 use Rattle.ifmap_publish.specs.Working.{working_rows}
-use Rattle.ifmap_publish.proofs.Attaching.{one_of}
 use Rattle.ifmap_publish.proofs.Entries.{none_applied, one_more}
 use Rattle.ifmap_publish.proofs.working.apply_all.Goals as goal
 
@@ -12,7 +12,7 @@ loop-op-init g c = none_applied (g.V.View.rows c.args.view.now) c.args.author.no
 
 pub apply_one-requires-clause-fit : goal.apply_one-requires-clause-fit
 apply_one-requires-clause-fit g c =
-    one_of IsFitOp c.args.ops.now c.loop-op.op-index c.op-item.result c.loop-op-test.true c.op-item.is c.requires.ops
+    member_holds IsFitOp c.args.ops.now c.loop-op.op-index c.op-item.result c.loop-op-test.true c.op-item.is c.requires.ops
 
 pub loop-op-preserved : goal.loop-op-preserved
 loop-op-preserved g c = record {

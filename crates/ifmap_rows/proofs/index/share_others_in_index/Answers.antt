@@ -1,9 +1,9 @@
 use Rattle.std.proofs.Common.{◌∙◌, ap, sym, not, Bool, [], ◌∷◌, ◌++◌}
 use Rattle.std.specs.List.{list_any}
 use Rattle.std.specs.Ordering.{eq_by_cmp}
+use Rattle.ifmap_lemmas.specs.Stepping.{kept_more, passed_more}
 use Rattle.ifmap_meta.specs.declared.stored.Stored.{Stored}
 use Rattle.ifmap_plans.specs.ifmap_view.Attachments.{stored_order}
-use Rattle.ifmap_plans.specs.laws.KeepingLaws.{kept_more, passed_more}
 use Rattle.ifmap_rows.proofs.index.share_others_in_index.Goals as goal
 use Rattle.ifmap_rows.proofs.index.share_others_in_index.Goals.{then-not-is_among+in_ok-share+in_ok-push, else-not-is_among}
 

@@ -1,4 +1,3 @@
-use Rattle.std.proofs.Common.{Option, Some, None, IfNone}
 use Rattle.std.specs.Option.{option_copied}
 use Rattle.std.proofs.lemmas.Option.{IfSome_then}
 use Rattle.slab.specs.Slab.{get}
@@ -7,11 +6,8 @@ use Rattle.ifmap_graph.specs.Sides.{list_now}
 use Rattle.ifmap_ident.specs.Items.{IsCanonItem}
 use Rattle.ifmap_graph.proofs.Following.{first_has, next_is, none_is}
 use Rattle.ifmap_graph.proofs.shelves.Shelves.item_after.Goals as goal
+use Rattle.ifmap_lemmas.specs.Absent.{if_none_weaker}
 use Rattle.ifmap_lemmas.specs.Having.{all_has}
-
-none_weaker : {X : Type 0} (o : Option X) (P Q : Type 0) → (P → Q) → IfNone o P → IfNone o Q
-none_weaker None P Q f h = f h
-none_weaker (Some x) P Q f h = h
 
 pub returns-clause-found : goal.returns-clause-found
 returns-clause-found g c =
@@ -21,7 +17,7 @@ returns-clause-found g c =
 
 pub returns-clause-none : goal.returns-clause-none
 returns-clause-none g c =
-    none_weaker c.first_after.result _ _
+    if_none_weaker c.first_after.result _ _
     (none_is (λ at. list_at list_now (get c.args.self.now.slots at)) c.args.self.now.places.entries c.requires.rising
     (option_copied c.args.item)) c.first_after.ensures.none
 
