@@ -3,8 +3,7 @@
 -- later (`numbered_stays`, `prefix_final`); (3) pieces: none, one and then another, bytes and then a piece, the same piece
 -- otherwise said; (4) many pieces, one after another; (5) the pieces of an element: its name, an attribute, its content.
 use Rattle.std.proofs.Common.{◌≡◌, ◌≢◌, ℕ, ◌+◌, ◌<◌, ◌≤◌, List, [], ◌∷◌, ◌++◌, map, take, length, get_or, Bool, true, Option, None, refl, ap, sym, ◌∙◌, subst, inl, inr, Bor, append_assoc}
-use Rattle.std.proofs.lemmas.List.{take_more, take_all, append-nil}
-use Rattle.std.proofs.lemmas.List.Concat.{flat_map-append}
+use Rattle.std.proofs.lemmas.List.{take_all, append-nil}
 use Rattle.std.proofs.lemmas.Bool.{cases_Bool}
 use Rattle.std.specs.Prelude.{codes}
 use Rattle.std.specs.List.{flat_map}
@@ -27,6 +26,7 @@ use Rattle.ifmap_elem.specs.laws.ArrangedLaws.{arranged_in, arranged_text}
 use Rattle.ifmap_elem.specs.laws.NamespaceLaws.{adds_none, adds_both}
 use Rattle.ifmap_lemmas.specs.Texts.{eq_itself}
 use Rattle.ifmap_lemmas.specs.Absent.{none_where_not_some}
+use Rattle.ifmap_lemmas.specs.Runs.{flat_map-next}
 use Rattle.ifmap_elem.proofs.PrintedLaws.{two_written, content_written, element_is, root_printed, referred_attributes}
 use Rattle.ifmap_elem.proofs.SpaceLaws.{spaces_arranged, adds_element, referred_spaces}
 use Rattle.ifmap_elem.specs.laws.PrintedElements.{attribute_space}
@@ -137,12 +137,6 @@ adds_as a b xs ys p q s t e f h = record {
   extends = h.extends;
   written = λ final g. h.written final g ∙ ap (λ l. s ++ l) (f (name_prefixes final));
 }
-
-flat_map-next : {X Y : Type 0} (f : X → List Y) (xs : List X) (i : ℕ) (x : X) → i < length xs → x ≡ get_or xs i x
-    → flat_map f (take i xs) ++ f x ≡ flat_map f (take (i + 1) xs)
-flat_map-next f xs i x l is =
-    sym (ap (flat_map f) (take_more xs i x l) ∙ flat_map-append f (take i xs) (get_or xs i x ∷ [])
-    ∙ ap (λ ys. flat_map f (take i xs) ++ ys) (append-nil (f (get_or xs i x)) ∙ ap f (sym is)))
 
 -- one piece more
 pub pieces_next : {X : Type 0} (f : X → Spaces) (g : Rows → X → List ℕ) (xs : List X) (i : ℕ) (x : X) (a b c : Spaces) (s t u : List ℕ)

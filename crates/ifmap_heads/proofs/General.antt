@@ -3,17 +3,6 @@ use Rattle.std.proofs.Common.{◌≡◌, ℕ, ◌≤◌, ◌⊎◌, inl, inr, Li
 use Rattle.std.specs.List.{All}
 use Rattle.std.proofs.Math.ListN.{get_or-append}
 
--- of two fronts of one list, the longer goes on from the shorter
-pub shared_front : (short long : List ℕ) {more rest : List ℕ} → short ++ rest ≡ long ++ more
-    → length short ≤ length long → (middle : List ℕ) × (long ≡ short ++ middle) × (rest ≡ middle ++ more)
-shared_front [] long e le = (long, refl, e)
-shared_front (x ∷ short) [] e le = absurd (omega arith)
-shared_front (x ∷ short) (y ∷ long) {more} {rest} e le =
-    let tails : short ++ rest ≡ long ++ more = cc in
-    let le-tails : length short ≤ length long = omega arith in
-    let (middle, p, q) = shared_front short long tails le-tails in
-    (middle, cc, q)
-
 -- b goes on from a by middle, and c is middle and then d
 pub record GoesOn (a c b d : List ℕ) : Type 0 where
   pub middle : List ℕ

@@ -1,8 +1,7 @@
 -- Tests: what their answers exclude, what several of them say together, and what holds of a choice by one.
 use Rattle.std.proofs.Common.{◌≡◌, ℕ, Bool, true, false, ◌&&◌, ◌||◌, ◌==◌, refl, sym, ◌∙◌}
 use Rattle.std.specs.Prelude.{◌↔◌, IsTrue, if◌then◌else◌}
-use Rattle.std.specs.Bool.{OnTrue}
-use Rattle.std.proofs.Math.Bool.{beq}
+use Rattle.std.specs.Bool.{OnTrue, beq}
 use Rattle.std.proofs.lemmas.Bool.{eq-eqb}
 
 -- ---- one test
