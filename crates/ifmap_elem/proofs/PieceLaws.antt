@@ -27,7 +27,8 @@ use Rattle.ifmap_elem.specs.laws.NamespaceLaws.{adds_none, adds_both}
 use Rattle.ifmap_lemmas.specs.Texts.{eq_itself}
 use Rattle.ifmap_lemmas.specs.Absent.{none_where_not_some}
 use Rattle.ifmap_lemmas.specs.Runs.{flat_map-next}
-use Rattle.ifmap_elem.proofs.PrintedLaws.{two_written, content_written, element_is, root_printed, referred_attributes}
+use Rattle.ifmap_lemmas.specs.Joined.{joined_twice}
+use Rattle.ifmap_elem.proofs.PrintedLaws.{content_written, element_is, root_printed, referred_attributes}
 use Rattle.ifmap_elem.proofs.SpaceLaws.{spaces_arranged, adds_element, referred_spaces}
 use Rattle.ifmap_elem.specs.laws.PrintedElements.{attribute_space}
 use Rattle.std.proofs.lemmas.List.Concat.{flat_map_single}
@@ -188,9 +189,9 @@ piece_attribute attribute a b s t u v w x p h q r z = record {
   added = h.added;
   extends = h.extends;
   written = λ final f.
-      two_written s t x (codes " ") _ p
-      (two_written t u x (printed_name (name_prefixes final) attribute.name) _ (h.written final f)
-      (two_written u v x (codes "=\"") _ q (two_written v w x (value_bytes attribute.value) (codes "\"") r z)));
+      joined_twice s t x (codes " ") _ p
+      (joined_twice t u x (printed_name (name_prefixes final) attribute.name) _ (h.written final f)
+      (joined_twice u v x (codes "=\"") _ q (joined_twice v w x (value_bytes attribute.value) (codes "\"") r z)));
 }
 
 pub piece_content : (f : Child → Spaces) (g : Rows → Child → List ℕ) (children : List Child) (name : Name) (prefix : Option (List ℕ))
@@ -273,7 +274,7 @@ piece_root element given first a b all listed prefix i j k inside s t u v w x no
     let rest = after_attributes_bytes (printed_name (name_prefixes all) element.name)
     (map (λ c. child_bytes (name_prefixes all) (arrange_child c)) element.children) in
     let printed : k ≡ tag ++ rest =
-    two_written i j k tag rest (attributes.written all (final_before b all all content.extends final)) (content.written all final)
+    joined_twice i j k tag rest (attributes.written all (final_before b all all content.extends final)) (content.written all final)
     ∙ ap (λ l. l ++ (tag ++ rest)) empty in
     root_printed element given all t u v w (w ++ tag) x (adds_element element first a b all name attributes.added content.added [] none)
     (p ∙ ap (λ l. l ++ codes "<") new) (q ∙ ap (λ o. t ++ after_prefix o element.name.local) named)

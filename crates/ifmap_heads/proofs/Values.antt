@@ -10,6 +10,7 @@ use Rattle.std.proofs.lemmas.Bool.Decides.{nat_tests}
 use Rattle.std.proofs.lemmas.Int.Digits.{digits_value_push}
 use Rattle.std.proofs.lemmas.List.{take_more}
 use Rattle.std.proofs.lemmas.List.Folds.{list_all-append}
+use Rattle.ifmap_lemmas.specs.Letters.{digit_between}
 use Rattle.ifmap_heads.specs.Fields.{comma_parts}
 
 pub room_for_digit : (n i : ℕ) → n < 10 ^ i → i < 18 → n * 10 + 9 < 2 ^ 64
@@ -21,9 +22,6 @@ room_for_digit n i less few =
 
 digit_of : (b : ℕ) → 48 ≤ b → b ≤ 57 → digit_value b ≡ b - 48
 digit_of b low high = grind (arith, nat_tests)
-
-digit_is : (b : ℕ) → 48 ≤ b → b ≤ 57 → is_ascii_digit b ≡ true
-digit_is b low high = grind (arith, nat_tests)
 
 pub digit_pushed : (value : List ℕ) (i number d : ℕ) → i < length value → number ≡ digits_value 10 (take i value)
     → number < 10 ^ i → list_all is_ascii_digit (take i value) ≡ true
@@ -37,7 +35,7 @@ digit_pushed value i number d within is less all low high digit =
     let last = digit_of b low high in (
       rw more (rw digits_value_push (rw (last, ← digit, ← is) refl)),
       omega (arith, power),
-      rw more (rw list_all-append (rw (all, digit_is b low high) refl)),
+      rw more (rw list_all-append (rw (all, digit_between b low high) refl)),
     )
 
 -- no comma stands among the bytes
