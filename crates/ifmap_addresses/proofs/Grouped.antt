@@ -12,7 +12,7 @@ use Rattle.std.specs.Str.{byte}
 use Rattle.ifmap_addresses.specs.DigitLaws.{hex_digits}
 use Rattle.ifmap_addresses.specs.IpV6.{four_hex_digits, ip_v6_text}
 use Rattle.ifmap_addresses.specs.Values.{IsDigit}
-use Rattle.ifmap_addresses.specs.OrderLaws.{closed_apart}
+use Rattle.ifmap_lemmas.specs.Closing.{closed_apart}
 use Rattle.ifmap_lemmas.specs.Orderings.{then_then}
 
 -- ---- what is left of a group's digits and the colon after them

@@ -1,7 +1,7 @@
--- Runs of tests along a list: what all or some members pass, and what a filter leaves of a front.
-use Rattle.std.proofs.Common.{◌≡◌, ℕ, suc, ◌+◌, ◌<◌, Bool, true, false, cond, ◌&&◌, ◌||◌, List, [], ◌∷◌, ◌++◌, length, map, take, drop, get_or, option_to_list}
+-- Runs along a list: tests that all or some members pass, a bound of each, and what a filter leaves of a front.
+use Rattle.std.proofs.Common.{◌≡◌, ℕ, zero, suc, ◌+◌, ◌<◌, Bool, true, false, cond, ◌&&◌, ◌||◌, List, [], ◌∷◌, ◌++◌, length, map, take, drop, get_or, option_to_list}
 use Rattle.std.proofs.Common.{Option, Some, None, is_some, refl, ap, sym, ◌∙◌, inl, inr}
-use Rattle.std.specs.List.{filter, flat_map, list_all, list_any}
+use Rattle.std.specs.List.{AllByRecursion, filter, flat_map, list_all, list_any}
 use Rattle.std.proofs.lemmas.Bool.{cases_Bool, or_parts}
 use Rattle.std.proofs.lemmas.List.{append-nil, take-append-drop, take_more}
 use Rattle.std.proofs.lemmas.List.Concat.{flat_map-append}
@@ -46,6 +46,17 @@ any_last p (y ∷ ys) x h = elim (cases_Bool (p y)) [
   | inl e ↦ rw e refl
   | inr e ↦ rw e (any_last p ys x h)
 ]
+
+-- ---- numbers below a bound
+
+pub below_at : (bound : ℕ) (xs : List ℕ) → 0 < bound → AllByRecursion (λ n. n < bound) xs → (i : ℕ) → get_or xs i 0 < bound
+below_at bound [] p h i = p
+below_at bound (x ∷ xs) p h i =
+    elim i as (λ j. get_or (x ∷ xs) j 0 < bound) [ zero ↦ h.0 | suc j ↦ below_at bound xs p h.1 j ]
+
+pub all_below : (bound : ℕ) (xs : List ℕ) → ((i : ℕ) → get_or xs i 0 < bound) → AllByRecursion (λ n. n < bound) xs
+all_below bound [] f = tt
+all_below bound (x ∷ xs) f = (f 0, all_below bound xs (λ i. f (suc i)))
 
 -- ---- fronts
 

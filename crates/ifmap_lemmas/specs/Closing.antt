@@ -1,4 +1,4 @@
--- How texts compare that are closed by one byte: by one below theirs, and by one that they don't have.
+-- How lists of numbers compare that are closed by one number: by one below theirs, and by one that they don't have.
 use Rattle.std.proofs.Common.{◌≡◌, ℕ, ◌<◌, ◌≢◌, false, List, [], ◌∷◌, ◌++◌, refl, ap, sym, ◌∙◌}
 use Rattle.std.proofs.lemmas.Map.Lookups.{exact_unsigned}
 use Rattle.std.specs.Cmp.{nat_cmp_is, nat_cmp_total, tied_itself}
@@ -22,7 +22,7 @@ closed_below t (b ∷ p) (d ∷ q) x y f g =
 apart : (b c : ℕ) → b ≢ c → is_eq (nat_cmp b c) ≡ false
 apart b c f = not_tied (nat_cmp b c) (λ e. f (exact_unsigned b c e))
 
--- once two bytes differ, whatever follows
+-- once two numbers differ, whatever follows
 settled : (b c : ℕ) (o p r : Ordering) → b ≢ c → ordering_then (nat_cmp b c) o ≡ ordering_then (ordering_then (nat_cmp b c) p) r
 settled b c o p r f = then_decided (nat_cmp b c) o (ordering_then p r) (apart b c f) ∙ then_then (nat_cmp b c) p r
 
