@@ -53,6 +53,12 @@ agree_and true false others h = cc
 agree_and false true others h = cc
 agree_and false false others h = (refl, h)
 
+-- two tests that tell one thing answer alike
+pub answer_alike : (a b : Bool) (P : Type 0) → (IsTrue a ↔ P) → (IsTrue b ↔ P) → a ≡ b
+answer_alike true b P h k = sym (k.1 (h.0 refl))
+answer_alike false true P h k = h.1 (k.0 refl)
+answer_alike false false P h k = refl
+
 -- ---- a choice
 
 -- what holds of both branches holds of the choice

@@ -2,13 +2,14 @@
 use Rattle.std.proofs.Common.{◌≡◌, ℕ, zero, suc, ◌+◌, ◌<◌, Bool, true, false, cond, ◌&&◌, ◌||◌, List, [], ◌∷◌, ◌++◌, length, map, take, drop, get_or, option_to_list}
 use Rattle.std.proofs.Common.{Option, Some, None, is_some, refl, ap, sym, ◌∙◌, inl, inr}
 use Rattle.std.specs.List.{AllByRecursion, filter, flat_map, list_all, list_any}
-use Rattle.std.proofs.lemmas.Bool.{cases_Bool, or_parts}
+use Rattle.std.proofs.lemmas.Bool.{and_from, cases_Bool, or_parts}
 use Rattle.std.proofs.lemmas.List.{append-nil, take-append-drop, take_more}
 use Rattle.std.proofs.lemmas.List.Concat.{flat_map-append}
 use Rattle.std.proofs.lemmas.List.Elements.{filter-append}
 use Rattle.std.proofs.lemmas.List.Folds.{list_all-append, list_any-append}
 use Rattle.std.proofs.lemmas.List.Sums.{AllPass-from_list_all, list_all-from_AllPass}
 use Rattle.std.proofs.Math.Seq.{drop-cons}
+use Rattle.ifmap_lemmas.specs.Items.{To}
 
 -- ---- tests of all and of some
 
@@ -19,6 +20,16 @@ all_mapped p (x ∷ xs) = ap (λ b. p x && b) (all_mapped p xs)
 pub any_mapped : {X : Type 0} (p : X → Bool) (xs : List X) → list_any (λ b. b) (map p xs) ≡ list_any p xs
 any_mapped p [] = refl
 any_mapped p (x ∷ xs) = ap (λ b. p x || b) (any_mapped p xs)
+
+pub all_tested : {X : Type 0} (p : X → Bool) (xs : List X) → AllByRecursion (λ x. p x ≡ true) xs → list_all p xs ≡ true
+all_tested p [] f = refl
+all_tested p (x ∷ xs) f = and_from (p x) (list_all p xs) f.0 (all_tested p xs f.1)
+
+-- what holds of each item that is taken holds of all
+pub all_taken : {B X : Type 0} (Takes : B → X → B → Type 0) (P : X → Type 0) → ((bytes : B) (x : X) (rest : B) → Takes bytes x rest → P x)
+    → (bytes : B) (xs : List X) (rest : B) → To Takes bytes xs rest → AllByRecursion P xs
+all_taken Takes P each bytes [] rest l = tt
+all_taken Takes P each bytes (x ∷ xs) rest l = (each bytes x l.0 l.1, all_taken Takes P each l.0 xs rest l.2)
 
 pub all_weaker : {X : Type 0} (p q : X → Bool) → ((x : X) → p x ≡ true → q x ≡ true) → (xs : List X) → list_all p xs ≡ true → list_all q xs ≡ true
 all_weaker p q implies xs is =
