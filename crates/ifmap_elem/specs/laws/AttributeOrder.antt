@@ -9,7 +9,7 @@ use Rattle.std.proofs.lemmas.List.Sums.{sum_by-cons}
 use Rattle.std.specs.Bool.{OnTrue}
 use Rattle.std.specs.List.{All, IsEachAdjacentAnswer}
 use Rattle.std.proofs.lemmas.Bool.{cases_Bool, and_parts}
-use Rattle.std.proofs.lemmas.Cmp.{nat_list_cmp_total, then_total, on_total, upto}
+use Rattle.std.proofs.lemmas.Cmp.{nat_list_cmp_total, then_total, on_total}
 use Rattle.std.proofs.lemmas.Slice.Eq.{bytes_eq-Decides}
 use Rattle.std.specs.Cmp.{IsTotalOrder, Some-then}
 use Rattle.std.specs.Cmp.Lexicographic.{slice_cmp}
@@ -26,7 +26,8 @@ use Rattle.std.proofs.lemmas.List.{get_or-map, length-map}
 use Rattle.ifmap_lemmas.specs.Sorting.{Ranks, in_order_same, in_order_is, in_order-rises, in_order-permutation, IsPermutation-in_order, length-in_order, count-in_order}
 use Rattle.ifmap_lemmas.specs.Texts.{same_texts}
 use Rattle.ifmap_lemmas.specs.Orderings.{both_equal}
-use Rattle.ifmap_lemmas.specs.Ties.{tied_where_neither_greater, greater_one_way, not_greater_than, within_not_less, not_less_than}
+use Rattle.ifmap_lemmas.specs.Ties.{not_greater_than, within_not_less, not_less_than}
+use Rattle.ifmap_lemmas.specs.Ranking.{ranks}
 
 texts_total : IsTotalOrder (slice_cmp nat_cmp)
 texts_total = nat_list_cmp_total
@@ -44,15 +45,6 @@ attributes_tied a b e =
     let l = same_texts a.name.local b.name.local n.1 in
     let w = same_texts a.value b.value v.1 in
     λ i. record { name = record { space = s i; local = l i }; value = w i }
-
-module _ {X : Type 0} (R : X → X → Ordering) (o : IsTotalOrder R) (tied : (x y : X) → R x y ≡ Equal → x ≡ y) where
-
-  pub ranks : Ranks (λ x y. is_gt (R x y))
-  ranks = record {
-    tied = λ x y e f. tied x y (tied_where_neither_greater (R x y) (R y x) (o.antisymm x y) e f);
-    chain = upto o;
-    one_way = λ x y e. greater_one_way (R x y) (R y x) (o.antisymm x y) e;
-  }
 
 pub attribute_ranks : Ranks (λ a b. is_gt (attribute_order a b))
 attribute_ranks = ranks attribute_order attributes_total attributes_tied
