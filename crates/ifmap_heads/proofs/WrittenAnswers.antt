@@ -90,13 +90,19 @@ pub status_is_read_back : (number : ℕ) (body rest : List ℕ) (close : Bool) �
     → ReadsAnswer (answer_bytes number body close ++ rest) (status number rest)
 unfolding print_response is_token_byte digits
 status_is_read_back number body rest close is other_than =
-    either_leads _ (number == 507) is (λ e. rw (equal_numbers number 507 e) (plain 507 body rest close refl refl refl refl refl refl refl)) (λ is.
-    either_leads _ (number == 503) is (λ e. rw (equal_numbers number 503 e) (plain 503 body rest close refl refl refl refl refl refl refl)) (λ is.
-    either_leads _ (number == 413) is (λ e. rw (equal_numbers number 413 e) (plain 413 body rest close refl refl refl refl refl refl refl)) (λ is.
-    either_leads _ (number == 411) is (λ e. rw (equal_numbers number 411 e) (plain 411 body rest close refl refl refl refl refl refl refl)) (λ is.
+    either_leads _ (number == 507) is (λ e. rw (equal_numbers number 507 e)
+    (plain 507 body rest close refl refl refl refl refl refl refl)) (λ is.
+    either_leads _ (number == 503) is (λ e. rw (equal_numbers number 503 e)
+    (plain 503 body rest close refl refl refl refl refl refl refl)) (λ is.
+    either_leads _ (number == 413) is (λ e. rw (equal_numbers number 413 e)
+    (plain 413 body rest close refl refl refl refl refl refl refl)) (λ is.
+    either_leads _ (number == 411) is (λ e. rw (equal_numbers number 411 e)
+    (plain 411 body rest close refl refl refl refl refl refl refl)) (λ is.
     either_leads _ (number == 405) is (λ e. rw (equal_numbers number 405 e) (read_405 body rest close)) (λ is.
-    either_leads _ (number == 403) is (λ e. rw (equal_numbers number 403 e) (plain 403 body rest close refl refl refl refl refl refl refl)) (λ is.
-    either_leads _ (number == 400) is (λ e. rw (equal_numbers number 400 e) (plain 400 body rest close refl refl refl refl refl refl refl)) (λ is.
+    either_leads _ (number == 403) is (λ e. rw (equal_numbers number 403 e)
+    (plain 403 body rest close refl refl refl refl refl refl refl)) (λ is.
+    either_leads _ (number == 400) is (λ e. rw (equal_numbers number 400 e)
+    (plain 400 body rest close refl refl refl refl refl refl refl)) (λ is.
     absurd (other_than (equal_numbers number 200 is)))))))))
 
 -- the fields of a success

@@ -31,17 +31,20 @@ pub all_taken : {B X : Type 0} (Takes : B → X → B → Type 0) (P : X → Typ
 all_taken Takes P each bytes [] rest l = tt
 all_taken Takes P each bytes (x ∷ xs) rest l = (each bytes x l.0 l.1, all_taken Takes P each l.0 xs rest l.2)
 
-pub all_weaker : {X : Type 0} (p q : X → Bool) → ((x : X) → p x ≡ true → q x ≡ true) → (xs : List X) → list_all p xs ≡ true → list_all q xs ≡ true
+pub all_weaker : {X : Type 0} (p q : X → Bool) → ((x : X) → p x ≡ true → q x ≡ true) → (xs : List X) → list_all p xs ≡ true
+    → list_all q xs ≡ true
 all_weaker p q implies xs is =
     let all = AllPass-from_list_all p xs is in
     list_all-from_AllPass q xs (λ k d within. implies _ (all k d within))
 
 -- of lists joined, one for each member
-pub all_joined : {X Y : Type 0} (p : Y → Bool) (f : X → List Y) (xs : List X) → list_all p (flat_map f xs) ≡ list_all (λ x. list_all p (f x)) xs
+pub all_joined : {X Y : Type 0} (p : Y → Bool) (f : X → List Y) (xs : List X)
+    → list_all p (flat_map f xs) ≡ list_all (λ x. list_all p (f x)) xs
 all_joined p f [] = refl
 all_joined p f (x ∷ xs) = list_all-append p (f x) (flat_map f xs) ∙ ap (λ b. list_all p (f x) && b) (all_joined p f xs)
 
-pub any_both : {X : Type 0} (p : X → Bool) (xs ys : List X) → list_any p (xs ++ ys) ≡ false → (list_any p xs ≡ false) × (list_any p ys ≡ false)
+pub any_both : {X : Type 0} (p : X → Bool) (xs ys : List X) → list_any p (xs ++ ys) ≡ false
+    → (list_any p xs ≡ false) × (list_any p ys ≡ false)
 any_both p xs ys e = or_parts (list_any p xs) (list_any p ys) (sym (list_any-append p xs ys) ∙ e)
 
 pub any_more : {X : Type 0} (p : X → Bool) (xs ys : List X) → list_any p xs ≡ true → list_any p (xs ++ ys) ≡ true

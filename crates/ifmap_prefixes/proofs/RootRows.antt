@@ -31,7 +31,8 @@ rows_in_scope rows ds is =
     ap (λ (d : List Declared). (scope_by d []).rows) (is ∙ reverse_map root_row rows)
     ∙ ap (λ (d : List Declared). map row_of (reverse (map binding_told d))) (all_stand (reverse rows))
     ∙ ap (map row_of) (reverse_map binding_told (map root_row (reverse rows)))
-    ∙ ap (λ (d : List Declared). map row_of (map binding_told d)) (reverse_map root_row (reverse rows) ∙ ap (map root_row) (reverse-reverse rows))
+    ∙ ap (λ (d : List Declared). map row_of (map binding_told d))
+    (reverse_map root_row (reverse rows) ∙ ap (map root_row) (reverse-reverse rows))
     ∙ rows_back rows
 
 pub scope_is : (scope : Scope) (rows : List Row) (declared ds : List Declared) → rows ≡ scope.rows → declared ≡ map root_row rows

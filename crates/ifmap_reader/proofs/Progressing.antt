@@ -280,7 +280,8 @@ module _ (bytes : List ℕ) (depth : ℕ) (w : Where) (place : ℕ) (at : At byt
 
 pub within_next : (bytes : List ℕ) (place count : ℕ) → place < length bytes
     → count ≤ length (take (length bytes - place) (drop place bytes)) → place + count ≤ length bytes
-within_next bytes place count l h = let a = ap length (cut_at_end bytes place) in let b = length-drop place bytes in omega (arith, a, b, h, l)
+within_next bytes place count l h =
+    let a = ap length (cut_at_end bytes place) in let b = length-drop place bytes in omega (arith, a, b, h, l)
 
 -- at the end
 pub end_read : (bytes : List ℕ) (depth : ℕ) (s : DocumentStanding) (place : ℕ) (result : Result Reading ReadError)

@@ -114,8 +114,8 @@ pub rising_is_sorted : (xs ys : List Attribute) → IsPermutation xs ys
     → ys ≡ sort_attributes xs
 rising_is_sorted xs ys p up =
     in_order_is attribute_order attribute_ranks attribute_eq attribute_eq_itself attribute_eq_tells xs ys p
-    (λ k d l. not_greater_than (attribute_order (get_or ys k d) (get_or ys (suc k) d)) (attribute_order (get_or ys (suc k) d) (get_or ys k d))
-    (attributes_total.antisymm (get_or ys k d) (get_or ys (suc k) d)) (up k d l))
+    (λ k d l. not_greater_than (attribute_order (get_or ys k d) (get_or ys (suc k) d))
+    (attribute_order (get_or ys (suc k) d) (get_or ys k d)) (attributes_total.antisymm (get_or ys k d) (get_or ys (suc k) d)) (up k d l))
 
 -- how two attributes compare, as `<=` asks
 abbrev compare_attributes : Attribute → Attribute → Option Ordering

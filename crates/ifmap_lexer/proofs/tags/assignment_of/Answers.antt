@@ -34,7 +34,8 @@ pub returns-clause-found : goal.returns-clause-found
 returns-clause-found c =
     assignment_found c.args.bytes.now c.split_white.result.0.now c.split_white.result.1.now c.split_white.ensures c.in_ok-name.name
     c.in_ok-name.after.now c.in_ok-name.ensures.found c.in-Some.written.now c.in-Some.rest.now c.in-Some.ensures.found
-    c.in_ok-value.value (some_by_length c.split_white.result.0.now (sym c.is_empty.ensures ∙ c.if-is_empty.false)) c.in_ok-value.ensures.found
+    c.in_ok-value.value (some_by_length c.split_white.result.0.now (sym c.is_empty.ensures ∙ c.if-is_empty.false))
+    c.in_ok-value.ensures.found
 
 pub returns-clause-shorter : goal.returns-clause-shorter
 returns-clause-shorter c =

@@ -10,7 +10,8 @@ all-init c = goes_on_start c.args.bytes.now _ c.new-made.ensures.items
 
 pub all-preserved : goal.all-preserved
 all-preserved c =
-    goes_on_next c.all.rest.now (fails_where_false _ _ c.is_at_end.ensures c.all-test.true) c.args.bytes.now c.all.made.items c.push.new.self.items
+    goes_on_next c.all.rest.now (fails_where_false _ _ c.is_at_end.ensures c.all-test.true)
+    c.args.bytes.now c.all.made.items c.push.new.self.items
     c.in_ok-assignment.assignment c.in_ok-assignment.after.now
     c.all.invariant c.in_ok-assignment.ensures.found c.in_ok-push.ensures.items
 
