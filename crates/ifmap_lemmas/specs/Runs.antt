@@ -1,6 +1,6 @@
 -- Runs along a list: tests that all or some members pass, a bound of each, and what a filter leaves of a front.
 use Rattle.std.proofs.Common.{◌≡◌, ℕ, zero, suc, ◌+◌, ◌<◌, Bool, true, false, cond, ◌&&◌, ◌||◌, List, [], ◌∷◌, ◌++◌, length, map, take, drop, get_or, option_to_list}
-use Rattle.std.proofs.Common.{Option, Some, None, is_some, refl, ap, sym, ◌∙◌, inl, inr}
+use Rattle.std.proofs.Common.{Option, Some, None, is_some, refl, ap, sym, ◌∙◌, subst, inl, inr}
 use Rattle.std.specs.List.{AllByRecursion, filter, flat_map, list_all, list_any}
 use Rattle.std.proofs.lemmas.Bool.{and_from, cases_Bool, or_parts}
 use Rattle.std.proofs.lemmas.List.{append-nil, take-append-drop, take_more}
@@ -30,6 +30,12 @@ pub all_taken : {B X : Type 0} (Takes : B → X → B → Type 0) (P : X → Typ
     → (bytes : B) (xs : List X) (rest : B) → To Takes bytes xs rest → AllByRecursion P xs
 all_taken Takes P each bytes [] rest l = tt
 all_taken Takes P each bytes (x ∷ xs) rest l = (each bytes x l.0 l.1, all_taken Takes P each l.0 xs rest l.2)
+
+-- items, and then more
+pub to_both : {B X : Type 0} (Takes : B → X → B → Type 0) (bytes : B) (xs : List X) (mid : B) (ys : List X) (rest : B)
+    → To Takes bytes xs mid → To Takes mid ys rest → To Takes bytes (xs ++ ys) rest
+to_both {B} {X} Takes bytes [] mid ys rest l m = subst (λ (b : B). To Takes b ys rest) (sym l) m
+to_both Takes bytes (x ∷ xs) mid ys rest l m = (l.0, l.1, to_both Takes l.0 xs mid ys rest l.2 m)
 
 pub all_weaker : {X : Type 0} (p q : X → Bool) → ((x : X) → p x ≡ true → q x ≡ true) → (xs : List X) → list_all p xs ≡ true
     → list_all q xs ≡ true

@@ -29,6 +29,7 @@ use Rattle.ifmap_elem.specs.Canonical.{after_prefix, printed_name, declaration_b
 use Rattle.ifmap_lemmas.specs.Members.{all_of_test}
 use Rattle.ifmap_lemmas.specs.Texts.{is_ascii, ascii_encoded}
 use Rattle.ifmap_lemmas.specs.Apart.{other_bytes_differ}
+use Rattle.ifmap_lemmas.specs.Runs.{to_both}
 use Rattle.ifmap_elem.specs.laws.PrintedParts.{text_means, value_means, text_characters, value_characters, text_some, text_no_tag, value_no_tag, value_no_quote, text_no_section_end}
 
 -- the prefix, or none
@@ -146,12 +147,6 @@ all_taken write means P each (x ∷ xs) rest f = (
       (each x (flat_map write xs ++ rest) f.0),
   all_taken write means P each xs rest f.1,
 )
-
--- items, and then more
-pub to_both : {B X : Type 0} (Takes : B → X → B → Type 0) (bytes : B) (xs : List X) (mid : B) (ys : List X) (rest : B)
-    → To Takes bytes xs mid → To Takes mid ys rest → To Takes bytes (xs ++ ys) rest
-to_both {B} {X} Takes bytes [] mid ys rest l m = subst (λ (b : B). To Takes b ys rest) (sym l) m
-to_both Takes bytes (x ∷ xs) mid ys rest l m = (l.0, l.1, to_both Takes l.0 xs mid ys rest l.2 m)
 
 pub tag_taken : (prefixes declared : Rows) (scope : Scope) (name : Name) (attributes : List Attribute) (end : List ℕ) → IsFitName name
     → Resolves prefixes scope name.space
