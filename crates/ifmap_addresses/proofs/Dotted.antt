@@ -9,7 +9,7 @@ use Rattle.ifmap_addresses.specs.DigitLaws.{decimal_digits}
 use Rattle.ifmap_addresses.specs.IpV4.{ip_v4_text}
 use Rattle.ifmap_addresses.specs.IpV4Laws.{dotted_parts}
 use Rattle.ifmap_addresses.specs.Values.{IsDigit}
-use Rattle.ifmap_addresses.specs.OrderLaws.{closed_below}
+use Rattle.ifmap_lemmas.specs.Closing.{closed_below}
 use Rattle.ifmap_lemmas.specs.Orderings.{then_then}
 
 above_dot : (text : List ℕ) → AllByRecursion IsDigit text → AllByRecursion (λ b. byte "." < b) text

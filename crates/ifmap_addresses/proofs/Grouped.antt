@@ -1,6 +1,6 @@
 -- IPv6 groups as they are written, and the order of their texts, group by group.
 use Rattle.std.proofs.Common.{◌≡◌, ◌≢◌, ℕ, zero, suc, ◌+◌, ◌-◌, ◌<◌, ◌≤◌, List, [], ◌∷◌, ◌++◌, length, take, drop, get_or, add-one, inl, inr, length-append, refl, ap, subst, sym, ◌∙◌, arith}
-use Rattle.std.proofs.lemmas.List.{length-drop, take_all}
+use Rattle.std.proofs.lemmas.List.{length-drop, take_all, drop-append-le}
 use Rattle.std.proofs.lemmas.List.Sums.{sum_by-cons}
 use Rattle.std.proofs.Math.Seq.{take-append_seam}
 use Rattle.std.specs.Cmp.Lexicographic.{slice_cmp}
@@ -12,7 +12,7 @@ use Rattle.std.specs.Str.{byte}
 use Rattle.ifmap_addresses.specs.DigitLaws.{hex_digits}
 use Rattle.ifmap_addresses.specs.IpV6.{four_hex_digits, ip_v6_text}
 use Rattle.ifmap_addresses.specs.Values.{IsDigit}
-use Rattle.ifmap_addresses.specs.OrderLaws.{closed_apart}
+use Rattle.ifmap_lemmas.specs.Closing.{closed_apart}
 use Rattle.ifmap_lemmas.specs.Orderings.{then_then}
 
 -- ---- what is left of a group's digits and the colon after them
@@ -21,17 +21,12 @@ pub hex_length : (n k : ℕ) → k ≡ leading_zero_digits n → 4 - k ≡ lengt
 unfolding hex
 hex_length n k e = ap (λ j. 4 - j) e ∙ sym (length-drop (leading_zero_digits n) (four_hex_digits n))
 
-dropped_before : (k : ℕ) (xs ys : List ℕ) → k ≤ length xs → drop k (xs ++ ys) ≡ drop k xs ++ ys
-dropped_before zero xs ys h = refl
-dropped_before (suc k) [] ys h = absurd (omega arith)
-dropped_before (suc k) (x ∷ xs) ys h = dropped_before k xs ys (omega arith)
-
 -- of the digits of n and a colon, from the first that is written on
 module _ (n k : ℕ) (digits : List ℕ) (is : digits ≡ four_hex_digits n ++ (byte ":" ∷ [])) (zeros : k ≡ leading_zero_digits n)
     (few : k < 4) where
   closed : drop k digits ≡ hex n ++ (byte ":" ∷ [])
   unfolding hex
-  closed = ap (drop k) is ∙ dropped_before k (four_hex_digits n) (byte ":" ∷ []) (omega arith)
+  closed = ap (drop k) is ∙ drop-append-le k (four_hex_digits n) (byte ":" ∷ []) (omega arith)
       ∙ ap (λ j. drop j (four_hex_digits n) ++ (byte ":" ∷ [])) zeros
 
   pub closed_hex : take (5 - k) (drop k digits) ≡ hex n ++ (byte ":" ∷ [])

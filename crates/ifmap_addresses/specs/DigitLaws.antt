@@ -12,6 +12,7 @@ use Rattle.std.specs.Str.{byte}
 use Rattle.ifmap_addresses.specs.IpV6.{four_hex_digits}
 use Rattle.ifmap_addresses.specs.Values.{IsAddressByte, IsDigit}
 use Rattle.ifmap_lemmas.specs.Members.{both_all}
+use Rattle.ifmap_lemmas.specs.Joined.{all_dropped}
 
 -- ---- digits below sixteen
 
@@ -34,11 +35,6 @@ in_range (b ∷ bs) h = (inl h.0, in_range bs h.1)
 
 pub decimal_digits : (n : ℕ) → n < 256 → AllByRecursion IsDigit (decimal n)
 decimal_digits n h = in_range (decimal n) (decimal_range n h)
-
-all_dropped : (P : ℕ → Type 0) (k : ℕ) (xs : List ℕ) → AllByRecursion P xs → AllByRecursion P (drop k xs)
-all_dropped P zero xs h = h
-all_dropped P (suc k) [] h = tt
-all_dropped P (suc k) (x ∷ xs) h = all_dropped P k xs h.1
 
 pub hex_digits : (n : ℕ) → n < 65536 → AllByRecursion IsDigit (hex n)
 unfolding hex

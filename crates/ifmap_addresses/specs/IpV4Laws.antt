@@ -9,15 +9,11 @@ use Rattle.ifmap_addresses.specs.DigitLaws.{address_digits, decimal_digits}
 use Rattle.ifmap_addresses.specs.IpV4.{IsIpV4, ip_v4_text}
 use Rattle.ifmap_addresses.specs.Values.{AreBelow, IsAddressByte}
 use Rattle.ifmap_lemmas.specs.Members.{both_all}
+use Rattle.ifmap_lemmas.specs.Runs.{below_at}
 
 pub one_ip_v4 : (text one other : List ℕ) → IsIpV4 text one → IsIpV4 text other → one ≡ other
 one_ip_v4 text one other f g =
     ap (λ a. a.octets) (IsIpv4Text_unique text (record { octets = one }) (record { octets = other }) f g)
-
-pub below_at : (bound : ℕ) (xs : List ℕ) → 0 < bound → AllByRecursion (λ n. n < bound) xs → (i : ℕ) → get_or xs i 0 < bound
-below_at bound [] p h i = p
-below_at bound (x ∷ xs) p h i =
-    elim i as (λ j. get_or (x ∷ xs) j 0 < bound) [ zero ↦ h.0 | suc j ↦ below_at bound xs p h.1 j ]
 
 pub ip_v4_spelled : (value : List ℕ) → AreBelow 256 4 value → IsIpV4 (ip_v4_text value) value
 ip_v4_spelled value h = IsDotted-ipv4_text value h.number (below_at 256 value (omega arith) h.below)

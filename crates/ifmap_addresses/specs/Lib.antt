@@ -6,4 +6,3 @@ pub mod DigitLaws
 pub mod IpV4Laws
 pub mod IpV6Laws
 pub mod MacAddressLaws
-pub mod OrderLaws

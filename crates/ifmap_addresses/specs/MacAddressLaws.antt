@@ -17,17 +17,9 @@ use Rattle.ifmap_addresses.specs.MacAddresses.{IsMacAddress, hex_pair, mac_addre
 use Rattle.ifmap_addresses.specs.Values.{AreBelow, IsAddressByte, IsDigit}
 use Rattle.ifmap_lemmas.specs.Orderings.{then_then}
 use Rattle.ifmap_lemmas.specs.Texts.{slice_cmp-same}
+use Rattle.ifmap_lemmas.specs.Ties.{nat_cmp-rising}
 
 -- ---- order
-
--- a function that rises carries the order over
-nat_cmp-rising : (f : ℕ → ℕ) (m n : ℕ) → (m < n → f m < f n) → (n < m → f n < f m) → nat_cmp (f m) (f n) ≡ nat_cmp m n
-nat_cmp-rising f m n up down = sym (nat_cmp_is (f m) (f n) (nat_cmp m n) (by (nat_cmp m n) (ranked m n (nat_cmp m n) refl)))
-  where
-    by : (r : Ordering) → MatchOrdering r (m < n) (m ≡ n) (n < m) → MatchOrdering r (f m < f n) (f m ≡ f n) (f n < f m)
-    by Less h = up h
-    by Equal h = ap f h
-    by Greater h = down h
 
 digit_rises : (m n : ℕ) → m < n → digit_char m < digit_char n
 digit_rises m n h = grind (arith, nat_tests)

@@ -5,6 +5,7 @@ use Rattle.std.proofs.lemmas.Bool.{true≢false}
 use Rattle.std.proofs.lemmas.Bool.Decides.{nat_tests}
 use Rattle.std.specs.List.{list_any}
 use Rattle.std.specs.Fmt.{decimal}
+use Rattle.ifmap_lemmas.specs.Branches.{neither}
 use Rattle.ifmap_io.specs.Limits.{most_events, most_workers}
 use Rattle.ifmap_words.specs.Options.{is_option}
 use Rattle.ifmap_command.specs.declared.forms.Form.TheVariants as form
@@ -38,15 +39,12 @@ pub decimal_plain : (n : ℕ) → n < 2 ^ 64 → is_option (decimal n) ≡ false
 decimal_plain = decimal_by_steps (λ n ds. is_option ds ≡ false) plain_digit
     (λ n ds many plain. plain_more ds (48 + n % 10) plain (plain_digit (n % 10) (omega arith)))
 
-either : (a b : Bool) → a ≡ false → b ≡ false → (a || b) ≡ false
-either a b e f = rw (e, f) refl
-
 three_plain : (words : List (List ℕ)) (x y z : List ℕ) → words ≡ x ∷ y ∷ z ∷ [] → is_option x ≡ false → is_option y ≡ false
     → is_option z ≡ false
     → list_any is_option words ≡ false
 three_plain words x y z e p q r = ap (list_any is_option) e
-    ∙ either (is_option x) (list_any is_option (y ∷ z ∷ [])) p
-    (either (is_option y) (list_any is_option (z ∷ [])) q (either (is_option z) false r refl))
+    ∙ neither (is_option x) (list_any is_option (y ∷ z ∷ [])) p
+    (neither (is_option y) (list_any is_option (z ∷ [])) q (neither (is_option z) false r refl))
 
 -- where a word is an option the words are of no form
 pub option_is_wrong : (words : List (List ℕ)) → list_any is_option words ≡ true → IsWrong words

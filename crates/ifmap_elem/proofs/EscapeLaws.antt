@@ -4,13 +4,10 @@ use Rattle.std.proofs.Common.{replicate, w8, refl, sym, ◌∙◌, arith}
 use Rattle.std.proofs.lemmas.Bool.{eqb-true}
 use Rattle.std.proofs.lemmas.Simd.{bitmask_splat, length-chunk, none_from_empty_mask}
 use Rattle.std.specs.Bool.{OnTrue}
+use Rattle.ifmap_lemmas.specs.Branches.{on_true}
 use lib.Lanes.{chunk, mask_l, top, zip2}
 use Rattle.ifmap_elem.specs.declared.escaping.Place.{Place}
 use Rattle.ifmap_elem.specs.printer.Plain.{ArePlain, LacksByte, escape_bytes}
-
-on_true : (b : Bool) (P : Type 0) → (b ≡ true → P) → OnTrue b P
-on_true true P f = f refl
-on_true false P f = tt
 
 escaped_plain : (place : Place) (bytes : List ℕ) → ArePlain place bytes 0 (length bytes) → escape_bytes place bytes ≡ bytes
 escaped_plain place [] h = λ i. []

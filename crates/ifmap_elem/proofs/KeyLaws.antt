@@ -2,35 +2,27 @@
 use Rattle.std.proofs.Common.{◌≡◌, ◌≢◌, ℕ, zero, suc, ◌+◌, List, [], ◌∷◌, ◌++◌, length, map, get_or, true, false, cond, Option, Some}
 use Rattle.std.proofs.Common.{None, Bor, refl, ap, sym, ◌∙◌, subst, inl, inr}
 use Rattle.std.proofs.lemmas.Bool.{cases_Bool}
-use Rattle.std.specs.declared.cmp.Ordering.{Ordering}
-use Rattle.std.specs.declared.cmp.Ordering.TheVariants.{Less, Equal, Greater}
+use Rattle.std.specs.declared.cmp.Ordering.TheVariants.{Equal}
 use Rattle.std.specs.Prelude.{codes}
 use Rattle.std.specs.Map.{lookup}
 use Rattle.std.specs.Option.{is_some}
 use Rattle.std.specs.Str.{bytes_eq}
-use Rattle.std.specs.Ordering.{nat_cmp, is_eq, ordering_then}
+use Rattle.std.specs.Ordering.{nat_cmp, is_eq}
 use Rattle.std.specs.Cmp.{nat_cmp_is}
 use Rattle.std.specs.Cmp.Lexicographic.{slice_cmp, texts_ties}
 use Rattle.ifmap_lemmas.specs.Numerals.{numeral}
 use Rattle.ifmap_lemmas.specs.Texts.{eq_tells, eq_itself}
+use Rattle.ifmap_lemmas.specs.Ties.{ties_by_second}
+use Rattle.ifmap_lemmas.specs.Absent.{none_where_no_value}
 use Rattle.ifmap_elem.specs.Namespaces.{name_prefixes}
 use Rattle.ifmap_elem.specs.Scopes.{xml_space}
 use Rattle.ifmap_elem.specs.laws.NamespaceLaws.{Texts, keyed, none_more}
 use Rattle.ifmap_elem.specs.printer.Keys.{key_order, space_word}
 use Rattle.ifmap_elem.proofs.NumberLaws.{labelled}
 
-ties_after : (one two : Ordering) → (is_eq two ≡ true → one ≡ Equal) → is_eq (ordering_then one two) ≡ is_eq two
-ties_after Equal two h = refl
-ties_after Less Equal h = let e = h refl in cc
-ties_after Less Less h = refl
-ties_after Less Greater h = refl
-ties_after Greater Equal h = let e = h refl in cc
-ties_after Greater Less h = refl
-ties_after Greater Greater h = refl
-
 pub key_ties : (a q : List ℕ) → is_eq (key_order a q) ≡ is_eq (slice_cmp nat_cmp a q)
 key_ties a q =
-    ties_after (nat_cmp (space_word a) (space_word q)) (slice_cmp nat_cmp a q)
+    ties_by_second (nat_cmp (space_word a) (space_word q)) (slice_cmp nat_cmp a q)
     (λ e. subst (λ t. nat_cmp (space_word a) (space_word t) ≡ Equal) (eq_tells a q (texts_ties a q
     ∙ e)) (sym (nat_cmp_is (space_word a) (space_word a) Equal refl)))
 
@@ -71,10 +63,6 @@ pub record IsPlaced (new : List ℕ → Option (List ℕ)) (before after : Texts
   pub more : after ≡ before ++ s ∷ []
   pub unknown : is_some (lookup (bytes_eq s) (name_prefixes before)) ≡ false
 
-none_of : {X : Type 0} (o : Option X) → ((x : X) → o ≡ Some x → ⊥) → o ≡ None
-none_of None h = refl
-none_of (Some x) h = absurd (h x refl)
-
 pub placed : (old new : List ℕ → Option (List ℕ)) (before : Texts) (first middle after : Places) (s : Bor (List ℕ)) (key label : List ℕ)
     (found : Option (List ℕ)) (count : ℕ)
     → s.now ≢ [] → bytes_of first ≡ before
@@ -86,11 +74,11 @@ pub placed : (old new : List ℕ → Option (List ℕ)) (before : Texts) (first 
     → IsPlaced new before (bytes_of after) s.now label
 placed old new before first middle after s key label found count some view was bare k f not puts kept pushed long is =
     let none : lookup (bytes_eq s.now) (name_prefixes (bytes_of first)) ≡ None =
-    sym (was s.now) ∙ ap old (sym k) ∙ sym f ∙ none_of found not in
+    sym (was s.now) ∙ ap old (sym k) ∙ sym f ∙ none_where_no_value found not in
     let more : bytes_of after ≡ bytes_of first ++ s.now ∷ [] =
     ap bytes_of (pushed ∙ ap (λ l. l ++ s ∷ []) kept) ∙ one_more first s in
     let now : (q : List ℕ) → new q ≡ cond (is_eq (slice_cmp nat_cmp key q)) (Some label) (old q) =
-    λ q. puts (none_of found not) q ∙ ap (λ b. cond b (Some label) (old q)) (key_ties key q) in
+    λ q. puts (none_where_no_value found not) q ∙ ap (λ b. cond b (Some label) (old q)) (key_ties key q) in
     let number : label ≡ codes "n" ++ numeral (length (bytes_of first) + 1) =
     is ∙ ap (λ (n : ℕ). codes "n" ++ numeral (n + 1)) (long ∙ sym (as_many first)) in
     record {

@@ -1,5 +1,4 @@
 pub mod EscapeLaws
-pub mod Fronting
 pub mod KeyLaws
 pub mod NumberLaws
 pub mod OutlinePieces

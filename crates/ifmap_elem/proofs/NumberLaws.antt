@@ -2,7 +2,6 @@
 use Rattle.std.proofs.Common.{◌≡◌, ℕ, ◌+◌, List, [], ◌∷◌, ◌++◌, length, true, false, cond, Option, Some, None, refl, ap, sym, ◌∙◌, subst}
 use Rattle.std.specs.Prelude.{codes}
 use Rattle.std.specs.Map.{lookup}
-use Rattle.std.specs.Option.{is_some}
 use Rattle.std.specs.Str.{bytes_eq}
 use Rattle.std.specs.Ordering.{nat_cmp, is_eq}
 use Rattle.std.specs.Cmp.Lexicographic.{slice_cmp, texts_ties}
@@ -20,7 +19,3 @@ labelled old new xs ys s key other label was now k o more is none =
     let same : bytes_eq key s ≡ true = subst (λ t. bytes_eq t s ≡ true) (sym k) (eq_itself s) in
     sym (now s ∙ ap (λ b. cond b (Some label) (old s)) (sym (texts_ties key s) ∙ same))
     ∙ keyed old new xs ys s key other label was now k o more is none s
-
-pub none_unless : (o : Option (List ℕ)) → ((x : List ℕ) → o ≡ Some x → ⊥) → is_some o ≡ false
-none_unless None h = refl
-none_unless (Some x) h = absurd (h x refl)

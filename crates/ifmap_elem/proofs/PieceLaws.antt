@@ -3,8 +3,7 @@
 -- later (`numbered_stays`, `prefix_final`); (3) pieces: none, one and then another, bytes and then a piece, the same piece
 -- otherwise said; (4) many pieces, one after another; (5) the pieces of an element: its name, an attribute, its content.
 use Rattle.std.proofs.Common.{◌≡◌, ◌≢◌, ℕ, ◌+◌, ◌<◌, ◌≤◌, List, [], ◌∷◌, ◌++◌, map, take, length, get_or, Bool, true, Option, None, refl, ap, sym, ◌∙◌, subst, inl, inr, Bor, append_assoc}
-use Rattle.std.proofs.lemmas.List.{take_more, take_all, append-nil}
-use Rattle.std.proofs.lemmas.List.Concat.{flat_map-append}
+use Rattle.std.proofs.lemmas.List.{take_all, append-nil}
 use Rattle.std.proofs.lemmas.Bool.{cases_Bool}
 use Rattle.std.specs.Prelude.{codes}
 use Rattle.std.specs.List.{flat_map}
@@ -27,7 +26,9 @@ use Rattle.ifmap_elem.specs.laws.ArrangedLaws.{arranged_in, arranged_text}
 use Rattle.ifmap_elem.specs.laws.NamespaceLaws.{adds_none, adds_both}
 use Rattle.ifmap_lemmas.specs.Texts.{eq_itself}
 use Rattle.ifmap_lemmas.specs.Absent.{none_where_not_some}
-use Rattle.ifmap_elem.proofs.PrintedLaws.{two_written, content_written, element_is, root_printed, referred_attributes}
+use Rattle.ifmap_lemmas.specs.Runs.{flat_map-next}
+use Rattle.ifmap_lemmas.specs.Joined.{joined_twice}
+use Rattle.ifmap_elem.proofs.PrintedLaws.{content_written, element_is, root_printed, referred_attributes}
 use Rattle.ifmap_elem.proofs.SpaceLaws.{spaces_arranged, adds_element, referred_spaces}
 use Rattle.ifmap_elem.specs.laws.PrintedElements.{attribute_space}
 use Rattle.std.proofs.lemmas.List.Concat.{flat_map_single}
@@ -138,12 +139,6 @@ adds_as a b xs ys p q s t e f h = record {
   written = λ final g. h.written final g ∙ ap (λ l. s ++ l) (f (name_prefixes final));
 }
 
-flat_map-next : {X Y : Type 0} (f : X → List Y) (xs : List X) (i : ℕ) (x : X) → i < length xs → x ≡ get_or xs i x
-    → flat_map f (take i xs) ++ f x ≡ flat_map f (take (i + 1) xs)
-flat_map-next f xs i x l is =
-    sym (ap (flat_map f) (take_more xs i x l) ∙ flat_map-append f (take i xs) (get_or xs i x ∷ [])
-    ∙ ap (λ ys. flat_map f (take i xs) ++ ys) (append-nil (f (get_or xs i x)) ∙ ap f (sym is)))
-
 -- one piece more
 pub pieces_next : {X : Type 0} (f : X → Spaces) (g : Rows → X → List ℕ) (xs : List X) (i : ℕ) (x : X) (a b c : Spaces) (s t u : List ℕ)
     → i < length xs → x ≡ get_or xs i x
@@ -194,9 +189,9 @@ piece_attribute attribute a b s t u v w x p h q r z = record {
   added = h.added;
   extends = h.extends;
   written = λ final f.
-      two_written s t x (codes " ") _ p
-      (two_written t u x (printed_name (name_prefixes final) attribute.name) _ (h.written final f)
-      (two_written u v x (codes "=\"") _ q (two_written v w x (value_bytes attribute.value) (codes "\"") r z)));
+      joined_twice s t x (codes " ") _ p
+      (joined_twice t u x (printed_name (name_prefixes final) attribute.name) _ (h.written final f)
+      (joined_twice u v x (codes "=\"") _ q (joined_twice v w x (value_bytes attribute.value) (codes "\"") r z)));
 }
 
 pub piece_content : (f : Child → Spaces) (g : Rows → Child → List ℕ) (children : List Child) (name : Name) (prefix : Option (List ℕ))
@@ -279,7 +274,7 @@ piece_root element given first a b all listed prefix i j k inside s t u v w x no
     let rest = after_attributes_bytes (printed_name (name_prefixes all) element.name)
     (map (λ c. child_bytes (name_prefixes all) (arrange_child c)) element.children) in
     let printed : k ≡ tag ++ rest =
-    two_written i j k tag rest (attributes.written all (final_before b all all content.extends final)) (content.written all final)
+    joined_twice i j k tag rest (attributes.written all (final_before b all all content.extends final)) (content.written all final)
     ∙ ap (λ l. l ++ (tag ++ rest)) empty in
     root_printed element given all t u v w (w ++ tag) x (adds_element element first a b all name attributes.added content.added [] none)
     (p ∙ ap (λ l. l ++ codes "<") new) (q ∙ ap (λ o. t ++ after_prefix o element.name.local) named)

@@ -18,21 +18,18 @@ use Rattle.ifmap_elem.specs.laws.ArrangedLaws.{arranged_is}
 use Rattle.ifmap_elem.specs.laws.NamespaceLaws.{prefix_rows-push}
 use Rattle.std.proofs.lemmas.Simd.{map-map}
 use Rattle.ifmap_lemmas.specs.Lists.{concat_map}
+use Rattle.ifmap_lemmas.specs.Joined.{joined_twice}
 
 abbrev Rows : Type 0
 Rows = List (List ℕ × List ℕ)
-
--- what some writes in a row have written
-pub two_written : (a b c x y : List ℕ) → b ≡ a ++ x → c ≡ b ++ y → c ≡ a ++ (x ++ y)
-two_written a b c x y p q = q ∙ ap (λ l. l ++ y) p ∙ append_assoc a x y
 
 pub content_written : (g : Child → List ℕ) (children : List Child) (name a b c d e f : List ℕ) → length children ≢ 0 → b ≡ a ++ codes ">"
     → c ≡ b ++ flat_map g children
     → d ≡ c ++ codes "</" → e ≡ d ++ name → f ≡ e ++ codes ">" → f ≡ a ++ after_attributes_bytes name (map g children)
 content_written g [] name a b c d e f some p q r s t = absurd (some refl)
 content_written g (child ∷ others) name a b c d e f some p q r s t =
-    two_written a b f (codes ">") _ p
-    (two_written b c f (flat_map g (child ∷ others)) _ q (two_written c d f (codes "</") _ r (two_written d e f name (codes ">") s t)))
+    joined_twice a b f (codes ">") _ p
+    (joined_twice b c f (flat_map g (child ∷ others)) _ q (joined_twice c d f (codes "</") _ r (joined_twice d e f name (codes ">") s t)))
     ∙ ap (λ l. a ++ (codes ">" ++ (l ++ (codes "</" ++ (name ++ codes ">"))))) (sym (concat_map g (child ∷ others)))
 
 pub element_is : (prefixes : Rows) (e : Element) → element_bytes prefixes (arrange e)
@@ -65,9 +62,9 @@ root_printed element given spaces a b c d e f are p q r s t u =
     let own = numbered_prefixes (codes "n") 1 spaces in
     let more = numbered_prefixes (codes "f") 1 given in
     let prefixes = name_prefixes spaces in
-    two_written a b f (printed_name prefixes element.name) _ q
-    (two_written b c f (flat_map declaration_bytes own) _ r (two_written c d f (flat_map declaration_bytes more) _ s
-    (two_written d e f _ _ t u)))
+    joined_twice a b f (printed_name prefixes element.name) _ q
+    (joined_twice b c f (flat_map declaration_bytes own) _ r (joined_twice c d f (flat_map declaration_bytes more) _ s
+    (joined_twice d e f _ _ t u)))
     ∙ ap (λ l. l ++ (printed_name prefixes element.name ++ (flat_map declaration_bytes own ++ (flat_map declaration_bytes more ++ rest)))) p
     ∙ ap (λ l. codes "<" ++ (printed_name prefixes element.name ++ l))
     (sym (append_assoc (flat_map declaration_bytes own) (flat_map declaration_bytes more) rest))
@@ -108,6 +105,6 @@ pub declared_more : (letter : List ℕ) (xs : List (List ℕ)) (i : ℕ) (x pref
     → b ≡ a ++ flat_map declaration_bytes (numbered_prefixes letter 1 (take i xs)) → c ≡ b ++ declaration_bytes (x, prefix)
     → c ≡ a ++ flat_map declaration_bytes (numbered_prefixes letter 1 (take (i + 1) xs))
 declared_more letter xs i x prefix a b c l is named was now =
-    two_written a b c (flat_map declaration_bytes (numbered_prefixes letter 1 (take i xs))) (declaration_bytes (x, prefix)) was now
+    joined_twice a b c (flat_map declaration_bytes (numbered_prefixes letter 1 (take i xs))) (declaration_bytes (x, prefix)) was now
     ∙ ap (λ p. a ++ (flat_map declaration_bytes (numbered_prefixes letter 1 (take i xs)) ++ declaration_bytes (x, p))) named
     ∙ ap (λ s. a ++ s) (sym (declarations_more letter xs i x l is))

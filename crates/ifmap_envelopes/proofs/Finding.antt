@@ -2,6 +2,7 @@
 use Rattle.std.proofs.Common.{◌≡◌, ℕ, ◌+◌, Bool, true, false, List, [], ◌∷◌, codes, drop, inl, inr, refl, ap, subst, sym}
 use Rattle.std.specs.Prelude.{◌⊎◌}
 use Rattle.ifmap_lemmas.specs.Deciding.{Decided}
+use Rattle.std.proofs.lemmas.Bool.{cases_Bool}
 use Rattle.ifmap_elem.specs.declared.elements.Element.{Element}
 use Rattle.ifmap_forms.specs.Tables.{Part, element_parts}
 use Rattle.ifmap_elem.specs.Fit.{is_element}
@@ -9,11 +10,6 @@ use Rattle.ifmap_envelopes.specs.Envelopes.{IsOnlyElement, IsBodyAt, IsEnvelope,
 use Rattle.ifmap_envelopes.proofs.Alone.{one_body_at}
 use Rattle.ifmap_envelopes.proofs.EnvelopeLaws.{after_header, alone_there, body_after, body_first, headed, named, no_body_after, no_body_first, none_alone, is_body, is_header}
 use Rattle.ifmap_elem.specs.laws.DecidedNames.{name_or_not}
-
--- a test's two answers
-tells : (b : Bool) → (b ≡ true) ⊎ (b ≡ false)
-tells true = inl refl
-tells false = inr refl
 
 module _ (parts : List Part) where
   abbrev first : ℕ
@@ -23,7 +19,7 @@ module _ (parts : List Part) where
   HasAlone = (index : ℕ) × (e : Element) × IsOnlyElement parts index e
 
   alone_or_none : Decided HasAlone
-  alone_or_none = elim (tells (is_last_part is_element (drop first parts))) [
+  alone_or_none = elim (cases_Bool (is_last_part is_element (drop first parts))) [
     | inl h ↦ let a = alone_there parts first refl h in inl (first, a.0, a.1)
     | inr h ↦ inr (λ a. none_alone parts first refl h a.0 a.1 a.2)
   ]
@@ -36,7 +32,7 @@ module _ (parts : List Part) where
   later = first + 1 + blank_front (drop (first + 1) parts)
 
   later_or_none : is_last_part is_body (drop first parts) ≡ false → is_first is_header (drop first parts) ≡ true → Decided HasBody
-  later_or_none f g = elim (tells (is_last_part is_body (drop later parts))) [
+  later_or_none f g = elim (cases_Bool (is_last_part is_body (drop later parts))) [
     | inl h ↦
         let o = headed parts first refl g in
         let at = ap (λ (ps : List Part). first + 1 + blank_front ps) (after_header parts first refl o.0 o.1 o.2) in
@@ -46,9 +42,9 @@ module _ (parts : List Part) where
   ]
 
   body_or_none : Decided HasBody
-  body_or_none = elim (tells (is_last_part is_body (drop first parts))) [
+  body_or_none = elim (cases_Bool (is_last_part is_body (drop first parts))) [
     | inl h ↦ let b = body_first parts first refl h in inl (first, b.0, b.1)
-    | inr f ↦ elim (tells (is_first is_header (drop first parts))) [
+    | inr f ↦ elim (cases_Bool (is_first is_header (drop first parts))) [
       | inl g ↦ later_or_none f g
       | inr g ↦ inr (λ b. no_body_first parts first refl f g b.0 b.1 b.2)
     ]

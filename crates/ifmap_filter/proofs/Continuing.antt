@@ -238,7 +238,8 @@ module _ (scope : Scope) where
                   rest = rest;
                   takes_ands = others;
                   takes_ors = takes_ors;
-                  followed = subst (λ bs. Then (join_parts Or (ors ++ (join_parts And bs ∷ os))) rest) (sym (push_append ands q as')) follow;
+                  followed = subst (λ bs. Then (join_parts Or (ors ++ (join_parts And bs ∷ os))) rest)
+                      (sym (push_append ands q as')) follow;
                 },
               )
 

@@ -12,6 +12,7 @@ use Rattle.ifmap_lemmas.specs.Items.{To}
 use Rattle.ifmap_lemmas.specs.Members.{all_of_test}
 use Rattle.ifmap_lemmas.specs.Numbers.{is_other}
 use Rattle.ifmap_lemmas.specs.Texts.{ascii_encoded, is_ascii}
+use Rattle.ifmap_lemmas.specs.Runs.{to_both}
 use Rattle.ifmap_elem.specs.Chars.{AllAre, colon, double_quote, is_white, single_quote, space_character, carriage_return, equals_sign, line_feed, tab}
 use Rattle.ifmap_elem.specs.Names.{is_name_character, is_name_start}
 use Rattle.ifmap_filter.specs.declared.tokens.FilterToken.{FilterToken}
@@ -37,16 +38,12 @@ EndsName text = (cs : List ℕ) → Ends cs → Ends (chars text ++ cs)
 
 -- (1) texts in a row
 
-to_both : (bs mid end : List ℕ) (xs ys : List FilterToken) → To Takes bs xs mid → To Takes mid ys end → To Takes bs (xs ++ ys) end
-to_both bs mid end [] ys l m = subst (λ b. To Takes b ys end) (sym l) m
-to_both bs mid end (x ∷ xs) ys l m = (l.0, l.1, to_both l.0 mid end xs ys l.2 m)
-
 pub both : (a b : List ℕ) (s t : List FilterToken) → Lexes a s → Lexes b t → EndsName b → Lexes (a ++ b) (s ++ t)
 both a b s t l m ends = record {
   is_text = IsUtf8-append a b l.is_text m.is_text;
   to = λ cs e. subst (λ x. To Takes x (s ++ t) cs) (sym
       (ap (λ x. x ++ cs) (chars-append a b l.is_text) ∙ append_assoc (chars a) (chars b) cs))
-      (to_both (chars a ++ (chars b ++ cs)) (chars b ++ cs) cs s t (l.to (chars b ++ cs) (ends cs e)) (m.to cs e));
+      (to_both Takes (chars a ++ (chars b ++ cs)) s (chars b ++ cs) t cs (l.to (chars b ++ cs) (ends cs e)) (m.to cs e));
 }
 
 pub nothing : Lexes [] []

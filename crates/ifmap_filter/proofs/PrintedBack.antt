@@ -19,6 +19,8 @@ use Rattle.ifmap_lemmas.specs.Items.{To}
 use Rattle.ifmap_lemmas.specs.Numerals.{numeral, numeral_digits, one_number}
 use Rattle.ifmap_lemmas.specs.Members.{all_of_test}
 use Rattle.ifmap_lemmas.specs.Texts.{ascii_encoded, eq_itself, eq_tells, is_ascii, bytes_apart}
+use Rattle.ifmap_lemmas.specs.Branches.{second_holds, and_true}
+use Rattle.ifmap_lemmas.specs.Runs.{all_joined}
 use Rattle.ifmap_elem.specs.Chars.{colon, equals_sign}
 use Rattle.ifmap_elem.specs.Folds.{Each}
 use Rattle.ifmap_elem.specs.Names.{is_name_character}
@@ -42,7 +44,7 @@ use Rattle.ifmap_filter.proofs.Lexed.{EndsName, IsPart, IsWord, Lexes, and_is, a
 use Rattle.ifmap_filter.proofs.Deciding.{one_filter, stops_where_no_filter}
 use Rattle.ifmap_filter.proofs.LexedParts.{AreTokens, IsLiteral, IsToken, are_tokens, lexed_literal}
 use Rattle.ifmap_filter.proofs.PrintLaws.{prints_and, prints_attr, prints_child, prints_or}
-use Rattle.ifmap_filter.proofs.SpaceLaws.{and_true, each_of_all, had_and, had_child, had_or}
+use Rattle.ifmap_filter.proofs.SpaceLaws.{had_and, had_child, had_or}
 use Rattle.ifmap_elem.specs.laws.PrintedScopes.{digits_characters}
 
 -- (1) texts that rules take
@@ -188,10 +190,6 @@ other_prefix m n apart =
     false_from_ne_true _ (λ e. let same = eq_tells (numbered_prefix m) (numbered_prefix n) e in let d : numeral m ≡ numeral n = cc in apart
     (one_number m n d))
 
-or_later : (a b : Bool) → a ≡ false → (a || b) ≡ true → b ≡ true
-or_later true b e h = cc
-or_later false b e h = h
-
 module _ (space : List ℕ) where
   first_place : (s : List ℕ) (ss : List (List ℕ)) → bytes_eq s space ≡ true → space_place space (s ∷ ss) ≡ 0
   first_place s ss e = rw e refl
@@ -212,7 +210,7 @@ module _ (space : List ℕ) where
     | inr e ↦
         let number : space_place space (s ∷ ss) + n ≡ space_place space ss + (n + 1) = (let p = later_place s ss e in omega (arith, p)) in
         let among : list_any (bytes_eq space) ss ≡ true =
-        or_later (bytes_eq space s) (list_any (bytes_eq space) ss) (bytes_apart s space e) h in
+        second_holds (bytes_eq space s) (list_any (bytes_eq space) ss) (bytes_apart s space e) h in
         ap (λ k. lookup (bytes_eq (numbered_prefix k)) (numbered_rows n (s ∷ ss))) number
         ∙ row_later (bytes_eq (numbered_prefix (space_place space ss + (n + 1)))) (numbered_prefix n) s (numbered_rows (n + 1) ss)
         (other_prefix (space_place space ss + (n + 1)) n (λ q. absurd (omega (arith, q))))
@@ -253,8 +251,8 @@ module _ (spaces : List (List ℕ)) (name : element.Name) (part : IsPart name.lo
       }
       | inr f ↦
           let place = space_place name.space spaces in
-          let among = or_later (bytes_eq name.space xml_space) (list_any (bytes_eq name.space) spaces) f
-          (or_later (bytes_eq name.space []) (bytes_eq name.space xml_space || list_any (bytes_eq name.space) spaces) e h) in
+          let among = second_holds (bytes_eq name.space xml_space) (list_any (bytes_eq name.space) spaces) f
+          (second_holds (bytes_eq name.space []) (bytes_eq name.space xml_space || list_any (bytes_eq name.space) spaces) e h) in
           record {
             written = record { prefix = numbered_prefix (place + 1); local = name.local };
             stands = record { space_is = place_found name.space spaces 1 among; local_is = refl };
@@ -671,7 +669,7 @@ pub nests_no_deeper : (spaces : List (List ℕ)) (filter : Filter) → HasSpaces
 nests_no_deeper spaces filter has depth can =
     tests_back spaces can.scope depth can.writes.tokens filter.tests filter refl can.writes.filter_is
     (are_tokens (chars can.text) can.writes.tokens can.writes.rest (scalars-chars can.text can.is_text) can.writes.lexed)
-    (sym (each_of_all (has_space spaces) test_spaces filter.tests) ∙ has)
+    (sym (all_joined (has_space spaces) test_spaces filter.tests) ∙ has)
 
 pub printed_back : (spaces : List (List ℕ)) (filter : Filter) → HasSpaces spaces filter
     → WritesBack (filter_text spaces filter) spaces filter

@@ -12,6 +12,8 @@ use Rattle.std.proofs.lemmas.Grind.{flat_map-append}
 use Rattle.std.proofs.lemmas.List.{append-nil, take_more}
 use Rattle.std.proofs.lemmas.List.Folds.{flat_map-map, list_all-append}
 use Rattle.ifmap_lemmas.specs.Texts.{eq_itself}
+use Rattle.ifmap_lemmas.specs.Branches.{and_true}
+use Rattle.ifmap_lemmas.specs.Runs.{all_joined, any_more, any_last}
 use Rattle.ifmap_elem.specs.Namespaces.{declared_among, is_declared, AddsSpaces, IsFront}
 use Rattle.ifmap_elem.specs.Scopes.{xml_space}
 use Rattle.ifmap_elem.specs.laws.NamespaceLaws.{adds_both, adds_known, adds_new, adds_none, adds_undeclared}
@@ -25,18 +27,9 @@ use Rattle.ifmap_filter.specs.Spaces.{HasSpaces, ListedServeEach, MoreServe, fil
 
 -- (1) joined lists
 
-pub and_true : (b : Bool) → (b && true) ≡ b
-and_true true = refl
-and_true false = refl
-
-pub each_of_all : {X : Type 0} (p : List ℕ → Bool) (f : X → List (List ℕ)) (xs : List X)
-    → list_all p (flat_map f xs) ≡ list_all (λ x. list_all p (f x)) xs
-each_of_all p f [] = refl
-each_of_all p f (x ∷ xs) = list_all-append p (f x) (flat_map f xs) ∙ ap (λ b. list_all p (f x) && b) (each_of_all p f xs)
-
 pub tests_had : (spaces : List (List ℕ)) (tests : List Test)
     → list_all (λ test. has_each spaces (test_spaces test)) tests ≡ has_each spaces (flat_map test_spaces tests)
-tests_had spaces tests = sym (each_of_all (has_space spaces) test_spaces tests)
+tests_had spaces tests = sym (all_joined (has_space spaces) test_spaces tests)
 
 -- (2) predicates
 
@@ -61,31 +54,17 @@ had_child spaces name value = ap (has_each spaces) (spaces_child name value) ∙
 
 pub had_and : (spaces : List (List ℕ)) (parts : List Predicate)
     → has_each spaces (predicate_spaces (And parts)) ≡ list_all (λ p. has_each spaces (predicate_spaces p)) parts
-had_and spaces parts = ap (has_each spaces) (spaces_and parts) ∙ each_of_all (has_space spaces) predicate_spaces parts
+had_and spaces parts = ap (has_each spaces) (spaces_and parts) ∙ all_joined (has_space spaces) predicate_spaces parts
 
 pub had_or : (spaces : List (List ℕ)) (parts : List Predicate)
     → has_each spaces (predicate_spaces (Or parts)) ≡ list_all (λ p. has_each spaces (predicate_spaces p)) parts
-had_or spaces parts = ap (has_each spaces) (spaces_or parts) ∙ each_of_all (has_space spaces) predicate_spaces parts
+had_or spaces parts = ap (has_each spaces) (spaces_or parts) ∙ all_joined (has_space spaces) predicate_spaces parts
 
 -- (3) one more namespace
 
 pub had_among : (spaces : List (List ℕ)) (s : List ℕ) → bytes_eq s [] ≡ false → bytes_eq s xml_space ≡ false
     → has_space spaces s ≡ list_any (bytes_eq s) spaces
 had_among spaces s e f = rw (e, f) refl
-
-any_more : (p : List ℕ → Bool) (xs ys : List (List ℕ)) → list_any p xs ≡ true → list_any p (xs ++ ys) ≡ true
-any_more p [] ys h = cc
-any_more p (x ∷ xs) ys h = elim (cases_Bool (p x)) [
-  | inl e ↦ rw e refl
-  | inr e ↦ rw e (any_more p xs ys (rw e at h))
-]
-
-any_last : (p : List ℕ → Bool) (xs : List (List ℕ)) (x : List ℕ) → p x ≡ true → list_any p (xs ++ x ∷ []) ≡ true
-any_last p [] x h = rw h refl
-any_last p (y ∷ ys) x h = elim (cases_Bool (p y)) [
-  | inl e ↦ rw e refl
-  | inr e ↦ rw e (any_last p ys x h)
-]
 
 had_more : (spaces more : List (List ℕ)) (s : List ℕ) → has_space spaces s ≡ true → has_space (spaces ++ more) s ≡ true
 had_more spaces more s h = elim (cases_Bool (bytes_eq s [])) [

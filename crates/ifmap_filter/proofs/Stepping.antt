@@ -253,7 +253,8 @@ module _ (scope : Scope) where
     (λ (p, mid, takes, rest). elim takes [
       | inl one ↦ elim one [
         | inl a ↦ let wrong : OpenParenthesis ≡ At = (same_parts OpenParenthesis At more _ a.tokens_are).0 in cc
-        | inr ch ↦ let wrong : OpenParenthesis ≡ Name ch.written = (same_parts OpenParenthesis (Name ch.written) more _ ch.tokens_are).0 in cc
+        | inr ch ↦
+            let wrong : OpenParenthesis ≡ Name ch.written = (same_parts OpenParenthesis (Name ch.written) more _ ch.tokens_are).0 in cc
       ]
       | inr group ↦
           let tail : group.0 ≡ more = sym (same_parts OpenParenthesis OpenParenthesis more group.0 group.1).1 in
@@ -288,7 +289,8 @@ module _ (scope : Scope) where
       (λ filter more first. none filter more first)
     where
       none : (filter : Filter) (more : List FilterToken) → FactorFirst scope filter zero c (OpenParenthesis ∷ more) → ⊥
-      none filter more (p, mid, inl a, rest) = let wrong : OpenParenthesis ≡ At = (same_parts OpenParenthesis At more _ a.tokens_are).0 in cc
+      none filter more (p, mid, inl a, rest) =
+          let wrong : OpenParenthesis ≡ At = (same_parts OpenParenthesis At more _ a.tokens_are).0 in cc
       none filter more (p, mid, inr ch, rest) =
           let wrong : OpenParenthesis ≡ Name ch.written = (same_parts OpenParenthesis (Name ch.written) more _ ch.tokens_are).0 in cc
   right_open (suc m) c e =
@@ -412,7 +414,8 @@ module _ (scope : Scope) where
   no_close : (filter : Filter) (tests : List Test) (name : Option element.Name) (n : ℕ) (outer : List OuterPart) (t : FilterToken)
       → t ≢ CloseBracket
       → t ≢ CloseParenthesis → Refuses scope n (Closes scope filter tests name n outer) t
-  no_close filter tests name n [] t no_bracket no_parenthesis p more (after, e, rest) = no_bracket (same_parts t CloseBracket more after e).0
+  no_close filter tests name n [] t no_bracket no_parenthesis p more (after, e, rest) =
+      no_bracket (same_parts t CloseBracket more after e).0
   no_close filter tests name n (outer_part ∷ outer) t no_bracket no_parenthesis p more (after, e, rest) =
       no_parenthesis (same_parts t CloseParenthesis more after e).0
 

@@ -6,8 +6,8 @@ use Rattle.std.proofs.Common.{◌≡◌, ◌∙◌, ℕ, ◌+◌, ◌-◌, ◌<�
 use Rattle.std.specs.Prelude.{◌==◌}
 use Rattle.std.specs.List.{position, position_or_len}
 use Rattle.std.specs.Str.{byte}
-use Rattle.std.proofs.lemmas.List.{reverse-append, reverse-reverse}
-use Rattle.std.proofs.Math.Seq.{take-length, take-suc}
+use Rattle.std.proofs.lemmas.List.{reverse-reverse}
+use Rattle.ifmap_lemmas.specs.Joined.{reversed_at_last}
 use Rattle.ifmap_filter.specs.Tokens.{without_white}
 use Rattle.ifmap_elem.specs.Chars.{is_white}
 use Rattle.ifmap_ident.specs.declared.codes.Code.{Code}
@@ -29,20 +29,12 @@ pub solid_front : (text : List ℕ) → begins_white text ≡ false → text ≡
 solid_front [] h = refl
 solid_front (b ∷ bs) h = sym (ap (λ t. cond t (without_white bs) (b ∷ bs)) h)
 
-pub reversed : (text : List ℕ) → 0 < length text
-    → reverse text ≡ get_or text (length text - 1) 0 ∷ reverse (take (length text - 1) text)
-reversed text some =
-    let n = length text - 1 in
-    let below : n < length text = omega arith in
-    let whole : take (suc n) text ≡ text = let same : suc n ≡ length text = omega arith in rw same (take-length text) in
-    ap reverse (sym whole ∙ take-suc text n 0 below) ∙ reverse-append (take n text) (get_or text n 0 ∷ [])
-
 pub white_back : (text : List ℕ) → begins_white (reverse text) ≡ true
     → reverse (without_white (reverse (take (length text - 1) text))) ≡ reverse (without_white (reverse text))
 white_back [] h = let wrong : false ≡ true = h in cc
 white_back (b ∷ bs) h =
     let text : List ℕ = b ∷ bs in
-    let turned = reversed text (omega arith) in
+    let turned = reversed_at_last text 0 (omega arith) in
     let white : is_white (get_or text (length text - 1) 0) ≡ true = sym (ap begins_white turned) ∙ h in
     ap reverse (sym (ap without_white turned
     ∙ ap (λ t. cond t (without_white (reverse (take (length text - 1) text)))

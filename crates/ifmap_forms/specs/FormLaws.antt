@@ -7,6 +7,7 @@ use Rattle.std.proofs.lemmas.Bool.Decides.{nat_tests}
 use Rattle.ifmap_lemmas.specs.Numerals.{digit, numeral, numeral_by_digits, numeral_value}
 use Rattle.std.specs.Str.{bytes_eq}
 use Rattle.ifmap_lemmas.specs.Members.{all_append}
+use Rattle.ifmap_lemmas.specs.Runs.{all_tested}
 use Rattle.ifmap_forms.specs.Values.{is_number, number_of}
 use Rattle.std.specs.Prelude.{if◌then◌else◌}
 use Rattle.std.specs.Str.Parse.{digits_value}
@@ -17,10 +18,6 @@ use Rattle.ifmap_forms.specs.Checks.{pass}
 use Rattle.ifmap_forms.specs.Scopes.{Scopes}
 use Rattle.ifmap_elem.specs.WhiteSpace.{is_blank_part}
 use Rattle.ifmap_forms.specs.Tables.{no_children, element_parts}
-
-pub all_tested : {X : Type 0} (p : X → Bool) (xs : List X) → AllByRecursion (λ x. p x ≡ true) xs → list_all p xs ≡ true
-all_tested p [] f = refl
-all_tested p (x ∷ xs) f = and_from (p x) (list_all p xs) f.0 (all_tested p xs f.1)
 
 pub digit_is_digit : (d : ℕ) → d < 10 → is_ascii_digit (digit d) ≡ true
 digit_is_digit d few = grind (arith, nat_tests)

@@ -1,10 +1,10 @@
 -- What holds alike of heads of posts and of answers at the front of bytes, and what no bytes after them can change.
 use Rattle.std.proofs.Common.{◌≡◌, ℕ, ◌+◌, ◌<◌, ◌≤◌, ◌⊎◌, inl, inr, List, [], ◌∷◌, ◌++◌, length, sym, ap, ◌∙◌, subst, arith, append_assoc, length-append}
+use Rattle.ifmap_lemmas.specs.Joined.{shared_front}
 use Rattle.httparse.specs.Grammar.{IsRequestHead, IsResponseHead, RequestHead, ResponseHead, print_request, print_response}
 use Rattle.httparse.proofs.GrammarLemmas.{request_prefix_free, response_prefix_free}
 use Rattle.ifmap_heads.specs.Heads.{IsAnswerHead, IsPostHead, line_count}
 use Rattle.ifmap_heads.specs.Limits.{longest_head, most_fields, most_lines}
-use Rattle.ifmap_heads.proofs.General.{shared_front}
 use Rattle.ifmap_heads.proofs.Lines.{lines_grow, lines_of_request, lines_of_response, many_lines}
 
 -- a kind of heads: which there are, how each is printed, how many fields it has, and which begin bytes and are within the limits

@@ -2,7 +2,6 @@ pub mod AnswerHeads
 pub mod AnswersOnce
 pub mod ClientTests
 pub mod Found
-pub mod General
 pub mod HeadFronts
 pub mod Lines
 pub mod PostHeads

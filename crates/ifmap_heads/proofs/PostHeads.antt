@@ -8,7 +8,7 @@ use Rattle.httparse.proofs.GrammarLemmas.{ReadsRequest-append, print_request-app
 use Rattle.ifmap_heads.specs.Heads.{IsPostHead}
 use Rattle.ifmap_heads.specs.Limits.{longest_head, most_fields}
 use Rattle.ifmap_heads.specs.Posts.{ReadsPost, judge_post, refused, status}
-use Rattle.ifmap_heads.proofs.General.{all_front, fronts}
+use Rattle.ifmap_lemmas.specs.Fronts.{all_front, fronts}
 use Rattle.ifmap_heads.proofs.HeadFronts.{PassesLimits, never_more, none_ever, posts}
 
 -- 400 where the limits are passed

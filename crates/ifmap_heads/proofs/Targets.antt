@@ -5,6 +5,7 @@ use Rattle.std.specs.List.{list_all}
 use Rattle.std.proofs.lemmas.Bool.{eqb-true}
 use Rattle.std.proofs.lemmas.List.Elements.{All-head, All-tail, All-nil, All-cons}
 use Rattle.std.proofs.lemmas.List.Sums.{AllPass-from_list_all, list_all-from_AllPass}
+use Rattle.ifmap_lemmas.specs.Branches.{all_three}
 use Rattle.httparse.specs.Grammar.{AllPass, EndsInTarget, IsToken, LineEnd, is_token_byte, is_uri_byte, print_blank, print_end}
 use Rattle.httparse.proofs.PieceLemmas.{newline_not_stopped, print_end_unique, space_ends_token, Stops_token}
 use Rattle.ifmap_heads.specs.Empty.{BeginsNoLineEnd, is_cut_target}
@@ -29,12 +30,6 @@ pub record CutLine (begun : Bool) (line : List ℕ) : Type 0 where
   pub uri : AllPass is_uri_byte target
   pub is : line ≡ method ++ 32 ∷ target
   pub some : begun ≡ false → 0 < length method
-
-all_three : (a b c : Bool) → (a && b && c) ≡ true → (a ≡ true) × (b ≡ true) × (c ≡ true)
-all_three true true true e = (refl, refl, refl)
-all_three true true false e = cc
-all_three true false c e = cc
-all_three false b c e = cc
 
 pub cut_line : (begun : Bool) (line : List ℕ) → is_cut_target begun line ≡ true → CutLine begun line
 cut_line begun [] e = cc

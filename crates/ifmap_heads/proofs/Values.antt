@@ -10,8 +10,8 @@ use Rattle.std.proofs.lemmas.Bool.Decides.{nat_tests}
 use Rattle.std.proofs.lemmas.Int.Digits.{digits_value_push}
 use Rattle.std.proofs.lemmas.List.{take_more}
 use Rattle.std.proofs.lemmas.List.Folds.{list_all-append}
+use Rattle.ifmap_lemmas.specs.Letters.{digit_between}
 use Rattle.ifmap_heads.specs.Fields.{comma_parts}
-use Rattle.ifmap_lemmas.specs.Decimals.{between_is_digit}
 
 pub room_for_digit : (n i : ℕ) → n < 10 ^ i → i < 18 → n * 10 + 9 < 2 ^ 64
 room_for_digit n i less few =
@@ -35,7 +35,7 @@ digit_pushed value i number d within is less all low high digit =
     let last = digit_of b low high in (
       rw more (rw digits_value_push (rw (last, ← digit, ← is) refl)),
       omega (arith, power),
-      rw more (rw list_all-append (rw (all, between_is_digit b low high) refl)),
+      rw more (rw list_all-append (rw (all, digit_between b low high) refl)),
     )
 
 -- no comma stands among the bytes

@@ -11,6 +11,7 @@ use Rattle.std.proofs.lemmas.Fmt.{decimal_by_steps, decimal_is_IsNumeral, length
 use Rattle.std.proofs.lemmas.List.Elements.{All-cons}
 use Rattle.std.proofs.lemmas.List.Folds.{list_all-append}
 use Rattle.std.proofs.lemmas.List.Sums.{AllPass-from_list_all, list_all-from_AllPass}
+use Rattle.ifmap_lemmas.specs.Runs.{all_weaker}
 use Rattle.httparse.specs.Ascii.{space}
 use Rattle.httparse.specs.Grammar.{Field, IsField, IsToken, crlf, field_value, is_ows, is_token, is_token_byte, is_value_byte, skip_ows}
 use Rattle.httparse.specs.Spans.{name_and_value}
@@ -20,11 +21,6 @@ use Rattle.ifmap_heads.specs.Fields.{Fields, common_length, is_length}
 -- a field as it is written
 abbrev written_field : List ℕ → List ℕ → Field
 written_field name value = record { name = name; raw = space ∷ value; end = crlf }
-
-pub weaker : (p q : ℕ → Bool) → ((b : ℕ) → p b ≡ true → q b ≡ true) → (xs : List ℕ) → list_all p xs ≡ true → list_all q xs ≡ true
-weaker p q implies xs is =
-    let all = AllPass-from_list_all p xs is in
-    list_all-from_AllPass q xs (λ k d within. implies _ (all k d within))
 
 pub digit_is_visible : (b : ℕ) → is_ascii_digit b ≡ true → is_ascii_graphic b ≡ true
 digit_is_visible b is = grind (arith, nat_tests)
@@ -57,7 +53,7 @@ token_is name is =
 field_is : (name v : List ℕ) → is_token name ≡ true → list_all is_ascii_graphic v ≡ true → IsField (written_field name v)
 field_is name v token is = record {
   name = token_is name token;
-  raw = AllPass-from_list_all is_value_byte (space ∷ v) (weaker is_ascii_graphic is_value_byte value_byte v is);
+  raw = AllPass-from_list_all is_value_byte (space ∷ v) (all_weaker is_ascii_graphic is_value_byte value_byte v is);
 }
 
 fields_none : All IsField []

@@ -13,12 +13,15 @@ use Rattle.std.proofs.lemmas.Bool.{cond-false, le-ltb}
 use Rattle.std.proofs.lemmas.Bool.Decides.{nat_tests}
 use Rattle.std.proofs.lemmas.Fmt.{length-decimal-le}
 use Rattle.std.proofs.lemmas.List.Sums.{AllPass-from_list_all}
+use Rattle.ifmap_lemmas.specs.Runs.{all_weaker}
+use Rattle.ifmap_lemmas.specs.Branches.{either_leads}
+use Rattle.ifmap_lemmas.specs.Numbers.{equal_numbers}
 use Rattle.httparse.specs.Grammar.{Field, IsResponseHead, ResponseHead, crlf, is_token_byte, is_value_byte, print_response, status_code}
 use Rattle.ifmap_heads.specs.Answers.{ReadsAnswer, answered, judge_size, judge_status, status}
 use Rattle.ifmap_heads.specs.Fields.{Fields, common_length}
 use Rattle.ifmap_heads.specs.Limits.{longest_answer, longest_head, most_fields}
 use Rattle.ifmap_heads.specs.Messages.{answer_bytes, is_answer_status, phrase}
-use Rattle.ifmap_heads.proofs.Written.{digit_is_visible, digits_are, fields_are, fields_of, is_fit, length_told, values_stay, weaker}
+use Rattle.ifmap_heads.proofs.Written.{digit_is_visible, digits_are, fields_are, fields_of, is_fit, length_told, values_stay}
 
 -- the head of an answer with a phrase and fields
 abbrev head_of : ℕ → List ℕ → List Field → ResponseHead
@@ -83,25 +86,24 @@ read_405 body rest close =
     status_is_read 405 (phrase 405) (closing ((codes "allow", codes "POST") ∷ [])) (answer_bytes 405 body close) rest
     refl refl refl refl refl refl refl refl refl
 
-by_cases : {P : Type 0} (a b : Bool) → (a || b) ≡ true → (b ≡ true → P) → (a ≡ true → P) → P
-by_cases true b e last first = first refl
-by_cases false b e last first = last e
-
-same : (n m : ℕ) → (n == m) ≡ true → n ≡ m
-same n m e = grind (arith, nat_tests)
-
 pub status_is_read_back : (number : ℕ) (body rest : List ℕ) (close : Bool) → is_answer_status number ≡ true → number ≢ 200
     → ReadsAnswer (answer_bytes number body close ++ rest) (status number rest)
 unfolding print_response is_token_byte digits
 status_is_read_back number body rest close is other_than =
-    by_cases _ (number == 507) is (λ e. rw (same number 507 e) (plain 507 body rest close refl refl refl refl refl refl refl)) (λ is.
-    by_cases _ (number == 503) is (λ e. rw (same number 503 e) (plain 503 body rest close refl refl refl refl refl refl refl)) (λ is.
-    by_cases _ (number == 413) is (λ e. rw (same number 413 e) (plain 413 body rest close refl refl refl refl refl refl refl)) (λ is.
-    by_cases _ (number == 411) is (λ e. rw (same number 411 e) (plain 411 body rest close refl refl refl refl refl refl refl)) (λ is.
-    by_cases _ (number == 405) is (λ e. rw (same number 405 e) (read_405 body rest close)) (λ is.
-    by_cases _ (number == 403) is (λ e. rw (same number 403 e) (plain 403 body rest close refl refl refl refl refl refl refl)) (λ is.
-    by_cases _ (number == 400) is (λ e. rw (same number 400 e) (plain 400 body rest close refl refl refl refl refl refl refl)) (λ is.
-    absurd (other_than (same number 200 is)))))))))
+    either_leads _ (number == 507) is (λ e. rw (equal_numbers number 507 e)
+    (plain 507 body rest close refl refl refl refl refl refl refl)) (λ is.
+    either_leads _ (number == 503) is (λ e. rw (equal_numbers number 503 e)
+    (plain 503 body rest close refl refl refl refl refl refl refl)) (λ is.
+    either_leads _ (number == 413) is (λ e. rw (equal_numbers number 413 e)
+    (plain 413 body rest close refl refl refl refl refl refl refl)) (λ is.
+    either_leads _ (number == 411) is (λ e. rw (equal_numbers number 411 e)
+    (plain 411 body rest close refl refl refl refl refl refl refl)) (λ is.
+    either_leads _ (number == 405) is (λ e. rw (equal_numbers number 405 e) (read_405 body rest close)) (λ is.
+    either_leads _ (number == 403) is (λ e. rw (equal_numbers number 403 e)
+    (plain 403 body rest close refl refl refl refl refl refl refl)) (λ is.
+    either_leads _ (number == 400) is (λ e. rw (equal_numbers number 400 e)
+    (plain 400 body rest close refl refl refl refl refl refl refl)) (λ is.
+    absurd (other_than (equal_numbers number 200 is)))))))))
 
 -- the fields of a success
 abbrev success : List ℕ → Fields → Fields
@@ -168,7 +170,7 @@ unfolding digits
 body_is_read_back body rest close small =
     let count = decimal (length body) in
     let pairs = success count (last_pairs close) in
-    let seen = weaker is_ascii_digit is_ascii_graphic digit_is_visible count (digits_are (length body) (omega arith)) in
+    let seen = all_weaker is_ascii_digit is_ascii_graphic digit_is_visible count (digits_are (length body) (omega arith)) in
     let fit = are_fit count close seen in
     let digits_short : length count ≤ 9 = length-decimal-le 9 (length body) (omega arith) (omega arith) (omega arith) in
     let enough : nat_lt longest_answer (length body) ≡ false = le-ltb longest_answer (length body) small in (

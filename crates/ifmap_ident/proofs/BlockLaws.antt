@@ -1,13 +1,14 @@
 -- How much two blocks share, told by the mask of the lanes that differ.
 use Rattle.std.proofs.Common.{◌≡◌, ◌≢◌, ℕ, zero, suc, ◌+◌, ◌%◌, ◌^◌, ◌<◌, ◌≤◌, min, Bool, true, false, not, cond, ◌==◌, w8}
-use Rattle.std.proofs.Common.{List, [], ◌∷◌, ◌++◌, None, Some, length, take, drop, take-add, map}
+use Rattle.std.proofs.Common.{List, [], ◌∷◌, ◌++◌, None, Some, length, take, drop, map}
 use Rattle.std.proofs.Common.{inl, inr, refl, ap, subst, sym, ◌∙◌, arith}
 use Rattle.std.proofs.lemmas.Bool.{cases_eq, cond-false, cond-true, eq-eqb, eqb-false, eqb-true, ne_eqb}
 use Rattle.std.proofs.lemmas.List.{map-id, take-take}
 use Rattle.std.proofs.lemmas.List.Sums.{prefix_len-le-length}
-use Rattle.std.proofs.lemmas.Option.{slice_get_past}
+use Rattle.std.proofs.lemmas.Option.{slice_get_past, same_Some}
 use Rattle.std.proofs.lemmas.Simd.{first_set_mask_l, length-chunk, length-zip2, mask_l-mod, tops_compared}
 use Rattle.std.specs.List.{prefix_len, slice_get}
+use Rattle.ifmap_lemmas.specs.Joined.{slice_get_drop, slice_get_take}
 use lib.Count.{count_trailing_zeros}
 use lib.Dec.{eqb}
 use lib.Lanes.{chunk, mask_l, top, zip2}
@@ -20,16 +21,13 @@ differ a b = not (a == b)
 abbrev pub Shares : List ℕ → List ℕ → ℕ → Type 0
 Shares xs ys n = (take n xs ≡ take n ys) × (n < length xs → slice_get xs n ≢ slice_get ys n)
 
-one_item : (x y : ℕ) → Some x ≡ Some y → x ≡ y
-one_item x y same = cc
-
 shares_more : (same : Bool) (x y : ℕ) (xs ys : List ℕ) (n : ℕ) → (x == y) ≡ same → Shares xs ys n
     → Shares (x ∷ xs) (y ∷ ys) (cond (not (not same)) (1 + n) 0)
 shares_more true x y xs ys n e h =
     let first = eqb-true x y e in
     let next : suc n ≡ 1 + n = omega arith in
     subst (Shares (x ∷ xs) (y ∷ ys)) next ((λ i. first i ∷ h.0 i), λ short. h.1 (omega arith))
-shares_more false x y xs ys n e h = (refl, λ short same. absurd (eqb-false x y e (one_item x y same)))
+shares_more false x y xs ys n e h = (refl, λ short same. absurd (eqb-false x y e (same_Some x y same)))
 
 -- they share as many as stand before the first two that differ
 shares_front : (xs ys : List ℕ) → length xs ≡ length ys → Shares xs ys (prefix_len not (zip2 differ xs ys))
@@ -46,21 +44,6 @@ mask_of xs ys long also =
     let lanes = length-zip2 differ xs ys (long ∙ sym also) ∙ long in
     ap (λ ms. mask_l ms % 2 ^ 64) (tops_compared w8 differ xs ys) ∙ mask_l-mod (zip2 differ xs ys) 64 (omega arith)
     ∙ ap mask_l (sym (map-id (zip2 differ xs ys)))
-
-slice_get_drop : (at n : ℕ) (xs : List ℕ) → slice_get (drop at xs) n ≡ slice_get xs (at + n)
-slice_get_drop zero n xs =
-    let next : n ≡ 0 + n = omega arith in
-    ap (slice_get xs) next
-slice_get_drop (suc at) n [] = refl
-slice_get_drop (suc at) n (x ∷ xs) =
-    let next : suc (at + n) ≡ suc at + n = omega arith in
-    slice_get_drop at n xs ∙ ap (slice_get (x ∷ xs)) next
-
-slice_get_take : (k n : ℕ) (xs : List ℕ) → n < k → slice_get (take k xs) n ≡ slice_get xs n
-slice_get_take zero n xs h = absurd (omega arith)
-slice_get_take (suc k) n [] h = refl
-slice_get_take (suc k) zero (x ∷ xs) h = refl
-slice_get_take (suc k) (suc n) (x ∷ xs) h = slice_get_take k n xs (omega arith)
 
 -- two texts share n bytes from a place on, of a block, and differ there if the block goes on
 abbrev pub SharesInBlock : List ℕ → List ℕ → ℕ → ℕ → Type 0
@@ -106,14 +89,6 @@ module _ (one other : List ℕ) (at : ℕ) (room : at + 16 ≤ length one) (also
   some_shared some = counted (count_trailing_zeros 64 mask) (cond-false _ _ _ (ne_eqb mask 0 some))
 
 -- ---- blocks in a row
-
--- what they share before a place, and from there on
-pub shared_on : (one other : List ℕ) (at n : ℕ) → take at one ≡ take at other → take n (drop at one) ≡ take n (drop at other)
-    → take (at + n) one ≡ take (at + n) other
-shared_on one other at n before after = take-add at n one ∙ (λ i. before i ++ after i) ∙ sym (take-add at n other)
-
-pub shared_before : (one other : List ℕ) (k at : ℕ) → k ≤ at → take at one ≡ take at other → take k one ≡ take k other
-shared_before one other k at few e = sym (take-take k at one few) ∙ ap (take k) e ∙ take-take k at other few
 
 -- in the last block, which ends where one of them does
 pub apart_in_last : (one other : List ℕ) (at n : ℕ) → at + 16 ≡ min (length one) (length other) → SharesInBlock one other at n

@@ -12,6 +12,7 @@ use Rattle.std.proofs.lemmas.List.{take-append-drop}
 use Rattle.std.proofs.lemmas.Str.{encode_ascii}
 use Rattle.ifmap_ident.specs.IdentityNames.{domain_name, without_last_dots}
 use Rattle.ifmap_lemmas.specs.Numbers.{equal_numbers}
+use Rattle.ifmap_lemmas.specs.Letters.{lower_again}
 
 abbrev pub is_dot : ℕ → Bool
 is_dot c = c == byte "."
@@ -103,13 +104,6 @@ again_cond b bs cut false e same again = λ i. cond ((ap (λ t. is_dot b && t) s
 cut_again : (xs : List ℕ) → without_last_dots (without_last_dots xs) ≡ without_last_dots xs
 cut_again [] = refl
 cut_again (b ∷ bs) = again_cond b bs (without_last_dots bs) (list_all is_dot (b ∷ bs)) refl (all_cut bs) (cut_again bs)
-
-lower_twice : (c : ℕ) → to_ascii_lowercase (to_ascii_lowercase c) ≡ to_ascii_lowercase c
-lower_twice c = grind (arith, nat_tests)
-
-lower_again : (xs : List ℕ) → map to_ascii_lowercase (map to_ascii_lowercase xs) ≡ map to_ascii_lowercase xs
-lower_again [] = refl
-lower_again (c ∷ xs) = λ i. lower_twice c i ∷ lower_again xs i
 
 -- a name that is kept is kept as it is
 pub domain_again : (text : List ℕ) → domain_name (domain_name text) ≡ domain_name text

@@ -9,7 +9,7 @@ use Rattle.std.specs.List.{AllByRecursion, filter, flat_map, list_all}
 use Rattle.std.specs.Str.{bytes_eq}
 use Rattle.std.proofs.lemmas.Bool.{and_from, and_parts, not-true}
 use Rattle.ifmap_addresses.specs.IpV4.{IsIpV4, ip_v4_text}
-use Rattle.ifmap_addresses.specs.IpV4Laws.{below_at, ip_v4_plain}
+use Rattle.ifmap_addresses.specs.IpV4Laws.{ip_v4_plain}
 use Rattle.ifmap_addresses.specs.IpV6.{ip_v6_text}
 use Rattle.ifmap_addresses.specs.IpV6Laws.{ip_v6_fits, ip_v6_plain}
 use Rattle.ifmap_addresses.specs.MacAddresses.{mac_address_text}
@@ -46,6 +46,7 @@ use Rattle.ifmap_ident.proofs.ValueLaws.{address_characters, definition_characte
 use Rattle.ifmap_lemmas.specs.Members.{all_both, all_of_test, both_all}
 use Rattle.ifmap_lemmas.specs.Texts.{ascii_encoded, eq_itself, is_ascii}
 use Rattle.ifmap_lemmas.specs.Apart.{told_apart}
+use Rattle.ifmap_lemmas.specs.Runs.{below_at}
 use Rattle.ifmap_elem.specs.laws.CharacterLaws.{is_plain, plain_characters}
 use Rattle.ifmap_elem.specs.laws.BareNames.{another_bare}
 

@@ -1,6 +1,7 @@
 -- An element that has the parts of no identifier of one variant has those of no identifier of its kind.
 use Rattle.std.proofs.Common.{◌≡◌, ℕ, ◌<◌, ◌≤◌, ◌-◌, ◌^◌, min, Bool, true, false, List, Option, None, Some, IsTrue, Result, Ok, Err, codes, length, sym, ◌∙◌, ap, subst, arith}
 use Rattle.std.specs.Str.{bytes_eq}
+use Rattle.std.proofs.lemmas.Bool.{both_ways}
 use Rattle.ifmap_addresses.specs.IpV4.{IsIpV4}
 use Rattle.ifmap_addresses.specs.IpV6.{IsIpV6}
 use Rattle.ifmap_elem.specs.Building.{bare_name}
@@ -66,14 +67,6 @@ no_mac_address e none (IpV4 value domain) k parts = cc
 no_mac_address e none (IpV6 value domain) k parts = cc
 no_mac_address e none (MacAddress value domain) k parts = none value domain parts
 
--- a test that fails
-pub untrue : (b : Bool) → b ≡ false → IsTrue b → ⊥
-untrue b f t = cc
-
--- a value that is not there
-pub nothing : (given : Option (List ℕ)) (text : List ℕ) → given ≡ None → given ≡ Some text → ⊥
-nothing given text none some = cc
-
 -- the two versions of addresses are written otherwise
 pub versions_differ : codes "IPv4" ≡ codes "IPv6" → ⊥
 versions_differ e =
@@ -105,7 +98,7 @@ pub unknown_attribute : (e : Element) (kind : Kind) → IsOfKind e kind → has_
 unknown_attribute e kind named only = record {
   kind = kind;
   named = named;
-  none = λ i meant. untrue (has_only (allowed_attributes kind) e) only
+  none = λ i meant. both_ways (has_only (allowed_attributes kind) e) only
       (subst (λ k. IsTrue (has_only (allowed_attributes k) e)) (kind_of_meant e kind i named meant) meant.attributes);
 }
 

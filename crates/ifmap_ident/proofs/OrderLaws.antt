@@ -12,7 +12,7 @@ use Rattle.ifmap_addresses.specs.IpV6.{ip_v6_text}
 use Rattle.ifmap_addresses.specs.IpV6Laws.{ip_v6_plain}
 use Rattle.ifmap_addresses.specs.MacAddresses.{mac_address_text}
 use Rattle.ifmap_addresses.specs.MacAddressLaws.{mac_address_plain}
-use Rattle.ifmap_addresses.specs.OrderLaws.{closed_below}
+use Rattle.ifmap_lemmas.specs.Closing.{closed_below}
 use Rattle.ifmap_addresses.specs.Values.{IsAddressByte}
 use Rattle.ifmap_elem.specs.Escapes.{value_byte}
 use Rattle.ifmap_ident.specs.declared.identifiers.Identifier.{Identifier}
@@ -27,6 +27,7 @@ use Rattle.ifmap_ident.proofs.LeadingLaws.{leads_after, leads_both, leads_whole}
 use Rattle.ifmap_ident.proofs.OptionalLaws.{leads_before, optional_then}
 use Rattle.ifmap_ident.proofs.PrintedLaws.{printed}
 use Rattle.ifmap_lemmas.specs.Orderings.{then_then}
+use Rattle.ifmap_lemmas.specs.Runs.{all_below}
 
 -- ---- texts of addresses
 
@@ -52,10 +53,6 @@ plain_leads p q f g =
           ∙ (λ i. slice_cmp nat_cmp (append_assoc p (34 ∷ []) x i) (append_assoc q (34 ∷ []) y i))
           ∙ closed_below 34 p q x y (above_quotes p f) (above_quotes q g);
     }
-
-pub below : (bound : ℕ) (xs : List ℕ) → ((i : ℕ) → get_or xs i 0 < bound) → AllByRecursion (λ n. n < bound) xs
-below bound [] f = tt
-below bound (x ∷ xs) f = (f 0, below bound xs (λ i. f (suc i)))
 
 -- ---- each kind
 
@@ -118,8 +115,8 @@ pub v6_addresses : (o : Ordering) (v d w e : List ℕ) → ((i : ℕ) → get_or
     → ordering_then o (slice_cmp nat_cmp (ip_v6_text v) (ip_v6_text w)) ≡ identifier_order (IpV6 v d) (IpV6 w e)
 v6_addresses o v d w e f g h =
     by_written _ (IpV6 v d) (IpV6 w e) (typed_addresses o _ d e (codes "IPv6") (codes "IPv6") (ip_v6_text v) (ip_v6_text w) h
-    (leads_after (codes "IPv6\" value=\"") (plain_leads (ip_v6_text v) (ip_v6_text w) (ip_v6_plain v (below 65536 v f))
-    (ip_v6_plain w (below 65536 w g)))))
+    (leads_after (codes "IPv6\" value=\"") (plain_leads (ip_v6_text v) (ip_v6_text w) (ip_v6_plain v (all_below 65536 v f))
+    (ip_v6_plain w (all_below 65536 w g)))))
 
 pub v4_v6_addresses : (o : Ordering) (v d w e : List ℕ) → OptionalsLead o d e
     → ordering_then o Less ≡ identifier_order (IpV4 v d) (IpV6 w e)
@@ -139,8 +136,8 @@ pub mac_addresses : (o : Ordering) (v d w e : List ℕ) → ((i : ℕ) → get_o
 mac_addresses o v d w e f g h =
     by_written _ (MacAddress v d) (MacAddress w e) (leads_after (codes "<mac-address") (domain_then o _ 118 d e _ _ (omega arith) h
     (leads_after (codes "alue=\"") (leads_before (plain_leads (mac_address_text v) (mac_address_text w) (mac_address_plain v
-    (below 256 v f))
-    (mac_address_plain w (below 256 w g))) (codes "/>")))))
+    (all_below 256 v f))
+    (mac_address_plain w (all_below 256 w g))) (codes "/>")))))
 
 -- ---- kinds
 

@@ -4,7 +4,7 @@
 -- 3. A piece tells the byte that it is written for, so pieces of two bytes differ.
 -- 4. So texts lead as the pieces at the first place where they differ, and texts that are written alike are one.
 use Rattle.std.proofs.Common.{◌≡◌, ℕ, zero, suc, List, [], ◌∷◌, ◌++◌, true, false, not, nat_eq, cond, Option, None, Some, take, get_or, refl, ap, sym, ◌∙◌, subst, append_assoc, eq-eqb, nat_lt, length, IfSome, inl, inr, ◌⊎◌}
-use Rattle.std.proofs.lemmas.Bool.{and_parts, cases_Bool, cases_eq, eqb-true}
+use Rattle.std.proofs.lemmas.Bool.{and_parts, cases_Bool, cases_eq}
 use borrow.Author.Tests.{ltb-false, ltb-true}
 use denote.Bor.{Bor}
 use Rattle.std.proofs.lemmas.Option.{slice_get_past, slice_get_read}
@@ -15,15 +15,13 @@ use Rattle.std.specs.Cmp.Lexicographic.{slice_cmp}
 use Rattle.std.specs.List.{list_all, slice_get}
 use Rattle.std.specs.Ordering.{is_eq, nat_cmp}
 use Rattle.std.specs.declared.cmp.Ordering.{Ordering}
+use Rattle.ifmap_lemmas.specs.Numbers.{is_other}
 use Rattle.ifmap_elem.specs.Escapes.{text_byte, value_byte}
 use Rattle.ifmap_ident.specs.Leading.{FrontsCompare}
 use Rattle.ifmap_ident.specs.Written.{closed_text, end_byte, placed_byte, placed_bytes, written_byte}
 use Rattle.ifmap_ident.specs.declared.written.Place.{Place}
 use Rattle.ifmap_ident.specs.declared.written.Place.TheVariants.{Value, Content}
 use Rattle.ifmap_ident.proofs.LeadingLaws.{Parted, leads_after, leads_decided, leads_parted, parted_alike}
-
-not_equal : (b c : ℕ) → (b ≡ c → ⊥) → nat_eq b c ≡ false
-not_equal b c n = elim (cases_Bool (nat_eq b c)) [ inl e ↦ absurd (n (eqb-true b c e)) | inr e ↦ e ]
 
 -- a byte that stands for itself
 pub record IsPlain (place : Place) (b : ℕ) : Type 0 where
@@ -33,7 +31,7 @@ pub record IsPlain (place : Place) (b : ℕ) : Type 0 where
 
 -- a claim on a byte, where it is c and where it is not
 unless : (P : ℕ → Type 0) (b c : ℕ) → P c → (nat_eq b c ≡ false → P b) → P b
-unless P b c there other = elim (cases_eq b c) [ inl e ↦ subst P (sym e) there | inr n ↦ other (not_equal b c n) ]
+unless P b c there other = elim (cases_eq b c) [ inl e ↦ subst P (sym e) there | inr n ↦ other (is_other b c n) ]
 
 -- a claim on all bytes, from those that are references and those that stand for themselves
 each_byte : (place : Place) (P : ℕ → Type 0) → P 38 → P 60 → P 62 → P 34 → P 9 → P 10 → P 13 → ((b : ℕ) → IsPlain place b → P b)

@@ -41,37 +41,19 @@ use Rattle.ifmap_ident.specs.Meaning.{ArePartsOf, IsMeaning}
 use Rattle.ifmap_ident.specs.Parts.{has_only, is_blank_inside, solid_children, value_of}
 use Rattle.ifmap_ident.proofs.FindLaws.{bare_tells, other_name}
 use Rattle.ifmap_ident.proofs.KindLaws.{kind_found, no_kind, no_type, type_found, types_are_one}
-use Rattle.ifmap_ident.proofs.MeaningLaws.{meaning_of_parts, no_access_request, no_device, no_identity, no_ip_address, no_mac_address, nothing, refused_meaning, unknown_attribute}
+use Rattle.ifmap_ident.proofs.MeaningLaws.{meaning_of_parts, no_access_request, no_device, no_identity, no_ip_address, no_mac_address, refused_meaning, unknown_attribute}
 use Rattle.ifmap_ident.proofs.SingleLaws.{one_definition, one_kept, one_text}
-use Rattle.ifmap_lemmas.specs.Deciding.{Decided, decided_both, decided_by, decided_not, decided_test, same_or_not, within_or_not}
-use Rattle.ifmap_lemmas.specs.Absent.{one_of}
+use Rattle.ifmap_lemmas.specs.Deciding.{Decided, decided_both, decided_by, decided_test, same_or_not, within_or_not}
+use Rattle.ifmap_lemmas.specs.Absent.{one_of, none_and_some}
 use Rattle.ifmap_lemmas.specs.Joined.{one_member}
+use Rattle.ifmap_lemmas.specs.Singles.{value_with, single_with, some_or_empty}
 use Rattle.std.proofs.lemmas.Option.{same_Some}
 use Rattle.ifmap_elem.specs.laws.NamedElements.{no_text}
 
 -- ---- what is one at most, and has more
 
-and_more : {X : Type 0} (P Q : X → Type 0) → ((x y : X) → P x → P y → x ≡ y) → Decided ((x : X) × P x) → ((x : X) → Decided (Q x))
-    → Decided ((x : X) × P x × Q x)
-and_more P Q single (inr fails) more = inr (λ t. fails (t.0, t.1))
-and_more P Q single (inl p) more = elim (more p.0) [
-  | inl q ↦ inl (p.0, p.1, q)
-  | inr none ↦ inr (λ t. none (subst Q (single t.0 p.0 t.1 p.1) t.2))
-]
-
 at_most : (n most : ℕ) → (n ≤ most) ⊎ (most < n)
 at_most n most = elim (cases_lt most n) [ inl l ↦ inr l | inr g ↦ inl g ]
-
-given_or_none : (given : Option (List ℕ)) → Decided ((text : List ℕ) × (given ≡ Some text))
-given_or_none None = inr (λ t. nothing None t.0 refl t.1)
-given_or_none (Some text) = inl (text, refl)
-
-with_value : (given : Option (List ℕ)) (Q : List ℕ → Type 0) → ((text : List ℕ) → Decided (Q text))
-    → Decided ((text : List ℕ) × (given ≡ Some text) × Q text)
-with_value given Q more = and_more (λ text. given ≡ Some text) Q (one_of given) (given_or_none given) more
-
-some_or_empty : (text : List ℕ) → Decided (text ≢ [])
-some_or_empty text = decided_not (same_or_not text [])
 
 -- ---- an access request
 
@@ -80,7 +62,7 @@ access_request_or_none e =
     decided_by
     (λ p. (p.1.0, domain_of e, record { children = p.0; name_is = p.1.1; not_empty = p.1.2; domain_is = refl }))
     (λ t. (t.2.children, (t.0, t.2.name_is, t.2.not_empty)))
-    (decided_both (decided_test (is_blank_inside e)) (with_value (value_of (codes "name") e) (λ text. text ≢ []) some_or_empty))
+    (decided_both (decided_test (is_blank_inside e)) (value_with (value_of (codes "name") e) (λ text. text ≢ []) some_or_empty))
 
 -- ---- a device
 
@@ -123,7 +105,7 @@ name_held_or_none child =
     (λ t. ((t.1.named, t.1.attributes), (t.0, t.1.text_is, t.1.not_empty)))
     (decided_both (decided_both (bare_or_not (codes "name") child.name (is_bare (codes "name") child.name) refl)
     (decided_test (has_only [] child)))
-    (and_more (λ text. child.children ≡ the.Text text ∷ []) (λ text. text ≢ []) (one_only_text child.children)
+    (single_with (λ text. child.children ≡ the.Text text ∷ []) (λ text. text ≢ []) (one_only_text child.children)
     (only_text child.children) some_or_empty))
 
 device_or_none : (e : Element) → Decided ((name : List ℕ) × IsDevice e name)
@@ -131,7 +113,7 @@ device_or_none e =
     decided_by
     (λ p. (p.2.0, record { child = p.0; children = p.1; holds = p.2.1 }))
     (λ t. (t.1.child, t.1.children, (t.0, t.1.holds)))
-    (and_more (λ child. solid_children e ≡ the.Element child ∷ []) (λ child. (name : List ℕ) × HoldsName child name)
+    (single_with (λ child. solid_children e ≡ the.Element child ∷ []) (λ child. (name : List ℕ) × HoldsName child name)
     (one_only_element (solid_children e)) (only_element (solid_children e)) name_held_or_none)
 
 -- ---- an identity
@@ -142,7 +124,7 @@ type_among name None e = inr (λ t. no_type name None e refl t.0 (same_Some name
 type_among name (Some kind) e = inl (kind, ap Some (type_found name (Some kind) e))
 
 type_or_none : (given : Option (List ℕ)) → Decided ((kind : IdentityType) × (given ≡ Some (identity_type_name kind)))
-type_or_none None = inr (λ t. nothing None (identity_type_name t.0) refl t.1)
+type_or_none None = inr (λ t. none_and_some None (identity_type_name t.0) refl t.1)
 type_or_none (Some name) = type_among name (find (λ kind. bytes_eq (identity_type_name kind) name) identity_types) refl
 
 one_type : (given : Option (List ℕ)) (k l : IdentityType) → given ≡ Some (identity_type_name k) → given ≡ Some (identity_type_name l)
@@ -151,7 +133,7 @@ one_type given k l p q = types_are_one k l (one_of given (identity_type_name k) 
 
 definition_or_none : (kind : IdentityType) (given : Option (List ℕ)) → Decided ((other : List ℕ) × IsDefinition kind given other)
 definition_or_none types.Other given =
-    decided_by (λ p. (p.0, (p.1, p.2))) (λ t. (t.0, t.1.0, t.1.1)) (with_value given (λ text. text ≢ []) some_or_empty)
+    decided_by (λ p. (p.0, (p.1, p.2))) (λ t. (t.0, t.1.0, t.1.1)) (value_with given (λ text. text ≢ []) some_or_empty)
 definition_or_none types.AikName given = inl ([], refl)
 definition_or_none types.DistinguishedName given = inl ([], refl)
 definition_or_none types.DnsName given = inl ([], refl)
@@ -183,7 +165,7 @@ address_or_none kind Means decides e =
     (λ t. ((t.2.children, t.2.kind_is), (t.2.text, t.2.text_is, (t.0, t.2.means))))
     (decided_both (decided_both (decided_test (is_blank_inside e))
     (same_or_not (unwrap_or (value_of (codes "type") e) (codes "IPv4")) kind))
-    (with_value (value_of (codes "value") e) (λ text. (value : List ℕ) × Means text value) decides))
+    (value_with (value_of (codes "value") e) (λ text. (value : List ℕ) × Means text value) decides))
 
 mac_or_none : ((text : List ℕ) → Decided ((value : List ℕ) × IsMacAddress text value)) → (e : Element)
     → Decided ((value domain : List ℕ) × IsMacAddressElement e value domain)
@@ -192,7 +174,7 @@ mac_or_none decides e =
     (λ p. (p.1.2.0, domain_of e, record { children = p.0; text = p.1.0; text_is = p.1.1; means = p.1.2.1; domain_is = refl }))
     (λ t. (t.2.children, (t.2.text, t.2.text_is, (t.0, t.2.means))))
     (decided_both (decided_test (is_blank_inside e))
-    (with_value (value_of (codes "value") e) (λ text. (value : List ℕ) × IsMacAddress text value) decides))
+    (value_with (value_of (codes "value") e) (λ text. (value : List ℕ) × IsMacAddress text value) decides))
 
 -- ---- answers
 
@@ -254,7 +236,7 @@ module _ (reads : (bytes : List ℕ) → Decided ((reading : Reading) × Spells 
       decided_by
       (λ p. (canonical_bytes p.0.root, record { reading = p.0; spelled = p.1; shallow = p.2; canonical = refl }))
       (λ t. (t.1.reading, t.1.spelled, t.1.shallow))
-      (and_more (Spells text) (λ (r : Reading). nesting r.root ≤ 64) (one_reading text) (reads text)
+      (single_with (Spells text) (λ (r : Reading). nesting r.root ≤ 64) (one_reading text) (reads text)
       (λ (r : Reading). within_or_not (nesting r.root) 64))
 
   -- the name of an identity of this type and definition
@@ -265,8 +247,8 @@ module _ (reads : (bytes : List ℕ) → Decided ((reading : Reading) × Spells 
 
   name_or_none : (e : Element) (kind : IdentityType) (other : List ℕ) → Decided (HasName e kind other)
   name_or_none e kind other =
-      with_value (value_of (codes "name") e) (λ text. (name : List ℕ) × IsKeptName (name_form kind other) text name × (name ≢ []))
-      (λ text. and_more (IsKeptName (name_form kind other) text) (λ name. name ≢ []) (one_kept (name_form kind other) text)
+      value_with (value_of (codes "name") e) (λ text. (name : List ℕ) × IsKeptName (name_form kind other) text name × (name ≢ []))
+      (λ text. single_with (IsKeptName (name_form kind other) text) (λ name. name ≢ []) (one_kept (name_form kind other) text)
       (kept_or_none (name_form kind other) text) some_or_empty)
 
   abbrev HasDefinition : Element → IdentityType → Type 0
@@ -295,9 +277,9 @@ module _ (reads : (bytes : List ℕ) → Decided ((reading : Reading) × Spells 
       ))
       (λ t. (t.4.children, (t.1, t.4.kind_is, (t.2, t.4.definition, (t.4.text, t.4.text_is, (t.0, t.4.kept, t.4.not_empty))))))
       (decided_both (decided_test (is_blank_inside e))
-      (and_more (λ kind. value_of (codes "type") e ≡ Some (identity_type_name kind)) (HasDefinition e)
+      (single_with (λ kind. value_of (codes "type") e ≡ Some (identity_type_name kind)) (HasDefinition e)
       (one_type (value_of (codes "type") e)) (type_or_none (value_of (codes "type") e))
-      (λ kind. and_more (IsDefinition kind (value_of (codes "other-type-definition") e)) (HasName e kind)
+      (λ kind. single_with (IsDefinition kind (value_of (codes "other-type-definition") e)) (HasName e kind)
       (one_definition kind (value_of (codes "other-type-definition") e))
       (definition_or_none kind (value_of (codes "other-type-definition") e)) (name_or_none e kind))))
 

@@ -1,8 +1,7 @@
 -- Tests: what their answers exclude, what several of them say together, and what holds of a choice by one.
 use Rattle.std.proofs.Common.{◌≡◌, ℕ, Bool, true, false, ◌&&◌, ◌||◌, ◌==◌, refl, sym, ◌∙◌}
 use Rattle.std.specs.Prelude.{◌↔◌, IsTrue, if◌then◌else◌}
-use Rattle.std.specs.Bool.{OnTrue}
-use Rattle.std.proofs.Math.Bool.{beq}
+use Rattle.std.specs.Bool.{OnTrue, beq}
 use Rattle.std.proofs.lemmas.Bool.{eq-eqb}
 
 -- ---- one test
@@ -53,6 +52,12 @@ agree_and true true others h = (refl, h)
 agree_and true false others h = cc
 agree_and false true others h = cc
 agree_and false false others h = (refl, h)
+
+-- two tests that tell one thing answer alike
+pub answer_alike : (a b : Bool) (P : Type 0) → (IsTrue a ↔ P) → (IsTrue b ↔ P) → a ≡ b
+answer_alike true b P h k = sym (k.1 (h.0 refl))
+answer_alike false true P h k = h.1 (k.0 refl)
+answer_alike false false P h k = refl
 
 -- ---- a choice
 

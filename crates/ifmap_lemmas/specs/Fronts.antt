@@ -1,9 +1,10 @@
 -- Lists cut at a place: their front, and what follows it.
-use Rattle.std.proofs.Common.{◌≡◌, ℕ, zero, suc, ◌-◌, ◌<◌, ◌≤◌, List, [], ◌∷◌, ◌++◌, length, take, drop, Some, refl, sym, ap, ◌∙◌, arith, append_assoc, length-take, drop-drop}
+use Rattle.std.proofs.Common.{◌≡◌, ℕ, zero, suc, ◌-◌, ◌<◌, ◌≤◌, List, [], ◌∷◌, ◌++◌, length, take, drop, Some, refl, sym, ap, ◌∙◌, arith, append_assoc, length-take, drop-drop, ◌⊎◌, inl, inr, subst, length-append}
 use Rattle.std.proofs.Math.Seq.{drop-append_seam, take-append_seam}
 use Rattle.std.proofs.lemmas.List.{take-append-drop}
 use Rattle.std.proofs.lemmas.Option.{none-some, same_Some}
-use Rattle.std.specs.List.{slice_get}
+use Rattle.std.specs.List.{slice_get, All}
+use Rattle.std.proofs.Math.ListN.{get_or-append}
 
 module _ {V : Type 0} where
   -- the front of a list, and what was put in place of what follows it
@@ -52,3 +53,26 @@ there_is (x ∷ xs) (suc i) lt = there_is xs i (omega (arith, lt))
 pub both_empty : {X : Type 0} (a b : List X) → a ++ b ≡ [] → (a ≡ []) × (b ≡ [])
 both_empty [] b e = (refl, e)
 both_empty (x ∷ a) b e = cc
+
+module _ {X : Type 0} where
+  -- b goes on from a by middle, and c is middle and then d
+  pub record GoesOn (a c b d : List X) : Type 0 where
+    pub middle : List X
+    pub longer : b ≡ a ++ middle
+    pub shorter : c ≡ middle ++ d
+
+  -- of two fronts of one list, one goes on from the other
+  pub fronts : (a b c d : List X) → a ++ c ≡ b ++ d → GoesOn a c b d ⊎ GoesOn b d a c
+  fronts [] b c d e = inl (record { middle = b; longer = refl; shorter = e })
+  fronts (x ∷ a) [] c d e = inr (record { middle = x ∷ a; longer = refl; shorter = sym e })
+  fronts (x ∷ a) (y ∷ b) c d e =
+      let tails : a ++ c ≡ b ++ d = cc in
+      elim (fronts a b c d tails) [
+        | inl on ↦ let longer = on.longer in inl (record { middle = on.middle; longer = cc; shorter = on.shorter })
+        | inr on ↦ let longer = on.longer in inr (record { middle = on.middle; longer = cc; shorter = on.shorter })
+      ]
+
+  -- what holds of each element holds of those in front
+  pub all_front : (P : X → Type 0) (xs ys : List X) → All P (xs ++ ys) → All P xs
+  all_front P xs ys all k d within =
+      subst P (get_or-append xs ys d k within) (all k d (omega (arith, length-append xs ys)))

@@ -1,6 +1,6 @@
 -- Lists that are joined, turned round or cut in two, and their first and last members.
 use Rattle.std.proofs.Common.{◌≡◌, ◌≢◌, ℕ, zero, suc, ◌+◌, ◌-◌, ◌<◌, ◌≤◌, true, false, List, [], ◌∷◌, ◌++◌, length, map, reverse, take, drop, take-add, get_or}
-use Rattle.std.proofs.Common.{refl, ap, sym, ◌∙◌, subst, arith, append_assoc, length-append, length-drop}
+use Rattle.std.proofs.Common.{refl, ap, sym, ◌∙◌, subst, arith, append_assoc, length-drop}
 use Rattle.std.proofs.lemmas.List.{append-nil, drop_at, drop_more, map-append, reverse-append, take-append-drop, take_all, take_at, take_more, take-take}
 use Rattle.std.specs.List.{AllByRecursion, slice_get}
 use Rattle.std.specs.Prelude.{Result, Ok, Err, OnOk, is_ok, if◌then◌else◌, nat_eq}
@@ -18,6 +18,10 @@ one_member x y e = cc
 -- what joins to the left joins to the right
 pub push_append : {X : Type 0} (xs : List X) (x : X) (ys : List X) → (xs ++ x ∷ []) ++ ys ≡ xs ++ (x ∷ ys)
 push_append xs x ys = append_assoc xs (x ∷ []) ys
+
+-- what was joined to a list twice
+pub joined_twice : {X : Type 0} (a b c x y : List X) → b ≡ a ++ x → c ≡ b ++ y → c ≡ a ++ (x ++ y)
+joined_twice a b c x y p q = q ∙ ap (λ l. l ++ y) p ∙ append_assoc a x y
 
 -- two lists are some where the first is
 pub some_in_front : {X : Type 0} (xs ys : List X) → xs ≢ [] → xs ++ ys ≢ []
@@ -93,6 +97,10 @@ shared_front (x ∷ short) (y ∷ long) {more} {rest} e le =
     let le-tails : length short ≤ length long = omega arith in
     let (middle, p, q) = shared_front short long tails le-tails in
     (middle, cc, q)
+
+-- a front with the member at its end
+pub take_one_more : {X : Type 0} (xs : List X) (i : ℕ) (x : X) → i < length xs → x ≡ get_or xs i x → take (i + 1) xs ≡ take i xs ++ x ∷ []
+take_one_more xs i x l at = take_more xs i x l ∙ ap (λ y. take i xs ++ y ∷ []) (sym at)
 
 -- what follows a place, cut at the end
 pub cut_at_end : {X : Type 0} (xs : List X) (i : ℕ) → take (length xs - i) (drop i xs) ≡ drop i xs

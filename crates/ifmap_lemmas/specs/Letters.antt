@@ -1,6 +1,6 @@
--- ASCII letters in texts, without regard to case.
-use Rattle.std.proofs.Common.{◌≡◌, ℕ, List, [], ◌∷◌, map, refl, arith}
-use Rattle.std.specs.Char.{to_ascii_uppercase, to_ascii_lowercase}
+-- ASCII characters in texts: letters without regard to case, and digits.
+use Rattle.std.proofs.Common.{◌≡◌, ℕ, ◌≤◌, true, List, [], ◌∷◌, map, refl, arith}
+use Rattle.std.specs.Char.{is_ascii_digit, to_ascii_uppercase, to_ascii_lowercase}
 use Rattle.std.proofs.lemmas.Bool.Decides.{nat_tests}
 
 raised : (a : ℕ) → to_ascii_uppercase (to_ascii_lowercase a) ≡ to_ascii_uppercase a
@@ -24,3 +24,7 @@ all_lowered (x ∷ xs) = λ i. lowered x i ∷ all_lowered xs i
 pub lower_again : (xs : List ℕ) → map to_ascii_lowercase (map to_ascii_lowercase xs) ≡ map to_ascii_lowercase xs
 lower_again [] = refl
 lower_again (x ∷ xs) = λ i. lower_twice x i ∷ lower_again xs i
+
+-- the bytes between `0` and `9`
+pub digit_between : (b : ℕ) → 48 ≤ b → b ≤ 57 → is_ascii_digit b ≡ true
+digit_between b low high = grind (arith, nat_tests)

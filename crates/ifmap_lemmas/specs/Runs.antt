@@ -1,14 +1,15 @@
--- Runs of tests along a list: what all or some members pass, and what a filter leaves of a front.
-use Rattle.std.proofs.Common.{◌≡◌, ℕ, suc, ◌+◌, ◌<◌, Bool, true, false, cond, ◌&&◌, ◌||◌, List, [], ◌∷◌, ◌++◌, length, map, take, drop, get_or, option_to_list}
-use Rattle.std.proofs.Common.{Option, Some, None, is_some, refl, ap, sym, ◌∙◌, inl, inr}
-use Rattle.std.specs.List.{filter, flat_map, list_all, list_any}
-use Rattle.std.proofs.lemmas.Bool.{cases_Bool, or_parts}
+-- Runs along a list: tests that all or some members pass, a bound of each, and what a filter leaves of a front.
+use Rattle.std.proofs.Common.{◌≡◌, ℕ, zero, suc, ◌+◌, ◌<◌, Bool, true, false, cond, ◌&&◌, ◌||◌, List, [], ◌∷◌, ◌++◌, length, map, take, drop, get_or, option_to_list}
+use Rattle.std.proofs.Common.{Option, Some, None, is_some, refl, ap, sym, ◌∙◌, subst, inl, inr}
+use Rattle.std.specs.List.{AllByRecursion, filter, flat_map, list_all, list_any}
+use Rattle.std.proofs.lemmas.Bool.{and_from, cases_Bool, or_parts}
 use Rattle.std.proofs.lemmas.List.{append-nil, take-append-drop, take_more}
 use Rattle.std.proofs.lemmas.List.Concat.{flat_map-append}
 use Rattle.std.proofs.lemmas.List.Elements.{filter-append}
 use Rattle.std.proofs.lemmas.List.Folds.{list_all-append, list_any-append}
 use Rattle.std.proofs.lemmas.List.Sums.{AllPass-from_list_all, list_all-from_AllPass}
 use Rattle.std.proofs.Math.Seq.{drop-cons}
+use Rattle.ifmap_lemmas.specs.Items.{To}
 
 -- ---- tests of all and of some
 
@@ -20,17 +21,36 @@ pub any_mapped : {X : Type 0} (p : X → Bool) (xs : List X) → list_any (λ b.
 any_mapped p [] = refl
 any_mapped p (x ∷ xs) = ap (λ b. p x || b) (any_mapped p xs)
 
-pub all_weaker : {X : Type 0} (p q : X → Bool) → ((x : X) → p x ≡ true → q x ≡ true) → (xs : List X) → list_all p xs ≡ true → list_all q xs ≡ true
+pub all_tested : {X : Type 0} (p : X → Bool) (xs : List X) → AllByRecursion (λ x. p x ≡ true) xs → list_all p xs ≡ true
+all_tested p [] f = refl
+all_tested p (x ∷ xs) f = and_from (p x) (list_all p xs) f.0 (all_tested p xs f.1)
+
+-- what holds of each item that is taken holds of all
+pub all_taken : {B X : Type 0} (Takes : B → X → B → Type 0) (P : X → Type 0) → ((bytes : B) (x : X) (rest : B) → Takes bytes x rest → P x)
+    → (bytes : B) (xs : List X) (rest : B) → To Takes bytes xs rest → AllByRecursion P xs
+all_taken Takes P each bytes [] rest l = tt
+all_taken Takes P each bytes (x ∷ xs) rest l = (each bytes x l.0 l.1, all_taken Takes P each l.0 xs rest l.2)
+
+-- items, and then more
+pub to_both : {B X : Type 0} (Takes : B → X → B → Type 0) (bytes : B) (xs : List X) (mid : B) (ys : List X) (rest : B)
+    → To Takes bytes xs mid → To Takes mid ys rest → To Takes bytes (xs ++ ys) rest
+to_both {B} {X} Takes bytes [] mid ys rest l m = subst (λ (b : B). To Takes b ys rest) (sym l) m
+to_both Takes bytes (x ∷ xs) mid ys rest l m = (l.0, l.1, to_both Takes l.0 xs mid ys rest l.2 m)
+
+pub all_weaker : {X : Type 0} (p q : X → Bool) → ((x : X) → p x ≡ true → q x ≡ true) → (xs : List X) → list_all p xs ≡ true
+    → list_all q xs ≡ true
 all_weaker p q implies xs is =
     let all = AllPass-from_list_all p xs is in
     list_all-from_AllPass q xs (λ k d within. implies _ (all k d within))
 
 -- of lists joined, one for each member
-pub all_joined : {X Y : Type 0} (p : Y → Bool) (f : X → List Y) (xs : List X) → list_all p (flat_map f xs) ≡ list_all (λ x. list_all p (f x)) xs
+pub all_joined : {X Y : Type 0} (p : Y → Bool) (f : X → List Y) (xs : List X)
+    → list_all p (flat_map f xs) ≡ list_all (λ x. list_all p (f x)) xs
 all_joined p f [] = refl
 all_joined p f (x ∷ xs) = list_all-append p (f x) (flat_map f xs) ∙ ap (λ b. list_all p (f x) && b) (all_joined p f xs)
 
-pub any_both : {X : Type 0} (p : X → Bool) (xs ys : List X) → list_any p (xs ++ ys) ≡ false → (list_any p xs ≡ false) × (list_any p ys ≡ false)
+pub any_both : {X : Type 0} (p : X → Bool) (xs ys : List X) → list_any p (xs ++ ys) ≡ false
+    → (list_any p xs ≡ false) × (list_any p ys ≡ false)
 any_both p xs ys e = or_parts (list_any p xs) (list_any p ys) (sym (list_any-append p xs ys) ∙ e)
 
 pub any_more : {X : Type 0} (p : X → Bool) (xs ys : List X) → list_any p xs ≡ true → list_any p (xs ++ ys) ≡ true
@@ -46,6 +66,17 @@ any_last p (y ∷ ys) x h = elim (cases_Bool (p y)) [
   | inl e ↦ rw e refl
   | inr e ↦ rw e (any_last p ys x h)
 ]
+
+-- ---- numbers below a bound
+
+pub below_at : (bound : ℕ) (xs : List ℕ) → 0 < bound → AllByRecursion (λ n. n < bound) xs → (i : ℕ) → get_or xs i 0 < bound
+below_at bound [] p h i = p
+below_at bound (x ∷ xs) p h i =
+    elim i as (λ j. get_or (x ∷ xs) j 0 < bound) [ zero ↦ h.0 | suc j ↦ below_at bound xs p h.1 j ]
+
+pub all_below : (bound : ℕ) (xs : List ℕ) → ((i : ℕ) → get_or xs i 0 < bound) → AllByRecursion (λ n. n < bound) xs
+all_below bound [] f = tt
+all_below bound (x ∷ xs) f = (f 0, all_below bound xs (λ i. f (suc i)))
 
 -- ---- fronts
 

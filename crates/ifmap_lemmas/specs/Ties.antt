@@ -1,6 +1,8 @@
 -- Comparisons that tie or do not, alone, after others and the other way round.
-use Rattle.std.proofs.Common.{◌≡◌, true, false, refl}
-use Rattle.std.specs.Ordering.{is_eq, is_gt, is_le, is_lt, ordering_then, ordering_reverse}
+use Rattle.std.proofs.Common.{◌≡◌, ℕ, ◌<◌, true, false, refl, ap, sym}
+use Rattle.std.specs.Ordering.{is_eq, is_gt, is_le, is_lt, ordering_then, ordering_reverse, nat_cmp, MatchOrdering}
+use Rattle.std.specs.Cmp.{nat_cmp_is}
+use Rattle.std.proofs.lemmas.Cmp.{ranked}
 use Rattle.std.specs.declared.cmp.Ordering.{Ordering}
 use Rattle.std.specs.declared.cmp.Ordering.TheVariants.{Less, Equal, Greater}
 
@@ -69,3 +71,14 @@ not_less_than Less Equal e f = cc
 not_less_than Less Greater e f = cc
 not_less_than Equal q e f = refl
 not_less_than Greater q e f = refl
+
+-- ---- numbers
+
+-- a function that rises carries the order over
+pub nat_cmp-rising : (f : ℕ → ℕ) (m n : ℕ) → (m < n → f m < f n) → (n < m → f n < f m) → nat_cmp (f m) (f n) ≡ nat_cmp m n
+nat_cmp-rising f m n up down = sym (nat_cmp_is (f m) (f n) (nat_cmp m n) (by (nat_cmp m n) (ranked m n (nat_cmp m n) refl)))
+  where
+    by : (r : Ordering) → MatchOrdering r (m < n) (m ≡ n) (n < m) → MatchOrdering r (f m < f n) (f m ≡ f n) (f n < f m)
+    by Less h = up h
+    by Equal h = ap f h
+    by Greater h = down h

@@ -1,16 +1,12 @@
 -- Small laws on answers, tests and lists.
 use Rattle.std.proofs.Common.{◌≡◌, ◌≢◌, ℕ, Bool, true, false, List, [], ◌∷◌, ◌++◌, length, refl, sym, ◌∙◌, arith}
-use Rattle.std.specs.Prelude.{nat_eq, IsTrue, ◌↔◌, Result, Ok, Err, IfErr}
+use Rattle.std.specs.Prelude.{◌↔◌, Result, Ok, Err, IfErr}
 use Rattle.std.specs.List.{list_all}
 use Rattle.std.proofs.lemmas.Bool.{and_from, and_parts}
 use Rattle.ifmap_elem.specs.Chars.{AllAre}
-use Rattle.ifmap_lemmas.specs.Numbers.{equal_numbers}
 use Rattle.ifmap_lexer.specs.declared.errors.LexError.{LexError}
 use Rattle.ifmap_lexer.specs.declared.errors.LexError.TheVariants.{Malformed, NoMemory}
 use Rattle.ifmap_lexer.specs.Refusing.{Refuses}
-
-pub is_not : (b : Bool) (P : Type 0) → IsTrue b ↔ P → b ≡ false → P → ⊥
-is_not b P tells h p = let q : true ≡ false = sym (tells.1 p) ∙ h in cc
 
 -- who refuses more refuses less
 pub refuses_by : (e : LexError) (P Q : Type 0) → (Q → P) → Refuses e P → Refuses e Q
@@ -32,15 +28,6 @@ all_front p (x ∷ xs) b f = (f.0, all_front p xs b f.1)
 pub all_back : (p : ℕ → Bool) (a b : List ℕ) → AllAre p (a ++ b) → AllAre p b
 all_back p [] b f = f
 all_back p (x ∷ xs) b f = all_back p xs b f.1
-
--- a slice's test of emptiness
-pub is_none : (xs : List ℕ) → nat_eq (length xs) 0 ≡ true → xs ≡ []
-is_none [] h = refl
-is_none (x ∷ xs) h = absurd (omega (arith, equal_numbers (length (x ∷ xs)) 0 h))
-
-pub is_some_list : (xs : List ℕ) → nat_eq (length xs) 0 ≡ false → xs ≢ []
-is_some_list [] h e = let wrong : true ≡ false = h in cc
-is_some_list (x ∷ xs) h e = cc
 
 pub refused_by : {X : Type 0} (r : Result X LexError) (P Q : Type 0) → (Q → P) → IfErr r (λ e. Refuses e P) → IfErr r (λ e. Refuses e Q)
 refused_by (Ok x) P Q f h = tt

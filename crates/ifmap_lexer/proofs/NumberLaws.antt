@@ -10,6 +10,7 @@ use Rattle.std.proofs.lemmas.Bool.{cases_lt, and_from}
 use Rattle.std.proofs.lemmas.Bool.Decides.{nat_tests}
 use Rattle.std.proofs.lemmas.Int.Digits.{digits_value_more}
 use Rattle.std.proofs.lemmas.List.Folds.{list_all_more, list_all_at}
+use Rattle.std.proofs.Math.Seq.{take-length}
 use Rattle.ifmap_lexer.specs.Numbers.{code_point_of}
 
 -- the digits so far are digits, and write this number, unless it is past all characters
@@ -45,14 +46,10 @@ reads_next base digits i n m d some r l at digit e =
       small = omega arith;
     }
 
-take_all : (xs : List ℕ) → take (length xs) xs ≡ xs
-take_all [] = refl
-take_all (x ∷ xs) = ap (λ ys. x ∷ ys) (take_all xs)
-
 pub reads_all : (base : ℕ) (digits : List ℕ) (i n : ℕ) → nat_eq (length digits) 0 ≡ false → i ≡ length digits → Reads base digits i n
     → Some n ≡ code_point_of base digits
 reads_all base digits i n some end r =
-    let whole : take i digits ≡ digits = ap (λ k. take k digits) end ∙ take_all digits in
+    let whole : take i digits ≡ digits = ap (λ k. take k digits) end ∙ take-length digits in
     let all : list_all (λ d. is_digit d base) digits ≡ true =
     subst (λ (xs : List ℕ). list_all (λ d. is_digit d base) xs ≡ true) whole r.all in
     let is : n ≡ min (digits_value base digits) 0x11_0000 = subst (λ (xs : List ℕ). n ≡ min (digits_value base xs) 0x11_0000) whole r.is in

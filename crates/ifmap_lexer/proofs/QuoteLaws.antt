@@ -1,6 +1,6 @@
 -- Quoted values that are read are those that stand there.
 use Rattle.std.proofs.Common.{◌≡◌, ℕ, true, false, List, ◌∷◌, ◌++◌, refl, ap, sym, ◌∙◌, subst, arith}
-use Rattle.std.specs.Prelude.{◌==◌, ◌||◌, Option, Some, None, IfSome}
+use Rattle.std.specs.Prelude.{◌==◌, ◌||◌, Option, Some, None}
 use Rattle.std.proofs.lemmas.Bool.Decides.{nat_tests}
 use Rattle.ifmap_elem.specs.Chars.{AllAre, is_white, double_quote, equals_sign, single_quote}
 use Rattle.ifmap_elem.specs.Tokens.{TakesQuoted}
@@ -8,10 +8,6 @@ use Rattle.ifmap_lemmas.specs.Cuts.{cut}
 use Rattle.ifmap_elem.specs.laws.OneToken.{quote_is_not_white}
 use Rattle.ifmap_lexer.specs.Cutting.{Cuts, CutsAt, is_but}
 use Rattle.ifmap_lexer.proofs.Basics.{all_back}
-
-pub map_some : {X : Type 0} (o : Option X) (P Q : X → Type 0) → ((x : X) → P x → Q x) → IfSome o P → IfSome o Q
-map_some None P Q f h = tt
-map_some (Some x) P Q f h = f x h
 
 itself : (q : ℕ) → is_but q q ≡ false
 itself q = let same : (q == q) ≡ true = grind (arith, nat_tests) in rw same refl

@@ -5,7 +5,6 @@
 use Rattle.std.proofs.Common.{◌≡◌, ◌≢◌, ℕ, Bool, true, false, List, [], ◌∷◌, ◌++◌, map, refl, ap, sym, ◌∙◌, subst, arith, inl, inr}
 use Rattle.std.specs.Prelude.{codes}
 use Rattle.std.specs.Char.{to_ascii_uppercase, to_ascii_lowercase}
-use Rattle.std.proofs.lemmas.Bool.Decides.{nat_tests}
 use Rattle.std.specs.Str.{byte}
 use Rattle.ifmap_elem.specs.Chars.{IsWhite, is_white}
 use Rattle.ifmap_elem.specs.Tokens.{TakesQuoted, TakesSetting, TakesOptional, TakesDeclaration}
@@ -14,6 +13,7 @@ use Rattle.ifmap_elem.specs.laws.OneToken.{one_quoted}
 use Rattle.ifmap_lexer.specs.Cutting.{Cuts}
 use Rattle.ifmap_lexer.specs.Settings.{IsEncoding, IsXmlVersion, IsYesOrNo, SetsTo, StartsNotWhite, TakesWhereSet}
 use Rattle.ifmap_lemmas.specs.Lists.{same_front}
+use Rattle.ifmap_lemmas.specs.Letters.{all_raised, all_lowered}
 
 stops_at : (name after : List ℕ) → StartsNotWhite name → Stops is_white (name ++ after)
 stops_at [] after h = absurd h
@@ -81,20 +81,6 @@ module _ (name : List ℕ) (starts : StartsNotWhite name) where
     one_taken bytes r s t u = (one_setting bytes t.written u.written r s (set_by bytes r t) (set_by bytes s u)).1
 
 -- letters without regard to case
-
-raised : (a : ℕ) → to_ascii_uppercase (to_ascii_lowercase a) ≡ to_ascii_uppercase a
-raised a = grind (arith, nat_tests)
-
-lowered : (a : ℕ) → to_ascii_lowercase (to_ascii_uppercase a) ≡ to_ascii_lowercase a
-lowered a = grind (arith, nat_tests)
-
-all_raised : (xs : List ℕ) → map to_ascii_uppercase (map to_ascii_lowercase xs) ≡ map to_ascii_uppercase xs
-all_raised [] = refl
-all_raised (x ∷ xs) = λ i. raised x i ∷ all_raised xs i
-
-all_lowered : (xs : List ℕ) → map to_ascii_lowercase (map to_ascii_uppercase xs) ≡ map to_ascii_lowercase xs
-all_lowered [] = refl
-all_lowered (x ∷ xs) = λ i. lowered x i ∷ all_lowered xs i
 
 pub encoding_from : (w : List ℕ) → map to_ascii_lowercase w ≡ codes "utf-8" → IsEncoding w
 encoding_from w e = sym (all_raised w) ∙ ap (map to_ascii_uppercase) e

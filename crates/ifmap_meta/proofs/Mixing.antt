@@ -4,6 +4,7 @@ use Rattle.std.specs.List.{flat_map}
 use Rattle.std.proofs.lemmas.Grind.{flat_map-append}
 use Rattle.std.proofs.lemmas.List.{append-nil, take_more}
 use Rattle.std.proofs.lemmas.List.Elements.{filter-append}
+use Rattle.ifmap_lemmas.specs.Joined.{take_one_more}
 use Rattle.ifmap_elem.specs.declared.elements.Attribute.{Attribute}
 use Rattle.ifmap_meta.specs.KeyWords.{attribute_parts, mix_all}
 use Rattle.ifmap_meta.specs.Stamps.{is_stamp, without_stamps}
@@ -18,13 +19,10 @@ module _ {X : Type 0} (f : X → List ℕ) (word : ℕ) where
       g ∙ ap (λ w. mix_all w (f x)) e ∙ sym (mix_append word (flat_map f front) (f x))
       ∙ ap (mix_all word) (sym (flat_map-append f front (x ∷ []) ∙ ap (λ ys. flat_map f front ++ ys) (append-nil (f x))))
 
-  one_more_of : (xs : List X) (i : ℕ) (x : X) → i < length xs → x ≡ get_or xs i x → take (i + 1) xs ≡ take i xs ++ x ∷ []
-  one_more_of xs i x l at = take_more xs i x l ∙ ap (λ y. take i xs ++ y ∷ []) (sym at)
-
   pub mixed_more : (xs : List X) (i : ℕ) (x : X) (m n : ℕ) → i < length xs → x ≡ get_or xs i x → m ≡ mix_all word (flat_map f (take i xs))
       → n ≡ mix_all m (f x) → n ≡ mix_all word (flat_map f (take (i + 1) xs))
   mixed_more xs i x m n l at e g =
-      goes_on (take i xs) x m n e g ∙ ap (λ ys. mix_all word (flat_map f ys)) (sym (one_more_of xs i x l at))
+      goes_on (take i xs) x m n e g ∙ ap (λ ys. mix_all word (flat_map f ys)) (sym (take_one_more xs i x l at))
 
 pub bytes_more : (word : ℕ) (xs : List ℕ) (i x m n : ℕ) → i < length xs → x ≡ get_or xs i 0 → m ≡ mix_all word (take i xs)
     → n ≡ mix_all m (x ∷ []) → n ≡ mix_all word (take (i + 1) xs)

@@ -2,6 +2,7 @@
 use Rattle.std.proofs.Common.{ℕ, List, [], ◌∷◌, ◌++◌, sym, subst}
 use Rattle.std.specs.List.{AllByRecursion}
 use Rattle.ifmap_lemmas.specs.Items.{To}
+use Rattle.ifmap_lemmas.specs.Runs.{all_taken}
 use Rattle.ifmap_elem.specs.Chars.{IsCharacters}
 use Rattle.ifmap_elem.specs.Names.{IsQualified}
 use Rattle.ifmap_elem.specs.Tokens.{TakesAssignment, TakesTag, TakesToken}
@@ -27,13 +28,6 @@ IsFitToken (Empty tag) = IsFitTag tag
 IsFitToken (End name) = Unit {0}
 IsFitToken (Section text) = IsCharacters text
 IsFitToken (Characters blank text) = IsCharacters text
-
--- what holds of each item that is taken holds of all
-all_taken : {X : Type 0} (Takes : List ℕ → X → List ℕ → Type 0) (P : X → Type 0)
-    → ((bytes : List ℕ) (x : X) (rest : List ℕ) → Takes bytes x rest → P x)
-    → (bytes : List ℕ) (xs : List X) (rest : List ℕ) → To Takes bytes xs rest → AllByRecursion P xs
-all_taken Takes P each bytes [] rest l = tt
-all_taken Takes P each bytes (x ∷ xs) rest l = (each bytes x l.0 l.1, all_taken Takes P each l.0 xs rest l.2)
 
 assignment_fits : (bytes : List ℕ) (a : Assignment) (rest : List ℕ) → TakesAssignment bytes a rest → IsFitAssignment a
 assignment_fits bytes a rest t = record { name = t.is_name; value = value_characters t.written a.value t.characters t.means }

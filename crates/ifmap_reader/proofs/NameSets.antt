@@ -3,7 +3,7 @@ use Rattle.std.proofs.Common.{◌≡◌, ◌≢◌, ℕ, ◌+◌, ◌<◌, ◌�
 use Rattle.std.specs.List.{list_any}
 use Rattle.std.specs.Cmp.{IsTotalOrder, Equal-is, eq_by_cmp_equiv}
 use Rattle.std.specs.Ordering.{is_eq}
-use Rattle.std.proofs.lemmas.Bool.{cases_Bool}
+use Rattle.std.proofs.lemmas.Bool.{cases_Bool, not-true, not-false}
 use Rattle.std.proofs.lemmas.Cmp.{nat_list_cmp_total, then_total, on_total}
 use Rattle.std.proofs.lemmas.List.{map-append, take_more, take_all, take-append-drop}
 use Rattle.std.proofs.lemmas.List.Folds.{list_any-append}
@@ -83,18 +83,10 @@ module _ (ts : List Attribute) (i : ℕ) (t : Attribute) (l : i < length ts) (is
   there_is : has key ≡ list_any (same t.name) before
   there_is = at.has_them key ∙ ap (λ n. list_any (same n) before) k
 
-  not_true : (b : Bool) → not b ≡ true → b ≡ false
-  not_true true e = cc
-  not_true false e = refl
-
-  not_false : (b : Bool) → not b ≡ false → b ≡ true
-  not_false true e = refl
-  not_false false e = cc
-
   pub name_added : (added : Bool) → added ≡ not (has key) → added ≡ true → (more : Bor Name → Bool)
       → ((n : Bor Name) → more n ≡ cond (same key.now n.now) true (has n)) → Names-so-far ts (i + 1) more
   name_added added tells holds more now = record {
-    differ = subst AllDiffer (sym more_is) (differ_last before t.name at.differ (sym there_is ∙ not_true (has key) (sym tells ∙ holds)));
+    differ = subst AllDiffer (sym more_is) (differ_last before t.name at.differ (sym there_is ∙ not-true (has key) (sym tells ∙ holds)));
     has_them = λ n. now n ∙ ap (λ m. cond (same m n.now) true (has n)) k ∙ ap (λ b. cond (same t.name n.now) true b) (at.has_them n)
         ∙ or_last (same t.name n.now) (list_any (same n.now) before)
         ∙ ap (λ b. list_any (same n.now) before || (b || false)) (same_swaps t.name n.now)
@@ -103,7 +95,7 @@ module _ (ts : List Attribute) (i : ℕ) (t : Attribute) (l : i < length ts) (is
 
   pub name_twice : (added : Bool) → added ≡ not (has key) → added ≡ false → AllDiffer (names ts) → ⊥
   name_twice added tells fails d =
-      differ_not before t.name (names (drop (i + 1) ts)) (sym there_is ∙ not_false (has key) (sym tells ∙ fails))
+      differ_not before t.name (names (drop (i + 1) ts)) (sym there_is ∙ not-false (has key) (sym tells ∙ fails))
       (subst AllDiffer whole_is d)
 
 pub no_names_yet : (ts : List Attribute) (has : Bor Name → Bool) → ((n : Bor Name) → has n ≡ false) → Names-so-far ts 0 has

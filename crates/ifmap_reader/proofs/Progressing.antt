@@ -4,9 +4,10 @@
 -- where a token is refused, opens a level too many or is none, and at the end of the input; the last module says so of the code's offset.
 use Rattle.std.proofs.Common.{◌≡◌, ◌≢◌, ℕ, ◌+◌, ◌-◌, ◌<◌, ◌≤◌, Bool, List, [], ◌∷◌, ◌++◌, length, reverse, drop, take, refl, ap, sym, ◌∙◌, subst, append_assoc, arith, length-drop, drop-drop, ◌⊎◌, inl, inr, cond}
 use Rattle.std.specs.Prelude.{◌↔◌, count_by, Err, Result}
-use Rattle.std.proofs.lemmas.List.{append-nil, take_all}
+use Rattle.std.proofs.lemmas.List.{append-nil}
 use Rattle.std.proofs.lemmas.List.Sums.{sum_by-append, sum_by-cons}
 use Rattle.ifmap_lemmas.specs.Items.{To, to_last, IsOnly, Ahead, ahead_at_start, ahead_next, none_ahead}
+use Rattle.ifmap_lemmas.specs.Joined.{cut_at_end}
 use Rattle.ifmap_elem.specs.declared.readings.Reading.{Reading}
 use Rattle.ifmap_elem.specs.declared.tokens.Token.{Token}
 use Rattle.ifmap_elem.specs.Document.{IsDocument}
@@ -277,12 +278,10 @@ module _ (bytes : List ℕ) (depth : ℕ) (w : Where) (place : ℕ) (at : At byt
         refused_at shown h.1.token h.0 l is h.1.takes.taken h.1.takes.alone refusal result made h.1.answers
   ]
 
-pub shown_is : (bytes : List ℕ) (place : ℕ) → take (length bytes - place) (drop place bytes) ≡ drop place bytes
-shown_is bytes place = take_all (length bytes - place) (drop place bytes) (omega (arith, length-drop place bytes))
-
 pub within_next : (bytes : List ℕ) (place count : ℕ) → place < length bytes
     → count ≤ length (take (length bytes - place) (drop place bytes)) → place + count ≤ length bytes
-within_next bytes place count l h = let a = ap length (shown_is bytes place) in let b = length-drop place bytes in omega (arith, a, b, h, l)
+within_next bytes place count l h =
+    let a = ap length (cut_at_end bytes place) in let b = length-drop place bytes in omega (arith, a, b, h, l)
 
 -- at the end
 pub end_read : (bytes : List ℕ) (depth : ℕ) (s : DocumentStanding) (place : ℕ) (result : Result Reading ReadError)

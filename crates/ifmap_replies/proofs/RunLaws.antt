@@ -2,7 +2,8 @@
 use Rattle.std.proofs.Common.{◌≡◌, ◌∙◌, ℕ, ◌+◌, ◌-◌, ◌<◌, ◌≤◌, suc, Bool, true, false, List, [], ◌∷◌, ◌++◌, map, length, get_or, take, drop}
 use Rattle.std.proofs.Common.{refl, ap, sym, arith, append_assoc}
 use Rattle.std.specs.Prelude.{if◌then◌else◌}
-use Rattle.std.proofs.lemmas.List.{drop_all, drop_more, length-drop, take_all}
+use Rattle.std.proofs.lemmas.List.{drop_all, drop_more}
+use Rattle.ifmap_lemmas.specs.Joined.{cut_at_end}
 use Rattle.ifmap_elem.specs.declared.elements.Child.{Child}
 use Rattle.ifmap_elem.specs.declared.elements.Child as the
 use Rattle.ifmap_elem.specs.declared.elements.Element.{Element}
@@ -59,18 +60,12 @@ front_is first (entry ∷ entries) =
 
 -- ---- one run more
 
--- what follows an index, cut at the end
-tail_whole : {X : Type 0} (xs : List X) (index : ℕ) → take (length xs - index) (drop index xs) ≡ drop index xs
-tail_whole xs index =
-    let e = length-drop index xs in
-    take_all (length xs - index) (drop index xs) (omega (arith, e))
-
 pub one_run : (all made more : List Child) (rest others : List Entry) (first : Entry) (run : Element) (n : ℕ) → rest ≡ first ∷ others
     → n ≡ run_length first others → run ≡ run_element (run_on first.item (first.element ∷ entry_elements (take n others)))
     → more ≡ made ++ the.Element run ∷ [] → made ++ entry_children rest ≡ all
     → more ++ entry_children (take (length others - n) (drop n others)) ≡ all
 one_run all made more rest others first run n r long is pushed before =
-    let left = tail_whole others n in
+    let left = cut_at_end others n in
     let front : runs_of rest ≡ front_run first others n ∷ runs_of (drop n others) =
     ap runs_of r ∙ front_is first others ∙ (λ i. front_run first others (sym long i) ∷ runs_of (drop (sym long i) others)) in
     let split : entry_children rest ≡ the.Element run ∷ entry_children (drop n others) =

@@ -11,12 +11,13 @@ use Rattle.std.specs.Prelude.{◌==◌, encode_utf8_all, if◌then◌else◌}
 use Rattle.std.specs.List.{AllByRecursion, filter, flat_map, starts_with}
 use Rattle.std.specs.Map.{lookup}
 use Rattle.std.specs.Str.{byte, bytes_eq, chars}
-use Rattle.std.proofs.lemmas.List.{reverse-append}
 use Rattle.std.proofs.lemmas.List.Folds.{flat_map-map}
 use Rattle.ifmap_lemmas.specs.Items.{To}
 use Rattle.ifmap_lemmas.specs.Filters.{all_filter}
 use Rattle.ifmap_lemmas.specs.Members.{all_of_test, both_all, map_of_all}
 use Rattle.ifmap_lemmas.specs.Texts.{ascii_encoded, is_ascii}
+use Rattle.ifmap_lemmas.specs.Joined.{all_reversed}
+use Rattle.ifmap_lemmas.specs.Branches.{if_either}
 use Rattle.ifmap_elem.specs.Chars.{AllAre, IsCharacters, colon, equals_sign, is_character, is_white}
 use Rattle.ifmap_elem.specs.Fit.{IsFitName, IsNamespace}
 use Rattle.ifmap_elem.specs.Names.{IsNamePart, is_name_character, is_name_start}
@@ -68,26 +69,20 @@ abbrev IsFitFront : Option FrontToken → Type 0
 IsFitFront None = Unit {0}
 IsFitFront (Some k) = IsFitToken k.token × AreCharacters k.rest
 
-module _ {X : Type 0} (P : X → Type 0) where
-  -- what holds of both branches holds of the choice
-  either : (b : Bool) (x y : X) → (b ≡ true → P x) → (b ≡ false → P y) → P (if b then x else y)
-  either true x y f g = f refl
-  either false x y f g = g refl
-
 module _ (p : ℕ → Bool) where
   front_fit : (cs : List ℕ) → AreCharacters cs → AreCharacters (front_while p cs)
   front_fit [] f = tt
   front_fit (c ∷ cs) f =
-      either AreCharacters (p c) (c ∷ front_while p cs) [] (λ e. (f.0, front_fit cs f.1)) (λ e. tt)
+      if_either AreCharacters (p c) (c ∷ front_while p cs) [] (λ e. (f.0, front_fit cs f.1)) (λ e. tt)
 
   after_fit : (cs : List ℕ) → AreCharacters cs → AreCharacters (after_while p cs)
   after_fit [] f = tt
-  after_fit (c ∷ cs) f = either AreCharacters (p c) (after_while p cs) (c ∷ cs) (λ e. after_fit cs f.1) (λ e. f)
+  after_fit (c ∷ cs) f = if_either AreCharacters (p c) (after_while p cs) (c ∷ cs) (λ e. after_fit cs f.1) (λ e. f)
 
   front_passes : (cs : List ℕ) → AllAre p (front_while p cs)
   front_passes [] = tt
   front_passes (c ∷ cs) =
-      either (AllAre p) (p c) (c ∷ front_while p cs) [] (λ e. (e, front_passes cs)) (λ e. tt)
+      if_either (AllAre p) (p c) (c ∷ front_while p cs) [] (λ e. (e, front_passes cs)) (λ e. tt)
 
 part_fit : (c : ℕ) (cs : List ℕ) → is_name_start c ≡ true → IsNamePart (part_bytes (c ∷ cs))
 part_fit c cs starts =
@@ -112,14 +107,14 @@ literal_fit quote cs f =
 prefixed_fit : (prefix cs : List ℕ) → AreCharacters cs → IsFitFront (prefixed_name_at prefix cs)
 prefixed_fit prefix [] f = tt
 prefixed_fit prefix (c ∷ cs) f =
-    either IsFitFront (is_name_start c)
+    if_either IsFitFront (is_name_start c)
     (Some (front_token (name_token prefix (part_bytes (c ∷ cs))) (after_while is_name_character (c ∷ cs)))) None
     (λ starts. (part_fit c cs starts, after_fit is_name_character (c ∷ cs) f)) (λ e. tt)
 
 from_fit : (part cs : List ℕ) → IsNamePart part → AreCharacters cs → IsFitFront (name_from part cs)
 from_fit part [] p f = (p, tt)
 from_fit part (c ∷ cs) p f =
-    either IsFitFront (c == colon) (prefixed_name_at part cs) (Some (front_token (name_token [] part) (c ∷ cs)))
+    if_either IsFitFront (c == colon) (prefixed_name_at part cs) (Some (front_token (name_token [] part) (c ∷ cs)))
     (λ e. prefixed_fit part cs f.1) (λ e. (p, f))
 
 name_fit : (c : ℕ) (cs : List ℕ) → is_name_start c ≡ true → AreCharacters (c ∷ cs) → IsFitFront (name_at (c ∷ cs))
@@ -149,9 +144,9 @@ with_symbol_fit cs (Some t) s f = (s, f)
 token_fit : (cs : List ℕ) → AreCharacters cs → IsFitFront (token_at cs)
 token_fit [] f = tt
 token_fit (c ∷ cs) f =
-    either IsFitFront (is_quote c) (literal_at c cs) (if is_name_start c then name_at (c ∷ cs) else with_symbol cs (symbol_of c))
+    if_either IsFitFront (is_quote c) (literal_at c cs) (if is_name_start c then name_at (c ∷ cs) else with_symbol cs (symbol_of c))
     (λ e. literal_fit c cs f.1)
-    (λ e. either IsFitFront (is_name_start c) (name_at (c ∷ cs)) (with_symbol cs (symbol_of c)) (λ starts. name_fit c cs starts f)
+    (λ e. if_either IsFitFront (is_name_start c) (name_at (c ∷ cs)) (with_symbol cs (symbol_of c)) (λ starts. name_fit c cs starts f)
     (λ other. with_symbol_fit cs (symbol_of c) (symbol_fit c) f.1))
 
 taken_fit : (cs : List ℕ) (t : FilterToken) (rest : List ℕ) → AreCharacters cs → Takes cs t rest → IsFitToken t × AreCharacters rest
@@ -175,11 +170,6 @@ IsFitScope scope = AllByRecursion IsFitRow scope.rows
 -- and each that is declared
 abbrev pub AreFitDeclared : List Declared → Type 0
 AreFitDeclared declared = AllByRecursion (λ d. IsNamespace d.space) declared
-
-all_reversed : {X : Type 0} (P : X → Type 0) (xs : List X) → AllByRecursion P xs → AllByRecursion P (reverse xs)
-all_reversed P [] f = tt
-all_reversed P (x ∷ xs) f =
-    subst (AllByRecursion P) (sym (reverse-append (x ∷ []) xs)) (both_all P (reverse xs) (x ∷ []) (all_reversed P xs f.1) (f.0, tt))
 
 abbrev IsFitBinding : Binding → Type 0
 IsFitBinding b = IsNamespace b.space
@@ -214,7 +204,7 @@ module _ (scope : Scope) (f : IsFitScope scope) where
   space_fit : (prefix : List ℕ) → MayBeNamespace (space_of scope prefix)
   space_fit [] = no_namespace
   space_fit (b ∷ bs) =
-      either MayBeNamespace (bytes_eq (b ∷ bs) (codes "xml")) (Some xml_space) (lookup (bytes_eq (b ∷ bs)) scope.rows)
+      if_either MayBeNamespace (bytes_eq (b ∷ bs) (codes "xml")) (Some xml_space) (lookup (bytes_eq (b ∷ bs)) scope.rows)
       (λ e. xml_namespace) (λ e. lookup_fit (bytes_eq (b ∷ bs)) scope.rows f)
 
   named_fit : (q : Qualified) (name : element.Name) → IsNamePart q.local → StandsFor scope q name → IsFitName name

@@ -9,6 +9,7 @@ use Rattle.std.proofs.KnownBytes.{Appends-kept, Appends-nil, Appends-trans, Cons
 use Rattle.std.proofs.Math.Seq.{drop-drop}
 use Rattle.std.proofs.lemmas.List.{drop_at}
 use Rattle.std.specs.Io.KnownBytes.{Appends, Consumes, IsAtEnd, Keeps}
+use Rattle.ifmap_lemmas.specs.Absent.{if_some_any}
 use Rattle.ifmap_core.specs.ifmap_machine.State.{State}
 use Rattle.ifmap_requests.specs.Laws.{OneMeaning}
 use Rattle.ifmap_requests.specs.Means.{Means}
@@ -172,10 +173,6 @@ taken_and_rest None left taken P consumed h = tt
 taken_and_rest (Some bytes) None taken P consumed h = absurd consumed
 taken_and_rest (Some bytes) (Some rest) taken P consumed h = subst P (sym consumed) h
 
-some_for : {X : Type 0} (known : Option X) (P : X → Type 0) → ((x : X) → P x) → IfSome known P
-some_for None P f = tt
-some_for (Some x) P f = f x
-
 -- ---- how a replay ends
 
 -- a prefix was written of each output of these bytes
@@ -234,7 +231,7 @@ module _ (before mid after : SourceAndSink) (now : Replaying) (p : Progress befo
       let f = u.frame in
       let b = (step_frame now.state f).1 in
       taken_and_rest before.left after.left (p.taken ++ got) (λ bytes. IsPart before after bytes) (took_more got u.takes.consumed)
-      (some_for after.left _ (λ more text output.
+      (if_some_any after.left _ (λ more text output.
       let left = unframed_one before mid after now p f got more u.taken u.rest u.takes.grown u.begins u.means output.0 output.1
       output.2 in
       let fault = output.1 in
@@ -249,7 +246,7 @@ module _ (before mid after : SourceAndSink) (now : Replaying) (p : Progress befo
   pub part : Keeps mid.held after.held → AnswersPart before after
   part kept =
       taken_and_rest before.left mid.left p.taken (λ bytes. IsPart before after bytes) p.consumed
-      (some_for mid.left _ (λ more text output.
+      (if_some_any mid.left _ (λ more text output.
       let left = p.unframed more output.0 output.1 output.2 in
       let fault = output.1 in
       let c = answers_from now.state left.0 ++ fault_line fault in

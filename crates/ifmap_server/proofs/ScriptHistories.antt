@@ -1,5 +1,5 @@
 -- The history of a script: it is legal, and its events are fit.
-use Rattle.std.proofs.Common.{◌≡◌, ℕ, ◌+◌, List, [], ◌∷◌, ◌++◌, length, Option, None, Some, IfSome, Ok, Err, refl, subst}
+use Rattle.std.proofs.Common.{◌≡◌, ℕ, ◌+◌, List, [], ◌∷◌, ◌++◌, length, Option, None, Some, Ok, Err, refl, subst}
 use Rattle.std.specs.List.{AllByRecursion}
 use Rattle.ifmap_core.specs.ifmap_machine.declared.events.Answer.{Answer}
 use Rattle.ifmap_core.specs.ifmap_machine.Events.{Event, IsFitEvent}
@@ -47,8 +47,3 @@ module _ (fits : (body : List ℕ) (request : Request) → Means body (Ok reques
       fit_meaning state (event_of_frame f) f.meaning (history_from (step_frame state f).0 frames)
       (frame_fit f is.1.fits is.2)
       (history_fit (offset + length (frame_text f)) is.0 frames fault (step_frame state f).0 is.3)
-
--- what is so of all bytes is so of those that a source has left, where it tells them
-pub so_of_left : (P : List ℕ → Type 0) (left : Option (List ℕ)) → ((bytes : List ℕ) → P bytes) → IfSome left P
-so_of_left P None so = tt
-so_of_left P (Some bytes) so = so bytes

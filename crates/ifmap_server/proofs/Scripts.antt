@@ -12,6 +12,7 @@ use Rattle.ifmap_server.specs.Frames.{Frame, IsFrame, IsHeader, Meaning, frame_t
 use Rattle.ifmap_server.specs.Script.{BeginsFrame, IsScriptFrom}
 use Rattle.ifmap_server.specs.Turns.{frame_of}
 use Rattle.ifmap_lemmas.specs.Splits.{without_at, before, after, before_at, after_at}
+use Rattle.ifmap_lemmas.specs.Joined.{push_append}
 use Rattle.ifmap_server.proofs.HeaderLines.{IsWithin, line_text, line_of, line_length, line_without, is_header, header_of_line_one, read_line}
 
 -- the header of a frame
@@ -21,12 +22,9 @@ header_of_frame f = record { moment = f.moment; client = f.client; random = f.ra
 frame_within : (f : Frame) → IsFrame f → IsWithin (header_of_frame f)
 frame_within f is = record { moment = is.moment; client = is.client; random = is.random; size = is.body }
 
-push_append : (a b : List ℕ) (x : ℕ) → a ++ x ∷ [] ++ b ≡ a ++ x ∷ b
-push_append a b x = append_assoc a (x ∷ []) b
-
 -- a frame's text is a line, a newline and the body
 pub frame_line : (f : Frame) → frame_text f ≡ line_text (header_of_frame f) ++ 10 ∷ f.body
-frame_line f = push_append (line_text (header_of_frame f)) f.body 10
+frame_line f = push_append (line_text (header_of_frame f)) 10 f.body
 
 pub frame_length : (f : Frame) → length (frame_text f) ≡ length (line_text (header_of_frame f)) + 1 + length f.body
 frame_length f = let e = frame_line f in ap length e ∙ omega (arith, length-append (line_text (header_of_frame f)) (10 ∷ f.body))

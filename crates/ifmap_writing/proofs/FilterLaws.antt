@@ -11,6 +11,7 @@ use Rattle.std.specs.List.{AllByRecursion, flat_map}
 use Rattle.std.specs.Str.{bytes_eq}
 use Rattle.ifmap_lemmas.specs.Members.{all_both, both_all}
 use Rattle.ifmap_lemmas.specs.Numerals.{numeral}
+use Rattle.ifmap_lemmas.specs.Branches.{if_both}
 use Rattle.ifmap_elem.specs.Chars.{IsCharacters, colon, double_quote, single_quote}
 use Rattle.ifmap_elem.specs.Fit.{IsFitName, IsNamespace}
 use Rattle.ifmap_elem.specs.Scopes.{xml_space}
@@ -65,10 +66,6 @@ module _ {B : Type 0} (f : Predicate-F B → B) where
   at_ors parts = ap (fold-Predicate B f) (sym (rolls-Or parts)) ∙ fold-roll-Predicate B f (Predicate-F.Or parts)
 
 -- ---- (2) names and literals
-
-if_both : {X : Type 0} (P : X → Type 0) (b : Bool) (x y : X) → P x → P y → P (if b then x else y)
-if_both P true x y p q = p
-if_both P false x y p q = q
 
 prefix_characters : (n : ℕ) → IsCharacters (numbered_prefix n)
 prefix_characters n = characters_both (codes "f") (numeral n) (plain_characters (codes "f") refl refl) (numeral_characters n)

@@ -3,14 +3,8 @@ use Rattle.std.proofs.Common.{◌≡◌, ◌≢◌, ◌≤◌, ◌<◌, ◌^◌,
 use Rattle.std.proofs.Common.{Ok, codes, length, map, min, refl, ap, sym, subst, arith}
 use Rattle.std.specs.Prelude.{nat_le, nat_lt}
 use Rattle.std.specs.List.{flat_map, list_all}
-use Rattle.std.specs.Char.{is_ascii_digit}
-use Rattle.std.specs.Str.{bytes_eq}
-use Rattle.std.specs.Str.Parse.{AllDigits}
-use Rattle.std.proofs.lemmas.Bool.{and_from}
 use Rattle.std.proofs.lemmas.Bool.Decides.{nat_tests}
-use Rattle.std.proofs.lemmas.Str.Parse.{digit_from_value}
-use Rattle.ifmap_lemmas.specs.Numerals.{digit, numeral, numeral_by_digits}
-use Rattle.ifmap_lemmas.specs.Decimals.{between_is_digit}
+use Rattle.ifmap_lemmas.specs.Numerals.{numeral}
 use Rattle.ifmap_elem.specs.Chars.{is_white}
 use Rattle.ifmap_filter.specs.Printing.{joined_texts}
 use Rattle.ifmap_ident.specs.declared.codes.Code.{Code}
@@ -26,27 +20,6 @@ use Rattle.ifmap_writing.specs.Attributes.{kinds_value, lifetime_value, limit_va
 use Rattle.ifmap_requests.specs.ifmap_forms.FormLaws.{number_back}
 
 -- ---- (1) numbers
-
-digits_are : (ds : List ℕ) → AllDigits 10 ds → list_all is_ascii_digit ds ≡ true
-digits_are [] f = refl
-digits_are (d ∷ ds) f =
-    let r = digit_from_value d f.0 in
-    and_from (is_ascii_digit d) (list_all is_ascii_digit ds) (between_is_digit d r.0 r.1) (digits_are ds f.1)
-
--- digits that mean a number but 0 are some
-some_digits : (ds : List ℕ) → ds ≢ [] → bytes_eq ds [] ≡ false
-some_digits [] some = absurd (some refl)
-some_digits (d ∷ ds) some = refl
-
-numeral_some : (n : ℕ) → numeral n ≢ []
-numeral_some n = numeral_is_some n
-  where
-    pushed_some : (ds : List ℕ) (d : ℕ) → ds ++ d ∷ [] ≢ []
-    pushed_some [] d e = cc
-    pushed_some (c ∷ ds) d e = cc
-
-    numeral_is_some : (n : ℕ) → numeral n ≢ []
-    numeral_is_some = numeral_by_digits (λ n ds. ds ≢ []) (λ n few e. cc) (λ n ds many h. pushed_some ds (digit (n % 10)))
 
 abbrev good : {X : Type 0} → X → Result X Code
 good x = Ok x

@@ -9,14 +9,14 @@ use Rattle.std.proofs.lemmas.List.Sums.{sum_by-cons}
 use Rattle.std.specs.Bool.{OnTrue}
 use Rattle.std.specs.List.{All, IsEachAdjacentAnswer}
 use Rattle.std.proofs.lemmas.Bool.{cases_Bool, and_parts}
-use Rattle.std.proofs.lemmas.Cmp.{nat_list_cmp_total, then_total, on_total, upto}
+use Rattle.std.proofs.lemmas.Cmp.{nat_list_cmp_total, then_total, on_total}
 use Rattle.std.proofs.lemmas.Slice.Eq.{bytes_eq-Decides}
-use Rattle.std.specs.Cmp.{IsTotalOrder}
+use Rattle.std.specs.Cmp.{IsTotalOrder, Some-then}
 use Rattle.std.specs.Cmp.Lexicographic.{slice_cmp}
 use Rattle.std.specs.Str.{bytes_eq}
-use Rattle.std.specs.Ordering.{is_gt, is_lt, is_le, is_some_and, partial_le, partial_ordering_then, ordering_then, ordering_reverse, nat_cmp}
+use Rattle.std.specs.Ordering.{is_gt, is_lt, is_le, is_some_and, partial_le, partial_ordering_then, nat_cmp}
 use Rattle.std.specs.declared.cmp.Ordering.{Ordering}
-use Rattle.std.specs.declared.cmp.Ordering.TheVariants.{Less, Equal, Greater}
+use Rattle.std.specs.declared.cmp.Ordering.TheVariants.{Equal}
 use Rattle.ifmap_elem.specs.declared.elements.Attribute.{Attribute}
 use Rattle.ifmap_elem.specs.Arranged.{attribute_order, name_order, sort_attributes}
 use Rattle.ifmap_elem.specs.printer.Occurrences.{attribute_eq, occurrences_of}
@@ -26,6 +26,8 @@ use Rattle.std.proofs.lemmas.List.{get_or-map, length-map}
 use Rattle.ifmap_lemmas.specs.Sorting.{Ranks, in_order_same, in_order_is, in_order-rises, in_order-permutation, IsPermutation-in_order, length-in_order, count-in_order}
 use Rattle.ifmap_lemmas.specs.Texts.{same_texts}
 use Rattle.ifmap_lemmas.specs.Orderings.{both_equal}
+use Rattle.ifmap_lemmas.specs.Ties.{not_greater_than, within_not_less, not_less_than}
+use Rattle.ifmap_lemmas.specs.Ranking.{ranks}
 
 texts_total : IsTotalOrder (slice_cmp nat_cmp)
 texts_total = nat_list_cmp_total
@@ -43,28 +45,6 @@ attributes_tied a b e =
     let l = same_texts a.name.local b.name.local n.1 in
     let w = same_texts a.value b.value v.1 in
     λ i. record { name = record { space = s i; local = l i }; value = w i }
-
-module _ {X : Type 0} (R : X → X → Ordering) (o : IsTotalOrder R) (tied : (x y : X) → R x y ≡ Equal → x ≡ y) where
-  neither : (p q : Ordering) → p ≡ ordering_reverse q → is_gt p ≡ false → is_gt q ≡ false → p ≡ Equal
-  neither Less Less e g h = cc
-  neither Less Equal e g h = cc
-  neither Less Greater e g h = cc
-  neither Equal q e g h = refl
-  neither Greater q e g h = cc
-
-  other_way : (p q : Ordering) → p ≡ ordering_reverse q → is_gt p ≡ true → is_gt q ≡ false
-  other_way Less q e g = cc
-  other_way Equal q e g = cc
-  other_way Greater Less e g = refl
-  other_way Greater Equal e g = cc
-  other_way Greater Greater e g = cc
-
-  pub ranks : Ranks (λ x y. is_gt (R x y))
-  ranks = record {
-    tied = λ x y e f. tied x y (neither (R x y) (R y x) (o.antisymm x y) e f);
-    chain = upto o;
-    one_way = λ x y e. other_way (R x y) (R y x) (o.antisymm x y) e;
-  }
 
 pub attribute_ranks : Ranks (λ a b. is_gt (attribute_order a b))
 attribute_ranks = ranks attribute_order attributes_total attributes_tied
@@ -128,35 +108,14 @@ same_members xs ys long often = in_order_same attribute_order attribute_ranks at
           omega arith
     ]
 
-not_greater : (p q : Ordering) → p ≡ ordering_reverse q → is_lt q ≡ false → is_gt p ≡ false
-not_greater Less q e f = refl
-not_greater Equal q e f = refl
-not_greater Greater Less e f = cc
-not_greater Greater Equal e f = cc
-not_greater Greater Greater e f = cc
-
 -- a permutation of the attributes that rises
 pub rising_is_sorted : (xs ys : List Attribute) → IsPermutation xs ys
     → ((k : ℕ) (d : Attribute) → suc k < length ys → is_lt (attribute_order (get_or ys (suc k) d) (get_or ys k d)) ≡ false)
     → ys ≡ sort_attributes xs
 rising_is_sorted xs ys p up =
     in_order_is attribute_order attribute_ranks attribute_eq attribute_eq_itself attribute_eq_tells xs ys p
-    (λ k d l. not_greater (attribute_order (get_or ys k d) (get_or ys (suc k) d)) (attribute_order (get_or ys (suc k) d) (get_or ys k d))
-    (attributes_total.antisymm (get_or ys k d) (get_or ys (suc k) d)) (up k d l))
-
-next_not_less : (p q : Ordering) → p ≡ ordering_reverse q → is_le p ≡ true → is_lt q ≡ false
-next_not_less Less Less e f = cc
-next_not_less Less Equal e f = cc
-next_not_less Less Greater e f = refl
-next_not_less Equal Less e f = cc
-next_not_less Equal Equal e f = refl
-next_not_less Equal Greater e f = cc
-next_not_less Greater q e f = cc
-
-then_some : (o p : Ordering) → partial_ordering_then (Some o) (Some p) ≡ Some (ordering_then o p)
-then_some Less p = refl
-then_some Equal p = refl
-then_some Greater p = refl
+    (λ k d l. not_greater_than (attribute_order (get_or ys k d) (get_or ys (suc k) d))
+    (attribute_order (get_or ys (suc k) d) (get_or ys k d)) (attributes_total.antisymm (get_or ys k d) (get_or ys (suc k) d)) (up k d l))
 
 -- how two attributes compare, as `<=` asks
 abbrev compare_attributes : Attribute → Attribute → Option Ordering
@@ -167,15 +126,15 @@ compare_attributes a b =
 compared_is : (a b : Attribute) → compare_attributes a b ≡ Some (attribute_order a b)
 compared_is a b =
     ap (λ o. partial_ordering_then o (Some (slice_cmp nat_cmp a.value b.value)))
-    (then_some (slice_cmp nat_cmp a.name.space b.name.space) (slice_cmp nat_cmp a.name.local b.name.local))
-    ∙ then_some (name_order a.name b.name) (slice_cmp nat_cmp a.value b.value)
+    (Some-then (slice_cmp nat_cmp a.name.space b.name.space) (slice_cmp nat_cmp a.name.local b.name.local))
+    ∙ Some-then (name_order a.name b.name) (slice_cmp nat_cmp a.value b.value)
 
 -- attributes each of which is not greater than the next are in order
 unmoved : (xs : List Attribute)
     → ((k : ℕ) (d : Attribute) → suc k < length xs → is_le (attribute_order (get_or xs k d) (get_or xs (suc k) d)) ≡ true)
     → sort_attributes xs ≡ xs
 unmoved xs up =
-    sym (rising_is_sorted xs xs (IsPermutation-refl xs) (λ k d l. next_not_less
+    sym (rising_is_sorted xs xs (IsPermutation-refl xs) (λ k d l. within_not_less
     (attribute_order (get_or xs k d) (get_or xs (suc k) d)) (attribute_order (get_or xs (suc k) d) (get_or xs k d))
     (attributes_total.antisymm (get_or xs k d) (get_or xs (suc k) d)) (up k d l)))
 
@@ -227,19 +186,12 @@ sorted_references rs ss p up =
 pub sorted_permutation : (xs : List Attribute) → IsPermutation xs (sort_attributes xs)
 sorted_permutation xs = IsPermutation-in_order attribute_order attribute_ranks xs
 
-not_less : (p q : Ordering) → p ≡ ordering_reverse q → is_gt q ≡ false → is_lt p ≡ false
-not_less Less Less e f = cc
-not_less Less Equal e f = cc
-not_less Less Greater e f = cc
-not_less Equal q e f = refl
-not_less Greater q e f = refl
-
 pub sorted_rises : (xs : List Attribute) → IsSorted attribute_order (sort_attributes xs)
 sorted_rises xs k d low high =
     let next : Attribute = get_or (sort_attributes xs) (suc k) d in
     let here : Attribute = get_or (sort_attributes xs) k d in
     let step : is_lt (attribute_order next here) ≡ false =
-    not_less (attribute_order next here) (attribute_order here next) (attributes_total.antisymm next here)
+    not_less_than (attribute_order next here) (attribute_order here next) (attributes_total.antisymm next here)
     (in_order-rises attribute_order attribute_ranks xs k d (omega arith)) in
     subst (λ (n : ℕ). is_lt (attribute_order (get_or (sort_attributes xs) n d) here) ≡ false) (sym (add-one k)) step
 

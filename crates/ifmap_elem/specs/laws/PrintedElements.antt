@@ -34,9 +34,10 @@ use Rattle.ifmap_elem.specs.Canonical.{printed_name, declaration_bytes, attribut
 use Rattle.ifmap_lemmas.specs.Numbers.{is_other}
 use Rattle.ifmap_lemmas.specs.Members.{all_of_test, all_both}
 use Rattle.ifmap_elem.specs.laws.NamespaceLaws.{Rows}
-use Rattle.ifmap_elem.specs.laws.PrintedTags.{row_binding, tag_of, qualify_name, Resolves, FitsIn, FitRow, to_both, tag_taken, end_taken, text_taken, bindings_are, names_element}
+use Rattle.ifmap_elem.specs.laws.PrintedTags.{row_binding, tag_of, qualify_name, Resolves, FitsIn, FitRow, tag_taken, end_taken, text_taken, bindings_are, names_element}
 use Rattle.ifmap_elem.specs.laws.FitLaws.{out_text, elements_of_child, elements_in, fit_parts}
 use Rattle.ifmap_lemmas.specs.Lists.{concat_map}
+use Rattle.ifmap_lemmas.specs.Runs.{to_both}
 use Rattle.ifmap_elem.specs.laws.ArrangedLaws.{out_element}
 
 -- contents after one another

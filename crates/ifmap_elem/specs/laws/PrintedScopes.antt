@@ -10,7 +10,6 @@ use Rattle.std.specs.List.{AllByRecursion}
 use Rattle.ifmap_lemmas.specs.Numerals.{numeral, numeral_digits, one_number}
 use Rattle.std.specs.Int.{is_in_range}
 use Rattle.std.specs.Map.{lookup}
-use Rattle.std.specs.Option.{is_some}
 use Rattle.std.specs.Str.{bytes_eq, byte}
 use Rattle.std.specs.Str.Parse.{AllDigits}
 use Rattle.std.proofs.lemmas.Bool.{cases_Bool, false_from_ne_true, or_right}
@@ -28,7 +27,9 @@ use Rattle.ifmap_elem.specs.laws.NamespaceLaws.{among, among-others, is_some-pre
 use Rattle.ifmap_lemmas.specs.Texts.{eq_tells, eq_itself, is_ascii}
 use Rattle.ifmap_lemmas.specs.Members.{all_of_test}
 use Rattle.ifmap_lemmas.specs.Absent.{none_where_not_some}
-use Rattle.ifmap_elem.specs.laws.PrintedTags.{other_bytes_differ, prefix_or, row_binding, Resolves, FitRow, ascii_part}
+use Rattle.ifmap_lemmas.specs.Options.{some_is}
+use Rattle.ifmap_lemmas.specs.Apart.{other_bytes_differ}
+use Rattle.ifmap_elem.specs.laws.PrintedTags.{prefix_or, row_binding, Resolves, FitRow, ascii_part}
 
 -- numbered prefixes
 
@@ -180,10 +181,6 @@ among_dropped test s (x ∷ xs) t = elim (cases_Bool (test x)) [
   | inr e ↦ rw e (among_dropped test s xs t)
 ]
 
-has_value : (o : Option (List ℕ)) → is_some o ≡ true → (p : List ℕ) × (o ≡ Some p)
-has_value None h = let wrong : false ≡ true = h in cc
-has_value (Some p) h = (p, refl)
-
 xml_part : IsNamePart (codes "xml")
 xml_part =
     ascii_part (byte "x") (codes "ml") refl (all_of_test is_name_character (codes "ml") refl) (all_of_test is_ascii (codes "xml") refl)
@@ -230,7 +227,7 @@ module _ (all : Texts) (more : Scope) (outer : IsOutermost more) where
   numbered : (s : List ℕ) → is_declared s ≡ true → bytes_eq s xml_space ≡ false → among s all ≡ true → Resolves its_prefixes its_scope s
   numbered s out other here =
       let found : among s (declared_among all) ≡ true = among_once s (filter is_declared all) ∙ among_kept is_declared s all out ∙ here in
-      let row = has_value (lookup (bytes_eq s) (numbered_prefix_rows (byte "n") 1 (declared_among all)))
+      let row = some_is (lookup (bytes_eq s) (numbered_prefix_rows (byte "n") 1 (declared_among all)))
       (is_some-prefix_rows (codes "n") 1 s (declared_among all) ∙ found) in
       let r : HasNumber (byte "n") 1 (declared_among all) more s row.0 =
       rows_bind (byte "n") n_letter 1 (declared_among all) more s row.0 row.1 in

@@ -10,10 +10,8 @@ use Rattle.std.specs.Prelude.{codes, filter, is_none}
 use Rattle.std.specs.List.{AllByRecursion, flat_map, filter_map, list_all}
 use Rattle.std.specs.Map.{lookup}
 use Rattle.std.specs.Str.{bytes_eq, byte}
-use Rattle.std.proofs.lemmas.Bool.{false_from_ne_true}
 use Rattle.std.proofs.lemmas.List.{append-nil}
 use Rattle.std.proofs.lemmas.List.Elements.{filter-append, filter_map-append}
-use Rattle.std.proofs.lemmas.Slice.Eq.{bytes_eq-Decides}
 use Rattle.ifmap_lemmas.specs.Items.{To}
 use Rattle.ifmap_elem.specs.laws.NamespaceLaws.{Rows}
 use Rattle.ifmap_elem.specs.declared.elements.Name.{Name}
@@ -30,6 +28,8 @@ use Rattle.ifmap_elem.specs.Fit.{IsFitName, IsFitAttribute}
 use Rattle.ifmap_elem.specs.Canonical.{after_prefix, printed_name, declaration_bytes, attribute_bytes}
 use Rattle.ifmap_lemmas.specs.Members.{all_of_test}
 use Rattle.ifmap_lemmas.specs.Texts.{is_ascii, ascii_encoded}
+use Rattle.ifmap_lemmas.specs.Apart.{other_bytes_differ}
+use Rattle.ifmap_lemmas.specs.Runs.{to_both}
 use Rattle.ifmap_elem.specs.laws.PrintedParts.{text_means, value_means, text_characters, value_characters, text_some, text_no_tag, value_no_tag, value_no_quote, text_no_section_end}
 
 -- the prefix, or none
@@ -148,12 +148,6 @@ all_taken write means P each (x ∷ xs) rest f = (
   all_taken write means P each xs rest f.1,
 )
 
--- items, and then more
-pub to_both : {B X : Type 0} (Takes : B → X → B → Type 0) (bytes : B) (xs : List X) (mid : B) (ys : List X) (rest : B)
-    → To Takes bytes xs mid → To Takes mid ys rest → To Takes bytes (xs ++ ys) rest
-to_both {B} {X} Takes bytes [] mid ys rest l m = subst (λ (b : B). To Takes b ys rest) (sym l) m
-to_both Takes bytes (x ∷ xs) mid ys rest l m = (l.0, l.1, to_both Takes l.0 xs mid ys rest l.2 m)
-
 pub tag_taken : (prefixes declared : Rows) (scope : Scope) (name : Name) (attributes : List Attribute) (end : List ℕ) → IsFitName name
     → Resolves prefixes scope name.space
     → AllByRecursion FitRow declared → AllByRecursion (FitsIn prefixes scope) attributes
@@ -200,9 +194,6 @@ text_taken text rest some f ends = record {
 }
 
 -- what a printed tag binds
-
-pub other_bytes_differ : (a b : List ℕ) → a ≢ b → bytes_eq a b ≡ false
-other_bytes_differ a b other = false_from_ne_true (bytes_eq a b) (λ e. other ((bytes_eq-Decides a b).0 e))
 
 binds_nothing : (prefixes : Rows) (scope : Scope) (a : Attribute) → FitsIn prefixes scope a
     → binding_of (attribute_assignment prefixes a) ≡ None

@@ -54,9 +54,3 @@ keys_told a b v w =
       λ e. ap (bytes_eq (content_bytes a.element)) (sym (same_bytes a.element b.element e))
           ∙ eq_itself (content_bytes a.element),
     )
-
--- two tests that tell one thing answer alike
-pub one_answer : (a b : Bool) (P : Type 0) → (IsTrue a ↔ P) → (IsTrue b ↔ P) → a ≡ b
-one_answer true b P h k = sym (k.1 (h.0 refl))
-one_answer false true P h k = h.1 (k.0 refl)
-one_answer false false P h k = refl

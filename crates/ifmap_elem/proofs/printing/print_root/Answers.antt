@@ -1,5 +1,5 @@
 use Rattle.std.proofs.Common.{◌≡◌, ◌++◌, refl, ap, ◌∙◌}
-use Rattle.ifmap_elem.proofs.Fronting.{drained_items}
+use Rattle.ifmap_lemmas.specs.Drained.{drained_items}
 use Rattle.std.specs.Prelude.{codes}
 use Rattle.std.specs.List.{flat_map}
 use Rattle.ifmap_elem.specs.Canonical.{after_prefix, declaration_bytes}

@@ -5,20 +5,17 @@ use Rattle.std.specs.Str.{IsUtf8}
 use Rattle.std.proofs.lemmas.List.Sums.{AllPass-from_list_all}
 use Rattle.std.proofs.lemmas.Str.{IsUtf8-from_ascii}
 use Rattle.std.proofs.lemmas.Str.Ascii.{IsAscii-from_all}
+use Rattle.ifmap_lemmas.specs.Branches.{all_three}
 use Rattle.ifmap_meta.specs.ClientNames.{is_client_byte}
 use Rattle.ifmap_meta.specs.laws.ClientBytes.{client_is_ascii}
 use Rattle.ifmap_heads.specs.Posts.{is_client_name}
 use Rattle.ifmap_heads.proofs.posts.client_of.Goals as goal
 
-last_of_three : (a b c : Bool) → (a && b && c) ≡ true → c ≡ true
-last_of_three true true c e = e
-last_of_three true false c e = cc
-last_of_three false b c e = cc
 
 name_is_text : (name : List ℕ) → is_client_name name ≡ true → IsUtf8 name
 name_is_text name is =
     let all = AllPass-from_list_all is_client_byte name
-    (last_of_three (nat_le 1 (length name)) (nat_le (length name) 40) (list_all is_client_byte name) is) in
+    (all_three (nat_le 1 (length name)) (nat_le (length name) 40) (list_all is_client_byte name) is).2 in
     IsUtf8-from_ascii name (IsAscii-from_all name (λ k d within. client_is_ascii _ (all k d within)))
 
 no_name : (name : List ℕ) → (IsUtf8 name → ⊥) → is_client_name name ≡ false

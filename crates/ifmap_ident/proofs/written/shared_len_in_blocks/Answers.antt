@@ -1,5 +1,6 @@
 use Rattle.std.proofs.Common.{◌≡◌, ◌-◌, subst, take, drop, arith}
-use Rattle.ifmap_ident.proofs.BlockLaws.{apart_in_last, shared_before, shared_on}
+use Rattle.ifmap_lemmas.specs.Joined.{shared_on, shared_before}
+use Rattle.ifmap_ident.proofs.BlockLaws.{apart_in_last}
 use Rattle.ifmap_ident.proofs.written.shared_len_in_blocks.Goals as goal
 
 pub returns-then-shared-lt-BLOCK-clause-shared : goal.returns-then-shared-lt-BLOCK-clause-shared

@@ -1,6 +1,6 @@
 use Rattle.std.proofs.Common.{codes, refl, inl, inr}
+use Rattle.ifmap_lemmas.specs.Branches.{fails_where_false}
 use Rattle.ifmap_lexer.specs.Settings.{IsEncoding}
-use Rattle.ifmap_lexer.proofs.Basics.{is_not}
 use Rattle.ifmap_lexer.proofs.SettingLaws.{taken_with, not_allowed, not_set, encoding_from, from_encoding}
 use Rattle.ifmap_lexer.proofs.declaration.after_encoding.Goals as goal
 
@@ -17,5 +17,6 @@ returns-else-eq_ignore_ascii_case c =
     inr (
       refl,
       not_allowed (codes "encoding") refl IsEncoding c.args.bytes.now c.in-Some.written.now c.in-Some.rest.now c.in-Some.ensures.found
-          (λ is. is_not _ _ c.eq_ignore_ascii_case.ensures.test c.if-eq_ignore_ascii_case.false (from_encoding c.in-Some.written.now is)),
+          (λ is. fails_where_false _ _ c.eq_ignore_ascii_case.ensures.test c.if-eq_ignore_ascii_case.false
+            (from_encoding c.in-Some.written.now is)),
     )

@@ -1,6 +1,6 @@
 use Rattle.std.proofs.Common.{codes, refl, inl, inr}
+use Rattle.ifmap_lemmas.specs.Branches.{fails_where_false}
 use Rattle.ifmap_lexer.specs.Settings.{IsYesOrNo}
-use Rattle.ifmap_lexer.proofs.Basics.{is_not}
 use Rattle.ifmap_lexer.proofs.SettingLaws.{taken_with, not_allowed, not_set}
 use Rattle.ifmap_lexer.proofs.declaration.after_standalone.Goals as goal
 
@@ -17,5 +17,5 @@ returns-else-is_yes_or_no c =
     inr (
       refl,
       not_allowed (codes "standalone") refl IsYesOrNo c.args.bytes.now c.in-Some.written.now c.in-Some.rest.now c.in-Some.ensures.found
-          (is_not _ _ c.is_yes_or_no.ensures c.if-is_yes_or_no.false),
+          (fails_where_false _ _ c.is_yes_or_no.ensures c.if-is_yes_or_no.false),
     )

@@ -1,14 +1,15 @@
 use Rattle.std.proofs.Common.{sym, ◌∙◌}
 use Rattle.std.proofs.lemmas.Result.{err_from_is_err_and}
+use Rattle.ifmap_lemmas.specs.Joined.{none_by_length, some_by_length}
 use Rattle.ifmap_lexer.proofs.AssignmentLaws.{no_white, some_name, no_value, some_value, assignment_found, is_shorter}
-use Rattle.ifmap_lexer.proofs.Basics.{refuses_by, is_none, is_some_list}
+use Rattle.ifmap_lexer.proofs.Basics.{refuses_by}
 use Rattle.ifmap_lexer.proofs.tags.assignment_of.Goals as goal
 use Rattle.ifmap_lexer.specs.There.{SomeAssignment, SomeName}
 
 pub returns-then-is_empty-clause-refused : goal.returns-then-is_empty-clause-refused
 returns-then-is_empty-clause-refused c =
     no_white c.args.bytes.now c.split_white.result.0.now c.split_white.result.1.now c.split_white.ensures
-    (is_none c.split_white.result.0.now (sym c.is_empty.ensures ∙ c.if-is_empty.true))
+    (none_by_length c.split_white.result.0.now (sym c.is_empty.ensures ∙ c.if-is_empty.true))
 
 pub returns-in_err-name-clause-refused : goal.returns-in_err-name-clause-refused
 returns-in_err-name-clause-refused c =
@@ -33,7 +34,8 @@ pub returns-clause-found : goal.returns-clause-found
 returns-clause-found c =
     assignment_found c.args.bytes.now c.split_white.result.0.now c.split_white.result.1.now c.split_white.ensures c.in_ok-name.name
     c.in_ok-name.after.now c.in_ok-name.ensures.found c.in-Some.written.now c.in-Some.rest.now c.in-Some.ensures.found
-    c.in_ok-value.value (is_some_list c.split_white.result.0.now (sym c.is_empty.ensures ∙ c.if-is_empty.false)) c.in_ok-value.ensures.found
+    c.in_ok-value.value (some_by_length c.split_white.result.0.now (sym c.is_empty.ensures ∙ c.if-is_empty.false))
+    c.in_ok-value.ensures.found
 
 pub returns-clause-shorter : goal.returns-clause-shorter
 returns-clause-shorter c =

@@ -1,16 +1,17 @@
 use Rattle.std.proofs.Common.{sym, ◌∙◌, subst, List, ℕ}
 use Rattle.std.proofs.lemmas.Result.{err_from_is_err_and}
+use Rattle.ifmap_lemmas.specs.Joined.{none_by_length, some_by_length}
 use Rattle.ifmap_elem.specs.Values.{IsText}
 use Rattle.ifmap_elem.specs.Kinds.{Stands}
 use Rattle.ifmap_elem.specs.declared.tokens.TokenKind.TheVariants as kinds
-use Rattle.ifmap_lexer.proofs.Basics.{refuses_by, is_none, is_some_list}
+use Rattle.ifmap_lexer.proofs.Basics.{refuses_by}
 use Rattle.ifmap_lexer.proofs.TokenLaws.{SomeMeaning, no_own, no_text_end, no_text_characters, some_text_of, text_found}
 use Rattle.ifmap_lexer.proofs.tokens.text.Goals as goal
 
 pub returns-then-is_empty-clause-refused : goal.returns-then-is_empty-clause-refused
 returns-then-is_empty-clause-refused c =
     no_own c.args.bytes.now c.split_byte.result.0.now c.split_byte.result.1.now c.split_byte.ensures
-    (is_none c.split_byte.result.0.now (sym c.is_empty.ensures ∙ c.if-is_empty.true))
+    (none_by_length c.split_byte.result.0.now (sym c.is_empty.ensures ∙ c.if-is_empty.true))
 
 pub returns-then-has_section_end-clause-refused : goal.returns-then-has_section_end-clause-refused
 returns-then-has_section_end-clause-refused c =
@@ -30,6 +31,6 @@ returns-in_err-meant-clause-refused c =
 pub returns-clause-found : goal.returns-clause-found
 returns-clause-found c =
     text_found c.args.bytes.now c.split_byte.result.0.now c.split_byte.result.1.now c.split_byte.ensures
-    (is_some_list c.split_byte.result.0.now (sym c.is_empty.ensures ∙ c.if-is_empty.false))
+    (some_by_length c.split_byte.result.0.now (sym c.is_empty.ensures ∙ c.if-is_empty.false))
     c.if-has_section_end.ensures.no c.in-Some.ensures.found.1 c.is_white_alone.result c.is_white_alone.ensures c.in_ok-meant.meant
     (subst (λ (x : List ℕ). IsText x c.in_ok-meant.meant) c.in-Some.ensures.found.0 c.in_ok-meant.ensures.found)

@@ -1,6 +1,7 @@
 use Rattle.ifmap_reader.specs.Progress.{where_is}
-use Rattle.ifmap_reader.proofs.Progressing.{at_start, next_at, token_refused, shown_is, within_next, end_read}
+use Rattle.ifmap_reader.proofs.Progressing.{at_start, next_at, token_refused, within_next, end_read}
 use Rattle.ifmap_reader.proofs.reading.read_tokens.Goals as goal
+use Rattle.ifmap_lemmas.specs.Joined.{cut_at_end}
 
 pub loop-at-init : goal.loop-at-init
 loop-at-init c = record {
@@ -12,7 +13,7 @@ loop-at-init c = record {
 pub returns-in-Err : goal.returns-in-Err
 returns-in-Err c =
     token_refused c.args.bytes.now c.args.depth (where_is c.loop-at.standing) c.loop-at.at c.loop-at.invariant.come _
-    c.in-Err.refusal c.refusal_error.result c.loop-at-test.true (shown_is c.args.bytes.now c.loop-at.at) c.refusal_error.ensures
+    c.in-Err.refusal c.refusal_error.result c.loop-at-test.true (cut_at_end c.args.bytes.now c.loop-at.at) c.refusal_error.ensures
     c.in-Err.ensures
 
 pub loop-at-preserved : goal.loop-at-preserved
@@ -21,7 +22,7 @@ loop-at-preserved c =
     record {
       within = within_next c.args.bytes.now c.loop-at.at c.in-Ok.next.length c.loop-at-test.true takes.within;
       come = next_at c.args.bytes.now c.args.depth (where_is c.loop-at.standing) c.loop-at.at c.loop-at.invariant.come _
-          c.in-Ok.ensures.token c.in-Ok.next.length c.loop-at-test.true (shown_is c.args.bytes.now c.loop-at.at)
+          c.in-Ok.ensures.token c.in-Ok.next.length c.loop-at-test.true (cut_at_end c.args.bytes.now c.loop-at.at)
           takes.taken takes.alone (where_is c.in-Ok.next.standing) c.in-Ok.ensures.answers;
     }
 

@@ -1,4 +1,4 @@
--- What a splice puts in, where it takes it from a vector.
+-- What is drained from a vector: its items.
 use Rattle.std.proofs.Common.{◌≡◌, List, length, sym, ◌∙◌}
 use Rattle.std.proofs.lemmas.Iterator.{items_from_drains}
 use Rattle.std.proofs.lemmas.Iterator.Adapters.{YieldsList-from_vec}
