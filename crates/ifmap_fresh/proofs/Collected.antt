@@ -40,8 +40,7 @@ use Rattle.ifmap_fresh.specs.laws.JoiningLaws.{match_turned, some_there}
 use Rattle.ifmap_fresh.proofs.Levels.{expanded_walk, reached_by_walks, walk_expanded}
 use Rattle.ifmap_fresh.proofs.Meaning.{mark_walk, to_identifier, to_number, walk_mark}
 use Rattle.ifmap_fresh.specs.laws.SameLaws.{member, pair_canon, pair_is, pair_parts, pair_turned}
-use Rattle.ifmap_fresh.specs.laws.SameLaws.{same_item_is}
-use Rattle.ifmap_ident.specs.SameLaws.{item_itself, BytesTellIdentifiers}
+use Rattle.ifmap_ident.specs.SameLaws.{item_itself, BytesTellIdentifiers, same_item_is}
 
 lt_turned : (a b : ℕ) → nat_lt a b ≡ true → nat_lt b a ≡ false
 lt_turned a b e = grind (arith, nat_tests)
