@@ -7,6 +7,7 @@ use Rattle.std.proofs.Common.{◌≡◌, ◌≢◌, ◌⊎◌, inl, inr, refl, a
 use Rattle.std.specs.Prelude.{Option, Some, None, Result, Ok, Err, if◌then◌else◌}
 use Rattle.std.specs.Io.KnownBytes.{IsAtEnd}
 use Rattle.std.proofs.KnownBytes.{Consumes-nil, Consumes-trans}
+use Rattle.ifmap_lemmas.specs.Branches.{not_both_ways}
 use Rattle.ifmap_input.specs.InputLaws.{takes_none}
 use Rattle.ifmap_input.specs.Inputs.{TakesFromSource}
 use Rattle.ifmap_client.specs.Lines.{line_limit}
@@ -45,9 +46,6 @@ fetches_nothing left pending = record {
   grown = inl (same_bytes pending);
 }
 
-not_both : {P : Type 0} (b : Bool) → b ≡ true → b ≡ false → P
-not_both b shut other = let t : true ≡ false = sym shut ∙ other in cc
-
 module _ (left_old left_mid left_new : Option (List ℕ)) (old mid new : Pending) (first : Fetches left_old left_mid old mid)
     (open_yet : mid.ended ≡ false) where
   open_before : old.ended ≡ false
@@ -68,7 +66,7 @@ module _ (left_old left_mid left_new : Option (List ℕ)) (old mid new : Pending
           × HasNoNewline (old.bytes ++ first.got)))
           → mid ≡ with_bytes old first.got
       at (inl e) = e
-      at (inr e) = not_both mid.ended (ap (λ (p : Pending). p.ended) e.0) open_yet
+      at (inr e) = not_both_ways mid.ended (ap (λ (p : Pending). p.ended) e.0) open_yet
 
   joined : (got : List ℕ) → mid.bytes ++ got ≡ old.bytes ++ (first.got ++ got)
   joined got =
@@ -78,7 +76,7 @@ module _ (left_old left_mid left_new : Option (List ℕ)) (old mid new : Pending
   fetches_more second = record {
     got = first.got ++ second.got;
     consumed = Consumes-trans left_old left_mid left_new first.got second.got first.consumed second.consumed;
-    idle = λ ended. not_both old.ended ended open_before;
+    idle = λ ended. not_both_ways old.ended ended open_before;
     grown = at second.grown;
   }
     where
@@ -109,7 +107,7 @@ module _ (left_old left_new : Option (List ℕ)) (old new : Pending) (bytes : Li
     record {
       got = [];
       consumed = takes_none left_old left_new old.bytes bytes takes same;
-      idle = λ ended. not_both old.ended ended open_yet;
+      idle = λ ended. not_both_ways old.ended ended open_yet;
       grown = inr (
         is ∙ ap (λ (b : List ℕ). record { bytes = with_last_newline b; ended = true }) (same ∙ sym (append-nil old.bytes)),
         open_yet,
@@ -126,7 +124,7 @@ module _ (left_old left_new : Option (List ℕ)) (old new : Pending) (bytes : Li
     record {
       got = takes.got;
       consumed = takes.consumed;
-      idle = λ ended. not_both old.ended ended open_yet;
+      idle = λ ended. not_both_ways old.ended ended open_yet;
       grown = inl (is ∙ ap (λ (b : List ℕ). record { bytes = b; ended = old.ended }) takes.grown);
     },
     inr (subst (λ (p : Pending). length old.bytes < length p.bytes) (sym is) longer),
@@ -175,7 +173,7 @@ module _ (left_old left_mid left_new : Option (List ℕ)) (offset : ℕ) (old mi
     fetches_more left_old left_mid left_new old mid new first waiting.open_yet (record {
       got = [];
       consumed = fills.0;
-      idle = λ ended. not_both mid.ended ended waiting.open_yet;
+      idle = λ ended. not_both_ways mid.ended ended waiting.open_yet;
       grown = inl (fills.1 ∙ same_bytes mid);
     }),
     subst (λ (p : Pending). AwaitsLine offset p.bytes) (sym fills.1) waiting.due,
@@ -183,7 +181,7 @@ module _ (left_old left_mid left_new : Option (List ℕ)) (offset : ℕ) (old mi
   gathers_err stop.NoMemory fills = record {
     got = first.got ++ fills.0;
     consumed = Consumes-trans left_old left_mid left_new first.got fills.0 first.consumed fills.1;
-    idle = λ ended. not_both old.ended ended (open_before left_old left_mid left_new old mid new first waiting.open_yet);
+    idle = λ ended. not_both_ways old.ended ended (open_before left_old left_mid left_new old mid new first waiting.open_yet);
   }
   gathers_err stop.BadLine fills = absurd fills
   gathers_err stop.WriteFault fills = absurd fills

@@ -55,7 +55,6 @@ impl Model for Core {
     ghost invariant = { λ core. IsCore core.ttl core.parts };
 }
 
-// The later of two moments.
 fn later_moment(one: Moment, other: Moment) -> Moment
     ensures { result ≡ max one other }
 {

@@ -183,7 +183,7 @@ fn number_at(patch: &Patch, i: usize) -> u64
     ensures { slice_get (numbers_of patch.now) i ≡ Some result }
 {
     match patch.at(i) {
-        Some((number, _)) => number,
+        Some(change) => change.number,
         None => unreachable!(),
     }
 }

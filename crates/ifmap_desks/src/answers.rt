@@ -22,7 +22,7 @@ impl AnswerCounts {
         AnswerCounts { held: 0, spent: 0 }
     }
 
-    // Counts an answer.
+    // Each count stands still at the greatest of its type.
     pub(crate) fn count(&mut self, answer: &Asked<Event, Answer>)
         ensures { Counted answer.now self.old self.new }
     {

@@ -26,11 +26,11 @@ use Rattle.ifmap_elem.specs.declared.elements.Element.{Element}
 use Rattle.ifmap_elem.specs.laws.ArrangedLaws.{arranged_in, arranged_text}
 use Rattle.ifmap_elem.specs.laws.NamespaceLaws.{adds_none, adds_both}
 use Rattle.ifmap_lemmas.specs.Texts.{eq_itself}
+use Rattle.ifmap_lemmas.specs.Absent.{none_where_not_some}
 use Rattle.ifmap_elem.proofs.PrintedLaws.{two_written, content_written, element_is, root_printed, referred_attributes}
 use Rattle.ifmap_elem.proofs.SpaceLaws.{spaces_arranged, adds_element, referred_spaces}
 use Rattle.ifmap_elem.specs.laws.PrintedElements.{attribute_space}
 use Rattle.std.proofs.lemmas.List.Concat.{flat_map_single}
-use Rattle.ifmap_elem.specs.laws.PrintedScopes.{has_none}
 
 abbrev Spaces : Type 0
 Spaces = List (List ℕ)
@@ -68,7 +68,7 @@ none_before : (s : List ℕ) (xs ys : Spaces) → lookup (bytes_eq s) (name_pref
     → lookup (bytes_eq s) (name_prefixes xs) ≡ None
 none_before s xs ys none = elim (cases_Bool (is_some (lookup (bytes_eq s) (name_prefixes xs)))) [
   | inl e ↦ sym (prefix_stays s xs ys e) ∙ none
-  | inr e ↦ has_none (lookup (bytes_eq s) (name_prefixes xs)) e
+  | inr e ↦ none_where_not_some (lookup (bytes_eq s) (name_prefixes xs)) e
 ]
 
 pub numbered_stays : (xs final : Spaces) (s : List ℕ) → IsNumbered xs s → AreFinal xs final

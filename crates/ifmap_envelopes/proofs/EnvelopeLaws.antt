@@ -8,7 +8,7 @@ use Rattle.std.proofs.Common.{◌≡◌, ◌∙◌, ℕ, ◌+◌, ◌<◌, ◌�
 use Rattle.std.specs.Prelude.{◌&&◌, option_map}
 use Rattle.std.specs.List.{list_all, position, position_or_len, slice_get}
 use Rattle.std.specs.Str.{bytes_eq}
-use Rattle.std.proofs.lemmas.Bool.{and_parts}
+use Rattle.std.proofs.lemmas.Bool.{and_parts, both_ways}
 use Rattle.std.proofs.lemmas.List.{drop-map, take-append-drop, length-append, length-take-le, length-map}
 use Rattle.std.proofs.lemmas.Option.{slice_get-map, slice_get_read}
 use Rattle.std.proofs.lemmas.List.Sums.{prefix_len-le-length}
@@ -270,15 +270,12 @@ module _ (parts : List Part) (first : ℕ) (is : first ≡ blank_front parts) wh
   starts_headed after body h =
       ap (is_first is_header) h.rest_is ∙ names_itself h.header.name (envelope_name (codes "Header")) h.named
 
-  contrary : (t : Bool) → t ≡ false → t ≡ true → ⊥
-  contrary t f h = let wrong : false ≡ true = sym f ∙ h in cc
-
   pub no_body_first : is_last_part is_body (drop first parts) ≡ false → is_first is_header (drop first parts) ≡ false → (j : ℕ)
       (body : Element)
       → IsBodyAt parts j body → ⊥
   no_body_first f g j body b = elim b.header [
-    | inl blank ↦ contrary (is_last_part is_body (drop first parts)) f (body_is_first j body b blank)
-    | inr h ↦ contrary (is_first is_header (drop first parts)) g
+    | inl blank ↦ both_ways (is_last_part is_body (drop first parts)) f (body_is_first j body b blank)
+    | inr h ↦ both_ways (is_first is_header (drop first parts)) g
         (starts_headed b.after body (has_header j body b h.0 h.1 h.2 h.3))
   ]
 
@@ -287,7 +284,7 @@ module _ (parts : List Part) (first : ℕ) (is : first ≡ blank_front parts) wh
       (body : Element)
       → IsBodyAt parts j body → ⊥
   no_body_after f index at g j body b = elim b.header [
-    | inl blank ↦ contrary (is_last_part is_body (drop first parts)) f (body_is_first j body b blank)
+    | inl blank ↦ both_ways (is_last_part is_body (drop first parts)) f (body_is_first j body b blank)
     | inr h ↦ no_later (has_header j body b h.0 h.1 h.2 h.3)
   ]
     where
@@ -300,7 +297,7 @@ module _ (parts : List Part) (first : ℕ) (is : first ≡ blank_front parts) wh
           let left : drop index parts ≡ part_of body ∷ b.after =
           ap (λ n. drop n parts) (at ∙ ap (λ n. first + 1 + n) k) ∙ after_blank h.header rest head (length h.between)
           ∙ drop-append_seam h.between (part_of body ∷ b.after) in
-          contrary (is_last_part is_body (drop index parts)) g
+          both_ways (is_last_part is_body (drop index parts)) g
           (ap (is_last_part is_body) left
           ∙ close_last is_body (part_of body) b.after (names_itself body.name (envelope_name (codes "Body")) b.named) b.blank)
 

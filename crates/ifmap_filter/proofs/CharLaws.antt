@@ -3,7 +3,6 @@ use Rattle.std.proofs.Common.{◌≡◌, ℕ, Bool, true, false, List, [], ◌�
 use Rattle.std.specs.Prelude.{not, ◌==◌, encode_utf8_all, IsUtf8, chars}
 use Rattle.std.specs.Str.{IsCharBoundary, NoCharPasses, NonePass}
 use Rattle.std.specs.Str.Pattern.{FindsBy, HasCharAt}
-use Rattle.std.proofs.lemmas.Bool.Decides.{Decides-eqb}
 use Rattle.std.proofs.lemmas.List.{append-nil, take-append-drop}
 use Rattle.std.proofs.lemmas.Str.{IsUtf8-drop, chars-nil, chars_from_encodes, chars_past_char, encodes-append, encodes-chars}
 use Rattle.ifmap_filter.specs.Lexing.{CutsCharacters}
@@ -69,16 +68,9 @@ pub no_characters : (text : List ℕ) → length text ≡ 0 → chars text ≡ [
 no_characters [] e = chars-nil
 no_characters (b ∷ bs) e = absurd (omega arith)
 
-pub twice : (b : Bool) → b ≡ not (not b)
-twice true = refl
-twice false = refl
-
 pub cuts_from : (p t : ℕ → Bool) → ((c : ℕ) → t c ≡ not (p c)) → (text : List ℕ) (i j : ℕ) (front rest : List ℕ) → IsUtf8 text
     → IsCharBoundary text i
     → FindsBy t text (Some (i, j)) → front ≡ take i text → rest ≡ drop i text → CutsCharacters p text front rest
 cuts_from p t turns text i j front rest u bound (none, has) e f =
     let cuts = cuts_at p t turns text i j has.0 u bound none has.1 has.2 in
     record { front_is = e ∙ cuts.front_is; rest_is = ap chars f ∙ cuts.rest_is }
-
-pub same_number : (n : ℕ) → (n == n) ≡ true
-same_number n = (Decides-eqb n n).1 refl

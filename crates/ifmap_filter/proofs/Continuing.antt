@@ -3,12 +3,13 @@
 -- (2) tests: what names ask for, and what is after a test: the end, `or`, or a bracket after its name;
 -- (3) an or-part is its first factor and what is after it;
 -- (4) what is after a factor, by `and`, by `or` and by any other token.
-use Rattle.std.proofs.Common.{◌≡◌, ◌≢◌, ℕ, true, false, List, [], ◌∷◌, ◌++◌, refl, ap, sym, ◌∙◌, subst, Option, Some, None, append_assoc, codes}
+use Rattle.std.proofs.Common.{◌≡◌, ◌≢◌, ℕ, true, false, List, [], ◌∷◌, ◌++◌, refl, ap, sym, ◌∙◌, subst, Option, Some, None, codes}
 use Rattle.std.specs.Prelude.{◌↔◌}
 use Rattle.std.specs.Str.{bytes_eq}
 use Rattle.std.proofs.lemmas.Bool.{and_from, and_parts}
 use Rattle.std.proofs.lemmas.List.{append-nil}
 use Rattle.ifmap_lemmas.specs.Texts.{eq_itself, eq_tells}
+use Rattle.ifmap_lemmas.specs.Joined.{same_parts, push_append}
 use Rattle.ifmap_elem.specs.declared.elements.Name as element
 use Rattle.ifmap_elem.specs.declared.tokens.Qualified.{Qualified}
 use Rattle.ifmap_prefixes.specs.ifmap_reader.declared.scoping.Scope.{Scope}
@@ -35,17 +36,10 @@ is_that_word word q e = ap (is_word word) e ∙ and_from (bytes_eq [] []) (bytes
 pub not_that_word : (word : List ℕ) (q : Qualified) → is_word word q ≡ false → Name q ≢ Name (unprefixed_name word)
 not_that_word word q h e = let s : q ≡ unprefixed_name word = cc in let wrong : false ≡ true = sym h ∙ is_that_word word q s in cc
 
-pub head_of : {X : Type 0} (x y : X) (xs ys : List X) → x ∷ xs ≡ y ∷ ys → (x ≡ y) × (xs ≡ ys)
-head_of x y xs ys e = let h : x ≡ y = cc in let t : xs ≡ ys = cc in (h, t)
-
 pub and_not_or : and_word ≢ or_word
 and_not_or e =
     let q : unprefixed_name (codes "and") ≡ unprefixed_name (codes "or") = cc in
     let wrong : true ≡ false = ap (is_word (codes "and")) q in cc
-
--- what joins to the left joins to the right
-joins : {X : Type 0} (done : List X) (x : X) (xs : List X) → (done ++ x ∷ []) ++ xs ≡ done ++ (x ∷ xs)
-joins done x xs = append_assoc done (x ∷ []) xs
 
 module _ (scope : Scope) where
   -- (2) tests
@@ -78,7 +72,7 @@ module _ (scope : Scope) where
         → (more : List FilterToken) → TestFirst scope filter done (t ∷ more) ↔ PredicateFirst scope filter done name more
     named done t name asks only more = (
       (λ (test, mid, takes, rest).
-          let same = head_of t takes.head more takes.after takes.tokens_are in
+          let same = same_parts t takes.head more takes.after takes.tokens_are in
           let is = only test.name (subst (λ (h : FilterToken). AsksFor scope h test.name) (sym same.0) takes.asks) in (
             test.predicate,
             mid,
@@ -93,7 +87,7 @@ module _ (scope : Scope) where
         → (more : List FilterToken)
         → TestFirst scope filter done (t ∷ more) → ⊥
     unnamed done t none more (test, mid, takes, rest) =
-        let same = head_of t takes.head more takes.after takes.tokens_are in
+        let same = same_parts t takes.head more takes.after takes.tokens_are in
         none test.name (subst (λ (h : FilterToken). AsksFor scope h test.name) (sym same.0) takes.asks)
 
     pub started : (t : FilterToken) (more : List FilterToken) → IsFilter scope (t ∷ more) filter ↔ TestFirst scope filter [] (t ∷ more)
@@ -111,7 +105,7 @@ module _ (scope : Scope) where
         → MoreTests scope filter done (or_word ∷ more) ↔ TestFirst scope filter done more
     tested_or done more = (
       (λ (tests, takes, is). from tests takes is),
-      (λ (test, mid, takes, (tests, others, is)). (test ∷ tests, (more, mid, refl, takes, others), is ∙ joins done test tests)),
+      (λ (test, mid, takes, (tests, others, is)). (test ∷ tests, (more, mid, refl, takes, others), is ∙ push_append done test tests)),
     )
       where
         from : (tests : List Test) → TakesMore or_word (TakesTest scope depth_limit) (or_word ∷ more) tests []
@@ -122,7 +116,7 @@ module _ (scope : Scope) where
               test,
               mid,
               subst (λ (ts : List FilterToken). TakesTest scope depth_limit ts test mid) tail takes,
-              (tests, others, is ∙ sym (joins done test tests)),
+              (tests, others, is ∙ sym (push_append done test tests)),
             )
 
     pub tested_other : (done : List Test) (t : FilterToken) → t ≢ or_word → (more : List FilterToken)
@@ -214,7 +208,7 @@ module _ (scope : Scope) where
           rest = m.rest;
           takes_ands = (more, mid, refl, takes, m.takes_ands);
           takes_ors = m.takes_ors;
-          followed = subst (λ as'. Then (join_parts Or (ors ++ (join_parts And as' ∷ m.more_ors))) m.rest) (joins ands q m.more_ands)
+          followed = subst (λ as'. Then (join_parts Or (ors ++ (join_parts And as' ∷ m.more_ors))) m.rest) (push_append ands q m.more_ands)
               m.followed;
         }),
       )
@@ -224,7 +218,7 @@ module _ (scope : Scope) where
               → (p : Predicate) → Then p rest → ⊥
           none [] mid rest e f p follow = refused p more (subst (Then p) (sym (e ∙ f)) follow)
           none (x ∷ xs) mid rest e (after, m, f, takes, others) p follow =
-              and_not_or (head_of and_word or_word more after (e ∙ f)).0
+              and_not_or (same_parts and_word or_word more after (e ∙ f)).0
 
           from : (as' os : List Predicate) (mid rest : List FilterToken)
               → TakesMore and_word (TakesFactor scope n) (and_word ∷ more) as' mid
@@ -233,7 +227,7 @@ module _ (scope : Scope) where
               → First ors ands more
           from [] os mid rest e takes_ors follow = absurd (none os mid rest e takes_ors _ follow)
           from (q ∷ as') os mid rest (after, m, e, takes, others) takes_ors follow =
-              let tail = (head_of and_word and_word more after e).1 in (
+              let tail = (same_parts and_word and_word more after e).1 in (
                 q,
                 m,
                 subst (λ (ts : List FilterToken). TakesFactor scope n ts q m) (sym tail) takes,
@@ -244,7 +238,7 @@ module _ (scope : Scope) where
                   rest = rest;
                   takes_ands = others;
                   takes_ors = takes_ors;
-                  followed = subst (λ bs. Then (join_parts Or (ors ++ (join_parts And bs ∷ os))) rest) (sym (joins ands q as')) follow;
+                  followed = subst (λ bs. Then (join_parts Or (ors ++ (join_parts And bs ∷ os))) rest) (sym (push_append ands q as')) follow;
                 },
               )
 
@@ -276,7 +270,7 @@ module _ (scope : Scope) where
           followed =
               subst (λ as'. Then (join_parts Or (ors ++ (join_parts And as' ∷ (join_of And q m.more_ands ∷ m.more_ors)))) m.rest)
               (sym (append-nil ands))
-              (subst (λ os. Then (join_parts Or os) m.rest) (joins ors (join_parts And ands) (join_of And q m.more_ands ∷ m.more_ors))
+              (subst (λ os. Then (join_parts Or os) m.rest) (push_append ors (join_parts And ands) (join_of And q m.more_ands ∷ m.more_ors))
               m.followed);
         }),
       )
@@ -286,7 +280,7 @@ module _ (scope : Scope) where
               → Then (join_parts Or (ors ++ (join_parts And (ands ++ []) ∷ xs))) rest → First (ors ++ join_parts And ands ∷ []) [] more
           inner [] mid rest e f follow = absurd (refused _ more (subst (Then _) (sym (e ∙ f)) follow))
           inner (x ∷ xs) mid rest e (after, m, f, takes, others) follow =
-              let tail = (head_of or_word or_word more after (e ∙ f)).1 in (
+              let tail = (same_parts or_word or_word more after (e ∙ f)).1 in (
                 takes.first,
                 takes.mid,
                 subst (λ (ts : List FilterToken). TakesFactor scope n ts takes.first takes.mid) (sym tail) takes.one,
@@ -298,7 +292,7 @@ module _ (scope : Scope) where
                   takes_ands = takes.more;
                   takes_ors = others;
                   followed =
-                      subst (λ os. Then (join_parts Or os) rest) (sym (joins ors (join_parts And ands)
+                      subst (λ os. Then (join_parts Or os) rest) (sym (push_append ors (join_parts And ands)
                       (join_of And takes.first takes.others ∷ xs)))
                       (subst (λ y. Then (join_parts Or (ors ++ (join_parts And ands ∷ (y ∷ xs)))) rest) takes.means
                       (subst (λ as'. Then (join_parts Or (ors ++ (join_parts And as' ∷ (x ∷ xs)))) rest) (append-nil ands) follow));
@@ -311,7 +305,7 @@ module _ (scope : Scope) where
               → First (ors ++ join_parts And ands ∷ []) [] more
           from [] os mid rest e takes_ors follow = inner os mid rest e takes_ors follow
           from (q ∷ as') os mid rest (after, m, e, takes, others) takes_ors follow =
-              absurd (and_not_or (sym (head_of or_word and_word more after e).0))
+              absurd (and_not_or (sym (same_parts or_word and_word more after e).0))
 
       pub other_more : (t : FilterToken) (more : List FilterToken) → t ≢ and_word → t ≢ or_word
           → MoreFactors scope n Then ors ands (t ∷ more) ↔ Then (done_part ors ands) (t ∷ more)
@@ -326,11 +320,11 @@ module _ (scope : Scope) where
           inner [] mid rest e f follow =
               subst (λ as'. Then (join_parts Or (ors ++ (join_parts And as' ∷ []))) (t ∷ more)) (append-nil ands)
               (subst (Then (join_parts Or (ors ++ (join_parts And (ands ++ []) ∷ [])))) (sym (e ∙ f)) follow)
-          inner (x ∷ xs) mid rest e (after, m, f, takes, others) follow = absurd (no_or (head_of t or_word more after (e ∙ f)).0)
+          inner (x ∷ xs) mid rest e (after, m, f, takes, others) follow = absurd (no_or (same_parts t or_word more after (e ∙ f)).0)
 
           from : (as' os : List Predicate) (mid rest : List FilterToken) → TakesMore and_word (TakesFactor scope n) (t ∷ more) as' mid
               → TakesMore or_word (TakesAnds (TakesFactor scope n)) mid os rest
               → Then (join_parts Or (ors ++ (join_parts And (ands ++ as') ∷ os))) rest
               → Then (done_part ors ands) (t ∷ more)
           from [] os mid rest e takes_ors follow = inner os mid rest e takes_ors follow
-          from (q ∷ as') os mid rest (after, m, e, takes, others) takes_ors follow = absurd (no_and (head_of t and_word more after e).0)
+          from (q ∷ as') os mid rest (after, m, e, takes, others) takes_ors follow = absurd (no_and (same_parts t and_word more after e).0)

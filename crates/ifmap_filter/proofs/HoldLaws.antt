@@ -1,20 +1,13 @@
 -- What joined predicates hold of, by what their parts do.
-use Rattle.std.proofs.Common.{◌≡◌, Bool, List, [], ◌∷◌, map, refl, ap, sym, ◌∙◌}
+use Rattle.std.proofs.Common.{◌≡◌, Bool, List, [], ◌∷◌, refl, ap, sym, ◌∙◌}
 use Rattle.std.specs.Prelude.{◌&&◌, ◌||◌}
 use Rattle.std.specs.List.{list_all, list_any}
+use Rattle.ifmap_lemmas.specs.Runs.{all_mapped, any_mapped}
 use Rattle.ifmap_elem.specs.declared.elements.Element.{Element}
 use Rattle.ifmap_filter.specs.declared.filters.Predicate.{Predicate, And, Or, fold-roll-Predicate}
 use Rattle.ifmap_filter.specs.declared.filters.Predicate.TheVariants.{rolls-And, rolls-Or}
 use Rattle.ifmap_filter.specs.declared.filters.Predicate.TheOpen.{Predicate-F}
 use Rattle.ifmap_filter.specs.Meets.{holds, holds_of}
-
-pub all_mapped : {X : Type 0} (p : X → Bool) (xs : List X) → list_all (λ b. b) (map p xs) ≡ list_all p xs
-all_mapped p [] = refl
-all_mapped p (x ∷ xs) = ap (λ b. p x && b) (all_mapped p xs)
-
-any_mapped : {X : Type 0} (p : X → Bool) (xs : List X) → list_any (λ b. b) (map p xs) ≡ list_any p xs
-any_mapped p [] = refl
-any_mapped p (x ∷ xs) = ap (λ b. p x || b) (any_mapped p xs)
 
 pub holds_all : (e : Element) (parts : List Predicate) → holds e (And parts) ≡ list_all (holds e) parts
 holds_all e parts =

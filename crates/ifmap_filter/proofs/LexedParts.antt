@@ -7,18 +7,19 @@ use Rattle.std.proofs.Common.{◌≡◌, ℕ, ◌+◌, ◌<◌, Bool, true, fals
 use Rattle.std.specs.Prelude.{◌==◌, ◌||◌, ◌⊎◌, not, if◌then◌else◌, IsUtf8, chars, encode_utf8, encode_utf8_all}
 use Rattle.std.specs.List.{list_any}
 use Rattle.std.specs.Str.{all_scalars, byte, NonePass}
-use Rattle.std.proofs.lemmas.Bool.{and_parts, cases_Bool, false_from_ne_true, or_parts}
+use Rattle.std.proofs.lemmas.Bool.{and_parts, cases_Bool, false_from_ne_true}
 use Rattle.std.proofs.lemmas.Bool.Decides.{Decides-eqb}
 use Rattle.std.proofs.lemmas.Str.{IsUtf8-append, NoCharPasses-byte, chars-append, chars_from_encodes, encode_ascii}
 use Rattle.ifmap_lemmas.specs.Items.{To}
 use Rattle.ifmap_lemmas.specs.Cuts.{Stops}
+use Rattle.ifmap_lemmas.specs.Runs.{any_both}
+use Rattle.ifmap_lemmas.specs.Branches.{number_itself}
 use Rattle.ifmap_elem.specs.Chars.{AllAre, colon, double_quote, equals_sign, is_white, single_quote}
 use Rattle.ifmap_elem.specs.Names.{is_name_character, is_name_start}
 use Rattle.ifmap_filter.specs.declared.tokens.FilterToken.{FilterToken}
 use Rattle.ifmap_filter.specs.declared.tokens.FilterToken.TheVariants.{Any, OpenBracket, CloseBracket, OpenParenthesis, CloseParenthesis, EqualsSign, At, Name, Literal}
 use Rattle.ifmap_filter.specs.Printing.{literal_text, quote_of}
 use Rattle.ifmap_filter.specs.Tokens.{FrontToken, Takes, after_while, closed_literal, front_while, literal_at, name_at, name_from, name_token, part_bytes, prefixed_name_at, symbol_of, front_token, token_at, with_symbol, without_white}
-use Rattle.ifmap_filter.proofs.CharLaws.{same_number}
 use Rattle.ifmap_filter.proofs.Lexed.{IsOne, IsPart, Lexes, after_all, after_one, front_all, not_white, one_chars, one_first, one_of}
 use Rattle.ifmap_filter.proofs.Reaching.{after_is, token_later, white_after}
 use Rattle.ifmap_filter.proofs.TokenLaws.{quoted}
@@ -52,17 +53,7 @@ no_quote_byte q low own f =
     no_byte q low (encode_utf8_all own)
     (λ i here e.
     let off = NoCharPasses-byte (λ c. c == q) (encode_utf8_all own) i (own, refl, none_passes q own f) here (omega (arith, e, low)) in
-    let wrong : true ≡ false = sym (same_number q) ∙ ap (λ n. n == q) (sym e) ∙ off in cc)
-
-or_left : (a b : Bool) → (a || b) ≡ false → a ≡ false
-or_left true b e = cc
-or_left false b e = refl
-
-any_both : (p : ℕ → Bool) (xs ys : List ℕ) → list_any p (xs ++ ys) ≡ false → (list_any p xs ≡ false) × (list_any p ys ≡ false)
-any_both p [] ys e = (refl, e)
-any_both p (x ∷ xs) ys e =
-    let rest = any_both p xs ys (or_parts (p x) (list_any p (xs ++ ys)) e).1 in
-    ((rw (or_left (p x) (list_any p (xs ++ ys)) e) rest.0), rest.1)
+    let wrong : true ≡ false = sym (number_itself q) ∙ ap (λ n. n == q) (sym e) ∙ off in cc)
 
 -- where no byte is that one, no character is
 pub no_quote_character : (q : ℕ) → q < 128 → (own : List ℕ) → list_any (λ b. b == q) (encode_utf8_all own) ≡ false → AllAre (is_but q) own
@@ -77,7 +68,7 @@ no_quote_character q low (c ∷ cs) e =
         let same : c ≡ q = (Decides-eqb c q).0 is in
         let bytes : encode_utf8 c ≡ q ∷ [] = ap encode_utf8 same ∙ encode_ascii q low in
         let all : list_any (λ b. b == q) (q ∷ []) ≡ false = ap (list_any (λ b. b == q)) (sym bytes) ∙ h in
-        let one : list_any (λ b. b == q) (q ∷ []) ≡ true = rw (same_number q) refl in
+        let one : list_any (λ b. b == q) (q ∷ []) ≡ true = rw (number_itself q) refl in
         let wrong : true ≡ false = sym one ∙ all in cc
 
 -- (2) literals
@@ -112,7 +103,7 @@ module _ (q : ℕ) (is : IsQuote q) (value : List ℕ) (w : IsWithout q value) w
       ∙ ap (λ x. q ∷ x) (append_assoc w.own (q ∷ []) cs)
 
   stops : (cs : List ℕ) → Stops (is_but q) (q ∷ cs)
-  stops cs = ap not (same_number q)
+  stops cs = ap not (number_itself q)
 
   literal_here : (cs : List ℕ) → literal_at q (w.own ++ (q ∷ cs)) ≡ Some (front_token (Literal value) cs)
   literal_here cs =

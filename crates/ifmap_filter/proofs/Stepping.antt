@@ -8,6 +8,7 @@ use Rattle.std.specs.Prelude.{◌↔◌, nat_lt, if◌then◌else◌}
 use Rattle.std.specs.Str.{bytes_eq}
 use Rattle.std.proofs.lemmas.Bool.Decides.{nat_tests}
 use Rattle.ifmap_lemmas.specs.Texts.{eq_tells}
+use Rattle.ifmap_lemmas.specs.Joined.{same_parts}
 use Rattle.ifmap_elem.specs.declared.elements.Name as element
 use Rattle.ifmap_elem.specs.declared.tokens.Qualified.{Qualified}
 use Rattle.ifmap_prefixes.specs.ifmap_reader.declared.scoping.Scope.{Scope}
@@ -21,7 +22,7 @@ use Rattle.ifmap_filter.specs.declared.standing.Operand.{Operand}
 use Rattle.ifmap_filter.specs.declared.standing.Operand.TheVariants as operand
 use Rattle.ifmap_filter.specs.Grammar.{AsksFor, StandsFor, TakesComparison, TakesFactor, TakesOrPart, TakesOrs, and_word, unprefixed_name, depth_limit, or_word, space_of}
 use Rattle.ifmap_filter.specs.Progress.{Closes, Context, FilterState, Start, TestDue, Named, Tested, FactorDue, LocalDue, EqualsDue, LiteralDue, FactorDone, AfterFactor, EqualsFirst, FactorFirst, GoesOn, LiteralFirst, LocalFirst, MoreFactors, MoreTests, PredicateFirst, TestFirst, asks_named, child_named, close_group, close_test, comparison_of, done_part, inner_context, is_word, name_in, open_parts, next_part, step_token, step_done, step_equals, step_factor, step_literal, step_local, step_named, step_test, step_tested, test_of, with_factor}
-use Rattle.ifmap_filter.proofs.Continuing.{Refuses, and_more, any_asks, bare_named, head_of, name_asks, named, none_asks, not_that_word, or_more, or_part, other_more, started, tested_or, tested_other, unnamed, word_is}
+use Rattle.ifmap_filter.proofs.Continuing.{Refuses, and_more, any_asks, bare_named, name_asks, named, none_asks, not_that_word, or_more, or_part, other_more, started, tested_or, tested_other, unnamed, word_is}
 
 module _ (scope : Scope) where
   -- the step from a place by a token is right: the next place, where so much deeper, or none
@@ -151,7 +152,7 @@ module _ (scope : Scope) where
         → TakesFactor scope m (t ∷ more) p mid → TakesComparison scope (t ∷ more) p mid
     comparison_only t other zero more p mid takes = takes
     comparison_only t other (suc m) more p mid (inl takes) = takes
-    comparison_only t other (suc m) more p mid (inr group) = absurd (other (head_of t OpenParenthesis more group.0 group.1).0)
+    comparison_only t other (suc m) more p mid (inr group) = absurd (other (same_parts t OpenParenthesis more group.0 group.1).0)
 
     as_factor : (m : ℕ) (ts : List FilterToken) (p : Predicate) (mid : List FilterToken) → TakesComparison scope ts p mid
         → TakesFactor scope m ts p mid
@@ -162,12 +163,12 @@ module _ (scope : Scope) where
       at_local : FactorFirst scope filter n c (At ∷ more) → LocalFirst scope filter n c more
       at_local (p, mid, takes, rest) = elim (comparison_only At (λ e. cc) n more p mid takes) [
         | inl a ↦
-            let tail : more ≡ Name (unprefixed_name a.local) ∷ (EqualsSign ∷ (Literal a.value ∷ mid)) = (head_of At At more _
+            let tail : more ≡ Name (unprefixed_name a.local) ∷ (EqualsSign ∷ (Literal a.value ∷ mid)) = (same_parts At At more _
             a.tokens_are).1 in
             let after : AfterFactor scope filter n (with_factor c (Attr a.local a.value)) mid =
             subst (λ f. AfterFactor scope filter n (with_factor c f) mid) a.means rest in
             (a.local, EqualsSign ∷ (Literal a.value ∷ mid), tail, (Literal a.value ∷ mid, refl, (a.value, mid, refl, after)))
-        | inr ch ↦ let wrong : At ≡ Name ch.written = (head_of At (Name ch.written) more _ ch.tokens_are).0 in cc
+        | inr ch ↦ let wrong : At ≡ Name ch.written = (same_parts At (Name ch.written) more _ ch.tokens_are).0 in cc
       ]
 
       local_at : LocalFirst scope filter n c more → FactorFirst scope filter n c (At ∷ more)
@@ -184,9 +185,9 @@ module _ (scope : Scope) where
       child_equals : (q : Qualified) (name : element.Name) → ((other : element.Name) → StandsFor scope q other → other ≡ name)
           → FactorFirst scope filter n c (Name q ∷ more) → EqualsFirst scope filter n c (operand.Child name) more
       child_equals q name only (p, mid, takes, rest) = elim (comparison_only (Name q) (λ e. cc) n more p mid takes) [
-        | inl a ↦ let wrong : Name q ≡ At = (head_of (Name q) At more _ a.tokens_are).0 in cc
+        | inl a ↦ let wrong : Name q ≡ At = (same_parts (Name q) At more _ a.tokens_are).0 in cc
         | inr ch ↦
-            let both = head_of (Name q) (Name ch.written) more (EqualsSign ∷ (Literal ch.value ∷ mid)) ch.tokens_are in
+            let both = same_parts (Name q) (Name ch.written) more (EqualsSign ∷ (Literal ch.value ∷ mid)) ch.tokens_are in
             let first : Name q ≡ Name ch.written = both.0 in
             let same : q ≡ ch.written = cc in
             let is : ch.name ≡ name = only ch.name (subst (λ (v : Qualified). StandsFor scope v ch.name) (sym same) ch.named) in
@@ -213,9 +214,9 @@ module _ (scope : Scope) where
 
       no_child : (q : Qualified) → ((name : element.Name) → StandsFor scope q name → ⊥) → FactorFirst scope filter n c (Name q ∷ more) → ⊥
       no_child q none (p, mid, takes, rest) = elim (comparison_only (Name q) (λ e. cc) n more p mid takes) [
-        | inl a ↦ let wrong : Name q ≡ At = (head_of (Name q) At more _ a.tokens_are).0 in cc
+        | inl a ↦ let wrong : Name q ≡ At = (same_parts (Name q) At more _ a.tokens_are).0 in cc
         | inr ch ↦
-            let first : Name q ≡ Name ch.written = (head_of (Name q) (Name ch.written) more _ ch.tokens_are).0 in
+            let first : Name q ≡ Name ch.written = (same_parts (Name q) (Name ch.written) more _ ch.tokens_are).0 in
             let same : q ≡ ch.written = cc in
             none ch.name (subst (λ (v : Qualified). StandsFor scope v ch.name) (sym same) ch.named)
       ]
@@ -223,8 +224,8 @@ module _ (scope : Scope) where
       no_factor : (t : FilterToken) → t ≢ OpenParenthesis → t ≢ At → ((q : Qualified) → t ≢ Name q)
           → FactorFirst scope filter n c (t ∷ more) → ⊥
       no_factor t no_open no_at no_name (p, mid, takes, rest) = elim (comparison_only t no_open n more p mid takes) [
-        | inl a ↦ no_at (head_of t At more _ a.tokens_are).0
-        | inr ch ↦ no_name ch.written (head_of t (Name ch.written) more _ ch.tokens_are).0
+        | inl a ↦ no_at (same_parts t At more _ a.tokens_are).0
+        | inr ch ↦ no_name ch.written (same_parts t (Name ch.written) more _ ch.tokens_are).0
       ]
 
     factor_name : (q : Qualified) → n + length c.outer ≡ depth_limit → (o : Option (List ℕ)) → space_of scope q.prefix ≡ o
@@ -251,11 +252,11 @@ module _ (scope : Scope) where
   open_inner m c filter more = (
     (λ (p, mid, takes, rest). elim takes [
       | inl one ↦ elim one [
-        | inl a ↦ let wrong : OpenParenthesis ≡ At = (head_of OpenParenthesis At more _ a.tokens_are).0 in cc
-        | inr ch ↦ let wrong : OpenParenthesis ≡ Name ch.written = (head_of OpenParenthesis (Name ch.written) more _ ch.tokens_are).0 in cc
+        | inl a ↦ let wrong : OpenParenthesis ≡ At = (same_parts OpenParenthesis At more _ a.tokens_are).0 in cc
+        | inr ch ↦ let wrong : OpenParenthesis ≡ Name ch.written = (same_parts OpenParenthesis (Name ch.written) more _ ch.tokens_are).0 in cc
       ]
       | inr group ↦
-          let tail : group.0 ≡ more = sym (head_of OpenParenthesis OpenParenthesis more group.0 group.1).1 in
+          let tail : group.0 ≡ more = sym (same_parts OpenParenthesis OpenParenthesis more group.0 group.1).1 in
           (or_part scope m (InnerThen m c filter) more).0 (
             p,
             CloseParenthesis ∷ mid,
@@ -287,9 +288,9 @@ module _ (scope : Scope) where
       (λ filter more first. none filter more first)
     where
       none : (filter : Filter) (more : List FilterToken) → FactorFirst scope filter zero c (OpenParenthesis ∷ more) → ⊥
-      none filter more (p, mid, inl a, rest) = let wrong : OpenParenthesis ≡ At = (head_of OpenParenthesis At more _ a.tokens_are).0 in cc
+      none filter more (p, mid, inl a, rest) = let wrong : OpenParenthesis ≡ At = (same_parts OpenParenthesis At more _ a.tokens_are).0 in cc
       none filter more (p, mid, inr ch, rest) =
-          let wrong : OpenParenthesis ≡ Name ch.written = (head_of OpenParenthesis (Name ch.written) more _ ch.tokens_are).0 in cc
+          let wrong : OpenParenthesis ≡ Name ch.written = (same_parts OpenParenthesis (Name ch.written) more _ ch.tokens_are).0 in cc
   right_open (suc m) c e =
       subst (λ b. IsRight (suc m) (FactorDue c) OpenParenthesis (if b then Some (FactorDue (inner_context c)) else None))
       (sym (room m (length c.outer) e))
@@ -319,7 +320,7 @@ module _ (scope : Scope) where
       to : (filter : Filter) (more : List FilterToken) → LocalFirst scope filter n c (Name q ∷ more)
           → EqualsFirst scope filter n c (operand.Attribute q.local) more
       to filter more (local, rest, f, equals) =
-          let both = head_of (Name q) (Name (unprefixed_name local)) more rest f in
+          let both = same_parts (Name q) (Name (unprefixed_name local)) more rest f in
           let first : Name q ≡ Name (unprefixed_name local) = both.0 in
           let is : q ≡ unprefixed_name local = cc in
           let locals : local ≡ q.local = sym (ap (λ (v : Qualified). v.local) is) in
@@ -333,14 +334,14 @@ module _ (scope : Scope) where
     where
       none : (filter : Filter) (more : List FilterToken) → LocalFirst scope filter n c (Name q ∷ more) → ⊥
       none filter more (local, rest, f, equals) =
-          let first : Name q ≡ Name (unprefixed_name local) = (head_of (Name q) (Name (unprefixed_name local)) more rest f).0 in
+          let first : Name q ≡ Name (unprefixed_name local) = (same_parts (Name q) (Name (unprefixed_name local)) more rest f).0 in
           let same : q ≡ unprefixed_name local = cc in
           let wrong : false ≡ true = sym is ∙ ap (λ (v : Qualified). bytes_eq v.prefix []) same in
           cc
 
   no_local : (n : ℕ) (c : Context) (t : FilterToken) → ((q : Qualified) → t ≢ Name q) → (filter : Filter) (more : List FilterToken)
       → LocalFirst scope filter n c (t ∷ more) → ⊥
-  no_local n c t other filter more (local, rest, e, equals) = other (unprefixed_name local) (head_of t (Name (unprefixed_name local))
+  no_local n c t other filter more (local, rest, e, equals) = other (unprefixed_name local) (same_parts t (Name (unprefixed_name local))
       more rest e).0
 
   right_local : (n : ℕ) (c : Context) → n + length c.outer ≡ depth_limit → (t : FilterToken) → IsRight n (LocalDue c) t (step_local c t)
@@ -356,12 +357,12 @@ module _ (scope : Scope) where
 
   no_equals : (n : ℕ) (c : Context) (a : Operand) (t : FilterToken) → t ≢ EqualsSign → (filter : Filter) (more : List FilterToken)
       → EqualsFirst scope filter n c a (t ∷ more) → ⊥
-  no_equals n c a t other filter more (rest, e, literal) = other (head_of t EqualsSign more rest e).0
+  no_equals n c a t other filter more (rest, e, literal) = other (same_parts t EqualsSign more rest e).0
 
   equals : (n : ℕ) (c : Context) (a : Operand) (filter : Filter) (more : List FilterToken)
       → EqualsFirst scope filter n c a (EqualsSign ∷ more) ↔ LiteralFirst scope filter n c a more
   equals n c a filter more = (
-    (λ (rest, e, literal). subst (LiteralFirst scope filter n c a) (sym (head_of EqualsSign EqualsSign more rest e).1) literal),
+    (λ (rest, e, literal). subst (LiteralFirst scope filter n c a) (sym (same_parts EqualsSign EqualsSign more rest e).1) literal),
     (λ literal. (more, refl, literal)),
   )
 
@@ -380,13 +381,13 @@ module _ (scope : Scope) where
   no_literal : (n : ℕ) (c : Context) (a : Operand) (t : FilterToken) → ((v : List ℕ) → t ≢ Literal v)
       → (filter : Filter) (more : List FilterToken)
       → LiteralFirst scope filter n c a (t ∷ more) → ⊥
-  no_literal n c a t other filter more (value, rest, e, after) = other value (head_of t (Literal value) more rest e).0
+  no_literal n c a t other filter more (value, rest, e, after) = other value (same_parts t (Literal value) more rest e).0
 
   literal : (n : ℕ) (c : Context) (a : Operand) (v : List ℕ) (filter : Filter) (more : List FilterToken)
       → LiteralFirst scope filter n c a (Literal v ∷ more) ↔ AfterFactor scope filter n (with_factor c (comparison_of a v)) more
   literal n c a v filter more = (
     (λ (value, rest, e, after).
-        let both = head_of (Literal v) (Literal value) more rest e in
+        let both = same_parts (Literal v) (Literal value) more rest e in
         let first : Literal v ≡ Literal value = both.0 in
         let same : value ≡ v = cc in
         subst (λ x. AfterFactor scope filter n (with_factor c (comparison_of a x)) more) same
@@ -411,9 +412,9 @@ module _ (scope : Scope) where
   no_close : (filter : Filter) (tests : List Test) (name : Option element.Name) (n : ℕ) (outer : List OuterPart) (t : FilterToken)
       → t ≢ CloseBracket
       → t ≢ CloseParenthesis → Refuses scope n (Closes scope filter tests name n outer) t
-  no_close filter tests name n [] t no_bracket no_parenthesis p more (after, e, rest) = no_bracket (head_of t CloseBracket more after e).0
+  no_close filter tests name n [] t no_bracket no_parenthesis p more (after, e, rest) = no_bracket (same_parts t CloseBracket more after e).0
   no_close filter tests name n (outer_part ∷ outer) t no_bracket no_parenthesis p more (after, e, rest) =
-      no_parenthesis (head_of t CloseParenthesis more after e).0
+      no_parenthesis (same_parts t CloseParenthesis more after e).0
 
   after_or : (n : ℕ) (c : Context) (q : Qualified) → n + length c.outer ≡ depth_limit → is_word (codes "and") q ≡ false → (b : Bool)
       → is_word (codes "or") q ≡ b → IsRight n (FactorDone c) (Name q) (if b then Some (FactorDue (next_part c)) else None)
@@ -463,7 +464,7 @@ module _ (scope : Scope) where
             more)
             → ⊥
         none filter more (after, f, rest) =
-            let wrong : CloseParenthesis ≡ CloseBracket = (head_of CloseParenthesis CloseBracket more after f).0 in cc
+            let wrong : CloseParenthesis ≡ CloseBracket = (same_parts CloseParenthesis CloseBracket more after f).0 in cc
     closes_group (outer_part ∷ outer) e = (
       suc n,
       omega (arith, e),
@@ -480,7 +481,7 @@ module _ (scope : Scope) where
         to filter more (after, f, rest) =
             subst (MoreFactors scope (suc n) (Closes scope filter tests name (suc n) outer) outer_part.ors
             (outer_part.ands ++ done_part ors ands ∷ []))
-            (sym (head_of CloseParenthesis CloseParenthesis more after f).1) rest
+            (sym (same_parts CloseParenthesis CloseParenthesis more after f).1) rest
 
     closes_test : (outer : List OuterPart) → n + length outer ≡ depth_limit
         → IsRight n (FactorDone (within outer)) CloseBracket (close_test (within outer) outer)
@@ -497,14 +498,14 @@ module _ (scope : Scope) where
             → MoreTests scope filter (tests ++ test_of name (Some (done_part ors ands)) ∷ []) more
         to filter more (after, f, rest) =
             subst (MoreTests scope filter (tests ++ test_of name (Some (done_part ors ands)) ∷ []))
-            (sym (head_of CloseBracket CloseBracket more after f).1) rest
+            (sym (same_parts CloseBracket CloseBracket more after f).1) rest
     closes_test (outer_part ∷ outer) e =
         λ filter more after. none filter more ((closing n (within (outer_part ∷ outer)) CloseBracket (λ q e. cc) filter more).0 after)
       where
         none : (filter : Filter) (more : List FilterToken) → Closes scope filter tests name n (outer_part ∷ outer) (done_part ors ands)
             (CloseBracket ∷ more) → ⊥
         none filter more (after, f, rest) =
-            let wrong : CloseBracket ≡ CloseParenthesis = (head_of CloseBracket CloseParenthesis more after f).0 in cc
+            let wrong : CloseBracket ≡ CloseParenthesis = (same_parts CloseBracket CloseParenthesis more after f).0 in cc
 
   nothing_closes : (n : ℕ) (c : Context) (t : FilterToken) → ((q : Qualified) → t ≢ Name q) → t ≢ CloseBracket → t ≢ CloseParenthesis
       → (filter : Filter) (more : List FilterToken) → AfterFactor scope filter n c (t ∷ more) → ⊥

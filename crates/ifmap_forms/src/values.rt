@@ -22,10 +22,11 @@ use std::alloc::Global;
 // The most bytes of the name of a subscription.
 const LONGEST_NAME: usize = 1_000;
 
-// The range of how many bytes a poll's result may have.
-const LEAST_LIMIT: u64 = 10_000;
+/// The fewest bytes to which a client can limit a poll's result.
+pub const LEAST_LIMIT: u32 = 10_000;
 
-const GREATEST_LIMIT: u64 = 5_000_000;
+/// The most bytes to which a client can limit a poll's result.
+pub const GREATEST_LIMIT: u32 = 5_000_000;
 
 // How many bytes the result of a search may have where it is not said, and at most.
 const USUAL_SIZE: u64 = 100_000;
@@ -73,7 +74,7 @@ pub fn read_limit(element: &Element) -> Result<Option<u32>, FormError>
         return Ok(None);
     };
     match number_of(text.as_str()) {
-        Some(number) => Ok(Some(number.clamp(LEAST_LIMIT, GREATEST_LIMIT) as u32)),
+        Some(number) => Ok(Some(number.clamp(LEAST_LIMIT as u64, GREATEST_LIMIT as u64) as u32)),
         None => Err(FormError::Named(Code::Failure)),
     }
 }

@@ -92,7 +92,7 @@ fn number_in(names: &Pool<Identifier>, id: &Identifier) -> Option<u64>
     }
 }
 
-// The links of a number.
+// The links of a number as they are, drafts left out.
 fn links_now(links: &[Sided<LinkSeen>], number: u64) -> &[LinkSeen]
     ensures { result.now ≡ links_at list_now links.now number }
 {

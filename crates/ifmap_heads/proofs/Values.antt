@@ -1,6 +1,6 @@
 -- What the values of fields say.
-use Rattle.std.proofs.Common.{◌≡◌, ℕ, ◌+◌, ◌-◌, ◌*◌, ◌^◌, ◌<◌, ◌≤◌, Bool, true, false, List, [], ◌∷◌, ◌++◌, length, get_or, take, drop, refl, sym, ap, ◌∙◌, arith, add-one, take-append-drop}
-use Rattle.std.proofs.lemmas.Bool.{not-true}
+use Rattle.std.proofs.Common.{◌≡◌, ℕ, ◌+◌, ◌-◌, ◌*◌, ◌^◌, ◌<◌, ◌≤◌, Bool, true, false, List, [], ◌∷◌, ◌++◌, length, get_or, take, drop, refl, sym, ap, ◌∙◌, arith, add-one}
+use Rattle.std.proofs.lemmas.Bool.{not-true, and_parts}
 use Rattle.std.specs.Prelude.{◌&&◌, ◌==◌, not}
 use Rattle.std.specs.Char.{digit_value, is_ascii_digit}
 use Rattle.std.specs.List.{list_all}
@@ -8,7 +8,7 @@ use Rattle.std.specs.Str.Parse.{digits_value}
 use Rattle.std.proofs.Math.Nat.{pow-le-pow_right, pow-suc}
 use Rattle.std.proofs.lemmas.Bool.Decides.{nat_tests}
 use Rattle.std.proofs.lemmas.Int.Digits.{digits_value_push}
-use Rattle.std.proofs.lemmas.List.{drop_more, take_more}
+use Rattle.std.proofs.lemmas.List.{take_more}
 use Rattle.std.proofs.lemmas.List.Folds.{list_all-append}
 use Rattle.ifmap_heads.specs.Fields.{comma_parts}
 use Rattle.ifmap_lemmas.specs.Decimals.{between_is_digit}
@@ -42,24 +42,16 @@ digit_pushed value i number d within is less all low high digit =
 abbrev pub lacks_comma : List ℕ → Bool
 lacks_comma bytes = list_all (λ b. not (b == 44)) bytes
 
-both_hold : (a b : Bool) → (a && b) ≡ true → (a ≡ true) × (b ≡ true)
-both_hold true true e = (refl, refl)
-both_hold true false e = cc
-both_hold false b e = cc
-
 pub part_at : (front rest : List ℕ) → lacks_comma front ≡ true → comma_parts (front ++ 44 ∷ rest) ≡ front ∷ comma_parts rest
 part_at [] rest e = refl
 part_at (b ∷ front) rest e =
-    let parts = both_hold (not (b == 44)) (lacks_comma front) e in
+    let parts = and_parts (not (b == 44)) (lacks_comma front) e in
     let other = not-true (b == 44) parts.0 in
     rw (other, part_at front rest parts.1)
 
 pub part_alone : (bytes : List ℕ) → lacks_comma bytes ≡ true → comma_parts bytes ≡ bytes ∷ []
 part_alone [] e = refl
 part_alone (b ∷ bytes) e =
-    let parts = both_hold (not (b == 44)) (lacks_comma bytes) e in
+    let parts = and_parts (not (b == 44)) (lacks_comma bytes) e in
     let other = not-true (b == 44) parts.0 in
     rw (other, part_alone bytes parts.1)
-
-pub cut_at : (bytes : List ℕ) (i : ℕ) → i < length bytes → bytes ≡ take i bytes ++ get_or bytes i 0 ∷ drop (i + 1) bytes
-cut_at bytes i within = sym (take-append-drop i bytes) ∙ ap (λ (xs : List ℕ). take i bytes ++ xs) (drop_more bytes i 0 within)

@@ -45,6 +45,7 @@ use Rattle.ifmap_ident.proofs.PrintedLaws.{arranged_outer, inner, outer}
 use Rattle.ifmap_ident.proofs.ValueLaws.{address_characters, definition_characters, domain_characters, kept_characters, value_characters}
 use Rattle.ifmap_lemmas.specs.Members.{all_both, all_of_test, both_all}
 use Rattle.ifmap_lemmas.specs.Texts.{ascii_encoded, eq_itself, is_ascii}
+use Rattle.ifmap_lemmas.specs.Apart.{told_apart}
 use Rattle.ifmap_elem.specs.laws.CharacterLaws.{is_plain, plain_characters}
 use Rattle.ifmap_elem.specs.laws.BareNames.{another_bare}
 

@@ -9,9 +9,12 @@ use Rattle.ifmap_ident.specs.declared.kinds.IdentityType.TheVariants as types
 use Rattle.ifmap_ident.specs.declared.kinds.Kind.{Kind}
 use Rattle.ifmap_ident.specs.declared.kinds.Kind.TheVariants as variants
 use Rattle.ifmap_ident.specs.Kinds.{identity_type_name, identity_types, kind_name, kinds}
-use Rattle.ifmap_ident.proofs.FindLaws.{bare_tells, none_is, other_name, other_text}
+use Rattle.ifmap_ident.proofs.FindLaws.{bare_tells, other_name}
 use Rattle.ifmap_lemmas.specs.Texts.{eq_tells}
 use Rattle.ifmap_lemmas.specs.Finding.{none_passes, found_passes}
+use Rattle.ifmap_lemmas.specs.Absent.{none_where_not_some}
+use Rattle.ifmap_lemmas.specs.Apart.{told_apart}
+use Rattle.std.proofs.lemmas.Option.{same_Some}
 
 -- of all kinds, each
 pub each_kind : (P : Kind → Type 0) → AllByRecursion P kinds → (kind : Kind) → P kind
@@ -43,7 +46,7 @@ pub no_kind : (name : Name) (o : Option Kind) → o ≡ find (λ kind. is_bare (
     → name ≡ bare_name (kind_name kind) → ⊥
 no_kind name o e none kind same =
     other_name (kind_name kind) name (each_kind (λ k. is_bare (kind_name k) name ≡ false)
-    (none_passes (λ k. is_bare (kind_name k) name) kinds (sym e ∙ none_is o none)) kind) same
+    (none_passes (λ k. is_bare (kind_name k) name) kinds (sym e ∙ none_where_not_some o none)) kind) same
 
 pub type_found : (name : List ℕ) (o : Option IdentityType)
     → o ≡ find (λ kind. bytes_eq (identity_type_name kind) name) identity_types
@@ -57,8 +60,8 @@ pub no_type : (name : List ℕ) (o : Option IdentityType)
     → o ≡ find (λ kind. bytes_eq (identity_type_name kind) name) identity_types → IsNone o → (kind : IdentityType)
     → name ≡ identity_type_name kind → ⊥
 no_type name o e none kind same =
-    other_text (identity_type_name kind) name (each_type (λ k. bytes_eq (identity_type_name k) name ≡ false)
-    (none_passes (λ k. bytes_eq (identity_type_name k) name) identity_types (sym e ∙ none_is o none)) kind) same
+    told_apart (identity_type_name kind) name (each_type (λ k. bytes_eq (identity_type_name k) name ≡ false)
+    (none_passes (λ k. bytes_eq (identity_type_name k) name) identity_types (sym e ∙ none_where_not_some o none)) kind) (sym same)
 
 -- ---- one name, one kind
 
@@ -81,14 +84,11 @@ type_named types.SipUri = refl
 type_named types.TelUri = refl
 type_named types.Other = refl
 
-pub one_value : {X : Type 0} (x y : X) → Some x ≡ Some y → x ≡ y
-one_value x y e = cc
-
 pub kinds_are_one : (one other : Kind) → bare_name (kind_name one) ≡ bare_name (kind_name other) → one ≡ other
 kinds_are_one one other e =
-    one_value one other (sym (kind_named one) ∙ ap (λ (n : Name). find (λ k. bytes_eq (kind_name k) n.local) kinds) e ∙ kind_named other)
+    same_Some one other (sym (kind_named one) ∙ ap (λ (n : Name). find (λ k. bytes_eq (kind_name k) n.local) kinds) e ∙ kind_named other)
 
 pub types_are_one : (one other : IdentityType) → identity_type_name one ≡ identity_type_name other → one ≡ other
 types_are_one one other e =
-    one_value one other (sym (type_named one) ∙ ap (λ n. find (λ k. bytes_eq (identity_type_name k) n) identity_types) e
+    same_Some one other (sym (type_named one) ∙ ap (λ n. find (λ k. bytes_eq (identity_type_name k) n) identity_types) e
     ∙ type_named other)

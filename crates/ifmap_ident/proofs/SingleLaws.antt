@@ -4,6 +4,8 @@
 -- 3. The variants differ by the element's name, and IPv4 from IPv6 by the type.
 -- 4. Two causes, or a cause and an identifier, do not stand together.
 use Rattle.std.proofs.Common.{◌≡◌, ℕ, ◌<◌, ◌≤◌, List, [], ◌∷◌, Option, Some, Result, Ok, Err, codes, length, refl, sym, ◌∙◌, ap, subst, inl, inr, arith}
+use Rattle.ifmap_lemmas.specs.Absent.{one_of}
+use Rattle.ifmap_lemmas.specs.Joined.{one_member}
 use Rattle.ifmap_addresses.specs.IpV4.{IsIpV4}
 use Rattle.ifmap_addresses.specs.IpV6.{IsIpV6}
 use Rattle.ifmap_addresses.specs.IpV4Laws.{one_ip_v4}
@@ -33,13 +35,10 @@ use Rattle.ifmap_ident.specs.IdentityNames.{IsKeptName, name_form}
 use Rattle.ifmap_ident.specs.Kinds.{identity_type_name}
 use Rattle.ifmap_ident.specs.Laws.{AreOneAnswer}
 use Rattle.ifmap_ident.specs.Parts.{value_of}
-use Rattle.ifmap_ident.proofs.KindLaws.{one_value, types_are_one}
+use Rattle.ifmap_ident.proofs.KindLaws.{types_are_one}
 use Rattle.ifmap_ident.proofs.MeaningLaws.{kind_of_meant, versions_differ}
 
 -- ---- parts
-
-pub one_of : (given : Option (List ℕ)) (x y : List ℕ) → given ≡ Some x → given ≡ Some y → x ≡ y
-one_of given x y p q = one_value x y (sym p ∙ q)
 
 pub one_definition : (kind : IdentityType) (given : Option (List ℕ)) (x y : List ℕ) → IsDefinition kind given x → IsDefinition kind given y
     → x ≡ y
@@ -68,9 +67,6 @@ text_or d (Child-F.Text t) = t
 pub one_text : (x y : List ℕ) → the.Text x ≡ the.Text y → x ≡ y
 unfolding text_or
 one_text x y e = ap (text_or x) (sym (out_text x) ∙ ap out-Child e ∙ out_text y)
-
-pub one_member : {X : Type 0} (x y : X) → x ∷ [] ≡ y ∷ [] → x ≡ y
-one_member x y e = cc
 
 one_name_held : (child : Element) (x y : List ℕ) → HoldsName child x → HoldsName child y → x ≡ y
 one_name_held child x y p q = one_text x y (one_member (the.Text x) (the.Text y) (sym p.text_is ∙ q.text_is))

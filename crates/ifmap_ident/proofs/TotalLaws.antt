@@ -40,10 +40,13 @@ use Rattle.ifmap_ident.specs.Laws.{HasAnswer}
 use Rattle.ifmap_ident.specs.Meaning.{ArePartsOf, IsMeaning}
 use Rattle.ifmap_ident.specs.Parts.{has_only, is_blank_inside, solid_children, value_of}
 use Rattle.ifmap_ident.proofs.FindLaws.{bare_tells, other_name}
-use Rattle.ifmap_ident.proofs.KindLaws.{kind_found, no_kind, no_type, one_value, type_found, types_are_one}
+use Rattle.ifmap_ident.proofs.KindLaws.{kind_found, no_kind, no_type, type_found, types_are_one}
 use Rattle.ifmap_ident.proofs.MeaningLaws.{meaning_of_parts, no_access_request, no_device, no_identity, no_ip_address, no_mac_address, nothing, refused_meaning, unknown_attribute}
-use Rattle.ifmap_ident.proofs.SingleLaws.{one_definition, one_kept, one_member, one_of, one_text}
+use Rattle.ifmap_ident.proofs.SingleLaws.{one_definition, one_kept, one_text}
 use Rattle.ifmap_lemmas.specs.Deciding.{Decided, decided_both, decided_by, decided_not, decided_test, same_or_not, within_or_not}
+use Rattle.ifmap_lemmas.specs.Absent.{one_of}
+use Rattle.ifmap_lemmas.specs.Joined.{one_member}
+use Rattle.std.proofs.lemmas.Option.{same_Some}
 use Rattle.ifmap_elem.specs.laws.NamedElements.{no_text}
 
 -- ---- what is one at most, and has more
@@ -135,7 +138,7 @@ device_or_none e =
 
 type_among : (name : List ℕ) (o : Option IdentityType) → o ≡ find (λ kind. bytes_eq (identity_type_name kind) name) identity_types
     → Decided ((kind : IdentityType) × (Some name ≡ Some (identity_type_name kind)))
-type_among name None e = inr (λ t. no_type name None e refl t.0 (one_value name (identity_type_name t.0) t.1))
+type_among name None e = inr (λ t. no_type name None e refl t.0 (same_Some name (identity_type_name t.0) t.1))
 type_among name (Some kind) e = inl (kind, ap Some (type_found name (Some kind) e))
 
 type_or_none : (given : Option (List ℕ)) → Decided ((kind : IdentityType) × (given ≡ Some (identity_type_name kind)))

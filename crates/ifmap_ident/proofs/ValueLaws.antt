@@ -27,12 +27,12 @@ use Rattle.ifmap_ident.specs.Canon.{IsDefinition, domain_of}
 use Rattle.ifmap_ident.specs.IdentityNames.{IsKeptName, domain_name, without_last_dots}
 use Rattle.ifmap_ident.specs.Parts.{value_of}
 use Rattle.ifmap_ident.proofs.DotLaws.{dot_encoded, is_dot}
-use Rattle.ifmap_ident.proofs.KindLaws.{one_value}
 use Rattle.ifmap_ident.proofs.Utf8Laws.{canonical_characters}
 use Rattle.ifmap_lemmas.specs.Numbers.{equal_numbers}
 use Rattle.ifmap_addresses.specs.Values.{IsAddressByte}
 use Rattle.ifmap_lemmas.specs.Filters as filters
 use Rattle.ifmap_lemmas.specs.Texts.{ascii_encoded, is_ascii}
+use Rattle.std.proofs.lemmas.Option.{same_Some}
 use Rattle.ifmap_elem.specs.laws.CharacterLaws.{is_plain, plain_characters, characters_both, character_passes, one_character, no_characters}
 
 -- ---- addresses
@@ -55,7 +55,7 @@ address_characters text h = (
 found_step : (x : Attribute) (b : Bool) (rest : Option Attribute) (text : List ℕ) → IsCharacters x.value
     → (option_map (λ a. a.value) rest ≡ Some text → IsCharacters text) → option_map (λ a. a.value) (cond b (Some x) rest) ≡ Some text
     → IsCharacters text
-found_step x true rest text here later e = subst IsCharacters (one_value x.value text e) here
+found_step x true rest text here later e = subst IsCharacters (same_Some x.value text e) here
 found_step x false rest text here later e = later e
 
 found_characters : (p : Attribute → Bool) (xs : List Attribute) (text : List ℕ) → AllByRecursion IsFitAttribute xs

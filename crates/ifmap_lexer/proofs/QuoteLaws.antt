@@ -1,6 +1,6 @@
 -- Quoted values that are read are those that stand there.
 use Rattle.std.proofs.Common.{◌≡◌, ℕ, true, false, List, ◌∷◌, ◌++◌, refl, ap, sym, ◌∙◌, subst, arith}
-use Rattle.std.specs.Prelude.{◌==◌, ◌||◌, Option, Some, None, IfSome, IfNone}
+use Rattle.std.specs.Prelude.{◌==◌, ◌||◌, Option, Some, None, IfSome}
 use Rattle.std.proofs.lemmas.Bool.Decides.{nat_tests}
 use Rattle.ifmap_elem.specs.Chars.{AllAre, is_white, double_quote, equals_sign, single_quote}
 use Rattle.ifmap_elem.specs.Tokens.{TakesQuoted}
@@ -12,10 +12,6 @@ use Rattle.ifmap_lexer.proofs.Basics.{all_back}
 pub map_some : {X : Type 0} (o : Option X) (P Q : X → Type 0) → ((x : X) → P x → Q x) → IfSome o P → IfSome o Q
 map_some None P Q f h = tt
 map_some (Some x) P Q f h = f x h
-
-pub map_none : {X : Type 0} (o : Option X) (P Q : Type 0) → (P → Q) → IfNone o P → IfNone o Q
-map_none None P Q f h = f h
-map_none (Some x) P Q f h = tt
 
 itself : (q : ℕ) → is_but q q ≡ false
 itself q = let same : (q == q) ≡ true = grind (arith, nat_tests) in rw same refl

@@ -1,6 +1,6 @@
 -- What runs of characters add to a text or a value.
-use Rattle.std.proofs.Common.{◌≡◌, ℕ, true, false, List, [], ◌∷◌, ◌++◌, map, refl, ap, sym, ◌∙◌, subst, append_assoc}
-use Rattle.std.specs.Prelude.{◌==◌, if◌then◌else◌, Result, Ok, Err, OnOk, is_ok}
+use Rattle.std.proofs.Common.{◌≡◌, ℕ, true, false, List, [], ◌∷◌, ◌++◌, map, refl, ap, sym, ◌∙◌, subst}
+use Rattle.std.specs.Prelude.{◌==◌, if◌then◌else◌, Result, Ok, Err}
 use Rattle.std.proofs.lemmas.Bool.{not-true}
 use Rattle.std.proofs.lemmas.List.{map-append}
 use Rattle.ifmap_elem.specs.Chars.{AllAre, carriage_return, line_feed, space_character, tab}
@@ -58,23 +58,3 @@ break_end AttributeValue rest f = ap (map as_space) (lines_none rest f)
 pub no_newline : (bs : List ℕ) → ((rest : List ℕ) → bs ≡ line_feed ∷ rest → ⊥) → begins_with line_feed bs ≡ false
 no_newline [] h = refl
 no_newline (b ∷ bs) h = is_other b line_feed (λ e. h bs (ap (λ n. n ∷ bs) e))
-
--- what is appended in turn
-pub two_more : (start old first rest later a d : List ℕ) → old ++ rest ≡ start → first ≡ old ++ a → later ≡ first ++ d → (beyond : List ℕ)
-    → rest ≡ a ++ (d ++ beyond) → later ++ beyond ≡ start
-two_more start old first rest later a d inv p q beyond r =
-    ap (λ x. x ++ beyond) (q ∙ ap (λ x. x ++ d) p) ∙ append_assoc (old ++ a) d beyond ∙ append_assoc old a (d ++ beyond)
-    ∙ ap (λ x. old ++ x) (sym r) ∙ inv
-
-pub last_str : {T E : Type 0} (r : Result T E) (start old rest later a : List ℕ) → old ++ rest ≡ start → later
-    ≡ (if is_ok r then old ++ a else old) → rest ≡ a → OnOk r (later ≡ start)
-last_str (Ok x) start old rest later a inv p e = p ∙ ap (λ x. old ++ x) (sym e) ∙ inv
-last_str (Err x) start old rest later a inv p e = tt
-
-pub last_line : {T E : Type 0} (r : Result T E) (start old rest later a : List ℕ) → old ++ rest ≡ start → OnOk r (later ≡ old ++ a) → rest
-    ≡ a → OnOk r (later ≡ start)
-last_line (Ok x) start old rest later a inv p e = p ∙ ap (λ x. old ++ x) (sym e) ∙ inv
-last_line (Err x) start old rest later a inv p e = tt
-
-pub last_more : (start old rest later a : List ℕ) → old ++ rest ≡ start → later ≡ old ++ a → rest ≡ a → later ≡ start
-last_more start old rest later a inv p r = p ∙ ap (λ x. old ++ x) (sym r) ∙ inv

@@ -80,9 +80,6 @@ module _ (name : List ℕ) (starts : StartsNotWhite name) where
     one_taken : (bytes r s : List ℕ) → TakesSetting name Allows bytes r → TakesSetting name Allows bytes s → r ≡ s
     one_taken bytes r s t u = (one_setting bytes t.written u.written r s (set_by bytes r t) (set_by bytes s u)).1
 
-pub is_false : (b : Bool) → b ≡ false → b ≡ true → ⊥
-is_false b f t = let wrong : true ≡ false = sym t ∙ f in cc
-
 -- letters without regard to case
 
 raised : (a : ℕ) → to_ascii_uppercase (to_ascii_lowercase a) ≡ to_ascii_uppercase a

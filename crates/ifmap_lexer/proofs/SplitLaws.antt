@@ -1,8 +1,7 @@
 -- What the splits of bytes give.
 use Rattle.std.proofs.Common.{◌≡◌, ◌≢◌, ℕ, suc, ◌+◌, ◌<◌, Bool, true, false, cond, List, [], ◌∷◌, ◌++◌, length, get_or, take, drop, refl}
 use Rattle.std.proofs.Common.{ap, sym, ◌∙◌, subst, arith, one-add, append_assoc, length-append}
-use Rattle.std.specs.Prelude.{Option, Some, None, MatchOption, IfSome, IfNone, is_some, IsUtf8}
-use Rattle.std.specs.Bool.{OnFalse, OnTrue}
+use Rattle.std.specs.Prelude.{Option, Some, None, MatchOption, IfSome, IfNone, IsUtf8}
 use Rattle.std.specs.Borrow.{Bor}
 use Rattle.std.specs.List.{prefix_len}
 use Rattle.std.proofs.lemmas.List.{take-append-drop}
@@ -50,12 +49,6 @@ after_is_utf8 c text front after small e u =
     = ap (drop (n + 1)) (e ∙ sym (append_assoc front (c ∷ []) after)) ∙ ap (λ k. drop k ((front ++ (c ∷ [])) ++ after))
     (sym (length-append front (c ∷ []))) ∙ drop-append_seam (front ++ (c ∷ [])) after in
     subst IsUtf8 rest (IsUtf8-drop text (n + 1) u (IsCharBoundary-after_ascii text n u inside (omega arith)))
-
--- an option by whether it is some
-pub some_or_not : {X : Type 0} (o : Option X) (Found : X → Type 0) (Lacking : Type 0) → ((x : X) → Found x → Lacking → ⊥) → IfSome o Found
-    → IfNone o Lacking → (b : Bool) → b ≡ is_some o → OnTrue b (Lacking → ⊥) × OnFalse b Lacking
-some_or_not None Found Lacking apart f n b e = subst (λ (t : Bool). OnTrue t (Lacking → ⊥) × OnFalse t Lacking) (sym e) (tt, n)
-some_or_not (Some x) Found Lacking apart f n b e = subst (λ (t : Bool). OnTrue t (Lacking → ⊥) × OnFalse t Lacking) (sym e) (apart x f, tt)
 
 pub all_but : (c : ℕ) (bs : List ℕ) → ((i : ℕ) → i < length bs → get_or bs i 0 ≢ c) → AllAre (is_but c) bs
 all_but c [] h = tt

@@ -10,11 +10,10 @@ use Rattle.std.specs.Ordering.{is_eq, nat_cmp, ordering_then}
 use Rattle.std.proofs.lemmas.Bool.{cases_Bool}
 use Rattle.std.proofs.lemmas.List.{length-take-le, take_more}
 use Rattle.std.proofs.lemmas.Option.{slice_get_within}
-use Rattle.std.specs.declared.cmp.Ordering.{Ordering}
-use Rattle.std.specs.declared.cmp.Ordering.TheVariants.{Less, Equal, Greater}
 use Rattle.ifmap_elem.specs.declared.readings.Declared.{Declared}
 use Rattle.ifmap_lemmas.specs.Orderings.{both_equal}
 use Rattle.ifmap_lemmas.specs.Texts.{same_texts, slice_cmp-same}
+use Rattle.ifmap_lemmas.specs.Ties.{then_not_tied, then_after_tie}
 use Rattle.ifmap_prefixes.specs.Rows.{HasLast, Indexes, IsDeclaredAt, HasIndexFrom, at_text, is_key}
 
 abbrev pub Kept : Type 0
@@ -122,16 +121,6 @@ no_rows kept none = record {
 
 -- ---- one more declaration in the table of tables
 
-apart : (o p : Ordering) → is_eq o ≡ false → is_eq (ordering_then o p) ≡ false
-apart Less p e = refl
-apart Equal p e = cc
-apart Greater p e = refl
-
-together : (o p : Ordering) → is_eq o ≡ true → ordering_then o p ≡ p
-together Less p e = cc
-together Equal p e = refl
-together Greater p e = cc
-
 module _ (d : Declared) (n : ℕ) (prefix path : List ℕ) (old mid new : Option Indexes) (indexes : Indexes) (own_index : Option ℕ) where
   abbrev at_path : Option Indexes → Option ℕ
   at_path o = option_and_then (λ ns. get_by (at_text path) ns) o
@@ -152,9 +141,9 @@ module _ (d : Declared) (n : ℕ) (prefix path : List ℕ) (old mid new : Option
         ap at_path (e3 ∙ ap (λ b. cond b (Some indexes) mid) e) ∙ e1
         ∙ ap (λ o. cond is_path (Some n) o) (own prefix_is)
         ∙ ap (λ o. cond (is_eq o) (Some n) (at_path old))
-        (sym (together (slice_cmp nat_cmp d.prefix prefix) (slice_cmp nat_cmp d.path path) e))
+        (sym (then_after_tie (slice_cmp nat_cmp d.prefix prefix) (slice_cmp nat_cmp d.path path) e))
     | inr e ↦
         ap at_path (e3 ∙ ap (λ b. cond b (Some indexes) mid) e ∙ e2 ∙ ap (λ b. cond b None old) e)
         ∙ ap (λ b. cond b (Some n) (at_path old))
-        (sym (apart (slice_cmp nat_cmp d.prefix prefix) (slice_cmp nat_cmp d.path path) e))
+        (sym (then_not_tied (slice_cmp nat_cmp d.prefix prefix) (slice_cmp nat_cmp d.path path) e))
   ]

@@ -2,7 +2,8 @@
 use Rattle.std.proofs.Common.{◌≡◌, ℕ, List, [], ◌∷◌, ◌++◌, map, reverse, refl, ap, sym, ◌∙◌}
 use Rattle.std.specs.Prelude.{◌==◌, filter}
 use Rattle.std.specs.List.{starts_with}
-use Rattle.std.proofs.lemmas.List.{map-append, reverse-append}
+use Rattle.std.proofs.lemmas.List.{reverse-reverse}
+use Rattle.ifmap_lemmas.specs.Joined.{reverse_map}
 use Rattle.ifmap_elem.specs.InScope.{binding_told}
 use Rattle.ifmap_elem.specs.Scopes.{row_of_binding}
 use Rattle.ifmap_elem.specs.declared.readings.Declared.{Declared}
@@ -17,20 +18,9 @@ all_stand : (xs : List Row) → filter (λ d. starts_with ◌==◌ [] d.path) (m
 all_stand [] = refl
 all_stand (x ∷ xs) = ap (λ (ds : List Declared). root_row x ∷ ds) (all_stand xs)
 
-module _ {X Y : Type 0} (f : X → Y) where
-  reverse_map : (xs : List X) → reverse (map f xs) ≡ map f (reverse xs)
-  reverse_map [] = refl
-  reverse_map (x ∷ xs) =
-      reverse-append (f x ∷ []) (map f xs) ∙ ap (λ zs. zs ++ f x ∷ []) (reverse_map xs)
-      ∙ sym (ap (map f) (reverse-append (x ∷ []) xs) ∙ map-append f (reverse xs) (x ∷ []))
-
 rows_back : (xs : List Row) → map row_of_binding (map binding_told (map root_row xs)) ≡ xs
 rows_back [] = refl
 rows_back (x ∷ xs) = ap (λ (rs : List Row). x ∷ rs) (rows_back xs)
-
-turned : {X : Type 0} (xs : List X) → reverse (reverse xs) ≡ xs
-turned [] = refl
-turned (x ∷ xs) = ap reverse (reverse-append (x ∷ []) xs) ∙ reverse-append (reverse xs) (x ∷ []) ∙ ap (λ ys. x ∷ ys) (turned xs)
 
 pub rows_in_scope : (rows : List Row) (ds : List Declared) → ds ≡ reverse (map root_row rows)
     → (scope_by ds []).rows ≡ rows
@@ -39,7 +29,7 @@ rows_in_scope rows ds is =
     ∙ ap (λ (d : List Declared). map row_of_binding (reverse (map binding_told d))) (all_stand (reverse rows))
     ∙ ap (map row_of_binding) (reverse_map binding_told (map root_row (reverse rows)))
     ∙ ap (λ (d : List Declared). map row_of_binding (map binding_told d))
-    (reverse_map root_row (reverse rows) ∙ ap (map root_row) (turned rows))
+    (reverse_map root_row (reverse rows) ∙ ap (map root_row) (reverse-reverse rows))
     ∙ rows_back rows
 
 pub scope_is : (scope : Scope) (rows : List Row) (declared ds : List Declared) → rows ≡ scope.rows → declared ≡ map root_row rows

@@ -2,11 +2,11 @@
 use Rattle.std.proofs.Common.{◌≡◌, ℕ, Bool, true, false, List, [], ◌∷◌, ◌++◌, reverse, refl, ap, sym, ◌∙◌, subst, append_assoc, Bor}
 use Rattle.std.specs.Prelude.{Some, None, Err, Option, is_none, is_some}
 use Rattle.std.proofs.lemmas.List.{append-nil, reverse-reverse}
+use Rattle.ifmap_lemmas.specs.Joined.{last_first}
 use Rattle.ifmap_elem.specs.declared.elements.Attribute.{Attribute}
 use Rattle.ifmap_elem.specs.declared.tokens.Assignment.{Assignment}
 use Rattle.ifmap_elem.specs.Scopes.{Scope, Binding, IsAttribute, AreAttributes, binding_of}
 use Rattle.ifmap_elem.specs.laws.OneReading.{one_attribute}
-use Rattle.ifmap_reader.proofs.Lasts.{last_first}
 use Rattle.ifmap_reader.specs.declared.errors.TokenRefusal.{TokenRefusal}
 use Rattle.ifmap_reader.specs.declared.errors.TokenRefusal.TheVariants.{NotAllowed, TooDeep, NoMemory}
 use Rattle.ifmap_reader.specs.AllowedTags.{AnswersAttribute, AnswersAttributes, plain_part, told_binding}

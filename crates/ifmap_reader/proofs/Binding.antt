@@ -22,6 +22,8 @@ use Rattle.ifmap_reader.specs.AllowedTags.{Binds, AnswersBindings, MayBind}
 use Rattle.ifmap_elem.specs.InScope.{binding_told}
 use Rattle.ifmap_elem.specs.laws.ScopeLaws.{bound_outer}
 use Rattle.ifmap_lemmas.specs.Members.{all_last}
+use Rattle.ifmap_lemmas.specs.Joined.{all_middle}
+use Rattle.ifmap_lemmas.specs.Branches.{fails_where_false}
 
 bound_other : (bs : List Binding) (b : Binding) (q : List ℕ) → bytes_eq b.prefix q ≡ false
     → prefix_space (bs ++ b ∷ []) q ≡ prefix_space bs q
@@ -63,10 +65,6 @@ rows_more rows after path prefix space was more none =
 
 abbrev prefix_of : Binding → List ℕ
 prefix_of b = b.prefix
-
-pub all_middle : {X : Type 0} (P : X → Type 0) (xs : List X) (x : X) (ys : List X) → AllByRecursion P (xs ++ x ∷ ys) → P x
-all_middle P [] x ys h = h.0
-all_middle P (z ∷ zs) x ys h = all_middle P zs x ys h.1
 
 all_mapped : (x : Binding) (xs : List Binding) (b : Binding) → AllByRecursion (λ p. x.prefix ≢ p) (map prefix_of xs) → x.prefix ≢ b.prefix
     → AllByRecursion (λ p. x.prefix ≢ p) (map prefix_of (xs ++ b ∷ []))
@@ -182,16 +180,13 @@ module _ (p s : List ℕ) where
   pub not_xmlns_space : (b : Bool) → (IsTrue b ↔ (s ≡ xmlns_space)) → b ≡ true → IsBinding (record { prefix = p; space = s }) → ⊥
   not_xmlns_space b t e h = h.no_xmlns_space (t.0 e)
 
-  false_not : (P : Type 0) (b : Bool) → (IsTrue b ↔ P) → b ≡ false → P → ⊥
-  false_not P b t e h = let k : b ≡ true = t.1 h in cc
-
   module _ (b c : Bool) (t : IsTrue b ↔ (p ≡ codes "xmlns")) (u : IsTrue c ↔ (s ≡ xmlns_space)) (e : b ≡ false) (f : c ≡ false) where
     pub xml_binds : (d x : Bool) → (IsTrue d ↔ (p ≡ codes "xml")) → d ≡ true → (IsTrue x ↔ (s ≡ xml_space))
         → IsTrue x ↔ IsBinding (record { prefix = p; space = s })
     xml_binds d x v is w = (
       λ h. record {
-        no_xmlns = false_not (p ≡ codes "xmlns") b t e;
-        no_xmlns_space = false_not (s ≡ xmlns_space) c u f;
+        no_xmlns = fails_where_false b (p ≡ codes "xmlns") t e;
+        no_xmlns_space = fails_where_false c (s ≡ xmlns_space) u f;
         xml_alone = (λ _. w.0 h, λ _. v.0 is);
         some_space = λ _ none. let k : xml_space ≡ [] = sym (w.0 h) ∙ none in cc;
       },
@@ -200,14 +195,14 @@ module _ (p s : List ℕ) where
 
     module _ (d : Bool) (v : IsTrue d ↔ (p ≡ codes "xml")) (g : d ≡ false) where
       pub not_xml_space : (x : Bool) → (IsTrue x ↔ (s ≡ xml_space)) → x ≡ true → IsBinding (record { prefix = p; space = s }) → ⊥
-      not_xml_space x w is h = false_not (p ≡ codes "xml") d v g (h.xml_alone.1 (w.0 is))
+      not_xml_space x w is h = fails_where_false d (p ≡ codes "xml") v g (h.xml_alone.1 (w.0 is))
 
       module _ (x : Bool) (w : IsTrue x ↔ (s ≡ xml_space)) (k : x ≡ false) where
         binds_where : (p ≢ [] → s ≢ []) → IsBinding (record { prefix = p; space = s })
         binds_where some = record {
-          no_xmlns = false_not (p ≡ codes "xmlns") b t e;
-          no_xmlns_space = false_not (s ≡ xmlns_space) c u f;
-          xml_alone = (λ q. absurd (false_not (p ≡ codes "xml") d v g q), λ q. absurd (false_not (s ≡ xml_space) x w k q));
+          no_xmlns = fails_where_false b (p ≡ codes "xmlns") t e;
+          no_xmlns_space = fails_where_false c (s ≡ xmlns_space) u f;
+          xml_alone = (λ q. absurd (fails_where_false d (p ≡ codes "xml") v g q), λ q. absurd (fails_where_false x (s ≡ xml_space) w k q));
           some_space = some;
         }
 
@@ -217,5 +212,5 @@ module _ (p s : List ℕ) where
         pub prefix_binds : (y z : Bool) → (IsTrue y ↔ (p ≡ [])) → y ≡ false → (IsTrue z ↔ (s ≡ []))
             → IsTrue (not z) ↔ IsBinding (record { prefix = p; space = s })
         prefix_binds y true m is o =
-            (λ h. let k : false ≡ true = h in cc, λ h. absurd (h.some_space (false_not (p ≡ []) y m is) (o.0 refl)))
+            (λ h. let k : false ≡ true = h in cc, λ h. absurd (h.some_space (fails_where_false y (p ≡ []) m is) (o.0 refl)))
         prefix_binds y false m is o = (λ _. binds_where (λ _ none. let k : false ≡ true = o.1 none in cc), λ _. refl)

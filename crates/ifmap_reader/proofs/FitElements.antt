@@ -25,7 +25,8 @@ use Rattle.ifmap_elem.specs.declared.tokens.Tag.{Tag}
 use Rattle.ifmap_elem.specs.declared.tokens.Token.TheVariants.{End}
 use Rattle.ifmap_lemmas.specs.Members.{all_both, both_all, all_of_test}
 use Rattle.ifmap_elem.specs.laws.FitLaws.{elements_in, elements_of_child, elements_text, fit_whole, out_text, no_namespace}
-use Rattle.ifmap_lemmas.specs.Texts.{eq_tells, eq_itself, ascii_encoded, is_ascii}
+use Rattle.ifmap_lemmas.specs.Texts.{eq_tells, ascii_encoded, is_ascii}
+use Rattle.ifmap_lemmas.specs.Apart.{told_apart}
 use Rattle.ifmap_reader.proofs.FitTokens.{IsFitAssignment, IsFitTag, IsFitToken, tokens_fit}
 use Rattle.ifmap_elem.specs.laws.CharacterLaws.{characters_both}
 use Rattle.ifmap_elem.specs.laws.ArrangedLaws.{out_element}
@@ -40,9 +41,6 @@ record IsFitBinding (b : Binding) : Type 0 where
 abbrev IsFitScope : Scope → Type 0
 IsFitScope scope = AllByRecursion IsFitBinding scope
 
--- a test that tells two texts apart
-told_apart : (x y : List ℕ) → bytes_eq x y ≡ false → x ≢ y
-told_apart x y h e = let wrong : bytes_eq x y ≡ true = subst (λ (z : List ℕ). bytes_eq x z ≡ true) e (eq_itself x) in cc
 
 root_fits : IsFitScope root_scope
 root_fits = (

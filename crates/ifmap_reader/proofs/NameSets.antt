@@ -13,10 +13,10 @@ use Rattle.ifmap_elem.specs.declared.elements.Attribute.{Attribute}
 use Rattle.ifmap_elem.specs.declared.elements.Name.{Name}
 use Rattle.ifmap_lemmas.specs.Orderings.{both_equal}
 use Rattle.ifmap_lemmas.specs.Texts.{same_texts}
-use Rattle.ifmap_reader.proofs.Binding.{all_middle}
 use Rattle.ifmap_reader.proofs.NameLaws.{names, dropped}
 use Rattle.ifmap_lemmas.specs.Members.{all_last}
 use Rattle.ifmap_lemmas.specs.Deciding.{or_parts}
+use Rattle.ifmap_lemmas.specs.Joined.{all_middle}
 
 names_total : IsTotalOrder name_order
 names_total = then_total (on_total (λ (n : Name). n.space) nat_list_cmp_total) (on_total (λ (n : Name). n.local) nat_list_cmp_total)

@@ -5,6 +5,7 @@
 use Rattle.std.proofs.Common.{◌≡◌, ℕ, ◌+◌, ◌<◌, ◌≤◌, Bool, true, false, max, List, [], ◌∷◌, ◌++◌, length, reverse, refl, ap, sym, ◌∙◌, subst, arith, inl, inr}
 use Rattle.std.specs.Prelude.{Ok, Err, Result}
 use Rattle.std.proofs.lemmas.List.{length-reverse}
+use Rattle.ifmap_lemmas.specs.Joined.{last_first}
 use Rattle.ifmap_elem.specs.declared.elements.Element.{Element}
 use Rattle.ifmap_elem.specs.declared.readings.Declared.{Declared}
 use Rattle.ifmap_elem.specs.declared.readings.Reading.{Reading}
@@ -22,7 +23,6 @@ use Rattle.ifmap_reader.specs.OpenElements.{AreLinked, Closes, CountsBindings, s
 use Rattle.ifmap_reader.specs.AllowedTags.{OpensElement, TagAnswer}
 use Rattle.ifmap_reader.specs.Progress.{Where, AtStart, Within, AfterRoot, GoesOn, Follows, IsCharacterData, IsLinked, is_margin, Leads, Passes, TokenAnswer, after_element, open_in, so_deep, one_if, where_is}
 use Rattle.ifmap_reader.proofs.Goings.{inner_comment, inner_words, inner_start, inner_empty, inner_end, inner_declaration, inner_other_end, root_comment, root_blank, IsInner, no_root, root_start, root_empty, no_start, no_empty, after_root_comment, after_root_blank, nothing_after_root, no_second_root, start_declaration, IsOther, start_other}
-use Rattle.ifmap_reader.proofs.Lasts.{last_first}
 use Rattle.ifmap_reader.proofs.Levels.{children_nesting, after_element_fits, after_element_deep}
 
 -- a token that opens and ends nothing

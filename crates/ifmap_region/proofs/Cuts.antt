@@ -9,6 +9,7 @@ use Rattle.std.proofs.lemmas.Bool.{cases_eq}
 use Rattle.std.proofs.lemmas.List.Elements.{Contains-append_left, Contains-append_right, Contains-append_cases, Contains-push, Contains-push_cases, All-weaker, All-cons, All-nil, Contains-get_or}
 use Rattle.std.proofs.lemmas.List.Sums.{sum_by-cons, sum_by_push}
 use Rattle.std.specs.List.{IsDistinct}
+use Rattle.ifmap_lemmas.specs.Distinct.{contains_one, no_member, distinct_cons, distinct_push, distinct_head, distinct_tail, sum_within}
 use Rattle.ifmap_region.specs.declared.flips.Flip.{Flip}
 use Rattle.ifmap_region.specs.Bounds.{IsWithin}
 use Rattle.ifmap_region.specs.Flips.{WithRemoved}
@@ -22,7 +23,6 @@ use Rattle.ifmap_region.specs.Spreading.{queue_at}
 use Rattle.ifmap_region.specs.Losing.{Awaits, HasNearerMark, AreGone, IsLookedAt, IsBeforeCut, IsCutting}
 use Rattle.ifmap_region.proofs.Lost.{losing_passed, losing_entered, losing_held, losing_gone, moved_here}
 use Rattle.ifmap_region.proofs.Falling.{queue_out, queue_in, queue_first, now_in, now_new, now_out, next_in, next_new, next_out}
-use Rattle.ifmap_region.specs.Distinct.{contains_one, no_member, distinct_cons, distinct_push, distinct_head, distinct_tail, sum_within}
 
 pub some_row : (o : Option (Option ℕ)) → IsSome o → (r : Option ℕ) × (o ≡ Some r)
 some_row None h = absurd (true≢false (sym h))

@@ -12,12 +12,13 @@ use Rattle.std.proofs.lemmas.Option.{same_Some, none-some}
 use Rattle.std.proofs.lemmas.Bool.{cases_eq, cases_lt, eqb-true, eq-eqb, ne_eqb}
 use Rattle.std.proofs.lemmas.List.{take_more, drop_more, take_all, drop_all, take-append-drop, append-nil, length-map, map_push}
 use Rattle.std.proofs.lemmas.List.Elements.{Contains-append_right}
+use Rattle.ifmap_lemmas.specs.Absent.{none_where_not_some}
+use Rattle.ifmap_lemmas.specs.Distinct.{distinct_head, distinct_tail}
 use Rattle.ifmap_region.specs.Marks.{row_of, mark_of, mark_over}
 use Rattle.ifmap_region.specs.Ways.{HasRoom, OnlyRoom, Makes, Sweeps, Exchanges, IsWayBack, taken_from}
 use Rattle.std.specs.Option.{option_map}
 use Rattle.ifmap_region.proofs.Overs.{row_here, row_apart}
 use Rattle.ifmap_region.proofs.Patches.{row_place}
-use Rattle.ifmap_region.specs.Distinct.{distinct_head, distinct_tail}
 
 -- the first row, where there is one, else the second
 abbrev pub first_row : Option (Option ℕ) → Option (Option ℕ) → Option (Option ℕ)
@@ -66,10 +67,6 @@ rowed_taken rows (x ∷ xs) v = by (nat_eq v x.0) (rowed_taken rows xs v)
         → is_some (cond t (Some (mark_of rows x.0)) (row_of (taken_from (mark_of rows) xs) v)) ≡ is_some (cond t (Some x.1) (row_of xs v))
     by true rest = refl
     by false rest = rest
-
-pub none_from : (o : Option (Option ℕ)) → is_some o ≡ false → o ≡ None
-none_from None e = refl
-none_from (Some r) e = absurd (true≢false e)
 
 rowed_first : (a b c : Option (Option ℕ)) → is_some a ≡ is_some c → is_some (first_row a b) ≡ is_some (first_row c b)
 rowed_first None b None e = refl
@@ -163,8 +160,8 @@ module _ (rows es now patch : List (ℕ × Option ℕ)) (i : ℕ) (distinct : Is
         )).0)) patch_is
         ∙ insert_at (taken_from (mark_of rows) (take i es)) (drop (i + 1) es) (get_or es i (0, None)).0 (get_or es i (0, None)).1
         (mark_of now (get_or es i (0, None)).0)
-        (none_from (row_of (taken_from (mark_of rows) (take i es)) (get_or es i (0, None)).0) (rowed_taken rows (take i es) (get_or es i
-        (0, None)).0 ∙ ap is_some fresh))
+        (none_where_not_some (row_of (taken_from (mark_of rows) (take i es)) (get_or es i (0, None)).0)
+        (rowed_taken rows (take i es) (get_or es i (0, None)).0 ∙ ap is_some fresh))
         ∙ ap (λ (m : Option ℕ). taken_from (mark_of rows) (take i es) ++ ((get_or es i (0, None)).0, m) ∷ drop (i + 1) es) mark_is
         ∙ sym (ap (λ (l : List (ℕ × Option ℕ)). taken_from (mark_of rows) l ++ drop (i + 1) es) (take_more es i (0, None) lt)
         ∙ ap (λ (l : List (ℕ × Option ℕ)). l ++ drop (i + 1) es) (map_push (λ (x : ℕ × Option ℕ). (x.0, mark_of rows x.0)) (take i es)

@@ -8,11 +8,11 @@ use Rattle.std.proofs.lemmas.Option.{same_Some, none-some}
 use Rattle.std.proofs.lemmas.Bool.{cases_eq, cases_lt}
 use Rattle.std.proofs.lemmas.List.Elements.{Contains-append_left, Contains-append_right, Contains-append_cases, Contains-push, Contains-push_cases, All-weaker, All-cons}
 use Rattle.std.proofs.lemmas.List.Sums.{sum_by-cons, sum_by_push}
+use Rattle.ifmap_lemmas.specs.Distinct.{contains_one, no_member, distinct_cons}
 use Rattle.ifmap_region.specs.Links.{Linked}
 use Rattle.ifmap_region.specs.Marks.{mark_over}
 use Rattle.ifmap_region.specs.Walks.{Walk, goes_on, AreDepths, Expands}
 use Rattle.ifmap_region.specs.Spreading.{queue_at, IsBound, IsReady, IsReadyBut, IsFalling, IsLowered, Enqueues, Improves, IsSet, IsCharged}
-use Rattle.ifmap_region.specs.Distinct.{contains_one, no_member, distinct_cons}
 use Rattle.ifmap_region.proofs.Ready.{depths_ready, charged_start, charged_later}
 
 module _ (level v : ℕ) where

@@ -7,7 +7,8 @@ use Rattle.std.proofs.lemmas.List.Elements.{Contains-append_left, Contains-push,
 use Rattle.std.specs.HashSet.{HashSet, contains}
 use Rattle.ifmap_region.specs.declared.flips.Flip.{Flip}
 use Rattle.ifmap_region.specs.Flips.{Joins, IsFlipped, flipped_cases}
-use Rattle.ifmap_region.specs.Hiding.{same_pair, hides}
+use Rattle.ifmap_region.specs.declared.mid.Ends.{Ends}
+use Rattle.ifmap_region.specs.Hiding.{ends, same_ends, hides}
 use Rattle.ifmap_region.specs.Marks.{mark_of, HasMarkedEnd}
 use Rattle.ifmap_region.specs.Seeds.{SeedsAlong}
 
@@ -23,29 +24,29 @@ pub flipped_back : (flips : List Flip) (added : Bool) (v w : ℕ) → IsFlipped 
 flipped_back flips added v w h = (h.0, h.1, h.2, elim h.3 [ inl j ↦ inr j | inr j ↦ inl j ])
 
 -- a pair that came into the set is the one that was put in, or was there
-pub hides_cases : {S : Type 0} (old new : HashSet (ℕ × ℕ) S) (a b v w : ℕ)
-    → ((q : ℕ × ℕ) → contains same_pair new q ≡ cond (same_pair (a, b) q) true (contains same_pair old q))
+pub hides_cases : {S : Type 0} (old new : HashSet Ends S) (a b v w : ℕ)
+    → ((q : Ends) → contains same_ends new q ≡ cond (same_ends (ends a b) q) true (contains same_ends old q))
     → hides new v w ≡ true → (hides old v w ≡ true) ⊎ ((a ≡ v) × (b ≡ w))
-hides_cases old new a b v w put h = by (same_pair (a, b) (v, w)) refl
+hides_cases old new a b v w put h = by (same_ends (ends a b) (ends v w)) refl
   where
-    by : (t : Bool) → same_pair (a, b) (v, w) ≡ t → (hides old v w ≡ true) ⊎ ((a ≡ v) × (b ≡ w))
+    by : (t : Bool) → same_ends (ends a b) (ends v w) ≡ t → (hides old v w ≡ true) ⊎ ((a ≡ v) × (b ≡ w))
     by true e = let p = and_parts (nat_eq a v) (nat_eq b w) e in inr (eqb-true a v p.0, eqb-true b w p.1)
-    by false e = inl (sym (put (v, w) ∙ ap (λ (t : Bool). cond t true (hides old v w)) e) ∙ h)
+    by false e = inl (sym (put (ends v w) ∙ ap (λ (t : Bool). cond t true (hides old v w)) e) ∙ h)
 
-pub hides_kept : {S : Type 0} (old new : HashSet (ℕ × ℕ) S) (a b v w : ℕ)
-    → ((q : ℕ × ℕ) → contains same_pair new q ≡ cond (same_pair (a, b) q) true (contains same_pair old q))
+pub hides_kept : {S : Type 0} (old new : HashSet Ends S) (a b v w : ℕ)
+    → ((q : Ends) → contains same_ends new q ≡ cond (same_ends (ends a b) q) true (contains same_ends old q))
     → hides old v w ≡ true → hides new v w ≡ true
-hides_kept old new a b v w put h = put (v, w) ∙ by (same_pair (a, b) (v, w))
+hides_kept old new a b v w put h = put (ends v w) ∙ by (same_ends (ends a b) (ends v w))
   where
     by : (t : Bool) → cond t true (hides old v w) ≡ true
     by true = refl
     by false = h
 
-pub hides_here : {S : Type 0} (old new : HashSet (ℕ × ℕ) S) (a b v w : ℕ)
-    → ((q : ℕ × ℕ) → contains same_pair new q ≡ cond (same_pair (a, b) q) true (contains same_pair old q))
+pub hides_here : {S : Type 0} (old new : HashSet Ends S) (a b v w : ℕ)
+    → ((q : Ends) → contains same_ends new q ≡ cond (same_ends (ends a b) q) true (contains same_ends old q))
     → a ≡ v → b ≡ w → hides new v w ≡ true
 hides_here old new a b v w put e f =
-    put (v, w) ∙ ap (λ (t : Bool). cond t true (hides old v w)) (and_from (nat_eq a v) (nat_eq b w) (eq-eqb a v e) (eq-eqb b w f))
+    put (ends v w) ∙ ap (λ (t : Bool). cond t true (hides old v w)) (and_from (nat_eq a v) (nat_eq b w) (eq-eqb a v e) (eq-eqb b w f))
 
 -- pairs that have an end with a mark
 module _ (marks : List (ℕ × Option ℕ)) where
@@ -59,9 +60,9 @@ module _ (marks : List (ℕ × Option ℕ)) where
   marked_turned v w h = elim h [ inl m ↦ inr m | inr m ↦ inl m ]
 
 -- where each pair was there both ways round, it is after one that is put in both ways round
-pub turned_both : {S : Type 0} (old mid new : HashSet (ℕ × ℕ) S) (a b : ℕ)
-    → ((q : ℕ × ℕ) → contains same_pair mid q ≡ cond (same_pair (a, b) q) true (contains same_pair old q))
-    → ((q : ℕ × ℕ) → contains same_pair new q ≡ cond (same_pair (b, a) q) true (contains same_pair mid q))
+pub turned_both : {S : Type 0} (old mid new : HashSet Ends S) (a b : ℕ)
+    → ((q : Ends) → contains same_ends mid q ≡ cond (same_ends (ends a b) q) true (contains same_ends old q))
+    → ((q : Ends) → contains same_ends new q ≡ cond (same_ends (ends b a) q) true (contains same_ends mid q))
     → ((v w : ℕ) → hides old v w ≡ true → hides old w v ≡ true) → (v w : ℕ) → hides new v w ≡ true → hides new w v ≡ true
 turned_both old mid new a b first second turned v w h = elim (hides_cases mid new b a v w second h) [
   | inl before ↦ elim (hides_cases old mid a b v w first before) [

@@ -3,11 +3,11 @@ use Rattle.std.proofs.Common.{◌≡◌, ℕ, suc, ◌≤◌, Bool, Option, Some
 use Rattle.std.proofs.lemmas.Option.{none-some}
 use Rattle.std.proofs.lemmas.List.Elements.{All-weaker, All-nil}
 use Rattle.std.specs.List.{IsDistinct}
+use Rattle.ifmap_lemmas.specs.Distinct.{contains_one}
 use Rattle.ifmap_region.specs.Bounds.{IsWithin}
 use Rattle.ifmap_region.specs.Walks.{Walk, begins, AreDepths, IsReached, Expands}
 use Rattle.ifmap_region.proofs.Depths.{depths_from}
 use Rattle.ifmap_region.specs.Spreading.{IsReady, Improves, IsSet, IsCharged}
-use Rattle.ifmap_region.specs.Distinct.{contains_one}
 
 module _ (links : ℕ → ℕ → Type 0) (terminal : ℕ → Bool) (start top : ℕ) where
   -- nothing waits any more

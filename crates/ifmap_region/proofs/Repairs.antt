@@ -7,6 +7,7 @@ use Rattle.std.specs.HashSet.{HashSet}
 use Rattle.ifmap_region.specs.declared.flips.Flip.{Flip}
 use Rattle.ifmap_region.specs.Bounds.{IsWithin, within_wider, within_heavier, within_more, within_both}
 use Rattle.ifmap_region.specs.Flips.{IsFlipped, WithRemoved, Mid, Old}
+use Rattle.ifmap_region.specs.declared.mid.Ends.{Ends}
 use Rattle.ifmap_region.specs.Hiding.{hides, unless_hidden}
 use Rattle.ifmap_region.specs.Links.{Linked, IsSymmetric}
 use Rattle.ifmap_region.specs.Losing.{IsBeforeCut}
@@ -67,7 +68,7 @@ module _ (new : ℕ → ℕ → Type 0) (terminal : ℕ → Bool) (flips : List 
   near_grown v (beside {u = u} t l) = beside (λ same. t same.1) (elim l [ inl m ↦ inl (inl m) | inr n ↦ inr n ])
 
 -- the links of a graph where some of the added ones are hidden: of those that are not, no end has a mark
-module _ {S : Type 0} (count : ℕ → ℕ) (link : ℕ → ℕ → Option ℕ) (hidden : HashSet (ℕ × ℕ) S) where
+module _ {S : Type 0} (count : ℕ → ℕ) (link : ℕ → ℕ → Option ℕ) (hidden : HashSet Ends S) where
   shown_parts : (v w : ℕ) → Linked count (λ v i. unless_hidden hidden v (link v i)) v w → Linked count link v w × (hides hidden v w ≡ false)
   shown_parts v w l = by (link v l.0) refl l.2
     where

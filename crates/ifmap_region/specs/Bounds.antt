@@ -4,7 +4,7 @@ use Rattle.std.proofs.Common.{arith}
 use Rattle.std.proofs.Math.Nat.{mul-le-mul_left, mul-le-mul_right}
 use Rattle.std.specs.List.{IsDistinct}
 use Rattle.std.proofs.lemmas.List.Elements.{All-weaker, All-contains, All-nil}
-use Rattle.ifmap_region.specs.Distinct.{joined_distinct, sum_within, sum_heavier}
+use Rattle.ifmap_lemmas.specs.Distinct.{joined_distinct, sum_within, sum_heavier}
 
 -- the steps rose by at most so many times the sum of a weight over some distinct numbers, all of which are in the set
 pub record IsWithin (weight : ℕ → ℕ) (Among : ℕ → Type 0) (times before after : ℕ) : Type 0 where

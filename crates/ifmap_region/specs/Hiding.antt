@@ -1,15 +1,21 @@
--- Links that are hidden by the pairs of their ends.
+-- Links that are hidden by their ends.
 use Rattle.std.specs.Prelude.{ℕ, Bool, ◌&&◌, nat_eq, Option, Some, None, if◌then◌else◌}
 use Rattle.std.specs.HashSet.{HashSet, contains}
+use Rattle.ifmap_region.specs.declared.mid.Ends.{Ends}
 
-abbrev pub same_pair : ℕ × ℕ → ℕ × ℕ → Bool
-same_pair p q = nat_eq p.0 q.0 && nat_eq p.1 q.1
+-- the same ends, the same way round
+abbrev pub same_ends : Ends → Ends → Bool
+same_ends p q = nat_eq p.from q.from && nat_eq p.to q.to
 
--- the set has the pair
-abbrev pub hides : {S : Type 0} → HashSet (ℕ × ℕ) S → ℕ → ℕ → Bool
-hides hidden v w = contains same_pair hidden (v, w)
+-- the ends of the link from v to w
+abbrev pub ends : ℕ → ℕ → Ends
+ends v w = record { from = v; to = w }
+
+-- the set has the ends of the link from v to w
+abbrev pub hides : {S : Type 0} → HashSet Ends S → ℕ → ℕ → Bool
+hides hidden v w = contains same_ends hidden (ends v w)
 
 -- the end of a link of v, where the link is not hidden
-abbrev pub unless_hidden : {S : Type 0} → HashSet (ℕ × ℕ) S → ℕ → Option ℕ → Option ℕ
+abbrev pub unless_hidden : {S : Type 0} → HashSet Ends S → ℕ → Option ℕ → Option ℕ
 unless_hidden hidden v None = None
 unless_hidden hidden v (Some w) = if hides hidden v w then None else Some w

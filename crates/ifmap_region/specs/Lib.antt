@@ -1,5 +1,4 @@
 pub mod Bounds
-pub mod Distinct
 pub mod Flips
 pub mod Hiding
 pub mod Layers

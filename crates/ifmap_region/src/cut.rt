@@ -5,6 +5,7 @@ ghost use Rattle.ifmap_region.specs.Losing.{Reseeds};
 
 use crate::bases::Basis;
 use crate::flips::Flip;
+use crate::levels::Seed;
 use crate::link_source::LinkSource;
 use crate::lose::{Losses, lose};
 use crate::rows::MarkRows;
@@ -60,7 +61,7 @@ fn reseed<G: LinkSource, L: Ledger>(
     rows: &MarkRows,
     gone: &[u64],
     steps: &mut Steps<L>,
-) -> Result<Vec<(u32, u64)>, NoMemory>
+) -> Result<Vec<Seed>, NoMemory>
     ensures seeds { let layer = layer_of G.count G.link G.terminal basis.now rows.now.entries in
         IfOk result (λ seeds. Reseeds (links layer) layer.terminal layer.top (marks layer) gone.now
         seeds.items) }

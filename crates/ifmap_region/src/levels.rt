@@ -3,10 +3,27 @@ ghost use Rattle.std.specs.Prelude.{◌≡◌, ℕ, ◌<◌, ◌≤◌, ◌^◌,
 
 use std::marker::Model;
 
+// A number, and the level at which it is looked at first.
+#[derive(Clone, Copy)]
+pub(crate) struct Seed {
+    pub(crate) level: u32,
+    pub(crate) number: u64,
+}
+
+impl Model for Seed {
+    ghost use Rattle.std.specs.Prelude.{ℕ};
+
+    ghost Value = { ℕ × ℕ };
+
+    ghost view = { λ s. (s.level, s.number) };
+
+    ghost inverse = { λ p. record { level = p.0; number = p.1 } };
+}
+
 // Numbers that wait, each at a level, rising by level.
 #[derive(Drop)]
 pub(crate) struct Seeds {
-    items: Vec<(u32, u64)>,
+    items: Vec<Seed>,
     // those before it are out
     taken: usize,
 }
@@ -25,11 +42,11 @@ impl Model for Seeds {
 
 impl Seeds {
     // These seeds, in order of their levels.
-    pub(crate) fn sort_seeds(mut items: Vec<(u32, u64)>) -> Seeds
+    pub(crate) fn sort_seeds(mut items: Vec<Seed>) -> Seeds
         ensures kept { (s : ℕ × ℕ) → Contains items.items s → Contains result s }
         ensures only { (s : ℕ × ℕ) → Contains result s → Contains items.items s }
     {
-        items.sort_unstable_by_key(|s| s.0);
+        items.sort_unstable_by_key(|s| s.level);
         Seeds { items, taken: 0 }
     }
 
@@ -41,7 +58,7 @@ impl Seeds {
             → floor ≤ level) }
     {
         if self.taken < self.items.len() {
-            Some(self.items[self.taken].0)
+            Some(self.items[self.taken].level)
         } else {
             None
         }
@@ -54,8 +71,8 @@ impl Seeds {
         ensures above { IfNone result (All (λ s. level ≤ s.0) self.old
             → All (λ s. level < s.0) self.old) }
     {
-        if self.taken < self.items.len() && self.items[self.taken].0 == level {
-            let number = self.items[self.taken].1;
+        if self.taken < self.items.len() && self.items[self.taken].level == level {
+            let number = self.items[self.taken].number;
             self.taken += 1;
             Some(number)
         } else {

@@ -6,7 +6,7 @@ ghost use Rattle.ifmap_region.specs.Losing.{Awaits};
 ghost use Rattle.ifmap_region.specs.Seeds.{SeedsAlong};
 
 use crate::bases::Basis;
-use crate::levels::{Seeds, least_level};
+use crate::levels::{Seed, Seeds, least_level};
 use crate::link_source::LinkSource;
 use crate::rows::{MarkRows, has_row, is_mark, mark, mark_in, put};
 use ifmap_steps::Steps;
@@ -220,7 +220,7 @@ fn queue_seeds(
 pub(crate) fn lose<G: LinkSource, L: Ledger>(
     alloc: Global,
     basis: &Basis<'_, G>,
-    seeds: Vec<(u32, u64)>,
+    seeds: Vec<Seed>,
     steps: &mut Steps<L>,
 ) -> Result<Losses, NoMemory>
     ensures keeps { let layer = layer_of G.count G.link G.terminal basis.now in

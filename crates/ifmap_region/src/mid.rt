@@ -2,7 +2,7 @@
 ghost use Rattle.std.specs.Prelude.{◌≡◌, ℕ, Some, true, false, IfOk, OnOk, Contains};
 ghost use Rattle.std.specs.HashSet.{contains};
 ghost use Rattle.ifmap_region.specs.Flips.{Joins, IsFlipped};
-ghost use Rattle.ifmap_region.specs.Hiding.{hides, same_pair, unless_hidden};
+ghost use Rattle.ifmap_region.specs.Hiding.{hides, same_ends, unless_hidden};
 ghost use Rattle.ifmap_region.specs.Marks.{mark_of, HasMarkedEnd};
 
 use crate::flips::Flip;
@@ -13,11 +13,18 @@ use std::alloc::{AllocError as NoMemory, Global};
 use std::collections::HashSet;
 use std::sync::ledger::Ledger;
 
+// The ends of a link, as one goes along it.
+#[derive(Clone, Copy, PartialEq, Eq, Hash)]
+pub(crate) struct Ends {
+    pub(crate) from: u64,
+    pub(crate) to: u64,
+}
+
 // The links of a graph without some, each of which is named both ways round.
 #[derive(Drop)]
 pub(crate) struct Mid<'a, G> {
     pub(crate) graph: &'a G,
-    pub(crate) hidden: HashSet<(u64, u64)>,
+    pub(crate) hidden: HashSet<Ends>,
 }
 
 // Whether the flip is an added link that may be met from a number with a mark.
@@ -36,7 +43,7 @@ pub(crate) fn near_pairs(
     alloc: Global,
     marks: &MarkRows,
     flips: &[Flip],
-) -> Result<HashSet<(u64, u64)>, NoMemory>
+) -> Result<HashSet<Ends>, NoMemory>
     ensures only { IfOk result (λ pairs. (v w : ℕ) → hides pairs v w ≡ true
         → IsFlipped flips.now true v w) }
     ensures near { IfOk result (λ pairs. (v w : ℕ) → hides pairs v w ≡ true
@@ -49,8 +56,14 @@ pub(crate) fn near_pairs(
     let mut pairs = HashSet::new(alloc);
     for flip in flips {
         if is_near(marks, flip) {
-            pairs.insert((flip.a, flip.b))?;
-            pairs.insert((flip.b, flip.a))?;
+            pairs.insert(Ends {
+                from: flip.a,
+                to: flip.b,
+            })?;
+            pairs.insert(Ends {
+                from: flip.b,
+                to: flip.a,
+            })?;
         }
     }
     Ok(pairs)
@@ -70,7 +83,11 @@ impl<'a, G: LinkSource> LinkSource for Mid<'a, G> {
     fn at<L: Ledger>(&self, number: u64, i: u64, steps: &mut Steps<L>) -> Option<u64> {
         match self.graph.at(number, i, steps) {
             Some(other) => {
-                if self.hidden.contains(&(number, other)) {
+                let ends = Ends {
+                    from: number,
+                    to: other,
+                };
+                if self.hidden.contains(&ends) {
                     None
                 } else {
                     Some(other)

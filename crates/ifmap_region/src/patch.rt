@@ -1,5 +1,5 @@
 //! Changes of marks that wait to be made, and the ways back.
-ghost use Rattle.std.specs.Prelude.{◌≡◌, ◌≢◌, ℕ, Option, Some, true, false, ◌↔◌, IsTrue, IfOk, IfSome, length, slice_get, nat_eq};
+ghost use Rattle.std.specs.Prelude.{◌≡◌, ◌≢◌, ℕ, ◌≤◌, Option, Some, true, false, ◌↔◌, IsTrue, IfOk, IfSome, IfNone, length, slice_get, nat_eq};
 ghost use Rattle.std.specs.List.{IsDistinct};
 ghost use Rattle.std.specs.Map.{keys_of};
 ghost use Rattle.ifmap_region.specs.Marks.{mark_of, row_of};
@@ -8,6 +8,15 @@ use crate::rows::{MarkRows, mark_in, put};
 use indexmap::IndexMap;
 use std::alloc::{AllocError as NoMemory, Global};
 use std::marker::Model;
+
+/// A number whose mark comes, goes or changes.
+#[derive(Clone, Copy, Debug, PartialEq, Eq)]
+pub struct MarkChange {
+    /// The number.
+    pub number: u64,
+    /// Its new mark; `None` where the mark goes.
+    pub mark: Option<u32>,
+}
 
 /// A change of the marks of a region: the new mark of each number whose mark comes or changes, and
 /// none for each number whose mark goes.
@@ -40,13 +49,18 @@ impl Patch {
         self.rows.len() == 0
     }
 
-    /// The number at a place, with its new mark; `None` past the end.
-    pub fn at(&self, i: usize) -> Option<(u64, Option<u32>)>
-        ensures at { result ≡ slice_get self.now i }
-        ensures row { IfSome result (λ entry. row_of self.now entry.0 ≡ Some entry.1) }
+    /// The change at a place; `None` past the end.
+    pub fn at(&self, i: usize) -> Option<MarkChange>
+        ensures at { IfSome result (λ change. slice_get self.now i
+            ≡ Some (change.number, change.mark)) }
+        ensures row { IfSome result (λ change. row_of self.now change.number ≡ Some change.mark) }
+        ensures end { IfNone result (length self.now ≤ i) }
     {
         match self.rows.get_index(i) {
-            Some((number, row)) => Some((*number, *row)),
+            Some((number, row)) => Some(MarkChange {
+                number: *number,
+                mark: *row,
+            }),
             None => None,
         }
     }

@@ -7,6 +7,7 @@ ghost use Rattle.ifmap_region.specs.Walks.{AreDepths, IsReached};
 ghost use Rattle.ifmap_region.specs.Ways.{HasRoom, HasSpare, OnlyRoom, Makes, Sweeps, IsWayBack, taken_from};
 
 use crate::bases::Basis;
+use crate::levels::Seed;
 use crate::link_source::LinkSource;
 use crate::patch::{Patch, RegionUndo};
 use crate::rows::mark_in;
@@ -58,7 +59,10 @@ pub fn build<G: LinkSource, L: Ledger>(
     let unmarked = IndexMap::new(alloc);
     let mut marks = IndexMap::new(alloc);
     let mut seeds = Vec::new(alloc);
-    seeds.push((0, start))?;
+    seeds.push(Seed {
+        level: 0,
+        number: start,
+    })?;
     let basis = Basis {
         base: &unmarked,
         top: max_depth,

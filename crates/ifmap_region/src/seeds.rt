@@ -5,6 +5,7 @@ ghost use Rattle.ifmap_region.specs.Seeds.{SeedsAlong};
 
 use crate::bases::Basis;
 use crate::flips::Flip;
+use crate::levels::Seed;
 use crate::link_source::LinkSource;
 use crate::rows::{MarkRows, is_mark, is_within, mark};
 use std::alloc::{AllocError as NoMemory, Global};
@@ -76,16 +77,12 @@ fn lowered_to<G: LinkSource>(
 }
 
 // Puts a seed in, where there is a level.
-pub(crate) fn offer(
-    seeds: &mut Vec<(u32, u64)>,
-    level: Option<u32>,
-    number: u64,
-) -> Result<(), NoMemory>
+pub(crate) fn offer(seeds: &mut Vec<Seed>, level: Option<u32>, number: u64) -> Result<(), NoMemory>
     ensures { OnOk result (MatchOption level (seeds.new.items ≡ seeds.old.items)
         (λ k. seeds.new.items ≡ seeds.old.items ++ (k, number) ∷ [])) }
 {
     if let Some(level) = level {
-        seeds.push((level, number))?;
+        seeds.push(Seed { level, number })?;
     }
     Ok(())
 }
@@ -96,7 +93,7 @@ pub(crate) fn held_seeds<G: LinkSource>(
     basis: &Basis<'_, G>,
     rows: &MarkRows,
     flips: &[Flip],
-) -> Result<Vec<(u32, u64)>, NoMemory>
+) -> Result<Vec<Seed>, NoMemory>
     ensures { let layer = layer_of G.count G.link G.terminal basis.now rows.now.entries in
         IfOk result (λ seeds. SeedsAlong flips.now false (MayHoldAt layer) seeds.items) }
 {
@@ -118,7 +115,7 @@ pub(crate) fn lowered_seeds<G: LinkSource>(
     basis: &Basis<'_, G>,
     rows: &MarkRows,
     flips: &[Flip],
-) -> Result<Vec<(u32, u64)>, NoMemory>
+) -> Result<Vec<Seed>, NoMemory>
     ensures { let layer = layer_of G.count G.link G.terminal basis.now rows.now.entries in
         IfOk result (λ seeds. SeedsAlong flips.now true (LowersTo layer) seeds.items) }
 {

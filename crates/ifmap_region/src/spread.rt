@@ -6,7 +6,7 @@ ghost use Rattle.ifmap_region.specs.Marks.{mark_of, mark_over, AddsMarks};
 ghost use Rattle.ifmap_region.specs.Spreading.{IsLowered, Enqueues};
 
 use crate::bases::Basis;
-use crate::levels::{Seeds, least_level};
+use crate::levels::{Seed, Seeds, least_level};
 use crate::link_source::LinkSource;
 use crate::rows::{MarkRows, is_within, mark, put};
 use ifmap_steps::Steps;
@@ -161,8 +161,8 @@ fn admit_seeds<G: LinkSource>(
     Ok(())
 }
 
-// Lowers marks until they are the depths: each seed, a level and a number, stands for a walk, and
-// where a walk goes on there is a mark that is low enough, or a seed.
+// Lowers marks until they are the depths: each seed stands for a walk, and where a walk goes on
+// there is a mark that is low enough, or a seed.
 //
 // A number comes into the queue once, when its mark is set, and not once for each link. After want
 // of memory only some marks have fallen.
@@ -170,7 +170,7 @@ pub(crate) fn spread<G: LinkSource, L: Ledger>(
     alloc: Global,
     basis: &Basis<'_, G>,
     rows: &mut MarkRows,
-    seeds: Vec<(u32, u64)>,
+    seeds: Vec<Seed>,
     steps: &mut Steps<L>,
 ) -> Result<(), NoMemory>
     ensures rows { AddsMarks rows.old.entries rows.new.entries }

@@ -65,7 +65,10 @@ fn new_session_result<'a>(
 {
     let attributes = vec![in alloc;
         OutlineAttribute::from_str("ifmap-publisher-id", publisher.as_str()),
-        OutlineAttribute::from_text("max-poll-result-size", Text::from_number(alloc, u64::from(limit))?),
+        OutlineAttribute::from_text(
+            "max-poll-result-size",
+            Text::from_number(alloc, u64::from(limit))?
+        ),
         OutlineAttribute::from_str("session-id", session.as_str()),
     ]?;
     Ok(Outline::with_local("newSessionResult", attributes, Vec::new(alloc)))

@@ -69,7 +69,6 @@ impl WordRow {
     }
 }
 
-// The word of the row's key.
 fn row_word(row: &Row) -> u64
     ensures { result ≡ word_of row.now }
 {

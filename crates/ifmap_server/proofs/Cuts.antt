@@ -21,7 +21,7 @@ use Rattle.ifmap_meta.specs.laws.ClientBytes.{client_is_ascii}
 use Rattle.ifmap_server.specs.declared.headers.Header.{Header}
 use Rattle.ifmap_server.specs.Frames.{IsHeader, word_text}
 use Rattle.ifmap_server.specs.Lines.{AreWords, HasNoSpace, words_line}
-use Rattle.ifmap_server.proofs.Splits.{without_from, without_at, before, after, before_at, after_at}
+use Rattle.ifmap_lemmas.specs.Splits.{without_from, without_at, before, after, before_at, after_at}
 use Rattle.ifmap_server.proofs.HeaderLines.{line_text, line_of, joined_right, decimal_without, word_without, word_parses, client_without}
 
 -- ---- a line as words

@@ -2,13 +2,15 @@
 -- Where a frame begins, the line that is there is that of its header (`line_place`, `its_header`), so it ends where the
 -- header says. From this: no frame begins where no line is, where the line is no header, where the frame is too long or cut;
 -- a whole one does where its bytes are there (`whole`). At the end: what is told of a fault, and which reads are due.
-use Rattle.std.proofs.Common.{◌≡◌, ◌≢◌, ℕ, suc, ◌+◌, ◌-◌, ◌<◌, ◌≤◌, List, [], ◌∷◌, ◌++◌, length, length-append, get_or, take, drop, replicate, Option, None, Some, IfSome, Err, inl, inr, arith, append-nil, append_assoc, refl, sym, ap, subst, ◌∙◌, add-one, take-append-drop}
+use Rattle.std.proofs.Common.{◌≡◌, ◌≢◌, ℕ, suc, ◌+◌, ◌-◌, ◌<◌, ◌≤◌, List, [], ◌∷◌, ◌++◌, length, length-append, get_or, take, drop, replicate, Option, None, Some, IfSome, Err, inl, inr, arith, append-nil, append_assoc, refl, sym, ap, subst, ◌∙◌}
 use Rattle.std.proofs.lemmas.Bool.{cases_lt}
 use Rattle.std.proofs.lemmas.List.{get_or_append_left, take-append-le}
 use Rattle.std.proofs.lemmas.List.{drop_all, length-drop, length-replicate, length-take-le}
-use Rattle.std.proofs.Math.Seq.{drop-cons, drop-drop, get_or-append_seam, take-append_seam}
+use Rattle.std.proofs.Math.Seq.{get_or-append_seam, take-append_seam}
 use Rattle.std.specs.Io.KnownBytes.{IsAtEnd}
 use Rattle.std.specs.Prelude.{slice_range}
+use Rattle.ifmap_lemmas.specs.Joined.{cut_at_member, long_in_front, some_in_front, none_at_end}
+use Rattle.std.proofs.lemmas.List.Folds.{drop_split}
 use Rattle.ifmap_input.specs.Inputs.{TakesFromSource}
 use Rattle.ifmap_input.specs.Scripts.{longest_script}
 use Rattle.ifmap_requests.specs.declared.errors.Refusal.TheVariants.{Unreadable}
@@ -120,18 +122,6 @@ line_more bytes more place is =
 
 -- ---- the frame
 
-cut_at : (bytes : List ℕ) (place : ℕ) → place < length bytes → get_or bytes place 0 ≡ 10
-    → bytes ≡ take place bytes ++ 10 ∷ drop (place + 1) bytes
-cut_at bytes place within is =
-    rw add-one (sym (take-append-drop place bytes) ∙ ap (λ (b : List ℕ). take place bytes ++ b) (drop-cons bytes place 0 within ∙ ap
-    (λ (c : ℕ). c ∷ drop (suc place) bytes) is))
-
-cut_body : (bytes : List ℕ) (start end : ℕ) → start ≤ end → drop start bytes ≡ slice_range bytes start end ++ drop end bytes
-cut_body bytes start end order =
-    let e : start + (end - start) ≡ end = omega arith in
-    sym (take-append-drop (end - start) (drop start bytes)) ∙ ap
-    (λ (b : List ℕ). take (end - start) (drop start bytes) ++ b) (drop-drop (end - start) start bytes ∙ ap (λ (n : ℕ). drop n bytes) e)
-
 -- any meaning
 abbrev unread : Meaning
 unread = Err Unreadable
@@ -148,8 +138,8 @@ framed offset bytes place there is header start end within ends =
     let left = length-drop there.start bytes in
     let size : length body ≡ h.size = length-take-le (there.end - there.start) (drop there.start bytes) (omega arith) ∙ omega arith in
     let text : bytes ≡ take place bytes ++ 10 ∷ (body ++ drop there.end bytes) =
-    cut_at bytes place early is.there ∙ ap (λ (b : List ℕ). take place bytes ++ 10 ∷ b) (ap
-    (λ (n : ℕ). drop n bytes) (sym start) ∙ cut_body bytes there.start there.end (omega arith)) in
+    cut_at_member bytes place 0 10 early is.there ∙ ap (λ (b : List ℕ). take place bytes ++ 10 ∷ b) (ap
+    (λ (n : ℕ). drop n bytes) (sym start) ∙ drop_split bytes there.start there.end (omega arith)) in
     let frame : Frame = frame_within there bytes unread in
     let same : header_of_frame frame ≡ h =
     ap (λ (n : ℕ). record { moment = h.moment; client = h.client; random = h.random; size = n }) size in
@@ -169,19 +159,11 @@ framed offset bytes place there is header start end within ends =
 
 -- ---- what the source has left
 
-not_empty_left : (a b : List ℕ) → 0 < length a → a ++ b ≢ []
-not_empty_left [] b h e = omega arith
-not_empty_left (x ∷ a) b h e = cc
-
-some_byte : (a b : List ℕ) → a ≢ [] → a ++ b ≢ []
-some_byte [] b h e = h refl
-some_byte (x ∷ a) b h e = cc
-
 pub line_fault : (offset : ℕ) (left : Option (List ℕ)) (pending : List ℕ) → IfSome left
     (λ rest. (pending ≢ []) × HasNoLine (pending ++ rest)) → IfSome left
     (λ rest. (pending ++ rest ≢ []) × BeginsNone offset (pending ++ rest))
 line_fault offset None pending h = tt
-line_fault offset (Some rest) pending h = (some_byte pending rest h.0, no_line_none offset (pending ++ rest) h.1)
+line_fault offset (Some rest) pending h = (some_in_front pending rest h.0, no_line_none offset (pending ++ rest) h.1)
 
 pub header_fault : (offset : ℕ) (left : Option (List ℕ)) (pending : List ℕ) (place : ℕ) → IsHeaderLineEnd pending place
     → ((h : Header) → IsHeader (take place pending) h → ⊥) → IfSome left
@@ -189,7 +171,7 @@ pub header_fault : (offset : ℕ) (left : Option (List ℕ)) (pending : List ℕ
 header_fault offset None pending place is none = tt
 header_fault offset (Some rest) pending place is none =
     let within = is.within in
-    (not_empty_left pending rest (omega arith), no_header_none offset pending rest place is none)
+    (long_in_front pending rest (omega arith), no_header_none offset pending rest place is none)
 
 pub long_fault : (offset : ℕ) (left : Option (List ℕ)) (pending : List ℕ) (place : ℕ) (h : Header) → IsHeaderLineEnd pending place
     → IsHeader (take place pending) h → longest_script < offset + (place + 1 + h.size) → IfSome left
@@ -197,7 +179,7 @@ pub long_fault : (offset : ℕ) (left : Option (List ℕ)) (pending : List ℕ) 
 long_fault offset None pending place h is header long = tt
 long_fault offset (Some rest) pending place h is header long =
     let within = is.within in
-    (not_empty_left pending rest (omega arith), too_long_none offset pending rest place h is header long)
+    (long_in_front pending rest (omega arith), too_long_none offset pending rest place h is header long)
 
 module _ (offset : ℕ) (left_old left : Option (List ℕ)) (mid new : List ℕ) (place : ℕ) (h : Header)
     (took : TakesFromSource left_old left mid new)
@@ -215,7 +197,7 @@ module _ (offset : ℕ) (left_old left : Option (List ℕ)) (mid new : List ℕ)
       let same : new ++ rest ≡ new = ap (λ (b : List ℕ). new ++ b) end ∙ append-nil new in
       let e = ap length took.grown in
       let m = length-append mid took.got in
-      (not_empty_left new rest (omega arith), subst (BeginsNone offset) (sym same) (short_none short))
+      (long_in_front new rest (omega arith), subst (BeginsNone offset) (sym same) (short_none short))
 
   pub whole : place + 1 + h.size ≤ length new → offset + (place + 1 + h.size) ≤ longest_script
       → IsFramed offset new (record { header = h; start = place + 1; end = place + 1 + h.size })
@@ -259,10 +241,6 @@ module _ (offset : ℕ) (left_old left : Option (List ℕ)) (mid new : List ℕ)
             (w.begins unread);
       }
 
-nil_right : (a b : List ℕ) → a ++ b ≡ [] → b ≡ []
-nil_right [] b e = e
-nil_right (x ∷ a) b e = cc
-
 -- where a read is due, no frame begins yet
 pub awaited_none : (offset : ℕ) (bytes : List ℕ) → IsAwaited offset bytes → BeginsNone offset bytes
 awaited_none offset bytes (inl line) = no_line_none offset bytes line.none
@@ -273,4 +251,4 @@ awaited_none offset bytes (inr body) = λ f rest b.
       ends = b.ends;
     } in
     let alike = begins_alike offset (bytes ++ body.more) f body.frame (rest ++ body.more) [] on body.begins in
-    body.some (nil_right rest body.more alike.rests)
+    body.some (none_at_end rest body.more alike.rests)

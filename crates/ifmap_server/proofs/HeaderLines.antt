@@ -18,7 +18,7 @@ use Rattle.ifmap_io.specs.Calendar.{last_moment}
 use Rattle.ifmap_meta.specs.ClientNames.{IsClientName, is_client_byte}
 use Rattle.ifmap_server.specs.declared.headers.Header.{Header}
 use Rattle.ifmap_server.specs.Frames.{IsHeader, header_text, longest_body, word_text}
-use Rattle.ifmap_server.proofs.Splits.{Without, without_from, without_at, without_append, before, after, before_at, after_at}
+use Rattle.ifmap_lemmas.specs.Splits.{Without, without_from, without_at, without_append, before, after, before_at, after_at}
 use Rattle.ifmap_lemmas.specs.Decimals.{decimal_model}
 
 -- a header within its limits

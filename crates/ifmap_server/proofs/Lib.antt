@@ -9,4 +9,3 @@ pub mod SameErrors
 pub mod ScriptHistories
 pub mod Scripts
 pub mod SomeScript
-pub mod Splits

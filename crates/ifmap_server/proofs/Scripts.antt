@@ -11,7 +11,7 @@ use Rattle.ifmap_server.specs.declared.headers.Header.{Header}
 use Rattle.ifmap_server.specs.Frames.{Frame, IsFrame, IsHeader, Meaning, frame_text}
 use Rattle.ifmap_server.specs.Script.{BeginsFrame, IsScriptFrom}
 use Rattle.ifmap_server.specs.Turns.{frame_of}
-use Rattle.ifmap_server.proofs.Splits.{without_at, before, after, before_at, after_at}
+use Rattle.ifmap_lemmas.specs.Splits.{without_at, before, after, before_at, after_at}
 use Rattle.ifmap_server.proofs.HeaderLines.{IsWithin, line_text, line_of, line_length, line_without, is_header, header_of_line_one, read_line}
 
 -- the header of a frame

@@ -16,7 +16,7 @@ use Rattle.ifmap_server.specs.Output.{IsOutput, answers, fault_line}
 use Rattle.ifmap_server.specs.Script.{BeginsFrame, IsScript, IsScriptFrom}
 use Rattle.ifmap_server.specs.Turns.{frame_of}
 use Rattle.ifmap_server.proofs.Scripts.{begins_shorter, header_of_frame, read_header, reads}
-use Rattle.ifmap_server.proofs.Splits.{after}
+use Rattle.ifmap_lemmas.specs.Splits.{after}
 
 -- ---- whether a frame begins
 

@@ -78,7 +78,7 @@ fn an_element_put_again_in_the_same_second_is_not_told(rt: HostRuntime) -> Resul
     expect_exchanges(&rt, &SAME_SECOND)
 }
 
-// Three links in a cycle behind the one that is deleted.
+// Three links in a cycle after the one that is deleted.
 static CYCLE: [Exchange; 6] = [
     (T, "c1", BEGIN, FIRST_BEGUN),
     (

@@ -108,7 +108,6 @@ fn hand_out<D, G>(
 trait Shared {
     ghost hall: { Self → ServerHall };
 
-    // The hall.
     fn hall(&self) -> &Hall<CoreMachine>
         ensures { result.now ≡ hall self.now };
 }

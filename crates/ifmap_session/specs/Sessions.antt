@@ -1,11 +1,12 @@
 -- Live sessions, and what each call makes of their list (IF-MAP binding for SOAP 2.2, sessions: newSession, renewSession and
 -- endSession, and what poll hands out).
-use Rattle.std.specs.Prelude.{◌≡◌, ◌≢◌, ◌≤◌, ◌<◌, ℕ, ◌+◌, ◌^◌, ◌==◌, nat_le, Bool, false, List, [], ◌∷◌, ◌++◌, filter, find, length, map, max, min, not, Option, None, Some, IsSome, option_map, unwrap_or, if◌then◌else◌}
+use Rattle.std.specs.Prelude.{◌≡◌, ◌≢◌, ◌≤◌, ◌<◌, ℕ, ◌+◌, ◌^◌, ◌==◌, nat_le, Bool, false, List, [], ◌∷◌, ◌++◌, filter, find, length, map, not, Option, None, Some, IsSome, option_map, unwrap_or, if◌then◌else◌}
 use Rattle.std.specs.Cmp.Lexicographic.{pointwise}
 use Rattle.std.specs.List.{AllByRecursion, IsDistinct, list_any}
 use Rattle.std.specs.List.Sorted.{IsStrictlySortedBy}
 use Rattle.std.specs.Ordering.{nat_cmp, on}
 use Rattle.std.specs.declared.cmp.Ordering.{Ordering}
+use Rattle.ifmap_forms.specs.Values.{greatest_limit, least_limit, within_range}
 use Rattle.ifmap_search.specs.declared.results.PollItem.{PollItem}
 use Rattle.ifmap_search.specs.declared.results.PollItem.TheVariants as the_item
 use Rattle.ifmap_session.specs.SessionIds.{BeginsWithSerial}
@@ -159,15 +160,8 @@ is_expired moment ttl s = nat_le (s.last + ttl) moment
 abbrev pub expired_serials : ℕ → ℕ → List Session → List ℕ
 expired_serials moment ttl sessions = map (λ s. s.serial) (filter (is_expired moment ttl) sessions)
 
--- the range of the limit of a queue in bytes
-abbrev pub least_limit : ℕ
-least_limit = 10_000
-
-abbrev pub greatest_limit : ℕ
-greatest_limit = 5_000_000
-
--- the limit of a queue in bytes (max-poll-result-size of newSession): what is asked for, put into this range; the greatest where
--- nothing is asked for
+-- the limit of a queue in bytes (max-poll-result-size of newSession): what is asked for, put into the range of such limits; the
+-- greatest where nothing is asked for
 abbrev pub limit_of : Option ℕ → ℕ
 limit_of None = greatest_limit
-limit_of (Some asked) = max least_limit (min asked greatest_limit)
+limit_of (Some asked) = within_range least_limit greatest_limit asked

@@ -2,10 +2,7 @@
 ghost use Rattle.std.specs.Prelude.{◌≡◌};
 ghost use Rattle.ifmap_session.specs.Sessions.{limit_of};
 
-// The range of the limit of a queue in bytes.
-const LEAST_LIMIT: u32 = 10_000;
-
-const GREATEST_LIMIT: u32 = 5_000_000;
+use ifmap_forms::values::{GREATEST_LIMIT, LEAST_LIMIT};
 
 /// What the size of a session's queue may be in bytes, as `Sessions::queue_size` counts them, where
 /// a client asks for so many: no fewer than 10,000 and no more than 5,000,000, and 5,000,000 where

@@ -183,7 +183,6 @@ pub fn widen(
     Ok(Wide { width, stamps })
 }
 
-// Drops the empty rows.
 fn drop_empty(rows: &mut Vec<SessionRow>)
     ensures items { rows.new.items ≡ filter (λ row. is_some row.kept) rows.old.items }
     ensures len { vec_len rows.new ≤ vec_len rows.old }
@@ -254,7 +253,6 @@ fn serials_of(
     Ok(serials)
 }
 
-// The serial of a row.
 fn serial_at(rows: &[SessionRow], place: usize) -> u64
     requires { place < length rows.now }
     ensures { result ≡ serial_at rows.now place }

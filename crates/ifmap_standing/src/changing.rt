@@ -220,7 +220,7 @@ fn tell_where<G: View, D: View, L: Ledger>(
     tell_one(alloc, standing, change, steps)
 }
 
-// Tells one.
+// Tells one: it takes the change over, and takes it back where no memory is left for the news.
 fn tell_one<G: View, D: View, L: Ledger>(
     alloc: Global,
     standing: &mut Standing,

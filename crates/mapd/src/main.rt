@@ -68,7 +68,6 @@ where
     exit_code_of(run_words(rt, words.as_slice(), source, sink, progress))
 }
 
-// The exit code of a status.
 fn exit_code_of(status: u8) -> ExitCode
     ensures { exit_status result ≡ status }
 {

@@ -27,6 +27,7 @@ use Rattle.ifmap_elem.specs.laws.NameBytes.{part_is_some}
 use Rattle.ifmap_elem.specs.laws.NamespaceLaws.{among, among-others, is_some-prefix_rows, Rows, Texts}
 use Rattle.ifmap_lemmas.specs.Texts.{eq_tells, eq_itself, is_ascii}
 use Rattle.ifmap_lemmas.specs.Members.{all_of_test}
+use Rattle.ifmap_lemmas.specs.Absent.{none_where_not_some}
 use Rattle.ifmap_elem.specs.laws.PrintedTags.{other_bytes_differ, prefix_or, row_binding, Resolves, FitRow, ascii_part}
 
 -- numbered prefixes
@@ -183,10 +184,6 @@ has_value : (o : Option (List ℕ)) → is_some o ≡ true → (p : List ℕ) ×
 has_value None h = let wrong : false ≡ true = h in cc
 has_value (Some p) h = (p, refl)
 
-pub has_none : (o : Option (List ℕ)) → is_some o ≡ false → o ≡ None
-has_none None h = refl
-has_none (Some p) h = let wrong : true ≡ false = h in cc
-
 xml_part : IsNamePart (codes "xml")
 xml_part =
     ascii_part (byte "x") (codes "ml") refl (all_of_test is_name_character (codes "ml") refl) (all_of_test is_ascii (codes "xml") refl)
@@ -220,7 +217,7 @@ module _ (all : Texts) (more : Scope) (outer : IsOutermost more) where
   no_namespace s is =
       let out : is_declared s ≡ false = ap is_declared is in
       let none : among s (declared_among all) ≡ false = among_once s (filter is_declared all) ∙ among_dropped is_declared s all out in
-      let rows : lookup (bytes_eq s) (numbered_prefix_rows (byte "n") 1 (declared_among all)) ≡ None = has_none _
+      let rows : lookup (bytes_eq s) (numbered_prefix_rows (byte "n") 1 (declared_among all)) ≡ None = none_where_not_some _
       (is_some-prefix_rows (codes "n") 1 s (declared_among all) ∙ none) in
       let xml : bytes_eq s xml_space ≡ false = ap (λ z. bytes_eq z xml_space) is in
       resolves_none its_prefixes its_scope s (rw xml rows) is outermost.default

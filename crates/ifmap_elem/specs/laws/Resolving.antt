@@ -7,11 +7,11 @@ use Rattle.std.specs.Prelude.{◌==◌, codes, filter, Some, None}
 use Rattle.std.specs.List.{list_any, starts_with}
 use Rattle.std.specs.Str.{bytes_eq}
 use Rattle.std.proofs.lemmas.Bool.{cases_Bool}
-use Rattle.std.proofs.lemmas.Bool.Decides.{nat_tests}
 use Rattle.std.proofs.lemmas.List.{append-nil, map-append, reverse-append}
 use Rattle.std.proofs.lemmas.List.Elements.{filter-append}
 use Rattle.ifmap_lemmas.specs.Numbers.{is_other}
 use Rattle.ifmap_lemmas.specs.Texts.{eq_tells}
+use Rattle.ifmap_lemmas.specs.Branches.{number_itself}
 use Rattle.ifmap_elem.specs.declared.elements.Element.{Element}
 use Rattle.ifmap_elem.specs.declared.readings.Declared.{Declared}
 use Rattle.ifmap_elem.specs.declared.readings.Reading.{Reading}
@@ -49,14 +49,11 @@ told_here (b ∷ bs) = ap (λ cs. b ∷ cs) (told_here bs)
 in_child : (i : ℕ) (q : List ℕ) (ds : List Declared) → at (i ∷ q) (map (from_above i) ds) ≡ map (from_above i) (at q ds)
 in_child i q [] = refl
 in_child i q (d ∷ ds) =
-    let first : (i == i) ≡ true = is_same i in
+    let first : (i == i) ≡ true = number_itself i in
     elim (cases_Bool (stands q d)) [
       | inl e ↦ rw (first, e) (ap (λ l. from_above i d ∷ l) (in_child i q ds))
       | inr e ↦ rw (first, e) (in_child i q ds)
     ]
-  where
-    is_same : (i : ℕ) → (i == i) ≡ true
-    is_same i = grind (arith, nat_tests)
 
 in_other : (i j : ℕ) (q : List ℕ) (ds : List Declared) → (j == i) ≡ false → at (i ∷ q) (map (from_above j) ds) ≡ []
 in_other i j q [] e = refl

@@ -1,13 +1,14 @@
 use Rattle.std.proofs.Common.{◌≡◌, ℕ, ◌<◌, ◌+◌, true, List, ◌∷◌, ◌++◌, length, get_or, take, drop, ap, ◌∙◌, arith}
 use Rattle.std.proofs.lemmas.List.{take_all}
+use Rattle.ifmap_lemmas.specs.Joined.{cut_at_place}
 use Rattle.ifmap_heads.specs.Fields.{comma_parts}
-use Rattle.ifmap_heads.proofs.Values.{cut_at, lacks_comma, part_alone, part_at}
+use Rattle.ifmap_heads.proofs.Values.{lacks_comma, part_alone, part_at}
 use Rattle.ifmap_heads.proofs.fields.comma_place.Goals as goal
 
 parts_there : (bytes : List ℕ) (i : ℕ) → i < length bytes → lacks_comma (take i bytes) ≡ true → get_or bytes i 0 ≡ 44
     → comma_parts bytes ≡ take i bytes ∷ comma_parts (drop (i + 1) bytes)
 parts_there bytes i within none here =
-    ap comma_parts (cut_at bytes i within)
+    ap comma_parts (cut_at_place bytes i 0 within)
     ∙ ap (λ (b : ℕ). comma_parts (take i bytes ++ b ∷ drop (i + 1) bytes)) here
     ∙ part_at (take i bytes) (drop (i + 1) bytes) none
 

@@ -1,6 +1,6 @@
 use Rattle.std.proofs.Common.{◌≡◌, ◌∙◌, Bor, Option, None, Some, ap, is_some, not, option_copied, refl, sym}
+use Rattle.ifmap_lemmas.specs.Runs.{not_alone}
 use Rattle.ifmap_ident.specs.Parts.{is_solid}
-use Rattle.ifmap_ident.proofs.FindLaws.{not_alone}
 use Rattle.ifmap_ident.proofs.parts.only_solid_child.Goals as goal
 
 copied_some : {X : Type 0} (o : Option (Bor X)) → is_some (option_copied o) ≡ is_some o

@@ -1,6 +1,7 @@
 use Rattle.std.proofs.Common.{sym, ◌∙◌}
+use Rattle.ifmap_lemmas.specs.Absent.{if_none_weaker}
 use Rattle.ifmap_lexer.proofs.Basics.{is_none, is_some_list}
-use Rattle.ifmap_lexer.proofs.QuoteLaws.{map_some, map_none}
+use Rattle.ifmap_lexer.proofs.QuoteLaws.{map_some}
 use Rattle.ifmap_lexer.proofs.SettingLaws.{not_spaced, not_named, not_given, setting_found}
 use Rattle.ifmap_lexer.proofs.declaration.setting.Goals as goal
 
@@ -24,7 +25,7 @@ returns-clause-found c =
 
 pub returns-clause-none : goal.returns-clause-none
 returns-clause-none c =
-    map_none c.quoted_value.result _ _
+    if_none_weaker c.quoted_value.result _ _
     (λ n. not_given c.args.name.now c.requires c.args.bytes.now c.split_white.result.0.now c.split_white.result.1.now
     c.split_white.ensures c.in-Some.after.now c.in-Some.ensures.found n)
     c.quoted_value.ensures.none

@@ -1,8 +1,8 @@
 use Rattle.ifmap_elem.specs.Chars.{AllAre}
 use Rattle.ifmap_lexer.specs.Cutting.{is_but}
 use Rattle.ifmap_lexer.proofs.QuoteLaws.{not_lacked}
-use Rattle.ifmap_lexer.proofs.SplitLaws.{some_or_not}
 use Rattle.ifmap_lexer.proofs.splitting.has_byte.Goals as goal
+use Rattle.ifmap_lemmas.specs.Absent.{some_or_not}
 
 pub returns-clause-yes : goal.returns-clause-yes
 returns-clause-yes c =

@@ -1,7 +1,7 @@
 use Rattle.ifmap_elem.specs.Tokens.{Lacks}
 use Rattle.ifmap_lexer.proofs.WordLaws.{word_not_lacked}
-use Rattle.ifmap_lexer.proofs.SplitLaws.{some_or_not}
 use Rattle.ifmap_lexer.proofs.splitting.has_word.Goals as goal
+use Rattle.ifmap_lemmas.specs.Absent.{some_or_not}
 
 pub returns-clause-yes : goal.returns-clause-yes
 returns-clause-yes c =

@@ -1,7 +1,8 @@
 use Rattle.std.proofs.Common.{[], ◌∷◌, string_bytes}
+use Rattle.ifmap_lemmas.specs.Joined.{joined_more, whole_on_ok}
 use Rattle.ifmap_elem.specs.Values.{Plain}
 use Rattle.ifmap_lexer.specs.Runs.{break_in, line_in, part_in}
-use Rattle.ifmap_lexer.proofs.RunLaws.{break_step, break_end, two_more, last_line}
+use Rattle.ifmap_lexer.proofs.RunLaws.{break_step, break_end}
 use Rattle.ifmap_lexer.proofs.values.push_run.Goals as goal
 
 pub loop-line-preserved : goal.loop-line-preserved
@@ -11,7 +12,7 @@ loop-line-preserved c =
     let rest = c.loop-line.rest.now in
     let later = c.after_newline-rest.result.now in (
       c.after_newline-rest.utf8,
-      two_more _ (string_bytes c.loop-line.text) (string_bytes c.push_line.new.out) (part_in place (Plain rest))
+      joined_more _ (string_bytes c.loop-line.text) (string_bytes c.push_line.new.out) (part_in place (Plain rest))
           (string_bytes c.push_break.new.text) (line_in place c.in-Some.line.now) (break_in place ∷ []) inv.1
           c.in_ok-push_line.ensures c.in_ok-push_break.ensures (part_in place (Plain later))
           (break_step place rest c.in-Some.line.now c.in-Some.after.now later c.in-Some.ensures.found
@@ -22,6 +23,6 @@ pub returns : goal.returns
 returns c =
     let place = c.args.place in
     let rest = c.loop-line.rest.now in
-    last_line c.push_line-2.result _ (string_bytes c.loop-line.text) (part_in place (Plain rest)) (string_bytes c.push_line-2.new.out)
+    whole_on_ok c.push_line-2.result _ (string_bytes c.loop-line.text) (part_in place (Plain rest)) (string_bytes c.push_line-2.new.out)
     (line_in place rest) c.loop-line.invariant.1 c.push_line-2.ensures
     (break_end place rest c.in_default.ensures.none)

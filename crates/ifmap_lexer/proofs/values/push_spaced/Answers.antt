@@ -1,6 +1,7 @@
 use Rattle.std.proofs.Common.{[], ◌∷◌, ◌++◌, map, ap, ◌∙◌, refl, string_bytes, lit<}
+use Rattle.ifmap_lemmas.specs.Joined.{joined_more, whole_on_ok}
 use Rattle.ifmap_elem.specs.Values.{as_space}
-use Rattle.ifmap_lexer.proofs.RunLaws.{newline_step, two_more, last_line}
+use Rattle.ifmap_lexer.proofs.RunLaws.{newline_step}
 use Rattle.ifmap_lexer.proofs.SplitLaws.{after_is_utf8}
 use Rattle.ifmap_lexer.proofs.values.push_spaced.Goals as goal
 use Rattle.ifmap_elem.specs.Chars.{line_feed, space_character}
@@ -13,7 +14,7 @@ loop-front-preserved c =
     let front = c.in-Some.front.now in
     let after = c.in-Some.after.now in (
       after_is_utf8 line_feed rest front after (lit< tt) cut.bytes_are inv.0,
-      two_more _ (string_bytes c.loop-front.text) (string_bytes c.push_untabbed.new.text) (map as_space rest)
+      joined_more _ (string_bytes c.loop-front.text) (string_bytes c.push_untabbed.new.text) (map as_space rest)
           (string_bytes c.push.new.self) (map as_space front) (space_character ∷ []) inv.1
           c.in_ok-push_untabbed.ensures
           (c.in_ok-push.ensures.bytes ∙ ap (λ x. string_bytes c.push_untabbed.new.text ++ x) (c.in_ok-push.ensures.ascii (lit< tt)))
@@ -23,5 +24,5 @@ loop-front-preserved c =
 pub returns : goal.returns
 returns c =
     let inv = c.loop-front.invariant in
-    last_line c.push_untabbed-2.result _ (string_bytes c.loop-front.text) (map as_space c.loop-front.rest.now)
+    whole_on_ok c.push_untabbed-2.result _ (string_bytes c.loop-front.text) (map as_space c.loop-front.rest.now)
     (string_bytes c.push_untabbed-2.new.text) (map as_space c.loop-front.rest.now) inv.1 c.push_untabbed-2.ensures refl

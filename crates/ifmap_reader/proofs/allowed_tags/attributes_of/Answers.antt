@@ -1,9 +1,9 @@
 use Rattle.std.proofs.Common.{◌++◌, reverse}
 use Rattle.std.proofs.lemmas.Result.{err_from_is_err_and}
+use Rattle.ifmap_lemmas.specs.Joined.{none_to_pop}
 use Rattle.ifmap_reader.specs.OpenElements.{scope_of}
 use Rattle.ifmap_reader.proofs.Attributing.{attributing_first, attribute_added, binding_left, attribute_refused, all_given, told_some, told_none}
 use Rattle.ifmap_reader.specs.AllowedTags.{plain_part}
-use Rattle.ifmap_reader.proofs.Lasts.{none_was}
 use Rattle.ifmap_reader.proofs.allowed_tags.attributes_of.Goals as goal
 
 pub loop-assignment-init : goal.loop-assignment-init
@@ -37,5 +37,5 @@ loop-assignment-preserved c =
 
 pub returns : goal.returns
 returns c =
-    all_given _ _ _ c.loop-assignment.left.items (none_was _ c.pop.new.self.items _ c.in_default.ensures.items c.in_default.ensures.rest
+    all_given _ _ _ c.loop-assignment.left.items (none_to_pop _ c.pop.new.self.items _ c.in_default.ensures.items c.in_default.ensures.rest
     c.in_default.ensures.cases.0) c.loop-assignment.invariant

@@ -1,7 +1,7 @@
 use Rattle.std.proofs.Common.{◌≡◌, ◌∙◌, ap, sym}
+use Rattle.ifmap_lemmas.specs.Joined.{last_first}
 use Rattle.ifmap_reader.specs.OpenElements.{written_name}
 use Rattle.ifmap_reader.specs.Progress.{where_is}
-use Rattle.ifmap_reader.proofs.Lasts.{last_first}
 use Rattle.ifmap_reader.proofs.Stepping.{end_step}
 use Rattle.ifmap_reader.proofs.next_token.end_innermost.Goals as goal
 

@@ -1,13 +1,13 @@
 use Rattle.std.proofs.Common.{◌∙◌, sym}
+use Rattle.ifmap_lemmas.specs.Joined.{none_to_pop}
 use Rattle.ifmap_reader.specs.Progress.{where_is}
-use Rattle.ifmap_reader.proofs.Lasts.{none_was}
 use Rattle.ifmap_reader.proofs.Stepping.{end_step, other_end, no_end}
 use Rattle.ifmap_reader.proofs.standing.take_end.Goals as goal
 
 pub returns-in_default : goal.returns-in_default
 returns-in_default c = λ depth.
     no_end c.args.open_elements c.args.name (sym c.open_elements.view_is
-    ∙ none_was _ c.pop.new.self.items _ c.in_default.ensures.items c.in_default.ensures.rest c.in_default.ensures.cases.0)
+    ∙ none_to_pop _ c.pop.new.self.items _ c.in_default.ensures.items c.in_default.ensures.rest c.in_default.ensures.cases.0)
 
 pub returns-then-not-is_named : goal.returns-then-not-is_named
 returns-then-not-is_named c = λ depth.

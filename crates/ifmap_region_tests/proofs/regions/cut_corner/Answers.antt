@@ -1,8 +1,8 @@
 use Rattle.std.proofs.Common.{◌≡◌, ℕ, true, false, Bool, sym, ap, ◌∙◌, true≢false}
+use Rattle.ifmap_lemmas.specs.Distinct.{contains_one}
 use Rattle.ifmap_region.specs.declared.flips.Flip.{Flip}
 use Rattle.ifmap_region_tests.proofs.GridLinks.{grid_symmetric}
 use Rattle.ifmap_region_tests.proofs.regions.cut_corner.Goals as goal
-use Rattle.ifmap_region.specs.Distinct.{contains_one}
 
 pub repair-requires-clause-symmetric : goal.repair-requires-clause-symmetric
 repair-requires-clause-symmetric g c = grid_symmetric true

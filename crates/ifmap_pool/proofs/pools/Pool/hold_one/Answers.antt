@@ -1,7 +1,7 @@
 use Rattle.std.proofs.Common.{◌≡◌, ℕ, ◌+◌, ◌<◌, Some, Err, inl, inr, refl, sym, subst, arith, vec_len}
 use Rattle.std.specs.declared.cmp.Ordering.TheVariants.{Equal}
 use Rattle.ifmap_lemmas.specs.Options.{is_some_of}
-use Rattle.ifmap_pool.specs.Holdings.{HoldsAgain, HoldsOne, TakesNumber}
+use Rattle.ifmap_pool.specs.Holdings.{Holdings, HoldsAgain, HoldsOne, TakesNumber}
 use Rattle.ifmap_pool.specs.Index.{IsKept, IsKeyPlace, slot_at, slot_count}
 use Rattle.ifmap_pool.specs.declared.slots.Held.{Held}
 use Rattle.ifmap_pool.proofs.Changes.{seen, shown, whole_now, room_for_new, write_count, take_number}
@@ -9,7 +9,7 @@ use Rattle.ifmap_pool.proofs.Kept.{place_held}
 use Rattle.ifmap_pool.proofs.Named.{holds_from_slot, names_from_slot, absent_at}
 use Rattle.ifmap_pool.proofs.pools.Pool.hold_one.Given as given
 use Rattle.ifmap_pool.proofs.pools.Pool.hold_one.Goals as goal
-use Rattle.ifmap_pool.proofs.pools.Pool.hold_one.Goals.{In-Err, After-index-number, After-set_holds, After-list_number}
+use Rattle.ifmap_pool.proofs.pools.Pool.hold_one.Goals.{In-Err, After-index-number, After-held_at, After-set_holds, After-list_number}
 
 -- the number at the place stands for a key that equals this one
 stands : (g : given.Over) (c : After-index-number g) → (held : Held g.row.K.Denot)
@@ -18,6 +18,11 @@ stands g c =
     place_held g.met.K.Ord.total (slot_at c.self.inside.slots.items) c.self.inside.order.items c.self.invariant.0.indexed c.args.key
     c.in-Ok.place (rw (c.deref.ensures.value, c.deref-2.ensures.value) at c.in-Ok.ensures) c.index-number.result.now
     c.index-number.ensures
+
+-- what the number has before it
+there : (g : given.Over) (c : After-held_at g)
+    → slot_at c.self.inside.slots.items c.index-number.result.now ≡ Some c.held_at.result.now
+there g c = rw c.deref-in-Ok.ensures.value at c.held_at.ensures
 
 -- its count is one more, and nothing else changes
 counted : (g : given.Over) (c : After-set_holds g)
@@ -50,34 +55,38 @@ taken g c small =
     (c.fill_slot-number.ensures.within c.self.inside.limit c.self.invariant.0.within small) c.list_number.ensures.items
     c.list_number.ensures.len
 
+-- the answer is the number in more bytes
+widened : (g : given.Over) (old new : Holdings g.row.K.Denot) (key : g.row.K.Denot) (wide number : ℕ) → wide ≡ number
+    → HoldsOne g.K.Ord.cmp old new number key → HoldsOne g.K.Ord.cmp old new wide key
+widened g old new key wide number same holds = subst (λ (n : ℕ). HoldsOne g.K.Ord.cmp old new n key) (sym same) holds
+
 pub place_of-requires : goal.place_of-requires
 place_of-requires g c = rw (c.deref.ensures.value, c.deref-2.ensures.value) c.self.invariant.0.indexed
 
 pub held_at-requires : goal.held_at-requires
 held_at-requires g c =
-    let there = stands g (goal.at.held_at-requires g c).After-index-number in
-    rw c.deref-in-Ok.ensures.value (is_some_of _ there.0 there.1)
+    let entry = stands g (goal.at.held_at-requires g c).After-index-number in
+    rw c.deref-in-Ok.ensures.value (is_some_of _ entry.0 entry.1)
 
 pub overflow_add-holds : goal.overflow_add-holds
 overflow_add-holds g c =
     let shows = shown c.self.invariant.0 c.self.view_is in
-    let there = stands g (goal.at.overflow_add-holds g c).After-index-number in
+    let place = goal.at.overflow_add-holds g c in
+    let entry = stands g place.After-index-number in
     let number = c.index-number.result.now in
-    let few = c.requires.few number (names_from_slot shows g.K.Ord.cmp number there.0 c.args.key there.1 there.2) in
-    let holds = holds_from_slot shows number c.held_at.result.now (rw c.deref-in-Ok.ensures.value at c.held_at.ensures) in
+    let few = c.requires.few number (names_from_slot shows g.K.Ord.cmp number entry.0 c.args.key entry.1 entry.2) in
+    let holds = holds_from_slot shows number c.held_at.result.now (there g place.After-held_at) in
     omega (arith, few, holds)
 
 pub set_holds-requires : goal.set_holds-requires
-set_holds-requires g c =
-    let at = rw c.deref-in-Ok.ensures.value at c.held_at.ensures in
-    is_some_of _ c.held_at.result.now at
+set_holds-requires g c = is_some_of _ c.held_at.result.now (there g (goal.at.set_holds-requires g c).After-held_at)
 
 pub invariant_of-self : goal.invariant_of-self
 invariant_of-self g c = (
   (counted g (goal.at.invariant_of-self g c).After-set_holds).0,
   omega (arith, c.self.invariant, c.set_holds.ensures.capacity),
-  omega (arith, c.self.invariant),
-  omega (arith, c.self.invariant),
+  c.self.invariant.2,
+  c.self.invariant.3,
   c.self.invariant.4,
 )
 
@@ -90,12 +99,11 @@ returns-in-Ok-clause-whole g c =
 
 pub returns-in-Ok-clause-holds : goal.returns-in-Ok-clause-holds
 returns-in-Ok-clause-holds g c =
-    let there = stands g (goal.at.returns-in-Ok-clause-holds g c).After-index-number in
+    let place = goal.at.returns-in-Ok-clause-holds g c in
+    let entry = stands g place.After-index-number in
     let shows = shown c.self.invariant.0 c.self.view_is in
-    let mine = names_from_slot shows g.K.Ord.cmp c.index-number.result.now there.0 c.args.key there.1 there.2 in
-    subst (λ (n : ℕ). HoldsOne g.K.Ord.cmp c.args.self.now (seen c.set_holds.new.slots.items (vec_len c.self.inside.order)
-    c.self.inside.limit) n c.args.key)
-    (sym c.from.ensures) (inl (mine, (counted g (goal.at.returns-in-Ok-clause-holds g c).After-set_holds).1))
+    let mine = names_from_slot shows g.K.Ord.cmp c.index-number.result.now entry.0 c.args.key entry.1 entry.2 in
+    widened g c.args.self.now _ c.args.key _ _ c.from.ensures (inl (mine, (counted g place.After-set_holds).1))
 
 pub fill_slot-number-requires : goal.fill_slot-number-requires
 fill_slot-number-requires g c =
@@ -126,9 +134,7 @@ returns-in-Err-clause-holds g c =
     let place = goal.at.returns-in-Err-clause-holds g c in
     let none = absent_at (shown c.self.invariant.0 c.self.view_is) g.met.K.Ord.total c.self.invariant.0.indexed c.args.key c.in-Err.place
     (missing g place.In-Err) in
-    subst (λ (n : ℕ). HoldsOne g.K.Ord.cmp c.args.self.now (seen c.fill_slot-number.new.slots.items (vec_len c.list_number.new.order)
-    c.self.inside.limit) n c.args.key)
-    (sym c.from-in-Err.ensures) (inr (none, (taken g place.After-list_number (room g place.In-Err)).1))
+    widened g c.args.self.now _ c.args.key _ _ c.from-in-Err.ensures (inr (none, (taken g place.After-list_number (room g place.In-Err)).1))
 
 pub returns-in-Err-clause-before : goal.returns-in-Err-clause-before
 returns-in-Err-clause-before g c = whole_now c.self.invariant.0 c.self.view_is g.met.K.Ord.total

@@ -1,12 +1,28 @@
-use Rattle.std.proofs.Common.{◌-◌, inl, inr, refl, arith, vec_len}
+use Rattle.std.proofs.Common.{◌≡◌, ◌-◌, ◌<◌, ◌⊎◌, Some, inl, inr, refl, arith, vec_len}
+use Rattle.std.specs.Prelude.{IsSome}
 use Rattle.ifmap_lemmas.specs.Options.{is_some_of}
-use Rattle.ifmap_pool.specs.Holdings.{Frees, LetsGo}
-use Rattle.ifmap_pool.specs.Index.{IsKept}
+use Rattle.ifmap_pool.specs.Holdings.{Holdings, Frees, LetsGo, LetsOneGo}
+use Rattle.ifmap_pool.specs.Index.{IsKept, slot_at}
 use Rattle.ifmap_pool.proofs.Changes.{seen, shown, limit_is, whole_now, write_count, free_number}
 use Rattle.ifmap_pool.proofs.Named.{slot_from_live, entry_from_slot}
 use Rattle.ifmap_pool.proofs.pools.Pool.release_one.Given as given
 use Rattle.ifmap_pool.proofs.pools.Pool.release_one.Goals as goal
-use Rattle.ifmap_pool.proofs.pools.Pool.release_one.Goals.{After-set_holds, After-empty_slot}
+use Rattle.ifmap_pool.proofs.pools.Pool.release_one.Goals.{After-held_at, After-set_holds, After-empty_slot}
+
+-- what the number has before it
+there : (g : given.Over) (c : After-held_at g) → slot_at c.self.inside.slots.items c.args.number ≡ Some c.held_at.result.now
+there g c = rw c.deref.ensures.value at c.held_at.ensures
+
+is_live : (g : given.Over) (c : After-held_at g) → IsSome (slot_at c.self.inside.slots.items c.args.number)
+is_live g c = is_some_of _ c.held_at.result.now (there g c)
+
+-- one hold goes where the number is held once less, or is free
+goes : (g : given.Over) (c : After-held_at g) (new : Holdings g.row.K.Denot)
+    → ((1 < c.held_at.result.now.holds) × LetsGo c.args.self.now new c.args.number)
+    ⊎ ((c.held_at.result.now.holds ≡ 1) × Frees c.args.self.now new c.args.number) → LetsOneGo c.args.self.now new c.args.number
+goes g c new either =
+    let held = c.held_at.result.now in
+    ((held.key, held.holds), entry_from_slot (shown c.self.invariant.0 c.self.view_is) c.args.number held (there g c), either)
 
 -- the count of the number is one less, and nothing else changes
 counted : (g : given.Over) (c : After-set_holds g)
@@ -43,23 +59,20 @@ held_at-requires g c =
     rw c.deref.ensures.value (is_some_of _ there.0 there.1)
 
 pub set_holds-requires : goal.set_holds-requires
-set_holds-requires g c = let at = rw c.deref.ensures.value at c.held_at.ensures in is_some_of _ c.held_at.result.now at
+set_holds-requires g c = is_live g (goal.at.set_holds-requires g c).After-held_at
 
 pub unlist_number-requires : goal.unlist_number-requires
-unlist_number-requires g c =
-    let at = rw c.deref.ensures.value at c.held_at.ensures in
-    record {
-      indexed = rw c.deref-2.ensures.value c.self.invariant.0.indexed;
-      live = rw c.deref-2.ensures.value (is_some_of _
-          c.held_at.result.now at);
-    }
+unlist_number-requires g c = record {
+  indexed = rw c.deref-2.ensures.value c.self.invariant.0.indexed;
+  live = rw c.deref-2.ensures.value (is_live g (goal.at.unlist_number-requires g c).After-held_at);
+}
 
 pub invariant_of-self : goal.invariant_of-self
 invariant_of-self g c = (
   (counted g (goal.at.invariant_of-self g c).After-set_holds).0,
   omega (arith, c.self.invariant, c.set_holds.ensures.capacity),
-  omega (arith, c.self.invariant),
-  omega (arith, c.self.invariant),
+  c.self.invariant.2,
+  c.self.invariant.3,
   c.self.invariant.4,
 )
 
@@ -72,22 +85,15 @@ returns-then-holds-gt1-clause-whole g c =
 
 pub returns-then-holds-gt1-clause-goes : goal.returns-then-holds-gt1-clause-goes
 returns-then-holds-gt1-clause-goes g c =
-    let held = c.held_at.result.now in
-    let at = rw c.deref.ensures.value at c.held_at.ensures in (
-      (held.key, held.holds),
-      entry_from_slot (shown c.self.invariant.0 c.self.view_is) c.args.number held at,
-      inl (c.if-holds-gt1.true, (counted g (goal.at.returns-then-holds-gt1-clause-goes g c).After-set_holds).1),
-    )
+    let place = goal.at.returns-then-holds-gt1-clause-goes g c in
+    goes g place.After-held_at _ (inl (c.if-holds-gt1.true, (counted g place.After-set_holds).1))
 
 pub empty_slot-requires : goal.empty_slot-requires
-empty_slot-requires g c =
-    let held = c.held_at.result.now in
-    let at = rw c.deref.ensures.value at c.held_at.ensures in
-    record {
-      free = c.self.invariant.0.free_slots;
-      live = is_some_of _ held at;
-      room = omega (arith, c.self.invariant.0.within, c.self.invariant.2);
-    }
+empty_slot-requires g c = record {
+  free = c.self.invariant.0.free_slots;
+  live = is_live g (goal.at.empty_slot-requires g c).After-held_at;
+  room = omega (arith, c.self.invariant.0.within, c.self.invariant.2);
+}
 
 pub invariant_of-self-2 : goal.invariant_of-self-2
 invariant_of-self-2 g c = (
@@ -106,12 +112,6 @@ returns-clause-whole g c = whole_now (freed g (goal.at.returns-clause-whole g c)
 
 pub returns-clause-goes : goal.returns-clause-goes
 returns-clause-goes g c =
-    let held = c.held_at.result.now in
-    let at = rw c.deref.ensures.value at c.held_at.ensures in (
-      (held.key, held.holds),
-      entry_from_slot (shown c.self.invariant.0 c.self.view_is) c.args.number held at,
-      inr (
-        omega (arith, c.if-holds-gt1.false, c.self.invariant.0.indexed.held c.args.number held at),
-        (freed g (goal.at.returns-clause-goes g c).After-empty_slot).1,
-      ),
-    )
+    let place = goal.at.returns-clause-goes g c in
+    let some = c.self.invariant.0.indexed.held c.args.number c.held_at.result.now (there g place.After-held_at) in
+    goes g place.After-held_at _ (inr (omega (arith, c.if-holds-gt1.false, some), (freed g place.After-empty_slot).1))

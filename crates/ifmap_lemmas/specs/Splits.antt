@@ -1,7 +1,6 @@
--- Texts that are cut at the first of a byte.
-use Rattle.std.proofs.Common.{◌≡◌, ◌≢◌, ℕ, zero, suc, ◌+◌, ◌<◌, List, [], ◌∷◌, ◌++◌, length, get_or, take, drop, cond, eqb, arith, refl, sym, ap, ◌∙◌}
+-- Lists of numbers that are cut at the first of one number.
+use Rattle.std.proofs.Common.{◌≡◌, ◌≢◌, ℕ, zero, suc, ◌<◌, List, [], ◌∷◌, ◌++◌, length, get_or, cond, eqb, arith, refl, ap}
 use Rattle.std.proofs.lemmas.Bool.{ne_eqb, eq-eqb}
-use Rattle.std.proofs.lemmas.List.{take_at, drop_at, take-append-drop, drop_more}
 
 -- none of these is c
 abbrev pub Without : ℕ → List ℕ → Type 0
@@ -38,12 +37,6 @@ pub after_at : (c : ℕ) (xs ys : List ℕ) → Without c xs → after c (xs ++ 
 after_at c [] ys w = rw (eq-eqb c c refl) refl
 after_at c (x ∷ xs) ys w = rw (ne_eqb x c w.0) (after_at c xs ys w.1)
 
--- lists whose fronts are as long are cut alike
-pub same_cut : (a b x y : List ℕ) → length a ≡ length b → a ++ x ≡ b ++ y → (a ≡ b) × (x ≡ y)
-same_cut a b x y same e =
-    let front : a ≡ b = sym (take_at a x (length a) refl) ∙ ap (take (length a)) e ∙ take_at b y (length a) (sym same) in
-    (front, sym (drop_at a x (length a) refl) ∙ ap (drop (length a)) e ∙ drop_at b y (length a) (sym same))
-
 -- the first c after a text without c is the one that follows it
 pub first_is : (c : ℕ) (xs ys : List ℕ) (k : ℕ) → Without c xs → get_or (xs ++ c ∷ ys) k 0 ≡ c
     → ((j : ℕ) → j < k → get_or (xs ++ c ∷ ys) j 0 ≢ c) → k < length (xs ++ c ∷ ys) → k ≡ length xs
@@ -51,8 +44,3 @@ first_is c [] ys zero w at first within = refl
 first_is c [] ys (suc k) w at first within = absurd (first 0 (omega arith) refl)
 first_is c (x ∷ xs) ys zero w at first within = absurd (w.0 at)
 first_is c (x ∷ xs) ys (suc k) w at first within = ap suc (first_is c xs ys k w.1 at (λ j h. first (suc j) (omega arith)) (omega arith))
-
--- a text is cut at a place
-pub cut_at : (bs : List ℕ) (k c : ℕ) → k < length bs → get_or bs k 0 ≡ c → bs ≡ take k bs ++ c ∷ drop (k + 1) bs
-cut_at bs k c within at = sym (take-append-drop k bs) ∙ ap (λ (l : List ℕ). take k bs ++ l) (drop_more bs k 0 within ∙ ap
-    (λ (b : ℕ). b ∷ drop (k + 1) bs) at)

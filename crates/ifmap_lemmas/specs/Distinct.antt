@@ -1,4 +1,4 @@
--- Lists and sums of numbers, which know nothing of regions.
+-- Distinct numbers in lists, and sums over them.
 use Rattle.std.proofs.Common.{◌≡◌, ◌≢◌, ℕ, zero, suc, ◌<◌, ◌≤◌, false, List, [], ◌∷◌, ◌++◌, Contains, All, get_or, take, drop, length, sum_by, nat_eq, ◌⊎◌, inl, inr, refl, sym, ap, subst, ◌∙◌, arith, true≢false}
 use Rattle.std.proofs.lemmas.Bool.{cases_eq, eq-eqb, ne_eqb}
 use Rattle.std.proofs.lemmas.List.{set_split, set-get_or}
