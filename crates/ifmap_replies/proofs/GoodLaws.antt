@@ -1,6 +1,6 @@
 -- Elements that a document can have, arranged, of so many levels at most.
 -- 1. Names and attributes that are spelled out.
--- 2. An element of elements, and one of a text.
+-- 2. An element of a text; one of elements by the law of its crate.
 use Rattle.std.proofs.Common.{◌≡◌, ◌≢◌, ◌∙◌, ◌&&◌, ℕ, ◌+◌, suc, Bool, true, false, List, [], ◌∷◌, ◌++◌, map, codes, refl, ap, arith}
 use Rattle.std.proofs.Common.{subst, sym}
 use Rattle.std.proofs.lemmas.Bool.Decides.{not_from_Decides}
