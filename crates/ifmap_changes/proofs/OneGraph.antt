@@ -15,8 +15,7 @@ use Rattle.ifmap_meta.specs.declared.stored.Stored.{Stored}
 use Rattle.ifmap_graph.specs.ifmap_view.declared.attachments.Attachment.{Attachment}
 use Rattle.ifmap_graph.specs.ifmap_view.Attachments.{IsGraph, attachment_order, stored_order}
 use Rattle.ifmap_graph.specs.ifmap_view.Rows.{stored_on}
-use Rattle.ifmap_ident.specs.SameLaws.{item_itself, greater_item_differs, BytesTellIdentifiers, items_total}
-use Rattle.ifmap_tellings.specs.ifmap_fresh.laws.SameLaws.{same_item_is}
+use Rattle.ifmap_ident.specs.SameLaws.{item_itself, greater_item_differs, BytesTellIdentifiers, items_total, same_item_is}
 
 -- what is stored on the item of the first
 first_stored : (a : Attachment) (rows : List Attachment) → stored_on a.item (a ∷ rows) ≡ a.stored ∷ stored_on a.item rows

@@ -27,8 +27,8 @@ use Rattle.ifmap_delta.specs.Changes.{ShowsAfter}
 use Rattle.ifmap_delta.specs.Flipped.{AreFlipsOf, IsFlipAt, is_one_marked}
 use Rattle.ifmap_delta.specs.Sights.{Links, ViewSeen}
 use Rattle.ifmap_fresh.specs.laws.JoiningLaws.{linked_matches, match_turned, matches_linked, some_there}
-use Rattle.ifmap_fresh.specs.laws.SameLaws.{pair_canon, pair_is, pair_parts, same_item_is}
-use Rattle.ifmap_ident.specs.SameLaws.{BytesTellIdentifiers}
+use Rattle.ifmap_fresh.specs.laws.SameLaws.{pair_canon, pair_is, pair_parts}
+use Rattle.ifmap_ident.specs.SameLaws.{BytesTellIdentifiers, same_item_is}
 
 pub found_change : (p : ItemChange → Bool) (cs : List ItemChange) (c : ItemChange) → find p cs ≡ Some c → Has cs c × (p c ≡ true)
 found_change p [] c e = absurd (none-some c e)

@@ -35,8 +35,8 @@ use Rattle.ifmap_delta.specs.Shown.{shown_on}
 use Rattle.ifmap_delta.specs.Sights.{ViewSeen}
 use Rattle.ifmap_delta.specs.Touched.{has_met, left_out_on}
 use Rattle.ifmap_fresh.specs.laws.GatheringLaws.{gathers, grouped, all_items, entry_of}
-use Rattle.ifmap_fresh.specs.laws.SameLaws.{member, same_item_is}
-use Rattle.ifmap_ident.specs.SameLaws.{item_itself, BytesTellIdentifiers}
+use Rattle.ifmap_fresh.specs.laws.SameLaws.{member}
+use Rattle.ifmap_ident.specs.SameLaws.{item_itself, BytesTellIdentifiers, same_item_is}
 
 -- rows of one list of canonical bytes are one entry
 bytes_tie : (a b : Attachment) → bytes_eq (entry_bytes (entry_of a)) (entry_bytes (entry_of b)) ≡ true

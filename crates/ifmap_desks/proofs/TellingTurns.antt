@@ -3,7 +3,7 @@ use Rattle.std.proofs.Common.{◌≡◌, sym, ap, subst, ◌∙◌, ℕ, List, [
 use Rattle.std.proofs.lemmas.List.Concat.{flat_map-cons}
 use Rattle.std.proofs.lemmas.List.Elements.{All-nil, All-push}
 use Rattle.std.specs.Prelude.{count_by}
-use Rattle.ifmap_desks.specs.Answers.{Counted, one_more, plain_asked}
+use Rattle.ifmap_desks.specs.Answers.{Counted, plain_asked}
 use Rattle.ifmap_desks.specs.declared.answers.AnswerCounts.{AnswerCounts}
 use Rattle.ifmap_desks.specs.declared.events.FitEvent.{FitEvent}
 use Rattle.ifmap_dialogue.specs.Desks.{Call, CountsOn, FitsAsked, Gains, CountRises, DeskTakesTurns, Turn, call_of, calls, is_held_back, is_spent}
@@ -11,6 +11,7 @@ use Rattle.ifmap_hall.specs.declared.book.Asked.{Asked}
 use Rattle.ifmap_hall.specs.declared.book.Asked.TheVariants as asked
 use Rattle.ifmap_dialogue.specs.ifmap_machine.declared.events.Answer.{Answer}
 use Rattle.ifmap_dialogue.specs.ifmap_machine.Events.{Event}
+use Rattle.ifmap_dialogue.specs.ifmap_io.Causes.{one_more}
 
 -- a count that stays, and one that goes on by one
 stays : (before after : ℕ) → after ≡ before → CountRises 0 before after

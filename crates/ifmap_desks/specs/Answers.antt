@@ -1,11 +1,12 @@
 -- Answers as a desk hands them on.
-use Rattle.std.specs.Prelude.{◌≡◌, ℕ, ◌+◌, ◌-◌, ◌^◌, min}
+use Rattle.std.specs.Prelude.{◌≡◌}
 use Rattle.ifmap_desks.specs.declared.answers.AnswerCounts.{AnswerCounts}
 use Rattle.ifmap_desks.specs.declared.events.FitEvent.{FitEvent}
 use Rattle.ifmap_hall.specs.declared.book.Asked.{Asked}
 use Rattle.ifmap_hall.specs.declared.book.Asked.TheVariants.{Done, Held, Spent, NoMemory}
 use Rattle.ifmap_dialogue.specs.ifmap_machine.declared.events.Answer.{Answer}
 use Rattle.ifmap_dialogue.specs.ifmap_machine.Events.{Event}
+use Rattle.ifmap_dialogue.specs.ifmap_io.Causes.{one_more}
 
 -- the answer with the event as it was asked
 abbrev pub plain_asked : Asked FitEvent Answer → Asked Event Answer
@@ -13,10 +14,6 @@ plain_asked (Done place answer) = Done place answer
 plain_asked (Held place event) = Held place event.event
 plain_asked (Spent entries event) = Spent entries event.event
 plain_asked (NoMemory event) = NoMemory event.event
-
--- a count with one more, or at its last value
-abbrev pub one_more : ℕ → ℕ
-one_more n = min (n + 1) (2 ^ 64 - 1)
 
 -- the counts with this answer
 abbrev pub Counted : Asked Event Answer → AnswerCounts → AnswerCounts → Type 0

@@ -9,6 +9,7 @@ pub mod Rounds
 pub mod Scenes
 pub mod Dialogue
 -- What is passed on to the crates above.
+pub mod ifmap_io
 pub mod ifmap_machine
 pub mod ifmap_region
 pub mod ifmap_replies

@@ -18,6 +18,7 @@ pub mod Roots
 pub mod ScopeLaws
 pub mod CharacterLaws
 pub mod ChildElements
+pub mod GoodElements
 pub mod DecidedNames
 pub mod AgainLaws
 pub mod BareNames

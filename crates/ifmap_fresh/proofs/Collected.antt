@@ -46,8 +46,7 @@ use Rattle.ifmap_fresh.specs.laws.JoiningLaws.{match_turned, some_there}
 use Rattle.ifmap_fresh.proofs.Levels.{expanded_walk, reached_by_walks, walk_expanded}
 use Rattle.ifmap_fresh.proofs.Meaning.{mark_walk, to_identifier, to_number, walk_mark}
 use Rattle.ifmap_fresh.specs.laws.SameLaws.{member, pair_canon, pair_is, pair_parts, pair_turned}
-use Rattle.ifmap_fresh.specs.laws.SameLaws.{same_item_is}
-use Rattle.ifmap_ident.specs.SameLaws.{item_itself, BytesTellIdentifiers}
+use Rattle.ifmap_ident.specs.SameLaws.{item_itself, BytesTellIdentifiers, same_item_is}
 
 -- items that a search looks at, each of them at least once
 pub record AreCollected (rows : List Attachment) (s : Search) (items : List Item) : Type 0 where

@@ -17,8 +17,8 @@ use Rattle.ifmap_fresh.specs.Matching.{LinksTo, is_match, is_terminal}
 use Rattle.ifmap_fresh.specs.Reached.{identifiers_in, is_below, is_expanded, is_reached, is_within, next_to, within}
 use Rattle.ifmap_fresh.specs.Walked.{SearchWalk}
 use Rattle.ifmap_fresh.specs.laws.JoiningLaws.{some_there, stands_in}
-use Rattle.ifmap_fresh.specs.laws.SameLaws.{member, same_is}
-use Rattle.ifmap_ident.specs.SameLaws.{identifier_itself, BytesTellIdentifiers}
+use Rattle.ifmap_fresh.specs.laws.SameLaws.{member}
+use Rattle.ifmap_ident.specs.SameLaws.{identifier_itself, BytesTellIdentifiers, same_is}
 
 pub on_canon : (rows : List Attachment) (s : Search) → IsIdentifier s.start → (k : ℕ) (a : Identifier) → SearchWalk rows s k a
     → IsIdentifier a

@@ -22,14 +22,13 @@ use Rattle.ifmap_view.specs.declared.attachments.Attachment.{Attachment}
 use Rattle.ifmap_view.specs.declared.views.LinkSeen.{LinkSeen}
 use Rattle.ifmap_view.specs.Rows.{stored_between, stored_linked, stored_on, stored_where}
 use Rattle.ifmap_view.specs.Views.{IsLink, IsView, others}
-use Rattle.ifmap_fresh.specs.laws.SameLaws.{same_is}
 use Rattle.ifmap_fresh_tests.specs.declared.shelves.Shelf.{Shelf}
 use Rattle.ifmap_fresh_tests.specs.Lists.{all_pairs, are_lists, are_sound, numbers_below, different_identifiers, has_rows, is_item_known, is_linked, item_below, link_to, links_of, attachment_on, rows_on_shelves}
 use Rattle.ifmap_fresh_tests.proofs.Graphs.{graph_is}
 use Rattle.ifmap_fresh_tests.proofs.Numbers.{below_differ, has_below, pairwise_kept}
 use Rattle.ifmap_fresh_tests.proofs.Pairs.{pairs_of, to_distinct}
 use Rattle.ifmap_lemmas.specs.Pairwise.{Pairwise}
-use Rattle.ifmap_ident.specs.SameLaws.{BytesTellIdentifiers}
+use Rattle.ifmap_ident.specs.SameLaws.{BytesTellIdentifiers, same_is}
 
 pub full_is : (xs : List Stored) → xs ≢ [] → has_rows xs ≡ true
 full_is [] n = absurd (n refl)

@@ -1,17 +1,19 @@
 -- Items and identifiers are the same or differ.
-use Rattle.std.proofs.Common.{◌≡◌, true, refl, ◌∙◌, sym, false, ap, rules, Bool}
+use Rattle.std.proofs.Common.{◌≡◌, true, refl, ◌∙◌, sym, false, ap, rules, Bool, ◌&&◌}
 use Rattle.ifmap_lemmas.specs.Texts.{eq_itself, eq_tells, slice_cmp-less}
 use Rattle.ifmap_ident.specs.declared.identifiers.Identifier.{Identifier}
 use Rattle.ifmap_ident.specs.Identifiers.{identifier_bytes, same_identifier, identifier_order}
 use Rattle.ifmap_ident.specs.declared.items.Item.{Item}
 use Rattle.ifmap_ident.specs.declared.items.Item.TheVariants.{One, Pair}
-use Rattle.ifmap_ident.specs.Items.{same_item, item_order, items_tie}
+use Rattle.ifmap_ident.specs.Items.{same_item, item_order, items_tie, identifiers_of}
 use Rattle.std.specs.Cmp.Lexicographic.{nat_list_cmp_total}
 use Rattle.std.specs.Ordering.{ordering_reverse, is_eq}
 use Rattle.std.specs.Cmp.{Equal-is, IsEquivalence, IsTotalOrder}
 use Rattle.std.specs.declared.cmp.Ordering.TheVariants.{Equal, Less}
 use Rattle.std.specs.Cmp.Rules.{comparing}
 use Rattle.std.specs.BTreeMap.{is_at}
+use Rattle.std.specs.List.{AllByRecursion}
+use Rattle.std.proofs.lemmas.Bool.{and_parts}
 use Rattle.ifmap_lemmas.specs.Orderings.{eq_turned}
 use Rattle.ifmap_ident.specs.Canon.{IsIdentifier}
 
@@ -65,3 +67,21 @@ greater_identifier_differs a b less = told (same_identifier b a) refl
 abbrev pub BytesTellIdentifiers : Type 0
 BytesTellIdentifiers = (one other : Identifier) → IsIdentifier one → IsIdentifier other → identifier_bytes one ≡ identifier_bytes other →
     one ≡ other
+
+-- the identifiers of the item are canonical
+abbrev pub AreCanon : Item → Type 0
+AreCanon x = AllByRecursion IsIdentifier (identifiers_of x)
+
+-- what compares as the same is the same
+module _ (tells : BytesTellIdentifiers) where
+  pub same_is : (a b : Identifier) → IsIdentifier a → IsIdentifier b → same_identifier a b ≡ true → a ≡ b
+  same_is a b p q e = tells a b p q (eq_tells (identifier_bytes a) (identifier_bytes b) e)
+
+  pub same_item_is : (x y : Item) → AreCanon x → AreCanon y → same_item x y ≡ true → x ≡ y
+  same_item_is (One a) (One b) p q e = ap One (same_is a b p.0 q.0 (and_parts (same_identifier a b) true e).0)
+  same_item_is (One a) (Pair b c) p q e = let r : false ≡ true = (and_parts (same_identifier a b) false e).1 in cc
+  same_item_is (Pair a b) (One c) p q e = let r : false ≡ true = (and_parts (same_identifier a c) false e).1 in cc
+  same_item_is (Pair a b) (Pair c d) p q e =
+      let f = and_parts (same_identifier a c) (same_identifier b d && true) e
+      in let g = and_parts (same_identifier b d) true f.1
+      in ap (λ x. Pair x b) (same_is a c p.0 q.0 f.0) ∙ ap (λ x. Pair c x) (same_is b d p.1.0 q.1.0 g.0)

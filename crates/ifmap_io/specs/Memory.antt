@@ -1,9 +1,10 @@
 -- The objects in memory that stand for the outside, as contracts see them.
 -- Of each, `fails` lists the calls that are to fail, by their number from 0 over all calls that can fail,
 -- and `calls` is how many of these were made.
-use Rattle.std.specs.Prelude.{ℕ, ◌+◌, ◌*◌, ◌-◌, ◌^◌, min, List, Some, map, Contains, Result, IsErr, is_err, if◌then◌else◌, ◌↔◌}
+use Rattle.std.specs.Prelude.{ℕ, ◌+◌, ◌*◌, min, List, Some, map, Contains, Result, IsErr, is_err, if◌then◌else◌, ◌↔◌}
 use Rattle.ifmap_io.specs.Doors.{Doorway}
 use Rattle.ifmap_io.specs.Links.{Seen}
+use Rattle.ifmap_io.specs.Causes.{one_more}
 
 -- a source: the bytes that it has left, and its faults
 pub record Feed : Type 0 where
@@ -55,10 +56,6 @@ cable_seen cable =
 -- a door in memory as every door is seen
 abbrev pub porch_seen : Porch → Doorway
 porch_seen porch = record { left = map cable_seen porch.left; back = map cable_seen porch.back; room = porch.room }
-
--- a count after one more: it stands still at its type's end
-abbrev pub one_more : ℕ → ℕ
-one_more count = min (count + 1) (2 ^ 64 - 1)
 
 -- a count of faults after a call
 abbrev pub faults_after : {T E : Type 0} → Result T E → ℕ → ℕ

@@ -1,10 +1,10 @@
 //! Doors: where links come from, and where they go back to.
 ghost use Rattle.std.specs.Prelude.{◌≡◌, ◌-◌, ◌<◌, ◌↔◌, ◌++◌, ◌∷◌, ℕ, Option, Some, [], IfOk, IsNone, MatchResult, is_some, option_to_list};
 ghost use Rattle.std.specs.VecDeque.{deque_len};
-ghost use Rattle.ifmap_io.specs.Causes.{HasCause};
+ghost use Rattle.ifmap_io.specs.Causes.{HasCause, one_more};
 ghost use Rattle.ifmap_io.specs.Doors.{Doorway, Accepts, TakesBack};
 ghost use Rattle.ifmap_io.specs.Links.{wire_link_seen};
-ghost use Rattle.ifmap_io.specs.Memory.{porch_seen, FailsAsListed, one_more, faults_after};
+ghost use Rattle.ifmap_io.specs.Memory.{porch_seen, FailsAsListed, faults_after};
 
 use crate::ends::Failed;
 use crate::links::{Link, MemoryLink};

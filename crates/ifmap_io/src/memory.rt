@@ -2,8 +2,8 @@
 ghost use Rattle.std.specs.Prelude.{◌≡◌, ◌+◌, ◌-◌, ◌^◌, ◌<◌, ◌≤◌, ◌↔◌, ◌++◌, [], Contains, IfOk, IsErr, IsTrue, OnErr, Some, drop, length, min, take};
 ghost use Rattle.std.specs.Io.{ReadsAtMost};
 ghost use Rattle.std.specs.Io.KnownBytes.{Keeps, ReadConsumes};
-ghost use Rattle.ifmap_io.specs.Causes.{HasCause, Rose};
-ghost use Rattle.ifmap_io.specs.Memory.{FailsAsListed, one_more, faults_after};
+ghost use Rattle.ifmap_io.specs.Causes.{HasCause, Rose, one_more};
+ghost use Rattle.ifmap_io.specs.Memory.{FailsAsListed, faults_after};
 ghost use Rattle.ifmap_io.specs.Written.{WritesAll};
 
 use crate::ends::{Failed, Sink, Source};

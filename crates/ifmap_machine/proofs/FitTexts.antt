@@ -1,4 +1,4 @@
--- Texts that the machine makes are ASCII characters: numerals, ids of sessions, names of codes and of clients.
+-- The note of a result that is too big is of characters, and limits of sessions are words.
 use Rattle.std.proofs.Common.{ℕ, ◌++◌}
 use Rattle.std.proofs.Common.{codes, refl, arith}
 use Rattle.std.specs.Prelude.{Option, None, Some}

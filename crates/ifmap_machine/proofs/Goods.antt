@@ -13,7 +13,7 @@ use Rattle.ifmap_elem.specs.declared.elements.Element.{Element}
 use Rattle.ifmap_elem.specs.Fit.{IsFit}
 use Rattle.ifmap_folds.specs.ifmap_fresh.Fresh.{fresh, is_found}
 use Rattle.ifmap_ident.specs.Items.{IsCanonItem}
-use Rattle.ifmap_ident.specs.SameLaws.{BytesTellIdentifiers}
+use Rattle.ifmap_ident.specs.SameLaws.{BytesTellIdentifiers, same_item_is}
 use Rattle.ifmap_lemmas.specs.Having.{Has, filter_has, map_has, all_has}
 use Rattle.ifmap_machine.proofs.Folding.{Folds}
 use Rattle.ifmap_meta.specs.Whole.{IsWhole}
@@ -26,7 +26,6 @@ use Rattle.ifmap_publish.specs.ifmap_view.declared.attachments.Attachment.{Attac
 use Rattle.ifmap_publish.specs.ifmap_view.Attachments.{IsGraph}
 use Rattle.ifmap_folds.specs.laws.FoldingLaws.{difference_none, fresh_rises}
 use Rattle.ifmap_folds.specs.ifmap_fresh.laws.GatheringLaws.{entry_of}
-use Rattle.ifmap_folds.specs.ifmap_fresh.laws.SameLaws.{same_item_is}
 
 -- a graph whose attachments are whole
 pub record IsWholeGraph (rows : List Attachment) : Type 0 where

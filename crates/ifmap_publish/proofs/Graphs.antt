@@ -104,4 +104,4 @@ module _ (x : Item) where
   ]
 
   pub sound_on : (rows : List Attachment) → IsGraph rows → AreWhole rows → IsSound (stored_on x rows)
-  sound_on rows g w = record { keyed = list_on rows g; whole = all_on IsWhole rows w }
+  sound_on rows g w = record { keyed = list_on x rows g; whole = all_on IsWhole rows w }

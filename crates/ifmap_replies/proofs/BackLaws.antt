@@ -8,10 +8,8 @@ use Rattle.std.proofs.Common.{◌≡◌, ◌∙◌, ℕ, ◌+◌, ◌<◌, ◌^�
 use Rattle.std.proofs.Common.{Ok, map, codes, refl, ap, arith, subst, sym, append-nil}
 use Rattle.std.specs.Prelude.{if◌then◌else◌, nat_lt}
 use Rattle.std.specs.List.{AllByRecursion, list_all}
-use Rattle.std.proofs.lemmas.Bool.{and_parts}
 use Rattle.std.proofs.lemmas.Bool.Decides.{nat_tests}
 use Rattle.ifmap_lemmas.specs.Numerals.{numeral}
-use Rattle.ifmap_lemmas.specs.Texts.{eq_tells}
 use Rattle.ifmap_elem.specs.Building.{bare_element, as_children}
 use Rattle.ifmap_elem.specs.declared.elements.Child.{Child}
 use Rattle.ifmap_elem.specs.declared.elements.Child as the
@@ -28,11 +26,11 @@ use Rattle.ifmap_ident.specs.declared.codes.Code.TheVariants.{MetadataTooLong, S
 use Rattle.ifmap_ident.specs.declared.identifiers.Identifier.{Identifier}
 use Rattle.ifmap_ident.specs.declared.identifiers.Identifier.TheVariants.{AccessRequest, Device, Identity, IpV4, IpV6, MacAddress}
 use Rattle.ifmap_ident.specs.declared.items.Item.{Item}
-use Rattle.ifmap_ident.specs.declared.items.Item.TheVariants.{One, Pair}
 use Rattle.ifmap_ident.specs.Canon.{IsCanon, IsIdentifier}
 use Rattle.ifmap_ident.specs.Codes.{code_name}
-use Rattle.ifmap_ident.specs.Identifiers.{identifier_bytes, identifier_element, same_identifier}
-use Rattle.ifmap_ident.specs.Items.{IsCanonItem, identifiers_of, same_item}
+use Rattle.ifmap_ident.specs.Identifiers.{identifier_bytes, identifier_element}
+use Rattle.ifmap_ident.specs.Items.{identifiers_of, same_item}
+use Rattle.ifmap_ident.specs.SameLaws.{same_item_is}
 use Rattle.ifmap_meta.specs.Whole.{IsSent}
 use Rattle.ifmap_search.specs.declared.results.Entry.{Entry}
 use Rattle.ifmap_search.specs.declared.results.PollItem.{PollItem}
@@ -175,31 +173,6 @@ plain_back kind answer =
 module _ (again : (i : Identifier) → IsIdentifier i → IsCanon (identifier_element i) i)
     (apart : (one other : Identifier) → IsIdentifier one → IsIdentifier other → identifier_bytes one ≡ identifier_bytes other → one ≡ other)
   where
-    same_back : (a b : Identifier) → IsIdentifier a → IsIdentifier b → same_identifier a b ≡ true → a ≡ b
-    same_back a b f g same = apart a b f g (eq_tells (identifier_bytes a) (identifier_bytes b) same)
-
-    -- items that are the same are one
-    items_back : (x y : Item) → IsCanonItem x → IsCanonItem y → same_item x y ≡ true → x ≡ y
-    items_back (One a) (One c) f g same =
-        let parts = and_parts (same_identifier a c) true same in
-        ap (λ (i : Identifier). One i) (same_back a c f.identifiers.0 g.identifiers.0 parts.0)
-    items_back (One a) (Pair c d) f g same = absurd (no_pair (same_identifier a c) same)
-      where
-        no_pair : (t : Bool) → (t && false) ≡ true → ⊥
-        no_pair true h = cc
-        no_pair false h = cc
-    items_back (Pair a b) (One c) f g same = absurd (no_pair (same_identifier a c) same)
-      where
-        no_pair : (t : Bool) → (t && false) ≡ true → ⊥
-        no_pair true h = cc
-        no_pair false h = cc
-    items_back (Pair a b) (Pair c d) f g same =
-        let parts = and_parts (same_identifier a c) (same_identifier b d && true) same in
-        let second = and_parts (same_identifier b d) true parts.1 in
-        let one = same_back a c f.identifiers.0 g.identifiers.0 parts.0 in
-        let other = same_back b d f.identifiers.1.0 g.identifiers.1.0 second.0 in
-        λ i. Pair (one i) (other i)
-
     -- an entry before runs is told first
     first_back : (entry : Entry) (runs : List Run) → IsFitEntry entry → AllByRecursion IsFitRun runs
         → entries_in_runs (joined_runs entry runs) ≡ entry ∷ entries_in_runs runs
@@ -212,7 +185,7 @@ module _ (again : (i : Identifier) → IsIdentifier i → IsCanon (identifier_el
             else run_on entry.item (entry.element ∷ []) ∷ (run ∷ runs))
             ≡ entry ∷ entries_in_runs (run ∷ runs)
         joined true same =
-            let item = items_back entry.item run.item e.item f.0.item same in
+            let item = same_item_is apart entry.item run.item e.item.identifiers f.0.item.identifiers same in
             λ i. entry ∷ (map (entry_on (item i)) run.elements ++ entries_in_runs runs)
         joined false other = refl
 

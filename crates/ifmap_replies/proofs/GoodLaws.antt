@@ -1,11 +1,7 @@
--- Elements that a document can have, arranged, of so many levels at most (`IsGood`).
--- 1. Namespaces, name parts and attributes that are spelled out fit (`plain_name`,
---    `attribute_fits`), and names whose local parts differ, differ (`two_differ`, `three_differ`).
--- 2. What is good is good within more levels (`good_within`).
--- 3. Elements as children are apart and none is blank (`children_fit`), and are arranged already.
--- 4. So an element of good elements is good, of one level more (`good_elements`).
--- 5. An element of a text is good, of one level (`good_text`).
-use Rattle.std.proofs.Common.{◌≡◌, ◌≢◌, ◌∙◌, ◌&&◌, ℕ, ◌+◌, ◌≤◌, suc, Bool, true, false, List, [], ◌∷◌, ◌++◌, map, codes, refl, ap, arith}
+-- Elements that a document can have, arranged, of so many levels at most.
+-- 1. Names and attributes that are spelled out.
+-- 2. An element of a text; one of elements by the law of its crate.
+use Rattle.std.proofs.Common.{◌≡◌, ◌≢◌, ◌∙◌, ◌&&◌, ℕ, ◌+◌, suc, Bool, true, false, List, [], ◌∷◌, ◌++◌, map, codes, refl, ap, arith}
 use Rattle.std.proofs.Common.{subst, sym}
 use Rattle.std.proofs.lemmas.Bool.Decides.{not_from_Decides}
 use Rattle.std.proofs.lemmas.Slice.Eq.{bytes_eq-Decides}
@@ -13,28 +9,26 @@ use Rattle.std.specs.Prelude.{IsTrue}
 use Rattle.std.specs.List.{AllByRecursion, flat_map, list_all, list_any}
 use Rattle.std.specs.Str.{bytes_eq}
 use Rattle.std.proofs.lemmas.Bool.{and_parts}
-use Rattle.ifmap_elem.specs.Arranged.{arrange, arrange_child, sort_attributes}
-use Rattle.ifmap_elem.specs.Building.{bare_attribute, bare_name, as_children}
+use Rattle.ifmap_elem.specs.Building.{bare_attribute, bare_name}
 use Rattle.ifmap_elem.specs.Chars.{IsCharacters}
-use Rattle.ifmap_elem.specs.Fit.{AreFitChildren, IsFit, IsFitAlone, IsFitAttribute, IsFitName, IsNamespace}
+use Rattle.ifmap_elem.specs.Fit.{AreFitChildren, IsFitAlone, IsFitAttribute, IsFitName, IsNamespace}
 use Rattle.ifmap_elem.specs.Fit.{IsNotBlank, is_element}
-use Rattle.ifmap_elem.specs.Folds.{at_child_element, at_child_text, at_element}
+use Rattle.ifmap_elem.specs.Folds.{at_child_text, at_element}
 use Rattle.ifmap_elem.specs.Names.{is_name_character, is_name_start}
 use Rattle.ifmap_elem.specs.Nesting.{child_levels, child_nesting, element_levels, greatest_of, nesting}
 use Rattle.ifmap_elem.specs.Scopes.{AllDiffer, xmlns_space}
-use Rattle.ifmap_elem.specs.declared.elements.Attribute.{Attribute}
-use Rattle.ifmap_elem.specs.declared.elements.Child.{Child, out-Child}
+use Rattle.ifmap_elem.specs.declared.elements.Child.{out-Child}
 use Rattle.ifmap_elem.specs.declared.elements.Child as the
 use Rattle.ifmap_elem.specs.declared.elements.Child.TheOpen.{Child-F}
 use Rattle.ifmap_elem.specs.declared.elements.Element.{Element}
 use Rattle.ifmap_elem.specs.declared.elements.Name.{Name}
-use Rattle.ifmap_elem.specs.laws.ArrangedLaws.{arranged_in, arranged_is, arranged_text}
-use Rattle.ifmap_elem.specs.laws.FitLaws.{elements_in, elements_of_child, elements_text, fit_whole, out_text, no_namespace}
-use Rattle.ifmap_lemmas.specs.Members.{all_of_test, both_all}
+use Rattle.ifmap_elem.specs.laws.ArrangedLaws.{arranged_is, arranged_text}
+use Rattle.ifmap_elem.specs.laws.FitLaws.{elements_of_child, elements_text, fit_whole, out_text, no_namespace}
+use Rattle.ifmap_lemmas.specs.Members.{all_of_test}
 use Rattle.ifmap_lemmas.specs.Texts.{ascii_encoded, is_ascii}
 use Rattle.ifmap_replies.specs.Results.{text_children}
 use Rattle.ifmap_elem.specs.laws.CharacterLaws.{is_plain, plain_characters}
-use Rattle.ifmap_elem.specs.laws.ChildElements.{children_fit}
+use Rattle.ifmap_elem.specs.laws.GoodElements.{IsGood, good_elements}
 
 -- ---- 1. names and attributes
 
@@ -97,64 +91,6 @@ pub three_differ : (a b c : List ℕ) → bytes_eq a b ≡ false → bytes_eq a 
 three_differ a b c ab ac bc = ((same_local a b ab, (same_local a c ac, tt)), two_differ b c bc)
 
 -- ---- 2. elements
-
-pub record IsGood (levels : ℕ) (e : Element) : Type 0 where
-  pub fit : IsFit e
-  pub arranged : arrange e ≡ e
-  pub within : nesting e ≤ levels
-
-pub good_within : (one more : ℕ) (e : Element) → one ≤ more → IsGood one e → IsGood more e
-good_within one more e le g = record {
-  fit = g.fit;
-  arranged = g.arranged;
-  within = let w : nesting e ≤ one = g.within in omega (arith, w, le);
-}
-
-pub all_within : (one more : ℕ) (es : List Element) → one ≤ more → AllByRecursion (IsGood one) es → AllByRecursion (IsGood more) es
-all_within one more [] le f = tt
-all_within one more (e ∷ es) le f = (good_within one more e le f.0, all_within one more es le f.1)
-
-inside_fit : (levels : ℕ) (es : List Element) → AllByRecursion (IsGood levels) es
-    → AllByRecursion IsFitAlone (flat_map elements_of_child (as_children es))
-inside_fit levels [] f = tt
-inside_fit levels (e ∷ es) f =
-    both_all IsFitAlone (elements_of_child (the.Element e)) (flat_map elements_of_child (as_children es))
-    (subst (AllByRecursion IsFitAlone) (sym (elements_in e)) f.0.fit) (inside_fit levels es f.1)
-
-arranged_children : (levels : ℕ) (es : List Element) → AllByRecursion (IsGood levels) es
-    → map arrange_child (as_children es) ≡ as_children es
-arranged_children levels [] f = refl
-arranged_children levels (e ∷ es) f =
-    λ i. (arranged_in e ∙ ap (λ (x : Element). the.Element x) f.0.arranged) i ∷ arranged_children levels es f.1 i
-
-levels_within : (levels : ℕ) (es : List Element) → AllByRecursion (IsGood levels) es
-    → greatest_of (map child_nesting (as_children es)) ≤ levels
-levels_within levels [] f = omega arith
-levels_within levels (e ∷ es) f =
-    let here : child_nesting (the.Element e) ≡ nesting e = at_child_element ℕ ℕ child_levels element_levels e in
-    let first : nesting e ≤ levels = f.0.within in
-    let others = levels_within levels es f.1 in
-    omega (arith, here, first, others)
-
-module _ (name : Name) (attributes : List Attribute) (fits : IsFitName name) (all : AllByRecursion IsFitAttribute attributes)
-    (differ : AllDiffer (map (λ a. a.name) attributes)) (sorted : sort_attributes attributes ≡ attributes) where
-  abbrev pub with_children : List Child → Element
-  with_children children = record { name = name; attributes = attributes; children = children }
-
-  -- of elements
-  pub good_elements : (levels : ℕ) (es : List Element) → AllByRecursion (IsGood levels) es
-      → IsGood (levels + 1) (with_children (as_children es))
-  good_elements levels es f =
-      let e = with_children (as_children es) in
-      record {
-        fit = fit_whole e (record { name = fits; attributes = all; names_differ = differ; children = children_fit es })
-            (inside_fit levels es f);
-        arranged = arranged_is e ∙ (λ i. record { name = name; attributes = sorted i; children = arranged_children levels es f i });
-        within =
-            let is : nesting e ≡ suc (greatest_of (map child_nesting (as_children es))) = at_element ℕ ℕ child_levels element_levels e in
-            let most = levels_within levels es f in
-            omega (arith, is, most);
-      }
 
 some_text : (b : ℕ) (bs : List ℕ) → (b ∷ bs) ≢ []
 some_text b bs e = cc

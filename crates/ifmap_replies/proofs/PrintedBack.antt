@@ -5,10 +5,10 @@ use Rattle.ifmap_elem.specs.Fit.{IsFit}
 use Rattle.ifmap_elem.specs.Nesting.{nesting}
 use Rattle.ifmap_elem.specs.Spells.{Spells}
 use Rattle.ifmap_elem.specs.declared.elements.Element.{Element}
+use Rattle.ifmap_elem.specs.laws.GoodElements.{IsGood}
 use Rattle.ifmap_replies.specs.declared.replies.Reply.{Reply}
 use Rattle.ifmap_replies.specs.Means.{IsReplyOf, MeansReply}
 use Rattle.ifmap_replies.specs.Results.{reply_bytes, reply_element}
-use Rattle.ifmap_replies.proofs.GoodLaws.{IsGood}
 
 module _ (spelled : (e : Element) → IsFit e → Spells (canonical_bytes e) (canonical_reading e)) where
   pub bytes_back : (answer : Reply) → IsGood 71 (reply_element answer) → IsReplyOf (reply_element answer) answer

@@ -36,9 +36,10 @@ use Rattle.ifmap_replies.specs.Results.{error_element, name_attribute, new_sessi
 use Rattle.ifmap_replies.specs.Results.{poll_element, reply_element, response_name, result_element, run_element, text_children}
 use Rattle.ifmap_replies.specs.Results.{told_element}
 use Rattle.ifmap_replies.specs.Runs.{joined_runs, run_on, runs_of}
-use Rattle.ifmap_replies.proofs.GoodLaws.{IsGood, IsPlainPart, all_within, attribute_fits, bare_fits, good_elements, good_text, good_within}
+use Rattle.ifmap_replies.proofs.GoodLaws.{IsPlainPart, attribute_fits, bare_fits, good_text}
 use Rattle.ifmap_replies.proofs.GoodLaws.{is_plain_part, plain_name, plain_space, three_differ, two_differ}
 use Rattle.ifmap_elem.specs.laws.CharacterLaws.{numeral_characters}
+use Rattle.ifmap_elem.specs.laws.GoodElements.{IsGood, all_within, good_within, good_elements}
 
 -- ---- 1. texts
 

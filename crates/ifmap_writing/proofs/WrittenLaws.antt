@@ -22,6 +22,7 @@ use Rattle.ifmap_elem.specs.declared.elements.Element.{Element}
 use Rattle.ifmap_elem.specs.laws.PrintedScopes.{are_declared}
 use Rattle.ifmap_elem.specs.laws.FitLaws.{no_namespace}
 use Rattle.ifmap_elem.specs.laws.CharacterLaws.{numeral_characters}
+use Rattle.ifmap_elem.specs.laws.GoodElements.{IsGood, good_within}
 use Rattle.ifmap_requests.specs.ifmap_envelopes.Envelopes.{element_around, envelope_name, in_envelope}
 use Rattle.ifmap_filter.specs.declared.filters.Filter.{Filter}
 use Rattle.ifmap_filter.specs.Spaces.{filter_spaces}
@@ -57,7 +58,7 @@ use Rattle.ifmap_writing.specs.RequestSpaces.{subscribe_filters}
 use Rattle.ifmap_writing.proofs.CharacterLaws.{joined_characters, plain_characters}
 use Rattle.ifmap_writing.proofs.FilterLaws.{filter_characters, filter_namespaces}
 use Rattle.ifmap_writing.proofs.RowLaws.{is_plain_local, plain_fits}
-use Rattle.ifmap_writing.proofs.SoundLaws.{AreFitRows, IsSound, higher, sound_whole}
+use Rattle.ifmap_writing.proofs.SoundLaws.{AreFitRows, sound_whole}
 
 -- ---- (1) names
 
@@ -161,13 +162,13 @@ published_are (One a) elements = refl
 published_are (Pair a b) elements = refl
 
 list_sound : (elements : List Metadata) → AllByRecursion IsMetadata elements → AllByRecursion IsBoundedMetadata elements
-    → IsSound 60 (list_element elements)
+    → IsGood 60 (list_element elements)
 list_sound elements f within =
     sound_whole 59 (bare_name (codes "metadata")) [] (map (λ (m : Metadata). m.element) elements) (bare_fits (codes "metadata") refl)
     no_rows (each elements f within)
   where
     each : (elements : List Metadata) → AllByRecursion IsMetadata elements → AllByRecursion IsBoundedMetadata elements
-        → AllByRecursion (IsSound 59) (map (λ (m : Metadata). m.element) elements)
+        → AllByRecursion (IsGood 59) (map (λ (m : Metadata). m.element) elements)
     each [] f within = tt
     each (m ∷ elements) f within =
         (record { fit = f.0.sent.fit; arranged = f.0.sent.arranged; within = within.0 }, each elements f.1 within.1)
@@ -175,16 +176,16 @@ list_sound elements f within =
 module _ (fits : (i : Identifier) → IsIdentifier i → IsFit (identifier_element i))
     (arranged : (i : Identifier) → arrange (identifier_element i) ≡ identifier_element i)
     (levels : (i : Identifier) → nesting (identifier_element i) ≤ 2) where
-  identifier_sound : (i : Identifier) → IsIdentifier i → IsSound 60 (identifier_element i)
+  identifier_sound : (i : Identifier) → IsIdentifier i → IsGood 60 (identifier_element i)
   identifier_sound i f =
-      higher 2 60 (identifier_element i) (omega arith) (record { fit = fits i f; arranged = arranged i; within = levels i })
+      good_within 2 60 (identifier_element i) (omega arith) (record { fit = fits i f; arranged = arranged i; within = levels i })
 
-  identifiers_sound : (is : List Identifier) → AllByRecursion IsIdentifier is → AllByRecursion (IsSound 60) (map identifier_element is)
+  identifiers_sound : (is : List Identifier) → AllByRecursion IsIdentifier is → AllByRecursion (IsGood 60) (map identifier_element is)
   identifiers_sound [] f = tt
   identifiers_sound (i ∷ is) f = (identifier_sound i f.0, identifiers_sound is f.1)
 
   published_sound : (item : Item) (elements : List Metadata) → IsCanonItem item → AllByRecursion IsMetadata elements
-      → AllByRecursion IsBoundedMetadata elements → AllByRecursion (IsSound 60) (published_elements item elements)
+      → AllByRecursion IsBoundedMetadata elements → AllByRecursion (IsGood 60) (published_elements item elements)
   published_sound (One a) elements item f within = (identifier_sound a item.identifiers.0, (list_sound elements f within, tt))
   published_sound (Pair a b) elements item f within = (
     identifier_sound a item.identifiers.0,
@@ -196,13 +197,13 @@ module _ (fits : (i : Identifier) → IsIdentifier i → IsFit (identifier_eleme
   -- an operation that publishes
   carrier_sound : (local : List ℕ) (rows : List AttributeRow) (item : Item) (elements : List Metadata) → is_plain_local local ≡ true
       → AreFitRows rows → IsCanonItem item → AllByRecursion IsMetadata elements → AllByRecursion IsBoundedMetadata elements
-      → IsSound 61 (part_element local rows (published_children item elements))
+      → IsGood 61 (part_element local rows (published_children item elements))
   carrier_sound local rows item elements plain r i f within =
-      subst (λ (children : List Child). IsSound 61 (part_element local rows children)) (sym (published_are item elements))
+      subst (λ (children : List Child). IsGood 61 (part_element local rows children)) (sym (published_are item elements))
       (sound_whole 60 (bare_name local) rows (published_elements item elements) (bare_fits local plain) r
       (published_sound item elements i f within))
 
-  publish_sound : (spaces : List (List ℕ)) (op : PublishOp) → IsFitOp op → IsBoundedPublish op → IsSound 61 (publish_element spaces op)
+  publish_sound : (spaces : List (List ℕ)) (op : PublishOp) → IsFitOp op → IsBoundedPublish op → IsGood 61 (publish_element spaces op)
   publish_sound spaces (publish.Update item elements forever) f within =
       carrier_sound (codes "update") (lifetime_rows forever) item elements refl
       (record { rise = refl; plain = refl; values = (lifetime_fits forever, tt) }) f.0 f.1 within
@@ -213,7 +214,7 @@ module _ (fits : (i : Identifier) → IsIdentifier i → IsFit (identifier_eleme
       (bare_fits (codes "delete") refl) (record { rise = refl; plain = refl; values = (filter_fits spaces filter f.1, tt) })
       (identifiers_sound (identifiers_of item) f.0.identifiers)
 
-  subscribe_sound : (spaces : List (List ℕ)) (op : SubscribeOp) → IsFitSubscribeOp op → IsSound 61 (subscribe_element spaces op)
+  subscribe_sound : (spaces : List (List ℕ)) (op : SubscribeOp) → IsFitSubscribeOp op → IsGood 61 (subscribe_element spaces op)
   subscribe_sound spaces (subscribe.Update name s) f =
       sound_whole 60 (bare_name (codes "update")) (subscription_rows spaces name s) (identifier_element s.start ∷ [])
       (bare_fits (codes "update") refl) (subscription_fit spaces name s f.0 f.1) (identifier_sound s.start f.1.start, tt)
@@ -222,23 +223,23 @@ module _ (fits : (i : Identifier) → IsIdentifier i → IsFit (identifier_eleme
       (record { rise = refl; plain = refl; values = (f, tt) }) tt
 
   publishes_sound : (spaces : List (List ℕ)) (ops : List PublishOp) → AllByRecursion IsFitOp ops → AllByRecursion IsBoundedPublish ops
-      → AllByRecursion (IsSound 61) (map (publish_element spaces) ops)
+      → AllByRecursion (IsGood 61) (map (publish_element spaces) ops)
   publishes_sound spaces [] f within = tt
   publishes_sound spaces (op ∷ ops) f within = (publish_sound spaces op f.0 within.0, publishes_sound spaces ops f.1 within.1)
 
   subscribes_sound : (spaces : List (List ℕ)) (ops : List SubscribeOp) → AllByRecursion IsFitSubscribeOp ops
-      → AllByRecursion (IsSound 61) (map (subscribe_element spaces) ops)
+      → AllByRecursion (IsGood 61) (map (subscribe_element spaces) ops)
   subscribes_sound spaces [] f = tt
   subscribes_sound spaces (op ∷ ops) f = (subscribe_sound spaces op f.0, subscribes_sound spaces ops f.1)
 
   -- ---- (6) requests
 
   asking_sound : (local : List ℕ) (rows : List AttributeRow) (es : List Element) → is_plain_local local ≡ true → AreFitRows rows
-      → AllByRecursion (IsSound 61) es → IsSound 62 (asking_element local rows (as_children es))
+      → AllByRecursion (IsGood 61) es → IsGood 62 (asking_element local rows (as_children es))
   asking_sound local rows es plain r f =
       sound_whole 61 (record { space = ifmap_space; local = local }) rows es (asking_fits local plain) r f
 
-  element_sound : (spaces : List (List ℕ)) (r : Request) → IsFitRequest r → IsBounded r → IsSound 62 (element_in spaces r)
+  element_sound : (spaces : List (List ℕ)) (r : Request) → IsFitRequest r → IsBounded r → IsGood 62 (element_in spaces r)
   element_sound spaces (NewSession limit) f within =
       asking_sound (codes "newSession") (limit_rows limit) [] refl
       (record { rise = refl; plain = refl; values = (limit_fits limit, tt) }) tt
@@ -252,7 +253,7 @@ module _ (fits : (i : Identifier) → IsIdentifier i → IsFit (identifier_eleme
   element_sound spaces (Search session s) f within =
       asking_sound (codes "search") (search_rows spaces session s) (identifier_element s.start ∷ []) refl
       (search_fit spaces session s f.0 f.1)
-      (higher 60 61 (identifier_element s.start) (omega arith) (identifier_sound s.start f.1.start), tt)
+      (good_within 60 61 (identifier_element s.start) (omega arith) (identifier_sound s.start f.1.start), tt)
   element_sound spaces (Subscribe session ops) f within =
       asking_sound (codes "subscribe") (session_rows session) (map (subscribe_element spaces) ops) refl (session_fit session f.0)
       (subscribes_sound spaces ops f.1)
@@ -264,7 +265,7 @@ module _ (fits : (i : Identifier) → IsIdentifier i → IsFit (identifier_eleme
 
   -- ---- (7) the envelope
 
-  pub envelope_sound : (r : Request) → IsFitRequest r → IsBounded r → IsSound 64 (in_envelope (request_element r))
+  pub envelope_sound : (r : Request) → IsFitRequest r → IsBounded r → IsGood 64 (in_envelope (request_element r))
   envelope_sound r f within =
       let inner = element_sound (request_spaces r) r f within in
       let body : Element = element_around (envelope_name (codes "Body")) (request_element r) in

@@ -13,12 +13,11 @@ use Rattle.ifmap_view.specs.declared.attachments.Attachment.{Attachment}
 use Rattle.ifmap_view.specs.Attachments.{attachment_order}
 use Rattle.ifmap_view.specs.Rows.{stored_on}
 use Rattle.ifmap_fresh.specs.Gathered.{IsGrouped, gathered_rows, has_item, row_at}
-use Rattle.ifmap_fresh.specs.laws.SameLaws.{AreCanon, same_item_is}
 use Rattle.std.proofs.lemmas.Option.{none-some}
 use Rattle.ifmap_lemmas.specs.Having.{Has}
 use Rattle.ifmap_region.specs.Marks.{row_of}
 use Rattle.ifmap_fresh.specs.Collected.{numbers_of}
-use Rattle.ifmap_ident.specs.SameLaws.{BytesTellIdentifiers, items_total}
+use Rattle.ifmap_ident.specs.SameLaws.{BytesTellIdentifiers, items_total, AreCanon, same_item_is}
 use Rattle.ifmap_search.specs.declared.results.Entry.{Entry}
 
 -- items that the order tells apart are not the same

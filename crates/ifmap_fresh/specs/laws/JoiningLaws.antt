@@ -20,8 +20,8 @@ use Rattle.ifmap_view.specs.Views.{IsView}
 use Rattle.ifmap_fresh.specs.Matching.{is_match, one_meets}
 use Rattle.ifmap_fresh.specs.Linking.{end_where}
 use Rattle.ifmap_fresh.specs.Reached.{identifiers_in}
-use Rattle.ifmap_fresh.specs.laws.SameLaws.{member, pair_canon, pair_of_one, pair_parts, pair_turned, same_item_is}
-use Rattle.ifmap_ident.specs.SameLaws.{BytesTellIdentifiers}
+use Rattle.ifmap_fresh.specs.laws.SameLaws.{member, pair_canon, pair_of_one, pair_parts, pair_turned}
+use Rattle.ifmap_ident.specs.SameLaws.{BytesTellIdentifiers, same_item_is}
 
 pub turned : (a b : Option Identifier) (rows : List Attachment) → stored_linked a b rows ≡ stored_linked b a rows
 turned None None rows = refl

@@ -1,22 +1,21 @@
--- Identifiers and items that compare as the same are the same.
-use Rattle.std.proofs.Common.{◌≡◌, ◌⊎◌, inl, inr, true, false, ◌&&◌, Some, None, List, [], ◌∷◌, refl, ap, ◌∙◌, sym, subst}
+-- The item that is the pair of two identifiers.
+use Rattle.std.proofs.Common.{◌≡◌, ◌⊎◌, inl, inr, Some, None, List, [], ◌∷◌, refl, ap, ◌∙◌, sym, subst}
 use Rattle.std.specs.List.{AllByRecursion}
 use Rattle.std.specs.Ordering.{ordering_reverse}
 use Rattle.std.specs.declared.cmp.Ordering.{Ordering}
 use Rattle.std.specs.declared.cmp.Ordering.TheVariants.{Less, Equal, Greater}
-use Rattle.std.proofs.lemmas.Bool.{and_parts}
 use Rattle.std.proofs.lemmas.Option.{same_Some, none-some}
 use Rattle.ifmap_lemmas.specs.Having.{Has}
-use Rattle.ifmap_lemmas.specs.Texts.{eq_tells, slice_cmp-same}
+use Rattle.ifmap_lemmas.specs.Texts.{slice_cmp-same}
 use Rattle.ifmap_ident.specs.Canon.{IsIdentifier}
 use Rattle.ifmap_view.specs.declared.attachments.Attachment.{Attachment}
 use Rattle.ifmap_ident.specs.Items.{IsCanonItem}
 use Rattle.ifmap_ident.specs.declared.identifiers.Identifier.{Identifier}
 use Rattle.ifmap_ident.specs.declared.items.Item.{Item}
-use Rattle.ifmap_ident.specs.declared.items.Item.TheVariants.{One, Pair}
-use Rattle.ifmap_ident.specs.Identifiers.{identifier_bytes, identifier_order, same_identifier}
+use Rattle.ifmap_ident.specs.declared.items.Item.TheVariants.{Pair}
+use Rattle.ifmap_ident.specs.Identifiers.{identifier_bytes, identifier_order}
 use Rattle.ifmap_ident.specs.Items.{IsItem, identifiers_of, ordered_pair, pair_of, same_item}
-use Rattle.ifmap_ident.specs.SameLaws.{turned_order, BytesTellIdentifiers}
+use Rattle.ifmap_ident.specs.SameLaws.{turned_order}
 
 -- the pair of two identifiers is that of them the other way round, and of one there is none
 pub pair_turned : (a b : Identifier) → pair_of a b ≡ pair_of b a
@@ -42,22 +41,6 @@ pair_parts a b item e = by (identifier_order a b) refl
     by Less is = inl (same_Some item (Pair a b) (sym e ∙ ap (λ o. ordered_pair o a b) is))
     by Equal is = absurd (none-some item (sym (ap (λ o. ordered_pair o a b) is) ∙ e))
     by Greater is = inr (same_Some item (Pair b a) (sym e ∙ ap (λ o. ordered_pair o a b) is))
-
-abbrev pub AreCanon : Item → Type 0
-AreCanon x = AllByRecursion IsIdentifier (identifiers_of x)
-
-module _ (tells : BytesTellIdentifiers) where
-  pub same_is : (a b : Identifier) → IsIdentifier a → IsIdentifier b → same_identifier a b ≡ true → a ≡ b
-  same_is a b p q e = tells a b p q (eq_tells (identifier_bytes a) (identifier_bytes b) e)
-
-  pub same_item_is : (x y : Item) → AreCanon x → AreCanon y → same_item x y ≡ true → x ≡ y
-  same_item_is (One a) (One b) p q e = ap One (same_is a b p.0 q.0 (and_parts (same_identifier a b) true e).0)
-  same_item_is (One a) (Pair b c) p q e = let r : false ≡ true = (and_parts (same_identifier a b) false e).1 in cc
-  same_item_is (Pair a b) (One c) p q e = let r : false ≡ true = (and_parts (same_identifier a c) false e).1 in cc
-  same_item_is (Pair a b) (Pair c d) p q e =
-      let f = and_parts (same_identifier a c) (same_identifier b d && true) e
-      in let g = and_parts (same_identifier b d) true f.1
-      in ap (λ x. Pair x b) (same_is a c p.0 q.0 f.0) ∙ ap (λ x. Pair c x) (same_is b d p.1.0 q.1.0 g.0)
 
 -- the pair of two identifiers is an item
 pub pair_canon : (a b : Identifier) (item : Item) → IsIdentifier a → IsIdentifier b → pair_of a b ≡ Some item → IsCanonItem item

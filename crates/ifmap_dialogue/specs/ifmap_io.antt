@@ -1,0 +1,2 @@
+-- What the crates above name of `ifmap_io`.
+pub use Rattle.ifmap_io.specs.Causes
