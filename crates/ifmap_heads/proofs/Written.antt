@@ -11,7 +11,7 @@ use Rattle.std.proofs.lemmas.Fmt.{decimal_by_steps, decimal_is_IsNumeral, length
 use Rattle.std.proofs.lemmas.List.Elements.{All-cons}
 use Rattle.std.proofs.lemmas.List.Folds.{list_all-append}
 use Rattle.std.proofs.lemmas.List.Sums.{AllPass-from_list_all, list_all-from_AllPass}
-use Rattle.ifmap_lemmas.specs.Runs.{all_weaker}
+use Rattle.ifmap_lemmas.specs.Runs.{tests_weaker}
 use Rattle.httparse.specs.Ascii.{space}
 use Rattle.httparse.specs.Grammar.{Field, IsField, IsToken, crlf, field_value, is_ows, is_token, is_token_byte, is_value_byte, skip_ows}
 use Rattle.httparse.specs.Spans.{name_and_value}
@@ -53,7 +53,7 @@ token_is name is =
 field_is : (name v : List ℕ) → is_token name ≡ true → list_all is_ascii_graphic v ≡ true → IsField (written_field name v)
 field_is name v token is = record {
   name = token_is name token;
-  raw = AllPass-from_list_all is_value_byte (space ∷ v) (all_weaker is_ascii_graphic is_value_byte value_byte v is);
+  raw = AllPass-from_list_all is_value_byte (space ∷ v) (tests_weaker is_ascii_graphic is_value_byte value_byte v is);
 }
 
 fields_none : All IsField []

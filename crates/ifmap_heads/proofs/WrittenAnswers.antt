@@ -13,7 +13,7 @@ use Rattle.std.proofs.lemmas.Bool.{cond-false, le-ltb}
 use Rattle.std.proofs.lemmas.Bool.Decides.{nat_tests}
 use Rattle.std.proofs.lemmas.Fmt.{length-decimal-le}
 use Rattle.std.proofs.lemmas.List.Sums.{AllPass-from_list_all}
-use Rattle.ifmap_lemmas.specs.Runs.{all_weaker}
+use Rattle.ifmap_lemmas.specs.Runs.{tests_weaker}
 use Rattle.ifmap_lemmas.specs.Branches.{either_leads}
 use Rattle.ifmap_lemmas.specs.Numbers.{equal_numbers}
 use Rattle.httparse.specs.Grammar.{Field, IsResponseHead, ResponseHead, crlf, is_token_byte, is_value_byte, print_response, status_code}
@@ -170,7 +170,7 @@ unfolding digits
 body_is_read_back body rest close small =
     let count = decimal (length body) in
     let pairs = success count (last_pairs close) in
-    let seen = all_weaker is_ascii_digit is_ascii_graphic digit_is_visible count (digits_are (length body) (omega arith)) in
+    let seen = tests_weaker is_ascii_digit is_ascii_graphic digit_is_visible count (digits_are (length body) (omega arith)) in
     let fit = are_fit count close seen in
     let digits_short : length count ≤ 9 = length-decimal-le 9 (length body) (omega arith) (omega arith) (omega arith) in
     let enough : nat_lt longest_answer (length body) ≡ false = le-ltb longest_answer (length body) small in (

@@ -11,7 +11,7 @@ use Rattle.std.proofs.lemmas.Fmt.{length-decimal-le}
 use Rattle.std.proofs.lemmas.List.Sums.{AllPass-from_list_all}
 use Rattle.std.proofs.lemmas.Str.{IsUtf8-from_ascii}
 use Rattle.std.proofs.lemmas.Str.Ascii.{IsAscii-from_all}
-use Rattle.ifmap_lemmas.specs.Runs.{all_weaker}
+use Rattle.ifmap_lemmas.specs.Runs.{tests_weaker}
 use Rattle.httparse.specs.Grammar.{IsRequestHead, RequestHead, crlf, is_token_byte, is_uri_byte, print_request}
 use Rattle.ifmap_meta.specs.ClientNames.{is_client_byte}
 use Rattle.ifmap_heads.specs.Fields.{Fields}
@@ -84,13 +84,13 @@ module _ (host client body : List ℕ) (seen : list_all is_ascii_graphic host �
   size = decimal (length body)
 
   digits_seen : list_all is_ascii_graphic size ≡ true
-  digits_seen = all_weaker is_ascii_digit is_ascii_graphic digit_is_visible size (digits_are (length body) (omega arith))
+  digits_seen = tests_weaker is_ascii_digit is_ascii_graphic digit_is_visible size (digits_are (length body) (omega arith))
 
   named : ((nat_le 1 (length client) && nat_le (length client) 40) ≡ true) × (list_all is_client_byte client ≡ true)
   named = and_parts (nat_le 1 (length client) && nat_le (length client) 40) (list_all is_client_byte client) name
 
   client_seen : list_all is_ascii_graphic client ≡ true
-  client_seen = all_weaker is_client_byte is_ascii_graphic client_byte_is_visible client named.1
+  client_seen = tests_weaker is_client_byte is_ascii_graphic client_byte_is_visible client named.1
 
   fit : list_all is_fit (pairs_of host client size) ≡ true
   unfolding is_token_byte

@@ -37,9 +37,9 @@ pub to_both : {B X : Type 0} (Takes : B → X → B → Type 0) (bytes : B) (xs 
 to_both {B} {X} Takes bytes [] mid ys rest l m = subst (λ (b : B). To Takes b ys rest) (sym l) m
 to_both Takes bytes (x ∷ xs) mid ys rest l m = (l.0, l.1, to_both Takes l.0 xs mid ys rest l.2 m)
 
-pub all_weaker : {X : Type 0} (p q : X → Bool) → ((x : X) → p x ≡ true → q x ≡ true) → (xs : List X) → list_all p xs ≡ true
+pub tests_weaker : {X : Type 0} (p q : X → Bool) → ((x : X) → p x ≡ true → q x ≡ true) → (xs : List X) → list_all p xs ≡ true
     → list_all q xs ≡ true
-all_weaker p q implies xs is =
+tests_weaker p q implies xs is =
     let all = AllPass-from_list_all p xs is in
     list_all-from_AllPass q xs (λ k d within. implies _ (all k d within))
 
