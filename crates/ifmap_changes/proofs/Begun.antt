@@ -16,7 +16,7 @@ use Rattle.ifmap_graph.specs.Held.{Held}
 use Rattle.ifmap_graph.specs.Seen.{IsSeenSame, IsStill}
 use Rattle.ifmap_tellings.specs.declared.tellings.Pending.{Pending}
 use Rattle.ifmap_changes.specs.declared.parts.Parts.{Parts}
-use Rattle.ifmap_changes.specs.Between.{AreKept, Asking, HasStartNumber, IsSoundSoFar, IsSteady, sight_now, so_far, starts_of}
+use Rattle.ifmap_changes.specs.Between.{AreKept, Asking, HasStartNumber, IsSoundSoFar, IsSteady, sight_now, state_now, starts_of}
 use Rattle.ifmap_changes.specs.Changes.{IsBegun}
 use Rattle.ifmap_changes.proofs.Settling.{ready_after}
 use Rattle.ifmap_tellings.specs.ifmap_standing.PlaceLaws.{kept_itself, keep_searches}
@@ -70,8 +70,8 @@ module _ (ready : Ready) (wanted : Plan) (old : Parts) (mid : Held) (begun : IsB
       (begun.numbers x.subscription.region.start x.subscription.search.start
       (all_got (HasStartNumber old.graph) old.standing.items i x steady.numbered e)) (r.kept i x e f)) r
 
-  pub same_so_far : (a : Asking) (pending : Pending) → so_far a begun_parts pending ≡ so_far a old pending
-  same_so_far a pending = λ i. record (so_far a old pending) { graph = begun.rows i }
+  pub same_so_far : (a : Asking) (pending : Pending) → state_now a begun_parts pending ≡ state_now a old pending
+  same_so_far a pending = λ i. record (state_now a old pending) { graph = begun.rows i }
 
 -- and as calls say it, of parts with that graph
 pub ready_out : (ready : Ready) (wanted : Plan) (old mid : Parts) → IsBegun ready wanted old.graph mid.graph

@@ -4,13 +4,13 @@ use Rattle.std.proofs.Common.{◌≡◌, inl, inr, ℕ, zero, suc, ◌+◌, Bool
 use Rattle.std.proofs.lemmas.Bool.{cases_Bool}
 use Rattle.std.proofs.lemmas.Option.{same_Some, none-some}
 use Rattle.std.specs.List.{filter, zip}
-use Rattle.ifmap_tellings.specs.Tellings.{kept_of}
+use Rattle.ifmap_tellings.specs.Tellings.{kept_items}
 
 -- ---- what stands where no flag is
 
 -- flags more where a test passes
 pub kept_marked : {X : Type 0} (test : X → Bool) (gone : List Bool) (xs : List X)
-    → kept_of (map (λ (p : Bool × X). p.0 || test p.1) (zip gone xs)) xs ≡ filter (λ x. not (test x)) (kept_of gone xs)
+    → kept_items (map (λ (p : Bool × X). p.0 || test p.1) (zip gone xs)) xs ≡ filter (λ x. not (test x)) (kept_items gone xs)
 kept_marked test [] xs = refl
 kept_marked test (g ∷ gone) [] = refl
 kept_marked test (true ∷ gone) (x ∷ xs) = kept_marked test gone xs
@@ -27,7 +27,8 @@ module _ {Y N : Type 0} (make : Bool → Y → N) where
 
   -- flags more where what was made without one passes a test
   pub kept_made : (flag : N → Bool) (test : Y → Bool) → ((y : Y) → flag (make false y) ≡ test y) → (gone : List Bool) (ys : List Y)
-      → kept_of (map (λ (p : Bool × N). p.0 || flag p.1) (zip gone (made_of gone ys))) ys ≡ filter (λ y. not (test y)) (kept_of gone ys)
+      → kept_items (map (λ (p : Bool × N). p.0 || flag p.1) (zip gone (made_of gone ys))) ys
+      ≡ filter (λ y. not (test y)) (kept_items gone ys)
   kept_made flag test is [] ys = refl
   kept_made flag test is (g ∷ gone) [] = refl
   kept_made flag test is (true ∷ gone) (y ∷ ys) = kept_made flag test is gone ys
@@ -40,7 +41,7 @@ module _ {Y N : Type 0} (make : Bool → Y → N) where
     -- what there is of those that pass a test is of those without a flag
     pub queued_made : (told : Y → List Z) → ((y : Y) → items (make false y) ≡ told y) → (q : Y → Bool) (gone : List Bool) (ys : List Y)
         → flat_map (λ (p : Y × N). items p.1) (filter (λ (p : Y × N). q p.0) (zip ys (made_of gone ys)))
-        ≡ flat_map told (filter q (kept_of gone ys))
+        ≡ flat_map told (filter q (kept_items gone ys))
     queued_made told is q [] [] = refl
     queued_made told is q [] (y ∷ ys) = refl
     queued_made told is q (g ∷ gone) [] = refl

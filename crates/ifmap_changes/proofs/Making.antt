@@ -29,9 +29,9 @@ use Rattle.ifmap_graph.specs.Held.{Held, IsOwn}
 use Rattle.ifmap_graph.specs.Out.{items_changed}
 use Rattle.ifmap_graph.specs.Seen.{AreAwaited, AwaitsMore, BringsNoNumbers, IsLean, IsStill, KeepsNumbers, KeepsOwn, StaysLean, StaysLeanWith, StaysLeanWithout, links_next, links_now, rows_next, rows_now}
 use Rattle.ifmap_tellings.specs.declared.tellings.Pending.{Pending}
-use Rattle.ifmap_tellings.specs.Tellings.{AreWide, HasSameSessions, IsWide, kept_of, told_by}
+use Rattle.ifmap_tellings.specs.Tellings.{AreWide, HasSameSessions, IsWide, kept_items, tell_by}
 use Rattle.ifmap_changes.specs.declared.parts.Parts.{Parts}
-use Rattle.ifmap_changes.specs.Between.{AreKept, AreOrdered, AreTurnedWith, AreWithinLimits, Asking, CanEnd, HasNoSubscriptions, IsSoundSoFar, IsSteady, IsWithinLimit, sessions_left, sight_now, so_far, starts_of}
+use Rattle.ifmap_changes.specs.Between.{AreKept, AreOrdered, AreTurnedWith, AreWithinLimits, Asking, CanEnd, HasNoSubscriptions, IsSoundSoFar, IsSteady, IsWithinLimit, sessions_left, sight_now, state_now, starts_of}
 use Rattle.ifmap_changes.specs.Changes.{CanTakeBack, IsTold, sight_next, with_next}
 use Rattle.ifmap_changes.proofs.Begun.{IsOutAndTold, ready_begun, same_so_far, shared}
 use Rattle.ifmap_changes.proofs.Starts.{numbered_beside, numbered_more, own_beside}
@@ -160,11 +160,11 @@ module _ {ready : Ready} {wanted : Plan} {old mid to : Parts} (out : IsOutAndTol
         (subst (λ (p : Plan). IsTold a mid before p.notes to after) out.begun.plan news))
 
     pub told_made : BytesTellIdentifiers → (rows : List Attachment) → IsGraph rows → IsAfter wanted.changes (rows_now old.graph) rows
-        → so_far a new after ≡ overflow (tell rows wanted.notes (so_far a old before))
+        → state_now a new after ≡ overflow (tell rows wanted.notes (state_now a old before))
     told_made tells rows graph is =
         let one : rows_next mid.graph ≡ rows
         = one_graph tells (rows_next mid.graph) rows out.begun.next.graph graph (λ x. after_now x ∙ sym (is x))
-        in let made_now : so_far a new after ≡ with_next a (last out) after
+        in let made_now : state_now a new after ≡ with_next a (last out) after
         = (λ i. record (with_next a (last out) after) { graph = made.rows i })
         in made_now ∙ told.state
         ∙ (λ i. overflow (tell (one i) wanted.notes (same_so_far ready wanted old mid.graph out.begun a before i)))
@@ -174,10 +174,10 @@ module _ {ready : Ready} {wanted : Plan} {old mid to : Parts} (out : IsOutAndTol
         to.standing.items r.flags (same out).long (λ i x y p q other e. other (sym ((same out).at i x y p q).serial ∙ e)) told.gone bare
 
     -- no queue is greater than its limit once all is told
-    within_made : AreWithinLimits (map (told_by after.tellings) (sessions_left a to.sessions))
+    within_made : AreWithinLimits (map (tell_by after.tellings) (sessions_left a to.sessions))
     within_made =
-        let some = map (told_by before.tellings) (sessions_left a old.sessions)
-        in let those = map standing_of (kept_of before.gone.items old.standing.items)
+        let some = map (tell_by before.tellings) (sessions_left a old.sessions)
+        in let those = map standing_of (kept_items before.gone.items old.standing.items)
         in let tells_it : Session → Session = λ s. tell_session
         (told_in_session (rows_now mid.graph) (rows_next mid.graph) wanted.notes those s.serial) s
         in let wide : AreWide (map tells_it some)

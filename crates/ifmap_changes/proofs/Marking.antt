@@ -11,12 +11,12 @@ use Rattle.std.specs.List.{list_any}
 use Rattle.std.specs.List.Sorted.{IsBinarySearchResult, IsSearchInRange, IsStrictlySortedBy}
 use Rattle.std.specs.Ordering.{nat_cmp}
 use Rattle.std.specs.Result.{is_ok}
-use Rattle.ifmap_changes.specs.Changes.{gone_with}
+use Rattle.ifmap_changes.specs.Changes.{flags_with}
 use Rattle.ifmap_tellings.specs.ifmap_machine.Ending.{without_standing}
 use Rattle.ifmap_graph.specs.ifmap_plans.laws.PlacingLaws.{found_any, gap_none}
 use Rattle.ifmap_tellings.specs.ifmap_standing.declared.standing.Standing.{Standing}
 use Rattle.ifmap_tellings.specs.ifmap_standing.Standing.{standing_of}
-use Rattle.ifmap_tellings.specs.Tellings.{AllKept, kept_of}
+use Rattle.ifmap_tellings.specs.Tellings.{AllKept, kept_items}
 
 abbrev pub is_of : List ℕ → Standing → Bool
 is_of serials x = list_any (λ n. n == x.serial) serials
@@ -54,7 +54,7 @@ marks_first serials (suc n) (b ∷ gone) (y ∷ xs) x long at =
     by false l = refl
 
 pub all_marked : (serials : List ℕ) (n : ℕ) (gone : List Bool) (xs : List Standing) → length gone ≡ length xs → n ≡ length xs
-    → gone_first serials n gone xs ≡ gone_with serials gone xs
+    → gone_first serials n gone xs ≡ flags_with serials gone xs
 all_marked serials zero [] [] long e = refl
 all_marked serials zero (b ∷ gone) [] long e = absurd (omega (arith, long))
 all_marked serials zero gone (x ∷ xs) long e = absurd (omega (arith, e))
@@ -80,36 +80,36 @@ among serial serials (Err i) up within is =
 -- ---- what they are
 
 pub as_many : (serials : List ℕ) (gone : List Bool) (xs : List Standing) → length gone ≡ length xs
-    → length (gone_with serials gone xs) ≡ length xs
+    → length (flags_with serials gone xs) ≡ length xs
 as_many serials [] [] long = refl
 as_many serials (b ∷ gone) [] long = absurd (omega (arith, long))
 as_many serials [] (x ∷ xs) long = absurd (omega (arith, long))
 as_many serials (b ∷ gone) (x ∷ xs) long = ap suc (as_many serials gone xs (omega (arith, long)))
 
 pub still_set : (serials : List ℕ) (gone : List Bool) (xs : List Standing) → length gone ≡ length xs → (i : ℕ)
-    → slice_get gone i ≡ Some true → slice_get (gone_with serials gone xs) i ≡ Some true
+    → slice_get gone i ≡ Some true → slice_get (flags_with serials gone xs) i ≡ Some true
 still_set serials [] xs long i e = absurd (none-some true e)
 still_set serials (b ∷ gone) [] long i e = absurd (omega (arith, long))
 still_set serials (b ∷ gone) (x ∷ xs) long zero e = ap (λ c. Some (c || is_of serials x)) (same_Some b true e)
 still_set serials (b ∷ gone) (x ∷ xs) long (suc i) e = still_set serials gone xs (omega (arith, long)) i e
 
 pub left_without : (serials : List ℕ) (gone : List Bool) (xs : List Standing)
-    → map standing_of (kept_of (gone_with serials gone xs) xs) ≡ without_standing serials (map standing_of (kept_of gone xs))
+    → map standing_of (kept_items (flags_with serials gone xs) xs) ≡ without_standing serials (map standing_of (kept_items gone xs))
 left_without serials [] xs = refl
 left_without serials (b ∷ gone) [] = refl
 left_without serials (true ∷ gone) (x ∷ xs) = left_without serials gone xs
 left_without serials (false ∷ gone) (x ∷ xs) = by (is_of serials x) (left_without serials gone xs)
   where
-    by : (d : Bool) → map standing_of (kept_of (gone_with serials gone xs) xs)
-        ≡ without_standing serials (map standing_of (kept_of gone xs))
-        → map standing_of (kept_of (d ∷ gone_with serials gone xs) (x ∷ xs))
-        ≡ cond (not d) (standing_of x ∷ without_standing serials (map standing_of (kept_of gone xs)))
-        (without_standing serials (map standing_of (kept_of gone xs)))
+    by : (d : Bool) → map standing_of (kept_items (flags_with serials gone xs) xs)
+        ≡ without_standing serials (map standing_of (kept_items gone xs))
+        → map standing_of (kept_items (d ∷ flags_with serials gone xs) (x ∷ xs))
+        ≡ cond (not d) (standing_of x ∷ without_standing serials (map standing_of (kept_items gone xs)))
+        (without_standing serials (map standing_of (kept_items gone xs)))
     by true rest = rest
     by false rest = ap (λ l. standing_of x ∷ l) rest
 
 pub none_of_them : (serials : List ℕ) (gone : List Bool) (xs : List Standing)
-    → AllKept (λ x. is_of serials x ≡ false) (gone_with serials gone xs) xs
+    → AllKept (λ x. is_of serials x ≡ false) (flags_with serials gone xs) xs
 none_of_them serials [] xs i x at flag = absurd (none-some false flag)
 none_of_them serials (b ∷ gone) [] i x at flag = absurd (none-some x at)
 none_of_them serials (b ∷ gone) (y ∷ xs) (suc i) x at flag = none_of_them serials gone xs i x at flag
@@ -122,7 +122,7 @@ none_of_them serials (b ∷ gone) (y ∷ xs) zero x at flag =
     by false d u = u
 
 pub none_left : (serial : ℕ) (gone : List Bool) (xs : List Standing)
-    → AllKept (λ x. x.serial ≢ serial) (gone_with (serial ∷ []) gone xs) xs
+    → AllKept (λ x. x.serial ≢ serial) (flags_with (serial ∷ []) gone xs) xs
 none_left serial [] xs i x at flag = absurd (none-some false flag)
 none_left serial (b ∷ gone) [] i x at flag = absurd (none-some x at)
 none_left serial (b ∷ gone) (y ∷ xs) (suc i) x at flag = none_left serial gone xs i x at flag

@@ -33,7 +33,7 @@ use Rattle.ifmap_tellings.specs.ifmap_standing.Kept.{AtEach, KeepsSame, StaysRel
 use Rattle.ifmap_tellings.specs.ifmap_standing.Standing.{standing_of}
 use Rattle.ifmap_tellings.specs.ifmap_standing.Ways.{IsWayGivenUp, LeadsBackWhere, Way}
 use Rattle.ifmap_tellings.specs.declared.tellings.Pending.{Pending}
-use Rattle.ifmap_tellings.specs.Tellings.{AllKept, CanTell, EachTelling, HasSameSessions, IsSized, kept_of, told_by}
+use Rattle.ifmap_tellings.specs.Tellings.{AllKept, CanTell, EachTelling, HasSameSessions, IsSized, kept_items, tell_by}
 use Rattle.ifmap_graph.specs.ifmap_view.declared.attachments.Attachment.{Attachment}
 use Rattle.ifmap_tellings.specs.ifmap_standing.PlaceLaws.{at_each_map, at_each_weaker, leads_search}
 use Rattle.ifmap_tellings.specs.ToldLaws.{same_kept}
@@ -117,16 +117,16 @@ same_ordered live old new s o = record {
   few = λ n. subst (λ l. length (standing_in n l) ≤ most_names) (sym (same_shown old new s)) (o.few n);
 }
 
-shown_kept : (gone : List Bool) (xs : List Standing) → map standing_of (kept_of gone xs) ≡ kept_of gone (map standing_of xs)
+shown_kept : (gone : List Bool) (xs : List Standing) → map standing_of (kept_items gone xs) ≡ kept_items gone (map standing_of xs)
 shown_kept [] xs = refl
 shown_kept (b ∷ gone) [] = refl
 shown_kept (true ∷ gone) (x ∷ xs) = shown_kept gone xs
 shown_kept (false ∷ gone) (x ∷ xs) = ap (λ l. standing_of x ∷ l) (shown_kept gone xs)
 
 pub same_left : (gone : List Bool) (old new : List Standing) → HaveSameSearches old new
-    → map standing_of (kept_of gone new) ≡ map standing_of (kept_of gone old)
+    → map standing_of (kept_items gone new) ≡ map standing_of (kept_items gone old)
 same_left gone old new s =
-    shown_kept gone new ∙ ap (kept_of gone) (same_shown old new s) ∙ sym (shown_kept gone old)
+    shown_kept gone new ∙ ap (kept_items gone) (same_shown old new s) ∙ sym (shown_kept gone old)
 
 pub same_state : (s : machine.State) (g h : List Attachment) (xs ys : List machine.Standing) → g ≡ h → xs ≡ ys
     → record s { graph = g; standing = xs } ≡ record s { graph = h; standing = ys }
@@ -152,7 +152,7 @@ ready_after a old new pending same searches kept r =
           (λ _. StaysRelated HasSameSearch)
           (λ i x y t h. subst (λ n. IsLive n (sessions_left a old.sessions)) (sym t.serial) h) gone xs ys searches r.live);
       queues = subst (λ t. AreWithinLimits t.live) (sym same) r.queues;
-      within = subst (λ t. AreWithinLimits (map (told_by pending.tellings) (sessions_left a t))) (sym same) r.within;
+      within = subst (λ t. AreWithinLimits (map (tell_by pending.tellings) (sessions_left a t))) (sym same) r.within;
       can_tell = subst (λ t. EachTelling (CanTell (rest_of a t)) pending.tellings) (sym same) r.can_tell;
       sized = subst (λ t. EachTelling (λ n u. IsSized n u t.live) pending.tellings) (sym same) r.sized;
       alone = λ n is. same_kept (λ x. x.serial ≢ n) (λ x. x.serial ≢ n) (λ _. StaysRelated HasSameSearch)

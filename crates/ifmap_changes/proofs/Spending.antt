@@ -15,10 +15,10 @@ use Rattle.ifmap_tellings.specs.ifmap_standing.Bounds.{IsWithinEach}
 use Rattle.ifmap_tellings.specs.ifmap_standing.declared.standing.Standing.{Standing}
 use Rattle.ifmap_tellings.specs.ifmap_standing.Standing.{standing_of}
 use Rattle.ifmap_tellings.specs.declared.tellings.Pending.{Pending}
-use Rattle.ifmap_tellings.specs.Tellings.{kept_of}
+use Rattle.ifmap_tellings.specs.Tellings.{kept_items}
 use Rattle.ifmap_graph.specs.ifmap_view.declared.attachments.Attachment.{Attachment}
 use Rattle.ifmap_changes.specs.declared.parts.Parts.{Parts}
-use Rattle.ifmap_changes.specs.Between.{Asking, IsSteady, sight_now, so_far}
+use Rattle.ifmap_changes.specs.Between.{Asking, IsSteady, sight_now, state_now}
 use Rattle.ifmap_changes.specs.Bounds.{IsEndedWithin, IsPlanWithin, IsTakenWithin, IsWithinAll, IsWithinOne}
 use Rattle.ifmap_changes.specs.Changes.{sight_next}
 use Rattle.ifmap_changes.proofs.Begun.{IsOutAndTold}
@@ -47,11 +47,11 @@ module _ (old new : ViewSeen) where
   -- what is gone takes no step
   within_kept : (gone : List Bool) (xs : List Standing) (a b : ℕ)
       → AllByRecursion (λ (x : Standing). old.id_at x.subscription.region.start ≡ Some x.subscription.search.start) xs
-      → IsWithinEach old new (zip gone xs) a b → IsWithinAll old new (map standing_of (kept_of gone xs)) a b
+      → IsWithinEach old new (zip gone xs) a b → IsWithinAll old new (map standing_of (kept_items gone xs)) a b
   within_kept [] xs a b numbered s = s
   within_kept (g ∷ gone) [] a b numbered s = s
   within_kept (true ∷ gone) (x ∷ xs) a b numbered s =
-      lower (map standing_of (kept_of gone xs)) s.0 a b s.1 (within_kept gone xs s.0 b numbered.1 s.2)
+      lower (map standing_of (kept_items gone xs)) s.0 a b s.1 (within_kept gone xs s.0 b numbered.1 s.2)
   within_kept (false ∷ gone) (x ∷ xs) a b numbered s =
       (s.0, (x.subscription.region.start, numbered.0, s.1), within_kept gone xs s.0 b numbered.1 s.2)
 
@@ -59,7 +59,7 @@ module _ (old new : ViewSeen) where
 pub told_within : {ready : Ready} {wanted : Plan} {old mid to : Parts} → IsOutAndTold ready wanted old mid to → BytesTellIdentifiers
     → IsSteady old.graph old.standing.items → (a : Asking) (before : Pending) (from till : ℕ)
     → IsWithinEach (sight_now mid.graph) (sight_next mid.graph) (zip before.gone.items mid.standing.items) from till
-    → IsPlanWithin wanted (so_far a old before) from till
+    → IsPlanWithin wanted (state_now a old before) from till
 told_within {ready} {wanted} {old} {mid} {to} out tells steady a before from till spent = λ rows graph after.
     let g = mid.graph
     in let begun = out.begun
@@ -84,11 +84,11 @@ ended_none serial state n = (n, omega arith, inl (omega arith))
 -- its subscriptions are marked, and what was to stay as long as it is taken away
 pub ended_within : (a : Asking) (parts : Parts) (before marked : Pending) (serial : ℕ) (serials : List ℕ) (from to : ℕ)
     → serials ≡ serial ∷ []
-    → map standing_of (kept_of marked.gone.items parts.standing.items)
-    ≡ without_standing (serial ∷ []) (map standing_of (kept_of before.gone.items parts.standing.items))
-    → IsTakenWithin (Sessions serials) (so_far a parts marked) from to
-    → IsEndedWithin (serial ∷ []) (so_far a parts before) from to
+    → map standing_of (kept_items marked.gone.items parts.standing.items)
+    ≡ without_standing (serial ∷ []) (map standing_of (kept_items before.gone.items parts.standing.items))
+    → IsTakenWithin (Sessions serials) (state_now a parts marked) from to
+    → IsEndedWithin (serial ∷ []) (state_now a parts before) from to
 ended_within a parts before marked serial serials from to one left spent =
     subst (λ (xs : List machine.Standing). IsTakenWithin (Sessions (serial ∷ []))
-    (record (so_far a parts marked) { standing = xs }) from to) left
-    (subst (λ (ns : List ℕ). IsTakenWithin (Sessions ns) (so_far a parts marked) from to) one spent)
+    (record (state_now a parts marked) { standing = xs }) from to) left
+    (subst (λ (ns : List ℕ). IsTakenWithin (Sessions ns) (state_now a parts marked) from to) one spent)

@@ -2,7 +2,7 @@
 -- (`can_settle`), and a plan that takes away (`taken_canon`, `taken_told`).
 use Rattle.std.proofs.Common.{◌≡◌, ◌≢◌, ◌∙◌, ℕ, true, Some, List, [], length, map, slice_get, ap, sym, subst}
 use Rattle.std.specs.List.{AllByRecursion}
-use Rattle.ifmap_changes.specs.Between.{AreWithinLimits, Asking, IsSoundSoFar, rest_of, sessions_left, sight_now, so_far}
+use Rattle.ifmap_changes.specs.Between.{AreWithinLimits, Asking, IsSoundSoFar, rest_of, sessions_left, sight_now, state_now}
 use Rattle.ifmap_changes.specs.Changes.{CanSettle, CanTakeBack, TakesAway}
 use Rattle.ifmap_changes.specs.declared.changes.Made.{Made}
 use Rattle.ifmap_changes.specs.declared.parts.Parts.{Parts}
@@ -22,7 +22,7 @@ use Rattle.ifmap_tellings.specs.ifmap_publish.Retract.{retract}
 use Rattle.ifmap_tellings.specs.ifmap_session.Sessions.{IsLive}
 use Rattle.ifmap_tellings.specs.ifmap_standing.Standing.{standing_of}
 use Rattle.ifmap_tellings.specs.declared.tellings.Pending.{Pending}
-use Rattle.ifmap_tellings.specs.Tellings.{AloneAreBare, CanTell, EachTelling, IsSized, kept_of, told_by}
+use Rattle.ifmap_tellings.specs.Tellings.{AloneAreBare, CanTell, EachTelling, IsSized, kept_items, tell_by}
 use Rattle.ifmap_graph.specs.ifmap_view.declared.attachments.Attachment.{Attachment}
 use Rattle.ifmap_graph.specs.ifmap_view.Attachments.{IsGraph}
 
@@ -43,7 +43,7 @@ ready_marked a parts old new flags stay same r =
       kept = less_kept (λ x. IsUpToDate (sight_now parts.graph) x.subscription) old.gone.items new.gone.items standing r.flags stay r.kept;
       live = less_kept (λ x. IsLive x.serial (sessions_left a parts.sessions)) old.gone.items new.gone.items standing r.flags stay r.live;
       queues = r.queues;
-      within = subst (λ t. AreWithinLimits (map (told_by t) (sessions_left a parts.sessions))) (sym same) r.within;
+      within = subst (λ t. AreWithinLimits (map (tell_by t) (sessions_left a parts.sessions))) (sym same) r.within;
       can_tell = subst (λ t. EachTelling (CanTell (rest_of a parts.sessions)) t) (sym same) r.can_tell;
       sized = subst (λ t. EachTelling (λ n u. IsSized n u parts.sessions.live) t) (sym same) r.sized;
       alone = subst (λ t. AloneAreBare t new.gone.items standing) (sym same)
@@ -52,16 +52,19 @@ ready_marked a parts old new flags stay same r =
 
 -- and the state is that without the subscriptions that are gone
 pub marked_state : (serials : List ℕ) (a : Asking) (parts : Parts) (old new : Pending)
-    → map standing_of (kept_of new.gone.items parts.standing.items)
-    ≡ without_standing serials (map standing_of (kept_of old.gone.items parts.standing.items)) → new.tellings ≡ old.tellings
-    → so_far a parts new
-    ≡ record (so_far a parts old) { standing = without_standing serials (map standing_of (kept_of old.gone.items parts.standing.items)) }
+    → map standing_of (kept_items new.gone.items parts.standing.items)
+    ≡ without_standing serials (map standing_of (kept_items old.gone.items parts.standing.items)) → new.tellings ≡ old.tellings
+    → state_now a parts new
+    ≡ record (state_now a parts old) {
+      standing = without_standing serials
+          (map standing_of (kept_items old.gone.items parts.standing.items));
+    }
 marked_state serials a parts old new gone same = λ k. record {
   moment = a.moment;
   ttl = a.ttl;
   counter = parts.sessions.counter;
   graph = rows_now parts.graph;
-  sessions = map (told_by (same k)) (sessions_left a parts.sessions);
+  sessions = map (tell_by (same k)) (sessions_left a parts.sessions);
   standing = gone k;
 }
 

@@ -33,7 +33,7 @@ use Rattle.ifmap_graph.specs.ifmap_view.declared.attachments.Attachment.{Attachm
 use Rattle.ifmap_graph.specs.Seen.{rows_next, rows_now}
 use Rattle.ifmap_tellings.specs.declared.tellings.Pending.{Pending}
 use Rattle.ifmap_tellings.specs.declared.tellings.Telling.{Telling}
-use Rattle.ifmap_tellings.specs.Tellings.{AllKept, AloneAreBare, AreWide, CanTell, EachTelling, HasSameSessions, IsSized, IsWide, SkipsGone, count_told, gone_after, gone_alone, is_alone, kept_of, queued_for, told_by, told_where}
+use Rattle.ifmap_tellings.specs.Tellings.{AllKept, AloneAreBare, AreWide, CanTell, EachTelling, HasSameSessions, IsSized, IsWide, SkipsGone, count_told, flags_since, flags_of_alone, is_alone, kept_items, items_for, tell_by, tell_if}
 use Rattle.ifmap_changes.specs.declared.parts.Parts.{Parts}
 use Rattle.ifmap_changes.specs.Between.{Asking, IsSoundSoFar, IsWithinLimit, sessions_left}
 use Rattle.ifmap_changes.specs.Changes.{IsTold, sight_next}
@@ -79,25 +79,25 @@ live_has n (s ∷ live) l = elim (cases_Bool (s.serial == n)) [
 -- ---- before the news are queued
 
 module _ {a : Asking} {old : Parts} {before : Pending} (ready : IsSoundSoFar a old before) where
-  untold : (s : Session) → stays_in a s.serial ≡ false → told_by before.tellings s ≡ s
+  untold : (s : Session) → stays_in a s.serial ≡ false → tell_by before.tellings s ≡ s
   untold s goes = by (get nat_cmp before.tellings s.serial) refl
     where
-      by : (o : Option Telling) → get nat_cmp before.tellings s.serial ≡ o → told_where o s ≡ s
+      by : (o : Option Telling) → get nat_cmp before.tellings s.serial ≡ o → tell_if o s ≡ s
       by None is = refl
       by (Some t) is =
           let stays : stays_in a s.serial ≡ true = live_passes (stays_in a) s.serial old.sessions.live (ready.can_tell s.serial t is).live
           in let wrong : true ≡ false = sym stays ∙ goes
           in cc
 
-  pub within_all : AllByRecursion (λ s. is_overfull s ≡ false) (map (told_by before.tellings) old.sessions.live)
-  within_all = map_of_all (λ s. is_overfull s ≡ false) (told_by before.tellings) old.sessions.live
-      (has_all (λ s. is_overfull (told_by before.tellings s) ≡ false) old.sessions.live one)
+  pub within_all : AllByRecursion (λ s. is_overfull s ≡ false) (map (tell_by before.tellings) old.sessions.live)
+  within_all = map_of_all (λ s. is_overfull s ≡ false) (tell_by before.tellings) old.sessions.live
+      (has_all (λ s. is_overfull (tell_by before.tellings s) ≡ false) old.sessions.live one)
     where
-      one : (s : Session) → Has old.sessions.live s → is_overfull (told_by before.tellings s) ≡ false
+      one : (s : Session) → Has old.sessions.live s → is_overfull (tell_by before.tellings s) ≡ false
       one s there = elim (cases_Bool (stays_in a s.serial)) [
-        | inl stays ↦ (all_has IsWithinLimit (map (told_by before.tellings) (sessions_left a old.sessions)) ready.within
-            (told_by before.tellings s)
-            (has_map (told_by before.tellings) (sessions_left a old.sessions) s
+        | inl stays ↦ (all_has IsWithinLimit (map (tell_by before.tellings) (sessions_left a old.sessions)) ready.within
+            (tell_by before.tellings s)
+            (has_map (tell_by before.tellings) (sessions_left a old.sessions) s
             (has_filter (λ (t : Session). stays_in a t.serial) old.sessions.live s there stays))).full
         | inr goes ↦ subst (λ t. is_overfull t ≡ false) (sym (untold s goes))
             (all_has IsWithinLimit old.sessions.live ready.queues s there).full
@@ -142,7 +142,7 @@ module _ {a : Asking} {old : Parts} {before : Pending} {notes : List Note} {stan
 
   -- those that are not gone
   abbrev those : List machine.Standing
-  those = map standing_of (kept_of gone old.standing.items)
+  those = map standing_of (kept_items gone old.standing.items)
 
   -- the sessions that are left
   abbrev lives : List Session
@@ -172,9 +172,9 @@ module _ {a : Asking} {old : Parts} {before : Pending} {notes : List Note} {stan
   live_now = (same_ordered old.sessions.live old.standing.items stand_now known.same known.ready.ordered).live
 
   -- what is queued for a session
-  pub queued : (n : ℕ) → queued_for n stand_now news ≡ told_in_session rows next notes those n
+  pub queued : (n : ℕ) → items_for n stand_now news ≡ told_in_session rows next notes those n
   queued n =
-      ap (queued_for n stand_now) known.are_news
+      ap (items_for n stand_now) known.are_news
       ∙ zip_mapped standing_of (λ y. y.serial == n) (λ (one : News). one.items) stand_now (news_of_each rows next notes gone ys)
       ∙ ap (λ zs. flat_map (λ (p : machine.Standing × News). p.1.items)
       (filter (λ (p : machine.Standing × News). p.0.serial == n) (zip zs (news_of_each rows next notes gone ys)))) shown_now
@@ -184,41 +184,41 @@ module _ {a : Asking} {old : Parts} {before : Pending} {notes : List Note} {stan
 
   -- which stand
   stand : (alone : ℕ → Bool) (after : List Bool)
-      → after ≡ map (λ (p : Bool × Standing). p.0 || alone p.1.serial) (zip (gone_after gone news) stand_now)
-      → map standing_of (kept_of after stand_now)
+      → after ≡ map (λ (p : Bool × Standing). p.0 || alone p.1.serial) (zip (flags_since gone news) stand_now)
+      → map standing_of (kept_items after stand_now)
       ≡ filter (λ y. not (alone y.serial)) (filter (λ y. not (is_too_big next y.search)) those)
   stand alone after is =
-      ap (λ g. map standing_of (kept_of g stand_now)) is
-      ∙ ap (map standing_of) (kept_marked (λ (x : Standing). alone x.serial) (gone_after gone news) stand_now)
-      ∙ map_filter standing_of (λ y. not (alone y.serial)) (kept_of (gone_after gone news) stand_now)
+      ap (λ g. map standing_of (kept_items g stand_now)) is
+      ∙ ap (map standing_of) (kept_marked (λ (x : Standing). alone x.serial) (flags_since gone news) stand_now)
+      ∙ map_filter standing_of (λ y. not (alone y.serial)) (kept_items (flags_since gone news) stand_now)
       ∙ ap (filter (λ y. not (alone y.serial)))
-      (map_kept standing_of (gone_after gone news) stand_now
-      ∙ ap (kept_of (gone_after gone news)) shown_now
-      ∙ ap (λ ns. kept_of (gone_after gone ns) ys) known.are_news
+      (map_kept standing_of (flags_since gone news) stand_now
+      ∙ ap (kept_items (flags_since gone news)) shown_now
+      ∙ ap (λ ns. kept_items (flags_since gone ns) ys) known.are_news
       ∙ kept_made (news_where rows next notes) (λ (one : News). one.is_too_big) (λ y. is_too_big next y.search) (λ y. refl) gone ys
       ∙ ap (filter (λ y. not (is_too_big next y.search))) (sym (map_kept standing_of gone old.standing.items)))
 
   -- what a session has to tell, before it is looked at whether that is too much
   abbrev told_one : Session → Session
-  told_one s = tell_session (told_in_session rows next notes those s.serial) (told_by before.tellings s)
+  told_one s = tell_session (told_in_session rows next notes those s.serial) (tell_by before.tellings s)
 
   -- and one that was told already, as the definition tells it
   abbrev tell_it : Session → Session
   tell_it s = tell_session (told_in_session rows next notes those s.serial) s
 
-  tells : map tell_it (map (told_by before.tellings) lives) ≡ map told_one lives
-  tells = map_twice (told_by before.tellings) tell_it lives ∙ alike_maps (λ s. tell_it (told_by before.tellings s)) told_one lives
-      (has_all _ lives (λ s there. ap (λ n. tell_session (told_in_session rows next notes those n) (told_by before.tellings s))
+  tells : map tell_it (map (tell_by before.tellings) lives) ≡ map told_one lives
+  tells = map_twice (tell_by before.tellings) tell_it lives ∙ alike_maps (λ s. tell_it (tell_by before.tellings s)) told_one lives
+      (has_all _ lives (λ s there. ap (λ n. tell_session (told_in_session rows next notes those n) (tell_by before.tellings s))
       (told_serial (get nat_cmp before.tellings s.serial) s)))
 
   live_those : AllByRecursion (λ (y : machine.Standing). IsLive y.serial lives) those
-  live_those = all_shown (λ y. IsLive y.serial lives) (kept_of gone old.standing.items)
+  live_those = all_shown (λ y. IsLive y.serial lives) (kept_items gone old.standing.items)
       (kept_all (λ x. IsLive x.serial lives) gone old.standing.items known.ready.live)
 
   not_alone : (y : machine.Standing) → Has those y → is_alone (get nat_cmp before.tellings y.serial) ≡ false
   not_alone y there = elim (cases_Bool (is_alone (get nat_cmp before.tellings y.serial))) [
     | inl is ↦
-        let bare = all_shown (λ z. z.serial ≢ y.serial) (kept_of gone old.standing.items)
+        let bare = all_shown (λ z. z.serial ≢ y.serial) (kept_items gone old.standing.items)
         (kept_all (λ x. x.serial ≢ y.serial) gone old.standing.items (known.ready.alone y.serial is))
         in absurd (all_has (λ (z : machine.Standing). z.serial ≢ y.serial) those bare y there refl)
     | inr is ↦ is
@@ -226,28 +226,28 @@ module _ {a : Asking} {old : Parts} {before : Pending} {notes : List Note} {stan
 
   module _ (after : Pending) (sessions_now : SessionTable)
       (sessions : HasSameSessions old.sessions sessions_now)
-      (told : map (told_by after.tellings) old.sessions.live
-      ≡ map (λ s. overflow_session (tell_session (queued_for s.serial stand_now news) (told_by before.tellings s))) old.sessions.live)
-      (is_gone : after.gone.items ≡ gone_alone after.tellings (gone_after gone news) stand_now)
+      (told : map (tell_by after.tellings) old.sessions.live
+      ≡ map (λ s. overflow_session (tell_session (items_for s.serial stand_now news) (tell_by before.tellings s))) old.sessions.live)
+      (is_gone : after.gone.items ≡ flags_of_alone after.tellings (flags_since gone news) stand_now)
       (overrun : (s : Session) → Has old.sessions.live s → is_alone (get nat_cmp after.tellings s.serial)
       ≡ (is_alone (get nat_cmp before.tellings s.serial)
-      || is_overfull (tell_session (queued_for s.serial stand_now news) (told_by before.tellings s))))
-      (brought : (n : ℕ) → IsSome (get nat_cmp after.tellings n) → get nat_cmp before.tellings n ≡ None → queued_for n stand_now news ≢ [])
+      || is_overfull (tell_session (items_for s.serial stand_now news) (tell_by before.tellings s))))
+      (brought : (n : ℕ) → IsSome (get nat_cmp after.tellings n) → get nat_cmp before.tellings n ≡ None → items_for n stand_now news ≢ [])
       (can_tell : EachTelling (CanTell sessions_now) after.tellings)
       (sized : EachTelling (λ n t. IsSized n t sessions_now.live) after.tellings)
       (bare : AloneAreBare after.tellings after.gone.items stand_now)
       (kept : AllKept (λ x. IsUpToDate (sight_next old.graph) x.subscription) gone stand_now) where
     -- what the sessions have to tell
-    tell_each : map (told_by after.tellings) lives ≡ map overflow_session (map told_one lives)
+    tell_each : map (tell_by after.tellings) lives ≡ map overflow_session (map told_one lives)
     tell_each =
-        alike_maps (told_by after.tellings) (λ s. overflow_session (told_one s)) lives
-        (all_filter (λ s. told_by after.tellings s ≡ overflow_session (told_one s)) (λ (s : Session). stays_in a s.serial) old.sessions.live
-        (all_weaker (λ s. told_by after.tellings s
-        ≡ overflow_session (tell_session (queued_for s.serial stand_now news) (told_by before.tellings s)))
-        (λ s. told_by after.tellings s ≡ overflow_session (told_one s))
-        (λ s e. e ∙ ap (λ q. overflow_session (tell_session q (told_by before.tellings s))) (queued s.serial)) old.sessions.live
-        (maps_alike (told_by after.tellings)
-        (λ s. overflow_session (tell_session (queued_for s.serial stand_now news) (told_by before.tellings s))) old.sessions.live told)))
+        alike_maps (tell_by after.tellings) (λ s. overflow_session (told_one s)) lives
+        (all_filter (λ s. tell_by after.tellings s ≡ overflow_session (told_one s)) (λ (s : Session). stays_in a s.serial) old.sessions.live
+        (all_weaker (λ s. tell_by after.tellings s
+        ≡ overflow_session (tell_session (items_for s.serial stand_now news) (tell_by before.tellings s)))
+        (λ s. tell_by after.tellings s ≡ overflow_session (told_one s))
+        (λ s e. e ∙ ap (λ q. overflow_session (tell_session q (tell_by before.tellings s))) (queued s.serial)) old.sessions.live
+        (maps_alike (tell_by after.tellings)
+        (λ s. overflow_session (tell_session (items_for s.serial stand_now news) (tell_by before.tellings s))) old.sessions.live told)))
         ∙ sym (map_twice told_one overflow_session lives)
 
     abbrev alone : ℕ → Bool
@@ -260,8 +260,8 @@ module _ {a : Asking} {old : Parts} {before : Pending} {notes : List Note} {stan
         let is : s.serial ≡ n = eqb-true s.serial n hit
         in let one : is_alone (get nat_cmp before.tellings s.serial) ≡ false = ap (λ m. is_alone (get nat_cmp before.tellings m)) is ∙ none
         in let all = overrun s (filter_has (λ (t : Session). stays_in a t.serial) old.sessions.live s there).0
-        in ap (λ q. is_overfull (tell_session q (told_by before.tellings s))) (sym (queued s.serial))
-        ∙ ap (λ b. b || is_overfull (tell_session (queued_for s.serial stand_now news) (told_by before.tellings s))) (sym one)
+        in ap (λ q. is_overfull (tell_session q (tell_by before.tellings s))) (sym (queued s.serial))
+        ∙ ap (λ b. b || is_overfull (tell_session (items_for s.serial stand_now news) (tell_by before.tellings s))) (sym one)
         ∙ sym all ∙ ap alone is
 
     overrun_one : (y : machine.Standing) → Has those y → alone y.serial ≡ is_overrun (map told_one lives) y
@@ -278,7 +278,7 @@ module _ {a : Asking} {old : Parts} {before : Pending} {notes : List Note} {stan
         in sym (any_of_map told_one (λ (t : Session). t.serial == n && is_overfull t) lives
         ∙ any_of_both (λ s. (told_one s).serial == n) (λ s. is_overfull (told_one s)) (alone n) lives each some)
 
-    which_stand : map standing_of (kept_of after.gone.items stand_now)
+    which_stand : map standing_of (kept_items after.gone.items stand_now)
         ≡ filter (λ y. not (is_overrun (map told_one lives) y)) (filter (λ y. not (is_too_big next y.search)) those)
     which_stand = stand alone after.gone.items is_gone
         ∙ filter_alike (λ y. not (alone y.serial)) (λ y. not (is_overrun (map told_one lives) y))
@@ -290,14 +290,14 @@ module _ {a : Asking} {old : Parts} {before : Pending} {notes : List Note} {stan
     gone_stays i e =
         let long = mapped_long (λ (p : Bool × News). p.0 || p.1.is_too_big) gone news (flags_now ∙ sym long_news)
         in ap (λ g. slice_get g i) is_gone
-        ∙ marks_stay (λ (x : Standing). alone x.serial) (gone_after gone news) stand_now (long ∙ long_news) i
+        ∙ marks_stay (λ (x : Standing). alone x.serial) (flags_since gone news) stand_now (long ∙ long_news) i
         (marks_stay (λ (one : News). one.is_too_big) gone news (flags_now ∙ sym long_news) i e)
 
     flags_after : length after.gone.items ≡ length stand_now
     flags_after =
         let long = mapped_long (λ (p : Bool × News). p.0 || p.1.is_too_big) gone news (flags_now ∙ sym long_news)
         in ap length is_gone
-        ∙ mapped_long (λ (p : Bool × Standing). p.0 || alone p.1.serial) (gone_after gone news) stand_now (long ∙ long_news)
+        ∙ mapped_long (λ (p : Bool × Standing). p.0 || alone p.1.serial) (flags_since gone news) stand_now (long ∙ long_news)
 
     live_told : (n : ℕ) (t : Telling) → get nat_cmp after.tellings n ≡ Some t → IsLive n lives
     live_told n t is = by (get nat_cmp before.tellings n) refl
@@ -316,13 +316,13 @@ module _ {a : Asking} {old : Parts} {before : Pending} {notes : List Note} {stan
         let lives_now : sessions_left a new.sessions ≡ lives =
         ap (λ (t : SessionTable). sessions_left a t) is_sessions ∙ ap (without_sessions a.ended) sessions.live
         in let counter : new.sessions.counter ≡ old.sessions.counter = ap (λ (t : SessionTable). t.counter) is_sessions ∙ sessions.counter
-        in let all : map (told_by after.tellings) (sessions_left a new.sessions)
-        ≡ map overflow_session (map tell_it (map (told_by before.tellings) lives))
-        = ap (map (told_by after.tellings)) lives_now ∙ tell_each ∙ ap (map overflow_session) (sym tells)
-        in let which : map standing_of (kept_of after.gone.items new.standing.items)
-        ≡ filter (λ y. not (is_overrun (map tell_it (map (told_by before.tellings) lives)) y))
+        in let all : map (tell_by after.tellings) (sessions_left a new.sessions)
+        ≡ map overflow_session (map tell_it (map (tell_by before.tellings) lives))
+        = ap (map (tell_by after.tellings)) lives_now ∙ tell_each ∙ ap (map overflow_session) (sym tells)
+        in let which : map standing_of (kept_items after.gone.items new.standing.items)
+        ≡ filter (λ y. not (is_overrun (map tell_it (map (tell_by before.tellings) lives)) y))
         (filter (λ y. not (is_too_big next y.search)) those)
-        = ap (λ xs. map standing_of (kept_of after.gone.items xs)) is_standing ∙ which_stand
+        = ap (λ xs. map standing_of (kept_items after.gone.items xs)) is_standing ∙ which_stand
         ∙ ap (λ S. filter (λ y. not (is_overrun S y)) (filter (λ y. not (is_too_big next y.search)) those)) (sym tells)
         in let drafted : rows_next new.graph ≡ next = ap rows_next graph
         in record {

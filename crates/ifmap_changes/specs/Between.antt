@@ -4,7 +4,7 @@ use Rattle.std.specs.List.{AllByRecursion}
 use Rattle.std.specs.List.Sorted.{IsStrictlySortedBy}
 use Rattle.ifmap_changes.specs.declared.parts.Parts.{Parts}
 use Rattle.ifmap_tellings.specs.declared.tellings.Pending.{Pending}
-use Rattle.ifmap_tellings.specs.Tellings.{AllKept, AloneAreBare, CanTell, EachTelling, HasSameSessions, IsSized, IsWide, kept_of, told_by}
+use Rattle.ifmap_tellings.specs.Tellings.{AllKept, AloneAreBare, CanTell, EachTelling, HasSameSessions, IsSized, IsWide, kept_items, tell_by}
 use Rattle.ifmap_tellings.specs.ifmap_delta.declared.subscriptions.Subscription.{Subscription}
 use Rattle.ifmap_tellings.specs.ifmap_delta.Sights.{IsUpToDate, ViewSeen}
 use Rattle.ifmap_tellings.specs.ifmap_delta.Ways.{HasSameSearch}
@@ -108,16 +108,16 @@ rest_of a table = record table { live = sessions_left a table }
 
 -- the subscriptions that are left
 abbrev pub standing_left : Parts → Pending → List Standing
-standing_left parts pending = kept_of pending.gone.items parts.standing.items
+standing_left parts pending = kept_items pending.gone.items parts.standing.items
 
 -- the state that an event is answered in: of what was changed all is told, though it is still to be queued
-abbrev pub so_far : Asking → Parts → Pending → State
-so_far a parts pending = record {
+abbrev pub state_now : Asking → Parts → Pending → State
+state_now a parts pending = record {
   moment = a.moment;
   ttl = a.ttl;
   counter = parts.sessions.counter;
   graph = rows_now parts.graph;
-  sessions = map (told_by pending.tellings) (sessions_left a parts.sessions);
+  sessions = map (tell_by pending.tellings) (sessions_left a parts.sessions);
   standing = map standing_of (standing_left parts pending);
 }
 
@@ -140,7 +140,7 @@ pub record IsSoundSoFar (a : Asking) (parts : Parts) (pending : Pending) : Type 
   pub live : AllKept (λ x. IsLive x.serial (sessions_left a parts.sessions)) pending.gone.items parts.standing.items
   -- no queue is greater than its limit, also once all is told, which there is room for
   pub queues : AreWithinLimits parts.sessions.live
-  pub within : AreWithinLimits (map (told_by pending.tellings) (sessions_left a parts.sessions))
+  pub within : AreWithinLimits (map (tell_by pending.tellings) (sessions_left a parts.sessions))
   pub can_tell : EachTelling (CanTell (rest_of a parts.sessions)) pending.tellings
   pub sized : EachTelling (λ n t. IsSized n t parts.sessions.live) pending.tellings
   -- who is told one error in place of all has no subscription left

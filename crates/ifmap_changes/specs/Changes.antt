@@ -1,7 +1,7 @@
 -- Changes of the graph while an event is answered, and their ways back.
 use Rattle.std.specs.Prelude.{◌≡◌, ◌≤◌, ◌==◌, ◌||◌, ℕ, Bool, true, List, [], ◌∷◌, Some, length, map, slice_get, vec_capacity, vec_len}
 use Rattle.std.specs.List.{list_any, zip}
-use Rattle.ifmap_changes.specs.Between.{Asking, IsSeen, SharesNumbers, rest_of, sight_now, so_far}
+use Rattle.ifmap_changes.specs.Between.{Asking, IsSeen, SharesNumbers, rest_of, sight_now, state_now}
 use Rattle.ifmap_changes.specs.declared.changes.Made.{Made}
 use Rattle.ifmap_changes.specs.declared.parts.Parts.{Parts}
 use Rattle.ifmap_tellings.specs.declared.tellings.Pending.{Pending}
@@ -37,7 +37,7 @@ sight_next h = record { rows = rows_next h; id_at = key_at h.names; links = link
 
 -- the state with the graph as it is to be
 abbrev pub with_next : Asking → Parts → Pending → State
-with_next a parts pending = record (so_far a parts pending) { graph = rows_next parts.graph }
+with_next a parts pending = record (state_now a parts pending) { graph = rows_next parts.graph }
 
 -- a change of a graph is out: what is seen of the graph is as it was but for numbers that came, and what is to be seen is what the plan
 -- makes of it
@@ -60,7 +60,7 @@ pub record IsBegun (ready : Ready) (wanted : Plan) (old new : Held) : Type 0 whe
 -- the change makes of the one before; who is not gone keeps what the graph is to have; what is pending is of live sessions with room
 -- for it, and its sizes are exact; and who is told one error in place of all has no subscription left
 pub record IsTold (a : Asking) (old : Parts) (before : Pending) (notes : List Note) (new : Parts) (after : Pending) : Type 0 where
-  pub state : with_next a new after ≡ overflow (tell (rows_next old.graph) notes (so_far a old before))
+  pub state : with_next a new after ≡ overflow (tell (rows_next old.graph) notes (state_now a old before))
   pub kept : AllKept (λ x. IsUpToDate (sight_next new.graph) x.subscription) after.gone.items new.standing.items
   pub flags : length after.gone.items ≡ length new.standing.items
   -- what was gone is
@@ -73,7 +73,7 @@ pub record IsTold (a : Asking) (old : Parts) (before : Pending) (notes : List No
 abbrev pub TellsPlan : Asking → Plan → Parts → Pending → Parts → Pending → Type 0
 TellsPlan a plan old before new after =
     (rows : List Attachment) → IsGraph rows → IsAfter plan.changes (rows_now old.graph) rows
-    → so_far a new after ≡ overflow (tell rows plan.notes (so_far a old before))
+    → state_now a new after ≡ overflow (tell rows plan.notes (state_now a old before))
 
 -- a change can be left as it is: its items are waited for
 pub record CanSettle (made : Made) (parts : Parts) : Type 0 where
@@ -99,8 +99,8 @@ pub record IsSettled (old new : Parts) : Type 0 where
   pub sessions : new.sessions ≡ old.sessions
 
 -- also gone are the subscriptions of these sessions
-abbrev pub gone_with : List ℕ → List Bool → List Standing → List Bool
-gone_with serials gone standing = map (λ (p : Bool × Standing). p.0 || list_any (λ n. n == p.1.serial) serials) (zip gone standing)
+abbrev pub flags_with : List ℕ → List Bool → List Standing → List Bool
+flags_with serials gone standing = map (λ (p : Bool × Standing). p.0 || list_any (λ n. n == p.1.serial) serials) (zip gone standing)
 
 -- a plan takes away what is of these, and notifies nothing
 pub record TakesAway (who : Who) (rows : List Attachment) (plan : Plan) : Type 0 where
@@ -114,5 +114,5 @@ abbrev pub state_taken_from : Who → State → State
 state_taken_from who state = overflow (tell (retract who state.graph) [] state)
 
 -- the state once a session's subscriptions stand no longer, and the others are told what goes with it
-abbrev pub taken_one : ℕ → State → State
-taken_one n state = state_taken_from (Sessions (n ∷ [])) (record state { standing = without_standing (n ∷ []) state.standing })
+abbrev pub take_session : ℕ → State → State
+take_session n state = state_taken_from (Sessions (n ∷ [])) (record state { standing = without_standing (n ∷ []) state.standing })

@@ -3,12 +3,12 @@ ghost use Rattle.std.specs.Prelude.{◌≡◌, ◌≢◌, ◌<◌, ◌≤◌, �
 ghost use Rattle.std.specs.List.{AllByRecursion, list_any, zip};
 ghost use Rattle.std.specs.List.Sorted.{IsStrictlySortedBy};
 ghost use Rattle.std.specs.Ordering.{nat_cmp};
-ghost use Rattle.ifmap_changes.specs.Between.{AreBack, AreKept, AreOrdered, AreParts, AreTurned, AreTurnedWith, Asking, HasNoSubscriptions, IsSoundSoFar, IsSteady, sight_now, so_far};
+ghost use Rattle.ifmap_changes.specs.Between.{AreBack, AreKept, AreOrdered, AreParts, AreTurned, AreTurnedWith, Asking, HasNoSubscriptions, IsSoundSoFar, IsSteady, sight_now, state_now};
 ghost use Rattle.ifmap_changes.specs.Bounds.{IsPlanWithin};
-ghost use Rattle.ifmap_changes.specs.Changes.{CanSettle, CanTakeBack, IsBegun, IsSettled, IsTold, TellsPlan, gone_with, sight_next};
+ghost use Rattle.ifmap_changes.specs.Changes.{CanSettle, CanTakeBack, IsBegun, IsSettled, IsTold, TellsPlan, flags_with, sight_next};
 ghost use Rattle.ifmap_changes.specs.declared.parts.Parts.{Parts};
 ghost use Rattle.ifmap_tellings.specs.declared.tellings.Pending.{Pending};
-ghost use Rattle.ifmap_tellings.specs.Tellings.{AllKept, HasSameSessions, kept_of};
+ghost use Rattle.ifmap_tellings.specs.Tellings.{AllKept, HasSameSessions, kept_items};
 ghost use Rattle.ifmap_tellings.specs.ifmap_delta.Changes.{ShowsAfter};
 ghost use Rattle.ifmap_tellings.specs.ifmap_delta.Sights.{IsUpToDate};
 ghost use Rattle.ifmap_tellings.specs.ifmap_delta.Ways.{HasSameSearch};
@@ -70,7 +70,7 @@ pub fn make_change<L: Ledger>(
     ensures kept { OnErr result (AreKept parts.old parts.new) }
 
     // Also where memory runs out.
-    ensures steps { IsPlanWithin plan (so_far asking.now parts.old pending.old) steps.old
+    ensures steps { IsPlanWithin plan (state_now asking.now parts.old pending.old) steps.old
         steps.new }
 {
     let made = make_kept(alloc, parts, pending, asking, plan, steps)?;
@@ -104,7 +104,7 @@ pub fn make_kept<L: Ledger>(
     ensures kept { OnErr result (AreKept parts.old parts.new) }
 
     // Also where memory runs out.
-    ensures steps { IsPlanWithin plan (so_far asking.now parts.old pending.old) steps.old
+    ensures steps { IsPlanWithin plan (state_now asking.now parts.old pending.old) steps.old
         steps.new }
 {
     bytes_tell_identifiers_apart();
@@ -239,8 +239,8 @@ pub fn settle_made(parts: &mut Parts, made: Made)
     ensures settled { IsSettled parts.old parts.new }
     ensures ready { (asking : Asking) (pending : Pending) → IsSoundSoFar asking parts.old pending
         → IsSoundSoFar asking parts.new pending }
-    ensures so_far { (asking : Asking) (pending : Pending) → so_far asking parts.new pending
-        ≡ so_far asking parts.old pending }
+    ensures state_now { (asking : Asking) (pending : Pending) → state_now asking parts.new pending
+        ≡ state_now asking parts.old pending }
     ensures waits { AwaitsLess (items_changed made.undo.plan.changes) parts.old.graph
         parts.new.graph }
     ensures lean { StaysLeanWithout (items_changed made.undo.plan.changes) parts.old.graph
@@ -286,11 +286,11 @@ pub fn flag_sessions(standing: &[Standing], pending: &mut Pending, serials: &[u6
     requires flags { length pending.old.gone.items ≡ length standing.now }
     requires rising { IsStrictlySortedBy nat_cmp serials.now }
     ensures gone { pending.new.gone.items
-        ≡ gone_with serials.now pending.old.gone.items standing.now }
+        ≡ flags_with serials.now pending.old.gone.items standing.now }
     ensures flags { length pending.new.gone.items ≡ length standing.now }
-    ensures left { map standing_of (kept_of pending.new.gone.items standing.now)
+    ensures left { map standing_of (kept_items pending.new.gone.items standing.now)
         ≡ without_standing serials.now
-        (map standing_of (kept_of pending.old.gone.items standing.now)) }
+        (map standing_of (kept_items pending.old.gone.items standing.now)) }
     ensures bare { AllKept (λ x. list_any (λ n. n == x.serial) serials.now ≡ false)
         pending.new.gone.items standing.now }
     ensures stay { (i : ℕ) → slice_get pending.old.gone.items i ≡ Some true
@@ -304,7 +304,7 @@ pub fn flag_sessions(standing: &[Standing], pending: &mut Pending, serials: &[u6
 fn set_flags(standing: &[Standing], gone: &mut Vec<bool>, serials: &[u64])
     requires flags { length gone.old.items ≡ length standing.now }
     requires rising { IsStrictlySortedBy nat_cmp serials.now }
-    ensures { gone.new.items ≡ gone_with serials.now gone.old.items standing.now }
+    ensures { gone.new.items ≡ flags_with serials.now gone.old.items standing.now }
 {
     for at in 0..standing.len() {
         set_flag(gone, at, is_among(serials, standing[at].serial));
@@ -334,11 +334,11 @@ fn set_flag(flags: &mut Vec<bool>, at: usize, is_to_be: bool)
 pub fn flag_session(standing: &[Standing], pending: &mut Pending, serial: u64)
     requires flags { length pending.old.gone.items ≡ length standing.now }
     ensures gone { pending.new.gone.items
-        ≡ gone_with (serial ∷ []) pending.old.gone.items standing.now }
+        ≡ flags_with (serial ∷ []) pending.old.gone.items standing.now }
     ensures flags { length pending.new.gone.items ≡ length standing.now }
-    ensures left { map standing_of (kept_of pending.new.gone.items standing.now)
+    ensures left { map standing_of (kept_items pending.new.gone.items standing.now)
         ≡ without_standing (serial ∷ []) (map standing_of
-        (kept_of pending.old.gone.items standing.now)) }
+        (kept_items pending.old.gone.items standing.now)) }
     ensures bare { AllKept (λ x. x.serial ≢ serial) pending.new.gone.items standing.now }
     ensures stay { (i : ℕ) → slice_get pending.old.gone.items i ≡ Some true
         → slice_get pending.new.gone.items i ≡ Some true }

@@ -1,9 +1,9 @@
 //! What changes the graph: what is published, and what goes with publishers and sessions.
 ghost use Rattle.std.specs.Prelude.{◌≡◌, ◌∷◌, ℕ, [], IfOk, OnErr, OnOk};
 ghost use Rattle.std.specs.List.{AllByRecursion};
-ghost use Rattle.ifmap_changes.specs.Between.{AreKept, AreTurned, AreTurnedWith, HasNoSubscriptions, IsSoundSoFar, IsSteady, so_far};
+ghost use Rattle.ifmap_changes.specs.Between.{AreKept, AreTurned, AreTurnedWith, HasNoSubscriptions, IsSoundSoFar, IsSteady, state_now};
 ghost use Rattle.ifmap_changes.specs.Bounds.{IsEndedWithin, IsRetractedWithin, IsTakenWithin, IsToldWithin};
-ghost use Rattle.ifmap_changes.specs.Changes.{CanSettle, CanTakeBack, TakesAway, state_taken_from, taken_one};
+ghost use Rattle.ifmap_changes.specs.Changes.{CanSettle, CanTakeBack, TakesAway, state_taken_from, take_session};
 ghost use Rattle.ifmap_tellings.specs.ifmap_machine.Telling.{overflow, tell};
 ghost use Rattle.ifmap_graph.specs.ifmap_plans.Plans.{AreWhole};
 ghost use Rattle.ifmap_tellings.specs.ifmap_publish.Apply.{Authorship, apply};
@@ -48,9 +48,9 @@ pub fn publish<L: Ledger>(
       client = asking.now.client;
       serial = publication.now.serial;
       moment = asking.now.moment;
-    } in OnOk result (so_far asking.now parts.new pending.new
+    } in OnOk result (state_now asking.now parts.new pending.new
         ≡ overflow (tell (apply (rows_now parts.old.graph) by publication.now.ops.now)
-        (notes_of by publication.now.ops.now) (so_far asking.now parts.old pending.old))) }
+        (notes_of by publication.now.ops.now) (state_now asking.now parts.old pending.old))) }
     ensures steady { OnOk result (IsSteady parts.new.graph parts.new.standing.items) }
     ensures ready { OnOk result (IsSoundSoFar asking.now parts.new pending.new) }
     ensures turned { OnOk result (AreTurned parts.old parts.new) }
@@ -62,7 +62,7 @@ pub fn publish<L: Ledger>(
       serial = publication.now.serial;
       moment = asking.now.moment;
     } in IsToldWithin (apply (rows_now parts.old.graph) by publication.now.ops.now)
-        (so_far asking.now parts.old pending.old) steps.old steps.new }
+        (state_now asking.now parts.old pending.old) steps.old steps.new }
 {
     publishing_keeps_graphs();
     parts.graph.is_view();
@@ -86,8 +86,8 @@ pub fn take_away<L: Ledger>(
 ) -> Result<(), NoMemory>
     requires steady { IsSteady parts.old.graph parts.old.standing.items }
     requires ready { IsSoundSoFar asking.now parts.old pending.old }
-    ensures told { OnOk result (so_far asking.now parts.new pending.new
-        ≡ state_taken_from who.now (so_far asking.now parts.old pending.old)) }
+    ensures told { OnOk result (state_now asking.now parts.new pending.new
+        ≡ state_taken_from who.now (state_now asking.now parts.old pending.old)) }
     ensures steady { OnOk result (IsSteady parts.new.graph parts.new.standing.items) }
     ensures ready { OnOk result (IsSoundSoFar asking.now parts.new pending.new) }
     ensures bare { OnOk result ((n : ℕ) → HasNoSubscriptions n parts.old pending.old
@@ -96,7 +96,7 @@ pub fn take_away<L: Ledger>(
     ensures kept { OnErr result (AreKept parts.old parts.new) }
 
     // Also where memory runs out.
-    ensures steps { IsTakenWithin who.now (so_far asking.now parts.old pending.old) steps.old
+    ensures steps { IsTakenWithin who.now (state_now asking.now parts.old pending.old) steps.old
         steps.new }
 {
     let plan = plan_retraction(alloc, &parts.graph, who, steps)?;
@@ -131,8 +131,8 @@ pub fn take_away_one<L: Ledger>(
 ) -> Result<(), NoMemory>
     requires steady { IsSteady parts.old.graph parts.old.standing.items }
     requires ready { IsSoundSoFar asking.now parts.old pending.old }
-    ensures told { OnOk result (so_far asking.now parts.new pending.new
-        ≡ taken_one serial (so_far asking.now parts.old pending.old)) }
+    ensures told { OnOk result (state_now asking.now parts.new pending.new
+        ≡ take_session serial (state_now asking.now parts.old pending.old)) }
     ensures steady { OnOk result (IsSteady parts.new.graph parts.new.standing.items) }
     ensures ready { OnOk result (IsSoundSoFar asking.now parts.new pending.new) }
     ensures bare { OnOk result (HasNoSubscriptions serial parts.new pending.new) }
@@ -140,7 +140,7 @@ pub fn take_away_one<L: Ledger>(
     ensures kept { OnErr result (AreKept parts.old parts.new) }
 
     // Also where memory runs out.
-    ensures steps { IsEndedWithin (serial ∷ []) (so_far asking.now parts.old pending.old)
+    ensures steps { IsEndedWithin (serial ∷ []) (state_now asking.now parts.old pending.old)
         steps.old steps.new }
 {
     let mut serials = Vec::with_capacity(alloc, 1)?;
@@ -161,8 +161,8 @@ pub fn take_away_kept<L: Ledger>(
 ) -> Result<Made, NoMemory>
     requires steady { IsSteady parts.old.graph parts.old.standing.items }
     requires ready { IsSoundSoFar asking.now parts.old pending.old }
-    ensures told { OnOk result (so_far asking.now parts.new pending.new
-        ≡ state_taken_from who.now (so_far asking.now parts.old pending.old)) }
+    ensures told { OnOk result (state_now asking.now parts.new pending.new
+        ≡ state_taken_from who.now (state_now asking.now parts.old pending.old)) }
     ensures steady { OnOk result (IsSteady parts.new.graph parts.new.standing.items) }
     ensures ready { OnOk result (IsSoundSoFar asking.now parts.new pending.new) }
     ensures turned { IfOk result (λ made. AreTurnedWith (items_changed made.undo.plan.changes)
@@ -173,7 +173,7 @@ pub fn take_away_kept<L: Ledger>(
     ensures kept { OnErr result (AreKept parts.old parts.new) }
 
     // Also where memory runs out.
-    ensures steps { IsTakenWithin who.now (so_far asking.now parts.old pending.old) steps.old
+    ensures steps { IsTakenWithin who.now (state_now asking.now parts.old pending.old) steps.old
         steps.new }
 {
     let plan = plan_retraction(alloc, &parts.graph, who, steps)?;

@@ -15,7 +15,7 @@ use std::str;
 pub const LINE_LIMIT: usize = 1_000_000;
 
 // How many levels a request can have: an envelope puts two more round it.
-const LEVELS: u32 = 62;
+const LINE_LEVELS: u32 = 62;
 
 /// A line of a client's script, without its newline.
 #[derive(Debug, Drop)]
@@ -71,7 +71,7 @@ fn request_on(alloc: Global, line: &[u8]) -> Result<Option<Request>, NoMemory>
     ensures { IsRequestAnswer line.now result }
 {
     bytes_spell_one_element();
-    match read(alloc, line, LEVELS) {
+    match read(alloc, line, LINE_LEVELS) {
         Ok(reading) => request_in(alloc, &reading),
         Err(ReadError::NoMemory) => Err(NoMemory),
         Err(ReadError::Unreadable { .. }) => Ok(None),

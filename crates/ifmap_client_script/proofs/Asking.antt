@@ -13,7 +13,7 @@ use Rattle.ifmap_client_script.specs.declared.exchanges.Caller.{Caller}
 use Rattle.ifmap_client_script.specs.declared.exchanges.ReadReply.{ReadReply}
 use Rattle.ifmap_client_script.specs.declared.outcomes.Stop.{Stop}
 use Rattle.ifmap_client_script.specs.declared.outcomes.Stop.TheVariants as stop
-use Rattle.ifmap_client_script.specs.Exchanges.{AnswersTo, AsksOnWire, Breaks, HasAny, HasNoReply, HasPart, Hears, Posts, Reads, Receives, BodyTellsReply, Unread, Unwritten, asked_of, request_post}
+use Rattle.ifmap_client_script.specs.Exchanges.{AnswersTo, AsksOnWire, Breaks, HasAny, HasNoReply, HasPart, Hears, Posts, Reads, Receives, BodyTellsReply, ReadingStands, Unwritten, exchange_of, request_post}
 use Rattle.ifmap_io.specs.Rises.{keeps_appends}
 
 -- a body that came means no reply
@@ -46,7 +46,7 @@ any_left (Some l) = (l, refl, tt)
 
 -- ---- what was left is what it was before the post
 
-module _ (caller : Caller) (request : Request) (before mid after : WireSeen) (unread : Unread before mid)
+module _ (caller : Caller) (request : Request) (before mid after : WireSeen) (unread : ReadingStands before mid)
     (unwritten : Unwritten mid after) where
   abbrev post : List ℕ
   post = request_post caller request
@@ -64,7 +64,7 @@ module _ (caller : Caller) (request : Request) (before mid after : WireSeen) (un
 
   came : (told : ReadReply) (left : Option (List ℕ))
       → IfSome left (λ l. (rest : List ℕ) × (after.left ≡ Some rest) × ReadsAnswer l (answered told.body rest))
-      → IfSome left (λ l. (rest : List ℕ) × (after.left ≡ Some rest) × AnswersTo (asked_of request told ∷ []) l rest)
+      → IfSome left (λ l. (rest : List ℕ) × (after.left ≡ Some rest) × AnswersTo (exchange_of request told ∷ []) l rest)
   came told None h = tt
   came told (Some l) h = (h.0, h.1, (h.0, h.2, refl))
 

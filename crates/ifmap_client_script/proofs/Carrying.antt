@@ -19,7 +19,7 @@ use Rattle.ifmap_client_script.specs.declared.outcomes.Stop.TheVariants as stop
 use Rattle.ifmap_client_script.specs.Deeds.{Known, after_reply, is_poll, request_in}
 use Rattle.ifmap_client_script.specs.Deeds as deed
 use Rattle.ifmap_client_script.specs.Ends.{LinkFailed, Ports}
-use Rattle.ifmap_client_script.specs.Exchanges.{AnswersTo, AsksOnWire, HasPostedAndHeard, HasAny, HasNoReply, HasPart, IsFrontOfPost, asked_of, request_post}
+use Rattle.ifmap_client_script.specs.Exchanges.{AnswersTo, AsksOnWire, HasPostedAndHeard, HasAny, HasNoReply, HasPart, IsFrontOfPost, exchange_of, request_post}
 use Rattle.ifmap_client_script.specs.Outlets.{AreUnspent, AsksBy, AsksOver, IsAsked, Prints}
 use Rattle.ifmap_client_script.specs.Printing.{body_text, set_text}
 use Rattle.ifmap_client_script.specs.Promises.{Broken, Cutting, Exchanged, IsWholePost}
@@ -77,12 +77,12 @@ module _ (caller : Caller) (sent : Request) (before after : Ports) (unspent : Ar
 
   -- each wire was asked what it was to be asked
   asked_first : (told : ReadReply) (b : Bool) → AsksBy b caller sent before after (Ok told)
-      → HasPostedAndHeard caller (if b then [] else asked_of sent told ∷ []) before.first after.first
+      → HasPostedAndHeard caller (if b then [] else exchange_of sent told ∷ []) before.first after.first
   asked_first told true w = none_first w.0
   asked_first told false w = w.1.0
 
   asked_second : (told : ReadReply) (b : Bool) → AsksBy b caller sent before after (Ok told)
-      → HasPostedAndHeard caller (if b then asked_of sent told ∷ [] else []) before.second after.second
+      → HasPostedAndHeard caller (if b then exchange_of sent told ∷ [] else []) before.second after.second
   asked_second told true w = w.1.0
   asked_second told false w = none_second w.0
 
@@ -91,7 +91,7 @@ module _ (caller : Caller) (sent : Request) (before after : Ports) (unspent : Ar
   told_means told false w = w.1.1
 
   exchanged : (told : ReadReply) → AsksBy (is_poll sent) caller sent before after (Ok told)
-      → Exchanged caller before after (deed.asked (asked_of sent told) ∷ [])
+      → Exchanged caller before after (deed.asked (exchange_of sent told) ∷ [])
   exchanged told w = record { first = asked_first told (is_poll sent) w; second = asked_second told (is_poll sent) w }
 
   -- a part of the post was written, or an answer was cut
@@ -151,7 +151,7 @@ module _ (caller : Caller) (sent : Request) (before after : Ports) (unspent : Ar
       cut_at : (n : ℕ) → Appends before.held after.held (take n (body_text told.body))
           → Cut caller (the_line.Request request) before after known
       cut_at n wrote = record {
-        deed = deed.asked (asked_of sent told);
+        deed = deed.asked (exchange_of sent told);
         does = (named, told_means told (is_poll sent) w);
         wrote = record { count = n; wrote = wrote; exchanged = exchanged told w };
       }
@@ -161,7 +161,7 @@ module _ (caller : Caller) (sent : Request) (before after : Ports) (unspent : Ar
           → SendsText before.held after.held before.write_faults after.write_faults (body_text told.body) r
           → OnOk r (new ≡ after_reply told.reply known) → CarriesOut caller (the_line.Request request) before after known new r
       answered new (Ok _) sends is = record {
-        deed = deed.asked (asked_of sent told);
+        deed = deed.asked (exchange_of sent told);
         does = (named, told_means told (is_poll sent) w);
         known = is;
         did = record {

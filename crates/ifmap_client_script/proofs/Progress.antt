@@ -8,9 +8,9 @@ use Rattle.std.proofs.lemmas.List.Concat.{flat_map-append}
 use Rattle.ifmap_elem.specs.Chars.{line_feed}
 use Rattle.ifmap_http.specs.Wires.{WireSeen}
 use Rattle.ifmap_client_script.specs.declared.exchanges.Caller.{Caller}
-use Rattle.ifmap_client_script.specs.Deeds.{Asked, Deed, Known, after_deed, after_deeds, is_poll}
+use Rattle.ifmap_client_script.specs.Deeds.{Exchange, Deed, Known, after_deed, after_deeds, is_poll}
 use Rattle.ifmap_client_script.specs.Deeds as deed
-use Rattle.ifmap_client_script.specs.Exchanges.{AnswersTo, Breaks, HasPostedAndHeard, over_first, over_second, posts, request_post}
+use Rattle.ifmap_client_script.specs.Exchanges.{AnswersTo, Breaks, HasPostedAndHeard, first_asks, second_asks, posts, request_post}
 use Rattle.ifmap_client_script.specs.Printing.{deed_text, deeds_text}
 use Rattle.ifmap_client_script.specs.Scripts.{Carries}
 
@@ -31,41 +31,42 @@ written_snoc (e ∷ deeds) d known =
 
 -- ---- what goes over the wires
 
-pub over_second-append : (deeds more : List Deed) → over_second (deeds ++ more) ≡ over_second deeds ++ over_second more
-over_second-append [] more = refl
-over_second-append (deed.passed ∷ deeds) more = over_second-append deeds more
-over_second-append (deed.printed name ∷ deeds) more = over_second-append deeds more
-over_second-append (deed.asked a ∷ deeds) more = at (is_poll a.request) (over_second-append deeds more)
+pub second_asks-append : (deeds more : List Deed) → second_asks (deeds ++ more) ≡ second_asks deeds ++ second_asks more
+second_asks-append [] more = refl
+second_asks-append (deed.passed ∷ deeds) more = second_asks-append deeds more
+second_asks-append (deed.printed name ∷ deeds) more = second_asks-append deeds more
+second_asks-append (deed.asked a ∷ deeds) more = at (is_poll a.request) (second_asks-append deeds more)
   where
-    at : (b : Bool) → over_second (deeds ++ more) ≡ over_second deeds ++ over_second more
-        → (if b then a ∷ over_second (deeds ++ more) else over_second (deeds ++ more))
-        ≡ (if b then a ∷ over_second deeds else over_second deeds) ++ over_second more
-    at true e = ap (λ (l : List Asked). a ∷ l) e
+    at : (b : Bool) → second_asks (deeds ++ more) ≡ second_asks deeds ++ second_asks more
+        → (if b then a ∷ second_asks (deeds ++ more) else second_asks (deeds ++ more))
+        ≡ (if b then a ∷ second_asks deeds else second_asks deeds) ++ second_asks more
+    at true e = ap (λ (l : List Exchange). a ∷ l) e
     at false e = e
 
-pub over_first-append : (deeds more : List Deed) → over_first (deeds ++ more) ≡ over_first deeds ++ over_first more
-over_first-append [] more = refl
-over_first-append (deed.passed ∷ deeds) more = over_first-append deeds more
-over_first-append (deed.printed name ∷ deeds) more = over_first-append deeds more
-over_first-append (deed.asked a ∷ deeds) more = at (is_poll a.request) (over_first-append deeds more)
+pub first_asks-append : (deeds more : List Deed) → first_asks (deeds ++ more) ≡ first_asks deeds ++ first_asks more
+first_asks-append [] more = refl
+first_asks-append (deed.passed ∷ deeds) more = first_asks-append deeds more
+first_asks-append (deed.printed name ∷ deeds) more = first_asks-append deeds more
+first_asks-append (deed.asked a ∷ deeds) more = at (is_poll a.request) (first_asks-append deeds more)
   where
-    at : (b : Bool) → over_first (deeds ++ more) ≡ over_first deeds ++ over_first more
-        → (if b then over_first (deeds ++ more) else a ∷ over_first (deeds ++ more))
-        ≡ (if b then over_first deeds else a ∷ over_first deeds) ++ over_first more
+    at : (b : Bool) → first_asks (deeds ++ more) ≡ first_asks deeds ++ first_asks more
+        → (if b then first_asks (deeds ++ more) else a ∷ first_asks (deeds ++ more))
+        ≡ (if b then first_asks deeds else a ∷ first_asks deeds) ++ first_asks more
     at true e = e
-    at false e = ap (λ (l : List Asked). a ∷ l) e
+    at false e = ap (λ (l : List Exchange). a ∷ l) e
 
-posts-append : (caller : Caller) (asked more : List Asked) → posts caller (asked ++ more) ≡ posts caller asked ++ posts caller more
-posts-append caller asked more = flat_map-append (λ (a : Asked). request_post caller a.request) asked more
+posts-append : (caller : Caller) (asked more : List Exchange) → posts caller (asked ++ more) ≡ posts caller asked ++ posts caller more
+posts-append caller asked more = flat_map-append (λ (a : Exchange). request_post caller a.request) asked more
 
-pub answers_then : (asked more : List Asked) (left mid rest : List ℕ) → AnswersTo asked left mid → AnswersTo more mid rest
+pub answers_then : (asked more : List Exchange) (left mid rest : List ℕ) → AnswersTo asked left mid → AnswersTo more mid rest
     → AnswersTo (asked ++ more) left rest
 answers_then [] more left mid rest first second = subst (λ (l : List ℕ). AnswersTo more l rest) (sym first) second
 answers_then (a ∷ asked) more left mid rest first second =
     (first.0, first.1, answers_then asked more first.0 mid rest first.2 second)
 
-module _ (caller : Caller) (asked : List Asked) (before mid after : WireSeen) (first : HasPostedAndHeard caller asked before mid) where
-  pub exchanges_then : (more : List Asked) → HasPostedAndHeard caller more mid after → HasPostedAndHeard caller (asked ++ more) before after
+module _ (caller : Caller) (asked : List Exchange) (before mid after : WireSeen) (first : HasPostedAndHeard caller asked before mid) where
+  pub exchanges_then : (more : List Exchange) → HasPostedAndHeard caller more mid after
+      → HasPostedAndHeard caller (asked ++ more) before after
   exchanges_then more second = record {
     posted = subst (λ (t : List ℕ). Appends before.held after.held t) (sym (posts-append caller asked more))
         (Appends-trans before.held mid.held after.held (posts caller asked) (posts caller more) first.posted second.posted);

@@ -14,14 +14,14 @@ use Rattle.ifmap_client.specs.Lines.{IsLine}
 use Rattle.ifmap_client.specs.declared.lines.Line.{Line}
 use Rattle.ifmap_requests.specs.declared.requests.Request.{Request}
 use Rattle.ifmap_client_script.specs.declared.exchanges.Caller.{Caller}
-use Rattle.ifmap_client_script.specs.Deeds.{Asked, Deed, IsDeedFor, Known, after_deed, after_deeds, is_poll, nothing_known}
+use Rattle.ifmap_client_script.specs.Deeds.{Exchange, Deed, IsDeedFor, Known, after_deed, after_deeds, is_poll, nothing_known}
 use Rattle.ifmap_client_script.specs.Ends.{Ports}
-use Rattle.ifmap_client_script.specs.Exchanges.{HasPostedAndHeard, over_first, over_second}
+use Rattle.ifmap_client_script.specs.Exchanges.{HasPostedAndHeard, first_asks, second_asks}
 use Rattle.ifmap_client_script.specs.Pending.{Fetches, Pending, with_bytes, with_last_newline}
 use Rattle.ifmap_client_script.specs.Printing.{deed_text, deeds_text}
 use Rattle.ifmap_client_script.specs.Promises.{Broken, Cutting, Did, Exchanged, Posted, Wrote}
 use Rattle.ifmap_client_script.specs.Scripts.{BeginsLine, Carries, HasNoNewline, IsTakenScript}
-use Rattle.ifmap_client_script.proofs.Progress.{breaks_then, carries_more, carries_then, exchanges_then, over_first-append, over_second-append, written_snoc}
+use Rattle.ifmap_client_script.proofs.Progress.{breaks_then, carries_more, carries_then, exchanges_then, first_asks-append, second_asks-append, written_snoc}
 
 -- what was taken is this script so far: all of it once the source has told its end
 abbrev pub Scripted : Bool → Option (List ℕ) → List ℕ → List ℕ → Type 0
@@ -177,10 +177,10 @@ module _ (caller : Caller) (before mid after : Ports) (deeds : List Deed) (known
   exchanged_then : (more : List Deed) → Exchanged caller before mid deeds → Exchanged caller mid after more
       → Exchanged caller before after (deeds ++ more)
   exchanged_then more one other = record {
-    first = subst (λ (l : List Asked). HasPostedAndHeard caller l before.first after.first) (sym (over_first-append deeds more))
-        (exchanges_then caller (over_first deeds) before.first mid.first after.first one.first (over_first more) other.first);
-    second = subst (λ (l : List Asked). HasPostedAndHeard caller l before.second after.second) (sym (over_second-append deeds more))
-        (exchanges_then caller (over_second deeds) before.second mid.second after.second one.second (over_second more) other.second);
+    first = subst (λ (l : List Exchange). HasPostedAndHeard caller l before.first after.first) (sym (first_asks-append deeds more))
+        (exchanges_then caller (first_asks deeds) before.first mid.first after.first one.first (first_asks more) other.first);
+    second = subst (λ (l : List Exchange). HasPostedAndHeard caller l before.second after.second) (sym (second_asks-append deeds more))
+        (exchanges_then caller (second_asks deeds) before.second mid.second after.second one.second (second_asks more) other.second);
   }
 
   pub did_then : (d : Deed) → Did caller before mid known deeds → Did caller mid after (after_deeds deeds known) (d ∷ [])
@@ -206,14 +206,14 @@ module _ (caller : Caller) (before mid after : Ports) (deeds : List Deed) (known
   broken_then : (b : Bool) (post : List ℕ) (Has : List ℕ → Type 0) → Exchanged caller before mid deeds
       → Broken caller mid after b [] post Has → Broken caller before after b deeds post Has
   broken_then true post Has one other = (
-    subst (λ (l : List Asked). HasPostedAndHeard caller l before.first after.first) (append-nil (over_first deeds))
-        (exchanges_then caller (over_first deeds) before.first mid.first after.first one.first [] other.0),
-    breaks_then caller (over_second deeds) before.second mid.second after.second one.second post Has other.1,
+    subst (λ (l : List Exchange). HasPostedAndHeard caller l before.first after.first) (append-nil (first_asks deeds))
+        (exchanges_then caller (first_asks deeds) before.first mid.first after.first one.first [] other.0),
+    breaks_then caller (second_asks deeds) before.second mid.second after.second one.second post Has other.1,
   )
   broken_then false post Has one other = (
-    breaks_then caller (over_first deeds) before.first mid.first after.first one.first post Has other.0,
-    subst (λ (l : List Asked). HasPostedAndHeard caller l before.second after.second) (append-nil (over_second deeds))
-        (exchanges_then caller (over_second deeds) before.second mid.second after.second one.second [] other.1),
+    breaks_then caller (first_asks deeds) before.first mid.first after.first one.first post Has other.0,
+    subst (λ (l : List Exchange). HasPostedAndHeard caller l before.second after.second) (append-nil (second_asks deeds))
+        (exchanges_then caller (second_asks deeds) before.second mid.second after.second one.second [] other.1),
   )
 
   pub posted_then : (IsCut : Cutting) (Has : List ℕ → Type 0) (sent : Request) → Did caller before mid known deeds

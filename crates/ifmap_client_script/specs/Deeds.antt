@@ -11,7 +11,7 @@ use Rattle.ifmap_requests.specs.declared.requests.Request.{Request}
 use Rattle.ifmap_requests.specs.declared.requests.Request.TheVariants as request
 
 -- a request as it was sent, the body that came for it, and the reply that the body means
-pub record Asked : Type 0 where
+pub record Exchange : Type 0 where
   pub request : Request
   pub body : List ℕ
   pub answer : Reply
@@ -19,7 +19,7 @@ pub record Asked : Type 0 where
 -- what is done for a line: nothing, a request is asked, or the set of a name is printed
 pub data Deed : Type 0 where
   passed : Deed
-  asked : (asked : Asked) → Deed
+  asked : (asked : Exchange) → Deed
   printed : (name : List ℕ) → Deed
 
 -- what a client knows: the session that was begun last, if one was, and the sets of its subscriptions

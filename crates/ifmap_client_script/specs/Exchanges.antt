@@ -14,7 +14,7 @@ use Rattle.ifmap_client_script.specs.declared.exchanges.Caller.{Caller}
 use Rattle.ifmap_client_script.specs.declared.exchanges.ReadReply.{ReadReply}
 use Rattle.ifmap_client_script.specs.declared.outcomes.Stop.{Stop}
 use Rattle.ifmap_client_script.specs.declared.outcomes.Stop.TheVariants as stop
-use Rattle.ifmap_client_script.specs.Deeds.{Asked, Deed, is_poll}
+use Rattle.ifmap_client_script.specs.Deeds.{Exchange, Deed, is_poll}
 use Rattle.ifmap_client_script.specs.Deeds as deed
 
 -- the post of a request
@@ -22,29 +22,29 @@ abbrev pub request_post : Caller → Request → List ℕ
 request_post caller request = post_bytes caller.host caller.client (request_bytes request)
 
 -- the posts of what is asked, one after the other
-abbrev pub posts : Caller → List Asked → List ℕ
+abbrev pub posts : Caller → List Exchange → List ℕ
 posts caller asked = flat_map (λ a. request_post caller a.request) asked
 
 -- what is asked over the second wire, which is each poll, and over the first
-abbrev pub over_second : List Deed → List Asked
-over_second [] = []
-over_second (deed.passed ∷ deeds) = over_second deeds
-over_second (deed.asked a ∷ deeds) = if is_poll a.request then a ∷ over_second deeds else over_second deeds
-over_second (deed.printed name ∷ deeds) = over_second deeds
+abbrev pub second_asks : List Deed → List Exchange
+second_asks [] = []
+second_asks (deed.passed ∷ deeds) = second_asks deeds
+second_asks (deed.asked a ∷ deeds) = if is_poll a.request then a ∷ second_asks deeds else second_asks deeds
+second_asks (deed.printed name ∷ deeds) = second_asks deeds
 
-abbrev pub over_first : List Deed → List Asked
-over_first [] = []
-over_first (deed.passed ∷ deeds) = over_first deeds
-over_first (deed.asked a ∷ deeds) = if is_poll a.request then over_first deeds else a ∷ over_first deeds
-over_first (deed.printed name ∷ deeds) = over_first deeds
+abbrev pub first_asks : List Deed → List Exchange
+first_asks [] = []
+first_asks (deed.passed ∷ deeds) = first_asks deeds
+first_asks (deed.asked a ∷ deeds) = if is_poll a.request then first_asks deeds else a ∷ first_asks deeds
+first_asks (deed.printed name ∷ deeds) = first_asks deeds
 
 -- these bytes begin with the answers to what is asked, and go on with a rest
-abbrev pub AnswersTo : List Asked → List ℕ → List ℕ → Type 0
+abbrev pub AnswersTo : List Exchange → List ℕ → List ℕ → Type 0
 AnswersTo [] left rest = left ≡ rest
 AnswersTo (a ∷ asked) left rest = (next : List ℕ) × ReadsAnswer left (answered a.body next) × AnswersTo asked next rest
 
 -- the wire gained the posts of what was asked, and the answers to it are no longer left
-pub record HasPostedAndHeard (caller : Caller) (asked : List Asked) (before after : WireSeen) : Type 0 where
+pub record HasPostedAndHeard (caller : Caller) (asked : List Exchange) (before after : WireSeen) : Type 0 where
   pub posted : Appends before.held after.held (posts caller asked)
   pub answered : IfSome before.left (λ left. (rest : List ℕ) × (after.left ≡ Some rest) × AnswersTo asked left rest)
   pub unspent : after.spent ≡ false
@@ -67,7 +67,7 @@ HasAny left = Unit {0}
 
 -- the wire gained the posts of what was asked, and then so much of a request's; the answers to what was asked were left, and then
 -- that
-pub record Breaks (caller : Caller) (asked : List Asked) (post : List ℕ) (Has : List ℕ → Type 0) (before after : WireSeen) : Type 0 where
+pub record Breaks (caller : Caller) (asked : List Exchange) (post : List ℕ) (Has : List ℕ → Type 0) (before after : WireSeen) : Type 0 where
   pub posted : Appends before.held after.held (posts caller asked ++ post)
   pub answered : IfSome before.left (λ left. (rest : List ℕ) × AnswersTo asked left rest × Has rest)
 
@@ -80,12 +80,12 @@ abbrev pub IsFrontOfPost : List ℕ → List ℕ → Type 0
 IsFrontOfPost post front = (n : ℕ) × (front ≡ take n post)
 
 -- what was asked and told
-abbrev pub asked_of : Request → ReadReply → Asked
-asked_of request told = record { request = request; body = told.body; answer = told.reply }
+abbrev pub exchange_of : Request → ReadReply → Exchange
+exchange_of request told = record { request = request; body = told.body; answer = told.reply }
 
 -- what a wire does for one request
 abbrev pub AsksOnWire : Caller → Request → WireSeen → WireSeen → Result ReadReply Stop → Type 0
-AsksOnWire caller request before after (Ok told) = HasPostedAndHeard caller (asked_of request told ∷ []) before after × MeansReply
+AsksOnWire caller request before after (Ok told) = HasPostedAndHeard caller (exchange_of request told ∷ []) before after × MeansReply
     told.body told.reply
 AsksOnWire caller request before after (Err stop.LinkFault) =
     ((front : List ℕ) × IsFrontOfPost (request_post caller request) front × Breaks caller [] front HasAny before after)
@@ -101,7 +101,7 @@ AsksOnWire caller request before after (Err stop.WriteFault) = ⊥
 -- ---- the two halves of it
 
 -- reading is as it was
-pub record Unread (before after : WireSeen) : Type 0 where
+pub record ReadingStands (before after : WireSeen) : Type 0 where
   pub left : after.left ≡ before.left
   pub read_faults : after.read_faults ≡ before.read_faults
   pub write_faults : before.write_faults ≤ after.write_faults

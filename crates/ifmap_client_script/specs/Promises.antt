@@ -9,7 +9,7 @@ use Rattle.ifmap_client_script.specs.declared.outcomes.Outcome.{Outcome}
 use Rattle.ifmap_client_script.specs.declared.outcomes.Outcome.TheVariants as outcome
 use Rattle.ifmap_client_script.specs.Deeds.{Deed, Known, after_deeds, is_poll, nothing_known, request_in}
 use Rattle.ifmap_client_script.specs.Ends.{SourceAndPorts, IsLaterInRun, LinkFailed, Ports, ScriptReadFailed, PrintFailed}
-use Rattle.ifmap_client_script.specs.Exchanges.{Breaks, HasPostedAndHeard, HasAny, HasNoReply, HasPart, IsFrontOfPost, over_first, over_second, request_post}
+use Rattle.ifmap_client_script.specs.Exchanges.{Breaks, HasPostedAndHeard, HasAny, HasNoReply, HasPart, IsFrontOfPost, first_asks, second_asks, request_post}
 use Rattle.ifmap_client_script.specs.Printing.{deed_text, deeds_text}
 use Rattle.ifmap_client_script.specs.Scripts.{AwaitsLine, BeginsLine, Carries, IsBadLine, IsTakenScript}
 
@@ -47,18 +47,18 @@ module _ (before after : SourceAndPorts) where
 module _ (caller : Caller) (before after : Ports) where
   -- the wires were asked what the deeds ask
   pub record Exchanged (deeds : List Deed) : Type 0 where
-    pub first : HasPostedAndHeard caller (over_first deeds) before.first after.first
-    pub second : HasPostedAndHeard caller (over_second deeds) before.second after.second
+    pub first : HasPostedAndHeard caller (first_asks deeds) before.first after.first
+    pub second : HasPostedAndHeard caller (second_asks deeds) before.second after.second
 
   -- the wires were asked what the deeds ask; the one over which the request goes gained so much of its post, and then has left
   -- that
   abbrev pub Broken : Bool → List Deed → List ℕ → (List ℕ → Type 0) → Type 0
   Broken true deeds post Has =
-      HasPostedAndHeard caller (over_first deeds) before.first after.first
-      × Breaks caller (over_second deeds) post Has before.second after.second
+      HasPostedAndHeard caller (first_asks deeds) before.first after.first
+      × Breaks caller (second_asks deeds) post Has before.second after.second
   Broken false deeds post Has =
-      Breaks caller (over_first deeds) post Has before.first after.first
-      × HasPostedAndHeard caller (over_second deeds) before.second after.second
+      Breaks caller (first_asks deeds) post Has before.first after.first
+      × HasPostedAndHeard caller (second_asks deeds) before.second after.second
 
   -- the sink gained what is written for the deeds, and the wires were asked what they ask
   pub record Did (known : Known) (deeds : List Deed) : Type 0 where

@@ -3,7 +3,7 @@ ghost use Rattle.std.specs.Prelude.{IsFalse, IsTrue};
 ghost use Rattle.ifmap_http.specs.ifmap_heads.Messages.{is_visible};
 ghost use Rattle.ifmap_http.specs.Wires.{wire_seen};
 ghost use Rattle.ifmap_client_script.specs.Ends.{IsLaterWire};
-ghost use Rattle.ifmap_client_script.specs.Exchanges.{AsksOnWire, Hears, Posts, Reads, Receives, BodyTellsReply, Unread, Unwritten, request_post};
+ghost use Rattle.ifmap_client_script.specs.Exchanges.{AsksOnWire, Hears, Posts, Reads, Receives, BodyTellsReply, ReadingStands, Unwritten, request_post};
 
 use crate::outcomes::Stop;
 use ifmap_elem::{Many, Text};
@@ -62,13 +62,13 @@ fn receive<L: Link>(alloc: Global, wire: &mut Wire<L>) -> Result<ReadReply, Stop
         (wire_seen L.left L.held L.Source.faults L.Sink.faults wire.new) }
 {
     match read_body(alloc, wire) {
-        Ok(body) => told_by(alloc, body),
+        Ok(body) => reply_with_body(alloc, body),
         Err(stop) => Err(stop),
     }
 }
 
 // A body with the reply that it means.
-fn told_by(alloc: Global, body: Many<u8>) -> Result<ReadReply, Stop>
+fn reply_with_body(alloc: Global, body: Many<u8>) -> Result<ReadReply, Stop>
     ensures { BodyTellsReply body result }
 {
     match reply_in(alloc, &body) {
@@ -88,7 +88,7 @@ fn post<L: Link>(
     ensures posts { Posts (request_post caller.now request.now)
         (wire_seen L.left L.held L.Source.faults L.Sink.faults wire.old)
         (wire_seen L.left L.held L.Source.faults L.Sink.faults wire.new) result }
-    ensures unread { Unread
+    ensures unread { ReadingStands
         (wire_seen L.left L.held L.Source.faults L.Sink.faults wire.old)
         (wire_seen L.left L.held L.Source.faults L.Sink.faults wire.new) }
 {

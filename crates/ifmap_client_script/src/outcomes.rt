@@ -2,7 +2,7 @@
 ghost use Rattle.std.specs.Prelude.{◌≡◌};
 ghost use Rattle.ifmap_client_script.specs.Stops.{script_outcome};
 
-use std::alloc::AllocError;
+use std::alloc::AllocError as NoMemory;
 
 /// How a script ended. Lines count from 1.
 #[derive(Clone, Copy, Debug, PartialEq, Eq)]
@@ -39,13 +39,13 @@ pub enum Stop {
     NoMemory,
 }
 
-impl From<AllocError> for Stop {
+impl From<NoMemory> for Stop {
     ghost use Rattle.std.specs.Prelude.{◌≡◌};
     ghost use Rattle.ifmap_client_script.specs.declared.outcomes.Stop.TheVariants.{NoMemory};
 
     ghost from_gives = { λ _ e. e ≡ NoMemory };
 
-    fn from(_error: AllocError) -> Stop {
+    fn from(_error: NoMemory) -> Stop {
         Stop::NoMemory
     }
 }

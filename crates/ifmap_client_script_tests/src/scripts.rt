@@ -235,7 +235,7 @@ fn push_piece(alloc: Global, piece: Piece, bytes: &mut Vec<u8>) -> Result<(), No
     }
 }
 
-fn printed_of(alloc: Global, pieces: &[Piece]) -> Result<Vec<u8>, NoMemory> {
+fn bytes_of_pieces(alloc: Global, pieces: &[Piece]) -> Result<Vec<u8>, NoMemory> {
     let mut bytes = Vec::new(alloc);
     for piece in pieces {
         push_piece(alloc, *piece, &mut bytes)?;
@@ -258,7 +258,7 @@ fn has_asked(alloc: Global, wire: Wire<MemoryLink>, asked: &[&str]) -> Result<bo
 }
 
 pub fn has_printed(alloc: Global, sink: &MemorySink, printed: &[Piece]) -> Result<bool, NoMemory> {
-    let bytes = printed_of(alloc, printed)?;
+    let bytes = bytes_of_pieces(alloc, printed)?;
     Ok(sink.held() == bytes.as_slice())
 }
 

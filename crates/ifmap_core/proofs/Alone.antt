@@ -14,9 +14,9 @@ use Rattle.std.specs.BTreeMap.{get}
 use Rattle.std.specs.List.{AllByRecursion}
 use Rattle.std.specs.List.Sorted.{IsStrictlySortedBy}
 use Rattle.std.specs.Ordering.{nat_cmp}
-use Rattle.ifmap_subscribes.specs.ifmap_changes.Between.{AreWithinLimits, Asking, IsSoundSoFar, IsWithinLimit, rest_of, sessions_left, so_far}
+use Rattle.ifmap_subscribes.specs.ifmap_changes.Between.{AreWithinLimits, Asking, IsSoundSoFar, IsWithinLimit, rest_of, sessions_left, state_now}
 use Rattle.ifmap_subscribes.specs.ifmap_changes.declared.parts.Parts.{Parts}
-use Rattle.ifmap_core.specs.Completions.{alone_told}
+use Rattle.ifmap_core.specs.Completions.{state_with_error}
 use Rattle.ifmap_core.proofs.Places.{Rises, kept_fewer}
 use Rattle.ifmap_core.proofs.Subscribed.{live_left}
 use Rattle.ifmap_core.proofs.Told.{one_numbered, told_by_leaves}
@@ -36,7 +36,7 @@ use Rattle.ifmap_subscribes.specs.ifmap_standing.Standing.{standing_of}
 use Rattle.ifmap_subscribes.specs.ifmap_tellings.declared.tellings.Pending.{Pending}
 use Rattle.ifmap_subscribes.specs.ifmap_tellings.declared.tellings.Telling.{Telling}
 use Rattle.ifmap_subscribes.specs.ifmap_tellings.declared.tellings.Telling.TheVariants.{After, Alone}
-use Rattle.ifmap_subscribes.specs.ifmap_tellings.Tellings.{AllKept, AloneAreBare, CanTell, EachTelling, HasSameSessions, IsSized, Tellings, is_alone, kept_of, told_by, told_where}
+use Rattle.ifmap_subscribes.specs.ifmap_tellings.Tellings.{AllKept, AloneAreBare, CanTell, EachTelling, HasSameSessions, IsSized, Tellings, is_alone, kept_items, tell_by, tell_if}
 use Rattle.ifmap_session.specs.laws.TableLaws.{is_left}
 
 abbrev pub error_of : ℕ → ℕ → PollItem
@@ -44,7 +44,7 @@ error_of size limit = the_item.Error None PollResultsTooBig (limit_note size lim
 
 -- what a session is told before does not matter
 alone_where : (size : ℕ) (o : Option Telling) (s : Session)
-    → with_error (error_of size (told_where o s).limit) (told_where o s) ≡ with_error (error_of size s.limit) s
+    → with_error (error_of size (tell_if o s).limit) (tell_if o s) ≡ with_error (error_of size s.limit) s
 alone_where size None s = refl
 alone_where size (Some (After items n)) s = refl
 alone_where size (Some (Alone error)) s = refl
@@ -54,34 +54,34 @@ module _ (n size : ℕ) (before after : Tellings) (live : List Session)
     (others : (m : ℕ) → m ≢ n → get nat_cmp after m ≡ get nat_cmp before m) where
   told_each : (s : Session) → session_with_serial n live ≡ Some s → (xs : List Session)
       → AllByRecursion (λ (x : Session). (x.serial == n) ≡ true → x ≡ s) xs
-      → map (told_by after) xs ≡ change n (λ (x : Session). with_error (error_of size x.limit) x) (map (told_by before) xs)
+      → map (tell_by after) xs ≡ change n (λ (x : Session). with_error (error_of size x.limit) x) (map (tell_by before) xs)
   told_each s found [] one = refl
   told_each s found (x ∷ xs) one =
-      let number : ((told_by before x).serial == n) ≡ (x.serial == n) = ap (λ (m : ℕ). m == n) (told_by_leaves before x).serial in
+      let number : ((tell_by before x).serial == n) ≡ (x.serial == n) = ap (λ (m : ℕ). m == n) (told_by_leaves before x).serial in
       elim (cases_Bool (x.serial == n)) [
         | inl hit ↦
             let limit : s.limit ≡ x.limit = ap (λ (y : Session). y.limit) (sym (one.0 hit)) in
-            let there : told_by after x ≡ with_error (error_of size x.limit) x =
-            ap (λ (m : ℕ). told_where (get nat_cmp after m) x) (eqb-true x.serial n hit)
-            ∙ ap (λ (o : Option Telling). told_where o x) (told s found ∙ ap (λ (k : ℕ). Some (Alone (error_of size k))) limit) in
-            let here : cond ((told_by before x).serial == n) (with_error (error_of size (told_by before x).limit) (told_by before x))
-            (told_by before x)
+            let there : tell_by after x ≡ with_error (error_of size x.limit) x =
+            ap (λ (m : ℕ). tell_if (get nat_cmp after m) x) (eqb-true x.serial n hit)
+            ∙ ap (λ (o : Option Telling). tell_if o x) (told s found ∙ ap (λ (k : ℕ). Some (Alone (error_of size k))) limit) in
+            let here : cond ((tell_by before x).serial == n) (with_error (error_of size (tell_by before x).limit) (tell_by before x))
+            (tell_by before x)
             ≡ with_error (error_of size x.limit) x =
-            ap (λ b. cond b (with_error (error_of size (told_by before x).limit) (told_by before x)) (told_by before x)) (number ∙ hit)
+            ap (λ b. cond b (with_error (error_of size (tell_by before x).limit) (tell_by before x)) (tell_by before x)) (number ∙ hit)
             ∙ alone_where size (get nat_cmp before x.serial) x in
-            ap (λ t. t ∷ map (told_by after) xs) (there ∙ sym here)
-            ∙ ap (λ ts. cond ((told_by before x).serial == n) (with_error (error_of size (told_by before x).limit) (told_by before x))
-            (told_by before x) ∷ ts) (told_each s found xs one.1)
+            ap (λ t. t ∷ map (tell_by after) xs) (there ∙ sym here)
+            ∙ ap (λ ts. cond ((tell_by before x).serial == n) (with_error (error_of size (tell_by before x).limit) (tell_by before x))
+            (tell_by before x) ∷ ts) (told_each s found xs one.1)
         | inr miss ↦
-            let there : told_by after x ≡ told_by before x =
-            ap (λ (o : Option Telling). told_where o x) (others x.serial (eqb-false x.serial n miss)) in
-            let here : cond ((told_by before x).serial == n) (with_error (error_of size (told_by before x).limit) (told_by before x))
-            (told_by before x)
-            ≡ told_by before x =
-            ap (λ b. cond b (with_error (error_of size (told_by before x).limit) (told_by before x)) (told_by before x)) (number ∙ miss) in
-            ap (λ t. t ∷ map (told_by after) xs) (there ∙ sym here)
-            ∙ ap (λ ts. cond ((told_by before x).serial == n) (with_error (error_of size (told_by before x).limit) (told_by before x))
-            (told_by before x) ∷ ts) (told_each s found xs one.1)
+            let there : tell_by after x ≡ tell_by before x =
+            ap (λ (o : Option Telling). tell_if o x) (others x.serial (eqb-false x.serial n miss)) in
+            let here : cond ((tell_by before x).serial == n) (with_error (error_of size (tell_by before x).limit) (tell_by before x))
+            (tell_by before x)
+            ≡ tell_by before x =
+            ap (λ b. cond b (with_error (error_of size (tell_by before x).limit) (tell_by before x)) (tell_by before x)) (number ∙ miss) in
+            ap (λ t. t ∷ map (tell_by after) xs) (there ∙ sym here)
+            ∙ ap (λ ts. cond ((tell_by before x).serial == n) (with_error (error_of size (tell_by before x).limit) (tell_by before x))
+            (tell_by before x) ∷ ts) (told_each s found xs one.1)
       ]
 
 -- one error is within each limit
@@ -115,30 +115,30 @@ module _ {a : Asking} {old new : Parts} {before after : Pending} {n size : ℕ} 
   there : (s : Session) × (session_with_serial n old.sessions.live ≡ Some s)
   there = some_is (session_with_serial n old.sessions.live) (live_left a n old.sessions h.live)
 
-  told_now : map (told_by after.tellings) (sessions_left a new.sessions)
-      ≡ change n (λ (x : Session). with_error (error_of size x.limit) x) (map (told_by before.tellings) (sessions_left a old.sessions))
+  told_now : map (tell_by after.tellings) (sessions_left a new.sessions)
+      ≡ change n (λ (x : Session). with_error (error_of size x.limit) x) (map (tell_by before.tellings) (sessions_left a old.sessions))
   told_now =
-      ap (λ (l : List Session). map (told_by after.tellings) (without_sessions a.ended l)) h.sessions.live
+      ap (λ (l : List Session). map (tell_by after.tellings) (without_sessions a.ended l)) h.sessions.live
       ∙ told_each n size before.tellings after.tellings old.sessions.live h.told h.others there.0 there.1 (sessions_left a old.sessions)
       (all_filter (λ (x : Session). (x.serial == n) ≡ true → x ≡ there.0) (is_left a.ended) old.sessions.live
       (one_numbered n old.sessions.live there.0 h.up there.1))
 
-  pub alone_so_far : map standing_of (kept_of after.gone.items old.standing.items)
-      ≡ without_standing (n ∷ []) (map standing_of (kept_of before.gone.items old.standing.items))
-      → so_far a new after ≡ alone_told n size (so_far a old before)
+  pub alone_so_far : map standing_of (kept_items after.gone.items old.standing.items)
+      ≡ without_standing (n ∷ []) (map standing_of (kept_items before.gone.items old.standing.items))
+      → state_now a new after ≡ state_with_error n size (state_now a old before)
   alone_so_far gone =
-      ap (λ (k : ℕ). record (so_far a new after) { counter = k }) h.sessions.counter
-      ∙ ap (λ g. record (so_far a new after) { counter = old.sessions.counter; graph = rows_now g }) h.rows
-      ∙ ap (λ (l : List Session). record (so_far a old after) {
+      ap (λ (k : ℕ). record (state_now a new after) { counter = k }) h.sessions.counter
+      ∙ ap (λ g. record (state_now a new after) { counter = old.sessions.counter; graph = rows_now g }) h.rows
+      ∙ ap (λ (l : List Session). record (state_now a old after) {
         sessions = l;
         standing = map standing_of
-            (kept_of after.gone.items new.standing.items);
+            (kept_items after.gone.items new.standing.items);
       }) told_now
-      ∙ ap (λ (xs : List Standing). record (alone_told n size (so_far a old before)) {
+      ∙ ap (λ (xs : List Standing). record (state_with_error n size (state_now a old before)) {
         standing = map standing_of
-            (kept_of after.gone.items xs);
+            (kept_items after.gone.items xs);
       }) h.standing
-      ∙ ap (λ (xs : List machine.Standing). record (alone_told n size (so_far a old before)) { standing = xs }) gone
+      ∙ ap (λ (xs : List machine.Standing). record (state_with_error n size (state_now a old before)) { standing = xs }) gone
 
   pub alone_ready : IsSoundSoFar a old before → length after.gone.items ≡ length old.standing.items → Rises before.gone.items
       after.gone.items
@@ -154,7 +154,7 @@ module _ {a : Asking} {old new : Parts} {before after : Pending} {n size : ℕ} 
         live = rw (h.sessions.live, h.standing) (kept_fewer _ before.gone.items after.gone.items old.standing.items long more r.live);
         queues = rw (h.sessions.live) r.queues;
         within = subst AreWithinLimits (sym told_now)
-            (errors_fit n size (map (told_by before.tellings) (sessions_left a old.sessions)) r.within);
+            (errors_fit n size (map (tell_by before.tellings) (sessions_left a old.sessions)) r.within);
         can_tell = can_each r;
         sized = sized_each r;
         alone = rw (h.standing) (alone_each r long more bare);

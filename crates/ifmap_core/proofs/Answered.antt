@@ -19,7 +19,7 @@ use Rattle.ifmap_subscribes.specs.ifmap_machine.Subscribing.{Told, subscribe_ops
 use Rattle.ifmap_subscribes.specs.ifmap_machine.Telling.{is_too_big}
 use Rattle.ifmap_subscribes.specs.ifmap_replies.declared.replies.Reply.{Reply as AnyReply}
 use Rattle.ifmap_subscribes.specs.ifmap_replies.declared.replies.Reply.TheVariants.{Error, Ended}
-use Rattle.ifmap_subscribes.specs.ifmap_requests.declared.publishing.PublishOp.{PublishOp}
+use Rattle.ifmap_subscribes.specs.ifmap_requests.declared.publish_ops.PublishOp.{PublishOp}
 use Rattle.ifmap_subscribes.specs.ifmap_requests.declared.requests.Request.TheVariants as the_request
 use Rattle.ifmap_subscribes.specs.ifmap_requests.declared.requests.SubscribeOp.{SubscribeOp}
 use Rattle.ifmap_session.specs.ifmap_search.declared.results.PollItem.{PollItem}

@@ -13,10 +13,10 @@ use Rattle.std.proofs.lemmas.List.{length-map}
 use Rattle.std.specs.List.{IsDistinct}
 use Rattle.std.specs.Option.{IfSome, option_map}
 use Rattle.std.specs.Result.{IfOk}
-use Rattle.ifmap_subscribes.specs.ifmap_changes.Between.{AreOrdered, AreWithinLimits, Asking, CanEnd, HasNoSubscriptions, IsSoundSoFar, IsSteady, rest_of, sessions_left, so_far}
+use Rattle.ifmap_subscribes.specs.ifmap_changes.Between.{AreOrdered, AreWithinLimits, Asking, CanEnd, HasNoSubscriptions, IsSoundSoFar, IsSteady, rest_of, sessions_left, state_now}
 use Rattle.ifmap_subscribes.specs.ifmap_changes.declared.parts.Parts.{Parts}
 use Rattle.ifmap_core.specs.Answering.{CanAnswer, GivesCompletion}
-use Rattle.ifmap_core.specs.Completions.{CanOpen, LeadsToAnswer, after_former, after_completion, drop_former, open_session, taken_former}
+use Rattle.ifmap_core.specs.Completions.{CanOpen, LeadsToAnswer, after_former, after_completion, drop_former, open_session, take_former}
 use Rattle.ifmap_core.specs.declared.completions.Completion.{Completion}
 use Rattle.ifmap_core.specs.declared.completions.Completion.TheVariants.{Say, Open}
 use Rattle.ifmap_core.proofs.Cases.{says}
@@ -33,7 +33,7 @@ use Rattle.ifmap_session.specs.Sessions.{IsAsBefore, IsLive, IsTable, Opening, S
 use Rattle.ifmap_session.specs.laws.TableLaws.{client_freed, one_fewer, is_left}
 use Rattle.ifmap_session.specs.laws.TextLaws.{distinct_filter}
 use Rattle.ifmap_subscribes.specs.ifmap_tellings.declared.tellings.Pending.{Pending}
-use Rattle.ifmap_subscribes.specs.ifmap_tellings.Tellings.{HasSameSessions, IsSized, IsWide, count_told, told_by}
+use Rattle.ifmap_subscribes.specs.ifmap_tellings.Tellings.{HasSameSessions, IsSized, IsWide, count_told, tell_by}
 use Rattle.ifmap_lemmas.specs.Filters.{filter_shorter}
 
 -- ---- parts of which the sessions have more room
@@ -42,10 +42,10 @@ module _ (parts : Parts) (table : SessionTable) (b : IsAsBefore parts.sessions t
   abbrev pub with_table : Parts
   with_table = record parts { sessions = table }
 
-  pub so_far_with : (a : Asking) (pending : Pending) → so_far a with_table pending ≡ so_far a parts pending
-  so_far_with a pending = λ i. record (so_far a parts pending) {
+  pub so_far_with : (a : Asking) (pending : Pending) → state_now a with_table pending ≡ state_now a parts pending
+  so_far_with a pending = λ i. record (state_now a parts pending) {
     counter = b.counter i;
-    sessions = map (told_by pending.tellings) (without_sessions a.ended (b.live i));
+    sessions = map (tell_by pending.tellings) (without_sessions a.ended (b.live i));
   }
 
   pub ready_with : (a : Asking) (pending : Pending) → IsSoundSoFar a parts pending → IsSoundSoFar a with_table pending
@@ -58,7 +58,7 @@ module _ (parts : Parts) (table : SessionTable) (b : IsAsBefore parts.sessions t
         kept = r.kept;
         live = λ i x e stays. subst (λ l. IsLive x.serial (without_sessions a.ended l)) live (r.live i x e stays);
         queues = subst AreWithinLimits live r.queues;
-        within = subst (λ l. AreWithinLimits (map (told_by pending.tellings) (without_sessions a.ended l))) live r.within;
+        within = subst (λ l. AreWithinLimits (map (tell_by pending.tellings) (without_sessions a.ended l))) live r.within;
         can_tell = λ n t e. let can = r.can_tell n t e in record {
           live = subst (λ l. IsLive n (without_sessions a.ended l)) live can.live;
           room = subst (λ s. count_told t ≤ spare_of n s) (sym b.spare) can.room;
@@ -84,11 +84,11 @@ none_mapped f None = refl
 none_mapped f (Some s) = refl
 
 pub full_is : (a : Asking) (table : SessionTable) (parts : Parts) (pending : Pending) → parts.sessions ≡ table
-    → is_full (so_far a parts pending) a.client
+    → is_full (state_now a parts pending) a.client
     ≡ ((nat_le most_sessions (length (sessions_left a table)) && is_none (session_of_client a.client (sessions_left a table)))
     || (table.counter == 2 ^ 64 - 1))
 full_is a table parts pending e =
-    let f : Session → Session = told_by pending.tellings in
+    let f : Session → Session = tell_by pending.tellings in
     let live : List Session = sessions_left a parts.sessions in
     let count : length (map f live) ≡ length live = length-map live f in
     let none : is_none (session_of_client a.client (map f live)) ≡ is_none (session_of_client a.client live) =
@@ -102,20 +102,20 @@ full_is a table parts pending e =
 module _ (a : Asking) (table : SessionTable) (parts : Parts) (pending : Pending) (e : parts.sessions ≡ table) (taken : Bool)
     (is : taken ≡ (nat_le most_sessions (length (sessions_left a table))
     && is_none (session_of_client a.client (sessions_left a table)))) where
-  pub full_where_taken : taken ≡ true → taken ≡ is_full (so_far a parts pending) a.client
+  pub full_where_taken : taken ≡ true → taken ≡ is_full (state_now a parts pending) a.client
   full_where_taken is_so = is_so ∙ sym (full_is a table parts pending e ∙ ap (λ b. b || (table.counter == 2 ^ 64 - 1)) (sym is ∙ is_so))
 
   pub full_where_counted : (count : ℕ) → count ≡ table.counter → taken ≡ false
-      → (count == 2 ^ 64 - 1) ≡ is_full (so_far a parts pending) a.client
+      → (count == 2 ^ 64 - 1) ≡ is_full (state_now a parts pending) a.client
   full_where_counted count counted not_taken =
       ap (λ k. k == 2 ^ 64 - 1) counted
       ∙ sym (full_is a table parts pending e ∙ ap (λ b. b || (table.counter == 2 ^ 64 - 1)) (sym is ∙ not_taken))
 
 pub full_leads : {E : Type 0} (a : Asking) (parts : Parts) (pending : Pending) (random : ℕ) (limit : Option ℕ) (r : Result Completion E)
-    → IfOk r (λ q. q ≡ Say (refusal SystemError)) → CanAnswer a parts pending → is_full (so_far a parts pending) a.client ≡ true
-    → GivesCompletion r a parts pending (new_session (so_far a parts pending) a.client random limit)
+    → IfOk r (λ q. q ≡ Say (refusal SystemError)) → CanAnswer a parts pending → is_full (state_now a parts pending) a.client ≡ true
+    → GivesCompletion r a parts pending (new_session (state_now a parts pending) a.client random limit)
 full_leads a parts pending random limit r is can full =
-    says a parts pending can.steady can.ready (refusal SystemError) (new_session (so_far a parts pending) a.client random limit)
+    says a parts pending can.steady can.ready (refusal SystemError) (new_session (state_now a parts pending) a.client random limit)
     (rw full refl) r is
 
 -- ---- a session begins
@@ -142,21 +142,21 @@ wide_limit (Some asked) = omega arith
 
 -- the session that a client had is gone as the definition says
 ended_former : (former : Option ℕ) (o : Option Session) (state : State) → former ≡ option_map (λ (s : Session). s.serial) o
-    → drop_former former (taken_former former state) ≡ end_former o state
-ended_former former None state e = ap (λ f. drop_former f (taken_former f state)) e
-ended_former former (Some s) state e = ap (λ f. drop_former f (taken_former f state)) e ∙ taken_is s.serial state
+    → drop_former former (take_former former state) ≡ end_former o state
+ended_former former None state e = ap (λ f. drop_former f (take_former f state)) e
+ended_former former (Some s) state e = ap (λ f. drop_former f (take_former f state)) e ∙ taken_is s.serial state
 
 -- the serial of the session that a client has so far
 pub former_so_far : (a : Asking) (parts : Parts) (pending : Pending) → option_map (λ (s : Session). s.serial)
     (session_of_client a.client (sessions_left a parts.sessions))
-    ≡ option_map (λ (s : Session). s.serial) (session_of_client a.client (so_far a parts pending).sessions)
+    ≡ option_map (λ (s : Session). s.serial) (session_of_client a.client (state_now a parts pending).sessions)
 former_so_far a parts pending =
     by (session_of_client a.client (sessions_left a parts.sessions))
     ∙ ap (option_map (λ (s : Session). s.serial))
-    (sym (client_mapped (told_by pending.tellings) a.client (client_told pending.tellings a.client) (sessions_left a parts.sessions)))
+    (sym (client_mapped (tell_by pending.tellings) a.client (client_told pending.tellings a.client) (sessions_left a parts.sessions)))
   where
     by : (o : Option Session) → option_map (λ (s : Session). s.serial) o
-        ≡ option_map (λ (s : Session). s.serial) (option_map (told_by pending.tellings) o)
+        ≡ option_map (λ (s : Session). s.serial) (option_map (tell_by pending.tellings) o)
     by None = refl
     by (Some s) = ap Some (sym (serial_told pending.tellings s))
 
@@ -192,14 +192,14 @@ module _ (a : Asking) (old new : Parts) (pending after : Pending) (random : ℕ)
 
   -- what it leads to
   leads : former ≡ option_map (λ (s : Session). s.serial) (session_of_client a.client (sessions_left a old.sessions))
-      → is_full (so_far a old pending) a.client ≡ false → so_far a new after ≡ taken_former former (so_far a old pending)
-      → after_completion (Open former opening count publisher) (so_far a new after)
-      ≡ new_session (so_far a old pending) a.client random limit
+      → is_full (state_now a old pending) a.client ≡ false → state_now a new after ≡ take_former former (state_now a old pending)
+      → after_completion (Open former opening count publisher) (state_now a new after)
+      ≡ new_session (state_now a old pending) a.client random limit
   leads same free told =
-      let state : State = so_far a old pending in
+      let state : State = state_now a old pending in
       let mine : Option Session = session_of_client a.client state.sessions in
       let ended : State = end_former mine state in
-      let dropped : drop_former former (so_far a new after) ≡ ended =
+      let dropped : drop_former former (state_now a new after) ≡ ended =
       ap (drop_former former) told ∙ ended_former former mine state (same ∙ former_so_far a old pending) in
       let one : session_from opening count ended.moment ≡ next_session ended a.client random limit =
       begun_is ended (counter_ended mine state) ended.moment in
@@ -209,7 +209,7 @@ module _ (a : Asking) (old new : Parts) (pending after : Pending) (random : ℕ)
         the_answer.Reply (the_reply.NewSession (session_id (state.counter + 1) random) a.client (limit_of limit)),
       ) = rw free refl in
       ap (λ (t : State). (t, the_answer.Reply (the_reply.NewSession opening.id publisher count)))
-      (open_is former opening count (so_far a new after) ∙ ap (with_begun (session_from opening count)) dropped)
+      (open_is former opening count (state_now a new after) ∙ ap (with_begun (session_from opening count)) dropped)
       ∙ (λ i. (
         record ended { counter = ended.counter + 1; sessions = ended.sessions ++ one i ∷ [] },
         the_answer.Reply (the_reply.NewSession (id_is i) (name i) (counted i)),
@@ -218,7 +218,7 @@ module _ (a : Asking) (old new : Parts) (pending after : Pending) (random : ℕ)
 
   -- and that it can be done
   can_open : former ≡ option_map (λ (s : Session). s.serial) (session_of_client a.client (sessions_left a old.sessions))
-      → is_full (so_far a old pending) a.client ≡ false → (table : SessionTable) → IsTable table → IsAsBefore old.sessions table
+      → is_full (state_now a old pending) a.client ≡ false → (table : SessionTable) → IsTable table → IsAsBefore old.sessions table
       → HasSameSessions table new.sessions → 1 ≤ table.room → IfSome former (λ n. IsLive n (sessions_left a old.sessions))
       → CanOpen former opening count (rest_of a new.sessions)
   can_open same free table whole b h room live =
@@ -247,16 +247,16 @@ module _ (a : Asking) (old new : Parts) (pending after : Pending) (random : ℕ)
       }
 
   pub begins : former ≡ option_map (λ (s : Session). s.serial) (session_of_client a.client (sessions_left a old.sessions))
-      → is_full (so_far a old pending) a.client ≡ false → (table : SessionTable) → IsTable table → (b : IsAsBefore old.sessions table)
+      → is_full (state_now a old pending) a.client ≡ false → (table : SessionTable) → IsTable table → (b : IsAsBefore old.sessions table)
       → HasSameSessions table new.sessions → 1 ≤ table.room → IfSome former (λ n. IsLive n (sessions_left a old.sessions))
-      → so_far a new after ≡ taken_former former (so_far a (with_table old table b) pending) → IsSteady new.graph new.standing.items
+      → state_now a new after ≡ take_former former (state_now a (with_table old table b) pending) → IsSteady new.graph new.standing.items
       → IsSoundSoFar a new after → IfSome former (λ n. HasNoSubscriptions n new after)
-      → LeadsToAnswer (Open former opening count publisher) a new after (new_session (so_far a old pending) a.client random limit)
+      → LeadsToAnswer (Open former opening count publisher) a new after (new_session (state_now a old pending) a.client random limit)
   begins same free table whole b h room live told steady ready bare = record {
     can = record {
       steady = subst (IsSteady new.graph) (sym (append-nil new.standing.items)) steady;
       ready = ready;
       can = (can_open same free table whole b h room live, bare);
     };
-    leads = leads same free (told ∙ ap (taken_former former) (so_far_with old table b a pending));
+    leads = leads same free (told ∙ ap (take_former former) (so_far_with old table b a pending));
   }

@@ -7,14 +7,14 @@ use Rattle.std.proofs.Common.{◌≡◌, refl, sym, ◌∙◌, ap, subst, ℕ, �
 use Rattle.std.proofs.lemmas.Bool.{cases_Bool}
 use Rattle.std.proofs.lemmas.Bool.Decides.{nat_tests}
 use Rattle.std.specs.Result.{IfOk}
-use Rattle.ifmap_subscribes.specs.ifmap_changes.Between.{Asking, IsSoundSoFar, IsSteady, sessions_left, so_far}
-use Rattle.ifmap_subscribes.specs.ifmap_changes.Changes.{taken_one}
+use Rattle.ifmap_subscribes.specs.ifmap_changes.Between.{Asking, IsSoundSoFar, IsSteady, sessions_left, state_now}
+use Rattle.ifmap_subscribes.specs.ifmap_changes.Changes.{take_session}
 use Rattle.ifmap_subscribes.specs.ifmap_changes.declared.parts.Parts.{Parts}
 use Rattle.ifmap_core.specs.declared.completions.Completion.{Completion}
 use Rattle.ifmap_core.specs.declared.completions.Completion.TheVariants.{Say, Accept}
 use Rattle.ifmap_core.specs.declared.owning.Owner.{Owner}
 use Rattle.ifmap_core.specs.declared.owning.Owner.TheVariants.{Own, Another, Nobody}
-use Rattle.ifmap_core.specs.Completions.{CanApply, IsOwner, LeadsToAnswer, after_completion, end_of_poll, held_by, poll_found}
+use Rattle.ifmap_core.specs.Completions.{CanApply, IsOwner, LeadsToAnswer, after_completion, end_of_poll, starts_in, poll_found}
 use Rattle.ifmap_core.proofs.Taking.{taken_is}
 use Rattle.ifmap_core.proofs.Told.{owner_told}
 use Rattle.ifmap_subscribes.specs.ifmap_fresh.Fresh.{fresh, fresh_size}
@@ -32,7 +32,7 @@ use Rattle.ifmap_subscribes.specs.ifmap_publish.Notes.{notes_of}
 use Rattle.ifmap_subscribes.specs.ifmap_publish.declared.who.Who.TheVariants.{Publisher}
 use Rattle.ifmap_subscribes.specs.ifmap_publish.Retract.{retract}
 use Rattle.ifmap_subscribes.specs.ifmap_replies.declared.replies.Reply.TheVariants as the_reply
-use Rattle.ifmap_subscribes.specs.ifmap_requests.declared.publishing.PublishOp.{PublishOp}
+use Rattle.ifmap_subscribes.specs.ifmap_requests.declared.publish_ops.PublishOp.{PublishOp}
 use Rattle.ifmap_subscribes.specs.ifmap_requests.declared.requests.SubscribeOp.{SubscribeOp}
 use Rattle.ifmap_session.specs.ifmap_search.declared.results.Entry.{Entry}
 use Rattle.ifmap_session.specs.ifmap_search.declared.searches.Search.{Search}
@@ -45,8 +45,8 @@ use Rattle.ifmap_subscribes.specs.ifmap_tellings.Tellings.{HasSameSessions}
 
 module _ (a : Asking) (parts : Parts) (pending : Pending) where
   pub leads_plain : IsSteady parts.graph parts.standing.items → IsSoundSoFar a parts pending → (completion : Completion)
-      → held_by completion ≡ []
-      → CanApply completion a parts pending → (wanted : State × Answer) → after_completion completion (so_far a parts pending) ≡ wanted
+      → starts_in completion ≡ []
+      → CanApply completion a parts pending → (wanted : State × Answer) → after_completion completion (state_now a parts pending) ≡ wanted
       → LeadsToAnswer completion a parts pending wanted
   leads_plain steady ready completion none can wanted e = record {
     can = record {
@@ -59,20 +59,20 @@ module _ (a : Asking) (parts : Parts) (pending : Pending) where
   }
 
   pub leads_said : IsSteady parts.graph parts.standing.items → IsSoundSoFar a parts pending → (answer : Answer) (wanted : State × Answer)
-      → ◌≡◌ {A = State × Answer} (so_far a parts pending, answer) wanted → LeadsToAnswer (Say answer) a parts pending wanted
+      → ◌≡◌ {A = State × Answer} (state_now a parts pending, answer) wanted → LeadsToAnswer (Say answer) a parts pending wanted
   leads_said steady ready answer wanted e = leads_plain steady ready (Say answer) refl tt wanted e
 
   -- a refusal, or another answer that says all
   pub says : {E : Type 0} → IsSteady parts.graph parts.standing.items → IsSoundSoFar a parts pending
       → (answer : Answer) (wanted : State × Answer)
-      → ◌≡◌ {A = State × Answer} (so_far a parts pending, answer) wanted → (r : Result Completion E) → IfOk r (λ o. o ≡ Say answer)
+      → ◌≡◌ {A = State × Answer} (state_now a parts pending, answer) wanted → (r : Result Completion E) → IfOk r (λ o. o ≡ Say answer)
       → IfOk r (λ o. LeadsToAnswer o a parts pending wanted)
   says steady ready answer wanted e (Ok completion) is =
       subst (λ (o : Completion). LeadsToAnswer o a parts pending wanted) (sym is) (leads_said steady ready answer wanted e)
   says steady ready answer wanted e (Err error) is = tt
 
   pub owner_so_far : (id client : List ℕ) (o : Owner) → IsOwner (sessions_left a parts.sessions) id client o
-      → IsOwner (so_far a parts pending).sessions id client o
+      → IsOwner (state_now a parts pending).sessions id client o
   owner_so_far id client o is = owner_told pending.tellings (sessions_left a parts.sessions) id client o is
 
 -- a session that is the client's is left
@@ -116,15 +116,15 @@ module _ (state : State) (id client : List ℕ) (serial : ℕ) (o : IsOwner stat
       ∙ ap (λ (s : State). (renew o.0.serial s, the_answer.Reply the_reply.Published)) (e
       ∙ ap (λ (by : Authorship). overflow (tell (apply state.graph by ops) (notes_of by ops) state)) (sym author_is)))
 
-  pub ends : (after : State) → after ≡ taken_one serial state
+  pub ends : (after : State) → after ≡ take_session serial state
       → ◌≡◌ {A = State × Answer} (drop_sessions (serial ∷ []) after, the_answer.Reply the_reply.Ended)
       (in_session state client found (end_session state))
   ends after e = own_case (end_session state) _ (ap (λ (s : State). (s, the_answer.Reply the_reply.Ended)) (end_is after e))
     where
-      end_is : (after : State) → after ≡ taken_one serial state → drop_sessions (serial ∷ []) after ≡ end_some (o.0.serial ∷ []) state
+      end_is : (after : State) → after ≡ take_session serial state → drop_sessions (serial ∷ []) after ≡ end_some (o.0.serial ∷ []) state
       end_is after e = ap (drop_sessions (serial ∷ [])) e ∙ taken_is serial state ∙ ap (λ (n : ℕ). end_some (n ∷ []) state) (sym o.3)
 
-  pub loses : (after : State) → after ≡ taken_one serial state
+  pub loses : (after : State) → after ≡ take_session serial state
       → ◌≡◌ {A = State × Answer} (drop_sessions (serial ∷ []) after, the_answer.Heard) (lose state client found)
   loses after e =
       rw (o.1, o.2) (ap (λ (s : State). (s, the_answer.Heard))
@@ -220,6 +220,6 @@ module _ (a : Asking) (parts : Parts) (pending : Pending) (steady : IsSteady par
     (ready : IsSoundSoFar a parts pending) where
   -- accepted in a session that is left
   pub accepts : (serial : ℕ) (answer : Answer) (wanted : State × Answer) → IsLive serial (sessions_left a parts.sessions)
-      → ◌≡◌ {A = State × Answer} (renew serial (so_far a parts pending), answer) wanted
+      → ◌≡◌ {A = State × Answer} (renew serial (state_now a parts pending), answer) wanted
       → LeadsToAnswer (Accept serial answer) a parts pending wanted
   accepts serial answer wanted live e = leads_plain a parts pending steady ready (Accept serial answer) refl live wanted e

@@ -14,11 +14,11 @@ use Rattle.std.specs.List.Sorted.{IsStrictlySortedBy}
 use Rattle.std.specs.Option.{IfSome}
 use Rattle.std.specs.Ordering.{nat_cmp}
 use Rattle.std.specs.declared.cmp.Ordering.TheVariants.{Less}
-use Rattle.ifmap_subscribes.specs.ifmap_changes.Between.{AreKept, AreParts, AreTurned, AreWithinLimits, Asking, CanEnd, IsSoundSoFar, IsSteady, IsWithinLimit, sessions_left, sight_now, so_far, state_at}
+use Rattle.ifmap_subscribes.specs.ifmap_changes.Between.{AreKept, AreParts, AreTurned, AreWithinLimits, Asking, CanEnd, IsSoundSoFar, IsSteady, IsWithinLimit, sessions_left, sight_now, state_now, state_at}
 use Rattle.ifmap_subscribes.specs.ifmap_changes.Changes.{CanSettle, CanTakeBack, IsSettled, state_taken_from}
 use Rattle.ifmap_subscribes.specs.ifmap_changes.declared.changes.Made.{Made}
 use Rattle.ifmap_subscribes.specs.ifmap_changes.declared.parts.Parts.{Parts}
-use Rattle.ifmap_core.specs.Completions.{CanApply, CanRename, IsStepCompletion, WouldBeParts, after_completion, held_by}
+use Rattle.ifmap_core.specs.Completions.{CanApply, CanRename, IsStepCompletion, WouldBeParts, after_completion, starts_in}
 use Rattle.ifmap_core.specs.declared.completions.Completion.{Completion}
 use Rattle.ifmap_core.specs.declared.completions.Completion.TheVariants.{Say, Accept, End, Open, Rename, Poll}
 use Rattle.ifmap_core.proofs.Places.{all_are_kept, kept_both}
@@ -50,9 +50,9 @@ use Rattle.ifmap_subscribes.specs.ifmap_standing.Kept.{AtEach, KeepsSame, StaysR
 use Rattle.ifmap_subscribes.specs.ifmap_standing.Ways.{LeadBack, Way}
 use Rattle.ifmap_subscribes.specs.ifmap_standing.Standing.{standing_of}
 use Rattle.ifmap_subscribes.specs.declared.renamings.Renaming.{Renaming}
-use Rattle.ifmap_subscribes.specs.Renamings.{begun_by, rename_all, told_so_far, KeepsNumbered}
+use Rattle.ifmap_subscribes.specs.Renamings.{starts_by, rename_all, told_so_far, KeepsNumbered}
 use Rattle.ifmap_subscribes.specs.ifmap_tellings.declared.tellings.Pending.{Pending}
-use Rattle.ifmap_subscribes.specs.ifmap_tellings.Tellings.{AllKept, Tellings, is_alone, kept_of}
+use Rattle.ifmap_subscribes.specs.ifmap_tellings.Tellings.{AllKept, Tellings, is_alone, kept_items}
 use Rattle.ifmap_session.specs.laws.TableLaws.{found_serial, none_expired, is_left}
 use Rattle.ifmap_subscribes.specs.ifmap_tellings.ToldLaws.{same_twice, same_kept}
 
@@ -60,14 +60,14 @@ use Rattle.ifmap_subscribes.specs.ifmap_tellings.ToldLaws.{same_twice, same_kept
 
 module _ (a : Asking) (parts : Parts) (pending : Pending) (sound : AreParts parts) (can : CanEnd a.ended parts.sessions.live)
     (none : (n : ℕ) → get nat_cmp pending.tellings n ≡ None)
-    (gone : map standing_of (kept_of pending.gone.items parts.standing.items)
+    (gone : map standing_of (kept_items pending.gone.items parts.standing.items)
     ≡ without_standing a.ended (map standing_of parts.standing.items)) where
   -- what is not gone is of a session that stays
   stay : AllKept (λ (x : Standing). list_any (λ n. n == x.serial) a.ended ≡ false) pending.gone.items parts.standing.items
   stay =
       all_kept (λ (x : Standing). list_any (λ n. n == x.serial) a.ended ≡ false) pending.gone.items parts.standing.items
       (all_of_map (λ (m : machine.Standing). list_any (λ n. n == m.serial) a.ended ≡ false) standing_of
-      (kept_of pending.gone.items parts.standing.items)
+      (kept_items pending.gone.items parts.standing.items)
       (subst (AllByRecursion (λ (m : machine.Standing). list_any (λ n. n == m.serial) a.ended ≡ false)) (sym gone)
       (unnot (map standing_of parts.standing.items))))
     where
@@ -106,20 +106,20 @@ module _ (a : Asking) (parts : Parts) (pending : Pending) (sound : AreParts part
     alone = λ n e. let bad : false ≡ true = ap is_alone (sym (none n)) ∙ e in cc;
   }
 
-  pub begins_so_far : so_far a parts pending ≡ drop_sessions a.ended (state_at a.ttl a.moment parts)
+  pub begins_so_far : state_now a parts pending ≡ drop_sessions a.ended (state_at a.ttl a.moment parts)
   begins_so_far =
-      ap (λ (l : List Session). record (so_far a parts pending) { sessions = l })
+      ap (λ (l : List Session). record (state_now a parts pending) { sessions = l })
       (none_told pending.tellings none (sessions_left a parts.sessions))
       ∙ ap (λ (xs : List machine.Standing). record (drop_sessions a.ended (state_at a.ttl a.moment parts)) { standing = xs }) gone
 
 -- what is gone, where nothing was
 pub begins_gone : (was gone : List Bool) (own ended : List ℕ) (list xs : List Standing) → list ≡ xs → own ≡ ended
-    → map standing_of (kept_of gone list) ≡ without_standing own (map standing_of (kept_of was list))
+    → map standing_of (kept_items gone list) ≡ without_standing own (map standing_of (kept_items was list))
     → AllByRecursion (λ flag. flag ≡ false) was
-    → length was ≡ length xs → map standing_of (kept_of gone xs) ≡ without_standing ended (map standing_of xs)
+    → length was ≡ length xs → map standing_of (kept_items gone xs) ≡ without_standing ended (map standing_of xs)
 begins_gone was gone own ended list xs same one e none long =
-    subst (λ (ys : List Standing). map standing_of (kept_of gone ys) ≡ without_standing ended (map standing_of (kept_of was ys))) same
-    (subst (λ (ns : List ℕ). map standing_of (kept_of gone list) ≡ without_standing ns (map standing_of (kept_of was list))) one e)
+    subst (λ (ys : List Standing). map standing_of (kept_items gone ys) ≡ without_standing ended (map standing_of (kept_items was ys))) same
+    (subst (λ (ns : List ℕ). map standing_of (kept_items gone list) ≡ without_standing ns (map standing_of (kept_items was list))) one e)
     ∙ ap (λ (ys : List Standing). without_standing ended (map standing_of ys)) (none_gone was xs none long)
 
 -- where none have ended, nothing goes
@@ -193,7 +193,7 @@ expired_rise moment ttl live up =
 -- ---- a change stays as it is
 
 module _ (a : Asking) (old new : Parts) (pending : Pending) (settled : IsSettled old new) (there : KeepsNumbered old.graph new.graph)
-    (same : so_far a new pending ≡ so_far a old pending) where
+    (same : state_now a new pending ≡ state_now a old pending) where
   live_settled : (n : ℕ) → IsLive n (sessions_left a old.sessions) → IsLive n (sessions_left a new.sessions)
   live_settled n l = rw (settled.sessions) l
 
@@ -208,20 +208,20 @@ module _ (a : Asking) (old new : Parts) (pending : Pending) (settled : IsSettled
   former_settled None h = tt
   former_settled (Some n) h = bare_settled n h
 
-  rename_settled : (serial : ℕ) (rs : List Renaming) → IsSteady new.graph (new.standing.items ++ begun_by rs)
+  rename_settled : (serial : ℕ) (rs : List Renaming) → IsSteady new.graph (new.standing.items ++ starts_by rs)
       → CanRename serial rs a old pending → CanRename serial rs a new pending
   rename_settled serial rs steady c =
       let here = all_both (λ (x : Standing). key_at new.graph.names x.subscription.region.start ≡ Some x.subscription.search.start)
-      new.standing.items (begun_by rs) steady.numbered in
-      let back : (s : Session) → session_with_serial serial (so_far a new pending).sessions ≡ Some s
-      → session_with_serial serial (so_far a old pending).sessions ≡ Some s =
+      new.standing.items (starts_by rs) steady.numbered in
+      let back : (s : Session) → session_with_serial serial (state_now a new pending).sessions ≡ Some s
+      → session_with_serial serial (state_now a old pending).sessions ≡ Some s =
       λ s e. ap (λ (st : State). session_with_serial serial st.sessions) (sym same) ∙ e in
       let told : (s : Session) → told_so_far a new pending s ≡ told_so_far a old pending s =
       λ s. ap (λ (st : State). record { queue = s.queue; standing = st.standing }) same in
       record {
         live = live_settled serial c.live;
         session = c.session;
-        kept = all_there old.graph new.graph there (begun_by rs) here.1 c.kept;
+        kept = all_there old.graph new.graph there (starts_by rs) here.1 c.kept;
         places = omega (arith, c.places, settled.len, settled.capacity);
         room = rw (settled.sessions) c.room;
         within = λ s e. subst (λ t. queue_size (rename_all serial rs t).queue ≤ s.limit) (sym (told s)) (c.within s (back s e));
@@ -229,7 +229,7 @@ module _ (a : Asking) (old new : Parts) (pending : Pending) (settled : IsSettled
             (c.few s (back s e));
       }
 
-  pub can_settled : (completion : Completion) → IsSteady new.graph (new.standing.items ++ held_by completion)
+  pub can_settled : (completion : Completion) → IsSteady new.graph (new.standing.items ++ starts_in completion)
       → CanApply completion a old pending
       → CanApply completion a new pending
   can_settled (Say answer) steady c = tt

@@ -14,9 +14,9 @@ use Rattle.std.specs.List.Sorted.{IsStrictlySortedBy}
 use Rattle.std.specs.Option.{IfSome}
 use Rattle.std.specs.Ordering.{nat_cmp}
 use Rattle.std.specs.Prelude.{vec_capacity, vec_len}
-use Rattle.ifmap_subscribes.specs.ifmap_changes.Between.{AreWithinLimits, Asking, HasNoSubscriptions, IsSoundSoFar, IsSteady, rest_of, sessions_left, sight_now, so_far, state_at, HasStartNumber}
+use Rattle.ifmap_subscribes.specs.ifmap_changes.Between.{AreWithinLimits, Asking, HasNoSubscriptions, IsSoundSoFar, IsSteady, rest_of, sessions_left, sight_now, state_now, state_at, HasStartNumber}
 use Rattle.ifmap_subscribes.specs.ifmap_changes.declared.parts.Parts.{Parts}
-use Rattle.ifmap_core.specs.Completions.{CanApply, CanApplyTo, CanOpen, CanRename, FitsAfter, WouldBeParts, after_former, after_completion, held_by}
+use Rattle.ifmap_core.specs.Completions.{CanApply, CanApplyTo, CanOpen, CanRename, FitsAfter, WouldBeParts, after_former, after_completion, starts_in}
 use Rattle.ifmap_core.specs.declared.completions.Completion.{Completion}
 use Rattle.ifmap_core.specs.declared.completions.Completion.TheVariants.{Say, Accept, End, Open, Rename, Poll}
 use Rattle.ifmap_core.proofs.Taking.{map_after}
@@ -34,31 +34,31 @@ use Rattle.ifmap_session.specs.Sessions.{IsLive, Opening, Session, SessionTable,
 use Rattle.ifmap_subscribes.specs.ifmap_standing.declared.standing.Standing.{Standing}
 use Rattle.ifmap_subscribes.specs.ifmap_standing.Standing.{standing_of}
 use Rattle.ifmap_subscribes.specs.declared.renamings.Renaming.{Renaming}
-use Rattle.ifmap_subscribes.specs.Renamings.{KeepsNumbered, begun_by, rename_all, told_in_parts, told_so_far}
+use Rattle.ifmap_subscribes.specs.Renamings.{KeepsNumbered, starts_by, rename_all, told_in_parts, told_so_far}
 use Rattle.ifmap_subscribes.specs.ifmap_tellings.declared.tellings.Pending.{Pending}
 use Rattle.ifmap_subscribes.specs.ifmap_view.declared.attachments.Attachment.{Attachment}
-use Rattle.ifmap_subscribes.specs.ifmap_tellings.Tellings.{CanTell, EachTelling, Tellings, count_told, count_where, kept_of, told_by}
+use Rattle.ifmap_subscribes.specs.ifmap_tellings.Tellings.{CanTell, EachTelling, Tellings, count_told, count_where, kept_items, tell_by}
 use Rattle.ifmap_subscribes.specs.ifmap_tellings.ToldLaws.{found_told, map_kept}
 
 -- ---- sessions that are told something
 
 module _ (tellings : Tellings) where
-  pub serial_told : (s : Session) → (told_by tellings s).serial ≡ s.serial
+  pub serial_told : (s : Session) → (tell_by tellings s).serial ≡ s.serial
   serial_told s = (told_by_leaves tellings s).serial
 
-  pub client_told : (c : List ℕ) (s : Session) → is_same_text (told_by tellings s).client c ≡ is_same_text s.client c
+  pub client_told : (c : List ℕ) (s : Session) → is_same_text (tell_by tellings s).client c ≡ is_same_text s.client c
   client_told c s = ap (λ t. is_same_text t c) (told_by_leaves tellings s).client
 
-  pub live_told : (n : ℕ) (live : List Session) → IsLive n live → IsLive n (map (told_by tellings) live)
+  pub live_told : (n : ℕ) (live : List Session) → IsLive n live → IsLive n (map (tell_by tellings) live)
   live_told n live l =
       let there = some_is (session_with_serial n live) l in
-      is_some_of (session_with_serial n (map (told_by tellings) live)) (told_by tellings there.0)
+      is_some_of (session_with_serial n (map (tell_by tellings) live)) (tell_by tellings there.0)
       (found_told tellings n live there.0 there.1)
 
   former_told : (former : Option ℕ) (live : List Session)
-      → after_former former (map (told_by tellings) live) ≡ map (told_by tellings) (after_former former live)
+      → after_former former (map (tell_by tellings) live) ≡ map (tell_by tellings) (after_former former live)
   former_told None live = refl
-  former_told (Some n) live = map_after (n ∷ []) (told_by tellings) serial_told live
+  former_told (Some n) live = map_after (n ∷ []) (tell_by tellings) serial_told live
 
   -- what was pending can be told, once the sessions have ended that are expired
   pub can_tell_rest : (a : Asking) (old mid : SessionTable) → mid.live ≡ sessions_left a old
@@ -72,16 +72,17 @@ module _ (tellings : Tellings) where
 -- ---- parts of which all is told and let go of
 
 module _ (a : Asking) (old new : Parts) (pending : Pending) (ready : IsSoundSoFar a old pending)
-    (live : new.sessions.live ≡ map (told_by pending.tellings) (sessions_left a old.sessions))
-    (standing : new.standing.items ≡ kept_of pending.gone.items old.standing.items)
+    (live : new.sessions.live ≡ map (tell_by pending.tellings) (sessions_left a old.sessions))
+    (standing : new.standing.items ≡ kept_items pending.gone.items old.standing.items)
     (kept : KeepsNumbered old.graph new.graph) where
   live_now : (n : ℕ) → IsLive n (sessions_left a old.sessions) → IsLive n new.sessions.live
   live_now n l = subst (IsLive n) (sym live) (live_told pending.tellings n (sessions_left a old.sessions) l)
 
-  all_now : (P : Standing → Type 0) → AllByRecursion P (kept_of pending.gone.items old.standing.items) → AllByRecursion P new.standing.items
+  all_now : (P : Standing → Type 0) → AllByRecursion P (kept_items pending.gone.items old.standing.items)
+      → AllByRecursion P new.standing.items
   all_now P h = subst (AllByRecursion P) (sym standing) h
 
-  shown_now : map standing_of new.standing.items ≡ kept_of pending.gone.items (map standing_of old.standing.items)
+  shown_now : map standing_of new.standing.items ≡ kept_items pending.gone.items (map standing_of old.standing.items)
   shown_now = ap (map standing_of) standing ∙ map_kept standing_of pending.gone.items old.standing.items
 
   rising_now : IsStrictlySortedBy standing_order (map standing_of new.standing.items)
@@ -145,7 +146,7 @@ module _ (a : Asking) (old new : Parts) (pending : Pending) (ready : IsSoundSoFa
     former_bare (Some n) bare = bare_now n bare
 
     former_now : (former : Option ℕ) → after_former former new.sessions.live
-        ≡ map (told_by pending.tellings) (after_former former (sessions_left a old.sessions))
+        ≡ map (tell_by pending.tellings) (after_former former (sessions_left a old.sessions))
     former_now former =
         ap (after_former former) live ∙ former_told pending.tellings former (sessions_left a old.sessions)
 
@@ -155,11 +156,11 @@ module _ (a : Asking) (old new : Parts) (pending : Pending) (ready : IsSoundSoFa
       room = let one = can.room in omega (arith, one, room);
       live = former_live former can.live;
       none = subst (λ l. session_of_client opening.client l ≡ None) (sym (former_now former))
-          (none_mapped (told_by pending.tellings) (λ (t : Session). is_same_text t.client opening.client)
+          (none_mapped (tell_by pending.tellings) (λ (t : Session). is_same_text t.client opening.client)
           (client_told pending.tellings opening.client) (after_former former (sessions_left a old.sessions)) can.none);
       few = subst (λ l. length l < most_sessions) (sym (former_now former))
           (subst (λ n. n < most_sessions)
-          (sym (length-map (after_former former (sessions_left a old.sessions)) (told_by pending.tellings))) can.few);
+          (sym (length-map (after_former former (sessions_left a old.sessions)) (tell_by pending.tellings))) can.few);
       counter = let small = can.counter in omega (arith, small, counter);
       next = can.next ∙ ap (λ n. n + 1) (sym counter);
       wide = can.wide;
@@ -167,7 +168,7 @@ module _ (a : Asking) (old new : Parts) (pending : Pending) (ready : IsSoundSoFa
 
     fits_now : (serial : ℕ) (renamings : List Renaming) → CanRename serial renamings a old pending → FitsAfter serial renamings new
     fits_now serial renamings can = λ s e.
-        let found : session_with_serial serial (so_far a old pending).sessions ≡ Some s =
+        let found : session_with_serial serial (state_now a old pending).sessions ≡ Some s =
         subst (λ l. session_with_serial serial l ≡ Some s) live e in
         let same : told_so_far a old pending s ≡ told_in_parts new s =
         ap (λ t. record { queue = s.queue; standing = map standing_of t }) (sym standing) in (
@@ -176,7 +177,7 @@ module _ (a : Asking) (old new : Parts) (pending : Pending) (ready : IsSoundSoFa
         )
 
     pub can_apply : (completion : Completion) → CanApply completion a old pending
-        → IsSteady new.graph (new.standing.items ++ held_by completion)
+        → IsSteady new.graph (new.standing.items ++ starts_in completion)
         → CanApplyTo completion new
     can_apply (Say answer) can steady = tt
     can_apply (Accept serial answer) can steady = live_now serial can
@@ -188,8 +189,8 @@ module _ (a : Asking) (old new : Parts) (pending : Pending) (ready : IsSoundSoFa
         session = can.session;
         steady = steady;
         ordered = rising_now;
-        kept = both_all (λ (x : Standing). IsUpToDate (sight_now new.graph) x.subscription) new.standing.items (begun_by renamings)
-            (kept_now (begun_by renamings) steady) (more_now (begun_by renamings) steady can.kept);
+        kept = both_all (λ (x : Standing). IsUpToDate (sight_now new.graph) x.subscription) new.standing.items (starts_by renamings)
+            (kept_now (starts_by renamings) steady) (more_now (starts_by renamings) steady can.kept);
         places = let all = can.places in omega (arith, all, len, capacity);
         room = let all = can.room in let left_over = spare serial can.live in omega (arith, all, left_over);
       },
@@ -199,14 +200,14 @@ module _ (a : Asking) (old new : Parts) (pending : Pending) (ready : IsSoundSoFa
 
 -- the state that parts are in, and an answer
 pub finished : (a : Asking) (old new : Parts) (pending : Pending) (completion : Completion) (answer : Answer)
-    → rows_now new.graph ≡ rows_now old.graph → ◌≡◌ {A = State × Answer} (after_completion completion (so_far a old pending)) (
-      record (so_far a old pending) {
+    → rows_now new.graph ≡ rows_now old.graph → ◌≡◌ {A = State × Answer} (after_completion completion (state_now a old pending)) (
+      record (state_now a old pending) {
         counter = new.sessions.counter;
         sessions = new.sessions.live;
         standing = map standing_of new.standing.items;
       },
       answer,
     )
-    → ◌≡◌ {A = State × Answer} (after_completion completion (so_far a old pending)) (state_at a.ttl a.moment new, answer)
+    → ◌≡◌ {A = State × Answer} (after_completion completion (state_now a old pending)) (state_at a.ttl a.moment new, answer)
 finished a old new pending completion answer rows e =
     e ∙ ap (λ (g : List Attachment). (record (state_at a.ttl a.moment new) { graph = g }, answer)) (sym rows)

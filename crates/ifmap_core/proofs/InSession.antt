@@ -5,9 +5,9 @@
 use Rattle.std.proofs.Common.{◌≡◌, refl, ◌∙◌, ap, subst, ℕ, ◌<◌, ◌≤◌, Bool, List, [], ◌∷◌, Option, Result, Some}
 use Rattle.std.proofs.lemmas.Result.{IfOk-weaker}
 use Rattle.std.specs.Result.{IfOk}
-use Rattle.ifmap_subscribes.specs.ifmap_changes.Between.{Asking, HasNoSubscriptions, IsSoundSoFar, IsSteady, sessions_left, so_far}
+use Rattle.ifmap_subscribes.specs.ifmap_changes.Between.{Asking, HasNoSubscriptions, IsSoundSoFar, IsSteady, sessions_left, state_now}
 use Rattle.ifmap_subscribes.specs.ifmap_changes.Bounds.{IsEndedWithin, IsTakenWithin, IsToldWithin}
-use Rattle.ifmap_subscribes.specs.ifmap_changes.Changes.{state_taken_from, taken_one}
+use Rattle.ifmap_subscribes.specs.ifmap_changes.Changes.{state_taken_from, take_session}
 use Rattle.ifmap_subscribes.specs.ifmap_changes.declared.parts.Parts.{Parts}
 use Rattle.ifmap_core.proofs.Cases.{accepts, another_denied, another_hears, another_polls, end_answer, end_said, ends, finds, finds_not, leads_plain, leads_said, live_after, loses, nobody_hears, nobody_missing, nobody_polls, own_left, owner_so_far, polls, publishes, purges, purges_not, renews, says, subscribes}
 use Rattle.ifmap_core.proofs.Spending.{ends_none, ends_within, finds_none, finds_within, publishes_none, publishes_within, purges_none, purges_within, subscribes_none, subscribes_within}
@@ -29,7 +29,7 @@ use Rattle.ifmap_subscribes.specs.ifmap_publish.Apply.{Authorship, apply}
 use Rattle.ifmap_subscribes.specs.ifmap_publish.Notes.{notes_of}
 use Rattle.ifmap_subscribes.specs.ifmap_publish.declared.who.Who.TheVariants.{Publisher}
 use Rattle.ifmap_subscribes.specs.ifmap_replies.declared.replies.Reply.TheVariants as the_reply
-use Rattle.ifmap_subscribes.specs.ifmap_requests.declared.publishing.PublishOp.{PublishOp}
+use Rattle.ifmap_subscribes.specs.ifmap_requests.declared.publish_ops.PublishOp.{PublishOp}
 use Rattle.ifmap_subscribes.specs.ifmap_requests.declared.requests.SubscribeOp.{SubscribeOp}
 use Rattle.ifmap_session.specs.ifmap_search.declared.results.Entry.{Entry}
 use Rattle.ifmap_session.specs.ifmap_search.declared.searches.Search.{Search}
@@ -40,7 +40,7 @@ use Rattle.ifmap_subscribes.specs.ifmap_tellings.Tellings.{HasSameSessions}
 
 module _ {a : Asking} {parts : Parts} {pending : Pending} (can : CanAnswer a parts pending) (id : List ℕ) where
   abbrev state : State
-  state = so_far a parts pending
+  state = state_now a parts pending
 
   abbrev found : Option Session
   found = session_with_id id state.sessions
@@ -94,34 +94,34 @@ module _ {a : Asking} {parts : Parts} {pending : Pending} (can : CanAnswer a par
       still : IsLive serial (sessions_left a new.sessions)
       still = live_after a serial parts.sessions new.sessions same left
 
-      pub ends_own : HasNoSubscriptions serial new after → so_far a new after ≡ taken_one serial state
+      pub ends_own : HasNoSubscriptions serial new after → state_now a new after ≡ take_session serial state
           → LeadsToAnswer (End serial (the_answer.Reply the_reply.Ended)) a new after (case_in state a.client id (end_session state))
       ends_own bare told =
           leads_plain a new after steady ready (End serial (the_answer.Reply the_reply.Ended)) refl (still, bare) _
-          (ends state id a.client serial owner (so_far a new after) told)
+          (ends state id a.client serial owner (state_now a new after) told)
 
-      pub loses_own : HasNoSubscriptions serial new after → so_far a new after ≡ taken_one serial state
+      pub loses_own : HasNoSubscriptions serial new after → state_now a new after ≡ take_session serial state
           → LeadsToAnswer (End serial the_answer.Heard) a new after (lose state a.client found)
       loses_own bare told =
           leads_plain a new after steady ready (End serial the_answer.Heard) refl (still, bare) _
-          (loses state id a.client serial owner (so_far a new after) told)
+          (loses state id a.client serial owner (state_now a new after) told)
 
       pub publishes_own : (ops : List PublishOp)
           → (let by : Authorship = record { client = a.client; serial = serial; moment = a.moment } in
-          so_far a new after ≡ overflow (tell (apply state.graph by ops) (notes_of by ops) state))
+          state_now a new after ≡ overflow (tell (apply state.graph by ops) (notes_of by ops) state))
           → LeadsToAnswer (Accept serial (the_answer.Reply the_reply.Published)) a new after
           (case_in state a.client id (publish state ops))
       publishes_own ops told =
           accepts a new after steady ready serial (the_answer.Reply the_reply.Published) _ still
-          (publishes state id a.client serial owner ops (so_far a new after) told)
+          (publishes state id a.client serial owner ops (state_now a new after) told)
 
       pub purges_own : (publisher text : List ℕ) → publisher ≡ a.client → text ≡ a.client
-          → so_far a new after ≡ state_taken_from (Publisher text) state
+          → state_now a new after ≡ state_taken_from (Publisher text) state
           → LeadsToAnswer (Accept serial (the_answer.Reply the_reply.Purged)) a new after
           (case_in state a.client id (purge state publisher))
       purges_own publisher text named copied told =
           accepts a new after steady ready serial (the_answer.Reply the_reply.Purged) _ still
-          (purges state id a.client serial owner publisher (so_far a new after) named
+          (purges state id a.client serial owner publisher (state_now a new after) named
           (told ∙ ap (λ (t : List ℕ). state_taken_from (Publisher t) state) copied))
 
     pub subscribes_own : {E : Type 0} (ops : List SubscribeOp) (r : Result Completion E) (new : Parts) (after : Pending)

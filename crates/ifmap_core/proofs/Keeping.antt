@@ -2,12 +2,12 @@
 use Rattle.std.proofs.Common.{◌≡◌, sym, ◌∙◌, ap, ℕ, zero, suc, ◌+◌, ◌<◌, ◌≤◌, Bool, true, false, cond, List, [], ◌∷◌, ◌++◌, drop, get_or, length, set, take, append-nil, add-one, arith}
 use Rattle.std.proofs.lemmas.List.{drop_more, drop-set-lt, length-set, take-set-le, take_more}
 use Rattle.std.specs.List.{SwappedAt}
-use Rattle.ifmap_subscribes.specs.ifmap_tellings.Tellings.{kept_of}
+use Rattle.ifmap_subscribes.specs.ifmap_tellings.Tellings.{kept_items}
 
 module _ {X : Type 0} where
   -- one step further along both lists
   pub kept_next : (gone : List Bool) (xs : List X) (i : ℕ) (g : Bool) (d : X) → i < length gone → i < length xs → get_or gone i false ≡ g
-      → kept_of (take (suc i) gone) (take (suc i) xs) ≡ kept_of (take i gone) (take i xs) ++ cond g [] (get_or xs i d ∷ [])
+      → kept_items (take (suc i) gone) (take (suc i) xs) ≡ kept_items (take i gone) (take i xs) ++ cond g [] (get_or xs i d ∷ [])
   kept_next [] xs i g d a b e = absurd (omega (arith, a))
   kept_next (h ∷ gone) [] i g d a b e = absurd (omega (arith, b))
   kept_next (true ∷ gone) (y ∷ xs) zero g d a b e = ap (λ (t : Bool). cond t [] (y ∷ [])) e
@@ -18,7 +18,7 @@ module _ {X : Type 0} where
 
 -- ys began as xs. What is left of the first i of xs stands in the first k places of ys, and from i on ys is as it was
 pub record KeptInPlace {X : Type 0} (gone : List Bool) (xs ys : List X) (k i : ℕ) : Type 0 where
-  pub front : take k ys ≡ kept_of (take i gone) (take i xs)
+  pub front : take k ys ≡ kept_items (take i gone) (take i xs)
   pub rest : drop i ys ≡ drop i xs
   pub few : k ≤ i
   pub within : i ≤ length gone
@@ -33,7 +33,7 @@ module _ {X : Type 0} (gone : List Bool) (xs ys : List X) (k i : ℕ) (h : KeptI
       sym (drop_more ys i d (omega (arith, lt, flags, long))) ∙ h.rest ∙ drop_more xs i d (omega (arith, lt, flags))
 
   next : (g : Bool) (d : X) → i < length gone → get_or gone i false ≡ g
-      → kept_of (take (i + 1) gone) (take (i + 1) xs) ≡ take k ys ++ cond g [] (get_or ys i d ∷ [])
+      → kept_items (take (i + 1) gone) (take (i + 1) xs) ≡ take k ys ++ cond g [] (get_or ys i d ∷ [])
   next g d lt e =
       let flags = h.flags in
       let same : get_or ys i d ≡ get_or xs i d = ap (λ l. get_or l 0 d) (both d lt) in

@@ -16,7 +16,7 @@ use Rattle.std.specs.List.Sorted.{IsStrictlySortedBy}
 use Rattle.std.specs.Option.{option_to_list}
 use Rattle.std.specs.Ordering.{is_gt, is_lt, nat_cmp}
 use Rattle.std.specs.declared.cmp.Ordering.TheVariants.{Less, Greater}
-use Rattle.ifmap_core.specs.Completions.{alone_told}
+use Rattle.ifmap_core.specs.Completions.{state_with_error}
 use Rattle.ifmap_core.proofs.Told.{one_numbered}
 use Rattle.ifmap_ident.specs.declared.codes.Code.TheVariants.{PollResultsTooBig}
 use Rattle.ifmap_lemmas.specs.Filters.{all_around, all_filter, all_weaker, filter_none, filter_passes}
@@ -132,13 +132,13 @@ over_standing n q s many x (y ∷ live) one h found =
 pub over_is : (n : ℕ) (state : State) (s : Session) (t : Told) → IsStrictlySortedBy session_order state.sessions
     → session_with_serial n state.sessions ≡ Some s → AllByRecursion IsFit state.sessions → s.limit < queue_size t.queue
     → without_standing (n ∷ []) t.standing ≡ without_standing (n ∷ []) state.standing
-    → overflow (with_told n t state) ≡ alone_told n (queue_size t.queue) state
+    → overflow (with_told n t state) ≡ state_with_error n (queue_size t.queue) state
 over_is n state s t up found fit many others =
     let one = one_numbered n state.sessions s up found in
     let full : List Session = change n (requeued t.queue) state.sessions in
     ap (λ (ss : List Session). record state { sessions = ss; standing = filter (λ x. not (is_overrun full x)) t.standing })
     (over_sessions n t.queue s many state.sessions one fit)
-    ∙ ap (λ (xs : List machine.Standing). record (alone_told n (queue_size t.queue) state) { standing = xs })
+    ∙ ap (λ (xs : List machine.Standing). record (state_with_error n (queue_size t.queue) state) { standing = xs })
     (filter_agree (λ x. not (is_overrun full x)) (λ (x : machine.Standing). not (list_any (λ m. m == x.serial) (n ∷ [])))
     (λ x. ap not (over_standing n t.queue s many x state.sessions one fit found ∙ sym (or-false (n == x.serial)))) t.standing ∙ others)
 

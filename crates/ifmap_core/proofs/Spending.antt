@@ -4,7 +4,7 @@
 use Rattle.std.proofs.Common.{◌≡◌, ◌≢◌, refl, sym, ◌∙◌, ap, subst, inl, not, ℕ, Bool, true, false, List, [], ◌∷◌, Option, None, Some, max, arith}
 use Rattle.std.specs.List.{list_any}
 use Rattle.std.specs.Option.{option_map}
-use Rattle.ifmap_subscribes.specs.ifmap_changes.Between.{Asking, sessions_left, so_far, state_at}
+use Rattle.ifmap_subscribes.specs.ifmap_changes.Between.{Asking, sessions_left, state_now, state_at}
 use Rattle.ifmap_subscribes.specs.ifmap_changes.Bounds.{IsEndedWithin, IsTakenWithin, IsToldWithin}
 use Rattle.ifmap_subscribes.specs.ifmap_changes.declared.parts.Parts.{Parts}
 use Rattle.ifmap_core.proofs.Begun.{former_so_far, so_far_with}
@@ -22,7 +22,7 @@ use Rattle.ifmap_subscribes.specs.ifmap_machine.Step.{author_in, is_full}
 use Rattle.ifmap_subscribes.specs.ifmap_publish.Apply.{Authorship, apply}
 use Rattle.ifmap_subscribes.specs.ifmap_publish.declared.who.Who.{Who}
 use Rattle.ifmap_subscribes.specs.ifmap_publish.declared.who.Who.TheVariants.{Publisher, Sessions}
-use Rattle.ifmap_subscribes.specs.ifmap_requests.declared.publishing.PublishOp.{PublishOp}
+use Rattle.ifmap_subscribes.specs.ifmap_requests.declared.publish_ops.PublishOp.{PublishOp}
 use Rattle.ifmap_subscribes.specs.ifmap_requests.declared.requests.Request.TheVariants as the_request
 use Rattle.ifmap_subscribes.specs.ifmap_requests.declared.requests.SubscribeOp.{SubscribeOp}
 use Rattle.ifmap_session.specs.ifmap_search.declared.searches.Search.{Search}
@@ -145,11 +145,11 @@ begun_within state client before after free w = rw free w
 pub former_within : (a : Asking) (parts : Parts) (pending : Pending) (table : SessionTable) → IsAsBefore parts.sessions table
     → (former : Option ℕ) (before after : ℕ)
     → former ≡ option_map (λ (s : Session). s.serial) (session_of_client a.client (sessions_left a parts.sessions))
-    → IsFormerWithin former (so_far a (record parts { sessions = table }) pending) before after
-    → IsFormerWithin (option_map (λ (s : Session). s.serial) (session_of_client a.client (so_far a parts pending).sessions))
-    (so_far a parts pending) before after
+    → IsFormerWithin former (state_now a (record parts { sessions = table }) pending) before after
+    → IsFormerWithin (option_map (λ (s : Session). s.serial) (session_of_client a.client (state_now a parts pending).sessions))
+    (state_now a parts pending) before after
 former_within a parts pending table same former before after is w =
-    subst (λ (o : Option ℕ). IsFormerWithin o (so_far a parts pending) before after) (is ∙ former_so_far a parts pending)
+    subst (λ (o : Option ℕ). IsFormerWithin o (state_now a parts pending) before after) (is ∙ former_so_far a parts pending)
     (subst (λ (s : State). IsFormerWithin former s before after) (so_far_with parts table same a pending) w)
 
 -- ---- sessions that are expired

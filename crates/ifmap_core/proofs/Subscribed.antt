@@ -14,10 +14,10 @@ use Rattle.std.specs.Ordering.{nat_cmp}
 use Rattle.std.specs.Option.{option_to_list}
 use Rattle.std.specs.Prelude.{vec_capacity, vec_len}
 use Rattle.std.specs.declared.cmp.Ordering.TheVariants.{Less}
-use Rattle.ifmap_subscribes.specs.ifmap_changes.Between.{AreKept, AreTurned, AreWithinLimits, Asking, IsSoundSoFar, IsSteady, IsWithinLimit, sessions_left, sight_now, so_far}
+use Rattle.ifmap_subscribes.specs.ifmap_changes.Between.{AreKept, AreTurned, AreWithinLimits, Asking, IsSoundSoFar, IsSteady, IsWithinLimit, sessions_left, sight_now, state_now}
 use Rattle.ifmap_subscribes.specs.ifmap_changes.declared.parts.Parts.{Parts}
 use Rattle.ifmap_core.specs.Answering.{TurnsOrKeeps}
-use Rattle.ifmap_core.specs.Completions.{CanRename, LeadsToAnswer, after_completion, alone_told, rename_in}
+use Rattle.ifmap_core.specs.Completions.{CanRename, LeadsToAnswer, after_completion, state_with_error, rename_in}
 use Rattle.ifmap_core.specs.declared.completions.Completion.TheVariants.{Rename}
 use Rattle.ifmap_core.proofs.Ended.{rising_left}
 use Rattle.ifmap_core.proofs.Overrun.{Grows, IsFit, changed_within, grows_rising, no_overflow, others_renamed, over_is}
@@ -48,7 +48,7 @@ use Rattle.ifmap_subscribes.specs.declared.readying.Readying.{Readying}
 use Rattle.ifmap_subscribes.specs.Readying.{AreReadied, OnlyHolds, queue_where, told_after, told_at}
 use Rattle.ifmap_subscribes.specs.Renamings.{item_count, rename_all, told_so_far, KeepsNumbered}
 use Rattle.ifmap_subscribes.specs.ifmap_tellings.declared.tellings.Pending.{Pending}
-use Rattle.ifmap_subscribes.specs.ifmap_tellings.Tellings.{AllKept, HasSameSessions, count_where, kept_of, told_by}
+use Rattle.ifmap_subscribes.specs.ifmap_tellings.Tellings.{AllKept, HasSameSessions, count_where, kept_items, tell_by}
 use Rattle.ifmap_session.specs.laws.TableLaws.{found_serial, left_live}
 use Rattle.ifmap_subscribes.specs.ifmap_tellings.ToldLaws.{same_sessions_itself, map_kept}
 
@@ -92,16 +92,18 @@ holds_turned old new h = record {
 
 -- what is so far is what it was
 pub same_so_far : (a : Asking) (old new : Parts) (pending : Pending) → rows_now new.graph ≡ rows_now old.graph
-    → HasSameSessions old.sessions new.sessions → new.standing.items ≡ old.standing.items → so_far a new pending ≡ so_far a old pending
+    → HasSameSessions old.sessions new.sessions → new.standing.items ≡ old.standing.items → state_now a new pending
+    ≡ state_now a old pending
 same_so_far a old new pending rows sessions standing =
-    ap (λ (n : ℕ). record (so_far a new pending) { counter = n }) sessions.counter
-    ∙ ap (λ rs. record (so_far a new pending) { counter = old.sessions.counter; graph = rs }) rows
-    ∙ ap (λ (live : List Session). record (so_far a new pending) {
+    ap (λ (n : ℕ). record (state_now a new pending) { counter = n }) sessions.counter
+    ∙ ap (λ rs. record (state_now a new pending) { counter = old.sessions.counter; graph = rs }) rows
+    ∙ ap (λ (live : List Session). record (state_now a new pending) {
       counter = old.sessions.counter;
       graph = rows_now old.graph;
-      sessions = map (told_by pending.tellings) (without_sessions a.ended live);
+      sessions = map (tell_by pending.tellings) (without_sessions a.ended live);
     }) sessions.live
-    ∙ ap (λ (xs : List Standing). record (so_far a old pending) { standing = map standing_of (kept_of pending.gone.items xs) }) standing
+    ∙ ap (λ (xs : List Standing). record (state_now a old pending) { standing = map standing_of (kept_items pending.gone.items xs) })
+    standing
 
 -- what is ready is, once there is more room
 pub ready_room : (a : Asking) (old new : Parts) (pending : Pending) → new.graph ≡ old.graph → HasSameSessions old.sessions new.sessions
@@ -155,8 +157,8 @@ left_found p n (x ∷ live) s up e =
 -- the session that is told is live, with the same limit
 pub told_live : (a : Asking) (parts : Parts) (pending : Pending) (n : ℕ) (s : Session)
     → IsStrictlySortedBy session_order parts.sessions.live
-    → session_with_serial n (so_far a parts pending).sessions ≡ Some s
-    → (t : Session) × (session_with_serial n parts.sessions.live ≡ Some t) × (told_by pending.tellings t ≡ s) × (s.limit ≡ t.limit)
+    → session_with_serial n (state_now a parts pending).sessions ≡ Some s
+    → (t : Session) × (session_with_serial n parts.sessions.live ≡ Some t) × (tell_by pending.tellings t ≡ s) × (s.limit ≡ t.limit)
 told_live a parts pending n s up e =
     let t = before_told pending.tellings n (sessions_left a parts.sessions) s e in (
       t.0,
@@ -200,15 +202,15 @@ renames serial rs state s t up found within is few =
     (sym (found_serial serial state.sessions s found)))
 
 so_far_rising : (a : Asking) (parts : Parts) (pending : Pending) → IsStrictlySortedBy session_order parts.sessions.live
-    → IsStrictlySortedBy session_order (so_far a parts pending).sessions
+    → IsStrictlySortedBy session_order (state_now a parts pending).sessions
 so_far_rising a parts pending up = told_rising pending.tellings (sessions_left a parts.sessions)
     (rising_left a.ended parts.sessions.live up)
 
 pub told_is : (a : Asking) (parts : Parts) (pending : Pending) (n : ℕ) (s : Session)
-    → session_with_serial n (so_far a parts pending).sessions ≡ Some s
-    → told_at n a parts pending ≡ record { queue = s.queue; standing = (so_far a parts pending).standing }
+    → session_with_serial n (state_now a parts pending).sessions ≡ Some s
+    → told_at n a parts pending ≡ record { queue = s.queue; standing = (state_now a parts pending).standing }
 told_is a parts pending n s e =
-    ap (λ (o : Option Session). record { queue = queue_where o; standing = (so_far a parts pending).standing }) e
+    ap (λ (o : Option Session). record { queue = queue_where o; standing = (state_now a parts pending).standing }) e
 
 module _ (a : Asking) (old : Parts) (pending : Pending) (serial : ℕ) (readying : Readying)
     (up : IsStrictlySortedBy session_order old.sessions.live)
@@ -218,12 +220,12 @@ module _ (a : Asking) (old : Parts) (pending : Pending) (serial : ℕ) (readying
 
   -- the session's queue is within its limit, or not
   pub within_limit : ((s : Session) → session_with_serial serial old.sessions.live ≡ Some s → readying.size ≤ s.limit)
-      → (s : Session) → session_with_serial serial (so_far a old pending).sessions ≡ Some s → queue_size after.queue ≤ s.limit
+      → (s : Session) → session_with_serial serial (state_now a old pending).sessions ≡ Some s → queue_size after.queue ≤ s.limit
   within_limit limit s e =
       let t = told_live a old pending serial s up e in omega (arith, limit t.0 t.1, t.3, r.counted.size)
 
   pub over_limit : ((s : Session) → session_with_serial serial old.sessions.live ≡ Some s → s.limit < readying.size)
-      → (s : Session) → session_with_serial serial (so_far a old pending).sessions ≡ Some s → s.limit < queue_size after.queue
+      → (s : Session) → session_with_serial serial (state_now a old pending).sessions ≡ Some s → s.limit < queue_size after.queue
   over_limit limit s e =
       let t = told_live a old pending serial s up e in omega (arith, limit t.0 t.1, t.3, r.counted.size)
 
@@ -235,10 +237,10 @@ module _ (a : Asking) (old : Parts) (pending : Pending) (serial : ℕ) (readying
       → CanRename serial readying.made.items a new pending
   can_rename new graph sessions standing live limit places room =
       let same = same_so_far a old new pending (ap rows_now graph) sessions standing in
-      let back : (s : Session) → session_with_serial serial (so_far a new pending).sessions ≡ Some s
-      → session_with_serial serial (so_far a old pending).sessions ≡ Some s =
+      let back : (s : Session) → session_with_serial serial (state_now a new pending).sessions ≡ Some s
+      → session_with_serial serial (state_now a old pending).sessions ≡ Some s =
       λ s e. ap (λ (st : State). session_with_serial serial st.sessions) (sym same) ∙ e in
-      let told : (s : Session) → session_with_serial serial (so_far a new pending).sessions ≡ Some s
+      let told : (s : Session) → session_with_serial serial (state_now a new pending).sessions ≡ Some s
       → told_so_far a new pending s ≡ told_at serial a old pending =
       λ s e. ap (λ (st : State). record { queue = s.queue; standing = st.standing }) same
       ∙ sym (told_is a old pending serial s (back s e)) in
@@ -259,8 +261,8 @@ module _ (a : Asking) (old : Parts) (pending : Pending) (serial : ℕ) (readying
       → ((s : Session) → session_with_serial serial old.sessions.live ≡ Some s → readying.size ≤ s.limit)
       → vec_len new.standing + length readying.made.items ≤ vec_capacity new.standing
       → count_where (get nat_cmp pending.tellings serial) + length readying.made.items ≤ spare_of serial new.sessions.spare
-      → (s : Session) → session_with_serial serial (so_far a old pending).sessions ≡ Some s
-      → LeadsToAnswer (Rename serial readying.made.items) a new pending (answer_subscribed (so_far a old pending) s (Some after))
+      → (s : Session) → session_with_serial serial (state_now a old pending).sessions ≡ Some s
+      → LeadsToAnswer (Rename serial readying.made.items) a new pending (answer_subscribed (state_now a old pending) s (Some after))
   leads_renamed new graph sessions standing ready live limit places room s e = record {
     can = record {
       steady = rw (graph, standing) r.stand.steady;
@@ -268,20 +270,20 @@ module _ (a : Asking) (old : Parts) (pending : Pending) (serial : ℕ) (readying
       can = can_rename new graph sessions standing live limit places room;
     };
     leads = ap (after_completion (Rename serial readying.made.items)) (same_so_far a old new pending (ap rows_now graph) sessions standing)
-        ∙ renames serial readying.made.items (so_far a old pending) s (told_at serial a old pending) (so_far_rising a old pending up) e
+        ∙ renames serial readying.made.items (state_now a old pending) s (told_at serial a old pending) (so_far_rising a old pending up) e
         ready.within (told_is a old pending serial s e) (within_limit limit s e);
   }
 
   -- one error in place of all
   pub overruns : IsSoundSoFar a old pending →
       ((s : Session) → session_with_serial serial old.sessions.live ≡ Some s → s.limit < readying.size)
-      → (s : Session) → session_with_serial serial (so_far a old pending).sessions ≡ Some s
-      → (next : State) → next ≡ alone_told serial readying.size (so_far a old pending)
+      → (s : Session) → session_with_serial serial (state_now a old pending).sessions ≡ Some s
+      → (next : State) → next ≡ state_with_error serial readying.size (state_now a old pending)
       → ◌≡◌ {A = State × Answer} (renew serial next, the_answer.Reply the_reply.Subscribed)
-      (answer_subscribed (so_far a old pending) s (Some after))
+      (answer_subscribed (state_now a old pending) s (Some after))
   overruns ready limit s e next is =
-      let state = so_far a old pending in
-      let grows : Grows (map standing_of (kept_of pending.gone.items old.standing.items)) =
+      let state = state_now a old pending in
+      let grows : Grows (map standing_of (kept_items pending.gone.items old.standing.items)) =
       subst Grows (sym (map_kept standing_of pending.gone.items old.standing.items))
       (grows_left pending.gone.items (map standing_of old.standing.items)
       (grows_rising (map standing_of old.standing.items) ready.ordered.rising)) in
@@ -289,11 +291,11 @@ module _ (a : Asking) (old : Parts) (pending : Pending) (serial : ℕ) (readying
       let it = over_is serial state s after (so_far_rising a old pending up) e (fit_each state.sessions ready.within)
       (over_limit limit s e) others in
       ap (λ (st : State). (renew serial st, the_answer.Reply the_reply.Subscribed)) (is
-      ∙ ap (λ (n : ℕ). alone_told serial n state) r.counted.size ∙ sym it)
+      ∙ ap (λ (n : ℕ). state_with_error serial n state) r.counted.size ∙ sym it)
       ∙ ap (λ (n : ℕ). (renew n (overflow (with_told n after state)), the_answer.Reply the_reply.Subscribed))
       (sym (found_serial serial state.sessions s e))
     where
-      grows_left : (gone : List Bool) (xs : List machine.Standing) → Grows xs → Grows (kept_of gone xs)
+      grows_left : (gone : List Bool) (xs : List machine.Standing) → Grows xs → Grows (kept_items gone xs)
       grows_left [] xs g = tt
       grows_left (b ∷ gone) [] g = tt
       grows_left (true ∷ gone) (x ∷ xs) g = grows_left gone xs g.1
@@ -322,7 +324,8 @@ pub holds_turns : {X E : Type 0} (r : Result X E) (old mid new : Parts) → Only
 holds_turns (Ok x) old mid new h c = record { turned = turned_twice old mid new (holds_turned old mid h) c.turned; kept = tt }
 holds_turns (Err e) old mid new h c = record { turned = tt; kept = holds_kept old mid new h c.kept }
 
-pub holds_so_far : (a : Asking) (old new : Parts) (pending : Pending) → OnlyHolds old new → so_far a new pending ≡ so_far a old pending
+pub holds_so_far : (a : Asking) (old new : Parts) (pending : Pending) → OnlyHolds old new → state_now a new pending
+    ≡ state_now a old pending
 holds_so_far a old new pending h =
     same_so_far a old new pending h.rows (subst (HasSameSessions old.sessions) (sym h.sessions) (same_sessions_itself old.sessions))
     (ap (λ v. v.items) h.standing)
@@ -331,16 +334,16 @@ holds_so_far a old new pending h =
 pub holds_leads : (P : State × Answer → Type 0) (a : Asking) (old mid : Parts) (pending : Pending) (serial : ℕ)
     (readying : Readying) (wanted : Option Told) → OnlyHolds old mid → wanted ≡ Some
     (told_after serial readying (told_at serial a old pending))
-    → ((s : Session) → session_with_serial serial (so_far a mid pending).sessions ≡ Some s
-    → P (answer_subscribed (so_far a mid pending) s (Some (told_after serial readying (told_at serial a mid pending)))))
-    → (s : Session) → session_with_serial serial (so_far a old pending).sessions ≡ Some s
-    → P (answer_subscribed (so_far a old pending) s wanted)
+    → ((s : Session) → session_with_serial serial (state_now a mid pending).sessions ≡ Some s
+    → P (answer_subscribed (state_now a mid pending) s (Some (told_after serial readying (told_at serial a mid pending)))))
+    → (s : Session) → session_with_serial serial (state_now a old pending).sessions ≡ Some s
+    → P (answer_subscribed (state_now a old pending) s wanted)
 holds_leads P a old mid pending serial readying wanted h is f s e =
     let same = holds_so_far a old mid pending h in
-    let there : session_with_serial serial (so_far a mid pending).sessions ≡ Some s = ap
+    let there : session_with_serial serial (state_now a mid pending).sessions ≡ Some s = ap
     (λ (st : State). session_with_serial serial st.sessions) same ∙ e in
-    let moved : answer_subscribed (so_far a mid pending) s (Some (told_after serial readying (told_at serial a mid pending)))
-    ≡ answer_subscribed (so_far a old pending) s (Some (told_after serial readying (told_at serial a old pending))) =
+    let moved : answer_subscribed (state_now a mid pending) s (Some (told_after serial readying (told_at serial a mid pending)))
+    ≡ answer_subscribed (state_now a old pending) s (Some (told_after serial readying (told_at serial a old pending))) =
     ap (λ (st : State). answer_subscribed st s (Some (told_after serial readying
     (record { queue = queue_where (session_with_serial serial st.sessions); standing = st.standing })))) same in
-    subst P (moved ∙ ap (answer_subscribed (so_far a old pending) s) (sym is)) (f s there)
+    subst P (moved ∙ ap (answer_subscribed (state_now a old pending) s) (sym is)) (f s there)

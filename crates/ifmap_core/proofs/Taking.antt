@@ -3,7 +3,7 @@ use Rattle.std.proofs.Common.{◌≡◌, refl, sym, ◌∙◌, ap, ℕ, ◌==◌
 use Rattle.std.proofs.lemmas.Bool.{cases_Bool}
 use Rattle.std.proofs.lemmas.Bool.Decides.{nat_tests}
 use Rattle.std.specs.List.{AllByRecursion, filter, list_any}
-use Rattle.ifmap_subscribes.specs.ifmap_changes.Changes.{taken_one}
+use Rattle.ifmap_subscribes.specs.ifmap_changes.Changes.{take_session}
 use Rattle.ifmap_lemmas.specs.Filters.{all_filter}
 use Rattle.ifmap_lemmas.specs.Parted.{filter_where}
 use Rattle.ifmap_subscribes.specs.ifmap_machine.Ending.{drop_sessions, end_some, without_standing}
@@ -51,7 +51,7 @@ others_are n [] = tt
 others_are n (x ∷ xs) =
     elim (cases_Bool (n == x.serial)) [ inl hit ↦ rw hit (others_are n xs) | inr miss ↦ rw miss (miss, others_are n xs) ]
 
-pub taken_is : (n : ℕ) (state : State) → drop_sessions (n ∷ []) (taken_one n state) ≡ end_some (n ∷ []) state
+pub taken_is : (n : ℕ) (state : State) → drop_sessions (n ∷ []) (take_session n state) ≡ end_some (n ∷ []) state
 taken_is n state =
     let after = retract (Sessions (n ∷ [])) state.graph in
     let others = without_standing (n ∷ []) state.standing in

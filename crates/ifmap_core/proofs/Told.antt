@@ -17,7 +17,7 @@ use Rattle.ifmap_lemmas.specs.Members.{map_of_all}
 use Rattle.ifmap_session.specs.Sessions.{Session, is_same_text, session_order, session_with_serial}
 use Rattle.ifmap_subscribes.specs.ifmap_tellings.declared.tellings.Telling.{Telling}
 use Rattle.ifmap_subscribes.specs.ifmap_tellings.declared.tellings.Telling.TheVariants.{After, Alone}
-use Rattle.ifmap_subscribes.specs.ifmap_tellings.Tellings.{Tellings, told_by, told_where}
+use Rattle.ifmap_subscribes.specs.ifmap_tellings.Tellings.{Tellings, tell_by, tell_if}
 
 -- ---- what a telling leaves
 
@@ -28,20 +28,20 @@ pub record Leaves (s t : Session) : Type 0 where
   pub limit : t.limit ≡ s.limit
   pub last : t.last ≡ s.last
 
-pub told_leaves : (o : Option Telling) (s : Session) → Leaves s (told_where o s)
+pub told_leaves : (o : Option Telling) (s : Session) → Leaves s (tell_if o s)
 told_leaves None s = record { serial = refl; id = refl; client = refl; limit = refl; last = refl }
 told_leaves (Some (After items size)) s = record { serial = refl; id = refl; client = refl; limit = refl; last = refl }
 told_leaves (Some (Alone error)) s = record { serial = refl; id = refl; client = refl; limit = refl; last = refl }
 
-pub told_by_leaves : (tellings : Tellings) (s : Session) → Leaves s (told_by tellings s)
+pub told_by_leaves : (tellings : Tellings) (s : Session) → Leaves s (tell_by tellings s)
 told_by_leaves tellings s = told_leaves (get nat_cmp tellings s.serial) s
 
 -- where no telling is, nothing is told
 pub none_told : (tellings : Tellings) → ((n : ℕ) → get nat_cmp tellings n ≡ None) → (live : List Session)
-    → map (told_by tellings) live ≡ live
+    → map (tell_by tellings) live ≡ live
 none_told tellings none [] = refl
 none_told tellings none (s ∷ live) =
-    ap (λ (o : Option Telling). told_where o s ∷ map (told_by tellings) live) (none s.serial)
+    ap (λ (o : Option Telling). tell_if o s ∷ map (tell_by tellings) live) (none s.serial)
     ∙ ap (λ t. s ∷ t) (none_told tellings none live)
 
 -- ---- what is found
@@ -72,33 +72,33 @@ module _ (f : Session → Session) (q : Session → Bool) (same : (s : Session) 
       ]
 
 module _ (tellings : Tellings) where
-  pub told_id : (id : List ℕ) (s : Session) → is_same_text (told_by tellings s).id id ≡ is_same_text s.id id
+  pub told_id : (id : List ℕ) (s : Session) → is_same_text (tell_by tellings s).id id ≡ is_same_text s.id id
   told_id id s = ap (λ (t : List ℕ). is_same_text t id) (told_by_leaves tellings s).id
 
-  pub told_number : (n : ℕ) (s : Session) → ((told_by tellings s).serial == n) ≡ (s.serial == n)
+  pub told_number : (n : ℕ) (s : Session) → ((tell_by tellings s).serial == n) ≡ (s.serial == n)
   told_number n s = ap (λ (m : ℕ). m == n) (told_by_leaves tellings s).serial
 
   -- whose a session is, is so once all is told
   pub owner_told : (live : List Session) (id client : List ℕ) (o : Owner) → IsOwner live id client o
-      → IsOwner (map (told_by tellings) live) id client o
+      → IsOwner (map (tell_by tellings) live) id client o
   owner_told live id client (Own serial) o = (
-    told_by tellings o.0,
-    found_mapped (told_by tellings) (λ (t : Session). is_same_text t.id id) (told_id id) live o.0 o.1,
+    tell_by tellings o.0,
+    found_mapped (tell_by tellings) (λ (t : Session). is_same_text t.id id) (told_id id) live o.0 o.1,
     ap (λ (t : List ℕ). is_same_text t client) (told_by_leaves tellings o.0).client ∙ o.2,
     (told_by_leaves tellings o.0).serial ∙ o.3,
-    found_mapped (told_by tellings) (λ (t : Session). t.serial == serial) (told_number serial) live o.0 o.4,
+    found_mapped (tell_by tellings) (λ (t : Session). t.serial == serial) (told_number serial) live o.0 o.4,
   )
   owner_told live id client Another o = (
-    told_by tellings o.0,
-    found_mapped (told_by tellings) (λ (t : Session). is_same_text t.id id) (told_id id) live o.0 o.1,
+    tell_by tellings o.0,
+    found_mapped (tell_by tellings) (λ (t : Session). is_same_text t.id id) (told_id id) live o.0 o.1,
     ap (λ (t : List ℕ). is_same_text t client) (told_by_leaves tellings o.0).client ∙ o.2,
   )
-  owner_told live id client Nobody o = none_mapped (told_by tellings) (λ (t : Session). is_same_text t.id id) (told_id id) live o
+  owner_told live id client Nobody o = none_mapped (tell_by tellings) (λ (t : Session). is_same_text t.id id) (told_id id) live o
 
   -- the session with a serial, before it is told
-  pub before_told : (n : ℕ) (live : List Session) (t : Session) → session_with_serial n (map (told_by tellings) live) ≡ Some t
-      → (s : Session) × (session_with_serial n live ≡ Some s) × (told_by tellings s ≡ t)
-  before_told n live t e = mapped_found (told_by tellings) (λ (s : Session). s.serial == n) (told_number n) live t e
+  pub before_told : (n : ℕ) (live : List Session) (t : Session) → session_with_serial n (map (tell_by tellings) live) ≡ Some t
+      → (s : Session) × (session_with_serial n live ≡ Some s) × (tell_by tellings s ≡ t)
+  before_told n live t e = mapped_found (tell_by tellings) (λ (s : Session). s.serial == n) (told_number n) live t e
 
 -- ---- sessions with serials that rise
 
@@ -124,13 +124,13 @@ one_numbered n (x ∷ live) s up e =
     ]
 
 pub told_rising : (tellings : Tellings) (live : List Session) → IsStrictlySortedBy session_order live
-    → IsStrictlySortedBy session_order (map (told_by tellings) live)
+    → IsStrictlySortedBy session_order (map (tell_by tellings) live)
 unfolding IsStrictlySortedBy
 told_rising tellings [] up = tt
 told_rising tellings (x ∷ live) up = (
-  map_of_all (λ z. session_order (told_by tellings x) z ≡ Less) (told_by tellings) live (all_weaker (λ y. session_order x y ≡ Less)
-      (λ y. session_order (told_by tellings x) (told_by tellings y) ≡ Less)
-      (λ y l. subst (λ (n : ℕ). nat_cmp n (told_by tellings y).serial ≡ Less) (sym (told_by_leaves tellings x).serial)
+  map_of_all (λ z. session_order (tell_by tellings x) z ≡ Less) (tell_by tellings) live (all_weaker (λ y. session_order x y ≡ Less)
+      (λ y. session_order (tell_by tellings x) (tell_by tellings y) ≡ Less)
+      (λ y l. subst (λ (n : ℕ). nat_cmp n (tell_by tellings y).serial ≡ Less) (sym (told_by_leaves tellings x).serial)
       (subst (λ (m : ℕ). nat_cmp x.serial m ≡ Less) (sym (told_by_leaves tellings y).serial) l)) live up.0),
   told_rising tellings live up.1,
 )

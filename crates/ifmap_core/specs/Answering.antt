@@ -1,6 +1,6 @@
 -- What the functions that answer a request are given, and what they give.
 use Rattle.std.specs.Prelude.{ℕ, List, IfOk, OnErr, OnOk, Result}
-use Rattle.ifmap_subscribes.specs.ifmap_changes.Between.{AreKept, AreTurned, Asking, IsSoundSoFar, IsSteady, so_far}
+use Rattle.ifmap_subscribes.specs.ifmap_changes.Between.{AreKept, AreTurned, Asking, IsSoundSoFar, IsSteady, state_now}
 use Rattle.ifmap_subscribes.specs.ifmap_changes.declared.parts.Parts.{Parts}
 use Rattle.ifmap_core.specs.Bounds.{IsWithinOwn}
 use Rattle.ifmap_core.specs.declared.completions.Completion.{Completion}
@@ -33,9 +33,9 @@ case_in state client id accept = in_session state client (session_with_id id sta
 abbrev pub GivesCase : {E : Type 0} → Result Completion E → List ℕ → (State → Session → State × Answer)
     → Asking → Parts → Pending → Parts → Pending → Type 0
 GivesCase result id accept a old before new after =
-    GivesCompletion result a new after (case_in (so_far a old before) a.client id (accept (so_far a old before)))
+    GivesCompletion result a new after (case_in (state_now a old before) a.client id (accept (state_now a old before)))
 
 -- the steps of that case are within that of what is so far, and there are none in another session
 abbrev pub IsCaseWithin : List ℕ → (State → Session → ℕ → ℕ → Type 0) → Asking → Parts → Pending → ℕ → ℕ → Type 0
 IsCaseWithin id Within a parts pending before after =
-    IsWithinOwn a.client (session_with_id id (so_far a parts pending).sessions) (Within (so_far a parts pending)) before after
+    IsWithinOwn a.client (session_with_id id (state_now a parts pending).sessions) (Within (state_now a parts pending)) before after

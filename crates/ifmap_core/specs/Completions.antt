@@ -3,16 +3,16 @@ use Rattle.std.specs.Prelude.{◌≡◌, ◌≢◌, ◌+◌, ◌-◌, ◌^◌, �
 use Rattle.std.specs.BTreeMap.{get}
 use Rattle.std.specs.List.{AllByRecursion}
 use Rattle.std.specs.Ordering.{nat_cmp}
-use Rattle.ifmap_subscribes.specs.ifmap_changes.Between.{AreOrdered, AreWithinLimits, Asking, HasNoSubscriptions, IsSoundSoFar, IsSteady, rest_of, sessions_left, sight_now, so_far}
+use Rattle.ifmap_subscribes.specs.ifmap_changes.Between.{AreOrdered, AreWithinLimits, Asking, HasNoSubscriptions, IsSoundSoFar, IsSteady, rest_of, sessions_left, sight_now, state_now}
 use Rattle.ifmap_core.specs.declared.completions.Completion.{Completion}
 use Rattle.ifmap_core.specs.declared.completions.Completion.TheVariants.{Say, Accept, End, Open, Rename, Poll}
 use Rattle.ifmap_core.specs.declared.owning.Owner.{Owner}
 use Rattle.ifmap_core.specs.declared.owning.Owner.TheVariants.{Own, Another, Nobody}
-use Rattle.ifmap_subscribes.specs.ifmap_changes.Changes.{taken_one}
+use Rattle.ifmap_subscribes.specs.ifmap_changes.Changes.{take_session}
 use Rattle.ifmap_subscribes.specs.ifmap_changes.declared.parts.Parts.{Parts}
 use Rattle.ifmap_subscribes.specs.declared.renamings.Renaming.{Renaming}
 use Rattle.ifmap_subscribes.specs.ifmap_tellings.declared.tellings.Pending.{Pending}
-use Rattle.ifmap_subscribes.specs.Renamings.{CanRenameEach, IsOfSession, begun_by, item_count, rename_all, told_in_parts, told_so_far}
+use Rattle.ifmap_subscribes.specs.Renamings.{CanRenameEach, IsOfSession, starts_by, item_count, rename_all, told_in_parts, told_so_far}
 use Rattle.ifmap_subscribes.specs.ifmap_tellings.Tellings.{IsWide, count_where}
 use Rattle.ifmap_subscribes.specs.ifmap_delta.Sights.{IsUpToDate}
 use Rattle.ifmap_ident.specs.declared.codes.Code.TheVariants.{InvalidSessionID, PollResultsTooBig}
@@ -96,12 +96,12 @@ pub record CanOpen (former : Option ℕ) (opening : Opening) (limit : ℕ) (tabl
 pub record CanRename (serial : ℕ) (renamings : List Renaming) (a : Asking) (parts : Parts) (pending : Pending) : Type 0 where
   pub live : IsLive serial (sessions_left a parts.sessions)
   pub session : AllByRecursion (IsOfSession serial) renamings
-  pub kept : AllByRecursion (λ x. IsUpToDate (sight_now parts.graph) x.subscription) (begun_by renamings)
+  pub kept : AllByRecursion (λ x. IsUpToDate (sight_now parts.graph) x.subscription) (starts_by renamings)
   pub places : vec_len parts.standing + length renamings ≤ vec_capacity parts.standing
   pub room : count_where (get nat_cmp pending.tellings serial) + item_count renamings ≤ spare_of serial parts.sessions.spare
-  pub within : (s : Session) → session_with_serial serial (so_far a parts pending).sessions ≡ Some s
+  pub within : (s : Session) → session_with_serial serial (state_now a parts pending).sessions ≡ Some s
       → queue_size (rename_all serial renamings (told_so_far a parts pending s)).queue ≤ s.limit
-  pub few : (s : Session) → session_with_serial serial (so_far a parts pending).sessions ≡ Some s
+  pub few : (s : Session) → session_with_serial serial (state_now a parts pending).sessions ≡ Some s
       → length (standing_in serial (rename_all serial renamings (told_so_far a parts pending s)).standing) ≤ most_names
 
 -- after renamings the queue of the session is within its limit, and it has no more subscriptions than it may
@@ -134,21 +134,21 @@ CanApplyTo (Rename serial renamings) parts = CanRenameEach serial renamings part
 CanApplyTo (Poll serial again) parts = IsLive serial parts.sessions.live
 
 -- the state where a session is told one error in place of all, since its queue would have that size, and has no subscription
-abbrev pub alone_told : ℕ → ℕ → State → State
-alone_told serial size state = record state {
+abbrev pub state_with_error : ℕ → ℕ → State → State
+state_with_error serial size state = record state {
   sessions = change serial
       (λ (s : Session). with_error (the_item.Error None PollResultsTooBig (limit_note size s.limit)) s) state.sessions;
   standing = without_standing (serial ∷ []) state.standing;
 }
 
 -- the subscriptions that a completion is to make stand
-abbrev pub held_by : Completion → List Standing
-held_by (Say answer) = []
-held_by (Accept serial answer) = []
-held_by (End serial answer) = []
-held_by (Open former opening limit publisher) = []
-held_by (Rename serial renamings) = begun_by renamings
-held_by (Poll serial again) = []
+abbrev pub starts_in : Completion → List Standing
+starts_in (Say answer) = []
+starts_in (Accept serial answer) = []
+starts_in (End serial answer) = []
+starts_in (Open former opening limit publisher) = []
+starts_in (Rename serial renamings) = starts_by renamings
+starts_in (Poll serial again) = []
 
 -- all holds of parts that is to hold between two events, once these subscriptions stand
 pub record WouldBeParts (more : List Standing) (parts : Parts) : Type 0 where
@@ -160,14 +160,14 @@ pub record WouldBeParts (more : List Standing) (parts : Parts) : Type 0 where
 -- an event can be finished by a completion: the graph is steady once what the completion is to make stand does, what is so far is sound,
 -- and the completion can be applied
 pub record CanFinish (completion : Completion) (a : Asking) (parts : Parts) (pending : Pending) : Type 0 where
-  pub steady : IsSteady parts.graph (parts.standing.items ++ held_by completion)
+  pub steady : IsSteady parts.graph (parts.standing.items ++ starts_in completion)
   pub ready : IsSoundSoFar a parts pending
   pub can : CanApply completion a parts pending
 
 -- an event can be finished by a completion, which leads from the state that the parts are in to that state and answer
 pub record LeadsToAnswer (completion : Completion) (a : Asking) (parts : Parts) (pending : Pending) (wanted : State × Answer) : Type 0 where
   pub can : CanFinish completion a parts pending
-  pub leads : after_completion completion (so_far a parts pending) ≡ wanted
+  pub leads : after_completion completion (state_now a parts pending) ≡ wanted
 
 -- whose the session of an id is: the client's, with that serial; another's; or nobody's
 abbrev pub IsOwner : List Session → List ℕ → List ℕ → Owner → Type 0
@@ -178,9 +178,9 @@ IsOwner live id client Another = (s : Session) × (session_with_id id live ≡ S
 IsOwner live id client Nobody = session_with_id id live ≡ None
 
 -- the same of the session that a client had, if it had one
-abbrev pub taken_former : Option ℕ → State → State
-taken_former None state = state
-taken_former (Some n) state = taken_one n state
+abbrev pub take_former : Option ℕ → State → State
+take_former None state = state
+take_former (Some n) state = take_session n state
 
 -- what a poll is told where no live session has its id: the end, where it is asked again
 abbrev pub end_of_poll : Bool → Completion
@@ -189,6 +189,6 @@ end_of_poll false = Say (refusal InvalidSessionID)
 
 -- a completion leads from a state with these sessions to what the step makes of it, and is one of a live session that holds nothing
 pub record IsStepCompletion (live : List Session) (event : Event) (ask : Ask) (completion : Completion) : Type 0 where
-  pub plain : held_by completion ≡ []
+  pub plain : starts_in completion ≡ []
   pub can : (parts : Parts) → parts.sessions.live ≡ live → CanApplyTo completion parts
   pub done : (state : State) → state.sessions ≡ live → after_completion completion state ≡ step_ask state event ask

@@ -1,6 +1,6 @@
 -- Operations that are ready in a session, and what they lead to.
 use Rattle.std.specs.Prelude.{◌≡◌, ℕ, Result, Some}
-use Rattle.ifmap_subscribes.specs.ifmap_changes.Between.{Asking, IsSoundSoFar, sessions_left, so_far}
+use Rattle.ifmap_subscribes.specs.ifmap_changes.Between.{Asking, IsSoundSoFar, sessions_left, state_now}
 use Rattle.ifmap_subscribes.specs.ifmap_changes.declared.parts.Parts.{Parts}
 use Rattle.ifmap_core.specs.Answering.{GivesCompletion}
 use Rattle.ifmap_core.specs.declared.completions.Completion.{Completion}
@@ -19,5 +19,5 @@ pub record AreReadyIn (serial : ℕ) (readying : Readying) (a : Asking) (parts :
 -- a completion, if there is one, leads to what is answered where those of a session are accepted, from the parts before to those after
 abbrev pub AcceptsReady : {E : Type 0} → Result Completion E → ℕ → Readying → Asking → Parts → Pending → Parts → Pending → Type 0
 AcceptsReady result serial readying a old before new after =
-    (s : Session) → session_with_serial serial (so_far a old before).sessions ≡ Some s → GivesCompletion result a new after
-    (answer_subscribed (so_far a old before) s (Some (told_after serial readying (told_at serial a old before))))
+    (s : Session) → session_with_serial serial (state_now a old before).sessions ≡ Some s → GivesCompletion result a new after
+    (answer_subscribed (state_now a old before) s (Some (told_after serial readying (told_at serial a old before))))

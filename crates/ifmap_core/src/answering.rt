@@ -1,7 +1,7 @@
 //! Requests in sessions. Each takes all the memory that it needs before it changes anything.
 ghost use Rattle.std.specs.Prelude.{◌≡◌, ◌∷◌, [], IfOk};
 ghost use Rattle.std.specs.List.{AllByRecursion};
-ghost use Rattle.ifmap_subscribes.specs.ifmap_changes.Between.{so_far};
+ghost use Rattle.ifmap_subscribes.specs.ifmap_changes.Between.{state_now};
 ghost use Rattle.ifmap_subscribes.specs.ifmap_changes.Bounds.{IsEndedWithin, IsTakenWithin, IsToldWithin};
 ghost use Rattle.ifmap_core.specs.Answering.{CanAnswer, GivesCase, GivesCompletion, IsCaseWithin, TurnsOrKeeps};
 ghost use Rattle.ifmap_core.specs.Bounds.{IsAskWithin, IsWithinIf};
@@ -51,9 +51,9 @@ pub(crate) fn answer<L: Ledger>(
     requires can { CanAnswer asking.now parts.old pending.old }
     requires client { asking.now.client ≡ event.now.client }
     ensures leads { GivesCompletion result asking.now parts.new pending.new
-        (step_ask (so_far asking.now parts.old pending.old) event.now event.now.ask) }
+        (step_ask (state_now asking.now parts.old pending.old) event.now event.now.ask) }
     ensures change { TurnsOrKeeps result parts.old parts.new }
-    ensures steps { IsAskWithin (so_far asking.now parts.old pending.old) event.now
+    ensures steps { IsAskWithin (state_now asking.now parts.old pending.old) event.now
         event.now.ask steps.old steps.new }
 {
     match &event.ask {
@@ -128,7 +128,7 @@ fn lose<L: Ledger>(
     steps: &mut Steps<L>,
 ) -> Result<Completion, NoMemory>
     requires { CanAnswer asking.now parts.old pending.old }
-    ensures leads { let before = so_far asking.now parts.old pending.old in
+    ensures leads { let before = state_now asking.now parts.old pending.old in
         GivesCompletion result asking.now parts.new pending.new
         (lose before asking.now.client (session_with_id id.now before.sessions)) }
     ensures change { TurnsOrKeeps result parts.old parts.new }
@@ -320,7 +320,7 @@ fn poll(
     again: bool,
 ) -> Result<Completion, NoMemory>
     requires { CanAnswer asking.now parts.now pending.now }
-    ensures { let before = so_far asking.now parts.now pending.now in
+    ensures { let before = state_now asking.now parts.now pending.now in
         GivesCompletion result asking.now parts.now pending.now
         (poll before asking.now.client again (session_with_id id.now before.sessions)) }
 {

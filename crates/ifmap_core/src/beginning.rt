@@ -1,12 +1,12 @@
 //! How a session begins.
 ghost use Rattle.std.specs.Prelude.{◌≡◌, ◌<◌, ◌-◌, ◌^◌, ◌&&◌, nat_le, false, is_none, length, option_map, IfSome, OnOk};
 ghost use Rattle.std.specs.Bool.{OnFalse};
-ghost use Rattle.ifmap_subscribes.specs.ifmap_changes.Between.{CanEnd, HasNoSubscriptions, IsSoundSoFar, IsSteady, sessions_left, so_far};
+ghost use Rattle.ifmap_subscribes.specs.ifmap_changes.Between.{CanEnd, HasNoSubscriptions, IsSoundSoFar, IsSteady, sessions_left, state_now};
 ghost use Rattle.ifmap_subscribes.specs.ifmap_changes.declared.parts.Parts.{Parts};
 ghost use Rattle.ifmap_subscribes.specs.ifmap_tellings.declared.tellings.Pending.{Pending};
 ghost use Rattle.ifmap_core.specs.Answering.{CanAnswer, GivesCompletion, TurnsOrKeeps};
 ghost use Rattle.ifmap_core.specs.Bounds.{IsBegunWithin, IsFormerWithin};
-ghost use Rattle.ifmap_core.specs.Completions.{taken_former};
+ghost use Rattle.ifmap_core.specs.Completions.{take_former};
 ghost use Rattle.ifmap_subscribes.specs.ifmap_machine.Step.{is_full, new_session};
 ghost use Rattle.ifmap_session.specs.Sessions.{most_sessions, session_of_client};
 
@@ -37,11 +37,11 @@ pub(crate) fn new_session<L: Ledger>(
     steps: &mut Steps<L>,
 ) -> Result<Completion, NoMemory>
     requires { CanAnswer asking.now parts.old pending.old }
-    ensures leads { let before = so_far asking.now parts.old pending.old in
+    ensures leads { let before = state_now asking.now parts.old pending.old in
         GivesCompletion result asking.now parts.new pending.new
         (new_session before asking.now.client wish.random wish.limit) }
     ensures change { TurnsOrKeeps result parts.old parts.new }
-    ensures steps { IsBegunWithin (so_far asking.now parts.old pending.old) asking.now.client
+    ensures steps { IsBegunWithin (state_now asking.now parts.old pending.old) asking.now.client
         steps.old steps.new }
 {
     if is_full(&parts.sessions, asking) {
@@ -54,7 +54,7 @@ pub(crate) fn new_session<L: Ledger>(
 fn is_full(sessions: &Sessions, asking: &Asking) -> bool
     requires { CanEnd asking.now.ended sessions.now.live }
     ensures full { (parts : Parts) (pending : Pending) → parts.sessions ≡ sessions.now
-        → result ≡ is_full (so_far asking.now parts pending) asking.now.client }
+        → result ≡ is_full (state_now asking.now parts pending) asking.now.client }
     ensures next { OnFalse result (sessions.now.counter < 2 ^ 64 - 1) }
 {
     sessions.is_table();
@@ -101,13 +101,13 @@ fn begin<L: Ledger>(
     steps: &mut Steps<L>,
 ) -> Result<Completion, NoMemory>
     requires can { CanAnswer asking.now parts.old pending.old }
-    requires free { is_full (so_far asking.now parts.old pending.old) asking.now.client ≡ false }
+    requires free { is_full (state_now asking.now parts.old pending.old) asking.now.client ≡ false }
     requires next { parts.old.sessions.counter < 2 ^ 64 - 1 }
-    ensures leads { let before = so_far asking.now parts.old pending.old in
+    ensures leads { let before = state_now asking.now parts.old pending.old in
         GivesCompletion result asking.now parts.new pending.new
         (new_session before asking.now.client wish.random wish.limit) }
     ensures change { TurnsOrKeeps result parts.old parts.new }
-    ensures steps { let before = so_far asking.now parts.old pending.old in
+    ensures steps { let before = state_now asking.now parts.old pending.old in
         IsFormerWithin (option_map (λ s. s.serial)
         (session_of_client asking.now.client before.sessions)) before steps.old steps.new }
 {
@@ -134,13 +134,13 @@ fn take_away_former<L: Ledger>(
     steps: &mut Steps<L>,
 ) -> Result<(), NoMemory>
     requires { CanAnswer asking.now parts.old pending.old }
-    ensures told { OnOk result (so_far asking.now parts.new pending.new
-        ≡ taken_former former (so_far asking.now parts.old pending.old)) }
+    ensures told { OnOk result (state_now asking.now parts.new pending.new
+        ≡ take_former former (state_now asking.now parts.old pending.old)) }
     ensures steady { OnOk result (IsSteady parts.new.graph parts.new.standing.items) }
     ensures ready { OnOk result (IsSoundSoFar asking.now parts.new pending.new) }
     ensures bare { OnOk result (IfSome former (λ n. HasNoSubscriptions n parts.new pending.new)) }
     ensures change { TurnsOrKeeps result parts.old parts.new }
-    ensures steps { IsFormerWithin former (so_far asking.now parts.old pending.old) steps.old
+    ensures steps { IsFormerWithin former (state_now asking.now parts.old pending.old) steps.old
         steps.new }
 {
     match former {

@@ -1,9 +1,9 @@
 //! What is left to do of an event when its change of the graph is made.
 ghost use Rattle.std.specs.Prelude.{◌≡◌, ◌≤◌, ◌++◌, ℕ, List, IfOk, IfSome, length, map, vec_capacity, vec_len};
 ghost use Rattle.ifmap_core.specs.declared.completions.Completion.TheVariants.{Say};
-ghost use Rattle.ifmap_subscribes.specs.ifmap_changes.Between.{AreParts, CanEnd, IsSteady, so_far, state_at};
-ghost use Rattle.ifmap_core.specs.Completions.{CanApplyTo, CanFinish, WouldBeParts, after_former, after_completion, first_renewed, held_by, poll_answer, poll_found};
-ghost use Rattle.ifmap_subscribes.specs.ifmap_tellings.Tellings.{kept_of};
+ghost use Rattle.ifmap_subscribes.specs.ifmap_changes.Between.{AreParts, CanEnd, IsSteady, state_now, state_at};
+ghost use Rattle.ifmap_core.specs.Completions.{CanApplyTo, CanFinish, WouldBeParts, after_former, after_completion, first_renewed, starts_in, poll_answer, poll_found};
+ghost use Rattle.ifmap_subscribes.specs.ifmap_tellings.Tellings.{kept_items};
 ghost use Rattle.ifmap_subscribes.specs.ifmap_machine.State.{State};
 ghost use Rattle.ifmap_subscribes.specs.ifmap_machine.Step.{refusal};
 ghost use Rattle.ifmap_session.specs.Sessions.{IsLive, change, session_with_serial, spare_of, without_items, without_sessions};
@@ -118,7 +118,7 @@ fn remove_gone(parts: &mut Parts, gone: &[bool])
     requires flags { length gone.now ≡ length parts.old.standing.items }
     requires steady { (more : List Standing)
         × IsSteady parts.old.graph (parts.old.standing.items ++ more) }
-    ensures standing { parts.new.standing.items ≡ kept_of gone.now parts.old.standing.items }
+    ensures standing { parts.new.standing.items ≡ kept_items gone.now parts.old.standing.items }
     ensures steady { (more : List Standing)
         → IsSteady parts.old.graph (parts.old.standing.items ++ more)
         → IsSteady parts.new.graph (parts.new.standing.items ++ more) }
@@ -138,7 +138,7 @@ fn release_gone(graph: &mut Graph, standing: &[Standing], gone: &[bool])
     requires flags { length gone.now ≡ length standing.now }
     requires steady { (more : List Standing) × IsSteady graph.old (standing.now ++ more) }
     ensures steady { (more : List Standing) → IsSteady graph.old (standing.now ++ more)
-        → IsSteady graph.new (kept_of gone.now standing.now ++ more) }
+        → IsSteady graph.new (kept_items gone.now standing.now ++ more) }
     ensures rows { rows_now graph.new ≡ rows_now graph.old }
     ensures lean { StaysLean graph.old graph.new }
     ensures kept { KeepsNumbered graph.old graph.new }
@@ -153,7 +153,7 @@ fn release_gone(graph: &mut Graph, standing: &[Standing], gone: &[bool])
 // What is gone leaves the list; the others stay in their order.
 fn keep_others(standing: &mut Vec<Standing>, gone: &[bool])
     requires { length gone.now ≡ length standing.old.items }
-    ensures standing { standing.new.items ≡ kept_of gone.now standing.old.items }
+    ensures standing { standing.new.items ≡ kept_items gone.now standing.old.items }
     ensures len { vec_len standing.new ≤ vec_len standing.old }
     ensures capacity { vec_capacity standing.new ≡ vec_capacity standing.old }
 {
@@ -170,7 +170,7 @@ fn keep_others(standing: &mut Vec<Standing>, gone: &[bool])
 // Does what is left to do, and gives the answer.
 pub(crate) fn apply(parts: &mut Parts, moment: Moment, completion: Completion) -> Answer
     requires can { CanApplyTo completion parts.old }
-    requires parts { WouldBeParts (held_by completion) parts.old }
+    requires parts { WouldBeParts (starts_in completion) parts.old }
     ensures answer { (state : State) → state.moment ≡ moment
         → state.sessions ≡ parts.old.sessions.live → state.counter ≡ parts.old.sessions.counter
         → state.standing ≡ map standing_of parts.old.standing.items
@@ -245,7 +245,7 @@ pub(crate) fn finish(
     completion: Completion,
 ) -> Answer
     requires { CanFinish completion asking.now parts.old pending }
-    ensures answer { after_completion completion (so_far asking.now parts.old pending)
+    ensures answer { after_completion completion (state_now asking.now parts.old pending)
         ≡ (state_at asking.now.ttl asking.now.moment parts.new, result) }
     ensures parts { AreParts parts.new }
     ensures lean { StaysLean parts.old.graph parts.new.graph }

@@ -3,7 +3,7 @@ ghost use Rattle.std.specs.Prelude.{◌≡◌, true, false, IfOk, IsOk, OnErr, O
 ghost use Rattle.std.specs.List.{list_any};
 ghost use Rattle.std.specs.List.Sorted.{IsStrictlySortedBy};
 ghost use Rattle.std.specs.Ordering.{nat_cmp};
-ghost use Rattle.ifmap_subscribes.specs.ifmap_changes.Between.{AreBack, AreParts, CanEnd, IsSoundSoFar, so_far, state_at};
+ghost use Rattle.ifmap_subscribes.specs.ifmap_changes.Between.{AreBack, AreParts, CanEnd, IsSoundSoFar, state_now, state_at};
 ghost use Rattle.ifmap_subscribes.specs.ifmap_changes.Changes.{CanSettle, CanTakeBack};
 ghost use Rattle.ifmap_subscribes.specs.ifmap_changes.declared.parts.Parts.{Parts};
 ghost use Rattle.ifmap_core.specs.Answering.{CanAnswer};
@@ -144,7 +144,7 @@ fn pending_without(alloc: Global, parts: &Parts, asking: &Asking) -> Result<Pend
     requires ended { CanEnd asking.now.ended parts.now.sessions.live }
     requires rising { IsStrictlySortedBy nat_cmp asking.now.ended }
     ensures ready { IfOk result (IsSoundSoFar asking.now parts.now) }
-    ensures so_far { IfOk result (λ pending. so_far asking.now parts.now pending
+    ensures state_now { IfOk result (λ pending. state_now asking.now parts.now pending
         ≡ drop_sessions asking.now.ended (state_at asking.now.ttl asking.now.moment parts.now)) }
 {
     let mut pending = nothing_pending(alloc, parts.standing.len())?;
@@ -205,12 +205,12 @@ fn answer_ended<L: Ledger>(
     requires client { asking.now.client ≡ event.now.client }
     ensures answer { IfOk result (λ answer.
         (state_at asking.now.ttl asking.now.moment parts.new, answer)
-        ≡ step_ask (so_far asking.now parts.old ending.pending) event.now event.now.ask) }
+        ≡ step_ask (state_now asking.now parts.old ending.pending) event.now event.now.ask) }
     ensures kept { OnErr result ((before : Parts) → AreParts before
         → KeepsNumbers before.graph parts.old.graph → CanTakeBack ending.made before parts.old
         → AreBack before parts.new) }
     ensures parts { OnOk result (AreParts parts.new) }
-    ensures steps { IsAskWithin (so_far asking.now parts.old ending.pending) event.now
+    ensures steps { IsAskWithin (state_now asking.now parts.old ending.pending) event.now
         event.now.ask steps.old steps.new }
     ensures lean { OnOk result ((before : Parts) → CanTakeBack ending.made before parts.old
         → StaysLean before.graph parts.new.graph) }
@@ -240,8 +240,8 @@ fn settle_ended(
     requires can { CanFinish completion.now asking.now parts.old pending.now }
     requires settle { CanSettle made parts.old }
     ensures can { CanFinish completion.now asking.now parts.new pending.now }
-    ensures so_far { so_far asking.now parts.new pending.now
-        ≡ so_far asking.now parts.old pending.now }
+    ensures state_now { state_now asking.now parts.new pending.now
+        ≡ state_now asking.now parts.old pending.now }
     ensures lean { StaysLeanWithout (items_changed made.undo.plan.changes) parts.old.graph
         parts.new.graph }
 {

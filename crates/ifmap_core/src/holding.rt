@@ -18,11 +18,11 @@ pub(crate) fn polled_id(ask: &Ask) -> Option<&Text>
 {
     match ask {
         Ask::Lost(_) => None,
-        Ask::Request(request) => polled_in(request),
+        Ask::Request(request) => polled_session(request),
     }
 }
 
-fn polled_in(request: &Request) -> Option<&Text>
+fn polled_session(request: &Request) -> Option<&Text>
     ensures some { IfSome result (λ id. request.now ≡ the_request.Poll id.now) }
     ensures none { IfNone result ((id : List ℕ) → request.now ≢ the_request.Poll id) }
 {

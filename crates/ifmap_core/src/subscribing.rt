@@ -3,9 +3,9 @@ ghost use Rattle.std.specs.Prelude.{◌≡◌, ◌≤◌, ◌<◌, ◌+◌, ◌+
 ghost use Rattle.std.specs.BTreeMap.{get};
 ghost use Rattle.std.specs.List.{AllByRecursion};
 ghost use Rattle.std.specs.Ordering.{nat_cmp};
-ghost use Rattle.ifmap_subscribes.specs.ifmap_changes.Between.{AreKept, AreTurned, IsSoundSoFar, IsSteady, sessions_left, so_far};
+ghost use Rattle.ifmap_subscribes.specs.ifmap_changes.Between.{AreKept, AreTurned, IsSoundSoFar, IsSteady, sessions_left, state_now};
 ghost use Rattle.ifmap_core.specs.Answering.{CanAnswer, GivesCompletion, TurnsOrKeeps};
-ghost use Rattle.ifmap_core.specs.Completions.{alone_told};
+ghost use Rattle.ifmap_core.specs.Completions.{state_with_error};
 ghost use Rattle.ifmap_core.specs.Subscribing.{AcceptsReady, AreReadyIn};
 ghost use Rattle.ifmap_subscribes.specs.ifmap_graph.Seen.{rows_now};
 ghost use Rattle.ifmap_subscribes.specs.ifmap_machine.Step.{answer_subscribed};
@@ -13,14 +13,14 @@ ghost use Rattle.ifmap_subscribes.specs.ifmap_machine.Subscribing.{subscribe_ops
 ghost use Rattle.ifmap_subscribes.specs.ifmap_requests.Fit.{IsFitSubscribeOp};
 ghost use Rattle.ifmap_session.specs.Sessions.{IsLive, Session, session_with_serial, spare_of};
 ghost use Rattle.ifmap_subscribes.specs.Bounds.{AreOpsWithin};
-ghost use Rattle.ifmap_subscribes.specs.Renamings.{begun_by};
+ghost use Rattle.ifmap_subscribes.specs.Renamings.{starts_by};
 ghost use Rattle.ifmap_subscribes.specs.ifmap_tellings.Tellings.{HasSameSessions, count_where};
 
 use crate::completions::{Completion, refuse};
 use ifmap_elem::Many;
 use ifmap_ident::Code;
 use ifmap_steps::Steps;
-use ifmap_subscribes::readying::{Readying, Scene, SubscribeError, ready_ops};
+use ifmap_subscribes::readying::{Occasion, Readying, SubscribeError, ready_ops};
 use ifmap_subscribes::renamings::{Renaming, release_all};
 use ifmap_subscribes::{
     Answer, Asking, Parts, Pending, Reply, SubscribeOp, count_told, flag_session,
@@ -48,7 +48,7 @@ pub(crate) fn subscribe_in<L: Ledger>(
     requires can { CanAnswer asking.now parts.old pending.old }
     requires live { IsLive ops.now.serial (sessions_left asking.now parts.old.sessions) }
     requires fit { AllByRecursion IsFitSubscribeOp ops.now.ops.now }
-    ensures leads { let before = so_far asking.now parts.old pending.old in (s : Session)
+    ensures leads { let before = state_now asking.now parts.old pending.old in (s : Session)
         → session_with_serial ops.now.serial before.sessions ≡ Some s
         → GivesCompletion result asking.now parts.new pending.new
         (answer_subscribed before s (subscribe_ops before.graph ops.now.serial ops.now.ops.now
@@ -56,7 +56,7 @@ pub(crate) fn subscribe_in<L: Ledger>(
     ensures change { TurnsOrKeeps result parts.old parts.new }
     ensures steps { AreOpsWithin (rows_now parts.old.graph) ops.now.ops.now steps.old steps.new }
 {
-    let scene = Scene {
+    let scene = Occasion {
         pending: &*pending,
         asking: &*asking,
         serial: ops.serial,
@@ -158,8 +158,8 @@ fn tell_over(
 ) -> Result<(), NoMemory>
     requires ready { IsSoundSoFar asking.now parts.old pending.old }
     requires live { IsLive serial (sessions_left asking.now parts.old.sessions) }
-    ensures told { OnOk result (so_far asking.now parts.new pending.new
-        ≡ alone_told serial size (so_far asking.now parts.old pending.old)) }
+    ensures told { OnOk result (state_now asking.now parts.new pending.new
+        ≡ state_with_error serial size (state_now asking.now parts.old pending.old)) }
     ensures ready { OnOk result (IsSoundSoFar asking.now parts.new pending.new) }
     ensures graph { parts.new.graph ≡ parts.old.graph }
     ensures standing { parts.new.standing ≡ parts.old.standing }
@@ -182,12 +182,12 @@ fn tell_over(
 
 // The numbers are let go of that were held for subscriptions which are not to stand. It takes no memory.
 fn let_go(parts: &mut Parts, pending: &Pending, asking: &Asking, made: Many<Renaming>)
-    requires steady { IsSteady parts.old.graph (parts.old.standing.items ++ begun_by made) }
+    requires steady { IsSteady parts.old.graph (parts.old.standing.items ++ starts_by made) }
     requires ready { IsSoundSoFar asking.now parts.old pending.now }
     ensures steady { IsSteady parts.new.graph parts.new.standing.items }
     ensures ready { IsSoundSoFar asking.now parts.new pending.now }
-    ensures so_far { so_far asking.now parts.new pending.now
-        ≡ so_far asking.now parts.old pending.now }
+    ensures state_now { state_now asking.now parts.new pending.now
+        ≡ state_now asking.now parts.old pending.now }
     ensures turned { AreTurned parts.old parts.new }
     ensures kept { AreKept parts.old parts.new }
     ensures sessions { parts.new.sessions ≡ parts.old.sessions }

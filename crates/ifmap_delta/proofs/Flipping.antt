@@ -13,7 +13,7 @@ use Rattle.ifmap_ident.specs.declared.items.Item.TheVariants.{One, Pair}
 use Rattle.ifmap_ident.specs.Items.{IsCanonItem, pair_of, same_item}
 use Rattle.ifmap_lemmas.specs.Having.{Has, from_has, has_from, all_has}
 use Rattle.ifmap_plans.specs.declared.plans.ItemChange.{ItemChange}
-use Rattle.ifmap_plans.specs.Plans.{change_of, changed_by}
+use Rattle.ifmap_plans.specs.Plans.{change_of, list_after}
 use Rattle.ifmap_region.specs.declared.flips.Flip.{Flip}
 use Rattle.ifmap_region.specs.Flips as region
 use Rattle.ifmap_region.specs.Flips.{IsFlipped, Joins}
@@ -81,7 +81,7 @@ module _ (tells : BytesTellIdentifiers) (old new : ViewSeen) (s : Search) (was :
 
   -- what is stored on an item without a change stays
   pub unchanged : (x : Item) → change_of changes x ≡ None → stored_on x new.rows ≡ stored_on x old.rows
-  unchanged x e = change.after x ∙ ap (λ o. changed_by o (stored_on x old.rows)) e
+  unchanged x e = change.after x ∙ ap (λ o. list_after o (stored_on x old.rows)) e
 
   pub change_at : (x : Item) (c : ItemChange) → IsCanonItem x → change_of changes x ≡ Some c → Has changes c × (c.item ≡ x)
   change_at x c i e =

@@ -33,7 +33,7 @@ use Rattle.ifmap_fresh.specs.Gathered.{entry_at, gathered_rows, has_item, row_at
 use Rattle.ifmap_folds.specs.Differences.{difference, entry_bytes, has_entry, same_entry}
 use Rattle.ifmap_delta.specs.Shown.{shown_on}
 use Rattle.ifmap_delta.specs.Sights.{ViewSeen}
-use Rattle.ifmap_delta.specs.Touched.{has_met, left_out_on}
+use Rattle.ifmap_delta.specs.Touched.{has_met, surplus_on}
 use Rattle.ifmap_fresh.specs.laws.GatheringLaws.{gathers, grouped, all_items, entry_of}
 use Rattle.ifmap_fresh.specs.laws.SameLaws.{member}
 use Rattle.ifmap_ident.specs.SameLaws.{item_itself, BytesTellIdentifiers, same_item_is}
@@ -95,7 +95,7 @@ module _ (tells : BytesTellIdentifiers) (one other : ViewSeen) (s : Search) (gra
   told r = is_looked_at one.rows s r.item && (met r.stored && not (has_met s.result_filter (shown_on other.rows s r.item) r.stored))
 
   abbrev left : List Item → List Entry
-  left = left_out_on s.result_filter (shown_on one.rows s) (shown_on other.rows s)
+  left = surplus_on s.result_filter (shown_on one.rows s) (shown_on other.rows s)
 
   joined : (is : List Item) → left is ≡ map entry_of (filter told (gathered_rows one.rows is))
   joined [] = refl

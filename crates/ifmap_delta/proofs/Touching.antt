@@ -22,7 +22,7 @@ use Rattle.ifmap_meta.specs.declared.stored.Stored.{Stored}
 use Rattle.ifmap_plans.specs.declared.plans.ItemChange.{ItemChange}
 use Rattle.ifmap_plans.specs.Lists.{list_without, next_on, put_each}
 use Rattle.ifmap_plans.specs.Placing.{put}
-use Rattle.ifmap_plans.specs.Plans.{changed_by}
+use Rattle.ifmap_plans.specs.Plans.{list_after}
 use Rattle.ifmap_plans.specs.laws.KeyLaws.{stored_total}
 use Rattle.ifmap_plans.specs.laws.PlacingLaws.{has_put_one, put_sorted}
 use Rattle.ifmap_search.specs.declared.searches.Search.{Search}
@@ -33,7 +33,7 @@ use Rattle.ifmap_fresh.specs.Fresh.{is_looked_at}
 use Rattle.ifmap_fresh.specs.Gathered.{entry_at}
 use Rattle.ifmap_folds.specs.laws.RisingLaws.{has_still, put_has}
 use Rattle.ifmap_delta.specs.Shown.{shown_on}
-use Rattle.ifmap_delta.specs.Touched.{has_met, left_out, rows_touched_by}
+use Rattle.ifmap_delta.specs.Touched.{has_met, surplus, rows_touched_by}
 
 abbrev tie : Stored → Stored → Bool
 tie = eq_by_cmp stored_order
@@ -162,20 +162,20 @@ module _ (filter_by : Option Filter) (x : Item) where
       (and_from (tie t t) (meets_optional filter_by t.element) (tie_itself t) m))
 
   all_told : (named these others : List Stored) → ((t : Stored) → Has these t → Aside named t → Has others t)
-      → left_out filter_by x (rows_touched_by named these) others ≡ left_out filter_by x these others
+      → surplus filter_by x (rows_touched_by named these) others ≡ surplus filter_by x these others
   all_told named these others stays = ap (map (entry_at x)) (filter_through (ties named) (left others) these
       (λ t h n. not_left others t (stays t h (λ r k. fails_at (λ r. tie r t) named r n k))))
 
   module _ (c : ItemChange) (was now : List Stored) (is : now ≡ next_on c.removed c.added was) where
-    pub goes_told : left_out filter_by x (rows_touched_by (c.removed ++ c.added) was) now ≡ left_out filter_by x was now
+    pub goes_told : surplus filter_by x (rows_touched_by (c.removed ++ c.added) was) now ≡ surplus filter_by x was now
     goes_told = all_told (c.removed ++ c.added) was now
         (λ t h n. subst (λ l. Has l t) (sym is) (stays_on c.removed c.added was t n h))
 
-    pub comes_told : left_out filter_by x (rows_touched_by (c.removed ++ c.added) now) was ≡ left_out filter_by x now was
+    pub comes_told : surplus filter_by x (rows_touched_by (c.removed ++ c.added) now) was ≡ surplus filter_by x now was
     comes_told = all_told (c.removed ++ c.added) now was
         (λ t h n. was_on c.removed c.added was t n (subst (λ l. Has l t) is h))
 
-  pub nothing_told : (these others : List Stored) → these ≡ others → [] ≡ left_out filter_by x these others
+  pub nothing_told : (these others : List Stored) → these ≡ others → [] ≡ surplus filter_by x these others
   nothing_told these others e = sym (ap (map (entry_at x)) (none_left (left others) these
       (λ t h. not_left others t (subst (λ l. Has l t) e h))))
 
@@ -184,8 +184,8 @@ shown_whole true xs n = refl
 shown_whole false xs n = absurd (n refl)
 
 pub both_shown : (before after : List Attachment) (s t : Search) (x : Item) (change : Option ItemChange)
-    → stored_on x after ≡ changed_by change (stored_on x before) → shown_on before s x ≢ [] → shown_on after t x ≢ []
-    → shown_on after t x ≡ changed_by change (shown_on before s x)
+    → stored_on x after ≡ list_after change (stored_on x before) → shown_on before s x ≢ [] → shown_on after t x ≢ []
+    → shown_on after t x ≡ list_after change (shown_on before s x)
 both_shown before after s t x change is was now =
     shown_whole (is_looked_at after t x) (stored_on x after) now ∙ is
-    ∙ ap (changed_by change) (sym (shown_whole (is_looked_at before s x) (stored_on x before) was))
+    ∙ ap (list_after change) (sym (shown_whole (is_looked_at before s x) (stored_on x before) was))

@@ -12,7 +12,7 @@ use Rattle.ifmap_ident.specs.Items.{IsCanonItem, item_order}
 use Rattle.ifmap_lemmas.specs.Having.{Has}
 use Rattle.ifmap_meta.specs.declared.stored.Stored.{Stored}
 use Rattle.ifmap_plans.specs.declared.plans.ItemChange.{ItemChange}
-use Rattle.ifmap_plans.specs.Plans.{change_of, changed_by}
+use Rattle.ifmap_plans.specs.Plans.{change_of, list_after}
 use Rattle.ifmap_search.specs.declared.results.Entry.{Entry}
 use Rattle.ifmap_search.specs.declared.searches.Search.{Search}
 use Rattle.ifmap_view.specs.declared.attachments.Attachment.{Attachment}
@@ -101,7 +101,7 @@ IsPaired changes from t = change_of (drop from changes) t.item ≡ change_at cha
 -- what is stored on the item afterwards is what the change beside it makes of what was stored before
 abbrev pub IsChanged : List Attachment → List Attachment → List ItemChange → TouchedItem → Type 0
 IsChanged before after changes t =
-    stored_on t.item after ≡ changed_by (change_at changes t.place) (stored_on t.item before)
+    stored_on t.item after ≡ list_after (change_at changes t.place) (stored_on t.item before)
 
 -- what of some rows has the canonical bytes of one of these
 abbrev pub rows_touched_by : List Stored → List Stored → List Stored
@@ -114,12 +114,12 @@ has_met filter_by rows t =
 
 -- what of these meets the filter, and of whose canonical bytes none of the others is that meets it,
 -- as entries of an item
-abbrev pub left_out : Option Filter → Item → List Stored → List Stored → List Entry
-left_out filter_by x these others =
+abbrev pub surplus : Option Filter → Item → List Stored → List Stored → List Entry
+surplus filter_by x these others =
     map (entry_at x)
     (filter (λ t. meets_optional filter_by t.element && not (has_met filter_by others t)) these)
 
 -- what the first shows of some items, and the other does not
-abbrev pub left_out_on : Option Filter → (Item → List Stored) → (Item → List Stored) → List Item
+abbrev pub surplus_on : Option Filter → (Item → List Stored) → (Item → List Stored) → List Item
     → List Entry
-left_out_on filter_by one other items = flat_map (λ x. left_out filter_by x (one x) (other x)) items
+surplus_on filter_by one other items = flat_map (λ x. surplus filter_by x (one x) (other x)) items

@@ -3,7 +3,7 @@ ghost use Rattle.std.specs.Prelude.{◌≡◌, ◌≢◌, false, ◌+◌, ◌∷
 ghost use Rattle.std.specs.List.{AllByRecursion};
 ghost use Rattle.std.specs.List.Sorted.{IsStrictlySortedBy};
 ghost use Rattle.ifmap_delta.specs.Shown.{HasSideMarks, patched_mark, region_mark, shown_on};
-ghost use Rattle.ifmap_delta.specs.Touched.{IsChanged, change_at, has_met, items_touched, left_out, left_out_on, rows_touched_by};
+ghost use Rattle.ifmap_delta.specs.Touched.{IsChanged, change_at, has_met, items_touched, surplus, surplus_on, rows_touched_by};
 ghost use Rattle.ifmap_ident.specs.Items.{IsCanonItem, item_order};
 ghost use Rattle.ifmap_ident.specs.declared.items.Item.{Item};
 ghost use Rattle.ifmap_lemmas.specs.Having.{Has};
@@ -53,7 +53,7 @@ fn add_left_out(
     entries: &mut Vec<Entry>,
 ) -> Result<(), NoMemory>
     requires { IsStrictlySortedBy stored_order others.now }
-    ensures { OnOk result (entries.new.items ≡ entries.old.items ++ left_out filter.now item.now
+    ensures { OnOk result (entries.new.items ≡ entries.old.items ++ surplus filter.now item.now
         these.now others.now) }
 {
     for row in these {
@@ -128,9 +128,9 @@ struct ItemShown<'a> {
 fn add_any(shown: &ItemShown<'_>, told: &mut ToldEntries) -> Result<(), NoMemory>
     requires before { IsStrictlySortedBy stored_order shown.now.before.now }
     requires after { IsStrictlySortedBy stored_order shown.now.after.now }
-    ensures deleted { OnOk result (told.new.deleted.items ≡ told.old.deleted.items ++ left_out
+    ensures deleted { OnOk result (told.new.deleted.items ≡ told.old.deleted.items ++ surplus
         shown.now.filter.now shown.now.item.now shown.now.before.now shown.now.after.now) }
-    ensures updated { OnOk result (told.new.updated.items ≡ told.old.updated.items ++ left_out
+    ensures updated { OnOk result (told.new.updated.items ≡ told.old.updated.items ++ surplus
         shown.now.filter.now shown.now.item.now shown.now.after.now shown.now.before.now) }
 {
     add_left_out(
@@ -160,9 +160,9 @@ fn add_named(
     requires after { IsStrictlySortedBy stored_order shown.now.after.now }
     requires change { shown.now.after.now
         ≡ next_on change.now.removed change.now.added shown.now.before.now }
-    ensures deleted { OnOk result (told.new.deleted.items ≡ told.old.deleted.items ++ left_out
+    ensures deleted { OnOk result (told.new.deleted.items ≡ told.old.deleted.items ++ surplus
         shown.now.filter.now shown.now.item.now shown.now.before.now shown.now.after.now) }
-    ensures updated { OnOk result (told.new.updated.items ≡ told.old.updated.items ++ left_out
+    ensures updated { OnOk result (told.new.updated.items ≡ told.old.updated.items ++ surplus
         shown.now.filter.now shown.now.item.now shown.now.after.now shown.now.before.now) }
 {
     let going = rows_touched(alloc, shown.before, change)?;
@@ -219,11 +219,11 @@ fn add_differences<G: View, D: View>(
     requires canon { IsCanonItem one.item }
     requires change { IsChanged (G.rows before.now.view.now) (D.rows after.now.view.now)
         changes.now one }
-    ensures deleted { OnOk result (told.new.deleted.items ≡ told.old.deleted.items ++ left_out
+    ensures deleted { OnOk result (told.new.deleted.items ≡ told.old.deleted.items ++ surplus
         after.now.search.now.result_filter one.item
         (shown_on (G.rows before.now.view.now) before.now.search.now one.item)
         (shown_on (D.rows after.now.view.now) after.now.search.now one.item)) }
-    ensures updated { OnOk result (told.new.updated.items ≡ told.old.updated.items ++ left_out
+    ensures updated { OnOk result (told.new.updated.items ≡ told.old.updated.items ++ surplus
         after.now.search.now.result_filter one.item
         (shown_on (D.rows after.now.view.now) after.now.search.now one.item)
         (shown_on (G.rows before.now.view.now) before.now.search.now one.item)) }
@@ -262,11 +262,11 @@ fn differences_of<G: View, D: View>(
     requires canon { AllByRecursion (λ t. IsCanonItem t.item) touched.items }
     requires changes { AllByRecursion (IsChanged (G.rows before.now.view.now)
         (D.rows after.now.view.now) changes.now) touched.items }
-    ensures deleted { IfOk result (λ told. told.deleted.items ≡ left_out_on
+    ensures deleted { IfOk result (λ told. told.deleted.items ≡ surplus_on
         after.now.search.now.result_filter
         (shown_on (G.rows before.now.view.now) before.now.search.now)
         (shown_on (D.rows after.now.view.now) after.now.search.now) (items_touched touched.items)) }
-    ensures updated { IfOk result (λ told. told.updated.items ≡ left_out_on
+    ensures updated { IfOk result (λ told. told.updated.items ≡ surplus_on
         after.now.search.now.result_filter
         (shown_on (D.rows after.now.view.now) after.now.search.now)
         (shown_on (G.rows before.now.view.now) before.now.search.now)
@@ -298,11 +298,11 @@ pub(crate) fn differences_on<G: View, D: View>(
     requires canon { (x : Item) → Has items.items x → IsCanonItem x }
     requires change { IsAfter changes.now (G.rows before.now.view.now)
         (D.rows after.now.view.now) }
-    ensures deleted { IfOk result (λ told. told.deleted.items ≡ left_out_on
+    ensures deleted { IfOk result (λ told. told.deleted.items ≡ surplus_on
         after.now.search.now.result_filter
         (shown_on (G.rows before.now.view.now) before.now.search.now)
         (shown_on (D.rows after.now.view.now) after.now.search.now) items.items) }
-    ensures updated { IfOk result (λ told. told.updated.items ≡ left_out_on
+    ensures updated { IfOk result (λ told. told.updated.items ≡ surplus_on
         after.now.search.now.result_filter
         (shown_on (D.rows after.now.view.now) after.now.search.now)
         (shown_on (G.rows before.now.view.now) before.now.search.now) items.items) }

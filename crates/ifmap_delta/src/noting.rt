@@ -45,12 +45,12 @@ pub fn notes<'a, D: View>(
         marks: &subscription.region,
     };
     let plan = located.plan;
-    let told = told_of(alloc, &after, &plan.notes.0, &located.notes)?;
+    let told = told_entries(alloc, &after, &plan.notes.0, &located.notes)?;
     Ok(Many(told))
 }
 
 // Those of some notes that are told, in their order.
-fn told_of<D: View>(
+fn told_entries<D: View>(
     alloc: Global,
     after: &Side<'_, D, Region>,
     notes: &[Note],

@@ -28,7 +28,7 @@ impl TouchedItem {
 }
 
 // Items with no change beside them.
-fn touched_of(alloc: Global, items: Vec<Item>) -> Result<Vec<TouchedItem>, NoMemory>
+fn items_without_places(alloc: Global, items: Vec<Item>) -> Result<Vec<TouchedItem>, NoMemory>
     ensures { IfOk result (λ touched. touched.items ≡ map with_no_place items.items) }
 {
     let mut touched = Vec::with_capacity(alloc, items.len())?;
@@ -77,7 +77,7 @@ pub(crate) fn pair_with_changes(
     ensures paired { IfOk result (λ touched. AllByRecursion (IsPaired changes.now 0)
         touched.items) }
 {
-    let mut touched = touched_of(alloc, items)?;
+    let mut touched = items_without_places(alloc, items)?;
     let mut place = changes.len();
     while place > 0 {
         place -= 1;

@@ -31,8 +31,8 @@ use Rattle.ifmap_publish.specs.Apply.{Authorship}
 use Rattle.ifmap_publish.specs.Notes.{note_of, notes_of_op}
 use Rattle.ifmap_region.specs.Marks.{mark_of, mark_over}
 use Rattle.ifmap_requests.specs.Fit.{IsFitOp}
-use Rattle.ifmap_requests.specs.declared.publishing.PublishOp.{PublishOp}
-use Rattle.ifmap_requests.specs.declared.publishing.PublishOp.TheVariants.{Delete, Notify, Update}
+use Rattle.ifmap_requests.specs.declared.publish_ops.PublishOp.{PublishOp}
+use Rattle.ifmap_requests.specs.declared.publish_ops.PublishOp.TheVariants.{Delete, Notify, Update}
 use Rattle.ifmap_view.specs.declared.attachments.Attachment.{Attachment}
 use Rattle.ifmap_view.specs.Rows.{stored_on}
 use Rattle.ifmap_view.specs.Views.{IsView}

@@ -5,7 +5,7 @@ use Rattle.std.proofs.lemmas.Bool.Decides.{nat_tests}
 use Rattle.ifmap_core.specs.Holding.{WouldHold}
 use Rattle.ifmap_desks.specs.Answers.{plain_asked}
 use Rattle.ifmap_desks.specs.Asking.{IsTurn}
-use Rattle.ifmap_desks.specs.Calls.{said_since, told_since}
+use Rattle.ifmap_desks.specs.Calls.{calls_since, calls_if_known}
 use Rattle.ifmap_desks.specs.Holding.{would_hold}
 use Rattle.ifmap_desks.specs.Machines.{CoreBook}
 use Rattle.ifmap_desks.specs.declared.events.FitEvent.{FitEvent}
@@ -19,14 +19,14 @@ use Rattle.ifmap_dialogue.specs.ifmap_machine.Step.{step}
 
 -- where what is said now can be told, what was said could, and this was added
 pub gains : (since : ℕ) (b b' : CoreBook) (event : Event) (answer : Asked Event Answer) → b.from ≤ b'.from
-    → (b'.from ≤ since → said_since since b' ≡ said_since since b ++ call_of event answer)
-    → Gains (told_since since b) (told_since since b') (call_of event answer)
+    → (b'.from ≤ since → calls_since since b' ≡ calls_since since b ++ call_of event answer)
+    → Gains (calls_if_known since b) (calls_if_known since b') (call_of event answer)
 gains since b b' event answer later adds =
     elim (cases_Bool (nat_le b'.from since)) [
       | inl kept ↦
           let near : b'.from ≤ since = grind (arith, nat_tests) in
           let before : nat_le b.from since ≡ true = grind (arith, nat_tests) in
-          rw (kept, before) (said_since since b, refl, adds near)
+          rw (kept, before) (calls_since since b, refl, adds near)
       | inr gone ↦ rw gone tt
     ]
 

@@ -2,7 +2,7 @@
 use Rattle.std.proofs.Common.{◌≡◌, sym, ap, ◌∙◌, ℕ, ◌+◌, ◌-◌, ◌≤◌, [], ◌∷◌, ◌++◌, length, take, drop, arith, append-nil, length-append, length-drop, take-add, drop-drop}
 use Rattle.std.proofs.lemmas.List.{take-append-le, drop-append-le, take-append-drop, nil_from_length}
 use Rattle.ifmap_desks.specs.Answers.{plain_asked}
-use Rattle.ifmap_desks.specs.Calls.{Log, calls_from, said_since}
+use Rattle.ifmap_desks.specs.Calls.{Log, calls_from, calls_since}
 use Rattle.ifmap_desks.specs.Asking.{IsTurn}
 use Rattle.ifmap_desks.specs.Machines.{CoreBook, core_next, core_reply}
 use Rattle.ifmap_desks.specs.declared.events.FitEvent.{FitEvent}
@@ -21,7 +21,7 @@ module _ (place : ℕ) (b b' : CoreBook) (c : CarriesOn core_next (sight_of b) (
     (near : b'.from ≤ place) (within : place ≤ end_of_book b) (state : b.machine ≡ run core_next b.base b.journal.items) where
   -- the book has what it had and did not give to its base, and then more, all of which was said
   grows : (more : Log) × (b'.journal.items ≡ drop (b'.from - b.from) b.journal.items ++ more)
-      × (said_since place b' ≡ said_since place b ++ calls_from b.machine.core more)
+      × (calls_since place b' ≡ calls_since place b ++ calls_from b.machine.core more)
   grows =
       let k : ℕ = b'.from - b.from in
       let j : ℕ = place - b'.from in
@@ -49,23 +49,23 @@ module _ (place : ℕ) (b b' : CoreBook) (c : CarriesOn core_next (sight_of b) (
         ap (λ (m : CoreMachine). calls_from m.core (drop j b'.journal.items)) at
             ∙ ap (calls_from (run core_next b.base (take n b.journal.items)).core) rest
             ∙ calls_append (run core_next b.base (take n b.journal.items)) (drop n b.journal.items) more
-            ∙ ap (λ (m : CoreMachine). said_since place b ++ calls_from m.core more) end,
+            ∙ ap (λ (m : CoreMachine). calls_since place b ++ calls_from m.core more) end,
       )
 
   -- where the end stays, nothing was said
-  same_end : end_of_book b' ≡ end_of_book b → said_since place b' ≡ said_since place b
+  same_end : end_of_book b' ≡ end_of_book b → calls_since place b' ≡ calls_since place b
   same_end same =
       let g = grows in
       let later = c.from in
       let l : length b'.journal.items ≡ (length b.journal.items - (b'.from - b.from)) + length g.0 =
       ap length g.1 ∙ length-append (drop (b'.from - b.from) b.journal.items) g.0
       ∙ ap (λ n. n + length g.0) (length-drop (b'.from - b.from) b.journal.items) in
-      g.2 ∙ ap (λ (xs : Log). said_since place b ++ calls_from b.machine.core xs) (nil_from_length g.0 (omega arith))
-      ∙ append-nil (said_since place b)
+      g.2 ∙ ap (λ (xs : Log). calls_since place b ++ calls_from b.machine.core xs) (nil_from_length g.0 (omega arith))
+      ∙ append-nil (calls_since place b)
 
   -- one entry more was said
   one_said : (number at : ℕ) (event : FitEvent) (reply : Answer) → Enters core_reply b b' number event at reply
-      → said_since place b' ≡ said_since place b ++ (event.event, reply) ∷ []
+      → calls_since place b' ≡ calls_since place b ++ (event.event, reply) ∷ []
   one_said number at event reply enters =
       let g = grows in
       let later = c.from in
@@ -75,13 +75,13 @@ module _ (place : ℕ) (b b' : CoreBook) (c : CarriesOn core_next (sight_of b) (
       let l : length (drop (b'.from - b.from) b.journal.items) ≡ length w.0 =
       length-drop (b'.from - b.from) b.journal.items ∙ omega arith in
       g.2
-      ∙ ap (λ (xs : Log). said_since place b ++ calls_from b.machine.core xs)
+      ∙ ap (λ (xs : Log). calls_since place b ++ calls_from b.machine.core xs)
       (cut_same (drop (b'.from - b.from) b.journal.items) g.0 w.0 ((number, event) ∷ []) l (sym g.1 ∙ w.1))
-      ∙ ap (λ (q : Answer). said_since place b ++ (event.event, q) ∷ []) (sym enters.reply_is)
+      ∙ ap (λ (q : Answer). calls_since place b ++ (event.event, q) ∷ []) (sym enters.reply_is)
 
   pub adds : (number : ℕ) (event : FitEvent) (given : Asked FitEvent Answer) → IsTurn b b' number event given
-      → said_since place b' ≡ said_since place b ++ call_of event.event (plain_asked given)
+      → calls_since place b' ≡ calls_since place b ++ call_of event.event (plain_asked given)
   adds number event (Done at r) t = one_said number at event r t.done.2
-  adds number event (Held at back) t = ap (λ (x : CoreBook). said_since place x) t.held.4 ∙ sym (append-nil (said_since place b))
-  adds number event (Spent entries back) t = ap (λ (x : CoreBook). said_since place x) t.spent.3 ∙ sym (append-nil (said_since place b))
-  adds number event (NoMemory back) t = same_end t.no_memory.3.ends ∙ sym (append-nil (said_since place b))
+  adds number event (Held at back) t = ap (λ (x : CoreBook). calls_since place x) t.held.4 ∙ sym (append-nil (calls_since place b))
+  adds number event (Spent entries back) t = ap (λ (x : CoreBook). calls_since place x) t.spent.3 ∙ sym (append-nil (calls_since place b))
+  adds number event (NoMemory back) t = same_end t.no_memory.3.ends ∙ sym (append-nil (calls_since place b))

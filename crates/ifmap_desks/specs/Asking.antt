@@ -1,7 +1,7 @@
 -- What an answer at a desk says of its book, or of the history of its hall.
 use Rattle.std.specs.Prelude.{◌≡◌, ℕ, ◌-◌, ◌^◌, ◌<◌, true, false, map, None, Some}
 use Rattle.ifmap_desks.specs.Answers.{plain_asked}
-use Rattle.ifmap_desks.specs.Calls.{plain_call, told_since}
+use Rattle.ifmap_desks.specs.Calls.{plain_call, calls_if_known}
 use Rattle.ifmap_desks.specs.Machines.{CoreBook, CoreView, core_holds, core_next, core_reply, core_weight}
 use Rattle.ifmap_desks.specs.declared.book_desk.BookDesk.{BookDesk}
 use Rattle.ifmap_desks.specs.declared.events.FitEvent.{FitEvent}
@@ -60,7 +60,7 @@ pass_at desk = desk.pass
 -- what contracts see of a desk over a book
 abbrev pub book_seen : BookDesk → DeskSeen (Unit {0})
 book_seen desk = record {
-  said = told_since desk.since desk.book;
+  said = calls_if_known desk.since desk.book;
   turns = None;
   held = desk.counts.held;
   spent = desk.counts.spent;

@@ -22,10 +22,10 @@ calls_from state [] = []
 calls_from state (e ∷ log) = (e.1.event, (step state e.1.event).1) ∷ calls_from (step state e.1.event).0 log
 
 -- the calls of a book from a place on, where no entry from there on is in its base
-abbrev pub said_since : ℕ → CoreBook → List Call
-said_since place b =
+abbrev pub calls_since : ℕ → CoreBook → List Call
+calls_since place b =
     calls_from (run core_next b.base (take (place - b.from) b.journal.items)).core (drop (place - b.from) b.journal.items)
 
 -- these calls, where they can be told
-abbrev pub told_since : ℕ → CoreBook → Option (List Call)
-told_since place b = if nat_le b.from place then Some (said_since place b) else None
+abbrev pub calls_if_known : ℕ → CoreBook → Option (List Call)
+calls_if_known place b = if nat_le b.from place then Some (calls_since place b) else None

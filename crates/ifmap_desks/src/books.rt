@@ -46,11 +46,11 @@ impl BookDesk {
 
 impl Desk for BookDesk {
     ghost use Rattle.std.specs.Prelude.{None};
-    ghost use Rattle.ifmap_desks.specs.Calls.{told_since};
+    ghost use Rattle.ifmap_desks.specs.Calls.{calls_if_known};
 
     type Home = ();
 
-    ghost said = { λ desk. told_since desk.since desk.book };
+    ghost said = { λ desk. calls_if_known desk.since desk.book };
 
     // A book counts no turns: `AnsweredByBook` says what each of them left.
     ghost turns = { λ _. None };

@@ -17,7 +17,7 @@ use Rattle.ifmap_http.specs.declared.wires.Sent.{Sent}
 use Rattle.ifmap_http.specs.declared.wires.Sent.TheVariants as sent
 use Rattle.ifmap_http.specs.Outcomes.{GetsPost}
 use Rattle.ifmap_io.specs.Causes.{Rose}
-use Rattle.ifmap_io.specs.Links.{Side}
+use Rattle.ifmap_io.specs.Links.{LinkSide}
 use Rattle.ifmap_http.specs.Wires.{WireSeen, Wired, wire_seen}
 use Rattle.ifmap_dialogue.specs.declared.endings.Ending.{Ending}
 use Rattle.ifmap_dialogue.specs.declared.endings.Ending.TheVariants as ending
@@ -389,13 +389,13 @@ module _ {H : Type 0} (gives : ℕ → Type 0) (before now after : Scene H) (num
 -- ---- one round as it is read
 
 -- reading of a wire left what was written alone
-pub has_read : {L : Type 0} (left held : L → Option (List ℕ)) (reading writing : L → ℕ) (outgoing : L → Side)
+pub has_read : {L : Type 0} (left held : L → Option (List ℕ)) (reading writing : L → ℕ) (outgoing : L → LinkSide)
     → ((link : L) → outgoing link ≡ record { bytes = held link; faults = writing link }) → (old new : Wired L)
     → outgoing new.link ≡ outgoing old.link → reading old.link ≤ reading new.link
     → HasRead (wire_seen left held reading writing old) (wire_seen left held reading writing new)
 has_read left held reading writing outgoing is old new same later =
     let sides = sym (is new.link) ∙ same ∙ is old.link in
-    record { reads = later; held = ap (λ (s : Side). s.bytes) sides; writes = ap (λ (s : Side). s.faults) sides }
+    record { reads = later; held = ap (λ (s : LinkSide). s.bytes) sides; writes = ap (λ (s : LinkSide). s.faults) sides }
 
 pub more_if_none : (next : Option Ending) (P : Type 0) → (next ≡ None → P) → IfNone next P
 more_if_none None P f = f refl

@@ -9,7 +9,7 @@ use Rattle.ifmap_http.specs.declared.wires.Sent.{Sent}
 use Rattle.ifmap_http.specs.declared.wires.Sent.TheVariants as sent
 use Rattle.ifmap_http.specs.Outcomes.{Sends}
 use Rattle.ifmap_http.specs.Wires.{WireSeen, Wired, wire_seen}
-use Rattle.ifmap_io.specs.Links.{Side}
+use Rattle.ifmap_io.specs.Links.{LinkSide}
 use Rattle.ifmap_machine.specs.ifmap_replies.Results.{reply_bytes}
 use Rattle.ifmap_machine.specs.ifmap_replies.declared.replies.Reply.{Reply}
 use Rattle.ifmap_dialogue.specs.Answers.{reply_answer}
@@ -48,12 +48,12 @@ module _ {L : Type 0} (left held : L → Option (List ℕ)) (reading writing : L
       same_wire _ _ (held new.link) _ _ (writing new.link) _ _ seen same_reading spent
 
 -- what a link is as a source
-pub same_source : {L : Type 0} (left : L → Option (List ℕ)) (reading : L → ℕ) (incoming : L → Side)
+pub same_source : {L : Type 0} (left : L → Option (List ℕ)) (reading : L → ℕ) (incoming : L → LinkSide)
     → ((link : L) → incoming link ≡ record { bytes = left link; faults = reading link }) → (old new : L) → incoming new ≡ incoming old
     → (left new ≡ left old) × (reading new ≡ reading old)
 same_source left reading incoming is old new same =
     let sides = sym (is new) ∙ same ∙ is old in
-    (ap (λ (s : Side). s.bytes) sides, ap (λ (s : Side). s.faults) sides)
+    (ap (λ (s : LinkSide). s.bytes) sides, ap (λ (s : LinkSide). s.faults) sides)
 
 pub gains_more : (a b c : WireSeen) (first then : List ℕ) → GainsBytes a b first → GainsBytes b c then → GainsBytes a c (first ++ then)
 gains_more a b c first then p q = record {

@@ -45,7 +45,7 @@ impl RepeatingLink {
 }
 
 impl Source for RepeatingLink {
-    ghost use Rattle.ifmap_io.specs.Links.{Side};
+    ghost use Rattle.ifmap_io.specs.Links.{LinkSide};
 
     ghost left = { λ _. None };
 

@@ -10,19 +10,19 @@ use Rattle.ifmap_core.specs.ifmap_machine.State.{State}
 use Rattle.ifmap_core.specs.ifmap_machine.Step.{step}
 use Rattle.ifmap_drill.specs.declared.counts.Counts.{Counts}
 use Rattle.ifmap_drill.specs.declared.drills.Drill.{Drill}
-use Rattle.ifmap_drill.specs.Counts.{capped_sum, counted_as, counts_of, counts_sum, total_of}
+use Rattle.ifmap_drill.specs.Counts.{capped_sum, counts_of_event, counts_of, counts_sum, total_of}
 use Rattle.ifmap_drill.specs.Drills.{Drilling, after_answer, after_event, asked_at, ids_after}
 use Rattle.ifmap_drill.specs.Events.{event_at}
 use Rattle.ifmap_drill.specs.Requests.{request_at}
 use Rattle.ifmap_drill.specs.Following.{drill_of}
 
 total_more : (number : Counts → ℕ) (history : History) (event : Event) (answer : Answer)
-    → total_of number (history ++ (event, answer) ∷ []) ≡ capped_sum (total_of number history) (number (counted_as event.ask answer))
+    → total_of number (history ++ (event, answer) ∷ []) ≡ capped_sum (total_of number history) (number (counts_of_event event.ask answer))
 total_more number history event answer =
-    let more = sum_by_push (λ (e : Event × Answer). number (counted_as e.0.ask e.1)) history (event, answer) in omega arith
+    let more = sum_by_push (λ (e : Event × Answer). number (counts_of_event e.0.ask e.1)) history (event, answer) in omega arith
 
 pub counts_more : (history : History) (event : Event) (answer : Answer)
-    → counts_of (history ++ (event, answer) ∷ []) 0 ≡ counts_sum (counts_of history 0) (counted_as event.ask answer)
+    → counts_of (history ++ (event, answer) ∷ []) 0 ≡ counts_sum (counts_of history 0) (counts_of_event event.ask answer)
 counts_more history event answer = λ i. record {
   events = total_more (λ c. c.events) history event answer i;
   sessions = total_more (λ c. c.sessions) history event answer i;
@@ -43,7 +43,7 @@ on_ok (Err e) holds follows = tt
 
 -- the drill keeps what it is to keep after one event more
 pub answer_kept : (i : ℕ) (event : Event) (old : Drill) (core : State) (answer : Answer) (counts : Counts) (ids : List (List ℕ))
-    → (core, answer) ≡ step old.core event → counts ≡ counts_sum old.counts (counted_as event.ask answer)
+    → (core, answer) ≡ step old.core event → counts ≡ counts_sum old.counts (counts_of_event event.ask answer)
     → ids ≡ ids_after i answer old.ids → (d : Drilling) → old ≡ drill_of d
     → record { core = core; ids = ids; draws = old.draws; counts = counts } ≡ drill_of (after_answer i event old.draws d)
 answer_kept i event old core answer counts ids stepped counted kept d is =
@@ -54,8 +54,8 @@ answer_kept i event old core answer counts ids stepped counted kept d is =
     kept ∙ ap (λ (a : Answer). ids_after i a old.ids) answer_is
     ∙ ap (λ (o : Drill). ids_after i (step d.state event).1 o.ids) is in
     let counts_are : counts ≡ counts_of (d.history ++ (event, (step d.state event).1) ∷ []) 0 =
-    counted ∙ ap (λ (a : Answer). counts_sum old.counts (counted_as event.ask a)) answer_is
-    ∙ ap (λ (o : Drill). counts_sum o.counts (counted_as event.ask (step d.state event).1)) is
+    counted ∙ ap (λ (a : Answer). counts_sum old.counts (counts_of_event event.ask a)) answer_is
+    ∙ ap (λ (o : Drill). counts_sum o.counts (counts_of_event event.ask (step d.state event).1)) is
     ∙ sym (counts_more d.history event (step d.state event).1) in
     λ j. record { core = core_is j; ids = ids_are j; draws = old.draws; counts = counts_are j }
 

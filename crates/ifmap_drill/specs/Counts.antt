@@ -30,41 +30,41 @@ abbrev pub one_event : Counts
 one_event = record no_counts { events = 1 }
 
 -- what a request counts as, where its result is no error
-abbrev pub requested_by : Asked → Counts
-requested_by (the_request.NewSession limit) = record one_event { sessions = 1 }
-requested_by (the_request.Subscribe session ops) = record one_event { subscribes = 1 }
-requested_by (the_request.Publish session ops) = record one_event { publishes = 1 }
-requested_by (the_request.Search session search) = record one_event { searches = 1 }
-requested_by (the_request.Poll session) = record one_event { polls = 1 }
-requested_by (the_request.RenewSession session) = record one_event { renewals = 1 }
-requested_by (the_request.EndSession session) = one_event
-requested_by (the_request.PurgePublisher session publisher) = one_event
+abbrev pub counts_of_request : Asked → Counts
+counts_of_request (the_request.NewSession limit) = record one_event { sessions = 1 }
+counts_of_request (the_request.Subscribe session ops) = record one_event { subscribes = 1 }
+counts_of_request (the_request.Publish session ops) = record one_event { publishes = 1 }
+counts_of_request (the_request.Search session search) = record one_event { searches = 1 }
+counts_of_request (the_request.Poll session) = record one_event { polls = 1 }
+counts_of_request (the_request.RenewSession session) = record one_event { renewals = 1 }
+counts_of_request (the_request.EndSession session) = one_event
+counts_of_request (the_request.PurgePublisher session publisher) = one_event
 
-abbrev pub asked_by : Ask → Counts
-asked_by (Request request) = requested_by request
-asked_by (Lost session) = one_event
+abbrev pub counts_of_ask : Ask → Counts
+counts_of_ask (Request request) = counts_of_request request
+counts_of_ask (Lost session) = one_event
 
 -- what that is by the reply: nothing where it is an error, and for a poll also the items that it is told
-abbrev pub replied_as : Counts → AnyReply → Counts
-replied_as asked (the_reply.Error code note) = no_counts
-replied_as asked (the_reply.Polled items) = record asked { told = length items }
-replied_as asked (the_reply.NewSession session publisher limit) = asked
-replied_as asked the_reply.Renewed = asked
-replied_as asked the_reply.Ended = asked
-replied_as asked the_reply.Published = asked
-replied_as asked the_reply.Subscribed = asked
-replied_as asked the_reply.Purged = asked
-replied_as asked (the_reply.Found entries) = asked
+abbrev pub counts_of_reply : Counts → AnyReply → Counts
+counts_of_reply asked (the_reply.Error code note) = no_counts
+counts_of_reply asked (the_reply.Polled items) = record asked { told = length items }
+counts_of_reply asked (the_reply.NewSession session publisher limit) = asked
+counts_of_reply asked the_reply.Renewed = asked
+counts_of_reply asked the_reply.Ended = asked
+counts_of_reply asked the_reply.Published = asked
+counts_of_reply asked the_reply.Subscribed = asked
+counts_of_reply asked the_reply.Purged = asked
+counts_of_reply asked (the_reply.Found entries) = asked
 
 -- what an event counts as, by its answer; a poll that is held counts as a poll and as held
-abbrev pub counted_as : Ask → Answer → Counts
-counted_as ask (Reply reply) = replied_as (asked_by ask) reply
-counted_as ask Held = record (asked_by ask) { held = 1 }
-counted_as ask Heard = asked_by ask
+abbrev pub counts_of_event : Ask → Answer → Counts
+counts_of_event ask (Reply reply) = counts_of_reply (counts_of_ask ask) reply
+counts_of_event ask Held = record (counts_of_ask ask) { held = 1 }
+counts_of_event ask Heard = counts_of_ask ask
 
 -- a number of all events of a history together; a count stands still at the greatest of its type
 abbrev pub total_of : (Counts → ℕ) → History → ℕ
-total_of number history = min (sum_by (λ (e : Event × Answer). number (counted_as e.0.ask e.1)) history) (2 ^ 64 - 1)
+total_of number history = min (sum_by (λ (e : Event × Answer). number (counts_of_event e.0.ask e.1)) history) (2 ^ 64 - 1)
 
 -- what the events of a history count as together, with so many links
 abbrev pub counts_of : History → ℕ → Counts

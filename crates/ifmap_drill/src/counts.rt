@@ -1,6 +1,6 @@
 //! What a drill counts.
 ghost use Rattle.std.specs.Prelude.{◌≡◌};
-ghost use Rattle.ifmap_drill.specs.Counts.{asked_by, counted_as, counts_sum, no_counts, replied_as, requested_by};
+ghost use Rattle.ifmap_drill.specs.Counts.{counts_of_ask, counts_of_event, counts_sum, no_counts, counts_of_reply, counts_of_request};
 
 use ifmap_core::{Answer, Ask, Reply};
 use ifmap_requests::Request;
@@ -54,9 +54,9 @@ impl Counts {
 
     // Counts an event with its answer.
     pub(crate) fn count(&mut self, ask: &Ask, answer: &Answer)
-        ensures { self.new ≡ counts_sum self.old (counted_as ask.now answer.now) }
+        ensures { self.new ≡ counts_sum self.old (counts_of_event ask.now answer.now) }
     {
-        let more = counted_as(ask, answer);
+        let more = counts_of_event(ask, answer);
         *self = self.sum_with(&more);
     }
 
@@ -80,20 +80,20 @@ impl Counts {
 }
 
 // What an event counts as, by its answer.
-fn counted_as(ask: &Ask, answer: &Answer) -> Counts
-    ensures { result ≡ counted_as ask.now answer.now }
+fn counts_of_event(ask: &Ask, answer: &Answer) -> Counts
+    ensures { result ≡ counts_of_event ask.now answer.now }
 {
-    let asked = asked_by(ask);
+    let asked = counts_of_ask(ask);
     match answer {
-        Answer::Reply(reply) => replied_as(asked, reply),
+        Answer::Reply(reply) => counts_of_reply(asked, reply),
         Answer::Held => Counts { held: 1, ..asked },
         Answer::Heard => asked,
     }
 }
 
 // The same where it is a reply.
-fn replied_as(asked: Counts, reply: &Reply) -> Counts
-    ensures { result ≡ replied_as asked reply.now }
+fn counts_of_reply(asked: Counts, reply: &Reply) -> Counts
+    ensures { result ≡ counts_of_reply asked reply.now }
 {
     match reply {
         Reply::Error { .. } => NOTHING,
@@ -106,17 +106,17 @@ fn replied_as(asked: Counts, reply: &Reply) -> Counts
 }
 
 // What a request counts as, where its result is no error.
-fn asked_by(ask: &Ask) -> Counts
-    ensures { result ≡ asked_by ask.now }
+fn counts_of_ask(ask: &Ask) -> Counts
+    ensures { result ≡ counts_of_ask ask.now }
 {
     match ask {
-        Ask::Request(request) => requested_by(request),
+        Ask::Request(request) => counts_of_request(request),
         Ask::Lost(_) => ONE_EVENT,
     }
 }
 
-fn requested_by(request: &Request) -> Counts
-    ensures { result ≡ requested_by request.now }
+fn counts_of_request(request: &Request) -> Counts
+    ensures { result ≡ counts_of_request request.now }
 {
     match request {
         Request::NewSession { .. } => Counts {

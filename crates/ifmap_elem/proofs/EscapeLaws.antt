@@ -6,17 +6,17 @@ use Rattle.std.proofs.lemmas.Simd.{bitmask_splat, length-chunk, none_from_empty_
 use Rattle.std.specs.Bool.{OnTrue}
 use Rattle.ifmap_lemmas.specs.Branches.{on_true}
 use lib.Lanes.{chunk, mask_l, top, zip2}
-use Rattle.ifmap_elem.specs.declared.escaping.Place.{Place}
+use Rattle.ifmap_elem.specs.declared.escaping.TextPlace.{TextPlace}
 use Rattle.ifmap_elem.specs.printer.Plain.{ArePlain, LacksByte, escape_bytes}
 
-escaped_plain : (place : Place) (bytes : List ℕ) → ArePlain place bytes 0 (length bytes) → escape_bytes place bytes ≡ bytes
+escaped_plain : (place : TextPlace) (bytes : List ℕ) → ArePlain place bytes 0 (length bytes) → escape_bytes place bytes ≡ bytes
 escaped_plain place [] h = λ i. []
 escaped_plain place (b ∷ bytes) h =
     let first = h 0 (omega arith) (omega arith) in
     let rest = escaped_plain place bytes (λ k p q. h (suc k) (omega arith) (omega arith)) in
     λ i. first i ++ rest i
 
-pub plain_is_escaped : (found : Bool) (place : Place) (bytes : List ℕ) → OnTrue found (ArePlain place bytes 0 (length bytes))
+pub plain_is_escaped : (found : Bool) (place : TextPlace) (bytes : List ℕ) → OnTrue found (ArePlain place bytes 0 (length bytes))
     → OnTrue found (escape_bytes place bytes ≡ bytes)
 plain_is_escaped true place bytes h = escaped_plain place bytes h
 plain_is_escaped false place bytes h = tt

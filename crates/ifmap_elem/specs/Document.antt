@@ -40,35 +40,35 @@ chain_pieces (Empty tag after) others = Empty tag (chain_pieces after others)
 chain_pieces (Start tag inside after) others = Start tag inside (chain_pieces after others)
 
 -- a piece by what it means: a child element with the declarations in it, their paths from it on, or text
-pub data Item : Type 0 where
-  Inner : Element → List Declared → Item
-  Run : List ℕ → Item
+pub data ContentItem : Type 0 where
+  Inner : Element → List Declared → ContentItem
+  Run : List ℕ → ContentItem
 
-abbrev pub is_inner : Item → Bool
+abbrev pub is_inner : ContentItem → Bool
 is_inner (Inner e declared) = true
 is_inner (Run text) = false
 
 -- texts beside each other are one text
-abbrev pub put_before : List ℕ → List Item → List Item
+abbrev pub put_before : List ℕ → List ContentItem → List ContentItem
 put_before text [] = Run text ∷ []
 put_before text (Run more ∷ items) = Run (text ++ more) ∷ items
 put_before text (Inner e declared ∷ items) = Run text ∷ (Inner e declared ∷ items)
 
-abbrev pub join_runs : List Item → List Item
+abbrev pub join_runs : List ContentItem → List ContentItem
 join_runs [] = []
 join_runs (Run text ∷ items) = put_before text (join_runs items)
 join_runs (Inner e declared ∷ items) = Inner e declared ∷ join_runs items
 
 -- white space alone is no child beside an element, and an empty text is none anywhere
-abbrev pub is_child : (beside : Bool) → Item → Bool
+abbrev pub is_child : (beside : Bool) → ContentItem → Bool
 is_child beside (Inner e declared) = true
 is_child beside (Run text) = if beside then not (list_all is_white text) else not (length text == 0)
 
 -- the items that are children
-abbrev pub children_among : List Item → List Item
+abbrev pub children_among : List ContentItem → List ContentItem
 children_among items = filter (is_child (list_any is_inner items)) (join_runs items)
 
-abbrev pub child_of : Item → the.Child
+abbrev pub child_of : ContentItem → the.Child
 child_of (Inner e declared) = the.Element e
 child_of (Run text) = the.Text text
 
@@ -81,28 +81,29 @@ abbrev pub from_above : ℕ → Declared → Declared
 from_above index d = record { path = index ∷ d.path; prefix = d.prefix; space = d.space }
 
 -- the declarations in the children from that index on
-abbrev pub declared_below : ℕ → List Item → List Declared
+abbrev pub declared_below : ℕ → List ContentItem → List Declared
 declared_below index [] = []
 declared_below index (Inner e declared ∷ items) = map (from_above index) declared ++ declared_below (index + 1) items
 declared_below index (Run text ∷ items) = declared_below (index + 1) items
 
 -- the element of an allowed tag over these items, with the declarations in it
-pub record IsElement (outer : Scope) (tag : Tag) (items : List Item) (e : Element) (declared : List Declared) : Type 0 where
+pub record IsElement (outer : Scope) (tag : Tag) (items : List ContentItem) (e : Element) (declared : List Declared) : Type 0 where
   pub named : NamesElement outer tag e.name e.attributes
   pub children_are : e.children ≡ map child_of (children_among items)
   pub declared_are : declared ≡ declared_here (bindings tag) ++ declared_below 0 (children_among items)
 
 -- the pieces mean these items
-abbrev pub AreItems : Scope → Pieces → List Item → Type 0
+abbrev pub AreItems : Scope → Pieces → List ContentItem → Type 0
 AreItems scope Nothing items = items ≡ []
 AreItems scope (Comment after) items = AreItems scope after items
-AreItems scope (Characters blank text after) items = (others : List Item) × (items ≡ Run text ∷ others) × AreItems scope after others
-AreItems scope (Section text after) items = (others : List Item) × (items ≡ Run text ∷ others) × AreItems scope after others
+AreItems scope (Characters blank text after) items = (others : List ContentItem) × (items ≡ Run text ∷ others) × AreItems scope after others
+AreItems scope (Section text after) items = (others : List ContentItem) × (items ≡ Run text ∷ others) × AreItems scope after others
 AreItems scope (Empty tag after) items =
-    (e : Element) × (declared : List Declared) × (others : List Item) × (items ≡ Inner e declared ∷ others)
+    (e : Element) × (declared : List Declared) × (others : List ContentItem) × (items ≡ Inner e declared ∷ others)
     × IsElement scope tag [] e declared × AreItems scope after others
 AreItems scope (Start tag inside after) items =
-    (inner : List Item) × (e : Element) × (declared : List Declared) × (others : List Item) × (items ≡ Inner e declared ∷ others)
+    (inner : List ContentItem) × (e : Element) × (declared : List Declared) × (others : List ContentItem)
+    × (items ≡ Inner e declared ∷ others)
     × AreItems (scope_within scope tag) inside inner × IsElement scope tag inner e declared × AreItems scope after others
 
 -- comments and white space alone, in their own bytes

@@ -11,7 +11,7 @@ use Rattle.ifmap_elem.specs.declared.readings.Reading.{Reading}
 use Rattle.ifmap_elem.specs.declared.tokens.Tag.{Tag}
 use Rattle.ifmap_elem.specs.declared.tokens.Token.{Token}
 use Rattle.ifmap_elem.specs.Document as piece
-use Rattle.ifmap_elem.specs.Document.{Pieces, Nothing, chain_pieces, tokens_of, heading, Item, join_runs, is_child, AreItems, IsMargin}
+use Rattle.ifmap_elem.specs.Document.{Pieces, Nothing, chain_pieces, tokens_of, heading, ContentItem, join_runs, is_child, AreItems, IsMargin}
 use Rattle.ifmap_elem.specs.Scopes.{Binding, Scope, NamesElement, prefix_space, root_scope, scope_within}
 use Rattle.ifmap_elem.specs.Spells.{without_byte_order_mark}
 use Rattle.ifmap_elem.specs.Tokens.{TakesToken}
@@ -37,7 +37,7 @@ abbrev pub IsElementPiece : Pieces → Tag → Pieces → Pieces → Type 0
 IsElementPiece pieces tag inside after = (pieces ≡ piece.Start tag inside after) ⊎ ((pieces ≡ piece.Empty tag after) × (inside ≡ Nothing))
 
 -- how many children stand before an element that comes after these items
-abbrev pub children_before : List Item → ℕ
+abbrev pub children_before : List ContentItem → ℕ
 children_before items = length (filter (is_child true) (join_runs items))
 
 -- among the pieces in an element, whose scope this is, the child with that index is an element with that tag and those pieces
@@ -45,7 +45,7 @@ pub record IsChildAt (scope : Scope) (inside : Pieces) (index : ℕ) (child : Ta
   pub before : Pieces
   pub element : Pieces
   pub after : Pieces
-  pub items : List Item
+  pub items : List ContentItem
   pub inside_is : inside ≡ chain_pieces before element
   pub is_element : IsElementPiece element child within after
   pub mean : AreItems scope before items

@@ -7,18 +7,22 @@ ghost use Rattle.ifmap_elem.specs.printer.Plain.{escape_byte, escape_bytes, AreP
 use std::alloc::AllocError as NoMemory;
 use std::simd::prelude::*;
 
-// Where characters stand that are written.
+/// Where the characters of a text stand in a document.
 #[derive(Clone, Copy)]
-pub(crate) enum Place {
-    // Between tags.
+pub enum TextPlace {
+    /// Between tags.
     Content,
-    // Between the double quotes of an attribute.
+    /// Between the quotes of an attribute.
     Value,
 }
 
 // Appends bytes as they are written in their place.
 #[inline(always)]
-pub(crate) fn write_escaped(place: Place, bytes: &[u8], out: &mut Vec<u8>) -> Result<(), NoMemory>
+pub(crate) fn write_escaped(
+    place: TextPlace,
+    bytes: &[u8],
+    out: &mut Vec<u8>,
+) -> Result<(), NoMemory>
     ensures { OnOk result (out.new.items ≡ out.old.items ++ escape_bytes place bytes.now) }
 {
     if bytes.len() > RUN {
@@ -31,7 +35,7 @@ pub(crate) fn write_escaped(place: Place, bytes: &[u8], out: &mut Vec<u8>) -> Re
 const RUN: usize = 256;
 
 #[inline(never)]
-fn write_runs(place: Place, bytes: &[u8], out: &mut Vec<u8>) -> Result<(), NoMemory>
+fn write_runs(place: TextPlace, bytes: &[u8], out: &mut Vec<u8>) -> Result<(), NoMemory>
     ensures { OnOk result (out.new.items ≡ out.old.items ++ escape_bytes place bytes.now) }
 {
     let mut rest = bytes;
@@ -44,7 +48,7 @@ fn write_runs(place: Place, bytes: &[u8], out: &mut Vec<u8>) -> Result<(), NoMem
 }
 
 #[inline(always)]
-fn write_run(place: Place, bytes: &[u8], out: &mut Vec<u8>) -> Result<(), NoMemory>
+fn write_run(place: TextPlace, bytes: &[u8], out: &mut Vec<u8>) -> Result<(), NoMemory>
     ensures { OnOk result (out.new.items ≡ out.old.items ++ escape_bytes place bytes.now) }
 {
     if is_plain(place, bytes) {
@@ -54,7 +58,7 @@ fn write_run(place: Place, bytes: &[u8], out: &mut Vec<u8>) -> Result<(), NoMemo
 }
 
 #[inline(never)]
-fn write_each(place: Place, bytes: &[u8], out: &mut Vec<u8>) -> Result<(), NoMemory>
+fn write_each(place: TextPlace, bytes: &[u8], out: &mut Vec<u8>) -> Result<(), NoMemory>
     ensures { OnOk result (out.new.items ≡ out.old.items ++ escape_bytes place bytes.now) }
 {
     for byte in bytes {
@@ -63,7 +67,7 @@ fn write_each(place: Place, bytes: &[u8], out: &mut Vec<u8>) -> Result<(), NoMem
     Ok(())
 }
 
-fn write_byte(place: Place, byte: u8, out: &mut Vec<u8>) -> Result<(), NoMemory>
+fn write_byte(place: TextPlace, byte: u8, out: &mut Vec<u8>) -> Result<(), NoMemory>
     ensures { OnOk result (out.new.items ≡ out.old.items ++ escape_byte place byte) }
 {
     match escape(place, byte) {
@@ -75,7 +79,7 @@ fn write_byte(place: Place, byte: u8, out: &mut Vec<u8>) -> Result<(), NoMemory>
 
 // Whether each byte stands for itself.
 #[inline(always)]
-fn is_plain(place: Place, bytes: &[u8]) -> bool
+fn is_plain(place: TextPlace, bytes: &[u8]) -> bool
     ensures { OnTrue result (escape_bytes place bytes.now ≡ bytes.now) }
 {
     if bytes.len() < BLOCK {
@@ -86,7 +90,7 @@ fn is_plain(place: Place, bytes: &[u8]) -> bool
 }
 
 #[inline(always)]
-fn is_plain_each(place: Place, bytes: &[u8]) -> bool
+fn is_plain_each(place: TextPlace, bytes: &[u8]) -> bool
     ensures { OnTrue result (ArePlain place bytes.now 0 (length bytes.now)) }
 {
     for byte in bytes {
@@ -98,12 +102,12 @@ fn is_plain_each(place: Place, bytes: &[u8]) -> bool
 }
 
 #[inline(always)]
-fn is_plain_byte(place: Place, byte: u8) -> bool
+fn is_plain_byte(place: TextPlace, byte: u8) -> bool
     ensures { OnTrue result (escape_byte place byte ≡ byte ∷ []) }
 {
     match place {
-        Place::Content => !matches!(byte, b'&' | b'<' | b'>' | b'\r'),
-        Place::Value => !matches!(byte, b'&' | b'<' | b'"' | b'\t' | b'\n' | b'\r'),
+        TextPlace::Content => !matches!(byte, b'&' | b'<' | b'>' | b'\r'),
+        TextPlace::Value => !matches!(byte, b'&' | b'<' | b'"' | b'\t' | b'\n' | b'\r'),
     }
 }
 
@@ -112,7 +116,7 @@ const BLOCK: usize = 16;
 
 // As `is_plain`, for one block at least. The last block may overlap the one before.
 #[inline(always)]
-fn is_plain_in_blocks(place: Place, bytes: &[u8]) -> bool
+fn is_plain_in_blocks(place: TextPlace, bytes: &[u8]) -> bool
     requires { BLOCK ≤ length bytes.now }
     ensures { OnTrue result (ArePlain place bytes.now 0 (length bytes.now)) }
 {
@@ -127,14 +131,14 @@ fn is_plain_in_blocks(place: Place, bytes: &[u8]) -> bool
 }
 
 #[inline(always)]
-fn is_plain_block(place: Place, bytes: &[u8], at: usize) -> bool
+fn is_plain_block(place: TextPlace, bytes: &[u8], at: usize) -> bool
     requires { at + BLOCK ≤ length bytes.now }
     ensures { OnTrue result (ArePlain place bytes.now at (at + BLOCK)) }
 {
     let lacks_common = lacks(bytes, at, b'&') & lacks(bytes, at, b'<') & lacks(bytes, at, b'\r');
     match place {
-        Place::Content => lacks_common & lacks(bytes, at, b'>'),
-        Place::Value => {
+        TextPlace::Content => lacks_common & lacks(bytes, at, b'>'),
+        TextPlace::Value => {
             lacks_common
                 & lacks(bytes, at, b'"')
                 & lacks(bytes, at, b'\t')
@@ -159,7 +163,7 @@ pub fn value_reference(byte: u8) -> Option<&'static [u8]>
     ensures { MatchOption result (value_byte byte ≡ byte ∷ [])
         (λ reference. reference.now ≡ value_byte byte) }
 {
-    escape(Place::Value, byte)
+    escape(TextPlace::Value, byte)
 }
 
 /// The same of a byte of text.
@@ -167,11 +171,11 @@ pub fn text_reference(byte: u8) -> Option<&'static [u8]>
     ensures { MatchOption result (text_byte byte ≡ byte ∷ [])
         (λ reference. reference.now ≡ text_byte byte) }
 {
-    escape(Place::Content, byte)
+    escape(TextPlace::Content, byte)
 }
 
 // The reference that a byte is written as, where it does not stand for itself.
-fn escape(place: Place, byte: u8) -> Option<&'static [u8]>
+fn escape(place: TextPlace, byte: u8) -> Option<&'static [u8]>
     ensures { MatchOption result (escape_byte place byte ≡ byte ∷ [])
         (λ reference. reference.now ≡ escape_byte place byte) }
 {
@@ -179,10 +183,10 @@ fn escape(place: Place, byte: u8) -> Option<&'static [u8]>
         (_, b'&') => Some(b"&amp;"),
         (_, b'<') => Some(b"&lt;"),
         (_, b'\r') => Some(b"&#13;"),
-        (Place::Content, b'>') => Some(b"&gt;"),
-        (Place::Value, b'"') => Some(b"&quot;"),
-        (Place::Value, b'\t') => Some(b"&#9;"),
-        (Place::Value, b'\n') => Some(b"&#10;"),
+        (TextPlace::Content, b'>') => Some(b"&gt;"),
+        (TextPlace::Value, b'"') => Some(b"&quot;"),
+        (TextPlace::Value, b'\t') => Some(b"&#9;"),
+        (TextPlace::Value, b'\n') => Some(b"&#10;"),
         _ => None,
     }
 }

@@ -28,7 +28,7 @@ pub use comparing::same;
 pub use copying::Copied;
 pub use elements::{Attribute, Child, Element, Name};
 pub use equality::Equals;
-pub use escaping::{text_reference, value_reference};
+pub use escaping::{TextPlace, text_reference, value_reference};
 pub use lists::Many;
 pub use numbering::XML_SPACE;
 pub use outline_attributes::OutlineAttribute;

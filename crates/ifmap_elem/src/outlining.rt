@@ -7,7 +7,7 @@ ghost use Rattle.ifmap_elem.specs.Namespaces.{name_prefixes};
 ghost use Rattle.ifmap_elem.specs.Outlines.{label_name, outline_element, outline_child};
 ghost use Rattle.ifmap_elem.specs.printer.Pieces.{AddsAttribute, AddsAttributes, AddsChild, AddsContent, AddsElement, AreFinal};
 
-use crate::escaping::{Place, write_escaped};
+use crate::escaping::{TextPlace, write_escaped};
 use crate::lists::Many;
 use crate::numbering::{NumberedPrefixes, Prefix};
 use crate::outline_attributes::OutlineAttribute;
@@ -57,7 +57,7 @@ fn write_piece<'a, 'b>(
 {
     match piece {
         Piece::Text(text) => {
-            write_escaped(Place::Content, text.as_bytes(), out)?;
+            write_escaped(TextPlace::Content, text.as_bytes(), out)?;
             Ok(())
         }
         Piece::Shared(element) => {
@@ -136,7 +136,7 @@ fn write_outline_attribute<'a, 'b>(
     out.extend_from_slice(b" ")?;
     write_label(prefixes, attribute.label(), out)?;
     out.extend_from_slice(b"=\"")?;
-    write_escaped(Place::Value, attribute.value_bytes(), out)?;
+    write_escaped(TextPlace::Value, attribute.value_bytes(), out)?;
     out.extend_from_slice(b"\"")?;
     Ok(())
 }

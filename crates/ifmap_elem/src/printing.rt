@@ -15,7 +15,7 @@ ghost use Rattle.ifmap_elem.specs.Canonical.{after_prefix, canonical_bytes, cano
 ghost use Rattle.ifmap_elem.specs.Canonical.{written_bytes, written_reading};
 
 use crate::elements::{Attribute, Child, Element, Name};
-use crate::escaping::{Place, write_escaped};
+use crate::escaping::{TextPlace, write_escaped};
 use crate::lists::Many;
 use crate::numbering::{NumberedPrefixes, Prefix, write_numbered};
 use crate::outline_attributes::OutlineAttribute;
@@ -207,7 +207,7 @@ fn write_child<'a>(
             Ok(())
         }
         Child::Text(text) => {
-            write_escaped(Place::Content, text.as_bytes(), out)?;
+            write_escaped(TextPlace::Content, text.as_bytes(), out)?;
             Ok(())
         }
     }
@@ -260,7 +260,7 @@ fn write_attribute<'a>(
     out.extend_from_slice(b" ")?;
     write_label(prefixes, Label::Named(&attribute.name), out)?;
     out.extend_from_slice(b"=\"")?;
-    write_escaped(Place::Value, attribute.value.as_bytes(), out)?;
+    write_escaped(TextPlace::Value, attribute.value.as_bytes(), out)?;
     out.extend_from_slice(b"\"")?;
     Ok(())
 }
@@ -334,7 +334,7 @@ fn write_declaration(
     out.extend_from_slice(b" xmlns:")?;
     write_numbered(letter, number, out)?;
     out.extend_from_slice(b"=\"")?;
-    write_escaped(Place::Value, space.as_bytes(), out)?;
+    write_escaped(TextPlace::Value, space.as_bytes(), out)?;
     out.extend_from_slice(b"\"")?;
     Ok(())
 }

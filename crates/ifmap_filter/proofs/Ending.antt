@@ -7,9 +7,9 @@ use Rattle.ifmap_prefixes.specs.ifmap_reader.declared.scoping.Scope.{Scope}
 use Rattle.ifmap_filter.specs.declared.filters.Predicate.{Predicate, And, Attr, Or}
 use Rattle.ifmap_filter.specs.declared.filters.Test.{Test}
 use Rattle.ifmap_filter.specs.declared.filters.Filter.{Filter}
-use Rattle.ifmap_filter.specs.declared.standing.OuterPart.{OuterPart}
-use Rattle.ifmap_filter.specs.declared.standing.Operand.{Operand}
-use Rattle.ifmap_filter.specs.declared.standing.Operand.TheVariants as operand
+use Rattle.ifmap_filter.specs.declared.progress.OuterPart.{OuterPart}
+use Rattle.ifmap_filter.specs.declared.progress.Operand.{Operand}
+use Rattle.ifmap_filter.specs.declared.progress.Operand.TheVariants as operand
 use Rattle.ifmap_filter.specs.declared.tokens.FilterToken.{FilterToken}
 use Rattle.ifmap_filter.specs.declared.tokens.FilterToken.TheVariants.{Any, CloseBracket, CloseParenthesis, EqualsSign, At, Name, Literal}
 use Rattle.ifmap_filter.specs.Grammar.{AreTests, IsFilter, TakesAnds, TakesFactor, TakesMore, TakesPredicate, TakesTest, and_word, unprefixed_name, depth_limit, or_word}

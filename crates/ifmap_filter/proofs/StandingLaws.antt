@@ -7,13 +7,13 @@ use Rattle.ifmap_elem.specs.declared.elements.Name as element
 use Rattle.ifmap_prefixes.specs.ifmap_reader.declared.scoping.Scope.{Scope}
 use Rattle.ifmap_filter.specs.declared.filters.Predicate.{Predicate, Or}
 use Rattle.ifmap_filter.specs.declared.filters.Test.{Test}
-use Rattle.ifmap_filter.specs.declared.standing.OuterPart.{OuterPart}
-use Rattle.ifmap_filter.specs.declared.standing.OpenPart.{OpenPart}
-use Rattle.ifmap_filter.specs.declared.standing.Operand.{Operand}
-use Rattle.ifmap_filter.specs.declared.marks.Mark.{Mark}
-use Rattle.ifmap_filter.specs.declared.marks.Mark.TheVariants as mark
+use Rattle.ifmap_filter.specs.declared.progress.OuterPart.{OuterPart}
+use Rattle.ifmap_filter.specs.declared.progress.OpenPart.{OpenPart}
+use Rattle.ifmap_filter.specs.declared.progress.Operand.{Operand}
+use Rattle.ifmap_filter.specs.declared.raw_tokens.RawToken.{RawToken}
+use Rattle.ifmap_filter.specs.declared.raw_tokens.RawToken.TheVariants as raw
 use Rattle.ifmap_filter.specs.Grammar.{depth_limit}
-use Rattle.ifmap_filter.specs.Marks.{token_of}
+use Rattle.ifmap_filter.specs.RawTokens.{token_of}
 use Rattle.ifmap_filter.specs.Progress.{Context, FactorDue, context, join_parts, inner_context, inner_place, IsNotSingle, step_done, step_equals, step_factor, step_literal, step_local, step_named, step_test, step_tested, test_of}
 
 pub depth_limit_is : depth_limit ≡ 64
@@ -50,79 +50,79 @@ more_than_one (o ∷ (q ∷ os)) p some = refl
 
 -- marks that are not allowed at a place
 
-abbrev pub IsNoName : Mark → Type 0
-IsNoName m = (prefix local : _) → m ≢ mark.Name prefix local
+abbrev pub IsNoName : RawToken → Type 0
+IsNoName m = (prefix local : _) → m ≢ raw.Name prefix local
 
-abbrev pub IsNoLiteral : Mark → Type 0
-IsNoLiteral m = (value : _) → m ≢ mark.Literal value
+abbrev pub IsNoLiteral : RawToken → Type 0
+IsNoLiteral m = (value : _) → m ≢ raw.Literal value
 
--- what holds of each kind of mark, where the mark is of that kind, holds of the mark
-by_kind : (P : Mark → Type 0) (m : Mark)
-    → (m ≡ mark.Any → P mark.Any) → (m ≡ mark.OpenBracket → P mark.OpenBracket) → (m ≡ mark.CloseBracket → P mark.CloseBracket)
-    → (m ≡ mark.OpenParenthesis → P mark.OpenParenthesis) → (m ≡ mark.CloseParenthesis → P mark.CloseParenthesis)
-    → (m ≡ mark.EqualsSign → P mark.EqualsSign) → (m ≡ mark.At → P mark.At)
-    → ((prefix local : _) → m ≡ mark.Name prefix local → P (mark.Name prefix local))
-    → ((value : _) → m ≡ mark.Literal value → P (mark.Literal value)) → P m
-by_kind P mark.Any on_any on_open on_close on_group on_end on_equals on_at on_name on_literal = on_any refl
-by_kind P mark.OpenBracket on_any on_open on_close on_group on_end on_equals on_at on_name on_literal = on_open refl
-by_kind P mark.CloseBracket on_any on_open on_close on_group on_end on_equals on_at on_name on_literal = on_close refl
-by_kind P mark.OpenParenthesis on_any on_open on_close on_group on_end on_equals on_at on_name on_literal = on_group refl
-by_kind P mark.CloseParenthesis on_any on_open on_close on_group on_end on_equals on_at on_name on_literal = on_end refl
-by_kind P mark.EqualsSign on_any on_open on_close on_group on_end on_equals on_at on_name on_literal = on_equals refl
-by_kind P mark.At on_any on_open on_close on_group on_end on_equals on_at on_name on_literal = on_at refl
-by_kind P (mark.Name prefix local) on_any on_open on_close on_group on_end on_equals on_at on_name on_literal = on_name prefix local refl
-by_kind P (mark.Literal value) on_any on_open on_close on_group on_end on_equals on_at on_name on_literal = on_literal value refl
+-- what holds of each kind of raw, where the raw is of that kind, holds of the raw
+by_kind : (P : RawToken → Type 0) (m : RawToken)
+    → (m ≡ raw.Any → P raw.Any) → (m ≡ raw.OpenBracket → P raw.OpenBracket) → (m ≡ raw.CloseBracket → P raw.CloseBracket)
+    → (m ≡ raw.OpenParenthesis → P raw.OpenParenthesis) → (m ≡ raw.CloseParenthesis → P raw.CloseParenthesis)
+    → (m ≡ raw.EqualsSign → P raw.EqualsSign) → (m ≡ raw.At → P raw.At)
+    → ((prefix local : _) → m ≡ raw.Name prefix local → P (raw.Name prefix local))
+    → ((value : _) → m ≡ raw.Literal value → P (raw.Literal value)) → P m
+by_kind P raw.Any on_any on_open on_close on_group on_end on_equals on_at on_name on_literal = on_any refl
+by_kind P raw.OpenBracket on_any on_open on_close on_group on_end on_equals on_at on_name on_literal = on_open refl
+by_kind P raw.CloseBracket on_any on_open on_close on_group on_end on_equals on_at on_name on_literal = on_close refl
+by_kind P raw.OpenParenthesis on_any on_open on_close on_group on_end on_equals on_at on_name on_literal = on_group refl
+by_kind P raw.CloseParenthesis on_any on_open on_close on_group on_end on_equals on_at on_name on_literal = on_end refl
+by_kind P raw.EqualsSign on_any on_open on_close on_group on_end on_equals on_at on_name on_literal = on_equals refl
+by_kind P raw.At on_any on_open on_close on_group on_end on_equals on_at on_name on_literal = on_at refl
+by_kind P (raw.Name prefix local) on_any on_open on_close on_group on_end on_equals on_at on_name on_literal = on_name prefix local refl
+by_kind P (raw.Literal value) on_any on_open on_close on_group on_end on_equals on_at on_name on_literal = on_literal value refl
 
-pub test_refused : (scope : Scope) (done : List Test) (m : Mark) → m ≢ mark.Any → IsNoName m
+pub test_refused : (scope : Scope) (done : List Test) (m : RawToken) → m ≢ raw.Any → IsNoName m
     → None ≡ step_test scope done (token_of m)
 test_refused scope done m no_Any no_Name =
     by_kind (λ n. None ≡ step_test scope done (token_of n)) m
     (λ e. absurd (no_Any e)) (λ e. refl) (λ e. refl) (λ e. refl) (λ e. refl) (λ e. refl) (λ e. refl)
     (λ prefix local e. absurd (no_Name prefix local e)) (λ value e. refl)
 
-pub tested_refused : (done : List Test) (m : Mark) → IsNoName m
+pub tested_refused : (done : List Test) (m : RawToken) → IsNoName m
     → None ≡ step_tested done (token_of m)
 tested_refused done m no_Name =
     by_kind (λ n. None ≡ step_tested done (token_of n)) m
     (λ e. refl) (λ e. refl) (λ e. refl) (λ e. refl) (λ e. refl) (λ e. refl) (λ e. refl)
     (λ prefix local e. absurd (no_Name prefix local e)) (λ value e. refl)
 
-pub factor_refused : (scope : Scope) (c : Context) (m : Mark) → m ≢ mark.OpenParenthesis → m ≢ mark.At → IsNoName m
+pub factor_refused : (scope : Scope) (c : Context) (m : RawToken) → m ≢ raw.OpenParenthesis → m ≢ raw.At → IsNoName m
     → None ≡ step_factor scope c (token_of m)
 factor_refused scope c m no_OpenParenthesis no_At no_Name =
     by_kind (λ n. None ≡ step_factor scope c (token_of n)) m
     (λ e. refl) (λ e. refl) (λ e. refl) (λ e. absurd (no_OpenParenthesis e)) (λ e. refl) (λ e. refl) (λ e. absurd (no_At e))
     (λ prefix local e. absurd (no_Name prefix local e)) (λ value e. refl)
 
-pub local_refused : (c : Context) (m : Mark) → IsNoName m
+pub local_refused : (c : Context) (m : RawToken) → IsNoName m
     → None ≡ step_local c (token_of m)
 local_refused c m no_Name =
     by_kind (λ n. None ≡ step_local c (token_of n)) m
     (λ e. refl) (λ e. refl) (λ e. refl) (λ e. refl) (λ e. refl) (λ e. refl) (λ e. refl)
     (λ prefix local e. absurd (no_Name prefix local e)) (λ value e. refl)
 
-pub equals_refused : (c : Context) (a : Operand) (m : Mark) → m ≢ mark.EqualsSign
+pub equals_refused : (c : Context) (a : Operand) (m : RawToken) → m ≢ raw.EqualsSign
     → None ≡ step_equals c a (token_of m)
 equals_refused c a m no_EqualsSign =
     by_kind (λ n. None ≡ step_equals c a (token_of n)) m
     (λ e. refl) (λ e. refl) (λ e. refl) (λ e. refl) (λ e. refl) (λ e. absurd (no_EqualsSign e)) (λ e. refl) (λ prefix local e. refl)
     (λ value e. refl)
 
-pub literal_refused : (c : Context) (a : Operand) (m : Mark) → IsNoLiteral m
+pub literal_refused : (c : Context) (a : Operand) (m : RawToken) → IsNoLiteral m
     → None ≡ step_literal c a (token_of m)
 literal_refused c a m no_Literal =
     by_kind (λ n. None ≡ step_literal c a (token_of n)) m
     (λ e. refl) (λ e. refl) (λ e. refl) (λ e. refl) (λ e. refl) (λ e. refl) (λ e. refl) (λ prefix local e. refl)
     (λ value e. absurd (no_Literal value e))
 
-pub done_refused : (c : Context) (m : Mark) → IsNoName m → m ≢ mark.CloseParenthesis → m ≢ mark.CloseBracket
+pub done_refused : (c : Context) (m : RawToken) → IsNoName m → m ≢ raw.CloseParenthesis → m ≢ raw.CloseBracket
     → None ≡ step_done c (token_of m)
 done_refused c m no_Name no_CloseParenthesis no_CloseBracket =
     by_kind (λ n. None ≡ step_done c (token_of n)) m
     (λ e. refl) (λ e. refl) (λ e. absurd (no_CloseBracket e)) (λ e. refl) (λ e. absurd (no_CloseParenthesis e)) (λ e. refl)
     (λ e. refl) (λ prefix local e. absurd (no_Name prefix local e)) (λ value e. refl)
 
-pub named_other : (done : List Test) (name : Option element.Name) (m : Mark) → m ≢ mark.OpenBracket
+pub named_other : (done : List Test) (name : Option element.Name) (m : RawToken) → m ≢ raw.OpenBracket
     → step_named done name (token_of m) ≡ step_tested (done ++ test_of name None ∷ []) (token_of m)
 named_other done name m no_OpenBracket =
     by_kind (λ n. step_named done name (token_of n) ≡ step_tested (done ++ test_of name None ∷ []) (token_of n)) m

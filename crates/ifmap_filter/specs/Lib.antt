@@ -7,7 +7,7 @@ pub mod Texts
 pub mod Spaces
 pub mod Printing
 pub mod Lexing
-pub mod Marks
+pub mod RawTokens
 pub mod Laws
 pub mod Progress
 pub mod Reaching

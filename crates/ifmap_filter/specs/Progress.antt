@@ -14,13 +14,13 @@ use Rattle.ifmap_filter.specs.declared.filters.Test.{Test}
 use Rattle.ifmap_filter.specs.declared.filters.Filter.{Filter}
 use Rattle.ifmap_filter.specs.declared.tokens.FilterToken.{FilterToken}
 use Rattle.ifmap_filter.specs.declared.tokens.FilterToken.TheVariants.{Any, OpenBracket, CloseBracket, OpenParenthesis, CloseParenthesis, EqualsSign, At, Name, Literal}
-use Rattle.ifmap_filter.specs.declared.standing.OuterPart.{OuterPart}
-use Rattle.ifmap_filter.specs.declared.standing.OpenPart.{OpenPart}
-use Rattle.ifmap_filter.specs.declared.standing.Operand.{Operand}
-use Rattle.ifmap_filter.specs.declared.standing.Operand.TheVariants as operand
-use Rattle.ifmap_filter.specs.declared.standing.FilterPlace.{FilterPlace}
-use Rattle.ifmap_filter.specs.declared.standing.FilterPlace.TheVariants as place
-use Rattle.ifmap_filter.specs.declared.standing.FilterStanding.{FilterStanding}
+use Rattle.ifmap_filter.specs.declared.progress.OuterPart.{OuterPart}
+use Rattle.ifmap_filter.specs.declared.progress.OpenPart.{OpenPart}
+use Rattle.ifmap_filter.specs.declared.progress.Operand.{Operand}
+use Rattle.ifmap_filter.specs.declared.progress.Operand.TheVariants as operand
+use Rattle.ifmap_filter.specs.declared.progress.FilterPlace.{FilterPlace}
+use Rattle.ifmap_filter.specs.declared.progress.FilterPlace.TheVariants as place
+use Rattle.ifmap_filter.specs.declared.progress.FilterProgress.{FilterProgress}
 use Rattle.ifmap_filter.specs.Grammar.{IsFilter, TakesAnds, TakesFactor, TakesMore, TakesPredicate, TakesTest, and_word, unprefixed_name, depth_limit, join_of, or_word, space_of}
 
 -- the open or-part in a test's brackets, or in parentheses there: the tests before it, the name of its own, the or-parts round it, the
@@ -58,11 +58,11 @@ where_at place.EqualsDue i a = EqualsDue (context i) a
 where_at place.LiteralDue i a = LiteralDue (context i) a
 where_at place.FactorDone i a = FactorDone (context i)
 
-abbrev pub filter_state : FilterStanding → FilterState
+abbrev pub filter_state : FilterProgress → FilterState
 filter_state s = where_at s.place s.open_part s.operand
 
 -- the reader stands at this place where the token is allowed; where it is not there is none
-abbrev pub StandsAt : Bool → FilterStanding → Option FilterState → Type 0
+abbrev pub StandsAt : Bool → FilterProgress → Option FilterState → Type 0
 StandsAt true standing place = Some (filter_state standing) ≡ place
 StandsAt false standing place = None ≡ place
 

@@ -1,5 +1,5 @@
 //! Why no filter was read.
-use std::alloc::{AllocError, AllocFailed};
+use std::alloc::{AllocError as NoMemory, AllocFailed};
 use thiserror::Error;
 
 /// Why a text is not read as a filter.
@@ -13,13 +13,13 @@ pub enum FilterError {
     NoMemory,
 }
 
-impl From<AllocError> for FilterError {
+impl From<NoMemory> for FilterError {
     ghost use Rattle.std.specs.Prelude.{◌≡◌};
     ghost use Rattle.ifmap_filter.specs.declared.errors.FilterError.TheVariants.{NoMemory};
 
     ghost from_gives = { λ _ e. e ≡ NoMemory };
 
-    fn from(_: AllocError) -> Self {
+    fn from(_: NoMemory) -> Self {
         FilterError::NoMemory
     }
 }

@@ -4,17 +4,17 @@ ghost use Rattle.std.specs.Option.{option_map};
 ghost use Rattle.ifmap_elem.specs.Chars.{is_white};
 ghost use Rattle.ifmap_elem.specs.Names.{is_name_character};
 ghost use Rattle.ifmap_filter.specs.Lexing.{CutsCharacters};
-ghost use Rattle.ifmap_filter.specs.Marks.{IsFrontMark, token_of};
+ghost use Rattle.ifmap_filter.specs.RawTokens.{IsFrontToken, token_of};
 ghost use Rattle.ifmap_filter.specs.Tokens.{literal_at, name_at, prefixed_name_at, symbol_of, token_at, without_white};
 ghost use Rattle.ifmap_prefixes.specs.ifmap_lexer.Cutting.{is_but};
 ghost use Rattle.ifmap_prefixes.specs.ifmap_lexer.There.{is_quote};
 
-use crate::marks::Mark;
+use crate::raw_tokens::RawToken;
 use ifmap_prefixes::{is_name_character, is_name_start};
 
 // The token at the front, and what is left; none where no token stands there.
-pub(crate) fn token_at(text: &str) -> Option<(Mark<'_>, &str)>
-    ensures found { IfSome result (λ f. IsFrontMark (token_at (chars text.now)) f.0 f.1.now) }
+pub(crate) fn token_at(text: &str) -> Option<(RawToken<'_>, &str)>
+    ensures found { IfSome result (λ f. IsFrontToken (token_at (chars text.now)) f.0 f.1.now) }
     ensures none { IfNone result (token_at (chars text.now) ≡ None) }
 {
     let Some((first, rest)) = first_character(text) else {
@@ -27,7 +27,7 @@ pub(crate) fn token_at(text: &str) -> Option<(Mark<'_>, &str)>
         return name_at(text);
     }
     match symbol_of(first) {
-        Some(mark) => Some((mark, rest)),
+        Some(raw) => Some((raw, rest)),
         None => None,
     }
 }
@@ -51,23 +51,23 @@ fn is_quote(character: char) -> bool
 }
 
 // The token that is one character.
-fn symbol_of<'a>(character: char) -> Option<Mark<'a>>
+fn symbol_of<'a>(character: char) -> Option<RawToken<'a>>
     ensures { option_map token_of result ≡ symbol_of character }
 {
     if character == '*' {
-        Some(Mark::Any)
+        Some(RawToken::Any)
     } else if character == '[' {
-        Some(Mark::OpenBracket)
+        Some(RawToken::OpenBracket)
     } else if character == ']' {
-        Some(Mark::CloseBracket)
+        Some(RawToken::CloseBracket)
     } else if character == '(' {
-        Some(Mark::OpenParenthesis)
+        Some(RawToken::OpenParenthesis)
     } else if character == ')' {
-        Some(Mark::CloseParenthesis)
+        Some(RawToken::CloseParenthesis)
     } else if character == '=' {
-        Some(Mark::EqualsSign)
+        Some(RawToken::EqualsSign)
     } else if character == '@' {
-        Some(Mark::At)
+        Some(RawToken::At)
     } else {
         None
     }
@@ -98,14 +98,14 @@ fn is_white(character: char) -> bool
 }
 
 // The literal after its first quote, and what is left.
-fn literal_at(quote: char, text: &str) -> Option<(Mark<'_>, &str)>
+fn literal_at(quote: char, text: &str) -> Option<(RawToken<'_>, &str)>
     ensures found { IfSome result (λ f.
-        IsFrontMark (literal_at quote (chars text.now)) f.0 f.1.now) }
+        IsFrontToken (literal_at quote (chars text.now)) f.0 f.1.now) }
     ensures none { IfNone result (literal_at quote (chars text.now) ≡ None) }
 {
     let (own, closed) = split_literal(quote, text);
     match first_character(closed) {
-        Some((_quote, rest)) => Some((Mark::Literal(own), rest)),
+        Some((_quote, rest)) => Some((RawToken::Literal(own), rest)),
         None => None,
     }
 }
@@ -121,8 +121,8 @@ fn split_literal(quote: char, text: &str) -> (&str, &str)
 }
 
 // The name at the front, and what is left: a colon after its first part makes that a prefix.
-fn name_at(text: &str) -> Option<(Mark<'_>, &str)>
-    ensures found { IfSome result (λ f. IsFrontMark (name_at (chars text.now)) f.0 f.1.now) }
+fn name_at(text: &str) -> Option<(RawToken<'_>, &str)>
+    ensures found { IfSome result (λ f. IsFrontToken (name_at (chars text.now)) f.0 f.1.now) }
     ensures none { IfNone result (name_at (chars text.now) ≡ None) }
 {
     let (part, after) = split_name(text);
@@ -131,24 +131,24 @@ fn name_at(text: &str) -> Option<(Mark<'_>, &str)>
             if next == ':' {
                 prefixed_name_at(part, rest)
             } else {
-                Some((Mark::Name("", part), after))
+                Some((RawToken::Name("", part), after))
             }
         }
-        None => Some((Mark::Name("", part), after)),
+        None => Some((RawToken::Name("", part), after)),
     }
 }
 
 // The name of this prefix, after its colon, and what is left.
-fn prefixed_name_at<'a>(prefix: &'a str, text: &'a str) -> Option<(Mark<'a>, &'a str)>
+fn prefixed_name_at<'a>(prefix: &'a str, text: &'a str) -> Option<(RawToken<'a>, &'a str)>
     ensures found { IfSome result (λ f.
-        IsFrontMark (prefixed_name_at prefix.now (chars text.now)) f.0 f.1.now) }
+        IsFrontToken (prefixed_name_at prefix.now (chars text.now)) f.0 f.1.now) }
     ensures none { IfNone result (prefixed_name_at prefix.now (chars text.now) ≡ None) }
 {
     match first_character(text) {
         Some((first, _rest)) => {
             if is_name_start(first) {
                 let (part, rest) = split_name(text);
-                Some((Mark::Name(prefix, part), rest))
+                Some((RawToken::Name(prefix, part), rest))
             } else {
                 None
             }

@@ -8,13 +8,13 @@ pub mod filters;
 pub mod holding;
 pub mod laws;
 mod lexing;
-mod marks;
 pub mod matching;
 mod naming;
 pub mod parsing;
 pub mod printing;
+mod progress;
+mod raw_tokens;
 pub mod spaces;
-mod standing;
 pub mod tokens;
 
 pub use errors::FilterError;

@@ -7,7 +7,7 @@ ghost use Rattle.ifmap_filter.specs.Texts.{IsParsed};
 use crate::errors::FilterError;
 use crate::filters::Filter;
 use crate::lexing::{token_at, without_white};
-use crate::standing::{FilterStanding, filter_at, take_token};
+use crate::progress::{FilterProgress, filter_at, take_token};
 use ifmap_elem::Text;
 use ifmap_prefixes::rows::declarations_of;
 use ifmap_prefixes::{Declarations, Prefixes, Scope};
@@ -53,7 +53,7 @@ impl Filter {
 fn read_filter(alloc: Global, text: &str, scope: &Prefixes<'_, '_>) -> Result<Filter, FilterError>
     ensures { IsParsed text.now scope.now result }
 {
-    let mut standing = FilterStanding::new(alloc);
+    let mut standing = FilterProgress::new(alloc);
     let mut rest = without_white(text);
     while !rest.is_empty() {
         let at = (text.len() - rest.len()) as u64;
@@ -67,7 +67,7 @@ fn read_filter(alloc: Global, text: &str, scope: &Prefixes<'_, '_>) -> Result<Fi
 fn read_token<'a>(
     alloc: Global,
     scope: &Prefixes<'_, '_>,
-    standing: &mut FilterStanding,
+    standing: &mut FilterProgress,
     rest: &'a str,
     at: u64,
 ) -> Result<&'a str, FilterError>
@@ -77,10 +77,10 @@ fn read_token<'a>(
     ensures refused { IfErr result (λ e.
         IsRefused scope.now (filter_state standing.old) rest.now at e) }
 {
-    let Some((mark, after)) = token_at(rest) else {
+    let Some((raw, after)) = token_at(rest) else {
         return Err(FilterError::NotAFilter { at });
     };
-    let allowed = take_token(alloc, scope, standing, mark)?;
+    let allowed = take_token(alloc, scope, standing, raw)?;
     if !allowed {
         return Err(FilterError::NotAFilter { at });
     }
@@ -88,7 +88,7 @@ fn read_token<'a>(
 }
 
 // The filter, where the text may end here, at that place.
-fn whole_filter(alloc: Global, standing: FilterStanding, at: u64) -> Result<Filter, FilterError>
+fn whole_filter(alloc: Global, standing: FilterProgress, at: u64) -> Result<Filter, FilterError>
     ensures { IsEndAnswer (filter_state standing) at result }
 {
     match filter_at(alloc, standing)? {

@@ -12,7 +12,7 @@ use Rattle.ifmap_forms.specs.declared.errors.FormError.TheVariants.{Named, NoMem
 use Rattle.ifmap_forms.specs.Answers.{IsChecked, IsCheckedAs, IsCheckRefusal}
 use Rattle.ifmap_forms.specs.Checks.{Check, check_then, need, pass}
 use Rattle.ifmap_forms.specs.Scopes.{Scopes}
-use Rattle.ifmap_forms.specs.Tables.{Both, Form, AttributeTable, table_with, both, form_check, no_attributes, element_parts}
+use Rattle.ifmap_forms.specs.Tables.{Both, ElementForm, AttributeTable, table_with, both, form_check, no_attributes, element_parts}
 use Rattle.ifmap_forms.specs.Values.{Field, field_check}
 
 module _ {X Y : Type 0} (first : Check X) (second : X → Check Y) where
@@ -92,7 +92,7 @@ module _ {X Y : Type 0} (field : Field X) (table : AttributeTable Y) (scope : Sc
 
 -- ---- a form
 
-module _ {X A C : Type 0} (form : Form A C) (make : A → C → X) (scopes : Scopes) (e : Element) where
+module _ {X A C : Type 0} (form : ElementForm A C) (make : A → C → X) (scopes : Scopes) (e : Element) where
   abbrev only : Bool
   only = has_only (form.passed_over ++ form.attributes.locals) e
 

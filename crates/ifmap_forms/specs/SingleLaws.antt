@@ -23,7 +23,7 @@ use Rattle.ifmap_forms.specs.Items.{may_follow, only_identifier, start_content}
 use Rattle.ifmap_forms.specs.Scopes.{Scopes}
 use Rattle.ifmap_elem.specs.WhiteSpace.{is_blank_part}
 use Rattle.ifmap_elem.specs.Building.{is_name}
-use Rattle.ifmap_forms.specs.Tables.{ContentCheck, Form, Part, AttributeTable, table_with, both, each_element, form_or, no_attributes}
+use Rattle.ifmap_forms.specs.Tables.{ContentCheck, ElementForm, Part, AttributeTable, table_with, both, each_element, form_or, no_attributes}
 use Rattle.ifmap_forms.specs.Tables.{no_children, element_parts, read_form, form_check}
 use Rattle.ifmap_forms.specs.Values.{Field, field_check, read_text}
 
@@ -105,7 +105,7 @@ module _ {X Y : Type 0} (field : Field X) (table : AttributeTable Y) where
       (f scope (value_of field.local e))
       (λ x. then_single (table.reads scope e) (λ y. pass (both x y)) (t scope e) (λ y. pass_single (both x y)))
 
-module _ {A C : Type 0} (form : Form A C) where
+module _ {A C : Type 0} (form : ElementForm A C) where
   form_single : OneOfTable form.attributes → OneOfContent form.content → (scopes : Scopes) (e : Element)
       → IsSingle (read_form form scopes e)
   form_single t s scopes e =
@@ -118,7 +118,7 @@ module _ {A C : Type 0} (form : Form A C) where
       (then_single (form.content scopes (element_parts e)) (λ c. pass (both a c)) (s scopes (element_parts e))
       (λ c. pass_single (both a c))))
 
-module _ {X A C : Type 0} (form : Form A C) (make : A → C → X) where
+module _ {X A C : Type 0} (form : ElementForm A C) (make : A → C → X) where
   pub or_single : OneOfTable form.attributes → OneOfContent form.content → (scopes : Scopes) (e : Element) (other : Check X)
       → IsSingle other → IsSingle (form_or form make scopes e other)
   or_single t s scopes e other single =

@@ -85,7 +85,7 @@ module _ {X : Type 0} where
 -- ---- elements
 
 -- an element by its name, by attributes that are passed over, and by the tables of its attributes and of its children
-pub record Form (A C : Type 0) : Type 1 where
+pub record ElementForm (A C : Type 0) : Type 1 where
   pub name : Name
   pub passed_over : List (List ℕ)
   pub attributes : AttributeTable A
@@ -93,12 +93,12 @@ pub record Form (A C : Type 0) : Type 1 where
 
 module _ {A C : Type 0} where
   -- a form of an element in no namespace, where no further attribute is passed over
-  abbrev pub bare_form : List ℕ → AttributeTable A → ContentCheck C → Form A C
+  abbrev pub bare_form : List ℕ → AttributeTable A → ContentCheck C → ElementForm A C
   bare_form local attributes content =
       record { name = bare_name local; passed_over = []; attributes = attributes; content = content }
 
   -- its attributes in the table's order, then those that are not in the table, then its children
-  abbrev pub read_form : Form A C → Scopes → Element → Check (Both A C)
+  abbrev pub read_form : ElementForm A C → Scopes → Element → Check (Both A C)
   read_form form scopes e =
       check_then (form.attributes.reads (scopes []) e)
       (λ a. need (has_only (form.passed_over ++ form.attributes.locals) e) Failure
@@ -106,9 +106,9 @@ module _ {A C : Type 0} where
 
 module _ {X A C : Type 0} where
   -- what is made of what an element means by its attributes and its children
-  abbrev pub form_check : Form A C → (A → C → X) → Scopes → Element → Check X
+  abbrev pub form_check : ElementForm A C → (A → C → X) → Scopes → Element → Check X
   form_check form make scopes e = check_then (read_form form scopes e) (λ x. pass (make x.first x.others))
 
   -- what is meant by this form, where the element has its name, and else what another check finds
-  abbrev pub form_or : Form A C → (A → C → X) → Scopes → Element → Check X → Check X
+  abbrev pub form_or : ElementForm A C → (A → C → X) → Scopes → Element → Check X → Check X
   form_or form make scopes e other = check_if (is_name e.name form.name) (form_check form make scopes e) other

@@ -1,6 +1,6 @@
 //! Why an element is no part of a message.
 use ifmap_ident::{Code, IdentError};
-use std::alloc::{AllocError, AllocFailed};
+use std::alloc::{AllocError as NoMemory, AllocFailed};
 use thiserror::Error;
 
 /// Why an element is no part of a message.
@@ -15,13 +15,13 @@ pub enum FormError {
     NoMemory,
 }
 
-impl From<AllocError> for FormError {
+impl From<NoMemory> for FormError {
     ghost use Rattle.std.specs.Prelude.{◌≡◌};
     ghost use Rattle.ifmap_forms.specs.declared.errors.FormError.TheVariants.{NoMemory};
 
     ghost from_gives = { λ _ e. e ≡ NoMemory };
 
-    fn from(_: AllocError) -> Self {
+    fn from(_: NoMemory) -> Self {
         FormError::NoMemory
     }
 }

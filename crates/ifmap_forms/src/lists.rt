@@ -38,7 +38,7 @@ pub fn read_listed<R: MemberReader>(
     let index = list_index(all);
     let identifiers = read_front(alloc, all, index)?;
     let list = read_list::<R>(alloc, children, index)?;
-    listed_of(identifiers, list)
+    list_with_item(identifiers, list)
 }
 
 // The identifiers before the list at that index.
@@ -58,7 +58,7 @@ fn front(children: &[Child], index: usize) -> &[Child]
     &children[..index]
 }
 
-fn listed_of<T: Drop>(
+fn list_with_item<T: Drop>(
     identifiers: Vec<Identifier>,
     list: Option<Many<T>>,
 ) -> Result<Listed<T>, FormError>

@@ -68,7 +68,7 @@ fn text_of_entries(alloc: Global, entries: &Many<Entry>) -> Result<String, NoMem
 }
 
 // What is found, as `text_of_entries` tells it; a size that is too big.
-fn found_in(alloc: Global, lists: &Lists, search: &Search) -> Result<String, NoMemory>
+fn text_of_found(alloc: Global, lists: &Lists, search: &Search) -> Result<String, NoMemory>
     requires { IsIdentifier search.now.start }
 {
     match find(alloc, lists, search) {
@@ -81,7 +81,7 @@ fn found_in(alloc: Global, lists: &Lists, search: &Search) -> Result<String, NoM
 fn is_found(alloc: Global, lists: &Lists, search: &Search, wanted: &str) -> bool
     requires { IsIdentifier search.now.start }
 {
-    match found_in(alloc, lists, search) {
+    match text_of_found(alloc, lists, search) {
         Ok(told) => told.as_str() == wanted,
         Err(_) => false,
     }

@@ -16,9 +16,9 @@ use Rattle.ifmap_ident.specs.declared.items.Item.{Item}
 use Rattle.ifmap_ident.specs.Items.{item_order, items_tie, same_item}
 use Rattle.ifmap_graph.specs.declared.shelves.Shelf.{Shelf}
 use Rattle.ifmap_graph.specs.declared.shelves.Shelves.{Shelves}
-use Rattle.ifmap_graph.specs.Bringing.{BringsShelves, IsOther, flagged_items, named_of}
+use Rattle.ifmap_graph.specs.Bringing.{BringsShelves, IsOther, flagged_items, uses_by}
 use Rattle.ifmap_graph.specs.Drafted.{AreBare, NoDraft, ends_at}
-use Rattle.ifmap_graph.specs.Named.{named_by, named_in}
+use Rattle.ifmap_graph.specs.Named.{uses_of, uses_in}
 use Rattle.ifmap_graph.specs.Shelved.{AreShelved, slot_of_item}
 use Rattle.ifmap_graph.specs.Waits.{waits_of, waits_on, waits_there}
 use Rattle.ifmap_graph.proofs.Finding.{all_inserted}
@@ -70,7 +70,7 @@ other_parts : (xs ys : List Item) (x : Item) → IsOther (xs ++ ys) x → IsOthe
 other_parts [] ys x o = (tt, o)
 other_parts (z ∷ zs) ys x o = let p = other_parts zs ys x o.1 in ((o.0, p.0), p.1)
 
-named_joined : (xs ys : List Item) (a : Identifier) → named_of (xs ++ ys) a ≡ named_of xs a + named_of ys a
+named_joined : (xs ys : List Item) (a : Identifier) → uses_by (xs ++ ys) a ≡ uses_by xs a + uses_by ys a
 named_joined [] ys a = omega arith
 named_joined (x ∷ xs) ys a = omega (arith, named_joined xs ys a)
 
@@ -84,7 +84,7 @@ brings_none s t entries ends waits = record {
   places = λ x o. ap (lookup (is_at (item_order x))) entries;
   ends = λ x at e. ends at;
   waits = waits;
-  named = λ a. omega (arith, ap (λ es. named_in es a) entries);
+  named = λ a. omega (arith, ap (λ es. uses_in es a) entries);
 }
 
 -- first these, then those
@@ -138,7 +138,7 @@ brings_written items s t u p places ends waits = record {
   places = λ x o. ap (λ p. lookup (is_at (item_order x)) p.entries) places ∙ p.places x o;
   ends = λ x at e. ends at ∙ p.ends x at e;
   waits = λ x. waits x ∙ p.waits x;
-  named = λ a. ap (λ p. named_in p.entries a) places ∙ p.named a;
+  named = λ a. ap (λ p. uses_in p.entries a) places ∙ p.named a;
 }
 
 -- the shelf of one item comes
@@ -157,8 +157,8 @@ brings_one s t item at shelf is none updates inserts vacant has zero others = re
         ∙ sym (ap (waits_there (get s.slots)) (sym (place_tied s item x y) ∙ none))
     | inr f ↦ waits_same x f (slot_of_item s x) refl
   ];
-  named = λ a. ap (λ es. named_in es a) inserts ∙ comes s.places.entries item at a none
-      ∙ plus (named_by item a) (named_in s.places.entries a);
+  named = λ a. ap (λ es. uses_in es a) inserts ∙ comes s.places.entries item at a none
+      ∙ plus (uses_of item a) (uses_in s.places.entries a);
 }
   where
     plus : (n m : ℕ) → n + m ≡ (n + 0) + m
@@ -193,8 +193,8 @@ brings_taken s t item at here updates removes before zero = record {
     | inl y ↦ ap (waits_there (get s.slots)) (sym (place_tied s item x y)) ∙ zero ∙ sym (ap (waits_there (get t.slots)) (gone x y))
     | inr f ↦ waits_same x f (slot_of_item t x) refl
   ];
-  named = λ a. sym (goes s.places.entries item at a here) ∙ ap (λ es. named_by item a + named_in es a) (sym removes)
-      ∙ plus (named_by item a) (named_in t.places.entries a);
+  named = λ a. sym (goes s.places.entries item at a here) ∙ ap (λ es. uses_of item a + uses_in es a) (sym removes)
+      ∙ plus (uses_of item a) (uses_in t.places.entries a);
 }
   where
     plus : (n m : ℕ) → n + m ≡ (n + 0) + m

@@ -20,7 +20,7 @@ use Rattle.ifmap_pool.specs.Holdings.{Holdings, IsHeld, IsPool, Names, entry_at,
 use Rattle.ifmap_view.specs.declared.views.LinkSeen.{LinkSeen}
 use Rattle.ifmap_graph.specs.declared.shelves.Shelf.{Shelf}
 use Rattle.ifmap_graph.specs.Held.{IsInside, links_at}
-use Rattle.ifmap_graph.specs.Named.{AreEnds, AreIdentifiers, AreNumbered, HasEnds, named_by, named_in}
+use Rattle.ifmap_graph.specs.Named.{AreEnds, AreIdentifiers, AreNumbered, HasEnds, uses_of, uses_in}
 use Rattle.ifmap_graph.specs.Shelved.{IsPlaced, ItemsRise, list_at}
 use Rattle.ifmap_graph.specs.Sides.{Sides, list_next, list_now}
 use Rattle.ifmap_graph.specs.Turning.{sides_at}
@@ -77,7 +77,7 @@ pub inside_comes : (old new : Holdings Identifier) (look later : ℕ → Option 
     (item : Item) (at : ℕ)
     (shelf : Shelf) → IsInside old look es links → IsPlaced later entries → ((n : ℕ) → IsSome (later n) → (k : Item) × Has entries (k, n))
     → AreNumbered new later entries → IsPool identifier_order new → AreIdentifiers new → new.limit ≤ length links
-    → ((a : Identifier) (count : ℕ) → IsHeld identifier_order old a count → IsHeld identifier_order new a (count + named_by item a))
+    → ((a : Identifier) (count : ℕ) → IsHeld identifier_order old a count → IsHeld identifier_order new a (count + uses_of item a))
     → lookup (is_at (item_order item)) es ≡ None → entries ≡ insert_entry item_order es item at → look at ≡ None → later at ≡ Some shelf
     → shelf.stored ≡ record { now = []; draft = None } → ((o : ℕ) → o ≢ at → later o ≡ look o) → IsInside new later entries links
 inside_comes old new look later es entries links item at shelf is placed used numbered pool keys table held none inserts vacant there
@@ -92,9 +92,9 @@ inside_comes old new look later es entries links item at shelf is placed used nu
           in (
             h.0,
             subst (λ (n : ℕ). IsHeld identifier_order new a n)
-                (counts_add (named_in es a) h.0 (named_by item a) ∙ ap (λ n. n + h.0)
-                (sym (ap (λ l. named_in l a) inserts ∙ comes es item at a none)))
-                (held a (named_in es a + h.0) h.1),
+                (counts_add (uses_in es a) h.0 (uses_of item a) ∙ ap (λ n. n + h.0)
+                (sym (ap (λ l. uses_in l a) inserts ∙ comes es item at a none)))
+                (held a (uses_in es a + h.0) h.1),
           );
       table = λ v s. let k = pool.below v s in omega (arith, k, table);
       side = side_comes list_now look later at (ap (list_at list_now) vacant)
@@ -146,18 +146,18 @@ module _ (old new : Holdings Identifier) (look later : ℕ → Option Shelf) (es
       (rises : ItemsRise entries) (pool : IsPool identifier_order new) (keys : AreIdentifiers new)
       (before : (v : ℕ) (a : Identifier) → Names identifier_order new v a → Names identifier_order old v a)
       (held : (i : Item) (a : Identifier) (count : ℕ) → AreEnds old i shelf.ends → IsHeld identifier_order old a count
-      → IsHeld identifier_order new a (count - named_by i a)) where
-    pub own_stays : (a : Identifier) (own : ℕ) → IsHeld identifier_order old a (named_in es a + own) → IsHeld identifier_order new a
-        (named_in entries a + own)
+      → IsHeld identifier_order new a (count - uses_of i a)) where
+    pub own_stays : (a : Identifier) (own : ℕ) → IsHeld identifier_order old a (uses_in es a + own) → IsHeld identifier_order new a
+        (uses_in entries a + own)
     own_stays a own h =
-        let left : named_by item a + named_in entries a ≡ named_in es a = ap (λ l. named_by item a + named_in l a) removes
+        let left : uses_of item a + uses_in entries a ≡ uses_in es a = ap (λ l. uses_of item a + uses_in l a) removes
         ∙ goes es item at a here
         in subst (λ (n : ℕ). IsHeld identifier_order new a n)
-        (counts_less (named_in es a) (named_in entries a) own (named_by entry_there.0 a) (named_by item a) left
+        (counts_less (uses_in es a) (uses_in entries a) own (uses_of entry_there.0 a) (uses_of item a) left
         (named_tied item entry_there.0 a entry_there.2))
-        (held entry_there.0 a (named_in es a + own) its_ends h)
+        (held entry_there.0 a (uses_in es a + own) its_ends h)
 
-    still_held : (a : Identifier) → (own : ℕ) × IsHeld identifier_order new a (named_in entries a + own)
+    still_held : (a : Identifier) → (own : ℕ) × IsHeld identifier_order new a (uses_in entries a + own)
     still_held a = let h = is.held a in (h.0, own_stays a h.0 h.1)
 
     pub inside_goes : IsInside new later entries links
@@ -200,8 +200,8 @@ inside_held old new look es links id is kept pool keys room held = record {
       let h = is.held a
       in (
         h.0 + once identifier_order id a,
-        subst (λ (n : ℕ). IsHeld identifier_order new a n) (add_two (named_in es a) h.0 (once identifier_order id a))
-            (held a (named_in es a + h.0) h.1),
+        subst (λ (n : ℕ). IsHeld identifier_order new a n) (add_two (uses_in es a) h.0 (once identifier_order id a))
+            (held a (uses_in es a + h.0) h.1),
       );
   table = λ v s. let k = pool.below v s in omega (arith, k, room);
   side = is.side;

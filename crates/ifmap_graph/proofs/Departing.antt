@@ -10,29 +10,29 @@ use Rattle.ifmap_pool.specs.Holdings.{Holdings, IsHeld, IsPool, Names}
 use Rattle.ifmap_graph.specs.declared.ends.Ends as the_ends
 use Rattle.ifmap_graph.specs.declared.ends.Ends.TheVariants as ends
 use Rattle.ifmap_graph.specs.declared.shelves.Shelf.{Shelf}
-use Rattle.ifmap_graph.specs.Named.{AreEnds, AreNumbered, HasEnds, named_by, named_in}
+use Rattle.ifmap_graph.specs.Named.{AreEnds, AreNumbered, HasEnds, uses_of, uses_in}
 use Rattle.ifmap_graph.proofs.Shelving.{Entries}
 use Rattle.ifmap_graph.specs.NumberLaws.{once_itself}
 
-named_has : (es : Entries) (e : Item × ℕ) (a : Identifier) → Has es e → named_by e.0 a ≤ named_in es a
+named_has : (es : Entries) (e : Item × ℕ) (a : Identifier) → Has es e → uses_of e.0 a ≤ uses_in es a
 named_has [] e a h = absurd h
-named_has (x ∷ xs) e a (inl p) = let q : named_by x.0 a ≡ named_by e.0 a = ap (λ y. named_by y.0 a) p in omega (arith, q)
+named_has (x ∷ xs) e a (inl p) = let q : uses_of x.0 a ≡ uses_of e.0 a = ap (λ y. uses_of y.0 a) p in omega (arith, q)
 named_has (x ∷ xs) e a (inr h) = omega (arith, named_has xs e a h)
 
 module _ (old new : Holdings Identifier) (pool : IsPool identifier_order old)
     (before : (v : ℕ) (a : Identifier) → Names identifier_order new v a → Names identifier_order old v a)
-    (all : Entries) (held : (a : Identifier) → (own : ℕ) × IsHeld identifier_order new a (named_in all a + own)) where
-  stays_named : (v : ℕ) (a : Identifier) → 1 ≤ named_in all a → Names identifier_order old v a → Names identifier_order new v a
+    (all : Entries) (held : (a : Identifier) → (own : ℕ) × IsHeld identifier_order new a (uses_in all a + own)) where
+  stays_named : (v : ℕ) (a : Identifier) → 1 ≤ uses_in all a → Names identifier_order old v a → Names identifier_order new v a
   stays_named v a least n = by (held a).0 (held a).1
     where
-      by : (own : ℕ) → IsHeld identifier_order new a (named_in all a + own) → Names identifier_order new v a
+      by : (own : ℕ) → IsHeld identifier_order new a (uses_in all a + own) → Names identifier_order new v a
       by own (inl h) = subst (λ k. Names identifier_order new k a) (pool.one_to_one h.0 v a (before h.0 a h.1) n) h.1
       by own (inr h) = absurd (omega (arith, least, h.1))
 
   ends_stay : (e : Item × ℕ) → Has all e → (x : the_ends.Ends) → AreEnds old e.0 x → AreEnds new e.0 x
   ends_stay e h x n = by e.0 x n (λ a. named_has all e a h)
     where
-      by : (item : Item) (x : the_ends.Ends) → AreEnds old item x → ((a : Identifier) → named_by item a ≤ named_in all a)
+      by : (item : Item) (x : the_ends.Ends) → AreEnds old item x → ((a : Identifier) → uses_of item a ≤ uses_in all a)
           → AreEnds new item x
       by (One a) (ends.One v) n m = stays_named v a (omega (arith, m a, once_itself a)) n
       by (Pair a b) (ends.Pair v w) n m =

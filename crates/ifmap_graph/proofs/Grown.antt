@@ -12,7 +12,7 @@ use Rattle.ifmap_view.specs.declared.views.LinkSeen.{LinkSeen}
 use Rattle.slab.specs.Slab.{get}
 use Rattle.ifmap_graph.specs.declared.shelves.Shelves.{Shelves}
 use Rattle.ifmap_graph.specs.Bringing.{AreGrown, AreInside, BringsShelves, HasOwn, HaveFewOwn, Parts, flagged_items, graph_parts}
-use Rattle.ifmap_graph.specs.Named.{named_by, named_in}
+use Rattle.ifmap_graph.specs.Named.{uses_of, uses_in}
 use Rattle.ifmap_graph.specs.Shelved.{slot_of_item}
 use Rattle.ifmap_graph.specs.Sides.{Sides}
 use Rattle.ifmap_graph.specs.Turning.{sides_at}
@@ -62,14 +62,14 @@ grown_room names more s links longer live pool same long is = record {
   links = same;
   longer = long;
   kept = names_alike names more live;
-  own = λ a own h. held_alike names more live a (named_in s.places.entries a + own) h;
+  own = λ a own h. held_alike names more live a (uses_in s.places.entries a + own) h;
 }
 
-by_most : (i : Item) (a : Identifier) → named_by i a ≤ 2
+by_most : (i : Item) (a : Identifier) → uses_of i a ≤ 2
 by_most (One b) a = omega (arith, once_few b a)
 by_most (Pair b c) a = omega (arith, once_few b a, once_few c a)
 
-in_most : (es : Entries) (a : Identifier) → named_in es a ≤ 2 * length es
+in_most : (es : Entries) (a : Identifier) → uses_in es a ≤ 2 * length es
 in_most [] a = omega arith
 in_most (e ∷ es) a = omega (arith, by_most e.0 a, in_most es a)
 
@@ -84,7 +84,7 @@ few_holds p is few small v = by (entry_at p.names v) refl
     held_so : (a : Identifier) → Names identifier_order p.names v a → (own : ℕ) → HasOwn p a own → own < 2 ^ 32
         → holds_at p.names v < 2 ^ 64 - 2
     held_so a n own (inl h) less =
-        let same : holds_at p.names v ≡ named_in p.shelves.places.entries a + own
+        let same : holds_at p.names v ≡ uses_in p.shelves.places.entries a + own
         = ap (holds_at p.names) (is.pool.one_to_one v h.0 a n h.1) ∙ h.2
         in omega (arith, same, in_most p.shelves.places.entries a, small, less)
     held_so a n own (inr h) less = absurd (h.0 v n)

@@ -22,7 +22,7 @@ use Rattle.ifmap_pool.specs.Holdings.{Frees, Holdings, HoldsAgain, IsAbsent, IsH
 use Rattle.ifmap_graph.specs.declared.ends.Ends as the_ends
 use Rattle.ifmap_graph.specs.declared.ends.Ends.TheVariants as ends
 use Rattle.ifmap_graph.specs.declared.shelves.Shelf.{Shelf}
-use Rattle.ifmap_graph.specs.Named.{AreEnds, AreIdentifiers, AreNumbered, HasEnds, named_by}
+use Rattle.ifmap_graph.specs.Named.{AreEnds, AreIdentifiers, AreNumbered, HasEnds, uses_of}
 use Rattle.ifmap_graph.proofs.Alike.{alike_equal, equal_alike}
 
 pub add_two : (n x y : ℕ) → (n + x) + y ≡ n + (x + y)
@@ -187,7 +187,7 @@ module _ (old new : Holdings Identifier) (v : ℕ) where
   pub one_released : ((a other : Identifier) (count : ℕ) → Names identifier_order old v a → IsHeld identifier_order old other count
       → IsHeld identifier_order new other (count - once identifier_order a other))
       → (item : Item) (other : Identifier) (count : ℕ) → AreEnds old item (ends.One v) → IsHeld identifier_order old other count
-      → IsHeld identifier_order new other (count - named_by item other)
+      → IsHeld identifier_order new other (count - uses_of item other)
   one_released held (One a) other count n h = held a other count n h
   one_released held (Pair a b) other count n h = absurd n
 
@@ -200,8 +200,8 @@ module _ (old new : Holdings Identifier) (v w : ℕ) where
   pair_live (Pair a b) i n = (a, b, i, n.0, n.1)
 
   pub pair_released : ((a b other : Identifier) (count : ℕ) → Names identifier_order old v a → Names identifier_order old w b
-      → IsHeld identifier_order old other count → IsHeld identifier_order new other (count - named_by (Pair a b) other))
+      → IsHeld identifier_order old other count → IsHeld identifier_order new other (count - uses_of (Pair a b) other))
       → (item : Item) (other : Identifier) (count : ℕ) → AreEnds old item (ends.Pair v w) → IsHeld identifier_order old other count
-      → IsHeld identifier_order new other (count - named_by item other)
+      → IsHeld identifier_order new other (count - uses_of item other)
   pair_released held (One a) other count n h = absurd n
   pair_released held (Pair a b) other count n h = held a b other count n.0 n.1 h

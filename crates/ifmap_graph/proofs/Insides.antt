@@ -19,7 +19,7 @@ use Rattle.ifmap_graph.specs.declared.shelves.Shelf.{Shelf}
 use Rattle.ifmap_graph.specs.Held.{IsSide, shown_shelves}
 use Rattle.ifmap_graph.specs.Joined.{AreJoined, AreSingle, IsNumber, joined_pair, two_of}
 use Rattle.ifmap_graph.specs.Linked.{JoinsNumbers}
-use Rattle.ifmap_graph.specs.Named.{AreEnds, AreIdentifiers, AreNumbered, HasEnds, named_by, named_in}
+use Rattle.ifmap_graph.specs.Named.{AreEnds, AreIdentifiers, AreNumbered, HasEnds, uses_of, uses_in}
 use Rattle.ifmap_graph.specs.Shelved.{IsPlaced, StoredSide, list_at, row_on, rows_by}
 use Rattle.ifmap_graph.proofs.Alike.{alike_equal, equal_alike}
 use Rattle.ifmap_graph.proofs.Graphs.{graph_is}
@@ -34,9 +34,9 @@ rows_shown side look [] = refl
 rows_shown side look (e ∷ es) = ap (λ l. map (row_on e.0) (list_at side (look e.1)) ++ l) (rows_shown side look es)
 
 -- and they name the same
-pub named_shown : (look : ℕ → Option Shelf) (es : List (Item × ℕ)) (a : Identifier) → named_in (shown_shelves look es) a ≡ named_in es a
+pub named_shown : (look : ℕ → Option Shelf) (es : List (Item × ℕ)) (a : Identifier) → uses_in (shown_shelves look es) a ≡ uses_in es a
 named_shown look [] a = refl
-named_shown look (e ∷ es) a = ap (λ n. named_by e.0 a + n) (named_shown look es a)
+named_shown look (e ∷ es) a = ap (λ n. uses_of e.0 a + n) (named_shown look es a)
 
 -- an item is looked up among shelves as among entries
 pub lookup_shown : (look : ℕ → Option Shelf) (test : Item → Bool) (es : List (Item × ℕ))

@@ -19,7 +19,7 @@ use Rattle.ifmap_ident.specs.Identifiers.{identifier_order}
 use Rattle.ifmap_ident.specs.Items.{IsCanonItem, item_order}
 use Rattle.ifmap_pool.specs.Holdings.{once}
 use Rattle.ifmap_graph.specs.declared.shelves.Shelf.{Shelf}
-use Rattle.ifmap_graph.specs.Named.{named_by, named_in}
+use Rattle.ifmap_graph.specs.Named.{uses_of, uses_in}
 use Rattle.ifmap_graph.specs.Shelved.{IsPlaced, ItemsRise, StoredSide, list_at, row_on, rows_by}
 use Rattle.ifmap_graph.proofs.Alike.{Alike, one_tied, order_alike, pair_tied}
 use Rattle.ifmap_graph.proofs.Finding.{all_left, leaves}
@@ -30,42 +30,42 @@ swapped x y z = omega arith
 
 -- a new entry counts once for each identifier that it names
 pub comes : (es : Entries) (item : Item) (at : ℕ) (a : Identifier) → lookup (is_at (item_order item)) es ≡ None
-    → named_in (insert_entry item_order es item at) a ≡ named_by item a + named_in es a
+    → uses_in (insert_entry item_order es item at) a ≡ uses_of item a + uses_in es a
 comes [] item at a h = refl
 comes (e ∷ es) item at a h = by (item_order item e.0) refl (comes es item at a)
   where
     by : (o : Ordering) → item_order item e.0 ≡ o
-        → (lookup (is_at (item_order item)) es ≡ None → named_in (insert_entry item_order es item at) a ≡ named_by item a + named_in es a)
-        → named_in (match_ordering o ((item, at) ∷ e ∷ es) ((e.0, at) ∷ es) (e ∷ insert_entry item_order es item at)) a ≡ named_by item a
-        + named_in (e ∷ es) a
+        → (lookup (is_at (item_order item)) es ≡ None → uses_in (insert_entry item_order es item at) a ≡ uses_of item a + uses_in es a)
+        → uses_in (match_ordering o ((item, at) ∷ e ∷ es) ((e.0, at) ∷ es) (e ∷ insert_entry item_order es item at)) a ≡ uses_of item a
+        + uses_in (e ∷ es) a
     by Less is rest = refl
     by Equal is rest = let t : is_at (item_order item) e.0 ≡ true = ap is_eq is in absurd (none-some _ (sym (rw t at h)))
     by Greater is rest =
         let t : is_at (item_order item) e.0 ≡ false = ap is_eq is
-        in let q : named_in (insert_entry item_order es item at) a ≡ named_by item a + named_in es a = rest (rw t at h)
-        in ap (λ n. named_by e.0 a + n) q ∙ swapped (named_by e.0 a) (named_by item a) (named_in es a)
+        in let q : uses_in (insert_entry item_order es item at) a ≡ uses_of item a + uses_in es a = rest (rw t at h)
+        in ap (λ n. uses_of e.0 a + n) q ∙ swapped (uses_of e.0 a) (uses_of item a) (uses_in es a)
 
 once_alike : (a b other : Identifier) → Alike a b → once identifier_order a other ≡ once identifier_order b other
 once_alike a b other e = ap (λ o. cond (is_eq o) 1 0) (order_alike b other a other e refl)
 
 -- items that tie name the same
-pub named_tied : (item x : Item) (a : Identifier) → item_order item x ≡ Equal → named_by x a ≡ named_by item a
+pub named_tied : (item x : Item) (a : Identifier) → item_order item x ≡ Equal → uses_of x a ≡ uses_of item a
 named_tied (One b) x a e =
     let t = one_tied b x e
-    in ap (λ i. named_by i a) t.1 ∙ once_alike t.0 b a t.2
+    in ap (λ i. uses_of i a) t.1 ∙ once_alike t.0 b a t.2
 named_tied (Pair b c) x a e =
     let t = pair_tied b c x e
-    in ap (λ i. named_by i a) t.2 ∙ ap (λ n. n + once identifier_order t.1 a) (once_alike t.0 b a t.3)
+    in ap (λ i. uses_of i a) t.2 ∙ ap (λ n. n + once identifier_order t.1 a) (once_alike t.0 b a t.3)
     ∙ ap (λ n. once identifier_order b a + n) (once_alike t.1 c a t.4)
 
 pub goes : (es : Entries) (item : Item) (at : ℕ) (a : Identifier) → lookup (is_at (item_order item)) es ≡ Some at
-    → named_by item a + named_in (remove_entry (is_at (item_order item)) es) a ≡ named_in es a
+    → uses_of item a + uses_in (remove_entry (is_at (item_order item)) es) a ≡ uses_in es a
 goes [] item at a h = absurd (none-some _ h)
 goes (e ∷ es) item at a h = elim (cases_Bool (is_at (item_order item) e.0)) [
-  | inl t ↦ rw t (ap (λ n. n + named_in es a) (sym (named_tied item e.0 a ((Equal-is (item_order item e.0)).0 t))))
-  | inr t ↦ let q : named_by item a + named_in (remove_entry (is_at (item_order item)) es) a ≡ named_in es a = goes es item at a (rw t at h)
-      in rw t (swapped (named_by item a) (named_by e.0 a) (named_in (remove_entry (is_at (item_order item)) es) a)
-      ∙ ap (λ n. named_by e.0 a + n) q)
+  | inl t ↦ rw t (ap (λ n. n + uses_in es a) (sym (named_tied item e.0 a ((Equal-is (item_order item e.0)).0 t))))
+  | inr t ↦ let q : uses_of item a + uses_in (remove_entry (is_at (item_order item)) es) a ≡ uses_in es a = goes es item at a (rw t at h)
+      in rw t (swapped (uses_of item a) (uses_of e.0 a) (uses_in (remove_entry (is_at (item_order item)) es) a)
+      ∙ ap (λ n. uses_of e.0 a + n) q)
 ]
 
 others_apart : (at : ℕ) (es : Entries) → AllByRecursion (λ y. nat_eq at y ≡ false) (slots_of es) → AllByRecursion (λ e. e.1 ≢ at) es

@@ -18,7 +18,7 @@ use Rattle.ifmap_graph.specs.declared.shelves.Shelf.{Shelf}
 use Rattle.ifmap_graph.specs.declared.shelves.Shelves.{Shelves}
 use Rattle.ifmap_graph.specs.Drafted.{AreBare, NoDraft, ends_at}
 use Rattle.ifmap_graph.specs.Held.{IsInside}
-use Rattle.ifmap_graph.specs.Named.{named_in}
+use Rattle.ifmap_graph.specs.Named.{uses_in}
 use Rattle.ifmap_graph.specs.Releasing.{IsLess}
 use Rattle.ifmap_graph.specs.Shelved.{AreShelved, HasEmptyShelf, ItemsRise, list_at, slot_of_item, rows_by, rows_on_side}
 use Rattle.ifmap_graph.specs.Sides.{Sides, list_next, list_now}
@@ -77,7 +77,7 @@ module _ (names : Holdings Identifier) (s t : Shelves) (later : AreShelved t) (p
     before = λ x at e. (sym (ap (λ p. lookup (is_at (item_order x)) p.entries) places) ∙ e, ends at);
     full = λ x n. ap (λ p. lookup (is_at (item_order x)) p.entries) places;
     named = λ v a n. n;
-    own = λ a own h. subst (λ p. IsHeld identifier_order names a (named_in p.entries a + own)) (sym places) h;
+    own = λ a own h. subst (λ p. IsHeld identifier_order names a (uses_in p.entries a + own)) (sym places) h;
   }
 
 -- on items that tie the same is stored
@@ -98,8 +98,8 @@ pub less_removed : (names left : Holdings Identifier) (s t : Shelves) (item : It
     → ((x : Item) (at : ℕ) → slot_of_item t x ≡ Some at → (slot_of_item s x ≡ Some at) × (get t.slots at ≡ get s.slots at))
     → ((x : Item) → is_at (item_order item) x ≡ false → slot_of_item t x ≡ slot_of_item s x)
     → ((v : ℕ) (a : Identifier) → Names identifier_order left v a → Names identifier_order names v a)
-    → ((a : Identifier) (own : ℕ) → IsHeld identifier_order names a (named_in s.places.entries a + own)
-    → IsHeld identifier_order left a (named_in t.places.entries a + own))
+    → ((a : Identifier) (own : ℕ) → IsHeld identifier_order names a (uses_in s.places.entries a + own)
+    → IsHeld identifier_order left a (uses_in t.places.entries a + own))
     → IsLess names left s t
 less_removed names left s t item is later empty inside rows before others named own = record {
   inside = inside;

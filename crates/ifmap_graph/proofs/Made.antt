@@ -16,7 +16,7 @@ use Rattle.ifmap_graph.specs.declared.shelves.Shelves.{Shelves}
 use Rattle.ifmap_graph.specs.Bringing.{AreGrown, AreInside, BringsShelves, HasOwn, IsOther, Parts, graph_parts}
 use Rattle.ifmap_graph.specs.Drafted.{AreBare, AreOut, ends_at}
 use Rattle.ifmap_graph.specs.Making.{IsMade, IsUnmade}
-use Rattle.ifmap_graph.specs.Named.{named_in}
+use Rattle.ifmap_graph.specs.Named.{uses_in}
 use Rattle.ifmap_graph.specs.Out.{items_changed}
 use Rattle.ifmap_graph.specs.Shelved.{slot_of_item, rows_on_side}
 use Rattle.ifmap_graph.specs.Sides.{Sides, list_next, list_now}
@@ -56,7 +56,7 @@ made_by changes ways items first old t links grown brought inside rows after out
   links = λ v. kept.now v ∙ ap (λ s. s.now) (grown.links v);
   longer = omega (arith, grown.longer, kept.long);
   kept = grown.kept;
-  own = λ a own h. subst (λ p. IsHeld identifier_order old.names a (named_in p.entries a + own)) (sym places) (grown.own a own h);
+  own = λ a own h. subst (λ p. IsHeld identifier_order old.names a (uses_in p.entries a + own)) (sym places) (grown.own a own h);
   places = λ x at e.
       let o = other_absent first.shelves items x brought.absent (is_some_of (slot_of_item first.shelves x) at e)
       in (ap (λ p. lookup (is_at (item_order x)) p.entries) places ∙ brought.places x o ∙ e, ends at ∙ brought.ends x at e);
@@ -76,13 +76,13 @@ module _ (one two mid : Holdings Identifier) (first : IsPool identifier_order on
       = first.held v (subst (λ (o : Option (Identifier × ℕ)). IsSome o) (sym m.1) refl) in omega (arith, same, some)
   held_once v a n m (inr h) = absurd (h.0 v m)
 
-  named_by : (v : ℕ) (a : Identifier) (n : ℕ) → Names identifier_order one v a → 0 < n → IsHeld identifier_order two a n
+  uses_of : (v : ℕ) (a : Identifier) (n : ℕ) → Names identifier_order one v a → 0 < n → IsHeld identifier_order two a n
       → Names identifier_order two v a
-  named_by v a n m some (inl h) = subst (λ k. Names identifier_order two k a) (between.one_to_one h.0 v a (into h.0 a h.1) (from v a m)) h.1
-  named_by v a n m some (inr h) = absurd (omega (arith, some, h.1))
+  uses_of v a n m some (inl h) = subst (λ k. Names identifier_order two k a) (between.one_to_one h.0 v a (into h.0 a h.1) (from v a m)) h.1
+  uses_of v a n m some (inr h) = absurd (omega (arith, some, h.1))
 
   pub same_names : (v : ℕ) (a : Identifier) → Names identifier_order one v a → Names identifier_order two v a
-  same_names v a m = let c = counts a in named_by v a c.0 m (held_once v a c.0 m c.1) c.2
+  same_names v a m = let c = counts a in uses_of v a c.0 m (held_once v a c.0 m c.1) c.2
 
 pub unmade_by : (first : Parts) (mid left : Holdings Identifier) (t : Shelves) (links : List (Sides LinkSeen)) → AreInside first
     → IsPool identifier_order mid
@@ -109,9 +109,9 @@ unmade_by first mid left t links is pool inside bare none rows same longer own b
     counts : (a : Identifier) → (n : ℕ) × IsHeld identifier_order first.names a n × IsHeld identifier_order left a n
     counts a =
         let h = is.held a
-        in let e : named_in t.places.entries a + h.0 ≡ named_in first.shelves.places.entries a + h.0 = omega (arith, brought.named a)
+        in let e : uses_in t.places.entries a + h.0 ≡ uses_in first.shelves.places.entries a + h.0 = omega (arith, brought.named a)
         in (
-          named_in first.shelves.places.entries a + h.0,
+          uses_in first.shelves.places.entries a + h.0,
           h.1,
           subst (λ (n : ℕ). IsHeld identifier_order left a n) e (own a h.0 h.1),
         )

@@ -14,7 +14,7 @@ use Rattle.ifmap_pool.specs.Holdings.{Frees, Holdings, IsHeld, IsPool, LetsGo, N
 use Rattle.ifmap_view.specs.declared.views.LinkSeen.{LinkSeen}
 use Rattle.ifmap_graph.specs.declared.shelves.Shelf.{Shelf}
 use Rattle.ifmap_graph.specs.Held.{IsInside, shown_shelves}
-use Rattle.ifmap_graph.specs.Named.{AreIdentifiers, named_by, named_in}
+use Rattle.ifmap_graph.specs.Named.{AreIdentifiers, uses_of, uses_in}
 use Rattle.ifmap_graph.specs.Sides.{Sides}
 use Rattle.ifmap_graph.proofs.Alike.{Alike, alike_equal, equal_alike, order_alike}
 use Rattle.ifmap_graph.proofs.Changed.{all_same, own_less, was_live}
@@ -60,14 +60,14 @@ key_kept old new kept tells before after v a e = key_told new v a tells after (b
 once_tied : (x a b : Identifier) → Alike a b → once identifier_order x a ≡ once identifier_order x b
 once_tied x a b e = ap (λ o. cond (is_eq o) 1 0) (order_alike x b x a refl e)
 
-by_tied : (i : Item) (a b : Identifier) → Alike a b → named_by i a ≡ named_by i b
+by_tied : (i : Item) (a b : Identifier) → Alike a b → uses_of i a ≡ uses_of i b
 by_tied (One x) a b e = once_tied x a b e
 by_tied (Pair x y) a b e =
     ap (λ n. n + once identifier_order y a) (once_tied x a b e) ∙ ap (λ n. once identifier_order x b + n) (once_tied y a b e)
 
-in_tied : {X : Type 0} (es : List (Item × X)) (a b : Identifier) → Alike a b → named_in es a ≡ named_in es b
+in_tied : {X : Type 0} (es : List (Item × X)) (a b : Identifier) → Alike a b → uses_in es a ≡ uses_in es b
 in_tied [] a b e = refl
-in_tied (x ∷ xs) a b e = ap (λ n. n + named_in xs a) (by_tied x.0 a b e) ∙ ap (λ n. named_by x.0 b + n) (in_tied xs a b e)
+in_tied (x ∷ xs) a b e = ap (λ n. n + uses_in xs a) (by_tied x.0 a b e) ∙ ap (λ n. uses_of x.0 b + n) (in_tied xs a b e)
 
 module _ (names : Holdings Identifier) (pool : IsPool identifier_order names) where
   -- an identifier is held a number of times
@@ -84,13 +84,13 @@ module _ (names : Holdings Identifier) (pool : IsPool identifier_order names) wh
 
   -- what goes of an identifier's holds is of those that others than items have
   goes_of : {X : Type 0} (es : List (Item × X)) (a other : Identifier) (mine own : ℕ) → IsHeld identifier_order names a
-      (named_in es a + mine) → 0 < mine
-      → IsHeld identifier_order names other (named_in es other + own) → once identifier_order a other ≤ own
+      (uses_in es a + mine) → 0 < mine
+      → IsHeld identifier_order names other (uses_in es other + own) → once identifier_order a other ≤ own
   goes_of es a other mine own k some h = elim (cases_Bool (is_eq (identifier_order a other))) [
     | inl t ↦ let alike : Alike a other = equal_alike a other ((Equal-is (identifier_order a other)).0 t)
-        in let same : named_in es other + own ≡ named_in es a + mine
-        = one_count other (named_in es other + own) (named_in es a + mine) h (tied_held a other (named_in es a + mine) alike k)
-        in let named : named_in es a ≡ named_in es other = in_tied es a other alike
+        in let same : uses_in es other + own ≡ uses_in es a + mine
+        = one_count other (uses_in es other + own) (uses_in es a + mine) h (tied_held a other (uses_in es a + mine) alike k)
+        in let named : uses_in es a ≡ uses_in es other = in_tied es a other alike
         in let one : once identifier_order a other ≡ 1 = rw t refl
         in omega (arith, same, named, one, some)
     | inr f ↦ let none : once identifier_order a other ≡ 0 = rw f refl in omega (arith, none)
@@ -104,28 +104,28 @@ module _ (old new : Holdings Identifier) (look : ℕ → Option Shelf) (es : Ent
     (held : (key other : Identifier) (count : ℕ) → Names identifier_order old v key → IsHeld identifier_order old other count
     → IsHeld identifier_order new other (count - once identifier_order key other))
     (k : Identifier) (mine : ℕ) (key : key_at old v ≡ Some k)
-    (own : IsHeld identifier_order old k (named_in (shown_shelves look es) k + mine))
+    (own : IsHeld identifier_order old k (uses_in (shown_shelves look es) k + mine))
     (some : 0 < mine) where
   before : (o : ℕ) (a : Identifier) → Names identifier_order new o a → Names identifier_order old o a
   before = named_before old new v (live_key old v k key) kept last counted others
 
-  own_of : (other : Identifier) (n : ℕ) → IsHeld identifier_order old other (named_in (shown_shelves look es) other + n)
-      → IsHeld identifier_order new other (named_in (shown_shelves look es) other + (n - once identifier_order k other))
+  own_of : (other : Identifier) (n : ℕ) → IsHeld identifier_order old other (uses_in (shown_shelves look es) other + n)
+      → IsHeld identifier_order new other (uses_in (shown_shelves look es) other + (n - once identifier_order k other))
   own_of other n h =
       subst (λ (m : ℕ). IsHeld identifier_order new other m)
-      (own_less (named_in (shown_shelves look es) other) n (once identifier_order k other)
+      (own_less (uses_in (shown_shelves look es) other) n (once identifier_order k other)
       (goes_of old is.pool (shown_shelves look es) k other mine n own
       some h))
-      (held k other (named_in (shown_shelves look es) other + n) (names_by old v k k key refl) h)
+      (held k other (uses_in (shown_shelves look es) other + n) (names_by old v k k key refl) h)
 
   pub own_released : (a other : Identifier) (n : ℕ) → key_at old v ≡ Some a → IsHeld identifier_order old other
-      (named_in (shown_shelves look es) other + n)
-      → IsHeld identifier_order new other (named_in (shown_shelves look es) other + (n - once identifier_order a other))
+      (uses_in (shown_shelves look es) other + n)
+      → IsHeld identifier_order new other (uses_in (shown_shelves look es) other + (n - once identifier_order a other))
   own_released a other n e h =
-      subst (λ x. IsHeld identifier_order new other (named_in (shown_shelves look es) other + (n - once identifier_order x other)))
+      subst (λ x. IsHeld identifier_order new other (uses_in (shown_shelves look es) other + (n - once identifier_order x other)))
       (same_Some _ _ (sym key ∙ e)) (own_of other n h)
 
-  still_held : (a : Identifier) → (n : ℕ) × IsHeld identifier_order new a (named_in es a + n)
+  still_held : (a : Identifier) → (n : ℕ) × IsHeld identifier_order new a (uses_in es a + n)
   still_held a =
       let h = is.held a
       in (

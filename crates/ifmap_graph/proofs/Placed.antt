@@ -14,7 +14,7 @@ use Rattle.ifmap_graph.specs.declared.shelves.Shelves.{Shelves}
 use Rattle.ifmap_graph.specs.Bringing.{BringsShelves}
 use Rattle.ifmap_graph.specs.Drafted.{AreBare}
 use Rattle.ifmap_graph.specs.Held.{IsInside}
-use Rattle.ifmap_graph.specs.Named.{AreEnds, AreIdentifiers, named_by, named_in}
+use Rattle.ifmap_graph.specs.Named.{AreEnds, AreIdentifiers, uses_of, uses_in}
 use Rattle.ifmap_graph.specs.Shelved.{AreShelved, ItemsRise, StoredSide, rows_on_side, slot_of_item}
 use Rattle.ifmap_graph.specs.Sides.{Sides}
 use Rattle.ifmap_graph.proofs.Arriving.{numbered_comes}
@@ -43,7 +43,7 @@ pub record HoldsEnds (old new : Holdings Identifier) (item : Item) (ends : Ends)
   pub keys : AreIdentifiers old → AreIdentifiers new
   pub numbers : AreEnds new item ends
   pub held : (a : Identifier) (count : ℕ) → IsHeld identifier_order old a count
-      → IsHeld identifier_order new a (count + named_by item a)
+      → IsHeld identifier_order new a (count + uses_of item a)
 
 module _ {s t : Shelves} {item : Item} {at : ℕ} {shelf : Shelf} (p : Places s t item at shelf) where
   module _ (is : AreShelved s) where
@@ -60,13 +60,13 @@ module _ {s t : Shelves} {item : Item} {at : ℕ} {shelf : Shelf} (p : Places s 
 
   -- its identifiers are held with it
   module _ {old new : Holdings Identifier} (h : HoldsEnds old new item shelf.ends) where
-    pub placed_own : (a : Identifier) (own : ℕ) → IsHeld identifier_order old a (named_in s.places.entries a + own)
-        → IsHeld identifier_order new a (named_in t.places.entries a + own)
+    pub placed_own : (a : Identifier) (own : ℕ) → IsHeld identifier_order old a (uses_in s.places.entries a + own)
+        → IsHeld identifier_order new a (uses_in t.places.entries a + own)
     placed_own a own x =
-        let more : named_in t.places.entries a ≡ named_by item a + named_in s.places.entries a
-        = ap (λ es. named_in es a) p.entries ∙ comes s.places.entries item at a p.none
-        in let count : (named_in s.places.entries a + own) + named_by item a ≡ named_in t.places.entries a + own = omega (arith, more)
-        in subst (λ (n : ℕ). IsHeld identifier_order new a n) count (h.held a (named_in s.places.entries a + own) x)
+        let more : uses_in t.places.entries a ≡ uses_of item a + uses_in s.places.entries a
+        = ap (λ es. uses_in es a) p.entries ∙ comes s.places.entries item at a p.none
+        in let count : (uses_in s.places.entries a + own) + uses_of item a ≡ uses_in t.places.entries a + own = omega (arith, more)
+        in subst (λ (n : ℕ). IsHeld identifier_order new a n) count (h.held a (uses_in s.places.entries a + own) x)
 
     pub placed_inside : (links : List (Sides LinkSeen)) → new.limit ≤ length links
         → IsInside old (get s.slots) s.places.entries links → IsInside new (get t.slots) t.places.entries links

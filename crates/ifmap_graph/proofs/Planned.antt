@@ -19,7 +19,7 @@ use Rattle.ifmap_ident.specs.Items.{item_order, items_tie, same_item}
 use Rattle.ifmap_meta.specs.declared.stored.Stored.{Stored}
 use Rattle.ifmap_plans.specs.declared.plans.ItemChange.{ItemChange}
 use Rattle.ifmap_plans.specs.Lists.{next_on}
-use Rattle.ifmap_plans.specs.Plans.{Fits, IsAfter, after_on, change_of, changed_by}
+use Rattle.ifmap_plans.specs.Plans.{Fits, IsAfter, after_on, change_of, list_after}
 use Rattle.ifmap_view.specs.Rows.{stored_on}
 use Rattle.ifmap_graph.specs.declared.shelves.Shelves.{Shelves}
 use Rattle.ifmap_graph.specs.Drafted.{AreBare, AreOut, DraftsWithin, NoDraft, ends_at}
@@ -72,11 +72,11 @@ step_of : (c : ItemChange) (rest : List ItemChange) (x : Item) (was here later :
     → later ≡ cond (is_at (item_order c.item) x) (next_on c.removed c.added here) was → (is_at (item_order c.item) x ≡ true → was ≡ here)
     → after_on rest x later ≡ after_on (c ∷ rest) x was
 step_of c rest x was here later apart e same = elim (cases_Bool (is_at (item_order c.item) x)) [
-  | inl t ↦ ap (λ o. changed_by o later) (no_change c.item x rest t apart) ∙ e
+  | inl t ↦ ap (λ o. list_after o later) (no_change c.item x rest t apart) ∙ e
       ∙ ap (λ b. cond b (next_on c.removed c.added here) was) t ∙ ap (λ l. next_on c.removed c.added l) (sym (same t))
-      ∙ sym (ap (λ b. changed_by (cond b (Some c) (change_of rest x)) was) (items_tie c.item x ∙ t))
+      ∙ sym (ap (λ b. list_after (cond b (Some c) (change_of rest x)) was) (items_tie c.item x ∙ t))
   | inr f ↦ ap (λ l. after_on rest x l) (e ∙ ap (λ b. cond b (next_on c.removed c.added here) was) f)
-      ∙ sym (ap (λ b. changed_by (cond b (Some c) (change_of rest x)) was) (items_tie c.item x ∙ f))
+      ∙ sym (ap (λ b. list_after (cond b (Some c) (change_of rest x)) was) (items_tie c.item x ∙ f))
 ]
 
 module _ (changes : List ItemChange) (first : Shelves) where

@@ -15,7 +15,7 @@ use Rattle.ifmap_graph.specs.declared.shelves.Shelf.{Shelf}
 use Rattle.ifmap_graph.specs.declared.shelves.Shelves.{Shelves}
 use Rattle.ifmap_graph.specs.Bringing.{BringsShelves}
 use Rattle.ifmap_graph.specs.Held.{IsInside}
-use Rattle.ifmap_graph.specs.Named.{AreEnds, AreIdentifiers, named_by, named_in}
+use Rattle.ifmap_graph.specs.Named.{AreEnds, AreIdentifiers, uses_of, uses_in}
 use Rattle.ifmap_graph.specs.Shelved.{HasEmptyShelf, IsPlaced, ItemsRise, StoredSide, list_at, rows_on_side, slot_of_item}
 use Rattle.ifmap_graph.specs.Sides.{Sides}
 use Rattle.ifmap_graph.specs.Waits.{waits_on}
@@ -52,7 +52,7 @@ pub record LetsEndsGo (old new : Holdings Identifier) (ends : Ends) : Type 0 whe
   pub keys : AreIdentifiers old → AreIdentifiers new
   pub before : (v : ℕ) (a : Identifier) → Names identifier_order new v a → Names identifier_order old v a
   pub held : (i : Item) (a : Identifier) (count : ℕ) → AreEnds old i ends → IsHeld identifier_order old a count
-      → IsHeld identifier_order new a (count - named_by i a)
+      → IsHeld identifier_order new a (count - uses_of i a)
 
 module _ {s t : Shelves} {item : Item} {at : ℕ} {shelf : Shelf} (r : Removes s t item at shelf) where
   -- the other shelves stand where they stood
@@ -91,8 +91,8 @@ module _ {s t : Shelves} {item : Item} {at : ℕ} {shelf : Shelf} (r : Removes s
           inside_goes old new (get s.slots) (get t.slots) s.places.entries t.places.entries links item at shelf is r.here r.there r.empty
           r.gone r.others r.entries r.rises go.whole (go.keys is.keys) go.before go.held
 
-      pub removed_own : (a : Identifier) (own : ℕ) → IsHeld identifier_order old a (named_in s.places.entries a + own)
-          → IsHeld identifier_order new a (named_in t.places.entries a + own)
+      pub removed_own : (a : Identifier) (own : ℕ) → IsHeld identifier_order old a (uses_in s.places.entries a + own)
+          → IsHeld identifier_order new a (uses_in t.places.entries a + own)
       removed_own =
           own_stays old new (get s.slots) (get t.slots) s.places.entries t.places.entries links item at shelf is r.here r.there r.empty
           r.gone r.others r.entries r.rises go.whole (go.keys is.keys) go.before go.held

@@ -24,7 +24,7 @@ use Rattle.ifmap_graph.specs.Bringing.{graph_parts}
 use Rattle.ifmap_graph.specs.Drafted.{ends_at}
 use Rattle.ifmap_graph.specs.Held.{Held, shown_shelves}
 use Rattle.ifmap_graph.specs.Making.{IsMade, IsUnmade}
-use Rattle.ifmap_graph.specs.Named.{AreIdentifiers, named_in}
+use Rattle.ifmap_graph.specs.Named.{AreIdentifiers, uses_in}
 use Rattle.ifmap_graph.specs.Out.{IsDrafted, IsOut, items_changed}
 use Rattle.ifmap_graph.specs.Seen.{AwaitsMore, IsSeenSame, IsStill, KeepsNumbers, KeepsOwn, StaysLeanWith, rows_next, rows_now}
 use Rattle.ifmap_graph.specs.Shelved.{HasDraft, list_at, slot_of_item, rows_on_side}
@@ -79,8 +79,8 @@ module _ (names later : Holdings Identifier) (s t : Shelves) (links moved : List
   rows_same : rows_on_side list_now t ≡ rows_on_side list_now s → rows_now (held_of later t moved) ≡ rows_now (held_of names s links)
   rows_same rows = rows_shown list_now (get t.slots) t.places.entries ∙ rows ∙ sym (rows_shown list_now (get s.slots) s.places.entries)
 
-  own_same : ((a : Identifier) (own : ℕ) → IsHeld identifier_order names a (named_in s.places.entries a + own)
-      → IsHeld identifier_order later a (named_in t.places.entries a + own)) → KeepsOwn (held_of names s links) (held_of later t moved)
+  own_same : ((a : Identifier) (own : ℕ) → IsHeld identifier_order names a (uses_in s.places.entries a + own)
+      → IsHeld identifier_order later a (uses_in t.places.entries a + own)) → KeepsOwn (held_of names s links) (held_of later t moved)
   own_same f a own h =
       subst (λ (n : ℕ). IsHeld identifier_order later a (n + own)) (sym (named_shown (get t.slots) t.places.entries a))
       (f a own (subst (λ (n : ℕ). IsHeld identifier_order names a (n + own)) (named_shown (get s.slots) s.places.entries a) h))

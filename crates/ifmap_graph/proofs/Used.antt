@@ -21,7 +21,7 @@ use Rattle.ifmap_graph.specs.declared.ends.Ends.TheVariants as ends
 use Rattle.ifmap_graph.specs.declared.shelves.Shelf.{Shelf}
 use Rattle.ifmap_graph.specs.declared.shelves.Shelves.{Shelves}
 use Rattle.ifmap_graph.specs.Held.{IsInside, IsOwn}
-use Rattle.ifmap_graph.specs.Named.{AreEnds, HasEnds, named_by, named_in}
+use Rattle.ifmap_graph.specs.Named.{AreEnds, HasEnds, uses_of, uses_in}
 use Rattle.ifmap_graph.specs.Releasing.{AreFilled}
 use Rattle.ifmap_graph.specs.Seen.{AreUsed, IsAttached, IsHeldBeside, IsLean, rows_now}
 use Rattle.ifmap_graph.specs.Shelved.{list_at, row_on, rows_on_side}
@@ -37,12 +37,12 @@ use Rattle.ifmap_graph.proofs.Settled.{held_of, waits_shown}
 use Rattle.ifmap_ident.specs.SameLaws.{BytesTellIdentifiers}
 
 -- an identifier that entries name is one of some entry's item
-named_entry : {X : Type 0} (es : List (Item × X)) (a : Identifier) → 0 < named_in es a → (e : Item × X) × Has es e × (0 < named_by e.0 a)
+named_entry : {X : Type 0} (es : List (Item × X)) (a : Identifier) → 0 < uses_in es a → (e : Item × X) × Has es e × (0 < uses_of e.0 a)
 named_entry [] a h = absurd (omega (arith, h))
-named_entry {X} (e ∷ es) a h = by (named_by e.0 a) refl (λ some. named_entry es a some)
+named_entry {X} (e ∷ es) a h = by (uses_of e.0 a) refl (λ some. named_entry es a some)
   where
-    by : (n : ℕ) → named_by e.0 a ≡ n → (0 < named_in es a → (x : Item × X) × Has es x × (0 < named_by x.0 a))
-        → (x : Item × X) × Has (e ∷ es) x × (0 < named_by x.0 a)
+    by : (n : ℕ) → uses_of e.0 a ≡ n → (0 < uses_in es a → (x : Item × X) × Has es x × (0 < uses_of x.0 a))
+        → (x : Item × X) × Has (e ∷ es) x × (0 < uses_of x.0 a)
     by (suc n) q rest = (e, inl refl, omega (arith, q))
     by zero q rest = let r = rest (omega (arith, h, q)) in (r.0, inr r.1, r.2)
 
@@ -54,7 +54,7 @@ once_is b a tells is other h = elim (cases_Bool (is_eq (identifier_order b a))) 
 ]
 
 named_has : (i : Item) (a : Identifier) → BytesTellIdentifiers → AllByRecursion IsIdentifier (identifiers_of i) → IsIdentifier a → 0 <
-    named_by i a
+    uses_of i a
     → Has (identifiers_of i) a
 named_has (One b) a tells is other h = inl (once_is b a tells is.0 other h)
 named_has (Pair b c) a tells is other h = by (once identifier_order b a) refl
@@ -118,27 +118,27 @@ module _ (names : Holdings Identifier) (s : Shelves) (links : List (Sides LinkSe
   held_named a n (inl h) some = (h.0, h.1)
   held_named a n (inr h) some = absurd (omega (arith, some, h.1))
 
-  own_is : (a : Identifier) (own : ℕ) → IsHeld identifier_order names a (named_in s.places.entries a + own)
+  own_is : (a : Identifier) (own : ℕ) → IsHeld identifier_order names a (uses_in s.places.entries a + own)
       → IsOwn (held_of names s links) a own
   own_is a own h =
       subst (λ (n : ℕ). IsHeld identifier_order names a (n + own)) (sym (named_shown (get s.slots) s.places.entries a)) h
 
   own_was : (a : Identifier) (own : ℕ) → IsOwn (held_of names s links) a own
-      → IsHeld identifier_order names a (named_in s.places.entries a + own)
+      → IsHeld identifier_order names a (uses_in s.places.entries a + own)
   own_was a own h = subst (λ (n : ℕ). IsHeld identifier_order names a (n + own)) (named_shown (get s.slots) s.places.entries a) h
 
   used_by : AreFilled s → ((x : Item) → waits_on s x ≡ 0) → (v : ℕ) (a : Identifier) → key_at names v ≡ Some a
       → IsAttached (rows_on_side list_now s) a ⊎ IsHeldBeside (held_of names s links) a
-  used_by filled idle v a e = by (named_in s.places.entries a) refl
+  used_by filled idle v a e = by (uses_in s.places.entries a) refl
     where
-      by : (n : ℕ) → named_in s.places.entries a ≡ n → IsAttached (rows_on_side list_now s) a ⊎ IsHeldBeside (held_of names s links) a
+      by : (n : ℕ) → uses_in s.places.entries a ≡ n → IsAttached (rows_on_side list_now s) a ⊎ IsHeldBeside (held_of names s links) a
       by (suc n) q =
           let x = named_entry s.places.entries a (omega (arith, q))
           in inl (entry_attached filled idle x.0 x.1 a
           (named_has x.0.0 a tells (all_has (λ (y : Item × ℕ). IsCanonItem y.0) s.places.entries is.placed.canon x.0 x.1).identifiers
           (is.keys v a e) x.2))
       by zero q = inr (λ own h.
-          let some = held_some names v a (named_in s.places.entries a + own) is.pool e (own_was a own h)
+          let some = held_some names v a (uses_in s.places.entries a + own) is.pool e (own_was a own h)
           in omega (arith, some, q))
 
   pub are_used : IsLean [] (held_of names s links) → AreUsed (held_of names s links)
@@ -156,4 +156,4 @@ module _ (names : Holdings Identifier) (s : Shelves) (links : List (Sides LinkSe
       named a (inl q) = attached_named a (subst (λ r. IsAttached r a) (rows_shown list_now (get s.slots) s.places.entries) q)
       named a (inr q) =
           let h = is.held a
-          in held_named a (named_in s.places.entries a + h.0) h.1 (omega (arith, q h.0 (own_is a h.0 h.1)))
+          in held_named a (uses_in s.places.entries a + h.0) h.1 (omega (arith, q h.0 (own_is a h.0 h.1)))

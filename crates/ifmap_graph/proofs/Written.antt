@@ -10,7 +10,7 @@ use Rattle.ifmap_graph.specs.declared.shelves.Shelves.{Shelves}
 use Rattle.ifmap_graph.specs.Back.{KeepsBacks, KeepsOtherBacks}
 use Rattle.ifmap_graph.specs.Drafted.{StayInPlace}
 use Rattle.ifmap_graph.specs.Held.{Held}
-use Rattle.ifmap_graph.specs.Named.{named_in}
+use Rattle.ifmap_graph.specs.Named.{uses_in}
 use Rattle.ifmap_graph.specs.Out.{items_changed}
 use Rattle.ifmap_graph.specs.Seen.{AreAwaited, KeepsOwn, rows_now}
 use Rattle.ifmap_graph.specs.Shelved.{rows_on_side}
@@ -27,7 +27,7 @@ module _ (names : Holdings Identifier) {s t : Shelves} (links moved : List (Side
   pub own_stays : KeepsOwn (held_of names s links) (held_of names t moved)
   own_stays a own h =
       subst (λ (n : ℕ). IsHeld identifier_order names a (n + own))
-      (named_shown (get s.slots) s.places.entries a ∙ sym (ap (λ p. named_in p.entries a) stay.places)
+      (named_shown (get s.slots) s.places.entries a ∙ sym (ap (λ p. uses_in p.entries a) stay.places)
       ∙ sym (named_shown (get t.slots) t.places.entries a)) h
 
   pub waits_stay_seen : (items : List Item) → AreAwaited items (held_of names s links) → AreAwaited items (held_of names t moved)

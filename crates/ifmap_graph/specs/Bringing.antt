@@ -12,7 +12,7 @@ use Rattle.ifmap_view.specs.declared.views.LinkSeen.{LinkSeen}
 use Rattle.ifmap_graph.specs.declared.shelves.Shelves.{Shelves}
 use Rattle.ifmap_graph.specs.Drafted.{AreBare, ends_at}
 use Rattle.ifmap_graph.specs.Held.{IsInside}
-use Rattle.ifmap_graph.specs.Named.{named_by, named_in}
+use Rattle.ifmap_graph.specs.Named.{uses_of, uses_in}
 use Rattle.ifmap_graph.specs.Shelved.{slot_of_item, rows_on_side}
 use Rattle.ifmap_graph.specs.Sides.{Sides, list_next, list_now}
 use Rattle.ifmap_graph.specs.Turning.{sides_at}
@@ -25,9 +25,9 @@ flagged_items (x ∷ xs) [] = []
 flagged_items (x ∷ xs) (m ∷ ms) = if m then x ∷ flagged_items xs ms else flagged_items xs ms
 
 -- how often items name an identifier
-abbrev pub named_of : List Item → Identifier → ℕ
-named_of [] a = 0
-named_of (i ∷ is) a = named_by i a + named_of is a
+abbrev pub uses_by : List Item → Identifier → ℕ
+uses_by [] a = 0
+uses_by (i ∷ is) a = uses_of i a + uses_by is a
 
 -- an item is none of these
 abbrev pub IsOther : List Item → Item → Type 0
@@ -40,7 +40,7 @@ pub record BringsShelves (items : List Item) (old new : Shelves) : Type 0 where
   pub places : (x : Item) → IsOther items x → slot_of_item new x ≡ slot_of_item old x
   pub ends : (x : Item) (at : ℕ) → slot_of_item old x ≡ Some at → ends_at new at ≡ ends_at old at
   pub waits : (x : Item) → waits_on new x ≡ waits_on old x
-  pub named : (a : Identifier) → named_in new.places.entries a ≡ named_of items a + named_in old.places.entries a
+  pub named : (a : Identifier) → uses_in new.places.entries a ≡ uses_by items a + uses_in old.places.entries a
 
 -- the parts of a graph
 pub record Parts : Type 0 where
@@ -56,7 +56,7 @@ AreInside p = IsInside p.names (get p.shelves.slots) p.shelves.places.entries p.
 
 -- others than items hold an identifier so often
 abbrev pub HasOwn : Parts → Identifier → ℕ → Type 0
-HasOwn p a own = IsHeld identifier_order p.names a (named_in p.shelves.places.entries a + own)
+HasOwn p a own = IsHeld identifier_order p.names a (uses_in p.shelves.places.entries a + own)
 
 -- and that is fewer than 2^32 times
 abbrev pub HaveFewOwn : Parts → Type 0

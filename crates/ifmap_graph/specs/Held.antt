@@ -12,7 +12,7 @@ use Rattle.ifmap_view.specs.declared.views.LinkSeen.{LinkSeen}
 use Rattle.ifmap_graph.specs.declared.shelves.Shelf.{Shelf}
 use Rattle.ifmap_graph.specs.Joined.{is_not_empty, joined_pair}
 use Rattle.ifmap_graph.specs.Linked.{AreListed, link_places}
-use Rattle.ifmap_graph.specs.Named.{AreHeld, AreIdentifiers, AreNumbered, named_in}
+use Rattle.ifmap_graph.specs.Named.{AreHeld, AreIdentifiers, AreNumbered, uses_in}
 use Rattle.ifmap_graph.specs.Shelved.{IsPlaced, StoredSide, list_at}
 use Rattle.ifmap_graph.specs.Sides.{Sides, list_next, list_now, sides_code}
 
@@ -65,4 +65,4 @@ pub record IsInside (names : Holdings Identifier) (look : ℕ → Option Shelf) 
 
 -- an identifier is held so often by others than the shelves of the items that name it
 abbrev pub IsOwn : Held → Identifier → ℕ → Type 0
-IsOwn h a own = IsHeld identifier_order h.names a (named_in h.shelves a + own)
+IsOwn h a own = IsHeld identifier_order h.names a (uses_in h.shelves a + own)

@@ -28,14 +28,14 @@ abbrev pub AreNumbered : Holdings Identifier → (ℕ → Option Shelf) → List
 AreNumbered names look entries = AllByRecursion (λ e. HasEnds names e.0 (look e.1)) entries
 
 -- how often an item names an identifier
-abbrev pub named_by : Item → Identifier → ℕ
-named_by (One a) other = once identifier_order a other
-named_by (Pair a b) other = once identifier_order a other + once identifier_order b other
+abbrev pub uses_of : Item → Identifier → ℕ
+uses_of (One a) other = once identifier_order a other
+uses_of (Pair a b) other = once identifier_order a other + once identifier_order b other
 
 -- how often entries do
-abbrev pub named_in : {X : Type 0} → List (Item × X) → Identifier → ℕ
-named_in [] other = 0
-named_in (e ∷ es) other = named_by e.0 other + named_in es other
+abbrev pub uses_in : {X : Type 0} → List (Item × X) → Identifier → ℕ
+uses_in [] other = 0
+uses_in (e ∷ es) other = uses_of e.0 other + uses_in es other
 
 -- the keys of a pool are identifiers of elements
 abbrev pub AreIdentifiers : Holdings Identifier → Type 0
@@ -43,4 +43,4 @@ AreIdentifiers names = (v : ℕ) (a : Identifier) → key_at names v ≡ Some a 
 
 -- each identifier is held once for each entry that names it, and as often beside that as somebody holds it
 abbrev pub AreHeld : {X : Type 0} → Holdings Identifier → List (Item × X) → Type 0
-AreHeld names entries = (a : Identifier) → (own : ℕ) × IsHeld identifier_order names a (named_in entries a + own)
+AreHeld names entries = (a : Identifier) → (own : ℕ) × IsHeld identifier_order names a (uses_in entries a + own)

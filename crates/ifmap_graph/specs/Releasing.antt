@@ -10,7 +10,7 @@ use Rattle.ifmap_view.specs.Rows.{stored_on}
 use Rattle.ifmap_graph.specs.declared.shelves.Shelves.{Shelves}
 use Rattle.ifmap_graph.specs.Drafted.{AreBare, ends_at}
 use Rattle.ifmap_graph.specs.Held.{IsInside}
-use Rattle.ifmap_graph.specs.Named.{named_in}
+use Rattle.ifmap_graph.specs.Named.{uses_in}
 use Rattle.ifmap_graph.specs.Shelved.{slot_of_item, rows_on_side}
 use Rattle.ifmap_graph.specs.Sides.{Sides, list_now}
 use Rattle.ifmap_graph.specs.Waits.{waits_on}
@@ -24,8 +24,8 @@ pub record IsLess (names left : Holdings Identifier) (old new : Shelves) : Type 
   pub before : (x : Item) (at : ℕ) → slot_of_item new x ≡ Some at → (slot_of_item old x ≡ Some at) × (ends_at new at ≡ ends_at old at)
   pub full : (x : Item) → stored_on x (rows_on_side list_now old) ≢ [] → slot_of_item new x ≡ slot_of_item old x
   pub named : (v : ℕ) (a : Identifier) → Names identifier_order left v a → Names identifier_order names v a
-  pub own : (a : Identifier) (own : ℕ) → IsHeld identifier_order names a (named_in old.places.entries a + own)
-      → IsHeld identifier_order left a (named_in new.places.entries a + own)
+  pub own : (a : Identifier) (own : ℕ) → IsHeld identifier_order names a (uses_in old.places.entries a + own)
+      → IsHeld identifier_order left a (uses_in new.places.entries a + own)
 
 -- a shelf that nobody waits for has something on it
 abbrev pub AreFilled : Shelves → Type 0

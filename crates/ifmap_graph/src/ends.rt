@@ -9,7 +9,7 @@ ghost use Rattle.ifmap_ident.specs.Identifiers.{identifier_order};
 ghost use Rattle.ifmap_ident.specs.Canon.{IsIdentifier};
 ghost use Rattle.ifmap_ident.specs.Items.{IsItem, identifiers_of};
 ghost use Rattle.ifmap_pool.specs.Holdings.{IsHeld, IsPool, Names, holds_at, once};
-ghost use Rattle.ifmap_graph.specs.Named.{AreEnds, AreIdentifiers, named_by};
+ghost use Rattle.ifmap_graph.specs.Named.{AreEnds, AreIdentifiers, uses_of};
 
 use ifmap_ident::{Identifier, Item};
 use ifmap_pool::Pool;
@@ -27,7 +27,7 @@ fn hold_pair(names: &mut Pool<Identifier>, a: Identifier, b: Identifier) -> Ends
     requires few { (v : ℕ) → holds_at names.old v < 2 ^ 64 - 2 }
     ensures ends { AreEnds names.new (Pair a b) result }
     ensures held { (other : Identifier) (count : ℕ) → IsHeld identifier_order names.old other count
-        → IsHeld identifier_order names.new other (count + named_by (Pair a b) other) }
+        → IsHeld identifier_order names.new other (count + uses_of (Pair a b) other) }
     ensures kept { (number : ℕ) (other : Identifier) → Names identifier_order names.old number other
         → Names identifier_order names.new number other }
     ensures keys { IsIdentifier a → IsIdentifier b → AreIdentifiers names.old
@@ -46,7 +46,7 @@ pub fn hold_ends(names: &mut Pool<Identifier>, item: Item) -> Ends
     requires few { (v : ℕ) → holds_at names.old v < 2 ^ 64 - 2 }
     ensures ends { AreEnds names.new item result }
     ensures held { (other : Identifier) (count : ℕ) → IsHeld identifier_order names.old other count
-        → IsHeld identifier_order names.new other (count + named_by item other) }
+        → IsHeld identifier_order names.new other (count + uses_of item other) }
     ensures kept { (number : ℕ) (other : Identifier) → Names identifier_order names.old number other
         → Names identifier_order names.new number other }
     ensures keys { AllByRecursion IsIdentifier (identifiers_of item) → AreIdentifiers names.old
@@ -66,7 +66,7 @@ fn release_pair(names: &mut Pool<Identifier>, one: u64, two: u64)
         × Names identifier_order names.old one a × Names identifier_order names.old two b }
     ensures held { (a b other : Identifier) (count : ℕ) → Names identifier_order names.old one a
         → Names identifier_order names.old two b → IsHeld identifier_order names.old other count
-        → IsHeld identifier_order names.new other (count - named_by (Pair a b) other) }
+        → IsHeld identifier_order names.new other (count - uses_of (Pair a b) other) }
     ensures before { (number : ℕ) (other : Identifier)
         → Names identifier_order names.new number other
         → Names identifier_order names.old number other }
@@ -84,7 +84,7 @@ pub fn release_ends(names: &mut Pool<Identifier>, ends: Ends)
     requires { (item : Item) × IsItem item × AreEnds names.old item ends }
     ensures held { (item : Item) (other : Identifier) (count : ℕ) → AreEnds names.old item ends
         → IsHeld identifier_order names.old other count
-        → IsHeld identifier_order names.new other (count - named_by item other) }
+        → IsHeld identifier_order names.new other (count - uses_of item other) }
     ensures before { (number : ℕ) (other : Identifier)
         → Names identifier_order names.new number other
         → Names identifier_order names.old number other }

@@ -73,12 +73,12 @@ fn flipped_slot(shelves: &Shelves, item: &Item) -> Option<usize>
     ensures { result ≡ flip_of shelves.now item.now }
 {
     match shelves.places.get(item) {
-        Some(at) => flipped_at(&shelves.slots, *at),
+        Some(at) => slot_if_flipped(&shelves.slots, *at),
         None => None,
     }
 }
 
-fn flipped_at(slots: &Slab<Shelf>, at: usize) -> Option<usize>
+fn slot_if_flipped(slots: &Slab<Shelf>, at: usize) -> Option<usize>
     ensures { result ≡ flip_in slots.now (Some at) }
 {
     if is_flipped(slots, at) {

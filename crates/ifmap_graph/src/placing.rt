@@ -11,7 +11,7 @@ ghost use Rattle.ifmap_view.specs.declared.views.LinkSeen.{LinkSeen};
 ghost use Rattle.ifmap_graph.specs.Bringing.{BringsShelves};
 ghost use Rattle.ifmap_graph.specs.Drafted.{AreBare};
 ghost use Rattle.ifmap_graph.specs.Held.{IsInside};
-ghost use Rattle.ifmap_graph.specs.Named.{named_by, named_in};
+ghost use Rattle.ifmap_graph.specs.Named.{uses_of, uses_in};
 ghost use Rattle.ifmap_graph.specs.Shelved.{HasEmptyShelf, StoredSide, slot_of_item, rows_on_side};
 ghost use Rattle.ifmap_graph.specs.Sides.{Sides, list_next, list_now};
 ghost use Rattle.ifmap_graph.specs.Turning.{sides_at};
@@ -65,10 +65,10 @@ pub(crate) fn place_shelf(
         → rows_on_side side shelves.new ≡ rows_on_side side shelves.old }
     ensures held { OnOk result ((a : Identifier) (count : ℕ)
         → IsHeld identifier_order names.old a count
-        → IsHeld identifier_order names.new a (count + named_by item a)) }
+        → IsHeld identifier_order names.new a (count + uses_of item a)) }
     ensures own { (a : Identifier) (own : ℕ)
-        → IsHeld identifier_order names.old a (named_in shelves.old.places.entries a + own)
-        → IsHeld identifier_order names.new a (named_in shelves.new.places.entries a + own) }
+        → IsHeld identifier_order names.old a (uses_in shelves.old.places.entries a + own)
+        → IsHeld identifier_order names.new a (uses_in shelves.new.places.entries a + own) }
     ensures kept { (v : ℕ) (a : Identifier) → Names identifier_order names.old v a
         → Names identifier_order names.new v a }
     ensures bare { AreBare shelves.old → AreBare shelves.new }
@@ -98,8 +98,8 @@ pub(crate) fn remove_shelf(names: &mut Pool<Identifier>, shelves: &mut Shelves, 
         → IsInside names.old (get shelves.old.slots) shelves.old.places.entries links
         → IsInside names.new (get shelves.new.slots) shelves.new.places.entries links }
     ensures own { (a : Identifier) (own : ℕ)
-        → IsHeld identifier_order names.old a (named_in shelves.old.places.entries a + own)
-        → IsHeld identifier_order names.new a (named_in shelves.new.places.entries a + own) }
+        → IsHeld identifier_order names.old a (uses_in shelves.old.places.entries a + own)
+        → IsHeld identifier_order names.new a (uses_in shelves.new.places.entries a + own) }
     ensures named { (v : ℕ) (a : Identifier) → Names identifier_order names.new v a
         → Names identifier_order names.old v a }
     ensures now { rows_on_side list_now shelves.new ≡ rows_on_side list_now shelves.old }

@@ -30,7 +30,7 @@ struct Drip {
 }
 
 impl Source for Drip {
-    ghost use Rattle.ifmap_io.specs.Links.{Side};
+    ghost use Rattle.ifmap_io.specs.Links.{LinkSide};
 
     ghost left = { λ _. None };
 

@@ -4,7 +4,7 @@ use Rattle.std.specs.Ordering.{ordering_then}
 use Rattle.std.specs.declared.cmp.Ordering.{Ordering}
 use Rattle.ifmap_ident.specs.Leading.{FrontsCompare}
 use Rattle.ifmap_ident.specs.Written.{OptionalsLead, attribute_written, closed_text, optional_written}
-use Rattle.ifmap_ident.specs.declared.written.Place.TheVariants.{Value}
+use Rattle.ifmap_elem.specs.declared.escaping.TextPlace.TheVariants.{Value}
 use Rattle.ifmap_lemmas.specs.Orderings.{then_equal}
 use Rattle.ifmap_ident.proofs.LeadingLaws.{leads_after, leads_both, leads_same}
 use Rattle.ifmap_ident.proofs.PlacedLaws.{text_alike}

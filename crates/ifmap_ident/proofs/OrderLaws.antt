@@ -18,7 +18,7 @@ use Rattle.ifmap_elem.specs.Escapes.{value_byte}
 use Rattle.ifmap_ident.specs.declared.identifiers.Identifier.{Identifier}
 use Rattle.ifmap_ident.specs.declared.identifiers.Identifier.TheVariants.{AccessRequest, Device, Identity, IpV4, IpV6, MacAddress}
 use Rattle.ifmap_ident.specs.declared.kinds.IdentityType.{IdentityType}
-use Rattle.ifmap_ident.specs.declared.written.Place.TheVariants.{Value, Content}
+use Rattle.ifmap_elem.specs.declared.escaping.TextPlace.TheVariants.{Value, Content}
 use Rattle.ifmap_ident.specs.Identifiers.{identifier_kind, identifier_order}
 use Rattle.ifmap_ident.specs.Kinds.{identity_type_name}
 use Rattle.ifmap_ident.specs.Leading.{FrontsCompare}

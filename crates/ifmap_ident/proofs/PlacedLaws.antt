@@ -19,12 +19,12 @@ use Rattle.ifmap_lemmas.specs.Numbers.{is_other}
 use Rattle.ifmap_elem.specs.Escapes.{text_byte, value_byte}
 use Rattle.ifmap_ident.specs.Leading.{FrontsCompare}
 use Rattle.ifmap_ident.specs.Written.{closed_text, end_byte, placed_byte, placed_bytes, written_byte}
-use Rattle.ifmap_ident.specs.declared.written.Place.{Place}
-use Rattle.ifmap_ident.specs.declared.written.Place.TheVariants.{Value, Content}
+use Rattle.ifmap_elem.specs.declared.escaping.TextPlace.{TextPlace}
+use Rattle.ifmap_elem.specs.declared.escaping.TextPlace.TheVariants.{Value, Content}
 use Rattle.ifmap_ident.proofs.LeadingLaws.{Parted, leads_after, leads_decided, leads_parted, parted_alike}
 
 -- a byte that stands for itself
-pub record IsPlain (place : Place) (b : ℕ) : Type 0 where
+pub record IsPlain (place : TextPlace) (b : ℕ) : Type 0 where
   pub written : placed_byte place b ≡ b ∷ []
   pub no_ampersand : nat_eq b 38 ≡ false
   pub no_end : nat_eq b (end_byte place) ≡ false
@@ -34,7 +34,7 @@ unless : (P : ℕ → Type 0) (b c : ℕ) → P c → (nat_eq b c ≡ false → 
 unless P b c there other = elim (cases_eq b c) [ inl e ↦ subst P (sym e) there | inr n ↦ other (is_other b c n) ]
 
 -- a claim on all bytes, from those that are references and those that stand for themselves
-each_byte : (place : Place) (P : ℕ → Type 0) → P 38 → P 60 → P 62 → P 34 → P 9 → P 10 → P 13 → ((b : ℕ) → IsPlain place b → P b)
+each_byte : (place : TextPlace) (P : ℕ → Type 0) → P 38 → P 60 → P 62 → P 34 → P 9 → P 10 → P 13 → ((b : ℕ) → IsPlain place b → P b)
     → (b : ℕ) → P b
 each_byte Value P ampersand less greater quote tab feed return plain b =
     unless P b 38 ampersand (λ a.
@@ -58,7 +58,7 @@ abbrev IsPiece : List ℕ → Type 0
 IsPiece p = ((b : ℕ) × (p ≡ b ∷ []) × (nat_eq b 38 ≡ false)) ⊎ ((name : List ℕ) × (p ≡ 38 ∷ (name ++ (59 ∷ [])))
     × (list_all (λ b. not (nat_eq b 59)) name ≡ true))
 
-is_piece : (place : Place) (o : Option ℕ) → IsPiece (written_byte place o)
+is_piece : (place : TextPlace) (o : Option ℕ) → IsPiece (written_byte place o)
 is_piece Value None = inl (34, refl, refl)
 is_piece Content None = inl (60, refl, refl)
 is_piece Value (Some b) =
@@ -107,7 +107,7 @@ first_of [] = 0
 first_of (b ∷ bs) = b
 
 -- what a piece is written for in a place
-byte_of_piece : Place → List ℕ → Option ℕ
+byte_of_piece : TextPlace → List ℕ → Option ℕ
 byte_of_piece place [] = None
 byte_of_piece place (b ∷ []) = cond (nat_eq b (end_byte place)) None (Some b)
 byte_of_piece place (b ∷ (c ∷ [])) = None
@@ -115,7 +115,7 @@ byte_of_piece place (b ∷ (c ∷ (d ∷ e))) =
     Some (cond (nat_eq c 97) 38 (cond (nat_eq c 108) 60 (cond (nat_eq c 103) 62 (cond (nat_eq c 113) 34
     (cond (nat_eq d 57) 9 (cond (nat_eq (first_of e) 48) 10 13))))))
 
-byte_of_piece-written_byte : (place : Place) (o : Option ℕ) → byte_of_piece place (written_byte place o) ≡ o
+byte_of_piece-written_byte : (place : TextPlace) (o : Option ℕ) → byte_of_piece place (written_byte place o) ≡ o
 unfolding byte_of_piece first_of
 byte_of_piece-written_byte Value None = refl
 byte_of_piece-written_byte Content None = refl
@@ -128,7 +128,7 @@ byte_of_piece-written_byte Content (Some b) =
 
 -- ---- texts in one place
 
-module _ (place : Place) where
+module _ (place : TextPlace) where
   piece_leads : (o r : Option ℕ) → FrontsCompare (slice_cmp nat_cmp (written_byte place o) (written_byte place r)) (written_byte place o)
       (written_byte place r)
   piece_leads o r = leads_parted (written_byte place o) (written_byte place r) (parted_pieces (written_byte place o)

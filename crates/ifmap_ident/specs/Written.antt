@@ -10,8 +10,8 @@ use Rattle.ifmap_addresses.specs.Values.{AreBelow}
 use Rattle.ifmap_elem.specs.Escapes.{text_byte, value_byte}
 use Rattle.ifmap_ident.specs.declared.identifiers.Identifier.{Identifier}
 use Rattle.ifmap_ident.specs.declared.identifiers.Identifier.TheVariants.{AccessRequest, Device, Identity, IpV4, IpV6, MacAddress}
-use Rattle.ifmap_ident.specs.declared.written.Place.{Place}
-use Rattle.ifmap_ident.specs.declared.written.Place.TheVariants.{Value, Content}
+use Rattle.ifmap_elem.specs.declared.escaping.TextPlace.{TextPlace}
+use Rattle.ifmap_elem.specs.declared.escaping.TextPlace.TheVariants.{Value, Content}
 use Rattle.ifmap_ident.specs.declared.kinds.Kind.{Kind}
 use Rattle.ifmap_ident.specs.Kinds.{identity_type_name}
 use Rattle.ifmap_ident.specs.Leading.{FrontsCompare}
@@ -19,26 +19,26 @@ use Rattle.ifmap_ident.specs.Leading.{FrontsCompare}
 -- ---- texts
 
 -- a byte in its place
-abbrev pub placed_byte : Place → ℕ → List ℕ
+abbrev pub placed_byte : TextPlace → ℕ → List ℕ
 placed_byte Value b = value_byte b
 placed_byte Content b = text_byte b
 
 -- the byte that ends a text: the closing quote, or the first of the end tag
-abbrev pub end_byte : Place → ℕ
+abbrev pub end_byte : TextPlace → ℕ
 end_byte Value = byte "\""
 end_byte Content = byte "<"
 
 -- what is written for a byte; at the end of the text, the byte that ends it
-abbrev pub written_byte : Place → Option ℕ → List ℕ
+abbrev pub written_byte : TextPlace → Option ℕ → List ℕ
 written_byte place None = end_byte place ∷ []
 written_byte place (Some b) = placed_byte place b
 
 -- a text as it is written
-abbrev pub placed_bytes : Place → List ℕ → List ℕ
+abbrev pub placed_bytes : TextPlace → List ℕ → List ℕ
 placed_bytes place text = flat_map (placed_byte place) text
 
 -- and with the byte that ends it
-abbrev pub closed_text : Place → List ℕ → List ℕ
+abbrev pub closed_text : TextPlace → List ℕ → List ℕ
 closed_text place text = placed_bytes place text ++ (end_byte place ∷ [])
 
 -- ---- attributes

@@ -1,5 +1,5 @@
 //! Why an element is no identifier.
-use std::alloc::{AllocError, AllocFailed};
+use std::alloc::{AllocError as NoMemory, AllocFailed};
 use thiserror::Error;
 
 /// Why no identifier was made from an element.
@@ -19,13 +19,13 @@ pub enum IdentError {
     NoMemory,
 }
 
-impl From<AllocError> for IdentError {
+impl From<NoMemory> for IdentError {
     ghost use Rattle.std.specs.Prelude.{◌≡◌};
     ghost use Rattle.ifmap_ident.specs.declared.errors.IdentError.TheVariants.{NoMemory};
 
     ghost from_gives = { λ _ e. e ≡ NoMemory };
 
-    fn from(_: AllocError) -> Self {
+    fn from(_: NoMemory) -> Self {
         IdentError::NoMemory
     }
 }

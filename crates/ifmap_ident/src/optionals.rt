@@ -2,8 +2,8 @@
 ghost use Rattle.std.specs.Prelude.{◌≡◌, ◌-◌, ◌^◌, length, min};
 ghost use Rattle.ifmap_ident.specs.Written.{OptionalsLead, attribute_written, optional_written};
 
-use crate::written::{Place, text_len, text_order};
-use ifmap_elem::Text;
+use crate::written::{text_len, text_order};
+use ifmap_elem::{Text, TextPlace};
 use std::cmp::Ordering;
 
 // How the attributes of one name with these two values compare, each before one whose name has a
@@ -15,7 +15,7 @@ pub(crate) fn optional_order(one: &Text, other: &Text) -> Ordering
         (true, true) => Ordering::Equal,
         (true, false) => Ordering::Greater,
         (false, true) => Ordering::Less,
-        (false, false) => text_order(Place::Value, one, other),
+        (false, false) => text_order(TextPlace::Value, one, other),
     }
 }
 
@@ -34,7 +34,7 @@ pub(crate) fn attribute_len(local: &str, value: &Text) -> u64
     ensures { result ≡ min (length (attribute_written local.now value.now)) (2 ^ 64 - 1) }
 {
     let around = b" =\"\"".len() as u64;
-    text_len(Place::Value, value)
+    text_len(TextPlace::Value, value)
         .saturating_add(local.len() as u64)
         .saturating_add(around)
 }

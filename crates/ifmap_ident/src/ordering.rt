@@ -7,14 +7,14 @@ ghost use Rattle.ifmap_ident.specs.Leading.{FrontsCompare};
 ghost use Rattle.ifmap_ident.specs.Written.{closed_text, kind_rank};
 ghost use Rattle.ifmap_ident.specs.declared.identifiers.Identifier.TheVariants.{AccessRequest, Device, Identity, IpV4, IpV6, MacAddress};
 ghost use Rattle.ifmap_ident.specs.declared.kinds.Kind;
-ghost use Rattle.ifmap_ident.specs.declared.written.Place.TheVariants.{Value};
+ghost use Rattle.ifmap_elem.specs.declared.escaping.TextPlace.TheVariants.{Value};
 
 use crate::identifiers::Identifier;
 use crate::kinds::{IdentityType, Kind};
 use crate::optionals::optional_order;
-use crate::written::{Place, bytes_order, text_order};
+use crate::written::{bytes_order, text_order};
 use ifmap_addresses::{ip_v4_order, ip_v6_order, mac_address_order};
-use ifmap_elem::Text;
+use ifmap_elem::{Text, TextPlace};
 use std::cmp::Ordering;
 
 // How two identifiers compare by their canonical bytes: by the names of their elements, and then
@@ -90,7 +90,11 @@ fn order_of_access_request(name: &Text, domain: &Text, other: &Identifier) -> Or
         Identifier::AccessRequest {
             name: other_name,
             domain: other_domain,
-        } => optional_order(domain, other_domain).then(text_order(Place::Value, name, other_name)),
+        } => optional_order(domain, other_domain).then(text_order(
+            TextPlace::Value,
+            name,
+            other_name,
+        )),
         _ => Ordering::Equal,
     }
 }
@@ -100,7 +104,7 @@ fn order_of_device(name: &Text, other: &Identifier) -> Ordering
         → result ≡ identifier_order (Device name.now) other.now }
 {
     match other {
-        Identifier::Device { name: other_name } => text_order(Place::Content, name, other_name),
+        Identifier::Device { name: other_name } => text_order(TextPlace::Content, name, other_name),
         _ => Ordering::Equal,
     }
 }
@@ -117,7 +121,7 @@ fn order_of_identity(one: IdentityParts<'_>, other: &Identifier) -> Ordering
             other: definition,
             domain,
         } => optional_order(one.domain, domain)
-            .then(text_order(Place::Value, one.name, name))
+            .then(text_order(TextPlace::Value, one.name, name))
             .then(optional_order(one.definition, definition))
             .then(type_order(one.kind, *kind)),
         _ => Ordering::Equal,
@@ -176,7 +180,11 @@ fn type_order(one: IdentityType, other: IdentityType) -> Ordering
     ensures { FrontsCompare result (closed_text Value (identity_type_name one))
         (closed_text Value (identity_type_name other)) }
 {
-    bytes_order(Place::Value, one.name().as_bytes(), other.name().as_bytes())
+    bytes_order(
+        TextPlace::Value,
+        one.name().as_bytes(),
+        other.name().as_bytes(),
+    )
 }
 
 fn v4_order(value: &[u8; 4], domain: &Text, other_value: &[u8; 4], other_domain: &Text) -> Ordering

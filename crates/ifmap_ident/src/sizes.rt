@@ -6,9 +6,9 @@ ghost use Rattle.ifmap_ident.specs.declared.identifiers.Identifier.TheVariants.{
 
 use crate::identifiers::Identifier;
 use crate::optionals::{attribute_len, optional_len};
-use crate::written::{Place, text_len};
+use crate::written::text_len;
 use ifmap_addresses::{ip_v4_len, ip_v6_len, mac_address_len};
-use ifmap_elem::Text;
+use ifmap_elem::{Text, TextPlace};
 
 // How many canonical bytes an identifier has; at most 2^64 - 1.
 pub(crate) fn identifier_len(identifier: &Identifier) -> u64
@@ -18,7 +18,7 @@ pub(crate) fn identifier_len(identifier: &Identifier) -> u64
         Identifier::AccessRequest { name, domain } => domain_len(domain)
             .saturating_add(attribute_len("name", name))
             .saturating_add(b"<access-request/>".len() as u64),
-        Identifier::Device { name } => text_len(Place::Content, name).saturating_add(
+        Identifier::Device { name } => text_len(TextPlace::Content, name).saturating_add(
             b"<device><name></name></device>".len() as u64,
         ),
         Identifier::Identity {

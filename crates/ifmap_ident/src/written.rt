@@ -7,28 +7,19 @@ ghost use Rattle.std.specs.Ordering.{nat_cmp};
 ghost use Rattle.ifmap_ident.specs.Leading.{FrontsCompare};
 ghost use Rattle.ifmap_ident.specs.Written.{closed_text, placed_byte, placed_bytes, written_byte};
 
-use ifmap_elem::{Text, text_reference, value_reference};
+use ifmap_elem::{Text, TextPlace, text_reference, value_reference};
 use std::cmp::Ordering;
 use std::simd::prelude::*;
 use std::slice;
 
-// Where a text stands in canonical bytes.
-#[derive(Clone, Copy)]
-pub(crate) enum Place {
-    // Between the quotes of an attribute.
-    Value,
-    // Between the tags of an element.
-    Content,
-}
-
 // How two texts compare as they are written, each with the byte that ends it in its place.
-pub(crate) fn text_order(place: Place, one: &Text, other: &Text) -> Ordering
+pub(crate) fn text_order(place: TextPlace, one: &Text, other: &Text) -> Ordering
     ensures { FrontsCompare result (closed_text place one.now) (closed_text place other.now) }
 {
     bytes_order(place, one.as_bytes(), other.as_bytes())
 }
 
-pub(crate) fn bytes_order(place: Place, one: &[u8], other: &[u8]) -> Ordering
+pub(crate) fn bytes_order(place: TextPlace, one: &[u8], other: &[u8]) -> Ordering
     ensures { FrontsCompare result (closed_text place one.now) (closed_text place other.now) }
 {
     let shared = shared_len(one, other);
@@ -36,7 +27,7 @@ pub(crate) fn bytes_order(place: Place, one: &[u8], other: &[u8]) -> Ordering
 }
 
 // How what is written for two bytes compares; where a text ends, for the byte that ends it.
-fn order_after_shared(place: Place, one: Option<&u8>, other: Option<&u8>) -> Ordering
+fn order_after_shared(place: TextPlace, one: Option<&u8>, other: Option<&u8>) -> Ordering
     ensures { result ≡ slice_cmp nat_cmp (written_byte place (option_copied one.entry))
         (written_byte place (option_copied other.entry)) }
 {
@@ -46,7 +37,7 @@ fn order_after_shared(place: Place, one: Option<&u8>, other: Option<&u8>) -> Ord
     }
 }
 
-fn byte_order(place: Place, one: &u8, other: &u8) -> Ordering
+fn byte_order(place: TextPlace, one: &u8, other: &u8) -> Ordering
     ensures { result ≡ slice_cmp nat_cmp (placed_byte place one.now) (placed_byte place other.now) }
 {
     if *one > LAST_REFERENCE && *other > LAST_REFERENCE {
@@ -122,7 +113,7 @@ fn shared_in_block(one: &[u8], other: &[u8], at: usize) -> usize
 }
 
 // How long a text is as it is written; at most 2^64 - 1.
-pub(crate) fn text_len(place: Place, text: &Text) -> u64
+pub(crate) fn text_len(place: TextPlace, text: &Text) -> u64
     ensures { result ≡ min (length (placed_bytes place text.now)) (2 ^ 64 - 1) }
 {
     let mut len: u64 = 0;
@@ -133,12 +124,12 @@ pub(crate) fn text_len(place: Place, text: &Text) -> u64
 }
 
 // What is written for a byte in its place; at the end of a text, the byte that ends it.
-fn written_byte<'a>(place: Place, byte: Option<&'a u8>) -> &'a [u8]
+fn written_byte<'a>(place: TextPlace, byte: Option<&'a u8>) -> &'a [u8]
     ensures { result.now ≡ written_byte place (option_copied byte.entry) }
 {
     match (place, byte) {
-        (Place::Value, None) => b"\"",
-        (Place::Content, None) => b"<",
+        (TextPlace::Value, None) => b"\"",
+        (TextPlace::Content, None) => b"<",
         (place, Some(byte)) => placed_byte(place, byte),
     }
 }
@@ -147,14 +138,14 @@ fn written_byte<'a>(place: Place, byte: Option<&'a u8>) -> &'a [u8]
 const LAST_REFERENCE: u8 = b'>';
 
 // What is written for a byte in its place.
-fn placed_byte<'a>(place: Place, byte: &'a u8) -> &'a [u8]
+fn placed_byte<'a>(place: TextPlace, byte: &'a u8) -> &'a [u8]
     ensures { result.now ≡ placed_byte place byte.now }
 {
     if *byte > LAST_REFERENCE {
         return slice::from_ref(byte);
     }
     match place {
-        Place::Value => value_reference(*byte).unwrap_or(slice::from_ref(byte)),
-        Place::Content => text_reference(*byte).unwrap_or(slice::from_ref(byte)),
+        TextPlace::Value => value_reference(*byte).unwrap_or(slice::from_ref(byte)),
+        TextPlace::Content => text_reference(*byte).unwrap_or(slice::from_ref(byte)),
     }
 }

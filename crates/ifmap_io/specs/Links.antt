@@ -2,12 +2,12 @@
 use Rattle.std.specs.Prelude.{ℕ, List, Option, None}
 
 -- one side of a link: the bytes that it has left or holds, where they are told, and its count of faults
-pub record Side : Type 0 where
+pub record LinkSide : Type 0 where
   pub bytes : Option (List ℕ)
   pub faults : ℕ
 
 -- the side that an object does not have
-abbrev pub no_side : Side
+abbrev pub no_side : LinkSide
 no_side = record { bytes = None; faults = 0 }
 
 -- a link: what it has left, what it holds, and its counts of reading and of writing

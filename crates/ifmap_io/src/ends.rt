@@ -3,7 +3,7 @@ ghost use Rattle.std.specs.Prelude.{◌≡◌, ℕ, List, Option, is_some};
 ghost use Rattle.std.specs.Io.{ReadsAtMost};
 ghost use Rattle.std.specs.Io.KnownBytes.{Keeps, ReadConsumes};
 ghost use Rattle.ifmap_io.specs.Causes.{HasCause};
-ghost use Rattle.ifmap_io.specs.Links.{Side, no_side};
+ghost use Rattle.ifmap_io.specs.Links.{LinkSide, no_side};
 ghost use Rattle.ifmap_io.specs.Written.{WritesAll};
 
 /// The outside failed. The object's count of faults has risen.
@@ -19,7 +19,7 @@ pub trait Source {
     ghost faults: { Self → ℕ };
 
     /// What the object is as a sink too, where it is a link.
-    ghost outgoing: { Self → Side } = { λ _. no_side };
+    ghost outgoing: { Self → LinkSide } = { λ _. no_side };
 
     /// Puts the next bytes at the start of `room`, and answers how many. With room, 0 is the end of
     /// input. A read that fails takes nothing, and no read changes what was written. It is not made
@@ -41,7 +41,7 @@ pub trait Sink {
     ghost faults: { Self → ℕ };
 
     /// What the object is as a source too, where it is a link.
-    ghost incoming: { Self → Side } = { λ _. no_side };
+    ghost incoming: { Self → LinkSide } = { λ _. no_side };
 
     /// Writes all of `bytes`. A write that fails has written a prefix of them, and no write takes
     /// from what is left to read.

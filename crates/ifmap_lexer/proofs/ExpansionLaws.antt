@@ -10,16 +10,16 @@ use Rattle.ifmap_lemmas.specs.Cuts.{cut}
 use Rattle.ifmap_elem.specs.laws.OneToken.{one_part}
 use Rattle.ifmap_lexer.specs.Cutting.{CutsAt, is_but}
 use Rattle.ifmap_lexer.specs.Runs.{part_in}
-use Rattle.ifmap_lexer.specs.declared.values.Place.{Place}
-use Rattle.ifmap_lexer.specs.declared.values.Place.TheVariants.{AttributeValue, CharacterData}
+use Rattle.ifmap_elem.specs.declared.escaping.TextPlace.{TextPlace}
+use Rattle.ifmap_elem.specs.declared.escaping.TextPlace.TheVariants.{Value, Content}
 
-empty_run : (place : Place) → part_in place (Plain []) ≡ []
-empty_run CharacterData = refl
-empty_run AttributeValue = refl
+empty_run : (place : TextPlace) → part_in place (Plain []) ≡ []
+empty_run Content = refl
+empty_run Value = refl
 
-character_in : (place : Place) (c : ℕ) → part_in place (Reference c) ≡ encode_utf8 c
-character_in CharacterData c = refl
-character_in AttributeValue c = refl
+character_in : (place : TextPlace) (c : ℕ) → part_in place (Reference c) ≡ encode_utf8 c
+character_in Content c = refl
+character_in Value c = refl
 
 no_cons : (b : ℕ) (bs : List ℕ) → b ∷ bs ≡ [] → ⊥
 no_cons b bs e = cc
@@ -31,7 +31,7 @@ no_run (b ∷ bs) rest tail some f e =
     let wrong : false ≡ true = subst (λ (n : ℕ). is_but ampersand n ≡ true) head f.0 in
     cc
 
-module _ (place : Place) where
+module _ (place : TextPlace) where
   abbrev Means : List ℕ → List ℕ → Type 0
   Means written text = SpellsOut (part_in place) written text
 

@@ -8,8 +8,8 @@ use Rattle.ifmap_elem.specs.Values.{Plain, as_space, line_ends, begins_with}
 use Rattle.ifmap_lemmas.specs.Numbers.{is_other}
 use Rattle.ifmap_lexer.specs.Cutting.{CutsAt, is_but}
 use Rattle.ifmap_lexer.specs.Runs.{break_in, line_in, part_in}
-use Rattle.ifmap_lexer.specs.declared.values.Place.{Place}
-use Rattle.ifmap_lexer.specs.declared.values.Place.TheVariants.{AttributeValue, CharacterData}
+use Rattle.ifmap_elem.specs.declared.escaping.TextPlace.{TextPlace}
+use Rattle.ifmap_elem.specs.declared.escaping.TextPlace.TheVariants.{Value, Content}
 use Rattle.ifmap_lexer.proofs.Basics.{all_front, all_back}
 
 no_break : (b : ℕ) → is_but tab b ≡ true → is_but line_feed b ≡ true → as_space b ≡ b
@@ -41,19 +41,19 @@ lines_none : (xs : List ℕ) → AllAre (is_but carriage_return) xs → line_end
 lines_none [] f = refl
 lines_none (b ∷ bs) f = rw (not-true (b == carriage_return) f.0) (ap (λ x. b ∷ x) (lines_none bs f.1))
 
-pub break_step : (place : Place) (rest line after beyond : List ℕ) → CutsAt carriage_return rest line after
+pub break_step : (place : TextPlace) (rest line after beyond : List ℕ) → CutsAt carriage_return rest line after
     → line_ends (carriage_return ∷ after) ≡ line_feed ∷ line_ends beyond
     → part_in place (Plain rest) ≡ line_in place line ++ (break_in place ∷ part_in place (Plain beyond))
-break_step CharacterData rest line after beyond c e = ap line_ends c.bytes_are ∙ lines_front line (carriage_return ∷ after) c.passes
+break_step Content rest line after beyond c e = ap line_ends c.bytes_are ∙ lines_front line (carriage_return ∷ after) c.passes
     ∙ ap (λ x. line ++ x) e
-break_step AttributeValue rest line after beyond c e =
+break_step Value rest line after beyond c e =
     ap (λ x. map as_space (line_ends x)) c.bytes_are
     ∙ ap (map as_space) (lines_front line (carriage_return ∷ after) c.passes ∙ ap (λ x. line ++ x) e)
     ∙ map-append as_space line (line_feed ∷ line_ends beyond)
 
-pub break_end : (place : Place) (rest : List ℕ) → AllAre (is_but carriage_return) rest → part_in place (Plain rest) ≡ line_in place rest
-break_end CharacterData rest f = lines_none rest f
-break_end AttributeValue rest f = ap (map as_space) (lines_none rest f)
+pub break_end : (place : TextPlace) (rest : List ℕ) → AllAre (is_but carriage_return) rest → part_in place (Plain rest) ≡ line_in place rest
+break_end Content rest f = lines_none rest f
+break_end Value rest f = ap (map as_space) (lines_none rest f)
 
 pub no_newline : (bs : List ℕ) → ((rest : List ℕ) → bs ≡ line_feed ∷ rest → ⊥) → begins_with line_feed bs ≡ false
 no_newline [] h = refl

@@ -7,8 +7,8 @@ use Rattle.ifmap_lemmas.specs.Members.{all_weaker}
 use Rattle.ifmap_lexer.specs.Common.{is_verbatim}
 use Rattle.ifmap_lexer.specs.Cutting.{is_but}
 use Rattle.ifmap_lexer.specs.Runs.{line_in, part_in}
-use Rattle.ifmap_lexer.specs.declared.values.Place.{Place}
-use Rattle.ifmap_lexer.specs.declared.values.Place.TheVariants.{AttributeValue, CharacterData}
+use Rattle.ifmap_elem.specs.declared.escaping.TextPlace.{TextPlace}
+use Rattle.ifmap_elem.specs.declared.escaping.TextPlace.TheVariants.{Value, Content}
 use Rattle.ifmap_lexer.proofs.ExpansionLaws.{along_start, along_end}
 use Rattle.ifmap_lexer.proofs.RunLaws.{break_end, untabbed}
 
@@ -24,15 +24,15 @@ no_newline b h = grind (arith, nat_tests)
 no_tab : (b : ℕ) → is_verbatim b ≡ true → is_but tab b ≡ true
 no_tab b h = grind (arith, nat_tests)
 
-line_same : (place : Place) (xs : List ℕ) → AllAre is_verbatim xs → line_in place xs ≡ xs
-line_same CharacterData xs f = refl
-line_same AttributeValue xs f =
+line_same : (place : TextPlace) (xs : List ℕ) → AllAre is_verbatim xs → line_in place xs ≡ xs
+line_same Content xs f = refl
+line_same Value xs f =
     untabbed xs (all_weaker is_verbatim (is_but tab) no_tab xs f) (all_weaker is_verbatim (is_but line_feed) no_newline xs f)
 
-part_same : (place : Place) (xs : List ℕ) → AllAre is_verbatim xs → part_in place (Plain xs) ≡ xs
+part_same : (place : TextPlace) (xs : List ℕ) → AllAre is_verbatim xs → part_in place (Plain xs) ≡ xs
 part_same place xs f = break_end place xs (all_weaker is_verbatim (is_but carriage_return) no_return xs f) ∙ line_same place xs f
 
-pub verbatim_expands : (place : Place) (written text : List ℕ) → AllAre is_verbatim written → text ≡ written
+pub verbatim_expands : (place : TextPlace) (written text : List ℕ) → AllAre is_verbatim written → text ≡ written
     → SpellsOut (part_in place) written text
 verbatim_expands place written text f e =
     along_end place written [] written text (along_start place written [] refl)

@@ -15,7 +15,7 @@ use Rattle.ifmap_elem.specs.laws.NameBytes.{is_name_byte}
 use Rattle.ifmap_lexer.specs.Runs.{part_in}
 use Rattle.ifmap_lexer.specs.Settings.{SetsTo}
 use Rattle.ifmap_lexer.specs.Tags.{ClosesTag, TakesAssignments}
-use Rattle.ifmap_lexer.specs.declared.values.Place.{Place}
+use Rattle.ifmap_elem.specs.declared.escaping.TextPlace.{TextPlace}
 
 -- nothing is left by one that stands there
 abbrev pub NoneLeaves : (List ℕ → Type 0) → Type 0
@@ -57,7 +57,7 @@ abbrev pub SomeGiven : List ℕ → Type 0
 SomeGiven written = (value : List ℕ) × IsCharacters written × AllAre (is_but less_than) written × IsValue written value
 
 -- written characters mean something in their place
-abbrev pub SomeExpansion : Place → List ℕ → Type 0
+abbrev pub SomeExpansion : TextPlace → List ℕ → Type 0
 SomeExpansion place written = (text : List ℕ) × SpellsOut (part_in place) written text
 
 abbrev pub SomeAssignment : List ℕ → Type 0

@@ -15,9 +15,9 @@ use crate::errors::LexError;
 use crate::names::name_of;
 use crate::quoting::quoted_value;
 use crate::splitting::{after_word, has_byte, split_white};
-use crate::values::{Place, meaning};
+use crate::values::meaning;
 use ifmap_elem::tokens::{Assignment, Tag};
-use ifmap_elem::{Many, Text};
+use ifmap_elem::{Many, Text, TextPlace};
 use std::alloc::Global;
 
 // The tag at the front, and how it ends.
@@ -95,5 +95,5 @@ fn value_of(alloc: Global, written: &[u8]) -> Result<Text, LexError>
     let Some(text) = characters(written) else {
         return Err(LexError::Malformed);
     };
-    meaning(alloc, Place::AttributeValue, text)
+    meaning(alloc, TextPlace::Value, text)
 }

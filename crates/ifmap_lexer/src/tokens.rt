@@ -13,7 +13,8 @@ use crate::kinds::kind_at;
 use crate::names::{after_ascii_name, name_of};
 use crate::splitting::{after_word, has_section_end, split_byte, split_white, split_word};
 use crate::tags::tag_of;
-use crate::values::{Place, meaning, plain_meaning};
+use crate::values::{meaning, plain_meaning};
+use ifmap_elem::TextPlace;
 use ifmap_elem::tokens::{Token, TokenKind};
 use ifmap_elem::white_space::is_white_alone;
 use std::alloc::Global;
@@ -133,7 +134,7 @@ fn text(alloc: Global, bytes: &[u8]) -> Result<(Token, &[u8]), LexError>
     let Some(written) = characters(own) else {
         return Err(LexError::Malformed);
     };
-    let meant = meaning(alloc, Place::CharacterData, written)?;
+    let meant = meaning(alloc, TextPlace::Content, written)?;
     Ok((
         Token::Characters {
             blank: is_white_alone(own),

@@ -12,21 +12,12 @@ ghost use Rattle.ifmap_lexer.specs.Runs.{break_in, line_in, part_in, run_in};
 use crate::errors::LexError;
 use crate::references::character_named;
 use crate::splitting::split_char;
-use ifmap_elem::Text;
+use ifmap_elem::{Text, TextPlace};
 use std::alloc::{AllocError as NoMemory, Global};
-
-// Where characters are written.
-#[derive(Clone, Copy)]
-pub(crate) enum Place {
-    // Between tags.
-    CharacterData,
-    // In the value of an attribute.
-    AttributeValue,
-}
 
 // What the written characters mean. Most mean themselves.
 #[tactic(auto, using(crate::proofs::VerbatimLaws::verbatim_expands))]
-pub(crate) fn meaning(alloc: Global, place: Place, written: &str) -> Result<Text, LexError>
+pub(crate) fn meaning(alloc: Global, place: TextPlace, written: &str) -> Result<Text, LexError>
     ensures found { IfOk result (λ text. SpellsOut (part_in place) written.now text) }
     ensures refused { IfErr result (λ e. Refuses e (SomeExpansion place written.now)) }
 {
@@ -51,7 +42,7 @@ fn are_verbatim(bytes: &[u8]) -> bool
 }
 
 // What the written characters mean, run by run and reference by reference.
-fn expand(alloc: Global, place: Place, written: &str) -> Result<Text, LexError>
+fn expand(alloc: Global, place: TextPlace, written: &str) -> Result<Text, LexError>
     ensures found { IfOk result (λ text. SpellsOut (part_in place) written.now text) }
     ensures refused { IfErr result (λ e. Refuses e (SomeExpansion place written.now)) }
 {
@@ -77,12 +68,12 @@ pub(crate) fn plain_meaning(alloc: Global, written: &str) -> Result<Text, NoMemo
     ensures { IfOk result (λ text. text ≡ line_ends written.now) }
 {
     let mut text = String::with_capacity(alloc, written.len())?;
-    push_run(Place::CharacterData, written, &mut text)?;
+    push_run(TextPlace::Content, written, &mut text)?;
     Ok(Text(text))
 }
 
 // Appends what a run without references means.
-fn push_run(place: Place, run: &str, text: &mut String) -> Result<(), NoMemory>
+fn push_run(place: TextPlace, run: &str, text: &mut String) -> Result<(), NoMemory>
     ensures { OnOk result (string_bytes text.new ≡ string_bytes text.old ++ run_in place run.now) }
 {
     let mut rest = run;
@@ -105,21 +96,21 @@ fn after_newline(text: &str) -> &str
     }
 }
 
-fn push_break(place: Place, text: &mut String) -> Result<(), NoMemory>
+fn push_break(place: TextPlace, text: &mut String) -> Result<(), NoMemory>
     ensures { OnOk result (string_bytes text.new ≡ string_bytes text.old ++ (break_in place ∷ [])) }
 {
     match place {
-        Place::CharacterData => text.push('\n'),
-        Place::AttributeValue => text.push(' '),
+        TextPlace::Content => text.push('\n'),
+        TextPlace::Value => text.push(' '),
     }
 }
 
-fn push_line(place: Place, line: &str, out: &mut String) -> Result<(), NoMemory>
+fn push_line(place: TextPlace, line: &str, out: &mut String) -> Result<(), NoMemory>
     ensures { OnOk result (string_bytes out.new ≡ string_bytes out.old ++ line_in place line.now) }
 {
     match place {
-        Place::CharacterData => out.push_str(line),
-        Place::AttributeValue => push_spaced(line, out),
+        TextPlace::Content => out.push_str(line),
+        TextPlace::Value => push_spaced(line, out),
     }
 }
 

@@ -14,7 +14,7 @@ use Rattle.ifmap_machine.specs.Step.{renew, renew_first, renew_session, search, 
 use Rattle.ifmap_machine.specs.Telling.{is_too_big, overflow, tell}
 use Rattle.ifmap_publish.specs.declared.who.Who.TheVariants.{Publisher}
 use Rattle.ifmap_publish.specs.Retract.{retract}
-use Rattle.ifmap_publish.specs.ifmap_requests.declared.publishing.PublishOp.{PublishOp}
+use Rattle.ifmap_publish.specs.ifmap_requests.declared.publish_ops.PublishOp.{PublishOp}
 use Rattle.ifmap_publish.specs.ifmap_requests.declared.requests.Request.TheVariants as the_request
 use Rattle.ifmap_publish.specs.ifmap_requests.declared.requests.SubscribeOp.{SubscribeOp}
 use Rattle.ifmap_replies.specs.ifmap_search.declared.results.PollItem.{PollItem}

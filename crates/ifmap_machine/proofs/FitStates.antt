@@ -50,8 +50,8 @@ use Rattle.ifmap_publish.specs.declared.who.Who.{Who}
 use Rattle.ifmap_publish.specs.declared.who.Who.TheVariants.{Sessions, Publisher}
 use Rattle.ifmap_replies.specs.Fit.{AreFitEntries, IsFitEntry, IsFitPollItem}
 use Rattle.ifmap_publish.specs.ifmap_requests.Fit.{IsFitOp, IsFitSubscribeOp}
-use Rattle.ifmap_publish.specs.ifmap_requests.declared.publishing.PublishOp.{PublishOp}
-use Rattle.ifmap_publish.specs.ifmap_requests.declared.publishing.PublishOp.TheVariants as publishing
+use Rattle.ifmap_publish.specs.ifmap_requests.declared.publish_ops.PublishOp.{PublishOp}
+use Rattle.ifmap_publish.specs.ifmap_requests.declared.publish_ops.PublishOp.TheVariants as publishing
 use Rattle.ifmap_publish.specs.ifmap_requests.declared.requests.Request.TheVariants as the_request
 use Rattle.ifmap_publish.specs.ifmap_requests.declared.requests.SubscribeOp.{SubscribeOp}
 use Rattle.ifmap_publish.specs.ifmap_requests.declared.requests.SubscribeOp.TheVariants.{Update, Delete}

@@ -19,7 +19,7 @@ use Rattle.ifmap_machine.specs.declared.events.Answer.{Answer}
 use Rattle.ifmap_machine.specs.declared.events.Answer.TheVariants as the_answer
 use Rattle.ifmap_machine.specs.declared.events.Ask.{Ask}
 use Rattle.ifmap_machine.specs.declared.events.Ask.TheVariants.{Request, Lost}
-use Rattle.ifmap_machine.specs.Agreeing.{Agrees, AgreesAfter, IsToldOrHeld, all_polled, items_polled, polled_by}
+use Rattle.ifmap_machine.specs.Agreeing.{Agrees, AgreesAfter, IsToldOrHeld, all_polled, items_polled, items_of_poll}
 use Rattle.ifmap_machine.specs.Ending.{drop_sessions, end_former, end_some, expire}
 use Rattle.ifmap_machine.specs.Events.{Event, IsFitAsk, IsFitEvent}
 use Rattle.ifmap_machine.specs.Legal.{AreFit, History, Legal, LegalFrom, state_after, state_from}
@@ -43,7 +43,7 @@ use Rattle.ifmap_publish.specs.Notes.{notes_of}
 use Rattle.ifmap_publish.specs.declared.who.Who.{Who}
 use Rattle.ifmap_publish.specs.declared.who.Who.TheVariants.{Sessions, Publisher}
 use Rattle.ifmap_publish.specs.Retract.{retract}
-use Rattle.ifmap_publish.specs.ifmap_requests.declared.publishing.PublishOp.{PublishOp}
+use Rattle.ifmap_publish.specs.ifmap_requests.declared.publish_ops.PublishOp.{PublishOp}
 use Rattle.ifmap_publish.specs.ifmap_requests.declared.requests.Request.TheVariants as the_request
 use Rattle.ifmap_replies.specs.declared.replies.Reply.TheVariants as the_reply
 use Rattle.ifmap_publish.specs.ifmap_requests.declared.requests.SubscribeOp.{SubscribeOp}
@@ -247,7 +247,7 @@ module _ (Good : List Attachment → Type 0) (good_none : Good []) (good_retract
 
   -- what is told after one more ask
   abbrev done_after : Ask → Answer → (List ℕ → Sets) → List ℕ → Sets
-  done_after ask answer done id = fold_items (polled_by id ask (items_polled answer)) (done id)
+  done_after ask answer done id = fold_items (items_of_poll id ask (items_polled answer)) (done id)
 
   step_follows : {Live : Standing → Type 0} (done : List ℕ → Sets) (state : State) (event : Event) (ask : Ask)
       → IsClientName event.client → IsFitAsk ask
@@ -334,7 +334,7 @@ module _ (Good : List Attachment → Type 0) (good_none : Good []) (good_retract
         follows = record {
           folded = λ s x hs hx same live.
               ap (λ (g : Sets). fold_items s.queue g x.name)
-              (fold_joined (polled_by s.id e.0.ask (items_polled e.1)) (all_polled s.id history) (done s.id))
+              (fold_joined (items_of_poll s.id e.0.ask (items_polled e.1)) (all_polled s.id history) (done s.id))
               ∙ rest.follows.folded s x hs hx same live;
           below = rest.follows.below;
         };
@@ -537,9 +537,9 @@ module _ (Good : List Attachment → Type 0) (good_none : Good []) (good_retract
 
   all_joined : (id : List ℕ) (first since : History) (e : Event × Answer) (sets : Sets)
       → fold_items (all_polled id (first ++ e ∷ since)) sets
-      ≡ fold_items (all_polled id since) (fold_items (polled_by id e.0.ask (items_polled e.1)) (fold_items (all_polled id first) sets))
+      ≡ fold_items (all_polled id since) (fold_items (items_of_poll id e.0.ask (items_polled e.1)) (fold_items (all_polled id first) sets))
   all_joined id first since e sets =
-      let told : Event × Answer → List PollItem = λ a. polled_by id a.0.ask (items_polled a.1) in
+      let told : Event × Answer → List PollItem = λ a. items_of_poll id a.0.ask (items_polled a.1) in
       ap (λ items. fold_items items sets) (flat_map-append told first (e ∷ since))
       ∙ fold_joined (all_polled id first) (all_polled id (e ∷ since)) sets
       ∙ fold_joined (told e) (all_polled id since) (fold_items (all_polled id first) sets)
@@ -566,7 +566,8 @@ module _ (Good : List Attachment → Type 0) (good_none : Good []) (good_retract
       ap (λ (y : State). Some (fresh y.graph x.search)) (sym joined) in
       record {
         updated = λ u.
-            let sets : List ℕ → Sets = λ i. fold_items (polled_by i e.0.ask (items_polled e.1)) (fold_items (all_polled i first) no_sets) in
+            let sets : List ℕ → Sets = λ i. fold_items (items_of_poll i e.0.ask (items_polled e.1))
+            (fold_items (all_polled i first) no_sets) in
             let renewed = renewed_holds _ sets mid last e id x.name keeps.session bare fits.1.0 parts.1.0 u whole.tabled there.0 own_is in
             ap (λ (f : Sets). f x.name) (all_joined id first since e no_sets)
             ∙ polled_folds sets (step mid e.0).0 later asked id renewed parts.1.1 fits.1.1 told keeps.session x found stands keeps.own

@@ -34,8 +34,8 @@ use Rattle.ifmap_publish.specs.Apply.{Authorship, apply, apply_op, attach, attac
 use Rattle.ifmap_publish.specs.Notes.{notes_of}
 use Rattle.ifmap_publish.specs.declared.who.Who.TheVariants.{Sessions, Publisher}
 use Rattle.ifmap_publish.specs.Retract.{ends_with, retract}
-use Rattle.ifmap_publish.specs.ifmap_requests.declared.publishing.PublishOp.{PublishOp}
-use Rattle.ifmap_publish.specs.ifmap_requests.declared.publishing.PublishOp.TheVariants.{Update, Notify, Delete}
+use Rattle.ifmap_publish.specs.ifmap_requests.declared.publish_ops.PublishOp.{PublishOp}
+use Rattle.ifmap_publish.specs.ifmap_requests.declared.publish_ops.PublishOp.TheVariants.{Update, Notify, Delete}
 use Rattle.ifmap_replies.specs.ifmap_search.declared.results.PollItem.{PollItem}
 use Rattle.ifmap_session.specs.Sessions.{Session, is_same_text, session_of_client, with_last}
 use Rattle.ifmap_session.specs.Sessions.{session_with_serial, without_sessions}

@@ -30,20 +30,20 @@ items_polled the_answer.Held = []
 items_polled the_answer.Heard = []
 
 -- what is told of a poll in the session of an id, where one is asked
-abbrev pub polled_by : List ℕ → Ask → List PollItem → List PollItem
-polled_by id (Request (the_request.Poll own)) items = if is_same_text own id then items else []
-polled_by id (Request (the_request.NewSession limit)) items = []
-polled_by id (Request (the_request.RenewSession own)) items = []
-polled_by id (Request (the_request.EndSession own)) items = []
-polled_by id (Request (the_request.Publish own ops)) items = []
-polled_by id (Request (the_request.Search own search)) items = []
-polled_by id (Request (the_request.Subscribe own ops)) items = []
-polled_by id (Request (the_request.PurgePublisher own publisher)) items = []
-polled_by id (Lost own) items = []
+abbrev pub items_of_poll : List ℕ → Ask → List PollItem → List PollItem
+items_of_poll id (Request (the_request.Poll own)) items = if is_same_text own id then items else []
+items_of_poll id (Request (the_request.NewSession limit)) items = []
+items_of_poll id (Request (the_request.RenewSession own)) items = []
+items_of_poll id (Request (the_request.EndSession own)) items = []
+items_of_poll id (Request (the_request.Publish own ops)) items = []
+items_of_poll id (Request (the_request.Search own search)) items = []
+items_of_poll id (Request (the_request.Subscribe own ops)) items = []
+items_of_poll id (Request (the_request.PurgePublisher own publisher)) items = []
+items_of_poll id (Lost own) items = []
 
 -- all that polls in the session of an id were told, in order
 abbrev pub all_polled : List ℕ → History → List PollItem
-all_polled id history = flat_map (λ (e : Event × Answer). polled_by id e.0.ask (items_polled e.1)) history
+all_polled id history = flat_map (λ (e : Event × Answer). items_of_poll id e.0.ask (items_polled e.1)) history
 
 -- what a client folds of that
 abbrev pub client_sets : List ℕ → History → Sets

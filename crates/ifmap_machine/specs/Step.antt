@@ -19,7 +19,7 @@ use Rattle.ifmap_publish.specs.Notes.{notes_of}
 use Rattle.ifmap_publish.specs.declared.who.Who.TheVariants.{Publisher}
 use Rattle.ifmap_publish.specs.Retract.{retract}
 use Rattle.ifmap_replies.specs.declared.replies.Reply.TheVariants as the_reply
-use Rattle.ifmap_publish.specs.ifmap_requests.declared.publishing.PublishOp.{PublishOp}
+use Rattle.ifmap_publish.specs.ifmap_requests.declared.publish_ops.PublishOp.{PublishOp}
 use Rattle.ifmap_publish.specs.ifmap_requests.declared.requests.Request.TheVariants as the_request
 use Rattle.ifmap_publish.specs.ifmap_requests.declared.requests.SubscribeOp.{SubscribeOp}
 use Rattle.ifmap_replies.specs.ifmap_search.declared.results.PollItem.{PollItem}

@@ -1,5 +1,5 @@
 //! Why an element is no metadata.
-use std::alloc::{AllocError, AllocFailed};
+use std::alloc::{AllocError as NoMemory, AllocFailed};
 use thiserror::Error;
 
 /// Why an element cannot be published.
@@ -16,13 +16,13 @@ pub enum MetaError {
     NoMemory,
 }
 
-impl From<AllocError> for MetaError {
+impl From<NoMemory> for MetaError {
     ghost use Rattle.std.specs.Prelude.{◌≡◌};
     ghost use Rattle.ifmap_meta.specs.declared.errors.MetaError.TheVariants.{NoMemory};
 
     ghost from_gives = { λ _ e. e ≡ NoMemory };
 
-    fn from(_: AllocError) -> Self {
+    fn from(_: NoMemory) -> Self {
         MetaError::NoMemory
     }
 }

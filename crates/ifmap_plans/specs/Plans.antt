@@ -18,13 +18,13 @@ abbrev pub change_of : List ItemChange → Item → Option ItemChange
 change_of changes x = find (λ c. same_item c.item x) changes
 
 -- what is stored on an item after its change, or as before where there is none
-abbrev pub changed_by : Option ItemChange → List Stored → List Stored
-changed_by None stored = stored
-changed_by (Some c) stored = next_on c.removed c.added stored
+abbrev pub list_after : Option ItemChange → List Stored → List Stored
+list_after None stored = stored
+list_after (Some c) stored = next_on c.removed c.added stored
 
 -- what is stored on an item after these changes, of what is stored there before
 abbrev pub after_on : List ItemChange → Item → List Stored → List Stored
-after_on changes x stored = changed_by (change_of changes x) stored
+after_on changes x stored = list_after (change_of changes x) stored
 
 -- what is stored is whole everywhere
 abbrev pub AreWhole : List Attachment → Type 0

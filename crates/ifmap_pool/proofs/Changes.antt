@@ -10,7 +10,7 @@ use Rattle.std.specs.FinMap as map
 use Rattle.ifmap_lemmas.specs.Options.{is_some_of}
 use Rattle.ifmap_pool.specs.Holdings.{Holdings, IsPresent, IsPool, TakesNumber, Frees, entry_at}
 use Rattle.ifmap_pool.specs.Index.{slot_at, slot_count, Writes, AreFree, IsKeyPlace, IsKept, entry_of, live_of}
-use Rattle.ifmap_pool.specs.declared.slots.Held.{Held}
+use Rattle.ifmap_pool.specs.declared.slots.HeldKey.{HeldKey}
 use Rattle.ifmap_pool.proofs.Live.{live_of-set, live_of-removed}
 use Rattle.ifmap_pool.proofs.Kept.{IsKeyIndex-written, IsKeyIndex-inserted, IsKeyIndex-removed}
 use Rattle.ifmap_pool.proofs.Named.{Shows, same_holdings, entry_is, entry_known, is_pool, pool_kept, absent_at}
@@ -18,11 +18,11 @@ use Rattle.ifmap_pool.proofs.Emptiness.{one_of, slot_within, written, count_writ
 
 module _ {K : Type 0} where
   -- what contracts see
-  abbrev pub seen : List (Option (Held K)) → ℕ → ℕ → Holdings K
+  abbrev pub seen : List (Option (HeldKey K)) → ℕ → ℕ → Holdings K
   seen slots len limit = record { live = live_of slots; spare = limit - len; limit = limit }
 
   -- a write over a slot that is not empty leaves which slots are
-  free_written : (slots : List (Option (Held K))) (free : List ℕ) (number : ℕ) (old value : Held K) → slot_at slots number ≡ Some old
+  free_written : (slots : List (Option (HeldKey K))) (free : List ℕ) (number : ℕ) (old value : HeldKey K) → slot_at slots number ≡ Some old
       → AreFree slots free → AreFree (set slots number (Some value)) free
   free_written slots free number old value was f =
       let inside = slot_within slots number (is_some_of _ old was) in
@@ -37,7 +37,7 @@ module _ {K : Type 0} where
         counted = omega (arith, f.counted, all, had, length-set slots number (Some value));
       }
 
-  module _ {cmp : K → K → Ordering} {slots : List (Option (Held K))} {free order : List ℕ} {len limit : ℕ}
+  module _ {cmp : K → K → Ordering} {slots : List (Option (HeldKey K))} {free order : List ℕ} {len limit : ℕ}
       (kept : IsKept cmp slots free order len limit) {pool : Holdings K} (is : seen slots len limit ≡ pool) where
     pub shown : Shows slots pool
     shown = record { live = sym (ap (λ (p : Holdings K). p.live) is) }
@@ -68,20 +68,21 @@ module _ {K : Type 0} where
           absurd (absent_at shown total kept.indexed key place missing present.0 present.1)
 
       -- the count of a number becomes another
-      module _ (number : ℕ) (old : Held K) (was : slot_at slots number ≡ Some old) (counts : ℕ → ℕ) (some : 0 < counts old.holds)
-          {after : List (Option (Held K))} (wrote : after ≡ set slots number (Some (record old { holds = counts old.holds }))) where
-        abbrev recounted : Held K
+      module _ (number : ℕ) (old : HeldKey K) (was : slot_at slots number ≡ Some old) (counts : ℕ → ℕ) (some : 0 < counts old.holds)
+          {after : List (Option (HeldKey K))} (wrote : after ≡ set slots number (Some (record old { holds = counts old.holds }))) where
+        abbrev recounted : HeldKey K
         recounted = record old { holds = counts old.holds }
 
         is_written : Writes slots after number (Some recounted)
-        is_written = subst (λ (s : List (Option (Held K))). Writes slots s number (Some recounted)) (sym wrote)
+        is_written = subst (λ (s : List (Option (HeldKey K))). Writes slots s number (Some recounted)) (sym wrote)
             (written slots number (Some recounted) (slot_within slots number (is_some_of _ old was)))
 
         kept_write : IsKept cmp after free order len limit
         kept_write = record {
           indexed = IsKeyIndex-written total (slot_at slots) (slot_at after) order kept.indexed number old recounted was
               is_written.changed refl some is_written.others;
-          free_slots = subst (λ (s : List (Option (Held K))). AreFree s free) (sym wrote) (free_written slots free number old recounted was
+          free_slots = subst (λ (s : List (Option (HeldKey K))). AreFree s free) (sym wrote)
+              (free_written slots free number old recounted was
               kept.free_slots);
           counted =
               let all = count_written slots number (Some recounted) (slot_within slots number (is_some_of _ old was)) in
@@ -107,11 +108,11 @@ module _ {K : Type 0} where
       -- a free number is taken for a key that was missed
       module _ (number place : ℕ) (key : K) (vacant : slot_at slots number ≡ None) (room : slot_count slots < limit)
           (missing : IsKeyPlace cmp (slot_at slots) order key (Err place))
-          {after : List (Option (Held K))} {rest items : List ℕ} {longer : ℕ}
+          {after : List (Option (HeldKey K))} {rest items : List ℕ} {longer : ℕ}
           (writes : Writes slots after number (Some (record { key = key; holds = 1 }))) (are_free : AreFree after rest)
           (counted : slot_count after ≡ slot_count slots + 1)
           (inside : length after ≤ limit) (listed : items ≡ lists.insert order place number) (long : longer ≡ len + 1) where
-        abbrev once_held : Held K
+        abbrev once_held : HeldKey K
         once_held = record { key = key; holds = 1 }
 
         kept_take : IsKept cmp after rest items longer limit
@@ -138,7 +139,7 @@ module _ {K : Type 0} where
 
       -- a number is freed
       module _ (number place : ℕ) (here : place < length order) (stood : get_or order place 0 ≡ number)
-          {after : List (Option (Held K))} {rest items : List ℕ} (shorter : ℕ)
+          {after : List (Option (HeldKey K))} {rest items : List ℕ} (shorter : ℕ)
           (writes : Writes slots after number None) (are_free : AreFree after rest) (counted : slot_count after + 1 ≡ slot_count slots)
           (same : length after ≡ length slots) (listed : items ≡ lists.remove order place) (short : shorter + 1 ≡ len) where
         kept_free : IsKept cmp after rest items shorter limit

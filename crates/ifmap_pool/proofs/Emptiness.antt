@@ -5,23 +5,23 @@ use Rattle.std.proofs.lemmas.List.{get_or-set_same, get_or-set_other, get_or_pas
 use Rattle.std.proofs.lemmas.List.Sums.{sum_by-set}
 use Rattle.std.proofs.lemmas.Option.{none-some}
 use Rattle.ifmap_pool.specs.Index.{slot_at, slot_count, Writes, AreFree, IsKept}
-use Rattle.ifmap_pool.specs.declared.slots.Held.{Held}
+use Rattle.ifmap_pool.specs.declared.slots.HeldKey.{HeldKey}
 
 module _ {K : Type 0} where
   -- a slot that is not empty is there
-  pub slot_within : (slots : List (Option (Held K))) (number : ℕ) → IsSome (slot_at slots number) → number < length slots
+  pub slot_within : (slots : List (Option (HeldKey K))) (number : ℕ) → IsSome (slot_at slots number) → number < length slots
   slot_within slots number some = grind (arith, get_or_past)
 
   -- one for a slot that is not empty
-  abbrev pub one_of : Option (Held K) → ℕ
+  abbrev pub one_of : Option (HeldKey K) → ℕ
   one_of o = cond (is_some o) 1 0
 
   -- the count of the slots that are not empty, after a write
-  pub count_written : (slots : List (Option (Held K))) (number : ℕ) (slot : Option (Held K)) → number < length slots
+  pub count_written : (slots : List (Option (HeldKey K))) (number : ℕ) (slot : Option (HeldKey K)) → number < length slots
       → slot_count (set slots number slot) + one_of (slot_at slots number) ≡ slot_count slots + one_of slot
   count_written slots number slot within = sum_by-set one_of slots number slot None within
 
-  pub written : (slots : List (Option (Held K))) (number : ℕ) (slot : Option (Held K)) → number < length slots
+  pub written : (slots : List (Option (HeldKey K))) (number : ℕ) (slot : Option (HeldKey K)) → number < length slots
       → Writes slots (set slots number slot) number slot
   written slots number slot within = record {
     changed = get_or-set_same slots number slot None within;
@@ -29,7 +29,7 @@ module _ {K : Type 0} where
   }
 
   -- the last of the free numbers is taken
-  module _ (slots : List (Option (Held K))) (free rest : List ℕ) (number : ℕ) (is : free ≡ rest ++ number ∷ []) (f : AreFree slots free)
+  module _ (slots : List (Option (HeldKey K))) (free rest : List ℕ) (number : ℕ) (is : free ≡ rest ++ number ∷ []) (f : AreFree slots free)
     where
       long : length free ≡ length rest + 1
       long = ap length is ∙ length_push rest number
@@ -46,13 +46,13 @@ module _ {K : Type 0} where
       pub last_empty : slot_at slots number ≡ None
       last_empty = subst (λ (n : ℕ). slot_at slots n ≡ None) last (f.empty (length rest) (omega (arith, long)))
 
-      pub count_filled : (held : Held K) → slot_count (set slots number (Some held)) ≡ slot_count slots + 1
+      pub count_filled : (held : HeldKey K) → slot_count (set slots number (Some held)) ≡ slot_count slots + 1
       count_filled held =
           let all = count_written slots number (Some held) last_within in
           let none : one_of (slot_at slots number) ≡ 0 = ap one_of last_empty in
           omega (arith, all, none)
 
-      pub free_filled : (held : Held K) → AreFree (set slots number (Some held)) rest
+      pub free_filled : (held : HeldKey K) → AreFree (set slots number (Some held)) rest
       free_filled held = record {
         apart = λ i j lt within e. f.apart i j lt (omega (arith, long, within)) (before i (omega (arith, lt, within)) ∙ e ∙ sym (before j
             within));

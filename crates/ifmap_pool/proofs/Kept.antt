@@ -15,7 +15,7 @@ use Rattle.std.specs.declared.cmp.Ordering.TheVariants.{Equal}
 use Rattle.ifmap_lemmas.specs.Options.{is_some_of, some_is}
 use Rattle.ifmap_lemmas.specs.Orderings.{greater_turned}
 use Rattle.ifmap_pool.specs.Index.{AllBelow, AllAbove, IsKeyPlace, IsKeyIndex}
-use Rattle.ifmap_pool.specs.declared.slots.Held.{Held}
+use Rattle.ifmap_pool.specs.declared.slots.HeldKey.{HeldKey}
 
 -- what stands at a place after an insert stood in the list before
 record Moved (order : List ℕ) (place number k : ℕ) : Type 0 where
@@ -82,9 +82,9 @@ closed order place k within k_in =
     ]
 
 module _ {K : Type 0} {cmp : K → K → Ordering} (total : IsTotalOrder cmp) where
-  module _ (slot : ℕ → Option (Held K)) (order : List ℕ) (indexed : IsKeyIndex cmp slot order) where
+  module _ (slot : ℕ → Option (HeldKey K)) (order : List ℕ) (indexed : IsKeyIndex cmp slot order) where
     -- two places whose keys are equal are one
-    pub one_place : (i j : ℕ) (a b : Held K) → i < length order → j < length order
+    pub one_place : (i j : ℕ) (a b : HeldKey K) → i < length order → j < length order
         → slot (get_or order i 0) ≡ Some a → slot (get_or order j 0) ≡ Some b → cmp a.key b.key ≡ Equal → i ≡ j
     one_place i j a b i_in j_in at_i at_j e =
         elim (cases_eq i j) [
@@ -99,7 +99,7 @@ module _ {K : Type 0} {cmp : K → K → Ordering} (total : IsTotalOrder cmp) wh
         ]
 
     -- two numbers whose keys are equal are one
-    pub one_number : (m n : ℕ) (a b : Held K) → slot m ≡ Some a → slot n ≡ Some b → cmp a.key b.key ≡ Equal → m ≡ n
+    pub one_number : (m n : ℕ) (a b : HeldKey K) → slot m ≡ Some a → slot n ≡ Some b → cmp a.key b.key ≡ Equal → m ≡ n
     one_number m n a b at_m at_n e =
         let first = indexed.listed m (is_some_of _ a at_m) in
         let second = indexed.listed n (is_some_of _ b at_n) in
@@ -108,7 +108,7 @@ module _ {K : Type 0} {cmp : K → K → Ordering} (total : IsTotalOrder cmp) wh
         sym first.2 ∙ ap (λ i. get_or order i 0) same ∙ second.2
 
     -- no value has a key that the search misses
-    pub none_missed : (key : K) (place : ℕ) → IsKeyPlace cmp slot order key (Err place) → (number : ℕ) (held : Held K)
+    pub none_missed : (key : K) (place : ℕ) → IsKeyPlace cmp slot order key (Err place) → (number : ℕ) (held : HeldKey K)
         → slot number ≡ Some held → cmp held.key key ≢ Equal
     none_missed key place missing number held is tie =
         let listed = indexed.listed number (is_some_of _ held is) in
@@ -120,22 +120,22 @@ module _ {K : Type 0} {cmp : K → K → Ordering} (total : IsTotalOrder cmp) wh
 
     -- the value at the place that the search finds
     pub place_held : (key : K) (place : ℕ) → IsKeyPlace cmp slot order key (Ok place) → (number : ℕ) → number ≡ get_or order place number
-        → (held : Held K) × (slot number ≡ Some held) × (cmp held.key key ≡ Equal)
+        → (held : HeldKey K) × (slot number ≡ Some held) × (cmp held.key key ≡ Equal)
     place_held key place found number stands =
         let there = some_is _ (indexed.live place found.0) in
         let same : get_or order place 0 ≡ number = get_or_default order place 0 number found.0 ∙ sym stands in
         (there.0, sym (ap slot same) ∙ there.1, found.1 there.0 there.1)
 
     -- the search finds a value's key at its number
-    pub number_found : (key : K) (place : ℕ) → IsKeyPlace cmp slot order key (Ok place) → (number : ℕ) (held : Held K)
+    pub number_found : (key : K) (place : ℕ) → IsKeyPlace cmp slot order key (Ok place) → (number : ℕ) (held : HeldKey K)
         → slot number ≡ Some held → cmp held.key key ≡ Equal → get_or order place 0 ≡ number
     number_found key place found number held is tie =
         let there = some_is _ (indexed.live place found.0) in
         one_number _ number there.0 held there.1 is (total.congr _ _ held.key (found.1 there.0 there.1) ∙ tied_back total _ _ tie)
 
   -- a value is written over one with its key
-  pub IsKeyIndex-written : (slot new : ℕ → Option (Held K)) (order : List ℕ) → IsKeyIndex cmp slot order
-      → (number : ℕ) (old value : Held K) → slot number ≡ Some old → new number ≡ Some value → value.key ≡ old.key → 0 < value.holds
+  pub IsKeyIndex-written : (slot new : ℕ → Option (HeldKey K)) (order : List ℕ) → IsKeyIndex cmp slot order
+      → (number : ℕ) (old value : HeldKey K) → slot number ≡ Some old → new number ≡ Some value → value.key ≡ old.key → 0 < value.holds
       → ((other : ℕ) → other ≢ number → new other ≡ slot other) → IsKeyIndex cmp new order
   IsKeyIndex-written slot new order indexed number old value was is same held others =
       record {
@@ -148,20 +148,20 @@ module _ {K : Type 0} {cmp : K → K → Ordering} (total : IsTotalOrder cmp) wh
         listed = λ n some. let there = some_is _ some in let before = earlier n there.0 there.1 in indexed.listed n (is_some_of _
             before.0 before.1);
         held = λ n entry at_n. elim (cases_eq n number) [
-          | inl here ↦ let one : value ≡ entry = same_Some _ _ (sym is ∙ sym (ap new here) ∙ at_n) in subst (λ (h : Held K). 0 < h.holds)
+          | inl here ↦ let one : value ≡ entry = same_Some _ _ (sym is ∙ sym (ap new here) ∙ at_n) in subst (λ (h : HeldKey K). 0 < h.holds)
               one held
           | inr differs ↦ indexed.held n entry (sym (others n differs) ∙ at_n)
         ];
       }
     where
-      earlier : (n : ℕ) (a : Held K) → new n ≡ Some a → (b : Held K) × (slot n ≡ Some b) × (a.key ≡ b.key)
+      earlier : (n : ℕ) (a : HeldKey K) → new n ≡ Some a → (b : HeldKey K) × (slot n ≡ Some b) × (a.key ≡ b.key)
       earlier n a at_n =
           elim (cases_eq n number) [
-            | inl here ↦ (old, ap slot here ∙ was, ap (λ (h : Held K). h.key) (same_Some _ _ (sym at_n ∙ ap new here ∙ is)) ∙ same)
+            | inl here ↦ (old, ap slot here ∙ was, ap (λ (h : HeldKey K). h.key) (same_Some _ _ (sym at_n ∙ ap new here ∙ is)) ∙ same)
             | inr differs ↦ (a, sym (others n differs) ∙ at_n, refl)
           ]
 
-      later : (n : ℕ) (b : Held K) → slot n ≡ Some b → IsSome (new n)
+      later : (n : ℕ) (b : HeldKey K) → slot n ≡ Some b → IsSome (new n)
       later n b at_n =
           elim (cases_eq n number) [
             | inl here ↦ is_some_of _ value (ap new here ∙ is)
@@ -169,8 +169,8 @@ module _ {K : Type 0} {cmp : K → K → Ordering} (total : IsTotalOrder cmp) wh
           ]
 
   -- a value gets a number that was free
-  pub IsKeyIndex-inserted : (slot new : ℕ → Option (Held K)) (order : List ℕ) → IsKeyIndex cmp slot order
-      → (number place : ℕ) (value : Held K) → slot number ≡ None → new number ≡ Some value → 0 < value.holds
+  pub IsKeyIndex-inserted : (slot new : ℕ → Option (HeldKey K)) (order : List ℕ) → IsKeyIndex cmp slot order
+      → (number place : ℕ) (value : HeldKey K) → slot number ≡ None → new number ≡ Some value → 0 < value.holds
       → ((other : ℕ) → other ≢ number → new other ≡ slot other)
       → place ≤ length order → AllBelow cmp slot order value.key place → AllAbove cmp slot order value.key place
       → IsKeyIndex cmp new (insert order place number)
@@ -183,12 +183,12 @@ module _ {K : Type 0} {cmp : K → K → Ordering} (total : IsTotalOrder cmp) wh
                     at_i) (was_at j b old_j at_j)
                 | inr here ↦
                     let one : value ≡ b = same_Some _ _ (sym is ∙ sym (ap new here.1) ∙ at_j) in
-                    sym (ap (λ (h : Held K). cmp a.key h.key) one) ∙ below old_i.from a (omega arith) (was_at i a old_i at_i)
+                    sym (ap (λ (h : HeldKey K). cmp a.key h.key) one) ∙ below old_i.from a (omega arith) (was_at i a old_i at_i)
               ]
               | inr here ↦ elim (source j (omega (arith, length-insert order place number within))) [
                 | inl old_j ↦
                     let one : value ≡ a = same_Some _ _ (sym is ∙ sym (ap new here.1) ∙ at_i) in
-                    sym (ap (λ (h : Held K). cmp h.key b.key) one) ∙ greater_turned total _ _ (above old_j.from b (omega arith)
+                    sym (ap (λ (h : HeldKey K). cmp h.key b.key) one) ∙ greater_turned total _ _ (above old_j.from b (omega arith)
                     old_j.within (was_at j b old_j at_j))
                 | inr also ↦ absurd (omega arith)
               ]
@@ -207,7 +207,7 @@ module _ {K : Type 0} {cmp : K → K → Ordering} (total : IsTotalOrder cmp) wh
                 here,
           )
           | inr differs ↦
-              let there = indexed.listed n (subst (λ (o : Option (Held K)). IsSome o) (others n differs) some) in
+              let there = indexed.listed n (subst (λ (o : Option (HeldKey K)). IsSome o) (others n differs) some) in
               elim (cases_lt there.0 place) [
                 | inl before ↦ (
                   there.0,
@@ -224,7 +224,7 @@ module _ {K : Type 0} {cmp : K → K → Ordering} (total : IsTotalOrder cmp) wh
               ]
         ];
         held = λ n entry at_n. elim (cases_eq n number) [
-          | inl here ↦ let one : value ≡ entry = same_Some _ _ (sym is ∙ sym (ap new here) ∙ at_n) in subst (λ (h : Held K). 0 < h.holds)
+          | inl here ↦ let one : value ≡ entry = same_Some _ _ (sym is ∙ sym (ap new here) ∙ at_n) in subst (λ (h : HeldKey K). 0 < h.holds)
               one held
           | inr differs ↦ indexed.held n entry (sym (others n differs) ∙ at_n)
         ];
@@ -246,12 +246,12 @@ module _ {K : Type 0} {cmp : K → K → Ordering} (total : IsTotalOrder cmp) wh
           number))
       source k = moved order place number k within
 
-      was_at : (k : ℕ) (a : Held K) (s : Moved order place number k) → new (get_or (insert order place number) k 0) ≡ Some a
+      was_at : (k : ℕ) (a : HeldKey K) (s : Moved order place number k) → new (get_or (insert order place number) k 0) ≡ Some a
           → slot (get_or order s.from 0) ≡ Some a
       was_at k a s at_k = sym (kept s.from s.within) ∙ sym (ap new s.is) ∙ at_k
 
   -- a number is freed
-  pub IsKeyIndex-removed : (slot new : ℕ → Option (Held K)) (order : List ℕ) → IsKeyIndex cmp slot order
+  pub IsKeyIndex-removed : (slot new : ℕ → Option (HeldKey K)) (order : List ℕ) → IsKeyIndex cmp slot order
       → (number place : ℕ) → place < length order → get_or order place 0 ≡ number → new number ≡ None
       → ((other : ℕ) → other ≢ number → new other ≡ slot other)
       → IsKeyIndex cmp new (remove order place)
@@ -306,6 +306,6 @@ module _ {K : Type 0} {cmp : K → K → Ordering} (total : IsTotalOrder cmp) wh
           total there.0.key) in
           absurd (elim (cases_lt k place) [ inl front ↦ omega arith | inr past ↦ omega arith ]))
 
-      was_at : (k : ℕ) (a : Held K) (s : Closed order place k) → new (get_or (remove order place) k 0) ≡ Some a
+      was_at : (k : ℕ) (a : HeldKey K) (s : Closed order place k) → new (get_or (remove order place) k 0) ≡ Some a
           → slot (get_or order s.from 0) ≡ Some a
       was_at k a s at_k = sym (kept k s) ∙ sym (ap new s.is) ∙ at_k

@@ -8,7 +8,7 @@ use Rattle.std.specs.Ordering.{nat_cmp, eq_by_cmp}
 use Rattle.std.specs.Cmp.{nat_cmp_total, unsigned_tied}
 use Rattle.std.specs.FinMap.{find, get, empty, from_entries, insert, len, remove, get-from_entries, get-insert, get-remove, len-empty, len-insert, same_map, nat_cmp-IsAntisymmetric}
 use Rattle.ifmap_pool.specs.Index.{entries_from, entry_of, live_of, slot_count}
-use Rattle.ifmap_pool.specs.declared.slots.Held.{Held}
+use Rattle.ifmap_pool.specs.declared.slots.HeldKey.{HeldKey}
 
 -- two numbers tie where they are one
 pub tied : (q : ℕ) → eq_by_cmp nat_cmp q q ≡ true
@@ -18,18 +18,18 @@ pub apart : (q k : ℕ) → q ≢ k → eq_by_cmp nat_cmp q k ≡ false
 apart q k ne = unsigned_tied q k ∙ grind (arith, nat_tests)
 
 module _ {K : Type 0} where
-  abbrev listed : ℕ → List (Option (Held K)) → List (ℕ × (K × ℕ))
+  abbrev listed : ℕ → List (Option (HeldKey K)) → List (ℕ × (K × ℕ))
   listed first slots = map (λ e. (e.0, entry_of e.1)) (entries_from first slots)
 
   -- no entry has a number below the first
-  find_before : (first q : ℕ) (slots : List (Option (Held K))) → q < first → find nat_cmp q (listed first slots) ≡ None
+  find_before : (first q : ℕ) (slots : List (Option (HeldKey K))) → q < first → find nat_cmp q (listed first slots) ≡ None
   find_before first q [] h = refl
   find_before first q (None ∷ rest) h = find_before (first + 1) q rest (omega arith)
   find_before first q (Some held ∷ rest) h =
       ap (λ b. cond b (Some (entry_of held)) (find nat_cmp q (listed (first + 1) rest))) (apart q first (omega arith))
       ∙ find_before (first + 1) q rest (omega arith)
 
-  find_listed : (first q k : ℕ) (slots : List (Option (Held K))) → q ≡ first + k
+  find_listed : (first q k : ℕ) (slots : List (Option (HeldKey K))) → q ≡ first + k
       → find nat_cmp q (listed first slots) ≡ option_map entry_of (get_or slots k None)
   find_listed first q k [] e = refl
   find_listed first q zero (None ∷ rest) e = find_before (first + 1) q rest (omega arith)
@@ -42,17 +42,17 @@ module _ {K : Type 0} where
       ∙ find_listed (first + 1) q k rest (omega arith)
 
   -- the map has at a number what its slot has
-  pub get-live_of : (slots : List (Option (Held K))) (number : ℕ) → get (live_of slots) number ≡ option_map entry_of (get_or slots number
+  pub get-live_of : (slots : List (Option (HeldKey K))) (number : ℕ) → get (live_of slots) number ≡ option_map entry_of (get_or slots number
       None)
   unfolding live_of
   get-live_of slots number = get-from_entries nat_cmp_total (listed 0 slots) number ∙ find_listed 0 number number slots (omega arith)
 
-  pub live_of-nil : (slots : List (Option (Held K))) → slots ≡ [] → live_of slots ≡ empty
+  pub live_of-nil : (slots : List (Option (HeldKey K))) → slots ≡ [] → live_of slots ≡ empty
   unfolding live_of
   live_of-nil slots e = ap (λ s. live_of s) e
 
   -- a slot that is filled or written
-  pub live_of-set : (old new : List (Option (Held K))) (number : ℕ) (held : Held K)
+  pub live_of-set : (old new : List (Option (HeldKey K))) (number : ℕ) (held : HeldKey K)
       → get_or new number None ≡ Some held → ((other : ℕ) → other ≢ number → get_or new other None ≡ get_or old other None)
       → live_of new ≡ insert (live_of old) number (entry_of held)
   live_of-set old new number held changed others =
@@ -67,7 +67,7 @@ module _ {K : Type 0} where
       ])
 
   -- a slot that is emptied
-  pub live_of-removed : (old new : List (Option (Held K))) (number : ℕ)
+  pub live_of-removed : (old new : List (Option (HeldKey K))) (number : ℕ)
       → get_or new number None ≡ None → ((other : ℕ) → other ≢ number → get_or new other None ≡ get_or old other None)
       → live_of new ≡ remove (live_of old) number
   live_of-removed old new number changed others =
@@ -81,7 +81,7 @@ module _ {K : Type 0} where
             ∙ ap (λ b. cond b None (get (live_of old) q)) (apart q number differs))
       ])
 
-  len_listed : (first : ℕ) (slots : List (Option (Held K))) → len (from_entries {R = nat_cmp} (listed first slots)) ≡ slot_count slots
+  len_listed : (first : ℕ) (slots : List (Option (HeldKey K))) → len (from_entries {R = nat_cmp} (listed first slots)) ≡ slot_count slots
   len_listed first [] = len-empty nat_cmp (K × ℕ)
   len_listed first (None ∷ rest) = len_listed (first + 1) rest
   len_listed first (Some held ∷ rest) =
@@ -93,10 +93,10 @@ module _ {K : Type 0} where
       ∙ ap (λ o. cond (is_some o) (len (from_entries {R = nat_cmp} (listed (first + 1) rest)))
       (len (from_entries {R = nat_cmp} (listed (first + 1) rest)) + 1)) none
       in let one : slot_count (Some held ∷ rest) ≡ 1 + slot_count rest
-      = sum_by-cons (λ (o : Option (Held K)). cond (is_some o) 1 0) (Some held) rest
+      = sum_by-cons (λ (o : Option (HeldKey K)). cond (is_some o) 1 0) (Some held) rest
       in omega (arith, more, one, len_listed (first + 1) rest)
 
   -- it has as many keys as slots are not empty
-  pub len-live_of : (slots : List (Option (Held K))) → len (live_of slots) ≡ slot_count slots
+  pub len-live_of : (slots : List (Option (HeldKey K))) → len (live_of slots) ≡ slot_count slots
   unfolding live_of
   len-live_of slots = len_listed 0 slots

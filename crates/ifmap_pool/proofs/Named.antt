@@ -9,44 +9,44 @@ use Rattle.std.specs.declared.cmp.Ordering.TheVariants.{Equal}
 use Rattle.ifmap_lemmas.specs.Options.{is_some_of, some_is}
 use Rattle.ifmap_pool.specs.Holdings.{Holdings, entry_at, key_at, holds_at, Names, IsAbsent, OneToOne, IsPool}
 use Rattle.ifmap_pool.specs.Index.{IsKeyPlace, IsKeyIndex, entry_of, live_of}
-use Rattle.ifmap_pool.specs.declared.slots.Held.{Held}
+use Rattle.ifmap_pool.specs.declared.slots.HeldKey.{HeldKey}
 use Rattle.ifmap_pool.proofs.Live.{get-live_of}
 use Rattle.ifmap_pool.proofs.Kept.{one_number, none_missed}
 use Rattle.ifmap_pool.proofs.Emptiness.{slot_within}
 
 -- contracts see the keys of these slots with their counts
-pub record Shows {K : Type 0} (slots : List (Option (Held K))) (pool : Holdings K) : Type 0 where
+pub record Shows {K : Type 0} (slots : List (Option (HeldKey K))) (pool : Holdings K) : Type 0 where
   pub live : pool.live ≡ live_of slots
 
 module _ {K : Type 0} where
   pub same_holdings : (a b : Holdings K) → a.live ≡ b.live → a.spare ≡ b.spare → a.limit ≡ b.limit → a ≡ b
   same_holdings a b p q r = λ i. record { live = p i; spare = q i; limit = r i }
 
-  entry_some : (o : Option (Held K)) (entry : K × ℕ) → option_map entry_of o ≡ Some entry
-      → (held : Held K) × (o ≡ Some held) × (entry_of held ≡ entry)
+  entry_some : (o : Option (HeldKey K)) (entry : K × ℕ) → option_map entry_of o ≡ Some entry
+      → (held : HeldKey K) × (o ≡ Some held) × (entry_of held ≡ entry)
   entry_some None entry e = absurd (cc)
   entry_some (Some held) entry e = (held, refl, same_Some _ _ e)
 
-  module _ {slots : List (Option (Held K))} {pool : Holdings K} (shown : Shows slots pool) where
+  module _ {slots : List (Option (HeldKey K))} {pool : Holdings K} (shown : Shows slots pool) where
     pub entry_is : (number : ℕ) → entry_at pool number ≡ option_map entry_of (get_or slots number None)
     entry_is number = ap (λ m. get m number) shown.live ∙ get-live_of slots number
 
     pub key_is : (number : ℕ) → key_at pool number ≡ option_map (λ held. held.key) (get_or slots number None)
     key_is number = ap (option_map (λ entry. entry.0)) (entry_is number) ∙ by_cases (get_or slots number None)
       where
-        by_cases : (o : Option (Held K)) → option_map (λ entry. entry.0) (option_map entry_of o) ≡ option_map (λ held. held.key) o
+        by_cases : (o : Option (HeldKey K)) → option_map (λ entry. entry.0) (option_map entry_of o) ≡ option_map (λ held. held.key) o
         by_cases None = refl
         by_cases (Some held) = refl
 
-    pub entry_from_slot : (number : ℕ) (held : Held K) → get_or slots number None ≡ Some held
+    pub entry_from_slot : (number : ℕ) (held : HeldKey K) → get_or slots number None ≡ Some held
         → entry_at pool number ≡ Some (held.key, held.holds)
     entry_from_slot number held e = entry_is number ∙ ap (option_map entry_of) e
 
     pub slot_from_entry : (number : ℕ) (entry : K × ℕ) → entry_at pool number ≡ Some entry
-        → (held : Held K) × (get_or slots number None ≡ Some held) × (entry_of held ≡ entry)
+        → (held : HeldKey K) × (get_or slots number None ≡ Some held) × (entry_of held ≡ entry)
     slot_from_entry number entry e = entry_some _ entry (sym (entry_is number) ∙ e)
 
-    pub holds_from_slot : (number : ℕ) (held : Held K) → get_or slots number None ≡ Some held → holds_at pool number ≡ held.holds
+    pub holds_from_slot : (number : ℕ) (held : HeldKey K) → get_or slots number None ≡ Some held → holds_at pool number ≡ held.holds
     holds_from_slot number held e = ap (λ o. unwrap_or (option_map (λ (entry : K × ℕ). entry.1) o) 0) (entry_from_slot number held e)
 
     pub holds_from_none : (number : ℕ) → get_or slots number None ≡ None → holds_at pool number ≡ 0
@@ -54,23 +54,23 @@ module _ {K : Type 0} where
         entry_of) e)
 
     -- a live number has one entry
-    pub entry_known : (number : ℕ) (held : Held K) (entry : K × ℕ) → get_or slots number None ≡ Some held
+    pub entry_known : (number : ℕ) (held : HeldKey K) (entry : K × ℕ) → get_or slots number None ≡ Some held
         → entry_at pool number ≡ Some entry → (held.key, held.holds) ≡ entry
     entry_known number held entry e there = same_Some _ _ (sym (entry_from_slot number held e) ∙ there)
 
-    pub slot_from_live : (number : ℕ) → IsSome (entry_at pool number) → (held : Held K) × (get_or slots number None ≡ Some held)
+    pub slot_from_live : (number : ℕ) → IsSome (entry_at pool number) → (held : HeldKey K) × (get_or slots number None ≡ Some held)
     slot_from_live number live =
         let entry = some_is _ live in
         let there = slot_from_entry number entry.0 entry.1 in
         (there.0, there.1)
 
     module _ (cmp : K → K → Ordering) where
-      pub names_from_slot : (number : ℕ) (held : Held K) (key : K) → get_or slots number None ≡ Some held → cmp held.key key ≡ Equal
+      pub names_from_slot : (number : ℕ) (held : HeldKey K) (key : K) → get_or slots number None ≡ Some held → cmp held.key key ≡ Equal
           → Names cmp pool number key
       names_from_slot number held key e tie = ((held.key, held.holds), entry_from_slot number held e, tie)
 
       pub slot_from_names : (number : ℕ) (key : K) → Names cmp pool number key
-          → (held : Held K) × (get_or slots number None ≡ Some held) × (cmp held.key key ≡ Equal)
+          → (held : HeldKey K) × (get_or slots number None ≡ Some held) × (cmp held.key key ≡ Equal)
       slot_from_names number key names =
           let there = slot_from_entry number names.0 names.1 in
           (there.0, there.1, ap (λ (entry : K × ℕ). cmp entry.0 key) there.2 ∙ names.2)

@@ -6,10 +6,10 @@ use Rattle.std.specs.Cmp.{IsTotalOrder}
 use Rattle.std.specs.declared.cmp.Ordering.TheVariants.{Less, Greater}
 use Rattle.ifmap_lemmas.specs.Orderings.{greater_turned, less_turned}
 use Rattle.ifmap_pool.specs.Index.{AllBelow, AllAbove, IsKeyIndex}
-use Rattle.ifmap_pool.specs.declared.slots.Held.{Held}
+use Rattle.ifmap_pool.specs.declared.slots.HeldKey.{HeldKey}
 
 module _ {K : Type 0} {cmp : K → K → Ordering} (total : IsTotalOrder cmp) where
-  module _ (slot : ℕ → Option (Held K)) (order : List ℕ) (indexed : IsKeyIndex cmp slot order) (key : K) (middle : ℕ) (found : Held K)
+  module _ (slot : ℕ → Option (HeldKey K)) (order : List ℕ) (indexed : IsKeyIndex cmp slot order) (key : K) (middle : ℕ) (found : HeldKey K)
     where
       -- the key at the middle is below: so is each in front of it
       pub AllBelow-next : middle < length order → slot (get_or order middle 0) ≡ Some found → cmp found.key key ≡ Less

@@ -3,12 +3,12 @@ ghost use Rattle.std.specs.Prelude.{◌≡◌, ℕ, ◌+◌, ◌-◌, ◌<◌, �
 ghost use Rattle.std.specs.List.{insert, remove};
 ghost use Rattle.ifmap_pool.specs.Index.{slot_at, IsKeyIndex, IsKeyPlace};
 
-use crate::slots::{Held, held_at};
+use crate::slots::{HeldKey, slot_of_live};
 use std::cmp::Ordering;
 
 // The place of `key` in `order`, or the place where it would stand.
 pub(crate) fn place_of<K: Ord>(
-    slots: &[Option<Held<K>>],
+    slots: &[Option<HeldKey<K>>],
     order: &[u32],
     key: &K,
 ) -> Result<usize, usize>
@@ -19,7 +19,7 @@ pub(crate) fn place_of<K: Ord>(
     let mut high = order.len();
     'halving: while low < high {
         let middle = low + (high - low) / 2;
-        match held_at(slots, order[middle]).key.cmp(key) {
+        match slot_of_live(slots, order[middle]).key.cmp(key) {
             Ordering::Less => low = middle + 1,
             Ordering::Greater => high = middle,
             Ordering::Equal => return Ok(middle),
@@ -41,7 +41,7 @@ pub(crate) fn list_number(order: &mut Vec<u32>, place: usize, number: u32)
 }
 
 // Takes a live number out of the list.
-pub(crate) fn unlist_number<K: Ord>(slots: &[Option<Held<K>>], order: &mut Vec<u32>, number: u32)
+pub(crate) fn unlist_number<K: Ord>(slots: &[Option<HeldKey<K>>], order: &mut Vec<u32>, number: u32)
     requires indexed { IsKeyIndex K.cmp (slot_at slots.now) order.old.items }
     requires live { IsSome (slot_at slots.now number) }
     ensures items { (place : ℕ) × (place < length order.old.items)
@@ -50,7 +50,7 @@ pub(crate) fn unlist_number<K: Ord>(slots: &[Option<Held<K>>], order: &mut Vec<u
     ensures len { vec_len order.new + 1 ≡ vec_len order.old }
     ensures capacity { vec_capacity order.new ≡ vec_capacity order.old }
 {
-    match place_of(slots, order, &held_at(slots, number).key) {
+    match place_of(slots, order, &slot_of_live(slots, number).key) {
         Ok(place) => {
             order.remove(place);
         }

@@ -4,7 +4,7 @@ ghost use Rattle.std.specs.FinMap.{empty, len};
 ghost use Rattle.ifmap_pool.specs.Holdings.{entry_at, key_at, holds_at, TakesNumber, HoldsAgain, LetsGo, Frees, Names, IsPresent, IsAbsent, IsPool, IsHeld, once, HoldsOne, LetsOneGo};
 
 use crate::places::{list_number, place_of, unlist_number};
-use crate::slots::{Held, empty_slot, fill_slot, find_held, held_at, set_holds};
+use crate::slots::{HeldKey, empty_slot, fill_slot, find_held, set_holds, slot_of_live};
 use std::alloc::{AllocError as NoMemory, Global};
 use std::marker::Model;
 
@@ -20,7 +20,7 @@ const MOST_KEYS: usize = 4294967296;
 #[derive(Drop)]
 pub struct Pool<K: Ord> {
     // The keys with their counts, by number.
-    slots: Vec<Option<Held<K>>>,
+    slots: Vec<Option<HeldKey<K>>>,
     // The numbers of the empty slots.
     free: Vec<u32>,
     // The live numbers, in the order of their keys.
@@ -182,12 +182,12 @@ impl<K: Ord> Pool<K> {
         match place_of(&self.slots, &self.order, &key) {
             Ok(place) => {
                 let number = self.order[place];
-                let holds = held_at(&self.slots, number).holds;
+                let holds = slot_of_live(&self.slots, number).holds;
                 set_holds(&mut self.slots, number, holds + 1);
                 u64::from(number)
             }
             Err(place) => {
-                let number = fill_slot(&mut self.slots, &mut self.free, Held { key, holds: 1 });
+                let number = fill_slot(&mut self.slots, &mut self.free, HeldKey { key, holds: 1 });
                 list_number(&mut self.order, place, number);
                 u64::from(number)
             }
@@ -229,7 +229,7 @@ impl<K: Ord> Pool<K> {
         let is_below = number < self.limit as u64;
         prove!(is_below);
         let number = number as u32;
-        let holds = held_at(&self.slots, number).holds;
+        let holds = slot_of_live(&self.slots, number).holds;
         if holds > 1 {
             set_holds(&mut self.slots, number, holds - 1);
             return;

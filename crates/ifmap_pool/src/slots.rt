@@ -4,13 +4,13 @@ ghost use Rattle.ifmap_pool.specs.Index.{slot_at, slot_count, WritesCount, Write
 
 // A key and how often it is held.
 #[derive(Drop)]
-pub(crate) struct Held<K> {
+pub(crate) struct HeldKey<K> {
     pub(crate) key: K,
     pub(crate) holds: u64,
 }
 
 // The key of a number, with its count; none where the number is free.
-pub(crate) fn find_held<K>(slots: &[Option<Held<K>>], number: u64) -> Option<&Held<K>>
+pub(crate) fn find_held<K>(slots: &[Option<HeldKey<K>>], number: u64) -> Option<&HeldKey<K>>
     ensures { option_copied result ≡ slot_at slots.now number }
 {
     match slots.get(number as usize) {
@@ -20,7 +20,7 @@ pub(crate) fn find_held<K>(slots: &[Option<Held<K>>], number: u64) -> Option<&He
 }
 
 // The key of a live number, with its count.
-pub(crate) fn held_at<K>(slots: &[Option<Held<K>>], number: u32) -> &Held<K>
+pub(crate) fn slot_of_live<K>(slots: &[Option<HeldKey<K>>], number: u32) -> &HeldKey<K>
     requires { IsSome (slot_at slots.now number) }
     ensures { slot_at slots.now number ≡ Some result.now }
 {
@@ -31,7 +31,7 @@ pub(crate) fn held_at<K>(slots: &[Option<Held<K>>], number: u32) -> &Held<K>
 }
 
 // Writes the count of a live number.
-pub(crate) fn set_holds<K>(slots: &mut Vec<Option<Held<K>>>, number: u32, holds: u64)
+pub(crate) fn set_holds<K>(slots: &mut Vec<Option<HeldKey<K>>>, number: u32, holds: u64)
     requires { IsSome (slot_at slots.old.items number) }
     ensures items { WritesCount slots.old.items slots.new.items number holds }
     ensures len { vec_len slots.new ≡ vec_len slots.old }
@@ -44,9 +44,9 @@ pub(crate) fn set_holds<K>(slots: &mut Vec<Option<Held<K>>>, number: u32, holds:
 
 // Puts a key into an empty slot, and gives its number. There is room for it.
 pub(crate) fn fill_slot<K: Drop>(
-    slots: &mut Vec<Option<Held<K>>>,
+    slots: &mut Vec<Option<HeldKey<K>>>,
     free: &mut Vec<u32>,
-    held: Held<K>,
+    held: HeldKey<K>,
 ) -> u32
     requires free { AreFree slots.old.items free.old.items }
     requires room { slot_count slots.old.items < vec_capacity slots.old }
@@ -75,7 +75,7 @@ pub(crate) fn fill_slot<K: Drop>(
 
 // Empties the slot of a live number, which is free then. There is room to note it.
 pub(crate) fn empty_slot<K: Drop>(
-    slots: &mut Vec<Option<Held<K>>>,
+    slots: &mut Vec<Option<HeldKey<K>>>,
     free: &mut Vec<u32>,
     number: u32,
 )

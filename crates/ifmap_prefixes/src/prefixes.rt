@@ -43,17 +43,17 @@ impl<'a> Declarations<'a> {
     {
         let mut last = BTreeMap::new(alloc);
         for index in 0..rows.len() {
-            put_row(alloc, &mut last, &rows[index], index)?;
+            put_declaration(alloc, &mut last, &rows[index], index)?;
         }
         Ok(Declarations { rows, last })
     }
 
     // The index of the last declaration of the prefix at or round the path.
-    fn row_at(&self, prefix: &str, path: &[u32]) -> Option<usize>
+    fn last_index(&self, prefix: &str, path: &[u32]) -> Option<usize>
         ensures { IsLastOf self.now prefix.now path.now result }
     {
         match self.last.get(prefix) {
-            Some(paths) => last_along(paths, path),
+            Some(paths) => last_index_along(paths, path),
             None => None,
         }
     }
@@ -62,7 +62,7 @@ impl<'a> Declarations<'a> {
         ensures { option_copied result ≡ lookup (bytes_eq prefix.now)
             (scope_by self.now path.now).rows }
     {
-        match self.row_at(prefix, path) {
+        match self.last_index(prefix, path) {
             Some(row) => Some(self.rows[row].space.as_str()),
             None => None,
         }
@@ -70,7 +70,7 @@ impl<'a> Declarations<'a> {
 }
 
 // Puts a declaration after all others.
-fn put_row<'a>(
+fn put_declaration<'a>(
     alloc: Global,
     last: &mut BTreeMap<&'a str, BTreeMap<&'a [u32], usize>>,
     row: &'a Declared,
@@ -106,7 +106,7 @@ fn take_paths<'a>(
 }
 
 // The greatest index at a level of the path.
-fn last_along(paths: &BTreeMap<&[u32], usize>, path: &[u32]) -> Option<usize>
+fn last_index_along(paths: &BTreeMap<&[u32], usize>, path: &[u32]) -> Option<usize>
     ensures { IsLatest (λ p. get_by (at_text p) paths.now) path.now result }
 {
     let mut found = None;

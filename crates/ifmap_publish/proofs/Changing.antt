@@ -24,7 +24,7 @@ use Rattle.ifmap_meta.specs.declared.stored.Stored.{Stored}
 use Rattle.ifmap_meta.specs.Whole.{IsWhole}
 use Rattle.ifmap_rows.specs.ifmap_plans.declared.plans.ItemChange.{ItemChange}
 use Rattle.ifmap_rows.specs.ifmap_plans.Lists.{IsList, stored_difference, next_on, same_stored}
-use Rattle.ifmap_rows.specs.ifmap_plans.Plans.{AreExact, AreWhole, Fits, FitsItem, IsAfter, IsChange, change_of, changed_by}
+use Rattle.ifmap_rows.specs.ifmap_plans.Plans.{AreExact, AreWhole, Fits, FitsItem, IsAfter, IsChange, change_of, list_after}
 use Rattle.ifmap_view.specs.declared.attachments.Attachment.{Attachment}
 use Rattle.ifmap_view.specs.Attachments.{IsGraph, stored_order}
 use Rattle.ifmap_view.specs.Rows.{stored_on}
@@ -184,7 +184,7 @@ module _ (rows : List Attachment) where
     both_empty (x ∷ xs) ys e = cc
 
     pub changed : (x : Item) (es : List Entry) → AreSound es → IsStrictlySortedBy item_order (keys_of es)
-        → changed_by (change_of (changes_to rows es) x) (stored_on x rows)
+        → list_after (change_of (changes_to rows es) x) (stored_on x rows)
         ≡ list_or (lookup (is_at (item_order x)) es) (stored_on x rows)
     changed x [] sound up = refl
     changed x (e ∷ es) sound up =
@@ -209,21 +209,21 @@ module _ (rows : List Attachment) where
       where
         at : (l : List Stored) → (change_to rows e).removed ++ (change_to rows e).added ≡ l → same_item e.0 x ≡ true
             → stored_on x rows ≡ stored_on e.0 rows → change_of (changes_to rows es) x ≡ None
-            → changed_by (change_of (kept_change (change_to rows e) l ++ changes_to rows es) x) (stored_on x rows) ≡ e.1
+            → list_after (change_of (kept_change (change_to rows e) l ++ changes_to rows es) x) (stored_on x rows) ≡ e.1
         at [] is same alike none =
             let empty = both_empty (change_to rows e).removed (change_to rows e).added is in
-            ap (λ o. changed_by o (stored_on x rows)) none ∙ alike ∙ sym (nothing_moved (stored_on e.0 rows))
+            ap (λ o. list_after o (stored_on x rows)) none ∙ alike ∙ sym (nothing_moved (stored_on e.0 rows))
             ∙ (λ i. next_on (sym empty.0 i) (sym empty.1 i) (stored_on e.0 rows)) ∙ made e sound.0
         at (s ∷ l) is same alike none =
-            ap (λ b. changed_by (cond b (Some (change_to rows e)) (change_of (changes_to rows es) x)) (stored_on x rows)) same
+            ap (λ b. list_after (cond b (Some (change_to rows e)) (change_of (changes_to rows es) x)) (stored_on x rows)) same
             ∙ ap (next_on (change_to rows e).removed (change_to rows e).added) alike ∙ made e sound.0
 
         past : (l : List Stored) → same_item e.0 x ≡ false
-            → changed_by (change_of (kept_change (change_to rows e) l ++ changes_to rows es) x) (stored_on x rows)
-            ≡ changed_by (change_of (changes_to rows es) x) (stored_on x rows)
+            → list_after (change_of (kept_change (change_to rows e) l ++ changes_to rows es) x) (stored_on x rows)
+            ≡ list_after (change_of (changes_to rows es) x) (stored_on x rows)
         past [] differ = refl
         past (s ∷ l) differ =
-            ap (λ b. changed_by (cond b (Some (change_to rows e)) (change_of (changes_to rows es) x)) (stored_on x rows)) differ
+            ap (λ b. list_after (cond b (Some (change_to rows e)) (change_of (changes_to rows es) x)) (stored_on x rows)) differ
 
     -- the attachments after the changes, where the lists are what stands on each item
     module _ (after : List Attachment) (es : List Entry) (sound : AreSound es) (up : IsStrictlySortedBy item_order (keys_of es))

@@ -17,8 +17,8 @@ use Rattle.ifmap_rows.specs.ifmap_plans.Plans.{AreWhole}
 use Rattle.ifmap_rows.specs.ifmap_plans.laws.KeyLaws.{attachments_total, keys_equiv}
 use Rattle.ifmap_rows.specs.ifmap_plans.laws.PlacingLaws.{put_distinct, put_sorted}
 use Rattle.ifmap_rows.specs.ifmap_plans.laws.GraphLists.{list_on}
-use Rattle.ifmap_requests.specs.declared.publishing.PublishOp.{PublishOp}
-use Rattle.ifmap_requests.specs.declared.publishing.PublishOp.TheVariants.{Update, Notify, Delete}
+use Rattle.ifmap_requests.specs.declared.publish_ops.PublishOp.{PublishOp}
+use Rattle.ifmap_requests.specs.declared.publish_ops.PublishOp.TheVariants.{Update, Notify, Delete}
 use Rattle.ifmap_requests.specs.Fit.{IsFitOp}
 use Rattle.ifmap_view.specs.declared.attachments.Attachment.{Attachment}
 use Rattle.ifmap_view.specs.Attachments.{IsGraph, attachment_order, of_one_key}

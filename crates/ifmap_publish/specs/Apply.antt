@@ -11,8 +11,8 @@ use Rattle.ifmap_meta.specs.declared.stored.Life.TheVariants as the_life
 use Rattle.ifmap_meta.specs.declared.stored.Stored.{Stored}
 use Rattle.ifmap_meta.specs.Stored.{stored_as}
 use Rattle.ifmap_rows.specs.ifmap_plans.Placing.{put}
-use Rattle.ifmap_requests.specs.declared.publishing.PublishOp.{PublishOp}
-use Rattle.ifmap_requests.specs.declared.publishing.PublishOp.TheVariants.{Update, Notify, Delete}
+use Rattle.ifmap_requests.specs.declared.publish_ops.PublishOp.{PublishOp}
+use Rattle.ifmap_requests.specs.declared.publish_ops.PublishOp.TheVariants.{Update, Notify, Delete}
 use Rattle.ifmap_view.specs.declared.attachments.Attachment.{Attachment}
 use Rattle.ifmap_view.specs.Attachments.{attachment_order, of_one_key}
 

@@ -8,8 +8,8 @@ use Rattle.ifmap_meta.specs.declared.metadata.Metadata.{Metadata}
 use Rattle.ifmap_rows.specs.ifmap_plans.declared.plans.Note.{Note}
 use Rattle.ifmap_publish.specs.Apply.{Authorship}
 use Rattle.ifmap_publish.specs.Notes.{note_of, notes_of, notes_of_op}
-use Rattle.ifmap_requests.specs.declared.publishing.PublishOp.{PublishOp}
-use Rattle.ifmap_requests.specs.declared.publishing.PublishOp.TheVariants.{Update, Notify, Delete}
+use Rattle.ifmap_requests.specs.declared.publish_ops.PublishOp.{PublishOp}
+use Rattle.ifmap_requests.specs.declared.publish_ops.PublishOp.TheVariants.{Update, Notify, Delete}
 use Rattle.ifmap_requests.specs.Fit.{IsFitOp}
 
 -- what is notified is on items that elements are

@@ -5,7 +5,7 @@ ghost use Rattle.ifmap_ident.specs.declared.items.Item.{Item};
 ghost use Rattle.ifmap_meta.specs.ClientNames.{IsClientName};
 ghost use Rattle.ifmap_rows.specs.ifmap_plans.Plans.{AreWhole};
 ghost use Rattle.ifmap_requests.specs.Fit.{IsFitOp};
-ghost use Rattle.ifmap_requests.specs.declared.publishing.PublishOp.{PublishOp};
+ghost use Rattle.ifmap_requests.specs.declared.publish_ops.PublishOp.{PublishOp};
 ghost use Rattle.ifmap_view.specs.declared.attachments.Attachment.{Attachment};
 ghost use Rattle.ifmap_view.specs.Attachments.{IsGraph};
 ghost use Rattle.ifmap_view.specs.Rows.{stored_on};

@@ -14,7 +14,7 @@ use Rattle.ifmap_elem.specs.declared.elements.Attribute.{Attribute}
 use Rattle.ifmap_elem.specs.declared.elements.Name.{Name}
 use Rattle.ifmap_elem.specs.Scopes.{Scope, bindings, NamesElement}
 use Rattle.ifmap_elem.specs.Document as piece
-use Rattle.ifmap_elem.specs.Document.{Pieces, Nothing, tokens_of, Item, Inner, Run, IsElement, AreItems}
+use Rattle.ifmap_elem.specs.Document.{Pieces, Nothing, tokens_of, ContentItem, Inner, Run, IsElement, AreItems}
 use Rattle.ifmap_reader.specs.declared.open_elements.OpenElement.{OpenElement}
 use Rattle.ifmap_reader.specs.OpenElements.{Closes, with_inner, with_characters, written_name}
 use Rattle.ifmap_reader.specs.AllowedTags.{OpensElement}
@@ -23,7 +23,7 @@ use Rattle.ifmap_reader.proofs.Items.{words_close, close_words, inner_closes, cl
 
 module _ (scope : Scope) (f : OpenElement) (ts : List Token) (Then : Element → List Declared → List Token → Type 0) where
   -- a comment
-  comment_off : (c : Pieces) (rest : List Token) (items : List Item) (e : Element) (d : List Declared)
+  comment_off : (c : Pieces) (rest : List Token) (items : List ContentItem) (e : Element) (d : List Declared)
       → Comment ∷ ts ≡ tokens_of c ++ (End (written_name f) ∷ rest)
       → AreItems scope c items → Closes f items e d → Then e d rest → Ends scope f ts Then
   comment_off (piece.Comment after) rest items e d is m c t =
@@ -51,9 +51,9 @@ module _ (scope : Scope) (f : OpenElement) (ts : List Token) (Then : Element →
   )
 
   -- a text
-  text_off : (text more : List ℕ) (after : Pieces) (rest : List Token) (items : List Item) (e : Element)
+  text_off : (text more : List ℕ) (after : Pieces) (rest : List Token) (items : List ContentItem) (e : Element)
       (d : List Declared) → text ≡ more → ts ≡ tokens_of after ++ (End (written_name f) ∷ rest)
-      → ((others : List Item) × (items ≡ Run more ∷ others) × AreItems scope after others) → Closes f items e d
+      → ((others : List ContentItem) × (items ≡ Run more ∷ others) × AreItems scope after others) → Closes f items e d
       → Then e d rest → Ends scope (with_characters f text) ts Then
   text_off text more after rest items e d same is m c th = record {
     inside = after;
@@ -63,12 +63,13 @@ module _ (scope : Scope) (f : OpenElement) (ts : List Token) (Then : Element →
     declared = d;
     tokens_are = is;
     means = m.2;
-    closes = words_close f text m.0 e d (subst (λ (is : List Item). Closes f is e d) (m.1 ∙ ap (λ (u : List ℕ). Run u ∷ m.0) (sym same)) c);
+    closes = words_close f text m.0 e d (subst (λ (is : List ContentItem). Closes f is e d)
+        (m.1 ∙ ap (λ (u : List ℕ). Run u ∷ m.0) (sym same)) c);
     goes_on = th;
   }
 
   words_off : (t : Token) (blank : Bool) (text : List ℕ) → IsCharacterData blank text t
-      → (c : Pieces) (rest : List Token) (items : List Item) (e : Element) (d : List Declared)
+      → (c : Pieces) (rest : List Token) (items : List ContentItem) (e : Element) (d : List Declared)
       → t ∷ ts ≡ tokens_of c ++ (End (written_name f) ∷ rest)
       → AreItems scope c items → Closes f items e d → Then e d rest → Ends scope (with_characters f text) ts Then
   words_off t blank text w Nothing rest items e d is m c th = elim w [ inl k ↦ cc | inr k ↦ let h = k.1 in cc ]
@@ -128,12 +129,12 @@ module _ (scope : Scope) (f : OpenElement) (ts : List Token) (Then : Element →
   no_declaration x = declaration_off x.inside x.rest x.tokens_are
 
   -- an end tag
-  end_off : (name : Qualified) (c : Pieces) (rest : List Token) (items : List Item) (e : Element)
+  end_off : (name : Qualified) (c : Pieces) (rest : List Token) (items : List ContentItem) (e : Element)
       (d : List Declared) → End name ∷ ts ≡ tokens_of c ++ (End (written_name f) ∷ rest)
       → AreItems scope c items → Closes f items e d → Then e d rest → (name ≡ written_name f) × Closes f [] e d × Then e d ts
   end_off name Nothing rest items e d is m c t =
       let same : ts ≡ rest = cc in
-      (cc, subst (λ (is : List Item). Closes f is e d) m c, subst (λ (us : List Token). Then e d us) (sym same) t)
+      (cc, subst (λ (is : List ContentItem). Closes f is e d) m c, subst (λ (us : List Token). Then e d us) (sym same) t)
   end_off name (piece.Comment after) rest items e d is m c t = cc
   end_off name (piece.Characters blank text after) rest items e d is m c t = cc
   end_off name (piece.Section text after) rest items e d is m c t = cc
@@ -167,7 +168,7 @@ module _ (scope : Scope) (f : OpenElement) (ts : List Token) (Then : Element →
 
   -- a tag
   module _ (tag : Tag) (new : OpenElement) (o : OpensElement scope tag new) where
-    empty_off : (c : Pieces) (rest : List Token) (items : List Item) (e : Element) (d : List Declared)
+    empty_off : (c : Pieces) (rest : List Token) (items : List ContentItem) (e : Element) (d : List Declared)
         → Empty tag ∷ ts ≡ tokens_of c ++ (End (written_name f) ∷ rest)
         → AreItems scope c items → Closes f items e d → Then e d rest → (inner : Element) (below : List Declared)
         → Closes new [] inner below → Ends scope (with_inner f inner below) ts Then
@@ -183,7 +184,7 @@ module _ (scope : Scope) (f : OpenElement) (ts : List Token) (Then : Element →
           declared = d;
           tokens_are = cc;
           means = m.5;
-          closes = (inner_closes f inner below m.2 e d (subst (λ (is : List Item). Closes f is e d)
+          closes = (inner_closes f inner below m.2 e d (subst (λ (is : List ContentItem). Closes f is e d)
               (m.3 ∙ ap (λ (y : Element). Inner y m.1 ∷ m.2) (h.element_is ∙ sym k.element_is)
               ∙ ap (λ (y : List Declared). Inner inner y ∷ m.2) (h.declared_is ∙ sym k.declared_is)) c));
           goes_on = t;
@@ -211,7 +212,7 @@ module _ (scope : Scope) (f : OpenElement) (ts : List Token) (Then : Element →
       },
     )
 
-    branch_off : (c : Pieces) (rest : List Token) (items : List Item) (e : Element) (d : List Declared)
+    branch_off : (c : Pieces) (rest : List Token) (items : List ContentItem) (e : Element) (d : List Declared)
         → Start tag ∷ ts ≡ tokens_of c ++ (End (written_name f) ∷ rest)
         → AreItems scope c items → Closes f items e d → Then e d rest
         → Ends (new.bindings ++ scope) new ts
@@ -239,7 +240,7 @@ module _ (scope : Scope) (f : OpenElement) (ts : List Token) (Then : Element →
             declared = d;
             tokens_are = refl;
             means = m.7;
-            closes = inner_closes f m.1 m.2 m.3 e d (subst (λ (is : List Item). Closes f is e d) m.4 c);
+            closes = inner_closes f m.1 m.2 m.3 e d (subst (λ (is : List ContentItem). Closes f is e d) m.4 c);
             goes_on = t;
           };
         }
@@ -284,7 +285,7 @@ module _ (scope : Scope) (f : OpenElement) (ts : List Token) (Then : Element →
 -- a tag that is not allowed
 module _ (scope : Scope) (f : OpenElement) (ts : List Token) (Then : Element → List Declared → List Token → Type 0)
     (tag : Tag) (none : (name : Name) (attributes : List Attribute) → NamesElement scope tag name attributes → ⊥) where
-  start_off : (c : Pieces) (rest : List Token) (items : List Item)
+  start_off : (c : Pieces) (rest : List Token) (items : List ContentItem)
       → Start tag ∷ ts ≡ tokens_of c ++ (End (written_name f) ∷ rest) → AreItems scope c items → ⊥
   start_off (piece.Start other inside after) rest items is m =
       let same : other ≡ tag = cc in
@@ -298,7 +299,7 @@ module _ (scope : Scope) (f : OpenElement) (ts : List Token) (Then : Element →
   pub start_named : Ends scope f (Start tag ∷ ts) Then → ⊥
   start_named x = start_off x.inside x.rest x.items x.tokens_are x.means
 
-  leaf_off : (c : Pieces) (rest : List Token) (items : List Item)
+  leaf_off : (c : Pieces) (rest : List Token) (items : List ContentItem)
       → Empty tag ∷ ts ≡ tokens_of c ++ (End (written_name f) ∷ rest) → AreItems scope c items → ⊥
   leaf_off (piece.Empty other after) rest items is m =
       let same : other ≡ tag = cc in

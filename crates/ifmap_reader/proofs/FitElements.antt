@@ -13,7 +13,7 @@ use Rattle.std.specs.Str.{bytes_eq}
 use Rattle.std.proofs.lemmas.Bool.{and_from, cases_Bool}
 use Rattle.ifmap_elem.specs.Chars.{IsCharacters, IsWhite, is_character, is_white}
 use Rattle.ifmap_elem.specs.Document as piece
-use Rattle.ifmap_elem.specs.Document.{Pieces, Nothing, tokens_of, Item, Inner, Run, child_of, declared_below, declared_here, from_above, heading, is_inner, is_child, join_runs, children_among, put_before, IsElement, AreItems}
+use Rattle.ifmap_elem.specs.Document.{Pieces, Nothing, tokens_of, ContentItem, Inner, Run, child_of, declared_below, declared_here, from_above, heading, is_inner, is_child, join_runs, children_among, put_before, IsElement, AreItems}
 use Rattle.ifmap_elem.specs.laws.Roots.{BeginsWithRoot, root_begins}
 use Rattle.ifmap_elem.specs.Fit.{IsNamespace, IsFitAttribute, HasCharacters, IsNotBlank, AreApart, is_element, AreFitChildren, IsFitAlone, IsFit}
 use Rattle.ifmap_elem.specs.Names.{IsNamePart}
@@ -45,7 +45,6 @@ record IsFitBinding (b : Binding) : Type 0 where
 
 abbrev IsFitScope : Scope → Type 0
 IsFitScope scope = AllByRecursion IsFitBinding scope
-
 
 root_fits : IsFitScope root_scope
 root_fits = (
@@ -157,46 +156,46 @@ IsFitDeclared d = IsNamespace d.space
 abbrev pub AreFitDeclared : List Declared → Type 0
 AreFitDeclared declared = AllByRecursion IsFitDeclared declared
 
-abbrev IsFitItem : Item → Type 0
+abbrev IsFitItem : ContentItem → Type 0
 IsFitItem (Inner e declared) = IsFit e × AreFitDeclared declared
 IsFitItem (Run text) = IsCharacters text
 
-opened : (items : List Item) → map out-Child (map child_of items) ≡ map item_child items
+opened : (items : List ContentItem) → map out-Child (map child_of items) ≡ map item_child items
 opened [] = refl
 opened (Inner e d ∷ items) = λ i. out_element e i ∷ opened items i
 opened (Run t ∷ items) = λ i. out_text t i ∷ opened items i
 
 -- texts beside each other are joined
 
-put_fits : (text : List ℕ) (items : List Item) → IsCharacters text → AllByRecursion IsFitItem items
+put_fits : (text : List ℕ) (items : List ContentItem) → IsCharacters text → AllByRecursion IsFitItem items
     → AllByRecursion IsFitItem (put_before text items)
 put_fits text [] i f = (i, tt)
 put_fits text (Inner e d ∷ items) i f = (i, f)
 put_fits text (Run more ∷ items) i f = (characters_both text more i f.0, f.1)
 
-joined_fits : (items : List Item) → AllByRecursion IsFitItem items → AllByRecursion IsFitItem (join_runs items)
+joined_fits : (items : List ContentItem) → AllByRecursion IsFitItem items → AllByRecursion IsFitItem (join_runs items)
 joined_fits [] f = tt
 joined_fits (Inner e d ∷ items) f = (f.0, joined_fits items f.1)
 joined_fits (Run t ∷ items) f = put_fits t (join_runs items) f.0 (joined_fits items f.1)
 
-put_apart : (text : List ℕ) (items : List Item) → AreApart (map item_child items) → AreApart (map item_child (put_before text items))
+put_apart : (text : List ℕ) (items : List ContentItem) → AreApart (map item_child items) → AreApart (map item_child (put_before text items))
 put_apart text [] a = tt
 put_apart text (Inner e d ∷ items) a = a
 put_apart text (Run more ∷ []) a = tt
 put_apart text (Run more ∷ (Inner e d ∷ items)) a = a
 put_apart text (Run more ∷ (Run another ∷ items)) a = absurd a
 
-joined_apart : (items : List Item) → AreApart (map item_child (join_runs items))
+joined_apart : (items : List ContentItem) → AreApart (map item_child (join_runs items))
 joined_apart [] = tt
 joined_apart (Inner e d ∷ items) = joined_apart items
 joined_apart (Run t ∷ items) = put_apart t (join_runs items) (joined_apart items)
 
-put_inner : (text : List ℕ) (items : List Item) → list_any is_inner (put_before text items) ≡ list_any is_inner items
+put_inner : (text : List ℕ) (items : List ContentItem) → list_any is_inner (put_before text items) ≡ list_any is_inner items
 put_inner text [] = refl
 put_inner text (Inner e d ∷ items) = refl
 put_inner text (Run more ∷ items) = refl
 
-joined_inner : (items : List Item) → list_any is_inner (join_runs items) ≡ list_any is_inner items
+joined_inner : (items : List ContentItem) → list_any is_inner (join_runs items) ≡ list_any is_inner items
 joined_inner [] = refl
 joined_inner (Inner e d ∷ items) = refl
 joined_inner (Run t ∷ items) = put_inner t (join_runs items) ∙ joined_inner items
@@ -204,17 +203,17 @@ joined_inner (Run t ∷ items) = put_inner t (join_runs items) ∙ joined_inner 
 -- of these some are children_among
 
 module _ (beside : Bool) where
-  abbrev left : List Item → List Item
+  abbrev left : List ContentItem → List ContentItem
   left items = filter (is_child beside) items
 
-  left_fits : (items : List Item) → AllByRecursion IsFitItem items → AllByRecursion IsFitItem (left items)
+  left_fits : (items : List ContentItem) → AllByRecursion IsFitItem items → AllByRecursion IsFitItem (left items)
   left_fits [] f = tt
   left_fits (item ∷ items) f = elim (cases_Bool (is_child beside item)) [
     | inl e ↦ rw e (f.0, left_fits items f.1)
     | inr e ↦ rw e (left_fits items f.1)
   ]
 
-  left_apart : (items : List Item) → AreApart (map item_child items) → AreApart (map item_child (left items))
+  left_apart : (items : List ContentItem) → AreApart (map item_child items) → AreApart (map item_child (left items))
   left_apart [] a = tt
   left_apart (Inner e d ∷ items) a = left_apart items a
   left_apart (Run t ∷ []) a = elim (cases_Bool (is_child beside (Run t))) [ inl k ↦ rw k tt | inr k ↦ rw k tt ]
@@ -222,7 +221,7 @@ module _ (beside : Bool) where
       elim (cases_Bool (is_child beside (Run t))) [ inl k ↦ rw k (left_apart items a) | inr k ↦ rw k (left_apart items a) ]
   left_apart (Run t ∷ (Run u ∷ items)) a = absurd a
 
-  left_inner : (items : List Item) → list_any is_element (map item_child (left items)) ≡ list_any is_inner items
+  left_inner : (items : List ContentItem) → list_any is_element (map item_child (left items)) ≡ list_any is_inner items
   left_inner [] = refl
   left_inner (Inner e d ∷ items) = refl
   left_inner (Run t ∷ items) =
@@ -237,7 +236,7 @@ of_each : (bs : List ℕ) → IsWhite bs → list_all is_white bs ≡ true
 of_each [] f = refl
 of_each (b ∷ bs) f = and_from (is_white b) (list_all is_white bs) f.0 (of_each bs f.1)
 
-left_texts : (beside : Bool) (items : List Item) → AllByRecursion IsFitItem items
+left_texts : (beside : Bool) (items : List ContentItem) → AllByRecursion IsFitItem items
     → AllByRecursion HasCharacters (map item_child (filter (is_child beside) items))
 left_texts beside [] f = tt
 left_texts beside (Inner e d ∷ items) f = (tt, left_texts beside items f.1)
@@ -246,7 +245,7 @@ left_texts beside (Run t ∷ items) f = elim (cases_Bool (is_child beside (Run t
   | inr k ↦ rw k (left_texts beside items f.1)
 ]
 
-left_not_blank : (items : List Item) → AllByRecursion IsNotBlank (map item_child (filter (is_child true) items))
+left_not_blank : (items : List ContentItem) → AllByRecursion IsNotBlank (map item_child (filter (is_child true) items))
 left_not_blank [] = tt
 left_not_blank (Inner e d ∷ items) = (tt, left_not_blank items)
 left_not_blank (Run t ∷ items) = elim (cases_Bool (list_all is_white t)) [
@@ -254,7 +253,7 @@ left_not_blank (Run t ∷ items) = elim (cases_Bool (list_all is_white t)) [
   | inr k ↦ rw k ((λ blank. let wrong : true ≡ false = sym (of_each t blank) ∙ k in cc), left_not_blank items)
 ]
 
-children_fit : (items : List Item) → AllByRecursion IsFitItem items → AreFitChildren (map item_child (children_among items))
+children_fit : (items : List ContentItem) → AllByRecursion IsFitItem items → AreFitChildren (map item_child (children_among items))
 children_fit items f = record {
   texts = left_texts (list_any is_inner items) (join_runs items) (joined_fits items f);
   apart = left_apart (list_any is_inner items) (join_runs items) (joined_apart items);
@@ -265,7 +264,7 @@ children_fit items f = record {
       (left_not_blank (join_runs items));
 }
 
-inner_fit : (items : List Item) → AllByRecursion IsFitItem items
+inner_fit : (items : List ContentItem) → AllByRecursion IsFitItem items
     → AllByRecursion IsFitAlone (flat_map elements_of_child (map child_of items))
 inner_fit [] f = tt
 inner_fit (Inner e d ∷ items) f =
@@ -282,14 +281,14 @@ above_fit : (index : ℕ) (declared : List Declared) → AreFitDeclared declared
 above_fit index [] f = tt
 above_fit index (d ∷ declared) f = (f.0, above_fit index declared f.1)
 
-below_fit : (index : ℕ) (items : List Item) → AllByRecursion IsFitItem items → AreFitDeclared (declared_below index items)
+below_fit : (index : ℕ) (items : List ContentItem) → AllByRecursion IsFitItem items → AreFitDeclared (declared_below index items)
 below_fit index [] f = tt
 below_fit index (Inner e declared ∷ items) f =
     both_all IsFitDeclared (map (from_above index) declared) (declared_below (index + 1) items) (above_fit index declared f.0.1)
     (below_fit (index + 1) items f.1)
 below_fit index (Run t ∷ items) f = below_fit (index + 1) items f.1
 
-declared_fit : (outer : Scope) (tag : Tag) (items : List Item) (e : Element) (declared : List Declared) → IsFitTag tag
+declared_fit : (outer : Scope) (tag : Tag) (items : List ContentItem) (e : Element) (declared : List Declared) → IsFitTag tag
     → AllByRecursion IsFitItem items → IsElement outer tag items e declared → AreFitDeclared declared
 declared_fit outer tag items e declared t i is =
     let here = here_fit (bindings tag) (bindings_fit tag.assignments t.assignments is.named.binds) in
@@ -300,7 +299,8 @@ declared_fit outer tag items e declared t i is =
 
 -- elements
 
-element_fits : (outer : Scope) (tag : Tag) (items : List Item) (e : Element) (declared : List Declared) → IsFitScope outer → IsFitTag tag
+element_fits : (outer : Scope) (tag : Tag) (items : List ContentItem) (e : Element) (declared : List Declared) → IsFitScope outer
+    → IsFitTag tag
     → AllByRecursion IsFitItem items
     → IsElement outer tag items e declared → IsFit e
 element_fits outer tag items e declared f t i is =
@@ -321,12 +321,13 @@ element_fits outer tag items e declared f t i is =
     })
     (subst (λ (cs : List Child). AllByRecursion IsFitAlone (flat_map elements_of_child cs)) (sym is.children_are) inner)
 
-item_fits : (outer : Scope) (tag : Tag) (items : List Item) (e : Element) (declared : List Declared) → IsFitScope outer → IsFitTag tag
+item_fits : (outer : Scope) (tag : Tag) (items : List ContentItem) (e : Element) (declared : List Declared) → IsFitScope outer
+    → IsFitTag tag
     → AllByRecursion IsFitItem items → IsElement outer tag items e declared → IsFitItem (Inner e declared)
 item_fits outer tag items e declared f t i is =
     (element_fits outer tag items e declared f t i is, declared_fit outer tag items e declared t i is)
 
-means_fit : (scope : Scope) (c : Pieces) (items : List Item) → IsFitScope scope → AllByRecursion IsFitToken (tokens_of c)
+means_fit : (scope : Scope) (c : Pieces) (items : List ContentItem) → IsFitScope scope → AllByRecursion IsFitToken (tokens_of c)
     → AreItems scope c items → AllByRecursion IsFitItem items
 means_fit scope Nothing items f t m = subst (AllByRecursion IsFitItem) (sym m) tt
 means_fit scope (piece.Comment after) items f t m = means_fit scope after items f t.1 m

@@ -9,20 +9,20 @@ use Rattle.ifmap_elem.specs.declared.elements.Element.{Element}
 use Rattle.ifmap_elem.specs.declared.readings.Declared.{Declared}
 use Rattle.ifmap_elem.specs.declared.tokens.Tag.{Tag}
 use Rattle.ifmap_elem.specs.Scopes.{Scope, bindings, NamesElement}
-use Rattle.ifmap_elem.specs.Document.{Item, Inner, Run, is_inner, put_before, join_runs, is_child, children_among, child_of, declared_here, declared_below, from_above, IsElement}
+use Rattle.ifmap_elem.specs.Document.{ContentItem, Inner, Run, is_inner, put_before, join_runs, is_child, children_among, child_of, declared_here, declared_below, from_above, IsElement}
 use Rattle.ifmap_lemmas.specs.Numbers.{is_other}
 use Rattle.ifmap_elem.specs.laws.OneReading.{one_name}
 use Rattle.ifmap_reader.specs.declared.open_elements.OpenElement.{OpenElement}
 use Rattle.ifmap_reader.specs.OpenElements.{Closes, has_children, children_to_come, is_child_text, text_child, with_inner, with_characters}
 use Rattle.ifmap_reader.specs.AllowedTags.{OpensElement}
 
-put_twice : (a b : List ℕ) (xs : List Item) → put_before a (put_before b xs) ≡ put_before (a ++ b) xs
+put_twice : (a b : List ℕ) (xs : List ContentItem) → put_before a (put_before b xs) ≡ put_before (a ++ b) xs
 put_twice a b [] = refl
 put_twice a b (Run more ∷ xs) = ap (λ (t : List ℕ). Run t ∷ xs) (sym (append_assoc a b more))
 put_twice a b (Inner e d ∷ xs) = refl
 
 -- an empty text in front is no child
-put_nothing : (b : Bool) (xs : List Item) → filter (is_child b) (put_before [] xs) ≡ filter (is_child b) xs
+put_nothing : (b : Bool) (xs : List ContentItem) → filter (is_child b) (put_before [] xs) ≡ filter (is_child b) xs
 put_nothing true [] = refl
 put_nothing false [] = refl
 put_nothing b (Run more ∷ xs) = refl
@@ -30,12 +30,12 @@ put_nothing true (Inner e d ∷ xs) = refl
 put_nothing false (Inner e d ∷ xs) = refl
 
 -- text
-kept_words : (f : OpenElement) (text : List ℕ) (items : List Item)
+kept_words : (f : OpenElement) (text : List ℕ) (items : List ContentItem)
     → children_to_come f (Run text ∷ items) ≡ children_to_come (with_characters f text) items
 kept_words f text items = ap (filter (is_child (has_children f || list_any is_inner items))) (put_twice f.text text (join_runs items))
 
 module _ (f : OpenElement) (e : Element) (declared : List Declared) where
-  closes_by : (g : OpenElement) (is js : List Item) → f.name ≡ g.name → f.attributes ≡ g.attributes → f.bindings ≡ g.bindings
+  closes_by : (g : OpenElement) (is js : List ContentItem) → f.name ≡ g.name → f.attributes ≡ g.attributes → f.bindings ≡ g.bindings
       → f.children ++ map child_of (children_to_come f is) ≡ g.children ++ map child_of (children_to_come g js)
       → f.below ++ declared_below (length f.children) (children_to_come f is) ≡ g.below ++ declared_below (length g.children)
       (children_to_come g js)
@@ -46,14 +46,14 @@ module _ (f : OpenElement) (e : Element) (declared : List Declared) where
         declared_is = c.declared_is ∙ (λ i. declared_here (bound i) ++ below i);
       }
 
-pub words_close : (f : OpenElement) (text : List ℕ) (items : List Item) (e : Element) (declared : List Declared)
+pub words_close : (f : OpenElement) (text : List ℕ) (items : List ContentItem) (e : Element) (declared : List Declared)
     → Closes f (Run text ∷ items) e declared → Closes (with_characters f text) items e declared
 words_close f text items e declared =
     closes_by f e declared (with_characters f text) (Run text ∷ items) items refl refl refl
     (ap (λ k. f.children ++ map child_of k) (kept_words f text items))
     (ap (λ k. f.below ++ declared_below (length f.children) k) (kept_words f text items))
 
-pub close_words : (f : OpenElement) (text : List ℕ) (items : List Item) (e : Element) (declared : List Declared)
+pub close_words : (f : OpenElement) (text : List ℕ) (items : List ContentItem) (e : Element) (declared : List Declared)
     → Closes (with_characters f text) items e declared → Closes f (Run text ∷ items) e declared
 close_words f text items e declared =
     closes_by (with_characters f text) e declared f items (Run text ∷ items) refl refl refl
@@ -73,7 +73,7 @@ some_last [] [] c = refl
 some_last [] (d ∷ ds) c = is_some (length (ds ++ c ∷ []))
 some_last (b ∷ cs) ds c = is_some (length (cs ++ ds ++ c ∷ []))
 
-module _ (fc : List Child) (fb : List Declared) (text : List ℕ) (e : Element) (d : List Declared) (ys : List Item) where
+module _ (fc : List Child) (fb : List Declared) (text : List ℕ) (e : Element) (d : List Declared) (ys : List ContentItem) where
   inner_children : (b : Bool) → fc ++ map child_of (cond b (Run text ∷ (Inner e d ∷ ys))
       (Inner e d ∷ ys)) ≡ (fc ++ (cond b (the.Text text ∷ []) []) ++ the.Element e ∷ []) ++ map child_of ys
   inner_children true = sym (append_assoc (fc ++ the.Text text ∷ []) (the.Element e ∷ []) (map child_of ys)
@@ -99,7 +99,7 @@ module _ (fc : List Child) (fb : List Declared) (text : List ℕ) (e : Element) 
       sym (append_assoc fb _ _ ∙ (λ i. fb ++ (map (from_above (first i)) d ++ declared_below
       ((second ∙ ap (λ (n : ℕ). n + 1) first) i) ys)))
 
-module _ (f : OpenElement) (inner : Element) (below : List Declared) (items : List Item) where
+module _ (f : OpenElement) (inner : Element) (below : List Declared) (items : List ContentItem) where
   kept_before : children_to_come f (Inner inner below ∷ items) ≡ cond (is_child_text true f.text)
       (Run f.text ∷ (Inner inner below ∷ filter (is_child true) (join_runs items)))
       (Inner inner below ∷ filter (is_child true) (join_runs items))
@@ -139,13 +139,13 @@ module _ (f : OpenElement) (inner : Element) (below : List Declared) (items : Li
       (sym below_same)
 
 -- an element that has just opened
-kept_new : (cs : List Child) (text : List ℕ) (items : List Item) → cs ≡ [] → text ≡ []
+kept_new : (cs : List Child) (text : List ℕ) (items : List ContentItem) → cs ≡ [] → text ≡ []
     → filter (is_child (not (length cs == 0) || list_any is_inner items)) (put_before text (join_runs items)) ≡ children_among items
 kept_new cs text items no_children no_text =
     (λ i. filter (is_child (not (length (no_children i) == 0) || list_any is_inner items)) (put_before (no_text i) (join_runs items)))
     ∙ put_nothing (list_any is_inner items) (join_runs items)
 
-module _ (outer : Scope) (tag : Tag) (f : OpenElement) (o : OpensElement outer tag f) (items : List Item) (e : Element)
+module _ (outer : Scope) (tag : Tag) (f : OpenElement) (o : OpensElement outer tag f) (items : List ContentItem) (e : Element)
     (declared : List Declared) where
   kept_all : children_to_come f items ≡ children_among items
   kept_all = kept_new f.children f.text items o.no_children o.no_text

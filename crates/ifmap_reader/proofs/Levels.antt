@@ -7,13 +7,13 @@ use Rattle.ifmap_elem.specs.declared.elements.Element.{Element}
 use Rattle.ifmap_elem.specs.declared.readings.Declared.{Declared}
 use Rattle.ifmap_elem.specs.declared.readings.Reading.{Reading}
 use Rattle.ifmap_elem.specs.declared.tokens.Token.{Token}
-use Rattle.ifmap_elem.specs.Document.{Item, Run, is_child, child_of}
+use Rattle.ifmap_elem.specs.Document.{ContentItem, Run, is_child, child_of}
 use Rattle.ifmap_elem.specs.Folds.{at_element, at_child_element, at_child_text}
 use Rattle.ifmap_elem.specs.Nesting.{greatest_of, nesting, child_nesting, child_levels, element_levels}
 use Rattle.ifmap_reader.specs.declared.open_elements.OpenElement.{OpenElement}
 use Rattle.ifmap_reader.specs.Depths.{levels}
 use Rattle.ifmap_reader.specs.OpenElements.{Closes, has_children, children_to_come, is_child_text, text_child, with_inner}
-use Rattle.ifmap_reader.specs.Progress.{Where, AtStart, Within, AfterRoot, Closing, GoesOn, after_element, so_deep}
+use Rattle.ifmap_reader.specs.Progress.{Where, AtStart, Within, AfterRoot, Closing, GoesOn, after_element, depth_read}
 
 -- the greatest nesting of some children
 abbrev pub children_nesting : List Child → ℕ
@@ -40,7 +40,7 @@ one_text : (b : Bool) (t : List ℕ) → children_nesting (map child_of (cond b 
 one_text true t = let h = text_nests t in omega (arith, h)
 one_text false t = refl
 
-children_deep : (f : OpenElement) (items : List Item) (e : Element) (d : List Declared) → Closes f items e d
+children_deep : (f : OpenElement) (items : List ContentItem) (e : Element) (d : List Declared) → Closes f items e d
     → nesting e ≡ suc (max (children_nesting f.children) (children_nesting (map child_of (children_to_come f items))))
 children_deep f items e d c =
     nesting_is e ∙ ap (λ (y : Element). suc (children_nesting y.children)) c.element_is
@@ -69,7 +69,7 @@ inner_deep g e d =
 
 -- after an element that ended nothing is deeper than before
 pub after_element_fits : (n : ℕ) (f : OpenElement) (fs : List OpenElement) (e : Element) (d : List Declared) → Closes f [] e d
-    → levels (f ∷ fs) ≤ n → so_deep (after_element fs e d) ≤ n
+    → levels (f ∷ fs) ≤ n → depth_read (after_element fs e d) ≤ n
 after_element_fits n f [] e d c fits = let h = closed_nests f e d c in omega (arith, h, fits)
 after_element_fits n f (g ∷ gs) e d c fits =
     let h = closed_nests f e d c in
@@ -78,7 +78,7 @@ after_element_fits n f (g ∷ gs) e d c fits =
 
 -- and no less deep
 pub after_element_deep : (f : OpenElement) (fs : List OpenElement) (e : Element) (d : List Declared) → Closes f [] e d
-    → length fs < so_deep (after_element fs e d)
+    → length fs < depth_read (after_element fs e d)
 after_element_deep f [] e d c = let h = closed_nests f e d c in omega (arith, h)
 after_element_deep f (g ∷ gs) e d c =
     let h = closed_nests f e d c in
@@ -98,7 +98,7 @@ closing_deep f (g ∷ gs) ts r x =
     omega (arith, h, k, l)
 
 -- what goes on nests at least as deep as what has been read
-pub goes_deep : (w : Where) (ts : List Token) (r : Reading) → GoesOn w ts r → so_deep w ≤ nesting r.root
+pub goes_deep : (w : Where) (ts : List Token) (r : Reading) → GoesOn w ts r → depth_read w ≤ nesting r.root
 goes_deep AtStart ts r x = omega arith
 goes_deep (Within []) ts r x = omega arith
 goes_deep (Within (f ∷ fs)) ts r x = closing_deep f fs ts r x

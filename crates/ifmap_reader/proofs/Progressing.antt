@@ -20,10 +20,10 @@ use Rattle.ifmap_reader.specs.declared.errors.ReadError.{ReadError}
 use Rattle.ifmap_reader.specs.declared.errors.ReadError.TheVariants.{Unreadable}
 use Rattle.ifmap_reader.specs.declared.errors.TokenRefusal.{TokenRefusal}
 use Rattle.ifmap_reader.specs.declared.errors.TokenRefusal.TheVariants as refusals
-use Rattle.ifmap_reader.specs.declared.standing.DocumentStanding.{DocumentStanding}
-use Rattle.ifmap_reader.specs.declared.standing.DocumentStanding.TheVariants as standing
+use Rattle.ifmap_reader.specs.declared.progress.DocumentProgress.{DocumentProgress}
+use Rattle.ifmap_reader.specs.declared.progress.DocumentProgress.TheVariants as standing
 use Rattle.ifmap_reader.specs.NextToken.{NextAnswer}
-use Rattle.ifmap_reader.specs.Progress.{Where, AtStart, Within, AfterRoot, GoesOn, IsLinked, Leads, Passes, TokenAnswer, open_in, so_deep, one_if, where_is}
+use Rattle.ifmap_reader.specs.Progress.{Where, AtStart, Within, AfterRoot, GoesOn, IsLinked, Leads, Passes, TokenAnswer, open_in, depth_read, one_if, where_is}
 use Rattle.ifmap_reader.specs.Reads.{IsUnreadable, IsTooDeep, IsRead, refusal_error, read_at_end}
 use Rattle.ifmap_reader.proofs.Goings.{no_tokens, no_tokens_start, after_root_ends, some_tokens}
 use Rattle.ifmap_reader.proofs.Levels.{goes_deep}
@@ -36,7 +36,7 @@ pub record At (bytes : List ℕ) (depth : ℕ) (w : Where) (rest : List ℕ) : T
   pub lexed : To TakesToken (without_byte_order_mark bytes) so_far rest
   pub goes : (ts : List Token) (r : Reading) → (IsDocument (so_far ++ ts) r ↔ GoesOn w ts r)
   pub ahead : Ahead TakesToken (without_byte_order_mark bytes) so_far rest []
-  pub fits : so_deep w ≤ depth
+  pub fits : depth_read w ≤ depth
   pub level : count_by is_start so_far ≡ open_in w + count_by is_end so_far
   pub shallow : Shallow depth so_far
   pub linked : IsLinked w
@@ -142,7 +142,7 @@ module _ (bytes : List ℕ) (depth : ℕ) (w : Where) (rest : List ℕ) (at : At
     open_fits : open_in w ≤ depth
     open_fits = let f = at.fits in fitting w f
       where
-        fitting : (v : Where) → so_deep v ≤ depth → open_in v ≤ depth
+        fitting : (v : Where) → depth_read v ≤ depth → open_in v ≤ depth
         fitting AtStart f = omega arith
         fitting (Within []) f = omega arith
         fitting (Within (g ∷ gs)) f = omega (arith, f)
@@ -284,7 +284,7 @@ within_next bytes place count l h =
     let a = ap length (cut_at_end bytes place) in let b = length-drop place bytes in omega (arith, a, b, h, l)
 
 -- at the end
-pub end_read : (bytes : List ℕ) (depth : ℕ) (s : DocumentStanding) (place : ℕ) (result : Result Reading ReadError)
+pub end_read : (bytes : List ℕ) (depth : ℕ) (s : DocumentProgress) (place : ℕ) (result : Result Reading ReadError)
     → At bytes depth (where_is s) (drop place bytes) → place ≤ length bytes → length bytes ≤ place → result ≡ read_at_end s place
     → IsRead bytes depth result
 end_read bytes depth s place result at within end made = subst (λ (a : Result Reading ReadError). IsRead bytes depth a) (sym made) (by s at)
@@ -299,7 +299,7 @@ end_read bytes depth s place result at within end made = subst (λ (a : Result R
     here : (w : Where) → At bytes depth w (drop place bytes) → place ≡ offset bytes (drop place bytes)
     here w a = offset_is bytes depth w place a within
 
-    by : (s : DocumentStanding) → At bytes depth (where_is s) (drop place bytes) → IsRead bytes depth (read_at_end s place)
+    by : (s : DocumentProgress) → At bytes depth (where_is s) (drop place bytes) → IsRead bytes depth (read_at_end s place)
     by standing.Start a = ended_early bytes depth AtStart (drop place bytes) a none_left no_tokens_start place (here AtStart a)
     by (standing.Open open_elements) a =
         ended_early bytes depth (Within (reverse open_elements)) (drop place bytes) a none_left (no_tokens (reverse open_elements)) place

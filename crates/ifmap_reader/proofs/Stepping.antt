@@ -17,16 +17,17 @@ use Rattle.ifmap_elem.specs.Places.{is_start, is_end, Opens}
 use Rattle.ifmap_reader.specs.declared.errors.TokenRefusal.{TokenRefusal}
 use Rattle.ifmap_reader.specs.declared.errors.TokenRefusal.TheVariants.{NotAllowed, TooDeep, NoMemory}
 use Rattle.ifmap_reader.specs.declared.open_elements.OpenElement.{OpenElement}
-use Rattle.ifmap_reader.specs.declared.standing.DocumentStanding.{DocumentStanding}
+use Rattle.ifmap_reader.specs.declared.progress.DocumentProgress.{DocumentProgress}
 use Rattle.ifmap_reader.specs.Depths.{levels}
 use Rattle.ifmap_reader.specs.OpenElements.{AreLinked, Closes, CountsBindings, scope_of, with_characters, written_name}
 use Rattle.ifmap_reader.specs.AllowedTags.{OpensElement, TagAnswer}
-use Rattle.ifmap_reader.specs.Progress.{Where, AtStart, Within, AfterRoot, GoesOn, Follows, IsCharacterData, IsLinked, is_margin, Leads, Passes, TokenAnswer, after_element, open_in, so_deep, one_if, where_is}
+use Rattle.ifmap_reader.specs.Progress.{Where, AtStart, Within, AfterRoot, GoesOn, Follows, IsCharacterData, IsLinked, is_margin, Leads, Passes, TokenAnswer, after_element, open_in, depth_read, one_if, where_is}
 use Rattle.ifmap_reader.proofs.Goings.{inner_comment, inner_words, inner_start, inner_empty, inner_end, inner_declaration, inner_other_end, root_comment, root_blank, IsInner, no_root, root_start, root_empty, no_start, no_empty, after_root_comment, after_root_blank, nothing_after_root, no_second_root, start_declaration, IsOther, start_other}
 use Rattle.ifmap_reader.proofs.Levels.{children_nesting, after_element_fits, after_element_deep}
 
 -- a token that opens and ends nothing
-still : (depth : ℕ) (old : Where) (t : Token) (new : Where) → Follows old t new → so_deep old ≡ so_deep new → open_in old ≡ open_in new
+still : (depth : ℕ) (old : Where) (t : Token) (new : Where) → Follows old t new → depth_read old ≡ depth_read new → open_in old
+    ≡ open_in new
     → is_start t ≡ false → is_end t ≡ false → (Opens t → ⊥)
     → (IsLinked old → IsLinked new) → Leads depth old t new
 still depth old t new follows deep count starts ends opens linked = record {
@@ -254,7 +255,7 @@ module _ (depth : ℕ) (t : Token) (other : IsOther t) where
     linked = λ _. l.linked tt;
   }
 
-  start_steps : (result : Result DocumentStanding TokenRefusal) → TokenAnswer depth (Within []) t result
+  start_steps : (result : Result DocumentProgress TokenRefusal) → TokenAnswer depth (Within []) t result
       → TokenAnswer depth AtStart t result
   start_steps (Ok new) h = from_start (where_is new) h
   start_steps (Err NotAllowed) h = λ ts r x. h ts r ((start_other t other ts r).0 x)
@@ -267,7 +268,7 @@ module _ (depth : ℕ) (t : Token) (other : IsOther t) where
   }
   start_steps (Err NoMemory) h = tt
 
-  pub steps_at_start : (s : Where) (fs : List OpenElement) (result : Result DocumentStanding TokenRefusal) → s ≡ AtStart → fs ≡ []
+  pub steps_at_start : (s : Where) (fs : List OpenElement) (result : Result DocumentProgress TokenRefusal) → s ≡ AtStart → fs ≡ []
       → TokenAnswer depth (Within (reverse fs)) t result → TokenAnswer depth s t result
   steps_at_start s fs result is none h =
       subst (λ (w : Where). TokenAnswer depth w t result) (sym is)

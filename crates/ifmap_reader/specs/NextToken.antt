@@ -8,7 +8,7 @@ use Rattle.ifmap_reader.specs.declared.errors.TokenRefusal.{TokenRefusal}
 use Rattle.ifmap_reader.specs.declared.errors.TokenRefusal.TheVariants.{NotAllowed, NoMemory}
 use Rattle.ifmap_reader.specs.declared.next_token.AfterToken.{AfterToken}
 use Rattle.ifmap_reader.specs.declared.open_elements.OpenElement.{OpenElement}
-use Rattle.ifmap_reader.specs.declared.standing.DocumentStanding.{DocumentStanding}
+use Rattle.ifmap_reader.specs.declared.progress.DocumentProgress.{DocumentProgress}
 use Rattle.ifmap_reader.specs.OpenElements.{written_name}
 use Rattle.ifmap_reader.specs.Progress.{EndAnswer, TokenAnswer, Where}
 
@@ -27,12 +27,12 @@ pub record EndsInnermost (open_elements : List OpenElement) (bytes : List ℕ) (
   pub takes : TakesAlone bytes (End (written_name innermost)) count
 
 -- the answer to the end tag of the innermost of some open elements, which stands last
-abbrev pub InnermostAnswer : List OpenElement → Result DocumentStanding TokenRefusal → Type 0
+abbrev pub InnermostAnswer : List OpenElement → Result DocumentProgress TokenRefusal → Type 0
 InnermostAnswer open_elements result =
     (f : OpenElement) (outer : List OpenElement) → reverse open_elements ≡ f ∷ outer → EndAnswer open_elements (written_name f) result
 
 -- the token at the front is the only one there, and this is the answer to it
-pub record AnswersToken (depth : ℕ) (old : Where) (bytes : List ℕ) (count : ℕ) (answer : Result DocumentStanding TokenRefusal) : Type 0
+pub record AnswersToken (depth : ℕ) (old : Where) (bytes : List ℕ) (count : ℕ) (answer : Result DocumentProgress TokenRefusal) : Type 0
   where
     pub token : Token
     pub takes : TakesAlone bytes token count

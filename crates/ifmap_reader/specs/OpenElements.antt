@@ -1,7 +1,7 @@
 -- Elements that are open, by what they are once they end.
 use Rattle.std.specs.Prelude.{◌≡◌, ◌⊎◌, ℕ, ◌+◌, ◌-◌, ◌≤◌, Bool, true, not, ◌==◌, ◌||◌, if◌then◌else◌, List, [], ◌∷◌, ◌++◌, drop, length, map, filter}
 use Rattle.std.specs.List.{list_any}
-use Rattle.ifmap_elem.specs.Document.{Item, Run, is_inner, put_before, join_runs, is_child, child_of, declared_here, declared_below, from_above}
+use Rattle.ifmap_elem.specs.Document.{ContentItem, Run, is_inner, put_before, join_runs, is_child, child_of, declared_here, declared_below, from_above}
 use Rattle.ifmap_elem.specs.Scopes.{Binding, Scope, root_scope}
 use Rattle.ifmap_elem.specs.declared.elements.Child.{Child}
 use Rattle.ifmap_elem.specs.declared.elements.Child as the
@@ -47,11 +47,11 @@ abbrev pub text_child : Bool → List ℕ → List Child
 text_child beside text = if is_child_text beside text then the.Text text ∷ [] else []
 
 -- of its text and what is still to come, the items that are children
-abbrev pub children_to_come : OpenElement → List Item → List Item
+abbrev pub children_to_come : OpenElement → List ContentItem → List ContentItem
 children_to_come f items = filter (is_child (has_children f || list_any is_inner items)) (put_before f.text (join_runs items))
 
 -- the element, and the declarations in it, that it is once these items have come
-pub record Closes (f : OpenElement) (items : List Item) (e : Element) (declared : List Declared) : Type 0 where
+pub record Closes (f : OpenElement) (items : List ContentItem) (e : Element) (declared : List Declared) : Type 0 where
   pub element_is : e ≡ record { name = f.name; attributes = f.attributes; children = f.children ++ map child_of (children_to_come f items) }
   pub declared_is : declared ≡ declared_here f.bindings ++ (f.below ++ declared_below (length f.children) (children_to_come f items))
 

@@ -1,6 +1,6 @@
 -- How a document goes on from where a reader stands, and what one more token makes of that.
 use Rattle.std.specs.Prelude.{◌≡◌, ◌↔◌, ℕ, ◌+◌, ◌<◌, ◌≤◌, Bool, true, false, cond, ◌⊎◌, List, [], ◌∷◌, ◌++◌, length, reverse, Result, Ok, Err}
-use Rattle.ifmap_elem.specs.Document.{Pieces, tokens_of, Item, AreItems, IsMargin, IsDocument}
+use Rattle.ifmap_elem.specs.Document.{Pieces, tokens_of, ContentItem, AreItems, IsMargin, IsDocument}
 use Rattle.ifmap_elem.specs.laws.Roots.{BeginsWithRoot}
 use Rattle.ifmap_elem.specs.Nesting.{nesting}
 use Rattle.ifmap_elem.specs.Places.{is_start, is_end, Opens}
@@ -16,8 +16,8 @@ use Rattle.ifmap_reader.specs.OpenElements.{AreLinked, Closes, scope_of, with_in
 use Rattle.ifmap_reader.specs.declared.errors.TokenRefusal.{TokenRefusal}
 use Rattle.ifmap_reader.specs.declared.errors.TokenRefusal.TheVariants.{NotAllowed, TooDeep, NoMemory}
 use Rattle.ifmap_reader.specs.declared.open_elements.OpenElement.{OpenElement}
-use Rattle.ifmap_reader.specs.declared.standing.DocumentStanding.{DocumentStanding}
-use Rattle.ifmap_reader.specs.declared.standing.DocumentStanding.TheVariants as standing
+use Rattle.ifmap_reader.specs.declared.progress.DocumentProgress.{DocumentProgress}
+use Rattle.ifmap_reader.specs.declared.progress.DocumentProgress.TheVariants as standing
 
 -- where a reader stands: at the start, within some open elements, the innermost first and none before the root, or after the root
 pub data Where : Type 0 where
@@ -25,7 +25,7 @@ pub data Where : Type 0 where
   Within : List OpenElement → Where
   AfterRoot : Reading → Where
 
-abbrev pub where_is : DocumentStanding → Where
+abbrev pub where_is : DocumentProgress → Where
 where_is standing.Start = AtStart
 where_is (standing.Open open_elements) = Within (reverse open_elements)
 where_is (standing.Done r) = AfterRoot r.value
@@ -34,7 +34,7 @@ where_is (standing.Done r) = AfterRoot r.value
 pub record Ends (scope : Scope) (f : OpenElement) (ts : List Token) (Then : Element → List Declared → List Token → Type 0) : Type 0 where
   pub inside : Pieces
   pub rest : List Token
-  pub items : List Item
+  pub items : List ContentItem
   pub element : Element
   pub declared : List Declared
   pub tokens_are : ts ≡ tokens_of inside ++ (End (written_name f) ∷ rest)
@@ -97,10 +97,10 @@ open_in (Within open_elements) = length open_elements
 open_in (AfterRoot root) = 0
 
 -- how deep what was read nests
-abbrev pub so_deep : Where → ℕ
-so_deep AtStart = 0
-so_deep (Within open_elements) = levels open_elements
-so_deep (AfterRoot root) = nesting root.root
+abbrev pub depth_read : Where → ℕ
+depth_read AtStart = 0
+depth_read (Within open_elements) = levels open_elements
+depth_read (AfterRoot root) = nesting root.root
 
 -- one, where it is so
 abbrev pub one_if : Bool → ℕ
@@ -115,7 +115,7 @@ IsLinked (AfterRoot root) = Unit {0}
 -- the token leads from there to here, within that many levels
 pub record Leads (depth : ℕ) (old : Where) (t : Token) (new : Where) : Type 0 where
   pub follows : Follows old t new
-  pub fits : so_deep old ≤ depth → so_deep new ≤ depth
+  pub fits : depth_read old ≤ depth → depth_read new ≤ depth
   pub counts : open_in old + one_if (is_start t) ≡ open_in new + one_if (is_end t)
   pub within : Opens t → open_in old < depth
   pub linked : IsLinked old → IsLinked new
@@ -126,24 +126,24 @@ pub record Passes (depth : ℕ) (old : Where) (t : Token) : Type 0 where
   pub level_is : depth ≤ open_in old
   pub new : Where
   pub follows : Follows old t new
-  pub deeper : depth < so_deep new
+  pub deeper : depth < depth_read new
 
 -- the answer to one more token
-abbrev pub TokenAnswer : ℕ → Where → Token → Result DocumentStanding TokenRefusal → Type 0
+abbrev pub TokenAnswer : ℕ → Where → Token → Result DocumentProgress TokenRefusal → Type 0
 TokenAnswer depth old t (Ok new) = Leads depth old t (where_is new)
 TokenAnswer depth old t (Err NotAllowed) = (ts : List Token) (r : Reading) → GoesOn old (t ∷ ts) r → ⊥
 TokenAnswer depth old t (Err TooDeep) = Passes depth old t
 TokenAnswer depth old t (Err NoMemory) = Unit {0}
 
 -- the answer to characters or a section within some open elements, the innermost last
-abbrev pub TextAnswer : List OpenElement → Bool → List ℕ → Result DocumentStanding TokenRefusal → Type 0
+abbrev pub TextAnswer : List OpenElement → Bool → List ℕ → Result DocumentProgress TokenRefusal → Type 0
 TextAnswer open_elements blank text result =
     (depth : ℕ) (t : Token) → IsCharacterData blank text t → TokenAnswer depth (Within (reverse open_elements)) t result
 
 -- the answer to an end tag there
-abbrev pub EndAnswer : List OpenElement → Qualified → Result DocumentStanding TokenRefusal → Type 0
+abbrev pub EndAnswer : List OpenElement → Qualified → Result DocumentProgress TokenRefusal → Type 0
 EndAnswer open_elements name result = (depth : ℕ) → TokenAnswer depth (Within (reverse open_elements)) (End name) result
 
 -- a reader stands after an element that ended within these
-abbrev pub IsAfterElement : List OpenElement → Element → List Declared → DocumentStanding → Type 0
+abbrev pub IsAfterElement : List OpenElement → Element → List Declared → DocumentProgress → Type 0
 IsAfterElement open_elements e declared new = where_is new ≡ after_element (reverse open_elements) e declared

@@ -11,8 +11,8 @@ use Rattle.ifmap_reader.specs.declared.errors.ReadError.{ReadError}
 use Rattle.ifmap_reader.specs.declared.errors.ReadError.TheVariants.{Unreadable, TooDeep, NoMemory}
 use Rattle.ifmap_reader.specs.declared.errors.TokenRefusal.{TokenRefusal}
 use Rattle.ifmap_reader.specs.declared.errors.TokenRefusal.TheVariants as refusals
-use Rattle.ifmap_reader.specs.declared.standing.DocumentStanding.{DocumentStanding}
-use Rattle.ifmap_reader.specs.declared.standing.DocumentStanding.TheVariants.{Start, Open, Done}
+use Rattle.ifmap_reader.specs.declared.progress.DocumentProgress.{DocumentProgress}
+use Rattle.ifmap_reader.specs.declared.progress.DocumentProgress.TheVariants.{Start, Open, Done}
 
 -- no element is spelled, this is where the bytes stop to be the beginning of a document, and no tag opens a level too many
 pub record IsUnreadable (bytes : List ℕ) (depth at : ℕ) : Type 0 where
@@ -47,7 +47,7 @@ refusal_error refusals.NotAllowed at = Unreadable at
 refusal_error refusals.TooDeep at = TooDeep at
 refusal_error refusals.NoMemory at = NoMemory
 
-abbrev pub read_at_end : DocumentStanding → ℕ → Result Reading ReadError
+abbrev pub read_at_end : DocumentProgress → ℕ → Result Reading ReadError
 read_at_end Start at = Err (Unreadable at)
 read_at_end (Open open_elements) at = Err (Unreadable at)
 read_at_end (Done r) at = Ok r.value

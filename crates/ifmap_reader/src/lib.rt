@@ -11,9 +11,9 @@ pub mod errors;
 pub mod laws;
 mod next_token;
 mod open_elements;
+mod progress;
 pub mod reading;
 pub mod scoping;
-mod standing;
 
 pub use errors::ReadError;
 pub use ifmap_lexer::{is_name_character, is_name_start};

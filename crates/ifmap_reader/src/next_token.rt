@@ -6,7 +6,7 @@ ghost use Rattle.ifmap_reader.specs.Progress.{IsLinked, Within, where_is};
 
 use crate::errors::TokenRefusal;
 use crate::open_elements::OpenElement;
-use crate::standing::{DocumentStanding, take_token, with_element};
+use crate::progress::{DocumentProgress, take_token, with_element};
 use ifmap_elem::Many;
 use ifmap_lexer::{LexError, end_tag_length, token_of};
 use std::alloc::Global;
@@ -14,7 +14,7 @@ use std::alloc::Global;
 // Where a reader stands after a token, and how many bytes that takes.
 #[derive(Drop)]
 pub(crate) struct AfterToken {
-    pub standing: DocumentStanding,
+    pub standing: DocumentProgress,
     pub length: usize,
 }
 
@@ -22,14 +22,14 @@ pub(crate) struct AfterToken {
 pub(crate) fn take_next(
     alloc: Global,
     depth: u32,
-    standing: DocumentStanding,
+    standing: DocumentProgress,
     bytes: &[u8],
 ) -> Result<AfterToken, TokenRefusal>
     requires { IsLinked (where_is standing) }
     ensures { NextAnswer depth (where_is standing) bytes.now result }
 {
     match standing {
-        DocumentStanding::Open(open_elements) => take_next_inside(
+        DocumentProgress::Open(open_elements) => take_next_inside(
             alloc,
             depth,
             open_elements,
@@ -50,7 +50,7 @@ fn take_next_inside(
     ensures { NextAnswer depth (Within (reverse open_elements)) bytes.now result }
 {
     let Some(length) = innermost_end_length(open_elements.as_slice(), bytes) else {
-        return take_made_token(alloc, depth, DocumentStanding::Open(open_elements), bytes);
+        return take_made_token(alloc, depth, DocumentProgress::Open(open_elements), bytes);
     };
     let standing = end_innermost(alloc, open_elements)?;
     Ok(AfterToken { standing, length })
@@ -72,7 +72,7 @@ fn innermost_end_length(open_elements: &[OpenElement], bytes: &[u8]) -> Option<u
 fn end_innermost(
     alloc: Global,
     open_elements: Many<OpenElement>,
-) -> Result<DocumentStanding, TokenRefusal>
+) -> Result<DocumentProgress, TokenRefusal>
     ensures { InnermostAnswer open_elements result }
 {
     let Many(mut open_elements) = open_elements;
@@ -87,7 +87,7 @@ fn end_innermost(
 fn take_made_token(
     alloc: Global,
     depth: u32,
-    standing: DocumentStanding,
+    standing: DocumentProgress,
     bytes: &[u8],
 ) -> Result<AfterToken, TokenRefusal>
     requires { IsLinked (where_is standing) }

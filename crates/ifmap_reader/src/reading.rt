@@ -7,7 +7,7 @@ ghost use Rattle.ifmap_reader.specs.Reads.{AreCanonical, GivesBack, IsRead, read
 
 use crate::errors::{ReadError, TokenRefusal};
 use crate::next_token::take_next;
-use crate::standing::DocumentStanding;
+use crate::progress::DocumentProgress;
 use ifmap_elem::Reading;
 use std::alloc::Global;
 
@@ -27,7 +27,7 @@ fn read_tokens(alloc: Global, bytes: &[u8], depth: u32) -> Result<Reading, ReadE
     ensures { IsRead bytes.now depth result }
 {
     let mut at = byte_order_mark_length(bytes);
-    let mut standing = DocumentStanding::Start;
+    let mut standing = DocumentProgress::Start;
     while at < bytes.len() {
         let next = match take_next(alloc, depth, standing, &bytes[at..]) {
             Ok(next) => next,
@@ -40,11 +40,11 @@ fn read_tokens(alloc: Global, bytes: &[u8], depth: u32) -> Result<Reading, ReadE
 }
 
 // What has been read where the input ends.
-fn read_at_end(standing: DocumentStanding, at: usize) -> Result<Reading, ReadError>
+fn read_at_end(standing: DocumentProgress, at: usize) -> Result<Reading, ReadError>
     ensures { result ≡ read_at_end standing at }
 {
     match standing {
-        DocumentStanding::Done(reading) => Ok(Box::into_inner(reading)),
+        DocumentProgress::Done(reading) => Ok(Box::into_inner(reading)),
         _ => Err(ReadError::Unreadable { at: at as u64 }),
     }
 }

@@ -34,7 +34,12 @@ pub(crate) fn next_of<G: LinkSource>(
 }
 
 // The mark of `to`, where `from` may have held it.
-fn held_at<G: LinkSource>(basis: &Basis<'_, G>, rows: &MarkRows, from: u64, to: u64) -> Option<u32>
+fn held_mark<G: LinkSource>(
+    basis: &Basis<'_, G>,
+    rows: &MarkRows,
+    from: u64,
+    to: u64,
+) -> Option<u32>
     ensures only { let layer = layer_of G.count G.link G.terminal basis.now rows.now.entries in
         IfSome result (λ k. MayHoldAt layer from to k) }
     ensures each { let layer = layer_of G.count G.link G.terminal basis.now rows.now.entries in
@@ -53,7 +58,7 @@ fn held_at<G: LinkSource>(basis: &Basis<'_, G>, rows: &MarkRows, from: u64, to: 
 }
 
 // The level to which `from` lowers `to`.
-fn lowered_to<G: LinkSource>(
+fn lowered_level<G: LinkSource>(
     basis: &Basis<'_, G>,
     rows: &MarkRows,
     from: u64,
@@ -100,9 +105,9 @@ pub(crate) fn held_seeds<G: LinkSource>(
     let mut seeds = Vec::new(alloc);
     for flip in flips {
         if !flip.added {
-            let at_b = held_at(basis, rows, flip.a, flip.b);
+            let at_b = held_mark(basis, rows, flip.a, flip.b);
             offer(&mut seeds, at_b, flip.b)?;
-            let at_a = held_at(basis, rows, flip.b, flip.a);
+            let at_a = held_mark(basis, rows, flip.b, flip.a);
             offer(&mut seeds, at_a, flip.a)?;
         }
     }
@@ -122,9 +127,9 @@ pub(crate) fn lowered_seeds<G: LinkSource>(
     let mut seeds = Vec::new(alloc);
     for flip in flips {
         if flip.added {
-            let at_b = lowered_to(basis, rows, flip.a, flip.b);
+            let at_b = lowered_level(basis, rows, flip.a, flip.b);
             offer(&mut seeds, at_b, flip.b)?;
-            let at_a = lowered_to(basis, rows, flip.b, flip.a);
+            let at_a = lowered_level(basis, rows, flip.b, flip.a);
             offer(&mut seeds, at_a, flip.a)?;
         }
     }

@@ -21,7 +21,7 @@ use Rattle.ifmap_forms.specs.Checks.{Check, IsConclusive, check_then, need, need
 use Rattle.ifmap_forms.specs.Items.{before_list, from_list, identifier_check, identifiers_check, item_of, list_if_there, list_check}
 use Rattle.ifmap_forms.specs.Scopes.{Scopes}
 use Rattle.ifmap_elem.specs.WhiteSpace.{is_blank_part}
-use Rattle.ifmap_forms.specs.Tables.{ContentCheck, Form, Part, AttributeTable, table_with, both, each_element, form_check, no_attributes}
+use Rattle.ifmap_forms.specs.Tables.{ContentCheck, ElementForm, Part, AttributeTable, table_with, both, each_element, form_check, no_attributes}
 use Rattle.ifmap_forms.specs.Tables.{members_check, no_children, element_parts, read_form}
 use Rattle.ifmap_forms.specs.Values.{Field, field_check, read_text, text_field}
 use Rattle.ifmap_forms.specs.IdentifierLaws.{identifier_done, identifiers_done}
@@ -61,7 +61,7 @@ module _ {X Y : Type 0} (field : Field X) (table : AttributeTable Y) where
       (λ x is. then_done (table.reads scope e) (λ y. pass (both x y)) (λ y there. pass_done (both x y)) (t scope e))
       (f scope (value_of field.local e))
 
-module _ {A C : Type 0} (form : Form A C) where
+module _ {A C : Type 0} (form : ElementForm A C) where
   form_done : SomeOfTable form.attributes → SomeOfContent form.content → (scopes : Scopes) (e : Element) → IsConclusive
       (read_form form scopes e)
   form_done t s scopes e =
@@ -74,7 +74,7 @@ module _ {A C : Type 0} (form : Form A C) where
       (s scopes (element_parts e))))
       (t (scopes []) e)
 
-module _ {X A C : Type 0} (form : Form A C) (make : A → C → X) where
+module _ {X A C : Type 0} (form : ElementForm A C) (make : A → C → X) where
   made_done : SomeOfTable form.attributes → SomeOfContent form.content → (scopes : Scopes) (e : Element)
       → IsConclusive (form_check form make scopes e)
   made_done t s scopes e =

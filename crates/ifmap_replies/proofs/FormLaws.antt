@@ -10,7 +10,7 @@ use Rattle.ifmap_forms.specs.AnswerLaws.{found_form, refused_at_content}
 use Rattle.ifmap_forms.specs.Answers.{IsChecked, IsCheckRefusal}
 use Rattle.ifmap_forms.specs.Checks.{Check, need, need_some, pass}
 use Rattle.ifmap_forms.specs.Scopes.{Scopes}
-use Rattle.ifmap_forms.specs.Tables.{Form, Part, form_check, element_parts, members_check}
+use Rattle.ifmap_forms.specs.Tables.{ElementForm, Part, form_check, element_parts, members_check}
 use Rattle.ifmap_replies.specs.ResultForms.{only_check, only_member}
 
 module _ {X : Type 0} where
@@ -28,7 +28,7 @@ module _ {X : Type 0} where
   refused_none code o check is = subst (λ (p : Option _). need_some code p check (Err code)) (sym is) refl
 
   -- what the content means is what the element means
-  pub content_alone : {A : Type 0} (form : Form A X) (make : A → X → X) (scopes : Scopes) (e : Element) (a : A)
+  pub content_alone : {A : Type 0} (form : ElementForm A X) (make : A → X → X) (scopes : Scopes) (e : Element) (a : A)
       → form.attributes.reads (scopes []) e (Ok a) → ((x : X) → make a x ≡ x)
       → has_only (form.passed_over ++ form.attributes.locals) e ≡ true → (r : Result X FormError)
       → IsChecked (form.content scopes (element_parts e)) r → IsChecked (form_check form make scopes e) r

@@ -21,7 +21,7 @@ use Rattle.ifmap_search.specs.declared.results.PollItem.TheVariants as poll
 use Rattle.ifmap_forms.specs.Checks.{Check, check_then, need, need_some, pass}
 use Rattle.ifmap_forms.specs.Items.{before_list, from_list, identifiers_check, item_of, list_if_there}
 use Rattle.ifmap_forms.specs.Scopes.{Scopes}
-use Rattle.ifmap_forms.specs.Tables.{Both, ContentCheck, Form, OneText, Part, bare_form, table_with, form_check, members_check, no_attributes}
+use Rattle.ifmap_forms.specs.Tables.{Both, ContentCheck, ElementForm, OneText, Part, bare_form, table_with, form_check, members_check, no_attributes}
 use Rattle.ifmap_forms.specs.Tables.{no_children, element_parts}
 use Rattle.ifmap_forms.specs.Values.{text_field}
 use Rattle.ifmap_replies.specs.declared.kinds.EntriesKind.{EntriesKind}
@@ -71,7 +71,7 @@ run_parts parts =
     check_then (identifiers_check 2 [] (before_list parts))
     (λ identifiers. check_then (list_if_there element_check (from_list parts)) (λ list. run_from identifiers list))
 
-abbrev pub run_form : Form (Unit {0}) Run
+abbrev pub run_form : ElementForm (Unit {0}) Run
 run_form = bare_form (codes "resultItem") no_attributes (λ scopes. run_parts)
 
 abbrev pub run_made : Unit {0} → Run → Run
@@ -124,7 +124,7 @@ poll_kinds =
 abbrev pub poll_kind_of : Name → Option PollKind
 poll_kind_of name = find (λ kind. is_bare (poll_local kind) name) poll_kinds
 
-abbrev pub told_form : EntriesKind → Form OneText (List Entry)
+abbrev pub told_form : EntriesKind → ElementForm OneText (List Entry)
 told_form kind = bare_form (entries_local kind) (table_with (text_field (codes "name")) no_attributes) entries_content
 
 -- entries of this kind under a name
@@ -141,7 +141,7 @@ told_made kind a found = told_item kind a.first found
 abbrev pub NamedCode : Type 0
 NamedCode = Both Code (Both (Option (List ℕ)) (Unit {0}))
 
-abbrev pub told_error_form : Form NamedCode (List ℕ)
+abbrev pub told_error_form : ElementForm NamedCode (List ℕ)
 told_error_form =
     bare_form (codes "errorResult") (table_with code_field (table_with (optional_field (codes "name")) no_attributes)) note_content
 
@@ -182,7 +182,7 @@ result_kind_of name = find (λ kind. is_bare (result_local kind) name) result_ki
 abbrev pub SessionValues : Type 0
 SessionValues = Both (List ℕ) (Both ℕ (Both (List ℕ) (Unit {0})))
 
-abbrev pub session_result_form : Form SessionValues (Unit {0})
+abbrev pub session_result_form : ElementForm SessionValues (Unit {0})
 session_result_form =
     bare_form (result_local result.NewSession)
     (table_with (text_field (codes "ifmap-publisher-id")) (table_with (word_field (codes "max-poll-result-size"))
@@ -193,7 +193,7 @@ abbrev pub new_session_made : SessionValues → Unit {0} → Reply
 new_session_made a none = reply.NewSession a.others.others.first a.first a.others.first
 
 -- a result without attributes and children
-abbrev pub plain_form : ResultKind → Form (Unit {0}) (Unit {0})
+abbrev pub plain_form : ResultKind → ElementForm (Unit {0}) (Unit {0})
 plain_form kind = bare_form (result_local kind) no_attributes no_children
 
 abbrev pub plain_made : Reply → Unit {0} → Unit {0} → Reply
@@ -202,19 +202,19 @@ plain_made answer a none = answer
 abbrev pub plain_check : ResultKind → Reply → Element → Check Reply
 plain_check kind answer e = form_check (plain_form kind) (plain_made answer) no_scopes e
 
-abbrev pub found_form : Form (Unit {0}) (List Entry)
+abbrev pub found_form : ElementForm (Unit {0}) (List Entry)
 found_form = bare_form (result_local result.Found) no_attributes entries_content
 
 abbrev pub found_made : Unit {0} → List Entry → Reply
 found_made a entries = reply.Found entries
 
-abbrev pub polled_form : Form (Unit {0}) (List PollItem)
+abbrev pub polled_form : ElementForm (Unit {0}) (List PollItem)
 polled_form = bare_form (result_local result.Polled) no_attributes (λ scopes. members_check poll_check)
 
 abbrev pub polled_made : Unit {0} → List PollItem → Reply
 polled_made a items = reply.Polled items
 
-abbrev pub error_form : Form (Both Code (Unit {0})) (List ℕ)
+abbrev pub error_form : ElementForm (Both Code (Unit {0})) (List ℕ)
 error_form = bare_form (result_local result.Error) (table_with code_field no_attributes) note_content
 
 abbrev pub error_made : Both Code (Unit {0}) → List ℕ → Reply
@@ -237,7 +237,7 @@ result_check e = need_some Failure (result_kind_of e.name) (λ kind. result_kind
 
 -- ---- responses
 
-abbrev pub response_form : Form (Unit {0}) Reply
+abbrev pub response_form : ElementForm (Unit {0}) Reply
 response_form = record { name = response_name; passed_over = []; attributes = no_attributes; content = λ scopes. only_check result_check }
 
 abbrev pub response_made : Unit {0} → Reply → Reply

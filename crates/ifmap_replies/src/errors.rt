@@ -1,6 +1,6 @@
 //! Why there is no reply.
 use ifmap_forms::FormError;
-use std::alloc::{AllocError, AllocFailed};
+use std::alloc::{AllocError as NoMemory, AllocFailed};
 use thiserror::Error;
 
 /// Why an element or a body is no reply.
@@ -13,13 +13,13 @@ pub enum ReplyError {
     NoMemory,
 }
 
-impl From<AllocError> for ReplyError {
+impl From<NoMemory> for ReplyError {
     ghost use Rattle.std.specs.Prelude.{◌≡◌};
     ghost use Rattle.ifmap_replies.specs.declared.errors.ReplyError.TheVariants.{NoMemory};
 
     ghost from_gives = { λ _ e. e ≡ NoMemory };
 
-    fn from(_: AllocError) -> Self {
+    fn from(_: NoMemory) -> Self {
         ReplyError::NoMemory
     }
 }

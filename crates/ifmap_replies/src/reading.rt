@@ -13,7 +13,7 @@ use ifmap_ident::{ReadError, read};
 use std::alloc::Global;
 
 // How many levels a reply can have.
-const LEVELS: u32 = 80;
+const REPLY_LEVELS: u32 = 80;
 
 /// The reply that an element means, an envelope of a response with one result; `NotAReply` exactly
 /// where it means none.
@@ -30,7 +30,7 @@ pub fn read_reply(alloc: Global, body: &[u8]) -> Result<Reply, ReplyError>
     ensures { IsMeantReply (MeansReply body.now) result }
 {
     bytes_spell_one_element();
-    match read(alloc, body, LEVELS) {
+    match read(alloc, body, REPLY_LEVELS) {
         Ok(reading) => read_envelope(alloc, reading.root),
         Err(ReadError::Unreadable { .. }) => Err(ReplyError::NotAReply),
         Err(ReadError::TooDeep { .. }) => Err(ReplyError::NotAReply),

@@ -35,7 +35,7 @@ use Rattle.ifmap_forms.specs.Items.{before_list, from_list, identifier_check, id
 use Rattle.ifmap_forms.specs.Items.{may_follow, only_identifier, start_content}
 use Rattle.ifmap_forms.specs.Scopes.{Scopes, scopes_below}
 use Rattle.ifmap_elem.specs.WhiteSpace.{is_blank_part}
-use Rattle.ifmap_forms.specs.Tables.{ContentCheck, Form, Part, AttributeTable, table_with, both, each_element, form_or, list_of, no_attributes}
+use Rattle.ifmap_forms.specs.Tables.{ContentCheck, ElementForm, Part, AttributeTable, table_with, both, each_element, form_or, list_of, no_attributes}
 use Rattle.ifmap_forms.specs.Tables.{no_children, element_parts, read_form}
 use Rattle.ifmap_forms.specs.Values.{greatest_limit, greatest_size, least_limit, longest_name, usual_size}
 use Rattle.ifmap_forms.specs.Values.{Field, depth_field, field_check, filter_check, filter_field, kind_named, kinds_check, kinds_field}
@@ -81,7 +81,7 @@ module _ (most : ℕ) where
   abbrev ElementDone : {X : Type 0} → (Element → Check X) → Type 0
   ElementDone check = (e : Element) → IsSound most e → IsConclusive (check e)
 
-  module _ {A C : Type 0} (form : Form A C) where
+  module _ {A C : Type 0} (form : ElementForm A C) where
     form_done : TableDone form.attributes → ContentDone form.content → (scopes : Scopes) → ElementDone (read_form form scopes)
     form_done t s scopes e sound =
         then_done (form.attributes.reads (scopes []) e)
@@ -93,7 +93,7 @@ module _ (most : ℕ) where
         (s scopes (element_parts e) (parts_sound most e sound))))
         (t (scopes []) e sound.fit)
 
-  module _ {X A C : Type 0} (form : Form A C) (make : A → C → X) where
+  module _ {X A C : Type 0} (form : ElementForm A C) (make : A → C → X) where
     or_done : TableDone form.attributes → ContentDone form.content → (scopes : Scopes) (e : Element) → IsSound most e → (other : Check X)
         → IsConclusive other → IsConclusive (form_or form make scopes e other)
     or_done t s scopes e sound other done =

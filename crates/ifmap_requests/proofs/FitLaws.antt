@@ -32,7 +32,7 @@ use Rattle.ifmap_forms.specs.Checks.{Check, check_if, check_then, fail, need, ne
 use Rattle.ifmap_forms.specs.Items.{before_list, from_list, identifier_check, identifiers_check, item_content, item_of, list_if_there, list_check}
 use Rattle.ifmap_forms.specs.Items.{may_follow, only_identifier, start_content}
 use Rattle.ifmap_forms.specs.Scopes.{Scopes, scopes_below}
-use Rattle.ifmap_forms.specs.Tables.{Both, ContentCheck, Form, OneText, Part, AttributeTable, table_with, both, each_element, form_check, form_or}
+use Rattle.ifmap_forms.specs.Tables.{Both, ContentCheck, ElementForm, OneText, Part, AttributeTable, table_with, both, each_element, form_check, form_or}
 use Rattle.ifmap_elem.specs.WhiteSpace.{is_blank_part}
 use Rattle.ifmap_elem.specs.Building.{is_name}
 use Rattle.ifmap_forms.specs.Tables.{list_of, no_attributes, no_children, element_parts, read_form}
@@ -171,7 +171,7 @@ filter_gives local scope (Some text) fit is =
 
 -- ---- forms
 
-module _ {X A C : Type 0} (P : A → Type 0) (Q : C → Type 0) (R : X → Type 0) (form : Form A C) (make : A → C → X) where
+module _ {X A C : Type 0} (P : A → Type 0) (Q : C → Type 0) (R : X → Type 0) (form : ElementForm A C) (make : A → C → X) where
   form_gives : TableGives form.attributes P → ContentGives form.content Q → ((a : A) (c : C) → P a → Q c → R (make a c))
       → (scopes : Scopes) (e : Element) → AreFitScopes scopes → IsSound level_limit e → Gives (form_check form make scopes e) R
   form_gives t s r scopes e fit sound =

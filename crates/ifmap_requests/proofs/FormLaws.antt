@@ -26,7 +26,7 @@ use Rattle.ifmap_forms.specs.Answers.{IsChecked, IsCheckedAs, IsCheckRefusal}
 use Rattle.ifmap_forms.specs.Checks.{Check, check_if, check_then, need, pass}
 use Rattle.ifmap_forms.specs.Items.{start_check, start_content}
 use Rattle.ifmap_forms.specs.Scopes.{Scopes}
-use Rattle.ifmap_forms.specs.Tables.{Both, Form, table_with, both, form_check, form_or, no_attributes}
+use Rattle.ifmap_forms.specs.Tables.{Both, ElementForm, table_with, both, form_check, form_or, no_attributes}
 use Rattle.ifmap_forms.specs.Tables.{element_parts, read_form}
 use Rattle.ifmap_forms.specs.Values.{Field, depth_field, field_check, kinds_field, size_field}
 use Rattle.ifmap_requests.specs.declared.searching.Bounds.{Bounds}
@@ -35,7 +35,7 @@ use Rattle.ifmap_requests.specs.RequestForms.{search_attributes, search_check, s
 
 -- ---- 1. names
 
-module _ {X A C : Type 0} (form : Form A C) (make : A → C → X) (scopes : Scopes) (e : Element) (other : Check X) where
+module _ {X A C : Type 0} (form : ElementForm A C) (make : A → C → X) (scopes : Scopes) (e : Element) (other : Check X) where
   pub by_form : is_name e.name form.name ≡ true → (r : Result X FormError) → IsChecked (form_check form make scopes e) r
       → IsChecked (form_or form make scopes e other) r
   by_form is r f = subst (λ (b : Bool). IsChecked (check_if b (form_check form make scopes e) other) r) (sym is) f
@@ -53,7 +53,7 @@ abbrev no_search : Code → Result Search Code
 no_search code = Err code
 
 module _ {X : Type 0} (field : Field (List ℕ)) (name : Name) (passed : List (List ℕ)) (make : List ℕ → Search → X) where
-  abbrev searching : Form (Both (List ℕ) SearchValues) Identifier
+  abbrev searching : ElementForm (Both (List ℕ) SearchValues) Identifier
   searching = record { name = name; passed_over = passed; attributes = table_with field search_attributes; content = start_content }
 
   abbrev make_from : Both (List ℕ) SearchValues → Identifier → X
@@ -207,7 +207,7 @@ module _ (allowed : List (List ℕ)) (scope : Scope) (e : Element) where
 
 -- ---- 5. a form that is read, before something is made of it
 
-module _ {A C : Type 0} (form : Form A C) (scopes : Scopes) (e : Element) where
+module _ {A C : Type 0} (form : ElementForm A C) (scopes : Scopes) (e : Element) where
   abbrev only : Bool
   only = has_only (form.passed_over ++ form.attributes.locals) e
 
@@ -232,7 +232,7 @@ module _ {A C : Type 0} (form : Form A C) (scopes : Scopes) (e : Element) where
     read_whole c is g = (a, f, found_after children_of only Failure (Ok (both a c)) is (c, g, refl))
 
 -- what is made of a form that is read
-module _ {X A C : Type 0} (form : Form A C) (make : A → C → X) (scopes : Scopes) (e : Element) where
+module _ {X A C : Type 0} (form : ElementForm A C) (make : A → C → X) (scopes : Scopes) (e : Element) where
   pub made_of_form : (a : A) (c : C) → read_form form scopes e (Ok (both a c)) → form_check form make scopes e (Ok (make a c))
   made_of_form a c f = (both a c, f, refl)
 

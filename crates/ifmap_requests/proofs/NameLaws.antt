@@ -22,7 +22,7 @@ use Rattle.ifmap_requests.specs.declared.asking.RequestName.{RequestName}
 use Rattle.ifmap_requests.specs.declared.asking.RequestName.TheVariants as asking
 use Rattle.ifmap_requests.specs.declared.operations.Operation.{Operation}
 use Rattle.ifmap_requests.specs.declared.operations.Operation.TheVariants as operation
-use Rattle.ifmap_requests.specs.declared.publishing.PublishOp.{PublishOp}
+use Rattle.ifmap_requests.specs.declared.publish_ops.PublishOp.{PublishOp}
 use Rattle.ifmap_requests.specs.declared.requests.Request.{Request}
 use Rattle.ifmap_requests.specs.declared.requests.SubscribeOp.{SubscribeOp}
 use Rattle.ifmap_envelopes.specs.Spaces.{ifmap_space}

@@ -10,8 +10,8 @@ use Rattle.ifmap_ident.specs.Items.{IsCanonItem}
 use Rattle.ifmap_meta.specs.Whole.{IsMetadata}
 use Rattle.ifmap_search.specs.declared.searches.Search as the
 use Rattle.ifmap_requests.specs.FitFilters.{IsFitFilter}
-use Rattle.ifmap_requests.specs.declared.publishing.PublishOp.{PublishOp}
-use Rattle.ifmap_requests.specs.declared.publishing.PublishOp.TheVariants as publish
+use Rattle.ifmap_requests.specs.declared.publish_ops.PublishOp.{PublishOp}
+use Rattle.ifmap_requests.specs.declared.publish_ops.PublishOp.TheVariants as publish
 use Rattle.ifmap_requests.specs.declared.requests.Request.{Request}
 use Rattle.ifmap_requests.specs.declared.requests.Request.TheVariants.{NewSession, RenewSession, EndSession, Publish, Search, Subscribe}
 use Rattle.ifmap_requests.specs.declared.requests.Request.TheVariants.{Poll, PurgePublisher}

@@ -23,7 +23,7 @@ use Rattle.ifmap_envelopes.specs.Spaces.{ifmap_space}
 use Rattle.ifmap_forms.specs.Checks.{Check, check_then, fail, need, pass}
 use Rattle.ifmap_forms.specs.Items.{item_content, start_check, start_content}
 use Rattle.ifmap_forms.specs.Scopes.{Scopes}
-use Rattle.ifmap_forms.specs.Tables.{Both, ContentCheck, Form, OneText, AttributeTable, bare_form, table_with, both, form_or, list_of, no_attributes}
+use Rattle.ifmap_forms.specs.Tables.{Both, ContentCheck, ElementForm, OneText, AttributeTable, bare_form, table_with, both, form_or, list_of, no_attributes}
 use Rattle.ifmap_forms.specs.Tables.{no_children, element_parts}
 use Rattle.ifmap_forms.specs.Values.{Field, depth_field, filter_field, kinds_field, lifetime_field, limit_field, name_field, size_field}
 use Rattle.ifmap_forms.specs.Values.{text_field}
@@ -31,8 +31,8 @@ use Rattle.ifmap_requests.specs.declared.asking.RequestName.{RequestName}
 use Rattle.ifmap_requests.specs.declared.asking.RequestName.TheVariants as asking
 use Rattle.ifmap_requests.specs.declared.operations.Operation.{Operation}
 use Rattle.ifmap_requests.specs.declared.operations.Operation.TheVariants as operation
-use Rattle.ifmap_requests.specs.declared.publishing.PublishOp.{PublishOp}
-use Rattle.ifmap_requests.specs.declared.publishing.PublishOp.TheVariants as publish
+use Rattle.ifmap_requests.specs.declared.publish_ops.PublishOp.{PublishOp}
+use Rattle.ifmap_requests.specs.declared.publish_ops.PublishOp.TheVariants as publish
 use Rattle.ifmap_requests.specs.declared.requests.Request.{Request}
 use Rattle.ifmap_requests.specs.declared.requests.Request.TheVariants as request
 use Rattle.ifmap_requests.specs.declared.requests.SubscribeOp.{SubscribeOp}
@@ -41,13 +41,13 @@ use Rattle.ifmap_requests.specs.Published.{published_content}
 
 -- ---- the operations of a publish
 
-abbrev pub update_form : Form (Both Bool (Unit {0})) (Both Item (List Metadata))
+abbrev pub update_form : ElementForm (Both Bool (Unit {0})) (Both Item (List Metadata))
 update_form = bare_form (codes "update") (table_with lifetime_field no_attributes) published_content
 
-abbrev pub notify_form : Form (Unit {0}) (Both Item (List Metadata))
+abbrev pub notify_form : ElementForm (Unit {0}) (Both Item (List Metadata))
 notify_form = bare_form (codes "notify") no_attributes published_content
 
-abbrev pub delete_form : Form (Both (Option Filter) (Unit {0})) Item
+abbrev pub delete_form : ElementForm (Both (Option Filter) (Unit {0})) Item
 delete_form = bare_form (codes "delete") (table_with (filter_field (codes "filter")) no_attributes) item_content
 
 abbrev pub update_from_form : Both Bool (Unit {0}) → Both Item (List Metadata) → PublishOp
@@ -120,10 +120,10 @@ values_of bounds =
 
 -- ---- the operations of a subscribe
 
-abbrev pub subscription_form : Form (Both (List ℕ) SearchValues) Identifier
+abbrev pub subscription_form : ElementForm (Both (List ℕ) SearchValues) Identifier
 subscription_form = bare_form (codes "update") (table_with name_field search_attributes) start_content
 
-abbrev pub end_form : Form (Both (List ℕ) (Unit {0})) (Unit {0})
+abbrev pub end_form : ElementForm (Both (List ℕ) (Unit {0})) (Unit {0})
 end_form = bare_form (codes "delete") (table_with name_field no_attributes) no_children
 
 abbrev pub subscription_from_form : Both (List ℕ) SearchValues → Identifier → SubscribeOp
@@ -150,7 +150,7 @@ asking_name asking.PurgePublisher = codes "purgePublisher"
 
 module _ {A C : Type 0} where
   -- a form of a request, beside whose attributes `validation` is passed over
-  abbrev pub asking_form : List ℕ → AttributeTable A → ContentCheck C → Form A C
+  abbrev pub asking_form : List ℕ → AttributeTable A → ContentCheck C → ElementForm A C
   asking_form local attributes content =
       record {
         name = record { space = ifmap_space; local = local };
@@ -165,31 +165,31 @@ session_field = text_field (codes "session-id")
 abbrev pub session_attribute : AttributeTable OneText
 session_attribute = table_with session_field no_attributes
 
-abbrev pub new_session_form : Form (Both (Option ℕ) (Unit {0})) (Unit {0})
+abbrev pub new_session_form : ElementForm (Both (Option ℕ) (Unit {0})) (Unit {0})
 new_session_form = asking_form (asking_name asking.NewSession) (table_with limit_field no_attributes) no_children
 
-abbrev pub renew_form : Form OneText (Unit {0})
+abbrev pub renew_form : ElementForm OneText (Unit {0})
 renew_form = asking_form (asking_name asking.RenewSession) session_attribute no_children
 
-abbrev pub end_session_form : Form OneText (Unit {0})
+abbrev pub end_session_form : ElementForm OneText (Unit {0})
 end_session_form = asking_form (asking_name asking.EndSession) session_attribute no_children
 
-abbrev pub poll_form : Form OneText (Unit {0})
+abbrev pub poll_form : ElementForm OneText (Unit {0})
 poll_form = asking_form (asking_name asking.Poll) session_attribute no_children
 
-abbrev pub publish_form : Form OneText (List PublishOp)
+abbrev pub publish_form : ElementForm OneText (List PublishOp)
 publish_form = asking_form (codes "publish") session_attribute (list_of publish_op_check)
 
-abbrev pub search_form : Form (Both (List ℕ) SearchValues) Identifier
+abbrev pub search_form : ElementForm (Both (List ℕ) SearchValues) Identifier
 search_form = asking_form (asking_name asking.Search) (table_with session_field search_attributes) start_content
 
-abbrev pub subscribe_form : Form OneText (List SubscribeOp)
+abbrev pub subscribe_form : ElementForm OneText (List SubscribeOp)
 subscribe_form = asking_form (asking_name asking.Subscribe) session_attribute (list_of subscribe_op_check)
 
 abbrev pub publisher_field : Field (List ℕ)
 publisher_field = text_field (codes "ifmap-publisher-id")
 
-abbrev pub purge_form : Form (Both (List ℕ) OneText) (Unit {0})
+abbrev pub purge_form : ElementForm (Both (List ℕ) OneText) (Unit {0})
 purge_form =
     asking_form (asking_name asking.PurgePublisher) (table_with session_field (table_with publisher_field no_attributes)) no_children
 

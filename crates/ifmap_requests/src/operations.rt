@@ -8,7 +8,7 @@ ghost use Rattle.ifmap_forms.specs.Tables.{form_check, list_of, parts_in};
 ghost use Rattle.ifmap_requests.specs.RequestForms.{delete_form, delete_from_form, notify_form, notify_of, operation_of, publish_op_check, update_form, update_from_form};
 
 use crate::metadata::read_published;
-use crate::publishing::PublishOp;
+use crate::publish_ops::PublishOp;
 use ifmap_elem::white_space::is_white_alone;
 use ifmap_elem::{Child, Element, Many, Name};
 use ifmap_forms::gathering::keep_found;

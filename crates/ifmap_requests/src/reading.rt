@@ -19,7 +19,7 @@ use ifmap_ident::{ReadError, read};
 use std::alloc::Global;
 
 // How many levels a request can have.
-const LEVELS: u32 = 64;
+const REQUEST_LEVELS: u32 = 64;
 
 /// The request that the element with this path means, or the code of its first defect in the order of
 /// the document.
@@ -91,7 +91,7 @@ pub fn read_request(alloc: Global, body: &[u8]) -> Result<Request, Refusal>
     ensures { IsBodyAnswer body.now result }
 {
     bytes_spell_one_element();
-    match read(alloc, body, LEVELS) {
+    match read(alloc, body, REQUEST_LEVELS) {
         Ok(reading) => read_body(alloc, reading),
         Err(ReadError::Unreadable { .. }) => Err(Refusal::Unreadable),
         Err(ReadError::TooDeep { .. }) => Err(Refusal::Unreadable),

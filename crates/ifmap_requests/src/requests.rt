@@ -1,5 +1,5 @@
 //! What clients ask.
-use crate::publishing::PublishOp;
+use crate::publish_ops::PublishOp;
 use ifmap_elem::{Copied, Many, Text};
 use ifmap_search::Search;
 use std::alloc::{AllocError as NoMemory, Global};

@@ -2,7 +2,7 @@
 use ifmap_elem::{Copied, Many, Text};
 use ifmap_ident::{Code, SharedItem};
 use ifmap_meta::SharedElement;
-use std::alloc::{AllocError, AllocError as NoMemory, AllocFailed, Global};
+use std::alloc::{AllocError as NoMemory, AllocFailed, Global};
 use thiserror::Error;
 
 /// What a search found at one place: an element, and the identifier or link that it is attached to.
@@ -113,13 +113,13 @@ pub enum SearchError {
     NoMemory,
 }
 
-impl From<AllocError> for SearchError {
+impl From<NoMemory> for SearchError {
     ghost use Rattle.std.specs.Prelude.{◌≡◌};
     ghost use Rattle.ifmap_search.specs.declared.results.SearchError.TheVariants.{NoMemory};
 
     ghost from_gives = { λ _ e. e ≡ NoMemory };
 
-    fn from(_: AllocError) -> Self {
+    fn from(_: NoMemory) -> Self {
         SearchError::NoMemory
     }
 }

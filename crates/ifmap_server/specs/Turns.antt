@@ -9,8 +9,8 @@ use Rattle.ifmap_server.specs.declared.errors.ReplayError.{ReplayError}
 use Rattle.ifmap_server.specs.declared.errors.ReplayError.TheVariants.{FrameFault, NoMemory, ReadFault, WriteFault}
 use Rattle.ifmap_server.specs.declared.headers.Header.{Header}
 use Rattle.ifmap_server.specs.declared.replaying.TakenFrame.{TakenFrame}
-use Rattle.ifmap_server.specs.declared.replaying.Turn.{Turn}
-use Rattle.ifmap_server.specs.declared.replaying.Turn.TheVariants.{Answered, Ended}
+use Rattle.ifmap_server.specs.declared.replaying.ReplayTurn.{ReplayTurn}
+use Rattle.ifmap_server.specs.declared.replaying.ReplayTurn.TheVariants.{Answered, Ended}
 use Rattle.ifmap_requests.specs.Means.{Means}
 use Rattle.ifmap_server.specs.Awaited.{IsAwaited}
 use Rattle.ifmap_server.specs.Frames.{Frame, Meaning, frame_text}
@@ -112,7 +112,7 @@ module _ (before after : SourceAndSink) (old : Replaying) where
     pub cause : WriteFailed before after
 
 -- what a turn did; a fault leaves the offset of the frame
-abbrev pub IsReplayTurn : Result Turn ReplayError → (before after : SourceAndSink) → (old new : Replaying) → Type 0
+abbrev pub IsReplayTurn : Result ReplayTurn ReplayError → (before after : SourceAndSink) → (old new : Replaying) → Type 0
 IsReplayTurn (Ok Answered) before after old new = AnswersFrame before after old new
 IsReplayTurn (Ok Ended) before after old new = IsOver before after old
 IsReplayTurn (Err FrameFault) before after old new = IsFaulty before after old × (new.offset ≡ old.offset)

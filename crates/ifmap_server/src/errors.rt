@@ -4,7 +4,7 @@ ghost use Rattle.ifmap_server.specs.Statuses.{status_of};
 ghost use Rattle.ifmap_server.specs.declared.errors.ReplayError.TheVariants.{NoMemory};
 
 use ifmap_io::statuses::{DONE, NO_MEMORY, READ_FAULT, SCRIPT_FAULT, WRITE_FAULT};
-use std::alloc::AllocError;
+use std::alloc::AllocError as NoMemory;
 
 /// Why a replay ends before its source does.
 #[derive(Clone, Copy, Debug, PartialEq, Eq)]
@@ -19,10 +19,10 @@ pub enum ReplayError {
     NoMemory,
 }
 
-impl From<AllocError> for ReplayError {
+impl From<NoMemory> for ReplayError {
     ghost from_gives = { λ _ e. e ≡ NoMemory };
 
-    fn from(_error: AllocError) -> ReplayError {
+    fn from(_error: NoMemory) -> ReplayError {
         ReplayError::NoMemory
     }
 }

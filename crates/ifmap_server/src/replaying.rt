@@ -135,7 +135,7 @@ fn answer_request<L: Ledger>(
 
 /// What a turn did.
 #[derive(Clone, Copy, Debug, PartialEq, Eq)]
-pub enum Turn {
+pub enum ReplayTurn {
     /// A frame was answered.
     Answered,
     /// There is no further frame: the source is at its end.
@@ -189,7 +189,7 @@ impl Replay {
         source: &mut S,
         sink: &mut K,
         steps: &mut Steps<L>,
-    ) -> Result<Turn, ReplayError>
+    ) -> Result<ReplayTurn, ReplayError>
         ensures turn { IsReplayTurn result
             (source_and_sink (S.left source.old) (S.faults source.old) (K.held sink.old)
             (K.faults sink.old))
@@ -203,7 +203,7 @@ impl Replay {
             (K.faults sink.new)) }
     {
         let Some(framed) = next_frame(alloc, &mut self.input, self.offset, source)? else {
-            return Ok(Turn::Ended);
+            return Ok(ReplayTurn::Ended);
         };
         let TakenFrame { header, start, end } = framed;
         let body = &self.input.pending_bytes()[start..end];
@@ -211,7 +211,7 @@ impl Replay {
         text.send(sink)?;
         self.input.advance(end);
         self.offset += end as u64;
-        Ok(Turn::Answered)
+        Ok(ReplayTurn::Answered)
     }
 
     /// Answers frames until the replay ends, and tells the offset of a fault.
@@ -232,8 +232,8 @@ impl Replay {
         bodies_have_one_meaning();
         'frames: loop {
             match self.turn(alloc, source, sink, steps) {
-                Ok(Turn::Answered) => {}
-                Ok(Turn::Ended) => return Ok(()),
+                Ok(ReplayTurn::Answered) => {}
+                Ok(ReplayTurn::Ended) => return Ok(()),
                 Err(error) => {
                     return match error {
                         ReplayError::FrameFault => Err(self.tell_fault(alloc, sink)),

@@ -51,7 +51,7 @@ fn spell(alloc: Global, text: &str, long: &str) -> Result<String, Fail> {
     Ok(spelled.replace(alloc, "{long}", long)?)
 }
 
-fn written_for(alloc: Global, due: &str, long: &str) -> Result<String, Fail> {
+fn expected_text(alloc: Global, due: &str, long: &str) -> Result<String, Fail> {
     if due == "held" {
         return Ok(String::from_str(alloc, "held\n")?);
     }
@@ -82,7 +82,7 @@ fn frames_for(alloc: Global, exchanges: &[Exchange], long: &str) -> Result<Strin
 fn all_written_for(alloc: Global, exchanges: &[Exchange], long: &str) -> Result<String, Fail> {
     let mut written = String::new(alloc);
     for (_, _, _, due) in exchanges {
-        written.push_str(written_for(alloc, due, long)?.as_str())?;
+        written.push_str(expected_text(alloc, due, long)?.as_str())?;
     }
     Ok(written)
 }

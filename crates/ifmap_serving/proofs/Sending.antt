@@ -13,7 +13,7 @@ use Rattle.ifmap_desks.specs.ifmap_search.contracts.searches.Search as the_searc
 use Rattle.ifmap_desks.specs.ifmap_replies.contracts.replies.Reply as the_reply
 use Rattle.ifmap_meta.specs.contracts.metadata.Metadata as the_metadata
 use Rattle.ifmap_ident.specs.contracts.identifiers.Identifier as the_identifier
-use Rattle.ifmap_desks.specs.ifmap_requests.contracts.publishing.PublishOp as the_publish
+use Rattle.ifmap_desks.specs.ifmap_requests.contracts.publish_ops.PublishOp as the_publish
 use Rattle.ifmap_desks.specs.ifmap_requests.contracts.requests.SubscribeOp as the_subscribe
 use Rattle.ifmap_desks.specs.ifmap_requests.contracts.requests.Request as the_request
 use Rattle.ifmap_desks.specs.ifmap_machine.contracts.events.Answer as the_answer

@@ -78,7 +78,7 @@ fn open_gate() -> CountingGate {
 }
 
 // What the link of this number that came back holds.
-fn held_by(door: &MemoryDoor, number: usize) -> &[u8] {
+fn bytes_held(door: &MemoryDoor, number: usize) -> &[u8] {
     match door.back().get(number) {
         Some(link) => link.held(),
         None => &[],
@@ -88,7 +88,7 @@ fn held_by(door: &MemoryDoor, number: usize) -> &[u8] {
 // The link of this number that came back got these results.
 fn is_told(alloc: Global, door: &MemoryDoor, number: usize, results: &[&str]) -> bool {
     match answers_of(alloc, results) {
-        Ok(answers) => held_by(door, number) == answers.as_bytes(),
+        Ok(answers) => bytes_held(door, number) == answers.as_bytes(),
         Err(_) => false,
     }
 }

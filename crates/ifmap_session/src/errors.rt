@@ -1,5 +1,5 @@
 //! Why no session begins.
-use std::alloc::AllocError;
+use std::alloc::AllocError as NoMemory;
 use thiserror::Error;
 
 /// Why no session begins.

@@ -23,7 +23,7 @@ use Rattle.ifmap_changes.specs.ifmap_standing.declared.standing.Standing.{Standi
 use Rattle.ifmap_subscribes.proofs.OfNames.{one_fewer}
 use Rattle.ifmap_subscribes.proofs.Renamed.{IsTold, added, begun_more, noted, rename_more}
 use Rattle.ifmap_subscribes.specs.Readying.{AreCounted, AreReadied, CanStand, IsAdded, IsNoted, IsSmall, most_ops, told_after}
-use Rattle.ifmap_subscribes.specs.Renamings.{IsNameNow, IsOfSession, begun_by, rename, rename_all}
+use Rattle.ifmap_subscribes.specs.Renamings.{IsNameNow, IsOfSession, starts_by, rename, rename_all}
 use Rattle.ifmap_subscribes.specs.declared.names.NameNow.{NameNow}
 use Rattle.ifmap_subscribes.specs.declared.readying.Readying.{Readying}
 use Rattle.ifmap_subscribes.specs.declared.renamings.Renaming.{Renaming}
@@ -105,7 +105,7 @@ ending name = record { name = name; item = None; standing = None }
 pub stand_none : (serial : ℕ) (p : Parts) (made : List Renaming) (name : List ℕ) → CanStand serial p made
     → CanStand serial p (made ++ ending name ∷ [])
 stand_none serial p made name c =
-    let same : begun_by (made ++ ending name ∷ []) ≡ begun_by made = begun_more made (ending name) ∙ append-nil (begun_by made) in
+    let same : starts_by (made ++ ending name ∷ []) ≡ starts_by made = begun_more made (ending name) ∙ append-nil (starts_by made) in
     record {
       session = both_all (IsOfSession serial) made (ending name ∷ []) c.session (tt, tt);
       steady = subst (λ xs. IsSteady p.graph (p.standing.items ++ xs)) (sym same) c.steady;

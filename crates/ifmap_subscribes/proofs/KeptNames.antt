@@ -22,10 +22,10 @@ use Rattle.ifmap_changes.specs.ifmap_session.Sessions.{is_same_text}
 use Rattle.ifmap_changes.specs.ifmap_session.laws.TextLaws.{text_is}
 use Rattle.ifmap_changes.specs.ifmap_standing.Standing.{standing_of}
 use Rattle.ifmap_changes.specs.ifmap_standing.declared.standing.Standing.{Standing}
-use Rattle.ifmap_changes.specs.ifmap_tellings.Tellings.{kept_of}
+use Rattle.ifmap_changes.specs.ifmap_tellings.Tellings.{kept_items}
 
 module _ {X : Type 0} (p : X → Bool) where
-  pub none_kept : (gone : List Bool) (xs : List X) → list_any p xs ≡ false → list_any p (kept_of gone xs) ≡ false
+  pub none_kept : (gone : List Bool) (xs : List X) → list_any p xs ≡ false → list_any p (kept_items gone xs) ≡ false
   none_kept [] xs e = refl
   none_kept (g ∷ gone) [] e = refl
   none_kept (true ∷ gone) (x ∷ xs) e = none_kept gone xs (none_after p x xs e)
@@ -38,7 +38,7 @@ module _ {X : Type 0} (p : X → Bool) where
   module _ {K : Type 0} (order : K → K → Ordering) (key : X → K)
       (apart : (x y : X) → p x ≡ true → p y ≡ true → order (key x) (key y) ≡ Less → ⊥) where
     pub one_kept : (gone : List Bool) (xs : List X) (at : ℕ) (x : X) (g : Bool) → IsStrictlySortedBy order (map key xs)
-        → slice_get xs at ≡ Some x → p x ≡ true → slice_get gone at ≡ Some g → list_any p (kept_of gone xs) ≡ not g
+        → slice_get xs at ≡ Some x → p x ≡ true → slice_get gone at ≡ Some g → list_any p (kept_items gone xs) ≡ not g
     unfolding IsStrictlySortedBy
     one_kept gone [] at x g rising is e flag = absurd (none-some x is)
     one_kept [] (y ∷ ys) at x g rising is e flag = absurd (none-some g flag)
@@ -52,7 +52,7 @@ module _ {X : Type 0} (p : X → Bool) where
 
   -- one member more, which counts where it passes and is not gone
   pub counted_more : (g : Bool) (gone : List Bool) (x : X) (xs : List X)
-      → length (filter p (kept_of (g ∷ gone) (x ∷ xs))) ≡ cond (p x && not g) 1 0 + length (filter p (kept_of gone xs))
+      → length (filter p (kept_items (g ∷ gone) (x ∷ xs))) ≡ cond (p x && not g) 1 0 + length (filter p (kept_items gone xs))
   counted_more true gone x xs = elim (cases_Bool (p x)) [
     | inl hit ↦ rw hit (omega arith)
     | inr miss ↦ rw miss (omega arith)
@@ -89,25 +89,25 @@ not_below serial name x y mine its less =
 pub stands_at : (serial : ℕ) (name : List ℕ) (gone : List Bool) (standing : List Standing) (at : ℕ) (x : Standing)
     → IsStrictlySortedBy standing_order (map standing_of standing) → length gone ≡ length standing → slice_get standing at ≡ Some x
     → is_of_name serial name (standing_of x) ≡ true
-    → not (get_or gone at false) ≡ list_any (is_of_name serial name) (map standing_of (kept_of gone standing))
+    → not (get_or gone at false) ≡ list_any (is_of_name serial name) (map standing_of (kept_items gone standing))
 stands_at serial name gone standing at x rising flags is named =
     let within : at < length gone = let there = slice_get_within standing at x is in omega (arith, there, flags) in
-    sym (any_shown serial name (kept_of gone standing)
+    sym (any_shown serial name (kept_items gone standing)
     ∙ one_kept (λ y. is_of_name serial name (standing_of y)) standing_order standing_of (not_below serial name) gone standing at x
     (get_or gone at false) rising is named (slice_get-get_or gone at false within))
 
 -- where none stands, none does among those that are kept
 pub stands_nowhere : (serial : ℕ) (name : List ℕ) (gone : List Bool) (standing : List Standing)
     → list_any (λ x. is_of_name serial name (standing_of x)) standing ≡ false
-    → false ≡ list_any (is_of_name serial name) (map standing_of (kept_of gone standing))
+    → false ≡ list_any (is_of_name serial name) (map standing_of (kept_items gone standing))
 stands_nowhere serial name gone standing none =
-    sym (any_shown serial name (kept_of gone standing) ∙ none_kept (λ y. is_of_name serial name (standing_of y)) gone standing none)
+    sym (any_shown serial name (kept_items gone standing) ∙ none_kept (λ y. is_of_name serial name (standing_of y)) gone standing none)
 
 -- ---- how many a session has
 
 -- those of a session among the kept ones
 abbrev pub kept_count : ℕ → List Bool → List Standing → ℕ
-kept_count serial gone standing = length (standing_in serial (map standing_of (kept_of gone standing)))
+kept_count serial gone standing = length (standing_in serial (map standing_of (kept_items gone standing)))
 
 in_shown : (serial : ℕ) (xs : List Standing) → length (standing_in serial (map standing_of xs))
     ≡ length (filter (λ x. x.serial == serial) xs)
@@ -120,8 +120,8 @@ in_shown serial (x ∷ xs) = elim (cases_Bool (x.serial == serial)) [
 pub count_more : (serial : ℕ) (g : Bool) (gone : List Bool) (x : Standing) (xs : List Standing)
     → kept_count serial (g ∷ gone) (x ∷ xs) ≡ cond ((x.serial == serial) && not g) 1 0 + kept_count serial gone xs
 count_more serial g gone x xs =
-    in_shown serial (kept_of (g ∷ gone) (x ∷ xs)) ∙ counted_more (λ y. y.serial == serial) g gone x xs
-    ∙ ap (λ n. cond ((x.serial == serial) && not g) 1 0 + n) (sym (in_shown serial (kept_of gone xs)))
+    in_shown serial (kept_items (g ∷ gone) (x ∷ xs)) ∙ counted_more (λ y. y.serial == serial) g gone x xs
+    ∙ ap (λ n. cond ((x.serial == serial) && not g) 1 0 + n) (sym (in_shown serial (kept_items gone xs)))
 
 -- the next one is counted, where it is of the session and not gone
 module _ (serial : ℕ) (gone : List Bool) (standing : List Standing) (i count next total : ℕ) (x : Standing) (within : i < length standing)

@@ -18,30 +18,30 @@ use Rattle.ifmap_subscribes.proofs.ToldSizes.{found_left}
 use Rattle.ifmap_subscribes.specs.Readying.{AreCounted, CanStand, told_after, told_in_scene}
 use Rattle.ifmap_subscribes.specs.Renamings.{rename_all}
 use Rattle.ifmap_subscribes.specs.declared.readying.Readying.{Readying}
-use Rattle.ifmap_subscribes.specs.declared.readying.Scene.{Scene}
+use Rattle.ifmap_subscribes.specs.declared.readying.Occasion.{Occasion}
 use Rattle.ifmap_changes.specs.ifmap_tellings.KeptPlaces.{fewer_kept, rising_kept}
-use Rattle.ifmap_changes.specs.ifmap_tellings.Tellings.{kept_of, told_by}
+use Rattle.ifmap_changes.specs.ifmap_tellings.Tellings.{kept_items, tell_by}
 use Rattle.ifmap_changes.specs.ifmap_tellings.ToldLaws.{map_kept}
 
 -- what is not gone stands in order still, and is no more than all
 module _ {X Y : Type 0} (f : X → Y) where
   rising_shown : (order : Y → Y → Ordering) (gone : List Bool) (xs : List X) → IsStrictlySortedBy order (map f xs)
-      → IsStrictlySortedBy order (map f (kept_of gone xs))
+      → IsStrictlySortedBy order (map f (kept_items gone xs))
   rising_shown order gone xs up =
       subst (λ l. IsStrictlySortedBy order l) (sym (map_kept f gone xs)) (rising_kept order gone (map f xs) up)
 
   fewer_shown : (p : Y → Bool) (gone : List Bool) (xs : List X)
-      → length (filter p (map f (kept_of gone xs))) ≤ length (filter p (map f xs))
+      → length (filter p (map f (kept_items gone xs))) ≤ length (filter p (map f xs))
   fewer_shown p gone xs =
       subst (λ l. length (filter p l) ≤ length (filter p (map f xs))) (sym (map_kept f gone xs)) (fewer_kept p gone (map f xs))
 
-module _ (scene : Scene) (p : Parts) (r : Readying) (ready : IsSoundSoFar scene.asking.now p scene.pending.now)
+module _ (scene : Occasion) (p : Parts) (r : Readying) (ready : IsSoundSoFar scene.asking.now p scene.pending.now)
     (live : IsLive scene.serial (sessions_left scene.asking.now p.sessions)) (made : r.made.items ≡ []) where
   same_told : told_after scene.serial r (told_in_scene scene p) ≡ told_in_scene scene p
   same_told = ap (λ rs. rename_all scene.serial rs (told_in_scene scene p)) made
 
   size_of_queue : ((s : Session) → session_with_serial scene.serial p.sessions.live ≡ Some s
-      → r.size ≡ queue_size (told_by scene.pending.now.tellings s).queue) → r.size ≡ queue_size (told_in_scene scene p).queue
+      → r.size ≡ queue_size (tell_by scene.pending.now.tellings s).queue) → r.size ≡ queue_size (told_in_scene scene p).queue
   size_of_queue size =
       let one = live_session scene.serial (sessions_left scene.asking.now p.sessions) live in
       size one.0 (found_left scene.asking.now.ended scene.serial p.sessions.live one.0 one.1)
@@ -50,7 +50,7 @@ module _ (scene : Scene) (p : Parts) (r : Readying) (ready : IsSoundSoFar scene.
   pub nothing_counted : ((other : List ℕ) → get (slice_cmp nat_cmp) r.names other ≡ None)
       → r.count ≡ length (standing_in scene.serial (told_in_scene scene p).standing)
       → ((s : Session) → session_with_serial scene.serial p.sessions.live ≡ Some s
-      → r.size ≡ queue_size (told_by scene.pending.now.tellings s).queue) → r.size < 2 ^ 64
+      → r.size ≡ queue_size (tell_by scene.pending.now.tellings s).queue) → r.size < 2 ^ 64
       → AreCounted scene.serial (told_in_scene scene p) r
   nothing_counted none count size small =
       let whole = size_of_queue size in

@@ -3,7 +3,7 @@ use Rattle.std.proofs.Common.{◌≡◌, refl, sym, ◌∙◌, ap, subst, ℕ, s
 use Rattle.std.specs.Prelude.{option_and_then}
 use Rattle.std.specs.Prelude.{IsSome}
 use Rattle.std.proofs.lemmas.Bool.{false≢true}
-use Rattle.ifmap_changes.specs.Between.{sessions_left, so_far}
+use Rattle.ifmap_changes.specs.Between.{sessions_left, state_now}
 use Rattle.ifmap_changes.specs.declared.parts.Parts.{Parts}
 use Rattle.ifmap_changes.specs.ifmap_graph.Seen.{rows_now}
 use Rattle.ifmap_changes.specs.ifmap_machine.Subscribing.{Told, subscribe_op, subscribe_ops}
@@ -16,8 +16,8 @@ use Rattle.ifmap_subscribes.specs.Readying.{IsNameBefore, OnlyHolds, queue_where
 use Rattle.ifmap_subscribes.specs.declared.readying.Readying.{Readying}
 use Rattle.ifmap_subscribes.specs.Renamings.{IsNameNow, told_so_far}
 use Rattle.ifmap_subscribes.specs.declared.names.NameNow.{NameNow}
-use Rattle.ifmap_subscribes.specs.declared.readying.Scene.{Scene}
-use Rattle.ifmap_changes.specs.ifmap_tellings.Tellings.{told_by}
+use Rattle.ifmap_subscribes.specs.declared.readying.Occasion.{Occasion}
+use Rattle.ifmap_changes.specs.ifmap_tellings.Tellings.{tell_by}
 use Rattle.ifmap_changes.specs.ifmap_view.declared.attachments.Attachment.{Attachment}
 use Rattle.ifmap_changes.specs.ifmap_tellings.ToldLaws.{found_told}
 
@@ -29,32 +29,32 @@ live_session n ss live = from (session_with_serial n ss) live
     from (Some s) h = (s, refl)
 
 -- what is told to the session of a scene, and what stands
-pub told_session : (scene : Scene) (parts : Parts) (s : Session)
+pub told_session : (scene : Occasion) (parts : Parts) (s : Session)
     → session_with_serial scene.serial (sessions_left scene.asking.now parts.sessions) ≡ Some s
-    → (session_with_serial scene.serial (so_far scene.asking.now parts scene.pending.now).sessions
-    ≡ Some (told_by scene.pending.now.tellings s))
-    × (told_in_scene scene parts ≡ told_so_far scene.asking.now parts scene.pending.now (told_by scene.pending.now.tellings s))
+    → (session_with_serial scene.serial (state_now scene.asking.now parts scene.pending.now).sessions
+    ≡ Some (tell_by scene.pending.now.tellings s))
+    × (told_in_scene scene parts ≡ told_so_far scene.asking.now parts scene.pending.now (tell_by scene.pending.now.tellings s))
 told_session scene parts s e =
     let found = found_told scene.pending.now.tellings scene.serial (sessions_left scene.asking.now parts.sessions) s e in
     (found, ap (λ o. told_with (queue_where o)) found)
   where
     told_with : List PollItem → Told
-    told_with q = record { queue = q; standing = (so_far scene.asking.now parts scene.pending.now).standing }
+    told_with q = record { queue = q; standing = (state_now scene.asking.now parts scene.pending.now).standing }
 
 -- what is so of a name that was not renamed is what was so before
 pub now_before : (serial : ℕ) (name : List ℕ) (t u : Told) (v : NameNow) → IsNameNow serial name t v → IsNameBefore serial name t u
     → IsNameNow serial name u v
 now_before serial name t u v h b = record { stands = h.stands ∙ sym b.stands; size = h.size ∙ ap queue_size (sym b.queue) }
 
-pub name_told : (scene : Scene) (parts : Parts) (name : List ℕ) (v : NameNow)
+pub name_told : (scene : Occasion) (parts : Parts) (name : List ℕ) (v : NameNow)
     → IsLive scene.serial (sessions_left scene.asking.now parts.sessions)
-    → ((s : Session) → session_with_serial scene.serial (so_far scene.asking.now parts scene.pending.now).sessions ≡ Some s
+    → ((s : Session) → session_with_serial scene.serial (state_now scene.asking.now parts scene.pending.now).sessions ≡ Some s
     → IsNameNow scene.serial name (told_so_far scene.asking.now parts scene.pending.now s) v)
     → IsNameNow scene.serial name (told_in_scene scene parts) v
 name_told scene parts name v live h =
     let one = live_session scene.serial (sessions_left scene.asking.now parts.sessions) live in
     let told = told_session scene parts one.0 one.1 in
-    subst (λ t. IsNameNow scene.serial name t v) (sym told.1) (h (told_by scene.pending.now.tellings one.0) told.0)
+    subst (λ t. IsNameNow scene.serial name t v) (sym told.1) (h (tell_by scene.pending.now.tellings one.0) told.0)
 
 -- the operations that are left, after one
 pub one_op : (ops : List SubscribeOp) (i : ℕ) (op : SubscribeOp) (rows : List Attachment) (n : ℕ) (t : Told)
@@ -64,7 +64,7 @@ one_op ops i op rows n t low at =
     ap (λ rest. subscribe_ops rows n rest t) (drop-cons ops i op low ∙ ap (λ o. o ∷ drop (suc i) ops) (sym at)
     ∙ ap (λ k. op ∷ drop k ops) (sym (add-one i)))
 
-module _ (scene : Scene) (old new : Parts) (h : OnlyHolds old new) (ops : List SubscribeOp) (i : ℕ)
+module _ (scene : Occasion) (old new : Parts) (h : OnlyHolds old new) (ops : List SubscribeOp) (i : ℕ)
     (op : SubscribeOp) (low : i < length ops)
     (at : op ≡ get_or ops i op) (r : Readying) where
   then_same : (k : Readying) → told_then scene new k ≡ told_then scene old k

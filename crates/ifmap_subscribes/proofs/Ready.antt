@@ -20,11 +20,11 @@ use Rattle.ifmap_changes.specs.ifmap_standing.Standing.{standing_of}
 use Rattle.ifmap_changes.specs.ifmap_standing.declared.standing.Standing.{Standing}
 use Rattle.ifmap_subscribes.proofs.Renamed.{begun_more}
 use Rattle.ifmap_subscribes.specs.Readying.{AreReadied, CanReady, CanStand, GraphHolds, IsGivenUp, OnlyHolds, most_ops, queue_where, told_in_scene}
-use Rattle.ifmap_subscribes.specs.Renamings.{IsOfSession, KeepsNumbered, begun_by}
+use Rattle.ifmap_subscribes.specs.Renamings.{IsOfSession, KeepsNumbered, starts_by}
 use Rattle.ifmap_subscribes.specs.declared.readying.Readying.{Readying}
-use Rattle.ifmap_subscribes.specs.declared.readying.Scene.{Scene}
+use Rattle.ifmap_subscribes.specs.declared.readying.Occasion.{Occasion}
 use Rattle.ifmap_subscribes.specs.declared.renamings.Renaming.{Renaming}
-use Rattle.ifmap_changes.specs.ifmap_tellings.Tellings.{AllKept, kept_of, told_by}
+use Rattle.ifmap_changes.specs.ifmap_tellings.Tellings.{AllKept, kept_items, tell_by}
 use Rattle.ifmap_changes.specs.ifmap_tellings.declared.tellings.Pending.{Pending}
 use Rattle.ifmap_changes.specs.StartLaws.{starts_few, shares_kept}
 
@@ -42,19 +42,19 @@ holds_on a b c h k = record {
 }
 
 -- what is to be told is the same
-abbrev told_from : Scene → SessionTable → List Standing → Told
+abbrev told_from : Occasion → SessionTable → List Standing → Told
 told_from scene sessions standing = record {
   queue = queue_where (session_with_serial scene.serial
-      (map (told_by scene.pending.now.tellings) (sessions_left scene.asking.now sessions)));
-  standing = map standing_of (kept_of scene.pending.now.gone.items standing);
+      (map (tell_by scene.pending.now.tellings) (sessions_left scene.asking.now sessions)));
+  standing = map standing_of (kept_items scene.pending.now.gone.items standing);
 }
 
-pub told_same : (scene : Scene) (old new : Parts) → new.sessions ≡ old.sessions → new.standing ≡ old.standing
+pub told_same : (scene : Occasion) (old new : Parts) → new.sessions ≡ old.sessions → new.standing ≡ old.standing
     → told_in_scene scene new ≡ told_in_scene scene old
 told_same scene old new s v =
     ap (λ t. told_from scene t new.standing.items) s ∙ ap (λ w. told_from scene old.sessions w.items) v
 
-pub can_on : (scene : Scene) (old new : Parts) (r : Readying) → OnlyHolds old new → IsSoundSoFar scene.asking.now new scene.pending.now
+pub can_on : (scene : Occasion) (old new : Parts) (r : Readying) → OnlyHolds old new → IsSoundSoFar scene.asking.now new scene.pending.now
     → IsLive scene.serial (sessions_left scene.asking.now old.sessions) → AreReadied scene.serial (told_in_scene scene old) new r
     → CanReady scene new r
 can_on scene old new r h ready live readied = record {
@@ -104,35 +104,35 @@ ready_of a old pending g r k = record {
 -- what is to stand can still, in a graph in which more is held, and one renaming more can
 module _ (law : SameLinks) (serial : ℕ) (old : Parts) (g : Held) (made : List Renaming) (seen_old : IsSeen old.graph) (seen_new : IsSeen g)
     (h : GraphHolds old.graph g) (c : CanStand serial old made) where
-  numbered_all : AllByRecursion (HasStartNumber g) (old.standing.items ++ begun_by made)
-  numbered_all = numbered_on old.graph g h.numbers (old.standing.items ++ begun_by made) c.steady.numbered
+  numbered_all : AllByRecursion (HasStartNumber g) (old.standing.items ++ starts_by made)
+  numbered_all = numbered_on old.graph g h.numbers (old.standing.items ++ starts_by made) c.steady.numbered
 
-  kept_begun : AllByRecursion (λ x. IsUpToDate (sight_now g) x.subscription) (begun_by made)
+  kept_begun : AllByRecursion (λ x. IsUpToDate (sight_now g) x.subscription) (starts_by made)
   kept_begun =
-      kept_all law old.graph g seen_old seen_new h.rows h.links (shares_kept old.graph g h.numbers) (begun_by made)
-      (all_both (HasStartNumber g) old.standing.items (begun_by made) numbered_all).1 c.kept
+      kept_all law old.graph g seen_old seen_new h.rows h.links (shares_kept old.graph g h.numbers) (starts_by made)
+      (all_both (HasStartNumber g) old.standing.items (starts_by made) numbered_all).1 c.kept
 
-  pub stand_still : IsSteady g (old.standing.items ++ begun_by made) → CanStand serial (record old { graph = g }) made
+  pub stand_still : IsSteady g (old.standing.items ++ starts_by made) → CanStand serial (record old { graph = g }) made
   stand_still steady = record { session = c.session; steady = steady; kept = kept_begun }
 
   pub stand_more : (r : Renaming) → IsOfSession serial r
       → AllByRecursion (λ x. IsUpToDate (sight_now g) x.subscription) (option_to_list r.standing)
-      → IsSteady g ((old.standing.items ++ begun_by made) ++ option_to_list r.standing)
+      → IsSteady g ((old.standing.items ++ starts_by made) ++ option_to_list r.standing)
       → CanStand serial (record old { graph = g }) (made ++ r ∷ [])
   stand_more r s k steady =
-      let joined = append_assoc old.standing.items (begun_by made) (option_to_list r.standing)
+      let joined = append_assoc old.standing.items (starts_by made) (option_to_list r.standing)
       ∙ ap (λ xs. old.standing.items ++ xs) (sym (begun_more made r)) in
       record {
         session = both_all (IsOfSession serial) made (r ∷ []) c.session (s, tt);
         steady = subst (λ xs. IsSteady g xs) joined steady;
         kept = subst (λ xs. AllByRecursion (λ (x : Standing). IsUpToDate (sight_now g) x.subscription) xs) (sym (begun_more made r))
-            (both_all (λ x. IsUpToDate (sight_now g) x.subscription) (begun_by made) (option_to_list r.standing) kept_begun k);
+            (both_all (λ x. IsUpToDate (sight_now g) x.subscription) (starts_by made) (option_to_list r.standing) kept_begun k);
       }
 
   pub stays_ready : (a : Asking) (pending : Pending) → IsSoundSoFar a old pending → IsSoundSoFar a (record old { graph = g }) pending
   stays_ready a pending r =
       ready_of a old pending g r (kept_each law old.graph g seen_old seen_new h.rows h.links (shares_kept old.graph g h.numbers)
-      pending.gone.items old.standing.items (all_both (HasStartNumber g) old.standing.items (begun_by made) numbered_all).0 r.kept)
+      pending.gone.items old.standing.items (all_both (HasStartNumber g) old.standing.items (starts_by made) numbered_all).0 r.kept)
 
 -- where starts are let go of, what is numbered still is kept still
 pub ready_after : (a : Asking) (old : Parts) (pending : Pending) (g : Held) → IsSoundSoFar a old pending → KeepsNumbered old.graph g
@@ -142,7 +142,7 @@ ready_after a old pending g r k n =
     (r.kept i x at here))
 
 pub few_own : (h : Held) (live : List Session) (standing : List Standing) (made : List Renaming) → AreOrdered live standing
-    → length live ≤ 10000 → length made ≤ most_ops → IsSteady h (standing ++ begun_by made) → HasFewOwn h
+    → length live ≤ 10000 → length made ≤ most_ops → IsSteady h (standing ++ starts_by made) → HasFewOwn h
 few_own h live standing made ordered few most steady = λ a.
     let owned = map_of_all (λ (x : machine.Standing). IsLive x.serial live) standing_of standing ordered.live in
     let stand : length (map standing_of standing) ≤ length live * 1000
@@ -150,9 +150,9 @@ few_own h live standing made ordered few most steady = λ a.
     ordered.few in
     let shown_length = length-map standing standing_of in
     let begun = fewer_joined (λ (r : Renaming). r.standing) made in
-    let both = length-append standing (begun_by made) in
-    let starts = starts_few a (standing ++ begun_by made) in
-    (starts_of a (standing ++ begun_by made), steady.own a, omega (arith, few, most, stand, shown_length, begun, both, starts))
+    let both = length-append standing (starts_by made) in
+    let starts = starts_few a (standing ++ starts_by made) in
+    (starts_of a (standing ++ starts_by made), steady.own a, omega (arith, few, most, stand, shown_length, begun, both, starts))
 
 -- what was made ready is given up
 pub given_after : (a b c : Parts) → OnlyHolds a b → IsGivenUp b c → IsGivenUp a c

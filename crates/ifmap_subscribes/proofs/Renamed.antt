@@ -31,7 +31,7 @@ use Rattle.ifmap_changes.specs.ifmap_standing.declared.standing.Standing.{Standi
 use Rattle.ifmap_changes.specs.ifmap_machine.OrderLaws.{standing_total}
 use Rattle.ifmap_subscribes.proofs.OfNames.{named_once, not_named_other, one_fewer, one_more, others_beside, others_stand, put_stands}
 use Rattle.ifmap_subscribes.specs.Readying.{AreCounted, IsAdded, IsNameBefore, IsNoted, IsSmall, most_ops, now_of, told_after}
-use Rattle.ifmap_subscribes.specs.Renamings.{IsNameNow, IsOfSession, begun_by, rename, rename_all, stand_where}
+use Rattle.ifmap_subscribes.specs.Renamings.{IsNameNow, IsOfSession, starts_by, rename, rename_all, stand_where}
 use Rattle.ifmap_subscribes.specs.declared.names.NameNow.{NameNow}
 use Rattle.ifmap_subscribes.specs.declared.readying.Readying.{Readying}
 use Rattle.ifmap_subscribes.specs.declared.renamings.Renaming.{Renaming}
@@ -42,10 +42,10 @@ pub rename_more : (serial : ℕ) (rs : List Renaming) (r : Renaming) (t : Told)
 rename_more serial [] r t = refl
 rename_more serial (x ∷ rs) r t = rename_more serial rs r (rename serial x t)
 
-pub begun_more : (rs : List Renaming) (r : Renaming) → begun_by (rs ++ r ∷ []) ≡ begun_by rs ++ option_to_list r.standing
+pub begun_more : (rs : List Renaming) (r : Renaming) → starts_by (rs ++ r ∷ []) ≡ starts_by rs ++ option_to_list r.standing
 begun_more rs r =
     flat_map-append (λ (x : Renaming). option_to_list x.standing) rs (r ∷ [])
-    ∙ ap (λ xs. begun_by rs ++ xs) (append-nil (option_to_list r.standing))
+    ∙ ap (λ xs. starts_by rs ++ xs) (append-nil (option_to_list r.standing))
 
 -- the subscriptions after a renaming
 module _ (serial : ℕ) (name : List ℕ) where

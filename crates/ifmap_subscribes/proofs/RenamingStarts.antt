@@ -8,7 +8,7 @@ use Rattle.std.specs.List.{AllByRecursion, remove}
 use Rattle.std.specs.Option.{option_map}
 use Rattle.ifmap_changes.specs.Between.{IsSteady, sight_now, starts_of, HasStartNumber}
 use Rattle.ifmap_changes.specs.ifmap_graph.Held.{Held, IsOwn, links_at}
-use Rattle.ifmap_changes.specs.ifmap_graph.Named.{named_in}
+use Rattle.ifmap_changes.specs.ifmap_graph.Named.{uses_in}
 use Rattle.ifmap_changes.specs.ifmap_delta.Sights.{IsUpToDate}
 use Rattle.ifmap_changes.specs.ifmap_graph.Seen.{IsStill, links_now, rows_now}
 use Rattle.ifmap_changes.specs.ifmap_graph.Shelved.{list_at, rows_by}
@@ -23,7 +23,7 @@ use Rattle.ifmap_changes.specs.ifmap_plans.Plans.{AreWhole}
 use Rattle.ifmap_changes.specs.ifmap_pool.Holdings.{IsHeld, Names, holds_at, key_at, once}
 use Rattle.ifmap_changes.specs.ifmap_standing.declared.standing.Standing.{Standing}
 use Rattle.ifmap_subscribes.specs.declared.renamings.Renaming.{Renaming}
-use Rattle.ifmap_subscribes.specs.Renamings.{KeepsNumbered, LetsNumbersGo, StandsAmong, begun_by}
+use Rattle.ifmap_subscribes.specs.Renamings.{KeepsNumbered, LetsNumbersGo, StandsAmong, starts_by}
 use Rattle.ifmap_changes.specs.ifmap_view.Views.{IsView}
 use Rattle.ifmap_changes.specs.ifmap_graph.NumberLaws.{once_itself}
 use Rattle.ifmap_changes.specs.StartLaws.{starts_cons, starts_append}
@@ -89,7 +89,7 @@ module _ (old new : Held) (x : Standing)
   held_often : (v : ℕ) (a : Identifier) (n : ℕ) → key_at old.names v ≡ Some a → IsOwn old a n → 1 < n → 1 < holds_at old.names v
   held_often v a n e own many = by own
     where
-      by : IsHeld identifier_order old.names a (named_in old.shelves a + n) → 1 < holds_at old.names v
+      by : IsHeld identifier_order old.names a (uses_in old.shelves a + n) → 1 < holds_at old.names v
       by (inl h) =
           let at = ap (holds_at old.names) (number_is h.0 v a h.1 e) in
           let count = h.2 in
@@ -176,38 +176,38 @@ released_both old mid new a b = record {
 
 -- what some have of the starts of these renamings, once the first are let go of
 pub record ReleasesOn (all : List Renaming) (old now : Held) (rest : List Renaming) : Type 0 where
-  pub steady : (standing : List Standing) → IsSteady old (standing ++ begun_by all) → IsSteady now (standing ++ begun_by rest)
+  pub steady : (standing : List Standing) → IsSteady old (standing ++ starts_by all) → IsSteady now (standing ++ starts_by rest)
   pub released : LetsNumbersGo old now
 
 pub releases_none : (all rest : List Renaming) (old : Held) → rest ≡ all → ReleasesOn all old old rest
 releases_none all rest old is = record {
-  steady = λ standing s. subst (λ rs. IsSteady old (standing ++ begun_by rs)) (sym is) s;
+  steady = λ standing s. subst (λ rs. IsSteady old (standing ++ starts_by rs)) (sym is) s;
   released = released_none old;
 }
 
 module _ (all : List Renaming) (old now : Held) (left : List Renaming) (r : Renaming) (rest : List Renaming)
     (so : ReleasesOn all old now left) (cut : left ≡ r ∷ rest) where
-  next_steady : (standing : List Standing) → IsSteady old (standing ++ begun_by all)
-      → IsSteady now (option_to_list r.standing ++ (standing ++ begun_by rest))
+  next_steady : (standing : List Standing) → IsSteady old (standing ++ starts_by all)
+      → IsSteady now (option_to_list r.standing ++ (standing ++ starts_by rest))
   next_steady standing s =
-      steady_front now standing (option_to_list r.standing) (begun_by rest)
-      (subst (λ rs. IsSteady now (standing ++ begun_by rs)) cut (so.steady standing s))
+      steady_front now standing (option_to_list r.standing) (starts_by rest)
+      (subst (λ rs. IsSteady now (standing ++ starts_by rs)) cut (so.steady standing s))
 
-  pub can_go_on : (standing : List Standing) × IsSteady old (standing ++ begun_by all)
+  pub can_go_on : (standing : List Standing) × IsSteady old (standing ++ starts_by all)
       → (more : List Standing) × IsSteady now (option_to_list r.standing ++ more)
-  can_go_on some = (some.0 ++ begun_by rest, next_steady some.0 some.1)
+  can_go_on some = (some.0 ++ starts_by rest, next_steady some.0 some.1)
 
   pub releases_more : (new : Held) → ((more : List Standing) → IsSteady now (option_to_list r.standing ++ more) → IsSteady new more)
       → LetsNumbersGo now new → ReleasesOn all old new rest
   releases_more new steady released = record {
-    steady = λ standing s. steady (standing ++ begun_by rest) (next_steady standing s);
+    steady = λ standing s. steady (standing ++ starts_by rest) (next_steady standing s);
     released = released_both old now new so.released released;
   }
 
 pub releases_all : (all : List Renaming) (old now : Held) (rest : List Renaming) → ReleasesOn all old now rest → rest ≡ []
-    → (standing : List Standing) → IsSteady old (standing ++ begun_by all) → IsSteady now standing
+    → (standing : List Standing) → IsSteady old (standing ++ starts_by all) → IsSteady now standing
 releases_all all old now rest so none standing s =
-    let there : IsSteady now (standing ++ []) = subst (λ rs. IsSteady now (standing ++ begun_by rs)) none (so.steady standing s) in
+    let there : IsSteady now (standing ++ []) = subst (λ rs. IsSteady now (standing ++ starts_by rs)) none (so.steady standing s) in
     subst (IsSteady now) (append-nil standing) there
 
 -- ---- what is kept

@@ -30,7 +30,7 @@ use Rattle.ifmap_changes.specs.ifmap_standing.Standing.{standing_of}
 use Rattle.ifmap_changes.specs.ifmap_tellings.ChangeLaws.{change_both, change_none, changes_both, changes_none, others_same}
 use Rattle.ifmap_changes.specs.ifmap_machine.OrderLaws.{standing_total}
 use Rattle.ifmap_subscribes.specs.declared.renamings.Renaming.{Renaming}
-use Rattle.ifmap_subscribes.specs.Renamings.{AreRenamed, CanRenameEach, IsOfSession, KeepsNumbered, StandsAmong, begun_by, item_count, rename, rename_all, stand_where, told_in_parts}
+use Rattle.ifmap_subscribes.specs.Renamings.{AreRenamed, CanRenameEach, IsOfSession, KeepsNumbered, StandsAmong, starts_by, item_count, rename, rename_all, stand_where, told_in_parts}
 use Rattle.ifmap_subscribes.proofs.RenamingPlaces.{all_stands}
 use Rattle.ifmap_subscribes.proofs.RenamingStarts.{kept_still, steady_among}
 
@@ -247,23 +247,23 @@ module _ (serial : ℕ) (r : Renaming) (old : Parts) (rest : List Renaming) (can
       lean = subst (StaysLean old.graph) graph lean;
     }
 
-    steady_then : IsSteady new.graph (new.standing.items ++ begun_by rest)
+    steady_then : IsSteady new.graph (new.standing.items ++ starts_by rest)
     steady_then =
-        subst (λ h. IsSteady h (new.standing.items ++ begun_by rest)) graph
-        (steady_among mid.graph r.standing mid.standing.items new.standing.items (begun_by rest) among
-        (steady (option_to_list r.standing ++ begun_by rest) can.steady))
+        subst (λ h. IsSteady h (new.standing.items ++ starts_by rest)) graph
+        (steady_among mid.graph r.standing mid.standing.items new.standing.items (starts_by rest) among
+        (steady (option_to_list r.standing ++ starts_by rest) can.steady))
 
-    kept_then : AllByRecursion (λ x. IsUpToDate (sight_now new.graph) x.subscription) (new.standing.items ++ begun_by rest)
+    kept_then : AllByRecursion (λ x. IsUpToDate (sight_now new.graph) x.subscription) (new.standing.items ++ starts_by rest)
     kept_then =
         let kept : Standing → Type 0 = λ x. IsUpToDate (sight_now old.graph) x.subscription in
-        let more = option_to_list r.standing ++ begun_by rest in
+        let more = option_to_list r.standing ++ starts_by rest in
         let parts = all_both kept old.standing.items more can.kept in
         let fewer : AllByRecursion kept mid.standing.items =
         subst (AllByRecursion kept) (sym left) (all_filter kept (stays serial r.name) old.standing.items parts.0) in
-        let all : AllByRecursion kept (new.standing.items ++ begun_by rest) =
-        all_stands kept r.standing mid.standing.items new.standing.items (begun_by rest) among
+        let all : AllByRecursion kept (new.standing.items ++ starts_by rest) =
+        all_stands kept r.standing mid.standing.items new.standing.items (starts_by rest) among
         (both_all kept mid.standing.items more fewer parts.1) in
-        kept_still old.graph new.graph (new.standing.items ++ begun_by rest) (subst (KeepsNumbered old.graph) graph keeps)
+        kept_still old.graph new.graph (new.standing.items ++ starts_by rest) (subst (KeepsNumbered old.graph) graph keeps)
         steady_then.numbered all
 
     pub can_rest : CanRenameEach serial rest new

@@ -8,7 +8,7 @@ use Rattle.ifmap_changes.specs.Between.{IsSteady, sight_now, starts_of, HasStart
 use Rattle.ifmap_changes.specs.ifmap_delta.Sights.{IsUpToDate}
 use Rattle.ifmap_changes.specs.ifmap_graph.Back.{KeepsBacks}
 use Rattle.ifmap_changes.specs.ifmap_graph.Held.{Held, IsOwn}
-use Rattle.ifmap_changes.specs.ifmap_graph.Named.{named_in}
+use Rattle.ifmap_changes.specs.ifmap_graph.Named.{uses_in}
 use Rattle.ifmap_changes.specs.ifmap_graph.Seen.{AwaitsMore, IsStill, KeepsNumbers, StaysLean, links_now, rows_now}
 use Rattle.ifmap_changes.specs.ifmap_graph.Shelved.{list_at, rows_by}
 use Rattle.ifmap_changes.specs.ifmap_graph.Sides.{list_now}
@@ -56,8 +56,8 @@ held_steady old new standing v start was shelves still kept own named = record {
 own_alike : (old new : Held) (a : Identifier) (own : ℕ) → new.shelves ≡ old.shelves → new.names.live ≡ old.names.live → IsOwn old a own
     → IsOwn new a own
 own_alike old new a own shelves live held =
-    subst (λ s. IsHeld identifier_order new.names a (named_in s a + own)) (sym shelves)
-    (subst (λ l. IsHeld identifier_order (record new.names { live = l }) a (named_in old.shelves a + own)) (sym live) held)
+    subst (λ s. IsHeld identifier_order new.names a (uses_in s a + own)) (sym shelves)
+    (subst (λ l. IsHeld identifier_order (record new.names { live = l }) a (uses_in old.shelves a + own)) (sym live) held)
 
 pub unheld_steady : (old new : Held) (standing : List Standing) → IsSteady old standing → new.shelves ≡ old.shelves
     → (IsStill old → IsStill new) → KeepsNumbers old new → new.names.live ≡ old.names.live → IsSteady new standing
@@ -115,11 +115,11 @@ module _ (h : Held) (standing : List Standing) (v : ℕ) (start : Identifier) (w
             (same_texts (identifier_bytes held.1.0.0) (identifier_bytes start) held.1.2) in
             let number : held.0 ≡ v = view.one_to_one held.0 v start (key ∙ ap Some is) was.start in
             let count : holds_at h.names held.0
-            ≡ named_in h.shelves start + (starts_of start standing + once identifier_order start start)
+            ≡ uses_in h.shelves start + (starts_of start standing + once identifier_order start start)
             = held.2 in
             subst (λ n. 1 < holds_at h.names n) number (omega (arith, count, some, one, me))
         | inr none ↦
-            let count : named_in h.shelves start + (starts_of start standing + once identifier_order start start) ≡ 0 = none.1 in
+            let count : uses_in h.shelves start + (starts_of start standing + once identifier_order start start) ≡ 0 = none.1 in
             absurd (omega (arith, count, me))
       ]
 

@@ -17,7 +17,7 @@ use Rattle.ifmap_changes.specs.ifmap_session.Sessions.{IsLive, Session, is_named
 use Rattle.ifmap_changes.specs.ifmap_session.laws.TextLaws.{all_found}
 use Rattle.ifmap_changes.specs.ifmap_tellings.declared.tellings.Telling.{Telling}
 use Rattle.ifmap_changes.specs.ifmap_tellings.declared.tellings.Telling.TheVariants as the_telling
-use Rattle.ifmap_changes.specs.ifmap_tellings.Tellings.{IsSized, Tellings, told_by, told_where}
+use Rattle.ifmap_changes.specs.ifmap_tellings.Tellings.{IsSized, Tellings, tell_by, tell_if}
 use Rattle.ifmap_changes.specs.ifmap_session.laws.TableLaws.{found_serial}
 use Rattle.ifmap_changes.specs.ifmap_tellings.ToldLaws.{told_serial}
 
@@ -47,21 +47,21 @@ queue_few live serial s within is few =
 
 -- what is told it
 pub told_as : (tellings : Tellings) (serial : ℕ) (live : List Session) (s : Session) (t : Option Telling)
-    → session_with_serial serial live ≡ Some s → get nat_cmp tellings serial ≡ t → told_by tellings s ≡ told_where t s
+    → session_with_serial serial live ≡ Some s → get nat_cmp tellings serial ≡ t → tell_by tellings s ≡ tell_if t s
 told_as tellings serial live s t is there =
-    ap (λ n. told_where (get nat_cmp tellings n) s) (found_serial serial live s is) ∙ ap (λ o. told_where o s) there
+    ap (λ n. tell_if (get nat_cmp tellings n) s) (found_serial serial live s is) ∙ ap (λ o. tell_if o s) there
 
 -- what is found among those that are told was found among them before
 pub found_before : (tellings : Tellings) (serial : ℕ) (live : List Session) (s : Session)
-    → session_with_serial serial (map (told_by tellings) live) ≡ Some s
-    → (before : Session) × (session_with_serial serial live ≡ Some before) × (s ≡ told_by tellings before)
+    → session_with_serial serial (map (tell_by tellings) live) ≡ Some s
+    → (before : Session) × (session_with_serial serial live ≡ Some before) × (s ≡ tell_by tellings before)
 found_before tellings serial [] s e = cc
 found_before tellings serial (x ∷ xs) s e =
-    let same : ((told_by tellings x).serial == serial) ≡ (x.serial == serial) =
+    let same : ((tell_by tellings x).serial == serial) ≡ (x.serial == serial) =
     ap (λ n. n == serial) (told_serial (get nat_cmp tellings x.serial) x) in
     elim (cases_Bool (x.serial == serial)) [
       | inl hit ↦
-          let is : told_by tellings x ≡ s = cc (rw (same ∙ hit) at e) in
+          let is : tell_by tellings x ≡ s = cc (rw (same ∙ hit) at e) in
           (x, rw hit refl, sym is)
       | inr miss ↦
           let r = found_before tellings serial xs s (rw (same ∙ miss) at e) in
@@ -112,13 +112,13 @@ live_before ended serial live h = by (session_with_serial serial (without_sessio
 
 module _ (tellings : Tellings) (serial : ℕ) (live : List Session) (s : Session) (is : session_with_serial serial live ≡ Some s) where
   -- nothing more
-  pub none_told : get nat_cmp tellings serial ≡ None → told_by tellings s ≡ s
+  pub none_told : get nat_cmp tellings serial ≡ None → tell_by tellings s ≡ s
   none_told e = told_as tellings serial live s None is e
 
   -- items after what is queued
   module _ (items : List PollItem) (size : ℕ) (there : get nat_cmp tellings serial ≡ Some (the_telling.After items size))
       (sized : IsSized serial (the_telling.After items size) live) where
-    pub after_size : size ≡ queue_size (told_by tellings s).queue
+    pub after_size : size ≡ queue_size (tell_by tellings s).queue
     after_size =
         (sized s is).0
         ∙ ap (λ (t : Session). queue_size t.queue)
@@ -126,7 +126,7 @@ module _ (tellings : Tellings) (serial : ℕ) (live : List Session) (s : Session
 
     pub after_of_name : (name : List ℕ) (queued named : ℕ) → queued ≡ queue_size (filter (is_named name) s.queue)
         → named ≡ min (queue_size (filter (is_named name) items)) (2 ^ 64 - 1)
-        → queued + named ≡ queue_size (filter (is_named name) (told_by tellings s).queue)
+        → queued + named ≡ queue_size (filter (is_named name) (tell_by tellings s).queue)
     after_of_name name queued named first second =
         let all = (sized s is).0 in
         let low = (sized s is).1 in
@@ -135,7 +135,7 @@ module _ (tellings : Tellings) (serial : ℕ) (live : List Session) (s : Session
         let fits : named ≡ queue_size (filter (is_named name) items) =
         second ∙ exact (queue_size (filter (is_named name) items)) (2 ^ 64 - 1) (omega (arith, all, low, both, part)) in
         let sizes = parts_size (is_named name) s.queue items in
-        let told : queue_size (filter (is_named name) (s.queue ++ items)) ≡ queue_size (filter (is_named name) (told_by tellings s).queue) =
+        let told : queue_size (filter (is_named name) (s.queue ++ items)) ≡ queue_size (filter (is_named name) (tell_by tellings s).queue) =
         ap (λ (t : Session). queue_size (filter (is_named name) t.queue))
         (sym (told_as tellings serial live s (Some (the_telling.After items size)) is there)) in
         omega (arith, first, fits, sizes, told)
@@ -143,13 +143,13 @@ module _ (tellings : Tellings) (serial : ℕ) (live : List Session) (s : Session
   -- one error in place of all
   module _ (error : PollItem) (there : get nat_cmp tellings serial ≡ Some (the_telling.Alone error))
       (sized : IsSized serial (the_telling.Alone error) live) where
-    alone_queue : (told_by tellings s).queue ≡ the_item.Error None PollResultsTooBig sized.0 ∷ []
+    alone_queue : (tell_by tellings s).queue ≡ the_item.Error None PollResultsTooBig sized.0 ∷ []
     alone_queue =
         ap (λ (t : Session). t.queue) (told_as tellings serial live s (Some (the_telling.Alone error)) is there)
         ∙ ap (λ (item : PollItem). item ∷ []) sized.1
 
-    pub alone_size : size_beside_entries ≡ queue_size (told_by tellings s).queue
+    pub alone_size : size_beside_entries ≡ queue_size (tell_by tellings s).queue
     alone_size = sym (ap queue_size alone_queue)
 
-    pub alone_of_name : (name : List ℕ) → 0 ≡ queue_size (filter (is_named name) (told_by tellings s).queue)
+    pub alone_of_name : (name : List ℕ) → 0 ≡ queue_size (filter (is_named name) (tell_by tellings s).queue)
     alone_of_name name = sym (ap (λ queue. queue_size (filter (is_named name) queue)) alone_queue)

@@ -5,7 +5,7 @@ use Rattle.std.specs.Cmp.Lexicographic.{slice_cmp}
 use Rattle.std.specs.List.{AllByRecursion, list_any}
 use Rattle.std.specs.List.Sorted.{IsStrictlySortedBy}
 use Rattle.std.specs.Ordering.{nat_cmp}
-use Rattle.ifmap_changes.specs.Between.{Asking, IsSoundSoFar, IsSteady, SharesNumbers, sessions_left, sight_now, so_far, starts_of}
+use Rattle.ifmap_changes.specs.Between.{Asking, IsSoundSoFar, IsSteady, SharesNumbers, sessions_left, sight_now, state_now, starts_of}
 use Rattle.ifmap_changes.specs.declared.parts.Parts.{Parts}
 use Rattle.ifmap_changes.specs.ifmap_delta.Sights.{IsUpToDate}
 use Rattle.ifmap_changes.specs.ifmap_graph.Back.{KeepsBacks}
@@ -21,10 +21,10 @@ use Rattle.ifmap_search.specs.declared.results.PollItem.{PollItem}
 use Rattle.ifmap_search.specs.Sizes.{poll_size, queue_size}
 use Rattle.ifmap_changes.specs.ifmap_session.Sessions.{IsLive, Session, is_named, session_with_serial}
 use Rattle.ifmap_changes.specs.ifmap_standing.declared.standing.Standing.{Standing}
-use Rattle.ifmap_subscribes.specs.Renamings.{IsNameNow, IsOfSession, begun_by, rename_all}
+use Rattle.ifmap_subscribes.specs.Renamings.{IsNameNow, IsOfSession, starts_by, rename_all}
 use Rattle.ifmap_subscribes.specs.declared.names.NameNow.{NameNow}
 use Rattle.ifmap_subscribes.specs.declared.readying.Readying.{Readying}
-use Rattle.ifmap_subscribes.specs.declared.readying.Scene.{Scene}
+use Rattle.ifmap_subscribes.specs.declared.readying.Occasion.{Occasion}
 use Rattle.ifmap_subscribes.specs.declared.renamings.Renaming.{Renaming}
 use Rattle.ifmap_changes.specs.ifmap_tellings.declared.tellings.Pending.{Pending}
 
@@ -36,8 +36,8 @@ queue_where (Some s) = s.queue
 -- what a session has to tell so far, and the subscriptions that are left
 abbrev pub told_at : ℕ → Asking → Parts → Pending → Told
 told_at serial a parts pending = record {
-  queue = queue_where (session_with_serial serial (so_far a parts pending).sessions);
-  standing = (so_far a parts pending).standing;
+  queue = queue_where (session_with_serial serial (state_now a parts pending).sessions);
+  standing = (state_now a parts pending).standing;
 }
 
 -- and after these renamings
@@ -45,10 +45,10 @@ abbrev pub told_after : ℕ → Readying → Told → Told
 told_after serial readying t = rename_all serial readying.made.items t
 
 -- the same of the session of a scene
-abbrev pub told_in_scene : Scene → Parts → Told
+abbrev pub told_in_scene : Occasion → Parts → Told
 told_in_scene scene parts = told_at scene.serial scene.asking.now parts scene.pending.now
 
-abbrev pub told_then : Scene → Parts → Readying → Told
+abbrev pub told_then : Occasion → Parts → Readying → Told
 told_then scene parts readying = told_after scene.serial readying (told_in_scene scene parts)
 
 -- what is so of a name is what was so before
@@ -77,8 +77,8 @@ pub record AreCounted (serial : ℕ) (t : Told) (readying : Readying) : Type 0 w
 -- what is to stand can: it is of the session, keeps what the graph has, and holds its start beside what stands
 pub record CanStand (serial : ℕ) (parts : Parts) (renamings : List Renaming) : Type 0 where
   pub session : AllByRecursion (IsOfSession serial) renamings
-  pub steady : IsSteady parts.graph (parts.standing.items ++ begun_by renamings)
-  pub kept : AllByRecursion (λ x. IsUpToDate (sight_now parts.graph) x.subscription) (begun_by renamings)
+  pub steady : IsSteady parts.graph (parts.standing.items ++ starts_by renamings)
+  pub kept : AllByRecursion (λ x. IsUpToDate (sight_now parts.graph) x.subscription) (starts_by renamings)
 
 -- operations are ready: what is to stand can, and what is kept of them is so
 pub record AreReadied (serial : ℕ) (t : Told) (parts : Parts) (readying : Readying) : Type 0 where
@@ -86,7 +86,7 @@ pub record AreReadied (serial : ℕ) (t : Told) (parts : Parts) (readying : Read
   pub counted : AreCounted serial t readying
 
 -- an operation can be made ready: the parts are ready for it, the session lives, and what is kept of those before it is so
-pub record CanReady (scene : Scene) (parts : Parts) (readying : Readying) : Type 0 where
+pub record CanReady (scene : Occasion) (parts : Parts) (readying : Readying) : Type 0 where
   pub ready : IsSoundSoFar scene.asking.now parts scene.pending.now
   pub live : IsLive scene.serial (sessions_left scene.asking.now parts.sessions)
   pub readied : AreReadied scene.serial (told_in_scene scene parts) parts readying

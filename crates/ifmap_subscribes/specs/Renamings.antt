@@ -5,7 +5,7 @@ use Rattle.std.specs.List.{AllByRecursion, list_any}
 use Rattle.std.specs.List.Sorted.{IsStrictlySortedBy}
 use Rattle.std.specs.Ordering.{nat_cmp, ordering_then}
 use Rattle.std.specs.declared.cmp.Ordering.{Ordering}
-use Rattle.ifmap_changes.specs.Between.{Asking, IsSteady, sight_now, so_far}
+use Rattle.ifmap_changes.specs.Between.{Asking, IsSteady, sight_now, state_now}
 use Rattle.ifmap_subscribes.specs.declared.names.NameNow.{NameNow}
 use Rattle.ifmap_changes.specs.declared.parts.Parts.{Parts}
 use Rattle.ifmap_subscribes.specs.declared.renamings.Renaming.{Renaming}
@@ -47,8 +47,8 @@ rename_all serial [] t = t
 rename_all serial (r ∷ rs) t = rename_all serial rs (rename serial r t)
 
 -- the subscriptions that are to stand
-abbrev pub begun_by : List Renaming → List Standing
-begun_by renamings = flat_map (λ (r : Renaming). option_to_list r.standing) renamings
+abbrev pub starts_by : List Renaming → List Standing
+starts_by renamings = flat_map (λ (r : Renaming). option_to_list r.standing) renamings
 
 -- what there is to queue
 abbrev pub item_count : List Renaming → ℕ
@@ -91,16 +91,16 @@ told_in_parts parts s = record { queue = s.queue; standing = map standing_of par
 
 -- what a session has to tell so far, and the subscriptions that are left
 abbrev pub told_so_far : Asking → Parts → Pending → Session → Told
-told_so_far a parts pending s = record { queue = s.queue; standing = (so_far a parts pending).standing }
+told_so_far a parts pending s = record { queue = s.queue; standing = (state_now a parts pending).standing }
 
 -- renamings can be made in parts where all that was pending is told: each is of the session, the subscriptions that are to stand keep
 -- what the graph has and hold their starts, and there is room
 pub record CanRenameEach (serial : ℕ) (renamings : List Renaming) (parts : Parts) : Type 0 where
   pub live : IsLive serial parts.sessions.live
   pub session : AllByRecursion (IsOfSession serial) renamings
-  pub steady : IsSteady parts.graph (parts.standing.items ++ begun_by renamings)
+  pub steady : IsSteady parts.graph (parts.standing.items ++ starts_by renamings)
   pub ordered : IsStrictlySortedBy standing_order (map standing_of parts.standing.items)
-  pub kept : AllByRecursion (λ x. IsUpToDate (sight_now parts.graph) x.subscription) (parts.standing.items ++ begun_by renamings)
+  pub kept : AllByRecursion (λ x. IsUpToDate (sight_now parts.graph) x.subscription) (parts.standing.items ++ starts_by renamings)
   pub places : vec_len parts.standing + length renamings ≤ vec_capacity parts.standing
   pub room : item_count renamings ≤ spare_of serial parts.sessions.spare
 

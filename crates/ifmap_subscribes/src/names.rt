@@ -2,9 +2,9 @@
 ghost use Rattle.std.specs.Prelude.{◌≡◌, Some, false, filter, length, map};
 ghost use Rattle.std.specs.List.{AllByRecursion, list_any};
 ghost use Rattle.std.specs.List.Sorted.{IsStrictlySortedBy};
-ghost use Rattle.ifmap_changes.specs.Between.{IsSoundSoFar, sessions_left, so_far};
+ghost use Rattle.ifmap_changes.specs.Between.{IsSoundSoFar, sessions_left, state_now};
 ghost use Rattle.ifmap_subscribes.specs.Renamings.{IsNameNow, told_so_far};
-ghost use Rattle.ifmap_changes.specs.ifmap_tellings.Tellings.{EachTelling, IsSized, kept_of, told_by};
+ghost use Rattle.ifmap_changes.specs.ifmap_tellings.Tellings.{EachTelling, IsSized, kept_items, tell_by};
 ghost use Rattle.ifmap_changes.specs.ifmap_machine.State.{standing_in, standing_order};
 ghost use Rattle.ifmap_changes.specs.ifmap_machine.Subscribing.{is_of_name};
 ghost use Rattle.ifmap_changes.specs.ifmap_machine.Telling.{is_overfull};
@@ -40,7 +40,7 @@ pub(crate) fn name_before(
     requires ready { IsSoundSoFar asking.now parts.now pending.now }
     requires live { IsLive serial (sessions_left asking.now parts.now.sessions) }
     ensures { (s : Session)
-        → session_with_serial serial (so_far asking.now parts.now pending.now).sessions ≡ Some s
+        → session_with_serial serial (state_now asking.now parts.now pending.now).sessions ≡ Some s
         → IsNameNow serial name.now (told_so_far asking.now parts.now pending.now s) result }
 {
     NameNow {
@@ -54,7 +54,7 @@ fn is_standing(standing: &[Standing], gone: &[bool], serial: u64, name: &Text) -
     requires rising { IsStrictlySortedBy standing_order (map standing_of standing.now) }
     requires flags { length gone.now ≡ length standing.now }
     ensures { result ≡ list_any (is_of_name serial name.now)
-        (map standing_of (kept_of gone.now standing.now)) }
+        (map standing_of (kept_items gone.now standing.now)) }
 {
     match place_of_name(standing, serial, name) {
         Ok(at) => !gone[at],
@@ -73,7 +73,7 @@ fn told_size(
     requires sized { EachTelling (λ n t. IsSized n t sessions.now.live) tellings.now }
     requires within { AllByRecursion (λ s. is_overfull s ≡ false) sessions.now.live }
     ensures { (s : Session) → session_with_serial serial sessions.now.live ≡ Some s
-        → result ≡ queue_size (filter (is_named name.now) (told_by tellings.now s).queue) }
+        → result ≡ queue_size (filter (is_named name.now) (tell_by tellings.now s).queue) }
 {
     match tellings.get(&serial) {
         None => queued_size(sessions, serial, name) as u128,
@@ -103,7 +103,7 @@ pub(crate) fn whole_size(sessions: &Sessions, tellings: &BTreeMap<u64, Telling>,
     requires sized { EachTelling (λ n t. IsSized n t sessions.now.live) tellings.now }
     requires within { AllByRecursion (λ s. is_overfull s ≡ false) sessions.now.live }
     ensures { (s : Session) → session_with_serial serial sessions.now.live ≡ Some s
-        → result ≡ queue_size (told_by tellings.now s).queue }
+        → result ≡ queue_size (tell_by tellings.now s).queue }
 {
     match tellings.get(&serial) {
         None => sessions.queue_size(serial).0,
@@ -116,7 +116,7 @@ pub(crate) fn whole_size(sessions: &Sessions, tellings: &BTreeMap<u64, Telling>,
 pub(crate) fn count_standing(standing: &[Standing], gone: &[bool], serial: u64) -> usize
     requires flags { length gone.now ≡ length standing.now }
     ensures { result ≡ length (standing_in serial
-        (map standing_of (kept_of gone.now standing.now))) }
+        (map standing_of (kept_items gone.now standing.now))) }
 {
     let mut count = 0;
     for at in 0..standing.len() {

@@ -59,7 +59,7 @@ pub struct Readying {
 
 /// In which session operations are made ready, and where an event stands.
 #[derive(Drop)]
-pub struct Scene<'a> {
+pub struct Occasion<'a> {
     /// What is pending.
     pub pending: &'a Pending,
     /// Who asks, and when.
@@ -73,7 +73,7 @@ pub struct Scene<'a> {
 pub fn ready_ops<L: Ledger>(
     alloc: Global,
     parts: &mut Parts,
-    scene: &Scene<'_>,
+    scene: &Occasion<'_>,
     ops: &Many<SubscribeOp>,
     steps: &mut Steps<L>,
 ) -> Result<Readying, SubscribeError>
@@ -106,7 +106,7 @@ pub fn ready_ops<L: Ledger>(
 }
 
 // No operation is made ready yet.
-fn nothing_ready(alloc: Global, parts: &Parts, scene: &Scene<'_>) -> Readying
+fn nothing_ready(alloc: Global, parts: &Parts, scene: &Occasion<'_>) -> Readying
     requires steady { IsSteady parts.now.graph parts.now.standing.items }
     requires ready { IsSoundSoFar scene.now.asking.now parts.now scene.now.pending.now }
     requires live { IsLive scene.now.serial
@@ -124,7 +124,7 @@ fn nothing_ready(alloc: Global, parts: &Parts, scene: &Scene<'_>) -> Readying
 
 // What was made ready is given up: the numbers that are held for it are let go of. It takes no
 // memory.
-fn give_up(parts: &mut Parts, scene: &Scene<'_>, readying: Readying)
+fn give_up(parts: &mut Parts, scene: &Occasion<'_>, readying: Readying)
     requires { CanReady scene.now parts.old readying }
     ensures given_up { IsGivenUp parts.old parts.new }
     ensures ready { IsSoundSoFar scene.now.asking.now parts.new scene.now.pending.now }
@@ -137,7 +137,7 @@ fn give_up(parts: &mut Parts, scene: &Scene<'_>, readying: Readying)
 fn ready_all<L: Ledger>(
     alloc: Global,
     parts: &mut Parts,
-    scene: &Scene<'_>,
+    scene: &Occasion<'_>,
     ops: &Many<SubscribeOp>,
     readying: &mut Readying,
     steps: &mut Steps<L>,
@@ -163,7 +163,7 @@ fn ready_all<L: Ledger>(
 fn ready_op<L: Ledger>(
     alloc: Global,
     parts: &mut Parts,
-    scene: &Scene<'_>,
+    scene: &Occasion<'_>,
     op: &SubscribeOp,
     readying: &mut Readying,
     steps: &mut Steps<L>,
@@ -208,7 +208,7 @@ struct Wish<'a> {
 fn ready_update<L: Ledger>(
     alloc: Global,
     parts: &mut Parts,
-    scene: &Scene<'_>,
+    scene: &Occasion<'_>,
     wish: &Wish<'_>,
     readying: &mut Readying,
     steps: &mut Steps<L>,
@@ -239,7 +239,7 @@ fn ready_update<L: Ledger>(
 }
 
 // What is so of a name, after what was made ready.
-fn name_now(parts: &Parts, scene: &Scene<'_>, name: &Text, readying: &Readying) -> NameNow
+fn name_now(parts: &Parts, scene: &Occasion<'_>, name: &Text, readying: &Readying) -> NameNow
     requires { CanReady scene.now parts.now readying.now }
     ensures { IsNameNow scene.now.serial name.now (told_then scene.now parts.now readying.now)
         result }
@@ -254,7 +254,7 @@ fn name_now(parts: &Parts, scene: &Scene<'_>, name: &Text, readying: &Readying) 
 fn ready_delete(
     alloc: Global,
     parts: &Parts,
-    scene: &Scene<'_>,
+    scene: &Occasion<'_>,
     name: &Text,
     readying: &mut Readying,
 ) -> Result<(), NoMemory>
@@ -280,7 +280,7 @@ fn ready_delete(
 fn begin_ready<L: Ledger>(
     alloc: Global,
     parts: &mut Parts,
-    scene: &Scene<'_>,
+    scene: &Occasion<'_>,
     wish: &Wish<'_>,
     readying: &mut Readying,
     steps: &mut Steps<L>,
@@ -310,7 +310,7 @@ fn begin_ready<L: Ledger>(
 fn begin_beside<L: Ledger>(
     alloc: Global,
     parts: &mut Parts,
-    scene: &Scene<'_>,
+    scene: &Occasion<'_>,
     wish: &Wish<'_>,
     made: &[Renaming],
     steps: &mut Steps<L>,

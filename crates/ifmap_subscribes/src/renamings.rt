@@ -13,7 +13,7 @@ ghost use Rattle.ifmap_changes.specs.ifmap_session.Sessions.{Changes, IsLive, sp
 ghost use Rattle.ifmap_changes.specs.ifmap_standing.declared.standing.Standing.{Standing};
 ghost use Rattle.ifmap_changes.specs.ifmap_standing.Standing.{standing_of};
 ghost use Rattle.ifmap_subscribes.specs.declared.renamings.Renaming.{Renaming};
-ghost use Rattle.ifmap_subscribes.specs.Renamings.{AreRenamed, CanRenameEach, KeepsNumbered, LetsNumbersGo, StandsAmong, begun_by, order_to_name, stand_where};
+ghost use Rattle.ifmap_subscribes.specs.Renamings.{AreRenamed, CanRenameEach, KeepsNumbered, LetsNumbersGo, StandsAmong, starts_by, order_to_name, stand_where};
 
 use ifmap_changes::parts::Parts;
 use ifmap_changes::{Graph, Sessions, Standing, same_links_keep_subscriptions};
@@ -36,9 +36,9 @@ pub struct Renaming {
 
 /// Lets go of the numbers that subscriptions hold which are not to stand. It takes no memory.
 pub fn release_all(graph: &mut Graph, renamings: Many<Renaming>)
-    requires { (standing : List Standing) × IsSteady graph.old (standing ++ begun_by renamings) }
+    requires { (standing : List Standing) × IsSteady graph.old (standing ++ starts_by renamings) }
     ensures steady { (standing : List Standing)
-        → IsSteady graph.old (standing ++ begun_by renamings) → IsSteady graph.new standing }
+        → IsSteady graph.old (standing ++ starts_by renamings) → IsSteady graph.new standing }
     ensures rows { rows_now graph.new ≡ rows_now graph.old }
     ensures links { (v : ℕ) → links_now graph.new v ≡ links_now graph.old v }
     ensures numbers { BringsNoNumbers graph.old graph.new }

@@ -16,7 +16,7 @@ use Rattle.ifmap_search.specs.Sizes.{poll_size, queue_size}
 use Rattle.ifmap_standing.specs.ifmap_session.Sessions.{Session, session_with_serial}
 use Rattle.ifmap_tellings.specs.declared.tellings.Telling.{Telling}
 use Rattle.ifmap_tellings.specs.declared.tellings.Telling.TheVariants.{After}
-use Rattle.ifmap_tellings.specs.Tellings.{AddsTo, IsSized, told_where}
+use Rattle.ifmap_tellings.specs.Tellings.{AddsTo, IsSized, tell_if}
 use Rattle.ifmap_standing.specs.ifmap_machine.OrderLaws.{tell_nothing}
 
 pub tell_twice : (a b : List PollItem) (s : Session) → tell_session b (tell_session a s) ≡ tell_session (a ++ b) s
@@ -24,7 +24,7 @@ tell_twice a b s = ap (λ queue. record s { queue = queue }) (append_assoc s.que
 
 pub adds_nothing : (x : Option Telling) → AddsTo [] x x
 adds_nothing x = record {
-  told = λ s. sym (tell_nothing (told_where x s));
+  told = λ s. sym (tell_nothing (tell_if x s));
   alone = refl;
   brought = λ h e. absurd (some_none x h e);
   kept = λ e. e;
@@ -32,7 +32,7 @@ adds_nothing x = record {
 
 pub adds_both : (a b : List PollItem) (x y z : Option Telling) → AddsTo a x y → AddsTo b y z → AddsTo (a ++ b) x z
 adds_both a b x y z first next = record {
-  told = λ s. next.told s ∙ ap (tell_session b) (first.told s) ∙ tell_twice a b (told_where x s);
+  told = λ s. next.told s ∙ ap (tell_session b) (first.told s) ∙ tell_twice a b (tell_if x s);
   alone = next.alone ∙ first.alone;
   brought = λ h e q. at y refl h e (both_empty a b q);
   kept = λ e. first.kept (next.kept e);

@@ -9,7 +9,7 @@ use Rattle.ifmap_search.specs.declared.results.PollItem.TheVariants as the_item
 use Rattle.ifmap_search.specs.Sizes.{queue_size, size_beside_entries}
 use Rattle.ifmap_standing.specs.ifmap_session.Sessions.{Session, with_error}
 use Rattle.ifmap_tellings.specs.declared.tellings.Telling.TheVariants.{Alone}
-use Rattle.ifmap_tellings.specs.Tellings.{IsSized, IsWide, told_where}
+use Rattle.ifmap_tellings.specs.Tellings.{IsSized, IsWide, tell_if}
 
 -- a queue within its limit stays
 pub within_stays : (s : Session) → is_overfull s ≡ false → overflow_session s ≡ s
@@ -26,7 +26,7 @@ overflowed_within s wide = elim (cases_Bool (is_overfull s)) [
 ]
 
 pub alone_stays : (n limit : ℕ) (live : List Session) (s : Session) → s.limit ≡ limit → (error : PollItem) → IsSized n (Alone error) live
-    → IsWide limit → told_where (Some (Alone error)) s ≡ overflow_session (told_where (Some (Alone error)) s)
+    → IsWide limit → tell_if (Some (Alone error)) s ≡ overflow_session (tell_if (Some (Alone error)) s)
 alone_stays n limit live s own error sized wide =
     let is : error ≡ the_item.Error None PollResultsTooBig sized.0 = sized.1 in
     let few : is_overfull (with_error error s) ≡ false =

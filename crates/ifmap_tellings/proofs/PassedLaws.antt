@@ -15,7 +15,7 @@ use Rattle.ifmap_standing.specs.ifmap_machine.Telling.{is_overfull, overflow_ses
 use Rattle.ifmap_standing.specs.ifmap_session.Sessions.{Session, SessionTable, session_order, session_with_serial}
 use Rattle.ifmap_standing.specs.declared.standing.Standing.{Standing}
 use Rattle.ifmap_tellings.specs.declared.tellings.Telling.{Telling}
-use Rattle.ifmap_tellings.specs.Tellings.{AreWide, CanTell, EachTelling, HasSameSessions, IsSized, IsWide, Tellings, is_alone, told_by, told_where}
+use Rattle.ifmap_tellings.specs.Tellings.{AreWide, CanTell, EachTelling, HasSameSessions, IsSized, IsWide, Tellings, is_alone, tell_by, tell_if}
 use Rattle.ifmap_tellings.proofs.OverflowLaws.{overflowed_within, within_stays}
 use Rattle.ifmap_tellings.proofs.RoomLaws.{found_here, tells_still}
 use Rattle.ifmap_tellings.specs.ToldLaws.{same_sessions_itself, same_twice, told_limit}
@@ -26,18 +26,18 @@ IsFree standing n = (x : Standing) → Has standing x → x.serial ≢ n
 
 -- the subscriptions from this place on are left
 pub record Overflowing (standing : List Standing) (begun now : SessionTable) (old tellings : Tellings) (at : ℕ) : Type 0 where
-  pub told : (s : Session) → Has begun.live s → overflow_session (told_by tellings s) ≡ overflow_session (told_by old s)
-  pub within : (s : Session) → Has begun.live s → IsFree (drop at standing) s.serial → is_overfull (told_by tellings s) ≡ false
+  pub told : (s : Session) → Has begun.live s → overflow_session (tell_by tellings s) ≡ overflow_session (tell_by old s)
+  pub within : (s : Session) → Has begun.live s → IsFree (drop at standing) s.serial → is_overfull (tell_by tellings s) ≡ false
   -- who was or is to be told one error in place of all
-  pub alone : (s : Session) → Has begun.live s → (is_alone (get nat_cmp tellings s.serial) || is_overfull (told_by tellings s))
-      ≡ (is_alone (get nat_cmp old s.serial) || is_overfull (told_by old s))
+  pub alone : (s : Session) → Has begun.live s → (is_alone (get nat_cmp tellings s.serial) || is_overfull (tell_by tellings s))
+      ≡ (is_alone (get nat_cmp old s.serial) || is_overfull (tell_by old s))
   pub keys : (n : ℕ) → is_some (get nat_cmp tellings n) ≡ is_some (get nat_cmp old n)
   pub rest : EachTelling (λ n t. IsFree (drop at standing) n → CanTell now n t) tellings
   pub sized : EachTelling (λ n t. IsSized n t begun.live) tellings
   pub same : HasSameSessions begun now
 
 pub passed_first : (standing : List Standing) (begun : SessionTable) (old : Tellings)
-    → ((s : Session) → Has begun.live s → IsFree standing s.serial → is_overfull (told_by old s) ≡ false)
+    → ((s : Session) → Has begun.live s → IsFree standing s.serial → is_overfull (tell_by old s) ≡ false)
     → EachTelling (λ n t. IsFree standing n → CanTell begun n t) old → EachTelling (λ n t. IsSized n t begun.live) old
     → Overflowing standing begun begun old old 0
 passed_first standing begun old within rest sized = record {
@@ -57,12 +57,12 @@ module _ (standing : List Standing) (begun now : SessionTable) (old tellings : T
     all_free : (n : ℕ) → IsFree (drop at standing) n
     all_free n = subst (λ xs. IsFree xs n) (sym (drop_all at standing end)) (λ x h. absurd h)
 
-    pub passed_told : map (told_by tellings) begun.live ≡ map (λ s. overflow_session (told_by old s)) begun.live
-    passed_told = map_alike (told_by tellings) (λ s. overflow_session (told_by old s)) begun.live
-        (λ s h. sym (within_stays (told_by tellings s) (o.within s h (all_free s.serial))) ∙ o.told s h)
+    pub passed_told : map (tell_by tellings) begun.live ≡ map (λ s. overflow_session (tell_by old s)) begun.live
+    passed_told = map_alike (tell_by tellings) (λ s. overflow_session (tell_by old s)) begun.live
+        (λ s h. sym (within_stays (tell_by tellings s) (o.within s h (all_free s.serial))) ∙ o.told s h)
 
     pub passed_alone : (s : Session) → Has begun.live s
-        → is_alone (get nat_cmp tellings s.serial) ≡ (is_alone (get nat_cmp old s.serial) || is_overfull (told_by old s))
+        → is_alone (get nat_cmp tellings s.serial) ≡ (is_alone (get nat_cmp old s.serial) || is_overfull (tell_by old s))
     passed_alone s h =
         sym (or-false (is_alone (get nat_cmp tellings s.serial)))
         ∙ ap (λ b. is_alone (get nat_cmp tellings s.serial) || b) (sym (o.within s h (all_free s.serial))) ∙ o.alone s h
@@ -72,9 +72,9 @@ module _ (standing : List Standing) (begun now : SessionTable) (old tellings : T
 
   module _ (x : Standing) (here : slice_get standing at ≡ Some x) (up : IsStrictlySortedBy session_order begun.live)
       (wide : AreWide begun.live) (later : SessionTable) (after : Tellings)
-      (told : (s : Session) → session_with_serial x.serial now.live ≡ Some s → told_by after s ≡ overflow_session (told_by tellings s))
+      (told : (s : Session) → session_with_serial x.serial now.live ≡ Some s → tell_by after s ≡ overflow_session (tell_by tellings s))
       (alone : (s : Session) → session_with_serial x.serial now.live ≡ Some s
-      → is_alone (get nat_cmp after s.serial) ≡ (is_alone (get nat_cmp tellings s.serial) || is_overfull (told_by tellings s)))
+      → is_alone (get nat_cmp after s.serial) ≡ (is_alone (get nat_cmp tellings s.serial) || is_overfull (tell_by tellings s)))
       (key : is_some (get nat_cmp after x.serial) ≡ is_some (get nat_cmp tellings x.serial))
       (others : (n : ℕ) → n ≢ x.serial → get nat_cmp after n ≡ get nat_cmp tellings n)
       (can : (t : Telling) → get nat_cmp after x.serial ≡ Some t → CanTell later x.serial t)
@@ -97,20 +97,20 @@ module _ (standing : List Standing) (begun now : SessionTable) (old tellings : T
     here_now s h own = subst (λ live. session_with_serial x.serial live ≡ Some s) (sym o.same.live)
         (subst (λ n. session_with_serial n begun.live ≡ Some s) own (found_here begun.live s up h))
 
-    told_here : (s : Session) → Has begun.live s → s.serial ≡ x.serial → told_by after s ≡ overflow_session (told_by tellings s)
+    told_here : (s : Session) → Has begun.live s → s.serial ≡ x.serial → tell_by after s ≡ overflow_session (tell_by tellings s)
     told_here s h own = told s (here_now s h own)
 
-    told_there : (s : Session) → s.serial ≢ x.serial → told_by after s ≡ told_by tellings s
-    told_there s apart = ap (λ t. told_where t s) (others s.serial apart)
+    told_there : (s : Session) → s.serial ≢ x.serial → tell_by after s ≡ tell_by tellings s
+    told_there s apart = ap (λ t. tell_if t s) (others s.serial apart)
 
-    fits : (s : Session) → Has begun.live s → is_overfull (overflow_session (told_by tellings s)) ≡ false
-    fits s h = overflowed_within (told_by tellings s) (subst IsWide (sym (told_limit (get nat_cmp tellings s.serial) s))
+    fits : (s : Session) → Has begun.live s → is_overfull (overflow_session (tell_by tellings s)) ≡ false
+    fits s h = overflowed_within (tell_by tellings s) (subst IsWide (sym (told_limit (get nat_cmp tellings s.serial) s))
         (all_has (λ (t : Session). IsWide t.limit) begun.live wide s h))
 
     pub passed_next : Overflowing standing begun later old after (at + 1)
     passed_next = record {
       told = λ s h. elim (cases_eq s.serial x.serial) [
-        | inl own ↦ ap overflow_session (told_here s h own) ∙ within_stays (overflow_session (told_by tellings s)) (fits s h) ∙ o.told s h
+        | inl own ↦ ap overflow_session (told_here s h own) ∙ within_stays (overflow_session (tell_by tellings s)) (fits s h) ∙ o.told s h
         | inr apart ↦ ap overflow_session (told_there s apart) ∙ o.told s h
       ];
       within = λ s h free. elim (cases_eq s.serial x.serial) [
@@ -121,7 +121,7 @@ module _ (standing : List Standing) (begun now : SessionTable) (old tellings : T
         | inl own ↦
             ap (λ b. is_alone (get nat_cmp after s.serial) || b) (ap is_overfull (told_here s h own) ∙ fits s h)
             ∙ or-false (is_alone (get nat_cmp after s.serial)) ∙ alone s (here_now s h own) ∙ o.alone s h
-        | inr apart ↦ ap (λ t. is_alone t || is_overfull (told_where t s)) (others s.serial apart) ∙ o.alone s h
+        | inr apart ↦ ap (λ t. is_alone t || is_overfull (tell_if t s)) (others s.serial apart) ∙ o.alone s h
       ];
       keys = λ n. elim (cases_eq n x.serial) [
         | inl own ↦ subst (λ m. is_some (get nat_cmp after m) ≡ is_some (get nat_cmp old m)) (sym own) (key ∙ o.keys x.serial)

@@ -9,7 +9,7 @@ use Rattle.ifmap_lemmas.specs.Options.{is_some_of, some_is}
 use Rattle.ifmap_tellings.specs.declared.tellings.Telling.{Telling}
 use Rattle.ifmap_tellings.specs.declared.tellings.Telling.TheVariants.{After, Alone}
 use Rattle.ifmap_tellings.specs.ChangeLaws.{changes_both, changes_none}
-use Rattle.ifmap_tellings.specs.Tellings.{CanTell, EachTelling, Tellings, count_told, count_where, told_by, told_where}
+use Rattle.ifmap_tellings.specs.Tellings.{CanTell, EachTelling, Tellings, count_told, count_where, tell_by, tell_if}
 use Rattle.ifmap_standing.specs.ifmap_machine.Telling.{tell_session}
 use Rattle.ifmap_search.specs.declared.results.PollItem.{PollItem}
 use Rattle.ifmap_standing.specs.ifmap_session.Sessions.{Changes, IsLive, Session, SessionTable, change, session_with_serial, spare_of, with_item}
@@ -89,7 +89,7 @@ room_for_one n table t one can s is = omega (arith, one, can.room)
 
 -- ---- sessions are told one after the other
 
-told_keeps : (o : Option Telling) → KeepsIdAndClient (told_where o)
+told_keeps : (o : Option Telling) → KeepsIdAndClient (tell_if o)
 told_keeps None = record { serial = λ s. refl; id = λ s. refl; client = λ s. refl }
 told_keeps (Some (After items size)) = record { serial = λ s. refl; id = λ s. refl; client = λ s. refl }
 told_keeps (Some (Alone error)) = record { serial = λ s. refl; id = λ s. refl; client = λ s. refl }
@@ -97,7 +97,7 @@ told_keeps (Some (Alone error)) = record { serial = λ s. refl; id = λ s. refl;
 -- some tellings are left, the others are told
 pub record TellsOn (tellings : Tellings) (old now : SessionTable) (left : Tellings) : Type 0 where
   pub can : EachTelling (CanTell now) left
-  pub live : map (told_by left) now.live ≡ map (told_by tellings) old.live
+  pub live : map (tell_by left) now.live ≡ map (tell_by tellings) old.live
   pub counter : now.counter ≡ old.counter
   pub spare : (n : ℕ) → spare_of n old.spare + count_where (get nat_cmp left n)
       ≤ spare_of n now.spare + count_where (get nat_cmp tellings n)
@@ -124,13 +124,13 @@ module _ (n : ℕ) (t : Telling) (left less : Tellings) (there : get nat_cmp lef
   others_left m apart = u.2 m (apart_is n m apart)
 
   -- one is told, the rest of what is to be told makes of it what all made
-  told_then : (s : Session) → told_by less (changed_one n (told_where (Some t)) s) ≡ told_by left s
+  told_then : (s : Session) → tell_by less (changed_one n (tell_if (Some t)) s) ≡ tell_by left s
   told_then s =
       elim (cases_Bool (s.serial == n)) [
         | inl hit ↦
             let here : s.serial ≡ n = eqb-true s.serial n hit in
-            let same : (told_where (Some t) s).serial ≡ n = (told_keeps (Some t)).serial s ∙ here in
-            let none : get nat_cmp less (told_where (Some t) s).serial ≡ None = ap (get nat_cmp less) same ∙ u.1 in
+            let same : (tell_if (Some t) s).serial ≡ n = (told_keeps (Some t)).serial s ∙ here in
+            let none : get nat_cmp less (tell_if (Some t) s).serial ≡ None = ap (get nat_cmp less) same ∙ u.1 in
             let some : get nat_cmp left s.serial ≡ Some t = ap (get nat_cmp left) here ∙ there in
             rw (hit, none, some) refl
         | inr miss ↦
@@ -138,12 +138,12 @@ module _ (n : ℕ) (t : Telling) (left less : Tellings) (there : get nat_cmp lef
             rw (miss, others_left s.serial other) refl
       ]
 
-  told_each : (live : List Session) → map (told_by less) (change n (told_where (Some t)) live) ≡ map (told_by left) live
+  told_each : (live : List Session) → map (tell_by less) (change n (tell_if (Some t)) live) ≡ map (tell_by left) live
   told_each [] = refl
   told_each (s ∷ live) = rw (told_then s, told_each live) refl
 
   module _ (tellings : Tellings) (old now new : SessionTable) (so : TellsOn tellings old now left)
-      (c : Changes n (told_where (Some t)) now new) (spare : spare_of n now.spare ≤ spare_of n new.spare + count_told t) where
+      (c : Changes n (tell_if (Some t)) now new) (spare : spare_of n now.spare ≤ spare_of n new.spare + count_told t) where
     spare_at : (m : ℕ) → spare_of m old.spare + count_where (get nat_cmp less m)
         ≤ spare_of m new.spare + count_where (get nat_cmp tellings m)
     spare_at m =
@@ -170,7 +170,7 @@ module _ (n : ℕ) (t : Telling) (left less : Tellings) (there : get nat_cmp lef
               let other : m ≢ n = λ e. (let bad : true ≡ false = sym (eq-eqb m n e) ∙ miss in cc) in
               let could = so.can m r (sym (others_left m other) ∙ is) in
               record {
-                live = live_changed n (told_where (Some t)) (told_keeps (Some t)) now new c m could.live;
+                live = live_changed n (tell_if (Some t)) (told_keeps (Some t)) now new c m could.live;
                 room = omega (arith, could.room, c.others m other);
               }
         ]
@@ -178,7 +178,7 @@ module _ (n : ℕ) (t : Telling) (left less : Tellings) (there : get nat_cmp lef
     pub tells_more : TellsOn tellings old new less
     tells_more = record {
       can = can_still;
-      live = ap (map (told_by less)) c.live ∙ told_each now.live ∙ so.live;
+      live = ap (map (tell_by less)) c.live ∙ told_each now.live ∙ so.live;
       counter = c.counter ∙ so.counter;
       spare = spare_at;
       room = omega (arith, c.room, so.room);
@@ -189,11 +189,11 @@ module _ (tellings : Tellings) (old now : SessionTable) (left : Tellings) (so : 
     none_at : (n : ℕ) → get nat_cmp left n ≡ None
     none_at n = rw none refl
 
-    told_as_is : (live : List Session) → map (told_by left) live ≡ live
+    told_as_is : (live : List Session) → map (tell_by left) live ≡ live
     told_as_is [] = refl
     told_as_is (s ∷ live) = rw (none_at s.serial, told_as_is live) refl
 
-    pub tells_all : now.live ≡ map (told_by tellings) old.live
+    pub tells_all : now.live ≡ map (tell_by tellings) old.live
     tells_all = sym (told_as_is now.live) ∙ so.live
 
     pub tells_spare : (n : ℕ) → spare_of n old.spare ≤ spare_of n now.spare + count_where (get nat_cmp tellings n)

@@ -15,8 +15,8 @@ use Rattle.ifmap_standing.specs.declared.standing.Standing.{Standing}
 use Rattle.ifmap_standing.specs.declared.telling.News.{News}
 
 -- what stands at the places where no flag is
-abbrev pub kept_of : {X : Type 0} → List Bool → List X → List X
-kept_of gone xs = map (λ p. p.1) (filter (λ p. not p.0) (zip gone xs))
+abbrev pub kept_items : {X : Type 0} → List Bool → List X → List X
+kept_items gone xs = map (λ p. p.1) (filter (λ p. not p.0) (zip gone xs))
 
 -- P holds of each subscription that is not gone
 abbrev pub AllKept : (Standing → Type 0) → List Bool → List Standing → Type 0
@@ -27,13 +27,13 @@ abbrev pub Tellings : Type 0
 Tellings = BTreeMap ℕ Telling
 
 -- a session that is told something: more than it had to tell, or one error in place of all
-abbrev pub told_where : Option Telling → Session → Session
-told_where None s = s
-told_where (Some (After items size)) s = tell_session items s
-told_where (Some (Alone error)) s = with_error error s
+abbrev pub tell_if : Option Telling → Session → Session
+tell_if None s = s
+tell_if (Some (After items size)) s = tell_session items s
+tell_if (Some (Alone error)) s = with_error error s
 
-abbrev pub told_by : Tellings → Session → Session
-told_by tellings s = told_where (get nat_cmp tellings s.serial) s
+abbrev pub tell_by : Tellings → Session → Session
+tell_by tellings s = tell_if (get nat_cmp tellings s.serial) s
 
 -- how many items a telling puts into a queue
 abbrev pub count_told : Telling → ℕ
@@ -53,7 +53,7 @@ is_alone (Some (Alone error)) = true
 
 -- items are added to what a session is to be told, where there was something or not
 pub record AddsTo (items : List PollItem) (old new : Option Telling) : Type 0 where
-  pub told : (s : Session) → told_where new s ≡ tell_session items (told_where old s)
+  pub told : (s : Session) → tell_if new s ≡ tell_session items (tell_if old s)
   -- what is alone stays so, and nothing else is
   pub alone : is_alone new ≡ is_alone old
   -- where nothing was, there is something only with items
@@ -90,20 +90,20 @@ abbrev pub AreWide : List Session → Type 0
 AreWide live = AllByRecursion (λ (s : Session). IsWide s.limit) live
 
 -- what there is to queue for a session of the news of each subscription
-abbrev pub queued_for : ℕ → List Standing → List News → List PollItem
-queued_for serial standing news =
+abbrev pub items_for : ℕ → List Standing → List News → List PollItem
+items_for serial standing news =
     flat_map (λ (p : Standing × News). p.1.items) (filter (λ (p : Standing × News). p.0.serial == serial) (zip standing news))
 
 -- a session that was told one error in place of all is told nothing more
 abbrev pub LeaveAlone : Tellings → List Standing → List News → Type 0
-LeaveAlone tellings standing news = (n : ℕ) → is_alone (get nat_cmp tellings n) ≡ true → queued_for n standing news ≡ []
+LeaveAlone tellings standing news = (n : ℕ) → is_alone (get nat_cmp tellings n) ≡ true → items_for n standing news ≡ []
 
 -- also gone is what is too big now, and what is of a session that is told one error in place of all
-abbrev pub gone_after : List Bool → List News → List Bool
-gone_after gone news = map (λ (p : Bool × News). p.0 || p.1.is_too_big) (zip gone news)
+abbrev pub flags_since : List Bool → List News → List Bool
+flags_since gone news = map (λ (p : Bool × News). p.0 || p.1.is_too_big) (zip gone news)
 
-abbrev pub gone_alone : Tellings → List Bool → List Standing → List Bool
-gone_alone tellings gone standing = map (λ (p : Bool × Standing). p.0 || is_alone (get nat_cmp tellings p.1.serial)) (zip gone standing)
+abbrev pub flags_of_alone : Tellings → List Bool → List Standing → List Bool
+flags_of_alone tellings gone standing = map (λ (p : Bool × Standing). p.0 || is_alone (get nat_cmp tellings p.1.serial)) (zip gone standing)
 
 -- the same sessions and counter; the room for more, and that of each queue, is no less
 pub record HasSameSessions (old new : SessionTable) : Type 0 where

@@ -4,7 +4,7 @@ use Rattle.std.proofs.lemmas.Bool.{cases_Bool}
 use Rattle.std.specs.BTreeMap.{get}
 use Rattle.std.specs.Ordering.{nat_cmp}
 use Rattle.ifmap_standing.specs.ifmap_session.Sessions.{SessionTable, session_with_serial, spare_of, Session}
-use Rattle.ifmap_tellings.specs.Tellings.{HasSameSessions, Tellings, told_by, told_where, AllKept, kept_of}
+use Rattle.ifmap_tellings.specs.Tellings.{HasSameSessions, Tellings, tell_by, tell_if, AllKept, kept_items}
 use Rattle.ifmap_tellings.specs.declared.tellings.Telling.{Telling}
 use Rattle.ifmap_tellings.specs.declared.tellings.Telling.TheVariants.{After, Alone}
 use Rattle.ifmap_lemmas.specs.Places.{something_at}
@@ -25,28 +25,28 @@ same_twice a b c first next = record {
   room = at_most a.room b.room c.room first.room next.room;
 }
 
-pub told_serial : (o : Option Telling) (s : Session) → (told_where o s).serial ≡ s.serial
+pub told_serial : (o : Option Telling) (s : Session) → (tell_if o s).serial ≡ s.serial
 told_serial None s = refl
 told_serial (Some (After items size)) s = refl
 told_serial (Some (Alone error)) s = refl
 
-pub told_limit : (o : Option Telling) (s : Session) → (told_where o s).limit ≡ s.limit
+pub told_limit : (o : Option Telling) (s : Session) → (tell_if o s).limit ≡ s.limit
 told_limit None s = refl
 told_limit (Some (After items size)) s = refl
 told_limit (Some (Alone error)) s = refl
 
 -- a session is found by its serial still once all are told
 pub found_told : (tellings : Tellings) (n : ℕ) (live : List Session) (s : Session) → session_with_serial n live ≡ Some s
-    → session_with_serial n (map (told_by tellings) live) ≡ Some (told_by tellings s)
+    → session_with_serial n (map (tell_by tellings) live) ≡ Some (tell_by tellings s)
 found_told tellings n [] s e = cc
 found_told tellings n (x ∷ live) s e =
-    let same : ((told_by tellings x).serial == n) ≡ (x.serial == n)
+    let same : ((tell_by tellings x).serial == n) ≡ (x.serial == n)
     = ap (λ k. k == n) (told_serial (get nat_cmp tellings x.serial) x) in
     elim (cases_Bool (x.serial == n)) [
       | inl hit ↦
           let it : Some x ≡ Some s = rw hit at e in
           let is : x ≡ s = cc in
-          rw (same, hit) (ap (λ y. Some (told_by tellings y)) is)
+          rw (same, hit) (ap (λ y. Some (tell_by tellings y)) is)
       | inr miss ↦ rw (same, miss) (found_told tellings n live s (rw miss at e))
     ]
 
@@ -56,7 +56,7 @@ pub same_kept : (P Q : Standing → Type 0) (R : ℕ → Standing → Standing �
 same_kept P Q R f gone old new r k = λ i y at flag.
     let x = something_at new old i y (sym r.long) at in f i x.0 y (r.at i x.0 y x.1 at) (k i x.0 x.1 flag)
 
-pub map_kept : {X Y : Type 0} (f : X → Y) (gone : List Bool) (xs : List X) → map f (kept_of gone xs) ≡ kept_of gone (map f xs)
+pub map_kept : {X Y : Type 0} (f : X → Y) (gone : List Bool) (xs : List X) → map f (kept_items gone xs) ≡ kept_items gone (map f xs)
 map_kept f [] xs = refl
 map_kept f (g ∷ gone) [] = refl
 map_kept f (true ∷ gone) (x ∷ xs) = map_kept f gone xs

@@ -2,7 +2,7 @@
 ghost use Rattle.std.specs.Prelude.{◌≡◌, length};
 ghost use Rattle.std.specs.BTreeMap.{get};
 ghost use Rattle.std.specs.Ordering.{nat_cmp};
-ghost use Rattle.ifmap_tellings.specs.Tellings.{gone_after, gone_alone, is_alone};
+ghost use Rattle.ifmap_tellings.specs.Tellings.{flags_since, flags_of_alone, is_alone};
 
 use crate::tellings::Telling;
 use ifmap_standing::{News, Standing};
@@ -11,7 +11,7 @@ use std::collections::BTreeMap;
 // Subscriptions whose results are too big now are gone.
 pub(crate) fn mark_too_big(news: &[News], gone: &mut Vec<bool>)
     requires { length gone.old.items ≡ length news.now }
-    ensures { gone.new.items ≡ gone_after gone.old.items news.now }
+    ensures { gone.new.items ≡ flags_since gone.old.items news.now }
 {
     for at in 0..news.len() {
         if news[at].is_too_big {
@@ -27,7 +27,7 @@ pub(crate) fn mark_alone(
     gone: &mut Vec<bool>,
 )
     requires { length gone.old.items ≡ length standing.now }
-    ensures { gone.new.items ≡ gone_alone tellings.now gone.old.items standing.now }
+    ensures { gone.new.items ≡ flags_of_alone tellings.now gone.old.items standing.now }
 {
     for at in 0..standing.len() {
         if is_alone(tellings, standing[at].serial) {

@@ -5,7 +5,7 @@ ghost use Rattle.std.specs.BTreeMap.{get};
 ghost use Rattle.std.specs.List.{AllByRecursion};
 ghost use Rattle.std.specs.Ordering.{nat_cmp};
 ghost use Rattle.ifmap_tellings.specs.declared.tellings.Telling.{Telling};
-ghost use Rattle.ifmap_tellings.specs.Tellings.{AreUntoldWithinLimits, AreWide, CanTell, EachTelling, HasSameSessions, IsSized, IsWide, count_where, is_alone, told_by, told_where};
+ghost use Rattle.ifmap_tellings.specs.Tellings.{AreUntoldWithinLimits, AreWide, CanTell, EachTelling, HasSameSessions, IsSized, IsWide, count_where, is_alone, tell_by, tell_if};
 ghost use Rattle.ifmap_ident.specs.declared.codes.Code.TheVariants.{PollResultsTooBig};
 ghost use Rattle.ifmap_lemmas.specs.Having.{Has};
 ghost use Rattle.ifmap_standing.specs.ifmap_machine.Telling.{is_overfull, limit_note, overflow_session};
@@ -38,12 +38,12 @@ pub(crate) fn overflow_all(
         → CanTell sessions.old n t) tellings.old }
     requires others { (s : Session) → Has sessions.old.live s
         → ((x : Standing) → Has standing.now x → x.serial ≢ s.serial)
-        → is_overfull (told_by tellings.old s) ≡ false }
-    ensures told { OnOk result (map (told_by tellings.new) sessions.old.live
-        ≡ map (λ s. overflow_session (told_by tellings.old s)) sessions.old.live) }
+        → is_overfull (tell_by tellings.old s) ≡ false }
+    ensures told { OnOk result (map (tell_by tellings.new) sessions.old.live
+        ≡ map (λ s. overflow_session (tell_by tellings.old s)) sessions.old.live) }
     ensures alone { OnOk result ((s : Session) → Has sessions.old.live s
         → is_alone (get nat_cmp tellings.new s.serial)
-        ≡ (is_alone (get nat_cmp tellings.old s.serial) || is_overfull (told_by tellings.old s))) }
+        ≡ (is_alone (get nat_cmp tellings.old s.serial) || is_overfull (tell_by tellings.old s))) }
     ensures keys { OnOk result ((n : ℕ) → is_some (get nat_cmp tellings.new n)
         ≡ is_some (get nat_cmp tellings.old n)) }
     ensures can_tell { OnOk result (EachTelling (CanTell sessions.new) tellings.new) }
@@ -71,11 +71,11 @@ fn overflow_one(
     requires within { AreUntoldWithinLimits tellings.old sessions.old.live }
     ensures told { OnOk result ((s : Session)
         → session_with_serial serial sessions.old.live ≡ Some s
-        → told_by tellings.new s ≡ overflow_session (told_by tellings.old s)) }
+        → tell_by tellings.new s ≡ overflow_session (tell_by tellings.old s)) }
     ensures alone { OnOk result ((s : Session)
         → session_with_serial serial sessions.old.live ≡ Some s
         → is_alone (get nat_cmp tellings.new s.serial)
-        ≡ (is_alone (get nat_cmp tellings.old s.serial) || is_overfull (told_by tellings.old s))) }
+        ≡ (is_alone (get nat_cmp tellings.old s.serial) || is_overfull (tell_by tellings.old s))) }
     ensures key { OnOk result (is_some (get nat_cmp tellings.new serial)
         ≡ is_some (get nat_cmp tellings.old serial)) }
     ensures others { OnOk result ((n : ℕ) → n ≢ serial
@@ -104,14 +104,14 @@ fn overflow_where(
         → EachTelling (λ n t. IsSized n t live) tellings.old
         → AreUntoldWithinLimits tellings.old live
         → session_with_serial serial live ≡ Some s → s.limit ≡ limit → IsWide limit
-        → told_where (get nat_cmp tellings.new serial) s
-        ≡ overflow_session (told_where (get nat_cmp tellings.old serial) s)) }
+        → tell_if (get nat_cmp tellings.new serial) s
+        ≡ overflow_session (tell_if (get nat_cmp tellings.old serial) s)) }
     ensures alone { OnOk result ((live : List Session) (s : Session)
         → EachTelling (λ n t. IsSized n t live) tellings.old
         → AreUntoldWithinLimits tellings.old live
         → session_with_serial serial live ≡ Some s → s.limit ≡ limit
         → is_alone (get nat_cmp tellings.new serial) ≡ (is_alone (get nat_cmp tellings.old serial)
-        || is_overfull (told_where (get nat_cmp tellings.old serial) s))) }
+        || is_overfull (tell_if (get nat_cmp tellings.old serial) s))) }
     ensures key { OnOk result (is_some (get nat_cmp tellings.new serial)
         ≡ is_some (get nat_cmp tellings.old serial)) }
     ensures others { OnOk result ((n : ℕ) → n ≢ serial
@@ -135,12 +135,12 @@ fn overflow_where(
 fn overflow(alloc: Global, limit: u32, telling: &mut Telling) -> Result<(), NoMemory>
     ensures told { OnOk result ((n : ℕ) (live : List Session) (s : Session)
         → IsSized n telling.old live → session_with_serial n live ≡ Some s → s.limit ≡ limit
-        → IsWide limit → told_where (Some telling.new) s
-        ≡ overflow_session (told_where (Some telling.old) s)) }
+        → IsWide limit → tell_if (Some telling.new) s
+        ≡ overflow_session (tell_if (Some telling.old) s)) }
     ensures alone { OnOk result ((n : ℕ) (live : List Session) (s : Session)
         → IsSized n telling.old live → session_with_serial n live ≡ Some s → s.limit ≡ limit
         → is_alone (Some telling.new)
-        ≡ (is_alone (Some telling.old) || is_overfull (told_where (Some telling.old) s))) }
+        ≡ (is_alone (Some telling.old) || is_overfull (tell_if (Some telling.old) s))) }
     ensures sized { OnOk result ((n : ℕ) (live : List Session) → IsSized n telling.old live
         → IsSized n telling.new live) }
 {

@@ -4,7 +4,7 @@ ghost use Rattle.std.specs.BTreeMap.{get};
 ghost use Rattle.std.specs.List.{AllByRecursion};
 ghost use Rattle.std.specs.Ordering.{nat_cmp};
 ghost use Rattle.ifmap_tellings.specs.declared.tellings.Telling.{Telling};
-ghost use Rattle.ifmap_tellings.specs.Tellings.{AddsTo, AreUntoldWithinLimits, EachTelling, IsSized, LeaveAlone, is_alone, queued_for};
+ghost use Rattle.ifmap_tellings.specs.Tellings.{AddsTo, AreUntoldWithinLimits, EachTelling, IsSized, LeaveAlone, is_alone, items_for};
 ghost use Rattle.ifmap_lemmas.specs.Having.{Has};
 ghost use Rattle.ifmap_standing.specs.ifmap_machine.Telling.{is_overfull};
 ghost use Rattle.ifmap_search.specs.Sizes.{poll_size, queue_size};
@@ -32,7 +32,7 @@ pub(crate) fn queue_all(
     requires within { AreUntoldWithinLimits tellings.old sessions.now.live }
     requires sized { EachTelling (λ n t. IsSized n t sessions.now.live) tellings.old }
     requires alone { LeaveAlone tellings.old standing.now news }
-    ensures added { OnOk result ((n : ℕ) → AddsTo (queued_for n standing.now news)
+    ensures added { OnOk result ((n : ℕ) → AddsTo (items_for n standing.now news)
         (get nat_cmp tellings.old n) (get nat_cmp tellings.new n)) }
     ensures others { OnOk result ((n : ℕ) → ((x : Standing) → Has standing.now x → x.serial ≢ n)
         → get nat_cmp tellings.new n ≡ get nat_cmp tellings.old n) }

@@ -7,7 +7,7 @@ ghost use Rattle.std.specs.List.{AllByRecursion};
 ghost use Rattle.std.specs.Ordering.{nat_cmp};
 ghost use Rattle.ifmap_tellings.specs.declared.tellings.Telling.{Telling};
 ghost use Rattle.ifmap_tellings.specs.declared.tellings.Telling.TheVariants as the_telling;
-ghost use Rattle.ifmap_tellings.specs.Tellings.{AloneAreBare, AreWide, CanTell, EachTelling, HasSameSessions, IsSized, SkipsGone, count_told, count_where, gone_after, gone_alone, is_alone, queued_for, told_by, told_where};
+ghost use Rattle.ifmap_tellings.specs.Tellings.{AloneAreBare, AreWide, CanTell, EachTelling, HasSameSessions, IsSized, SkipsGone, count_told, count_where, flags_since, flags_of_alone, is_alone, items_for, tell_by, tell_if};
 ghost use Rattle.ifmap_ident.specs.declared.codes.Code.TheVariants.{PollResultsTooBig};
 ghost use Rattle.ifmap_lemmas.specs.Having.{Has};
 ghost use Rattle.ifmap_standing.specs.ifmap_machine.Telling.{is_overfull, limit_note, overflow_session, tell_session};
@@ -74,26 +74,26 @@ pub fn queue_news(
     requires live { AllByRecursion (λ x. IsLive x.serial sessions.old.live) standing.now }
     requires wide { AreWide sessions.old.live }
     requires within { AllByRecursion (λ s. is_overfull s ≡ false)
-        (map (told_by pending.old.tellings) sessions.old.live) }
+        (map (tell_by pending.old.tellings) sessions.old.live) }
     requires can_tell { EachTelling (CanTell sessions.old) pending.old.tellings }
     requires sized { EachTelling (λ n t. IsSized n t sessions.old.live) pending.old.tellings }
     requires alone { AloneAreBare pending.old.tellings pending.old.gone.items standing.now }
     requires skipped { SkipsGone pending.old.gone.items news }
-    ensures told { OnOk result (map (told_by pending.new.tellings) sessions.old.live
-        ≡ map (λ s. overflow_session (tell_session (queued_for s.serial standing.now news)
-        (told_by pending.old.tellings s))) sessions.old.live) }
-    ensures gone { OnOk result (pending.new.gone.items ≡ gone_alone pending.new.tellings
-        (gone_after pending.old.gone.items news) standing.now) }
+    ensures told { OnOk result (map (tell_by pending.new.tellings) sessions.old.live
+        ≡ map (λ s. overflow_session (tell_session (items_for s.serial standing.now news)
+        (tell_by pending.old.tellings s))) sessions.old.live) }
+    ensures gone { OnOk result (pending.new.gone.items ≡ flags_of_alone pending.new.tellings
+        (flags_since pending.old.gone.items news) standing.now) }
     // Who would have a queue greater than its limit is told one error in place of all, and nobody
     // else who was not told one before.
     ensures overrun { OnOk result ((s : Session) → Has sessions.old.live s
         → is_alone (get nat_cmp pending.new.tellings s.serial)
         ≡ (is_alone (get nat_cmp pending.old.tellings s.serial)
-        || is_overfull (tell_session (queued_for s.serial standing.now news)
-        (told_by pending.old.tellings s)))) }
+        || is_overfull (tell_session (items_for s.serial standing.now news)
+        (tell_by pending.old.tellings s)))) }
     ensures brought { OnOk result ((n : ℕ) → IsSome (get nat_cmp pending.new.tellings n)
         → get nat_cmp pending.old.tellings n ≡ None
-        → queued_for n standing.now news ≢ []) }
+        → items_for n standing.now news ≢ []) }
     ensures can_tell { OnOk result (EachTelling (CanTell sessions.new) pending.new.tellings) }
     ensures sized { OnOk result (EachTelling (λ n t. IsSized n t sessions.new.live)
         pending.new.tellings) }
@@ -147,7 +147,7 @@ pub fn tell_alone(
 /// Queues what sessions are to be told. It takes no memory.
 pub fn tell_sessions(sessions: &mut Sessions, tellings: BTreeMap<u64, Telling>)
     requires { EachTelling (CanTell sessions.old) tellings }
-    ensures live { sessions.new.live ≡ map (told_by tellings) sessions.old.live }
+    ensures live { sessions.new.live ≡ map (tell_by tellings) sessions.old.live }
     ensures counter { sessions.new.counter ≡ sessions.old.counter }
     ensures spare { (n : ℕ) → spare_of n sessions.old.spare
         ≤ spare_of n sessions.new.spare + count_where (get nat_cmp tellings n) }
@@ -162,7 +162,7 @@ pub fn tell_sessions(sessions: &mut Sessions, tellings: BTreeMap<u64, Telling>)
 // Queues what one session is to be told. It takes no memory.
 fn tell_one(sessions: &mut Sessions, serial: u64, telling: Telling)
     requires { CanTell sessions.old serial telling }
-    ensures changes { Changes serial (told_where (Some telling)) sessions.old sessions.new }
+    ensures changes { Changes serial (tell_if (Some telling)) sessions.old sessions.new }
     ensures spare { spare_of serial sessions.old.spare
         ≤ spare_of serial sessions.new.spare + count_told telling }
 {

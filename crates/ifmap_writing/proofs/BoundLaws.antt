@@ -32,12 +32,12 @@ use Rattle.ifmap_meta.specs.Stamps.{content_of}
 use Rattle.ifmap_requests.specs.ifmap_forms.Checks.{Check, check_if, check_then, fail, need, need_some, pass}
 use Rattle.ifmap_requests.specs.ifmap_forms.Items.{from_list, is_list, item_of, list_if_there, list_check}
 use Rattle.ifmap_requests.specs.ifmap_forms.Scopes.{Scopes, scopes_below}
-use Rattle.ifmap_requests.specs.ifmap_forms.Tables.{Both, Form, Part, AttributeTable, table_with, both, each_element, form_check, form_or, no_attributes, parts_in}
+use Rattle.ifmap_requests.specs.ifmap_forms.Tables.{Both, ElementForm, Part, AttributeTable, table_with, both, each_element, form_check, form_or, no_attributes, parts_in}
 use Rattle.ifmap_requests.specs.ifmap_forms.Tables.{element_parts}
 use Rattle.ifmap_requests.specs.ifmap_forms.Values.{greatest_size, longest_name, usual_size}
 use Rattle.ifmap_requests.specs.ifmap_forms.Values.{Field, depth_field, field_check, name_field, number_of, read_depth}
 use Rattle.ifmap_requests.specs.ifmap_forms.Values.{read_name, read_size, size_field}
-use Rattle.ifmap_requests.specs.declared.publishing.PublishOp.{PublishOp}
+use Rattle.ifmap_requests.specs.declared.publish_ops.PublishOp.{PublishOp}
 use Rattle.ifmap_requests.specs.declared.requests.Request.{Request}
 use Rattle.ifmap_requests.specs.declared.requests.SubscribeOp.{SubscribeOp}
 use Rattle.ifmap_requests.specs.Means.{Means, scopes_from}
@@ -81,7 +81,7 @@ module _ {X Y : Type 0} where
   some_found code None check y h = let wrong : good y ≡ bad code = h in cc
   some_found code (Some x) check y h = (x, refl, h)
 
-module _ {X A C : Type 0} (form : Form A C) (make : A → C → X) (scopes : Scopes) (e : Element) (x : X) where
+module _ {X A C : Type 0} (form : ElementForm A C) (make : A → C → X) (scopes : Scopes) (e : Element) (x : X) where
   -- what a form found was made of
   pub record Parts : Type 0 where
     pub first : A
@@ -294,7 +294,7 @@ subscribe_bounded scopes e op h =
 
 module _ (scopes : Scopes) (e : Element) (r : Request) where
   -- a form whose requests have no bounds, or another
-  free : {A C : Type 0} (form : Form A C) (make : A → C → Request) (other : Check Request) → ((a : A) (c : C) → IsBounded (make a c))
+  free : {A C : Type 0} (form : ElementForm A C) (make : A → C → Request) (other : Check Request) → ((a : A) (c : C) → IsBounded (make a c))
       → (other (good r) → IsBounded r) → form_or form make scopes e other (good r) → IsBounded r
   free form make other own later h = elim (either_found (is_name e.name form.name) (form_check form make scopes e) other r h) [
     | inl found ↦ let p = form_parts form make scopes e r found in subst IsBounded (sym p.made) (own p.first p.others)

@@ -26,8 +26,8 @@ use Rattle.ifmap_ident.specs.Identifiers.{identifier_element}
 use Rattle.ifmap_meta.specs.declared.metadata.Metadata.{Metadata}
 use Rattle.ifmap_meta.specs.Whole.{IsMadeOf, IsMetadata}
 use Rattle.ifmap_search.specs.declared.searches.Search as search
-use Rattle.ifmap_requests.specs.declared.publishing.PublishOp.{PublishOp}
-use Rattle.ifmap_requests.specs.declared.publishing.PublishOp.TheVariants as publish
+use Rattle.ifmap_requests.specs.declared.publish_ops.PublishOp.{PublishOp}
+use Rattle.ifmap_requests.specs.declared.publish_ops.PublishOp.TheVariants as publish
 use Rattle.ifmap_requests.specs.declared.requests.Request.{Request}
 use Rattle.ifmap_requests.specs.declared.requests.Request.TheVariants.{NewSession, RenewSession, EndSession, Publish, Search, Subscribe}
 use Rattle.ifmap_requests.specs.declared.requests.Request.TheVariants.{Poll, PurgePublisher}

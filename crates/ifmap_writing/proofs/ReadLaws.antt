@@ -40,8 +40,8 @@ use Rattle.ifmap_requests.specs.ifmap_forms.Tables.{Part, both, each_element, li
 use Rattle.ifmap_requests.specs.ifmap_forms.Values.{greatest_limit, least_limit}
 use Rattle.ifmap_requests.specs.ifmap_forms.Values.{Field, depth_field, field_check, filter_field, kinds_field, lifetime_field, limit_field, name_field}
 use Rattle.ifmap_requests.specs.ifmap_forms.Values.{read_filter, size_field}
-use Rattle.ifmap_requests.specs.declared.publishing.PublishOp.{PublishOp}
-use Rattle.ifmap_requests.specs.declared.publishing.PublishOp.TheVariants as publish
+use Rattle.ifmap_requests.specs.declared.publish_ops.PublishOp.{PublishOp}
+use Rattle.ifmap_requests.specs.declared.publish_ops.PublishOp.TheVariants as publish
 use Rattle.ifmap_requests.specs.declared.requests.Request.{Request}
 use Rattle.ifmap_requests.specs.declared.requests.Request.TheVariants.{NewSession, RenewSession, EndSession, Publish, Search, Subscribe}
 use Rattle.ifmap_requests.specs.declared.requests.Request.TheVariants.{Poll, PurgePublisher}
@@ -56,7 +56,7 @@ use Rattle.ifmap_requests.specs.RequestForms.{request_check, search_attributes, 
 use Rattle.ifmap_requests.specs.RequestForms.{subscribe_of, subscribe_op_check, subscription_form, subscription_from_form, update_form, update_from_form}
 use Rattle.ifmap_requests.specs.Fit.{IsFitLimit, IsFitOp, IsFitRequest, IsFitSubscribeOp}
 use Rattle.ifmap_requests.specs.ifmap_forms.IdentifierLaws.{identifiers_back, item_of_identifiers}
-use Rattle.ifmap_writing.specs.Attributes.{AttributeRow, attributes_of, filter_rows, filter_value, kinds_value, lifetime_rows, lifetime_value}
+use Rattle.ifmap_writing.specs.Attributes.{NamedValue, attributes_of, filter_rows, filter_value, kinds_value, lifetime_rows, lifetime_value}
 use Rattle.ifmap_writing.specs.Attributes.{limit_rows, limit_value, name_rows, number_value, purge_rows, search_rows, session_rows}
 use Rattle.ifmap_writing.specs.Attributes.{subscription_rows}
 use Rattle.ifmap_writing.specs.Bounds.{IsBounded, IsBoundedSearch, IsBoundedSubscribe}
@@ -111,11 +111,11 @@ search_values s = both s.match_links (both s.max_depth (both s.max_size (both s.
 -- ---- (1) attributes
 
 -- an element of a name whose attributes are rows
-abbrev with_rows : Name → List AttributeRow → List Child → Element
+abbrev with_rows : Name → List NamedValue → List Child → Element
 with_rows name rows children = record { name = name; attributes = attributes_of rows; children = children }
 
 -- the attribute is read back where its row is
-field_back : {X : Type 0} (field : Field X) (scope : Scope) (name : Name) (rows : List AttributeRow) (children : List Child)
+field_back : {X : Type 0} (field : Field X) (scope : Scope) (name : Name) (rows : List NamedValue) (children : List Child)
     (value : Option (List ℕ)) (x : X) → row_value field.local rows ≡ value → field.reads scope value (good x)
     → field_check field scope (with_rows name rows children) (good x)
 field_back field scope name rows children value x is f =
@@ -215,7 +215,7 @@ module _ (canon : (i : Identifier) → IsIdentifier i → IsCanon (identifier_el
   -- ---- (4) searches
 
   -- the attributes of a search, where its rows are among these
-  search_back : (spaces : List (List ℕ)) (scope : Scope) (name : Name) (rows : List AttributeRow) (children : List Child)
+  search_back : (spaces : List (List ℕ)) (scope : Scope) (name : Name) (rows : List NamedValue) (children : List Child)
       (s : search.Search)
       → AreReadIn spaces s scope → IsBoundedSearch s
       → row_value (codes "match-links") rows ≡ filter_value spaces s.match_links
@@ -291,7 +291,7 @@ module _ (canon : (i : Identifier) → IsIdentifier i → IsCanon (identifier_el
     subscribe_back : (scopes : Scopes) (op : SubscribeOp) → IsFitSubscribeOp op → IsBoundedSubscribe op
         → IsReadSubscribe spaces op (scopes []) → subscribe_op_check scopes (subscribe_element spaces op) (good op)
     subscribe_back scopes (subscribe.Update name s) f within w =
-        let rows : List AttributeRow = subscription_rows spaces name s in
+        let rows : List NamedValue = subscription_rows spaces name s in
         let children : List Child = identifier_children (s.start ∷ []) in
         let e : Element = subscribe_element spaces (subscribe.Update name s) in
         found_form subscription_form subscription_from_form scopes e (both name (search_values s))
@@ -313,7 +313,7 @@ module _ (canon : (i : Identifier) → IsIdentifier i → IsCanon (identifier_el
     -- ---- (6) requests
 
     -- the id of a session, read from rows that have it
-    session_back : (scope : Scope) (name : Name) (rows : List AttributeRow) (children : List Child) (session : List ℕ)
+    session_back : (scope : Scope) (name : Name) (rows : List NamedValue) (children : List Child) (session : List ℕ)
         → row_value (codes "session-id") rows ≡ Some session
         → field_check session_field scope (with_rows name rows children) (good session)
     session_back scope name rows children session is =
@@ -387,7 +387,7 @@ module _ (canon : (i : Identifier) → IsIdentifier i → IsCanon (identifier_el
         (only_session session e.name e.children) (publishes_back scopes ops f.1 w)
     request_back scopes (Search session s) f within w =
         let e : Element = element_in spaces (Search session s) in
-        let rows : List AttributeRow = search_rows spaces session s in
+        let rows : List NamedValue = search_rows spaces session s in
         found_form search_form search_of scopes e (both session (search_values s))
         (found_beside session_field search_attributes (scopes []) e session (search_values s)
         (session_back (scopes []) e.name rows e.children session refl)
@@ -404,7 +404,7 @@ module _ (canon : (i : Identifier) → IsIdentifier i → IsCanon (identifier_el
         (only_session session e.name []) refl
     request_back scopes (PurgePublisher session publisher) f within w =
         let e : Element = element_in spaces (PurgePublisher session publisher) in
-        let rows : List AttributeRow = purge_rows session publisher in
+        let rows : List NamedValue = purge_rows session publisher in
         found_form purge_form purge_of scopes e (both session (both publisher tt)) (
           session,
           session_back (scopes []) e.name rows [] session refl,

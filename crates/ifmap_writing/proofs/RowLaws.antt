@@ -25,7 +25,7 @@ use Rattle.ifmap_elem.specs.declared.elements.Name.{Name}
 use Rattle.ifmap_elem.specs.laws.PrintedTags.{ascii_part}
 use Rattle.ifmap_elem.specs.laws.FitLaws.{no_namespace}
 use Rattle.ifmap_ident.specs.Parts.{is_known}
-use Rattle.ifmap_writing.specs.Attributes.{AttributeRow, attributes_of, written_attribute}
+use Rattle.ifmap_writing.specs.Attributes.{NamedValue, attributes_of, written_attribute}
 
 -- ---- (1) values
 
@@ -38,7 +38,7 @@ or_none None = refl
 or_none (Some value) = refl
 
 -- the value of the first row of that name which has one
-abbrev pub row_value : List ℕ → List AttributeRow → Option (List ℕ)
+abbrev pub row_value : List ℕ → List NamedValue → Option (List ℕ)
 row_value local [] = None
 row_value local (r ∷ rows) = if bytes_eq r.local local then or_else r.value (row_value local rows) else row_value local rows
 
@@ -51,7 +51,7 @@ one_found : (local l : List ℕ) (o : Option (List ℕ)) (more : List Attribute)
 one_found local l None more = elim (cases_Bool (bytes_eq l local)) [ inl e ↦ rw e refl | inr e ↦ rw e refl ]
 one_found local l (Some value) more = elim (cases_Bool (bytes_eq l local)) [ inl e ↦ rw e refl | inr e ↦ rw e refl ]
 
-pub value_found : (local : List ℕ) (rows : List AttributeRow) → found local (attributes_of rows) ≡ row_value local rows
+pub value_found : (local : List ℕ) (rows : List NamedValue) → found local (attributes_of rows) ≡ row_value local rows
 value_found local [] = refl
 value_found local (r ∷ rows) =
     one_found local r.local r.value (attributes_of rows)
@@ -67,10 +67,10 @@ module _ (locals : List (List ℕ)) where
       and_from (list_any (bytes_eq l) locals) (list_all (is_known locals) more) known others
 
   -- each row has one of these names
-  abbrev pub rows_known : List AttributeRow → Bool
+  abbrev pub rows_known : List NamedValue → Bool
   rows_known rows = list_all (λ r. list_any (bytes_eq r.local) locals) rows
 
-  pub only_rows : (rows : List AttributeRow) → rows_known rows ≡ true → list_all (is_known locals) (attributes_of rows) ≡ true
+  pub only_rows : (rows : List NamedValue) → rows_known rows ≡ true → list_all (is_known locals) (attributes_of rows) ≡ true
   only_rows [] h = refl
   only_rows (r ∷ rows) h =
       let parts = and_parts (list_any (bytes_eq r.local) locals) (rows_known rows) h in
@@ -78,11 +78,11 @@ module _ (locals : List (List ℕ)) where
 
 -- ---- (3) order
 
-abbrev comes_before : List ℕ → AttributeRow → Bool
+abbrev comes_before : List ℕ → NamedValue → Bool
 comes_before l r = is_lt (slice_cmp nat_cmp l r.local)
 
 -- each name comes before those after it
-abbrev pub rises : List AttributeRow → Bool
+abbrev pub rises : List NamedValue → Bool
 rises [] = true
 rises (r ∷ rows) = list_all (comes_before r.local) rows && rises rows
 
@@ -100,20 +100,20 @@ module _ (l v : List ℕ) where
       ap (λ b. cond b (bare_attribute s w ∷ insert attribute_order (bare_attribute l v) more)
       (bare_attribute l v ∷ (bare_attribute s w ∷ more))) (not_after l s v w h)
 
-  first_placed : (rows : List AttributeRow) → list_all (comes_before l) rows ≡ true
+  first_placed : (rows : List NamedValue) → list_all (comes_before l) rows ≡ true
       → insert attribute_order (bare_attribute l v) (attributes_of rows) ≡ bare_attribute l v ∷ attributes_of rows
   first_placed [] h = refl
   first_placed (r ∷ rows) h =
       let parts = and_parts (comes_before l r) (list_all (comes_before l) rows) h in
       placed_one r.local r.value (attributes_of rows) parts.0 (first_placed rows parts.1)
 
-sorted_one : (l : List ℕ) (o : Option (List ℕ)) (rows : List AttributeRow) → list_all (comes_before l) rows ≡ true
+sorted_one : (l : List ℕ) (o : Option (List ℕ)) (rows : List NamedValue) → list_all (comes_before l) rows ≡ true
     → sort_attributes (attributes_of rows) ≡ attributes_of rows
     → sort_attributes (written_attribute l o ++ attributes_of rows) ≡ written_attribute l o ++ attributes_of rows
 sorted_one l None rows h sorted = sorted
 sorted_one l (Some v) rows h sorted = ap (insert attribute_order (bare_attribute l v)) sorted ∙ first_placed l v rows h
 
-pub rows_sorted : (rows : List AttributeRow) → rises rows ≡ true → sort_attributes (attributes_of rows) ≡ attributes_of rows
+pub rows_sorted : (rows : List NamedValue) → rises rows ≡ true → sort_attributes (attributes_of rows) ≡ attributes_of rows
 rows_sorted [] h = refl
 rows_sorted (r ∷ rows) h =
     let parts = and_parts (list_all (comes_before r.local) rows) (rises rows) h in
@@ -132,7 +132,7 @@ apart_one : (l s : List ℕ) (o : Option (List ℕ)) (more : List Attribute) →
 apart_one l s None more h others = others
 apart_one l s (Some w) more h others = (apart_names l s h, others)
 
-apart_rows : (l : List ℕ) (rows : List AttributeRow) → list_all (comes_before l) rows ≡ true
+apart_rows : (l : List ℕ) (rows : List NamedValue) → list_all (comes_before l) rows ≡ true
     → AllByRecursion (λ n. bare_name l ≢ n) (map name_of (attributes_of rows))
 apart_rows l [] h = tt
 apart_rows l (r ∷ rows) h =
@@ -144,7 +144,7 @@ differ_one : (l : List ℕ) (o : Option (List ℕ)) (more : List Attribute) → 
 differ_one l None more other d = d
 differ_one l (Some v) more other d = (other, d)
 
-pub rows_differ : (rows : List AttributeRow) → rises rows ≡ true → AllDiffer (map name_of (attributes_of rows))
+pub rows_differ : (rows : List NamedValue) → rises rows ≡ true → AllDiffer (map name_of (attributes_of rows))
 rows_differ [] h = tt
 rows_differ (r ∷ rows) h =
     let parts = and_parts (list_all (comes_before r.local) rows) (rises rows) h in
@@ -169,10 +169,10 @@ plain_fits (c ∷ cs) h =
       not_from_Decides _ (bytes_eq-Decides (c ∷ cs) (codes "xmlns")) (not-true (bytes_eq (c ∷ cs) (codes "xmlns")) plain.1),
     )
 
-abbrev pub HasFitValue : AttributeRow → Type 0
+abbrev pub HasFitValue : NamedValue → Type 0
 HasFitValue r = IfSome r.value IsCharacters
 
-abbrev pub rows_plain : List AttributeRow → Bool
+abbrev pub rows_plain : List NamedValue → Bool
 rows_plain rows = list_all (λ r. is_plain_local r.local) rows
 
 fit_one : (l : List ℕ) (o : Option (List ℕ)) (more : List Attribute) → is_plain_local l ≡ true → IfSome o IsCharacters
@@ -188,7 +188,7 @@ fit_one l (Some v) more plain value others =
       others,
     )
 
-pub rows_fit : (rows : List AttributeRow) → rows_plain rows ≡ true → AllByRecursion HasFitValue rows
+pub rows_fit : (rows : List NamedValue) → rows_plain rows ≡ true → AllByRecursion HasFitValue rows
     → AllByRecursion IsFitAttribute (attributes_of rows)
 rows_fit [] plain values = tt
 rows_fit (r ∷ rows) plain values =

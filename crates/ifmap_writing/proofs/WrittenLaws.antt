@@ -38,8 +38,8 @@ use Rattle.ifmap_ident.specs.Kinds.{kind_name}
 use Rattle.ifmap_meta.specs.declared.metadata.Metadata.{Metadata}
 use Rattle.ifmap_meta.specs.Whole.{IsMetadata}
 use Rattle.ifmap_search.specs.declared.searches.Search as search
-use Rattle.ifmap_requests.specs.declared.publishing.PublishOp.{PublishOp}
-use Rattle.ifmap_requests.specs.declared.publishing.PublishOp.TheVariants as publish
+use Rattle.ifmap_requests.specs.declared.publish_ops.PublishOp.{PublishOp}
+use Rattle.ifmap_requests.specs.declared.publish_ops.PublishOp.TheVariants as publish
 use Rattle.ifmap_requests.specs.declared.requests.Request.{Request}
 use Rattle.ifmap_requests.specs.declared.requests.Request.TheVariants.{NewSession, RenewSession, EndSession, Publish, Search, Subscribe}
 use Rattle.ifmap_requests.specs.declared.requests.Request.TheVariants.{Poll, PurgePublisher}
@@ -48,7 +48,7 @@ use Rattle.ifmap_requests.specs.declared.requests.SubscribeOp.TheVariants as sub
 use Rattle.ifmap_requests.specs.ifmap_envelopes.Spaces.{envelope_space, ifmap_space}
 use Rattle.ifmap_requests.specs.Fit.{IsFitOp, IsFitRequest, IsFitSearch, IsFitSubscribeOp, MayBeFitFilter}
 use Rattle.ifmap_requests.specs.FitFilters.{IsFitFilter}
-use Rattle.ifmap_writing.specs.Attributes.{AttributeRow, filter_rows, filter_value, kinds_value, lifetime_rows, lifetime_value, limit_rows}
+use Rattle.ifmap_writing.specs.Attributes.{NamedValue, filter_rows, filter_value, kinds_value, lifetime_rows, lifetime_value, limit_rows}
 use Rattle.ifmap_writing.specs.Attributes.{limit_value, name_rows, purge_rows, search_rows, session_rows, subscription_rows}
 use Rattle.ifmap_writing.specs.Bounds.{IsBounded, IsBoundedMetadata, IsBoundedPublish}
 use Rattle.ifmap_writing.specs.RequestElements.{asking_element, element_in, list_element, part_element}
@@ -195,7 +195,7 @@ module _ (fits : (i : Identifier) → IsIdentifier i → IsFit (identifier_eleme
   -- ---- (5) operations
 
   -- an operation that publishes
-  carrier_sound : (local : List ℕ) (rows : List AttributeRow) (item : Item) (elements : List Metadata) → is_plain_local local ≡ true
+  carrier_sound : (local : List ℕ) (rows : List NamedValue) (item : Item) (elements : List Metadata) → is_plain_local local ≡ true
       → AreFitRows rows → IsCanonItem item → AllByRecursion IsMetadata elements → AllByRecursion IsBoundedMetadata elements
       → IsGood 61 (part_element local rows (published_children item elements))
   carrier_sound local rows item elements plain r i f within =
@@ -234,7 +234,7 @@ module _ (fits : (i : Identifier) → IsIdentifier i → IsFit (identifier_eleme
 
   -- ---- (6) requests
 
-  asking_sound : (local : List ℕ) (rows : List AttributeRow) (es : List Element) → is_plain_local local ≡ true → AreFitRows rows
+  asking_sound : (local : List ℕ) (rows : List NamedValue) (es : List Element) → is_plain_local local ≡ true → AreFitRows rows
       → AllByRecursion (IsGood 61) es → IsGood 62 (asking_element local rows (as_children es))
   asking_sound local rows es plain r f =
       sound_whole 61 (record { space = ifmap_space; local = local }) rows es (asking_fits local plain) r f

@@ -11,20 +11,20 @@ use Rattle.ifmap_ident.specs.declared.items.Item.{Item}
 use Rattle.ifmap_ident.specs.Identifiers.{identifier_element}
 use Rattle.ifmap_ident.specs.Items.{identifiers_of}
 use Rattle.ifmap_meta.specs.declared.metadata.Metadata.{Metadata}
-use Rattle.ifmap_requests.specs.declared.publishing.PublishOp.{PublishOp}
-use Rattle.ifmap_requests.specs.declared.publishing.PublishOp.TheVariants as publish
+use Rattle.ifmap_requests.specs.declared.publish_ops.PublishOp.{PublishOp}
+use Rattle.ifmap_requests.specs.declared.publish_ops.PublishOp.TheVariants as publish
 use Rattle.ifmap_requests.specs.declared.requests.Request.{Request}
 use Rattle.ifmap_requests.specs.declared.requests.Request.TheVariants.{NewSession, RenewSession, EndSession, Publish, Search, Subscribe}
 use Rattle.ifmap_requests.specs.declared.requests.Request.TheVariants.{Poll, PurgePublisher}
 use Rattle.ifmap_requests.specs.declared.requests.SubscribeOp.{SubscribeOp}
 use Rattle.ifmap_requests.specs.declared.requests.SubscribeOp.TheVariants as subscribe
 use Rattle.ifmap_requests.specs.ifmap_envelopes.Spaces.{ifmap_space}
-use Rattle.ifmap_writing.specs.Attributes.{AttributeRow, attributes_of, filter_rows, lifetime_rows, limit_rows, name_rows, purge_rows, search_rows}
+use Rattle.ifmap_writing.specs.Attributes.{NamedValue, attributes_of, filter_rows, lifetime_rows, limit_rows, name_rows, purge_rows, search_rows}
 use Rattle.ifmap_writing.specs.Attributes.{session_rows, subscription_rows}
 use Rattle.ifmap_writing.specs.RequestSpaces.{request_spaces}
 
 -- an element in no namespace with these attributes and children
-abbrev pub part_element : List ℕ → List AttributeRow → List Child → Element
+abbrev pub part_element : List ℕ → List NamedValue → List Child → Element
 part_element local rows children = bare_element local (attributes_of rows) children
 
 -- ---- what operations carry
@@ -60,7 +60,7 @@ subscribe_element spaces (subscribe.Delete name) = part_element (codes "delete")
 -- ---- requests
 
 -- an element in the namespace of requests
-abbrev pub asking_element : List ℕ → List AttributeRow → List Child → Element
+abbrev pub asking_element : List ℕ → List NamedValue → List Child → Element
 asking_element local rows children =
     record { name = record { space = ifmap_space; local = local }; attributes = attributes_of rows; children = children }
 

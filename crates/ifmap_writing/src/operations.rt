@@ -1,7 +1,7 @@
 //! The operations of a publish and of a subscribe as elements.
 ghost use Rattle.std.specs.Prelude.{◌≡◌, [], codes, map, IfOk};
 ghost use Rattle.std.specs.List.{AllByRecursion};
-ghost use Rattle.ifmap_requests.specs.declared.publishing.PublishOp.TheVariants as publish;
+ghost use Rattle.ifmap_requests.specs.declared.publish_ops.PublishOp.TheVariants as publish;
 ghost use Rattle.ifmap_requests.specs.declared.requests.SubscribeOp.TheVariants as subscribe;
 ghost use Rattle.ifmap_writing.specs.Attributes.{lifetime_rows, name_rows};
 ghost use Rattle.ifmap_elem.specs.Building.{as_children};

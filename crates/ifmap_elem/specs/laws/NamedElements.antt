@@ -17,7 +17,7 @@ use Rattle.ifmap_elem.specs.declared.readings.Reading.{Reading}
 use Rattle.ifmap_elem.specs.declared.tokens.Tag.{Tag}
 use Rattle.ifmap_elem.specs.declared.tokens.Token.{Token}
 use Rattle.ifmap_elem.specs.Document as piece
-use Rattle.ifmap_elem.specs.Document.{Pieces, Nothing, chain_pieces, Item, Inner, Run, is_inner, put_before, join_runs, is_child, children_among, child_of, IsElement, AreItems, IsMargin}
+use Rattle.ifmap_elem.specs.Document.{Pieces, Nothing, chain_pieces, ContentItem, Inner, Run, is_inner, put_before, join_runs, is_child, children_among, child_of, IsElement, AreItems, IsMargin}
 use Rattle.ifmap_elem.specs.InScope.{IsElementPiece, IsChildAt, LeadsTo, NamesElementAt, ResolvedIn, NamedHaveScopes, ScopesAreNamed}
 use Rattle.ifmap_elem.specs.Scopes.{Scope, root_scope, scope_within, NamesElement}
 use Rattle.ifmap_elem.specs.Spells.{Spells}
@@ -29,17 +29,17 @@ use Rattle.ifmap_elem.specs.laws.Roots.{BeginsWithRoot, root_begins}
 
 -- from a child element to its item
 
-pub record IsElementAt (items : List Item) (index : ℕ) (e : Element) : Type 0 where
-  pub before : List Item
+pub record IsElementAt (items : List ContentItem) (index : ℕ) (e : Element) : Type 0 where
+  pub before : List ContentItem
   pub declared : List Declared
-  pub after : List Item
+  pub after : List ContentItem
   pub items_are : items ≡ before ++ (Inner e declared ∷ after)
   pub index_is : index ≡ length before
 
 pub no_text : (text : List ℕ) (e : Element) → the.Text text ≡ the.Element e → ⊥
 no_text text e h = let wrong : Child-F.Text text ≡ Child-F.Element e = sym (out_text text) ∙ ap out-Child h ∙ out_element e in cc
 
-item_of : (items : List Item) (index : ℕ) (e : Element) → slice_get (map child_of items) index ≡ Some (the.Element e)
+item_of : (items : List ContentItem) (index : ℕ) (e : Element) → slice_get (map child_of items) index ≡ Some (the.Element e)
     → IsElementAt items index e
 item_of [] index e h = let wrong : None ≡ Some (the.Element e) = h in cc
 item_of (Inner f d ∷ items) zero e h =
@@ -58,33 +58,33 @@ item_of (item ∷ items) (suc index) e h =
       before = item ∷ rest.before;
       declared = rest.declared;
       after = rest.after;
-      items_are = ap (λ (is : List Item). item ∷ is) rest.items_are;
+      items_are = ap (λ (is : List ContentItem). item ∷ is) rest.items_are;
       index_is = ap suc rest.index_is;
     }
 
-element_at : (before : List Item) (e : Element) (d : List Declared) (after : List Item)
+element_at : (before : List ContentItem) (e : Element) (d : List Declared) (after : List ContentItem)
     → slice_get (map child_of (before ++ (Inner e d ∷ after))) (length before) ≡ Some (the.Element e)
 element_at [] e d after = refl
 element_at (item ∷ before) e d after = element_at before e d after
 
 -- texts alone
 
-abbrev AreRuns : List Item → Type 0
+abbrev AreRuns : List ContentItem → Type 0
 AreRuns [] = Unit {0}
 AreRuns (Inner e d ∷ items) = ⊥
 AreRuns (Run text ∷ items) = AreRuns items
 
-runs_put : (text : List ℕ) (items : List Item) → AreRuns items → AreRuns (put_before text items)
+runs_put : (text : List ℕ) (items : List ContentItem) → AreRuns items → AreRuns (put_before text items)
 runs_put text [] h = tt
 runs_put text (Inner e d ∷ items) h = absurd h
 runs_put text (Run more ∷ items) h = h
 
-runs_joined : (items : List Item) → AreRuns items → AreRuns (join_runs items)
+runs_joined : (items : List ContentItem) → AreRuns items → AreRuns (join_runs items)
 runs_joined [] h = tt
 runs_joined (Inner e d ∷ items) h = absurd h
 runs_joined (Run text ∷ items) h = runs_put text (join_runs items) (runs_joined items h)
 
-runs_among : (p : Item → Bool) (items : List Item) → AreRuns items → AreRuns (filter p items)
+runs_among : (p : ContentItem → Bool) (items : List ContentItem) → AreRuns items → AreRuns (filter p items)
 runs_among p [] h = tt
 runs_among p (Inner e d ∷ items) h = absurd h
 runs_among p (Run text ∷ items) h = elim (cases_Bool (p (Run text))) [
@@ -92,12 +92,13 @@ runs_among p (Run text ∷ items) h = elim (cases_Bool (p (Run text))) [
   | inr is ↦ rw is (runs_among p items h)
 ]
 
-runs_after : (runs : List Item) (text : List ℕ) → AreRuns runs → AreRuns (runs ++ (Run text ∷ []))
+runs_after : (runs : List ContentItem) (text : List ℕ) → AreRuns runs → AreRuns (runs ++ (Run text ∷ []))
 runs_after [] text h = tt
 runs_after (Inner e d ∷ runs) text h = absurd h
 runs_after (Run more ∷ runs) text h = runs_after runs text h
 
-no_inner : (before : List Item) (e : Element) (d : List Declared) (after : List Item) → AreRuns (before ++ (Inner e d ∷ after)) → ⊥
+no_inner : (before : List ContentItem) (e : Element) (d : List Declared) (after : List ContentItem)
+    → AreRuns (before ++ (Inner e d ∷ after)) → ⊥
 no_inner [] e d after h = h
 no_inner (Inner f c ∷ before) e d after h = h
 no_inner (Run text ∷ before) e d after h = no_inner before e d after h
@@ -105,14 +106,15 @@ no_inner (Run text ∷ before) e d after h = no_inner before e d after h
 -- from a child's item to its place among all items
 
 -- after texts and an element's item, the other item is the same or comes later
-abbrev IsSameOrLater : (runs : List Item) (f : Element) (c : List Declared) (rest before : List Item) (e : Element) (d : List Declared)
-    (after : List Item) → Type 0
+abbrev IsSameOrLater : (runs : List ContentItem) (f : Element) (c : List Declared) (rest before : List ContentItem) (e : Element)
+    (d : List Declared)
+    (after : List ContentItem) → Type 0
 IsSameOrLater runs f c rest before e d after =
     ((before ≡ runs) × (f ≡ e) × (c ≡ d))
-    ⊎ ((more : List Item) × (before ≡ runs ++ (Inner f c ∷ more)) × (rest ≡ more ++ (Inner e d ∷ after)))
+    ⊎ ((more : List ContentItem) × (before ≡ runs ++ (Inner f c ∷ more)) × (rest ≡ more ++ (Inner e d ∷ after)))
 
-is_later : (runs : List Item) (f : Element) (c : List Declared) (rest before : List Item) (e : Element) (d : List Declared)
-    (after : List Item) → AreRuns runs
+is_later : (runs : List ContentItem) (f : Element) (c : List Declared) (rest before : List ContentItem) (e : Element) (d : List Declared)
+    (after : List ContentItem) → AreRuns runs
     → runs ++ (Inner f c ∷ rest) ≡ before ++ (Inner e d ∷ after) → IsSameOrLater runs f c rest before e d after
 is_later [] f c rest [] e d after h is =
     let element : f ≡ e = cc in
@@ -121,7 +123,7 @@ is_later [] f c rest [] e d after h is =
 is_later [] f c rest (item ∷ before) e d after h is =
     let first : item ≡ Inner f c = cc in
     let others : rest ≡ before ++ (Inner e d ∷ after) = cc in
-    inr (before, ap (λ (i : Item). i ∷ before) first, others)
+    inr (before, ap (λ (i : ContentItem). i ∷ before) first, others)
 is_later (Inner g b ∷ runs) f c rest before e d after h is = absurd h
 is_later (Run text ∷ runs) f c rest [] e d after h is = let wrong : Run text ≡ Inner e d = cc in cc
 is_later (Run text ∷ runs) f c rest (item ∷ before) e d after h is =
@@ -132,28 +134,29 @@ is_later (Run text ∷ runs) f c rest (item ∷ before) e d after h is =
       | inr k ↦ inr (k.0, let tail : before ≡ runs ++ (Inner f c ∷ k.0) = k.1 in cc, k.2)
     ]
 
-pub record IsPlace (runs items before : List Item) (e : Element) (d : List Declared) : Type 0 where
-  pub first : List Item
-  pub others : List Item
+pub record IsPlace (runs items before : List ContentItem) (e : Element) (d : List Declared) : Type 0 where
+  pub first : List ContentItem
+  pub others : List ContentItem
   pub items_are : items ≡ first ++ (Inner e d ∷ others)
   pub before_is : before ≡ filter (is_child true) (join_runs (runs ++ first))
 
-place_of : (runs : List Item) (items before : List Item) (e : Element) (d : List Declared) (after : List Item) → AreRuns runs
+place_of : (runs : List ContentItem) (items before : List ContentItem) (e : Element) (d : List Declared) (after : List ContentItem)
+    → AreRuns runs
     → filter (is_child true) (join_runs (runs ++ items)) ≡ before ++ (Inner e d ∷ after) → IsPlace runs items before e d
 place_of runs [] before e d after h is =
     absurd (no_inner before e d after
     (subst AreRuns is (runs_among (is_child true) (join_runs (runs ++ []))
     (runs_joined (runs ++ []) (subst AreRuns (sym (append-nil runs)) h)))))
 place_of runs (Run text ∷ items) before e d after h is =
-    let moved : (rest : List Item) → (runs ++ (Run text ∷ [])) ++ rest ≡ runs ++ (Run text ∷ rest) = λ rest. append_assoc runs
+    let moved : (rest : List ContentItem) → (runs ++ (Run text ∷ [])) ++ rest ≡ runs ++ (Run text ∷ rest) = λ rest. append_assoc runs
     (Run text ∷ []) rest in
     let p = place_of (runs ++ (Run text ∷ [])) items before e d after (runs_after runs text h)
-    (ap (λ (is : List Item). filter (is_child true) (join_runs is)) (moved items) ∙ is) in
+    (ap (λ (is : List ContentItem). filter (is_child true) (join_runs is)) (moved items) ∙ is) in
     record {
       first = Run text ∷ p.first;
       others = p.others;
-      items_are = ap (λ (is : List Item). Run text ∷ is) p.items_are;
-      before_is = p.before_is ∙ ap (λ (is : List Item). filter (is_child true) (join_runs is)) (moved p.first);
+      items_are = ap (λ (is : List ContentItem). Run text ∷ is) p.items_are;
+      before_is = p.before_is ∙ ap (λ (is : List ContentItem). filter (is_child true) (join_runs is)) (moved p.first);
     }
 place_of runs (Inner f c ∷ items) before e d after h is =
     elim (is_later among f c (filter (is_child true) (join_runs items)) before e d after
@@ -162,22 +165,22 @@ place_of runs (Inner f c ∷ items) before e d after h is =
         first = [];
         others = items;
         items_are = (λ i. Inner (k.1 i) (k.2 i) ∷ items);
-        before_is = k.0 ∙ ap (λ (is : List Item). filter (is_child true) (join_runs is)) (sym (append-nil runs));
+        before_is = k.0 ∙ ap (λ (is : List ContentItem). filter (is_child true) (join_runs is)) (sym (append-nil runs));
       }
       | inr k ↦
           let p = place_of [] items k.0 e d after tt k.2 in
           record {
             first = Inner f c ∷ p.first;
             others = p.others;
-            items_are = ap (λ (is : List Item). Inner f c ∷ is) p.items_are;
-            before_is = k.1 ∙ ap (λ (is : List Item). among ++ (Inner f c ∷ is)) p.before_is ∙ sym (parts p.first);
+            items_are = ap (λ (is : List ContentItem). Inner f c ∷ is) p.items_are;
+            before_is = k.1 ∙ ap (λ (is : List ContentItem). among ++ (Inner f c ∷ is)) p.before_is ∙ sym (parts p.first);
           }
     ]
   where
-    among : List Item
+    among : List ContentItem
     among = filter (is_child true) (join_runs runs)
 
-    parts : (rest : List Item) → filter (is_child true) (join_runs (runs ++ (Inner f c ∷ rest))) ≡ filter (is_child true)
+    parts : (rest : List ContentItem) → filter (is_child true) (join_runs (runs ++ (Inner f c ∷ rest))) ≡ filter (is_child true)
         (join_runs runs) ++ (Inner f c ∷ filter (is_child true) (join_runs rest))
     parts rest =
         ap (filter (is_child true)) (joined_both runs f c rest)
@@ -185,13 +188,13 @@ place_of runs (Inner f c ∷ items) before e d after h is =
 
 -- from an item to its piece
 
-pub record IsPiece (scope : Scope) (inside : Pieces) (first : List Item) (e : Element) (d : List Declared) : Type 0 where
+pub record IsPiece (scope : Scope) (inside : Pieces) (first : List ContentItem) (e : Element) (d : List Declared) : Type 0 where
   pub before : Pieces
   pub element : Pieces
   pub after : Pieces
   pub tag : Tag
   pub within : Pieces
-  pub inner : List Item
+  pub inner : List ContentItem
   pub inside_is : inside ≡ chain_pieces before element
   pub is_piece : IsElementPiece element tag within after
   pub mean : AreItems scope before first
@@ -200,7 +203,7 @@ pub record IsPiece (scope : Scope) (inside : Pieces) (first : List Item) (e : El
 
 -- after one more piece
 with_piece : (wrap : Pieces → Pieces) → ((c d : Pieces) → chain_pieces (wrap c) d ≡ wrap (chain_pieces c d))
-    → (scope : Scope) (inside : Pieces) (first more : List Item) (e : Element) (d : List Declared)
+    → (scope : Scope) (inside : Pieces) (first more : List ContentItem) (e : Element) (d : List Declared)
     → ((c : Pieces) → AreItems scope c first → AreItems scope (wrap c) more)
     → IsPiece scope inside first e d → IsPiece scope (wrap inside) more e d
 with_piece wrap chains scope inside first more e d means p = record {
@@ -217,7 +220,7 @@ with_piece wrap chains scope inside first more e d means p = record {
   is_element = p.is_element;
 }
 
-piece_of : (scope : Scope) (inside : Pieces) (items first : List Item) (e : Element) (d : List Declared) (others : List Item)
+piece_of : (scope : Scope) (inside : Pieces) (items first : List ContentItem) (e : Element) (d : List Declared) (others : List ContentItem)
     → AreItems scope inside items
     → items ≡ first ++ (Inner e d ∷ others) → IsPiece scope inside first e d
 piece_of scope Nothing items [] e d others m is = let wrong : [] ≡ Inner e d ∷ others = sym m ∙ is in cc
@@ -231,14 +234,14 @@ piece_of scope (piece.Characters blank text after) items (item ∷ first) e d ot
     let head : item ≡ Run text = cc in
     let tail : m.0 ≡ first ++ (Inner e d ∷ others) = cc in
     with_piece (piece.Characters blank text) (λ c q. refl) scope after first (item ∷ first) e d
-    (λ c t. (first, ap (λ (i : Item). i ∷ first) head, t)) (piece_of scope after m.0 first e d others m.2 tail)
+    (λ c t. (first, ap (λ (i : ContentItem). i ∷ first) head, t)) (piece_of scope after m.0 first e d others m.2 tail)
 piece_of scope (piece.Section text after) items [] e d others m is = let wrong : Run text ∷ m.0 ≡ Inner e d ∷ others = sym m.1 ∙ is in cc
 piece_of scope (piece.Section text after) items (item ∷ first) e d others m is =
     let both : Run text ∷ m.0 ≡ item ∷ (first ++ (Inner e d ∷ others)) = sym m.1 ∙ is in
     let head : item ≡ Run text = cc in
     let tail : m.0 ≡ first ++ (Inner e d ∷ others) = cc in
     with_piece (piece.Section text) (λ c q. refl) scope after first (item ∷ first) e d
-    (λ c t. (first, ap (λ (i : Item). i ∷ first) head, t)) (piece_of scope after m.0 first e d others m.2 tail)
+    (λ c t. (first, ap (λ (i : ContentItem). i ∷ first) head, t)) (piece_of scope after m.0 first e d others m.2 tail)
 piece_of scope (piece.Empty tag after) items [] e d others m is =
     let both : Inner m.0 m.1 ∷ m.2 ≡ Inner e d ∷ others = sym m.3 ∙ is in
     let same : m.0 ≡ e = cc in
@@ -262,7 +265,7 @@ piece_of scope (piece.Empty tag after) items (item ∷ first) e d others m is =
     let head : item ≡ Inner m.0 m.1 = cc in
     let tail : m.2 ≡ first ++ (Inner e d ∷ others) = cc in
     with_piece (piece.Empty tag) (λ c q. refl) scope after first (item ∷ first) e d
-    (λ c t. (m.0, m.1, first, ap (λ (i : Item). i ∷ first) head, m.4, t)) (piece_of scope after m.2 first e d others m.5 tail)
+    (λ c t. (m.0, m.1, first, ap (λ (i : ContentItem). i ∷ first) head, m.4, t)) (piece_of scope after m.2 first e d others m.5 tail)
 piece_of scope (piece.Start tag within after) items [] e d others m is =
     let both : Inner m.1 m.2 ∷ m.3 ≡ Inner e d ∷ others = sym m.4 ∙ is in
     let same : m.1 ≡ e = cc in
@@ -286,10 +289,11 @@ piece_of scope (piece.Start tag within after) items (item ∷ first) e d others 
     let head : item ≡ Inner m.1 m.2 = cc in
     let tail : m.3 ≡ first ++ (Inner e d ∷ others) = cc in
     with_piece (piece.Start tag within) (λ c q. refl) scope after first (item ∷ first) e d
-    (λ c t. (m.0, m.1, m.2, first, ap (λ (i : Item). i ∷ first) head, m.5, m.6, t)) (piece_of scope after m.3 first e d others m.7 tail)
+    (λ c t. (m.0, m.1, m.2, first, ap (λ (i : ContentItem). i ∷ first) head, m.5, m.6, t))
+    (piece_of scope after m.3 first e d others m.7 tail)
 
 -- beside an element among the children white space is none
-among_both : (items before : List Item) (e : Element) (d : List Declared) (after : List Item)
+among_both : (items before : List ContentItem) (e : Element) (d : List Declared) (after : List ContentItem)
     → children_among items ≡ before ++ (Inner e d ∷ after)
     → filter (is_child true) (join_runs items) ≡ before ++ (Inner e d ∷ after)
 among_both items before e d after is = elim (cases_Bool (list_any is_inner items)) [
@@ -298,7 +302,7 @@ among_both items before e d after is = elim (cases_Bool (list_any is_inner items
       (runs_among (is_child (list_any is_inner items)) (join_runs items) (runs_joined items (are_runs items none)))))
 ]
   where
-    are_runs : (items : List Item) → list_any is_inner items ≡ false → AreRuns items
+    are_runs : (items : List ContentItem) → list_any is_inner items ≡ false → AreRuns items
     are_runs [] h = tt
     are_runs (Inner f c ∷ items) h = let wrong : true ≡ false = h in cc
     are_runs (Run text ∷ items) h = are_runs items h
@@ -307,13 +311,13 @@ among_both items before e d after is = elim (cases_Bool (list_any is_inner items
 pub record IsChild (scope : Scope) (inside : Pieces) (index : ℕ) (e : Element) : Type 0 where
   pub child : Tag
   pub within : Pieces
-  pub inner : List Item
+  pub inner : List ContentItem
   pub declared : List Declared
   pub is_there : IsChildAt scope inside index child within
   pub inner_are : AreItems (scope_within scope child) within inner
   pub is_element : IsElement scope child inner e declared
 
-child_at : (scope : Scope) (inside : Pieces) (items : List Item) (index : ℕ) (e : Element) → AreItems scope inside items
+child_at : (scope : Scope) (inside : Pieces) (items : List ContentItem) (index : ℕ) (e : Element) → AreItems scope inside items
     → slice_get (map child_of (children_among items)) index ≡ Some (the.Element e)
     → IsChild scope inside index e
 child_at scope inside items index e m h =
@@ -341,7 +345,7 @@ child_at scope inside items index e m h =
 
 -- from tag to tag
 
-leads_there : (path : List ℕ) (outer : Scope) (tag : Tag) (inside : Pieces) (items : List Item) (root e : Element)
+leads_there : (path : List ℕ) (outer : Scope) (tag : Tag) (inside : Pieces) (items : List ContentItem) (root e : Element)
     (declared : List Declared) → IsElement outer tag items root declared
     → AreItems (scope_within outer tag) inside items → NamesElementAt root path e
     → (scope : Scope) × LeadsTo outer tag inside path scope × ResolvedIn scope e
@@ -361,7 +365,7 @@ leads_there (index ∷ path) outer tag inside items root e declared h m is =
     let l = leads_there path (scope_within outer tag) c.child c.within c.inner is.0 e c.declared c.is_element c.inner_are is.2 in
     (l.0, (c.child, c.within, c.is_there, l.1), l.2)
 
-named_there : (path : List ℕ) (outer : Scope) (tag : Tag) (inside : Pieces) (items : List Item) (root : Element)
+named_there : (path : List ℕ) (outer : Scope) (tag : Tag) (inside : Pieces) (items : List ContentItem) (root : Element)
     (declared : List Declared) (scope : Scope) → IsElement outer tag items root declared
     → AreItems (scope_within outer tag) inside items → LeadsTo outer tag inside path scope
     → (e : Element) × NamesElementAt root path e × ResolvedIn scope e
@@ -387,7 +391,7 @@ pub record HasRoot (pieces : Pieces) (r : Reading) : Type 0 where
   pub tag : Tag
   pub inside : Pieces
   pub after : Pieces
-  pub items : List Item
+  pub items : List ContentItem
   pub pieces_are : pieces ≡ chain_pieces before element
   pub margin : IsMargin before
   pub is_piece : IsElementPiece element tag inside after

@@ -15,7 +15,7 @@ use Rattle.ifmap_elem.specs.Tokens.{TakesToken}
 use Rattle.ifmap_elem.specs.Places.{is_end}
 use Rattle.ifmap_elem.specs.Scopes.{Scope, root_scope, scope_within, plain_assignments, IsAttribute, AreAttributes, NamesElement}
 use Rattle.ifmap_elem.specs.Document as piece
-use Rattle.ifmap_elem.specs.Document.{Pieces, Nothing, tokens_of, Item, Inner, Run, IsElement, AreItems, heading, IsDocument}
+use Rattle.ifmap_elem.specs.Document.{Pieces, Nothing, tokens_of, ContentItem, Inner, Run, IsElement, AreItems, heading, IsDocument}
 use Rattle.ifmap_elem.specs.laws.Roots.{BeginsWithRoot, root_begins}
 use Rattle.ifmap_elem.specs.Spells.{Spells, without_byte_order_mark}
 use Rattle.ifmap_elem.specs.laws.OneToken.{one_token, no_token}
@@ -111,23 +111,24 @@ one_name outer tag n o as' bs l m =
           (plain_assignments tag) as' bs l.attributes_are m.attributes_are,
     )
 
-one_element : (outer : Scope) (tag : Tag) (items : List Item) (e f : Element) (d c : List Declared) → IsElement outer tag items e d
+one_element : (outer : Scope) (tag : Tag) (items : List ContentItem) (e f : Element) (d c : List Declared) → IsElement outer tag items e d
     → IsElement outer tag items f c → (e ≡ f) × (d ≡ c)
 one_element outer tag items e f d c l m =
     let named = one_name outer tag e.name f.name e.attributes f.attributes l.named m.named in
     let children = l.children_are ∙ sym m.children_are in
     (λ i. record { name = named.0 i; attributes = named.1 i; children = children i }, l.declared_are ∙ sym m.declared_are)
 
-inner_items : (outer : Scope) (tag : Tag) (i j : List Item) (e f : Element) (d c : List Declared) (x y k l : List Item) → i ≡ j → x ≡ y
+inner_items : (outer : Scope) (tag : Tag) (i j : List ContentItem) (e f : Element) (d c : List Declared) (x y k l : List ContentItem) → i
+    ≡ j → x ≡ y
     → k ≡ Inner e d ∷ x → l ≡ Inner f c ∷ y
     → IsElement outer tag i e d → IsElement outer tag j f c → k ≡ l
 inner_items outer tag i j e f d c x y k l inner after p q r s =
-    let both = one_element outer tag j e f d c (subst (λ (z : List Item). IsElement outer tag z e d) inner r) s in
+    let both = one_element outer tag j e f d c (subst (λ (z : List ContentItem). IsElement outer tag z e d) inner r) s in
     let element : e ≡ f = both.0 in
     let declared : d ≡ c = both.1 in
     cc
 
-pub one_meaning : (scope : Scope) (c : Pieces) (i j : List Item) → AreItems scope c i → AreItems scope c j → i ≡ j
+pub one_meaning : (scope : Scope) (c : Pieces) (i j : List ContentItem) → AreItems scope c i → AreItems scope c j → i ≡ j
 one_meaning scope Nothing i j l m = l ∙ sym m
 one_meaning scope (piece.Comment after) i j l m = one_meaning scope after i j l m
 one_meaning scope (piece.Characters blank text after) i j l m =
@@ -140,7 +141,7 @@ one_meaning scope (piece.Start tag inside after) i j l m =
     inner_items scope tag l.0 m.0 l.1 m.1 l.2 m.2 l.3 m.3 i j (one_meaning (scope_within scope tag) inside l.0 m.0 l.5 m.5)
     (one_meaning scope after l.3 m.3 l.7 m.7) l.4 m.4 l.6 m.6
 
-same_reading : (tag : Tag) (items : List Item) (r s : Reading) → IsElement root_scope tag items r.root r.declared
+same_reading : (tag : Tag) (items : List ContentItem) (r s : Reading) → IsElement root_scope tag items r.root r.declared
     → IsElement root_scope tag items s.root s.declared → r ≡ s
 same_reading tag items r s l m =
     let both = one_element root_scope tag items r.root s.root r.declared s.declared l m in
@@ -154,7 +155,7 @@ one_root (piece.Section text after) r s l m = absurd l
 one_root (piece.Empty tag after) r s l m = same_reading tag [] r s l.0 m.0
 one_root (piece.Start tag inside after) r s l m =
     let inner = one_meaning (scope_within root_scope tag) inside l.0 m.0 l.1 m.1 in
-    same_reading tag m.0 r s (subst (λ (items : List Item). IsElement root_scope tag items r.root r.declared) inner l.2) m.2
+    same_reading tag m.0 r s (subst (λ (items : List ContentItem). IsElement root_scope tag items r.root r.declared) inner l.2) m.2
 
 -- no pieces begins with a declaration
 no_declaration : (c : Pieces) (ts : List Token) → Declaration ∷ ts ≡ tokens_of c → ⊥

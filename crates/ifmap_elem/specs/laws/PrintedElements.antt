@@ -25,7 +25,7 @@ use Rattle.ifmap_elem.specs.Chars.{IsCharacters, is_white}
 use Rattle.ifmap_elem.specs.Scopes.{Scope, AllDiffer, IsBinding, root_scope, scope_within}
 use Rattle.ifmap_elem.specs.Tokens.{TakesToken, TakesTag, TakesText, EndsText}
 use Rattle.ifmap_elem.specs.Document as piece
-use Rattle.ifmap_elem.specs.Document.{Pieces, Nothing, tokens_of, Item, Inner, Run, is_inner, join_runs, put_before, is_child, children_among, child_of, declared_here, declared_below, from_above, IsElement, AreItems, IsRoot, chain_pieces}
+use Rattle.ifmap_elem.specs.Document.{Pieces, Nothing, tokens_of, ContentItem, Inner, Run, is_inner, join_runs, put_before, is_child, children_among, child_of, declared_here, declared_below, from_above, IsElement, AreItems, IsRoot, chain_pieces}
 use Rattle.ifmap_elem.specs.laws.Roots.{chained_nothing}
 use Rattle.ifmap_elem.specs.Escapes.{text_bytes}
 use Rattle.ifmap_elem.specs.Fit.{IsFit, IsFitAlone, IsFitAttribute, AreFitChildren, HasCharacters, IsNotBlank, AreApart, is_element}
@@ -52,9 +52,9 @@ tokens_chained (piece.Start tag inside after) d =
     ap (λ l. Start tag ∷ (tokens_of inside ++ (End tag.name ∷ l))) (tokens_chained after d)
     ∙ ap (λ l. Start tag ∷ l) (sym (append_assoc (tokens_of inside) (End tag.name ∷ tokens_of after) (tokens_of d)))
 
-means_chained : (scope : Scope) (c d : Pieces) (i j : List Item) → AreItems scope c i → AreItems scope d j
+means_chained : (scope : Scope) (c d : Pieces) (i j : List ContentItem) → AreItems scope c i → AreItems scope d j
     → AreItems scope (chain_pieces c d) (i ++ j)
-means_chained scope Nothing d i j l m = subst (λ (x : List Item). AreItems scope d (x ++ j)) (sym l) m
+means_chained scope Nothing d i j l m = subst (λ (x : List ContentItem). AreItems scope d (x ++ j)) (sym l) m
 means_chained scope (piece.Comment after) d i j l m = means_chained scope after d i j l m
 means_chained scope (piece.Characters blank text after) d i j l m =
     (l.0 ++ j, ap (λ x. x ++ j) l.1, means_chained scope after d l.0 j l.2 m)
@@ -66,11 +66,11 @@ means_chained scope (piece.Start tag inside after) d i j l m =
 
 -- items that are children already
 
-abbrev pub item_child : Item → Child-F Child Element
+abbrev pub item_child : ContentItem → Child-F Child Element
 item_child (Inner e declared) = Child-F.Element e
 item_child (Run text) = Child-F.Text text
 
-joined_apart : (items : List Item) → AreApart (map item_child items) → join_runs items ≡ items
+joined_apart : (items : List ContentItem) → AreApart (map item_child items) → join_runs items ≡ items
 joined_apart [] a = refl
 joined_apart (Inner e d ∷ items) a = ap (λ l. Inner e d ∷ l) (joined_apart items a)
 joined_apart (Run t ∷ []) a = refl
@@ -81,25 +81,25 @@ some_length : (text : List ℕ) → text ≢ [] → not (length text == 0) ≡ t
 some_length [] some = absurd (some refl)
 some_length (b ∷ bs) some = ap not (is_other (length (b ∷ bs)) 0 (λ e. omega arith))
 
-keeps : (beside : Bool) (item : Item) → HasCharacters (item_child item) → (beside ≡ true → IsNotBlank (item_child item))
+keeps : (beside : Bool) (item : ContentItem) → HasCharacters (item_child item) → (beside ≡ true → IsNotBlank (item_child item))
     → is_child beside item ≡ true
 keeps beside (Inner e d) h b = refl
 keeps true (Run t) h b = ap not (false_from_ne_true (list_all is_white t) (λ e. b refl (all_of_test is_white t e)))
 keeps false (Run t) h b = some_length t h.0
 
-all_kept : (beside : Bool) (items : List Item) → AllByRecursion HasCharacters (map item_child items)
+all_kept : (beside : Bool) (items : List ContentItem) → AllByRecursion HasCharacters (map item_child items)
     → (beside ≡ true → AllByRecursion IsNotBlank (map item_child items))
     → filter (is_child beside) items ≡ items
 all_kept beside [] h b = refl
 all_kept beside (item ∷ items) h b =
     rw (keeps beside item h.0 (λ e. (b e).0)) (ap (λ l. item ∷ l) (all_kept beside items h.1 (λ e. (b e).1)))
 
-any_inner : (items : List Item) → list_any is_inner items ≡ list_any is_element (map item_child items)
+any_inner : (items : List ContentItem) → list_any is_inner items ≡ list_any is_element (map item_child items)
 any_inner [] = refl
 any_inner (Inner e d ∷ items) = refl
 any_inner (Run t ∷ items) = any_inner items
 
-kept_all : (items : List Item) → AreFitChildren (map item_child items) → children_among items ≡ items
+kept_all : (items : List ContentItem) → AreFitChildren (map item_child items) → children_among items ≡ items
 kept_all items f =
     ap (filter (is_child (list_any is_inner items))) (joined_apart items f.apart)
     ∙ all_kept (list_any is_inner items) items f.texts (λ e. f.beside (sym (any_inner items) ∙ e))
@@ -107,21 +107,21 @@ kept_all items f =
 -- children
 
 -- an element begins with a tag
-abbrev pub Begins : Item → List ℕ → Type 0
+abbrev pub Begins : ContentItem → List ℕ → Type 0
 Begins (Inner e declared) bytes = (rest : List ℕ) → EndsText (bytes ++ rest)
 Begins (Run text) bytes = Unit {0}
 
 -- after a text stands a tag
-abbrev pub MayFollow : Item → List ℕ → Type 0
+abbrev pub MayFollow : ContentItem → List ℕ → Type 0
 MayFollow (Inner e declared) rest = Unit {0}
 MayFollow (Run text) rest = EndsText rest
 
 -- no declaration stands in an element
-abbrev pub IsBare : Item → Type 0
+abbrev pub IsBare : ContentItem → Type 0
 IsBare (Inner e declared) = declared ≡ []
 IsBare (Run text) = Unit {0}
 
-none_below : (index : ℕ) (items : List Item) → AllByRecursion IsBare items → declared_below index items ≡ []
+none_below : (index : ℕ) (items : List ContentItem) → AllByRecursion IsBare items → declared_below index items ≡ []
 none_below index [] f = refl
 none_below index (Inner e d ∷ items) f = (λ i. map (from_above index) (f.0 i) ++ none_below (index + 1) items f.1 i)
 none_below index (Run text ∷ items) f = none_below (index + 1) items f.1
@@ -129,7 +129,7 @@ none_below index (Run text ∷ items) f = none_below (index + 1) items f.1
 -- the printed child is tokens that mean it
 pub record ChildTaken (prefixes : Rows) (scope : Scope) (c : Child) : Type 0 where
   pub pieces : Pieces
-  pub item : Item
+  pub item : ContentItem
   pub lexed : (rest : List ℕ) → MayFollow item rest → To TakesToken (child_bytes prefixes c ++ rest) (tokens_of pieces) rest
   pub means : AreItems scope pieces (item ∷ [])
   pub is_child : child_of item ≡ c
@@ -138,7 +138,7 @@ pub record ChildTaken (prefixes : Rows) (scope : Scope) (c : Child) : Type 0 whe
   pub bare : IsBare item
 
 module _ (prefixes : Rows) (scope : Scope) where
-  abbrev items_of : (cs : List Child) → Each (ChildTaken prefixes scope) cs → List Item
+  abbrev items_of : (cs : List Child) → Each (ChildTaken prefixes scope) cs → List ContentItem
   items_of [] each = []
   items_of (c ∷ cs) each = each.0.item ∷ items_of cs each.1
 
@@ -152,13 +152,13 @@ module _ (prefixes : Rows) (scope : Scope) where
   apart_tail (Child-F.Text t) (Child-F.Element e ∷ others) a = a
   apart_tail (Child-F.Text t) (Child-F.Text u ∷ others) a = absurd a
 
-  follow_inner : (text : List ℕ) (item : Item) (others : List (Child-F Child Element)) (bytes : List ℕ) → Begins item bytes
+  follow_inner : (text : List ℕ) (item : ContentItem) (others : List (Child-F Child Element)) (bytes : List ℕ) → Begins item bytes
       → AreApart (Child-F.Text text ∷ (item_child item ∷ others))
       → (rest : List ℕ) → EndsText (bytes ++ rest)
   follow_inner text (Inner e d) others bytes b apart rest = b rest
   follow_inner text (Run t) others bytes b apart rest = absurd apart
 
-  follows : (item : Item) (cs : List Child) (each : Each (ChildTaken prefixes scope) cs) (rest : List ℕ) → EndsText rest
+  follows : (item : ContentItem) (cs : List Child) (each : Each (ChildTaken prefixes scope) cs) (rest : List ℕ) → EndsText rest
       → AreApart (item_child item ∷ map item_child (items_of cs each))
       → MayFollow item (flat_map (child_bytes prefixes) cs ++ rest)
   follows (Inner e d) cs each rest ends apart = tt
@@ -210,7 +210,7 @@ IsOne outer (piece.Characters blank text after) e d = ⊥
 IsOne outer (piece.Section text after) e d = ⊥
 IsOne outer (piece.Empty tag after) e d = IsElement outer tag [] e d × (after ≡ Nothing)
 IsOne outer (piece.Start tag inside after) e d =
-    (inner : List Item) × AreItems (scope_within outer tag) inside inner × IsElement outer tag inner e d × (after ≡ Nothing)
+    (inner : List ContentItem) × AreItems (scope_within outer tag) inside inner × IsElement outer tag inner e d × (after ≡ Nothing)
 
 one_means : (outer : Scope) (c : Pieces) (e : Element) (d : List Declared) → IsOne outer c e d → AreItems outer c (Inner e d ∷ [])
 one_means outer Nothing e d h = absurd h
@@ -264,7 +264,7 @@ module _ (prefixes declared : Rows) (outer : Scope) (e : Element) (fit : IsFitAl
   start_taken : (end : List ℕ) → TakesTag (its_start end) its_tag end
   start_taken end = tag_taken prefixes declared within_it e.name e.attributes end fit.name named rows fits
 
-  its_children : (items : List Item) → map child_of items ≡ e.children → map item_child items ≡ map out-Child e.children
+  its_children : (items : List ContentItem) → map child_of items ≡ e.children → map item_child items ≡ map out-Child e.children
       → AllByRecursion IsBare items → IsElement outer its_tag items e (declared_here (map row_binding declared))
   its_children items are opened bare = record {
     named = names_element prefixes declared outer e.name e.attributes binds once named fits fit.names_differ;

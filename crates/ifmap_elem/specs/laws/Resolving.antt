@@ -18,7 +18,7 @@ use Rattle.ifmap_elem.specs.declared.readings.Reading.{Reading}
 use Rattle.ifmap_elem.specs.declared.tokens.Tag.{Tag}
 use Rattle.ifmap_elem.specs.declared.tokens.Token.{Token}
 use Rattle.ifmap_elem.specs.Document as piece
-use Rattle.ifmap_elem.specs.Document.{Pieces, Nothing, chain_pieces, tokens_of, heading, Item, Inner, Run, is_inner, put_before, join_runs, is_child, children_among, declared_here, declared_below, from_above, IsElement, AreItems, IsMargin}
+use Rattle.ifmap_elem.specs.Document.{Pieces, Nothing, chain_pieces, tokens_of, heading, ContentItem, Inner, Run, is_inner, put_before, join_runs, is_child, children_among, declared_here, declared_below, from_above, IsElement, AreItems, IsMargin}
 use Rattle.ifmap_elem.specs.InScope.{binding_told, declared_at, is_listed, listed_space, IsElementPiece, children_before, IsChildAt, LeadsTo, ResolvesAsDeclared}
 use Rattle.ifmap_elem.specs.Scopes.{Binding, Scope, bindings, prefix_space, root_scope, scope_within}
 use Rattle.ifmap_elem.specs.Spells.{Spells}
@@ -63,14 +63,14 @@ in_none : (i : ℕ) (ds : List Declared) → at [] (map (from_above i) ds) ≡ [
 in_none i [] = refl
 in_none i (d ∷ ds) = in_none i ds
 
-below_none : (i : ℕ) (items : List Item) → at [] (declared_below i items) ≡ []
+below_none : (i : ℕ) (items : List ContentItem) → at [] (declared_below i items) ≡ []
 below_none i [] = refl
 below_none i (Inner e d ∷ items) =
     at_both [] (map (from_above i) d) (declared_below (i + 1) items) ∙ ap (λ l. l ++ at [] (declared_below (i + 1) items)) (in_none i d)
     ∙ below_none (i + 1) items
 below_none i (Run text ∷ items) = below_none (i + 1) items
 
-below_other : (i j : ℕ) (q : List ℕ) (items : List Item) → i < j → at (i ∷ q) (declared_below j items) ≡ []
+below_other : (i j : ℕ) (q : List ℕ) (items : List ContentItem) → i < j → at (i ∷ q) (declared_below j items) ≡ []
 below_other i j q [] l = refl
 below_other i j q (Inner e d ∷ items) l =
     at_both (i ∷ q) (map (from_above j) d) (declared_below (j + 1) items)
@@ -78,7 +78,8 @@ below_other i j q (Inner e d ∷ items) l =
     ∙ below_other i (j + 1) q items (omega (arith, l))
 below_other i j q (Run text ∷ items) l = below_other i (j + 1) q items (omega (arith, l))
 
-below_at : (j : ℕ) (q : List ℕ) (xs : List Item) (e : Element) (d : List Declared) (ys : List Item) (i : ℕ) → i ≡ j + length xs
+below_at : (j : ℕ) (q : List ℕ) (xs : List ContentItem) (e : Element) (d : List Declared) (ys : List ContentItem) (i : ℕ) → i
+    ≡ j + length xs
     → at (i ∷ q) (declared_below j (xs ++ (Inner e d ∷ ys))) ≡ map (from_above i) (at q d)
 below_at j q [] e d ys i is =
     let same : j ≡ i = omega (arith, is) in
@@ -98,24 +99,25 @@ told_above i (d ∷ ds) = ap (λ bs. binding_told d ∷ bs) (told_above i ds)
 
 -- children among items
 
-pub joined_both : (xs : List Item) (e : Element) (d : List Declared) (ys : List Item)
+pub joined_both : (xs : List ContentItem) (e : Element) (d : List Declared) (ys : List ContentItem)
     → join_runs (xs ++ (Inner e d ∷ ys)) ≡ join_runs xs ++ (Inner e d ∷ join_runs ys)
 joined_both [] e d ys = refl
 joined_both (Inner f c ∷ xs) e d ys = ap (λ l. Inner f c ∷ l) (joined_both xs e d ys)
 joined_both (Run text ∷ xs) e d ys = ap (put_before text) (joined_both xs e d ys) ∙ before text (join_runs xs)
   where
-    before : (text : List ℕ) (zs : List Item) → put_before text
+    before : (text : List ℕ) (zs : List ContentItem) → put_before text
         (zs ++ (Inner e d ∷ join_runs ys)) ≡ put_before text zs ++ (Inner e d ∷ join_runs ys)
     before text [] = refl
     before text (Inner f c ∷ zs) = refl
     before text (Run more ∷ zs) = refl
 
-some_inner : (xs : List Item) (e : Element) (d : List Declared) (ys : List Item) → list_any is_inner (xs ++ (Inner e d ∷ ys)) ≡ true
+some_inner : (xs : List ContentItem) (e : Element) (d : List Declared) (ys : List ContentItem) → list_any is_inner (xs ++ (Inner e d ∷ ys))
+    ≡ true
 some_inner [] e d ys = refl
 some_inner (Inner f c ∷ xs) e d ys = refl
 some_inner (Run text ∷ xs) e d ys = some_inner xs e d ys
 
-children_there : (xs : List Item) (e : Element) (d : List Declared) (ys : List Item)
+children_there : (xs : List ContentItem) (e : Element) (d : List Declared) (ys : List ContentItem)
     → children_among (xs ++ (Inner e d ∷ ys)) ≡ filter (is_child true) (join_runs xs) ++ (Inner e d ∷ filter (is_child true) (join_runs ys))
 children_there xs e d ys =
     (λ i. filter (is_child (some_inner xs e d ys i)) (joined_both xs e d ys i))
@@ -123,8 +125,8 @@ children_there xs e d ys =
 
 -- the items of pieces after one another
 
-parted : (scope : Scope) (c d : Pieces) (items : List Item) → AreItems scope (chain_pieces c d) items
-    → (xs : List Item) × (ys : List Item) × (items ≡ xs ++ ys) × AreItems scope c xs × AreItems scope d ys
+parted : (scope : Scope) (c d : Pieces) (items : List ContentItem) → AreItems scope (chain_pieces c d) items
+    → (xs : List ContentItem) × (ys : List ContentItem) × (items ≡ xs ++ ys) × AreItems scope c xs × AreItems scope d ys
 parted scope Nothing d items m = ([], items, refl, refl, m)
 parted scope (piece.Comment after) d items m = parted scope after d items m
 parted scope (piece.Characters blank text after) d items m =
@@ -150,16 +152,16 @@ parted scope (piece.Start tag inside after) d items m =
     )
 
 -- the first item of an element's piece
-pub record BeginsWithItem (scope : Scope) (tag : Tag) (inside : Pieces) (items : List Item) : Type 0 where
-  pub inner : List Item
+pub record BeginsWithItem (scope : Scope) (tag : Tag) (inside : Pieces) (items : List ContentItem) : Type 0 where
+  pub inner : List ContentItem
   pub element : Element
   pub declared : List Declared
-  pub others : List Item
+  pub others : List ContentItem
   pub items_are : items ≡ Inner element declared ∷ others
   pub inside_are : AreItems (scope_within scope tag) inside inner
   pub is_element : IsElement scope tag inner element declared
 
-first_of : (scope : Scope) (pieces : Pieces) (tag : Tag) (inside after : Pieces) (items : List Item)
+first_of : (scope : Scope) (pieces : Pieces) (tag : Tag) (inside after : Pieces) (items : List ContentItem)
     → IsElementPiece pieces tag inside after → AreItems scope pieces items → BeginsWithItem scope tag inside items
 first_of scope pieces tag inside after items is m = elim is [
   | inl e ↦ started (subst (λ (p : Pieces). AreItems scope p items) e m)
@@ -181,18 +183,18 @@ first_of scope pieces tag inside after items is m = elim is [
     }
 
 -- the child with that index, among the children of an element
-pub record IsThere (scope : Scope) (child : Tag) (within : Pieces) (items : List Item) (index : ℕ) : Type 0 where
-  pub inner : List Item
+pub record IsThere (scope : Scope) (child : Tag) (within : Pieces) (items : List ContentItem) (index : ℕ) : Type 0 where
+  pub inner : List ContentItem
   pub element : Element
   pub declared : List Declared
-  pub before : List Item
-  pub after : List Item
+  pub before : List ContentItem
+  pub after : List ContentItem
   pub children_are : children_among items ≡ before ++ (Inner element declared ∷ after)
   pub index_is : index ≡ length before
   pub inside_are : AreItems (scope_within scope child) within inner
   pub is_element : IsElement scope child inner element declared
 
-pub child_there : (scope : Scope) (inside : Pieces) (items : List Item) (index : ℕ) (child : Tag) (within : Pieces)
+pub child_there : (scope : Scope) (inside : Pieces) (items : List ContentItem) (index : ℕ) (child : Tag) (within : Pieces)
     → AreItems scope inside items → IsChildAt scope inside index child within
     → IsThere scope child within items index
 child_there scope inside items index child within m c =
@@ -213,7 +215,7 @@ child_there scope inside items index child within m c =
 
 -- from tag to tag
 
-module _ (outer : Scope) (tag : Tag) (items : List Item) (e : Element) (declared : List Declared)
+module _ (outer : Scope) (tag : Tag) (items : List ContentItem) (e : Element) (declared : List Declared)
     (h : IsElement outer tag items e declared) where
   declared_there : declared_at [] declared ≡ reverse (bindings tag)
   declared_there =
@@ -241,7 +243,7 @@ module _ (outer : Scope) (tag : Tag) (items : List Item) (e : Element) (declared
   own_bound : (p : List ℕ) → prefix_space (reverse (bindings tag) ++ outer) p ≡ prefix_space (scope_within outer tag) p
   own_bound p = bound_reversed (bindings tag) outer p h.named.binds_once
 
-resolves : (path : List ℕ) (outer : Scope) (tag : Tag) (inside : Pieces) (items : List Item) (e : Element) (declared : List Declared)
+resolves : (path : List ℕ) (outer : Scope) (tag : Tag) (inside : Pieces) (items : List ContentItem) (e : Element) (declared : List Declared)
     (scope : Scope) → IsElement outer tag items e declared
     → AreItems (scope_within outer tag) inside items → LeadsTo outer tag inside path scope → (p : List ℕ)
     → prefix_space (declared_at path declared ++ outer) p ≡ prefix_space scope p
@@ -287,7 +289,7 @@ after_margin (piece.Start tag inside after) d r m h = absurd m
 
 pub root_there : (pieces : Pieces) (tag : Tag) (inside after : Pieces) (r : Reading) → IsElementPiece pieces tag inside after
     → BeginsWithRoot pieces r
-    → (items : List Item) × IsElement root_scope tag items r.root r.declared × AreItems (scope_within root_scope tag) inside items
+    → (items : List ContentItem) × IsElement root_scope tag items r.root r.declared × AreItems (scope_within root_scope tag) inside items
 root_there pieces tag inside after r is b = elim is [
   | inl e ↦ let h : BeginsWithRoot (piece.Start tag inside after) r = subst (λ (q : Pieces). BeginsWithRoot q r) e b in (h.0, h.2, h.1)
   | inr e ↦

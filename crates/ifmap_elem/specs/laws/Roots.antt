@@ -5,7 +5,7 @@ use Rattle.ifmap_elem.specs.declared.elements.Element.{Element}
 use Rattle.ifmap_elem.specs.declared.readings.Declared.{Declared}
 use Rattle.ifmap_elem.specs.declared.readings.Reading.{Reading}
 use Rattle.ifmap_elem.specs.Document as piece
-use Rattle.ifmap_elem.specs.Document.{Pieces, Nothing, chain_pieces, Item, Inner, Run, AreItems, IsElement, IsMargin, IsRoot}
+use Rattle.ifmap_elem.specs.Document.{Pieces, Nothing, chain_pieces, ContentItem, Inner, Run, AreItems, IsElement, IsMargin, IsRoot}
 use Rattle.ifmap_elem.specs.Scopes.{root_scope, scope_within}
 
 -- from the first piece on: what a comment and white space leave is a root, and after an element a margin stands
@@ -16,7 +16,7 @@ BeginsWithRoot (piece.Characters blank text after) r = (blank ≡ true) × Begin
 BeginsWithRoot (piece.Section text after) r = ⊥
 BeginsWithRoot (piece.Empty tag after) r = IsElement root_scope tag [] r.root r.declared × IsMargin after
 BeginsWithRoot (piece.Start tag inside after) r =
-    (inner : List Item) × AreItems (scope_within root_scope tag) inside inner × IsElement root_scope tag inner r.root r.declared
+    (inner : List ContentItem) × AreItems (scope_within root_scope tag) inside inner × IsElement root_scope tag inner r.root r.declared
     × IsMargin after
 
 pub chained_nothing : (c : Pieces) → chain_pieces c Nothing ≡ c
@@ -50,7 +50,7 @@ element_begins (piece.Empty tag after) d e declared m h =
     let last : m.2 ≡ [] = cc in (
       subst (λ (x : Element). IsElement root_scope tag [] x declared) same
           (subst (λ (x : List Declared). IsElement root_scope tag [] m.0 x) told m.4),
-      no_items after d (subst (λ (is : List Item). AreItems root_scope after is) last m.5) h,
+      no_items after d (subst (λ (is : List ContentItem). AreItems root_scope after is) last m.5) h,
     )
 element_begins (piece.Start tag inside after) d e declared m h =
     let one : Inner e declared ∷ [] ≡ Inner m.1 m.2 ∷ m.3 = m.4 in
@@ -61,7 +61,7 @@ element_begins (piece.Start tag inside after) d e declared m h =
       m.5,
       subst (λ (x : Element). IsElement root_scope tag m.0 x declared) same
           (subst (λ (x : List Declared). IsElement root_scope tag m.0 m.1 x) told m.6),
-      no_items after d (subst (λ (is : List Item). AreItems root_scope after is) last m.7) h,
+      no_items after d (subst (λ (is : List ContentItem). AreItems root_scope after is) last m.7) h,
     )
 
 -- a margin before it

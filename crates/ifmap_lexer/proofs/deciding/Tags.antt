@@ -10,7 +10,7 @@ use Rattle.ifmap_elem.specs.Values.{IsValue}
 use Rattle.ifmap_elem.specs.declared.tokens.Assignment.{Assignment}
 use Rattle.ifmap_lexer.specs.Cutting.{Cuts, is_but}
 use Rattle.ifmap_lexer.specs.Tags.{ClosesTag, IsAtEnd}
-use Rattle.ifmap_lexer.specs.declared.values.Place.TheVariants.{AttributeValue}
+use Rattle.ifmap_elem.specs.declared.escaping.TextPlace.TheVariants.{Value}
 use Rattle.ifmap_lexer.specs.There.{SomeAssignment, SomeAssignments, SomeGiven, SomeTag}
 use Rattle.ifmap_lexer.proofs.AssignmentLaws.{SomeValue, no_white, some_name, no_value, some_value, assignment_found, goes_on_start}
 use Rattle.ifmap_lexer.proofs.AssignmentLaws.{goes_on_next, some_first, tells_end, tag_name, tag_assignments, tag_found}
@@ -24,7 +24,7 @@ given_or_none written =
     (λ (h : IsCharacters written × (AllAre (is_but less_than) written × SomeValue written)). (h.1.1.0, h.0, h.1.0, h.1.1.1))
     (λ s. (s.1, (s.2, (s.0, s.3))))
     (decided_both (characters_or_not written)
-    (decided_both (are_or_not (is_but less_than) written) (expansion_or_none AttributeValue written)))
+    (decided_both (are_or_not (is_but less_than) written) (expansion_or_none Value written)))
 
 assignment_after : (bytes white inner : List ℕ) → Cuts is_white bytes white inner → Decided (SomeAssignment bytes)
 assignment_after bytes [] inner c = inr (no_white bytes [] inner c refl)

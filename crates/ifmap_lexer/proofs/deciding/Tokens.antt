@@ -10,7 +10,7 @@ use Rattle.ifmap_lexer.specs.Cutting.{Cuts, is_but}
 use Rattle.ifmap_elem.specs.Kinds.{Stands, kind_at}
 use Rattle.ifmap_elem.specs.declared.tokens.TokenKind.{TokenKind}
 use Rattle.ifmap_elem.specs.declared.tokens.TokenKind.TheVariants as kinds
-use Rattle.ifmap_lexer.specs.declared.values.Place.TheVariants.{CharacterData}
+use Rattle.ifmap_elem.specs.declared.escaping.TextPlace.TheVariants.{Content}
 use Rattle.ifmap_lexer.specs.There.{SomeToken}
 use Rattle.ifmap_lexer.proofs.TokenLaws.{of_kind, of_no_kind, no_declaration, no_opening_comment, no_dashes, no_comment_end}
 use Rattle.ifmap_lexer.proofs.TokenLaws.{no_comment_characters, comment_found, no_opening_section, no_brackets, no_section_characters}
@@ -91,7 +91,7 @@ text_before bytes (b ∷ bs) rest c = elim (lacks_or_not (codes "]]>") (b ∷ bs
   | inr fails ↦ inr (no_text_end bytes (b ∷ bs) rest c fails)
   | inl lacks ↦ elim (characters_or_not (b ∷ bs)) [
     | inr fails ↦ inr (no_text_characters bytes (b ∷ bs) rest c fails)
-    | inl f ↦ elim (expansion_or_none CharacterData (b ∷ bs)) [
+    | inl f ↦ elim (expansion_or_none Content (b ∷ bs)) [
       | inr none ↦ inr (λ s. none (some_text bytes (b ∷ bs) rest c s))
       | inl x ↦
           let blank = list_all is_white (b ∷ bs) in

@@ -8,7 +8,7 @@ use Rattle.ifmap_elem.specs.Tokens.{TakesQuoted}
 use Rattle.ifmap_elem.specs.Values.{SpellsOut, reference_value}
 use Rattle.ifmap_lexer.specs.Cutting.{Cuts, CutsAt}
 use Rattle.ifmap_lexer.specs.Runs.{part_in}
-use Rattle.ifmap_lexer.specs.declared.values.Place.{Place}
+use Rattle.ifmap_elem.specs.declared.escaping.TextPlace.{TextPlace}
 use Rattle.ifmap_lexer.proofs.ExpansionLaws.{Along, along_start, along_unended, along_unknown, along_next, along_end}
 use Rattle.ifmap_lexer.proofs.QuoteLaws.{no_quote_at, no_sign, no_quote, unclosed, quoted_found}
 use Rattle.ifmap_lexer.proofs.deciding.Runs.{cut_of, cut_or_none}
@@ -40,7 +40,7 @@ quoted_or_none bytes =
 
 -- what written characters mean
 
-module _ (place : Place) (written : List ℕ) where
+module _ (place : TextPlace) (written : List ℕ) where
   abbrev pub SomeExpansion : Type 0
   SomeExpansion = (text : List ℕ) × SpellsOut (part_in place) written text
 

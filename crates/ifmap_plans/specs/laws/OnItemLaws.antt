@@ -11,7 +11,7 @@ use Rattle.ifmap_view.specs.Attachments.{stored_order}
 use Rattle.ifmap_lemmas.specs.Members.{map_of_all}
 use Rattle.ifmap_ident.specs.declared.items.Item.{Item}
 use Rattle.ifmap_ident.specs.Items.{same_item, item_order}
-use Rattle.ifmap_plans.specs.Plans.{AreWhole, Fits, FitsItem, IsAfter, change_of, changed_by}
+use Rattle.ifmap_plans.specs.Plans.{AreWhole, Fits, FitsItem, IsAfter, change_of, list_after}
 use Rattle.ifmap_view.specs.declared.attachments.Attachment.{Attachment}
 use Rattle.ifmap_view.specs.Rows.{stored_on}
 use Rattle.ifmap_lemmas.specs.Having.{has_filter, has_map, all_has, has_all}
@@ -42,7 +42,7 @@ pub whole_after : (before after : List Attachment) (changes : List ItemChange) �
 whole_after before after changes fits is w =
     on_whole after (λ x. subst (AllByRecursion IsWhole) (sym (is x)) (on x (change_of changes x) refl))
   where
-    on : (x : Item) (o : Option ItemChange) → change_of changes x ≡ o → AllByRecursion IsWhole (changed_by o (stored_on x before))
+    on : (x : Item) (o : Option ItemChange) → change_of changes x ≡ o → AllByRecursion IsWhole (list_after o (stored_on x before))
     on x None e = whole_on before w x
     on x (Some c) e =
         let f : FitsItem before c = found_all (FitsItem before) (λ (d : ItemChange). same_item d.item x) changes fits.each c e

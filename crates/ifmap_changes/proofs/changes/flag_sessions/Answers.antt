@@ -3,7 +3,7 @@ use Rattle.ifmap_changes.proofs.Marking.{as_many, is_of, left_without, none_of_t
 use Rattle.ifmap_changes.proofs.changes.flag_sessions.Goals as goal
 use Rattle.ifmap_tellings.specs.ifmap_standing.declared.standing.Standing.{Standing}
 use Rattle.ifmap_tellings.specs.ifmap_standing.Standing.{standing_of}
-use Rattle.ifmap_tellings.specs.Tellings.{AllKept, kept_of}
+use Rattle.ifmap_tellings.specs.Tellings.{AllKept, kept_items}
 
 pub returns-clause-flags : goal.returns-clause-flags
 returns-clause-flags c =
@@ -11,7 +11,7 @@ returns-clause-flags c =
 
 pub returns-clause-left : goal.returns-clause-left
 returns-clause-left c =
-    ap (λ gone. map standing_of (kept_of gone c.args.standing.now)) c.set_flags.ensures
+    ap (λ gone. map standing_of (kept_items gone c.args.standing.now)) c.set_flags.ensures
     ∙ left_without c.args.serials.now c.args.pending.now.gone.items c.args.standing.now
 
 pub returns-clause-stay : goal.returns-clause-stay

@@ -1,5 +1,5 @@
 use Rattle.std.proofs.Common.{inl, arith}
-use Rattle.ifmap_changes.specs.Between.{so_far}
+use Rattle.ifmap_changes.specs.Between.{state_now}
 use Rattle.ifmap_changes.specs.Bounds.{IsPlanWithin}
 use Rattle.ifmap_changes.proofs.Begun.{IsOutAndTold, ready_out}
 use Rattle.ifmap_changes.proofs.Making.{Commits, awaits_told, back_made, bare_made, given_up, numbers_made, ready_made, steady_made, told_made, turned_made}
@@ -22,7 +22,7 @@ out g c = record {
 
 -- the steps, whichever way the telling ended
 spent : (g : given.Over) (c : After-tell_parts g)
-    → IsPlanWithin c.args.plan (so_far c.args.asking.now c.args.parts.now c.args.pending.now) c.args.steps.now c.tell_parts.new.steps
+    → IsPlanWithin c.args.plan (state_now c.args.asking.now c.args.parts.now c.args.pending.now) c.args.steps.now c.tell_parts.new.steps
 spent g c = told_within (out g c) c.bytes_tell_identifiers_apart.ensures c.requires.steady c.args.asking.now c.args.pending.now
     c.args.steps.now c.tell_parts.new.steps c.tell_parts.ensures.steps
 

@@ -1,6 +1,6 @@
 use Rattle.std.proofs.Common.{◌++◌, refl, sym, subst}
 use Rattle.std.specs.List.{AllByRecursion}
-use Rattle.ifmap_changes.specs.Between.{HasStartNumber, so_far}
+use Rattle.ifmap_changes.specs.Between.{HasStartNumber, state_now}
 use Rattle.ifmap_changes.proofs.Settling.{kept_settled, ready_after, same_left, same_state, settled_searches}
 use Rattle.ifmap_changes.proofs.Steady.{HaveSameSearches, all_numbered, steady_beside}
 use Rattle.ifmap_changes.proofs.changes.settle_made.Goals as goal
@@ -42,11 +42,11 @@ returns-clause-ready c = λ asking pending r.
     c.is_view-2.ensures c.settle-plan.ensures.now c.settle-plan.ensures.links c.settle-plan.ensures.numbers c.args.made.ways
     pending.gone.items xs ys numbered c.settle_all.ensures.settled r.kept) r
 
-pub returns-clause-so_far : goal.returns-clause-so_far
-returns-clause-so_far c = λ asking pending.
+pub returns-clause-state_now : goal.returns-clause-state_now
+returns-clause-state_now c = λ asking pending.
     let xs = c.args.parts.now.standing.items in
     let ys = c.settle_all.new.standing.items in
-    same_state (so_far asking c.args.parts.now pending) _ _ _ _ c.settle-plan.ensures.now
+    same_state (state_now asking c.args.parts.now pending) _ _ _ _ c.settle-plan.ensures.now
     (same_left pending.gone.items xs ys (settled_searches c.args.made.ways xs ys c.settle_all.ensures.settled))
 
 pub returns-clause-waits : goal.returns-clause-waits

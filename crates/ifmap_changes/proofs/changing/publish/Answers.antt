@@ -1,7 +1,7 @@
 use Rattle.std.proofs.Common.{◌≡◌, inl, arith, sym, ◌∙◌, subst, ap}
 use Rattle.std.proofs.lemmas.Result.{on_ok_weaker}
 use Rattle.std.specs.List.{AllByRecursion}
-use Rattle.ifmap_changes.specs.Between.{AreKept, so_far}
+use Rattle.ifmap_changes.specs.Between.{AreKept, state_now}
 use Rattle.ifmap_changes.proofs.Taken.{author_of}
 use Rattle.ifmap_changes.proofs.changing.publish.Given as given
 use Rattle.ifmap_changes.proofs.changing.publish.Goals as goal
@@ -45,7 +45,7 @@ make_change-requires-clause-canon g c =
 pub returns-clause-told : goal.returns-clause-told
 returns-clause-told g c =
     let place = (goal.at.returns-clause-told g c).After-make_change in
-    let before = so_far c.args.asking.now c.args.parts.now c.args.pending.now in
+    let before = state_now c.args.asking.now c.args.parts.now c.args.pending.now in
     let first = rows_now c.args.parts.now.graph in
     let ops = c.args.publication.now.ops.now in
     let by = author_of c.args.publication.now.serial c.args.asking.now in

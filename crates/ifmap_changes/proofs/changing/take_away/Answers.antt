@@ -3,7 +3,7 @@ use Rattle.std.proofs.lemmas.Result.{on_ok_weaker}
 use Rattle.ifmap_graph.specs.Seen.{rows_now}
 use Rattle.ifmap_lemmas.specs.Results.{on_err}
 use Rattle.ifmap_tellings.specs.ifmap_publish.Retract.{retract}
-use Rattle.ifmap_changes.specs.Between.{AreKept, so_far}
+use Rattle.ifmap_changes.specs.Between.{AreKept, state_now}
 use Rattle.ifmap_changes.specs.KeptLaws.{stays_kept}
 use Rattle.ifmap_changes.proofs.Taken.{taken_canon, taken_told}
 use Rattle.ifmap_changes.proofs.changing.take_away.Goals as goal
@@ -21,8 +21,8 @@ returns-in_err-plan-clause-steps g c = (c.plan_retraction.new.steps, c.plan_retr
 pub returns-clause-told : goal.returns-clause-told
 returns-clause-told g c =
     let a = c.args.asking.now in
-    on_ok_weaker c.make_change.result (taken_told c.in_ok-plan.ensures.plan (so_far a c.make_change.new.parts c.make_change.new.pending)
-    (so_far a c.args.parts.now c.args.pending.now)) c.make_change.ensures.told
+    on_ok_weaker c.make_change.result (taken_told c.in_ok-plan.ensures.plan (state_now a c.make_change.new.parts c.make_change.new.pending)
+    (state_now a c.args.parts.now c.args.pending.now)) c.make_change.ensures.told
 
 pub returns-clause-steps : goal.returns-clause-steps
 returns-clause-steps g c =

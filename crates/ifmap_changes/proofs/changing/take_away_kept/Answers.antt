@@ -4,7 +4,7 @@ use Rattle.ifmap_graph.specs.Seen.{rows_now}
 use Rattle.ifmap_lemmas.specs.Outcomes.{where_value}
 use Rattle.ifmap_lemmas.specs.Results.{on_err}
 use Rattle.ifmap_tellings.specs.ifmap_publish.Retract.{retract}
-use Rattle.ifmap_changes.specs.Between.{AreKept, so_far}
+use Rattle.ifmap_changes.specs.Between.{AreKept, state_now}
 use Rattle.ifmap_changes.specs.KeptLaws.{stays_kept}
 use Rattle.ifmap_changes.proofs.Taken.{can_settle, taken_canon, taken_told}
 use Rattle.ifmap_changes.proofs.changing.take_away_kept.Goals as goal
@@ -22,8 +22,8 @@ returns-in_err-plan-clause-steps g c = (c.plan_retraction.new.steps, c.plan_retr
 pub returns-clause-told : goal.returns-clause-told
 returns-clause-told g c =
     let a = c.args.asking.now in
-    on_ok_weaker c.make_kept.result (taken_told c.in_ok-plan.ensures.plan (so_far a c.make_kept.new.parts c.make_kept.new.pending)
-    (so_far a c.args.parts.now c.args.pending.now)) c.make_kept.ensures.told
+    on_ok_weaker c.make_kept.result (taken_told c.in_ok-plan.ensures.plan (state_now a c.make_kept.new.parts c.make_kept.new.pending)
+    (state_now a c.args.parts.now c.args.pending.now)) c.make_kept.ensures.told
 
 pub returns-clause-settle : goal.returns-clause-settle
 returns-clause-settle g c =

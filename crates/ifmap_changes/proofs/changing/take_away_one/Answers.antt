@@ -1,6 +1,6 @@
 use Rattle.std.proofs.Common.{◌≡◌, ◌≢◌, ℕ, List, [], ◌∷◌, ◌++◌, length, map, ◌∙◌, subst, ap}
 use Rattle.std.proofs.lemmas.Result.{on_ok_weaker}
-use Rattle.ifmap_changes.specs.Between.{AreKept, so_far}
+use Rattle.ifmap_changes.specs.Between.{AreKept, state_now}
 use Rattle.ifmap_changes.proofs.Spending.{ended_none, ended_within}
 use Rattle.ifmap_changes.proofs.Taken.{marked_state, ready_marked}
 use Rattle.ifmap_changes.proofs.changing.take_away_one.Given as given
@@ -15,16 +15,16 @@ use Rattle.ifmap_tellings.specs.ifmap_publish.declared.who.Who.TheVariants.{Sess
 use Rattle.ifmap_tellings.specs.ifmap_publish.Retract.{retract}
 use Rattle.ifmap_tellings.specs.ifmap_standing.declared.standing.Standing.{Standing}
 use Rattle.ifmap_tellings.specs.ifmap_standing.Standing.{standing_of}
-use Rattle.ifmap_tellings.specs.Tellings.{AllKept, kept_of}
+use Rattle.ifmap_tellings.specs.Tellings.{AllKept, kept_items}
 use Rattle.ifmap_changes.specs.KeptLaws.{stays_kept}
 
 -- the subscriptions of the session are gone
 left : (g : given.Over) (c : After-take_away g)
-    → map standing_of (kept_of c.flag_session.new.pending.gone.items c.args.parts.now.standing.items)
-    ≡ without_standing (c.args.serial ∷ []) (map standing_of (kept_of c.args.pending.now.gone.items c.args.parts.now.standing.items))
+    → map standing_of (kept_items c.flag_session.new.pending.gone.items c.args.parts.now.standing.items)
+    ≡ without_standing (c.args.serial ∷ []) (map standing_of (kept_items c.args.pending.now.gone.items c.args.parts.now.standing.items))
 left g c =
-    subst (λ (l : List Standing). map standing_of (kept_of c.flag_session.new.pending.gone.items l)
-    ≡ without_standing (c.args.serial ∷ []) (map standing_of (kept_of c.args.pending.now.gone.items l)))
+    subst (λ (l : List Standing). map standing_of (kept_items c.flag_session.new.pending.gone.items l)
+    ≡ without_standing (c.args.serial ∷ []) (map standing_of (kept_items c.args.pending.now.gone.items l)))
     c.deref.ensures.value c.flag_session.ensures.left
 
 serials : (g : given.Over) (c : After-take_away g) → c.push.new.self.items ≡ c.args.serial ∷ []
@@ -44,7 +44,7 @@ returns-clause-told g c =
     let rows = retract (Sessions (c.args.serial ∷ [])) (rows_now c.args.parts.now.graph) in
     on_ok_weaker c.take_away.result (λ e. e
     ∙ ap (λ (l : List ℕ). overflow (tell (retract (Sessions l) (rows_now c.args.parts.now.graph)) []
-    (so_far c.args.asking.now c.args.parts.now marked))) (serials g place)
+    (state_now c.args.asking.now c.args.parts.now marked))) (serials g place)
     ∙ ap (λ (s : State). overflow (tell rows [] s))
     (marked_state (c.args.serial ∷ []) c.args.asking.now c.args.parts.now c.args.pending.now marked (left g place)
     c.flag_session.ensures.tellings)) c.take_away.ensures.told
@@ -61,7 +61,7 @@ returns-in_err-serials-clause-kept g c =
 
 pub returns-in_err-serials-clause-steps : goal.returns-in_err-serials-clause-steps
 returns-in_err-serials-clause-steps g c =
-    ended_none c.args.serial (so_far c.args.asking.now c.args.parts.now c.args.pending.now) c.args.steps.now
+    ended_none c.args.serial (state_now c.args.asking.now c.args.parts.now c.args.pending.now) c.args.steps.now
 
 pub returns-clause-steps : goal.returns-clause-steps
 returns-clause-steps g c =

@@ -1,5 +1,5 @@
 use Rattle.std.proofs.Common.{◌∙◌, ap}
-use Rattle.ifmap_subscribes.specs.ifmap_changes.Between.{Asking, so_far}
+use Rattle.ifmap_subscribes.specs.ifmap_changes.Between.{Asking, state_now}
 use Rattle.ifmap_core.proofs.Begun.{begins, ready_with}
 use Rattle.ifmap_core.proofs.Spending.{former_none, former_within}
 use Rattle.ifmap_core.proofs.beginning.begin.Goals as goal
@@ -24,11 +24,11 @@ returns-clause-leads g c =
 
 pub returns-in_err-opening-clause-steps : goal.returns-in_err-opening-clause-steps
 returns-in_err-opening-clause-steps g c =
-    former_none _ (so_far c.args.asking.now c.args.parts.now c.args.pending.now) c.args.steps.now
+    former_none _ (state_now c.args.asking.now c.args.parts.now c.args.pending.now) c.args.steps.now
 
 pub returns-in_err-publisher-clause-steps : goal.returns-in_err-publisher-clause-steps
 returns-in_err-publisher-clause-steps g c =
-    former_none _ (so_far c.args.asking.now c.args.parts.now c.args.pending.now) c.args.steps.now
+    former_none _ (state_now c.args.asking.now c.args.parts.now c.args.pending.now) c.args.steps.now
 
 pub returns-in_err-take_away_former-clause-steps : goal.returns-in_err-take_away_former-clause-steps
 returns-in_err-take_away_former-clause-steps g c =

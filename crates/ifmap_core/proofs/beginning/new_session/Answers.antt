@@ -1,5 +1,5 @@
 use Rattle.std.proofs.Common.{sym, ◌∙◌, refl}
-use Rattle.ifmap_subscribes.specs.ifmap_changes.Between.{so_far}
+use Rattle.ifmap_subscribes.specs.ifmap_changes.Between.{state_now}
 use Rattle.ifmap_core.proofs.Begun.{full_leads}
 use Rattle.ifmap_core.proofs.Exits.{stays_turns}
 use Rattle.ifmap_core.proofs.Spending.{begun_none, begun_within}
@@ -18,9 +18,10 @@ returns-then-is_full-clause-change g c = stays_turns c.refuse.result c.args.part
 
 pub returns-then-is_full-clause-steps : goal.returns-then-is_full-clause-steps
 returns-then-is_full-clause-steps g c =
-    begun_none (so_far c.args.asking.now c.args.parts.now c.args.pending.now) c.args.asking.now.client c.args.steps.now
+    begun_none (state_now c.args.asking.now c.args.parts.now c.args.pending.now) c.args.asking.now.client c.args.steps.now
 
 pub returns-clause-steps : goal.returns-clause-steps
 returns-clause-steps g c =
-    begun_within (so_far c.args.asking.now c.args.parts.now c.args.pending.now) c.args.asking.now.client c.args.steps.now c.begin.new.steps
+    begun_within (state_now c.args.asking.now c.args.parts.now c.args.pending.now) c.args.asking.now.client c.args.steps.now
+    c.begin.new.steps
     (sym (c.is_full.ensures.full c.args.parts.now c.args.pending.now refl) ∙ c.if-is_full.false) c.begin.ensures.steps

@@ -1,6 +1,6 @@
 use Rattle.std.proofs.Common.{◌+◌, ◌∷◌, [], refl, sym, ◌∙◌, ap, subst}
 use Rattle.ifmap_subscribes.specs.ifmap_changes.Between.{AreWithinLimits, AreOrdered}
-use Rattle.ifmap_core.specs.Completions.{CanApplyTo, WouldBeParts, after_completion, held_by}
+use Rattle.ifmap_core.specs.Completions.{CanApplyTo, WouldBeParts, after_completion, starts_in}
 use Rattle.ifmap_core.proofs.Applied.{accept_leaves, end_leaves, open_leaves, parts_moved, parts_renamed, poll_leaves, rename_leaves, say_leaves}
 use Rattle.ifmap_core.proofs.Applying.{former_ordered, live_begun, live_changed, live_first, ordered_beside, ordered_moved, within_begun, within_emptied, within_first, within_former, within_left, within_renewed, emptied_keeps}
 use Rattle.ifmap_core.proofs.completions.apply.Goals as goal
@@ -10,7 +10,7 @@ use Rattle.ifmap_session.specs.laws.TableLaws.{renewed_keeps}
 
 pub returns-in-Say : goal.returns-in-Say
 returns-in-Say c =
-    let would = subst (λ o. WouldBeParts (held_by o) c.args.parts.now) c.in-Say.is c.requires.parts in
+    let would = subst (λ o. WouldBeParts (starts_in o) c.args.parts.now) c.in-Say.is c.requires.parts in
     record {
       answer = λ state m s n t. ap (λ o. after_completion o state) c.in-Say.is
           ∙ say_leaves state c.args.moment c.args.parts.now.sessions.counter
@@ -22,7 +22,7 @@ returns-in-Say c =
 
 pub returns-in-Accept : goal.returns-in-Accept
 returns-in-Accept c =
-    let would = subst (λ o. WouldBeParts (held_by o) c.args.parts.now) c.in-Accept.is c.requires.parts in
+    let would = subst (λ o. WouldBeParts (starts_in o) c.args.parts.now) c.in-Accept.is c.requires.parts in
     record {
       answer = λ state m s n t. ap (λ o. after_completion o state) c.in-Accept.is
           ∙ accept_leaves state c.args.moment c.args.parts.now.sessions.counter
@@ -42,7 +42,7 @@ returns-in-Accept c =
 
 pub returns-in-End : goal.returns-in-End
 returns-in-End c =
-    let would = subst (λ o. WouldBeParts (held_by o) c.args.parts.now) c.in-End.is c.requires.parts in
+    let would = subst (λ o. WouldBeParts (starts_in o) c.args.parts.now) c.in-End.is c.requires.parts in
     let can = subst (λ o. CanApplyTo o c.args.parts.now) c.in-End.is c.requires.can in
     record {
       answer = λ state m s n t. ap (λ o. after_completion o state) c.in-End.is
@@ -60,7 +60,7 @@ returns-in-End c =
 
 pub returns-in-Open : goal.returns-in-Open
 returns-in-Open c =
-    let would = subst (λ o. WouldBeParts (held_by o) c.args.parts.now) c.in-Open.is c.requires.parts in
+    let would = subst (λ o. WouldBeParts (starts_in o) c.args.parts.now) c.in-Open.is c.requires.parts in
     let can = subst (λ o. CanApplyTo o c.args.parts.now) c.in-Open.is c.requires.can in
     let ordered = subst (λ l. AreOrdered l c.args.parts.now.standing.items) (sym c.end_former.ensures.live)
     (former_ordered c.in-Open.former c.args.parts.now.sessions.live c.args.parts.now.standing.items can.1 would.ordered) in
@@ -87,7 +87,7 @@ returns-in-Open c =
 
 pub returns-in-Rename : goal.returns-in-Rename
 returns-in-Rename c =
-    let would = subst (λ o. WouldBeParts (held_by o) c.args.parts.now) c.in-Rename.is c.requires.parts in
+    let would = subst (λ o. WouldBeParts (starts_in o) c.args.parts.now) c.in-Rename.is c.requires.parts in
     let can = subst (λ o. CanApplyTo o c.args.parts.now) c.in-Rename.is c.requires.can in
     let one = some_is (session_with_serial c.in-Rename.serial c.args.parts.now.sessions.live) can.0.live in
     let told = c.rename_each.ensures.renamed.told one.0 one.1 in
@@ -107,7 +107,7 @@ returns-in-Rename c =
 
 pub returns-in-Poll : goal.returns-in-Poll
 returns-in-Poll c =
-    let would = subst (λ o. WouldBeParts (held_by o) c.args.parts.now) c.in-Poll.is c.requires.parts in
+    let would = subst (λ o. WouldBeParts (starts_in o) c.args.parts.now) c.in-Poll.is c.requires.parts in
     let live = change c.in-Poll.serial without_items c.args.parts.now.sessions.live in
     record {
       answer = λ state m s n t. ap (λ o. after_completion o state) c.in-Poll.is

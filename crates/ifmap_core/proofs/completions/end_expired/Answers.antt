@@ -4,17 +4,22 @@ use Rattle.ifmap_core.proofs.completions.end_expired.Goals as goal
 use Rattle.ifmap_session.specs.Sessions.{IsLive}
 
 pub loop-serial-init : goal.loop-serial-init
-loop-serial-init c = record { so_far = record { can = c.requires; rest = refl }; counter = refl; room = omega arith; spare = λ n l. refl }
+loop-serial-init c = record {
+  state_now = record { can = c.requires; rest = refl };
+  counter = refl;
+  room = omega arith;
+  spare = λ n l. refl;
+}
 
 pub end-requires : goal.end-requires
 end-requires c =
     one_can_end c.args.ended.now c.args.sessions.now.live c.loop-serial.sessions.live c.loop-serial.serial-index
-    c.loop-serial-test.true c.loop-serial.invariant.so_far
+    c.loop-serial-test.true c.loop-serial.invariant.state_now
 
 pub loop-serial-preserved : goal.loop-serial-preserved
 loop-serial-preserved c = record {
-  so_far = one_ended c.args.ended.now c.args.sessions.now.live c.loop-serial.sessions.live c.end.new.self.live c.loop-serial.serial-index
-      c.loop-serial-test.true c.loop-serial.invariant.so_far c.end.ensures.live;
+  state_now = one_ended c.args.ended.now c.args.sessions.now.live c.loop-serial.sessions.live c.end.new.self.live c.loop-serial.serial-index
+      c.loop-serial-test.true c.loop-serial.invariant.state_now c.end.ensures.live;
   counter = c.end.ensures.counter ∙ c.loop-serial.invariant.counter;
   room = omega (arith, c.loop-serial.invariant.room, c.end.ensures.room);
   spare = λ n l.
@@ -27,4 +32,4 @@ loop-serial-preserved c = record {
 pub returns-clause-live : goal.returns-clause-live
 returns-clause-live c =
     ended_all c.args.ended.now c.args.sessions.now.live c.loop-serial.sessions.live c.loop-serial.serial-index c.loop-serial-test.false
-    c.loop-serial.invariant.so_far
+    c.loop-serial.invariant.state_now

@@ -5,7 +5,7 @@ use Rattle.ifmap_session.specs.Sessions.{IsLive, spare_of}
 
 abbrev pub invariant-loop-serial : goal.invariant-loop-serial
 invariant-loop-serial l = record {
-  so_far : EndsSoFar l.ended l.initial.sessions.live l.sessions.live l.serial-index;
+  state_now : EndsSoFar l.ended l.initial.sessions.live l.sessions.live l.serial-index;
   counter : l.sessions.counter ≡ l.initial.sessions.counter;
   room : l.initial.sessions.room ≤ l.sessions.room;
   spare : (n : ℕ) → IsLive n l.sessions.live → spare_of n l.sessions.spare ≡ spare_of n l.initial.sessions.spare;

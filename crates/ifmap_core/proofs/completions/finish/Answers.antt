@@ -1,12 +1,12 @@
 use Rattle.std.proofs.Common.{◌≡◌, ◌≤◌, Bool, List, sym, ◌∙◌, ap, subst, map, length, arith}
-use Rattle.ifmap_subscribes.specs.ifmap_changes.Between.{Asking, so_far}
+use Rattle.ifmap_subscribes.specs.ifmap_changes.Between.{Asking, state_now}
 use Rattle.ifmap_core.proofs.Finishing.{can_apply, can_tell_rest, finished, would_be}
 use Rattle.ifmap_core.proofs.completions.finish.Goals as goal
 use Rattle.ifmap_core.proofs.completions.finish.Goals.{After-remove_gone}
-use Rattle.ifmap_core.specs.Completions.{held_by}
+use Rattle.ifmap_core.specs.Completions.{starts_in}
 use Rattle.ifmap_session.specs.Sessions.{IsLive, SessionTable, spare_of, without_sessions}
 use Rattle.ifmap_subscribes.specs.ifmap_standing.Standing.{standing_of}
-use Rattle.ifmap_subscribes.specs.ifmap_tellings.Tellings.{kept_of, told_by}
+use Rattle.ifmap_subscribes.specs.ifmap_tellings.Tellings.{kept_items, tell_by}
 
 -- the sessions are left that have not expired
 left : (c : After-remove_gone)
@@ -15,10 +15,10 @@ left c = c.end_expired.ensures.live ∙ ap (λ (a : Asking). without_sessions a.
 
 -- they are told what was pending
 live : (c : After-remove_gone) → c.remove_gone.new.parts.sessions.live
-    ≡ map (told_by c.args.pending.tellings) (without_sessions c.args.asking.now.ended c.args.parts.now.sessions.live)
+    ≡ map (tell_by c.args.pending.tellings) (without_sessions c.args.asking.now.ended c.args.parts.now.sessions.live)
 live c =
     ap (λ (t : SessionTable). t.live) c.remove_gone.ensures.sessions ∙ c.tell_sessions.ensures.live
-    ∙ ap (map (told_by c.args.pending.tellings)) (left c)
+    ∙ ap (map (tell_by c.args.pending.tellings)) (left c)
 
 counter : (c : After-remove_gone) → c.remove_gone.new.parts.sessions.counter ≡ c.args.parts.now.sessions.counter
 counter c =
@@ -26,9 +26,9 @@ counter c =
 
 -- the subscriptions stand that are not gone
 standing : (c : After-remove_gone)
-    → c.remove_gone.new.parts.standing.items ≡ kept_of c.args.pending.gone.items c.args.parts.now.standing.items
+    → c.remove_gone.new.parts.standing.items ≡ kept_items c.args.pending.gone.items c.args.parts.now.standing.items
 standing c =
-    c.remove_gone.ensures.standing ∙ ap (λ (g : List Bool). kept_of g c.args.parts.now.standing.items) c.deref.ensures.value
+    c.remove_gone.ensures.standing ∙ ap (λ (g : List Bool). kept_items g c.args.parts.now.standing.items) c.deref.ensures.value
 
 pub tell_sessions-requires : goal.tell_sessions-requires
 tell_sessions-requires c =
@@ -40,7 +40,7 @@ tell_sessions-requires c =
 pub remove_gone-requires : goal.remove_gone-requires
 remove_gone-requires c = record {
   flags = ap (λ (g : List Bool). length g) c.deref.ensures.value ∙ c.requires.ready.flags;
-  steady = (held_by c.args.completion, c.requires.steady);
+  steady = (starts_in c.args.completion, c.requires.steady);
 }
 
 pub apply-requires : goal.apply-requires
@@ -48,7 +48,7 @@ apply-requires c =
     let place = (goal.at.apply-requires c).After-remove_gone in
     let old = c.args.parts.now in
     let new = c.remove_gone.new.parts in
-    let steady = c.remove_gone.ensures.steady (held_by c.args.completion) c.requires.steady in
+    let steady = c.remove_gone.ensures.steady (starts_in c.args.completion) c.requires.steady in
     let room : old.sessions.room ≤ new.sessions.room =
     (let same = ap (λ (t : SessionTable). t.room) c.remove_gone.ensures.sessions in
     let first = c.end_expired.ensures.room in
@@ -62,7 +62,7 @@ apply-requires c =
           let same = ap (λ (t : SessionTable). spare_of n t.spare) c.remove_gone.ensures.sessions in omega (arith, first, then_told, same))
           c.remove_gone.ensures.len c.remove_gone.ensures.capacity c.args.completion c.requires.can steady;
       parts = would_be c.args.asking.now old new c.args.pending c.requires.ready (live place) (standing place)
-          c.remove_gone.ensures.kept (held_by c.args.completion) steady;
+          c.remove_gone.ensures.kept (starts_in c.args.completion) steady;
     }
 
 pub returns-clause-answer : goal.returns-clause-answer
@@ -70,7 +70,7 @@ returns-clause-answer c =
     let place = (goal.at.returns-clause-answer c).After-remove_gone in
     let old = c.args.parts.now in
     finished c.args.asking.now old c.apply.new.parts c.args.pending c.args.completion c.apply.result
-    (c.apply.ensures.rows ∙ c.remove_gone.ensures.rows) (c.apply.ensures.answer (so_far c.args.asking.now old c.args.pending)
+    (c.apply.ensures.rows ∙ c.remove_gone.ensures.rows) (c.apply.ensures.answer (state_now c.args.asking.now old c.args.pending)
     (sym (ap (λ (a : Asking). a.moment) c.asking.view_is)) (sym (live place))
     (sym (counter place)) (sym (ap (map standing_of) (standing place))))
 

@@ -3,13 +3,13 @@ use Rattle.ifmap_core.proofs.Expiring.{done_leads, would_be}
 use Rattle.ifmap_core.proofs.Spending.{ask_none}
 use Rattle.ifmap_core.proofs.ending.answer_all.Goals as goal
 use Rattle.ifmap_core.specs.Ending.{state_when}
-use Rattle.ifmap_core.specs.Completions.{held_by}
+use Rattle.ifmap_core.specs.Completions.{starts_in}
 
 pub apply-requires-clause-can : goal.apply-requires-clause-can
 apply-requires-clause-can g c = c.in-Some.ensures.some.can c.args.parts.now refl
 
 pub apply-requires-clause-parts : goal.apply-requires-clause-parts
-apply-requires-clause-parts g c = would_be c.args.parts.now (held_by c.in-Some.completion) c.in-Some.ensures.some.plain c.requires
+apply-requires-clause-parts g c = would_be c.args.parts.now (starts_in c.in-Some.completion) c.in-Some.ensures.some.plain c.requires
 
 pub returns-in-Some-clause-answers : goal.returns-in-Some-clause-answers
 returns-in-Some-clause-answers g c = record {

@@ -10,7 +10,7 @@ settle_ended-requires-clause-settle g c =
 
 pub returns-in-Ok-clause-answer : goal.returns-in-Ok-clause-answer
 returns-in-Ok-clause-answer g c =
-    sym c.finish.ensures.answer ∙ ap (after_completion c.in-Ok.completion) c.settle_ended.ensures.so_far ∙ c.in-Ok.ensures.leads.leads
+    sym c.finish.ensures.answer ∙ ap (after_completion c.in-Ok.completion) c.settle_ended.ensures.state_now ∙ c.in-Ok.ensures.leads.leads
 
 pub undo_made-requires-clause-steady : goal.undo_made-requires-clause-steady
 undo_made-requires-clause-steady g c = c.in-Err.ensures.change.kept.back.steady

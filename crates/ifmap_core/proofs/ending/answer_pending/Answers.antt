@@ -24,7 +24,7 @@ returns-in_err-completion-clause-answers g c =
 pub returns-clause-answers : goal.returns-clause-answers
 returns-clause-answers g c = record {
   answer = sym c.finish.ensures.answer ∙ c.in_ok-completion.ensures.leads.leads
-      ∙ ap (λ (s : State). step_ask s c.args.event.now c.args.event.now.ask) (c.in_ok-pending.ensures.so_far
+      ∙ ap (λ (s : State). step_ask s c.args.event.now c.args.event.now.ask) (c.in_ok-pending.ensures.state_now
       ∙ none_dropped (state_when c.args.time.now c.args.parts.now));
   kept = tt;
   parts = c.finish.ensures.parts;
@@ -38,9 +38,9 @@ returns-in_err-pending-clause-steps g c =
 pub returns-in_err-completion-clause-steps : goal.returns-in_err-completion-clause-steps
 returns-in_err-completion-clause-steps g c =
     subst (λ (s : State). IsAskWithin s c.args.event.now c.args.event.now.ask c.args.steps.now c.answer.new.steps)
-    (c.in_ok-pending.ensures.so_far ∙ none_dropped (state_when c.args.time.now c.args.parts.now)) c.answer.ensures.steps
+    (c.in_ok-pending.ensures.state_now ∙ none_dropped (state_when c.args.time.now c.args.parts.now)) c.answer.ensures.steps
 
 pub returns-clause-steps : goal.returns-clause-steps
 returns-clause-steps g c =
     subst (λ (s : State). IsAskWithin s c.args.event.now c.args.event.now.ask c.args.steps.now c.answer.new.steps)
-    (c.in_ok-pending.ensures.so_far ∙ none_dropped (state_when c.args.time.now c.args.parts.now)) c.answer.ensures.steps
+    (c.in_ok-pending.ensures.state_now ∙ none_dropped (state_when c.args.time.now c.args.parts.now)) c.answer.ensures.steps

@@ -27,7 +27,7 @@ spent : (g : given.Over) (c : After-take_away_kept g) (after : ℕ)
 spent g c after asked =
     let listed = c.deref.ensures.value ∙ c.serials.view_is in
     event_expired (state_when c.args.time.now c.args.parts.now) c.args.event.now c.deref.result.now c.in_ok-copy.field-0 c.requires.some
-    (listed ∙ c.in_ok-serials.ensures) (c.in_ok-copy.ensures ∙ sym listed) _ c.in_ok-pending.ensures.so_far c.args.steps.now
+    (listed ∙ c.in_ok-serials.ensures) (c.in_ok-copy.ensures ∙ sym listed) _ c.in_ok-pending.ensures.state_now c.args.steps.now
     c.take_away_kept.new.steps after c.take_away_kept.ensures.steps asked
 
 pub pending_without-requires-clause-ended : goal.pending_without-requires-clause-ended
@@ -66,7 +66,7 @@ returns-clause-answers g c =
       answer = subst (λ (s : State). IfOk c.answer_ended.result (λ answer. ◌≡◌ {A = State × Answer}
           (state_when c.args.time.now c.answer_ended.new.parts, answer) (step_ask s c.args.event.now c.args.event.now.ask)))
           (expires_by (state_when c.args.time.now old) c.deref.result.now c.in_ok-copy.field-0 c.requires.some
-          (listed ∙ c.in_ok-serials.ensures) (c.in_ok-copy.ensures ∙ sym listed) _ _ c.in_ok-pending.ensures.so_far
+          (listed ∙ c.in_ok-serials.ensures) (c.in_ok-copy.ensures ∙ sym listed) _ _ c.in_ok-pending.ensures.state_now
           c.in_ok-made.ensures.told) c.answer_ended.ensures.answer;
       kept = on_err_weaker {Q = AreBack old c.answer_ended.new.parts} c.answer_ended.result
           (λ f. f old c.requires.parts c.in_ok-made.ensures.numbers c.in_ok-made.ensures.back) c.answer_ended.ensures.kept;
@@ -98,4 +98,4 @@ returns-clause-steps g c =
     spent g (goal.at.returns-clause-steps g c).After-take_away_kept c.answer_ended.new.steps
     (subst (λ (s : State). IsAskWithin s c.args.event.now c.args.event.now.ask c.take_away_kept.new.steps c.answer_ended.new.steps)
     (expires_by before c.deref.result.now c.in_ok-copy.field-0 c.requires.some (listed ∙ c.in_ok-serials.ensures)
-    (c.in_ok-copy.ensures ∙ sym listed) _ _ c.in_ok-pending.ensures.so_far c.in_ok-made.ensures.told) c.answer_ended.ensures.steps)
+    (c.in_ok-copy.ensures ∙ sym listed) _ _ c.in_ok-pending.ensures.state_now c.in_ok-made.ensures.told) c.answer_ended.ensures.steps)

@@ -7,7 +7,7 @@ use Rattle.ifmap_core.proofs.ending.pending_without.Goals as goal
 use Rattle.ifmap_core.proofs.ending.pending_without.Goals.{After-flag_sessions}
 use Rattle.ifmap_subscribes.specs.ifmap_machine.Ending.{without_standing}
 use Rattle.ifmap_subscribes.specs.ifmap_standing.Standing.{standing_of}
-use Rattle.ifmap_subscribes.specs.ifmap_tellings.Tellings.{kept_of}
+use Rattle.ifmap_subscribes.specs.ifmap_tellings.Tellings.{kept_items}
 
 -- nothing is told yet
 none : (c : After-flag_sessions) (n : ℕ) → get nat_cmp c.flag_sessions.new.pending.tellings n ≡ None
@@ -17,7 +17,7 @@ none c =
 
 -- the subscriptions of the sessions that have expired are gone
 gone : (c : After-flag_sessions)
-    → map standing_of (kept_of c.flag_sessions.new.pending.gone.items c.args.parts.now.standing.items)
+    → map standing_of (kept_items c.flag_sessions.new.pending.gone.items c.args.parts.now.standing.items)
     ≡ without_standing c.args.asking.now.ended (map standing_of c.args.parts.now.standing.items)
 gone c =
     let first = c.in_ok-pending.ensures in
@@ -31,7 +31,7 @@ returns-clause-ready c =
     begins_ready c.args.asking.now c.args.parts.now c.flag_sessions.new.pending c.requires.parts c.requires.ended (none place) (gone place)
     (c.flag_sessions.ensures.flags ∙ ap length c.deref.ensures.value)
 
-pub returns-clause-so_far : goal.returns-clause-so_far
-returns-clause-so_far c =
-    let place = (goal.at.returns-clause-so_far c).After-flag_sessions in
+pub returns-clause-state_now : goal.returns-clause-state_now
+returns-clause-state_now c =
+    let place = (goal.at.returns-clause-state_now c).After-flag_sessions in
     begins_so_far c.args.asking.now c.args.parts.now c.flag_sessions.new.pending c.requires.parts c.requires.ended (none place) (gone place)

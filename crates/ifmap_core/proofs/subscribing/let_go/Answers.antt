@@ -19,8 +19,8 @@ returns-clause-ready c =
     c.release_all.ensures.rows c.release_all.ensures.links (shares_fewer old.graph c.release_all.new.graph c.release_all.ensures.numbers))
     (c.release_all.ensures.steady old.standing.items c.requires.steady) c.requires.ready
 
-pub returns-clause-so_far : goal.returns-clause-so_far
-returns-clause-so_far c =
+pub returns-clause-state_now : goal.returns-clause-state_now
+returns-clause-state_now c =
     let old = c.args.parts.now in
     same_so_far c.args.asking.now old (record { graph = c.release_all.new.graph; sessions = old.sessions; standing = old.standing })
     c.args.pending.now c.release_all.ensures.rows (same_sessions_itself old.sessions) refl

@@ -1,11 +1,11 @@
 use Rattle.std.proofs.Common.{sym, ◌∙◌, ap, subst}
-use Rattle.ifmap_subscribes.specs.ifmap_changes.Between.{IsSteady, so_far}
+use Rattle.ifmap_subscribes.specs.ifmap_changes.Between.{IsSteady, state_now}
 use Rattle.ifmap_core.proofs.Cases.{accepts, live_after}
 use Rattle.ifmap_core.proofs.Exits.{keeps}
 use Rattle.ifmap_core.proofs.Subscribed.{overruns}
 use Rattle.ifmap_core.proofs.Turned.{kept_room, turned_room}
 use Rattle.ifmap_core.proofs.subscribing.overrun.Goals as goal
-use Rattle.ifmap_core.specs.Completions.{alone_told}
+use Rattle.ifmap_core.specs.Completions.{state_with_error}
 use Rattle.ifmap_subscribes.specs.ifmap_machine.declared.events.Answer.TheVariants as the_answer
 use Rattle.ifmap_subscribes.specs.ifmap_machine.State.{State}
 use Rattle.ifmap_subscribes.specs.ifmap_replies.declared.replies.Reply.TheVariants as the_reply
@@ -23,8 +23,8 @@ returns-clause-leads c = λ s e.
     (live_after a c.args.serial c.args.parts.now.sessions new.sessions
     (subst (λ t. HasSameSessions t new.sessions) c.let_go.ensures.sessions c.tell_over.ensures.sessions) c.requires.ops.live)
     (overruns a c.args.parts.now c.args.pending.now c.args.serial c.args.readying c.is_table.ensures.rising c.requires.ops.readied
-    c.requires.ops.ready c.requires.over s e (so_far a new c.tell_over.new.pending) (c.in_ok-tell_over.ensures.told
-    ∙ ap (λ (st : State). alone_told c.args.serial c.args.readying.size st) c.let_go.ensures.so_far))
+    c.requires.ops.ready c.requires.over s e (state_now a new c.tell_over.new.pending) (c.in_ok-tell_over.ensures.told
+    ∙ ap (λ (st : State). state_with_error c.args.serial c.args.readying.size st) c.let_go.ensures.state_now))
 
 pub returns-clause-change : goal.returns-clause-change
 returns-clause-change c = record {

@@ -1,7 +1,7 @@
 use Rattle.std.proofs.Common.{◌≡◌, ◌≢◌, ◌∙◌, ap, sym, subst, ◌++◌, [], None, Some}
 use Rattle.std.proofs.lemmas.List.{append-nil}
 use Rattle.std.specs.List.Sorted.{IsStrictlySortedBy}
-use Rattle.ifmap_plans.specs.Plans.{changed_by}
+use Rattle.ifmap_plans.specs.Plans.{list_after}
 use Rattle.ifmap_view.specs.Attachments.{stored_order}
 use Rattle.ifmap_delta.specs.Shown.{shown_on}
 use Rattle.ifmap_delta.specs.Touched.{change_at}
@@ -27,7 +27,7 @@ now_rises g c =
 -- where both sides show the item, what is shown now is what the change beside it makes of what was shown
 changed_rows : (g : given.Over) (c : After-change_at g)
     → shown_on (g.D.View.rows c.args.after.now.view.now) c.args.after.now.search.now c.args.one.item
-    ≡ changed_by (change_at c.args.changes.now c.args.one.place)
+    ≡ list_after (change_at c.args.changes.now c.args.one.place)
     (shown_on (g.G.View.rows c.args.before.now.view.now) c.args.before.now.search.now c.args.one.item)
 changed_rows g c =
     let before = c.args.before.now
@@ -42,7 +42,7 @@ same_rows : (g : given.Over) (c : After-change_at g) → change_at c.args.change
     → shown_on (g.D.View.rows c.args.after.now.view.now) c.args.after.now.search.now c.args.one.item
     ≡ shown_on (g.G.View.rows c.args.before.now.view.now) c.args.before.now.search.now c.args.one.item
 same_rows g c none = changed_rows g c
-    ∙ ap (λ o. changed_by o (shown_on (g.G.View.rows c.args.before.now.view.now) c.args.before.now.search.now c.args.one.item)) none
+    ∙ ap (λ o. list_after o (shown_on (g.G.View.rows c.args.before.now.view.now) c.args.before.now.search.now c.args.one.item)) none
 
 pub add_any-requires-clause-before : goal.add_any-requires-clause-before
 add_any-requires-clause-before g c = was_rises g (goal.at.add_any-requires-clause-before g c).After-rows_shown-now
@@ -60,8 +60,8 @@ pub add_named-requires-clause-change : goal.add_named-requires-clause-change
 add_named-requires-clause-change g c =
     let before = c.args.before.now
     in c.rows_shown-now.ensures ∙ changed_rows g (goal.at.add_named-requires-clause-change g c).After-change_at
-    ∙ ap (λ o. changed_by o (shown_on (g.G.View.rows before.view.now) before.search.now c.args.one.item)) (sym c.in-Some.ensures)
-    ∙ ap (changed_by (Some c.in-Some.change.now)) (sym c.rows_shown-was.ensures)
+    ∙ ap (λ o. list_after o (shown_on (g.G.View.rows before.view.now) before.search.now c.args.one.item)) (sym c.in-Some.ensures)
+    ∙ ap (list_after (Some c.in-Some.change.now)) (sym c.rows_shown-was.ensures)
 
 pub returns-clause-deleted : goal.returns-clause-deleted
 returns-clause-deleted g c =

@@ -1,5 +1,5 @@
 use Rattle.std.proofs.Common.{rules, ◌≡◌, ◌∙◌, ap, ◌++◌}
-use Rattle.ifmap_delta.specs.Touched.{left_out}
+use Rattle.ifmap_delta.specs.Touched.{surplus}
 use Rattle.ifmap_delta.proofs.Touching.{comes_told, goes_told}
 use Rattle.ifmap_delta.proofs.differing.add_named.Goals as goal
 
@@ -9,7 +9,7 @@ returns-clause-deleted c =
     in let at : c.deref.result.now ≡ c.in_ok-going.going.items = search rules
     in c.in_ok-add_left_out.ensures
     ∙ ap (λ l. c.args.told.now.deleted.items ++ l)
-    (ap (λ l. left_out s.filter.now s.item.now l s.after.now) (at ∙ c.in_ok-going.ensures)
+    (ap (λ l. surplus s.filter.now s.item.now l s.after.now) (at ∙ c.in_ok-going.ensures)
     ∙ goes_told s.filter.now s.item.now c.args.change.now s.before.now s.after.now c.requires.change)
 
 pub returns-clause-updated : goal.returns-clause-updated
@@ -18,5 +18,5 @@ returns-clause-updated c =
     in let at : c.deref-2.result.now ≡ c.in_ok-coming.coming.items = search rules
     in c.in_ok-add_left_out-2.ensures
     ∙ ap (λ l. c.args.told.now.updated.items ++ l)
-    (ap (λ l. left_out s.filter.now s.item.now l s.before.now) (at ∙ c.in_ok-coming.ensures)
+    (ap (λ l. surplus s.filter.now s.item.now l s.before.now) (at ∙ c.in_ok-coming.ensures)
     ∙ comes_told s.filter.now s.item.now c.args.change.now s.before.now s.after.now c.requires.change)

@@ -1,7 +1,7 @@
 use Rattle.std.proofs.Common.{◌∙◌, ap, subst}
 use Rattle.ifmap_ident.specs.Items.{IsCanonItem}
 use Rattle.ifmap_lemmas.specs.Having.{all_has, has_all, Has, has_map}
-use Rattle.ifmap_plans.specs.Plans.{changed_by}
+use Rattle.ifmap_plans.specs.Plans.{list_after}
 use Rattle.ifmap_view.specs.Rows.{stored_on}
 use Rattle.ifmap_delta.specs.Touched.{IsChanged, IsPaired}
 use Rattle.ifmap_delta.specs.declared.pairing.TouchedItem.{TouchedItem}
@@ -22,4 +22,4 @@ differences_of-requires-clause-changes g c =
     in let changes = c.args.changes.now
     in has_all (IsChanged old new changes) touched
     (λ t h. c.requires.change t.item
-    ∙ ap (λ o. changed_by o (stored_on t.item old)) (all_has (IsPaired changes 0) touched c.in_ok-touched.ensures.paired t h))
+    ∙ ap (λ o. list_after o (stored_on t.item old)) (all_has (IsPaired changes 0) touched c.in_ok-touched.ensures.paired t h))

@@ -6,25 +6,25 @@ use Rattle.ifmap_delta.specs.Sights.{view_seen}
 use Rattle.ifmap_delta.proofs.InStep.{each_long}
 use Rattle.ifmap_delta.proofs.noting.notes.Goals as goal
 
-pub told_of-requires-clause-marks : goal.told_of-requires-clause-marks
-told_of-requires-clause-marks g c =
+pub told_entries-requires-clause-marks : goal.told_entries-requires-clause-marks
+told_entries-requires-clause-marks g c =
     (c.args.subscription.now.region.start, c.args.subscription.now.region.max_depth, c.requires.marks)
 
-pub told_of-requires-clause-canon : goal.told_of-requires-clause-canon
-told_of-requires-clause-canon g c =
+pub told_entries-requires-clause-canon : goal.told_entries-requires-clause-canon
+told_entries-requires-clause-canon g c =
     let at : c.deref.result.now ≡ c.args.located.now.plan.now.notes = search rules
     in subst (AllByRecursion (λ n. IsCanonItem n.item)) (sym at) c.requires.canon
 
-pub told_of-requires-clause-located : goal.told_of-requires-clause-located
-told_of-requires-clause-located g c =
+pub told_entries-requires-clause-located : goal.told_entries-requires-clause-located
+told_entries-requires-clause-located g c =
     let new = view_seen g.D.View.rows g.D.View.id_at g.D.View.links c.args.draft.now
     in let at : c.deref.result.now ≡ c.args.located.now.plan.now.notes = search rules
     in let on : c.deref-2.result.now ≡ c.args.located.now.notes.items = search rules
     in subst (λ ns. AreNotesLocated new ns c.deref-2.result.now) (sym at)
     (subst (λ ls. AreNotesLocated new c.args.located.now.plan.now.notes ls) (sym on) c.requires.located)
 
-pub told_of-requires-clause-long : goal.told_of-requires-clause-long
-told_of-requires-clause-long g c =
+pub told_entries-requires-clause-long : goal.told_entries-requires-clause-long
+told_entries-requires-clause-long g c =
     let new = view_seen g.D.View.rows g.D.View.id_at g.D.View.links c.args.draft.now
     in let at : c.deref.result.now ≡ c.args.located.now.plan.now.notes = search rules
     in let on : c.deref-2.result.now ≡ c.args.located.now.notes.items = search rules

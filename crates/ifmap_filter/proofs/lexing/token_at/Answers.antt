@@ -1,13 +1,13 @@
 use Rattle.std.proofs.Common.{◌≡◌, ◌∙◌, ap, sym, subst, None}
 use Rattle.std.specs.Prelude.{IfNone, IfSome, chars}
 use Rattle.std.specs.Option.{option_map}
-use Rattle.ifmap_filter.specs.Marks.{IsFrontMark, token_of}
+use Rattle.ifmap_filter.specs.RawTokens.{IsFrontToken, token_of}
 use Rattle.ifmap_filter.proofs.TokenLaws.{named, no_symbol, nothing_there, one_symbol, quoted}
 use Rattle.ifmap_filter.proofs.lexing.token_at.Goals as goal
 
 pub returns-then-is_quote-clause-found : goal.returns-then-is_quote-clause-found
 returns-then-is_quote-clause-found c =
-    subst (λ x. IfSome c.literal_at.result (λ f. IsFrontMark x f.0 f.1.now))
+    subst (λ x. IfSome c.literal_at.result (λ f. IsFrontToken x f.0 f.1.now))
     (sym (quoted (chars c.args.text.now) c.in-Some.first (chars c.in-Some.rest.now) c.in-Some.ensures.found
     (sym c.is_quote.ensures ∙ c.if-is_quote.true)))
     c.literal_at.ensures.found
@@ -21,7 +21,7 @@ returns-then-is_quote-clause-none c =
 
 pub returns-then-is_name_start-clause-found : goal.returns-then-is_name_start-clause-found
 returns-then-is_name_start-clause-found c =
-    subst (λ x. IfSome c.name_at.result (λ f. IsFrontMark x f.0 f.1.now))
+    subst (λ x. IfSome c.name_at.result (λ f. IsFrontToken x f.0 f.1.now))
     (sym (named (chars c.args.text.now) c.in-Some.first (chars c.in-Some.rest.now) c.in-Some.ensures.found
     (sym c.is_quote.ensures ∙ c.if-is_quote.false)
     (sym c.is_name_start.ensures ∙ c.if-is_name_start.true)))
@@ -48,5 +48,5 @@ pub returns-in-Some-symbol_of-clause-found : goal.returns-in-Some-symbol_of-clau
 returns-in-Some-symbol_of-clause-found c =
     one_symbol (chars c.args.text.now) c.in-Some.first (chars c.in-Some.rest.now) c.in-Some.ensures.found
     (sym c.is_quote.ensures ∙ c.if-is_quote.false)
-    (sym c.is_name_start.ensures ∙ c.if-is_name_start.false) (token_of c.in-Some-symbol_of.mark)
+    (sym c.is_name_start.ensures ∙ c.if-is_name_start.false) (token_of c.in-Some-symbol_of.raw)
     (sym c.symbol_of.ensures ∙ ap (option_map token_of) c.in-Some-symbol_of.is)

@@ -49,5 +49,5 @@ returns g c =
     let identifiers = c.in_ok-identifiers.identifiers.items in
     let place = (goal.at.returns g c).In_ok-identifiers in
     listed_whole finds parts identifiers (before g place) c.in_ok-list.list
-    (subst (λ (ps : List Part). list_if_there finds ps (Ok c.in_ok-list.list)) (after g place) c.in_ok-list.ensures) c.listed_of.result
-    c.listed_of.ensures
+    (subst (λ (ps : List Part). list_if_there finds ps (Ok c.in_ok-list.list)) (after g place) c.in_ok-list.ensures) c.list_with_item.result
+    c.list_with_item.ensures

@@ -8,7 +8,7 @@ use Rattle.ifmap_ident.specs.Identifiers.{identifier_order}
 use Rattle.ifmap_ident.specs.Items.{identifiers_of}
 use Rattle.ifmap_pool.specs.Holdings.{IsHeld}
 use Rattle.ifmap_graph.specs.declared.shelves.Shelf.{Shelf}
-use Rattle.ifmap_graph.specs.Named.{AreEnds, named_by}
+use Rattle.ifmap_graph.specs.Named.{AreEnds, uses_of}
 use Rattle.ifmap_graph.specs.Shelved.{list_at, rows_by}
 use Rattle.ifmap_graph.specs.Waits.{waits_at}
 use Rattle.ifmap_graph.proofs.Brought.{brings_none}
@@ -45,7 +45,7 @@ holds c = record {
       (subst (λ (i : Item). AllByRecursion IsIdentifier (identifiers_of i)) (sym c.requires.same) c.requires.canon.identifiers);
   numbers = subst (λ (i : Item). AreEnds c.hold_ends-ends.new.names i c.hold_ends-ends.result) c.requires.same
       c.hold_ends-ends.ensures.ends;
-  held = λ a count h. subst (λ (i : Item). IsHeld identifier_order c.hold_ends-ends.new.names a (count + named_by i a))
+  held = λ a count h. subst (λ (i : Item). IsHeld identifier_order c.hold_ends-ends.new.names a (count + uses_of i a))
       c.requires.same (c.hold_ends-ends.ensures.held a count h);
 }
 

@@ -9,7 +9,7 @@ use Rattle.ifmap_pool.specs.Holdings.{IsHeld}
 use Rattle.ifmap_graph.specs.Bringing.{flagged_items, graph_parts}
 use Rattle.ifmap_graph.specs.Drafted.{StayInPlace}
 use Rattle.ifmap_graph.specs.Held.{IsInside}
-use Rattle.ifmap_graph.specs.Named.{named_in}
+use Rattle.ifmap_graph.specs.Named.{uses_in}
 use Rattle.ifmap_graph.specs.Out.{items_changed}
 use Rattle.ifmap_graph.proofs.Brought.{brings_written, other_marked}
 use Rattle.ifmap_graph.proofs.Flipping.{inside_dropped}
@@ -91,7 +91,7 @@ returns-in-Err-clause-unmade c = λ first is grown brought.
     (λ v. c.drop_plan.ensures.links.now v ∙ drafts.links.now v ∙ ap (λ s. s.now) (grown.links v))
     (omega (arith, grown.longer, c.drop_plan.ensures.links.long, drafts.links.long))
     (λ a own h. less.own a own
-    (subst (λ p. IsHeld identifier_order c.args.names.now a (named_in p.entries a + own)) (sym (stay place).places) (grown.own a own h)))
+    (subst (λ p. IsHeld identifier_order c.args.names.now a (uses_in p.entries a + own)) (sym (stay place).places) (grown.own a own h)))
     (c.take_shelves.ensures.taken first.shelves
     (brings_written (flagged_items (items_changed c.args.coming.now.changes.now) c.args.coming.now.fresh.now) first.shelves
     c.args.shelves.now c.drop_plan.new.shelves brought (stay place).places (stay place).ends (stay place).waits))

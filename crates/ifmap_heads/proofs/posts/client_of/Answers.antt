@@ -11,7 +11,6 @@ use Rattle.ifmap_meta.specs.laws.ClientBytes.{client_is_ascii}
 use Rattle.ifmap_heads.specs.Posts.{is_client_name}
 use Rattle.ifmap_heads.proofs.posts.client_of.Goals as goal
 
-
 name_is_text : (name : List ℕ) → is_client_name name ≡ true → IsUtf8 name
 name_is_text name is =
     let all = AllPass-from_list_all is_client_byte name

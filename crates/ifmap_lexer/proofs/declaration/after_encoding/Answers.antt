@@ -18,5 +18,5 @@ returns-else-eq_ignore_ascii_case c =
       refl,
       not_allowed (codes "encoding") refl IsEncoding c.args.bytes.now c.in-Some.written.now c.in-Some.rest.now c.in-Some.ensures.found
           (λ is. fails_where_false _ _ c.eq_ignore_ascii_case.ensures.test c.if-eq_ignore_ascii_case.false
-            (from_encoding c.in-Some.written.now is)),
+          (from_encoding c.in-Some.written.now is)),
     )

@@ -16,11 +16,11 @@ loop-flip-preserved g c =
     let gives = MayHold (g.G.LinkSource.terminal c.args.basis.now.graph.now) c.args.basis.now.top
     (mark_over c.args.rows.now.entries (mark_of c.args.basis.now.base.now.entries)) in
     elim c.if-not-flip.branch [
-      | then-not-flip+in_ok-offer+in_ok-offer-2 w ↦ rw w.seeds-is (rw more (seeds_more before f false gives w.held_at-at_b.result
-          w.held_at-at_a.result
+      | then-not-flip+in_ok-offer+in_ok-offer-2 w ↦ rw w.seeds-is (rw more (seeds_more before f false gives w.held_mark-at_b.result
+          w.held_mark-at_a.result
           c.loop-flip.seeds.items w.offer.new.seeds.items w.offer-then-not-flip.new.seeds.items w.if-not-flip.true
-          w.in_ok-offer.ensures w.held_at-at_b.ensures.only w.held_at-at_b.ensures.each
-          w.in_ok-offer-2.ensures w.held_at-at_a.ensures.only w.held_at-at_a.ensures.each c.loop-flip.invariant))
+          w.in_ok-offer.ensures w.held_mark-at_b.ensures.only w.held_mark-at_b.ensures.each
+          w.in_ok-offer-2.ensures w.held_mark-at_a.ensures.only w.held_mark-at_a.ensures.each c.loop-flip.invariant))
       | else-not-flip w ↦ rw w.seeds-is (rw more (seeds_other before f false gives c.loop-flip.seeds.items (λ e. true≢false (sym
           w.if-not-flip.false ∙ e)) c.loop-flip.invariant))
     ]

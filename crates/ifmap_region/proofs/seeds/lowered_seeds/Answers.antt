@@ -16,11 +16,11 @@ loop-flip-preserved g c =
     let gives = Lowers (g.G.LinkSource.terminal c.args.basis.now.graph.now) c.args.basis.now.top (mark_over c.args.rows.now.entries (mark_of
     c.args.basis.now.base.now.entries)) in
     elim c.if-flip.branch [
-      | then-flip+in_ok-offer+in_ok-offer-2 w ↦ rw w.seeds-is (rw more (seeds_more before f true gives w.lowered_to-at_b.result
-          w.lowered_to-at_a.result
+      | then-flip+in_ok-offer+in_ok-offer-2 w ↦ rw w.seeds-is (rw more (seeds_more before f true gives w.lowered_level-at_b.result
+          w.lowered_level-at_a.result
           c.loop-flip.seeds.items w.offer.new.seeds.items w.offer-then-flip.new.seeds.items w.if-flip.true
-          w.in_ok-offer.ensures w.lowered_to-at_b.ensures.only w.lowered_to-at_b.ensures.each
-          w.in_ok-offer-2.ensures w.lowered_to-at_a.ensures.only w.lowered_to-at_a.ensures.each c.loop-flip.invariant))
+          w.in_ok-offer.ensures w.lowered_level-at_b.ensures.only w.lowered_level-at_b.ensures.each
+          w.in_ok-offer-2.ensures w.lowered_level-at_a.ensures.only w.lowered_level-at_a.ensures.each c.loop-flip.invariant))
       | else-flip w ↦ rw w.seeds-is (rw more (seeds_other before f true gives c.loop-flip.seeds.items (λ e. true≢false (sym e ∙
           w.if-flip.false)) c.loop-flip.invariant))
     ]

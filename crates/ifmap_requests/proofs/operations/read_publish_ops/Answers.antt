@@ -8,7 +8,7 @@ use Rattle.ifmap_forms.specs.Checks.{Check}
 use Rattle.ifmap_forms.specs.Gathering.{IsRestAfter, begins, elements_end, elements_further, elements_stop}
 use Rattle.ifmap_forms.specs.Scopes.{Scopes, scopes_below, scopes_by}
 use Rattle.ifmap_forms.specs.Tables.{each_element, parts_in}
-use Rattle.ifmap_requests.specs.declared.publishing.PublishOp.{PublishOp}
+use Rattle.ifmap_requests.specs.declared.publish_ops.PublishOp.{PublishOp}
 use Rattle.ifmap_requests.specs.RequestForms.{publish_op_check}
 use Rattle.ifmap_requests.proofs.operations.read_publish_ops.Goals as goal
 

@@ -7,7 +7,7 @@ use Rattle.ifmap_changes.specs.ifmap_delta.Sights.{IsUpToDate}
 use Rattle.ifmap_changes.specs.ifmap_standing.declared.standing.Standing.{Standing}
 use Rattle.ifmap_subscribes.proofs.Ready.{few_own, stand_more, stand_still, stays_ready}
 use Rattle.ifmap_subscribes.specs.Readying.{CanStand}
-use Rattle.ifmap_subscribes.specs.Renamings.{IsOfSession, begun_by}
+use Rattle.ifmap_subscribes.specs.Renamings.{IsOfSession, starts_by}
 use Rattle.ifmap_subscribes.proofs.readying.begin_beside.Goals as goal
 
 pub begin_name-begun-requires-clause-few : goal.begin_name-begun-requires-clause-few
@@ -27,7 +27,7 @@ returns-clause-stand g c =
     (λ r. (standing : List Standing) → IsSteady p.graph standing → IsSteady h (standing ++ option_to_list r.standing))
     (λ r. CanStand n (record p { graph = h }) (made ++ r ∷ [])) c.begin_name-begun.result e.session e.kept e.steady
     (λ r s k steady. stand_more c.same_links_keep_subscriptions.ensures n p h made c.is_view.ensures c.is_view-2.ensures e.holds
-    c.requires.stand r s k (steady (p.standing.items ++ begun_by made) c.requires.stand.steady))
+    c.requires.stand r s k (steady (p.standing.items ++ starts_by made) c.requires.stand.steady))
 
 pub returns-clause-err : goal.returns-clause-err
 returns-clause-err g c =
@@ -39,7 +39,7 @@ returns-clause-err g c =
     on_err_weaker {P = (standing : List Standing) → IsSteady p.graph standing → IsSteady h standing}
     {Q = CanStand n (record p { graph = h }) made} c.begin_name-begun.result
     (λ steady. stand_still c.same_links_keep_subscriptions.ensures n p h made c.is_view.ensures c.is_view-2.ensures e.holds
-    c.requires.stand (steady (p.standing.items ++ begun_by made) c.requires.stand.steady)) e.err
+    c.requires.stand (steady (p.standing.items ++ starts_by made) c.requires.stand.steady)) e.err
 
 pub returns-clause-ready : goal.returns-clause-ready
 returns-clause-ready g c =

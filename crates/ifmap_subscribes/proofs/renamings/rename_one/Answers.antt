@@ -1,7 +1,7 @@
 use Rattle.std.proofs.Common.{◌++◌, option_to_list, refl, arith}
 use Rattle.ifmap_lemmas.specs.Mapped.{one_at_most}
 use Rattle.ifmap_changes.specs.declared.parts.Parts.{Parts}
-use Rattle.ifmap_subscribes.specs.Renamings.{begun_by}
+use Rattle.ifmap_subscribes.specs.Renamings.{starts_by}
 use Rattle.ifmap_subscribes.proofs.RenamingTold.{can_rest, item_room, left_free, left_rising, live_then, name_keeps, renamed_one}
 use Rattle.ifmap_subscribes.proofs.renamings.rename_one.Goals as goal
 
@@ -21,7 +21,7 @@ drop_standing-requires-clause-rising c = let can = c.requires.can.1 in can.order
 
 pub drop_standing-requires-clause-steady : goal.drop_standing-requires-clause-steady
 drop_standing-requires-clause-steady c =
-    let can = c.requires.can in let steady = can.1 in (option_to_list c.args.renaming.standing ++ begun_by can.0, steady.steady)
+    let can = c.requires.can in let steady = can.1 in (option_to_list c.args.renaming.standing ++ starts_by can.0, steady.steady)
 
 pub put_where-requires-clause-rising : goal.put_where-requires-clause-rising
 put_where-requires-clause-rising c =

@@ -2,7 +2,7 @@ use Rattle.std.proofs.Common.{◌∙◌, ◌||◌, ap, sym, length}
 use Rattle.std.specs.BTreeMap.{get}
 use Rattle.std.specs.Ordering.{nat_cmp}
 use Rattle.ifmap_standing.specs.ifmap_machine.Telling.{is_overfull}
-use Rattle.ifmap_tellings.specs.Tellings.{gone_after, is_alone, told_by}
+use Rattle.ifmap_tellings.specs.Tellings.{flags_since, is_alone, tell_by}
 use Rattle.ifmap_tellings.proofs.FlagLaws.{bare}
 use Rattle.ifmap_tellings.proofs.NewsLaws.{brought_all, gone_long, mid_can, mid_fits, mid_within, queues_within, told_all}
 use Rattle.ifmap_tellings.proofs.QueuedLaws.{left_alone}
@@ -34,7 +34,7 @@ overflow_all-requires-clause-others c =
 pub mark_alone-requires : goal.mark_alone-requires
 mark_alone-requires c =
     let gone = c.args.pending.now.gone.items
-    in ap length (c.mark_too_big.ensures ∙ ap (gone_after gone) c.as_slice.ensures)
+    in ap length (c.mark_too_big.ensures ∙ ap (flags_since gone) c.as_slice.ensures)
     ∙ gone_long gone c.args.news (c.requires.flags ∙ sym c.requires.long) ∙ c.requires.flags
 
 pub returns-clause-told : goal.returns-clause-told
@@ -48,7 +48,7 @@ returns-clause-overrun c = λ s h.
     let mid = c.queue_all.new.tellings
     in let added = c.in_ok-queue_all.ensures.added s.serial
     in c.in_ok-overflow_all.ensures.alone s h
-    ∙ ap (λ b. b || is_overfull (told_by mid s)) added.alone
+    ∙ ap (λ b. b || is_overfull (tell_by mid s)) added.alone
     ∙ ap (λ t. is_alone (get nat_cmp c.args.pending.now.tellings s.serial) || is_overfull t) (added.told s)
 
 pub returns-clause-brought : goal.returns-clause-brought

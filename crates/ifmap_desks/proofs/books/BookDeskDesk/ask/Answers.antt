@@ -2,7 +2,7 @@
 use Rattle.std.proofs.Common.{None, refl}
 use Rattle.ifmap_desks.specs.Answers.{plain_asked}
 use Rattle.ifmap_desks.specs.Asking.{IsTurn}
-use Rattle.ifmap_desks.specs.Calls.{told_since}
+use Rattle.ifmap_desks.specs.Calls.{calls_if_known}
 use Rattle.ifmap_desks.proofs.BookTurns.{fits, gains}
 use Rattle.ifmap_desks.proofs.Growing.{adds}
 use Rattle.ifmap_desks.proofs.TellingTurns.{tells_plain}
@@ -26,8 +26,8 @@ returns c =
       no_memory = e.no_memory;
     } in
     record {
-      tells = tells_plain (told_since desk.since b)
-          (told_since desk.since b') None None desk.counts c.count.new.self tt tt 0 0 c.args.event fit
+      tells = tells_plain (calls_if_known desk.since b)
+          (calls_if_known desk.since b') None None desk.counts c.count.new.self tt tt 0 0 c.args.event fit
           c.from_event.ensures given c.plain_asked-answer.result c.plain_asked-answer.ensures
           (gains desk.since b b' fit.event (plain_asked given) e.carries.from
           (λ near. adds desk.since b b' e.carries near desk.since_then desk.in_order.state desk.pass fit given turn))

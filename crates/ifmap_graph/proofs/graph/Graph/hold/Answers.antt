@@ -4,7 +4,7 @@ use Rattle.ifmap_ident.specs.Canon.{IsIdentifier}
 use Rattle.ifmap_ident.specs.Identifiers.{identifier_order}
 use Rattle.ifmap_pool.specs.Holdings.{IsHeld, Names, once}
 use Rattle.ifmap_graph.specs.Held.{IsInside, shown_shelves}
-use Rattle.ifmap_graph.specs.Named.{AreIdentifiers, named_in}
+use Rattle.ifmap_graph.specs.Named.{AreIdentifiers, uses_in}
 use Rattle.ifmap_graph.specs.Bringing.{graph_parts}
 use Rattle.ifmap_graph.proofs.Grown.{few_holds}
 use Rattle.ifmap_graph.proofs.Changed.{held_alike, inside_held, keys_alike, names_alike, roomier}
@@ -97,7 +97,7 @@ pub returns-clause-own : goal.returns-clause-own
 returns-clause-own c =
     rw (← c.self.view_is)
     (λ a own h.
-    let named = named_in (shown_shelves (get c.self.inside.shelves.slots) c.self.inside.shelves.places.entries) a
+    let named = uses_in (shown_shelves (get c.self.inside.shelves.slots) c.self.inside.shelves.places.entries) a
     in subst (λ (n : ℕ). IsHeld identifier_order c.hold.new.self a n) (add_two named own (once identifier_order c.args.id.now a))
     (subst (λ k. IsHeld identifier_order c.hold.new.self a ((named + own) + once identifier_order k a)) c.in_ok-key.ensures
     (c.hold.ensures.held a (named + own) (held_alike c.self.inside.names c.reserve.new.self c.reserve.ensures.live a (named + own) h))))

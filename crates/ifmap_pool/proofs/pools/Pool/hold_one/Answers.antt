@@ -3,16 +3,16 @@ use Rattle.std.specs.declared.cmp.Ordering.TheVariants.{Equal}
 use Rattle.ifmap_lemmas.specs.Options.{is_some_of}
 use Rattle.ifmap_pool.specs.Holdings.{Holdings, HoldsAgain, HoldsOne, TakesNumber}
 use Rattle.ifmap_pool.specs.Index.{IsKept, IsKeyPlace, slot_at, slot_count}
-use Rattle.ifmap_pool.specs.declared.slots.Held.{Held}
+use Rattle.ifmap_pool.specs.declared.slots.HeldKey.{HeldKey}
 use Rattle.ifmap_pool.proofs.Changes.{seen, shown, whole_now, room_for_new, write_count, take_number}
 use Rattle.ifmap_pool.proofs.Kept.{place_held}
 use Rattle.ifmap_pool.proofs.Named.{holds_from_slot, names_from_slot, absent_at}
 use Rattle.ifmap_pool.proofs.pools.Pool.hold_one.Given as given
 use Rattle.ifmap_pool.proofs.pools.Pool.hold_one.Goals as goal
-use Rattle.ifmap_pool.proofs.pools.Pool.hold_one.Goals.{In-Err, After-index-number, After-held_at, After-set_holds, After-list_number}
+use Rattle.ifmap_pool.proofs.pools.Pool.hold_one.Goals.{In-Err, After-index-number, After-slot_of_live, After-set_holds, After-list_number}
 
 -- the number at the place stands for a key that equals this one
-stands : (g : given.Over) (c : After-index-number g) → (held : Held g.row.K.Denot)
+stands : (g : given.Over) (c : After-index-number g) → (held : HeldKey g.row.K.Denot)
     × (slot_at c.self.inside.slots.items c.index-number.result.now ≡ Some held) × (g.K.Ord.cmp held.key c.args.key ≡ Equal)
 stands g c =
     place_held g.met.K.Ord.total (slot_at c.self.inside.slots.items) c.self.inside.order.items c.self.invariant.0.indexed c.args.key
@@ -20,9 +20,9 @@ stands g c =
     c.index-number.ensures
 
 -- what the number has before it
-there : (g : given.Over) (c : After-held_at g)
-    → slot_at c.self.inside.slots.items c.index-number.result.now ≡ Some c.held_at.result.now
-there g c = rw c.deref-in-Ok.ensures.value at c.held_at.ensures
+there : (g : given.Over) (c : After-slot_of_live g)
+    → slot_at c.self.inside.slots.items c.index-number.result.now ≡ Some c.slot_of_live.result.now
+there g c = rw c.deref-in-Ok.ensures.value at c.slot_of_live.ensures
 
 -- its count is one more, and nothing else changes
 counted : (g : given.Over) (c : After-set_holds g)
@@ -31,9 +31,9 @@ counted : (g : given.Over) (c : After-set_holds g)
     × HoldsAgain c.args.self.now (seen c.set_holds.new.slots.items (vec_len c.self.inside.order) c.self.inside.limit)
     c.index-number.result.now
 counted g c =
-    let at = rw c.deref-in-Ok.ensures.value at c.held_at.ensures in
-    write_count c.self.invariant.0 c.self.view_is g.met.K.Ord.total c.index-number.result.now c.held_at.result.now at (λ n. n + 1)
-    (omega arith) (c.set_holds.ensures.items c.held_at.result.now at)
+    let at = rw c.deref-in-Ok.ensures.value at c.slot_of_live.ensures in
+    write_count c.self.invariant.0 c.self.view_is g.met.K.Ord.total c.index-number.result.now c.slot_of_live.result.now at (λ n. n + 1)
+    (omega arith) (c.set_holds.ensures.items c.slot_of_live.result.now at)
 
 missing : (g : given.Over) (c : In-Err g)
     → IsKeyPlace g.K.Ord.cmp (slot_at c.self.inside.slots.items) c.self.inside.order.items c.args.key (Err c.in-Err.place)
@@ -63,9 +63,9 @@ widened g old new key wide number same holds = subst (λ (n : ℕ). HoldsOne g.K
 pub place_of-requires : goal.place_of-requires
 place_of-requires g c = rw (c.deref.ensures.value, c.deref-2.ensures.value) c.self.invariant.0.indexed
 
-pub held_at-requires : goal.held_at-requires
-held_at-requires g c =
-    let entry = stands g (goal.at.held_at-requires g c).After-index-number in
+pub slot_of_live-requires : goal.slot_of_live-requires
+slot_of_live-requires g c =
+    let entry = stands g (goal.at.slot_of_live-requires g c).After-index-number in
     rw c.deref-in-Ok.ensures.value (is_some_of _ entry.0 entry.1)
 
 pub overflow_add-holds : goal.overflow_add-holds
@@ -75,11 +75,11 @@ overflow_add-holds g c =
     let entry = stands g place.After-index-number in
     let number = c.index-number.result.now in
     let few = c.requires.few number (names_from_slot shows g.K.Ord.cmp number entry.0 c.args.key entry.1 entry.2) in
-    let holds = holds_from_slot shows number c.held_at.result.now (there g place.After-held_at) in
+    let holds = holds_from_slot shows number c.slot_of_live.result.now (there g place.After-slot_of_live) in
     omega (arith, few, holds)
 
 pub set_holds-requires : goal.set_holds-requires
-set_holds-requires g c = is_some_of _ c.held_at.result.now (there g (goal.at.set_holds-requires g c).After-held_at)
+set_holds-requires g c = is_some_of _ c.slot_of_live.result.now (there g (goal.at.set_holds-requires g c).After-slot_of_live)
 
 pub invariant_of-self : goal.invariant_of-self
 invariant_of-self g c = (

@@ -7,21 +7,21 @@ use Rattle.ifmap_pool.proofs.Changes.{seen, shown, limit_is, whole_now, write_co
 use Rattle.ifmap_pool.proofs.Named.{slot_from_live, entry_from_slot}
 use Rattle.ifmap_pool.proofs.pools.Pool.release_one.Given as given
 use Rattle.ifmap_pool.proofs.pools.Pool.release_one.Goals as goal
-use Rattle.ifmap_pool.proofs.pools.Pool.release_one.Goals.{After-held_at, After-set_holds, After-empty_slot}
+use Rattle.ifmap_pool.proofs.pools.Pool.release_one.Goals.{After-slot_of_live, After-set_holds, After-empty_slot}
 
 -- what the number has before it
-there : (g : given.Over) (c : After-held_at g) → slot_at c.self.inside.slots.items c.args.number ≡ Some c.held_at.result.now
-there g c = rw c.deref.ensures.value at c.held_at.ensures
+there : (g : given.Over) (c : After-slot_of_live g) → slot_at c.self.inside.slots.items c.args.number ≡ Some c.slot_of_live.result.now
+there g c = rw c.deref.ensures.value at c.slot_of_live.ensures
 
-is_live : (g : given.Over) (c : After-held_at g) → IsSome (slot_at c.self.inside.slots.items c.args.number)
-is_live g c = is_some_of _ c.held_at.result.now (there g c)
+is_live : (g : given.Over) (c : After-slot_of_live g) → IsSome (slot_at c.self.inside.slots.items c.args.number)
+is_live g c = is_some_of _ c.slot_of_live.result.now (there g c)
 
 -- one hold goes where the number is held once less, or is free
-goes : (g : given.Over) (c : After-held_at g) (new : Holdings g.row.K.Denot)
-    → ((1 < c.held_at.result.now.holds) × LetsGo c.args.self.now new c.args.number)
-    ⊎ ((c.held_at.result.now.holds ≡ 1) × Frees c.args.self.now new c.args.number) → LetsOneGo c.args.self.now new c.args.number
+goes : (g : given.Over) (c : After-slot_of_live g) (new : Holdings g.row.K.Denot)
+    → ((1 < c.slot_of_live.result.now.holds) × LetsGo c.args.self.now new c.args.number)
+    ⊎ ((c.slot_of_live.result.now.holds ≡ 1) × Frees c.args.self.now new c.args.number) → LetsOneGo c.args.self.now new c.args.number
 goes g c new either =
-    let held = c.held_at.result.now in
+    let held = c.slot_of_live.result.now in
     ((held.key, held.holds), entry_from_slot (shown c.self.invariant.0 c.self.view_is) c.args.number held (there g c), either)
 
 -- the count of the number is one less, and nothing else changes
@@ -30,9 +30,9 @@ counted : (g : given.Over) (c : After-set_holds g)
     c.self.inside.limit
     × LetsGo c.args.self.now (seen c.set_holds.new.slots.items (vec_len c.self.inside.order) c.self.inside.limit) c.args.number
 counted g c =
-    let at = rw c.deref.ensures.value at c.held_at.ensures in
-    let wrote = write_count c.self.invariant.0 c.self.view_is g.met.K.Ord.total c.args.number c.held_at.result.now at (λ n. n - 1)
-    (omega arith) (c.set_holds.ensures.items c.held_at.result.now at) in
+    let at = rw c.deref.ensures.value at c.slot_of_live.ensures in
+    let wrote = write_count c.self.invariant.0 c.self.view_is g.met.K.Ord.total c.args.number c.slot_of_live.result.now at (λ n. n - 1)
+    (omega arith) (c.set_holds.ensures.items c.slot_of_live.result.now at) in
     (wrote.0, λ entry there more. wrote.1 entry there)
 
 -- the number is free
@@ -53,18 +53,18 @@ prove-unreachable-requires g c =
     let same = limit_is c.self.invariant.0 c.self.view_is in
     omega (arith, inside, same, c.if-prove.true)
 
-pub held_at-requires : goal.held_at-requires
-held_at-requires g c =
+pub slot_of_live-requires : goal.slot_of_live-requires
+slot_of_live-requires g c =
     let there = slot_from_live (shown c.self.invariant.0 c.self.view_is) c.args.number c.requires in
     rw c.deref.ensures.value (is_some_of _ there.0 there.1)
 
 pub set_holds-requires : goal.set_holds-requires
-set_holds-requires g c = is_live g (goal.at.set_holds-requires g c).After-held_at
+set_holds-requires g c = is_live g (goal.at.set_holds-requires g c).After-slot_of_live
 
 pub unlist_number-requires : goal.unlist_number-requires
 unlist_number-requires g c = record {
   indexed = rw c.deref-2.ensures.value c.self.invariant.0.indexed;
-  live = rw c.deref-2.ensures.value (is_live g (goal.at.unlist_number-requires g c).After-held_at);
+  live = rw c.deref-2.ensures.value (is_live g (goal.at.unlist_number-requires g c).After-slot_of_live);
 }
 
 pub invariant_of-self : goal.invariant_of-self
@@ -86,12 +86,12 @@ returns-then-holds-gt1-clause-whole g c =
 pub returns-then-holds-gt1-clause-goes : goal.returns-then-holds-gt1-clause-goes
 returns-then-holds-gt1-clause-goes g c =
     let place = goal.at.returns-then-holds-gt1-clause-goes g c in
-    goes g place.After-held_at _ (inl (c.if-holds-gt1.true, (counted g place.After-set_holds).1))
+    goes g place.After-slot_of_live _ (inl (c.if-holds-gt1.true, (counted g place.After-set_holds).1))
 
 pub empty_slot-requires : goal.empty_slot-requires
 empty_slot-requires g c = record {
   free = c.self.invariant.0.free_slots;
-  live = is_live g (goal.at.empty_slot-requires g c).After-held_at;
+  live = is_live g (goal.at.empty_slot-requires g c).After-slot_of_live;
   room = omega (arith, c.self.invariant.0.within, c.self.invariant.2);
 }
 
@@ -113,5 +113,5 @@ returns-clause-whole g c = whole_now (freed g (goal.at.returns-clause-whole g c)
 pub returns-clause-goes : goal.returns-clause-goes
 returns-clause-goes g c =
     let place = goal.at.returns-clause-goes g c in
-    let some = c.self.invariant.0.indexed.held c.args.number c.held_at.result.now (there g place.After-held_at) in
-    goes g place.After-held_at _ (inr (omega (arith, c.if-holds-gt1.false, some), (freed g place.After-empty_slot).1))
+    let some = c.self.invariant.0.indexed.held c.args.number c.slot_of_live.result.now (there g place.After-slot_of_live) in
+    goes g place.After-slot_of_live _ (inr (omega (arith, c.if-holds-gt1.false, some), (freed g place.After-empty_slot).1))

@@ -1,7 +1,0 @@
-use Rattle.ifmap_filter.specs.Progress.{context}
-use Rattle.ifmap_filter.proofs.StandingLaws.{literal_refused}
-use Rattle.ifmap_filter.proofs.standing.take_literal.Goals as goal
-
-pub returns-in_default : goal.returns-in_default
-returns-in_default c =
-    literal_refused (context c.args.standing.now.open_part) c.args.standing.now.operand c.args.mark c.in_default.not-Literal
