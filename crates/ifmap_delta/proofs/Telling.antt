@@ -200,4 +200,4 @@ module _ (tells : BytesTellIdentifiers) (one other : ViewSeen) (s : Search) (gra
         ∙ filter_alike (λ (r : Attachment). has_item items r.item && told r) (λ r. is_found one.rows s r && kept r) one.rows
         (has_all (λ (r : Attachment). (has_item items r.item && told r) ≡ (is_found one.rows s r && kept r)) one.rows pointwise)
         ∙ sym (filter_twice (is_found one.rows s) kept one.rows))
-        ∙ map_filter entry_of (λ e. not (has_entry (fresh other.rows s) e)) (filter (is_found one.rows s) one.rows))
+        ∙ map_filter entry_of (λ e. not (has_entry (fresh other.rows s) e)) (filter (is_found one.rows s) one.rows)
