@@ -1,5 +1,5 @@
 -- Where two readings of the same bytes cut them: at the same place, if each stops where a test or a word says so.
-use Rattle.std.proofs.Common.{◌≡◌, ◌≢◌, Bool, true, false, List, [], ◌∷◌, ◌++◌, refl, sym, ◌∙◌, subst}
+use Rattle.std.proofs.Common.{◌≡◌, ◌≢◌, ℕ, suc, ◌<◌, Bool, true, false, List, [], ◌∷◌, ◌++◌, length, get_or, refl, sym, ◌∙◌, subst, arith}
 use Rattle.std.specs.List.{AllByRecursion}
 
 -- the first, if there is one, fails the test
@@ -24,3 +24,15 @@ pub front_stops : {X : Type 0} (p q : X → Bool) → ((b : X) → p b ≡ true 
     → AllByRecursion (λ n. p n ≡ true) a → Stops q (a ++ r)
 front_stops p q apart [] r some f = absurd (some refl)
 front_stops p q apart (x ∷ xs) r some f = apart x f.0
+
+-- what stands before the first of a byte is told by the whole
+pub same_before : (h : ℕ) (a b r s : List ℕ) → ((i : ℕ) → i < length a → get_or a i 0 ≢ h) → ((i : ℕ) → i < length b → get_or b i 0 ≢ h)
+    → a ++ h ∷ r ≡ b ++ h ∷ s → a ≡ b
+same_before h [] [] r s na nb e = refl
+same_before h [] (y ∷ b) r s na nb e = let same : y ≡ h = cc e in absurd (nb 0 (omega arith) same)
+same_before h (x ∷ a) [] r s na nb e = let same : x ≡ h = cc e in absurd (na 0 (omega arith) same)
+same_before h (x ∷ a) (y ∷ b) r s na nb e =
+    let same : x ≡ y = cc e in
+    let rest : a ++ h ∷ r ≡ b ++ h ∷ s = cc e in
+    let tail = same_before h a b r s (λ i lt. na (suc i) (omega (arith, lt))) (λ i lt. nb (suc i) (omega (arith, lt))) rest in
+    cc (same, tail)

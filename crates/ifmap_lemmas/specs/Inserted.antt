@@ -1,4 +1,9 @@
 -- Lists with one put in or out at a place, as a search by halving ends there.
+-- First what holds of any list with one put in, written over or pushed (`all_insert`, `all_set`, `push_elsewhere`, `find_insert`). Then
+-- lists of which no two have one key: taking out the one of a key leaves those of other keys (`remove_one`). Then lists that rise, by what
+-- a search in them ends with: a member that ties (`found_any`), or a gap, and then none does (`gap_none`). Last lists that rise by a key:
+-- those before and after the one of a key are not it, so without it the others are left (`others`), it is what a search finds (`the_one`),
+-- no one is found at a gap (`gap_finds_none`), and the list still rises where one goes in there (`place_for`).
 use Rattle.std.proofs.Common.{◌≡◌, ◌≢◌, refl, sym, ◌∙◌, ap, ℕ, suc, zero, ◌<◌, ◌≤◌, Bool, true, false, not, cond, List, [], ◌∷◌, ◌++◌, length, get_or, set, None, Some, Err, Ok, Ordering, inl, inr, arith}
 use Rattle.std.proofs.lemmas.Bool.{cases_Bool, cases_lt}
 use Rattle.std.proofs.lemmas.Cmp.{alike_right, on_total}

@@ -1,6 +1,7 @@
 -- ASCII characters in texts: letters without regard to case, and digits.
 use Rattle.std.proofs.Common.{◌≡◌, ℕ, ◌≤◌, true, List, [], ◌∷◌, map, refl, arith}
 use Rattle.std.specs.Char.{is_ascii_digit, to_ascii_uppercase, to_ascii_lowercase}
+use Rattle.std.specs.Str.{byte}
 use Rattle.std.proofs.lemmas.Bool.Decides.{nat_tests}
 
 raised : (a : ℕ) → to_ascii_uppercase (to_ascii_lowercase a) ≡ to_ascii_uppercase a
@@ -26,5 +27,5 @@ lower_again [] = refl
 lower_again (x ∷ xs) = λ i. lower_twice x i ∷ lower_again xs i
 
 -- the bytes between `0` and `9`
-pub digit_between : (b : ℕ) → 48 ≤ b → b ≤ 57 → is_ascii_digit b ≡ true
+pub digit_between : (b : ℕ) → byte "0" ≤ b → b ≤ byte "9" → is_ascii_digit b ≡ true
 digit_between b low high = grind (arith, nat_tests)

@@ -1,8 +1,8 @@
 -- An option and its value, and the parts of a clause on an option by its cases.
-use Rattle.std.specs.Prelude.{◌≡◌, true, false, Option, Some, None, MatchOption, IfSome, IfNone, IsSome, is_some, refl}
+use Rattle.std.specs.Prelude.{◌≡◌, ◌<◌, ℕ, zero, suc, true, false, Option, Some, None, MatchOption, IfSome, IfNone, IsSome, is_some, refl}
 use Rattle.std.specs.Option.{option_or}
 use Rattle.std.proofs.lemmas.Bool.{false≢true}
-use Rattle.std.proofs.Common.{ap, sym, ◌∙◌}
+use Rattle.std.proofs.Common.{ap, sym, ◌∙◌, arith}
 
 -- one that is there has a value
 pub some_is : {X : Type 0} (o : Option X) → IsSome o → (x : X) × (o ≡ Some x)
@@ -28,3 +28,9 @@ none_of (Some x) P Q h = tt
 pub or_none : {X : Type 0} (o : Option X) → option_or o None ≡ o
 or_none None = refl
 or_none (Some x) = refl
+
+-- where some are left, one comes: where none comes, none is left
+pub none_left : {X : Type 0} (o : Option X) (n : ℕ) → (0 < n → IsSome o) → o ≡ None → n ≡ 0
+none_left None zero there is = refl
+none_left None (suc n) there is = let bad : false ≡ true = there (omega arith) in cc
+none_left (Some x) n there is = cc

@@ -1,7 +1,10 @@
 -- What stands at each place of a list.
-use Rattle.std.proofs.Common.{◌≡◌, ◌≢◌, ℕ, zero, suc, ◌<◌, List, [], ◌∷◌, ◌++◌, length, set, Option, Some, refl, ap, subst, arith}
-use Rattle.std.proofs.lemmas.Option.{none-some, same_Some}
+use Rattle.std.proofs.Common.{◌≡◌, ◌≢◌, ℕ, zero, suc, ◌<◌, List, [], ◌∷◌, ◌++◌, get_or, length, set, Option, None, Some, Bor, refl, sym, ap, subst, arith}
+use Rattle.std.proofs.lemmas.Bool.{ltb-false, ltb-true}
+use Rattle.std.proofs.lemmas.Option.{none-some, same_Some, slice_get_past, slice_get_read}
 use Rattle.std.specs.List.{AllByRecursion, slice_get}
+use Rattle.std.specs.Option.{option_copied}
+use Rattle.std.specs.Prelude.{IfSome, is_some, nat_lt}
 
 -- a list in which one place is written
 pub written_there : {X : Type 0} (xs : List X) (i : ℕ) (y : X) → i < length xs → slice_get (set xs i y) i ≡ Some y
@@ -34,3 +37,9 @@ pub all_got : {X : Type 0} (P : X → Type 0) (xs : List X) (i : ℕ) (x : X) �
 all_got P [] i x h e = absurd (none-some x e)
 all_got P (a ∷ xs) zero x h e = subst P (same_Some a x e) h.0
 all_got P (a ∷ xs) (suc i) x h e = all_got P xs i x h.1 e
+
+-- a copy of what was looked up at a place is what stands there
+pub copied_there : {X : Type 0} (xs : List X) (n : ℕ) (r : Option (Bor X)) → is_some r ≡ nat_lt n (length xs)
+    → IfSome r (λ x. x.now ≡ get_or xs n x.now) → option_copied r ≡ slice_get xs n
+copied_there xs n None e h = sym (slice_get_past xs n (ltb-false n (length xs) (sym e)))
+copied_there xs n (Some x) e h = sym (slice_get_read xs (length xs) n x.now refl (ltb-true n (length xs) (sym e)) h)

@@ -1,4 +1,9 @@
--- Lists that rise strictly in an order: which do, what ties in them, and that two with the same members are one.
+-- Lists that rise strictly in an order.
+-- First what is so by the definition alone: the first is below all others, and the others rise (`head_rises`, `tail_rises`). Then which
+-- lists rise: one that climbs step by step (`climbs`), one in order of which no two tie (`rises_apart`), one around a member
+-- (`rises_around`). Then what ties: members that do are one (`tied_same`), and what is left without the one that does (`remove_tied`).
+-- Then that two lists that rise with the same members are one (`rising_same`): by their first members, and so by all. Last the same said
+-- of each member and those after it (`to_sorted`, `to_distinct`), and two lists of distinct members in one (`distinct_joined`).
 use Rattle.std.proofs.Common.{◌≡◌, ◌∙◌, refl, sym, ap, subst, inl, inr, ℕ, suc, zero, ◌+◌, ◌<◌, Bool, true, false, not, ◌&&◌, List, [], ◌∷◌, ◌++◌, length}
 use Rattle.std.proofs.Common.{get_or, Ordering, add-one, arith}
 use Rattle.std.proofs.lemmas.Bool.{and_from, and_parts}

@@ -1,7 +1,8 @@
--- Sums over lists: the part that one member or two make, and what a list makes in which one place is written.
-use Rattle.std.proofs.Common.{◌≡◌, ◌≢◌, ℕ, zero, suc, ◌+◌, ◌≤◌, List, [], ◌∷◌, set, inl, inr, refl, sym, ap, ◌∙◌, arith}
+-- Sums over lists: the part that one member or two make, what a list makes in which one place is written, and what passes a test.
+use Rattle.std.proofs.Common.{◌≡◌, ◌≢◌, ℕ, zero, suc, ◌+◌, ◌≤◌, Bool, cond, List, [], ◌∷◌, set, inl, inr, refl, sym, ap, ◌∙◌, arith}
+use Rattle.std.proofs.lemmas.Bool.{cases_Bool}
 use Rattle.std.proofs.lemmas.List.Sums.{sum_by-cons}
-use Rattle.std.specs.List.{AllByRecursion}
+use Rattle.std.specs.List.{AllByRecursion, filter}
 use Rattle.std.specs.Prelude.{sum_by}
 use Rattle.ifmap_lemmas.specs.Having.{Has, has_all}
 use mathlib.Core.Option.{some, some-injective, some-ne-none}
@@ -36,6 +37,29 @@ module _ {V : Type 0} where
   sum_at_most f g [] h = omega arith
   sum_at_most f g (x ∷ xs) h =
       omega (arith, h 0 x refl, sum_at_most f g xs (λ i v e. h (suc i) v e), sum_by-cons f x xs, sum_by-cons g x xs)
+
+  -- what the members weigh that pass a test is no more than a greater weight of these
+  pub sum_passed : (p : V → Bool) (f g : V → ℕ) → ((v : V) → f v ≤ g v) → (vs : List V)
+      → sum_by (λ v. cond (p v) (f v) 0) vs ≤ sum_by g (filter p vs)
+  sum_passed p f g le [] = omega arith
+  sum_passed p f g le (v ∷ vs) = elim (cases_Bool (p v)) [
+    | inl hit ↦
+        let here : cond (p v) (f v) 0 ≡ f v = ap (λ b. cond b (f v) 0) hit in
+        let stays : filter p (v ∷ vs) ≡ v ∷ filter p vs = ap (λ b. cond b (v ∷ filter p vs) (filter p vs)) hit in
+        omega (
+          arith,
+          le v,
+          here,
+          ap (sum_by g) stays,
+          sum_passed p f g le vs,
+          sum_by-cons (λ u. cond (p u) (f u) 0) v vs,
+          sum_by-cons g v (filter p vs),
+        )
+    | inr miss ↦
+        let here : cond (p v) (f v) 0 ≡ 0 = ap (λ b. cond b (f v) 0) miss in
+        let goes : filter p (v ∷ vs) ≡ filter p vs = ap (λ b. cond b (v ∷ filter p vs) (filter p vs)) miss in
+        omega (arith, here, ap (sum_by g) goes, sum_passed p f g le vs, sum_by-cons (λ u. cond (p u) (f u) 0) v vs)
+  ]
 
   pub sum_one : (f : V → ℕ) (w : V) → sum_by f (w ∷ []) ≡ f w
   sum_one f w = sum_by-cons f w [] ∙ omega arith
