@@ -8,8 +8,8 @@ use Rattle.std.specs.Cmp.{IsTotalOrder}
 use Rattle.std.specs.FinMap.{get, insert, get-insert}
 use Rattle.std.specs.Ordering.{is_eq}
 use Rattle.std.specs.declared.cmp.Ordering.TheVariants.{Less, Equal, Greater}
+use Rattle.ifmap_lemmas.specs.Numbers.{others_untied, ties_where_equal}
 use Rattle.ifmap_pool.specs.Holdings.{Holdings, Names, IsAbsent, IsPool, IsHeld, once, TakesNumber, HoldsAgain, HoldsOne, entry_at, holds_at}
-use Rattle.ifmap_pool.proofs.Live.{tied, apart}
 
 module _ {K : Type 0} where
   -- how often a number with this entry is held
@@ -28,14 +28,14 @@ module _ {K : Type 0} where
       → entry_at pool number ≡ Some entry
   entry_put pool old number entry is =
       ap (λ l. get l number) is ∙ get-insert nat_cmp_total old.live number entry number ∙ ap (λ b. cond b (Some entry) (get old.live
-      number)) (tied number)
+      number)) ((ties_where_equal number number).1 refl)
 
   pub entry_other : (pool : Holdings K) (old : Holdings K) (number other : ℕ) (entry : K × ℕ)
       → pool.live ≡ insert old.live number entry → other ≢ number
       → entry_at pool other ≡ entry_at old other
   entry_other pool old number other entry is differs =
       ap (λ l. get l other) is ∙ get-insert nat_cmp_total old.live number entry other
-      ∙ ap (λ b. cond b (Some entry) (get old.live other)) (apart other number differs)
+      ∙ ap (λ b. cond b (Some entry) (get old.live other)) (others_untied other number differs)
 
 -- a pool holds a key once more than another does, under this number
 pub record IsOneMore {K : Type 0} (cmp : K → K → Ordering) (old new : Holdings K) (number : ℕ) (key : K) : Type 0 where

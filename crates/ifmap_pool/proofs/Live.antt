@@ -1,21 +1,14 @@
 -- The map that contracts see, against the slots.
-use Rattle.std.proofs.Common.{◌≡◌, ◌≢◌, ℕ, zero, suc, ◌+◌, ◌<◌, List, [], ◌∷◌, map, get_or, Option, Some, None, true, false, cond, refl, sym, ap, ◌∙◌, inl, inr, arith}
+use Rattle.std.proofs.Common.{◌≡◌, ◌≢◌, ℕ, zero, suc, ◌+◌, ◌<◌, List, [], ◌∷◌, map, get_or, Option, Some, None, cond, refl, sym, ap, ◌∙◌, inl, inr, arith}
 use Rattle.std.proofs.lemmas.Bool.{cases_eq}
-use Rattle.std.proofs.lemmas.Bool.Decides.{nat_tests}
 use Rattle.std.proofs.lemmas.List.Sums.{sum_by-cons}
 use Rattle.std.specs.Prelude.{is_some, option_map}
-use Rattle.std.specs.Ordering.{nat_cmp, eq_by_cmp}
-use Rattle.std.specs.Cmp.{nat_cmp_total, unsigned_tied}
+use Rattle.std.specs.Ordering.{nat_cmp}
+use Rattle.std.specs.Cmp.{nat_cmp_total}
 use Rattle.std.specs.FinMap.{find, get, empty, from_entries, insert, len, remove, get-from_entries, get-insert, get-remove, len-empty, len-insert, same_map, nat_cmp-IsAntisymmetric}
+use Rattle.ifmap_lemmas.specs.Numbers.{others_untied, ties_where_equal}
 use Rattle.ifmap_pool.specs.Index.{entries_from, entry_of, live_of, slot_count}
 use Rattle.ifmap_pool.specs.declared.slots.HeldKey.{HeldKey}
-
--- two numbers tie where they are one
-pub tied : (q : ℕ) → eq_by_cmp nat_cmp q q ≡ true
-tied q = unsigned_tied q q ∙ grind (arith, nat_tests)
-
-pub apart : (q k : ℕ) → q ≢ k → eq_by_cmp nat_cmp q k ≡ false
-apart q k ne = unsigned_tied q k ∙ grind (arith, nat_tests)
 
 module _ {K : Type 0} where
   abbrev listed : ℕ → List (Option (HeldKey K)) → List (ℕ × (K × ℕ))
@@ -26,7 +19,7 @@ module _ {K : Type 0} where
   find_before first q [] h = refl
   find_before first q (None ∷ rest) h = find_before (first + 1) q rest (omega arith)
   find_before first q (Some held ∷ rest) h =
-      ap (λ b. cond b (Some (entry_of held)) (find nat_cmp q (listed (first + 1) rest))) (apart q first (omega arith))
+      ap (λ b. cond b (Some (entry_of held)) (find nat_cmp q (listed (first + 1) rest))) (others_untied q first (omega arith))
       ∙ find_before (first + 1) q rest (omega arith)
 
   find_listed : (first q k : ℕ) (slots : List (Option (HeldKey K))) → q ≡ first + k
@@ -36,9 +29,9 @@ module _ {K : Type 0} where
   find_listed first q (suc k) (None ∷ rest) e = find_listed (first + 1) q k rest (omega arith)
   find_listed first q zero (Some held ∷ rest) e =
       let here : q ≡ first = omega arith in
-      ap (λ b. cond b (Some (entry_of held)) (find nat_cmp q (listed (first + 1) rest))) (ap (eq_by_cmp nat_cmp q) (sym here) ∙ tied q)
+      ap (λ b. cond b (Some (entry_of held)) (find nat_cmp q (listed (first + 1) rest))) ((ties_where_equal q first).1 here)
   find_listed first q (suc k) (Some held ∷ rest) e =
-      ap (λ b. cond b (Some (entry_of held)) (find nat_cmp q (listed (first + 1) rest))) (apart q first (omega arith))
+      ap (λ b. cond b (Some (entry_of held)) (find nat_cmp q (listed (first + 1) rest))) (others_untied q first (omega arith))
       ∙ find_listed (first + 1) q k rest (omega arith)
 
   -- the map has at a number what its slot has
@@ -60,10 +53,10 @@ module _ {K : Type 0} where
       get-live_of new q ∙ elim (cases_eq q number) [
         | inl same ↦ ap (λ n. option_map entry_of (get_or new n None)) same ∙ ap (option_map entry_of) changed
             ∙ sym (get-insert nat_cmp_total (live_of old) number (entry_of held) q
-            ∙ ap (λ b. cond b (Some (entry_of held)) (get (live_of old) q)) (ap (eq_by_cmp nat_cmp q) (sym same) ∙ tied q))
+            ∙ ap (λ b. cond b (Some (entry_of held)) (get (live_of old) q)) ((ties_where_equal q number).1 same))
         | inr differs ↦ ap (option_map entry_of) (others q differs) ∙ sym (get-live_of old q)
             ∙ sym (get-insert nat_cmp_total (live_of old) number (entry_of held) q
-            ∙ ap (λ b. cond b (Some (entry_of held)) (get (live_of old) q)) (apart q number differs))
+            ∙ ap (λ b. cond b (Some (entry_of held)) (get (live_of old) q)) (others_untied q number differs))
       ])
 
   -- a slot that is emptied
@@ -75,10 +68,10 @@ module _ {K : Type 0} where
       get-live_of new q ∙ elim (cases_eq q number) [
         | inl same ↦ ap (λ n. option_map entry_of (get_or new n None)) same ∙ ap (option_map entry_of) changed
             ∙ sym (get-remove nat_cmp_total (live_of old) number q
-            ∙ ap (λ b. cond b None (get (live_of old) q)) (ap (eq_by_cmp nat_cmp q) (sym same) ∙ tied q))
+            ∙ ap (λ b. cond b None (get (live_of old) q)) ((ties_where_equal q number).1 same))
         | inr differs ↦ ap (option_map entry_of) (others q differs) ∙ sym (get-live_of old q)
             ∙ sym (get-remove nat_cmp_total (live_of old) number q
-            ∙ ap (λ b. cond b None (get (live_of old) q)) (apart q number differs))
+            ∙ ap (λ b. cond b None (get (live_of old) q)) (others_untied q number differs))
       ])
 
   len_listed : (first : ℕ) (slots : List (Option (HeldKey K))) → len (from_entries {R = nat_cmp} (listed first slots)) ≡ slot_count slots

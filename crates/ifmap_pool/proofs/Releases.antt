@@ -1,13 +1,13 @@
 -- What one hold less means, whether it was the last or not.
-use Rattle.std.proofs.Common.{◌≡◌, ◌≢◌, ◌⊎◌, ℕ, ◌+◌, ◌-◌, ◌<◌, ◌≤◌, Some, None, Ordering, cond, sym, ap, subst, ◌∙◌, inl, inr, arith}
+use Rattle.std.proofs.Common.{◌≡◌, ◌≢◌, ◌⊎◌, ℕ, ◌+◌, ◌-◌, ◌<◌, ◌≤◌, Some, None, Ordering, cond, refl, sym, ap, subst, ◌∙◌, inl, inr, arith}
 use Rattle.std.proofs.lemmas.Bool.{cases_eq}
 use Rattle.std.proofs.lemmas.Cmp.{nat_cmp_total}
 use Rattle.std.proofs.lemmas.Option.{same_Some, none-some}
 use Rattle.std.specs.Cmp.{IsTotalOrder}
 use Rattle.std.specs.FinMap.{get, get-remove}
 use Rattle.std.specs.declared.cmp.Ordering.TheVariants.{Equal}
+use Rattle.ifmap_lemmas.specs.Numbers.{others_untied, ties_where_equal}
 use Rattle.ifmap_pool.specs.Holdings.{Holdings, Names, IsPool, IsHeld, once, LetsGo, Frees, LetsOneGo, entry_at, holds_at}
-use Rattle.ifmap_pool.proofs.Live.{tied, apart}
 use Rattle.ifmap_pool.proofs.Holds.{holds_of, holds_none, holds_same, entry_put, entry_other, once_tied, once_apart, tied_or_not, tied_through, tied_on}
 
 module _ {K : Type 0} {old new : Holdings K} {number : ℕ} (goes : LetsOneGo old new number) where
@@ -21,7 +21,7 @@ module _ {K : Type 0} {old new : Holdings K} {number : ℕ} (goes : LetsOneGo ol
     | inr h ↦ inl (
       h.0,
       ap (λ l. get l number) h.1.live ∙ get-remove nat_cmp_total old.live number number ∙ ap (λ b. cond b None (get
-          old.live number)) (tied number),
+          old.live number)) ((ties_where_equal number number).1 refl),
     )
   ]
 
@@ -48,7 +48,7 @@ module _ {K : Type 0} {old new : Holdings K} {number : ℕ} (goes : LetsOneGo ol
   others other differs = elim goes.2 [
     | inl h ↦ entry_other new old number other (goes.0.0, goes.0.1 - 1) (ap (λ (p : Holdings K). p.live) (h.1 goes.0 goes.1 h.0)) differs
     | inr h ↦ ap (λ l. get l other) h.1.live ∙ get-remove nat_cmp_total old.live number other ∙ ap (λ b. cond b None (get old.live
-        other)) (apart other number differs)
+        other)) (others_untied other number differs)
   ]
 
   pub spare_more : old.spare ≤ new.spare
