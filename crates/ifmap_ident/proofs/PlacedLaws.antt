@@ -3,12 +3,8 @@
 -- 2. What is written for a byte, or for the end, is a piece; no piece goes on from another, so two pieces lead as they compare.
 -- 3. A piece tells the byte that it is written for, so pieces of two bytes differ.
 -- 4. So texts lead as the pieces at the first place where they differ, and texts that are written alike are one.
-use Rattle.std.proofs.Common.{◌≡◌, ℕ, zero, suc, List, [], ◌∷◌, ◌++◌, true, false, not, nat_eq, cond, Option, None, Some, take, get_or, refl, ap, sym, ◌∙◌, subst, append_assoc, eq-eqb, nat_lt, length, IfSome, inl, inr, ◌⊎◌}
+use Rattle.std.proofs.Common.{◌≡◌, ℕ, zero, suc, List, [], ◌∷◌, ◌++◌, true, false, not, nat_eq, cond, Option, None, Some, take, refl, ap, sym, ◌∙◌, subst, append_assoc, eq-eqb, inl, inr, ◌⊎◌}
 use Rattle.std.proofs.lemmas.Bool.{and_parts, cases_Bool, cases_eq}
-use borrow.Author.Tests.{ltb-false, ltb-true}
-use denote.Bor.{Bor}
-use Rattle.std.proofs.lemmas.Option.{slice_get_past, slice_get_read}
-use Rattle.std.specs.Option.{is_some, option_copied}
 use Rattle.std.proofs.lemmas.Map.Lookups.{exact_bytes}
 use Rattle.std.specs.Cmp.{Equal-is}
 use Rattle.std.specs.Cmp.Lexicographic.{slice_cmp}
@@ -210,10 +206,3 @@ module _ (place : TextPlace) where
       let first : b ≡ c = let some = here.0 in cc in
       let rest = text_alike bs cs s t here.1 in
       ((λ i. first i ∷ rest.0 i), rest.1)
-
--- ---- an element that was looked up
-
-pub option_copied-get : (xs : List ℕ) (n : ℕ) (r : Option (Bor ℕ)) → is_some r ≡ nat_lt n (length xs) → IfSome r
-    (λ x. x.now ≡ get_or xs n x.now) → option_copied r ≡ slice_get xs n
-option_copied-get xs n None e h = sym (slice_get_past xs n (ltb-false n (length xs) (sym e)))
-option_copied-get xs n (Some x) e h = sym (slice_get_read xs (length xs) n x.now refl (ltb-true n (length xs) (sym e)) h)
