@@ -3,6 +3,7 @@
 -- a list that rises is told by what it has, which is that of the list into which they came (rows_joined, index_joined);
 -- where none that is there has the bytes of one that comes, all of them stay (rows_merged, index_merged);
 -- what was taken out first makes no difference (put_again, joined_again), and both lists stay in step (joined_keeps).
+use Rattle.std.proofs.Math.Logic.{⊎_swap}
 use Rattle.std.proofs.Common.{◌≡◌, ◌⊎◌, ◌∙◌, refl, sym, ap, subst, inl, inr, true, false, List, [], ◌∷◌, ◌++◌, Ordering}
 use Rattle.std.proofs.lemmas.Bool.{not-true, or_parts}
 use Rattle.std.proofs.lemmas.Cmp.{eq_by_cmp_equiv}
@@ -48,15 +49,11 @@ module _ (X : Type 0) (C D : X → X → Ordering) (finer : (a s : X) → is_eq 
 
 -- ---- a sort of what stays and what comes
 
-either_way : {P Q : Type 0} → P ⊎ Q → Q ⊎ P
-either_way (inl p) = inr p
-either_way (inr q) = inl q
-
 module _ (list added next : List Stored) (up : IsStrictlySortedBy stored_order added)
     (made : IsPermutation (list_without added list ++ added) next) where
   into : (s : Stored) → Has next s → Has added s ⊎ Has (list_without added list) s
   into s h =
-      either_way (has_either (list_without added list) added s (has_from (list_without added list ++ added) s
+      ⊎_swap (has_either (list_without added list) added s (has_from (list_without added list ++ added) s
       (Contains-permutation next (list_without added list ++ added) s (IsPermutation-sym (list_without added list ++ added) next made)
       (from_has next s h))))
 

@@ -1,5 +1,5 @@
 -- Lists in a strict order: the one member that is equal to another, without it, and with one more.
-use Rattle.std.proofs.Common.{◌≡◌, ◌⊎◌, refl, sym, ◌∙◌, ap, inl, inr, ℕ, ◌<◌, Bool, true, false, not, List, [], ◌∷◌, ◌++◌, length}
+use Rattle.std.proofs.Common.{◌≡◌, ◌⊎◌, refl, sym, ◌∙◌, ap, inl, inr, ℕ, ◌<◌, true, false, not, List, [], ◌∷◌, ◌++◌, length}
 use Rattle.std.proofs.Common.{get_or, Ordering}
 use Rattle.std.proofs.lemmas.Bool.{cases_Bool}
 use Rattle.std.proofs.lemmas.Cmp.{eq_by_cmp_equiv}
@@ -11,23 +11,10 @@ use Rattle.std.specs.declared.cmp.Ordering.TheVariants.{Less, Equal, Greater}
 use Rattle.ifmap_lemmas.specs.Filtered.{filter_agrees}
 use Rattle.ifmap_lemmas.specs.Having.{Has, filter_has, has_any, has_either, has_filter, has_left, has_right}
 use Rattle.ifmap_lemmas.specs.Orderings.{is_greater, less_differs}
+use Rattle.ifmap_lemmas.specs.Parted.{filter_within}
 use Rattle.ifmap_lemmas.specs.Rising.{remove_tied}
 use Rattle.ifmap_plans.specs.Placing.{put}
 use Rattle.ifmap_rows.specs.Indexed.{without_one}
-
--- what is left by one test and passes another that is stricter
-filter_within : {X : Type 0} (p q : X → Bool) → ((x : X) → p x ≡ true → q x ≡ true) → (xs : List X) → filter p (filter q xs) ≡ filter p xs
-filter_within p q f [] = refl
-filter_within p q f (x ∷ xs) = elim (cases_Bool (q x)) [
-  | inl e ↦ elim (cases_Bool (p x)) [
-    | inl g ↦ rw (e, g) (ap (λ ys. x ∷ ys) (filter_within p q f xs))
-    | inr g ↦ rw (e, g) (filter_within p q f xs)
-  ]
-  | inr e ↦ elim (cases_Bool (p x)) [
-    | inl g ↦ let h : q x ≡ true = f x g in cc
-    | inr g ↦ rw (e, g) (filter_within p q f xs)
-  ]
-]
 
 module _ (X : Type 0) (C : X → X → Ordering) (o : IsTotalOrder C) where
   -- where a member is equal to one, the list without it is that without the one
