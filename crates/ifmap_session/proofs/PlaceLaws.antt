@@ -1,15 +1,13 @@
 -- Where the row of a serial stands, as a search by halving tells.
-use Rattle.std.proofs.Common.{◌≡◌, sym, ◌∙◌, ap, subst, ℕ, ◌<◌, ◌==◌, true, false, List, length, get_or, Option, None, Some, Result, Ok, Err, arith}
-use Rattle.std.proofs.lemmas.Bool.Decides.{nat_tests}
+use Rattle.std.proofs.Common.{◌≡◌, sym, ◌∙◌, ap, subst, ℕ, ◌<◌, ◌==◌, true, false, List, length, get_or, Option, None, Some, Result, Ok, Err}
 use Rattle.std.proofs.lemmas.Cmp.{nat_cmp_total}
 use Rattle.std.proofs.lemmas.Option.{slice_get-get_or}
 use Rattle.std.specs.List.{slice_get}
 use Rattle.std.specs.List.Sorted.{IsBinarySearchResult, IsSearchInRange}
 use Rattle.std.specs.Option.{is_some, option_map, unwrap_or}
-use Rattle.std.specs.Ordering.{nat_cmp}
+use Rattle.std.specs.Ordering.{is_eq, nat_cmp}
 use Rattle.std.specs.Result.{result_ok}
-use Rattle.std.specs.declared.cmp.Ordering.TheVariants.{Equal}
-use Rattle.ifmap_lemmas.specs.Numbers.{equal_by_order}
+use Rattle.ifmap_lemmas.specs.Numbers.{equal_by_order, ties_where_equal}
 use Rattle.ifmap_session.specs.declared.rows.SessionRow.{SessionRow}
 use Rattle.ifmap_session.specs.Rows.{AreOwn, live_of, serial_at}
 use Rattle.ifmap_session.specs.Places.{IsPlaceOf}
@@ -18,9 +16,6 @@ use Rattle.ifmap_session.specs.Sessions.{session_with_serial}
 use Rattle.ifmap_session.proofs.Halving.{placed}
 use Rattle.ifmap_session.proofs.RowLaws.{gone, none_of, row_of}
 use Rattle.ifmap_lemmas.specs.Finding.{none_passes}
-
-equal_is : (a b : ℕ) → nat_cmp a b ≡ Equal → a ≡ b
-equal_is a b e = grind (arith, nat_tests)
 
 module _ (rows : List SessionRow) (n : ℕ) (o : AreOwn rows) where
   pub nowhere : (r : Result ℕ ℕ) → IsSearchInRange r (length rows) → IsBinarySearchResult (λ (x : SessionRow). nat_cmp x.serial n) rows r
@@ -41,7 +36,7 @@ module _ (rows : List SessionRow) (n : ℕ) (o : AreOwn rows) where
       let same : j ≡ i = cc in
       let low : i < length rows = subst (λ k. k < length rows) same within in
       let serial : x.serial ≡ n = ap (λ (y : SessionRow). y.serial) at ∙ subst (λ k. (get_or rows k x).serial ≡ n) same
-      (equal_is (get_or rows j x).serial n (is x)) in
+      ((ties_where_equal (get_or rows j x).serial n).0 (ap is_eq (is x))) in
       (low, slice_get-get_or rows i x low ∙ ap Some (sym at) ∙ ap (λ s. Some (record { serial = s; kept = x.kept })) serial)
 
   some_at : (i : ℕ) (kept : Option Seat) → is_some kept ≡ true → slice_get rows i ≡ Some (record { serial = n; kept = kept })
