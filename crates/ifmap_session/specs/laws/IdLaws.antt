@@ -1,6 +1,6 @@
 -- Ids of sessions.
 use Rattle.std.proofs.lemmas.Str.Parse.{not_in_digits}
-use Rattle.std.proofs.Common.{◌≢◌, ℕ, ◌^◌, ◌<◌, length, get_or, arith, ◌≡◌, refl, suc, List, [], ◌∷◌, ◌++◌, sym, ◌∙◌, ◌+◌, true, false, inl, inr, zero, ◌/◌, ◌%◌, ◌==◌, Bool, cond}
+use Rattle.std.proofs.Common.{◌≢◌, ℕ, ◌^◌, ◌<◌, length, get_or, arith, ◌≡◌, refl, suc, List, [], ◌∷◌, sym, ◌∙◌, true, false, inl, inr, zero, ◌/◌, ◌%◌, ◌==◌, Bool, cond}
 use Rattle.std.proofs.lemmas.Fmt.{digits_decimal, decimal_injective}
 use Rattle.std.specs.Fmt.{decimal, digit_glyph, digits_onto, digits}
 use Rattle.ifmap_session.specs.SessionIds.{hyphen, BeginsWithSerial, session_id}
@@ -9,25 +9,15 @@ use Rattle.ifmap_elem.specs.laws.CharacterLaws.{is_plain, plain_characters, digi
 use Rattle.std.specs.Prelude.{nat_lt}
 use Rattle.std.proofs.lemmas.Bool.{cases_Bool}
 use Rattle.ifmap_elem.specs.Chars.{AllAre, IsCharacters}
+use Rattle.ifmap_lemmas.specs.Cuts.{same_before}
 use Rattle.ifmap_lemmas.specs.Members.{all_append}
 use Rattle.ifmap_lemmas.specs.Decimals.{decimal_model}
 use Rattle.uuid.specs.Text as uuid
+use Rattle.uuid.proofs.TextLemmas.{nibble_small}
 use Rattle.std.specs.Int.{to_be_bytes, w128}
 
 pub no_hyphen : (n : ℕ) → n < 2 ^ 64 → (i : ℕ) → i < length (decimal n) → get_or (decimal n) i 0 ≢ hyphen
 no_hyphen n small = not_in_digits decimal_model (decimal n) hyphen (digits_decimal decimal_model n small) (λ r. absurd (omega (arith, r)))
-
--- what stands before the first of a byte is told by the whole
-pub same_before : (h : ℕ) (a b r s : List ℕ) → ((i : ℕ) → i < length a → get_or a i 0 ≢ h) → ((i : ℕ) → i < length b → get_or b i 0 ≢ h)
-    → a ++ h ∷ r ≡ b ++ h ∷ s → a ≡ b
-same_before h [] [] r s na nb e = refl
-same_before h [] (y ∷ b) r s na nb e = let same : y ≡ h = cc e in absurd (nb 0 (omega arith) same)
-same_before h (x ∷ a) [] r s na nb e = let same : x ≡ h = cc e in absurd (na 0 (omega arith) same)
-same_before h (x ∷ a) (y ∷ b) r s na nb e =
-    let same : x ≡ y = cc e in
-    let rest : a ++ h ∷ r ≡ b ++ h ∷ s = cc e in
-    let tail = same_before h a b r s (λ i lt. na (suc i) (omega (arith, lt))) (λ i lt. nb (suc i) (omega (arith, lt))) rest in
-    cc (same, tail)
 
 pub ids_tell : (n m : ℕ) (id : List ℕ) → n < 2 ^ 64 → m < 2 ^ 64 → BeginsWithSerial n id → BeginsWithSerial m id → n ≡ m
 ids_tell n m id small few a b =
@@ -63,9 +53,6 @@ hex_plain d few = elim (cases_Bool (nat_lt d 10)) [
   | inl e ↦ rw e (digit_plain d (grind (arith, nat_tests)))
   | inr e ↦ rw e (grind (arith, nat_tests))
 ]
-
-pub nibble_small : (bytes : List ℕ) (k : ℕ) → uuid.nibble bytes k < 16
-nibble_small bytes k = elim (cases_Bool (k % 2 == 0)) [ inl e ↦ rw e (omega arith) | inr e ↦ rw e (omega arith) ]
 
 pub place_plain : (bytes : List ℕ) (k : ℕ) (b : Bool)
     → is_plain (cond b uuid.hyphen (uuid.hex_digit uuid.lower (uuid.nibble bytes (uuid.digit_place k)))) ≡ true
