@@ -31,7 +31,7 @@ use Rattle.ifmap_subscribes.specs.ifmap_replies.declared.replies.Reply.TheVarian
 use Rattle.ifmap_session.specs.SessionIds.{session_id}
 use Rattle.ifmap_session.specs.Sessions.{IsAsBefore, IsLive, IsTable, Opening, Session, SessionTable, is_same_text, limit_of, most_sessions, session_from, session_of_client, spare_of, without_sessions}
 use Rattle.ifmap_session.specs.laws.TableLaws.{client_freed, one_fewer, is_left}
-use Rattle.ifmap_session.specs.laws.TextLaws.{distinct_filter}
+use Rattle.ifmap_lemmas.specs.Keyed.{keys_filter}
 use Rattle.ifmap_subscribes.specs.ifmap_tellings.declared.tellings.Pending.{Pending}
 use Rattle.ifmap_subscribes.specs.ifmap_tellings.Tellings.{HasSameSessions, IsSized, IsWide, count_told, tell_by}
 use Rattle.ifmap_lemmas.specs.Filters.{filter_shorter}
@@ -238,7 +238,7 @@ module _ (a : Asking) (old new : Parts) (pending after : Pending) (random : ℕ)
         live = subst (λ l. IfSome former (λ n. IsLive n l)) (before ∙ live_is) live;
         none = subst (λ l. session_of_client opening.client (after_former former l) ≡ None) live_is
             (rw (owner, same_now) (freed table a.client (sessions_left a table) o refl
-            (distinct_filter (λ (s : Session). s.client) (is_left a.ended) table.live whole.apart)));
+            (keys_filter is_same_text (λ (s : Session). s.client) (is_left a.ended) table.live whole.apart)));
         few = subst (λ l. length (after_former former l) < most_sessions) live_is
             (rw same_now (fewer table a.client (sessions_left a table) o refl few test));
         counter = subst (λ n. n < 2 ^ 64 - 1) (sym counter_is) next;

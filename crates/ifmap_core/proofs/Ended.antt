@@ -13,15 +13,17 @@ use Rattle.std.specs.List.{AllByRecursion, IsDistinct, filter, list_any}
 use Rattle.std.specs.List.Sorted.{IsStrictlySortedBy}
 use Rattle.std.specs.declared.cmp.Ordering.TheVariants.{Less}
 use Rattle.ifmap_subscribes.specs.ifmap_changes.Between.{CanEnd}
-use Rattle.ifmap_lemmas.specs.Filters.{all_filter, all_weaker}
+use Rattle.std.proofs.lemmas.Cmp.{nat_list_eq_equiv}
+use Rattle.ifmap_lemmas.specs.Filters.{all_filter, all_weaker, found_all}
 use Rattle.ifmap_lemmas.specs.Finding.{found_passes}
+use Rattle.ifmap_lemmas.specs.Keyed.{rest_differ}
 use Rattle.ifmap_lemmas.specs.Members.{map_of_all, all_two}
 use Rattle.ifmap_lemmas.specs.Options.{is_some_of, some_is}
 use Rattle.ifmap_lemmas.specs.Parted.{lost_in_rest}
 use Rattle.ifmap_session.specs.SessionIds.{BeginsWithSerial}
 use Rattle.ifmap_session.specs.Sessions.{IsLive, IsTable, Session, SessionTable, expired_serials, is_expired, is_same_text, session_of_client, session_order, session_with_id, session_with_serial, without_sessions}
 use Rattle.ifmap_session.specs.laws.TableLaws.{found_beside_ended, is_left}
-use Rattle.ifmap_session.specs.laws.TextLaws.{all_found, find_none, rest_differ, text_is}
+use Rattle.ifmap_session.specs.laws.TextLaws.{find_none, text_is}
 use Rattle.ifmap_session.specs.laws.IdLaws.{ids_tell}
 
 -- ---- what a search finds among those that a filter leaves
@@ -31,8 +33,8 @@ pub id_lost : (table : SessionTable) (serials : List ℕ) (id : List ℕ) (s : S
     → is_left serials s ≡ false → session_with_id id (without_sessions serials table.live) ≡ None
 id_lost table serials id s h e goes =
     let q : Session → Bool = λ (t : Session). is_same_text t.id id in
-    let mine : BeginsWithSerial s.serial s.id = all_found (λ (t : Session). BeginsWithSerial t.serial t.id) q table.live s h.ids e in
-    let low : s.serial ≤ table.counter = all_found (λ (t : Session). t.serial ≤ table.counter) q table.live s h.counted e in
+    let mine : BeginsWithSerial s.serial s.id = found_all (λ (t : Session). BeginsWithSerial t.serial t.id) q table.live h.ids s e in
+    let low : s.serial ≤ table.counter = found_all (λ (t : Session). t.serial ≤ table.counter) q table.live h.counted s e in
     let own : is_same_text s.id id ≡ true = found_passes q table.live s e in
     let one : (t : Session) → BeginsWithSerial t.serial t.id → t.serial ≤ table.counter → is_same_text t.id id ≡ true
     → is_left serials t ≡ false =
@@ -58,7 +60,7 @@ client_lost p (x ∷ live) client s apart e goes =
           let out : p x ≡ false = subst (λ (t : Session). p t ≡ false) (sym same) goes in
           rw out (find_none (λ (t : Session). is_same_text t.client client) (filter p live) (all_filter
           (λ (t : Session). is_same_text t.client client ≡ false) p live
-          (rest_differ (λ (t : Session). t.client) x client live apart.0 hit)))
+          (rest_differ is_same_text (λ (t : Session). t.client) nat_list_eq_equiv x client live apart.0 hit)))
       | inr miss ↦
           let rest = client_lost p live client s apart.1 (rw miss at e) goes in
           elim (cases_Bool (p x)) [ inl stays ↦ rw (stays, miss) rest | inr out ↦ rw out rest ]

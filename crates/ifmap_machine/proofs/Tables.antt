@@ -29,7 +29,7 @@ use Rattle.ifmap_session.specs.SessionIds.{BeginsWithSerial}
 use Rattle.ifmap_session.specs.Sessions.{IsTable, Session, SessionTable, is_same_text, most_sessions, session_of_client, session_order, without_items}
 use Rattle.ifmap_session.specs.Sessions.{without_sessions}
 use Rattle.ifmap_session.specs.laws.TableLaws.{KeepsIdAndClient, begun_table, changed_table, client_freed, id_begins, one_fewer, renewed_keeps, is_left}
-use Rattle.ifmap_session.specs.laws.TextLaws.{distinct_filter}
+use Rattle.ifmap_lemmas.specs.Keyed.{keys_filter}
 use Rattle.ifmap_publish.specs.ifmap_view.declared.attachments.Attachment.{Attachment}
 
 -- the sessions of a state, as a table without room
@@ -112,7 +112,7 @@ dropped_table serials table h = record {
   counted = all_filter (λ (s : Session). s.serial ≤ table.counter) (is_left serials) table.live h.counted;
   small = h.small;
   ids = all_filter (λ (s : Session). BeginsWithSerial s.serial s.id) (is_left serials) table.live h.ids;
-  apart = distinct_filter (λ (s : Session). s.client) (is_left serials) table.live h.apart;
+  apart = keys_filter is_same_text (λ (s : Session). s.client) (is_left serials) table.live h.apart;
   few = let less = filter_shorter (is_left serials) table.live in omega (arith, less, h.few);
 }
 

@@ -6,7 +6,7 @@
 use Rattle.std.proofs.Common.{◌≡◌, refl, sym, ◌∙◌, ap, subst, ℕ, zero, suc, ◌+◌, ◌-◌, ◌<◌, ◌≤◌, ◌^◌, ◌==◌, Bool, true, false, not, cond, List, [], ◌∷◌, ◌++◌, length, map, set, Option, None, Some, Result, Ok, Err, inl, inr, arith}
 use Rattle.std.proofs.lemmas.Bool.{both_ways, cases_Bool, eqb-true, eqb-false, eq-eqb, false_from_ne_true, not-true}
 use Rattle.std.proofs.lemmas.Bool.Decides.{nat_tests}
-use Rattle.std.proofs.lemmas.Cmp.{nat_list_cmp_total}
+use Rattle.std.proofs.lemmas.Cmp.{nat_list_cmp_total, nat_list_eq_equiv}
 use Rattle.std.proofs.lemmas.List.Folds.{find-append}
 use Rattle.std.proofs.lemmas.List.Kept.{IsStrictlySortedBy-filter}
 use Rattle.std.proofs.lemmas.Map.Text.{is_eq-slice_cmp}
@@ -31,7 +31,8 @@ use Rattle.ifmap_session.specs.Seats.{Seat}
 use Rattle.ifmap_session.specs.SessionIds.{BeginsWithSerial, hyphen}
 use Rattle.ifmap_session.specs.Sessions.{IsLive, Session, change, is_same_text, most_sessions, session_of_client, session_order, session_with_id, session_with_serial, without_sessions}
 use Rattle.ifmap_session.specs.laws.TableLaws.{KeepsIdAndClient, clients_same, length_same, one_changed, one_numbered}
-use Rattle.ifmap_session.specs.laws.TextLaws.{distinct_filter, distinct_keys_push, rest_differ, text_is, text_itself}
+use Rattle.ifmap_lemmas.specs.Keyed.{keys_filter, keys_push, rest_differ}
+use Rattle.ifmap_session.specs.laws.TextLaws.{text_is, text_itself}
 use Rattle.ifmap_session.proofs.Halving.{placed}
 use Rattle.ifmap_session.proofs.RowLaws.{Own, Up, begun_last, changed, counted_filter, counted_push, counted_set, empty_row, ended, found, own_filter, own_push, own_set, row_of, seats_filter}
 use Rattle.ifmap_lemmas.specs.Filters.{all_weaker, filter_all, filter_passes, filter_shorter, found_all}
@@ -73,7 +74,8 @@ at_first : (x : Session) (xs : List Session) (c : List ℕ) → AllByRecursion
 at_first x xs c differ =
     elim (cases_Bool (is_same_text x.client c)) [
       | inl hit ↦ rw hit
-          (find_none (λ (t : Session). is_same_text t.client c) xs (rest_differ (λ (t : Session). t.client) x c xs differ hit))
+          (find_none (λ (t : Session). is_same_text t.client c) xs
+          (rest_differ is_same_text (λ (t : Session). t.client) nat_list_eq_equiv x c xs differ hit))
       | inr miss ↦ rw miss refl
     ]
 
@@ -343,7 +345,7 @@ rows_ended counter n rows i a kept e =
       small = kept.small;
       own = own_set n rows i a None kept.own e tt;
       counted = counted_set counter n rows i a None kept.counted e;
-      apart = rw live (distinct_filter (λ (t : Session). t.client) (λ (t : Session). not (t.serial == n)) (live_of rows) kept.apart);
+      apart = rw live (keys_filter is_same_text (λ (t : Session). t.client) (λ (t : Session). not (t.serial == n)) (live_of rows) kept.apart);
       few = let less = filter_shorter (λ (t : Session). not (t.serial == n)) (live_of rows) in let few = kept.few in rw live (omega arith);
     }
 
@@ -434,7 +436,7 @@ rows_begun counter rows y kept small none few own =
       small = omega arith;
       own = own_push counter rows (row_of (counter + 1) y) kept.own kept.counted (omega arith) own;
       counted = counted_push counter rows (row_of (counter + 1) y) kept.counted refl;
-      apart = rw live (distinct_keys_push (λ (s : Session). s.client) (live_of rows) y.session kept.apart none);
+      apart = rw live (keys_push is_same_text (λ (s : Session). s.client) (live_of rows) y.session kept.apart none);
       few = rw live (length_more (live_of rows) y.session few);
     } where
       length_more : (xs : List Session) (x : Session) → length xs < most_sessions → length (xs ++ x ∷ []) ≤ most_sessions

@@ -14,7 +14,7 @@ use Rattle.ifmap_search.specs.declared.results.PollItem.{PollItem}
 use Rattle.ifmap_search.specs.declared.results.PollItem.TheVariants as the_item
 use Rattle.ifmap_search.specs.Sizes.{poll_size, queue_size, size_beside_entries}
 use Rattle.ifmap_changes.specs.ifmap_session.Sessions.{IsLive, Session, is_named, session_with_serial, without_sessions}
-use Rattle.ifmap_changes.specs.ifmap_session.laws.TextLaws.{all_found}
+use Rattle.ifmap_lemmas.specs.Filters.{found_all}
 use Rattle.ifmap_changes.specs.ifmap_tellings.declared.tellings.Telling.{Telling}
 use Rattle.ifmap_changes.specs.ifmap_tellings.declared.tellings.Telling.TheVariants as the_telling
 use Rattle.ifmap_changes.specs.ifmap_tellings.Tellings.{IsSized, Tellings, tell_by, tell_if}
@@ -39,7 +39,7 @@ exact size most low = omega (arith, low)
 pub queue_few : (live : List Session) (serial : ℕ) (s : Session) → AllByRecursion (λ x. is_overfull x ≡ false) live
     → session_with_serial serial live ≡ Some s → s.limit < 2 ^ 32 → queue_size s.queue ≤ 2 ^ 64 - 1
 queue_few live serial s within is few =
-    let full : is_overfull s ≡ false = all_found (λ x. is_overfull x ≡ false) (λ x. x.serial == serial) live s within is in
+    let full : is_overfull s ≡ false = found_all (λ x. is_overfull x ≡ false) (λ x. x.serial == serial) live within s is in
     let low : queue_size s.queue ≤ s.limit = grind (arith, nat_tests, full) in
     omega (arith, low, few)
 

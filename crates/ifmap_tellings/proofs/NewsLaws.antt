@@ -5,13 +5,13 @@ use Rattle.std.specs.BTreeMap.{get}
 use Rattle.std.specs.List.{AllByRecursion}
 use Rattle.std.specs.Option.{IsSome, is_some}
 use Rattle.std.specs.Ordering.{nat_cmp}
+use Rattle.ifmap_lemmas.specs.Filters.{found_all}
 use Rattle.ifmap_lemmas.specs.Flags.{flags_all, flags_long}
 use Rattle.ifmap_lemmas.specs.Having.{Has, all_has}
 use Rattle.ifmap_lemmas.specs.Mapped.{map_alike}
 use Rattle.ifmap_lemmas.specs.Members.{all_of_map}
 use Rattle.ifmap_standing.specs.ifmap_machine.Telling.{is_overfull, overflow_session, tell_session}
 use Rattle.ifmap_standing.specs.ifmap_session.Sessions.{Session, SessionTable}
-use Rattle.ifmap_standing.specs.ifmap_session.laws.TextLaws.{all_found}
 use Rattle.ifmap_standing.specs.declared.standing.Standing.{Standing}
 use Rattle.ifmap_standing.specs.declared.telling.News.{News}
 use Rattle.ifmap_tellings.specs.Tellings.{AddsTo, AreUntoldWithinLimits, CanTell, EachTelling, Tellings, flags_since, items_for, tell_by, tell_if}
@@ -24,7 +24,7 @@ queues_within tellings live within = λ n s found none.
     let own : get nat_cmp tellings s.serial ≡ None = ap (get nat_cmp tellings) (found_serial n live s found) ∙ none in
     let each = all_of_map (λ s. is_overfull s ≡ false) (tell_by tellings) live within in
     subst (λ o. is_overfull (tell_if o s) ≡ false) own
-    (all_found (λ t. is_overfull (tell_by tellings t) ≡ false) (λ (t : Session). t.serial == n) live s each found)
+    (found_all (λ t. is_overfull (tell_by tellings t) ≡ false) (λ (t : Session). t.serial == n) live each s found)
 
 pub gone_long : (gone : List Bool) (news : List News) → length gone ≡ length news → length (flags_since gone news) ≡ length gone
 gone_long gone news long =

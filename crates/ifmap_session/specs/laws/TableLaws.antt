@@ -5,6 +5,7 @@
 use Rattle.std.proofs.Common.{◌≡◌, refl, sym, ◌∙◌, ap, subst, ℕ, suc, ◌+◌, ◌-◌, ◌^◌, ◌<◌, ◌≤◌, ◌==◌, Bool, true, false, not, cond, List, [], ◌∷◌, ◌++◌, length, map, None, Some, inl, inr, arith, length-append}
 use Rattle.std.proofs.lemmas.Bool.{cases_Bool, eq-eqb, not_from_true, or_left, eqb-true, or_parts}
 use Rattle.std.proofs.lemmas.Bool.Decides.{nat_tests}
+use Rattle.std.proofs.lemmas.Cmp.{nat_list_eq_equiv}
 use Rattle.std.proofs.lemmas.List.Folds.{find-append}
 use Rattle.std.proofs.lemmas.List.Kept.{IsStrictlySortedBy-filter}
 use Rattle.std.specs.Int.{to_be_bytes, w128}
@@ -16,7 +17,7 @@ use Rattle.ifmap_lemmas.specs.Found.{find_in_filter, find_none, one_less}
 use Rattle.ifmap_lemmas.specs.Members.{both_all, map_of_all}
 use Rattle.ifmap_session.specs.SessionIds.{BeginsWithSerial, session_id}
 use Rattle.ifmap_session.specs.Sessions.{IsTable, Session, SessionTable, change, is_same_text, most_sessions, session_of_client, session_order, session_with_serial, with_last, without_sessions, IsLive, expired_serials, is_expired}
-use Rattle.ifmap_session.specs.laws.TextLaws.{distinct_filter, distinct_keys_push, rest_differ}
+use Rattle.ifmap_lemmas.specs.Keyed.{keys_filter, keys_push, rest_differ}
 use Rattle.uuid.specs.Text.{hyphenated_text, lower}
 
 -- a session that these numbers are not of
@@ -39,7 +40,7 @@ ended_table serial table h = record {
   counted = all_filter (λ (s : Session). s.serial ≤ table.counter) (remains serial) table.live h.counted;
   small = h.small;
   ids = all_filter (λ (s : Session). BeginsWithSerial s.serial s.id) (remains serial) table.live h.ids;
-  apart = distinct_filter (λ (s : Session). s.client) (remains serial) table.live h.apart;
+  apart = keys_filter is_same_text (λ (s : Session). s.client) (remains serial) table.live h.apart;
   few = let less = filter_shorter (remains serial) table.live in omega (arith, less, h.few);
 }
 
@@ -58,8 +59,8 @@ client_freed (x ∷ live) client s apart e =
           let same : x ≡ s = cc (rw hit at e) in
           let goes : remains s.serial x ≡ false = subst (λ (t : Session). remains s.serial t ≡ false) (sym same) (goes_itself s) in
           rw goes (find_none (λ (t : Session). is_same_text t.client client) (filter (remains s.serial) live) (all_filter
-          (λ (t : Session). is_same_text t.client client ≡ false) (remains s.serial) live (rest_differ
-          (λ (t : Session). t.client) x client live apart.0 hit)))
+          (λ (t : Session). is_same_text t.client client ≡ false) (remains s.serial) live (rest_differ is_same_text
+          (λ (t : Session). t.client) nat_list_eq_equiv x client live apart.0 hit)))
       | inr miss ↦
           elim (cases_Bool (remains s.serial x)) [
             | inl stays ↦ rw (stays, miss) (client_freed live client s apart.1 (rw miss at e))
@@ -91,7 +92,7 @@ begun_table table s h next id small none room = record {
       (λ t le. omega (arith, le)) table.live h.counted) (omega (arith, next), tt);
   small = omega (arith, small);
   ids = both_all (λ (t : Session). BeginsWithSerial t.serial t.id) table.live (s ∷ []) h.ids (id, tt);
-  apart = distinct_keys_push (λ (t : Session). t.client) table.live s h.apart none;
+  apart = keys_push is_same_text (λ (t : Session). t.client) table.live s h.apart none;
   few = let long = length-append table.live (s ∷ []) in omega (arith, long, room);
 }
 

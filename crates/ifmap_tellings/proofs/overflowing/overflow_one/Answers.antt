@@ -1,9 +1,9 @@
 use Rattle.std.proofs.Common.{◌≡◌, ◌∙◌, ◌==◌, ◌||◌, ap, subst, sym}
 use Rattle.std.specs.BTreeMap.{get}
 use Rattle.std.specs.Ordering.{nat_cmp}
+use Rattle.ifmap_lemmas.specs.Filters.{found_all}
 use Rattle.ifmap_standing.specs.ifmap_machine.Telling.{is_overfull, overflow_session}
 use Rattle.ifmap_standing.specs.ifmap_session.Sessions.{Session}
-use Rattle.ifmap_standing.specs.ifmap_session.laws.TextLaws.{all_found}
 use Rattle.ifmap_tellings.specs.Tellings.{IsWide, is_alone, tell_if}
 use Rattle.ifmap_tellings.proofs.overflowing.overflow_one.Goals as goal
 use Rattle.ifmap_standing.specs.ifmap_session.laws.TableLaws.{found_serial}
@@ -15,7 +15,7 @@ returns-clause-told c = λ s found.
     in let here : s.serial ≡ serial = found_serial serial live s found
     in let limit : s.limit ≡ c.queue_size-size.result.1 = sym (c.queue_size-size.ensures s found).1
     in let wide = subst IsWide limit
-    (all_found (λ (t : Session). IsWide t.limit) (λ (t : Session). t.serial == serial) live s c.requires.wide found)
+    (found_all (λ (t : Session). IsWide t.limit) (λ (t : Session). t.serial == serial) live c.requires.wide s found)
     in ap (λ n. tell_if (get nat_cmp c.overflow_where.new.tellings n) s) here
     ∙ c.in_ok-count.ensures.told live s c.requires.sized c.requires.within found limit wide
     ∙ ap (λ n. overflow_session (tell_if (get nat_cmp c.args.tellings.now n) s)) (sym here)
