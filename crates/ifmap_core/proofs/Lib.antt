@@ -5,7 +5,6 @@ pub mod Places
 pub mod Told
 pub mod Turned
 pub mod Taking
-pub mod Keeping
 pub mod Steady
 pub mod Releasing
 pub mod Applying

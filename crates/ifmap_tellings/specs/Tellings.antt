@@ -1,8 +1,9 @@
 -- What an event has changed and not yet told: which subscriptions stand no longer, and what sessions are to be told.
-use Rattle.std.specs.Prelude.{◌≡◌, ◌≢◌, ◌<◌, ◌≤◌, ◌^◌, ◌-◌, ◌||◌, ◌==◌, ℕ, Bool, true, false, List, [], ◌++◌, filter, flat_map, length, map, not, Option, None, Some, IsSome, slice_get}
+use Rattle.std.specs.Prelude.{◌≡◌, ◌≢◌, ◌<◌, ◌≤◌, ◌^◌, ◌-◌, ◌||◌, ◌==◌, ℕ, Bool, true, false, List, [], ◌++◌, filter, flat_map, length, map, Option, None, Some, IsSome, slice_get}
 use Rattle.std.specs.BTreeMap.{BTreeMap, get}
 use Rattle.std.specs.List.{AllByRecursion, zip}
 use Rattle.std.specs.Ordering.{nat_cmp}
+pub use Rattle.ifmap_lemmas.specs.Keeping.{kept_items}
 use Rattle.ifmap_tellings.specs.declared.tellings.Telling.{Telling}
 use Rattle.ifmap_tellings.specs.declared.tellings.Telling.TheVariants.{After, Alone}
 use Rattle.ifmap_ident.specs.declared.codes.Code.TheVariants.{PollResultsTooBig}
@@ -13,10 +14,6 @@ use Rattle.ifmap_search.specs.Sizes.{queue_size, size_beside_entries}
 use Rattle.ifmap_standing.specs.ifmap_session.Sessions.{IsLive, Session, SessionTable, session_with_serial, spare_of, with_error}
 use Rattle.ifmap_standing.specs.declared.standing.Standing.{Standing}
 use Rattle.ifmap_standing.specs.declared.telling.News.{News}
-
--- what stands at the places where no flag is
-abbrev pub kept_items : {X : Type 0} → List Bool → List X → List X
-kept_items gone xs = map (λ p. p.1) (filter (λ p. not p.0) (zip gone xs))
 
 -- P holds of each subscription that is not gone
 abbrev pub AllKept : (Standing → Type 0) → List Bool → List Standing → Type 0

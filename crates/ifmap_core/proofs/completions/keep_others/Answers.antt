@@ -1,5 +1,5 @@
 use Rattle.std.proofs.Common.{◌∙◌}
-use Rattle.ifmap_core.proofs.Keeping.{kept_moved, kept_passed}
+use Rattle.ifmap_lemmas.specs.Keeping.{kept_moved, kept_passed}
 use Rattle.ifmap_core.proofs.completions.keep_others.Goals as goal
 use Rattle.ifmap_core.proofs.completions.keep_others.Goals.{then-not-gone-at, else-not-gone-at}
 

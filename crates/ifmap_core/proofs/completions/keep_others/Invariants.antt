@@ -1,6 +1,6 @@
 use Rattle.std.proofs.Common.{◌≡◌}
 use Rattle.std.specs.Prelude.{vec_capacity, vec_len}
-use Rattle.ifmap_core.proofs.Keeping.{KeptInPlace}
+use Rattle.ifmap_lemmas.specs.Keeping.{KeptInPlace}
 use Rattle.ifmap_core.proofs.completions.keep_others.Given as goal
 
 abbrev pub invariant-loop-at : goal.invariant-loop-at
