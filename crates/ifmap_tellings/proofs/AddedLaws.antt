@@ -2,12 +2,9 @@
 -- (`sized_after`), and to nothing yet (`begun`, `begun_size`). Then what is at one key of a map that changed there.
 use Rattle.std.proofs.Common.{◌≡◌, ◌≢◌, refl, sym, ◌∙◌, ap, subst, ℕ, ◌+◌, ◌-◌, ◌^◌, ◌<◌, ◌≤◌, min, false, List, [], ◌++◌, Option, None, Some, append_assoc, inl, inr, arith}
 use Rattle.std.proofs.lemmas.Bool.{cases_eq, ltb-false}
-use Rattle.std.proofs.lemmas.Bool.Decides.{nat_tests}
 use Rattle.std.proofs.lemmas.List.{append-nil}
 use Rattle.std.proofs.lemmas.List.Sums.{sum_by-append}
-use Rattle.std.specs.BTreeMap.{is_at}
 use Rattle.std.specs.Option.{IsSome, is_some}
-use Rattle.std.specs.Ordering.{nat_cmp}
 use Rattle.ifmap_lemmas.specs.Fronts.{both_empty}
 use Rattle.ifmap_lemmas.specs.Options.{some_none}
 use Rattle.ifmap_standing.specs.ifmap_machine.Telling.{is_overfull, tell_session}
@@ -72,10 +69,6 @@ begun_size n live size limit is within small = λ s e.
     let le : queue ≤ limit = subst (λ m. queue ≤ m) (sym (is s e).1) (ltb-false s.limit queue (within s e)) in
     let b = below size queue limit (is s e).0 le small in
     (b.0 ∙ ap queue_size (sym (append-nil s.queue)), b.1)
-
--- another key of a map
-pub other_key : (k q : ℕ) → q ≢ k → is_at (nat_cmp k) q ≡ false
-other_key k q n = let other : k ≢ q = λ e. n (sym e) in grind (arith, nat_tests)
 
 -- what holds of each telling, where one key changes
 pub each_changed : (P : ℕ → Telling → Type 0) (old new : ℕ → Option Telling) (k : ℕ) → ((n : ℕ) → n ≢ k → new n ≡ old n)

@@ -1,10 +1,10 @@
 -- What is pending, queued in sessions.
 -- First: who lives goes on to live (`live_changed`), and items are queued one after the other (`PushesOn`). Last: one session is told
 -- (`room_for_one`), and sessions one after the other (`TellsOn`).
-use Rattle.std.proofs.Common.{◌≡◌, ◌≢◌, refl, sym, ◌∙◌, ap, subst, ℕ, zero, suc, ◌+◌, ◌<◌, ◌≤◌, ◌==◌, true, false, List, [], ◌∷◌, append_assoc, length, map, Option, None, Some, IsSome, inl, inr, arith, nat_cmp, is_eq}
+use Rattle.std.proofs.Common.{◌≡◌, ◌≢◌, refl, sym, ◌∙◌, ap, subst, ℕ, ◌+◌, ◌≤◌, ◌==◌, true, false, List, [], ◌∷◌, append_assoc, length, map, Option, None, Some, inl, inr, arith, nat_cmp}
 use Rattle.std.proofs.lemmas.Bool.{cases_Bool, eq-eqb, eqb-true}
-use Rattle.std.proofs.lemmas.Bool.Decides.{nat_tests}
 use Rattle.std.specs.BTreeMap.{Updates, get}
+use Rattle.ifmap_lemmas.specs.Numbers.{others_untied}
 use Rattle.ifmap_lemmas.specs.Options.{is_some_of, some_is}
 use Rattle.ifmap_tellings.specs.declared.tellings.Telling.{Telling}
 use Rattle.ifmap_tellings.specs.declared.tellings.Telling.TheVariants.{After, Alone}
@@ -74,12 +74,6 @@ module _ (n : ℕ) (items : List PollItem) (old : SessionTable) where
     pub pushes_spare : spare_of n now.spare + length items ≡ spare_of n old.spare
     pushes_spare = let long = ap length none in omega (arith, long, p.spare)
 
--- nothing comes of a list of no length
-pub none_there : {X : Type 0} (o : Option X) (n : ℕ) → (0 < n → IsSome o) → o ≡ None → n ≡ 0
-none_there None zero there is = refl
-none_there None (suc n) there is = let bad : false ≡ true = there (omega arith) in cc
-none_there (Some x) n there is = cc
-
 -- ---- one session is told
 
 -- with room for one more, there is room for one in place of all
@@ -112,16 +106,9 @@ tells_none tellings old can = record {
   room = omega arith;
 }
 
-apart_is : (a b : ℕ) → b ≢ a → is_eq (nat_cmp a b) ≡ false
-apart_is a b apart =
-    elim (cases_Bool (a == b)) [
-      | inl hit ↦ absurd (apart (sym (eqb-true a b hit)))
-      | inr miss ↦ grind (arith, nat_tests, miss)
-    ]
-
 module _ (n : ℕ) (t : Telling) (left less : Tellings) (there : get nat_cmp left n ≡ Some t) (u : Updates nat_cmp left less n None) where
   others_left : (m : ℕ) → m ≢ n → get nat_cmp less m ≡ get nat_cmp left m
-  others_left m apart = u.2 m (apart_is n m apart)
+  others_left m apart = u.2 m (others_untied n m (λ e. apart (sym e)))
 
   -- one is told, the rest of what is to be told makes of it what all made
   told_then : (s : Session) → tell_by less (changed_one n (tell_if (Some t)) s) ≡ tell_by left s

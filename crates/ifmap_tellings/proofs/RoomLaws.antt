@@ -6,15 +6,14 @@ use Rattle.std.proofs.lemmas.Bool.Decides.{nat_tests}
 use Rattle.std.specs.List.Sorted.{IsStrictlySortedBy}
 use Rattle.std.specs.declared.cmp.Ordering.TheVariants.{Less}
 use Rattle.ifmap_lemmas.specs.Having.{Has, all_has}
-use Rattle.ifmap_standing.specs.ifmap_session.Sessions.{IsLive, Session, SessionTable, session_order, session_with_serial, spare_of}
+use Rattle.ifmap_standing.specs.ifmap_session.Sessions.{IsLive, Session, SessionTable, session_order, session_with_serial}
 use Rattle.ifmap_tellings.specs.declared.tellings.Telling.{Telling}
-use Rattle.ifmap_tellings.specs.Tellings.{CanTell, HasSameSessions, count_told}
-use Rattle.ifmap_tellings.specs.ToldLaws.{at_most}
+use Rattle.ifmap_tellings.specs.Tellings.{CanTell, HasSameSessions}
 
 pub tells_still : (a b : SessionTable) (n : ℕ) (t : Telling) → HasSameSessions a b → CanTell a n t → CanTell b n t
 tells_still a b n t same can = record {
   live = subst (λ l. IsLive n l) (sym same.live) can.live;
-  room = at_most (count_told t) (spare_of n a.spare) (spare_of n b.spare) can.room (same.spare n);
+  room = omega (arith, can.room, same.spare n);
 }
 
 -- a session that is there is found by its serial

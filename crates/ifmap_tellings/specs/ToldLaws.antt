@@ -1,9 +1,9 @@
 -- What is told a session, and whose sessions stay.
-use Rattle.std.proofs.Common.{refl, arith, ℕ, ◌≤◌, ◌==◌, ◌∙◌, ◌≡◌, Option, Some, None, Bool, List, sym, true, false, inl, inr, [], ◌∷◌, map, ap}
+use Rattle.std.proofs.Common.{refl, arith, ℕ, ◌==◌, ◌∙◌, ◌≡◌, Option, Some, None, Bool, List, sym, true, false, inl, inr, [], ◌∷◌, map, ap}
 use Rattle.std.proofs.lemmas.Bool.{cases_Bool}
 use Rattle.std.specs.BTreeMap.{get}
 use Rattle.std.specs.Ordering.{nat_cmp}
-use Rattle.ifmap_standing.specs.ifmap_session.Sessions.{SessionTable, session_with_serial, spare_of, Session}
+use Rattle.ifmap_standing.specs.ifmap_session.Sessions.{SessionTable, session_with_serial, Session}
 use Rattle.ifmap_tellings.specs.Tellings.{HasSameSessions, Tellings, tell_by, tell_if, AllKept, kept_items}
 use Rattle.ifmap_tellings.specs.declared.tellings.Telling.{Telling}
 use Rattle.ifmap_tellings.specs.declared.tellings.Telling.TheVariants.{After, Alone}
@@ -14,15 +14,12 @@ use Rattle.ifmap_standing.specs.Kept.{AtEach}
 pub same_sessions_itself : (t : SessionTable) → HasSameSessions t t
 same_sessions_itself t = record { live = refl; counter = refl; spare = λ n. omega arith; room = omega arith }
 
-pub at_most : (a b c : ℕ) → a ≤ b → b ≤ c → a ≤ c
-at_most a b c d e = omega arith
-
 pub same_twice : (a b c : SessionTable) → HasSameSessions a b → HasSameSessions b c → HasSameSessions a c
 same_twice a b c first next = record {
   live = next.live ∙ first.live;
   counter = next.counter ∙ first.counter;
-  spare = λ n. at_most (spare_of n a.spare) (spare_of n b.spare) (spare_of n c.spare) (first.spare n) (next.spare n);
-  room = at_most a.room b.room c.room first.room next.room;
+  spare = λ n. omega (arith, first.spare n, next.spare n);
+  room = omega (arith, first.room, next.room);
 }
 
 pub told_serial : (o : Option Telling) (s : Session) → (tell_if o s).serial ≡ s.serial

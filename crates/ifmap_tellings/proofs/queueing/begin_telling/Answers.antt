@@ -3,7 +3,8 @@ use Rattle.std.proofs.lemmas.Option.{same_Some}
 use Rattle.ifmap_search.specs.declared.results.PollItem.{PollItem}
 use Rattle.ifmap_tellings.specs.Tellings.{AddsTo, IsSized}
 use Rattle.ifmap_tellings.specs.declared.tellings.Telling.TheVariants.{After}
-use Rattle.ifmap_tellings.proofs.AddedLaws.{begun, begun_size, other_key}
+use Rattle.ifmap_lemmas.specs.Numbers.{others_untied}
+use Rattle.ifmap_tellings.proofs.AddedLaws.{begun, begun_size}
 use Rattle.ifmap_tellings.proofs.queueing.begin_telling.Goals as goal
 
 pub returns-clause-added : goal.returns-clause-added
@@ -16,7 +17,7 @@ returns-clause-added c =
     c.in_ok-add_items.ensures.added))
 
 pub returns-clause-others : goal.returns-clause-others
-returns-clause-others c = λ n other. c.in_ok-insert.ensures.updates.2 n (other_key c.args.serial n other)
+returns-clause-others c = λ n other. c.in_ok-insert.ensures.updates.2 n (others_untied c.args.serial n (λ e. other (sym e)))
 
 pub returns-clause-sized : goal.returns-clause-sized
 returns-clause-sized c = λ t e.

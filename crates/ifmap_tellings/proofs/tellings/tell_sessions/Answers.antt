@@ -1,6 +1,7 @@
 use Rattle.std.proofs.Common.{◌≡◌, [], length}
 use Rattle.std.proofs.lemmas.List.{nil_from_length}
-use Rattle.ifmap_tellings.proofs.Queuing.{none_there, tells_all, tells_more, tells_none, tells_spare}
+use Rattle.ifmap_lemmas.specs.Options.{none_left}
+use Rattle.ifmap_tellings.proofs.Queuing.{tells_all, tells_more, tells_none, tells_spare}
 use Rattle.ifmap_tellings.proofs.tellings.tell_sessions.Goals as goal
 
 pub loop-serial-init : goal.loop-serial-init
@@ -19,7 +20,7 @@ pub returns-clause-live : goal.returns-clause-live
 returns-clause-live c =
     let none : c.loop-serial.left.entries ≡ [] =
     nil_from_length c.loop-serial.left.entries
-    (none_there c.pop_first.result (length c.loop-serial.left.entries) c.pop_first.ensures.variant.1 c.in_default.is) in
+    (none_left c.pop_first.result (length c.loop-serial.left.entries) c.pop_first.ensures.variant.1 c.in_default.is) in
     tells_all c.args.tellings c.args.sessions.now c.loop-serial.sessions c.loop-serial.left c.loop-serial.invariant none
 
 pub returns-clause-counter : goal.returns-clause-counter
@@ -29,7 +30,7 @@ pub returns-clause-spare : goal.returns-clause-spare
 returns-clause-spare c =
     let none : c.loop-serial.left.entries ≡ [] =
     nil_from_length c.loop-serial.left.entries
-    (none_there c.pop_first.result (length c.loop-serial.left.entries) c.pop_first.ensures.variant.1 c.in_default.is) in
+    (none_left c.pop_first.result (length c.loop-serial.left.entries) c.pop_first.ensures.variant.1 c.in_default.is) in
     tells_spare c.args.tellings c.args.sessions.now c.loop-serial.sessions c.loop-serial.left c.loop-serial.invariant none
 
 pub returns-clause-room : goal.returns-clause-room
