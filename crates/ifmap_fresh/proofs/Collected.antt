@@ -10,7 +10,6 @@
 use Rattle.std.proofs.Common.{◌≡◌, ◌≢◌, ℕ, ◌<◌, Bool, true, false, cond, not, ◌&&◌, ◌||◌, Option, Some, None, List, [], ◌∷◌}
 use Rattle.std.proofs.Common.{◌++◌, map, nat_lt, refl, ap, ◌∙◌, sym, subst, inl, inr, arith}
 use Rattle.std.proofs.lemmas.Bool.{and_parts, cases_Bool, lt-ltb, ltb-true, not-true, or_cases, or_right}
-use Rattle.std.proofs.lemmas.Bool.Decides.{nat_tests}
 use Rattle.std.proofs.lemmas.List.{map-append}
 use Rattle.std.proofs.lemmas.List.Elements.{filter-append}
 use Rattle.std.proofs.lemmas.Option.{same_Some, none-some}
@@ -25,6 +24,7 @@ use Rattle.ifmap_ident.specs.Canon.{IsIdentifier}
 use Rattle.ifmap_ident.specs.Items.{IsCanonItem, pair_of, same_item}
 use Rattle.ifmap_lemmas.specs.Having.{Has, any_has, has_either, has_filter, has_from, has_joined, has_left, has_map, has_mapped, has_right, joined_has, map_has, mapped_has}
 use Rattle.ifmap_lemmas.specs.Filters.{filter_alike, filter_twice}
+use Rattle.ifmap_lemmas.specs.Numbers.{less_one_way}
 use Rattle.ifmap_meta.specs.declared.stored.Stored.{Stored}
 use Rattle.ifmap_region.specs.Walks.{AreDepths}
 use Rattle.ifmap_search.specs.declared.searches.Search.{Search}
@@ -53,9 +53,6 @@ pub record AreCollected (rows : List Attachment) (s : Search) (items : List Item
   pub there : (x : Item) → Has items x → is_looked_at rows s x ≡ true
   pub back : (x : Item) → IsCanonItem x → is_looked_at rows s x ≡ true → Has items x
   pub canon : (x : Item) → Has items x → IsCanonItem x
-
-lt_turned : (a b : ℕ) → nat_lt a b ≡ true → nat_lt b a ≡ false
-lt_turned a b e = grind (arith, nat_tests)
 
 module _ (tells : BytesTellIdentifiers) (rows : List Attachment) (id_at : ℕ → Option Identifier) (links : ℕ → List LinkSeen) (s : Search)
     (is : IsView rows id_at links)
@@ -214,7 +211,7 @@ module _ (tells : BytesTellIdentifiers) (rows : List Attachment) (id_at : ℕ �
       in elim (cases_Bool (nat_lt w.0 v.0 && passed w.0)) [
         | inr f ↦ brings v.0 w.0 a b item v.1 w.1 v.2 f m e v.3
         | inl t ↦ let p = and_parts (nat_lt w.0 v.0) (passed w.0) t
-            in let first : (nat_lt v.0 w.0 && passed v.0) ≡ false = ap (λ c. c && passed v.0) (lt_turned w.0 v.0 p.0)
+            in let first : (nat_lt v.0 w.0 && passed v.0) ≡ false = ap (λ c. c && passed v.0) (less_one_way w.0 v.0 p.0)
             in brings w.0 v.0 b a item w.1 v.1 p.1 first (match_turned rows s.match_links b a ∙ m) (pair_turned b a ∙ e) (key_of w.0 p.1)
       ]
     where
