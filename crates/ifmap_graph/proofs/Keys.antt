@@ -4,13 +4,13 @@ use Rattle.std.proofs.lemmas.Bool.{cases_Bool}
 use Rattle.std.proofs.lemmas.Cmp.{nat_cmp_total, tied_itself}
 use Rattle.std.proofs.lemmas.List.{length-map}
 use Rattle.std.proofs.lemmas.Option.{none-some, same_Some}
-use Rattle.std.specs.FinMap.{entries, entries_sorted, find, get-entries, is_sorted, len, len-entries, nat_cmp-IsAntisymmetric}
+use Rattle.std.specs.FinMap.{entries, entries_sorted, find, get-entries, is_sorted, len, len-entries}
 use Rattle.std.specs.FinMap.Entries.{below_all}
 use Rattle.std.specs.List.{AllByRecursion, IsDistinct}
 use Rattle.std.specs.Ordering.{eq_by_cmp, is_eq, is_lt, nat_cmp}
 use Rattle.std.proofs.Math.Facts.{and_yes}
-use Rattle.std.specs.Cmp.{Equal-is}
 use Rattle.ifmap_lemmas.specs.Having.{Has, has_map, map_has}
+use Rattle.ifmap_lemmas.specs.Numbers.{ties_where_equal}
 use Rattle.ifmap_lemmas.specs.Texts.{eq_tells}
 use Rattle.ifmap_ident.specs.declared.identifiers.Identifier.{Identifier}
 use Rattle.ifmap_ident.specs.Identifiers.{identifier_bytes, identifier_order, same_identifier}
@@ -30,14 +30,11 @@ below_has v [] b e h = absurd h
 below_has v (x ∷ xs) b e (inl p) = subst (λ y. T (is_lt (nat_cmp v y.0))) p (and_yes (is_lt (nat_cmp v x.0)) (below_all nat_cmp v xs) b).0
 below_has v (x ∷ xs) b e (inr h) = below_has v xs (and_yes (is_lt (nat_cmp v x.0)) (below_all nat_cmp v xs) b).1 e h
 
-tie_is : (v w : ℕ) → eq_by_cmp nat_cmp v w ≡ true → v ≡ w
-tie_is v w t = nat_cmp-IsAntisymmetric v w ((Equal-is (nat_cmp v w)).0 t)
-
 find_has : (es : Numbered) (v : ℕ) (x : Identifier × ℕ) → find nat_cmp v es ≡ Some x → Has es (v, x)
 find_has [] v x e = absurd (none-some _ e)
 find_has (y ∷ ys) v x e = elim (cases_Bool (eq_by_cmp nat_cmp v y.0)) [
   | inl t ↦ let here : y.1 ≡ x = same_Some _ _ (rw t at e)
-      in inl (ap (λ n. (n, y.1)) (sym (tie_is v y.0 t)) ∙ ap (λ z. (v, z)) here)
+      in inl (ap (λ n. (n, y.1)) (sym ((ties_where_equal v y.0).0 t)) ∙ ap (λ z. (v, z)) here)
   | inr f ↦ inr (find_has ys v x (rw f at e))
 ]
 
@@ -47,7 +44,7 @@ has_find (y ∷ ys) s e (inl p) =
     let t : eq_by_cmp nat_cmp e.0 y.0 ≡ true = ap (λ z. eq_by_cmp nat_cmp e.0 z.0) p ∙ ap is_eq (tied_itself nat_cmp_total e.0)
     in rw t (ap (λ z. Some z.1) p)
 has_find (y ∷ ys) s e (inr h) = elim (cases_Bool (eq_by_cmp nat_cmp e.0 y.0)) [
-  | inl t ↦ absurd (not_below y.0 e.0 (sym (tie_is e.0 y.0 t))
+  | inl t ↦ absurd (not_below y.0 e.0 (sym ((ties_where_equal e.0 y.0).0 t))
       (below_has y.0 ys (and_yes (below_all nat_cmp y.0 ys) (is_sorted nat_cmp ys) s).0 e h))
   | inr f ↦ rw f (has_find ys (and_yes (below_all nat_cmp y.0 ys) (is_sorted nat_cmp ys) s).1 e h)
 ]
