@@ -1,5 +1,6 @@
 -- Slots that join numbers, and the items that stand there.
-use Rattle.std.specs.Prelude.{◌≡◌, ℕ, Bool, true, false, List, [], ◌∷◌, Option, Some, None}
+use Rattle.std.specs.Prelude.{◌≡◌, ℕ, List, Option, Some, None}
+pub use Rattle.ifmap_lemmas.specs.Emptiness.{full_some, is_not_empty, some_full}
 use Rattle.ifmap_lemmas.specs.Having.{Has}
 use Rattle.ifmap_ident.specs.declared.identifiers.Identifier.{Identifier}
 use Rattle.ifmap_ident.specs.declared.items.Item.{Item}
@@ -8,7 +9,6 @@ use Rattle.ifmap_ident.specs.Identifiers.{identifier_bytes}
 use Rattle.ifmap_graph.specs.declared.ends.Ends.{Ends}
 use Rattle.ifmap_graph.specs.declared.ends.Ends.TheVariants as ends
 use Rattle.ifmap_graph.specs.declared.shelves.Shelf.{Shelf}
-use Rattle.std.proofs.Common.{◌≢◌, refl}
 
 -- the two numbers of a link
 abbrev pub two_of : Ends → Option (ℕ × ℕ)
@@ -19,10 +19,6 @@ two_of (ends.Pair v w) = Some (v, w)
 abbrev pub joined_pair : Option Shelf → Option (ℕ × ℕ)
 joined_pair None = None
 joined_pair (Some shelf) = two_of shelf.ends
-
-abbrev pub is_not_empty : {X : Type 0} → List X → Bool
-is_not_empty [] = false
-is_not_empty (x ∷ xs) = true
 
 -- the number is that of the identifier: its bytes are those of the number's
 abbrev pub IsNumber : (ℕ → Option Identifier) → ℕ → Identifier → Type 0
@@ -39,11 +35,3 @@ pub record AreJoined (entries : List (Item × ℕ)) (id_at : ℕ → Option Iden
       → (v : ℕ) × (w : ℕ) × (joins at ≡ Some (v, w)) × IsNumber id_at v a × IsNumber id_at w b
   pub only : (at v w : ℕ) → joins at ≡ Some (v, w)
       → (a : Identifier) × (b : Identifier) × Has entries (Pair a b, at) × IsNumber id_at v a × IsNumber id_at w b
-
-pub full_some : {X : Type 0} (l : List X) → is_not_empty l ≡ true → l ≢ []
-full_some [] e n = cc
-full_some (x ∷ xs) e n = cc
-
-pub some_full : {X : Type 0} (l : List X) → l ≢ [] → is_not_empty l ≡ true
-some_full [] n = absurd (n refl)
-some_full (x ∷ xs) n = refl
