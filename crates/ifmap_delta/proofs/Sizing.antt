@@ -1,6 +1,6 @@
 -- The size of the next result: that of the one before, without what went and with what came. The two results share what
 -- neither loses nor gains, and that has one size in both.
-use Rattle.std.proofs.Common.{◌≡◌, inl, inr, ℕ, ◌+◌, Bool, true, false, not, ◌&&◌, List, [], ◌∷◌, length, sum_by, refl, ap, ◌∙◌}
+use Rattle.std.proofs.Common.{◌≡◌, inl, inr, ℕ, ◌+◌, true, false, not, ◌&&◌, List, [], ◌∷◌, length, sum_by, refl, ap, ◌∙◌}
 use Rattle.std.proofs.Common.{sym, subst, arith}
 use Rattle.std.proofs.lemmas.Bool.{and_parts}
 use Rattle.std.proofs.lemmas.List.Filters.{sum_by-filter_both}
@@ -26,11 +26,6 @@ use Rattle.ifmap_search.specs.declared.results.Entry.{Entry}
 use Rattle.ifmap_search.specs.Sizes.{entries_size, entry_size}
 use Rattle.ifmap_folds.specs.Differences.{difference, entry_bytes, entry_order, has_entry, same_entry}
 use Rattle.ifmap_folds.specs.laws.FoldingLaws.{entries_tie, entries_total, same_turned}
-
--- a sum over a list, in two parts
-parts : {X : Type 0} (f : X → ℕ) (p : X → Bool) (xs : List X)
-    → sum_by f xs ≡ sum_by f (filter p xs) + sum_by f (filter (λ x. not (p x)) xs)
-parts f p xs = sym (sum_by-filter_both p (λ x. not (p x)) (λ x. refl) f xs)
 
 -- two rising lists, of which each has what ties with a member of the other, have one sum of what ties give alike
 module _ {X : Type 0} (order : X → X → Ordering) (total : IsTotalOrder order) (f : X → ℕ)
@@ -126,8 +121,8 @@ sizes_differ a b r q before after is sums =
       arith,
       is,
       sums,
-      parts entry_size (has_entry b) a,
-      parts entry_size (has_entry a) b,
+      sum_by-filter_both (has_entry b) (λ x. not (has_entry b x)) (λ x. refl) entry_size a,
+      sum_by-filter_both (has_entry a) (λ x. not (has_entry a x)) (λ x. refl) entry_size b,
       one_sum entry_order entries_total entry_size tied_size (filter (has_entry b) a) (filter (has_entry a) b)
           (IsStrictlySortedBy-filter entry_order (has_entry b) a r) (IsStrictlySortedBy-filter entry_order (has_entry a) b q)
           (shared a b) (shared b a),

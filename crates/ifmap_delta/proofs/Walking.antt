@@ -4,15 +4,15 @@
 -- (`mid_depth`); what is near (`near_there`); a number whose mark changes is near (`moved_near`); the steps of looking along what
 -- turned (`turned_within`).
 use Rattle.std.proofs.Common.{◌≡◌, ◌≢◌, ◌↔◌, ◌⊎◌, inl, inr, ℕ, zero, suc, ◌+◌, ◌≤◌, Bool, true, false, cond, Option, Some}
-use Rattle.std.proofs.Common.{None, List, [], ◌∷◌, is_some, length, sum_by, nat_eq, refl, ap, ◌∙◌, sym, subst, arith}
-use Rattle.std.proofs.lemmas.Bool.{cases_Bool, cases_lt}
+use Rattle.std.proofs.Common.{None, List, is_some, length, sum_by, nat_eq, refl, ap, ◌∙◌, sym, subst, arith}
+use Rattle.std.proofs.lemmas.Bool.{cases_lt}
 use Rattle.std.proofs.lemmas.List.Elements.{All-contains_itself, All-weaker}
-use Rattle.std.proofs.lemmas.List.Sums.{sum_by-cons}
 use Rattle.std.specs.List.{Contains, IsDistinct, filter}
 use Rattle.ifmap_ident.specs.declared.identifiers.Identifier.{Identifier}
 use Rattle.ifmap_lemmas.specs.Choices.{same_option}
 use Rattle.ifmap_lemmas.specs.Filters.{distinct_filter}
 use Rattle.ifmap_lemmas.specs.Having.{filter_has, has_from}
+use Rattle.ifmap_lemmas.specs.Sums.{sum_passed}
 use Rattle.ifmap_plans.specs.declared.plans.ItemChange.{ItemChange}
 use Rattle.ifmap_region.specs.declared.flips.Flip.{Flip}
 use Rattle.ifmap_region.specs.Bounds.{IsWithin, within_heavier, within_wider}
@@ -94,27 +94,6 @@ module _ (L M : ℕ → ℕ → Type 0) (T U : ℕ → Bool) (start top : ℕ) (
 
   depths_near : (mark : ℕ → Option ℕ) → AreDepths L T start top mark → AreDepths M U start top mark
   depths_near mark d v k = (λ e. (depth_near v k).0 ((d v k).0 e), λ h. (d v k).1 ((depth_near v k).1 h))
-
--- the sum of what a list weighs at the members that a test passes
-sum_passed : (p : ℕ → Bool) (f g : ℕ → ℕ) → ((v : ℕ) → f v ≤ g v) → (ns : List ℕ)
-    → sum_by (λ v. cond (p v) (f v) 0) ns ≤ sum_by g (filter p ns)
-sum_passed p f g le [] = omega arith
-sum_passed p f g le (n ∷ ns) = elim (cases_Bool (p n)) [
-  | inl t ↦ let e : cond (p n) (f n) 0 ≡ f n = ap (λ b. cond b (f n) 0) t
-      in let q : filter p (n ∷ ns) ≡ n ∷ filter p ns = ap (λ b. cond b (n ∷ filter p ns) (filter p ns)) t
-      in omega (
-        arith,
-        le n,
-        e,
-        ap (sum_by g) q,
-        sum_passed p f g le ns,
-        sum_by-cons (λ v. cond (p v) (f v) 0) n ns,
-        sum_by-cons g n (filter p ns),
-      )
-  | inr t ↦ let e : cond (p n) (f n) 0 ≡ 0 = ap (λ b. cond b (f n) 0) t
-      in let q : filter p (n ∷ ns) ≡ filter p ns = ap (λ b. cond b (n ∷ filter p ns) (filter p ns)) t
-      in omega (arith, e, ap (sum_by g) q, sum_passed p f g le ns, sum_by-cons (λ v. cond (p v) (f v) 0) n ns)
-]
 
 pub turned_within : (p : ℕ → Bool) (f g : ℕ → ℕ) (Among : ℕ → Type 0) (ns : List ℕ) (before after : ℕ) → ((v : ℕ) → f v ≤ g v)
     → IsDistinct nat_eq ns → ((v : ℕ) → p v ≡ true → Among v) → after ≤ before + sum_by (λ v. cond (p v) (f v) 0) ns
