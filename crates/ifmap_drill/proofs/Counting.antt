@@ -1,7 +1,8 @@
 -- What one event more counts as, and what a drill then keeps.
 use Rattle.std.proofs.Common.{◌≡◌, ℕ, ◌+◌, List, [], ◌∷◌, ◌++◌, sym, ap, ◌∙◌, arith}
 use Rattle.std.proofs.lemmas.List.Sums.{sum_by_push}
-use Rattle.std.specs.Prelude.{OnOk, Result, Ok, Err}
+use Rattle.std.proofs.lemmas.Result.{on_ok_weaker}
+use Rattle.std.specs.Prelude.{OnOk, Result}
 use Rattle.rand_pcg.specs.Lcg.{Lcg}
 use Rattle.ifmap_core.specs.ifmap_machine.declared.events.Answer.{Answer}
 use Rattle.ifmap_core.specs.ifmap_machine.Events.{Event}
@@ -36,11 +37,6 @@ counts_more history event answer = λ i. record {
   links = 0;
 }
 
--- what follows from what holds where a call succeeds, holds there
-pub on_ok : {T E P Q : Type 0} (result : Result T E) → OnOk result P → (P → Q) → OnOk result Q
-on_ok (Ok x) holds follows = follows holds
-on_ok (Err e) holds follows = tt
-
 -- the drill keeps what it is to keep after one event more
 pub answer_kept : (i : ℕ) (event : Event) (old : Drill) (core : State) (answer : Answer) (counts : Counts) (ids : List (List ℕ))
     → (core, answer) ≡ step old.core event → counts ≡ counts_sum old.counts (counts_of_event event.ask answer)
@@ -64,8 +60,9 @@ pub event_taken : {T E : Type 0} (i : ℕ) (old : Drill) (event : Event) (draws 
     → event ≡ event_at i (request_at i old.ids old.draws).0 → draws ≡ (request_at i old.ids old.draws).1
     → OnOk result ((d : Drilling) → record old { draws = draws } ≡ drill_of d → new ≡ drill_of (after_answer i event draws d))
     → OnOk result ((d : Drilling) → old ≡ drill_of d → new ≡ drill_of (after_event i d))
-event_taken i old event draws result new made drawn holds = on_ok result holds (λ follows d is.
+event_taken i old event draws result new made drawn holds = on_ok_weaker result (λ follows d is.
     let taken = follows (record d { draws = draws }) (ap (λ (o : Drill). record o { draws = draws }) is) in
     let event_is : event ≡ event_at i (asked_at i d).0 = made ∙ ap (λ (o : Drill). event_at i (request_at i o.ids o.draws).0) is in
     let draws_are : draws ≡ (asked_at i d).1 = drawn ∙ ap (λ (o : Drill). (request_at i o.ids o.draws).1) is in
     taken ∙ (λ j. drill_of (after_answer i (event_is j) (draws_are j) d)))
+    holds

@@ -22,7 +22,7 @@ use Rattle.ifmap_drill.specs.declared.tasks.Task.TheVariants.{Begin, Subscribe, 
 use Rattle.ifmap_drill.specs.Parts.{address, draw_ends, link_metadata, link_of}
 use Rattle.ifmap_drill.specs.Requests.{request_by, drill_search}
 use Rattle.ifmap_drill.proofs.Marks.{mark_levels_within}
-use Rattle.ifmap_drill.proofs.Plain.{is_plain, plain_characters}
+use Rattle.ifmap_elem.specs.laws.CharacterLaws.{plain_characters}
 
 abbrev pub AddressesAreIdentifiers : Type 0
 AddressesAreIdentifiers = (value : List ℕ) → AreBelow 256 6 value → IsIdentifier (MacAddress value [])
@@ -55,7 +55,6 @@ module _ (macs : AddressesAreIdentifiers) where
       record { start = address_is (client * 100) (omega arith); match_links = tt; result_filter = tt }
 
   name_fit : IsCharacters (codes "s")
-  unfolding is_plain
   name_fit = plain_characters (codes "s") (refl, tt)
 
   module _ (metadata : IsMetadata link_metadata) where

@@ -3,6 +3,5 @@ mod Counting
 mod FitRequests
 mod Making
 mod Marks
-mod Plain
 mod SoundDrills
 mod Writing

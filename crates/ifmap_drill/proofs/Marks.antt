@@ -23,7 +23,7 @@ use Rattle.ifmap_meta.specs.Keys.{content_bytes}
 use Rattle.ifmap_meta.specs.Whole.{IsMadeOf, IsMetadata, level_limit}
 use Rattle.ifmap_meta.specs.declared.metadata.Metadata.{Metadata}
 use Rattle.ifmap_drill.specs.Parts.{link_element, link_metadata}
-use Rattle.ifmap_drill.proofs.Plain.{is_plain, plain_characters}
+use Rattle.ifmap_elem.specs.laws.CharacterLaws.{is_plain, plain_characters}
 
 -- ---- it fits
 
@@ -48,7 +48,6 @@ another_name : (one other : Name) → bytes_eq one.local one.local ≡ true → 
 another_name one other here there e = not_from_Decides _ (bytes_eq-Decides one.local other.local) there (ap (λ (n : Name). n.local) e)
 
 cardinality_fits : IsFitAttribute (bare_attribute (codes "ifmap-cardinality") (codes "singleValue"))
-unfolding is_plain
 cardinality_fits = record {
   name = record { space = plain_space [] refl refl refl; local = plain_part 105 (codes "fmap-cardinality") refl refl refl };
   no_declaration = another_name (bare_name (codes "ifmap-cardinality")) (bare_name (codes "xmlns")) refl refl;
@@ -56,7 +55,6 @@ cardinality_fits = record {
 }
 
 mark_fits : IsFit link_element
-unfolding is_plain
 mark_fits = fit_whole link_element (record {
   name = record { space = plain_space (codes "urn:mapd:drill") refl refl refl; local = plain_part 108 (codes "ink") refl refl refl };
   attributes = (cardinality_fits, tt);
