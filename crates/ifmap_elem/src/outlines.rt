@@ -22,7 +22,7 @@ pub enum Label<'a> {
 
 impl<'a> Label<'a> {
     /// The local part.
-    pub fn local(self) -> &'a str
+    pub fn local_part(self) -> &'a str
         ensures { result.now ≡ (label_name self.entry).local }
     {
         match self {

@@ -40,7 +40,7 @@ pub(crate) fn write_pieces<'a, 'b>(
         write_piece(alloc, prefixes, piece, out)?;
     }
     out.extend_from_slice(b"</")?;
-    write_name(prefix, label.local(), out)?;
+    write_name(prefix, label.local_part(), out)?;
     out.extend_from_slice(b">")?;
     Ok(())
 }

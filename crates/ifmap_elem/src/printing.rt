@@ -82,7 +82,7 @@ fn print_root<'a, 'b>(
     write_inside(alloc, &mut prefixes, &prefix, label, content, &mut inside)?;
     let mut head = Vec::new(alloc);
     head.extend_from_slice(b"<")?;
-    write_name(&prefix, label.local(), &mut head)?;
+    write_name(&prefix, label.local_part(), &mut head)?;
     write_declarations("n", prefixes.spaces(), &mut head)?;
     let given = references(alloc, spaces)?;
     write_declarations("f", &given, &mut head)?;
@@ -186,7 +186,7 @@ fn write_content<'a>(
         write_child(alloc, prefixes, child, out)?;
     }
     out.extend_from_slice(b"</")?;
-    write_name(prefix, label.local(), out)?;
+    write_name(prefix, label.local_part(), out)?;
     out.extend_from_slice(b">")?;
     Ok(())
 }
@@ -278,7 +278,7 @@ pub(crate) fn write_label<'a>(
         prefix ≡ lookup (bytes_eq (label_name label.entry).space) (name_prefixes final)) }
 {
     let prefix = prefixes.number_label(label)?;
-    write_name(&prefix, label.local(), out)?;
+    write_name(&prefix, label.local_part(), out)?;
     Ok(prefix)
 }
 

@@ -31,7 +31,7 @@ write_pieces-returns t c = λ named.
     (omega (arith, c.loop-piece-test.false, ap length c.as_slice-piece-items.ensures))
     c.loop-piece.invariant)
     c.in_ok-extend_from_slice-3.ensures.items named (c.in_ok-write_name.ensures
-    ∙ ap (λ l. c.extend_from_slice-3.new.self.items ++ after_prefix c.args.prefix.now l) c.local.ensures)
+    ∙ ap (λ l. c.extend_from_slice-3.new.self.items ++ after_prefix c.args.prefix.now l) c.local_part.ensures)
     c.in_ok-extend_from_slice-4.ensures.items
 
 pub write_pieces-returns-then-is_empty : goal.write_pieces-returns-then-is_empty

@@ -34,7 +34,7 @@ write_content-returns t c = λ named.
     (arith, c.loop-child-test.false, ap length c.as_slice-child-items.ensures)))
     c.loop-child.invariant)
     c.in_ok-extend_from_slice-3.ensures.items named (c.in_ok-write_name.ensures
-    ∙ ap (λ l. c.extend_from_slice-3.new.self.items ++ after_prefix c.args.prefix.now l) c.local.ensures)
+    ∙ ap (λ l. c.extend_from_slice-3.new.self.items ++ after_prefix c.args.prefix.now l) c.local_part.ensures)
     c.in_ok-extend_from_slice-4.ensures.items
 
 pub write_element-returns : goal.write_element-returns

@@ -37,7 +37,7 @@ returns c =
     c.in_ok-prefixes.ensures c.in_ok-prefix.ensures.added c.new-inside.ensures.items c.in_ok-write_root_attributes.ensures content
     c.spaces.ensures.none_bare (named c.write_inside.new.prefixes whole) c.spaces.ensures.all refl c.new-head.ensures.items
     c.in_ok-extend_from_slice.ensures.items
-    (c.in_ok-write_name.ensures ∙ ap (λ l. c.extend_from_slice.new.self.items ++ after_prefix c.in_ok-prefix.prefix l) c.local.ensures)
+    (c.in_ok-write_name.ensures ∙ ap (λ l. c.extend_from_slice.new.self.items ++ after_prefix c.in_ok-prefix.prefix l) c.local_part.ensures)
     c.in_ok-write_declarations.ensures (c.in_ok-write_declarations-2.ensures
     ∙ ap (λ l. c.write_declarations.new.out.items ++ flat_map declaration_bytes (numbered_prefixes (codes "f") 1 l))
     (ap bytes_of c.deref.ensures.value ∙ c.in_ok-given.ensures))
