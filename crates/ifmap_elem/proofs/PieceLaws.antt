@@ -30,7 +30,7 @@ use Rattle.ifmap_lemmas.specs.Runs.{flat_map-next}
 use Rattle.ifmap_lemmas.specs.Joined.{joined_twice}
 use Rattle.ifmap_elem.proofs.PrintedLaws.{content_written, element_is, root_printed, referred_attributes}
 use Rattle.ifmap_elem.proofs.SpaceLaws.{spaces_arranged, adds_element, referred_spaces}
-use Rattle.ifmap_elem.specs.laws.PrintedElements.{attribute_space}
+use Rattle.ifmap_elem.specs.laws.PrintedElements.{space_of_attribute}
 use Rattle.std.proofs.lemmas.List.Concat.{flat_map_single}
 
 abbrev Spaces : Type 0
@@ -164,11 +164,11 @@ pub pieces_referred : (rs ss : List (Bor Attribute)) (attributes : List Attribut
     → rs ≡ ss → map (λ (r : Bor Attribute). r.now) ss ≡ attributes
     → Adds a (flat_map (λ (r : Bor Attribute). r.now.name.space ∷ []) (take i rs)) b
     (λ rows. flat_map (λ (r : Bor Attribute). attribute_bytes rows r.now) (take i rs)) s t
-    → Adds a (map attribute_space attributes) b (λ rows. flat_map (attribute_bytes rows) attributes) s t
+    → Adds a (map space_of_attribute attributes) b (λ rows. flat_map (attribute_bytes rows) attributes) s t
 pieces_referred rs ss attributes i a b s t l e f h =
-    adds_as a b (map (λ (r : Bor Attribute). r.now.name.space) ss) (map attribute_space attributes)
+    adds_as a b (map (λ (r : Bor Attribute). r.now.name.space) ss) (map space_of_attribute attributes)
     (λ rows. flat_map (λ (r : Bor Attribute). attribute_bytes rows r.now) ss) (λ rows. flat_map (attribute_bytes rows) attributes) s t
-    (referred_spaces ss ∙ ap (map attribute_space) f) (λ rows. referred_attributes rows ss ∙ ap (flat_map (attribute_bytes rows)) f)
+    (referred_spaces ss ∙ ap (map space_of_attribute) f) (λ rows. referred_attributes rows ss ∙ ap (flat_map (attribute_bytes rows)) f)
     (pieces_all (λ (r : Bor Attribute). r.now.name.space) (λ rows (r : Bor Attribute). attribute_bytes rows r.now) rs ss i a b s t l e h)
 
 pub piece_name : (a b : Spaces) (name : Name) (prefix : Option (List ℕ)) (s t : List ℕ) → AddsSpaces a (name.space ∷ []) b → IsFront a b
@@ -219,13 +219,13 @@ piece_no_content f g children name a s t none is =
 
 pub piece_element : (e : Element) (a b c d : Spaces) (s t u v w : List ℕ) → t ≡ s ++ codes "<"
     → Adds a (e.name.space ∷ []) b (λ rows. printed_name rows e.name) t u
-    → Adds b (map attribute_space (sort_attributes e.attributes)) c (λ rows. flat_map (attribute_bytes rows) (sort_attributes
+    → Adds b (map space_of_attribute (sort_attributes e.attributes)) c (λ rows. flat_map (attribute_bytes rows) (sort_attributes
     e.attributes)) u v
     → Adds c (flat_map (λ x. spaces_of_child (arrange_child x)) e.children) d
     (λ rows. after_attributes_bytes (printed_name rows e.name) (map (λ x. child_bytes rows (arrange_child x)) e.children)) v w
     → Adds a (spaces_of (arrange e)) d (λ rows. element_bytes rows (arrange e)) s w
 piece_element e a b c d s t u v w is name attributes content =
-    adds_as a d (e.name.space ∷ (map attribute_space (sort_attributes e.attributes) ++ flat_map
+    adds_as a d (e.name.space ∷ (map space_of_attribute (sort_attributes e.attributes) ++ flat_map
     (λ x. spaces_of_child (arrange_child x)) e.children)) (spaces_of (arrange e))
     (λ rows. codes "<" ++ (printed_name rows e.name ++ (flat_map (attribute_bytes rows)
     (sort_attributes e.attributes) ++ after_attributes_bytes (printed_name rows e.name)
@@ -257,7 +257,7 @@ piece_text text child a s t is e =
 -- the root, whose attributes and content are printed first and stand after its declarations
 pub piece_root : (element : Element) (given first a b all listed : Spaces) (prefix : Option (List ℕ)) (i j k inside s t u v w x : List ℕ)
     → first ≡ [] → AddsSpaces first (element.name.space ∷ []) a → i ≡ []
-    → Adds a (map attribute_space (sort_attributes element.attributes)) b
+    → Adds a (map space_of_attribute (sort_attributes element.attributes)) b
     (λ rows. flat_map (attribute_bytes rows) (sort_attributes element.attributes)) i j
     → Adds b (flat_map (λ c. spaces_of_child (arrange_child c)) element.children) all
     (λ rows. after_attributes_bytes (printed_name rows element.name)

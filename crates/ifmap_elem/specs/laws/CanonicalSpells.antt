@@ -26,8 +26,8 @@ use Rattle.ifmap_lemmas.specs.Members.{all_both, both_all}
 use Rattle.ifmap_elem.specs.laws.OneReading.{one_reading}
 use Rattle.ifmap_elem.specs.laws.NamespaceLaws.{Rows, Texts}
 use Rattle.ifmap_elem.specs.laws.PrintedTags.{row_binding, Resolves, FitRow}
-use Rattle.ifmap_elem.specs.laws.PrintedScopes.{n_letter, f_letter, numbered_prefix_rows, numbered_scope, root_outermost, rows_outermost, all_resolved, are_declared, rows_fit, rows_are_bindings, prefixes_differ, both_differ}
-use Rattle.ifmap_elem.specs.laws.PrintedElements.{ElementTaken, tagged_taken, children_taken, fits_in, spaces_is, one_is_root, attribute_space}
+use Rattle.ifmap_elem.specs.laws.PrintedScopes.{n_letter, f_letter, numbered_prefix_rows, with_numbered_prefixes, root_outermost, rows_outermost, all_resolved, are_declared, rows_fit, rows_are_bindings, prefixes_differ, both_differ}
+use Rattle.ifmap_elem.specs.laws.PrintedElements.{ElementTaken, tagged_taken, children_taken, fits_in, spaces_is, one_is_root, space_of_attribute}
 
 -- all namespaces of an element that fits can be declared
 
@@ -35,7 +35,7 @@ abbrev HasNamespaces : Child → Type 0
 HasNamespaces c = AllByRecursion IsFitAlone (elements_of_child c) → AllByRecursion IsNamespace (spaces_of_child c)
 
 attribute_spaces : (attributes : List Attribute) → AllByRecursion IsFitAttribute attributes
-    → AllByRecursion IsNamespace (map attribute_space attributes)
+    → AllByRecursion IsNamespace (map space_of_attribute attributes)
 attribute_spaces [] f = tt
 attribute_spaces (a ∷ attributes) f = (f.0.name.space, attribute_spaces attributes f.1)
 
@@ -60,9 +60,9 @@ fit_spaces = by_children HasNamespaces (λ e. IsFit e → AllByRecursion IsNames
     in_children : (e : Element) → Each HasNamespaces e.children → IsFit e → AllByRecursion IsNamespace (spaces_of e)
     in_children e each f =
         let parts = fit_parts e f in
-        let h : AllByRecursion IsNamespace (e.name.space ∷ (map attribute_space e.attributes ++ flat_map spaces_of_child e.children)) = (
+        let h : AllByRecursion IsNamespace (e.name.space ∷ (map space_of_attribute e.attributes ++ flat_map spaces_of_child e.children)) = (
           parts.0.name.space,
-          both_all IsNamespace (map attribute_space e.attributes) (flat_map spaces_of_child e.children)
+          both_all IsNamespace (map space_of_attribute e.attributes) (flat_map spaces_of_child e.children)
               (attribute_spaces e.attributes parts.0.attributes) (children_spaces e.children each parts.1),
         ) in
         subst (AllByRecursion IsNamespace) (sym (spaces_is e)) h
@@ -90,15 +90,15 @@ root_taken e given fit can =
     let scope : Scope = map row_binding (its_rows e given) ++ root_scope in
     let parts = fit_parts e fit in
     let spaces : AllByRecursion IsDeclarable (namespaces e) = are_declared (spaces_of e) (fit_spaces e fit) in
-    let more : Scope = numbered_scope (byte "f") 1 given root_scope in
+    let more : Scope = with_numbered_prefixes (byte "f") 1 given root_scope in
     let all : AllByRecursion (Resolves prefixes scope) (spaces_of e) =
     subst (λ (s : Scope). AllByRecursion (Resolves prefixes s) (spaces_of e))
     (sym (rows_seam (numbered_prefix_rows (byte "n") 1 (namespaces e)) (numbered_prefix_rows (byte "f") 1 given) root_scope))
     (all_resolved (spaces_of e) more (rows_outermost (byte "f") 1 given root_scope f_letter root_outermost)) in
     let r : AllByRecursion (Resolves prefixes scope) (e.name.space ∷
-    (map attribute_space e.attributes ++ flat_map spaces_of_child e.children)) = subst (AllByRecursion (Resolves prefixes scope))
+    (map space_of_attribute e.attributes ++ flat_map spaces_of_child e.children)) = subst (AllByRecursion (Resolves prefixes scope))
     (spaces_is e) all in
-    let s = all_both (Resolves prefixes scope) (map attribute_space e.attributes) (flat_map spaces_of_child e.children) r.1 in
+    let s = all_both (Resolves prefixes scope) (map space_of_attribute e.attributes) (flat_map spaces_of_child e.children) r.1 in
     tagged_taken prefixes (its_rows e given) root_scope e parts.0
     (both_all FitRow (numbered_prefix_rows (byte "n") 1 (namespaces e)) (numbered_prefix_rows (byte "f") 1 given)
     (rows_fit (byte "n") n_letter 1 (namespaces e) spaces) (rows_fit (byte "f") f_letter 1 given can))

@@ -343,13 +343,14 @@ module _ (prefixes declared : Rows) (outer : Scope) (e : Element) (fit : IsFitAl
 
 -- all in an element
 
-abbrev pub attribute_space : Attribute → List ℕ
-attribute_space a = a.name.space
+abbrev pub space_of_attribute : Attribute → List ℕ
+space_of_attribute a = a.name.space
 
-pub spaces_is : (e : Element) → spaces_of e ≡ e.name.space ∷ (map attribute_space e.attributes ++ flat_map spaces_of_child e.children)
+pub spaces_is : (e : Element) → spaces_of e ≡ e.name.space ∷ (map space_of_attribute e.attributes ++ flat_map spaces_of_child e.children)
 spaces_is e =
     at_element (List (List ℕ)) (List (List ℕ)) child_spaces element_spaces e
-    ∙ ap (λ l. e.name.space ∷ (map attribute_space e.attributes ++ l)) (flat_map-map (λ (s : List (List ℕ)). s) spaces_of_child e.children)
+    ∙ ap (λ l. e.name.space ∷ (map space_of_attribute e.attributes ++ l))
+    (flat_map-map (λ (s : List (List ℕ)). s) spaces_of_child e.children)
 
 module _ (prefixes : Rows) (scope : Scope) where
   abbrev TakesChild : Child → Type 0
@@ -409,7 +410,7 @@ module _ (prefixes : Rows) (scope : Scope) where
       (each.0 f.0 some.0 r.0, give_each cs each.1 f.1 some.1 r.1)
 
   pub fits_in : (attributes : List Attribute) → AllByRecursion IsFitAttribute attributes
-      → AllByRecursion (Resolves prefixes scope) (map attribute_space attributes) → AllByRecursion (FitsIn prefixes scope) attributes
+      → AllByRecursion (Resolves prefixes scope) (map space_of_attribute attributes) → AllByRecursion (FitsIn prefixes scope) attributes
   fits_in [] f r = tt
   fits_in (a ∷ attributes) f r = (record { fit = f.0; resolved = r.0 }, fits_in attributes f.1 r.1)
 
@@ -417,9 +418,9 @@ module _ (prefixes : Rows) (scope : Scope) where
   in_children e each fit resolved =
       let parts = fit_parts e fit in
       let r : AllByRecursion (Resolves prefixes scope) (e.name.space ∷
-      (map attribute_space e.attributes ++ flat_map spaces_of_child e.children)) = subst (AllByRecursion (Resolves prefixes scope))
+      (map space_of_attribute e.attributes ++ flat_map spaces_of_child e.children)) = subst (AllByRecursion (Resolves prefixes scope))
       (spaces_is e) resolved in
-      let s = all_both (Resolves prefixes scope) (map attribute_space e.attributes) (flat_map spaces_of_child e.children) r.1 in
+      let s = all_both (Resolves prefixes scope) (map space_of_attribute e.attributes) (flat_map spaces_of_child e.children) r.1 in
       subst (λ (b : List ℕ). ElementTaken scope b e []) (sym (at_element (List ℕ) (List ℕ) (child_piece prefixes)
       (element_piece prefixes) e))
       (tagged_taken prefixes [] scope e parts.0 tt tt tt r.0 (fits_in e.attributes parts.0.attributes s.0)

@@ -82,15 +82,15 @@ label_some letter n e = cc
 abbrev pub numbered_prefix_rows : ℕ → ℕ → Texts → Rows
 numbered_prefix_rows letter n xs = numbered_prefixes (letter ∷ []) n xs
 
-abbrev pub numbered_scope : ℕ → ℕ → Texts → Scope → Scope
-numbered_scope letter n xs more = map row_binding (numbered_prefix_rows letter n xs) ++ more
+abbrev pub with_numbered_prefixes : ℕ → ℕ → Texts → Scope → Scope
+with_numbered_prefixes letter n xs more = map row_binding (numbered_prefix_rows letter n xs) ++ more
 
 -- a namespace, and the number of its prefix
 pub record HasNumber (letter n : ℕ) (xs : Texts) (more : Scope) (s p : List ℕ) : Type 0 where
   pub number : ℕ
   pub from : n ≤ number
   pub prefix_is : p ≡ label letter number
-  pub binds : prefix_space (numbered_scope letter n xs more) p ≡ Some s
+  pub binds : prefix_space (with_numbered_prefixes letter n xs more) p ≡ Some s
 
 module _ (letter : ℕ) (is : IsLetter letter) where
   label_part : (n : ℕ) → IsNamePart (label letter n)
@@ -122,7 +122,7 @@ module _ (letter : ℕ) (is : IsLetter letter) where
   ]
 
 pub past_rows : (letter n : ℕ) (xs : Texts) (more : Scope) (p : List ℕ) → ((k : ℕ) → label letter k ≢ p)
-    → prefix_space (numbered_scope letter n xs more) p ≡ prefix_space more p
+    → prefix_space (with_numbered_prefixes letter n xs more) p ≡ prefix_space more p
 past_rows letter n [] more p other = refl
 past_rows letter n (x ∷ xs) more p other = rw (other_bytes_differ (label letter n) p (other n)) (past_rows letter (n + 1) xs more p other)
 
@@ -194,7 +194,7 @@ pub root_outermost : IsOutermost root_scope
 root_outermost = record { default = refl; xml = refl }
 
 pub rows_outermost : (letter n : ℕ) (xs : Texts) (more : Scope) → IsLetter letter → IsOutermost more
-    → IsOutermost (numbered_scope letter n xs more)
+    → IsOutermost (with_numbered_prefixes letter n xs more)
 rows_outermost letter n xs more is outer = record {
   default = past_rows letter n xs more [] (label_some letter) ∙ outer.default;
   xml = past_rows letter n xs more (codes "xml") (λ k. label_no_x letter is k (codes "ml")) ∙ outer.xml;
@@ -205,7 +205,7 @@ module _ (all : Texts) (more : Scope) (outer : IsOutermost more) where
   its_prefixes = name_prefixes (declared_among all)
 
   abbrev its_scope : Scope
-  its_scope = numbered_scope (byte "n") 1 (declared_among all) more
+  its_scope = with_numbered_prefixes (byte "n") 1 (declared_among all) more
 
   outermost : IsOutermost its_scope
   outermost = rows_outermost (byte "n") 1 (declared_among all) more n_letter outer
