@@ -157,19 +157,19 @@ one_root (piece.Start tag inside after) r s l m =
     let inner = one_meaning (scope_within root_scope tag) inside l.0 m.0 l.1 m.1 in
     same_reading tag m.0 r s (subst (λ (items : List ContentItem). IsElement root_scope tag items r.root r.declared) inner l.2) m.2
 
--- no pieces begins with a declaration
-no_declaration : (c : Pieces) (ts : List Token) → Declaration ∷ ts ≡ tokens_of c → ⊥
-no_declaration Nothing ts e = cc
-no_declaration (piece.Comment after) ts e = cc
-no_declaration (piece.Characters blank text after) ts e = cc
-no_declaration (piece.Section text after) ts e = cc
-no_declaration (piece.Empty tag after) ts e = cc
-no_declaration (piece.Start tag inside after) ts e = cc
+-- no pieces begin with a declaration
+pub no_declaration_begins : (c : Pieces) (ts : List Token) → Declaration ∷ ts ≡ tokens_of c → ⊥
+no_declaration_begins Nothing ts e = cc
+no_declaration_begins (piece.Comment after) ts e = cc
+no_declaration_begins (piece.Characters blank text after) ts e = cc
+no_declaration_begins (piece.Section text after) ts e = cc
+no_declaration_begins (piece.Empty tag after) ts e = cc
+no_declaration_begins (piece.Start tag inside after) ts e = cc
 
 pub one_heading : (a b : Bool) (c d : Pieces) → heading a ++ tokens_of c ≡ heading b ++ tokens_of d → tokens_of c ≡ tokens_of d
 one_heading true true c d e = cc
-one_heading true false c d e = absurd (no_declaration d (tokens_of c) e)
-one_heading false true c d e = absurd (no_declaration c (tokens_of d) (sym e))
+one_heading true false c d e = absurd (no_declaration_begins d (tokens_of c) e)
+one_heading false true c d e = absurd (no_declaration_begins c (tokens_of d) (sym e))
 one_heading false false c d e = e
 
 pub one_document : (ts : List Token) (r s : Reading) → IsDocument ts r → IsDocument ts s → r ≡ s
