@@ -1,7 +1,7 @@
 //! Lists.
-ghost use Rattle.std.specs.Prelude.{◌≡◌, ◌↔◌, ◌++◌, ◌∷◌, ◌<◌, ◌^◌, ◌-◌, [], length, slice_get, IfOk, IsTrue, OnErr, OnOk};
+ghost use Rattle.std.specs.Prelude.{◌≡◌, ◌↔◌, ◌++◌, ◌∷◌, ◌<◌, ◌^◌, ◌-◌, [], length, slice_get, IfOk, IsSome, IsTrue, OnErr, OnOk};
 ghost use Rattle.std.specs.Iterator.Adapters.{IterYieldsInOrder};
-ghost use Rattle.std.specs.Option.{option_copied};
+ghost use Rattle.std.specs.Option.{option_copied, option_to_list};
 ghost use Rattle.std.specs.Slice.Iter.{iter_rest};
 ghost use Rattle.std.specs.Cmp.Lexicographic.{lists_agrees, lists_po, lists_ties, lists_total, pointwise, slice_cmp, slice_partial_cmp};
 ghost use Rattle.std.specs.Cmp.Rules.{comparing};
@@ -91,6 +91,23 @@ impl<T> Many<T> {
     {
         self.0.push(member)?;
         Ok(())
+    }
+
+    /// Takes out the last member, if there is one.
+    pub fn pop(&mut self) -> Option<T>
+        ensures taken { self.old ≡ self.new ++ option_to_list result }
+        ensures some { IsSome result ↔ (0 < length self.old) }
+    {
+        self.0.pop()
+    }
+
+    /// Takes out all members.
+    pub fn clear(&mut self)
+    where
+        T: Drop,
+        ensures { self.new ≡ [] }
+    {
+        self.0.clear();
     }
 }
 
