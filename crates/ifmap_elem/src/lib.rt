@@ -9,6 +9,7 @@ pub mod copying;
 pub mod elements;
 pub mod equality;
 mod escaping;
+pub mod fronts;
 mod keys;
 pub mod laws;
 pub mod lists;
