@@ -6,7 +6,8 @@ ghost use Rattle.ifmap_lexer.specs.Settings.{IsEncoding, IsXmlVersion, IsYesOrNo
 ghost use Rattle.ifmap_elem.specs.Tokens.{TakesSetting};
 
 use crate::quoting::quoted_value;
-use crate::splitting::{after_word, split_white};
+use crate::splitting::split_white;
+use ifmap_elem::fronts::after_word;
 
 // What is after the declaration at the front.
 pub(crate) fn after_declaration(bytes: &[u8]) -> Option<&[u8]>

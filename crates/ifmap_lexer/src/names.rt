@@ -11,8 +11,9 @@ ghost use Rattle.ifmap_lexer.specs.Names.{stands_in_ascii, starts_in_ascii};
 ghost use Rattle.ifmap_lexer.specs.Refusing.{Refuses};
 
 use crate::errors::LexError;
-use crate::splitting::{after_word, split_round_byte};
+use crate::splitting::split_round_byte;
 use ifmap_elem::Text;
+use ifmap_elem::fronts::after_word;
 use ifmap_elem::tokens::Qualified;
 use std::alloc::Global;
 

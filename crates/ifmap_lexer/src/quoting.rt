@@ -3,7 +3,8 @@ ghost use Rattle.std.specs.Prelude.{◌≡◌, ℕ, List, ◌∷◌, ◌==◌, �
 ghost use Rattle.ifmap_elem.specs.Tokens.{TakesQuoted};
 ghost use Rattle.ifmap_lexer.specs.There.{BeginsNoQuoted, BeginsQuoted, NoQuoted, is_quote};
 
-use crate::splitting::{after_word, split_round_byte, split_white};
+use crate::splitting::{split_round_byte, split_white};
+use ifmap_elem::fronts::after_word;
 
 // The value after an equals sign, as it is written between its quotes, and what is left.
 pub(crate) fn quoted_value(bytes: &[u8]) -> Option<(&[u8], &[u8])>

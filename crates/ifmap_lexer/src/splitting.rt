@@ -1,5 +1,5 @@
 //! How far runs go: white space, a byte, a word.
-ghost use Rattle.std.specs.Prelude.{◌≡◌, ◌<◌, ◌≤◌, ◌+◌, ◌++◌, ℕ, List, IfNone, IfSome, codes, length, take, drop};
+ghost use Rattle.std.specs.Prelude.{◌≡◌, ◌<◌, ◌≤◌, ◌+◌, IfNone, IfSome, codes, length, take, drop};
 ghost use Rattle.std.specs.Bool.{OnFalse, OnTrue};
 ghost use Rattle.std.specs.List.{prefix_len};
 ghost use Rattle.ifmap_elem.specs.Chars.{AllAre, is_white};
@@ -39,14 +39,6 @@ pub(crate) fn split_char(character: char, text: &str) -> Option<(&str, &str)>
     ensures none { IfNone result (AllAre (is_but character) text.now) }
 {
     text.split_once(character)
-}
-
-// What is after the word, where the bytes begin with it.
-pub(crate) fn after_word<'a>(word: &[u8], bytes: &'a [u8]) -> Option<&'a [u8]>
-    ensures found { IfSome result (λ rest. bytes.now ≡ word.now ++ rest.now) }
-    ensures none { IfNone result ((rest : List ℕ) → bytes.now ≡ word.now ++ rest → ⊥) }
-{
-    bytes.strip_prefix(word)
 }
 
 // The bytes before the first place of the word, and those after it.
