@@ -31,7 +31,7 @@ fn after_version(bytes: &[u8]) -> Option<&[u8]>
     ensures found { IfSome result (λ rest. SetsVersion bytes.now rest.now) }
     ensures none { IfNone result (NoneLeaves (SetsVersion bytes.now)) }
 {
-    let Some((written, rest)) = setting(b"version", bytes) else {
+    let Some((written, rest)) = value_of_setting(b"version", bytes) else {
         return None;
     };
     if written == b"1.0".as_slice() {
@@ -45,7 +45,7 @@ fn after_version(bytes: &[u8]) -> Option<&[u8]>
 fn after_encoding(bytes: &[u8]) -> &[u8]
     ensures { TakesWhereSet (codes "encoding") IsEncoding bytes.now result.now }
 {
-    let Some((written, rest)) = setting(b"encoding", bytes) else {
+    let Some((written, rest)) = value_of_setting(b"encoding", bytes) else {
         return bytes;
     };
     if written.eq_ignore_ascii_case(b"utf-8") {
@@ -59,7 +59,7 @@ fn after_encoding(bytes: &[u8]) -> &[u8]
 fn after_standalone(bytes: &[u8]) -> &[u8]
     ensures { TakesWhereSet (codes "standalone") IsYesOrNo bytes.now result.now }
 {
-    let Some((written, rest)) = setting(b"standalone", bytes) else {
+    let Some((written, rest)) = value_of_setting(b"standalone", bytes) else {
         return bytes;
     };
     if is_yes_or_no(written) { rest } else { bytes }
@@ -72,7 +72,7 @@ fn is_yes_or_no(written: &[u8]) -> bool
 }
 
 // The value that the name is given here, as it is written, and what is left.
-fn setting<'a>(name: &[u8], bytes: &'a [u8]) -> Option<(&'a [u8], &'a [u8])>
+fn value_of_setting<'a>(name: &[u8], bytes: &'a [u8]) -> Option<(&'a [u8], &'a [u8])>
     requires { StartsNotWhite name.now }
     ensures found { IfSome result (λ f. SetsTo name.now bytes.now f.0.now f.1.now) }
     ensures none { IfNone result (NotSet name.now bytes.now) }

@@ -3,7 +3,7 @@ use Rattle.ifmap_lemmas.specs.Absent.{if_none_weaker}
 use Rattle.ifmap_lemmas.specs.Joined.{none_by_length, some_by_length}
 use Rattle.std.proofs.lemmas.Option.{IfSome_then}
 use Rattle.ifmap_lexer.proofs.SettingLaws.{not_spaced, not_named, not_given, setting_found}
-use Rattle.ifmap_lexer.proofs.declaration.setting.Goals as goal
+use Rattle.ifmap_lexer.proofs.declaration.value_of_setting.Goals as goal
 
 pub returns-then-is_empty-clause-none : goal.returns-then-is_empty-clause-none
 returns-then-is_empty-clause-none c =
