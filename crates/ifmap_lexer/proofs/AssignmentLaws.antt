@@ -1,6 +1,6 @@
 -- Assignments that are read are those that stand there.
 -- Plan: (1) an assignment is a name, an equals sign and a value between quotes, and what is read of it is what stands there;
--- (2) assignments in a row: what goes on from what is left (`GoesOn`), at first, one more, and at the end of the tag;
+-- (2) assignments in a row: what goes on from what is left (`AreReadSoFar`), at first, one more, and at the end of the tag;
 -- (3) where a tag ends, told by its next byte; (4) whole tags.
 use Rattle.std.proofs.Common.{◌≡◌, ◌≢◌, ℕ, ◌<◌, Bool, true, false, List, [], ◌∷◌, ◌++◌, length, refl, ap, sym, ◌∙◌, subst, arith}
 use Rattle.std.proofs.Common.{length-append, inl, inr}
@@ -112,11 +112,11 @@ closes_stops [] h = tt
 closes_stops (b ∷ bs) h = (closes_ends (b ∷ bs) h).0
 
 -- how a read of assignments goes on from what is left
-pub record GoesOn (bytes : List ℕ) (made : List Assignment) (rest : List ℕ) : Type 0 where
+pub record AreReadSoFar (bytes : List ℕ) (made : List Assignment) (rest : List ℕ) : Type 0 where
   pub so_far : To TakesAssignment bytes made rest
   pub ahead : SomeAssignments bytes → SomeAssignments rest
 
-pub goes_on_start : (bytes : List ℕ) (made : List Assignment) → made ≡ [] → GoesOn bytes made bytes
+pub goes_on_start : (bytes : List ℕ) (made : List Assignment) → made ≡ [] → AreReadSoFar bytes made bytes
 goes_on_start bytes made e =
     record { so_far = subst (λ (m : List Assignment). To TakesAssignment bytes m bytes) (sym e) refl; ahead = λ s. s }
 
@@ -145,15 +145,15 @@ module _ (rest : List ℕ) (open_still : IsAtEnd rest → ⊥) where
             },
           )
 
-  pub goes_on_next : (bytes : List ℕ) (made new : List Assignment) (a : Assignment) (after : List ℕ) → GoesOn bytes made rest
-      → TakesAssignment rest a after → new ≡ made ++ a ∷ [] → GoesOn bytes new after
+  pub goes_on_next : (bytes : List ℕ) (made new : List Assignment) (a : Assignment) (after : List ℕ) → AreReadSoFar bytes made rest
+      → TakesAssignment rest a after → new ≡ made ++ a ∷ [] → AreReadSoFar bytes new after
   goes_on_next bytes made new a after g takes e = record {
     so_far = subst (λ (m : List Assignment). To TakesAssignment bytes m after) (sym e)
         (to_last TakesAssignment bytes made rest a after g.so_far takes);
     ahead = λ s. others_after a after takes (g.ahead s);
   }
 
-pub goes_on_end : (bytes : List ℕ) (made : List Assignment) (rest white end : List ℕ) → GoesOn bytes made rest → IsAtEnd rest
+pub goes_on_end : (bytes : List ℕ) (made : List Assignment) (rest white end : List ℕ) → AreReadSoFar bytes made rest → IsAtEnd rest
     → Cuts is_white rest white end → TakesAssignments bytes made end
 goes_on_end bytes made rest white end g at c =
     let both = cut is_white white at.0 end at.1 c.passes at.3 c.stops (closes_stops at.1 at.4) (sym c.bytes_are ∙ at.2) in
