@@ -72,7 +72,7 @@ impl Bindings {
     }
 
     // With one binding more, of a prefix that has none.
-    fn with(self, alloc: Global, prefix: Text, space: Text) -> Result<Bindings, NoMemory>
+    fn add_binding(self, alloc: Global, prefix: Text, space: Text) -> Result<Bindings, NoMemory>
         requires { prefix_space self prefix ≡ None }
         ensures { IfOk result (λ b. b ≡ self ++ record { prefix = prefix; space = space } ∷ []) }
     {
@@ -117,7 +117,7 @@ impl Bindings {
         if self.space_of(&prefix).is_some() {
             return Err(TokenRefusal::NotAllowed);
         }
-        let made = self.with(alloc, prefix, space.copy(alloc)?)?;
+        let made = self.add_binding(alloc, prefix, space.copy(alloc)?)?;
         Ok(made)
     }
 }

@@ -6,7 +6,7 @@ use Rattle.std.specs.Cmp.Lexicographic.{slice_cmp}
 use Rattle.ifmap_elem.specs.declared.readings.Declared.{Declared}
 use Rattle.ifmap_elem.specs.Scopes.{Binding, prefix_space}
 use Rattle.ifmap_reader.proofs.Binding.{rows_more, spaces_more}
-use Rattle.ifmap_reader.proofs.bindings.Bindings.with.Goals as goal
+use Rattle.ifmap_reader.proofs.bindings.Bindings.add_binding.Goals as goal
 
 pub invariant_of-result : goal.invariant_of-result
 invariant_of-result c =
