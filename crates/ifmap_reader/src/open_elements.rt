@@ -77,7 +77,7 @@ impl OpenElement {
             below,
         } = self;
         let mut children = children;
-        let beside = !children.0.is_empty();
+        let beside = !children.as_slice().is_empty();
         add_text(&mut children, beside, text)?;
         let declared = below.with_own(alloc, bindings)?;
         let element = Element {
