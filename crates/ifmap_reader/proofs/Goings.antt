@@ -20,7 +20,7 @@ use Rattle.ifmap_elem.specs.laws.Roots.{BeginsWithRoot, root_begins, begins_root
 use Rattle.ifmap_reader.specs.declared.open_elements.OpenElement.{OpenElement}
 use Rattle.ifmap_reader.specs.OpenElements.{Closes, scope_of, with_inner, with_characters, written_name}
 use Rattle.ifmap_reader.specs.AllowedTags.{OpensElement}
-use Rattle.ifmap_reader.specs.Progress.{AtStart, Within, AfterRoot, EndsDocument, BeginsRoot, Closing, GoesOn, Follows, IsCharacterData, after_element}
+use Rattle.ifmap_reader.specs.Progress.{AtStart, Within, AfterRoot, EndsDocument, BeginsRoot, Closing, IsDocumentFrom, Follows, IsCharacterData, after_element}
 use Rattle.ifmap_reader.proofs.Items.{opened_closes, closes_opened}
 use Rattle.ifmap_reader.proofs.Contents.{ends_comment, ends_words, no_declaration, no_other_end, ends_here, ends_empty, ends_start, start_named, empty_named}
 
@@ -50,12 +50,12 @@ inner_end f [] name e d is c ts r = ends_here _ f ts _ name e d is c
 inner_end f (g ∷ gs) name e d is c ts r = ends_here _ f ts _ name e d is c
 
 pub inner_declaration : (f : OpenElement) (fs : List OpenElement) (ts : List Token) (r : Reading)
-    → GoesOn (Within (f ∷ fs)) (Declaration ∷ ts) r → ⊥
+    → IsDocumentFrom (Within (f ∷ fs)) (Declaration ∷ ts) r → ⊥
 inner_declaration f [] ts r = no_declaration _ f ts _
 inner_declaration f (g ∷ gs) ts r = no_declaration _ f ts _
 
 pub inner_other_end : (f : OpenElement) (fs : List OpenElement) (name : Qualified) → (name ≡ written_name f → ⊥)
-    → (ts : List Token) (r : Reading) → GoesOn (Within (f ∷ fs)) (End name ∷ ts) r → ⊥
+    → (ts : List Token) (r : Reading) → IsDocumentFrom (Within (f ∷ fs)) (End name ∷ ts) r → ⊥
 inner_other_end f [] name other ts r = no_other_end _ f ts _ name other
 inner_other_end f (g ∷ gs) name other ts r = no_other_end _ f ts _ name other
 
@@ -115,7 +115,7 @@ no_root_off (piece.Section text after) t ts r i is h = h
 no_root_off (piece.Empty tag after) t ts r i is h = let e : t ≡ Empty tag = cc in subst IsInner e i
 no_root_off (piece.Start tag inside after) t ts r i is h = let e : t ≡ Start tag = cc in subst IsInner e i
 
-pub no_root : (t : Token) → IsInner t → (ts : List Token) (r : Reading) → GoesOn (Within []) (t ∷ ts) r → ⊥
+pub no_root : (t : Token) → IsInner t → (ts : List Token) (r : Reading) → IsDocumentFrom (Within []) (t ∷ ts) r → ⊥
 no_root t i ts r x = no_root_off x.pieces t ts r i x.tokens_are x.rooted
 
 module _ (tag : Tag) (new : OpenElement) (o : OpensElement root_scope tag new) where
@@ -210,13 +210,13 @@ root_named tag none (piece.Start other inside after) ts r is h =
     none r.root.name r.root.attributes (subst (λ (u : Tag). NamesElement root_scope u r.root.name r.root.attributes) same h.2.named)
 
 pub no_start : (fs : List OpenElement) (tag : Tag) → NoName (scope_of fs) tag → (ts : List Token) (r : Reading)
-    → GoesOn (Within fs) (Start tag ∷ ts) r → ⊥
+    → IsDocumentFrom (Within fs) (Start tag ∷ ts) r → ⊥
 no_start [] tag none ts r x = root_named tag none x.pieces ts r (inl x.tokens_are) x.rooted
 no_start (f ∷ []) tag none ts r x = start_named _ f ts _ tag none x
 no_start (f ∷ (g ∷ gs)) tag none ts r x = start_named _ f ts _ tag none x
 
 pub no_empty : (fs : List OpenElement) (tag : Tag) → NoName (scope_of fs) tag → (ts : List Token) (r : Reading)
-    → GoesOn (Within fs) (Empty tag ∷ ts) r → ⊥
+    → IsDocumentFrom (Within fs) (Empty tag ∷ ts) r → ⊥
 no_empty [] tag none ts r x = root_named tag none x.pieces ts r (inr x.tokens_are) x.rooted
 no_empty (f ∷ []) tag none ts r x = empty_named _ f ts _ tag none x
 no_empty (f ∷ (g ∷ gs)) tag none ts r x = empty_named _ f ts _ tag none x
@@ -255,7 +255,8 @@ after_root_blank root text ts r = (
   },
 )
 
-pub nothing_after_root : (root : Reading) (t : Token) → IsInner t → (ts : List Token) (r : Reading) → GoesOn (AfterRoot root) (t ∷ ts) r → ⊥
+pub nothing_after_root : (root : Reading) (t : Token) → IsInner t → (ts : List Token) (r : Reading)
+    → IsDocumentFrom (AfterRoot root) (t ∷ ts) r → ⊥
 nothing_after_root root t i ts r x = (margin_off root t x.after ts r x.tokens_are x.margin x.same).1 i
 
 no_tag : (tag : Tag) (c : Pieces) (ts : List Token) → (Start tag ∷ ts ≡ tokens_of c) ⊎ (Empty tag ∷ ts ≡ tokens_of c) → IsMargin c → ⊥
@@ -267,7 +268,7 @@ no_tag tag (piece.Empty other after) ts is h = h
 no_tag tag (piece.Start other inside after) ts is h = h
 
 pub no_second_root : (root : Reading) (tag : Tag) (ts : List Token) (r : Reading)
-    → ((GoesOn (AfterRoot root) (Start tag ∷ ts) r → ⊥) × (GoesOn (AfterRoot root) (Empty tag ∷ ts) r → ⊥))
+    → ((IsDocumentFrom (AfterRoot root) (Start tag ∷ ts) r → ⊥) × (IsDocumentFrom (AfterRoot root) (Empty tag ∷ ts) r → ⊥))
 no_second_root root tag ts r =
     (λ x. no_tag tag x.after ts (inl x.tokens_are) x.margin, λ x. no_tag tag x.after ts (inr x.tokens_are) x.margin)
 
@@ -306,7 +307,8 @@ other_off t other true c ts r is h = let e : t ≡ Declaration = cc in absurd (o
 other_off t other false c ts r is h = record { pieces = c; tokens_are = is; rooted = root_begins c r h }
 
 -- but for a declaration the start is before the root
-pub start_other : (t : Token) → IsOther t → (ts : List Token) (r : Reading) → GoesOn AtStart (t ∷ ts) r ↔ GoesOn (Within []) (t ∷ ts) r
+pub start_other : (t : Token) → IsOther t → (ts : List Token) (r : Reading)
+    → IsDocumentFrom AtStart (t ∷ ts) r ↔ IsDocumentFrom (Within []) (t ∷ ts) r
 start_other t other ts r = (
   λ x. other_off t other x.declared x.pieces ts r x.tokens_are x.rooted,
   λ x. record { declared = false; pieces = x.pieces; tokens_are = x.tokens_are; rooted = begins_root x.pieces r x.rooted },
@@ -325,17 +327,17 @@ empty_document : (declared : Bool) (c : Pieces) (r : Reading) → [] ≡ heading
 empty_document true c r is h = cc
 empty_document false c r is h = empty_root c r is (root_begins c r h)
 
-pub no_tokens_start : (r : Reading) → GoesOn AtStart [] r → ⊥
+pub no_tokens_start : (r : Reading) → IsDocumentFrom AtStart [] r → ⊥
 no_tokens_start r x = empty_document x.declared x.pieces r x.tokens_are x.rooted
 
 pub some_tokens : (ts us : List Token) (t : Token) → [] ≡ ts ++ (t ∷ us) → ⊥
 some_tokens [] us t e = cc
 some_tokens (x ∷ xs) us t e = cc
 
-pub no_tokens : (fs : List OpenElement) (r : Reading) → GoesOn (Within fs) [] r → ⊥
+pub no_tokens : (fs : List OpenElement) (r : Reading) → IsDocumentFrom (Within fs) [] r → ⊥
 no_tokens [] r x = empty_root x.pieces r x.tokens_are x.rooted
 no_tokens (f ∷ []) r x = some_tokens (tokens_of x.inside) x.rest (End (written_name f)) x.tokens_are
 no_tokens (f ∷ (g ∷ gs)) r x = some_tokens (tokens_of x.inside) x.rest (End (written_name f)) x.tokens_are
 
-pub after_root_ends : (root : Reading) → GoesOn (AfterRoot root) [] root
+pub after_root_ends : (root : Reading) → IsDocumentFrom (AfterRoot root) [] root
 after_root_ends root = record { after = Nothing; tokens_are = refl; margin = tt; same = refl }

@@ -13,7 +13,7 @@ use Rattle.ifmap_elem.specs.Nesting.{greatest_of, nesting, child_nesting, child_
 use Rattle.ifmap_reader.specs.declared.open_elements.OpenElement.{OpenElement}
 use Rattle.ifmap_reader.specs.Depths.{levels}
 use Rattle.ifmap_reader.specs.OpenElements.{Closes, has_children, children_to_come, is_child_text, text_child, with_inner}
-use Rattle.ifmap_reader.specs.Progress.{Where, AtStart, Within, AfterRoot, Closing, GoesOn, after_element, depth_read}
+use Rattle.ifmap_reader.specs.Progress.{Where, AtStart, Within, AfterRoot, Closing, IsDocumentFrom, after_element, depth_read}
 
 -- the greatest nesting of some children
 abbrev pub children_nesting : List Child → ℕ
@@ -98,7 +98,7 @@ closing_deep f (g ∷ gs) ts r x =
     omega (arith, h, k, l)
 
 -- what goes on nests at least as deep as what has been read
-pub goes_deep : (w : Where) (ts : List Token) (r : Reading) → GoesOn w ts r → depth_read w ≤ nesting r.root
+pub goes_deep : (w : Where) (ts : List Token) (r : Reading) → IsDocumentFrom w ts r → depth_read w ≤ nesting r.root
 goes_deep AtStart ts r x = omega arith
 goes_deep (Within []) ts r x = omega arith
 goes_deep (Within (f ∷ fs)) ts r x = closing_deep f fs ts r x

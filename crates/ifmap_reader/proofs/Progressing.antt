@@ -23,7 +23,7 @@ use Rattle.ifmap_reader.specs.declared.errors.TokenRefusal.TheVariants as refusa
 use Rattle.ifmap_reader.specs.declared.progress.DocumentProgress.{DocumentProgress}
 use Rattle.ifmap_reader.specs.declared.progress.DocumentProgress.TheVariants as standing
 use Rattle.ifmap_reader.specs.NextToken.{NextAnswer}
-use Rattle.ifmap_reader.specs.Progress.{Where, AtStart, Within, AfterRoot, GoesOn, IsLinked, Leads, Passes, TokenAnswer, open_in, depth_read, one_if, where_is}
+use Rattle.ifmap_reader.specs.Progress.{Where, AtStart, Within, AfterRoot, IsDocumentFrom, IsLinked, Leads, Passes, TokenAnswer, open_in, depth_read, one_if, where_is}
 use Rattle.ifmap_reader.specs.Reads.{IsUnreadable, IsTooDeep, IsRead, refusal_error, read_at_end}
 use Rattle.ifmap_reader.proofs.Goings.{no_tokens, no_tokens_start, after_root_ends, some_tokens}
 use Rattle.ifmap_reader.proofs.Levels.{goes_deep}
@@ -34,7 +34,7 @@ use Rattle.ifmap_reader.proofs.Fronts.{Shallow, not_deep, unreadable}
 pub record At (bytes : List ℕ) (depth : ℕ) (w : Where) (rest : List ℕ) : Type 0 where
   pub so_far : List Token
   pub lexed : To TakesToken (without_byte_order_mark bytes) so_far rest
-  pub goes : (ts : List Token) (r : Reading) → (IsDocument (so_far ++ ts) r ↔ GoesOn w ts r)
+  pub goes : (ts : List Token) (r : Reading) → (IsDocument (so_far ++ ts) r ↔ IsDocumentFrom w ts r)
   pub ahead : Ahead TakesToken (without_byte_order_mark bytes) so_far rest []
   pub fits : depth_read w ≤ depth
   pub level : count_by is_start so_far ≡ open_in w + count_by is_end so_far
@@ -86,7 +86,7 @@ module _ (bytes : List ℕ) (depth : ℕ) (w : Where) (rest : List ℕ) (at : At
     is_only : IsOnly TakesToken rest t left
     is_only u after h = let k = only u after h in (sym k.0, sym k.1)
 
-    goes_next : (ts : List Token) (r : Reading) → IsDocument ((at.so_far ++ t ∷ []) ++ ts) r ↔ GoesOn w (t ∷ ts) r
+    goes_next : (ts : List Token) (r : Reading) → IsDocument ((at.so_far ++ t ∷ []) ++ ts) r ↔ IsDocumentFrom w (t ∷ ts) r
     goes_next ts r =
         let g = at.goes (t ∷ ts) r in
         let e = append_assoc at.so_far (t ∷ []) ts in
@@ -110,21 +110,22 @@ module _ (bytes : List ℕ) (depth : ℕ) (w : Where) (rest : List ℕ) (at : At
     }
 
     -- what any spelling goes on with
-    spelled : (r : Reading) → Spells bytes r → (others : List Token) × GoesOn w (t ∷ others) r
+    spelled : (r : Reading) → Spells bytes r → (others : List Token) × IsDocumentFrom w (t ∷ others) r
     spelled r s =
         let a = at.ahead s.tokens s.lexed in
         let x = (at.goes a.0 r).0 (subst (λ (us : List Token). IsDocument us r) a.1 s.document) in
         first a.0 a.2 x
       where
-        first : (more : List Token) → To TakesToken rest more [] → GoesOn w more r → (others : List Token) × GoesOn w (t ∷ others) r
+        first : (more : List Token) → To TakesToken rest more [] → IsDocumentFrom w more r
+            → (others : List Token) × IsDocumentFrom w (t ∷ others) r
         first [] l x = absurd (some l)
-        first (u ∷ us) l x = (us, subst (λ (v : Token). GoesOn w (v ∷ us) r) (only u l.0 l.1).0 x)
+        first (u ∷ us) l x = (us, subst (λ (v : Token). IsDocumentFrom w (v ∷ us) r) (only u l.0 l.1).0 x)
 
     begins_so_far : BeginsDocument at.so_far
     begins_so_far = let s = some_way w in record { more = s.0; reading = s.1.0; document = (at.goes s.0 s.1.0).1 s.1.1 }
 
     pub step_refused : (place : ℕ) → place ≡ offset bytes rest → ((ts : List Token) (r : Reading)
-        → GoesOn w (t ∷ ts) r → ⊥) → IsUnreadable bytes depth place
+        → IsDocumentFrom w (t ∷ ts) r → ⊥) → IsUnreadable bytes depth place
     step_refused place is refused =
         unreadable bytes depth place
         (record {
@@ -193,11 +194,11 @@ module _ (bytes : List ℕ) (depth : ℕ) (w : Where) (rest : List ℕ) (at : At
     no_more [] l = refl
     no_more (u ∷ us) l = absurd (no_token rest u l.0 end l.1)
 
-    spelled_so_far : (r : Reading) → Spells bytes r → GoesOn w [] r
+    spelled_so_far : (r : Reading) → Spells bytes r → IsDocumentFrom w [] r
     spelled_so_far r s =
         let a = at.ahead s.tokens s.lexed in
         let x = (at.goes a.0 r).0 (subst (λ (us : List Token). IsDocument us r) a.1 s.document) in
-        subst (λ (us : List Token). GoesOn w us r) (no_more a.0 a.2) x
+        subst (λ (us : List Token). IsDocumentFrom w us r) (no_more a.0 a.2) x
 
     abbrev stopped : (place : ℕ) → place ≡ offset bytes rest → Stop bytes place
     stopped place is = record {
@@ -209,14 +210,14 @@ module _ (bytes : List ℕ) (depth : ℕ) (w : Where) (rest : List ℕ) (at : At
       at_is = is;
     }
 
-    pub ended_early : ((r : Reading) → GoesOn w [] r → ⊥) → (place : ℕ) → place ≡ offset bytes rest
+    pub ended_early : ((r : Reading) → IsDocumentFrom w [] r → ⊥) → (place : ℕ) → place ≡ offset bytes rest
         → IsUnreadable bytes depth place
     ended_early none place is = unreadable bytes depth place (stopped place is) at.shallow (λ r s. none r (spelled_so_far r s))
 
     pub none_deep : (end_at place : ℕ) → end_at ≡ offset bytes rest → Deep bytes depth place → ⊥
     none_deep end_at place is d = not_deep bytes depth end_at place (stopped end_at is) at.shallow d
 
-    pub whole : (r : Reading) → GoesOn w [] r → Spells bytes r
+    pub whole : (r : Reading) → IsDocumentFrom w [] r → Spells bytes r
     whole r x = record {
       tokens = at.so_far;
       lexed = subst (λ (b : List ℕ). To TakesToken (without_byte_order_mark bytes) at.so_far b) end at.lexed;

@@ -21,7 +21,7 @@ use Rattle.ifmap_reader.specs.declared.progress.DocumentProgress.{DocumentProgre
 use Rattle.ifmap_reader.specs.Depths.{levels}
 use Rattle.ifmap_reader.specs.OpenElements.{AreLinked, Closes, CountsBindings, scope_of, with_characters, written_name}
 use Rattle.ifmap_reader.specs.AllowedTags.{OpensElement, TagAnswer}
-use Rattle.ifmap_reader.specs.Progress.{Where, AtStart, Within, AfterRoot, GoesOn, Follows, IsCharacterData, IsLinked, is_margin, Leads, Passes, TokenAnswer, after_element, open_in, depth_read, one_if, where_is}
+use Rattle.ifmap_reader.specs.Progress.{Where, AtStart, Within, AfterRoot, IsDocumentFrom, Follows, IsCharacterData, IsLinked, is_margin, Leads, Passes, TokenAnswer, after_element, open_in, depth_read, one_if, where_is}
 use Rattle.ifmap_reader.proofs.Goings.{inner_comment, inner_words, inner_start, inner_empty, inner_end, inner_declaration, inner_other_end, root_comment, root_blank, IsInner, no_root, root_start, root_empty, no_start, no_empty, after_root_comment, after_root_blank, nothing_after_root, no_second_root, start_declaration, IsOther, start_other}
 use Rattle.ifmap_reader.proofs.Levels.{children_nesting, after_element_fits, after_element_deep}
 
@@ -79,10 +79,10 @@ blank_step depth old new t blank text w none left b =
     ]))
 
 pub words_refused : (old : List OpenElement) (t : Token) (blank : Bool) (text : List ℕ) → IsCharacterData blank text t → old ≡ []
-    → blank ≡ false → (ts : List Token) (r : Reading) → GoesOn (Within (reverse old)) (t ∷ ts) r → ⊥
+    → blank ≡ false → (ts : List Token) (r : Reading) → IsDocumentFrom (Within (reverse old)) (t ∷ ts) r → ⊥
 words_refused old t blank text w none b ts r x =
     no_root t (elim w [ inl e ↦ subst IsInner (sym e) b | inr e ↦ subst IsInner (sym e.1) tt ]) ts r
-    (subst (λ (fs : List OpenElement). GoesOn (Within (reverse fs)) (t ∷ ts) r) none x)
+    (subst (λ (fs : List OpenElement). IsDocumentFrom (Within (reverse fs)) (t ∷ ts) r) none x)
 
 -- tags
 pub tag_follows : (fs : List OpenElement) (tag : Tag) (new : OpenElement) → OpensElement (scope_of fs) tag new
@@ -193,17 +193,17 @@ end_step depth old mid f name e d new is same c made =
     (end_leads depth f (reverse mid) name e d same c))
 
 pub other_end : (old mid : List OpenElement) (f : OpenElement) (name : Qualified) → old ≡ mid ++ f ∷ [] → (name ≡ written_name f → ⊥)
-    → (ts : List Token) (r : Reading) → GoesOn (Within (reverse old)) (End name ∷ ts) r → ⊥
+    → (ts : List Token) (r : Reading) → IsDocumentFrom (Within (reverse old)) (End name ∷ ts) r → ⊥
 other_end old mid f name is other ts r x =
-    inner_other_end f (reverse mid) name other ts r (subst (λ (fs : List OpenElement). GoesOn (Within fs) (End name ∷ ts) r)
+    inner_other_end f (reverse mid) name other ts r (subst (λ (fs : List OpenElement). IsDocumentFrom (Within fs) (End name ∷ ts) r)
     (last_first old mid f is) x)
 
 pub no_end : (old : List OpenElement) (name : Qualified) → old ≡ [] → (ts : List Token) (r : Reading)
-    → GoesOn (Within (reverse old)) (End name ∷ ts) r → ⊥
+    → IsDocumentFrom (Within (reverse old)) (End name ∷ ts) r → ⊥
 no_end old name none ts r x =
-    no_root (End name) tt ts r (subst (λ (fs : List OpenElement). GoesOn (Within (reverse fs)) (End name ∷ ts) r) none x)
+    no_root (End name) tt ts r (subst (λ (fs : List OpenElement). IsDocumentFrom (Within (reverse fs)) (End name ∷ ts) r) none x)
 
-pub declaration_refused : (fs : List OpenElement) (ts : List Token) (r : Reading) → GoesOn (Within fs) (Declaration ∷ ts) r → ⊥
+pub declaration_refused : (fs : List OpenElement) (ts : List Token) (r : Reading) → IsDocumentFrom (Within fs) (Declaration ∷ ts) r → ⊥
 declaration_refused [] ts r x = no_root Declaration tt ts r x
 declaration_refused (f ∷ fs) ts r x = inner_declaration f fs ts r x
 
@@ -233,8 +233,8 @@ margin_leads depth root (End name) m = cc
 margin_leads depth root (Section text) m = cc
 margin_leads depth root (Characters false text) m = cc
 
-pub no_margin : (root : Reading) (t : Token) → is_margin t ≡ false → (ts : List Token) (r : Reading) → GoesOn (AfterRoot root) (t ∷ ts) r
-    → ⊥
+pub no_margin : (root : Reading) (t : Token) → is_margin t ≡ false → (ts : List Token) (r : Reading)
+    → IsDocumentFrom (AfterRoot root) (t ∷ ts) r → ⊥
 no_margin root Declaration m = nothing_after_root root Declaration tt
 no_margin root Comment m = cc
 no_margin root (Start tag) m = λ ts r. (no_second_root root tag ts r).0

@@ -13,7 +13,7 @@ use Rattle.ifmap_elem.specs.Document.{Nothing, IsElement}
 use Rattle.ifmap_elem.specs.laws.Roots.{begins_root}
 use Rattle.ifmap_reader.specs.declared.open_elements.OpenElement.{OpenElement}
 use Rattle.ifmap_reader.specs.OpenElements.{Closes, with_inner, written_name}
-use Rattle.ifmap_reader.specs.Progress.{Where, AtStart, Within, AfterRoot, Closing, GoesOn}
+use Rattle.ifmap_reader.specs.Progress.{Where, AtStart, Within, AfterRoot, Closing, IsDocumentFrom}
 
 -- `<a/>`
 abbrev some_tag : Tag
@@ -30,7 +30,7 @@ some_element = record {
 }
 
 abbrev pub SomeWay : Where → Type 0
-SomeWay w = (ts : List Token) × ((r : Reading) × GoesOn w ts r)
+SomeWay w = (ts : List Token) × ((r : Reading) × IsDocumentFrom w ts r)
 
 some_closing : (f : OpenElement) (fs : List OpenElement) → (ts : List Token) × ((r : Reading) × Closing f fs ts r)
 some_closing f [] =

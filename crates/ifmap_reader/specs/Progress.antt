@@ -61,15 +61,15 @@ pub record BeginsRoot (ts : List Token) (r : Reading) : Type 0 where
   pub rooted : BeginsWithRoot pieces r
 
 -- the tokens go on from there to a document that means this
-abbrev pub GoesOn : Where → List Token → Reading → Type 0
-GoesOn AtStart ts r = IsDocument ts r
-GoesOn (Within []) ts r = BeginsRoot ts r
-GoesOn (Within (f ∷ fs)) ts r = Closing f fs ts r
-GoesOn (AfterRoot root) ts r = EndsDocument root ts r
+abbrev pub IsDocumentFrom : Where → List Token → Reading → Type 0
+IsDocumentFrom AtStart ts r = IsDocument ts r
+IsDocumentFrom (Within []) ts r = BeginsRoot ts r
+IsDocumentFrom (Within (f ∷ fs)) ts r = Closing f fs ts r
+IsDocumentFrom (AfterRoot root) ts r = EndsDocument root ts r
 
 -- what goes on after the token goes on before it with the token in front, and the other way
 abbrev pub Follows : Where → Token → Where → Type 0
-Follows old t new = (ts : List Token) (r : Reading) → (GoesOn old (t ∷ ts) r ↔ GoesOn new ts r)
+Follows old t new = (ts : List Token) (r : Reading) → (IsDocumentFrom old (t ∷ ts) r ↔ IsDocumentFrom new ts r)
 
 -- after an element that ended within these
 abbrev pub after_element : List OpenElement → Element → List Declared → Where
@@ -131,7 +131,7 @@ pub record Passes (depth : ℕ) (old : Where) (t : Token) : Type 0 where
 -- the answer to one more token
 abbrev pub TokenAnswer : ℕ → Where → Token → Result DocumentProgress TokenRefusal → Type 0
 TokenAnswer depth old t (Ok new) = Leads depth old t (where_is new)
-TokenAnswer depth old t (Err NotAllowed) = (ts : List Token) (r : Reading) → GoesOn old (t ∷ ts) r → ⊥
+TokenAnswer depth old t (Err NotAllowed) = (ts : List Token) (r : Reading) → IsDocumentFrom old (t ∷ ts) r → ⊥
 TokenAnswer depth old t (Err TooDeep) = Passes depth old t
 TokenAnswer depth old t (Err NoMemory) = Unit {0}
 

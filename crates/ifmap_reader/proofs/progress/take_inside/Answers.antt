@@ -1,13 +1,13 @@
 use Rattle.std.proofs.Common.{List, ◌∷◌, sym, subst, refl, reverse, inl, inr}
 use Rattle.ifmap_elem.specs.declared.readings.Reading.{Reading}
 use Rattle.ifmap_elem.specs.declared.tokens.Token.{Token}
-use Rattle.ifmap_reader.specs.Progress.{Within, GoesOn, Leads, TokenAnswer}
+use Rattle.ifmap_reader.specs.Progress.{Within, IsDocumentFrom, Leads, TokenAnswer}
 use Rattle.ifmap_reader.proofs.Stepping.{comment_leads, declaration_refused}
 use Rattle.ifmap_reader.proofs.progress.take_inside.Goals as goal
 
 pub returns-in-Declaration : goal.returns-in-Declaration
 returns-in-Declaration c =
-    subst (λ (t : Token). (ts : List Token) (r : Reading) → GoesOn (Within (reverse c.args.open_elements)) (t ∷ ts) r → ⊥)
+    subst (λ (t : Token). (ts : List Token) (r : Reading) → IsDocumentFrom (Within (reverse c.args.open_elements)) (t ∷ ts) r → ⊥)
     (sym c.in-Declaration.is) (declaration_refused (reverse c.args.open_elements))
 
 pub returns-in-Comment : goal.returns-in-Comment
