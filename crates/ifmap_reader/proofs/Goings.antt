@@ -16,6 +16,7 @@ use Rattle.ifmap_elem.specs.declared.tokens.Token.TheVariants.{Declaration, Comm
 use Rattle.ifmap_elem.specs.Scopes.{Scope, root_scope, bindings, NamesElement}
 use Rattle.ifmap_elem.specs.Document as piece
 use Rattle.ifmap_elem.specs.Document.{Pieces, Nothing, tokens_of, IsElement, AreItems, IsMargin, IsRoot, heading}
+use Rattle.ifmap_elem.specs.laws.OneReading.{no_declaration_begins}
 use Rattle.ifmap_elem.specs.laws.Roots.{BeginsWithRoot, root_begins, begins_root}
 use Rattle.ifmap_reader.specs.declared.open_elements.OpenElement.{OpenElement}
 use Rattle.ifmap_reader.specs.OpenElements.{Closes, scope_of, with_inner, with_characters, written_name}
@@ -273,18 +274,10 @@ no_second_root root tag ts r =
     (λ x. no_tag tag x.after ts (inl x.tokens_are) x.margin, λ x. no_tag tag x.after ts (inr x.tokens_are) x.margin)
 
 -- at the start
-not_heading : (c : Pieces) (ts : List Token) → Declaration ∷ ts ≡ tokens_of c → ⊥
-not_heading Nothing ts e = cc
-not_heading (piece.Comment after) ts e = cc
-not_heading (piece.Characters blank text after) ts e = cc
-not_heading (piece.Section text after) ts e = cc
-not_heading (piece.Empty tag after) ts e = cc
-not_heading (piece.Start tag inside after) ts e = cc
-
 declaration_off : (declared : Bool) (c : Pieces) (ts : List Token) (r : Reading) → Declaration ∷ ts ≡ heading declared ++ tokens_of c
     → IsRoot c r → BeginsRoot ts r
 declaration_off true c ts r is h = record { pieces = c; tokens_are = cc; rooted = root_begins c r h }
-declaration_off false c ts r is h = absurd (not_heading c ts is)
+declaration_off false c ts r is h = absurd (no_declaration_begins c ts is)
 
 pub start_declaration : Follows AtStart Declaration (Within [])
 start_declaration ts r = (

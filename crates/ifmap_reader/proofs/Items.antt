@@ -29,6 +29,10 @@ put_nothing b (Run more ∷ xs) = refl
 put_nothing true (Inner e d ∷ xs) = refl
 put_nothing false (Inner e d ∷ xs) = refl
 
+-- what an open element closes to where nothing more is to come
+pub closed_of : (f : OpenElement) → (e : Element) × ((d : List Declared) × Closes f [] e d)
+closed_of f = (_, (_, record { element_is = refl; declared_is = refl }))
+
 -- text
 kept_words : (f : OpenElement) (text : List ℕ) (items : List ContentItem)
     → children_to_come f (Run text ∷ items) ≡ children_to_come (with_characters f text) items

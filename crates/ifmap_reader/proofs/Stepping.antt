@@ -23,6 +23,7 @@ use Rattle.ifmap_reader.specs.OpenElements.{AreLinked, Closes, CountsBindings, s
 use Rattle.ifmap_reader.specs.AllowedTags.{OpensElement, TagAnswer}
 use Rattle.ifmap_reader.specs.Progress.{Where, AtStart, Within, AfterRoot, IsDocumentFrom, Follows, IsCharacterData, IsLinked, is_margin, Leads, Passes, TokenAnswer, after_element, open_in, depth_read, one_if, where_is}
 use Rattle.ifmap_reader.proofs.Goings.{inner_comment, inner_words, inner_start, inner_empty, inner_end, inner_declaration, inner_other_end, root_comment, root_blank, IsInner, no_root, root_start, root_empty, no_start, no_empty, after_root_comment, after_root_blank, nothing_after_root, no_second_root, start_declaration, IsOther, start_other}
+use Rattle.ifmap_reader.proofs.Items.{closed_of}
 use Rattle.ifmap_reader.proofs.Levels.{children_nesting, after_element_fits, after_element_deep}
 
 -- a token that opens and ends nothing
@@ -158,9 +159,6 @@ pub empty_step : (depth : ℕ) (old : List OpenElement) (tag : Tag) (f : OpenEle
 empty_step depth old tag f e d new o k l is =
     subst (λ (w : Where). Leads depth (Within (reverse old)) (Empty tag) w) (sym is)
     (empty_leads depth (reverse old) tag f o e d k (let h = length-reverse old in omega (arith, h, l)))
-
-closed_of : (f : OpenElement) → (e : Element) × ((d : List Declared) × Closes f [] e d)
-closed_of f = (_, (_, record { element_is = refl; declared_is = refl }))
 
 pub empty_too_deep : (depth : ℕ) (old : List OpenElement) (tag : Tag) (f : OpenElement) → OpensElement (scope_of (reverse old)) tag f
     → depth ≤ length old → Passes depth (Within (reverse old)) (Empty tag)

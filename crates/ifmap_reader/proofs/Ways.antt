@@ -1,8 +1,6 @@
 -- Wherever a reader stands, some document goes on from there.
 use Rattle.std.proofs.Common.{false, List, [], ◌∷◌, refl}
 use Rattle.std.specs.Prelude.{codes}
-use Rattle.ifmap_elem.specs.declared.elements.Element.{Element}
-use Rattle.ifmap_elem.specs.declared.readings.Declared.{Declared}
 use Rattle.ifmap_elem.specs.declared.readings.Reading.{Reading}
 use Rattle.ifmap_elem.specs.declared.tokens.Tag.{Tag}
 use Rattle.ifmap_elem.specs.declared.tokens.Token.{Token}
@@ -12,8 +10,9 @@ use Rattle.ifmap_elem.specs.Document as piece
 use Rattle.ifmap_elem.specs.Document.{Nothing, IsElement}
 use Rattle.ifmap_elem.specs.laws.Roots.{begins_root}
 use Rattle.ifmap_reader.specs.declared.open_elements.OpenElement.{OpenElement}
-use Rattle.ifmap_reader.specs.OpenElements.{Closes, with_inner, written_name}
+use Rattle.ifmap_reader.specs.OpenElements.{with_inner, written_name}
 use Rattle.ifmap_reader.specs.Progress.{Where, AtStart, Within, AfterRoot, Closing, IsDocumentFrom}
+use Rattle.ifmap_reader.proofs.Items.{closed_of}
 
 -- `<a/>`
 abbrev some_tag : Tag
@@ -34,7 +33,7 @@ SomeWay w = (ts : List Token) × ((r : Reading) × IsDocumentFrom w ts r)
 
 some_closing : (f : OpenElement) (fs : List OpenElement) → (ts : List Token) × ((r : Reading) × Closing f fs ts r)
 some_closing f [] =
-    let end : (e : Element) × ((d : List Declared) × Closes f [] e d) = (_, (_, record { element_is = refl; declared_is = refl })) in (
+    let end = closed_of f in (
       End (written_name f) ∷ [],
       (
         record { root = end.0; declared = end.1.0 },
@@ -52,7 +51,7 @@ some_closing f [] =
       ),
     )
 some_closing f (g ∷ gs) =
-    let end : (e : Element) × ((d : List Declared) × Closes f [] e d) = (_, (_, record { element_is = refl; declared_is = refl })) in
+    let end = closed_of f in
     let outer = some_closing (with_inner g end.0 end.1.0) gs in (
       End (written_name f) ∷ outer.0,
       (

@@ -3,17 +3,16 @@ use Rattle.std.proofs.Common.{ℕ, Bool, false, List, [], ◌∷◌, ◌++◌, l
 use Rattle.std.proofs.lemmas.Bool.{cases_Bool, cases_lt}
 use Rattle.std.proofs.lemmas.List.{reverse-reverse}
 use Rattle.ifmap_lemmas.specs.Deciding.{last_or_none}
-use Rattle.ifmap_elem.specs.declared.elements.Element.{Element}
-use Rattle.ifmap_elem.specs.declared.readings.Declared.{Declared}
 use Rattle.ifmap_elem.specs.declared.readings.Reading.{Reading}
 use Rattle.ifmap_elem.specs.declared.tokens.Qualified.{Qualified}
 use Rattle.ifmap_elem.specs.declared.tokens.Tag.{Tag}
 use Rattle.ifmap_elem.specs.declared.tokens.Token.{Token}
 use Rattle.ifmap_elem.specs.declared.tokens.Token.TheVariants.{Declaration, Comment, Start, Empty, End, Section, Characters}
 use Rattle.ifmap_reader.specs.declared.open_elements.OpenElement.{OpenElement}
-use Rattle.ifmap_reader.specs.OpenElements.{Closes, with_characters, written_name}
+use Rattle.ifmap_reader.specs.OpenElements.{with_characters, written_name}
 use Rattle.ifmap_reader.specs.Progress.{Where, AtStart, Within, AfterRoot, IsDocumentFrom, IsCharacterData, is_margin, Leads, Passes, after_element}
 use Rattle.ifmap_reader.proofs.Goings.{IsOther, no_start, no_empty, start_other}
+use Rattle.ifmap_reader.proofs.Items.{closed_of}
 use Rattle.ifmap_reader.proofs.Stepping.{comment_leads, declaration_leads, words_step, blank_step, words_refused, start_step, start_too_deep, empty_step, empty_too_deep, end_step, other_end, no_end, declaration_refused, margin_leads, no_margin}
 use Rattle.ifmap_reader.proofs.deciding.Tags.{element_or_none, qualified_or_other}
 
@@ -21,9 +20,6 @@ module _ (depth : ℕ) where
   abbrev pub Goes : Where → Token → Type 0
   Goes w t =
       ((new : Where) × Leads depth w t new) ⊎ (Passes depth w t ⊎ ((ts : List Token) (r : Reading) → IsDocumentFrom w (t ∷ ts) r → ⊥))
-
-  closed_of : (f : OpenElement) → (e : Element) × ((d : List Declared) × Closes f [] e d)
-  closed_of f = (_, (_, record { element_is = refl; declared_is = refl }))
 
   -- within some open elements, the innermost last
   start_goes : (old : List OpenElement) (tag : Tag) → Goes (Within (reverse old)) (Start tag)
