@@ -3,6 +3,7 @@ ghost use Rattle.std.specs.Prelude.{◌≡◌, ◌++◌, ℕ, List, IfNone, IfSo
 ghost use Rattle.std.specs.List.{list_any};
 ghost use Rattle.ifmap_filter.specs.Holding.{has_attribute, has_child, has_text, is_attribute, is_child_with, is_text_element, own_text};
 
+use ifmap_elem::fronts::after_word;
 use ifmap_elem::{Attribute, Child, Element, Equals, Many, Name, Text};
 
 // Whether the element has the attribute in no namespace with this value.
@@ -11,7 +12,6 @@ pub(crate) fn has_attribute(element: &Element, local: &Text, value: &Text) -> bo
 {
     let attributes = &element.attributes;
     attributes
-        .0
         .iter()
         .any(|attribute| is_attribute(attribute, local, value))
 }
@@ -70,12 +70,4 @@ fn after_own_text<'a>(child: &Child, bytes: &'a [u8]) -> Option<&'a [u8]>
         Child::Element(_) => Some(bytes),
         Child::Text(text) => after_word(text.as_bytes(), bytes),
     }
-}
-
-// What is left of the bytes after the word, where they begin with it.
-fn after_word<'a>(word: &[u8], bytes: &'a [u8]) -> Option<&'a [u8]>
-    ensures found { IfSome result (λ rest. bytes.now ≡ word.now ++ rest.now) }
-    ensures none { IfNone result ((rest : List ℕ) → bytes.now ≡ word.now ++ rest → ⊥) }
-{
-    bytes.strip_prefix(word)
 }
