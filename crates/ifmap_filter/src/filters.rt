@@ -117,7 +117,7 @@ fn parts_are_one(one: &Many<Predicate>, other: &Many<Predicate>) -> bool
     if one.len() != other.len() {
         return false;
     }
-    for i in 0..one.0.len() {
+    for i in 0..one.len() {
         if !predicates_are_one(&one.0[i], &other.0[i]) {
             return false;
         }

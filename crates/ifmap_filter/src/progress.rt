@@ -147,9 +147,9 @@ fn take_named(standing: &mut FilterProgress, raw: RawToken<'_>) -> Result<bool, 
 {
     match raw {
         RawToken::OpenBracket => {
-            standing.open_part.outer.0.clear();
-            standing.open_part.ors.0.clear();
-            standing.open_part.ands.0.clear();
+            standing.open_part.outer.clear();
+            standing.open_part.ors.clear();
+            standing.open_part.ands.clear();
             standing.place = FilterPlace::FactorDue;
             Ok(true)
         }
@@ -362,7 +362,7 @@ fn close_group(alloc: Global, standing: &mut FilterProgress) -> Result<bool, NoM
         (step_done (context standing.old.open_part) CloseParenthesis)) }
 {
     let open_part = &mut standing.open_part;
-    let Some(outer_part) = open_part.outer.0.pop() else {
+    let Some(outer_part) = open_part.outer.pop() else {
         return Ok(false);
     };
     let part = close_part(alloc, &mut open_part.ors, &mut open_part.ands)?;
@@ -379,7 +379,7 @@ fn close_test(alloc: Global, standing: &mut FilterProgress) -> Result<bool, NoMe
     ensures { IfOk result (λ allowed. StandsAt allowed standing.new
         (step_done (context standing.old.open_part) CloseBracket)) }
 {
-    if !standing.open_part.outer.0.is_empty() {
+    if !standing.open_part.outer.is_empty() {
         return Ok(false);
     }
     let open_part = &mut standing.open_part;
@@ -428,7 +428,7 @@ fn only_part(parts: &mut Many<Predicate>) -> Option<Predicate>
     if parts.len() != 1 {
         return None;
     }
-    parts.0.pop()
+    parts.pop()
 }
 
 // The filter, where the text may end here.
