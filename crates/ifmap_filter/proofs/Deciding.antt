@@ -10,9 +10,9 @@ use Rattle.ifmap_filter.specs.declared.filters.Filter.{Filter}
 use Rattle.ifmap_filter.specs.declared.tokens.FilterToken.{FilterToken}
 use Rattle.ifmap_filter.specs.Grammar.{IsFilter, depth_limit}
 use Rattle.ifmap_filter.specs.Laws.{FilterOrStop, OneFilter, OnePlace, StopsWhereNone}
-use Rattle.ifmap_filter.specs.Progress.{GoesOn, FilterState, Start, open_parts, step_token, filter_at}
+use Rattle.ifmap_filter.specs.Progress.{IsFilterFrom, FilterState, Start, open_parts, step_token, filter_at}
 use Rattle.ifmap_filter.specs.Reaching.{ReadsTo}
-use Rattle.ifmap_filter.specs.Texts.{BeginsFilter, StopsAt, Writes, token_offset}
+use Rattle.ifmap_filter.specs.Texts.{BeginsFilter, StopsAt, WritesFilter, token_offset}
 use Rattle.ifmap_filter.specs.Tokens.{HasNoToken, FrontToken, Takes, token_at, without_white}
 use Rattle.ifmap_filter.proofs.Ending.{EndsAt, ends}
 use Rattle.ifmap_filter.proofs.Stepping.{IsRight, right}
@@ -22,7 +22,7 @@ use Rattle.ifmap_filter.proofs.Reaching.{at_start, later_length, next_place, onl
 
 module _ (text : List ℕ) (scope : Scope) where
   abbrev Outcome : Type 0
-  Outcome = ((filter : Filter) × Writes text scope filter) ⊎ ((at : ℕ) × StopsAt text scope at)
+  Outcome = ((filter : Filter) × WritesFilter text scope filter) ⊎ ((at : ℕ) × StopsAt text scope at)
 
   abbrev Reads : List ℕ → Type 0
   Reads cs = (w : FilterState) → ReadsTo text scope w cs → Outcome
@@ -58,7 +58,7 @@ filter_or_stop text scope u = reads text scope (chars text) Start (at_start text
 
 module _ (scope : Scope) where
   abbrev IsOne : ℕ → FilterState → List FilterToken → Type 0
-  IsOne n w ts = (f g : Filter) → GoesOn scope f n w ts → GoesOn scope g n w ts → f ≡ g
+  IsOne n w ts = (f g : Filter) → IsFilterFrom scope f n w ts → IsFilterFrom scope g n w ts → f ≡ g
 
   one_at_end : (n : ℕ) (w : FilterState) (o : Option Filter) → EndsAt scope n w o → IsOne n w []
   one_at_end n w None none f g a b = absurd (none f a)

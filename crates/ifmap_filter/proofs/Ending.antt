@@ -13,7 +13,7 @@ use Rattle.ifmap_filter.specs.declared.progress.Operand.TheVariants as operand
 use Rattle.ifmap_filter.specs.declared.tokens.FilterToken.{FilterToken}
 use Rattle.ifmap_filter.specs.declared.tokens.FilterToken.TheVariants.{Any, CloseBracket, CloseParenthesis, EqualsSign, At, Name, Literal}
 use Rattle.ifmap_filter.specs.Grammar.{AreTests, IsFilter, TakesAnds, TakesFactor, TakesMore, TakesPredicate, TakesTest, and_word, unprefixed_name, depth_limit, or_word}
-use Rattle.ifmap_filter.specs.Progress.{Closes, Context, FilterState, Start, TestDue, Named, Tested, FactorDue, LocalDue, EqualsDue, LiteralDue, FactorDone, AfterFactor, GoesOn, MoreTests, PredicateFirst, TestFirst, comparison_of, done_part, join_parts, test_of, filter_at, with_factor}
+use Rattle.ifmap_filter.specs.Progress.{ClosesOpenParts, Context, FilterState, Start, TestDue, Named, Tested, FactorDue, LocalDue, EqualsDue, LiteralDue, FactorDone, AfterFactor, IsFilterFrom, MoreTests, PredicateFirst, TestFirst, comparison_of, done_part, join_parts, test_of, filter_at, with_factor}
 use Rattle.ifmap_filter.proofs.Continuing.{no_more}
 
 module _ (scope : Scope) where
@@ -21,8 +21,8 @@ module _ (scope : Scope) where
 
   -- the filter that ends at a place, or none does
   abbrev pub EndsAt : ℕ → FilterState → Option Filter → Type 0
-  EndsAt n w None = (filter : Filter) → GoesOn scope filter n w [] → ⊥
-  EndsAt n w (Some f) = (filter : Filter) → GoesOn scope filter n w [] ↔ (filter ≡ f)
+  EndsAt n w None = (filter : Filter) → IsFilterFrom scope filter n w [] → ⊥
+  EndsAt n w (Some f) = (filter : Filter) → IsFilterFrom scope filter n w [] ↔ (filter ≡ f)
 
   nothing_more : (filter : Filter) (done : List Test) → MoreTests scope filter done [] ↔ (filter ≡ record { tests = done })
   nothing_more filter done = (
@@ -71,7 +71,7 @@ module _ (scope : Scope) where
   no_factor (suc m) p mid (inr (inner, e, takes)) = cc
 
   no_close : (filter : Filter) (tests : List Test) (name : Option element.Name) (n : ℕ) (outer : List OuterPart) (p : Predicate)
-      → Closes scope filter tests name n outer p [] → ⊥
+      → ClosesOpenParts scope filter tests name n outer p [] → ⊥
   no_close filter tests name n [] p (after, e, rest) = cc
   no_close filter tests name n (outer_part ∷ outer) p (after, e, rest) = cc
 
@@ -80,14 +80,14 @@ module _ (scope : Scope) where
     where
       inner : (os : List Predicate) (mid rest : List FilterToken) → [] ≡ mid
           → TakesMore or_word (TakesAnds (TakesFactor scope n)) mid os rest
-          → (p : Predicate) → Closes scope filter c.tests c.name n c.outer p rest → ⊥
+          → (p : Predicate) → ClosesOpenParts scope filter c.tests c.name n c.outer p rest → ⊥
       inner [] mid rest e f p close =
-          no_close filter c.tests c.name n c.outer p (subst (Closes scope filter c.tests c.name n c.outer p) (sym (e ∙ f)) close)
+          no_close filter c.tests c.name n c.outer p (subst (ClosesOpenParts scope filter c.tests c.name n c.outer p) (sym (e ∙ f)) close)
       inner (o ∷ os) mid rest e (after, m, f, takes, others) p close = let wrong : [] ≡ or_word ∷ after = e ∙ f in cc
 
       from : (as' os : List Predicate) (mid rest : List FilterToken) → TakesMore and_word (TakesFactor scope n) [] as' mid
           → TakesMore or_word (TakesAnds (TakesFactor scope n)) mid os rest
-          → Closes scope filter c.tests c.name n c.outer (join_parts Or (c.ors ++ (join_parts And (c.ands ++ as') ∷ os))) rest → ⊥
+          → ClosesOpenParts scope filter c.tests c.name n c.outer (join_parts Or (c.ors ++ (join_parts And (c.ands ++ as') ∷ os))) rest → ⊥
       from [] os mid rest e takes_ors close = inner os mid rest e takes_ors _ close
       from (a ∷ as') os mid rest (after, m, e, takes, others) takes_ors close = cc
 
@@ -108,7 +108,7 @@ module _ (scope : Scope) where
   SomeFilter Goes = (filter : Filter) × (ts : List FilterToken) × Goes filter ts
 
   closable : (tests : List Test) (name : Option element.Name) (n : ℕ) (outer : List OuterPart) (p : Predicate)
-      → SomeFilter (λ filter ts. Closes scope filter tests name n outer p ts)
+      → SomeFilter (λ filter ts. ClosesOpenParts scope filter tests name n outer p ts)
   closable tests name n [] p = (
     record { tests = tests ++ test_of name (Some p) ∷ [] },
     CloseBracket ∷ [],
@@ -118,18 +118,23 @@ module _ (scope : Scope) where
       let c = closable tests name (suc n) outer (done_part outer_part.ors (outer_part.ands ++ p ∷ [])) in (
         c.0,
         CloseParenthesis ∷ c.1,
-        (c.1, refl, no_more scope (suc n) (Closes scope c.0 tests name (suc n) outer) outer_part.ors (outer_part.ands ++ p ∷ []) c.1 c.2),
+        (
+          c.1,
+          refl,
+          no_more scope (suc n) (ClosesOpenParts scope c.0 tests name (suc n) outer) outer_part.ors (outer_part.ands ++ p ∷ [])
+              c.1 c.2,
+        ),
       )
 
   after_factor : (n : ℕ) (c : Context) → SomeFilter (λ filter ts. AfterFactor scope filter n c ts)
   after_factor n c =
       let closed = closable c.tests c.name n c.outer (done_part c.ors c.ands) in
-      (closed.0, closed.1, no_more scope n (Closes scope closed.0 c.tests c.name n c.outer) c.ors c.ands closed.1 closed.2)
+      (closed.0, closed.1, no_more scope n (ClosesOpenParts scope closed.0 c.tests c.name n c.outer) c.ors c.ands closed.1 closed.2)
 
-  literal : (n : ℕ) (c : Context) (a : Operand) → SomeFilter (λ filter ts. GoesOn scope filter n (LiteralDue c a) ts)
+  literal : (n : ℕ) (c : Context) (a : Operand) → SomeFilter (λ filter ts. IsFilterFrom scope filter n (LiteralDue c a) ts)
   literal n c a = let f = after_factor n (with_factor c (comparison_of a [])) in (f.0, Literal [] ∷ f.1, ([], f.1, refl, f.2))
 
-  equals : (n : ℕ) (c : Context) (a : Operand) → SomeFilter (λ filter ts. GoesOn scope filter n (EqualsDue c a) ts)
+  equals : (n : ℕ) (c : Context) (a : Operand) → SomeFilter (λ filter ts. IsFilterFrom scope filter n (EqualsDue c a) ts)
   equals n c a = let f = literal n c a in (f.0, EqualsSign ∷ f.1, (f.1, refl, f.2))
 
   attribute_first : (n : ℕ) (ts mid : List FilterToken) → ts ≡ At ∷ (Name (unprefixed_name []) ∷ (EqualsSign ∷ (Literal [] ∷ mid)))
@@ -149,7 +154,7 @@ module _ (scope : Scope) where
     ),
   )
 
-  pub goes_on : (n : ℕ) (w : FilterState) → SomeFilter (λ filter ts. GoesOn scope filter n w ts)
+  pub goes_on : (n : ℕ) (w : FilterState) → SomeFilter (λ filter ts. IsFilterFrom scope filter n w ts)
   goes_on n Start = (record { tests = [] }, [], refl)
   goes_on n (TestDue done) = test_first done
   goes_on n (Named done name) = (

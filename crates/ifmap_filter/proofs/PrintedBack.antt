@@ -38,7 +38,7 @@ use Rattle.ifmap_filter.specs.declared.printing.Around.TheVariants.{Ands, Ors}
 use Rattle.ifmap_filter.specs.Grammar.{AreTests, AsksFor, Rule, StandsFor, TakesAnds, TakesComparison, TakesFactor, TakesJoined, TakesMore, TakesOrPart, TakesOrs, TakesPredicate, TakesTest, and_word, unprefixed_name, depth_limit, join_of, or_word}
 use Rattle.ifmap_filter.specs.Printing.{CanBeParsed, IsAnsweredBack, NestsNoDeeper, PredicateText, WritesBack, ands_text, attribute_text, brackets_text, child_text, comparison_text, filter_text, group_text, joined_texts, literal_text, name_text, numbered_prefix, numbered_rows, numbered_scope, ors_text, parts_text, space_place, predicate_text, test_name_text, test_text}
 use Rattle.ifmap_filter.specs.Spaces.{HasSpaces, brackets_spaces, has_each, has_space, name_spaces, predicate_spaces, test_spaces}
-use Rattle.ifmap_filter.specs.Texts.{WritesWithin}
+use Rattle.ifmap_filter.specs.Texts.{WritesFilterWithin}
 use Rattle.ifmap_filter.specs.Tokens.{Takes, name_token}
 use Rattle.ifmap_filter.proofs.Lexed.{EndsName, IsPart, IsWord, Lexes, and_is, any_is, at_is, before, both, close_bracket_is, close_is, equals_is, lexed_bare, lexed_prefixed, nothing, nothing_ends, open_bracket_is, open_is, or_is, symbol_alone, symbol_ends}
 use Rattle.ifmap_filter.proofs.Deciding.{one_filter, stops_where_no_filter}
@@ -630,7 +630,7 @@ module _ (spaces : List (List ℕ)) where
 
     tests_written : (test : Test) (tests : List Test) (filter : Filter) → filter.tests ≡ test ∷ tests
         → FormsAll Test (codes " or ") or_word or_is (TakesTest printed_scope depth) (test_text spaces) test tests
-        → WritesWithin depth (filter_text spaces filter) printed_scope filter
+        → WritesFilterWithin depth (filter_text spaces filter) printed_scope filter
     tests_written test tests filter is f =
         let t = f.takes [] in
         let text = joined_texts (codes " or ") (test_text spaces) (test ∷ tests) in
@@ -647,7 +647,7 @@ module _ (spaces : List (List ℕ)) where
 
     tests_back : (ts : List FilterToken) (tests : List Test) (filter : Filter) → filter.tests ≡ tests → AreTests scope depth ts tests
         → AreTokens ts
-        → list_all (has_test_spaces spaces) tests ≡ true → WritesWithin depth (filter_text spaces filter) printed_scope filter
+        → list_all (has_test_spaces spaces) tests ≡ true → WritesFilterWithin depth (filter_text spaces filter) printed_scope filter
     tests_back ts [] filter is e v has = record {
       tokens = [];
       rest = [];

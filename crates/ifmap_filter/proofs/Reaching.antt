@@ -14,9 +14,9 @@ use Rattle.ifmap_prefixes.specs.ifmap_reader.declared.scoping.Scope.{Scope}
 use Rattle.ifmap_filter.specs.declared.filters.Filter.{Filter}
 use Rattle.ifmap_filter.specs.declared.tokens.FilterToken.{FilterToken}
 use Rattle.ifmap_filter.specs.Grammar.{IsFilter, depth_limit}
-use Rattle.ifmap_filter.specs.Progress.{GoesOn, FilterState, Start, step_token, filter_at}
+use Rattle.ifmap_filter.specs.Progress.{IsFilterFrom, FilterState, Start, step_token, filter_at}
 use Rattle.ifmap_filter.specs.Reaching.{ReadsTo}
-use Rattle.ifmap_filter.specs.Texts.{BeginsFilter, StopsAt, Writes, token_offset}
+use Rattle.ifmap_filter.specs.Texts.{BeginsFilter, StopsAt, WritesFilter, token_offset}
 use Rattle.ifmap_filter.specs.Tokens.{HasNoToken, FrontToken, Takes, after_while, closed_literal, front_while, literal_at, name_at, name_from, name_token, part_bytes, prefixed_name_at, symbol_of, front_token, token_at, with_symbol, without_white}
 use Rattle.ifmap_filter.proofs.Ending.{EndsAt, ends, goes_on}
 use Rattle.ifmap_filter.proofs.Stepping.{IsRight, right}
@@ -193,7 +193,7 @@ module _ (text : List ℕ) (scope : Scope) where
               let same : t ≡ u = (only_taken cs t u rest after takes other).0 in
               let is : IsFilter scope (r.tokens ++ (u ∷ b.more)) b.filter = subst (λ ts. IsFilter scope ts b.filter)
               (append_assoc r.tokens (u ∷ []) b.more) b.filter_is in
-              none b.filter b.more (subst (λ v. GoesOn scope b.filter r.room w (v ∷ b.more)) (sym same)
+              none b.filter b.more (subst (λ v. IsFilterFrom scope b.filter r.room w (v ∷ b.more)) (sym same)
               ((r.goes b.filter (u ∷ b.more)).0 is)));
           unfinished = (λ filter end is. not_end cs t rest takes end);
           at_is = refl;
@@ -210,7 +210,7 @@ module _ (text : List ℕ) (scope : Scope) where
       at_is = refl;
     }
 
-    pub whole_text : HasNoToken cs → (filter : Filter) → filter_at w ≡ Some filter → Writes text scope filter
+    pub whole_text : HasNoToken cs → (filter : Filter) → filter_at w ≡ Some filter → WritesFilter text scope filter
     whole_text end filter is =
         let ok = subst (EndsAt scope r.room w) is (ends scope r.room w) in
         record {

@@ -21,20 +21,20 @@ use Rattle.ifmap_filter.specs.declared.progress.OuterPart.{OuterPart}
 use Rattle.ifmap_filter.specs.declared.progress.Operand.{Operand}
 use Rattle.ifmap_filter.specs.declared.progress.Operand.TheVariants as operand
 use Rattle.ifmap_filter.specs.Grammar.{AsksFor, StandsFor, TakesComparison, TakesFactor, TakesOrPart, TakesOrs, and_word, unprefixed_name, depth_limit, or_word, space_of}
-use Rattle.ifmap_filter.specs.Progress.{Closes, Context, FilterState, Start, TestDue, Named, Tested, FactorDue, LocalDue, EqualsDue, LiteralDue, FactorDone, AfterFactor, EqualsFirst, FactorFirst, GoesOn, LiteralFirst, LocalFirst, MoreFactors, MoreTests, PredicateFirst, TestFirst, asks_named, child_named, close_group, close_test, comparison_of, done_part, inner_context, is_word, name_in, open_parts, next_part, step_token, step_done, step_equals, step_factor, step_literal, step_local, step_named, step_test, step_tested, test_of, with_factor}
+use Rattle.ifmap_filter.specs.Progress.{ClosesOpenParts, Context, FilterState, Start, TestDue, Named, Tested, FactorDue, LocalDue, EqualsDue, LiteralDue, FactorDone, AfterFactor, EqualsFirst, FactorFirst, IsFilterFrom, LiteralFirst, LocalFirst, MoreFactors, MoreTests, PredicateFirst, TestFirst, asks_named, child_named, close_group, close_test, comparison_of, done_part, inner_context, is_word, name_in, open_parts, next_part, step_token, step_done, step_equals, step_factor, step_literal, step_local, step_named, step_test, step_tested, test_of, with_factor}
 use Rattle.ifmap_filter.proofs.Continuing.{Refuses, and_more, any_asks, bare_named, name_asks, named, none_asks, not_that_word, or_more, or_part, other_more, started, tested_or, tested_other, unnamed, word_is}
 
 module _ (scope : Scope) where
   -- the step from a place by a token is right: the next place, where so much deeper, or none
   abbrev pub IsRight : ℕ → FilterState → FilterToken → Option FilterState → Type 0
-  IsRight n w t None = (filter : Filter) (more : List FilterToken) → GoesOn scope filter n w (t ∷ more) → ⊥
+  IsRight n w t None = (filter : Filter) (more : List FilterToken) → IsFilterFrom scope filter n w (t ∷ more) → ⊥
   IsRight n w t (Some next) =
       (m : ℕ) × (m + open_parts next ≡ depth_limit)
-      × ((filter : Filter) (more : List FilterToken) → GoesOn scope filter n w (t ∷ more) ↔ GoesOn scope filter m next more)
+      × ((filter : Filter) (more : List FilterToken) → IsFilterFrom scope filter n w (t ∷ more) ↔ IsFilterFrom scope filter m next more)
 
   -- what goes on from one place as from another
   through : (n : ℕ) (w v : FilterState) (t : FilterToken)
-      → ((filter : Filter) (more : List FilterToken) → GoesOn scope filter n w (t ∷ more) ↔ GoesOn scope filter n v (t ∷ more))
+      → ((filter : Filter) (more : List FilterToken) → IsFilterFrom scope filter n w (t ∷ more) ↔ IsFilterFrom scope filter n v (t ∷ more))
       → (o : Option FilterState) → IsRight n v t o → IsRight n w t o
   through n w v t same None right = λ filter more goes. right filter more ((same filter more).0 goes)
   through n w v t same (Some next) (m, e, right) = (
@@ -107,7 +107,7 @@ module _ (scope : Scope) where
         (subst (MoreTests scope filter (done ++ test_of name None ∷ [])) (sym e) rest))
     opens (Some p, mid, (inner, e, takes), rest) =
         let tail : inner ≡ more = cc in
-        (or_part scope depth_limit (Closes scope filter done name depth_limit []) more).0 (
+        (or_part scope depth_limit (ClosesOpenParts scope filter done name depth_limit []) more).0 (
           p,
           CloseBracket ∷ mid,
           subst (λ (ts : List FilterToken). TakesOrPart scope depth_limit ts p (CloseBracket ∷ mid)) tail takes,
@@ -117,7 +117,7 @@ module _ (scope : Scope) where
     opened : FactorFirst scope filter depth_limit (record { tests = done; name = name; outer = []; ors = []; ands = [] }) more
         → PredicateFirst scope filter done name (OpenBracket ∷ more)
     opened first =
-        let part = (or_part scope depth_limit (Closes scope filter done name depth_limit []) more).1 first in
+        let part = (or_part scope depth_limit (ClosesOpenParts scope filter done name depth_limit []) more).1 first in
         let e = part.3.1 in (
           Some part.0,
           part.3.0,
@@ -245,7 +245,7 @@ module _ (scope : Scope) where
     )
 
   abbrev InnerThen : ℕ → Context → Filter → Predicate → List FilterToken → Type 0
-  InnerThen m c filter = Closes scope filter c.tests c.name m (record { ors = c.ors; ands = c.ands } ∷ c.outer)
+  InnerThen m c filter = ClosesOpenParts scope filter c.tests c.name m (record { ors = c.ors; ands = c.ands } ∷ c.outer)
 
   open_inner : (m : ℕ) (c : Context) (filter : Filter) (more : List FilterToken)
       → FactorFirst scope filter (suc m) c (OpenParenthesis ∷ more) ↔ FactorFirst scope filter m (inner_context c) more
@@ -413,7 +413,7 @@ module _ (scope : Scope) where
 
   no_close : (filter : Filter) (tests : List Test) (name : Option element.Name) (n : ℕ) (outer : List OuterPart) (t : FilterToken)
       → t ≢ CloseBracket
-      → t ≢ CloseParenthesis → Refuses scope n (Closes scope filter tests name n outer) t
+      → t ≢ CloseParenthesis → Refuses scope n (ClosesOpenParts scope filter tests name n outer) t
   no_close filter tests name n [] t no_bracket no_parenthesis p more (after, e, rest) =
       no_bracket (same_parts t CloseBracket more after e).0
   no_close filter tests name n (outer_part ∷ outer) t no_bracket no_parenthesis p more (after, e, rest) =
@@ -427,13 +427,13 @@ module _ (scope : Scope) where
     (λ filter more.
         subst (λ (v : Qualified). AfterFactor scope filter n c (Name v ∷ more) ↔ FactorFirst scope filter n (next_part c) more)
         (sym (word_is (codes "or") q is))
-        (or_more scope n (Closes scope filter c.tests c.name n c.outer) c.ors c.ands more
+        (or_more scope n (ClosesOpenParts scope filter c.tests c.name n c.outer) c.ors c.ands more
         (no_close filter c.tests c.name n c.outer or_word (λ e. cc) (λ e. cc)))),
   )
   after_or n c q e no_and false is = λ filter more after.
       no_close filter c.tests c.name n c.outer (Name q) (λ e. cc) (λ e. cc) (done_part c.ors c.ands) more
-      ((other_more scope n (Closes scope filter c.tests c.name n c.outer) c.ors c.ands (Name q) more (not_that_word (codes "and") q no_and)
-      (not_that_word (codes "or") q is)).0 after)
+      ((other_more scope n (ClosesOpenParts scope filter c.tests c.name n c.outer) c.ors c.ands (Name q) more
+      (not_that_word (codes "and") q no_and) (not_that_word (codes "or") q is)).0 after)
 
   after_name : (n : ℕ) (c : Context) (q : Qualified) → n + length c.outer ≡ depth_limit → (b : Bool) → is_word (codes "and") q ≡ b
       → IsRight n (FactorDone c) (Name q)
@@ -444,15 +444,15 @@ module _ (scope : Scope) where
     (λ filter more.
         subst (λ (v : Qualified). AfterFactor scope filter n c (Name v ∷ more) ↔ FactorFirst scope filter n c more)
         (sym (word_is (codes "and") q is))
-        (and_more scope n (Closes scope filter c.tests c.name n c.outer) c.ors c.ands more
+        (and_more scope n (ClosesOpenParts scope filter c.tests c.name n c.outer) c.ors c.ands more
         (no_close filter c.tests c.name n c.outer and_word (λ e. cc) (λ e. cc)))),
   )
   after_name n c q e false is = after_or n c q e is (is_word (codes "or") q) refl
 
   closing : (n : ℕ) (c : Context) (t : FilterToken) → ((q : Qualified) → t ≢ Name q) → (filter : Filter) (more : List FilterToken)
-      → AfterFactor scope filter n c (t ∷ more) ↔ Closes scope filter c.tests c.name n c.outer (done_part c.ors c.ands) (t ∷ more)
+      → AfterFactor scope filter n c (t ∷ more) ↔ ClosesOpenParts scope filter c.tests c.name n c.outer (done_part c.ors c.ands) (t ∷ more)
   closing n c t other filter more =
-      other_more scope n (Closes scope filter c.tests c.name n c.outer) c.ors c.ands t more (other (unprefixed_name (codes "and")))
+      other_more scope n (ClosesOpenParts scope filter c.tests c.name n c.outer) c.ors c.ands t more (other (unprefixed_name (codes "and")))
       (other (unprefixed_name (codes "or")))
 
   module _ (n : ℕ) (tests : List Test) (name : Option element.Name) (ors ands : List Predicate) where
@@ -463,9 +463,8 @@ module _ (scope : Scope) where
         → IsRight n (FactorDone (within outer)) CloseParenthesis (close_group (within outer) outer)
     closes_group [] e = λ filter more after. none filter more ((closing n (within []) CloseParenthesis (λ q e. cc) filter more).0 after)
       where
-        none : (filter : Filter) (more : List FilterToken) → Closes scope filter tests name n [] (done_part ors ands) (CloseParenthesis ∷
-            more)
-            → ⊥
+        none : (filter : Filter) (more : List FilterToken)
+            → ClosesOpenParts scope filter tests name n [] (done_part ors ands) (CloseParenthesis ∷ more) → ⊥
         none filter more (after, f, rest) =
             let wrong : CloseParenthesis ≡ CloseBracket = (same_parts CloseParenthesis CloseBracket more after f).0 in cc
     closes_group (outer_part ∷ outer) e = (
@@ -477,12 +476,12 @@ module _ (scope : Scope) where
       )),
     )
       where
-        to : (filter : Filter) (more : List FilterToken) → Closes scope filter tests name n (outer_part ∷ outer) (done_part ors ands)
-            (CloseParenthesis ∷ more)
-            → MoreFactors scope (suc n) (Closes scope filter tests name (suc n) outer) outer_part.ors
+        to : (filter : Filter) (more : List FilterToken)
+            → ClosesOpenParts scope filter tests name n (outer_part ∷ outer) (done_part ors ands) (CloseParenthesis ∷ more)
+            → MoreFactors scope (suc n) (ClosesOpenParts scope filter tests name (suc n) outer) outer_part.ors
             (outer_part.ands ++ done_part ors ands ∷ []) more
         to filter more (after, f, rest) =
-            subst (MoreFactors scope (suc n) (Closes scope filter tests name (suc n) outer) outer_part.ors
+            subst (MoreFactors scope (suc n) (ClosesOpenParts scope filter tests name (suc n) outer) outer_part.ors
             (outer_part.ands ++ done_part ors ands ∷ []))
             (sym (same_parts CloseParenthesis CloseParenthesis more after f).1) rest
 
@@ -497,7 +496,8 @@ module _ (scope : Scope) where
       )),
     )
       where
-        to : (filter : Filter) (more : List FilterToken) → Closes scope filter tests name n [] (done_part ors ands) (CloseBracket ∷ more)
+        to : (filter : Filter) (more : List FilterToken)
+            → ClosesOpenParts scope filter tests name n [] (done_part ors ands) (CloseBracket ∷ more)
             → MoreTests scope filter (tests ++ test_of name (Some (done_part ors ands)) ∷ []) more
         to filter more (after, f, rest) =
             subst (MoreTests scope filter (tests ++ test_of name (Some (done_part ors ands)) ∷ []))
@@ -505,8 +505,8 @@ module _ (scope : Scope) where
     closes_test (outer_part ∷ outer) e =
         λ filter more after. none filter more ((closing n (within (outer_part ∷ outer)) CloseBracket (λ q e. cc) filter more).0 after)
       where
-        none : (filter : Filter) (more : List FilterToken) → Closes scope filter tests name n (outer_part ∷ outer) (done_part ors ands)
-            (CloseBracket ∷ more) → ⊥
+        none : (filter : Filter) (more : List FilterToken)
+            → ClosesOpenParts scope filter tests name n (outer_part ∷ outer) (done_part ors ands) (CloseBracket ∷ more) → ⊥
         none filter more (after, f, rest) =
             let wrong : CloseBracket ≡ CloseParenthesis = (same_parts CloseBracket CloseParenthesis more after f).0 in cc
 

@@ -4,19 +4,22 @@ use Rattle.ifmap_prefixes.specs.ifmap_reader.declared.scoping.Scope.{Scope}
 use Rattle.ifmap_filter.specs.declared.filters.Filter.{Filter}
 use Rattle.ifmap_filter.specs.Printing.{CanBeParsed, IsAnsweredBack, NestsNoDeeper, WritesBack, filter_text}
 use Rattle.ifmap_filter.specs.Spaces.{HasSpaces}
-use Rattle.ifmap_filter.specs.Texts.{StopsAt, Writes}
+use Rattle.ifmap_filter.specs.Texts.{StopsAt, WritesFilter}
 
 -- it writes a filter, or stops to write one
 abbrev pub FilterOrStop : Type 0
 FilterOrStop =
-    (text : List ℕ) (scope : Scope) → IsUtf8 text → ((filter : Filter) × Writes text scope filter) ⊎ ((at : ℕ) × StopsAt text scope at)
+    (text : List ℕ) (scope : Scope) → IsUtf8 text
+    → ((filter : Filter) × WritesFilter text scope filter) ⊎ ((at : ℕ) × StopsAt text scope at)
 
 -- where it stops to write a filter, it writes none
 abbrev pub StopsWhereNone : Type 0
-StopsWhereNone = (text : List ℕ) (scope : Scope) (at : ℕ) → StopsAt text scope at → (filter : Filter) → Writes text scope filter → ⊥
+StopsWhereNone = (text : List ℕ) (scope : Scope) (at : ℕ) → StopsAt text scope at → (filter : Filter) → WritesFilter text scope filter → ⊥
 
 abbrev pub OneFilter : Type 0
-OneFilter = (text : List ℕ) (scope : Scope) (filter other : Filter) → Writes text scope filter → Writes text scope other → filter ≡ other
+OneFilter =
+    (text : List ℕ) (scope : Scope) (filter other : Filter) → WritesFilter text scope filter → WritesFilter text scope other
+    → filter ≡ other
 
 abbrev pub OnePlace : Type 0
 OnePlace = (text : List ℕ) (scope : Scope) (at other : ℕ) → StopsAt text scope at → StopsAt text scope other → at ≡ other

@@ -16,7 +16,7 @@ use Rattle.ifmap_filter.specs.declared.filters.Filter.{Filter}
 use Rattle.ifmap_filter.specs.declared.printing.Around.{Around}
 use Rattle.ifmap_filter.specs.declared.printing.Around.TheVariants.{Brackets, Ands, Ors}
 use Rattle.ifmap_filter.specs.Grammar.{depth_limit}
-use Rattle.ifmap_filter.specs.Texts.{IsParsed, Writes, WritesWithin}
+use Rattle.ifmap_filter.specs.Texts.{IsParsed, WritesFilter, WritesFilterWithin}
 
 -- the prefix with that number: `f1`, `f2` and so on
 abbrev pub numbered_prefix : ℕ → List ℕ
@@ -108,19 +108,19 @@ pub record CanBeParsedWithin (depth : ℕ) (filter : Filter) : Type 0 where
   pub text : List ℕ
   pub scope : Scope
   pub is_text : IsUtf8 text
-  pub writes : WritesWithin depth text scope filter
+  pub writes : WritesFilterWithin depth text scope filter
 
 abbrev pub CanBeParsed : Filter → Type 0
 CanBeParsed = CanBeParsedWithin depth_limit
 
 -- the text writes the filter where the namespaces have the prefixes `f1`, `f2` and so on, if some text in some scope does
 abbrev pub WritesBack : List ℕ → List (List ℕ) → Filter → Type 0
-WritesBack text spaces filter = CanBeParsed filter → Writes text (numbered_scope spaces) filter
+WritesBack text spaces filter = CanBeParsed filter → WritesFilter text (numbered_scope spaces) filter
 
 -- and then its parentheses nest no deeper than those of that text
 abbrev pub NestsNoDeeper : List ℕ → List (List ℕ) → Filter → Type 0
 NestsNoDeeper text spaces filter =
-    (depth : ℕ) → CanBeParsedWithin depth filter → WritesWithin depth text (numbered_scope spaces) filter
+    (depth : ℕ) → CanBeParsedWithin depth filter → WritesFilterWithin depth text (numbered_scope spaces) filter
 
 -- what `parse` answers of the text in that scope: the filter, unless there is no memory for it
 abbrev pub IsAnsweredBack : List ℕ → List (List ℕ) → Filter → Type 0

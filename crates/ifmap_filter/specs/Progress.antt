@@ -1,7 +1,7 @@
 -- Where a reader of filters stands, how a filter goes on from there, and what one more token makes of it.
 -- 1. The place (`FilterState`), with the open or-part and what is round it (`Context`), and what the code keeps of both.
 -- 2. What is made of parts that are done: joined parts, a comparison, a test.
--- 3. How a whole filter goes on from each place, over the tokens that are left (`GoesOn`), and how deep a place is.
+-- 3. How a whole filter goes on from each place, over the tokens that are left (`IsFilterFrom`), and how deep a place is.
 -- 4. One more token, place by place (`step_test` to `step_done`), with what opens and closes parentheses and brackets.
 -- 5. All together, by the place (`step_token`), and where a filter may end.
 use Rattle.std.specs.Prelude.{◌≡◌, ◌&&◌, ℕ, suc, Bool, true, false, if◌then◌else◌, nat_lt, List, [], ◌∷◌, ◌++◌, codes, length, reverse, Option, Some, None}
@@ -115,16 +115,16 @@ module _ (scope : Scope) (filter : Filter) where
       × MoreTests (done ++ test_of name p ∷ []) mid
 
   -- after an or-part, whose own parentheses may nest so deep
-  abbrev pub Closes : List Test → Option element.Name → ℕ → List OuterPart → Predicate → List FilterToken → Type 0
-  Closes done name n [] p ts = (after : List FilterToken) × (ts ≡ CloseBracket ∷ after)
+  abbrev pub ClosesOpenParts : List Test → Option element.Name → ℕ → List OuterPart → Predicate → List FilterToken → Type 0
+  ClosesOpenParts done name n [] p ts = (after : List FilterToken) × (ts ≡ CloseBracket ∷ after)
       × MoreTests (done ++ test_of name (Some p) ∷ []) after
-  Closes done name n (outer_part ∷ outer) p ts =
+  ClosesOpenParts done name n (outer_part ∷ outer) p ts =
       (after : List FilterToken) × (ts ≡ CloseParenthesis ∷ after)
-      × MoreFactors scope (suc n) (Closes done name (suc n) outer) outer_part.ors (outer_part.ands ++ p ∷ []) after
+      × MoreFactors scope (suc n) (ClosesOpenParts done name (suc n) outer) outer_part.ors (outer_part.ands ++ p ∷ []) after
 
   -- after a factor in this context, of which parentheses may nest n deep
   abbrev pub AfterFactor : ℕ → Context → List FilterToken → Type 0
-  AfterFactor n c ts = MoreFactors scope n (Closes c.tests c.name n c.outer) c.ors c.ands ts
+  AfterFactor n c ts = MoreFactors scope n (ClosesOpenParts c.tests c.name n c.outer) c.ors c.ands ts
 
   abbrev pub FactorFirst : ℕ → Context → List FilterToken → Type 0
   FactorFirst n c ts = (p : Predicate) × (mid : List FilterToken) × TakesFactor scope n ts p mid × AfterFactor n (with_factor c p) mid
@@ -143,16 +143,16 @@ module _ (scope : Scope) (filter : Filter) where
       × EqualsFirst n c (operand.Attribute local) rest
 
   -- from where a reader stands, where in the innermost or-part parentheses may nest n deep
-  abbrev pub GoesOn : ℕ → FilterState → List FilterToken → Type 0
-  GoesOn n Start ts = IsFilter scope ts filter
-  GoesOn n (TestDue done) ts = TestFirst done ts
-  GoesOn n (Named done name) ts = PredicateFirst done name ts
-  GoesOn n (Tested done) ts = MoreTests done ts
-  GoesOn n (FactorDue c) ts = FactorFirst n c ts
-  GoesOn n (LocalDue c) ts = LocalFirst n c ts
-  GoesOn n (EqualsDue c a) ts = EqualsFirst n c a ts
-  GoesOn n (LiteralDue c a) ts = LiteralFirst n c a ts
-  GoesOn n (FactorDone c) ts = AfterFactor n c ts
+  abbrev pub IsFilterFrom : ℕ → FilterState → List FilterToken → Type 0
+  IsFilterFrom n Start ts = IsFilter scope ts filter
+  IsFilterFrom n (TestDue done) ts = TestFirst done ts
+  IsFilterFrom n (Named done name) ts = PredicateFirst done name ts
+  IsFilterFrom n (Tested done) ts = MoreTests done ts
+  IsFilterFrom n (FactorDue c) ts = FactorFirst n c ts
+  IsFilterFrom n (LocalDue c) ts = LocalFirst n c ts
+  IsFilterFrom n (EqualsDue c a) ts = EqualsFirst n c a ts
+  IsFilterFrom n (LiteralDue c a) ts = LiteralFirst n c a ts
+  IsFilterFrom n (FactorDone c) ts = AfterFactor n c ts
 
 -- how many or-parts are round the open one
 abbrev pub open_parts : FilterState → ℕ

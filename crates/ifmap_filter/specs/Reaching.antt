@@ -7,7 +7,7 @@ use Rattle.ifmap_filter.specs.declared.errors.FilterError.TheVariants.{NotAFilte
 use Rattle.ifmap_filter.specs.declared.filters.Filter.{Filter}
 use Rattle.ifmap_filter.specs.declared.tokens.FilterToken.{FilterToken}
 use Rattle.ifmap_filter.specs.Grammar.{IsFilter, depth_limit}
-use Rattle.ifmap_filter.specs.Progress.{GoesOn, FilterState, open_parts, step_token, filter_at}
+use Rattle.ifmap_filter.specs.Progress.{IsFilterFrom, FilterState, open_parts, step_token, filter_at}
 use Rattle.ifmap_filter.specs.Tokens.{Takes, front_token, token_at, without_white}
 
 -- after the tokens before these characters a reader stands there: what is a filter after them is what goes on from there
@@ -16,7 +16,7 @@ pub record ReadsTo (text : List ℕ) (scope : Scope) (w : FilterState) (cs : Lis
   pub room : ℕ
   pub room_is : room + open_parts w ≡ depth_limit
   pub lexed : To Takes (chars text) tokens cs
-  pub goes : (filter : Filter) (more : List FilterToken) → IsFilter scope (tokens ++ more) filter ↔ GoesOn scope filter room w more
+  pub goes : (filter : Filter) (more : List FilterToken) → IsFilter scope (tokens ++ more) filter ↔ IsFilterFrom scope filter room w more
 
 -- the same where this is left after white space, no longer than the text
 pub record ReachesWhite (text : List ℕ) (scope : Scope) (w : FilterState) (rest : List ℕ) : Type 0 where

@@ -10,7 +10,7 @@ use Rattle.ifmap_filter.specs.Grammar.{IsFilter, IsFilterWithin, depth_limit}
 use Rattle.ifmap_filter.specs.Tokens.{HasNoToken, Takes, without_white}
 
 -- the text is tokens, and the tokens are this filter, with parentheses that nest at most so deep
-pub record WritesWithin (depth : ℕ) (text : List ℕ) (scope : Scope) (filter : Filter) : Type 0 where
+pub record WritesFilterWithin (depth : ℕ) (text : List ℕ) (scope : Scope) (filter : Filter) : Type 0 where
   pub tokens : List FilterToken
   pub rest : List ℕ
   pub lexed : To Takes (chars text) tokens rest
@@ -18,8 +18,8 @@ pub record WritesWithin (depth : ℕ) (text : List ℕ) (scope : Scope) (filter 
   pub filter_is : IsFilterWithin depth scope tokens filter
 
 -- the text writes this filter
-abbrev pub Writes : List ℕ → Scope → Filter → Type 0
-Writes = WritesWithin depth_limit
+abbrev pub WritesFilter : List ℕ → Scope → Filter → Type 0
+WritesFilter = WritesFilterWithin depth_limit
 
 -- some filter begins with these tokens
 pub record BeginsFilter (scope : Scope) (ts : List FilterToken) : Type 0 where
@@ -44,6 +44,6 @@ pub record StopsAt (text : List ℕ) (scope : Scope) (at : ℕ) : Type 0 where
 
 -- what reading the text answers
 abbrev pub IsParsed : List ℕ → Scope → Result Filter FilterError → Type 0
-IsParsed text scope (Ok filter) = Writes text scope filter
+IsParsed text scope (Ok filter) = WritesFilter text scope filter
 IsParsed text scope (Err (NotAFilter at)) = StopsAt text scope at
 IsParsed text scope (Err NoMemory) = Unit {0}

@@ -8,7 +8,7 @@ use Rattle.ifmap_elem.specs.Chars.{is_white}
 use Rattle.ifmap_elem.specs.declared.elements.Element.{Element}
 use Rattle.ifmap_ident.specs.ifmap_reader.declared.scoping.Scope.{Scope}
 use Rattle.ifmap_filter.specs.declared.filters.Filter.{Filter}
-use Rattle.ifmap_filter.specs.Texts.{Writes}
+use Rattle.ifmap_filter.specs.Texts.{WritesFilter}
 use Rattle.ifmap_filter.specs.Tokens.{without_white}
 use Rattle.ifmap_ident.specs.declared.codes.Code.{Code}
 use Rattle.ifmap_ident.specs.declared.codes.Code.TheVariants.{Failure, InvalidIdentifierType}
@@ -118,11 +118,11 @@ lifetime_field = record { local = codes "lifetime"; reads = λ scope. read_lifet
 
 -- the text is no filter, where names have the prefixes in scope at its element
 abbrev pub FilterDefect : Code → Scope → List ℕ → Type 0
-FilterDefect Failure scope text = (filter : Filter) → Writes text scope filter → ⊥
+FilterDefect Failure scope text = (filter : Filter) → WritesFilter text scope filter → ⊥
 FilterDefect _ scope text = ⊥
 
 abbrev pub filter_check : Scope → List ℕ → Check Filter
-filter_check scope text (Ok filter) = Writes text scope filter
+filter_check scope text (Ok filter) = WritesFilter text scope filter
 filter_check scope text (Err code) = FilterDefect code scope text
 
 abbrev pub read_filter : Scope → Option (List ℕ) → Check (Option Filter)

@@ -20,7 +20,7 @@ use Rattle.ifmap_elem.specs.declared.elements.Element.{Element}
 use Rattle.ifmap_ident.specs.ifmap_reader.declared.scoping.Scope.{Scope}
 use Rattle.ifmap_forms.specs.ifmap_filter.declared.filters.Filter.{Filter}
 use Rattle.ifmap_forms.specs.ifmap_filter.Laws.{FilterOrStop, StopsWhereNone}
-use Rattle.ifmap_forms.specs.ifmap_filter.Texts.{StopsAt, Writes}
+use Rattle.ifmap_forms.specs.ifmap_filter.Texts.{StopsAt, WritesFilter}
 use Rattle.ifmap_ident.specs.declared.codes.Code.TheVariants.{Failure, InvalidIdentifierType}
 use Rattle.ifmap_ident.specs.declared.codes.Code.TheVariants.{InvalidMetadata, InvalidSchemaVersion, MetadataTooLong}
 use Rattle.ifmap_ident.specs.Parts.{has_only, value_of}
@@ -163,7 +163,7 @@ kinds_done scope (Some text) is =
     if_done (list_all is_white text) (pass []) (kinds_check (pieces_of text)) (pass_done []) (pieces_done (pieces_of text))
 
 module _ (decided : FilterOrStop) (apart : StopsWhereNone) where
-  filter_found : (scope : Scope) (text : List ℕ) → ((filter : Filter) × Writes text scope filter) ⊎ ((at : ℕ) × StopsAt text scope at)
+  filter_found : (scope : Scope) (text : List ℕ) → ((filter : Filter) × WritesFilter text scope filter) ⊎ ((at : ℕ) × StopsAt text scope at)
       → IsConclusive (filter_check scope text)
   filter_found scope text (inl w) = (Ok w.0, w.1)
   filter_found scope text (inr stops) = (Err Failure, apart text scope stops.0 stops.1)

@@ -37,7 +37,7 @@ use Rattle.ifmap_forms.specs.ifmap_filter.declared.tokens.FilterToken.TheVariant
 use Rattle.ifmap_forms.specs.ifmap_filter.declared.tokens.FilterToken.TheVariants.{EqualsSign, At, Name, Literal}
 use Rattle.ifmap_forms.specs.ifmap_filter.Grammar.{AreTests, AsksFor, Rule, StandsFor, TakesAnds, TakesComparison, TakesFactor, TakesGroup, TakesJoined}
 use Rattle.ifmap_forms.specs.ifmap_filter.Grammar.{TakesMore, TakesOrs, TakesPredicate, TakesTest, and_word, join_of, or_word, space_of}
-use Rattle.ifmap_forms.specs.ifmap_filter.Texts.{Writes}
+use Rattle.ifmap_forms.specs.ifmap_filter.Texts.{WritesFilter}
 use Rattle.ifmap_forms.specs.ifmap_filter.Tokens.{FrontToken, Takes, after_while, closed_literal, front_token, front_while}
 use Rattle.ifmap_forms.specs.ifmap_filter.Tokens.{literal_at, name_at, name_from, name_token, part_bytes, prefixed_name_at, symbol_of, token_at}
 use Rattle.ifmap_forms.specs.ifmap_filter.Tokens.{with_symbol, without_white}
@@ -335,7 +335,7 @@ module _ (scope : Scope) (s : IsFitScope scope) where
 
   -- ---- (5) the filter
 
-  pub filter_fit : (text : List ℕ) (filter : Filter) → IsCharacters text → Writes text scope filter → IsFitFilter filter
+  pub filter_fit : (text : List ℕ) (filter : Filter) → IsCharacters text → WritesFilter text scope filter → IsFitFilter filter
   filter_fit text filter is w = record {
     tests = tests_fit _ w.tokens filter.tests (tokens_fit (chars text) w.tokens w.rest (are_characters text is) w.lexed) w.filter_is;
     written = record { text = text; scope = scope; is_text = characters_are_utf8 text is; writes = w };

@@ -13,7 +13,7 @@ use Rattle.ifmap_elem.specs.declared.elements.Element.{Element}
 use Rattle.ifmap_ident.specs.ifmap_reader.declared.scoping.Scope.{Scope}
 use Rattle.ifmap_forms.specs.ifmap_filter.declared.filters.Filter.{Filter}
 use Rattle.ifmap_forms.specs.ifmap_filter.Laws.{OneFilter}
-use Rattle.ifmap_forms.specs.ifmap_filter.Texts.{Writes}
+use Rattle.ifmap_forms.specs.ifmap_filter.Texts.{WritesFilter}
 use Rattle.ifmap_ident.specs.declared.codes.Code.{Code}
 use Rattle.ifmap_ident.specs.declared.codes.Code.TheVariants.{AccessDenied, Failure, InvalidIdentifier, InvalidIdentifierType}
 use Rattle.ifmap_ident.specs.declared.codes.Code.TheVariants.{IdentifierTooLong, InvalidMetadata, InvalidSchemaVersion, InvalidSessionID}
@@ -108,7 +108,7 @@ defect_is_failure PollResultsTooBig scope text d = absurd d
 defect_is_failure SystemError scope text d = absurd d
 
 module _ (one_filter : OneFilter) where
-  filter_and_defect : (scope : Scope) (text : List ℕ) (filter : Filter) (code : Code) → Writes text scope filter
+  filter_and_defect : (scope : Scope) (text : List ℕ) (filter : Filter) (code : Code) → WritesFilter text scope filter
       → FilterDefect code scope text → ⊥
   filter_and_defect scope text filter code w d =
       let none : FilterDefect Failure scope text =

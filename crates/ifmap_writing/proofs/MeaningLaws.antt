@@ -19,7 +19,7 @@ use Rattle.ifmap_filter.specs.declared.filters.Filter.{Filter}
 use Rattle.ifmap_filter.specs.Laws.{PrintedIsParsedBack}
 use Rattle.ifmap_filter.specs.Printing.{filter_text, numbered_scope}
 use Rattle.ifmap_filter.specs.Spaces.{ListedServeEach}
-use Rattle.ifmap_filter.specs.Texts.{Writes}
+use Rattle.ifmap_filter.specs.Texts.{WritesFilter}
 use Rattle.ifmap_ident.specs.declared.identifiers.Identifier.{Identifier}
 use Rattle.ifmap_ident.specs.Canon.{IsCanon, IsIdentifier}
 use Rattle.ifmap_ident.specs.Identifiers.{identifier_element}
@@ -51,7 +51,7 @@ use Rattle.ifmap_writing.proofs.WrittenLaws.{envelope_sound, spaces_declarable}
 module _ (parsed : PrintedIsParsedBack) (spaces : List (List ℕ)) where
   -- what is written in the prefixes of these namespaces is written in this scope
   abbrev Holds : Scope → Type 0
-  Holds scope = (text : List ℕ) (filter : Filter) → Writes text (numbered_scope spaces) filter → Writes text scope filter
+  Holds scope = (text : List ℕ) (filter : Filter) → WritesFilter text (numbered_scope spaces) filter → WritesFilter text scope filter
 
   module _ (scope : Scope) (holds : Holds scope) where
     filter_read : (filter : Option Filter) → ServeFilter spaces filter → MayBeFitFilter filter → IsReadIn spaces filter scope

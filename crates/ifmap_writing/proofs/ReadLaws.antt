@@ -17,7 +17,7 @@ use Rattle.ifmap_elem.specs.laws.ChildElements.{as_parts, parts_are}
 use Rattle.ifmap_ident.specs.ifmap_reader.declared.scoping.Scope.{Scope}
 use Rattle.ifmap_filter.specs.declared.filters.Filter.{Filter}
 use Rattle.ifmap_filter.specs.Printing.{filter_text}
-use Rattle.ifmap_filter.specs.Texts.{Writes}
+use Rattle.ifmap_filter.specs.Texts.{WritesFilter}
 use Rattle.ifmap_ident.specs.declared.codes.Code.{Code}
 use Rattle.ifmap_ident.specs.declared.codes.Code.TheVariants.{Failure}
 use Rattle.ifmap_ident.specs.declared.identifiers.Identifier.{Identifier}
@@ -73,7 +73,7 @@ good x = Ok x
 
 -- in this scope the filter that is printed in these prefixes is read back
 abbrev pub IsReadIn : List (List ℕ) → Option Filter → Scope → Type 0
-IsReadIn spaces filter scope = IfSome filter (λ f. Writes (filter_text spaces f) scope f)
+IsReadIn spaces filter scope = IfSome filter (λ f. WritesFilter (filter_text spaces f) scope f)
 
 pub record AreReadIn (spaces : List (List ℕ)) (s : search.Search) (scope : Scope) : Type 0 where
   pub match_links : IsReadIn spaces s.match_links scope

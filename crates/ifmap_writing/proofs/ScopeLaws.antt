@@ -22,7 +22,7 @@ use Rattle.ifmap_ident.specs.ifmap_reader.declared.scoping.Scope.{Scope}
 use Rattle.ifmap_filter.specs.declared.filters.Filter.{Filter}
 use Rattle.ifmap_filter.specs.Grammar.{StandsFor, space_of}
 use Rattle.ifmap_filter.specs.Printing.{numbered_prefix, numbered_rows, numbered_scope}
-use Rattle.ifmap_filter.specs.Texts.{Writes}
+use Rattle.ifmap_filter.specs.Texts.{WritesFilter}
 use Rattle.ifmap_requests.specs.ifmap_forms.Scopes.{scopes_by}
 use Rattle.ifmap_writing.proofs.WiderLaws.{writes_in}
 
@@ -159,5 +159,6 @@ module _ (own spaces : List (List ℕ)) where
         record { space_is = space_there q.prefix name.space stands.space_is; local_is = stands.local_is }
 
     -- what is written in the prefixes of these namespaces is written in the scope there
-    pub written_there : (text : List ℕ) (filter : Filter) → Writes text (numbered_scope spaces) filter → Writes text there filter
+    pub written_there : (text : List ℕ) (filter : Filter) → WritesFilter text (numbered_scope spaces) filter
+        → WritesFilter text there filter
     written_there = writes_in (numbered_scope spaces) there stands_there

@@ -10,7 +10,7 @@ use Rattle.ifmap_filter.specs.declared.tokens.FilterToken.{FilterToken}
 use Rattle.ifmap_filter.specs.declared.tokens.FilterToken.TheVariants.{CloseBracket, CloseParenthesis}
 use Rattle.ifmap_filter.specs.Grammar.{AreTests, AsksFor, Rule, StandsFor, TakesAnds, TakesComparison, TakesFactor, TakesJoined, TakesMore}
 use Rattle.ifmap_filter.specs.Grammar.{TakesOrs, TakesPredicate, TakesTest, and_word, depth_limit, or_word}
-use Rattle.ifmap_filter.specs.Texts.{Writes}
+use Rattle.ifmap_filter.specs.Texts.{WritesFilter}
 
 more_in : {X : Type 0} (word : FilterToken) (Part Other : Rule X) → ((ts : List FilterToken) (x : X) (rest : List FilterToken)
     → Part ts x rest
@@ -87,7 +87,7 @@ module _ (one other : Scope) (wider : (q : Qualified) (name : element.Name) → 
     more_in or_word (TakesTest one depth) (TakesTest other depth) (test_in depth) h.0 tests [] h.2,
   )
 
-  pub writes_in : (text : List ℕ) (filter : Filter) → Writes text one filter → Writes text other filter
+  pub writes_in : (text : List ℕ) (filter : Filter) → WritesFilter text one filter → WritesFilter text other filter
   writes_in text filter w = record {
     tokens = w.tokens;
     rest = w.rest;
