@@ -1,5 +1,6 @@
 -- Canonical bytes tell identifiers apart: those of two kinds by the names of their elements, and those of one kind part by part.
 use Rattle.std.proofs.Common.{◌≡◌, ℕ, ◌<◌, cond, nat_eq, get_or, List, ◌∷◌, ◌++◌, codes, drop, refl, ap, sym, ◌∙◌, arith}
+use Rattle.std.specs.Str.{byte}
 use Rattle.ifmap_addresses.specs.IpV4.{ip_v4_text}
 use Rattle.ifmap_addresses.specs.IpV4Laws.{ip_v4_tells}
 use Rattle.ifmap_addresses.specs.IpV6.{ip_v6_text}
@@ -11,6 +12,7 @@ use Rattle.ifmap_ident.specs.declared.identifiers.Identifier.{Identifier}
 use Rattle.ifmap_ident.specs.declared.identifiers.Identifier.TheVariants.{AccessRequest, Device, Identity, IpV4, IpV6, MacAddress}
 use Rattle.ifmap_ident.specs.declared.kinds.IdentityType.{IdentityType}
 use Rattle.ifmap_ident.specs.declared.kinds.IdentityType.TheVariants.{AikName, DistinguishedName, DnsName, EmailAddress, HipHit, KerberosPrincipal, Username, SipUri, TelUri, Other}
+use Rattle.ifmap_elem.specs.Chars.{space_character}
 use Rattle.ifmap_elem.specs.declared.escaping.TextPlace.TheVariants.{Value, Content}
 use Rattle.ifmap_ident.specs.Identifiers.{identifier_bytes}
 use Rattle.ifmap_ident.specs.Kinds.{identity_type_name}
@@ -25,9 +27,9 @@ use Rattle.ifmap_ident.proofs.KindLaws.{types_are_one}
 -- by the first two letters of their names
 type_of : ℕ → ℕ → IdentityType
 type_of first second =
-    cond (nat_eq first 97) AikName (cond (nat_eq first 100) (cond (nat_eq second 105) DistinguishedName DnsName)
-    (cond (nat_eq first 101) EmailAddress (cond (nat_eq first 104) HipHit (cond (nat_eq first 107) KerberosPrincipal
-    (cond (nat_eq first 117) Username (cond (nat_eq first 115) SipUri (cond (nat_eq first 116) TelUri Other)))))))
+    cond (nat_eq first (byte "a")) AikName (cond (nat_eq first (byte "d")) (cond (nat_eq second (byte "i")) DistinguishedName DnsName)
+    (cond (nat_eq first (byte "e")) EmailAddress (cond (nat_eq first (byte "h")) HipHit (cond (nat_eq first (byte "k")) KerberosPrincipal
+    (cond (nat_eq first (byte "u")) Username (cond (nat_eq first (byte "s")) SipUri (cond (nat_eq first (byte "t")) TelUri Other)))))))
 
 abbrev by_letters : List ℕ → IdentityType
 by_letters name = type_of (get_or name 0 0) (get_or name 1 0)
@@ -49,7 +51,7 @@ type_of_name Other = refl
 
 -- the domain, and then an attribute whose name begins with this letter
 domain_alike : (letter : ℕ) (d e s t : List ℕ) → 97 < letter
-    → domain_written d ++ (32 ∷ (letter ∷ s)) ≡ domain_written e ++ (32 ∷ (letter ∷ t)) → (d ≡ e) × (s ≡ t)
+    → domain_written d ++ (space_character ∷ (letter ∷ s)) ≡ domain_written e ++ (space_character ∷ (letter ∷ t)) → (d ≡ e) × (s ≡ t)
 domain_alike letter d e s t h = optional_alike 97 letter (codes "dministrative-domain") d e s t h
 
 access_requests_alike : (n d m e : List ℕ) → identifier_written (AccessRequest n d) ≡ identifier_written (AccessRequest m e)
@@ -68,7 +70,7 @@ abbrev type_end : IdentityType → List ℕ
 type_end k = codes "ype=\"" ++ (closed_text Value (identity_type_name k) ++ codes "/>")
 
 abbrev other_end : List ℕ → IdentityType → List ℕ
-other_end u k = optional_written (codes "other-type-definition") u ++ (32 ∷ (116 ∷ type_end k))
+other_end u k = optional_written (codes "other-type-definition") u ++ (space_character ∷ (byte "t" ∷ type_end k))
 
 identities_alike : (n : List ℕ) (k : IdentityType) (u d m : List ℕ) (l : IdentityType) (v e : List ℕ)
     → identifier_written (Identity n k u d) ≡ identifier_written (Identity m l v e) → Identity n k u d ≡ Identity m l v e

@@ -3,15 +3,17 @@
 -- 2. What is written for a byte, or for the end, is a piece; no piece goes on from another, so two pieces lead as they compare.
 -- 3. A piece tells the byte that it is written for, so pieces of two bytes differ.
 -- 4. So texts lead as the pieces at the first place where they differ, and texts that are written alike are one.
-use Rattle.std.proofs.Common.{◌≡◌, ℕ, zero, suc, List, [], ◌∷◌, ◌++◌, true, false, not, nat_eq, cond, Option, None, Some, take, refl, ap, sym, ◌∙◌, subst, append_assoc, eq-eqb, inl, inr, ◌⊎◌}
+use Rattle.std.proofs.Common.{◌≡◌, ℕ, zero, suc, List, [], ◌∷◌, ◌++◌, codes, true, false, not, nat_eq, cond, Option, None, Some, take, refl, ap, sym, ◌∙◌, subst, append_assoc, eq-eqb, inl, inr, ◌⊎◌}
 use Rattle.std.proofs.lemmas.Bool.{and_parts, cases_Bool, cases_eq}
 use Rattle.std.proofs.lemmas.Map.Lookups.{exact_bytes}
 use Rattle.std.specs.Cmp.{Equal-is}
 use Rattle.std.specs.Cmp.Lexicographic.{slice_cmp}
 use Rattle.std.specs.List.{list_all, slice_get}
 use Rattle.std.specs.Ordering.{is_eq, nat_cmp}
+use Rattle.std.specs.Str.{byte}
 use Rattle.std.specs.declared.cmp.Ordering.{Ordering}
 use Rattle.ifmap_lemmas.specs.Numbers.{is_other}
+use Rattle.ifmap_elem.specs.Chars.{ampersand, carriage_return, double_quote, greater_than, less_than, line_feed, semicolon, tab}
 use Rattle.ifmap_elem.specs.Escapes.{text_byte, value_byte}
 use Rattle.ifmap_ident.specs.Leading.{FrontsCompare}
 use Rattle.ifmap_ident.specs.Written.{closed_text, end_byte, placed_byte, placed_bytes, written_byte}
@@ -22,7 +24,7 @@ use Rattle.ifmap_ident.proofs.LeadingLaws.{Parted, leads_after, leads_decided, l
 -- a byte that stands for itself
 pub record IsPlain (place : TextPlace) (b : ℕ) : Type 0 where
   pub written : placed_byte place b ≡ b ∷ []
-  pub no_ampersand : nat_eq b 38 ≡ false
+  pub no_ampersand : nat_eq b ampersand ≡ false
   pub no_end : nat_eq b (end_byte place) ≡ false
 
 -- a claim on a byte, where it is c and where it is not
@@ -30,57 +32,58 @@ unless : (P : ℕ → Type 0) (b c : ℕ) → P c → (nat_eq b c ≡ false → 
 unless P b c there other = elim (cases_eq b c) [ inl e ↦ subst P (sym e) there | inr n ↦ other (is_other b c n) ]
 
 -- a claim on all bytes, from those that are references and those that stand for themselves
-each_byte : (place : TextPlace) (P : ℕ → Type 0) → P 38 → P 60 → P 62 → P 34 → P 9 → P 10 → P 13 → ((b : ℕ) → IsPlain place b → P b)
-    → (b : ℕ) → P b
-each_byte Value P ampersand less greater quote tab feed return plain b =
-    unless P b 38 ampersand (λ a.
-    unless P b 60 less (λ l.
-    unless P b 34 quote (λ q.
-    unless P b 9 tab (λ t.
-    unless P b 10 feed (λ f.
-    unless P b 13 return (λ r.
+each_byte : (place : TextPlace) (P : ℕ → Type 0) → P ampersand → P less_than → P greater_than → P double_quote → P tab → P line_feed
+    → P carriage_return → ((b : ℕ) → IsPlain place b → P b) → (b : ℕ) → P b
+each_byte Value P at_ampersand at_less at_greater at_quote at_tab at_feed at_return plain b =
+    unless P b ampersand at_ampersand (λ a.
+    unless P b less_than at_less (λ l.
+    unless P b double_quote at_quote (λ q.
+    unless P b tab at_tab (λ t.
+    unless P b line_feed at_feed (λ f.
+    unless P b carriage_return at_return (λ r.
     plain b (record { written = rw (a, l, q, t, f, r) refl; no_ampersand = a; no_end = q })))))))
-each_byte Content P ampersand less greater quote tab feed return plain b =
-    unless P b 38 ampersand (λ a.
-    unless P b 60 less (λ l.
-    unless P b 62 greater (λ g.
-    unless P b 13 return (λ r.
+each_byte Content P at_ampersand at_less at_greater at_quote at_tab at_feed at_return plain b =
+    unless P b ampersand at_ampersand (λ a.
+    unless P b less_than at_less (λ l.
+    unless P b greater_than at_greater (λ g.
+    unless P b carriage_return at_return (λ r.
     plain b (record { written = rw (a, l, g, r) refl; no_ampersand = a; no_end = l })))))
 
 -- ---- no piece goes on from another
 
 -- a byte but `&`, or `&` and what follows up to the first `;`
 abbrev IsPiece : List ℕ → Type 0
-IsPiece p = ((b : ℕ) × (p ≡ b ∷ []) × (nat_eq b 38 ≡ false)) ⊎ ((name : List ℕ) × (p ≡ 38 ∷ (name ++ (59 ∷ [])))
-    × (list_all (λ b. not (nat_eq b 59)) name ≡ true))
+IsPiece p = ((b : ℕ) × (p ≡ b ∷ []) × (nat_eq b ampersand ≡ false))
+    ⊎ ((name : List ℕ) × (p ≡ ampersand ∷ (name ++ (semicolon ∷ []))) × (list_all (λ b. not (nat_eq b semicolon)) name ≡ true))
 
 is_piece : (place : TextPlace) (o : Option ℕ) → IsPiece (written_byte place o)
-is_piece Value None = inl (34, refl, refl)
-is_piece Content None = inl (60, refl, refl)
+is_piece Value None = inl (double_quote, refl, refl)
+is_piece Content None = inl (less_than, refl, refl)
 is_piece Value (Some b) =
     each_byte Value (λ n. IsPiece (value_byte n))
-    (inr (97 ∷ (109 ∷ (112 ∷ [])), refl, refl)) (inr (108 ∷ (116 ∷ []), refl, refl)) (inl (62, refl, refl))
-    (inr (113 ∷ (117 ∷ (111 ∷ (116 ∷ []))), refl, refl))
-    (inr (35 ∷ (57 ∷ []), refl, refl)) (inr (35 ∷ (49 ∷ (48 ∷ [])), refl, refl)) (inr (35 ∷ (49 ∷ (51 ∷ [])), refl, refl))
+    (inr (codes "amp", refl, refl)) (inr (codes "lt", refl, refl)) (inl (greater_than, refl, refl))
+    (inr (codes "quot", refl, refl))
+    (inr (codes "#9", refl, refl)) (inr (codes "#10", refl, refl)) (inr (codes "#13", refl, refl))
     (λ n p. inl (n, p.written, p.no_ampersand)) b
 is_piece Content (Some b) =
     each_byte Content (λ n. IsPiece (text_byte n))
-    (inr (97 ∷ (109 ∷ (112 ∷ [])), refl, refl)) (inr (108 ∷ (116 ∷ []), refl, refl)) (inr (103 ∷ (116 ∷ []), refl, refl))
-    (inl (34, refl, refl)) (inl (9, refl, refl)) (inl (10, refl, refl)) (inr (35 ∷ (49 ∷ (51 ∷ [])), refl, refl))
+    (inr (codes "amp", refl, refl)) (inr (codes "lt", refl, refl)) (inr (codes "gt", refl, refl))
+    (inl (double_quote, refl, refl)) (inl (tab, refl, refl)) (inl (line_feed, refl, refl)) (inr (codes "#13", refl, refl))
     (λ n p. inl (n, p.written, p.no_ampersand)) b
 
-no_end : (b : ℕ) → not (nat_eq b 59) ≡ true → b ≡ 59 → ⊥
-no_end b h e = let t = eq-eqb b 59 e in cc
+no_end : (b : ℕ) → not (nat_eq b semicolon) ≡ true → b ≡ semicolon → ⊥
+no_end b h e = let t = eq-eqb b semicolon e in cc
 
-parted_names : (m n : List ℕ) → list_all (λ b. not (nat_eq b 59)) m ≡ true → list_all (λ b. not (nat_eq b 59)) n ≡ true
-    → Parted (m ++ (59 ∷ [])) (n ++ (59 ∷ []))
+parted_names : (m n : List ℕ) → list_all (λ b. not (nat_eq b semicolon)) m ≡ true → list_all (λ b. not (nat_eq b semicolon)) n ≡ true
+    → Parted (m ++ (semicolon ∷ [])) (n ++ (semicolon ∷ []))
 parted_names [] [] g h = λ e. tt
-parted_names [] (c ∷ n) g h = λ e. absurd (no_end c (and_parts (not (nat_eq c 59)) _ h).0 (sym e))
-parted_names (b ∷ m) [] g h = λ e. absurd (no_end b (and_parts (not (nat_eq b 59)) _ g).0 e)
-parted_names (b ∷ m) (c ∷ n) g h = λ e. parted_names m n (and_parts (not (nat_eq b 59)) _ g).1 (and_parts (not (nat_eq c 59)) _ h).1
+parted_names [] (c ∷ n) g h = λ e. absurd (no_end c (and_parts (not (nat_eq c semicolon)) _ h).0 (sym e))
+parted_names (b ∷ m) [] g h = λ e. absurd (no_end b (and_parts (not (nat_eq b semicolon)) _ g).0 e)
+parted_names (b ∷ m) (c ∷ n) g h = λ e. parted_names m n (and_parts (not (nat_eq b semicolon)) _ g).1
+    (and_parts (not (nat_eq c semicolon)) _ h).1
 
-no_ampersand : (b : ℕ) → nat_eq b 38 ≡ false → b ≡ 38 → ⊥
-no_ampersand b h e = let t = eq-eqb b 38 e in cc
+no_ampersand : (b : ℕ) → nat_eq b ampersand ≡ false → b ≡ ampersand → ⊥
+no_ampersand b h e = let t = eq-eqb b ampersand e in cc
 
 parted_pieces : (p q : List ℕ) → IsPiece p → IsPiece q → Parted p q
 parted_pieces p q g h = elim g [
@@ -89,9 +92,9 @@ parted_pieces p q g h = elim g [
     | inr t ↦ subst (λ x. Parted x q) (sym s.1) (subst (λ y. Parted (s.0 ∷ []) y) (sym t.1) (λ e. absurd (no_ampersand s.0 s.2 e)))
   ]
   | inr s ↦ elim h [
-    | inl t ↦ subst (λ x. Parted x q) (sym s.1) (subst (λ y. Parted (38 ∷ (s.0 ++ (59 ∷ []))) y) (sym t.1)
+    | inl t ↦ subst (λ x. Parted x q) (sym s.1) (subst (λ y. Parted (ampersand ∷ (s.0 ++ (semicolon ∷ []))) y) (sym t.1)
         (λ e. absurd (no_ampersand t.0 t.2 (sym e))))
-    | inr t ↦ subst (λ x. Parted x q) (sym s.1) (subst (λ y. Parted (38 ∷ (s.0 ++ (59 ∷ []))) y) (sym t.1)
+    | inr t ↦ subst (λ x. Parted x q) (sym s.1) (subst (λ y. Parted (ampersand ∷ (s.0 ++ (semicolon ∷ []))) y) (sym t.1)
         (λ e. parted_names s.0 t.0 s.2 t.2))
   ]
 ]
@@ -108,8 +111,9 @@ byte_of_piece place [] = None
 byte_of_piece place (b ∷ []) = cond (nat_eq b (end_byte place)) None (Some b)
 byte_of_piece place (b ∷ (c ∷ [])) = None
 byte_of_piece place (b ∷ (c ∷ (d ∷ e))) =
-    Some (cond (nat_eq c 97) 38 (cond (nat_eq c 108) 60 (cond (nat_eq c 103) 62 (cond (nat_eq c 113) 34
-    (cond (nat_eq d 57) 9 (cond (nat_eq (first_of e) 48) 10 13))))))
+    Some (cond (nat_eq c (byte "a")) ampersand (cond (nat_eq c (byte "l")) less_than (cond (nat_eq c (byte "g")) greater_than
+    (cond (nat_eq c (byte "q")) double_quote (cond (nat_eq d (byte "9")) tab (cond (nat_eq (first_of e) (byte "0")) line_feed
+    carriage_return))))))
 
 byte_of_piece-written_byte : (place : TextPlace) (o : Option ℕ) → byte_of_piece place (written_byte place o) ≡ o
 unfolding byte_of_piece first_of
