@@ -1,8 +1,9 @@
 //! The lines of a client's script.
-ghost use Rattle.std.specs.Prelude.{◌≡◌, ◌++◌, ℕ, List, codes, IfNone, IfSome};
+ghost use Rattle.std.specs.Prelude.{ℕ, List, IfNone, IfSome};
 ghost use Rattle.std.specs.Str.{IsUtf8};
 ghost use Rattle.ifmap_client.specs.Lines.{IsLineAnswer, IsReadRequest, IsRequestAnswer, NamesSet};
 
+use ifmap_elem::fronts::after_word;
 use ifmap_elem::laws::bytes_spell_one_element;
 use ifmap_elem::{Reading, Text};
 use ifmap_reader::{ReadError, read};
@@ -56,14 +57,6 @@ fn set_named(line: &[u8]) -> Option<&str>
         Ok(name) => Some(name),
         Err(_) => None,
     }
-}
-
-// What is after the word, where the bytes begin with it.
-fn after_word<'a>(word: &[u8], bytes: &'a [u8]) -> Option<&'a [u8]>
-    ensures found { IfSome result (λ rest. bytes.now ≡ word.now ++ rest.now) }
-    ensures none { IfNone result ((rest : List ℕ) → bytes.now ≡ word.now ++ rest → ⊥) }
-{
-    bytes.strip_prefix(word)
 }
 
 // The request that a line is, if it is one.
