@@ -19,12 +19,12 @@ pub struct LinksOf<'a, V> {
 }
 
 impl<'a, V: View> LinkSource for LinksOf<'a, V> {
-    ghost count = { λ l v. length (V.links l.view.now v) };
-
-    ghost link = { λ l v i. end_where (V.rows l.view.now) (V.id_at l.view.now)
-        l.search.now.match_links v (slice_get (V.links l.view.now v) i) };
-
-    ghost terminal = { λ l v. is_terminal_at l.search.now.terminal (V.id_at l.view.now v) };
+    ghost seen = { λ l. record {
+      count = λ v. length (V.links l.view.now v);
+      link = λ v i. end_where (V.rows l.view.now) (V.id_at l.view.now)
+          l.search.now.match_links v (slice_get (V.links l.view.now v) i);
+      terminal = λ v. is_terminal_at l.search.now.terminal (V.id_at l.view.now v);
+    } };
 
     fn count(&self, number: u64) -> u64 {
         self.view.link_count(number)

@@ -4,7 +4,7 @@ use Rattle.ifmap_region.specs.declared.flips.Flip.{Flip}
 use Rattle.ifmap_region.specs.declared.bases.Basis.{Basis}
 use Rattle.ifmap_region.specs.Bounds.{IsWithin}
 use Rattle.ifmap_region.specs.Flips.{WithRemoved, Mid}
-use Rattle.ifmap_region.specs.Links.{Linked}
+use Rattle.ifmap_region.specs.Links.{GraphSeen, links_of}
 use Rattle.ifmap_region.specs.Losing.{HasNearerMark, IsBeforeCut, IsCutting}
 use Rattle.ifmap_region.specs.Marks.{mark_of, row_of, mark_over}
 use Rattle.ifmap_region.specs.Near.{NearOneWay}
@@ -14,20 +14,15 @@ use Rattle.ifmap_region.specs.Walks.{AreDepths}
 
 -- what a call that sets marks works on: the graph, the most links of a walk, the marks below, and the rows over them
 pub record Layer : Type 0 where
-  pub count : ℕ → ℕ
-  pub link : ℕ → ℕ → Option ℕ
-  pub terminal : ℕ → Bool
+  pub graph : GraphSeen
   pub top : ℕ
   pub first : ℕ → Option ℕ
   pub rows : List (ℕ × Option ℕ)
 
--- the layer of rows over a basis, whose graph has these links and terminal numbers
-abbrev pub layer_of : {X : Type 0} → (X → ℕ → ℕ) → (X → ℕ → ℕ → Option ℕ) → (X → ℕ → Bool) → Basis X
-    → List (ℕ × Option ℕ) → Layer
-layer_of count link terminal basis rows = record {
-  count = count basis.graph.now;
-  link = link basis.graph.now;
-  terminal = terminal basis.graph.now;
+-- the layer of rows over a basis, of whose graph this is seen
+abbrev pub layer_of : {X : Type 0} → (X → GraphSeen) → Basis X → List (ℕ × Option ℕ) → Layer
+layer_of seen basis rows = record {
+  graph = seen basis.graph.now;
   top = basis.top;
   first = mark_of basis.base.now.entries;
   rows = rows;
@@ -36,9 +31,7 @@ layer_of count link terminal basis rows = record {
 -- the same layer with other rows
 abbrev pub with_rows : Layer → List (ℕ × Option ℕ) → Layer
 with_rows layer rows = record {
-  count = layer.count;
-  link = layer.link;
-  terminal = layer.terminal;
+  graph = layer.graph;
   top = layer.top;
   first = layer.first;
   rows = rows;
@@ -46,7 +39,7 @@ with_rows layer rows = record {
 
 -- the links of a layer's graph
 abbrev pub links : Layer → ℕ → ℕ → Type 0
-links layer = Linked layer.count layer.link
+links layer = links_of layer.graph
 
 -- the marks of a layer
 abbrev pub marks : Layer → ℕ → Option ℕ
@@ -58,73 +51,73 @@ HasMarkWithin layer v most = (k : ℕ) × (k ≤ most) × (marks layer v ≡ Som
 
 -- the marks are the depths over the layer's links
 abbrev pub HasDepths : Layer → ℕ → Type 0
-HasDepths layer start = AreDepths (links layer) layer.terminal start layer.top (marks layer)
+HasDepths layer start = AreDepths (links layer) layer.graph.terminal start layer.top (marks layer)
 
 -- the marks are ready to fall to the depths, where these wait
 abbrev pub MayFall : Layer → ℕ → (ℕ → ℕ → Type 0) → Type 0
-MayFall layer start = IsReady (links layer) layer.terminal start layer.top (marks layer)
+MayFall layer start = IsReady (links layer) layer.graph.terminal start layer.top (marks layer)
 
 -- the same while numbers of a level, and of the one that follows, are in the queue
 abbrev pub Falls : Layer → ℕ → List (ℕ × ℕ) → ℕ → List ℕ → List ℕ → Type 0
-Falls layer start = IsFalling (links layer) layer.terminal start layer.top (marks layer)
+Falls layer start = IsFalling (links layer) layer.graph.terminal start layer.top (marks layer)
 
 -- the numbers that a walk reaches by fewer links than their marks say
 abbrev pub IsShortened : Layer → ℕ → ℕ → Type 0
-IsShortened layer start = Improves (links layer) layer.terminal start layer.top (marks layer)
+IsShortened layer start = Improves (links layer) layer.graph.terminal start layer.top (marks layer)
 
 -- marks only fell from the first ones, and each step is charged to a number whose mark fell, those of the queue in
 -- advance
 abbrev pub Charges : Layer → ℕ → (ℕ → Option ℕ) → ℕ → ℕ → ℕ → List ℕ → Type 0
-Charges layer start first level before owed queue = IsCharged (links layer) layer.terminal start layer.top layer.count
-    first (marks layer) level before (owed + sum_by layer.count queue)
+Charges layer start first level before owed queue = IsCharged (links layer) layer.graph.terminal start layer.top
+    layer.graph.count first (marks layer) level before (owed + sum_by layer.graph.count queue)
 
 -- the marks below are the depths over the layer's links and the removed ones
 abbrev pub IsUncut : Layer → List Flip → ℕ → Type 0
-IsUncut layer flips start = IsBeforeCut (links layer) layer.terminal flips start layer.top layer.first
+IsUncut layer flips start = IsBeforeCut (links layer) layer.graph.terminal flips start layer.top layer.first
 
 -- the steps are within so many times the links of what is near the removed links
 abbrev pub IsNearCut : Layer → List Flip → ℕ → ℕ → ℕ → ℕ → Type 0
-IsNearCut layer flips start = IsWithin layer.count (NearOneWay flips false (WithRemoved (links layer) flips) (links
-    layer) layer.terminal start layer.top)
+IsNearCut layer flips start = IsWithin layer.graph.count (NearOneWay flips false (WithRemoved (links layer) flips)
+    (links layer) layer.graph.terminal start layer.top)
 
 -- the marks are the depths over the layer's links without the added ones
 abbrev pub IsUngrown : Layer → List Flip → ℕ → Type 0
-IsUngrown layer flips start = AreDepths (Mid (links layer) flips) layer.terminal start layer.top (marks layer)
+IsUngrown layer flips start = AreDepths (Mid (links layer) flips) layer.graph.terminal start layer.top (marks layer)
 
 -- the steps are within so many times the links of what is near the added links
 abbrev pub IsNearGrowth : Layer → List Flip → ℕ → ℕ → ℕ → ℕ → Type 0
-IsNearGrowth layer flips start = IsWithin layer.count (NearOneWay flips true (Mid (links layer) flips) (links
-    layer) layer.terminal start layer.top)
+IsNearGrowth layer flips start = IsWithin layer.graph.count (NearOneWay flips true (Mid (links layer) flips) (links
+    layer) layer.graph.terminal start layer.top)
 
 -- a level follows the mark of a number from which a walk may go on
 abbrev pub IsNextOf : Layer → ℕ → ℕ → Type 0
-IsNextOf layer = IsNext layer.terminal layer.top (marks layer)
+IsNextOf layer = IsNext layer.graph.terminal layer.top (marks layer)
 
 -- a number may have held another by a link, whose mark this is
 abbrev pub MayHoldAt : Layer → ℕ → ℕ → ℕ → Type 0
-MayHoldAt layer = MayHold layer.terminal layer.top (marks layer)
+MayHoldAt layer = MayHold layer.graph.terminal layer.top (marks layer)
 
 -- a number lowers another by a link, to this level
 abbrev pub LowersTo : Layer → ℕ → ℕ → ℕ → Type 0
-LowersTo layer = Lowers layer.terminal layer.top (marks layer)
+LowersTo layer = Lowers layer.graph.terminal layer.top (marks layer)
 
 -- removed links are being cut: what the rows, the numbers that are gone, the seeds that wait, the queues and the steps
 -- say
 abbrev pub IsBeingCut : Layer → List Flip → ℕ → List ℕ → List (ℕ × ℕ) → ℕ → List ℕ → List ℕ → ℕ → ℕ → Type 0
-IsBeingCut layer flips start = IsCutting (links layer) layer.terminal layer.count flips start layer.top layer.first
-    layer.rows
+IsBeingCut layer flips start = IsCutting (links layer) layer.graph.terminal layer.graph.count flips start layer.top
+    layer.first layer.rows
 
 -- a neighbour by a link that stays holds the number at a level
 abbrev pub HasHolder : Layer → ℕ → ℕ → Type 0
-HasHolder layer = HasNearerMark (λ u v. links layer v u) layer.terminal (marks layer)
+HasHolder layer = HasNearerMark (λ u v. links layer v u) layer.graph.terminal (marks layer)
 
 -- no neighbour by a link that stays holds the number at a level
 abbrev pub IsUnheld : Layer → ℕ → ℕ → Type 0
-IsUnheld layer v level = (u d : ℕ) → level ≡ suc d → links layer v u → layer.terminal u ≡ false → marks layer u ≡ Some
-    d → ⊥
+IsUnheld layer v level = (u d : ℕ) → level ≡ suc d → links layer v u → layer.graph.terminal u ≡ false → marks layer u
+    ≡ Some d → ⊥
 
 -- the neighbours to which a walk goes on from a number of a level, and which had the next level as their mark, have
 -- rows
 abbrev pub AreFollowed : Layer → ℕ → ℕ → Type 0
-AreFollowed layer v level = (w : ℕ) → level < layer.top → layer.terminal v ≡ false → links layer v w → layer.first w ≡
-    Some (level + 1) → IsSome (row_of layer.rows w)
+AreFollowed layer v level = (w : ℕ) → level < layer.top → layer.graph.terminal v ≡ false → links layer v w
+    → layer.first w ≡ Some (level + 1) → IsSome (row_of layer.rows w)

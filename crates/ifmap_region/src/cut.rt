@@ -38,12 +38,12 @@ fn lowest_level<G: LinkSource, L: Ledger>(
     number: u64,
     steps: &mut Steps<L>,
 ) -> Option<u32>
-    ensures only { let layer = layer_of G.count G.link G.terminal basis.now rows.now.entries in
+    ensures only { let layer = layer_of G.seen basis.now rows.now.entries in
         IfSome result (λ k. (u : ℕ) × links layer number u × IsNextOf layer u k) }
-    ensures least { let layer = layer_of G.count G.link G.terminal basis.now rows.now.entries in
+    ensures least { let layer = layer_of G.seen basis.now rows.now.entries in
         (u k : ℕ) → links layer number u → IsNextOf layer u k
         → (m : ℕ) × (m ≤ k) × (result ≡ Some m) }
-    ensures steps { steps.new ≤ steps.old + G.count basis.now.graph.now number }
+    ensures steps { steps.new ≤ steps.old + (G.seen basis.now.graph.now).count number }
 {
     let mut least = None;
     for i in 0..basis.graph.count(number) {
@@ -62,10 +62,10 @@ fn reseed<G: LinkSource, L: Ledger>(
     gone: &[u64],
     steps: &mut Steps<L>,
 ) -> Result<Vec<Seed>, NoMemory>
-    ensures seeds { let layer = layer_of G.count G.link G.terminal basis.now rows.now.entries in
-        IfOk result (λ seeds. Reseeds (links layer) layer.terminal layer.top (marks layer) gone.now
-        seeds.items) }
-    ensures steps { steps.new ≤ steps.old + sum_by (G.count basis.now.graph.now) gone.now }
+    ensures seeds { let layer = layer_of G.seen basis.now rows.now.entries in
+        IfOk result (λ seeds. Reseeds (links layer) layer.graph.terminal layer.top (marks layer)
+        gone.now seeds.items) }
+    ensures steps { steps.new ≤ steps.old + sum_by (G.seen basis.now.graph.now).count gone.now }
 {
     let mut seeds = Vec::new(alloc);
     for number in gone {
@@ -87,10 +87,10 @@ pub(crate) fn cut<G: LinkSource, L: Ledger>(
     flips: &[Flip],
     steps: &mut Steps<L>,
 ) -> Result<MarkRows, NoMemory>
-    ensures depths { let layer = layer_of G.count G.link G.terminal basis.now in
+    ensures depths { let layer = layer_of G.seen basis.now in
         IfOk result (λ rows. (start : ℕ) → IsUncut (layer rows.entries) flips.now start
         → HasDepths (layer rows.entries) start) }
-    ensures steps { let layer = layer_of G.count G.link G.terminal basis.now [] in
+    ensures steps { let layer = layer_of G.seen basis.now [] in
         (start : ℕ) → IsUncut layer flips.now start
         → IsNearCut layer flips.now start 4 steps.old steps.new }
 {

@@ -23,12 +23,12 @@ pub(crate) fn grow<G: LinkSource, L: Ledger>(
     flips: &[Flip],
     steps: &mut Steps<L>,
 ) -> Result<(), NoMemory>
-    requires { let layer = layer_of G.count G.link G.terminal basis.now rows.old.entries in
+    requires { let layer = layer_of G.seen basis.now rows.old.entries in
         (v w : ℕ) → IsFlipped flips.now true v w → links layer v w }
-    ensures depths { let layer = layer_of G.count G.link G.terminal basis.now in
+    ensures depths { let layer = layer_of G.seen basis.now in
         OnOk result ((start : ℕ) → IsUngrown (layer rows.old.entries) flips.now start
         → HasDepths (layer rows.new.entries) start) }
-    ensures steps { let layer = layer_of G.count G.link G.terminal basis.now rows.old.entries in
+    ensures steps { let layer = layer_of G.seen basis.now rows.old.entries in
         (start : ℕ) → IsUngrown layer flips.now start
         → IsNearGrowth layer flips.now start 1 steps.old steps.new }
 {

@@ -43,11 +43,11 @@ fn is_held<G: LinkSource, L: Ledger>(
     level: u32,
     steps: &mut Steps<L>,
 ) -> bool
-    ensures yes { let layer = layer_of G.count G.link G.terminal basis.now rows.now.entries in
+    ensures yes { let layer = layer_of G.seen basis.now rows.now.entries in
         result ≡ true → HasHolder layer number level }
-    ensures no { let layer = layer_of G.count G.link G.terminal basis.now rows.now.entries in
+    ensures no { let layer = layer_of G.seen basis.now rows.now.entries in
         result ≡ false → IsUnheld layer number level }
-    ensures steps { steps.new ≤ steps.old + G.count basis.now.graph.now number }
+    ensures steps { steps.new ≤ steps.old + (G.seen basis.now.graph.now).count number }
 {
     for i in 0..basis.graph.count(number) {
         if let Some(neighbour) = basis.graph.at(number, i, steps) {
@@ -82,7 +82,7 @@ fn enqueue(
 fn goes_on<G: LinkSource>(basis: &Basis<'_, G>, level: u32, number: u64) -> bool
     ensures yes { result ≡ true → level < basis.now.top }
     ensures no { result ≡ false → level < basis.now.top
-        → G.terminal basis.now.graph.now number ≡ false → ⊥ }
+        → (G.seen basis.now.graph.now).terminal number ≡ false → ⊥ }
 {
     level < basis.top && !basis.graph.is_terminal(number)
 }
@@ -97,7 +97,7 @@ fn follow<G: LinkSource, L: Ledger>(
     queue: &mut Vec<u64>,
     steps: &mut Steps<L>,
 ) -> Result<(), NoMemory>
-    ensures keeps { let layer = layer_of G.count G.link G.terminal basis.now in
+    ensures keeps { let layer = layer_of G.seen basis.now in
         OnOk result ((flips : List Flip) (start before spent : ℕ) (gone rest : List ℕ)
         (seeds : List (ℕ × ℕ)) → IsUncut (layer rows.old.entries) flips start
         → IsUnheld (layer rows.old.entries) number level
@@ -105,13 +105,13 @@ fn follow<G: LinkSource, L: Ledger>(
         queue.old.items before spent
         → IsBeingCut (layer rows.new.entries) flips start gone seeds level (number ∷ rest)
         queue.new.items before spent) }
-    ensures unheld { let layer = layer_of G.count G.link G.terminal basis.now in
+    ensures unheld { let layer = layer_of G.seen basis.now in
         OnOk result (IsUnheld (layer rows.old.entries) number level
         → IsUnheld (layer rows.new.entries) number level) }
-    ensures followed { let layer = layer_of G.count G.link G.terminal basis.now rows.new.entries in
+    ensures followed { let layer = layer_of G.seen basis.now rows.new.entries in
         OnOk result (AreFollowed layer number level) }
     ensures still { 2 ^ 32 ≤ level + 1 → queue.new.items ≡ queue.old.items }
-    ensures steps { steps.new ≤ steps.old + G.count basis.now.graph.now number }
+    ensures steps { steps.new ≤ steps.old + (G.seen basis.now.graph.now).count number }
 {
     if !goes_on(basis, level, number) {
         return Ok(());
@@ -137,14 +137,14 @@ fn look<G: LinkSource, L: Ledger>(
     queue: &mut Vec<u64>,
     steps: &mut Steps<L>,
 ) -> Result<(), NoMemory>
-    ensures keeps { let layer = layer_of G.count G.link G.terminal basis.now in
+    ensures keeps { let layer = layer_of G.seen basis.now in
         OnOk result ((flips : List Flip) (start before : ℕ) (rest : List ℕ) (seeds : List (ℕ × ℕ))
         → IsUncut (layer losses.old.rows.entries) flips start
         → IsBeingCut (layer losses.old.rows.entries) flips start losses.old.gone.items seeds level
         (number ∷ rest) queue.old.items before steps.old
         → IsBeingCut (layer losses.new.rows.entries) flips start losses.new.gone.items seeds level
         rest queue.new.items before steps.new) }
-    ensures spent { let layer = layer_of G.count G.link G.terminal basis.now in
+    ensures spent { let layer = layer_of G.seen basis.now in
         (flips : List Flip) (start before : ℕ) (rest : List ℕ) (seeds : List (ℕ × ℕ))
         → IsBeingCut (layer losses.old.rows.entries) flips start losses.old.gone.items seeds level
         (number ∷ rest) queue.old.items before steps.old
@@ -169,14 +169,14 @@ fn look_level<G: LinkSource, L: Ledger>(
     queue: &mut Vec<u64>,
     steps: &mut Steps<L>,
 ) -> Result<(), NoMemory>
-    ensures keeps { let layer = layer_of G.count G.link G.terminal basis.now in
+    ensures keeps { let layer = layer_of G.seen basis.now in
         OnOk result ((flips : List Flip) (start before : ℕ) (seeds : List (ℕ × ℕ))
         → IsUncut (layer losses.old.rows.entries) flips start
         → IsBeingCut (layer losses.old.rows.entries) flips start losses.old.gone.items seeds level
         now.now queue.old.items before steps.old
         → IsBeingCut (layer losses.new.rows.entries) flips start losses.new.gone.items seeds level
         [] queue.new.items before steps.new) }
-    ensures spent { let layer = layer_of G.count G.link G.terminal basis.now in
+    ensures spent { let layer = layer_of G.seen basis.now in
         (flips : List Flip) (start before : ℕ) (seeds : List (ℕ × ℕ))
         → IsUncut (layer losses.old.rows.entries) flips start
         → IsBeingCut (layer losses.old.rows.entries) flips start losses.old.gone.items seeds level
@@ -223,12 +223,12 @@ pub(crate) fn lose<G: LinkSource, L: Ledger>(
     seeds: Vec<Seed>,
     steps: &mut Steps<L>,
 ) -> Result<Losses, NoMemory>
-    ensures keeps { let layer = layer_of G.count G.link G.terminal basis.now in
+    ensures keeps { let layer = layer_of G.seen basis.now in
         IfOk result (λ losses. (flips : List Flip) (start : ℕ) → IsUncut (layer []) flips start
         → SeedsAlong flips false (MayHoldAt (layer [])) seeds.items
         → (level : ℕ) × IsBeingCut (layer losses.rows.entries) flips start losses.gone.items []
         level [] [] steps.old steps.new) }
-    ensures spent { let layer = layer_of G.count G.link G.terminal basis.now [] in
+    ensures spent { let layer = layer_of G.seen basis.now [] in
         (flips : List Flip) (start : ℕ) → IsUncut layer flips start
         → SeedsAlong flips false (MayHoldAt layer) seeds.items
         → IsNearCut layer flips start 2 steps.old steps.new }

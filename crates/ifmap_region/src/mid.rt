@@ -2,7 +2,7 @@
 ghost use Rattle.std.specs.Prelude.{◌≡◌, ℕ, Some, true, false, IfOk, OnOk, Contains};
 ghost use Rattle.std.specs.HashSet.{contains};
 ghost use Rattle.ifmap_region.specs.Flips.{Joins, IsFlipped};
-ghost use Rattle.ifmap_region.specs.Hiding.{hides, same_ends, unless_hidden};
+ghost use Rattle.ifmap_region.specs.Hiding.{hides, same_ends, seen_unless_hidden};
 ghost use Rattle.ifmap_region.specs.Marks.{mark_of, HasMarkedEnd};
 
 use crate::flips::Flip;
@@ -70,11 +70,7 @@ pub(crate) fn near_pairs(
 }
 
 impl<'a, G: LinkSource> LinkSource for Mid<'a, G> {
-    ghost count = { λ m. G.count m.graph.now };
-
-    ghost link = { λ m v i. unless_hidden m.hidden v (G.link m.graph.now v i) };
-
-    ghost terminal = { λ m. G.terminal m.graph.now };
+    ghost seen = { λ m. seen_unless_hidden m.hidden (G.seen m.graph.now) };
 
     fn count(&self, number: u64) -> u64 {
         self.graph.count(number)

@@ -1,7 +1,7 @@
 //! The numbers that a bounded walk from a start reaches, each with its depth.
 ghost use Rattle.std.specs.Prelude.{◌≡◌, ℕ, Option, Some, None, List, IfOk, IsOk, OnOk, OnErr, IsSome, is_some};
 ghost use Rattle.ifmap_region.specs.Bounds.{IsWithin};
-ghost use Rattle.ifmap_region.specs.Links.{Linked};
+ghost use Rattle.ifmap_region.specs.Links.{links_of};
 ghost use Rattle.ifmap_region.specs.Marks.{mark_of, row_of, mark_over, AllMarked};
 ghost use Rattle.ifmap_region.specs.Walks.{AreDepths, IsReached};
 ghost use Rattle.ifmap_region.specs.Ways.{HasRoom, HasSpare, OnlyRoom, Makes, Sweeps, IsWayBack, taken_from};
@@ -46,15 +46,15 @@ pub fn build<G: LinkSource, L: Ledger>(
 ) -> Result<Region, NoMemory>
     ensures start { IfOk result (λ region. region.start ≡ start) }
     ensures max_depth { IfOk result (λ region. region.max_depth ≡ max_depth) }
-    ensures depths { IfOk result (λ region. AreDepths
-        (Linked (G.count graph.now) (G.link graph.now)) (G.terminal graph.now) start max_depth
+    ensures depths { let seen = G.seen graph.now in
+        IfOk result (λ region. AreDepths (links_of seen) seen.terminal start max_depth
         (mark_of region.marks.entries)) }
     ensures rows { IfOk result (λ region. AllMarked region.marks.entries) }
 
     // Also where memory runs out.
-    ensures steps { IsWithin (G.count graph.now) (IsReached
-        (Linked (G.count graph.now) (G.link graph.now)) (G.terminal graph.now) start max_depth) 1
-        steps.old steps.new }
+    ensures steps { let seen = G.seen graph.now in
+        IsWithin seen.count (IsReached (links_of seen) seen.terminal start max_depth) 1 steps.old
+        steps.new }
 {
     let unmarked = IndexMap::new(alloc);
     let mut marks = IndexMap::new(alloc);

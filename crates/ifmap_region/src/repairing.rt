@@ -2,7 +2,7 @@
 ghost use Rattle.std.specs.Prelude.{◌≡◌, ◌≢◌, ℕ, ◌+◌, Option, Some, true, IfOk};
 ghost use Rattle.ifmap_region.specs.Bounds.{IsWithin};
 ghost use Rattle.ifmap_region.specs.Flips.{IsFlipped, Old};
-ghost use Rattle.ifmap_region.specs.Links.{Linked, IsSymmetric};
+ghost use Rattle.ifmap_region.specs.Links.{links_of, IsSymmetric};
 ghost use Rattle.ifmap_region.specs.Marks.{mark_of, row_of, mark_over};
 ghost use Rattle.ifmap_region.specs.Near.{NearFlips};
 ghost use Rattle.ifmap_region.specs.Walks.{AreDepths};
@@ -34,15 +34,14 @@ pub fn repair<G: LinkSource, L: Ledger>(
     flips: &[Flip],
     steps: &mut Steps<L>,
 ) -> Result<Patch, NoMemory>
-    requires symmetric { IsSymmetric (Linked (G.count graph.now) (G.link graph.now)) }
+    requires symmetric { IsSymmetric (links_of (G.seen graph.now)) }
     requires added { (v w : ℕ) → IsFlipped flips.now true v w
-        → Linked (G.count graph.now) (G.link graph.now) v w }
-    ensures depths { IfOk result (λ patch.
-        AreDepths (Old (Linked (G.count graph.now) (G.link graph.now)) flips.now)
-        (G.terminal graph.now) region.now.start region.now.max_depth
-        (mark_of region.now.marks.entries)
-        → AreDepths (Linked (G.count graph.now) (G.link graph.now)) (G.terminal graph.now)
-        region.now.start region.now.max_depth
+        → links_of (G.seen graph.now) v w }
+    ensures depths { let seen = G.seen graph.now in
+        IfOk result (λ patch.
+        AreDepths (Old (links_of seen) flips.now) seen.terminal region.now.start
+        region.now.max_depth (mark_of region.now.marks.entries)
+        → AreDepths (links_of seen) seen.terminal region.now.start region.now.max_depth
         (mark_over patch (mark_of region.now.marks.entries))) }
 
     // The patch has only marks that come, go or change.
@@ -50,13 +49,11 @@ pub fn repair<G: LinkSource, L: Ledger>(
         → r ≢ mark_of region.now.marks.entries v) }
 
     // Also where memory runs out.
-    ensures steps { AreDepths (Old (Linked (G.count graph.now) (G.link graph.now)) flips.now)
-        (G.terminal graph.now) region.now.start region.now.max_depth
-        (mark_of region.now.marks.entries)
-        → IsWithin (λ v. 1 + G.count graph.now v) (NearFlips
-        (Linked (G.count graph.now) (G.link graph.now)) flips.now (G.terminal graph.now)
-        region.now.start region.now.max_depth)
-        5 steps.old steps.new }
+    ensures steps { let seen = G.seen graph.now in
+        AreDepths (Old (links_of seen) flips.now) seen.terminal region.now.start
+        region.now.max_depth (mark_of region.now.marks.entries)
+        → IsWithin (λ v. 1 + seen.count v) (NearFlips (links_of seen) flips.now seen.terminal
+        region.now.start region.now.max_depth) 5 steps.old steps.new }
 {
     let base = &region.marks;
     let top = region.max_depth;

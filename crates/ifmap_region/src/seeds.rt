@@ -16,9 +16,9 @@ pub(crate) fn next_of<G: LinkSource>(
     rows: &MarkRows,
     number: u64,
 ) -> Option<u32>
-    ensures only { let layer = layer_of G.count G.link G.terminal basis.now rows.now.entries in
+    ensures only { let layer = layer_of G.seen basis.now rows.now.entries in
         IfSome result (λ k. IsNextOf layer number k) }
-    ensures each { let layer = layer_of G.count G.link G.terminal basis.now rows.now.entries in
+    ensures each { let layer = layer_of G.seen basis.now rows.now.entries in
         (k : ℕ) → IsNextOf layer number k → result ≡ Some k }
 {
     match mark(basis.base, rows, number) {
@@ -40,9 +40,9 @@ fn held_mark<G: LinkSource>(
     from: u64,
     to: u64,
 ) -> Option<u32>
-    ensures only { let layer = layer_of G.count G.link G.terminal basis.now rows.now.entries in
+    ensures only { let layer = layer_of G.seen basis.now rows.now.entries in
         IfSome result (λ k. MayHoldAt layer from to k) }
-    ensures each { let layer = layer_of G.count G.link G.terminal basis.now rows.now.entries in
+    ensures each { let layer = layer_of G.seen basis.now rows.now.entries in
         (k : ℕ) → MayHoldAt layer from to k → result ≡ Some k }
 {
     match next_of(basis, rows, from) {
@@ -64,9 +64,9 @@ fn lowered_level<G: LinkSource>(
     from: u64,
     to: u64,
 ) -> Option<u32>
-    ensures only { let layer = layer_of G.count G.link G.terminal basis.now rows.now.entries in
+    ensures only { let layer = layer_of G.seen basis.now rows.now.entries in
         IfSome result (λ k. LowersTo layer from to k) }
-    ensures each { let layer = layer_of G.count G.link G.terminal basis.now rows.now.entries in
+    ensures each { let layer = layer_of G.seen basis.now rows.now.entries in
         (k : ℕ) → LowersTo layer from to k → result ≡ Some k }
 {
     match next_of(basis, rows, from) {
@@ -99,7 +99,7 @@ pub(crate) fn held_seeds<G: LinkSource>(
     rows: &MarkRows,
     flips: &[Flip],
 ) -> Result<Vec<Seed>, NoMemory>
-    ensures { let layer = layer_of G.count G.link G.terminal basis.now rows.now.entries in
+    ensures { let layer = layer_of G.seen basis.now rows.now.entries in
         IfOk result (λ seeds. SeedsAlong flips.now false (MayHoldAt layer) seeds.items) }
 {
     let mut seeds = Vec::new(alloc);
@@ -121,7 +121,7 @@ pub(crate) fn lowered_seeds<G: LinkSource>(
     rows: &MarkRows,
     flips: &[Flip],
 ) -> Result<Vec<Seed>, NoMemory>
-    ensures { let layer = layer_of G.count G.link G.terminal basis.now rows.now.entries in
+    ensures { let layer = layer_of G.seen basis.now rows.now.entries in
         IfOk result (λ seeds. SeedsAlong flips.now true (LowersTo layer) seeds.items) }
 {
     let mut seeds = Vec::new(alloc);

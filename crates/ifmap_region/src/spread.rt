@@ -50,20 +50,22 @@ fn offer_neighbours<G: LinkSource, L: Ledger>(
     steps: &mut Steps<L>,
 ) -> Result<(), NoMemory>
     ensures rows { AddsMarks rows.old.entries rows.new.entries }
-    ensures offered { let layer = layer_of G.count G.link G.terminal basis.now rows.new.entries in
+    ensures offered { let layer = layer_of G.seen basis.now rows.new.entries in
         OnOk result ((w : ℕ) → links layer number w → HasMarkWithin layer w next) }
-    ensures falls { let layer = layer_of G.count G.link G.terminal basis.now in
+    ensures falls { let layer = layer_of G.seen basis.now in
         OnOk result ((start level : ℕ) (rest : List ℕ) (seeds : List (ℕ × ℕ))
-        → next ≡ level + 1 → level < basis.now.top → G.terminal basis.now.graph.now number ≡ false
+        → next ≡ level + 1 → level < basis.now.top
+        → (G.seen basis.now.graph.now).terminal number ≡ false
         → Falls (layer rows.old.entries) start seeds level (number ∷ rest) queue.old.items
         → Falls (layer rows.new.entries) start seeds level (number ∷ rest) queue.new.items) }
-    ensures charged { let layer = layer_of G.count G.link G.terminal basis.now in
+    ensures charged { let layer = layer_of G.seen basis.now in
         (start level before owed : ℕ) (rest : List ℕ) (seeds : List (ℕ × ℕ)) (first : ℕ → Option ℕ)
-        → next ≡ level + 1 → level < basis.now.top → G.terminal basis.now.graph.now number ≡ false
+        → next ≡ level + 1 → level < basis.now.top
+        → (G.seen basis.now.graph.now).terminal number ≡ false
         → Falls (layer rows.old.entries) start seeds level (number ∷ rest) queue.old.items
         → Charges (layer rows.old.entries) start first next before owed queue.old.items
         → Charges (layer rows.new.entries) start first next before owed queue.new.items }
-    ensures steps { steps.new ≤ steps.old + G.count basis.now.graph.now number }
+    ensures steps { steps.new ≤ steps.old + (G.seen basis.now.graph.now).count number }
 {
     for i in 0..basis.graph.count(number) {
         if let Some(neighbour) = basis.graph.at(number, i, steps) {
@@ -85,18 +87,18 @@ fn visit<G: LinkSource, L: Ledger>(
 ) -> Result<(), NoMemory>
     ensures rows { AddsMarks rows.old.entries rows.new.entries }
     ensures still { 2 ^ 32 ≤ level + 1 → queue.new.items ≡ queue.old.items }
-    ensures falls { let layer = layer_of G.count G.link G.terminal basis.now in
+    ensures falls { let layer = layer_of G.seen basis.now in
         OnOk result ((start : ℕ) (rest : List ℕ) (seeds : List (ℕ × ℕ))
         → Falls (layer rows.old.entries) start seeds level (number ∷ rest) queue.old.items
         → Falls (layer rows.new.entries) start seeds level rest queue.new.items) }
-    ensures charged { let layer = layer_of G.count G.link G.terminal basis.now in
-        let links_of = λ (numbers : List ℕ). sum_by (G.count basis.now.graph.now) numbers in
+    ensures charged { let layer = layer_of G.seen basis.now in
+        let link_count = λ (numbers : List ℕ). sum_by (G.seen basis.now.graph.now).count numbers in
         (start before : ℕ) (rest : List ℕ) (seeds : List (ℕ × ℕ)) (first : ℕ → Option ℕ)
         → Falls (layer rows.old.entries) start seeds level (number ∷ rest) queue.old.items
         → Charges (layer rows.old.entries) start first (level + 1) before
-        (steps.old + links_of (number ∷ rest)) queue.old.items
+        (steps.old + link_count (number ∷ rest)) queue.old.items
         → Charges (layer rows.new.entries) start first (level + 1) before
-        (steps.new + links_of rest) queue.new.items }
+        (steps.new + link_count rest) queue.new.items }
 {
     if level < basis.top && !basis.graph.is_terminal(number) {
         offer_neighbours(basis, rows, number, level + 1, queue, steps)?;
@@ -115,15 +117,15 @@ fn visit_level<G: LinkSource, L: Ledger>(
 ) -> Result<(), NoMemory>
     ensures rows { AddsMarks rows.old.entries rows.new.entries }
     ensures still { 2 ^ 32 ≤ level + 1 → queue.new.items ≡ queue.old.items }
-    ensures falls { let layer = layer_of G.count G.link G.terminal basis.now in
+    ensures falls { let layer = layer_of G.seen basis.now in
         OnOk result ((start : ℕ) (seeds : List (ℕ × ℕ))
         → Falls (layer rows.old.entries) start seeds level now.now queue.old.items
         → Falls (layer rows.new.entries) start seeds level [] queue.new.items) }
-    ensures charged { let layer = layer_of G.count G.link G.terminal basis.now in
+    ensures charged { let layer = layer_of G.seen basis.now in
         (start before : ℕ) (seeds : List (ℕ × ℕ)) (first : ℕ → Option ℕ)
         → Falls (layer rows.old.entries) start seeds level now.now queue.old.items
         → Charges (layer rows.old.entries) start first (level + 1) before
-        (steps.old + sum_by (G.count basis.now.graph.now) now.now) queue.old.items
+        (steps.old + sum_by (G.seen basis.now.graph.now).count now.now) queue.old.items
         → Charges (layer rows.new.entries) start first (level + 1) before steps.new
         queue.new.items }
 {
@@ -145,11 +147,11 @@ fn admit_seeds<G: LinkSource>(
     ensures rows { AddsMarks rows.old.entries rows.new.entries }
     ensures above { OnOk result (All (λ s. level ≤ s.0) seeds.old
         → All (λ s. level < s.0) seeds.new) }
-    ensures falls { let layer = layer_of G.count G.link G.terminal basis.now in
+    ensures falls { let layer = layer_of G.seen basis.now in
         OnOk result ((start : ℕ)
         → Falls (layer rows.old.entries) start seeds.old level queue.old.items []
         → Falls (layer rows.new.entries) start seeds.new level queue.new.items []) }
-    ensures charged { let layer = layer_of G.count G.link G.terminal basis.now in
+    ensures charged { let layer = layer_of G.seen basis.now in
         (start before owed : ℕ) (first : ℕ → Option ℕ)
         → Falls (layer rows.old.entries) start seeds.old level queue.old.items []
         → Charges (layer rows.old.entries) start first level before owed queue.old.items
@@ -174,13 +176,13 @@ pub(crate) fn spread<G: LinkSource, L: Ledger>(
     steps: &mut Steps<L>,
 ) -> Result<(), NoMemory>
     ensures rows { AddsMarks rows.old.entries rows.new.entries }
-    ensures depths { let layer = layer_of G.count G.link G.terminal basis.now in
+    ensures depths { let layer = layer_of G.seen basis.now in
         OnOk result ((start : ℕ)
         → MayFall (layer rows.old.entries) start (λ k v. Contains seeds.items (k, v))
         → HasDepths (layer rows.new.entries) start) }
-    ensures charged { let layer = layer_of G.count G.link G.terminal basis.now rows.old.entries in
+    ensures charged { let layer = layer_of G.seen basis.now rows.old.entries in
         (start : ℕ) → MayFall layer start (λ k v. Contains seeds.items (k, v))
-        → IsWithin (G.count basis.now.graph.now) (IsShortened layer start) 1 steps.old steps.new }
+        → IsWithin layer.graph.count (IsShortened layer start) 1 steps.old steps.new }
 {
     let mut waiting = Seeds::sort_seeds(seeds);
     let mut now: Vec<u64> = Vec::new(alloc);

@@ -38,11 +38,11 @@ fn far_end(link: (u64, u64), number: u64) -> Option<u64>
 }
 
 impl<'a> LinkSource for Pairs<'a> {
-    ghost count = { λ pairs _. length pairs.links.now };
-
-    ghost link = { λ pairs number i. far_end_at pairs.links.now number i };
-
-    ghost terminal = { λ _ number. nat_le 90 number };
+    ghost seen = { λ pairs. record {
+      count = λ _. length pairs.links.now;
+      link = far_end_at pairs.links.now;
+      terminal = nat_le 90;
+    } };
 
     fn count(&self, _number: u64) -> u64 {
         self.links.len() as u64
@@ -541,11 +541,11 @@ fn is_first_link(a: u64, b: u64) -> bool
 }
 
 impl LinkSource for Grid {
-    ghost count = { λ _ _. 4 };
-
-    ghost link = { λ grid number i. grid_link grid.cut number i };
-
-    ghost terminal = { λ _ _. false };
+    ghost seen = { λ grid. record {
+      count = λ _. 4;
+      link = grid_link grid.cut;
+      terminal = λ _. false;
+    } };
 
     fn count(&self, _number: u64) -> u64 {
         4

@@ -8,8 +8,8 @@ use Rattle.ifmap_region.proofs.cut.lowest_level.Goals.{in-Some, in_default}
 
 pub loop-i-preserved : goal.loop-i-preserved
 loop-i-preserved g c =
-    let given = IsNext (g.G.LinkSource.terminal c.args.basis.now.graph.now) c.args.basis.now.top (mark_over c.args.rows.now.entries (mark_of
-    c.args.basis.now.base.now.entries)) in
+    let given = IsNext (g.G.LinkSource.seen c.args.basis.now.graph.now).terminal c.args.basis.now.top
+    (mark_over c.args.rows.now.entries (mark_of c.args.basis.now.base.now.entries)) in
     elim c.match-at.branch [
       | in-Some w ↦ rw w.least-is record {
         only = lesser_only _ _ _ _ w.lesser_depth-least.ensures.one c.loop-i.invariant.only
@@ -26,7 +26,7 @@ loop-i-preserved g c =
               ),
               n,
             )));
-        least = least_more (g.G.LinkSource.link c.args.basis.now.graph.now c.args.number) c.loop-i.i given c.loop-i.least
+        least = least_more ((g.G.LinkSource.seen c.args.basis.now.graph.now).link c.args.number) c.loop-i.i given c.loop-i.least
             c.loop-i.invariant.least
             w.next_of.result w.lesser_depth-least.result w.in-Some.neighbour
             (sym w.in-Some.ensures.link) w.next_of.ensures.each w.lesser_depth-least.ensures.first w.lesser_depth-least.ensures.second;
@@ -34,7 +34,7 @@ loop-i-preserved g c =
       }
       | in_default w ↦ rw w.least-is record {
         only = c.loop-i.invariant.only;
-        least = least_unmatched (g.G.LinkSource.link c.args.basis.now.graph.now c.args.number) c.loop-i.i given c.loop-i.least
+        least = least_unmatched ((g.G.LinkSource.seen c.args.basis.now.graph.now).link c.args.number) c.loop-i.i given c.loop-i.least
             c.loop-i.invariant.least (sym w.in_default.ensures.link);
         steps = omega (arith, c.at.ensures.step, c.loop-i.invariant.steps);
       }

@@ -15,7 +15,7 @@ loop-number-preserved g c =
         arith,
         c.lowest_level-level.ensures.steps,
         c.loop-number.invariant.steps,
-        sum_by_push (g.G.LinkSource.count c.args.basis.now.graph.now) (take c.loop-number.number-index c.args.gone.now)
+        sum_by_push (g.G.LinkSource.seen c.args.basis.now.graph.now).count (take c.loop-number.number-index c.args.gone.now)
             (get_or c.args.gone.now
             c.loop-number.number-index 0),
       );

@@ -10,8 +10,8 @@ use Rattle.ifmap_region.proofs.lose.follow.Goals.{in-Some+then-is_mark+in_ok-enq
 
 pub loop-i-preserved : goal.loop-i-preserved
 loop-i-preserved g c =
-    let count = g.G.LinkSource.count c.args.basis.now.graph.now in
-    let link = g.G.LinkSource.link c.args.basis.now.graph.now in
+    let count = (g.G.LinkSource.seen c.args.basis.now.graph.now).count in
+    let link = (g.G.LinkSource.seen c.args.basis.now.graph.now).link in
     let first = mark_of c.args.basis.now.base.now.entries in
     let rows = c.loop-i.rows.entries in
     elim c.match-at.branch [

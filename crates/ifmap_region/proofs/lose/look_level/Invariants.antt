@@ -6,7 +6,7 @@ use Rattle.ifmap_region.proofs.lose.look_level.Given as goal
 abbrev pub invariant-loop-number : goal.invariant-loop-number
 invariant-loop-number g l =
     let G = g.G.LinkSource in
-    let layer = layer_of G.count G.link G.terminal l.basis in
+    let layer = layer_of G.seen l.basis in
     let then = layer l.initial.losses.rows.entries in
     let now = layer l.losses.rows.entries in
     record {

@@ -29,7 +29,7 @@ loop-level-preserved g c =
           (λ s lt. omega (arith, lt, floor_is)) _ (c.in_ok-queue_seeds.ensures.above c.in-Some.ensures.least);
       keeps = λ flips start b s. cutting_next _ _ _ flips start _ _ _ _ _ c.in-Some.level _ _ _ _ floor_is
           (c.in_ok-look_level.ensures.keeps flips start _ _ b (cutting_handed _ _ _ flips start _ _ _ _ _ c.in-Some.level 0 _ _ _ _ _
-          c.deref.ensures.value none (c.in_ok-queue_seeds.ensures.keeps (layer_of G.count G.link G.terminal c.args.basis.now []) flips
+          c.deref.ensures.value none (c.in_ok-queue_seeds.ensures.keeps (layer_of G.seen c.args.basis.now []) flips
           start _
           c.loop-level.steps _ b (cutting_level _ _ _ flips start _ _ _ _ _ c.loop-level.floor c.in-Some.level _ _ _ _ now_is
           c.in-Some.ensures.rises c.in-Some.ensures.side (c.loop-level.invariant.keeps flips start b s)))));
@@ -45,7 +45,7 @@ returns-in_err-look_level-clause-spent g c flips start b s =
     let now_is : c.swap.new.x.items ≡ c.loop-level.next.items = ap (λ v. v.items) c.swap.ensures.x_after in
     let none : c.swap.new.y.items ≡ [] = ap (λ v. v.items) c.swap.ensures.y_after ∙ c.clear.ensures.items in
     c.look_level.ensures.spent flips start _ _ b (cutting_handed _ _ _ flips start _ _ _ _ _ c.in-Some.level 0 _ _ _ _ _
-    c.deref.ensures.value none (c.in_ok-queue_seeds.ensures.keeps (layer_of G.count G.link G.terminal c.args.basis.now []) flips start _
+    c.deref.ensures.value none (c.in_ok-queue_seeds.ensures.keeps (layer_of G.seen c.args.basis.now []) flips start _
     c.loop-level.steps _ b (cutting_level _ _ _ flips start _ _ _ _ _ c.loop-level.floor c.in-Some.level _ _ _ _ now_is
     c.in-Some.ensures.rises c.in-Some.ensures.side (c.loop-level.invariant.keeps flips start b s))))
 

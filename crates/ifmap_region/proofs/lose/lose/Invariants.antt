@@ -8,7 +8,7 @@ use Rattle.ifmap_region.proofs.lose.lose.Given as goal
 abbrev pub invariant-loop-level : goal.invariant-loop-level
 invariant-loop-level g l =
     let G = g.G.LinkSource in
-    let layer = layer_of G.count G.link G.terminal l.basis in
+    let layer = layer_of G.seen l.basis in
     record {
       fits : 0 < vec_len l.next → l.floor < 2 ^ 32;
       above : All (λ s. l.floor ≤ s.0) l.waiting;

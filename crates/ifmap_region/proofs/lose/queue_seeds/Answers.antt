@@ -9,7 +9,7 @@ loop-number-preserved c = record {
   low = λ all. all_left (λ (s : ℕ × ℕ). c.args.level ≤ s.0) _ _ (left_of_rest _ _ _ c.in-Some.ensures.some)
       (c.loop-number.invariant.low all);
   keeps = λ layer flips start before spent gone b s.
-      cutting_seed layer.count layer.link layer.terminal flips start layer.top layer.first b gone c.args.level before
+      cutting_seed layer.graph.count layer.graph.link layer.graph.terminal flips start layer.top layer.first b gone c.args.level before
       c.loop-number.rows.entries
       c.enqueue.new.rows.entries _ _ c.loop-number.queue.items c.enqueue.new.queue.items c.in-Some.number spent c.in-Some.ensures.some
       c.in_ok-enqueue.ensures (c.loop-number.invariant.keeps layer flips start before spent gone b s);

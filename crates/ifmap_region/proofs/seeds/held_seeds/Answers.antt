@@ -13,7 +13,7 @@ loop-flip-preserved g c =
     let f : Flip = get_or c.args.flips.now c.loop-flip.flip-index (record { a = 0; b = 0; added = false }) in
     let more : take (c.loop-flip.flip-index + 1) c.args.flips.now ≡ before ++ f ∷ [] =
     take_more c.args.flips.now c.loop-flip.flip-index (record { a = 0; b = 0; added = false }) c.loop-flip-test.true in
-    let gives = MayHold (g.G.LinkSource.terminal c.args.basis.now.graph.now) c.args.basis.now.top
+    let gives = MayHold (g.G.LinkSource.seen c.args.basis.now.graph.now).terminal c.args.basis.now.top
     (mark_over c.args.rows.now.entries (mark_of c.args.basis.now.base.now.entries)) in
     elim c.if-not-flip.branch [
       | then-not-flip+in_ok-offer+in_ok-offer-2 w ↦ rw w.seeds-is (rw more (seeds_more before f false gives w.held_mark-at_b.result

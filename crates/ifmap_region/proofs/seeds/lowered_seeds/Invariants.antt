@@ -5,6 +5,6 @@ use Rattle.ifmap_region.proofs.seeds.lowered_seeds.Given as goal
 
 abbrev pub invariant-loop-flip : goal.invariant-loop-flip
 invariant-loop-flip g l =
-    SeedsAlong (take l.flip-index l.flips) true (Lowers (g.G.LinkSource.terminal l.basis.graph.now) l.basis.top
+    SeedsAlong (take l.flip-index l.flips) true (Lowers (g.G.LinkSource.seen l.basis.graph.now).terminal l.basis.top
     (mark_over l.rows.entries (mark_of
     l.basis.base.now.entries))) l.seeds.items

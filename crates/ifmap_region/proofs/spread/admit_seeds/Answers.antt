@@ -11,11 +11,11 @@ loop-number-preserved g c = record {
   low = λ all. all_left (λ (s : ℕ × ℕ). c.args.level ≤ s.0) _ _ (left_of_rest _ _ _ c.in-Some.ensures.some)
       (c.loop-number.invariant.low all);
   falls = λ start r.
-      seed_admitted _ _ start _ (g.G.LinkSource.count c.args.basis.now.graph.now) (mark_of c.args.basis.now.base.now.entries) _ _
+      seed_admitted _ _ start _ (g.G.LinkSource.seen c.args.basis.now.graph.now).count (mark_of c.args.basis.now.base.now.entries) _ _
       c.args.level c.in-Some.number _ _ _ _ c.in-Some.ensures.some
       c.in_ok-enqueue.ensures.ok (c.loop-number.invariant.falls start r);
   charged = λ start before owed first r ch.
-      charged_more _ _ start _ (g.G.LinkSource.count c.args.basis.now.graph.now) (mark_of c.args.basis.now.base.now.entries) _ _
+      charged_more _ _ start _ (g.G.LinkSource.seen c.args.basis.now.graph.now).count (mark_of c.args.basis.now.base.now.entries) _ _
       c.args.level c.in-Some.number _ _ first before owed
       (seed_walk _ _ start _ _ c.args.level c.in-Some.number _ _ _ c.in-Some.ensures.some (c.loop-number.invariant.falls start r))
       c.in_ok-enqueue.ensures.ok (c.loop-number.invariant.charged start before owed first r ch);
@@ -24,7 +24,7 @@ loop-number-preserved g c = record {
 pub returns-in_err-enqueue-clause-charged : goal.returns-in_err-enqueue-clause-charged
 returns-in_err-enqueue-clause-charged g c start before owed first r ch =
     rw c.in_err-enqueue.ensures.queue
-    (charged_part _ _ start _ (g.G.LinkSource.count c.args.basis.now.graph.now) (mark_of c.args.basis.now.base.now.entries) _ _
+    (charged_part _ _ start _ (g.G.LinkSource.seen c.args.basis.now.graph.now).count (mark_of c.args.basis.now.base.now.entries) _ _
     c.args.level c.in-Some.number c.loop-number.queue.items first before owed
     (seed_walk _ _ start _ _ c.args.level c.in-Some.number _ _ _ c.in-Some.ensures.some (c.loop-number.invariant.falls start r))
     c.enqueue.ensures.part (c.loop-number.invariant.charged start before owed first r ch))

@@ -6,7 +6,7 @@ use Rattle.ifmap_region.proofs.spread.admit_seeds.Given as goal
 abbrev pub invariant-loop-number : goal.invariant-loop-number
 invariant-loop-number g l =
     let G = g.G.LinkSource in
-    let layer = layer_of G.count G.link G.terminal l.basis in
+    let layer = layer_of G.seen l.basis in
     let then = layer l.initial.rows.entries in
     let now = layer l.rows.entries in
     record {

@@ -7,7 +7,7 @@ use Rattle.ifmap_region.proofs.spread.spread.Given as goal
 abbrev pub invariant-loop-level : goal.invariant-loop-level
 invariant-loop-level g l =
     let G = g.G.LinkSource in
-    let layer = layer_of G.count G.link G.terminal l.basis in
+    let layer = layer_of G.seen l.basis in
     let then = layer l.initial.rows.entries in
     let now = layer l.rows.entries in
     record {

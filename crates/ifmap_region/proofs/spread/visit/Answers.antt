@@ -15,14 +15,14 @@ returns-in_ok-offer_neighbours-clause-falls g c start rest seeds r =
 pub returns-in_ok-offer_neighbours-clause-charged : goal.returns-in_ok-offer_neighbours-clause-charged
 returns-in_ok-offer_neighbours-clause-charged g c start before rest seeds first r ch =
     charged_fewer _ _ start _ _ first _ _ before _ _
-    (omega (arith, c.offer_neighbours.ensures.steps, sum_by-cons (g.G.LinkSource.count c.args.basis.now.graph.now) c.args.number rest))
+    (omega (arith, c.offer_neighbours.ensures.steps, sum_by-cons (g.G.LinkSource.seen c.args.basis.now.graph.now).count c.args.number rest))
     (c.offer_neighbours.ensures.charged start c.args.level before _ rest seeds first refl c.if-level-basis.true
     (sym c.is_terminal.ensures ∙ c.if-not-is_terminal.true) r ch)
 
 pub returns-in_err-offer_neighbours-clause-charged : goal.returns-in_err-offer_neighbours-clause-charged
 returns-in_err-offer_neighbours-clause-charged g c start before rest seeds first r ch =
     charged_fewer _ _ start _ _ first _ _ before _ _
-    (omega (arith, c.offer_neighbours.ensures.steps, sum_by-cons (g.G.LinkSource.count c.args.basis.now.graph.now) c.args.number rest))
+    (omega (arith, c.offer_neighbours.ensures.steps, sum_by-cons (g.G.LinkSource.seen c.args.basis.now.graph.now).count c.args.number rest))
     (c.offer_neighbours.ensures.charged start c.args.level before _ rest seeds first refl c.if-level-basis.true
     (sym c.is_terminal.ensures ∙ c.if-not-is_terminal.true) r ch)
 
@@ -40,6 +40,6 @@ pub returns-else-level-basis-clause-charged : goal.returns-else-level-basis-clau
 returns-else-level-basis-clause-charged g c start before rest seeds first r ch =
     charged_fewer _ _ start _ _ first _ _ before _ _ (omega (
       arith,
-      sum_by-cons (g.G.LinkSource.count c.args.basis.now.graph.now)
+      sum_by-cons (g.G.LinkSource.seen c.args.basis.now.graph.now).count
           c.args.number rest,
     )) ch
