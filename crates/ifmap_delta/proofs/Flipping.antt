@@ -16,13 +16,13 @@ use Rattle.ifmap_plans.specs.declared.plans.ItemChange.{ItemChange}
 use Rattle.ifmap_plans.specs.Plans.{change_of, list_after}
 use Rattle.ifmap_region.specs.declared.flips.Flip.{Flip}
 use Rattle.ifmap_region.specs.Flips as region
-use Rattle.ifmap_region.specs.Flips.{IsFlipped, Joins}
+use Rattle.ifmap_region.specs.Flips.{InBoth, IsFlipped, Joins}
 use Rattle.ifmap_search.specs.declared.searches.Search.{Search}
 use Rattle.ifmap_view.specs.declared.attachments.Attachment.{Attachment}
 use Rattle.ifmap_view.specs.Rows.{stored_between, stored_linked, stored_on, stored_where}
 use Rattle.ifmap_view.specs.Views.{IsView}
 use Rattle.ifmap_fresh.specs.Matching.{is_match, one_meets}
-use Rattle.ifmap_delta.specs.Bounds.{IsFlip, Mid}
+use Rattle.ifmap_delta.specs.Bounds.{IsFlip}
 use Rattle.ifmap_delta.specs.Changes.{ShowsAfter}
 use Rattle.ifmap_delta.specs.Flipped.{AreFlipsOf, IsFlipAt, is_one_marked}
 use Rattle.ifmap_delta.specs.Sights.{Links, ViewSeen}
@@ -224,7 +224,7 @@ module _ (tells : BytesTellIdentifiers) (old new : ViewSeen) (s : Search) (was :
         ]
 
     -- and the links of both stay
-    pub there_mid : (v w : ℕ) → Mid old new s v w → region.Mid (Links new s) flips v w
+    pub there_mid : (v w : ℕ) → InBoth (Links old s) (Links new s) v w → region.Mid (Links new s) flips v w
     there_mid v w p = (p.1, λ f. added_unlinked v w f p.0)
 
     -- flips join numbers that have a link in one of the two alone

@@ -17,14 +17,13 @@ use Rattle.ifmap_plans.specs.declared.plans.ItemChange.{ItemChange}
 use Rattle.ifmap_region.specs.declared.flips.Flip.{Flip}
 use Rattle.ifmap_region.specs.Bounds.{IsWithin, within_heavier, within_wider}
 use Rattle.ifmap_region.specs.Flips as region
-use Rattle.ifmap_region.specs.Flips.{IsEnd}
-use Rattle.ifmap_region.specs.Near as region_near
-use Rattle.ifmap_region.specs.Near.{NearFlips, SameDepth, at_flip, beside, touched}
+use Rattle.ifmap_region.specs.Flips.{InBoth, IsEnd}
+use Rattle.ifmap_region.specs.Near.{IsTouched, NearFlips, SameDepth, at_flip, beside, touched}
 use Rattle.ifmap_region.specs.Walks.{AreDepths, HasDepth, Walk, begins, goes_on}
 use Rattle.ifmap_search.specs.declared.searches.Search.{Search}
 use Rattle.ifmap_view.specs.Views.{IsView}
 use Rattle.ifmap_fresh.specs.Linking.{is_terminal_at}
-use Rattle.ifmap_delta.specs.Bounds.{IsFlip, IsNear, IsTouched, Mid, one_and_links}
+use Rattle.ifmap_delta.specs.Bounds.{IsFlip, IsNear, one_and_links}
 use Rattle.ifmap_delta.specs.Changes.{ShowsAfter}
 use Rattle.ifmap_delta.specs.Flipped.{AreFlipsOf}
 use Rattle.ifmap_delta.specs.Sights.{Links, ViewSeen, is_terminal_in}
@@ -142,6 +141,9 @@ module _ (tells : BytesTellIdentifiers) (old new : ViewSeen) (s : Search) (was :
       abbrev MidLinks : ℕ → ℕ → Type 0
       MidLinks = region.Mid (Links new s) flips
 
+      abbrev BothLinks : ℕ → ℕ → Type 0
+      BothLinks = InBoth (Links old s) (Links new s)
+
       -- the marks before the change are depths over the region's old links
       pub old_depths : AreDepths OldLinks U start s.max_depth mark
       old_depths = depths_near (Links old s) OldLinks T U start s.max_depth (λ u. is_some (mark u) ≡ true)
@@ -162,21 +164,21 @@ module _ (tells : BytesTellIdentifiers) (old new : ViewSeen) (s : Search) (was :
       mid_new : (k v : ℕ) → Walk MidLinks U start k v → Walk (Links new s) U start k v
       mid_new = walk_over MidLinks (Links new s) U U start (λ u v t l. (t, l.0))
 
-      both_mid : (k v : ℕ) → Walk (Mid old new s) U start k v → Walk MidLinks U start k v
-      both_mid = walk_over (Mid old new s) MidLinks U U start
+      both_mid : (k v : ℕ) → Walk BothLinks U start k v → Walk MidLinks U start k v
+      both_mid = walk_over BothLinks MidLinks U U start
           (λ u v t l. (t, there_mid tells old new s was is changes change mark flips are u v l))
 
       -- so a depth that is the same before and over the links of both is that over the region's
-      mid_depth : (v : ℕ) → SameDepth (Links old s) (Mid old new s) U start s.max_depth v → (k : ℕ)
-          → HasDepth MidLinks U start s.max_depth v k → HasDepth (Mid old new s) U start s.max_depth v k
+      mid_depth : (v : ℕ) → SameDepth (Links old s) BothLinks U start s.max_depth v → (k : ℕ)
+          → HasDepth MidLinks U start s.max_depth v k → HasDepth BothLinks U start s.max_depth v k
       mid_depth v d k h =
           let m = walk_marked OldLinks U start s.max_depth mark old_depths v k h.within (mid_old k v h.walk)
-          in let q : HasDepth (Mid old new s) U start s.max_depth v m.0 = (d m.0).0 ((depth_before v m.0).0 ((before v m.0).0 m.1))
+          in let q : HasDepth BothLinks U start s.max_depth v m.0 = (d m.0).0 ((depth_before v m.0).0 ((before v m.0).0 m.1))
           in let more : k ≤ m.0 = h.least m.0 (both_mid m.0 v q.walk)
           in let same : m.0 ≡ k = omega (arith, more, m.2)
-          in subst (λ n. HasDepth (Mid old new s) U start s.max_depth v n) same q
+          in subst (λ n. HasDepth BothLinks U start s.max_depth v n) same q
 
-      first_same : (v : ℕ) → SameDepth (Links old s) (Mid old new s) U start s.max_depth v
+      first_same : (v : ℕ) → SameDepth (Links old s) BothLinks U start s.max_depth v
           → SameDepth OldLinks MidLinks U start s.max_depth v
       first_same v d k = (
         λ h. let q = (d k).0 ((old_same v k).0 h)
@@ -184,15 +186,16 @@ module _ (tells : BytesTellIdentifiers) (old new : ViewSeen) (s : Search) (was :
         λ h. (old_same v k).1 ((d k).1 (mid_depth v d k h)),
       )
 
-      second_same : (v : ℕ) → SameDepth (Links old s) (Mid old new s) U start s.max_depth v
-          → SameDepth (Mid old new s) (Links new s) U start s.max_depth v → SameDepth MidLinks (Links new s) U start s.max_depth v
+      second_same : (v : ℕ) → SameDepth (Links old s) BothLinks U start s.max_depth v
+          → SameDepth BothLinks (Links new s) U start s.max_depth v → SameDepth MidLinks (Links new s) U start s.max_depth v
       second_same v d e k = (
         λ h. (e k).0 (mid_depth v d k h),
         λ h. let q = (e k).1 h
             in record { within = h.within; walk = both_mid k v q.walk; least = λ j w. h.least j (mid_new j v w) },
       )
 
-      touched_there : (v : ℕ) → region_near.IsTouched (Links new s) flips U start s.max_depth v → IsTouched old new s start v
+      touched_there : (v : ℕ) → IsTouched OldLinks MidLinks (Links new s) U start s.max_depth v
+          → IsTouched (Links old s) BothLinks (Links new s) U start s.max_depth v
       touched_there v t = λ d. t (first_same v d.0, second_same v d.0 d.1)
 
       end_there : (v : ℕ) → IsEnd flips true v ⊎ IsEnd flips false v → (w : ℕ) × IsFlip old new s v w

@@ -1,7 +1,8 @@
 -- How many steps a change may take: ten times the links of what is near links that came and went.
 use Rattle.std.specs.Prelude.{ℕ, ◌+◌, ◌⊎◌, length}
 use Rattle.ifmap_region.specs.Bounds.{IsWithin}
-use Rattle.ifmap_region.specs.Near.{Near, SameDepth}
+use Rattle.ifmap_region.specs.Flips.{InBoth}
+use Rattle.ifmap_region.specs.Near.{Near, IsTouched}
 use Rattle.ifmap_search.specs.declared.searches.Search.{Search}
 use Rattle.ifmap_delta.specs.Sights.{ViewSeen, Links, is_terminal_in}
 
@@ -10,18 +11,11 @@ module _ (old new : ViewSeen) (s : Search) where
   abbrev pub IsFlip : ℕ → ℕ → Type 0
   IsFlip v w = (Links old s v w × ¬ Links new s v w) ⊎ (Links new s v w × ¬ Links old s v w)
 
-  -- the matching links of the old one without those that the new one lacks
-  abbrev pub Mid : ℕ → ℕ → Type 0
-  Mid v w = Links old s v w × Links new s v w
-
-  -- the depth of the number differs between the old one and these, or between these and the new one
-  abbrev pub IsTouched : ℕ → ℕ → Type 0
-  IsTouched start v = ¬ (SameDepth (Links old s) Mid (is_terminal_in new s) start s.max_depth v
-      × SameDepth Mid (Links new s) (is_terminal_in new s) start s.max_depth v)
-
-  -- the ends of flips, what is touched, and the neighbours of that by matching links of either
+  -- the ends of flips, what is touched where the matching links of both stay, and the neighbours of that by matching
+  -- links of either
   abbrev pub IsNear : ℕ → ℕ → Type 0
-  IsNear start = Near (λ v. (w : ℕ) × IsFlip v w) (IsTouched start) (Links old s) (Links new s)
+  IsNear start = Near (λ v. (w : ℕ) × IsFlip v w) (IsTouched (Links old s) (InBoth (Links old s) (Links new s))
+      (Links new s) (is_terminal_in new s) start s.max_depth) (Links old s) (Links new s)
 
   -- one, and the links of a number before and after, those that do not match among them
   abbrev pub one_and_links : ℕ → ℕ

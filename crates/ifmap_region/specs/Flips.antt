@@ -20,9 +20,13 @@ IsEnd flips added v = (w : ℕ) × IsFlipped flips added v w
 abbrev pub WithRemoved : (ℕ → ℕ → Type 0) → List Flip → ℕ → ℕ → Type 0
 WithRemoved links flips v w = links v w ⊎ IsFlipped flips false v w
 
+-- the links that are both of one kind and of another
+abbrev pub InBoth : (ℕ → ℕ → Type 0) → (ℕ → ℕ → Type 0) → ℕ → ℕ → Type 0
+InBoth links others v w = links v w × others v w
+
 -- the links that both graphs have: those of the new one but the added ones
 abbrev pub Mid : (ℕ → ℕ → Type 0) → List Flip → ℕ → ℕ → Type 0
-Mid new flips v w = new v w × ¬ IsFlipped flips true v w
+Mid new flips = InBoth new (λ v w. ¬ IsFlipped flips true v w)
 
 -- the links of the old graph: the new ones with the flips undone
 abbrev pub Old : (ℕ → ℕ → Type 0) → List Flip → ℕ → ℕ → Type 0

@@ -25,12 +25,11 @@ NearOneWay flips added before after terminal start top = Near (IsEnd flips added
     start top) before after
 
 -- the depth differs between the old links and those that stay, or between these and the new ones
-abbrev pub IsTouched : (ℕ → ℕ → Type 0) → List Flip → (ℕ → Bool) → ℕ → ℕ → ℕ → Type 0
-IsTouched new flips terminal start top v =
-    ¬ (SameDepth (Old new flips) (Mid new flips) terminal start top v × SameDepth (Mid new flips) new terminal start
-    top v)
+abbrev pub IsTouched : (ℕ → ℕ → Type 0) → (ℕ → ℕ → Type 0) → (ℕ → ℕ → Type 0) → (ℕ → Bool) → ℕ → ℕ → ℕ → Type 0
+IsTouched old mid new terminal start top v = ¬ (SameDepth old mid terminal start top v
+    × SameDepth mid new terminal start top v)
 
 -- what is near the flips
 abbrev pub NearFlips : (ℕ → ℕ → Type 0) → List Flip → (ℕ → Bool) → ℕ → ℕ → ℕ → Type 0
-NearFlips new flips terminal start top = Near (λ v. IsEnd flips true v ⊎ IsEnd flips false v) (IsTouched new flips
-    terminal start top) (Old new flips) new
+NearFlips new flips terminal start top = Near (λ v. IsEnd flips true v ⊎ IsEnd flips false v)
+    (IsTouched (Old new flips) (Mid new flips) new terminal start top) (Old new flips) new
