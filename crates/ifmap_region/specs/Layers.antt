@@ -1,5 +1,5 @@
 -- Layers: rows over the marks of a region, with the most links of a walk and the graph along which it goes.
-use Rattle.std.specs.Prelude.{◌≡◌, ℕ, suc, ◌+◌, ◌<◌, ◌≤◌, Bool, true, false, Option, Some, IsSome, List, sum_by}
+use Rattle.std.specs.Prelude.{◌≡◌, ℕ, suc, ◌+◌, ◌<◌, ◌≤◌, true, false, Option, Some, IsSome, List, sum_by}
 use Rattle.ifmap_region.specs.declared.flips.Flip.{Flip}
 use Rattle.ifmap_region.specs.declared.bases.Basis.{Basis}
 use Rattle.ifmap_region.specs.Bounds.{IsWithin}
