@@ -46,19 +46,19 @@ fn cut_piece(text: &[u8]) -> Option<(&[u8], &[u8])>
     ensures whole { IfNone result (pieces_of text.now ≡ text.now ∷ []) }
 {
     match comma_in(text) {
-        Some(end) => Some((front(text, end), back(text, end + 1))),
+        Some(end) => Some((take_front(text, end), rest_from(text, end + 1))),
         None => None,
     }
 }
 
-fn front(text: &[u8], end: usize) -> &[u8]
+fn take_front(text: &[u8], end: usize) -> &[u8]
     requires { end ≤ length text.now }
     ensures { result.now ≡ take end text.now }
 {
     &text[..end]
 }
 
-fn back(text: &[u8], start: usize) -> &[u8]
+fn rest_from(text: &[u8], start: usize) -> &[u8]
     requires { start ≤ length text.now }
     ensures { result.now ≡ drop start text.now }
 {

@@ -48,10 +48,10 @@ fn read_front(alloc: Global, children: &[Child], index: usize) -> Result<Vec<Ide
     ensures { IsCheckedAs (λ made. made.items) (identifiers_check 2 [] (before_list (parts_in
         children.now))) result }
 {
-    read_identifiers(alloc, 2, front(children, index))
+    read_identifiers(alloc, 2, take_front(children, index))
 }
 
-fn front(children: &[Child], index: usize) -> &[Child]
+fn take_front(children: &[Child], index: usize) -> &[Child]
     requires { index ≤ length children.now }
     ensures { result.now ≡ take index children.now }
 {
