@@ -2,7 +2,7 @@
 //! big one error takes the place of all.
 #![tactic(auto)]
 
-mod marking;
+mod flagging;
 mod overflowing;
 mod queueing;
 pub mod tellings;

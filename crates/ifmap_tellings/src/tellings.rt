@@ -15,7 +15,7 @@ ghost use Rattle.ifmap_search.specs.declared.results.PollItem.TheVariants as the
 ghost use Rattle.ifmap_standing.specs.ifmap_session.Sessions.{Changes, IsLive, Session, session_with_serial, spare_of};
 ghost use Rattle.ifmap_standing.specs.declared.standing.Standing.{Standing};
 
-use crate::marking::{mark_alone, mark_too_big};
+use crate::flagging::{flag_alone, flag_too_big};
 use crate::overflowing::{overflow_all, overflow_item};
 use crate::queueing::queue_all;
 use ifmap_elem::Many;
@@ -101,10 +101,10 @@ pub fn queue_news(
         standing.now) }
     ensures same { HasSameSessions sessions.old sessions.new }
 {
-    mark_too_big(news.as_slice(), &mut pending.gone);
+    flag_too_big(news.as_slice(), &mut pending.gone);
     queue_all(alloc, sessions, standing, news, &mut pending.tellings)?;
     overflow_all(alloc, sessions, standing, &mut pending.tellings)?;
-    mark_alone(standing, &pending.tellings, &mut pending.gone);
+    flag_alone(standing, &pending.tellings, &mut pending.gone);
     Ok(())
 }
 

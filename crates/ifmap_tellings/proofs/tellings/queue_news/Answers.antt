@@ -31,10 +31,10 @@ overflow_all-requires-clause-others c =
     mid_fits c.args.standing.now c.args.pending.now.tellings c.queue_all.new.tellings c.in_ok-queue_all.ensures.others
     c.args.sessions.now.live c.requires.within
 
-pub mark_alone-requires : goal.mark_alone-requires
-mark_alone-requires c =
+pub flag_alone-requires : goal.flag_alone-requires
+flag_alone-requires c =
     let gone = c.args.pending.now.gone.items
-    in ap length (c.mark_too_big.ensures ∙ ap (flags_since gone) c.as_slice.ensures)
+    in ap length (c.flag_too_big.ensures ∙ ap (flags_since gone) c.as_slice.ensures)
     ∙ gone_long gone c.args.news (c.requires.flags ∙ sym c.requires.long) ∙ c.requires.flags
 
 pub returns-clause-told : goal.returns-clause-told
@@ -58,4 +58,4 @@ returns-clause-brought c =
 
 pub returns-clause-alone : goal.returns-clause-alone
 returns-clause-alone c =
-    bare c.overflow_all.new.tellings c.mark_too_big.new.gone.items c.mark_alone.new.gone.items c.args.standing.now c.mark_alone.ensures
+    bare c.overflow_all.new.tellings c.flag_too_big.new.gone.items c.flag_alone.new.gone.items c.args.standing.now c.flag_alone.ensures

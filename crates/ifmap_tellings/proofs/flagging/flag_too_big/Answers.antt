@@ -1,8 +1,8 @@
 use Rattle.std.proofs.Common.{◌∙◌, ap, sym, set, true, arith}
 use Rattle.std.proofs.lemmas.Option.{slice_get-get_or}
 use Rattle.ifmap_lemmas.specs.Flags.{flag_stays, flag_turns, flags_all}
-use Rattle.ifmap_tellings.proofs.marking.mark_too_big.Goals as goal
-use Rattle.ifmap_tellings.proofs.marking.mark_too_big.Goals.{then-news-at, else-news-at}
+use Rattle.ifmap_tellings.proofs.flagging.flag_too_big.Goals as goal
+use Rattle.ifmap_tellings.proofs.flagging.flag_too_big.Goals.{then-news-at, else-news-at}
 
 pub loop-at-preserved : goal.loop-at-preserved
 loop-at-preserved c =

@@ -4,8 +4,8 @@ use Rattle.std.specs.BTreeMap.{get}
 use Rattle.std.specs.Ordering.{nat_cmp}
 use Rattle.ifmap_lemmas.specs.Flags.{flag_stays, flag_turns, flags_all}
 use Rattle.ifmap_tellings.specs.Tellings.{is_alone}
-use Rattle.ifmap_tellings.proofs.marking.mark_alone.Goals as goal
-use Rattle.ifmap_tellings.proofs.marking.mark_alone.Goals.{then-is_alone, else-is_alone}
+use Rattle.ifmap_tellings.proofs.flagging.flag_alone.Goals as goal
+use Rattle.ifmap_tellings.proofs.flagging.flag_alone.Goals.{then-is_alone, else-is_alone}
 
 pub loop-at-preserved : goal.loop-at-preserved
 loop-at-preserved c =

@@ -3,7 +3,7 @@ use Rattle.std.specs.BTreeMap.{get}
 use Rattle.std.specs.Ordering.{nat_cmp}
 use Rattle.ifmap_lemmas.specs.Flags.{flags_to}
 use Rattle.ifmap_tellings.specs.Tellings.{is_alone}
-use Rattle.ifmap_tellings.proofs.marking.mark_alone.Given as goal
+use Rattle.ifmap_tellings.proofs.flagging.flag_alone.Given as goal
 
 abbrev pub invariant-loop-at : goal.invariant-loop-at
 invariant-loop-at l =

@@ -9,7 +9,7 @@ use ifmap_standing::{News, Standing};
 use std::collections::BTreeMap;
 
 // Subscriptions whose results are too big now are gone.
-pub(crate) fn mark_too_big(news: &[News], gone: &mut Vec<bool>)
+pub(crate) fn flag_too_big(news: &[News], gone: &mut Vec<bool>)
     requires { length gone.old.items ≡ length news.now }
     ensures { gone.new.items ≡ flags_since gone.old.items news.now }
 {
@@ -21,7 +21,7 @@ pub(crate) fn mark_too_big(news: &[News], gone: &mut Vec<bool>)
 }
 
 // The subscriptions of a session that is told one error in place of all are gone.
-pub(crate) fn mark_alone(
+pub(crate) fn flag_alone(
     standing: &[Standing],
     tellings: &BTreeMap<u64, Telling>,
     gone: &mut Vec<bool>,
