@@ -234,7 +234,7 @@ impl View for Graph {
     }
 
     fn stored_at(&self, item: &Item) -> &[Row] {
-        self.shelves.stored_at(item)
+        self.shelves.rows_at(item)
     }
 
     fn link_count(&self, number: u64) -> u64 {

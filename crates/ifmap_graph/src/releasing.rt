@@ -29,7 +29,7 @@ fn release_item(names: &mut Pool<Identifier>, shelves: &mut Shelves, item: &Item
     if shelves.unwait(item) > 0 {
         return;
     }
-    if !shelves.stored_at(item).is_empty() {
+    if !shelves.rows_at(item).is_empty() {
         return;
     }
     remove_shelf(names, shelves, item);

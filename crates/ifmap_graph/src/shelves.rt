@@ -45,7 +45,7 @@ impl Shelves {
     }
 
     /// What is stored on an item, in order.
-    pub fn stored_at(&self, item: &Item) -> &[Row]
+    pub fn rows_at(&self, item: &Item) -> &[Row]
         requires { AreShelved self.now }
         ensures { result.now ≡ stored_on item.now (rows_on_side list_now self.now) }
     {

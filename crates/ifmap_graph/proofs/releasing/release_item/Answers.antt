@@ -12,8 +12,8 @@ unwait-requires c = record {
   waited = c.requires.waited;
 }
 
-pub stored_at-requires : goal.stored_at-requires
-stored_at-requires c = c.unwait.ensures.shelved
+pub rows_at-requires : goal.rows_at-requires
+rows_at-requires c = c.unwait.ensures.shelved
 
 pub returns-then-unwait-gt0-clause-less : goal.returns-then-unwait-gt0-clause-less
 returns-then-unwait-gt0-clause-less c =
@@ -40,7 +40,7 @@ remove_shelf-requires-clause-empty c =
     let p = waited_there c.args.shelves.now c.args.item.now c.requires.waited
     in is_bare c.unwait.new.self c.args.item.now p.0 c.unwait.ensures.shelved (c.unwait.ensures.bare c.requires.bare)
     (is_there_still c.args.shelves.now c.unwait.new.self c.args.item.now p.0 c.unwait.ensures.places p.1)
-    (sym c.stored_at.ensures ∙ nothing_in _ (sym c.is_empty.ensures ∙ c.if-not-is_empty.false))
+    (sym c.rows_at.ensures ∙ nothing_in _ (sym c.is_empty.ensures ∙ c.if-not-is_empty.false))
 
 pub returns-clause-less : goal.returns-clause-less
 returns-clause-less c =
@@ -54,7 +54,7 @@ returns-clause-less c =
     (less_removed c.args.names.now c.remove_shelf.new.names c.unwait.new.self c.remove_shelf.new.shelves c.args.item.now
     c.unwait.ensures.shelved
     (c.remove_shelf.ensures.inside c.requires.inside.0 inside).placed
-    (sym c.stored_at.ensures ∙ nothing_in _ (sym c.is_empty.ensures ∙ c.if-not-is_empty.false))
+    (sym c.rows_at.ensures ∙ nothing_in _ (sym c.is_empty.ensures ∙ c.if-not-is_empty.false))
     c.remove_shelf.ensures.inside c.remove_shelf.ensures.now c.remove_shelf.ensures.before c.remove_shelf.ensures.others
     c.remove_shelf.ensures.named c.remove_shelf.ensures.own)
 
@@ -74,8 +74,8 @@ returns-then-unwait-gt0-clause-filled c =
 pub returns-then-not-is_empty-clause-filled : goal.returns-then-not-is_empty-clause-filled
 returns-then-not-is_empty-clause-filled c =
     filled_still c.args.shelves.now c.unwait.new.self c.args.item.now c.unwait.ensures.places c.unwait.ensures.now c.unwait.ensures.waits
-    (inr (λ e. some_there c.stored_at.result.now (sym c.is_empty.ensures ∙ c.if-not-is_empty.true)
-    (c.stored_at.ensures ∙ ap (stored_on c.args.item.now) c.unwait.ensures.now ∙ e)))
+    (inr (λ e. some_there c.rows_at.result.now (sym c.is_empty.ensures ∙ c.if-not-is_empty.true)
+    (c.rows_at.ensures ∙ ap (stored_on c.args.item.now) c.unwait.ensures.now ∙ e)))
 
 pub returns-clause-filled : goal.returns-clause-filled
 returns-clause-filled c =

@@ -5,11 +5,11 @@ use Rattle.ifmap_graph.proofs.Insides.{rows_shown}
 use Rattle.ifmap_view.specs.Rows.{stored_on}
 use Rattle.ifmap_graph.proofs.graph.GraphView.stored_at.Goals as goal
 
-pub stored_at-requires : goal.stored_at-requires
-stored_at-requires c = c.self.invariant.placed
+pub rows_at-requires : goal.rows_at-requires
+rows_at-requires c = c.self.invariant.placed
 
 pub returns : goal.returns
 returns c =
     rw (← c.self.view_is)
-    (c.stored_at.ensures ∙ ap (stored_on c.args.item.now)
+    (c.rows_at.ensures ∙ ap (stored_on c.args.item.now)
     (sym (rows_shown list_now (get c.self.inside.shelves.slots) c.self.inside.shelves.places.entries)))

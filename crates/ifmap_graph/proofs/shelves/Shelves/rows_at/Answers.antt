@@ -3,7 +3,7 @@ use Rattle.slab.specs.Slab.{get}
 use Rattle.ifmap_graph.specs.Shelved.{list_at}
 use Rattle.ifmap_graph.specs.Sides.{list_now}
 use Rattle.ifmap_graph.proofs.Finding.{found, absent, live_at}
-use Rattle.ifmap_graph.proofs.shelves.Shelves.stored_at.Goals as goal
+use Rattle.ifmap_graph.proofs.shelves.Shelves.rows_at.Goals as goal
 
 pub index-requires : goal.index-requires
 index-requires c = live_at (λ n. IsSome (get c.args.self.now.slots n)) _ c.args.self.now.places.entries c.in-Some.at.now c.requires.live
