@@ -19,7 +19,7 @@ use Rattle.ifmap_graph.specs.Turning.{sides_at}
 use Rattle.ifmap_graph.proofs.Alike.{alike_equal}
 use Rattle.ifmap_graph.proofs.Brought.{brings_both, brings_none, there_still}
 use Rattle.ifmap_graph.proofs.Changed.{held_alike, names_alike, roomier}
-use Rattle.ifmap_graph.proofs.Marks.{marked_more}
+use Rattle.ifmap_graph.proofs.Marks.{marked_more, marked_none}
 use Rattle.ifmap_graph.proofs.Shelving.{Entries}
 use Rattle.ifmap_graph.specs.NumberLaws.{once_few}
 
@@ -106,14 +106,10 @@ module _ (items : List Item) (first : Parts) where
     grown = grown_itself first is;
     long = ap length e;
     brought = subst (λ l. BringsShelves (flagged_items items l) first.shelves first.shelves) (sym e)
-        (subst (λ l. BringsShelves l first.shelves first.shelves) (sym (none items))
+        (subst (λ l. BringsShelves l first.shelves first.shelves) (sym (marked_none items))
         (brings_none first.shelves first.shelves refl (λ at. refl) (λ x. refl)));
     there = tt;
   }
-    where
-      none : (xs : List Item) → flagged_items xs [] ≡ []
-      none [] = refl
-      none (x ∷ xs) = refl
 
   module _ (p q : Parts) (marks : List Bool) (i : ℕ) (g : Placing p marks i) (grown : AreGrown p q) where
     -- one that fails brings none

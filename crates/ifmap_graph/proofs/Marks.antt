@@ -23,7 +23,8 @@ use Rattle.ifmap_graph.proofs.Lessening.{is_bare, less_itself, less_on}
 use Rattle.ifmap_lemmas.specs.Options.{some_is}
 use Rattle.ifmap_graph.proofs.Accepting.{apart_after}
 
-marked_none : (xs : List Item) → flagged_items xs [] ≡ []
+-- where nothing is marked
+pub marked_none : (xs : List Item) → flagged_items xs [] ≡ []
 marked_none [] = refl
 marked_none (x ∷ xs) = refl
 
