@@ -14,9 +14,11 @@ use Rattle.uuid.specs.Text.{lower, parsed, hex_digit, nibble}
 use Rattle.uuid.proofs.TextLemmas.{by_index_length, by_index_at, nibble_small}
 use Rattle.uuid.proofs.RoundTrips.{parses_simple}
 use Rattle.uuid.proofs.OrderLemmas.{from_be_bytes-to_be_bytes_16}
+use Rattle.ifmap_elem.specs.Chars.{line_feed, space_character}
 use Rattle.ifmap_io.specs.Calendar.{last_moment}
 use Rattle.ifmap_meta.specs.ClientNames.{IsClientName, is_client_byte}
 use Rattle.ifmap_server.specs.declared.headers.Header.{Header}
+use Rattle.ifmap_server.specs.Characters.{at_sign}
 use Rattle.ifmap_server.specs.Frames.{IsHeader, header_text, longest_body, word_text}
 use Rattle.ifmap_lemmas.specs.Splits.{Without, without_from, without_at, without_append, before, after, before_at, after_at}
 use Rattle.ifmap_lemmas.specs.Decimals.{decimal_model}
@@ -87,16 +89,18 @@ all_without c (x ∷ xs) out all =
 
 -- four words after a sign, with single spaces between them
 abbrev pub joined : (m c r s : List ℕ) → List ℕ
-joined m c r s = 64 ∷ m ++ 32 ∷ c ++ 32 ∷ r ++ 32 ∷ s
+joined m c r s = at_sign ∷ m ++ space_character ∷ c ++ space_character ∷ r ++ space_character ∷ s
 
-pub joined_right : (m c r s : List ℕ) → joined m c r s ≡ 64 ∷ (m ++ 32 ∷ (c ++ 32 ∷ (r ++ 32 ∷ s)))
+pub joined_right : (m c r s : List ℕ)
+    → joined m c r s ≡ at_sign ∷ (m ++ space_character ∷ (c ++ space_character ∷ (r ++ space_character ∷ s)))
 joined_right m c r s = simp append_assoc
 
-joined_without : (m c r s : List ℕ) → Without 10 m → Without 10 c → Without 10 r → Without 10 s → Without 10 (joined m c r s)
+joined_without : (m c r s : List ℕ) → Without line_feed m → Without line_feed c → Without line_feed r → Without line_feed s
+    → Without line_feed (joined m c r s)
 joined_without m c r s wm wc wr ws =
-    without_append 10 (64 ∷ m ++ 32 ∷ c ++ 32 ∷ r) (32 ∷ s)
-    (without_append 10 (64 ∷ m ++ 32 ∷ c) (32 ∷ r)
-    (without_append 10 (64 ∷ m) (32 ∷ c) ((λ e. absurd (omega arith)), wm) ((λ e. absurd (omega arith)), wc))
+    without_append line_feed (at_sign ∷ m ++ space_character ∷ c ++ space_character ∷ r) (space_character ∷ s)
+    (without_append line_feed (at_sign ∷ m ++ space_character ∷ c) (space_character ∷ r)
+    (without_append line_feed (at_sign ∷ m) (space_character ∷ c) ((λ e. absurd (omega arith)), wm) ((λ e. absurd (omega arith)), wc))
     ((λ e. absurd (omega arith)), wr))
     ((λ e. absurd (omega arith)), ws)
 
@@ -104,23 +108,23 @@ joined_length : (m c r s : List ℕ) → length (joined m c r s) ≡ length m + 
 joined_length m c r s =
     omega (
       arith,
-      length-append (64 ∷ m ++ 32 ∷ c ++ 32 ∷ r) (32 ∷ s),
-      length-append (64 ∷ m ++ 32 ∷ c) (32 ∷ r),
-      length-append (64 ∷ m) (32 ∷ c),
+      length-append (at_sign ∷ m ++ space_character ∷ c ++ space_character ∷ r) (space_character ∷ s),
+      length-append (at_sign ∷ m ++ space_character ∷ c) (space_character ∷ r),
+      length-append (at_sign ∷ m) (space_character ∷ c),
     )
 
 -- a header without its newline
 abbrev pub line_text : Header → List ℕ
 line_text h = joined (decimal h.moment) h.client (word_text h.random) (decimal h.size)
 
-pub header_of_line : (h : Header) → header_text h.moment h.client h.random h.size ≡ line_text h ++ 10 ∷ []
+pub header_of_line : (h : Header) → header_text h.moment h.client h.random h.size ≡ line_text h ++ line_feed ∷ []
 header_of_line h = refl
 
-pub line_without : (h : Header) → IsWithin h → Without 10 (line_text h)
+pub line_without : (h : Header) → IsWithin h → Without line_feed (line_text h)
 line_without h w =
     joined_without (decimal h.moment) h.client (word_text h.random) (decimal h.size)
-    (decimal_without 10 h.moment (λ r. omega arith) (omega arith)) (all_without 10 h.client refl w.client.2)
-    (word_without 10 h.random (omega arith)) (decimal_without 10 h.size (λ r. omega arith) (omega arith))
+    (decimal_without line_feed h.moment (λ r. omega arith) (omega arith)) (all_without line_feed h.client refl w.client.2)
+    (word_without line_feed h.random (omega arith)) (decimal_without line_feed h.size (λ r. omega arith) (omega arith))
 
 pub line_length : (h : Header) → IsWithin h → length (line_text h) ≤ 96
 line_length h w =
@@ -137,41 +141,43 @@ header_from m c r s = record { moment = digits_value 10 m; client = c; random = 
 
 pub read_line : List ℕ → Header
 read_line line =
-    header_from (before 32 (drop 1 line)) (before 32 (after 32 (drop 1 line))) (before 32 (after 32 (after 32 (drop 1 line))))
-    (after 32 (after 32 (after 32 (drop 1 line))))
+    header_from (before space_character (drop 1 line)) (before space_character (after space_character (drop 1 line)))
+    (before space_character (after space_character (after space_character (drop 1 line))))
+    (after space_character (after space_character (after space_character (drop 1 line))))
 
-read_joined : (m c r s : List ℕ) → Without 32 m → Without 32 c → Without 32 r → read_line (joined m c r s) ≡ header_from m c r s
+read_joined : (m c r s : List ℕ) → Without space_character m → Without space_character c → Without space_character r
+    → read_line (joined m c r s) ≡ header_from m c r s
 unfolding read_line
 read_joined m c r s wm wc wr =
     ap read_line (joined_right m c r s) ∙ rw (
-      before_at 32 m (c ++ 32 ∷ (r ++ 32 ∷ s)) wm,
-      after_at 32 m (c ++ 32 ∷ (r ++ 32 ∷ s)) wm,
-      before_at 32 c (r ++ 32 ∷ s) wc,
-      after_at 32 c (r ++ 32 ∷ s) wc,
-      before_at 32 r s wr,
-      after_at 32 r s wr,
+      before_at space_character m (c ++ space_character ∷ (r ++ space_character ∷ s)) wm,
+      after_at space_character m (c ++ space_character ∷ (r ++ space_character ∷ s)) wm,
+      before_at space_character c (r ++ space_character ∷ s) wc,
+      after_at space_character c (r ++ space_character ∷ s) wc,
+      before_at space_character r s wr,
+      after_at space_character r s wr,
     ) refl
 
 pub read_line_text : (h : Header) → IsWithin h → read_line (line_text h) ≡ h
 unfolding header_from
 read_line_text h w =
     read_joined (decimal h.moment) h.client (word_text h.random) (decimal h.size)
-    (decimal_without 32 h.moment (λ r. omega arith) (omega arith)) (all_without 32 h.client refl w.client.2)
-    (word_without 32 h.random (omega arith))
+    (decimal_without space_character h.moment (λ r. omega arith) (omega arith)) (all_without space_character h.client refl w.client.2)
+    (word_without space_character h.random (omega arith))
     ∙ rw (decimal_value h.moment (omega arith), decimal_value h.size (omega arith), word_value_text h.random w.random) refl
 
 -- ---- what a line is
 
 pub line_of : (line : List ℕ) (h : Header) → IsHeader line h → line ≡ line_text h
-line_of line h is = append_cancel_right line (line_text h) (10 ∷ []) is.text
+line_of line h is = append_cancel_right line (line_text h) (line_feed ∷ []) is.text
 
 pub is_header : (h : Header) → IsWithin h → IsHeader (line_text h) h
 is_header h w = record { text = refl; moment = w.moment; client = w.client; random = w.random; size = w.size }
 
 -- a header's text is a line of at most 96 bytes and its newline
-pub header_line : (h : Header) → IsWithin h → (line : List ℕ) × (header_text h.moment h.client h.random h.size ≡ line ++ 10 ∷ [])
-    × ((k : ℕ) → k < length line → get_or line k 0 ≢ 10) × (length line ≤ 96)
-header_line h w = (line_text h, refl, without_at 10 (line_text h) (line_without h w), line_length h w)
+pub header_line : (h : Header) → IsWithin h → (line : List ℕ) × (header_text h.moment h.client h.random h.size ≡ line ++ line_feed ∷ [])
+    × ((k : ℕ) → k < length line → get_or line k 0 ≢ line_feed) × (length line ≤ 96)
+header_line h w = (line_text h, refl, without_at line_feed (line_text h) (line_without h w), line_length h w)
 
 -- a line is one header at most
 pub header_of_line_one : (line : List ℕ) (h : Header) → IsHeader line h → read_line line ≡ h
@@ -180,7 +186,7 @@ header_of_line_one line h is = ap read_line (line_of line h is) ∙ read_line_te
 pub header_unique : (g h : Header) → IsWithin g → IsWithin h → header_text g.moment g.client g.random g.size
     ≡ header_text h.moment h.client h.random h.size → g ≡ h
 header_unique g h wg wh e =
-    sym (read_line_text g wg) ∙ ap read_line (append_cancel_right (line_text g) (line_text h) (10 ∷ []) e) ∙ read_line_text h wh
+    sym (read_line_text g wg) ∙ ap read_line (append_cancel_right (line_text g) (line_text h) (line_feed ∷ []) e) ∙ read_line_text h wh
 
 pub client_without : (c : ℕ) (name : List ℕ) → is_client_byte c ≡ false → IsClientName name → Without c name
 client_without c name out is = all_without c name out is.2
