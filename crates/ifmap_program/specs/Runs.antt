@@ -10,7 +10,7 @@ use Rattle.ifmap_program.specs.Usage.{TellsUsage}
 use Rattle.ifmap_server.specs.Ends.{SourceAndSink}
 use Rattle.ifmap_server.specs.Replayed.{Replays}
 use Rattle.ifmap_serving.specs.declared.stands.Stand.{Stand}
-use Rattle.ifmap_serving.specs.Stands.{AreServed, AreUnserved, status_of}
+use Rattle.ifmap_serving.specs.Stands.{AreServed, AreUnserved, status_of_stands}
 use Rattle.ifmap_serving.specs.Works.{DoorSeen}
 
 -- stands were served over one hall, and the status tells how that went; or there was no memory to begin with, and no door was touched
@@ -19,7 +19,7 @@ pub record ServesStands {D G : Type 0} (gives : ℕ → Type 0) (see : D → Doo
     : Type 0 where
   pub unserved : status ≡ no_memory_status → AreUnserved before after
   pub served : status ≢ no_memory_status → AreServed gives see key before after
-  pub told : status ≢ no_memory_status → status ≡ status_of after
+  pub told : status ≢ no_memory_status → status ≡ status_of_stands after
 
 -- what contracts see of the outside at one moment: a source and a sink, and the stands
 pub record Outside (D G : Type 0) : Type 0 where

@@ -106,6 +106,6 @@ module _ {D G : Type 0} where
         → IsStandServed gives see key hall i (slice_index_or before i d) (slice_index_or after i d)
 
   -- that of a fault of a link where a stand has that status, and else that of a run that is done
-  abbrev pub status_of : List (Stand D G) → ℕ
-  status_of stands =
+  abbrev pub status_of_stands : List (Stand D G) → ℕ
+  status_of_stands stands =
       if list_any (λ (s : Stand D G). s.status == link_fault_status) stands then link_fault_status else done_status

@@ -6,7 +6,7 @@ ghost use Rattle.ifmap_io.specs.Limits.{most_workers};
 ghost use Rattle.ifmap_io.specs.Statuses.{link_fault_status, no_memory_status};
 ghost use Rattle.ifmap_serving.specs.declared.stands.Stand.{Stand};
 ghost use Rattle.ifmap_serving.specs.Stands.{AreReady, AreServed, AreUnserved, HasUnusedPass, OpensServer};
-ghost use Rattle.ifmap_serving.specs.Stands.{IsStandServed, ServerHall, WorksBy, status_of, words_at};
+ghost use Rattle.ifmap_serving.specs.Stands.{IsStandServed, ServerHall, WorksBy, status_of_stands, words_at};
 ghost use Rattle.ifmap_serving.specs.Works.{door_seen};
 
 use crate::stands::Stand;
@@ -55,7 +55,7 @@ pub fn serve<R: Threads + Wait + Sync, D: Door + Send, C: Clock + Sync, G: Gate 
     ensures unserved { result ≡ no_memory_status → AreUnserved stands.old stands.new }
     ensures served { result ≢ no_memory_status
         → AreServed (C.gives clock.now) (door_seen D.links D.faults) key stands.old stands.new }
-    ensures status { result ≢ no_memory_status → result ≡ status_of stands.new }
+    ensures status { result ≢ no_memory_status → result ≡ status_of_stands stands.new }
 {
     let Ok((hall, mut pass)) = begin_hall(alloc) else {
         return NO_MEMORY;
@@ -64,7 +64,7 @@ pub fn serve<R: Threads + Wait + Sync, D: Door + Send, C: Clock + Sync, G: Gate 
         return NO_MEMORY;
     };
     run_workers(rt, alloc, &hall, &key, clock, stands);
-    status_of(stands)
+    status_of_stands(stands)
 }
 
 // The hall of a server, and its first pass.
@@ -223,8 +223,8 @@ fn words_at(key: [u8; 32], number: u32) -> ChaCha20Rng
 }
 
 // 7 where a stand has that status, and else 0.
-fn status_of<D, G>(stands: &[Stand<D, G>]) -> u8
-    ensures { result ≡ status_of stands.now }
+fn status_of_stands<D, G>(stands: &[Stand<D, G>]) -> u8
+    ensures { result ≡ status_of_stands stands.now }
 {
     if has_failed(stands) { LINK_FAULT } else { DONE }
 }
