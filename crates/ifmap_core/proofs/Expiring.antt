@@ -21,6 +21,7 @@ use Rattle.ifmap_subscribes.specs.ifmap_changes.declared.parts.Parts.{Parts}
 use Rattle.ifmap_core.specs.Completions.{CanApply, CanRename, IsStepCompletion, WouldBeParts, after_completion, starts_in}
 use Rattle.ifmap_core.specs.declared.completions.Completion.{Completion}
 use Rattle.ifmap_core.specs.declared.completions.Completion.TheVariants.{Say, Accept, End, Open, Rename, Poll}
+use Rattle.ifmap_core.proofs.Ended.{without_none}
 use Rattle.ifmap_core.proofs.Places.{all_are_kept, kept_both}
 use Rattle.ifmap_core.proofs.Told.{none_told}
 use Rattle.ifmap_core.proofs.Turned.{all_there, shares_later}
@@ -125,13 +126,9 @@ begins_gone was gone own ended list xs same one e none long =
 -- where none have ended, nothing goes
 pub none_dropped : (state : State) → drop_sessions [] state ≡ state
 none_dropped state =
-    ap (λ (l : List Session). record state { sessions = l; standing = without_standing [] state.standing }) (all_sessions state.sessions)
+    ap (λ (l : List Session). record state { sessions = l; standing = without_standing [] state.standing }) (without_none state.sessions)
     ∙ ap (λ (xs : List machine.Standing). record state { standing = xs }) (all_standing state.standing)
   where
-    all_sessions : (live : List Session) → without_sessions [] live ≡ live
-    all_sessions [] = refl
-    all_sessions (x ∷ live) = ap (λ t. x ∷ t) (all_sessions live)
-
     all_standing : (xs : List machine.Standing) → without_standing [] xs ≡ xs
     all_standing [] = refl
     all_standing (x ∷ xs) = ap (λ t. x ∷ t) (all_standing xs)
