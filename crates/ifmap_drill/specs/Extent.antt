@@ -6,8 +6,8 @@ abbrev pub client_count : ℕ
 client_count = 10
 
 -- the first events: a session and a subscription of each client
-abbrev pub opening_events : ℕ
-opening_events = 20
+abbrev pub first_events : ℕ
+first_events = 20
 
 -- when the first event is
 abbrev pub first_moment : ℕ

@@ -1,6 +1,6 @@
 -- What each event of a drill asks.
 use Rattle.std.specs.Prelude.{ℕ, ◌/◌, ◌%◌, ◌==◌, nat_lt, if◌then◌else◌}
-use Rattle.ifmap_drill.specs.Extent.{client_count, opening_events}
+use Rattle.ifmap_drill.specs.Extent.{client_count, first_events}
 use Rattle.ifmap_drill.specs.declared.tasks.Task.{Task}
 use Rattle.ifmap_drill.specs.declared.tasks.Task.TheVariants.{Begin, Subscribe, Update, Delete, Search, Poll, Renew}
 
@@ -17,5 +17,5 @@ block_task digit =
 abbrev pub task_at : ℕ → Task
 task_at i =
     if nat_lt i client_count then Begin
-    else if nat_lt i opening_events then Subscribe
+    else if nat_lt i first_events then Subscribe
     else block_task (i / client_count % 10)
