@@ -46,7 +46,7 @@ pub(crate) fn serve_round<K: Desk, L: Link, C: Clock, G: Gate>(
 {
     match wire.read_post(setting.alloc) {
         Got::Posted(post) => {
-            let post = mark_last_post(post, number);
+            let post = close_last_post(post, number);
             answer_post(setting, desk, wire, words, gate, post)
         }
         Got::Ended => Some(Ending::Ended),
@@ -64,7 +64,7 @@ pub(crate) fn serve_round<K: Desk, L: Link, C: Clock, G: Gate>(
 }
 
 // The post, which is the last one where it has that number.
-fn mark_last_post(post: Post, number: u32) -> Post
+fn close_last_post(post: Post, number: u32) -> Post
     ensures { result ≡ record post { close = is_last_post number post.close } }
 {
     let Post {

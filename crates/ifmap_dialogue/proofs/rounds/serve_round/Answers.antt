@@ -17,15 +17,15 @@ wire_read g c =
 
 pub returns-in-Posted-clause-serves : goal.returns-in-Posted-clause-serves
 returns-in-Posted-clause-serves g c =
-    round_posted _ _ _ _ _ _ _ _ _ c.in-Posted.post c.mark_last_post-post.result c.answer_post.result
+    round_posted _ _ _ _ _ _ _ _ _ c.in-Posted.post c.close_last_post-post.result c.answer_post.result
     (wire_read g (goal.at.returns-in-Posted-clause-serves g c).After-read_post)
-    c.in-Posted.ensures.reads c.mark_last_post-post.ensures c.answer_post.ensures (post_not _ _ _ _ _ c.answer_post.ensures)
+    c.in-Posted.ensures.reads c.close_last_post-post.ensures c.answer_post.ensures (post_not _ _ _ _ _ c.answer_post.ensures)
 
 pub returns-in-Posted-clause-more : goal.returns-in-Posted-clause-more
 returns-in-Posted-clause-more g c =
     more_if_none c.answer_post.result _
     (λ e.
-    let (other, same) = goes_on_by _ _ _ _ c.in-Posted.post c.mark_last_post-post.result _ c.mark_last_post-post.ensures
+    let (other, same) = goes_on_by _ _ _ _ c.in-Posted.post c.close_last_post-post.result _ c.close_last_post-post.ensures
     c.answer_post.ensures e in
     (same ∙ c.in-Posted.ensures.spent, other))
 
@@ -63,4 +63,4 @@ returns-in-Truncated-clause-serves g c =
 
 pub answer_post-requires : goal.answer_post-requires
 answer_post-requires g c =
-    record { short = subst (λ (p : Post). length p.body ≤ longest_post) (sym c.mark_last_post-post.ensures) c.in-Posted.ensures.answerable }
+    record { short = subst (λ (p : Post). length p.body ≤ longest_post) (sym c.close_last_post-post.ensures) c.in-Posted.ensures.answerable }
