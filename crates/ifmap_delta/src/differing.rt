@@ -39,7 +39,7 @@ fn has_met(rows: &[Row], row: &Row, filter: &Option<Filter>) -> bool
     ensures { result ≡ has_met filter.now rows.now row.now }
 {
     match rows.binary_search_by(|other| row_order(other, row)) {
-        Ok(place) => meets_optional(filter, rows[place].stored().element.element()),
+        Ok(place) => meets_optional(filter, rows[place].stored_element().element.element()),
         Err(_) => false,
     }
 }
@@ -57,7 +57,7 @@ fn add_left_out(
         these.now others.now) }
 {
     for row in these {
-        let element = &row.stored().element;
+        let element = &row.stored_element().element;
         if meets_optional(filter, element.element()) && !has_met(others, row, filter) {
             entries.push(Entry {
                 item: item.share()?,

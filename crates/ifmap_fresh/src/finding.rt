@@ -136,7 +136,7 @@ fn size_of(filter: &Option<Filter>, item: &Item, rows: &[Row]) -> Option<u64>
 fn size_with(size: u64, own: u64, filter: &Option<Filter>, row: &Row) -> Option<u64>
     ensures { IfSome result (λ sum. sum ≡ size + row_size own filter.now row.now) }
 {
-    let element = &row.stored().element;
+    let element = &row.stored_element().element;
     if meets_optional(filter, element.element()) {
         add_both(size, own, element.size())
     } else {
@@ -191,7 +191,7 @@ fn add_entries(
 {
     let item = SharedItem::new(alloc, item)?;
     for row in rows {
-        let element = &row.stored().element;
+        let element = &row.stored_element().element;
         if meets_optional(filter, element.element()) {
             entries.push(Entry {
                 item: item.share()?,

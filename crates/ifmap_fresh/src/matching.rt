@@ -9,5 +9,5 @@ use ifmap_view::Row;
 pub fn one_meets(filter: &Option<Filter>, rows: &[Row]) -> bool
     ensures { result ≡ one_meets filter.now rows.now }
 {
-    rows.iter().any(|row| meets_optional(filter, row.stored().element.element()))
+    rows.iter().any(|row| meets_optional(filter, row.stored_element().element.element()))
 }

@@ -101,15 +101,15 @@ fn is_less(row: &Row, other: &Row) -> bool
 fn bytes_of(row: &Row) -> &[u8]
     ensures { result.now ≡ stored_bytes row.now }
 {
-    row.stored().element.bytes()
+    row.stored_element().element.bytes()
 }
 
 fn is_other_type(row: &Row, other: &Row) -> bool
     ensures { result ≡ not (same_type row.now.element other.now.element) }
 {
     !same_type(
-        row.stored().element.element(),
-        other.stored().element.element(),
+        row.stored_element().element.element(),
+        other.stored_element().element.element(),
     )
 }
 

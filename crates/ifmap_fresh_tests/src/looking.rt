@@ -85,7 +85,7 @@ pub(crate) fn row_with_key_among<'a>(rows: &'a [Row], row: &Row) -> Option<&'a R
     ensures none { IfNone result (AllByRecursion (λ s. HaveOneKey row.now s → ⊥) rows.now) }
 {
     for other in rows {
-        if row.stored().same_key(other.stored()) {
+        if row.stored_element().same_key(other.stored_element()) {
             return Some(other);
         }
     }

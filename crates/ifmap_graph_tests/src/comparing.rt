@@ -28,7 +28,7 @@ fn is_stored(stored: &Stored, fact: &Fact) -> bool {
 
 fn is_among(rows: &[Row], fact: &Fact) -> bool {
     for row in rows {
-        if is_stored(row.stored(), fact) {
+        if is_stored(row.stored_element(), fact) {
             return true;
         }
     }

@@ -20,7 +20,7 @@ pub fn row_order(one: &Row, other: &Row) -> Ordering
 pub fn bytes_of(row: &Row) -> &[u8]
     ensures { result.now ≡ stored_bytes row.now }
 {
-    row.stored().element.bytes()
+    row.stored_element().element.bytes()
 }
 
 /// Where a row stands among some that rise, by its canonical bytes, or where it would: it is found by

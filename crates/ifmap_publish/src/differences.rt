@@ -81,8 +81,8 @@ fn same_stored(one: &Row, other: &Row) -> bool
     ensures { result ≡ same_stored one.now other.now }
 {
     same_bytes(one, other)
-        && same_publisher(one.stored(), other.stored())
-        && same_life(one.stored().life, other.stored().life)
+        && same_publisher(one.stored_element(), other.stored_element())
+        && same_life(one.stored_element().life, other.stored_element().life)
 }
 
 fn same_bytes(one: &Row, other: &Row) -> bool

@@ -230,7 +230,7 @@ fn add_if_met(row: &Row, test: &Option<Filter>, met: &mut Vec<Row>) -> Result<()
     ensures { OnOk result (met.new.items
         ≡ met.old.items ++ filter (λ s. meets_optional test.now s.element) (row.now ∷ [])) }
 {
-    if !meets_optional(test, row.stored().element.element()) {
+    if !meets_optional(test, row.stored_element().element.element()) {
         return Ok(());
     }
     met.push(row.share()?)?;
@@ -256,7 +256,7 @@ fn share_met(alloc: Global, rows: &[Row], test: &Option<Filter>) -> Result<Vec<R
 {
     let mut list = Vec::new(alloc);
     for row in rows {
-        if meets_optional(test, row.stored().element.element()) {
+        if meets_optional(test, row.stored_element().element.element()) {
             list.push(row.share()?)?;
         }
     }

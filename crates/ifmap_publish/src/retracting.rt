@@ -82,7 +82,7 @@ fn rows_of(alloc: Global, rows: &[Row], who: &Who) -> Result<Vec<Row>, NoMemory>
 {
     let mut list = Vec::new(alloc);
     for row in rows {
-        if is_of(who, row.stored()) {
+        if is_of(who, row.stored_element()) {
             list.push(row.share()?)?;
         }
     }

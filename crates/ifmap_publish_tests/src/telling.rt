@@ -40,7 +40,7 @@ fn life_text(alloc: Global, life: Life) -> Result<String, NoMemory> {
 
 // The element of a row, its publisher and its life.
 fn row_text(alloc: Global, row: &Row) -> Result<String, NoMemory> {
-    let stored = row.stored();
+    let stored = row.stored_element();
     let element = element_text(alloc, stored.element.element())?;
     let life = life_text(alloc, stored.life)?;
     let publisher = stored.publisher.text().0.as_str();

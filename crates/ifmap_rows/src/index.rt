@@ -72,7 +72,7 @@ impl WordRow {
 fn row_word(row: &Row) -> u64
     ensures { result ≡ word_of row.now }
 {
-    row.stored().key_word()
+    row.stored_element().key_word()
 }
 
 // How two rows stand to each other in the index.
@@ -216,7 +216,10 @@ pub(crate) fn find_keyed<'a>(index: &'a [WordRow], row: &Row) -> Option<&'a Row>
     let word = row_word(row);
     let mut place = index.partition_point(|other| other.word() < word);
     while place < index.len() && index[place].word() == word {
-        if row.stored().same_key(index[place].row().stored()) {
+        if row
+            .stored_element()
+            .same_key(index[place].row().stored_element())
+        {
             return Some(index[place].row());
         }
         place += 1;

@@ -11,14 +11,14 @@ const ONE: &str = "pnmrlnjjmorppnkm";
 const OTHER: &str = "knojonqqomjlkmqo";
 
 fn have_one_word(one: &Row, other: &Row) -> bool {
-    one.stored().key_word() == other.stored().key_word()
+    one.stored_element().key_word() == other.stored_element().key_word()
 }
 
 // Whether each of the first two rows is found by its key, and the third by none.
 fn finds_two(rows: &Rows, one: &Row, other: &Row, third: &Row) -> bool {
-    let finds = |row: &Row| rows
-        .row_with_key(row)
-        .is_some_and(|found| found.stored().same_key(row.stored()));
+    let finds = |row: &Row| rows.row_with_key(row).is_some_and(|found| found
+        .stored_element()
+        .same_key(row.stored_element()));
     finds(one) && finds(other) && rows.row_with_key(third).is_none()
 }
 

@@ -39,7 +39,7 @@ impl Row {
     }
 
     /// The stored element. It takes no memory.
-    pub fn stored(&self) -> &Stored
+    pub fn stored_element(&self) -> &Stored
         ensures { result.now ≡ self.now }
     {
         &self.0

@@ -10,7 +10,7 @@ loop-row-preserved c =
     let p : Stored → Bool = is_of c.args.who.now in
     let i = c.loop-row.row-index in
     let x : Stored = c.row-item.result in
-    let told : p x ≡ c.is_of.result = sym (c.is_of.ensures ∙ ap p c.stored.ensures) in
+    let told : p x ≡ c.is_of.result = sym (c.is_of.ensures ∙ ap p c.stored_element.ensures) in
     elim c.if-is_of.branch [
       | then-is_of+in_ok-share+in_ok-push w ↦
           ap (λ v. v.items) w.list-is ∙ w.in_ok-push.ensures.items
