@@ -1,11 +1,11 @@
 //! What the fields of a head say.
-ghost use Rattle.std.specs.Prelude.{◌≡◌, ◌^◌, ◌<◌, ◌≤◌, ◌+◌, ◌∷◌, [], IfSome, codes, drop, length, map, take, None, Some, if◌then◌else◌};
+ghost use Rattle.std.specs.Prelude.{◌≡◌, ◌^◌, ◌<◌, ◌≤◌, ◌+◌, ◌∷◌, [], IfSome, codes, drop, length, map, reverse, take, None, Some, if◌then◌else◌};
 ghost use Rattle.std.specs.List.{list_all, list_any};
 ghost use Rattle.std.specs.Option.{MatchOption};
 ghost use Rattle.std.specs.Str.{bytes_eq, str_eq_ignore_ascii_case};
 ghost use Rattle.std.specs.Str.Parse.{digits_value};
 ghost use Rattle.httparse.specs.Borrowed.{header_parts};
-ghost use Rattle.httparse.specs.Grammar.{trim_ows};
+ghost use Rattle.httparse.specs.Grammar.{skip_ows, trim_ows};
 ghost use Rattle.ifmap_heads.specs.Fields.{comma_parts, common_length, has_field, is_length, lists_word, values, writes_number};
 
 use httparse::{Header, is_space_or_tab};
@@ -158,15 +158,29 @@ fn comma_place(bytes: &[u8]) -> Option<usize>
 fn trim_ows(bytes: &[u8]) -> &[u8]
     ensures { result.now ≡ trim_ows bytes.now }
 {
+    trim_ows_end(trim_ows_start(bytes))
+}
+
+// The bytes without the spaces and tabs in front.
+fn trim_ows_start(bytes: &[u8]) -> &[u8]
+    ensures { result.now ≡ skip_ows bytes.now }
+{
     let mut start = 0;
-    let mut end = bytes.len();
-    while start < end && is_space_or_tab(bytes[start]) {
+    while start < bytes.len() && is_space_or_tab(bytes[start]) {
         start += 1;
     }
-    while start < end && is_space_or_tab(bytes[end - 1]) {
+    &bytes[start..]
+}
+
+// The bytes without the spaces and tabs at the end.
+fn trim_ows_end(bytes: &[u8]) -> &[u8]
+    ensures { result.now ≡ reverse (skip_ows (reverse bytes.now)) }
+{
+    let mut end = bytes.len();
+    while end > 0 && is_space_or_tab(bytes[end - 1]) {
         end -= 1;
     }
-    &bytes[start..end]
+    &bytes[..end]
 }
 
 // The words are the same in any ASCII case.

@@ -1,0 +1,9 @@
+use Rattle.std.proofs.Common.{◌≡◌, ◌≤◌, length, reverse, take}
+use Rattle.httparse.specs.Grammar.{skip_ows}
+use Rattle.ifmap_heads.proofs.fields.trim_ows_end.Given as goal
+
+abbrev pub invariant-loop-end : goal.invariant-loop-end
+invariant-loop-end l = (l.end ≤ length l.bytes) × (skip_ows (reverse l.bytes) ≡ skip_ows (reverse (take l.end l.bytes)))
+
+abbrev pub decreases-loop-end : goal.decreases-loop-end
+decreases-loop-end l = l.end
