@@ -1,7 +1,8 @@
 //! Bodies, as they come from a source.
-ghost use Rattle.std.specs.Prelude.{◌≡◌, ◌<◌, ◌≤◌, ◌+◌, ◌++◌, ℕ, List, Err, IfOk, OnErr, OnOk, is_some, length, take, vec_len};
+ghost use Rattle.std.specs.Prelude.{◌≡◌, ◌<◌, ◌≤◌, ◌+◌, ◌++◌, ℕ, List, Err, IfOk, OnErr, OnOk, length, take, vec_len};
 ghost use Rattle.std.specs.Io.KnownBytes.{Consumes, IsAtEnd};
 ghost use Rattle.ifmap_io.specs.Causes.{Rose};
+ghost use Rattle.ifmap_input.specs.Inputs.{UsesOneSide};
 ghost use Rattle.ifmap_http.specs.Bodies.{LacksBody, TakesBody};
 
 use ifmap_input::{CHUNK, Input};
@@ -30,9 +31,7 @@ pub(crate) fn take_body<S: Source>(
         → LacksBody (S.left source.old) (S.left source.new) input.old size }
     ensures fault { result ≡ Err Unread.ReadFault
         → Rose (S.faults source.old) (S.faults source.new) }
-    ensures told { is_some (S.left source.new) ≡ is_some (S.left source.old) }
-    ensures apart { S.outgoing source.new ≡ S.outgoing source.old }
-    ensures later { S.faults source.old ≤ S.faults source.new }
+    ensures side { UsesOneSide S.left S.faults S.outgoing source.old source.new }
     ensures quiet { size ≤ length input.old → source.new ≡ source.old }
 {
     let Ok(mut body) = Vec::with_capacity(alloc, size) else {
@@ -53,7 +52,7 @@ pub(crate) fn take_body<S: Source>(
 }
 
 // Reads what a body lacks of its size.
-#[tactic(auto, using(ifmap_io::specs::Rises::rose_since))]
+#[tactic(auto, using(ifmap_input::specs::InputLaws::uses_nothing, ifmap_input::specs::InputLaws::uses_more, ifmap_io::specs::Rises::rose_since))]
 fn fill_body<S: Source>(mut body: Vec<u8>, source: &mut S, size: usize) -> Result<Vec<u8>, Unread>
     requires { vec_len body ≤ size }
     ensures body { IfOk result (λ whole. (vec_len whole ≡ size)
@@ -64,9 +63,7 @@ fn fill_body<S: Source>(mut body: Vec<u8>, source: &mut S, size: usize) -> Resul
         × (length (body.items ++ got) < size)) }
     ensures fault { result ≡ Err Unread.ReadFault
         → Rose (S.faults source.old) (S.faults source.new) }
-    ensures told { is_some (S.left source.new) ≡ is_some (S.left source.old) }
-    ensures apart { S.outgoing source.new ≡ S.outgoing source.old }
-    ensures later { S.faults source.old ≤ S.faults source.new }
+    ensures side { UsesOneSide S.left S.faults S.outgoing source.old source.new }
 {
     let mut filled = body.len();
     'body: while filled < size {
@@ -107,9 +104,7 @@ fn read_after<S: Source>(source: &mut S, body: &mut Vec<u8>, filled: usize) -> R
     ensures end { IfOk result (λ count. count ≡ 0 → filled < vec_len body.old
         → IsAtEnd (S.left source.new)) }
     ensures fault { OnErr result (Rose (S.faults source.old) (S.faults source.new)) }
-    ensures told { is_some (S.left source.new) ≡ is_some (S.left source.old) }
-    ensures apart { S.outgoing source.new ≡ S.outgoing source.old }
-    ensures later { S.faults source.old ≤ S.faults source.new }
+    ensures side { UsesOneSide S.left S.faults S.outgoing source.old source.new }
 {
     source.read(&mut body[filled..])
 }

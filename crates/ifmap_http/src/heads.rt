@@ -1,11 +1,11 @@
 //! Heads, as they come from a source.
-ghost use Rattle.std.specs.Prelude.{◌≡◌, ◌≢◌, ◌≤◌, ℕ, List, IfNone, IfSome, Option, is_some, length};
+ghost use Rattle.std.specs.Prelude.{◌≡◌, ◌≢◌, ◌≤◌, ℕ, List, IfNone, IfSome, Option, length};
 ghost use Rattle.std.specs.Io.KnownBytes.{IsAtEnd};
 ghost use Rattle.ifmap_io.specs.Causes.{Rose};
 ghost use Rattle.httparse.specs.Grammar.{RequestHead};
 ghost use Rattle.ifmap_heads.specs.Heads.{HasNoPostHead, IsPostHead};
 ghost use Rattle.ifmap_heads.specs.Limits.{longest_head};
-ghost use Rattle.ifmap_input.specs.Inputs.{TakesFromSource};
+ghost use Rattle.ifmap_input.specs.Inputs.{TakesFromSource, UsesOneSide};
 ghost use Rattle.ifmap_http.specs.Heads.{AwaitsAnswer, AwaitsPost, UnlessAnswerFails, UnlessPostFails};
 
 use crate::dues::HeadProgress;
@@ -47,9 +47,7 @@ pub(crate) fn await_post<S: Source>(alloc: Global, input: &mut Input, source: &m
     ensures is { AwaitsPost input.new (S.left source.new) result }
     ensures fault { result ≡ AwaitedPost.ReadFault
         → Rose (S.faults source.old) (S.faults source.new) }
-    ensures told { is_some (S.left source.new) ≡ is_some (S.left source.old) }
-    ensures apart { S.outgoing source.new ≡ S.outgoing source.old }
-    ensures later { S.faults source.old ≤ S.faults source.new }
+    ensures side { UsesOneSide S.left S.faults S.outgoing source.old source.new }
     ensures quiet { (head : RequestHead) (rest : List ℕ) → IsPostHead input.old head rest
         → (source.new ≡ source.old) × (input.new ≡ input.old) }
 {
@@ -61,7 +59,7 @@ pub(crate) fn await_post<S: Source>(alloc: Global, input: &mut Input, source: &m
 }
 
 // Waits for the head of a post, of which some bytes were looked at.
-#[tactic(auto, using(ifmap_input::specs::InputLaws::takes_nothing, ifmap_input::specs::InputLaws::takes_more, ifmap_io::specs::Rises::rose_since))]
+#[tactic(auto, using(ifmap_input::specs::InputLaws::takes_nothing, ifmap_input::specs::InputLaws::takes_more, ifmap_input::specs::InputLaws::uses_nothing, ifmap_input::specs::InputLaws::uses_more, ifmap_io::specs::Rises::rose_since))]
 fn await_more<S: Source>(
     alloc: Global,
     progress: HeadProgress,
@@ -73,9 +71,7 @@ fn await_more<S: Source>(
     ensures is { AwaitsPost input.new (S.left source.new) result }
     ensures fault { result ≡ AwaitedPost.ReadFault
         → Rose (S.faults source.old) (S.faults source.new) }
-    ensures told { is_some (S.left source.new) ≡ is_some (S.left source.old) }
-    ensures apart { S.outgoing source.new ≡ S.outgoing source.old }
-    ensures later { S.faults source.old ≤ S.faults source.new }
+    ensures side { UsesOneSide S.left S.faults S.outgoing source.old source.new }
 {
     let mut progress = progress;
     'head: loop {
@@ -133,16 +129,14 @@ fn end_post(alloc: Global, bytes: &[u8]) -> AwaitedPost
 }
 
 // Waits for the head of an answer.
-#[tactic(auto, using(ifmap_input::specs::InputLaws::takes_nothing, ifmap_input::specs::InputLaws::takes_more, ifmap_io::specs::Rises::rose_since))]
+#[tactic(auto, using(ifmap_input::specs::InputLaws::takes_nothing, ifmap_input::specs::InputLaws::takes_more, ifmap_input::specs::InputLaws::uses_nothing, ifmap_input::specs::InputLaws::uses_more, ifmap_io::specs::Rises::rose_since))]
 pub(crate) fn await_answer<S: Source>(input: &mut Input, source: &mut S) -> AwaitedAnswer
     ensures taken { UnlessAnswerFails result
         (TakesFromSource (S.left source.old) (S.left source.new) input.old input.new) }
     ensures is { AwaitsAnswer input.new (S.left source.new) result }
     ensures fault { result ≡ AwaitedAnswer.ReadFault
         → Rose (S.faults source.old) (S.faults source.new) }
-    ensures told { is_some (S.left source.new) ≡ is_some (S.left source.old) }
-    ensures apart { S.outgoing source.new ≡ S.outgoing source.old }
-    ensures later { S.faults source.old ≤ S.faults source.new }
+    ensures side { UsesOneSide S.left S.faults S.outgoing source.old source.new }
 {
     let mut progress = HeadProgress::new();
     'head: loop {

@@ -1,11 +1,12 @@
 //! Wires: HTTP over a link.
-ghost use Rattle.std.specs.Prelude.{◌≡◌, ◌≤◌, ◌++◌, ℕ, Bool, List, Some, false, [], IfSome, IsFalse, IsTrue, drop, is_some, length, not};
+ghost use Rattle.std.specs.Prelude.{◌≡◌, ◌≤◌, ◌++◌, ℕ, Bool, List, Some, false, [], IfSome, IsFalse, IsTrue, drop, length, not};
 ghost use Rattle.std.specs.Io.KnownBytes.{prepend_known};
 ghost use Rattle.ifmap_io.specs.Causes.{Rose};
 ghost use Rattle.ifmap_heads.specs.Answers.{sized};
 ghost use Rattle.ifmap_heads.specs.Messages.{answer_bytes, is_answer_status, is_visible, post_bytes};
 ghost use Rattle.ifmap_heads.specs.Posts.{ReadsPost, posted};
 ghost use Rattle.ifmap_heads.specs.Starts.{HasAnswerHead, HasPostHead};
+ghost use Rattle.ifmap_input.specs.Inputs.{UsesOneSide};
 ghost use Rattle.ifmap_http.specs.Outcomes.{GetsAnswer, GetsPost, IsAnswerable, Sends, is_answered, is_posted};
 
 use crate::bodies::{Unread, take_body};
@@ -131,9 +132,7 @@ impl<L: Link> Wire<L> {
         ensures answerable { IsAnswerable result }
         ensures fault { result ≡ Got.ReadFault
             → Rose (L.Source.faults self.old.link) (L.Source.faults self.new.link) }
-        ensures later { L.Source.faults self.old.link ≤ L.Source.faults self.new.link }
-        ensures told { is_some (L.left self.new.link) ≡ is_some (L.left self.old.link) }
-        ensures apart { L.outgoing self.new.link ≡ L.outgoing self.old.link }
+        ensures side { UsesOneSide L.left L.Source.faults L.outgoing self.old.link self.new.link }
         ensures spent { self.new.spent ≡ not (is_posted result) }
         ensures quiet { (client body : List ℕ) (close : Bool) (rest : List ℕ)
             → ReadsPost self.old.taken (posted client body close rest)
@@ -153,9 +152,7 @@ impl<L: Link> Wire<L> {
             (answer_bytes status body.now close) }
         ensures fault { result ≡ Sent.WriteFault
             → Rose (L.Sink.faults self.old.link) (L.Sink.faults self.new.link) }
-        ensures later { L.Sink.faults self.old.link ≤ L.Sink.faults self.new.link }
-        ensures told { is_some (L.held self.new.link) ≡ is_some (L.held self.old.link) }
-        ensures apart { L.incoming self.new.link ≡ L.incoming self.old.link }
+        ensures side { UsesOneSide L.held L.Sink.faults L.incoming self.old.link self.new.link }
         ensures rest { self.new ≡ record self.old { link = self.new.link } }
     {
         let status = StatusCode::from_u16(status).unwrap();
@@ -178,9 +175,7 @@ impl<L: Link> Wire<L> {
             (post_bytes host.now client.now body.now) }
         ensures fault { result ≡ Sent.WriteFault
             → Rose (L.Sink.faults self.old.link) (L.Sink.faults self.new.link) }
-        ensures later { L.Sink.faults self.old.link ≤ L.Sink.faults self.new.link }
-        ensures told { is_some (L.held self.new.link) ≡ is_some (L.held self.old.link) }
-        ensures apart { L.incoming self.new.link ≡ L.incoming self.old.link }
+        ensures side { UsesOneSide L.held L.Sink.faults L.incoming self.old.link self.new.link }
         ensures rest { self.new ≡ record self.old { link = self.new.link } }
     {
         match post_message(alloc, host.0.as_bytes(), client.text().0.as_bytes(), body) {
@@ -197,9 +192,7 @@ impl<L: Link> Wire<L> {
             (λ left. GetsAnswer left (prepend_known self.new.taken (L.left self.new.link)) result) }
         ensures fault { result ≡ Answered.ReadFault
             → Rose (L.Source.faults self.old.link) (L.Source.faults self.new.link) }
-        ensures later { L.Source.faults self.old.link ≤ L.Source.faults self.new.link }
-        ensures told { is_some (L.left self.new.link) ≡ is_some (L.left self.old.link) }
-        ensures apart { L.outgoing self.new.link ≡ L.outgoing self.old.link }
+        ensures side { UsesOneSide L.left L.Source.faults L.outgoing self.old.link self.new.link }
         ensures spent { self.new.spent ≡ not (is_answered result) }
     {
         let answered = self.take_answer(alloc);
@@ -214,9 +207,7 @@ impl<L: Link> Wire<L> {
         ensures answerable { IsAnswerable result }
         ensures fault { result ≡ Got.ReadFault
             → Rose (L.Source.faults self.old.link) (L.Source.faults self.new.link) }
-        ensures later { L.Source.faults self.old.link ≤ L.Source.faults self.new.link }
-        ensures told { is_some (L.left self.new.link) ≡ is_some (L.left self.old.link) }
-        ensures apart { L.outgoing self.new.link ≡ L.outgoing self.old.link }
+        ensures side { UsesOneSide L.left L.Source.faults L.outgoing self.old.link self.new.link }
         ensures quiet { (client body : List ℕ) (close : Bool) (rest : List ℕ)
             → ReadsPost self.old.taken (posted client body close rest)
             → self.new.link ≡ self.old.link }
@@ -240,9 +231,7 @@ impl<L: Link> Wire<L> {
         ensures answerable { IsAnswerable result }
         ensures fault { result ≡ Got.ReadFault
             → Rose (L.Source.faults self.old.link) (L.Source.faults self.new.link) }
-        ensures later { L.Source.faults self.old.link ≤ L.Source.faults self.new.link }
-        ensures told { is_some (L.left self.new.link) ≡ is_some (L.left self.old.link) }
-        ensures apart { L.outgoing self.new.link ≡ L.outgoing self.old.link }
+        ensures side { UsesOneSide L.left L.Source.faults L.outgoing self.old.link self.new.link }
         ensures quiet { terms.size ≤ length (drop size self.old.taken)
             → self.new.link ≡ self.old.link }
     {
@@ -265,9 +254,7 @@ impl<L: Link> Wire<L> {
             (λ left. GetsAnswer left (prepend_known self.new.taken (L.left self.new.link)) result) }
         ensures fault { result ≡ Answered.ReadFault
             → Rose (L.Source.faults self.old.link) (L.Source.faults self.new.link) }
-        ensures later { L.Source.faults self.old.link ≤ L.Source.faults self.new.link }
-        ensures told { is_some (L.left self.new.link) ≡ is_some (L.left self.old.link) }
-        ensures apart { L.outgoing self.new.link ≡ L.outgoing self.old.link }
+        ensures side { UsesOneSide L.left L.Source.faults L.outgoing self.old.link self.new.link }
     {
         match await_answer(&mut self.input, &mut self.link) {
             AwaitedAnswer::Sized(size, body) => return self.take_answered(alloc, size, body),
@@ -290,9 +277,7 @@ impl<L: Link> Wire<L> {
             (L.left self.new.link)) result }
         ensures fault { result ≡ Answered.ReadFault
             → Rose (L.Source.faults self.old.link) (L.Source.faults self.new.link) }
-        ensures later { L.Source.faults self.old.link ≤ L.Source.faults self.new.link }
-        ensures told { is_some (L.left self.new.link) ≡ is_some (L.left self.old.link) }
-        ensures apart { L.outgoing self.new.link ≡ L.outgoing self.old.link }
+        ensures side { UsesOneSide L.left L.Source.faults L.outgoing self.old.link self.new.link }
     {
         self.input.advance(size);
         match take_body(alloc, &mut self.input, &mut self.link, body) {
@@ -310,9 +295,7 @@ fn send<L: Link>(link: &mut L, message: &[u8]) -> Sent
     ensures sends { Sends (L.held link.old) (L.held link.new) result message.now }
     ensures fault { result ≡ Sent.WriteFault
         → Rose (L.Sink.faults link.old) (L.Sink.faults link.new) }
-    ensures later { L.Sink.faults link.old ≤ L.Sink.faults link.new }
-    ensures told { is_some (L.held link.new) ≡ is_some (L.held link.old) }
-    ensures apart { L.incoming link.new ≡ L.incoming link.old }
+    ensures side { UsesOneSide L.held L.Sink.faults L.incoming link.old link.new }
 {
     if link.write_all(message).is_err() {
         return Sent::WriteFault;

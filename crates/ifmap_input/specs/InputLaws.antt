@@ -1,10 +1,10 @@
 -- What is taken piece by piece.
-use Rattle.std.proofs.Common.{◌≡◌, ℕ, List, [], ◌++◌, sym, ap, subst, ◌∙◌, append_assoc, append-nil}
+use Rattle.std.proofs.Common.{◌≡◌, ℕ, List, [], ◌++◌, refl, sym, ap, subst, ◌∙◌, arith, append_assoc, append-nil}
 use Rattle.std.proofs.KnownBytes.{Consumes-nil, Consumes-trans}
 use Rattle.std.proofs.lemmas.List.{append_cancel_left}
 use Rattle.std.specs.Io.KnownBytes.{Consumes}
 use Rattle.std.specs.Prelude.{Option}
-use Rattle.ifmap_input.specs.Inputs.{TakesFromSource}
+use Rattle.ifmap_input.specs.Inputs.{TakesFromSource, UsesOneSide}
 
 -- where nothing is done, nothing is taken
 pub takes_nothing : (left : Option (List ℕ)) (pending : List ℕ) → TakesFromSource left left pending pending
@@ -25,3 +25,14 @@ pub takes_none : (left_old left_new : Option (List ℕ)) (old new : List ℕ) �
     → Consumes left_old left_new []
 takes_none left_old left_new old new takes same =
     subst (Consumes left_old left_new) (append_cancel_left old takes.got [] (sym takes.grown ∙ same ∙ sym (append-nil old))) takes.consumed
+
+-- where nothing is done, a side is as it was
+pub uses_nothing : {X Side : Type 0} (bytes : X → Option (List ℕ)) (faults : X → ℕ) (other : X → Side) (x : X)
+    → UsesOneSide bytes faults other x x
+uses_nothing bytes faults other x = record { told = refl; apart = refl; later = omega arith }
+
+-- what is used after it was used is used
+pub uses_more : {X Side : Type 0} (bytes : X → Option (List ℕ)) (faults : X → ℕ) (other : X → Side) (old mid new : X)
+    → UsesOneSide bytes faults other old mid → UsesOneSide bytes faults other mid new → UsesOneSide bytes faults other old new
+uses_more bytes faults other old mid new a b =
+    record { told = b.told ∙ a.told; apart = b.apart ∙ a.apart; later = omega (arith, a.later, b.later) }

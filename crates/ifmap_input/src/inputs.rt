@@ -1,9 +1,9 @@
 //! The bytes that were taken from a source and are not used yet.
-ghost use Rattle.std.specs.Prelude.{◌≡◌, ◌<◌, ◌≤◌, ℕ, List, [], ◌∷◌, ◌++◌, IfOk, OnErr, OnOk, Err, drop, is_some, length, vec_len};
+ghost use Rattle.std.specs.Prelude.{◌≡◌, ◌<◌, ◌≤◌, ℕ, List, [], ◌∷◌, ◌++◌, IfOk, OnErr, OnOk, Err, drop, length, vec_len};
 ghost use Rattle.std.specs.Bool.{OnFalse, OnTrue};
 ghost use Rattle.std.specs.Io.KnownBytes.{Consumes, IsAtEnd};
 ghost use Rattle.ifmap_io.specs.Causes.{Rose};
-ghost use Rattle.ifmap_input.specs.Inputs.{TakesFromSource};
+ghost use Rattle.ifmap_input.specs.Inputs.{TakesFromSource, UsesOneSide};
 
 use ifmap_io::Source;
 use std::alloc::{AllocError as NoMemory, Global};
@@ -91,9 +91,7 @@ impl Input {
             → (got : List ℕ) × Consumes (S.left source.old) (S.left source.new) got }
         ensures fault { result ≡ Err InputError.ReadFault
             → Rose (S.faults source.old) (S.faults source.new) }
-        ensures told { is_some (S.left source.new) ≡ is_some (S.left source.old) }
-        ensures apart { S.outgoing source.new ≡ S.outgoing source.old }
-        ensures later { S.faults source.old ≤ S.faults source.new }
+        ensures side { UsesOneSide S.left S.faults S.outgoing source.old source.new }
     {
         self.compact();
         if clear_chunk(&mut self.chunk).is_err() {

@@ -13,7 +13,7 @@ wire_read : (g : given.Over) (c : After-read_post g)
     (wire_seen g.L.Source.left g.L.Sink.held g.L.Source.faults g.L.Sink.faults c.read_post.new.self)
 wire_read g c =
     has_read g.L.Source.left g.L.Sink.held g.L.Source.faults g.L.Sink.faults g.L.Source.outgoing g.met.L.Link.outgoing_is c.args.wire.now
-    c.read_post.new.self c.read_post.ensures.apart c.read_post.ensures.later
+    c.read_post.new.self c.read_post.ensures.side.apart c.read_post.ensures.side.later
 
 pub returns-in-Posted-clause-serves : goal.returns-in-Posted-clause-serves
 returns-in-Posted-clause-serves g c =

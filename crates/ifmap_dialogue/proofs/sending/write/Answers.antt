@@ -25,14 +25,14 @@ writes g c =
     (answer_bytes c.args.status c.args.body.now b)) c.closes.ensures c.write_answer-sent.ensures.sends) in
     let (left, reading) =
     same_source g.L.Source.left g.L.Source.faults g.L.Sink.incoming g.met.L.Link.incoming_is before.link after.link
-    c.write_answer-sent.ensures.apart in (
+    c.write_answer-sent.ensures.side.apart in (
       output,
       once,
       record {
         gained = gained;
         rest = rest_of g.L.Source.left g.L.Sink.held g.L.Source.faults g.L.Sink.faults before after
             c.write_answer-sent.ensures.rest left reading;
-        later = c.write_answer-sent.ensures.later;
+        later = c.write_answer-sent.ensures.side.later;
       },
     )
 
