@@ -11,8 +11,8 @@ use Rattle.ifmap_replies.specs.declared.replies.Reply.{Reply}
 use Rattle.ifmap_requests.specs.declared.requests.Request.{Request}
 use Rattle.ifmap_client_script.specs.declared.exchanges.Caller.{Caller}
 use Rattle.ifmap_client_script.specs.declared.exchanges.ReadReply.{ReadReply}
-use Rattle.ifmap_client_script.specs.declared.outcomes.Stop.{Stop}
-use Rattle.ifmap_client_script.specs.declared.outcomes.Stop.TheVariants as stop
+use Rattle.ifmap_client_script.specs.declared.outcomes.ScriptFailure.{ScriptFailure}
+use Rattle.ifmap_client_script.specs.declared.outcomes.ScriptFailure.TheVariants as failure
 use Rattle.ifmap_client_script.specs.Exchanges.{AnswersTo, AsksOnWire, Breaks, HasAny, HasNoReply, HasPart, Hears, Posts, Reads, Receives, BodyTellsReply, ReadingStands, Unwritten, exchange_of, request_post}
 use Rattle.ifmap_io.specs.Rises.{keeps_appends}
 
@@ -23,17 +23,18 @@ no_reply : (left after : Option (List ℕ)) (body : List ℕ)
 no_reply None after body came none = tt
 no_reply (Some l) after body came none = inr (inr (body, came.0, came.2, none))
 
-unmeant : (before after : WireSeen) (body : List ℕ) (e : Stop) → Receives before after (Ok body) → Reads body (Err e)
+unmeant : (before after : WireSeen) (body : List ℕ) (e : ScriptFailure) → Receives before after (Ok body) → Reads body (Err e)
     → Receives before after (Err e)
-unmeant before after body stop.BadReply came reads = no_reply before.left after.left body came.0 reads
-unmeant before after body stop.NoMemory came reads = tt
-unmeant before after body stop.BadLine came reads = absurd reads
-unmeant before after body stop.ReadFault came reads = absurd reads
-unmeant before after body stop.WriteFault came reads = absurd reads
-unmeant before after body stop.LinkFault came reads = absurd reads
-unmeant before after body stop.LinkEnded came reads = absurd reads
+unmeant before after body failure.BadReply came reads = no_reply before.left after.left body came.0 reads
+unmeant before after body failure.NoMemory came reads = tt
+unmeant before after body failure.BadLine came reads = absurd reads
+unmeant before after body failure.ReadFault came reads = absurd reads
+unmeant before after body failure.WriteFault came reads = absurd reads
+unmeant before after body failure.LinkFault came reads = absurd reads
+unmeant before after body failure.LinkEnded came reads = absurd reads
 
-pub hears : (before after : WireSeen) (body : List ℕ) (r : Result ReadReply Stop) → Receives before after (Ok body) → BodyTellsReply body r
+pub hears : (before after : WireSeen) (body : List ℕ) (r : Result ReadReply ScriptFailure) → Receives before after (Ok body)
+    → BodyTellsReply body r
     → Hears before after r
 hears before after body (Ok told) came tells =
     (subst (λ (b : List ℕ). Receives before after (Ok b)) (sym tells.0) came, tells.1)
@@ -77,7 +78,8 @@ module _ (caller : Caller) (request : Request) (before mid after : WireSeen) (un
   whole_part a =
       (post, (length post, sym (take-length post)), record { posted = held_after post a; answered = any_left before.left })
 
-  pub asks : (r : Result ReadReply Stop) → Appends before.held mid.held post → Hears mid after r → AsksOnWire caller request before after r
+  pub asks : (r : Result ReadReply ScriptFailure) → Appends before.held mid.held post → Hears mid after r
+      → AsksOnWire caller request before after r
   asks (Ok told) a h = (
     record {
       posted = held_after (post ++ []) (subst (λ (t : List ℕ). Appends before.held mid.held t) (sym (append-nil post)) a);
@@ -87,24 +89,24 @@ module _ (caller : Caller) (request : Request) (before mid after : WireSeen) (un
     },
     h.1,
   )
-  asks (Err stop.LinkFault) a h =
+  asks (Err failure.LinkFault) a h =
       (whole_part a, inl (subst (λ (n : ℕ). Rose n after.read_faults) unread.read_faults h))
-  asks (Err stop.LinkEnded) a h = broke HasPart a h
-  asks (Err stop.BadReply) a h = broke HasNoReply a h
-  asks (Err stop.NoMemory) a h = whole_part a
-  asks (Err stop.BadLine) a h = absurd h
-  asks (Err stop.ReadFault) a h = absurd h
-  asks (Err stop.WriteFault) a h = absurd h
+  asks (Err failure.LinkEnded) a h = broke HasPart a h
+  asks (Err failure.BadReply) a h = broke HasNoReply a h
+  asks (Err failure.NoMemory) a h = whole_part a
+  asks (Err failure.BadLine) a h = absurd h
+  asks (Err failure.ReadFault) a h = absurd h
+  asks (Err failure.WriteFault) a h = absurd h
 
 -- a post that was cut
-pub asks_part : (caller : Caller) (request : Request) (before after : WireSeen) (e : Stop)
+pub asks_part : (caller : Caller) (request : Request) (before after : WireSeen) (e : ScriptFailure)
     → Posts (request_post caller request) before after (Err e) → AsksOnWire caller request before after (Err e)
-asks_part caller request before after stop.LinkFault p =
+asks_part caller request before after failure.LinkFault p =
     ((take p.0.0 (request_post caller request), (p.0.0, refl), record { posted = p.0.1; answered = any_left before.left }), inr p.1)
-asks_part caller request before after stop.NoMemory p =
+asks_part caller request before after failure.NoMemory p =
     ([], (0, refl), record { posted = keeps_appends before.held after.held p; answered = any_left before.left })
-asks_part caller request before after stop.BadLine p = absurd p
-asks_part caller request before after stop.ReadFault p = absurd p
-asks_part caller request before after stop.WriteFault p = absurd p
-asks_part caller request before after stop.LinkEnded p = absurd p
-asks_part caller request before after stop.BadReply p = absurd p
+asks_part caller request before after failure.BadLine p = absurd p
+asks_part caller request before after failure.ReadFault p = absurd p
+asks_part caller request before after failure.WriteFault p = absurd p
+asks_part caller request before after failure.LinkEnded p = absurd p
+asks_part caller request before after failure.BadReply p = absurd p

@@ -7,8 +7,8 @@ use Rattle.std.proofs.Math.Seq.{get_or-append_seam}
 use Rattle.ifmap_elem.specs.Chars.{line_feed}
 use Rattle.ifmap_client.specs.Lines.{IsLine, line_limit}
 use Rattle.ifmap_client.specs.declared.lines.Line.{Line}
-use Rattle.ifmap_client_script.specs.declared.outcomes.Stop.{Stop}
-use Rattle.ifmap_client_script.specs.declared.outcomes.Stop.TheVariants as stop
+use Rattle.ifmap_client_script.specs.declared.outcomes.ScriptFailure.{ScriptFailure}
+use Rattle.ifmap_client_script.specs.declared.outcomes.ScriptFailure.TheVariants as failure
 use Rattle.ifmap_client_script.specs.declared.scripts.NextLine.{NextLine}
 use Rattle.ifmap_client_script.specs.Deeds.{CanDo, Known}
 use Rattle.ifmap_client_script.specs.Pending.{WaitsForLine, IsLineEnd, IsLineTooLong, Pending}
@@ -101,7 +101,8 @@ bad_long offset bytes known long = (
 -- ---- what reading the next line gives
 
 module _ (left_old left_new : Option (List ℕ)) (offset : ℕ) (old new : Pending) where
-  pub reads_line : (place : ℕ) (r : Result (Option NextLine) Stop) → WaitsForLine left_old left_new offset old new (Ok (Some place))
+  pub reads_line : (place : ℕ) (r : Result (Option NextLine) ScriptFailure)
+      → WaitsForLine left_old left_new offset old new (Ok (Some place))
       → ReadsAt new.bytes place r → ReadsNext left_old left_new offset old new r
   reads_line place (Ok (Some next)) a reads = (
     a.0,
@@ -112,34 +113,36 @@ module _ (left_old left_new : Option (List ℕ)) (offset : ℕ) (old new : Pendi
     },
   )
   reads_line place (Ok None) a reads = absurd reads
-  reads_line place (Err stop.BadLine) a reads =
+  reads_line place (Err failure.BadLine) a reads =
       (a.0, λ known. bad_at offset place new.bytes known a.1 (λ line means can. reads line means))
-  reads_line place (Err stop.NoMemory) a reads =
+  reads_line place (Err failure.NoMemory) a reads =
       record { got = a.0.got; consumed = a.0.consumed; idle = λ ended. (a.0.idle ended).1 }
-  reads_line place (Err stop.ReadFault) a reads = absurd reads
-  reads_line place (Err stop.WriteFault) a reads = absurd reads
-  reads_line place (Err stop.LinkFault) a reads = absurd reads
-  reads_line place (Err stop.LinkEnded) a reads = absurd reads
-  reads_line place (Err stop.BadReply) a reads = absurd reads
+  reads_line place (Err failure.ReadFault) a reads = absurd reads
+  reads_line place (Err failure.WriteFault) a reads = absurd reads
+  reads_line place (Err failure.LinkFault) a reads = absurd reads
+  reads_line place (Err failure.LinkEnded) a reads = absurd reads
+  reads_line place (Err failure.BadReply) a reads = absurd reads
 
-  pub reads_err : (e : Stop) → WaitsForLine left_old left_new offset old new (Err e) → ReadsNext left_old left_new offset old new (Err e)
-  reads_err stop.BadLine a = (a.0, λ known. bad_long offset new.bytes known a.1)
-  reads_err stop.ReadFault a = a
-  reads_err stop.NoMemory a = a
-  reads_err stop.WriteFault a = absurd a
-  reads_err stop.LinkFault a = absurd a
-  reads_err stop.LinkEnded a = absurd a
-  reads_err stop.BadReply a = absurd a
+  pub reads_err : (e : ScriptFailure) → WaitsForLine left_old left_new offset old new (Err e)
+      → ReadsNext left_old left_new offset old new (Err e)
+  reads_err failure.BadLine a = (a.0, λ known. bad_long offset new.bytes known a.1)
+  reads_err failure.ReadFault a = a
+  reads_err failure.NoMemory a = a
+  reads_err failure.WriteFault a = absurd a
+  reads_err failure.LinkFault a = absurd a
+  reads_err failure.LinkEnded a = absurd a
+  reads_err failure.BadReply a = absurd a
 
-abbrev IsFault : Result (Option NextLine) Stop → Type 0
-IsFault r = r ≡ Err stop.ReadFault
+abbrev IsFault : Result (Option NextLine) ScriptFailure → Type 0
+IsFault r = r ≡ Err failure.ReadFault
 
-pub reads_no_fault : {P : Type 0} (bytes : List ℕ) (place : ℕ) (r : Result (Option NextLine) Stop) → ReadsAt bytes place r → IsFault r → P
+pub reads_no_fault : {P : Type 0} (bytes : List ℕ) (place : ℕ) (r : Result (Option NextLine) ScriptFailure) → ReadsAt bytes place r
+    → IsFault r → P
 reads_no_fault bytes place (Ok found) reads e = cc
-reads_no_fault bytes place (Err stop.ReadFault) reads e = absurd reads
-reads_no_fault bytes place (Err stop.BadLine) reads e = cc
-reads_no_fault bytes place (Err stop.NoMemory) reads e = cc
-reads_no_fault bytes place (Err stop.WriteFault) reads e = cc
-reads_no_fault bytes place (Err stop.LinkFault) reads e = cc
-reads_no_fault bytes place (Err stop.LinkEnded) reads e = cc
-reads_no_fault bytes place (Err stop.BadReply) reads e = cc
+reads_no_fault bytes place (Err failure.ReadFault) reads e = absurd reads
+reads_no_fault bytes place (Err failure.BadLine) reads e = cc
+reads_no_fault bytes place (Err failure.NoMemory) reads e = cc
+reads_no_fault bytes place (Err failure.WriteFault) reads e = cc
+reads_no_fault bytes place (Err failure.LinkFault) reads e = cc
+reads_no_fault bytes place (Err failure.LinkEnded) reads e = cc
+reads_no_fault bytes place (Err failure.BadReply) reads e = cc

@@ -14,8 +14,8 @@ use Rattle.ifmap_requests.specs.declared.requests.Request.{Request}
 use Rattle.ifmap_http.specs.Wires.{WireSeen}
 use Rattle.ifmap_client_script.specs.declared.exchanges.Caller.{Caller}
 use Rattle.ifmap_client_script.specs.declared.exchanges.ReadReply.{ReadReply}
-use Rattle.ifmap_client_script.specs.declared.outcomes.Stop.{Stop}
-use Rattle.ifmap_client_script.specs.declared.outcomes.Stop.TheVariants as stop
+use Rattle.ifmap_client_script.specs.declared.outcomes.ScriptFailure.{ScriptFailure}
+use Rattle.ifmap_client_script.specs.declared.outcomes.ScriptFailure.TheVariants as failure
 use Rattle.ifmap_client_script.specs.Deeds.{Known, after_reply, is_poll, request_in}
 use Rattle.ifmap_client_script.specs.Deeds as deed
 use Rattle.ifmap_client_script.specs.Ends.{LinkFailed, Ports}
@@ -23,7 +23,7 @@ use Rattle.ifmap_client_script.specs.Exchanges.{AnswersTo, AsksOnWire, HasPosted
 use Rattle.ifmap_client_script.specs.Outlets.{AreUnspent, AsksBy, AsksOver, IsAsked, Prints}
 use Rattle.ifmap_client_script.specs.Printing.{body_text, set_text}
 use Rattle.ifmap_client_script.specs.Promises.{Broken, Cutting, Exchanged, IsWholePost}
-use Rattle.ifmap_client_script.specs.Stops.{IsNamedOrBadLine, SendsText}
+use Rattle.ifmap_client_script.specs.ScriptFailures.{IsNamedOrBadLine, SendsText}
 use Rattle.ifmap_client_script.specs.Turns.{CarriesOut, Cut, Unanswered}
 use Rattle.ifmap_io.specs.Rises.{keeps_appends}
 
@@ -42,21 +42,21 @@ exchanges_none caller before after unspent same =
     at (Some l) = (l, refl, refl)
 
 -- a name that was not given
-pub named_exit : {X : Type 0} (o : Option X) (e : Stop) → IsNamedOrBadLine o (Err e)
-    → (e ≡ stop.NoMemory) ⊎ ((o ≡ None) × (e ≡ stop.BadLine))
-named_exit o stop.NoMemory n = inl refl
-named_exit o stop.BadLine n = inr (n, refl)
-named_exit o stop.ReadFault n = absurd n
-named_exit o stop.WriteFault n = absurd n
-named_exit o stop.LinkFault n = absurd n
-named_exit o stop.LinkEnded n = absurd n
-named_exit o stop.BadReply n = absurd n
+pub named_exit : {X : Type 0} (o : Option X) (e : ScriptFailure) → IsNamedOrBadLine o (Err e)
+    → (e ≡ failure.NoMemory) ⊎ ((o ≡ None) × (e ≡ failure.BadLine))
+named_exit o failure.NoMemory n = inl refl
+named_exit o failure.BadLine n = inr (n, refl)
+named_exit o failure.ReadFault n = absurd n
+named_exit o failure.WriteFault n = absurd n
+named_exit o failure.LinkFault n = absurd n
+named_exit o failure.LinkEnded n = absurd n
+named_exit o failure.BadReply n = absurd n
 
-abbrev IsSame : Result ReadReply Stop → Result ReadReply Stop → Type 0
+abbrev IsSame : Result ReadReply ScriptFailure → Result ReadReply ScriptFailure → Type 0
 IsSame r s = r ≡ s
 
-stop_is : (a b : Stop) → IsSame (Err a) (Err b) → a ≡ b
-stop_is a b q = cc
+failure_is : (a b : ScriptFailure) → IsSame (Err a) (Err b) → a ≡ b
+failure_is a b q = cc
 
 -- what is equal in all parts is equal
 same_ports : (a b : Ports) → b.held ≡ a.held → b.write_faults ≡ a.write_faults → b.first ≡ a.first → b.second ≡ a.second → b ≡ a
@@ -95,28 +95,28 @@ module _ (caller : Caller) (sent : Request) (before after : Ports) (unspent : Ar
   exchanged told w = record { first = asked_first told (is_poll sent) w; second = asked_second told (is_poll sent) w }
 
   -- a part of the post was written, or an answer was cut
-  cut_off : (b : Bool) → AsksBy b caller sent before after (Err stop.NoMemory)
+  cut_off : (b : Bool) → AsksBy b caller sent before after (Err failure.NoMemory)
       → (front : List ℕ) × IsFrontOfPost (request_post caller sent) front × Broken caller before after b [] front HasAny
   cut_off true w = (w.1.0, w.1.1, (none_first w.0, w.1.2))
   cut_off false w = (w.1.0, w.1.1, (w.1.2, none_second w.0))
 
-  faulty : (b : Bool) → AsksBy b caller sent before after (Err stop.LinkFault)
+  faulty : (b : Bool) → AsksBy b caller sent before after (Err failure.LinkFault)
       → ((front : List ℕ) × IsFrontOfPost (request_post caller sent) front × Broken caller before after b [] front HasAny)
       × LinkFailed before after
   faulty true w = ((w.1.0.0, w.1.0.1, (none_first w.0, w.1.0.2)), inr w.1.1)
   faulty false w = ((w.1.0.0, w.1.0.1, (w.1.0.2, none_second w.0)), inl w.1.1)
 
-  ended : (b : Bool) → AsksBy b caller sent before after (Err stop.LinkEnded)
+  ended : (b : Bool) → AsksBy b caller sent before after (Err failure.LinkEnded)
       → Broken caller before after b [] (request_post caller sent) HasPart
   ended true w = (none_first w.0, w.1)
   ended false w = (w.1, none_second w.0)
 
-  bad : (b : Bool) → AsksBy b caller sent before after (Err stop.BadReply)
+  bad : (b : Bool) → AsksBy b caller sent before after (Err failure.BadReply)
       → Broken caller before after b [] (request_post caller sent) HasNoReply
   bad true w = (none_first w.0, w.1)
   bad false w = (w.1, none_second w.0)
 
-  none_asks : {P : Type 0} (b : Bool) (e : Stop) → (AsksOnWire caller sent before.first after.first (Err e) → P)
+  none_asks : {P : Type 0} (b : Bool) (e : ScriptFailure) → (AsksOnWire caller sent before.first after.first (Err e) → P)
       → (AsksOnWire caller sent before.second after.second (Err e) → P) → AsksBy b caller sent before after (Err e) → P
   none_asks true e one other w = other w.1
   none_asks false e one other w = one w.1
@@ -134,17 +134,17 @@ module _ (caller : Caller) (sent : Request) (before after : Ports) (unspent : Ar
         posted = record { front = front; cut = cut; wrote = keeps_appends before.held after.held kept; broken = b };
       }
 
-      unanswered : (new : Known) (e : Stop) → AsksBy (is_poll sent) caller sent before after (Err e)
+      unanswered : (new : Known) (e : ScriptFailure) → AsksBy (is_poll sent) caller sent before after (Err e)
           → CarriesOut caller (the_line.Request request) before after known new (Err e)
-      unanswered new stop.LinkFault w =
+      unanswered new failure.LinkFault w =
           let p = faulty (is_poll sent) w in (posted IsFrontOfPost HasAny p.0.0 p.0.1 p.0.2, p.1)
-      unanswered new stop.LinkEnded w = posted IsWholePost HasPart (request_post caller sent) refl (ended (is_poll sent) w)
-      unanswered new stop.BadReply w = posted IsWholePost HasNoReply (request_post caller sent) refl (bad (is_poll sent) w)
-      unanswered new stop.NoMemory w =
+      unanswered new failure.LinkEnded w = posted IsWholePost HasPart (request_post caller sent) refl (ended (is_poll sent) w)
+      unanswered new failure.BadReply w = posted IsWholePost HasNoReply (request_post caller sent) refl (bad (is_poll sent) w)
+      unanswered new failure.NoMemory w =
           let p = cut_off (is_poll sent) w in inr (inl (posted IsFrontOfPost HasAny p.0 p.1 p.2))
-      unanswered new stop.BadLine w = none_asks (is_poll sent) stop.BadLine absurd absurd w
-      unanswered new stop.ReadFault w = none_asks (is_poll sent) stop.ReadFault absurd absurd w
-      unanswered new stop.WriteFault w = none_asks (is_poll sent) stop.WriteFault absurd absurd w
+      unanswered new failure.BadLine w = none_asks (is_poll sent) failure.BadLine absurd absurd w
+      unanswered new failure.ReadFault w = none_asks (is_poll sent) failure.ReadFault absurd absurd w
+      unanswered new failure.WriteFault w = none_asks (is_poll sent) failure.WriteFault absurd absurd w
 
     module _ (told : ReadReply) (w : AsksBy (is_poll sent) caller sent before after (Ok told)) where
       -- a reply was told, but not written whole
@@ -157,7 +157,7 @@ module _ (caller : Caller) (sent : Request) (before after : Ports) (unspent : Ar
       }
 
       -- a reply was told
-      answered : (new : Known) (r : Result (Unit {0}) Stop)
+      answered : (new : Known) (r : Result (Unit {0}) ScriptFailure)
           → SendsText before.held after.held before.write_faults after.write_faults (body_text told.body) r
           → OnOk r (new ≡ after_reply told.reply known) → CarriesOut caller (the_line.Request request) before after known new r
       answered new (Ok _) sends is = record {
@@ -169,18 +169,18 @@ module _ (caller : Caller) (sent : Request) (before after : Ports) (unspent : Ar
           exchanged = exchanged told w;
         };
       }
-      answered new (Err stop.WriteFault) sends is = (cut_at sends.0.0 sends.0.1, sends.1)
-      answered new (Err stop.NoMemory) sends is = inr (inr (cut_at 0 (keeps_appends before.held after.held sends)))
-      answered new (Err stop.BadLine) sends is = absurd sends
-      answered new (Err stop.ReadFault) sends is = absurd sends
-      answered new (Err stop.LinkFault) sends is = absurd sends
-      answered new (Err stop.LinkEnded) sends is = absurd sends
-      answered new (Err stop.BadReply) sends is = absurd sends
+      answered new (Err failure.WriteFault) sends is = (cut_at sends.0.0 sends.0.1, sends.1)
+      answered new (Err failure.NoMemory) sends is = inr (inr (cut_at 0 (keeps_appends before.held after.held sends)))
+      answered new (Err failure.BadLine) sends is = absurd sends
+      answered new (Err failure.ReadFault) sends is = absurd sends
+      answered new (Err failure.LinkFault) sends is = absurd sends
+      answered new (Err failure.LinkEnded) sends is = absurd sends
+      answered new (Err failure.BadReply) sends is = absurd sends
 
 -- ---- from what was asked over either wire
 
 -- the wire by the request
-pub by_second : (caller : Caller) (sent : Request) (before after : Ports) (r : Result ReadReply Stop) → is_poll sent ≡ true
+pub by_second : (caller : Caller) (sent : Request) (before after : Ports) (r : Result ReadReply ScriptFailure) → is_poll sent ≡ true
     → AsksOnWire caller sent before.second after.second r → after.first ≡ before.first → after.held ≡ before.held
     → after.write_faults ≡ before.write_faults → IsAsked caller sent before after r
 by_second caller sent before after r poll asks first held faults = record {
@@ -189,7 +189,7 @@ by_second caller sent before after r poll asks first held faults = record {
   write_faults = faults;
 }
 
-pub by_first : (caller : Caller) (sent : Request) (before after : Ports) (r : Result ReadReply Stop) → is_poll sent ≡ false
+pub by_first : (caller : Caller) (sent : Request) (before after : Ports) (r : Result ReadReply ScriptFailure) → is_poll sent ≡ false
     → AsksOnWire caller sent before.first after.first r → after.second ≡ before.second → after.held ≡ before.held
     → after.write_faults ≡ before.write_faults → IsAsked caller sent before after r
 by_first caller sent before after r other asks second held faults = record {
@@ -199,18 +199,19 @@ by_first caller sent before after r other asks second held faults = record {
 }
 
 -- no request was sent
-pub over_none : (caller : Caller) (request : Request) (known : Known) (before : Ports) (e : Stop)
+pub over_none : (caller : Caller) (request : Request) (known : Known) (before : Ports) (e : ScriptFailure)
     → IsNamedOrBadLine (request_in known.session request) (Err e) → AsksOver caller request known before before (Err e)
 over_none caller request known before e n = at (named_exit (request_in known.session request) e n)
   where
-    at : (e ≡ stop.NoMemory) ⊎ ((request_in known.session request ≡ None) × (e ≡ stop.BadLine))
+    at : (e ≡ failure.NoMemory) ⊎ ((request_in known.session request ≡ None) × (e ≡ failure.BadLine))
         → AsksOver caller request known before before (Err e)
     at (inl q) = inr (refl, inl (ap Err q))
     at (inr q) = inr (refl, inr (q.0, ap Err q.1))
 
 module _ (caller : Caller) (request : Request) (known : Known) (before mid : Ports) (unspent : AreUnspent before) where
   -- a request was answered, and the reply printed
-  module _ (after : Ports) (new : Known) (told : ReadReply) (r : Result (Unit {0}) Stop) (prints : Prints (body_text told.body) mid after r)
+  module _ (after : Ports) (new : Known) (told : ReadReply) (r : Result (Unit {0}) ScriptFailure)
+      (prints : Prints (body_text told.body) mid after r)
       (is : OnOk r (new ≡ after_reply told.reply known)) where
     -- as if the reply had been printed while it was asked
     abbrev joined : Ports
@@ -233,20 +234,22 @@ module _ (caller : Caller) (request : Request) (known : Known) (before mid : Por
     request_told (inl (sent, named, a)) =
         subst (λ (p : Ports). CarriesOut caller (the_line.Request request) before p known new r)
         (sym (same_ports joined after refl refl prints.first prints.second)) (sent_printed sent named a)
-    request_told (inr (x, inl e)) = let q : Ok told ≡ Err stop.NoMemory = e in cc
-    request_told (inr (x, inr e)) = let q : Ok told ≡ Err stop.BadLine = e.1 in cc
+    request_told (inr (x, inl e)) = let q : Ok told ≡ Err failure.NoMemory = e in cc
+    request_told (inr (x, inr e)) = let q : Ok told ≡ Err failure.BadLine = e.1 in cc
 
   -- a request was not answered
-  pub request_untold : (new : Known) (e : Stop) → AsksOver caller request known before mid (Err e)
+  pub request_untold : (new : Known) (e : ScriptFailure) → AsksOver caller request known before mid (Err e)
       → CarriesOut caller (the_line.Request request) before mid known new (Err e)
   request_untold new e (inl (sent, named, a)) =
       unanswered caller sent before mid unspent known request named
       (subst (λ (h : Option (List ℕ)). Keeps before.held h) (sym a.held) (Keeps-refl before.held)) new e a.asks
   request_untold new e (inr (x, inl q)) =
-      subst (λ (e : Stop). CarriesOut caller (the_line.Request request) before mid known new (Err e)) (sym (stop_is e stop.NoMemory q))
+      subst (λ (e : ScriptFailure). CarriesOut caller (the_line.Request request) before mid known new (Err e))
+      (sym (failure_is e failure.NoMemory q))
       (inl x)
   request_untold new e (inr (x, inr q)) =
-      subst (λ (e : Stop). CarriesOut caller (the_line.Request request) before mid known new (Err e)) (sym (stop_is e stop.BadLine q.1))
+      subst (λ (e : ScriptFailure). CarriesOut caller (the_line.Request request) before mid known new (Err e))
+      (sym (failure_is e failure.BadLine q.1))
       (λ can. none_begun can, x)
     where
       none_begun : IsTrue (is_some (request_in known.session request)) → ⊥
@@ -284,7 +287,7 @@ module _ (caller : Caller) (known : Known) (before : Ports) (unspent : AreUnspen
       wrote = record { count = n; wrote = wrote; exchanged = idle };
     }
 
-    set_sent : (r : Result (Unit {0}) Stop)
+    set_sent : (r : Result (Unit {0}) ScriptFailure)
         → SendsText before.held after.held before.write_faults after.write_faults (set_text (known.sets name)) r
         → CarriesOut caller (the_line.Set name) before after known known r
     set_sent (Ok _) sends = record {
@@ -296,20 +299,22 @@ module _ (caller : Caller) (known : Known) (before : Ports) (unspent : AreUnspen
         exchanged = idle;
       };
     }
-    set_sent (Err stop.WriteFault) sends = (set_cut sends.0.0 sends.0.1, sends.1)
-    set_sent (Err stop.NoMemory) sends = inr (inr (set_cut 0 (keeps_appends before.held after.held sends)))
-    set_sent (Err stop.BadLine) sends = absurd sends
-    set_sent (Err stop.ReadFault) sends = absurd sends
-    set_sent (Err stop.LinkFault) sends = absurd sends
-    set_sent (Err stop.LinkEnded) sends = absurd sends
-    set_sent (Err stop.BadReply) sends = absurd sends
+    set_sent (Err failure.WriteFault) sends = (set_cut sends.0.0 sends.0.1, sends.1)
+    set_sent (Err failure.NoMemory) sends = inr (inr (set_cut 0 (keeps_appends before.held after.held sends)))
+    set_sent (Err failure.BadLine) sends = absurd sends
+    set_sent (Err failure.ReadFault) sends = absurd sends
+    set_sent (Err failure.LinkFault) sends = absurd sends
+    set_sent (Err failure.LinkEnded) sends = absurd sends
+    set_sent (Err failure.BadReply) sends = absurd sends
 
-  pub set_printed : (after : Ports) (name : List ℕ) (r : Result (Unit {0}) Stop) → Prints (set_text (known.sets name)) before after r
+  pub set_printed : (after : Ports) (name : List ℕ) (r : Result (Unit {0}) ScriptFailure)
+      → Prints (set_text (known.sets name)) before after r
       → CarriesOut caller (the_line.Set name) before after known known r
   set_printed after name r prints = set_sent after name prints.first prints.second r prints.sends
 
 -- the same of the line that it is
-pub at_line : (caller : Caller) (line form : Line) (before after : Ports) (old new : Known) (r : Result (Unit {0}) Stop) → line ≡ form
+pub at_line : (caller : Caller) (line form : Line) (before after : Ports) (old new : Known) (r : Result (Unit {0}) ScriptFailure)
+    → line ≡ form
     → CarriesOut caller form before after old new r → CarriesOut caller line before after old new r
 at_line caller line form before after old new r is c =
     subst (λ (l : Line). CarriesOut caller l before after old new r) (sym is) c

@@ -14,8 +14,8 @@ use Rattle.ifmap_http.specs.Wires.{WireSeen}
 use Rattle.ifmap_client_script.specs.declared.exchanges.Caller.{Caller}
 use Rattle.ifmap_client_script.specs.declared.outcomes.Outcome.{Outcome}
 use Rattle.ifmap_client_script.specs.declared.outcomes.Outcome.TheVariants as outcome
-use Rattle.ifmap_client_script.specs.declared.outcomes.Stop.{Stop}
-use Rattle.ifmap_client_script.specs.declared.outcomes.Stop.TheVariants as stop
+use Rattle.ifmap_client_script.specs.declared.outcomes.ScriptFailure.{ScriptFailure}
+use Rattle.ifmap_client_script.specs.declared.outcomes.ScriptFailure.TheVariants as failure
 use Rattle.ifmap_client_script.specs.Deeds.{Deed, IsDeedFor, Known, after_deed, nothing_known, request_in}
 use Rattle.ifmap_client_script.specs.Ends.{ArePortsLater, SourceAndPorts, IsLaterInRun, IsLaterWire, LinkFailed, Ports}
 use Rattle.ifmap_client_script.specs.Exchanges.{HasAny, HasNoReply, HasPart, IsFrontOfPost, WireFailed}
@@ -23,7 +23,7 @@ use Rattle.ifmap_client_script.specs.Holding.{known_of}
 use Rattle.ifmap_client_script.specs.Pending.{Fetches, Pending, nothing_taken}
 use Rattle.ifmap_client_script.specs.Promises.{Cutting, Did, IsCarriedOut, IsFaulty, IsPartlyDone, IsUnanswered, IsUnread, IsUnwritten, IsWholePost, Posted, ScriptPromises, CarriesTaken, Wrote, known_after}
 use Rattle.ifmap_client_script.specs.Scripts.{IsBadLine}
-use Rattle.ifmap_client_script.specs.Stops.{script_outcome}
+use Rattle.ifmap_client_script.specs.ScriptFailures.{script_outcome}
 use Rattle.ifmap_client_script.specs.Turns.{IsAtFault, IsBeginning, IsCutShort, IsDue, IsIdle, IsLeft, IsOver, Scripting, TakesLine, IsScriptTurn, TurnsOn}
 use Rattle.ifmap_client_script.proofs.Carrying.{exchanges_none}
 use Rattle.ifmap_client_script.proofs.Progress.{known_snoc}
@@ -261,20 +261,20 @@ module _ (caller : Caller) (before now after : SourceAndPorts) (old : Scripting)
   no_memory (inr (inl t)) = inr (inl (old.line, unanswered IsFrontOfPost HasAny t))
   no_memory (inr (inr t)) = inr (inr (unwritten t))
 
-  ends_by : (new : Scripting) (e : Stop) → IsScriptTurn caller now after old new (Err e)
+  ends_by : (new : Scripting) (e : ScriptFailure) → IsScriptTurn caller now after old new (Err e)
       → ScriptPromises caller before after (script_outcome e old.line)
-  ends_by new stop.BadLine t = faulty t
-  ends_by new stop.ReadFault t =
+  ends_by new failure.BadLine t = faulty t
+  ends_by new failure.ReadFault t =
       (unread t.0, rose_since before.read_faults now.read_faults after.read_faults r.later.read t.1)
-  ends_by new stop.WriteFault t =
+  ends_by new failure.WriteFault t =
       (unwritten t.0, rose_since before.ports.write_faults now.ports.write_faults after.ports.write_faults r.later.ports.write t.1)
-  ends_by new stop.LinkFault t =
+  ends_by new failure.LinkFault t =
       ((old.line, unanswered IsFrontOfPost HasAny t.0), link_failed before.ports now.ports after.ports r.later.ports t.1)
-  ends_by new stop.LinkEnded t = unanswered IsWholePost HasPart t
-  ends_by new stop.BadReply t = unanswered IsWholePost HasNoReply t
-  ends_by new stop.NoMemory t = no_memory t
+  ends_by new failure.LinkEnded t = unanswered IsWholePost HasPart t
+  ends_by new failure.BadReply t = unanswered IsWholePost HasNoReply t
+  ends_by new failure.NoMemory t = no_memory t
 
-  pub ends_with : (new : Scripting) (e : Stop) (line : ℕ) (told : Outcome) → told ≡ script_outcome e line → line ≡ old.line
+  pub ends_with : (new : Scripting) (e : ScriptFailure) (line : ℕ) (told : Outcome) → told ≡ script_outcome e line → line ≡ old.line
       → IsScriptTurn caller now after old new (Err e) → ScriptPromises caller before after told
   ends_with new e line told is same t =
       subst (λ (o : Outcome). ScriptPromises caller before after o) (sym (is

@@ -7,8 +7,8 @@ use Rattle.ifmap_io.specs.Causes.{Rose}
 use Rattle.ifmap_client.specs.Lines.{OneLine}
 use Rattle.ifmap_client.specs.declared.lines.Line.{Line}
 use Rattle.ifmap_client_script.specs.declared.exchanges.Caller.{Caller}
-use Rattle.ifmap_client_script.specs.declared.outcomes.Stop.{Stop}
-use Rattle.ifmap_client_script.specs.declared.outcomes.Stop.TheVariants as stop
+use Rattle.ifmap_client_script.specs.declared.outcomes.ScriptFailure.{ScriptFailure}
+use Rattle.ifmap_client_script.specs.declared.outcomes.ScriptFailure.TheVariants as failure
 use Rattle.ifmap_client_script.specs.declared.scripts.NextLine.{NextLine}
 use Rattle.ifmap_client_script.specs.declared.scripts.ScriptTurn.{ScriptTurn}
 use Rattle.ifmap_client_script.specs.declared.scripts.ScriptTurn.TheVariants as turn
@@ -52,13 +52,13 @@ module _ (caller : Caller) (left left_new : Option (List ℕ)) (faults faults_ne
     memory : ((after ≡ before)
         ⊎ (Unanswered caller next.line before after (known_of old.client) IsFrontOfPost HasAny
         ⊎ Cut caller next.line before after (known_of old.client)))
-        → IsScriptTurn caller from_ends to_ends old new (Err stop.NoMemory)
+        → IsScriptTurn caller from_ends to_ends old new (Err failure.NoMemory)
     memory (inl same) =
         inl (record { lost = record { got = read.0.got; consumed = read.0.consumed; idle = λ e. (read.0.idle e).1 }; kept = same })
     memory (inr (inl u)) = inr (inl (record { line = next.line; takes = takes; unanswered = u }))
     memory (inr (inr c)) = inr (inr (record { line = next.line; takes = takes; cut = c }))
 
-    pub turned : (r : Result ScriptTurn Stop) → DoesNext caller next before after (at_pending old pending) new r
+    pub turned : (r : Result ScriptTurn ScriptFailure) → DoesNext caller next before after (at_pending old pending) new r
         → IsScriptTurn caller from_ends to_ends old new r
     unfolding takes
     turned (Ok turn.Carried) d = record {
@@ -70,7 +70,7 @@ module _ (caller : Caller) (left left_new : Option (List ℕ)) (faults faults_ne
       line_is = d.1.line;
     }
     turned (Ok turn.Ended) d = absurd d
-    turned (Err stop.BadLine) d = record {
+    turned (Err failure.BadLine) d = record {
       pending = pending;
       fetched = read.0;
       fault = bad_at old.offset next.place pending.bytes (known_of old.client) is_next.end (λ line means can.
@@ -78,12 +78,12 @@ module _ (caller : Caller) (left left_new : Option (List ℕ)) (faults faults_ne
           (one (take next.place pending.bytes) line next.line means is_next.means) can));
       kept = d.0.1;
     }
-    turned (Err stop.ReadFault) d = absurd d.0
-    turned (Err stop.WriteFault) d = (record { line = next.line; takes = takes; cut = d.0.0 }, d.0.1)
-    turned (Err stop.LinkFault) d = (record { line = next.line; takes = takes; unanswered = d.0.0 }, d.0.1)
-    turned (Err stop.LinkEnded) d = record { line = next.line; takes = takes; unanswered = d.0 }
-    turned (Err stop.BadReply) d = record { line = next.line; takes = takes; unanswered = d.0 }
-    turned (Err stop.NoMemory) d = memory d.0
+    turned (Err failure.ReadFault) d = absurd d.0
+    turned (Err failure.WriteFault) d = (record { line = next.line; takes = takes; cut = d.0.0 }, d.0.1)
+    turned (Err failure.LinkFault) d = (record { line = next.line; takes = takes; unanswered = d.0.0 }, d.0.1)
+    turned (Err failure.LinkEnded) d = record { line = next.line; takes = takes; unanswered = d.0 }
+    turned (Err failure.BadReply) d = record { line = next.line; takes = takes; unanswered = d.0 }
+    turned (Err failure.NoMemory) d = memory d.0
 
 module _ (caller : Caller) (left left_new : Option (List ℕ)) (faults faults_new : ℕ) (ports : Ports) (old new : Scripting)
     (pending : Pending) where
@@ -91,15 +91,15 @@ module _ (caller : Caller) (left left_new : Option (List ℕ)) (faults faults_ne
       → IsScriptTurn caller (source_and_ports left faults ports) (source_and_ports left_new faults_new ports) old new (Ok turn.Ended)
   turned_end read = record { fetched = subst (λ (p : Pending). Fetches left left_new old.pending p) read.1 read.0; kept = refl }
 
-  pub turned_err : (e : Stop) → ReadsNext left left_new old.offset old.pending pending (Err e)
-      → (e ≡ stop.ReadFault → Rose faults faults_new)
+  pub turned_err : (e : ScriptFailure) → ReadsNext left left_new old.offset old.pending pending (Err e)
+      → (e ≡ failure.ReadFault → Rose faults faults_new)
       → IsScriptTurn caller (source_and_ports left faults ports) (source_and_ports left_new faults_new ports) old new (Err e)
-  turned_err stop.BadLine read rose =
+  turned_err failure.BadLine read rose =
       record { pending = pending; fetched = read.0; fault = read.1 (known_of old.client); kept = refl }
-  turned_err stop.ReadFault read rose =
+  turned_err failure.ReadFault read rose =
       (record { pending = pending; fetched = read.0; awaited = read.1; kept = refl }, rose refl)
-  turned_err stop.NoMemory read rose = inl (record { lost = read; kept = refl })
-  turned_err stop.WriteFault read rose = absurd read
-  turned_err stop.LinkFault read rose = absurd read
-  turned_err stop.LinkEnded read rose = absurd read
-  turned_err stop.BadReply read rose = absurd read
+  turned_err failure.NoMemory read rose = inl (record { lost = read; kept = refl })
+  turned_err failure.WriteFault read rose = absurd read
+  turned_err failure.LinkFault read rose = absurd read
+  turned_err failure.LinkEnded read rose = absurd read
+  turned_err failure.BadReply read rose = absurd read

@@ -11,8 +11,8 @@ use Rattle.ifmap_lemmas.specs.Branches.{not_both_ways}
 use Rattle.ifmap_input.specs.InputLaws.{takes_none}
 use Rattle.ifmap_input.specs.Inputs.{TakesFromSource}
 use Rattle.ifmap_client.specs.Lines.{line_limit}
-use Rattle.ifmap_client_script.specs.declared.outcomes.Stop.{Stop}
-use Rattle.ifmap_client_script.specs.declared.outcomes.Stop.TheVariants as stop
+use Rattle.ifmap_client_script.specs.declared.outcomes.ScriptFailure.{ScriptFailure}
+use Rattle.ifmap_client_script.specs.declared.outcomes.ScriptFailure.TheVariants as failure
 use Rattle.ifmap_client_script.specs.Pending.{WaitsForLine, Fetches, Fills, Gathers, IsClosed, IsGathered, IsLineTooLong, IsWaiting, LooksForLine, Pending, with_bytes, with_last_newline}
 use Rattle.ifmap_client_script.specs.Scripts.{AwaitsLine, HasNoNewline}
 
@@ -131,7 +131,7 @@ module _ (left_old left_new : Option (List ℕ)) (old new : Pending) (bytes : Li
   )
 
   pub fills_fault : bytes ≡ old.bytes → new ≡ record { bytes = bytes; ended = old.ended }
-      → Fills left_old left_new old new (Err stop.ReadFault)
+      → Fills left_old left_new old new (Err failure.ReadFault)
   fills_fault same is = (
     takes_none left_old left_new old.bytes bytes takes same,
     is ∙ ap (λ (b : List ℕ). record { bytes = b; ended = old.ended }) same,
@@ -168,8 +168,8 @@ module _ (left_old left_mid left_new : Option (List ℕ)) (offset : ℕ) (old mi
   pub gathers_more : Fills left_mid left_new mid new (Ok tt) → Fetches left_old left_new old new
   gathers_more fills = fetches_more left_old left_mid left_new old mid new first waiting.open_yet fills.0
 
-  pub gathers_err : (e : Stop) → Fills left_mid left_new mid new (Err e) → Gathers left_old left_new offset old new (Err e)
-  gathers_err stop.ReadFault fills = (
+  pub gathers_err : (e : ScriptFailure) → Fills left_mid left_new mid new (Err e) → Gathers left_old left_new offset old new (Err e)
+  gathers_err failure.ReadFault fills = (
     fetches_more left_old left_mid left_new old mid new first waiting.open_yet (record {
       got = [];
       consumed = fills.0;
@@ -178,51 +178,51 @@ module _ (left_old left_mid left_new : Option (List ℕ)) (offset : ℕ) (old mi
     }),
     subst (λ (p : Pending). AwaitsLine offset p.bytes) (sym fills.1) waiting.due,
   )
-  gathers_err stop.NoMemory fills = record {
+  gathers_err failure.NoMemory fills = record {
     got = first.got ++ fills.0;
     consumed = Consumes-trans left_old left_mid left_new first.got fills.0 first.consumed fills.1;
     idle = λ ended. not_both_ways old.ended ended (open_before left_old left_mid left_new old mid new first waiting.open_yet);
   }
-  gathers_err stop.BadLine fills = absurd fills
-  gathers_err stop.WriteFault fills = absurd fills
-  gathers_err stop.LinkFault fills = absurd fills
-  gathers_err stop.LinkEnded fills = absurd fills
-  gathers_err stop.BadReply fills = absurd fills
+  gathers_err failure.BadLine fills = absurd fills
+  gathers_err failure.WriteFault fills = absurd fills
+  gathers_err failure.LinkFault fills = absurd fills
+  gathers_err failure.LinkEnded fills = absurd fills
+  gathers_err failure.BadReply fills = absurd fills
 
 -- ---- a line
 
-pub awaits_err : (left_old left_new : Option (List ℕ)) (offset : ℕ) (old new : Pending) (e : Stop)
+pub awaits_err : (left_old left_new : Option (List ℕ)) (offset : ℕ) (old new : Pending) (e : ScriptFailure)
     → Gathers left_old left_new offset old new (Err e) → WaitsForLine left_old left_new offset old new (Err e)
-awaits_err left_old left_new offset old new stop.ReadFault g = g
-awaits_err left_old left_new offset old new stop.NoMemory g = g
-awaits_err left_old left_new offset old new stop.BadLine g = absurd g
-awaits_err left_old left_new offset old new stop.WriteFault g = absurd g
-awaits_err left_old left_new offset old new stop.LinkFault g = absurd g
-awaits_err left_old left_new offset old new stop.LinkEnded g = absurd g
-awaits_err left_old left_new offset old new stop.BadReply g = absurd g
+awaits_err left_old left_new offset old new failure.ReadFault g = g
+awaits_err left_old left_new offset old new failure.NoMemory g = g
+awaits_err left_old left_new offset old new failure.BadLine g = absurd g
+awaits_err left_old left_new offset old new failure.WriteFault g = absurd g
+awaits_err left_old left_new offset old new failure.LinkFault g = absurd g
+awaits_err left_old left_new offset old new failure.LinkEnded g = absurd g
+awaits_err left_old left_new offset old new failure.BadReply g = absurd g
 
-pub looked : (left_old left_new : Option (List ℕ)) (offset : ℕ) (old new : Pending) (r : Result (Option ℕ) Stop)
+pub looked : (left_old left_new : Option (List ℕ)) (offset : ℕ) (old new : Pending) (r : Result (Option ℕ) ScriptFailure)
     → Fetches left_old left_new old new → LooksForLine offset new r → WaitsForLine left_old left_new offset old new r
 looked left_old left_new offset old new (Ok (Some place)) f l = (f, l.0, l.1)
 looked left_old left_new offset old new (Ok None) f l = (f, l)
-looked left_old left_new offset old new (Err stop.BadLine) f l = (f, l)
-looked left_old left_new offset old new (Err stop.ReadFault) f l = absurd l
-looked left_old left_new offset old new (Err stop.NoMemory) f l = absurd l
-looked left_old left_new offset old new (Err stop.WriteFault) f l = absurd l
-looked left_old left_new offset old new (Err stop.LinkFault) f l = absurd l
-looked left_old left_new offset old new (Err stop.LinkEnded) f l = absurd l
-looked left_old left_new offset old new (Err stop.BadReply) f l = absurd l
+looked left_old left_new offset old new (Err failure.BadLine) f l = (f, l)
+looked left_old left_new offset old new (Err failure.ReadFault) f l = absurd l
+looked left_old left_new offset old new (Err failure.NoMemory) f l = absurd l
+looked left_old left_new offset old new (Err failure.WriteFault) f l = absurd l
+looked left_old left_new offset old new (Err failure.LinkFault) f l = absurd l
+looked left_old left_new offset old new (Err failure.LinkEnded) f l = absurd l
+looked left_old left_new offset old new (Err failure.BadReply) f l = absurd l
 
-abbrev IsFault : Result (Option ℕ) Stop → Type 0
-IsFault r = r ≡ Err stop.ReadFault
+abbrev IsFault : Result (Option ℕ) ScriptFailure → Type 0
+IsFault r = r ≡ Err failure.ReadFault
 
-pub looks_no_fault : {P : Type 0} (offset : ℕ) (pending : Pending) (r : Result (Option ℕ) Stop) → LooksForLine offset pending r
+pub looks_no_fault : {P : Type 0} (offset : ℕ) (pending : Pending) (r : Result (Option ℕ) ScriptFailure) → LooksForLine offset pending r
     → IsFault r → P
 looks_no_fault offset pending (Ok found) l e = cc
-looks_no_fault offset pending (Err stop.ReadFault) l e = absurd l
-looks_no_fault offset pending (Err stop.BadLine) l e = cc
-looks_no_fault offset pending (Err stop.NoMemory) l e = cc
-looks_no_fault offset pending (Err stop.WriteFault) l e = cc
-looks_no_fault offset pending (Err stop.LinkFault) l e = cc
-looks_no_fault offset pending (Err stop.LinkEnded) l e = cc
-looks_no_fault offset pending (Err stop.BadReply) l e = cc
+looks_no_fault offset pending (Err failure.ReadFault) l e = absurd l
+looks_no_fault offset pending (Err failure.BadLine) l e = cc
+looks_no_fault offset pending (Err failure.NoMemory) l e = cc
+looks_no_fault offset pending (Err failure.WriteFault) l e = cc
+looks_no_fault offset pending (Err failure.LinkFault) l e = cc
+looks_no_fault offset pending (Err failure.LinkEnded) l e = cc
+looks_no_fault offset pending (Err failure.BadReply) l e = cc

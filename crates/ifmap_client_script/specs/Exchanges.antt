@@ -12,8 +12,8 @@ use Rattle.ifmap_requests.specs.declared.requests.Request.{Request}
 use Rattle.ifmap_writing.specs.RequestElements.{request_bytes}
 use Rattle.ifmap_client_script.specs.declared.exchanges.Caller.{Caller}
 use Rattle.ifmap_client_script.specs.declared.exchanges.ReadReply.{ReadReply}
-use Rattle.ifmap_client_script.specs.declared.outcomes.Stop.{Stop}
-use Rattle.ifmap_client_script.specs.declared.outcomes.Stop.TheVariants as stop
+use Rattle.ifmap_client_script.specs.declared.outcomes.ScriptFailure.{ScriptFailure}
+use Rattle.ifmap_client_script.specs.declared.outcomes.ScriptFailure.TheVariants as failure
 use Rattle.ifmap_client_script.specs.Deeds.{Exchange, Deed, is_poll}
 use Rattle.ifmap_client_script.specs.Deeds as deed
 
@@ -84,19 +84,19 @@ abbrev pub exchange_of : Request → ReadReply → Exchange
 exchange_of request told = record { request = request; body = told.body; answer = told.reply }
 
 -- what a wire does for one request
-abbrev pub AsksOnWire : Caller → Request → WireSeen → WireSeen → Result ReadReply Stop → Type 0
+abbrev pub AsksOnWire : Caller → Request → WireSeen → WireSeen → Result ReadReply ScriptFailure → Type 0
 AsksOnWire caller request before after (Ok told) = HasPostedAndHeard caller (exchange_of request told ∷ []) before after × MeansReply
     told.body told.reply
-AsksOnWire caller request before after (Err stop.LinkFault) =
+AsksOnWire caller request before after (Err failure.LinkFault) =
     ((front : List ℕ) × IsFrontOfPost (request_post caller request) front × Breaks caller [] front HasAny before after)
     × WireFailed before after
-AsksOnWire caller request before after (Err stop.LinkEnded) = Breaks caller [] (request_post caller request) HasPart before after
-AsksOnWire caller request before after (Err stop.BadReply) = Breaks caller [] (request_post caller request) HasNoReply before after
-AsksOnWire caller request before after (Err stop.NoMemory) =
+AsksOnWire caller request before after (Err failure.LinkEnded) = Breaks caller [] (request_post caller request) HasPart before after
+AsksOnWire caller request before after (Err failure.BadReply) = Breaks caller [] (request_post caller request) HasNoReply before after
+AsksOnWire caller request before after (Err failure.NoMemory) =
     (front : List ℕ) × IsFrontOfPost (request_post caller request) front × Breaks caller [] front HasAny before after
-AsksOnWire caller request before after (Err stop.BadLine) = ⊥
-AsksOnWire caller request before after (Err stop.ReadFault) = ⊥
-AsksOnWire caller request before after (Err stop.WriteFault) = ⊥
+AsksOnWire caller request before after (Err failure.BadLine) = ⊥
+AsksOnWire caller request before after (Err failure.ReadFault) = ⊥
+AsksOnWire caller request before after (Err failure.WriteFault) = ⊥
 
 -- ---- the two halves of it
 
@@ -114,47 +114,47 @@ pub record Unwritten (before after : WireSeen) : Type 0 where
   pub write_faults : after.write_faults ≡ before.write_faults
 
 -- a post was written
-abbrev pub Posts : List ℕ → WireSeen → WireSeen → Result (Unit {0}) Stop → Type 0
+abbrev pub Posts : List ℕ → WireSeen → WireSeen → Result (Unit {0}) ScriptFailure → Type 0
 Posts post before after (Ok _) = Appends before.held after.held post
-Posts post before after (Err stop.LinkFault) =
+Posts post before after (Err failure.LinkFault) =
     ((n : ℕ) × Appends before.held after.held (take n post)) × Rose before.write_faults after.write_faults
-Posts post before after (Err stop.NoMemory) = Keeps before.held after.held
-Posts post before after (Err stop.BadLine) = ⊥
-Posts post before after (Err stop.ReadFault) = ⊥
-Posts post before after (Err stop.WriteFault) = ⊥
-Posts post before after (Err stop.LinkEnded) = ⊥
-Posts post before after (Err stop.BadReply) = ⊥
+Posts post before after (Err failure.NoMemory) = Keeps before.held after.held
+Posts post before after (Err failure.BadLine) = ⊥
+Posts post before after (Err failure.ReadFault) = ⊥
+Posts post before after (Err failure.WriteFault) = ⊥
+Posts post before after (Err failure.LinkEnded) = ⊥
+Posts post before after (Err failure.BadReply) = ⊥
 
 -- the body of an answer was taken
-abbrev pub Receives : WireSeen → WireSeen → Result (List ℕ) Stop → Type 0
+abbrev pub Receives : WireSeen → WireSeen → Result (List ℕ) ScriptFailure → Type 0
 Receives before after (Ok body) =
     IfSome before.left (λ left. (rest : List ℕ) × (after.left ≡ Some rest) × ReadsAnswer left (answered body rest))
     × (after.spent ≡ false)
-Receives before after (Err stop.LinkFault) = Rose before.read_faults after.read_faults
-Receives before after (Err stop.LinkEnded) = IfSome before.left HasPart
-Receives before after (Err stop.BadReply) = IfSome before.left HasNoReply
-Receives before after (Err stop.NoMemory) = Unit {0}
-Receives before after (Err stop.BadLine) = ⊥
-Receives before after (Err stop.ReadFault) = ⊥
-Receives before after (Err stop.WriteFault) = ⊥
+Receives before after (Err failure.LinkFault) = Rose before.read_faults after.read_faults
+Receives before after (Err failure.LinkEnded) = IfSome before.left HasPart
+Receives before after (Err failure.BadReply) = IfSome before.left HasNoReply
+Receives before after (Err failure.NoMemory) = Unit {0}
+Receives before after (Err failure.BadLine) = ⊥
+Receives before after (Err failure.ReadFault) = ⊥
+Receives before after (Err failure.WriteFault) = ⊥
 
 -- the reply that a body means, or that it means none
-abbrev pub Reads : List ℕ → Result Reply Stop → Type 0
+abbrev pub Reads : List ℕ → Result Reply ScriptFailure → Type 0
 Reads body (Ok answer) = MeansReply body answer
-Reads body (Err stop.BadReply) = (answer : Reply) → MeansReply body answer → ⊥
-Reads body (Err stop.NoMemory) = Unit {0}
-Reads body (Err stop.BadLine) = ⊥
-Reads body (Err stop.ReadFault) = ⊥
-Reads body (Err stop.WriteFault) = ⊥
-Reads body (Err stop.LinkFault) = ⊥
-Reads body (Err stop.LinkEnded) = ⊥
+Reads body (Err failure.BadReply) = (answer : Reply) → MeansReply body answer → ⊥
+Reads body (Err failure.NoMemory) = Unit {0}
+Reads body (Err failure.BadLine) = ⊥
+Reads body (Err failure.ReadFault) = ⊥
+Reads body (Err failure.WriteFault) = ⊥
+Reads body (Err failure.LinkFault) = ⊥
+Reads body (Err failure.LinkEnded) = ⊥
 
 -- a body with the reply that it means
-abbrev pub BodyTellsReply : List ℕ → Result ReadReply Stop → Type 0
+abbrev pub BodyTellsReply : List ℕ → Result ReadReply ScriptFailure → Type 0
 BodyTellsReply body (Ok told) = (told.body ≡ body) × MeansReply told.body told.reply
 BodyTellsReply body (Err e) = Reads body (Err e)
 
 -- an answer was taken
-abbrev pub Hears : WireSeen → WireSeen → Result ReadReply Stop → Type 0
+abbrev pub Hears : WireSeen → WireSeen → Result ReadReply ScriptFailure → Type 0
 Hears before after (Ok told) = Receives before after (Ok told.body) × MeansReply told.body told.reply
 Hears before after (Err e) = Receives before after (Err e)

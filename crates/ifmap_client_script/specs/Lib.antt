@@ -1,5 +1,5 @@
 -- What a script of a client does, in reading order.
-pub mod Stops
+pub mod ScriptFailures
 pub mod Deeds
 pub mod Printing
 pub mod Exchanges

@@ -2,8 +2,8 @@
 use Rattle.std.specs.Prelude.{◌≡◌, ◌≢◌, ◌⊎◌, ℕ, ◌-◌, ◌<◌, Bool, true, false, List, [], ◌∷◌, ◌++◌, length, slice_index, Option, Some, None, Result, Ok, Err}
 use Rattle.std.specs.Io.KnownBytes.{Consumes, IsAtEnd}
 use Rattle.ifmap_elem.specs.Chars.{line_feed}
-use Rattle.ifmap_client_script.specs.declared.outcomes.Stop.{Stop}
-use Rattle.ifmap_client_script.specs.declared.outcomes.Stop.TheVariants as stop
+use Rattle.ifmap_client_script.specs.declared.outcomes.ScriptFailure.{ScriptFailure}
+use Rattle.ifmap_client_script.specs.declared.outcomes.ScriptFailure.TheVariants as failure
 use Rattle.ifmap_client_script.specs.Scripts.{AwaitsLine, HasNoNewline, IsWithinLineLimits}
 
 -- the bytes, and whether the source has told its end
@@ -69,51 +69,51 @@ abbrev pub IsGathered : ℕ → Pending → Type 0
 IsGathered offset pending = (pending.ended ≡ true) ⊎ (AwaitsLine offset pending.bytes → ⊥)
 
 -- what taking for a line gives
-abbrev pub Gathers : (left_old left_new : Option (List ℕ)) (offset : ℕ) (old new : Pending) → Result (Unit {0}) Stop → Type 0
+abbrev pub Gathers : (left_old left_new : Option (List ℕ)) (offset : ℕ) (old new : Pending) → Result (Unit {0}) ScriptFailure → Type 0
 Gathers left_old left_new offset old new (Ok _) = Fetches left_old left_new old new × IsGathered offset new
-Gathers left_old left_new offset old new (Err stop.ReadFault) =
+Gathers left_old left_new offset old new (Err failure.ReadFault) =
     Fetches left_old left_new old new × AwaitsLine offset new.bytes
-Gathers left_old left_new offset old new (Err stop.NoMemory) = Loses left_old left_new old
-Gathers left_old left_new offset old new (Err stop.BadLine) = ⊥
-Gathers left_old left_new offset old new (Err stop.WriteFault) = ⊥
-Gathers left_old left_new offset old new (Err stop.LinkFault) = ⊥
-Gathers left_old left_new offset old new (Err stop.LinkEnded) = ⊥
-Gathers left_old left_new offset old new (Err stop.BadReply) = ⊥
+Gathers left_old left_new offset old new (Err failure.NoMemory) = Loses left_old left_new old
+Gathers left_old left_new offset old new (Err failure.BadLine) = ⊥
+Gathers left_old left_new offset old new (Err failure.WriteFault) = ⊥
+Gathers left_old left_new offset old new (Err failure.LinkFault) = ⊥
+Gathers left_old left_new offset old new (Err failure.LinkEnded) = ⊥
+Gathers left_old left_new offset old new (Err failure.BadReply) = ⊥
 
 -- what looking for a line gives, for which no more is to be taken
-abbrev pub LooksForLine : ℕ → Pending → Result (Option ℕ) Stop → Type 0
+abbrev pub LooksForLine : ℕ → Pending → Result (Option ℕ) ScriptFailure → Type 0
 LooksForLine offset pending (Ok (Some place)) = IsLineEnd pending.bytes place × IsWithinLineLimits offset place
 LooksForLine offset pending (Ok None) = pending ≡ record { bytes = []; ended = true }
-LooksForLine offset pending (Err stop.BadLine) = IsLineTooLong offset pending.bytes
-LooksForLine offset pending (Err stop.ReadFault) = ⊥
-LooksForLine offset pending (Err stop.NoMemory) = ⊥
-LooksForLine offset pending (Err stop.WriteFault) = ⊥
-LooksForLine offset pending (Err stop.LinkFault) = ⊥
-LooksForLine offset pending (Err stop.LinkEnded) = ⊥
-LooksForLine offset pending (Err stop.BadReply) = ⊥
+LooksForLine offset pending (Err failure.BadLine) = IsLineTooLong offset pending.bytes
+LooksForLine offset pending (Err failure.ReadFault) = ⊥
+LooksForLine offset pending (Err failure.NoMemory) = ⊥
+LooksForLine offset pending (Err failure.WriteFault) = ⊥
+LooksForLine offset pending (Err failure.LinkFault) = ⊥
+LooksForLine offset pending (Err failure.LinkEnded) = ⊥
+LooksForLine offset pending (Err failure.BadReply) = ⊥
 
 -- what waiting for a line gives
-abbrev pub WaitsForLine : (left_old left_new : Option (List ℕ)) (offset : ℕ) (old new : Pending) → Result (Option ℕ) Stop → Type 0
+abbrev pub WaitsForLine : (left_old left_new : Option (List ℕ)) (offset : ℕ) (old new : Pending) → Result (Option ℕ) ScriptFailure → Type 0
 WaitsForLine left_old left_new offset old new (Ok (Some place)) =
     Fetches left_old left_new old new × IsLineEnd new.bytes place × IsWithinLineLimits offset place
 WaitsForLine left_old left_new offset old new (Ok None) =
     Fetches left_old left_new old new × (new ≡ record { bytes = []; ended = true })
-WaitsForLine left_old left_new offset old new (Err stop.BadLine) = Fetches left_old left_new old new × IsLineTooLong offset new.bytes
-WaitsForLine left_old left_new offset old new (Err stop.ReadFault) = Fetches left_old left_new old new × AwaitsLine offset new.bytes
-WaitsForLine left_old left_new offset old new (Err stop.NoMemory) = Loses left_old left_new old
-WaitsForLine left_old left_new offset old new (Err stop.WriteFault) = ⊥
-WaitsForLine left_old left_new offset old new (Err stop.LinkFault) = ⊥
-WaitsForLine left_old left_new offset old new (Err stop.LinkEnded) = ⊥
-WaitsForLine left_old left_new offset old new (Err stop.BadReply) = ⊥
+WaitsForLine left_old left_new offset old new (Err failure.BadLine) = Fetches left_old left_new old new × IsLineTooLong offset new.bytes
+WaitsForLine left_old left_new offset old new (Err failure.ReadFault) = Fetches left_old left_new old new × AwaitsLine offset new.bytes
+WaitsForLine left_old left_new offset old new (Err failure.NoMemory) = Loses left_old left_new old
+WaitsForLine left_old left_new offset old new (Err failure.WriteFault) = ⊥
+WaitsForLine left_old left_new offset old new (Err failure.LinkFault) = ⊥
+WaitsForLine left_old left_new offset old new (Err failure.LinkEnded) = ⊥
+WaitsForLine left_old left_new offset old new (Err failure.BadReply) = ⊥
 
 -- what taking more gives
-abbrev pub Fills : (left_old left_new : Option (List ℕ)) (old new : Pending) → Result (Unit {0}) Stop → Type 0
+abbrev pub Fills : (left_old left_new : Option (List ℕ)) (old new : Pending) → Result (Unit {0}) ScriptFailure → Type 0
 Fills left_old left_new old new (Ok _) =
     Fetches left_old left_new old new × ((new.ended ≡ true) ⊎ (length old.bytes < length new.bytes))
-Fills left_old left_new old new (Err stop.ReadFault) = Consumes left_old left_new [] × (new ≡ old)
-Fills left_old left_new old new (Err stop.NoMemory) = (got : List ℕ) × Consumes left_old left_new got
-Fills left_old left_new old new (Err stop.BadLine) = ⊥
-Fills left_old left_new old new (Err stop.WriteFault) = ⊥
-Fills left_old left_new old new (Err stop.LinkFault) = ⊥
-Fills left_old left_new old new (Err stop.LinkEnded) = ⊥
-Fills left_old left_new old new (Err stop.BadReply) = ⊥
+Fills left_old left_new old new (Err failure.ReadFault) = Consumes left_old left_new [] × (new ≡ old)
+Fills left_old left_new old new (Err failure.NoMemory) = (got : List ℕ) × Consumes left_old left_new got
+Fills left_old left_new old new (Err failure.BadLine) = ⊥
+Fills left_old left_new old new (Err failure.WriteFault) = ⊥
+Fills left_old left_new old new (Err failure.LinkFault) = ⊥
+Fills left_old left_new old new (Err failure.LinkEnded) = ⊥
+Fills left_old left_new old new (Err failure.BadReply) = ⊥

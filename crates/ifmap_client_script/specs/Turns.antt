@@ -5,8 +5,8 @@ use Rattle.ifmap_client.specs.declared.lines.Line.{Line}
 use Rattle.ifmap_client.specs.declared.lines.Line.TheVariants as the_line
 use Rattle.ifmap_requests.specs.declared.requests.Request.{Request}
 use Rattle.ifmap_client_script.specs.declared.exchanges.Caller.{Caller}
-use Rattle.ifmap_client_script.specs.declared.outcomes.Stop.{Stop}
-use Rattle.ifmap_client_script.specs.declared.outcomes.Stop.TheVariants as stop
+use Rattle.ifmap_client_script.specs.declared.outcomes.ScriptFailure.{ScriptFailure}
+use Rattle.ifmap_client_script.specs.declared.outcomes.ScriptFailure.TheVariants as failure
 use Rattle.ifmap_client_script.specs.declared.scripts.NextLine.{NextLine}
 use Rattle.ifmap_client_script.specs.declared.scripts.ScriptTurn.{ScriptTurn}
 use Rattle.ifmap_client_script.specs.declared.scripts.ScriptTurn.TheVariants as turn
@@ -43,16 +43,16 @@ module _ (caller : Caller) (line : Line) (before after : Ports) (old : Known) wh
     pub posted : Posted caller before after IsCut Has old [] sent
 
 -- what was done for a line
-abbrev pub CarriesOut : Caller → Line → (before after : Ports) → (old new : Known) → Result (Unit {0}) Stop → Type 0
+abbrev pub CarriesOut : Caller → Line → (before after : Ports) → (old new : Known) → Result (Unit {0}) ScriptFailure → Type 0
 CarriesOut caller line before after old new (Ok _) = Carried caller line before after old new
-CarriesOut caller line before after old new (Err stop.BadLine) = (CanDo old line → ⊥) × (after ≡ before)
-CarriesOut caller line before after old new (Err stop.ReadFault) = ⊥
-CarriesOut caller line before after old new (Err stop.WriteFault) = Cut caller line before after old × PrintFailed before after
-CarriesOut caller line before after old new (Err stop.LinkFault) =
+CarriesOut caller line before after old new (Err failure.BadLine) = (CanDo old line → ⊥) × (after ≡ before)
+CarriesOut caller line before after old new (Err failure.ReadFault) = ⊥
+CarriesOut caller line before after old new (Err failure.WriteFault) = Cut caller line before after old × PrintFailed before after
+CarriesOut caller line before after old new (Err failure.LinkFault) =
     Unanswered caller line before after old IsFrontOfPost HasAny × LinkFailed before after
-CarriesOut caller line before after old new (Err stop.LinkEnded) = Unanswered caller line before after old IsWholePost HasPart
-CarriesOut caller line before after old new (Err stop.BadReply) = Unanswered caller line before after old IsWholePost HasNoReply
-CarriesOut caller line before after old new (Err stop.NoMemory) =
+CarriesOut caller line before after old new (Err failure.LinkEnded) = Unanswered caller line before after old IsWholePost HasPart
+CarriesOut caller line before after old new (Err failure.BadReply) = Unanswered caller line before after old IsWholePost HasNoReply
+CarriesOut caller line before after old new (Err failure.NoMemory) =
     (after ≡ before) ⊎ (Unanswered caller line before after old IsFrontOfPost HasAny ⊎ Cut caller line before after old)
 
 -- ---- a turn
@@ -78,30 +78,31 @@ pub record IsNextLine (offset : ℕ) (bytes : List ℕ) (next : NextLine) : Type
   pub means : IsLine (take next.place bytes) next.line
 
 -- what the line of bytes is that ends at this place
-abbrev pub ReadsAt : List ℕ → ℕ → Result (Option NextLine) Stop → Type 0
+abbrev pub ReadsAt : List ℕ → ℕ → Result (Option NextLine) ScriptFailure → Type 0
 ReadsAt bytes place (Ok (Some next)) = (next.place ≡ place) × IsLine (take place bytes) next.line
 ReadsAt bytes place (Ok None) = ⊥
-ReadsAt bytes place (Err stop.BadLine) = (line : Line) → IsLine (take place bytes) line → ⊥
-ReadsAt bytes place (Err stop.ReadFault) = ⊥
-ReadsAt bytes place (Err stop.NoMemory) = Unit {0}
-ReadsAt bytes place (Err stop.WriteFault) = ⊥
-ReadsAt bytes place (Err stop.LinkFault) = ⊥
-ReadsAt bytes place (Err stop.LinkEnded) = ⊥
-ReadsAt bytes place (Err stop.BadReply) = ⊥
+ReadsAt bytes place (Err failure.BadLine) = (line : Line) → IsLine (take place bytes) line → ⊥
+ReadsAt bytes place (Err failure.ReadFault) = ⊥
+ReadsAt bytes place (Err failure.NoMemory) = Unit {0}
+ReadsAt bytes place (Err failure.WriteFault) = ⊥
+ReadsAt bytes place (Err failure.LinkFault) = ⊥
+ReadsAt bytes place (Err failure.LinkEnded) = ⊥
+ReadsAt bytes place (Err failure.BadReply) = ⊥
 
 -- what reading the next line gives
-abbrev pub ReadsNext : (left_old left_new : Option (List ℕ)) (offset : ℕ) (old new : Pending) → Result (Option NextLine) Stop → Type 0
+abbrev pub ReadsNext : (left_old left_new : Option (List ℕ)) (offset : ℕ) (old new : Pending) → Result (Option NextLine) ScriptFailure
+    → Type 0
 ReadsNext left_old left_new offset old new (Ok (Some next)) = Fetches left_old left_new old new × IsNextLine offset new.bytes next
 ReadsNext left_old left_new offset old new (Ok None) =
     Fetches left_old left_new old new × (new ≡ record { bytes = []; ended = true })
-ReadsNext left_old left_new offset old new (Err stop.BadLine) =
+ReadsNext left_old left_new offset old new (Err failure.BadLine) =
     Fetches left_old left_new old new × ((known : Known) → IsBadLine offset known new.bytes)
-ReadsNext left_old left_new offset old new (Err stop.ReadFault) = Fetches left_old left_new old new × AwaitsLine offset new.bytes
-ReadsNext left_old left_new offset old new (Err stop.NoMemory) = Loses left_old left_new old
-ReadsNext left_old left_new offset old new (Err stop.WriteFault) = ⊥
-ReadsNext left_old left_new offset old new (Err stop.LinkFault) = ⊥
-ReadsNext left_old left_new offset old new (Err stop.LinkEnded) = ⊥
-ReadsNext left_old left_new offset old new (Err stop.BadReply) = ⊥
+ReadsNext left_old left_new offset old new (Err failure.ReadFault) = Fetches left_old left_new old new × AwaitsLine offset new.bytes
+ReadsNext left_old left_new offset old new (Err failure.NoMemory) = Loses left_old left_new old
+ReadsNext left_old left_new offset old new (Err failure.WriteFault) = ⊥
+ReadsNext left_old left_new offset old new (Err failure.LinkFault) = ⊥
+ReadsNext left_old left_new offset old new (Err failure.LinkEnded) = ⊥
+ReadsNext left_old left_new offset old new (Err failure.BadReply) = ⊥
 
 -- the script goes on after the line
 pub record GoesPastLine (next : NextLine) (old new : Scripting) : Type 0 where
@@ -110,7 +111,7 @@ pub record GoesPastLine (next : NextLine) (old new : Scripting) : Type 0 where
   pub line : new.line ≡ old.line + 1
 
 -- what was done for the next line
-abbrev pub DoesNext : Caller → NextLine → (before after : Ports) → (old new : Scripting) → Result ScriptTurn Stop → Type 0
+abbrev pub DoesNext : Caller → NextLine → (before after : Ports) → (old new : Scripting) → Result ScriptTurn ScriptFailure → Type 0
 DoesNext caller next before after old new (Ok turn.Carried) =
     Carried caller next.line before after (known_of old.client) (known_of new.client) × GoesPastLine next old new
 DoesNext caller next before after old new (Ok turn.Ended) = ⊥
@@ -174,16 +175,16 @@ module _ (caller : Caller) (before after : SourceAndPorts) (old : Scripting) whe
     pub kept : after.ports ≡ before.ports
 
 -- what a turn did
-abbrev pub IsScriptTurn : Caller → (before after : SourceAndPorts) → (old new : Scripting) → Result ScriptTurn Stop → Type 0
+abbrev pub IsScriptTurn : Caller → (before after : SourceAndPorts) → (old new : Scripting) → Result ScriptTurn ScriptFailure → Type 0
 IsScriptTurn caller before after old new (Ok turn.Carried) = TurnsOn caller before after old new
 IsScriptTurn caller before after old new (Ok turn.Ended) = IsOver caller before after old
-IsScriptTurn caller before after old new (Err stop.BadLine) = IsAtFault caller before after old
-IsScriptTurn caller before after old new (Err stop.ReadFault) = IsDue caller before after old × ScriptReadFailed before after
-IsScriptTurn caller before after old new (Err stop.WriteFault) =
+IsScriptTurn caller before after old new (Err failure.BadLine) = IsAtFault caller before after old
+IsScriptTurn caller before after old new (Err failure.ReadFault) = IsDue caller before after old × ScriptReadFailed before after
+IsScriptTurn caller before after old new (Err failure.WriteFault) =
     IsCutShort caller before after old × PrintFailed before.ports after.ports
-IsScriptTurn caller before after old new (Err stop.LinkFault) =
+IsScriptTurn caller before after old new (Err failure.LinkFault) =
     IsLeft caller before after old IsFrontOfPost HasAny × LinkFailed before.ports after.ports
-IsScriptTurn caller before after old new (Err stop.LinkEnded) = IsLeft caller before after old IsWholePost HasPart
-IsScriptTurn caller before after old new (Err stop.BadReply) = IsLeft caller before after old IsWholePost HasNoReply
-IsScriptTurn caller before after old new (Err stop.NoMemory) =
+IsScriptTurn caller before after old new (Err failure.LinkEnded) = IsLeft caller before after old IsWholePost HasPart
+IsScriptTurn caller before after old new (Err failure.BadReply) = IsLeft caller before after old IsWholePost HasNoReply
+IsScriptTurn caller before after old new (Err failure.NoMemory) =
     IsIdle caller before after old ⊎ (IsLeft caller before after old IsFrontOfPost HasAny ⊎ IsCutShort caller before after old)

@@ -11,7 +11,7 @@ ghost use Rattle.ifmap_client_script.specs.Printing.{body_text, set_text};
 ghost use Rattle.ifmap_client_script.specs.Turns.{CarriesOut};
 
 use crate::exchanges::{Caller, ReadReply};
-use crate::outcomes::Stop;
+use crate::outcomes::ScriptFailure;
 use crate::outlets::Outlets;
 use crate::printing::set_text;
 use crate::requests::request_in;
@@ -60,7 +60,7 @@ impl Client {
         caller: &Caller,
         line: Line,
         outlets: &mut O,
-    ) -> Result<(), Stop>
+    ) -> Result<(), ScriptFailure>
         requires unspent { AreUnspent (O.seen outlets.old) }
         requires visible { IsTrue (is_visible caller.now.host) }
         ensures carries { CarriesOut caller.now line (O.seen outlets.old) (O.seen outlets.new)
@@ -82,7 +82,7 @@ impl Client {
         caller: &Caller,
         request: Request,
         outlets: &mut O,
-    ) -> Result<(), Stop>
+    ) -> Result<(), ScriptFailure>
         requires unspent { AreUnspent (O.seen outlets.old) }
         requires visible { IsTrue (is_visible caller.now.host) }
         ensures carries { CarriesOut caller.now (Line.Request request) (O.seen outlets.old)
@@ -92,7 +92,7 @@ impl Client {
     {
         match self.ask(alloc, caller, request, outlets) {
             Ok(told) => self.tell(alloc, told, outlets),
-            Err(stop) => Err(stop),
+            Err(failure) => Err(failure),
         }
     }
 
@@ -102,7 +102,7 @@ impl Client {
         alloc: Global,
         told: ReadReply,
         outlets: &mut O,
-    ) -> Result<(), Stop>
+    ) -> Result<(), ScriptFailure>
         ensures prints { Prints (body_text told.body) (O.seen outlets.old) (O.seen outlets.new)
             result }
         ensures known { OnOk result (known_of self.new
@@ -112,20 +112,25 @@ impl Client {
     {
         let ReadReply { body, reply } = told;
         if self.take(alloc, reply).is_err() {
-            return Err(Stop::NoMemory);
+            return Err(ScriptFailure::NoMemory);
         }
         outlets.print_body(alloc, &body)
     }
 
     // Writes the set of that name.
-    fn print_set<O: Outlets>(&self, alloc: Global, name: &Text, outlets: &mut O) -> Result<(), Stop>
+    fn print_set<O: Outlets>(
+        &self,
+        alloc: Global,
+        name: &Text,
+        outlets: &mut O,
+    ) -> Result<(), ScriptFailure>
         ensures prints { Prints (set_text (sets_of self.now.kept name.now)) (O.seen outlets.old)
             (O.seen outlets.new) result }
         ensures later { ArePortsLater (O.seen outlets.old) (O.seen outlets.new) }
         ensures same { AreSame (O.loans outlets.old) (O.loans outlets.new) }
     {
         let Ok(text) = set_text(alloc, self.sets.set_of(name)) else {
-            return Err(Stop::NoMemory);
+            return Err(ScriptFailure::NoMemory);
         };
         outlets.print(&text)
     }
@@ -137,7 +142,7 @@ impl Client {
         caller: &Caller,
         request: Request,
         outlets: &mut O,
-    ) -> Result<ReadReply, Stop>
+    ) -> Result<ReadReply, ScriptFailure>
         requires unspent { AreUnspent (O.seen outlets.old) }
         requires visible { IsTrue (is_visible caller.now.host) }
         ensures asks { AsksOver caller.now request (known_of self.now) (O.seen outlets.old)
@@ -147,7 +152,7 @@ impl Client {
     {
         match request_in(alloc, &self.session, request) {
             Ok(sent) => outlets.ask(alloc, caller, &sent),
-            Err(stop) => Err(stop),
+            Err(failure) => Err(failure),
         }
     }
 

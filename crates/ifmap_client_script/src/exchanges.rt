@@ -5,7 +5,7 @@ ghost use Rattle.ifmap_http.specs.Wires.{wire_seen};
 ghost use Rattle.ifmap_client_script.specs.Ends.{IsLaterWire};
 ghost use Rattle.ifmap_client_script.specs.Exchanges.{AsksOnWire, Hears, Posts, Reads, Receives, BodyTellsReply, ReadingStands, Unwritten, request_post};
 
-use crate::outcomes::Stop;
+use crate::outcomes::ScriptFailure;
 use ifmap_elem::{Many, Text};
 use ifmap_http::{Answered, Sent, Wire};
 use ifmap_io::Link;
@@ -35,7 +35,7 @@ pub fn ask<L: Link>(
     caller: &Caller,
     request: &Request,
     wire: &mut Wire<L>,
-) -> Result<ReadReply, Stop>
+) -> Result<ReadReply, ScriptFailure>
     requires unspent { IsFalse wire.old.spent }
     requires visible { IsTrue (is_visible caller.now.host) }
     ensures asks { AsksOnWire caller.now request.now
@@ -47,12 +47,12 @@ pub fn ask<L: Link>(
 {
     match post(alloc, caller, request, wire) {
         Ok(()) => receive(alloc, wire),
-        Err(stop) => Err(stop),
+        Err(failure) => Err(failure),
     }
 }
 
 // Takes an answer.
-fn receive<L: Link>(alloc: Global, wire: &mut Wire<L>) -> Result<ReadReply, Stop>
+fn receive<L: Link>(alloc: Global, wire: &mut Wire<L>) -> Result<ReadReply, ScriptFailure>
     requires { IsFalse wire.old.spent }
     ensures hears { Hears
         (wire_seen L.left L.held L.Source.faults L.Sink.faults wire.old)
@@ -63,17 +63,17 @@ fn receive<L: Link>(alloc: Global, wire: &mut Wire<L>) -> Result<ReadReply, Stop
 {
     match read_body(alloc, wire) {
         Ok(body) => reply_with_body(alloc, body),
-        Err(stop) => Err(stop),
+        Err(failure) => Err(failure),
     }
 }
 
 // A body with the reply that it means.
-fn reply_with_body(alloc: Global, body: Many<u8>) -> Result<ReadReply, Stop>
+fn reply_with_body(alloc: Global, body: Many<u8>) -> Result<ReadReply, ScriptFailure>
     ensures { BodyTellsReply body result }
 {
     match reply_in(alloc, &body) {
         Ok(reply) => Ok(ReadReply { body, reply }),
-        Err(stop) => Err(stop),
+        Err(failure) => Err(failure),
     }
 }
 
@@ -83,7 +83,7 @@ fn post<L: Link>(
     caller: &Caller,
     request: &Request,
     wire: &mut Wire<L>,
-) -> Result<(), Stop>
+) -> Result<(), ScriptFailure>
     requires { IsTrue (is_visible caller.now.host) }
     ensures posts { Posts (request_post caller.now request.now)
         (wire_seen L.left L.held L.Source.faults L.Sink.faults wire.old)
@@ -95,13 +95,13 @@ fn post<L: Link>(
     let body = write_request(alloc, request)?;
     match wire.send_post(alloc, &caller.host, &caller.client, body.as_slice()) {
         Sent::Done => Ok(()),
-        Sent::WriteFault => Err(Stop::LinkFault),
-        Sent::NoMemory => Err(Stop::NoMemory),
+        Sent::WriteFault => Err(ScriptFailure::LinkFault),
+        Sent::NoMemory => Err(ScriptFailure::NoMemory),
     }
 }
 
 // Takes the body of an answer.
-fn read_body<L: Link>(alloc: Global, wire: &mut Wire<L>) -> Result<Many<u8>, Stop>
+fn read_body<L: Link>(alloc: Global, wire: &mut Wire<L>) -> Result<Many<u8>, ScriptFailure>
     requires { IsFalse wire.old.spent }
     ensures receives { Receives
         (wire_seen L.left L.held L.Source.faults L.Sink.faults wire.old)
@@ -112,21 +112,21 @@ fn read_body<L: Link>(alloc: Global, wire: &mut Wire<L>) -> Result<Many<u8>, Sto
 {
     match wire.read_answer(alloc) {
         Answered::Body(body) => Ok(body),
-        Answered::Status(_) => Err(Stop::BadReply),
-        Answered::Ended => Err(Stop::LinkEnded),
-        Answered::NotHttp => Err(Stop::BadReply),
-        Answered::ReadFault => Err(Stop::LinkFault),
-        Answered::NoMemory => Err(Stop::NoMemory),
+        Answered::Status(_) => Err(ScriptFailure::BadReply),
+        Answered::Ended => Err(ScriptFailure::LinkEnded),
+        Answered::NotHttp => Err(ScriptFailure::BadReply),
+        Answered::ReadFault => Err(ScriptFailure::LinkFault),
+        Answered::NoMemory => Err(ScriptFailure::NoMemory),
     }
 }
 
 // The reply that a body means.
-fn reply_in(alloc: Global, body: &Many<u8>) -> Result<Reply, Stop>
+fn reply_in(alloc: Global, body: &Many<u8>) -> Result<Reply, ScriptFailure>
     ensures { Reads body.now result }
 {
     match read_reply(alloc, body.as_slice()) {
         Ok(reply) => Ok(reply),
-        Err(ReplyError::NotAReply) => Err(Stop::BadReply),
-        Err(ReplyError::NoMemory) => Err(Stop::NoMemory),
+        Err(ReplyError::NotAReply) => Err(ScriptFailure::BadReply),
+        Err(ReplyError::NoMemory) => Err(ScriptFailure::NoMemory),
     }
 }

@@ -6,7 +6,7 @@ ghost use Rattle.ifmap_input.specs.Scripts.{longest_script};
 ghost use Rattle.ifmap_client_script.specs.Pending.{WaitsForLine, Fills, Gathers, IsClosed, IsLineEnd, IsGathered, IsWaiting, LooksForLine, nothing_taken, with_last_newline};
 ghost use Rattle.ifmap_client_script.specs.Scripts.{AwaitsLine, HasNoNewline, IsWithinLineLimits};
 
-use crate::outcomes::Stop;
+use crate::outcomes::ScriptFailure;
 use ifmap_client::LINE_LIMIT;
 use ifmap_input::{Input, InputError, LONGEST_SCRIPT};
 use ifmap_io::Source;
@@ -65,35 +65,35 @@ impl Lines {
         &mut self,
         source: &mut S,
         offset: u64,
-    ) -> Result<Option<usize>, Stop>
+    ) -> Result<Option<usize>, ScriptFailure>
         requires { offset ≤ longest_script + 1 }
         ensures awaits { WaitsForLine (S.left source.old) (S.left source.new) offset
             self.old self.new
             result }
-        ensures fault { result ≡ Err Stop.ReadFault
+        ensures fault { result ≡ Err ScriptFailure.ReadFault
             → Rose (S.faults source.old) (S.faults source.new) }
         ensures later { S.faults source.old ≤ S.faults source.new }
     {
         match self.gather(source, offset) {
             Ok(()) => self.line_at(offset),
-            Err(stop) => Err(stop),
+            Err(failure) => Err(failure),
         }
     }
 
     // Takes from the source until a line is pending that begins at that offset, or none can come.
     #[tactic(auto, using(crate::proofs::Waiting::fetches_nothing, crate::proofs::Waiting::room_shrinks, ifmap_io::specs::Rises::rose_since))]
-    fn gather<S: Source>(&mut self, source: &mut S, offset: u64) -> Result<(), Stop>
+    fn gather<S: Source>(&mut self, source: &mut S, offset: u64) -> Result<(), ScriptFailure>
         requires { offset ≤ longest_script + 1 }
         ensures gathers { Gathers (S.left source.old) (S.left source.new) offset self.old self.new
             result }
-        ensures fault { result ≡ Err Stop.ReadFault
+        ensures fault { result ≡ Err ScriptFailure.ReadFault
             → Rose (S.faults source.old) (S.faults source.new) }
         ensures later { S.faults source.old ≤ S.faults source.new }
     {
         'line: while self.is_waiting(offset) {
             match self.fill(source) {
                 Ok(()) => {}
-                Err(stop) => return Err(stop),
+                Err(failure) => return Err(failure),
             }
         }
         Ok(())
@@ -115,7 +115,7 @@ impl Lines {
     // The place of the newline of the line that begins at that offset, for which no more is to be
     // taken.
     #[tactic(auto, using(crate::proofs::Waiting::too_long))]
-    fn line_at(&self, offset: u64) -> Result<Option<usize>, Stop>
+    fn line_at(&self, offset: u64) -> Result<Option<usize>, ScriptFailure>
         requires offset { offset ≤ longest_script + 1 }
         requires ready { IsGathered offset self.now }
         ensures { LooksForLine offset self.now result }
@@ -126,13 +126,13 @@ impl Lines {
                 if is_within(place, offset) {
                     return Ok(Some(place));
                 }
-                Err(Stop::BadLine)
+                Err(ScriptFailure::BadLine)
             }
             None => {
                 if self.pending_bytes().is_empty() {
                     return Ok(None);
                 }
-                Err(Stop::BadLine)
+                Err(ScriptFailure::BadLine)
             }
         }
     }
@@ -146,11 +146,11 @@ impl Lines {
 
     // Takes more from the source, which has not told its end. There a last line gets its newline.
     #[tactic(auto, using(crate::proofs::Waiting::fills_end, crate::proofs::Waiting::fills_more, crate::proofs::Waiting::fills_fault))]
-    fn fill<S: Source>(&mut self, source: &mut S) -> Result<(), Stop>
+    fn fill<S: Source>(&mut self, source: &mut S) -> Result<(), ScriptFailure>
         requires open { self.old.ended ≡ false }
         requires plain { HasNoNewline self.old.bytes }
         ensures fills { Fills (S.left source.old) (S.left source.new) self.old self.new result }
-        ensures fault { result ≡ Err Stop.ReadFault
+        ensures fault { result ≡ Err ScriptFailure.ReadFault
             → Rose (S.faults source.old) (S.faults source.new) }
         ensures later { S.faults source.old ≤ S.faults source.new }
     {
@@ -158,12 +158,12 @@ impl Lines {
             Ok(true) => Ok(()),
             Ok(false) => {
                 if self.end().is_err() {
-                    return Err(Stop::NoMemory);
+                    return Err(ScriptFailure::NoMemory);
                 }
                 Ok(())
             }
-            Err(InputError::ReadFault) => Err(Stop::ReadFault),
-            Err(InputError::NoMemory) => Err(Stop::NoMemory),
+            Err(InputError::ReadFault) => Err(ScriptFailure::ReadFault),
+            Err(InputError::NoMemory) => Err(ScriptFailure::NoMemory),
         }
     }
 

@@ -1,6 +1,6 @@
 //! How a client's script ends.
 ghost use Rattle.std.specs.Prelude.{◌≡◌};
-ghost use Rattle.ifmap_client_script.specs.Stops.{script_outcome};
+ghost use Rattle.ifmap_client_script.specs.ScriptFailures.{script_outcome};
 
 use std::alloc::AllocError as NoMemory;
 
@@ -29,7 +29,7 @@ pub enum Outcome {
 
 /// Why no further line is carried out.
 #[derive(Clone, Copy, Debug, PartialEq, Eq)]
-pub enum Stop {
+pub enum ScriptFailure {
     BadLine,
     ReadFault,
     WriteFault,
@@ -39,28 +39,28 @@ pub enum Stop {
     NoMemory,
 }
 
-impl From<NoMemory> for Stop {
+impl From<NoMemory> for ScriptFailure {
     ghost use Rattle.std.specs.Prelude.{◌≡◌};
-    ghost use Rattle.ifmap_client_script.specs.declared.outcomes.Stop.TheVariants.{NoMemory};
+    ghost use Rattle.ifmap_client_script.specs.declared.outcomes.ScriptFailure.TheVariants.{NoMemory};
 
     ghost from_gives = { λ _ e. e ≡ NoMemory };
 
-    fn from(_error: NoMemory) -> Stop {
-        Stop::NoMemory
+    fn from(_error: NoMemory) -> ScriptFailure {
+        ScriptFailure::NoMemory
     }
 }
 
 // How a script ends that stops at that line.
-pub(crate) fn outcome_of(stop: Stop, line: u64) -> Outcome
-    ensures { result ≡ script_outcome stop line }
+pub(crate) fn outcome_of(failure: ScriptFailure, line: u64) -> Outcome
+    ensures { result ≡ script_outcome failure line }
 {
-    match stop {
-        Stop::BadLine => Outcome::BadLine { line },
-        Stop::ReadFault => Outcome::ReadFault,
-        Stop::WriteFault => Outcome::WriteFault,
-        Stop::LinkFault => Outcome::LinkFault,
-        Stop::LinkEnded => Outcome::LinkEnded { line },
-        Stop::BadReply => Outcome::BadReply { line },
-        Stop::NoMemory => Outcome::NoMemory,
+    match failure {
+        ScriptFailure::BadLine => Outcome::BadLine { line },
+        ScriptFailure::ReadFault => Outcome::ReadFault,
+        ScriptFailure::WriteFault => Outcome::WriteFault,
+        ScriptFailure::LinkFault => Outcome::LinkFault,
+        ScriptFailure::LinkEnded => Outcome::LinkEnded { line },
+        ScriptFailure::BadReply => Outcome::BadReply { line },
+        ScriptFailure::NoMemory => Outcome::NoMemory,
     }
 }

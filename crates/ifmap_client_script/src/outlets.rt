@@ -7,7 +7,7 @@ ghost use Rattle.ifmap_client_script.specs.Outlets.{AreSame, AreUnspent, IsAsked
 ghost use Rattle.ifmap_client_script.specs.Printing.{body_text};
 
 use crate::exchanges::{Caller, ReadReply, ask};
-use crate::outcomes::Stop;
+use crate::outcomes::ScriptFailure;
 use crate::requests::is_poll;
 use crate::sending::{send, send_body};
 use ifmap_elem::Many;
@@ -25,7 +25,12 @@ pub trait Outlets {
     ghost loans: { Self → Loans };
 
     /// Sends a request over its wire, and takes the answer to it.
-    fn ask(&mut self, alloc: Global, caller: &Caller, sent: &Request) -> Result<ReadReply, Stop>
+    fn ask(
+        &mut self,
+        alloc: Global,
+        caller: &Caller,
+        sent: &Request,
+    ) -> Result<ReadReply, ScriptFailure>
         requires unspent { AreUnspent (seen self.old) }
         requires visible { IsTrue (is_visible caller.now.host) }
         ensures asks { IsAsked caller.now sent.now (seen self.old) (seen self.new) result }
@@ -33,13 +38,13 @@ pub trait Outlets {
         ensures same { AreSame (loans self.old) (loans self.new) };
 
     /// Writes a text, and hands it on.
-    fn print(&mut self, text: &[u8]) -> Result<(), Stop>
+    fn print(&mut self, text: &[u8]) -> Result<(), ScriptFailure>
         ensures prints { Prints text.now (seen self.old) (seen self.new) result }
         ensures later { ArePortsLater (seen self.old) (seen self.new) }
         ensures same { AreSame (loans self.old) (loans self.new) };
 
     /// Writes `=`, the length of a body, a newline and the body, and hands them on.
-    fn print_body(&mut self, alloc: Global, body: &Many<u8>) -> Result<(), Stop>
+    fn print_body(&mut self, alloc: Global, body: &Many<u8>) -> Result<(), ScriptFailure>
         ensures prints { Prints (body_text body.now) (seen self.old) (seen self.new) result }
         ensures later { ArePortsLater (seen self.old) (seen self.new) }
         ensures same { AreSame (loans self.old) (loans self.new) };
@@ -65,7 +70,12 @@ impl<'a, 'b, 'c, K: Sink, A: Link, B: Link> Outlets for SinkAndWires<'a, 'b, 'c,
     } };
 
     #[tactic(auto, using(crate::proofs::Carrying::by_second, crate::proofs::Carrying::by_first))]
-    fn ask(&mut self, alloc: Global, caller: &Caller, sent: &Request) -> Result<ReadReply, Stop> {
+    fn ask(
+        &mut self,
+        alloc: Global,
+        caller: &Caller,
+        sent: &Request,
+    ) -> Result<ReadReply, ScriptFailure> {
         if is_poll(sent) {
             ask(alloc, caller, sent, self.second)
         } else {
@@ -73,11 +83,11 @@ impl<'a, 'b, 'c, K: Sink, A: Link, B: Link> Outlets for SinkAndWires<'a, 'b, 'c,
         }
     }
 
-    fn print(&mut self, text: &[u8]) -> Result<(), Stop> {
+    fn print(&mut self, text: &[u8]) -> Result<(), ScriptFailure> {
         send(self.sink, text)
     }
 
-    fn print_body(&mut self, alloc: Global, body: &Many<u8>) -> Result<(), Stop> {
+    fn print_body(&mut self, alloc: Global, body: &Many<u8>) -> Result<(), ScriptFailure> {
         send_body(alloc, self.sink, body)
     }
 }

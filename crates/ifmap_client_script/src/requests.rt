@@ -1,9 +1,9 @@
 //! Requests of a script as they are sent.
 ghost use Rattle.std.specs.Prelude.{◌≡◌};
 ghost use Rattle.ifmap_client_script.specs.Deeds.{is_poll, named_session, request_in};
-ghost use Rattle.ifmap_client_script.specs.Stops.{IsNamedOrBadLine};
+ghost use Rattle.ifmap_client_script.specs.ScriptFailures.{IsNamedOrBadLine};
 
-use crate::outcomes::Stop;
+use crate::outcomes::ScriptFailure;
 use ifmap_elem::{Copied, Text};
 use ifmap_requests::Request;
 use std::alloc::Global;
@@ -12,7 +12,11 @@ use std::alloc::Global;
 const LAST_SESSION: &str = "*";
 
 /// The request as it is sent; `BadLine` where it names the session that was begun last and none was.
-pub fn request_in(alloc: Global, begun: &Option<Text>, request: Request) -> Result<Request, Stop>
+pub fn request_in(
+    alloc: Global,
+    begun: &Option<Text>,
+    request: Request,
+) -> Result<Request, ScriptFailure>
     ensures { IsNamedOrBadLine (request_in begun.now request) result }
 {
     match request {
@@ -46,7 +50,7 @@ pub fn request_in(alloc: Global, begun: &Option<Text>, request: Request) -> Resu
 }
 
 // The session that a text names.
-fn named_session(alloc: Global, begun: &Option<Text>, text: Text) -> Result<Text, Stop>
+fn named_session(alloc: Global, begun: &Option<Text>, text: Text) -> Result<Text, ScriptFailure>
     ensures { IsNamedOrBadLine (named_session begun.now text) result }
 {
     if text.as_str() != LAST_SESSION {
@@ -54,7 +58,7 @@ fn named_session(alloc: Global, begun: &Option<Text>, text: Text) -> Result<Text
     }
     match begun {
         Some(session) => Ok(session.copy(alloc)?),
-        None => Err(Stop::BadLine),
+        None => Err(ScriptFailure::BadLine),
     }
 }
 

@@ -12,7 +12,7 @@ ghost use Rattle.ifmap_client_script.specs.Turns.{DoesNext, IsBeginning, IsNextL
 use crate::clients::Client;
 use crate::exchanges::Caller;
 use crate::lines::Lines;
-use crate::outcomes::{Outcome, Stop, outcome_of};
+use crate::outcomes::{Outcome, ScriptFailure, outcome_of};
 use crate::outlets::{Outlets, SinkAndWires};
 use ifmap_client::laws::lines_mean_one_thing;
 use ifmap_client::{Line, line_of};
@@ -139,7 +139,7 @@ impl Script {
             match self.turn(alloc, caller, source, outlets) {
                 Ok(ScriptTurn::Carried) => {}
                 Ok(ScriptTurn::Ended) => return Outcome::Done,
-                Err(stop) => return outcome_of(stop, self.line),
+                Err(failure) => return outcome_of(failure, self.line),
             }
         }
     }
@@ -151,7 +151,7 @@ impl Script {
         caller: &Caller,
         source: &mut S,
         outlets: &mut O,
-    ) -> Result<ScriptTurn, Stop>
+    ) -> Result<ScriptTurn, ScriptFailure>
         requires visible { IsTrue (is_visible caller.now.host) }
         requires unspent { AreUnspent (O.seen outlets.old) }
         ensures line { OnErr result (self.new.line ≡ self.old.line) }
@@ -168,7 +168,7 @@ impl Script {
         match next_line(alloc, &mut self.lines, source, self.offset) {
             Ok(Some(next)) => self.do_next(alloc, caller, next, outlets),
             Ok(None) => Ok(ScriptTurn::Ended),
-            Err(stop) => Err(stop),
+            Err(failure) => Err(failure),
         }
     }
 
@@ -179,7 +179,7 @@ impl Script {
         caller: &Caller,
         next: NextLine,
         outlets: &mut O,
-    ) -> Result<ScriptTurn, Stop>
+    ) -> Result<ScriptTurn, ScriptFailure>
         requires visible { IsTrue (is_visible caller.now.host) }
         requires unspent { AreUnspent (O.seen outlets.old) }
         requires line { IsNextLine self.old.offset self.old.pending.bytes next }
@@ -196,7 +196,7 @@ impl Script {
                 self.line += 1;
                 Ok(ScriptTurn::Carried)
             }
-            Err(stop) => Err(stop),
+            Err(failure) => Err(failure),
         }
     }
 }
@@ -215,28 +215,29 @@ fn next_line<S: Source>(
     lines: &mut Lines,
     source: &mut S,
     offset: u64,
-) -> Result<Option<NextLine>, Stop>
+) -> Result<Option<NextLine>, ScriptFailure>
     requires { offset ≤ longest_script + 1 }
     ensures reads { ReadsNext (S.left source.old) (S.left source.new) offset lines.old lines.new
         result }
-    ensures fault { result ≡ Err Stop.ReadFault → Rose (S.faults source.old) (S.faults source.new) }
+    ensures fault { result ≡ Err ScriptFailure.ReadFault
+        → Rose (S.faults source.old) (S.faults source.new) }
     ensures later { S.faults source.old ≤ S.faults source.new }
 {
     match lines.await_line(source, offset) {
         Ok(Some(place)) => next_at(alloc, lines.pending_bytes(), place),
         Ok(None) => Ok(None),
-        Err(stop) => Err(stop),
+        Err(failure) => Err(failure),
     }
 }
 
 // The line whose newline stands at that place.
-fn next_at(alloc: Global, pending: &[u8], place: usize) -> Result<Option<NextLine>, Stop>
+fn next_at(alloc: Global, pending: &[u8], place: usize) -> Result<Option<NextLine>, ScriptFailure>
     requires { place < length pending.now }
     ensures { ReadsAt pending.now place result }
 {
     match line_of(alloc, &pending[..place]) {
         Ok(Some(line)) => Ok(Some(NextLine { place, line })),
-        Ok(None) => Err(Stop::BadLine),
-        Err(_) => Err(Stop::NoMemory),
+        Ok(None) => Err(ScriptFailure::BadLine),
+        Err(_) => Err(ScriptFailure::NoMemory),
     }
 }

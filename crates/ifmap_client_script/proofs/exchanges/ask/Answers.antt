@@ -14,4 +14,4 @@ pub returns-in-Err-clause-asks : goal.returns-in-Err-clause-asks
 returns-in-Err-clause-asks g c =
     asks_part c.args.caller.now c.args.request.now
     (wire_seen g.L.Source.left g.L.Sink.held g.L.Source.faults g.L.Sink.faults c.args.wire.now)
-    (wire_seen g.L.Source.left g.L.Sink.held g.L.Source.faults g.L.Sink.faults c.post.new.wire) c.in-Err.stop c.in-Err.ensures.posts
+    (wire_seen g.L.Source.left g.L.Sink.held g.L.Source.faults g.L.Sink.faults c.post.new.wire) c.in-Err.failure c.in-Err.ensures.posts

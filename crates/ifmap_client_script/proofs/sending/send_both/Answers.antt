@@ -8,4 +8,4 @@ returns-in-Ok-clause-bytes g c =
 
 pub returns-in-Err-clause-bytes : goal.returns-in-Err-clause-bytes
 returns-in-Err-clause-bytes g c =
-    cut_first _ _ _ _ c.args.line.now c.args.body.now c.in-Err.stop c.in-Err.ensures.bytes
+    cut_first _ _ _ _ c.args.line.now c.args.body.now c.in-Err.failure c.in-Err.ensures.bytes

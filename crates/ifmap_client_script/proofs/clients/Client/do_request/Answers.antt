@@ -11,4 +11,4 @@ returns-in-Ok-clause-carries g c =
 pub returns-in-Err-clause-carries : goal.returns-in-Err-clause-carries
 returns-in-Err-clause-carries g c =
     request_untold c.args.caller.now c.args.request (known_of c.args.self.now) (g.O.Outlets.seen c.args.outlets.now)
-    (g.O.Outlets.seen c.ask.new.outlets) c.requires.unspent (known_of c.args.self.now) c.in-Err.stop c.in-Err.ensures.asks
+    (g.O.Outlets.seen c.ask.new.outlets) c.requires.unspent (known_of c.args.self.now) c.in-Err.failure c.in-Err.ensures.asks

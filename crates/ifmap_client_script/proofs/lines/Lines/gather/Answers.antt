@@ -14,4 +14,4 @@ line-preserved g c =
 pub returns-in-Err-clause-gathers : goal.returns-in-Err-clause-gathers
 returns-in-Err-clause-gathers g c =
     gathers_err (g.S.Source.left c.args.source.now) (g.S.Source.left c.line.source) (g.S.Source.left c.fill.new.source) c.args.offset
-    c.args.self.now c.line.self c.fill.new.self c.line.invariant.0 c.line-test.ensures.yes c.in-Err.stop c.in-Err.ensures.fills
+    c.args.self.now c.line.self c.fill.new.self c.line.invariant.0 c.line-test.ensures.yes c.in-Err.failure c.in-Err.ensures.fills

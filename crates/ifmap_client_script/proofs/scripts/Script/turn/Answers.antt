@@ -33,9 +33,9 @@ returns-in-Err-clause-turns g c =
     (λ (o : Scripting). IsScriptTurn c.args.caller.now
     (source_and_ports (g.S.Source.left c.args.source.now) (g.S.Source.faults c.args.source.now) b)
     (source_and_ports (g.S.Source.left c.next_line.new.source) (g.S.Source.faults c.next_line.new.source) b) o
-    (record { client = s.client; pending = c.next_line.new.lines; offset = s.offset; line = s.line }) (Err c.in-Err.stop)) c.self.view_is
+    (record { client = s.client; pending = c.next_line.new.lines; offset = s.offset; line = s.line }) (Err c.in-Err.failure)) c.self.view_is
     (turned_err c.args.caller.now (g.S.Source.left c.args.source.now) (g.S.Source.left c.next_line.new.source)
     (g.S.Source.faults c.args.source.now) (g.S.Source.faults c.next_line.new.source) b
     (record { client = s.client; pending = s.lines; offset = s.offset; line = s.line })
     (record { client = s.client; pending = c.next_line.new.lines; offset = s.offset; line = s.line }) c.next_line.new.lines
-    c.in-Err.stop c.in-Err.ensures.reads (λ e. c.in-Err.ensures.fault (ap Err e)))
+    c.in-Err.failure c.in-Err.ensures.reads (λ e. c.in-Err.ensures.fault (ap Err e)))
