@@ -5,7 +5,7 @@
 --    (`look_goes`).
 -- 4. Who has the ticket that is served finds the book in its slot (`finds`); equal remainders are
 --    equal tickets, since no more tickets are out than there are parts (`is_served`).
--- 5. So the table allows each step, over the words that the rule names: `draws`, `looks`, `checks`.
+-- 5. So the table allows each step, over the words that the rule names: `draws`, `looks`, `looks_at_rest`.
 use Rattle.std.proofs.Common.{◌≡◌, ◌⊎◌, ℕ, ◌+◌, ◌%◌, ◌^◌, ◌<◌, List, [], ◌∷◌, set, slice_index, true, false, refl, sym, ap, subst, ◌∙◌, inl, inr, arith}
 use mathlib.Core.Option.{none, some-injective}
 use native.Mathlib.Nat.{mod-add-mod}
@@ -16,7 +16,7 @@ use Rattle.std.specs.Prelude.{Option, Some}
 use Rattle.atomic_table.specs.Table.{Step, Act, keeps, takes, Valid, homes_after, carried_after, Allows}
 use Rattle.atomic_table.proofs.Lists.{at_set, set_here, set_else, set_again, one_turn}
 use Rattle.ifmap_hall.specs.Histories.{BookStandsFor}
-use Rattle.ifmap_hall.specs.Plays.{Draws, Looks, Checks}
+use Rattle.ifmap_hall.specs.Plays.{Draws, Looks, LooksAtRest}
 use Rattle.ifmap_hall.specs.Rule.{Homes, Sits, AtHome, IsOut, IsInTurn, Keeps}
 use Rattle.ifmap_hall.specs.SeatViews.{tickets_of, ticket_of, holds_book, with_ticket, with_book}
 use Rattle.ifmap_hall.specs.declared.book.Book.{Book}
@@ -230,12 +230,12 @@ module _ {M E R : Type 0} (next : M → E → M) (weight : E → ℕ) where
         ),
       )))
 
-  pub checks : (terms : Terms M) (slots id : ℕ) (s : SeatView M E R) (st : Step (Option (Book M E R))) → 0 < s.parts
-      → Allows (Keeps next weight terms) slots id (s, []) 0 (λ n. n) (Checks st (s, []))
-  checks terms slots id s st part t k _ sits _ =
+  pub looks_at_rest : (terms : Terms M) (slots id : ℕ) (s : SeatView M E R) (st : Step (Option (Book M E R))) → 0 < s.parts
+      → Allows (Keeps next weight terms) slots id (s, []) 0 (λ n. n) (LooksAtRest st (s, []))
+  looks_at_rest terms slots id s st part t k _ sits _ =
       let P : List ℕ → Type 0 = λ ws. (u : SeatView M E R) × (a : Act (Option (Book M E R))) × Valid t.homes [] a
       × IsInTurn next weight terms (set ws 0 (slice_index ws 0)) (homes_after t.homes [] a) (set t.views id u)
-      × Checks st (s, []) (slice_index ws 0) (u, carried_after [] a) in
+      × LooksAtRest st (s, []) (slice_index ws 0) (u, carried_after [] a) in
       let f = k.fit id s sits part in
       subst P (sym k.words_are) (
         s,

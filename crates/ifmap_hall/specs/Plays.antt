@@ -19,9 +19,9 @@ module _ {M E R : Type 0} where
   abbrev pub Draws : Step (Option (Book M E R)) → Seated M E R → ℕ → Seated M E R → Type 0
   Draws s me n after = (t : ℕ) × (n ≡ t % 2 ^ 64) × (after ≡ (with_ticket me.0 t, me.1))
 
-  -- look without a ticket: nothing changed, and the seat is sound
-  abbrev pub Checks : Step (Option (Book M E R)) → Seated M E R → ℕ → Seated M E R → Type 0
-  Checks s me n after = (after ≡ me) × IsSoundSeat me.0
+  -- a look at rest, without a ticket: nothing changed, and the seat is sound
+  abbrev pub LooksAtRest : Step (Option (Book M E R)) → Seated M E R → ℕ → Seated M E R → Type 0
+  LooksAtRest s me n after = (after ≡ me) × IsSoundSeat me.0
 
   module _ (next : M → E → M) (weight : E → ℕ) where
     -- the book that a pass finds stands for a history that extends what it has seen, and is what it has seen if it is alone

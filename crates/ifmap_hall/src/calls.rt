@@ -14,7 +14,7 @@ use crate::asking::{ask_seat, await_turn};
 use crate::book::{Asked, Book};
 use crate::hall::{Hall, Pass};
 use crate::machine::Machine;
-use crate::steps::{check, cut, draw, glue};
+use crate::steps::{cut, draw, glue, look_at_rest};
 use crate::view::{History, Terms};
 use atomic_table::Table;
 use std::alloc::{AllocError as NoMemory, Global};
@@ -148,7 +148,7 @@ where
             parts,
         } = from;
         glue(&self.table.shared, &mut into.seat, seat);
-        check(&self.table.shared, &mut into.seat);
+        look_at_rest(&self.table.shared, &mut into.seat);
         into.parts = into.parts.saturating_add(parts);
     }
 

@@ -2,7 +2,7 @@
 ghost use Rattle.ifmap_hall.specs.Rule.{Keeps};
 ghost use Rattle.ifmap_hall.specs.SeatViews.{first_seat, kept_seat, given_seat};
 ghost use Rattle.ifmap_hall.specs.SeatViews.{joint_seat, spent_seat};
-ghost use Rattle.ifmap_hall.specs.Plays.{Checks, Draws, Looks, PassesOn};
+ghost use Rattle.ifmap_hall.specs.Plays.{Draws, Looks, LooksAtRest, PassesOn};
 
 use crate::book::Book;
 use crate::machine::Machine;
@@ -60,9 +60,9 @@ impl<M: Machine> Join<SeatView<M>> for Glue {
     ghost spent = { spent_seat M.some_state };
 }
 
-/// A look without a ticket, after a join.
-pub struct Check;
+/// A look of a seat at rest, which has no ticket, after a join.
+pub struct LookAtRest;
 
-impl<M: Machine> Play<Option<Book<M>>, SeatView<M>> for Check {
-    ghost then = { Checks };
+impl<M: Machine> Play<Option<Book<M>>, SeatView<M>> for LookAtRest {
+    ghost then = { LooksAtRest };
 }

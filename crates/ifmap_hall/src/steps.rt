@@ -7,7 +7,7 @@ ghost use Rattle.ifmap_hall.specs.Plays.{Served, Brings, WentOn};
 
 use crate::book::Book;
 use crate::machine::Machine;
-use crate::rule::{Check, Cut, Draw, Glue, InTurn, Look, PassOn};
+use crate::rule::{Cut, Draw, Glue, InTurn, Look, LookAtRest, PassOn};
 use crate::view::{SeatView, Terms};
 use atomic_table::{Seat, Shared};
 
@@ -80,7 +80,7 @@ pub(crate) fn glue<M: Machine>(table: &HallTable<M>, seat: &mut HallSeat<M>, oth
 }
 
 // Looks without a ticket, which tells what the rule says of each seat.
-pub(crate) fn check<M: Machine>(table: &HallTable<M>, seat: &mut HallSeat<M>)
+pub(crate) fn look_at_rest<M: Machine>(table: &HallTable<M>, seat: &mut HallSeat<M>)
     requires own { seat.old.table_id ≡ table.now.table_id }
     requires words { table.now.table_id.words ≡ 2 }
     requires idle { IsAtRest seat.old.me }
@@ -88,5 +88,5 @@ pub(crate) fn check<M: Machine>(table: &HallTable<M>, seat: &mut HallSeat<M>)
     ensures same { seat.new.me ≡ seat.old.me }
     ensures sound { IsSoundSeat seat.old.me.0 }
 {
-    table.load::<Check>(seat, 0);
+    table.load::<LookAtRest>(seat, 0);
 }
