@@ -1,11 +1,11 @@
 //! Where the items of a plan stand in the graph and in the draft.
 ghost use Rattle.std.specs.Prelude.{◌≡◌, IfOk};
-ghost use Rattle.ifmap_delta.specs.Located.{IsLocated, IsLocatedPlan, IsLocatedTwice};
+ghost use Rattle.ifmap_delta.specs.Located.{AreLocated, AreNotesLocated, IsLocated, IsLocatedPlan, IsLocatedTwice};
 ghost use Rattle.ifmap_delta.specs.Sights.{view_seen};
 ghost use Rattle.ifmap_view.specs.Views.{IsView};
 
 use ifmap_ident::Item;
-use ifmap_plans::Plan;
+use ifmap_plans::{ItemChange, Note, Plan};
 use ifmap_view::{Row, View};
 use std::alloc::{AllocError as NoMemory, Global};
 
@@ -53,19 +53,47 @@ pub fn locate_plan<'a, G: View, D: View>(
     ensures located { IfOk result (IsLocatedPlan
         (view_seen G.rows G.id_at G.links graph.now) (view_seen D.rows D.id_at D.links draft.now)) }
 {
-    let mut changes = Vec::new(alloc);
-    for change in &plan.changes.0 {
-        changes.push(locate_change(graph, draft, &change.item))?;
-    }
-    let mut notes = Vec::new(alloc);
-    for note in &plan.notes.0 {
-        notes.push(locate_item(draft, note.item.item()))?;
-    }
+    let changes = locate_changes(alloc, graph, draft, &plan.changes.0)?;
+    let notes = locate_notes(alloc, draft, &plan.notes.0)?;
     Ok(LocatedPlan {
         plan,
         changes,
         notes,
     })
+}
+
+// The items of changes in the graph and in the draft, in the order of the changes.
+fn locate_changes<'a, G: View, D: View>(
+    alloc: Global,
+    graph: &'a G,
+    draft: &'a D,
+    changes: &[ItemChange],
+) -> Result<Vec<LocatedChange<'a>>, NoMemory>
+    ensures { IfOk result (λ located. AreLocated
+        (view_seen G.rows G.id_at G.links graph.now) (view_seen D.rows D.id_at D.links draft.now)
+        changes.now located.items) }
+{
+    let mut located = Vec::new(alloc);
+    for change in changes {
+        located.push(locate_change(graph, draft, &change.item))?;
+    }
+    Ok(located)
+}
+
+// The items of notes in a view, in the order of the notes.
+fn locate_notes<'a, V: View>(
+    alloc: Global,
+    view: &'a V,
+    notes: &[Note],
+) -> Result<Vec<Located<'a>>, NoMemory>
+    ensures { IfOk result (λ located. AreNotesLocated (view_seen V.rows V.id_at V.links view.now)
+        notes.now located.items) }
+{
+    let mut located = Vec::new(alloc);
+    for note in notes {
+        located.push(locate_item(view, note.item.item()))?;
+    }
+    Ok(located)
 }
 
 // An item in the graph and in the draft.
