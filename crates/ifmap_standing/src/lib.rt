@@ -1,13 +1,12 @@
 //! Subscriptions that stand: what all of them are told of one change of the graph, with the way back.
 #![tactic(auto)]
 
-pub mod changing;
 pub mod laws;
 pub mod standing;
+pub mod tell_changes;
 pub mod telling;
 pub mod ways;
 
-pub use changing::{Told, tell_change};
 pub use ifmap_delta::{Subscribed, Subscription, fresh, numbers_keep_walks, subscribe};
 pub use ifmap_machine::laws::clients_fold_fresh_results;
 pub use ifmap_machine::{
@@ -15,5 +14,6 @@ pub use ifmap_machine::{
     Who, named_size, plan, publishing_keeps_graphs, retract, retracting_keeps_graphs, write_reply,
 };
 pub use standing::Standing;
+pub use tell_changes::{Told, tell_change};
 pub use telling::{GraphChange, News};
 pub use ways::{Ways, settle, take_back};

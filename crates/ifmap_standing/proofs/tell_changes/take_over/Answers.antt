@@ -1,6 +1,6 @@
 use Rattle.ifmap_delta.specs.Sights.{view_seen}
 use Rattle.ifmap_standing.proofs.Taking.{leads, room_keeps, would_keep}
-use Rattle.ifmap_standing.proofs.changing.take_over.Goals as goal
+use Rattle.ifmap_standing.proofs.tell_changes.take_over.Goals as goal
 
 pub returns-clause-kept : goal.returns-clause-kept
 returns-clause-kept g c =

@@ -2,7 +2,7 @@ use Rattle.std.proofs.Common.{◌≡◌}
 use Rattle.std.specs.Prelude.{vec_capacity}
 use Rattle.ifmap_delta.specs.Sights.{view_seen}
 use Rattle.ifmap_standing.proofs.Stages.{Stage}
-use Rattle.ifmap_standing.proofs.changing.tell_all.Given as goal
+use Rattle.ifmap_standing.proofs.tell_changes.tell_all.Given as goal
 
 abbrev pub invariant-loop-at : goal.invariant-loop-at
 invariant-loop-at g l = record {

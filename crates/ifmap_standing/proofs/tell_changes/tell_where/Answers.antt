@@ -5,7 +5,7 @@ use Rattle.ifmap_standing.specs.Bounds.{IsWithinWhere}
 use Rattle.ifmap_standing.specs.News.{news_where}
 use Rattle.ifmap_standing.specs.Standing.{standing_of}
 use Rattle.ifmap_standing.proofs.Stages.{where_none}
-use Rattle.ifmap_standing.proofs.changing.tell_where.Goals as goal
+use Rattle.ifmap_standing.proofs.tell_changes.tell_where.Goals as goal
 use Rattle.ifmap_standing.specs.PlaceLaws.{keeps_itself}
 
 pub returns-then-is_skipped-clause-way : goal.returns-then-is_skipped-clause-way

@@ -10,7 +10,7 @@ use Rattle.ifmap_standing.specs.Kept.{AtEach, KeepsSame, StaysRelated}
 use Rattle.ifmap_standing.specs.News.{news_of_each}
 use Rattle.ifmap_standing.specs.Standing.{standing_of}
 use Rattle.ifmap_standing.proofs.Stages.{lead_searches, stands_itself, within_none}
-use Rattle.ifmap_standing.proofs.changing.tell_change.Goals as goal
+use Rattle.ifmap_standing.proofs.tell_changes.tell_change.Goals as goal
 use Rattle.ifmap_standing.specs.PlaceLaws.{search_itself, keeps_itself, keep_searches}
 
 pub returns-in_err-with_capacity-clause-same : goal.returns-in_err-with_capacity-clause-same

@@ -1,7 +1,7 @@
 use Rattle.std.proofs.Common.{◌∙◌, ap, refl, sym}
 use Rattle.ifmap_delta.specs.ifmap_folds.Differences.{difference}
 use Rattle.ifmap_delta.specs.ifmap_fresh.Fresh.{fresh}
-use Rattle.ifmap_standing.proofs.changing.tell_one.Goals as goal
+use Rattle.ifmap_standing.proofs.tell_changes.tell_one.Goals as goal
 
 pub news_of-requires-clause-deleted : goal.news_of-requires-clause-deleted
 news_of-requires-clause-deleted g c =
