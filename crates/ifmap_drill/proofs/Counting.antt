@@ -9,15 +9,15 @@ use Rattle.ifmap_core.specs.ifmap_machine.Events.{Event}
 use Rattle.ifmap_core.specs.ifmap_machine.Legal.{History}
 use Rattle.ifmap_core.specs.ifmap_machine.State.{State}
 use Rattle.ifmap_core.specs.ifmap_machine.Step.{step}
-use Rattle.ifmap_drill.specs.declared.counts.Counts.{Counts}
+use Rattle.ifmap_drill.specs.declared.drill_counts.DrillCounts.{DrillCounts}
 use Rattle.ifmap_drill.specs.declared.drills.Drill.{Drill}
-use Rattle.ifmap_drill.specs.Counts.{capped_sum, counts_of_event, counts_of, counts_sum, total_of}
+use Rattle.ifmap_drill.specs.DrillCounts.{capped_sum, counts_of_event, counts_of, counts_sum, total_of}
 use Rattle.ifmap_drill.specs.Drills.{Drilling, after_answer, after_event, asked_at, ids_after}
 use Rattle.ifmap_drill.specs.Events.{event_at}
 use Rattle.ifmap_drill.specs.Requests.{request_at}
 use Rattle.ifmap_drill.specs.Following.{drill_of}
 
-total_more : (number : Counts → ℕ) (history : History) (event : Event) (answer : Answer)
+total_more : (number : DrillCounts → ℕ) (history : History) (event : Event) (answer : Answer)
     → total_of number (history ++ (event, answer) ∷ []) ≡ capped_sum (total_of number history) (number (counts_of_event event.ask answer))
 total_more number history event answer =
     let more = sum_by_push (λ (e : Event × Answer). number (counts_of_event e.0.ask e.1)) history (event, answer) in omega arith
@@ -38,7 +38,7 @@ counts_more history event answer = λ i. record {
 }
 
 -- the drill keeps what it is to keep after one event more
-pub answer_kept : (i : ℕ) (event : Event) (old : Drill) (core : State) (answer : Answer) (counts : Counts) (ids : List (List ℕ))
+pub answer_kept : (i : ℕ) (event : Event) (old : Drill) (core : State) (answer : Answer) (counts : DrillCounts) (ids : List (List ℕ))
     → (core, answer) ≡ step old.core event → counts ≡ counts_sum old.counts (counts_of_event event.ask answer)
     → ids ≡ ids_after i answer old.ids → (d : Drilling) → old ≡ drill_of d
     → record { core = core; ids = ids; draws = old.draws; counts = counts } ≡ drill_of (after_answer i event old.draws d)

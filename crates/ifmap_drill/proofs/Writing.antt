@@ -5,11 +5,11 @@ use Rattle.std.specs.Prelude.{Option}
 use Rattle.std.proofs.Math.Seq.{take-length}
 use Rattle.std.specs.Io.KnownBytes.{Appends, Keeps}
 use Rattle.ifmap_io.specs.Causes.{Rose}
-use Rattle.ifmap_drill.specs.declared.counts.Counts.{Counts}
+use Rattle.ifmap_drill.specs.declared.drill_counts.DrillCounts.{DrillCounts}
 use Rattle.ifmap_drill.specs.Drilled.{IsEnded, side}
 use Rattle.ifmap_drill.specs.Summaries.{summary_text}
 
-pub summed : (text : List ℕ) (counts summary : Counts) → text ≡ summary_text counts → counts ≡ summary → text ≡ summary_text summary
+pub summed : (text : List ℕ) (counts summary : DrillCounts) → text ≡ summary_text counts → counts ≡ summary → text ≡ summary_text summary
 summed text counts summary is same = is ∙ ap summary_text same
 
 module _ (text : List ℕ) (old mid new : Option (List ℕ)) (old_faults mid_faults new_faults : ℕ) where

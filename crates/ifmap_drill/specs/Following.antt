@@ -1,6 +1,6 @@
 -- What a drill keeps. No public clause cites this file.
 use Rattle.ifmap_drill.specs.declared.drills.Drill.{Drill}
-use Rattle.ifmap_drill.specs.Counts.{counts_of}
+use Rattle.ifmap_drill.specs.DrillCounts.{counts_of}
 use Rattle.ifmap_drill.specs.Drills.{Drilling}
 
 -- the state, the ids and the generator, and what the history counts as

@@ -1,4 +1,4 @@
-pub mod Counts
+pub mod DrillCounts
 pub mod Drilled
 pub mod Drills
 pub mod Events

@@ -7,7 +7,7 @@ ghost use Rattle.ifmap_io.specs.Limits.{most_events};
 ghost use Rattle.ifmap_drill.specs.Following.{drill_of};
 ghost use Rattle.ifmap_drill.specs.Summaries.{summary_of};
 
-use crate::counts::Counts;
+use crate::drill_counts::DrillCounts;
 use crate::events::make_event;
 use crate::tasks::CLIENT_COUNT;
 use ifmap_core::{Answer, Core, Event, Reply, SESSION_SECONDS};
@@ -28,7 +28,7 @@ pub struct Drill {
     /// The generator.
     pub draws: Lcg128Xsl64,
     /// What is counted so far.
-    pub counts: Counts,
+    pub counts: DrillCounts,
 }
 
 impl Drill {
@@ -40,7 +40,7 @@ impl Drill {
             core: Core::new(alloc, SESSION_SECONDS),
             ids: Many::new(alloc),
             draws: Lcg128Xsl64::seed_from_u64(key),
-            counts: Counts::new(),
+            counts: DrillCounts::new(),
         }
     }
 
@@ -77,10 +77,10 @@ impl Drill {
     }
 
     /// All that was counted.
-    pub fn summary(&self) -> Counts
+    pub fn summary(&self) -> DrillCounts
         ensures { (d : Drilling) → self.now ≡ drill_of d → result ≡ summary_of d }
     {
-        Counts {
+        DrillCounts {
             links: self.core.links(),
             ..self.counts
         }

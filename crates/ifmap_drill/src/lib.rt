@@ -3,7 +3,7 @@
 #![tactic(auto)]
 
 mod bodies;
-pub mod counts;
+pub mod drill_counts;
 mod drills;
 mod events;
 pub mod laws;

@@ -5,7 +5,7 @@ ghost use Rattle.ifmap_drill.specs.Drills.{drilling_after};
 ghost use Rattle.ifmap_io.specs.Limits.{most_events};
 ghost use Rattle.ifmap_drill.specs.Summaries.{summary_of};
 
-use crate::counts::Counts;
+use crate::drill_counts::DrillCounts;
 use crate::drills::Drill;
 use crate::laws::{drills_agree, ids_are_characters};
 use crate::progress::Progress;
@@ -70,7 +70,7 @@ fn count_from<P: Progress, L: Ledger>(
     count: u32,
     progress: &mut P,
     blank: Blank,
-) -> Result<Counts, NoMemory>
+) -> Result<DrillCounts, NoMemory>
     requires name { blank.name ≡ L.name }
     requires parts { blank.parts ≡ L.parts }
     requires some { 0 < blank.parts }

@@ -2,13 +2,13 @@
 ghost use Rattle.std.specs.Prelude.{◌≡◌, ◌++◌, IfOk, OnOk};
 ghost use Rattle.ifmap_drill.specs.Summaries.{line, summary_text};
 
-use crate::counts::Counts;
+use crate::drill_counts::DrillCounts;
 use ifmap_elem::Text;
 use itoa::Buffer;
 use std::alloc::{AllocError as NoMemory, Global};
 
 /// The ten lines of a summary.
-pub fn summary_text(alloc: Global, counts: &Counts) -> Result<Text, NoMemory>
+pub fn summary_text(alloc: Global, counts: &DrillCounts) -> Result<Text, NoMemory>
     ensures { IfOk result (λ text. text ≡ summary_text counts.now) }
 {
     let mut text = Text::new(alloc);

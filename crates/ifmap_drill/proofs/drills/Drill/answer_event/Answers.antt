@@ -1,7 +1,7 @@
 use Rattle.std.proofs.Common.{ap, ◌∙◌}
 use Rattle.ifmap_core.specs.ifmap_machine.declared.events.Ask.{Ask}
 use Rattle.ifmap_core.specs.ifmap_machine.Events.{Event}
-use Rattle.ifmap_drill.specs.Counts.{counts_of_event, counts_sum}
+use Rattle.ifmap_drill.specs.DrillCounts.{counts_of_event, counts_sum}
 use Rattle.std.proofs.lemmas.Result.{on_ok_weaker}
 use Rattle.ifmap_drill.proofs.Counting.{answer_kept}
 use Rattle.ifmap_drill.proofs.drills.Drill.answer_event.Goals as goal

@@ -1,13 +1,13 @@
 //! What a drill counts.
 ghost use Rattle.std.specs.Prelude.{◌≡◌};
-ghost use Rattle.ifmap_drill.specs.Counts.{counts_of_ask, counts_of_event, counts_sum, no_counts, counts_of_reply, counts_of_request};
+ghost use Rattle.ifmap_drill.specs.DrillCounts.{counts_of_ask, counts_of_event, counts_sum, no_counts, counts_of_reply, counts_of_request};
 
 use ifmap_core::{Answer, Ask, Reply};
 use ifmap_requests::Request;
 
 /// The numbers of a summary, in its order. Each stands still at the greatest of its type.
 #[derive(Clone, Copy, Debug, PartialEq, Eq)]
-pub struct Counts {
+pub struct DrillCounts {
     /// Events whose result is no error.
     pub events: u64,
     /// Sessions that began.
@@ -26,7 +26,7 @@ pub struct Counts {
     pub links: u64,
 }
 
-const NOTHING: Counts = Counts {
+const NOTHING: DrillCounts = DrillCounts {
     events: 0,
     sessions: 0,
     subscribes: 0,
@@ -39,14 +39,14 @@ const NOTHING: Counts = Counts {
     links: 0,
 };
 
-const ONE_EVENT: Counts = Counts {
+const ONE_EVENT: DrillCounts = DrillCounts {
     events: 1,
     ..NOTHING
 };
 
-impl Counts {
+impl DrillCounts {
     // Nothing yet.
-    pub(crate) fn new() -> Counts
+    pub(crate) fn new() -> DrillCounts
         ensures { result ≡ no_counts }
     {
         NOTHING
@@ -61,10 +61,10 @@ impl Counts {
     }
 
     // These and others together, with the links of these.
-    fn sum_with(&self, more: &Counts) -> Counts
+    fn sum_with(&self, more: &DrillCounts) -> DrillCounts
         ensures { result ≡ counts_sum self.now more.now }
     {
-        Counts {
+        DrillCounts {
             events: self.events.saturating_add(more.events),
             sessions: self.sessions.saturating_add(more.sessions),
             subscribes: self.subscribes.saturating_add(more.subscribes),
@@ -80,24 +80,24 @@ impl Counts {
 }
 
 // What an event counts as, by its answer.
-fn counts_of_event(ask: &Ask, answer: &Answer) -> Counts
+fn counts_of_event(ask: &Ask, answer: &Answer) -> DrillCounts
     ensures { result ≡ counts_of_event ask.now answer.now }
 {
     let asked = counts_of_ask(ask);
     match answer {
         Answer::Reply(reply) => counts_of_reply(asked, reply),
-        Answer::Held => Counts { held: 1, ..asked },
+        Answer::Held => DrillCounts { held: 1, ..asked },
         Answer::Heard => asked,
     }
 }
 
 // The same where it is a reply.
-fn counts_of_reply(asked: Counts, reply: &Reply) -> Counts
+fn counts_of_reply(asked: DrillCounts, reply: &Reply) -> DrillCounts
     ensures { result ≡ counts_of_reply asked reply.now }
 {
     match reply {
         Reply::Error { .. } => NOTHING,
-        Reply::Polled(items) => Counts {
+        Reply::Polled(items) => DrillCounts {
             told: items.len() as u64,
             ..asked
         },
@@ -106,7 +106,7 @@ fn counts_of_reply(asked: Counts, reply: &Reply) -> Counts
 }
 
 // What a request counts as, where its result is no error.
-fn counts_of_ask(ask: &Ask) -> Counts
+fn counts_of_ask(ask: &Ask) -> DrillCounts
     ensures { result ≡ counts_of_ask ask.now }
 {
     match ask {
@@ -115,31 +115,31 @@ fn counts_of_ask(ask: &Ask) -> Counts
     }
 }
 
-fn counts_of_request(request: &Request) -> Counts
+fn counts_of_request(request: &Request) -> DrillCounts
     ensures { result ≡ counts_of_request request.now }
 {
     match request {
-        Request::NewSession { .. } => Counts {
+        Request::NewSession { .. } => DrillCounts {
             sessions: 1,
             ..ONE_EVENT
         },
-        Request::Subscribe { .. } => Counts {
+        Request::Subscribe { .. } => DrillCounts {
             subscribes: 1,
             ..ONE_EVENT
         },
-        Request::Publish { .. } => Counts {
+        Request::Publish { .. } => DrillCounts {
             publishes: 1,
             ..ONE_EVENT
         },
-        Request::Search { .. } => Counts {
+        Request::Search { .. } => DrillCounts {
             searches: 1,
             ..ONE_EVENT
         },
-        Request::Poll { .. } => Counts {
+        Request::Poll { .. } => DrillCounts {
             polls: 1,
             ..ONE_EVENT
         },
-        Request::RenewSession { .. } => Counts {
+        Request::RenewSession { .. } => DrillCounts {
             renewals: 1,
             ..ONE_EVENT
         },

@@ -10,9 +10,9 @@ use Rattle.ifmap_core.specs.ifmap_replies.declared.replies.Reply.{Reply as AnyRe
 use Rattle.ifmap_core.specs.ifmap_replies.declared.replies.Reply.TheVariants as the_reply
 use Rattle.ifmap_requests.specs.declared.requests.Request.{Request as Asked}
 use Rattle.ifmap_requests.specs.declared.requests.Request.TheVariants as the_request
-use Rattle.ifmap_drill.specs.declared.counts.Counts.{Counts}
+use Rattle.ifmap_drill.specs.declared.drill_counts.DrillCounts.{DrillCounts}
 
-abbrev pub no_counts : Counts
+abbrev pub no_counts : DrillCounts
 no_counts = record {
   events = 0;
   sessions = 0;
@@ -26,11 +26,11 @@ no_counts = record {
   links = 0;
 }
 
-abbrev pub one_event : Counts
+abbrev pub one_event : DrillCounts
 one_event = record no_counts { events = 1 }
 
 -- what a request counts as, where its result is no error
-abbrev pub counts_of_request : Asked → Counts
+abbrev pub counts_of_request : Asked → DrillCounts
 counts_of_request (the_request.NewSession limit) = record one_event { sessions = 1 }
 counts_of_request (the_request.Subscribe session ops) = record one_event { subscribes = 1 }
 counts_of_request (the_request.Publish session ops) = record one_event { publishes = 1 }
@@ -40,12 +40,12 @@ counts_of_request (the_request.RenewSession session) = record one_event { renewa
 counts_of_request (the_request.EndSession session) = one_event
 counts_of_request (the_request.PurgePublisher session publisher) = one_event
 
-abbrev pub counts_of_ask : Ask → Counts
+abbrev pub counts_of_ask : Ask → DrillCounts
 counts_of_ask (Request request) = counts_of_request request
 counts_of_ask (Lost session) = one_event
 
 -- what that is by the reply: nothing where it is an error, and for a poll also the items that it is told
-abbrev pub counts_of_reply : Counts → AnyReply → Counts
+abbrev pub counts_of_reply : DrillCounts → AnyReply → DrillCounts
 counts_of_reply asked (the_reply.Error code note) = no_counts
 counts_of_reply asked (the_reply.Polled items) = record asked { told = length items }
 counts_of_reply asked (the_reply.NewSession session publisher limit) = asked
@@ -57,17 +57,17 @@ counts_of_reply asked the_reply.Purged = asked
 counts_of_reply asked (the_reply.Found entries) = asked
 
 -- what an event counts as, by its answer; a poll that is held counts as a poll and as held
-abbrev pub counts_of_event : Ask → Answer → Counts
+abbrev pub counts_of_event : Ask → Answer → DrillCounts
 counts_of_event ask (Reply reply) = counts_of_reply (counts_of_ask ask) reply
 counts_of_event ask Held = record (counts_of_ask ask) { held = 1 }
 counts_of_event ask Heard = counts_of_ask ask
 
 -- a number of all events of a history together; a count stands still at the greatest of its type
-abbrev pub total_of : (Counts → ℕ) → History → ℕ
+abbrev pub total_of : (DrillCounts → ℕ) → History → ℕ
 total_of number history = min (sum_by (λ (e : Event × Answer). number (counts_of_event e.0.ask e.1)) history) (2 ^ 64 - 1)
 
 -- what the events of a history count as together, with so many links
-abbrev pub counts_of : History → ℕ → Counts
+abbrev pub counts_of : History → ℕ → DrillCounts
 counts_of history links = record {
   events = total_of (λ c. c.events) history;
   sessions = total_of (λ c. c.sessions) history;
@@ -86,7 +86,7 @@ abbrev pub capped_sum : ℕ → ℕ → ℕ
 capped_sum one other = min (one + other) (2 ^ 64 - 1)
 
 -- two counts together, with the links of the first
-abbrev pub counts_sum : Counts → Counts → Counts
+abbrev pub counts_sum : DrillCounts → DrillCounts → DrillCounts
 counts_sum a b = record {
   events = capped_sum a.events b.events;
   sessions = capped_sum a.sessions b.sessions;
