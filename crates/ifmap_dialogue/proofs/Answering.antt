@@ -49,8 +49,8 @@ pub quiet_wanting : IsQuiet (Some ending.NoMemory)
 quiet_wanting = record { reads = λ e. cc; writes = λ e. cc }
 
 -- a fault of writing was counted
-abbrev pub Counts : Sent → WireSeen → WireSeen → Type 0
-Counts the_sent before after = the_sent ≡ sent.WriteFault → Rose before.write_faults after.write_faults
+abbrev pub CountsWriteFault : Sent → WireSeen → WireSeen → Type 0
+CountsWriteFault the_sent before after = the_sent ≡ sent.WriteFault → Rose before.write_faults after.write_faults
 
 pub gains_none : (wire : WireSeen) → GainsBytes wire wire []
 gains_none wire = record { gained = Appends-nil wire.held; rest = refl; later = omega arith }
@@ -70,7 +70,7 @@ module _ (before after : WireSeen) (output : List ℕ) (g : GainsBytes before af
   causes_faulty : Rose before.write_faults after.write_faults → HasCauses before after (Some ending.WriteFault)
   causes_faulty rose = record { reads = reads_on; writes = g.later; read_fault = λ e. cc; write_fault = λ e. rose }
 
-  pub causes_after : (the_sent : Sent) (due : Option Ending) → IsQuiet due → Counts the_sent before after
+  pub causes_after : (the_sent : Sent) (due : Option Ending) → IsQuiet due → CountsWriteFault the_sent before after
       → HasCauses before after (next_after the_sent due)
   causes_after sent.Done due quiet counts = causes_quiet due quiet
   causes_after sent.WriteFault due quiet counts = causes_faulty (counts refl)
@@ -93,7 +93,7 @@ module _ (before after : WireSeen) (output : List ℕ) (g : GainsBytes before af
   causes_heard rose outcome.NoMemory = causes_quiet (Some ending.NoMemory) quiet_wanting
 
   pub causes_lost : (gives : ℕ → Type 0) (poll : Poll) (close : Bool) (the_sent : Sent) (turns : List Turn) (next : Option Ending)
-      → LosesUnlessDone gives poll close the_sent turns next → Counts the_sent before after → HasCauses before after next
+      → LosesUnlessDone gives poll close the_sent turns next → CountsWriteFault the_sent before after → HasCauses before after next
   causes_lost gives poll close sent.Done turns next (none, is) counts =
       subst (HasCauses before after) (sym is) (causes_quiet (end_after close) (quiet_closing close))
   causes_lost gives poll close sent.WriteFault turns next (turn, one, asks, is) counts =
@@ -110,7 +110,7 @@ module _ {H : Type 0} (gives : ℕ → Type 0) (desk : DeskSeen H) (before after
 
   -- an answer was written, and nothing was asked
   sends_answer : (the_sent : Sent) (due next : Option Ending) (output : List ℕ) → GainsBytes before after output
-      → Counts the_sent before after → IsQuiet due → next ≡ next_after the_sent due
+      → CountsWriteFault the_sent before after → IsQuiet due → next ≡ next_after the_sent due
       → Answers gives found (record { close = close; turns = []; output = output; next = next }) → Serving next
   sends_answer the_sent due next output g counts quiet is answers = record {
     turns = [];
@@ -123,7 +123,7 @@ module _ {H : Type 0} (gives : ℕ → Type 0) (desk : DeskSeen H) (before after
   }
 
   pub replied_answer : (reply : Reply) → found ≡ finding.Replied reply → (the_sent : Sent) (due next : Option Ending) (output : List ℕ)
-      → WritesAnswer (reply_answer reply close) the_sent output → GainsBytes before after output → Counts the_sent before after
+      → WritesAnswer (reply_answer reply close) the_sent output → GainsBytes before after output → CountsWriteFault the_sent before after
       → due ≡ end_after close → next ≡ next_after the_sent due → Serving next
   replied_answer reply is the_sent due next output writes g counts closes follows =
       let ends : next ≡ next_after the_sent (end_after close) = follows ∙ ap (next_after the_sent) closes in
@@ -132,7 +132,7 @@ module _ {H : Type 0} (gives : ℕ → Type 0) (desk : DeskSeen H) (before after
       (refl, (the_sent, writes, ends)))
 
   pub unreadable_answer : found ≡ finding.Unreadable → (the_sent : Sent) (next : Option Ending) (output : List ℕ)
-      → WritesAnswer (bare_answer 400) the_sent output → GainsBytes before after output → Counts the_sent before after
+      → WritesAnswer (bare_answer 400) the_sent output → GainsBytes before after output → CountsWriteFault the_sent before after
       → next ≡ next_after the_sent (Some (ending.Refused 400)) → Serving next
   unreadable_answer is the_sent next output writes g counts ends =
       sends_answer the_sent (Some (ending.Refused 400)) next output g counts (quiet_refused 400) ends
@@ -140,7 +140,7 @@ module _ {H : Type 0} (gives : ℕ → Type 0) (desk : DeskSeen H) (before after
       (refl, (the_sent, writes, ends)))
 
   pub spent_answer : (entries : ℕ) → found ≡ finding.Spent entries → (the_sent : Sent) (next : Option Ending) (output : List ℕ)
-      → WritesAnswer (bare_answer 507) the_sent output → GainsBytes before after output → Counts the_sent before after
+      → WritesAnswer (bare_answer 507) the_sent output → GainsBytes before after output → CountsWriteFault the_sent before after
       → next ≡ next_after the_sent (Some (ending.Spent entries)) → Serving next
   spent_answer entries is the_sent next output writes g counts ends =
       sends_answer the_sent (Some (ending.Spent entries)) next output g counts (quiet_spent entries) ends
@@ -181,7 +181,7 @@ held_out_answer gives desk wire words found close many is = record {
 pub told_answer : {H : Type 0} (gives : ℕ → Type 0) (one other : DeskSeen H) (before after : WireSeen) (words : ChaCha) (found : Finding)
     (reply : Reply) (poll : Poll) (close : Bool) (the_sent : Sent) (turns : List Turn) (output : List ℕ) (next : Option Ending)
     → found ≡ finding.Told reply poll → WritesAnswer (reply_answer reply close) the_sent output → GainsBytes before after output
-    → Counts the_sent before after → DeskTakesTurns one other turns → LosesUnlessDone gives poll close the_sent turns next
+    → CountsWriteFault the_sent before after → DeskTakesTurns one other turns → LosesUnlessDone gives poll close the_sent turns next
     → ServesAnswer gives (scene one before words) (scene other after words) (record { finding = found; close = close; next = next })
 told_answer gives one other before after words found reply poll close the_sent turns output next is writes g counts tells loses = record {
   turns = turns;

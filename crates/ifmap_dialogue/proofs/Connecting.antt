@@ -32,7 +32,7 @@ use Rattle.ifmap_dialogue.specs.Dialogue.{AreRoundsInOrder, Serves}
 use Rattle.ifmap_dialogue.specs.Rounds.{AnswersGot, IsRound, Round, WireAndWords, is_last_post, most_posts}
 use Rattle.ifmap_dialogue.specs.Scenes.{HasCauses, Scene, ServesPost, ServesRound, scene, wire_standing}
 use Rattle.ifmap_dialogue.specs.Wires.{GainsBytes, IsNoMemoryOutput, WritesAnswer, bare_answer}
-use Rattle.ifmap_dialogue.proofs.Answering.{Counts, IsQuiet, causes_after, causes_quiet, quiet_closing, quiet_refused, quiet_spent, quiet_wanting}
+use Rattle.ifmap_dialogue.proofs.Answering.{CountsWriteFault, IsQuiet, causes_after, causes_quiet, quiet_closing, quiet_refused, quiet_spent, quiet_wanting}
 use Rattle.ifmap_dialogue.specs.Telling.{tells_more, tells_none}
 
 -- ---- what was read of a wire
@@ -96,7 +96,7 @@ module _ {H : Type 0} (gives : ℕ → Type 0) (number : ℕ) (desk : DeskSeen H
   -- the post had a status, which was answered
   pub round_refused : (status : ℕ) (the_sent : Sent) (next : Option Ending) (output : List ℕ)
       → IfSome before.left (λ left. GetsPost left mid.left (got.Status status)) → WritesAnswer (bare_answer status) the_sent output
-      → GainsBytes mid after output → Counts the_sent mid after → next ≡ next_after the_sent (Some (ending.Refused status))
+      → GainsBytes mid after output → CountsWriteFault the_sent mid after → next ≡ next_after the_sent (Some (ending.Refused status))
       → ServesRound gives number (scene desk before words) (scene desk after words) next
   round_refused status the_sent next output reads writes g counts is = record {
     turns = [];
