@@ -9,7 +9,7 @@ use Rattle.ifmap_desks.specs.Machines.{CoreView, core_holds, core_next, core_rep
 use Rattle.ifmap_desks.specs.declared.events.FitEvent.{FitEvent}
 use Rattle.ifmap_desks.proofs.BookTurns.{held_polls}
 use Rattle.ifmap_dialogue.specs.Desks.{FitsAsked, FitsAnswer, Gains, call_of}
-use Rattle.ifmap_hall.specs.Asking.{Answered}
+use Rattle.ifmap_hall.specs.HallAsks.{Answered}
 use Rattle.ifmap_hall.specs.Sights.{run}
 use Rattle.ifmap_hall.specs.declared.book.Asked.{Asked}
 use Rattle.ifmap_hall.specs.declared.book.Asked.TheVariants.{Done, Held, Spent, NoMemory}

@@ -7,7 +7,7 @@ use Rattle.ifmap_desks.specs.Recalls.{AreCalls, IsCallOfEntry, Recalls}
 use Rattle.ifmap_desks.specs.declared.answers.AnswerCounts.{AnswerCounts}
 use Rattle.ifmap_desks.specs.declared.events.FitEvent.{FitEvent}
 use Rattle.ifmap_desks.specs.declared.machine.CoreMachine.{CoreMachine}
-use Rattle.ifmap_hall.specs.Asking.{Answered, Said, SaidNothing, TookATurn}
+use Rattle.ifmap_hall.specs.HallAsks.{Answered, Said, SaidNothing, TookATurn}
 use Rattle.ifmap_hall.specs.declared.book.Asked.{Asked}
 use Rattle.ifmap_hall.specs.declared.book.Asked.TheVariants.{Done, Held, Spent, NoMemory}
 use Rattle.ifmap_dialogue.specs.ifmap_machine.declared.events.Answer.{Answer}

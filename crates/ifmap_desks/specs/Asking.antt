@@ -9,7 +9,7 @@ use Rattle.ifmap_desks.specs.declared.machine.CoreMachine.{CoreMachine}
 use Rattle.ifmap_desks.specs.declared.pass_desk.PassDesk.{PassDesk}
 use Rattle.ifmap_dialogue.specs.Desks.{DeskSeen}
 use Rattle.ifmap_hall.specs.Answers.{IfDone, IfHeld, IfSpent, IfNoMemory}
-use Rattle.ifmap_hall.specs.Asking.{Answered, AnsweredFromBase}
+use Rattle.ifmap_hall.specs.HallAsks.{Answered, AnsweredFromBase}
 use Rattle.ifmap_hall.specs.Books.{end_of_book, sight_of}
 use Rattle.ifmap_hall.specs.Passes.{number_of, parts_of, view_of}
 use Rattle.ifmap_hall.specs.Sights.{CarriesOn}

@@ -5,7 +5,7 @@ ghost use Rattle.ifmap_desks.specs.Asking.{AnsweredByHall, number_at, parts_at, 
 ghost use Rattle.ifmap_desks.specs.Machines.{core_next};
 ghost use Rattle.ifmap_desks.specs.Recalls.{Recalls};
 ghost use Rattle.ifmap_dialogue.specs.Desks.{DeskTakesTurns, greatest_weight, weight};
-ghost use Rattle.ifmap_hall.specs.Asking.{TookATurn};
+ghost use Rattle.ifmap_hall.specs.HallAsks.{TookATurn};
 ghost use Rattle.ifmap_hall.specs.Passes.{IsOf, view_of};
 ghost use Rattle.ifmap_hall.specs.Sights.{CarriesOn};
 ghost use Rattle.ifmap_hall.specs.Views.{sight_by};

@@ -2,7 +2,7 @@
 -- what is seen.
 use Rattle.std.proofs.Common.{◌≡◌, ℕ, ◌+◌, ◌-◌, ◌≤◌, List, [], ◌∷◌, ◌++◌, length, take, drop, Bool, true, false, cond, sym, ap, subst, ◌∙◌, arith, length-append, length-drop, take-add, drop-drop}
 use Rattle.std.proofs.lemmas.List.{take-append-le, drop-append-le, take-append-drop}
-use Rattle.ifmap_hall.specs.Asking.{TookATurn, Answered, AnsweredFromBase}
+use Rattle.ifmap_hall.specs.HallAsks.{TookATurn, Answered, AnsweredFromBase}
 use Rattle.ifmap_hall.specs.Books.{sight_of}
 use Rattle.ifmap_hall.specs.Histories.{Extends, sight_in}
 use Rattle.ifmap_hall.specs.Places.{times, merge}

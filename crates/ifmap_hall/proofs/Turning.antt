@@ -12,7 +12,7 @@ use Rattle.std.proofs.Common.{◌≡◌, ℕ, ◌+◌, ◌-◌, ◌^◌, ◌<◌
 use Rattle.std.proofs.lemmas.List.{nil_from_length, take-append-drop}
 use Rattle.std.proofs.Math.Seq.{drop-append_seam, drop-length}
 use Rattle.ifmap_hall.specs.Answers.{IfDone, IfHeld, IfSpent, IfNoMemory}
-use Rattle.ifmap_hall.specs.Asking.{TookATurn, SaidNothing, Said, Answered, Turned}
+use Rattle.ifmap_hall.specs.HallAsks.{TookATurn, SaidNothing, Said, Answered, Turned}
 use Rattle.ifmap_hall.specs.Books.{IsBook, sight_of, end_of_book}
 use Rattle.ifmap_hall.specs.Histories.{Extends, GainsAtMostOne, history_in}
 use Rattle.ifmap_hall.specs.Plays.{FindsBook, Gives}

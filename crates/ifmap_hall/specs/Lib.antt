@@ -1,6 +1,6 @@
 pub mod Answers
-pub mod Asking
 pub mod Books
+pub mod HallAsks
 pub mod Histories
 pub mod Passes
 pub mod Places

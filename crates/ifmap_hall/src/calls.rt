@@ -7,12 +7,12 @@ ghost use Rattle.ifmap_hall.specs.Plays.{FindsBook};
 ghost use Rattle.ifmap_hall.specs.SeatViews.{share};
 ghost use Rattle.ifmap_hall.specs.Views.{first_view, kept_view, given_view, joint_view};
 ghost use Rattle.ifmap_hall.specs.Views.{sight_by, IsSoundView};
-ghost use Rattle.ifmap_hall.specs.Asking.{TookATurn, Answered, AnsweredFromBase};
+ghost use Rattle.ifmap_hall.specs.HallAsks.{TookATurn, Answered, AnsweredFromBase};
 ghost use Rattle.ifmap_hall.specs.Passes.{IsOf, view_of, number_of, parts_of};
 
-use crate::asking::{ask_seat, await_turn};
 use crate::book::{Asked, Book};
 use crate::hall::{Hall, Pass};
+use crate::hall_asks::{ask_seat, await_turn};
 use crate::machine::Machine;
 use crate::steps::{cut, draw, glue, look_at_rest};
 use crate::view::{History, Terms};

@@ -2,11 +2,11 @@
 //! passes ask the one book in turn. It is generic over the machine.
 #![tactic(auto)]
 
-mod asking;
 mod book;
 mod calls;
 mod carrying;
 mod hall;
+mod hall_asks;
 mod machine;
 mod rule;
 mod steps;

@@ -3,7 +3,7 @@ ghost use Rattle.std.specs.Prelude.{◌≡◌, ◌≢◌, ℕ, ◌+◌, ◌%◌,
 ghost use Rattle.ifmap_hall.specs.Books.{IsBook};
 ghost use Rattle.ifmap_hall.specs.SeatViews.{ticket_of, IsAtRest, IsWaiting};
 ghost use Rattle.ifmap_hall.specs.Plays.{FindsBook, Served};
-ghost use Rattle.ifmap_hall.specs.Asking.{TookATurn, Answered, Turned};
+ghost use Rattle.ifmap_hall.specs.HallAsks.{TookATurn, Answered, Turned};
 
 use crate::book::{Asked, Book};
 use crate::machine::Machine;

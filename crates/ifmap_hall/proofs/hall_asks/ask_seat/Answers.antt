@@ -1,12 +1,12 @@
 use Rattle.std.proofs.Common.{◌≡◌, [], ◌∷◌, ◌∙◌, ◌%◌, ◌^◌, refl, ap, sym, subst}
 use Rattle.std.specs.Prelude.{Some, None}
 use Rattle.atomic_table.specs.Table.{rest}
-use Rattle.ifmap_hall.specs.Asking.{TookATurn, Answered, Turned}
+use Rattle.ifmap_hall.specs.HallAsks.{TookATurn, Answered, Turned}
 use Rattle.ifmap_hall.specs.Plays.{Gives}
 use Rattle.ifmap_hall.specs.SeatViews.{taken_of, ticket_of, with_ticket, with_book, after_turn, IsAtRest}
 use Rattle.ifmap_hall.proofs.Taking.{waits_drawn, lies_first, finds_book, brings_book, holds_brought, goes_on_to}
-use Rattle.ifmap_hall.proofs.asking.ask_seat.Given.{Over}
-use Rattle.ifmap_hall.proofs.asking.ask_seat.Goals as goal
+use Rattle.ifmap_hall.proofs.hall_asks.ask_seat.Given.{Over}
+use Rattle.ifmap_hall.proofs.hall_asks.ask_seat.Goals as goal
 
 pub await_turn-requires-clause-waits : goal.await_turn-requires-clause-waits
 await_turn-requires-clause-waits g c =

@@ -1,7 +1,7 @@
 use Rattle.std.proofs.Common.{◌∙◌, ◌%◌, ◌^◌, ap, sym, subst}
 use Rattle.ifmap_hall.specs.SeatViews.{ticket_of, IsWaiting}
 use Rattle.ifmap_hall.specs.Plays.{Served}
-use Rattle.ifmap_hall.proofs.asking.await_turn.Goals as goal
+use Rattle.ifmap_hall.proofs.hall_asks.await_turn.Goals as goal
 
 pub look-served-requires-clause-waits : goal.look-served-requires-clause-waits
 look-served-requires-clause-waits g c = subst IsWaiting (sym c.loop.invariant.0) c.requires.waits

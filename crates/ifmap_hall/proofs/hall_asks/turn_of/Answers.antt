@@ -1,5 +1,5 @@
 use Rattle.ifmap_hall.proofs.Turning.{turned}
-use Rattle.ifmap_hall.proofs.asking.turn_of.Goals as goal
+use Rattle.ifmap_hall.proofs.hall_asks.turn_of.Goals as goal
 
 pub returns : goal.returns
 returns g c v h found =
