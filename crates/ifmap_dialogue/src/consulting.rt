@@ -5,9 +5,9 @@ ghost use Rattle.ifmap_dialogue.specs.Desks.{desk_seen};
 ghost use Rattle.ifmap_dialogue.specs.declared.findings.Finding.TheVariants as the_finding;
 ghost use Rattle.ifmap_dialogue.specs.Findings.{FindsPost, refusal_reply};
 
-use crate::asking::{Asker, ask_request};
 use crate::desks::{Desk, Gate};
 use crate::findings::Finding;
+use crate::post_asks::{Asker, ask_request};
 use crate::settings::Setting;
 use ifmap_elem::{Many, Text};
 use ifmap_ident::Code;

@@ -2,12 +2,12 @@
 //! the answers are written, until the connection ends.
 #![tactic(auto)]
 
-mod asking;
 mod consulting;
 pub mod desks;
 pub mod endings;
 pub mod findings;
 pub mod polls;
+mod post_asks;
 mod rounds;
 mod sending;
 mod serving;

@@ -9,12 +9,12 @@ ghost use Rattle.ifmap_dialogue.specs.Desks.{DeskTakesTurns, Turn, desk_seen};
 ghost use Rattle.ifmap_dialogue.specs.Rounds.{is_last_post, most_posts};
 ghost use Rattle.ifmap_dialogue.specs.Scenes.{HasFitPoll, ServesAnswer, ServesPost, ServesRound, scene};
 
-use crate::asking::tell_lost;
 use crate::consulting::consult;
 use crate::desks::{Desk, Gate};
 use crate::endings::Ending;
 use crate::findings::Finding;
 use crate::polls::Poll;
+use crate::post_asks::tell_lost;
 use crate::sending::{
     BAD_REQUEST, INSUFFICIENT_STORAGE, Then, end_after, give_up, next_after, send_bare, send_reply,
 };

@@ -3,7 +3,7 @@ use Rattle.ifmap_elem.specs.Chars.{IsCharacters}
 use Rattle.ifmap_http.specs.ifmap_heads.Limits.{longest_post}
 use Rattle.ifmap_dialogue.specs.declared.polls.Poll.{Poll}
 use Rattle.ifmap_dialogue.proofs.Coming.{none_asked, poll_request}
-use Rattle.ifmap_dialogue.proofs.asking.ask_poll.Goals as goal
+use Rattle.ifmap_dialogue.proofs.post_asks.ask_poll.Goals as goal
 
 pub returns-in-Ok : goal.returns-in-Ok
 returns-in-Ok g c =

@@ -1,7 +1,7 @@
 use Rattle.std.proofs.Common.{subst, sym}
 use Rattle.ifmap_elem.specs.Chars.{IsCharacters}
 use Rattle.ifmap_dialogue.proofs.Coming.{first_is}
-use Rattle.ifmap_dialogue.proofs.asking.begin_poll.Goals as goal
+use Rattle.ifmap_dialogue.proofs.post_asks.begin_poll.Goals as goal
 
 pub first_event-event-requires : goal.first_event-event-requires
 first_event-event-requires g c = subst IsCharacters (sym c.in_ok-copied.ensures) c.requires.fit

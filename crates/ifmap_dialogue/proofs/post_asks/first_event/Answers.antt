@@ -1,5 +1,5 @@
 use Rattle.std.proofs.Common.{refl}
-use Rattle.ifmap_dialogue.proofs.asking.first_event.Goals as goal
+use Rattle.ifmap_dialogue.proofs.post_asks.first_event.Goals as goal
 
 pub returns : goal.returns
 returns g c = (c.now.result, c.now.ensures, refl)

@@ -1,5 +1,5 @@
 use Rattle.ifmap_dialogue.proofs.Coming.{as_request, light_by, once_not_heard, once_not_held, once_replied, once_spent, once_wanting}
-use Rattle.ifmap_dialogue.proofs.asking.ask_once.Goals as goal
+use Rattle.ifmap_dialogue.proofs.post_asks.ask_once.Goals as goal
 
 pub take_turn-requires : goal.take_turn-requires
 take_turn-requires g c =

@@ -3,7 +3,7 @@ use Rattle.ifmap_machine.specs.Events.{Event}
 use Rattle.ifmap_dialogue.proofs.Coming.{light_by}
 use Rattle.ifmap_dialogue.proofs.Turning.{finds_held_out, finds_polled, finds_spent, finds_unasked, finds_wanting, not_heard, waits_first, waits_more}
 use Rattle.ifmap_dialogue.specs.Telling.{fits_one}
-use Rattle.ifmap_dialogue.proofs.asking.await_reply.Goals as goal
+use Rattle.ifmap_dialogue.proofs.post_asks.await_reply.Goals as goal
 
 pub turns-init : goal.turns-init
 turns-init g c = waits_first _ _ _ _ c.requires.first

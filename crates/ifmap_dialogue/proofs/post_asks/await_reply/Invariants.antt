@@ -2,7 +2,7 @@ use Rattle.std.proofs.Common.{◌-◌}
 use Rattle.ifmap_dialogue.specs.Desks.{desk_seen}
 use Rattle.ifmap_dialogue.specs.Turns.{most_turns, question_of}
 use Rattle.ifmap_dialogue.proofs.Turning.{Waits}
-use Rattle.ifmap_dialogue.proofs.asking.await_reply.Given as goal
+use Rattle.ifmap_dialogue.proofs.post_asks.await_reply.Given as goal
 
 abbrev pub invariant-turns : goal.invariant-turns
 invariant-turns g l =

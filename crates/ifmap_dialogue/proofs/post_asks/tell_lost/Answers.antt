@@ -1,7 +1,7 @@
 use Rattle.std.proofs.Common.{ap, ◌∙◌}
 use Rattle.ifmap_dialogue.specs.Answers.{ending_heard}
 use Rattle.ifmap_dialogue.proofs.Coming.{light_lost}
-use Rattle.ifmap_dialogue.proofs.asking.tell_lost.Goals as goal
+use Rattle.ifmap_dialogue.proofs.post_asks.tell_lost.Goals as goal
 
 pub take_turn-requires : goal.take_turn-requires
 take_turn-requires g c =
