@@ -12,7 +12,7 @@ use Rattle.ifmap_graph.specs.ifmap_plans.Plans.{AreWhole}
 use Rattle.ifmap_graph.specs.ifmap_pool.Holdings.{key_at}
 use Rattle.ifmap_graph.specs.declared.changes.Ready.{Ready}
 use Rattle.ifmap_graph.specs.Back.{KeepsBacks}
-use Rattle.ifmap_graph.specs.Held.{Held}
+use Rattle.ifmap_graph.specs.Inside.{GraphInside}
 use Rattle.ifmap_graph.specs.Seen.{IsSeenSame, IsStill}
 use Rattle.ifmap_tellings.specs.declared.tellings.Pending.{Pending}
 use Rattle.ifmap_changes.specs.declared.parts.Parts.{Parts}
@@ -29,7 +29,7 @@ use Rattle.ifmap_tellings.specs.Tellings.{HasSameSessions}
 -- ---- what keeps itself
 
 -- for want of memory nothing came to be out
-pub kept_seen : (old : Parts) (new : Held) → IsSteady old.graph old.standing.items → IsStill new → IsSeenSame old.graph new
+pub kept_seen : (old : Parts) (new : GraphInside) → IsSteady old.graph old.standing.items → IsStill new → IsSeenSame old.graph new
     → KeepsBacks old.graph new → AreKept old (record { graph = new; sessions = old.sessions; standing = old.standing })
 kept_seen old new steady still same backs = record {
   back = record {
@@ -54,7 +54,7 @@ kept_seen old new steady still same backs = record {
 
 -- ---- a change is out
 
-module _ (ready : Ready) (wanted : Plan) (old : Parts) (mid : Held) (begun : IsBegun ready wanted old.graph mid) where
+module _ (ready : Ready) (wanted : Plan) (old : Parts) (mid : GraphInside) (begun : IsBegun ready wanted old.graph mid) where
   -- the parts with the change out
   abbrev pub begun_parts : Parts
   begun_parts = record { graph = mid; sessions = old.sessions; standing = old.standing }

@@ -25,7 +25,7 @@ use Rattle.ifmap_ident.specs.declared.identifiers.Identifier.{Identifier}
 use Rattle.ifmap_graph.specs.declared.changes.Ready.{Ready}
 use Rattle.ifmap_graph.specs.declared.changes.Undo.{Undo}
 use Rattle.ifmap_graph.specs.Back.{IsUndoTo, KeepsOtherBacks}
-use Rattle.ifmap_graph.specs.Held.{Held, IsOwn}
+use Rattle.ifmap_graph.specs.Inside.{GraphInside, IsOwn}
 use Rattle.ifmap_graph.specs.Out.{items_changed}
 use Rattle.ifmap_graph.specs.Seen.{AreAwaited, AwaitsMore, BringsNoNumbers, IsLean, IsStill, KeepsNumbers, KeepsOwn, StaysLean, StaysLeanWith, StaysLeanWithout, links_next, links_now, rows_next, rows_now}
 use Rattle.ifmap_tellings.specs.declared.tellings.Pending.{Pending}
@@ -76,7 +76,7 @@ module _ {ready : Ready} {wanted : Plan} {old mid to : Parts} (out : IsOutAndTol
 -- ---- the change is made
 
 -- what was to be is
-pub record Commits (plan : Plan) (old new : Held) (undo : Undo) : Type 0 where
+pub record Commits (plan : Plan) (old new : GraphInside) (undo : Undo) : Type 0 where
   pub rows : rows_now new ≡ rows_next old
   pub links : (v : ℕ) → links_now new v ≡ links_next old v
   pub names : new.names ≡ old.names
@@ -87,7 +87,7 @@ pub record Commits (plan : Plan) (old new : Held) (undo : Undo) : Type 0 where
   pub same : undo.plan ≡ plan
   pub back : AreAwaited (items_changed plan.changes) old → IsUndoTo undo (rows_now old) (links_now old) new
 
-module _ {ready : Ready} {wanted : Plan} {old mid to : Parts} (out : IsOutAndTold ready wanted old mid to) {g : Held} {undo : Undo}
+module _ {ready : Ready} {wanted : Plan} {old mid to : Parts} (out : IsOutAndTold ready wanted old mid to) {g : GraphInside} {undo : Undo}
     (commits : Commits ready.plan to.graph g undo) where
   -- the parts once it is made
   abbrev new : Parts
@@ -209,7 +209,7 @@ module _ {ready : Ready} {wanted : Plan} {old mid to : Parts} (out : IsOutAndTol
 -- ---- the change is given up
 
 -- what was to be is not
-pub record Forgets (plan : Plan) (old new : Held) : Type 0 where
+pub record Forgets (plan : Plan) (old new : GraphInside) : Type 0 where
   pub still : IsStill new
   pub rows : rows_now new ≡ rows_now old
   pub links : (v : ℕ) → links_now new v ≡ links_now old v
@@ -218,7 +218,7 @@ pub record Forgets (plan : Plan) (old new : Held) : Type 0 where
   pub lean : StaysLeanWithout (items_changed plan.changes) old new
   pub backs : KeepsOtherBacks (items_changed plan.changes) old new
 
-module _ {ready : Ready} {wanted : Plan} {old mid to : Parts} (out : IsOutAndTold ready wanted old mid to) {g : Held}
+module _ {ready : Ready} {wanted : Plan} {old mid to : Parts} (out : IsOutAndTold ready wanted old mid to) {g : GraphInside}
     (forgets : Forgets ready.plan to.graph g) where
   gone : Forgets wanted mid.graph g
   gone = subst (λ p. Forgets p mid.graph g) out.begun.plan (subst (λ h. Forgets ready.plan h g) out.graph forgets)

@@ -2,7 +2,7 @@
 use Rattle.std.proofs.Common.{◌≡◌, ℕ, ◌≤◌, Some, ap, ◌∙◌, subst, inl, inr, arith}
 use Rattle.std.specs.Prelude.{option_map}
 use Rattle.ifmap_changes.specs.Between.{IsSeen}
-use Rattle.ifmap_graph.specs.Held.{Held, IsOwn}
+use Rattle.ifmap_graph.specs.Inside.{GraphInside, IsOwn}
 use Rattle.ifmap_graph.specs.Seen.{BringsNoNumbers}
 use Rattle.ifmap_ident.specs.declared.identifiers.Identifier.{Identifier}
 use Rattle.ifmap_ident.specs.Identifiers.{identifier_bytes}
@@ -11,7 +11,7 @@ use Rattle.ifmap_graph.specs.ifmap_pool.Holdings.{key_at}
 use Rattle.ifmap_ident.specs.SameLaws.{BytesTellIdentifiers}
 
 -- the number of an identifier that somebody holds stays its number
-pub number_stays : BytesTellIdentifiers → (old new : Held) → IsSeen old → BringsNoNumbers old new → (v : ℕ) (a : Identifier) (n : ℕ)
+pub number_stays : BytesTellIdentifiers → (old new : GraphInside) → IsSeen old → BringsNoNumbers old new → (v : ℕ) (a : Identifier) (n : ℕ)
     → key_at old.names v ≡ Some a → IsOwn new a n → 1 ≤ n → key_at new.names v ≡ Some a
 number_stays tells old new seen fewer v a n here (inl p) some =
     let b : Identifier = p.1.0.0 in

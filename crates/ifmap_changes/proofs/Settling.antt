@@ -18,7 +18,7 @@ use Rattle.ifmap_changes.proofs.Steady.{HaveSameSearches, steady_after}
 use Rattle.ifmap_tellings.specs.ifmap_delta.Sights.{IsUpToDate, ViewSeen, SameLinks}
 use Rattle.ifmap_tellings.specs.ifmap_delta.Ways.{HasSameSearch}
 use Rattle.ifmap_tellings.specs.ifmap_delta.declared.subscriptions.Subscription.{Subscription}
-use Rattle.ifmap_graph.specs.Held.{Held}
+use Rattle.ifmap_graph.specs.Inside.{GraphInside}
 use Rattle.ifmap_graph.specs.Out.{items_changed}
 use Rattle.ifmap_graph.specs.Seen.{BringsNoNumbers, IsStill, KeepsOwn, StaysLeanWithout, links_now, rows_now}
 use Rattle.ifmap_lemmas.specs.Places.{all_got, something_at}
@@ -91,7 +91,7 @@ same_searches before old new p q = record {
 
 -- ---- what is kept
 
-pub kept_settled : SameLinks → StaysSettled → (old new : Held) → IsSeen old → IsSeen new → rows_now new ≡ rows_now old
+pub kept_settled : SameLinks → StaysSettled → (old new : GraphInside) → IsSeen old → IsSeen new → rows_now new ≡ rows_now old
     → ((v : ℕ) → links_now new v ≡ links_now old v) → BringsNoNumbers old new → (ways : List (Option Way))
     → (gone : List Bool) (xs ys : List Standing) → AllByRecursion (HasStartNumber new) xs → AreSettled ways xs ys
     → AllKept (λ x. IsUpToDate (sight_now old) x.subscription) gone xs → AllKept (λ x. IsUpToDate (sight_now new) x.subscription) gone ys

@@ -14,7 +14,7 @@ use Rattle.ifmap_tellings.specs.ifmap_session.Sessions.{IsLive, Session, most_se
 use Rattle.ifmap_tellings.specs.ifmap_standing.declared.standing.Standing.{Standing}
 use Rattle.ifmap_tellings.specs.ifmap_standing.Kept.{AtEach, StaysRelated}
 use Rattle.ifmap_tellings.specs.ifmap_standing.Standing.{standing_of}
-use Rattle.ifmap_graph.specs.Held.{Held, IsOwn}
+use Rattle.ifmap_graph.specs.Inside.{GraphInside, IsOwn}
 use Rattle.ifmap_graph.specs.Seen.{HasFewOwn, KeepsNumbers}
 use Rattle.ifmap_changes.specs.Between.{AreOrdered, HasStartNumber, IsSteady, starts_of}
 use Rattle.ifmap_changes.proofs.EachPlace.{same_all}
@@ -24,28 +24,29 @@ use Rattle.ifmap_changes.specs.StartLaws.{starts_few}
 
 -- ---- starts
 
-pub few_starts : (live : List Session) (standing : List Standing) → length live ≤ most_sessions → AreOrdered live standing → (h : Held)
-    → IsSteady h standing → HasFewOwn h
+pub few_starts : (live : List Session) (standing : List Standing) → length live ≤ most_sessions → AreOrdered live standing
+    → (h : GraphInside) → IsSteady h standing → HasFewOwn h
 few_starts live standing few o h steady a =
     let long = few_each (λ (y : machine.Standing). y.serial) (λ (s : Session). s.serial) most_names live (map standing_of standing)
     (all_shown (λ y. IsLive y.serial live) standing o.live) o.few
     in (starts_of a standing, steady.own a, omega (arith, few, long, starts_few a standing, length-map standing standing_of))
 
 -- the numbers of starts stay where each has the one that it had
-abbrev pub AreNumbered : Held → List Standing → Type 0
+abbrev pub AreNumbered : GraphInside → List Standing → Type 0
 AreNumbered h standing = AllByRecursion (HasStartNumber h) standing
 
-pub numbered_more : (old new : Held) (standing : List Standing) → KeepsNumbers old new → AreNumbered old standing → AreNumbered new standing
+pub numbered_more : (old new : GraphInside) (standing : List Standing) → KeepsNumbers old new → AreNumbered old standing
+    → AreNumbered new standing
 numbered_more old new standing keeps numbered =
     all_weaker (HasStartNumber old) (HasStartNumber new)
     (λ x e. keeps x.subscription.region.start x.subscription.search.start e) standing numbered
 
-pub numbered_beside : (h : Held) (old new : List Standing) → AtEach (λ _. StaysRelated HasSameSearch) old new → AreNumbered h old
+pub numbered_beside : (h : GraphInside) (old new : List Standing) → AtEach (λ _. StaysRelated HasSameSearch) old new → AreNumbered h old
     → AreNumbered h new
 numbered_beside h old new same numbered =
     same_all (HasStartNumber h) (HasStartNumber h) (λ _. StaysRelated HasSameSearch)
     (λ i x y s e. ap (key_at h.names) s.subscription.start ∙ e ∙ ap (λ t. Some t.start) (sym s.subscription.search)) old new same numbered
 
-pub own_beside : (h : Held) (old new : List Standing) → AtEach (λ _. StaysRelated HasSameSearch) old new
+pub own_beside : (h : GraphInside) (old new : List Standing) → AtEach (λ _. StaysRelated HasSameSearch) old new
     → ((a : Identifier) → IsOwn h a (starts_of a old)) → (a : Identifier) → IsOwn h a (starts_of a new)
 own_beside h old new same own a = subst (IsOwn h a) (sym (same_starts a old new same)) (own a)

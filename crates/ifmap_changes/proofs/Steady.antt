@@ -5,7 +5,7 @@ use Rattle.ifmap_changes.specs.Between.{HasStartNumber, IsSeen, IsSteady, starts
 use Rattle.ifmap_changes.proofs.EachPlace.{same_all, same_sum}
 use Rattle.ifmap_changes.proofs.Numbers.{number_stays}
 use Rattle.ifmap_tellings.specs.ifmap_delta.Ways.{HasSameSearch}
-use Rattle.ifmap_graph.specs.Held.{Held, IsOwn}
+use Rattle.ifmap_graph.specs.Inside.{GraphInside, IsOwn}
 use Rattle.ifmap_graph.specs.Seen.{BringsNoNumbers, IsStill, KeepsOwn, rows_now}
 use Rattle.ifmap_ident.specs.declared.identifiers.Identifier.{Identifier}
 use Rattle.ifmap_ident.specs.Identifiers.{identifier_order}
@@ -29,7 +29,7 @@ same_starts a old new s =
     (λ i x y t. ap (λ b. once identifier_order b a) (ap (λ z. z.start) t.subscription.search)) old new s
 
 -- each that has the number of its start has it still
-pub numbered_still : BytesTellIdentifiers → (old new : Held) → IsSeen old → BringsNoNumbers old new → (all : List Standing)
+pub numbered_still : BytesTellIdentifiers → (old new : GraphInside) → IsSeen old → BringsNoNumbers old new → (all : List Standing)
     → AllByRecursion (HasStartNumber old) all → ((a : Identifier) → IsOwn new a (starts_of a all)) → AllByRecursion (HasStartNumber new) all
 numbered_still tells old new seen fewer all numbered own = each all numbered (λ a. each_within_sum (starts_at a) all)
   where
@@ -44,14 +44,14 @@ numbered_still tells old new seen fewer all numbered own = each all numbered (λ
           each xs h.1 (λ b. (k b).1),
         )
 
-pub all_numbered : BytesTellIdentifiers → (old new : Held) → IsSeen old → BringsNoNumbers old new → KeepsOwn old new → (all : List Standing)
-    → IsSteady old all → AllByRecursion (HasStartNumber new) all
+pub all_numbered : BytesTellIdentifiers → (old new : GraphInside) → IsSeen old → BringsNoNumbers old new → KeepsOwn old new
+    → (all : List Standing) → IsSteady old all → AllByRecursion (HasStartNumber new) all
 all_numbered tells old new seen fewer own all s =
     numbered_still tells old new seen fewer all s.numbered (λ a. own a (starts_of a all) (s.own a))
 
 -- so the graph is steady for those that came in their places, beside others
-pub steady_beside : BytesTellIdentifiers → (old new : Held) → IsSeen old → IsStill new → AreWhole (rows_now new) → BringsNoNumbers old new
-    → KeepsOwn old new → (xs ys more : List Standing) → HaveSameSearches xs ys → IsSteady old (xs ++ more) → IsSteady new (ys ++ more)
+pub steady_beside : BytesTellIdentifiers → (old new : GraphInside) → IsSeen old → IsStill new → AreWhole (rows_now new)
+    → BringsNoNumbers old new → KeepsOwn old new → (xs ys more : List Standing) → HaveSameSearches xs ys → IsSteady old (xs ++ more) → IsSteady new (ys ++ more)
 steady_beside tells old new seen still whole fewer own xs ys more same s =
     let numbered = all_both (HasStartNumber new) xs more (all_numbered tells old new seen fewer own (xs ++ more) s) in
     record {
@@ -68,8 +68,8 @@ steady_beside tells old new seen still whole fewer own xs ys more same s =
     moved x y t n = ap (key_at new.names) t.subscription.start ∙ n ∙ ap (λ z. Some z.start) (sym t.subscription.search)
 
 -- and without others
-pub steady_after : BytesTellIdentifiers → (old new : Held) → IsSeen old → IsStill new → AreWhole (rows_now new) → BringsNoNumbers old new
-    → KeepsOwn old new → (xs ys : List Standing) → HaveSameSearches xs ys → IsSteady old xs → IsSteady new ys
+pub steady_after : BytesTellIdentifiers → (old new : GraphInside) → IsSeen old → IsStill new → AreWhole (rows_now new)
+    → BringsNoNumbers old new → KeepsOwn old new → (xs ys : List Standing) → HaveSameSearches xs ys → IsSteady old xs → IsSteady new ys
 steady_after tells old new seen still whole fewer own xs ys same s =
     subst (IsSteady new) (append-nil ys)
     (steady_beside tells old new seen still whole fewer own xs ys [] same (subst (IsSteady old) (sym (append-nil xs)) s))

@@ -23,7 +23,7 @@ use Rattle.ifmap_tellings.specs.ifmap_standing.Kept.{AtEach, KeepsSame, StaysRel
 use Rattle.ifmap_tellings.specs.ifmap_standing.Standing.{standing_of}
 use Rattle.ifmap_graph.specs.ifmap_view.Views.{IsView}
 use Rattle.ifmap_graph.specs.Back.{KeepsBacks}
-use Rattle.ifmap_graph.specs.Held.{Held, IsOwn}
+use Rattle.ifmap_graph.specs.Inside.{GraphInside, IsOwn}
 use Rattle.ifmap_graph.specs.Seen.{AwaitsMore, IsLean, IsStill, StaysLean, StaysLeanWith, links_now, rows_now}
 
 -- how many of these subscriptions start at an identifier
@@ -31,27 +31,27 @@ abbrev pub starts_of : Identifier → List Standing → ℕ
 starts_of a standing = sum_by (λ x. once identifier_order x.subscription.search.start a) standing
 
 -- a subscription has the number of its start
-abbrev pub HasStartNumber : Held → Standing → Type 0
+abbrev pub HasStartNumber : GraphInside → Standing → Type 0
 HasStartNumber h x = key_at h.names x.subscription.region.start ≡ Some x.subscription.search.start
 
 -- nothing is out in a graph, what it stores is whole, others than items hold an identifier as often as these subscriptions start
 -- there, and each has the number of its start
-pub record IsSteady (h : Held) (standing : List Standing) : Type 0 where
+pub record IsSteady (h : GraphInside) (standing : List Standing) : Type 0 where
   pub still : IsStill h
   pub whole : AreWhole (rows_now h)
   pub own : (a : Identifier) → IsOwn h a (starts_of a standing)
   pub numbered : AllByRecursion (HasStartNumber h) standing
 
 -- the graph, as subscriptions see it
-abbrev pub sight_now : Held → ViewSeen
+abbrev pub sight_now : GraphInside → ViewSeen
 sight_now h = record { rows = rows_now h; id_at = key_at h.names; links = links_now h }
 
 -- what holds of every view, of the graph
-abbrev pub IsSeen : Held → Type 0
+abbrev pub IsSeen : GraphInside → Type 0
 IsSeen h = IsView (rows_now h) (key_at h.names) (links_now h)
 
 -- each number that a subscription has marked has an identifier
-abbrev pub HasLiveMarks : Held → Subscription → Type 0
+abbrev pub HasLiveMarks : GraphInside → Subscription → Type 0
 HasLiveMarks h sub = (v d : ℕ) → mark_of sub.region.marks.entries v ≡ Some d → (a : Identifier) × (key_at h.names v ≡ Some a)
 
 -- no queue is greater than its limit, which one error is within
@@ -159,7 +159,7 @@ abbrev pub AreTurned : Parts → Parts → Type 0
 AreTurned = AreTurnedWith []
 
 -- numbers that have an identifier in both graphs have the same
-abbrev pub SharesNumbers : Held → Held → Type 0
+abbrev pub SharesNumbers : GraphInside → GraphInside → Type 0
 SharesNumbers old new = (v : ℕ) (a b : Identifier) → key_at old.names v ≡ Some a → key_at new.names v ≡ Some b → b ≡ a
 
 -- all is as it was but for room

@@ -24,7 +24,7 @@ use Rattle.ifmap_tellings.specs.ifmap_standing.Kept.{AtEach, StaysRelated}
 use Rattle.ifmap_tellings.specs.ifmap_standing.Ways.{LeadBack}
 use Rattle.ifmap_graph.specs.declared.changes.Ready.{Ready}
 use Rattle.ifmap_graph.specs.Back.{IsUndoTo, KeepsBacks}
-use Rattle.ifmap_graph.specs.Held.{Held}
+use Rattle.ifmap_graph.specs.Inside.{GraphInside}
 use Rattle.ifmap_graph.specs.Out.{IsOut, items_changed}
 use Rattle.ifmap_graph.specs.Seen.{AreAwaited, AwaitsMore, BringsNoNumbers, KeepsNumbers, KeepsOwn, StaysLeanWith, links_next, links_now, rows_next, rows_now}
 use Rattle.ifmap_graph.specs.ifmap_view.declared.attachments.Attachment.{Attachment}
@@ -32,7 +32,7 @@ use Rattle.ifmap_graph.specs.ifmap_view.Attachments.{IsGraph}
 use Rattle.ifmap_graph.specs.ifmap_view.Views.{IsView}
 
 -- the graph as it is to be, as subscriptions see it
-abbrev pub sight_next : Held → ViewSeen
+abbrev pub sight_next : GraphInside → ViewSeen
 sight_next h = record { rows = rows_next h; id_at = key_at h.names; links = links_next h }
 
 -- the state with the graph as it is to be
@@ -41,7 +41,7 @@ with_next a parts pending = record (state_now a parts pending) { graph = rows_ne
 
 -- a change of a graph is out: what is seen of the graph is as it was but for numbers that came, and what is to be seen is what the plan
 -- makes of it
-pub record IsBegun (ready : Ready) (wanted : Plan) (old new : Held) : Type 0 where
+pub record IsBegun (ready : Ready) (wanted : Plan) (old new : GraphInside) : Type 0 where
   pub out : IsOut ready new
   pub plan : ready.plan ≡ wanted
   pub before : IsSeen old

@@ -8,7 +8,7 @@ use Rattle.std.proofs.lemmas.List.Sums.{sum_by-cons, sum_by-append}
 use Rattle.ifmap_changes.specs.Between.{starts_of, SharesNumbers}
 use Rattle.ifmap_graph.specs.NumberLaws.{once_few}
 use Rattle.std.proofs.lemmas.Option.{same_Some}
-use Rattle.ifmap_graph.specs.Held.{Held}
+use Rattle.ifmap_graph.specs.Inside.{GraphInside}
 use Rattle.ifmap_graph.specs.Seen.{KeepsNumbers, BringsNoNumbers}
 
 -- whether a subscription starts there, as a number
@@ -29,8 +29,8 @@ starts_few a (x ∷ xs) =
     in let rest = starts_few a xs
     in omega (arith, sum, one, rest)
 
-pub shares_kept : (old new : Held) → KeepsNumbers old new → SharesNumbers old new
+pub shares_kept : (old new : GraphInside) → KeepsNumbers old new → SharesNumbers old new
 shares_kept old new k v a b p q = same_Some b a (sym q ∙ k v a p)
 
-pub shares_fewer : (old new : Held) → BringsNoNumbers old new → SharesNumbers old new
+pub shares_fewer : (old new : GraphInside) → BringsNoNumbers old new → SharesNumbers old new
 shares_fewer old new k v a b p q = same_Some b a (sym (k v b q) ∙ p)

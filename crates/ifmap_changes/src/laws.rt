@@ -3,7 +3,7 @@ ghost use Rattle.std.specs.Prelude.{◌≡◌, ◌≤◌, ℕ, List, Some};
 ghost use Rattle.std.specs.List.{AllByRecursion};
 ghost use Rattle.ifmap_changes.specs.Between.{AreBack, AreParts, HasLiveMarks, HasStartNumber, IsSeen, IsSteady, starts_of};
 ghost use Rattle.ifmap_changes.specs.declared.parts.Parts.{Parts};
-ghost use Rattle.ifmap_graph.specs.Held.{Held, IsOwn};
+ghost use Rattle.ifmap_graph.specs.Inside.{GraphInside, IsOwn};
 ghost use Rattle.ifmap_graph.specs.Seen.{BringsNoNumbers, IsStill, rows_now};
 ghost use Rattle.ifmap_ident.specs.declared.identifiers.Identifier.{Identifier};
 ghost use Rattle.ifmap_graph.specs.ifmap_plans.Plans.{AreWhole};
@@ -19,10 +19,10 @@ use ifmap_tellings::{
 /// subscriptions whose starts had their numbers, where others than items hold each identifier as
 /// often as these start there.
 pub fn held_numbers_stay()
-    ensures numbers { (old new : Held) (v : ℕ) (a : Identifier) (own : ℕ) → IsSeen old
+    ensures numbers { (old new : GraphInside) (v : ℕ) (a : Identifier) (own : ℕ) → IsSeen old
         → BringsNoNumbers old new → key_at old.names v ≡ Some a → IsOwn new a own → 1 ≤ own
         → key_at new.names v ≡ Some a }
-    ensures steady { (old new : Held) (standing : List Standing) → IsSeen old
+    ensures steady { (old new : GraphInside) (standing : List Standing) → IsSeen old
         → BringsNoNumbers old new → AllByRecursion (HasStartNumber old) standing → IsStill new
         → AreWhole (rows_now new) → ((a : Identifier) → IsOwn new a (starts_of a standing))
         → IsSteady new standing }

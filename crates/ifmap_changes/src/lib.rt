@@ -4,7 +4,7 @@
 
 pub mod asking;
 pub mod changes;
-pub mod changing;
+pub mod graph_changes;
 pub mod laws;
 pub mod parts;
 

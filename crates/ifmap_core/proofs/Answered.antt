@@ -6,7 +6,7 @@
 use Rattle.std.proofs.Common.{◌≡◌, ◌↔◌, refl, sym, ◌∙◌, ap, subst, ℕ, Bool, true, false, List, [], ◌∷◌, Option, None, Some, inl, inr}
 use Rattle.std.proofs.lemmas.Bool.{cases_Bool}
 use Rattle.ifmap_core.specs.Causes.{AsksPoll, IsLoss, PollsNoSession, PollsNothing}
-use Rattle.ifmap_core.specs.Holding.{HasNothing}
+use Rattle.ifmap_core.specs.EmptyPolls.{HasNothing}
 use Rattle.ifmap_ident.specs.declared.codes.Code.{Code}
 use Rattle.ifmap_subscribes.specs.ifmap_machine.declared.events.Answer.{Answer}
 use Rattle.ifmap_subscribes.specs.ifmap_machine.declared.events.Answer.TheVariants.{Reply, Held, Heard}

@@ -2,7 +2,7 @@
 use Rattle.std.proofs.Common.{◌≡◌, refl, sym, ◌∙◌, ap, subst, ℕ, ◌-◌, ◌^◌, ◌≤◌, Bool, true, false, List, [], ◌∷◌, min, arith}
 use Rattle.std.proofs.lemmas.List.Sums.{sum_by-cons}
 use Rattle.std.specs.Bool.{OnTrue}
-use Rattle.ifmap_core.specs.Holding.{HasNothing, WouldHold}
+use Rattle.ifmap_core.specs.EmptyPolls.{HasNothing, WouldHold}
 use Rattle.ifmap_subscribes.specs.ifmap_machine.declared.events.Answer.{Answer}
 use Rattle.ifmap_subscribes.specs.ifmap_machine.declared.events.Answer.TheVariants as the_answer
 use Rattle.ifmap_subscribes.specs.ifmap_machine.Ending.{end_some, expire}

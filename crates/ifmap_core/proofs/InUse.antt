@@ -9,7 +9,7 @@ use Rattle.ifmap_lemmas.specs.Having.{Has, has_map, map_has, all_has}
 use Rattle.ifmap_lemmas.specs.Texts.{same_texts}
 use Rattle.ifmap_subscribes.specs.ifmap_changes.Between.{HasStartNumber, IsSeen, IsSteady, starts_of}
 use Rattle.ifmap_subscribes.specs.ifmap_graph.Counted.{AreSoMany}
-use Rattle.ifmap_subscribes.specs.ifmap_graph.Held.{Held}
+use Rattle.ifmap_subscribes.specs.ifmap_graph.Inside.{GraphInside}
 use Rattle.ifmap_subscribes.specs.ifmap_graph.Seen.{AreUsed, HasPoolNumber, IsAttached, rows_now}
 use Rattle.ifmap_ident.specs.declared.identifiers.Identifier.{Identifier}
 use Rattle.ifmap_ident.specs.Canon.{IsIdentifier}
@@ -22,7 +22,7 @@ use Rattle.ifmap_subscribes.specs.ifmap_standing.Standing.{standing_of}
 use Rattle.ifmap_subscribes.specs.ifmap_view.declared.attachments.Attachment.{Attachment}
 use Rattle.ifmap_ident.specs.SameLaws.{BytesTellIdentifiers}
 
-module _ (h : Held) (tells : BytesTellIdentifiers) (view : IsSeen h) where
+module _ (h : GraphInside) (tells : BytesTellIdentifiers) (view : IsSeen h) where
   -- where some of these subscriptions start at an identifier, there is one
   start_there : (xs : List Standing) (a : Identifier) → IsIdentifier a → AllByRecursion (HasStartNumber h) xs → 0 < starts_of a xs
       → (x : Standing) × Has xs x × (x.subscription.search.start ≡ a)

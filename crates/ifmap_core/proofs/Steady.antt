@@ -1,7 +1,7 @@
 -- What others than items hold while subscriptions stand: the order of these does not matter.
 use Rattle.std.proofs.Common.{◌≡◌, subst, List, ◌∷◌, ◌++◌, arith}
 use Rattle.ifmap_subscribes.specs.ifmap_changes.Between.{IsSteady, starts_of, HasStartNumber}
-use Rattle.ifmap_subscribes.specs.ifmap_graph.Held.{Held, IsOwn}
+use Rattle.ifmap_subscribes.specs.ifmap_graph.Inside.{GraphInside, IsOwn}
 use Rattle.ifmap_ident.specs.declared.identifiers.Identifier.{Identifier}
 use Rattle.ifmap_lemmas.specs.Members.{all_both, both_all}
 use Rattle.ifmap_subscribes.specs.ifmap_standing.declared.standing.Standing.{Standing}
@@ -9,7 +9,7 @@ use Rattle.ifmap_subscribes.specs.ifmap_changes.StartLaws.{starts_cons, starts_a
 
 -- ---- one moves to the front
 
-pub steady_front : (h : Held) (before : List Standing) (x : Standing) (bs : List Standing) → IsSteady h (before ++ x ∷ bs)
+pub steady_front : (h : GraphInside) (before : List Standing) (x : Standing) (bs : List Standing) → IsSteady h (before ++ x ∷ bs)
     → IsSteady h (x ∷ (before ++ bs))
 steady_front h before x bs s = record {
   still = s.still;

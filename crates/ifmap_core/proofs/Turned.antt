@@ -12,7 +12,7 @@ use Rattle.ifmap_subscribes.specs.ifmap_changes.declared.parts.Parts.{Parts}
 use Rattle.ifmap_core.proofs.Places.{searched_itself, shown_kept}
 use Rattle.ifmap_subscribes.specs.ifmap_delta.Sights.{IsUpToDate, SameLinks}
 use Rattle.ifmap_subscribes.specs.ifmap_graph.Back.{KeepsBacks}
-use Rattle.ifmap_subscribes.specs.ifmap_graph.Held.{Held, IsOwn}
+use Rattle.ifmap_subscribes.specs.ifmap_graph.Inside.{GraphInside, IsOwn}
 use Rattle.ifmap_subscribes.specs.ifmap_graph.Seen.{IsStill, KeepsNumbers, StaysLean, links_now, rows_now}
 use Rattle.ifmap_ident.specs.declared.identifiers.Identifier.{Identifier}
 use Rattle.ifmap_subscribes.specs.ifmap_machine.State as machine
@@ -28,11 +28,11 @@ use Rattle.ifmap_subscribes.specs.Renamings.{KeepsNumbered}
 
 -- ---- of themselves
 
-pub shares_itself : (h : Held) → SharesNumbers h h
+pub shares_itself : (h : GraphInside) → SharesNumbers h h
 shares_itself h v a b p q = same_Some b a (sym q ∙ p)
 
 -- numbers that stay are shared with what shares them later
-pub shares_later : (a b c : Held) → KeepsNumbers a b → SharesNumbers b c → SharesNumbers a c
+pub shares_later : (a b c : GraphInside) → KeepsNumbers a b → SharesNumbers b c → SharesNumbers a c
 shares_later a b c k s v x y p q = s v x y (k v x p) q
 
 pub back_itself : (parts : Parts) → IsSteady parts.graph parts.standing.items → AreBack parts parts
@@ -75,13 +75,13 @@ back_state ttl moment old new b =
     ∙ ap (λ (xs : List machine.Standing). record (state_at ttl moment old) { standing = xs })
     (at_each_map standing_of (λ _. StaysRelated KeepsSame) shown_kept old.standing.items new.standing.items b.standing)
 
-pub keeps_there : SameLinks → (old new : Held) → IsSeen old → IsSeen new → rows_now new ≡ rows_now old
+pub keeps_there : SameLinks → (old new : GraphInside) → IsSeen old → IsSeen new → rows_now new ≡ rows_now old
     → ((v : ℕ) → links_now new v ≡ links_now old v) → SharesNumbers old new → KeepsNumbered old new
 keeps_there law old new was is rows links numbers sub here kept =
     law (sight_now old) (sight_now new) sub was is rows links numbers here kept
 
 -- all that stand keep what the graph has, where they kept it and hold their starts
-pub all_there : (old new : Held) → KeepsNumbered old new → (xs : List Standing)
+pub all_there : (old new : GraphInside) → KeepsNumbered old new → (xs : List Standing)
     → AllByRecursion (λ x. key_at new.names x.subscription.region.start ≡ Some x.subscription.search.start) xs
     → AllByRecursion (λ x. IsUpToDate (sight_now old) x.subscription) xs → AllByRecursion (λ x. IsUpToDate (sight_now new) x.subscription)
     xs

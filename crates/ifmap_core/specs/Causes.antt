@@ -2,7 +2,7 @@
 -- are expired then.
 use Rattle.std.specs.Prelude.{◌≡◌, ◌≢◌, ℕ, ◌-◌, ◌^◌, ◌≤◌, ◌<◌, ◌⊎◌, Bool, true, false, List, ◌∷◌, ◌++◌, length, Option, None, Some}
 use Rattle.std.specs.List.{list_any}
-use Rattle.ifmap_core.specs.Holding.{HasNothing}
+use Rattle.ifmap_core.specs.EmptyPolls.{HasNothing}
 use Rattle.ifmap_subscribes.specs.ifmap_fresh.Fresh.{fresh_size}
 use Rattle.ifmap_ident.specs.declared.codes.Code.{Code}
 use Rattle.ifmap_subscribes.specs.ifmap_machine.declared.events.Answer.{Answer}

@@ -3,7 +3,7 @@ pub mod Completions
 pub mod Answering
 pub mod Subscribing
 pub mod Ending
-pub mod Holding
+pub mod EmptyPolls
 pub mod Causes
 pub mod Light
 pub mod Bounds

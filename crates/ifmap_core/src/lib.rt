@@ -4,8 +4,8 @@
 mod answering;
 mod beginning;
 mod completions;
+mod empty_polls;
 mod ending;
-mod holding;
 mod light;
 pub mod machine;
 mod owning;

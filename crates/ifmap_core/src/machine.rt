@@ -4,7 +4,7 @@ ghost use Rattle.std.specs.Bool.{OnTrue};
 ghost use Rattle.ifmap_core.specs.Bounds.{IsWithinTable};
 ghost use Rattle.ifmap_core.specs.Causes.{AsksForNoneLeft, AsksPoll, FindsTooMuch, HasNoRoomForName, IsLoss, IsRefusal, NamesAnothersSession, NamesNoSession, PollsNoSession, PollsNothing, PurgesAnother, state_for};
 ghost use Rattle.ifmap_core.specs.Counts.{IsInUse, link_count};
-ghost use Rattle.ifmap_core.specs.Holding.{WouldHold};
+ghost use Rattle.ifmap_core.specs.EmptyPolls.{WouldHold};
 ghost use Rattle.ifmap_core.specs.Light.{TakesNoMemory};
 ghost use Rattle.ifmap_subscribes.specs.ifmap_graph.Counted.{AreSoMany};
 ghost use Rattle.ifmap_ident.specs.declared.codes.Code.{Code};
@@ -14,8 +14,8 @@ ghost use Rattle.ifmap_subscribes.specs.ifmap_machine.State.{advance, opening_st
 ghost use Rattle.ifmap_subscribes.specs.ifmap_machine.Step.{step};
 ghost use Rattle.ifmap_subscribes.specs.ifmap_replies.declared.replies.Reply.TheVariants as the_reply;
 
+use crate::empty_polls::{has_nothing, polled_id};
 use crate::ending::{Time, answer_at};
-use crate::holding::{has_nothing, polled_id};
 use ifmap_ident::laws::bytes_tell_identifiers_apart;
 use ifmap_io::Moment;
 use ifmap_session::Sessions;

@@ -12,7 +12,7 @@ use Rattle.ifmap_delta.specs.Ways.{HasSameSearch}
 use Rattle.ifmap_delta.specs.declared.subscriptions.Subscription.{Subscription}
 use Rattle.ifmap_fresh.specs.Fresh.{fresh_size}
 use Rattle.ifmap_graph.specs.declared.changes.Ready.{Ready}
-use Rattle.ifmap_graph.specs.Held.{Held, IsOwn}
+use Rattle.ifmap_graph.specs.Inside.{GraphInside, IsOwn}
 use Rattle.ifmap_graph.specs.Seen.{HasFewOwn, IsStill, KeepsOwn, links_next, links_now, rows_next, rows_now}
 use Rattle.ifmap_graph.specs.Shelved.{list_at, rows_by}
 use Rattle.ifmap_graph.specs.Sides.{list_now}
@@ -55,7 +55,7 @@ whole_like one other same w = has_all (λ (r : Attachment). IsWhole r.stored) ot
 
 -- ---- a new graph
 
-pub new_quiet : (old new : Held) (id : Identifier) → old.shelves ≡ [] → new.shelves ≡ old.shelves → IsStill new
+pub new_quiet : (old new : GraphInside) (id : Identifier) → old.shelves ≡ [] → new.shelves ≡ old.shelves → IsStill new
     → ((a : Identifier) → IsOwn old a 0)
     → ((a : Identifier) (own : ℕ) → IsOwn old a own → IsOwn new a (own + once identifier_order id a)) → IsQuiet new
 new_quiet old new id empty same still none own = record {
@@ -64,7 +64,7 @@ new_quiet old new id empty same still none own = record {
   few = λ a. (0 + once identifier_order id a, own a 0 (none a), omega (arith, once_few id a));
 }
 
-pub few_empty : (h : Held) → ((a : Identifier) → IsOwn h a 0) → HasFewOwn h
+pub few_empty : (h : GraphInside) → ((a : Identifier) → IsOwn h a 0) → HasFewOwn h
 few_empty h none a = (0, none a, omega arith)
 
 -- ---- notes
@@ -81,10 +81,10 @@ notes_of_one by (Delete item filter_by) f = tt
 
 -- ---- a change is out, and made
 
-pub few_still : (old new : Held) → KeepsOwn old new → HasFewOwn old → HasFewOwn new
+pub few_still : (old new : GraphInside) → KeepsOwn old new → HasFewOwn old → HasFewOwn new
 few_still old new keeps few a = let o = few a in (o.0, keeps a o.0 o.1, o.2)
 
-pub quiet_made : (mid new : Held) → AreWhole (rows_next mid) → HasFewOwn mid → rows_now new ≡ rows_next mid → IsStill new
+pub quiet_made : (mid new : GraphInside) → AreWhole (rows_next mid) → HasFewOwn mid → rows_now new ≡ rows_next mid → IsStill new
     → KeepsOwn mid new → IsQuiet new
 quiet_made mid new whole few rows still own = record {
   still = still;
@@ -93,7 +93,7 @@ quiet_made mid new whole few rows still own = record {
 }
 
 -- the graph shows what it was to show
-sight_made : (mid new : Held) → rows_now new ≡ rows_next mid → ((v : ℕ) → links_now new v ≡ links_next mid v)
+sight_made : (mid new : GraphInside) → rows_now new ≡ rows_next mid → ((v : ℕ) → links_now new v ≡ links_next mid v)
     → new.names ≡ mid.names → sight_next mid ≡ sight_now new
 sight_made mid new rows links names = λ i. record {
   rows = sym rows i;
@@ -101,14 +101,14 @@ sight_made mid new rows links names = λ i. record {
   links = λ v. sym (links v) i;
 }
 
-pub kept_made : (mid new : Held) (sub : Subscription) → rows_now new ≡ rows_next mid
+pub kept_made : (mid new : GraphInside) (sub : Subscription) → rows_now new ≡ rows_next mid
     → ((v : ℕ) → links_now new v ≡ links_next mid v) → new.names ≡ mid.names → IsUpToDate (sight_next mid) sub → IsUpToDate (sight_now new)
     sub
 kept_made mid new sub rows links names kept = subst (λ (g : ViewSeen). IsUpToDate g sub) (sight_made mid new rows links names) kept
 
 -- ---- a subscription
 
-pub kept_begun : SameLinks → (old new : Held) (ready : Ready) (sub : Subscription)
+pub kept_begun : SameLinks → (old new : GraphInside) (ready : Ready) (sub : Subscription)
     → IsView (rows_now old) (key_at old.names) (links_now old)
     → IsUnderWay new ready → ShowsSame old new → IsUpToDate (sight_now old) sub → IsUpToDate (sight_now new) sub
 kept_begun law old new ready sub seen way same kept =

@@ -7,7 +7,7 @@ use Rattle.ifmap_delta.specs.Sights.{ViewSeen}
 use Rattle.ifmap_delta.specs.declared.subscriptions.Moved.{Moved}
 use Rattle.ifmap_delta.specs.declared.subscriptions.Subscription.{Subscription}
 use Rattle.ifmap_graph.specs.declared.changes.Ready.{Ready}
-use Rattle.ifmap_graph.specs.Held.{Held}
+use Rattle.ifmap_graph.specs.Inside.{GraphInside}
 use Rattle.ifmap_graph.specs.Out.{IsOut}
 use Rattle.ifmap_graph.specs.Seen.{HasFewOwn, IsStill, KeepsNumbers, links_next, links_now, rows_next, rows_now}
 use Rattle.ifmap_plans.specs.Plans.{AreWhole, Fits, IsAfter}
@@ -20,17 +20,17 @@ use Rattle.ifmap_view.specs.Views.{IsView}
 use Rattle.ifmap_view.specs.declared.attachments.Attachment.{Attachment}
 
 -- what a graph shows, and what it is to show
-abbrev pub sight_now : Held → ViewSeen
+abbrev pub sight_now : GraphInside → ViewSeen
 sight_now h = record { rows = rows_now h; id_at = key_at h.names; links = links_now h }
 
-abbrev pub sight_next : Held → ViewSeen
+abbrev pub sight_next : GraphInside → ViewSeen
 sight_next h = record { rows = rows_next h; id_at = key_at h.names; links = links_next h }
 
 abbrev pub IsWorldSeen : ViewSeen → Type 0
 IsWorldSeen g = IsView g.rows g.id_at g.links
 
 -- what it is to show is what it shows after a plan
-abbrev pub AreShown : Held → Plan → Type 0
+abbrev pub AreShown : GraphInside → Plan → Type 0
 AreShown h plan = ShowsAfter (sight_now h) (sight_next h) plan.changes
 
 -- the items of notes are those that elements mean
@@ -38,19 +38,19 @@ abbrev pub HaveFitNotes : Plan → Type 0
 HaveFitNotes plan = AllByRecursion (λ (n : Note). IsCanonItem n.item) plan.notes
 
 -- no change is out, all is whole, and others hold few
-pub record IsQuiet (h : Held) : Type 0 where
+pub record IsQuiet (h : GraphInside) : Type 0 where
   pub still : IsStill h
   pub whole : AreWhole (rows_now h)
   pub few : HasFewOwn h
 
 -- a plan can be made, and leaves all whole
-pub record IsFitting (h : Held) (plan : Plan) : Type 0 where
+pub record IsFitting (h : GraphInside) (plan : Plan) : Type 0 where
   pub fits : Fits (rows_now h) plan.changes
   pub whole : (after : List Attachment) → IsAfter plan.changes (rows_now h) after → AreWhole after
   pub notes : HaveFitNotes plan
 
 -- a change is out
-pub record IsUnderWay (h : Held) (ready : Ready) : Type 0 where
+pub record IsUnderWay (h : GraphInside) (ready : Ready) : Type 0 where
   pub out : IsOut ready h
   pub now : IsWorldSeen (sight_now h)
   pub next : IsWorldSeen (sight_next h)
@@ -60,13 +60,13 @@ pub record IsUnderWay (h : Held) (ready : Ready) : Type 0 where
   pub few : HasFewOwn h
 
 -- what is shown is the same, and numbers stay
-pub record ShowsSame (old new : Held) : Type 0 where
+pub record ShowsSame (old new : GraphInside) : Type 0 where
   pub rows : rows_now new ≡ rows_now old
   pub links : (v : ℕ) → links_now new v ≡ links_now old v
   pub numbers : KeepsNumbers old new
 
 -- a change is out, and a subscription has room for what it does
-pub record IsStepOut (h : Held) (sub : Subscription) (ready : Ready) (moved : Moved) : Type 0 where
+pub record IsStepOut (h : GraphInside) (sub : Subscription) (ready : Ready) (moved : Moved) : Type 0 where
   pub way : IsUnderWay h ready
   pub keeps : WouldKeep (sight_next h) sub moved.patch moved.new_size
   pub room : HasRoom moved.patch sub.region.marks.entries

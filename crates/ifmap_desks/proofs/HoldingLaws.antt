@@ -1,7 +1,7 @@
 -- The test whether an event would be held, beside what it tests.
 use Rattle.std.proofs.Common.{◌≡◌, ◌↔◌, refl, ℕ, true, List, [], ◌∷◌, not, Option, None, Some}
 use Rattle.std.proofs.lemmas.Bool.{and_parts, not-true}
-use Rattle.ifmap_core.specs.Holding.{WouldHold}
+use Rattle.ifmap_core.specs.EmptyPolls.{WouldHold}
 use Rattle.ifmap_desks.specs.Holding.{has_nothing, holds_ask, is_any_expired, is_nothing, would_hold}
 use Rattle.ifmap_dialogue.specs.ifmap_machine.declared.events.Ask.{Ask}
 use Rattle.ifmap_dialogue.specs.ifmap_machine.declared.events.Ask.TheVariants.{Request, Lost}

@@ -1,7 +1,7 @@
 -- What an answer of a hall leaves at a desk over a pass.
 use Rattle.std.proofs.Common.{◌≡◌, ◌↔◌, refl, sym, ap, subst, ◌∙◌, ℕ, true, [], ◌∷◌, append-nil, map, Some}
 use Rattle.std.proofs.lemmas.List.{map-append}
-use Rattle.ifmap_core.specs.Holding.{WouldHold}
+use Rattle.ifmap_core.specs.EmptyPolls.{WouldHold}
 use Rattle.ifmap_desks.specs.Answers.{plain_asked}
 use Rattle.ifmap_desks.specs.Calls.{plain_call}
 use Rattle.ifmap_desks.specs.Holding.{would_hold}

@@ -1,6 +1,6 @@
 //! Laws of the desks: functions that do nothing, whose contracts are the laws.
 ghost use Rattle.std.specs.Prelude.{◌≡◌, ◌↔◌, ℕ, List, [], true};
-ghost use Rattle.ifmap_core.specs.Holding.{WouldHold};
+ghost use Rattle.ifmap_core.specs.EmptyPolls.{WouldHold};
 ghost use Rattle.ifmap_desks.specs.Calls.{Log, calls_from};
 ghost use Rattle.ifmap_desks.specs.Holding.{would_hold};
 ghost use Rattle.ifmap_desks.specs.Machines.{CoreView, core_next};

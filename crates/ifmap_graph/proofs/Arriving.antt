@@ -10,7 +10,7 @@ use Rattle.ifmap_ident.specs.Items.{item_order}
 use Rattle.ifmap_pool.specs.Holdings.{Holdings, Names}
 use Rattle.ifmap_graph.specs.declared.shelves.Shelf.{Shelf}
 use Rattle.ifmap_graph.specs.Named.{AreEnds, AreNumbered, HasEnds}
-use Rattle.ifmap_graph.proofs.Holds.{numbered_kept}
+use Rattle.ifmap_graph.proofs.KeyHolds.{numbered_kept}
 use Rattle.ifmap_graph.proofs.Finding.{all_inserted}
 use Rattle.ifmap_graph.proofs.Shelving.{Entries, slots_stay}
 

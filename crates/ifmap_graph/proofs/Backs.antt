@@ -6,7 +6,7 @@ use Rattle.ifmap_view.specs.declared.views.LinkSeen.{LinkSeen}
 use Rattle.ifmap_view.specs.Rows.{stored_on}
 use Rattle.ifmap_graph.specs.declared.changes.Undo.{Undo}
 use Rattle.ifmap_graph.specs.Back.{AreLinks, AreBothEnds, IsUndoTo, KeepsBacks, KeepsOtherBacks, stand_each}
-use Rattle.ifmap_graph.specs.Held.{Held}
+use Rattle.ifmap_graph.specs.Inside.{GraphInside}
 use Rattle.ifmap_graph.specs.Out.{items_changed}
 use Rattle.ifmap_graph.specs.Seen.{AreAwaited, AwaitsLess, AwaitsMore, links_now, rows_now}
 use Rattle.ifmap_graph.specs.Stays.{HasSameShelf, StayPlaced}
@@ -18,7 +18,7 @@ use Rattle.ifmap_ident.specs.Items.{item_order}
 use Rattle.ifmap_meta.specs.declared.stored.Stored.{Stored}
 
 -- links stay where the shelves of all that has something stay
-pub links_stay : (rows : List Attachment) (links : ℕ → List LinkSeen) (old new : Held)
+pub links_stay : (rows : List Attachment) (links : ℕ → List LinkSeen) (old new : GraphInside)
     → ((x : Item) → stored_on x rows ≢ [] → HasSameShelf old new x)
     → AreLinks rows links old → AreLinks rows links new
 links_stay rows links old new f is = record {
@@ -42,7 +42,7 @@ stand_others (i ∷ is) (l ∷ ls) x before e = elim (cases_Bool (is_at (item_or
   | inr f ↦ let rest = rw f at e in rw f (stand_others is ls x before (omega (arith, rest)))
 ]
 
-module _ (old new : Held) (rows : rows_now new ≡ rows_now old) (links : (v : ℕ) → links_now new v ≡ links_now old v)
+module _ (old new : GraphInside) (rows : rows_now new ≡ rows_now old) (links : (v : ℕ) → links_now new v ≡ links_now old v)
     (long : length old.links ≤ length new.links) (stay : StayPlaced old new) where
   -- where the items of a way back are still waited for, it stays
   pub back_stays : (u : Undo) (before : List Attachment) (seen : ℕ → List LinkSeen) → AreAwaited (items_changed u.plan.changes) new
@@ -75,7 +75,7 @@ module _ (old new : Held) (rows : rows_now new ≡ rows_now old) (links : (v : �
   keeps_other_backs items less u before seen waits b = back_stays u before seen (less (items_changed u.plan.changes) waits) b
 
 -- one after the other: where a change comes to be out, and is given up again
-pub keeps_both : (items : List Item) (old mid new : Held) → AwaitsMore items old mid → KeepsBacks old mid → KeepsOtherBacks items mid new
-    → KeepsBacks old new
+pub keeps_both : (items : List Item) (old mid new : GraphInside) → AwaitsMore items old mid → KeepsBacks old mid
+    → KeepsOtherBacks items mid new → KeepsBacks old new
 keeps_both items old mid new more one other u rows links b = other u rows links (more (items_changed u.plan.changes) b.waits)
     (one u rows links b)

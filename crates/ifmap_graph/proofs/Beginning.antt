@@ -9,7 +9,7 @@ use Rattle.ifmap_ident.specs.Identifiers.{identifier_order}
 use Rattle.ifmap_pool.specs.Holdings.{Holdings, IsHeld, IsPool, Names, entry_at, key_at}
 use Rattle.ifmap_view.specs.declared.views.LinkSeen.{LinkSeen}
 use Rattle.ifmap_graph.specs.declared.shelves.Shelf.{Shelf}
-use Rattle.ifmap_graph.specs.Held.{IsInside, IsSide, links_at}
+use Rattle.ifmap_graph.specs.Inside.{IsInside, IsSide, links_at}
 use Rattle.ifmap_graph.specs.Joined.{joined_pair}
 use Rattle.ifmap_graph.specs.Linked.{link_places}
 use Rattle.ifmap_graph.specs.Seen.{IsStill}

@@ -19,7 +19,7 @@ use Rattle.ifmap_ident.specs.Items.{IsCanonItem, IsItem, item_order}
 use Rattle.ifmap_pool.specs.Holdings.{Holdings, IsHeld, IsPool, Names, entry_at, once}
 use Rattle.ifmap_view.specs.declared.views.LinkSeen.{LinkSeen}
 use Rattle.ifmap_graph.specs.declared.shelves.Shelf.{Shelf}
-use Rattle.ifmap_graph.specs.Held.{IsInside, links_at}
+use Rattle.ifmap_graph.specs.Inside.{IsInside, links_at}
 use Rattle.ifmap_graph.specs.Named.{AreEnds, AreIdentifiers, AreNumbered, HasEnds, uses_of, uses_in}
 use Rattle.ifmap_graph.specs.Shelved.{IsPlaced, ItemsRise, list_at}
 use Rattle.ifmap_graph.specs.Sides.{Sides, list_next, list_now}
@@ -28,7 +28,7 @@ use Rattle.ifmap_graph.proofs.Alike.{alike_equal}
 use Rattle.ifmap_graph.proofs.Departing.{numbered_stay}
 use Rattle.ifmap_graph.proofs.Empty.{side_comes, side_goes, side_same}
 use Rattle.ifmap_graph.proofs.Following.{looked_up}
-use Rattle.ifmap_graph.proofs.Holds.{add_two, numbered_kept}
+use Rattle.ifmap_graph.proofs.KeyHolds.{add_two, numbered_kept}
 use Rattle.ifmap_graph.proofs.Leaving.{comes, goes, named_tied, slots_kept, stays_placed, still_used}
 use Rattle.ifmap_graph.proofs.Finding.{all_left}
 use Rattle.ifmap_graph.proofs.Shelving.{Entries}

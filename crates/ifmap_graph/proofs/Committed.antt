@@ -8,7 +8,7 @@ use Rattle.ifmap_view.specs.declared.views.LinkSeen.{LinkSeen}
 use Rattle.ifmap_graph.specs.declared.changes.Ready.{Ready}
 use Rattle.ifmap_graph.specs.declared.shelves.Shelves.{Shelves}
 use Rattle.ifmap_graph.specs.Drafted.{AreBare, AreOut, StayInPlace}
-use Rattle.ifmap_graph.specs.Held.{IsInside, links_at}
+use Rattle.ifmap_graph.specs.Inside.{IsInside, links_at}
 use Rattle.ifmap_graph.specs.Out.{items_changed}
 use Rattle.ifmap_graph.specs.Seen.{AreAwaited, IsStill, KeepsOwn, StaysLean}
 use Rattle.ifmap_graph.specs.Shelved.{AreShelved, rows_on_side}
@@ -16,7 +16,7 @@ use Rattle.ifmap_graph.specs.Sides.{Sides, list_next, list_now}
 use Rattle.ifmap_graph.specs.Turning.{AreDrafted, NoOthers, accept_each, sides_at}
 use Rattle.ifmap_graph.proofs.Lean.{turned_lean}
 use Rattle.ifmap_graph.proofs.Moved.{inside_moved, lists_stay}
-use Rattle.ifmap_graph.proofs.Settled.{bare_to, held_of}
+use Rattle.ifmap_graph.proofs.Settled.{bare_to, inside_of}
 use Rattle.ifmap_graph.proofs.Turns.{accepted_all, next_same, none_drafted, same_length}
 use Rattle.ifmap_graph.proofs.Written.{own_stays, waits_stay_seen}
 
@@ -52,19 +52,19 @@ module _ {names : Holdings Identifier} {s t : Shelves} {links moved : List (Side
       (lists_stay s t is.placed made.later places is.used ends list_next list_next made.same)
       made_links kept_links (ap length made.turned ∙ same_length ready.ways links) is.next_side is.next_side is)
 
-  pub made_still : IsStill (held_of names t moved)
+  pub made_still : IsStill (inside_of names t moved)
   made_still =
       bare_to names t moved made.bare
       (λ v. ap (λ l. (sides_at l v).draft) made.turned ∙ none_drafted ready.ways links v made.drafted made.others)
 
-  pub made_own : KeepsOwn (held_of names s links) (held_of names t moved)
+  pub made_own : KeepsOwn (inside_of names s links) (inside_of names t moved)
   made_own = own_stays names links moved made.stay
 
-  pub made_waits : (items : List Item) → AreAwaited items (held_of names s links) → AreAwaited items (held_of names t moved)
+  pub made_waits : (items : List Item) → AreAwaited items (inside_of names s links) → AreAwaited items (inside_of names t moved)
   made_waits = waits_stay_seen names links moved made.stay
 
-  pub made_lean : AreAwaited (items_changed ready.plan.changes) (held_of names s links)
-      → StaysLean (held_of names s links) (held_of names t moved)
+  pub made_lean : AreAwaited (items_changed ready.plan.changes) (inside_of names s links)
+      → StaysLean (inside_of names s links) (inside_of names t moved)
   made_lean awaits =
       turned_lean names names s t links moved (items_changed ready.plan.changes) awaits made.is.placed made.out made.stay.waits
       made.stay.places made.rows

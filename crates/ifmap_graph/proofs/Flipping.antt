@@ -32,7 +32,7 @@ use Rattle.ifmap_graph.specs.declared.ends.Ends.TheVariants as ends
 use Rattle.ifmap_graph.specs.declared.shelves.Shelf.{Shelf}
 use Rattle.ifmap_graph.specs.declared.shelves.Shelves.{Shelves}
 use Rattle.ifmap_graph.specs.Drafted.{AreOut, DraftsWithin, ends_at}
-use Rattle.ifmap_graph.specs.Held.{IsInside, IsSide, links_at}
+use Rattle.ifmap_graph.specs.Inside.{IsInside, IsSide, links_at}
 use Rattle.ifmap_graph.specs.Joined.{is_not_empty, joined_pair, two_of}
 use Rattle.ifmap_graph.specs.Linked.{changed_links}
 use Rattle.ifmap_graph.specs.Named.{AreEnds, AreNumbered, HasEnds}
@@ -45,7 +45,7 @@ use Rattle.ifmap_graph.proofs.Apart.{changed_apart}
 use Rattle.ifmap_graph.proofs.Empty.{nothing_is_list, side_same}
 use Rattle.ifmap_graph.proofs.Finding.{absent, found, live_at}
 use Rattle.ifmap_graph.proofs.Following.{entry_hits, lookup_tied, looked_up}
-use Rattle.ifmap_graph.proofs.Holds.{numbers_differ}
+use Rattle.ifmap_graph.proofs.KeyHolds.{numbers_differ}
 use Rattle.ifmap_graph.proofs.Links.{changed_listed}
 use Rattle.ifmap_graph.proofs.Moved.{inside_moved, lists_stay, live_by, side_moved, still_numbered}
 use Rattle.ifmap_graph.proofs.Shelving.{Entries}

@@ -11,7 +11,7 @@ use Rattle.ifmap_pool.specs.Holdings.{Holdings, IsPool, Names, entry_at, holds_a
 use Rattle.ifmap_view.specs.declared.views.LinkSeen.{LinkSeen}
 use Rattle.slab.specs.Slab.{get}
 use Rattle.ifmap_graph.specs.declared.shelves.Shelves.{Shelves}
-use Rattle.ifmap_graph.specs.Bringing.{AreGrown, AreInside, BringsShelves, HasOwn, HaveFewOwn, Parts, flagged_items, graph_parts}
+use Rattle.ifmap_graph.specs.Bringing.{AreGrown, AreInside, BringsShelves, GraphFields, HasOwn, HaveFewOwn, flagged_items, graph_fields}
 use Rattle.ifmap_graph.specs.Named.{uses_of, uses_in}
 use Rattle.ifmap_graph.specs.Shelved.{slot_of_item}
 use Rattle.ifmap_graph.specs.Sides.{Sides}
@@ -23,7 +23,7 @@ use Rattle.ifmap_graph.proofs.Marks.{marked_more, marked_none}
 use Rattle.ifmap_graph.proofs.Shelving.{Entries}
 use Rattle.ifmap_graph.specs.NumberLaws.{once_few}
 
-pub grown_itself : (p : Parts) → AreInside p → AreGrown p p
+pub grown_itself : (p : GraphFields) → AreInside p → AreGrown p p
 grown_itself p is = record {
   inside = is;
   now = refl;
@@ -35,7 +35,7 @@ grown_itself p is = record {
   own = λ a own h. h;
 }
 
-pub grown_both : (p q r : Parts) → AreGrown p q → AreGrown q r → AreGrown p r
+pub grown_both : (p q r : GraphFields) → AreGrown p q → AreGrown q r → AreGrown p r
 grown_both p q r a b = record {
   inside = b.inside;
   now = b.now ∙ a.now;
@@ -47,13 +47,13 @@ grown_both p q r a b = record {
   own = λ k own h. b.own k own (a.own k own h);
 }
 
-pub few_kept : (p q : Parts) → AreGrown p q → HaveFewOwn p → HaveFewOwn q
+pub few_kept : (p q : GraphFields) → AreGrown p q → HaveFewOwn p → HaveFewOwn q
 few_kept p q g few a = let f = few a in (f.0, g.own a f.0 f.1, f.2)
 
 pub grown_room : (names more : Holdings Identifier) (s : Shelves) (links longer : List (Sides LinkSeen)) → more.live ≡ names.live
     → IsPool identifier_order more
-    → ((v : ℕ) → sides_at longer v ≡ sides_at links v) → length links ≤ length longer → AreInside (graph_parts names s links)
-    → AreGrown (graph_parts names s links) (graph_parts more s longer)
+    → ((v : ℕ) → sides_at longer v ≡ sides_at links v) → length links ≤ length longer → AreInside (graph_fields names s links)
+    → AreGrown (graph_fields names s links) (graph_fields more s longer)
 grown_room names more s links longer live pool same long is = record {
   inside = roomier names more live (get s.slots) s.places.entries links longer pool same long is;
   now = refl;
@@ -74,7 +74,7 @@ in_most [] a = omega arith
 in_most (e ∷ es) a = omega (arith, by_most e.0 a, in_most es a)
 
 -- so no number is held too often to be held twice more
-pub few_holds : (p : Parts) → AreInside p → HaveFewOwn p → length p.shelves.places.entries < 2 ^ 62 → (v : ℕ)
+pub few_holds : (p : GraphFields) → AreInside p → HaveFewOwn p → length p.shelves.places.entries < 2 ^ 62 → (v : ℕ)
     → holds_at p.names v < 2 ^ 64 - 2
 few_holds p is few small v = by (entry_at p.names v) refl
   where
@@ -94,8 +94,8 @@ few_holds p is few small v = by (entry_at p.names v) refl
     by (Some x) e = let f = few x.0 in held_so x.0 (x, e, alike_equal x.0 x.0 refl) f.0 f.1 f.2
 
 -- the items of a change get their shelves, one after another
-module _ (items : List Item) (first : Parts) where
-  pub record Placing (p : Parts) (marks : List Bool) (i : ℕ) : Type 0 where
+module _ (items : List Item) (first : GraphFields) where
+  pub record Placing (p : GraphFields) (marks : List Bool) (i : ℕ) : Type 0 where
     pub grown : AreGrown first p
     pub long : length marks ≡ i
     pub brought : BringsShelves (flagged_items items marks) first.shelves p.shelves
@@ -111,7 +111,7 @@ module _ (items : List Item) (first : Parts) where
     there = tt;
   }
 
-  module _ (p q : Parts) (marks : List Bool) (i : ℕ) (g : Placing p marks i) (grown : AreGrown p q) where
+  module _ (p q : GraphFields) (marks : List Bool) (i : ℕ) (g : Placing p marks i) (grown : AreGrown p q) where
     -- one that fails brings none
     pub places_none : BringsShelves [] p.shelves q.shelves → BringsShelves (flagged_items items marks) first.shelves q.shelves
     places_none b =
@@ -156,6 +156,6 @@ module _ (items : List Item) (first : Parts) where
             ∙ ap (λ n. flagged_items items marks ++ cond came (get_or items n x ∷ []) []) g.long
             ∙ ap (λ y. flagged_items items marks ++ cond came (y ∷ []) []) is
 
-  pub placed_there : (p : Parts) (marks : List Bool) (i : ℕ) → length items ≤ i → Placing p marks i
+  pub placed_there : (p : GraphFields) (marks : List Bool) (i : ℕ) → length items ≤ i → Placing p marks i
       → AllByRecursion (λ x. IsSome (slot_of_item p.shelves x)) items
   placed_there p marks i h g = subst (λ l. AllByRecursion (λ x. IsSome (slot_of_item p.shelves x)) l) (take_all i items h) g.there

@@ -16,7 +16,7 @@ use Rattle.ifmap_view.specs.Views.{IsView}
 use Rattle.ifmap_graph.specs.declared.ends.Ends as the_ends
 use Rattle.ifmap_graph.specs.declared.ends.Ends.TheVariants as ends
 use Rattle.ifmap_graph.specs.declared.shelves.Shelf.{Shelf}
-use Rattle.ifmap_graph.specs.Held.{IsSide, shown_shelves}
+use Rattle.ifmap_graph.specs.Inside.{IsSide, shown_shelves}
 use Rattle.ifmap_graph.specs.Joined.{AreJoined, AreSingle, IsNumber, joined_pair, two_of}
 use Rattle.ifmap_graph.specs.Linked.{JoinsNumbers}
 use Rattle.ifmap_graph.specs.Named.{AreEnds, AreIdentifiers, AreNumbered, HasEnds, uses_of, uses_in}

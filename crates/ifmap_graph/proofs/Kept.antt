@@ -10,7 +10,7 @@ use Rattle.ifmap_view.specs.declared.views.LinkSeen.{LinkSeen}
 use Rattle.ifmap_view.specs.Rows.{stored_on}
 use Rattle.ifmap_graph.specs.declared.shelves.Shelves.{Shelves}
 use Rattle.ifmap_graph.specs.Back.{KeepsBacks}
-use Rattle.ifmap_graph.specs.Held.{Held}
+use Rattle.ifmap_graph.specs.Inside.{GraphInside}
 use Rattle.ifmap_graph.specs.Out.{IsDrafted}
 use Rattle.ifmap_graph.specs.Seen.{AwaitsMore, IsStill, StaysLean, waits_in, waits_there_in}
 use Rattle.ifmap_graph.specs.Shelved.{list_at, rows_by}
@@ -18,16 +18,16 @@ use Rattle.ifmap_graph.specs.Sides.{Sides, list_now}
 use Rattle.ifmap_graph.specs.Stays.{HasSameShelf, StayPlaced, ends_there_in}
 use Rattle.ifmap_graph.specs.Turning.{sides_at}
 use Rattle.ifmap_graph.proofs.Backs.{keeps_backs}
-use Rattle.ifmap_graph.proofs.Settled.{held_of}
+use Rattle.ifmap_graph.proofs.Settled.{inside_of}
 
 -- what is so after a call of what contracts see of shelves, of links and of ways back
-pub record KeepsShelves (old new : Held) : Type 0 where
+pub record KeepsShelves (old new : GraphInside) : Type 0 where
   pub still : IsStill old → IsStill new
   pub waits : AwaitsMore [] old new
   pub backs : KeepsBacks old new
   pub lean : StaysLean old new
 
-module _ (old new : Held) (shelves : new.shelves ≡ old.shelves) (places : new.places ≡ old.places)
+module _ (old new : GraphInside) (shelves : new.shelves ≡ old.shelves) (places : new.places ≡ old.places)
     (links : (v : ℕ) → sides_at new.links v ≡ sides_at old.links v) (long : length old.links ≤ length new.links) where
   there : (x : Item) → HasSameShelf old new x
   there x = (
@@ -65,9 +65,9 @@ module _ (old new : Held) (shelves : new.shelves ≡ old.shelves) (places : new.
   kept_shelves = record { still = kept_still; waits = kept_waits; backs = kept_backs; lean = kept_lean }
 
 -- identifiers were held or let go, and links may have more room
-pub shelves_kept : (names later : Holdings Identifier) (s : Shelves) (links longer : List (Sides LinkSeen)) {old : Held}
-    → held_of names s links ≡ old → ((v : ℕ) → sides_at longer v ≡ sides_at links v) → length links ≤ length longer
-    → KeepsShelves old (held_of later s longer)
+pub shelves_kept : (names later : Holdings Identifier) (s : Shelves) (links longer : List (Sides LinkSeen)) {old : GraphInside}
+    → inside_of names s links ≡ old → ((v : ℕ) → sides_at longer v ≡ sides_at links v) → length links ≤ length longer
+    → KeepsShelves old (inside_of later s longer)
 shelves_kept names later s links longer is same long =
-    subst (λ (h : Held). KeepsShelves h (held_of later s longer)) is
-    (kept_shelves (held_of names s links) (held_of later s longer) refl refl same long)
+    subst (λ (h : GraphInside). KeepsShelves h (inside_of later s longer)) is
+    (kept_shelves (inside_of names s links) (inside_of later s longer) refl refl same long)

@@ -17,7 +17,7 @@ use Rattle.ifmap_view.specs.Rows.{stored_on}
 use Rattle.ifmap_graph.specs.declared.shelves.Shelf.{Shelf}
 use Rattle.ifmap_graph.specs.declared.shelves.Shelves.{Shelves}
 use Rattle.ifmap_graph.specs.Drafted.{AreBare, NoDraft, ends_at}
-use Rattle.ifmap_graph.specs.Held.{IsInside}
+use Rattle.ifmap_graph.specs.Inside.{IsInside}
 use Rattle.ifmap_graph.specs.Named.{uses_in}
 use Rattle.ifmap_graph.specs.Releasing.{IsLess}
 use Rattle.ifmap_graph.specs.Shelved.{AreShelved, HasEmptyShelf, ItemsRise, list_at, slot_of_item, rows_by, rows_on_side}

@@ -15,7 +15,7 @@ pub mod Turns
 pub mod Going
 pub mod Insides
 pub mod Waited
-pub mod Holds
+pub mod KeyHolds
 pub mod Empty
 pub mod Arriving
 pub mod Departing

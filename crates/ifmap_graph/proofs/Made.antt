@@ -13,7 +13,7 @@ use Rattle.ifmap_pool.specs.Holdings.{Holdings, IsHeld, IsPool, Names, holds_at}
 use Rattle.ifmap_view.specs.declared.attachments.Attachment.{Attachment}
 use Rattle.ifmap_view.specs.declared.views.LinkSeen.{LinkSeen}
 use Rattle.ifmap_graph.specs.declared.shelves.Shelves.{Shelves}
-use Rattle.ifmap_graph.specs.Bringing.{AreGrown, AreInside, BringsShelves, HasOwn, IsOther, Parts, graph_parts}
+use Rattle.ifmap_graph.specs.Bringing.{AreGrown, AreInside, BringsShelves, GraphFields, HasOwn, IsOther, graph_fields}
 use Rattle.ifmap_graph.specs.Drafted.{AreBare, AreOut, ends_at}
 use Rattle.ifmap_graph.specs.Making.{IsMade, IsUnmade}
 use Rattle.ifmap_graph.specs.Named.{uses_in}
@@ -37,16 +37,16 @@ pub none_ready : (ways : List (ℕ × List LinkSeen)) (links : List (Sides LinkS
     → AreExactlyDrafted ways links
 none_ready ways links e none = subst (λ w. AreExactlyDrafted w links) (sym e) (record { drafted = tt; no_others = λ v. inl (none v) })
 
-pub made_by : (changes : List ItemChange) (ways : List (ℕ × List LinkSeen)) (items : List Item) (first old : Parts) (t : Shelves)
+pub made_by : (changes : List ItemChange) (ways : List (ℕ × List LinkSeen)) (items : List Item) (first old : GraphFields) (t : Shelves)
     (links : List (Sides LinkSeen))
-    → AreGrown first old → BringsShelves items first.shelves old.shelves → AreInside (graph_parts old.names t links)
+    → AreGrown first old → BringsShelves items first.shelves old.shelves → AreInside (graph_fields old.names t links)
     → rows_on_side list_now t ≡ rows_on_side list_now old.shelves
     → IsAfter changes (rows_on_side list_now old.shelves) (rows_on_side list_next t) → AreOut (items_changed changes) t
     → AreExactlyDrafted ways links
     → KeepsLinks old.links links
     → ((at : ℕ) → ends_at t at ≡ ends_at old.shelves at) → t.places ≡ old.shelves.places
     → ((x : Item) → IsOther (items_changed changes) x → IsOther items x) → WaitsFor (items_changed changes) old.shelves t
-    → IsMade changes ways first (graph_parts old.names t links)
+    → IsMade changes ways first (graph_fields old.names t links)
 made_by changes ways items first old t links grown brought inside rows after out ready kept ends places within waits = record {
   inside = inside;
   rows = rows ∙ grown.now;
@@ -84,15 +84,15 @@ module _ (one two mid : Holdings Identifier) (first : IsPool identifier_order on
   pub same_names : (v : ℕ) (a : Identifier) → Names identifier_order one v a → Names identifier_order two v a
   same_names v a m = let c = counts a in uses_of v a c.0 m (held_once v a c.0 m c.1) c.2
 
-pub unmade_by : (first : Parts) (mid left : Holdings Identifier) (t : Shelves) (links : List (Sides LinkSeen)) → AreInside first
+pub unmade_by : (first : GraphFields) (mid left : Holdings Identifier) (t : Shelves) (links : List (Sides LinkSeen)) → AreInside first
     → IsPool identifier_order mid
-    → AreInside (graph_parts left t links) → AreBare t → ((v : ℕ) → (sides_at links v).draft ≡ None)
+    → AreInside (graph_fields left t links) → AreBare t → ((v : ℕ) → (sides_at links v).draft ≡ None)
     → rows_on_side list_now t ≡ rows_on_side list_now first.shelves
     → ((v : ℕ) → (sides_at links v).now ≡ (sides_at first.links v).now) → length first.links ≤ length links
-    → ((a : Identifier) (own : ℕ) → HasOwn first a own → HasOwn (graph_parts left t links) a own) → BringsShelves [] first.shelves t
+    → ((a : Identifier) (own : ℕ) → HasOwn first a own → HasOwn (graph_fields left t links) a own) → BringsShelves [] first.shelves t
     → ((v : ℕ) (a : Identifier) → Names identifier_order first.names v a → Names identifier_order mid v a)
     → ((v : ℕ) (a : Identifier) → Names identifier_order left v a → Names identifier_order mid v a) → IsUnmade first
-    (graph_parts left t links)
+    (graph_fields left t links)
 unmade_by first mid left t links is pool inside bare none rows same longer own brought from into = record {
   inside = inside;
   bare = bare;

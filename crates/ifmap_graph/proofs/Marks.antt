@@ -12,7 +12,7 @@ use Rattle.ifmap_view.specs.Rows.{stored_on}
 use Rattle.ifmap_graph.specs.declared.shelves.Shelves.{Shelves}
 use Rattle.ifmap_graph.specs.Bringing.{BringsShelves, flagged_items}
 use Rattle.ifmap_graph.specs.Drafted.{AreBare}
-use Rattle.ifmap_graph.specs.Held.{IsInside}
+use Rattle.ifmap_graph.specs.Inside.{IsInside}
 use Rattle.ifmap_graph.specs.Releasing.{IsLess}
 use Rattle.ifmap_graph.specs.Shelved.{HasEmptyShelf, list_at, slot_of_item, rows_on_side}
 use Rattle.ifmap_graph.specs.Sides.{Sides, list_now}

@@ -13,7 +13,7 @@ use Rattle.ifmap_view.specs.Rows.{stored_on}
 use Rattle.ifmap_graph.specs.declared.shelves.Shelf.{Shelf}
 use Rattle.ifmap_graph.specs.declared.shelves.Shelves.{Shelves}
 use Rattle.ifmap_graph.specs.Drafted.{ends_at}
-use Rattle.ifmap_graph.specs.Held.{IsInside, IsSide, links_at}
+use Rattle.ifmap_graph.specs.Inside.{IsInside, IsSide, links_at}
 use Rattle.ifmap_graph.specs.Joined.{is_not_empty, joined_pair, two_of}
 use Rattle.ifmap_graph.specs.Linked.{link_places}
 use Rattle.ifmap_graph.specs.Named.{AreEnds, AreNumbered, HasEnds}

@@ -11,7 +11,7 @@ use Rattle.ifmap_ident.specs.declared.items.Item.{Item}
 use Rattle.ifmap_ident.specs.Items.{item_order, same_item}
 use Rattle.ifmap_graph.specs.declared.shelves.Shelves.{Shelves}
 use Rattle.ifmap_graph.specs.Drafted.{AreOut}
-use Rattle.ifmap_graph.specs.Held.{shown_shelves}
+use Rattle.ifmap_graph.specs.Inside.{shown_shelves}
 use Rattle.ifmap_graph.specs.Out.{IsDrafted}
 use Rattle.ifmap_graph.specs.Shelved.{HasDraft}
 use Rattle.ifmap_graph.proofs.Insides.{lookup_shown}

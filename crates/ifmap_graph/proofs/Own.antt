@@ -13,13 +13,13 @@ use Rattle.ifmap_ident.specs.Identifiers.{identifier_order}
 use Rattle.ifmap_pool.specs.Holdings.{Frees, Holdings, IsHeld, IsPool, LetsGo, Names, entry_at, holds_at, key_at, once}
 use Rattle.ifmap_view.specs.declared.views.LinkSeen.{LinkSeen}
 use Rattle.ifmap_graph.specs.declared.shelves.Shelf.{Shelf}
-use Rattle.ifmap_graph.specs.Held.{IsInside, shown_shelves}
+use Rattle.ifmap_graph.specs.Inside.{IsInside, shown_shelves}
 use Rattle.ifmap_graph.specs.Named.{AreIdentifiers, uses_of, uses_in}
 use Rattle.ifmap_graph.specs.Sides.{Sides}
 use Rattle.ifmap_graph.proofs.Alike.{Alike, alike_equal, equal_alike, order_alike}
 use Rattle.ifmap_graph.proofs.Changed.{all_same, own_less, was_live}
 use Rattle.ifmap_graph.proofs.Departing.{numbered_stay}
-use Rattle.ifmap_graph.proofs.Holds.{identifiers_stay, named_before}
+use Rattle.ifmap_graph.proofs.KeyHolds.{identifiers_stay, named_before}
 use Rattle.ifmap_graph.proofs.Insides.{key_is, named_shown, names_by}
 use Rattle.ifmap_graph.proofs.Shelving.{Entries}
 use Rattle.ifmap_ident.specs.SameLaws.{BytesTellIdentifiers}

@@ -6,7 +6,7 @@ use Rattle.ifmap_pool.specs.Holdings.{Holdings}
 use Rattle.ifmap_view.specs.declared.views.LinkSeen.{LinkSeen}
 use Rattle.ifmap_graph.specs.declared.shelves.Shelves.{Shelves}
 use Rattle.ifmap_graph.specs.Back.{KeepsOtherBacks}
-use Rattle.ifmap_graph.specs.Held.{Held}
+use Rattle.ifmap_graph.specs.Inside.{GraphInside}
 use Rattle.ifmap_graph.specs.Releasing.{AreFilled, IsLess}
 use Rattle.ifmap_graph.specs.Seen.{AwaitsLess, IsStill, KeepsOwn, StaysLeanWithout, rows_next, rows_now}
 use Rattle.ifmap_graph.specs.Shelved.{AreShelved}
@@ -15,10 +15,10 @@ use Rattle.ifmap_graph.specs.Stays.{StayPlaced}
 use Rattle.ifmap_graph.specs.Waits.{WaitsFor}
 use Rattle.ifmap_graph.proofs.Backs.{keeps_other_backs}
 use Rattle.ifmap_graph.proofs.Lean.{less_lean}
-use Rattle.ifmap_graph.proofs.Settled.{bare_from, bare_to, held_of, less_next, less_now, less_own, less_stay, less_waits}
+use Rattle.ifmap_graph.proofs.Settled.{bare_from, bare_to, inside_of, less_next, less_now, less_own, less_stay, less_waits}
 
 -- nothing is out, and these items are waited for once less
-pub record AreReleased (items : List Item) (old new : Held) : Type 0 where
+pub record AreReleased (items : List Item) (old new : GraphInside) : Type 0 where
   pub now : rows_now new ≡ rows_now old
   pub next : rows_next new ≡ rows_next old
   pub still : IsStill new
@@ -30,7 +30,7 @@ pub record AreReleased (items : List Item) (old new : Held) : Type 0 where
 
 module _ (names left : Holdings Identifier) (s t : Shelves) (links : List (Sides LinkSeen)) (items : List Item)
     (less : IsLess names left s t) (is : AreShelved s) (waits : WaitsFor items t s) (filled : AreFilled s → AreFilled t) where
-  released : IsStill (held_of names s links) → AreReleased items (held_of names s links) (held_of left t links)
+  released : IsStill (inside_of names s links) → AreReleased items (inside_of names s links) (inside_of left t links)
   released still =
       let bare = bare_from names s links is still
       in let rows = less_now names left s t links less
@@ -43,10 +43,10 @@ module _ (names left : Holdings Identifier) (s t : Shelves) (links : List (Sides
         own = less_own names left s t links less;
         waits = fewer;
         stay = stay;
-        backs = keeps_other_backs (held_of names s links) (held_of left t links) rows (λ v. refl) (omega arith) stay items fewer;
+        backs = keeps_other_backs (inside_of names s links) (inside_of left t links) rows (λ v. refl) (omega arith) stay items fewer;
         lean = less_lean names left s t links links items waits filled;
       }
 
-  pub are_released : {old : Held} → held_of names s links ≡ old → IsStill (held_of names s links)
-      → AreReleased items old (held_of left t links)
-  are_released seen still = subst (λ (h : Held). AreReleased items h (held_of left t links)) seen (released still)
+  pub are_released : {old : GraphInside} → inside_of names s links ≡ old → IsStill (inside_of names s links)
+      → AreReleased items old (inside_of left t links)
+  are_released seen still = subst (λ (h : GraphInside). AreReleased items h (inside_of left t links)) seen (released still)

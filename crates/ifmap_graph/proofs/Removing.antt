@@ -14,7 +14,7 @@ use Rattle.ifmap_graph.specs.declared.ends.Ends.{Ends}
 use Rattle.ifmap_graph.specs.declared.shelves.Shelf.{Shelf}
 use Rattle.ifmap_graph.specs.declared.shelves.Shelves.{Shelves}
 use Rattle.ifmap_graph.specs.Bringing.{BringsShelves}
-use Rattle.ifmap_graph.specs.Held.{IsInside}
+use Rattle.ifmap_graph.specs.Inside.{IsInside}
 use Rattle.ifmap_graph.specs.Named.{AreEnds, AreIdentifiers, uses_of, uses_in}
 use Rattle.ifmap_graph.specs.Shelved.{HasEmptyShelf, IsPlaced, ItemsRise, StoredSide, list_at, rows_on_side, slot_of_item}
 use Rattle.ifmap_graph.specs.Sides.{Sides}

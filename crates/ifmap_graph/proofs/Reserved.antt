@@ -20,9 +20,9 @@ use Rattle.ifmap_view.specs.Rows.{stored_on}
 use Rattle.ifmap_graph.specs.declared.changes.Ready.{Ready}
 use Rattle.ifmap_graph.specs.declared.shelves.Shelves.{Shelves}
 use Rattle.ifmap_graph.specs.Back.{KeepsBacks}
-use Rattle.ifmap_graph.specs.Bringing.{graph_parts}
+use Rattle.ifmap_graph.specs.Bringing.{graph_fields}
 use Rattle.ifmap_graph.specs.Drafted.{ends_at}
-use Rattle.ifmap_graph.specs.Held.{Held, shown_shelves}
+use Rattle.ifmap_graph.specs.Inside.{GraphInside, shown_shelves}
 use Rattle.ifmap_graph.specs.Making.{IsMade, IsUnmade}
 use Rattle.ifmap_graph.specs.Named.{AreIdentifiers, uses_in}
 use Rattle.ifmap_graph.specs.Out.{IsDrafted, IsOut, items_changed}
@@ -39,7 +39,7 @@ use Rattle.ifmap_graph.proofs.Lean.{made_lean, unmade_lean}
 use Rattle.ifmap_graph.proofs.Lessening.{waited_there}
 use Rattle.ifmap_graph.proofs.Outs.{from_shown, to_shown}
 use Rattle.ifmap_graph.proofs.Own.{key_kept}
-use Rattle.ifmap_graph.proofs.Settled.{bare_to, ends_shown, ends_there, held_of, waits_shown}
+use Rattle.ifmap_graph.proofs.Settled.{bare_to, ends_shown, ends_there, inside_of, waits_shown}
 use Rattle.ifmap_graph.proofs.Waited.{times_append}
 use Rattle.ifmap_ident.specs.SameLaws.{BytesTellIdentifiers}
 
@@ -59,7 +59,7 @@ same_keys one two f g v = by (key_at one v) refl (key_at two v) refl
     by None e (Some a) q = absurd (none-some _ (sym e ∙ g v a q))
 
 -- what contracts see where a change came to be out
-pub record ComesOut (changes : List ItemChange) (old new : Held) : Type 0 where
+pub record ComesOut (changes : List ItemChange) (old new : GraphInside) : Type 0 where
   pub after : IsAfter changes (rows_now old) (rows_next new)
   pub now : rows_now new ≡ rows_now old
   pub numbers : KeepsNumbers old new
@@ -69,25 +69,25 @@ pub record ComesOut (changes : List ItemChange) (old new : Held) : Type 0 where
   pub lean : StaysLeanWith (items_changed changes) old new
 
 -- and where it did not
-pub record StaysAsItWas (old new : Held) : Type 0 where
+pub record StaysAsItWas (old new : GraphInside) : Type 0 where
   pub same : IsSeenSame old new
   pub numbers : KeepsNumbers old new
   pub backs : KeepsBacks old new
   pub still : IsStill new
 
 module _ (names later : Holdings Identifier) (s t : Shelves) (links moved : List (Sides LinkSeen)) where
-  rows_same : rows_on_side list_now t ≡ rows_on_side list_now s → rows_now (held_of later t moved) ≡ rows_now (held_of names s links)
+  rows_same : rows_on_side list_now t ≡ rows_on_side list_now s → rows_now (inside_of later t moved) ≡ rows_now (inside_of names s links)
   rows_same rows = rows_shown list_now (get t.slots) t.places.entries ∙ rows ∙ sym (rows_shown list_now (get s.slots) s.places.entries)
 
   own_same : ((a : Identifier) (own : ℕ) → IsHeld identifier_order names a (uses_in s.places.entries a + own)
-      → IsHeld identifier_order later a (uses_in t.places.entries a + own)) → KeepsOwn (held_of names s links) (held_of later t moved)
+      → IsHeld identifier_order later a (uses_in t.places.entries a + own)) → KeepsOwn (inside_of names s links) (inside_of later t moved)
   own_same f a own h =
       subst (λ (n : ℕ). IsHeld identifier_order later a (n + own)) (sym (named_shown (get t.slots) t.places.entries a))
       (f a own (subst (λ (n : ℕ). IsHeld identifier_order names a (n + own)) (named_shown (get s.slots) s.places.entries a) h))
 
   -- shelves stay in their slots with their numbers
   module _ (places : (x : Item) (at : ℕ) → slot_of_item s x ≡ Some at → (slot_of_item t x ≡ Some at) × (ends_at t at ≡ ends_at s at)) where
-    there : (x : Item) (at : ℕ) → slot_of_item s x ≡ Some at → HasSameShelf (held_of names s links) (held_of later t moved) x
+    there : (x : Item) (at : ℕ) → slot_of_item s x ≡ Some at → HasSameShelf (inside_of names s links) (inside_of later t moved) x
     there x at e =
         let p = places x at e
         in (
@@ -95,14 +95,14 @@ module _ (names later : Holdings Identifier) (s t : Shelves) (links moved : List
           ends_shown later t moved x ∙ ap (ends_there t) p.0 ∙ p.1 ∙ sym (ap (ends_there s) e) ∙ sym (ends_shown names s links x),
         )
 
-    full_there : (x : Item) (o : Option ℕ) → slot_of_item s x ≡ o → stored_on x (rows_now (held_of names s links)) ≢ []
-        → HasSameShelf (held_of names s links) (held_of later t moved) x
+    full_there : (x : Item) (o : Option ℕ) → slot_of_item s x ≡ o → stored_on x (rows_now (inside_of names s links)) ≢ []
+        → HasSameShelf (inside_of names s links) (inside_of later t moved) x
     full_there x None e n =
         absurd (n (ap (stored_on x) (rows_shown list_now (get s.slots) s.places.entries)
         ∙ sym (absent (λ at. list_at list_now (get s.slots at)) x s.places.entries e)))
     full_there x (Some at) e n = there x at e
 
-    stay : StayPlaced (held_of names s links) (held_of later t moved)
+    stay : StayPlaced (inside_of names s links) (inside_of later t moved)
     stay = record {
       waited = λ x a b.
           let w : 0 < waits_on s x = omega (arith, a, waits_shown names s links x)
@@ -112,19 +112,19 @@ module _ (names later : Holdings Identifier) (s t : Shelves) (links moved : List
 
   -- the change is out
   module _ (changes : List ItemChange) (ways : List (ℕ × List LinkSeen))
-      (made : IsMade changes ways (graph_parts names s links) (graph_parts later t moved)) where
-    made_now : rows_now (held_of later t moved) ≡ rows_now (held_of names s links)
+      (made : IsMade changes ways (graph_fields names s links) (graph_fields later t moved)) where
+    made_now : rows_now (inside_of later t moved) ≡ rows_now (inside_of names s links)
     made_now = rows_same made.rows
 
-    made_after : IsAfter changes (rows_now (held_of names s links)) (rows_next (held_of later t moved))
+    made_after : IsAfter changes (rows_now (inside_of names s links)) (rows_next (inside_of later t moved))
     made_after =
-        subst (λ r. IsAfter changes r (rows_next (held_of later t moved))) (sym (rows_shown list_now (get s.slots) s.places.entries))
+        subst (λ r. IsAfter changes r (rows_next (inside_of later t moved))) (sym (rows_shown list_now (get s.slots) s.places.entries))
         (subst (λ r. IsAfter changes (rows_on_side list_now s) r) (sym (rows_shown list_next (get t.slots) t.places.entries)) made.after)
 
-    made_own : KeepsOwn (held_of names s links) (held_of later t moved)
+    made_own : KeepsOwn (inside_of names s links) (inside_of later t moved)
     made_own = own_same made.own
 
-    made_waits : AwaitsMore (items_changed changes) (held_of names s links) (held_of later t moved)
+    made_waits : AwaitsMore (items_changed changes) (inside_of names s links) (inside_of later t moved)
     made_waits rest a x =
         omega (
           arith,
@@ -136,16 +136,17 @@ module _ (names later : Holdings Identifier) (s t : Shelves) (links moved : List
               rest x,
         )
 
-    more_waits : AwaitsMore [] (held_of names s links) (held_of later t moved)
+    more_waits : AwaitsMore [] (inside_of names s links) (inside_of later t moved)
     more_waits rest a x = let w = made_waits rest a x in omega (arith, w, times_append (items_changed changes) rest x)
 
-    made_backs : KeepsBacks (held_of names s links) (held_of later t moved)
-    made_backs = keeps_backs (held_of names s links) (held_of later t moved) made_now made.links made.longer (stay made.places) more_waits
+    made_backs : KeepsBacks (inside_of names s links) (inside_of later t moved)
+    made_backs =
+        keeps_backs (inside_of names s links) (inside_of later t moved) made_now made.links made.longer (stay made.places) more_waits
 
-    made_numbers : BytesTellIdentifiers → AreIdentifiers names → KeepsNumbers (held_of names s links) (held_of later t moved)
+    made_numbers : BytesTellIdentifiers → AreIdentifiers names → KeepsNumbers (inside_of names s links) (inside_of later t moved)
     made_numbers tells keys = key_kept names later made.kept tells keys made.inside.keys
 
-    comes_out : BytesTellIdentifiers → AreIdentifiers names → ComesOut changes (held_of names s links) (held_of later t moved)
+    comes_out : BytesTellIdentifiers → AreIdentifiers names → ComesOut changes (inside_of names s links) (inside_of later t moved)
     comes_out tells keys = record {
       after = made_after;
       now = made_now;
@@ -156,12 +157,12 @@ module _ (names later : Holdings Identifier) (s t : Shelves) (links moved : List
       lean = made_lean names later s t links moved changes ways made;
     }
 
-    pub made_seen : {old : Held} → held_of names s links ≡ old → BytesTellIdentifiers → AreIdentifiers names
-        → ComesOut changes old (held_of later t moved)
-    made_seen is tells keys = subst (λ (h : Held). ComesOut changes h (held_of later t moved)) is (comes_out tells keys)
+    pub made_seen : {old : GraphInside} → inside_of names s links ≡ old → BytesTellIdentifiers → AreIdentifiers names
+        → ComesOut changes old (inside_of later t moved)
+    made_seen is tells keys = subst (λ (h : GraphInside). ComesOut changes h (inside_of later t moved)) is (comes_out tells keys)
 
     pub made_out : (ready : Ready) → ready.plan.changes ≡ changes → length ready.lists ≡ length changes → ready.ways ≡ ways
-        → IsOut ready (held_of later t moved)
+        → IsOut ready (inside_of later t moved)
     made_out ready plan lists way = record {
       drafted = subst (λ l. AllByRecursion (IsDrafted (shown_shelves (get t.slots) t.places.entries)) (items_changed l)) (sym plan)
           (all_shown t (items_changed changes) made.out.drafted);
@@ -175,28 +176,28 @@ module _ (names later : Holdings Identifier) (s t : Shelves) (links moved : List
     }
 
   -- nothing is out, and all is as before
-  module _ (un : IsUnmade (graph_parts names s links) (graph_parts later t moved)) where
-    unmade_now : rows_now (held_of later t moved) ≡ rows_now (held_of names s links)
+  module _ (un : IsUnmade (graph_fields names s links) (graph_fields later t moved)) where
+    unmade_now : rows_now (inside_of later t moved) ≡ rows_now (inside_of names s links)
     unmade_now = rows_same un.rows
 
-    unmade_own : KeepsOwn (held_of names s links) (held_of later t moved)
+    unmade_own : KeepsOwn (inside_of names s links) (inside_of later t moved)
     unmade_own = own_same un.own
 
-    unmade_still : IsStill (held_of later t moved)
+    unmade_still : IsStill (inside_of later t moved)
     unmade_still = bare_to later t moved un.bare un.none
 
-    unmade_waits : AwaitsMore [] (held_of names s links) (held_of later t moved)
+    unmade_waits : AwaitsMore [] (inside_of names s links) (inside_of later t moved)
     unmade_waits rest a x = omega (arith, a x, waits_shown names s links x, waits_shown later t moved x, un.shelves.waits x)
 
-    unmade_backs : KeepsBacks (held_of names s links) (held_of later t moved)
+    unmade_backs : KeepsBacks (inside_of names s links) (inside_of later t moved)
     unmade_backs =
-        keeps_backs (held_of names s links) (held_of later t moved) unmade_now un.links un.longer
+        keeps_backs (inside_of names s links) (inside_of later t moved) unmade_now un.links un.longer
         (stay (λ x at e. (un.shelves.places x tt ∙ e, un.shelves.ends x at e))) unmade_waits
 
-    unmade_numbers : BytesTellIdentifiers → AreIdentifiers names → KeepsNumbers (held_of names s links) (held_of later t moved)
+    unmade_numbers : BytesTellIdentifiers → AreIdentifiers names → KeepsNumbers (inside_of names s links) (inside_of later t moved)
     unmade_numbers tells keys = key_kept names later un.kept tells keys un.inside.keys
 
-    unmade_same : BytesTellIdentifiers → AreIdentifiers names → IsSeenSame (held_of names s links) (held_of later t moved)
+    unmade_same : BytesTellIdentifiers → AreIdentifiers names → IsSeenSame (inside_of names s links) (inside_of later t moved)
     unmade_same tells keys = record {
       rows = unmade_now;
       links = un.links;
@@ -207,7 +208,7 @@ module _ (names later : Holdings Identifier) (s t : Shelves) (links moved : List
       lean = unmade_lean names later s t links moved un;
     }
 
-    stays : BytesTellIdentifiers → AreIdentifiers names → StaysAsItWas (held_of names s links) (held_of later t moved)
+    stays : BytesTellIdentifiers → AreIdentifiers names → StaysAsItWas (inside_of names s links) (inside_of later t moved)
     stays tells keys = record {
       same = unmade_same tells keys;
       numbers = unmade_numbers tells keys;
@@ -215,6 +216,6 @@ module _ (names later : Holdings Identifier) (s t : Shelves) (links moved : List
       still = unmade_still;
     }
 
-    pub unmade_seen : {old : Held} → held_of names s links ≡ old → BytesTellIdentifiers → AreIdentifiers names
-        → StaysAsItWas old (held_of later t moved)
-    unmade_seen is tells keys = subst (λ (h : Held). StaysAsItWas h (held_of later t moved)) is (stays tells keys)
+    pub unmade_seen : {old : GraphInside} → inside_of names s links ≡ old → BytesTellIdentifiers → AreIdentifiers names
+        → StaysAsItWas old (inside_of later t moved)
+    unmade_seen is tells keys = subst (λ (h : GraphInside). StaysAsItWas h (inside_of later t moved)) is (stays tells keys)

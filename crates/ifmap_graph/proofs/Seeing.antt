@@ -14,7 +14,7 @@ use Rattle.ifmap_view.specs.declared.views.LinkSeen.{LinkSeen}
 use Rattle.ifmap_view.specs.Rows.{stored_on}
 use Rattle.ifmap_graph.specs.declared.shelves.Shelf.{Shelf}
 use Rattle.ifmap_graph.specs.Back.{AreLinks, AreBothEnds}
-use Rattle.ifmap_graph.specs.Held.{Held, shown_shelves}
+use Rattle.ifmap_graph.specs.Inside.{GraphInside, shown_shelves}
 use Rattle.ifmap_graph.specs.Joined.{is_not_empty, joined_pair, full_some, some_full}
 use Rattle.ifmap_graph.specs.Linked.{AreListed, link_places}
 use Rattle.ifmap_graph.specs.Shelved.{IsPlaced, list_at, rows_by}
@@ -27,7 +27,7 @@ use Rattle.ifmap_graph.proofs.Shelving.{Entries}
 use Rattle.ifmap_graph.proofs.Staying.{ends_of}
 
 -- what contracts see of shelves with a pool and links
-abbrev pub seen_of : (ℕ → Option Shelf) → Entries → Holdings Identifier → List (Sides LinkSeen) → Held
+abbrev pub seen_of : (ℕ → Option Shelf) → Entries → Holdings Identifier → List (Sides LinkSeen) → GraphInside
 seen_of look es names links = record { shelves = shown_shelves look es; names = names; links = links; places = es }
 
 module _ (look : ℕ → Option Shelf) (es : Entries) (names : Holdings Identifier) (links : List (Sides LinkSeen)) where

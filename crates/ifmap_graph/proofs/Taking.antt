@@ -24,7 +24,7 @@ use Rattle.ifmap_graph.specs.declared.changes.Undo.{Undo}
 use Rattle.ifmap_graph.specs.declared.shelves.Shelves.{Shelves}
 use Rattle.ifmap_graph.specs.Back.{IsUndoTo, stand_each}
 use Rattle.ifmap_graph.specs.Drafted.{AreOut, ends_at}
-use Rattle.ifmap_graph.specs.Held.{IsInside, links_at, shown_shelves}
+use Rattle.ifmap_graph.specs.Inside.{IsInside, links_at, shown_shelves}
 use Rattle.ifmap_graph.specs.Out.{items_changed}
 use Rattle.ifmap_graph.specs.Seen.{AreAwaited, links_now, rows_now}
 use Rattle.ifmap_graph.specs.Shelved.{AreShelved, HasDraft, list_at, slot_of_item, rows_by, rows_on_side}

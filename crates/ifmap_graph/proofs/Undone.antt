@@ -17,7 +17,7 @@ use Rattle.ifmap_graph.specs.declared.shelves.Shelf.{Shelf}
 use Rattle.ifmap_graph.specs.declared.shelves.Shelves.{Shelves}
 use Rattle.ifmap_graph.specs.Back.{AreLinks, IsUndoTo, stand_each}
 use Rattle.ifmap_graph.specs.Drafted.{AreBare, NoDraft, StayInPlace}
-use Rattle.ifmap_graph.specs.Held.{Held, IsInside, IsSide, links_at}
+use Rattle.ifmap_graph.specs.Inside.{GraphInside, IsInside, IsSide, links_at}
 use Rattle.ifmap_graph.specs.Linked.{link_places}
 use Rattle.ifmap_graph.specs.Out.{items_changed}
 use Rattle.ifmap_graph.specs.Seen.{AreAwaited, IsStill, KeepsOwn, StaysLean, links_now, rows_now}
@@ -36,7 +36,7 @@ use Rattle.ifmap_graph.proofs.Lessening.{waited_there}
 use Rattle.ifmap_graph.proofs.Moved.{inside_anew, placed_still, side_moved, used_still}
 use Rattle.ifmap_graph.proofs.OnItems.{rows_same}
 use Rattle.ifmap_graph.proofs.Seeing.{links_by_slots, seen_of, stays_there}
-use Rattle.ifmap_graph.proofs.Settled.{bare_to, held_of, waits_shown}
+use Rattle.ifmap_graph.proofs.Settled.{bare_to, inside_of, waits_shown}
 use Rattle.ifmap_graph.proofs.Shelving.{Entries}
 use Rattle.ifmap_graph.proofs.Staying.{ends_of}
 use Rattle.ifmap_graph.proofs.Taking.{has_times}
@@ -45,7 +45,7 @@ use Rattle.ifmap_graph.proofs.Written.{own_stays, waits_stay_seen}
 use Rattle.ifmap_ident.specs.SameLaws.{items_total, BytesTellIdentifiers}
 
 -- links that are alike at each number
-links_alike : (rows : List Attachment) (links moved : ℕ → List LinkSeen) (h : Held) → ((v : ℕ) → moved v ≡ links v)
+links_alike : (rows : List Attachment) (links moved : ℕ → List LinkSeen) (h : GraphInside) → ((v : ℕ) → moved v ≡ links v)
     → AreLinks rows links h → AreLinks rows moved h
 links_alike rows links moved h f is = record {
   only = λ v seen c. is.only v seen (subst (λ l. Contains l seen) (f v) c);
@@ -128,7 +128,7 @@ module _ (names : Holdings Identifier) (look later : ℕ → Option Shelf) (es :
 
 -- items that are waited for have shelves
 pub all_there : (names : Holdings Identifier) (s : Shelves) (links : List (Sides LinkSeen)) (items : List Item)
-    → AreAwaited items (held_of names s links)
+    → AreAwaited items (inside_of names s links)
     → AllByRecursion (λ x. IsSome (slot_of_item s x)) items
 all_there names s links items a = by items (λ x h. h)
   where
@@ -157,13 +157,13 @@ pub record GoesBack (names : Holdings Identifier) (s t : Shelves) (links moved :
 -- the same of shelves that stay in their places
 module _ {names : Holdings Identifier} {s t : Shelves} {links moved : List (Sides LinkSeen)} {u : Undo}
     (goes : GoesBack names s t links moved u) where
-  pub undone_own : KeepsOwn (held_of names s links) (held_of names t moved)
+  pub undone_own : KeepsOwn (inside_of names s links) (inside_of names t moved)
   undone_own = own_stays names links moved goes.stay
 
-  pub undone_waits : (items : List Item) → AreAwaited items (held_of names s links) → AreAwaited items (held_of names t moved)
+  pub undone_waits : (items : List Item) → AreAwaited items (inside_of names s links) → AreAwaited items (inside_of names t moved)
   undone_waits = waits_stay_seen names links moved goes.stay
 
-  module _ (rows : List Attachment) (seen : ℕ → List LinkSeen) (back : IsUndoTo u rows seen (held_of names s links)) where
+  module _ (rows : List Attachment) (seen : ℕ → List LinkSeen) (back : IsUndoTo u rows seen (inside_of names s links)) where
     still_bare : AllByRecursion (λ e. NoDraft (get t.slots e.1)) s.places.entries
     still_bare = subst (λ p. AllByRecursion (λ e. NoDraft (get t.slots e.1)) p.entries) goes.stay.places goes.bare
 
@@ -178,22 +178,22 @@ module _ {names : Holdings Identifier} {s t : Shelves} {links moved : List (Side
         (back_inside names (get s.slots) (get t.slots) s.places.entries links moved goes.is goes.stay.ends still_bare goes.none u rows seen
         back still_stands goes.turned)
 
-    pub undone_rows : BytesTellIdentifiers → rows_now (held_of names t moved) ≡ rows
+    pub undone_rows : BytesTellIdentifiers → rows_now (inside_of names t moved) ≡ rows
     undone_rows tells =
         ap (λ p. rows_now (seen_of (get t.slots) p.entries names moved)) goes.stay.places
         ∙ back_rows names (get s.slots) (get t.slots) s.places.entries links moved goes.is goes.stay.ends still_bare goes.none u rows seen
         back still_stands goes.turned tells
 
-    pub undone_links : (v : ℕ) → links_now (held_of names t moved) v ≡ seen v
+    pub undone_links : (v : ℕ) → links_now (inside_of names t moved) v ≡ seen v
     undone_links = back_links names (get s.slots) (get t.slots) s.places.entries links moved goes.is goes.stay.ends still_bare goes.none u
         rows seen back still_stands goes.turned
 
-    pub undone_still : IsStill (held_of names t moved)
+    pub undone_still : IsStill (inside_of names t moved)
     undone_still =
         bare_to names t moved goes.bare
         (back_bare names (get s.slots) (get t.slots) s.places.entries links moved goes.is goes.stay.ends still_bare goes.none u rows seen
         back still_stands goes.turned)
 
-    pub undone_lean : StaysLean (held_of names s links) (held_of names t moved)
+    pub undone_lean : StaysLean (inside_of names s links) (inside_of names t moved)
     undone_lean = stood_lean names names s t links moved (items_changed u.plan.changes) back.waits goes.stay.waits goes.stay.places u.lists
         goes.stands

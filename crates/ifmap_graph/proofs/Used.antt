@@ -20,7 +20,7 @@ use Rattle.ifmap_graph.specs.declared.ends.Ends.{Ends}
 use Rattle.ifmap_graph.specs.declared.ends.Ends.TheVariants as ends
 use Rattle.ifmap_graph.specs.declared.shelves.Shelf.{Shelf}
 use Rattle.ifmap_graph.specs.declared.shelves.Shelves.{Shelves}
-use Rattle.ifmap_graph.specs.Held.{IsInside, IsOwn}
+use Rattle.ifmap_graph.specs.Inside.{IsInside, IsOwn}
 use Rattle.ifmap_graph.specs.Named.{AreEnds, HasEnds, uses_of, uses_in}
 use Rattle.ifmap_graph.specs.Releasing.{AreFilled}
 use Rattle.ifmap_graph.specs.Seen.{AreUsed, IsAttached, IsHeldBeside, IsLean, rows_now}
@@ -33,7 +33,7 @@ use Rattle.ifmap_graph.proofs.Following.{entry_hits}
 use Rattle.ifmap_graph.proofs.Insides.{named_shown, names_by, rows_shown}
 use Rattle.ifmap_graph.proofs.Lean.{lean_from}
 use Rattle.ifmap_graph.proofs.Own.{key_told, live_key}
-use Rattle.ifmap_graph.proofs.Settled.{held_of, waits_shown}
+use Rattle.ifmap_graph.proofs.Settled.{inside_of, waits_shown}
 use Rattle.ifmap_ident.specs.SameLaws.{BytesTellIdentifiers}
 
 -- an identifier that entries name is one of some entry's item
@@ -119,19 +119,19 @@ module _ (names : Holdings Identifier) (s : Shelves) (links : List (Sides LinkSe
   held_named a n (inr h) some = absurd (omega (arith, some, h.1))
 
   own_is : (a : Identifier) (own : ℕ) → IsHeld identifier_order names a (uses_in s.places.entries a + own)
-      → IsOwn (held_of names s links) a own
+      → IsOwn (inside_of names s links) a own
   own_is a own h =
       subst (λ (n : ℕ). IsHeld identifier_order names a (n + own)) (sym (named_shown (get s.slots) s.places.entries a)) h
 
-  own_was : (a : Identifier) (own : ℕ) → IsOwn (held_of names s links) a own
+  own_was : (a : Identifier) (own : ℕ) → IsOwn (inside_of names s links) a own
       → IsHeld identifier_order names a (uses_in s.places.entries a + own)
   own_was a own h = subst (λ (n : ℕ). IsHeld identifier_order names a (n + own)) (named_shown (get s.slots) s.places.entries a) h
 
   used_by : AreFilled s → ((x : Item) → waits_on s x ≡ 0) → (v : ℕ) (a : Identifier) → key_at names v ≡ Some a
-      → IsAttached (rows_on_side list_now s) a ⊎ IsHeldBeside (held_of names s links) a
+      → IsAttached (rows_on_side list_now s) a ⊎ IsHeldBeside (inside_of names s links) a
   used_by filled idle v a e = by (uses_in s.places.entries a) refl
     where
-      by : (n : ℕ) → uses_in s.places.entries a ≡ n → IsAttached (rows_on_side list_now s) a ⊎ IsHeldBeside (held_of names s links) a
+      by : (n : ℕ) → uses_in s.places.entries a ≡ n → IsAttached (rows_on_side list_now s) a ⊎ IsHeldBeside (inside_of names s links) a
       by (suc n) q =
           let x = named_entry s.places.entries a (omega (arith, q))
           in inl (entry_attached filled idle x.0 x.1 a
@@ -141,17 +141,17 @@ module _ (names : Holdings Identifier) (s : Shelves) (links : List (Sides LinkSe
           let some = held_some names v a (uses_in s.places.entries a + own) is.pool e (own_was a own h)
           in omega (arith, some, q))
 
-  pub are_used : IsLean [] (held_of names s links) → AreUsed (held_of names s links)
+  pub are_used : IsLean [] (inside_of names s links) → AreUsed (inside_of names s links)
   are_used lean = record {
     only = λ a h.
-        subst (λ r. IsAttached r a ⊎ IsHeldBeside (held_of names s links) a) (sym (rows_shown list_now (get s.slots) s.places.entries))
+        subst (λ r. IsAttached r a ⊎ IsHeldBeside (inside_of names s links) a) (sym (rows_shown list_now (get s.slots) s.places.entries))
         (used_by (lean_from names s links [] lean) (λ x. omega (arith, lean.waits x, waits_shown names s links x)) h.0 a h.1);
     each = λ a canon why.
         let n = named a why
         in (n.0, key_told names n.0 a tells is.keys canon n.1);
   }
     where
-      named : (a : Identifier) → IsAttached (rows_now (held_of names s links)) a ⊎ IsHeldBeside (held_of names s links) a
+      named : (a : Identifier) → IsAttached (rows_now (inside_of names s links)) a ⊎ IsHeldBeside (inside_of names s links) a
           → (v : ℕ) × Names identifier_order names v a
       named a (inl q) = attached_named a (subst (λ r. IsAttached r a) (rows_shown list_now (get s.slots) s.places.entries) q)
       named a (inr q) =

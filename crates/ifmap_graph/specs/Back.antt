@@ -11,7 +11,7 @@ use Rattle.ifmap_view.specs.Attachments.{IsGraph}
 use Rattle.ifmap_view.specs.Rows.{stored_on}
 use Rattle.ifmap_graph.specs.declared.changes.Undo.{Undo}
 use Rattle.ifmap_graph.specs.declared.ends.Ends.{Ends}
-use Rattle.ifmap_graph.specs.Held.{Held, links_at}
+use Rattle.ifmap_graph.specs.Inside.{GraphInside, links_at}
 use Rattle.ifmap_graph.specs.Joined.{two_of}
 use Rattle.ifmap_graph.specs.Linked.{link_places}
 use Rattle.ifmap_graph.specs.Out.{items_changed}
@@ -32,7 +32,7 @@ AreBothEnds None v w = ⊥
 AreBothEnds (Some ends) v w = (two_of ends ≡ Some (v, w)) ⊎ (two_of ends ≡ Some (w, v))
 
 -- links are those of the shelves whose items have something stored on them, each once
-pub record AreLinks (rows : List Attachment) (links : ℕ → List LinkSeen) (h : Held) : Type 0 where
+pub record AreLinks (rows : List Attachment) (links : ℕ → List LinkSeen) (h : GraphInside) : Type 0 where
   pub only : (v : ℕ) (seen : LinkSeen) → Contains (links v) seen
       → (x : Item) × (place_in h x ≡ Some seen.at) × AreBothEnds (ends_in h x) v seen.other × (stored_on x rows ≢ [])
   pub each : (x : Item) (v w at : ℕ) → place_in h x ≡ Some at → AreBothEnds (ends_in h x) v w → stored_on x rows ≢ []
@@ -41,7 +41,7 @@ pub record AreLinks (rows : List Attachment) (links : ℕ → List LinkSeen) (h 
 
 -- taken back, the change leaves these attachments and links: its lists stand on its items and at its numbers, and all else is what is
 -- there; its items are waited for
-pub record IsUndoTo (u : Undo) (rows : List Attachment) (links : ℕ → List LinkSeen) (h : Held) : Type 0 where
+pub record IsUndoTo (u : Undo) (rows : List Attachment) (links : ℕ → List LinkSeen) (h : GraphInside) : Type 0 where
   pub graph : IsGraph rows
   pub stored : (x : Item) → stored_on x rows ≡ stand_each (items_changed u.plan.changes) u.lists x (stored_on x (rows_now h))
   pub linked : (v : ℕ) → links v ≡ links_at list_now (restore_each u.ways h.links) v
@@ -51,12 +51,12 @@ pub record IsUndoTo (u : Undo) (rows : List Attachment) (links : ℕ → List Li
   pub waits : AreAwaited (items_changed u.plan.changes) h
 
 -- ways back stay
-abbrev pub KeepsBacks : Held → Held → Type 0
+abbrev pub KeepsBacks : GraphInside → GraphInside → Type 0
 KeepsBacks old new =
     (u : Undo) (rows : List Attachment) (links : ℕ → List LinkSeen) → IsUndoTo u rows links old → IsUndoTo u rows links new
 
 -- so do those of which the items are waited for beside these
-abbrev pub KeepsOtherBacks : List Item → Held → Held → Type 0
+abbrev pub KeepsOtherBacks : List Item → GraphInside → GraphInside → Type 0
 KeepsOtherBacks items old new =
     (u : Undo) (rows : List Attachment) (links : ℕ → List LinkSeen) → AreAwaited (items ++ items_changed u.plan.changes) old
     → IsUndoTo u rows links old → IsUndoTo u rows links new

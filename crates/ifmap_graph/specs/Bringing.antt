@@ -11,7 +11,7 @@ use Rattle.ifmap_pool.specs.Holdings.{Holdings, IsHeld, Names}
 use Rattle.ifmap_view.specs.declared.views.LinkSeen.{LinkSeen}
 use Rattle.ifmap_graph.specs.declared.shelves.Shelves.{Shelves}
 use Rattle.ifmap_graph.specs.Drafted.{AreBare, ends_at}
-use Rattle.ifmap_graph.specs.Held.{IsInside}
+use Rattle.ifmap_graph.specs.Inside.{IsInside}
 use Rattle.ifmap_graph.specs.Named.{uses_of, uses_in}
 use Rattle.ifmap_graph.specs.Shelved.{slot_of_item, rows_on_side}
 use Rattle.ifmap_graph.specs.Sides.{Sides, list_next, list_now}
@@ -42,28 +42,28 @@ pub record BringsShelves (items : List Item) (old new : Shelves) : Type 0 where
   pub waits : (x : Item) → waits_on new x ≡ waits_on old x
   pub named : (a : Identifier) → uses_in new.places.entries a ≡ uses_by items a + uses_in old.places.entries a
 
--- the parts of a graph
-pub record Parts : Type 0 where
+-- the fields of a graph
+pub record GraphFields : Type 0 where
   pub names : Holdings Identifier
   pub shelves : Shelves
   pub links : List (Sides LinkSeen)
 
-abbrev pub graph_parts : Holdings Identifier → Shelves → List (Sides LinkSeen) → Parts
-graph_parts n s l = record { names = n; shelves = s; links = l }
+abbrev pub graph_fields : Holdings Identifier → Shelves → List (Sides LinkSeen) → GraphFields
+graph_fields n s l = record { names = n; shelves = s; links = l }
 
-abbrev pub AreInside : Parts → Type 0
+abbrev pub AreInside : GraphFields → Type 0
 AreInside p = IsInside p.names (get p.shelves.slots) p.shelves.places.entries p.links
 
 -- others than items hold an identifier so often
-abbrev pub HasOwn : Parts → Identifier → ℕ → Type 0
+abbrev pub HasOwn : GraphFields → Identifier → ℕ → Type 0
 HasOwn p a own = IsHeld identifier_order p.names a (uses_in p.shelves.places.entries a + own)
 
 -- and that is fewer than 2^32 times
-abbrev pub HaveFewOwn : Parts → Type 0
+abbrev pub HaveFewOwn : GraphFields → Type 0
 HaveFewOwn p = (a : Identifier) → (own : ℕ) × HasOwn p a own × (own < 2 ^ 32)
 
 -- there are numbers and room for more, and what is stored and drafted is as before
-pub record AreGrown (old new : Parts) : Type 0 where
+pub record AreGrown (old new : GraphFields) : Type 0 where
   pub inside : AreInside new
   pub now : rows_on_side list_now new.shelves ≡ rows_on_side list_now old.shelves
   pub next : rows_on_side list_next new.shelves ≡ rows_on_side list_next old.shelves

@@ -10,7 +10,7 @@ pub mod Counted
 pub mod Drafted
 pub mod Turning
 pub mod Waits
-pub mod Held
+pub mod Inside
 pub mod Bringing
 pub mod Touched
 pub mod Out

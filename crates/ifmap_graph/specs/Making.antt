@@ -8,7 +8,7 @@ use Rattle.ifmap_plans.specs.declared.plans.ItemChange.{ItemChange}
 use Rattle.ifmap_plans.specs.Plans.{IsAfter, Fits}
 use Rattle.ifmap_pool.specs.Holdings.{Names, Holdings}
 use Rattle.ifmap_view.specs.declared.views.LinkSeen.{LinkSeen}
-use Rattle.ifmap_graph.specs.Bringing.{AreInside, BringsShelves, HasOwn, IsOther, Parts}
+use Rattle.ifmap_graph.specs.Bringing.{AreInside, BringsShelves, GraphFields, HasOwn, IsOther}
 use Rattle.ifmap_graph.specs.Drafted.{AreBare, AreOut, DraftsWithin, ends_at}
 use Rattle.ifmap_graph.specs.Out.{items_changed}
 use Rattle.ifmap_graph.specs.Shelved.{AreShelved, slot_of_item, rows_on_side}
@@ -17,7 +17,7 @@ use Rattle.ifmap_graph.specs.Touched.{AreExactlyDrafted, KeepsLinks}
 use Rattle.ifmap_graph.specs.Turning.{sides_at}
 use Rattle.ifmap_graph.specs.Waits.{WaitsFor}
 use Rattle.slab.specs.Slab.{get}
-use Rattle.ifmap_graph.specs.Held.{IsInside}
+use Rattle.ifmap_graph.specs.Inside.{IsInside}
 use Rattle.ifmap_graph.specs.declared.shelves.Shelves.{Shelves}
 
 -- a change can be drafted: it fits, its items have shelves, and nothing has a draft
@@ -47,7 +47,7 @@ pub record HasAllDrafts (changes : List ItemChange) (old new : Shelves) (first l
   pub out : AreOut (items_changed changes) new
 
 -- a change is out, with these ways: its drafts stand, its items are waited for once more, and what is there stays
-pub record IsMade (changes : List ItemChange) (ways : List (ℕ × List LinkSeen)) (old new : Parts) : Type 0 where
+pub record IsMade (changes : List ItemChange) (ways : List (ℕ × List LinkSeen)) (old new : GraphFields) : Type 0 where
   pub inside : AreInside new
   pub rows : rows_on_side list_now new.shelves ≡ rows_on_side list_now old.shelves
   pub after : IsAfter changes (rows_on_side list_now old.shelves) (rows_on_side list_next new.shelves)
@@ -63,7 +63,7 @@ pub record IsMade (changes : List ItemChange) (ways : List (ℕ × List LinkSeen
   pub waits : WaitsFor (items_changed changes) old.shelves new.shelves
 
 -- nothing is out, and all is as before but for room
-pub record IsUnmade (old new : Parts) : Type 0 where
+pub record IsUnmade (old new : GraphFields) : Type 0 where
   pub inside : AreInside new
   pub bare : AreBare new.shelves
   pub none : (v : ℕ) → (sides_at new.links v).draft ≡ None

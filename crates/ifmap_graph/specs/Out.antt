@@ -10,7 +10,7 @@ use Rattle.ifmap_ident.specs.Items.{item_order, same_item}
 use Rattle.ifmap_plans.specs.declared.plans.ItemChange.{ItemChange}
 use Rattle.ifmap_graph.specs.declared.changes.Ready.{Ready}
 use Rattle.ifmap_graph.specs.declared.shelves.Shelf.{Shelf}
-use Rattle.ifmap_graph.specs.Held.{Held}
+use Rattle.ifmap_graph.specs.Inside.{GraphInside}
 use Rattle.ifmap_graph.specs.Turning.{AreDrafted, NoOthers}
 
 -- the items of changes
@@ -23,7 +23,7 @@ IsDrafted shelves x = (shelf : Shelf) × (lookup (is_at (item_order x)) shelves 
 
 -- the shelves of the change's items have drafts, and no others; so have the links of its numbers; and there is room for each list that
 -- gives way
-pub record IsOut (ready : Ready) (h : Held) : Type 0 where
+pub record IsOut (ready : Ready) (h : GraphInside) : Type 0 where
   pub drafted : AllByRecursion (IsDrafted h.shelves) (items_changed ready.plan.changes)
   pub within : (x : Item) → IsDrafted h.shelves x → (i : Item) × Has (items_changed ready.plan.changes) i × (item_order i x ≡ Equal)
   pub apart : IsDistinct same_item (items_changed ready.plan.changes)

@@ -7,9 +7,9 @@ ghost use Rattle.ifmap_ident.specs.Items.{IsCanonItem, same_item};
 ghost use Rattle.ifmap_pool.specs.Holdings.{IsPool};
 ghost use Rattle.ifmap_view.specs.declared.views.LinkSeen.{LinkSeen};
 ghost use Rattle.ifmap_graph.specs.declared.shelves.Shelves.{Shelves};
-ghost use Rattle.ifmap_graph.specs.Bringing.{AreGrown, AreInside, BringsShelves, HaveFewOwn, flagged_items, graph_parts};
+ghost use Rattle.ifmap_graph.specs.Bringing.{AreGrown, AreInside, BringsShelves, HaveFewOwn, flagged_items, graph_fields};
 ghost use Rattle.ifmap_graph.specs.Drafted.{AreBare};
-ghost use Rattle.ifmap_graph.specs.Held.{IsInside};
+ghost use Rattle.ifmap_graph.specs.Inside.{IsInside};
 ghost use Rattle.ifmap_graph.specs.Out.{items_changed};
 ghost use Rattle.ifmap_graph.specs.Releasing.{IsLess};
 ghost use Rattle.ifmap_graph.specs.Shelved.{AreShelved, HasEmptyShelf, slot_of_item, rows_on_side};
@@ -55,12 +55,12 @@ fn place_item(
     alloc: Global,
     item: &Item,
 ) -> Result<(), NoMemory>
-    requires inside { AreInside (graph_parts names.old shelves.old links.old.items) }
+    requires inside { AreInside (graph_fields names.old shelves.old links.old.items) }
     requires canon { IsCanonItem item.now }
     requires absent { slot_of_item shelves.old item.now ≡ None }
-    requires few { HaveFewOwn (graph_parts names.old shelves.old links.old.items) }
-    ensures grown { AreGrown (graph_parts names.old shelves.old links.old.items)
-        (graph_parts names.new shelves.new links.new.items) }
+    requires few { HaveFewOwn (graph_fields names.old shelves.old links.old.items) }
+    ensures grown { AreGrown (graph_fields names.old shelves.old links.old.items)
+        (graph_fields names.new shelves.new links.new.items) }
     ensures brought { OnOk result (BringsShelves (item.now ∷ []) shelves.old shelves.new) }
     ensures none { OnErr result (BringsShelves [] shelves.old shelves.new) }
 {
@@ -81,11 +81,11 @@ fn place_missing(
     alloc: Global,
     item: &Item,
 ) -> Result<bool, NoMemory>
-    requires inside { AreInside (graph_parts names.old shelves.old links.old.items) }
+    requires inside { AreInside (graph_fields names.old shelves.old links.old.items) }
     requires canon { IsCanonItem item.now }
-    requires few { HaveFewOwn (graph_parts names.old shelves.old links.old.items) }
-    ensures grown { AreGrown (graph_parts names.old shelves.old links.old.items)
-        (graph_parts names.new shelves.new links.new.items) }
+    requires few { HaveFewOwn (graph_fields names.old shelves.old links.old.items) }
+    ensures grown { AreGrown (graph_fields names.old shelves.old links.old.items)
+        (graph_fields names.new shelves.new links.new.items) }
     ensures brought { IfOk result
         (λ comes. BringsShelves (if comes then item.now ∷ [] else []) shelves.old shelves.new) }
     ensures none { OnErr result (BringsShelves [] shelves.old shelves.new) }
@@ -108,12 +108,12 @@ pub(crate) fn place_items(
     changes: &[ItemChange],
     fresh: &mut Vec<bool>,
 ) -> Result<(), NoMemory>
-    requires inside { AreInside (graph_parts names.old shelves.old links.old.items) }
+    requires inside { AreInside (graph_fields names.old shelves.old links.old.items) }
     requires canon { AllByRecursion IsCanonItem (items_changed changes.now) }
-    requires few { HaveFewOwn (graph_parts names.old shelves.old links.old.items) }
+    requires few { HaveFewOwn (graph_fields names.old shelves.old links.old.items) }
     requires none { fresh.old.items ≡ [] }
-    ensures grown { AreGrown (graph_parts names.old shelves.old links.old.items)
-        (graph_parts names.new shelves.new links.new.items) }
+    ensures grown { AreGrown (graph_fields names.old shelves.old links.old.items)
+        (graph_fields names.new shelves.new links.new.items) }
     ensures brought { BringsShelves
         (flagged_items (items_changed changes.now) fresh.new.items) shelves.old
         shelves.new }

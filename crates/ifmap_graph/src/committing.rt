@@ -1,7 +1,7 @@
 //! A change that is out is made. No call takes memory.
 ghost use Rattle.std.specs.Prelude.{◌≡◌, ℕ, [], map};
 ghost use Rattle.ifmap_view.specs.Rows.{stored_on};
-ghost use Rattle.ifmap_graph.specs.Held.{links_at};
+ghost use Rattle.ifmap_graph.specs.Inside.{links_at};
 ghost use Rattle.ifmap_graph.specs.Back.{IsUndoTo};
 ghost use Rattle.ifmap_graph.specs.Out.{IsOut, items_changed};
 ghost use Rattle.ifmap_graph.specs.Seen.{AreAwaited, AwaitsMore, IsStill, KeepsOwn, StaysLean, links_now, rows_now};

@@ -1,7 +1,7 @@
 //! A graph as it is after the plan that is out.
 ghost use Rattle.std.specs.Prelude.{◌≡◌};
 ghost use Rattle.ifmap_pool.specs.Holdings.{key_at};
-ghost use Rattle.ifmap_graph.specs.Held.{links_at};
+ghost use Rattle.ifmap_graph.specs.Inside.{links_at};
 ghost use Rattle.ifmap_graph.specs.Seen.{links_next, rows_next};
 ghost use Rattle.ifmap_graph.specs.Shelved.{list_at, rows_by};
 ghost use Rattle.ifmap_graph.specs.Sides.{list_next};
@@ -25,11 +25,11 @@ impl<'a> Model for Draft<'a> {
     ghost use Rattle.ifmap_ident.specs.contracts.items.Item as the_item;
     ghost use Rattle.ifmap_view.specs.contracts.views.LinkSeen as the_link;
     ghost use Rattle.ifmap_graph.specs.contracts.shelves.Shelf as the_shelf;
-    ghost use Rattle.ifmap_graph.specs.Held.{Held, held_code};
+    ghost use Rattle.ifmap_graph.specs.Inside.{GraphInside, inside_code};
 
-    ghost Value = { Held };
+    ghost Value = { GraphInside };
 
-    ghost coded = { held_code the_item.the_row.coded the_shelf.the_row.coded
+    ghost coded = { inside_code the_item.the_row.coded the_shelf.the_row.coded
         the_identifier.the_row.coded the_link.the_row.coded };
 
     ghost view = { λ d. d.graph.now };

@@ -4,7 +4,7 @@ ghost use Rattle.ifmap_ident.specs.declared.identifiers.Identifier.{Identifier};
 ghost use Rattle.ifmap_ident.specs.Identifiers.{identifier_bytes, identifier_order};
 ghost use Rattle.ifmap_pool.specs.Holdings.{IsPool, Names, key_at};
 ghost use Rattle.ifmap_graph.specs.Counted.{AreSoMany, count_links};
-ghost use Rattle.ifmap_graph.specs.Held.{IsOwn, links_at};
+ghost use Rattle.ifmap_graph.specs.Inside.{IsOwn, links_at};
 ghost use Rattle.ifmap_graph.specs.Seen.{AreUsed, HasPoolNumber, IsLean, IsStill, links_next, links_now, rows_next, rows_now};
 ghost use Rattle.ifmap_graph.specs.Shelved.{list_at, rows_by};
 ghost use Rattle.ifmap_graph.specs.Sides.{list_next, list_now};
@@ -40,11 +40,11 @@ impl Model for Graph {
     ghost use Rattle.ifmap_ident.specs.contracts.items.Item as the_item;
     ghost use Rattle.ifmap_view.specs.contracts.views.LinkSeen as the_link;
     ghost use Rattle.ifmap_graph.specs.contracts.shelves.Shelf as the_shelf;
-    ghost use Rattle.ifmap_graph.specs.Held.{Held, IsInside, held_code, shown_shelves};
+    ghost use Rattle.ifmap_graph.specs.Inside.{GraphInside, IsInside, inside_code, shown_shelves};
 
-    ghost Value = { Held };
+    ghost Value = { GraphInside };
 
-    ghost coded = { held_code the_item.the_row.coded the_shelf.the_row.coded
+    ghost coded = { inside_code the_item.the_row.coded the_shelf.the_row.coded
         the_identifier.the_row.coded the_link.the_row.coded };
 
     ghost view = { λ g. record {

@@ -10,7 +10,7 @@ ghost use Rattle.ifmap_pool.specs.Holdings.{IsHeld, Names, holds_at};
 ghost use Rattle.ifmap_view.specs.declared.views.LinkSeen.{LinkSeen};
 ghost use Rattle.ifmap_graph.specs.Bringing.{BringsShelves};
 ghost use Rattle.ifmap_graph.specs.Drafted.{AreBare};
-ghost use Rattle.ifmap_graph.specs.Held.{IsInside};
+ghost use Rattle.ifmap_graph.specs.Inside.{IsInside};
 ghost use Rattle.ifmap_graph.specs.Named.{uses_of, uses_in};
 ghost use Rattle.ifmap_graph.specs.Shelved.{HasEmptyShelf, StoredSide, slot_of_item, rows_on_side};
 ghost use Rattle.ifmap_graph.specs.Sides.{Sides, list_next, list_now};

@@ -4,7 +4,7 @@ ghost use Rattle.slab.specs.Slab.{get};
 ghost use Rattle.ifmap_ident.specs.declared.items.Item.{Item};
 ghost use Rattle.ifmap_view.specs.declared.views.LinkSeen.{LinkSeen};
 ghost use Rattle.ifmap_graph.specs.Drafted.{AreBare};
-ghost use Rattle.ifmap_graph.specs.Held.{IsInside};
+ghost use Rattle.ifmap_graph.specs.Inside.{IsInside};
 ghost use Rattle.ifmap_graph.specs.Out.{items_changed};
 ghost use Rattle.ifmap_graph.specs.Releasing.{AreFilled, IsLess};
 ghost use Rattle.ifmap_graph.specs.Sides.{Sides};

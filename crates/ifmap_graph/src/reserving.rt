@@ -4,7 +4,7 @@ ghost use Rattle.std.specs.List.{AllByRecursion};
 ghost use Rattle.ifmap_plans.specs.Plans.{Fits, IsAfter};
 ghost use Rattle.ifmap_graph.specs.declared.shelves.Shelves.{Shelves};
 ghost use Rattle.ifmap_graph.specs.Back.{KeepsBacks, KeepsOtherBacks};
-ghost use Rattle.ifmap_graph.specs.Bringing.{AreGrown, AreInside, BringsShelves, HaveFewOwn, Parts, flagged_items, graph_parts};
+ghost use Rattle.ifmap_graph.specs.Bringing.{AreGrown, AreInside, BringsShelves, GraphFields, HaveFewOwn, flagged_items, graph_fields};
 ghost use Rattle.ifmap_graph.specs.Drafted.{AreBare};
 ghost use Rattle.ifmap_graph.specs.Making.{IsMade, IsUnmade};
 ghost use Rattle.ifmap_graph.specs.Out.{IsOut, items_changed};
@@ -58,7 +58,7 @@ fn draft_or_take(
     coming: &Coming<'_>,
     ways: &mut Vec<Way<LinkSeen>>,
 ) -> Result<(), NoMemory>
-    requires inside { AreInside (graph_parts names.old shelves.old links.old.items) }
+    requires inside { AreInside (graph_fields names.old shelves.old links.old.items) }
     requires bare { AreBare shelves.old }
     requires none { (v : ℕ) → (sides_at links.old.items v).draft ≡ None }
     requires ready { AreExactlyDrafted ways.old.items links.old.items }
@@ -70,17 +70,17 @@ fn draft_or_take(
         × (rows_on_side list_now first ≡ rows_on_side list_now shelves.old)
         × BringsShelves (flagged_items (items_changed coming.now.changes.now) coming.now.fresh.now)
         first shelves.old }
-    ensures made { OnOk result ((first : Parts)
-        → AreGrown first (graph_parts names.old shelves.old links.old.items)
+    ensures made { OnOk result ((first : GraphFields)
+        → AreGrown first (graph_fields names.old shelves.old links.old.items)
         → BringsShelves (flagged_items (items_changed coming.now.changes.now) coming.now.fresh.now)
         first.shelves shelves.old
         → IsMade coming.now.changes.now ways.new.items first
-        (graph_parts names.new shelves.new links.new.items)) }
-    ensures unmade { OnErr result ((first : Parts) → AreInside first
-        → AreGrown first (graph_parts names.old shelves.old links.old.items)
+        (graph_fields names.new shelves.new links.new.items)) }
+    ensures unmade { OnErr result ((first : GraphFields) → AreInside first
+        → AreGrown first (graph_fields names.old shelves.old links.old.items)
         → BringsShelves (flagged_items (items_changed coming.now.changes.now) coming.now.fresh.now)
         first.shelves shelves.old
-        → IsUnmade first (graph_parts names.new shelves.new links.new.items)) }
+        → IsUnmade first (graph_fields names.new shelves.new links.new.items)) }
 {
     match draft_and_wait(shelves, links, alloc, coming.changes, ways) {
         Ok(()) => Ok(()),
@@ -101,17 +101,17 @@ fn make_ready(
     changes: &[ItemChange],
     ways: &mut Vec<Way<LinkSeen>>,
 ) -> Result<(), NoMemory>
-    requires inside { AreInside (graph_parts names.old shelves.old links.old.items) }
+    requires inside { AreInside (graph_fields names.old shelves.old links.old.items) }
     requires bare { AreBare shelves.old }
     requires none { (v : ℕ) → (sides_at links.old.items v).draft ≡ None }
-    requires few { HaveFewOwn (graph_parts names.old shelves.old links.old.items) }
+    requires few { HaveFewOwn (graph_fields names.old shelves.old links.old.items) }
     requires fits { Fits (rows_on_side list_now shelves.old) changes.now }
     requires empty { ways.old.items ≡ [] }
     ensures made { OnOk result (IsMade changes.now ways.new.items
-        (graph_parts names.old shelves.old links.old.items)
-        (graph_parts names.new shelves.new links.new.items)) }
-    ensures unmade { OnErr result (IsUnmade (graph_parts names.old shelves.old links.old.items)
-        (graph_parts names.new shelves.new links.new.items)) }
+        (graph_fields names.old shelves.old links.old.items)
+        (graph_fields names.new shelves.new links.new.items)) }
+    ensures unmade { OnErr result (IsUnmade (graph_fields names.old shelves.old links.old.items)
+        (graph_fields names.new shelves.new links.new.items)) }
 {
     let mut fresh = Vec::new(alloc);
     match place_items(names, shelves, links, alloc, changes, &mut fresh) {

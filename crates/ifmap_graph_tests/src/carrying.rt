@@ -46,12 +46,12 @@ impl Model for Carried {
     ghost use Rattle.ifmap_ident.specs.contracts.items.Item as the_item;
     ghost use Rattle.ifmap_view.specs.contracts.views.LinkSeen as the_link;
     ghost use Rattle.ifmap_graph.specs.contracts.shelves.Shelf as the_shelf;
-    ghost use Rattle.ifmap_graph.specs.Held.{Held, held_code};
+    ghost use Rattle.ifmap_graph.specs.Inside.{GraphInside, inside_code};
     ghost use Rattle.ifmap_graph_tests.specs.Steady.{IsStillWhole};
 
-    ghost Value = { Held };
+    ghost Value = { GraphInside };
 
-    ghost coded = { held_code the_item.the_row.coded the_shelf.the_row.coded
+    ghost coded = { inside_code the_item.the_row.coded the_shelf.the_row.coded
         the_identifier.the_row.coded the_link.the_row.coded };
 
     ghost view = { λ c. c.graph };

@@ -11,7 +11,7 @@ use Rattle.ifmap_changes.specs.ifmap_machine.State as machine
 use Rattle.ifmap_changes.specs.Between.{AreOrdered, Asking, IsSoundSoFar, IsSteady, SharesNumbers, sessions_left, sight_now, starts_of, HasStartNumber, IsSeen}
 use Rattle.ifmap_changes.specs.declared.parts.Parts.{Parts}
 use Rattle.ifmap_changes.specs.ifmap_delta.Sights.{IsUpToDate, SameLinks}
-use Rattle.ifmap_changes.specs.ifmap_graph.Held.{Held}
+use Rattle.ifmap_changes.specs.ifmap_graph.Inside.{GraphInside}
 use Rattle.ifmap_changes.specs.ifmap_graph.Seen.{HasFewOwn, KeepsNumbers, links_now, rows_now}
 use Rattle.ifmap_lemmas.specs.Members.{all_both, both_all, map_of_all}
 use Rattle.ifmap_changes.specs.ifmap_machine.Subscribing.{Told}
@@ -63,13 +63,13 @@ can_on scene old new r h ready live readied = record {
   readied = subst (λ t. AreReadied scene.serial t new r) (sym (told_same scene old new h.sessions h.standing)) readied;
 }
 
-pub numbered_on : (old new : Held) → KeepsNumbers old new → (xs : List Standing) → AllByRecursion (HasStartNumber old) xs
+pub numbered_on : (old new : GraphInside) → KeepsNumbers old new → (xs : List Standing) → AllByRecursion (HasStartNumber old) xs
     → AllByRecursion (HasStartNumber new) xs
 numbered_on old new k [] h = tt
 numbered_on old new k (x ∷ xs) h =
     (k x.subscription.region.start x.subscription.search.start h.0, numbered_on old new k xs h.1)
 
-module _ (law : SameLinks) (old new : Held) (seen_old : IsSeen old) (seen_new : IsSeen new) (rows : rows_now new ≡ rows_now old)
+module _ (law : SameLinks) (old new : GraphInside) (seen_old : IsSeen old) (seen_new : IsSeen new) (rows : rows_now new ≡ rows_now old)
     (links : (v : ℕ) → links_now new v ≡ links_now old v) (numbers : SharesNumbers old new) where
   kept_one : (x : Standing) → HasStartNumber new x → IsUpToDate (sight_now old) x.subscription → IsUpToDate (sight_now new) x.subscription
   kept_one x e k = law (sight_now old) (sight_now new) x.subscription seen_old seen_new rows links numbers e k
@@ -85,7 +85,7 @@ module _ (law : SameLinks) (old new : Held) (seen_old : IsSeen old) (seen_new : 
   kept_each gone xs n k i x at here = kept_one x (all_got (HasStartNumber new) xs i x n at) (k i x at here)
 
 -- parts stay ready
-ready_of : (a : Asking) (old : Parts) (pending : Pending) (g : Held) → IsSoundSoFar a old pending
+ready_of : (a : Asking) (old : Parts) (pending : Pending) (g : GraphInside) → IsSoundSoFar a old pending
     → AllKept (λ x. IsUpToDate (sight_now g) x.subscription) pending.gone.items old.standing.items
     → IsSoundSoFar a (record old { graph = g }) pending
 ready_of a old pending g r k = record {
@@ -102,8 +102,8 @@ ready_of a old pending g r k = record {
 }
 
 -- what is to stand can still, in a graph in which more is held, and one renaming more can
-module _ (law : SameLinks) (serial : ℕ) (old : Parts) (g : Held) (made : List Renaming) (seen_old : IsSeen old.graph) (seen_new : IsSeen g)
-    (h : GraphHolds old.graph g) (c : CanStand serial old made) where
+module _ (law : SameLinks) (serial : ℕ) (old : Parts) (g : GraphInside) (made : List Renaming) (seen_old : IsSeen old.graph)
+    (seen_new : IsSeen g) (h : GraphHolds old.graph g) (c : CanStand serial old made) where
   numbered_all : AllByRecursion (HasStartNumber g) (old.standing.items ++ starts_by made)
   numbered_all = numbered_on old.graph g h.numbers (old.standing.items ++ starts_by made) c.steady.numbered
 
@@ -135,13 +135,13 @@ module _ (law : SameLinks) (serial : ℕ) (old : Parts) (g : Held) (made : List 
       pending.gone.items old.standing.items (all_both (HasStartNumber g) old.standing.items (starts_by made) numbered_all).0 r.kept)
 
 -- where starts are let go of, what is numbered still is kept still
-pub ready_after : (a : Asking) (old : Parts) (pending : Pending) (g : Held) → IsSoundSoFar a old pending → KeepsNumbered old.graph g
+pub ready_after : (a : Asking) (old : Parts) (pending : Pending) (g : GraphInside) → IsSoundSoFar a old pending → KeepsNumbered old.graph g
     → AllByRecursion (HasStartNumber g) old.standing.items → IsSoundSoFar a (record old { graph = g }) pending
 ready_after a old pending g r k n =
     ready_of a old pending g r (λ i x at here. k x.subscription (all_got (HasStartNumber g) old.standing.items i x n at)
     (r.kept i x at here))
 
-pub few_own : (h : Held) (live : List Session) (standing : List Standing) (made : List Renaming) → AreOrdered live standing
+pub few_own : (h : GraphInside) (live : List Session) (standing : List Standing) (made : List Renaming) → AreOrdered live standing
     → length live ≤ 10000 → length made ≤ most_ops → IsSteady h (standing ++ starts_by made) → HasFewOwn h
 few_own h live standing made ordered few most steady = λ a.
     let owned = map_of_all (λ (x : machine.Standing). IsLive x.serial live) standing_of standing ordered.live in

@@ -7,7 +7,7 @@ use Rattle.std.proofs.lemmas.Option.{same_Some}
 use Rattle.std.specs.List.{AllByRecursion, remove}
 use Rattle.std.specs.Option.{option_map}
 use Rattle.ifmap_changes.specs.Between.{IsSteady, sight_now, starts_of, HasStartNumber}
-use Rattle.ifmap_changes.specs.ifmap_graph.Held.{Held, IsOwn, links_at}
+use Rattle.ifmap_changes.specs.ifmap_graph.Inside.{GraphInside, IsOwn, links_at}
 use Rattle.ifmap_changes.specs.ifmap_graph.Named.{uses_in}
 use Rattle.ifmap_changes.specs.ifmap_delta.Sights.{IsUpToDate}
 use Rattle.ifmap_changes.specs.ifmap_graph.Seen.{IsStill, links_now, rows_now}
@@ -30,7 +30,7 @@ use Rattle.ifmap_changes.specs.StartLaws.{starts_cons, starts_append}
 
 -- ---- some move to the front, or back
 
-module _ (h : Held) (front xs back : List Standing) where
+module _ (h : GraphInside) (front xs back : List Standing) where
   same_starts : (a : Identifier) → starts_of a (xs ++ (front ++ back)) ≡ starts_of a (front ++ (xs ++ back))
   same_starts a =
       let one = starts_append a front (xs ++ back) in
@@ -75,7 +75,7 @@ each_counts (x ∷ xs) = (
 
 -- ---- one is let go of
 
-module _ (old new : Held) (x : Standing)
+module _ (old new : GraphInside) (x : Standing)
     (tells : (one other : Identifier) → IsIdentifier one → IsIdentifier other → identifier_bytes one ≡ identifier_bytes other → one ≡ other)
     (view : IsView (rows_now old) (key_at old.names) (links_now old)) where
   -- the number that has an identifier is the one that is held
@@ -131,7 +131,7 @@ module _ (old new : Held) (x : Standing)
         each (y ∷ ys) f p q = (f y p.0 q.0, each ys f p.1 q.1)
 
 -- what `Graph::release` asks for
-pub can_release : (h : Held) (x : Standing) (more : List Standing) → IsSteady h (x ∷ more)
+pub can_release : (h : GraphInside) (x : Standing) (more : List Standing) → IsSteady h (x ∷ more)
     → (a : Identifier) × (own : ℕ) × (key_at h.names x.subscription.region.start ≡ Some a) × IsOwn h a own × (0 < own)
 can_release h x more s =
     let counted = (each_counts (x ∷ more)).0 in (
@@ -144,15 +144,15 @@ can_release h x more s =
 
 -- ---- a graph of which only a number went
 
-pub rows_same : (old new : Held) → new.shelves ≡ old.shelves → rows_now new ≡ rows_now old
+pub rows_same : (old new : GraphInside) → new.shelves ≡ old.shelves → rows_now new ≡ rows_now old
 rows_same old new e = ap (λ s. rows_by (list_at list_now) s) e
 
-pub links_same : (old new : Held) → new.links ≡ old.links → (v : ℕ) → links_now new v ≡ links_now old v
+pub links_same : (old new : GraphInside) → new.links ≡ old.links → (v : ℕ) → links_now new v ≡ links_now old v
 links_same old new e v = ap (λ l. links_at list_now l v) e
 
 -- ---- several numbers went, one after the other
 
-pub released_none : (h : Held) → LetsNumbersGo h h
+pub released_none : (h : GraphInside) → LetsNumbersGo h h
 released_none h = record {
   rows = refl;
   links = λ v. refl;
@@ -163,7 +163,7 @@ released_none h = record {
   kept = λ sub e k. k;
 }
 
-pub released_both : (old mid new : Held) → LetsNumbersGo old mid → LetsNumbersGo mid new → LetsNumbersGo old new
+pub released_both : (old mid new : GraphInside) → LetsNumbersGo old mid → LetsNumbersGo mid new → LetsNumbersGo old new
 released_both old mid new a b = record {
   rows = b.rows ∙ a.rows;
   links = λ v. b.links v ∙ a.links v;
@@ -175,17 +175,17 @@ released_both old mid new a b = record {
 }
 
 -- what some have of the starts of these renamings, once the first are let go of
-pub record ReleasesOn (all : List Renaming) (old now : Held) (rest : List Renaming) : Type 0 where
+pub record ReleasesOn (all : List Renaming) (old now : GraphInside) (rest : List Renaming) : Type 0 where
   pub steady : (standing : List Standing) → IsSteady old (standing ++ starts_by all) → IsSteady now (standing ++ starts_by rest)
   pub released : LetsNumbersGo old now
 
-pub releases_none : (all rest : List Renaming) (old : Held) → rest ≡ all → ReleasesOn all old old rest
+pub releases_none : (all rest : List Renaming) (old : GraphInside) → rest ≡ all → ReleasesOn all old old rest
 releases_none all rest old is = record {
   steady = λ standing s. subst (λ rs. IsSteady old (standing ++ starts_by rs)) (sym is) s;
   released = released_none old;
 }
 
-module _ (all : List Renaming) (old now : Held) (left : List Renaming) (r : Renaming) (rest : List Renaming)
+module _ (all : List Renaming) (old now : GraphInside) (left : List Renaming) (r : Renaming) (rest : List Renaming)
     (so : ReleasesOn all old now left) (cut : left ≡ r ∷ rest) where
   next_steady : (standing : List Standing) → IsSteady old (standing ++ starts_by all)
       → IsSteady now (option_to_list r.standing ++ (standing ++ starts_by rest))
@@ -197,14 +197,14 @@ module _ (all : List Renaming) (old now : Held) (left : List Renaming) (r : Rena
       → (more : List Standing) × IsSteady now (option_to_list r.standing ++ more)
   can_go_on some = (some.0 ++ starts_by rest, next_steady some.0 some.1)
 
-  pub releases_more : (new : Held) → ((more : List Standing) → IsSteady now (option_to_list r.standing ++ more) → IsSteady new more)
+  pub releases_more : (new : GraphInside) → ((more : List Standing) → IsSteady now (option_to_list r.standing ++ more) → IsSteady new more)
       → LetsNumbersGo now new → ReleasesOn all old new rest
   releases_more new steady released = record {
     steady = λ standing s. steady (standing ++ starts_by rest) (next_steady standing s);
     released = released_both old now new so.released released;
   }
 
-pub releases_all : (all : List Renaming) (old now : Held) (rest : List Renaming) → ReleasesOn all old now rest → rest ≡ []
+pub releases_all : (all : List Renaming) (old now : GraphInside) (rest : List Renaming) → ReleasesOn all old now rest → rest ≡ []
     → (standing : List Standing) → IsSteady old (standing ++ starts_by all) → IsSteady now standing
 releases_all all old now rest so none standing s =
     let there : IsSteady now (standing ++ []) = subst (λ rs. IsSteady now (standing ++ starts_by rs)) none (so.steady standing s) in
@@ -213,7 +213,7 @@ releases_all all old now rest so none standing s =
 -- ---- what is kept
 
 -- what was kept is kept, where it is numbered still
-pub kept_still : (old new : Held) (xs : List Standing) → KeepsNumbered old new
+pub kept_still : (old new : GraphInside) (xs : List Standing) → KeepsNumbered old new
     → AllByRecursion (HasStartNumber new) xs → AllByRecursion (λ x. IsUpToDate (sight_now old) x.subscription) xs
     → AllByRecursion (λ x. IsUpToDate (sight_now new) x.subscription) xs
 kept_still old new [] keeps numbered kept = tt
@@ -221,8 +221,8 @@ kept_still old new (x ∷ xs) keeps numbered kept =
     (keeps x.subscription numbered.0 kept.0, kept_still old new xs keeps numbered.1 kept.1)
 
 -- one of several goes, or one more stands among them
-pub steady_without : (h : Held) (xs : List Standing) (i : ℕ) (x : Standing) (more : List Standing) → xs ≡ take i xs ++ x ∷ drop (suc i) xs
-    → IsSteady h (xs ++ more) → IsSteady h (x ∷ (remove xs i ++ more))
+pub steady_without : (h : GraphInside) (xs : List Standing) (i : ℕ) (x : Standing) (more : List Standing)
+    → xs ≡ take i xs ++ x ∷ drop (suc i) xs → IsSteady h (xs ++ more) → IsSteady h (x ∷ (remove xs i ++ more))
 steady_without h xs i x more cut s =
     let front = take i xs in
     let back = drop (suc i) xs in
@@ -230,7 +230,7 @@ steady_without h xs i x more cut s =
     subst (λ t. IsSteady h (x ∷ t)) (sym (append_assoc front back more))
     (steady_front h front (x ∷ []) (back ++ more) (subst (IsSteady h) cut_long s))
 
-pub steady_among : (h : Held) (begun : Option Standing) (old new more : List Standing) → StandsAmong begun old new
+pub steady_among : (h : GraphInside) (begun : Option Standing) (old new more : List Standing) → StandsAmong begun old new
     → IsSteady h (old ++ (option_to_list begun ++ more)) → IsSteady h (new ++ more)
 steady_among h begun old new more among s =
     let front = among.0 in

@@ -3,7 +3,7 @@
 use Rattle.std.proofs.Common.{◌≡◌, ◌∙◌, ◌<◌, ap, inr, refl, sym, subst, ℕ, suc, ◌+◌, add-one, List, ◌∷◌, drop, drop-cons, length, get_or}
 use Rattle.ifmap_changes.specs.Between.{IsSeen, sight_now}
 use Rattle.ifmap_changes.specs.ifmap_fresh.Linking.{IsReachedAt}
-use Rattle.ifmap_changes.specs.ifmap_graph.Held.{Held}
+use Rattle.ifmap_changes.specs.ifmap_graph.Inside.{GraphInside}
 use Rattle.ifmap_changes.specs.ifmap_graph.Seen.{links_now, rows_now}
 use Rattle.ifmap_changes.specs.ifmap_pool.Holdings.{key_at}
 use Rattle.ifmap_changes.specs.ifmap_region.Bounds.{IsWithin}
@@ -13,7 +13,7 @@ use Rattle.ifmap_subscribes.specs.Bounds.{AreOpsWithin, IsOpWithin, IsWithinSpan
 use Rattle.ifmap_changes.specs.ifmap_view.declared.attachments.Attachment.{Attachment}
 
 -- a search that is the same as another, on a graph
-pub spanned : (h : Held) (times : ℕ) (s asked : Search) (before after : ℕ) → IsSeen h → s ≡ asked
+pub spanned : (h : GraphInside) (times : ℕ) (s asked : Search) (before after : ℕ) → IsSeen h → s ≡ asked
     → IsWithin (λ v. length (links_now h v)) (IsReachedAt (rows_now h) (key_at h.names) s) times before after
     → IsWithinSpan times (rows_now h) asked before after
 spanned h times s asked before after seen is w =

@@ -7,7 +7,7 @@ use Rattle.std.specs.List.{AllByRecursion}
 use Rattle.ifmap_changes.specs.Between.{IsSteady, sight_now, starts_of, HasStartNumber}
 use Rattle.ifmap_changes.specs.ifmap_delta.Sights.{IsUpToDate}
 use Rattle.ifmap_changes.specs.ifmap_graph.Back.{KeepsBacks}
-use Rattle.ifmap_changes.specs.ifmap_graph.Held.{Held, IsOwn}
+use Rattle.ifmap_changes.specs.ifmap_graph.Inside.{GraphInside, IsOwn}
 use Rattle.ifmap_changes.specs.ifmap_graph.Named.{uses_in}
 use Rattle.ifmap_changes.specs.ifmap_graph.Seen.{AwaitsMore, IsStill, KeepsNumbers, StaysLean, links_now, rows_now}
 use Rattle.ifmap_changes.specs.ifmap_graph.Shelved.{list_at, rows_by}
@@ -38,7 +38,7 @@ starts_more a standing x = sum_by_push (λ y. once identifier_order y.subscripti
 
 -- ---- a number is held
 
-pub held_steady : (old new : Held) (standing : List Standing) (v : ℕ) (start : Identifier) → IsSteady old standing
+pub held_steady : (old new : GraphInside) (standing : List Standing) (v : ℕ) (start : Identifier) → IsSteady old standing
     → new.shelves ≡ old.shelves → (IsStill old → IsStill new) → KeepsNumbers old new
     → ((a : Identifier) (own : ℕ) → IsOwn old a own → IsOwn new a (own + once identifier_order start a))
     → key_at new.names v ≡ Some start → IsHolding new standing v start
@@ -53,13 +53,13 @@ held_steady old new standing v start was shelves still kept own named = record {
 }
 
 -- where memory runs out
-own_alike : (old new : Held) (a : Identifier) (own : ℕ) → new.shelves ≡ old.shelves → new.names.live ≡ old.names.live → IsOwn old a own
-    → IsOwn new a own
+own_alike : (old new : GraphInside) (a : Identifier) (own : ℕ) → new.shelves ≡ old.shelves → new.names.live ≡ old.names.live
+    → IsOwn old a own → IsOwn new a own
 own_alike old new a own shelves live held =
     subst (λ s. IsHeld identifier_order new.names a (uses_in s a + own)) (sym shelves)
     (subst (λ l. IsHeld identifier_order (record new.names { live = l }) a (uses_in old.shelves a + own)) (sym live) held)
 
-pub unheld_steady : (old new : Held) (standing : List Standing) → IsSteady old standing → new.shelves ≡ old.shelves
+pub unheld_steady : (old new : GraphInside) (standing : List Standing) → IsSteady old standing → new.shelves ≡ old.shelves
     → (IsStill old → IsStill new) → KeepsNumbers old new → new.names.live ≡ old.names.live → IsSteady new standing
 unheld_steady old new standing was shelves still kept live = record {
   still = still was.still;
@@ -71,7 +71,7 @@ unheld_steady old new standing was shelves still kept live = record {
 }
 
 -- what is held can be let go of
-pub held_out : (h : Held) (standing : List Standing) (v : ℕ) (start : Identifier) → IsHolding h standing v start
+pub held_out : (h : GraphInside) (standing : List Standing) (v : ℕ) (start : Identifier) → IsHolding h standing v start
     → (a : Identifier) × (own : ℕ) × (key_at h.names v ≡ Some a) × IsOwn h a own × (0 < own)
 held_out h standing v start was = (
   start,
@@ -83,7 +83,7 @@ held_out h standing v start was = (
 
 -- ---- a subscription stands with it
 
-pub stands_steady : (h : Held) (standing : List Standing) (v : ℕ) (start : Identifier) (x : Standing) → IsHolding h standing v start
+pub stands_steady : (h : GraphInside) (standing : List Standing) (v : ℕ) (start : Identifier) (x : Standing) → IsHolding h standing v start
     → x.subscription.search.start ≡ start → x.subscription.region.start ≡ v → IsSteady h (standing ++ x ∷ [])
 stands_steady h standing v start x was starts at = record {
   still = was.still;
@@ -95,7 +95,7 @@ stands_steady h standing v start x was starts at = record {
 
 -- ---- or it is let go of
 
-module _ (h : Held) (standing : List Standing) (v : ℕ) (start : Identifier) (was : IsHolding h standing v start)
+module _ (h : GraphInside) (standing : List Standing) (v : ℕ) (start : Identifier) (was : IsHolding h standing v start)
     (view : IsView (rows_now h) (key_at h.names) (links_now h)) (tells : BytesTellIdentifiers) where
   -- the identifier that it has is held by a subscription too, where one starts there
   twice : (x : Standing) → Has standing x → HasStartNumber h x → x.subscription.region.start ≡ v → 1 < holds_at h.names v
@@ -123,7 +123,7 @@ module _ (h : Held) (standing : List Standing) (v : ℕ) (start : Identifier) (w
             absurd (omega (arith, count, me))
       ]
 
-  pub let_go_steady : (new : Held) → new.shelves ≡ h.shelves → (IsStill h → IsStill new)
+  pub let_go_steady : (new : GraphInside) → new.shelves ≡ h.shelves → (IsStill h → IsStill new)
       → ((a other : Identifier) (own : ℕ) → key_at h.names v ≡ Some a → IsOwn h other own
       → IsOwn new other (own - once identifier_order a other))
       → ((w : ℕ) → (w ≡ v → 1 < holds_at h.names w) → key_at new.names w ≡ key_at h.names w) → IsSteady new standing
@@ -138,7 +138,7 @@ module _ (h : Held) (standing : List Standing) (v : ℕ) (start : Identifier) (w
   }
 
 -- a subscription that is to stand has the number, or there is none and the number is let go of
-pub ends_steady : (mid new : Held) (standing : List Standing) (v : ℕ) (search : Search) (o : Option Standing)
+pub ends_steady : (mid new : GraphInside) (standing : List Standing) (v : ℕ) (search : Search) (o : Option Standing)
     → IsHolding mid standing v search.start → (o ≡ None → IsSteady new standing) → IfSome o (λ x. new ≡ mid)
     → AllByRecursion (λ x. (x.subscription.search ≡ search) × (x.subscription.region.start ≡ v) × IsUpToDate (sight_now mid) x.subscription)
     (option_to_list o) → IsSteady new (standing ++ option_to_list o)
@@ -150,7 +150,7 @@ ends_steady mid new standing v search (Some x) held unused used begun =
 
 -- ---- nothing else that is seen changes
 
-pub held_alone : (old new : Held) → new.shelves ≡ old.shelves → ((v : ℕ) → sides_at new.links v ≡ sides_at old.links v)
+pub held_alone : (old new : GraphInside) → new.shelves ≡ old.shelves → ((v : ℕ) → sides_at new.links v ≡ sides_at old.links v)
     → KeepsNumbers old new → KeepsBacks old new → AwaitsMore [] old new → StaysLean old new → GraphHolds old new
 held_alone old new shelves links numbers backs waits lean = record {
   rows = ap (rows_by (list_at list_now)) shelves;
@@ -162,7 +162,7 @@ held_alone old new shelves links numbers backs waits lean = record {
 }
 
 -- held and let go of again, a number stays where it was there before
-pub held_and_let_go : (old mid new : Held) (v : ℕ) → GraphHolds old mid → IsReleased mid new
+pub held_and_let_go : (old mid new : GraphInside) (v : ℕ) → GraphHolds old mid → IsReleased mid new
     → (IsSome (key_at old.names v) → 1 < holds_at mid.names v)
     → ((w : ℕ) → (w ≡ v → 1 < holds_at mid.names w) → key_at new.names w ≡ key_at mid.names w) → GraphHolds old new
 held_and_let_go old mid new v held gone again stays = record {

@@ -9,7 +9,7 @@ use Rattle.ifmap_changes.specs.Between.{Asking, IsSoundSoFar, IsSteady, SharesNu
 use Rattle.ifmap_changes.specs.declared.parts.Parts.{Parts}
 use Rattle.ifmap_changes.specs.ifmap_delta.Sights.{IsUpToDate}
 use Rattle.ifmap_changes.specs.ifmap_graph.Back.{KeepsBacks}
-use Rattle.ifmap_changes.specs.ifmap_graph.Held.{Held, IsOwn}
+use Rattle.ifmap_changes.specs.ifmap_graph.Inside.{GraphInside, IsOwn}
 use Rattle.ifmap_changes.specs.ifmap_graph.Seen.{AwaitsMore, BringsNoNumbers, IsStill, KeepsNumbers, StaysLean, links_now, rows_now}
 use Rattle.ifmap_ident.specs.declared.identifiers.Identifier.{Identifier}
 use Rattle.ifmap_ident.specs.Identifiers.{identifier_order}
@@ -115,7 +115,7 @@ pub record IsGivenUp (old new : Parts) : Type 0 where
   pub standing : new.standing ≡ old.standing
 
 -- the same of a graph alone
-pub record GraphHolds (old new : Held) : Type 0 where
+pub record GraphHolds (old new : GraphInside) : Type 0 where
   pub rows : rows_now new ≡ rows_now old
   pub links : (v : ℕ) → links_now new v ≡ links_now old v
   pub numbers : KeepsNumbers old new
@@ -124,7 +124,7 @@ pub record GraphHolds (old new : Held) : Type 0 where
   pub lean : StaysLean old new
 
 -- holds were let go of, and nothing else that is seen changes
-pub record IsReleased (old new : Held) : Type 0 where
+pub record IsReleased (old new : GraphInside) : Type 0 where
   pub rows : rows_now new ≡ rows_now old
   pub links : (v : ℕ) → links_now new v ≡ links_now old v
   pub numbers : BringsNoNumbers old new
@@ -133,7 +133,7 @@ pub record IsReleased (old new : Held) : Type 0 where
   pub lean : StaysLean old new
 
 -- beside these subscriptions one hold of a number is out, of that identifier
-pub record IsHolding (h : Held) (standing : List Standing) (number : ℕ) (id : Identifier) : Type 0 where
+pub record IsHolding (h : GraphInside) (standing : List Standing) (number : ℕ) (id : Identifier) : Type 0 where
   pub still : IsStill h
   pub whole : AreWhole (rows_now h)
   pub own : (a : Identifier) → IsOwn h a (starts_of a standing + once identifier_order id a)

@@ -21,7 +21,7 @@ use Rattle.ifmap_changes.specs.ifmap_session.Sessions.{IsLive, Session, change, 
 use Rattle.ifmap_changes.specs.ifmap_standing.declared.standing.Standing.{Standing}
 use Rattle.ifmap_changes.specs.ifmap_standing.Standing.{standing_of}
 use Rattle.ifmap_changes.specs.ifmap_tellings.declared.tellings.Pending.{Pending}
-use Rattle.ifmap_changes.specs.ifmap_graph.Held.{Held}
+use Rattle.ifmap_changes.specs.ifmap_graph.Inside.{GraphInside}
 use Rattle.ifmap_changes.specs.ifmap_graph.Back.{KeepsBacks}
 use Rattle.ifmap_changes.specs.ifmap_graph.Seen.{AwaitsMore, BringsNoNumbers, StaysLean, links_now, rows_now}
 
@@ -59,14 +59,14 @@ abbrev pub IsOfSession : ℕ → Renaming → Type 0
 IsOfSession serial r = AllByRecursion (λ (x : Standing). (x.serial ≡ serial) × (x.name ≡ r.name)) (option_to_list r.standing)
 
 -- a subscription that keeps what a graph has keeps what another has, where its start has its number there
-abbrev pub KeepsNumbered : Held → Held → Type 0
+abbrev pub KeepsNumbered : GraphInside → GraphInside → Type 0
 KeepsNumbered old new =
     (sub : Subscription) → key_at new.names sub.region.start ≡ Some sub.search.start
     → IsUpToDate (sight_now old) sub → IsUpToDate (sight_now new) sub
 
 -- holds of numbers were let go of: what is stored, the links, the ways back and what is waited for stay, nothing is left behind, no
 -- number comes, and what is kept is kept still
-pub record LetsNumbersGo (old new : Held) : Type 0 where
+pub record LetsNumbersGo (old new : GraphInside) : Type 0 where
   pub rows : rows_now new ≡ rows_now old
   pub links : (v : ℕ) → links_now new v ≡ links_now old v
   pub numbers : BringsNoNumbers old new

@@ -8,7 +8,9 @@ pub mod starting;
 
 pub use ifmap_changes::asking::Asking;
 pub use ifmap_changes::changes::{Made, flag_session, flag_sessions, settle_made, undo_made};
-pub use ifmap_changes::changing::{Publication, publish, take_away, take_away_kept, take_away_one};
+pub use ifmap_changes::graph_changes::{
+    Publication, publish, take_away, take_away_kept, take_away_one,
+};
 pub use ifmap_changes::laws::what_is_back_is_sound;
 pub use ifmap_changes::parts::Parts;
 pub use ifmap_changes::{

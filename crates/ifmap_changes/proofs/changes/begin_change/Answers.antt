@@ -5,7 +5,7 @@ use Rattle.ifmap_lemmas.specs.Results.{on_err}
 use Rattle.ifmap_graph.specs.ifmap_plans.Plans.{FitsItem, IsAfter}
 use Rattle.ifmap_graph.specs.ifmap_pool.Holdings.{key_at}
 use Rattle.ifmap_graph.specs.ifmap_view.Views.{IsView}
-use Rattle.ifmap_graph.specs.Held.{Held}
+use Rattle.ifmap_graph.specs.Inside.{GraphInside}
 use Rattle.ifmap_graph.specs.Seen.{links_next, rows_next, rows_now}
 use Rattle.ifmap_changes.proofs.Begun.{kept_seen}
 use Rattle.ifmap_changes.proofs.Starts.{few_starts}
@@ -31,7 +31,7 @@ returns-clause-begun c =
       plan = e.plan;
       before = c.is_view.ensures;
       now = c.is_view-2.ensures;
-      next = subst (λ (h : Held). IsView (rows_next h) (key_at h.names) (links_next h)) c.of.ensures c.is_view-3.ensures;
+      next = subst (λ (h : GraphInside). IsView (rows_next h) (key_at h.names) (links_next h)) c.of.ensures c.is_view-3.ensures;
       change = record {
         canon = all_weaker (FitsItem (rows_now c.args.parts.now.graph)) (λ d. IsCanonItem d.item) (λ d f. f.canon) changes
             c.requires.fits.each;

@@ -2,7 +2,7 @@ use Rattle.std.proofs.Common.{◌∙◌, ap, sym, subst, drop, length, slice_get
 use Rattle.std.proofs.lemmas.Result.{on_ok_weaker}
 use Rattle.ifmap_lemmas.specs.Fronts.{front_taken}
 use Rattle.ifmap_tellings.specs.ifmap_delta.Sights.{IsUpToDate}
-use Rattle.ifmap_graph.specs.Held.{Held}
+use Rattle.ifmap_graph.specs.Inside.{GraphInside}
 use Rattle.ifmap_changes.specs.Changes.{sight_next}
 use Rattle.ifmap_changes.proofs.changes.tell_standing.Goals as goal
 
@@ -15,5 +15,6 @@ returns-clause-kept g c =
     let new = c.tell_change.new.standing
     in let front = front_taken c.args.parts.now.standing.len new (drop (length new) c.args.parts.now.standing.items)
     (c.tell_change.ensures.same.long ∙ c.deref_mut.ensures.len)
-    in on_ok_weaker c.tell_change.result (λ f i x e flag. subst (λ (h : Held). IsUpToDate (sight_next h) x.subscription) c.of-draft.ensures
+    in on_ok_weaker c.tell_change.result
+    (λ f i x e flag. subst (λ (h : GraphInside). IsUpToDate (sight_next h) x.subscription) c.of-draft.ensures
     (f i x (ap (λ l. slice_get l i) (sym front) ∙ e) flag)) c.tell_change.ensures.kept

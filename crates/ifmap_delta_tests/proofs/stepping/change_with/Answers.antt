@@ -1,6 +1,6 @@
 use Rattle.std.proofs.Common.{subst, sym}
 use Rattle.ifmap_delta.specs.Changes.{ShowsAfter, WouldKeep}
-use Rattle.ifmap_graph.specs.Held.{Held}
+use Rattle.ifmap_graph.specs.Inside.{GraphInside}
 use Rattle.ifmap_plans.specs.declared.plans.Plan.{Plan}
 use Rattle.ifmap_delta_tests.specs.Worlds.{sight_next, sight_now}
 use Rattle.ifmap_delta_tests.proofs.stepping.change_with.Goals as goal
@@ -9,10 +9,10 @@ pub change-requires-clause-change : goal.change-requires-clause-change
 change-requires-clause-change g c =
     let old = sight_now c.args.graph.now
     in subst (λ (p : Plan). ShowsAfter old (sight_next c.of-draft.result) p.changes) (sym c.in_ok-located.ensures.plan)
-    (subst (λ (h : Held). ShowsAfter old (sight_next h) c.args.plan.now.changes) (sym c.of-draft.ensures) c.requires.change)
+    (subst (λ (h : GraphInside). ShowsAfter old (sight_next h) c.args.plan.now.changes) (sym c.of-draft.ensures) c.requires.change)
 
 pub returns : goal.returns
 returns g c =
     let moved = c.in_ok-moved.moved
-    in subst (λ (h : Held). WouldKeep (sight_next h) c.args.subscription.now moved.patch moved.new_size) c.of-draft.ensures
+    in subst (λ (h : GraphInside). WouldKeep (sight_next h) c.args.subscription.now moved.patch moved.new_size) c.of-draft.ensures
     c.in_ok-moved.ensures.moved.keeps

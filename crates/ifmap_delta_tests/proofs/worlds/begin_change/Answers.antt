@@ -1,5 +1,5 @@
 use Rattle.std.proofs.Common.{sym, subst}
-use Rattle.ifmap_graph.specs.Held.{Held}
+use Rattle.ifmap_graph.specs.Inside.{GraphInside}
 use Rattle.ifmap_graph.specs.Seen.{links_next, rows_next, rows_now}
 use Rattle.ifmap_ident.specs.Items.{IsCanonItem}
 use Rattle.ifmap_lemmas.specs.Filters.{all_weaker}
@@ -21,7 +21,7 @@ returns-clause-way c =
     in record {
       out = e.out;
       now = c.is_view.ensures;
-      next = subst (λ (h : Held). IsView (rows_next h) (key_at h.names) (links_next h)) c.of.ensures c.is_view-2.ensures;
+      next = subst (λ (h : GraphInside). IsView (rows_next h) (key_at h.names) (links_next h)) c.of.ensures c.is_view-2.ensures;
       change = subst (λ (p : Plan). AreShown new p) (sym e.plan) (record {
         canon = all_weaker (FitsItem (rows_now old)) (λ (d : ItemChange). IsCanonItem d.item) (λ d f. f.canon) plan.changes
             c.requires.fitting.fits.each;

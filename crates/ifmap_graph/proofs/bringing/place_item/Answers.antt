@@ -3,8 +3,8 @@ use Rattle.std.specs.Result.{OnOk}
 use Rattle.slab.specs.Slab.{get}
 use Rattle.ifmap_ident.specs.declared.items.Item.{Item}
 use Rattle.ifmap_ident.specs.Items.{IsCanonItem}
-use Rattle.ifmap_graph.specs.Bringing.{BringsShelves, graph_parts}
-use Rattle.ifmap_graph.specs.Held.{IsInside}
+use Rattle.ifmap_graph.specs.Bringing.{BringsShelves, graph_fields}
+use Rattle.ifmap_graph.specs.Inside.{IsInside}
 use Rattle.ifmap_graph.specs.Shelved.{slot_of_item}
 use Rattle.ifmap_graph.specs.Sides.{list_next, list_now}
 use Rattle.ifmap_graph.proofs.Changed.{names_alike, held_alike, roomier}
@@ -40,7 +40,7 @@ pub place_shelf-requires-clause-few : goal.place_shelf-requires-clause-few
 place_shelf-requires-clause-few c = λ v.
     let small : length c.args.shelves.now.places.entries < 2 ^ 62 = omega (arith, c.if-len-ge-MOST_ITEMS.false, c.len.ensures.len)
     in subst (λ (n : ℕ). n < 2 ^ 64 - 2) (sym (holds_alike c.args.names.now c.make_room.new.names c.make_room.ensures.live v))
-    (few_holds (graph_parts c.args.names.now c.args.shelves.now c.args.links.now.items) c.requires.inside c.requires.few small v)
+    (few_holds (graph_fields c.args.names.now c.args.shelves.now c.args.links.now.items) c.requires.inside c.requires.few small v)
 
 pub returns-clause-grown : goal.returns-clause-grown
 returns-clause-grown c =

@@ -1,5 +1,5 @@
 use Rattle.std.proofs.Common.{inl, arith}
-use Rattle.ifmap_graph.proofs.Holds.{still_identifiers}
+use Rattle.ifmap_graph.proofs.KeyHolds.{still_identifiers}
 use Rattle.ifmap_graph.proofs.ends.hold_ends.Goals as goal
 
 pub hold-requires-clause-room : goal.hold-requires-clause-room

@@ -1,7 +1,7 @@
 use Rattle.std.proofs.Common.{ℕ, inl, arith, subst}
 use Rattle.ifmap_ident.specs.Identifiers.{identifier_order}
 use Rattle.ifmap_pool.specs.Holdings.{IsHeld, once}
-use Rattle.ifmap_graph.proofs.Holds.{add_two, still_identifiers}
+use Rattle.ifmap_graph.proofs.KeyHolds.{add_two, still_identifiers}
 use Rattle.ifmap_graph.proofs.ends.hold_pair.Goals as goal
 
 pub hold-one-requires-clause-room : goal.hold-one-requires-clause-room

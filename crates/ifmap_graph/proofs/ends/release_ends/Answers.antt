@@ -1,6 +1,6 @@
 use Rattle.std.proofs.Common.{subst}
 use Rattle.ifmap_graph.specs.Named.{AreEnds}
-use Rattle.ifmap_graph.proofs.Holds.{identifiers_stay, named_before, one_live, one_released, pair_live, pair_released}
+use Rattle.ifmap_graph.proofs.KeyHolds.{identifiers_stay, named_before, one_live, one_released, pair_live, pair_released}
 use Rattle.ifmap_graph.proofs.ends.release_ends.Goals as goal
 
 pub release-requires : goal.release-requires

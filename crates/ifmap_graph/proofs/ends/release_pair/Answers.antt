@@ -2,7 +2,7 @@ use Rattle.std.proofs.Common.{ℕ, Option, IsSome, refl, sym, ◌∙◌, subst}
 use Rattle.ifmap_ident.specs.declared.identifiers.Identifier.{Identifier}
 use Rattle.ifmap_ident.specs.Identifiers.{identifier_order}
 use Rattle.ifmap_pool.specs.Holdings.{IsHeld, once}
-use Rattle.ifmap_graph.proofs.Holds.{identifiers_stay, named_before, names_stay, numbers_differ, sub_two}
+use Rattle.ifmap_graph.proofs.KeyHolds.{identifiers_stay, named_before, names_stay, numbers_differ, sub_two}
 use Rattle.ifmap_graph.proofs.ends.release_pair.Goals as goal
 
 pub release-requires : goal.release-requires

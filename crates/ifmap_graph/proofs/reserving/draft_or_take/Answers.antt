@@ -6,9 +6,9 @@ use Rattle.ifmap_ident.specs.Identifiers.{identifier_order}
 use Rattle.ifmap_ident.specs.Items.{item_order}
 use Rattle.slab.specs.Slab.{get}
 use Rattle.ifmap_pool.specs.Holdings.{IsHeld}
-use Rattle.ifmap_graph.specs.Bringing.{flagged_items, graph_parts}
+use Rattle.ifmap_graph.specs.Bringing.{flagged_items, graph_fields}
 use Rattle.ifmap_graph.specs.Drafted.{StayInPlace}
-use Rattle.ifmap_graph.specs.Held.{IsInside}
+use Rattle.ifmap_graph.specs.Inside.{IsInside}
 use Rattle.ifmap_graph.specs.Named.{uses_in}
 use Rattle.ifmap_graph.specs.Out.{items_changed}
 use Rattle.ifmap_graph.proofs.Brought.{brings_written, other_marked}
@@ -74,7 +74,7 @@ returns-in-Ok-clause-made c = λ first grown brought.
     in let all = c.in-Ok.ensures.all
     in made_by c.args.coming.now.changes.now c.draft_and_wait.new.ways.items (flagged_items (items_changed c.args.coming.now.changes.now)
     c.args.coming.now.fresh.now) first
-    (graph_parts c.args.names.now c.args.shelves.now c.args.links.now.items) c.draft_and_wait.new.shelves c.draft_and_wait.new.links.items
+    (graph_fields c.args.names.now c.args.shelves.now c.args.links.now.items) c.draft_and_wait.new.shelves c.draft_and_wait.new.links.items
     grown brought (all.inside c.args.names.now c.requires.inside) drafts.now all.next all.out drafts.ready drafts.links
     c.draft_and_wait.ensures.ends c.draft_and_wait.ensures.places
     (other_marked (items_changed c.args.coming.now.changes.now) c.args.coming.now.fresh.now) c.in-Ok.ensures.waited

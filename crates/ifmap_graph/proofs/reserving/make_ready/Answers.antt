@@ -1,6 +1,6 @@
 use Rattle.std.proofs.Common.{◌≤◌, Bool, List, length, ap, ◌∙◌, sym, subst}
 use Rattle.std.proofs.lemmas.Result.{on_err_weaker, on_ok_weaker}
-use Rattle.ifmap_graph.specs.Bringing.{BringsShelves, flagged_items, graph_parts}
+use Rattle.ifmap_graph.specs.Bringing.{BringsShelves, flagged_items, graph_fields}
 use Rattle.ifmap_graph.specs.Out.{items_changed}
 use Rattle.ifmap_graph.specs.Shelved.{rows_on_side}
 use Rattle.ifmap_graph.specs.Sides.{list_now}
@@ -29,7 +29,7 @@ take_shelves-requires c = record {
 pub returns-in-Ok-clause-made : goal.returns-in-Ok-clause-made
 returns-in-Ok-clause-made c =
     on_ok_weaker c.draft_or_take.result
-    (λ made. made (graph_parts c.args.names.now c.args.shelves.now c.args.links.now.items) c.place_items.ensures.grown
+    (λ made. made (graph_fields c.args.names.now c.args.shelves.now c.args.links.now.items) c.place_items.ensures.grown
     (subst (λ (l : List Bool). BringsShelves (flagged_items (items_changed c.args.changes.now) l) c.args.shelves.now
     c.place_items.new.shelves)
     (sym c.deref.ensures.value)
@@ -39,7 +39,8 @@ returns-in-Ok-clause-made c =
 pub returns-in-Ok-clause-unmade : goal.returns-in-Ok-clause-unmade
 returns-in-Ok-clause-unmade c =
     on_err_weaker c.draft_or_take.result
-    (λ unmade. unmade (graph_parts c.args.names.now c.args.shelves.now c.args.links.now.items) c.requires.inside c.place_items.ensures.grown
+    (λ unmade. unmade (graph_fields c.args.names.now c.args.shelves.now c.args.links.now.items) c.requires.inside
+    c.place_items.ensures.grown
     (subst (λ (l : List Bool). BringsShelves (flagged_items (items_changed c.args.changes.now) l) c.args.shelves.now
     c.place_items.new.shelves)
     (sym c.deref.ensures.value)
@@ -48,7 +49,7 @@ returns-in-Ok-clause-unmade c =
 
 pub returns-clause-unmade : goal.returns-clause-unmade
 returns-clause-unmade c =
-    unmade_by (graph_parts c.args.names.now c.args.shelves.now c.args.links.now.items) c.place_items.new.names c.take_shelves.new.names
+    unmade_by (graph_fields c.args.names.now c.args.shelves.now c.args.links.now.items) c.place_items.new.names c.take_shelves.new.names
     c.take_shelves.new.shelves
     c.place_items.new.links.items c.requires.inside c.place_items.ensures.grown.inside.pool
     (c.take_shelves.ensures.less.inside c.place_items.new.links.items c.place_items.ensures.grown.inside)

@@ -1,5 +1,5 @@
 use Rattle.ifmap_lemmas.specs.Tests.{same_test}
-use Rattle.ifmap_core.specs.Holding.{WouldHold}
+use Rattle.ifmap_core.specs.EmptyPolls.{WouldHold}
 use Rattle.ifmap_desks.specs.Holding.{would_hold}
 use Rattle.ifmap_desks.proofs.machine.CoreMachineMachine.would_hold.Goals as goal
 

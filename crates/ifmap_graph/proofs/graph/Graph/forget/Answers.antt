@@ -15,7 +15,7 @@ use Rattle.ifmap_graph.proofs.Accepting.{drafted_there}
 use Rattle.ifmap_graph.proofs.Flipping.{inside_dropped}
 use Rattle.ifmap_graph.proofs.Lean.{same_lean}
 use Rattle.ifmap_graph.proofs.Outs.{are_out}
-use Rattle.ifmap_graph.proofs.Settled.{bare_to, held_of}
+use Rattle.ifmap_graph.proofs.Settled.{bare_to, inside_of}
 use Rattle.ifmap_graph.proofs.Written.{first_backs, written_backs, written_now, own_stays, waits_stay_seen}
 use Rattle.ifmap_graph.proofs.graph.Graph.forget.Goals as goal
 use Rattle.ifmap_graph.proofs.graph.Graph.forget.Goals.{After-deref, After-deref-3}
@@ -64,7 +64,7 @@ release_waits-requires c =
     in record {
       still = bare_to c.self.inside.names c.drop_plan.new.shelves c.drop_plan.new.links.items c.drop_plan.ensures.bare
           c.drop_plan.ensures.none;
-      waits = subst (λ l. AreAwaited (items_changed l) (held_of c.self.inside.names c.drop_plan.new.shelves c.drop_plan.new.links.items))
+      waits = subst (λ l. AreAwaited (items_changed l) (inside_of c.self.inside.names c.drop_plan.new.shelves c.drop_plan.new.links.items))
           (sym (same_changes (goal.at.release_waits-requires c).After-deref-3))
           (waits_stay_seen c.self.inside.names c.self.inside.links.items c.drop_plan.new.links.items c.drop_plan.ensures.stays
           (items_changed c.args.ready.plan.changes) w);
@@ -95,26 +95,26 @@ pub returns-clause-waits : goal.returns-clause-waits
 returns-clause-waits c =
     rw (← c.self.view_is)
     (λ rest a. c.release_waits.ensures.waits rest
-    (subst (λ l. AreAwaited (items_changed l ++ rest) (held_of c.self.inside.names c.drop_plan.new.shelves c.drop_plan.new.links.items))
+    (subst (λ l. AreAwaited (items_changed l ++ rest) (inside_of c.self.inside.names c.drop_plan.new.shelves c.drop_plan.new.links.items))
     (sym (same_changes (goal.at.returns-clause-waits c).After-deref-3))
     (waits_stay_seen c.self.inside.names c.self.inside.links.items c.drop_plan.new.links.items c.drop_plan.ensures.stays _ a)))
 
 pub returns-clause-backs : goal.returns-clause-backs
 returns-clause-backs c =
     rw (← c.self.view_is)
-    (first_backs (items_changed c.args.ready.plan.changes) (held_of c.self.inside.names c.self.inside.shelves c.self.inside.links.items)
-    (held_of c.self.inside.names c.drop_plan.new.shelves c.drop_plan.new.links.items) c.release_waits.new.self
+    (first_backs (items_changed c.args.ready.plan.changes) (inside_of c.self.inside.names c.self.inside.shelves c.self.inside.links.items)
+    (inside_of c.self.inside.names c.drop_plan.new.shelves c.drop_plan.new.links.items) c.release_waits.new.self
     (λ rest a. waits_stay_seen c.self.inside.names c.self.inside.links.items c.drop_plan.new.links.items c.drop_plan.ensures.stays rest a)
     (written_backs c.self.inside.names c.drop_plan.ensures.stays c.drop_plan.ensures.now c.drop_plan.ensures.links)
     (subst (λ l. KeepsOtherBacks (items_changed l)
-    (held_of c.self.inside.names c.drop_plan.new.shelves c.drop_plan.new.links.items) c.release_waits.new.self)
+    (inside_of c.self.inside.names c.drop_plan.new.shelves c.drop_plan.new.links.items) c.release_waits.new.self)
     (same_changes (goal.at.returns-clause-backs c).After-deref-3) c.release_waits.ensures.backs))
 
 pub returns-clause-lean : goal.returns-clause-lean
 returns-clause-lean c =
     rw (← c.self.view_is)
     (λ rest lean. c.release_waits.ensures.lean rest
-    (subst (λ l. IsLean (items_changed l ++ rest) (held_of c.self.inside.names c.drop_plan.new.shelves c.drop_plan.new.links.items))
+    (subst (λ l. IsLean (items_changed l ++ rest) (inside_of c.self.inside.names c.drop_plan.new.shelves c.drop_plan.new.links.items))
     (sym (same_changes (goal.at.returns-clause-lean c).After-deref-3))
     (same_lean c.self.inside.names c.self.inside.names c.self.inside.shelves c.drop_plan.new.shelves c.self.inside.links.items
     c.drop_plan.new.links.items c.drop_plan.ensures.stays.waits

@@ -3,14 +3,14 @@ use Rattle.slab.specs.Slab.{get}
 use Rattle.ifmap_ident.specs.Canon.{IsIdentifier}
 use Rattle.ifmap_ident.specs.Identifiers.{identifier_order}
 use Rattle.ifmap_pool.specs.Holdings.{IsHeld, Names, once}
-use Rattle.ifmap_graph.specs.Held.{IsInside, shown_shelves}
+use Rattle.ifmap_graph.specs.Inside.{IsInside, shown_shelves}
 use Rattle.ifmap_graph.specs.Named.{AreIdentifiers, uses_in}
-use Rattle.ifmap_graph.specs.Bringing.{graph_parts}
+use Rattle.ifmap_graph.specs.Bringing.{graph_fields}
 use Rattle.ifmap_graph.proofs.Grown.{few_holds}
 use Rattle.ifmap_graph.proofs.Changed.{held_alike, inside_held, keys_alike, names_alike, roomier}
-use Rattle.ifmap_graph.proofs.Holds.{add_two, still_identifiers}
+use Rattle.ifmap_graph.proofs.KeyHolds.{add_two, still_identifiers}
 use Rattle.ifmap_graph.proofs.Kept.{KeepsShelves, shelves_kept}
-use Rattle.ifmap_graph.proofs.Settled.{few_from, held_of}
+use Rattle.ifmap_graph.proofs.Settled.{few_from, inside_of}
 use Rattle.ifmap_graph.proofs.Own.{held_again, holds_alike, key_kept, key_told}
 use Rattle.ifmap_graph.proofs.graph.Graph.hold.Goals as goal
 use Rattle.ifmap_graph.proofs.graph.Graph.hold.Goals.{After-reserve, After-lengthen, After-hold}
@@ -32,19 +32,19 @@ identifiers c =
 
 -- the shelves stay, and the links but for room, wherever the call ends
 kept_by_room : (c : After-reserve)
-    → KeepsShelves c.args.self.now (held_of c.reserve.new.self c.self.inside.shelves c.self.inside.links.items)
+    → KeepsShelves c.args.self.now (inside_of c.reserve.new.self c.self.inside.shelves c.self.inside.links.items)
 kept_by_room c =
     shelves_kept c.self.inside.names c.reserve.new.self c.self.inside.shelves c.self.inside.links.items c.self.inside.links.items
     c.self.view_is (λ v. refl) (omega arith)
 
 kept_by_links : (c : After-lengthen)
-    → KeepsShelves c.args.self.now (held_of c.reserve.new.self c.self.inside.shelves c.lengthen.new.links.items)
+    → KeepsShelves c.args.self.now (inside_of c.reserve.new.self c.self.inside.shelves c.lengthen.new.links.items)
 kept_by_links c =
     shelves_kept c.self.inside.names c.reserve.new.self c.self.inside.shelves c.self.inside.links.items c.lengthen.new.links.items
     c.self.view_is c.lengthen.ensures.same c.lengthen.ensures.longer
 
 kept_by_hold : (c : After-hold)
-    → KeepsShelves c.args.self.now (held_of c.hold.new.self c.self.inside.shelves c.lengthen.new.links.items)
+    → KeepsShelves c.args.self.now (inside_of c.hold.new.self c.self.inside.shelves c.lengthen.new.links.items)
 kept_by_hold c =
     shelves_kept c.self.inside.names c.hold.new.self c.self.inside.shelves c.self.inside.links.items c.lengthen.new.links.items
     c.self.view_is c.lengthen.ensures.same c.lengthen.ensures.longer
@@ -56,7 +56,7 @@ pub hold-requires-clause-few : goal.hold-requires-clause-few
 hold-requires-clause-few c = λ number n.
     let few = rw (← c.self.view_is) at c.requires.few
     in let small : length c.self.inside.shelves.places.entries < 2 ^ 62 = omega (arith, c.if-len-ge-MOST_ITEMS.false, c.len.ensures.len)
-    in let held = few_holds (graph_parts c.self.inside.names c.self.inside.shelves c.self.inside.links.items) c.self.invariant
+    in let held = few_holds (graph_fields c.self.inside.names c.self.inside.shelves c.self.inside.links.items) c.self.invariant
     (few_from c.self.inside.names c.self.inside.shelves c.self.inside.links.items few) small number
     in let same = holds_alike c.self.inside.names c.reserve.new.self c.reserve.ensures.live number
     in omega (arith, held, same)

@@ -1,15 +1,15 @@
 use Rattle.std.proofs.Common.{refl, arith}
 use Rattle.slab.specs.Slab.{get}
-use Rattle.ifmap_graph.proofs.Holds.{keys_before, keys_stay}
+use Rattle.ifmap_graph.proofs.KeyHolds.{keys_before, keys_stay}
 use Rattle.ifmap_graph.proofs.Kept.{KeepsShelves, shelves_kept}
-use Rattle.ifmap_graph.proofs.Settled.{held_of}
+use Rattle.ifmap_graph.proofs.Settled.{inside_of}
 use Rattle.ifmap_graph.proofs.Own.{inside_released, live_key, own_released}
 use Rattle.ifmap_graph.proofs.graph.Graph.release.Goals as goal
 use Rattle.ifmap_graph.proofs.graph.Graph.release.Goals.{After-release}
 
 -- the shelves and the links stay
 kept : (c : After-release)
-    → KeepsShelves c.args.self.now (held_of c.release.new.self c.self.inside.shelves c.self.inside.links.items)
+    → KeepsShelves c.args.self.now (inside_of c.release.new.self c.self.inside.shelves c.self.inside.links.items)
 kept c =
     shelves_kept c.self.inside.names c.release.new.self c.self.inside.shelves c.self.inside.links.items c.self.inside.links.items
     c.self.view_is (λ v. refl) (omega arith)

@@ -1,13 +1,13 @@
 use Rattle.ifmap_graph.specs.Out.{items_changed}
 use Rattle.ifmap_graph.proofs.Own.{key_kept}
 use Rattle.ifmap_graph.proofs.Released.{AreReleased, are_released}
-use Rattle.ifmap_graph.proofs.Settled.{held_of, bare_from, waited_from}
+use Rattle.ifmap_graph.proofs.Settled.{inside_of, bare_from, waited_from}
 use Rattle.ifmap_graph.proofs.graph.Graph.release_waits.Goals as goal
 use Rattle.ifmap_graph.proofs.graph.Graph.release_waits.Goals.{After-release_items}
 
 -- what the call did
 released : (c : After-release_items) → AreReleased (items_changed c.args.changes.now) c.args.self.now
-    (held_of c.release_items.new.names c.release_items.new.shelves c.self.inside.links.items)
+    (inside_of c.release_items.new.names c.release_items.new.shelves c.self.inside.links.items)
 released c =
     let q = rw (← c.self.view_is) at c.requires
     in are_released c.self.inside.names c.release_items.new.names c.self.inside.shelves c.release_items.new.shelves

@@ -2,19 +2,19 @@ use Rattle.std.proofs.Common.{refl, ap, ◌∙◌, sym, subst}
 use Rattle.slab.specs.Slab.{get}
 use Rattle.ifmap_lemmas.specs.Results.{on_err}
 use Rattle.ifmap_plans.specs.Plans.{Fits}
-use Rattle.ifmap_graph.specs.Bringing.{graph_parts}
+use Rattle.ifmap_graph.specs.Bringing.{graph_fields}
 use Rattle.ifmap_graph.specs.Making.{IsMade}
 use Rattle.ifmap_graph.specs.Shelved.{rows_on_side}
 use Rattle.ifmap_graph.specs.Sides.{list_now}
 use Rattle.ifmap_graph.proofs.Insides.{rows_shown}
 use Rattle.ifmap_graph.proofs.Reserved.{ComesOut, StaysAsItWas, made_out, made_seen, unmade_seen}
-use Rattle.ifmap_graph.proofs.Settled.{bare_from, few_from, held_of}
+use Rattle.ifmap_graph.proofs.Settled.{bare_from, few_from, inside_of}
 use Rattle.ifmap_graph.proofs.graph.Graph.reserve.Goals as goal
 use Rattle.ifmap_graph.proofs.graph.Graph.reserve.Goals.{In_err-make_ready, In_ok-make_ready}
 
 -- no change is out
 unmade : (c : In_err-make_ready)
-    → StaysAsItWas c.args.self.now (held_of c.make_ready.new.names c.make_ready.new.shelves c.make_ready.new.links.items)
+    → StaysAsItWas c.args.self.now (inside_of c.make_ready.new.names c.make_ready.new.shelves c.make_ready.new.links.items)
 unmade c =
     unmade_seen c.self.inside.names c.make_ready.new.names c.self.inside.shelves c.make_ready.new.shelves c.self.inside.links.items
     c.make_ready.new.links.items c.in_err-make_ready.ensures.unmade c.self.view_is c.bytes_tell_identifiers_apart.ensures
@@ -22,12 +22,12 @@ unmade c =
 
 -- the change is out
 made : (c : In_ok-make_ready)
-    → ComesOut c.args.plan.changes c.args.self.now (held_of c.make_ready.new.names c.make_ready.new.shelves c.make_ready.new.links.items)
+    → ComesOut c.args.plan.changes c.args.self.now (inside_of c.make_ready.new.names c.make_ready.new.shelves c.make_ready.new.links.items)
 made c =
     made_seen c.self.inside.names c.make_ready.new.names c.self.inside.shelves c.make_ready.new.shelves c.self.inside.links.items
     c.make_ready.new.links.items c.args.plan.changes c.make_ready.new.ways.items
-    (subst (λ l. IsMade l c.make_ready.new.ways.items (graph_parts c.self.inside.names c.self.inside.shelves c.self.inside.links.items)
-    (graph_parts c.make_ready.new.names c.make_ready.new.shelves c.make_ready.new.links.items))
+    (subst (λ l. IsMade l c.make_ready.new.ways.items (graph_fields c.self.inside.names c.self.inside.shelves c.self.inside.links.items)
+    (graph_fields c.make_ready.new.names c.make_ready.new.shelves c.make_ready.new.links.items))
     (c.deref.ensures.value ∙ ap (λ p. p.changes) c.plan.view_is) c.in_ok-make_ready.ensures.made)
     c.self.view_is c.bytes_tell_identifiers_apart.ensures c.self.invariant.keys
 

@@ -2,13 +2,13 @@ use Rattle.std.proofs.Common.{◌≡◌, IsSome, ◌++◌, ap, ◌∙◌, sym, s
 use Rattle.std.specs.List.{AllByRecursion}
 use Rattle.ifmap_view.specs.Rows.{stored_on}
 use Rattle.ifmap_graph.specs.Back.{stand_each}
-use Rattle.ifmap_graph.specs.Held.{links_at}
+use Rattle.ifmap_graph.specs.Inside.{links_at}
 use Rattle.ifmap_graph.specs.Out.{items_changed}
 use Rattle.ifmap_graph.specs.Seen.{AreAwaited, IsLean}
 use Rattle.ifmap_graph.specs.Shelved.{slot_of_item, rows_on_side}
 use Rattle.ifmap_graph.specs.Sides.{list_now}
 use Rattle.ifmap_graph.specs.Turning.{restore_each}
-use Rattle.ifmap_graph.proofs.Settled.{bare_from, held_of}
+use Rattle.ifmap_graph.proofs.Settled.{bare_from, inside_of}
 use Rattle.ifmap_graph.proofs.Undone.{GoesBack, all_there, undone_inside, undone_lean, undone_links, undone_own, undone_rows, undone_still, undone_waits}
 use Rattle.ifmap_graph.proofs.graph.Graph.undo.Goals as goal
 use Rattle.ifmap_graph.proofs.graph.Graph.undo.Goals.{After-restore_all, After-deref-2}
@@ -62,7 +62,8 @@ pub release_waits-requires-clause-waits : goal.release_waits-requires-clause-wai
 release_waits-requires-clause-waits c =
     let place = goal.at.release_waits-requires-clause-waits c
     in let b = rw (← c.self.view_is) at c.requires.back
-    in subst (λ l. AreAwaited (items_changed l) (held_of c.self.inside.names c.exchange_changes.new.shelves c.restore_all.new.lists.items))
+    in subst
+    (λ l. AreAwaited (items_changed l) (inside_of c.self.inside.names c.exchange_changes.new.shelves c.restore_all.new.lists.items))
     (same_changes place.After-deref-2)
     (undone_waits (goes place.After-restore_all) (items_changed c.args.undo.plan.changes) b.2.waits)
 
@@ -85,7 +86,7 @@ returns-clause-waits c = λ rest a.
     let place = goal.at.returns-clause-waits c
     in c.release_waits.ensures.waits rest
     (subst (λ l. AreAwaited (items_changed l ++ rest)
-    (held_of c.self.inside.names c.exchange_changes.new.shelves c.restore_all.new.lists.items))
+    (inside_of c.self.inside.names c.exchange_changes.new.shelves c.restore_all.new.lists.items))
     (same_changes place.After-deref-2)
     (undone_waits (goes place.After-restore_all) (items_changed c.args.undo.plan.changes ++ rest) (rw (← c.self.view_is) at a)))
 
@@ -96,6 +97,6 @@ returns-clause-lean c =
     in rw (← c.self.view_is)
     (λ rest lean. c.release_waits.ensures.lean rest
     (subst (λ l. IsLean (items_changed l ++ rest)
-    (held_of c.self.inside.names c.exchange_changes.new.shelves c.restore_all.new.lists.items))
+    (inside_of c.self.inside.names c.exchange_changes.new.shelves c.restore_all.new.lists.items))
     (same_changes place.After-deref-2)
     (undone_lean (goes place.After-restore_all) b.0 b.1 b.2 (items_changed c.args.undo.plan.changes ++ rest) lean)))

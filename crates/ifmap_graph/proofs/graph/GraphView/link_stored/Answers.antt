@@ -1,6 +1,6 @@
 use Rattle.std.proofs.Common.{ap, sym, ◌∙◌}
 use Rattle.slab.specs.Slab.{get}
-use Rattle.ifmap_graph.specs.Held.{links_at}
+use Rattle.ifmap_graph.specs.Inside.{links_at}
 use Rattle.ifmap_graph.specs.Shelved.{list_at}
 use Rattle.ifmap_graph.specs.Sides.{list_now}
 use Rattle.ifmap_graph.proofs.Insides.{handle_of, live_by}

@@ -1,5 +1,5 @@
 use Rattle.slab.specs.Slab.{get}
-use Rattle.ifmap_graph.specs.Held.{links_at}
+use Rattle.ifmap_graph.specs.Inside.{links_at}
 use Rattle.ifmap_graph.specs.Sides.{list_now}
 use Rattle.ifmap_graph.proofs.Insides.{shown_view}
 use Rattle.ifmap_graph.proofs.graph.GraphView.number.Goals as goal

@@ -3,9 +3,9 @@ use Rattle.std.proofs.lemmas.Result.{on_ok_weaker}
 use Rattle.ifmap_changes.specs.Between.{AreKept, state_now}
 use Rattle.ifmap_changes.proofs.Spending.{ended_none, ended_within}
 use Rattle.ifmap_changes.proofs.Taken.{marked_state, ready_marked}
-use Rattle.ifmap_changes.proofs.changing.take_away_one.Given as given
-use Rattle.ifmap_changes.proofs.changing.take_away_one.Goals as goal
-use Rattle.ifmap_changes.proofs.changing.take_away_one.Goals.{After-take_away}
+use Rattle.ifmap_changes.proofs.graph_changes.take_away_one.Given as given
+use Rattle.ifmap_changes.proofs.graph_changes.take_away_one.Goals as goal
+use Rattle.ifmap_changes.proofs.graph_changes.take_away_one.Goals.{After-take_away}
 use Rattle.ifmap_graph.specs.Seen.{rows_now}
 use Rattle.ifmap_lemmas.specs.Results.{on_err}
 use Rattle.ifmap_tellings.specs.ifmap_machine.Ending.{without_standing}

@@ -18,14 +18,14 @@ use Rattle.ifmap_graph.specs.Sides.{Sides, list_next, list_now, sides_code}
 
 -- the shelves in the order of their items, the empty ones among them; the identifiers with their numbers; the links of each number on
 -- both sides; and the slot of each item's shelf, in the same order
-pub record Held : Type 0 where
+pub record GraphInside : Type 0 where
   pub shelves : List (Item × Option Shelf)
   pub names : Holdings Identifier
   pub links : List (Sides LinkSeen)
   pub places : List (Item × ℕ)
 
-abbrev pub held_code : Coded Item → Coded Shelf → Coded Identifier → Coded LinkSeen → Coded Held
-held_code item shelf identifier link =
+abbrev pub inside_code : Coded Item → Coded Shelf → Coded Identifier → Coded LinkSeen → Coded GraphInside
+inside_code item shelf identifier link =
     code_by
     (List (Item × Option Shelf) × (Holdings Identifier × (List (Sides LinkSeen) × List (Item × ℕ))))
     (coded× (coded_list (coded× item (coded_option shelf))) (coded× (holdings_code identifier) (coded× (coded_list (sides_code link))
@@ -64,5 +64,5 @@ pub record IsInside (names : Holdings Identifier) (look : ℕ → Option Shelf) 
   pub next_side : IsSide list_next look entries (links_at list_next links)
 
 -- an identifier is held so often by others than the shelves of the items that name it
-abbrev pub IsOwn : Held → Identifier → ℕ → Type 0
+abbrev pub IsOwn : GraphInside → Identifier → ℕ → Type 0
 IsOwn h a own = IsHeld identifier_order h.names a (uses_in h.shelves a + own)

@@ -5,7 +5,7 @@ ghost use Rattle.ifmap_ident.specs.Canon.{IsIdentifier};
 ghost use Rattle.ifmap_ident.specs.Identifiers.{identifier_order};
 ghost use Rattle.ifmap_pool.specs.Holdings.{holds_at, key_at, once};
 ghost use Rattle.ifmap_graph.specs.Back.{KeepsBacks};
-ghost use Rattle.ifmap_graph.specs.Held.{IsOwn};
+ghost use Rattle.ifmap_graph.specs.Inside.{IsOwn};
 ghost use Rattle.ifmap_graph.specs.Seen.{AwaitsMore, BringsNoNumbers, HasFewOwn, IsStill, StaysLean};
 ghost use Rattle.ifmap_graph.specs.Turning.{sides_at};
 

@@ -1,7 +1,7 @@
 use Rattle.std.proofs.Common.{arith}
 use Rattle.std.proofs.lemmas.Bool.{eq-eqb}
 use Rattle.ifmap_core.proofs.Holds.{empty_size, size_empty}
-use Rattle.ifmap_core.proofs.holding.is_queue_empty.Goals as goal
+use Rattle.ifmap_core.proofs.empty_polls.is_queue_empty.Goals as goal
 use Rattle.ifmap_lemmas.specs.Numbers.{equal_numbers}
 
 pub returns : goal.returns

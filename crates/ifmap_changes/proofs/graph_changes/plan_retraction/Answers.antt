@@ -1,5 +1,5 @@
 use Rattle.ifmap_graph.specs.Seen.{rows_now}
-use Rattle.ifmap_changes.proofs.changing.plan_retraction.Goals as goal
+use Rattle.ifmap_changes.proofs.graph_changes.plan_retraction.Goals as goal
 
 pub returns-clause-plan : goal.returns-clause-plan
 returns-clause-plan g c =

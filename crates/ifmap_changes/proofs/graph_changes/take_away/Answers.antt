@@ -6,7 +6,7 @@ use Rattle.ifmap_tellings.specs.ifmap_publish.Retract.{retract}
 use Rattle.ifmap_changes.specs.Between.{AreKept, state_now}
 use Rattle.ifmap_changes.specs.KeptLaws.{stays_kept}
 use Rattle.ifmap_changes.proofs.Taken.{taken_canon, taken_told}
-use Rattle.ifmap_changes.proofs.changing.take_away.Goals as goal
+use Rattle.ifmap_changes.proofs.graph_changes.take_away.Goals as goal
 
 pub make_change-requires-clause-canon : goal.make_change-requires-clause-canon
 make_change-requires-clause-canon g c = taken_canon c.in_ok-plan.ensures.plan

@@ -3,9 +3,9 @@ use Rattle.std.proofs.lemmas.Result.{on_ok_weaker}
 use Rattle.std.specs.List.{AllByRecursion}
 use Rattle.ifmap_changes.specs.Between.{AreKept, state_now}
 use Rattle.ifmap_changes.proofs.Taken.{author_of}
-use Rattle.ifmap_changes.proofs.changing.publish.Given as given
-use Rattle.ifmap_changes.proofs.changing.publish.Goals as goal
-use Rattle.ifmap_changes.proofs.changing.publish.Goals.{After-make_change}
+use Rattle.ifmap_changes.proofs.graph_changes.publish.Given as given
+use Rattle.ifmap_changes.proofs.graph_changes.publish.Goals as goal
+use Rattle.ifmap_changes.proofs.graph_changes.publish.Goals.{After-make_change}
 use Rattle.ifmap_graph.specs.Seen.{rows_now}
 use Rattle.ifmap_ident.specs.Items.{IsCanonItem}
 use Rattle.ifmap_lemmas.specs.Results.{on_err}

@@ -1,6 +1,6 @@
 //! Whether a poll has nothing to tell. No call takes memory.
 ghost use Rattle.std.specs.Prelude.{◌≡◌, ◌≢◌, ◌↔◌, ℕ, List, [], Some, IfNone, IfSome, IsTrue};
-ghost use Rattle.ifmap_core.specs.Holding.{HasNothing};
+ghost use Rattle.ifmap_core.specs.EmptyPolls.{HasNothing};
 ghost use Rattle.ifmap_subscribes.specs.ifmap_machine.declared.events.Ask.TheVariants as the_ask;
 ghost use Rattle.ifmap_subscribes.specs.ifmap_requests.declared.requests.Request.TheVariants as the_request;
 ghost use Rattle.ifmap_session.specs.Sessions.{IsLive, Session, session_with_serial};
