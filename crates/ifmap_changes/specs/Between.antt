@@ -158,6 +158,17 @@ pub record AreTurnedWith (items : List Item) (old new : Parts) : Type 0 where
 abbrev pub AreTurned : Parts → Parts → Type 0
 AreTurned = AreTurnedWith []
 
+-- a change was made while an event is answered, and these items came to be out: the graph is steady, what is so far is sound, and the
+-- parts were turned
+pub record AreChangedWith (items : List Item) (a : Asking) (old new : Parts) (after : Pending) : Type 0 where
+  pub steady : IsSteady new.graph new.standing.items
+  pub ready : IsSoundSoFar a new after
+  pub turned : AreTurnedWith items old new
+
+-- the same where none came to be
+abbrev pub AreChanged : Asking → Parts → Parts → Pending → Type 0
+AreChanged = AreChangedWith []
+
 -- numbers that have an identifier in both graphs have the same
 abbrev pub SharesNumbers : GraphInside → GraphInside → Type 0
 SharesNumbers old new = (v : ℕ) (a b : Identifier) → key_at old.names v ≡ Some a → key_at new.names v ≡ Some b → b ≡ a

@@ -3,7 +3,7 @@ ghost use Rattle.std.specs.Prelude.{◌≡◌, ◌≢◌, ◌<◌, ◌≤◌, �
 ghost use Rattle.std.specs.List.{AllByRecursion, list_any, zip};
 ghost use Rattle.std.specs.List.Sorted.{IsStrictlySortedBy};
 ghost use Rattle.std.specs.Ordering.{nat_cmp};
-ghost use Rattle.ifmap_changes.specs.Between.{AreBack, AreKept, AreOrdered, AreParts, AreTurned, AreTurnedWith, Asking, HasNoSubscriptions, IsSoundSoFar, IsSteady, sight_now, state_now};
+ghost use Rattle.ifmap_changes.specs.Between.{AreBack, AreChanged, AreChangedWith, AreKept, AreOrdered, AreParts, Asking, HasNoSubscriptions, IsSoundSoFar, IsSteady, sight_now, state_now};
 ghost use Rattle.ifmap_changes.specs.Bounds.{IsPlanWithin};
 ghost use Rattle.ifmap_changes.specs.Changes.{CanSettle, CanTakeBack, IsBegun, IsSettled, IsTold, TellsPlan, flags_with, sight_next};
 ghost use Rattle.ifmap_changes.specs.declared.parts.Parts.{Parts};
@@ -62,11 +62,9 @@ pub fn make_change<L: Ledger>(
     requires canon { AllByRecursion (λ n. IsCanonItem n.item) plan.notes }
     ensures told { OnOk result
         (TellsPlan asking.now plan parts.old pending.old parts.new pending.new) }
-    ensures steady { OnOk result (IsSteady parts.new.graph parts.new.standing.items) }
-    ensures ready { OnOk result (IsSoundSoFar asking.now parts.new pending.new) }
+    ensures changed { OnOk result (AreChanged asking.now parts.old parts.new pending.new) }
     ensures bare { OnOk result ((n : ℕ) → HasNoSubscriptions n parts.old pending.old
         → HasNoSubscriptions n parts.new pending.new) }
-    ensures turned { OnOk result (AreTurned parts.old parts.new) }
     ensures kept { OnErr result (AreKept parts.old parts.new) }
 
     // Also where memory runs out.
@@ -93,12 +91,10 @@ pub fn make_kept<L: Ledger>(
     requires canon { AllByRecursion (λ n. IsCanonItem n.item) plan.notes }
     ensures told { OnOk result
         (TellsPlan asking.now plan parts.old pending.old parts.new pending.new) }
-    ensures steady { OnOk result (IsSteady parts.new.graph parts.new.standing.items) }
-    ensures ready { OnOk result (IsSoundSoFar asking.now parts.new pending.new) }
+    ensures changed { IfOk result (λ made. AreChangedWith (items_changed made.undo.plan.changes)
+        asking.now parts.old parts.new pending.new) }
     ensures bare { OnOk result ((n : ℕ) → HasNoSubscriptions n parts.old pending.old
         → HasNoSubscriptions n parts.new pending.new) }
-    ensures turned { IfOk result (λ made. AreTurnedWith (items_changed made.undo.plan.changes)
-        parts.old parts.new) }
     ensures back { IfOk result (λ made. CanTakeBack made parts.old parts.new) }
     ensures numbers { OnOk result (KeepsNumbers parts.old.graph parts.new.graph) }
     ensures kept { OnErr result (AreKept parts.old parts.new) }

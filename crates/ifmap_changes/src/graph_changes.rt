@@ -1,7 +1,7 @@
 //! What changes the graph: what is published, and what goes with publishers and sessions.
 ghost use Rattle.std.specs.Prelude.{◌≡◌, ◌∷◌, ℕ, [], IfOk, OnErr, OnOk};
 ghost use Rattle.std.specs.List.{AllByRecursion};
-ghost use Rattle.ifmap_changes.specs.Between.{AreKept, AreTurned, AreTurnedWith, HasNoSubscriptions, IsSoundSoFar, IsSteady, state_now};
+ghost use Rattle.ifmap_changes.specs.Between.{AreChanged, AreChangedWith, AreKept, HasNoSubscriptions, IsSoundSoFar, IsSteady, state_now};
 ghost use Rattle.ifmap_changes.specs.Bounds.{IsEndedWithin, IsRetractedWithin, IsTakenWithin, IsToldWithin};
 ghost use Rattle.ifmap_changes.specs.Changes.{CanSettle, CanTakeBack, TakesAway, state_taken_from, take_session};
 ghost use Rattle.ifmap_tellings.specs.ifmap_machine.Telling.{overflow, tell};
@@ -51,9 +51,7 @@ pub fn publish<L: Ledger>(
     } in OnOk result (state_now asking.now parts.new pending.new
         ≡ overflow (tell (apply (rows_now parts.old.graph) by publication.now.ops.now)
         (notes_of by publication.now.ops.now) (state_now asking.now parts.old pending.old))) }
-    ensures steady { OnOk result (IsSteady parts.new.graph parts.new.standing.items) }
-    ensures ready { OnOk result (IsSoundSoFar asking.now parts.new pending.new) }
-    ensures turned { OnOk result (AreTurned parts.old parts.new) }
+    ensures changed { OnOk result (AreChanged asking.now parts.old parts.new pending.new) }
     ensures kept { OnErr result (AreKept parts.old parts.new) }
 
     // Also where memory runs out.
@@ -88,11 +86,9 @@ pub fn take_away<L: Ledger>(
     requires ready { IsSoundSoFar asking.now parts.old pending.old }
     ensures told { OnOk result (state_now asking.now parts.new pending.new
         ≡ state_taken_from who.now (state_now asking.now parts.old pending.old)) }
-    ensures steady { OnOk result (IsSteady parts.new.graph parts.new.standing.items) }
-    ensures ready { OnOk result (IsSoundSoFar asking.now parts.new pending.new) }
+    ensures changed { OnOk result (AreChanged asking.now parts.old parts.new pending.new) }
     ensures bare { OnOk result ((n : ℕ) → HasNoSubscriptions n parts.old pending.old
         → HasNoSubscriptions n parts.new pending.new) }
-    ensures turned { OnOk result (AreTurned parts.old parts.new) }
     ensures kept { OnErr result (AreKept parts.old parts.new) }
 
     // Also where memory runs out.
@@ -133,10 +129,8 @@ pub fn take_away_one<L: Ledger>(
     requires ready { IsSoundSoFar asking.now parts.old pending.old }
     ensures told { OnOk result (state_now asking.now parts.new pending.new
         ≡ take_session serial (state_now asking.now parts.old pending.old)) }
-    ensures steady { OnOk result (IsSteady parts.new.graph parts.new.standing.items) }
-    ensures ready { OnOk result (IsSoundSoFar asking.now parts.new pending.new) }
+    ensures changed { OnOk result (AreChanged asking.now parts.old parts.new pending.new) }
     ensures bare { OnOk result (HasNoSubscriptions serial parts.new pending.new) }
-    ensures turned { OnOk result (AreTurned parts.old parts.new) }
     ensures kept { OnErr result (AreKept parts.old parts.new) }
 
     // Also where memory runs out.
@@ -163,10 +157,8 @@ pub fn take_away_kept<L: Ledger>(
     requires ready { IsSoundSoFar asking.now parts.old pending.old }
     ensures told { OnOk result (state_now asking.now parts.new pending.new
         ≡ state_taken_from who.now (state_now asking.now parts.old pending.old)) }
-    ensures steady { OnOk result (IsSteady parts.new.graph parts.new.standing.items) }
-    ensures ready { OnOk result (IsSoundSoFar asking.now parts.new pending.new) }
-    ensures turned { IfOk result (λ made. AreTurnedWith (items_changed made.undo.plan.changes)
-        parts.old parts.new) }
+    ensures changed { IfOk result (λ made. AreChangedWith (items_changed made.undo.plan.changes)
+        asking.now parts.old parts.new pending.new) }
     ensures settle { IfOk result (λ made. CanSettle made parts.new) }
     ensures back { IfOk result (λ made. CanTakeBack made parts.old parts.new) }
     ensures numbers { OnOk result (KeepsNumbers parts.old.graph parts.new.graph) }

@@ -1,7 +1,7 @@
 //! How a session begins.
-ghost use Rattle.std.specs.Prelude.{◌≡◌, ◌<◌, ◌-◌, ◌^◌, ◌&&◌, nat_le, false, is_none, length, option_map, IfSome, OnOk};
+ghost use Rattle.std.specs.Prelude.{◌≡◌, ◌<◌, ◌-◌, ◌^◌, ◌&&◌, nat_le, false, is_none, length, option_map, IfSome, OnErr, OnOk};
 ghost use Rattle.std.specs.Bool.{OnFalse};
-ghost use Rattle.ifmap_subscribes.specs.ifmap_changes.Between.{CanEnd, HasNoSubscriptions, IsSoundSoFar, IsSteady, sessions_left, state_now};
+ghost use Rattle.ifmap_subscribes.specs.ifmap_changes.Between.{AreChanged, AreKept, CanEnd, HasNoSubscriptions, sessions_left, state_now};
 ghost use Rattle.ifmap_subscribes.specs.ifmap_changes.declared.parts.Parts.{Parts};
 ghost use Rattle.ifmap_subscribes.specs.ifmap_tellings.declared.tellings.Pending.{Pending};
 ghost use Rattle.ifmap_core.specs.Answering.{CanAnswer, GivesCompletion, TurnsOrKeeps};
@@ -136,10 +136,9 @@ fn take_away_former<L: Ledger>(
     requires { CanAnswer asking.now parts.old pending.old }
     ensures told { OnOk result (state_now asking.now parts.new pending.new
         ≡ take_former former (state_now asking.now parts.old pending.old)) }
-    ensures steady { OnOk result (IsSteady parts.new.graph parts.new.standing.items) }
-    ensures ready { OnOk result (IsSoundSoFar asking.now parts.new pending.new) }
+    ensures changed { OnOk result (AreChanged asking.now parts.old parts.new pending.new) }
     ensures bare { OnOk result (IfSome former (λ n. HasNoSubscriptions n parts.new pending.new)) }
-    ensures change { TurnsOrKeeps result parts.old parts.new }
+    ensures kept { OnErr result (AreKept parts.old parts.new) }
     ensures steps { IsFormerWithin former (state_now asking.now parts.old pending.old) steps.old
         steps.new }
 {

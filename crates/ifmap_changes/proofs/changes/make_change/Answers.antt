@@ -6,13 +6,30 @@ use Rattle.ifmap_changes.specs.Between.{IsSteady}
 use Rattle.ifmap_changes.proofs.changes.make_change.Goals as goal
 use Rattle.ifmap_tellings.specs.ifmap_standing.PlaceLaws.{searched_twice}
 
-pub returns-clause-steady : goal.returns-clause-steady
-returns-clause-steady g c =
-    let made = c.in_ok-made.ensures
+pub settle_made-requires-clause-steady : goal.settle_made-requires-clause-steady
+settle_made-requires-clause-steady g c =
+    let mid = c.make_kept.new.parts
+    in ([], subst (IsSteady mid.graph) (sym (append-nil mid.standing.items)) c.in_ok-made.ensures.changed.steady)
+
+pub returns-clause-changed : goal.returns-clause-changed
+returns-clause-changed g c =
+    let made = c.in_ok-made.ensures.changed
     in let mid = c.make_kept.new.parts
     in let new = c.settle_made.new.parts
-    in subst (IsSteady new.graph) (append-nil new.standing.items) (c.settle_made.ensures.steady []
-    (subst (IsSteady mid.graph) (sym (append-nil mid.standing.items)) made.steady))
+    in let settled = c.settle_made.ensures.settled
+    in record {
+      steady = subst (IsSteady new.graph) (append-nil new.standing.items) (c.settle_made.ensures.steady []
+          (subst (IsSteady mid.graph) (sym (append-nil mid.standing.items)) made.steady));
+      ready = c.settle_made.ensures.ready c.args.asking.now c.make_kept.new.pending made.ready;
+      turned = record {
+        waits = λ rest w. c.settle_made.ensures.waits rest (made.turned.waits rest w);
+        lean = λ rest l. c.settle_made.ensures.lean rest (made.turned.lean rest l);
+        searches = searched_twice c.args.parts.now.standing.items mid.standing.items new.standing.items made.turned.searches
+            settled.searches;
+        sessions = subst (λ (t : SessionTable). HasSameSessions c.args.parts.now.sessions t) (sym settled.sessions)
+            made.turned.sessions;
+      };
+    }
 
 pub returns-clause-bare : goal.returns-clause-bare
 returns-clause-bare g c = λ n bare.
@@ -20,17 +37,5 @@ returns-clause-bare g c = λ n bare.
     in let same = c.settle_made.ensures.settled.searches
     in let gone = c.make_kept.new.pending.gone.items
     in kept_later (λ x. x.serial ≢ n) (λ x. x.serial ≢ n) gone gone c.make_kept.new.parts.standing.items
-    c.settle_made.new.parts.standing.items made.ready.flags same.long
+    c.settle_made.new.parts.standing.items made.changed.ready.flags same.long
     (λ i x y p q other e. other (sym (same.at i x y p q).serial ∙ e)) (λ i e. e) (made.bare n bare)
-
-pub returns-clause-turned : goal.returns-clause-turned
-returns-clause-turned g c =
-    let made = c.in_ok-made.ensures
-    in let settled = c.settle_made.ensures.settled
-    in record {
-      waits = λ rest w. c.settle_made.ensures.waits rest (made.turned.waits rest w);
-      lean = λ rest l. c.settle_made.ensures.lean rest (made.turned.lean rest l);
-      searches = searched_twice c.args.parts.now.standing.items c.make_kept.new.parts.standing.items
-          c.settle_made.new.parts.standing.items made.turned.searches settled.searches;
-      sessions = subst (λ (t : SessionTable). HasSameSessions c.args.parts.now.sessions t) (sym settled.sessions) made.turned.sessions;
-    }

@@ -56,10 +56,12 @@ returns-in-Ok g c =
     }
     in record {
       told = told_made (out g place) made links steady c.requires.ready told c.bytes_tell_identifiers_apart.ensures;
-      steady = steady_made (out g place) made steady c.requires.fits;
-      ready = ready_made (out g place) made links steady c.requires.ready told;
+      changed = record {
+        steady = steady_made (out g place) made steady c.requires.fits;
+        ready = ready_made (out g place) made links steady c.requires.ready told;
+        turned = turned_made (out g place) made;
+      };
       bare = bare_made (out g place) made links steady c.requires.ready told;
-      turned = turned_made (out g place) made;
       back = back_made (out g place) made c.in-Ok.ways c.in-Ok.ensures.ways;
       numbers = numbers_made (out g place) made;
       kept = tt;
