@@ -2,7 +2,7 @@
 use Rattle.std.proofs.Common.{◌≡◌, refl, sym, ◌∙◌, ap, subst, ℕ, zero, suc, ◌+◌, ◌<◌, ◌≤◌, Bool, true, false, cond, List, [], ◌∷◌, ◌++◌, drop, get_or, length, take, append-nil, append_assoc, add-one, arith}
 use Rattle.std.proofs.lemmas.List.{drop_all, drop_more, take_all}
 use Rattle.ifmap_subscribes.specs.ifmap_changes.Between.{IsSteady}
-use Rattle.ifmap_core.proofs.Keeping.{kept_next}
+use Rattle.ifmap_lemmas.specs.Keeping.{kept_next}
 use Rattle.ifmap_core.proofs.Steady.{steady_front}
 use Rattle.ifmap_subscribes.specs.ifmap_graph.Inside.{GraphInside}
 use Rattle.ifmap_subscribes.specs.ifmap_graph.Seen.{BringsNoNumbers}
