@@ -379,7 +379,7 @@ fn close_test(alloc: Global, standing: &mut FilterProgress) -> Result<bool, NoMe
     ensures { IfOk result (λ allowed. StandsAt allowed standing.new
         (step_done (context standing.old.open_part) CloseBracket)) }
 {
-    if !standing.open_part.outer.is_empty() {
+    if !standing.open_part.outer.0.is_empty() {
         return Ok(false);
     }
     let open_part = &mut standing.open_part;
