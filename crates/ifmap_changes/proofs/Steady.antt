@@ -51,7 +51,8 @@ all_numbered tells old new seen fewer own all s =
 
 -- so the graph is steady for those that came in their places, beside others
 pub steady_beside : BytesTellIdentifiers → (old new : GraphInside) → IsSeen old → IsStill new → AreWhole (rows_now new)
-    → BringsNoNumbers old new → KeepsOwn old new → (xs ys more : List Standing) → HaveSameSearches xs ys → IsSteady old (xs ++ more) → IsSteady new (ys ++ more)
+    → BringsNoNumbers old new → KeepsOwn old new → (xs ys more : List Standing) → HaveSameSearches xs ys
+    → IsSteady old (xs ++ more) → IsSteady new (ys ++ more)
 steady_beside tells old new seen still whole fewer own xs ys more same s =
     let numbered = all_both (HasStartNumber new) xs more (all_numbered tells old new seen fewer own (xs ++ more) s) in
     record {

@@ -33,7 +33,8 @@ module _ (gone : List Bool) (xs : List Standing) (i : ℕ) (flags : length gone 
       (subst (λ t. IsSteady mid (kept_items (take i gone) (take i xs) ++ t)) (here x more is) (so more s))
 
   pub released_next : (x : Standing) (old mid new : GraphInside) → get_or xs i x ≡ x → get_or gone i false ≡ true
-      → ReleasesSoFar gone xs i old mid → ((more : List Standing) → IsSteady mid (x ∷ more) → IsSteady new more) → ReleasesSoFar gone xs (i + 1) old new
+      → ReleasesSoFar gone xs i old mid → ((more : List Standing) → IsSteady mid (x ∷ more) → IsSteady new more)
+      → ReleasesSoFar gone xs (i + 1) old new
   released_next x old mid new is e so goes = λ more s.
       subst (λ t. IsSteady new (t ++ (drop (i + 1) xs ++ more)))
       (sym (next x true e is ∙ append-nil (kept_items (take i gone) (take i xs))))

@@ -345,7 +345,8 @@ rows_ended counter n rows i a kept e =
       small = kept.small;
       own = own_set n rows i a None kept.own e tt;
       counted = counted_set counter n rows i a None kept.counted e;
-      apart = rw live (keys_filter is_same_text (λ (t : Session). t.client) (λ (t : Session). not (t.serial == n)) (live_of rows) kept.apart);
+      apart = rw live (keys_filter is_same_text (λ (t : Session). t.client) (λ (t : Session). not (t.serial == n)) (live_of rows)
+          kept.apart);
       few = let less = filter_shorter (λ (t : Session). not (t.serial == n)) (live_of rows) in let few = kept.few in rw live (omega arith);
     }
 

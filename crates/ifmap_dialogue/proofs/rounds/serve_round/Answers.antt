@@ -63,4 +63,7 @@ returns-in-Truncated-clause-serves g c =
 
 pub answer_post-requires : goal.answer_post-requires
 answer_post-requires g c =
-    record { short = subst (λ (p : Post). length p.body ≤ longest_post) (sym c.close_last_post-post.ensures) c.in-Posted.ensures.answerable }
+    record {
+      short = subst (λ (p : Post). length p.body ≤ longest_post) (sym c.close_last_post-post.ensures)
+          c.in-Posted.ensures.answerable;
+    }
