@@ -12,7 +12,7 @@ use std::fmt;
 /// How the program ends.
 #[derive(Clone, Copy, Debug, PartialEq, Eq)]
 pub enum End {
-    /// The words ask for no call.
+    /// The words ask for no destination.
     Usage,
     /// A connection could not be made.
     NoConnection,

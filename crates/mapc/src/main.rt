@@ -1,7 +1,7 @@
 //! The program `mapc`: its words, two connections, the standard streams, and one call.
 #![tactic(auto)]
 
-mod calls;
+mod destinations;
 mod endings;
 
 ghost use Rattle.std.specs.Prelude.{◌≡◌, IsFalse};
@@ -11,7 +11,7 @@ ghost use Rattle.ifmap_client_script.specs.Promises.{IsCarriedOut};
 ghost use Rattle.ifmap_http.specs.Wires.{wire_seen};
 ghost use Rattle.mapc.specs.Statuses.{end_status};
 
-use crate::calls::{Call, call_of};
+use crate::destinations::{Destination, destination_of};
 use crate::endings::{End, status_of};
 use ifmap_client_script::{Outcome, run_script};
 use ifmap_http::Wire;
@@ -36,17 +36,17 @@ fn main(rt: HostRuntime) -> ExitCode {
 
 // All that the program does with its words.
 fn run(rt: &HostRuntime, words: &[String]) -> End {
-    match call_of(rt.alloc(), words) {
-        Ok(Some(call)) => run_call(rt, &call),
+    match destination_of(rt.alloc(), words) {
+        Ok(Some(to)) => connect_and_carry_out(rt, &to),
         Ok(None) => End::Usage,
         Err(_) => End::Script(Outcome::NoMemory),
     }
 }
 
 // Carries out the script of standard input over two connections.
-fn run_call(rt: &HostRuntime, call: &Call) -> End {
-    match (connect(rt, call), connect(rt, call)) {
-        (Ok(first), Ok(second)) => carry_out_over(rt, call, first, second),
+fn connect_and_carry_out(rt: &HostRuntime, to: &Destination) -> End {
+    match (connect(rt, to), connect(rt, to)) {
+        (Ok(first), Ok(second)) => carry_out_over(rt, to, first, second),
         (Err(error), _) => end_without(error),
         (_, Err(error)) => end_without(error),
     }
@@ -61,25 +61,25 @@ fn end_without(error: io::Error) -> End {
 }
 
 // Carries out the script of standard input over these links.
-fn carry_out_over(rt: &HostRuntime, call: &Call, first: TcpLink, second: TcpLink) -> End {
+fn carry_out_over(rt: &HostRuntime, to: &Destination, first: TcpLink, second: TcpLink) -> End {
     let mut source = StdSource::new(rt.stdin());
     let mut sink = StdSink::new(rt.stdout());
     let mut first = Wire::new(rt.alloc(), first);
     let mut second = Wire::new(rt.alloc(), second);
     let alloc = rt.alloc();
-    End::Script(carry_out(alloc, call, &mut source, &mut sink, &mut first, &mut second))
+    End::Script(carry_out(alloc, to, &mut source, &mut sink, &mut first, &mut second))
 }
 
-// A link to the call's address.
-fn connect<R: Net<Stream = TcpStream>>(net: &R, call: &Call) -> io::Result<TcpLink> {
-    let stream = TcpStream::connect(net, call.host.as_str())?;
+// A link to the address of a destination.
+fn connect<R: Net<Stream = TcpStream>>(net: &R, to: &Destination) -> io::Result<TcpLink> {
+    let stream = TcpStream::connect(net, to.host.as_str())?;
     Ok(TcpLink::new(stream))
 }
 
-// Carries out the script of that source for the call's client, over two wires to its host.
+// Carries out the script of that source for the client of a destination, over two wires to its host.
 fn carry_out<S: Source, K: Sink, A: Link, B: Link>(
     alloc: Global,
-    call: &Call,
+    to: &Destination,
     source: &mut S,
     sink: &mut K,
     first: &mut Wire<A>,
@@ -87,7 +87,7 @@ fn carry_out<S: Source, K: Sink, A: Link, B: Link>(
 ) -> Outcome
     requires first { IsFalse first.old.spent }
     requires second { IsFalse second.old.spent }
-    ensures { IsCarriedOut (record { client = call.now.client; host = call.now.host })
+    ensures { IsCarriedOut (record { client = to.now.client; host = to.now.host })
         (source_and_ports (S.left source.old) (S.faults source.old)
         (ports (K.held sink.old) (K.faults sink.old)
         (wire_seen A.left A.held A.Source.faults A.Sink.faults first.old)
@@ -97,7 +97,7 @@ fn carry_out<S: Source, K: Sink, A: Link, B: Link>(
         (wire_seen A.left A.held A.Source.faults A.Sink.faults first.new)
         (wire_seen B.left B.held B.Source.faults B.Sink.faults second.new))) result }
 {
-    run_script(alloc, &call.client, &call.host, source, sink, first, second)
+    run_script(alloc, &to.client, &to.host, source, sink, first, second)
 }
 
 fn exit_code_of(end: End) -> ExitCode

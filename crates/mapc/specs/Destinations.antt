@@ -12,7 +12,7 @@ IsAddress address = (1 ≤ length address) × (is_visible address ≡ true)
 abbrev pub IsAskable : List ℕ → List ℕ → Type 0
 IsAskable address name = IsAddress address × IsClientName name
 
--- these are the host and the client of a call
+-- these are the host and the client of a destination
 abbrev pub AreHostAndClient : List ℕ → List ℕ → List ℕ → List ℕ → Type 0
 AreHostAndClient address name host client = (host ≡ address) × (client ≡ name) × IsAskable address name
 
