@@ -11,7 +11,7 @@ use Rattle.ifmap_client_script.specs.declared.outcomes.ScriptFailure.{ScriptFail
 use Rattle.ifmap_client_script.specs.declared.outcomes.ScriptFailure.TheVariants as failure
 use Rattle.ifmap_client_script.specs.declared.scripts.NextLine.{NextLine}
 use Rattle.ifmap_client_script.specs.Deeds.{CanDo, Known}
-use Rattle.ifmap_client_script.specs.Pending.{WaitsForLine, IsLineEnd, IsLineTooLong, Pending}
+use Rattle.ifmap_client_script.specs.TakenBytes.{WaitsForLine, IsLineEnd, IsLineTooLong, TakenBytes}
 use Rattle.ifmap_client_script.specs.Scripts.{BeginsLine, HasNoNewline, IsBadLine, IsWithinLineLimits}
 use Rattle.ifmap_client_script.specs.Turns.{ReadsAt, ReadsNext}
 
@@ -100,7 +100,7 @@ bad_long offset bytes known long = (
 
 -- ---- what reading the next line gives
 
-module _ (left_old left_new : Option (List ℕ)) (offset : ℕ) (old new : Pending) where
+module _ (left_old left_new : Option (List ℕ)) (offset : ℕ) (old new : TakenBytes) where
   pub reads_line : (place : ℕ) (r : Result (Option NextLine) ScriptFailure)
       → WaitsForLine left_old left_new offset old new (Ok (Some place))
       → ReadsAt new.bytes place r → ReadsNext left_old left_new offset old new r

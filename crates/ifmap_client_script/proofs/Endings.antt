@@ -20,7 +20,7 @@ use Rattle.ifmap_client_script.specs.Deeds.{Deed, IsDeedFor, Known, after_deed, 
 use Rattle.ifmap_client_script.specs.Ends.{ArePortsLater, SourceAndPorts, IsLaterInRun, IsLaterWire, LinkFailed, Ports}
 use Rattle.ifmap_client_script.specs.Exchanges.{HasAny, HasNoReply, HasPart, IsFrontOfPost, WireFailed}
 use Rattle.ifmap_client_script.specs.Holding.{known_of}
-use Rattle.ifmap_client_script.specs.Pending.{Fetches, Pending, nothing_taken}
+use Rattle.ifmap_client_script.specs.TakenBytes.{Fetches, TakenBytes, nothing_taken}
 use Rattle.ifmap_client_script.specs.Promises.{Cutting, Did, IsCarriedOut, IsFaulty, IsPartlyDone, IsUnanswered, IsUnread, IsUnwritten, IsWholePost, Posted, ScriptPromises, CarriesTaken, Wrote, known_after}
 use Rattle.ifmap_client_script.specs.Scripts.{IsBadLine}
 use Rattle.ifmap_client_script.specs.ScriptFailures.{script_outcome}
@@ -102,7 +102,7 @@ pub begin : (caller : Caller) (before : SourceAndPorts) (script : Scripting) →
 begin caller before script is first second = record {
   deeds = [];
   fetched = subst (λ (n : ℕ). Fetched before.left before.left n [] script.pending) (sym is.offset)
-      (subst (λ (p : Pending). Fetched before.left before.left 0 [] p) (sym is.pending) (nothing_fetched before.left));
+      (subst (λ (p : TakenBytes). Fetched before.left before.left 0 [] p) (sym is.pending) (nothing_fetched before.left));
   known = is.known;
   line_is = let l = is.line in omega arith;
   did = nothing_did caller before.ports first second;
@@ -129,7 +129,7 @@ pub not_begun : (caller : Caller) (before : SourceAndPorts) → before.ports.fir
 not_begun caller before first second = record { promises = none_begun caller before first second; later = same_ends before }
 
 module _ (caller : Caller) (before now after : SourceAndPorts) (old : Scripting) (r : Reached caller before now old) where
-  fetched_more : (pending : Pending) → Fetches now.left after.left old.pending pending
+  fetched_more : (pending : TakenBytes) → Fetches now.left after.left old.pending pending
       → Fetched before.left after.left old.offset r.deeds pending
   fetched_more pending more = fetch before.left now.left after.left old.offset r.deeds old.pending pending r.fetched more
 
@@ -140,7 +140,7 @@ module _ (caller : Caller) (before now after : SourceAndPorts) (old : Scripting)
       pass before.left after.left old.offset r.deeds t.pending t.text t.rest line d (fetched_more t.pending t.fetched) t.begins t.means
       (subst (λ (k : Known). IsDeedFor k line d) r.known does)
 
-  taken : (offset : ℕ) (deeds : List Deed) (pending : Pending) → Fetched before.left after.left offset deeds pending
+  taken : (offset : ℕ) (deeds : List Deed) (pending : TakenBytes) → Fetched before.left after.left offset deeds pending
       → CarriesTaken before after deeds pending.bytes offset
   taken offset deeds pending f = record {
     taken = f.taken;
@@ -162,7 +162,7 @@ module _ (caller : Caller) (before now after : SourceAndPorts) (old : Scripting)
         deeds = r.deeds ++ d ∷ [];
         fetched = subst (λ (n : ℕ). Fetched before.left after.left n (r.deeds ++ d ∷ []) new.pending) (sym t.offset)
             (subst
-            (λ (p : Pending). Fetched before.left after.left (old.offset + length t.takes.text + 1) (r.deeds ++ d ∷ []) p)
+            (λ (p : TakenBytes). Fetched before.left after.left (old.offset + length t.takes.text + 1) (r.deeds ++ d ∷ []) p)
             (sym t.pending) (passed t.line t.takes d t.carried.does));
         known = t.carried.known ∙ ap (λ (k : Known). after_deed d k) r.known ∙ sym (known_snoc r.deeds d nothing_known);
         line_is = let a = t.line_is in let b = r.line_is in let c = length-append r.deeds (d ∷ []) in omega arith;

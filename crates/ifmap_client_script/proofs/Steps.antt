@@ -17,7 +17,7 @@ use Rattle.ifmap_client_script.specs.declared.exchanges.Caller.{Caller}
 use Rattle.ifmap_client_script.specs.Deeds.{Exchange, Deed, IsDeedFor, Known, after_deed, after_deeds, is_poll, nothing_known}
 use Rattle.ifmap_client_script.specs.Ends.{Ports}
 use Rattle.ifmap_client_script.specs.Exchanges.{HasPostedAndHeard, first_asks, second_asks}
-use Rattle.ifmap_client_script.specs.Pending.{Fetches, Pending, with_bytes, with_last_newline}
+use Rattle.ifmap_client_script.specs.TakenBytes.{Fetches, TakenBytes, with_bytes, with_last_newline}
 use Rattle.ifmap_client_script.specs.Printing.{deed_text, deeds_text}
 use Rattle.ifmap_client_script.specs.Promises.{Broken, Cutting, Did, Exchanged, Posted, Wrote}
 use Rattle.ifmap_client_script.specs.Scripts.{BeginsLine, Carries, HasNoNewline, IsTakenScript}
@@ -40,7 +40,7 @@ script_still false left new taken script s still = inl s
 script_still true left new taken script s still = subst (λ (l : Option (List ℕ)). IsTakenScript l taken script) (sym (still refl)) s.0
 
 -- what is pending is what these deeds left of a script that was taken
-pub record Fetched (start left : Option (List ℕ)) (offset : ℕ) (deeds : List Deed) (pending : Pending) : Type 0 where
+pub record Fetched (start left : Option (List ℕ)) (offset : ℕ) (deeds : List Deed) (pending : TakenBytes) : Type 0 where
   pub taken : List ℕ
   pub script : List ℕ
   pub consumed : Consumes start left taken
@@ -78,7 +78,7 @@ scripted_more true left new taken script got s idle =
     (subst (λ (t : List ℕ). Scripted true left t (script ++ [])) (sym (append-nil taken))
     (subst (λ (t : List ℕ). Scripted true left taken t) (sym (append-nil script)) s)))
 
-module _ (start left new : Option (List ℕ)) (offset : ℕ) (deeds : List Deed) (old : Pending) (f : Fetched start left offset deeds old)
+module _ (start left new : Option (List ℕ)) (offset : ℕ) (deeds : List Deed) (old : TakenBytes) (f : Fetched start left offset deeds old)
     (got : List ℕ) (consumed : Consumes left new got) where
   fetch_more : (old.ended ≡ true → (got ≡ []) × (new ≡ left)) → Fetched start new offset deeds (with_bytes old got)
   fetch_more idle = record {
@@ -133,7 +133,7 @@ module _ (start left new : Option (List ℕ)) (offset : ℕ) (deeds : List Deed)
             (ap (λ (l : List ℕ). offset + length l) (sym is) ∙ more_length offset old.bytes f.script got f.offset_is);
       }
 
-pub fetch : (start left new : Option (List ℕ)) (offset : ℕ) (deeds : List Deed) (old pending : Pending)
+pub fetch : (start left new : Option (List ℕ)) (offset : ℕ) (deeds : List Deed) (old pending : TakenBytes)
     → Fetched start left offset deeds old → Fetches left new old pending → Fetched start new offset deeds pending
 fetch start left new offset deeds old pending f more = at more.grown
   where
@@ -142,16 +142,16 @@ fetch start left new offset deeds old pending f more = at more.grown
         × HasNoNewline (old.bytes ++ more.got)))
         → Fetched start new offset deeds pending
     at (inl e) =
-        subst (λ (p : Pending). Fetched start new offset deeds p) (sym e)
+        subst (λ (p : TakenBytes). Fetched start new offset deeds p) (sym e)
         (fetch_more start left new offset deeds old f more.got more.consumed more.idle)
     at (inr e) =
-        subst (λ (p : Pending). Fetched start new offset deeds p) (sym e.0)
+        subst (λ (p : TakenBytes). Fetched start new offset deeds p) (sym e.0)
         (fetch_last start left new offset deeds old f more.got more.consumed (old.bytes ++ more.got) refl e.1 e.2 e.3)
 
 -- ---- a line
 
-pub pass : (start left : Option (List ℕ)) (offset : ℕ) (deeds : List Deed) (pending : Pending) (text rest : List ℕ) (line : Line) (d : Deed)
-    → Fetched start left offset deeds pending → BeginsLine offset pending.bytes text rest → IsLine text line
+pub pass : (start left : Option (List ℕ)) (offset : ℕ) (deeds : List Deed) (pending : TakenBytes) (text rest : List ℕ) (line : Line)
+    (d : Deed) → Fetched start left offset deeds pending → BeginsLine offset pending.bytes text rest → IsLine text line
     → IsDeedFor (after_deeds deeds nothing_known) line d
     → Fetched start left (offset + length text + 1) (deeds ++ d ∷ []) (record { bytes = rest; ended = pending.ended })
 pass start left offset deeds pending text rest line d f begins means does = record {

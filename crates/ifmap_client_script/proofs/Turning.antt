@@ -16,16 +16,16 @@ use Rattle.ifmap_client_script.specs.Deeds.{CanDo}
 use Rattle.ifmap_client_script.specs.Ends.{SourceAndPorts, Ports, source_and_ports}
 use Rattle.ifmap_client_script.specs.Exchanges.{HasAny, IsFrontOfPost}
 use Rattle.ifmap_client_script.specs.Holding.{known_of}
-use Rattle.ifmap_client_script.specs.Pending.{Fetches, Pending}
+use Rattle.ifmap_client_script.specs.TakenBytes.{Fetches, TakenBytes}
 use Rattle.ifmap_client_script.specs.Turns.{Cut, DoesNext, IsNextLine, ReadsNext, Scripting, TakesLine, IsScriptTurn, Unanswered}
 use Rattle.ifmap_client_script.proofs.Beginnings.{bad_at, begins_at}
 
 -- the script with what is pending now
-abbrev pub at_pending : Scripting → Pending → Scripting
+abbrev pub at_pending : Scripting → TakenBytes → Scripting
 at_pending old pending = record { client = old.client; pending = pending; offset = old.offset; line = old.line }
 
 module _ (caller : Caller) (left left_new : Option (List ℕ)) (faults faults_new : ℕ) (before after : Ports) (old new : Scripting)
-    (pending : Pending) where
+    (pending : TakenBytes) where
   abbrev from_ends : SourceAndPorts
   from_ends = source_and_ports left faults before
 
@@ -86,10 +86,10 @@ module _ (caller : Caller) (left left_new : Option (List ℕ)) (faults faults_ne
     turned (Err failure.NoMemory) d = memory d.0
 
 module _ (caller : Caller) (left left_new : Option (List ℕ)) (faults faults_new : ℕ) (ports : Ports) (old new : Scripting)
-    (pending : Pending) where
+    (pending : TakenBytes) where
   pub turned_end : ReadsNext left left_new old.offset old.pending pending (Ok None)
       → IsScriptTurn caller (source_and_ports left faults ports) (source_and_ports left_new faults_new ports) old new (Ok turn.Ended)
-  turned_end read = record { fetched = subst (λ (p : Pending). Fetches left left_new old.pending p) read.1 read.0; kept = refl }
+  turned_end read = record { fetched = subst (λ (p : TakenBytes). Fetches left left_new old.pending p) read.1 read.0; kept = refl }
 
   pub turned_err : (e : ScriptFailure) → ReadsNext left left_new old.offset old.pending pending (Err e)
       → (e ≡ failure.ReadFault → Rose faults faults_new)

@@ -13,7 +13,7 @@ use Rattle.ifmap_input.specs.Inputs.{TakesFromSource}
 use Rattle.ifmap_client.specs.Lines.{line_limit}
 use Rattle.ifmap_client_script.specs.declared.outcomes.ScriptFailure.{ScriptFailure}
 use Rattle.ifmap_client_script.specs.declared.outcomes.ScriptFailure.TheVariants as failure
-use Rattle.ifmap_client_script.specs.Pending.{WaitsForLine, Fetches, Fills, Gathers, IsClosed, IsGathered, IsLineTooLong, IsWaiting, LooksForLine, Pending, with_bytes, with_last_newline}
+use Rattle.ifmap_client_script.specs.TakenBytes.{WaitsForLine, Fetches, Fills, Gathers, IsClosed, IsGathered, IsLineTooLong, IsWaiting, LooksForLine, TakenBytes, with_bytes, with_last_newline}
 use Rattle.ifmap_client_script.specs.Scripts.{AwaitsLine, HasNoNewline}
 
 -- ---- looking
@@ -22,7 +22,7 @@ below : (bytes : List ℕ) → bytes ≢ [] → length bytes - 1 < length bytes
 below [] some = absurd (some refl)
 below (b ∷ bytes) some = omega arith
 
-pub too_long : (offset : ℕ) (pending : Pending) → IsGathered offset pending → IsClosed pending → pending.bytes ≢ []
+pub too_long : (offset : ℕ) (pending : TakenBytes) → IsGathered offset pending → IsClosed pending → pending.bytes ≢ []
     → HasNoNewline pending.bytes → IsLineTooLong offset pending.bytes
 too_long offset pending (inl ended) shut some plain =
     absurd (plain (length pending.bytes - 1) (below pending.bytes some) (shut ended some))
@@ -35,10 +35,10 @@ too_long offset pending (inr over) shut some plain = record {
 
 -- ---- taking
 
-same_bytes : (pending : Pending) → pending ≡ with_bytes pending []
+same_bytes : (pending : TakenBytes) → pending ≡ with_bytes pending []
 same_bytes pending = ap (λ (b : List ℕ). record { bytes = b; ended = pending.ended }) (sym (append-nil pending.bytes))
 
-pub fetches_nothing : (left : Option (List ℕ)) (pending : Pending) → Fetches left left pending pending
+pub fetches_nothing : (left : Option (List ℕ)) (pending : TakenBytes) → Fetches left left pending pending
 fetches_nothing left pending = record {
   got = [];
   consumed = Consumes-nil left;
@@ -46,7 +46,7 @@ fetches_nothing left pending = record {
   grown = inl (same_bytes pending);
 }
 
-module _ (left_old left_mid left_new : Option (List ℕ)) (old mid new : Pending) (first : Fetches left_old left_mid old mid)
+module _ (left_old left_mid left_new : Option (List ℕ)) (old mid new : TakenBytes) (first : Fetches left_old left_mid old mid)
     (open_yet : mid.ended ≡ false) where
   open_before : old.ended ≡ false
   open_before = at first.grown
@@ -55,7 +55,7 @@ module _ (left_old left_mid left_new : Option (List ℕ)) (old mid new : Pending
           ⊎ ((mid ≡ record { bytes = with_last_newline (old.bytes ++ first.got); ended = true }) × (old.ended ≡ false) × IsAtEnd left_mid
           × HasNoNewline (old.bytes ++ first.got)))
           → old.ended ≡ false
-      at (inl e) = sym (ap (λ (p : Pending). p.ended) e) ∙ open_yet
+      at (inl e) = sym (ap (λ (p : TakenBytes). p.ended) e) ∙ open_yet
       at (inr e) = e.1
 
   grown_first : mid ≡ with_bytes old first.got
@@ -66,11 +66,11 @@ module _ (left_old left_mid left_new : Option (List ℕ)) (old mid new : Pending
           × HasNoNewline (old.bytes ++ first.got)))
           → mid ≡ with_bytes old first.got
       at (inl e) = e
-      at (inr e) = not_both_ways mid.ended (ap (λ (p : Pending). p.ended) e.0) open_yet
+      at (inr e) = not_both_ways mid.ended (ap (λ (p : TakenBytes). p.ended) e.0) open_yet
 
   joined : (got : List ℕ) → mid.bytes ++ got ≡ old.bytes ++ (first.got ++ got)
   joined got =
-      ap (λ (p : Pending). p.bytes ++ got) grown_first ∙ append_assoc old.bytes first.got got
+      ap (λ (p : TakenBytes). p.bytes ++ got) grown_first ∙ append_assoc old.bytes first.got got
 
   pub fetches_more : Fetches left_mid left_new mid new → Fetches left_old left_new old new
   fetches_more second = record {
@@ -99,7 +99,7 @@ module _ (left_old left_mid left_new : Option (List ℕ)) (old mid new : Pending
 
 -- ---- one read
 
-module _ (left_old left_new : Option (List ℕ)) (old new : Pending) (bytes : List ℕ) (open_yet : old.ended ≡ false)
+module _ (left_old left_new : Option (List ℕ)) (old new : TakenBytes) (bytes : List ℕ) (open_yet : old.ended ≡ false)
     (takes : TakesFromSource left_old left_new old.bytes bytes) where
   pub fills_end : HasNoNewline old.bytes → bytes ≡ old.bytes → IsAtEnd left_new
       → new ≡ record { bytes = with_last_newline bytes; ended = true } → Fills left_old left_new old new (Ok tt)
@@ -115,7 +115,7 @@ module _ (left_old left_new : Option (List ℕ)) (old new : Pending) (bytes : Li
         subst HasNoNewline (sym (append-nil old.bytes)) plain,
       );
     },
-    inl (ap (λ (p : Pending). p.ended) is),
+    inl (ap (λ (p : TakenBytes). p.ended) is),
   )
 
   pub fills_more : length old.bytes < length bytes → new ≡ record { bytes = bytes; ended = old.ended }
@@ -127,7 +127,7 @@ module _ (left_old left_new : Option (List ℕ)) (old new : Pending) (bytes : Li
       idle = λ ended. not_both_ways old.ended ended open_yet;
       grown = inl (is ∙ ap (λ (b : List ℕ). record { bytes = b; ended = old.ended }) takes.grown);
     },
-    inr (subst (λ (p : Pending). length old.bytes < length p.bytes) (sym is) longer),
+    inr (subst (λ (p : TakenBytes). length old.bytes < length p.bytes) (sym is) longer),
   )
 
   pub fills_fault : bytes ≡ old.bytes → new ≡ record { bytes = bytes; ended = old.ended }
@@ -140,14 +140,14 @@ module _ (left_old left_new : Option (List ℕ)) (old new : Pending) (bytes : Li
 -- ---- taking until a line is there
 
 -- how much more may be taken
-abbrev pub room_for : Pending → ℕ
+abbrev pub room_for : TakenBytes → ℕ
 room_for pending = if pending.ended then 0 else (line_limit + 2 - length pending.bytes)
 
 due_short : (offset : ℕ) (bytes : List ℕ) → AwaitsLine offset bytes → length bytes ≤ line_limit
 due_short offset [] due = omega arith
 due_short offset (b ∷ bytes) due = (due.within (λ e. cc)).short
 
-pub room_shrinks : (left_old left_new : Option (List ℕ)) (offset : ℕ) (old new : Pending) → IsWaiting offset old
+pub room_shrinks : (left_old left_new : Option (List ℕ)) (offset : ℕ) (old new : TakenBytes) → IsWaiting offset old
     → Fills left_old left_new old new (Ok tt) → room_for new < room_for old
 room_shrinks left_old left_new offset old new waiting fills = rw waiting.open_yet (at fills.1)
   where
@@ -163,7 +163,7 @@ room_shrinks left_old left_new offset old new waiting fills = rw waiting.open_ye
         by true longer = let s = short in omega arith
         by false longer = let s = short in omega arith
 
-module _ (left_old left_mid left_new : Option (List ℕ)) (offset : ℕ) (old mid new : Pending) (first : Fetches left_old left_mid old mid)
+module _ (left_old left_mid left_new : Option (List ℕ)) (offset : ℕ) (old mid new : TakenBytes) (first : Fetches left_old left_mid old mid)
     (waiting : IsWaiting offset mid) where
   pub gathers_more : Fills left_mid left_new mid new (Ok tt) → Fetches left_old left_new old new
   gathers_more fills = fetches_more left_old left_mid left_new old mid new first waiting.open_yet fills.0
@@ -176,7 +176,7 @@ module _ (left_old left_mid left_new : Option (List ℕ)) (offset : ℕ) (old mi
       idle = λ ended. not_both_ways mid.ended ended waiting.open_yet;
       grown = inl (fills.1 ∙ same_bytes mid);
     }),
-    subst (λ (p : Pending). AwaitsLine offset p.bytes) (sym fills.1) waiting.due,
+    subst (λ (p : TakenBytes). AwaitsLine offset p.bytes) (sym fills.1) waiting.due,
   )
   gathers_err failure.NoMemory fills = record {
     got = first.got ++ fills.0;
@@ -191,7 +191,7 @@ module _ (left_old left_mid left_new : Option (List ℕ)) (offset : ℕ) (old mi
 
 -- ---- a line
 
-pub awaits_err : (left_old left_new : Option (List ℕ)) (offset : ℕ) (old new : Pending) (e : ScriptFailure)
+pub awaits_err : (left_old left_new : Option (List ℕ)) (offset : ℕ) (old new : TakenBytes) (e : ScriptFailure)
     → Gathers left_old left_new offset old new (Err e) → WaitsForLine left_old left_new offset old new (Err e)
 awaits_err left_old left_new offset old new failure.ReadFault g = g
 awaits_err left_old left_new offset old new failure.NoMemory g = g
@@ -201,7 +201,7 @@ awaits_err left_old left_new offset old new failure.LinkFault g = absurd g
 awaits_err left_old left_new offset old new failure.LinkEnded g = absurd g
 awaits_err left_old left_new offset old new failure.BadReply g = absurd g
 
-pub looked : (left_old left_new : Option (List ℕ)) (offset : ℕ) (old new : Pending) (r : Result (Option ℕ) ScriptFailure)
+pub looked : (left_old left_new : Option (List ℕ)) (offset : ℕ) (old new : TakenBytes) (r : Result (Option ℕ) ScriptFailure)
     → Fetches left_old left_new old new → LooksForLine offset new r → WaitsForLine left_old left_new offset old new r
 looked left_old left_new offset old new (Ok (Some place)) f l = (f, l.0, l.1)
 looked left_old left_new offset old new (Ok None) f l = (f, l)
@@ -216,7 +216,7 @@ looked left_old left_new offset old new (Err failure.BadReply) f l = absurd l
 abbrev IsFault : Result (Option ℕ) ScriptFailure → Type 0
 IsFault r = r ≡ Err failure.ReadFault
 
-pub looks_no_fault : {P : Type 0} (offset : ℕ) (pending : Pending) (r : Result (Option ℕ) ScriptFailure) → LooksForLine offset pending r
+pub looks_no_fault : {P : Type 0} (offset : ℕ) (pending : TakenBytes) (r : Result (Option ℕ) ScriptFailure) → LooksForLine offset pending r
     → IsFault r → P
 looks_no_fault offset pending (Ok found) l e = cc
 looks_no_fault offset pending (Err failure.ReadFault) l e = absurd l

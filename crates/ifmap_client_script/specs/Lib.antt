@@ -8,5 +8,5 @@ pub mod Ends
 pub mod Outlets
 pub mod Promises
 pub mod Holding
-pub mod Pending
+pub mod TakenBytes
 pub mod Turns

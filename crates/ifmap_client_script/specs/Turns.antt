@@ -14,7 +14,7 @@ use Rattle.ifmap_client_script.specs.Deeds.{CanDo, Deed, IsDeedFor, Known, after
 use Rattle.ifmap_client_script.specs.Ends.{SourceAndPorts, LinkFailed, Ports, ScriptReadFailed, PrintFailed}
 use Rattle.ifmap_client_script.specs.Exchanges.{HasAny, HasNoReply, HasPart, IsFrontOfPost}
 use Rattle.ifmap_client_script.specs.Holding.{Holding, known_of}
-use Rattle.ifmap_client_script.specs.Pending.{Fetches, IsLineEnd, Loses, Pending, nothing_taken}
+use Rattle.ifmap_client_script.specs.TakenBytes.{Fetches, IsLineEnd, Loses, TakenBytes, nothing_taken}
 use Rattle.ifmap_client_script.specs.Promises.{Cutting, Did, IsWholePost, Posted, Wrote}
 use Rattle.ifmap_client_script.specs.Scripts.{AwaitsLine, BeginsLine, IsBadLine, IsWithinLineLimits}
 
@@ -60,7 +60,7 @@ CarriesOut caller line before after old new (Err failure.NoMemory) =
 -- a script: what the client knows, what is pending, and the offset and the number of the next line
 pub record Scripting : Type 0 where
   pub client : Holding
-  pub pending : Pending
+  pub pending : TakenBytes
   pub offset : ℕ
   pub line : ℕ
 
@@ -90,7 +90,7 @@ ReadsAt bytes place (Err failure.LinkEnded) = ⊥
 ReadsAt bytes place (Err failure.BadReply) = ⊥
 
 -- what reading the next line gives
-abbrev pub ReadsNext : (left_old left_new : Option (List ℕ)) (offset : ℕ) (old new : Pending) → Result (Option NextLine) ScriptFailure
+abbrev pub ReadsNext : (left_old left_new : Option (List ℕ)) (offset : ℕ) (old new : TakenBytes) → Result (Option NextLine) ScriptFailure
     → Type 0
 ReadsNext left_old left_new offset old new (Ok (Some next)) = Fetches left_old left_new old new × IsNextLine offset new.bytes next
 ReadsNext left_old left_new offset old new (Ok None) =
@@ -121,7 +121,7 @@ DoesNext caller next before after old new (Err e) =
 module _ (before after : SourceAndPorts) (old : Scripting) where
   -- a line was taken
   pub record TakesLine (line : Line) : Type 0 where
-    pub pending : Pending
+    pub pending : TakenBytes
     pub fetched : Fetches before.left after.left old.pending pending
     pub text : List ℕ
     pub rest : List ℕ
@@ -145,14 +145,14 @@ module _ (caller : Caller) (before after : SourceAndPorts) (old : Scripting) whe
 
   -- no line that can be carried out begins
   pub record IsAtFault : Type 0 where
-    pub pending : Pending
+    pub pending : TakenBytes
     pub fetched : Fetches before.left after.left old.pending pending
     pub fault : IsBadLine old.offset (known_of old.client) pending.bytes
     pub kept : after.ports ≡ before.ports
 
   -- a read failed that was due
   pub record IsDue : Type 0 where
-    pub pending : Pending
+    pub pending : TakenBytes
     pub fetched : Fetches before.left after.left old.pending pending
     pub awaited : AwaitsLine old.offset pending.bytes
     pub kept : after.ports ≡ before.ports

@@ -3,7 +3,7 @@ ghost use Rattle.std.specs.Prelude.{◌≡◌, ◌≤◌, ◌<◌, ◌+◌, drop
 ghost use Rattle.std.specs.Bool.{OnFalse, OnTrue};
 ghost use Rattle.ifmap_io.specs.Causes.{Rose};
 ghost use Rattle.ifmap_input.specs.Scripts.{longest_script};
-ghost use Rattle.ifmap_client_script.specs.Pending.{WaitsForLine, Fills, Gathers, IsClosed, IsLineEnd, IsGathered, IsWaiting, LooksForLine, nothing_taken, with_last_newline};
+ghost use Rattle.ifmap_client_script.specs.TakenBytes.{WaitsForLine, Fills, Gathers, IsClosed, IsLineEnd, IsGathered, IsWaiting, LooksForLine, nothing_taken, with_last_newline};
 ghost use Rattle.ifmap_client_script.specs.Scripts.{AwaitsLine, HasNoNewline, IsWithinLineLimits};
 
 use crate::outcomes::ScriptFailure;
@@ -22,9 +22,9 @@ pub struct Lines {
 }
 
 impl Model for Lines {
-    ghost use Rattle.ifmap_client_script.specs.Pending.{IsClosed, Pending};
+    ghost use Rattle.ifmap_client_script.specs.TakenBytes.{IsClosed, TakenBytes};
 
-    ghost Value = { Pending };
+    ghost Value = { TakenBytes };
 
     ghost view = { λ lines. record { bytes = lines.input; ended = lines.ended } };
 

@@ -1,5 +1,5 @@
 use Rattle.std.proofs.Common.{◌≤◌}
-use Rattle.ifmap_client_script.specs.Pending.{Fetches}
+use Rattle.ifmap_client_script.specs.TakenBytes.{Fetches}
 use Rattle.ifmap_client_script.proofs.Waiting.{room_for}
 use Rattle.ifmap_client_script.proofs.lines.Lines.gather.Given as goal
 

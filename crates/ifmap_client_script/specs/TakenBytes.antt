@@ -7,16 +7,16 @@ use Rattle.ifmap_client_script.specs.declared.outcomes.ScriptFailure.TheVariants
 use Rattle.ifmap_client_script.specs.Scripts.{AwaitsLine, HasNoNewline, IsWithinLineLimits}
 
 -- the bytes, and whether the source has told its end
-pub record Pending : Type 0 where
+pub record TakenBytes : Type 0 where
   pub bytes : List ℕ
   pub ended : Bool
 
 -- nothing was taken
-abbrev pub nothing_taken : Pending
+abbrev pub nothing_taken : TakenBytes
 nothing_taken = record { bytes = []; ended = false }
 
 -- what is pending, and these bytes after it
-abbrev pub with_bytes : Pending → List ℕ → Pending
+abbrev pub with_bytes : TakenBytes → List ℕ → TakenBytes
 with_bytes pending got = record { bytes = pending.bytes ++ got; ended = pending.ended }
 
 -- what is pending at the end of a source: a last line gets its newline
@@ -25,13 +25,13 @@ with_last_newline [] = []
 with_last_newline (b ∷ bytes) = (b ∷ bytes) ++ line_feed ∷ []
 
 -- once a source has told its end, a newline is the last of what is pending
-abbrev pub IsClosed : Pending → Type 0
+abbrev pub IsClosed : TakenBytes → Type 0
 IsClosed pending =
     pending.ended ≡ true → pending.bytes ≢ [] → slice_index pending.bytes (length pending.bytes - 1) ≡ line_feed
 
 -- what was pending grew by what was taken from the source, of which nothing is taken once it has told its end; there a last line
 -- got its newline
-pub record Fetches (left_old left_new : Option (List ℕ)) (old new : Pending) : Type 0 where
+pub record Fetches (left_old left_new : Option (List ℕ)) (old new : TakenBytes) : Type 0 where
   pub got : List ℕ
   pub consumed : Consumes left_old left_new got
   pub idle : old.ended ≡ true → (got ≡ []) × (left_new ≡ left_old)
@@ -41,7 +41,7 @@ pub record Fetches (left_old left_new : Option (List ℕ)) (old new : Pending) :
       × HasNoNewline (old.bytes ++ got))
 
 -- something was taken from the source, of which nothing is taken once it has told its end
-pub record Loses (left_old left_new : Option (List ℕ)) (old : Pending) : Type 0 where
+pub record Loses (left_old left_new : Option (List ℕ)) (old : TakenBytes) : Type 0 where
   pub got : List ℕ
   pub consumed : Consumes left_old left_new got
   pub idle : old.ended ≡ true → left_new ≡ left_old
@@ -60,16 +60,16 @@ pub record IsLineTooLong (offset : ℕ) (bytes : List ℕ) : Type 0 where
   pub long : IsWithinLineLimits offset size → ⊥
 
 -- more is to be taken for the line that begins here
-pub record IsWaiting (offset : ℕ) (pending : Pending) : Type 0 where
+pub record IsWaiting (offset : ℕ) (pending : TakenBytes) : Type 0 where
   pub open_yet : pending.ended ≡ false
   pub due : AwaitsLine offset pending.bytes
 
 -- no more is to be taken for it
-abbrev pub IsGathered : ℕ → Pending → Type 0
+abbrev pub IsGathered : ℕ → TakenBytes → Type 0
 IsGathered offset pending = (pending.ended ≡ true) ⊎ (AwaitsLine offset pending.bytes → ⊥)
 
 -- what taking for a line gives
-abbrev pub Gathers : (left_old left_new : Option (List ℕ)) (offset : ℕ) (old new : Pending) → Result (Unit {0}) ScriptFailure → Type 0
+abbrev pub Gathers : (left_old left_new : Option (List ℕ)) (offset : ℕ) (old new : TakenBytes) → Result (Unit {0}) ScriptFailure → Type 0
 Gathers left_old left_new offset old new (Ok _) = Fetches left_old left_new old new × IsGathered offset new
 Gathers left_old left_new offset old new (Err failure.ReadFault) =
     Fetches left_old left_new old new × AwaitsLine offset new.bytes
@@ -81,7 +81,7 @@ Gathers left_old left_new offset old new (Err failure.LinkEnded) = ⊥
 Gathers left_old left_new offset old new (Err failure.BadReply) = ⊥
 
 -- what looking for a line gives, for which no more is to be taken
-abbrev pub LooksForLine : ℕ → Pending → Result (Option ℕ) ScriptFailure → Type 0
+abbrev pub LooksForLine : ℕ → TakenBytes → Result (Option ℕ) ScriptFailure → Type 0
 LooksForLine offset pending (Ok (Some place)) = IsLineEnd pending.bytes place × IsWithinLineLimits offset place
 LooksForLine offset pending (Ok None) = pending ≡ record { bytes = []; ended = true }
 LooksForLine offset pending (Err failure.BadLine) = IsLineTooLong offset pending.bytes
@@ -93,7 +93,8 @@ LooksForLine offset pending (Err failure.LinkEnded) = ⊥
 LooksForLine offset pending (Err failure.BadReply) = ⊥
 
 -- what waiting for a line gives
-abbrev pub WaitsForLine : (left_old left_new : Option (List ℕ)) (offset : ℕ) (old new : Pending) → Result (Option ℕ) ScriptFailure → Type 0
+abbrev pub WaitsForLine : (left_old left_new : Option (List ℕ)) (offset : ℕ) (old new : TakenBytes)
+    → Result (Option ℕ) ScriptFailure → Type 0
 WaitsForLine left_old left_new offset old new (Ok (Some place)) =
     Fetches left_old left_new old new × IsLineEnd new.bytes place × IsWithinLineLimits offset place
 WaitsForLine left_old left_new offset old new (Ok None) =
@@ -107,7 +108,7 @@ WaitsForLine left_old left_new offset old new (Err failure.LinkEnded) = ⊥
 WaitsForLine left_old left_new offset old new (Err failure.BadReply) = ⊥
 
 -- what taking more gives
-abbrev pub Fills : (left_old left_new : Option (List ℕ)) (old new : Pending) → Result (Unit {0}) ScriptFailure → Type 0
+abbrev pub Fills : (left_old left_new : Option (List ℕ)) (old new : TakenBytes) → Result (Unit {0}) ScriptFailure → Type 0
 Fills left_old left_new old new (Ok _) =
     Fetches left_old left_new old new × ((new.ended ≡ true) ⊎ (length old.bytes < length new.bytes))
 Fills left_old left_new old new (Err failure.ReadFault) = Consumes left_old left_new [] × (new ≡ old)
