@@ -11,7 +11,7 @@ use Rattle.ifmap_region.specs.Links.{IsSymmetric}
 use Rattle.ifmap_region.specs.Marks.{row_of, mark_over}
 use Rattle.ifmap_region.specs.Walks.{Walk, begins, goes_on, AreDepths, Expands}
 use Rattle.ifmap_region.specs.Near.{IsMoved}
-use Rattle.ifmap_region.specs.Losing.{Enters, HasNearerMark, IsLosing, AreGone, Reseeds}
+use Rattle.ifmap_region.specs.Losing.{GetsMarkedRow, HasNearerMark, IsLosing, AreGone, Reseeds}
 use Rattle.ifmap_region.specs.Spreading.{IsBound, IsReady}
 use Rattle.ifmap_region.proofs.Depths.{marked, marked_start, closed_from, supported, sound_from, walk_along}
 
@@ -62,7 +62,7 @@ module _ (old mid : ℕ → ℕ → Type 0) (terminal : ℕ → Bool) (start top
   }
 
   -- a number without a row gets one, and comes into the queue
-  module _ (rows rows' : List (ℕ × Option ℕ)) (seeds seeds' queued queued' : ℕ → ℕ → Type 0) (level j v : ℕ) (e : Enters j v rows rows')
+  module _ (rows rows' : List (ℕ × Option ℕ)) (seeds seeds' queued queued' : ℕ → ℕ → Type 0) (level j v : ℕ) (e : GetsMarkedRow j v rows rows')
       (first_here : first v ≡ Some j) (above : 0 < j) (near : IsNear v)
       (there : (k x : ℕ) → seeds k x → ((k ≡ j) × (x ≡ v)) ⊎ seeds' k x) (back : (k x : ℕ) → seeds' k x → seeds k x)
       (kept : (k x : ℕ) → queued k x → queued' k x) (new : queued' j v) (out : (k x : ℕ) → queued' k x → ((k ≡ j) × (x ≡ v)) ⊎ queued k x)

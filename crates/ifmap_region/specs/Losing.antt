@@ -10,7 +10,7 @@ use Rattle.ifmap_region.specs.Spreading.{queue_at}
 use Rattle.ifmap_region.specs.Walks.{Walk, AreDepths, Expands}
 
 -- a number without a row got one with the mark of a level
-pub record Enters (level v : ℕ) (rows rows' : List (ℕ × Option ℕ)) : Type 0 where
+pub record GetsMarkedRow (level v : ℕ) (rows rows' : List (ℕ × Option ℕ)) : Type 0 where
   pub bare : row_of rows v ≡ None
   pub here : row_of rows' v ≡ Some (Some level)
   pub others : (q : ℕ) → q ≢ v → row_of rows' q ≡ row_of rows q
@@ -19,7 +19,7 @@ pub record Enters (level v : ℕ) (rows rows' : List (ℕ × Option ℕ)) : Type
 abbrev pub Awaits : ℕ → ℕ → List (ℕ × Option ℕ) → List (ℕ × Option ℕ) → List ℕ → List ℕ → Type 0
 Awaits level v rows rows' queue queue' =
     (IsSome (row_of rows v) × (rows' ≡ rows) × (queue' ≡ queue))
-    ⊎ (Enters level v rows rows' × (queue' ≡ queue ++ v ∷ []))
+    ⊎ (GetsMarkedRow level v rows rows' × (queue' ≡ queue ++ v ∷ []))
 
 -- a neighbour that is nearer by one, and not terminal, has its mark
 abbrev pub HasNearerMark : (ℕ → ℕ → Type 0) → (ℕ → Bool) → (ℕ → Option ℕ) → ℕ → ℕ → Type 0
