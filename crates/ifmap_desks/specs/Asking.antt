@@ -11,7 +11,7 @@ use Rattle.ifmap_dialogue.specs.Desks.{DeskSeen}
 use Rattle.ifmap_hall.specs.Answers.{IfDone, IfHeld, IfSpent, IfNoMemory}
 use Rattle.ifmap_hall.specs.HallAsks.{Answered, AnsweredFromBase}
 use Rattle.ifmap_hall.specs.Books.{end_of_book, sight_of}
-use Rattle.ifmap_hall.specs.Passes.{number_of, parts_of, view_of}
+use Rattle.ifmap_hall.specs.Passes.{pass_number, pass_parts, view_of}
 use Rattle.ifmap_hall.specs.Sights.{CarriesOn}
 use Rattle.ifmap_hall.specs.Turns.{Enters, HadToGo, SameLimits, Settles}
 use Rattle.ifmap_hall.specs.Views.{sight_by}
@@ -73,10 +73,10 @@ abbrev pub view_at : {R : Type 0} → PassDesk R → CoreView
 view_at desk = view_of desk.pass.now
 
 abbrev pub number_at : {R : Type 0} → PassDesk R → ℕ
-number_at desk = number_of desk.pass.now
+number_at desk = pass_number desk.pass.now
 
 abbrev pub parts_at : {R : Type 0} → PassDesk R → ℕ
-parts_at desk = parts_of desk.pass.now
+parts_at desk = pass_parts desk.pass.now
 
 -- what contracts see of a desk over a pass
 abbrev pub pass_seen : {R : Type 0} → PassDesk R → DeskSeen (Hall CoreMachine FitEvent Answer)

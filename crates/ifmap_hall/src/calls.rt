@@ -8,7 +8,7 @@ ghost use Rattle.ifmap_hall.specs.SeatViews.{share};
 ghost use Rattle.ifmap_hall.specs.Views.{first_view, kept_view, given_view, joint_view};
 ghost use Rattle.ifmap_hall.specs.Views.{sight_by, IsSoundView};
 ghost use Rattle.ifmap_hall.specs.HallAsks.{TookATurn, Answered, AnsweredFromBase};
-ghost use Rattle.ifmap_hall.specs.Passes.{IsOf, view_of, number_of, parts_of};
+ghost use Rattle.ifmap_hall.specs.Passes.{IsOf, view_of, pass_number, pass_parts};
 
 use crate::book::{Asked, Book};
 use crate::hall::{Hall, Pass};
@@ -55,7 +55,7 @@ where
         ensures hall { IfOk result (λ r. IsOf r.0 r.1) }
         ensures view { IfOk result (λ r. view_of r.1 ≡ first_view (view_of r.1).terms) }
         ensures sound { IfOk result (λ r. IsSoundView (view_of r.1)) }
-        ensures parts { IfOk result (λ r. parts_of r.1 ≡ 2 ^ 64 - 1) }
+        ensures parts { IfOk result (λ r. pass_parts r.1 ≡ 2 ^ 64 - 1) }
         ensures opening { IfOk result (λ r. (view_of r.1).terms.opening.value ≡ base) }
         ensures limit { IfOk result (λ r. (view_of r.1).terms.limit ≡ limit) }
         ensures heaviest { IfOk result (λ r. (view_of r.1).terms.heaviest ≡ heaviest) }
@@ -97,17 +97,17 @@ where
     pub fn split(&self, pass: &mut Pass<M>) -> Result<Pass<M>, NoMemory>
         requires hall { IsOf self.now pass.old }
         ensures hall { IsOf self.now pass.new }
-        ensures number { number_of pass.new ≡ number_of pass.old }
+        ensures number { pass_number pass.new ≡ pass_number pass.old }
         ensures kept { IfOk result (λ _. view_of pass.new ≡ kept_view (view_of pass.old)) }
         ensures given { IfOk result (λ p. view_of p ≡ given_view (view_of pass.old)) }
         ensures given_hall { IfOk result (λ p. IsOf self.now p) }
         ensures sound { IsSoundView (view_of pass.new) }
         ensures given_sound { IfOk result (λ p. IsSoundView (view_of p)) }
-        ensures parts { IfOk result (λ p. (parts_of p ≡ share (parts_of pass.old))
-            × (parts_of pass.new + parts_of p ≡ parts_of pass.old)) }
+        ensures parts { IfOk result (λ p. (pass_parts p ≡ share (pass_parts pass.old))
+            × (pass_parts pass.new + pass_parts p ≡ pass_parts pass.old)) }
         ensures err { OnErr result ((view_of pass.new ≡ view_of pass.old)
-            × (parts_of pass.new ≡ parts_of pass.old)) }
-        ensures err_when { OnErr result (parts_of pass.old < 2) }
+            × (pass_parts pass.new ≡ pass_parts pass.old)) }
+        ensures err_when { OnErr result (pass_parts pass.old < 2) }
     {
         if pass.parts < 2 {
             return Err(NoMemory);
@@ -130,7 +130,7 @@ where
     pub fn join(&self, into: &mut Pass<M>, from: Pass<M>)
         requires hall { IsOf self.now into.old × IsOf self.now from }
         ensures hall { IsOf self.now into.new }
-        ensures number { number_of into.new ≡ number_of into.old }
+        ensures number { pass_number into.new ≡ pass_number into.old }
         ensures view { view_of into.new ≡ joint_view (view_of into.old) (view_of from) }
         ensures carries_this { CarriesOn M.next
             (sight_by M.next (view_of into.old)) (sight_by M.next (view_of into.new)) }
@@ -139,7 +139,7 @@ where
         ensures apart { (x : ℕ)
             → times x (view_of into.old).mine + times x (view_of from).mine ≤ 1 }
         ensures sound { IsSoundView (view_of into.new) }
-        ensures parts { parts_of into.new ≡ parts_of into.old + parts_of from }
+        ensures parts { pass_parts into.new ≡ pass_parts into.old + pass_parts from }
     {
         let Pass {
             seat,
@@ -164,15 +164,15 @@ where
         requires hall { IsOf self.now pass.old }
         requires light { M.weight_of event ≤ (view_of pass.old).terms.heaviest }
         ensures hall { IsOf self.now pass.new }
-        ensures number { number_of pass.new ≡ number_of pass.old }
-        ensures parts { parts_of pass.new ≡ parts_of pass.old }
+        ensures number { pass_number pass.new ≡ pass_number pass.old }
+        ensures parts { pass_parts pass.new ≡ pass_parts pass.old }
         ensures carries { CarriesOn M.next
             (sight_by M.next (view_of pass.old)) (sight_by M.next (view_of pass.new)) }
         ensures took { TookATurn (view_of pass.old) (view_of pass.new) }
         ensures answered { Answered M.next M.holds_on M.reply
-            (view_of pass.old) (view_of pass.new) (number_of pass.old) event result }
+            (view_of pass.old) (view_of pass.new) (pass_number pass.old) event result }
         ensures from_base { AnsweredFromBase M.next M.holds_on M.reply
-            (sight_by M.next (view_of pass.new)) (number_of pass.old) event result }
+            (sight_by M.next (view_of pass.new)) (pass_number pass.old) event result }
     {
         let number = pass.number;
         ask_seat(rt, &self.table.shared, alloc, &mut pass.seat, number, event)

@@ -7,7 +7,7 @@ use Rattle.ifmap_desks.specs.Machines.{core_next}
 use Rattle.ifmap_desks.proofs.PassTurns.{fits, gains}
 use Rattle.ifmap_desks.proofs.Recalling.{recalls, used_up}
 use Rattle.ifmap_desks.proofs.TellingTurns.{tells_plain}
-use Rattle.ifmap_hall.specs.Passes.{number_of, view_of}
+use Rattle.ifmap_hall.specs.Passes.{pass_number, view_of}
 use Rattle.ifmap_hall.specs.Sights.{run}
 use Rattle.ifmap_hall.specs.declared.book.Asked.{Asked}
 use Rattle.ifmap_dialogue.specs.ifmap_machine.Agreeing.{Agrees}
@@ -28,9 +28,9 @@ returns g c =
     record {
       tells = tells_plain (Some (map plain_call v.said)) (Some (map plain_call w.said)) (Some v.turns) (Some w.turns) desk.counts
           c.count.new.self desk.hall.now desk.hall.now desk.pass.ghost_name desk.pass.ghost_name c.args.event fit c.from_event.ensures given
-          c.plain_asked-answer.result c.plain_asked-answer.ensures (gains v w (number_of desk.pass.now) fit given e.answered)
+          c.plain_asked-answer.result c.plain_asked-answer.ensures (gains v w (pass_number desk.pass.now) fit given e.answered)
           (v.turns, refl, e.took.turns) c.count.ensures refl refl
-          (fits v w (number_of desk.pass.now) fit c.holding_is_exact.ensures c.answers_fit_events.ensures given e.answered);
+          (fits v w (pass_number desk.pass.now) fit c.holding_is_exact.ensures c.answers_fit_events.ensures given e.answered);
       number = e.number;
       parts = e.parts;
       carries = e.carries;
@@ -58,14 +58,14 @@ invariant_of-self-clause-recalls g c =
     let e = c.ask-asked.ensures in
     ∥∥₁_map c.args.self.now.recalls
     (recalls (view_of c.args.self.now.pass.now) (view_of c.ask-asked.new.pass) e.took
-    (number_of c.args.self.now.pass.now) c.from_event.result
+    (pass_number c.args.self.now.pass.now) c.from_event.result
     c.ask-asked.result e.answered)
 
 pub invariant_of-self-clause-used_up : goal.invariant_of-self-clause-used_up
 invariant_of-self-clause-used_up g c =
     let e = c.ask-asked.ensures in
     used_up (view_of c.args.self.now.pass.now) (view_of c.ask-asked.new.pass) e.took
-    (number_of c.args.self.now.pass.now) c.from_event.result
+    (pass_number c.args.self.now.pass.now) c.from_event.result
     c.ask-asked.result c.args.self.now.counts c.count.new.self e.answered
     (subst (λ (a : Asked Event Answer). Counted a c.args.self.now.counts c.count.new.self) c.plain_asked-answer.ensures c.count.ensures)
     c.args.self.now.used_up
