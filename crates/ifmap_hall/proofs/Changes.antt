@@ -5,7 +5,7 @@ use mathlib.Core.Option.{}
 use Rattle.atomic_table.proofs.Lists.{at_set}
 use Rattle.ifmap_hall.specs.Histories.{Extends, Ordered}
 use Rattle.ifmap_hall.specs.Places.{times, once_below}
-use Rattle.ifmap_hall.specs.Rule.{Homes, Sits, SeatFits, AtHome, IsOut, IsInTurn}
+use Rattle.ifmap_hall.specs.Rule.{Homes, Sits, SeatFits, AtHome, IsAway, IsInTurn}
 use Rattle.ifmap_hall.specs.SeatViews.{tickets_of, ticket_of, holds_book}
 use Rattle.ifmap_hall.specs.declared.view.History.{History}
 use Rattle.ifmap_hall.specs.declared.view.SeatView.{SeatView}
@@ -74,7 +74,7 @@ module _ {M E R : Type 0} (next : M → E → M) (weight : E → ℕ) where
         }
 
     pub seat_goes : (words' : List ℕ) (homes' : Homes M E R) → words' ≡ served % 2 ^ 64 ∷ drawn % 2 ^ 64 ∷ []
-        → AtHome next weight terms history homes' (set seats id u) ⊎ IsOut next weight homes' (set seats id u)
+        → AtHome next weight terms history homes' (set seats id u) ⊎ IsAway next weight homes' (set seats id u)
         → IsInTurn next weight terms words' homes' (set seats id u)
     seat_goes words' homes' words_are slot = record {
       history = history;

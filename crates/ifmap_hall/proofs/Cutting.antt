@@ -10,7 +10,7 @@ use Rattle.atomic_table.specs.Table.{Splits}
 use Rattle.atomic_table.proofs.Lists.{at_set, set_else, at_snoc, at_longer}
 use Rattle.ifmap_hall.specs.Histories.{Ordered}
 use Rattle.ifmap_hall.specs.Places.{times}
-use Rattle.ifmap_hall.specs.Rule.{Homes, Sits, SeatFits, AtHome, IsOut, IsInTurn, Keeps}
+use Rattle.ifmap_hall.specs.Rule.{Homes, Sits, SeatFits, AtHome, IsAway, IsInTurn, Keeps}
 use Rattle.ifmap_hall.specs.SeatViews.{share, tickets_of, holds_book, kept_seat, given_seat}
 use Rattle.ifmap_hall.specs.declared.view.History.{History}
 use Rattle.ifmap_hall.specs.declared.view.SeatView.{SeatView}
@@ -140,9 +140,9 @@ module _ {M E R : Type 0} (next : M → E → M) (weight : E → ℕ) where
     cut_free free i x (is_given e) = ap (λ (y : SeatView M E R). holds_book y.stage) (sym e)
     cut_free free i x (is_old n e) = free i x e
 
-    cut_slot : AtHome next weight terms k.history homes seats ⊎ IsOut next weight homes seats
+    cut_slot : AtHome next weight terms k.history homes seats ⊎ IsAway next weight homes seats
         → AtHome next weight terms k.history homes (set seats id (kept_seat s) ++ given_seat s ∷ [])
-        ⊎ IsOut next weight homes (set seats id (kept_seat s) ++ given_seat s ∷ [])
+        ⊎ IsAway next weight homes (set seats id (kept_seat s) ++ given_seat s ∷ [])
     cut_slot (inl a) = inl (record {
       book = a.book;
       there = a.there;

@@ -17,7 +17,7 @@ use Rattle.atomic_table.specs.Table.{Step, Act, keeps, takes, Valid, homes_after
 use Rattle.atomic_table.proofs.Lists.{at_set, set_here, set_else, set_again, one_turn}
 use Rattle.ifmap_hall.specs.Histories.{BookStandsFor}
 use Rattle.ifmap_hall.specs.Plays.{Draws, Looks, LooksAtRest}
-use Rattle.ifmap_hall.specs.Rule.{Homes, Sits, AtHome, IsOut, IsInTurn, Keeps}
+use Rattle.ifmap_hall.specs.Rule.{Homes, Sits, AtHome, IsAway, IsInTurn, Keeps}
 use Rattle.ifmap_hall.specs.SeatViews.{tickets_of, ticket_of, holds_book, with_ticket, with_book}
 use Rattle.ifmap_hall.specs.declared.book.Book.{Book}
 use Rattle.ifmap_hall.specs.declared.view.History.{History}
@@ -37,8 +37,8 @@ module _ {M E R : Type 0} (next : M → E → M) (weight : E → ℕ) where
   -- the slot, where a seat that has no book changes into one that has none
   pub same_slot : (terms : Terms M) (h : History E) (id : ℕ) (s u : SeatView M E R) (homes : Homes M E R) (seats : List (SeatView M E R))
       → Sits seats id s → holds_book s.stage ≡ false → holds_book u.stage ≡ false
-      → AtHome next weight terms h homes seats ⊎ IsOut next weight homes seats
-      → AtHome next weight terms h homes (set seats id u) ⊎ IsOut next weight homes (set seats id u)
+      → AtHome next weight terms h homes seats ⊎ IsAway next weight homes seats
+      → AtHome next weight terms h homes (set seats id u) ⊎ IsAway next weight homes (set seats id u)
   same_slot terms h id s u homes seats sits hs hu (inl a) = inl (record {
     book = a.book;
     there = a.there;
@@ -136,7 +136,7 @@ module _ {M E R : Type 0} (next : M → E → M) (weight : E → ℕ) where
 
       -- the book is in its slot, where the ticket that is served is that of a seat without the book
       finds : tickets_of s.stage ≡ 1 → holds_book s.stage ≡ false → k.served ≡ ticket_of s.stage
-          → AtHome next weight terms k.history homes seats ⊎ IsOut next weight homes seats → AtHome next weight terms k.history homes seats
+          → AtHome next weight terms k.history homes seats ⊎ IsAway next weight homes seats → AtHome next weight terms k.history homes seats
       finds waits free here (inl a) = a
       finds waits free here (inr o) =
           let x = holder_served o.seat o.holder o.sits o.holds in

@@ -9,7 +9,7 @@ use Rattle.atomic_table.specs.Table.{Joins}
 use Rattle.atomic_table.proofs.Lists.{at_set, set_else}
 use Rattle.ifmap_hall.specs.Histories.{Extends, Ordered}
 use Rattle.ifmap_hall.specs.Places.{times}
-use Rattle.ifmap_hall.specs.Rule.{Homes, Sits, SeatFits, AtHome, IsOut, IsInTurn, Keeps}
+use Rattle.ifmap_hall.specs.Rule.{Homes, Sits, SeatFits, AtHome, IsAway, IsInTurn, Keeps}
 use Rattle.ifmap_hall.specs.SeatViews.{tickets_of, holds_book, joint_seat, spent_seat}
 use Rattle.ifmap_hall.specs.Views.{is_later}
 use Rattle.ifmap_hall.specs.declared.view.History.{History}
@@ -159,9 +159,9 @@ module _ {M E R : Type 0} (next : M → E → M) (weight : E → ℕ) where
     glue_free free i x (is_spent p e) = ap (λ (y : SeatView M E R). holds_book y.stage) (sym e)
     glue_free free i x (is_old n o e) = free i x e
 
-    glue_slot : AtHome next weight terms k.history homes seats ⊎ IsOut next weight homes seats
+    glue_slot : AtHome next weight terms k.history homes seats ⊎ IsAway next weight homes seats
         → AtHome next weight terms k.history homes (set (set seats id (joint_seat s u)) other (spent_seat m))
-        ⊎ IsOut next weight homes (set (set seats id (joint_seat s u)) other (spent_seat m))
+        ⊎ IsAway next weight homes (set (set seats id (joint_seat s u)) other (spent_seat m))
     glue_slot (inl a) = inl (record {
       book = a.book;
       there = a.there;

@@ -6,7 +6,7 @@ use mathlib.Core.Option.{some}
 use Rattle.ifmap_hall.specs.Books.{IsBook, sight_of, end_of_book}
 use Rattle.ifmap_hall.specs.Histories.{BookStandsFor}
 use Rattle.ifmap_hall.specs.Places.{once_below}
-use Rattle.ifmap_hall.specs.Rule.{AreSharedOut, AtHome, Homes, IsOut, Keeping, Sits}
+use Rattle.ifmap_hall.specs.Rule.{AreSharedOut, AtHome, Homes, IsAway, Keeping, Sits}
 use Rattle.ifmap_hall.specs.Sights.{CarriesOn}
 use Rattle.ifmap_hall.specs.Views.{sight_by}
 use Rattle.ifmap_hall.specs.declared.book.Book.{Book}
@@ -17,7 +17,7 @@ use Rattle.ifmap_hall.proofs.Sighting.{found_carries}
 
 module _ {M E R : Type 0} (next : M → E → M) (weight : E → ℕ) where
   stands_there : (terms : Terms M) (h : History E) (homes : Homes M E R) (seats : List (SeatView M E R)) (b : Book M E R)
-      → homes ≡ some (Some b) ∷ [] → AtHome next weight terms h homes seats ⊎ IsOut next weight homes seats
+      → homes ≡ some (Some b) ∷ [] → AtHome next weight terms h homes seats ⊎ IsAway next weight homes seats
       → BookStandsFor next weight terms h b
   stands_there terms h homes seats b lies (inl home) =
       let same : home.book ≡ b = cc (home.there, lies) in subst (λ (x : Book M E R). BookStandsFor next weight terms h x) same home.stands

@@ -8,7 +8,7 @@ use Rattle.atomic_table.proofs.Lists.{at_set}
 use Rattle.ifmap_hall.specs.Histories.{Extends, BookStandsFor, no_history, history_in}
 use Rattle.ifmap_hall.specs.Places.{times, once_below}
 use Rattle.ifmap_hall.specs.Plays.{Gives, PassesOn}
-use Rattle.ifmap_hall.specs.Rule.{Homes, Sits, AtHome, IsOut, IsInTurn, Keeps}
+use Rattle.ifmap_hall.specs.Rule.{Homes, Sits, AtHome, IsAway, IsInTurn, Keeps}
 use Rattle.ifmap_hall.specs.SeatViews.{tickets_of, ticket_of, holds_book, taken_of, after_turn}
 use Rattle.ifmap_hall.specs.declared.book.Book.{Book}
 use Rattle.ifmap_hall.specs.declared.view.History.{History}
@@ -90,7 +90,7 @@ module _ {M E R : Type 0} (next : M → E → M) (weight : E → ℕ) (reply : M
         }
 
     -- the slot is empty while a seat has the book
-    empty : AtHome next weight terms k.history homes seats ⊎ IsOut next weight homes seats → homes ≡ none ∷ []
+    empty : AtHome next weight terms k.history homes seats ⊎ IsAway next weight homes seats → homes ≡ none ∷ []
     empty (inl a) = absurd (true≢false (sym holds ∙ a.free id s sits))
     empty (inr o) = o.gone
 

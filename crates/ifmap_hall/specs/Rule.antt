@@ -40,7 +40,7 @@ module _ {M E R : Type 0} where
       pub free : (i : ℕ) (s : SeatView M E R) → Sits seats i s → holds_book s.stage ≡ false
 
     -- the slot is empty, and a seat has the book
-    pub record IsOut (homes : Homes M E R) (seats : List (SeatView M E R)) : Type 0 where
+    pub record IsAway (homes : Homes M E R) (seats : List (SeatView M E R)) : Type 0 where
       pub gone : homes ≡ none ∷ []
       pub seat : ℕ
       pub holder : SeatView M E R
@@ -54,7 +54,7 @@ module _ {M E R : Type 0} where
       pub served : ℕ
       pub drawn : ℕ
       pub words_are : words ≡ served % 2 ^ 64 ∷ drawn % 2 ^ 64 ∷ []
-      pub slot : AtHome terms history homes seats ⊎ IsOut homes seats
+      pub slot : AtHome terms history homes seats ⊎ IsAway homes seats
       -- each part is some seat's, a ticket needs a part, and a seat without parts has neither a place nor the book
       pub parts : sum_by (λ (s : SeatView M E R). s.parts) seats ≡ 2 ^ 64 - 1
       pub enough : (i : ℕ) (s : SeatView M E R) → Sits seats i s → tickets_of s.stage ≤ s.parts
