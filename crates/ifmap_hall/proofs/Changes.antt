@@ -7,7 +7,7 @@ use Rattle.ifmap_hall.specs.Histories.{Extends, Ordered}
 use Rattle.ifmap_hall.specs.Places.{times, once_below}
 use Rattle.ifmap_hall.specs.Rule.{Homes, Sits, SeatFits, AtHome, IsAway, IsInTurn}
 use Rattle.ifmap_hall.specs.SeatViews.{tickets_of, ticket_of, holds_book}
-use Rattle.ifmap_hall.specs.declared.view.History.{History}
+use Rattle.ifmap_hall.specs.declared.view.HallHistory.{HallHistory}
 use Rattle.ifmap_hall.specs.declared.view.SeatView.{SeatView}
 use Rattle.ifmap_hall.specs.declared.view.Stage.{Stage}
 use Rattle.ifmap_hall.specs.declared.view.Stage.TheVariants.{Idle, Waits, Holds}
@@ -32,7 +32,7 @@ module _ {M E R : Type 0} (next : M → E → M) (weight : E → ℕ) where
   -- one seat goes from s to u
   pub record Goes (terms : Terms M) (words : List ℕ) (homes : Homes M E R) (seats : List (SeatView M E R))
       (k : IsInTurn next weight terms words homes seats)
-      (id : ℕ) (s u : SeatView M E R) (history : History E) (served drawn : ℕ) : Type 0 where
+      (id : ℕ) (s u : SeatView M E R) (history : HallHistory E) (served drawn : ℕ) : Type 0 where
     pub sits : Sits seats id s
     pub same : u.parts ≡ s.parts
     pub part : 0 < s.parts
@@ -53,7 +53,7 @@ module _ {M E R : Type 0} (next : M → E → M) (weight : E → ℕ) where
 
   module _ (terms : Terms M) (words : List ℕ) (homes : Homes M E R) (seats : List (SeatView M E R))
       (k : IsInTurn next weight terms words homes seats)
-      (id : ℕ) (s u : SeatView M E R) (history : History E) (served drawn : ℕ)
+      (id : ℕ) (s u : SeatView M E R) (history : HallHistory E) (served drawn : ℕ)
       (g : Goes terms words homes seats k id s u history served drawn) where
     no_other_lone : (j : ℕ) (x : SeatView M E R) → j ≢ id → Sits seats j x → x.view.lone ≡ true → ⊥
     no_other_lone j x n e l =

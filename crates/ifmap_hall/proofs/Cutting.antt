@@ -12,7 +12,7 @@ use Rattle.ifmap_hall.specs.Histories.{Ordered}
 use Rattle.ifmap_hall.specs.Places.{times}
 use Rattle.ifmap_hall.specs.Rule.{Homes, Sits, SeatFits, AtHome, IsAway, IsInTurn, Keeps}
 use Rattle.ifmap_hall.specs.SeatViews.{share, tickets_of, holds_book, kept_seat, given_seat}
-use Rattle.ifmap_hall.specs.declared.view.History.{History}
+use Rattle.ifmap_hall.specs.declared.view.HallHistory.{HallHistory}
 use Rattle.ifmap_hall.specs.declared.view.SeatView.{SeatView}
 use Rattle.ifmap_hall.specs.declared.view.Stage.TheVariants.{Idle}
 use Rattle.ifmap_hall.specs.declared.view.Terms.{Terms}
@@ -44,7 +44,7 @@ module _ {M E R : Type 0} (next : M → E → M) (weight : E → ℕ) where
       (k : IsInTurn next weight terms words homes seats)
       (x y : SeatView M E R) → Stems seats x → Stems seats y → Ordered x.view.history y.view.history
   stems_ordered terms words homes seats k x y a b =
-      subst (λ (h : History E). Ordered h y.view.history) a.seen (subst (λ (h : History E). Ordered a.old.view.history h) b.seen
+      subst (λ (h : HallHistory E). Ordered h y.view.history) a.seen (subst (λ (h : HallHistory E). Ordered a.old.view.history h) b.seen
       (k.ordered a.index b.index a.old b.old a.sits b.sits a.part b.part))
 
   -- where a seat of the new list comes from

@@ -20,7 +20,7 @@ use Rattle.ifmap_hall.specs.Plays.{Draws, Looks, LooksAtRest}
 use Rattle.ifmap_hall.specs.Rule.{Homes, Sits, AtHome, IsAway, IsInTurn, Keeps}
 use Rattle.ifmap_hall.specs.SeatViews.{tickets_of, ticket_of, holds_book, with_ticket, with_book}
 use Rattle.ifmap_hall.specs.declared.book.Book.{Book}
-use Rattle.ifmap_hall.specs.declared.view.History.{History}
+use Rattle.ifmap_hall.specs.declared.view.HallHistory.{HallHistory}
 use Rattle.ifmap_hall.specs.declared.view.SeatView.{SeatView}
 use Rattle.ifmap_hall.specs.declared.view.Stage.TheVariants.{Idle, Waits}
 use Rattle.ifmap_hall.specs.declared.view.Terms.{Terms}
@@ -35,7 +35,8 @@ ticket_after n = mod-add-mod n (2 ^ 64) 1
 
 module _ {M E R : Type 0} (next : M → E → M) (weight : E → ℕ) where
   -- the slot, where a seat that has no book changes into one that has none
-  pub same_slot : (terms : Terms M) (h : History E) (id : ℕ) (s u : SeatView M E R) (homes : Homes M E R) (seats : List (SeatView M E R))
+  pub same_slot : (terms : Terms M) (h : HallHistory E) (id : ℕ) (s u : SeatView M E R) (homes : Homes M E R)
+      (seats : List (SeatView M E R))
       → Sits seats id s → holds_book s.stage ≡ false → holds_book u.stage ≡ false
       → AtHome next weight terms h homes seats ⊎ IsAway next weight homes seats
       → AtHome next weight terms h homes (set seats id u) ⊎ IsAway next weight homes (set seats id u)

@@ -4,13 +4,13 @@ use Rattle.std.proofs.lemmas.Bool.Decides.{nat_tests}
 use Rattle.std.proofs.lemmas.List.{nil_from_length}
 use Rattle.ifmap_hall.specs.Histories.{Extends, Ordered, GainsAtMostOne}
 use Rattle.ifmap_hall.specs.Views.{is_later}
-use Rattle.ifmap_hall.specs.declared.view.History.{History}
+use Rattle.ifmap_hall.specs.declared.view.HallHistory.{HallHistory}
 
 module _ {E : Type 0} where
-  pub extends-itself : (h : History E) → Extends h h
+  pub extends-itself : (h : HallHistory E) → Extends h h
   extends-itself h = record { from = omega arith; rest = []; whole = sym (append-nil h.log) }
 
-  pub extends-through : (h k l : History E) → Extends h k → Extends k l → Extends h l
+  pub extends-through : (h k l : HallHistory E) → Extends h k → Extends k l → Extends h l
   extends-through h k l a b =
       let x = a.from in let y = b.from in
       record {
@@ -19,19 +19,19 @@ module _ {E : Type 0} where
         whole = b.whole ∙ ap (λ xs. xs ++ b.rest) a.whole ∙ append_assoc h.log a.rest b.rest;
       }
 
-  pub longer : (h k : History E) (a : Extends h k) → length k.log ≡ length h.log + length a.rest
+  pub longer : (h k : HallHistory E) (a : Extends h k) → length k.log ≡ length h.log + length a.rest
   longer h k a = ap length a.whole ∙ length-append h.log a.rest
 
-  pub ordered_again : (h k : History E) → Ordered h k → Ordered k h
+  pub ordered_again : (h k : HallHistory E) → Ordered h k → Ordered k h
   ordered_again h k (inl a) = inr a
   ordered_again h k (inr a) = inl a
 
   -- the later of two is the one that extends the other
-  pub later_extends : (h k : History E) → Ordered h k → is_later h k ≡ true → Extends h k
+  pub later_extends : (h k : HallHistory E) → Ordered h k → is_later h k ≡ true → Extends h k
   later_extends h k (inl a) e = a
   later_extends h k (inr a) e = let x = a.from in let l = longer k h a in absurd (grind (arith, nat_tests))
 
-  pub earlier_extends : (h k : History E) → Ordered h k → is_later h k ≡ false → Extends k h
+  pub earlier_extends : (h k : HallHistory E) → Ordered h k → is_later h k ≡ false → Extends k h
   earlier_extends h k (inr a) e = a
   earlier_extends h k (inl a) e =
       let x = a.from in

@@ -12,7 +12,7 @@ use Rattle.ifmap_hall.specs.Places.{times}
 use Rattle.ifmap_hall.specs.Rule.{Homes, Sits, SeatFits, AtHome, IsAway, IsInTurn, Keeps}
 use Rattle.ifmap_hall.specs.SeatViews.{tickets_of, holds_book, joint_seat, spent_seat}
 use Rattle.ifmap_hall.specs.Views.{is_later}
-use Rattle.ifmap_hall.specs.declared.view.History.{History}
+use Rattle.ifmap_hall.specs.declared.view.HallHistory.{HallHistory}
 use Rattle.ifmap_hall.specs.declared.view.SeatView.{SeatView}
 use Rattle.ifmap_hall.specs.declared.view.Stage.TheVariants.{Idle}
 use Rattle.ifmap_hall.specs.declared.view.Terms.{Terms}
@@ -24,18 +24,18 @@ use Rattle.ifmap_lemmas.specs.Sums.{sum_set, two_within_sum}
 use Rattle.ifmap_hall.proofs.Places.{rises_le, rises_merge, times-merge, once_most}
 
 -- of two histories the later one, and the earlier one
-pub record Joint {E : Type 0} (h k late early : History E) : Type 0 where
+pub record Joint {E : Type 0} (h k late early : HallHistory E) : Type 0 where
   pub one : (late ≡ h) ⊎ (late ≡ k)
   pub this : Extends h late
   pub that : Extends k late
   pub rest : Extends early late
 
 module _ {E : Type 0} where
-  joint_by : (h k : History E) (b : Bool) → is_later h k ≡ b → Ordered h k → Joint h k (cond b k h) (cond b h k)
+  joint_by : (h k : HallHistory E) (b : Bool) → is_later h k ≡ b → Ordered h k → Joint h k (cond b k h) (cond b h k)
   joint_by h k true e o = let x = later_extends h k o e in record { one = inr refl; this = x; that = extends-itself k; rest = x }
   joint_by h k false e o = let x = earlier_extends h k o e in record { one = inl refl; this = extends-itself h; that = x; rest = x }
 
-  pub joint_of : (h k : History E) → Ordered h k → Joint h k (cond (is_later h k) k h) (cond (is_later h k) h k)
+  pub joint_of : (h k : HallHistory E) → Ordered h k → Joint h k (cond (is_later h k) k h) (cond (is_later h k) h k)
   joint_of h k o = joint_by h k (is_later h k) refl o
 
 module _ {M E R : Type 0} (next : M → E → M) (weight : E → ℕ) where
@@ -100,13 +100,13 @@ module _ {M E R : Type 0} (next : M → E → M) (weight : E → ℕ) where
         let t = two_within_sum (λ (y : SeatView M E R). times x y.view.mine) seats id other s u (λ e. ne (sym e)) sits there in
         let p = k.places x in let o = once_most x (length k.history.log) in omega arith
 
-    late_fits : (late : History E) → (late ≡ s.view.history) ⊎ (late ≡ u.view.history)
+    late_fits : (late : HallHistory E) → (late ≡ s.view.history) ⊎ (late ≡ u.view.history)
         → Extends late k.history × (late.from ≤ length late.log)
     late_fits late (inl e) =
-        let f = k.fit id s sits part_s in subst (λ (h : History E). Extends h k.history × (h.from ≤ length h.log)) (sym e)
+        let f = k.fit id s sits part_s in subst (λ (h : HallHistory E). Extends h k.history × (h.from ≤ length h.log)) (sym e)
         (f.extends, f.sound.inside)
     late_fits late (inr e) =
-        let f = k.fit other u there part_u in subst (λ (h : History E). Extends h k.history × (h.from ≤ length h.log)) (sym e)
+        let f = k.fit other u there part_u in subst (λ (h : HallHistory E). Extends h k.history × (h.from ≤ length h.log)) (sym e)
         (f.extends, f.sound.inside)
 
     glue_fits : (i : ℕ) (x : SeatView M E R) → Place seats id other (joint_seat s u) (spent_seat m) i x → 0 < x.parts
@@ -114,7 +114,7 @@ module _ {M E R : Type 0} (next : M → E → M) (weight : E → ℕ) where
     glue_fits i x (is_both p e) h =
         let f = k.fit id s sits part_s in
         let g = k.fit other u there part_u in
-        let late : History E = (joint_seat s u).view.history in
+        let late : HallHistory E = (joint_seat s u).view.history in
         let fits = late_fits late joint.one in
         let long_s = longer s.view.history late joint.this in
         let long_u = longer u.view.history late joint.that in
@@ -135,7 +135,7 @@ module _ {M E R : Type 0} (next : M → E → M) (weight : E → ℕ) where
     glue_fits i x (is_spent p e) h = let q : 0 ≡ x.parts = ap (λ (y : SeatView M E R). y.parts) e in absurd (omega arith)
     glue_fits i x (is_old n o e) h = k.fit i x e h
 
-    late_stems : (late : History E) → (late ≡ s.view.history) ⊎ (late ≡ u.view.history) → (x : SeatView M E R) → late ≡ x.view.history
+    late_stems : (late : HallHistory E) → (late ≡ s.view.history) ⊎ (late ≡ u.view.history) → (x : SeatView M E R) → late ≡ x.view.history
         → Stems next weight seats x
     late_stems late (inl e) x q = record { index = id; old = s; sits = sits; part = part_s; seen = sym e ∙ q }
     late_stems late (inr e) x q = record { index = other; old = u; sits = there; part = part_u; seen = sym e ∙ q }

@@ -10,13 +10,13 @@ use Rattle.ifmap_hall.specs.Rule.{AreSharedOut, AtHome, Homes, IsAway, Keeping, 
 use Rattle.ifmap_hall.specs.Sights.{CarriesOn}
 use Rattle.ifmap_hall.specs.Views.{sight_by}
 use Rattle.ifmap_hall.specs.declared.book.Book.{Book}
-use Rattle.ifmap_hall.specs.declared.view.History.{History}
+use Rattle.ifmap_hall.specs.declared.view.HallHistory.{HallHistory}
 use Rattle.ifmap_hall.specs.declared.view.SeatView.{SeatView}
 use Rattle.ifmap_hall.specs.declared.view.Terms.{Terms}
 use Rattle.ifmap_hall.proofs.Sighting.{found_carries}
 
 module _ {M E R : Type 0} (next : M → E → M) (weight : E → ℕ) where
-  stands_there : (terms : Terms M) (h : History E) (homes : Homes M E R) (seats : List (SeatView M E R)) (b : Book M E R)
+  stands_there : (terms : Terms M) (h : HallHistory E) (homes : Homes M E R) (seats : List (SeatView M E R)) (b : Book M E R)
       → homes ≡ some (Some b) ∷ [] → AtHome next weight terms h homes seats ⊎ IsAway next weight homes seats
       → BookStandsFor next weight terms h b
   stands_there terms h homes seats b lies (inl home) =

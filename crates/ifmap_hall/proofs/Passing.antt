@@ -11,7 +11,7 @@ use Rattle.ifmap_hall.specs.Plays.{Gives, PassesOn}
 use Rattle.ifmap_hall.specs.Rule.{Homes, Sits, AtHome, IsAway, IsInTurn, Keeps}
 use Rattle.ifmap_hall.specs.SeatViews.{tickets_of, ticket_of, holds_book, taken_of, after_turn}
 use Rattle.ifmap_hall.specs.declared.book.Book.{Book}
-use Rattle.ifmap_hall.specs.declared.view.History.{History}
+use Rattle.ifmap_hall.specs.declared.view.HallHistory.{HallHistory}
 use Rattle.ifmap_hall.specs.declared.view.SeatView.{SeatView}
 use Rattle.ifmap_hall.specs.declared.view.Terms.{Terms}
 use Rattle.ifmap_hall.proofs.Changes.{Goes, seat_goes, holder_has_ticket}
@@ -20,12 +20,12 @@ use Rattle.ifmap_hall.proofs.Extending.{extends-itself, extends-through, gains_r
 use Rattle.ifmap_hall.proofs.Places.{gains_places, gains_rise, rises_le}
 
 module _ {E : Type 0} where
-  pub extends-none : (h : History E) → Extends no_history h
+  pub extends-none : (h : HallHistory E) → Extends no_history h
   extends-none h = record { from = omega arith; rest = h.log; whole = refl }
 
 module _ {M E R : Type 0} (next : M → E → M) (weight : E → ℕ) (reply : M → E → R) where
   -- the history that is given back extends the one that was taken
-  pub gives_extends : (terms : Terms M) (h : History E) (b : Book M E R) → Gives next weight terms h b → Extends h (history_in h b)
+  pub gives_extends : (terms : Terms M) (h : HallHistory E) (b : Book M E R) → Gives next weight terms h b → Extends h (history_in h b)
   gives_extends terms h b g =
       let more = gains_rest h.log (history_in h b).log g.gains in
       record { from = g.settled; rest = more.0; whole = more.1 }
@@ -43,15 +43,15 @@ module _ {M E R : Type 0} (next : M → E → M) (weight : E → ℕ) (reply : M
         → Goes next weight terms words homes seats k id s (after_turn next reply s b) (history_in (taken_of s.stage) b)
         (k.served + 1) k.drawn
     pass_goes b g =
-        let taken : History E = taken_of s.stage in
-        let after : History E = history_in taken b in
+        let taken : HallHistory E = taken_of s.stage in
+        let after : HallHistory E = history_in taken b in
         let f = k.fit id s sits part in
         let waits : tickets_of s.stage ≡ 1 = holder_has_ticket s.stage holds in
         let ticket : ticket_of s.stage ≡ k.served = (f.held holds).0 in
         let same : taken ≡ k.history = (f.held holds).1 in
         let grown : Extends taken after = gives_extends s.view.terms taken b g in
-        let grown' : Extends k.history after = subst (λ (h : History E). Extends h after) same grown in
-        let len : length taken.log ≡ length k.history.log = ap (λ (h : History E). length h.log) same in
+        let grown' : Extends k.history after = subst (λ (h : HallHistory E). Extends h after) same grown in
+        let len : length taken.log ≡ length k.history.log = ap (λ (h : HallHistory E). length h.log) same in
         let long = longer taken after grown in
         let seen = longer s.view.history k.history f.extends in
         let near = g.near in

@@ -13,7 +13,7 @@ use Rattle.ifmap_hall.specs.Views.{is_later, joint_view, sight_by}
 use Rattle.ifmap_hall.specs.declared.book.Asked.{Asked}
 use Rattle.ifmap_hall.specs.declared.book.Asked.TheVariants.{Done, Held, Spent, NoMemory}
 use Rattle.ifmap_hall.specs.declared.book.Book.{Book}
-use Rattle.ifmap_hall.specs.declared.view.History.{History}
+use Rattle.ifmap_hall.specs.declared.view.HallHistory.{HallHistory}
 use Rattle.ifmap_hall.specs.declared.view.SeatView.{SeatView}
 use Rattle.ifmap_hall.specs.declared.view.Terms.{Terms}
 use Rattle.ifmap_hall.specs.declared.view.HallView.{HallView}
@@ -22,7 +22,7 @@ use Rattle.ifmap_hall.proofs.Extending.{extends-itself, longer}
 use Rattle.ifmap_hall.proofs.Places.{times-merge, rises_once}
 
 module _ {M E : Type 0} (next : M → E → M) where
-  pub extends_carries : (o : M) (h k : History E) → Extends h k → h.from ≤ length h.log → k.from ≤ length k.log
+  pub extends_carries : (o : M) (h k : HallHistory E) → Extends h k → h.from ≤ length h.log → k.from ≤ length k.log
       → CarriesOn next (sight_in next o h) (sight_in next o k)
   extends_carries o h k x in_h in_k =
       let le = x.from in
@@ -47,7 +47,7 @@ module _ {M E : Type 0} (next : M → E → M) where
   runs_through : (o : M) (n : ℕ) (xs : List (ℕ × E)) → run next (run next o (take n xs)) (drop n xs) ≡ run next o xs
   runs_through o n xs = sym (run-append next o (take n xs) (drop n xs)) ∙ ap (run next o) (take-append-drop n xs)
 
-  joint_carries_by : (o : M) (h k : History E) (b : Bool) → h.from ≤ length h.log → k.from ≤ length k.log
+  joint_carries_by : (o : M) (h k : HallHistory E) (b : Bool) → h.from ≤ length h.log → k.from ≤ length k.log
       → Extends (cond b h k) (cond b k h)
       → CarriesOn next (sight_in next o h) (sight_in next o (cond b k h))
       × CarriesOn next (sight_in next o k) (sight_in next o (cond b k h))
@@ -63,7 +63,7 @@ module _ {M E R : Type 0} (next : M → E → M) where
       (extends_carries next v.terms.opening.value v.history w.history t.history inside t.sound.inside)
 
   -- the book that is found carries on
-  pub found_carries : (weight : E → ℕ) (v : HallView M E R) (h : History E) (b : Book M E R) → v.history.from ≤ length v.history.log
+  pub found_carries : (weight : E → ℕ) (v : HallView M E R) (h : HallHistory E) (b : Book M E R) → v.history.from ≤ length v.history.log
       → FindsBook next weight v h b → CarriesOn next (sight_by next v) (sight_of b)
   found_carries weight v h b inside f =
       subst (λ s. CarriesOn next (sight_by next v) s) (sym f.book.sight)

@@ -6,7 +6,7 @@ use Rattle.atomic_table.specs.Table.{rest}
 use Rattle.ifmap_hall.specs.Plays.{Seated, FindsBook, Served, WentOn}
 use Rattle.ifmap_hall.specs.SeatViews.{with_ticket, with_book, after_turn, HoldsBook, IsAtRest, IsWaiting}
 use Rattle.ifmap_hall.specs.declared.book.Book.{Book}
-use Rattle.ifmap_hall.specs.declared.view.History.{History}
+use Rattle.ifmap_hall.specs.declared.view.HallHistory.{HallHistory}
 use Rattle.ifmap_hall.specs.declared.view.SeatView.{SeatView}
 
 module _ {M E R : Type 0} where
@@ -44,7 +44,7 @@ module _ {M E R : Type 0} where
         ∙ ap (λ (r : Seated M E R). (r.0, (0, Some b) ∷ rest r.1)) s.3
         ∙ ap (λ (r : Seated M E R). (with_book r.0 s.0, (0, Some b) ∷ [])) drawn
 
-  pub holds_brought : (m : Seated M E R) (s : SeatView M E R) (t : ℕ) (h : History E) (b : Book M E R) → 0 < s.parts
+  pub holds_brought : (m : Seated M E R) (s : SeatView M E R) (t : ℕ) (h : HallHistory E) (b : Book M E R) → 0 < s.parts
       → m ≡ (with_book (with_ticket s t) h, (0, Some b) ∷ []) → HoldsBook m.0
   holds_brought m s t h b part e = subst (λ (n : Seated M E R). HoldsBook n.0) (sym e) (record { holds = refl; part = part })
 

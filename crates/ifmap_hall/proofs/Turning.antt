@@ -22,7 +22,7 @@ use Rattle.ifmap_hall.specs.Turns.{Settles, SameLimits, EndsWith, Enters}
 use Rattle.ifmap_hall.specs.declared.book.Asked.{Asked}
 use Rattle.ifmap_hall.specs.declared.book.Asked.TheVariants.{Done, Held, Spent, NoMemory}
 use Rattle.ifmap_hall.specs.declared.book.Book.{Book}
-use Rattle.ifmap_hall.specs.declared.view.History.{History}
+use Rattle.ifmap_hall.specs.declared.view.HallHistory.{HallHistory}
 use Rattle.ifmap_hall.specs.declared.view.HallView.{HallView}
 use Rattle.ifmap_hall.proofs.CarryingOn.{run-append}
 use Rattle.ifmap_hall.proofs.Extending.{extends-through, longer}
@@ -44,7 +44,7 @@ module _ {M E R : Type 0} (next : M → E → M) (weight : E → ℕ) (holds_on 
         IfNoMemory answer (λ back. (back ≡ event) × (end_of_book b < 2 ^ 64 - 1) × (holds_on b.machine event ≡ false)
         × Settles next weight b b')
 
-  module _ (v : HallView M E R) (h : History E) (b : Book M E R) (found : FindsBook next weight v h b) where
+  module _ (v : HallView M E R) (h : HallHistory E) (b : Book M E R) (found : FindsBook next weight v h b) where
     from_is : b.from ≡ h.from
     from_is = ap (λ s. s.from) found.book.sight
 
@@ -166,7 +166,7 @@ module _ {M E R : Type 0} (next : M → E → M) (weight : E → ℕ) (holds_on 
               mine = gains_rise h.log (history_in h b').log v.mine (gains_by more g few)
                   (rises_le 0 v.mine (length v.history.log) (length h.log) found.sound.mine (omega arith));
             };
-            near = λ lone. let same = ap (λ (k : History E). length k.log) (found.lone lone) in omega arith;
+            near = λ lone. let same = ap (λ (k : HallHistory E). length k.log) (found.lone lone) in omega arith;
           }
 
       silent_by : Grew [] → SaidNothing v (view_after next reply v h b')
@@ -180,7 +180,7 @@ module _ {M E R : Type 0} (next : M → E → M) (weight : E → ℕ) (holds_on 
               reply
                   (run next v.terms.opening.value h.log) e.1,
             )) xs) gained ∙ append-nil v.said;
-            alone = λ lone. g.all ∙ append-nil h.log ∙ sym (ap (λ (k : History E). k.log) (found.lone lone));
+            alone = λ lone. g.all ∙ append-nil h.log ∙ sym (ap (λ (k : HallHistory E). k.log) (found.lone lone));
           }
 
       said_by : (number place : ℕ) (event : E) (r : R) → Grew ((number, event) ∷ []) → place ≡ length h.log → place < 2 ^ 64 - 1
@@ -201,7 +201,7 @@ module _ {M E R : Type 0} (next : M → E → M) (weight : E → ℕ) (holds_on 
             reply_is = answer;
             settled = omega arith;
             later = omega arith;
-            alone = λ lone. sym (ap (λ (k : History E). k.log) (found.lone lone));
+            alone = λ lone. sym (ap (λ (k : HallHistory E). k.log) (found.lone lone));
             mine = ap (λ (xs : List (ℕ × E)). v.mine ++ map (λ _. length h.log) xs) gained ∙ ap (λ n. v.mine ++ n ∷ []) (sym at);
             said =
                 ap (λ (xs : List (ℕ × E)). v.said ++ map (λ (e : ℕ × E). (e.1, reply (run next v.terms.opening.value h.log) e.1)) xs) gained

@@ -8,7 +8,7 @@ use Rattle.ifmap_hall.specs.Views.{IsSoundView}
 use Rattle.ifmap_hall.specs.declared.book.Asked.{Asked}
 use Rattle.ifmap_hall.specs.declared.book.Asked.TheVariants.{Done, Held, Spent, NoMemory}
 use Rattle.ifmap_hall.specs.declared.book.Book.{Book}
-use Rattle.ifmap_hall.specs.declared.view.History.{History}
+use Rattle.ifmap_hall.specs.declared.view.HallHistory.{HallHistory}
 use Rattle.ifmap_hall.specs.declared.view.HallView.{HallView}
 
 module _ {M E R : Type 0} where
@@ -67,7 +67,7 @@ module _ {M E R : Type 0} where
 
   module _ (next : M → E → M) (weight : E → ℕ) (holds_on : M → E → Bool) (reply : M → E → R) where
     -- a turn of a pass that found this history and leaves this book
-    pub record Turned (v : HallView M E R) (h : History E) (b : Book M E R) (number : ℕ) (event : E) (answer : Asked E R) : Type 0 where
+    pub record Turned (v : HallView M E R) (h : HallHistory E) (b : Book M E R) (number : ℕ) (event : E) (answer : Asked E R) : Type 0 where
       pub gives : Gives next weight v.terms h b
       pub took : TookATurn v (view_after next reply v h b)
       pub answered : Answered next holds_on reply v (view_after next reply v h b) number event answer

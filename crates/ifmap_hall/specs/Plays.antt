@@ -5,7 +5,7 @@ use Rattle.ifmap_hall.specs.Histories.{Extends, GainsAtMostOne, BookStandsFor, h
 use Rattle.ifmap_hall.specs.SeatViews.{ticket_of, taken_of, with_ticket, with_book, after_turn, IsSoundSeat}
 use Rattle.ifmap_hall.specs.Views.{IsSoundView}
 use Rattle.ifmap_hall.specs.declared.book.Book.{Book}
-use Rattle.ifmap_hall.specs.declared.view.History.{History}
+use Rattle.ifmap_hall.specs.declared.view.HallHistory.{HallHistory}
 use Rattle.ifmap_hall.specs.declared.view.SeatView.{SeatView}
 use Rattle.ifmap_hall.specs.declared.view.Terms.{Terms}
 use Rattle.ifmap_hall.specs.declared.view.HallView.{HallView}
@@ -25,7 +25,7 @@ module _ {M E R : Type 0} where
 
   module _ (next : M → E → M) (weight : E → ℕ) where
     -- the book that a pass finds stands for a history that extends what it has seen, and is what it has seen if it is alone
-    pub record FindsBook (v : HallView M E R) (h : History E) (b : Book M E R) : Type 0 where
+    pub record FindsBook (v : HallView M E R) (h : HallHistory E) (b : Book M E R) : Type 0 where
       pub book : BookStandsFor next weight v.terms h b
       pub sound : IsSoundView v
       pub extends : Extends v.history h
@@ -33,7 +33,7 @@ module _ {M E R : Type 0} where
 
     -- the seat took the book
     abbrev pub Served : SeatView M E R → Seated M E R → Type 0
-    Served s after = (h : History E) × (b : Book M E R) × FindsBook s.view h b × (after ≡ (with_book s h, (0, Some b) ∷ []))
+    Served s after = (h : HallHistory E) × (b : Book M E R) × FindsBook s.view h b × (after ≡ (with_book s h, (0, Some b) ∷ []))
 
     -- look: where its ticket is served the seat took the book, and elsewhere nothing changed
     abbrev pub Looks : Step (Option (Book M E R)) → Seated M E R → ℕ → Seated M E R → Type 0
@@ -43,7 +43,7 @@ module _ {M E R : Type 0} where
 
     -- the book that a seat gives back stands for the history that was taken, with one entry more or none, of which as many
     -- or more are in the base, and only such as were taken
-    pub record Gives (terms : Terms M) (taken : History E) (b : Book M E R) : Type 0 where
+    pub record Gives (terms : Terms M) (taken : HallHistory E) (b : Book M E R) : Type 0 where
       pub book : BookStandsFor next weight terms (history_in taken b) b
       pub settled : taken.from ≤ b.from
       pub near : b.from ≤ length taken.log

@@ -8,7 +8,7 @@ use Rattle.ifmap_hall.specs.Places.{times, once_below}
 use Rattle.ifmap_hall.specs.SeatViews.{tickets_of, ticket_of, taken_of, holds_book}
 use Rattle.ifmap_hall.specs.Views.{IsSoundView}
 use Rattle.ifmap_hall.specs.declared.book.Book.{Book}
-use Rattle.ifmap_hall.specs.declared.view.History.{History}
+use Rattle.ifmap_hall.specs.declared.view.HallHistory.{HallHistory}
 use Rattle.ifmap_hall.specs.declared.view.SeatView.{SeatView}
 use Rattle.ifmap_hall.specs.declared.view.Terms.{Terms}
 
@@ -22,7 +22,7 @@ module _ {M E R : Type 0} where
   Sits seats i s = get_elem? seats i ≡ some s
 
   -- what a seat knows fits the history, the number served and the next ticket
-  pub record SeatFits (terms : Terms M) (h : History E) (served drawn : ℕ) (s : SeatView M E R) : Type 0 where
+  pub record SeatFits (terms : Terms M) (h : HallHistory E) (served drawn : ℕ) (s : SeatView M E R) : Type 0 where
     pub terms_are : s.view.terms ≡ terms
     pub sound : IsSoundView s.view
     pub extends : Extends s.view.history h
@@ -33,7 +33,7 @@ module _ {M E R : Type 0} where
 
   module _ (next : M → E → M) (weight : E → ℕ) where
     -- the book stands in its slot, and no seat has it
-    pub record AtHome (terms : Terms M) (h : History E) (homes : Homes M E R) (seats : List (SeatView M E R)) : Type 0 where
+    pub record AtHome (terms : Terms M) (h : HallHistory E) (homes : Homes M E R) (seats : List (SeatView M E R)) : Type 0 where
       pub book : Book M E R
       pub there : homes ≡ some (Some book) ∷ []
       pub stands : BookStandsFor next weight terms h book
@@ -50,7 +50,7 @@ module _ {M E R : Type 0} where
     -- what holds of the table between any two steps
     pub record IsInTurn (terms : Terms M) (words : List ℕ) (homes : Homes M E R) (seats : List (SeatView M E R)) : Type 0 where
       -- there is one history, and so many turns were passed on and so many tickets drawn
-      pub history : History E
+      pub history : HallHistory E
       pub served : ℕ
       pub drawn : ℕ
       pub words_are : words ≡ served % 2 ^ 64 ∷ drawn % 2 ^ 64 ∷ []

@@ -5,7 +5,7 @@ use Rattle.ifmap_hall.specs.Histories.{no_history, history_in, Extends}
 use Rattle.ifmap_hall.specs.Sights.{run}
 use Rattle.ifmap_hall.specs.Views.{is_later, IsSoundView, first_view, kept_view, given_view, joint_view}
 use Rattle.ifmap_hall.specs.declared.book.Book.{Book}
-use Rattle.ifmap_hall.specs.declared.view.History.{History}
+use Rattle.ifmap_hall.specs.declared.view.HallHistory.{HallHistory}
 use Rattle.ifmap_hall.specs.declared.view.SeatView.{SeatView}
 use Rattle.ifmap_hall.specs.declared.view.Stage.{Stage}
 use Rattle.ifmap_hall.specs.declared.view.Stage.TheVariants.{Idle, Waits, Holds}
@@ -32,7 +32,7 @@ module _ {E : Type 0} where
   holds_book (Holds t h) = true
 
   -- the history of the book that it took
-  abbrev pub taken_of : Stage E → History E
+  abbrev pub taken_of : Stage E → HallHistory E
   taken_of Idle = no_history
   taken_of (Waits t) = no_history
   taken_of (Holds t h) = h
@@ -59,7 +59,7 @@ module _ {M E R : Type 0} where
   with_ticket s t = record s { stage = Waits t }
 
   -- after the book was taken, which has this history
-  abbrev pub with_book : SeatView M E R → History E → SeatView M E R
+  abbrev pub with_book : SeatView M E R → HallHistory E → SeatView M E R
   with_book s h = record s { stage = Holds (ticket_of s.stage) h }
 
   -- after a seat was split from
@@ -88,7 +88,7 @@ module _ {M E R : Type 0} where
   module _ (next : M → E → M) (reply : M → E → R) where
     -- what a pass is seen as after a turn in which it found this history and left this book: it has seen what the book has seen,
     -- and where there is an entry more it is the pass's own
-    abbrev pub view_after : HallView M E R → History E → Book M E R → HallView M E R
+    abbrev pub view_after : HallView M E R → HallHistory E → Book M E R → HallView M E R
     view_after v h b =
         let gained = drop (length h.log) (history_in h b).log in
         record v {

@@ -4,12 +4,12 @@ use Rattle.std.specs.Prelude.{Bool, ◌≤◌, [], length, true, false, nat_eq, 
 use Rattle.ifmap_hall.specs.Histories.{no_history, sight_in}
 use Rattle.ifmap_hall.specs.Places.{Rises, Rises-prop, merge}
 use Rattle.ifmap_hall.specs.Sights.{Sight}
-use Rattle.ifmap_hall.specs.declared.view.History.{History}
+use Rattle.ifmap_hall.specs.declared.view.HallHistory.{HallHistory}
 use Rattle.ifmap_hall.specs.declared.view.Terms.{Terms}
 use Rattle.ifmap_hall.specs.declared.view.HallView.{HallView}
 
 -- of two histories of one hall the second is the later one
-abbrev pub is_later : {E : Type 0} → History E → History E → Bool
+abbrev pub is_later : {E : Type 0} → HallHistory E → HallHistory E → Bool
 is_later h k = nat_lt (length h.log) (length k.log) || (nat_eq (length h.log) (length k.log) && nat_lt h.from k.from)
 
 module _ {M E R : Type 0} where

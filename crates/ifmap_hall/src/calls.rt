@@ -15,7 +15,7 @@ use crate::hall::{Hall, Pass};
 use crate::hall_asks::{ask_seat, await_turn};
 use crate::machine::Machine;
 use crate::steps::{cut, draw, glue, look_at_rest};
-use crate::view::{History, Terms};
+use crate::view::{HallHistory, Terms};
 use atomic_table::Table;
 use std::alloc::{AllocError as NoMemory, Global};
 use std::collections::VecDeque;
@@ -186,7 +186,7 @@ where
         ensures book { IsBook M.next M.weight_of result }
         ensures limit { result.limit ≡ (view_of pass).terms.limit }
         ensures heaviest { result.heaviest ≡ (view_of pass).terms.heaviest }
-        ensures whole { (h : History M.Event)
+        ensures whole { (h : HallHistory M.Event)
             × FindsBook M.next M.weight_of (view_of pass) h result }
     {
         let Hall { table } = self;

@@ -8,7 +8,7 @@ ghost use Rattle.ifmap_hall.specs.HallAsks.{TookATurn, Answered, Turned};
 use crate::book::{Asked, Book};
 use crate::machine::Machine;
 use crate::steps::{HallSeat, HallTable, draw, look, pass_on};
-use crate::view::{HallView, History};
+use crate::view::{HallHistory, HallView};
 use std::alloc::Global;
 use std::sync::Wait;
 use std::{hint, thread};
@@ -65,7 +65,7 @@ where
     M::Reply: Drop,
     requires book { IsBook M.next M.weight_of book.old }
     requires light { M.weight_of event ≤ book.old.heaviest }
-    ensures { (v : HallView M M.Event M.Reply) (h : History M.Event)
+    ensures { (v : HallView M M.Event M.Reply) (h : HallHistory M.Event)
         → FindsBook M.next M.weight_of v h book.old
         → Turned M.next M.weight_of M.holds_on M.reply v h book.new number event result }
 {

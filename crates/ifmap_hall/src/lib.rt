@@ -16,4 +16,4 @@ pub use book::{Asked, Book};
 pub use carrying::{carries_itself, carries_through, the_book_lies_in_order};
 pub use hall::{Hall, Pass};
 pub use machine::Machine;
-pub use view::{HallView, History, Terms};
+pub use view::{HallHistory, HallView, Terms};

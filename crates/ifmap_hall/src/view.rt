@@ -15,7 +15,7 @@ pub struct Terms<M> {
 }
 
 /// All entries since the opening state, and how many of them, the oldest, a base had taken in.
-pub struct History<E> {
+pub struct HallHistory<E> {
     /// The entries, the oldest first, each the number of a pass and an event.
     pub log: LinkedList<(u64, E)>,
     /// How many of them were in the base.
@@ -29,7 +29,7 @@ pub struct HallView<M: Machine> {
     /// Whether it is the first pass of its hall and was never split from.
     pub lone: bool,
     /// The history as the pass has seen it.
-    pub history: History<M::Event>,
+    pub history: HallHistory<M::Event>,
     /// The places of its own entries and of those of the passes that it took in, rising.
     pub mine: LinkedList<u64>,
     /// The events of its own entries, each with its reply.
@@ -45,7 +45,7 @@ pub enum Stage<E> {
     /// It has drawn this ticket.
     Waits { ticket: u64 },
     /// Its ticket is served, and it took the book, which had this history.
-    Holds { ticket: u64, taken: History<E> },
+    Holds { ticket: u64, taken: HallHistory<E> },
 }
 
 /// What a seat of the hall's table knows.
@@ -58,5 +58,5 @@ pub struct SeatView<M: Machine> {
     /// How far it is with its turn.
     pub stage: Stage<M::Event>,
     /// The shorter history of the two that the last join put together.
-    pub joined: History<M::Event>,
+    pub joined: HallHistory<M::Event>,
 }
