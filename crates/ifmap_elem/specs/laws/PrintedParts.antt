@@ -42,9 +42,9 @@ with_plain b (Plain run ∷ parts) = Plain (b ∷ run) ∷ parts
 with_plain b (Reference c ∷ parts) = Plain (b ∷ []) ∷ (Reference c ∷ parts)
 
 module _ (marked : ℕ → Bool) (name_of : ℕ → List ℕ) (write : ℕ → List ℕ) (w : WritesMarked marked name_of write) where
-  abbrev parts_of : List ℕ → List ValuePart
-  parts_of [] = []
-  parts_of (b ∷ bs) = cond (marked b) (Reference b ∷ parts_of bs) (with_plain b (parts_of bs))
+  abbrev value_parts : List ℕ → List ValuePart
+  value_parts [] = []
+  value_parts (b ∷ bs) = cond (marked b) (Reference b ∷ value_parts bs) (with_plain b (value_parts bs))
 
   -- a reference stands at the front
   abbrev takes_reference : (b : ℕ) (rest : List ℕ) → marked b ≡ true → TakesPart (write b ++ rest) (Reference b) rest
@@ -69,11 +69,11 @@ module _ (marked : ℕ → Bool) (name_of : ℕ → List ℕ) (write : ℕ → L
   takes_plain b bytes (Reference c ∷ parts) m l =
       (bytes, (refl, λ e. cc, (no_ampersand b m, tt), subst EndsRun (sym l.1.1) refl), l)
 
-  pub takes_parts : (bs : List ℕ) → To TakesPart (flat_map write bs) (parts_of bs) []
+  pub takes_parts : (bs : List ℕ) → To TakesPart (flat_map write bs) (value_parts bs) []
   takes_parts [] = refl
   takes_parts (b ∷ bs) = elim (cases_Bool (marked b)) [
     | inl m ↦ rw m (flat_map write bs, takes_reference b (flat_map write bs) m, takes_parts bs)
-    | inr m ↦ rw (m, w.plain b m) (takes_plain b (flat_map write bs) (parts_of bs) m (takes_parts bs))
+    | inr m ↦ rw (m, w.plain b m) (takes_plain b (flat_map write bs) (value_parts bs) m (takes_parts bs))
   ]
 
   -- what the parts add
@@ -88,16 +88,16 @@ module _ (marked : ℕ → Bool) (name_of : ℕ → List ℕ) (write : ℕ → L
     adds_plain b (Reference c ∷ parts) m =
         ap (λ x. x ++ flat_map adds (Reference c ∷ parts)) (runs (b ∷ []) ∙ next b [] m ∙ ap (λ x. b ∷ x) none)
 
-    pub adds_all : (bs : List ℕ) → bs ≡ flat_map adds (parts_of bs)
+    pub adds_all : (bs : List ℕ) → bs ≡ flat_map adds (value_parts bs)
     adds_all [] = refl
     adds_all (b ∷ bs) = elim (cases_Bool (marked b)) [
-      | inl m ↦ rw m (ap (λ x. b ∷ x) (adds_all bs) ∙ ap (λ x. x ++ flat_map adds (parts_of bs))
+      | inl m ↦ rw m (ap (λ x. b ∷ x) (adds_all bs) ∙ ap (λ x. x ++ flat_map adds (value_parts bs))
           (sym (references b ∙ encode_ascii b (w.ascii b m))))
-      | inr m ↦ rw m (ap (λ x. b ∷ x) (adds_all bs) ∙ sym (adds_plain b (parts_of bs) m))
+      | inr m ↦ rw m (ap (λ x. b ∷ x) (adds_all bs) ∙ sym (adds_plain b (value_parts bs) m))
     ]
 
     pub expands : (bs : List ℕ) → SpellsOut adds (flat_map write bs) bs
-    expands bs = record { parts = parts_of bs; taken = takes_parts bs; text_is = adds_all bs }
+    expands bs = record { parts = value_parts bs; taken = takes_parts bs; text_is = adds_all bs }
 
   -- the characters of what is written
   high_bytes : (bs : List ℕ) → AllAre (λ b. nat_le 128 b) bs → flat_map write bs ≡ bs
