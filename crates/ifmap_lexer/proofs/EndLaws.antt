@@ -9,7 +9,7 @@ use Rattle.ifmap_elem.specs.declared.tokens.Token.{Token}
 use Rattle.ifmap_elem.specs.laws.NameBytes.{part_is_some}
 use Rattle.ifmap_elem.specs.laws.OneToken.{one_token}
 use Rattle.ifmap_lexer.specs.Cutting.{Cuts}
-use Rattle.ifmap_lexer.specs.There.{BeginsNamed, IsAlone, TakesEndTag, end_of, qualified_of}
+use Rattle.ifmap_lexer.specs.There.{BeginsNamed, IsAlone, TakesEndTag, end_token, qualified_of}
 use Rattle.ifmap_lexer.proofs.NameLaws.{prefixed_some}
 use Rattle.ifmap_lexer.proofs.TokenLaws.{token_length}
 
@@ -43,9 +43,9 @@ end_taken prefix local bytes inner after white end rest e n c is = record {
   is_white = c.passes;
 }
 
-pub end_alone : (prefix local bytes rest : List ℕ) → TakesToken bytes (end_of prefix local) rest
+pub end_alone : (prefix local bytes rest : List ℕ) → TakesToken bytes (end_token prefix local) rest
     → TakesEndTag prefix local bytes (drop (length bytes - length rest) bytes)
 end_alone prefix local bytes rest l =
-    let same = (token_length bytes (end_of prefix local) rest l).2 in
+    let same = (token_length bytes (end_token prefix local) rest l).2 in
     subst (TakesEndTag prefix local bytes) (sym same)
-    (l, (λ t left taken. one_token bytes t (end_of prefix local) left rest taken l))
+    (l, (λ t left taken. one_token bytes t (end_token prefix local) left rest taken l))

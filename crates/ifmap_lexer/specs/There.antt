@@ -87,9 +87,9 @@ abbrev pub BeginsNamed : List ℕ → List ℕ → List ℕ → List ℕ → Typ
 BeginsNamed prefix local bytes rest = IsQualified (qualified_of prefix local) × (bytes ≡ name_bytes (qualified_of prefix local) ++ rest)
 
 -- the end tag of the name with these parts
-abbrev pub end_of : List ℕ → List ℕ → Token
-end_of prefix local = End (qualified_of prefix local)
+abbrev pub end_token : List ℕ → List ℕ → Token
+end_token prefix local = End (qualified_of prefix local)
 
 -- the end tag stands at the front, as the only token there, and this is left
 abbrev pub TakesEndTag : List ℕ → List ℕ → List ℕ → List ℕ → Type 0
-TakesEndTag prefix local bytes rest = TakesToken bytes (end_of prefix local) rest × IsAlone bytes (end_of prefix local) rest
+TakesEndTag prefix local bytes rest = TakesToken bytes (end_token prefix local) rest × IsAlone bytes (end_token prefix local) rest

@@ -2,7 +2,7 @@
 ghost use Rattle.std.specs.Prelude.{◌≡◌, List, ℕ, IfErr, IfOk, IfSome};
 ghost use Rattle.ifmap_elem.specs.Tokens.{TakesToken};
 ghost use Rattle.ifmap_elem.specs.declared.tokens.Token.{Token};
-ghost use Rattle.ifmap_lexer.specs.There.{SomeToken, end_of};
+ghost use Rattle.ifmap_lexer.specs.There.{SomeToken, end_token};
 ghost use Rattle.ifmap_elem.specs.Kinds.{Stands};
 ghost use Rattle.ifmap_lexer.specs.Refusing.{Refuses};
 
@@ -99,7 +99,7 @@ fn end_tag(alloc: Global, bytes: &[u8]) -> Result<(Token, &[u8]), LexError>
 // What is after the end tag of the name with these parts, where it stands at the front and the name is
 // of ASCII alone.
 pub(crate) fn after_end_tag<'a>(prefix: &[u8], local: &[u8], bytes: &'a [u8]) -> Option<&'a [u8]>
-    ensures { IfSome result (λ rest. TakesToken bytes.now (end_of prefix.now local.now) rest.now) }
+    ensures { IfSome result (λ rest. TakesToken bytes.now (end_token prefix.now local.now) rest.now) }
 {
     let inner = after_word(b"</", bytes)?;
     let after = after_ascii_name(prefix, local, inner)?;
