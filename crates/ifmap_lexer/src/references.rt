@@ -42,7 +42,7 @@ fn character_with_number(base: u32, digits: &[u8]) -> Option<char>
     requires most { base ≤ 36 }
     ensures { result ≡ code_point base digits.now }
 {
-    let character = char::from_u32(number_of(base, digits)?)?;
+    let character = char::from_u32(number_in_base(base, digits)?)?;
     if is_allowed(character) {
         Some(character)
     } else {
@@ -53,7 +53,7 @@ fn character_with_number(base: u32, digits: &[u8]) -> Option<char>
 // A number past those of all characters.
 const PAST: u32 = 0x11_0000;
 
-fn number_of(base: u32, digits: &[u8]) -> Option<u32>
+fn number_in_base(base: u32, digits: &[u8]) -> Option<u32>
     requires least { 2 ≤ base }
     requires most { base ≤ 36 }
     ensures { result ≡ code_point_of base digits.now }

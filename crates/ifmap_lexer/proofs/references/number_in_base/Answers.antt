@@ -1,6 +1,6 @@
 use Rattle.std.proofs.Common.{◌+◌, ◌*◌, min, ap, ◌∙◌, refl, get_or}
 use Rattle.ifmap_lexer.proofs.NumberLaws.{reads_next}
-use Rattle.ifmap_lexer.proofs.references.number_of.Goals as goal
+use Rattle.ifmap_lexer.proofs.references.number_in_base.Goals as goal
 
 pub loop-digit-preserved : goal.loop-digit-preserved
 loop-digit-preserved c =
