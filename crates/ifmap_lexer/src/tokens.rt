@@ -99,7 +99,8 @@ fn end_tag(alloc: Global, bytes: &[u8]) -> Result<(Token, &[u8]), LexError>
 // What is after the end tag of the name with these parts, where it stands at the front and the name is
 // of ASCII alone.
 pub(crate) fn after_end_tag<'a>(prefix: &[u8], local: &[u8], bytes: &'a [u8]) -> Option<&'a [u8]>
-    ensures { IfSome result (λ rest. TakesToken bytes.now (end_token prefix.now local.now) rest.now) }
+    ensures { IfSome result (λ rest.
+        TakesToken bytes.now (end_token prefix.now local.now) rest.now) }
 {
     let inner = after_word(b"</", bytes)?;
     let after = after_ascii_name(prefix, local, inner)?;
