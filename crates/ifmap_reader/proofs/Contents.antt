@@ -1,6 +1,6 @@
 -- What an open element goes on with, by the next token.
--- `Ends` says that tokens are the rest of an open element's pieces, its end tag and then something. For each token an equivalence between
--- `Ends` before it and after it: one direction takes the first piece off (`.._off`), the other puts it back (`.._on`). Cases in which the
+-- `EndsElement` says that tokens are the rest of an open element's pieces, its end tag and then something. For each token an equivalence between
+-- `EndsElement` before it and after it: one direction takes the first piece off (`.._off`), the other puts it back (`.._on`). Cases in which the
 -- first token is another are closed by `cc`.
 use Rattle.std.proofs.Common.{◌≡◌, ℕ, Bool, List, [], ◌∷◌, ◌++◌, refl, ap, sym, inl, inr, ◌∙◌, subst, append_assoc}
 use Rattle.std.specs.Prelude.{◌↔◌}
@@ -18,14 +18,14 @@ use Rattle.ifmap_elem.specs.Document.{Pieces, Nothing, tokens_of, ContentItem, I
 use Rattle.ifmap_reader.specs.declared.open_elements.OpenElement.{OpenElement}
 use Rattle.ifmap_reader.specs.OpenElements.{Closes, with_inner, with_characters, written_name}
 use Rattle.ifmap_reader.specs.AllowedTags.{OpensElement}
-use Rattle.ifmap_reader.specs.Progress.{Ends, IsCharacterData}
+use Rattle.ifmap_reader.specs.Progress.{EndsElement, IsCharacterData}
 use Rattle.ifmap_reader.proofs.Items.{words_close, close_words, inner_closes, closes_inner, opened_closes, closes_opened}
 
 module _ (scope : Scope) (f : OpenElement) (ts : List Token) (Then : Element → List Declared → List Token → Type 0) where
   -- a comment
   comment_off : (c : Pieces) (rest : List Token) (items : List ContentItem) (e : Element) (d : List Declared)
       → Comment ∷ ts ≡ tokens_of c ++ (End (written_name f) ∷ rest)
-      → AreItems scope c items → Closes f items e d → Then e d rest → Ends scope f ts Then
+      → AreItems scope c items → Closes f items e d → Then e d rest → EndsElement scope f ts Then
   comment_off (piece.Comment after) rest items e d is m c t =
       record { inside = after; rest = rest; items = items; element = e; declared = d; tokens_are = cc; means = m; closes = c; goes_on = t }
   comment_off Nothing rest items e d is m c t = cc
@@ -34,7 +34,7 @@ module _ (scope : Scope) (f : OpenElement) (ts : List Token) (Then : Element →
   comment_off (piece.Empty tag after) rest items e d is m c t = cc
   comment_off (piece.Start tag inside after) rest items e d is m c t = cc
 
-  pub ends_comment : Ends scope f (Comment ∷ ts) Then ↔ Ends scope f ts Then
+  pub ends_comment : EndsElement scope f (Comment ∷ ts) Then ↔ EndsElement scope f ts Then
   ends_comment = (
     λ x. comment_off x.inside x.rest x.items x.element x.declared x.tokens_are x.means x.closes x.goes_on,
     λ x. record {
@@ -54,7 +54,7 @@ module _ (scope : Scope) (f : OpenElement) (ts : List Token) (Then : Element →
   text_off : (text more : List ℕ) (after : Pieces) (rest : List Token) (items : List ContentItem) (e : Element)
       (d : List Declared) → text ≡ more → ts ≡ tokens_of after ++ (End (written_name f) ∷ rest)
       → ((others : List ContentItem) × (items ≡ Run more ∷ others) × AreItems scope after others) → Closes f items e d
-      → Then e d rest → Ends scope (with_characters f text) ts Then
+      → Then e d rest → EndsElement scope (with_characters f text) ts Then
   text_off text more after rest items e d same is m c th = record {
     inside = after;
     rest = rest;
@@ -71,7 +71,7 @@ module _ (scope : Scope) (f : OpenElement) (ts : List Token) (Then : Element →
   words_off : (t : Token) (blank : Bool) (text : List ℕ) → IsCharacterData blank text t
       → (c : Pieces) (rest : List Token) (items : List ContentItem) (e : Element) (d : List Declared)
       → t ∷ ts ≡ tokens_of c ++ (End (written_name f) ∷ rest)
-      → AreItems scope c items → Closes f items e d → Then e d rest → Ends scope (with_characters f text) ts Then
+      → AreItems scope c items → Closes f items e d → Then e d rest → EndsElement scope (with_characters f text) ts Then
   words_off t blank text w Nothing rest items e d is m c th = elim w [ inl k ↦ cc | inr k ↦ let h = k.1 in cc ]
   words_off t blank text w (piece.Comment after) rest items e d is m c th = elim w [ inl k ↦ cc | inr k ↦ let h = k.1 in cc ]
   words_off t blank text w (piece.Characters b more after) rest items e d is m c th =
@@ -82,7 +82,7 @@ module _ (scope : Scope) (f : OpenElement) (ts : List Token) (Then : Element →
   words_off t blank text w (piece.Start tag inside after) rest items e d is m c th = elim w [ inl k ↦ cc | inr k ↦ let h = k.1 in cc ]
 
   words_on : (t : Token) (blank : Bool) (text : List ℕ) → IsCharacterData blank text t
-      → Ends scope (with_characters f text) ts Then → Ends scope f (t ∷ ts) Then
+      → EndsElement scope (with_characters f text) ts Then → EndsElement scope f (t ∷ ts) Then
   words_on t blank text w x = elim w [
     | inl k ↦ record {
       inside = piece.Characters blank text x.inside;
@@ -109,7 +109,7 @@ module _ (scope : Scope) (f : OpenElement) (ts : List Token) (Then : Element →
   ]
 
   pub ends_words : (t : Token) (blank : Bool) (text : List ℕ) → IsCharacterData blank text t
-      → Ends scope f (t ∷ ts) Then ↔ Ends scope (with_characters f text) ts Then
+      → EndsElement scope f (t ∷ ts) Then ↔ EndsElement scope (with_characters f text) ts Then
   ends_words t blank text w = (
     λ x. words_off t blank text w x.inside x.rest x.items x.element x.declared
         x.tokens_are x.means x.closes x.goes_on,
@@ -125,7 +125,7 @@ module _ (scope : Scope) (f : OpenElement) (ts : List Token) (Then : Element →
   declaration_off (piece.Empty tag after) rest is = cc
   declaration_off (piece.Start tag inside after) rest is = cc
 
-  pub no_declaration : Ends scope f (Declaration ∷ ts) Then → ⊥
+  pub no_declaration : EndsElement scope f (Declaration ∷ ts) Then → ⊥
   no_declaration x = declaration_off x.inside x.rest x.tokens_are
 
   -- an end tag
@@ -142,11 +142,11 @@ module _ (scope : Scope) (f : OpenElement) (ts : List Token) (Then : Element →
   end_off name (piece.Start tag inside after) rest items e d is m c t = cc
 
   -- the end tag of another name
-  pub no_other_end : (name : Qualified) → (name ≡ written_name f → ⊥) → Ends scope f (End name ∷ ts) Then → ⊥
+  pub no_other_end : (name : Qualified) → (name ≡ written_name f → ⊥) → EndsElement scope f (End name ∷ ts) Then → ⊥
   no_other_end name other x = other (end_off name x.inside x.rest x.items x.element x.declared x.tokens_are x.means x.closes x.goes_on).0
 
   pub ends_here : (name : Qualified) (e : Element) (d : List Declared) → name ≡ written_name f → Closes f [] e d
-      → Ends scope f (End name ∷ ts) Then ↔ Then e d ts
+      → EndsElement scope f (End name ∷ ts) Then ↔ Then e d ts
   ends_here name e d is c = (
     λ x.
         let h = end_off name x.inside x.rest x.items x.element x.declared x.tokens_are x.means x.closes x.goes_on in
@@ -171,7 +171,7 @@ module _ (scope : Scope) (f : OpenElement) (ts : List Token) (Then : Element →
     empty_off : (c : Pieces) (rest : List Token) (items : List ContentItem) (e : Element) (d : List Declared)
         → Empty tag ∷ ts ≡ tokens_of c ++ (End (written_name f) ∷ rest)
         → AreItems scope c items → Closes f items e d → Then e d rest → (inner : Element) (below : List Declared)
-        → Closes new [] inner below → Ends scope (with_inner f inner below) ts Then
+        → Closes new [] inner below → EndsElement scope (with_inner f inner below) ts Then
     empty_off (piece.Empty other after) rest items e d is m c t inner below k =
         let same : other ≡ tag = cc in
         let made : IsElement scope tag [] m.0 m.1 = subst (λ (u : Tag). IsElement scope u [] m.0 m.1) same m.4 in
@@ -196,7 +196,7 @@ module _ (scope : Scope) (f : OpenElement) (ts : List Token) (Then : Element →
     empty_off (piece.Start other inside after) rest items e d is m c t inner below k = cc
 
     pub ends_empty : (inner : Element) (below : List Declared) → Closes new [] inner below
-        → Ends scope f (Empty tag ∷ ts) Then ↔ Ends scope (with_inner f inner below) ts Then
+        → EndsElement scope f (Empty tag ∷ ts) Then ↔ EndsElement scope (with_inner f inner below) ts Then
     ends_empty inner below k = (
       λ x. empty_off x.inside x.rest x.items x.element x.declared x.tokens_are x.means x.closes x.goes_on inner below k,
       λ x. record {
@@ -215,8 +215,8 @@ module _ (scope : Scope) (f : OpenElement) (ts : List Token) (Then : Element →
     branch_off : (c : Pieces) (rest : List Token) (items : List ContentItem) (e : Element) (d : List Declared)
         → Start tag ∷ ts ≡ tokens_of c ++ (End (written_name f) ∷ rest)
         → AreItems scope c items → Closes f items e d → Then e d rest
-        → Ends (new.bindings ++ scope) new ts
-        (λ inner below rest. Ends scope (with_inner f inner below) rest Then)
+        → EndsElement (new.bindings ++ scope) new ts
+        (λ inner below rest. EndsElement scope (with_inner f inner below) rest Then)
     branch_off (piece.Start other inside after) rest items e d is m c t =
         let same : other ≡ tag = cc in
         let tail : ts ≡ (tokens_of inside ++ (End other.name ∷ tokens_of after)) ++ (End (written_name f) ∷ rest) = cc in
@@ -250,8 +250,8 @@ module _ (scope : Scope) (f : OpenElement) (ts : List Token) (Then : Element →
     branch_off (piece.Section text after) rest items e d is m c t = cc
     branch_off (piece.Empty other after) rest items e d is m c t = cc
 
-    branch_on : Ends (new.bindings ++ scope) new ts
-        (λ inner below rest. Ends scope (with_inner f inner below) rest Then) → Ends scope f (Start tag ∷ ts) Then
+    branch_on : EndsElement (new.bindings ++ scope) new ts
+        (λ inner below rest. EndsElement scope (with_inner f inner below) rest Then) → EndsElement scope f (Start tag ∷ ts) Then
     branch_on x =
         let y = x.goes_on in
         record {
@@ -278,8 +278,8 @@ module _ (scope : Scope) (f : OpenElement) (ts : List Token) (Then : Element →
           goes_on = y.goes_on;
         }
 
-    pub ends_start : Ends scope f (Start tag ∷ ts) Then ↔ Ends (new.bindings ++ scope) new ts (λ inner below rest.
-        Ends scope (with_inner f inner below) rest Then)
+    pub ends_start : EndsElement scope f (Start tag ∷ ts) Then ↔ EndsElement (new.bindings ++ scope) new ts (λ inner below rest.
+        EndsElement scope (with_inner f inner below) rest Then)
     ends_start = (λ x. branch_off x.inside x.rest x.items x.element x.declared x.tokens_are x.means x.closes x.goes_on, branch_on)
 
 -- a tag that is not allowed
@@ -296,7 +296,7 @@ module _ (scope : Scope) (f : OpenElement) (ts : List Token) (Then : Element →
   start_off (piece.Section text after) rest items is m = cc
   start_off (piece.Empty other after) rest items is m = cc
 
-  pub start_named : Ends scope f (Start tag ∷ ts) Then → ⊥
+  pub start_named : EndsElement scope f (Start tag ∷ ts) Then → ⊥
   start_named x = start_off x.inside x.rest x.items x.tokens_are x.means
 
   leaf_off : (c : Pieces) (rest : List Token) (items : List ContentItem)
@@ -310,5 +310,5 @@ module _ (scope : Scope) (f : OpenElement) (ts : List Token) (Then : Element →
   leaf_off (piece.Section text after) rest items is m = cc
   leaf_off (piece.Start other inside after) rest items is m = cc
 
-  pub empty_named : Ends scope f (Empty tag ∷ ts) Then → ⊥
+  pub empty_named : EndsElement scope f (Empty tag ∷ ts) Then → ⊥
   empty_named x = leaf_off x.inside x.rest x.items x.tokens_are x.means

@@ -31,7 +31,7 @@ where_is (standing.Open open_elements) = Within (reverse open_elements)
 where_is (standing.Done r) = AfterRoot r.value
 
 -- the tokens are the rest of an open element's pieces, its end tag, and what Then says of the element that ended
-pub record Ends (scope : Scope) (f : OpenElement) (ts : List Token) (Then : Element → List Declared → List Token → Type 0) : Type 0 where
+pub record EndsElement (scope : Scope) (f : OpenElement) (ts : List Token) (Then : Element → List Declared → List Token → Type 0) : Type 0 where
   pub inside : Pieces
   pub rest : List Token
   pub items : List ContentItem
@@ -51,8 +51,8 @@ pub record EndsDocument (root : Reading) (ts : List Token) (r : Reading) : Type 
 
 -- the tokens end an open element, those round it, and the document
 abbrev pub Closing : OpenElement → List OpenElement → List Token → Reading → Type 0
-Closing f [] ts r = Ends (scope_of (f ∷ [])) f ts (λ e declared rest. EndsDocument (record { root = e; declared = declared }) rest r)
-Closing f (g ∷ gs) ts r = Ends (scope_of (f ∷ (g ∷ gs))) f ts (λ e declared rest. Closing (with_inner g e declared) gs rest r)
+Closing f [] ts r = EndsElement (scope_of (f ∷ [])) f ts (λ e declared rest. EndsDocument (record { root = e; declared = declared }) rest r)
+Closing f (g ∷ gs) ts r = EndsElement (scope_of (f ∷ (g ∷ gs))) f ts (λ e declared rest. Closing (with_inner g e declared) gs rest r)
 
 -- the tokens are a document from before its root on
 pub record BeginsRoot (ts : List Token) (r : Reading) : Type 0 where
