@@ -7,7 +7,7 @@ ghost use Rattle.ifmap_command.specs.Words.{Asks};
 
 use crate::commands::read_words;
 use ifmap_elem::Text;
-use ifmap_words::number_of;
+use ifmap_words::decimal_number;
 use std::alloc::{AllocError as NoMemory, Global};
 
 /// The most events of a drill.
@@ -46,7 +46,7 @@ pub fn form_of(alloc: Global, words: &[String]) -> Form
 pub(crate) fn drill_of(key: &str, count: &str) -> Form
     ensures { Asks (codes "drill" ∷ key.now ∷ count.now ∷ []) result }
 {
-    let Some(key) = number_of(key) else {
+    let Some(key) = decimal_number(key) else {
         return Form::Wrong;
     };
     let Some(count) = number_within(count, MOST_EVENTS) else {
@@ -76,7 +76,7 @@ fn number_within(text: &str, most: u32) -> Option<u32>
         ((n : ℕ) → 1 ≤ n → n ≤ most → text.now ≢ decimal n)
         (λ n. (1 ≤ n) × (n ≤ most) × (text.now ≡ decimal n)) }
 {
-    let number = number_of(text)?;
+    let number = decimal_number(text)?;
     if is_within(number, most) {
         Some(number as u32)
     } else {

@@ -13,7 +13,7 @@ ghost use Rattle.ifmap_server.specs.Lines.{AreWords, HasNoSpace};
 use ifmap_elem::Text;
 use ifmap_io::Moment;
 use ifmap_meta::ClientName;
-use ifmap_words::number_of;
+use ifmap_words::decimal_number;
 use std::alloc::{AllocError as NoMemory, Global};
 use uuid::Uuid;
 
@@ -122,7 +122,7 @@ fn moment_of(text: &str) -> Option<Moment>
         ((n : ℕ) → n ≤ last_moment → text.now ≢ decimal n)
         (λ n. (n ≤ last_moment) × (text.now ≡ decimal n)) }
 {
-    Moment::new(number_of(text)?)
+    Moment::new(decimal_number(text)?)
 }
 
 fn size_of(text: &str) -> Option<u32>
@@ -130,7 +130,7 @@ fn size_of(text: &str) -> Option<u32>
         ((n : ℕ) → n ≤ longest_body → text.now ≢ decimal n)
         (λ n. (n ≤ longest_body) × (text.now ≡ decimal n)) }
 {
-    let size = number_of(text)?;
+    let size = decimal_number(text)?;
     if size <= LONGEST_BODY {
         Some(size as u32)
     } else {

@@ -8,6 +8,6 @@ pub mod options;
 pub mod pairs;
 
 pub use arguments::words_of;
-pub use numbers::number_of;
+pub use numbers::decimal_number;
 pub use options::has_option;
 pub use pairs::{Pair, two_words};

@@ -7,7 +7,7 @@ use itoa::Buffer;
 
 /// The number below 2^64 that a text writes in decimal, without a sign or a leading zero, `0` alone
 /// excepted; `None` exactly where it writes none. It takes no memory.
-pub fn number_of(text: &str) -> Option<u64>
+pub fn decimal_number(text: &str) -> Option<u64>
     ensures { MatchOption result
         ((n : ℕ) → n < 2 ^ 64 → text.now ≢ decimal n)
         (λ n. (n < 2 ^ 64) × (text.now ≡ decimal n)) }

@@ -1,6 +1,6 @@
 use Rattle.std.proofs.Common.{◌≡◌, sym, ap, ◌∙◌}
 use Rattle.std.specs.Fmt.{decimal}
-use Rattle.ifmap_words.proofs.numbers.number_of.Goals as goal
+use Rattle.ifmap_words.proofs.numbers.decimal_number.Goals as goal
 use Rattle.ifmap_lemmas.specs.Texts.{differs, parses}
 
 pub returns-in_default : goal.returns-in_default
