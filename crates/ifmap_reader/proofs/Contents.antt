@@ -1,7 +1,7 @@
 -- What an open element goes on with, by the next token.
--- `EndsElement` says that tokens are the rest of an open element's pieces, its end tag and then something. For each token an equivalence between
--- `EndsElement` before it and after it: one direction takes the first piece off (`.._off`), the other puts it back (`.._on`). Cases in which the
--- first token is another are closed by `cc`.
+-- `EndsElement` says that tokens are the rest of an open element's pieces, its end tag and then something. For each token an equivalence
+-- between `EndsElement` before it and after it: one direction takes the first piece off (`.._off`), the other puts it back (`.._on`).
+-- Cases in which the first token is another are closed by `cc`.
 use Rattle.std.proofs.Common.{◌≡◌, ℕ, Bool, List, [], ◌∷◌, ◌++◌, refl, ap, sym, inl, inr, ◌∙◌, subst, append_assoc}
 use Rattle.std.specs.Prelude.{◌↔◌}
 use Rattle.ifmap_elem.specs.declared.elements.Element.{Element}

@@ -31,7 +31,8 @@ where_is (standing.Open open_elements) = Within (reverse open_elements)
 where_is (standing.Done r) = AfterRoot r.value
 
 -- the tokens are the rest of an open element's pieces, its end tag, and what Then says of the element that ended
-pub record EndsElement (scope : Scope) (f : OpenElement) (ts : List Token) (Then : Element → List Declared → List Token → Type 0) : Type 0 where
+pub record EndsElement (scope : Scope) (f : OpenElement) (ts : List Token)
+    (Then : Element → List Declared → List Token → Type 0) : Type 0 where
   pub inside : Pieces
   pub rest : List Token
   pub items : List ContentItem
