@@ -5,7 +5,7 @@ use Rattle.std.proofs.Common.{◌∙◌, inl, inr, subst, sym}
 use Rattle.ifmap_ident.specs.declared.codes.Code.{Code}
 use Rattle.ifmap_ident.specs.declared.codes.Code.TheVariants.{Failure}
 use Rattle.ifmap_forms.specs.Checks.{Check, IsConclusive, IsSingle, check_if, check_then, fail, need, need_some, pass}
-use Rattle.ifmap_forms.specs.Values.{number_of, word_check}
+use Rattle.ifmap_forms.specs.Values.{number_of_digits, word_check}
 
 module _ {X : Type 0} where
   abbrev ok_value : X → Result X Code
@@ -99,10 +99,10 @@ module _ {X Y : Type 0} (first : Check X) (second : X → Check Y) where
 
 pub word_check_single : (text : List ℕ) → IsSingle (word_check text)
 word_check_single text =
-    some_single Failure (number_of text) (λ n. need (nat_lt n (2 ^ 32)) Failure (pass n))
+    some_single Failure (number_of_digits text) (λ n. need (nat_lt n (2 ^ 32)) Failure (pass n))
     (λ n. need_single (nat_lt n (2 ^ 32)) Failure (pass n) (pass_single n))
 
 pub word_check_done : (text : List ℕ) → IsConclusive (word_check text)
 word_check_done text =
-    some_done Failure (number_of text) (λ n. need (nat_lt n (2 ^ 32)) Failure (pass n))
+    some_done Failure (number_of_digits text) (λ n. need (nat_lt n (2 ^ 32)) Failure (pass n))
     (λ n. need_done (nat_lt n (2 ^ 32)) Failure (pass n) (pass_done n))

@@ -8,7 +8,7 @@ use Rattle.ifmap_lemmas.specs.Numerals.{digit, numeral, numeral_by_digits, numer
 use Rattle.std.specs.Str.{bytes_eq}
 use Rattle.ifmap_lemmas.specs.Members.{all_append}
 use Rattle.ifmap_lemmas.specs.Runs.{all_tested}
-use Rattle.ifmap_forms.specs.Values.{is_number, number_of}
+use Rattle.ifmap_forms.specs.Values.{is_number, number_of_digits}
 use Rattle.std.specs.Prelude.{if◌then◌else◌}
 use Rattle.std.specs.Str.Parse.{digits_value}
 use Rattle.ifmap_elem.specs.declared.elements.Element.{Element}
@@ -45,7 +45,7 @@ numeral_is_number n =
     and_from (not (bytes_eq (numeral n) [])) (list_all is_ascii_digit (numeral n)) (ap not is.0)
     (all_tested is_ascii_digit (numeral n) is.1)
 
-pub number_back : (n : ℕ) → number_of (numeral n) ≡ Some n
+pub number_back : (n : ℕ) → number_of_digits (numeral n) ≡ Some n
 number_back n =
     (λ i. if numeral_is_number n i then Some (digits_value 10 (numeral n)) else None) ∙ ap (λ m. Some m) (numeral_value n)
 

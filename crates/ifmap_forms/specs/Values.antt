@@ -54,8 +54,8 @@ name_field = record { local = codes "name"; reads = λ scope. read_name }
 abbrev pub is_number : List ℕ → Bool
 is_number text = not (bytes_eq text []) && list_all is_ascii_digit text
 
-abbrev pub number_of : List ℕ → Option ℕ
-number_of text = if is_number text then Some (digits_value 10 text) else None
+abbrev pub number_of_digits : List ℕ → Option ℕ
+number_of_digits text = if is_number text then Some (digits_value 10 text) else None
 
 -- the number, or the end of the range that it passes
 abbrev pub within_range : ℕ → ℕ → ℕ → ℕ
@@ -71,14 +71,14 @@ greatest_limit = 5_000_000
 -- how large a poll's result may be, put into this range, where it is said
 abbrev pub read_limit : Option (List ℕ) → Check (Option ℕ)
 read_limit None = pass None
-read_limit (Some text) = need_some Failure (number_of text) (λ n. pass (Some (within_range least_limit greatest_limit n)))
+read_limit (Some text) = need_some Failure (number_of_digits text) (λ n. pass (Some (within_range least_limit greatest_limit n)))
 
 abbrev pub limit_field : Field (Option ℕ)
 limit_field = record { local = codes "max-poll-result-size"; reads = λ scope. read_limit }
 
 -- a number below 2^32
 abbrev pub word_check : List ℕ → Check ℕ
-word_check text = need_some Failure (number_of text) (λ n. need (nat_lt n (2 ^ 32)) Failure (pass n))
+word_check text = need_some Failure (number_of_digits text) (λ n. need (nat_lt n (2 ^ 32)) Failure (pass n))
 
 -- the most links of a walk: below 2^32, and 0 where it is not said
 abbrev pub read_depth : Option (List ℕ) → Check ℕ
@@ -98,7 +98,7 @@ greatest_size = 50_000_000
 -- how large the result of a search may be
 abbrev pub read_size : Option (List ℕ) → Check ℕ
 read_size None = pass usual_size
-read_size (Some text) = need_some Failure (number_of text) (λ n. pass (min n greatest_size))
+read_size (Some text) = need_some Failure (number_of_digits text) (λ n. pass (min n greatest_size))
 
 abbrev pub size_field : Field ℕ
 size_field = record { local = codes "max-size"; reads = λ scope. read_size }

@@ -3,12 +3,12 @@ ghost use Rattle.std.specs.Prelude.{◌≡◌, ◌-◌, ◌^◌, min, option_map
 ghost use Rattle.std.specs.Char.{is_ascii_digit};
 ghost use Rattle.std.specs.List.{list_all};
 ghost use Rattle.std.specs.Str.Parse.{digits_value};
-ghost use Rattle.ifmap_forms.specs.Values.{is_number, number_of};
+ghost use Rattle.ifmap_forms.specs.Values.{is_number, number_of_digits};
 
 /// The number that one ASCII digit or more write, with leading zeros or without, or 2^64 - 1 where
 /// it is greater; `None` exactly where the text is anything else.
-pub fn number_of(text: &str) -> Option<u64>
-    ensures { result ≡ option_map (λ n. min n (2 ^ 64 - 1)) (number_of text.now) }
+pub fn number_of_digits(text: &str) -> Option<u64>
+    ensures { result ≡ option_map (λ n. min n (2 ^ 64 - 1)) (number_of_digits text.now) }
 {
     if !is_number(text) {
         return None;

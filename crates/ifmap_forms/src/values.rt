@@ -11,7 +11,7 @@ ghost use Rattle.ifmap_forms.specs.Values.{depth_field, filter_check, kinds_fiel
 
 use crate::errors::FormError;
 use crate::kinds::kinds_in;
-use crate::numbers::number_of;
+use crate::numbers::number_of_digits;
 use crate::places::{MessagePlace, full_path};
 use ifmap_elem::{Copied, Element, Many, Text};
 use ifmap_filter::laws::text_is_filter_or_stops;
@@ -73,7 +73,7 @@ pub fn read_limit(element: &Element) -> Result<Option<u32>, FormError>
     let Some(text) = value_of(element, "max-poll-result-size") else {
         return Ok(None);
     };
-    match number_of(text.as_str()) {
+    match number_of_digits(text.as_str()) {
         Some(number) => Ok(Some(number.clamp(LEAST_LIMIT as u64, GREATEST_LIMIT as u64) as u32)),
         None => Err(FormError::Named(Code::Failure)),
     }
@@ -97,7 +97,7 @@ pub fn word_of(text: &str) -> Result<u32, FormError>
     ensures answer { IsChecked (word_check text.now) result }
     ensures definite { IfErr result (λ error. error ≢ FormError.NoMemory) }
 {
-    match number_of(text) {
+    match number_of_digits(text) {
         Some(number) => narrow_number(number),
         None => Err(FormError::Named(Code::Failure)),
     }
@@ -123,7 +123,7 @@ pub fn read_size(element: &Element) -> Result<u64, FormError>
     let Some(text) = value_of(element, "max-size") else {
         return Ok(USUAL_SIZE);
     };
-    match number_of(text.as_str()) {
+    match number_of_digits(text.as_str()) {
         Some(number) => Ok(number.min(GREATEST_SIZE)),
         None => Err(FormError::Named(Code::Failure)),
     }

@@ -39,7 +39,7 @@ use Rattle.ifmap_forms.specs.Tables.{ContentCheck, ElementForm, Part, AttributeT
 use Rattle.ifmap_forms.specs.Tables.{no_children, element_parts, read_form}
 use Rattle.ifmap_forms.specs.Values.{greatest_limit, greatest_size, least_limit, longest_name, usual_size}
 use Rattle.ifmap_forms.specs.Values.{Field, depth_field, field_check, filter_check, filter_field, kind_named, kinds_check, kinds_field}
-use Rattle.ifmap_forms.specs.Values.{lifetime_field, limit_field, name_field, number_of, piece_check, pieces_of, size_field, text_field}
+use Rattle.ifmap_forms.specs.Values.{lifetime_field, limit_field, name_field, number_of_digits, piece_check, pieces_of, size_field, text_field}
 use Rattle.ifmap_forms.specs.Values.{trim_white, within_range}
 use Rattle.ifmap_forms.specs.IdentifierLaws.{identifiers_done}
 use Rattle.ifmap_requests.specs.Published.{metadata_check, published_content, published_from}
@@ -130,7 +130,7 @@ name_done scope (Some text) is =
 limit_done : FieldDone limit_field
 limit_done scope None is = pass_done None
 limit_done scope (Some text) is =
-    some_done Failure (number_of text) (λ n. pass (Some (within_range least_limit greatest_limit n)))
+    some_done Failure (number_of_digits text) (λ n. pass (Some (within_range least_limit greatest_limit n)))
     (λ n. pass_done (Some (within_range least_limit greatest_limit n)))
 
 depth_done : FieldDone depth_field
@@ -140,7 +140,7 @@ depth_done scope (Some text) is = word_check_done text
 size_done : FieldDone size_field
 size_done scope None is = pass_done usual_size
 size_done scope (Some text) is =
-    some_done Failure (number_of text) (λ n. pass (min n greatest_size)) (λ n. pass_done (min n greatest_size))
+    some_done Failure (number_of_digits text) (λ n. pass (min n greatest_size)) (λ n. pass_done (min n greatest_size))
 
 lifetime_done : FieldDone lifetime_field
 lifetime_done scope None is = pass_done false

@@ -40,7 +40,7 @@ use Rattle.ifmap_forms.specs.ifmap_filter.declared.filters.Filter.{Filter}
 use Rattle.ifmap_ident.specs.declared.kinds.Kind.{Kind}
 use Rattle.ifmap_forms.specs.Values.{greatest_limit, least_limit, longest_name}
 use Rattle.ifmap_forms.specs.Values.{depth_field, filter_check, filter_field, kinds_field, size_field, Field, field_check, limit_field}
-use Rattle.ifmap_forms.specs.Values.{name_field, number_of, text_field, within_range}
+use Rattle.ifmap_forms.specs.Values.{name_field, number_of_digits, text_field, within_range}
 use Rattle.ifmap_requests.specs.declared.requests.Request.{Request}
 use Rattle.ifmap_requests.specs.Fit.{IsFitLimit, IsFitOp, IsFitRequest, IsFitSearch, IsFitSubscribeOp, MayBeFitFilter}
 use Rattle.ifmap_requests.specs.FitFilters.{IsFitFilter}
@@ -159,8 +159,8 @@ any_number (Some n) = tt
 limit_gives : FieldGives limit_field IsFitLimit
 limit_gives scope None fit is = pass_gives IsFitLimit None tt
 limit_gives scope (Some text) fit is =
-    some_gives Any IsFitLimit Failure (number_of text) (λ n. pass (Some (within_range least_limit greatest_limit n)))
-    (any_number (number_of text))
+    some_gives Any IsFitLimit Failure (number_of_digits text) (λ n. pass (Some (within_range least_limit greatest_limit n)))
+    (any_number (number_of_digits text))
     (λ n any. pass_gives IsFitLimit (Some (within_range least_limit greatest_limit n)) (limit_within n))
 
 filter_gives : (local : List ℕ) → FieldGives (filter_field local) MayBeFitFilter

@@ -31,7 +31,7 @@ use Rattle.ifmap_forms.specs.SingleLaws.{no_attributes_single, no_children_singl
 use Rattle.ifmap_forms.specs.Tables.{table_with, both, form_or, list_of, no_attributes}
 use Rattle.ifmap_forms.specs.Values.{greatest_limit, greatest_size, least_limit, longest_name, usual_size}
 use Rattle.ifmap_forms.specs.Values.{FilterDefect, depth_field, filter_check, filter_field, kinds_field, lifetime_field, limit_field}
-use Rattle.ifmap_forms.specs.Values.{name_field, size_field, kind_named, kinds_check, number_of, piece_check, pieces_of, read_depth}
+use Rattle.ifmap_forms.specs.Values.{name_field, size_field, kind_named, kinds_check, number_of_digits, piece_check, pieces_of, read_depth}
 use Rattle.ifmap_forms.specs.Values.{read_filter, read_kinds, read_lifetime, read_limit, read_name, read_size, trim_white, within_range}
 use Rattle.ifmap_requests.specs.Published.{MetadataDefect, metadata_check, published_content, published_from}
 use Rattle.ifmap_envelopes.specs.Spaces.{ifmap_space}
@@ -60,7 +60,7 @@ read_name_single scope (Some text) =
 read_limit_single : (scope : Scope) (text : Option (List ℕ)) → IsSingle (read_limit text)
 read_limit_single scope None = pass_single None
 read_limit_single scope (Some text) =
-    some_single Failure (number_of text) (λ n. pass (Some (within_range least_limit greatest_limit n)))
+    some_single Failure (number_of_digits text) (λ n. pass (Some (within_range least_limit greatest_limit n)))
     (λ n. pass_single (Some (within_range least_limit greatest_limit n)))
 
 read_depth_single : (scope : Scope) (text : Option (List ℕ)) → IsSingle (read_depth text)
@@ -70,7 +70,7 @@ read_depth_single scope (Some text) = word_check_single text
 read_size_single : (scope : Scope) (text : Option (List ℕ)) → IsSingle (read_size text)
 read_size_single scope None = pass_single usual_size
 read_size_single scope (Some text) =
-    some_single Failure (number_of text) (λ n. pass (min n greatest_size)) (λ n. pass_single (min n greatest_size))
+    some_single Failure (number_of_digits text) (λ n. pass (min n greatest_size)) (λ n. pass_single (min n greatest_size))
 
 read_lifetime_single : (scope : Scope) (text : Option (List ℕ)) → IsSingle (read_lifetime text)
 read_lifetime_single scope None = pass_single false

@@ -35,7 +35,7 @@ use Rattle.ifmap_requests.specs.ifmap_forms.Scopes.{Scopes, scopes_below}
 use Rattle.ifmap_requests.specs.ifmap_forms.Tables.{Both, ElementForm, Part, AttributeTable, table_with, both, each_element, form_check, form_or, no_attributes, parts_in}
 use Rattle.ifmap_requests.specs.ifmap_forms.Tables.{element_parts}
 use Rattle.ifmap_requests.specs.ifmap_forms.Values.{greatest_size, longest_name, usual_size}
-use Rattle.ifmap_requests.specs.ifmap_forms.Values.{Field, depth_field, field_check, name_field, number_of, read_depth}
+use Rattle.ifmap_requests.specs.ifmap_forms.Values.{Field, depth_field, field_check, name_field, number_of_digits, read_depth}
 use Rattle.ifmap_requests.specs.ifmap_forms.Values.{read_name, read_size, size_field}
 use Rattle.ifmap_requests.specs.declared.publish_ops.PublishOp.{PublishOp}
 use Rattle.ifmap_requests.specs.declared.requests.Request.{Request}
@@ -129,7 +129,7 @@ name_bounded (Some text) name h =
 depth_bounded : (o : Option (List ℕ)) (n : ℕ) → read_depth o (good n) → n < 2 ^ 32
 depth_bounded None n h = let is : n ≡ 0 = passed n 0 h in omega (arith, is)
 depth_bounded (Some text) n h =
-    let found = some_found Failure (number_of text) (λ m. need (nat_lt m (2 ^ 32)) Failure (pass m)) n h in
+    let found = some_found Failure (number_of_digits text) (λ m. need (nat_lt m (2 ^ 32)) Failure (pass m)) n h in
     let tested = needed (nat_lt found.0 (2 ^ 32)) Failure (pass found.0) n found.2 in
     let test = tested.0 in
     let is : n ≡ found.0 = passed n found.0 tested.1 in
@@ -139,7 +139,7 @@ depth_bounded (Some text) n h =
 size_bounded : (o : Option (List ℕ)) (n : ℕ) → read_size o (good n) → n ≤ greatest_size
 size_bounded None n h = let is : n ≡ usual_size = passed n usual_size h in omega (arith, is)
 size_bounded (Some text) n h =
-    let found = some_found Failure (number_of text) (λ m. pass (min m greatest_size)) n h in
+    let found = some_found Failure (number_of_digits text) (λ m. pass (min m greatest_size)) n h in
     let is : n ≡ min found.0 greatest_size = passed n (min found.0 greatest_size) found.2 in
     omega (arith, is)
 

@@ -14,7 +14,7 @@ use Rattle.ifmap_ident.specs.declared.kinds.Kind.TheVariants.{AccessRequest, Dev
 use Rattle.ifmap_ident.specs.Kinds.{kind_name}
 use Rattle.ifmap_requests.specs.ifmap_forms.Checks.{Check, check_if, need_some, pass}
 use Rattle.ifmap_requests.specs.ifmap_forms.Values.{greatest_limit, greatest_size, least_limit, longest_name}
-use Rattle.ifmap_requests.specs.ifmap_forms.Values.{kind_named, kinds_check, number_of, piece_check, pieces_of, read_depth, read_kinds}
+use Rattle.ifmap_requests.specs.ifmap_forms.Values.{kind_named, kinds_check, number_of_digits, piece_check, pieces_of, read_depth, read_kinds}
 use Rattle.ifmap_requests.specs.ifmap_forms.Values.{read_lifetime, read_limit, read_name, read_size, trim_white, within_range}
 use Rattle.ifmap_writing.specs.Attributes.{kinds_value, lifetime_value, limit_value, number_value}
 use Rattle.ifmap_requests.specs.ifmap_forms.FormLaws.{number_back}
@@ -26,7 +26,7 @@ good x = Ok x
 
 -- what is made of a number is found where its numeral is read
 number_passes : {X : Type 0} (n : ℕ) (code : Code) (check : ℕ → Check X) (x : X) → check n (good x)
-    → need_some code (number_of (numeral n)) check (good x)
+    → need_some code (number_of_digits (numeral n)) check (good x)
 number_passes n code check x f = subst (λ (o : Option ℕ). need_some code o check (good x)) (sym (number_back n)) f
 
 pub limit_back : (limit : Option ℕ) → ((n : ℕ) → limit ≡ Some n → (least_limit ≤ n) × (n ≤ greatest_limit))
