@@ -75,7 +75,7 @@ pub(crate) fn common_length(name: &[u8], headers: &[Header<'_>]) -> Option<u64>
     ensures { result ≡ common_length (values name.now (map header_parts headers.now)) }
 {
     let first = next_value(name, headers)?;
-    let number = number_of(first.value)?;
+    let number = read_length(first.value)?;
     if all_write(number, name, headers) {
         Some(number)
     } else {
@@ -100,14 +100,14 @@ fn all_write(number: u64, name: &[u8], headers: &[Header<'_>]) -> bool
 fn writes_number(number: u64, value: &[u8]) -> bool
     ensures { result ≡ writes_number number value.now }
 {
-    match number_of(value) {
+    match read_length(value) {
         Some(written) => written == number,
         None => false,
     }
 }
 
 // The number that one to eighteen digits write.
-fn number_of(value: &[u8]) -> Option<u64>
+fn read_length(value: &[u8]) -> Option<u64>
     ensures value { result ≡ (if is_length value.now
         then Some (digits_value 10 value.now) else None) }
 {

@@ -1,6 +1,6 @@
 use Rattle.std.proofs.Common.{arith}
 use Rattle.ifmap_heads.proofs.Values.{digit_pushed, room_for_digit}
-use Rattle.ifmap_heads.proofs.fields.number_of.Goals as goal
+use Rattle.ifmap_heads.proofs.fields.read_length.Goals as goal
 
 pub overflow_mul-number : goal.overflow_mul-number
 overflow_mul-number c = omega (arith, room_for_digit c.loop-byte.number c.loop-byte.byte-index c.loop-byte.invariant.1 (omega arith))
