@@ -7,7 +7,7 @@ ghost use Rattle.ifmap_fresh_tests.specs.Lists.{AreLists, links_in, rows_on_shel
 
 use crate::checking::are_sound;
 use crate::linking::{count_links, link_in, stored_linked};
-use crate::looking::{number_of, row_with_key_among, stored_on_one, stored_on_pair};
+use crate::looking::{place_of_identifier, row_with_key_among, stored_on_one, stored_on_pair};
 use crate::shelves::Shelf;
 use ifmap_ident::laws::bytes_tell_identifiers_apart;
 use ifmap_ident::{Identifier, Item};
@@ -75,7 +75,7 @@ impl View for Lists {
 
     fn number(&self, id: &Identifier) -> Option<u64> {
         bytes_tell_identifiers_apart();
-        number_of(&self.names, id)
+        place_of_identifier(&self.names, id)
     }
 
     fn identifier(&self, number: u64) -> Option<&Identifier> {

@@ -13,7 +13,7 @@ use ifmap_ident::{Identifier, Item};
 use ifmap_view::Row;
 
 // The place of an identifier.
-pub(crate) fn number_of(names: &[Identifier], id: &Identifier) -> Option<u64>
+pub(crate) fn place_of_identifier(names: &[Identifier], id: &Identifier) -> Option<u64>
     requires { all_pairs different_identifiers names.now ≡ true }
     ensures found { IfSome result (λ v. slice_get names.now v ≡ Some id.now) }
     ensures only { (v : ℕ) → slice_get names.now v ≡ Some id.now → result ≡ Some v }

@@ -3,7 +3,7 @@ use Rattle.std.proofs.lemmas.Option.{same_Some, slice_get_read, slice_get_within
 use Rattle.ifmap_fresh_tests.specs.Lists.{different_identifiers}
 use Rattle.ifmap_fresh_tests.proofs.Pairs.{pairs_of}
 use Rattle.ifmap_fresh_tests.proofs.Viewed.{one_place}
-use Rattle.ifmap_fresh_tests.proofs.looking.number_of.Goals as goal
+use Rattle.ifmap_fresh_tests.proofs.looking.place_of_identifier.Goals as goal
 
 pub returns-then-equals-clause-only : goal.returns-then-equals-clause-only
 returns-then-equals-clause-only c =
