@@ -23,7 +23,10 @@ pub(crate) fn predicate_of(alloc: Global, asked: Comparison) -> Result<Predicate
     }
 }
 
-pub(crate) fn parts_of(alloc: Global, asked: &[Comparison]) -> Result<Many<Predicate>, NoMemory> {
+pub(crate) fn predicates_of(
+    alloc: Global,
+    asked: &[Comparison],
+) -> Result<Many<Predicate>, NoMemory> {
     let mut parts = Vec::new(alloc);
     for one in asked {
         parts.push(predicate_of(alloc, *one)?)?;
@@ -116,7 +119,7 @@ pub(crate) fn role(alloc: Global) -> Result<Element, NoMemory> {
 
 // `m:role[name='a' or @x='b' and c='d']`, where `m` is this namespace.
 pub(crate) fn or_of_and(alloc: Global, space: &str) -> Result<Filter, NoMemory> {
-    let both = parts_of(
+    let both = predicates_of(
         alloc,
         &[Comparison::Attr("x", "b"), Comparison::Child("", "c", "d")],
     )?;

@@ -1,6 +1,6 @@
 //! Which elements meet which filters, judged by hand.
 use crate::makers::Comparison::{Attr, Child};
-use crate::makers::{Comparison, filter_of, or_of_and, parts_of, predicate_of, role};
+use crate::makers::{Comparison, filter_of, or_of_and, predicate_of, predicates_of, role};
 use ifmap_elem::{Copied, Equals, Many, Name};
 use ifmap_filter::{Filter, Predicate, meets_optional};
 use std::alloc::{AllocError as NoMemory, Global};
@@ -51,7 +51,7 @@ const HOLDS: Comparison = Attr("a", "1");
 const FAILS: Comparison = Attr("a", "2");
 
 fn meets_joined(alloc: Global, all: bool, asked: &[Comparison]) -> Result<bool, NoMemory> {
-    let parts = parts_of(alloc, asked)?;
+    let parts = predicates_of(alloc, asked)?;
     let predicate = if all {
         Predicate::And(parts)
     } else {

@@ -114,7 +114,7 @@ struct Parts<'a> {
     error: Option<(Code, &'a Text)>,
 }
 
-fn parts_of(item: &PollItem) -> Parts<'_> {
+fn parts_of_item(item: &PollItem) -> Parts<'_> {
     let (told, name, entries) = match item {
         PollItem::Search { name, entries } => (Told::Search, name, entries),
         PollItem::Update { name, entries } => (Told::Update, name, entries),
@@ -142,7 +142,7 @@ fn parts_of(item: &PollItem) -> Parts<'_> {
 }
 
 fn same_item(one: &PollItem, other: &PollItem) -> bool {
-    let (one, other) = (parts_of(one), parts_of(other));
+    let (one, other) = (parts_of_item(one), parts_of_item(other));
     let entries = match (one.entries, other.entries) {
         (Some(one), Some(other)) => same_entries(one, other),
         (None, None) => true,
@@ -158,7 +158,7 @@ fn what_a_poll_is_told_equals_its_copy(rt: HostRuntime) -> Result<(), Fail> {
         let item = item_of(alloc, told, 2)?;
         let copy = item.copy(alloc)?;
         assert!(rt; same_item(&copy, &item), "{told:?}");
-        assert_eq!(rt; parts_of(&copy).told, told);
+        assert_eq!(rt; parts_of_item(&copy).told, told);
     }
     Ok(())
 }
