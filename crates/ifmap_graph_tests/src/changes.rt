@@ -81,7 +81,7 @@ fn rest_of(alloc: Global, course: &Course<'_>) -> Result<Vec<Fact>, NoMemory> {
 }
 
 // What is left, where the graph shows just that and has nothing beside it.
-fn end_of(alloc: Global, carried: &Carried, course: &Course<'_>) -> Option<Vec<Fact>> {
+fn rest_shown(alloc: Global, carried: &Carried, course: &Course<'_>) -> Option<Vec<Fact>> {
     let rest = rest_of(alloc, course).ok()?;
     if counts(&carried.graph, &rest) && shows(alloc, &carried.graph, &rest) {
         Some(rest)
@@ -99,7 +99,7 @@ fn publish_course(
 ) -> Option<Vec<Fact>> {
     let text = write_ops(alloc, ops).ok()?;
     if publish_text(alloc, carried, text.as_str(), by, course) {
-        end_of(alloc, &*carried, course)
+        rest_shown(alloc, &*carried, course)
     } else {
         None
     }
@@ -144,7 +144,7 @@ fn retract_course(
 ) -> Option<Vec<Fact>> {
     let who = who_of(alloc, leaver).ok()?;
     if carried.retract(alloc, &who, course) {
-        end_of(alloc, &*carried, course)
+        rest_shown(alloc, &*carried, course)
     } else {
         None
     }
