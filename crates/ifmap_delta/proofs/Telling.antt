@@ -29,7 +29,7 @@ use Rattle.ifmap_view.specs.declared.attachments.Attachment.{Attachment}
 use Rattle.ifmap_view.specs.Attachments.{IsGraph, stored_bytes, stored_order}
 use Rattle.ifmap_view.specs.Rows.{stored_on}
 use Rattle.ifmap_fresh.specs.Fresh.{fresh, is_found, is_looked_at}
-use Rattle.ifmap_fresh.specs.Gathered.{entry_at, gathered_rows, has_item, row_at}
+use Rattle.ifmap_fresh.specs.Gathered.{stored_entry, gathered_rows, has_item, row_at}
 use Rattle.ifmap_folds.specs.Differences.{difference, entry_bytes, has_entry, same_entry}
 use Rattle.ifmap_delta.specs.Shown.{shown_on}
 use Rattle.ifmap_delta.specs.Sights.{ViewSeen}
@@ -63,15 +63,15 @@ none_left x q p e [] = refl
 none_left x q p e (t ∷ ts) = rw (e t) (none_left x q p e ts)
 
 some_left : (x : Item) (q : Stored → Bool) (p : Attachment → Bool) → ((t : Stored) → p (row_at x t) ≡ q t) → (xs : List Stored)
-    → map (entry_at x) (filter q xs) ≡ map entry_of (filter p (map (row_at x) xs))
+    → map (stored_entry x) (filter q xs) ≡ map entry_of (filter p (map (row_at x) xs))
 some_left x q p e [] = refl
 some_left x q p e (t ∷ ts) = elim (cases_Bool (q t)) [
-  | inl u ↦ rw (u, e t ∙ u) (ap (λ l. entry_at x t ∷ l) (some_left x q p e ts))
+  | inl u ↦ rw (u, e t ∙ u) (ap (λ l. stored_entry x t ∷ l) (some_left x q p e ts))
   | inr u ↦ rw (u, e t ∙ u) (some_left x q p e ts)
 ]
 
 one_item : (x : Item) (b : Bool) (q : Stored → Bool) (p : Attachment → Bool) → ((t : Stored) → p (row_at x t) ≡ (b && q t))
-    → (xs : List Stored) → map (entry_at x) (filter q (cond b xs [])) ≡ map entry_of (filter p (map (row_at x) xs))
+    → (xs : List Stored) → map (stored_entry x) (filter q (cond b xs [])) ≡ map entry_of (filter p (map (row_at x) xs))
 one_item x true q p e xs = some_left x q p e xs
 one_item x false q p e xs = none_left x q p e xs
 

@@ -30,7 +30,7 @@ use Rattle.ifmap_view.specs.declared.attachments.Attachment.{Attachment}
 use Rattle.ifmap_view.specs.Attachments.{stored_order}
 use Rattle.ifmap_view.specs.Rows.{stored_on}
 use Rattle.ifmap_fresh.specs.Fresh.{is_looked_at}
-use Rattle.ifmap_fresh.specs.Gathered.{entry_at}
+use Rattle.ifmap_fresh.specs.Gathered.{stored_entry}
 use Rattle.ifmap_folds.specs.laws.RisingLaws.{has_still, put_has}
 use Rattle.ifmap_delta.specs.Shown.{shown_on}
 use Rattle.ifmap_delta.specs.Touched.{has_met, surplus, rows_touched_by}
@@ -163,7 +163,7 @@ module _ (filter_by : Option Filter) (x : Item) where
 
   all_told : (named these others : List Stored) → ((t : Stored) → Has these t → Aside named t → Has others t)
       → surplus filter_by x (rows_touched_by named these) others ≡ surplus filter_by x these others
-  all_told named these others stays = ap (map (entry_at x)) (filter_through (ties named) (left others) these
+  all_told named these others stays = ap (map (stored_entry x)) (filter_through (ties named) (left others) these
       (λ t h n. not_left others t (stays t h (λ r k. fails_at (λ r. tie r t) named r n k))))
 
   module _ (c : ItemChange) (was now : List Stored) (is : now ≡ next_on c.removed c.added was) where
@@ -176,7 +176,7 @@ module _ (filter_by : Option Filter) (x : Item) where
         (λ t h n. was_on c.removed c.added was t n (subst (λ l. Has l t) is h))
 
   pub nothing_told : (these others : List Stored) → these ≡ others → [] ≡ surplus filter_by x these others
-  nothing_told these others e = sym (ap (map (entry_at x)) (none_left (left others) these
+  nothing_told these others e = sym (ap (map (stored_entry x)) (none_left (left others) these
       (λ t h. not_left others t (subst (λ l. Has l t) e h))))
 
 shown_whole : (b : Bool) (xs : List Stored) → cond b xs [] ≢ [] → cond b xs [] ≡ xs

@@ -23,7 +23,7 @@ use Rattle.std.specs.Ordering.{eq_by_cmp}
 use Rattle.std.specs.List.{list_any}
 use Rattle.ifmap_fresh.specs.Items.{item_alone, pair_at}
 use Rattle.ifmap_fresh.specs.Fresh.{is_looked_at}
-use Rattle.ifmap_fresh.specs.Gathered.{entry_at, has_item}
+use Rattle.ifmap_fresh.specs.Gathered.{stored_entry, has_item}
 use Rattle.ifmap_fresh.specs.Linking.{end_where}
 use Rattle.ifmap_delta.specs.Shown.{goes_on}
 use Rattle.ifmap_delta.specs.Sights.{ViewSeen}
@@ -116,7 +116,7 @@ has_met filter_by rows t =
 -- as entries of an item
 abbrev pub surplus : Option Filter → Item → List Stored → List Stored → List Entry
 surplus filter_by x these others =
-    map (entry_at x)
+    map (stored_entry x)
     (filter (λ t. meets_optional filter_by t.element && not (has_met filter_by others t)) these)
 
 -- what the first shows of some items, and the other does not

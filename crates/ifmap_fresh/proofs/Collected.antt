@@ -35,7 +35,7 @@ use Rattle.ifmap_view.specs.Rows.{stored_between, stored_linked, stored_on}
 use Rattle.ifmap_view.specs.Views.{IsView}
 use Rattle.ifmap_fresh.specs.Collected.{AreLookedAt, is_below, is_passed, item_along, item_to, item_where, items_of_number, items_of_numbers}
 use Rattle.ifmap_fresh.specs.Fresh.{fresh, is_found, is_looked_at}
-use Rattle.ifmap_fresh.specs.Gathered.{entries_of, entries_on, entry_at, gathered_rows, has_item, row_at}
+use Rattle.ifmap_fresh.specs.Gathered.{entries_of, entries_on, stored_entry, gathered_rows, has_item, row_at}
 use Rattle.ifmap_fresh.specs.Items.{item_alone, pair_at}
 use Rattle.ifmap_fresh.specs.Linking.{end_where, is_terminal_at}
 use Rattle.ifmap_fresh.specs.Matching.{is_match, is_terminal, one_meets}
@@ -252,7 +252,7 @@ module _ (by : Option Filter) where
   one_item : (i : Item) (xs : List Stored) → entries_of by i xs ≡ map entry_of (filter meeting (map (row_at i) xs))
   one_item i [] = refl
   one_item i (x ∷ xs) = elim (cases_Bool (meets_optional by x.element)) [
-    | inl t ↦ rw t (ap (λ l. entry_at i x ∷ l) (one_item i xs))
+    | inl t ↦ rw t (ap (λ l. stored_entry i x ∷ l) (one_item i xs))
     | inr t ↦ rw t (one_item i xs)
   ]
 

@@ -17,25 +17,26 @@ use Rattle.ifmap_view.specs.declared.attachments.Attachment.{Attachment}
 use Rattle.ifmap_view.specs.Rows.{stored_on}
 use Rattle.ifmap_elem.specs.Canonical.{canonical_bytes}
 use Rattle.ifmap_ident.specs.Items.{item_size}
-use Rattle.ifmap_fresh.specs.Gathered.{entries_of, entries_on, entry_at, row_size}
+use Rattle.ifmap_fresh.specs.Gathered.{entries_of, entries_on, stored_entry, row_size}
 
 split : (by : Option Filter) (i : Item) (xs : List Stored) (k : ℕ) (s : Stored) → k < length xs → s ≡ get_or xs k s
-    → entries_of by i (take (k + 1) xs) ≡ entries_of by i (take k xs) ++ map (entry_at i)
+    → entries_of by i (take (k + 1) xs) ≡ entries_of by i (take k xs) ++ map (stored_entry i)
     (filter (λ x. meets_optional by x.element) (s ∷ []))
 split by i xs k s h e =
     ap (entries_of by i) (take_more xs k s h ∙ ap (λ x. take k xs ++ x ∷ []) (sym e))
-    ∙ ap (map (entry_at i)) (filter-append (λ x. meets_optional by x.element) (take k xs) (s ∷ []))
-    ∙ map-append (entry_at i) (filter (λ x. meets_optional by x.element) (take k xs)) (filter (λ x. meets_optional by x.element) (s ∷ []))
+    ∙ ap (map (stored_entry i)) (filter-append (λ x. meets_optional by x.element) (take k xs) (s ∷ []))
+    ∙ map-append (stored_entry i) (filter (λ x. meets_optional by x.element) (take k xs))
+    (filter (λ x. meets_optional by x.element) (s ∷ []))
 
-size_is : (i : Item) (s : Stored) → entry_size (entry_at i s) ≡ item_size i + length (canonical_bytes s.element)
+size_is : (i : Item) (s : Stored) → entry_size (stored_entry i s) ≡ item_size i + length (canonical_bytes s.element)
 unfolding entry_size
 size_is i s = refl
 
 -- the size of one entry
 one_size : (i : Item) (own : ℕ) (s : Stored) → own ≡ item_size i
-    → entries_size (entry_at i s ∷ []) ≡ own + length (canonical_bytes s.element)
+    → entries_size (stored_entry i s ∷ []) ≡ own + length (canonical_bytes s.element)
 one_size i own s o =
-    sum_by-cons entry_size (entry_at i s) [] ∙ add-zero (entry_size (entry_at i s)) ∙ size_is i s
+    sum_by-cons entry_size (stored_entry i s) [] ∙ add-zero (entry_size (stored_entry i s)) ∙ size_is i s
     ∙ ap (λ n. n + length (canonical_bytes s.element)) (sym o)
 
 -- one row more
@@ -44,10 +45,10 @@ pub rows_more : (by : Option Filter) (i : Item) (own : ℕ) (xs : List Stored) (
     → entries_size (entries_of by i (take (k + 1) xs)) ≡ entries_size (entries_of by i (take k xs)) + row_size own by s
 rows_more by i own xs k s o h e =
     ap entries_size (split by i xs k s h e)
-    ∙ sum_by-append entry_size (entries_of by i (take k xs)) (map (entry_at i) (filter (λ x. meets_optional by x.element) (s ∷ [])))
+    ∙ sum_by-append entry_size (entries_of by i (take k xs)) (map (stored_entry i) (filter (λ x. meets_optional by x.element) (s ∷ [])))
     ∙ ap (λ n. entries_size (entries_of by i (take k xs)) + n) (at (meets_optional by s.element))
   where
-    at : (b : Bool) → entries_size (map (entry_at i) (cond b (s ∷ []) [])) ≡ cond b (own + length (canonical_bytes s.element)) 0
+    at : (b : Bool) → entries_size (map (stored_entry i) (cond b (s ∷ []) [])) ≡ cond b (own + length (canonical_bytes s.element)) 0
     at true = one_size i own s o
     at false = refl
 

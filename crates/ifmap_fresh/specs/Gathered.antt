@@ -27,12 +27,12 @@ row_at item stored = record { item = item; stored = stored }
 abbrev pub gathered_rows : List Attachment → List Item → List Attachment
 gathered_rows rows items = flat_map (λ i. map (row_at i) (stored_on i rows)) items
 
-abbrev pub entry_at : Item → Stored → Entry
-entry_at item stored = record { item = item; element = stored.element }
+abbrev pub stored_entry : Item → Stored → Entry
+stored_entry item stored = record { item = item; element = stored.element }
 
 -- the entries of an item: what is stored on it and meets the filter
 abbrev pub entries_of : Option Filter → Item → List Stored → List Entry
-entries_of filter_by item stored = map (entry_at item) (filter (λ s. meets_optional filter_by s.element) stored)
+entries_of filter_by item stored = map (stored_entry item) (filter (λ s. meets_optional filter_by s.element) stored)
 
 -- the entries of some items, one item after the other
 abbrev pub entries_on : Option Filter → List Attachment → List Item → List Entry
