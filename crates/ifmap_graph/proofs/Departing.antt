@@ -7,8 +7,8 @@ use Rattle.ifmap_ident.specs.declared.items.Item.{Item}
 use Rattle.ifmap_ident.specs.declared.items.Item.TheVariants.{One, Pair}
 use Rattle.ifmap_ident.specs.Identifiers.{identifier_order}
 use Rattle.ifmap_pool.specs.Holdings.{Holdings, IsHeld, IsPool, Names}
-use Rattle.ifmap_graph.specs.declared.ends.Ends as the_ends
-use Rattle.ifmap_graph.specs.declared.ends.Ends.TheVariants as ends
+use Rattle.ifmap_graph.specs.declared.ends.ItemEnds as the_ends
+use Rattle.ifmap_graph.specs.declared.ends.ItemEnds.TheVariants as ends
 use Rattle.ifmap_graph.specs.declared.shelves.Shelf.{Shelf}
 use Rattle.ifmap_graph.specs.Named.{AreEnds, AreNumbered, HasEnds, uses_of, uses_in}
 use Rattle.ifmap_graph.proofs.Shelving.{Entries}
@@ -29,10 +29,10 @@ module _ (old new : Holdings Identifier) (pool : IsPool identifier_order old)
       by own (inl h) = subst (λ k. Names identifier_order new k a) (pool.one_to_one h.0 v a (before h.0 a h.1) n) h.1
       by own (inr h) = absurd (omega (arith, least, h.1))
 
-  ends_stay : (e : Item × ℕ) → Has all e → (x : the_ends.Ends) → AreEnds old e.0 x → AreEnds new e.0 x
+  ends_stay : (e : Item × ℕ) → Has all e → (x : the_ends.ItemEnds) → AreEnds old e.0 x → AreEnds new e.0 x
   ends_stay e h x n = by e.0 x n (λ a. named_has all e a h)
     where
-      by : (item : Item) (x : the_ends.Ends) → AreEnds old item x → ((a : Identifier) → uses_of item a ≤ uses_in all a)
+      by : (item : Item) (x : the_ends.ItemEnds) → AreEnds old item x → ((a : Identifier) → uses_of item a ≤ uses_in all a)
           → AreEnds new item x
       by (One a) (ends.One v) n m = stays_named v a (omega (arith, m a, once_itself a)) n
       by (Pair a b) (ends.Pair v w) n m =

@@ -27,8 +27,8 @@ use Rattle.ifmap_plans.specs.Lists.{IsList}
 use Rattle.ifmap_view.specs.declared.attachments.Attachment.{Attachment}
 use Rattle.ifmap_view.specs.declared.views.LinkSeen.{LinkSeen}
 use Rattle.ifmap_view.specs.Rows.{stored_on}
-use Rattle.ifmap_graph.specs.declared.ends.Ends as the_ends
-use Rattle.ifmap_graph.specs.declared.ends.Ends.TheVariants as ends
+use Rattle.ifmap_graph.specs.declared.ends.ItemEnds as the_ends
+use Rattle.ifmap_graph.specs.declared.ends.ItemEnds.TheVariants as ends
 use Rattle.ifmap_graph.specs.declared.shelves.Shelf.{Shelf}
 use Rattle.ifmap_graph.specs.declared.shelves.Shelves.{Shelves}
 use Rattle.ifmap_graph.specs.Drafted.{AreOut, DraftsWithin, ends_at}
@@ -159,7 +159,7 @@ flips_mapped s (c ∷ cs) = ap (λ l. cons_option (flip_of s c.item) l) (flips_m
 
 -- the numbers that a slot joins are two live ones
 module _ (names : Holdings Identifier) (v w : ℕ) where
-  two_by : (item : Item) (e : the_ends.Ends) → two_of e ≡ Some (v, w) → IsItem item → AreEnds names item e
+  two_by : (item : Item) (e : the_ends.ItemEnds) → two_of e ≡ Some (v, w) → IsItem item → AreEnds names item e
       → IsSome (entry_at names v) × IsSome (entry_at names w) × (v ≢ w)
   two_by (One a) (ends.One u) j i n = absurd (none-some _ j)
   two_by (Pair a b) (ends.One u) j i n = absurd n

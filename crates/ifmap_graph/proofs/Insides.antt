@@ -13,8 +13,8 @@ use Rattle.ifmap_pool.specs.Holdings.{Holdings, IsPool, Names, entry_at, key_at}
 use Rattle.ifmap_view.specs.declared.views.LinkSeen.{LinkSeen}
 use Rattle.ifmap_view.specs.Rows.{stored_linked}
 use Rattle.ifmap_view.specs.Views.{IsView}
-use Rattle.ifmap_graph.specs.declared.ends.Ends as the_ends
-use Rattle.ifmap_graph.specs.declared.ends.Ends.TheVariants as ends
+use Rattle.ifmap_graph.specs.declared.ends.ItemEnds as the_ends
+use Rattle.ifmap_graph.specs.declared.ends.ItemEnds.TheVariants as ends
 use Rattle.ifmap_graph.specs.declared.shelves.Shelf.{Shelf}
 use Rattle.ifmap_graph.specs.Inside.{IsSide, shown_shelves}
 use Rattle.ifmap_graph.specs.Joined.{AreJoined, AreSingle, IsNumber, joined_pair, two_of}
@@ -96,7 +96,7 @@ module _ (names : Holdings Identifier) where
   single p v w a b e f q = p.one_to_one v w b (names_by v a b e q) (names_by w b b f refl)
 
   module _ (a b : Identifier) where
-    ones_by : (e : the_ends.Ends) → AreEnds names (One a) e → (v : ℕ) × IsNumber (key_at names) v a
+    ones_by : (e : the_ends.ItemEnds) → AreEnds names (One a) e → (v : ℕ) × IsNumber (key_at names) v a
     ones_by (ends.One v) n = (v, is_number v a n)
     ones_by (ends.Pair v w) n = absurd n
 
@@ -104,7 +104,7 @@ module _ (names : Holdings Identifier) where
     ones_of None n = absurd n
     ones_of (Some shelf) n = ones_by shelf.ends n
 
-    pairs_by : (e : the_ends.Ends) → AreEnds names (Pair a b) e
+    pairs_by : (e : the_ends.ItemEnds) → AreEnds names (Pair a b) e
         → (v : ℕ) × (w : ℕ) × (two_of e ≡ Some (v, w)) × IsNumber (key_at names) v a × IsNumber (key_at names) w b
     pairs_by (ends.One v) n = absurd n
     pairs_by (ends.Pair v w) n = (v, w, refl, is_number v a n.0, is_number w b n.1)
@@ -115,7 +115,7 @@ module _ (names : Holdings Identifier) where
     pairs_of (Some shelf) n = pairs_by shelf.ends n
 
   module _ (v w : ℕ) where
-    only_by : (item : Item) (e : the_ends.Ends) → two_of e ≡ Some (v, w) → AreEnds names item e
+    only_by : (item : Item) (e : the_ends.ItemEnds) → two_of e ≡ Some (v, w) → AreEnds names item e
         → (a : Identifier) × (b : Identifier) × (item ≡ Pair a b) × IsNumber (key_at names) v a × IsNumber (key_at names) w b
     only_by (One a) (ends.One u) j n = absurd (none-some _ j)
     only_by (Pair a b) (ends.One u) j n = absurd n

@@ -19,8 +19,8 @@ use Rattle.ifmap_ident.specs.Canon.{IsIdentifier}
 use Rattle.ifmap_ident.specs.Identifiers.{identifier_bytes, identifier_order}
 use Rattle.ifmap_ident.specs.Items.{IsItem}
 use Rattle.ifmap_pool.specs.Holdings.{Frees, Holdings, HoldsAgain, IsAbsent, IsHeld, LetsGo, Names, TakesNumber, entry_at, holds_at, key_at, once}
-use Rattle.ifmap_graph.specs.declared.ends.Ends as the_ends
-use Rattle.ifmap_graph.specs.declared.ends.Ends.TheVariants as ends
+use Rattle.ifmap_graph.specs.declared.ends.ItemEnds as the_ends
+use Rattle.ifmap_graph.specs.declared.ends.ItemEnds.TheVariants as ends
 use Rattle.ifmap_graph.specs.declared.shelves.Shelf.{Shelf}
 use Rattle.ifmap_graph.specs.Named.{AreEnds, AreIdentifiers, AreNumbered, HasEnds, uses_of}
 use Rattle.ifmap_graph.proofs.Alike.{alike_equal, equal_alike}
@@ -48,7 +48,7 @@ names_stay old new r v a others n m = (m.0, others v n ∙ m.1, m.2)
 
 module _ (old new : Holdings Identifier) (kept : (v : ℕ) (a : Identifier) → Names identifier_order old v a → Names identifier_order new v
     a) where
-  ends_kept : (item : Item) (e : the_ends.Ends) → AreEnds old item e → AreEnds new item e
+  ends_kept : (item : Item) (e : the_ends.ItemEnds) → AreEnds old item e → AreEnds new item e
   ends_kept (One a) (ends.One v) n = kept v a n
   ends_kept (Pair a b) (ends.Pair v w) n = (kept v a n.0, kept w b n.1)
   ends_kept (One a) (ends.Pair v w) n = n

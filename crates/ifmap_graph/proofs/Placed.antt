@@ -8,7 +8,7 @@ use Rattle.ifmap_ident.specs.Identifiers.{identifier_order}
 use Rattle.ifmap_ident.specs.Items.{IsCanonItem, item_order}
 use Rattle.ifmap_pool.specs.Holdings.{Holdings, IsHeld, IsPool, Names}
 use Rattle.ifmap_view.specs.declared.views.LinkSeen.{LinkSeen}
-use Rattle.ifmap_graph.specs.declared.ends.Ends.{Ends}
+use Rattle.ifmap_graph.specs.declared.ends.ItemEnds.{ItemEnds}
 use Rattle.ifmap_graph.specs.declared.shelves.Shelf.{Shelf}
 use Rattle.ifmap_graph.specs.declared.shelves.Shelves.{Shelves}
 use Rattle.ifmap_graph.specs.Bringing.{BringsShelves}
@@ -37,7 +37,7 @@ pub record Places (s t : Shelves) (item : Item) (at : ℕ) (shelf : Shelf) : Typ
   pub updates : (x : Item) → slot_of_item t x ≡ cond (is_at (item_order item) x) (Some at) (slot_of_item s x)
 
 -- the identifiers of an item are held once more, and these are their numbers
-pub record HoldsEnds (old new : Holdings Identifier) (item : Item) (ends : Ends) : Type 0 where
+pub record HoldsEnds (old new : Holdings Identifier) (item : Item) (ends : ItemEnds) : Type 0 where
   pub kept : (v : ℕ) (a : Identifier) → Names identifier_order old v a → Names identifier_order new v a
   pub whole : IsPool identifier_order new
   pub keys : AreIdentifiers old → AreIdentifiers new

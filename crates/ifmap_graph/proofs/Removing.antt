@@ -10,7 +10,7 @@ use Rattle.ifmap_ident.specs.Identifiers.{identifier_order}
 use Rattle.ifmap_ident.specs.Items.{IsItem, item_order}
 use Rattle.ifmap_pool.specs.Holdings.{Holdings, IsHeld, IsPool, Names}
 use Rattle.ifmap_view.specs.declared.views.LinkSeen.{LinkSeen}
-use Rattle.ifmap_graph.specs.declared.ends.Ends.{Ends}
+use Rattle.ifmap_graph.specs.declared.ends.ItemEnds.{ItemEnds}
 use Rattle.ifmap_graph.specs.declared.shelves.Shelf.{Shelf}
 use Rattle.ifmap_graph.specs.declared.shelves.Shelves.{Shelves}
 use Rattle.ifmap_graph.specs.Bringing.{BringsShelves}
@@ -47,7 +47,7 @@ pub record Removes (s t : Shelves) (item : Item) (at : ℕ) (shelf : Shelf) : Ty
   pub updates : (x : Item) → slot_of_item t x ≡ cond (is_at (item_order item) x) None (slot_of_item s x)
 
 -- the identifiers of these ends are let go
-pub record LetsEndsGo (old new : Holdings Identifier) (ends : Ends) : Type 0 where
+pub record LetsEndsGo (old new : Holdings Identifier) (ends : ItemEnds) : Type 0 where
   pub whole : IsPool identifier_order new
   pub keys : AreIdentifiers old → AreIdentifiers new
   pub before : (v : ℕ) (a : Identifier) → Names identifier_order new v a → Names identifier_order old v a

@@ -10,7 +10,7 @@ use Rattle.ifmap_meta.specs.declared.stored.Stored.{Stored}
 use Rattle.ifmap_pool.specs.Holdings.{Holdings, IsHeld}
 use Rattle.ifmap_view.specs.declared.views.LinkSeen.{LinkSeen}
 use Rattle.ifmap_view.specs.Rows.{stored_on}
-use Rattle.ifmap_graph.specs.declared.ends.Ends.{Ends}
+use Rattle.ifmap_graph.specs.declared.ends.ItemEnds.{ItemEnds}
 use Rattle.ifmap_graph.specs.declared.shelves.Shelves.{Shelves}
 use Rattle.ifmap_graph.specs.Bringing.{HaveFewOwn, graph_fields}
 use Rattle.ifmap_graph.specs.Drafted.{AreBare, NoDraft, ends_at}
@@ -41,7 +41,7 @@ inside_of names s links = record {
 }
 
 -- the numbers of a slot, where there is one
-abbrev pub ends_there : Shelves → Option ℕ → Option Ends
+abbrev pub ends_there : Shelves → Option ℕ → Option ItemEnds
 ends_there s None = None
 ends_there s (Some at) = ends_at s at
 

@@ -6,7 +6,7 @@ use Rattle.std.specs.List.{AllByRecursion}
 use Rattle.slab.specs.Slab.{get}
 use Rattle.ifmap_ident.specs.declared.items.Item.{Item}
 use Rattle.ifmap_ident.specs.Items.{item_order}
-use Rattle.ifmap_graph.specs.declared.ends.Ends.{Ends}
+use Rattle.ifmap_graph.specs.declared.ends.ItemEnds.{ItemEnds}
 use Rattle.ifmap_graph.specs.declared.shelves.Shelf.{Shelf}
 use Rattle.ifmap_graph.specs.Drafted.{NoDraft}
 use Rattle.ifmap_graph.specs.Waits.{waits_at}
@@ -14,7 +14,7 @@ use Rattle.ifmap_graph.proofs.Shelving.{Entries}
 use Rattle.ifmap_graph.proofs.Writes.{waits_had, waits_has, waits_others, Write, elsewhere, has}
 
 -- the numbers that a shelf has
-abbrev pub ends_of : Option Shelf → Option Ends
+abbrev pub ends_of : Option Shelf → Option ItemEnds
 ends_of o = option_map (λ (s : Shelf). s.ends) o
 
 module _ (w : Write) where

@@ -16,8 +16,8 @@ use Rattle.ifmap_meta.specs.declared.stored.Stored.{Stored}
 use Rattle.ifmap_pool.specs.Holdings.{Holdings, IsHeld, IsPool, Names, holds_at, key_at, once}
 use Rattle.ifmap_view.specs.declared.attachments.Attachment.{Attachment}
 use Rattle.ifmap_view.specs.declared.views.LinkSeen.{LinkSeen}
-use Rattle.ifmap_graph.specs.declared.ends.Ends.{Ends}
-use Rattle.ifmap_graph.specs.declared.ends.Ends.TheVariants as ends
+use Rattle.ifmap_graph.specs.declared.ends.ItemEnds.{ItemEnds}
+use Rattle.ifmap_graph.specs.declared.ends.ItemEnds.TheVariants as ends
 use Rattle.ifmap_graph.specs.declared.shelves.Shelf.{Shelf}
 use Rattle.ifmap_graph.specs.declared.shelves.Shelves.{Shelves}
 use Rattle.ifmap_graph.specs.Inside.{IsInside, IsOwn}
@@ -72,7 +72,7 @@ held_some names v a n pool e (inl h) =
     in omega (arith, same, some)
 held_some names v a n pool e (inr h) = absurd (h.0 v (names_by names v a a e refl))
 
-ends_named : (names : Holdings Identifier) (i : Item) (e : Ends) (a : Identifier) → AreEnds names i e → Has (identifiers_of i) a
+ends_named : (names : Holdings Identifier) (i : Item) (e : ItemEnds) (a : Identifier) → AreEnds names i e → Has (identifiers_of i) a
     → (v : ℕ) × Names identifier_order names v a
 ends_named names (One b) (ends.One v) a n (inl q) = (v, subst (Names identifier_order names v) q n)
 ends_named names (One b) (ends.One v) a n (inr q) = absurd q

@@ -10,7 +10,7 @@ use Rattle.ifmap_view.specs.declared.views.LinkSeen.{LinkSeen}
 use Rattle.ifmap_view.specs.Attachments.{IsGraph}
 use Rattle.ifmap_view.specs.Rows.{stored_on}
 use Rattle.ifmap_graph.specs.declared.changes.Undo.{Undo}
-use Rattle.ifmap_graph.specs.declared.ends.Ends.{Ends}
+use Rattle.ifmap_graph.specs.declared.ends.ItemEnds.{ItemEnds}
 use Rattle.ifmap_graph.specs.Inside.{GraphInside, links_at}
 use Rattle.ifmap_graph.specs.Joined.{two_of}
 use Rattle.ifmap_graph.specs.Linked.{link_places}
@@ -27,7 +27,7 @@ stand_each (i ∷ is) [] x before = before
 stand_each (i ∷ is) (list ∷ lists) x before = stand_each is lists x (if is_at (item_order i) x then list else before)
 
 -- these are the two numbers of a link, whichever comes first
-abbrev pub AreBothEnds : Option Ends → ℕ → ℕ → Type 0
+abbrev pub AreBothEnds : Option ItemEnds → ℕ → ℕ → Type 0
 AreBothEnds None v w = ⊥
 AreBothEnds (Some ends) v w = (two_of ends ≡ Some (v, w)) ⊎ (two_of ends ≡ Some (w, v))
 

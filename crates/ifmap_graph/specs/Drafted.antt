@@ -6,14 +6,14 @@ use Rattle.slab.specs.Slab.{get}
 use Rattle.ifmap_lemmas.specs.Having.{Has}
 use Rattle.ifmap_ident.specs.declared.items.Item.{Item}
 use Rattle.ifmap_ident.specs.Items.{item_order, same_item}
-use Rattle.ifmap_graph.specs.declared.ends.Ends.{Ends}
+use Rattle.ifmap_graph.specs.declared.ends.ItemEnds.{ItemEnds}
 use Rattle.ifmap_graph.specs.declared.shelves.Shelf.{Shelf}
 use Rattle.ifmap_graph.specs.declared.shelves.Shelves.{Shelves}
 use Rattle.ifmap_graph.specs.Shelved.{HasDraft}
 use Rattle.ifmap_graph.specs.Waits.{waits_on}
 
 -- the numbers that the shelf of a slot has
-abbrev pub ends_at : Shelves → ℕ → Option Ends
+abbrev pub ends_at : Shelves → ℕ → Option ItemEnds
 ends_at s at = option_map (λ shelf. shelf.ends) (get s.slots at)
 
 -- a shelf, where there is one, has no draft

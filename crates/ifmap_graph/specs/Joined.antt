@@ -6,12 +6,12 @@ use Rattle.ifmap_ident.specs.declared.identifiers.Identifier.{Identifier}
 use Rattle.ifmap_ident.specs.declared.items.Item.{Item}
 use Rattle.ifmap_ident.specs.declared.items.Item.TheVariants.{One, Pair}
 use Rattle.ifmap_ident.specs.Identifiers.{identifier_bytes}
-use Rattle.ifmap_graph.specs.declared.ends.Ends.{Ends}
-use Rattle.ifmap_graph.specs.declared.ends.Ends.TheVariants as ends
+use Rattle.ifmap_graph.specs.declared.ends.ItemEnds.{ItemEnds}
+use Rattle.ifmap_graph.specs.declared.ends.ItemEnds.TheVariants as ends
 use Rattle.ifmap_graph.specs.declared.shelves.Shelf.{Shelf}
 
 -- the two numbers of a link
-abbrev pub two_of : Ends → Option (ℕ × ℕ)
+abbrev pub two_of : ItemEnds → Option (ℕ × ℕ)
 two_of (ends.One v) = None
 two_of (ends.Pair v w) = Some (v, w)
 

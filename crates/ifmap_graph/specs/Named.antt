@@ -7,12 +7,12 @@ use Rattle.ifmap_ident.specs.declared.items.Item.TheVariants.{One, Pair}
 use Rattle.ifmap_ident.specs.Canon.{IsIdentifier}
 use Rattle.ifmap_ident.specs.Identifiers.{identifier_order}
 use Rattle.ifmap_pool.specs.Holdings.{Holdings, IsHeld, Names, key_at, once}
-use Rattle.ifmap_graph.specs.declared.ends.Ends.{Ends}
-use Rattle.ifmap_graph.specs.declared.ends.Ends.TheVariants as ends
+use Rattle.ifmap_graph.specs.declared.ends.ItemEnds.{ItemEnds}
+use Rattle.ifmap_graph.specs.declared.ends.ItemEnds.TheVariants as ends
 use Rattle.ifmap_graph.specs.declared.shelves.Shelf.{Shelf}
 
 -- the numbers of an item's identifiers, as a pool has them
-abbrev pub AreEnds : Holdings Identifier → Item → Ends → Type 0
+abbrev pub AreEnds : Holdings Identifier → Item → ItemEnds → Type 0
 AreEnds names (One a) (ends.One v) = Names identifier_order names v a
 AreEnds names (Pair a b) (ends.Pair v w) = Names identifier_order names v a × Names identifier_order names w b
 AreEnds names (One a) (ends.Pair v w) = ⊥

@@ -5,7 +5,7 @@ use Rattle.std.specs.Map.{lookup}
 use Rattle.ifmap_ident.specs.declared.items.Item.{Item}
 use Rattle.ifmap_ident.specs.Items.{item_order}
 use Rattle.ifmap_view.specs.Rows.{stored_on}
-use Rattle.ifmap_graph.specs.declared.ends.Ends.{Ends}
+use Rattle.ifmap_graph.specs.declared.ends.ItemEnds.{ItemEnds}
 use Rattle.ifmap_graph.specs.declared.shelves.Shelf.{Shelf}
 use Rattle.ifmap_graph.specs.Inside.{GraphInside}
 use Rattle.ifmap_graph.specs.Seen.{rows_now, waits_in}
@@ -15,11 +15,11 @@ abbrev pub place_in : GraphInside → Item → Option ℕ
 place_in h x = lookup (is_at (item_order x)) h.places
 
 -- the numbers that the shelf of an item has
-abbrev pub ends_there_in : Option (Option Shelf) → Option Ends
+abbrev pub ends_there_in : Option (Option Shelf) → Option ItemEnds
 ends_there_in None = None
 ends_there_in (Some shelf) = option_map (λ s. s.ends) shelf
 
-abbrev pub ends_in : GraphInside → Item → Option Ends
+abbrev pub ends_in : GraphInside → Item → Option ItemEnds
 ends_in h x = ends_there_in (lookup (is_at (item_order x)) h.shelves)
 
 -- the shelf of an item is in the same slot, and has the same numbers

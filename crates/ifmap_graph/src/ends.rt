@@ -16,13 +16,13 @@ use ifmap_pool::Pool;
 
 /// The numbers of an item's identifiers.
 #[derive(Clone, Copy, Debug, PartialEq, Eq)]
-pub enum Ends {
+pub enum ItemEnds {
     One(u64),
     Pair(u64, u64),
 }
 
 // Holds both identifiers of a link, and gives their numbers.
-fn hold_pair(names: &mut Pool<Identifier>, a: Identifier, b: Identifier) -> Ends
+fn hold_pair(names: &mut Pool<Identifier>, a: Identifier, b: Identifier) -> ItemEnds
     requires room { 2 ≤ names.old.spare }
     requires few { (v : ℕ) → holds_at names.old v < 2 ^ 64 - 2 }
     ensures ends { AreEnds names.new (Pair a b) result }
@@ -37,11 +37,11 @@ fn hold_pair(names: &mut Pool<Identifier>, a: Identifier, b: Identifier) -> Ends
 {
     let one = names.hold(a);
     let two = names.hold(b);
-    Ends::Pair(one, two)
+    ItemEnds::Pair(one, two)
 }
 
 /// Holds the identifiers of an item, and gives their numbers. It takes no memory.
-pub fn hold_ends(names: &mut Pool<Identifier>, item: Item) -> Ends
+pub fn hold_ends(names: &mut Pool<Identifier>, item: Item) -> ItemEnds
     requires room { 2 ≤ names.old.spare }
     requires few { (v : ℕ) → holds_at names.old v < 2 ^ 64 - 2 }
     ensures ends { AreEnds names.new item result }
@@ -55,7 +55,7 @@ pub fn hold_ends(names: &mut Pool<Identifier>, item: Item) -> Ends
     ensures whole { IsPool identifier_order names.new }
 {
     match item {
-        Item::One(a) => Ends::One(names.hold(a)),
+        Item::One(a) => ItemEnds::One(names.hold(a)),
         Item::Pair(a, b) => hold_pair(names, a, b),
     }
 }
@@ -80,7 +80,7 @@ fn release_pair(names: &mut Pool<Identifier>, one: u64, two: u64)
 }
 
 /// Lets go of the identifiers of an item, by their numbers. It takes no memory.
-pub fn release_ends(names: &mut Pool<Identifier>, ends: Ends)
+pub fn release_ends(names: &mut Pool<Identifier>, ends: ItemEnds)
     requires { (item : Item) × IsItem item × AreEnds names.old item ends }
     ensures held { (item : Item) (other : Identifier) (count : ℕ) → AreEnds names.old item ends
         → IsHeld identifier_order names.old other count
@@ -94,7 +94,7 @@ pub fn release_ends(names: &mut Pool<Identifier>, ends: Ends)
     ensures whole { IsPool identifier_order names.new }
 {
     match ends {
-        Ends::One(number) => names.release(number),
-        Ends::Pair(one, two) => release_pair(names, one, two),
+        ItemEnds::One(number) => names.release(number),
+        ItemEnds::Pair(one, two) => release_pair(names, one, two),
     }
 }

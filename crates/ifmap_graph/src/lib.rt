@@ -32,7 +32,7 @@ pub mod ways;
 
 pub use changes::{Ready, Undo};
 pub use drafts::Draft;
-pub use ends::Ends;
+pub use ends::ItemEnds;
 pub use graph::Graph;
 pub use ifmap_plans::Plan;
 pub use ifmap_view::View;

@@ -9,7 +9,7 @@ ghost use Rattle.ifmap_graph.specs.Linked.{far_of, seen_at};
 ghost use Rattle.ifmap_graph.specs.Touched.{AreExactlyDrafted, ArePairs, KeepsLinks, TouchesOne, begun_draft, brought_link, exactly_one, draft_of, flip_in, flip_of, full_next, full_now, links_kept, touched_draft};
 ghost use Rattle.ifmap_graph.specs.Turning.{sides_at};
 
-use crate::ends::Ends;
+use crate::ends::ItemEnds;
 use crate::shelves::{Shelf, Shelves};
 use crate::sided::Sided;
 use crate::ways::Way;
@@ -20,12 +20,12 @@ use slab::Slab;
 use std::alloc::{AllocError as NoMemory, Global};
 
 // The link to the other number of a slot that joins two, of which one is this.
-fn far_end(ends: Ends, at: u64, number: u64) -> Option<LinkSeen>
+fn far_end(ends: ItemEnds, at: u64, number: u64) -> Option<LinkSeen>
     ensures { result ≡ seen_at at (far_of (two_of ends) number) }
 {
     match ends {
-        Ends::One(_) => None,
-        Ends::Pair(one, two) => other_end(one, two, at, number),
+        ItemEnds::One(_) => None,
+        ItemEnds::Pair(one, two) => other_end(one, two, at, number),
     }
 }
 
@@ -166,12 +166,12 @@ fn numbers_of(slots: &Slab<Shelf>, at: usize) -> Option<(u64, u64)>
     }
 }
 
-fn pair_of(ends: Ends) -> Option<(u64, u64)>
+fn pair_of(ends: ItemEnds) -> Option<(u64, u64)>
     ensures { result ≡ two_of ends }
 {
     match ends {
-        Ends::One(_) => None,
-        Ends::Pair(one, two) => Some((one, two)),
+        ItemEnds::One(_) => None,
+        ItemEnds::Pair(one, two) => Some((one, two)),
     }
 }
 

@@ -7,7 +7,7 @@ ghost use Rattle.ifmap_graph.specs.Shelved.{AreShelved, rows_on_side};
 ghost use Rattle.ifmap_graph.specs.Sides.{list_next, list_now};
 ghost use Rattle.ifmap_view.specs.Rows.{stored_on};
 
-use crate::ends::Ends;
+use crate::ends::ItemEnds;
 use crate::stocks::Stock;
 use ifmap_ident::Item;
 use ifmap_view::Row;
@@ -19,7 +19,7 @@ use std::collections::BTreeMap;
 /// name the item. A shelf that is empty is there only while one does.
 #[derive(Drop)]
 pub struct Shelf {
-    pub ends: Ends,
+    pub ends: ItemEnds,
     pub stored: Stock,
     pub waits: u64,
 }

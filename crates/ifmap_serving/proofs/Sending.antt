@@ -23,7 +23,7 @@ use Rattle.ifmap_desks.specs.ifmap_session.contracts.sessions.Sessions as the_se
 use Rattle.ifmap_desks.specs.ifmap_region.contracts.region.Region as the_region
 use Rattle.ifmap_desks.specs.ifmap_delta.contracts.subscriptions.Subscription as the_subscription
 use Rattle.ifmap_desks.specs.ifmap_standing.contracts.standing.Standing as the_standing
-use Rattle.ifmap_graph.specs.contracts.ends.Ends as the_ends
+use Rattle.ifmap_graph.specs.contracts.ends.ItemEnds as the_ends
 use Rattle.ifmap_graph.specs.ifmap_view.contracts.rows.Row as the_row
 use Rattle.ifmap_graph.specs.ifmap_view.contracts.views.LinkSeen as the_link
 use Rattle.ifmap_graph.specs.ifmap_rows.contracts.index.WordRow as the_word_row
