@@ -1,6 +1,6 @@
 //! Changes that are out, and changes that can be taken back.
 use crate::row_lists::RowList;
-use crate::ways::Way;
+use crate::ways::ReplacedList;
 use ifmap_elem::Many;
 use ifmap_plans::Plan;
 use ifmap_view::LinkSeen;
@@ -13,7 +13,7 @@ pub struct Ready {
     /// Room for the list that gives way, for each item of the plan.
     pub lists: Many<RowList>,
     /// The numbers whose links come or go.
-    pub ways: Many<Way<LinkSeen>>,
+    pub ways: Many<ReplacedList<LinkSeen>>,
 }
 
 /// A change that was made, with what was there before.
@@ -24,5 +24,5 @@ pub struct Undo {
     /// The list that was there, for each item of the plan.
     pub lists: Many<RowList>,
     /// The numbers whose links came or went, with those that were there.
-    pub ways: Many<Way<LinkSeen>>,
+    pub ways: Many<ReplacedList<LinkSeen>>,
 }

@@ -21,7 +21,7 @@ use crate::shelves::Shelves;
 use crate::sided::Sided;
 use crate::turning::discard_changes;
 use crate::waiting::{can_wait, wait_for};
-use crate::ways::Way;
+use crate::ways::ReplacedList;
 use ifmap_plans::ItemChange;
 use ifmap_view::LinkSeen;
 use std::alloc::{AllocError as NoMemory, Global};
@@ -82,7 +82,7 @@ pub(crate) fn draft_plan(
     links: &mut Vec<Sided<LinkSeen>>,
     alloc: Global,
     changes: &[ItemChange],
-    ways: &mut Vec<Way<LinkSeen>>,
+    ways: &mut Vec<ReplacedList<LinkSeen>>,
 ) -> Result<(), NoMemory>
     requires { CanBeDrafted shelves.old links.old.items ways.old.items changes.now }
     ensures drafts { HasDrafts changes.now ways.new.items shelves.old shelves.new links.old.items
@@ -102,7 +102,7 @@ pub(crate) fn draft_and_wait(
     links: &mut Vec<Sided<LinkSeen>>,
     alloc: Global,
     changes: &[ItemChange],
-    ways: &mut Vec<Way<LinkSeen>>,
+    ways: &mut Vec<ReplacedList<LinkSeen>>,
 ) -> Result<(), NoMemory>
     requires { CanBeDrafted shelves.old links.old.items ways.old.items changes.now }
     ensures drafts { HasDrafts changes.now ways.new.items shelves.old shelves.new links.old.items
@@ -127,7 +127,7 @@ pub(crate) fn drop_plan(
     shelves: &mut Shelves,
     links: &mut Vec<Sided<LinkSeen>>,
     changes: &[ItemChange],
-    ways: &[Way<LinkSeen>],
+    ways: &[ReplacedList<LinkSeen>],
 )
     requires shelved { AreShelved shelves.old }
     requires there { AllByRecursion (λ x. IsSome (slot_of_item shelves.old x))

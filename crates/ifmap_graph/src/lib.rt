@@ -42,4 +42,4 @@ pub use shelves::{Shelf, Shelves};
 pub use sided::Sided;
 pub use spares::Spare;
 pub use stocks::Stock;
-pub use ways::Way;
+pub use ways::ReplacedList;

@@ -12,7 +12,7 @@ ghost use Rattle.ifmap_graph.specs.Turning.{sides_at};
 use crate::ends::ItemEnds;
 use crate::shelves::{Shelf, Shelves};
 use crate::sided::Sided;
-use crate::ways::Way;
+use crate::ways::ReplacedList;
 use ifmap_ident::Item;
 use ifmap_plans::ItemChange;
 use ifmap_view::LinkSeen;
@@ -181,7 +181,7 @@ fn begin_draft(
     slots: &Slab<Shelf>,
     alloc: Global,
     place: usize,
-    ways: &mut Vec<Way<LinkSeen>>,
+    ways: &mut Vec<ReplacedList<LinkSeen>>,
 ) -> Result<(), NoMemory>
     requires place { place < length links.old.items }
     requires ready { AreExactlyDrafted ways.old.items links.old.items }
@@ -194,7 +194,7 @@ fn begin_draft(
         return Ok(());
     }
     let draft = staying_links(alloc, slots, links[place].list_now())?;
-    ways.push(Way::new(alloc, place))?;
+    ways.push(ReplacedList::new(alloc, place))?;
     set_draft(links, place, draft);
     Ok(())
 }
@@ -230,7 +230,7 @@ fn touch_number(
     alloc: Global,
     at: usize,
     place: usize,
-    ways: &mut Vec<Way<LinkSeen>>,
+    ways: &mut Vec<ReplacedList<LinkSeen>>,
 ) -> Result<(), NoMemory>
     requires place { place < length links.old.items }
     requires ready { AreExactlyDrafted ways.old.items links.old.items }
@@ -253,7 +253,7 @@ fn touch_slot(
     slots: &Slab<Shelf>,
     alloc: Global,
     at: usize,
-    ways: &mut Vec<Way<LinkSeen>>,
+    ways: &mut Vec<ReplacedList<LinkSeen>>,
 ) -> Result<(), NoMemory>
     requires pairs { ArePairs slots.now (length links.old.items) }
     requires ready { AreExactlyDrafted ways.old.items links.old.items }
@@ -276,7 +276,7 @@ pub(crate) fn touch_slots(
     slots: &Slab<Shelf>,
     alloc: Global,
     touched: &[usize],
-    ways: &mut Vec<Way<LinkSeen>>,
+    ways: &mut Vec<ReplacedList<LinkSeen>>,
 ) -> Result<(), NoMemory>
     requires pairs { ArePairs slots.now (length links.old.items) }
     requires ready { AreExactlyDrafted ways.old.items links.old.items }
@@ -302,7 +302,7 @@ fn drop_draft(links: &mut Vec<Sided<LinkSeen>>, place: usize)
 }
 
 // The drafts of links go.
-pub(crate) fn drop_drafts(links: &mut Vec<Sided<LinkSeen>>, ways: &[Way<LinkSeen>])
+pub(crate) fn drop_drafts(links: &mut Vec<Sided<LinkSeen>>, ways: &[ReplacedList<LinkSeen>])
     requires { AreExactlyDrafted ways.now links.old.items }
     ensures kept { KeepsLinks links.old.items links.new.items }
     ensures bare { (v : ℕ) → (sides_at links.new.items v).draft ≡ None }

@@ -21,7 +21,7 @@ use crate::graph::Graph;
 use crate::row_lists::RowList;
 use crate::shelves::Shelves;
 use crate::sided::Sided;
-use crate::ways::Way;
+use crate::ways::ReplacedList;
 use ifmap_elem::Many;
 use ifmap_ident::Identifier;
 use ifmap_ident::laws::bytes_tell_identifiers_apart;
@@ -56,7 +56,7 @@ fn draft_or_take(
     links: &mut Vec<Sided<LinkSeen>>,
     alloc: Global,
     coming: &Coming<'_>,
-    ways: &mut Vec<Way<LinkSeen>>,
+    ways: &mut Vec<ReplacedList<LinkSeen>>,
 ) -> Result<(), NoMemory>
     requires inside { AreInside (graph_fields names.old shelves.old links.old.items) }
     requires bare { AreBare shelves.old }
@@ -99,7 +99,7 @@ fn make_ready(
     links: &mut Vec<Sided<LinkSeen>>,
     alloc: Global,
     changes: &[ItemChange],
-    ways: &mut Vec<Way<LinkSeen>>,
+    ways: &mut Vec<ReplacedList<LinkSeen>>,
 ) -> Result<(), NoMemory>
     requires inside { AreInside (graph_fields names.old shelves.old links.old.items) }
     requires bare { AreBare shelves.old }

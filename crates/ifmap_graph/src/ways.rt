@@ -9,12 +9,12 @@ use std::marker::Model;
 
 /// A place, with room for the list that was there.
 #[derive(Drop)]
-pub struct Way<T> {
+pub struct ReplacedList<T> {
     at: usize,
     list: Vec<T>,
 }
 
-impl<T> Model for Way<T> {
+impl<T> Model for ReplacedList<T> {
     ghost use Rattle.std.specs.Prelude.{ℕ, List};
     ghost use Rattle.std.specs.Coded.{coded×, coded_ℕ, coded_list};
 
@@ -25,12 +25,12 @@ impl<T> Model for Way<T> {
     ghost view = { λ w. (w.at, w.list.items) };
 }
 
-impl<T> Way<T> {
+impl<T> ReplacedList<T> {
     /// It takes no memory.
-    pub fn new(alloc: Global, at: usize) -> Way<T>
+    pub fn new(alloc: Global, at: usize) -> ReplacedList<T>
         ensures { result ≡ (at, []) }
     {
-        Way {
+        ReplacedList {
             at,
             list: Vec::new(alloc),
         }
@@ -60,7 +60,7 @@ impl<T> Way<T> {
     }
 }
 
-fn accept_at<T: Drop>(lists: &mut Vec<Sided<T>>, ways: &mut Vec<Way<T>>, i: usize)
+fn accept_at<T: Drop>(lists: &mut Vec<Sided<T>>, ways: &mut Vec<ReplacedList<T>>, i: usize)
     requires place { i < length ways.old.items }
     requires within { IsWithinAt ways.old.items i lists.old.items }
     requires drafted { IsDraftedAt ways.old.items i lists.old.items }
@@ -72,7 +72,7 @@ fn accept_at<T: Drop>(lists: &mut Vec<Sided<T>>, ways: &mut Vec<Way<T>>, i: usiz
 }
 
 /// The drafts at these places take the places of the lists, which come to stand in the ways.
-pub fn accept_all<T: Drop>(lists: &mut Vec<Sided<T>>, ways: &mut Vec<Way<T>>)
+pub fn accept_all<T: Drop>(lists: &mut Vec<Sided<T>>, ways: &mut Vec<ReplacedList<T>>)
     requires { AreDrafted ways.old.items lists.old.items }
     ensures lists { lists.new.items ≡ accept_each ways.old.items lists.old.items }
     ensures ways { ways.new.items ≡ backs ways.old.items lists.old.items }
@@ -82,7 +82,7 @@ pub fn accept_all<T: Drop>(lists: &mut Vec<Sided<T>>, ways: &mut Vec<Way<T>>)
     }
 }
 
-fn restore_at<T>(lists: &mut Vec<Sided<T>>, ways: &mut Vec<Way<T>>, i: usize)
+fn restore_at<T>(lists: &mut Vec<Sided<T>>, ways: &mut Vec<ReplacedList<T>>, i: usize)
     requires place { i < length ways.old.items }
     requires within { IsWithinAt ways.old.items i lists.old.items }
     ensures lists { RestoresAt ways.old.items i lists.old.items lists.new.items }
@@ -93,7 +93,7 @@ fn restore_at<T>(lists: &mut Vec<Sided<T>>, ways: &mut Vec<Way<T>>, i: usize)
 }
 
 /// The lists that stand in the ways take their places again, one after the other.
-pub fn restore_all<T>(lists: &mut Vec<Sided<T>>, ways: &mut Vec<Way<T>>)
+pub fn restore_all<T>(lists: &mut Vec<Sided<T>>, ways: &mut Vec<ReplacedList<T>>)
     requires { AreWithin ways.old.items (length lists.old.items) }
     ensures { lists.new.items ≡ restore_each ways.old.items lists.old.items }
 {
