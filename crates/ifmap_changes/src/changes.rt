@@ -32,7 +32,7 @@ use ifmap_ident::laws::bytes_tell_identifiers_apart;
 use ifmap_steps::Steps;
 use ifmap_tellings::tellings::{Pending, queue_news};
 use ifmap_tellings::{
-    GraphChange, Standing, Told, Ways, same_links_keep_subscriptions,
+    GraphChange, NewsAndWays, Standing, Ways, same_links_keep_subscriptions,
     same_marks_keep_subscriptions, settle, take_back, tell_change,
 };
 use std::alloc::{AllocError as NoMemory, Global};
@@ -164,7 +164,7 @@ fn tell_parts<L: Ledger>(
         (zip pending.old.gone.items parts.old.standing.items) steps.old steps.new }
 {
     let told = tell_standing(alloc, parts, &pending.gone, plan, steps)?;
-    let Told { news, ways } = told;
+    let NewsAndWays { news, ways } = told;
     match queue_news(alloc, &mut parts.sessions, &parts.standing, news, pending) {
         Ok(()) => Ok(ways),
         Err(no_memory) => {
@@ -181,7 +181,7 @@ fn tell_standing<L: Ledger>(
     gone: &[bool],
     plan: &Plan,
     steps: &mut Steps<L>,
-) -> Result<Told, NoMemory>
+) -> Result<NewsAndWays, NoMemory>
     requires flags { length gone.now ≡ length parts.old.standing.items }
     requires kept { AllKept (λ x. IsUpToDate (sight_now parts.old.graph) x.subscription) gone.now
         parts.old.standing.items }

@@ -14,6 +14,6 @@ pub use ifmap_machine::{
     Who, named_size, plan, publishing_keeps_graphs, retract, retracting_keeps_graphs, write_reply,
 };
 pub use standing::Standing;
-pub use tell_changes::{Told, tell_change};
+pub use tell_changes::{NewsAndWays, tell_change};
 pub use telling::{GraphChange, News};
 pub use ways::{Ways, settle, take_back};

@@ -29,7 +29,7 @@ use std::sync::ledger::Ledger;
 
 /// What subscriptions are told of a change.
 #[derive(Drop)]
-pub struct Told {
+pub struct NewsAndWays {
     /// What each is told, in order; nothing where it was skipped.
     pub news: Many<News>,
     /// The ways back.
@@ -47,7 +47,7 @@ pub fn tell_change<G: View, D: View, L: Ledger>(
     skipped: &[bool],
     change: &GraphChange<'_, G, D>,
     steps: &mut Steps<L>,
-) -> Result<Told, NoMemory>
+) -> Result<NewsAndWays, NoMemory>
     requires flags { length skipped.now ≡ length standing.old }
     requires kept { let graph = change.now.graph.now in (i : ℕ) (x : Standing)
         → slice_get standing.old i ≡ Some x → slice_get skipped.now i ≡ Some false
@@ -91,7 +91,7 @@ pub fn tell_change<G: View, D: View, L: Ledger>(
         &mut records,
         steps,
     ) {
-        Ok(()) => Ok(Told {
+        Ok(()) => Ok(NewsAndWays {
             news: Many(records.news),
             ways: Ways {
                 of_each: records.ways,

@@ -12,10 +12,11 @@ pub use ifmap_standing::laws::{
 };
 pub use ifmap_standing::telling::too_big_item;
 pub use ifmap_standing::{
-    Answer, Ask, Author, Event, GraphChange, PublishOp, Reply, Request, SESSION_SECONDS, Sessions,
-    Standing, SubscribeOp, Subscribed, Subscription, Told, Ways, Who, clients_fold_fresh_results,
-    fresh, named_size, numbers_keep_walks, plan, publishing_keeps_graphs, retract,
-    retracting_keeps_graphs, settle, subscribe, take_back, tell_change, write_reply,
+    Answer, Ask, Author, Event, GraphChange, NewsAndWays, PublishOp, Reply, Request,
+    SESSION_SECONDS, Sessions, Standing, SubscribeOp, Subscribed, Subscription, Ways, Who,
+    clients_fold_fresh_results, fresh, named_size, numbers_keep_walks, plan,
+    publishing_keeps_graphs, retract, retracting_keeps_graphs, settle, subscribe, take_back,
+    tell_change, write_reply,
 };
 pub use tellings::{
     Pending, Telling, count_told, nothing_pending, queue_news, tell_alone, tell_sessions,
