@@ -13,7 +13,7 @@ use Rattle.ifmap_input.specs.Inputs.{TakesFromSource}
 use Rattle.ifmap_client.specs.Lines.{line_limit}
 use Rattle.ifmap_client_script.specs.declared.outcomes.ScriptFailure.{ScriptFailure}
 use Rattle.ifmap_client_script.specs.declared.outcomes.ScriptFailure.TheVariants as failure
-use Rattle.ifmap_client_script.specs.TakenBytes.{WaitsForLine, Fetches, Fills, Gathers, IsClosed, IsGathered, IsLineTooLong, IsWaiting, LooksForLine, TakenBytes, with_bytes, with_last_newline}
+use Rattle.ifmap_client_script.specs.TakenBytes.{WaitsForLine, Fetches, Fills, Gathers, IsClosed, IsGathered, IsLineTooLong, NeedsMore, LooksForLine, TakenBytes, with_bytes, with_last_newline}
 use Rattle.ifmap_client_script.specs.Scripts.{AwaitsLine, HasNoNewline}
 
 -- ---- looking
@@ -147,7 +147,7 @@ due_short : (offset : ℕ) (bytes : List ℕ) → AwaitsLine offset bytes → le
 due_short offset [] due = omega arith
 due_short offset (b ∷ bytes) due = (due.within (λ e. cc)).short
 
-pub room_shrinks : (left_old left_new : Option (List ℕ)) (offset : ℕ) (old new : TakenBytes) → IsWaiting offset old
+pub room_shrinks : (left_old left_new : Option (List ℕ)) (offset : ℕ) (old new : TakenBytes) → NeedsMore offset old
     → Fills left_old left_new old new (Ok tt) → room_for new < room_for old
 room_shrinks left_old left_new offset old new waiting fills = rw waiting.open_yet (at fills.1)
   where
@@ -164,7 +164,7 @@ room_shrinks left_old left_new offset old new waiting fills = rw waiting.open_ye
         by false longer = let s = short in omega arith
 
 module _ (left_old left_mid left_new : Option (List ℕ)) (offset : ℕ) (old mid new : TakenBytes) (first : Fetches left_old left_mid old mid)
-    (waiting : IsWaiting offset mid) where
+    (waiting : NeedsMore offset mid) where
   pub gathers_more : Fills left_mid left_new mid new (Ok tt) → Fetches left_old left_new old new
   gathers_more fills = fetches_more left_old left_mid left_new old mid new first waiting.open_yet fills.0
 

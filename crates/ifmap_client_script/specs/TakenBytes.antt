@@ -60,7 +60,7 @@ pub record IsLineTooLong (offset : ℕ) (bytes : List ℕ) : Type 0 where
   pub long : IsWithinLineLimits offset size → ⊥
 
 -- more is to be taken for the line that begins here
-pub record IsWaiting (offset : ℕ) (pending : TakenBytes) : Type 0 where
+pub record NeedsMore (offset : ℕ) (pending : TakenBytes) : Type 0 where
   pub open_yet : pending.ended ≡ false
   pub due : AwaitsLine offset pending.bytes
 

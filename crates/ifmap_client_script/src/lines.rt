@@ -3,7 +3,7 @@ ghost use Rattle.std.specs.Prelude.{◌≡◌, ◌≤◌, ◌<◌, ◌+◌, drop
 ghost use Rattle.std.specs.Bool.{OnFalse, OnTrue};
 ghost use Rattle.ifmap_io.specs.Causes.{Rose};
 ghost use Rattle.ifmap_input.specs.Scripts.{longest_script};
-ghost use Rattle.ifmap_client_script.specs.TakenBytes.{WaitsForLine, Fills, Gathers, IsClosed, IsLineEnd, IsGathered, IsWaiting, LooksForLine, nothing_taken, with_last_newline};
+ghost use Rattle.ifmap_client_script.specs.TakenBytes.{WaitsForLine, Fills, Gathers, IsClosed, IsLineEnd, IsGathered, NeedsMore, LooksForLine, nothing_taken, with_last_newline};
 ghost use Rattle.ifmap_client_script.specs.Scripts.{AwaitsLine, HasNoNewline, IsWithinLineLimits};
 
 use crate::outcomes::ScriptFailure;
@@ -103,7 +103,7 @@ impl Lines {
     // end.
     fn is_waiting(&self, offset: u64) -> bool
         requires { offset ≤ longest_script + 1 }
-        ensures yes { OnTrue result (IsWaiting offset self.now) }
+        ensures yes { OnTrue result (NeedsMore offset self.now) }
         ensures no { OnFalse result (IsGathered offset self.now) }
     {
         if self.ended {
