@@ -59,7 +59,7 @@ where
     }
 
     // The base takes in the oldest entry.
-    fn settle_one(&mut self, alloc: Global) -> Result<(), NoMemory>
+    fn settle_oldest(&mut self, alloc: Global) -> Result<(), NoMemory>
         requires book { IsBook M.next M.weight_of self.old }
         requires some { 0 < length self.old.journal.items }
         requires heavy { self.old.limit < self.old.bytes + self.old.heaviest }
@@ -89,7 +89,7 @@ where
         ensures few { HadToGo M.weight_of self.old self.new weight }
     {
         while self.bytes > self.limit - weight {
-            self.settle_one(alloc)?;
+            self.settle_oldest(alloc)?;
         }
         Ok(())
     }

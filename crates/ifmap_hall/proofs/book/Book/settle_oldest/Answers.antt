@@ -1,6 +1,6 @@
 use Rattle.std.proofs.Common.{◌+◌, ◌-◌, refl, arith}
 use Rattle.ifmap_hall.proofs.Settling.{settled, one_carries, one_end, settles_none, one_had_to_go}
-use Rattle.ifmap_hall.proofs.book.Book.settle_one.Goals as goal
+use Rattle.ifmap_hall.proofs.book.Book.settle_oldest.Goals as goal
 
 pub returns-clause-settles : goal.returns-clause-settles
 returns-clause-settles g c =
