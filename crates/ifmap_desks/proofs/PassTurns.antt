@@ -9,7 +9,7 @@ use Rattle.ifmap_desks.specs.Machines.{CoreView, core_holds, core_next, core_rep
 use Rattle.ifmap_desks.specs.declared.events.FitEvent.{FitEvent}
 use Rattle.ifmap_desks.proofs.BookTurns.{held_polls}
 use Rattle.ifmap_dialogue.specs.Desks.{FitsAsked, FitsAnswer, Gains, call_of}
-use Rattle.ifmap_hall.specs.HallAsks.{Answered}
+use Rattle.ifmap_hall.specs.HallAsks.{AnsweredFromHistory}
 use Rattle.ifmap_hall.specs.Sights.{run}
 use Rattle.ifmap_hall.specs.declared.book.Asked.{Asked}
 use Rattle.ifmap_hall.specs.declared.book.Asked.TheVariants.{Done, Held, Spent, NoMemory}
@@ -19,7 +19,7 @@ use Rattle.ifmap_dialogue.specs.ifmap_machine.State.{State}
 use Rattle.ifmap_dialogue.specs.ifmap_machine.Step.{step}
 
 module _ (v w : CoreView) (number : ℕ) (event : FitEvent) where
-  pub gains : (given : Asked FitEvent Answer) → Answered core_next core_holds core_reply v w number event given
+  pub gains : (given : Asked FitEvent Answer) → AnsweredFromHistory core_next core_holds core_reply v w number event given
       → Gains (Some (map plain_call v.said)) (Some (map plain_call w.said)) (call_of event.event (plain_asked given))
   gains (Done place r) a =
       (map plain_call v.said, refl, ap (map plain_call) a.said ∙ map-append plain_call v.said ((event, r) ∷ []))
@@ -29,7 +29,7 @@ module _ (v w : CoreView) (number : ℕ) (event : FitEvent) where
 
   module _ (holding : (state : State) (e : Event) → would_hold state e ≡ true ↔ WouldHold state e)
       (fitting : (state : State) (e : Event) → FitsAnswer e (step state e).1) where
-    pub fits : (given : Asked FitEvent Answer) → Answered core_next core_holds core_reply v w number event given
+    pub fits : (given : Asked FitEvent Answer) → AnsweredFromHistory core_next core_holds core_reply v w number event given
         → FitsAsked event.event (plain_asked given)
     fits (Done place r) a =
         subst (FitsAnswer event.event) (sym a.reply_is) (fitting (run core_next v.terms.opening.value a.before).core event.event)

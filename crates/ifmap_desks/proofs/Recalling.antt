@@ -7,7 +7,7 @@ use Rattle.ifmap_desks.specs.Recalls.{AreCalls, IsCallOfEntry, Recalls}
 use Rattle.ifmap_desks.specs.declared.answers.AnswerCounts.{AnswerCounts}
 use Rattle.ifmap_desks.specs.declared.events.FitEvent.{FitEvent}
 use Rattle.ifmap_desks.specs.declared.machine.CoreMachine.{CoreMachine}
-use Rattle.ifmap_hall.specs.HallAsks.{Answered, Said, SaidNothing, TookATurn}
+use Rattle.ifmap_hall.specs.HallAsks.{AnsweredFromHistory, Said, SaidNothing, TookATurn}
 use Rattle.ifmap_hall.specs.declared.book.Asked.{Asked}
 use Rattle.ifmap_hall.specs.declared.book.Asked.TheVariants.{Done, Held, Spent, NoMemory}
 use Rattle.ifmap_dialogue.specs.ifmap_machine.declared.events.Answer.{Answer}
@@ -78,7 +78,8 @@ module _ (v w : CoreView) (took : TookATurn v w) where
       reply_is = s.reply_is;
     }
 
-    pub recalls : (given : Asked FitEvent Answer) → Answered core_next core_holds core_reply v w number event given → Recalls v → Recalls w
+    pub recalls : (given : Asked FitEvent Answer) → AnsweredFromHistory core_next core_holds core_reply v w number event given
+        → Recalls v → Recalls w
     recalls (Done place reply) a r =
         recalls_by (v.mine ++ place ∷ []) (v.said ++ (event, reply) ∷ []) a.mine a.said
         (one_more_call v.terms.opening.value w.history.log place (event, reply) (call_said place reply a) v.mine v.said (said_before r))
@@ -90,7 +91,8 @@ module _ (v w : CoreView) (took : TookATurn v w) where
     grown = ap length took.history.whole ∙ length-append v.history.log took.history.rest
 
     -- where an answer was `Spent`, the history has 2^64 - 1 entries
-    pub used_up : (given : Asked FitEvent Answer) (old new : AnswerCounts) → Answered core_next core_holds core_reply v w number event given
+    pub used_up : (given : Asked FitEvent Answer) (old new : AnswerCounts)
+        → AnsweredFromHistory core_next core_holds core_reply v w number event given
         → Counted (plain_asked given) old new → (0 < old.spent → length v.history.log ≡ 2 ^ 64 - 1)
         → 0 < new.spent → length w.history.log ≡ 2 ^ 64 - 1
     used_up (Done place reply) old new a counted before some =

@@ -9,7 +9,7 @@ use Rattle.ifmap_desks.specs.declared.machine.CoreMachine.{CoreMachine}
 use Rattle.ifmap_desks.specs.declared.pass_desk.PassDesk.{PassDesk}
 use Rattle.ifmap_dialogue.specs.Desks.{DeskSeen}
 use Rattle.ifmap_hall.specs.Answers.{IfDone, IfHeld, IfSpent, IfNoMemory}
-use Rattle.ifmap_hall.specs.HallAsks.{Answered, AnsweredFromBase}
+use Rattle.ifmap_hall.specs.HallAsks.{AnsweredFromHistory, AnsweredFromBase}
 use Rattle.ifmap_hall.specs.Books.{end_of_book, sight_of}
 use Rattle.ifmap_hall.specs.Passes.{pass_number, pass_parts, view_of}
 use Rattle.ifmap_hall.specs.Sights.{CarriesOn}
@@ -47,7 +47,7 @@ pub record AnsweredByHall (v w : CoreView) (number : ℕ) (event : Event) (answe
   pub is_event : asked.event ≡ event
   pub given : Asked FitEvent Answer
   pub is_plain : answer ≡ plain_asked given
-  pub answered : Answered core_next core_holds core_reply v w number asked given
+  pub answered : AnsweredFromHistory core_next core_holds core_reply v w number asked given
   pub from_base : AnsweredFromBase core_next core_holds core_reply (sight_by core_next w) number asked given
 
 -- the book of a desk over one, and the number of the pass that it asks under

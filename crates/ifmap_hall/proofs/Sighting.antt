@@ -2,7 +2,7 @@
 -- what is seen.
 use Rattle.std.proofs.Common.{◌≡◌, ℕ, ◌+◌, ◌-◌, ◌≤◌, List, [], ◌∷◌, ◌++◌, length, take, drop, Bool, true, false, cond, sym, ap, subst, ◌∙◌, arith, length-append, length-drop, take-add, drop-drop}
 use Rattle.std.proofs.lemmas.List.{take-append-le, drop-append-le, take-append-drop}
-use Rattle.ifmap_hall.specs.HallAsks.{TookATurn, Answered, AnsweredFromBase}
+use Rattle.ifmap_hall.specs.HallAsks.{TookATurn, AnsweredFromHistory, AnsweredFromBase}
 use Rattle.ifmap_hall.specs.Books.{sight_of}
 use Rattle.ifmap_hall.specs.Histories.{Extends, sight_in}
 use Rattle.ifmap_hall.specs.Places.{times, merge}
@@ -91,7 +91,8 @@ module _ {M E R : Type 0} (next : M → E → M) where
   -- what an answer says of what is seen
   pub answers_from_base : (holds_on : M → E → Bool) (reply : M → E → R) (v w : HallView M E R) (number : ℕ) (event : E) (answer : Asked E R)
       → TookATurn v w
-      → Answered next holds_on reply v w number event answer → AnsweredFromBase next holds_on reply (sight_by next w) number event answer
+      → AnsweredFromHistory next holds_on reply v w number event answer
+      → AnsweredFromBase next holds_on reply (sight_by next w) number event answer
   answers_from_base holds_on reply v w number event (Done place r) t e =
       let h = w.history in
       let at = e.place_is in let settled = e.settled in

@@ -12,7 +12,7 @@ use Rattle.std.proofs.Common.{◌≡◌, ℕ, ◌+◌, ◌-◌, ◌^◌, ◌<◌
 use Rattle.std.proofs.lemmas.List.{nil_from_length, take-append-drop}
 use Rattle.std.proofs.Math.Seq.{drop-append_seam, drop-length}
 use Rattle.ifmap_hall.specs.Answers.{IfDone, IfHeld, IfSpent, IfNoMemory}
-use Rattle.ifmap_hall.specs.HallAsks.{TookATurn, SaidNothing, Said, Answered, Turned}
+use Rattle.ifmap_hall.specs.HallAsks.{TookATurn, SaidNothing, Said, AnsweredFromHistory, Turned}
 use Rattle.ifmap_hall.specs.Books.{IsBook, sight_of, end_of_book}
 use Rattle.ifmap_hall.specs.Histories.{Extends, GainsAtMostOne, history_in}
 use Rattle.ifmap_hall.specs.Plays.{FindsBook, Gives}
@@ -229,7 +229,7 @@ module _ {M E R : Type 0} (next : M → E → M) (weight : E → ℕ) (holds_on 
       grew_as_told number event (NoMemory back) u = grew_by_none u.carries u.no_memory.3.ends
 
       answers_by : (number : ℕ) (event : E) (answer : Asked E R) → TurnEnsures b b' number event answer
-          → Answered next holds_on reply v (view_after next reply v h b') number event answer
+          → AnsweredFromHistory next holds_on reply v (view_after next reply v h b') number event answer
       answers_by number event (Done place r) u =
           let d = u.done in let s = state_there in
           said_by number place event r (grew_as_told number event (Done place r) u) (d.2.place_is ∙ ends_there) d.0

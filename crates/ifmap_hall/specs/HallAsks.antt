@@ -45,14 +45,14 @@ module _ {M E R : Type 0} where
       pub said : w.said ≡ v.said ++ (event, r) ∷ []
 
     -- what each answer says of the whole history, from the opening state on
-    abbrev pub Answered : HallView M E R → HallView M E R → ℕ → E → Asked E R → Type 0
-    Answered v w number event (Done place r) = Said v w number event place r
-    Answered v w number event (Held place back) =
+    abbrev pub AnsweredFromHistory : HallView M E R → HallView M E R → ℕ → E → Asked E R → Type 0
+    AnsweredFromHistory v w number event (Done place r) = Said v w number event place r
+    AnsweredFromHistory v w number event (Held place back) =
         (back ≡ event) × (length w.history.log ≡ place) × (place < 2 ^ 64 - 1)
         × (holds_on (run next v.terms.opening.value w.history.log) event ≡ true) × SaidNothing v w
-    Answered v w number event (Spent entries back) =
+    AnsweredFromHistory v w number event (Spent entries back) =
         (back ≡ event) × (length w.history.log ≡ entries) × (entries ≡ 2 ^ 64 - 1) × SaidNothing v w
-    Answered v w number event (NoMemory back) =
+    AnsweredFromHistory v w number event (NoMemory back) =
         (back ≡ event) × (length w.history.log < 2 ^ 64 - 1)
         × (holds_on (run next v.terms.opening.value w.history.log) event ≡ false) × SaidNothing v w
 
@@ -70,4 +70,4 @@ module _ {M E R : Type 0} where
     pub record Turned (v : HallView M E R) (h : HallHistory E) (b : Book M E R) (number : ℕ) (event : E) (answer : Asked E R) : Type 0 where
       pub gives : Gives next weight v.terms h b
       pub took : TookATurn v (view_after next reply v h b)
-      pub answered : Answered next holds_on reply v (view_after next reply v h b) number event answer
+      pub answered : AnsweredFromHistory next holds_on reply v (view_after next reply v h b) number event answer

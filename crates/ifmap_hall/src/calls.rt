@@ -7,7 +7,7 @@ ghost use Rattle.ifmap_hall.specs.Plays.{FindsBook};
 ghost use Rattle.ifmap_hall.specs.SeatViews.{share};
 ghost use Rattle.ifmap_hall.specs.Views.{first_view, kept_view, given_view, joint_view};
 ghost use Rattle.ifmap_hall.specs.Views.{sight_by, IsSoundView};
-ghost use Rattle.ifmap_hall.specs.HallAsks.{TookATurn, Answered, AnsweredFromBase};
+ghost use Rattle.ifmap_hall.specs.HallAsks.{TookATurn, AnsweredFromHistory, AnsweredFromBase};
 ghost use Rattle.ifmap_hall.specs.Passes.{IsOf, view_of, pass_number, pass_parts};
 
 use crate::book::{Asked, Book};
@@ -169,7 +169,7 @@ where
         ensures carries { CarriesOn M.next
             (sight_by M.next (view_of pass.old)) (sight_by M.next (view_of pass.new)) }
         ensures took { TookATurn (view_of pass.old) (view_of pass.new) }
-        ensures answered { Answered M.next M.holds_on M.reply
+        ensures answered { AnsweredFromHistory M.next M.holds_on M.reply
             (view_of pass.old) (view_of pass.new) (pass_number pass.old) event result }
         ensures from_base { AnsweredFromBase M.next M.holds_on M.reply
             (sight_by M.next (view_of pass.new)) (pass_number pass.old) event result }

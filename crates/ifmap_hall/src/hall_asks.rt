@@ -3,7 +3,7 @@ ghost use Rattle.std.specs.Prelude.{◌≡◌, ◌≢◌, ℕ, ◌+◌, ◌%◌,
 ghost use Rattle.ifmap_hall.specs.Books.{IsBook};
 ghost use Rattle.ifmap_hall.specs.SeatViews.{ticket_of, IsAtRest, IsWaiting};
 ghost use Rattle.ifmap_hall.specs.Plays.{FindsBook, Served};
-ghost use Rattle.ifmap_hall.specs.HallAsks.{TookATurn, Answered, Turned};
+ghost use Rattle.ifmap_hall.specs.HallAsks.{TookATurn, AnsweredFromHistory, Turned};
 
 use crate::book::{Asked, Book};
 use crate::machine::Machine;
@@ -92,7 +92,7 @@ where
     ensures own { (seat.new.table_id ≡ seat.old.table_id) × (seat.new.id ≡ seat.old.id) }
     ensures rests { IsAtRest seat.new.me × (seat.new.me.0.parts ≡ seat.old.me.0.parts) }
     ensures took { TookATurn seat.old.me.0.view seat.new.me.0.view }
-    ensures answered { Answered M.next M.holds_on M.reply
+    ensures answered { AnsweredFromHistory M.next M.holds_on M.reply
         seat.old.me.0.view seat.new.me.0.view number event result }
 {
     let ticket = draw(table, seat);

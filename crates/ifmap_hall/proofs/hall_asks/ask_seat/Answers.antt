@@ -1,7 +1,7 @@
 use Rattle.std.proofs.Common.{◌≡◌, [], ◌∷◌, ◌∙◌, ◌%◌, ◌^◌, refl, ap, sym, subst}
 use Rattle.std.specs.Prelude.{Some, None}
 use Rattle.atomic_table.specs.Table.{rest}
-use Rattle.ifmap_hall.specs.HallAsks.{TookATurn, Answered, Turned}
+use Rattle.ifmap_hall.specs.HallAsks.{TookATurn, AnsweredFromHistory, Turned}
 use Rattle.ifmap_hall.specs.Plays.{Gives}
 use Rattle.ifmap_hall.specs.SeatViews.{taken_of, ticket_of, with_ticket, with_book, after_turn, IsAtRest}
 use Rattle.ifmap_hall.proofs.Taking.{waits_drawn, lies_first, finds_book, brings_book, holds_brought, goes_on_to}
@@ -104,6 +104,6 @@ returns-clause-took g c = subst (λ n. TookATurn c.args.seat.now.me.0.view n.0.v
 
 pub returns-clause-answered : goal.returns-clause-answered
 returns-clause-answered g c =
-    subst (λ n. Answered g.M.Machine.next g.M.Machine.holds_on g.M.Machine.reply c.args.seat.now.me.0.view n.0.view c.args.number
+    subst (λ n. AnsweredFromHistory g.M.Machine.next g.M.Machine.holds_on g.M.Machine.reply c.args.seat.now.me.0.view n.0.view c.args.number
     c.args.event c.turn_of-answer.result)
     (sym (seat_after g c)) (turn_told g c).answered
