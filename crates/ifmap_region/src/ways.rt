@@ -23,7 +23,7 @@ fn put_within(rows: &mut MarkRows, number: u64, mark: Option<u32>)
 }
 
 // Whether the number has a row without a mark.
-fn is_bare(rows: &MarkRows, number: u64) -> bool
+fn has_bare_row(rows: &MarkRows, number: u64) -> bool
     ensures yes { result ≡ true → row_of rows.now.entries number ≡ Some None }
     ensures no { result ≡ false → row_of rows.now.entries number ≡ Some None → ⊥ }
 {
@@ -97,7 +97,7 @@ pub(crate) fn sweep(rows: &mut MarkRows, patch: &MarkRows)
 {
     for i in 0..patch.len() {
         if let Some((number, _)) = patch.get_index(i) {
-            if is_bare(rows, *number) {
+            if has_bare_row(rows, *number) {
                 rows.swap_remove(number);
             }
         }
