@@ -7,17 +7,17 @@ use Rattle.ifmap_filter.specs.declared.tokens.FilterToken.{FilterToken}
 use Rattle.ifmap_filter.specs.declared.tokens.FilterToken.TheVariants.{Any, OpenBracket, CloseBracket, OpenParenthesis, CloseParenthesis, EqualsSign, At, Name, Literal}
 use Rattle.ifmap_filter.specs.Tokens.{FrontToken, front_token}
 
-abbrev pub token_of : RawToken → FilterToken
-token_of raw.Any = Any
-token_of raw.OpenBracket = OpenBracket
-token_of raw.CloseBracket = CloseBracket
-token_of raw.OpenParenthesis = OpenParenthesis
-token_of raw.CloseParenthesis = CloseParenthesis
-token_of raw.EqualsSign = EqualsSign
-token_of raw.At = At
-token_of (raw.Name prefix local) = Name (qualified_of prefix.now local.now)
-token_of (raw.Literal value) = Literal value.now
+abbrev pub token_of_raw : RawToken → FilterToken
+token_of_raw raw.Any = Any
+token_of_raw raw.OpenBracket = OpenBracket
+token_of_raw raw.CloseBracket = CloseBracket
+token_of_raw raw.OpenParenthesis = OpenParenthesis
+token_of_raw raw.CloseParenthesis = CloseParenthesis
+token_of_raw raw.EqualsSign = EqualsSign
+token_of_raw raw.At = At
+token_of_raw (raw.Name prefix local) = Name (qualified_of prefix.now local.now)
+token_of_raw (raw.Literal value) = Literal value.now
 
 -- what stands at the front is this raw's token, and this text is left
 abbrev pub IsFrontToken : Option FrontToken → RawToken → List ℕ → Type 0
-IsFrontToken front m rest = front ≡ Some (front_token (token_of m) (chars rest))
+IsFrontToken front m rest = front ≡ Some (front_token (token_of_raw m) (chars rest))

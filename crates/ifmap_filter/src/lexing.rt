@@ -4,7 +4,7 @@ ghost use Rattle.std.specs.Option.{option_map};
 ghost use Rattle.ifmap_elem.specs.Chars.{is_white};
 ghost use Rattle.ifmap_elem.specs.Names.{is_name_character};
 ghost use Rattle.ifmap_filter.specs.Lexing.{CutsCharacters};
-ghost use Rattle.ifmap_filter.specs.RawTokens.{IsFrontToken, token_of};
+ghost use Rattle.ifmap_filter.specs.RawTokens.{IsFrontToken, token_of_raw};
 ghost use Rattle.ifmap_filter.specs.Tokens.{literal_at, name_at, prefixed_name_at, symbol_of, token_at, without_white};
 ghost use Rattle.ifmap_prefixes.specs.ifmap_lexer.Cutting.{is_but};
 ghost use Rattle.ifmap_prefixes.specs.ifmap_lexer.There.{is_quote};
@@ -52,7 +52,7 @@ fn is_quote(character: char) -> bool
 
 // The token that is one character.
 fn symbol_of<'a>(character: char) -> Option<RawToken<'a>>
-    ensures { option_map token_of result ≡ symbol_of character }
+    ensures { option_map token_of_raw result ≡ symbol_of character }
 {
     if character == '*' {
         Some(RawToken::Any)

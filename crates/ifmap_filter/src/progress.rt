@@ -1,7 +1,7 @@
 //! Where a reader of filters stands, and what one more token makes of it.
 ghost use Rattle.std.specs.Prelude.{◌≡◌, ◌++◌, ◌∷◌, [], IfNone, IfOk, IfSome, OnOk};
 ghost use Rattle.ifmap_prefixes.specs.ifmap_lexer.There.{qualified_of};
-ghost use Rattle.ifmap_filter.specs.RawTokens.{token_of};
+ghost use Rattle.ifmap_filter.specs.RawTokens.{token_of_raw};
 ghost use Rattle.ifmap_filter.specs.Progress.{IsNotSingle, StandsAt, Start, comparison_of, context, done_part, join_parts, inner_place, step_token, step_done, step_equals, step_factor, step_joining, step_literal, step_local, step_named, step_test, step_tested, test_of, filter_state, filter_at};
 ghost use Rattle.ifmap_filter.specs.declared.filters.Predicate.{And, Or};
 ghost use Rattle.ifmap_filter.specs.declared.tokens.FilterToken.TheVariants.{CloseBracket, CloseParenthesis};
@@ -95,7 +95,7 @@ pub(crate) fn take_token(
     raw: RawToken<'_>,
 ) -> Result<bool, NoMemory>
     ensures { IfOk result (λ allowed. StandsAt allowed standing.new
-        (step_token scope.now (filter_state standing.old) (token_of raw.entry))) }
+        (step_token scope.now (filter_state standing.old) (token_of_raw raw.entry))) }
 {
     match standing.place {
         FilterPlace::Start => {
@@ -120,7 +120,7 @@ fn take_test(
     raw: RawToken<'_>,
 ) -> Result<bool, NoMemory>
     ensures { IfOk result (λ allowed. StandsAt allowed standing.new
-        (step_test scope.now standing.old.open_part.tests (token_of raw.entry))) }
+        (step_test scope.now standing.old.open_part.tests (token_of_raw raw.entry))) }
 {
     match raw {
         RawToken::Any => {
@@ -143,7 +143,7 @@ fn take_test(
 fn take_named(standing: &mut FilterProgress, raw: RawToken<'_>) -> Result<bool, NoMemory>
     ensures { IfOk result (λ allowed. StandsAt allowed standing.new
         (step_named standing.old.open_part.tests standing.old.open_part.name
-        (token_of raw.entry))) }
+        (token_of_raw raw.entry))) }
 {
     match raw {
         RawToken::OpenBracket => {
@@ -172,7 +172,7 @@ fn push_test(open_part: &mut OpenPart, predicate: Option<Predicate>) -> Result<(
 
 fn take_tested(standing: &mut FilterProgress, raw: RawToken<'_>) -> bool
     ensures { StandsAt result standing.new
-        (step_tested standing.old.open_part.tests (token_of raw.entry)) }
+        (step_tested standing.old.open_part.tests (token_of_raw raw.entry)) }
 {
     match raw {
         RawToken::Name(prefix, local) => {
@@ -193,7 +193,7 @@ fn take_factor(
     raw: RawToken<'_>,
 ) -> Result<bool, NoMemory>
     ensures { IfOk result (λ allowed. StandsAt allowed standing.new
-        (step_factor scope.now (context standing.old.open_part) (token_of raw.entry))) }
+        (step_factor scope.now (context standing.old.open_part) (token_of_raw raw.entry))) }
 {
     match raw {
         RawToken::OpenParenthesis => open_group(alloc, standing),
@@ -243,7 +243,7 @@ fn take_local(
     raw: RawToken<'_>,
 ) -> Result<bool, NoMemory>
     ensures { IfOk result (λ allowed. StandsAt allowed standing.new
-        (step_local (context standing.old.open_part) (token_of raw.entry))) }
+        (step_local (context standing.old.open_part) (token_of_raw raw.entry))) }
 {
     match raw {
         RawToken::Name(prefix, local) => {
@@ -261,7 +261,8 @@ fn take_local(
 
 fn take_equals(standing: &mut FilterProgress, raw: RawToken<'_>) -> bool
     ensures { StandsAt result standing.new
-        (step_equals (context standing.old.open_part) standing.old.operand (token_of raw.entry)) }
+        (step_equals (context standing.old.open_part) standing.old.operand
+        (token_of_raw raw.entry)) }
 {
     match raw {
         RawToken::EqualsSign => {
@@ -279,7 +280,7 @@ fn take_literal(
 ) -> Result<bool, NoMemory>
     ensures { IfOk result (λ allowed. StandsAt allowed standing.new
         (step_literal (context standing.old.open_part) standing.old.operand
-        (token_of raw.entry))) }
+        (token_of_raw raw.entry))) }
 {
     match raw {
         RawToken::Literal(value) => {
@@ -310,7 +311,7 @@ fn take_done(
     raw: RawToken<'_>,
 ) -> Result<bool, NoMemory>
     ensures { IfOk result (λ allowed. StandsAt allowed standing.new
-        (step_done (context standing.old.open_part) (token_of raw.entry))) }
+        (step_done (context standing.old.open_part) (token_of_raw raw.entry))) }
 {
     match raw {
         RawToken::Name(prefix, local) => take_joining(alloc, standing, prefix, local),

@@ -1,6 +1,6 @@
 //! Tokens as they stand in the text: what is written is borrowed from it.
 
-// A token. `token_of` (specs/RawTokens.antt) says which.
+// A token. `token_of_raw` (specs/RawTokens.antt) says which.
 #[derive(Clone, Copy)]
 pub(crate) enum RawToken<'a> {
     Any,

@@ -1,7 +1,7 @@
 use Rattle.std.proofs.Common.{◌≡◌, ◌∙◌, ap, sym, subst, None}
 use Rattle.std.specs.Prelude.{IfNone, IfSome, chars}
 use Rattle.std.specs.Option.{option_map}
-use Rattle.ifmap_filter.specs.RawTokens.{IsFrontToken, token_of}
+use Rattle.ifmap_filter.specs.RawTokens.{IsFrontToken, token_of_raw}
 use Rattle.ifmap_filter.proofs.TokenLaws.{named, no_symbol, nothing_there, one_symbol, quoted}
 use Rattle.ifmap_filter.proofs.lexing.token_at.Goals as goal
 
@@ -39,7 +39,7 @@ pub returns-in-None-clause-none : goal.returns-in-None-clause-none
 returns-in-None-clause-none c =
     no_symbol (chars c.args.text.now) c.in-Some.first (chars c.in-Some.rest.now) c.in-Some.ensures.found
     (sym c.is_quote.ensures ∙ c.if-is_quote.false)
-    (sym c.is_name_start.ensures ∙ c.if-is_name_start.false) (sym c.symbol_of.ensures ∙ ap (option_map token_of) c.in-None.is)
+    (sym c.is_name_start.ensures ∙ c.if-is_name_start.false) (sym c.symbol_of.ensures ∙ ap (option_map token_of_raw) c.in-None.is)
 
 pub returns-in_default-clause-none : goal.returns-in_default-clause-none
 returns-in_default-clause-none c = nothing_there (chars c.args.text.now) c.in_default.ensures.none
@@ -48,5 +48,5 @@ pub returns-in-Some-symbol_of-clause-found : goal.returns-in-Some-symbol_of-clau
 returns-in-Some-symbol_of-clause-found c =
     one_symbol (chars c.args.text.now) c.in-Some.first (chars c.in-Some.rest.now) c.in-Some.ensures.found
     (sym c.is_quote.ensures ∙ c.if-is_quote.false)
-    (sym c.is_name_start.ensures ∙ c.if-is_name_start.false) (token_of c.in-Some-symbol_of.raw)
-    (sym c.symbol_of.ensures ∙ ap (option_map token_of) c.in-Some-symbol_of.is)
+    (sym c.is_name_start.ensures ∙ c.if-is_name_start.false) (token_of_raw c.in-Some-symbol_of.raw)
+    (sym c.symbol_of.ensures ∙ ap (option_map token_of_raw) c.in-Some-symbol_of.is)
