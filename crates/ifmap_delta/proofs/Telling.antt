@@ -34,19 +34,19 @@ use Rattle.ifmap_folds.specs.Differences.{difference, entry_bytes, has_entry, sa
 use Rattle.ifmap_delta.specs.Shown.{shown_on}
 use Rattle.ifmap_delta.specs.Sights.{ViewSeen}
 use Rattle.ifmap_delta.specs.Touched.{has_met, surplus_on}
-use Rattle.ifmap_fresh.specs.laws.GatheringLaws.{gathers, grouped, all_items, entry_of}
+use Rattle.ifmap_fresh.specs.laws.GatheringLaws.{gathers, grouped, all_items, row_entry}
 use Rattle.ifmap_fresh.specs.laws.SameLaws.{member}
 use Rattle.ifmap_ident.specs.SameLaws.{item_itself, BytesTellIdentifiers, same_item_is}
 
 -- rows of one list of canonical bytes are one entry
-bytes_tie : (a b : Attachment) → bytes_eq (entry_bytes (entry_of a)) (entry_bytes (entry_of b)) ≡ true
+bytes_tie : (a b : Attachment) → bytes_eq (entry_bytes (row_entry a)) (entry_bytes (row_entry b)) ≡ true
     → eq_by_cmp stored_order b.stored a.stored ≡ true
 unfolding entry_bytes stored_bytes
 bytes_tie a b e = ap is_eq (slice_cmp-same (canonical_bytes b.stored.element) (canonical_bytes a.stored.element)
     (sym (eq_tells (canonical_bytes a.stored.element) (canonical_bytes b.stored.element) e)))
 
 tie_bytes : (a b : Attachment) → eq_by_cmp stored_order b.stored a.stored ≡ true
-    → bytes_eq (entry_bytes (entry_of a)) (entry_bytes (entry_of b)) ≡ true
+    → bytes_eq (entry_bytes (row_entry a)) (entry_bytes (row_entry b)) ≡ true
 unfolding entry_bytes stored_bytes
 tie_bytes a b e =
     subst (λ l. bytes_eq (canonical_bytes a.stored.element) l ≡ true)
@@ -58,12 +58,12 @@ tied_itself t = ap is_eq (slice_cmp-same (stored_bytes t) (stored_bytes t) refl)
 
 -- what is left out on one item, as a filter of what is stored there
 none_left : (x : Item) (q : Stored → Bool) (p : Attachment → Bool) → ((t : Stored) → p (row_at x t) ≡ false) → (xs : List Stored)
-    → [] ≡ map entry_of (filter p (map (row_at x) xs))
+    → [] ≡ map row_entry (filter p (map (row_at x) xs))
 none_left x q p e [] = refl
 none_left x q p e (t ∷ ts) = rw (e t) (none_left x q p e ts)
 
 some_left : (x : Item) (q : Stored → Bool) (p : Attachment → Bool) → ((t : Stored) → p (row_at x t) ≡ q t) → (xs : List Stored)
-    → map (stored_entry x) (filter q xs) ≡ map entry_of (filter p (map (row_at x) xs))
+    → map (stored_entry x) (filter q xs) ≡ map row_entry (filter p (map (row_at x) xs))
 some_left x q p e [] = refl
 some_left x q p e (t ∷ ts) = elim (cases_Bool (q t)) [
   | inl u ↦ rw (u, e t ∙ u) (ap (λ l. stored_entry x t ∷ l) (some_left x q p e ts))
@@ -71,7 +71,7 @@ some_left x q p e (t ∷ ts) = elim (cases_Bool (q t)) [
 ]
 
 one_item : (x : Item) (b : Bool) (q : Stored → Bool) (p : Attachment → Bool) → ((t : Stored) → p (row_at x t) ≡ (b && q t))
-    → (xs : List Stored) → map (stored_entry x) (filter q (cond b xs [])) ≡ map entry_of (filter p (map (row_at x) xs))
+    → (xs : List Stored) → map (stored_entry x) (filter q (cond b xs [])) ≡ map row_entry (filter p (map (row_at x) xs))
 one_item x true q p e xs = some_left x q p e xs
 one_item x false q p e xs = none_left x q p e xs
 
@@ -97,30 +97,30 @@ module _ (tells : BytesTellIdentifiers) (one other : ViewSeen) (s : Search) (gra
   abbrev left : List Item → List Entry
   left = surplus_on s.result_filter (shown_on one.rows s) (shown_on other.rows s)
 
-  joined : (is : List Item) → left is ≡ map entry_of (filter told (gathered_rows one.rows is))
+  joined : (is : List Item) → left is ≡ map row_entry (filter told (gathered_rows one.rows is))
   joined [] = refl
   joined (x ∷ xs) =
       ap (λ l. l ++ left xs)
       (one_item x (is_looked_at one.rows s x) (λ t. met t && not (has_met s.result_filter (shown_on other.rows s x) t)) told (λ t. refl)
       (stored_on x one.rows))
-      ∙ ap (λ l. map entry_of (filter told (map (row_at x) (stored_on x one.rows))) ++ l) (joined xs)
-      ∙ sym (map-append entry_of (filter told (map (row_at x) (stored_on x one.rows))) (filter told (gathered_rows one.rows xs)))
-      ∙ sym (ap (map entry_of) (filter-append told (map (row_at x) (stored_on x one.rows)) (gathered_rows one.rows xs)))
+      ∙ ap (λ l. map row_entry (filter told (map (row_at x) (stored_on x one.rows))) ++ l) (joined xs)
+      ∙ sym (map-append row_entry (filter told (map (row_at x) (stored_on x one.rows))) (filter told (gathered_rows one.rows xs)))
+      ∙ sym (ap (map row_entry) (filter-append told (map (row_at x) (stored_on x one.rows)) (gathered_rows one.rows xs)))
 
   in_other : (r : Attachment) → IsCanonItem r.item
-      → has_entry (fresh other.rows s) (entry_of r) ≡ has_met s.result_filter (shown_on other.rows s r.item) r.stored
-  in_other r i = both_ways (has_entry (fresh other.rows s) (entry_of r)) (has_met s.result_filter (shown_on other.rows s r.item) r.stored)
+      → has_entry (fresh other.rows s) (row_entry r) ≡ has_met s.result_filter (shown_on other.rows s r.item) r.stored
+  in_other r i = both_ways (has_entry (fresh other.rows s) (row_entry r)) (has_met s.result_filter (shown_on other.rows s r.item) r.stored)
       forward (λ h. backward (is_looked_at other.rows s r.item) refl h)
     where
-      forward : has_entry (fresh other.rows s) (entry_of r) ≡ true
+      forward : has_entry (fresh other.rows s) (row_entry r) ≡ true
           → has_met s.result_filter (shown_on other.rows s r.item) r.stored ≡ true
       forward h =
-          let e = any_has (same_entry (entry_of r)) (fresh other.rows s) h
-          in let m = map_has entry_of (filter (is_found other.rows s) other.rows) e.0 e.1
+          let e = any_has (same_entry (row_entry r)) (fresh other.rows s) h
+          in let m = map_has row_entry (filter (is_found other.rows s) other.rows) e.0 e.1
           in let f = filter_has (is_found other.rows s) other.rows m.0 m.1
           in let p = and_parts (is_looked_at other.rows s m.0.item) (met m.0.stored) f.1
-          in let q : same_entry (entry_of r) (entry_of m.0) ≡ true = subst (λ y. same_entry (entry_of r) y ≡ true) (sym m.2) e.2
-          in let k = and_parts (same_item r.item m.0.item) (bytes_eq (entry_bytes (entry_of r)) (entry_bytes (entry_of m.0))) q
+          in let q : same_entry (row_entry r) (row_entry m.0) ≡ true = subst (λ y. same_entry (row_entry r) y ≡ true) (sym m.2) e.2
+          in let k = and_parts (same_item r.item m.0.item) (bytes_eq (entry_bytes (row_entry r)) (entry_bytes (row_entry m.0))) q
           in let at : r.item ≡ m.0.item = same_item_is tells r.item m.0.item i.identifiers
           (member (λ r. IsCanonItem r.item) other.rows beside.items m.0 f.0).identifiers k.0
           in let looked : is_looked_at other.rows s r.item ≡ true = subst (λ x. is_looked_at other.rows s x ≡ true) (sym at) p.0
@@ -134,7 +134,7 @@ module _ (tells : BytesTellIdentifiers) (one other : ViewSeen) (s : Search) (gra
 
       backward : (b : Bool) → is_looked_at other.rows s r.item ≡ b
           → has_met s.result_filter (cond b (stored_on r.item other.rows) []) r.stored ≡ true
-          → has_entry (fresh other.rows s) (entry_of r) ≡ true
+          → has_entry (fresh other.rows s) (row_entry r) ≡ true
       backward false looked h = let q : false ≡ true = h in cc
       backward true looked h =
           let t = any_has (ties r) (stored_on r.item other.rows) h
@@ -146,19 +146,19 @@ module _ (tells : BytesTellIdentifiers) (one other : ViewSeen) (s : Search) (gra
           in let seen : is_looked_at other.rows s m.0.item ≡ true = subst (λ x. is_looked_at other.rows s x ≡ true) (sym at) looked
           in let meets : met m.0.stored ≡ true = subst (λ y. met y ≡ true) (sym m.2) p.1
           in let is : is_found other.rows s m.0 ≡ true = and_from (is_looked_at other.rows s m.0.item) (met m.0.stored) seen meets
-          in let bytes : bytes_eq (entry_bytes (entry_of r)) (entry_bytes (entry_of m.0)) ≡ true
+          in let bytes : bytes_eq (entry_bytes (row_entry r)) (entry_bytes (row_entry m.0)) ≡ true
           = tie_bytes r m.0 (subst (λ y. eq_by_cmp stored_order y r.stored ≡ true) (sym m.2) p.0)
           in let item : same_item r.item m.0.item ≡ true = subst (λ x. same_item r.item x ≡ true) (sym at) (item_itself r.item)
-          in has_any (same_entry (entry_of r)) (fresh other.rows s) (entry_of m.0)
-          (has_map entry_of (filter (is_found other.rows s) other.rows) m.0 (has_filter (is_found other.rows s) other.rows m.0 f.0 is))
-          (and_from (same_item r.item m.0.item) (bytes_eq (entry_bytes (entry_of r)) (entry_bytes (entry_of m.0))) item bytes)
+          in has_any (same_entry (row_entry r)) (fresh other.rows s) (row_entry m.0)
+          (has_map row_entry (filter (is_found other.rows s) other.rows) m.0 (has_filter (is_found other.rows s) other.rows m.0 f.0 is))
+          (and_from (same_item r.item m.0.item) (bytes_eq (entry_bytes (row_entry r)) (entry_bytes (row_entry m.0))) item bytes)
 
   module _ (items : List Item) (rising : IsStrictlySortedBy item_order items) (canon : (x : Item) → Has items x → IsCanonItem x)
       (settled : (x : Item) → IsCanonItem x → has_item items x ≡ false
       → (is_looked_at one.rows s x ≡ is_looked_at other.rows s x)
       × (is_looked_at one.rows s x ≡ true → stored_on x one.rows ≡ stored_on x other.rows)) where
     abbrev kept : Attachment → Bool
-    kept r = not (has_entry (fresh other.rows s) (entry_of r))
+    kept r = not (has_entry (fresh other.rows s) (row_entry r))
 
     pointwise : (r : Attachment) → Has one.rows r → (has_item items r.item && told r) ≡ (is_found one.rows s r && kept r)
     pointwise r h = by (has_item items r.item) refl
@@ -166,11 +166,11 @@ module _ (tells : BytesTellIdentifiers) (one other : ViewSeen) (s : Search) (gra
         canon_r : IsCanonItem r.item
         canon_r = member (λ r. IsCanonItem r.item) one.rows graph.items r h
 
-        other_has : has_entry (fresh other.rows s) (entry_of r) ≡ has_met s.result_filter (shown_on other.rows s r.item) r.stored
+        other_has : has_entry (fresh other.rows s) (row_entry r) ≡ has_met s.result_filter (shown_on other.rows s r.item) r.stored
         other_has = in_other r canon_r
 
         stays : has_item items r.item ≡ false → is_looked_at one.rows s r.item ≡ true → met r.stored ≡ true
-            → has_entry (fresh other.rows s) (entry_of r) ≡ true
+            → has_entry (fresh other.rows s) (row_entry r) ≡ true
         stays f looked m =
             let q = settled r.item canon_r f
             in let seen : is_looked_at other.rows s r.item ≡ true = sym q.0 ∙ looked
@@ -188,16 +188,16 @@ module _ (tells : BytesTellIdentifiers) (one other : ViewSeen) (s : Search) (gra
             and_joined (is_looked_at one.rows s r.item) (met r.stored)
             (not (has_met s.result_filter (shown_on other.rows s r.item) r.stored))
             ∙ ap (λ a. (is_looked_at one.rows s r.item && met r.stored) && not a) (sym other_has)
-        by false e = sym (outside (is_looked_at one.rows s r.item) (met r.stored) (has_entry (fresh other.rows s) (entry_of r)) (stays e))
+        by false e = sym (outside (is_looked_at one.rows s r.item) (met r.stored) (has_entry (fresh other.rows s) (row_entry r)) (stays e))
 
     -- what is left out item by item is the difference of the results
     pub difference_is : left items ≡ difference (fresh one.rows s) (fresh other.rows s)
     difference_is =
         joined items
-        ∙ ap (λ l. map entry_of (filter told l))
+        ∙ ap (λ l. map row_entry (filter told l))
         (gathers tells one.rows items graph.items (all_items items canon) (grouped one.rows graph.rising) rising)
-        ∙ ap (map entry_of) (filter_twice (λ (r : Attachment). has_item items r.item) told one.rows
+        ∙ ap (map row_entry) (filter_twice (λ (r : Attachment). has_item items r.item) told one.rows
         ∙ filter_alike (λ (r : Attachment). has_item items r.item && told r) (λ r. is_found one.rows s r && kept r) one.rows
         (has_all (λ (r : Attachment). (has_item items r.item && told r) ≡ (is_found one.rows s r && kept r)) one.rows pointwise)
         ∙ sym (filter_twice (is_found one.rows s) kept one.rows))
-        ∙ map_filter entry_of (λ e. not (has_entry (fresh other.rows s) e)) (filter (is_found one.rows s) one.rows)
+        ∙ map_filter row_entry (λ e. not (has_entry (fresh other.rows s) e)) (filter (is_found one.rows s) one.rows)

@@ -41,7 +41,7 @@ use Rattle.ifmap_fresh.specs.Linking.{end_where, is_terminal_at}
 use Rattle.ifmap_fresh.specs.Matching.{is_match, is_terminal, one_meets}
 use Rattle.ifmap_fresh.specs.Numbered.{HaveMatchingLink, is_terminal_number}
 use Rattle.ifmap_fresh.specs.Reached.{is_expanded, is_reached}
-use Rattle.ifmap_fresh.specs.laws.GatheringLaws.{gathers, grouped, all_items, entry_of}
+use Rattle.ifmap_fresh.specs.laws.GatheringLaws.{gathers, grouped, all_items, row_entry}
 use Rattle.ifmap_fresh.specs.laws.JoiningLaws.{match_turned, some_there}
 use Rattle.ifmap_fresh.proofs.Levels.{expanded_walk, reached_by_walks, walk_expanded}
 use Rattle.ifmap_fresh.proofs.Meaning.{mark_walk, to_identifier, to_number, walk_mark}
@@ -249,7 +249,7 @@ module _ (by : Option Filter) where
   abbrev meeting : Attachment → Bool
   meeting r = meets_optional by r.stored.element
 
-  one_item : (i : Item) (xs : List Stored) → entries_of by i xs ≡ map entry_of (filter meeting (map (row_at i) xs))
+  one_item : (i : Item) (xs : List Stored) → entries_of by i xs ≡ map row_entry (filter meeting (map (row_at i) xs))
   one_item i [] = refl
   one_item i (x ∷ xs) = elim (cases_Bool (meets_optional by x.element)) [
     | inl t ↦ rw t (ap (λ l. stored_entry i x ∷ l) (one_item i xs))
@@ -257,13 +257,13 @@ module _ (by : Option Filter) where
   ]
 
   pub entries_gathered : (rows : List Attachment) (items : List Item)
-      → entries_on by rows items ≡ map entry_of (filter meeting (gathered_rows rows items))
+      → entries_on by rows items ≡ map row_entry (filter meeting (gathered_rows rows items))
   entries_gathered rows [] = refl
   entries_gathered rows (i ∷ is) =
       ap (λ l. l ++ entries_on by rows is) (one_item i (stored_on i rows))
-      ∙ ap (λ l. map entry_of (filter meeting (map (row_at i) (stored_on i rows))) ++ l) (entries_gathered rows is)
-      ∙ sym (map-append entry_of (filter meeting (map (row_at i) (stored_on i rows))) (filter meeting (gathered_rows rows is)))
-      ∙ sym (ap (map entry_of) (filter-append meeting (map (row_at i) (stored_on i rows)) (gathered_rows rows is)))
+      ∙ ap (λ l. map row_entry (filter meeting (map (row_at i) (stored_on i rows))) ++ l) (entries_gathered rows is)
+      ∙ sym (map-append row_entry (filter meeting (map (row_at i) (stored_on i rows))) (filter meeting (gathered_rows rows is)))
+      ∙ sym (ap (map row_entry) (filter-append meeting (map (row_at i) (stored_on i rows)) (gathered_rows rows is)))
 
 all_of : (P : Attachment → Type 0) (rs : List Attachment) → ((r : Attachment) → Has rs r → P r) → AllByRecursion P rs
 all_of P [] f = tt
@@ -293,7 +293,7 @@ module _ (tells : BytesTellIdentifiers) (rows : List Attachment) (s : Search) (i
   pub entries_are : entries_on s.result_filter rows items ≡ fresh rows s
   entries_are =
       entries_gathered s.result_filter rows items
-      ∙ ap (λ l. map entry_of (filter (meeting s.result_filter) l))
+      ∙ ap (λ l. map row_entry (filter (meeting s.result_filter) l))
       (gathers tells rows items graph.items (all_items items are.canon) (grouped rows graph.rising) are.rising)
-      ∙ ap (map entry_of) (filter_twice (λ r. has_item items r.item) (meeting s.result_filter) rows
+      ∙ ap (map row_entry) (filter_twice (λ r. has_item items r.item) (meeting s.result_filter) rows
       ∙ filter_alike (λ r. has_item items r.item && meeting s.result_filter r) (is_found rows s) rows all_among)

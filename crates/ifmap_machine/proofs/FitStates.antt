@@ -65,7 +65,7 @@ use Rattle.ifmap_session.specs.laws.TextLaws.{text_is}
 use Rattle.ifmap_publish.specs.ifmap_view.declared.attachments.Attachment.{Attachment}
 use Rattle.ifmap_publish.specs.ifmap_view.Attachments.{IsGraph}
 use Rattle.ifmap_session.specs.laws.IdLaws.{id_characters}
-use Rattle.ifmap_folds.specs.ifmap_fresh.laws.GatheringLaws.{entry_of}
+use Rattle.ifmap_folds.specs.ifmap_fresh.laws.GatheringLaws.{row_entry}
 
 -- ---- 1. what is found and told
 
@@ -82,15 +82,15 @@ abbrev HasFitName : Standing → Type 0
 HasFitName x = IsCharacters x.name
 
 fit_rows : (rows : List Attachment) → AllByRecursion (λ r. IsCanonItem r.item) rows → AreWhole rows
-    → AllByRecursion (λ r. IsFitEntry (entry_of r)) rows
+    → AllByRecursion (λ r. IsFitEntry (row_entry r)) rows
 fit_rows [] items whole = tt
 fit_rows (r ∷ rows) items whole = (record { item = items.0; element = whole.0.sent }, fit_rows rows items.1 whole.1)
 
 module _ (rows : List Attachment) (graph : IsGraph rows) (whole : AreWhole rows) where
   fit_fresh : (s : Search) → AreFitEntries (fresh rows s)
   fit_fresh s =
-      map_of_all IsFitEntry entry_of (filter (is_found rows s) rows)
-      (all_filter (λ r. IsFitEntry (entry_of r)) (is_found rows s) rows (fit_rows rows graph.items whole))
+      map_of_all IsFitEntry row_entry (filter (is_found rows s) rows)
+      (all_filter (λ r. IsFitEntry (row_entry r)) (is_found rows s) rows (fit_rows rows graph.items whole))
 
 fit_difference : (a b : List Entry) → AreFitEntries a → AreFitEntries (difference a b)
 fit_difference a b f = all_filter IsFitEntry (λ e. not (has_entry b e)) a f

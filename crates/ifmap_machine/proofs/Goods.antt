@@ -25,7 +25,7 @@ use Rattle.ifmap_session.specs.laws.TextLaws.{text_is}
 use Rattle.ifmap_publish.specs.ifmap_view.declared.attachments.Attachment.{Attachment}
 use Rattle.ifmap_publish.specs.ifmap_view.Attachments.{IsGraph}
 use Rattle.ifmap_folds.specs.laws.FoldingLaws.{difference_none, fresh_rises}
-use Rattle.ifmap_folds.specs.ifmap_fresh.laws.GatheringLaws.{entry_of}
+use Rattle.ifmap_folds.specs.ifmap_fresh.laws.GatheringLaws.{row_entry}
 
 -- a graph whose attachments are whole
 pub record IsWholeGraph (rows : List Attachment) : Type 0 where
@@ -50,7 +50,7 @@ module _ (tells : BytesTellIdentifiers) (tell_elements : (one other : Element) �
   elements_told one other f g same = (tell_elements one other f g).0 same
 
   attachments_told : (a b : Attachment) → IsCanonItem a.item → IsCanonItem b.item → IsWhole a.stored → IsWhole b.stored
-      → same_entry (entry_of a) (entry_of b) ≡ true → entry_of a ≡ entry_of b
+      → same_entry (row_entry a) (row_entry b) ≡ true → row_entry a ≡ row_entry b
   unfolding entry_bytes
   attachments_told a b ca cb wa wb same =
       let parts = and_parts _ _ same in
@@ -64,15 +64,15 @@ module _ (tells : BytesTellIdentifiers) (tell_elements : (one other : Element) �
   pub entries_told : (before after : List Attachment) (s : Search) → IsWholeGraph before → IsWholeGraph after → (x y : Entry)
       → Has (fresh before s) x → Has (fresh after s) y → same_entry x y ≡ true → x ≡ y
   entries_told before after s g k x y hx hy same =
-      let a = map_has entry_of (filter (is_found before s) before) x hx in
-      let b = map_has entry_of (filter (is_found after s) after) y hy in
+      let a = map_has row_entry (filter (is_found before s) before) x hx in
+      let b = map_has row_entry (filter (is_found after s) after) y hy in
       let has_a = (filter_has (is_found before s) before a.0 a.1).0 in
       let has_b = (filter_has (is_found after s) after b.0 b.1).0 in
       let told = attachments_told a.0 b.0 (all_has (λ (r : Attachment). IsCanonItem r.item) before g.graph.items a.0 has_a)
       (all_has (λ (r : Attachment). IsCanonItem r.item) after k.graph.items b.0 has_b)
       (all_has (λ (r : Attachment). IsWhole r.stored) before g.whole a.0 has_a)
       (all_has (λ (r : Attachment). IsWhole r.stored) after k.whole b.0 has_b)
-      (subst (λ e. same_entry e (entry_of b.0) ≡ true) (sym a.2) (subst (λ e. same_entry x e ≡ true) (sym b.2) same)) in
+      (subst (λ e. same_entry e (row_entry b.0) ≡ true) (sym a.2) (subst (λ e. same_entry x e ≡ true) (sym b.2) same)) in
       sym a.2 ∙ told ∙ b.2
 
   -- ---- results fold

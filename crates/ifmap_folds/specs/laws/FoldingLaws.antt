@@ -28,7 +28,7 @@ use Rattle.ifmap_lemmas.specs.Members.{map_of_all}
 use Rattle.ifmap_lemmas.specs.Rising.{head_rises, rising_same, tail_rises}
 use Rattle.ifmap_fresh.specs.Fresh.{fresh, is_found}
 use Rattle.ifmap_fresh.specs.ifmap_search.declared.searches.Search.{Search}
-use Rattle.ifmap_fresh.specs.laws.GatheringLaws.{entry_of}
+use Rattle.ifmap_fresh.specs.laws.GatheringLaws.{row_entry}
 
 pub entries_total : IsTotalOrder entry_order
 entries_total = then_total (on_total (λ (e : Entry). e.item) items_total) (on_total entry_bytes nat_list_cmp_total)
@@ -133,16 +133,17 @@ pub difference_none : (entries : List Entry) → difference entries [] ≡ entri
 difference_none [] = refl
 difference_none (e ∷ entries) = ap (λ t. e ∷ t) (difference_none entries)
 
-pub entries_order : (a b : Attachment) → attachment_order a b ≡ entry_order (entry_of a) (entry_of b)
+pub entries_order : (a b : Attachment) → attachment_order a b ≡ entry_order (row_entry a) (row_entry b)
 unfolding stored_bytes entry_bytes
 entries_order a b = refl
 
-pub mapped_rising : (rows : List Attachment) → IsStrictlySortedBy attachment_order rows → IsStrictlySortedBy entry_order (map entry_of rows)
+pub mapped_rising : (rows : List Attachment) → IsStrictlySortedBy attachment_order rows
+    → IsStrictlySortedBy entry_order (map row_entry rows)
 unfolding IsStrictlySortedBy
 mapped_rising [] up = tt
 mapped_rising (a ∷ rows) up = (
-  map_of_all (λ e. entry_order (entry_of a) e ≡ Less) entry_of rows (all_weaker (λ b. attachment_order a b ≡ Less)
-      (λ b. entry_order (entry_of a) (entry_of b) ≡ Less) (λ b l. sym (entries_order a b) ∙ l) rows up.0),
+  map_of_all (λ e. entry_order (row_entry a) e ≡ Less) row_entry rows (all_weaker (λ b. attachment_order a b ≡ Less)
+      (λ b. entry_order (row_entry a) (row_entry b) ≡ Less) (λ b l. sym (entries_order a b) ∙ l) rows up.0),
   mapped_rising rows up.1,
 )
 

@@ -131,5 +131,5 @@ pub all_items : (is : List Item) → ((x : Item) → Has is x → IsCanonItem x)
 all_items [] f = tt
 all_items (i ∷ is) f = ((f i (inl refl)).identifiers, all_items is (λ x h. f x (inr h)))
 
-abbrev pub entry_of : Attachment → Entry
-entry_of r = record { item = r.item; element = r.stored.element }
+abbrev pub row_entry : Attachment → Entry
+row_entry r = record { item = r.item; element = r.stored.element }
