@@ -86,14 +86,14 @@ pub fn read_depth(element: &Element) -> Result<u32, FormError>
     ensures definite { IfErr result (λ error. error ≢ FormError.NoMemory) }
 {
     match value_of(element, "max-depth") {
-        Some(text) => word_of(text.as_str()),
+        Some(text) => check_word(text.as_str()),
         None => Ok(0),
     }
 }
 
 /// The number below 2^32 that a text writes. A text that is not one ASCII digit or more is Failure,
 /// and so is a number of 2^32 or more.
-pub fn word_of(text: &str) -> Result<u32, FormError>
+pub fn check_word(text: &str) -> Result<u32, FormError>
     ensures answer { IsChecked (word_check text.now) result }
     ensures definite { IfErr result (λ error. error ≢ FormError.NoMemory) }
 {

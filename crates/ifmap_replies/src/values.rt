@@ -7,7 +7,7 @@ ghost use Rattle.ifmap_replies.specs.Fields.{code_field, code_of, read_code, rea
 
 use ifmap_elem::{Copied, Element, Text};
 use ifmap_forms::FormError;
-use ifmap_forms::values::word_of;
+use ifmap_forms::values::check_word;
 use ifmap_ident::{Code, value_of};
 use std::alloc::Global;
 
@@ -16,7 +16,7 @@ pub(crate) fn read_word(element: &Element, local: &str) -> Result<u32, FormError
     ensures { IsChecked (read_word (value_of local.now element.now)) result }
 {
     match value_of(element, local) {
-        Some(text) => word_of(text.as_str()),
+        Some(text) => check_word(text.as_str()),
         None => Err(FormError::Named(Code::Failure)),
     }
 }
