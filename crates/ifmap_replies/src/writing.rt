@@ -17,7 +17,7 @@ use std::alloc::{AllocError as NoMemory, Global};
 pub fn write_reply(alloc: Global, reply: &Reply) -> Result<Many<u8>, NoMemory>
     ensures { IfOk result (λ bytes. bytes ≡ reply_bytes reply.now) }
 {
-    let names = Names::new(alloc)?;
+    let names = ReplyNames::new(alloc)?;
     let outline = outline_of(alloc, &names, reply)?;
     canonical_outline(alloc, &outline)
 }
@@ -26,24 +26,24 @@ pub fn write_reply(alloc: Global, reply: &Reply) -> Result<Many<u8>, NoMemory>
 pub fn element_of(alloc: Global, reply: &Reply) -> Result<Element, NoMemory>
     ensures { IfOk result (λ element. element ≡ reply_element reply.now) }
 {
-    let names = Names::new(alloc)?;
+    let names = ReplyNames::new(alloc)?;
     let outline = outline_of(alloc, &names, reply)?;
     outline.element(alloc)
 }
 
 // The names of what stands around a result.
 #[derive(Drop)]
-pub(crate) struct Names {
+pub(crate) struct ReplyNames {
     envelope: Name,
     body: Name,
     response: Name,
 }
 
-impl Names {
-    fn new(alloc: Global) -> Result<Names, NoMemory>
+impl ReplyNames {
+    fn new(alloc: Global) -> Result<ReplyNames, NoMemory>
         ensures { IfOk result (λ names. names ≡ reply_names) }
     {
-        Ok(Names {
+        Ok(ReplyNames {
             envelope: Name::new(alloc, ENVELOPE_SPACE, "Envelope")?,
             body: Name::new(alloc, ENVELOPE_SPACE, "Body")?,
             response: Name::new(alloc, IFMAP_SPACE, "response")?,
@@ -53,7 +53,7 @@ impl Names {
 
 fn outline_of<'a>(
     alloc: Global,
-    names: &'a Names,
+    names: &'a ReplyNames,
     reply: &'a Reply,
 ) -> Result<Outline<'a>, NoMemory>
     ensures { IfOk result (λ outline.
