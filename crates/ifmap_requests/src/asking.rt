@@ -65,7 +65,7 @@ pub enum RequestName {
     PurgePublisher,
 }
 
-fn asking_of(local: &str) -> Option<RequestName>
+fn request_named(local: &str) -> Option<RequestName>
     ensures found { IfSome result (λ asking. local.now ≡ asking_name asking) }
     ensures none { IsNone result → (asking : RequestName) → local.now ≡ asking_name asking → ⊥ }
 {
@@ -92,7 +92,7 @@ fn read_named(
     ensures { IsChecked (other_request_check (scopes_by place.now.declared.now place.now.path.now)
         element.now) result }
 {
-    match asking_of(element.name.local.as_str()) {
+    match request_named(element.name.local.as_str()) {
         Some(RequestName::NewSession) => read_new_session(element),
         Some(RequestName::RenewSession) => read_renewal(alloc, element),
         Some(RequestName::EndSession) => read_end_session(alloc, element),

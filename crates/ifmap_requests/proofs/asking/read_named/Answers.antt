@@ -56,4 +56,4 @@ pub returns-in-None : goal.returns-in-None
 returns-in-None c =
     let scopes = scopes_by c.args.place.now.declared.now c.args.place.now.path.now in
     at_no_request scopes c.args.element.now c.requires.space
-    (λ a same. c.asking_of.ensures.none (search rules) a (c.as_str.ensures ∙ same))
+    (λ a same. c.request_named.ensures.none (search rules) a (c.as_str.ensures ∙ same))
