@@ -20,7 +20,7 @@ use ifmap_view::Row;
 use std::alloc::{AllocError as NoMemory, Global};
 
 // The item of an operation.
-pub(crate) fn item_of(op: &PublishOp) -> &Item
+pub(crate) fn item_of_op(op: &PublishOp) -> &Item
     ensures { result.now ≡ op_item op.now }
 {
     match op {

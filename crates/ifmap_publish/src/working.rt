@@ -13,7 +13,7 @@ ghost use Rattle.ifmap_publish.specs.Apply.{apply};
 ghost use Rattle.ifmap_publish.specs.OnItems.{apply_op_on};
 ghost use Rattle.ifmap_publish.specs.Working.{AreEdits, edit_or, working_rows};
 
-use crate::applying::{apply_op, item_of};
+use crate::applying::{apply_op, item_of_op};
 use crate::authors::Author;
 use crate::edits::{Edit, no_edit};
 use ifmap_elem::Copied;
@@ -66,7 +66,7 @@ fn apply_one<V: Keyed>(
     if let PublishOp::Notify { .. } = op {
         return Ok(());
     }
-    let item = item_of(op);
+    let item = item_of_op(op);
     let mut edit = take_edit(alloc, item, edits);
     apply_op(alloc, view, author, op, &mut edit)?;
     edits.insert(item.copy(alloc)?, edit)?;
