@@ -17,14 +17,14 @@ use Rattle.ifmap_lemmas.specs.Found.{find_push}
 use Rattle.ifmap_lemmas.specs.Inserted.{all_set}
 use Rattle.ifmap_lemmas.specs.Places.{all_got}
 use Rattle.ifmap_session.specs.declared.rows.SessionRow.{SessionRow}
-use Rattle.ifmap_session.specs.Rows.{AreOwn, HasOwnSerial, live_of, row_order, seats_of, spare_in}
+use Rattle.ifmap_session.specs.Rows.{AreOwn, HasOwnSerial, live_of, serial_order, seats_of, spare_in}
 use Rattle.ifmap_session.specs.Seats.{Seat}
 use Rattle.ifmap_session.specs.Sessions.{Session, change, session_with_serial, spare_of, without_sessions}
 use Rattle.ifmap_lemmas.specs.Members.{all_last}
 
 -- rows rise by their serials
 abbrev pub Up : List SessionRow → Type 0
-Up rows = IsStrictlySortedBy row_order rows
+Up rows = IsStrictlySortedBy serial_order rows
 
 -- each row's session has its serial, with which its id begins
 abbrev pub Own : List SessionRow → Type 0
@@ -88,7 +88,7 @@ differs : (n serial : ℕ) (kept : Option Seat) → IfSome kept (HasOwnSerial se
     → IfSome kept (λ s. (s.session.serial == n) ≡ false)
 differs n serial kept own e = weaker_own serial (λ s. (s.session.serial == n) ≡ false) (λ s is. rw is e) kept own
 
-pub above_differ : (r : SessionRow) (rows : List SessionRow) → AllByRecursion (λ z. row_order r z ≡ Less) rows → (n : ℕ) → r.serial ≡ n
+pub above_differ : (r : SessionRow) (rows : List SessionRow) → AllByRecursion (λ z. serial_order r z ≡ Less) rows → (n : ℕ) → r.serial ≡ n
     → Others n rows
 above_differ r [] up n e = tt
 above_differ r (z ∷ rows) up n e = (grind (arith, nat_tests, up.0), above_differ r rows up.1 n e)
@@ -97,12 +97,13 @@ serial_is : (z : SessionRow) (n : ℕ) (kept : Option Seat) → ◌≡◌ {A = O
     → z.serial ≡ n
 serial_is z n kept e = ap (λ (o : Option SessionRow). unwrap_or (option_map (λ (x : SessionRow). x.serial) o) n) e
 
-below_differs : (r : SessionRow) (rows : List SessionRow) (i n : ℕ) (kept : Option Seat) → AllByRecursion (λ z. row_order r z ≡ Less) rows
+below_differs : (r : SessionRow) (rows : List SessionRow) (i n : ℕ) (kept : Option Seat)
+    → AllByRecursion (λ z. serial_order r z ≡ Less) rows
     → slice_get rows i ≡ Some (record { serial = n; kept = kept }) → (r.serial == n) ≡ false
 below_differs r [] i n kept up e = cc
 below_differs r (z ∷ rows) zero n kept up e =
     let same : z.serial ≡ n = serial_is z n kept e in
-    let less : row_order r z ≡ Less = up.0 in
+    let less : serial_order r z ≡ Less = up.0 in
     grind (arith, nat_tests)
 below_differs r (z ∷ rows) (suc i) n kept up e = below_differs r rows i n kept up.1 e
 
@@ -257,12 +258,12 @@ module _ (n : ℕ) where
       map_alike the_spare r.kept (seats_of (set rows i (row_of n b))) (seats_of rows) (spare_same rows i a b e same)
 
 -- order
-same_order : (x r q : SessionRow) → q.serial ≡ r.serial → row_order x r ≡ Less → row_order x q ≡ Less
+same_order : (x r q : SessionRow) → q.serial ≡ r.serial → serial_order x r ≡ Less → serial_order x q ≡ Less
 same_order x r q e less = rw e less
 
-same_order_left : (r q : SessionRow) → q.serial ≡ r.serial → (rows : List SessionRow) → AllByRecursion (λ z. row_order r z ≡ Less) rows
-    → AllByRecursion (λ z. row_order q z ≡ Less) rows
-same_order_left r q e rows all = all_weaker (λ z. row_order r z ≡ Less) (λ z. row_order q z ≡ Less) (λ z less. rw e less) rows all
+same_order_left : (r q : SessionRow) → q.serial ≡ r.serial → (rows : List SessionRow) → AllByRecursion (λ z. serial_order r z ≡ Less) rows
+    → AllByRecursion (λ z. serial_order q z ≡ Less) rows
+same_order_left r q e rows all = all_weaker (λ z. serial_order r z ≡ Less) (λ z. serial_order q z ≡ Less) (λ z less. rw e less) rows all
 
 up_set : (rows : List SessionRow) (i : ℕ) (r q : SessionRow) → Up rows → slice_get rows i ≡ Some r → q.serial ≡ r.serial → Up (set rows i q)
 unfolding IsStrictlySortedBy
@@ -270,7 +271,7 @@ up_set [] i r q up e same = tt
 up_set (x ∷ rows) zero r q up e same =
     let is : x ≡ r = cc in (same_order_left x q (same ∙ ap (λ (y : SessionRow). y.serial) (sym is)) rows up.0, up.1)
 up_set (x ∷ rows) (suc i) r q up e same = (
-  all_set (λ z. row_order x z ≡ Less) rows i q up.0 (same_order x r q same (all_got (λ z. row_order x z ≡ Less) rows i r up.0 e)),
+  all_set (λ z. serial_order x z ≡ Less) rows i q up.0 (same_order x r q same (all_got (λ z. serial_order x z ≡ Less) rows i r up.0 e)),
   up_set rows i r q up.1 e same,
 )
 
@@ -293,7 +294,7 @@ up_push : (counter : ℕ) (rows : List SessionRow) (y : SessionRow) → Up rows 
 unfolding IsStrictlySortedBy
 up_push counter [] y up counted above = (tt, tt)
 up_push counter (x ∷ rows) y up counted above =
-    (all_last (λ z. row_order x z ≡ Less) rows y up.0 (grind (arith, nat_tests, counted.0)), up_push counter rows y up.1 counted.1 above)
+    (all_last (λ z. serial_order x z ≡ Less) rows y up.0 (grind (arith, nat_tests, counted.0)), up_push counter rows y up.1 counted.1 above)
 
 pub own_push : (counter : ℕ) (rows : List SessionRow) (y : SessionRow) → AreOwn rows
     → AllByRecursion (λ (r : SessionRow). r.serial ≤ counter) rows
@@ -342,7 +343,7 @@ seats_filter (r ∷ rows) = filter_one r r.kept rows (filter (λ (r : SessionRow
 
 pub own_filter : (rows : List SessionRow) → AreOwn rows → AreOwn (filter (λ (r : SessionRow). is_some r.kept) rows)
 own_filter rows o = record {
-  rising = IsStrictlySortedBy-filter row_order (λ (r : SessionRow). is_some r.kept) rows o.rising;
+  rising = IsStrictlySortedBy-filter serial_order (λ (r : SessionRow). is_some r.kept) rows o.rising;
   own = all_filter (λ (r : SessionRow). IfSome r.kept (HasOwnSerial r.serial)) (λ (r : SessionRow). is_some r.kept) rows o.own;
 }
 

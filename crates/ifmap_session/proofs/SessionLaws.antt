@@ -25,7 +25,7 @@ use Rattle.ifmap_lemmas.specs.Inserted.{find_insert, place_for}
 use Rattle.ifmap_lemmas.specs.Options.{or_none, some_none}
 use Rattle.ifmap_session.specs.declared.holders.Holder.{Holder}
 use Rattle.ifmap_session.specs.declared.rows.SessionRow.{SessionRow}
-use Rattle.ifmap_session.specs.Rows.{AreHolders, AreOwn, AreRows, HasOwnSerial, client_order, holder_of, live_of, row_order, seats_of}
+use Rattle.ifmap_session.specs.Rows.{AreHolders, AreOwn, AreRows, HasOwnSerial, client_order, holder_of, live_of, serial_order, seats_of}
 use Rattle.ifmap_session.specs.Places.{IsPlaceFor, IsPlaceOf}
 use Rattle.ifmap_session.specs.Seats.{Seat}
 use Rattle.ifmap_session.specs.SessionIds.{BeginsWithSerial, hyphen}
@@ -291,7 +291,8 @@ pub live_up : (rows : List SessionRow) → Up rows → Own rows → IsStrictlySo
 unfolding IsStrictlySortedBy
 live_up [] up own = tt
 live_up (r ∷ rows) up own = one r.kept own.0 (live_up rows up.1 own.1) where
-  above : (s : Seat) → s.session.serial ≡ r.serial → (rows : List SessionRow) → AllByRecursion (λ z. row_order r z ≡ Less) rows → Own rows
+  above : (s : Seat) → s.session.serial ≡ r.serial → (rows : List SessionRow) → AllByRecursion (λ z. serial_order r z ≡ Less) rows
+      → Own rows
       → AllByRecursion (λ (z : SessionRow). IfSome z.kept (λ (t : Seat). session_order s.session t.session ≡ Less)) rows
   above s e [] all own = tt
   above s e (z ∷ rows) all own = (

@@ -25,8 +25,8 @@ abbrev pub spare_in : List SessionRow → List (ℕ × ℕ)
 spare_in rows = map (λ (s : Seat). (s.session.serial, s.spare)) (seats_of rows)
 
 -- rows by their serials
-abbrev pub row_order : SessionRow → SessionRow → Ordering
-row_order = on (λ (r : SessionRow). r.serial) nat_cmp
+abbrev pub serial_order : SessionRow → SessionRow → Ordering
+serial_order = on (λ (r : SessionRow). r.serial) nat_cmp
 
 -- holders by their clients' names
 abbrev pub client_order : Holder → Holder → Ordering
@@ -58,7 +58,7 @@ IsSeatOf serial rows seat = (i : ℕ) × (slice_get rows i ≡ Some (record { se
 
 -- the serials of rows rise, and the session of each has the row's serial, with which its id begins
 pub record AreOwn (rows : List SessionRow) : Type 0 where
-  pub rising : IsStrictlySortedBy row_order rows
+  pub rising : IsStrictlySortedBy serial_order rows
   pub own : AllByRecursion (λ (r : SessionRow). IfSome r.kept (HasOwnSerial r.serial)) rows
 
 -- what holds of the rows between two calls
