@@ -39,7 +39,7 @@ use Rattle.ifmap_graph.specs.Named.{AreEnds, AreNumbered, HasEnds}
 use Rattle.ifmap_graph.specs.Out.{items_changed}
 use Rattle.ifmap_graph.specs.Shelved.{AreShelved, IsPlaced, StoredSide, list_at, slot_of_item, rows_on_side}
 use Rattle.ifmap_graph.specs.Sides.{Sides, list_next, list_now}
-use Rattle.ifmap_graph.specs.Touched.{ArePairs, KeepsLinks, exactly_one, draft_of, flip_in, flip_of, full_next, full_now}
+use Rattle.ifmap_graph.specs.Touched.{ArePairs, KeepsLinks, exactly_one, draft_of, flip_in, flipped_slot, full_next, full_now}
 use Rattle.ifmap_graph.specs.Turning.{sides_at}
 use Rattle.ifmap_graph.proofs.Apart.{changed_apart}
 use Rattle.ifmap_graph.proofs.Empty.{nothing_is_list, side_same}
@@ -94,7 +94,7 @@ module _ (s : Shelves) where
       (items : List Item)
       (within : DraftsWithin items s) where
     touched_item : (at : ℕ) (shelf : Shelf) → get s.slots at ≡ Some shelf → exactly_one (full_now s.slots at) (full_next s.slots at) ≡ true
-        → (x : Item) × Has items x × (flip_of s x ≡ Some at)
+        → (x : Item) × Has items x × (flipped_slot s x ≡ Some at)
     touched_item at shelf e d =
         let u = used at (subst (λ (o : Option Shelf). IsSome o) (sym e) refl)
         in let place : slot_of_item s u.0 ≡ Some at = entry_hits s.places.entries u.0 at is.rising u.1
@@ -106,15 +106,15 @@ module _ (s : Shelves) where
         )
 
     by_slot : (at : ℕ) (o : Option Shelf) → get s.slots at ≡ o
-        → (full_now s.slots at ≡ full_next s.slots at) ⊎ Contains (filter_map (flip_of s) items) at
+        → (full_now s.slots at ≡ full_next s.slots at) ⊎ Contains (filter_map (flipped_slot s) items) at
     by_slot at None e = inl (ap (λ o. is_not_empty (list_at list_now o)) e ∙ sym (ap (λ o. is_not_empty (list_at list_next o)) e))
     by_slot at (Some shelf) e = elim (cases_Bool (exactly_one (full_now s.slots at) (full_next s.slots at))) [
       | inl d ↦ let t = touched_item at shelf e d
-          in inr (from_has (filter_map (flip_of s) items) at (has_mapped (flip_of s) items t.0 at t.1 t.2))
+          in inr (from_has (filter_map (flipped_slot s) items) at (has_mapped (flipped_slot s) items t.0 at t.1 t.2))
       | inr d ↦ inl (same_or_not (full_now s.slots at) (full_next s.slots at) d)
     ]
 
-    pub all_touched : (at : ℕ) → (full_now s.slots at ≡ full_next s.slots at) ⊎ Contains (filter_map (flip_of s) items) at
+    pub all_touched : (at : ℕ) → (full_now s.slots at ≡ full_next s.slots at) ⊎ Contains (filter_map (flipped_slot s) items) at
     all_touched at = by_slot at (get s.slots at) refl
 
   -- no slot is touched twice
@@ -126,13 +126,13 @@ module _ (s : Shelves) where
         in let same : a.0 ≡ b.0 = one_item s.places.entries a.0 b.0 at is.apart a.1 b.1
         in items_tie x y ∙ ap is_eq (items_total.congr x a.0 y a.2 ∙ ap (λ k. item_order k y) same ∙ tied_back items_total y b.0 b.2)
 
-    out_of : (x : Item) (at : ℕ) (items : List Item) → flip_of s x ≡ Some at → AllByRecursion (λ y. same_item x y ≡ false) items
-        → AllByRecursion (λ n. nat_eq at n ≡ false) (filter_map (flip_of s) items)
+    out_of : (x : Item) (at : ℕ) (items : List Item) → flipped_slot s x ≡ Some at → AllByRecursion (λ y. same_item x y ≡ false) items
+        → AllByRecursion (λ n. nat_eq at n ≡ false) (filter_map (flipped_slot s) items)
     out_of x at [] e a = tt
-    out_of x at (y ∷ ys) e a = by (flip_of s y) refl (out_of x at ys e a.1)
+    out_of x at (y ∷ ys) e a = by (flipped_slot s y) refl (out_of x at ys e a.1)
       where
-        by : (o : Option ℕ) → flip_of s y ≡ o → AllByRecursion (λ n. nat_eq at n ≡ false) (filter_map (flip_of s) ys)
-            → AllByRecursion (λ n. nat_eq at n ≡ false) (cons_option o (filter_map (flip_of s) ys))
+        by : (o : Option ℕ) → flipped_slot s y ≡ o → AllByRecursion (λ n. nat_eq at n ≡ false) (filter_map (flipped_slot s) ys)
+            → AllByRecursion (λ n. nat_eq at n ≡ false) (cons_option o (filter_map (flipped_slot s) ys))
         by None f rest = rest
         by (Some bt) f rest = (
           is_other at bt (λ q.
@@ -142,20 +142,21 @@ module _ (s : Shelves) where
           rest,
         )
 
-    pub touched_apart : (items : List Item) → IsDistinct same_item items → IsDistinct nat_eq (filter_map (flip_of s) items)
+    pub touched_apart : (items : List Item) → IsDistinct same_item items → IsDistinct nat_eq (filter_map (flipped_slot s) items)
     touched_apart [] d = to_distinct nat_eq [] tt
-    touched_apart (x ∷ xs) d = by (flip_of s x) refl (touched_apart xs (IsDistinct-tail same_item x xs d))
+    touched_apart (x ∷ xs) d = by (flipped_slot s x) refl (touched_apart xs (IsDistinct-tail same_item x xs d))
       where
-        by : (o : Option ℕ) → flip_of s x ≡ o → IsDistinct nat_eq (filter_map (flip_of s) xs)
-            → IsDistinct nat_eq (cons_option o (filter_map (flip_of s) xs))
+        by : (o : Option ℕ) → flipped_slot s x ≡ o → IsDistinct nat_eq (filter_map (flipped_slot s) xs)
+            → IsDistinct nat_eq (cons_option o (filter_map (flipped_slot s) xs))
         by None e rest = rest
-        by (Some at) e rest = IsDistinct-cons nat_eq at (filter_map (flip_of s) xs) (out_of x at xs e (IsDistinct-head same_item x xs d))
+        by (Some at) e rest = IsDistinct-cons nat_eq at (filter_map (flipped_slot s) xs)
+            (out_of x at xs e (IsDistinct-head same_item x xs d))
             rest
 
 pub flips_mapped : (s : Shelves) (changes : List ItemChange)
-    → filter_map (λ (c : ItemChange). flip_of s c.item) changes ≡ filter_map (flip_of s) (items_changed changes)
+    → filter_map (λ (c : ItemChange). flipped_slot s c.item) changes ≡ filter_map (flipped_slot s) (items_changed changes)
 flips_mapped s [] = refl
-flips_mapped s (c ∷ cs) = ap (λ l. cons_option (flip_of s c.item) l) (flips_mapped s cs)
+flips_mapped s (c ∷ cs) = ap (λ l. cons_option (flipped_slot s c.item) l) (flips_mapped s cs)
 
 -- the numbers that a slot joins are two live ones
 module _ (names : Holdings Identifier) (v w : ℕ) where
@@ -236,7 +237,7 @@ module _ (names : Holdings Identifier) (s t : Shelves) (links later : List (Side
     (changes : List ItemChange) (fits : Fits (rows_on_side list_now s) changes)
     (after : IsAfter changes (rows_on_side list_now s) (rows_on_side list_next t))
     (out : AreOut (items_changed changes) t) (kept : KeepsLinks links later)
-    (drafts : (v : ℕ) → (sides_at later v).draft ≡ draft_of t.slots (filter_map (flip_of t) (items_changed changes)) v
+    (drafts : (v : ℕ) → (sides_at later v).draft ≡ draft_of t.slots (filter_map (flipped_slot t) (items_changed changes)) v
     (sides_at links v).now)
   where
     is : IsInside names (get s.slots) t.places.entries links
@@ -267,12 +268,12 @@ module _ (names : Holdings Identifier) (s t : Shelves) (links later : List (Side
 
     next_links : (v : ℕ) → links_at list_next later v
         ≡ changed_links (λ at. joined_pair (get t.slots at)) (full_now t.slots) (full_next t.slots)
-        (filter_map (flip_of t) (items_changed changes))
+        (filter_map (flipped_slot t) (items_changed changes))
         (links_at list_now links) v
     next_links v =
         ap (λ d. unwrap_or d (sides_at later v).now) (drafts v)
-        ∙ ap (unwrap_or (draft_of t.slots (filter_map (flip_of t) (items_changed changes)) v (sides_at links v).now)) (kept.now v)
-        ∙ drafted_links t.slots (filter_map (flip_of t) (items_changed changes)) (links_at list_now links) now_side.listed
+        ∙ ap (unwrap_or (draft_of t.slots (filter_map (flipped_slot t) (items_changed changes)) v (sides_at links v).now)) (kept.now v)
+        ∙ drafted_links t.slots (filter_map (flipped_slot t) (items_changed changes)) (links_at list_now links) now_side.listed
         (all_touched t shelved used (items_changed changes) out.within) v
 
     pub inside_drafted : IsInside names (get t.slots) t.places.entries later
@@ -288,16 +289,16 @@ module _ (names : Holdings Identifier) (s t : Shelves) (links later : List (Side
       next_side =
           side_same list_next (get t.slots) t.places.entries
           (changed_links (λ at. joined_pair (get t.slots at)) (full_now t.slots) (full_next t.slots)
-          (filter_map (flip_of t) (items_changed changes))
+          (filter_map (flipped_slot t) (items_changed changes))
           (links_at list_now links))
           (links_at list_next later) next_links
           (record {
             lists = all_lists t.places.entries (λ e h. h);
             listed = changed_listed (λ at. joined_pair (get t.slots at)) (full_now t.slots) (full_next t.slots)
-                (filter_map (flip_of t) (items_changed changes)) (links_at list_now links)
+                (filter_map (flipped_slot t) (items_changed changes)) (links_at list_now links)
                 now_side.listed (all_touched t shelved used (items_changed changes) out.within);
             once = λ v. changed_apart (λ at. joined_pair (get t.slots at)) (full_now t.slots) (full_next t.slots) v
-                (filter_map (flip_of t) (items_changed changes)) (links_at list_now links)
+                (filter_map (flipped_slot t) (items_changed changes)) (links_at list_now links)
                 now_side.listed (touched_apart t shelved (items_changed changes) out.apart) (now_side.once v);
           });
     }

@@ -60,8 +60,8 @@ flip_in slots None = None
 flip_in slots (Some at) = cond (exactly_one (full_now slots at) (full_next slots at)) (Some at) None
 
 -- the slot of an item, where it does
-abbrev pub flip_of : Shelves → Item → Option ℕ
-flip_of s x = flip_in s.slots (slot_of_item s x)
+abbrev pub flipped_slot : Shelves → Item → Option ℕ
+flipped_slot s x = flip_in s.slots (slot_of_item s x)
 
 -- drafts stand at these places alone, each of which is named once
 pub record AreExactlyDrafted (ways : List (ℕ × List LinkSeen)) (links : List (Sides LinkSeen)) : Type 0 where

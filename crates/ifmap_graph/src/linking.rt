@@ -6,7 +6,7 @@ ghost use Rattle.slab.specs.Slab.{get};
 ghost use Rattle.ifmap_view.specs.declared.views.LinkSeen.{LinkSeen};
 ghost use Rattle.ifmap_graph.specs.Joined.{joined_pair, two_of};
 ghost use Rattle.ifmap_graph.specs.Linked.{far_of, seen_at};
-ghost use Rattle.ifmap_graph.specs.Touched.{AreExactlyDrafted, ArePairs, KeepsLinks, TouchesOne, begun_draft, brought_link, exactly_one, draft_of, flip_in, flip_of, full_next, full_now, links_kept, touched_draft};
+ghost use Rattle.ifmap_graph.specs.Touched.{AreExactlyDrafted, ArePairs, KeepsLinks, TouchesOne, begun_draft, brought_link, exactly_one, draft_of, flip_in, flipped_slot, full_next, full_now, links_kept, touched_draft};
 ghost use Rattle.ifmap_graph.specs.Turning.{sides_at};
 
 use crate::ends::ItemEnds;
@@ -70,7 +70,7 @@ fn is_flipped(slots: &Slab<Shelf>, at: usize) -> bool
 
 // The slot of an item, where it comes to be full or empty.
 fn flipped_slot(shelves: &Shelves, item: &Item) -> Option<usize>
-    ensures { result ≡ flip_of shelves.now item.now }
+    ensures { result ≡ flipped_slot shelves.now item.now }
 {
     match shelves.places.get(item) {
         Some(at) => slot_if_flipped(&shelves.slots, *at),
@@ -105,7 +105,7 @@ pub(crate) fn flipped_slots(
     changes: &[ItemChange],
 ) -> Result<Vec<usize>, NoMemory>
     ensures { IfOk result (λ touched. touched.items
-        ≡ filter_map (λ c. flip_of shelves.now c.item) changes.now) }
+        ≡ filter_map (λ c. flipped_slot shelves.now c.item) changes.now) }
 {
     let mut touched = Vec::new(alloc);
     for change in changes {
