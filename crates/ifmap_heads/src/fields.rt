@@ -45,7 +45,7 @@ pub(crate) fn has_field(name: &[u8], headers: &[Header<'_>]) -> bool
 }
 
 // Each field of the name has that value.
-pub(crate) fn has_only(name: &[u8], value: &[u8], headers: &[Header<'_>]) -> bool
+pub(crate) fn has_only_value(name: &[u8], value: &[u8], headers: &[Header<'_>]) -> bool
     ensures { result ≡ list_all (λ v. bytes_eq v value.now)
         (values name.now (map header_parts headers.now)) }
 {

@@ -10,7 +10,7 @@ ghost use Rattle.ifmap_heads.specs.Posts.{is_client_name, judge_parts, lacks_len
 ghost use Rattle.ifmap_heads.specs.Starts.{StartsPost, judgement_of};
 
 use crate::beginnings::ends_in_target;
-use crate::fields::{common_length, has_field, has_only, lists, next_value};
+use crate::fields::{common_length, has_field, has_only_value, lists, next_value};
 use crate::{LONGEST_HEAD, MOST_FIELDS};
 use http::{Method, StatusCode};
 use http_header::{CONNECTION, CONTENT_ENCODING, CONTENT_LENGTH, TRANSFER_ENCODING};
@@ -148,7 +148,7 @@ fn is_encoded(headers: &[Header<'_>]) -> bool
         (values (codes "content-encoding") (map header_parts headers.now)))) }
 {
     has_field(TRANSFER_ENCODING.as_bytes(), headers)
-        || !has_only(CONTENT_ENCODING.as_bytes(), b"identity", headers)
+        || !has_only_value(CONTENT_ENCODING.as_bytes(), b"identity", headers)
 }
 
 // There is a `content-length`.

@@ -3,7 +3,7 @@ use Rattle.std.specs.List.{list_all}
 use Rattle.std.specs.Str.{bytes_eq}
 use Rattle.httparse.specs.Borrowed.{header_parts}
 use Rattle.ifmap_heads.specs.Fields.{values}
-use Rattle.ifmap_heads.proofs.fields.has_only.Given as goal
+use Rattle.ifmap_heads.proofs.fields.has_only_value.Given as goal
 
 abbrev pub invariant-loop-header : goal.invariant-loop-header
 invariant-loop-header l =
