@@ -33,7 +33,7 @@ use ifmap_steps::Steps;
 use ifmap_tellings::tellings::{Pending, queue_news};
 use ifmap_tellings::{
     GraphChange, NewsAndWays, Standing, Ways, same_links_keep_subscriptions,
-    same_marks_keep_subscriptions, settle, take_back, tell_change,
+    same_marks_keep_subscriptions, settle, take_change_back, tell_change,
 };
 use std::alloc::{AllocError as NoMemory, Global};
 use std::sync::ledger::Ledger;
@@ -220,7 +220,7 @@ fn take_back_all(standing: &mut Vec<Standing>, ways: Ways)
     ensures { (before : List Standing) → LeadBack before ways standing.old.items
         → AtEach (λ _. StaysRelated KeepsSame) before standing.new.items }
 {
-    take_back(standing, ways);
+    take_change_back(standing, ways);
 }
 
 /// A change stays as it is, for good, while some subscriptions are still to stand, whose starts are

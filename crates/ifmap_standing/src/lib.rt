@@ -16,4 +16,4 @@ pub use ifmap_machine::{
 pub use standing::Standing;
 pub use tell_changes::{NewsAndWays, tell_change};
 pub use telling::{GraphChange, News};
-pub use ways::{Ways, settle, take_back};
+pub use ways::{Ways, settle, take_change_back};

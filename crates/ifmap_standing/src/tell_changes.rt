@@ -19,7 +19,7 @@ ghost use Rattle.ifmap_view.specs.Views.{IsView};
 
 use crate::standing::Standing;
 use crate::telling::{Differences, GraphChange, LocatedGraphChange, News, news_of};
-use crate::ways::{Ways, take_back, take_back_one};
+use crate::ways::{Ways, take_back_one, take_change_back};
 use ifmap_delta::{Moved, SubUndo, Subscription, locate_plan};
 use ifmap_elem::Many;
 use ifmap_steps::Steps;
@@ -101,7 +101,7 @@ pub fn tell_change<G: View, D: View, L: Ledger>(
             let ways = Ways {
                 of_each: records.ways,
             };
-            take_back(standing, ways);
+            take_change_back(standing, ways);
             Err(no_memory)
         }
     }

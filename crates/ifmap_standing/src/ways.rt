@@ -29,7 +29,7 @@ impl Model for Ways {
 /// before. The ways of changes before it lead back still. It takes no memory.
 ///
 /// Numbers of the change that had no mark may have a row without one afterwards.
-pub fn take_back(standing: &mut [Standing], ways: Ways)
+pub fn take_change_back(standing: &mut [Standing], ways: Ways)
     requires { (before : List Standing) × LeadBack before ways standing.old }
     ensures { (before : List Standing) → LeadBack before ways standing.old
         → AtEach (λ _. StaysRelated KeepsSame) before standing.new }

@@ -15,7 +15,7 @@ pub use ifmap_standing::{
     Answer, Ask, Author, Event, GraphChange, NewsAndWays, PublishOp, Reply, Request,
     SESSION_SECONDS, Sessions, Standing, SubscribeOp, Subscribed, Subscription, Ways, Who,
     clients_fold_fresh_results, fresh, named_size, numbers_keep_walks, plan,
-    publishing_keeps_graphs, retract, retracting_keeps_graphs, settle, subscribe, take_back,
+    publishing_keeps_graphs, retract, retracting_keeps_graphs, settle, subscribe, take_change_back,
     tell_change, write_reply,
 };
 pub use tellings::{

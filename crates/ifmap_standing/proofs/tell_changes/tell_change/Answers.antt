@@ -27,15 +27,16 @@ returns-in_err-with_capacity-clause-steps g c =
     in let new = view_seen g.D.View.rows g.D.View.id_at g.D.View.links c.args.change.now.draft.now
     in within_none old new (zip c.args.skipped.now c.args.standing.now) c.args.steps.now
 
-pub take_back-requires : goal.take_back-requires
-take_back-requires g c = (c.args.standing.now, c.tell_all.ensures.ways)
+pub take_change_back-requires : goal.take_change_back-requires
+take_change_back-requires g c = (c.args.standing.now, c.tell_all.ensures.ways)
 
 pub returns-in-Err-clause-err : goal.returns-in-Err-clause-err
-returns-in-Err-clause-err g c = c.take_back.ensures c.args.standing.now c.tell_all.ensures.ways
+returns-in-Err-clause-err g c = c.take_change_back.ensures c.args.standing.now c.tell_all.ensures.ways
 
 pub returns-in-Err-clause-same : goal.returns-in-Err-clause-same
 returns-in-Err-clause-same g c =
-    keep_searches c.args.standing.now c.take_back.new.standing (c.take_back.ensures c.args.standing.now c.tell_all.ensures.ways)
+    keep_searches c.args.standing.now c.take_change_back.new.standing
+    (c.take_change_back.ensures c.args.standing.now c.tell_all.ensures.ways)
 
 pub returns-in-Ok-clause-same : goal.returns-in-Ok-clause-same
 returns-in-Ok-clause-same g c =

@@ -1,7 +1,7 @@
 use Rattle.std.proofs.Common.{◌≡◌, rules, [], length, arith}
 use Rattle.ifmap_standing.proofs.Places.{down_last, down_step}
 use Rattle.ifmap_standing.proofs.Undoing.{IsUndone, lead_at, undone}
-use Rattle.ifmap_standing.proofs.ways.take_back.Goals as goal
+use Rattle.ifmap_standing.proofs.ways.take_change_back.Goals as goal
 
 pub take_back_one-requires : goal.take_back_one-requires
 take_back_one-requires c =
