@@ -160,11 +160,11 @@ pub fn place_of_name(standing: &[Standing], serial: u64, name: &Text) -> Result<
         ≡ put standing_order (standing_of x) (map standing_of standing.now)) }
     ensures within { IfErr result (λ at. at ≤ length standing.now) }
 {
-    standing.binary_search_by(|other| name_order(other, serial, name))
+    standing.binary_search_by(|other| order_to_name(other, serial, name))
 }
 
 // How a subscription stands to that of a session under a name.
-fn name_order(one: &Standing, serial: u64, name: &Text) -> Ordering
+fn order_to_name(one: &Standing, serial: u64, name: &Text) -> Ordering
     ensures { result ≡ order_to_name serial name.now one.now }
 {
     one.order(serial, name)
