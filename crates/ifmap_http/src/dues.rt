@@ -30,7 +30,7 @@ impl HeadProgress {
     }
 
     // The bytes are worth being parsed. The first bytes are, and bytes past the limit always are.
-    pub(crate) fn is_due(&mut self, bytes: &[u8]) -> bool
+    pub(crate) fn is_worth_parsing(&mut self, bytes: &[u8]) -> bool
         ensures within { OnFalse result (length bytes.now ≤ longest_head) }
         ensures first { OnFalse result (self.old.parsed ≡ 0 → bytes.now ≡ []) }
     {

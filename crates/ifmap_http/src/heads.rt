@@ -95,7 +95,7 @@ fn look_at_post(alloc: Global, progress: &mut HeadProgress, bytes: &[u8]) -> Opt
         → AwaitsPost bytes.now left awaited) }
     ensures never { IfSome result (λ awaited. awaited ≢ AwaitedPost.ReadFault) }
 {
-    if !progress.is_due(bytes) {
+    if !progress.is_worth_parsing(bytes) {
         return None;
     }
     match read_post_head(alloc, bytes) {
@@ -160,7 +160,7 @@ fn look_at_answer(progress: &mut HeadProgress, bytes: &[u8]) -> Option<AwaitedAn
         → AwaitsAnswer bytes.now left awaited) }
     ensures never { IfSome result (λ awaited. awaited ≢ AwaitedAnswer.ReadFault) }
 {
-    if !progress.is_due(bytes) {
+    if !progress.is_worth_parsing(bytes) {
         return None;
     }
     match read_answer_head(bytes) {
