@@ -109,7 +109,7 @@ impl Lines {
         if self.ended {
             return false;
         }
-        is_due(self.pending_bytes(), offset)
+        is_line_open(self.pending_bytes(), offset)
     }
 
     // The place of the newline of the line that begins at that offset, for which no more is to be
@@ -201,7 +201,7 @@ fn is_within(length: usize, offset: u64) -> bool
 
 // More bytes are to be taken for the line that begins there: there is none, or no newline is among
 // them and that of a line still can come.
-fn is_due(pending: &[u8], offset: u64) -> bool
+fn is_line_open(pending: &[u8], offset: u64) -> bool
     requires { offset ≤ longest_script + 1 }
     ensures yes { OnTrue result (AwaitsLine offset pending.now) }
     ensures no { OnFalse result (AwaitsLine offset pending.now → ⊥) }
