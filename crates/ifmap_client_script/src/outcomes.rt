@@ -51,7 +51,7 @@ impl From<NoMemory> for ScriptFailure {
 }
 
 // How a script ends that stops at that line.
-pub(crate) fn outcome_of(failure: ScriptFailure, line: u64) -> Outcome
+pub(crate) fn outcome_at_line(failure: ScriptFailure, line: u64) -> Outcome
     ensures { result ≡ script_outcome failure line }
 {
     match failure {

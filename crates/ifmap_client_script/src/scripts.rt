@@ -12,7 +12,7 @@ ghost use Rattle.ifmap_client_script.specs.Turns.{DoesNext, IsBeginning, IsNextL
 use crate::clients::Client;
 use crate::exchanges::Caller;
 use crate::lines::Lines;
-use crate::outcomes::{Outcome, ScriptFailure, outcome_of};
+use crate::outcomes::{Outcome, ScriptFailure, outcome_at_line};
 use crate::outlets::{Outlets, SinkAndWires};
 use ifmap_client::laws::lines_mean_one_thing;
 use ifmap_client::{Line, line_of};
@@ -139,7 +139,7 @@ impl Script {
             match self.turn(alloc, caller, source, outlets) {
                 Ok(ScriptTurn::Carried) => {}
                 Ok(ScriptTurn::Ended) => return Outcome::Done,
-                Err(failure) => return outcome_of(failure, self.line),
+                Err(failure) => return outcome_at_line(failure, self.line),
             }
         }
     }

@@ -64,7 +64,7 @@ returns-in-Err-clause-carried g c =
     let line = ap (λ (t : Scripting). t.line) c.self.view_is ∙ c.in-Err.ensures.line in
     record {
       promises = ends_with c.args.caller.now before now after c.lines.self c.lines.invariant.0 c.turn.new.self c.in-Err.failure
-          c.self.inside.line c.outcome_of.result c.outcome_of.ensures line c.in-Err.ensures.turns;
+          c.self.inside.line c.outcome_at_line.result c.outcome_at_line.ensures line c.in-Err.ensures.turns;
       later = later_ends before now after c.lines.invariant.0.later c.in-Err.ensures.later;
     }
 
