@@ -224,14 +224,18 @@ fn next_line<S: Source>(
     ensures later { S.faults source.old ≤ S.faults source.new }
 {
     match lines.await_line(source, offset) {
-        Ok(Some(place)) => next_at(alloc, lines.pending_bytes(), place),
+        Ok(Some(place)) => next_line_at(alloc, lines.pending_bytes(), place),
         Ok(None) => Ok(None),
         Err(failure) => Err(failure),
     }
 }
 
 // The line whose newline stands at that place.
-fn next_at(alloc: Global, pending: &[u8], place: usize) -> Result<Option<NextLine>, ScriptFailure>
+fn next_line_at(
+    alloc: Global,
+    pending: &[u8],
+    place: usize,
+) -> Result<Option<NextLine>, ScriptFailure>
     requires { place < length pending.now }
     ensures { ReadsAt pending.now place result }
 {
