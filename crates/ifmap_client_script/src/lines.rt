@@ -90,7 +90,7 @@ impl Lines {
             → Rose (S.faults source.old) (S.faults source.new) }
         ensures later { S.faults source.old ≤ S.faults source.new }
     {
-        'line: while self.is_waiting(offset) {
+        'line: while self.needs_more(offset) {
             match self.fill(source) {
                 Ok(()) => {}
                 Err(failure) => return Err(failure),
@@ -101,7 +101,7 @@ impl Lines {
 
     // More is to be taken for the line that begins at that offset, and the source has not told its
     // end.
-    fn is_waiting(&self, offset: u64) -> bool
+    fn needs_more(&self, offset: u64) -> bool
         requires { offset ≤ longest_script + 1 }
         ensures yes { OnTrue result (NeedsMore offset self.now) }
         ensures no { OnFalse result (IsGathered offset self.now) }
