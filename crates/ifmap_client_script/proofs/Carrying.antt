@@ -24,7 +24,7 @@ use Rattle.ifmap_client_script.specs.Outlets.{AreUnspent, AsksBy, AsksOver, IsAs
 use Rattle.ifmap_client_script.specs.Printing.{body_text, set_text}
 use Rattle.ifmap_client_script.specs.Promises.{Broken, Cutting, Exchanged, IsWholePost}
 use Rattle.ifmap_client_script.specs.ScriptFailures.{IsNamedOrBadLine, SendsText}
-use Rattle.ifmap_client_script.specs.Turns.{CarriesOut, Cut, Unanswered}
+use Rattle.ifmap_client_script.specs.Turns.{CarriesOut, PartlyWritten, Unanswered}
 use Rattle.ifmap_io.specs.Rises.{keeps_appends}
 
 -- a wire that is as it was, was asked nothing
@@ -149,7 +149,7 @@ module _ (caller : Caller) (sent : Request) (before after : Ports) (unspent : Ar
     module _ (told : ReadReply) (w : AsksBy (is_poll sent) caller sent before after (Ok told)) where
       -- a reply was told, but not written whole
       cut_at : (n : ℕ) → Appends before.held after.held (take n (body_text told.body))
-          → Cut caller (the_line.Request request) before after known
+          → PartlyWritten caller (the_line.Request request) before after known
       cut_at n wrote = record {
         deed = deed.asked (exchange_of sent told);
         does = (named, told_means told (is_poll sent) w);
@@ -280,7 +280,7 @@ module _ (caller : Caller) (known : Known) (before : Ports) (unspent : AreUnspen
     }
 
     set_cut : (n : ℕ) → Appends before.held after.held (take n (set_text (known.sets name)))
-        → Cut caller (the_line.Set name) before after known
+        → PartlyWritten caller (the_line.Set name) before after known
     set_cut n wrote = record {
       deed = deed.printed name;
       does = refl;

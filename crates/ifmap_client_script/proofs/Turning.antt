@@ -17,7 +17,7 @@ use Rattle.ifmap_client_script.specs.Ends.{SourceAndPorts, Ports, source_and_por
 use Rattle.ifmap_client_script.specs.Exchanges.{HasAny, IsFrontOfPost}
 use Rattle.ifmap_client_script.specs.Holding.{known_of}
 use Rattle.ifmap_client_script.specs.TakenBytes.{Fetches, TakenBytes}
-use Rattle.ifmap_client_script.specs.Turns.{Cut, DoesNext, IsNextLine, ReadsNext, Scripting, TakesLine, IsScriptTurn, Unanswered}
+use Rattle.ifmap_client_script.specs.Turns.{PartlyWritten, DoesNext, IsNextLine, ReadsNext, Scripting, TakesLine, IsScriptTurn, Unanswered}
 use Rattle.ifmap_client_script.proofs.Beginnings.{bad_at, begins_at}
 
 -- the script with what is pending now
@@ -51,7 +51,7 @@ module _ (caller : Caller) (left left_new : Option (List ℕ)) (faults faults_ne
 
     memory : ((after ≡ before)
         ⊎ (Unanswered caller next.line before after (known_of old.client) IsFrontOfPost HasAny
-        ⊎ Cut caller next.line before after (known_of old.client)))
+        ⊎ PartlyWritten caller next.line before after (known_of old.client)))
         → IsScriptTurn caller from_ends to_ends old new (Err failure.NoMemory)
     memory (inl same) =
         inl (record { lost = record { got = read.0.got; consumed = read.0.consumed; idle = λ e. (read.0.idle e).1 }; kept = same })

@@ -29,7 +29,7 @@ module _ (caller : Caller) (line : Line) (before after : Ports) (old : Known) wh
     pub did : Did caller before after old (deed ∷ [])
 
   -- it was carried out, but what is written for it was cut
-  pub record Cut : Type 0 where
+  pub record PartlyWritten : Type 0 where
     pub deed : Deed
     pub does : IsDeedFor old line deed
     pub wrote : Wrote caller before after old [] deed
@@ -47,13 +47,13 @@ abbrev pub CarriesOut : Caller → Line → (before after : Ports) → (old new 
 CarriesOut caller line before after old new (Ok _) = Carried caller line before after old new
 CarriesOut caller line before after old new (Err failure.BadLine) = (CanDo old line → ⊥) × (after ≡ before)
 CarriesOut caller line before after old new (Err failure.ReadFault) = ⊥
-CarriesOut caller line before after old new (Err failure.WriteFault) = Cut caller line before after old × PrintFailed before after
+CarriesOut caller line before after old new (Err failure.WriteFault) = PartlyWritten caller line before after old × PrintFailed before after
 CarriesOut caller line before after old new (Err failure.LinkFault) =
     Unanswered caller line before after old IsFrontOfPost HasAny × LinkFailed before after
 CarriesOut caller line before after old new (Err failure.LinkEnded) = Unanswered caller line before after old IsWholePost HasPart
 CarriesOut caller line before after old new (Err failure.BadReply) = Unanswered caller line before after old IsWholePost HasNoReply
 CarriesOut caller line before after old new (Err failure.NoMemory) =
-    (after ≡ before) ⊎ (Unanswered caller line before after old IsFrontOfPost HasAny ⊎ Cut caller line before after old)
+    (after ≡ before) ⊎ (Unanswered caller line before after old IsFrontOfPost HasAny ⊎ PartlyWritten caller line before after old)
 
 -- ---- a turn
 
@@ -161,7 +161,7 @@ module _ (caller : Caller) (before after : SourceAndPorts) (old : Scripting) whe
   pub record IsCutShort : Type 0 where
     pub line : Line
     pub takes : TakesLine before after old line
-    pub cut : Cut caller line before.ports after.ports (known_of old.client)
+    pub cut : PartlyWritten caller line before.ports after.ports (known_of old.client)
 
   -- no reply came to the request of a line
   pub record IsLeft (IsCut : Cutting) (Has : List ℕ → Type 0) : Type 0 where
