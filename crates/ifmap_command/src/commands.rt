@@ -7,7 +7,7 @@ ghost use Rattle.ifmap_command.specs.Words.{Asks};
 use crate::forms::{Form, drill_of, serve_of};
 use clap::{ArgMatches, Command};
 use ifmap_words::has_option;
-use ifmap_words::pairs::{Pair, lacks_memory, pair_command, pair_of};
+use ifmap_words::pairs::{Pair, lacks_memory, pair_command, pair_in};
 use std::alloc::{AllocError as NoMemory, Global};
 
 const REPLAY: &str = "replay";
@@ -52,7 +52,7 @@ fn form_in(alloc: Global, matches: &ArgMatches<'_>) -> Result<Form, NoMemory>
     let Some((name, given)) = matches.subcommand() else {
         return Ok(Form::Wrong);
     };
-    form_named(alloc, name, pair_of(given))
+    form_named(alloc, name, pair_in(given))
 }
 
 // What a name and the two words after it, where there are two, ask for.

@@ -36,7 +36,7 @@ pub fn two_words<'a>(
         return Ok(None);
     }
     match pair_command(alloc, name)?.try_get_matches_from(words) {
-        Ok(matches) => Ok(pair_of(&matches)),
+        Ok(matches) => Ok(pair_in(&matches)),
         Err(error) if lacks_memory(&error) => Err(NoMemory),
         Err(_) => Ok(None),
     }
@@ -55,7 +55,7 @@ pub fn pair_command<'a>(alloc: Global, name: &'a str) -> Result<Command<'a>, NoM
 }
 
 /// The two words that the command took. It takes no memory.
-pub fn pair_of<'a>(matches: &ArgMatches<'a>) -> Option<Pair<'a>>
+pub fn pair_in<'a>(matches: &ArgMatches<'a>) -> Option<Pair<'a>>
     ensures { HasPair (rows_of (found_of matches.now)) result }
 {
     let first = matches.get_str(FIRST)?;

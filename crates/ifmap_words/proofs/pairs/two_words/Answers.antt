@@ -19,16 +19,16 @@ returns-in-Ok-clause-some c =
     let words = map string_bytes c.args.words.now in
     let plain : list_any is_option words ≡ false =
     sym (list_any-map is_option string_bytes c.args.words.now) ∙ sym c.has_option.ensures ∙ c.if-has_option.false in
-    some_pair (app_of c.in_ok-pair_command.field-0) c.args.name.now words (rows_of (found_of c.in-Ok.matches)) _ c.pair_of.result
-    c.in_ok-pair_command.ensures.app plain c.in-Ok.ensures.kinds c.in-Ok.ensures.matches c.pair_of.ensures
+    some_pair (app_of c.in_ok-pair_command.field-0) c.args.name.now words (rows_of (found_of c.in-Ok.matches)) _ c.pair_in.result
+    c.in_ok-pair_command.ensures.app plain c.in-Ok.ensures.kinds c.in-Ok.ensures.matches c.pair_in.ensures
 
 pub returns-in-Ok-clause-none : goal.returns-in-Ok-clause-none
 returns-in-Ok-clause-none c =
     let words = map string_bytes c.args.words.now in
     let plain : list_any is_option words ≡ false =
     sym (list_any-map is_option string_bytes c.args.words.now) ∙ sym c.has_option.ensures ∙ c.if-has_option.false in
-    no_pair_missed (app_of c.in_ok-pair_command.field-0) c.args.name.now words (rows_of (found_of c.in-Ok.matches)) _ c.pair_of.result _
-    c.in_ok-pair_command.ensures.app plain c.in-Ok.ensures.kinds c.in-Ok.ensures.matches c.pair_of.ensures
+    no_pair_missed (app_of c.in_ok-pair_command.field-0) c.args.name.now words (rows_of (found_of c.in-Ok.matches)) _ c.pair_in.result _
+    c.in_ok-pair_command.ensures.app plain c.in-Ok.ensures.kinds c.in-Ok.ensures.matches c.pair_in.ensures
 
 pub returns-clause-none : goal.returns-clause-none
 returns-clause-none c =

@@ -1,7 +1,7 @@
 use Rattle.clap.specs.Words.{found_of}
 use Rattle.ifmap_words.proofs.Reading.{missing, present}
 use Rattle.ifmap_words.specs.Pairs.{first_id, second_id}
-use Rattle.ifmap_words.proofs.pairs.pair_of.Goals as goal
+use Rattle.ifmap_words.proofs.pairs.pair_in.Goals as goal
 
 pub returns-in_err-first : goal.returns-in_err-first
 returns-in_err-first c = λ x y first second.
