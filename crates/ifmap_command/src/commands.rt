@@ -4,7 +4,7 @@ ghost use Rattle.clap.specs.Words.{app_of, subcommand_rows_of};
 ghost use Rattle.ifmap_command.specs.Commands.{FindsCommand, NamesCommand, command_app};
 ghost use Rattle.ifmap_command.specs.Words.{Asks};
 
-use crate::forms::{Form, drill_of, serve_of};
+use crate::forms::{Form, drill_form, serve_form};
 use clap::{ArgMatches, Command};
 use ifmap_words::has_option;
 use ifmap_words::pairs::{Pair, lacks_memory, pair_command, pair_in};
@@ -67,7 +67,7 @@ fn form_named(alloc: Global, name: &str, pair: Option<Pair<'_>>) -> Result<Form,
         return Ok(Form::Wrong);
     };
     if name == DRILL {
-        return Ok(drill_of(pair.first, pair.second));
+        return Ok(drill_form(pair.first, pair.second));
     }
-    serve_of(alloc, pair.first, pair.second)
+    serve_form(alloc, pair.first, pair.second)
 }

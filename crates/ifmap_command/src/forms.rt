@@ -43,7 +43,7 @@ pub fn form_of(alloc: Global, words: &[String]) -> Form
 }
 
 // What two words after `drill` ask for.
-pub(crate) fn drill_of(key: &str, count: &str) -> Form
+pub(crate) fn drill_form(key: &str, count: &str) -> Form
     ensures { Asks (codes "drill" ∷ key.now ∷ count.now ∷ []) result }
 {
     let Some(key) = decimal_number(key) else {
@@ -56,7 +56,7 @@ pub(crate) fn drill_of(key: &str, count: &str) -> Form
 }
 
 // What two words after `serve` ask for, of which the first is no option.
-pub(crate) fn serve_of(alloc: Global, address: &str, workers: &str) -> Result<Form, NoMemory>
+pub(crate) fn serve_form(alloc: Global, address: &str, workers: &str) -> Result<Form, NoMemory>
     ensures { is_option address.now ≡ false → IfOk result
         (Asks (codes "serve" ∷ address.now ∷ workers.now ∷ [])) }
 {
