@@ -38,16 +38,16 @@ pub fn header_of(alloc: Global, line: &[u8]) -> Result<Option<Header>, NoMemory>
     ensures none { IfOk result (λ found. IfNone found ((header : Header) → IsHeader line.now header
         → ⊥)) }
 {
-    let Some(words) = words_of(line) else {
+    let Some(words) = split_words(line) else {
         return Ok(None);
     };
     let Some(moment) = moment_of(words.moment) else {
         return Ok(None);
     };
-    let Some(random) = word_of(words.random) else {
+    let Some(random) = hex_word(words.random) else {
         return Ok(None);
     };
-    let Some(size) = size_of(words.size) else {
+    let Some(size) = body_size(words.size) else {
         return Ok(None);
     };
     let Some(client) = ClientName::new(Text::from_str(alloc, words.client)?) else {
@@ -70,7 +70,7 @@ struct Words<'a> {
     size: &'a str,
 }
 
-fn words_of(line: &[u8]) -> Option<Words<'_>>
+fn split_words(line: &[u8]) -> Option<Words<'_>>
     ensures { MatchOption result
         (IsUtf8 line.now → (m c r s : List ℕ) → AreWords line.now m c r s → ⊥)
         (λ w. AreWords line.now w.moment.now w.client.now w.random.now w.size.now) }
@@ -125,7 +125,7 @@ fn moment_of(text: &str) -> Option<Moment>
     Moment::new(decimal_number(text)?)
 }
 
-fn size_of(text: &str) -> Option<u32>
+fn body_size(text: &str) -> Option<u32>
     ensures { MatchOption result
         ((n : ℕ) → n ≤ longest_body → text.now ≢ decimal n)
         (λ n. (n ≤ longest_body) × (text.now ≡ decimal n)) }
@@ -139,7 +139,7 @@ fn size_of(text: &str) -> Option<u32>
 }
 
 // The word that a text writes in 32 hexadecimal digits in lower case.
-fn word_of(text: &str) -> Option<u128>
+fn hex_word(text: &str) -> Option<u128>
     ensures { MatchOption result
         ((n : ℕ) → n < 2 ^ 128 → text.now ≢ word_text n)
         (λ n. (n < 2 ^ 128) × (text.now ≡ word_text n)) }

@@ -17,16 +17,16 @@ returns-in_default-moment_of-clause-none c = λ h is.
     c.in_default-moment_of.ensures h.moment is.moment (header_shares c.args.line.now w.moment.now w.client.now w.random.now w.size.now
     c.in-Some.ensures h is).moment
 
-pub returns-in_default-word_of-clause-none : goal.returns-in_default-word_of-clause-none
-returns-in_default-word_of-clause-none c = λ h is.
+pub returns-in_default-hex_word-clause-none : goal.returns-in_default-hex_word-clause-none
+returns-in_default-hex_word-clause-none c = λ h is.
     let w = c.in-Some.words in
-    c.in_default-word_of.ensures h.random is.random (header_shares c.args.line.now w.moment.now w.client.now w.random.now w.size.now
+    c.in_default-hex_word.ensures h.random is.random (header_shares c.args.line.now w.moment.now w.client.now w.random.now w.size.now
     c.in-Some.ensures h is).random
 
-pub returns-in_default-size_of-clause-none : goal.returns-in_default-size_of-clause-none
-returns-in_default-size_of-clause-none c = λ h is.
+pub returns-in_default-body_size-clause-none : goal.returns-in_default-body_size-clause-none
+returns-in_default-body_size-clause-none c = λ h is.
     let w = c.in-Some.words in
-    c.in_default-size_of.ensures h.size is.size (header_shares c.args.line.now w.moment.now w.client.now w.random.now w.size.now
+    c.in_default-body_size.ensures h.size is.size (header_shares c.args.line.now w.moment.now w.client.now w.random.now w.size.now
     c.in-Some.ensures h is).size
 
 pub returns-in_default-new-clause-none : goal.returns-in_default-new-clause-none

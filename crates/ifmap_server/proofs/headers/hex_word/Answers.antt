@@ -3,7 +3,7 @@ use Rattle.std.proofs.lemmas.Slice.Eq.{bytes_eq-Decides}
 use Rattle.std.specs.Int.{to_be_bytes, from_be_bytes, w128}
 use Rattle.uuid.specs.Text.{lower, simple_text}
 use Rattle.ifmap_server.proofs.Cuts.{word_parsed, word_back}
-use Rattle.ifmap_server.proofs.headers.word_of.Goals as goal
+use Rattle.ifmap_server.proofs.headers.hex_word.Goals as goal
 use Rattle.ifmap_lemmas.specs.Texts.{differs}
 
 pub returns-in_default : goal.returns-in_default

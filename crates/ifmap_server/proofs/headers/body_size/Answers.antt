@@ -1,7 +1,7 @@
 use Rattle.std.proofs.Common.{arith}
 use Rattle.ifmap_server.specs.Frames.{longest_body}
 use Rattle.ifmap_server.proofs.Cuts.{number_beyond}
-use Rattle.ifmap_server.proofs.headers.size_of.Goals as goal
+use Rattle.ifmap_server.proofs.headers.body_size.Goals as goal
 
 pub returns-else-size-le-LONGEST_BODY : goal.returns-else-size-le-LONGEST_BODY
 returns-else-size-le-LONGEST_BODY c =
