@@ -133,7 +133,7 @@ fn begin_at<L: Ledger>(
         Subscribed::Kept {
             subscription,
             found,
-        } => keep_name(alloc, wanted.serial, wanted.name, subscription, found),
+        } => keep_subscription(alloc, wanted.serial, wanted.name, subscription, found),
         Subscribed::TooBig { size } => refuse_name(
             alloc,
             wanted.name,
@@ -145,7 +145,7 @@ fn begin_at<L: Ledger>(
 
 // A subscription stands under a name, and is told what it finds. A result of nearly 2^64 bytes is more
 // than memory holds.
-fn keep_name(
+fn keep_subscription(
     alloc: Global,
     serial: u64,
     name: &Text,
