@@ -161,12 +161,12 @@ fn numbers_of(slots: &Slab<Shelf>, at: usize) -> Option<(u64, u64)>
     ensures { result ≡ joined_pair (get slots.now at) }
 {
     match slots.get(at) {
-        Some(shelf) => pair_of(shelf.ends),
+        Some(shelf) => two_of(shelf.ends),
         None => None,
     }
 }
 
-fn pair_of(ends: ItemEnds) -> Option<(u64, u64)>
+fn two_of(ends: ItemEnds) -> Option<(u64, u64)>
     ensures { result ≡ two_of ends }
 {
     match ends {
