@@ -36,6 +36,13 @@ read_text (Some text) = pass text
 abbrev pub text_field : List ℕ → Field (List ℕ)
 text_field local = record { local = local; reads = λ scope. read_text }
 
+-- the session of a request or of a result, and the publisher that one speaks of
+abbrev pub session_field : Field (List ℕ)
+session_field = text_field (codes "session-id")
+
+abbrev pub publisher_field : Field (List ℕ)
+publisher_field = text_field (codes "ifmap-publisher-id")
+
 -- the most bytes of the name of a subscription
 abbrev pub longest_name : ℕ
 longest_name = 1_000

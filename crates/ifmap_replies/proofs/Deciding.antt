@@ -23,7 +23,7 @@ use Rattle.ifmap_forms.specs.Scopes.{Scopes}
 use Rattle.ifmap_elem.specs.WhiteSpace.{is_blank_part}
 use Rattle.ifmap_forms.specs.Tables.{ContentCheck, ElementForm, Part, AttributeTable, table_with, both, each_element, form_check, no_attributes}
 use Rattle.ifmap_forms.specs.Tables.{members_check, no_children, element_parts, read_form}
-use Rattle.ifmap_forms.specs.Values.{Field, field_check, read_text, text_field}
+use Rattle.ifmap_forms.specs.Values.{Field, field_check, publisher_field, read_text, session_field, text_field}
 use Rattle.ifmap_forms.specs.IdentifierLaws.{identifier_done, identifiers_done}
 use Rattle.ifmap_replies.specs.declared.kinds.PollKind.{PollKind}
 use Rattle.ifmap_replies.specs.declared.kinds.PollKind.TheVariants as told
@@ -182,10 +182,10 @@ module _ (identifier_some : (e : Element) → IsConclusive (identifier_check e))
   result_kind_done : (kind : ResultKind) (e : Element) → IsConclusive (result_kind_check kind e)
   result_kind_done result.NewSession e =
       made_done session_result_form new_session_made
-      (beside_done (text_field (codes "ifmap-publisher-id"))
-      (table_with (word_field (codes "max-poll-result-size")) (table_with (text_field (codes "session-id")) no_attributes)) text_done
-      (beside_done (word_field (codes "max-poll-result-size")) (table_with (text_field (codes "session-id")) no_attributes) word_done
-      (beside_done (text_field (codes "session-id")) no_attributes text_done no_attributes_done)))
+      (beside_done publisher_field (table_with (word_field (codes "max-poll-result-size")) (table_with session_field no_attributes))
+      text_done
+      (beside_done (word_field (codes "max-poll-result-size")) (table_with session_field no_attributes) word_done
+      (beside_done session_field no_attributes text_done no_attributes_done)))
       no_children_done no_scopes e
   result_kind_done result.Renewed e = plain_done result.Renewed reply.Renewed e
   result_kind_done result.Ended e = plain_done result.Ended reply.Ended e

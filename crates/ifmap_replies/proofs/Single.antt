@@ -21,7 +21,7 @@ use Rattle.ifmap_forms.specs.Items.{before_list, from_list, identifier_check, id
 use Rattle.ifmap_forms.specs.SingleLaws.{beside_single, made_single, each_single, read_text_single, list_at_single, no_attributes_single}
 use Rattle.ifmap_forms.specs.SingleLaws.{no_children_single, identifiers_single}
 use Rattle.ifmap_forms.specs.Tables.{Part, table_with, form_check, members_check, no_attributes, element_parts}
-use Rattle.ifmap_forms.specs.Values.{text_field}
+use Rattle.ifmap_forms.specs.Values.{publisher_field, session_field, text_field}
 use Rattle.ifmap_replies.specs.declared.kinds.PollKind.{PollKind}
 use Rattle.ifmap_replies.specs.declared.kinds.PollKind.TheVariants as told
 use Rattle.ifmap_replies.specs.declared.kinds.ResultKind.{ResultKind}
@@ -114,11 +114,10 @@ module _ (identifier_one : (e : Element) → IsSingle (identifier_check e)) wher
   result_kind_single : (kind : ResultKind) (e : Element) → IsSingle (result_kind_check kind e)
   result_kind_single result.NewSession e =
       made_single session_result_form new_session_made
-      (beside_single (text_field (codes "ifmap-publisher-id"))
-      (table_with (word_field (codes "max-poll-result-size")) (table_with (text_field (codes "session-id")) no_attributes)) read_text_single
-      (beside_single (word_field (codes "max-poll-result-size")) (table_with (text_field (codes "session-id")) no_attributes)
-      read_word_single
-      (beside_single (text_field (codes "session-id")) no_attributes read_text_single no_attributes_single)))
+      (beside_single publisher_field (table_with (word_field (codes "max-poll-result-size")) (table_with session_field no_attributes))
+      read_text_single
+      (beside_single (word_field (codes "max-poll-result-size")) (table_with session_field no_attributes) read_word_single
+      (beside_single session_field no_attributes read_text_single no_attributes_single)))
       no_children_single no_scopes e
   result_kind_single result.Renewed e = plain_single result.Renewed reply.Renewed e
   result_kind_single result.Ended e = plain_single result.Ended reply.Ended e

@@ -23,7 +23,7 @@ use Rattle.ifmap_forms.specs.Items.{before_list, from_list, identifiers_check, i
 use Rattle.ifmap_forms.specs.Scopes.{Scopes}
 use Rattle.ifmap_forms.specs.Tables.{Both, ContentCheck, ElementForm, OneText, Part, bare_form, table_with, form_check, members_check, no_attributes}
 use Rattle.ifmap_forms.specs.Tables.{no_children, element_parts}
-use Rattle.ifmap_forms.specs.Values.{text_field}
+use Rattle.ifmap_forms.specs.Values.{publisher_field, session_field, text_field}
 use Rattle.ifmap_replies.specs.declared.kinds.EntriesKind.{EntriesKind}
 use Rattle.ifmap_replies.specs.declared.kinds.EntriesKind.TheVariants as entries
 use Rattle.ifmap_replies.specs.declared.kinds.PollKind.{PollKind}
@@ -185,8 +185,7 @@ SessionValues = Both (List ℕ) (Both ℕ (Both (List ℕ) (Unit {0})))
 abbrev pub session_result_form : ElementForm SessionValues (Unit {0})
 session_result_form =
     bare_form (result_local result.NewSession)
-    (table_with (text_field (codes "ifmap-publisher-id")) (table_with (word_field (codes "max-poll-result-size"))
-    (table_with (text_field (codes "session-id")) no_attributes)))
+    (table_with publisher_field (table_with (word_field (codes "max-poll-result-size")) (table_with session_field no_attributes)))
     no_children
 
 abbrev pub new_session_made : SessionValues → Unit {0} → Reply

@@ -38,7 +38,7 @@ use Rattle.ifmap_elem.specs.Building.{is_name}
 use Rattle.ifmap_forms.specs.Tables.{list_of, no_attributes, no_children, element_parts, read_form}
 use Rattle.ifmap_forms.specs.ifmap_filter.declared.filters.Filter.{Filter}
 use Rattle.ifmap_ident.specs.declared.kinds.Kind.{Kind}
-use Rattle.ifmap_forms.specs.Values.{greatest_limit, least_limit, longest_name}
+use Rattle.ifmap_forms.specs.Values.{greatest_limit, least_limit, longest_name, publisher_field, session_field}
 use Rattle.ifmap_forms.specs.Values.{depth_field, filter_check, filter_field, kinds_field, size_field, Field, field_check, limit_field}
 use Rattle.ifmap_forms.specs.Values.{name_field, number_of_digits, text_field, within_range}
 use Rattle.ifmap_requests.specs.declared.requests.Request.{Request}
@@ -52,8 +52,8 @@ use Rattle.ifmap_envelopes.specs.Spaces.{ifmap_space}
 use Rattle.ifmap_requests.specs.RequestForms.{from_end_session, from_poll, from_purge, from_renewal, from_search, from_subscribe}
 use Rattle.ifmap_requests.specs.RequestForms.{end_session_form, end_session_of, named_request_check, new_session_form}
 use Rattle.ifmap_requests.specs.RequestForms.{new_session_of, notify_form, notify_of, other_request_check, poll_form, poll_of, publish_form}
-use Rattle.ifmap_requests.specs.RequestForms.{publish_of, publish_op_check, publisher_field, purge_form, purge_of, renew_form, renewal_of}
-use Rattle.ifmap_requests.specs.RequestForms.{request_check, search_attributes, search_form, search_of, session_attribute, session_field}
+use Rattle.ifmap_requests.specs.RequestForms.{publish_of, publish_op_check, purge_form, purge_of, renew_form, renewal_of}
+use Rattle.ifmap_requests.specs.RequestForms.{request_check, search_attributes, search_form, search_of, session_attribute}
 use Rattle.ifmap_requests.specs.RequestForms.{subscribe_form, subscribe_of, subscribe_op_check, subscription_form, subscription_from_form}
 use Rattle.ifmap_requests.specs.RequestForms.{update_form, update_from_form}
 use Rattle.ifmap_requests.proofs.FilterLaws.{AreFitDeclared, IsFitScope, filter_fit, scopes_fit}

@@ -29,7 +29,7 @@ use Rattle.ifmap_forms.specs.Scopes.{Scopes, scopes_below}
 use Rattle.ifmap_forms.specs.SingleLaws.{OneOfTable, OneOfContent, beside_single, or_single, each_single, read_text_single, list_at_single}
 use Rattle.ifmap_forms.specs.SingleLaws.{no_attributes_single, no_children_single, identifiers_single, start_single, item_single}
 use Rattle.ifmap_forms.specs.Tables.{table_with, both, form_or, list_of, no_attributes}
-use Rattle.ifmap_forms.specs.Values.{greatest_limit, greatest_size, least_limit, longest_name, usual_size}
+use Rattle.ifmap_forms.specs.Values.{greatest_limit, greatest_size, least_limit, longest_name, publisher_field, session_field, usual_size}
 use Rattle.ifmap_forms.specs.Values.{FilterDefect, depth_field, filter_check, filter_field, kinds_field, lifetime_field, limit_field}
 use Rattle.ifmap_forms.specs.Values.{name_field, size_field, kind_named, kinds_check, number_of_digits, piece_check, pieces_of, read_depth}
 use Rattle.ifmap_forms.specs.Values.{read_filter, read_kinds, read_lifetime, read_limit, read_name, read_size, trim_white, within_range}
@@ -40,8 +40,8 @@ use Rattle.ifmap_requests.specs.RequestForms.{delete_form, delete_from_form, end
 use Rattle.ifmap_requests.specs.RequestForms.{from_end_session, from_poll, from_purge, from_renewal, from_search, from_subscribe}
 use Rattle.ifmap_requests.specs.RequestForms.{named_request_check, new_session_form, new_session_of, notify_form, notify_of}
 use Rattle.ifmap_requests.specs.RequestForms.{other_request_check, poll_form, poll_of, publish_form, publish_of, publish_op_check}
-use Rattle.ifmap_requests.specs.RequestForms.{publisher_field, purge_form, purge_of, renew_form, renewal_of, request_check}
-use Rattle.ifmap_requests.specs.RequestForms.{search_attributes, search_form, search_of, session_attribute, session_field, subscribe_form}
+use Rattle.ifmap_requests.specs.RequestForms.{purge_form, purge_of, renew_form, renewal_of, request_check}
+use Rattle.ifmap_requests.specs.RequestForms.{search_attributes, search_form, search_of, session_attribute, subscribe_form}
 use Rattle.ifmap_requests.specs.RequestForms.{subscribe_of, subscribe_op_check, subscription_form, subscription_from_form, update_form, update_from_form}
 
 -- ---- 1. values

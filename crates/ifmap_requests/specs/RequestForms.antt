@@ -26,7 +26,7 @@ use Rattle.ifmap_forms.specs.Scopes.{Scopes}
 use Rattle.ifmap_forms.specs.Tables.{Both, ContentCheck, ElementForm, OneText, AttributeTable, bare_form, table_with, both, form_or, list_of, no_attributes}
 use Rattle.ifmap_forms.specs.Tables.{no_children, element_parts}
 use Rattle.ifmap_forms.specs.Values.{Field, depth_field, filter_field, kinds_field, lifetime_field, limit_field, name_field, size_field}
-use Rattle.ifmap_forms.specs.Values.{text_field}
+use Rattle.ifmap_forms.specs.Values.{publisher_field, session_field}
 use Rattle.ifmap_requests.specs.declared.asking.RequestName.{RequestName}
 use Rattle.ifmap_requests.specs.declared.asking.RequestName.TheVariants as asking
 use Rattle.ifmap_requests.specs.declared.operations.Operation.{Operation}
@@ -159,9 +159,6 @@ module _ {A C : Type 0} where
         content = content;
       }
 
-abbrev pub session_field : Field (List ℕ)
-session_field = text_field (codes "session-id")
-
 abbrev pub session_attribute : AttributeTable OneText
 session_attribute = table_with session_field no_attributes
 
@@ -185,9 +182,6 @@ search_form = asking_form (asking_name asking.Search) (table_with session_field 
 
 abbrev pub subscribe_form : ElementForm OneText (List SubscribeOp)
 subscribe_form = asking_form (asking_name asking.Subscribe) session_attribute (list_of subscribe_op_check)
-
-abbrev pub publisher_field : Field (List ℕ)
-publisher_field = text_field (codes "ifmap-publisher-id")
 
 abbrev pub purge_form : ElementForm (Both (List ℕ) OneText) (Unit {0})
 purge_form =

@@ -20,6 +20,7 @@ use Rattle.ifmap_elem.specs.declared.elements.Child.{Child, out-Child}
 use Rattle.ifmap_elem.specs.declared.elements.Child.TheOpen.{Child-F}
 use Rattle.ifmap_elem.specs.declared.elements.Element.{Element}
 use Rattle.ifmap_elem.specs.laws.FitLaws.{nesting_arranged, out_text}
+use Rattle.ifmap_forms.specs.Values.{session_field}
 use Rattle.ifmap_requests.specs.ifmap_envelopes.Envelopes.{IsEnvelope}
 use Rattle.ifmap_ident.specs.ifmap_reader.declared.scoping.Scope.{Scope}
 use Rattle.ifmap_ident.specs.declared.codes.Code.{Code}
@@ -49,7 +50,7 @@ use Rattle.ifmap_requests.specs.RequestForms.{from_end_session, from_poll, from_
 use Rattle.ifmap_requests.specs.RequestForms.{named_request_check, new_session_form, new_session_of, notify_form, notify_of}
 use Rattle.ifmap_requests.specs.RequestForms.{other_request_check, poll_form, poll_of, publish_form, publish_of, publish_op_check}
 use Rattle.ifmap_requests.specs.RequestForms.{purge_form, purge_of, renew_form, renewal_of, request_check, search_attributes, search_form}
-use Rattle.ifmap_requests.specs.RequestForms.{search_from, search_of, session_field, subscribe_form, subscribe_of, subscribe_op_check}
+use Rattle.ifmap_requests.specs.RequestForms.{search_from, search_of, subscribe_form, subscribe_of, subscribe_op_check}
 use Rattle.ifmap_requests.specs.RequestForms.{subscription_form, subscription_from_form, update_form, update_from_form}
 use Rattle.ifmap_writing.specs.Bounds.{IsBounded, IsBoundedMetadata, IsBoundedName, IsBoundedPublish, IsBoundedSearch, IsBoundedSubscribe}
 use Rattle.ifmap_elem.specs.laws.ArrangedLaws.{out_element}

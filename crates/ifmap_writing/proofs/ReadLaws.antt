@@ -31,6 +31,7 @@ use Rattle.ifmap_ident.specs.Parts.{has_only}
 use Rattle.ifmap_meta.specs.declared.metadata.Metadata.{Metadata}
 use Rattle.ifmap_meta.specs.Whole.{IsMadeOf, IsMetadata}
 use Rattle.ifmap_search.specs.declared.searches.Search as search
+use Rattle.ifmap_forms.specs.Values.{publisher_field, session_field}
 use Rattle.ifmap_requests.specs.ifmap_forms.AnswerLaws.{found_alone, found_beside, found_form}
 use Rattle.ifmap_requests.specs.ifmap_forms.Checks.{Check, need_some, pass}
 use Rattle.ifmap_requests.specs.ifmap_forms.Items.{before_list, from_list, identifiers_check, item_check, list_if_there, list_check}
@@ -51,8 +52,8 @@ use Rattle.ifmap_requests.specs.Published.{metadata_check, published_check}
 use Rattle.ifmap_requests.specs.RequestForms.{links_field, result_field}
 use Rattle.ifmap_requests.specs.RequestForms.{SearchValues, delete_form, delete_from_form, end_form, end_from_form, end_session_form, end_session_of}
 use Rattle.ifmap_requests.specs.RequestForms.{new_session_form, new_session_of, notify_form, notify_of, poll_form, poll_of, publish_form}
-use Rattle.ifmap_requests.specs.RequestForms.{publish_of, publish_op_check, publisher_field, purge_form, purge_of, renew_form, renewal_of}
-use Rattle.ifmap_requests.specs.RequestForms.{request_check, search_attributes, search_form, search_of, session_field, subscribe_form}
+use Rattle.ifmap_requests.specs.RequestForms.{publish_of, publish_op_check, purge_form, purge_of, renew_form, renewal_of}
+use Rattle.ifmap_requests.specs.RequestForms.{request_check, search_attributes, search_form, search_of, subscribe_form}
 use Rattle.ifmap_requests.specs.RequestForms.{subscribe_of, subscribe_op_check, subscription_form, subscription_from_form, update_form, update_from_form}
 use Rattle.ifmap_requests.specs.Fit.{IsFitLimit, IsFitOp, IsFitRequest, IsFitSubscribeOp}
 use Rattle.ifmap_requests.specs.ifmap_forms.IdentifierLaws.{identifiers_back, item_of_identifiers}

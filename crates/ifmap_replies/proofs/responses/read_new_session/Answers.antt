@@ -8,20 +8,14 @@ use Rattle.ifmap_forms.specs.AnswerLaws.{found_alone, found_beside, found_form, 
 use Rattle.ifmap_forms.specs.AnswerLaws.{refused_at_field, refused_at_others, refused_beside, refused_exit}
 use Rattle.ifmap_elem.specs.WhiteSpace.{is_blank_part}
 use Rattle.ifmap_forms.specs.Tables.{table_with, both, form_check, no_attributes, parts_in}
-use Rattle.ifmap_forms.specs.Values.{Field, field_check, text_field}
+use Rattle.ifmap_forms.specs.Values.{Field, field_check, publisher_field, session_field}
 use Rattle.ifmap_replies.specs.Fields.{word_field}
 use Rattle.ifmap_replies.specs.ResultForms.{session_result_form, new_session_made, no_scopes}
 use Rattle.ifmap_replies.proofs.responses.read_new_session.Goals as goal
 use Rattle.ifmap_forms.specs.FormLaws.{blank_children, other_children}
 
-abbrev publisher_field : Field (List ℕ)
-publisher_field = text_field (codes "ifmap-publisher-id")
-
 abbrev limit_field : Field ℕ
 limit_field = word_field (codes "max-poll-result-size")
-
-abbrev session_field : Field (List ℕ)
-session_field = text_field (codes "session-id")
 
 module _ (e : Element) (publisher : List ℕ) (limit : ℕ) (session : List ℕ) (p : field_check publisher_field (no_scopes []) e (Ok publisher))
     (l : field_check limit_field (no_scopes []) e (Ok limit)) (s : field_check session_field (no_scopes []) e (Ok session)) where

@@ -4,9 +4,10 @@ use Rattle.ifmap_forms.specs.AnswerLaws.{refused_exit}
 use Rattle.ifmap_forms.specs.Answers.{IsCheckRefusal}
 use Rattle.ifmap_forms.specs.Scopes.{scopes_by}
 use Rattle.ifmap_forms.specs.Tables.{form_check}
+use Rattle.ifmap_forms.specs.Values.{session_field}
 use Rattle.ifmap_requests.specs.declared.requests.Request.TheVariants as request
 use Rattle.ifmap_envelopes.specs.Spaces.{ifmap_space}
-use Rattle.ifmap_requests.specs.RequestForms.{search_attributes, search_check, search_form, search_of, session_field}
+use Rattle.ifmap_requests.specs.RequestForms.{search_attributes, search_check, search_form, search_of}
 use Rattle.ifmap_requests.proofs.FormLaws.{found_search, refused_search, refused_text}
 use Rattle.ifmap_requests.proofs.PlaceLaws.{own_place}
 use Rattle.ifmap_requests.proofs.asking.read_asked_search.Goals as goal

@@ -6,7 +6,8 @@ use Rattle.ifmap_forms.specs.AnswerLaws.{found_alone, refused_alone, refused_exi
 use Rattle.ifmap_forms.specs.Answers.{IsCheckRefusal}
 use Rattle.ifmap_forms.specs.Scopes.{scopes_by}
 use Rattle.ifmap_forms.specs.Tables.{both, form_check, list_of, parts_in}
-use Rattle.ifmap_requests.specs.RequestForms.{publish_form, publish_of, publish_op_check, session_field}
+use Rattle.ifmap_forms.specs.Values.{session_field}
+use Rattle.ifmap_requests.specs.RequestForms.{publish_form, publish_of, publish_op_check}
 use Rattle.ifmap_requests.proofs.FormLaws.{made_of_form, read_no_attributes, read_no_content, read_others, read_whole, refused_form}
 use Rattle.ifmap_requests.proofs.asking.read_publish.Goals as goal
 

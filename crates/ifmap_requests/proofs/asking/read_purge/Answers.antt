@@ -6,11 +6,12 @@ use Rattle.ifmap_forms.specs.declared.errors.FormError.TheVariants.{Named}
 use Rattle.ifmap_forms.specs.AnswerLaws.{found_alone, found_beside, refused_alone, refused_at_field, refused_beside, refused_exit}
 use Rattle.ifmap_elem.specs.WhiteSpace.{is_blank_part}
 use Rattle.ifmap_forms.specs.Tables.{table_with, both, form_check, no_attributes, parts_in}
-use Rattle.ifmap_requests.specs.RequestForms.{publisher_field, purge_form, purge_of, session_field}
+use Rattle.ifmap_requests.specs.RequestForms.{purge_form, purge_of}
 use Rattle.ifmap_requests.proofs.FormLaws.{made_of_form, read_no_attributes, read_no_content, read_others}
 use Rattle.ifmap_requests.proofs.FormLaws.{read_whole, refused_form}
 use Rattle.ifmap_requests.proofs.asking.read_purge.Goals as goal
 use Rattle.ifmap_forms.specs.FormLaws.{blank_children, other_children}
+use Rattle.ifmap_forms.specs.Values.{publisher_field, session_field}
 
 pub returns-in_err-session : goal.returns-in_err-session
 returns-in_err-session c = λ scopes.

@@ -6,10 +6,11 @@ use Rattle.ifmap_forms.specs.declared.errors.FormError.TheVariants.{Named}
 use Rattle.ifmap_forms.specs.AnswerLaws.{found_alone, refused_alone, refused_exit_as}
 use Rattle.ifmap_elem.specs.WhiteSpace.{is_blank_part}
 use Rattle.ifmap_forms.specs.Tables.{both, parts_in, read_form}
-use Rattle.ifmap_requests.specs.RequestForms.{renew_form, session_alone, session_field}
+use Rattle.ifmap_requests.specs.RequestForms.{renew_form, session_alone}
 use Rattle.ifmap_requests.proofs.FormLaws.{read_no_attributes, read_no_content, read_others, read_whole}
 use Rattle.ifmap_requests.proofs.asking.read_session.Goals as goal
 use Rattle.ifmap_forms.specs.FormLaws.{blank_children, other_children}
+use Rattle.ifmap_forms.specs.Values.{session_field}
 
 pub returns-in_err-session : goal.returns-in_err-session
 returns-in_err-session c = λ scopes.
