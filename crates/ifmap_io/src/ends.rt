@@ -58,3 +58,15 @@ pub trait Sink {
         ensures apart { incoming self.new ≡ incoming self.old }
         ensures cause { HasCause (faults self.old) (faults self.new) result };
 }
+
+/// Writes all of `bytes`, and hands them on. Where that fails, a prefix of them was written.
+#[tactic(auto, using(crate::specs::Rises::appends_kept, crate::specs::Rises::appends_whole, crate::specs::Rises::rose_since))]
+pub fn send_bytes<K: Sink>(sink: &mut K, bytes: &[u8]) -> Result<(), Failed>
+    ensures bytes { WritesAll (K.held sink.old) (K.held sink.new) result bytes.now }
+    ensures told { is_some (K.held sink.new) ≡ is_some (K.held sink.old) }
+    ensures apart { K.incoming sink.new ≡ K.incoming sink.old }
+    ensures cause { HasCause (K.faults sink.old) (K.faults sink.new) result }
+{
+    sink.write_all(bytes)?;
+    sink.flush()
+}

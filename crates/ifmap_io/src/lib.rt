@@ -16,7 +16,7 @@ pub mod tcp;
 
 pub use clocks::{Clock, MemoryClock, SystemClock};
 pub use doors::{Door, MemoryDoor};
-pub use ends::{Failed, Sink, Source};
+pub use ends::{Failed, Sink, Source, send_bytes};
 pub use links::{Link, MemoryLink};
 pub use memory::{MemorySink, MemorySource};
 pub use moments::Moment;
