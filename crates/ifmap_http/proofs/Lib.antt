@@ -3,4 +3,3 @@ pub mod Failing
 pub mod Filling
 pub mod Gets
 pub mod Reading
-pub mod Sending

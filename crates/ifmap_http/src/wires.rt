@@ -15,7 +15,7 @@ use http::StatusCode;
 use ifmap_elem::{Many, Text};
 use ifmap_heads::{PostTerms, answer_message, post_message};
 use ifmap_input::Input;
-use ifmap_io::{Link, Sink};
+use ifmap_io::{Link, send_bytes};
 use ifmap_meta::ClientName;
 use std::alloc::Global;
 use std::marker::Model;
@@ -290,18 +290,14 @@ impl<L: Link> Wire<L> {
 }
 
 // Writes a message in one write, and hands it on.
-#[tactic(auto, using(crate::proofs::Sending::sent_and_kept))]
 fn send<L: Link>(link: &mut L, message: &[u8]) -> Sent
     ensures sends { Sends (L.held link.old) (L.held link.new) result message.now }
     ensures fault { result ≡ Sent.WriteFault
         → Rose (L.Sink.faults link.old) (L.Sink.faults link.new) }
     ensures side { UsesOneSide L.held L.Sink.faults L.incoming link.old link.new }
 {
-    if link.write_all(message).is_err() {
-        return Sent::WriteFault;
+    match send_bytes(link, message) {
+        Ok(()) => Sent::Done,
+        Err(_) => Sent::WriteFault,
     }
-    if link.flush().is_err() {
-        return Sent::WriteFault;
-    }
-    Sent::Done
 }
